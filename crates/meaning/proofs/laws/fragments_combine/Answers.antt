@@ -1,0 +1,5 @@
+use Rattle.meaning.proofs.Fragments.{fault_of_whole, kept_of_whole}
+use Rattle.meaning.proofs.laws.fragments_combine.Goals as goal
+
+pub returns : goal.returns
+returns c = λ plan dims cut rows whole. (fault_of_whole plan dims cut rows whole, kept_of_whole plan dims cut rows whole)

@@ -1,0 +1,5 @@
+use Rattle.meaning.proofs.LiveTable.{merged_groups-turned, merged_groups-again}
+use Rattle.meaning.proofs.laws.groups_merge.Goals as goal
+
+pub returns : goal.returns
+returns c = λ plan. record { turned = merged_groups-turned plan; again = merged_groups-again plan }

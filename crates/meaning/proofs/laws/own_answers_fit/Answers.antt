@@ -1,0 +1,5 @@
+use Rattle.meaning.proofs.OwnFits.{own_fits}
+use Rattle.meaning.proofs.laws.own_answers_fit.Goals as goal
+
+pub returns : goal.returns
+returns c = own_fits

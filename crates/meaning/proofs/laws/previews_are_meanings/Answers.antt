@@ -1,0 +1,5 @@
+use Rattle.meaning.proofs.OwnStates.{preview-joined}
+use Rattle.meaning.proofs.laws.previews_are_meanings.Goals as goal
+
+pub returns : goal.returns
+returns c = preview-joined

@@ -1,0 +1,5 @@
+use Rattle.meaning.proofs.OwnStates.{report-own_answers}
+use Rattle.meaning.proofs.laws.whole_from_parts.Goals as goal
+
+pub returns : goal.returns
+returns c = report-own_answers

@@ -1,0 +1,78 @@
+-- The last step: from groups and their aggregates to the rows of the answer, in their order.
+use Rattle.std.specs.Prelude.{ℕ, if◌then◌else◌, List, [], ◌∷◌, ◌++◌, map, take, replicate, Option, Some, None, Result, Ok, Err}
+use Rattle.std.specs.declared.cmp.Ordering.{Ordering}
+use Rattle.std.specs.Ordering.{on, then_cmp, flip_args}
+use Rattle.meaning.specs.declared.value.Value.{Value}
+use Rattle.meaning.specs.declared.outcome.Truth.TheVariants.{False, Unknown, True}
+use Rattle.meaning.specs.declared.outcome.Outcome.{Outcome}
+use Rattle.meaning.specs.declared.outcome.Outcome.TheVariants as gives
+use Rattle.meaning.specs.declared.expr.Expr.{Expr}
+use Rattle.meaning.specs.declared.plan.OrderKey.{OrderKey}
+use Rattle.meaning.specs.declared.plan.Plan.{Plan}
+use Rattle.meaning.specs.declared.answer.RowFault.{RowFault}
+use Rattle.meaning.specs.Order.{Row, column, value_cmp, row_cmp, sorted}
+use Rattle.meaning.specs.declared.joined_row.JoinedRow.{JoinedRow}
+use Rattle.meaning.specs.Joined.{group_row}
+use Rattle.meaning.specs.Operators.{code_of}
+use Rattle.meaning.specs.Expr.{eval}
+use Rattle.meaning.specs.Judge.{values}
+use Rattle.meaning.specs.Results.{all_ok, and_then}
+
+-- what a query gives: rows, a fault over groups, or the fault of a row
+pub data Output : Type 0 where
+  rows : List Row → Output
+  final_fault : ℕ → Output
+  row_fault : RowFault → Output
+
+-- a group in the last step: its key, its row count, and the value or the fault of each aggregate
+pub record Evaluated : Type 0 where
+  pub key : Row
+  pub rows : ℕ
+  pub aggregates : List (Result Value ℕ)
+
+-- the rows of a group behind HAVING: only TRUE lets them pass
+abbrev pub behind : Outcome → Result (List Row) ℕ → Result (List Row) ℕ
+behind (gives.Fault f) group = Err (code_of f)
+behind (gives.Truth True) group = group
+behind (gives.Truth Unknown) group = Ok []
+behind (gives.Truth False) group = Ok []
+behind (gives.Value v) group = Ok []
+
+abbrev pub behind_having : Option Expr → JoinedRow → Result (List Row) ℕ → Result (List Row) ℕ
+behind_having None s group = group
+behind_having (Some condition) s group = behind (eval condition s) group
+
+-- the row that a group shows, unless HAVING drops it, or the first fault of HAVING and the items
+abbrev pub shown : Plan → JoinedRow → Result (List Row) ℕ
+shown plan s = behind_having plan.having s (and_then (values (map (λ i. i.expr) plan.items) s) (λ row. Ok (row ∷ [])))
+
+-- the rows of a group, or its first fault. A plain query shows each key as often as it has rows
+abbrev pub rows_of : Plan → Evaluated → Result (List Row) ℕ
+rows_of plan g =
+    if plan.plain then Ok (replicate g.rows g.key)
+    else and_then (all_ok g.aggregates) (λ values. shown plan (group_row g.key values))
+
+-- by an item, and under DESC the other way round, also for NULL
+abbrev pub by_key : OrderKey → Row → Row → Ordering
+by_key k = on (λ row. column row k.item) (if k.descending then flip_args value_cmp else value_cmp)
+
+-- by ORDER BY, and then by the whole order of rows
+abbrev pub order_cmp : List OrderKey → Row → Row → Ordering
+order_cmp [] = row_cmp
+order_cmp (k ∷ ks) = then_cmp (by_key k) (order_cmp ks)
+
+abbrev pub limited : Option ℕ → List Row → List Row
+limited None all = all
+limited (Some n) all = take n all
+
+abbrev pub all_rows : List (List Row) → List Row
+all_rows [] = []
+all_rows (xs ∷ xss) = xs ++ all_rows xss
+
+abbrev pub output_of : Result (List Row) ℕ → Output
+output_of (Ok shown) = rows shown
+output_of (Err c) = final_fault c
+
+-- the first fault, from group to group in the order of their keys; else the rows, in order and cut by LIMIT
+abbrev pub finish : Plan → List Evaluated → Output
+finish plan groups = output_of (and_then (all_ok (map (rows_of plan) groups)) (λ parts. Ok (limited plan.limit (sorted (order_cmp plan.order) (all_rows parts)))))

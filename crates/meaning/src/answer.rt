@@ -1,0 +1,77 @@
+// What fragments answer, and what a coordinator holds.
+ghost use Rattle.std.specs.Prelude.{◌≡◌};
+ghost use Rattle.meaning.specs.Gather.{same_body, join_cells};
+ghost use Rattle.meaning.specs.declared.answer.Cell.TheVariants.{One};
+
+use crate::sequence::Sequence;
+use crate::value::{Row, Value};
+
+/// Arithmetic that failed: the row of the fact table, and the fault's code.
+#[derive(Clone, Copy, Debug, PartialEq, Eq, Drop)]
+pub struct RowFault {
+    pub row: u64,
+    pub code: u8,
+}
+
+/// What is known of a list of values that are not NULL. What an aggregate does not keep is 0 or `None`.
+#[derive(PartialEq, Eq, Drop)]
+pub struct Statistics {
+    pub count: u64,
+    pub sum: i128,
+    pub least: Option<Value>,
+    pub greatest: Option<Value>,
+}
+
+/// A group: its key, how many rows it has, and the statistics of each aggregate.
+#[derive(PartialEq, Eq, Drop)]
+pub struct Group {
+    pub key: Row,
+    pub rows: u64,
+    pub states: Sequence<Statistics>,
+}
+
+/// What is known of some rows: the groups in the order of their keys, or the fault of the least row.
+#[derive(PartialEq, Eq, Drop)]
+pub enum Body {
+    Groups(Sequence<Group>),
+    Fault(RowFault),
+}
+
+/// What is said of a fragment.
+#[derive(Drop)]
+pub struct Answer {
+    pub k: u32,
+    pub body: Body,
+}
+
+/// What a coordinator holds for a fragment.
+#[derive(Drop)]
+pub enum Cell {
+    Nothing,
+    One(Body),
+    Conflict,
+}
+
+/// Whether two answers are equal.
+pub fn is_same(a: &Body, b: &Body) -> bool
+    ensures { result ≡ same_body a.now b.now }
+{
+    a == b
+}
+
+/// The cell after one more answer for its fragment.
+pub fn with_answer(cell: Cell, body: Body) -> Cell
+    ensures { result ≡ join_cells cell (One body) }
+{
+    match cell {
+        Cell::Nothing => Cell::One(body),
+        Cell::One(known) => {
+            if is_same(&known, &body) {
+                Cell::One(known)
+            } else {
+                Cell::Conflict
+            }
+        }
+        Cell::Conflict => Cell::Conflict,
+    }
+}

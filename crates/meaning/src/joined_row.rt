@@ -1,0 +1,36 @@
+ghost use Rattle.std.specs.Prelude.{◌≡◌, IfOk};
+ghost use Rattle.meaning.specs.Order.{column};
+ghost use Rattle.meaning.specs.Joined.{joined_column};
+
+use crate::sequence::Sequence;
+use crate::value::{Row, Value};
+use std::alloc::AllocError;
+
+/// What an expression reads: a row of the fact with a row of each joined dimension, or a group's key and aggregates.
+#[derive(Debug, Drop)]
+pub struct JoinedRow {
+    pub fact: Row,
+    pub joins: Sequence<Row>,
+    pub key: Row,
+    pub aggregates: Row,
+}
+
+/// A copy of the value in a column, and NULL past the end.
+pub fn value_at(row: &Row, place: usize) -> Result<Value, AllocError>
+    ensures { IfOk result (λ v. v ≡ column row.now place) }
+{
+    match row.as_slice().get(place) {
+        Some(value) => value.clone(),
+        None => Ok(Value::Null),
+    }
+}
+
+/// A copy of the value in a column of a join's row, and NULL past the end.
+pub fn joined_value(row: &JoinedRow, join: usize, place: usize) -> Result<Value, AllocError>
+    ensures { IfOk result (λ v. v ≡ joined_column row.now join place) }
+{
+    match row.joins.as_slice().get(join) {
+        Some(found) => value_at(found, place),
+        None => Ok(Value::Null),
+    }
+}

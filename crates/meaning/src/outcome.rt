@@ -1,0 +1,39 @@
+ghost use Rattle.std.specs.Prelude.{◌≡◌};
+ghost use Rattle.meaning.specs.Operators.{code_of};
+
+use crate::value::Value;
+
+/// The three truths of SQL.
+#[derive(Clone, Copy, Debug, PartialEq, Eq)]
+pub enum Truth {
+    False,
+    Unknown,
+    True,
+}
+
+/// A fault of arithmetic.
+#[derive(Clone, Copy, Debug, PartialEq, Eq)]
+pub enum Fault {
+    Overflow,
+    DivisionByZero,
+}
+
+impl Fault {
+    /// The number by which answers and refusals tell the fault.
+    pub fn code(self) -> u8
+        ensures { result ≡ code_of self }
+    {
+        match self {
+            Fault::Overflow => 1,
+            Fault::DivisionByZero => 2,
+        }
+    }
+}
+
+/// What an expression gives on one row.
+#[derive(Debug, PartialEq, Eq, Drop)]
+pub enum Outcome {
+    Value(Value),
+    Truth(Truth),
+    Fault(Fault),
+}

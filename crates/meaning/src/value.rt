@@ -1,0 +1,67 @@
+ghost use Rattle.std.specs.Prelude.{◌≡◌, IfOk};
+ghost use Rattle.meaning.specs.Order.{value_cmp, value_in};
+
+use crate::sequence::Sequence;
+use crate::text::Text;
+use std::alloc::{AllocError, Global};
+use std::cmp::Ordering;
+
+/// The type of a column's values.
+#[derive(Clone, Copy, Debug, PartialEq, Eq)]
+pub enum ColType {
+    Int,
+    Text,
+}
+
+/// What stands in one column of one row. The order is the whole order: NULL, integers by number, texts by their bytes.
+#[derive(Clone, Debug, Eq, PartialOrd, Ord, Drop)]
+pub enum Value {
+    Null,
+    Int(i64),
+    Text(Text),
+}
+
+/// A value that is lent: a text is a slice of bytes in UTF-8 that stand elsewhere.
+#[derive(Clone, Copy, Debug)]
+pub enum ValueRef<'a> {
+    Null,
+    Int(i64),
+    Text(&'a [u8]),
+}
+
+impl Value {
+    /// The same value, lent.
+    pub fn as_value_ref(&self) -> ValueRef<'_>
+        ensures { value_in result ≡ self.now }
+    {
+        match self {
+            Value::Null => ValueRef::Null,
+            Value::Int(n) => ValueRef::Int(*n),
+            Value::Text(text) => ValueRef::Text(text.as_bytes()),
+        }
+    }
+}
+
+/// The whole order of two values.
+pub fn compare(a: &Value, b: &Value) -> Ordering
+    ensures { result ≡ value_cmp a.now b.now }
+{
+    a.cmp(b)
+}
+
+impl PartialEq for Value {
+    ghost use Rattle.std.specs.Cmp.{partial_equiv_from_equiv, eq_by_cmp_equiv};
+    ghost use Rattle.std.specs.Ordering.{eq_by_cmp};
+    ghost use Rattle.meaning.specs.Order.{value_cmp, value_total};
+
+    ghost eq = { eq_by_cmp value_cmp };
+
+    ghost laws = { partial_equiv_from_equiv (eq_by_cmp_equiv value_total) };
+
+    fn eq(&self, other: &Value) -> bool {
+        self.cmp(other).is_eq()
+    }
+}
+
+/// The values of a row, column by column.
+pub type Row = Sequence<Value>;

@@ -26,3 +26,9 @@ pub mod StatisticsFit
 pub mod KeptRows
 pub mod OwnFits
 pub mod OwnStates
+pub mod NameForms
+pub mod LastTable
+pub mod CatalogSteps
+pub mod SoundTables
+pub mod WellFormedCatalog
+pub mod FirstFault

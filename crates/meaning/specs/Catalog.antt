@@ -1,8 +1,12 @@
 -- Declared tables within the limits.
-use Rattle.std.specs.Prelude.{ℕ, nat_le, ◌==◌, Bool, false, ◌&&◌, ◌||◌, List, [], ◌∷◌}
+use Rattle.std.specs.Prelude.{◌≡◌, ◌≢◌, ℕ, ◌≤◌, ◌<◌, nat_le, ◌==◌, Bool, false, ◌&&◌, ◌||◌, not, IsTrue, List, [], ◌∷◌, length, map, All, AllPairs, HoldsAt}
 use Rattle.std.specs.List.{list_all}
+use Rattle.meaning.specs.declared.catalog.Table.{Table}
+use Rattle.meaning.specs.declared.catalog.Dimension.{Dimension}
+use Rattle.meaning.specs.declared.catalog.Catalog.{Catalog}
 use Rattle.meaning.specs.declared.catalog.CatalogFault.{CatalogFault}
-use Rattle.meaning.specs.declared.catalog.CatalogFault.TheVariants.{Memory, NotUtf8, UnknownLine, NameTwice, FactCount, Key, OverLimit}
+use Rattle.meaning.specs.declared.catalog.CatalogFault.TheVariants.{Memory, NotUtf8, UnknownLine, NameTwice, NotOneFact, UnfitKey, OverLimit}
+use Rattle.meaning.specs.Reserved.{is_reserved}
 
 -- a lower-case letter or an underscore
 abbrev pub begins_name : ℕ → Bool
@@ -23,6 +27,36 @@ catalog_fault_number Memory = 0
 catalog_fault_number NotUtf8 = 1
 catalog_fault_number (UnknownLine line) = 2
 catalog_fault_number (NameTwice line) = 3
-catalog_fault_number FactCount = 4
-catalog_fault_number Key = 5
+catalog_fault_number NotOneFact = 4
+catalog_fault_number UnfitKey = 5
 catalog_fault_number OverLimit = 6
+
+-- a word that can be a name, of any length
+abbrev pub is_name : List ℕ → Bool
+is_name word = has_name_form word && not (is_reserved word)
+
+-- a name of 1 to 64 bytes that isn't reserved
+pub record IsName (name : List ℕ) : Type 0 where
+  pub word : IsTrue (is_name name)
+  pub short : length name ≤ 64
+
+-- 1 to 64 columns with names that differ
+pub record IsWellFormedTable (table : Table) : Type 0 where
+  pub name : IsName table.name
+  pub some : 1 ≤ length table.columns
+  pub few : length table.columns ≤ 64
+  pub columns : All (λ column. IsName column.name) table.columns
+  pub distinct : AllPairs (λ a b. a ≢ b) (map (λ column. column.name) table.columns)
+
+-- the key is the place of a column that isn't nullable
+pub record HasKey (dimension : Dimension) : Type 0 where
+  pub within : dimension.key < length dimension.table.columns
+  pub filled : HoldsAt (λ column. column.nullable ≡ false) dimension.table.columns dimension.key
+
+-- well-formed tables with names that differ, at most 16 of them dimensions, and these with their keys
+pub record IsWellFormed (catalog : Catalog) : Type 0 where
+  pub fact : IsWellFormedTable catalog.fact
+  pub dims : All (λ dimension. IsWellFormedTable dimension.table) catalog.dims
+  pub keys : All HasKey catalog.dims
+  pub few : length catalog.dims ≤ 16
+  pub distinct : AllPairs (λ a b. a ≢ b) (catalog.fact.name ∷ map (λ dimension. dimension.table.name) catalog.dims)

@@ -4,6 +4,9 @@ pub mod Results
 pub mod Cut
 pub mod Reserved
 pub mod Catalog
+pub mod CatalogLine
+pub mod CatalogTables
+pub mod CatalogText
 pub mod Joined
 pub mod Truth
 pub mod Like

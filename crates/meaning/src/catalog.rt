@@ -61,9 +61,9 @@ pub enum CatalogFault {
     #[error("line {line} declares a name for the second time")]
     NameTwice { line: usize },
     #[error("not just one fact table")]
-    FactCount,
+    NotOneFact,
     #[error("a key column is missing or nullable")]
-    Key,
+    UnfitKey,
     #[error("over a limit")]
     OverLimit,
 }
@@ -78,8 +78,8 @@ impl CatalogFault {
             CatalogFault::NotUtf8 => 1,
             CatalogFault::UnknownLine { .. } => 2,
             CatalogFault::NameTwice { .. } => 3,
-            CatalogFault::FactCount => 4,
-            CatalogFault::Key => 5,
+            CatalogFault::NotOneFact => 4,
+            CatalogFault::UnfitKey => 5,
             CatalogFault::OverLimit => 6,
         }
     }

@@ -7,7 +7,13 @@
 pub mod answer;
 pub mod boxed;
 pub mod catalog;
+pub mod catalog_line;
+pub mod catalog_tables;
+#[cfg(test)]
+mod catalog_tests;
 pub mod cut;
+#[cfg(test)]
+mod cut_tests;
 pub mod eval;
 #[cfg(test)]
 mod eval_tests;
@@ -18,6 +24,8 @@ mod like;
 mod operators;
 pub mod outcome;
 pub mod plan;
+pub mod read_catalog;
+pub mod reserved;
 pub mod sequence;
 pub mod table;
 pub mod text;

@@ -1,0 +1,211 @@
+//! What one line of a catalogue says.
+ghost use Rattle.std.specs.Prelude.{◌≡◌, IfOk, map};
+ghost use Rattle.std.specs.List.{list_all};
+ghost use Rattle.meaning.specs.Catalog.{begins_name, continues_name, has_name_form, is_name};
+ghost use Rattle.meaning.specs.CatalogLine.{is_blank, words, name_of, type_of, fact_of, dimension_of, column_of, two_words, three_words, four_words, statement_of, line_of};
+
+use crate::catalog::Column;
+use crate::reserved::is_reserved;
+use crate::text::Text;
+use crate::value::ColType;
+use std::alloc::{AllocError, Global};
+
+/// What a line declares. Names are in lower case.
+#[derive(Debug, Drop)]
+pub enum Statement {
+    Fact(Text),
+    Dim { name: Text, key: Text },
+    Col(Column),
+}
+
+/// What a line is.
+#[derive(Debug, Drop)]
+pub enum Line {
+    /// A comment, or no word.
+    Passed,
+    /// Of no known form.
+    Unknown,
+    Declares(Statement),
+}
+
+fn begins_name(byte: u8) -> bool
+    ensures { result ≡ begins_name byte }
+{
+    byte.is_ascii_lowercase() || byte == b'_'
+}
+
+fn continues_name(byte: u8) -> bool
+    ensures { result ≡ continues_name byte }
+{
+    begins_name(byte) || byte.is_ascii_digit()
+}
+
+fn all_continue_name(bytes: &[u8]) -> bool
+    ensures { result ≡ list_all continues_name bytes.now }
+{
+    bytes.iter().all(|byte| continues_name(*byte))
+}
+
+fn has_name_form(word: &[u8]) -> bool
+    ensures { result ≡ has_name_form word.now }
+{
+    let Some((first, rest)) = word.split_first() else {
+        return false;
+    };
+    begins_name(*first) && all_continue_name(rest)
+}
+
+fn is_name(word: &[u8]) -> bool
+    ensures { result ≡ is_name word.now }
+{
+    has_name_form(word) && !is_reserved(word)
+}
+
+/// The word as a name, if it can be one.
+fn name_of(alloc: Global, word: &[u8]) -> Result<Option<Text>, AllocError>
+    ensures { IfOk result (λ name. name ≡ name_of word.now) }
+{
+    if !is_name(word) {
+        return Ok(None);
+    }
+    let Ok(name) = std::str::from_utf8(word) else {
+        return Ok(None);
+    };
+    Ok(Some(Text::new(alloc, name)?))
+}
+
+fn type_of(word: &[u8]) -> Option<ColType>
+    ensures { result ≡ type_of word.now }
+{
+    if word == b"int".as_slice() {
+        Some(ColType::Int)
+    } else if word == b"text".as_slice() {
+        Some(ColType::Text)
+    } else {
+        None
+    }
+}
+
+fn is_blank(byte: u8) -> bool
+    ensures { result ≡ is_blank byte }
+{
+    byte == b' ' || byte == b'\t'
+}
+
+fn words(alloc: Global, line: &[u8]) -> Result<Vec<&[u8]>, AllocError>
+    ensures { IfOk result (λ found. map (λ word. word.now) found.items ≡ words line.now) }
+{
+    line.split(|byte| is_blank(*byte))
+        .filter(|word| !word.is_empty())
+        .collect(alloc)
+}
+
+fn column_of(
+    alloc: Global,
+    name: &[u8],
+    type_word: &[u8],
+    nullable: bool,
+) -> Result<Option<Statement>, AllocError>
+    ensures { IfOk result (λ found. found ≡ column_of name.now type_word.now nullable) }
+{
+    let Some(name) = name_of(alloc, name)? else {
+        return Ok(None);
+    };
+    let Some(col_type) = type_of(type_word) else {
+        return Ok(None);
+    };
+    Ok(Some(Statement::Col(Column {
+        name,
+        col_type,
+        nullable,
+    })))
+}
+
+fn fact_of(alloc: Global, name: &[u8]) -> Result<Option<Statement>, AllocError>
+    ensures { IfOk result (λ found. found ≡ fact_of name.now) }
+{
+    let Some(name) = name_of(alloc, name)? else {
+        return Ok(None);
+    };
+    Ok(Some(Statement::Fact(name)))
+}
+
+fn dimension_of(alloc: Global, name: &[u8], key: &[u8]) -> Result<Option<Statement>, AllocError>
+    ensures { IfOk result (λ found. found ≡ dimension_of name.now key.now) }
+{
+    let Some(name) = name_of(alloc, name)? else {
+        return Ok(None);
+    };
+    let Some(key) = name_of(alloc, key)? else {
+        return Ok(None);
+    };
+    Ok(Some(Statement::Dim { name, key }))
+}
+
+fn two_words(alloc: Global, a: &[u8], b: &[u8]) -> Result<Option<Statement>, AllocError>
+    ensures { IfOk result (λ found. found ≡ two_words a.now b.now) }
+{
+    if a == b"fact".as_slice() {
+        return fact_of(alloc, b);
+    }
+    Ok(None)
+}
+
+fn three_words(alloc: Global, a: &[u8], b: &[u8], c: &[u8]) -> Result<Option<Statement>, AllocError>
+    ensures { IfOk result (λ found. found ≡ three_words a.now b.now c.now) }
+{
+    if a == b"col".as_slice() {
+        return column_of(alloc, b, c, false);
+    }
+    Ok(None)
+}
+
+fn four_words(
+    alloc: Global,
+    a: &[u8],
+    b: &[u8],
+    c: &[u8],
+    d: &[u8],
+) -> Result<Option<Statement>, AllocError>
+    ensures { IfOk result (λ found. found ≡ four_words a.now b.now c.now d.now) }
+{
+    if a == b"dim".as_slice() && c == b"key".as_slice() {
+        return dimension_of(alloc, b, d);
+    }
+    if a == b"col".as_slice() && d == b"null".as_slice() {
+        return column_of(alloc, b, c, true);
+    }
+    Ok(None)
+}
+
+/// What the words declare, if they have a known form.
+fn statement_of(alloc: Global, words: &[&[u8]]) -> Result<Option<Statement>, AllocError>
+    ensures { IfOk result (λ found. found ≡ statement_of (map (λ word. word.now) words.now)) }
+{
+    if words.len() == 2 {
+        two_words(alloc, words[0], words[1])
+    } else if words.len() == 3 {
+        three_words(alloc, words[0], words[1], words[2])
+    } else if words.len() == 4 {
+        four_words(alloc, words[0], words[1], words[2], words[3])
+    } else {
+        Ok(None)
+    }
+}
+
+/// What a line in lower case says.
+pub fn line_of(alloc: Global, line: &[u8]) -> Result<Line, AllocError>
+    ensures { IfOk result (λ found. found ≡ line_of line.now) }
+{
+    if line.first() == Some(&b'#') {
+        return Ok(Line::Passed);
+    }
+    let words = words(alloc, line)?;
+    if words.is_empty() {
+        return Ok(Line::Passed);
+    }
+    match statement_of(alloc, &words)? {
+        Some(statement) => Ok(Line::Declares(statement)),
+        None => Ok(Line::Unknown),
+    }
+}

@@ -43,17 +43,17 @@ column_of name type nullable =
 
 -- what two words declare
 abbrev pub two_words : List ℕ → List ℕ → Option Statement
-two_words a b = if bytes_eq a (codes "fact") then fact_of b else None
+two_words keyword name = if bytes_eq keyword (codes "fact") then fact_of name else None
 
 -- what three words declare
 abbrev pub three_words : List ℕ → List ℕ → List ℕ → Option Statement
-three_words a b c = if bytes_eq a (codes "col") then column_of b c false else None
+three_words keyword name type = if bytes_eq keyword (codes "col") then column_of name type false else None
 
 -- what four words declare
 abbrev pub four_words : List ℕ → List ℕ → List ℕ → List ℕ → Option Statement
-four_words a b c d =
-    if bytes_eq a (codes "dim") && bytes_eq c (codes "key") then dimension_of b d
-    else if bytes_eq a (codes "col") && bytes_eq d (codes "null") then column_of b c true
+four_words keyword name third fourth =
+    if bytes_eq keyword (codes "dim") && bytes_eq third (codes "key") then dimension_of name fourth
+    else if bytes_eq keyword (codes "col") && bytes_eq fourth (codes "null") then column_of name third true
     else None
 
 -- what the words of a line declare

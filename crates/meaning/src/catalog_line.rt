@@ -142,38 +142,43 @@ fn dimension_of(alloc: Global, name: &[u8], key: &[u8]) -> Result<Option<Stateme
     Ok(Some(Statement::Dim { name, key }))
 }
 
-fn two_words(alloc: Global, a: &[u8], b: &[u8]) -> Result<Option<Statement>, AllocError>
-    ensures { IfOk result (λ found. found ≡ two_words a.now b.now) }
+fn two_words(alloc: Global, keyword: &[u8], name: &[u8]) -> Result<Option<Statement>, AllocError>
+    ensures { IfOk result (λ found. found ≡ two_words keyword.now name.now) }
 {
-    if a == b"fact".as_slice() {
-        return fact_of(alloc, b);
+    if keyword == b"fact".as_slice() {
+        return fact_of(alloc, name);
     }
     Ok(None)
 }
 
-fn three_words(alloc: Global, a: &[u8], b: &[u8], c: &[u8]) -> Result<Option<Statement>, AllocError>
-    ensures { IfOk result (λ found. found ≡ three_words a.now b.now c.now) }
+fn three_words(
+    alloc: Global,
+    keyword: &[u8],
+    name: &[u8],
+    type_word: &[u8],
+) -> Result<Option<Statement>, AllocError>
+    ensures { IfOk result (λ found. found ≡ three_words keyword.now name.now type_word.now) }
 {
-    if a == b"col".as_slice() {
-        return column_of(alloc, b, c, false);
+    if keyword == b"col".as_slice() {
+        return column_of(alloc, name, type_word, false);
     }
     Ok(None)
 }
 
 fn four_words(
     alloc: Global,
-    a: &[u8],
-    b: &[u8],
-    c: &[u8],
-    d: &[u8],
+    keyword: &[u8],
+    name: &[u8],
+    third: &[u8],
+    fourth: &[u8],
 ) -> Result<Option<Statement>, AllocError>
-    ensures { IfOk result (λ found. found ≡ four_words a.now b.now c.now d.now) }
+    ensures { IfOk result (λ found. found ≡ four_words keyword.now name.now third.now fourth.now) }
 {
-    if a == b"dim".as_slice() && c == b"key".as_slice() {
-        return dimension_of(alloc, b, d);
+    if keyword == b"dim".as_slice() && third == b"key".as_slice() {
+        return dimension_of(alloc, name, fourth);
     }
-    if a == b"col".as_slice() && d == b"null".as_slice() {
-        return column_of(alloc, b, c, true);
+    if keyword == b"col".as_slice() && fourth == b"null".as_slice() {
+        return column_of(alloc, name, third, true);
     }
     Ok(None)
 }

@@ -1,0 +1,10 @@
+pub mod Blanks
+pub mod Runs
+pub mod Quotes
+pub mod AllTokens
+pub mod Steps
+pub mod Trees
+pub mod Whole
+pub mod Names
+pub mod ReadBack
+pub mod Obstacles

@@ -1,0 +1,6 @@
+use Rattle.sql_reader.specs.Words.{is_left_out}
+use Rattle.sql_reader.proofs.keyword.is_left_out.Goals as goal
+
+pub returns : goal.returns
+unfolding is_left_out
+returns c = c.is_among.ensures

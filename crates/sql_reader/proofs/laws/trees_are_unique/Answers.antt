@@ -1,0 +1,5 @@
+use Rattle.sql_reader.proofs.Whole.{same_tree}
+use Rattle.sql_reader.proofs.laws.trees_are_unique.Goals as goal
+
+pub returns : goal.returns
+returns c = same_tree

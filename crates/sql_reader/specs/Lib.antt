@@ -1,0 +1,6 @@
+pub mod Words
+pub mod Faults
+pub mod Tokens
+pub mod Canonical
+pub mod Grammar
+pub mod Reading

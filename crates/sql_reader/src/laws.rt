@@ -1,0 +1,16 @@
+//! What holds of every text and every tree. The functions do nothing: their contracts are the laws.
+
+ghost use Rattle.std.specs.Prelude.{◌≡◌, ℕ, List};
+ghost use Rattle.sql_reader.specs.declared.tree.Query.{Query};
+ghost use Rattle.sql_reader.specs.Canonical.{canonical};
+ghost use Rattle.sql_reader.specs.Grammar.{IsTree};
+
+/// The canonical text of a tree has the same tree.
+pub fn canonical_text_reads_back()
+    ensures { (bs : List ℕ) (q : Query) → IsTree bs q → IsTree (canonical q) q }
+{}
+
+/// A text has at most one tree.
+pub fn trees_are_unique()
+    ensures { (bs : List ℕ) (q r : Query) → IsTree bs q → IsTree bs r → q ≡ r }
+{}

@@ -1,0 +1,243 @@
+-- The two laws of answers: what is read is spelled so and fits, and what fits and is spelled is read.
+use Rattle.std.proofs.Common.{◌≡◌, ℕ, zero, suc, ◌-◌, ◌*◌, ◌≤◌, Bool, true, false, ◌&&◌, cond, eqb, List, [], ◌∷◌, ◌++◌, length, map, take, Option, Some, None, Result, Ok, Err, refl, sym, ap, subst, ◌∙◌, arith}
+use Rattle.std.specs.Prelude.{not, nat_lt, nat_le, sum, slice_index}
+use Rattle.std.specs.List.{AllByRecursion, list_all}
+use Rattle.std.specs.Bool.{Decides}
+use Rattle.std.specs.Int.{w32, to_be_bytes}
+use Rattle.std.specs.Cmp.Lexicographic.{pointwise, pointwise_decides, bytes_decides}
+use Rattle.std.proofs.lemmas.Bool.{eqb-true, eq-eqb, ltb-true, leb-true}
+use Rattle.std.proofs.lemmas.List.{append-nil, nil_from_length, length-append, length-map, take_at}
+use Rattle.std.proofs.lemmas.List.Elements.{recursion_from_All}
+use Rattle.sha2.specs.Sha256.{sha256, digest_bytes}
+use Rattle.meaning.specs.declared.value.ColType.{ColType}
+use Rattle.meaning.specs.declared.value.ColType.TheVariants as of_type
+use Rattle.meaning.specs.declared.plan.AggregateKind.{AggregateKind}
+use Rattle.meaning.specs.declared.plan.AggregateKind.TheVariants.{CountRows, Count, Sum, Min, Max, Avg}
+use Rattle.meaning.specs.declared.plan.Aggregate.{Aggregate}
+use Rattle.meaning.specs.declared.answer.Body.{Body}
+use Rattle.meaning.specs.declared.answer.Body.TheVariants.{Groups, Fault}
+use Rattle.meaning.specs.declared.answer.Answer.{Answer}
+use Rattle.meaning.specs.Group.{certain_keys}
+use Rattle.meaning.specs.Table.{first_row}
+use Rattle.meaning.specs.Fitting.{is_group_possible, are_rows_possible, is_shaped, are_keys_ascending, are_numbers_possible, fits}
+use Rattle.partial_codec.specs.declared.fault.DecodeFault.{DecodeFault}
+use Rattle.partial_codec.specs.declared.fault.DecodeFault.TheVariants as refusal
+use Rattle.partial_codec.specs.declared.shape.AggregateShape.{AggregateShape}
+use Rattle.partial_codec.specs.Reading.{◌>>=◌, bytes_at}
+use Rattle.partial_codec.specs.Job.{JobSpec, IsJob}
+use Rattle.partial_codec.specs.Shape.{Shape, shape_of, shape_of_aggregate, argument_of, argument_code, kind_code, type_code, is_same_type, is_same_aggregate, is_same_shape}
+use Rattle.partial_codec.specs.Supported.{is_supported}
+use Rattle.partial_codec.specs.Supported as feature
+use Rattle.partial_codec.specs.Spelling.{Layout, layout_bytes, layout_of, seal_of, answer_bytes}
+use Rattle.partial_codec.specs.LayoutReading.{same_bytes, type_of, kind_of, argument_from, layout_at}
+use Rattle.partial_codec.specs.Answer.{is_body_supported, is_known, Fits, Spells, held_against, sealed_end, judged}
+use Rattle.partial_codec.proofs.Numbers.{bind_ok, ok_is, IsBytes, bytes_take, bytes_again}
+use Rattle.partial_codec.specs.Ranges.{IsBody}
+use Rattle.partial_codec.proofs.FieldLaws.{type_again, kind_again, IsAggregate, IsLayout, layout_takes, layout_again}
+use Rattle.partial_codec.proofs.Fitting.{both, groups_fit, few_groups, short_at, few_rows_before, words, fault_fits}
+use Rattle.partial_codec.proofs.Known.{all_of, layout_known}
+
+-- ---- equal shapes
+
+some_code : Option ColType → Result (Option ColType) DecodeFault
+some_code None = Ok None
+some_code (Some t) = type_of (type_code t) >>= λ u. Ok (Some u)
+
+type_exact : (a b : ColType) → Decides (is_same_type a b) (a ≡ b)
+type_exact a b = (
+  λ e. ok_is a b (sym (type_again a) ∙ ap type_of (eqb-true (type_code a) (type_code b) e) ∙ type_again b),
+  λ e. eq-eqb (type_code a) (type_code b) (ap type_code e),
+)
+
+argument_exact : (a b : Option ColType) → argument_code a ≡ argument_code b → a ≡ b
+argument_exact None None e = refl
+argument_exact None (Some of_type.Int) e = absurd (omega (arith, e))
+argument_exact None (Some of_type.Text) e = absurd (omega (arith, e))
+argument_exact (Some of_type.Int) None e = absurd (omega (arith, e))
+argument_exact (Some of_type.Text) None e = absurd (omega (arith, e))
+argument_exact (Some s) (Some t) e = ap Some (ok_is s t (sym (type_again s) ∙ ap type_of e ∙ type_again t))
+
+same_aggregates : (a b : AggregateShape) → is_same_aggregate a b ≡ true → a ≡ b
+same_aggregates a b e =
+    let h = both (eqb (kind_code a.kind) (kind_code b.kind)) (eqb (argument_code a.argument) (argument_code b.argument)) e in
+    let kinds : a.kind ≡ b.kind = ok_is a.kind b.kind (sym (kind_again a.kind) ∙ ap kind_of (eqb-true _ _ h.0) ∙ kind_again b.kind) in
+    let arguments = argument_exact a.argument b.argument (eqb-true _ _ h.1) in
+    λ i. record { kind = kinds i; argument = arguments i }
+
+aggregate_exact : (a b : AggregateShape) → Decides (is_same_aggregate a b) (a ≡ b)
+aggregate_exact a b = (
+  same_aggregates a b,
+  λ e. all_of _ _ (eq-eqb _ _ (ap (λ (s : AggregateShape). kind_code s.kind) e)) (eq-eqb _ _ (ap (λ (s : AggregateShape). argument_code s.argument) e)),
+)
+
+pub shape_same : (a b : Shape) → is_same_shape a b ≡ true → a ≡ b
+shape_same a b e =
+    let h = both (pointwise is_same_type a.keys b.keys) (pointwise is_same_aggregate a.aggregates b.aggregates) e in
+    let keys = (pointwise_decides type_exact a.keys b.keys).0 h.0 in
+    let aggregates = (pointwise_decides aggregate_exact a.aggregates b.aggregates).0 h.1 in
+    λ i. record { keys = keys i; aggregates = aggregates i }
+
+shape_itself : (a : Shape) → is_same_shape a a ≡ true
+shape_itself a = all_of _ _ ((pointwise_decides type_exact a.keys a.keys).1 refl) ((pointwise_decides aggregate_exact a.aggregates a.aggregates).1 refl)
+
+-- ---- what is read is spelled so and fits
+
+test_not : {A : Type 0} (b : Bool) (d : DecodeFault) (r : Result A DecodeFault) (y : A) → cond (not b) (Err d) r ≡ Ok y → (b ≡ true) × (r ≡ Ok y)
+test_not true d r y e = (refl, e)
+test_not false d r y e = absurd cc
+
+-- the fields that were held against the job
+record IsHeld (job : JobSpec) (l : Layout) (a : Answer) : Type 0 where
+  layout : l ≡ layout_of job a
+  fits : fits job.plan job.cut a ≡ true
+
+held_takes : (job : JobSpec) (l : Layout) (a : Answer) → held_against job l ≡ Ok a → IsHeld job l a
+unfolding held_against
+held_takes job l a e =
+    let load = test_not (eqb l.load job.load) refusal.OtherLoad _ a e in
+    let text = test_not (same_bytes l.text job.plan.text) refusal.OtherQuery _ a load.1 in
+    let cut = test_not (same_bytes l.cut job.cut && nat_lt l.k (length job.cut)) refusal.OtherCut _ a text.1 in
+    let shape = test_not (is_same_shape l.shape (shape_of job.plan) && is_shaped job.plan l.body) refusal.Shape _ a cut.1 in
+    let sorted = test_not (are_keys_ascending l.body) refusal.UnsortedGroups _ a shape.1 in
+    let numbers = test_not (are_numbers_possible job.plan (first_row job.cut l.k) (slice_index job.cut l.k) l.body) refusal.Numbers _ a sorted.1 in
+    let cuts = both (same_bytes l.cut job.cut) (nat_lt l.k (length job.cut)) cut.0 in
+    let shapes = both (is_same_shape l.shape (shape_of job.plan)) (is_shaped job.plan l.body) shape.0 in
+    let loads : l.load ≡ job.load = eqb-true _ _ load.0 in
+    let texts : l.text ≡ job.plan.text = (bytes_decides l.text job.plan.text).0 text.0 in
+    let lengths : l.cut ≡ job.cut = (bytes_decides l.cut job.cut).0 cuts.0 in
+    let same_shape : l.shape ≡ shape_of job.plan = shape_same l.shape (shape_of job.plan) shapes.0 in
+    let made : Answer = record { k = l.k; body = l.body } in
+    let same_layout : l ≡ layout_of job made = λ i. record { load = loads i; text = texts i; cut = lengths i; k = l.k; shape = same_shape i; body = l.body } in
+    let all : fits job.plan job.cut made ≡ true = all_of _ _ cuts.1 (all_of _ _ shapes.1 (all_of _ _ sorted.0 numbers.0)) in
+    let held : IsHeld job l made = record { layout = same_layout; fits = all } in
+    subst (λ (b : Answer). IsHeld job l b) (ok_is made a numbers.1) held
+
+seal_takes : (front seal rest end : List ℕ) → length seal ≡ 32 → sealed_end (front ++ (seal ++ rest)) seal rest ≡ Ok end → front ++ (seal ++ rest) ≡ front ++ seal_of front
+unfolding sealed_end
+seal_takes front seal rest end len e =
+    let nothing = test_not (eqb (length rest) 0) refusal.TrailingBytes _ end e in
+    let sealed = test_not (same_bytes seal (seal_of (take (length (front ++ (seal ++ rest)) - 32) (front ++ (seal ++ rest))))) refusal.Seal _ end nothing.1 in
+    let none : rest ≡ [] = nil_from_length rest (eqb-true _ _ nothing.0) in
+    let short : length (front ++ (seal ++ rest)) - 32 ≡ length front = omega (arith, length-append front (seal ++ rest), length-append seal rest, eqb-true _ _ nothing.0) in
+    let taken : take (length (front ++ (seal ++ rest)) - 32) (front ++ (seal ++ rest)) ≡ front = rw short (take_at front (seal ++ rest) (length front) refl) in
+    let same : seal ≡ seal_of front = (bytes_decides seal _).0 sealed.0 ∙ ap seal_of taken in
+    ap (λ (r : List ℕ). front ++ (seal ++ r)) none ∙ ap (λ (s : List ℕ). front ++ s) (append-nil seal ∙ same)
+
+pub answer_takes : (job : JobSpec) (bytes : List ℕ) (a : Answer) → IsBytes bytes → judged job bytes ≡ Ok a → Spells job bytes a
+unfolding judged
+answer_takes job bytes a ok e =
+    let one = bind_ok (layout_at bytes) (λ layout. bytes_at 32 layout.1 >>= λ seal. sealed_end bytes seal.0 seal.1 >>= λ end. held_against job layout.0) a e in
+    let two = bind_ok (bytes_at 32 one.0.1) (λ seal. sealed_end bytes seal.0 seal.1 >>= λ end. held_against job one.0.0) a one.2 in
+    let three = bind_ok (sealed_end bytes two.0.0 two.0.1) (λ end. held_against job one.0.0) a two.2 in
+    let layout = layout_takes bytes one.0 ok one.1 in
+    let seal = bytes_take 32 one.0.1 two.0.0 two.0.1 layout.rest_fits two.1 in
+    let front = layout_bytes one.0.0 in
+    let parts : bytes ≡ front ++ (two.0.0 ++ two.0.1) = layout.parts ∙ ap (λ (t : List ℕ). front ++ t) seal.0.parts in
+    let ended = subst (λ (bs : List ℕ). sealed_end bs two.0.0 two.0.1 ≡ Ok three.0) parts three.1 in
+    let sealed = seal_takes front two.0.0 two.0.1 three.0 seal.1 ended in
+    let held = held_takes job one.0.0 a three.2 in
+    let whole : bytes ≡ answer_bytes job a = parts ∙ sealed ∙ ap (λ (l : Layout). layout_bytes l ++ seal_of (layout_bytes l)) held.layout in
+    let known : is_known (shape_of job.plan) a.body ≡ true = subst (λ (l : Layout). is_known l.shape l.body ≡ true) held.layout (layout_known bytes one.0 one.1) in
+    record { fits = record { known = known; fits = held.fits }; spelled = whole }
+
+-- ---- what fits and is spelled is read
+
+length_digest : (h : List ℕ) (n : ℕ) → length (digest_bytes h n) ≡ 4 * n
+unfolding digest_bytes
+length_digest h zero = refl
+length_digest h (suc n) = let len = length_digest h n in omega (arith, len, length-append (digest_bytes h n) (to_be_bytes w32 (slice_index h n)))
+
+length_seal : (bytes : List ℕ) → length (seal_of bytes) ≡ 32
+unfolding seal_of sha256
+length_seal bytes = length_digest _ 8
+
+argument_back : (k : AggregateKind) (t : ColType) → argument_from k (argument_code (argument_of k t)) ≡ Ok (argument_of k t)
+argument_back CountRows t = refl
+argument_back Count t = rw (type_again t) refl
+argument_back Sum t = rw (type_again t) refl
+argument_back Min t = rw (type_again t) refl
+argument_back Max t = rw (type_again t) refl
+argument_back Avg t = rw (type_again t) refl
+
+aggregates_fit : (aggs : List Aggregate) → list_all (λ a. is_supported (feature.kind a.kind)) (map shape_of_aggregate aggs) ≡ true → AllByRecursion IsAggregate (map shape_of_aggregate aggs)
+aggregates_fit [] e = tt
+aggregates_fit (a ∷ aggs) e =
+    let h = both (is_supported (feature.kind a.kind)) (list_all (λ s. is_supported (feature.kind s.kind)) (map shape_of_aggregate aggs)) e in
+    (record { known = h.0; argument = argument_back a.kind a.col_type }, aggregates_fit aggs h.1)
+
+body_fits : (job : JobSpec) (a : Answer) → IsJob job → is_body_supported a.body ≡ true → fits job.plan job.cut a ≡ true → IsBody (shape_of job.plan) a.body
+body_fits job a is known fit =
+    let shaped = both (is_shaped job.plan a.body) _ (both (nat_lt a.k (length job.cut)) _ fit).1 in
+    of_body a.body known shaped.0 (both (are_keys_ascending a.body) _ shaped.1).1
+  where
+    short : AllByRecursion (λ n. n ≤ 1048576) job.cut
+    short = recursion_from_All (λ n. n ≤ 1048576) job.cut is.cut.short
+
+    of_body : (body : Body) → is_body_supported body ≡ true → is_shaped job.plan body ≡ true → are_numbers_possible job.plan (first_row job.cut a.k) (slice_index job.cut a.k) body ≡ true → IsBody (shape_of job.plan) body
+    of_body (Fault f) known shaped possible =
+        let rows = short_at job.cut a.k short in
+        let first = few_rows_before job.cut a.k short in
+        let few = is.cut.few in
+        let small = fault_fits (first_row job.cut a.k) (slice_index job.cut a.k) f (omega (arith, rows, first, few)) possible in
+        (known, small.0, small.1)
+    of_body (Groups gs) known shaped possible =
+        let h = both (nat_le (sum (map (λ g. g.rows) gs)) (slice_index job.cut a.k)) (are_rows_possible (certain_keys job.plan.plain job.plan.keys) gs && list_all (is_group_possible job.plan) gs) possible in
+        let k = both (are_rows_possible (certain_keys job.plan.plain job.plan.keys) gs) (list_all (is_group_possible job.plan) gs) h.1 in
+        let within = leb-true _ _ h.0 in
+        let rows = short_at job.cut a.k short in
+        let all : sum (map (λ g. g.rows) gs) ≤ 1048576 = omega (arith, within, rows) in
+        let count = few_groups (certain_keys job.plan.plain job.plan.keys) gs all k.0 in
+        (omega (arith, count), groups_fit job.plan gs all shaped k.1)
+
+pub layout_fits : (job : JobSpec) (a : Answer) → IsJob job → Fits job a → IsLayout (layout_of job a)
+layout_fits job a is fit =
+    let known = both (is_supported (feature.keys (length (shape_of job.plan).keys))) _ fit.known in
+    let known2 = both (is_supported (feature.aggregates (length (shape_of job.plan).aggregates))) _ known.1 in
+    let known3 = both (list_all (λ s. is_supported (feature.kind s.kind)) (shape_of job.plan).aggregates) (is_body_supported a.body) known2.1 in
+    let k = ltb-true a.k (length job.cut) (both (nat_lt a.k (length job.cut)) _ fit.fits).0 in
+    let few = is.cut.few in
+    let text = is.plan.text in
+    let keys = is.plan.keys in
+    let aggregates = is.plan.aggregates in
+    record {
+      job = record {
+        load = is.load;
+        text = record { is_text = is.is_text; short = omega (arith, text) };
+        fragments = omega (arith, few);
+        each = words job.cut (recursion_from_All (λ n. n ≤ 1048576) job.cut is.cut.short);
+      };
+      k = omega (arith, k, few);
+      shape = record {
+        keys = omega (arith, keys, length-map job.plan.keys (λ k. k.col_type));
+        keys_known = known.0;
+        aggregates = omega (arith, aggregates, length-map job.plan.aggs shape_of_aggregate);
+        aggregates_known = known2.0;
+        each = aggregates_fit job.plan.aggs known3.0;
+      };
+      body = body_fits job a is known3.1 fit.fits;
+    }
+
+held_again : (job : JobSpec) (a : Answer) → fits job.plan job.cut a ≡ true → held_against job (layout_of job a) ≡ Ok a
+unfolding held_against
+held_again job a fit =
+    let k = both (nat_lt a.k (length job.cut)) _ fit in
+    let shaped = both (is_shaped job.plan a.body) _ k.1 in
+    let sorted = both (are_keys_ascending a.body) _ shaped.1 in
+    rw (eq-eqb job.load job.load refl, (bytes_decides job.plan.text job.plan.text).1 refl, (bytes_decides job.cut job.cut).1 refl, k.0, shape_itself (shape_of job.plan), shaped.0, sorted.0, sorted.1) refl
+
+seal_again : (front : List ℕ) → sealed_end (front ++ seal_of front) (seal_of front) [] ≡ Ok (seal_of front)
+unfolding sealed_end
+seal_again front =
+    let short : length (front ++ seal_of front) - 32 ≡ length front = omega (arith, length-append front (seal_of front), length_seal front) in
+    rw (short, take_at front (seal_of front) (length front) refl, (bytes_decides (seal_of front) (seal_of front)).1 refl) refl
+
+pub answer_again : (job : JobSpec) (a : Answer) → IsJob job → Fits job a → judged job (answer_bytes job a) ≡ Ok a
+unfolding judged
+answer_again job a is fit =
+    let front = layout_bytes (layout_of job a) in
+    let seal = seal_of front in
+    let sealed : bytes_at 32 seal ≡ Ok (seal, []) = ap (bytes_at 32) (sym (append-nil seal)) ∙ bytes_again 32 seal [] (length_seal front) in
+    rw (layout_again (layout_of job a) seal (layout_fits job a is fit), sealed, seal_again front, held_again job a fit.fits) refl
+
+pub spelled_reads : (job : JobSpec) (bytes : List ℕ) (a : Answer) → IsJob job → Spells job bytes a → judged job bytes ≡ Ok a
+spelled_reads job bytes a is spells = ap (judged job) spells.spelled ∙ answer_again job a is spells.fits

@@ -1,0 +1,221 @@
+-- An answer that fits a job has a spelling: each of its numbers, texts and values stands within its field.
+use Rattle.std.proofs.Common.{◌≡◌, ℕ, zero, suc, ◌+◌, ◌*◌, ◌^◌, ◌<◌, ◌≤◌, ℤ, pos, negsuc, neg_ℤ, Bool, true, false, ◌&&◌, ◌||◌, eqb, List, [], ◌∷◌, length, map, take, Option, Some, None, refl, ap, subst, arith, inl, inr, ◌⊎◌}
+use Rattle.std.specs.Prelude.{FitsSigned, int_le, sum, slice_index, nat_lt, nat_le}
+use Rattle.std.specs.List.{AllByRecursion, list_all}
+use Rattle.std.specs.Int.{w64, w128}
+use Rattle.std.specs.Str.{is_utf8}
+use Rattle.std.specs.Cmp.Lexicographic.{pointwise}
+use Rattle.std.proofs.lemmas.Bool.{eqb-true, ltb-true, leb-true}
+use Rattle.std.proofs.lemmas.List.Sums.{sum_by-cons}
+use Rattle.meaning.specs.declared.value.Value.{Value}
+use Rattle.meaning.specs.declared.value.Value.TheVariants.{Null, Int, Text}
+use Rattle.meaning.specs.declared.value.ColType.{ColType}
+use Rattle.meaning.specs.declared.value.ColType.TheVariants as of_type
+use Rattle.meaning.specs.declared.plan.AggregateKind.{AggregateKind}
+use Rattle.meaning.specs.declared.plan.AggregateKind.TheVariants.{CountRows, Count, Sum, Min, Max, Avg}
+use Rattle.meaning.specs.declared.plan.Aggregate.{Aggregate}
+use Rattle.meaning.specs.declared.plan.GroupingKey.{GroupingKey}
+use Rattle.meaning.specs.declared.plan.Plan.{Plan}
+use Rattle.meaning.specs.declared.answer.RowFault.{RowFault}
+use Rattle.meaning.specs.declared.answer.Statistics.{Statistics}
+use Rattle.meaning.specs.declared.answer.Group.{Group}
+use Rattle.meaning.specs.declared.answer.Body.{Body}
+use Rattle.meaning.specs.declared.answer.Body.TheVariants.{Groups, Fault}
+use Rattle.meaning.specs.Order.{Row}
+use Rattle.meaning.specs.Operators.{fits_i64}
+use Rattle.meaning.specs.Aggregate.{kept_by}
+use Rattle.meaning.specs.Gather.{same_statistics, same_body}
+use Rattle.meaning.specs.Fitting.{is_of_type, is_extreme, is_key_of, is_state_of, is_group_of, is_sum_of, is_possible, is_group_possible, are_rows_possible, is_fault_possible}
+use Rattle.meaning.proofs.Same.{body_exact}
+use Rattle.partial_codec.specs.Shape.{shape_of, shape_of_aggregate}
+use Rattle.partial_codec.specs.Ranges.{IsText, IsValue, IsExtreme, IsState, AreStates, IsGroup}
+
+-- ---- tests
+
+sum-cons : (n : ℕ) (ns : List ℕ) → sum (n ∷ ns) ≡ n + sum ns
+sum-cons n ns = sum_by-cons (λ x. x) n ns
+
+abbrev rows_of : List Group → List ℕ
+rows_of gs = map (λ g. g.rows) gs
+
+pub both : (a b : Bool) → (a && b) ≡ true → (a ≡ true) × (b ≡ true)
+both true b e = (refl, e)
+both false b e = absurd cc
+
+either : (a b : Bool) → (a || b) ≡ true → (a ≡ true) ⊎ (b ≡ true)
+either true b e = inl refl
+either false b e = inr e
+
+-- ---- values
+
+fits_word : (z : ℤ) → fits_i64 z ≡ true → FitsSigned w64 z
+fits_word (pos n) e = record { sfits = ltb-true n (2 ^ 63) e }
+fits_word (negsuc n) e = record { sfits = ltb-true n (2 ^ 63) e }
+
+fits_text : (t : List ℕ) → (is_utf8 t && nat_le (length t) 65535) ≡ true → IsText 2 t
+fits_text t e =
+    let h = both (is_utf8 t) (nat_le (length t) 65535) e in
+    let short = leb-true (length t) 65535 h.1 in
+    record { is_text = h.0; short = omega (arith, short) }
+
+value_fits : (t : ColType) (v : Value) → is_of_type t v ≡ true → IsValue v
+value_fits t Null e = tt
+value_fits of_type.Int (Int z) e = fits_word z e
+value_fits of_type.Text (Int z) e = absurd cc
+value_fits of_type.Int (Text t) e = absurd cc
+value_fits of_type.Text (Text t) e = fits_text t e
+
+extreme_fits : (t : ColType) (o : Option Value) → is_extreme t o ≡ true → IsExtreme o
+extreme_fits t None e = tt
+extreme_fits t (Some Null) e = absurd cc
+extreme_fits of_type.Int (Some (Int z)) e = fits_word z e
+extreme_fits of_type.Text (Some (Int z)) e = absurd cc
+extreme_fits of_type.Int (Some (Text t)) e = absurd cc
+extreme_fits of_type.Text (Some (Text t)) e = fits_text t e
+
+-- ---- sums
+
+-- a number between two that 128 bits hold
+between : (x : ℕ) (z : ℤ) (y : ℕ) → x < 2 ^ 127 → y < 2 ^ 127 → int_le (neg_ℤ (pos x)) z ≡ true → int_le z (pos y) ≡ true → FitsSigned w128 z
+between x (pos m) y hx hy low high = let h = leb-true m y high in record { sfits = omega (arith, h) }
+between zero (negsuc m) y hx hy low high = absurd cc
+between (suc x) (negsuc m) y hx hy low high = let h = leb-true m x low in record { sfits = omega (arith, h) }
+
+sum_fits : (n : ℕ) (z : ℤ) → n ≤ 1048576 → is_sum_of n z ≡ true → FitsSigned w128 z
+sum_fits n z le e =
+    let h = both (int_le (neg_ℤ (pos (n * 9223372036854775808))) z) (int_le z (pos (n * 9223372036854775807))) e in
+    between (n * 9223372036854775808) z (n * 9223372036854775807) (omega arith) (omega arith) h.0 h.1
+
+no_sum : (z : ℤ) → pos 0 ≡ z → FitsSigned w128 z
+no_sum z e = subst (λ (x : ℤ). FitsSigned w128 x) e (record { sfits = omega arith })
+
+-- ---- equal statistics
+
+group_with : Statistics → Group
+group_with s = record { key = []; rows = 0; states = s ∷ [] }
+
+state_in : Statistics → Body → Statistics
+state_in d (Fault f) = d
+state_in d (Groups []) = d
+state_in d (Groups (g ∷ gs)) = first g.states
+  where
+    first : List Statistics → Statistics
+    first [] = d
+    first (s ∷ states) = s
+
+pub statistics_same : (a b : Statistics) → same_statistics a b ≡ true → a ≡ b
+unfolding group_with state_in
+statistics_same a b e =
+    let same : same_body (Groups (group_with a ∷ [])) (Groups (group_with b ∷ [])) ≡ true = rw e refl in
+    ap (state_in a) ((body_exact (Groups (group_with a ∷ [])) (Groups (group_with b ∷ []))).0 same)
+
+pub statistics_itself : (a : Statistics) → same_statistics a a ≡ true
+unfolding group_with
+statistics_itself a =
+    let same : ((same_statistics a a && true) && true) ≡ true = (body_exact (Groups (group_with a ∷ [])) (Groups (group_with a ∷ []))).1 refl in
+    (both _ _ (both (same_statistics a a && true) true same).0).0
+
+-- ---- states
+
+count_fits : (kind : AggregateKind) (rows : ℕ) (s : Statistics) → is_possible kind rows s ≡ true → s.count ≤ rows
+count_fits CountRows rows s e = let h = eqb-true s.count rows e in omega (arith, h)
+count_fits Count rows s e = leb-true s.count rows e
+count_fits Sum rows s e = leb-true s.count rows (both _ _ e).0
+count_fits Avg rows s e = leb-true s.count rows (both _ _ e).0
+count_fits Min rows s e = leb-true s.count rows (both _ _ e).0
+count_fits Max rows s e = leb-true s.count rows (both _ _ e).0
+
+sum_of_state : (kind : AggregateKind) (rows : ℕ) (s : Statistics) → rows ≤ 1048576 → kept_by kind s ≡ s → is_possible kind rows s ≡ true → FitsSigned w128 s.sum
+sum_of_state CountRows rows s le kept e = no_sum s.sum (ap (λ (t : Statistics). t.sum) kept)
+sum_of_state Count rows s le kept e = no_sum s.sum (ap (λ (t : Statistics). t.sum) kept)
+sum_of_state Sum rows s le kept e = let h = both _ _ e in let c = leb-true s.count rows h.0 in sum_fits s.count s.sum (omega (arith, c)) h.1
+sum_of_state Avg rows s le kept e = let h = both _ _ e in let c = leb-true s.count rows h.0 in sum_fits s.count s.sum (omega (arith, c)) h.1
+sum_of_state Min rows s le kept e = no_sum s.sum (ap (λ (t : Statistics). t.sum) kept)
+sum_of_state Max rows s le kept e = no_sum s.sum (ap (λ (t : Statistics). t.sum) kept)
+
+state_fits : (a : Aggregate) (rows : ℕ) (s : Statistics) → rows ≤ 1048576 → is_state_of a s ≡ true → is_possible a.kind rows s ≡ true → IsState a.kind s
+state_fits a rows s le shaped possible =
+    let h = both (same_statistics (kept_by a.kind s) s) (is_extreme a.col_type s.least && is_extreme a.col_type s.greatest) shaped in
+    let extremes = both (is_extreme a.col_type s.least) (is_extreme a.col_type s.greatest) h.1 in
+    let kept = statistics_same (kept_by a.kind s) s h.0 in
+    let count = count_fits a.kind rows s possible in
+    record {
+      count = omega (arith, count);
+      sum = sum_of_state a.kind rows s le kept possible;
+      least = extreme_fits a.col_type s.least extremes.0;
+      greatest = extreme_fits a.col_type s.greatest extremes.1;
+      kept = kept;
+    }
+
+states_fit : (aggs : List Aggregate) (rows : ℕ) (states : List Statistics) → rows ≤ 1048576 → pointwise is_state_of aggs states ≡ true → pointwise (λ a s. is_possible a.kind rows s) aggs states ≡ true
+    → AreStates (map shape_of_aggregate aggs) states
+states_fit [] rows [] le shaped possible = tt
+states_fit [] rows (s ∷ states) le shaped possible = absurd cc
+states_fit (a ∷ aggs) rows [] le shaped possible = absurd cc
+states_fit (a ∷ aggs) rows (s ∷ states) le shaped possible =
+    let h = both (is_state_of a s) (pointwise is_state_of aggs states) shaped in
+    let k = both (is_possible a.kind rows s) (pointwise (λ b t. is_possible b.kind rows t) aggs states) possible in
+    (state_fits a rows s le h.0 k.0, states_fit aggs rows states le h.1 k.1)
+
+-- ---- groups
+
+key_fits : (keys : List GroupingKey) (key : Row) → pointwise (λ k v. is_of_type k.col_type v) keys key ≡ true → (length key ≡ length (map (λ k. k.col_type) keys)) × AllByRecursion IsValue key
+key_fits [] [] e = (refl, tt)
+key_fits [] (v ∷ key) e = absurd cc
+key_fits (k ∷ keys) [] e = absurd cc
+key_fits (k ∷ keys) (v ∷ key) e =
+    let h = both (is_of_type k.col_type v) (pointwise (λ l w. is_of_type l.col_type w) keys key) e in
+    let others = key_fits keys key h.1 in
+    (ap suc others.0, (value_fits k.col_type v h.0, others.1))
+
+group_fits : (plan : Plan) (g : Group) → g.rows ≤ 1048576 → is_group_of plan g ≡ true → is_group_possible plan g ≡ true → IsGroup (shape_of plan) g
+group_fits plan g le shaped possible =
+    let h = both (is_key_of plan g.key) (pointwise is_state_of plan.aggs g.states) shaped in
+    let key = key_fits plan.keys g.key h.0 in
+    record { keys = key.0; key = key.1; rows = omega arith; states = states_fit plan.aggs g.rows g.states le h.1 possible }
+
+pub groups_fit : (plan : Plan) (gs : List Group) → sum (map (λ g. g.rows) gs) ≤ 1048576 → list_all (is_group_of plan) gs ≡ true → list_all (is_group_possible plan) gs ≡ true → AllByRecursion (IsGroup (shape_of plan)) gs
+groups_fit plan [] le shaped possible = tt
+groups_fit plan (g ∷ gs) le shaped possible =
+    let h = both (is_group_of plan g) (list_all (is_group_of plan) gs) shaped in
+    let k = both (is_group_possible plan g) (list_all (is_group_possible plan) gs) possible in
+    let sums = sum-cons g.rows (rows_of gs) in
+    (group_fits plan g (omega (arith, sums)) h.0 k.0, groups_fit plan gs (omega (arith, sums)) h.1 k.1)
+
+rows_count : (gs : List Group) → list_all (λ g. nat_le 1 g.rows) gs ≡ true → length gs ≤ sum (map (λ g. g.rows) gs)
+rows_count [] e = omega arith
+rows_count (g ∷ gs) e =
+    let h = both (nat_le 1 g.rows) (list_all (λ x. nat_le 1 x.rows) gs) e in
+    let one = leb-true 1 g.rows h.0 in
+    let others = rows_count gs h.1 in
+    omega (arith, one, others, sum-cons g.rows (rows_of gs))
+
+pub few_groups : (certain : List Row) (gs : List Group) → sum (map (λ g. g.rows) gs) ≤ 1048576 → are_rows_possible certain gs ≡ true → length gs ≤ 1048576
+few_groups [] gs le e = let h = rows_count gs e in omega (arith, h)
+few_groups (k ∷ ks) gs le e = let h = eqb-true (length gs) 1 e in omega (arith, h)
+
+-- ---- cuts
+
+pub short_at : (cut : List ℕ) (k : ℕ) → AllByRecursion (λ n. n ≤ 1048576) cut → slice_index cut k ≤ 1048576
+short_at [] k short = omega arith
+short_at (n ∷ cut) zero short = short.0
+short_at (n ∷ cut) (suc k) short = short_at cut k short.1
+
+pub few_rows_before : (cut : List ℕ) (k : ℕ) → AllByRecursion (λ n. n ≤ 1048576) cut → sum (take k cut) ≤ 1048576 * length cut
+few_rows_before [] zero short = omega arith
+few_rows_before [] (suc k) short = omega arith
+few_rows_before (n ∷ cut) zero short = omega arith
+few_rows_before (n ∷ cut) (suc k) short = let h = few_rows_before cut k short.1 in let n_is = short.0 in omega (arith, h, n_is, sum-cons n (take k cut))
+
+pub words : (cut : List ℕ) → AllByRecursion (λ n. n ≤ 1048576) cut → AllByRecursion (λ n. n < 2 ^ 32) cut
+words [] short = tt
+words (n ∷ cut) short = (let n_is = short.0 in omega (arith, n_is), words cut short.1)
+
+-- ---- faults
+
+pub fault_fits : (first rows : ℕ) (f : RowFault) → first + rows < 2 ^ 64 → is_fault_possible first rows f ≡ true → (f.row < 2 ^ 64) × (f.code < 256)
+fault_fits first rows f lt e =
+    let h = both ((eqb f.code 1) || (eqb f.code 2)) (nat_le first f.row && nat_lt f.row (first + rows)) e in
+    let below = ltb-true f.row (first + rows) (both (nat_le first f.row) (nat_lt f.row (first + rows)) h.1).1 in
+    let code : f.code < 256 = elim (either (eqb f.code 1) (eqb f.code 2) h.0) [ inl a ↦ (let is = eqb-true f.code 1 a in omega (arith, is)) | inr a ↦ (let is = eqb-true f.code 2 a in omega (arith, is)) ] in
+    (omega (arith, below), code)

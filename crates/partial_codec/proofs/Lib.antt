@@ -1,0 +1,10 @@
+pub mod Numbers
+pub mod Values
+pub mod Groups
+pub mod FieldLaws
+pub mod Fitting
+pub mod Known
+pub mod Loops
+pub mod Steps
+pub mod Shaped
+pub mod Answers

@@ -1,0 +1,75 @@
+-- Which bytes are an answer for a job, and what is wrong first with others.
+use Rattle.std.specs.Prelude.{◌≡◌, ℕ, ◌-◌, ◌==◌, nat_lt, Bool, true, ◌&&◌, not, if◌then◌else◌, List, length, take, slice_index, Option, Some, None, Result, Ok, Err}
+use Rattle.std.specs.List.{list_all}
+use Rattle.meaning.specs.declared.answer.Body.{Body}
+use Rattle.meaning.specs.declared.answer.Body.TheVariants.{Groups, Fault}
+use Rattle.meaning.specs.declared.answer.Answer.{Answer}
+use Rattle.meaning.specs.Table.{first_row}
+use Rattle.meaning.specs.Fitting.{is_shaped, are_keys_ascending, are_numbers_possible, fits}
+use Rattle.partial_codec.specs.declared.fault.DecodeFault.{DecodeFault}
+use Rattle.partial_codec.specs.declared.fault.DecodeFault.TheVariants.{TrailingBytes, Seal, OtherLoad, OtherQuery, OtherCut, UnsortedGroups, Shape, Numbers}
+use Rattle.partial_codec.specs.Reading.{◌>>=◌, bytes_at}
+use Rattle.partial_codec.specs.Job.{JobSpec}
+use Rattle.partial_codec.specs.Shape as shapes
+use Rattle.partial_codec.specs.Supported.{is_supported, keys, aggregates, kind, fault}
+use Rattle.partial_codec.specs.Spelling.{Layout, seal_of, answer_bytes}
+use Rattle.partial_codec.specs.LayoutReading.{same_bytes, layout_at}
+
+-- ---- what is spelled
+
+abbrev pub is_body_supported : Body → Bool
+is_body_supported (Fault f) = is_supported fault
+is_body_supported (Groups gs) = true
+
+-- this version knows the shape and the form of the body
+abbrev pub is_known : shapes.Shape → Body → Bool
+is_known shape body =
+    is_supported (keys (length shape.keys)) && (is_supported (aggregates (length shape.aggregates))
+    && (list_all (λ a. is_supported (kind a.kind)) shape.aggregates && is_body_supported body))
+
+-- an answer that fits the job: a fragment of its cut, with groups of the plan's shape, ascending, and with possible numbers
+pub record Fits (job : JobSpec) (a : Answer) : Type 0 where
+  pub known : is_known (shapes.shape_of job.plan) a.body ≡ true
+  pub fits : fits job.plan job.cut a ≡ true
+
+-- the bytes are the spelling of an answer that fits the job
+pub record Spells (job : JobSpec) (bytes : List ℕ) (a : Answer) : Type 0 where
+  pub fits : Fits job a
+  pub spelled : bytes ≡ answer_bytes job a
+
+-- ---- what is wrong with bytes
+
+-- the fields held against the job: its load, query and cut; the shape and the types; the order; the numbers
+unfoldable pub held_against : JobSpec → Layout → Result Answer DecodeFault
+held_against job l =
+    if not (l.load == job.load) then Err OtherLoad
+    else if not (same_bytes l.text job.plan.text) then Err OtherQuery
+    else if not (same_bytes l.cut job.cut && nat_lt l.k (length job.cut)) then Err OtherCut
+    else if not (shapes.is_same_shape l.shape (shapes.shape_of job.plan) && is_shaped job.plan l.body) then Err Shape
+    else if not (are_keys_ascending l.body) then Err UnsortedGroups
+    else if not (are_numbers_possible job.plan (first_row job.cut l.k) (slice_index job.cut l.k) l.body) then Err Numbers
+    else Ok (record { k = l.k; body = l.body })
+
+-- the seal is the end of the bytes, and that of all bytes before it
+unfoldable pub sealed_end : List ℕ → List ℕ → List ℕ → Result (List ℕ) DecodeFault
+sealed_end bytes seal rest =
+    if not (length rest == 0) then Err TrailingBytes
+    else if not (same_bytes seal (seal_of (take (length bytes - 32) bytes))) then Err Seal
+    else Ok seal
+
+-- the answer that the bytes give, or the first thing that is wrong: a field from front to back, the seal among them;
+-- bytes behind the seal; the seal; and then the fields against the job
+unfoldable pub judged : JobSpec → List ℕ → Result Answer DecodeFault
+judged job bytes = do
+  layout ← layout_at bytes
+  seal ← bytes_at 32 layout.1
+  end ← sealed_end bytes seal.0 seal.1
+  held_against job layout.0
+
+abbrev pub fault_in : Result Answer DecodeFault → Option DecodeFault
+fault_in (Ok a) = None
+fault_in (Err e) = Some e
+
+-- the first obstacle to the bytes' being an answer for the job
+abbrev pub obstacle : JobSpec → List ℕ → Option DecodeFault
+obstacle job bytes = fault_in (judged job bytes)

@@ -1,0 +1,200 @@
+-- How an answer's fields are read from front to back.
+use Rattle.std.specs.Prelude.{ℕ, Bool, ◌==◌, ℤ, if◌then◌else◌, List, [], ◌∷◌, length, Option, Some, None, Result, Ok, Err}
+use Rattle.std.specs.Int.{w64, w128, cast_signed}
+use Rattle.std.specs.Cmp.Lexicographic.{pointwise}
+use Rattle.std.specs.Prelude.{nat_eq}
+use Rattle.meaning.specs.declared.value.ColType.{ColType}
+use Rattle.meaning.specs.declared.value.ColType.TheVariants as of_type
+use Rattle.meaning.specs.declared.value.Value.{Value}
+use Rattle.meaning.specs.declared.value.Value.TheVariants.{Null, Int, Text}
+use Rattle.meaning.specs.declared.plan.AggregateKind.{AggregateKind}
+use Rattle.meaning.specs.declared.plan.AggregateKind.TheVariants.{CountRows, Count, Sum, Min, Max, Avg}
+use Rattle.meaning.specs.declared.answer.Statistics.{Statistics}
+use Rattle.meaning.specs.declared.answer.Group.{Group}
+use Rattle.meaning.specs.declared.answer.Body.{Body}
+use Rattle.meaning.specs.declared.answer.Body.TheVariants.{Groups, Fault}
+use Rattle.meaning.specs.Aggregate.{no_statistics}
+use Rattle.partial_codec.specs.declared.shape.AggregateShape.{AggregateShape}
+use Rattle.partial_codec.specs.declared.fault.DecodeFault.{DecodeFault}
+use Rattle.partial_codec.specs.declared.fault.DecodeFault.TheVariants.{Magic}
+use Rattle.partial_codec.specs.declared.fault.DecodeFault.TheVariants as fault
+use Rattle.partial_codec.specs.Reading.{◌>>=◌, Read, bytes_at, number_at, text_at, repeat_at}
+use Rattle.partial_codec.specs.Shape.{Shape}
+use Rattle.partial_codec.specs.Supported.{if_supported}
+use Rattle.partial_codec.specs.Supported as feature
+use Rattle.partial_codec.specs.Spelling.{Layout, answer_magic}
+
+abbrev pub same_bytes : List ℕ → List ℕ → Bool
+same_bytes = pointwise nat_eq
+
+-- ---- values
+
+unfoldable pub integer_at : List ℕ → Read ℤ
+integer_at bytes = do
+  n ← number_at 8 bytes
+  Ok (cast_signed w64 n.0, n.1)
+
+unfoldable pub sum_at : List ℕ → Read ℤ
+sum_at bytes = do
+  n ← number_at 16 bytes
+  Ok (cast_signed w128 n.0, n.1)
+
+-- NULL behind a 0, an integer behind a 1, a text behind a 2
+unfoldable pub tagged_value_at : ℕ → List ℕ → Read Value
+tagged_value_at tag bytes =
+    if tag == 0 then Ok (Null, bytes)
+    else if tag == 1 then (integer_at bytes >>= λ z. Ok (Int z.0, z.1))
+    else if tag == 2 then (text_at 2 bytes >>= λ t. Ok (Text t.0, t.1))
+    else Err fault.Shape
+
+unfoldable pub value_at : List ℕ → Read Value
+value_at bytes = do
+  tag ← number_at 1 bytes
+  tagged_value_at tag.0 tag.1
+
+-- ---- groups
+
+-- no least or greatest value is NULL
+abbrev pub unless_null : Value → Option Value
+unless_null Null = None
+unless_null (Int z) = Some (Int z)
+unless_null (Text t) = Some (Text t)
+
+-- what the aggregate's kind keeps
+unfoldable pub state_at : AggregateKind → List ℕ → Read Statistics
+state_at CountRows bytes = do
+  n ← number_at 4 bytes
+  Ok (record no_statistics { count = n.0 }, n.1)
+state_at Count bytes = do
+  n ← number_at 4 bytes
+  Ok (record no_statistics { count = n.0 }, n.1)
+state_at Sum bytes = do
+  n ← number_at 4 bytes
+  sum ← sum_at n.1
+  Ok (record no_statistics { count = n.0; sum = sum.0 }, sum.1)
+state_at Avg bytes = do
+  n ← number_at 4 bytes
+  sum ← sum_at n.1
+  Ok (record no_statistics { count = n.0; sum = sum.0 }, sum.1)
+state_at Min bytes = do
+  n ← number_at 4 bytes
+  value ← value_at n.1
+  Ok (record no_statistics { count = n.0; least = unless_null value.0 }, value.1)
+state_at Max bytes = do
+  n ← number_at 4 bytes
+  value ← value_at n.1
+  Ok (record no_statistics { count = n.0; greatest = unless_null value.0 }, value.1)
+
+-- one state for each aggregate
+unfoldable pub states_at : List AggregateShape → List ℕ → Read (List Statistics)
+states_at [] bytes = Ok ([], bytes)
+states_at (a ∷ shapes) bytes = do
+  first ← state_at a.kind bytes
+  others ← states_at shapes first.1
+  Ok (first.0 ∷ others.0, others.1)
+
+unfoldable pub group_at : Shape → List ℕ → Read Group
+group_at shape bytes = do
+  key ← repeat_at value_at (length shape.keys) bytes
+  rows ← number_at 4 key.1
+  states ← states_at shape.aggregates rows.1
+  Ok (record { key = key.0; rows = rows.0; states = states.0 }, states.1)
+
+unfoldable pub groups_at : Shape → List ℕ → Read Body
+groups_at shape bytes = do
+  count ← number_at 4 bytes
+  groups ← repeat_at (group_at shape) count.0 count.1
+  Ok (Groups groups.0, groups.1)
+
+unfoldable pub fault_at : List ℕ → Read Body
+fault_at bytes = do
+  row ← number_at 8 bytes
+  code ← number_at 1 row.1
+  Ok (Fault (record { row = row.0; code = code.0 }), code.1)
+
+-- a fault behind a 0, groups behind a 1
+unfoldable pub tagged_body_at : Shape → ℕ → List ℕ → Read Body
+tagged_body_at shape tag bytes =
+    if tag == 0 then if_supported feature.fault (fault_at bytes)
+    else if tag == 1 then groups_at shape bytes
+    else Err fault.Shape
+
+unfoldable pub body_at : Shape → List ℕ → Read Body
+body_at shape bytes = do
+  tag ← number_at 1 bytes
+  tagged_body_at shape tag.0 tag.1
+
+-- ---- shapes
+
+abbrev pub type_of : ℕ → Result ColType DecodeFault
+type_of n = if n == 1 then Ok of_type.Int else if n == 2 then Ok of_type.Text else Err fault.Shape
+
+unfoldable pub type_at : List ℕ → Read ColType
+type_at bytes = do
+  n ← number_at 1 bytes
+  t ← type_of n.0
+  Ok (t, n.1)
+
+abbrev pub kind_of : ℕ → Result AggregateKind DecodeFault
+kind_of n =
+    if n == 1 then Ok CountRows else if n == 2 then Ok Count else if n == 3 then Ok Sum
+    else if n == 4 then Ok Min else if n == 5 then Ok Max else if n == 6 then Ok Avg else Err fault.Shape
+
+abbrev pub known_kind : ℕ → Result AggregateKind DecodeFault
+known_kind n = kind_of n >>= λ kind. if_supported (feature.kind kind) (Ok kind)
+
+-- 0 is the only type for COUNT(*), and for it alone
+abbrev pub argument_from : AggregateKind → ℕ → Result (Option ColType) DecodeFault
+argument_from CountRows n = if n == 0 then Ok None else Err fault.Shape
+argument_from _ n = type_of n >>= λ t. Ok (Some t)
+
+unfoldable pub argument_at : AggregateKind → List ℕ → Read AggregateShape
+argument_at kind bytes = do
+  n ← number_at 1 bytes
+  argument ← argument_from kind n.0
+  Ok (record { kind = kind; argument = argument }, n.1)
+
+unfoldable pub aggregate_at : List ℕ → Read AggregateShape
+aggregate_at bytes = do
+  n ← number_at 1 bytes
+  kind ← known_kind n.0
+  argument_at kind n.1
+
+unfoldable pub shape_at : List ℕ → Read Shape
+shape_at bytes = do
+  n ← number_at 2 bytes
+  keys ← if_supported (feature.keys n.0) (repeat_at type_at n.0 n.1)
+  m ← number_at 2 keys.1
+  aggregates ← if_supported (feature.aggregates m.0) (repeat_at aggregate_at m.0 m.1)
+  Ok (record { keys = keys.0; aggregates = aggregates.0 }, aggregates.1)
+
+-- ---- the whole
+
+-- the bytes behind the magic
+unfoldable pub behind_magic : List ℕ → List ℕ → Result (List ℕ) DecodeFault
+behind_magic magic bytes = do
+  first ← bytes_at 4 bytes
+  if same_bytes first.0 magic then Ok first.1 else Err Magic
+
+-- the fields that tell the job: its load, the query's text, and the cut
+pub record JobFields : Type 0 where
+  pub load : ℕ
+  pub text : List ℕ
+  pub cut : List ℕ
+
+unfoldable pub job_at : List ℕ → Read JobFields
+job_at bytes = do
+  load ← number_at 8 bytes
+  text ← text_at 4 load.1
+  n ← number_at 4 text.1
+  cut ← repeat_at (number_at 4) n.0 n.1
+  Ok (record { load = load.0; text = text.0; cut = cut.0 }, cut.1)
+
+unfoldable pub layout_at : List ℕ → Read Layout
+layout_at bytes = do
+  rest ← behind_magic answer_magic bytes
+  job ← job_at rest
+  k ← number_at 4 job.1
+  shape ← shape_at k.1
+  body ← body_at shape.0 shape.1
+  Ok (record { load = job.0.load; text = job.0.text; cut = job.0.cut; k = k.0; shape = shape.0; body = body.0 }, body.1)

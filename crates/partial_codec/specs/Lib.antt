@@ -1,0 +1,10 @@
+pub mod Fault
+pub mod Job
+pub mod Reading
+pub mod Shape
+pub mod Supported
+pub mod Spelling
+pub mod Ranges
+pub mod LayoutReading
+pub mod Fields
+pub mod Answer

@@ -1,0 +1,70 @@
+ghost use Rattle.std.specs.Prelude.{◌≡◌};
+ghost use Rattle.partial_codec.specs.Fault.{number_of};
+ghost use Rattle.partial_codec.specs.declared.fault.DecodeFault.TheVariants.{Memory};
+
+use std::alloc::{AllocError, AllocFailed};
+use thiserror::Error;
+
+/// Why bytes are no answer for a job: the first obstacle from front to back.
+#[derive(Debug, Drop, Error)]
+pub enum DecodeFault {
+    #[error("out of memory")]
+    Memory,
+    #[error("no answer file of a known version")]
+    Magic,
+    #[error("the bytes end within a field")]
+    Truncated,
+    #[error("bytes stand behind the seal")]
+    TrailingBytes,
+    #[error("the seal does not fit the bytes")]
+    Seal,
+    #[error("an answer for another load")]
+    OtherLoad,
+    #[error("an answer for another query")]
+    OtherQuery,
+    #[error("an answer for another cut")]
+    OtherCut,
+    #[error("the groups do not ascend by their keys")]
+    UnsortedGroups,
+    #[error("a tag, a shape or a type that does not belong there")]
+    Shape,
+    #[error("a number that the fragment's rows cannot give")]
+    Numbers,
+}
+
+impl DecodeFault {
+    /// The number by which the refusal is told.
+    pub fn number(&self) -> u8
+        ensures { result ≡ number_of self.now }
+    {
+        match self {
+            DecodeFault::Memory => 0,
+            DecodeFault::Magic => 1,
+            DecodeFault::Truncated => 2,
+            DecodeFault::TrailingBytes => 3,
+            DecodeFault::Seal => 4,
+            DecodeFault::OtherLoad => 5,
+            DecodeFault::OtherQuery => 6,
+            DecodeFault::OtherCut => 7,
+            DecodeFault::UnsortedGroups => 8,
+            DecodeFault::Shape => 9,
+            DecodeFault::Numbers => 10,
+        }
+    }
+}
+
+impl From<AllocError> for DecodeFault {
+    ghost from_gives = { λ _ given. given ≡ Memory };
+
+    fn from(_: AllocError) -> DecodeFault {
+        DecodeFault::Memory
+    }
+}
+
+impl<T: Drop> From<AllocFailed<T>> for DecodeFault {
+    ghost from_gives = { λ _ given. given ≡ Memory };
+
+    fn from(_: AllocFailed<T>) -> DecodeFault {
+        DecodeFault::Memory
+    }
+}

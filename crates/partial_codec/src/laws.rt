@@ -1,0 +1,16 @@
+// The laws of the format. A body does nothing: the clause is a theorem on the definitions.
+ghost use Rattle.std.specs.Prelude.{◌≡◌, ℕ, List};
+ghost use Rattle.meaning.specs.declared.answer.Answer.{Answer};
+ghost use Rattle.partial_codec.specs.Job.{JobSpec, IsJob};
+ghost use Rattle.partial_codec.specs.Spelling.{answer_bytes};
+ghost use Rattle.partial_codec.specs.Answer.{Fits, Spells, judged};
+
+/// Bytes are the spelling of one answer at most.
+pub fn one_answer()
+    ensures { (job : JobSpec) (bytes : List ℕ) (a b : Answer) → IsJob job → Spells job bytes a → Spells job bytes b → a ≡ b }
+{}
+
+/// Each answer that fits a job has a spelling, and no other bytes are one.
+pub fn one_spelling()
+    ensures { (job : JobSpec) (a : Answer) → Fits job a → Spells job (answer_bytes job a) a × ((bytes : List ℕ) → Spells job bytes a → bytes ≡ answer_bytes job a) }
+{}

@@ -21,3 +21,6 @@ pub use fault::DecodeFault;
 pub use job::Job;
 pub use laws::{one_answer, one_spelling};
 pub use meaning::answer::{Answer, Body};
+
+#[cfg(test)]
+mod tests;

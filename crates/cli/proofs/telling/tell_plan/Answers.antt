@@ -1,0 +1,5 @@
+use Rattle.std.proofs.Common.{sym}
+use Rattle.cli.proofs.telling.tell_plan.Goals as goal
+
+pub returns : goal.returns
+returns g c = rw (sym c.number.ensures) c.tell_number.ensures

@@ -1,0 +1,86 @@
+-- The line that tells a refusal.
+use Rattle.std.specs.Prelude.{ℕ, List, [], ◌∷◌, ◌++◌, codes, decimal, flat_map}
+use Rattle.meaning.specs.Catalog.{catalog_fault_number}
+use Rattle.meaning.specs.declared.catalog.CatalogFault.{CatalogFault}
+use Rattle.meaning.specs.declared.catalog.CatalogFault.TheVariants as catalog_fault
+use Rattle.meaning.specs.Cut as cut
+use Rattle.meaning.specs.Records as records
+use Rattle.meaning.specs.declared.table.TableFault.{TableFault}
+use Rattle.meaning.specs.declared.table.TableFault.TheVariants as table_fault
+use Rattle.sql_reader.specs.Faults as sql
+use Rattle.sql_reader.specs.declared.fault.SqlFault.{SqlFault}
+use Rattle.sql_reader.specs.declared.fault.SqlFault.TheVariants as sql_fault
+use Rattle.coordinator.specs.Planning as planning
+use Rattle.coordinator.specs.declared.planning.PlanFault.{PlanFault}
+use Rattle.coordinator.specs.declared.whole_fault.WholeFault.{WholeFault}
+use Rattle.coordinator.specs.declared.whole_fault.WholeFault.TheVariants as whole_fault
+use Rattle.cli.specs.Folder.{csv_path}
+use Rattle.cli.specs.declared.refusal.Refusal.{Refusal}
+use Rattle.cli.specs.declared.refusal.Refusal.TheVariants as refusal
+
+-- a word, a refusal's number and its details, one space before each of them
+abbrev pub numbered_line : List ℕ → ℕ → List (List ℕ) → List ℕ
+numbered_line word number details = codes "xcols: " ++ word ++ 32 ∷ decimal number ++ flat_map (λ detail. 32 ∷ detail) details ++ 10 ∷ []
+
+-- ---- the details of a layer's refusal, in the order that its type carries them
+
+abbrev pub catalog_details : CatalogFault → List (List ℕ)
+catalog_details (catalog_fault.UnknownLine line) = decimal line ∷ []
+catalog_details (catalog_fault.NameTwice line) = decimal line ∷ []
+catalog_details _ = []
+
+abbrev pub sql_details : SqlFault → List (List ℕ)
+sql_details (sql_fault.UnknownCharacter place) = decimal place ∷ []
+sql_details (sql_fault.TextNotClosed place) = decimal place ∷ []
+sql_details (sql_fault.IntegerOutOfRange place) = decimal place ∷ []
+sql_details (sql_fault.UnexpectedToken place) = decimal place ∷ []
+sql_details (sql_fault.LeftOut place word) = decimal place ∷ word ∷ []
+sql_details _ = []
+
+abbrev pub table_details : TableFault → List (List ℕ)
+table_details (table_fault.FieldCount row) = decimal row ∷ []
+table_details (table_fault.NotAnInteger row column) = decimal row ∷ decimal column ∷ []
+table_details (table_fault.NullNotAllowed row column) = decimal row ∷ decimal column ∷ []
+table_details (table_fault.TextTooLong row column) = decimal row ∷ decimal column ∷ []
+table_details (table_fault.NotUtf8 row column) = decimal row ∷ decimal column ∷ []
+table_details (table_fault.KeyTwice row) = decimal row ∷ []
+table_details _ = []
+
+-- ---- the line
+
+abbrev pub catalog_line : CatalogFault → List ℕ
+catalog_line e = numbered_line (codes "catalog") (catalog_fault_number e) (catalog_details e)
+
+abbrev pub sql_line : SqlFault → List ℕ
+sql_line e = numbered_line (codes "sql") (sql.number_of e) (sql_details e)
+
+abbrev pub table_line : TableFault → List ℕ
+table_line e = numbered_line (codes "load") (records.number_of e) (table_details e)
+
+abbrev pub plan_line : PlanFault → List ℕ
+plan_line e = numbered_line (codes "plan") (planning.number_of e) []
+
+abbrev pub vector_length_line : List ℕ
+vector_length_line = numbered_line (codes "work") 4 []
+
+abbrev pub line_of : Refusal → List ℕ
+line_of refusal.Memory = codes "xcols: memory" ++ 10 ∷ []
+line_of (refusal.CannotRead path) = codes "xcols: cannot read " ++ path ++ 10 ∷ []
+line_of refusal.CannotPrint = codes "xcols: cannot write standard output" ++ 10 ∷ []
+line_of (refusal.Catalog e) = catalog_line e
+line_of (refusal.Cut e) = numbered_line (codes "cut") (cut.fault_number e) []
+line_of (refusal.Sql e) = sql_line e
+line_of (refusal.Plan e) = plan_line e
+line_of (refusal.Load e) = table_line e
+line_of refusal.VectorLength = vector_length_line
+
+-- how the program tells that a query over the files of a folder was not answered
+abbrev pub refusal_of : List ℕ → WholeFault → Refusal
+refusal_of folder whole_fault.Memory = refusal.Memory
+refusal_of folder (whole_fault.Catalog e) = refusal.Catalog e
+refusal_of folder (whole_fault.Sql e) = refusal.Sql e
+refusal_of folder (whole_fault.Plan e) = refusal.Plan e
+refusal_of folder (whole_fault.MissingCsv table) = refusal.CannotRead (csv_path folder table)
+refusal_of folder (whole_fault.Load e) = refusal.Load e
+refusal_of folder whole_fault.VectorLength = refusal.VectorLength
+refusal_of folder whole_fault.Writer = refusal.CannotPrint

@@ -1,0 +1,14 @@
+use meaning::text::Text;
+
+/// What the program is asked to do.
+#[derive(Debug, Drop)]
+pub enum Command {
+    /// To answer a query over a folder's tables in memory, with `rows` rows a fragment, at most
+    /// 1,048,576, and `vector` rows a vector, at most 4,096.
+    Whole {
+        folder: Text,
+        query: Text,
+        rows: u32,
+        vector: u32,
+    },
+}

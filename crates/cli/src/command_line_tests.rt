@@ -1,0 +1,175 @@
+use crate::command::Command;
+use crate::command_line::command;
+use std::alloc::Global;
+use std::process::Abort;
+use std::test::Fail;
+
+const HELP: &str = "\
+Answers a query in memory and prints the report
+
+Usage: xcols whole [OPTIONS] --query <Q> --rows <R> <DIR>
+
+Arguments:
+  <DIR>  The folder of catalog.txt and one NAME.csv a table
+
+Options:
+      --query <Q>   The query in SQL
+      --rows <R>    The rows of a fragment
+      --vector <V>  The rows of a vector [default: 1024]
+  -h, --help        Print help
+";
+
+/// The parts of a command, or the usage text of a fault.
+fn told(alloc: Global, words: &[&str]) -> Result<String, Fail> {
+    let told = match command(alloc, words) {
+        Ok(
+            Command::Whole {
+                folder,
+                query,
+                rows,
+                vector,
+            },
+        ) => format!(in alloc; "{}, {}, {rows}, {vector}", folder.as_str(), query.as_str())?,
+        Err(fault) => format!(in alloc; "{} {fault}", fault.status())?,
+    };
+    Ok(told)
+}
+
+fn expect_start(rt: &impl Abort, alloc: Global, words: &[&str], want: &str) -> Result<(), Fail> {
+    let told = told(alloc, words)?;
+    assert!(rt; told.starts_with(want), "at {words:?}: {}", told.as_str());
+    Ok(())
+}
+
+#[test]
+fn numbers_are_within_their_ranges(rt: HostRuntime) -> Result<(), Fail> {
+    for (rows, want) in [
+        ("2", "sales, q, 2, 1024"),
+        ("1048576", "sales, q, 1048576, 1024"),
+        ("007", "sales, q, 7, 1024"),
+        (
+            "0",
+            "2 error: invalid value '0' for '--rows <R>': 0 is not in 1..=1048576\n",
+        ),
+        (
+            "1048577",
+            "2 error: invalid value '1048577' for '--rows <R>': 1048577 is not in 1..=1048576\n",
+        ),
+        (
+            "99999999999999999999",
+            "2 error: invalid value '99999999999999999999' for '--rows <R>'",
+        ),
+        (
+            "+5",
+            "2 error: a number is digits alone\n\nUsage: xcols <COMMAND>\n",
+        ),
+        ("-5", "2 error: unexpected argument '-5' found\n"),
+        ("5x", "2 error: invalid value '5x' for '--rows <R>'"),
+        (" 5", "2 error: invalid value ' 5' for '--rows <R>'"),
+        ("", "2 error: invalid value '' for '--rows <R>'"),
+    ] {
+        let words = ["whole", "sales", "--query", "q", "--rows", rows];
+        expect_start(&rt, rt.alloc(), &words, want)?;
+    }
+    Ok(())
+}
+
+#[test]
+fn vectors_are_within_their_range(rt: HostRuntime) -> Result<(), Fail> {
+    for (vector, want) in [
+        ("1", "sales, q, 5, 1"),
+        ("4096", "sales, q, 5, 4096"),
+        (
+            "0",
+            "2 error: invalid value '0' for '--vector <V>': 0 is not in 1..=4096\n",
+        ),
+        (
+            "4097",
+            "2 error: invalid value '4097' for '--vector <V>': 4097 is not in 1..=4096\n",
+        ),
+        ("+1", "2 error: a number is digits alone\n"),
+    ] {
+        let words = [
+            "whole", "sales", "--query", "q", "--rows", "5", "--vector", vector,
+        ];
+        expect_start(&rt, rt.alloc(), &words, want)?;
+    }
+    Ok(())
+}
+
+#[test]
+fn a_query_is_any_text(rt: HostRuntime) -> Result<(), Fail> {
+    for (query, want) in [
+        (
+            "SELECT COUNT(*) FROM sales;",
+            "sales, SELECT COUNT(*) FROM sales;, 5, 1024",
+        ),
+        ("-- all\nSELECT", "sales, -- all\nSELECT, 5, 1024"),
+        ("", "sales, , 5, 1024"),
+    ] {
+        let words = ["whole", "--query", query, "sales", "--rows=5"];
+        expect_start(&rt, rt.alloc(), &words, want)?;
+    }
+    Ok(())
+}
+
+#[test]
+fn other_words_are_usage_faults(rt: HostRuntime) -> Result<(), Fail> {
+    for (words, want) in [
+        (
+            [].as_slice(),
+            "2 error: 'xcols' requires a subcommand but one was not provided\n",
+        ),
+        (
+            ["hole"].as_slice(),
+            "2 error: unrecognized subcommand 'hole'\n",
+        ),
+        (
+            ["--version"].as_slice(),
+            "2 error: unexpected argument '--version' found\n",
+        ),
+        (
+            ["--help"].as_slice(),
+            "2 Queries over a star of tables that lies in a folder\n",
+        ),
+        (
+            ["help"].as_slice(),
+            "2 Queries over a star of tables that lies in a folder\n",
+        ),
+        (
+            ["whole"].as_slice(),
+            "2 error: the following required arguments were not provided:\n",
+        ),
+        (
+            ["whole", "a", "b"].as_slice(),
+            "2 error: unexpected argument 'b' found\n",
+        ),
+        (
+            ["whole", "a", "--rows"].as_slice(),
+            "2 error: a value is required for '--rows <R>'",
+        ),
+        (
+            ["whole", "a", "--cut", "2"].as_slice(),
+            "2 error: unexpected argument '--cut' found\n",
+        ),
+        (
+            ["whole", "a", "--rows", "1", "--rows", "1"].as_slice(),
+            "2 error: the argument '--rows <R>' cannot be used multiple times\n",
+        ),
+    ] {
+        expect_start(&rt, rt.alloc(), words, want)?;
+    }
+    Ok(())
+}
+
+#[test]
+fn help_is_whole(rt: HostRuntime) -> Result<(), Fail> {
+    match command(rt.alloc(), &["whole", "--help"]) {
+        Ok(_) => assert!(rt; false, "help is no command"),
+        Err(fault) => {
+            let text = format!(in rt.alloc(); "{fault}")?;
+            assert_eq!(rt; text.as_str(), HELP);
+        }
+    }
+    Ok(())
+}

@@ -1,0 +1,32 @@
+ghost use Rattle.std.specs.Prelude.{◌≡◌, IfOk};
+ghost use Rattle.cli.specs.Folder.{path_in, csv_path, catalog_path};
+
+use meaning::text::Text;
+use std::alloc::{AllocError, Global};
+
+fn path_in(alloc: Global, folder: &str, name: &str) -> Result<Text, AllocError>
+    ensures { IfOk result (λ path. path ≡ path_in folder.now name.now) }
+{
+    let mut path = String::from_str(alloc, folder)?;
+    if !folder.as_bytes().ends_with(b"/") {
+        path.push_str("/")?;
+    }
+    path.push_str(name)?;
+    Ok(Text::from_string(path))
+}
+
+/// The path of a folder's catalogue.
+pub fn catalog_path(alloc: Global, folder: &str) -> Result<Text, AllocError>
+    ensures { IfOk result (λ path. path ≡ catalog_path folder.now) }
+{
+    path_in(alloc, folder, "catalog.txt")
+}
+
+/// The path of a table's CSV file in a folder.
+pub fn csv_path(alloc: Global, folder: &str, table: &str) -> Result<Text, AllocError>
+    ensures { IfOk result (λ path. path ≡ csv_path folder.now table.now) }
+{
+    let mut name = String::from_str(alloc, table)?;
+    name.push_str(".csv")?;
+    path_in(alloc, folder, name.as_str())
+}

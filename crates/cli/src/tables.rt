@@ -1,0 +1,138 @@
+// The files of a folder that a query is answered over.
+ghost use Rattle.std.specs.Prelude.{◌≡◌, ◌≤◌, ℕ, Ok, IfOk, IfSome, All};
+ghost use Rattle.meaning.specs.Cut.{cut_of, even_lengths};
+ghost use Rattle.coordinator.specs.Whole.{files_in};
+ghost use Rattle.cli.specs.Folder.{AreHeld};
+ghost use Rattle.cli.specs.Running.{AreTables, IsCsvOf, files_of};
+
+use crate::folder::Folder;
+use crate::paths::csv_path;
+use crate::refusal::Refusal;
+use coordinator::count_rows;
+use meaning::catalog::Catalog;
+use meaning::cut::Cut;
+use meaning::text::Text;
+use std::alloc::{AllocError, Global};
+use std::io;
+use std::io::{ErrorKind, Read};
+
+/// The bytes of a table's CSV file.
+#[derive(Drop)]
+pub struct CsvFile {
+    pub table: Text,
+    pub bytes: Vec<u8>,
+}
+
+/// The CSV files that could be read, and how the fact is cut.
+#[derive(Drop)]
+pub struct Tables {
+    pub files: Vec<CsvFile>,
+    pub cut: Cut,
+}
+
+fn read_bytes<F: Folder>(alloc: Global, folder: &F, path: &str) -> io::Result<Vec<u8>>
+    ensures { IfOk result (λ bytes. AreHeld (F.holds folder.now path.now) bytes.items) }
+{
+    let mut file = folder.open(path)?;
+    let mut bytes = Vec::new(alloc);
+    file.read_to_end(&mut bytes)?;
+    Ok(bytes)
+}
+
+/// The bytes of a file, where it can be read.
+pub fn try_read<F: Folder>(
+    alloc: Global,
+    folder: &F,
+    path: &str,
+) -> Result<Option<Vec<u8>>, Refusal>
+    ensures { IfOk result (λ found. IfSome found (λ bytes. AreHeld (F.holds folder.now path.now) bytes.items)) }
+{
+    match read_bytes(alloc, folder, path) {
+        Ok(bytes) => Ok(Some(bytes)),
+        Err(error) => match error.kind() {
+            ErrorKind::OutOfMemory => Err(Refusal::Memory),
+            _ => Ok(None),
+        },
+    }
+}
+
+fn try_read_csv<F: Folder>(
+    alloc: Global,
+    folder: &F,
+    directory: &str,
+    table: &Text,
+) -> Result<Option<CsvFile>, Refusal>
+    ensures { IfOk result (λ found. IfSome found (IsCsvOf (F.holds folder.now) directory.now)) }
+{
+    let path = csv_path(alloc, directory, table.as_str())?;
+    let Some(bytes) = try_read(alloc, folder, path.as_str())? else {
+        return Ok(None);
+    };
+    let table = table.clone()?;
+    Ok(Some(CsvFile { table, bytes }))
+}
+
+/// The even cut of a file's rows. Where there is no file, there are no rows.
+fn cut_evenly(alloc: Global, fact: &Option<CsvFile>, rows: u32) -> Result<Cut, Refusal>
+    requires { 1 ≤ rows }
+    ensures { IfOk result (λ cut. (counted : ℕ) × (cut_of (even_lengths counted rows) ≡ Ok cut)) }
+{
+    let counted = match fact {
+        Some(file) => count_rows(alloc, file.bytes.as_slice())?,
+        None => 0,
+    };
+    Ok(Cut::even(alloc, counted, rows)?)
+}
+
+fn read_files<F: Folder>(
+    alloc: Global,
+    folder: &F,
+    directory: &str,
+    catalog: &Catalog,
+    fact: Option<CsvFile>,
+) -> Result<Vec<CsvFile>, Refusal>
+    requires { IfSome fact (IsCsvOf (F.holds folder.now) directory.now) }
+    ensures { IfOk result (λ files. All (IsCsvOf (F.holds folder.now) directory.now) files.items) }
+{
+    let mut files = Vec::new(alloc);
+    if let Some(file) = fact {
+        files.push(file)?;
+    }
+    for dim in catalog.dims.as_slice() {
+        if let Some(file) = try_read_csv(alloc, folder, directory, &dim.table.name)? {
+            files.push(file)?;
+        }
+    }
+    Ok(files)
+}
+
+/// The CSV files of a catalogue's tables, as far as they can be read, and the even cut of the fact into fragments of `rows` rows.
+pub fn read_tables<F: Folder>(
+    alloc: Global,
+    folder: &F,
+    directory: &str,
+    catalog: &Catalog,
+    rows: u32,
+) -> Result<Tables, Refusal>
+    requires { 1 ≤ rows }
+    ensures { IfOk result (AreTables (F.holds folder.now) directory.now rows) }
+{
+    let fact = try_read_csv(alloc, folder, directory, &catalog.fact.name)?;
+    let cut = cut_evenly(alloc, &fact, rows)?;
+    let files = read_files(alloc, folder, directory, catalog, fact)?;
+    Ok(Tables { files, cut })
+}
+
+/// The files' bytes by the names of their tables.
+pub fn lend_files<'a>(
+    alloc: Global,
+    files: &'a [CsvFile],
+) -> Result<Vec<(&'a str, &'a [u8])>, AllocError>
+    ensures { IfOk result (λ csvs. files_in csvs.items ≡ files_of files.now) }
+{
+    let mut csvs = Vec::new(alloc);
+    for file in files {
+        csvs.push((file.table.as_str(), file.bytes.as_slice()))?;
+    }
+    Ok(csvs)
+}

@@ -1,0 +1,62 @@
+ghost use Rattle.std.specs.Prelude.{◌≡◌};
+ghost use Rattle.cli.specs.Status.{status_of};
+
+use clap::error::ErrorKind;
+use std::alloc::{AllocError, AllocFailed};
+use std::io;
+use thiserror::Error;
+
+/// Why words are no command of the program. The texts are whole lines.
+#[derive(Debug, Drop, Error)]
+pub enum UsageFault {
+    #[error("xcols: memory\n")]
+    Memory,
+    #[error("error: a word is not UTF-8\n")]
+    Encoding,
+    /// With clap's text, which may be the help that was asked for.
+    #[error("{0}")]
+    Words(clap::Error),
+}
+
+impl UsageFault {
+    /// The program's exit status.
+    pub fn status(&self) -> u8
+        ensures { result ≡ status_of self.now }
+    {
+        match self {
+            UsageFault::Memory => 1,
+            UsageFault::Encoding | UsageFault::Words(_) => 2,
+        }
+    }
+}
+
+impl From<clap::Error> for UsageFault {
+    fn from(error: clap::Error) -> UsageFault {
+        match error.kind() {
+            ErrorKind::OutOfMemory => UsageFault::Memory,
+            _ => UsageFault::Words(error),
+        }
+    }
+}
+
+/// Of the arguments of a program: they are no text, or memory was wanting.
+impl From<io::Error> for UsageFault {
+    fn from(error: io::Error) -> UsageFault {
+        match error.kind() {
+            io::ErrorKind::OutOfMemory => UsageFault::Memory,
+            _ => UsageFault::Encoding,
+        }
+    }
+}
+
+impl From<AllocError> for UsageFault {
+    fn from(_: AllocError) -> UsageFault {
+        UsageFault::Memory
+    }
+}
+
+impl<T: Drop> From<AllocFailed<T>> for UsageFault {
+    fn from(_: AllocFailed<T>) -> UsageFault {
+        UsageFault::Memory
+    }
+}

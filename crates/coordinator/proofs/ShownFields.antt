@@ -1,0 +1,139 @@
+-- The rows that a grouped query gives each hold a field, where the plan has an item.
+use Rattle.std.specs.Prelude.{◌≡◌, ◌≢◌, ℕ, zero, suc, false, true, List, [], ◌∷◌, ◌++◌, map, take, Option, Some, None, Result, Ok, Err, IfOk, if◌then◌else◌, replicate}
+use Rattle.std.specs.List.{AllByRecursion}
+use Rattle.std.specs.Ordering.{is_lt}
+use Rattle.std.specs.declared.cmp.Ordering.{Ordering}
+use Rattle.std.proofs.Common.{refl, sym, ap, subst}
+use Rattle.std.proofs.lemmas.List.Elements.{All-from_recursion}
+use Rattle.meaning.specs.declared.expr.Expr.{Expr}
+use Rattle.meaning.specs.declared.joined_row.JoinedRow.{JoinedRow}
+use Rattle.meaning.specs.declared.outcome.Outcome.{Outcome}
+use Rattle.meaning.specs.declared.outcome.Outcome.TheVariants as gives
+use Rattle.meaning.specs.declared.outcome.Truth.TheVariants.{False, Unknown, True}
+use Rattle.meaning.specs.declared.plan.Item.{Item}
+use Rattle.meaning.specs.declared.plan.Plan.{Plan}
+use Rattle.meaning.specs.declared.value.Value.{Value}
+use Rattle.meaning.specs.Answer.{output_of, read_off}
+use Rattle.meaning.specs.declared.answer.Body.{Body}
+use Rattle.meaning.specs.declared.answer.Body.TheVariants.{Groups, Fault}
+use Rattle.meaning.specs.Finish.{Output, Evaluated, behind, behind_having, shown, rows_of, limited, all_rows, finish, order_cmp}
+use Rattle.meaning.specs.Finish as output
+use Rattle.meaning.specs.Expr.{eval}
+use Rattle.meaning.specs.Joined.{group_row}
+use Rattle.meaning.specs.Judge.{with_value, values}
+use Rattle.meaning.specs.Order.{Row, placed, sorted}
+use Rattle.meaning.specs.Results.{with_result, all_ok, and_then}
+use Rattle.coordinator.specs.Printing.{HasFields}
+use Rattle.coordinator.specs.Single.{IsSingle}
+
+abbrev IsFull : Row → Type 0
+IsFull row = row ≢ []
+
+abbrev AreFull : List Row → Type 0
+AreFull rows = AllByRecursion IsFull rows
+
+full_append : (xs ys : List Row) → AreFull xs → AreFull ys → AreFull (xs ++ ys)
+full_append [] ys p q = q
+full_append (x ∷ xs) ys p q = (p.0, full_append xs ys p.1 q)
+
+full_take : (n : ℕ) (xs : List Row) → AreFull xs → AreFull (take n xs)
+full_take zero xs p = tt
+full_take (suc n) [] p = tt
+full_take (suc n) (x ∷ xs) p = (p.0, full_take n xs p.1)
+
+full_placed : (cmp : Row → Row → Ordering) (x : Row) (xs : List Row) → IsFull x → AreFull xs → AreFull (placed cmp x xs)
+full_placed cmp x [] p q = (p, tt)
+full_placed cmp x (y ∷ ys) p q = elim (is_lt (cmp y x)) as (λ t. AreFull (if t then y ∷ placed cmp x ys else x ∷ y ∷ ys)) [
+  | true ↦ (q.0, full_placed cmp x ys p q.1)
+  | false ↦ (p, q)
+]
+
+full_sorted : (cmp : Row → Row → Ordering) (xs : List Row) → AreFull xs → AreFull (sorted cmp xs)
+full_sorted cmp [] p = tt
+full_sorted cmp (x ∷ xs) p = full_placed cmp x (sorted cmp xs) p.0 (full_sorted cmp xs p.1)
+
+full_limited : (limit : Option ℕ) (xs : List Row) → AreFull xs → AreFull (limited limit xs)
+full_limited None xs p = p
+full_limited (Some n) xs p = full_take n xs p
+
+-- an expression's value stands in front of the others
+full_front : (o : Outcome) (others : Result Row ℕ) → IfOk (with_value o others) IsFull
+full_front (gives.Fault f) others = tt
+full_front (gives.Value v) (Err c) = tt
+full_front (gives.Value v) (Ok vs) = λ e. cc
+full_front (gives.Truth t) (Err c) = tt
+full_front (gives.Truth t) (Ok vs) = λ e. cc
+
+full_values : (es : List Expr) (s : JoinedRow) → es ≢ [] → IfOk (values es s) IsFull
+full_values [] s some = absurd (some refl)
+full_values (e ∷ es) s some = full_front (eval e s) (values es s)
+
+full_alone : (row : Result Row ℕ) → IfOk row IsFull → IfOk (and_then row (λ r. Ok (r ∷ []))) AreFull
+full_alone (Err c) p = tt
+full_alone (Ok r) p = (p, tt)
+
+full_behind : (o : Outcome) (group : Result (List Row) ℕ) → IfOk group AreFull → IfOk (behind o group) AreFull
+full_behind (gives.Fault f) group p = tt
+full_behind (gives.Truth True) group p = p
+full_behind (gives.Truth Unknown) group p = tt
+full_behind (gives.Truth False) group p = tt
+full_behind (gives.Value v) group p = tt
+
+full_behind_having : (having : Option Expr) (s : JoinedRow) (group : Result (List Row) ℕ) → IfOk group AreFull → IfOk (behind_having having s group) AreFull
+full_behind_having None s group p = p
+full_behind_having (Some e) s group p = full_behind (eval e s) group p
+
+no_items : (plan : Plan) → plan.items ≢ [] → map (λ i. i.expr) plan.items ≢ []
+no_items plan some = by_case plan.items some
+  where
+    by_case : (items : List Item) → items ≢ [] → map (λ i. i.expr) items ≢ []
+    by_case [] h e = h refl
+    by_case (i ∷ is) h e = cc
+
+full_shown : (plan : Plan) (s : JoinedRow) → plan.items ≢ [] → IfOk (shown plan s) AreFull
+full_shown plan s some = full_behind_having plan.having s _ (full_alone _ (full_values (map (λ i. i.expr) plan.items) s (no_items plan some)))
+
+full_next : (plan : Plan) (states : Result (List Value) ℕ) (next : List Value → JoinedRow) → plan.items ≢ [] → IfOk (and_then states (λ values. shown plan (next values))) AreFull
+full_next plan (Err c) next some = tt
+full_next plan (Ok values) next some = full_shown plan (next values) some
+
+full_rows_of : (plan : Plan) (g : Evaluated) → plan.plain ≡ false → plan.items ≢ [] → IfOk (rows_of plan g) AreFull
+full_rows_of plan g grouped some =
+    subst (λ plain. IfOk (if plain then Ok (replicate g.rows g.key) else and_then (all_ok g.aggregates) (λ values. shown plan (group_row g.key values))) AreFull) (sym grouped)
+    (full_next plan (all_ok g.aggregates) (group_row g.key) some)
+
+full_joined : (r : Result (List Row) ℕ) (rs : Result (List (List Row)) ℕ) → IfOk r AreFull → IfOk rs (λ parts. AreFull (all_rows parts)) → IfOk (with_result r rs) (λ parts. AreFull (all_rows parts))
+full_joined (Err c) rs p q = tt
+full_joined (Ok xs) (Err c) p q = tt
+full_joined (Ok xs) (Ok parts) p q = full_append xs (all_rows parts) p q
+
+full_groups : (plan : Plan) (groups : List Evaluated) → plan.plain ≡ false → plan.items ≢ [] → IfOk (all_ok (map (rows_of plan) groups)) (λ parts. AreFull (all_rows parts))
+full_groups plan [] grouped some = tt
+full_groups plan (g ∷ gs) grouped some = full_joined (rows_of plan g) (all_ok (map (rows_of plan) gs)) (full_rows_of plan g grouped some) (full_groups plan gs grouped some)
+
+full_output : (plan : Plan) (parts : Result (List (List Row)) ℕ) (rows : List Row) → IfOk parts (λ parts. AreFull (all_rows parts))
+    → output.output_of (and_then parts (λ parts. Ok (limited plan.limit (sorted (order_cmp plan.order) (all_rows parts))))) ≡ output.rows rows → AreFull rows
+full_output plan (Err c) rows p e = cc
+full_output plan (Ok parts) rows p e =
+    let made : AreFull (limited plan.limit (sorted (order_cmp plan.order) (all_rows parts))) = full_limited plan.limit _ (full_sorted (order_cmp plan.order) (all_rows parts) p) in
+    let same : limited plan.limit (sorted (order_cmp plan.order) (all_rows parts)) ≡ rows = cc in
+    subst AreFull same made
+
+-- what the last step of a grouped query shows can be printed
+pub finished_has_fields : (plan : Plan) (groups : List Evaluated) (rows : List Row) → plan.plain ≡ false → plan.items ≢ [] → finish plan groups ≡ output.rows rows → HasFields plan rows
+finished_has_fields plan groups rows grouped some e = record {
+  header = some;
+  rows = All-from_recursion IsFull rows (full_output plan (all_ok (map (rows_of plan) groups)) rows (full_groups plan groups grouped some) e);
+}
+
+-- and so can what an answer's body stands for
+pub output_has_fields : (plan : Plan) (body : Body) (rows : List Row) → plan.plain ≡ false → plan.items ≢ [] → output_of plan body ≡ output.rows rows → HasFields plan rows
+output_has_fields plan (Fault f) rows grouped some e = cc
+output_has_fields plan (Groups gs) rows grouped some e = finished_has_fields plan (map (read_off plan) gs) rows grouped some e
+
+-- the two forms of queries are grouped and have an item
+pub single_has_fields : (plan : Plan) (body : Body) (rows : List Row) → IsSingle plan → output_of plan body ≡ output.rows rows → HasFields plan rows
+single_has_fields plan body rows single e = output_has_fields plan body rows (ap (λ p. p.plain) single.form) (one_item (ap (λ p. p.items) single.form)) e
+  where
+    one_item : {items : List Item} {i : Item} → items ≡ i ∷ [] → items ≢ []
+    one_item one none = cc

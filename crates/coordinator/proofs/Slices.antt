@@ -1,0 +1,67 @@
+-- The rows of one fragment after another, from the front of a table.
+use Rattle.std.specs.Prelude.{◌≡◌, ℕ, zero, suc, ◌+◌, ◌<◌, ◌≤◌, List, [], ◌∷◌, ◌++◌, map, length, take, drop, sum, slice_index}
+use Rattle.std.specs.List.{range_with_len}
+use Rattle.std.proofs.Common.{refl, sym, ap, ◌∙◌, arith}
+use Rattle.std.proofs.Math.Seq.{drop-drop}
+use Rattle.std.proofs.Math.Numerals.{suc-eq-add-one}
+use Rattle.std.proofs.lemmas.List.{length-drop, map-append}
+use Rattle.std.proofs.lemmas.List.Sums.{sum_by-cons}
+use Rattle.meaning.specs.declared.plan.Plan.{Plan}
+use Rattle.meaning.specs.declared.answer.Answer.{Answer}
+use Rattle.meaning.specs.Order.{Row}
+use Rattle.meaning.specs.Table.{Cut, first_row}
+use Rattle.meaning.specs.Answer.{own}
+use Rattle.meaning.specs.Laws.{own_answers}
+
+sum_cons : (n : ℕ) (ns : List ℕ) → sum (n ∷ ns) ≡ n + sum ns
+sum_cons n ns = sum_by-cons (λ x. x) n ns
+
+sum_to_next : (cut : Cut) (k : ℕ) → k < length cut → sum (take (suc k) cut) ≡ sum (take k cut) + slice_index cut k
+sum_to_next [] k below = absurd (omega arith)
+sum_to_next (n ∷ ns) zero below = refl
+sum_to_next (n ∷ ns) (suc k) below =
+    let here = sum_cons n (take (suc k) ns) in
+    let there = sum_cons n (take k ns) in
+    let rest = sum_to_next ns k (omega arith) in
+    grind (arith, here, there, rest)
+
+sum_to_place : (cut : Cut) (k : ℕ) → sum (take k cut) ≤ sum cut
+sum_to_place [] zero = omega arith
+sum_to_place [] (suc k) = omega arith
+sum_to_place (n ∷ ns) zero = omega arith
+sum_to_place (n ∷ ns) (suc k) =
+    let here = sum_cons n (take k ns) in
+    let there = sum_cons n ns in
+    let rest = sum_to_place ns k in
+    grind (arith, here, there, rest)
+
+-- the next fragment begins where this one ends
+pub next_first : (cut : Cut) (k : ℕ) → k < length cut → first_row cut (k + 1) ≡ first_row cut k + slice_index cut k
+next_first cut k below = ap (λ n. sum (take n cut)) (sym (suc-eq-add-one k)) ∙ sum_to_next cut k below
+
+-- the fragment's rows are there
+pub room : (cut : Cut) (k : ℕ) (rows : List Row) → k < length cut → length rows ≡ sum cut → slice_index cut k ≤ length (drop (first_row cut k) rows)
+room cut k rows below whole =
+    let next = sum_to_next cut k below in
+    let most = sum_to_place cut (suc k) in
+    let left = length-drop (first_row cut k) rows in
+    grind (arith, next, most, left, whole)
+
+-- behind a fragment's rows are those of the next
+pub behind : (cut : Cut) (k : ℕ) (rows : List Row) → k < length cut → drop (slice_index cut k) (drop (first_row cut k) rows) ≡ drop (first_row cut (k + 1)) rows
+behind cut k rows below = drop-drop (slice_index cut k) (first_row cut k) rows ∙ ap (λ n. drop n rows) (sym (next_first cut k below))
+
+range_to_next : (start n : ℕ) → range_with_len start (suc n) ≡ range_with_len start n ++ (start + n) ∷ []
+range_to_next start zero = ap (λ k. k ∷ []) (grind arith)
+range_to_next start (suc n) =
+    let same : (start + 1) + n ≡ start + suc n = omega arith in
+    ap (λ ks. start ∷ ks) (range_to_next (start + 1) n ∙ ap (λ k. range_with_len (start + 1) n ++ k ∷ []) same)
+
+-- the own answers of one fragment more
+pub own_answers_to_next : (plan : Plan) (dims : List (List Row)) (cut : Cut) (rows : List Row) (k : ℕ)
+    → own_answers plan dims cut rows (range_with_len 0 (k + 1)) ≡ own_answers plan dims cut rows (range_with_len 0 k) ++ own plan dims cut rows k ∷ []
+own_answers_to_next plan dims cut rows k =
+    let same : 0 + k ≡ k = omega arith in
+    ap (λ n. own_answers plan dims cut rows (range_with_len 0 n)) (sym (suc-eq-add-one k))
+    ∙ ap (own_answers plan dims cut rows) (range_to_next 0 k ∙ ap (λ j. range_with_len 0 k ++ j ∷ []) same)
+    ∙ map-append (λ j. own plan dims cut rows j) (range_with_len 0 k) (k ∷ [])

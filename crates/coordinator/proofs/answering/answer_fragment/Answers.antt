@@ -1,0 +1,16 @@
+use Rattle.std.proofs.Common.{sym, ap, ◌∙◌}
+use Rattle.meaning.specs.declared.answer.Body.{Body}
+use Rattle.coordinator.specs.OneGroup.{one_group}
+use Rattle.coordinator.proofs.OwnBody.{own_body-single}
+use Rattle.coordinator.proofs.OwnFits.{own_fits}
+use Rattle.coordinator.proofs.answering.answer_fragment.Goals as goal
+
+pub returns-clause-value : goal.returns-clause-value
+returns-clause-value c = λ first.
+    let tally = c.tally_of_rows-tally.ensures in
+    ap (λ (b : Body). record { k = c.args.k; body = b })
+    (c.in_ok-body.ensures ∙ (λ i. one_group (tally.rows i) (tally.state i)) ∙ sym (own_body-single c.args.plan.now c.summed_column.result c.summed_column.ensures first c.args.rows.now))
+
+pub returns-clause-fitting : goal.returns-clause-fitting
+returns-clause-fitting c = λ cut below same.
+    own_fits c.args.plan.now c.summed_column.result c.summed_column.ensures c.args.rows.now c.tally_of_rows-tally.result c.tally_of_rows-tally.ensures cut c.args.k below same c.in_ok-body.body c.in_ok-body.ensures

@@ -1,0 +1,73 @@
+-- What a coordinator holds, and what an answer does to it.
+use Rattle.std.specs.Prelude.{◌≡◌, ℕ, if◌then◌else◌, List, length, slice_set, slice_index_or, Option, Some, ⊤}
+use Rattle.meaning.specs.declared.answer.Body.{Body}
+use Rattle.meaning.specs.declared.answer.Answer.{Answer}
+use Rattle.meaning.specs.declared.answer.Cell.{Cell}
+use Rattle.meaning.specs.declared.answer.Cell.TheVariants.{Nothing, One, Conflict}
+use Rattle.meaning.specs.Gather.{same_body, join_cells}
+use Rattle.partial_codec.specs.declared.fault.DecodeFault.{DecodeFault}
+use Rattle.partial_codec.specs.declared.fault.DecodeFault.TheVariants as refusal
+use Rattle.partial_codec.specs.Fault as codec
+use Rattle.partial_codec.specs.Job.{JobSpec}
+use Rattle.partial_codec.specs.Answer.{Spells, obstacle}
+use Rattle.coordinator.specs.declared.gather.Absorbed.{Absorbed}
+use Rattle.coordinator.specs.declared.gather.Absorbed.TheVariants as absorbed
+use Rattle.coordinator.specs.declared.print_fault.PrintFault.{PrintFault}
+use Rattle.coordinator.specs.declared.print_fault.PrintFault.TheVariants as print
+use Rattle.coordinator.specs.declared.fault.GatherFault.{GatherFault}
+use Rattle.coordinator.specs.declared.fault.GatherFault.TheVariants as fault
+use Rattle.coordinator.specs.Single.{IsSingle}
+use Rattle.coordinator.specs.Fitted.{AreFitting}
+
+-- what answers are for, and what is held for each fragment
+pub record GatherSpec : Type 0 where
+  pub job : JobSpec
+  pub cells : List Cell
+
+-- a cell for each fragment of the cut, in which an answer fits the job
+pub record IsGather (g : GatherSpec) : Type 0 where
+  pub single : IsSingle g.job.plan
+  pub each : length g.cells ≡ length g.job.cut
+  pub fitting : AreFitting g.job.plan g.job.cut g.cells
+
+-- what is held for a fragment
+abbrev pub cell_at : GatherSpec → ℕ → Cell
+cell_at g k = slice_index_or g.cells k Nothing
+
+-- the state with one answer more
+abbrev pub with_answer : GatherSpec → Answer → GatherSpec
+with_answer g a = record g { cells = slice_set g.cells a.k (join_cells (cell_at g a.k) (One a.body)) }
+
+-- what is said of an answer: it is new, it is the one that is held, or it is in conflict
+abbrev pub absorbed_as : Cell → ℕ → Body → Absorbed
+absorbed_as Nothing k body = absorbed.New
+absorbed_as (One known) k body = if same_body known body then absorbed.Known else absorbed.Conflict k
+absorbed_as Conflict k body = absorbed.Conflict k
+
+-- the bytes spell an answer, with which the state is the new one
+pub record Takes (old new : GatherSpec) (bytes : List ℕ) (told : Absorbed) : Type 0 where
+  pub answer : Answer
+  pub spelled : Spells old.job bytes answer
+  pub state : new ≡ with_answer old answer
+  pub tells : told ≡ absorbed_as (cell_at old answer.k) answer.k answer.body
+
+-- the first obstacle to the bytes' being an answer is told
+abbrev pub Refuses : JobSpec → List ℕ → GatherFault → Type 0
+Refuses job bytes fault.Memory = ⊤
+Refuses job bytes (fault.Decode e) = obstacle job bytes ≡ Some e
+Refuses job bytes fault.Writer = ⊥
+
+-- want of memory is the coordinator's own
+abbrev pub fault_of : DecodeFault → GatherFault
+fault_of refusal.Memory = fault.Memory
+fault_of e = fault.Decode e
+
+abbrev pub of_print : PrintFault → GatherFault
+of_print print.Memory = fault.Memory
+of_print print.Writer = fault.Writer
+
+-- the number by which a refusal is told
+abbrev pub number_of : GatherFault → ℕ
+number_of fault.Memory = 0
+number_of (fault.Decode e) = codec.number_of e
+number_of fault.Writer = 12

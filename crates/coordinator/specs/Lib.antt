@@ -1,0 +1,13 @@
+pub mod Finished
+pub mod Fitted
+pub mod Gathering
+pub mod Lent
+pub mod Loading
+pub mod LoadingSteps
+pub mod OneGroup
+pub mod Planning
+pub mod Printing
+pub mod Reporting
+pub mod Single
+pub mod Tally
+pub mod Whole

@@ -1,0 +1,211 @@
+-- A query from CSV files to print: what it runs over, and why it is refused.
+use Rattle.std.specs.Prelude.{◌≡◌, ℕ, nat_le, Bool, true, false, ◌&&◌, List, [], ◌∷◌, map, zip, find, Option, Some, None, Result, Ok, Err, ⊤, ◌≢◌, length}
+use Rattle.std.specs.Borrow.{Bor}
+use Rattle.std.specs.List.{range_with_len}
+use Rattle.std.specs.Str.{bytes_eq}
+use Rattle.std.specs.Io.KnownBytes.{Appends}
+use Rattle.meaning.specs.declared.catalog.Catalog.{Catalog}
+use Rattle.meaning.specs.declared.catalog.Dimension.{Dimension}
+use Rattle.meaning.specs.declared.catalog.CatalogFault.{CatalogFault}
+use Rattle.meaning.specs.declared.plan.Join.{Join}
+use Rattle.meaning.specs.declared.plan.Plan.{Plan}
+use Rattle.meaning.specs.declared.table.TableFault.{TableFault}
+use Rattle.meaning.specs.Order.{Row}
+use Rattle.meaning.specs.Table.{Cut, numbered}
+use Rattle.meaning.specs.Meaning.{meaning}
+use Rattle.meaning.specs.Print.{output_text}
+use Rattle.meaning.specs.Gather.{joined}
+use Rattle.meaning.specs.Laws.{own_answers}
+use Rattle.meaning.specs.Results.{all_ok, and_then}
+use Rattle.meaning.specs.Records.{Record, fact_of, dimension_of}
+use Rattle.meaning.specs.CatalogText.{catalog_of}
+use Rattle.sql_reader.specs.declared.fault.SqlFault.{SqlFault}
+use Rattle.sql_reader.specs.Grammar.{IsTree, IsShort, IsRefusal}
+use Rattle.sql_reader.specs.declared.fault.SqlFault.TheVariants as sql
+use Rattle.meaning.specs.declared.catalog.CatalogFault.TheVariants as catalog_fault
+use Rattle.coordinator.specs.declared.planning.PlanFault.TheVariants as plan_fault
+use Rattle.coordinator.specs.declared.print_fault.PrintFault.{PrintFault}
+use Rattle.coordinator.specs.declared.print_fault.PrintFault.TheVariants as print_fault
+use Rattle.coordinator.specs.declared.loading.LoadFault.{LoadFault}
+use Rattle.coordinator.specs.declared.loading.LoadFault.TheVariants as load_fault
+use Rattle.coordinator.specs.declared.reporting.Ended.{Ended}
+use Rattle.coordinator.specs.Reporting.{ended_as}
+use Rattle.partial_codec.specs.Job.{IsPlanOfJob}
+use Rattle.coordinator.specs.Single.{IsSingle}
+use Rattle.coordinator.specs.Gathering.{GatherSpec}
+use Rattle.coordinator.specs.Planning.{Form, tree_of, plan_of}
+use Rattle.coordinator.specs.declared.planning.PlanFault.{PlanFault}
+use Rattle.coordinator.specs.Loading.{csv_records}
+use Rattle.coordinator.specs.declared.whole_fault.WholeFault.{WholeFault}
+use Rattle.coordinator.specs.declared.whole_fault.WholeFault.TheVariants as fault
+
+-- the CSV files by the names of their tables
+abbrev pub Files : Type 0
+Files = List (List ℕ × List ℕ)
+
+-- the files that are lent
+abbrev pub files_in : List (Bor (List ℕ) × Bor (List ℕ)) → Files
+files_in csvs = map (λ file. (file.0.now, file.1.now)) csvs
+
+-- ---- a layer's refusal as one of the whole; want of memory is told as such
+
+abbrev pub of_catalog : CatalogFault → WholeFault
+of_catalog catalog_fault.Memory = fault.Memory
+of_catalog e = fault.Catalog e
+
+abbrev pub of_sql : SqlFault → WholeFault
+of_sql sql.Memory = fault.Memory
+of_sql e = fault.Sql e
+
+abbrev pub of_plan : PlanFault → WholeFault
+of_plan plan_fault.Memory = fault.Memory
+of_plan e = fault.Plan e
+
+abbrev pub of_load : LoadFault → WholeFault
+of_load load_fault.Memory = fault.Memory
+of_load (load_fault.Table e) = fault.Load e
+
+abbrev pub of_print : PrintFault → WholeFault
+of_print print_fault.Memory = fault.Memory
+of_print print_fault.Writer = fault.Writer
+
+-- what a call gave, seen by `view`, is what is meant, unless memory was wanting
+abbrev pub Gives : {X Y : Type 0} → (X → Y) → Result X WholeFault → Result Y WholeFault → Type 0
+Gives view (Ok x) meant = meant ≡ Ok (view x)
+Gives view (Err e) meant = e ≢ fault.Memory → meant ≡ Err e
+
+-- ---- the plan
+
+-- the query's text is one of the forms, and this is its plan
+pub record IsPlanned (catalog : Catalog) (query : List ℕ) (planned : Result Plan PlanFault) : Type 0 where
+  pub form : Form
+  pub tree : IsTree query (tree_of form)
+  pub short : IsShort query (tree_of form)
+  pub gives : plan_of catalog form ≡ planned
+
+-- why the query has no plan
+abbrev pub IsPlanRefused : Catalog → List ℕ → WholeFault → Type 0
+IsPlanRefused catalog query fault.Memory = ⊤
+IsPlanRefused catalog query (fault.Sql e) = IsRefusal query e
+IsPlanRefused catalog query (fault.Plan e) = IsPlanned catalog query (Err e)
+IsPlanRefused catalog query _ = ⊥
+
+-- ---- the tables
+
+abbrev pub found_csv : List ℕ → Option (List ℕ × List ℕ) → Result (List ℕ) WholeFault
+found_csv name None = Err (fault.MissingCsv name)
+found_csv name (Some file) = Ok file.1
+
+-- the file of a table
+abbrev pub csv_of : Files → List ℕ → Result (List ℕ) WholeFault
+csv_of files name = found_csv name (find (λ file. bytes_eq file.0 name) files)
+
+-- a table or its fault
+abbrev pub table_from : Result (List Row) TableFault → Result (List Row) WholeFault
+table_from (Ok rows) = Ok rows
+table_from (Err e) = Err (fault.Load e)
+
+-- the dimension that a join names
+abbrev pub rows_of_dimension : Option Dimension → List Record → Result (List Row) WholeFault
+rows_of_dimension None records = Ok []
+rows_of_dimension (Some d) records = table_from (dimension_of d records)
+
+abbrev pub joined_table : Catalog → Join × List ℕ → Result (List Row) WholeFault
+joined_table catalog p = rows_of_dimension (find (λ d. bytes_eq d.table.name p.0.dim.name) catalog.dims) (csv_records p.1)
+
+-- the fact's rows and those of each joined dimension: first each file is found, the fact's before the dimensions', then they are
+-- loaded in this order
+abbrev pub tables_of : Catalog → Files → Cut → Plan → Result (List Row × List (List Row)) WholeFault
+tables_of catalog files cut plan =
+    and_then (csv_of files plan.fact.name) (λ fact_csv.
+    and_then (all_ok (map (λ j. csv_of files j.dim.name) plan.joins)) (λ csvs.
+    and_then (table_from (fact_of catalog cut (csv_records fact_csv))) (λ rows.
+    and_then (all_ok (map (joined_table catalog) (zip plan.joins csvs))) (λ dims.
+    Ok (rows, dims)))))
+
+-- ---- what is asked
+
+-- vectors have 1 to 4,096 values
+abbrev pub is_vector_length : ℕ → Bool
+is_vector_length n = nat_le 1 n && nat_le n 4096
+
+-- all that a call is given but the writer
+pub record Input : Type 0 where
+  pub catalog : List ℕ
+  pub files : Files
+  pub query : List ℕ
+  pub cut : Cut
+  pub vector_len : ℕ
+
+abbrev pub input_of : List ℕ → List (Bor (List ℕ) × Bor (List ℕ)) → List ℕ → Cut → ℕ → Input
+input_of catalog csvs query cut vector_len = record { catalog = catalog; files = files_in csvs; query = query; cut = cut; vector_len = vector_len }
+
+-- the plan and the tables that the input stands for
+pub record RunsOver (input : Input) (plan : Plan) (rows : List Row) (dims : List (List Row)) : Type 0 where
+  pub catalog : Catalog
+  pub declared : catalog_of input.catalog ≡ Ok catalog
+  pub planned : IsPlanned catalog input.query (Ok plan)
+  pub tables : tables_of catalog input.files input.cut plan ≡ Ok (rows, dims)
+  pub vectors : is_vector_length input.vector_len ≡ true
+
+-- where each refusal stands in the input: the catalogue, the query, its plan, the tables, and last the vectors' length, each where
+-- all before it is well
+abbrev pub IsRefused : Input → WholeFault → Type 0
+IsRefused input fault.Memory = ⊤
+IsRefused input (fault.Catalog e) = catalog_of input.catalog ≡ Err e
+IsRefused input (fault.Sql e) = (catalog : Catalog) × (catalog_of input.catalog ≡ Ok catalog) × IsRefusal input.query e
+IsRefused input (fault.Plan e) = (catalog : Catalog) × (catalog_of input.catalog ≡ Ok catalog) × IsPlanned catalog input.query (Err e)
+IsRefused input (fault.MissingCsv table) = (catalog : Catalog) × (plan : Plan) × (catalog_of input.catalog ≡ Ok catalog) × IsPlanned catalog input.query (Ok plan) × (tables_of catalog input.files input.cut plan ≡ Err (fault.MissingCsv table))
+IsRefused input (fault.Load e) = (catalog : Catalog) × (plan : Plan) × (catalog_of input.catalog ≡ Ok catalog) × IsPlanned catalog input.query (Ok plan) × (tables_of catalog input.files input.cut plan ≡ Err (fault.Load e))
+IsRefused input fault.VectorLength = (catalog : Catalog) × (plan : Plan) × (tables : List Row × List (List Row)) × (catalog_of input.catalog ≡ Ok catalog) × IsPlanned catalog input.query (Ok plan)
+    × (tables_of catalog input.files input.cut plan ≡ Ok tables) × (is_vector_length input.vector_len ≡ false)
+IsRefused input fault.Writer = ⊤
+
+-- why the tables or the vectors are refused
+abbrev pub IsTablesRefused : Catalog → Files → Cut → Plan → ℕ → WholeFault → Type 0
+IsTablesRefused catalog files cut plan vector_len fault.Memory = ⊤
+IsTablesRefused catalog files cut plan vector_len (fault.MissingCsv table) = tables_of catalog files cut plan ≡ Err (fault.MissingCsv table)
+IsTablesRefused catalog files cut plan vector_len (fault.Load e) = tables_of catalog files cut plan ≡ Err (fault.Load e)
+IsTablesRefused catalog files cut plan vector_len fault.VectorLength = (tables : List Row × List (List Row)) × (tables_of catalog files cut plan ≡ Ok tables) × (is_vector_length vector_len ≡ false)
+IsTablesRefused catalog files cut plan vector_len _ = ⊥
+
+-- a query of one aggregate with its plan and the fact's rows
+pub record IsPrepared (catalog : Catalog) (files : Files) (query : List ℕ) (cut : Cut) (vector_len : ℕ) (plan : Plan) (rows : List Row) : Type 0 where
+  pub planned : IsPlanned catalog query (Ok plan)
+  pub single : IsSingle plan
+  pub job : IsPlanOfJob plan
+  pub tables : tables_of catalog files cut plan ≡ Ok (rows, [])
+  pub vectors : is_vector_length vector_len ≡ true
+
+-- the same, of a catalogue that was read
+abbrev pub IsPrepareRefused : Catalog → Files → List ℕ → Cut → ℕ → WholeFault → Type 0
+IsPrepareRefused catalog files query cut vector_len fault.Memory = ⊤
+IsPrepareRefused catalog files query cut vector_len (fault.Sql e) = IsRefusal query e
+IsPrepareRefused catalog files query cut vector_len (fault.Plan e) = IsPlanned catalog query (Err e)
+IsPrepareRefused catalog files query cut vector_len (fault.MissingCsv table) = (plan : Plan) × IsPlanned catalog query (Ok plan) × (tables_of catalog files cut plan ≡ Err (fault.MissingCsv table))
+IsPrepareRefused catalog files query cut vector_len (fault.Load e) = (plan : Plan) × IsPlanned catalog query (Ok plan) × (tables_of catalog files cut plan ≡ Err (fault.Load e))
+IsPrepareRefused catalog files query cut vector_len fault.VectorLength = (plan : Plan) × (tables : List Row × List (List Row)) × IsPlanned catalog query (Ok plan) × (tables_of catalog files cut plan ≡ Ok tables) × (is_vector_length vector_len ≡ false)
+IsPrepareRefused catalog files query cut vector_len _ = ⊥
+
+-- the answer over a fact's rows
+pub record IsAnsweredOver (plan : Plan) (rows : List Row) (cut : Cut) (before after : Option (List ℕ)) (ended : Ended) (gather : GatherSpec) : Type 0 where
+  pub printed : Appends before after (output_text plan (meaning plan (numbered rows) []))
+  pub ends : ended ≡ ended_as (meaning plan (numbered rows) [])
+  pub state : gather ≡ record { job = record { load = 0; plan = plan; cut = cut }; cells = joined cut (own_answers plan [] cut rows (range_with_len 0 (length cut))) }
+
+-- what has been printed is what the query means over the tables; it says whether that is rows or a fault; and the state is that
+-- of just every fragment's own answer
+pub record IsAnswered (input : Input) (before after : Option (List ℕ)) (ended : Ended) (gather : GatherSpec) : Type 0 where
+  pub plan : Plan
+  pub rows : List Row
+  pub dims : List (List Row)
+  pub over : RunsOver input plan rows dims
+  pub printed : Appends before after (output_text plan (meaning plan (numbered rows) dims))
+  pub ends : ended ≡ ended_as (meaning plan (numbered rows) dims)
+  pub state : gather ≡ record { job = record { load = 0; plan = plan; cut = input.cut }; cells = joined input.cut (own_answers plan dims input.cut rows (range_with_len 0 (length input.cut))) }
+
+-- a refusal at the end: memory was wanting, or the writer failed
+abbrev pub IsEndRefusal : WholeFault → Type 0
+IsEndRefusal fault.Memory = ⊤
+IsEndRefusal fault.Writer = ⊤
+IsEndRefusal _ = ⊥

@@ -1,0 +1,261 @@
+ghost use Rattle.std.specs.Prelude.{◌≡◌, ◌<◌, ◌≤◌, [], ◌∷◌, ◌++◌, ℕ, List, length, sum, slice_index, IfOk, IfErr, OnOk, Ok, true, false};
+ghost use Rattle.std.specs.List.{range_with_len, enumerate_from};
+ghost use Rattle.std.specs.Io.KnownBytes.{Appends};
+ghost use Rattle.meaning.specs.declared.answer.Answer.{Answer as AnAnswer};
+ghost use Rattle.meaning.specs.Answer.{own_body};
+ghost use Rattle.meaning.specs.Finish.{Output};
+ghost use Rattle.meaning.specs.Gather.{joined, report, output};
+ghost use Rattle.meaning.specs.Laws.{own_answers};
+ghost use Rattle.meaning.specs.Print.{report_text};
+ghost use Rattle.meaning.specs.CatalogText.{catalog_of};
+ghost use Rattle.meaning.specs.Cut.{IsCut};
+ghost use Rattle.partial_codec.specs.Job.{IsPlanOfJob};
+ghost use Rattle.coordinator.specs.Reporting.{ended_as};
+ghost use Rattle.coordinator.specs.Single.{IsSingle};
+ghost use Rattle.coordinator.specs.Whole.{IsAnswered, IsAnsweredOver, IsPrepared, IsPrepareRefused, IsTablesRefused, IsRefused, IsEndRefusal, files_in, input_of, is_vector_length, tables_of};
+
+use crate::answering::answer_fragment;
+use crate::gather::Gather;
+use crate::inputs::{load_tables, plan_query};
+use crate::reporting::{Ended, ended_of, find, print_finding};
+use crate::whole_fault::WholeFault;
+use meaning::catalog::Catalog;
+use meaning::cut::Cut;
+use meaning::plan::Plan;
+use meaning::read_catalog::read_catalog;
+use meaning::sequence::Sequence;
+use meaning::value::Row;
+use partial_codec::{Job, encode};
+use std::alloc::Global;
+use std::io::Write;
+use std::mem::drop;
+
+/// The number of the load that is made here, and goes with the call.
+const LOAD: u64 = 0;
+
+/// The most values of a vector.
+const MAX_VECTOR_LEN: usize = 4_096;
+
+fn copy_cut(alloc: Global, cut: &Cut) -> Result<Cut, WholeFault>
+    ensures value { IfOk result (λ copy. copy ≡ cut.now) }
+    ensures refused { IfErr result (λ e. e ≡ WholeFault.Memory) }
+{
+    let lengths = Vec::from_slice(alloc, cut.lengths())?;
+    // The lengths of a cut are a cut, so this is not refused.
+    Cut::new(lengths).map_err(|_| WholeFault::Memory)
+}
+
+/// Answers for a fragment, and has the coordinator take the answer's bytes.
+fn answer_one(alloc: Global, gather: &mut Gather, rows: &[Row], k: u32) -> Result<(), WholeFault>
+    requires place { k < length gather.now.job.cut }
+    requires rows { slice_index gather.now.job.cut k ≡ length rows.now }
+    requires few { length rows.now ≤ 1048576 }
+    ensures same { OnOk result (gather.new.job ≡ gather.old.job) }
+    ensures taken { OnOk result ((answers : List AnAnswer) (first : ℕ) → gather.old.cells ≡ joined gather.old.job.cut answers
+        → gather.new.cells ≡ joined gather.old.job.cut (answers ++ record { k = k; body = own_body gather.old.job.plan [] (enumerate_from first rows.now) } ∷ [])) }
+    ensures refused { IfErr result (λ e. e ≡ WholeFault.Memory) }
+{
+    let answer = answer_fragment(alloc, gather.job().plan(), rows, k)?;
+    let bytes = encode(alloc, gather.job(), &answer)?;
+    match gather.absorb(alloc, bytes.as_slice()) {
+        Ok(_) => Ok(()),
+        // An answer's own bytes are refused for want of memory alone.
+        Err(_) => Err(WholeFault::Memory),
+    }
+}
+
+/// Answers for each fragment in turn. The lengths are those of the job's cut, and the rows are the whole table's.
+fn answer_fragments(
+    alloc: Global,
+    gather: &mut Gather,
+    lengths: &[u32],
+    rows: &[Row],
+) -> Result<(), WholeFault>
+    requires cut { gather.now.job.cut ≡ lengths.now }
+    requires within_limits { IsCut lengths.now }
+    requires whole { length rows.now ≡ sum lengths.now }
+    requires nothing { gather.now.cells ≡ joined lengths.now [] }
+    ensures same { OnOk result (gather.new.job ≡ gather.old.job) }
+    ensures taken { OnOk result (gather.new.cells ≡ joined lengths.now (own_answers gather.old.job.plan [] lengths.now rows.now (range_with_len 0 (length lengths.now)))) }
+    ensures refused { IfErr result (λ e. e ≡ WholeFault.Memory) }
+{
+    let mut rest = rows;
+    for k in 0..lengths.len() {
+        let (here, behind) = rest.split_at(lengths[k] as usize);
+        answer_one(alloc, gather, here, k as u32)?;
+        rest = behind;
+    }
+    Ok(())
+}
+
+/// A coordinator that has taken just every fragment's own answer.
+fn answer_all(alloc: Global, plan: Plan, cut: &Cut, rows: &[Row]) -> Result<Gather, WholeFault>
+    requires single { IsSingle plan }
+    requires job { IsPlanOfJob plan }
+    requires whole { length rows.now ≡ sum cut.now }
+    ensures state { IfOk result (λ g. g ≡ record { job = record { load = 0; plan = plan; cut = cut.now }; cells = joined cut.now (own_answers plan [] cut.now rows.now (range_with_len 0 (length cut.now))) }) }
+    ensures refused { IfErr result (λ e. e ≡ WholeFault.Memory) }
+{
+    let job = Job::new(LOAD, plan, copy_cut(alloc, cut)?);
+    let mut gather = Gather::new(alloc, job)?;
+    answer_fragments(alloc, &mut gather, cut.lengths(), rows)?;
+    Ok(gather)
+}
+
+/// Prints what the answers say together.
+fn print_answer<W: Write>(alloc: Global, gather: &Gather, out: &mut W) -> Result<Ended, WholeFault>
+    ensures printed { OnOk result (Appends (W.contents out.old) (W.contents out.new) (report_text gather.now.job.plan (report gather.now.job.plan gather.now.cells))) }
+    ensures ended { IfOk result (λ e. (o : Output) → report gather.now.job.plan gather.now.cells ≡ output o → e ≡ ended_as o) }
+    ensures refused { IfErr result IsEndRefusal }
+{
+    let finding = find(alloc, gather)?;
+    print_finding(alloc, gather.job().plan(), &finding, out)?;
+    Ok(ended_of(&finding))
+}
+
+fn check_vector_len(vector_len: usize) -> Result<(), WholeFault>
+    ensures ok { OnOk result (is_vector_length vector_len ≡ true) }
+    ensures refused { IfErr result (λ e. (e ≡ WholeFault.VectorLength) × (is_vector_length vector_len ≡ false)) }
+{
+    if vector_len == 0 || vector_len > MAX_VECTOR_LEN {
+        return Err(WholeFault::VectorLength);
+    }
+    Ok(())
+}
+
+/// A plan and the fact's rows.
+#[derive(Drop)]
+struct Run {
+    plan: Plan,
+    rows: Sequence<Row>,
+}
+
+/// The tables, and the vectors' length behind them.
+fn checked_tables(
+    alloc: Global,
+    catalog: &Catalog,
+    csvs: &[(&str, &[u8])],
+    cut: &Cut,
+    plan: &Plan,
+    vector_len: usize,
+) -> Result<Sequence<Row>, WholeFault>
+    requires { IsSingle plan.now }
+    ensures tables { IfOk result (λ rows. tables_of catalog.now (files_in csvs.now) cut.now plan.now ≡ Ok (rows, [])) }
+    ensures vectors { OnOk result (is_vector_length vector_len ≡ true) }
+    ensures refused { IfErr result (IsTablesRefused catalog.now (files_in csvs.now) cut.now plan.now vector_len) }
+{
+    let rows = load_tables(alloc, catalog, csvs, cut, plan)?;
+    match check_vector_len(vector_len) {
+        Ok(()) => Ok(rows),
+        Err(e) => {
+            drop(rows);
+            Err(e)
+        }
+    }
+}
+
+/// What a query runs over, of tables that the catalogue declares.
+fn prepare(
+    alloc: Global,
+    catalog: &Catalog,
+    csvs: &[(&str, &[u8])],
+    query: &[u8],
+    cut: &Cut,
+    vector_len: usize,
+) -> Result<Run, WholeFault>
+    ensures prepared { IfOk result (λ run. IsPrepared catalog.now (files_in csvs.now) query.now cut.now vector_len run.plan run.rows) }
+    ensures refused { IfErr result (IsPrepareRefused catalog.now (files_in csvs.now) query.now cut.now vector_len) }
+{
+    let plan = plan_query(alloc, catalog, query)?;
+    match checked_tables(alloc, catalog, csvs, cut, &plan, vector_len) {
+        Ok(rows) => Ok(Run { plan, rows }),
+        Err(e) => {
+            drop(plan);
+            Err(e)
+        }
+    }
+}
+
+/// Prints what the answers say together, and hands the coordinator on.
+fn print_gathered<W: Write>(
+    alloc: Global,
+    gather: Gather,
+    out: &mut W,
+) -> Result<(Ended, Gather), WholeFault>
+    ensures printed { OnOk result (Appends (W.contents out.old) (W.contents out.new) (report_text gather.job.plan (report gather.job.plan gather.cells))) }
+    ensures ended { IfOk result (λ r. (o : Output) → report gather.job.plan gather.cells ≡ output o → r.0 ≡ ended_as o) }
+    ensures same { IfOk result (λ r. r.1 ≡ gather) }
+    ensures refused { IfErr result IsEndRefusal }
+{
+    match print_answer(alloc, &gather, out) {
+        Ok(ended) => Ok((ended, gather)),
+        Err(e) => {
+            drop(gather);
+            Err(e)
+        }
+    }
+}
+
+/// Answers for each fragment, gathers the answers and prints what they say together.
+fn answer_run<W: Write>(
+    alloc: Global,
+    run: Run,
+    cut: &Cut,
+    out: &mut W,
+) -> Result<(Ended, Gather), WholeFault>
+    requires single { IsSingle run.plan }
+    requires job { IsPlanOfJob run.plan }
+    requires whole { length run.rows ≡ sum cut.now }
+    ensures answered { IfOk result (λ r. IsAnsweredOver run.plan run.rows cut.now (W.contents out.old) (W.contents out.new) r.0 r.1) }
+    ensures refused { IfErr result IsEndRefusal }
+{
+    let Run { plan, rows } = run;
+    let gathered = answer_all(alloc, plan, cut, rows.as_slice());
+    drop(rows);
+    print_gathered(alloc, gathered?, out)
+}
+
+/// Answers a query over tables that the catalogue declares.
+fn answer_query<W: Write>(
+    alloc: Global,
+    catalog: &Catalog,
+    csvs: &[(&str, &[u8])],
+    query: &[u8],
+    cut: &Cut,
+    vector_len: usize,
+    out: &mut W,
+) -> Result<(Ended, Gather), WholeFault>
+    ensures answered { IfOk result (λ r. (bytes : List ℕ) → catalog_of bytes ≡ Ok catalog.now
+        → IsAnswered (input_of bytes csvs.now query.now cut.now vector_len) (W.contents out.old) (W.contents out.new) r.0 r.1) }
+    ensures refused { IfErr result (λ e. (bytes : List ℕ) → catalog_of bytes ≡ Ok catalog.now
+        → IsRefused (input_of bytes csvs.now query.now cut.now vector_len) e) }
+{
+    let run = prepare(alloc, catalog, csvs, query, cut, vector_len)?;
+    answer_run(alloc, run, cut, out)
+}
+
+/// Answers a query over CSV files, fragment by fragment, and prints the answer.
+///
+/// `csvs` are the bytes of files by the names of their tables, of which those are loaded that the query names; `cut` has the
+/// fact's rows in each fragment; a vector has `vector_len` values, from 1 to 4,096, on which no result depends. The load has the
+/// number 0. What a failed writer let out is open.
+///
+/// Refusals come in this order: the catalogue's, the query's, its plan's, a missing file, the tables', the vectors' length.
+pub fn whole<W: Write>(
+    alloc: Global,
+    catalog: &[u8],
+    csvs: &[(&str, &[u8])],
+    query: &[u8],
+    cut: &Cut,
+    vector_len: usize,
+    out: &mut W,
+) -> Result<(Ended, Gather), WholeFault>
+    // What is printed is the query's meaning over the tables that the files are, and the state is that of just every
+    // fragment's own answer.
+    ensures answered { IfOk result (λ r. IsAnswered (input_of catalog.now csvs.now query.now cut.now vector_len) (W.contents out.old) (W.contents out.new) r.0 r.1) }
+    // A refusal stands in the input.
+    ensures refused { IfErr result (IsRefused (input_of catalog.now csvs.now query.now cut.now vector_len)) }
+{
+    let declared = read_catalog(alloc, catalog)?;
+    answer_query(alloc, &declared, csvs, query, cut, vector_len, out)
+}

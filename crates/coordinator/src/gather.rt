@@ -1,0 +1,123 @@
+ghost use Rattle.std.specs.Prelude.{◌≡◌, [], ◌∷◌, ◌++◌, List, length, replicate, IfOk, IfErr, OnErr};
+ghost use Rattle.meaning.specs.declared.answer.Answer.{Answer as AnAnswer};
+ghost use Rattle.meaning.specs.declared.answer.Cell.TheVariants.{Nothing};
+ghost use Rattle.meaning.specs.Gather.{joined};
+ghost use Rattle.partial_codec.specs.Answer.{Spells};
+ghost use Rattle.coordinator.specs.Gathering.{Takes, Refuses, absorbed_as};
+ghost use Rattle.coordinator.specs.Single.{IsSingle};
+
+use crate::fault::GatherFault;
+use meaning::answer::{Answer, Body, Cell, is_same, with_answer};
+use partial_codec::{Job, decode};
+use std::alloc::{AllocError, Global};
+use std::marker::Model;
+use std::mem;
+
+/// What a coordinator holds of a job: for each fragment of the cut nothing, one answer, or a conflict.
+#[derive(Drop)]
+pub struct Gather {
+    job: Job,
+    cells: Vec<Cell>,
+}
+
+/// What became of an answer.
+#[derive(Clone, Copy, Debug, PartialEq, Eq)]
+pub enum Absorbed {
+    /// Nothing was held for its fragment.
+    New,
+    /// It is the answer that was held.
+    Known,
+    /// Unequal answers came for its fragment, now or before.
+    Conflict { fragment: u32 },
+}
+
+impl Model for Gather {
+    ghost use Rattle.std.specs.Coded.{codes};
+    ghost use Rattle.meaning.specs.contracts.plan.Plan as a_plan;
+    ghost use Rattle.meaning.specs.contracts.answer.Cell as a_cell;
+    ghost use Rattle.coordinator.specs.Gathering.{GatherSpec, IsGather};
+
+    ghost Value = { GatherSpec };
+
+    ghost coded = { Prim.hlevel (codes, a_plan.the_row.coded, a_cell.the_row.coded) };
+
+    ghost view = { λ g. record { job = g.job; cells = g.cells.items } };
+
+    ghost invariant = { λ g. IsGather (record { job = g.job; cells = g.cells.items }) };
+}
+
+/// What is said of an answer for a fragment of which this is held.
+fn tell(held: &Cell, fragment: u32, body: &Body) -> Absorbed
+    ensures { result ≡ absorbed_as held.now fragment body.now }
+{
+    match held {
+        Cell::Nothing => Absorbed::New,
+        Cell::One(known) => {
+            if is_same(known, body) {
+                Absorbed::Known
+            } else {
+                Absorbed::Conflict { fragment }
+            }
+        }
+        Cell::Conflict => Absorbed::Conflict { fragment },
+    }
+}
+
+/// Nothing for each of so many fragments.
+fn no_answers(alloc: Global, fragments: usize) -> Result<Vec<Cell>, AllocError>
+    ensures { IfOk result (λ cells. cells.items ≡ replicate fragments Nothing) }
+{
+    let mut cells = Vec::new(alloc);
+    for _ in 0..fragments {
+        cells.push(Cell::Nothing)?;
+    }
+    Ok(cells)
+}
+
+impl Gather {
+    ghost use Rattle.coordinator.specs.Gathering.{IsGather};
+
+    /// A coordinator that has taken no answer.
+    pub fn new(alloc: Global, job: Job) -> Result<Gather, AllocError>
+        requires { IsSingle job.plan }
+        ensures { IfOk result (λ g. g ≡ record { job = job; cells = joined job.cut [] }) }
+    {
+        let cells = no_answers(alloc, job.cut().lengths().len())?;
+        Ok(Gather { job, cells })
+    }
+
+    /// What the answers are for.
+    pub fn job(&self) -> &Job
+        ensures value { result.now ≡ self.now.job }
+        ensures sound { IsGather self.now }
+    {
+        &self.job
+    }
+
+    /// What is held for each fragment.
+    pub fn cells(&self) -> &[Cell]
+        ensures value { result.now ≡ self.now.cells }
+        ensures sound { IsGather self.now }
+    {
+        &self.cells
+    }
+
+    /// Takes the answer that the bytes spell. The bytes' refusals are those of `partial_codec::decode`, and leave all as
+    /// it was.
+    pub fn absorb(&mut self, alloc: Global, bytes: &[u8]) -> Result<Absorbed, GatherFault>
+        // The answer's cell is joined with it.
+        ensures takes { IfOk result (Takes self.old self.new bytes.now) }
+        // The state of a set of answers becomes that of the set with this one.
+        ensures joins { IfOk result (λ _. (answers : List AnAnswer) (a : AnAnswer) → Spells self.old.job bytes.now a
+            → self.old.cells ≡ joined self.old.job.cut answers → self.new.cells ≡ joined self.old.job.cut (answers ++ a ∷ [])) }
+        ensures refused { IfErr result (Refuses self.old.job bytes.now) }
+        ensures unchanged { OnErr result (self.new ≡ self.old) }
+    {
+        let Answer { k, body } = decode(alloc, &self.job, bytes)?;
+        let cell = &mut self.cells[k as usize];
+        let held = mem::replace(cell, Cell::Nothing);
+        let absorbed = tell(&held, k, &body);
+        *cell = with_answer(held, body);
+        Ok(absorbed)
+    }
+}

@@ -1,0 +1,65 @@
+// From the bytes that a call is given to a plan and the fact's rows.
+ghost use Rattle.std.specs.Prelude.{◌≡◌, [], ◌∷◌, find, option_map, IfOk, IfErr, Ok};
+ghost use Rattle.std.specs.Str.{bytes_eq};
+ghost use Rattle.partial_codec.specs.Job.{IsPlanOfJob};
+ghost use Rattle.coordinator.specs.Single.{IsSingle};
+ghost use Rattle.coordinator.specs.Whole.{IsPlanned, IsPlanRefused, Gives, files_in, csv_of, tables_of};
+
+use crate::loading::load_fact;
+use crate::planning::make_plan;
+use crate::whole_fault::WholeFault;
+use meaning::catalog::Catalog;
+use meaning::cut::Cut;
+use meaning::plan::Plan;
+use meaning::sequence::Sequence;
+use meaning::text::Text;
+use meaning::value::Row;
+use sql_reader::read;
+use std::alloc::Global;
+use std::mem::drop;
+
+/// The plan of a query's text.
+pub fn plan_query(alloc: Global, catalog: &Catalog, query: &[u8]) -> Result<Plan, WholeFault>
+    ensures planned { IfOk result (λ plan. IsPlanned catalog.now query.now (Ok plan)) }
+    ensures single { IfOk result IsSingle }
+    ensures job { IfOk result IsPlanOfJob }
+    ensures refused { IfErr result (IsPlanRefused catalog.now query.now) }
+{
+    let tree = read(alloc, query)?;
+    let planned = make_plan(alloc, catalog, &tree);
+    drop(tree);
+    Ok(planned?)
+}
+
+fn find_csv<'a>(csvs: &[(&'a str, &'a [u8])], table: &str) -> Option<&'a [u8]>
+    ensures { option_map (λ csv. csv.now) result
+        ≡ option_map (λ file. file.1.now) (find (λ file. bytes_eq file.0.now table.now) csvs.now) }
+{
+    let (_, csv) = csvs.iter().find(|(name, _)| *name == table)?;
+    Some(csv)
+}
+
+/// The CSV file of a table.
+fn csv_of<'a>(csvs: &[(&'a str, &'a [u8])], table: &Text) -> Result<&'a [u8], WholeFault>
+    ensures { Gives (λ csv. csv.now) result (csv_of (files_in csvs.now) table.now) }
+{
+    match find_csv(csvs, table.as_str()) {
+        Some(csv) => Ok(csv),
+        None => Err(WholeFault::MissingCsv(table.clone()?)),
+    }
+}
+
+/// The rows of the only table that the plan names, the fact.
+pub fn load_tables(
+    alloc: Global,
+    catalog: &Catalog,
+    csvs: &[(&str, &[u8])],
+    cut: &Cut,
+    plan: &Plan,
+) -> Result<Sequence<Row>, WholeFault>
+    requires { IsSingle plan.now }
+    ensures { Gives (λ rows. (rows, [])) result (tables_of catalog.now (files_in csvs.now) cut.now plan.now) }
+{
+    let csv = csv_of(csvs, &plan.fact.name)?;
+    Ok(load_fact(alloc, catalog, cut, csv)?)
+}

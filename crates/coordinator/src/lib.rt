@@ -1,0 +1,37 @@
+//! Gathering the answers of fragments, and a query from CSV files to print.
+#![tactic(auto)]
+
+mod answering;
+mod combining;
+mod fault;
+mod finishing;
+mod from_csv;
+mod gather;
+#[cfg(test)]
+mod gather_tests;
+mod inputs;
+mod lent;
+mod loading;
+#[cfg(test)]
+mod loading_tests;
+mod only_group;
+mod planning;
+mod print_fault;
+mod printing;
+#[cfg(test)]
+mod printing_tests;
+mod records;
+mod reporting;
+mod single;
+mod tally;
+mod whole_fault;
+#[cfg(test)]
+mod whole_tests;
+
+pub use fault::GatherFault;
+pub use from_csv::whole;
+pub use gather::{Absorbed, Gather};
+pub use planning::PlanFault;
+pub use records::count_rows;
+pub use reporting::{Ended, Report};
+pub use whole_fault::WholeFault;

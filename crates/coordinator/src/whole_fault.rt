@@ -1,0 +1,98 @@
+ghost use Rattle.std.specs.Prelude.{◌≡◌};
+ghost use Rattle.coordinator.specs.Whole.{of_catalog, of_sql, of_plan, of_load, of_print};
+ghost use Rattle.coordinator.specs.declared.whole_fault.WholeFault.TheVariants as fault;
+
+use crate::loading::LoadFault;
+use crate::planning::PlanFault;
+use crate::print_fault::PrintFault;
+use meaning::catalog::CatalogFault;
+use meaning::table::TableFault;
+use meaning::text::Text;
+use sql_reader::SqlFault;
+use std::alloc::AllocError;
+use thiserror::Error;
+
+/// Why a query was not answered: a layer's refusal, or one of the call's own.
+#[derive(Debug, Drop, Error)]
+pub enum WholeFault {
+    #[error("out of memory")]
+    Memory,
+    #[error("catalogue: {0}")]
+    Catalog(CatalogFault),
+    #[error("query: {0}")]
+    Sql(SqlFault),
+    #[error("plan: {0}")]
+    Plan(PlanFault),
+    /// There is no CSV file of this table.
+    #[error("no CSV file of {}", .0.as_str())]
+    MissingCsv(Text),
+    #[error("table: {0}")]
+    Load(TableFault),
+    #[error("a vector has 1 to 4,096 values")]
+    VectorLength,
+    #[error("the writer failed")]
+    Writer,
+}
+
+impl From<AllocError> for WholeFault {
+    ghost from_gives = { λ _ given. given ≡ fault.Memory };
+
+    fn from(_: AllocError) -> WholeFault {
+        WholeFault::Memory
+    }
+}
+
+impl From<CatalogFault> for WholeFault {
+    ghost from_gives = { λ e given. given ≡ of_catalog e };
+
+    fn from(e: CatalogFault) -> WholeFault {
+        match e {
+            CatalogFault::Memory => WholeFault::Memory,
+            e => WholeFault::Catalog(e),
+        }
+    }
+}
+
+impl From<SqlFault> for WholeFault {
+    ghost from_gives = { λ e given. given ≡ of_sql e };
+
+    fn from(e: SqlFault) -> WholeFault {
+        match e {
+            SqlFault::Memory => WholeFault::Memory,
+            e => WholeFault::Sql(e),
+        }
+    }
+}
+
+impl From<PlanFault> for WholeFault {
+    ghost from_gives = { λ e given. given ≡ of_plan e };
+
+    fn from(e: PlanFault) -> WholeFault {
+        match e {
+            PlanFault::Memory => WholeFault::Memory,
+            e => WholeFault::Plan(e),
+        }
+    }
+}
+
+impl From<LoadFault> for WholeFault {
+    ghost from_gives = { λ e given. given ≡ of_load e };
+
+    fn from(e: LoadFault) -> WholeFault {
+        match e {
+            LoadFault::Memory => WholeFault::Memory,
+            LoadFault::Table(e) => WholeFault::Load(e),
+        }
+    }
+}
+
+impl From<PrintFault> for WholeFault {
+    ghost from_gives = { λ e given. given ≡ of_print e };
+
+    fn from(e: PrintFault) -> WholeFault {
+        match e {
+            PrintFault::Memory => WholeFault::Memory,
+            PrintFault::Writer => WholeFault::Writer,
+        }
+    }
+}

@@ -7,7 +7,7 @@ use Rattle.std.proofs.lemmas.Bool.{ltb-true}
 use Rattle.std.proofs.lemmas.Option.{slice_get-get_or, same_Some}
 use Rattle.meaning.specs.declared.answer.Answer.{Answer}
 use Rattle.meaning.specs.declared.answer.Cell.{Cell}
-use Rattle.meaning.specs.declared.answer.Cell.TheVariants.{Nothing, One, Conflict}
+use Rattle.meaning.specs.declared.answer.Cell.TheVariants.{Nothing, One}
 use Rattle.meaning.specs.Table.{Cut}
 use Rattle.meaning.specs.Gather.{join_cells, joined}
 use Rattle.meaning.proofs.Absorb.{joined-push}

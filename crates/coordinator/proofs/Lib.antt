@@ -24,3 +24,5 @@ pub mod Loans
 pub mod ShownFields
 pub mod Told
 pub mod Runs
+pub mod Joined
+pub mod StateFiles

@@ -1,5 +1,5 @@
 -- The rows of one fragment after another, from the front of a table.
-use Rattle.std.specs.Prelude.{◌≡◌, ℕ, zero, suc, ◌+◌, ◌<◌, ◌≤◌, List, [], ◌∷◌, ◌++◌, map, length, take, drop, sum, slice_index}
+use Rattle.std.specs.Prelude.{◌≡◌, ℕ, zero, suc, ◌+◌, ◌<◌, ◌≤◌, List, [], ◌∷◌, ◌++◌, length, take, drop, sum, slice_index}
 use Rattle.std.specs.List.{range_with_len}
 use Rattle.std.proofs.Common.{refl, sym, ap, ◌∙◌, arith}
 use Rattle.std.proofs.Math.Seq.{drop-drop}
@@ -7,7 +7,6 @@ use Rattle.std.proofs.Math.Numerals.{suc-eq-add-one}
 use Rattle.std.proofs.lemmas.List.{length-drop, map-append}
 use Rattle.std.proofs.lemmas.List.Sums.{sum_by-cons}
 use Rattle.meaning.specs.declared.plan.Plan.{Plan}
-use Rattle.meaning.specs.declared.answer.Answer.{Answer}
 use Rattle.meaning.specs.Order.{Row}
 use Rattle.meaning.specs.Table.{Cut, first_row}
 use Rattle.meaning.specs.Answer.{own}

@@ -1,6 +1,5 @@
 -- Bodies that fit a fragment, and answers that may be spelled for a job.
-use Rattle.std.specs.Prelude.{◌≡◌, ℕ, true, ◌&&◌, List, length, Option, Some, None}
-use Rattle.std.specs.List.{list_all}
+use Rattle.std.specs.Prelude.{◌≡◌, ℕ, true, List, Option, Some, None}
 use Rattle.std.proofs.Common.{refl, ap, ◌∙◌}
 use Rattle.meaning.specs.declared.plan.TableUse.{TableUse}
 use Rattle.meaning.specs.declared.plan.Plan.{Plan}
@@ -8,11 +7,10 @@ use Rattle.meaning.specs.declared.answer.Answer.{Answer}
 use Rattle.meaning.specs.declared.answer.Body.{Body}
 use Rattle.meaning.specs.declared.answer.Body.TheVariants.{Groups, Fault}
 use Rattle.meaning.proofs.Tests.{first_of, second_of, both}
-use Rattle.partial_codec.specs.Answer.{is_body_supported, is_known, Fits}
-use Rattle.partial_codec.specs.declared.shape.AggregateShape.{AggregateShape}
+use Rattle.partial_codec.specs.Answer.{is_body_supported, is_shape_known, is_known, Fits}
 use Rattle.partial_codec.specs.Job.{JobSpec}
 use Rattle.partial_codec.specs.Shape.{shape_of}
-use Rattle.partial_codec.specs.Supported.{is_supported, keys, aggregates, kind}
+use Rattle.partial_codec.specs.Supported.{is_supported}
 use Rattle.coordinator.specs.Single.{IsSingle, single_plan}
 use Rattle.coordinator.specs.Fitted.{has_groups, is_fitting_body}
 
@@ -30,13 +28,7 @@ groups_known text fact summed (Fault f) e = absurd cc
 -- the body of an answer that fits a job
 pub is_fitting-spelled : (job : JobSpec) (a : Answer) → Fits job a → is_fitting_body job.plan job.cut a.k a.body ≡ true
 is_fitting-spelled job a is =
-    let shape = shape_of job.plan in
-    let kinds = list_all (λ (s : AggregateShape). is_supported (kind s.kind)) shape.aggregates in
-    let counted = is_supported (aggregates (length shape.aggregates)) in
-    let keyed = is_supported (keys (length shape.keys)) in
-    let body = is_body_supported a.body in
-    let known = second_of kinds body (second_of counted (kinds && body) (second_of keyed (counted && (kinds && body)) is.known)) in
-    both _ _ (known_groups a.body known) is.fits
+    both _ _ (known_groups a.body (second_of (is_shape_known (shape_of job.plan)) (is_body_supported a.body) is.known)) is.fits
 
 -- an answer whose body fits may be spelled
 pub Fits-is_fitting : (job : JobSpec) (a : Answer) → IsSingle job.plan → is_fitting_body job.plan job.cut a.k a.body ≡ true → Fits job a

@@ -1,5 +1,5 @@
 -- What a coordinator holds, and what an answer does to it.
-use Rattle.std.specs.Prelude.{◌≡◌, ℕ, if◌then◌else◌, List, length, slice_set, slice_index_or, Option, Some, ⊤}
+use Rattle.std.specs.Prelude.{◌≡◌, ◌≢◌, ℕ, if◌then◌else◌, List, length, map, zip, slice_set, slice_index_or, Some, ⊤}
 use Rattle.meaning.specs.declared.answer.Body.{Body}
 use Rattle.meaning.specs.declared.answer.Answer.{Answer}
 use Rattle.meaning.specs.declared.answer.Cell.{Cell}
@@ -10,6 +10,7 @@ use Rattle.partial_codec.specs.declared.fault.DecodeFault.TheVariants as refusal
 use Rattle.partial_codec.specs.Fault as codec
 use Rattle.partial_codec.specs.Job.{JobSpec}
 use Rattle.partial_codec.specs.Answer.{Spells, obstacle}
+use Rattle.partial_codec.specs.State.{state_obstacle}
 use Rattle.coordinator.specs.declared.gather.Absorbed.{Absorbed}
 use Rattle.coordinator.specs.declared.gather.Absorbed.TheVariants as absorbed
 use Rattle.coordinator.specs.declared.print_fault.PrintFault.{PrintFault}
@@ -38,6 +39,14 @@ cell_at g k = slice_index_or g.cells k Nothing
 abbrev pub with_answer : GatherSpec → Answer → GatherSpec
 with_answer g a = record g { cells = slice_set g.cells a.k (join_cells (cell_at g a.k) (One a.body)) }
 
+-- two lists of cells as one, fragment by fragment
+abbrev pub join_states : List Cell → List Cell → List Cell
+join_states own others = map (λ p. join_cells p.0 p.1) (zip own others)
+
+-- the state joined with another of its job
+abbrev pub joined_with : GatherSpec → GatherSpec → GatherSpec
+joined_with g other = record g { cells = join_states g.cells other.cells }
+
 -- what is said of an answer: it is new, it is the one that is held, or it is in conflict
 abbrev pub absorbed_as : Cell → ℕ → Body → Absorbed
 absorbed_as Nothing k body = absorbed.New
@@ -55,7 +64,22 @@ pub record Takes (old new : GatherSpec) (bytes : List ℕ) (told : Absorbed) : T
 abbrev pub Refuses : JobSpec → List ℕ → GatherFault → Type 0
 Refuses job bytes fault.Memory = ⊤
 Refuses job bytes (fault.Decode e) = obstacle job bytes ≡ Some e
+Refuses job bytes fault.OtherJob = ⊥
 Refuses job bytes fault.Writer = ⊥
+
+-- the first obstacle to the bytes' being a state is told
+abbrev pub RefusesState : JobSpec → List ℕ → GatherFault → Type 0
+RefusesState job bytes fault.Memory = ⊤
+RefusesState job bytes (fault.Decode e) = state_obstacle job bytes ≡ Some e
+RefusesState job bytes fault.OtherJob = ⊥
+RefusesState job bytes fault.Writer = ⊥
+
+-- the other's job is another, or memory was wanting
+abbrev pub RefusesJoin : JobSpec → JobSpec → GatherFault → Type 0
+RefusesJoin job other fault.Memory = ⊤
+RefusesJoin job other (fault.Decode e) = ⊥
+RefusesJoin job other fault.OtherJob = job ≢ other
+RefusesJoin job other fault.Writer = ⊥
 
 -- want of memory is the coordinator's own
 abbrev pub fault_of : DecodeFault → GatherFault
@@ -70,4 +94,5 @@ of_print print.Writer = fault.Writer
 abbrev pub number_of : GatherFault → ℕ
 number_of fault.Memory = 0
 number_of (fault.Decode e) = codec.number_of e
+number_of fault.OtherJob = 11
 number_of fault.Writer = 12

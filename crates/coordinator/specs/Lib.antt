@@ -1,6 +1,8 @@
 pub mod Finished
 pub mod Fitted
 pub mod Gathering
+pub mod Joining
+pub mod Laws
 pub mod Lent
 pub mod Loading
 pub mod LoadingSteps

@@ -1,5 +1,5 @@
 -- What a coordinator finds in its cells, and what is told of it.
-use Rattle.std.specs.Prelude.{ℕ, Bool, List, ⊤}
+use Rattle.std.specs.Prelude.{Bool, ⊤}
 use Rattle.meaning.specs.declared.answer.Cell.{Cell}
 use Rattle.meaning.specs.Finish.{Output}
 use Rattle.meaning.specs.Finish as output
@@ -63,4 +63,5 @@ IsReportable plan (finding.Output o) = IsPrintable plan o
 abbrev pub IsPrintRefusal : GatherFault → Type 0
 IsPrintRefusal fault.Memory = ⊤
 IsPrintRefusal (fault.Decode e) = ⊥
+IsPrintRefusal fault.OtherJob = ⊥
 IsPrintRefusal fault.Writer = ⊤

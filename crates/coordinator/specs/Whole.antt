@@ -1,5 +1,5 @@
 -- A query from CSV files to print: what it runs over, and why it is refused.
-use Rattle.std.specs.Prelude.{◌≡◌, ℕ, nat_le, Bool, true, false, ◌&&◌, List, [], ◌∷◌, map, zip, find, Option, Some, None, Result, Ok, Err, ⊤, ◌≢◌, length}
+use Rattle.std.specs.Prelude.{◌≡◌, ℕ, nat_le, Bool, true, false, ◌&&◌, List, [], map, zip, find, Option, Some, None, Result, Ok, Err, ⊤, ◌≢◌, length}
 use Rattle.std.specs.Borrow.{Bor}
 use Rattle.std.specs.List.{range_with_len}
 use Rattle.std.specs.Str.{bytes_eq}

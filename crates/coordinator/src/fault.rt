@@ -15,6 +15,8 @@ pub enum GatherFault {
     /// Bytes that are no answer for the job.
     #[error("{0}")]
     Decode(DecodeFault),
+    #[error("another load, plan or cut")]
+    OtherJob,
     #[error("the writer failed")]
     Writer,
 }
@@ -27,6 +29,7 @@ impl GatherFault {
         match self {
             GatherFault::Memory => 0,
             GatherFault::Decode(fault) => fault.number(),
+            GatherFault::OtherJob => 11,
             GatherFault::Writer => 12,
         }
     }

@@ -1,17 +1,22 @@
-ghost use Rattle.std.specs.Prelude.{◌≡◌, [], ◌∷◌, ◌++◌, List, length, replicate, IfOk, IfErr, OnErr};
+ghost use Rattle.std.specs.Prelude.{◌≡◌, ℕ, [], ◌∷◌, ◌++◌, List, length, replicate, IfOk, IfErr, OnOk, OnErr};
 ghost use Rattle.meaning.specs.declared.answer.Answer.{Answer as AnAnswer};
+ghost use Rattle.meaning.specs.declared.answer.Cell.{Cell as ACell};
 ghost use Rattle.meaning.specs.declared.answer.Cell.TheVariants.{Nothing};
 ghost use Rattle.meaning.specs.Gather.{joined};
 ghost use Rattle.partial_codec.specs.Answer.{Spells};
-ghost use Rattle.coordinator.specs.Gathering.{Takes, Refuses, absorbed_as};
+ghost use Rattle.partial_codec.specs.State.{SpellsState, state_bytes};
+ghost use Rattle.coordinator.specs.Gathering.{Takes, Refuses, RefusesState, RefusesJoin, absorbed_as, joined_with};
 ghost use Rattle.coordinator.specs.Single.{IsSingle};
 
 use crate::fault::GatherFault;
+use crate::joining::{all_news, join_all};
+use crate::same_job::is_same_job;
 use meaning::answer::{Answer, Body, Cell, is_same, with_answer};
-use partial_codec::{Job, decode};
+use partial_codec::{Job, decode, decode_state, encode_state};
 use std::alloc::{AllocError, Global};
 use std::marker::Model;
 use std::mem;
+use std::mem::drop;
 
 /// What a coordinator holds of a job: for each fragment of the cut nothing, one answer, or a conflict.
 #[derive(Drop)]
@@ -119,5 +124,50 @@ impl Gather {
         let absorbed = tell(&held, k, &body);
         *cell = with_answer(held, body);
         Ok(absorbed)
+    }
+
+    /// Takes all that another coordinator holds. Another load, plan or cut is refused, and a refusal leaves all as it
+    /// was.
+    pub fn join(&mut self, alloc: Global, other: &Gather) -> Result<(), GatherFault>
+        // Each cell is joined with the other's.
+        ensures joins { OnOk result ((self.old.job ≡ other.now.job) × (self.new ≡ joined_with self.old other.now)) }
+        // The states of two sets of answers become that of both together.
+        ensures together { OnOk result ((own others : List AnAnswer) → self.old.cells ≡ joined self.old.job.cut own
+            → other.now.cells ≡ joined self.old.job.cut others → self.new.cells ≡ joined self.old.job.cut (own ++ others)) }
+        ensures refused { IfErr result (RefusesJoin self.old.job other.now.job) }
+        ensures unchanged { OnErr result (self.new ≡ self.old) }
+    {
+        if !is_same_job(&self.job, other.job()) {
+            return Err(GatherFault::OtherJob);
+        }
+        let news = all_news(alloc, &self.cells, other.cells())?;
+        join_all(&mut self.cells, news);
+        Ok(())
+    }
+
+    /// The one spelling of what is held.
+    pub fn state_bytes(&self, alloc: Global) -> Result<Vec<u8>, GatherFault>
+        ensures spelled { IfOk result (λ bytes. bytes.items ≡ state_bytes self.now.job self.now.cells) }
+        ensures refused { IfErr result (λ e. e ≡ GatherFault.Memory) }
+    {
+        Ok(encode_state(alloc, &self.job, &self.cells)?)
+    }
+
+    /// A coordinator that holds what the bytes spell. Their refusals are those of `partial_codec::decode_state`.
+    pub fn from_state(alloc: Global, job: Job, bytes: &[u8]) -> Result<Gather, GatherFault>
+        requires { IsSingle job.plan }
+        // What it holds is spelled so.
+        ensures reads { IfOk result (λ g. (g.job ≡ job) × SpellsState job bytes.now g.cells) }
+        // What is spelled so is read, unless memory is wanting.
+        ensures complete { (cells : List ACell) → SpellsState job bytes.now cells → IfErr result (λ e. e ≡ GatherFault.Memory) }
+        ensures refused { IfErr result (RefusesState job bytes.now) }
+    {
+        match decode_state(alloc, &job, bytes) {
+            Ok(cells) => Ok(Gather { job, cells }),
+            Err(fault) => {
+                drop(job);
+                Err(GatherFault::from(fault))
+            }
+        }
     }
 }

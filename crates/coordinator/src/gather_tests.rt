@@ -1,3 +1,6 @@
+ghost use Rattle.std.specs.Prelude.{◌≡◌, length, IfOk};
+ghost use Rattle.coordinator.specs.Single.{IsSingle};
+
 use crate::fault::GatherFault;
 use crate::gather::{Absorbed, Gather};
 use crate::inputs::plan_query;
@@ -6,6 +9,7 @@ use meaning::read_catalog::read_catalog;
 use partial_codec::Job;
 use std::alloc::{AllocError, Global};
 use std::mem::drop;
+use std::process::Abort;
 use std::test::Fail;
 
 /// What fragments say of `SELECT COUNT(*) FROM sales`, load 7, cut [2,3]: fragment 0 that it has 2 rows or 1, fragment 1 that it has 3.
@@ -18,12 +22,22 @@ const FIRST_OF_ONE_ROW: &[u8] =
 const SECOND: &[u8] =
     b"XGA1\x07\0\0\0\0\0\0\0\x1A\0\0\0SELECT COUNT(*) FROM sales\x02\0\0\0\x02\0\0\0\x03\0\0\0\x01\0\0\0\0\0\x01\0\x01\0\x01\x01\0\0\0\x03\0\0\0\x03\0\0\0\x88m2\xE5\x9B>\xF6re\xA9\xC6\xBC\x98&^\xFF\xA1\x8D\\[$\x09\xB3\x1Ev\xAD\xAB\xD5\\\xCA8\xBD";
 
-fn gather(alloc: Global) -> Result<Gather, Fail> {
+const COUNT: &[u8] = b"SELECT COUNT(*) FROM sales";
+
+const SUM: &[u8] = b"SELECT SUM(q) FROM sales";
+
+fn job(alloc: Global, load: u64, query: &[u8], lengths: &[u32]) -> Result<Job, Fail>
+    ensures { IfOk result (λ job. IsSingle job.plan) }
+{
     let catalog = read_catalog(alloc, b"fact sales\ncol q int null\n")?;
-    let planned = plan_query(alloc, &catalog, b"SELECT COUNT(*) FROM sales");
+    let planned = plan_query(alloc, &catalog, query);
     drop(catalog);
-    let cut = Cut::new(vec![in alloc; 2, 3]?)?;
-    Ok(Gather::new(alloc, Job::new(7, planned?, cut))?)
+    let cut = Cut::new(Vec::from_slice(alloc, lengths)?)?;
+    Ok(Job::new(load, planned?, cut))
+}
+
+fn gather(alloc: Global) -> Result<Gather, Fail> {
+    Ok(Gather::new(alloc, job(alloc, 7, COUNT, &[2, 3])?)?)
 }
 
 /// What was said of an answer, in a letter or by a refusal's number.
@@ -71,6 +85,228 @@ fn answers_in_any_order(rt: HostRuntime) -> Result<(), Fail> {
     for (answers, want) in all {
         let told = of_answers(rt.alloc(), answers)?;
         assert_eq!(rt; told.as_str(), want);
+    }
+    Ok(())
+}
+
+// ---- states
+
+fn take_all(alloc: Global, gather: &mut Gather, answers: &[&[u8]]) -> Result<(), GatherFault> {
+    for answer in answers {
+        gather.absorb(alloc, answer)?;
+    }
+    Ok(())
+}
+
+fn taken_state(alloc: Global, gather: &mut Gather, answers: &[&[u8]]) -> Result<Vec<u8>, Fail> {
+    take_all(alloc, gather, answers)?;
+    Ok(gather.state_bytes(alloc)?)
+}
+
+/// What a coordinator holds after these answers.
+fn state_after(alloc: Global, answers: &[&[u8]]) -> Result<Vec<u8>, Fail> {
+    let mut gather = gather(alloc)?;
+    let bytes = taken_state(alloc, &mut gather, answers);
+    drop(gather);
+    bytes
+}
+
+#[test]
+fn states_have_their_sizes(rt: HostRuntime) -> Result<(), Fail> {
+    let all: [(&[&[u8]], usize); 4] = [
+        (&[], 94),
+        (&[FIRST], 107),
+        (&[FIRST, SECOND], 120),
+        (&[FIRST, FIRST_OF_ONE_ROW, SECOND], 107),
+    ];
+    for (answers, want) in all {
+        let bytes = state_after(rt.alloc(), answers)?;
+        assert_eq!(rt; bytes.len(), want);
+    }
+    Ok(())
+}
+
+/// Puts four answers into one of their 24 orders.
+fn shuffle(answers: &mut [&[u8]; 4], order: usize)
+    ensures { length answers.new ≡ 4 }
+{
+    answers.swap(3, order % 4);
+    answers.swap(2, order / 4 % 3);
+    answers.swap(1, order / 12 % 2);
+}
+
+fn state_in_order(alloc: Global, last: &[u8], order: usize) -> Result<Vec<u8>, Fail> {
+    let mut answers = [FIRST, SECOND, FIRST, last];
+    shuffle(&mut answers, order);
+    state_after(alloc, &answers)
+}
+
+fn expect_in_all_orders(rt: &impl Abort, alloc: Global, last: &[u8]) -> Result<(), Fail> {
+    let want = state_after(alloc, &[last, FIRST, SECOND])?;
+    for order in 0..24 {
+        let bytes = state_in_order(alloc, last, order)?;
+        assert_eq!(rt; bytes.as_slice(), want.as_slice());
+    }
+    Ok(())
+}
+
+#[test]
+fn all_orders_give_equal_states(rt: HostRuntime) -> Result<(), Fail> {
+    expect_in_all_orders(&rt, rt.alloc(), SECOND)
+}
+
+/// Nothing that comes later undoes a conflict.
+#[test]
+fn all_orders_give_the_conflict(rt: HostRuntime) -> Result<(), Fail> {
+    expect_in_all_orders(&rt, rt.alloc(), FIRST_OF_ONE_ROW)
+}
+
+/// The coordinator that holds what the bytes spell.
+fn restored(alloc: Global, bytes: &[u8]) -> Result<Gather, Fail> {
+    Ok(Gather::from_state(alloc, job(alloc, 7, COUNT, &[2, 3])?, bytes)?)
+}
+
+fn print_of(alloc: Global, gather: &Gather) -> Result<String, Fail> {
+    let mut printed = Vec::new(alloc);
+    gather.print_report(alloc, &mut printed)?;
+    Ok(String::from_str(alloc, str::from_utf8(printed.as_slice())?)?)
+}
+
+/// What is printed of a state.
+fn print_of_state(alloc: Global, bytes: &[u8]) -> Result<String, Fail> {
+    let gather = restored(alloc, bytes)?;
+    let printed = print_of(alloc, &gather);
+    drop(gather);
+    printed
+}
+
+fn joined_bytes(alloc: Global, gather: &mut Gather, others: &[u8]) -> Result<Vec<u8>, Fail> {
+    let other = restored(alloc, others)?;
+    let joined = gather.join(alloc, &other);
+    drop(other);
+    joined?;
+    Ok(gather.state_bytes(alloc)?)
+}
+
+/// Two states joined.
+fn joined(alloc: Global, own: &[u8], others: &[u8]) -> Result<Vec<u8>, Fail> {
+    let mut gather = restored(alloc, own)?;
+    let bytes = joined_bytes(alloc, &mut gather, others);
+    drop(gather);
+    bytes
+}
+
+/// Three states joined, first the left two or first the right two.
+fn trees(alloc: Global, a: &[u8], b: &[u8], c: &[u8]) -> Result<(Vec<u8>, Vec<u8>), Fail> {
+    let left = joined(alloc, joined(alloc, a, b)?.as_slice(), c)?;
+    let right = joined(alloc, a, joined(alloc, c, b)?.as_slice())?;
+    Ok((left, right))
+}
+
+fn expect_trees(rt: &impl Abort, alloc: Global, last: &[u8], want: &str) -> Result<(), Fail> {
+    let own = state_after(alloc, &[FIRST])?;
+    let others = state_after(alloc, &[SECOND, FIRST])?;
+    let (left, right) = trees(alloc, &own, &others, &state_after(alloc, &[last])?)?;
+    assert_eq!(rt; left.as_slice(), right.as_slice());
+    let printed = print_of_state(alloc, &left)?;
+    assert_eq!(rt; printed.as_str(), want);
+    Ok(())
+}
+
+#[test]
+fn trees_of_joins_give_equal_states(rt: HostRuntime) -> Result<(), Fail> {
+    expect_trees(&rt, rt.alloc(), SECOND, "c1\n5\n")
+}
+
+#[test]
+fn trees_of_joins_give_the_conflict(rt: HostRuntime) -> Result<(), Fail> {
+    expect_trees(&rt, rt.alloc(), FIRST_OF_ONE_ROW, "conflict: 0\n")
+}
+
+fn refusal_of_join(alloc: Global, gather: &mut Gather, other: Gather) -> Option<u8> {
+    let joined = gather.join(alloc, &other);
+    drop(other);
+    match joined {
+        Ok(()) => None,
+        Err(fault) => Some(fault.number()),
+    }
+}
+
+fn refusal_by(alloc: Global, gather: &mut Gather, other: Job) -> Result<Option<u8>, Fail>
+    requires { IsSingle other.plan }
+{
+    let other = Gather::new(alloc, other)?;
+    Ok(refusal_of_join(alloc, gather, other))
+}
+
+/// Why a coordinator of this load, query and cut is not joined.
+fn refused_join(
+    alloc: Global,
+    load: u64,
+    query: &[u8],
+    lengths: &[u32],
+) -> Result<Option<u8>, Fail> {
+    let other = job(alloc, load, query, lengths)?;
+    let mut gather = gather(alloc)?;
+    let told = refusal_by(alloc, &mut gather, other);
+    drop(gather);
+    told
+}
+
+#[test]
+fn another_job_is_not_joined(rt: HostRuntime) -> Result<(), Fail> {
+    let all: [(u64, &[u8], &[u32], Option<u8>); 5] = [
+        (7, COUNT, &[2, 3], None),
+        (8, COUNT, &[2, 3], Some(11)),
+        (7, SUM, &[2, 3], Some(11)),
+        (7, COUNT, &[3, 2], Some(11)),
+        (7, COUNT, &[2, 3, 0], Some(11)),
+    ];
+    for (load, query, lengths, want) in all {
+        assert_eq!(rt; refused_join(rt.alloc(), load, query, lengths)?, want);
+    }
+    Ok(())
+}
+
+/// Why the bytes are no state of a job with this load.
+fn refused_state(alloc: Global, load: u64, bytes: &[u8]) -> Result<Option<u8>, Fail> {
+    match Gather::from_state(alloc, job(alloc, load, COUNT, &[2, 3])?, bytes) {
+        Ok(gather) => {
+            drop(gather);
+            Ok(None)
+        }
+        Err(fault) => Ok(Some(fault.number())),
+    }
+}
+
+fn expect_refusals(rt: &impl Abort, alloc: Global, state: &[u8]) -> Result<(), Fail> {
+    assert_eq!(rt; refused_state(alloc, 7, state)?, None);
+    assert_eq!(rt; refused_state(alloc, 8, state)?, Some(5));
+    assert_eq!(rt; refused_state(alloc, 7, b"XGS1\x07")?, Some(2));
+    assert_eq!(rt; refused_state(alloc, 7, FIRST)?, Some(1));
+    Ok(())
+}
+
+#[test]
+fn damaged_states_are_refused(rt: HostRuntime) -> Result<(), Fail> {
+    let state = state_after(rt.alloc(), &[FIRST])?;
+    expect_refusals(&rt, rt.alloc(), &state)
+}
+
+/// A state that is read and written again.
+fn again(alloc: Global, state: &[u8]) -> Result<Vec<u8>, Fail> {
+    let gather = restored(alloc, state)?;
+    let bytes = gather.state_bytes(alloc);
+    drop(gather);
+    Ok(bytes?)
+}
+
+#[test]
+fn states_are_read_as_they_were(rt: HostRuntime) -> Result<(), Fail> {
+    let all: [&[&[u8]]; 3] = [&[], &[FIRST, SECOND], &[SECOND, FIRST, FIRST_OF_ONE_ROW]];
+    for answers in all {
+        let bytes = state_after(rt.alloc(), answers)?;
+        assert_eq!(rt; again(rt.alloc(), &bytes)?.as_slice(), bytes.as_slice());
     }
     Ok(())
 }

@@ -3,6 +3,7 @@
 
 mod answering;
 mod combining;
+mod copying;
 mod fault;
 mod finishing;
 mod from_csv;
@@ -10,6 +11,8 @@ mod gather;
 #[cfg(test)]
 mod gather_tests;
 mod inputs;
+mod joining;
+mod laws;
 mod lent;
 mod loading;
 #[cfg(test)]
@@ -22,6 +25,7 @@ mod printing;
 mod printing_tests;
 mod records;
 mod reporting;
+mod same_job;
 mod single;
 mod tally;
 mod whole_fault;
@@ -31,6 +35,7 @@ mod whole_tests;
 pub use fault::GatherFault;
 pub use from_csv::whole;
 pub use gather::{Absorbed, Gather};
+pub use laws::{answers_decide, states_join};
 pub use planning::PlanFault;
 pub use records::count_rows;
 pub use reporting::{Ended, Report};

@@ -1,9 +1,8 @@
 ghost use Rattle.std.specs.Prelude.{◌≤◌};
 
 use crate::cut::{Cut, CutFault};
-use std::alloc::Global;
+use std::alloc::{AllocError, Global};
 use std::process::Abort;
-use std::test::Fail;
 
 fn refusal(answer: &Result<Cut, CutFault>) -> Option<u8> {
     match answer {
@@ -12,54 +11,67 @@ fn refusal(answer: &Result<Cut, CutFault>) -> Option<u8> {
     }
 }
 
-fn expect_even(
-    rt: &impl Abort,
-    alloc: Global,
-    rows: u64,
-    r: u32,
-    want: &[u32],
-) -> Result<(), CutFault>
+/// Whether these are the cut's numbers of rows.
+fn has_lengths(answer: &Result<Cut, CutFault>, want: &[u32]) -> bool {
+    match answer {
+        Ok(cut) => cut.lengths() == want,
+        Err(_) => false,
+    }
+}
+
+/// The cut into this many fragments of as many rows each.
+fn alike(alloc: Global, rows: u32, count: usize) -> Result<Cut, CutFault> {
+    Cut::new(vec![in alloc; rows; count]?)
+}
+
+fn two(alloc: Global, first: u32, second: u32) -> Result<Vec<u32>, AllocError> {
+    Ok(vec![in alloc; first, second]?)
+}
+
+fn pair(alloc: Global, first: u32, second: u32) -> Result<Cut, CutFault> {
+    Cut::new(two(alloc, first, second)?)
+}
+
+fn count(answer: &Result<Cut, CutFault>) -> usize {
+    match answer {
+        Ok(cut) => cut.lengths().len(),
+        Err(_) => 0,
+    }
+}
+
+#[test]
+fn lengths_are_lent(rt: HostRuntime) {
+    let alloc = rt.alloc();
+    assert!(rt; has_lengths(&pair(alloc, 2, 3), &[2, 3]));
+    assert!(rt; has_lengths(&alike(alloc, 0, 1), &[0]));
+    assert_eq!(rt; count(&alike(alloc, 1_048_576, 4_096)), 4_096);
+}
+
+#[test]
+fn refusals_are_told_in_order(rt: HostRuntime) {
+    let alloc = rt.alloc();
+    assert_eq!(rt; refusal(&Cut::new(Vec::new(alloc))), Some(1));
+    assert_eq!(rt; refusal(&alike(alloc, 1, 4_097)), Some(2));
+    assert_eq!(rt; refusal(&pair(alloc, 0, 1_048_577)), Some(3));
+    assert_eq!(rt; refusal(&alike(alloc, 1_048_577, 4_097)), Some(2));
+}
+
+fn expect_even(rt: &impl Abort, alloc: Global, rows: u64, r: u32, want: &[u32])
     requires { 1 ≤ r }
 {
-    let cut = Cut::even(alloc, rows, r)?;
-    assert_eq!(rt; cut.lengths(), want, "{rows} rows by {r}");
-    Ok(())
+    let cut = Cut::even(alloc, rows, r);
+    assert!(rt; has_lengths(&cut, want), "{rows} rows by {r}");
 }
 
 #[test]
-fn lengths_are_lent(rt: HostRuntime) -> Result<(), Fail> {
-    let cut = Cut::new(vec![in rt.alloc(); 2, 3]?)?;
-    assert_eq!(rt; cut.lengths(), [2, 3].as_slice());
-    let empty = Cut::new(vec![in rt.alloc(); 0]?)?;
-    assert_eq!(rt; empty.lengths(), [0].as_slice());
-    let largest = Cut::new(vec![in rt.alloc(); 1_048_576; 4_096]?)?;
-    assert_eq!(rt; largest.lengths().len(), 4_096);
-    Ok(())
-}
-
-#[test]
-fn refusals_are_told_in_order(rt: HostRuntime) -> Result<(), Fail> {
-    let none = Cut::new(Vec::new(rt.alloc()));
-    assert_eq!(rt; refusal(&none), Some(1));
-    let many = Cut::new(vec![in rt.alloc(); 1; 4_097]?);
-    assert_eq!(rt; refusal(&many), Some(2));
-    let long = Cut::new(vec![in rt.alloc(); 0, 1_048_577]?);
-    assert_eq!(rt; refusal(&long), Some(3));
-    let both = Cut::new(vec![in rt.alloc(); 1_048_577; 4_097]?);
-    assert_eq!(rt; refusal(&both), Some(2));
-    Ok(())
-}
-
-#[test]
-fn even_cuts_have_the_rest_behind(rt: HostRuntime) -> Result<(), Fail> {
-    expect_even(&rt, rt.alloc(), 5, 2, &[2, 2, 1])?;
-    expect_even(&rt, rt.alloc(), 4, 2, &[2, 2])?;
-    expect_even(&rt, rt.alloc(), 1, 2, &[1])?;
-    expect_even(&rt, rt.alloc(), 0, 2, &[0])?;
-    expect_even(&rt, rt.alloc(), 3, 4_294_967_295, &[3])?;
-    let full = Cut::even(rt.alloc(), 4_096, 1)?;
-    assert_eq!(rt; full.lengths().len(), 4_096);
-    Ok(())
+fn even_cuts_have_the_rest_behind(rt: HostRuntime) {
+    let alloc = rt.alloc();
+    expect_even(&rt, alloc, 5, 2, &[2, 2, 1]);
+    expect_even(&rt, alloc, 4, 2, &[2, 2]);
+    expect_even(&rt, alloc, 1, 2, &[1]);
+    expect_even(&rt, alloc, 0, 2, &[0]);
+    expect_even(&rt, alloc, 3, 4_294_967_295, &[3]);
+    assert_eq!(rt; count(&Cut::even(alloc, 4_096, 1)), 4_096);
 }
 
 #[test]

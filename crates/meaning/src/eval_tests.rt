@@ -7,39 +7,100 @@ use crate::sequence::Sequence;
 use crate::text::Text;
 use crate::value::{Row, Value};
 use std::alloc::{AllocError, Global};
-use std::test::Fail;
+use std::mem::drop;
 
 const Q: Expr = Expr::Column(2);
 
 const P: Expr = Expr::Column(3);
 
-fn int(n: i64) -> Expr {
+type Built = Result<Expr, AllocError>;
+
+fn number(n: i64) -> Expr {
     Expr::Literal(Value::Int(n))
 }
 
-fn divide(alloc: Global, a: Expr, b: Expr) -> Result<Expr, AllocError> {
-    Ok(Expr::Arithmetic(
-        ArithmeticOperator::Divide,
-        Boxed::new(alloc, a)?,
-        Boxed::new(alloc, b)?,
-    ))
+fn int(n: i64) -> Built {
+    Ok(number(n))
 }
 
-fn equal(alloc: Global, a: Expr, b: Expr) -> Result<Expr, AllocError> {
-    Ok(Expr::Compare(
-        ComparisonOperator::Equal,
-        Boxed::new(alloc, a)?,
-        Boxed::new(alloc, b)?,
-    ))
+fn boxed(alloc: Global, a: Built) -> Result<Boxed<Expr>, AllocError> {
+    Boxed::new(alloc, a?)
 }
 
-fn and(alloc: Global, a: Expr, b: Expr) -> Result<Expr, AllocError> {
-    Ok(Expr::And(Boxed::new(alloc, a)?, Boxed::new(alloc, b)?))
+fn both(alloc: Global, a: Built, b: Built) -> Result<(Boxed<Expr>, Boxed<Expr>), AllocError> {
+    Ok((boxed(alloc, a)?, boxed(alloc, b)?))
+}
+
+fn divide(alloc: Global, a: Built, b: Built) -> Built {
+    let (a, b) = both(alloc, a, b)?;
+    Ok(Expr::Arithmetic(ArithmeticOperator::Divide, a, b))
+}
+
+fn equal(alloc: Global, a: Built, b: Built) -> Built {
+    let (a, b) = both(alloc, a, b)?;
+    Ok(Expr::Compare(ComparisonOperator::Equal, a, b))
+}
+
+fn and(alloc: Global, a: Built, b: Built) -> Built {
+    let (a, b) = both(alloc, a, b)?;
+    Ok(Expr::And(a, b))
+}
+
+fn between(alloc: Global, subject: Built, low: Built, high: Built) -> Built {
+    let (low, high) = both(alloc, low, high)?;
+    Ok(Expr::Between {
+        negated: false,
+        subject: boxed(alloc, subject)?,
+        low,
+        high,
+    })
+}
+
+fn pair(alloc: Global, a: Expr, b: Expr) -> Result<Sequence<Expr>, AllocError> {
+    Ok(Sequence::from_vec(vec![in alloc; a, b]?))
+}
+
+fn not_in(alloc: Global, subject: Built, list: Result<Sequence<Expr>, AllocError>) -> Built {
+    let list = list?;
+    Ok(Expr::In {
+        negated: true,
+        subject: boxed(alloc, subject)?,
+        list,
+    })
+}
+
+fn like(alloc: Global, subject: Built, pattern: &str) -> Built {
+    let pattern = Text::new(alloc, pattern)?;
+    Ok(Expr::Like {
+        negated: false,
+        subject: boxed(alloc, subject)?,
+        pattern,
+    })
+}
+
+/// `CASE WHEN when THEN then ELSE otherwise END`.
+fn case(alloc: Global, when: Built, then: i64, otherwise: i64) -> Built {
+    let arm = Arm {
+        when: when?,
+        then: number(then),
+    };
+    let arms = Sequence::from_vec(vec![in alloc; arm]?);
+    Ok(Expr::Case {
+        arms,
+        otherwise: boxed(alloc, int(otherwise))?,
+    })
+}
+
+/// `COALESCE (q, p, last)`.
+fn coalesce(alloc: Global, last: Built) -> Built {
+    let last = last?;
+    let list = Sequence::from_vec(vec![in alloc; Q, P, last]?);
+    Ok(Expr::Coalesce(list))
 }
 
 /// `1 / 0 = 1`.
-fn faulty(alloc: Global) -> Result<Expr, AllocError> {
-    equal(alloc, divide(alloc, int(1), int(0))?, int(1))
+fn faulty(alloc: Global) -> Built {
+    equal(alloc, divide(alloc, int(1), int(0)), int(1))
 }
 
 /// The fact row (2, 10, NULL, 7, 'é') beside the dimension row (10, 'north').
@@ -62,137 +123,102 @@ fn row(alloc: Global) -> Result<JoinedRow, AllocError> {
     })
 }
 
+/// What the expression gives on the row.
+fn outcome_of(alloc: Global, expr: &Expr) -> Result<Outcome, AllocError> {
+    let row = row(alloc)?;
+    let outcome = eval_row(alloc, expr, &row);
+    drop(row);
+    outcome
+}
+
 /// Whether the expression gives this on the row.
-fn gives(alloc: Global, expr: &Expr, expected: &Outcome) -> Result<bool, AllocError> {
-    let outcome = eval_row(alloc, expr, &row(alloc)?)?;
-    Ok(outcome == *expected)
-}
-
-#[test]
-fn null_comes_before_a_zero_divisor(rt: HostRuntime) -> Result<(), Fail> {
-    let alloc = rt.alloc();
-    let expr = divide(alloc, Q, int(0))?;
-    let holds = gives(alloc, &expr, &Outcome::Value(Value::Null))?;
-    assert!(rt; holds);
-    Ok(())
-}
-
-#[test]
-fn division_rounds_towards_zero(rt: HostRuntime) -> Result<(), Fail> {
-    let alloc = rt.alloc();
-    let expr = divide(alloc, int(-7), int(2))?;
-    let holds = gives(alloc, &expr, &Outcome::Value(Value::Int(-3)))?;
-    assert!(rt; holds);
-    Ok(())
-}
-
-#[test]
-fn the_least_integer_by_minus_one_overflows(rt: HostRuntime) -> Result<(), Fail> {
-    let alloc = rt.alloc();
-    let expr = divide(alloc, int(i64::MIN), int(-1))?;
-    let holds = gives(alloc, &expr, &Outcome::Fault(Fault::Overflow))?;
-    assert!(rt; holds);
-    Ok(())
-}
-
-#[test]
-fn unknown_leaves_the_right_side_to_be_evaluated(rt: HostRuntime) -> Result<(), Fail> {
-    let alloc = rt.alloc();
-    let unknown = equal(alloc, Q, int(2))?;
-    let expr = and(alloc, unknown, faulty(alloc)?)?;
-    let holds = gives(alloc, &expr, &Outcome::Fault(Fault::DivisionByZero))?;
-    assert!(rt; holds);
-    Ok(())
-}
-
-#[test]
-fn false_does_not(rt: HostRuntime) -> Result<(), Fail> {
-    let alloc = rt.alloc();
-    let is_false = equal(alloc, P, int(8))?;
-    let expr = and(alloc, is_false, faulty(alloc)?)?;
-    let holds = gives(alloc, &expr, &Outcome::Truth(Truth::False))?;
-    assert!(rt; holds);
-    Ok(())
-}
-
-#[test]
-fn between_has_both_ends(rt: HostRuntime) -> Result<(), Fail> {
-    let alloc = rt.alloc();
-    let expr = Expr::Between {
-        negated: false,
-        subject: Boxed::new(alloc, P)?,
-        low: Boxed::new(alloc, int(7))?,
-        high: Boxed::new(alloc, int(7))?,
+fn gives(alloc: Global, expr: &Built, expected: &Outcome) -> bool {
+    let Ok(expr) = expr else {
+        return false;
     };
-    let holds = gives(alloc, &expr, &Outcome::Truth(Truth::True))?;
-    assert!(rt; holds);
-    Ok(())
+    match outcome_of(alloc, expr) {
+        Ok(outcome) => outcome == *expected,
+        Err(_) => false,
+    }
 }
 
 #[test]
-fn not_in_a_list_with_null_is_unknown(rt: HostRuntime) -> Result<(), Fail> {
+fn null_comes_before_a_zero_divisor(rt: HostRuntime) {
     let alloc = rt.alloc();
-    let mut list = Sequence::new(alloc);
-    list.push(Q)?;
-    list.push(int(8))?;
-    let expr = Expr::In {
-        negated: true,
-        subject: Boxed::new(alloc, P)?,
-        list,
-    };
-    let holds = gives(alloc, &expr, &Outcome::Truth(Truth::Unknown))?;
-    assert!(rt; holds);
-    Ok(())
+    let expr = divide(alloc, Ok(Q), int(0));
+    assert!(rt; gives(alloc, &expr, &Outcome::Value(Value::Null)));
 }
 
 #[test]
-fn a_character_of_two_bytes_is_one(rt: HostRuntime) -> Result<(), Fail> {
+fn division_rounds_towards_zero(rt: HostRuntime) {
     let alloc = rt.alloc();
-    let expr = Expr::Like {
-        negated: false,
-        subject: Boxed::new(alloc, Expr::Column(4))?,
-        pattern: Text::new(alloc, "_")?,
-    };
-    let holds = gives(alloc, &expr, &Outcome::Truth(Truth::True))?;
-    assert!(rt; holds);
-    Ok(())
+    let expr = divide(alloc, int(-7), int(2));
+    assert!(rt; gives(alloc, &expr, &Outcome::Value(Value::Int(-3))));
 }
 
 #[test]
-fn a_join_lends_its_columns(rt: HostRuntime) -> Result<(), Fail> {
+fn the_least_integer_by_minus_one_overflows(rt: HostRuntime) {
     let alloc = rt.alloc();
-    let expr = equal(alloc, Expr::Column(1), Expr::Joined { join: 0, place: 0 })?;
-    let holds = gives(alloc, &expr, &Outcome::Truth(Truth::True))?;
-    assert!(rt; holds);
-    Ok(())
+    let expr = divide(alloc, int(i64::MIN), int(-1));
+    assert!(rt; gives(alloc, &expr, &Outcome::Fault(Fault::Overflow)));
 }
 
 #[test]
-fn case_passes_over_unknown(rt: HostRuntime) -> Result<(), Fail> {
+fn unknown_leaves_the_right_side_to_be_evaluated(rt: HostRuntime) {
     let alloc = rt.alloc();
-    let mut arms = Sequence::new(alloc);
-    arms.push(Arm {
-        when: equal(alloc, Q, int(0))?,
-        then: int(1),
-    })?;
-    let expr = Expr::Case {
-        arms,
-        otherwise: Boxed::new(alloc, int(3))?,
-    };
-    let holds = gives(alloc, &expr, &Outcome::Value(Value::Int(3)))?;
-    assert!(rt; holds);
-    Ok(())
+    let expr = and(alloc, equal(alloc, Ok(Q), int(2)), faulty(alloc));
+    assert!(rt; gives(alloc, &expr, &Outcome::Fault(Fault::DivisionByZero)));
 }
 
 #[test]
-fn coalesce_stops_at_its_first_value(rt: HostRuntime) -> Result<(), Fail> {
+fn false_does_not(rt: HostRuntime) {
     let alloc = rt.alloc();
-    let mut list = Sequence::new(alloc);
-    list.push(Q)?;
-    list.push(P)?;
-    list.push(divide(alloc, P, int(0))?)?;
-    let expr = Expr::Coalesce(list);
-    let holds = gives(alloc, &expr, &Outcome::Value(Value::Int(7)))?;
-    assert!(rt; holds);
-    Ok(())
+    let expr = and(alloc, equal(alloc, Ok(P), int(8)), faulty(alloc));
+    assert!(rt; gives(alloc, &expr, &Outcome::Truth(Truth::False)));
+}
+
+#[test]
+fn between_has_both_ends(rt: HostRuntime) {
+    let alloc = rt.alloc();
+    let expr = between(alloc, Ok(P), int(7), int(7));
+    assert!(rt; gives(alloc, &expr, &Outcome::Truth(Truth::True)));
+}
+
+#[test]
+fn not_in_a_list_with_null_is_unknown(rt: HostRuntime) {
+    let alloc = rt.alloc();
+    let expr = not_in(alloc, Ok(P), pair(alloc, Q, number(8)));
+    assert!(rt; gives(alloc, &expr, &Outcome::Truth(Truth::Unknown)));
+}
+
+#[test]
+fn a_character_of_two_bytes_is_one(rt: HostRuntime) {
+    let alloc = rt.alloc();
+    let expr = like(alloc, Ok(Expr::Column(4)), "_");
+    assert!(rt; gives(alloc, &expr, &Outcome::Truth(Truth::True)));
+}
+
+#[test]
+fn a_join_lends_its_columns(rt: HostRuntime) {
+    let alloc = rt.alloc();
+    let expr = equal(
+        alloc,
+        Ok(Expr::Column(1)),
+        Ok(Expr::Joined { join: 0, place: 0 }),
+    );
+    assert!(rt; gives(alloc, &expr, &Outcome::Truth(Truth::True)));
+}
+
+#[test]
+fn case_passes_over_unknown(rt: HostRuntime) {
+    let alloc = rt.alloc();
+    let expr = case(alloc, equal(alloc, Ok(Q), int(0)), 1, 3);
+    assert!(rt; gives(alloc, &expr, &Outcome::Value(Value::Int(3))));
+}
+
+#[test]
+fn coalesce_stops_at_its_first_value(rt: HostRuntime) {
+    let alloc = rt.alloc();
+    let expr = coalesce(alloc, divide(alloc, Ok(P), int(0)));
+    assert!(rt; gives(alloc, &expr, &Outcome::Value(Value::Int(7))));
 }

@@ -30,12 +30,12 @@ use Rattle.partial_codec.specs.Supported.{is_supported}
 use Rattle.partial_codec.specs.Supported as feature
 use Rattle.partial_codec.specs.Spelling.{Layout, layout_bytes, layout_of, seal_of, answer_bytes}
 use Rattle.partial_codec.specs.LayoutReading.{same_bytes, type_of, kind_of, argument_from, layout_at}
-use Rattle.partial_codec.specs.Answer.{is_body_supported, is_known, Fits, Spells, held_against, sealed_end, judged}
+use Rattle.partial_codec.specs.Answer.{is_body_supported, is_shape_known, is_known, Fits, Spells, held_against, sealed_end, judged}
 use Rattle.partial_codec.proofs.Numbers.{bind_ok, ok_is, IsBytes, bytes_take, bytes_again}
 use Rattle.partial_codec.specs.Ranges.{IsBody}
-use Rattle.partial_codec.proofs.FieldLaws.{type_again, kind_again, IsAggregate, IsLayout, layout_takes, layout_again}
+use Rattle.partial_codec.proofs.FieldLaws.{type_again, kind_again, IsAggregate, IsShape, AreJobFields, IsLayout, layout_takes, layout_again}
 use Rattle.partial_codec.proofs.Fitting.{both, groups_fit, few_groups, short_at, few_rows_before, words, fault_fits}
-use Rattle.partial_codec.proofs.Known.{all_of, layout_known}
+use Rattle.partial_codec.proofs.Known.{all_of, known_shape, layout_known}
 
 -- ---- equal shapes
 
@@ -77,12 +77,12 @@ shape_same a b e =
     let aggregates = (pointwise_decides aggregate_exact a.aggregates b.aggregates).0 h.1 in
     λ i. record { keys = keys i; aggregates = aggregates i }
 
-shape_itself : (a : Shape) → is_same_shape a a ≡ true
+pub shape_itself : (a : Shape) → is_same_shape a a ≡ true
 shape_itself a = all_of _ _ ((pointwise_decides type_exact a.keys a.keys).1 refl) ((pointwise_decides aggregate_exact a.aggregates a.aggregates).1 refl)
 
 -- ---- what is read is spelled so and fits
 
-test_not : {A : Type 0} (b : Bool) (d : DecodeFault) (r : Result A DecodeFault) (y : A) → cond (not b) (Err d) r ≡ Ok y → (b ≡ true) × (r ≡ Ok y)
+pub test_not : {A : Type 0} (b : Bool) (d : DecodeFault) (r : Result A DecodeFault) (y : A) → cond (not b) (Err d) r ≡ Ok y → (b ≡ true) × (r ≡ Ok y)
 test_not true d r y e = (refl, e)
 test_not false d r y e = absurd cc
 
@@ -112,7 +112,7 @@ held_takes job l a e =
     let held : IsHeld job l made = record { layout = same_layout; fits = all } in
     subst (λ (b : Answer). IsHeld job l b) (ok_is made a numbers.1) held
 
-seal_takes : (front seal rest end : List ℕ) → length seal ≡ 32 → sealed_end (front ++ (seal ++ rest)) seal rest ≡ Ok end → front ++ (seal ++ rest) ≡ front ++ seal_of front
+pub seal_takes : (front seal rest end : List ℕ) → length seal ≡ 32 → sealed_end (front ++ (seal ++ rest)) seal rest ≡ Ok end → front ++ (seal ++ rest) ≡ front ++ seal_of front
 unfolding sealed_end
 seal_takes front seal rest end len e =
     let nothing = test_not (eqb (length rest) 0) refusal.TrailingBytes _ end e in
@@ -147,7 +147,7 @@ unfolding digest_bytes
 length_digest h zero = refl
 length_digest h (suc n) = let len = length_digest h n in omega (arith, len, length-append (digest_bytes h n) (to_be_bytes w32 (slice_index h n)))
 
-length_seal : (bytes : List ℕ) → length (seal_of bytes) ≡ 32
+pub length_seal : (bytes : List ℕ) → length (seal_of bytes) ≡ 32
 unfolding seal_of sha256
 length_seal bytes = length_digest _ 8
 
@@ -165,7 +165,7 @@ aggregates_fit (a ∷ aggs) e =
     let h = both (is_supported (feature.kind a.kind)) (list_all (λ s. is_supported (feature.kind s.kind)) (map shape_of_aggregate aggs)) e in
     (record { known = h.0; argument = argument_back a.kind a.col_type }, aggregates_fit aggs h.1)
 
-body_fits : (job : JobSpec) (a : Answer) → IsJob job → is_body_supported a.body ≡ true → fits job.plan job.cut a ≡ true → IsBody (shape_of job.plan) a.body
+pub body_fits : (job : JobSpec) (a : Answer) → IsJob job → is_body_supported a.body ≡ true → fits job.plan job.cut a ≡ true → IsBody (shape_of job.plan) a.body
 body_fits job a is known fit =
     let shaped = both (is_shaped job.plan a.body) _ (both (nat_lt a.k (length job.cut)) _ fit).1 in
     of_body a.body known shaped.0 (both (are_keys_ascending a.body) _ shaped.1).1
@@ -189,32 +189,42 @@ body_fits job a is known fit =
         let count = few_groups (certain_keys job.plan.plain job.plan.keys) gs all k.0 in
         (omega (arith, count), groups_fit job.plan gs all shaped k.1)
 
-pub layout_fits : (job : JobSpec) (a : Answer) → IsJob job → Fits job a → IsLayout (layout_of job a)
-layout_fits job a is fit =
-    let known = both (is_supported (feature.keys (length (shape_of job.plan).keys))) _ fit.known in
-    let known2 = both (is_supported (feature.aggregates (length (shape_of job.plan).aggregates))) _ known.1 in
-    let known3 = both (list_all (λ s. is_supported (feature.kind s.kind)) (shape_of job.plan).aggregates) (is_body_supported a.body) known2.1 in
-    let k = ltb-true a.k (length job.cut) (both (nat_lt a.k (length job.cut)) _ fit.fits).0 in
+-- the fields that tell a job have a spelling
+pub job_fits : (job : JobSpec) → IsJob job → AreJobFields (record { load = job.load; text = job.plan.text; cut = job.cut })
+job_fits job is =
     let few = is.cut.few in
     let text = is.plan.text in
+    record {
+      load = is.load;
+      text = record { is_text = is.is_text; short = omega (arith, text) };
+      fragments = omega (arith, few);
+      each = words job.cut (recursion_from_All (λ n. n ≤ 1048576) job.cut is.cut.short);
+    }
+
+-- a shape that this version knows has a spelling
+pub shape_fits : (job : JobSpec) → IsJob job → is_shape_known (shape_of job.plan) ≡ true → IsShape (shape_of job.plan)
+shape_fits job is known =
+    let features = known_shape (shape_of job.plan) known in
     let keys = is.plan.keys in
     let aggregates = is.plan.aggregates in
     record {
-      job = record {
-        load = is.load;
-        text = record { is_text = is.is_text; short = omega (arith, text) };
-        fragments = omega (arith, few);
-        each = words job.cut (recursion_from_All (λ n. n ≤ 1048576) job.cut is.cut.short);
-      };
+      keys = omega (arith, keys, length-map job.plan.keys (λ k. k.col_type));
+      keys_known = features.keys;
+      aggregates = omega (arith, aggregates, length-map job.plan.aggs shape_of_aggregate);
+      aggregates_known = features.aggregates;
+      each = aggregates_fit job.plan.aggs features.kinds;
+    }
+
+pub layout_fits : (job : JobSpec) (a : Answer) → IsJob job → Fits job a → IsLayout (layout_of job a)
+layout_fits job a is fit =
+    let known = both (is_shape_known (shape_of job.plan)) (is_body_supported a.body) fit.known in
+    let k = ltb-true a.k (length job.cut) (both (nat_lt a.k (length job.cut)) _ fit.fits).0 in
+    let few = is.cut.few in
+    record {
+      job = job_fits job is;
       k = omega (arith, k, few);
-      shape = record {
-        keys = omega (arith, keys, length-map job.plan.keys (λ k. k.col_type));
-        keys_known = known.0;
-        aggregates = omega (arith, aggregates, length-map job.plan.aggs shape_of_aggregate);
-        aggregates_known = known2.0;
-        each = aggregates_fit job.plan.aggs known3.0;
-      };
-      body = body_fits job a is known3.1 fit.fits;
+      shape = shape_fits job is known.0;
+      body = body_fits job a is known.1 fit.fits;
     }
 
 held_again : (job : JobSpec) (a : Answer) → fits job.plan job.cut a ≡ true → held_against job (layout_of job a) ≡ Ok a
@@ -225,7 +235,7 @@ held_again job a fit =
     let sorted = both (are_keys_ascending a.body) _ shaped.1 in
     rw (eq-eqb job.load job.load refl, (bytes_decides job.plan.text job.plan.text).1 refl, (bytes_decides job.cut job.cut).1 refl, k.0, shape_itself (shape_of job.plan), shaped.0, sorted.0, sorted.1) refl
 
-seal_again : (front : List ℕ) → sealed_end (front ++ seal_of front) (seal_of front) [] ≡ Ok (seal_of front)
+pub seal_again : (front : List ℕ) → sealed_end (front ++ seal_of front) (seal_of front) [] ≡ Ok (seal_of front)
 unfolding sealed_end
 seal_again front =
     let short : length (front ++ seal_of front) - 32 ≡ length front = omega (arith, length-append front (seal_of front), length_seal front) in

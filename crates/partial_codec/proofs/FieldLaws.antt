@@ -188,7 +188,7 @@ shape_again shape rest fits =
 word_takes : IsSpelled (number_at 4) (number_bytes 4)
 word_takes bytes p fits e = (number_takes 4 bytes p.0 p.1 fits e).0
 
-abbrev job_text : JobFields → List ℕ
+abbrev pub job_text : JobFields → List ℕ
 job_text job = job_bytes job.load job.text job.cut
 
 pub job_takes : IsSpelled job_at job_text
@@ -236,7 +236,7 @@ job_again job rest fits =
 
 -- ---- the whole
 
-magic_takes : (magic bytes rest : List ℕ) → IsBytes bytes → behind_magic magic bytes ≡ Ok rest → Takes bytes magic rest
+pub magic_takes : (magic bytes rest : List ℕ) → IsBytes bytes → behind_magic magic bytes ≡ Ok rest → Takes bytes magic rest
 unfolding behind_magic
 magic_takes magic bytes rest fits e =
     let a = bind_ok (bytes_at 4 bytes) (λ first. cond (same_bytes first.0 magic) (Ok first.1) (Err refusal.Magic)) rest e in
@@ -245,7 +245,7 @@ magic_takes magic bytes rest fits e =
     let same : a.0.0 ≡ magic = (bytes_decides a.0.0 magic).0 g.0 in
     subst (λ (r : List ℕ). Takes bytes magic r) (ok_is a.0.1 rest g.1) (subst (λ (m : List ℕ). Takes bytes m a.0.1) same taken.0)
 
-magic_again : (magic rest : List ℕ) → length magic ≡ 4 → behind_magic magic (magic ++ rest) ≡ Ok rest
+pub magic_again : (magic rest : List ℕ) → length magic ≡ 4 → behind_magic magic (magic ++ rest) ≡ Ok rest
 unfolding behind_magic
 magic_again magic rest len = rw (bytes_again 4 magic rest len, (bytes_decides magic magic).1 refl) refl
 

@@ -12,9 +12,10 @@ use Rattle.partial_codec.specs.Supported.{is_supported, if_supported}
 use Rattle.partial_codec.specs.Supported as feature
 use Rattle.partial_codec.specs.Spelling.{Layout, answer_magic}
 use Rattle.partial_codec.specs.LayoutReading.{JobFields, type_at, known_kind, argument_from, argument_at, aggregate_at, shape_at, behind_magic, job_at, group_at, groups_at, fault_at, tagged_body_at, body_at, layout_at}
-use Rattle.partial_codec.specs.Answer.{is_body_supported, is_known}
+use Rattle.partial_codec.specs.Answer.{is_body_supported, is_shape_known, is_known}
 use Rattle.partial_codec.proofs.Numbers.{bind_ok, test_passed, ok_is}
 use Rattle.partial_codec.proofs.FieldLaws.{known_from}
+use Rattle.partial_codec.proofs.Fitting.{both}
 
 pub all_of : (a b : Bool) → a ≡ true → b ≡ true → (a && b) ≡ true
 all_of true b p q = q
@@ -61,6 +62,15 @@ shape_known bytes p e =
     let made : Shape × List ℕ = (record { keys = b.0.0; aggregates = d.0.0 }, d.0.1) in
     subst (λ (q : Shape × List ℕ). IsKnownShape q.0) (ok_is made p d.2) (record { keys = rw types.0 keys.0; aggregates = rw kinds.0 aggregates.0; kinds = kinds.1 })
 
+pub known_test : (shape : Shape) → IsKnownShape shape → is_shape_known shape ≡ true
+known_test shape is = all_of _ _ is.keys (all_of _ _ is.aggregates is.kinds)
+
+pub known_shape : (shape : Shape) → is_shape_known shape ≡ true → IsKnownShape shape
+known_shape shape e =
+    let keys = both (is_supported (feature.keys (length shape.keys))) _ e in
+    let aggregates = both (is_supported (feature.aggregates (length shape.aggregates))) _ keys.1 in
+    record { keys = keys.0; aggregates = aggregates.0; kinds = aggregates.1 }
+
 tagged_known : (shape : Shape) (tag : ℕ) (bytes : List ℕ) (p : Body × List ℕ) → tagged_body_at shape tag bytes ≡ Ok p → is_body_supported p.0 ≡ true
 unfolding tagged_body_at fault_at groups_at
 tagged_known shape zero bytes p e =
@@ -80,7 +90,7 @@ tagged_known shape (suc (suc n)) bytes p e =
     let wrong = rw (not0, not1) at e in
     absurd cc
 
-body_known : (shape : Shape) (bytes : List ℕ) (p : Body × List ℕ) → body_at shape bytes ≡ Ok p → is_body_supported p.0 ≡ true
+pub body_known : (shape : Shape) (bytes : List ℕ) (p : Body × List ℕ) → body_at shape bytes ≡ Ok p → is_body_supported p.0 ≡ true
 unfolding body_at
 body_known shape bytes p e =
     let a = bind_ok (number_at 1 bytes) (λ tag. tagged_body_at shape tag.0 tag.1) p e in
@@ -98,4 +108,4 @@ layout_known bytes p e =
     let shape = shape_known c.0.1 d.0 d.1 in
     let body = body_known d.0.0 d.0.1 f.0 f.1 in
     let made : Layout × List ℕ = (done b.0.0 c.0.0 d.0.0 f.0.0, f.0.1) in
-    subst (λ (q : Layout × List ℕ). is_known q.0.shape q.0.body ≡ true) (ok_is made p f.2) (all_of _ _ shape.keys (all_of _ _ shape.aggregates (all_of _ _ shape.kinds body)))
+    subst (λ (q : Layout × List ℕ). is_known q.0.shape q.0.body ≡ true) (ok_is made p f.2) (all_of _ _ (known_test d.0.0 shape) body)

@@ -8,3 +8,4 @@ pub mod Loops
 pub mod Steps
 pub mod Shaped
 pub mod Answers
+pub mod States

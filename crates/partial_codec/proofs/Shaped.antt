@@ -20,7 +20,7 @@ use Rattle.partial_codec.specs.declared.fault.DecodeFault.TheVariants as refusal
 use Rattle.partial_codec.specs.Reading.{◌>>=◌, number_at, repeat_at}
 use Rattle.partial_codec.specs.Shape.{Shape, shape_of, shape_of_aggregate, is_same_shape}
 use Rattle.partial_codec.specs.Fields.{one_aggregate}
-use Rattle.partial_codec.specs.Answer.{is_known}
+use Rattle.partial_codec.specs.Answer.{is_shape_known}
 use Rattle.std.proofs.lemmas.List.{nil_from_length}
 use Rattle.partial_codec.specs.Supported.{is_supported}
 use Rattle.partial_codec.specs.Supported as feature
@@ -29,7 +29,7 @@ use Rattle.partial_codec.specs.LayoutReading.{JobFields, sum_at, value_at, state
 use Rattle.partial_codec.proofs.Numbers.{bind_ok, test_passed, ok_is}
 use Rattle.partial_codec.proofs.Fitting.{both, statistics_itself}
 use Rattle.partial_codec.proofs.Answers.{shape_same}
-use Rattle.partial_codec.proofs.Known.{all_of, repeat_all, IsKnownShape, shape_known}
+use Rattle.partial_codec.proofs.Known.{all_of, repeat_all, IsKnownShape, known_shape, shape_known}
 
 -- a state that was read has nothing but what the kind keeps
 record IsKept (kind : AggregateKind) (s : Statistics) : Type 0 where
@@ -110,7 +110,7 @@ tagged_shaped plan known (suc (suc n)) bytes p e =
     let wrong = rw (not0, not1) at e in
     absurd cc
 
-body_shaped : (plan : Plan) → IsKnownShape (shape_of plan) → (bytes : List ℕ) (p : Body × List ℕ) → body_at (shape_of plan) bytes ≡ Ok p → is_shaped plan p.0 ≡ true
+pub body_shaped : (plan : Plan) → IsKnownShape (shape_of plan) → (bytes : List ℕ) (p : Body × List ℕ) → body_at (shape_of plan) bytes ≡ Ok p → is_shaped plan p.0 ≡ true
 unfolding body_at
 body_shaped plan known bytes p e =
     let a = bind_ok (number_at 1 bytes) (λ tag. tagged_body_at (shape_of plan) tag.0 tag.1) p e in
@@ -133,10 +133,10 @@ layout_shaped plan bytes p e =
     subst (λ (q : Layout × List ℕ). is_same_shape q.0.shape (shape_of plan) ≡ true → is_shaped plan q.0.body ≡ true) (ok_is made p f.2) (of_shape d.0.0 known f.1)
 
 -- the shape of a plan that this version knows
-pub only_shape : (plan : Plan) (only : Aggregate) (body : Body) → is_known (shape_of plan) body ≡ true → plan.aggs ≡ only ∷ [] → shape_of plan ≡ one_aggregate (shape_of_aggregate only)
-only_shape plan only body known aggs =
+pub only_shape : (plan : Plan) (only : Aggregate) → is_shape_known (shape_of plan) ≡ true → plan.aggs ≡ only ∷ [] → shape_of plan ≡ one_aggregate (shape_of_aggregate only)
+only_shape plan only known aggs =
     let shape = shape_of plan in
-    let no_key = no_keys (length shape.keys) (both (is_supported (feature.keys (length shape.keys))) _ known).0 in
+    let no_key = no_keys (length shape.keys) (known_shape shape known).keys in
     let keys : shape.keys ≡ [] = nil_from_length shape.keys no_key in
     let aggregates : shape.aggregates ≡ shape_of_aggregate only ∷ [] = ap (λ (xs : List Aggregate). map shape_of_aggregate xs) aggs in
     λ i. record { keys = keys i; aggregates = aggregates i }

@@ -1,12 +1,23 @@
 -- One step of a loop over lists.
-use Rattle.std.proofs.Common.{◌≡◌, ℕ, zero, suc, ◌+◌, ◌≤◌, ◌<◌, Bool, true, false, ◌&&◌, List, [], ◌∷◌, length, get_or, drop, map, refl, arith}
-use Rattle.std.specs.Prelude.{sum}
+use Rattle.std.proofs.Common.{◌≡◌, ℕ, zero, suc, ◌+◌, ◌^◌, ◌≤◌, ◌<◌, Bool, true, false, ◌&&◌, List, [], ◌∷◌, length, get_or, take, drop, map, Result, Ok, refl, sym, ap, ◌∙◌, arith}
+use Rattle.std.specs.Prelude.{sum, slice_index}
 use Rattle.std.specs.Cmp.Lexicographic.{pointwise}
 use Rattle.std.specs.Ordering.{is_lt}
 use Rattle.std.proofs.Math.Seq.{drop-cons}
+use Rattle.std.proofs.lemmas.List.{drop_all}
+use Rattle.std.proofs.lemmas.List.Elements.{recursion_from_All}
 use Rattle.std.proofs.lemmas.List.Sums.{sum_by-cons}
 use Rattle.meaning.specs.declared.answer.Group.{Group}
+use Rattle.meaning.specs.declared.answer.Cell.{Cell}
+use Rattle.meaning.specs.declared.plan.Plan.{Plan}
+use Rattle.meaning.specs.Cut.{IsCut}
 use Rattle.meaning.specs.Order.{is_ascending, row_cmp}
+use Rattle.meaning.specs.Table.{first_row}
+use Rattle.partial_codec.specs.declared.fault.DecodeFault.{DecodeFault}
+use Rattle.partial_codec.specs.Job.{JobSpec}
+use Rattle.partial_codec.specs.Reading.{◌>>=◌}
+use Rattle.partial_codec.specs.State.{cell_held, cells_held}
+use Rattle.partial_codec.proofs.Fitting.{short_at, few_rows_before}
 
 abbrev pub is_before : Group → Group → Bool
 is_before a b = is_lt (row_cmp a.key b.key)
@@ -54,3 +65,49 @@ all_rows gs = sum (map (λ g. g.rows) gs)
 
 pub rows_step : (gs : List Group) (i : ℕ) (d : Group) → i < length gs → all_rows (drop i gs) ≡ (get_or gs i d).rows + all_rows (drop (suc i) gs)
 rows_step gs i d lt = rw (drop-cons gs i d lt) (sum_by-cons (λ n. n) (get_or gs i d).rows (map (λ g. g.rows) (drop (suc i) gs)))
+
+-- ---- cells
+
+pub cells_step : (job : JobSpec) (cells : List Cell) (k : ℕ) (d : Cell) → k < length cells
+    → cells_held job k (drop k cells) ≡ (cell_held job.plan (first_row job.cut k) (slice_index job.cut k) (get_or cells k d) >>= λ held. cells_held job (suc k) (drop (suc k) cells))
+unfolding cells_held
+cells_step job cells k d lt = rw (drop-cons cells k d lt) refl
+
+-- what the code holds against fragment k, whose outcome is `r`
+pub cells_after : (job : JobSpec) (cells : List Cell) (k : ℕ) (d : Cell) (plan : Plan) (first rows : ℕ) (cell : Cell) (r : Result (Unit {0}) DecodeFault) → k < length cells → plan ≡ job.plan → first ≡ first_row job.cut k → rows ≡ slice_index job.cut k
+    → cell ≡ get_or cells k d → cell_held plan first rows cell ≡ r → cells_held job k (drop k cells) ≡ (r >>= λ held. cells_held job (k + 1) (drop (k + 1) cells))
+cells_after job cells k d plan first rows cell r lt plans firsts lengths at held =
+    let same : cell_held job.plan (first_row job.cut k) (slice_index job.cut k) (get_or cells k d) ≡ r =
+    ap (λ (p : Plan). cell_held p (first_row job.cut k) (slice_index job.cut k) (get_or cells k d)) (sym plans)
+    ∙ ap (λ (n : ℕ). cell_held plan n (slice_index job.cut k) (get_or cells k d)) (sym firsts)
+    ∙ ap (λ (n : ℕ). cell_held plan first n (get_or cells k d)) (sym lengths)
+    ∙ ap (λ (c : Cell). cell_held plan first rows c) (sym at) ∙ held in
+    let next : suc k ≡ k + 1 = omega arith in
+    cells_step job cells k d lt ∙ ap (λ (x : Result (Unit {0}) DecodeFault). x >>= λ held. cells_held job (suc k) (drop (suc k) cells)) same
+    ∙ ap (λ (n : ℕ). r >>= λ held. cells_held job n (drop n cells)) next
+
+pub cells_end : (job : JobSpec) (cells : List Cell) (k : ℕ) → length cells ≤ k → cells_held job k (drop k cells) ≡ Ok tt
+unfolding cells_held
+cells_end job cells k le = rw (drop_all k cells le) refl
+
+first_step : (cut : List ℕ) (k : ℕ) → k < length cut → first_row cut (suc k) ≡ first_row cut k + slice_index cut k
+first_step [] k lt = absurd (omega arith)
+first_step (n ∷ cut) zero lt = omega (arith, sum_by-cons (λ x. x) n [])
+first_step (n ∷ cut) (suc k) lt =
+    let next = first_step cut k (omega arith) in
+    omega (arith, next, sum_by-cons (λ x. x) n (take k cut), sum_by-cons (λ x. x) n (take (suc k) cut))
+
+-- the first row of the next fragment
+pub next_first : (cut : List ℕ) (k : ℕ) → k < length cut → first_row cut (k + 1) ≡ first_row cut k + slice_index cut k
+next_first cut k lt =
+    let next : k + 1 ≡ suc k = omega arith in
+    ap (first_row cut) next ∙ first_step cut k lt
+
+-- the rows of a cut have numbers of 64 bits
+pub rows_fit : (cut : List ℕ) (k : ℕ) → IsCut cut → first_row cut k + slice_index cut k < 2 ^ 64
+rows_fit cut k is =
+    let short = recursion_from_All (λ n. n ≤ 1048576) cut is.short in
+    let rows = short_at cut k short in
+    let first = few_rows_before cut k short in
+    let few = is.few in
+    omega (arith, rows, first, few)

@@ -21,11 +21,14 @@ abbrev pub is_body_supported : Body → Bool
 is_body_supported (Fault f) = is_supported fault
 is_body_supported (Groups gs) = true
 
+-- this version knows the shape
+abbrev pub is_shape_known : shapes.Shape → Bool
+is_shape_known shape =
+    is_supported (keys (length shape.keys)) && (is_supported (aggregates (length shape.aggregates)) && list_all (λ a. is_supported (kind a.kind)) shape.aggregates)
+
 -- this version knows the shape and the form of the body
 abbrev pub is_known : shapes.Shape → Body → Bool
-is_known shape body =
-    is_supported (keys (length shape.keys)) && (is_supported (aggregates (length shape.aggregates))
-    && (list_all (λ a. is_supported (kind a.kind)) shape.aggregates && is_body_supported body))
+is_known shape body = is_shape_known shape && is_body_supported body
 
 -- an answer that fits the job: a fragment of its cut, with groups of the plan's shape, ascending, and with possible numbers
 pub record Fits (job : JobSpec) (a : Answer) : Type 0 where
@@ -66,8 +69,8 @@ judged job bytes = do
   end ← sealed_end bytes seal.0 seal.1
   held_against job layout.0
 
-abbrev pub fault_in : Result Answer DecodeFault → Option DecodeFault
-fault_in (Ok a) = None
+abbrev pub fault_in : {A : Type 0} → Result A DecodeFault → Option DecodeFault
+fault_in (Ok x) = None
 fault_in (Err e) = Some e
 
 -- the first obstacle to the bytes' being an answer for the job

@@ -1,4 +1,4 @@
--- Why bytes are no answer for a job.
+-- Why bytes are no answer, or no state, for a job.
 use Rattle.std.specs.Prelude.{ℕ}
 use Rattle.partial_codec.specs.declared.fault.DecodeFault.{DecodeFault}
 use Rattle.partial_codec.specs.declared.fault.DecodeFault.TheVariants.{Memory, Magic, Truncated, TrailingBytes, Seal, OtherLoad, OtherQuery, OtherCut, UnsortedGroups, Shape, Numbers}

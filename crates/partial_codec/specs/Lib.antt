@@ -6,5 +6,6 @@ pub mod Supported
 pub mod Spelling
 pub mod Ranges
 pub mod LayoutReading
-pub mod Fields
 pub mod Answer
+pub mod State
+pub mod Fields

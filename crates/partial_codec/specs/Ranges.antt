@@ -10,6 +10,8 @@ use Rattle.meaning.specs.declared.answer.Statistics.{Statistics}
 use Rattle.meaning.specs.declared.answer.Group.{Group}
 use Rattle.meaning.specs.declared.answer.Body.{Body}
 use Rattle.meaning.specs.declared.answer.Body.TheVariants.{Groups, Fault}
+use Rattle.meaning.specs.declared.answer.Cell.{Cell}
+use Rattle.meaning.specs.declared.answer.Cell.TheVariants.{Nothing, One, Conflict}
 use Rattle.meaning.specs.Aggregate.{kept_by}
 use Rattle.partial_codec.specs.declared.shape.AggregateShape.{AggregateShape}
 use Rattle.partial_codec.specs.Shape.{Shape}
@@ -58,3 +60,9 @@ pub record IsGroup (shape : Shape) (g : Group) : Type 0 where
 abbrev pub IsBody : Shape → Body → Type 0
 IsBody shape (Fault f) = (is_supported fault ≡ true) × (f.row < 2 ^ 64) × (f.code < 256)
 IsBody shape (Groups gs) = (length gs < 2 ^ 32) × AllByRecursion (IsGroup shape) gs
+
+-- an answer in the cell has a body of the shape
+abbrev pub IsCell : Shape → Cell → Type 0
+IsCell shape Nothing = Unit {0}
+IsCell shape (One body) = IsBody shape body
+IsCell shape Conflict = Unit {0}

@@ -39,7 +39,7 @@ fn is_before(a: &Group, b: &Group) -> bool
 }
 
 /// Whether each key is less than the next.
-fn are_keys_ascending(groups: &[Group]) -> bool
+pub fn are_keys_ascending(groups: &[Group]) -> bool
     ensures { result ≡ is_ascending row_cmp (map (λ g. g.key) groups.now) }
 {
     for i in 1..groups.len() {
@@ -137,7 +137,7 @@ fn are_groups_possible(plan: &Plan, groups: &[Group]) -> bool
 }
 
 /// Whether so many rows can give the groups' numbers.
-fn are_numbers_possible(plan: &Plan, rows: u64, groups: &[Group]) -> bool
+pub fn are_numbers_possible(plan: &Plan, rows: u64, groups: &[Group]) -> bool
     ensures { (first : ℕ) → result ≡ fitting.are_numbers_possible plan.now first rows (Groups groups.now) }
 {
     if !are_rows_within(groups, rows) {
@@ -158,7 +158,7 @@ fn are_numbers_of_fragment(job: &Job, k: u32, groups: &[Group]) -> bool
     are_numbers_possible(job.plan(), u64::from(lengths[k as usize]), groups)
 }
 
-fn is_query_of(job: &Job, text: &str) -> bool
+pub fn is_query_of(job: &Job, text: &str) -> bool
     ensures { result ≡ same_bytes text.now job.now.plan.text }
 {
     text == job.plan().text.as_str()
@@ -172,7 +172,7 @@ fn is_fragment_of(job: &Job, cut: &[u32], k: u32) -> bool
     cut == lengths && (k as usize) < lengths.len()
 }
 
-fn is_shape_of(job: &Job, aggregate: AggregateShape) -> bool
+pub fn is_shape_of(job: &Job, aggregate: AggregateShape) -> bool
     ensures { result ≡ is_same_shape (one_aggregate aggregate) (shape_of job.now.plan) }
 {
     has_shape(job.plan(), aggregate)

@@ -15,7 +15,7 @@ use std::alloc::Global;
 
 /// The seal, where nothing follows it and it is that of the bytes before it.
 #[tactic(auto, unfolding(crate::specs::Answer::sealed_end, crate::specs::Spelling::seal_of))]
-fn check_seal<'a>(bytes: &[u8], seal: &'a [u8], rest: &[u8]) -> Result<&'a [u8], DecodeFault>
+pub fn check_seal<'a>(bytes: &[u8], seal: &'a [u8], rest: &[u8]) -> Result<&'a [u8], DecodeFault>
     requires { 32 ≤ length bytes.now }
     ensures { Reads (λ s. s.now) result (sealed_end bytes.now seal.now rest.now) }
 {

@@ -20,7 +20,7 @@ use sha2::{Digest, Sha256};
 use std::alloc::{AllocError, Global};
 
 #[tactic(auto, unfolding(crate::specs::Spelling::number_bytes))]
-fn put_u8(out: &mut Vec<u8>, n: u8) -> Result<(), AllocError>
+pub fn put_u8(out: &mut Vec<u8>, n: u8) -> Result<(), AllocError>
     ensures { OnOk result (out.new.items ≡ out.old.items ++ spec.number_bytes 1 n) }
 {
     out.push(n)?;
@@ -65,7 +65,7 @@ fn put_sum(out: &mut Vec<u8>, sum: i128) -> Result<(), AllocError>
 
 /// The load, the query and the cut.
 #[tactic(auto, unfolding(crate::specs::Spelling::job_bytes, crate::specs::Spelling::text_bytes))]
-fn put_job(out: &mut Vec<u8>, load: u64, text: &str, lengths: &[u32]) -> Result<(), AllocError>
+pub fn put_job(out: &mut Vec<u8>, load: u64, text: &str, lengths: &[u32]) -> Result<(), AllocError>
     requires text { length text.now < 2 ^ 32 }
     requires fragments { length lengths.now < 2 ^ 32 }
     ensures { OnOk result (out.new.items ≡ out.old.items ++ spec.job_bytes load text.now lengths.now) }
@@ -82,7 +82,7 @@ fn put_job(out: &mut Vec<u8>, load: u64, text: &str, lengths: &[u32]) -> Result<
 
 /// The shape of one aggregate without keys.
 #[tactic(auto, unfolding(crate::specs::Spelling::shape_bytes))]
-fn put_shape(out: &mut Vec<u8>, only: &Aggregate) -> Result<(), AllocError>
+pub fn put_shape(out: &mut Vec<u8>, only: &Aggregate) -> Result<(), AllocError>
     ensures { OnOk result (out.new.items
         ≡ out.old.items ++ spec.shape_bytes (one_aggregate (shapes.shape_of_aggregate only.now))) }
 {
@@ -133,7 +133,7 @@ fn put_groups(out: &mut Vec<u8>, only: &Aggregate, groups: &[Group]) -> Result<(
 }
 
 #[tactic(auto, unfolding(crate::specs::Spelling::body_bytes))]
-fn put_body(out: &mut Vec<u8>, only: &Aggregate, body: &Body) -> Result<(), AllocError>
+pub fn put_body(out: &mut Vec<u8>, only: &Aggregate, body: &Body) -> Result<(), AllocError>
     requires known { is_supported (feature.kind only.now.kind) ≡ true }
     requires fits { IsBody (one_aggregate (shapes.shape_of_aggregate only.now)) body.now }
     ensures { OnOk result (out.new.items
@@ -173,15 +173,23 @@ fn put_layout(
 
 /// The only aggregate of a plan that this version knows.
 #[tactic(auto, unfolding(crate::specs::Supported::is_supported))]
-fn only_aggregate(plan: &Plan) -> &Aggregate
+pub fn only_aggregate(plan: &Plan) -> &Aggregate
     requires { is_supported (feature.aggregates (length plan.now.aggs)) ≡ true }
     ensures { plan.now.aggs ≡ result.now ∷ [] }
 {
     &plan.aggs.as_slice()[0]
 }
 
-/// The one spelling of an answer that fits the job.
+/// The seal of all bytes so far.
 #[tactic(auto, unfolding(crate::specs::Spelling::seal_of))]
+pub fn put_seal(out: &mut Vec<u8>) -> Result<(), AllocError>
+    ensures { OnOk result (out.new.items ≡ spec.sealed out.old.items) }
+{
+    let seal = Sha256::digest(out.as_slice());
+    out.extend_from_slice(&seal)
+}
+
+/// The one spelling of an answer that fits the job.
 pub fn encode(alloc: Global, job: &Job, answer: &Answer) -> Result<Vec<u8>, AllocError>
     requires { Fits job.now answer.now }
     ensures { IfOk result (λ bytes. bytes.items ≡ spec.answer_bytes job.now answer.now) }
@@ -189,7 +197,6 @@ pub fn encode(alloc: Global, job: &Job, answer: &Answer) -> Result<Vec<u8>, Allo
     let only = only_aggregate(job.plan());
     let mut out = Vec::new(alloc);
     put_layout(&mut out, job, only, answer)?;
-    let seal = Sha256::digest(out.as_slice());
-    out.extend_from_slice(&seal)?;
+    put_seal(&mut out)?;
     Ok(out)
 }

@@ -5,12 +5,12 @@ ghost use Rattle.partial_codec.specs.declared.fault.DecodeFault.TheVariants.{Mem
 use std::alloc::{AllocError, AllocFailed};
 use thiserror::Error;
 
-/// Why bytes are no answer for a job: the first obstacle from front to back.
+/// Why bytes are no answer, or no state, for a job: the first obstacle from front to back.
 #[derive(Debug, Drop, Error)]
 pub enum DecodeFault {
     #[error("out of memory")]
     Memory,
-    #[error("no answer file of a known version")]
+    #[error("no file of this kind and of a known version")]
     Magic,
     #[error("the bytes end within a field")]
     Truncated,
@@ -18,11 +18,11 @@ pub enum DecodeFault {
     TrailingBytes,
     #[error("the seal does not fit the bytes")]
     Seal,
-    #[error("an answer for another load")]
+    #[error("made for another load")]
     OtherLoad,
-    #[error("an answer for another query")]
+    #[error("made for another query")]
     OtherQuery,
-    #[error("an answer for another cut")]
+    #[error("made for another cut")]
     OtherCut,
     #[error("the groups do not ascend by their keys")]
     UnsortedGroups,

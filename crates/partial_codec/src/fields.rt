@@ -1,9 +1,8 @@
-// The fields of an answer, read from front to back.
+// The fields of an answer, read from front to back, and those that a state has too.
 ghost use Rattle.std.specs.Prelude.{◌≡◌, IfOk, true};
 ghost use Rattle.partial_codec.specs.Fields.{job_in, layout_in, one_aggregate};
 ghost use Rattle.partial_codec.specs.LayoutReading.{aggregate_at, argument_at, argument_from, behind_magic, job_at, known_kind, layout_at, shape_at};
 ghost use Rattle.partial_codec.specs.Reading.{Reads, ReadsIfMemory, number_at, repeat_at};
-ghost use Rattle.partial_codec.specs.Spelling.{answer_magic};
 ghost use Rattle.partial_codec.specs.Supported.{is_supported};
 ghost use Rattle.partial_codec.specs.Supported as feature;
 
@@ -71,7 +70,7 @@ fn take_aggregate(bytes: &[u8]) -> Result<(AggregateShape, &[u8]), DecodeFault>
 }
 
 #[tactic(auto, unfolding(crate::specs::LayoutReading::shape_at, crate::specs::Reading::repeat_at, crate::specs::Supported::is_supported))]
-fn take_shape(bytes: &[u8]) -> Result<(AggregateShape, &[u8]), DecodeFault>
+pub fn take_shape(bytes: &[u8]) -> Result<(AggregateShape, &[u8]), DecodeFault>
     ensures { Reads (λ x. (one_aggregate x.0, x.1.now)) result (shape_at bytes.now) }
 {
     let (keys, rest) = take_u16(bytes)?;
@@ -99,7 +98,7 @@ fn take_lengths(alloc: Global, count: u32, bytes: &[u8]) -> Result<(Vec<u32>, &[
 }
 
 #[tactic(auto, unfolding(crate::specs::LayoutReading::job_at))]
-fn take_job(alloc: Global, bytes: &[u8]) -> Result<(JobFields<'_>, &[u8]), DecodeFault>
+pub fn take_job(alloc: Global, bytes: &[u8]) -> Result<(JobFields<'_>, &[u8]), DecodeFault>
     ensures { ReadsIfMemory (λ x. (job_in x.0, x.1.now)) result (job_at bytes.now) }
 {
     let (load, rest) = take_u64(bytes)?;
@@ -109,23 +108,24 @@ fn take_job(alloc: Global, bytes: &[u8]) -> Result<(JobFields<'_>, &[u8]), Decod
     Ok((JobFields { load, text, cut }, rest))
 }
 
-#[tactic(auto, unfolding(crate::specs::LayoutReading::behind_magic, crate::specs::Spelling::answer_magic))]
-fn skip_magic(bytes: &[u8]) -> Result<&[u8], DecodeFault>
-    ensures { Reads (λ x. x.now) result (behind_magic answer_magic bytes.now) }
+/// The bytes behind the four that tell what the file is.
+#[tactic(auto, unfolding(crate::specs::LayoutReading::behind_magic))]
+pub fn skip_magic<'a>(magic: &[u8; 4], bytes: &'a [u8]) -> Result<&'a [u8], DecodeFault>
+    ensures { Reads (λ x. x.now) result (behind_magic magic.now bytes.now) }
 {
-    let (magic, rest) = take_bytes(bytes, 4)?;
-    if magic != ANSWER_MAGIC.as_slice() {
+    let (first, rest) = take_bytes(bytes, 4)?;
+    if first != magic.as_slice() {
         return Err(DecodeFault::Magic);
     }
     Ok(rest)
 }
 
 /// All fields up to the seal, and the bytes from there.
-#[tactic(auto, unfolding(crate::specs::LayoutReading::layout_at))]
+#[tactic(auto, unfolding(crate::specs::LayoutReading::layout_at, crate::specs::Spelling::answer_magic))]
 pub fn take_layout(alloc: Global, bytes: &[u8]) -> Result<(Layout<'_>, &[u8]), DecodeFault>
     ensures { ReadsIfMemory (λ x. (layout_in x.0, x.1.now)) result (layout_at bytes.now) }
 {
-    let rest = skip_magic(bytes)?;
+    let rest = skip_magic(&ANSWER_MAGIC, bytes)?;
     let (job, rest) = take_job(alloc, rest)?;
     let (k, rest) = take_u32(rest)?;
     let (aggregate, rest) = take_shape(rest)?;

@@ -1,7 +1,7 @@
-//! Jobs, and the answers of fragments as bytes.
+//! Jobs, and as bytes the answers of fragments and the states of coordinators.
 //!
-//! An answer has one spelling for a job, and each refusal of bytes tells the first thing from front to back that is
-//! wrong with them. `specs/` has the format; `docs/FORMATS.md` tells it in words.
+//! An answer or a state has one spelling for a job, and each refusal of bytes tells the first thing from front to back
+//! that is wrong with them. `specs/` has the formats; `docs/FORMATS.md` tells them in words.
 #![tactic(auto)]
 
 mod body;
@@ -14,13 +14,19 @@ mod job;
 mod laws;
 mod number;
 mod shape;
+mod state;
+mod state_check;
+mod state_fields;
+#[cfg(test)]
+mod state_tests;
 
 pub use decoding::decode;
 pub use encoding::encode;
 pub use fault::DecodeFault;
 pub use job::Job;
-pub use laws::{one_answer, one_spelling};
-pub use meaning::answer::{Answer, Body};
+pub use laws::{one_answer, one_spelling, one_state, one_state_spelling};
+pub use meaning::answer::{Answer, Body, Cell};
+pub use state::{decode_state, encode_state};
 
 #[cfg(test)]
 mod tests;

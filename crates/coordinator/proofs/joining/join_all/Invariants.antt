@@ -1,0 +1,12 @@
+use Rattle.std.proofs.Common.{◌≡◌, ◌++◌, List, length, take, drop}
+use Rattle.meaning.specs.declared.answer.Cell.{Cell}
+use Rattle.coordinator.specs.Gathering.{join_states}
+use Rattle.coordinator.proofs.joining.join_all.Given as goal
+
+-- the cells from where the news ends are joined
+abbrev pub invariant-loop-change : goal.invariant-loop-change
+invariant-loop-change l = (put : List Cell) × (l.initial.news.items ≡ l.news.items ++ put)
+    × (l.cells.items ≡ take (length l.news.items) l.initial.cells.items ++ join_states (drop (length l.news.items) l.initial.cells.items) put)
+
+abbrev pub decreases-loop-change : goal.decreases-loop-change
+decreases-loop-change l = goal.left-loop-change l

@@ -1,0 +1,363 @@
+-- The two laws of states: what is read is spelled so and fits, and what fits and is spelled is read.
+use Rattle.std.proofs.Common.{◌≡◌, ℕ, zero, suc, ◌+◌, ◌<◌, Bool, true, false, ◌&&◌, eqb, List, [], ◌∷◌, ◌++◌, length, get_or, Ok, refl, sym, ap, subst, ◌∙◌, append_assoc, arith}
+use Rattle.std.specs.Prelude.{nat_lt, slice_index}
+use Rattle.std.specs.List.{flat_map, AllByRecursion, list_all}
+use Rattle.std.specs.Cmp.Lexicographic.{bytes_decides}
+use Rattle.std.proofs.lemmas.Bool.{eqb-true, eq-eqb, lt-ltb, ne_eqb}
+use Rattle.std.proofs.lemmas.List.{append-nil}
+use Rattle.meaning.specs.declared.plan.Plan.{Plan}
+use Rattle.meaning.specs.declared.answer.Body.{Body}
+use Rattle.meaning.specs.declared.answer.Cell.{Cell}
+use Rattle.meaning.specs.declared.answer.Cell.TheVariants.{Nothing, One, Conflict}
+use Rattle.meaning.specs.Table.{first_row}
+use Rattle.meaning.specs.Fitting.{is_shaped, are_keys_ascending, are_numbers_possible, fits}
+use Rattle.partial_codec.specs.declared.fault.DecodeFault.TheVariants as refusal
+use Rattle.partial_codec.specs.Reading.{◌>>=◌, bytes_at, number_at, repeat_at}
+use Rattle.partial_codec.specs.Job.{JobSpec, IsJob}
+use Rattle.partial_codec.specs.Shape.{Shape, shape_of, is_same_shape}
+use Rattle.partial_codec.specs.Spelling.{number_bytes, body_bytes, shape_bytes, seal_of}
+use Rattle.partial_codec.specs.LayoutReading.{JobFields, same_bytes, body_at, shape_at, behind_magic, job_at}
+use Rattle.partial_codec.specs.Ranges.{IsCell}
+use Rattle.partial_codec.specs.Answer.{is_body_supported, is_shape_known, Fits, sealed_end}
+use Rattle.partial_codec.specs.State.{StateLayout, FitsState, SpellsState, cell_bytes, state_magic, state_layout_bytes, state_layout_of, state_bytes, tagged_cell_at, cell_at, state_layout_at, is_cell_shaped, body_held, cell_held, cells_held, state_held_against, judged_state}
+use Rattle.partial_codec.proofs.Numbers.{bind_ok, ok_is, IsBytes, Takes, Takes-then, bytes_take, bytes_again, number_takes, number_again}
+use Rattle.partial_codec.proofs.Values.{IsSpelled, IsReadAgain, repeat_takes, repeat_again}
+use Rattle.partial_codec.proofs.Groups.{body_takes, body_again}
+use Rattle.partial_codec.proofs.FieldLaws.{IsShape, AreJobFields, job_text, job_takes, job_again, shape_takes, shape_again, magic_takes, magic_again}
+use Rattle.partial_codec.proofs.Fitting.{both}
+use Rattle.partial_codec.proofs.Known.{IsKnownShape, all_of, known_test, shape_known, body_known, repeat_all}
+use Rattle.partial_codec.proofs.Shaped.{body_shaped}
+use Rattle.partial_codec.proofs.Answers.{shape_same, shape_itself, test_not, seal_takes, seal_again, length_seal, job_fits, shape_fits, body_fits}
+
+-- ---- cells
+
+tagged_takes : (shape : Shape) (start : List ℕ) (tag : ℕ) (bytes : List ℕ) (p : Cell × List ℕ) → IsBytes bytes → Takes start (number_bytes 1 tag) bytes → tagged_cell_at shape tag bytes ≡ Ok p
+    → Takes start (cell_bytes shape p.0) p.1
+unfolding tagged_cell_at cell_bytes
+tagged_takes shape start zero bytes p fits first e =
+    subst (λ (q : Cell × List ℕ). Takes start (cell_bytes shape q.0) q.1) (ok_is (Nothing, bytes) p e) first
+tagged_takes shape start (suc zero) bytes p fits first e =
+    let a = bind_ok (body_at shape bytes) (λ body. Ok (One body.0, body.1)) p e in
+    let taken = body_takes shape bytes a.0 fits a.1 in
+    let made : Cell × List ℕ = (One a.0.0, a.0.1) in
+    subst (λ (q : Cell × List ℕ). Takes start (cell_bytes shape q.0) q.1) (ok_is made p a.2) (Takes-then start (number_bytes 1 1) bytes (body_bytes shape a.0.0) a.0.1 first taken)
+tagged_takes shape start (suc (suc zero)) bytes p fits first e =
+    subst (λ (q : Cell × List ℕ). Takes start (cell_bytes shape q.0) q.1) (ok_is (Conflict, bytes) p e) first
+tagged_takes shape start (suc (suc (suc n))) bytes p fits first e =
+    let not0 : eqb (suc (suc (suc n))) 0 ≡ false = ne_eqb _ _ (λ h. omega (arith, h)) in
+    let not1 : eqb (suc (suc (suc n))) 1 ≡ false = ne_eqb _ _ (λ h. omega (arith, h)) in
+    let not2 : eqb (suc (suc (suc n))) 2 ≡ false = ne_eqb _ _ (λ h. omega (arith, h)) in
+    let wrong = rw (not0, not1, not2) at e in
+    absurd cc
+
+cell_takes : (shape : Shape) → IsSpelled (cell_at shape) (cell_bytes shape)
+unfolding cell_at
+cell_takes shape bytes p fits e =
+    let a = bind_ok (number_at 1 bytes) (λ tag. tagged_cell_at shape tag.0 tag.1) p e in
+    let tag = number_takes 1 bytes a.0.0 a.0.1 fits a.1 in
+    tagged_takes shape bytes a.0.0 a.0.1 p tag.0.rest_fits tag.0 a.2
+
+cell_again : (shape : Shape) → IsReadAgain (cell_at shape) (cell_bytes shape) (IsCell shape)
+unfolding cell_at tagged_cell_at cell_bytes
+cell_again shape Nothing rest fits = rw (number_again 1 0 rest (omega arith)) refl
+cell_again shape (One body) rest fits =
+    ap (cell_at shape) (append_assoc (number_bytes 1 1) (body_bytes shape body) rest)
+    ∙ rw (number_again 1 1 (body_bytes shape body ++ rest) (omega arith), body_again shape body rest fits) refl
+cell_again shape Conflict rest fits = rw (number_again 1 2 rest (omega arith)) refl
+
+-- an answer in the cell is of a form that this version knows
+abbrev is_cell_supported : Cell → Bool
+is_cell_supported Nothing = true
+is_cell_supported (One body) = is_body_supported body
+is_cell_supported Conflict = true
+
+-- what holds of nothing, of a conflict and of each body that is read holds of each cell that is read
+module _ (Holds : Cell → Type 0) (shape : Shape) (nothing : Holds Nothing) (conflict : Holds Conflict) (one : (bytes : List ℕ) (q : Body × List ℕ) → body_at shape bytes ≡ Ok q → Holds (One q.0)) where
+  of_tagged : (tag : ℕ) (bytes : List ℕ) (p : Cell × List ℕ) → tagged_cell_at shape tag bytes ≡ Ok p → Holds p.0
+  unfolding tagged_cell_at
+  of_tagged zero bytes p e = subst (λ (q : Cell × List ℕ). Holds q.0) (ok_is (Nothing, bytes) p e) nothing
+  of_tagged (suc zero) bytes p e =
+      let a = bind_ok (body_at shape bytes) (λ body. Ok (One body.0, body.1)) p e in
+      let made : Cell × List ℕ = (One a.0.0, a.0.1) in
+      subst (λ (q : Cell × List ℕ). Holds q.0) (ok_is made p a.2) (one bytes a.0 a.1)
+  of_tagged (suc (suc zero)) bytes p e = subst (λ (q : Cell × List ℕ). Holds q.0) (ok_is (Conflict, bytes) p e) conflict
+  of_tagged (suc (suc (suc n))) bytes p e =
+      let not0 : eqb (suc (suc (suc n))) 0 ≡ false = ne_eqb _ _ (λ h. omega (arith, h)) in
+      let not1 : eqb (suc (suc (suc n))) 1 ≡ false = ne_eqb _ _ (λ h. omega (arith, h)) in
+      let not2 : eqb (suc (suc (suc n))) 2 ≡ false = ne_eqb _ _ (λ h. omega (arith, h)) in
+      let wrong = rw (not0, not1, not2) at e in
+      absurd cc
+
+  of_cell : (bytes : List ℕ) (p : Cell × List ℕ) → cell_at shape bytes ≡ Ok p → Holds p.0
+  unfolding cell_at
+  of_cell bytes p e =
+      let a = bind_ok (number_at 1 bytes) (λ tag. tagged_cell_at shape tag.0 tag.1) p e in
+      of_tagged a.0.0 a.0.1 p a.2
+
+cells_known : (shape : Shape) (n : ℕ) (bytes : List ℕ) (p : List Cell × List ℕ) → repeat_at (cell_at shape) n bytes ≡ Ok p → list_all is_cell_supported p.0 ≡ true
+cells_known shape n bytes p e = (repeat_all (cell_at shape) is_cell_supported (of_cell (λ c. is_cell_supported c ≡ true) shape refl refl (body_known shape)) n bytes p e).1
+
+cells_shaped : (plan : Plan) → IsKnownShape (shape_of plan) → (n : ℕ) (bytes : List ℕ) (p : List Cell × List ℕ) → repeat_at (cell_at (shape_of plan)) n bytes ≡ Ok p → list_all (is_cell_shaped plan) p.0 ≡ true
+cells_shaped plan known n bytes p e =
+    (repeat_all (cell_at (shape_of plan)) (is_cell_shaped plan) (of_cell (λ c. is_cell_shaped plan c ≡ true) (shape_of plan) refl refl (body_shaped plan known)) n bytes p e).1
+
+-- ---- all fields but the seal
+
+abbrev job_of : StateLayout → JobFields
+job_of l = record { load = l.load; text = l.text; cut = l.cut }
+
+-- what reading a layout gave, field by field
+record IsReadLayout (bytes : List ℕ) (p : StateLayout × List ℕ) : Type 0 where
+  behind_text : List ℕ
+  behind_job : List ℕ
+  behind_shape : List ℕ
+  magic : behind_magic state_magic bytes ≡ Ok behind_text
+  job : job_at behind_text ≡ Ok (job_of p.0, behind_job)
+  shape : shape_at behind_job ≡ Ok (p.0.shape, behind_shape)
+  cells : repeat_at (cell_at p.0.shape) (length p.0.cut) behind_shape ≡ Ok (p.0.cells, p.1)
+
+layout_read : (bytes : List ℕ) (p : StateLayout × List ℕ) → state_layout_at bytes ≡ Ok p → IsReadLayout bytes p
+unfolding state_layout_at
+layout_read bytes p e =
+    let done : JobFields → Shape → List Cell → StateLayout = λ job shape cells. record { load = job.load; text = job.text; cut = job.cut; shape = shape; cells = cells } in
+    let a = bind_ok (behind_magic state_magic bytes) (λ rest. job_at rest >>= λ job. shape_at job.1 >>= λ shape. repeat_at (cell_at shape.0) (length job.0.cut) shape.1 >>= λ cells. Ok (done job.0 shape.0 cells.0, cells.1)) p e in
+    let b = bind_ok (job_at a.0) (λ job. shape_at job.1 >>= λ shape. repeat_at (cell_at shape.0) (length job.0.cut) shape.1 >>= λ cells. Ok (done job.0 shape.0 cells.0, cells.1)) p a.2 in
+    let c = bind_ok (shape_at b.0.1) (λ shape. repeat_at (cell_at shape.0) (length b.0.0.cut) shape.1 >>= λ cells. Ok (done b.0.0 shape.0 cells.0, cells.1)) p b.2 in
+    let d = bind_ok (repeat_at (cell_at c.0.0) (length b.0.0.cut) c.0.1) (λ cells. Ok (done b.0.0 c.0.0 cells.0, cells.1)) p c.2 in
+    let made : StateLayout × List ℕ = (done b.0.0 c.0.0 d.0.0, d.0.1) in
+    let read : IsReadLayout bytes made = record { behind_text = a.0; behind_job = b.0.1; behind_shape = c.0.1; magic = a.1; job = b.1; shape = c.1; cells = d.1 } in
+    subst (λ (q : StateLayout × List ℕ). IsReadLayout bytes q) (ok_is made p d.2) read
+
+pub layout_takes : IsSpelled state_layout_at state_layout_bytes
+unfolding state_layout_bytes
+layout_takes bytes p fits e =
+    let read = layout_read bytes p e in
+    let l = p.0 in
+    let job = job_of l in
+    let magic = magic_takes state_magic bytes read.behind_text fits read.magic in
+    let fields = job_takes read.behind_text (job, read.behind_job) magic.rest_fits read.job in
+    let shape = shape_takes read.behind_job (l.shape, read.behind_shape) fields.rest_fits read.shape in
+    let cells = repeat_takes (cell_at l.shape) (cell_bytes l.shape) (cell_takes l.shape) (length l.cut) read.behind_shape (l.cells, p.1) shape.rest_fits read.cells in
+    let one = Takes-then bytes state_magic read.behind_text (job_text job) read.behind_job magic fields in
+    let two = Takes-then bytes (state_magic ++ job_text job) read.behind_job (shape_bytes l.shape) read.behind_shape one shape in
+    Takes-then bytes (state_magic ++ job_text job ++ shape_bytes l.shape) read.behind_shape (flat_map (cell_bytes l.shape) l.cells) p.1 two cells.0
+
+-- a cell for each fragment, and only what this version knows
+pub record IsKnownState (l : StateLayout) : Type 0 where
+  pub fragments : length l.cells ≡ length l.cut
+  shape : is_shape_known l.shape ≡ true
+  cells : list_all is_cell_supported l.cells ≡ true
+
+pub layout_known : (bytes : List ℕ) (p : StateLayout × List ℕ) → state_layout_at bytes ≡ Ok p → IsKnownState p.0
+layout_known bytes p e =
+    let read = layout_read bytes p e in
+    let l = p.0 in
+    let each = repeat_all (cell_at l.shape) (λ c. true) (λ bs q h. refl) (length l.cut) read.behind_shape (l.cells, p.1) read.cells in
+    record {
+      fragments = each.0;
+      shape = known_test l.shape (shape_known read.behind_job (l.shape, read.behind_shape) read.shape);
+      cells = cells_known l.shape (length l.cut) read.behind_shape (l.cells, p.1) read.cells;
+    }
+
+pub layout_shaped : (plan : Plan) (bytes : List ℕ) (p : StateLayout × List ℕ) → state_layout_at bytes ≡ Ok p → is_same_shape p.0.shape (shape_of plan) ≡ true → list_all (is_cell_shaped plan) p.0.cells ≡ true
+layout_shaped plan bytes p e same =
+    let read = layout_read bytes p e in
+    let l = p.0 in
+    let known = shape_known read.behind_job (l.shape, read.behind_shape) read.shape in
+    let shape = shape_same l.shape (shape_of plan) same in
+    cells_shaped plan (subst (λ (s : Shape). IsKnownShape s) shape known) (length l.cut) read.behind_shape (l.cells, p.1)
+    (subst (λ (s : Shape). repeat_at (cell_at s) (length l.cut) read.behind_shape ≡ Ok (l.cells, p.1)) shape read.cells)
+
+-- a layout that has a spelling
+pub record IsStateLayout (l : StateLayout) : Type 0 where
+  job : AreJobFields (job_of l)
+  shape : IsShape l.shape
+  fragments : length l.cells ≡ length l.cut
+  pub cells : AllByRecursion (IsCell l.shape) l.cells
+
+four : length state_magic ≡ 4
+unfolding state_magic
+four = refl
+
+layout_again : IsReadAgain state_layout_at state_layout_bytes IsStateLayout
+unfolding state_layout_at state_layout_bytes
+layout_again l rest fits =
+    let job = job_text (job_of l) in
+    let shape = shape_bytes l.shape in
+    let cells = flat_map (cell_bytes l.shape) l.cells in
+    ap state_layout_at (append_assoc (state_magic ++ job ++ shape) cells rest ∙ append_assoc (state_magic ++ job) shape (cells ++ rest) ∙ append_assoc state_magic job (shape ++ (cells ++ rest)))
+    ∙ rw (
+      magic_again state_magic (job ++ (shape ++ (cells ++ rest))) four,
+      job_again (job_of l) (shape ++ (cells ++ rest)) fits.job,
+      shape_again l.shape (cells ++ rest) fits.shape,
+      repeat_again (cell_at l.shape) (cell_bytes l.shape) (IsCell l.shape) (cell_again l.shape) (length l.cut) l.cells rest fits.fragments fits.cells,
+    ) refl
+
+-- ---- what was held against the job fits
+
+-- an answer that was held against fragment k
+record IsHeldAnswer (job : JobSpec) (k : ℕ) (body : Body) : Type 0 where
+  known : is_body_supported body ≡ true
+  shaped : is_shaped job.plan body ≡ true
+  sorted : are_keys_ascending body ≡ true
+  possible : are_numbers_possible job.plan (first_row job.cut k) (slice_index job.cut k) body ≡ true
+
+held_body : (job : JobSpec) (k : ℕ) (body : Body) → is_body_supported body ≡ true → is_shaped job.plan body ≡ true → body_held job.plan (first_row job.cut k) (slice_index job.cut k) body ≡ Ok tt → IsHeldAnswer job k body
+unfolding body_held
+held_body job k body known shaped e =
+    let sorted = test_not (are_keys_ascending body) refusal.UnsortedGroups _ tt e in
+    let possible = test_not (are_numbers_possible job.plan (first_row job.cut k) (slice_index job.cut k) body) refusal.Numbers _ tt sorted.1 in
+    record { known = known; shaped = shaped; sorted = sorted.0; possible = possible.0 }
+
+held_one : (job : JobSpec) (k : ℕ) (cell : Cell) (body : Body) → cell ≡ One body → is_cell_supported cell ≡ true → is_cell_shaped job.plan cell ≡ true → cell_held job.plan (first_row job.cut k) (slice_index job.cut k) cell ≡ Ok tt
+    → IsHeldAnswer job k body
+held_one job k cell body is known shaped held =
+    held_body job k body (subst (λ (c : Cell). is_cell_supported c ≡ true) is known) (subst (λ (c : Cell). is_cell_shaped job.plan c ≡ true) is shaped)
+    (subst (λ (c : Cell). cell_held job.plan (first_row job.cut k) (slice_index job.cut k) c ≡ Ok tt) is held)
+
+no_answer : (body : Body) → Nothing ≡ One body → ⊥
+no_answer body e = absurd cc
+
+-- the answers in the cells of the fragments from j on
+held_each : (job : JobSpec) (cells : List Cell) (j k n : ℕ) (body : Body) → list_all is_cell_supported cells ≡ true → list_all (is_cell_shaped job.plan) cells ≡ true → cells_held job j cells ≡ Ok tt
+    → get_or cells k Nothing ≡ One body → n ≡ j + k → (k < length cells) × IsHeldAnswer job n body
+unfolding cells_held
+held_each job [] j zero n body known shaped held at is = absurd (no_answer body at)
+held_each job [] j (suc k) n body known shaped held at is = absurd (no_answer body at)
+held_each job (cell ∷ cells) j zero n body known shaped held at is =
+    let a = bind_ok (cell_held job.plan (first_row job.cut j) (slice_index job.cut j) cell) (λ held. cells_held job (suc j) cells) tt held in
+    let here = held_one job j cell body at (both (is_cell_supported cell) (list_all is_cell_supported cells) known).0 (both (is_cell_shaped job.plan cell) (list_all (is_cell_shaped job.plan) cells) shaped).0 a.1 in
+    let same : j ≡ n = omega (arith, is) in
+    (omega arith, subst (λ (m : ℕ). IsHeldAnswer job m body) same here)
+held_each job (cell ∷ cells) j (suc k) n body known shaped held at is =
+    let a = bind_ok (cell_held job.plan (first_row job.cut j) (slice_index job.cut j) cell) (λ held. cells_held job (suc j) cells) tt held in
+    let others = held_each job cells (suc j) k n body (both (is_cell_supported cell) (list_all is_cell_supported cells) known).1 (both (is_cell_shaped job.plan cell) (list_all (is_cell_shaped job.plan) cells) shaped).1 a.2 at (omega (arith, is)) in
+    let lt = others.0 in
+    (omega (arith, lt), others.1)
+
+held_fits : (job : JobSpec) (k : ℕ) (body : Body) → is_shape_known (shape_of job.plan) ≡ true → k < length job.cut → IsHeldAnswer job k body → Fits job (record { k = k; body = body })
+held_fits job k body known lt held =
+    record {
+      known = all_of _ _ known held.known;
+      fits = all_of _ _ (lt-ltb k (length job.cut) lt) (all_of _ _ held.shaped (all_of _ _ held.sorted held.possible));
+    }
+
+-- the fields that were held against the job
+record IsHeld (job : JobSpec) (l : StateLayout) (cells : List Cell) : Type 0 where
+  layout : l ≡ state_layout_of job cells
+  shaped : list_all (is_cell_shaped job.plan) cells ≡ true
+  held : cells_held job 0 cells ≡ Ok tt
+
+held_takes : (job : JobSpec) (l : StateLayout) (cells : List Cell) → state_held_against job l ≡ Ok cells → IsHeld job l cells
+unfolding state_held_against
+held_takes job l cells e =
+    let load = test_not (eqb l.load job.load) refusal.OtherLoad _ cells e in
+    let text = test_not (same_bytes l.text job.plan.text) refusal.OtherQuery _ cells load.1 in
+    let cut = test_not (same_bytes l.cut job.cut) refusal.OtherCut _ cells text.1 in
+    let shape = test_not (is_same_shape l.shape (shape_of job.plan) && list_all (is_cell_shaped job.plan) l.cells) refusal.Shape _ cells cut.1 in
+    let each = bind_ok (cells_held job 0 l.cells) (λ held. Ok l.cells) cells shape.1 in
+    let shapes = both (is_same_shape l.shape (shape_of job.plan)) (list_all (is_cell_shaped job.plan) l.cells) shape.0 in
+    let loads : l.load ≡ job.load = eqb-true _ _ load.0 in
+    let texts : l.text ≡ job.plan.text = (bytes_decides l.text job.plan.text).0 text.0 in
+    let lengths : l.cut ≡ job.cut = (bytes_decides l.cut job.cut).0 cut.0 in
+    let same_shape : l.shape ≡ shape_of job.plan = shape_same l.shape (shape_of job.plan) shapes.0 in
+    let same_layout : l ≡ state_layout_of job l.cells = λ i. record { load = loads i; text = texts i; cut = lengths i; shape = same_shape i; cells = l.cells } in
+    let held : IsHeld job l l.cells = record { layout = same_layout; shaped = shapes.1; held = each.1 } in
+    subst (λ (cs : List Cell). IsHeld job l cs) (ok_is l.cells cells each.2) held
+
+state_fits : (job : JobSpec) (l : StateLayout) (cells : List Cell) → IsKnownState l → IsHeld job l cells → FitsState job cells
+state_fits job l cells is held =
+    let known : IsKnownState (state_layout_of job cells) = subst (λ (m : StateLayout). IsKnownState m) held.layout is in
+    let answers : (k : ℕ) (body : Body) → get_or cells k Nothing ≡ One body → Fits job (record { k = k; body = body }) = λ k body at.
+    let each = held_each job cells 0 k k body known.cells held.shaped held.held at (omega arith) in
+    held_fits job k body known.shape (let lt = each.0 in let same = known.fragments in omega (arith, lt, same)) each.1 in
+    record { known = known.shape; fragments = known.fragments; answers = answers }
+
+pub file_takes : (job : JobSpec) (bytes : List ℕ) (cells : List Cell) → IsBytes bytes → judged_state job bytes ≡ Ok cells → SpellsState job bytes cells
+unfolding judged_state
+file_takes job bytes cells ok e =
+    let one = bind_ok (state_layout_at bytes) (λ layout. bytes_at 32 layout.1 >>= λ seal. sealed_end bytes seal.0 seal.1 >>= λ end. state_held_against job layout.0) cells e in
+    let two = bind_ok (bytes_at 32 one.0.1) (λ seal. sealed_end bytes seal.0 seal.1 >>= λ end. state_held_against job one.0.0) cells one.2 in
+    let three = bind_ok (sealed_end bytes two.0.0 two.0.1) (λ end. state_held_against job one.0.0) cells two.2 in
+    let layout = layout_takes bytes one.0 ok one.1 in
+    let seal = bytes_take 32 one.0.1 two.0.0 two.0.1 layout.rest_fits two.1 in
+    let front = state_layout_bytes one.0.0 in
+    let parts : bytes ≡ front ++ (two.0.0 ++ two.0.1) = layout.parts ∙ ap (λ (t : List ℕ). front ++ t) seal.0.parts in
+    let ended = subst (λ (bs : List ℕ). sealed_end bs two.0.0 two.0.1 ≡ Ok three.0) parts three.1 in
+    let sealed = seal_takes front two.0.0 two.0.1 three.0 seal.1 ended in
+    let held = held_takes job one.0.0 cells three.2 in
+    let whole : bytes ≡ state_bytes job cells = parts ∙ sealed ∙ ap (λ (l : StateLayout). state_layout_bytes l ++ seal_of (state_layout_bytes l)) held.layout in
+    record { fits = state_fits job one.0.0 cells (layout_known bytes one.0 one.1) held; spelled = whole }
+
+-- ---- what fits and is spelled is read
+
+-- what is given of each answer in the cells of the fragments from j on
+abbrev EachFits : JobSpec → ℕ → List Cell → Type 0
+EachFits job j cells = (k n : ℕ) (body : Body) → n ≡ j + k → get_or cells k Nothing ≡ One body → Fits job (record { k = n; body = body })
+
+here_fits : (job : JobSpec) (j : ℕ) (cell : Cell) (cells : List Cell) → EachFits job j (cell ∷ cells) → (body : Body) → cell ≡ One body → Fits job (record { k = j; body = body })
+here_fits job j cell cells given body is = given 0 j body (omega arith) is
+
+later_fit : (job : JobSpec) (j : ℕ) (cell : Cell) (cells : List Cell) → EachFits job j (cell ∷ cells) → EachFits job (suc j) cells
+later_fit job j cell cells given k n body is at = given (suc k) n body (omega (arith, is)) at
+
+cell_fits : (job : JobSpec) (j : ℕ) (cell : Cell) → IsJob job → ((body : Body) → cell ≡ One body → Fits job (record { k = j; body = body })) → IsCell (shape_of job.plan) cell
+cell_fits job j Nothing is given = tt
+cell_fits job j (One body) is given =
+    let fit = given body refl in
+    body_fits job (record { k = j; body = body }) is (both (is_shape_known (shape_of job.plan)) (is_body_supported body) fit.known).1 fit.fits
+cell_fits job j Conflict is given = tt
+
+cells_fit : (job : JobSpec) (j : ℕ) (cells : List Cell) → IsJob job → EachFits job j cells → AllByRecursion (IsCell (shape_of job.plan)) cells
+cells_fit job j [] is given = tt
+cells_fit job j (cell ∷ cells) is given = (cell_fits job j cell is (here_fits job j cell cells given), cells_fit job (suc j) cells is (later_fit job j cell cells given))
+
+cell_held_again : (job : JobSpec) (j : ℕ) (cell : Cell) → ((body : Body) → cell ≡ One body → Fits job (record { k = j; body = body }))
+    → (is_cell_shaped job.plan cell ≡ true) × (cell_held job.plan (first_row job.cut j) (slice_index job.cut j) cell ≡ Ok tt)
+unfolding body_held
+cell_held_again job j Nothing given = (refl, refl)
+cell_held_again job j (One body) given =
+    let k = both (nat_lt j (length job.cut)) _ (given body refl).fits in
+    let shaped = both (is_shaped job.plan body) _ k.1 in
+    let sorted = both (are_keys_ascending body) _ shaped.1 in
+    (shaped.0, rw (sorted.0, sorted.1) refl)
+cell_held_again job j Conflict given = (refl, refl)
+
+cells_held_again : (job : JobSpec) (j : ℕ) (cells : List Cell) → EachFits job j cells → (list_all (is_cell_shaped job.plan) cells ≡ true) × (cells_held job j cells ≡ Ok tt)
+unfolding cells_held
+cells_held_again job j [] given = (refl, refl)
+cells_held_again job j (cell ∷ cells) given =
+    let here = cell_held_again job j cell (here_fits job j cell cells given) in
+    let later = cells_held_again job (suc j) cells (later_fit job j cell cells given) in
+    (all_of _ _ here.0 later.0, rw (here.1, later.1) refl)
+
+each_fits : (job : JobSpec) (cells : List Cell) → FitsState job cells → EachFits job 0 cells
+each_fits job cells fit k n body is at =
+    let same : k ≡ n = omega (arith, is) in
+    subst (λ (m : ℕ). Fits job (record { k = m; body = body })) same (fit.answers k body at)
+
+pub state_layout_fits : (job : JobSpec) (cells : List Cell) → IsJob job → FitsState job cells → IsStateLayout (state_layout_of job cells)
+state_layout_fits job cells is fit =
+    record {
+      job = job_fits job is;
+      shape = shape_fits job is fit.known;
+      fragments = fit.fragments;
+      cells = cells_fit job 0 cells is (each_fits job cells fit);
+    }
+
+held_again : (job : JobSpec) (cells : List Cell) → FitsState job cells → state_held_against job (state_layout_of job cells) ≡ Ok cells
+unfolding state_held_against
+held_again job cells fit =
+    let each = cells_held_again job 0 cells (each_fits job cells fit) in
+    rw (eq-eqb job.load job.load refl, (bytes_decides job.plan.text job.plan.text).1 refl, (bytes_decides job.cut job.cut).1 refl, shape_itself (shape_of job.plan), each.0, each.1) refl
+
+pub file_again : (job : JobSpec) (cells : List Cell) → IsJob job → FitsState job cells → judged_state job (state_bytes job cells) ≡ Ok cells
+unfolding judged_state
+file_again job cells is fit =
+    let front = state_layout_bytes (state_layout_of job cells) in
+    let seal = seal_of front in
+    let sealed : bytes_at 32 seal ≡ Ok (seal, []) = ap (bytes_at 32) (sym (append-nil seal)) ∙ bytes_again 32 seal [] (length_seal front) in
+    rw (layout_again (state_layout_of job cells) seal (state_layout_fits job cells is fit), sealed, seal_again front, held_again job cells fit) refl
+
+pub spelled_state_reads : (job : JobSpec) (bytes : List ℕ) (cells : List Cell) → IsJob job → SpellsState job bytes cells → judged_state job bytes ≡ Ok cells
+spelled_state_reads job bytes cells is spells = ap (judged_state job) spells.spelled ∙ file_again job cells is spells.fits

@@ -1,0 +1,7 @@
+use Rattle.std.proofs.Common.{sym, ◌∙◌}
+use Rattle.partial_codec.proofs.Numbers.{ok_is}
+use Rattle.partial_codec.proofs.States.{spelled_state_reads}
+use Rattle.partial_codec.proofs.laws.one_state.Goals as goal
+
+pub returns : goal.returns
+returns c = λ job bytes a b is one two. ok_is a b (sym (spelled_state_reads job bytes a is one) ∙ spelled_state_reads job bytes b is two)

@@ -22,6 +22,10 @@ const FIRST_OF_ONE_ROW: &[u8] =
 const SECOND: &[u8] =
     b"XGA1\x07\0\0\0\0\0\0\0\x1A\0\0\0SELECT COUNT(*) FROM sales\x02\0\0\0\x02\0\0\0\x03\0\0\0\x01\0\0\0\0\0\x01\0\x01\0\x01\x01\0\0\0\x03\0\0\0\x03\0\0\0\x88m2\xE5\x9B>\xF6re\xA9\xC6\xBC\x98&^\xFF\xA1\x8D\\[$\x09\xB3\x1Ev\xAD\xAB\xD5\\\xCA8\xBD";
 
+/// What fragment 0 says of `SELECT SUM(q) FROM sales`: 2 rows, of which 1 is not NULL, with a sum over the greatest integer.
+const OVER_THE_GREATEST: &[u8] =
+    b"XGA1\x07\0\0\0\0\0\0\0\x18\0\0\0SELECT SUM(q) FROM sales\x02\0\0\0\x02\0\0\0\x03\0\0\0\0\0\0\0\0\0\x01\0\x03\x01\x01\x01\0\0\0\x02\0\0\0\x01\0\0\0\0\0\0\0\0\0\0\x80\0\0\0\0\0\0\0\0\xEB=\x7F\xD5\xB2\xC5@o\x0E8N\x09@D\x99I\x92\xA6\xF5\xCA\x15\x98K\xF9b|\xA6\xCA\x8D\x9E\x81\x12";
+
 const COUNT: &[u8] = b"SELECT COUNT(*) FROM sales";
 
 const SUM: &[u8] = b"SELECT SUM(q) FROM sales";
@@ -90,6 +94,57 @@ fn answers_in_any_order(rt: HostRuntime) -> Result<(), Fail> {
 }
 
 // ---- states
+
+fn without_last(bytes: &[u8]) -> &[u8] {
+    match bytes.split_last() {
+        Some((_, front)) => front,
+        None => bytes,
+    }
+}
+
+fn with_last(alloc: Global, bytes: &[u8], last: u8) -> Result<Vec<u8>, AllocError> {
+    let mut longer = Vec::from_slice(alloc, bytes)?;
+    longer.push(last)?;
+    Ok(longer)
+}
+
+fn turned(alloc: Global, bytes: &[u8], place: usize) -> Result<Vec<u8>, AllocError> {
+    let mut changed = Vec::from_slice(alloc, bytes)?;
+    if let Some(byte) = changed.get_mut(place) {
+        *byte ^= 1;
+    }
+    Ok(changed)
+}
+
+#[test]
+fn damaged_answers_change_nothing(rt: HostRuntime) -> Result<(), Fail> {
+    let longer = with_last(rt.alloc(), FIRST, 0)?;
+    let changed = turned(rt.alloc(), FIRST, 76)?;
+    let answers = [
+        FIRST,
+        without_last(FIRST),
+        longer.as_slice(),
+        changed.as_slice(),
+        FIRST,
+    ];
+    let told = of_answers(rt.alloc(), &answers)?;
+    assert_eq!(rt; told.as_str(), "N 2 3 4 K missing: 1\n");
+    Ok(())
+}
+
+fn of_sum(alloc: Global, answers: &[&[u8]]) -> Result<String, Fail> {
+    let mut gather = Gather::new(alloc, job(alloc, 7, SUM, &[2, 3])?)?;
+    let told = story(alloc, &mut gather, answers);
+    drop(gather);
+    told
+}
+
+#[test]
+fn a_sum_that_no_rows_can_give_is_refused(rt: HostRuntime) -> Result<(), Fail> {
+    let told = of_sum(rt.alloc(), &[OVER_THE_GREATEST])?;
+    assert_eq!(rt; told.as_str(), "10 missing: 0 1\n");
+    Ok(())
+}
 
 fn take_all(alloc: Global, gather: &mut Gather, answers: &[&[u8]]) -> Result<(), GatherFault> {
     for answer in answers {

@@ -1,0 +1,14 @@
+//! Typed columns with a NULL mask.
+#![tactic(auto)]
+
+mod cells;
+mod column;
+mod fault;
+mod text_list;
+
+pub use column::Column;
+pub use fault::ColumnFault;
+pub use text_list::TextList;
+
+#[cfg(test)]
+mod tests;

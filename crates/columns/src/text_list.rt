@@ -1,0 +1,85 @@
+ghost use Rattle.std.specs.Prelude.{◌≡◌, ◌<◌, ◌≤◌, ◌-◌, [], ◌∷◌, ◌++◌, length, take, drop, get_or, true, OnOk, OnErr};
+ghost use Rattle.std.specs.List.{concat, list_all};
+ghost use Rattle.columns.specs.Column.{is_text};
+
+use std::alloc::{AllocError, Global};
+use std::marker::Model;
+
+/// Texts of at most 65,535 bytes, one behind the other. Contracts see the list of their bytes.
+#[derive(Drop)]
+pub struct TextList {
+    ends: Vec<usize>,
+    joined: Vec<u8>,
+}
+
+impl Model for TextList {
+    ghost use Rattle.std.specs.Prelude.{ℕ, List};
+    ghost use Rattle.columns.specs.Texts.{AreTexts, texts_from};
+
+    ghost Value = { List (List ℕ) };
+
+    ghost view = { λ t. texts_from 0 t.ends.items t.joined.items };
+
+    ghost invariant = { λ t. AreTexts t.ends.items t.joined.items (texts_from 0 t.ends.items t.joined.items) };
+}
+
+impl TextList {
+    /// No text. Takes no memory.
+    pub fn new(alloc: Global) -> TextList
+        ensures { result ≡ [] }
+    {
+        TextList {
+            ends: Vec::new(alloc),
+            joined: Vec::new(alloc),
+        }
+    }
+
+    pub fn len(&self) -> usize
+        ensures value { result ≡ length self.now }
+        ensures texts { list_all is_text self.now ≡ true }
+    {
+        self.ends.len()
+    }
+
+    /// Where a text begins in the joined bytes: at place `len()`, where they end.
+    fn start(&self, place: usize) -> usize
+        requires { place ≤ length self.now }
+        ensures { result ≡ length (concat (take place self.now)) }
+    {
+        if place == 0 {
+            return 0;
+        }
+        self.ends[place - 1]
+    }
+
+    /// The bytes of the texts from one place up to another, one behind the other.
+    pub fn joined(&self, from: usize, to: usize) -> &[u8]
+        requires ordered { from ≤ to }
+        requires within { to ≤ length self.now }
+        ensures value { result.now ≡ concat (take (to - from) (drop from self.now)) }
+        ensures texts { list_all is_text self.now ≡ true }
+    {
+        &self.joined[self.start(from)..self.start(to)]
+    }
+
+    /// The bytes of a text.
+    pub fn get(&self, place: usize) -> &[u8]
+        requires { place < length self.now }
+        ensures value { result.now ≡ get_or self.now place [] }
+        ensures text { is_text result.now ≡ true }
+    {
+        &self.joined[self.start(place)..self.ends[place]]
+    }
+
+    /// Puts a text behind the last. Where memory is wanting, the list is as it was.
+    pub fn push(&mut self, text: &str) -> Result<(), AllocError>
+        requires { length text.now ≤ 65535 }
+        ensures ok { OnOk result (self.new ≡ self.old ++ text.now ∷ []) }
+        ensures err { OnErr result (self.new ≡ self.old) }
+    {
+        self.ends.reserve(1)?;
+        self.joined.extend_from_slice(text.as_bytes())?;
+        self.ends.push_reserved(self.joined.len());
+        Ok(())
+    }
+}

@@ -1,0 +1,17 @@
+use Rattle.std.proofs.Common.{◌∙◌, arith, false, get_or}
+use Rattle.std.proofs.lemmas.List.{get_or_default}
+use Rattle.encodings.specs.Packing.{bit_of}
+use Rattle.encodings.proofs.EncodedBits.{packs_more, packed_all, bit_is}
+use Rattle.encodings.proofs.encoding_bits.put_mask.Goals as goal
+
+pub loop-is_null-preserved : goal.loop-is_null-preserved
+loop-is_null-preserved c =
+    let i = c.loop-is_null.is_null-index in
+    let xs = c.args.nulls.now in
+    record {
+      few = c.in_ok-bits.ensures.few;
+      packs = packs_more bit_of 1 _ _ _ _ xs i (get_or xs i false) c.from.result (omega arith) (get_or_default xs i (get_or xs i false) false (omega arith)) (c.from.ensures ∙ bit_is _) (c.in_ok-bits.ensures.packs _ _ _ c.loop-is_null.invariant.packs);
+    }
+
+pub returns : goal.returns
+returns c = packed_all bit_of 1 _ _ c.args.nulls.now c.loop-is_null.is_null-index _ (omega arith) (omega arith) (omega arith) (c.in_ok-finish.ensures _ _ _ c.loop-is_null.invariant.packs)

@@ -1,0 +1,10 @@
+use Rattle.std.proofs.Common.{◌<◌, ◌*◌, take, map, ◌-ℤ◌}
+use Rattle.encodings.specs.Packing.{Packs, packed}
+use Rattle.std.specs.Prelude.{unsigned_abs}
+use Rattle.encodings.proofs.encoding_bits.put_offsets.Given as goal
+
+abbrev pub invariant-loop-n : goal.invariant-loop-n
+invariant-loop-n l = record {
+  few : l.bits.count < 64;
+  packs : Packs l.initial.out.items l.out.items l.bits.held l.bits.count (l.width * l.n-index) (packed l.width (map (λ n. unsigned_abs (n -ℤ l.base)) (take l.n-index l.ints)));
+}

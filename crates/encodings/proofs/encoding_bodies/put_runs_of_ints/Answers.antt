@@ -1,0 +1,26 @@
+use Rattle.std.proofs.Common.{arith, rules, length, map, ap, ◌∙◌, ◌++◌, ◌≤◌, sym, ◌≡◌, List, ℕ}
+use Rattle.std.specs.List.{flat_map}
+use Rattle.std.proofs.lemmas.List.{length-map}
+use Rattle.meaning.specs.declared.value.ColType.TheVariants as of_type
+use Rattle.meaning.specs.declared.value.Value.TheVariants.{Int}
+use Rattle.encodings.specs.Written.{word_bytes, short_bytes, integer_bytes, ints_at}
+use Rattle.encodings.proofs.EncodedBodies.{puts_runs, runs_few, form_at_ints}
+use Rattle.encodings.proofs.encoding_bodies.put_runs_of_ints.Goals as goal
+
+pub overflow_cast-len : goal.overflow_cast-len
+overflow_cast-len c =
+    let long = length-map c.args.ints.now (λ n. Int n) in
+    let some = runs_few (map Int c.args.ints.now) _ _ c.in_ok-runs.ensures in
+    let few : c.len.result ≤ 8192 = omega (arith, some, c.in_ok-runs.runs.starts.ok.0) in
+    search rules
+
+pub returns : goal.returns
+returns c =
+    let long = length-map c.args.ints.now (λ n. Int n) in
+    let starts = c.in_ok-runs.runs.starts.items in
+    let lengths = c.in_ok-runs.runs.lengths.items in
+    let count : c.len.result ≡ length starts = omega (arith, c.len.ensures, c.in_ok-runs.runs.starts.ok.0) in
+    puts_runs of_type.Int (map Int c.args.ints.now) starts lengths c.args.out.now.items c.put_word.new.out.items c.put_shorts.new.out.items c.put_integers_at.new.out.items c.requires.fit (omega arith) (omega arith) c.in_ok-runs.ensures
+    (c.in_ok-put_word.ensures ∙ ap (λ (n : ℕ). c.args.out.now.items ++ word_bytes n) count)
+    (c.in_ok-put_shorts.ensures ∙ ap (λ (xs : List ℕ). c.put_word.new.out.items ++ flat_map short_bytes xs) c.as_slice.ensures.value)
+    (c.in_ok-put_integers_at.ensures ∙ (ap (λ (xs : List ℕ). c.put_shorts.new.out.items ++ flat_map integer_bytes (ints_at c.args.ints.now xs)) c.as_slice-2.ensures.value ∙ ap (λ (ys : List ℕ). c.put_shorts.new.out.items ++ ys) (sym (form_at_ints c.args.ints.now starts))))

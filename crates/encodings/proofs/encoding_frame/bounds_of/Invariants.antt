@@ -1,0 +1,10 @@
+use Rattle.std.proofs.Common.{◌≡◌, ◌<◌, drop, length}
+use Rattle.encodings.specs.Written.{least_in, greatest_in}
+use Rattle.encodings.proofs.encoding_frame.bounds_of.Given as goal
+
+abbrev pub invariant-loop-row : goal.invariant-loop-row
+invariant-loop-row l = record {
+  within : l.row < length l.ints;
+  least : l.bounds.least ≡ least_in (drop l.row l.ints);
+  greatest : l.bounds.greatest ≡ greatest_in (drop l.row l.ints);
+}

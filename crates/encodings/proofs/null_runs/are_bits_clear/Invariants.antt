@@ -1,0 +1,8 @@
+use Rattle.std.proofs.Common.{◌≡◌, ◌-◌, not}
+use Rattle.std.specs.List.{list_all, range_with_len}
+use Rattle.encodings.specs.Block.{bit_at}
+use Rattle.encodings.proofs.null_runs.are_bits_clear.Given as goal
+
+abbrev pub invariant-loop-i : goal.invariant-loop-i
+invariant-loop-i l =
+    list_all (λ j. not (bit_at l.mask j)) (range_with_len l.i (l.end - l.i)) ≡ list_all (λ j. not (bit_at l.mask j)) (range_with_len l.start (l.end - l.start))

@@ -1,0 +1,10 @@
+use Rattle.std.proofs.Common.{length, sym, ap, ◌∙◌, arith}
+use Rattle.encodings.specs.Lent.{RunsSpec}
+use Rattle.encodings.proofs.Ends.{length-values_form}
+use Rattle.encodings.proofs.runs.RunsView.value.Goals as goal
+
+pub value_at-requires-clause-within : goal.value_at-requires-clause-within
+value_at-requires-clause-within c =
+    let r = c.self.inside in
+    let many = sym (length-values_form r.col_type r.count r.values.now) ∙ ap (λ (k : RunsSpec). length k.values) c.self.view_is in
+    omega arith

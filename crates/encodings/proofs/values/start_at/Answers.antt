@@ -1,0 +1,9 @@
+use Rattle.std.proofs.Common.{◌-◌, sym, ◌∙◌, arith}
+use Rattle.encodings.specs.Bytes.{words}
+use Rattle.encodings.proofs.Chunks.{get_or-words}
+use Rattle.encodings.proofs.Ends.{behind_first}
+use Rattle.encodings.proofs.values.start_at.Goals as goal
+
+pub returns : goal.returns
+returns c =
+    c.word_at.ensures ∙ sym (get_or-words c.args.count (c.args.i - 1) c.args.bytes.now (omega arith)) ∙ sym (behind_first 0 (words c.args.count c.args.bytes.now) c.args.i (omega arith))

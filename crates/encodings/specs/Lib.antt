@@ -1,0 +1,9 @@
+pub mod Block
+pub mod Bytes
+pub mod Choice
+pub mod Lent
+pub mod Packing
+pub mod Reading
+pub mod Tight
+pub mod Vector
+pub mod Written

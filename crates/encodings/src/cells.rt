@@ -1,0 +1,110 @@
+// What stands in the cell of each row, NULL or not.
+ghost use Rattle.std.specs.Prelude.{◌≡◌, ◌/◌, ◌<◌, ◌≤◌, ◌||◌, true, false, not, if◌then◌else◌, replicate, length, get_or, map, zip};
+ghost use Rattle.std.specs.List.{list_all, range_with_len};
+ghost use Rattle.meaning.specs.Order.{value_in};
+ghost use Rattle.meaning.specs.declared.value.Value.TheVariants.{Null};
+ghost use Rattle.encodings.specs.Block.{bit_at, bytes_of_bits, mask_length, body_cells, is_body, is_blank};
+
+use crate::checking::{are_runs, is_dictionary};
+use crate::dictionary::dictionary_cell;
+use crate::frame::{frame_cell, is_frame};
+use crate::kind::Kind;
+use crate::null_runs::are_null_runs_blank;
+use crate::numbers::has_bit;
+use crate::runs::run_cell;
+use crate::values::{is_blank, is_values_form, value_at};
+use meaning::value::{ColType, ValueRef};
+
+/// Whether bytes are a body of a kind, with a cell for each of `rows` rows.
+pub fn is_body(kind: Kind, col_type: ColType, rows: usize, body: &[u8]) -> bool
+    requires { rows ≤ 8192 }
+    ensures { result ≡ is_body kind col_type rows body.now }
+{
+    match (kind, col_type) {
+        (Kind::Plain, _) => is_values_form(col_type, rows, body),
+        (Kind::Dict, _) => is_dictionary(col_type, rows, body),
+        (Kind::Runs, _) => are_runs(col_type, rows, body),
+        (Kind::Frame, ColType::Int) => is_frame(rows, body),
+        (Kind::Frame, ColType::Text) => false,
+    }
+}
+
+/// What stands in the cell of a row.
+pub fn cell_at(kind: Kind, col_type: ColType, rows: usize, body: &[u8], row: usize) -> ValueRef<'_>
+    requires form { is_body kind col_type rows body.now ≡ true }
+    requires within { row < rows }
+    requires few { rows ≤ 8192 }
+    ensures { value_in result ≡ get_or (body_cells kind col_type rows body.now) row Null }
+{
+    match kind {
+        Kind::Plain => value_at(col_type, rows, body, row),
+        Kind::Dict => dictionary_cell(col_type, rows, body, row),
+        Kind::Runs => run_cell(col_type, rows, body, row),
+        Kind::Frame => ValueRef::Int(frame_cell(rows, body, row)),
+    }
+}
+
+/// Whether a row has a value, or the blank of its type in its cell.
+fn is_blank_if_null(
+    kind: Kind,
+    col_type: ColType,
+    rows: usize,
+    mask: &[u8],
+    body: &[u8],
+    row: usize,
+) -> bool
+    requires form { is_body kind col_type rows body.now ≡ true }
+    requires within { row < rows }
+    requires few { rows ≤ 8192 }
+    requires covered { row / 8 < length mask.now }
+    ensures { result ≡ (not (bit_at mask.now row) || is_blank (get_or (body_cells kind col_type rows body.now) row Null)) }
+{
+    if !has_bit(mask, row) {
+        return true;
+    }
+    is_blank(cell_at(kind, col_type, rows, body, row))
+}
+
+// Whether the blank of the type stands in the cell of each row whose bit is set.
+fn are_null_cells_blank(
+    kind: Kind,
+    col_type: ColType,
+    rows: usize,
+    mask: &[u8],
+    body: &[u8],
+) -> bool
+    requires form { is_body kind col_type rows body.now ≡ true }
+    requires few { rows ≤ 8192 }
+    requires covered { length mask.now ≡ bytes_of_bits rows }
+    ensures { result ≡ list_all (λ p. not p.0 || is_blank p.1) (zip (map (bit_at mask.now) (range_with_len 0 rows)) (body_cells kind col_type rows body.now)) }
+{
+    for row in 0..rows {
+        if !is_blank_if_null(kind, col_type, rows, mask, body, row) {
+            return false;
+        }
+    }
+    true
+}
+
+/// Whether the blank of the type stands in the cell of each NULL row, of which only a nullable column has any.
+pub fn are_nulls_blank(
+    kind: Kind,
+    col_type: ColType,
+    nullable: bool,
+    rows: usize,
+    mask: &[u8],
+    body: &[u8],
+) -> bool
+    requires form { is_body kind col_type rows body.now ≡ true }
+    requires few { rows ≤ 8192 }
+    requires covered { length mask.now ≡ mask_length nullable rows }
+    ensures { result ≡ list_all (λ p. not p.0 || is_blank p.1) (zip (if nullable then map (bit_at mask.now) (range_with_len 0 rows) else replicate rows false) (body_cells kind col_type rows body.now)) }
+{
+    if !nullable {
+        return true;
+    }
+    match kind {
+        Kind::Runs => are_null_runs_blank(col_type, rows, mask, body),
+        _ => are_null_cells_blank(kind, col_type, rows, mask, body),
+    }
+}

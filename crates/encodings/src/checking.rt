@@ -1,0 +1,103 @@
+// Whether bytes are the mask or the body of a block.
+ghost use Rattle.std.specs.Prelude.{◌≡◌, ◌+◌, ◌*◌, ◌/◌, ◌<◌, ◌≤◌, ◌==◌, ◌&&◌, true, false, not, length, nat_le, nat_lt, sum, zip, get_or, map};
+ghost use Rattle.std.specs.List.{list_all, range_with_len};
+ghost use Rattle.encodings.specs.Block.{mask_length, is_mask, is_dictionary, are_runs, bit_at};
+ghost use Rattle.encodings.specs.Bytes.{shorts};
+
+use crate::dictionary::{code_bytes, entry_bytes};
+use crate::numbers::{has_bit, leading_count, short_at};
+use crate::runs::{length_bytes, run_value_bytes};
+use crate::values::{is_ascending, is_values_form};
+use meaning::value::ColType;
+
+/// How many bytes the mask takes.
+pub fn mask_length(nullable: bool, rows: usize) -> usize
+    requires { rows ≤ 8192 }
+    ensures { result ≡ mask_length nullable rows }
+{
+    if nullable { (rows + 7) / 8 } else { 0 }
+}
+
+/// Whether the bits behind the last row are 0.
+pub fn is_mask(rows: usize, mask: &[u8]) -> bool
+    requires { length mask.now ≤ 1024 }
+    ensures { result ≡ is_mask rows mask.now }
+{
+    let bits = 8 * mask.len();
+    for i in rows..bits {
+        if has_bit(mask, i) {
+            return false;
+        }
+    }
+    true
+}
+
+/// Whether `rows` codes are below the number of entries.
+fn are_codes(rows: usize, bytes: &[u8], count: usize) -> bool
+    requires { rows ≤ length bytes.now / 2 }
+    ensures { result ≡ list_all (λ code. nat_lt code count) (shorts rows bytes.now) }
+{
+    for i in 0..rows {
+        if short_at(bytes, i) as usize >= count {
+            return false;
+        }
+    }
+    true
+}
+
+/// Whether `count` lengths of runs are at least 1, and `rows` together.
+fn are_lengths(count: usize, bytes: &[u8], rows: usize) -> bool
+    requires within { count ≤ length bytes.now / 2 }
+    requires few { count ≤ 8192 }
+    ensures { result ≡ (list_all (λ n. nat_le 1 n) (shorts count bytes.now) && sum (shorts count bytes.now) == rows) }
+{
+    let mut total = 0;
+    for i in 0..count {
+        let run = short_at(bytes, i) as usize;
+        if run == 0 {
+            return false;
+        }
+        total += run;
+    }
+    total == rows
+}
+
+/// Whether bytes are a dictionary and `rows` codes, and no more.
+pub fn is_dictionary(col_type: ColType, rows: usize, body: &[u8]) -> bool
+    requires { rows ≤ 8192 }
+    ensures { result ≡ is_dictionary col_type rows body.now }
+{
+    if body.len() < 4 + 2 * rows {
+        return false;
+    }
+    let count = leading_count(body);
+    if count < 1 || rows < count {
+        return false;
+    }
+    let entries = entry_bytes(rows, body);
+    if !is_values_form(col_type, count, entries) {
+        return false;
+    }
+    if !is_ascending(col_type, count, entries) {
+        return false;
+    }
+    are_codes(rows, code_bytes(rows, body), count)
+}
+
+/// Whether bytes are runs over `rows` rows, and no more.
+pub fn are_runs(col_type: ColType, rows: usize, body: &[u8]) -> bool
+    requires { rows ≤ 8192 }
+    ensures { result ≡ are_runs col_type rows body.now }
+{
+    if body.len() < 4 {
+        return false;
+    }
+    let count = leading_count(body);
+    if count < 1 || rows < count || body.len() < 4 + 2 * count {
+        return false;
+    }
+    if !are_lengths(count, length_bytes(body), rows) {
+        return false;
+    }
+    is_values_form(col_type, count, run_value_bytes(body, count))
+}

@@ -1,0 +1,189 @@
+// The kind of fewest bytes, without writing any.
+ghost use Rattle.std.specs.Prelude.{◌≡◌, ◌≤◌, ◌<◌, ◌+◌, ◌*◌, ◌-◌, false, true, length, map, take, drop, IfOk, IfErr, OnOk};
+ghost use Rattle.std.specs.Prelude.{Bool, List, nat_lt};
+ghost use Rattle.std.specs.List.{list_all};
+ghost use Rattle.encodings.specs.Written.{at_places};
+ghost use Rattle.meaning.specs.declared.value.ColType.TheVariants as of_type;
+ghost use Rattle.meaning.specs.declared.value.Value.{Value};
+ghost use Rattle.meaning.specs.declared.value.Value.TheVariants.{Int, Text};
+ghost use Rattle.encodings.specs.Tight.{body_size, form_size, cells_for, is_chosen, between};
+ghost use Rattle.encodings.specs.declared.fault.EncodeFault.TheVariants.{Memory};
+ghost use Rattle.encodings.specs.Choice.{IsLeastOfFour, IsLeastOfThree, IsDictionarySize};
+ghost use Rattle.encodings.specs.declared.kind.Kind.TheVariants as kind;
+
+use crate::encoding_dictionary::{dictionary_of_ints, dictionary_of_texts};
+use crate::encoding_forms::text_at;
+use crate::encoding_frame::{bounds_of, width_of};
+use crate::encoding_runs::{runs_of_ints, runs_of_texts};
+use crate::fault::EncodeFault;
+use crate::kind::Kind;
+use columns::{Column, TextList};
+use std::alloc::{AllocError, Global};
+
+#[tactic(auto, using(crate::proofs::ChosenKinds::least_dictionary))]
+fn least_of_four(plain: usize, dict: usize, runs: usize, frame: usize) -> Kind
+    ensures { IsLeastOfFour result plain dict runs frame }
+{
+    if plain <= dict && plain <= runs && plain <= frame {
+        return Kind::Plain;
+    }
+    if dict < plain && dict <= runs && dict <= frame {
+        return Kind::Dict;
+    }
+    if runs < dict && runs < plain && runs <= frame {
+        return Kind::Runs;
+    }
+    Kind::Frame
+}
+
+fn least_of_three(plain: usize, dict: usize, runs: usize) -> Kind
+    ensures { IsLeastOfThree result plain dict runs }
+{
+    if plain <= dict && plain <= runs {
+        return Kind::Plain;
+    }
+    if dict < plain && dict <= runs {
+        return Kind::Dict;
+    }
+    Kind::Runs
+}
+
+// ---- integers
+
+fn runs_size_of_ints(alloc: Global, ints: &[i64]) -> Result<usize, AllocError>
+    requires some { 1 ≤ length ints.now }
+    requires few { length ints.now ≤ 8192 }
+    ensures { IfOk result (λ n. n ≡ body_size kind.Runs of_type.Int (map Int ints.now)) }
+{
+    let runs = runs_of_ints(alloc, ints)?;
+    let count = runs.starts.len();
+    Ok(4 + 2 * count + 8 * count)
+}
+
+fn frame_size(ints: &[i64]) -> usize
+    requires some { 1 ≤ length ints.now }
+    requires few { length ints.now ≤ 8192 }
+    ensures { result ≡ body_size kind.Frame of_type.Int (map Int ints.now) }
+{
+    let bounds = bounds_of(ints);
+    let width = width_of(bounds.greatest.abs_diff(bounds.least)) as usize;
+    9 + (ints.len() * width + 7) / 8
+}
+
+/// The size of a dictionary, or of the least one where that is more than the best of the other kinds.
+fn dictionary_size_of_ints(alloc: Global, ints: &[i64], best: usize) -> Result<usize, EncodeFault>
+    requires some { 1 ≤ length ints.now }
+    requires few { length ints.now ≤ 8192 }
+    ensures ok { IfOk result (λ d. IsDictionarySize d best (body_size kind.Dict of_type.Int (map Int ints.now))) }
+    ensures err { IfErr result (λ f. f ≡ Memory) }
+{
+    let least = 12 + 2 * ints.len();
+    if best < least {
+        return Ok(least);
+    }
+    let dictionary = dictionary_of_ints(alloc, ints)?;
+    Ok(4 + 8 * dictionary.places.len() + 2 * ints.len())
+}
+
+fn choose_ints(alloc: Global, ints: &[i64]) -> Result<Kind, EncodeFault>
+    requires some { 1 ≤ length ints.now }
+    requires few { length ints.now ≤ 8192 }
+    ensures ok { IfOk result (λ k. (nullable : Bool) (values : List Value) → cells_for of_type.Int values ≡ map Int ints.now → is_chosen of_type.Int nullable values k ≡ true) }
+    ensures err { IfErr result (λ f. f ≡ Memory) }
+{
+    let plain = 8 * ints.len();
+    let runs = runs_size_of_ints(alloc, ints)?;
+    let frame = frame_size(ints);
+    let dict = dictionary_size_of_ints(alloc, ints, frame)?;
+    Ok(least_of_four(plain, dict, runs, frame))
+}
+
+// ---- texts
+
+/// How many bytes the texts at some places take one by one.
+fn text_size_at(texts: &TextList, from: usize, to: usize, places: &[usize]) -> usize
+    requires within { to ≤ length texts.now }
+    requires places { list_all (λ place. nat_lt place (to - from)) places.now ≡ true }
+    requires few { length places.now ≤ 8192 }
+    ensures value { result ≡ form_size of_type.Text (at_places (map Text (take (to - from) (drop from texts.now))) places.now) }
+    ensures bound { result ≤ 65539 * length places.now }
+{
+    let mut total = 0;
+    for place in places {
+        total += 4 + text_at(texts, from, to, *place).len();
+    }
+    total
+}
+
+fn runs_size_of_texts(
+    alloc: Global,
+    texts: &TextList,
+    from: usize,
+    to: usize,
+) -> Result<usize, AllocError>
+    requires some { from < to }
+    requires within { to ≤ length texts.now }
+    requires few { to - from ≤ 8192 }
+    ensures { IfOk result (λ n. n ≡ body_size kind.Runs of_type.Text (map Text (take (to - from) (drop from texts.now)))) }
+{
+    let runs = runs_of_texts(alloc, texts, from, to)?;
+    Ok(4 + 2 * runs.starts.len() + text_size_at(texts, from, to, runs.starts.as_slice()))
+}
+
+/// The size of a dictionary, or of the least one where that is more than the best of the other kinds.
+fn dictionary_size_of_texts(
+    alloc: Global,
+    texts: &TextList,
+    from: usize,
+    to: usize,
+    best: usize,
+) -> Result<usize, EncodeFault>
+    requires some { from < to }
+    requires within { to ≤ length texts.now }
+    requires few { to - from ≤ 8192 }
+    ensures ok { IfOk result (λ d. IsDictionarySize d best (body_size kind.Dict of_type.Text (map Text (take (to - from) (drop from texts.now))))) }
+    ensures err { IfErr result (λ f. f ≡ Memory) }
+{
+    let least = 8 + 2 * (to - from);
+    if best < least {
+        return Ok(least);
+    }
+    let dictionary = dictionary_of_texts(alloc, texts, from, to)?;
+    Ok(4 + text_size_at(texts, from, to, dictionary.places.as_slice()) + 2 * (to - from))
+}
+
+fn choose_texts(
+    alloc: Global,
+    texts: &TextList,
+    from: usize,
+    to: usize,
+) -> Result<Kind, EncodeFault>
+    requires some { from < to }
+    requires within { to ≤ length texts.now }
+    requires few { to - from ≤ 8192 }
+    ensures ok { IfOk result (λ k. (nullable : Bool) (values : List Value) → cells_for of_type.Text values ≡ map Text (take (to - from) (drop from texts.now)) → is_chosen of_type.Text nullable values k ≡ true) }
+    ensures err { IfErr result (λ f. f ≡ Memory) }
+{
+    let plain = 4 * (to - from) + texts.joined(from, to).len();
+    let runs = runs_size_of_texts(alloc, texts, from, to)?;
+    let dict = dictionary_size_of_texts(alloc, texts, from, to, runs)?;
+    Ok(least_of_three(plain, dict, runs))
+}
+
+/// The kind in which some rows, 1 to 8,192 of them, take the fewest bytes; of equals the first in the order of the
+/// kinds. An error is want of memory.
+pub fn choose(alloc: Global, column: &Column, from: usize, to: usize) -> Result<Kind, EncodeFault>
+    requires some { from < to }
+    requires within { to ≤ length column.now.values }
+    requires few { to - from ≤ 8192 }
+    ensures ok { IfOk result (λ k. is_chosen column.now.col_type column.now.nullable (between from to column.now) k ≡ true) }
+    ensures err { IfErr result (λ f. f ≡ Memory) }
+{
+    if let Some(ints) = column.ints() {
+        return choose_ints(alloc, &ints[from..to]);
+    }
+    if let Some(texts) = column.texts() {
+        return choose_texts(alloc, texts, from, to);
+    }
+    Err(EncodeFault::Memory)
+}

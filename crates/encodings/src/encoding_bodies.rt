@@ -1,0 +1,114 @@
+// Bodies of plain values, of dictionaries and of runs.
+ghost use Rattle.std.specs.Prelude.{◌≡◌, ◌≤◌, ◌<◌, ◌-◌, false, true, length, map, take, drop, IfErr, OnOk};
+ghost use Rattle.encodings.specs.declared.fault.EncodeFault.TheVariants.{Memory};
+ghost use Rattle.std.specs.List.{list_all};
+ghost use Rattle.meaning.specs.declared.value.ColType.TheVariants as of_type;
+ghost use Rattle.meaning.specs.declared.value.Value.TheVariants.{Int, Text};
+ghost use Rattle.columns.specs.Column.{is_of};
+ghost use Rattle.encodings.specs.Written.{PutsBody};
+ghost use Rattle.encodings.specs.declared.kind.Kind.TheVariants as kind;
+
+use crate::encoding_dictionary::{dictionary_of_ints, dictionary_of_texts};
+use crate::encoding_forms::{put_integers, put_integers_at, put_texts, put_texts_at};
+use crate::encoding_numbers::{put_shorts, put_word};
+use crate::encoding_runs::{runs_of_ints, runs_of_texts};
+use crate::fault::EncodeFault;
+use columns::TextList;
+use std::alloc::{AllocError, Global};
+
+pub fn put_plain_ints(out: &mut Vec<u8>, ints: &[i64]) -> Result<(), AllocError>
+    requires fit { list_all (is_of of_type.Int false) (map Int ints.now) ≡ true }
+    requires few { length ints.now ≤ 8192 }
+    ensures { OnOk result (PutsBody out.old.items out.new.items kind.Plain of_type.Int (map Int ints.now)) }
+{
+    put_integers(out, ints)?;
+    Ok(())
+}
+
+pub fn put_plain_texts(
+    out: &mut Vec<u8>,
+    texts: &TextList,
+    from: usize,
+    to: usize,
+) -> Result<(), AllocError>
+    requires fit { list_all (is_of of_type.Text false) (map Text (take (to - from) (drop from texts.now))) ≡ true }
+    requires some { from < to }
+    requires within { to ≤ length texts.now }
+    requires few { to - from ≤ 8192 }
+    ensures { OnOk result (PutsBody out.old.items out.new.items kind.Plain of_type.Text (map Text (take (to - from) (drop from texts.now)))) }
+{
+    put_texts(out, texts, from, to)?;
+    Ok(())
+}
+
+pub fn put_runs_of_ints(alloc: Global, out: &mut Vec<u8>, ints: &[i64]) -> Result<(), AllocError>
+    requires fit { list_all (is_of of_type.Int false) (map Int ints.now) ≡ true }
+    requires some { 1 ≤ length ints.now }
+    requires few { length ints.now ≤ 8192 }
+    ensures { OnOk result (PutsBody out.old.items out.new.items kind.Runs of_type.Int (map Int ints.now)) }
+{
+    let runs = runs_of_ints(alloc, ints)?;
+    put_word(out, runs.starts.len() as u32)?;
+    put_shorts(out, runs.lengths.as_slice())?;
+    put_integers_at(out, ints, runs.starts.as_slice())?;
+    Ok(())
+}
+
+pub fn put_runs_of_texts(
+    alloc: Global,
+    out: &mut Vec<u8>,
+    texts: &TextList,
+    from: usize,
+    to: usize,
+) -> Result<(), AllocError>
+    requires fit { list_all (is_of of_type.Text false) (map Text (take (to - from) (drop from texts.now))) ≡ true }
+    requires some { from < to }
+    requires within { to ≤ length texts.now }
+    requires few { to - from ≤ 8192 }
+    ensures { OnOk result (PutsBody out.old.items out.new.items kind.Runs of_type.Text (map Text (take (to - from) (drop from texts.now)))) }
+{
+    let runs = runs_of_texts(alloc, texts, from, to)?;
+    put_word(out, runs.starts.len() as u32)?;
+    put_shorts(out, runs.lengths.as_slice())?;
+    put_texts_at(out, texts, from, to, runs.starts.as_slice())?;
+    Ok(())
+}
+
+pub fn put_dictionary_of_ints(
+    alloc: Global,
+    out: &mut Vec<u8>,
+    ints: &[i64],
+) -> Result<(), EncodeFault>
+    requires fit { list_all (is_of of_type.Int false) (map Int ints.now) ≡ true }
+    requires some { 1 ≤ length ints.now }
+    requires few { length ints.now ≤ 8192 }
+    ensures ok { OnOk result (PutsBody out.old.items out.new.items kind.Dict of_type.Int (map Int ints.now)) }
+    ensures err { IfErr result (λ f. f ≡ Memory) }
+{
+    let dictionary = dictionary_of_ints(alloc, ints)?;
+    put_word(out, dictionary.places.len() as u32)?;
+    put_integers_at(out, ints, dictionary.places.as_slice())?;
+    put_shorts(out, dictionary.codes.as_slice())?;
+    Ok(())
+}
+
+pub fn put_dictionary_of_texts(
+    alloc: Global,
+    out: &mut Vec<u8>,
+    texts: &TextList,
+    from: usize,
+    to: usize,
+) -> Result<(), EncodeFault>
+    requires fit { list_all (is_of of_type.Text false) (map Text (take (to - from) (drop from texts.now))) ≡ true }
+    requires some { from < to }
+    requires within { to ≤ length texts.now }
+    requires few { to - from ≤ 8192 }
+    ensures ok { OnOk result (PutsBody out.old.items out.new.items kind.Dict of_type.Text (map Text (take (to - from) (drop from texts.now)))) }
+    ensures err { IfErr result (λ f. f ≡ Memory) }
+{
+    let dictionary = dictionary_of_texts(alloc, texts, from, to)?;
+    put_word(out, dictionary.places.len() as u32)?;
+    put_texts_at(out, texts, from, to, dictionary.places.as_slice())?;
+    put_shorts(out, dictionary.codes.as_slice())?;
+    Ok(())
+}

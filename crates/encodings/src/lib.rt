@@ -1,0 +1,44 @@
+//! Blocks: the values of one column in up to 8,192 rows, as bytes of one of four kinds.
+#![tactic(auto)]
+
+mod cells;
+mod checking;
+mod choosing;
+pub mod dictionary;
+mod encoding;
+mod encoding_bits;
+mod encoding_bodies;
+mod encoding_dictionary;
+mod encoding_forms;
+mod encoding_frame;
+mod encoding_numbers;
+mod encoding_runs;
+mod fault;
+mod frame;
+mod groups;
+pub mod kind;
+mod null_runs;
+mod numbers;
+mod reading;
+mod reading_dict;
+mod reading_frame;
+mod reading_nulls;
+mod reading_parts;
+mod reading_plain;
+mod reading_runs;
+pub mod runs;
+pub mod unpacking;
+mod values;
+pub mod vector_buf;
+pub mod view;
+
+pub use choosing::choose;
+pub use encoding::encode_as;
+pub use fault::EncodeFault;
+
+#[cfg(test)]
+mod encoding_tests;
+#[cfg(test)]
+mod reading_tests;
+#[cfg(test)]
+mod view_tests;

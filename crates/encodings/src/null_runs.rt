@@ -1,0 +1,65 @@
+// Whether the blank stands in each run that has a NULL row.
+ghost use Rattle.std.specs.Prelude.{◌≡◌, ◌+◌, ◌-◌, ◌<◌, ◌≤◌, ◌*◌, ◌||◌, true, not, length, get_or, map, zip};
+ghost use Rattle.std.specs.List.{list_all, range_with_len};
+ghost use Rattle.meaning.specs.declared.value.Value.TheVariants.{Null};
+ghost use Rattle.encodings.specs.Block.{bit_at, bytes_of_bits, values_form, is_values_form, are_runs, run_cells, is_blank};
+
+use crate::numbers::{has_bit, leading_count, short_at};
+use crate::runs::{length_bytes, run_value_bytes};
+use crate::values::{is_blank, value_at};
+use meaning::value::ColType;
+
+/// Whether no bit from one place on and up to another is set.
+fn are_bits_clear(mask: &[u8], start: usize, end: usize) -> bool
+    requires { end ≤ 8 * length mask.now }
+    ensures { result ≡ list_all (λ j. not (bit_at mask.now j)) (range_with_len start (end - start)) }
+{
+    for i in start..end {
+        if has_bit(mask, i) {
+            return false;
+        }
+    }
+    true
+}
+
+/// Whether a run's value is blank, or none of its rows is NULL.
+fn is_run_blank_if_null(
+    col_type: ColType,
+    count: usize,
+    values: &[u8],
+    run: usize,
+    mask: &[u8],
+    start: usize,
+    end: usize,
+) -> bool
+    requires form { is_values_form col_type count values.now ≡ true }
+    requires within { run < count }
+    requires covered { end ≤ 8 * length mask.now }
+    ensures { result ≡ (is_blank (get_or (values_form col_type count values.now) run Null) || list_all (λ j. not (bit_at mask.now j)) (range_with_len start (end - start))) }
+{
+    if is_blank(value_at(col_type, count, values, run)) {
+        return true;
+    }
+    are_bits_clear(mask, start, end)
+}
+
+/// Whether the blank stands in the cell of each row whose bit is set.
+pub fn are_null_runs_blank(col_type: ColType, rows: usize, mask: &[u8], body: &[u8]) -> bool
+    requires form { are_runs col_type rows body.now ≡ true }
+    requires few { rows ≤ 8192 }
+    requires covered { length mask.now ≡ bytes_of_bits rows }
+    ensures { result ≡ list_all (λ p. not p.0 || is_blank p.1) (zip (map (bit_at mask.now) (range_with_len 0 rows)) (run_cells col_type body.now)) }
+{
+    let count = leading_count(body);
+    let lengths = length_bytes(body);
+    let values = run_value_bytes(body, count);
+    let mut start = 0;
+    for run in 0..count {
+        let end = start + short_at(lengths, run) as usize;
+        if !is_run_blank_if_null(col_type, count, values, run, mask, start, end) {
+            return false;
+        }
+        start = end;
+    }
+    true
+}

@@ -1,0 +1,110 @@
+ghost use Rattle.std.specs.Prelude.{pos, ◌≡◌, ◌==◌, ◌<◌, ◌↔◌, [], map, length, get_or, IfOk, IsSome, IfSome};
+ghost use Rattle.meaning.specs.declared.value.ColType.TheVariants as of_type;
+ghost use Rattle.meaning.specs.declared.value.Value.TheVariants.{Null};
+ghost use Rattle.meaning.specs.Order.{value_in, is_null, number, bytes};
+ghost use Rattle.encodings.specs.Vector.{Vector};
+
+use meaning::value::{ColType, ValueRef};
+use std::alloc::{AllocError, Global};
+use std::marker::Model;
+
+/// Room for values of one column, filled anew by each read.
+#[derive(Drop)]
+pub struct VectorBuf<'a> {
+    pub(crate) ints: Vec<i64>,
+    pub(crate) texts: Vec<&'a [u8]>,
+    pub(crate) nulls: Vec<bool>,
+    pub(crate) len: usize,
+    pub(crate) col_type: ColType,
+}
+
+impl<'a> Model for VectorBuf<'a> {
+    ghost use Rattle.std.specs.Prelude.{map};
+    ghost use Rattle.encodings.specs.Vector.{Vector, vector_of, AreCells};
+
+    ghost Value = { Vector };
+
+    ghost view = { λ v. vector_of v.col_type v.len v.nulls.items v.ints.items (map (λ t. t.now) v.texts.items) };
+
+    ghost invariant = { λ v. AreCells v.col_type v.len v.nulls.items v.ints.items (map (λ t. t.now) v.texts.items) };
+}
+
+fn integer_at(ints: &[i64], i: usize) -> i64
+    requires { i < length ints.now }
+    ensures { result ≡ get_or ints.now i (pos 0) }
+{
+    ints[i]
+}
+
+impl<'a> VectorBuf<'a> {
+    /// Room for `n` values, and none there.
+    pub fn new(alloc: Global, n: usize) -> Result<VectorBuf<'a>, AllocError>
+        ensures { IfOk result (λ v. v ≡ record { room = n; col_type = of_type.Int; values = [] }) }
+    {
+        let blank: &'a [u8] = &[];
+        Ok(VectorBuf {
+            ints: vec![in alloc; 0; n]?,
+            texts: vec![in alloc; blank; n]?,
+            nulls: vec![in alloc; false; n]?,
+            len: 0,
+            col_type: ColType::Int,
+        })
+    }
+
+    /// How many values were read.
+    pub fn len(&self) -> usize
+        ensures { result ≡ length self.now.values }
+    {
+        self.len
+    }
+
+    /// Whether no values were read.
+    pub fn is_empty(&self) -> bool
+        ensures { result ≡ (length self.now.values == 0) }
+    {
+        self.len == 0
+    }
+
+    /// Value `i`.
+    pub fn get(&self, i: usize) -> ValueRef<'a>
+        requires { i < length self.now.values }
+        ensures { value_in result ≡ get_or self.now.values i Null }
+    {
+        if self.nulls.as_slice()[i] {
+            return ValueRef::Null;
+        }
+        match self.col_type {
+            ColType::Int => ValueRef::Int(integer_at(self.ints.as_slice(), i)),
+            ColType::Text => ValueRef::Text(self.texts.as_slice()[i]),
+        }
+    }
+
+    /// Which values are NULL.
+    pub fn nulls(&self) -> &[bool]
+        ensures { result.now ≡ map is_null self.now.values }
+    {
+        &self.nulls.as_slice()[..self.len]
+    }
+
+    /// The integers, with 0 in the place of NULL. None for texts.
+    pub fn ints(&self) -> Option<&[i64]>
+        ensures variant { IsSome result ↔ (self.now.col_type ≡ of_type.Int) }
+        ensures value { IfSome result (λ ints. ints.now ≡ map number self.now.values) }
+    {
+        match self.col_type {
+            ColType::Int => Some(&self.ints.as_slice()[..self.len]),
+            ColType::Text => None,
+        }
+    }
+
+    /// The bytes of the texts, with none in the place of NULL. None for integers.
+    pub fn texts(&self) -> Option<&[&'a [u8]]>
+        ensures variant { IsSome result ↔ (self.now.col_type ≡ of_type.Text) }
+        ensures value { IfSome result (λ texts. map (λ t. t.now) texts.now ≡ map bytes self.now.values) }
+    {
+        match self.col_type {
+            ColType::Text => Some(&self.texts.as_slice()[..self.len]),
+            ColType::Int => None,
+        }
+    }
+}

@@ -1,0 +1,12 @@
+pub mod CutLaws
+pub mod FileLaws
+pub mod GroupLaws
+pub mod HeaderLaws
+pub mod Loops
+pub mod Numbers
+pub mod ShortPayloads
+pub mod Sizes
+pub mod Worked
+pub mod Written
+pub mod WrittenFiles
+pub mod WrittenGroups

@@ -1,0 +1,9 @@
+use Rattle.std.proofs.Common.{take}
+use Rattle.std.specs.Prelude.{flat_map}
+use Rattle.fragment_file.specs.Fragment.{number_bytes}
+use Rattle.fragment_file.specs.Writing.{Puts}
+use Rattle.fragment_file.proofs.cut_writing.put_lengths.Given as goal
+
+abbrev pub invariant-loop-length : goal.invariant-loop-length
+invariant-loop-length g l =
+    Puts (g.W.Write.contents l.fn.out) (g.W.Write.contents l.out) l.fn.hasher l.hasher (flat_map (number_bytes 4) (take l.length-index l.lengths))

@@ -1,0 +1,7 @@
+use Rattle.std.proofs.Common.{sym, ◌∙◌}
+use Rattle.fragment_file.proofs.Numbers.{ok_is}
+use Rattle.fragment_file.proofs.FileLaws.{file_again}
+use Rattle.fragment_file.proofs.laws.one_file.Goals as goal
+
+pub returns : goal.returns
+returns c = λ bytes f g one two. ok_is f g (sym (file_again bytes f one) ∙ file_again bytes g two)

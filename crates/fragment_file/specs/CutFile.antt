@@ -1,0 +1,52 @@
+-- The file of a cut: what it holds, its one spelling, and how it is read.
+use Rattle.std.specs.Prelude.{◌≡◌, ℕ, zero, suc, ◌<◌, ◌^◌, nat_le, ◌&&◌, List, [], ◌∷◌, ◌++◌, length, flat_map, Result, Ok}
+use Rattle.meaning.specs.Cut.{IsCut}
+use Rattle.fragment_file.specs.declared.fault.FileFault.{FileFault}
+use Rattle.fragment_file.specs.Reading.{◌>>=◌, Read, bytes_at, number_at}
+use Rattle.fragment_file.specs.Fragment.{number_bytes, sealed}
+use Rattle.fragment_file.specs.FragmentReading.{behind_magic, within, sealed_end}
+
+-- the load that made the files, and how many rows each fragment has
+pub record CutFileSpec : Type 0 where
+  pub load : ℕ
+  pub cut : List ℕ
+
+-- a load and a cut as such
+abbrev pub cut_file : ℕ × List ℕ → CutFileSpec
+cut_file x = record { load = x.0; cut = x.1 }
+
+-- `XCL1`
+unfoldable pub cut_magic : List ℕ
+cut_magic = 88 ∷ 67 ∷ 76 ∷ 49 ∷ []
+
+unfoldable pub cut_bytes : CutFileSpec → List ℕ
+cut_bytes f = cut_magic ++ number_bytes 8 f.load ++ number_bytes 4 (length f.cut) ++ flat_map (number_bytes 4) f.cut
+
+pub record IsCutFileOf (bytes : List ℕ) (f : CutFileSpec) : Type 0 where
+  pub spelled : bytes ≡ sealed (cut_bytes f)
+  pub load : f.load < 2 ^ 64
+  pub cut : IsCut f.cut
+
+-- how many rows one fragment has
+abbrev pub length_at : List ℕ → Read ℕ
+length_at bytes = number_at 4 bytes >>= λ n. within (nat_le n.0 1048576) n
+
+-- n lengths, each judged as it is read
+unfoldable pub lengths_at : ℕ → List ℕ → Read (List ℕ)
+lengths_at zero bytes = Ok ([], bytes)
+lengths_at (suc n) bytes = do
+  first ← number_at 4 bytes
+  first ← within (nat_le first.0 1048576) first
+  others ← lengths_at n first.1
+  Ok (first.0 ∷ others.0, others.1)
+
+unfoldable pub read_cut_file : List ℕ → Result CutFileSpec FileFault
+read_cut_file bytes = do
+  rest ← behind_magic cut_magic bytes
+  load ← number_at 8 rest
+  n ← number_at 4 load.1
+  n ← within (nat_le 1 n.0 && nat_le n.0 4096) n
+  cut ← lengths_at n.0 n.1
+  seal ← bytes_at 32 cut.1
+  end ← sealed_end bytes seal.0 seal.1
+  Ok (record { load = load.0; cut = cut.0 })

@@ -1,0 +1,139 @@
+-- The files of fragments and dimensions: what they hold, and which bytes stand for it.
+--
+-- A file is a header and row groups. A row group has a block for each column. One table slice may stand in many files,
+-- as a block may be of any kind that fits; bytes stand for at most one.
+use Rattle.std.specs.Prelude.{◌≡◌, ◌≢◌, ℕ, ◌/◌, ◌%◌, ◌==◌, ◌≤◌, ◌<◌, ◌^◌, true, false, if◌then◌else◌, List, [], ◌∷◌, ◌++◌, length, map, zip, get_or, replicate, flat_map, All, AllPairs}
+use Rattle.std.specs.List.{range_with_len}
+use Rattle.byteorder.specs.Endian.{little_bytes}
+use Rattle.sha2.specs.Sha256.{sha256}
+use Rattle.meaning.specs.declared.value.ColType.{ColType}
+use Rattle.meaning.specs.declared.value.ColType.TheVariants as of_type
+use Rattle.meaning.specs.declared.value.Value.{Value}
+use Rattle.meaning.specs.declared.catalog.Column.{Column}
+use Rattle.meaning.specs.Catalog.{IsName}
+use Rattle.columns.specs.Column.{ColumnSpec}
+use Rattle.encodings.specs.declared.kind.Kind.TheVariants as kind
+use Rattle.encodings.specs.Block.{Block, is_block, values_of}
+use Rattle.encodings.specs.Tight.{place_of}
+use Rattle.fragment_file.specs.declared.header.Header.{Header}
+
+-- a header, and for each row group its blocks
+pub record FragmentSpec : Type 0 where
+  pub header : Header
+  pub groups : List (List Block)
+
+-- ---- what is well-formed
+
+-- row groups of 8,192 rows and, where rows are left over, one of the rest
+abbrev pub group_sizes : ℕ → List ℕ
+group_sizes rows = replicate (rows / 8192) 8192 ++ (if rows % 8192 == 0 then [] else (rows % 8192) ∷ [])
+
+-- names in their form, 1 to 64 columns with names that differ, and at most 1,048,576 rows
+pub record IsHeader (h : Header) : Type 0 where
+  pub load : h.load < 2 ^ 64
+  pub table : IsName h.table
+  pub fragment : h.fragment < 2 ^ 32
+  pub first_row : h.first_row < 2 ^ 64
+  pub rows : h.rows ≤ 1048576
+  pub some : 1 ≤ length h.columns
+  pub few : length h.columns ≤ 64
+  pub columns : All (λ c. IsName c.name) h.columns
+  pub distinct : AllPairs (λ a b. a ≢ b) (map (λ c. c.name) h.columns)
+
+-- a block of so many rows of a column
+pub record IsBlockOf (c : Column) (n : ℕ) (b : Block) : Type 0 where
+  pub col_type : b.col_type ≡ c.col_type
+  pub nullable : b.nullable ≡ c.nullable
+  pub rows : b.rows ≡ n
+  pub sound : is_block b ≡ true
+  pub short : length b.payload < 2 ^ 32
+
+-- a block for each column
+abbrev pub AreBlocks : List Column → ℕ → List Block → Type 0
+AreBlocks [] rows [] = Unit {0}
+AreBlocks [] rows (b ∷ bs) = ⊥
+AreBlocks (c ∷ cs) rows [] = ⊥
+AreBlocks (c ∷ cs) rows (b ∷ bs) = IsBlockOf c rows b × AreBlocks cs rows bs
+
+-- a row group of each size
+abbrev pub AreGroups : List Column → List ℕ → List (List Block) → Type 0
+AreGroups columns [] [] = Unit {0}
+AreGroups columns [] (g ∷ gs) = ⊥
+AreGroups columns (n ∷ ns) [] = ⊥
+AreGroups columns (n ∷ ns) (g ∷ gs) = AreBlocks columns n g × AreGroups columns ns gs
+
+pub record IsFragment (f : FragmentSpec) : Type 0 where
+  pub header : IsHeader f.header
+  pub groups : AreGroups f.header.columns (group_sizes f.header.rows) f.groups
+
+-- ---- the columns of a file
+
+abbrev pub no_block : Block
+no_block = record { kind = kind.Plain; col_type = of_type.Int; nullable = false; rows = 0; payload = [] }
+
+-- the values of the column at a place, from group to group
+abbrev pub column_values : ℕ → List (List Block) → List Value
+column_values j groups = flat_map (λ g. values_of (get_or g j no_block)) groups
+
+abbrev pub column_in : List (List Block) → ℕ × Column → ColumnSpec
+column_in groups p = record { col_type = p.1.col_type; nullable = p.1.nullable; values = column_values p.0 groups }
+
+abbrev pub columns_in : FragmentSpec → List ColumnSpec
+columns_in f = map (column_in f.groups) (zip (range_with_len 0 (length f.header.columns)) f.header.columns)
+
+-- ---- spelling
+
+-- a number of n bytes, the lowest first
+unfoldable pub number_bytes : ℕ → ℕ → List ℕ
+number_bytes n x = little_bytes n x
+
+unfoldable pub name_bytes : List ℕ → List ℕ
+name_bytes name = number_bytes 2 (length name) ++ name
+
+abbrev pub type_code : ColType → ℕ
+type_code of_type.Int = 1
+type_code of_type.Text = 2
+
+unfoldable pub column_bytes : Column → List ℕ
+column_bytes c = name_bytes c.name ++ number_bytes 1 (type_code c.col_type) ++ number_bytes 1 (if c.nullable then 1 else 0)
+
+unfoldable pub header_bytes : Header → List ℕ
+header_bytes h =
+    number_bytes 8 h.load ++ name_bytes h.table ++ number_bytes 4 h.fragment ++ number_bytes 8 h.first_row ++ number_bytes 4 h.rows
+    ++ number_bytes 2 (length h.columns) ++ flat_map column_bytes h.columns
+
+unfoldable pub block_bytes : Block → List ℕ
+block_bytes b = number_bytes 1 (place_of b.kind) ++ number_bytes 4 (length b.payload) ++ b.payload
+
+unfoldable pub group_bytes : ℕ × List Block → List ℕ
+group_bytes g = number_bytes 4 g.0 ++ flat_map block_bytes g.1
+
+unfoldable pub groups_bytes : ℕ → List (List Block) → List ℕ
+groups_bytes rows groups = flat_map group_bytes (zip (group_sizes rows) groups)
+
+-- `XCF1`
+unfoldable pub fragment_magic : List ℕ
+fragment_magic = 88 ∷ 67 ∷ 70 ∷ 49 ∷ []
+
+-- all of a file but its seal
+unfoldable pub fragment_bytes : FragmentSpec → List ℕ
+fragment_bytes f = fragment_magic ++ header_bytes f.header ++ groups_bytes f.header.rows f.groups
+
+-- the seal of bytes is their SHA-256
+unfoldable pub seal_of : List ℕ → List ℕ
+seal_of bytes = sha256 bytes
+
+abbrev pub sealed : List ℕ → List ℕ
+sealed bytes = bytes ++ seal_of bytes
+
+-- the bytes are a file of this header and these blocks
+pub record IsFileOf (bytes : List ℕ) (f : FragmentSpec) : Type 0 where
+  pub spelled : bytes ≡ sealed (fragment_bytes f)
+  pub sound : IsFragment f
+
+-- the bytes are a file of this header and these columns, whatever its blocks
+pub record Stands (bytes : List ℕ) (header : Header) (columns : List ColumnSpec) : Type 0 where
+  pub file : FragmentSpec
+  pub spelled : IsFileOf bytes file
+  pub header_is : file.header ≡ header
+  pub columns_are : columns_in file ≡ columns

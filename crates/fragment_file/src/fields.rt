@@ -1,0 +1,123 @@
+// The magic and the fields of a header, read from front to back.
+ghost use Rattle.std.specs.Prelude.{◌≡◌, []};
+ghost use Rattle.fragment_file.specs.FragmentReading.{behind_magic, column_at, columns_at, flag_of, header_at, is_named, type_of};
+ghost use Rattle.fragment_file.specs.Reading.{Reads, ReadsIfMemory};
+
+use crate::fault::FileFault;
+use crate::header::Header;
+use crate::name::take_name;
+use crate::number::{is_1_to_64, take_bytes, take_u8, take_u16, take_u32, take_u64};
+use meaning::catalog::Column;
+use meaning::sequence::Sequence;
+use meaning::value::ColType;
+use std::alloc::Global;
+
+/// The bytes behind the four that tell what the file is.
+#[tactic(auto, unfolding(crate::specs::FragmentReading::behind_magic))]
+pub fn skip_magic<'a>(magic: &[u8; 4], bytes: &'a [u8]) -> Result<&'a [u8], FileFault>
+    ensures { Reads (λ x. x.now) result (behind_magic magic.now bytes.now) }
+{
+    let (first, rest) = take_bytes(bytes, 4)?;
+    if first != magic.as_slice() {
+        return Err(FileFault::Magic);
+    }
+    Ok(rest)
+}
+
+fn type_of(code: u8) -> Result<ColType, FileFault>
+    ensures { Reads (λ t. t) result (type_of code) }
+{
+    match code {
+        1 => Ok(ColType::Int),
+        2 => Ok(ColType::Text),
+        _ => Err(FileFault::Header),
+    }
+}
+
+fn flag_of(code: u8) -> Result<bool, FileFault>
+    ensures { Reads (λ b. b) result (flag_of code) }
+{
+    match code {
+        0 => Ok(false),
+        1 => Ok(true),
+        _ => Err(FileFault::Header),
+    }
+}
+
+fn is_named(name: &[u8], columns: &[Column]) -> bool
+    ensures { result ≡ is_named name.now columns.now }
+{
+    columns.iter().any(|column| column.name.as_bytes() == name)
+}
+
+/// A column whose name no earlier one has, and the bytes behind it.
+#[tactic(auto, unfolding(crate::specs::FragmentReading::column_at))]
+fn take_column<'a>(
+    alloc: Global,
+    earlier: &[Column],
+    bytes: &'a [u8],
+) -> Result<(Column, &'a [u8]), FileFault>
+    ensures { ReadsIfMemory (λ x. (x.0, x.1.now)) result (column_at earlier.now bytes.now) }
+{
+    let (name, rest) = take_name(alloc, bytes)?;
+    if is_named(name.as_bytes(), earlier) {
+        return Err(FileFault::Header);
+    }
+    let (code, rest) = take_u8(rest)?;
+    let col_type = type_of(code)?;
+    let (code, rest) = take_u8(rest)?;
+    let nullable = flag_of(code)?;
+    Ok((
+        Column {
+            name,
+            col_type,
+            nullable,
+        },
+        rest,
+    ))
+}
+
+fn take_columns(alloc: Global, count: u16, bytes: &[u8]) -> Result<(Vec<Column>, &[u8]), FileFault>
+    ensures { ReadsIfMemory (λ x. (x.0.items, x.1.now)) result (columns_at count [] bytes.now) }
+{
+    let mut columns = Vec::new(alloc);
+    let mut rest = bytes;
+    for _ in 0..count {
+        let (column, after) = take_column(alloc, columns.as_slice(), rest)?;
+        columns.push(column)?;
+        rest = after;
+    }
+    Ok((columns, rest))
+}
+
+/// What stands in front of the row groups, and the bytes from there.
+#[tactic(auto, unfolding(crate::specs::FragmentReading::header_at))]
+pub fn take_header(alloc: Global, bytes: &[u8]) -> Result<(Header, &[u8]), FileFault>
+    ensures { ReadsIfMemory (λ x. (x.0, x.1.now)) result (header_at bytes.now) }
+{
+    let (load, rest) = take_u64(bytes)?;
+    let (table, rest) = take_name(alloc, rest)?;
+    let (fragment, rest) = take_u32(rest)?;
+    let (first_row, rest) = take_u64(rest)?;
+    let (rows, rest) = take_u32(rest)?;
+    if 1_048_576 < rows {
+        return Err(FileFault::Limit);
+    }
+    let (count, rest) = take_u16(rest)?;
+    if !is_1_to_64(count) {
+        return Err(FileFault::Limit);
+    }
+    let (columns, rest) = take_columns(alloc, count, rest)?;
+    let columns = Sequence::from_vec(columns);
+    Ok((
+        Header {
+            load,
+            table,
+            fragment,
+            first_row,
+            rows,
+            columns,
+        },
+        rest,
+    ))
+}

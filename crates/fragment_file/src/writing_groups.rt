@@ -1,0 +1,184 @@
+// The row groups of a file: for each column a block of the kind of fewest bytes.
+ghost use Rattle.std.specs.Prelude.{◌≡◌, ◌≤◌, ◌<◌, ◌-◌, ◌*◌, ◌^◌, ◌++◌, length, replicate, true, All, OnOk, IfOk, IfErr};
+ghost use Rattle.encodings.specs.Tight.{between, is_chosen, place_of};
+ghost use Rattle.encodings.specs.Written.{block_of};
+ghost use Rattle.fragment_file.specs.Fragment.{group_sizes, number_bytes};
+ghost use Rattle.fragment_file.specs.Writing.{IsRowsOf, IsWriteFault, PutsBlock, PutsBlocks, PutsGroup, WritesGroup, WritesGroups};
+ghost use Rattle.fragment_file.specs.declared.fault.FileFault.TheVariants.{Memory};
+
+use crate::fault::FileFault;
+use crate::sealing::put;
+use crate::writing_numbers::{append_u8, append_u32};
+use columns::Column;
+use encodings::kind::Kind;
+use encodings::{choose, encode_as};
+use sha2::Sha256;
+use std::alloc::{AllocError, Global};
+use std::io::Write;
+
+/// How many rows a row group has, but for the last.
+pub const GROUP_ROWS: usize = 8_192;
+
+fn chosen_kind(alloc: Global, column: &Column, from: usize, to: usize) -> Result<Kind, FileFault>
+    requires some { from < to }
+    requires within { to ≤ length column.now.values }
+    requires few { to - from ≤ 8192 }
+    ensures ok { IfOk result (λ k. is_chosen column.now.col_type column.now.nullable (between from to column.now) k ≡ true) }
+    ensures err { IfErr result (λ f. f ≡ Memory) }
+{
+    match choose(alloc, column, from, to) {
+        Ok(kind) => Ok(kind),
+        Err(_) => Err(FileFault::Memory),
+    }
+}
+
+/// Fewer than 2 ^ 32 bytes: no more than at most 8,192 texts of 65,535 bytes each, one by one.
+fn payload_of(
+    alloc: Global,
+    kind: Kind,
+    column: &Column,
+    from: usize,
+    to: usize,
+) -> Result<Vec<u8>, FileFault>
+    requires some { from < to }
+    requires within { to ≤ length column.now.values }
+    requires few { to - from ≤ 8192 }
+    requires chosen { is_chosen column.now.col_type column.now.nullable (between from to column.now) kind ≡ true }
+    ensures ok { IfOk result (λ bytes. IsRowsOf column.now from (to - from) (block_of kind column.now from to bytes.items)) }
+    ensures err { IfErr result (λ f. f ≡ Memory) }
+{
+    // No effect at run time. The proof reads from this call that each value fits the column.
+    let _rows = column.len();
+    match encode_as(alloc, kind, column, from, to) {
+        Ok(payload) => Ok(payload),
+        Err(_) => Err(FileFault::Memory),
+    }
+}
+
+#[tactic(auto, unfolding(crate::specs::Fragment::block_bytes))]
+fn append_payload(out: &mut Vec<u8>, kind: Kind, payload: &[u8]) -> Result<(), AllocError>
+    requires { length payload.now < 2 ^ 32 }
+    ensures { OnOk result (out.new.items
+        ≡ out.old.items ++ (number_bytes 1 (place_of kind) ++ number_bytes 4 (length payload.now) ++ payload.now)) }
+{
+    append_u8(out, kind.byte())?;
+    append_u32(out, payload.len() as u32)?;
+    out.extend_from_slice(payload)
+}
+
+#[tactic(auto, unfolding(crate::specs::Fragment::block_bytes))]
+fn append_block(
+    alloc: Global,
+    out: &mut Vec<u8>,
+    column: &Column,
+    from: usize,
+    to: usize,
+) -> Result<(), FileFault>
+    requires some { from < to }
+    requires within { to ≤ length column.now.values }
+    requires few { to - from ≤ 8192 }
+    ensures ok { OnOk result (PutsBlock out.old.items out.new.items column.now from (to - from)) }
+    ensures err { IfErr result (λ f. f ≡ Memory) }
+{
+    let kind = chosen_kind(alloc, column, from, to)?;
+    let payload = payload_of(alloc, kind, column, from, to)?;
+    append_payload(out, kind, payload.as_slice())?;
+    Ok(())
+}
+
+fn append_blocks(
+    alloc: Global,
+    out: &mut Vec<u8>,
+    columns: &[Column],
+    from: usize,
+    to: usize,
+) -> Result<(), FileFault>
+    requires some { from < to }
+    requires within { All (λ c. to ≤ length c.values) columns.now }
+    requires few { to - from ≤ 8192 }
+    ensures ok { OnOk result (PutsBlocks out.old.items out.new.items columns.now from (to - from)) }
+    ensures err { IfErr result (λ f. f ≡ Memory) }
+{
+    for column in columns {
+        append_block(alloc, out, column, from, to)?;
+    }
+    Ok(())
+}
+
+fn append_group(
+    alloc: Global,
+    out: &mut Vec<u8>,
+    columns: &[Column],
+    from: usize,
+    to: usize,
+) -> Result<(), FileFault>
+    requires some { from < to }
+    requires within { All (λ c. to ≤ length c.values) columns.now }
+    requires few { to - from ≤ 8192 }
+    ensures ok { OnOk result (PutsGroup out.old.items out.new.items columns.now from (to - from)) }
+    ensures err { IfErr result (λ f. f ≡ Memory) }
+{
+    append_u32(out, (to - from) as u32)?;
+    append_blocks(alloc, out, columns, from, to)
+}
+
+/// Gathers a row group, and puts it.
+fn put_group<W: Write>(
+    alloc: Global,
+    out: &mut W,
+    hasher: &mut Sha256,
+    columns: &[Column],
+    from: usize,
+    to: usize,
+) -> Result<(), FileFault>
+    requires some { from < to }
+    requires within { All (λ c. to ≤ length c.values) columns.now }
+    requires few { to - from ≤ 8192 }
+    ensures ok { OnOk result (WritesGroup (W.contents out.old) (W.contents out.new) hasher.old hasher.new columns.now from (to - from)) }
+    ensures err { IfErr result IsWriteFault }
+{
+    let mut bytes = Vec::new(alloc);
+    append_group(alloc, &mut bytes, columns, from, to)?;
+    put(out, hasher, bytes.as_slice())
+}
+
+/// The row groups that are full.
+fn put_full_groups<W: Write>(
+    alloc: Global,
+    out: &mut W,
+    hasher: &mut Sha256,
+    columns: &[Column],
+    groups: usize,
+) -> Result<(), FileFault>
+    requires few { groups ≤ 128 }
+    requires within { All (λ c. groups * 8192 ≤ length c.values) columns.now }
+    ensures ok { OnOk result (WritesGroups (W.contents out.old) (W.contents out.new) hasher.old hasher.new columns.now (replicate groups 8192)) }
+    ensures err { IfErr result IsWriteFault }
+{
+    for group in 0..groups {
+        let from = group * GROUP_ROWS;
+        put_group(alloc, out, hasher, columns, from, from + GROUP_ROWS)?;
+    }
+    Ok(())
+}
+
+/// All row groups.
+pub fn put_groups<W: Write>(
+    alloc: Global,
+    out: &mut W,
+    hasher: &mut Sha256,
+    columns: &[Column],
+    rows: usize,
+) -> Result<(), FileFault>
+    requires few { rows ≤ 1048576 }
+    requires within { All (λ c. rows ≤ length c.values) columns.now }
+    ensures ok { OnOk result (WritesGroups (W.contents out.old) (W.contents out.new) hasher.old hasher.new columns.now (group_sizes rows)) }
+    ensures err { IfErr result IsWriteFault }
+{
+    let full = rows / GROUP_ROWS;
+    put_full_groups(alloc, out, hasher, columns, full)?;
+    if rows % GROUP_ROWS == 0 {
+        return Ok(());
+    }
+    put_group(alloc, out, hasher, columns, full * GROUP_ROWS, rows)
+}

@@ -1,0 +1,15 @@
+pub mod CsvRecords
+pub mod DimensionSteps
+pub mod FactSteps
+pub mod Fields
+pub mod Fragments
+pub mod Integers
+pub mod Judging
+pub mod KeySets
+pub mod KeyedRows
+pub mod RowRuns
+pub mod Steps
+pub mod Tables
+pub mod Taking
+pub mod Values
+pub mod WholeTable

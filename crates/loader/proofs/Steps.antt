@@ -1,0 +1,36 @@
+-- From one record to the next.
+use Rattle.std.proofs.Common.{◌≡◌, ℕ, Bool, true, false, List, [], ◌∷◌, Ok, Err, Option, refl}
+use Rattle.std.specs.Prelude.{Result, IfOk}
+use Rattle.csv.specs.declared.reader.Reader.{Reader}
+use Rattle.meaning.specs.declared.catalog.Column.{Column}
+use Rattle.meaning.specs.Records.{Record, row_of}
+use Rattle.columns.specs.Column.{ColumnSpec}
+use Rattle.loader.specs.declared.fault.LoadFault.{LoadFault}
+use Rattle.loader.specs.declared.fault.LoadFault.TheVariants.{Memory, Table, Device}
+use Rattle.loader.specs.Source.{IsLeft, TakesNext}
+use Rattle.loader.specs.Steps.{TakesRow, TakesNextRow, is_more}
+
+module _ {R : Type 0} (known : R → Option (List ℕ)) (after : Reader R) (rest : List Record) (fields : Record) where
+  pub none_taken : (found : Bool) → found ≡ false → TakesNext known after rest found fields → rest ≡ []
+  none_taken true e taken = cc e
+  none_taken false e taken = taken
+
+  pub one_taken : (found : Bool) → found ≡ true → TakesNext known after rest found fields → (others : List Record) × (rest ≡ fields ∷ others) × IsLeft known after others
+  one_taken true e taken = taken
+  one_taken false e taken = cc e
+
+  module _ (declared : List Column) (order : List ℕ) (row : ℕ) (before now : List ColumnSpec) where
+    -- the fault of the record is told
+    pub row_refused : (others : List Record) → rest ≡ fields ∷ others → (e : LoadFault) → TakesRow (row_of declared order row fields) before now (Err e)
+        → TakesNextRow known declared order row rest before now after (Err e)
+    row_refused others first (Table fault) judged = (fields, others, first, judged)
+    row_refused others first Memory judged = tt
+    row_refused others first Device judged = tt
+
+-- whether there was a record tells whether any is to come
+pub more_come : {R : Type 0} (known : R → Option (List ℕ)) (before after : Reader R) (fields : Record) (result : Result Bool LoadFault)
+    → IfOk result (λ found. (rest : List Record) → IsLeft known before rest → TakesNext known after rest found fields)
+    → IfOk result (λ found. (rest : List Record) → IsLeft known before rest → found ≡ is_more rest)
+more_come known before after fields (Err e) taken = tt
+more_come known before after fields (Ok false) taken = λ rest left. rw (taken rest left) refl
+more_come known before after fields (Ok true) taken = λ rest left. rw (taken rest left).1 refl

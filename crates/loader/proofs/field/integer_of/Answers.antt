@@ -1,0 +1,5 @@
+use Rattle.loader.proofs.Integers.{parsed_integer}
+use Rattle.loader.proofs.field.integer_of.Goals as goal
+
+pub returns : goal.returns
+returns c = rw c.ok.ensures.value (parsed_integer c.args.text.now c.parse.result c.parse.ensures.value.0)

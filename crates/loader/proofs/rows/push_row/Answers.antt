@@ -1,0 +1,25 @@
+use Rattle.std.proofs.Common.{◌≡◌, ◌<◌, ◌∙◌, ◌++◌, ap, sym, arith, length, take, drop, add-one}
+use Rattle.std.specs.Prelude.{slice_index_or}
+use Rattle.meaning.specs.declared.value.Value.TheVariants.{Null}
+use Rattle.csv.specs.Records.{fields_of}
+use Rattle.meaning.specs.Records.{catalog_row}
+use Rattle.loader.specs.Columns.{with_row}
+use Rattle.loader.specs.Steps.{value_of, values_of}
+use Rattle.loader.proofs.Values.{set_next, all_set, row_value, row_length}
+use Rattle.loader.proofs.rows.push_row.Goals as goal
+
+pub loop-i-preserved : goal.loop-i-preserved
+loop-i-preserved c =
+    let order = c.args.order.now.columns.items in
+    let places = c.args.order.now.fields.items in
+    let values = values_of c.args.parsed.now (fields_of c.args.fields.now) in
+    let row = catalog_row order values in
+    let i = c.loop-i.i in
+    let lt : i < length places = omega (arith, c.loop-i-test.true, c.requires) in
+    let long : length row ≡ length places = row_length order places values c.args.order.now.inverse in
+    let value = c.judged_at-judged.ensures ∙ sym (row_value order places values i c.index.result.now c.args.order.now.inverse lt ∙ ap (λ j. slice_index_or values j Null) (sym c.index.ensures)) in
+    let next = set_next c.args.columns.now row i c.index-columns-i.result (value_of (c.judged_at-judged.result.0, c.judged_at-judged.result.1.now)) c.loop-i-test.true (omega (arith, lt, long)) value in
+    rw (c.in_ok-push_field.ensures.ok, c.loop-i.invariant) (next ∙ ap (λ k. with_row (take k c.args.columns.now) row ++ drop k c.args.columns.now) (sym (add-one i)))
+
+pub returns-clause-ok : goal.returns-clause-ok
+returns-clause-ok c = c.loop-i.invariant ∙ all_set c.args.columns.now (catalog_row c.args.order.now.columns.items (values_of c.args.parsed.now (fields_of c.args.fields.now))) c.loop-i.i c.loop-i-test.false

@@ -1,0 +1,41 @@
+-- The columns that rows are kept in.
+use Rattle.std.specs.Prelude.{ℕ, List, [], ◌∷◌, map, zip, take, drop, Result, Ok}
+use Rattle.std.specs.List.{enumerate_from}
+use Rattle.meaning.specs.declared.catalog.Column.{Column}
+use Rattle.meaning.specs.declared.catalog.Catalog.{Catalog}
+use Rattle.meaning.specs.declared.catalog.Dimension.{Dimension}
+use Rattle.meaning.specs.declared.table.TableFault.{TableFault}
+use Rattle.meaning.specs.Order.{Row, column}
+use Rattle.meaning.specs.Records.{Record, fact_of, dimension_of}
+use Rattle.meaning.specs.Results.{and_then}
+use Rattle.meaning.specs.Table.{Cut}
+use Rattle.columns.specs.Column.{ColumnSpec, with_value}
+
+-- a declared column with its values from row to row
+abbrev pub column_of : List Row → ℕ × Column → ColumnSpec
+column_of rows p = record { col_type = p.1.col_type; nullable = p.1.nullable; values = map (λ row. column row p.0) rows }
+
+-- a declared column without rows
+abbrev pub no_rows : Column → ColumnSpec
+no_rows c = record { col_type = c.col_type; nullable = c.nullable; values = [] }
+
+-- the declared columns with the values of rows
+abbrev pub columns_of : List Column → List Row → List ColumnSpec
+columns_of declared rows = map (column_of rows) (enumerate_from 0 declared)
+
+-- each fragment's columns, where the rows are cut
+abbrev pub fragments_of : List Column → Cut → List Row → List (List ColumnSpec)
+fragments_of declared [] rows = []
+fragments_of declared (n ∷ cut) rows = columns_of declared (take n rows) ∷ fragments_of declared cut (drop n rows)
+
+-- the fact table's columns, fragment by fragment, or the first fault
+abbrev pub fact_fragments : Catalog → Cut → List Record → Result (List (List ColumnSpec)) TableFault
+fact_fragments catalog cut records = and_then (fact_of catalog cut records) (λ rows. Ok (fragments_of catalog.fact.columns cut rows))
+
+-- a dimension's columns, or the first fault
+abbrev pub dimension_columns : Dimension → List Record → Result (List ColumnSpec) TableFault
+dimension_columns d records = and_then (dimension_of d records) (λ rows. Ok (columns_of d.table.columns rows))
+
+-- the columns with a row behind their last
+abbrev pub with_row : List ColumnSpec → Row → List ColumnSpec
+with_row columns row = map (λ p. with_value p.0 p.1) (zip columns row)

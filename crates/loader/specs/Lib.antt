@@ -1,0 +1,5 @@
+pub mod Columns
+pub mod Fault
+pub mod Keys
+pub mod Source
+pub mod Steps

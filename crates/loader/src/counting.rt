@@ -1,0 +1,37 @@
+//! How many rows a CSV file has.
+ghost use Rattle.std.specs.Prelude.{◌≡◌, ℕ, List, length, drop, Some, IfOk, IfErr};
+ghost use Rattle.meaning.specs.Records.{Record};
+ghost use Rattle.loader.specs.Fault.{IsOutside};
+ghost use Rattle.loader.specs.Source.{IsLeft, csv_records};
+
+use crate::fault::LoadFault;
+use crate::source::{csv_reader, next_record};
+use csv::{ByteRecord, Reader};
+use std::alloc::Global;
+use std::io::Read;
+use std::mem::drop;
+
+fn count_records<R: Read>(alloc: Global, reader: &mut Reader<R>) -> Result<u64, LoadFault>
+    ensures counted { (rest : List Record) → IsLeft R.remaining reader.old rest → IfOk result (λ n. n ≡ length rest) }
+    ensures refused { IfErr result IsOutside }
+{
+    let mut fields = ByteRecord::new(alloc);
+    for count in 0..u64::MAX {
+        if !next_record(reader, &mut fields)? {
+            return Ok(count);
+        }
+    }
+    // No file has so many records.
+    Err(LoadFault::Memory)
+}
+
+/// How many records stand behind the first.
+pub fn count_rows<R: Read + Drop>(alloc: Global, reader: R) -> Result<u64, LoadFault>
+    ensures counted { (bytes : List ℕ) → R.remaining reader ≡ Some bytes → IfOk result (λ n. n ≡ length (drop 1 (csv_records bytes))) }
+    ensures refused { IfErr result IsOutside }
+{
+    let mut reader = csv_reader(alloc, reader);
+    let records = count_records(alloc, &mut reader);
+    drop(reader);
+    Ok(records?.saturating_sub(1))
+}

@@ -1,0 +1,88 @@
+// One field: what it stands for in its column.
+ghost use Rattle.std.specs.Prelude.{◌≡◌, true, false, MatchOption, slice_get};
+ghost use Rattle.std.specs.Str.{is_utf8};
+ghost use Rattle.meaning.specs.Records as declared;
+ghost use Rattle.loader.specs.Steps.{ReadsField};
+
+use meaning::catalog::Column;
+use meaning::table::TableFault;
+use meaning::value::ColType;
+
+/// The most bytes of a text.
+const MAX_TEXT_BYTES: usize = 65_535;
+
+/// What a field stands for. A text is the field itself, which is then UTF-8.
+#[derive(Clone, Copy)]
+pub enum Parsed {
+    Null,
+    Int(i64),
+    Text,
+}
+
+/// The field as a text, if it is UTF-8.
+pub fn text_of(field: &[u8]) -> Option<&str>
+    ensures { MatchOption result (is_utf8 field.now ≡ false) (λ text. (is_utf8 field.now ≡ true) × (text.now ≡ field.now)) }
+{
+    match std::str::from_utf8(field) {
+        Ok(text) => Some(text),
+        Err(_) => None,
+    }
+}
+
+fn spells_null(field: &[u8]) -> bool
+    ensures { result ≡ declared.spells_null field.now }
+{
+    field.is_empty() || field == b"\\N".as_slice()
+}
+
+fn integer_of(text: &str) -> Option<i64>
+    ensures { result ≡ declared.integer_of text.now }
+{
+    text.parse::<i64>().ok()
+}
+
+fn present_value(kind: ColType, row: u64, column: u64, text: &str) -> Result<Parsed, TableFault>
+    ensures { ReadsField text.now result (declared.present_value kind row column text.now) }
+{
+    match kind {
+        ColType::Int => match integer_of(text) {
+            Some(number) => Ok(Parsed::Int(number)),
+            None => Err(TableFault::NotAnInteger { row, column }),
+        },
+        ColType::Text if text.len() > MAX_TEXT_BYTES => {
+            Err(TableFault::TextTooLong { row, column })
+        }
+        ColType::Text => Ok(Parsed::Text),
+    }
+}
+
+fn not_null_value(kind: ColType, row: u64, column: u64, text: &str) -> Result<Parsed, TableFault>
+    ensures { ReadsField text.now result (declared.not_null_value kind row column text.now) }
+{
+    match kind {
+        ColType::Int => Err(TableFault::NullNotAllowed { row, column }),
+        ColType::Text => Ok(Parsed::Text),
+    }
+}
+
+/// What a field stands for in a column. Rows and columns count from 0, a column by its place in the
+/// catalogue.
+pub fn judge_field(
+    row: u64,
+    place: u64,
+    column: &Column,
+    field: &[u8],
+) -> Result<Parsed, TableFault>
+    ensures { ReadsField field.now result (declared.field_value row place column.now field.now) }
+{
+    let Some(text) = text_of(field) else {
+        return Err(TableFault::NotUtf8 { row, column: place });
+    };
+    if !spells_null(field) {
+        return present_value(column.col_type, row, place, text);
+    }
+    if column.nullable {
+        return Ok(Parsed::Null);
+    }
+    not_null_value(column.col_type, row, place, text)
+}

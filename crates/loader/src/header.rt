@@ -1,0 +1,112 @@
+// The header of a CSV file: which field is which column's.
+ghost use Rattle.std.specs.Prelude.{◌≡◌, ◌==◌, map, count_by, position, unwrap_or, option_map, slice_get, IfOk};
+ghost use Rattle.std.specs.List.{list_all};
+ghost use Rattle.csv.specs.Records.{fields_of};
+ghost use Rattle.meaning.specs.Records as declared;
+ghost use Rattle.loader.specs.Fault.{LoadsView};
+ghost use Rattle.loader.specs.Steps.{field_places, order_of};
+
+use crate::fault::LoadFault;
+use csv::ByteRecord;
+use meaning::catalog::Column;
+use meaning::table::TableFault;
+use std::alloc::{AllocError, Global};
+
+/// How the columns of a file stand to those of the catalogue.
+#[derive(Drop)]
+pub struct FileOrder {
+    /// The place in the catalogue of each field's column.
+    pub columns: Vec<usize>,
+    /// The field of each column of the catalogue.
+    pub fields: Vec<usize>,
+    ghost inverse: { fields.items ≡ field_places columns.items },
+}
+
+fn names(field: &[u8], column: &Column) -> bool
+    ensures { result ≡ declared.names field.now column.now }
+{
+    field.eq_ignore_ascii_case(column.name.as_bytes())
+}
+
+pub fn field_at(row: &ByteRecord, i: usize) -> Option<&[u8]>
+    ensures { option_map (λ field. field.now) result ≡ slice_get (fields_of row.now) i }
+{
+    row.get(i)
+}
+
+fn fields_in(alloc: Global, row: &ByteRecord) -> Result<Vec<&[u8]>, AllocError>
+    ensures { IfOk result (λ found. map (λ field. field.now) found.items ≡ fields_of row.now) }
+{
+    let mut fields = Vec::new(alloc);
+    for i in 0..row.len() {
+        let Some(field) = field_at(row, i) else {
+            break;
+        };
+        fields.push(field)?;
+    }
+    Ok(fields)
+}
+
+fn is_named_once(column: &Column, header: &[&[u8]]) -> bool
+    ensures { result ≡ (count_by (λ field. declared.names field column.now) (map (λ field. field.now) header.now) == 1) }
+{
+    header.iter().filter(|field| names(field, column)).count() == 1
+}
+
+fn are_named_once(columns: &[Column], header: &[&[u8]]) -> bool
+    ensures { result ≡ list_all (λ c. count_by (λ field. declared.names field c) (map (λ field. field.now) header.now) == 1) columns.now }
+{
+    columns.iter().all(|column| is_named_once(column, header))
+}
+
+fn is_header(columns: &[Column], header: &[&[u8]]) -> bool
+    ensures { result ≡ declared.is_header columns.now (map (λ field. field.now) header.now) }
+{
+    header.len() == columns.len() && are_named_once(columns, header)
+}
+
+fn column_named(columns: &[Column], field: &[u8]) -> Option<usize>
+    ensures { result ≡ position (declared.names field.now) columns.now }
+{
+    columns.iter().position(|column| names(field, column))
+}
+
+fn file_order(alloc: Global, columns: &[Column], header: &[&[u8]]) -> Result<Vec<usize>, AllocError>
+    ensures { IfOk result (λ order. order.items ≡ declared.file_order columns.now (map (λ field. field.now) header.now)) }
+{
+    header
+        .iter()
+        .map(|field| column_named(columns, field).unwrap_or(0))
+        .collect(alloc)
+}
+
+fn field_of(order: &[usize], place: usize) -> Option<usize>
+    ensures { result ≡ position (λ p. p == place) order.now }
+{
+    order.iter().position(|p| *p == place)
+}
+
+fn field_places(alloc: Global, order: &[usize]) -> Result<Vec<usize>, AllocError>
+    ensures { IfOk result (λ places. places.items ≡ field_places order.now) }
+{
+    (0..order.len())
+        .map(|place| field_of(order, place).unwrap_or(0))
+        .collect(alloc)
+}
+
+/// The order of the columns that a header names.
+pub fn order_of(
+    alloc: Global,
+    columns: &[Column],
+    header: &ByteRecord,
+) -> Result<FileOrder, LoadFault>
+    ensures { LoadsView (λ order. order.columns.items) result (order_of columns.now (fields_of header.now)) }
+{
+    let header = fields_in(alloc, header)?;
+    if !is_header(columns, &header) {
+        return Err(LoadFault::Table(TableFault::Header));
+    }
+    let columns = file_order(alloc, columns, &header)?;
+    let fields = field_places(alloc, &columns)?;
+    Ok(FileOrder { columns, fields })
+}

@@ -1,0 +1,22 @@
+//! Tables from CSV: the records that `csv` reads, judged and put into columns.
+#![tactic(auto)]
+
+mod counting;
+mod dimension;
+mod fact;
+mod fault;
+mod field;
+mod header;
+mod keys;
+mod record;
+mod rows;
+mod source;
+mod table;
+
+pub use counting::count_rows;
+pub use dimension::{load_dim, load_dimension};
+pub use fact::load_fact;
+pub use fault::LoadFault;
+
+#[cfg(test)]
+mod tests;

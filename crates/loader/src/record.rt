@@ -1,0 +1,42 @@
+// One record: its fields, judged in the order of the file.
+ghost use Rattle.std.specs.Prelude.{◌≡◌, slice_get, map, zip, Result, Ok, Err};
+ghost use Rattle.csv.specs.Records.{fields_of};
+ghost use Rattle.meaning.specs.Records as declared;
+ghost use Rattle.loader.specs.Fault.{LoadsView};
+ghost use Rattle.loader.specs.Steps.{ReadsField, values_of};
+
+use crate::fault::LoadFault;
+use crate::field::{Parsed, judge_field};
+use crate::header::field_at;
+use csv::ByteRecord;
+use meaning::catalog::Column;
+use meaning::table::TableFault;
+
+fn judge_at(row: u64, place: usize, columns: &[Column], field: &[u8]) -> Result<Parsed, TableFault>
+    ensures { ReadsField field.now result (declared.value_at row place (slice_get columns.now place) field.now) }
+{
+    match columns.get(place) {
+        Some(column) => judge_field(row, place as u64, column, field),
+        None => Ok(Parsed::Null),
+    }
+}
+
+/// Judges each field, in the order of the file, and puts what they stand for into `parsed`.
+pub fn judge_fields(
+    columns: &[Column],
+    order: &[usize],
+    row: u64,
+    fields: &ByteRecord,
+    parsed: &mut Vec<Parsed>,
+) -> Result<(), LoadFault>
+    ensures { LoadsView (λ _. values_of parsed.new.items (fields_of fields.now)) result (declared.file_values columns.now order.now row (fields_of fields.now)) }
+{
+    parsed.clear();
+    for (i, place) in order.iter().enumerate() {
+        let Some(field) = field_at(fields, i) else {
+            break;
+        };
+        parsed.push(judge_at(row, *place, columns, field)?)?;
+    }
+    Ok(())
+}

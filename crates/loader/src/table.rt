@@ -1,0 +1,271 @@
+// Records judged one after the other and put into columns.
+ghost use Rattle.std.specs.Prelude.{◌≡◌, ◌-◌, get_or, ◌++◌, [], ◌∷◌, ◌+◌, ◌<◌, ◌^◌, List, length, map, sum, ℕ, Some, Ok, Err, IfOk, IfErr};
+ghost use Rattle.csv.specs.Records.{fields_of};
+ghost use Rattle.meaning.specs.declared.value.Value.TheVariants.{Null};
+ghost use Rattle.meaning.specs.Order.{value_in};
+ghost use Rattle.meaning.specs.Records.{Record};
+ghost use Rattle.meaning.specs.Records as records;
+ghost use Rattle.loader.specs.Columns.{columns_of, no_rows};
+ghost use Rattle.loader.specs.Fault.{IsOutside};
+ghost use Rattle.loader.specs.Source.{IsLeft, csv_records};
+ghost use Rattle.loader.specs.Fault.{IsOutside};
+ghost use Rattle.loader.specs.Steps.{Opens, TakesAll, TakesTable, is_more, keyed_rows, TakesFragment, TakesFragments, TakesNextRow, TakesRow, TakesRows};
+
+use crate::fault::LoadFault;
+use crate::field::{Parsed, text_of};
+use crate::header::{FileOrder, order_of};
+use crate::keys::Keys;
+use crate::record::judge_fields;
+use crate::rows::push_row;
+use crate::source::{csv_reader, next_record};
+use columns::Column;
+use csv::{ByteRecord, Reader};
+use meaning::catalog::Column as Declared;
+use meaning::sequence::Sequence;
+use meaning::table::TableFault;
+use meaning::text::Text;
+use meaning::value::{Value, ValueRef};
+use std::alloc::{AllocError, Global};
+use std::io::Read;
+
+fn new_column(alloc: Global, declared: &Declared) -> Column
+    ensures { result ≡ no_rows declared.now }
+{
+    Column::new(alloc, declared.col_type, declared.nullable)
+}
+
+fn no_columns(alloc: Global, declared: &[Declared]) -> Result<Vec<Column>, AllocError>
+    ensures { IfOk result (λ columns. columns.items ≡ map no_rows declared.now) }
+{
+    let mut columns = Vec::with_capacity(alloc, declared.len())?;
+    for column in declared {
+        columns.push(new_column(alloc, column))?;
+    }
+    Ok(columns)
+}
+
+/// Columns without rows, as they are declared.
+#[tactic(auto, using(crate::proofs::Tables::no_rows_of))]
+pub fn new_columns(alloc: Global, declared: &[Declared]) -> Result<Vec<Column>, AllocError>
+    ensures { IfOk result (λ columns. columns.items ≡ columns_of declared.now []) }
+{
+    no_columns(alloc, declared)
+}
+
+fn owned(alloc: Global, value: ValueRef<'_>) -> Result<Value, AllocError>
+    ensures { IfOk result (λ v. v ≡ value_in value.entry) }
+{
+    match value {
+        ValueRef::Null => Ok(Value::Null),
+        ValueRef::Int(number) => Ok(Value::Int(number)),
+        ValueRef::Text(bytes) => {
+            // The texts of a column are UTF-8.
+            let Some(text) = text_of(bytes) else {
+                return Err(AllocError);
+            };
+            Ok(Value::Text(Text::new(alloc, text)?))
+        }
+    }
+}
+
+/// The value of the last row, and NULL where there is none.
+fn last_value(alloc: Global, column: &Column) -> Result<Value, AllocError>
+    ensures { IfOk result (λ v. v ≡ get_or column.now.values (length column.now.values - 1) Null) }
+{
+    if column.len() == 0 {
+        return Ok(Value::Null);
+    }
+    owned(alloc, column.get(column.len() - 1))
+}
+
+/// Judges a record, and puts its row behind the last rows. `parsed` is room that is used again.
+pub fn load_record(
+    declared: &[Declared],
+    order: &FileOrder,
+    row: u64,
+    fields: &ByteRecord,
+    parsed: &mut Vec<Parsed>,
+    columns: &mut [Column],
+) -> Result<(), LoadFault>
+    requires { length columns.old ≡ length order.now.fields.items }
+    ensures { TakesRow (records.row_of declared.now order.now.columns.items row (fields_of fields.now)) columns.old columns.new result }
+{
+    if fields.len() != declared.len() {
+        return Err(LoadFault::Table(TableFault::FieldCount { row }));
+    }
+    judge_fields(declared, &order.columns, row, fields, parsed)?;
+    push_row(columns, order, parsed, fields)
+}
+
+/// The records of a file, on their way into columns.
+#[derive(Drop)]
+pub struct Rows<'c, R> {
+    reader: Reader<R>,
+    declared: &'c [Declared],
+    order: FileOrder,
+    // Room that is used again from record to record.
+    fields: ByteRecord,
+    parsed: Vec<Parsed>,
+}
+
+/// The records behind the header of a file, whose columns are declared so.
+pub fn open_rows<R: Read + Drop>(
+    alloc: Global,
+    declared: &[Declared],
+    reader: R,
+) -> Result<Rows<'_, R>, LoadFault>
+    ensures declared { IfOk result (λ rows. (rows.declared.now ≡ declared.now) × (length declared.now ≡ length rows.order.columns.items)) }
+    ensures opened { (bytes : List ℕ) → R.remaining reader ≡ Some bytes
+        → Opens (λ rows. rows.order.columns.items) (λ rows. rows.reader) R.remaining declared.now (csv_records bytes) result }
+{
+    let mut reader = csv_reader(alloc, reader);
+    let mut fields = ByteRecord::new(alloc);
+    if !next_record(&mut reader, &mut fields)? {
+        return Err(LoadFault::Table(TableFault::Header));
+    }
+    let order = order_of(alloc, declared, &fields)?;
+    Ok(Rows {
+        reader,
+        declared,
+        order,
+        fields,
+        parsed: Vec::new(alloc),
+    })
+}
+
+impl<R: Read> Rows<'_, R> {
+    /// Puts the next record's row behind the last rows, if there is a next record.
+    fn next_row(&mut self, row: u64, columns: &mut [Column]) -> Result<bool, LoadFault>
+        requires { length columns.old ≡ length self.old.order.fields.items }
+        ensures declared { self.new.declared.now ≡ self.old.declared.now }
+        ensures order { self.new.order ≡ self.old.order }
+        ensures taken { (rest : List Record) → IsLeft R.remaining self.old.reader rest
+            → TakesNextRow R.remaining self.old.declared.now self.old.order.columns.items row rest columns.old columns.new self.new.reader result }
+    {
+        if !next_record(&mut self.reader, &mut self.fields)? {
+            return Ok(false);
+        }
+        load_record(
+            self.declared,
+            &self.order,
+            row,
+            &self.fields,
+            &mut self.parsed,
+            columns,
+        )?;
+        Ok(true)
+    }
+
+    /// Puts the rows of so many records behind the last rows. Rows count from `first`.
+    fn next_rows(&mut self, first: u64, count: u32, columns: &mut [Column]) -> Result<(), LoadFault>
+        requires columns { length columns.old ≡ length self.old.order.fields.items }
+        requires numbers { first + count < 2 ^ 64 }
+        ensures declared { self.new.declared.now ≡ self.old.declared.now }
+        ensures order { self.new.order ≡ self.old.order }
+        ensures taken { (rest : List Record) → IsLeft R.remaining self.old.reader rest
+            → TakesRows R.remaining self.old.declared.now self.old.order.columns.items first count rest columns.old columns.new self.new.reader result }
+    {
+        for i in 0..count {
+            if !self.next_row(first + u64::from(i), columns)? {
+                return Err(LoadFault::Table(TableFault::TooFewRows));
+            }
+        }
+        Ok(())
+    }
+
+    /// The columns of a fragment, made of the next records.
+    fn fragment(
+        &mut self,
+        alloc: Global,
+        first: u64,
+        count: u32,
+    ) -> Result<Sequence<Column>, LoadFault>
+        requires columns { length self.old.declared.now ≡ length self.old.order.columns.items }
+        requires numbers { first + count < 2 ^ 64 }
+        ensures declared { self.new.declared.now ≡ self.old.declared.now }
+        ensures order { self.new.order ≡ self.old.order }
+        ensures taken { (rest : List Record) → IsLeft R.remaining self.old.reader rest
+            → TakesFragment R.remaining self.old.declared.now self.old.order.columns.items first count rest self.new.reader result }
+    {
+        let mut columns = new_columns(alloc, self.declared)?;
+        self.next_rows(first, count, &mut columns)?;
+        Ok(Sequence::from_vec(columns))
+    }
+
+    /// The columns of each fragment, made of the next records. Rows count from 0.
+    pub fn fragments(
+        &mut self,
+        alloc: Global,
+        lengths: &[u32],
+    ) -> Result<Vec<Sequence<Column>>, LoadFault>
+        requires columns { length self.old.declared.now ≡ length self.old.order.columns.items }
+        requires few { sum lengths.now < 2 ^ 64 }
+        ensures declared { self.new.declared.now ≡ self.old.declared.now }
+        ensures order { self.new.order ≡ self.old.order }
+        ensures taken { (rest : List Record) → IsLeft R.remaining self.old.reader rest
+            → TakesFragments (λ fragments. fragments.items) R.remaining self.old.declared.now self.old.order.columns.items lengths.now rest self.new.reader result }
+    {
+        let mut fragments = Vec::with_capacity(alloc, lengths.len())?;
+        let mut first = 0;
+        for length in lengths {
+            fragments.push(self.fragment(alloc, first, *length)?)?;
+            first += u64::from(*length);
+        }
+        Ok(fragments)
+    }
+
+    /// Whether there is a record more, which is then passed over.
+    pub fn has_more(&mut self) -> Result<bool, LoadFault>
+        ensures found { IfOk result (λ found. (rest : List Record) → IsLeft R.remaining self.old.reader rest → found ≡ is_more rest) }
+        ensures refused { IfErr result IsOutside }
+    {
+        next_record(&mut self.reader, &mut self.fields)
+    }
+
+    /// Puts the rows of all records behind the last rows. No two rows have the same key, unless it
+    /// is NULL, and there are at most `most` rows.
+    pub fn keyed_rows(
+        &mut self,
+        alloc: Global,
+        key: usize,
+        most: u64,
+        columns: &mut [Column],
+    ) -> Result<(), LoadFault>
+        requires columns { length columns.old ≡ length self.old.order.fields.items }
+        requires key { key < length columns.old }
+        ensures taken { (rest : List Record) → IsLeft R.remaining self.old.reader rest
+            → TakesAll self.old.declared.now self.old.order.columns.items key most rest columns.old columns.new result }
+    {
+        let mut keys = Keys::new(alloc);
+        for row in 0..most {
+            if !self.next_row(row, columns)? {
+                return Ok(());
+            }
+            if !keys.insert(last_value(alloc, &columns[key])?)? {
+                return Err(LoadFault::Table(TableFault::KeyTwice { row }));
+            }
+        }
+        if self.has_more()? {
+            return Err(LoadFault::Table(TableFault::TooManyRows));
+        }
+        Ok(())
+    }
+
+    /// The columns of all records, of which no two have the same key, and of which there are at
+    /// most `most`.
+    pub fn keyed_columns(
+        &mut self,
+        alloc: Global,
+        key: usize,
+        most: u64,
+    ) -> Result<Sequence<Column>, LoadFault>
+        requires columns { length self.old.declared.now ≡ length self.old.order.columns.items }
+        requires key { key < length self.old.declared.now }
+        ensures taken { (rest : List Record) → IsLeft R.remaining self.old.reader rest
+            → TakesTable self.old.declared.now (keyed_rows self.old.declared.now self.old.order.columns.items key most rest) result }
+    {
+        let mut columns = new_columns(alloc, self.declared)?;
+        self.keyed_rows(alloc, key, most, &mut columns)?;
+        Ok(Sequence::from_vec(columns))
+    }
+}

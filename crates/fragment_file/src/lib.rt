@@ -28,4 +28,8 @@ pub use writing::write;
 #[cfg(test)]
 mod cut_writing_tests;
 #[cfg(test)]
+mod damage_tests;
+#[cfg(test)]
 mod tests;
+#[cfg(test)]
+mod writing_tests;

@@ -8,7 +8,9 @@ use Rattle.columns.specs.Column.{ColumnSpec}
 use Rattle.loader.specs.declared.fault.LoadFault.{LoadFault}
 use Rattle.loader.specs.declared.fault.LoadFault.TheVariants.{Memory, Table, Device}
 use Rattle.loader.specs.Source.{IsLeft, TakesNext}
-use Rattle.loader.specs.Steps.{TakesRow, TakesNextRow, is_more}
+use Rattle.loader.specs.Steps.{IsFaultOf, TakesRow, TakesNextRow, is_more}
+use Rattle.meaning.specs.Order.{Row}
+use Rattle.meaning.specs.declared.table.TableFault.{TableFault}
 
 module _ {R : Type 0} (known : R → Option (List ℕ)) (after : Reader R) (rest : List Record) (fields : Record) where
   pub none_taken : (found : Bool) → found ≡ false → TakesNext known after rest found fields → rest ≡ []
@@ -34,3 +36,9 @@ pub more_come : {R : Type 0} (known : R → Option (List ℕ)) (before after : R
 more_come known before after fields (Err e) taken = tt
 more_come known before after fields (Ok false) taken = λ rest left. rw (taken rest left) refl
 more_come known before after fields (Ok true) taken = λ rest left. rw (taken rest left).1 refl
+
+-- a record that is refused is not taken
+pub fault_taken : (judged : Result Row TableFault) (before now : List ColumnSpec) (e : LoadFault) → IsFaultOf judged e → TakesRow judged before now (Err e)
+fault_taken judged before now (Table fault) told = told
+fault_taken judged before now Memory told = tt
+fault_taken judged before now Device told = tt

@@ -48,6 +48,12 @@ TakesRow judged before after (Err (Table fault)) = judged ≡ Err fault
 TakesRow judged before after (Err Memory) = ⊤
 TakesRow judged before after (Err Device) = ⊤
 
+-- a record's first fault, where memory was not wanting and the reader did not fail
+abbrev pub IsFaultOf : Result Row TableFault → LoadFault → Type 0
+IsFaultOf judged (Table fault) = judged ≡ Err fault
+IsFaultOf judged Memory = ⊤
+IsFaultOf judged Device = ⊤
+
 -- the row of a record with its number
 abbrev pub numbered_row : List Column → List ℕ → ℕ × Record → Result Row TableFault
 numbered_row declared order p = row_of declared order p.0 p.1

@@ -65,8 +65,22 @@ fn not_null_value(kind: ColType, row: u64, column: u64, text: &str) -> Result<Pa
     }
 }
 
-/// What a field stands for in a column. Rows and columns count from 0, a column by its place in the
-/// catalogue.
+/// What a field that is UTF-8 stands for in a column. Rows and columns count from 0, a column by its
+/// place in the catalogue.
+pub fn judge_text(row: u64, place: u64, column: &Column, text: &str) -> Result<Parsed, TableFault>
+    requires { is_utf8 text.now ≡ true }
+    ensures { ReadsField text.now result (declared.field_value row place column.now text.now) }
+{
+    if !spells_null(text.as_bytes()) {
+        return present_value(column.col_type, row, place, text);
+    }
+    if column.nullable {
+        return Ok(Parsed::Null);
+    }
+    not_null_value(column.col_type, row, place, text)
+}
+
+/// The same of a field that may be no text.
 pub fn judge_field(
     row: u64,
     place: u64,
@@ -78,11 +92,5 @@ pub fn judge_field(
     let Some(text) = text_of(field) else {
         return Err(TableFault::NotUtf8 { row, column: place });
     };
-    if !spells_null(field) {
-        return present_value(column.col_type, row, place, text);
-    }
-    if column.nullable {
-        return Ok(Parsed::Null);
-    }
-    not_null_value(column.col_type, row, place, text)
+    judge_text(row, place, column, text)
 }

@@ -7,7 +7,7 @@ ghost use Rattle.loader.specs.Fault.{LoadsView};
 ghost use Rattle.loader.specs.Steps.{field_places, order_of};
 
 use crate::fault::LoadFault;
-use csv::ByteRecord;
+use csv::{ByteRecord, StringRecord};
 use meaning::catalog::Column;
 use meaning::table::TableFault;
 use std::alloc::{AllocError, Global};
@@ -30,6 +30,12 @@ fn names(field: &[u8], column: &Column) -> bool
 
 pub fn field_at(row: &ByteRecord, i: usize) -> Option<&[u8]>
     ensures { option_map (λ field. field.now) result ≡ slice_get (fields_of row.now) i }
+{
+    row.get(i)
+}
+
+pub fn text_at(row: &StringRecord, i: usize) -> Option<&str>
+    ensures { option_map (λ text. text.now) result ≡ slice_get (fields_of row.now) i }
 {
     row.get(i)
 }

@@ -19,4 +19,6 @@ pub use fact::load_fact;
 pub use fault::LoadFault;
 
 #[cfg(test)]
+mod reader_tests;
+#[cfg(test)]
 mod tests;

@@ -1,14 +1,15 @@
 // One record: its fields, judged in the order of the file.
-ghost use Rattle.std.specs.Prelude.{◌≡◌, slice_get, map, zip, Result, Ok, Err};
-ghost use Rattle.csv.specs.Records.{fields_of};
+ghost use Rattle.std.specs.Prelude.{◌≡◌, true, slice_get, map, zip, Result, Ok, Err};
+ghost use Rattle.std.specs.Str.{is_utf8};
+ghost use Rattle.csv.specs.Records.{AllText, fields_of};
 ghost use Rattle.meaning.specs.Records as declared;
 ghost use Rattle.loader.specs.Fault.{LoadsView};
 ghost use Rattle.loader.specs.Steps.{ReadsField, values_of};
 
 use crate::fault::LoadFault;
-use crate::field::{Parsed, judge_field};
-use crate::header::field_at;
-use csv::ByteRecord;
+use crate::field::{Parsed, judge_field, judge_text};
+use crate::header::{field_at, text_at};
+use csv::{ByteRecord, StringRecord};
 use meaning::catalog::Column;
 use meaning::table::TableFault;
 
@@ -21,7 +22,44 @@ fn judge_at(row: u64, place: usize, columns: &[Column], field: &[u8]) -> Result<
     }
 }
 
-/// Judges each field, in the order of the file, and puts what they stand for into `parsed`.
+fn judge_text_at(
+    row: u64,
+    place: usize,
+    columns: &[Column],
+    text: &str,
+) -> Result<Parsed, TableFault>
+    requires { is_utf8 text.now ≡ true }
+    ensures { ReadsField text.now result (declared.value_at row place (slice_get columns.now place) text.now) }
+{
+    match columns.get(place) {
+        Some(column) => judge_text(row, place as u64, column, text),
+        None => Ok(Parsed::Null),
+    }
+}
+
+/// Judges each field of a record of texts, in the order of the file, and puts what they stand for
+/// into `parsed`.
+pub fn judge_texts(
+    columns: &[Column],
+    order: &[usize],
+    row: u64,
+    fields: &StringRecord,
+    parsed: &mut Vec<Parsed>,
+) -> Result<(), LoadFault>
+    requires { AllText (fields_of fields.now) }
+    ensures { LoadsView (λ _. values_of parsed.new.items (fields_of fields.now)) result (declared.file_values columns.now order.now row (fields_of fields.now)) }
+{
+    parsed.clear();
+    for (i, place) in order.iter().enumerate() {
+        let Some(text) = text_at(fields, i) else {
+            break;
+        };
+        parsed.push(judge_text_at(row, *place, columns, text)?)?;
+    }
+    Ok(())
+}
+
+/// The same of a record with fields that may be no texts.
 pub fn judge_fields(
     columns: &[Column],
     order: &[usize],

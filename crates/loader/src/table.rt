@@ -1,6 +1,6 @@
 // Records judged one after the other and put into columns.
 ghost use Rattle.std.specs.Prelude.{◌≡◌, ◌-◌, get_or, ◌++◌, [], ◌∷◌, ◌+◌, ◌<◌, ◌^◌, List, length, map, sum, ℕ, Some, Ok, Err, IfOk, IfErr};
-ghost use Rattle.csv.specs.Records.{fields_of};
+ghost use Rattle.csv.specs.Records.{AllText, fields_of};
 ghost use Rattle.meaning.specs.declared.value.Value.TheVariants.{Null};
 ghost use Rattle.meaning.specs.Order.{value_in};
 ghost use Rattle.meaning.specs.Records.{Record};
@@ -9,17 +9,17 @@ ghost use Rattle.loader.specs.Columns.{columns_of, no_rows};
 ghost use Rattle.loader.specs.Fault.{IsOutside};
 ghost use Rattle.loader.specs.Source.{IsLeft, csv_records};
 ghost use Rattle.loader.specs.Fault.{IsOutside};
-ghost use Rattle.loader.specs.Steps.{Opens, TakesAll, TakesTable, is_more, keyed_rows, TakesFragment, TakesFragments, TakesNextRow, TakesRow, TakesRows};
+ghost use Rattle.loader.specs.Steps.{Opens, IsFaultOf, TakesAll, TakesTable, is_more, keyed_rows, TakesFragment, TakesFragments, TakesNextRow, TakesRow, TakesRows};
 
 use crate::fault::LoadFault;
 use crate::field::{Parsed, text_of};
 use crate::header::{FileOrder, order_of};
 use crate::keys::Keys;
-use crate::record::judge_fields;
+use crate::record::{judge_fields, judge_texts};
 use crate::rows::push_row;
 use crate::source::{csv_reader, next_record};
 use columns::Column;
-use csv::{ByteRecord, Reader};
+use csv::{ByteRecord, Reader, StringRecord};
 use meaning::catalog::Column as Declared;
 use meaning::sequence::Sequence;
 use meaning::table::TableFault;
@@ -27,6 +27,7 @@ use meaning::text::Text;
 use meaning::value::{Value, ValueRef};
 use std::alloc::{AllocError, Global};
 use std::io::Read;
+use std::mem;
 
 fn new_column(alloc: Global, declared: &Declared) -> Column
     ensures { result ≡ no_rows declared.now }
@@ -78,28 +79,51 @@ fn last_value(alloc: Global, column: &Column) -> Result<Value, AllocError>
     owned(alloc, column.get(column.len() - 1))
 }
 
-/// Judges a record, and puts its row behind the last rows. `parsed` is room that is used again.
+/// Judges a record of texts, and puts its row behind the last rows. `parsed` is room that is used
+/// again.
 pub fn load_record(
     declared: &[Declared],
     order: &FileOrder,
     row: u64,
-    fields: &ByteRecord,
+    fields: &StringRecord,
     parsed: &mut Vec<Parsed>,
     columns: &mut [Column],
 ) -> Result<(), LoadFault>
-    requires { length columns.old ≡ length order.now.fields.items }
+    requires columns { length columns.old ≡ length order.now.fields.items }
+    requires texts { AllText (fields_of fields.now) }
     ensures { TakesRow (records.row_of declared.now order.now.columns.items row (fields_of fields.now)) columns.old columns.new result }
 {
     if fields.len() != declared.len() {
         return Err(LoadFault::Table(TableFault::FieldCount { row }));
     }
-    judge_fields(declared, &order.columns, row, fields, parsed)?;
+    judge_texts(declared, &order.columns, row, fields, parsed)?;
     push_row(columns, order, parsed, fields)
+}
+
+/// Refuses a record of which some field is no text, by its first fault. Most records are of ASCII
+/// alone, so that their fields need no look one by one.
+fn check_texts(
+    declared: &[Declared],
+    order: &FileOrder,
+    row: u64,
+    fields: &ByteRecord,
+    parsed: &mut Vec<Parsed>,
+) -> Result<(), LoadFault>
+    ensures { IfErr result (IsFaultOf (records.row_of declared.now order.now.columns.items row (fields_of fields.now))) }
+{
+    if fields.as_slice().is_ascii() {
+        return Ok(());
+    }
+    if fields.len() != declared.len() {
+        return Err(LoadFault::Table(TableFault::FieldCount { row }));
+    }
+    judge_fields(declared, &order.columns, row, fields, parsed)
 }
 
 /// The records of a file, on their way into columns.
 #[derive(Drop)]
 pub struct Rows<'c, R> {
+    alloc: Global,
     reader: Reader<R>,
     declared: &'c [Declared],
     order: FileOrder,
@@ -125,6 +149,7 @@ pub fn open_rows<R: Read + Drop>(
     }
     let order = order_of(alloc, declared, &fields)?;
     Ok(Rows {
+        alloc,
         reader,
         declared,
         order,
@@ -134,6 +159,33 @@ pub fn open_rows<R: Read + Drop>(
 }
 
 impl<R: Read> Rows<'_, R> {
+    /// Puts the row of the record that was read behind the last rows. The record's buffers come back
+    /// unless it is refused.
+    fn take_record(&mut self, row: u64, columns: &mut [Column]) -> Result<(), LoadFault>
+        requires { length columns.old ≡ length self.old.order.fields.items }
+        ensures declared { self.new.declared.now ≡ self.old.declared.now }
+        ensures order { self.new.order ≡ self.old.order }
+        ensures reader { self.new.reader ≡ self.old.reader }
+        ensures taken { TakesRow (records.row_of self.old.declared.now self.old.order.columns.items row (fields_of self.old.fields)) columns.old columns.new result }
+    {
+        check_texts(
+            self.declared,
+            &self.order,
+            row,
+            &self.fields,
+            &mut self.parsed,
+        )?;
+        let fields = mem::replace(&mut self.fields, ByteRecord::new(self.alloc));
+        let Ok(texts) = StringRecord::from_byte_record(fields) else {
+            // Each field is a text.
+            return Err(LoadFault::Memory);
+        };
+        let (declared, order, parsed) = (self.declared, &self.order, &mut self.parsed);
+        let taken = load_record(declared, order, row, &texts, parsed, columns);
+        self.fields = texts.into_byte_record();
+        taken
+    }
+
     /// Puts the next record's row behind the last rows, if there is a next record.
     fn next_row(&mut self, row: u64, columns: &mut [Column]) -> Result<bool, LoadFault>
         requires { length columns.old ≡ length self.old.order.fields.items }
@@ -145,14 +197,7 @@ impl<R: Read> Rows<'_, R> {
         if !next_record(&mut self.reader, &mut self.fields)? {
             return Ok(false);
         }
-        load_record(
-            self.declared,
-            &self.order,
-            row,
-            &self.fields,
-            &mut self.parsed,
-            columns,
-        )?;
+        self.take_record(row, columns)?;
         Ok(true)
     }
 

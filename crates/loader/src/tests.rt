@@ -108,7 +108,24 @@ fn facts(rt: HostRuntime) -> Result<(), Fail> {
             "3: row 1, column 0: not an integer of 64 bits",
         ),
         (b"name,q\n\xFF,x\n", &[1], "6: row 0, column 1: not UTF-8"),
+        (b"name,q\na,\xFF\n", &[1], "6: row 0, column 0: not UTF-8"),
+        (
+            b"q,name\nx,\xFF\n",
+            &[1],
+            "3: row 0, column 0: not an integer of 64 bits",
+        ),
+        (
+            b"q,name\n1,a\n\xFF\n",
+            &[2],
+            "2: row 1 does not have a field for each column",
+        ),
+        (
+            b"q,name\n1,\xC3\xA4\nx\n",
+            &[2],
+            "2: row 1 does not have a field for each column",
+        ),
         (b"name,q\na,x\n", &[0], "8: too many rows"),
+        (b"name,q\n\xFF\n", &[0], "8: too many rows"),
         (b"name,q\na,1\n", &[1, 1], "9: too few rows"),
     ] {
         let told = fact(rt.alloc(), csv, lengths)?;
@@ -135,6 +152,15 @@ fn dimensions(rt: HostRuntime) -> Result<(), Fail> {
         (
             b"k,region\n10,a\n10,\xFF\n",
             "6: row 1, column 1: not UTF-8",
+        ),
+        (
+            b"k,region\n,\xFF\n",
+            "4: row 0, column 0: NULL is not allowed",
+        ),
+        (b"region,k\n\xFF,\n", "6: row 0, column 1: not UTF-8"),
+        (
+            b"k,region\n10,\xC3\x84\n+10,\\N\n",
+            "7: row 1 has the key of an earlier row",
         ),
     ] {
         let told = dimension(rt.alloc(), csv)?;

@@ -1,1 +1,4 @@
+mod Each
 mod Lines
+mod LoadedColumns
+mod WrittenFiles

@@ -1,8 +1,9 @@
 -- The commands that the program takes.
 use Rattle.std.specs.Prelude.{◌≤◌}
 use Rattle.cli.specs.declared.command.Command.{Command}
-use Rattle.cli.specs.declared.command.Command.TheVariants.{Whole}
+use Rattle.cli.specs.declared.command.Command.TheVariants.{Whole, Load}
 
 -- each number of a command is one that it may have
 abbrev pub IsInRange : Command → Type 0
 IsInRange (Whole folder query rows vector) = ((1 ≤ rows) × (rows ≤ 1048576)) × ((1 ≤ vector) × (vector ≤ 4096))
+IsInRange (Load folder load rows) = (1 ≤ rows) × (rows ≤ 1048576)

@@ -1,5 +1,6 @@
 pub mod Command
 pub mod Folder
+pub mod Loading
 pub mod Running
 pub mod Status
 pub mod Telling

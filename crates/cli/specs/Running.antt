@@ -4,16 +4,13 @@ use Rattle.meaning.specs.Cut.{cut_of, even_lengths}
 use Rattle.coordinator.specs.Gathering.{GatherSpec}
 use Rattle.coordinator.specs.Whole.{Files, Input, IsAnswered}
 use Rattle.coordinator.specs.declared.reporting.Ended.{Ended}
-use Rattle.cli.specs.Folder.{AreHeld, catalog_path, csv_path}
+use Rattle.cli.specs.Folder.{Holds, File, AreHeld, catalog_path, csv_path}
+use Rattle.cli.specs.Loading.{IsLoaded}
 use Rattle.cli.specs.Status.{end_status}
 use Rattle.cli.specs.declared.command.Command.{Command}
-use Rattle.cli.specs.declared.command.Command.TheVariants.{Whole}
+use Rattle.cli.specs.declared.command.Command.TheVariants.{Whole, Load}
 use Rattle.cli.specs.declared.tables.CsvFile.{CsvFile}
 use Rattle.cli.specs.declared.tables.Tables.{Tables}
-
--- the bytes of each path, where they are known
-abbrev pub Holds : Type 0
-Holds = List ℕ → Option (List ℕ)
 
 -- a table's bytes are those of its CSV file
 abbrev pub IsCsvOf : Holds → List ℕ → CsvFile → Type 0
@@ -45,5 +42,7 @@ pub record IsDone (holds : Holds) (folder query : List ℕ) (rows vector : ℕ) 
   pub ends : status ≡ end_status ended
 
 -- the command was done
-abbrev pub IsDoneFor : Holds → Command → Option (List ℕ) → Option (List ℕ) → ℕ → Type 0
-IsDoneFor holds (Whole folder query rows vector) before after status = IsDone holds folder query rows vector before after status
+abbrev pub IsDoneFor : Holds → Command → Option (List ℕ) → Option (List ℕ) → Option (List File) → Option (List File) → ℕ → Type 0
+IsDoneFor holds (Whole folder query rows vector) before after wrote_before wrote_after status = IsDone holds folder query rows vector before after status
+IsDoneFor holds (Load folder load rows) before after wrote_before wrote_after status =
+    (status ≡ 0) × IsLoaded holds folder load rows before after wrote_before wrote_after

@@ -14,6 +14,8 @@ use Rattle.coordinator.specs.Planning as planning
 use Rattle.coordinator.specs.declared.planning.PlanFault.{PlanFault}
 use Rattle.coordinator.specs.declared.whole_fault.WholeFault.{WholeFault}
 use Rattle.coordinator.specs.declared.whole_fault.WholeFault.TheVariants as whole_fault
+use Rattle.loader.specs.declared.fault.LoadFault.{LoadFault}
+use Rattle.loader.specs.declared.fault.LoadFault.TheVariants as load_fault
 use Rattle.cli.specs.Folder.{csv_path}
 use Rattle.cli.specs.declared.refusal.Refusal.{Refusal}
 use Rattle.cli.specs.declared.refusal.Refusal.TheVariants as refusal
@@ -66,6 +68,7 @@ vector_length_line = numbered_line (codes "work") 4 []
 abbrev pub line_of : Refusal → List ℕ
 line_of refusal.Memory = codes "xcols: memory" ++ 10 ∷ []
 line_of (refusal.CannotRead path) = codes "xcols: cannot read " ++ path ++ 10 ∷ []
+line_of (refusal.CannotWrite path) = codes "xcols: cannot write " ++ path ++ 10 ∷ []
 line_of refusal.CannotPrint = codes "xcols: cannot write standard output" ++ 10 ∷ []
 line_of (refusal.Catalog e) = catalog_line e
 line_of (refusal.Cut e) = numbered_line (codes "cut") (cut.fault_number e) []
@@ -84,3 +87,9 @@ refusal_of folder (whole_fault.MissingCsv table) = refusal.CannotRead (csv_path 
 refusal_of folder (whole_fault.Load e) = refusal.Load e
 refusal_of folder whole_fault.VectorLength = refusal.VectorLength
 refusal_of folder whole_fault.Writer = refusal.CannotPrint
+
+-- how the program tells that a table of a folder was not loaded
+abbrev pub load_refusal : List ℕ → List ℕ → LoadFault → Refusal
+load_refusal folder table load_fault.Memory = refusal.Memory
+load_refusal folder table (load_fault.Table e) = refusal.Load e
+load_refusal folder table load_fault.Device = refusal.CannotRead (csv_path folder table)

@@ -11,4 +11,11 @@ pub enum Command {
         rows: u32,
         vector: u32,
     },
+    /// To load a folder's tables into files that carry the number `load`, with `rows` rows a
+    /// fragment, at most 1,048,576.
+    Load {
+        folder: Text,
+        load: u64,
+        rows: u32,
+    },
 }

@@ -38,25 +38,32 @@ fn parser<'a>(alloc: Global) -> Result<clap::Command<'a>, AllocError> {
         .bin_name("xcols")?
         .about("Queries over a star of tables that lies in a folder")
         .subcommand_required(true)
-        .subcommand(whole_parser(alloc)?)
+        .subcommand(whole_parser(alloc)?)?
+        .subcommand(load_parser(alloc)?)
+}
+
+fn folder_arg<'a>(alloc: Global) -> Arg<'a> {
+    Arg::new(alloc, "DIR")
+        .required(true)
+        .help("The folder of catalog.txt and one NAME.csv a table")
+}
+
+fn rows_arg<'a>(alloc: Global) -> Arg<'a> {
+    Arg::new(alloc, "rows")
+        .long("rows")
+        .value_name("R")
+        .required(true)
+        .value_parser(clap::value_parser!(u32).range(1..=i64::from(MOST_ROWS)))
+        .help("The rows of a fragment")
 }
 
 fn whole_parser<'a>(alloc: Global) -> Result<clap::Command<'a>, AllocError> {
-    let folder = Arg::new(alloc, "DIR")
-        .required(true)
-        .help("The folder of catalog.txt and one NAME.csv a table");
     let query = Arg::new(alloc, "query")
         .long("query")
         .value_name("Q")
         .required(true)
         .allow_hyphen_values(true)
         .help("The query in SQL");
-    let rows = Arg::new(alloc, "rows")
-        .long("rows")
-        .value_name("R")
-        .required(true)
-        .value_parser(clap::value_parser!(u32).range(1..=i64::from(MOST_ROWS)))
-        .help("The rows of a fragment");
     let vector = Arg::new(alloc, "vector")
         .long("vector")
         .value_name("V")
@@ -65,10 +72,24 @@ fn whole_parser<'a>(alloc: Global) -> Result<clap::Command<'a>, AllocError> {
         .help("The rows of a vector");
     clap::Command::new(alloc, "whole")
         .about("Answers a query in memory and prints the report")
-        .arg(folder)?
+        .arg(folder_arg(alloc))?
         .arg(query)?
-        .arg(rows)?
+        .arg(rows_arg(alloc))?
         .arg(vector)
+}
+
+fn load_parser<'a>(alloc: Global) -> Result<clap::Command<'a>, AllocError> {
+    let load = Arg::new(alloc, "load")
+        .long("load")
+        .value_name("N")
+        .required(true)
+        .value_parser(clap::value_parser!(u64))
+        .help("The number that the files carry");
+    clap::Command::new(alloc, "load")
+        .about("Writes the tables into files of columns")
+        .arg(folder_arg(alloc))?
+        .arg(load)?
+        .arg(rows_arg(alloc))
 }
 
 fn found(alloc: Global, matches: &ArgMatches<'_>) -> Result<Option<Command>, AllocError>
@@ -76,6 +97,7 @@ fn found(alloc: Global, matches: &ArgMatches<'_>) -> Result<Option<Command>, All
 {
     match matches.subcommand() {
         Some(("whole", matches)) => whole(alloc, matches),
+        Some(("load", matches)) => load(alloc, matches),
         _ => Ok(None),
     }
 }
@@ -100,15 +122,41 @@ fn whole(alloc: Global, matches: &ArgMatches<'_>) -> Result<Option<Command>, All
     }))
 }
 
-// The value of an option: digits alone, from 1 on.
-fn number(matches: &ArgMatches<'_>, id: &str, most: u32) -> Option<u32>
-    ensures { IfSome result (λ n. (1 ≤ n) × (n ≤ most)) }
+fn load(alloc: Global, matches: &ArgMatches<'_>) -> Result<Option<Command>, AllocError>
+    ensures { IfOk result (λ o. IfSome o IsInRange) }
 {
+    let (Some(folder), Some(load), Some(rows)) = (
+        matches.get_str("DIR"),
+        load_number(matches),
+        number(matches, "rows", MOST_ROWS),
+    ) else {
+        return Ok(None);
+    };
+    Ok(Some(Command::Load {
+        folder: Text::new(alloc, folder)?,
+        load,
+        rows,
+    }))
+}
+
+// The value of an option, where it is digits alone.
+fn digits<'a>(matches: &ArgMatches<'a>, id: &str) -> Option<&'a str> {
     let text = matches.get_str(id)?;
     if !text.bytes().all(|byte| byte.is_ascii_digit()) {
         return None;
     }
-    let number = text.parse::<u32>().ok()?;
+    Some(text)
+}
+
+fn load_number(matches: &ArgMatches<'_>) -> Option<u64> {
+    digits(matches, "load")?.parse::<u64>().ok()
+}
+
+// The value of an option, from 1 on.
+fn number(matches: &ArgMatches<'_>, id: &str, most: u32) -> Option<u32>
+    ensures { IfSome result (λ n. (1 ≤ n) × (n ≤ most)) }
+{
+    let number = digits(matches, id)?.parse::<u32>().ok()?;
     if number < 1 || number > most {
         return None;
     }

@@ -30,6 +30,9 @@ fn told(alloc: Global, words: &[&str]) -> Result<String, Fail> {
                 vector,
             },
         ) => format!(in alloc; "{}, {}, {rows}, {vector}", folder.as_str(), query.as_str())?,
+        Ok(Command::Load { folder, load, rows }) => {
+            format!(in alloc; "{}, {load}, {rows}", folder.as_str())?
+        }
         Err(fault) => format!(in alloc; "{} {fault}", fault.status())?,
     };
     Ok(told)
@@ -98,6 +101,47 @@ fn vectors_are_within_their_range(rt: HostRuntime) -> Result<(), Fail> {
 }
 
 #[test]
+fn loads_are_within_their_range(rt: HostRuntime) -> Result<(), Fail> {
+    for (load, want) in [
+        ("0", "sales, 0, 2"),
+        ("007", "sales, 7, 2"),
+        ("18446744073709551615", "sales, 18446744073709551615, 2"),
+        (
+            "18446744073709551616",
+            "2 error: invalid value '18446744073709551616' for '--load <N>'",
+        ),
+        ("-1", "2 error: unexpected argument '-1' found\n"),
+        ("+7", "2 error: a number is digits alone\n"),
+        ("", "2 error: invalid value '' for '--load <N>'"),
+    ] {
+        let words = ["load", "sales", "--load", load, "--rows", "2"];
+        expect_start(&rt, rt.alloc(), &words, want)?;
+    }
+    Ok(())
+}
+
+#[test]
+fn rows_of_a_load_are_within_their_range(rt: HostRuntime) -> Result<(), Fail> {
+    for (rows, want) in [
+        ("1", "sales, 7, 1"),
+        ("1048576", "sales, 7, 1048576"),
+        (
+            "0",
+            "2 error: invalid value '0' for '--rows <R>': 0 is not in 1..=1048576\n",
+        ),
+        (
+            "1048577",
+            "2 error: invalid value '1048577' for '--rows <R>': 1048577 is not in 1..=1048576\n",
+        ),
+        ("+2", "2 error: a number is digits alone\n"),
+    ] {
+        let words = ["load", "--rows", rows, "--load", "7", "sales"];
+        expect_start(&rt, rt.alloc(), &words, want)?;
+    }
+    Ok(())
+}
+
+#[test]
 fn a_query_is_any_text(rt: HostRuntime) -> Result<(), Fail> {
     for (query, want) in [
         (
@@ -138,6 +182,10 @@ fn other_words_are_usage_faults(rt: HostRuntime) -> Result<(), Fail> {
         ),
         (
             ["whole"].as_slice(),
+            "2 error: the following required arguments were not provided:\n",
+        ),
+        (
+            ["load", "a", "--rows", "1"].as_slice(),
             "2 error: the following required arguments were not provided:\n",
         ),
         (

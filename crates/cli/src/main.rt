@@ -8,8 +8,13 @@ mod command;
 mod command_line;
 #[cfg(test)]
 mod command_line_tests;
+#[cfg(test)]
+mod example_files;
 mod folder;
 mod host_folder;
+mod loading;
+#[cfg(test)]
+mod loading_tests;
 #[cfg(test)]
 mod memory_folder;
 mod paths;
@@ -17,6 +22,7 @@ mod refusal;
 mod running;
 #[cfg(test)]
 mod running_tests;
+mod saving;
 mod tables;
 mod telling;
 mod usage_fault;
@@ -32,7 +38,7 @@ use std::process::ExitCode;
 fn main(rt: HostRuntime) -> ExitCode {
     match asked(&rt) {
         Ok(command) => {
-            let mut folder = HostFolder::new(&rt);
+            let mut folder = HostFolder::new(rt.alloc(), &rt);
             let (mut out, mut err) = (rt.stdout(), rt.stderr());
             ExitCode::from(run(rt.alloc(), &command, &mut folder, &mut out, &mut err))
         }

@@ -1,20 +1,27 @@
-ghost use Rattle.std.specs.Prelude.{◌≡◌, ◌≢◌, ◌≤◌, IfOk};
+ghost use Rattle.std.specs.Prelude.{◌≡◌, ◌≢◌, ◌≤◌, IfOk, OnOk, length};
+ghost use Rattle.std.specs.Io.KnownBytes.{Appends};
+ghost use Rattle.meaning.specs.Catalog.{IsWellFormed};
 ghost use Rattle.coordinator.specs.Gathering.{GatherSpec};
 ghost use Rattle.coordinator.specs.Whole.{IsAnswered};
 ghost use Rattle.cli.specs.Command.{IsInRange};
-ghost use Rattle.cli.specs.Folder.{AreHeld, catalog_path};
+ghost use Rattle.cli.specs.Folder.{AreHeld, Writes, catalog_path};
+ghost use Rattle.cli.specs.Loading.{AreDimensionColumns, AreEach, AreFiles, AreFragmentColumns, IsCatalogLoaded, IsLoaded, loaded_line};
 ghost use Rattle.cli.specs.Running.{AreTables, IsDone, IsDoneFor, input_over};
 ghost use Rattle.cli.specs.Status.{IsRunStatus, end_status};
 
 use crate::command::Command;
 use crate::folder::Folder;
+use crate::loading::{Loaded, load_tables};
 use crate::paths::catalog_path;
 use crate::refusal::{Refusal, refusal_of};
+use crate::saving::save;
 use crate::tables::{Tables, lend_files, read_tables, try_read};
 use crate::telling::tell;
 use coordinator::{Ended, whole};
+use meaning::catalog::Catalog;
 use meaning::read_catalog::read_catalog;
 use std::alloc::Global;
+use std::io;
 use std::io::Write;
 use std::mem::drop;
 
@@ -105,8 +112,106 @@ fn answer<F: Folder, O: Write>(
     Ok(status_of(ended))
 }
 
-/// Does a command, and answers the program's exit status: 0 where a query gave rows, 3 where it ended with a fault of
-/// arithmetic, 1 where the command was refused. A report goes to `out`, the line of a refusal to `err`.
+fn print_loaded<O: Write>(rows: u64, fragments: usize, out: &mut O) -> io::Result<()>
+    ensures { OnOk result (Appends (O.contents out.old) (O.contents out.new) (loaded_line rows fragments)) }
+{
+    writeln!(out, "loaded {rows} rows in {fragments} fragments")
+}
+
+fn save_and_tell<F: Folder, O: Write>(
+    alloc: Global,
+    folder: &mut F,
+    directory: &str,
+    load: u64,
+    catalog: &Catalog,
+    loaded: &Loaded,
+    out: &mut O,
+) -> Result<(), Refusal>
+    requires well_formed { IsWellFormed catalog.now }
+    requires fragments { AreEach (AreFragmentColumns catalog.now.fact) loaded.now.fact.cut loaded.now.fact.fragments.items }
+    requires dims { AreEach AreDimensionColumns catalog.now.dims loaded.now.dims.items }
+    ensures written { OnOk result (Writes (AreFiles directory.now load catalog.now loaded.now.fact.cut loaded.now.fact.fragments.items loaded.now.dims.items)
+        (F.wrote folder.old) (F.wrote folder.new)) }
+    ensures printed { OnOk result (Appends (O.contents out.old) (O.contents out.new) (loaded_line loaded.now.fact.rows (length loaded.now.fact.cut))) }
+{
+    save(alloc, folder, directory, load, catalog, loaded)?;
+    match print_loaded(loaded.fact.rows, loaded.fact.cut.lengths().len(), out) {
+        Ok(()) => Ok(()),
+        Err(_) => Err(Refusal::CannotPrint),
+    }
+}
+
+fn load_declared<F: Folder, O: Write>(
+    alloc: Global,
+    folder: &mut F,
+    directory: &str,
+    load: u64,
+    catalog: &Catalog,
+    rows: u32,
+    out: &mut O,
+) -> Result<(), Refusal>
+    requires rows { 1 ≤ rows }
+    requires well_formed { IsWellFormed catalog.now }
+    ensures { OnOk result (IsCatalogLoaded (F.holds folder.old) directory.now load rows catalog.now (O.contents out.old) (O.contents out.new) (F.wrote folder.old) (F.wrote folder.new)) }
+{
+    let loaded = load_tables(alloc, folder, directory, catalog, rows)?;
+    let told = save_and_tell(alloc, folder, directory, load, catalog, &loaded, out);
+    drop(loaded);
+    told
+}
+
+fn load<F: Folder, O: Write>(
+    alloc: Global,
+    folder: &mut F,
+    directory: &str,
+    load: u64,
+    rows: u32,
+    out: &mut O,
+) -> Result<(), Refusal>
+    requires { 1 ≤ rows }
+    ensures { OnOk result (IsLoaded (F.holds folder.old) directory.now load rows (O.contents out.old) (O.contents out.new) (F.wrote folder.old) (F.wrote folder.new)) }
+{
+    let bytes = read_catalog_file(alloc, folder, directory)?;
+    let catalog = read_catalog(alloc, bytes.as_slice())?;
+    let loaded = load_declared(alloc, folder, directory, load, &catalog, rows, out);
+    drop(catalog);
+    loaded
+}
+
+fn status_by_command<F: Folder, O: Write>(
+    alloc: Global,
+    command: &Command,
+    folder: &mut F,
+    out: &mut O,
+) -> Result<u8, Refusal>
+    requires { IsInRange command.now }
+    ensures status { IfOk result IsRunStatus }
+    ensures done { IfOk result (IsDoneFor (F.holds folder.old) command.now (O.contents out.old) (O.contents out.new) (F.wrote folder.old) (F.wrote folder.new)) }
+{
+    match command {
+        Command::Whole {
+            folder: directory,
+            query,
+            rows,
+            vector,
+        } => {
+            let (directory, query) = (directory.as_str(), query.as_str());
+            answer(alloc, folder, directory, query, *rows, *vector, out)
+        }
+        Command::Load {
+            folder: directory,
+            load: number,
+            rows,
+        } => {
+            load(alloc, folder, directory.as_str(), *number, *rows, out)?;
+            Ok(0)
+        }
+    }
+}
+
+/// Does a command, and answers the program's exit status: 0 where a query gave rows or the tables were loaded, 3 where a
+/// query ended with a fault of arithmetic, 1 where the command was refused. A report goes to `out`, the line of a refusal
+/// to `err`.
 pub fn run<F: Folder, O: Write, E: Write>(
     alloc: Global,
     command: &Command,
@@ -116,16 +221,9 @@ pub fn run<F: Folder, O: Write, E: Write>(
 ) -> u8
     requires { IsInRange command.now }
     ensures status { IsRunStatus result }
-    ensures done { result ≢ 1 → IsDoneFor (F.holds folder.old) command.now (O.contents out.old) (O.contents out.new) result }
+    ensures done { result ≢ 1 → IsDoneFor (F.holds folder.old) command.now (O.contents out.old) (O.contents out.new) (F.wrote folder.old) (F.wrote folder.new) result }
 {
-    let Command::Whole {
-        folder: directory,
-        query,
-        rows,
-        vector,
-    } = command;
-    let (directory, query) = (directory.as_str(), query.as_str());
-    match answer(alloc, folder, directory, query, *rows, *vector, out) {
+    match status_by_command(alloc, command, folder, out) {
         Ok(status) => status,
         Err(refusal) => {
             // A closed standard error leaves nobody to tell.

@@ -1,42 +1,10 @@
 use crate::command_line::command;
+use crate::example_files::{Files, ONE_COLUMN, SALES, STAR};
 use crate::memory_folder::MemoryFolder;
 use crate::running::run;
 use std::alloc::Global;
 use std::process::Abort;
 use std::test::Fail;
-
-const CATALOG: &[u8] = b"\
-fact sales
-col id int
-col s int null
-col q int null
-col p int null
-col t text null
-dim store key k
-col k int
-col region text null
-";
-
-const SALES: &[u8] = b"\
-id,s,q,p,t
-1,10,2,5,a
-2,10,\\N,7,b
-3,20,0,9,a
-4,\\N,4,1,\\N
-5,30,1,9223372036854775807,a
-";
-
-const STORE: &[u8] = b"k,region\n10,north\n20,\\N\n";
-
-type Files<'a> = &'a [(&'a str, &'a [u8])];
-
-const STAR: Files<'static> = &[
-    ("sales/catalog.txt", CATALOG),
-    ("sales/sales.csv", SALES),
-    ("sales/store.csv", STORE),
-];
-
-const ONE_COLUMN: &[u8] = b"fact n\ncol v int\n";
 
 /// The exit status, what went to standard output, and what went to standard error.
 fn outcome(alloc: Global, files: Files<'_>, words: &[&str]) -> Result<String, Fail> {
@@ -47,7 +15,7 @@ fn outcome(alloc: Global, files: Files<'_>, words: &[&str]) -> Result<String, Fa
     let status = run(
         alloc,
         &command,
-        &mut MemoryFolder { files },
+        &mut MemoryFolder::new(alloc, files),
         &mut out,
         &mut err,
     );
@@ -203,7 +171,7 @@ fn standard_output_may_fail(rt: HostRuntime) -> Result<(), Fail> {
     let command = command(rt.alloc(), &words)?;
     let mut room = [0; 3];
     let (mut out, mut err) = (room.as_mut_slice(), Vec::new(rt.alloc()));
-    let mut folder = MemoryFolder { files: STAR };
+    let mut folder = MemoryFolder::new(rt.alloc(), STAR);
     let status = run(rt.alloc(), &command, &mut folder, &mut out, &mut err);
     assert_eq!(rt; status, 1);
     assert_eq!(rt;

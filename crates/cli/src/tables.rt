@@ -1,14 +1,15 @@
 // The files of a folder that a query is answered over.
-ghost use Rattle.std.specs.Prelude.{◌≡◌, ◌≤◌, ℕ, Ok, IfOk, IfSome, All};
+ghost use Rattle.std.specs.Prelude.{◌≡◌, ◌≤◌, ℕ, Ok, IfOk, IfSome, All, length, drop};
 ghost use Rattle.meaning.specs.Cut.{cut_of, even_lengths};
+ghost use Rattle.loader.specs.Source.{csv_records};
 ghost use Rattle.coordinator.specs.Whole.{files_in};
 ghost use Rattle.cli.specs.Folder.{AreHeld};
 ghost use Rattle.cli.specs.Running.{AreTables, IsCsvOf, files_of};
 
 use crate::folder::Folder;
 use crate::paths::csv_path;
-use crate::refusal::Refusal;
-use coordinator::count_rows;
+use crate::refusal::{Refusal, load_refusal};
+use loader::count_rows;
 use meaning::catalog::Catalog;
 use meaning::cut::Cut;
 use meaning::text::Text;
@@ -72,13 +73,33 @@ fn try_read_csv<F: Folder>(
     Ok(Some(CsvFile { table, bytes }))
 }
 
+/// How many rows stand behind the header of a table's CSV file.
+pub fn counted_rows(
+    alloc: Global,
+    directory: &str,
+    table: &Text,
+    csv: &[u8],
+) -> Result<u64, Refusal>
+    ensures { IfOk result (λ n. n ≡ length (drop 1 (csv_records csv.now))) }
+{
+    match count_rows(alloc, csv) {
+        Ok(rows) => Ok(rows),
+        Err(fault) => Err(load_refusal(alloc, directory, table.as_str(), fault)),
+    }
+}
+
 /// The even cut of a file's rows. Where there is no file, there are no rows.
-fn cut_evenly(alloc: Global, fact: &Option<CsvFile>, rows: u32) -> Result<Cut, Refusal>
+fn cut_evenly(
+    alloc: Global,
+    directory: &str,
+    fact: &Option<CsvFile>,
+    rows: u32,
+) -> Result<Cut, Refusal>
     requires { 1 ≤ rows }
     ensures { IfOk result (λ cut. (counted : ℕ) × (cut_of (even_lengths counted rows) ≡ Ok cut)) }
 {
     let counted = match fact {
-        Some(file) => count_rows(alloc, file.bytes.as_slice())?,
+        Some(file) => counted_rows(alloc, directory, &file.table, file.bytes.as_slice())?,
         None => 0,
     };
     Ok(Cut::even(alloc, counted, rows)?)
@@ -118,7 +139,7 @@ pub fn read_tables<F: Folder>(
     ensures { IfOk result (AreTables (F.holds folder.now) directory.now rows) }
 {
     let fact = try_read_csv(alloc, folder, directory, &catalog.fact.name)?;
-    let cut = cut_evenly(alloc, &fact, rows)?;
+    let cut = cut_evenly(alloc, directory, &fact, rows)?;
     let files = read_files(alloc, folder, directory, catalog, fact)?;
     Ok(Tables { files, cut })
 }

@@ -112,6 +112,7 @@ pub fn tell<E: Write>(refusal: &Refusal, err: &mut E) -> io::Result<()>
     match refusal {
         Refusal::Memory => writeln!(err, "xcols: memory"),
         Refusal::CannotRead(path) => writeln!(err, "xcols: cannot read {}", path.as_str()),
+        Refusal::CannotWrite(path) => writeln!(err, "xcols: cannot write {}", path.as_str()),
         Refusal::CannotPrint => writeln!(err, "xcols: cannot write standard output"),
         Refusal::Catalog(fault) => tell_catalog(fault, err),
         Refusal::Cut(fault) => tell_number("cut", fault.number(), err),

@@ -2,6 +2,7 @@ pub mod Keyless
 pub mod OwnBody
 pub mod Fragments
 pub mod Tallies
+pub mod ColumnTallies
 pub mod Fitting
 pub mod OwnFits
 pub mod Spelled
@@ -9,14 +10,10 @@ pub mod Combined
 pub mod LastStep
 pub mod Held
 pub mod Places
-pub mod CsvRecords
-pub mod Judging
-pub mod Fields
-pub mod Integers
-pub mod Rows
-pub mod TypedRows
+pub mod CountedRows
 pub mod OwnAnswers
 pub mod Slices
+pub mod FragmentColumns
 pub mod Planned
 pub mod Files
 pub mod RecordTexts

@@ -1,8 +1,17 @@
 -- What is known of a plan from the query's text.
-use Rattle.std.specs.Prelude.{◌≡◌, ◌≢◌, ℕ, ◌≤◌, List, length, Option, Result, Ok, Err}
+use Rattle.std.specs.Prelude.{◌≡◌, ◌≢◌, ℕ, ◌≤◌, Bool, true, false, if◌then◌else◌, List, [], ◌∷◌, length, position, slice_get, Option, Some, None, Result, Ok, Err}
+use Rattle.std.specs.List.{list_any}
+use Rattle.std.specs.Str.{bytes_eq}
 use Rattle.std.proofs.Common.{refl, sym, ap, ◌∙◌, subst, arith}
+use Rattle.meaning.specs.declared.value.ColType.{ColType}
+use Rattle.meaning.specs.declared.value.ColType.TheVariants as of_type
+use Rattle.meaning.specs.declared.expr.Expr.{Expr as Node}
+use Rattle.meaning.specs.declared.expr.Expr.TheVariants as node
+use Rattle.meaning.specs.declared.catalog.Column.{Column}
 use Rattle.meaning.specs.declared.catalog.Table.{Table}
 use Rattle.meaning.specs.declared.catalog.Catalog.{Catalog}
+use Rattle.meaning.specs.declared.plan.Aggregate.{Aggregate}
+use Rattle.meaning.specs.declared.plan.TableUse.{TableUse}
 use Rattle.meaning.specs.declared.plan.Plan.{Plan}
 use Rattle.meaning.specs.Results.{and_then}
 use Rattle.sql_reader.specs.declared.tree.Query.{Query}
@@ -15,8 +24,10 @@ use Rattle.partial_codec.specs.Job.{IsPlanOfJob}
 use Rattle.coordinator.specs.declared.planning.PlanFault.{PlanFault}
 use Rattle.coordinator.specs.declared.planning.PlanFault.TheVariants as fault
 use Rattle.coordinator.specs.Single.{single_plan, IsSingle}
-use Rattle.coordinator.specs.Planning.{Form, counts, sums, tree_of, table_in, column_in, fact_named, summed_in, fact_use, plan_of}
+use Rattle.coordinator.specs.Planning.{Form, counts, sums, tree_of, table_in, column_in, fact_named, summable, summed_at, summed_in, fact_use, plan_of}
+use Rattle.coordinator.specs.Fragment.{IsSummable}
 use Rattle.coordinator.specs.Whole.{IsPlanned, IsPlanRefused, of_plan}
+use Rattle.coordinator.proofs.CountedRows.{went_on}
 
 form_of_item : (ts : List Terminal) (e : Expr) (table : List ℕ) → SpellsItem ts e → (form : Form) × (query_of e table ≡ tree_of form)
 form_of_item ts e table (rows _ _ tokens is) = (counts table, ap (λ x. query_of x table) is)
@@ -66,3 +77,62 @@ single_if_planned catalog bytes plan planned =
         aggregates = subst (λ (p : Plan). length p.aggs ≤ 64) (sym found.0.form) (omega arith);
       },
     )
+
+-- ---- what such a plan sums
+
+abbrev argument_place : Node → Option ℕ
+argument_place (node.Column place) = Some place
+argument_place _ = None
+
+abbrev summed_first : List Aggregate → Option ℕ
+summed_first [] = None
+summed_first (a ∷ aggs) = argument_place a.argument
+
+read_off : (text : List ℕ) (fact : TableUse) (summed : Option ℕ) → summed_first (single_plan text fact summed).aggs ≡ summed
+read_off text fact None = refl
+read_off text fact (Some place) = refl
+
+-- a plan sums one column or none
+same_summed : (plan : Plan) (text : List ℕ) (fact : TableUse) (summed other : Option ℕ) → single_plan text fact summed ≡ plan → plan ≡ single_plan plan.text plan.fact other → summed ≡ other
+same_summed plan text fact summed other made form =
+    sym (read_off text fact summed) ∙ ap (λ (p : Plan). summed_first p.aggs) (made ∙ form) ∙ read_off plan.text plan.fact other
+
+of_column : (columns : List Column) (place : ℕ) (name : List ℕ) (col_type : ColType) (nullable : Bool) (summed : Option ℕ) → slice_get columns place ≡ Some (record { name = name; col_type = col_type; nullable = nullable })
+    → summable place (Some (record { name = name; col_type = col_type; nullable = nullable })) ≡ Ok summed → IsSummable columns summed
+of_column columns place name of_type.Int nullable summed there e =
+    let same : Some place ≡ summed = cc e in
+    subst (IsSummable columns) same (record { name = name; col_type = of_type.Int; nullable = nullable }, there, refl)
+of_column columns place name of_type.Text nullable summed there e = cc e
+
+of_place : (columns : List Column) (place : ℕ) (c : Option Column) (summed : Option ℕ) → slice_get columns place ≡ c → summable place c ≡ Ok summed → IsSummable columns summed
+of_place columns place None summed there e = cc e
+of_place columns place (Some c) summed there e = of_column columns place c.name c.col_type c.nullable summed there e
+
+of_found : (columns : List Column) (place : Option ℕ) (summed : Option ℕ) → summed_at columns place ≡ Ok summed → IsSummable columns summed
+of_found columns None summed e = cc e
+of_found columns (Some place) summed e = of_place columns place (slice_get columns place) summed refl e
+
+of_name : (columns : List Column) (name : Option (List ℕ)) (summed : Option ℕ) → summed_in columns name ≡ Ok summed → IsSummable columns summed
+of_name columns None summed e =
+    let same : None ≡ summed = cc e in
+    subst (IsSummable columns) same tt
+of_name columns (Some name) summed e = of_found columns (position (λ c. bytes_eq c.name name) columns) summed e
+
+-- what has the name is the fact
+the_fact : (named other : Bool) (fact found : Table) → (if named then Ok fact else if other then Err fault.FactNotOnce else Err fault.TableUnknown) ≡ Ok found → fact ≡ found
+the_fact true other fact found e = cc e
+the_fact false true fact found e = cc e
+the_fact false false fact found e = cc e
+
+-- the column that a plan sums is one of integers of the fact
+pub summable_if_planned : (catalog : Catalog) (bytes : List ℕ) (plan : Plan) → IsPlanned catalog bytes (Ok plan)
+    → (summed : Option ℕ) → plan ≡ single_plan plan.text plan.fact summed → IsSummable catalog.fact.columns summed
+summable_if_planned catalog bytes plan planned summed form =
+    let text = canonical (tree_of planned.form) in
+    let name = column_in planned.form in
+    let (fact, named, rest) = went_on (fact_named catalog (table_in planned.form)) (λ t. and_then (summed_in t.columns name) (λ s. Ok (single_plan text (fact_use t s) s))) plan planned.gives in
+    let (own, found, made) = went_on (summed_in fact.columns name) (λ s. Ok (single_plan text (fact_use fact s) s)) plan rest in
+    let is_plan : single_plan text (fact_use fact own) own ≡ plan = cc made in
+    let is_fact : catalog.fact ≡ fact = the_fact (bytes_eq catalog.fact.name (table_in planned.form)) (list_any (λ d. bytes_eq d.table.name (table_in planned.form)) catalog.dims) catalog.fact fact named in
+    let summable : IsSummable fact.columns own = of_name fact.columns name own found in
+    subst (λ (t : Table). IsSummable t.columns summed) (sym is_fact) (subst (IsSummable fact.columns) (same_summed plan text (fact_use fact own) own summed is_plan form) summable)

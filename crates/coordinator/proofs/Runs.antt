@@ -1,45 +1,65 @@
--- The fact's rows are as many as the cut's.
-use Rattle.std.specs.Prelude.{◌≡◌, List, length, map, sum, zip, None, Result, Ok, Err}
-use Rattle.std.proofs.Common.{ap, arith}
+-- The fact's fragments, from the files to the answer.
+use Rattle.std.specs.Prelude.{◌≡◌, ℕ, List, [], Option, Result, Ok, Err, IfOk}
+use Rattle.std.specs.Borrow.{Bor}
+use Rattle.std.proofs.Common.{refl, sym, ap}
+use Rattle.meaning.specs.declared.catalog.Column.{Column}
 use Rattle.meaning.specs.declared.catalog.Catalog.{Catalog}
 use Rattle.meaning.specs.declared.plan.Plan.{Plan}
-use Rattle.meaning.specs.declared.table.TableFault.{TableFault}
 use Rattle.meaning.specs.Order.{Row}
 use Rattle.meaning.specs.Table.{Cut}
-use Rattle.meaning.specs.Results.{all_ok, and_then}
 use Rattle.meaning.specs.Records.{fact_of}
+use Rattle.meaning.specs.CatalogText.{catalog_of}
+use Rattle.columns.specs.Column.{ColumnSpec}
+use Rattle.loader.specs.Columns.{fragments_of, fact_fragments}
+use Rattle.loader.specs.Source.{csv_records}
+use Rattle.coordinator.specs.declared.reporting.Ended.{Ended}
 use Rattle.coordinator.specs.declared.whole_fault.WholeFault.{WholeFault}
-use Rattle.coordinator.specs.Loading.{csv_records}
-use Rattle.coordinator.specs.Whole.{Files, csv_of, table_from, joined_table, tables_of}
-use Rattle.coordinator.proofs.TypedRows.{counted_table}
+use Rattle.coordinator.specs.Fragment.{AreFragments}
+use Rattle.coordinator.specs.Gathering.{GatherSpec}
+use Rattle.coordinator.specs.Single.{IsSingle}
+use Rattle.coordinator.specs.Whole.{Files, files_in, input_of, csv_of, tables_of, IsLoaded, IsPrepared, IsAnsweredOver, IsAnswered}
+use Rattle.coordinator.proofs.CountedRows.{went_on, counted_fact}
+use Rattle.coordinator.proofs.Planned.{summable_if_planned}
 
-bind_ok : {X Y : Type 0} (r : Result X WholeFault) (next : X → Result Y WholeFault) (y : Y) → and_then r next ≡ Ok y → (x : X) × (next x ≡ Ok y)
-bind_ok (Ok x) next y e = (x, e)
-bind_ok (Err f) next y e = absurd cc
+tables_alone : (catalog : Catalog) (files : Files) (cut : Cut) (plan : Plan) (csv : List ℕ) (rows : List Row) → plan.joins ≡ []
+    → csv_of files plan.fact.name ≡ Ok csv → fact_of catalog cut (csv_records csv) ≡ Ok rows → tables_of catalog files cut plan ≡ Ok (rows, [])
+tables_alone catalog files cut plan csv rows alone there found = rw (there, alone, found) refl
 
-of_table : (r : Result (List Row) TableFault) (rows : List Row) → table_from r ≡ Ok rows → r ≡ Ok rows
-of_table (Ok found) rows e = cc
-of_table (Err f) rows e = absurd cc
+-- the fact's file gives its fragments
+pub loaded : (catalog : Catalog) (files : Files) (cut : Cut) (plan : Plan) (csv : List ℕ) (fragments : List (List ColumnSpec)) → IsSingle plan
+    → csv_of files plan.fact.name ≡ Ok csv → fact_fragments catalog cut (csv_records csv) ≡ Ok fragments → IsLoaded catalog files cut plan fragments
+loaded catalog files cut plan csv fragments single there e =
+    let (rows, found, made) = went_on (fact_of catalog cut (csv_records csv)) (λ rows. Ok (fragments_of catalog.fact.columns cut rows)) fragments e in
+    let alone : plan.joins ≡ [] = ap (λ (p : Plan). p.joins) single.form in
+    let same : fragments_of catalog.fact.columns cut rows ≡ fragments = cc made in
+    record {
+      rows = rows;
+      tables = tables_alone catalog files cut plan csv rows alone there found;
+      fragments_are = sym same;
+      whole = counted_fact catalog cut (csv_records csv) rows found;
+    }
 
-abbrev pair : List Row → List (List Row) → Result (List Row × List (List Row)) WholeFault
-pair rows dims = Ok (rows, dims)
+module _ (catalog : Catalog) (csvs : List (Bor (List ℕ) × Bor (List ℕ))) (query : List ℕ) (cut : Cut) (vector_len : ℕ) (plan : Plan) (fragments : List (List ColumnSpec)) (prepared : IsPrepared catalog (files_in csvs) query cut vector_len plan fragments) where
+  pub are_fragments : AreFragments plan catalog.fact.columns prepared.loaded.rows cut fragments
+  are_fragments = record {
+    fragments_are = prepared.loaded.fragments_are;
+    whole = prepared.loaded.whole;
+    summable = summable_if_planned catalog query plan prepared.planned;
+  }
 
-abbrev first_or : List Row → Result (List Row × List (List Row)) WholeFault → List Row
-first_or other (Ok p) = p.0
-first_or other (Err f) = other
-
-rows_of_two : (fact : Result (List Row) WholeFault) (dims : Result (List (List Row)) WholeFault) (rows : List Row) (tables : List (List Row))
-    → and_then fact (λ found. and_then dims (pair found)) ≡ pair rows tables → fact ≡ Ok rows
-rows_of_two (Ok found) (Ok joined) rows tables e = ap (λ r. Ok (first_or found r)) e
-rows_of_two (Ok found) (Err f) rows tables e = absurd cc
-rows_of_two (Err f) dims rows tables e = absurd cc
-
-pub counted : (catalog : Catalog) (files : Files) (cut : Cut) (plan : Plan) (rows : List Row) (dims : List (List Row)) → tables_of catalog files cut plan ≡ Ok (rows, dims) → length rows ≡ sum cut
-counted catalog files cut plan rows dims e =
-    let fact = bind_ok (csv_of files plan.fact.name) (λ fact_csv. and_then (all_ok (map (λ j. csv_of files j.dim.name) plan.joins)) (λ csvs. and_then (table_from (fact_of catalog cut (csv_records fact_csv))) (λ found. and_then (all_ok (map (joined_table catalog) (zip plan.joins csvs))) (pair found)))) (rows, dims) e in
-    let csvs = bind_ok (all_ok (map (λ j. csv_of files j.dim.name) plan.joins)) (λ csvs. and_then (table_from (fact_of catalog cut (csv_records fact.0))) (λ found. and_then (all_ok (map (joined_table catalog) (zip plan.joins csvs))) (pair found))) (rows, dims) fact.1 in
-    let loaded = rows_of_two (table_from (fact_of catalog cut (csv_records fact.0))) (all_ok (map (joined_table catalog) (zip plan.joins csvs.0))) rows dims csvs.1 in
-    let bounds = counted_table catalog.fact.columns None (sum cut) (sum cut) (csv_records fact.0) rows (of_table (fact_of catalog cut (csv_records fact.0)) rows loaded) in
-    let low = bounds.0 in
-    let high = bounds.1 in
-    grind (arith, low, high)
+  -- an answer over the fragments is one over the input
+  pub answered : (before after : Option (List ℕ)) (result : Result (Ended × GatherSpec) WholeFault)
+      → IfOk result (λ r. (declared : List Column) (rows : List Row) → AreFragments plan declared rows cut fragments → IsAnsweredOver plan rows cut before after r.0 r.1)
+      → IfOk result (λ r. (bytes : List ℕ) → catalog_of bytes ≡ Ok catalog → IsAnswered (input_of bytes csvs query cut vector_len) before after r.0 r.1)
+  answered before after (Err e) over = tt
+  answered before after (Ok r) over = λ bytes declared.
+      let told = over catalog.fact.columns prepared.loaded.rows are_fragments in
+      record {
+        plan = plan;
+        rows = prepared.loaded.rows;
+        dims = [];
+        over = record { catalog = catalog; declared = declared; planned = prepared.planned; tables = prepared.loaded.tables; vectors = prepared.vectors };
+        printed = told.printed;
+        ends = told.ends;
+        state = told.state;
+      }

@@ -2,7 +2,6 @@
 use Rattle.std.specs.Prelude.{◌≡◌, ℕ, zero, suc, ◌+◌, ◌<◌, ◌≤◌, List, [], ◌∷◌, ◌++◌, length, take, drop, sum, slice_index}
 use Rattle.std.specs.List.{range_with_len}
 use Rattle.std.proofs.Common.{refl, sym, ap, ◌∙◌, arith}
-use Rattle.std.proofs.Math.Seq.{drop-drop}
 use Rattle.std.proofs.Math.Numerals.{suc-eq-add-one}
 use Rattle.std.proofs.lemmas.List.{length-drop, map-append}
 use Rattle.std.proofs.lemmas.List.Sums.{sum_by-cons}
@@ -12,7 +11,7 @@ use Rattle.meaning.specs.Table.{Cut, first_row}
 use Rattle.meaning.specs.Answer.{own}
 use Rattle.meaning.specs.Laws.{own_answers}
 
-sum_cons : (n : ℕ) (ns : List ℕ) → sum (n ∷ ns) ≡ n + sum ns
+pub sum_cons : (n : ℕ) (ns : List ℕ) → sum (n ∷ ns) ≡ n + sum ns
 sum_cons n ns = sum_by-cons (λ x. x) n ns
 
 sum_to_next : (cut : Cut) (k : ℕ) → k < length cut → sum (take (suc k) cut) ≡ sum (take k cut) + slice_index cut k
@@ -34,10 +33,6 @@ sum_to_place (n ∷ ns) (suc k) =
     let rest = sum_to_place ns k in
     grind (arith, here, there, rest)
 
--- the next fragment begins where this one ends
-pub next_first : (cut : Cut) (k : ℕ) → k < length cut → first_row cut (k + 1) ≡ first_row cut k + slice_index cut k
-next_first cut k below = ap (λ n. sum (take n cut)) (sym (suc-eq-add-one k)) ∙ sum_to_next cut k below
-
 -- the fragment's rows are there
 pub room : (cut : Cut) (k : ℕ) (rows : List Row) → k < length cut → length rows ≡ sum cut → slice_index cut k ≤ length (drop (first_row cut k) rows)
 room cut k rows below whole =
@@ -45,10 +40,6 @@ room cut k rows below whole =
     let most = sum_to_place cut (suc k) in
     let left = length-drop (first_row cut k) rows in
     grind (arith, next, most, left, whole)
-
--- behind a fragment's rows are those of the next
-pub behind : (cut : Cut) (k : ℕ) (rows : List Row) → k < length cut → drop (slice_index cut k) (drop (first_row cut k) rows) ≡ drop (first_row cut (k + 1)) rows
-behind cut k rows below = drop-drop (slice_index cut k) (first_row cut k) rows ∙ ap (λ n. drop n rows) (sym (next_first cut k below))
 
 range_to_next : (start n : ℕ) → range_with_len start (suc n) ≡ range_with_len start n ++ (start + n) ∷ []
 range_to_next start zero = ap (λ k. k ∷ []) (grind arith)

@@ -1,5 +1,5 @@
 -- The loops that add tallies.
-use Rattle.std.specs.Prelude.{◌≡◌, ℕ, suc, ◌+◌, ◌<◌, ◌≤◌, pos, ◌+ℤ◌, List, [], ◌∷◌, map, length, drop, slice_index_or, Some, None}
+use Rattle.std.specs.Prelude.{◌≡◌, ℕ, suc, ◌+◌, ◌<◌, ◌≤◌, pos, ◌+ℤ◌, List, [], ◌∷◌, map, length, drop, slice_index_or, None}
 use Rattle.std.proofs.Common.{refl, sym, ap, subst, ◌∙◌, arith, add-one, one-add, zero-add, add-zero}
 use Rattle.std.proofs.Math.Nat.{add_assoc}
 use Rattle.std.proofs.Math.Seq.{drop-cons}
@@ -8,11 +8,11 @@ use Rattle.std.proofs.Math.IntN.{+ℤ_assoc, +ℤ_idl, +ℤ_idr}
 use Rattle.std.proofs.lemmas.Int.{ints}
 use Rattle.meaning.specs.declared.value.Value.{Value}
 use Rattle.meaning.specs.declared.value.Value.TheVariants.{Null, Int, Text}
-use Rattle.meaning.specs.Order.{Row, column, number}
+use Rattle.meaning.specs.Order.{Row, number}
 use Rattle.meaning.specs.Aggregate.{present, total}
 use Rattle.coordinator.specs.declared.tally.Tally.{Tally}
 use Rattle.coordinator.specs.OneGroup.{entry_of, IsTallyOfRows}
-use Rattle.coordinator.specs.Tally.{no_rows, plus, together, tally_of_value, IsPossible}
+use Rattle.coordinator.specs.Tally.{no_rows, plus, together, tally_of_value, tally_of_values, IsPossible}
 
 plus-assoc : (a b c : Tally) → plus (plus a b) c ≡ plus a (plus b c)
 plus-assoc a b c = λ i. record { rows = add_assoc a.rows b.rows c.rows i; count = add_assoc a.count b.count c.count i; sum = +ℤ_assoc a.sum b.sum c.sum i }
@@ -26,7 +26,7 @@ plus-none t = λ i. record { rows = add-zero t.rows i; count = add-zero t.count 
 pub none-possible : IsPossible no_rows
 none-possible = record { entries = omega arith; low = omega (arith, ints); high = omega (arith, ints) }
 
-plus-possible : (a b : Tally) → IsPossible a → IsPossible b → IsPossible (plus a b)
+pub plus-possible : (a b : Tally) → IsPossible a → IsPossible b → IsPossible (plus a b)
 plus-possible a b p q = record {
   entries = omega (arith, p.entries, q.entries);
   low = omega (arith, ints, p.low, q.low);
@@ -60,49 +60,31 @@ module _ {X : Type 0} (f : X → Tally) where
       let none : drop i xs ≡ [] = drop_of_length-le xs past in
       sym (plus-none t) ∙ ap (λ (ys : List X). plus t (together (map f ys))) (sym none) ∙ before.whole
 
--- ---- the rows of a sum
+-- ---- the entries of rows
 
 pub counted_rows : (rows : List Row) → length rows ≡ length (present (map (entry_of None) rows))
 counted_rows [] = refl
 counted_rows (row ∷ rows) = ap suc (counted_rows rows)
 
--- the entries of some rows that are not NULL
-abbrev entries : ℕ → List Row → List Value
-entries place rows = present (map (entry_of (Some place)) rows)
-
-abbrev tally_of : ℕ → List Value → Tally
-tally_of rows vs = record { rows = rows; count = length vs; sum = total vs }
-
-one_absent : (n : ℕ) (vs : List Value) → plus (record { rows = 1; count = 0; sum = pos 0 }) (tally_of n vs) ≡ tally_of (suc n) vs
+one_absent : (n : ℕ) (vs : List Value) → plus (record { rows = 1; count = 0; sum = pos 0 }) (record { rows = n; count = length vs; sum = total vs }) ≡ record { rows = suc n; count = length vs; sum = total vs }
 one_absent n vs = λ i. record { rows = one-add n i; count = zero-add (length vs) i; sum = +ℤ_idl (total vs) i }
 
-one_there : (n : ℕ) (v : Value) (vs : List Value) → plus (record { rows = 1; count = 1; sum = number v }) (tally_of n vs) ≡ tally_of (suc n) (v ∷ vs)
+one_there : (n : ℕ) (v : Value) (vs : List Value)
+    → plus (record { rows = 1; count = 1; sum = number v }) (record { rows = n; count = length vs; sum = total vs }) ≡ record { rows = suc n; count = suc (length vs); sum = number v +ℤ total vs }
 one_there n v vs = λ i. record { rows = one-add n i; count = one-add (length vs) i; sum = number v +ℤ total vs }
 
-one_more : (n : ℕ) (v : Value) (vs : List Value) → plus (tally_of_value v) (tally_of n (present vs)) ≡ tally_of (suc n) (present (v ∷ vs))
-one_more n Null vs = one_absent n (present vs)
-one_more n (Int m) vs = one_there n (Int m) (present vs)
-one_more n (Text t) vs = one_there n (Text t) (present vs)
-
-abbrev pub of_row : ℕ → Row → Tally
-of_row place row = tally_of_value (column row place)
-
-together-rows : (place : ℕ) (rows : List Row) → together (map (of_row place) rows) ≡ tally_of (length rows) (entries place rows)
-together-rows place [] = refl
-together-rows place (row ∷ rows) = ap (plus (of_row place row)) (together-rows place rows) ∙ one_more (length rows) (column row place) (map (entry_of (Some place)) rows)
-
-pub sum_of_rows : (place : ℕ) (rows : List Row) (i : ℕ) (t : Tally) → length rows ≤ i → IsSoFar (of_row place) rows i t → IsTallyOfRows (Some place) rows t
-sum_of_rows place rows i t past before =
-    let same : tally_of (length rows) (entries place rows) ≡ t = sym (at_last (of_row place) rows i t past before ∙ together-rows place rows) in
-    let possible = subst IsPossible (sym same) before.possible in
-    subst (λ (u : Tally). IsTallyOfRows (Some place) rows u) same (record { rows = refl; state = refl; possible = possible })
+-- one value more
+pub one_more : (v : Value) (vs : List Value) → plus (tally_of_value v) (tally_of_values vs) ≡ tally_of_values (v ∷ vs)
+one_more Null vs = one_absent (length vs) (present vs)
+one_more (Int m) vs = one_there (length vs) (Int m) (present vs)
+one_more (Text t) vs = one_there (length vs) (Text t) (present vs)
 
 count-possible : (n : ℕ) → IsPossible (record { rows = n; count = n; sum = pos 0 })
 count-possible n = record { entries = omega arith; low = omega (arith, ints); high = omega (arith, ints) }
 
-pub count_of_rows : (rows : List Row) → IsTallyOfRows None rows (record { rows = length rows; count = length rows; sum = pos 0 })
-count_of_rows rows = record {
-  rows = refl;
-  state = ap (λ (n : ℕ). record { count = n; sum = pos 0; least = None; greatest = None }) (counted_rows rows);
-  possible = count-possible (length rows);
+pub count_of_rows : (n : ℕ) (rows : List Row) → length rows ≡ n → IsTallyOfRows None rows (record { rows = n; count = n; sum = pos 0 })
+count_of_rows n rows e = record {
+  rows = sym e;
+  state = ap (λ (m : ℕ). record { count = m; sum = pos 0; least = None; greatest = None }) (sym e ∙ counted_rows rows);
+  possible = count-possible n;
 }

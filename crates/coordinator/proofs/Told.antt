@@ -3,6 +3,7 @@ use Rattle.std.specs.Prelude.{◌≡◌, ℕ, List, [], length, sum, Option, Res
 use Rattle.std.specs.List.{range_with_len}
 use Rattle.std.specs.Io.KnownBytes.{Appends}
 use Rattle.std.proofs.Common.{sym, ◌∙◌, subst}
+use Rattle.meaning.specs.declared.catalog.Column.{Column}
 use Rattle.meaning.specs.declared.plan.Plan.{Plan}
 use Rattle.meaning.specs.Order.{Row}
 use Rattle.meaning.specs.Table.{Cut, numbered}
@@ -12,8 +13,10 @@ use Rattle.meaning.specs.Gather.{Report, joined, report, output}
 use Rattle.meaning.specs.Laws.{own_answers}
 use Rattle.meaning.specs.Print.{report_text}
 use Rattle.meaning.proofs.OwnStates.{report-own_answers}
+use Rattle.columns.specs.Column.{ColumnSpec}
 use Rattle.coordinator.specs.declared.reporting.Ended.{Ended}
 use Rattle.coordinator.specs.declared.whole_fault.WholeFault.{WholeFault}
+use Rattle.coordinator.specs.Fragment.{AreFragments}
 use Rattle.coordinator.specs.Gathering.{GatherSpec}
 use Rattle.coordinator.specs.Reporting.{ended_as}
 use Rattle.coordinator.specs.Whole.{IsAnsweredOver}
@@ -39,9 +42,12 @@ module _ (plan : Plan) (rows : List Row) (cut : Cut) (whole : length rows ≡ su
     state = same ∙ is;
   }
 
-  -- where a call printed what the state reports and handed it on
-  pub told : (before after : Option (List ℕ)) (g : GatherSpec) → g ≡ own_state → (result : Result (Ended × GatherSpec) WholeFault)
-      → OnOk result (Prints before after g) → IfOk result (λ r. Ends g r.0) → IfOk result (λ r. r.1 ≡ g)
-      → IfOk result (λ r. IsAnsweredOver plan rows cut before after r.0 r.1)
-  told before after g is (Ok r) prints ends same = answered before after g is r.0 r.1 prints ends same
-  told before after g is (Err e) prints ends same = tt
+-- where a call printed what the state reports and handed it on, the state being that of the answers of a table's fragments
+pub told : (plan : Plan) (cut : Cut) (fragments : List (List ColumnSpec)) (before after : Option (List ℕ)) (g : GatherSpec)
+    → ((declared : List Column) (rows : List Row) → AreFragments plan declared rows cut fragments
+    → g ≡ record { job = record { load = 0; plan = plan; cut = cut }; cells = joined cut (own_answers plan [] cut rows (range_with_len 0 (length cut))) })
+    → (result : Result (Ended × GatherSpec) WholeFault)
+    → OnOk result (Appends before after (report_text g.job.plan (report g.job.plan g.cells))) → IfOk result (λ r. (o : Output) → report g.job.plan g.cells ≡ output o → r.0 ≡ ended_as o) → IfOk result (λ r. r.1 ≡ g)
+    → IfOk result (λ r. (declared : List Column) (rows : List Row) → AreFragments plan declared rows cut fragments → IsAnsweredOver plan rows cut before after r.0 r.1)
+told plan cut fragments before after g is (Ok r) prints ends same = λ declared rows are. answered plan rows cut are.whole before after g (is declared rows are) r.0 r.1 prints ends same
+told plan cut fragments before after g is (Err e) prints ends same = tt

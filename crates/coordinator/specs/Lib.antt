@@ -1,11 +1,10 @@
 pub mod Finished
 pub mod Fitted
+pub mod Fragment
 pub mod Gathering
 pub mod Joining
 pub mod Laws
 pub mod Lent
-pub mod Loading
-pub mod LoadingSteps
 pub mod OneGroup
 pub mod Planning
 pub mod Printing

@@ -1,5 +1,5 @@
 -- Tallies: how many rows there are, and how many entries of the aggregate with which sum.
-use Rattle.std.specs.Prelude.{ℕ, pos, ◌+◌, ◌<◌, ◌≤◌, ◌+ℤ◌, ◌*ℤ◌, ◌≤ℤ◌, if◌then◌else◌, List, [], ◌∷◌, length, slice_index_or, None}
+use Rattle.std.specs.Prelude.{ℕ, ℤ, pos, ◌+◌, ◌<◌, ◌≤◌, ◌+ℤ◌, ◌*ℤ◌, ◌≤ℤ◌, if◌then◌else◌, List, [], ◌∷◌, length, slice_index_or, None}
 use Rattle.meaning.specs.declared.value.Value.{Value}
 use Rattle.meaning.specs.declared.answer.Statistics.{Statistics}
 use Rattle.meaning.specs.declared.answer.Group.{Group}
@@ -8,6 +8,7 @@ use Rattle.meaning.specs.declared.answer.Body.TheVariants.{Groups, Fault}
 use Rattle.meaning.specs.declared.answer.Cell.{Cell}
 use Rattle.meaning.specs.declared.answer.Cell.TheVariants.{Nothing, One, Conflict}
 use Rattle.meaning.specs.Order.{is_null, number}
+use Rattle.meaning.specs.Aggregate.{present, total}
 use Rattle.meaning.specs.Fitting.{least_integer, greatest_integer}
 use Rattle.coordinator.specs.declared.tally.Tally.{Tally}
 
@@ -25,6 +26,15 @@ together (t ∷ ts) = plus t (together ts)
 -- the entries and their sum, as a state
 abbrev pub state_of : Tally → Statistics
 state_of t = record { count = t.count; sum = t.sum; least = None; greatest = None }
+
+-- the sum of integers
+abbrev pub sum_of_ints : List ℤ → ℤ
+sum_of_ints [] = pos 0
+sum_of_ints (n ∷ ns) = n +ℤ sum_of_ints ns
+
+-- a row for each value, whose entry it is
+abbrev pub tally_of_values : List Value → Tally
+tally_of_values values = record { rows = length values; count = length (present values); sum = total (present values) }
 
 -- one row, whose entry this value is
 abbrev pub tally_of_value : Value → Tally

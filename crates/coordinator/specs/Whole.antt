@@ -1,5 +1,5 @@
 -- A query from CSV files to print: what it runs over, and why it is refused.
-use Rattle.std.specs.Prelude.{◌≡◌, ℕ, nat_le, Bool, true, false, ◌&&◌, List, [], map, zip, find, Option, Some, None, Result, Ok, Err, ⊤, ◌≢◌, length}
+use Rattle.std.specs.Prelude.{◌≡◌, ℕ, nat_le, Bool, true, false, ◌&&◌, List, [], map, zip, find, Option, Some, None, Result, Ok, Err, ⊤, ◌≢◌, length, sum}
 use Rattle.std.specs.Borrow.{Bor}
 use Rattle.std.specs.List.{range_with_len}
 use Rattle.std.specs.Str.{bytes_eq}
@@ -26,8 +26,11 @@ use Rattle.meaning.specs.declared.catalog.CatalogFault.TheVariants as catalog_fa
 use Rattle.coordinator.specs.declared.planning.PlanFault.TheVariants as plan_fault
 use Rattle.coordinator.specs.declared.print_fault.PrintFault.{PrintFault}
 use Rattle.coordinator.specs.declared.print_fault.PrintFault.TheVariants as print_fault
-use Rattle.coordinator.specs.declared.loading.LoadFault.{LoadFault}
-use Rattle.coordinator.specs.declared.loading.LoadFault.TheVariants as load_fault
+use Rattle.columns.specs.Column.{ColumnSpec}
+use Rattle.loader.specs.declared.fault.LoadFault.{LoadFault}
+use Rattle.loader.specs.declared.fault.LoadFault.TheVariants as load_fault
+use Rattle.loader.specs.Columns.{fragments_of}
+use Rattle.loader.specs.Source.{csv_records}
 use Rattle.coordinator.specs.declared.reporting.Ended.{Ended}
 use Rattle.coordinator.specs.Reporting.{ended_as}
 use Rattle.partial_codec.specs.Job.{IsPlanOfJob}
@@ -35,7 +38,6 @@ use Rattle.coordinator.specs.Single.{IsSingle}
 use Rattle.coordinator.specs.Gathering.{GatherSpec}
 use Rattle.coordinator.specs.Planning.{Form, tree_of, plan_of}
 use Rattle.coordinator.specs.declared.planning.PlanFault.{PlanFault}
-use Rattle.coordinator.specs.Loading.{csv_records}
 use Rattle.coordinator.specs.declared.whole_fault.WholeFault.{WholeFault}
 use Rattle.coordinator.specs.declared.whole_fault.WholeFault.TheVariants as fault
 
@@ -64,6 +66,8 @@ of_plan e = fault.Plan e
 abbrev pub of_load : LoadFault → WholeFault
 of_load load_fault.Memory = fault.Memory
 of_load (load_fault.Table e) = fault.Load e
+-- a slice's reader never fails
+of_load load_fault.Device = fault.Memory
 
 abbrev pub of_print : PrintFault → WholeFault
 of_print print_fault.Memory = fault.Memory
@@ -169,12 +173,19 @@ IsTablesRefused catalog files cut plan vector_len (fault.Load e) = tables_of cat
 IsTablesRefused catalog files cut plan vector_len fault.VectorLength = (tables : List Row × List (List Row)) × (tables_of catalog files cut plan ≡ Ok tables) × (is_vector_length vector_len ≡ false)
 IsTablesRefused catalog files cut plan vector_len _ = ⊥
 
--- a query of one aggregate with its plan and the fact's rows
-pub record IsPrepared (catalog : Catalog) (files : Files) (query : List ℕ) (cut : Cut) (vector_len : ℕ) (plan : Plan) (rows : List Row) : Type 0 where
+-- the fragments of the fact's rows, just as many as the cut has, where no table is joined
+pub record IsLoaded (catalog : Catalog) (files : Files) (cut : Cut) (plan : Plan) (fragments : List (List ColumnSpec)) : Type 0 where
+  pub rows : List Row
+  pub tables : tables_of catalog files cut plan ≡ Ok (rows, [])
+  pub fragments_are : fragments ≡ fragments_of catalog.fact.columns cut rows
+  pub whole : length rows ≡ sum cut
+
+-- a query of one aggregate with its plan and the fact's fragments
+pub record IsPrepared (catalog : Catalog) (files : Files) (query : List ℕ) (cut : Cut) (vector_len : ℕ) (plan : Plan) (fragments : List (List ColumnSpec)) : Type 0 where
   pub planned : IsPlanned catalog query (Ok plan)
   pub single : IsSingle plan
   pub job : IsPlanOfJob plan
-  pub tables : tables_of catalog files cut plan ≡ Ok (rows, [])
+  pub loaded : IsLoaded catalog files cut plan fragments
   pub vectors : is_vector_length vector_len ≡ true
 
 -- the same, of a catalogue that was read

@@ -1,4 +1,4 @@
-ghost use Rattle.std.specs.Prelude.{◌≡◌, ◌<◌, ◌≤◌, [], ◌∷◌, ◌++◌, ℕ, List, length, sum, slice_index, IfOk, IfErr, OnOk, Ok, true, false};
+ghost use Rattle.std.specs.Prelude.{◌≡◌, ◌<◌, ◌≤◌, [], ◌∷◌, ◌++◌, ℕ, List, length, slice_index, IfOk, IfErr, OnOk, Ok, true, false};
 ghost use Rattle.std.specs.List.{range_with_len, enumerate_from};
 ghost use Rattle.std.specs.Io.KnownBytes.{Appends};
 ghost use Rattle.meaning.specs.declared.answer.Answer.{Answer as AnAnswer};
@@ -10,21 +10,24 @@ ghost use Rattle.meaning.specs.Print.{report_text};
 ghost use Rattle.meaning.specs.CatalogText.{catalog_of};
 ghost use Rattle.meaning.specs.Cut.{IsCut};
 ghost use Rattle.partial_codec.specs.Job.{IsPlanOfJob};
+ghost use Rattle.meaning.specs.declared.catalog.Column.{Column as Declared};
+ghost use Rattle.meaning.specs.Order.{Row};
+ghost use Rattle.coordinator.specs.Fragment.{IsFragmentFor, AreFragments};
 ghost use Rattle.coordinator.specs.Reporting.{ended_as};
 ghost use Rattle.coordinator.specs.Single.{IsSingle};
-ghost use Rattle.coordinator.specs.Whole.{IsAnswered, IsAnsweredOver, IsPrepared, IsPrepareRefused, IsTablesRefused, IsRefused, IsEndRefusal, files_in, input_of, is_vector_length, tables_of};
+ghost use Rattle.coordinator.specs.Whole.{IsAnswered, IsAnsweredOver, IsLoaded, IsPrepared, IsPrepareRefused, IsTablesRefused, IsRefused, IsEndRefusal, files_in, input_of, is_vector_length};
 
 use crate::answering::answer_fragment;
 use crate::gather::Gather;
 use crate::inputs::{load_tables, plan_query};
 use crate::reporting::{Ended, ended_of, find, print_finding};
 use crate::whole_fault::WholeFault;
+use columns::Column;
 use meaning::catalog::Catalog;
 use meaning::cut::Cut;
 use meaning::plan::Plan;
 use meaning::read_catalog::read_catalog;
 use meaning::sequence::Sequence;
-use meaning::value::Row;
 use partial_codec::{Job, encode};
 use std::alloc::Global;
 use std::io::Write;
@@ -45,17 +48,25 @@ fn copy_cut(alloc: Global, cut: &Cut) -> Result<Cut, WholeFault>
     Cut::new(lengths).map_err(|_| WholeFault::Memory)
 }
 
-/// Answers for a fragment, and has the coordinator take the answer's bytes.
-fn answer_one(alloc: Global, gather: &mut Gather, rows: &[Row], k: u32) -> Result<(), WholeFault>
+/// Answers for a fragment of so many rows, and has the coordinator take the answer's bytes.
+fn answer_one(
+    alloc: Global,
+    gather: &mut Gather,
+    columns: &[Column],
+    row_count: u32,
+    k: u32,
+) -> Result<(), WholeFault>
     requires place { k < length gather.now.job.cut }
-    requires rows { slice_index gather.now.job.cut k ≡ length rows.now }
-    requires few { length rows.now ≤ 1048576 }
+    requires rows { slice_index gather.now.job.cut k ≡ row_count }
+    requires few { row_count ≤ 1048576 }
+    requires fragment { (declared : List Declared) × (rows : List Row) × IsFragmentFor gather.now.job.plan declared rows row_count columns.now }
     ensures same { OnOk result (gather.new.job ≡ gather.old.job) }
-    ensures taken { OnOk result ((answers : List AnAnswer) (first : ℕ) → gather.old.cells ≡ joined gather.old.job.cut answers
-        → gather.new.cells ≡ joined gather.old.job.cut (answers ++ record { k = k; body = own_body gather.old.job.plan [] (enumerate_from first rows.now) } ∷ [])) }
+    ensures taken { OnOk result ((answers : List AnAnswer) (declared : List Declared) (rows : List Row) (first : ℕ) → IsFragmentFor gather.old.job.plan declared rows row_count columns.now
+        → gather.old.cells ≡ joined gather.old.job.cut answers
+        → gather.new.cells ≡ joined gather.old.job.cut (answers ++ record { k = k; body = own_body gather.old.job.plan [] (enumerate_from first rows) } ∷ [])) }
     ensures refused { IfErr result (λ e. e ≡ WholeFault.Memory) }
 {
-    let answer = answer_fragment(alloc, gather.job().plan(), rows, k)?;
+    let answer = answer_fragment(alloc, gather.job().plan(), columns, row_count, k)?;
     let bytes = encode(alloc, gather.job(), &answer)?;
     match gather.absorb(alloc, bytes.as_slice()) {
         Ok(_) => Ok(()),
@@ -64,41 +75,46 @@ fn answer_one(alloc: Global, gather: &mut Gather, rows: &[Row], k: u32) -> Resul
     }
 }
 
-/// Answers for each fragment in turn. The lengths are those of the job's cut, and the rows are the whole table's.
+/// Answers for each fragment in turn. The lengths are those of the job's cut.
 fn answer_fragments(
     alloc: Global,
     gather: &mut Gather,
     lengths: &[u32],
-    rows: &[Row],
+    fragments: &[Sequence<Column>],
 ) -> Result<(), WholeFault>
     requires cut { gather.now.job.cut ≡ lengths.now }
     requires within_limits { IsCut lengths.now }
-    requires whole { length rows.now ≡ sum lengths.now }
+    requires fragments { (declared : List Declared) × (rows : List Row) × AreFragments gather.now.job.plan declared rows lengths.now fragments.now }
     requires nothing { gather.now.cells ≡ joined lengths.now [] }
     ensures same { OnOk result (gather.new.job ≡ gather.old.job) }
-    ensures taken { OnOk result (gather.new.cells ≡ joined lengths.now (own_answers gather.old.job.plan [] lengths.now rows.now (range_with_len 0 (length lengths.now)))) }
+    ensures taken { OnOk result ((declared : List Declared) (rows : List Row) → AreFragments gather.old.job.plan declared rows lengths.now fragments.now
+        → gather.new.cells ≡ joined lengths.now (own_answers gather.old.job.plan [] lengths.now rows (range_with_len 0 (length lengths.now)))) }
     ensures refused { IfErr result (λ e. e ≡ WholeFault.Memory) }
 {
-    let mut rest = rows;
     for k in 0..lengths.len() {
-        let (here, behind) = rest.split_at(lengths[k] as usize);
-        answer_one(alloc, gather, here, k as u32)?;
-        rest = behind;
+        let columns = fragments[k].as_slice();
+        answer_one(alloc, gather, columns, lengths[k], k as u32)?;
     }
     Ok(())
 }
 
 /// A coordinator that has taken just every fragment's own answer.
-fn answer_all(alloc: Global, plan: Plan, cut: &Cut, rows: &[Row]) -> Result<Gather, WholeFault>
+fn answer_all(
+    alloc: Global,
+    plan: Plan,
+    cut: &Cut,
+    fragments: &[Sequence<Column>],
+) -> Result<Gather, WholeFault>
     requires single { IsSingle plan }
     requires job { IsPlanOfJob plan }
-    requires whole { length rows.now ≡ sum cut.now }
-    ensures state { IfOk result (λ g. g ≡ record { job = record { load = 0; plan = plan; cut = cut.now }; cells = joined cut.now (own_answers plan [] cut.now rows.now (range_with_len 0 (length cut.now))) }) }
+    requires fragments { (declared : List Declared) × (rows : List Row) × AreFragments plan declared rows cut.now fragments.now }
+    ensures state { IfOk result (λ g. (declared : List Declared) (rows : List Row) → AreFragments plan declared rows cut.now fragments.now
+        → g ≡ record { job = record { load = 0; plan = plan; cut = cut.now }; cells = joined cut.now (own_answers plan [] cut.now rows (range_with_len 0 (length cut.now))) }) }
     ensures refused { IfErr result (λ e. e ≡ WholeFault.Memory) }
 {
     let job = Job::new(LOAD, plan, copy_cut(alloc, cut)?);
     let mut gather = Gather::new(alloc, job)?;
-    answer_fragments(alloc, &mut gather, cut.lengths(), rows)?;
+    answer_fragments(alloc, &mut gather, cut.lengths(), fragments)?;
     Ok(gather)
 }
 
@@ -123,14 +139,14 @@ fn check_vector_len(vector_len: usize) -> Result<(), WholeFault>
     Ok(())
 }
 
-/// A plan and the fact's rows.
+/// A plan and the fact's fragments.
 #[derive(Drop)]
 struct Run {
     plan: Plan,
-    rows: Sequence<Row>,
+    fragments: Vec<Sequence<Column>>,
 }
 
-/// The tables, and the vectors' length behind them.
+/// The fact's fragments, and the vectors' length behind them.
 fn checked_tables(
     alloc: Global,
     catalog: &Catalog,
@@ -138,17 +154,17 @@ fn checked_tables(
     cut: &Cut,
     plan: &Plan,
     vector_len: usize,
-) -> Result<Sequence<Row>, WholeFault>
+) -> Result<Vec<Sequence<Column>>, WholeFault>
     requires { IsSingle plan.now }
-    ensures tables { IfOk result (λ rows. tables_of catalog.now (files_in csvs.now) cut.now plan.now ≡ Ok (rows, [])) }
+    ensures loaded { IfOk result (λ fragments. IsLoaded catalog.now (files_in csvs.now) cut.now plan.now fragments.items) }
     ensures vectors { OnOk result (is_vector_length vector_len ≡ true) }
     ensures refused { IfErr result (IsTablesRefused catalog.now (files_in csvs.now) cut.now plan.now vector_len) }
 {
-    let rows = load_tables(alloc, catalog, csvs, cut, plan)?;
+    let fragments = load_tables(alloc, catalog, csvs, cut, plan)?;
     match check_vector_len(vector_len) {
-        Ok(()) => Ok(rows),
+        Ok(()) => Ok(fragments),
         Err(e) => {
-            drop(rows);
+            drop(fragments);
             Err(e)
         }
     }
@@ -163,12 +179,12 @@ fn prepare(
     cut: &Cut,
     vector_len: usize,
 ) -> Result<Run, WholeFault>
-    ensures prepared { IfOk result (λ run. IsPrepared catalog.now (files_in csvs.now) query.now cut.now vector_len run.plan run.rows) }
+    ensures prepared { IfOk result (λ run. IsPrepared catalog.now (files_in csvs.now) query.now cut.now vector_len run.plan run.fragments.items) }
     ensures refused { IfErr result (IsPrepareRefused catalog.now (files_in csvs.now) query.now cut.now vector_len) }
 {
     let plan = plan_query(alloc, catalog, query)?;
     match checked_tables(alloc, catalog, csvs, cut, &plan, vector_len) {
-        Ok(rows) => Ok(Run { plan, rows }),
+        Ok(fragments) => Ok(Run { plan, fragments }),
         Err(e) => {
             drop(plan);
             Err(e)
@@ -205,13 +221,14 @@ fn answer_run<W: Write>(
 ) -> Result<(Ended, Gather), WholeFault>
     requires single { IsSingle run.plan }
     requires job { IsPlanOfJob run.plan }
-    requires whole { length run.rows ≡ sum cut.now }
-    ensures answered { IfOk result (λ r. IsAnsweredOver run.plan run.rows cut.now (W.contents out.old) (W.contents out.new) r.0 r.1) }
+    requires fragments { (declared : List Declared) × (rows : List Row) × AreFragments run.plan declared rows cut.now run.fragments.items }
+    ensures answered { IfOk result (λ r. (declared : List Declared) (rows : List Row) → AreFragments run.plan declared rows cut.now run.fragments.items
+        → IsAnsweredOver run.plan rows cut.now (W.contents out.old) (W.contents out.new) r.0 r.1) }
     ensures refused { IfErr result IsEndRefusal }
 {
-    let Run { plan, rows } = run;
-    let gathered = answer_all(alloc, plan, cut, rows.as_slice());
-    drop(rows);
+    let Run { plan, fragments } = run;
+    let gathered = answer_all(alloc, plan, cut, &fragments);
+    drop(fragments);
     print_gathered(alloc, gathered?, out)
 }
 

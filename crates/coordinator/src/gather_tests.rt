@@ -1,10 +1,12 @@
 ghost use Rattle.std.specs.Prelude.{◌≡◌, length, IfOk};
+ghost use Rattle.partial_codec.specs.Job.{IsPlanOfJob};
 ghost use Rattle.coordinator.specs.Single.{IsSingle};
 
 use crate::fault::GatherFault;
 use crate::gather::{Absorbed, Gather};
 use crate::inputs::plan_query;
 use meaning::cut::Cut;
+use meaning::plan::Plan;
 use meaning::read_catalog::read_catalog;
 use partial_codec::Job;
 use std::alloc::{AllocError, Global};
@@ -30,14 +32,25 @@ const COUNT: &[u8] = b"SELECT COUNT(*) FROM sales";
 
 const SUM: &[u8] = b"SELECT SUM(q) FROM sales";
 
-fn job(alloc: Global, load: u64, query: &[u8], lengths: &[u32]) -> Result<Job, Fail>
-    ensures { IfOk result (λ job. IsSingle job.plan) }
+fn cut_of(alloc: Global, lengths: &[u32]) -> Result<Cut, Fail> {
+    Ok(Cut::new(Vec::from_slice(alloc, lengths)?)?)
+}
+
+fn plan_of(alloc: Global, query: &[u8]) -> Result<Plan, Fail>
+    ensures single { IfOk result IsSingle }
+    ensures job { IfOk result IsPlanOfJob }
 {
     let catalog = read_catalog(alloc, b"fact sales\ncol q int null\n")?;
     let planned = plan_query(alloc, &catalog, query);
     drop(catalog);
-    let cut = Cut::new(Vec::from_slice(alloc, lengths)?)?;
-    Ok(Job::new(load, planned?, cut))
+    Ok(planned?)
+}
+
+fn job(alloc: Global, load: u64, query: &[u8], lengths: &[u32]) -> Result<Job, Fail>
+    ensures { IfOk result (λ job. IsSingle job.plan) }
+{
+    let cut = cut_of(alloc, lengths)?;
+    Ok(Job::new(load, plan_of(alloc, query)?, cut))
 }
 
 fn gather(alloc: Global) -> Result<Gather, Fail> {
@@ -75,19 +88,60 @@ fn of_answers(alloc: Global, answers: &[&[u8]]) -> Result<String, Fail> {
     told
 }
 
+/// Answers, and bytes that are none.
+#[derive(Clone, Copy)]
+enum Said {
+    First,
+    FirstOfOneRow,
+    Second,
+    Magic,
+    Nothing,
+}
+
+impl Said {
+    fn bytes(self) -> &'static [u8] {
+        match self {
+            Said::First => FIRST,
+            Said::FirstOfOneRow => FIRST_OF_ONE_ROW,
+            Said::Second => SECOND,
+            Said::Magic => b"XGA",
+            Said::Nothing => b"",
+        }
+    }
+}
+
+fn of_said(alloc: Global, said: &[Said]) -> Result<String, Fail> {
+    let mut answers = Vec::new(alloc);
+    for one in said {
+        answers.push(one.bytes())?;
+    }
+    of_answers(alloc, &answers)
+}
+
 #[test]
 fn answers_in_any_order(rt: HostRuntime) -> Result<(), Fail> {
-    let all: [(&[&[u8]], &str); 7] = [
-        (&[], "missing: 0 1\n"),
-        (&[FIRST], "N missing: 1\n"),
-        (&[FIRST, SECOND], "N N c1\n5\n"),
-        (&[SECOND, FIRST, SECOND, FIRST], "N N K K c1\n5\n"),
-        (&[FIRST, FIRST_OF_ONE_ROW, FIRST], "N C0 C0 conflict: 0\n"),
-        (&[FIRST_OF_ONE_ROW, SECOND, FIRST], "N N C0 conflict: 0\n"),
-        (&[b"XGA", FIRST, b"", SECOND], "2 N 2 N c1\n5\n"),
-    ];
-    for (answers, want) in all {
-        let told = of_answers(rt.alloc(), answers)?;
+    for (said, want) in [
+        ([].as_slice(), "missing: 0 1\n"),
+        (&[Said::First], "N missing: 1\n"),
+        (&[Said::First, Said::Second], "N N c1\n5\n"),
+        (
+            &[Said::Second, Said::First, Said::Second, Said::First],
+            "N N K K c1\n5\n",
+        ),
+        (
+            &[Said::First, Said::FirstOfOneRow, Said::First],
+            "N C0 C0 conflict: 0\n",
+        ),
+        (
+            &[Said::FirstOfOneRow, Said::Second, Said::First],
+            "N N C0 conflict: 0\n",
+        ),
+        (
+            &[Said::Magic, Said::First, Said::Nothing, Said::Second],
+            "2 N 2 N c1\n5\n",
+        ),
+    ] {
+        let told = of_said(rt.alloc(), said)?;
         assert_eq!(rt; told.as_str(), want);
     }
     Ok(())
@@ -146,58 +200,57 @@ fn a_sum_that_no_rows_can_give_is_refused(rt: HostRuntime) -> Result<(), Fail> {
     Ok(())
 }
 
-fn take_all(alloc: Global, gather: &mut Gather, answers: &[&[u8]]) -> Result<(), GatherFault> {
-    for answer in answers {
-        gather.absorb(alloc, answer)?;
+fn take_all(alloc: Global, gather: &mut Gather, said: &[Said]) -> Result<(), GatherFault> {
+    for one in said {
+        gather.absorb(alloc, one.bytes())?;
     }
     Ok(())
 }
 
-fn taken_state(alloc: Global, gather: &mut Gather, answers: &[&[u8]]) -> Result<Vec<u8>, Fail> {
-    take_all(alloc, gather, answers)?;
+fn taken_state(alloc: Global, gather: &mut Gather, said: &[Said]) -> Result<Vec<u8>, Fail> {
+    take_all(alloc, gather, said)?;
     Ok(gather.state_bytes(alloc)?)
 }
 
 /// What a coordinator holds after these answers.
-fn state_after(alloc: Global, answers: &[&[u8]]) -> Result<Vec<u8>, Fail> {
+fn state_after(alloc: Global, said: &[Said]) -> Result<Vec<u8>, Fail> {
     let mut gather = gather(alloc)?;
-    let bytes = taken_state(alloc, &mut gather, answers);
+    let bytes = taken_state(alloc, &mut gather, said);
     drop(gather);
     bytes
 }
 
 #[test]
 fn states_have_their_sizes(rt: HostRuntime) -> Result<(), Fail> {
-    let all: [(&[&[u8]], usize); 4] = [
-        (&[], 94),
-        (&[FIRST], 107),
-        (&[FIRST, SECOND], 120),
-        (&[FIRST, FIRST_OF_ONE_ROW, SECOND], 107),
-    ];
-    for (answers, want) in all {
-        let bytes = state_after(rt.alloc(), answers)?;
+    for (said, want) in [
+        ([].as_slice(), 94),
+        (&[Said::First], 107),
+        (&[Said::First, Said::Second], 120),
+        (&[Said::First, Said::FirstOfOneRow, Said::Second], 107),
+    ] {
+        let bytes = state_after(rt.alloc(), said)?;
         assert_eq!(rt; bytes.len(), want);
     }
     Ok(())
 }
 
 /// Puts four answers into one of their 24 orders.
-fn shuffle(answers: &mut [&[u8]; 4], order: usize)
-    ensures { length answers.new ≡ 4 }
+fn shuffle(said: &mut [Said; 4], order: usize)
+    ensures { length said.new ≡ 4 }
 {
-    answers.swap(3, order % 4);
-    answers.swap(2, order / 4 % 3);
-    answers.swap(1, order / 12 % 2);
+    said.swap(3, order % 4);
+    said.swap(2, order / 4 % 3);
+    said.swap(1, order / 12 % 2);
 }
 
-fn state_in_order(alloc: Global, last: &[u8], order: usize) -> Result<Vec<u8>, Fail> {
-    let mut answers = [FIRST, SECOND, FIRST, last];
-    shuffle(&mut answers, order);
-    state_after(alloc, &answers)
+fn state_in_order(alloc: Global, last: Said, order: usize) -> Result<Vec<u8>, Fail> {
+    let mut said = [Said::First, Said::Second, Said::First, last];
+    shuffle(&mut said, order);
+    state_after(alloc, &said)
 }
 
-fn expect_in_all_orders(rt: &impl Abort, alloc: Global, last: &[u8]) -> Result<(), Fail> {
-    let want = state_after(alloc, &[last, FIRST, SECOND])?;
+fn expect_in_all_orders(rt: &impl Abort, alloc: Global, last: Said) -> Result<(), Fail> {
+    let want = state_after(alloc, &[last, Said::First, Said::Second])?;
     for order in 0..24 {
         let bytes = state_in_order(alloc, last, order)?;
         assert_eq!(rt; bytes.as_slice(), want.as_slice());
@@ -207,13 +260,13 @@ fn expect_in_all_orders(rt: &impl Abort, alloc: Global, last: &[u8]) -> Result<(
 
 #[test]
 fn all_orders_give_equal_states(rt: HostRuntime) -> Result<(), Fail> {
-    expect_in_all_orders(&rt, rt.alloc(), SECOND)
+    expect_in_all_orders(&rt, rt.alloc(), Said::Second)
 }
 
 /// Nothing that comes later undoes a conflict.
 #[test]
 fn all_orders_give_the_conflict(rt: HostRuntime) -> Result<(), Fail> {
-    expect_in_all_orders(&rt, rt.alloc(), FIRST_OF_ONE_ROW)
+    expect_in_all_orders(&rt, rt.alloc(), Said::FirstOfOneRow)
 }
 
 /// The coordinator that holds what the bytes spell.
@@ -258,9 +311,9 @@ fn trees(alloc: Global, a: &[u8], b: &[u8], c: &[u8]) -> Result<(Vec<u8>, Vec<u8
     Ok((left, right))
 }
 
-fn expect_trees(rt: &impl Abort, alloc: Global, last: &[u8], want: &str) -> Result<(), Fail> {
-    let own = state_after(alloc, &[FIRST])?;
-    let others = state_after(alloc, &[SECOND, FIRST])?;
+fn expect_trees(rt: &impl Abort, alloc: Global, last: Said, want: &str) -> Result<(), Fail> {
+    let own = state_after(alloc, &[Said::First])?;
+    let others = state_after(alloc, &[Said::Second, Said::First])?;
     let (left, right) = trees(alloc, &own, &others, &state_after(alloc, &[last])?)?;
     assert_eq!(rt; left.as_slice(), right.as_slice());
     let printed = print_of_state(alloc, &left)?;
@@ -270,12 +323,12 @@ fn expect_trees(rt: &impl Abort, alloc: Global, last: &[u8], want: &str) -> Resu
 
 #[test]
 fn trees_of_joins_give_equal_states(rt: HostRuntime) -> Result<(), Fail> {
-    expect_trees(&rt, rt.alloc(), SECOND, "c1\n5\n")
+    expect_trees(&rt, rt.alloc(), Said::Second, "c1\n5\n")
 }
 
 #[test]
 fn trees_of_joins_give_the_conflict(rt: HostRuntime) -> Result<(), Fail> {
-    expect_trees(&rt, rt.alloc(), FIRST_OF_ONE_ROW, "conflict: 0\n")
+    expect_trees(&rt, rt.alloc(), Said::FirstOfOneRow, "conflict: 0\n")
 }
 
 fn refusal_of_join(alloc: Global, gather: &mut Gather, other: Gather) -> Option<u8> {
@@ -344,7 +397,7 @@ fn expect_refusals(rt: &impl Abort, alloc: Global, state: &[u8]) -> Result<(), F
 
 #[test]
 fn damaged_states_are_refused(rt: HostRuntime) -> Result<(), Fail> {
-    let state = state_after(rt.alloc(), &[FIRST])?;
+    let state = state_after(rt.alloc(), &[Said::First])?;
     expect_refusals(&rt, rt.alloc(), &state)
 }
 
@@ -358,9 +411,12 @@ fn again(alloc: Global, state: &[u8]) -> Result<Vec<u8>, Fail> {
 
 #[test]
 fn states_are_read_as_they_were(rt: HostRuntime) -> Result<(), Fail> {
-    let all: [&[&[u8]]; 3] = [&[], &[FIRST, SECOND], &[SECOND, FIRST, FIRST_OF_ONE_ROW]];
-    for answers in all {
-        let bytes = state_after(rt.alloc(), answers)?;
+    for said in [
+        [].as_slice(),
+        &[Said::First, Said::Second],
+        &[Said::Second, Said::First, Said::FirstOfOneRow],
+    ] {
+        let bytes = state_after(rt.alloc(), said)?;
         assert_eq!(rt; again(rt.alloc(), &bytes)?.as_slice(), bytes.as_slice());
     }
     Ok(())

@@ -1,19 +1,20 @@
-// From the bytes that a call is given to a plan and the fact's rows.
-ghost use Rattle.std.specs.Prelude.{◌≡◌, [], ◌∷◌, find, option_map, IfOk, IfErr, Ok};
+// From the bytes that a call is given to a plan and the fact's fragments.
+ghost use Rattle.std.specs.Prelude.{◌≡◌, ◌≢◌, find, option_map, IfOk, IfErr, Ok, Err};
 ghost use Rattle.std.specs.Str.{bytes_eq};
 ghost use Rattle.partial_codec.specs.Job.{IsPlanOfJob};
 ghost use Rattle.coordinator.specs.Single.{IsSingle};
-ghost use Rattle.coordinator.specs.Whole.{IsPlanned, IsPlanRefused, Gives, files_in, csv_of, tables_of};
+ghost use Rattle.coordinator.specs.Whole.{IsPlanned, IsPlanRefused, Gives, IsLoaded, files_in, csv_of, tables_of};
+ghost use Rattle.coordinator.specs.declared.whole_fault.WholeFault.TheVariants as fault;
 
-use crate::loading::load_fact;
 use crate::planning::make_plan;
 use crate::whole_fault::WholeFault;
+use columns::Column;
+use loader::load_fact;
 use meaning::catalog::Catalog;
 use meaning::cut::Cut;
 use meaning::plan::Plan;
 use meaning::sequence::Sequence;
 use meaning::text::Text;
-use meaning::value::Row;
 use sql_reader::read;
 use std::alloc::Global;
 use std::mem::drop;
@@ -49,17 +50,18 @@ fn csv_of<'a>(csvs: &[(&'a str, &'a [u8])], table: &Text) -> Result<&'a [u8], Wh
     }
 }
 
-/// The rows of the only table that the plan names, the fact.
+/// The fragments of the only table that the plan names, the fact.
 pub fn load_tables(
     alloc: Global,
     catalog: &Catalog,
     csvs: &[(&str, &[u8])],
     cut: &Cut,
     plan: &Plan,
-) -> Result<Sequence<Row>, WholeFault>
+) -> Result<Vec<Sequence<Column>>, WholeFault>
     requires { IsSingle plan.now }
-    ensures { Gives (λ rows. (rows, [])) result (tables_of catalog.now (files_in csvs.now) cut.now plan.now) }
+    ensures loaded { IfOk result (λ fragments. IsLoaded catalog.now (files_in csvs.now) cut.now plan.now fragments.items) }
+    ensures refused { IfErr result (λ e. e ≢ fault.Memory → tables_of catalog.now (files_in csvs.now) cut.now plan.now ≡ Err e) }
 {
     let csv = csv_of(csvs, &plan.fact.name)?;
-    Ok(load_fact(alloc, catalog, cut, csv)?)
+    Ok(load_fact(alloc, catalog, csv, cut)?)
 }

@@ -14,19 +14,16 @@ mod inputs;
 mod joining;
 mod laws;
 mod lent;
-mod loading;
-#[cfg(test)]
-mod loading_tests;
 mod only_group;
 mod planning;
 mod print_fault;
 mod printing;
 #[cfg(test)]
 mod printing_tests;
-mod records;
 mod reporting;
 mod same_job;
 mod single;
+mod summing;
 mod tally;
 mod whole_fault;
 #[cfg(test)]
@@ -37,6 +34,5 @@ pub use from_csv::whole;
 pub use gather::{Absorbed, Gather};
 pub use laws::{answers_decide, states_join};
 pub use planning::PlanFault;
-pub use records::count_rows;
 pub use reporting::{Ended, Report};
 pub use whole_fault::WholeFault;

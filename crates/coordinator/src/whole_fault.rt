@@ -2,9 +2,9 @@ ghost use Rattle.std.specs.Prelude.{◌≡◌};
 ghost use Rattle.coordinator.specs.Whole.{of_catalog, of_sql, of_plan, of_load, of_print};
 ghost use Rattle.coordinator.specs.declared.whole_fault.WholeFault.TheVariants as fault;
 
-use crate::loading::LoadFault;
 use crate::planning::PlanFault;
 use crate::print_fault::PrintFault;
+use loader::LoadFault;
 use meaning::catalog::CatalogFault;
 use meaning::table::TableFault;
 use meaning::text::Text;
@@ -82,6 +82,8 @@ impl From<LoadFault> for WholeFault {
         match e {
             LoadFault::Memory => WholeFault::Memory,
             LoadFault::Table(e) => WholeFault::Load(e),
+            // A slice's reader never fails.
+            LoadFault::Device => WholeFault::Memory,
         }
     }
 }

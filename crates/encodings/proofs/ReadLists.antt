@@ -157,7 +157,7 @@ lined_skipped front skip values lengths run all d r e h k f l =
     ∙ sym (ap (drop skip) (run_more values lengths run d h k)))
     ∙ e
 
-lined_entered : {X : Type 0} (front : List X) (skip : ℕ) (values : List X) (lengths : List ℕ) (run : ℕ) (all : List X) (d v : X) (r : ℕ)
+pub lined_entered : {X : Type 0} (front : List X) (skip : ℕ) (values : List X) (lengths : List ℕ) (run : ℕ) (all : List X) (d v : X) (r : ℕ)
     → AreLined front skip values lengths run all → run < length values → run < length lengths → r ≡ get_or lengths run 0 → skip ≤ r → v ≡ get_or values run d
     → front ++ (replicate (r - skip) v ++ repeats (drop (run + 1) values) (drop (run + 1) lengths)) ≡ all
 lined_entered front skip values lengths run all d v r e h k f l g =

@@ -94,7 +94,8 @@ fn choose_ints(alloc: Global, ints: &[i64]) -> Result<Kind, EncodeFault>
     let plain = 8 * ints.len();
     let runs = runs_size_of_ints(alloc, ints)?;
     let frame = frame_size(ints);
-    let dict = dictionary_size_of_ints(alloc, ints, frame)?;
+    let best = plain.min(runs).min(frame);
+    let dict = dictionary_size_of_ints(alloc, ints, best)?;
     Ok(least_of_four(plain, dict, runs, frame))
 }
 
@@ -166,7 +167,8 @@ fn choose_texts(
 {
     let plain = 4 * (to - from) + texts.joined(from, to).len();
     let runs = runs_size_of_texts(alloc, texts, from, to)?;
-    let dict = dictionary_size_of_texts(alloc, texts, from, to, runs)?;
+    let best = plain.min(runs);
+    let dict = dictionary_size_of_texts(alloc, texts, from, to, best)?;
     Ok(least_of_three(plain, dict, runs))
 }
 

@@ -4,6 +4,7 @@ ghost use Rattle.std.specs.Prelude.{◌-ℤ◌, nat_lt, unsigned_abs};
 ghost use Rattle.std.specs.List.{list_all};
 ghost use Rattle.encodings.specs.Packing.{Packs, ArePacked, packed, bit_of};
 
+use crate::encoding_numbers::make_room;
 use std::alloc::AllocError;
 
 /// Bits that are not yet written: fewer than 64, the first the lowest.
@@ -53,6 +54,7 @@ fn finish(out: &mut Vec<u8>, bits: Bits) -> Result<(), AllocError>
 pub fn put_mask(out: &mut Vec<u8>, nulls: &[bool]) -> Result<(), AllocError>
     ensures { OnOk result (ArePacked out.old.items out.new.items (length nulls.now) (packed 1 (map bit_of nulls.now))) }
 {
+    make_room(out, nulls.len() / 8 + 1)?;
     let mut bits = Bits { held: 0, count: 0 };
     for is_null in nulls {
         bits = put_bits(out, bits, u64::from(*is_null), 1)?;

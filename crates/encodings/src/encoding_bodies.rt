@@ -10,7 +10,7 @@ ghost use Rattle.encodings.specs.declared.kind.Kind.TheVariants as kind;
 
 use crate::encoding_dictionary::{dictionary_of_ints, dictionary_of_texts};
 use crate::encoding_forms::{put_integers, put_integers_at, put_texts, put_texts_at};
-use crate::encoding_numbers::{put_shorts, put_word};
+use crate::encoding_numbers::{make_room, put_shorts, put_word};
 use crate::encoding_runs::{runs_of_ints, runs_of_texts};
 use crate::fault::EncodeFault;
 use columns::TextList;
@@ -21,6 +21,7 @@ pub fn put_plain_ints(out: &mut Vec<u8>, ints: &[i64]) -> Result<(), AllocError>
     requires few { length ints.now ≤ 8192 }
     ensures { OnOk result (PutsBody out.old.items out.new.items kind.Plain of_type.Int (map Int ints.now)) }
 {
+    make_room(out, 8 * ints.len())?;
     put_integers(out, ints)?;
     Ok(())
 }
@@ -37,6 +38,7 @@ pub fn put_plain_texts(
     requires few { to - from ≤ 8192 }
     ensures { OnOk result (PutsBody out.old.items out.new.items kind.Plain of_type.Text (map Text (take (to - from) (drop from texts.now)))) }
 {
+    make_room(out, 4 * (to - from) + texts.joined(from, to).len())?;
     put_texts(out, texts, from, to)?;
     Ok(())
 }
@@ -48,6 +50,7 @@ pub fn put_runs_of_ints(alloc: Global, out: &mut Vec<u8>, ints: &[i64]) -> Resul
     ensures { OnOk result (PutsBody out.old.items out.new.items kind.Runs of_type.Int (map Int ints.now)) }
 {
     let runs = runs_of_ints(alloc, ints)?;
+    make_room(out, runs.starts.len().saturating_mul(10).saturating_add(4))?;
     put_word(out, runs.starts.len() as u32)?;
     put_shorts(out, runs.lengths.as_slice())?;
     put_integers_at(out, ints, runs.starts.as_slice())?;
@@ -86,6 +89,8 @@ pub fn put_dictionary_of_ints(
     ensures err { IfErr result (λ f. f ≡ Memory) }
 {
     let dictionary = dictionary_of_ints(alloc, ints)?;
+    let entries = dictionary.places.len().saturating_mul(8);
+    make_room(out, entries.saturating_add(4 + 2 * ints.len()))?;
     put_word(out, dictionary.places.len() as u32)?;
     put_integers_at(out, ints, dictionary.places.as_slice())?;
     put_shorts(out, dictionary.codes.as_slice())?;

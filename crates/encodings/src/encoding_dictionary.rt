@@ -1,5 +1,5 @@
-// Dictionaries. Rows are sorted by their cells; what comes of that is then tested against the cells, so that no
-// dictionary is written that doesn't stand for them.
+// Dictionaries. Cells get numbers by a map, and the numbers are put in the order of their cells. What comes of that is
+// then tested against the cells, so that no dictionary is written that doesn't stand for them.
 ghost use Rattle.std.specs.Prelude.{◌≡◌, ◌≤◌, ◌<◌, ◌-◌, [], nat_lt, false, true, length, map, take, drop, get_or, IfOk, IfErr, OnOk};
 ghost use Rattle.std.specs.List.{list_all};
 ghost use Rattle.std.specs.Ordering.{is_lt};
@@ -9,11 +9,12 @@ ghost use Rattle.meaning.specs.Order.{value_cmp, is_ascending};
 ghost use Rattle.encodings.specs.Written.{AreEntries, DoTell, at_places};
 ghost use Rattle.encodings.specs.declared.fault.EncodeFault.TheVariants.{Memory};
 
-use crate::encoding_forms::text_at;
 use crate::encoding_runs::{is_same_int, is_same_text};
 use crate::fault::EncodeFault;
 use columns::TextList;
 use std::alloc::{AllocError, Global};
+use std::collections::HashMap;
+use std::hash::Hash;
 
 /// A row for each entry, in the order of their cells, and for each row the place of its entry.
 #[derive(Drop)]
@@ -22,55 +23,135 @@ pub struct Dictionary {
     pub codes: Vec<u16>,
 }
 
-impl Dictionary {
-    fn new(alloc: Global, rows: usize) -> Result<Dictionary, AllocError> {
-        Ok(Dictionary {
-            places: Vec::new(alloc),
-            codes: vec![in alloc; 0; rows]?,
+/// How many different cells are numbered by a map at most. More of them are put in order sooner than looked up.
+const FEW: usize = 1024;
+
+/// A number for each row, and for each number the first row that has it. Equal numbers are those of equal cells.
+#[derive(Drop)]
+struct Numbers {
+    firsts: Vec<usize>,
+    of_rows: Vec<u16>,
+}
+
+/// A place as a code. A block has no place that is greater than a code can be.
+fn as_code(place: usize) -> u16 {
+    u16::try_from(place).unwrap_or(u16::MAX)
+}
+
+impl Numbers {
+    fn new(alloc: Global, rows: usize) -> Result<Numbers, AllocError> {
+        Ok(Numbers {
+            firsts: Vec::new(alloc),
+            of_rows: Vec::with_capacity(alloc, rows)?,
         })
     }
 
-    /// Puts an entry behind the last.
-    fn put(&mut self, row: usize) -> Result<(), AllocError> {
-        self.places.push(row)?;
-        Ok(())
+    /// A number for each row.
+    fn each(alloc: Global, rows: usize) -> Result<Numbers, AllocError> {
+        let mut numbers = Numbers::new(alloc, rows)?;
+        numbers.firsts.reserve(rows)?;
+        for row in 0..rows {
+            let number = numbers.add(row)?;
+            numbers.of_rows.push(number)?;
+        }
+        Ok(numbers)
     }
 
-    /// The row's entry is the last so far.
-    fn tell(&mut self, row: usize) {
-        let entries = self.places.len();
-        if let Some(code) = self.codes.get_mut(row) {
-            if 1 <= entries && entries <= 8192 {
-                *code = (entries - 1) as u16;
-            }
-        }
+    /// A number that no row has yet.
+    fn add(&mut self, row: usize) -> Result<u16, AllocError> {
+        let number = as_code(self.firsts.len());
+        self.firsts.push(row)?;
+        Ok(number)
     }
 }
 
-// ---- integers
-
-fn sorted_ints(alloc: Global, ints: &[i64]) -> Result<Vec<(i64, usize)>, AllocError> {
-    let mut sorted = Vec::with_capacity(alloc, ints.len())?;
-    for (row, n) in ints.iter().enumerate() {
-        sorted.push((*n, row))?;
+/// Numbers the cells in the order in which they come, unless too many are different.
+fn numbers_of_few<K: Copy + Drop + Eq + Hash>(
+    alloc: Global,
+    cells: &[K],
+) -> Result<Option<Numbers>, AllocError> {
+    let mut known = HashMap::new(alloc);
+    let mut numbers = Numbers::new(alloc, cells.len())?;
+    for (row, cell) in cells.iter().enumerate() {
+        let number = match known.get(cell) {
+            Some(number) => *number,
+            None => {
+                if numbers.firsts.len() == FEW {
+                    return Ok(None);
+                }
+                let number = numbers.add(row)?;
+                known.insert(*cell, number)?;
+                number
+            }
+        };
+        numbers.of_rows.push(number)?;
     }
-    sorted.sort()?;
+    Ok(Some(numbers))
+}
+
+fn numbers_of<K: Copy + Drop + Eq + Hash>(
+    alloc: Global,
+    cells: &[K],
+) -> Result<Numbers, AllocError> {
+    match numbers_of_few(alloc, cells)? {
+        Some(numbers) => Ok(numbers),
+        None => Numbers::each(alloc, cells.len()),
+    }
+}
+
+/// The numbers in the order of their cells, each with its cell.
+fn sorted<K: Copy + Drop + Ord>(
+    alloc: Global,
+    cells: &[K],
+    firsts: &[usize],
+) -> Result<Vec<(K, usize)>, AllocError> {
+    let mut sorted = Vec::with_capacity(alloc, firsts.len())?;
+    for (number, row) in firsts.iter().enumerate() {
+        if let Some(cell) = cells.get(*row) {
+            sorted.push((*cell, number))?;
+        }
+    }
+    sorted.as_mut_slice().sort_unstable();
     Ok(sorted)
 }
 
-fn numbered_ints(alloc: Global, ints: &[i64]) -> Result<Dictionary, AllocError> {
-    let sorted = sorted_ints(alloc, ints)?;
-    let mut dictionary = Dictionary::new(alloc, ints.len())?;
-    let mut last = None;
-    for (n, row) in sorted.as_slice() {
-        if last != Some(*n) {
-            dictionary.put(*row)?;
-            last = Some(*n);
-        }
-        dictionary.tell(*row);
+/// Puts the code of each number in place of the number.
+fn recode(of_rows: &mut [u16], codes: &[u16]) {
+    for number in of_rows {
+        *number = codes.get(usize::from(*number)).copied().unwrap_or(0);
     }
-    Ok(dictionary)
 }
+
+/// What is to be the dictionary of some cells.
+fn ordered<K: Copy + Drop + Eq + Hash + Ord>(
+    alloc: Global,
+    cells: &[K],
+) -> Result<Dictionary, AllocError> {
+    let Numbers {
+        firsts,
+        mut of_rows,
+    } = numbers_of(alloc, cells)?;
+    let sorted = sorted(alloc, cells, firsts.as_slice())?;
+    let mut places = Vec::new(alloc);
+    let mut codes = vec![in alloc; 0; firsts.len()]?;
+    let mut last = None;
+    for (cell, number) in sorted.iter() {
+        if last != Some(*cell) {
+            places.push(firsts.get(*number).copied().unwrap_or(0))?;
+            last = Some(*cell);
+        }
+        if let Some(code) = codes.get_mut(*number) {
+            *code = as_code(places.len().saturating_sub(1));
+        }
+    }
+    recode(of_rows.as_mut_slice(), codes.as_slice());
+    Ok(Dictionary {
+        places,
+        codes: of_rows,
+    })
+}
+
+// ---- integers
 
 fn is_less_int(ints: &[i64], row: usize, other: usize) -> bool
     requires row { row < length ints.now }
@@ -121,7 +202,7 @@ pub fn dictionary_of_ints(alloc: Global, ints: &[i64]) -> Result<Dictionary, Enc
     ensures ok { IfOk result (λ d. AreEntries (map Int ints.now) d.places.items d.codes.items) }
     ensures err { IfErr result (λ f. f ≡ Memory) }
 {
-    let dictionary = numbered_ints(alloc, ints)?;
+    let dictionary = ordered(alloc, ints)?;
     let places = dictionary.places.as_slice();
     if places.len() > ints.len() || !are_within(places, ints.len()) {
         return Err(EncodeFault::Memory);
@@ -136,50 +217,20 @@ pub fn dictionary_of_ints(alloc: Global, ints: &[i64]) -> Result<Dictionary, Enc
 
 // ---- texts
 
-fn sorted_texts(
+fn texts_between(
     alloc: Global,
     texts: &TextList,
     from: usize,
     to: usize,
-) -> Result<Vec<(&[u8], usize)>, AllocError>
+) -> Result<Vec<&[u8]>, AllocError>
     requires ordered { from ≤ to }
     requires within { to ≤ length texts.now }
 {
-    let mut sorted = Vec::with_capacity(alloc, to - from)?;
-    for row in 0..to - from {
-        sorted.push((text_at(texts, from, to, row), row))?;
+    let mut cells = Vec::with_capacity(alloc, to - from)?;
+    for row in from..to {
+        cells.push(texts.get(row))?;
     }
-    sorted.sort()?;
-    Ok(sorted)
-}
-
-fn is_last(last: Option<&[u8]>, text: &[u8]) -> bool {
-    match last {
-        Some(held) => held == text,
-        None => false,
-    }
-}
-
-fn numbered_texts(
-    alloc: Global,
-    texts: &TextList,
-    from: usize,
-    to: usize,
-) -> Result<Dictionary, AllocError>
-    requires ordered { from ≤ to }
-    requires within { to ≤ length texts.now }
-{
-    let sorted = sorted_texts(alloc, texts, from, to)?;
-    let mut dictionary = Dictionary::new(alloc, to - from)?;
-    let mut last = None;
-    for (text, row) in sorted.as_slice() {
-        if !is_last(last, text) {
-            dictionary.put(*row)?;
-            last = Some(*text);
-        }
-        dictionary.tell(*row);
-    }
-    Ok(dictionary)
+    Ok(cells)
 }
 
 fn is_less_text(texts: &TextList, row: usize, other: usize) -> bool
@@ -242,7 +293,8 @@ pub fn dictionary_of_texts(
     ensures ok { IfOk result (λ d. AreEntries (map Text (take (to - from) (drop from texts.now))) d.places.items d.codes.items) }
     ensures err { IfErr result (λ f. f ≡ Memory) }
 {
-    let dictionary = numbered_texts(alloc, texts, from, to)?;
+    let cells = texts_between(alloc, texts, from, to)?;
+    let dictionary = ordered(alloc, cells.as_slice())?;
     let places = dictionary.places.as_slice();
     if places.len() > to - from || !are_within(places, to - from) {
         return Err(EncodeFault::Memory);

@@ -9,7 +9,7 @@ ghost use Rattle.encodings.specs.Written.{PutsBody, IsWidth, least_in, greatest_
 ghost use Rattle.encodings.specs.declared.kind.Kind.TheVariants as kind;
 
 use crate::encoding_bits::put_offsets;
-use crate::encoding_numbers::put_integer;
+use crate::encoding_numbers::{make_room, put_integer};
 use std::alloc::AllocError;
 
 /// The least and the greatest of some integers.
@@ -61,6 +61,7 @@ pub fn put_frame(out: &mut Vec<u8>, ints: &[i64]) -> Result<(), AllocError>
 {
     let bounds = bounds_of(ints);
     let width = width_of(bounds.greatest.abs_diff(bounds.least));
+    make_room(out, 9 + (ints.len() * width as usize + 7) / 8)?;
     put_integer(out, bounds.least)?;
     out.push(width as u8)?;
     put_offsets(out, ints, bounds.least, width)?;

@@ -41,4 +41,6 @@ mod encoding_tests;
 #[cfg(test)]
 mod reading_tests;
 #[cfg(test)]
+mod size_tests;
+#[cfg(test)]
 mod view_tests;

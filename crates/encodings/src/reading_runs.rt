@@ -9,18 +9,6 @@ ghost use Rattle.encodings.specs.Reading.{codes_in, texts_in, are_texts, repeats
 
 use crate::reading_parts::{Texts, chunks, count_at, text_at, texts_form};
 
-/// Puts a value into `n` cells from `at` on. What lies behind them may change too.
-fn put_integers(out: &mut [i64], at: usize, n: usize, value: i64)
-    requires { at + n ≤ length out.old }
-    ensures { take (at + n) out.new ≡ take at out.old ++ replicate n value }
-{
-    if n <= 8 && 8 <= out.len() - at {
-        out[at..at + 8].fill(value);
-    } else {
-        out[at..at + n].fill(value);
-    }
-}
-
 /// Puts a text into `n` cells from `at` on.
 fn put_texts<'a>(out: &mut [&'a [u8]], at: usize, n: usize, text: &'a [u8])
     requires { at + n ≤ length out.old }
@@ -31,8 +19,9 @@ fn put_texts<'a>(out: &mut [&'a [u8]], at: usize, n: usize, text: &'a [u8])
     }
 }
 
-/// How many rows some runs have together.
-#[inline(always)]
+/// How many rows some runs have together, of which some may be long.
+#[cold]
+#[inline(never)]
 fn rows_of(lengths: &[[u8; 2]]) -> usize
     requires { length lengths.now ≤ 8192 }
     ensures { result ≡ sum (codes_in lengths.now) }
@@ -44,46 +33,180 @@ fn rows_of(lengths: &[[u8; 2]]) -> usize
     rows
 }
 
-/// How many runs are passed over before row `from`, sixteen at a time, and how many rows are left to pass over.
+/// The same for a few runs: in 16 bits, unless some run is long.
+#[inline(always)]
+fn rows_of_few(lengths: &[[u8; 2]]) -> usize
+    requires { length lengths.now ≤ 32 }
+    ensures { result ≡ sum (codes_in lengths.now) }
+{
+    let mut rows = 0u16;
+    let mut greatest = 0u16;
+    for length in lengths {
+        let n = u16::from_le_bytes(*length);
+        rows = rows.wrapping_add(n);
+        greatest = greatest.max(n);
+    }
+    if greatest < 2048 {
+        return rows as usize;
+    }
+    rows_of(lengths)
+}
+
+/// How many runs are passed over before row `from`, 32 at a time, and how many rows are left to pass over.
 fn pass_over(lengths: &[[u8; 2]], from: usize) -> (usize, usize)
     ensures within { result.0 ≤ length lengths.now }
     ensures rows { result.1 + sum (take result.0 (codes_in lengths.now)) ≡ from }
 {
     let mut skip = from;
-    for k in 0..lengths.len() / 16 {
-        let rows = rows_of(&lengths[16 * k..16 * k + 16]);
+    for k in 0..lengths.len() / 32 {
+        let rows = rows_of_few(&lengths[32 * k..32 * k + 32]);
         if skip < rows {
-            return (16 * k, skip);
+            return (32 * k, skip);
         }
         skip -= rows;
     }
-    (lengths.len() / 16 * 16, skip)
+    (lengths.len() / 32 * 32, skip)
 }
 
-/// The rows from `from` on, run by run. A run that goes beyond the last cell is filled as far as there are cells.
+/// The run in which row `from` is, and how many of its rows stand before that one.
+fn run_at(lengths: &[[u8; 2]], from: usize) -> (usize, usize)
+    ensures within { result.0 ≤ length lengths.now }
+    ensures rows { result.1 + sum (take result.0 (codes_in lengths.now)) ≡ from }
+    ensures inside { result.0 < length lengths.now → result.1 < get_or (codes_in lengths.now) result.0 0 }
+{
+    let (start, left) = pass_over(lengths, from);
+    let mut skip = left;
+    for run in start..lengths.len() {
+        let rows = u16::from_le_bytes(lengths[run]) as usize;
+        if skip < rows {
+            return (run, skip);
+        }
+        skip -= rows;
+    }
+    (lengths.len(), skip)
+}
+
+/// Puts an integer into `n` cells from `at` on. Apart from the loop over short runs, which then keeps to registers.
+#[inline(never)]
+fn put_many(out: &mut [i64], at: usize, n: usize, value: i64)
+    requires { at + n ≤ length out.old }
+    ensures { take (at + n) out.new ≡ take at out.old ++ replicate n value }
+{
+    out[at..at + n].fill(value);
+}
+
+/// Puts an integer into `n` cells from `at` on, where there are eight. What lies behind them may change too.
+#[inline(always)]
+fn put_few(out: &mut [i64], at: usize, n: usize, value: i64)
+    requires few { n ≤ 8 }
+    requires room { at + 8 ≤ length out.old }
+    ensures { take (at + n) out.new ≡ take at out.old ++ replicate n value }
+{
+    out[at..at + 8].fill(value);
+}
+
+/// The same for any number, where there are eight.
+#[inline(always)]
+fn put_run(out: &mut [i64], at: usize, n: usize, value: i64)
+    requires within { at + n ≤ length out.old }
+    requires room { at + 8 ≤ length out.old }
+    ensures { take (at + n) out.new ≡ take at out.old ++ replicate n value }
+{
+    if n <= 8 {
+        put_few(out, at, n, value);
+    } else {
+        put_many(out, at, n, value);
+    }
+}
+
+/// Whether there are cells for a run and for eight rows.
+#[inline(always)]
+fn is_room(cells: usize, done: usize, rows: usize) -> bool
+    requires some { 8 ≤ cells }
+    requires within { done ≤ cells }
+    ensures { result ≡ true → (done + 8 ≤ cells) × (done + rows ≤ cells) }
+{
+    if rows <= 8 {
+        return done <= cells - 8;
+    }
+    done <= cells - 8 && rows <= cells - done
+}
+
+/// Whole runs from the first on, as long as there are cells for each, and for eight rows: how many runs, and how many
+/// cells.
+#[inline(always)]
+fn fill_front(lengths: &[[u8; 2]], values: &[[u8; 8]], out: &mut [i64]) -> (usize, usize)
+    requires each { length lengths.now ≡ length values.now }
+    ensures runs { result.0 ≤ length lengths.now }
+    ensures cells { result.1 ≤ length out.old }
+    ensures lined { take result.1 out.new
+        ++ repeats (drop result.0 (map integer_of values.now)) (drop result.0 (codes_in lengths.now))
+        ≡ repeats (map integer_of values.now) (codes_in lengths.now) }
+{
+    if out.len() < 8 {
+        return (0, 0);
+    }
+    let mut done = 0;
+    for run in 0..lengths.len() {
+        let rows = u16::from_le_bytes(lengths[run]) as usize;
+        if !is_room(out.len(), done, rows) {
+            return (run, done);
+        }
+        put_run(out, done, rows, i64::from_le_bytes(values[run]));
+        done += rows;
+    }
+    (lengths.len(), done)
+}
+
+/// The cells from one on, by the runs from one on. The last is filled as far as there are cells.
+fn fill_rest(lengths: &[[u8; 2]], values: &[[u8; 8]], first: usize, filled: usize, out: &mut [i64])
+    requires each { length lengths.now ≡ length values.now }
+    requires runs { first ≤ length lengths.now }
+    requires cells { filled ≤ length out.old }
+    requires within { length out.old ≤ sum (codes_in lengths.now) }
+    requires lined { take filled out.old
+        ++ repeats (drop first (map integer_of values.now)) (drop first (codes_in lengths.now))
+        ≡ repeats (map integer_of values.now) (codes_in lengths.now) }
+    ensures { out.new ≡ take (length out.old) (repeats (map integer_of values.now) (codes_in lengths.now)) }
+{
+    let mut done = filled;
+    for run in first..lengths.len() {
+        let rows = u16::from_le_bytes(lengths[run]) as usize;
+        let n = rows.min(out.len() - done);
+        put_many(out, done, n, i64::from_le_bytes(values[run]));
+        done += n;
+        if done == out.len() {
+            return;
+        }
+    }
+}
+
+/// The rows from the first on.
+fn fill_runs(lengths: &[[u8; 2]], values: &[[u8; 8]], out: &mut [i64])
+    requires each { length lengths.now ≡ length values.now }
+    requires within { length out.old ≤ sum (codes_in lengths.now) }
+    ensures { out.new ≡ take (length out.old) (repeats (map integer_of values.now) (codes_in lengths.now)) }
+{
+    let (runs, cells) = fill_front(lengths, values, out);
+    fill_rest(lengths, values, runs, cells, out);
+}
+
+/// The rows from `from` on, run by run.
 pub fn fill_integer_runs(lengths: &[[u8; 2]], values: &[[u8; 8]], from: usize, out: &mut [i64])
     requires each { length lengths.now ≡ length values.now }
     requires within { from + length out.old ≤ sum (codes_in lengths.now) }
     ensures { out.new ≡ take (length out.old)
         (drop from (repeats (map integer_of values.now) (codes_in lengths.now))) }
 {
-    let (start, left) = pass_over(lengths, from);
-    let mut skip = left;
-    let mut done = 0;
-    for run in start..lengths.len() {
-        let rows = u16::from_le_bytes(lengths[run]) as usize;
-        if rows <= skip {
-            skip -= rows;
-            continue;
-        }
-        let n = (rows - skip).min(out.len() - done);
-        put_integers(out, done, n, i64::from_le_bytes(values[run]));
-        done += n;
-        if done == out.len() {
-            return;
-        }
-        skip = 0;
+    let (run, skip) = run_at(lengths, from);
+    if run == lengths.len() {
+        return;
     }
+    let rows = u16::from_le_bytes(lengths[run]) as usize;
+    let n = (rows - skip).min(out.len());
+    let (first, rest) = out.split_at_mut(n);
+    first.fill(i64::from_le_bytes(values[run]));
+    fill_runs(&lengths[run + 1..], &values[run + 1..], rest);
 }
 
 /// The same for texts.

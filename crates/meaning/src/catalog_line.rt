@@ -1,11 +1,9 @@
 //! What one line of a catalogue says.
 ghost use Rattle.std.specs.Prelude.{◌≡◌, IfOk, map};
-ghost use Rattle.std.specs.List.{list_all};
-ghost use Rattle.meaning.specs.Catalog.{begins_name, continues_name, has_name_form, is_name};
 ghost use Rattle.meaning.specs.CatalogLine.{is_blank, words, name_of, type_of, fact_of, dimension_of, column_of, two_words, three_words, four_words, statement_of, line_of};
 
 use crate::catalog::Column;
-use crate::reserved::is_reserved;
+use crate::name::is_name;
 use crate::text::Text;
 use crate::value::ColType;
 use std::alloc::{AllocError, Global};
@@ -26,39 +24,6 @@ pub enum Line {
     /// Of no known form.
     Unknown,
     Declares(Statement),
-}
-
-fn begins_name(byte: u8) -> bool
-    ensures { result ≡ begins_name byte }
-{
-    byte.is_ascii_lowercase() || byte == b'_'
-}
-
-fn continues_name(byte: u8) -> bool
-    ensures { result ≡ continues_name byte }
-{
-    begins_name(byte) || byte.is_ascii_digit()
-}
-
-fn all_continue_name(bytes: &[u8]) -> bool
-    ensures { result ≡ list_all continues_name bytes.now }
-{
-    bytes.iter().all(|byte| continues_name(*byte))
-}
-
-fn has_name_form(word: &[u8]) -> bool
-    ensures { result ≡ has_name_form word.now }
-{
-    let Some((first, rest)) = word.split_first() else {
-        return false;
-    };
-    begins_name(*first) && all_continue_name(rest)
-}
-
-fn is_name(word: &[u8]) -> bool
-    ensures { result ≡ is_name word.now }
-{
-    has_name_form(word) && !is_reserved(word)
 }
 
 /// The word as a name, if it can be one.

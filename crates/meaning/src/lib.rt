@@ -21,6 +21,7 @@ pub mod expr;
 pub mod joined_row;
 pub mod laws;
 mod like;
+pub mod name;
 mod operators;
 pub mod outcome;
 pub mod plan;

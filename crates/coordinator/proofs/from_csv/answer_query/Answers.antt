@@ -1,8 +1,17 @@
-use Rattle.std.proofs.Common.{[]}
-use Rattle.coordinator.specs.Whole.{files_in}
-use Rattle.coordinator.proofs.Runs.{counted}
+use Rattle.coordinator.proofs.Runs.{are_fragments, answered}
 use Rattle.coordinator.proofs.from_csv.answer_query.Goals as goal
 
-pub answer_run-requires-clause-whole : goal.answer_run-requires-clause-whole
-answer_run-requires-clause-whole g c =
-    counted c.args.catalog.now (files_in c.args.csvs.now) c.args.cut.now c.in_ok-run.run'.plan c.in_ok-run.run'.rows [] c.in_ok-run.ensures.prepared.tables
+pub answer_run-requires-clause-fragments : goal.answer_run-requires-clause-fragments
+answer_run-requires-clause-fragments g c =
+    let run = c.in_ok-run.run' in
+    let prepared = c.in_ok-run.ensures.prepared in (
+      c.args.catalog.now.fact.columns,
+      prepared.loaded.rows,
+      are_fragments c.args.catalog.now c.args.csvs.now c.args.query.now c.args.cut.now c.args.vector_len run.plan run.fragments.items prepared,
+    )
+
+pub returns-clause-answered : goal.returns-clause-answered
+returns-clause-answered g c =
+    let run = c.in_ok-run.run' in
+    answered c.args.catalog.now c.args.csvs.now c.args.query.now c.args.cut.now c.args.vector_len run.plan run.fragments.items c.in_ok-run.ensures.prepared
+    (g.W.Write.contents c.args.out.now) (g.W.Write.contents c.answer_run.new.out) c.answer_run.result c.answer_run.ensures.answered

@@ -1,6 +1,6 @@
-use Rattle.std.proofs.Common.{◌∙◌, arith, false, get_or}
+use Rattle.std.proofs.Common.{◌∙◌, arith, false, get_or, subst, List, ℕ, length, map}
 use Rattle.std.proofs.lemmas.List.{get_or_default}
-use Rattle.encodings.specs.Packing.{bit_of}
+use Rattle.encodings.specs.Packing.{ArePacked, packed, bit_of}
 use Rattle.encodings.proofs.EncodedBits.{packs_more, packed_all, bit_is}
 use Rattle.encodings.proofs.encoding_bits.put_mask.Goals as goal
 
@@ -14,4 +14,8 @@ loop-is_null-preserved c =
     }
 
 pub returns : goal.returns
-returns c = packed_all bit_of 1 _ _ c.args.nulls.now c.loop-is_null.is_null-index _ (omega arith) (omega arith) (omega arith) (c.in_ok-finish.ensures _ _ _ c.loop-is_null.invariant.packs)
+returns c =
+    let i = c.loop-is_null.is_null-index in
+    let xs = c.args.nulls.now in
+    subst (λ (before : List ℕ). ArePacked before c.finish.new.out.items (length xs) (packed 1 (map bit_of xs))) c.make_room.ensures
+    (packed_all bit_of 1 _ _ xs i _ (omega arith) (omega arith) (omega arith) (c.in_ok-finish.ensures _ _ _ c.loop-is_null.invariant.packs))

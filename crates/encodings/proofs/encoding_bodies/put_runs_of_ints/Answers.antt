@@ -11,7 +11,7 @@ pub overflow_cast-len : goal.overflow_cast-len
 overflow_cast-len c =
     let long = length-map c.args.ints.now (λ n. Int n) in
     let some = runs_few (map Int c.args.ints.now) _ _ c.in_ok-runs.ensures in
-    let few : c.len.result ≤ 8192 = omega (arith, some, c.in_ok-runs.runs.starts.ok.0) in
+    let few : c.len-2.result ≤ 8192 = omega (arith, some, c.in_ok-runs.runs.starts.ok.0) in
     search rules
 
 pub returns : goal.returns
@@ -19,8 +19,8 @@ returns c =
     let long = length-map c.args.ints.now (λ n. Int n) in
     let starts = c.in_ok-runs.runs.starts.items in
     let lengths = c.in_ok-runs.runs.lengths.items in
-    let count : c.len.result ≡ length starts = omega (arith, c.len.ensures, c.in_ok-runs.runs.starts.ok.0) in
+    let count : c.len-2.result ≡ length starts = omega (arith, c.len-2.ensures, c.in_ok-runs.runs.starts.ok.0) in
     puts_runs of_type.Int (map Int c.args.ints.now) starts lengths c.args.out.now.items c.put_word.new.out.items c.put_shorts.new.out.items c.put_integers_at.new.out.items c.requires.fit (omega arith) (omega arith) c.in_ok-runs.ensures
-    (c.in_ok-put_word.ensures ∙ ap (λ (n : ℕ). c.args.out.now.items ++ word_bytes n) count)
+    (c.in_ok-put_word.ensures ∙ (ap (λ (n : ℕ). c.make_room.new.out.items ++ word_bytes n) count ∙ ap (λ (xs : List ℕ). xs ++ word_bytes (length starts)) c.make_room.ensures))
     (c.in_ok-put_shorts.ensures ∙ ap (λ (xs : List ℕ). c.put_word.new.out.items ++ flat_map short_bytes xs) c.as_slice.ensures.value)
     (c.in_ok-put_integers_at.ensures ∙ (ap (λ (xs : List ℕ). c.put_shorts.new.out.items ++ flat_map integer_bytes (ints_at c.args.ints.now xs)) c.as_slice-2.ensures.value ∙ ap (λ (ys : List ℕ). c.put_shorts.new.out.items ++ ys) (sym (form_at_ints c.args.ints.now starts))))

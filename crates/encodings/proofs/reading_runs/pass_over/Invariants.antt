@@ -3,4 +3,4 @@ use Rattle.encodings.specs.Reading.{codes_in}
 use Rattle.encodings.proofs.reading_runs.pass_over.Given as goal
 
 abbrev pub invariant-loop-k : goal.invariant-loop-k
-invariant-loop-k l = l.skip + sum (take (16 * l.k) (codes_in l.lengths)) ≡ l.from
+invariant-loop-k l = l.skip + sum (take (32 * l.k) (codes_in l.lengths)) ≡ l.from

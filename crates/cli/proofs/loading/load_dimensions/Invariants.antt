@@ -1,0 +1,6 @@
+use Rattle.std.proofs.Common.{take}
+use Rattle.cli.specs.Loading.{AreEach, IsDimensionLoaded}
+use Rattle.cli.proofs.loading.load_dimensions.Given as goal
+
+abbrev pub invariant-loop-dim : goal.invariant-loop-dim
+invariant-loop-dim g l = AreEach (IsDimensionLoaded (g.F.Folder.holds l.folder) l.directory) (take l.dim-index l.dim-items) l.dims.items

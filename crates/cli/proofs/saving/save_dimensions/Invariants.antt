@@ -1,0 +1,9 @@
+use Rattle.std.proofs.Common.{take}
+use Rattle.std.specs.Prelude.{zip}
+use Rattle.cli.specs.Folder.{Writes}
+use Rattle.cli.specs.Loading.{AreEach, IsDimensionFile}
+use Rattle.cli.proofs.saving.save_dimensions.Given as goal
+
+abbrev pub invariant-loop-i : goal.invariant-loop-i
+invariant-loop-i g l =
+    Writes (AreEach (IsDimensionFile l.directory l.load) (zip (take l.i l.declared) (take l.i l.dims))) (g.F.Folder.wrote l.fn.folder) (g.F.Folder.wrote l.folder)

@@ -1,0 +1,10 @@
+use Rattle.std.proofs.Common.{◌≡◌, take}
+use Rattle.std.specs.List.{enumerate_from}
+use Rattle.meaning.specs.Table.{first_row}
+use Rattle.cli.specs.Folder.{Writes}
+use Rattle.cli.specs.Loading.{AreEach, IsFragmentFile}
+use Rattle.cli.proofs.saving.save_fragments.Given as goal
+
+abbrev pub invariant-loop-k : goal.invariant-loop-k
+invariant-loop-k g l = (l.first_row ≡ first_row l.cut l.k)
+    × Writes (AreEach (IsFragmentFile l.directory l.load l.table l.cut) (enumerate_from 0 (take l.k l.fragments))) (g.F.Folder.wrote l.fn.folder) (g.F.Folder.wrote l.folder)

@@ -1,0 +1,106 @@
+-- What loading a folder's tables gives, and which files it writes.
+use Rattle.std.specs.Prelude.{◌≡◌, ℕ, ◌≤◌, ⊤, List, [], ◌∷◌, ◌++◌, length, drop, sum, slice_index, zip, codes, decimal, Option, Ok}
+use Rattle.std.specs.List.{enumerate_from}
+use Rattle.std.specs.Io.KnownBytes.{Appends}
+use Rattle.meaning.specs.CatalogText.{catalog_of}
+use Rattle.meaning.specs.Cut.{cut_of, even_lengths}
+use Rattle.meaning.specs.Table.{Cut, first_row}
+use Rattle.meaning.specs.declared.catalog.Table.{Table}
+use Rattle.meaning.specs.declared.catalog.Catalog.{Catalog}
+use Rattle.meaning.specs.declared.catalog.Dimension.{Dimension}
+use Rattle.columns.specs.Column.{ColumnSpec}
+use Rattle.loader.specs.Columns.{fact_fragments, dimension_columns}
+use Rattle.loader.specs.Source.{csv_records}
+use Rattle.fragment_file.specs.Fragment.{Stands, sealed}
+use Rattle.fragment_file.specs.Writing.{AreColumns}
+use Rattle.fragment_file.specs.CutFile.{cut_bytes}
+use Rattle.fragment_file.specs.declared.header.Header.{Header}
+use Rattle.cli.specs.Folder.{Holds, File, AreHeld, Writes, catalog_path, csv_path, fragment_path, dimension_path, cut_path}
+
+-- each of a list belongs to that of the other list at its place, and none is left over
+abbrev pub AreEach : {A B : Type 0} → (A → B → Type 0) → List A → List B → Type 0
+AreEach Fits [] [] = ⊤
+AreEach Fits [] (y ∷ ys) = ⊥
+AreEach Fits (x ∷ xs) [] = ⊥
+AreEach Fits (x ∷ xs) (y ∷ ys) = Fits x y × AreEach Fits xs ys
+
+-- ---- loading
+
+-- the columns are those of the dimension's CSV file
+pub record IsDimensionLoaded (holds : Holds) (folder : List ℕ) (d : Dimension) (columns : List ColumnSpec) : Type 0 where
+  pub bytes : List ℕ
+  pub held : AreHeld (holds (csv_path folder d.table.name)) bytes
+  pub loaded : dimension_columns d (csv_records bytes) ≡ Ok columns
+
+-- the fragments are those of the fact's CSV file, cut into fragments of so many rows
+pub record IsFactLoaded (holds : Holds) (folder : List ℕ) (catalog : Catalog) (rows : ℕ) (cut : Cut) (fragments : List (List ColumnSpec)) : Type 0 where
+  pub fact : List ℕ
+  pub held : AreHeld (holds (csv_path folder catalog.fact.name)) fact
+  pub evenly : cut_of (even_lengths (length (drop 1 (csv_records fact))) rows) ≡ Ok cut
+  pub loaded : fact_fragments catalog cut (csv_records fact) ≡ Ok fragments
+
+-- ---- files
+
+-- the header of so many of a table's rows
+abbrev pub header_of : ℕ → Table → ℕ → ℕ → ℕ → Header
+header_of load table fragment first_row rows = record { load = load; table = table.name; fragment = fragment; first_row = first_row; rows = rows; columns = table.columns }
+
+-- how many rows columns have
+abbrev pub rows_in : List ColumnSpec → ℕ
+rows_in [] = 0
+rows_in (c ∷ cs) = length c.values
+
+-- the file of a fragment, of which its number and columns are given
+abbrev pub IsFragmentFile : List ℕ → ℕ → Table → Cut → ℕ × List ColumnSpec → File → Type 0
+IsFragmentFile folder load table cut p file = (file.0 ≡ fragment_path folder table.name p.0)
+    × Stands file.1 (header_of load table p.0 (first_row cut p.0) (slice_index cut p.0)) p.1
+
+-- the file of a dimension, of which its declaration and columns are given
+abbrev pub IsDimensionFile : List ℕ → ℕ → Dimension × List ColumnSpec → File → Type 0
+IsDimensionFile folder load p file = (file.0 ≡ dimension_path folder p.0.table.name) × Stands file.1 (header_of load p.0.table 0 0 (rows_in p.1)) p.1
+
+-- the file of the cut
+abbrev pub cut_file_of : List ℕ → ℕ → Cut → File
+cut_file_of folder load cut = (cut_path folder, sealed (cut_bytes (record { load = load; cut = cut })))
+
+-- the files of the fragments, of the dimensions and of the cut, in this order
+pub record AreFiles (folder : List ℕ) (load : ℕ) (catalog : Catalog) (cut : Cut) (fragments dims : List (List ColumnSpec)) (files : List File) : Type 0 where
+  pub of_fragments : List File
+  pub fragments_are : AreEach (IsFragmentFile folder load catalog.fact cut) (enumerate_from 0 fragments) of_fragments
+  pub of_dims : List File
+  pub dims_are : AreEach (IsDimensionFile folder load) (zip catalog.dims dims) of_dims
+  pub whole : files ≡ (of_fragments ++ of_dims) ++ cut_file_of folder load cut ∷ []
+
+-- ---- the command
+
+-- what is told of the whole fact and its fragments
+abbrev pub loaded_line : ℕ → ℕ → List ℕ
+loaded_line rows fragments = codes "loaded " ++ decimal rows ++ codes " rows in " ++ decimal fragments ++ codes " fragments" ++ 10 ∷ []
+
+-- the tables of a catalogue were loaded: what was printed and which files were written is what the folder's files mean
+pub record IsCatalogLoaded (holds : Holds) (folder : List ℕ) (load rows : ℕ) (catalog : Catalog) (before after : Option (List ℕ)) (wrote_before wrote_after : Option (List File)) : Type 0 where
+  pub cut : Cut
+  pub fragments : List (List ColumnSpec)
+  pub fact : IsFactLoaded holds folder catalog rows cut fragments
+  pub dims : List (List ColumnSpec)
+  pub each : AreEach (IsDimensionLoaded holds folder) catalog.dims dims
+  pub printed : Appends before after (loaded_line (sum cut) (length cut))
+  pub written : Writes (AreFiles folder load catalog cut fragments dims) wrote_before wrote_after
+
+-- a folder's tables were loaded, by the catalogue that lies there
+pub record IsLoaded (holds : Holds) (folder : List ℕ) (load rows : ℕ) (before after : Option (List ℕ)) (wrote_before wrote_after : Option (List File)) : Type 0 where
+  pub catalog_bytes : List ℕ
+  pub held : AreHeld (holds (catalog_path folder)) catalog_bytes
+  pub catalog : Catalog
+  pub declared : catalog_of catalog_bytes ≡ Ok catalog
+  pub loaded : IsCatalogLoaded holds folder load rows catalog before after wrote_before wrote_after
+
+-- ---- what a file may be written of
+
+-- columns of so many rows of the fact
+abbrev pub AreFragmentColumns : Table → ℕ → List ColumnSpec → Type 0
+AreFragmentColumns table rows columns = AreColumns table.columns rows columns
+
+-- columns of a dimension, of no more rows than it may have
+abbrev pub AreDimensionColumns : Dimension → List ColumnSpec → Type 0
+AreDimensionColumns d columns = AreColumns d.table.columns (rows_in columns) columns × (rows_in columns ≤ 1048576)

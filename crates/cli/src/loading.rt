@@ -1,0 +1,143 @@
+// The columns of a folder's tables.
+ghost use Rattle.std.specs.Prelude.{◌≡◌, ◌≤◌, ◌<◌, Ok, IfOk, length, sum};
+ghost use Rattle.meaning.specs.Catalog.{IsWellFormed};
+ghost use Rattle.meaning.specs.Cut.{cut_of, even_lengths};
+ghost use Rattle.cli.specs.Folder.{AreHeld, csv_path};
+ghost use Rattle.cli.specs.Loading.{AreEach, IsDimensionLoaded, IsFactLoaded};
+
+use crate::folder::Folder;
+use crate::paths::csv_path;
+use crate::refusal::{Refusal, load_refusal};
+use crate::tables::{counted_rows, try_read};
+use columns::Column;
+use loader::{load_dimension, load_fact};
+use meaning::catalog::{Catalog, Dimension};
+use meaning::cut::Cut;
+use meaning::sequence::Sequence;
+use meaning::text::Text;
+use std::alloc::Global;
+
+/// The fact table, cut into fragments.
+#[derive(Drop)]
+pub struct Fact {
+    /// How many rows all fragments have.
+    pub rows: u64,
+    pub cut: Cut,
+    /// Each fragment's columns, in the order of the catalogue.
+    pub fragments: Vec<Sequence<Column>>,
+}
+
+/// All tables of a catalogue.
+#[derive(Drop)]
+pub struct Loaded {
+    pub fact: Fact,
+    /// Each dimension's columns, in the order of the catalogue.
+    pub dims: Vec<Sequence<Column>>,
+}
+
+fn read_csv<F: Folder>(
+    alloc: Global,
+    folder: &F,
+    directory: &str,
+    table: &Text,
+) -> Result<Vec<u8>, Refusal>
+    ensures { IfOk result (λ bytes. AreHeld (F.holds folder.now (csv_path directory.now table.now)) bytes.items) }
+{
+    let path = csv_path(alloc, directory, table.as_str())?;
+    match try_read(alloc, folder, path.as_str())? {
+        Some(bytes) => Ok(bytes),
+        None => Err(Refusal::CannotRead(path)),
+    }
+}
+
+fn even_cut(alloc: Global, counted: u64, rows: u32) -> Result<Cut, Refusal>
+    requires { 1 ≤ rows }
+    ensures evenly { IfOk result (λ cut. cut_of (even_lengths counted rows) ≡ Ok cut) }
+    ensures whole { IfOk result (λ cut. sum cut ≡ counted) }
+{
+    Ok(Cut::even(alloc, counted, rows)?)
+}
+
+fn load_fact_table<F: Folder>(
+    alloc: Global,
+    folder: &F,
+    directory: &str,
+    catalog: &Catalog,
+    rows: u32,
+) -> Result<Fact, Refusal>
+    requires { 1 ≤ rows }
+    ensures loaded { IfOk result (λ fact. IsFactLoaded (F.holds folder.now) directory.now catalog.now rows fact.cut fact.fragments.items) }
+    ensures counted { IfOk result (λ fact. fact.rows ≡ sum fact.cut) }
+{
+    let name = &catalog.fact.name;
+    let csv = read_csv(alloc, folder, directory, name)?;
+    let counted = counted_rows(alloc, directory, name, csv.as_slice())?;
+    let cut = even_cut(alloc, counted, rows)?;
+    match load_fact(alloc, catalog, csv.as_slice(), &cut) {
+        Ok(fragments) => Ok(Fact {
+            rows: counted,
+            cut,
+            fragments,
+        }),
+        Err(fault) => Err(load_refusal(alloc, directory, name.as_str(), fault)),
+    }
+}
+
+fn load_dimension_table<F: Folder>(
+    alloc: Global,
+    folder: &F,
+    directory: &str,
+    dim: &Dimension,
+) -> Result<Sequence<Column>, Refusal>
+    requires { dim.now.key < length dim.now.table.columns }
+    ensures { IfOk result (λ columns. IsDimensionLoaded (F.holds folder.now) directory.now dim.now columns) }
+{
+    let name = &dim.table.name;
+    let csv = read_csv(alloc, folder, directory, name)?;
+    match load_dimension(alloc, dim, csv.as_slice()) {
+        Ok(columns) => Ok(columns),
+        Err(fault) => Err(load_refusal(alloc, directory, name.as_str(), fault)),
+    }
+}
+
+fn load_dimensions<F: Folder>(
+    alloc: Global,
+    folder: &F,
+    directory: &str,
+    catalog: &Catalog,
+) -> Result<Vec<Sequence<Column>>, Refusal>
+    requires { IsWellFormed catalog.now }
+    ensures { IfOk result (λ dims. AreEach (IsDimensionLoaded (F.holds folder.now) directory.now) catalog.now.dims dims.items) }
+{
+    let mut dims = Vec::new(alloc);
+    for dim in catalog.dims.as_slice() {
+        dims.push(load_dimension_table(alloc, folder, directory, dim)?)?;
+    }
+    Ok(dims)
+}
+
+/// The columns of a catalogue's tables, each from its CSV file: the fact's first, cut into fragments
+/// of `rows` rows, then the dimensions' in the catalogue's order. One table's bytes at a time are in
+/// memory.
+///
+/// # Errors
+///
+/// Want of memory, a file that cannot be read, a cut over its limits, and the first fault of a
+/// table, whichever comes first.
+pub fn load_tables<F: Folder>(
+    alloc: Global,
+    folder: &F,
+    directory: &str,
+    catalog: &Catalog,
+    rows: u32,
+) -> Result<Loaded, Refusal>
+    requires rows { 1 ≤ rows }
+    requires well_formed { IsWellFormed catalog.now }
+    ensures fact { IfOk result (λ loaded. IsFactLoaded (F.holds folder.now) directory.now catalog.now rows loaded.fact.cut loaded.fact.fragments.items) }
+    ensures counted { IfOk result (λ loaded. loaded.fact.rows ≡ sum loaded.fact.cut) }
+    ensures dims { IfOk result (λ loaded. AreEach (IsDimensionLoaded (F.holds folder.now) directory.now) catalog.now.dims loaded.dims.items) }
+{
+    let fact = load_fact_table(alloc, folder, directory, catalog, rows)?;
+    let dims = load_dimensions(alloc, folder, directory, catalog)?;
+    Ok(Loaded { fact, dims })
+}

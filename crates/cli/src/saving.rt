@@ -1,0 +1,288 @@
+// The files of loaded tables.
+ghost use Rattle.std.specs.Prelude.{◌≡◌, ◌≤◌, IfOk, OnOk, zip};
+ghost use Rattle.std.specs.List.{enumerate_from};
+ghost use Rattle.meaning.specs.Catalog.{IsWellFormed, IsWellFormedTable};
+ghost use Rattle.meaning.specs.Table.{first_row};
+ghost use Rattle.fragment_file.specs.Fragment.{IsHeader, Stands, sealed};
+ghost use Rattle.fragment_file.specs.Writing.{AreColumns, AreColumnsOf};
+ghost use Rattle.fragment_file.specs.CutFile.{cut_bytes};
+ghost use Rattle.cli.specs.Folder.{Finishes, IsEmptyFile, Writes, WritesOne, fragment_path, dimension_path, cut_path};
+ghost use Rattle.cli.specs.Loading.{AreDimensionColumns, AreEach, AreFiles, AreFragmentColumns, IsDimensionFile, IsFragmentFile, header_of, rows_in};
+
+use crate::folder::Folder;
+use crate::loading::Loaded;
+use crate::paths::{cut_path, dimension_path, fragment_path};
+use crate::refusal::{Refusal, cannot_write};
+use columns::Column;
+use fragment_file::header::Header;
+use fragment_file::{FileFault, write, write_cut};
+use meaning::catalog;
+use meaning::catalog::{Catalog, Dimension, Table};
+use meaning::cut::Cut;
+use meaning::sequence::Sequence;
+use meaning::text::Text;
+use std::alloc::{AllocError, Global};
+use std::io;
+use std::io::ErrorKind;
+
+/// Which rows of a table a file has.
+#[derive(Clone, Copy)]
+struct Place {
+    fragment: u32,
+    first_row: u64,
+    rows: u32,
+}
+
+fn copy_columns(
+    alloc: Global,
+    columns: &[catalog::Column],
+) -> Result<Sequence<catalog::Column>, AllocError>
+    ensures { IfOk result (λ copy. copy ≡ columns.now) }
+{
+    let mut copy = Sequence::new(alloc);
+    for column in columns {
+        copy.push(catalog::Column {
+            name: column.name.clone()?,
+            col_type: column.col_type,
+            nullable: column.nullable,
+        })?;
+    }
+    Ok(copy)
+}
+
+fn header(alloc: Global, load: u64, table: &Table, place: Place) -> Result<Header, AllocError>
+    ensures { IfOk result (λ header. header ≡ header_of load table.now place.fragment place.first_row place.rows) }
+{
+    Ok(Header {
+        load,
+        table: table.name.clone()?,
+        fragment: place.fragment,
+        first_row: place.first_row,
+        rows: place.rows,
+        columns: copy_columns(alloc, table.columns.as_slice())?,
+    })
+}
+
+/// How it is told that the file of a path was not written.
+fn device_refusal(path: &Text, error: io::Error) -> Refusal {
+    match error.kind() {
+        ErrorKind::OutOfMemory => Refusal::Memory,
+        _ => cannot_write(path),
+    }
+}
+
+fn file_refusal(path: &Text, fault: FileFault) -> Refusal {
+    match fault {
+        FileFault::Memory => Refusal::Memory,
+        _ => cannot_write(path),
+    }
+}
+
+fn create<F: Folder>(folder: &mut F, path: &Text) -> Result<F::Writer, Refusal>
+    ensures empty { IfOk result (λ file. IsEmptyFile (F.wrote folder.old) (F.Writer.contents file)) }
+    ensures same { F.wrote folder.new ≡ F.wrote folder.old }
+{
+    match folder.create(path.as_str()) {
+        Ok(file) => Ok(file),
+        Err(error) => Err(device_refusal(path, error)),
+    }
+}
+
+fn finish<F: Folder>(folder: &mut F, path: &Text, file: F::Writer) -> Result<(), Refusal>
+    ensures { OnOk result (Finishes (F.wrote folder.old) (F.wrote folder.new) path.now (F.Writer.contents file)) }
+{
+    match folder.finish(path.as_str(), file) {
+        Ok(()) => Ok(()),
+        Err(error) => Err(device_refusal(path, error)),
+    }
+}
+
+fn save_rows<F: Folder>(
+    alloc: Global,
+    folder: &mut F,
+    path: &Text,
+    header: &Header,
+    columns: &[Column],
+) -> Result<(), Refusal>
+    requires header { IsHeader header.now }
+    requires columns { AreColumnsOf header.now columns.now }
+    ensures { OnOk result (WritesOne path.now (λ bytes. Stands bytes header.now columns.now) (F.wrote folder.old) (F.wrote folder.new)) }
+{
+    let mut file = create(folder, path)?;
+    match write(alloc, header, columns, &mut file) {
+        Ok(()) => finish(folder, path, file),
+        Err(fault) => Err(file_refusal(path, fault)),
+    }
+}
+
+fn save_cut<F: Folder>(
+    alloc: Global,
+    folder: &mut F,
+    directory: &str,
+    load: u64,
+    cut: &Cut,
+) -> Result<(), Refusal>
+    ensures { OnOk result (WritesOne (cut_path directory.now) (λ bytes. bytes ≡ sealed (cut_bytes (record { load = load; cut = cut.now })))
+        (F.wrote folder.old) (F.wrote folder.new)) }
+{
+    let path = cut_path(alloc, directory)?;
+    let mut file = create(folder, &path)?;
+    match write_cut(load, cut, &mut file) {
+        Ok(()) => finish(folder, &path, file),
+        Err(fault) => Err(file_refusal(&path, fault)),
+    }
+}
+
+fn save_fragment<F: Folder>(
+    alloc: Global,
+    folder: &mut F,
+    directory: &str,
+    load: u64,
+    table: &Table,
+    place: Place,
+    columns: &[Column],
+) -> Result<(), Refusal>
+    requires table { IsWellFormedTable table.now }
+    requires few { place.rows ≤ 1048576 }
+    requires columns { AreColumns table.now.columns place.rows columns.now }
+    ensures { OnOk result (WritesOne (fragment_path directory.now table.now.name place.fragment)
+        (λ bytes. Stands bytes (header_of load table.now place.fragment place.first_row place.rows) columns.now)
+        (F.wrote folder.old) (F.wrote folder.new)) }
+{
+    let path = fragment_path(alloc, directory, table.name.as_str(), place.fragment)?;
+    let header = header(alloc, load, table, place)?;
+    save_rows(alloc, folder, &path, &header, columns)
+}
+
+fn save_fragments<F: Folder>(
+    alloc: Global,
+    folder: &mut F,
+    directory: &str,
+    load: u64,
+    table: &Table,
+    cut: &Cut,
+    fragments: &[Sequence<Column>],
+) -> Result<(), Refusal>
+    requires table { IsWellFormedTable table.now }
+    requires columns { AreEach (AreFragmentColumns table.now) cut.now fragments.now }
+    ensures { OnOk result (Writes (AreEach (IsFragmentFile directory.now load table.now cut.now) (enumerate_from 0 fragments.now))
+        (F.wrote folder.old) (F.wrote folder.new)) }
+{
+    let lengths = cut.lengths();
+    let mut first_row = 0;
+    for k in 0..lengths.len() {
+        let place = Place {
+            fragment: k as u32,
+            first_row,
+            rows: lengths[k],
+        };
+        save_fragment(
+            alloc,
+            folder,
+            directory,
+            load,
+            table,
+            place,
+            fragments[k].as_slice(),
+        )?;
+        first_row += u64::from(lengths[k]);
+    }
+    Ok(())
+}
+
+/// How many rows columns have.
+fn rows_in(columns: &[Column]) -> usize
+    ensures { result ≡ rows_in columns.now }
+{
+    match columns.first() {
+        Some(column) => column.len(),
+        None => 0,
+    }
+}
+
+fn save_dimension<F: Folder>(
+    alloc: Global,
+    folder: &mut F,
+    directory: &str,
+    load: u64,
+    dim: &Dimension,
+    columns: &[Column],
+) -> Result<(), Refusal>
+    requires table { IsWellFormedTable dim.now.table }
+    requires columns { AreDimensionColumns dim.now columns.now }
+    ensures { OnOk result (WritesOne (dimension_path directory.now dim.now.table.name)
+        (λ bytes. Stands bytes (header_of load dim.now.table 0 0 (rows_in columns.now)) columns.now)
+        (F.wrote folder.old) (F.wrote folder.new)) }
+{
+    let path = dimension_path(alloc, directory, dim.table.name.as_str())?;
+    let place = Place {
+        fragment: 0,
+        first_row: 0,
+        rows: rows_in(columns) as u32,
+    };
+    let header = header(alloc, load, &dim.table, place)?;
+    save_rows(alloc, folder, &path, &header, columns)
+}
+
+fn save_dimensions<F: Folder>(
+    alloc: Global,
+    folder: &mut F,
+    directory: &str,
+    load: u64,
+    catalog: &Catalog,
+    dims: &[Sequence<Column>],
+) -> Result<(), Refusal>
+    requires well_formed { IsWellFormed catalog.now }
+    requires columns { AreEach AreDimensionColumns catalog.now.dims dims.now }
+    ensures { OnOk result (Writes (AreEach (IsDimensionFile directory.now load) (zip catalog.now.dims dims.now))
+        (F.wrote folder.old) (F.wrote folder.new)) }
+{
+    let declared = catalog.dims.as_slice();
+    for i in 0..declared.len() {
+        save_dimension(
+            alloc,
+            folder,
+            directory,
+            load,
+            &declared[i],
+            dims[i].as_slice(),
+        )?;
+    }
+    Ok(())
+}
+
+/// Writes the files of loaded tables, which carry the number `load`: of each fragment, of each
+/// dimension, and of the cut, in this order.
+///
+/// # Errors
+///
+/// Want of memory, or the first file that cannot be written. Those before it stay, and so may the
+/// beginning of the file itself, under the name that the folder gives it until it is whole.
+pub fn save<F: Folder>(
+    alloc: Global,
+    folder: &mut F,
+    directory: &str,
+    load: u64,
+    catalog: &Catalog,
+    loaded: &Loaded,
+) -> Result<(), Refusal>
+    requires well_formed { IsWellFormed catalog.now }
+    requires fragments { AreEach (AreFragmentColumns catalog.now.fact) loaded.now.fact.cut loaded.now.fact.fragments.items }
+    requires dims { AreEach AreDimensionColumns catalog.now.dims loaded.now.dims.items }
+    ensures { OnOk result (Writes (AreFiles directory.now load catalog.now loaded.now.fact.cut loaded.now.fact.fragments.items loaded.now.dims.items)
+        (F.wrote folder.old) (F.wrote folder.new)) }
+{
+    let (cut, fragments) = (&loaded.fact.cut, loaded.fact.fragments.as_slice());
+    save_fragments(
+        alloc,
+        folder,
+        directory,
+        load,
+        &catalog.fact,
+        cut,
+        fragments,
+    )?;
+    let dims = loaded.dims.as_slice();
+    save_dimensions(alloc, folder, directory, load, catalog, dims)?;
+    save_cut(alloc, folder, directory, load, cut)
+}

@@ -1,5 +1,0 @@
-use Rattle.coordinator.proofs.Integers.{parsed_integer}
-use Rattle.coordinator.proofs.loading.integer_of.Goals as goal
-
-pub returns : goal.returns
-returns c = rw c.ok.ensures.value (parsed_integer c.args.text.now c.parse.result c.parse.ensures.value.0)

@@ -1,0 +1,12 @@
+use Rattle.std.proofs.Common.{◌≤◌, length, take, map}
+use Rattle.encodings.specs.Bytes.{integer_of}
+use Rattle.encodings.specs.Reading.{codes_in, repeats}
+use Rattle.encodings.proofs.ReadLists.{AreLined}
+use Rattle.encodings.proofs.reading_runs.fill_rest.Given as goal
+
+abbrev pub invariant-loop-run : goal.invariant-loop-run
+invariant-loop-run l = record {
+  within : l.done ≤ length l.out;
+  lined : AreLined (take l.done l.out) 0 (map integer_of l.values) (codes_in l.lengths) l.run
+      (repeats (map integer_of l.values) (codes_in l.lengths));
+}

@@ -149,29 +149,28 @@ fn an_empty_fact_has_one_fragment(rt: HostRuntime) -> Result<(), Fail> {
     expect_files(&rt, rt.alloc(), folder.written.as_slice(), &wants)
 }
 
+const MISSING: &[(Files<'static>, &str)] = &[
+    (&[], "1 [] [xcols: cannot read sales/catalog.txt\n]"),
+    (
+        &[("sales/catalog.txt", CATALOG), ("sales/store.csv", STORE)],
+        "1 [] [xcols: cannot read sales/sales.csv\n]",
+    ),
+    (
+        &[("sales/catalog.txt", CATALOG), ("sales/sales.csv", SALES)],
+        "1 [] [xcols: cannot read sales/store.csv\n]",
+    ),
+    (
+        &[
+            ("sales/catalog.txt", CATALOG),
+            ("sales/sales.csv", b"id,s,q,p,t\n1\n"),
+        ],
+        "1 [] [xcols: load 2 0\n]",
+    ),
+];
+
 #[test]
 fn a_file_may_be_missing(rt: HostRuntime) -> Result<(), Fail> {
-    for (files, want) in [
-        (
-            [].as_slice(),
-            "1 [] [xcols: cannot read sales/catalog.txt\n]",
-        ),
-        (
-            &[("sales/catalog.txt", CATALOG), ("sales/store.csv", STORE)],
-            "1 [] [xcols: cannot read sales/sales.csv\n]",
-        ),
-        (
-            &[("sales/catalog.txt", CATALOG), ("sales/sales.csv", SALES)],
-            "1 [] [xcols: cannot read sales/store.csv\n]",
-        ),
-        (
-            &[
-                ("sales/catalog.txt", CATALOG),
-                ("sales/sales.csv", b"id,s,q,p,t\n1\n"),
-            ],
-            "1 [] [xcols: load 2 0\n]",
-        ),
-    ] {
+    for (files, want) in MISSING {
         expect_refused(&rt, rt.alloc(), files, "sales", want)?;
     }
     Ok(())
@@ -199,18 +198,20 @@ fn fragments_may_be_too_many(rt: HostRuntime) -> Result<(), Fail> {
     expect_refused(&rt, rt.alloc(), &files, "d", "1 [] [xcols: cut 2\n]")
 }
 
+const STEPS: &[(u32, &str, usize)] = &[
+    (0, "1 [] [xcols: cannot write sales/sales.0.xcf\n]", 0),
+    (1, "1 [] [xcols: cannot write sales/sales.0.xcf\n]", 0),
+    (2, "1 [] [xcols: cannot write sales/sales.1.xcf\n]", 1),
+    (7, "1 [] [xcols: cannot write sales/store.xcf\n]", 3),
+    (8, "1 [] [xcols: cannot write sales/cut.xcl\n]", 4),
+    (9, "1 [] [xcols: cannot write sales/cut.xcl\n]", 4),
+    (10, "0 [loaded 5 rows in 3 fragments\n] []", 5),
+];
+
 #[test]
 fn a_file_may_not_be_written(rt: HostRuntime) -> Result<(), Fail> {
-    for (steps, want, written) in [
-        (0, "1 [] [xcols: cannot write sales/sales.0.xcf\n]", 0),
-        (1, "1 [] [xcols: cannot write sales/sales.0.xcf\n]", 0),
-        (2, "1 [] [xcols: cannot write sales/sales.1.xcf\n]", 1),
-        (7, "1 [] [xcols: cannot write sales/store.xcf\n]", 3),
-        (8, "1 [] [xcols: cannot write sales/cut.xcl\n]", 4),
-        (9, "1 [] [xcols: cannot write sales/cut.xcl\n]", 4),
-        (10, "0 [loaded 5 rows in 3 fragments\n] []", 5),
-    ] {
-        expect_steps(&rt, rt.alloc(), steps, want, written)?;
+    for (steps, want, written) in STEPS {
+        expect_steps(&rt, rt.alloc(), *steps, want, *written)?;
     }
     Ok(())
 }

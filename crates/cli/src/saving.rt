@@ -1,11 +1,13 @@
 // The files of loaded tables.
-ghost use Rattle.std.specs.Prelude.{◌≡◌, ◌≤◌, IfOk, OnOk, zip};
+ghost use Rattle.std.specs.Prelude.{◌≡◌, ◌≢◌, ◌≤◌, IfOk, OnOk, zip};
 ghost use Rattle.std.specs.List.{enumerate_from};
 ghost use Rattle.meaning.specs.Catalog.{IsWellFormed, IsWellFormedTable};
 ghost use Rattle.meaning.specs.Table.{first_row};
 ghost use Rattle.fragment_file.specs.Fragment.{IsHeader, Stands, sealed};
 ghost use Rattle.fragment_file.specs.Writing.{AreColumns, AreColumnsOf};
 ghost use Rattle.fragment_file.specs.CutFile.{cut_bytes};
+ghost use Rattle.fragment_file.specs.declared.fault.FileFault.TheVariants as no_file;
+ghost use Rattle.cli.specs.declared.refusal.Refusal.TheVariants.{Memory, CannotWrite};
 ghost use Rattle.cli.specs.Folder.{Finishes, IsEmptyFile, Writes, WritesOne, fragment_path, dimension_path, cut_path};
 ghost use Rattle.cli.specs.Loading.{AreDimensionColumns, AreEach, AreFiles, AreFragmentColumns, IsDimensionFile, IsFragmentFile, header_of, rows_in};
 
@@ -64,14 +66,19 @@ fn header(alloc: Global, load: u64, table: &Table, place: Place) -> Result<Heade
 }
 
 /// How it is told that the file of a path was not written.
-fn device_refusal(path: &Text, error: io::Error) -> Refusal {
+fn device_refusal(path: &Text, error: io::Error) -> Refusal
+    ensures { result ≢ Memory → result ≡ CannotWrite path.now }
+{
     match error.kind() {
         ErrorKind::OutOfMemory => Refusal::Memory,
         _ => cannot_write(path),
     }
 }
 
-fn file_refusal(path: &Text, fault: FileFault) -> Refusal {
+fn file_refusal(path: &Text, fault: FileFault) -> Refusal
+    ensures memory { fault ≡ no_file.Memory → result ≡ Memory }
+    ensures told { result ≢ Memory → result ≡ CannotWrite path.now }
+{
     match fault {
         FileFault::Memory => Refusal::Memory,
         _ => cannot_write(path),

@@ -67,17 +67,28 @@ fn letter(alloc: Global, told: Result<Absorbed, GatherFault>) -> Result<String, 
     }
 }
 
-/// What is said of each answer, and then what is printed.
-fn story(alloc: Global, gather: &mut Gather, answers: &[&[u8]]) -> Result<String, Fail> {
+/// What is said of each answer.
+fn said_of(alloc: Global, gather: &mut Gather, answers: &[&[u8]]) -> Result<String, Fail> {
     let mut out = String::new(alloc);
     for answer in answers {
         let said = letter(alloc, gather.absorb(alloc, answer))?;
         out.push_str(said.as_str())?;
         out.push_str(" ")?;
     }
+    Ok(out)
+}
+
+fn print_of(alloc: Global, gather: &Gather) -> Result<String, Fail> {
     let mut printed = Vec::new(alloc);
     gather.print_report(alloc, &mut printed)?;
-    out.push_str(str::from_utf8(printed.as_slice())?)?;
+    Ok(String::from_str(alloc, str::from_utf8(printed.as_slice())?)?)
+}
+
+/// What is said of each answer, and then what is printed.
+fn story(alloc: Global, gather: &mut Gather, answers: &[&[u8]]) -> Result<String, Fail> {
+    let mut out = said_of(alloc, gather, answers)?;
+    let printed = print_of(alloc, gather)?;
+    out.push_str(printed.as_str())?;
     Ok(out)
 }
 
@@ -96,6 +107,7 @@ enum Said {
     Second,
     Magic,
     Nothing,
+    OverTheGreatest,
 }
 
 impl Said {
@@ -106,6 +118,7 @@ impl Said {
             Said::Second => SECOND,
             Said::Magic => b"XGA",
             Said::Nothing => b"",
+            Said::OverTheGreatest => OVER_THE_GREATEST,
         }
     }
 }
@@ -118,31 +131,38 @@ fn of_said(alloc: Global, said: &[Said]) -> Result<String, Fail> {
     of_answers(alloc, &answers)
 }
 
+fn expect_story(rt: &impl Abort, alloc: Global, said: &[Said], want: &str) -> Result<(), Fail> {
+    let told = of_said(alloc, said)?;
+    assert_eq!(rt; told.as_str(), want);
+    Ok(())
+}
+
+const STORIES: &[(&[Said], &str)] = &[
+    (&[], "missing: 0 1\n"),
+    (&[Said::First], "N missing: 1\n"),
+    (&[Said::First, Said::Second], "N N c1\n5\n"),
+    (
+        &[Said::Second, Said::First, Said::Second, Said::First],
+        "N N K K c1\n5\n",
+    ),
+    (
+        &[Said::First, Said::FirstOfOneRow, Said::First],
+        "N C0 C0 conflict: 0\n",
+    ),
+    (
+        &[Said::FirstOfOneRow, Said::Second, Said::First],
+        "N N C0 conflict: 0\n",
+    ),
+    (
+        &[Said::Magic, Said::First, Said::Nothing, Said::Second],
+        "2 N 2 N c1\n5\n",
+    ),
+];
+
 #[test]
 fn answers_in_any_order(rt: HostRuntime) -> Result<(), Fail> {
-    for (said, want) in [
-        ([].as_slice(), "missing: 0 1\n"),
-        (&[Said::First], "N missing: 1\n"),
-        (&[Said::First, Said::Second], "N N c1\n5\n"),
-        (
-            &[Said::Second, Said::First, Said::Second, Said::First],
-            "N N K K c1\n5\n",
-        ),
-        (
-            &[Said::First, Said::FirstOfOneRow, Said::First],
-            "N C0 C0 conflict: 0\n",
-        ),
-        (
-            &[Said::FirstOfOneRow, Said::Second, Said::First],
-            "N N C0 conflict: 0\n",
-        ),
-        (
-            &[Said::Magic, Said::First, Said::Nothing, Said::Second],
-            "2 N 2 N c1\n5\n",
-        ),
-    ] {
-        let told = of_said(rt.alloc(), said)?;
-        assert_eq!(rt; told.as_str(), want);
+    for (said, want) in STORIES {
+        expect_story(&rt, rt.alloc(), said, want)?;
     }
     Ok(())
 }
@@ -195,7 +215,7 @@ fn of_sum(alloc: Global, answers: &[&[u8]]) -> Result<String, Fail> {
 
 #[test]
 fn a_sum_that_no_rows_can_give_is_refused(rt: HostRuntime) -> Result<(), Fail> {
-    let told = of_sum(rt.alloc(), &[OVER_THE_GREATEST])?;
+    let told = of_sum(rt.alloc(), &[Said::OverTheGreatest.bytes()])?;
     assert_eq!(rt; told.as_str(), "10 missing: 0 1\n");
     Ok(())
 }
@@ -220,16 +240,18 @@ fn state_after(alloc: Global, said: &[Said]) -> Result<Vec<u8>, Fail> {
     bytes
 }
 
+const SIZES: &[(&[Said], usize)] = &[
+    (&[], 94),
+    (&[Said::First], 107),
+    (&[Said::First, Said::Second], 120),
+    (&[Said::First, Said::FirstOfOneRow, Said::Second], 107),
+];
+
 #[test]
 fn states_have_their_sizes(rt: HostRuntime) -> Result<(), Fail> {
-    for (said, want) in [
-        ([].as_slice(), 94),
-        (&[Said::First], 107),
-        (&[Said::First, Said::Second], 120),
-        (&[Said::First, Said::FirstOfOneRow, Said::Second], 107),
-    ] {
+    for (said, want) in SIZES {
         let bytes = state_after(rt.alloc(), said)?;
-        assert_eq!(rt; bytes.len(), want);
+        assert_eq!(rt; bytes.len(), *want);
     }
     Ok(())
 }
@@ -272,12 +294,6 @@ fn all_orders_give_the_conflict(rt: HostRuntime) -> Result<(), Fail> {
 /// The coordinator that holds what the bytes spell.
 fn restored(alloc: Global, bytes: &[u8]) -> Result<Gather, Fail> {
     Ok(Gather::from_state(alloc, job(alloc, 7, COUNT, &[2, 3])?, bytes)?)
-}
-
-fn print_of(alloc: Global, gather: &Gather) -> Result<String, Fail> {
-    let mut printed = Vec::new(alloc);
-    gather.print_report(alloc, &mut printed)?;
-    Ok(String::from_str(alloc, str::from_utf8(printed.as_slice())?)?)
 }
 
 /// What is printed of a state.
@@ -347,6 +363,17 @@ fn refusal_by(alloc: Global, gather: &mut Gather, other: Job) -> Result<Option<u
     Ok(refusal_of_join(alloc, gather, other))
 }
 
+fn refusal_by_job(
+    alloc: Global,
+    gather: &mut Gather,
+    load: u64,
+    query: &[u8],
+    lengths: &[u32],
+) -> Result<Option<u8>, Fail> {
+    let other = job(alloc, load, query, lengths)?;
+    refusal_by(alloc, gather, other)
+}
+
 /// Why a coordinator of this load, query and cut is not joined.
 fn refused_join(
     alloc: Global,
@@ -354,24 +381,25 @@ fn refused_join(
     query: &[u8],
     lengths: &[u32],
 ) -> Result<Option<u8>, Fail> {
-    let other = job(alloc, load, query, lengths)?;
     let mut gather = gather(alloc)?;
-    let told = refusal_by(alloc, &mut gather, other);
+    let told = refusal_by_job(alloc, &mut gather, load, query, lengths);
     drop(gather);
     told
 }
 
+const JOBS: &[(u64, &[u8], &[u32], Option<u8>)] = &[
+    (7, COUNT, &[2, 3], None),
+    (8, COUNT, &[2, 3], Some(11)),
+    (7, SUM, &[2, 3], Some(11)),
+    (7, COUNT, &[3, 2], Some(11)),
+    (7, COUNT, &[2, 3, 0], Some(11)),
+];
+
 #[test]
 fn another_job_is_not_joined(rt: HostRuntime) -> Result<(), Fail> {
-    let all: [(u64, &[u8], &[u32], Option<u8>); 5] = [
-        (7, COUNT, &[2, 3], None),
-        (8, COUNT, &[2, 3], Some(11)),
-        (7, SUM, &[2, 3], Some(11)),
-        (7, COUNT, &[3, 2], Some(11)),
-        (7, COUNT, &[2, 3, 0], Some(11)),
-    ];
-    for (load, query, lengths, want) in all {
-        assert_eq!(rt; refused_join(rt.alloc(), load, query, lengths)?, want);
+    for (load, query, lengths, want) in JOBS {
+        let refusal = refused_join(rt.alloc(), *load, query, lengths)?;
+        assert_eq!(rt; refusal, *want);
     }
     Ok(())
 }
@@ -409,15 +437,23 @@ fn again(alloc: Global, state: &[u8]) -> Result<Vec<u8>, Fail> {
     Ok(bytes?)
 }
 
+fn expect_again(rt: &impl Abort, alloc: Global, said: &[Said]) -> Result<(), Fail> {
+    let bytes = state_after(alloc, said)?;
+    let again = again(alloc, &bytes)?;
+    assert_eq!(rt; again.as_slice(), bytes.as_slice());
+    Ok(())
+}
+
+const TAKEN: &[&[Said]] = &[
+    &[],
+    &[Said::First, Said::Second],
+    &[Said::Second, Said::First, Said::FirstOfOneRow],
+];
+
 #[test]
 fn states_are_read_as_they_were(rt: HostRuntime) -> Result<(), Fail> {
-    for said in [
-        [].as_slice(),
-        &[Said::First, Said::Second],
-        &[Said::Second, Said::First, Said::FirstOfOneRow],
-    ] {
-        let bytes = state_after(rt.alloc(), said)?;
-        assert_eq!(rt; again(rt.alloc(), &bytes)?.as_slice(), bytes.as_slice());
+    for said in TAKEN {
+        expect_again(&rt, rt.alloc(), said)?;
     }
     Ok(())
 }

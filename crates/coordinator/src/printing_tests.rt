@@ -10,6 +10,7 @@ use meaning::text::Text;
 use meaning::value::{Row, Value};
 use std::alloc::{AllocError, Global};
 use std::io::Write;
+use std::process::Abort;
 use std::test::Fail;
 
 fn items(alloc: Global, header: &str) -> Result<Sequence<Item>, AllocError>
@@ -73,32 +74,36 @@ fn shown(alloc: Global, text: &str) -> Result<Vec<u8>, Fail> {
     Ok(out)
 }
 
+fn expect_field(rt: &impl Abort, alloc: Global, text: &str, want: &str) -> Result<(), Fail> {
+    let shown = shown(alloc, text)?;
+    assert_eq!(rt; shown.as_slice(), want.as_bytes(), "at {text}");
+    Ok(())
+}
+
+const FIELDS: &[(&str, &str)] = &[
+    ("plain", "c1\nplain\n"),
+    ("a,b", "c1\n\"a,b\"\n"),
+    ("say \"so\"", "c1\n\"say \"\"so\"\"\"\n"),
+    ("a\rb", "c1\n\"a\rb\"\n"),
+    ("a\nb", "c1\n\"a\nb\"\n"),
+    ("", "c1\n\"\"\n"),
+    (" ", "c1\n \n"),
+    ("\\N", "c1\n\\N\n"),
+];
+
 #[test]
 fn a_field_is_quoted_where_it_has_to_be(rt: HostRuntime) -> Result<(), Fail> {
-    for (text, want) in [
-        ("plain", "c1\nplain\n"),
-        ("a,b", "c1\n\"a,b\"\n"),
-        ("say \"so\"", "c1\n\"say \"\"so\"\"\"\n"),
-        ("a\rb", "c1\n\"a\rb\"\n"),
-        ("a\nb", "c1\n\"a\nb\"\n"),
-        ("", "c1\n\"\"\n"),
-        (" ", "c1\n \n"),
-        ("\\N", "c1\n\\N\n"),
-    ] {
-        assert_eq!(rt;
-            shown(rt.alloc(), text)?.as_slice(),
-            want.as_bytes(),
-            "at {text}"
-        );
+    for (text, want) in FIELDS {
+        expect_field(&rt, rt.alloc(), text, want)?;
     }
     Ok(())
 }
 
 #[test]
 fn a_row_has_values_of_each_kind(rt: HostRuntime) -> Result<(), Fail> {
+    let mut out = vec![in rt.alloc(); b'>']?;
     let others = vec![in rt.alloc(); Value::Null, Value::Int(-9_223_372_036_854_775_808)]?;
     let shown = row(Value::Int(0), others)?;
-    let mut out = vec![in rt.alloc(); b'>']?;
     print_one(rt.alloc(), "a,b", shown, &mut out)?;
     let want = ">\"a,b\"\n0,\\N,-9223372036854775808\n";
     assert_eq!(rt; out.as_slice(), want.as_bytes());
@@ -124,12 +129,18 @@ fn faults_and_fragments_have_lines(rt: HostRuntime) -> Result<(), Fail> {
     Ok(())
 }
 
-#[test]
-fn a_full_writer_is_told(rt: HostRuntime) -> Result<(), Fail> {
+fn is_full(alloc: Global) -> Result<bool, AllocError> {
+    let row = text_row(alloc, "plain")?;
     let mut room = [0u8; 4];
     let mut out = room.as_mut_slice();
-    let rows = print_one(rt.alloc(), "c1", text_row(rt.alloc(), "plain")?, &mut out);
-    assert!(rt; matches!(rows, Err(PrintFault::Writer)));
+    let printed = print_one(alloc, "c1", row, &mut out);
+    Ok(matches!(printed, Err(PrintFault::Writer)))
+}
+
+#[test]
+fn a_full_writer_is_told(rt: HostRuntime) -> Result<(), Fail> {
+    assert!(rt; is_full(rt.alloc())?);
+    let mut room = [0u8; 4];
     let mut out = room.as_mut_slice();
     let line = print_fault(1, &mut out);
     assert!(rt; matches!(line, Err(PrintFault::Writer)));

@@ -89,9 +89,12 @@ pub fn put_dictionary_of_ints(
     ensures err { IfErr result (λ f. f ≡ Memory) }
 {
     let dictionary = dictionary_of_ints(alloc, ints)?;
-    let entries = dictionary.places.len().saturating_mul(8);
-    make_room(out, entries.saturating_add(4 + 2 * ints.len()))?;
-    put_word(out, dictionary.places.len() as u32)?;
+    let entries = dictionary.places.len();
+    make_room(
+        out,
+        entries.saturating_mul(8).saturating_add(4 + 2 * ints.len()),
+    )?;
+    put_word(out, entries as u32)?;
     put_integers_at(out, ints, dictionary.places.as_slice())?;
     put_shorts(out, dictionary.codes.as_slice())?;
     Ok(())

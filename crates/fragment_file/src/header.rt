@@ -4,7 +4,7 @@ use meaning::sequence::Sequence;
 use meaning::text::Text;
 
 /// What stands in front of the row groups.
-#[derive(Debug, Drop)]
+#[derive(Drop)]
 pub struct Header {
     /// The number of the load that made the file.
     pub load: u64,

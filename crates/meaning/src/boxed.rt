@@ -4,7 +4,7 @@ use std::alloc::{AllocError, Global};
 use std::marker::Model;
 
 /// A part of a tree, kept on the heap. Contracts see the part itself, whatever its place in memory.
-#[derive(Debug, Drop)]
+#[derive(Drop)]
 pub struct Boxed<T> {
     place: Box<T>,
 }

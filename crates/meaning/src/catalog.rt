@@ -18,7 +18,7 @@ pub const MAX_COLUMNS: usize = 64;
 pub const MAX_DIMENSIONS: usize = 16;
 
 /// A column as the catalogue declares it.
-#[derive(Debug, Drop)]
+#[derive(Drop)]
 pub struct Column {
     /// In lower case.
     pub name: Text,
@@ -27,7 +27,7 @@ pub struct Column {
 }
 
 /// A table as the catalogue declares it.
-#[derive(Debug, Drop)]
+#[derive(Drop)]
 pub struct Table {
     /// In lower case.
     pub name: Text,
@@ -35,7 +35,7 @@ pub struct Table {
 }
 
 /// A dimension: a table whose key column tells its rows apart.
-#[derive(Debug, Drop)]
+#[derive(Drop)]
 pub struct Dimension {
     pub table: Table,
     /// The key column's place among the table's columns, from 0.
@@ -43,7 +43,7 @@ pub struct Dimension {
 }
 
 /// The fact table, and the dimensions in the order of the text.
-#[derive(Debug, Drop)]
+#[derive(Drop)]
 pub struct Catalog {
     pub fact: Table,
     pub dims: Sequence<Dimension>,

@@ -9,7 +9,7 @@ use crate::value::ColType;
 use std::alloc::{AllocError, Global};
 
 /// What a line declares. Names are in lower case.
-#[derive(Debug, Drop)]
+#[derive(Drop)]
 pub enum Statement {
     Fact(Text),
     Dim { name: Text, key: Text },
@@ -17,7 +17,7 @@ pub enum Statement {
 }
 
 /// What a line is.
-#[derive(Debug, Drop)]
+#[derive(Drop)]
 pub enum Line {
     /// A comment, or no word.
     Passed,

@@ -10,7 +10,7 @@ use crate::text::Text;
 use std::alloc::Global;
 
 /// A declared table; a dimension has the name of its key column.
-#[derive(Debug, Drop)]
+#[derive(Drop)]
 pub struct Declared {
     pub table: Table,
     pub key: Option<Text>,

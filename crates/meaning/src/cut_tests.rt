@@ -4,16 +4,17 @@ use crate::cut::{Cut, CutFault};
 use std::alloc::{AllocError, Global};
 use std::process::Abort;
 
-fn refusal(answer: &Result<Cut, CutFault>) -> Option<u8> {
-    match answer {
-        Ok(_) => None,
-        Err(fault) => Some(fault.number()),
+/// The refusal's number, or 0.
+fn refusal(cut: Result<Cut, CutFault>) -> u8 {
+    match cut {
+        Ok(_) => 0,
+        Err(fault) => fault.number(),
     }
 }
 
 /// Whether these are the cut's numbers of rows.
-fn has_lengths(answer: &Result<Cut, CutFault>, want: &[u32]) -> bool {
-    match answer {
+fn has_lengths(cut: Result<Cut, CutFault>, want: &[u32]) -> bool {
+    match cut {
         Ok(cut) => cut.lengths() == want,
         Err(_) => false,
     }
@@ -32,8 +33,8 @@ fn pair(alloc: Global, first: u32, second: u32) -> Result<Cut, CutFault> {
     Cut::new(two(alloc, first, second)?)
 }
 
-fn count(answer: &Result<Cut, CutFault>) -> usize {
-    match answer {
+fn count(cut: Result<Cut, CutFault>) -> usize {
+    match cut {
         Ok(cut) => cut.lengths().len(),
         Err(_) => 0,
     }
@@ -42,25 +43,25 @@ fn count(answer: &Result<Cut, CutFault>) -> usize {
 #[test]
 fn lengths_are_lent(rt: HostRuntime) {
     let alloc = rt.alloc();
-    assert!(rt; has_lengths(&pair(alloc, 2, 3), &[2, 3]));
-    assert!(rt; has_lengths(&alike(alloc, 0, 1), &[0]));
-    assert_eq!(rt; count(&alike(alloc, 1_048_576, 4_096)), 4_096);
+    assert!(rt; has_lengths(pair(alloc, 2, 3), &[2, 3]));
+    assert!(rt; has_lengths(alike(alloc, 0, 1), &[0]));
+    assert_eq!(rt; count(alike(alloc, 1_048_576, 4_096)), 4_096);
 }
 
 #[test]
 fn refusals_are_told_in_order(rt: HostRuntime) {
     let alloc = rt.alloc();
-    assert_eq!(rt; refusal(&Cut::new(Vec::new(alloc))), Some(1));
-    assert_eq!(rt; refusal(&alike(alloc, 1, 4_097)), Some(2));
-    assert_eq!(rt; refusal(&pair(alloc, 0, 1_048_577)), Some(3));
-    assert_eq!(rt; refusal(&alike(alloc, 1_048_577, 4_097)), Some(2));
+    assert_eq!(rt; refusal(Cut::new(Vec::new(alloc))), 1);
+    assert_eq!(rt; refusal(alike(alloc, 1, 4_097)), 2);
+    assert_eq!(rt; refusal(pair(alloc, 0, 1_048_577)), 3);
+    assert_eq!(rt; refusal(alike(alloc, 1_048_577, 4_097)), 2);
 }
 
 fn expect_even(rt: &impl Abort, alloc: Global, rows: u64, r: u32, want: &[u32])
     requires { 1 ≤ r }
 {
-    let cut = Cut::even(alloc, rows, r);
-    assert!(rt; has_lengths(&cut, want), "{rows} rows by {r}");
+    let is_cut = has_lengths(Cut::even(alloc, rows, r), want);
+    assert!(rt; is_cut, "{rows} rows by {r}");
 }
 
 #[test]
@@ -71,19 +72,15 @@ fn even_cuts_have_the_rest_behind(rt: HostRuntime) {
     expect_even(&rt, alloc, 1, 2, &[1]);
     expect_even(&rt, alloc, 0, 2, &[0]);
     expect_even(&rt, alloc, 3, 4_294_967_295, &[3]);
-    assert_eq!(rt; count(&Cut::even(alloc, 4_096, 1)), 4_096);
+    assert_eq!(rt; count(Cut::even(alloc, 4_096, 1)), 4_096);
 }
 
 #[test]
 fn even_cuts_are_refused_as_others(rt: HostRuntime) {
-    let many = Cut::even(rt.alloc(), 4_097, 1);
-    assert_eq!(rt; refusal(&many), Some(2));
-    let with_rest = Cut::even(rt.alloc(), 8_193, 2);
-    assert_eq!(rt; refusal(&with_rest), Some(2));
-    let huge = Cut::even(rt.alloc(), 18_446_744_073_709_551_615, 1_048_577);
-    assert_eq!(rt; refusal(&huge), Some(2));
-    let long = Cut::even(rt.alloc(), 1_048_577, 1_048_577);
-    assert_eq!(rt; refusal(&long), Some(3));
-    let long_rest = Cut::even(rt.alloc(), 1_048_577, 1_048_578);
-    assert_eq!(rt; refusal(&long_rest), Some(3));
+    let alloc = rt.alloc();
+    assert_eq!(rt; refusal(Cut::even(alloc, 4_097, 1)), 2);
+    assert_eq!(rt; refusal(Cut::even(alloc, 8_193, 2)), 2);
+    assert_eq!(rt; refusal(Cut::even(alloc, u64::MAX, 1_048_577)), 2);
+    assert_eq!(rt; refusal(Cut::even(alloc, 1_048_577, 1_048_577)), 3);
+    assert_eq!(rt; refusal(Cut::even(alloc, 1_048_577, 1_048_578)), 3);
 }

@@ -1,14 +1,17 @@
 ghost use Rattle.std.specs.Prelude.{◌≡◌, IfOk};
 ghost use Rattle.meaning.specs.Expr.{eval, outcomes};
+ghost use Rattle.meaning.specs.Joined.{joined_column};
 ghost use Rattle.meaning.specs.Operators as spec;
+ghost use Rattle.meaning.specs.Order.{column};
+ghost use Rattle.meaning.specs.declared.outcome.Outcome.TheVariants as gives;
 
-use crate::expr::{ComparisonOperator, Expr};
+use crate::expr::{ArithmeticOperator, ComparisonOperator, Expr};
 use crate::joined_row::{JoinedRow, joined_value, value_at};
 use crate::operators::{
     and, arith, compare, decides_and, decides_or, is_at_most, is_null, like, minus, not, or,
 };
 use crate::outcome::{Outcome, Truth};
-use crate::value::Value;
+use crate::value::{Row, Value};
 use std::alloc::{AllocError, Global};
 
 /// What the expression gives on the row: the plain evaluation, node by node.
@@ -17,36 +20,28 @@ pub fn eval_row(alloc: Global, expr: &Expr, row: &JoinedRow) -> Result<Outcome, 
     ensures { IfOk result (λ o. o ≡ eval expr.now row.now) }
 {
     match expr {
-        Expr::Column(place) => Ok(Outcome::Value(value_at(&row.fact, *place)?)),
-        Expr::Joined { join, place } => Ok(Outcome::Value(joined_value(row, *join, *place)?)),
-        Expr::Key(place) => Ok(Outcome::Value(value_at(&row.key, *place)?)),
-        Expr::Aggregate(place) => Ok(Outcome::Value(value_at(&row.aggregates, *place)?)),
+        Expr::Column(place) => outcome_at(&row.fact, *place),
+        Expr::Joined { join, place } => joined_outcome(row, *join, *place),
+        Expr::Key(place) => outcome_at(&row.key, *place),
+        Expr::Aggregate(place) => outcome_at(&row.aggregates, *place),
         Expr::Literal(value) => Ok(Outcome::Value(value.clone()?)),
         Expr::Minus(a) => Ok(minus(eval_row(alloc, a.get(), row)?)),
         Expr::Arithmetic(op, a, b) => {
             let left = eval_row(alloc, a.get(), row)?;
-            let right = eval_row(alloc, b.get(), row)?;
-            Ok(arith(*op, left, right))
+            eval_arithmetic(alloc, *op, left, b.get(), row)
         }
         Expr::Compare(op, a, b) => {
             let left = eval_row(alloc, a.get(), row)?;
-            let right = eval_row(alloc, b.get(), row)?;
-            Ok(compare(*op, &left, &right))
+            eval_comparison(alloc, *op, left, b.get(), row)
         }
         Expr::Not(a) => Ok(not(eval_row(alloc, a.get(), row)?)),
         Expr::And(a, b) => {
             let left = eval_row(alloc, a.get(), row)?;
-            if decides_and(&left) {
-                return Ok(left);
-            }
-            Ok(and(left, eval_row(alloc, b.get(), row)?))
+            eval_and(alloc, left, b.get(), row)
         }
         Expr::Or(a, b) => {
             let left = eval_row(alloc, a.get(), row)?;
-            if decides_or(&left) {
-                return Ok(left);
-            }
-            Ok(or(left, eval_row(alloc, b.get(), row)?))
+            eval_or(alloc, left, b.get(), row)
         }
         Expr::IsNull { negated, subject } => {
             Ok(not_if(*negated, is_null(eval_row(alloc, subject.get(), row)?)))
@@ -90,6 +85,76 @@ pub fn eval_row(alloc: Global, expr: &Expr, row: &JoinedRow) -> Result<Outcome, 
             eval_row(alloc, otherwise.get(), row)
         }
     }
+}
+
+fn outcome_at(row: &Row, place: usize) -> Result<Outcome, AllocError>
+    ensures { IfOk result (λ o. o ≡ gives.Value (column row.now place)) }
+{
+    Ok(Outcome::Value(value_at(row, place)?))
+}
+
+fn joined_outcome(row: &JoinedRow, join: usize, place: usize) -> Result<Outcome, AllocError>
+    ensures { IfOk result (λ o. o ≡ gives.Value (joined_column row.now join place)) }
+{
+    Ok(Outcome::Value(joined_value(row, join, place)?))
+}
+
+#[cycle(eval)]
+fn eval_arithmetic(
+    alloc: Global,
+    op: ArithmeticOperator,
+    left: Outcome,
+    right: &Expr,
+    row: &JoinedRow,
+) -> Result<Outcome, AllocError>
+    ensures { IfOk result (λ o. o ≡ spec.arith_of op left (eval right.now row.now)) }
+{
+    Ok(arith(op, left, eval_row(alloc, right, row)?))
+}
+
+#[cycle(eval)]
+fn eval_comparison(
+    alloc: Global,
+    op: ComparisonOperator,
+    left: Outcome,
+    right: &Expr,
+    row: &JoinedRow,
+) -> Result<Outcome, AllocError>
+    ensures { IfOk result (λ o. o ≡ spec.compare_of op left (eval right.now row.now)) }
+{
+    Ok(compare(op, &left, &eval_row(alloc, right, row)?))
+}
+
+/// The right side is not evaluated where the left one decides.
+#[cycle(eval)]
+fn eval_and(
+    alloc: Global,
+    left: Outcome,
+    right: &Expr,
+    row: &JoinedRow,
+) -> Result<Outcome, AllocError>
+    ensures { IfOk result (λ o. o ≡ spec.and_of left (eval right.now row.now)) }
+{
+    if decides_and(&left) {
+        return Ok(left);
+    }
+    Ok(and(left, eval_row(alloc, right, row)?))
+}
+
+/// The right side is not evaluated where the left one decides.
+#[cycle(eval)]
+fn eval_or(
+    alloc: Global,
+    left: Outcome,
+    right: &Expr,
+    row: &JoinedRow,
+) -> Result<Outcome, AllocError>
+    ensures { IfOk result (λ o. o ≡ spec.or_of left (eval right.now row.now)) }
+{
+    if decides_or(&left) {
+        return Ok(left);
+    }
+    Ok(or(left, eval_row(alloc, right, row)?))
 }
 
 fn not_if(negated: bool, a: Outcome) -> Outcome

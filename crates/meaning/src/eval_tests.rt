@@ -8,6 +8,7 @@ use crate::text::Text;
 use crate::value::{Row, Value};
 use std::alloc::{AllocError, Global};
 use std::mem::drop;
+use std::process::Abort;
 
 const Q: Expr = Expr::Column(2);
 
@@ -46,11 +47,12 @@ fn and(alloc: Global, a: Built, b: Built) -> Built {
     Ok(Expr::And(a, b))
 }
 
-fn between(alloc: Global, subject: Built, low: Built, high: Built) -> Built {
-    let (low, high) = both(alloc, low, high)?;
+/// `p BETWEEN low AND high`.
+fn between(alloc: Global, low: i64, high: i64) -> Built {
+    let (low, high) = both(alloc, int(low), int(high))?;
     Ok(Expr::Between {
         negated: false,
-        subject: boxed(alloc, subject)?,
+        subject: boxed(alloc, Ok(P))?,
         low,
         high,
     })
@@ -60,20 +62,22 @@ fn pair(alloc: Global, a: Expr, b: Expr) -> Result<Sequence<Expr>, AllocError> {
     Ok(Sequence::from_vec(vec![in alloc; a, b]?))
 }
 
-fn not_in(alloc: Global, subject: Built, list: Result<Sequence<Expr>, AllocError>) -> Built {
+/// `p NOT IN (list)`.
+fn not_in(alloc: Global, list: Result<Sequence<Expr>, AllocError>) -> Built {
     let list = list?;
     Ok(Expr::In {
         negated: true,
-        subject: boxed(alloc, subject)?,
+        subject: boxed(alloc, Ok(P))?,
         list,
     })
 }
 
-fn like(alloc: Global, subject: Built, pattern: &str) -> Built {
+/// `t LIKE pattern`.
+fn like(alloc: Global, pattern: &str) -> Built {
     let pattern = Text::new(alloc, pattern)?;
     Ok(Expr::Like {
         negated: false,
-        subject: boxed(alloc, subject)?,
+        subject: boxed(alloc, Ok(Expr::Column(4)))?,
         pattern,
     })
 }
@@ -103,20 +107,30 @@ fn faulty(alloc: Global) -> Built {
     equal(alloc, divide(alloc, int(1), int(0)), int(1))
 }
 
-/// The fact row (2, 10, NULL, 7, 'é') beside the dimension row (10, 'north').
+/// The row (2, 10, NULL, 7, 'é').
+fn fact(alloc: Global) -> Result<Row, AllocError> {
+    let text = Value::Text(Text::new(alloc, "é")?);
+    let values = vec![in alloc;
+        Value::Int(2),
+        Value::Int(10),
+        Value::Null,
+        Value::Int(7),
+        text,
+    ]?;
+    Ok(Row::from_vec(values))
+}
+
+/// The row (10, 'north').
+fn store(alloc: Global) -> Result<Row, AllocError> {
+    let text = Value::Text(Text::new(alloc, "north")?);
+    Ok(Row::from_vec(vec![in alloc; Value::Int(10), text]?))
+}
+
 fn row(alloc: Global) -> Result<JoinedRow, AllocError> {
-    let mut fact = Row::new(alloc);
-    for value in [Value::Int(2), Value::Int(10), Value::Null, Value::Int(7)] {
-        fact.push(value)?;
-    }
-    fact.push(Value::Text(Text::new(alloc, "é")?))?;
-    let mut store = Row::new(alloc);
-    store.push(Value::Int(10))?;
-    store.push(Value::Text(Text::new(alloc, "north")?))?;
-    let mut joins = Sequence::new(alloc);
-    joins.push(store)?;
+    let store = store(alloc)?;
+    let joins = Sequence::from_vec(vec![in alloc; store]?);
     Ok(JoinedRow {
-        fact,
+        fact: fact(alloc)?,
         joins,
         key: Row::new(alloc),
         aggregates: Row::new(alloc),
@@ -132,70 +146,75 @@ fn outcome_of(alloc: Global, expr: &Expr) -> Result<Outcome, AllocError> {
 }
 
 /// Whether the expression gives this on the row.
-fn gives(alloc: Global, expr: &Built, expected: &Outcome) -> bool {
-    let Ok(expr) = expr else {
-        return false;
-    };
+fn gives(alloc: Global, expr: &Expr, want: &Outcome) -> bool {
     match outcome_of(alloc, expr) {
-        Ok(outcome) => outcome == *expected,
+        Ok(outcome) => outcome == *want,
         Err(_) => false,
     }
+}
+
+fn expect(rt: &impl Abort, alloc: Global, expr: Built, want: Outcome) {
+    let is_given = match expr {
+        Ok(expr) => gives(alloc, &expr, &want),
+        Err(_) => false,
+    };
+    assert!(rt; is_given);
 }
 
 #[test]
 fn null_comes_before_a_zero_divisor(rt: HostRuntime) {
     let alloc = rt.alloc();
     let expr = divide(alloc, Ok(Q), int(0));
-    assert!(rt; gives(alloc, &expr, &Outcome::Value(Value::Null)));
+    expect(&rt, alloc, expr, Outcome::Value(Value::Null));
 }
 
 #[test]
 fn division_rounds_towards_zero(rt: HostRuntime) {
     let alloc = rt.alloc();
     let expr = divide(alloc, int(-7), int(2));
-    assert!(rt; gives(alloc, &expr, &Outcome::Value(Value::Int(-3))));
+    expect(&rt, alloc, expr, Outcome::Value(Value::Int(-3)));
 }
 
 #[test]
 fn the_least_integer_by_minus_one_overflows(rt: HostRuntime) {
     let alloc = rt.alloc();
     let expr = divide(alloc, int(i64::MIN), int(-1));
-    assert!(rt; gives(alloc, &expr, &Outcome::Fault(Fault::Overflow)));
+    expect(&rt, alloc, expr, Outcome::Fault(Fault::Overflow));
 }
 
 #[test]
 fn unknown_leaves_the_right_side_to_be_evaluated(rt: HostRuntime) {
     let alloc = rt.alloc();
     let expr = and(alloc, equal(alloc, Ok(Q), int(2)), faulty(alloc));
-    assert!(rt; gives(alloc, &expr, &Outcome::Fault(Fault::DivisionByZero)));
+    expect(&rt, alloc, expr, Outcome::Fault(Fault::DivisionByZero));
 }
 
 #[test]
 fn false_does_not(rt: HostRuntime) {
     let alloc = rt.alloc();
     let expr = and(alloc, equal(alloc, Ok(P), int(8)), faulty(alloc));
-    assert!(rt; gives(alloc, &expr, &Outcome::Truth(Truth::False)));
+    expect(&rt, alloc, expr, Outcome::Truth(Truth::False));
 }
 
 #[test]
 fn between_has_both_ends(rt: HostRuntime) {
     let alloc = rt.alloc();
-    let expr = between(alloc, Ok(P), int(7), int(7));
-    assert!(rt; gives(alloc, &expr, &Outcome::Truth(Truth::True)));
+    let expr = between(alloc, 7, 7);
+    expect(&rt, alloc, expr, Outcome::Truth(Truth::True));
 }
 
 #[test]
 fn not_in_a_list_with_null_is_unknown(rt: HostRuntime) {
     let alloc = rt.alloc();
-    let expr = not_in(alloc, Ok(P), pair(alloc, Q, number(8)));
-    assert!(rt; gives(alloc, &expr, &Outcome::Truth(Truth::Unknown)));
+    let expr = not_in(alloc, pair(alloc, Q, number(8)));
+    expect(&rt, alloc, expr, Outcome::Truth(Truth::Unknown));
 }
 
 #[test]
 fn a_character_of_two_bytes_is_one(rt: HostRuntime) {
     let alloc = rt.alloc();
-    let expr = like(alloc, Ok(Expr::Column(4)), "_");
-    assert!(rt; gives(alloc, &expr, &Outcome::Truth(Truth::True)));
+    let expr = like(alloc, "_");
+    expect(&rt, alloc, expr, Outcome::Truth(Truth::True));
 }
 
 #[test]
@@ -206,19 +225,19 @@ fn a_join_lends_its_columns(rt: HostRuntime) {
         Ok(Expr::Column(1)),
         Ok(Expr::Joined { join: 0, place: 0 }),
     );
-    assert!(rt; gives(alloc, &expr, &Outcome::Truth(Truth::True)));
+    expect(&rt, alloc, expr, Outcome::Truth(Truth::True));
 }
 
 #[test]
 fn case_passes_over_unknown(rt: HostRuntime) {
     let alloc = rt.alloc();
     let expr = case(alloc, equal(alloc, Ok(Q), int(0)), 1, 3);
-    assert!(rt; gives(alloc, &expr, &Outcome::Value(Value::Int(3))));
+    expect(&rt, alloc, expr, Outcome::Value(Value::Int(3)));
 }
 
 #[test]
 fn coalesce_stops_at_its_first_value(rt: HostRuntime) {
     let alloc = rt.alloc();
     let expr = coalesce(alloc, divide(alloc, Ok(P), int(0)));
-    assert!(rt; gives(alloc, &expr, &Outcome::Value(Value::Int(7))));
+    expect(&rt, alloc, expr, Outcome::Value(Value::Int(7)));
 }

@@ -24,7 +24,7 @@ pub enum ComparisonOperator {
 /// An expression whose names are looked up: they are places, from 0. Where a node is `negated`, NOT is written within it,
 /// as in `x NOT IN (..)`.
 #[cycle(expr)]
-#[derive(Debug, Drop)]
+#[derive(Drop)]
 pub enum Expr {
     /// A column of the fact.
     Column(usize),
@@ -74,7 +74,7 @@ pub enum Expr {
 
 /// `WHEN when THEN then`.
 #[cycle(expr)]
-#[derive(Debug, Drop)]
+#[derive(Drop)]
 pub struct Arm {
     pub when: Expr,
     pub then: Expr,

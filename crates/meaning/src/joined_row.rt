@@ -7,7 +7,7 @@ use crate::value::{Row, Value};
 use std::alloc::AllocError;
 
 /// What an expression reads: a row of the fact with a row of each joined dimension, or a group's key and aggregates.
-#[derive(Debug, Drop)]
+#[derive(Drop)]
 pub struct JoinedRow {
     pub fact: Row,
     pub joins: Sequence<Row>,

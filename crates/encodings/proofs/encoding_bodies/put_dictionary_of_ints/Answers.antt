@@ -8,12 +8,12 @@ use Rattle.encodings.proofs.EncodedBodies.{form_at_ints}
 use Rattle.encodings.proofs.EncodedDictionaries.{puts_dictionary}
 use Rattle.encodings.proofs.encoding_bodies.put_dictionary_of_ints.Goals as goal
 
-pub overflow_cast-len : goal.overflow_cast-len
-overflow_cast-len c =
+pub overflow_cast-entries : goal.overflow_cast-entries
+overflow_cast-entries c =
     let long = length-map c.args.ints.now (λ n. Int n) in
     let d : AreEntries (map Int c.args.ints.now) c.in_ok-dictionary.dictionary.places.items c.in_ok-dictionary.dictionary.codes.items = c.in_ok-dictionary.ensures.ok in
     let some = d.few in
-    let few : c.len-2.result ≤ 8192 = omega (arith, some, c.in_ok-dictionary.dictionary.places.ok.0) in
+    let few : c.len-entries.result ≤ 8192 = omega (arith, some, c.in_ok-dictionary.dictionary.places.ok.0) in
     search rules
 
 pub returns-clause-ok : goal.returns-clause-ok
@@ -21,7 +21,7 @@ returns-clause-ok c =
     let long = length-map c.args.ints.now (λ n. Int n) in
     let places = c.in_ok-dictionary.dictionary.places.items in
     let codes = c.in_ok-dictionary.dictionary.codes.items in
-    let count : c.len-2.result ≡ length places = omega (arith, c.len-2.ensures, c.in_ok-dictionary.dictionary.places.ok.0) in
+    let count : c.len-entries.result ≡ length places = omega (arith, c.len-entries.ensures, c.in_ok-dictionary.dictionary.places.ok.0) in
     puts_dictionary of_type.Int (map Int c.args.ints.now) places codes c.args.out.now.items c.put_word.new.out.items c.put_integers_at.new.out.items c.put_shorts.new.out.items c.requires.fit (omega arith) (omega arith) c.in_ok-dictionary.ensures.ok
     (c.in_ok-put_word.ensures ∙ (ap (λ (n : ℕ). c.make_room.new.out.items ++ word_bytes n) count ∙ ap (λ (xs : List ℕ). xs ++ word_bytes (length places)) c.make_room.ensures))
     (c.in_ok-put_integers_at.ensures ∙ (ap (λ (xs : List ℕ). c.put_word.new.out.items ++ flat_map integer_bytes (ints_at c.args.ints.now xs)) c.as_slice.ensures.value ∙ ap (λ (ys : List ℕ). c.put_word.new.out.items ++ ys) (sym (form_at_ints c.args.ints.now places))))

@@ -1,5 +1,5 @@
 // A cell for each row of a column. A NULL row's cell is 0 or the empty text.
-ghost use Rattle.std.specs.Prelude.{◌≡◌, ◌≢◌, ◌<◌, [], ◌∷◌, ◌++◌, length, get_or, pos, Some, None, true, OnOk, OnErr, IfErr};
+ghost use Rattle.std.specs.Prelude.{◌≡◌, ◌≢◌, ◌<◌, [], ◌∷◌, ◌++◌, length, get_or, pos, Some, None, true, IfOk, OnOk, OnErr, IfErr};
 ghost use Rattle.meaning.specs.declared.value.Value.TheVariants.{Null, Int, Text};
 ghost use Rattle.meaning.specs.Order.{value_in};
 ghost use Rattle.columns.specs.Cells.{type_of, cells_in, blank};
@@ -28,6 +28,16 @@ impl Cells {
         match col_type {
             ColType::Int => Cells::Ints(Vec::new(alloc)),
             ColType::Text => Cells::Texts(TextList::new(alloc)),
+        }
+    }
+
+    pub fn with_capacity(alloc: Global, col_type: ColType, rows: usize) -> Result<Cells, AllocError>
+        ensures col_type { IfOk result (λ cells. type_of cells ≡ col_type) }
+        ensures empty { IfOk result (λ cells. cells_in cells ≡ []) }
+    {
+        match col_type {
+            ColType::Int => Ok(Cells::Ints(Vec::with_capacity(alloc, rows)?)),
+            ColType::Text => Ok(Cells::Texts(TextList::with_capacity(alloc, rows)?)),
         }
     }
 

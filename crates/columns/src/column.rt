@@ -1,4 +1,4 @@
-ghost use Rattle.std.specs.Prelude.{◌≡◌, ◌≢◌, ◌<◌, [], ◌∷◌, ◌++◌, length, map, get_or, vec_len, if◌then◌else◌, true, Some, None, OnOk, OnErr, IfErr, IfSome, IsSome, ◌↔◌};
+ghost use Rattle.std.specs.Prelude.{◌≡◌, ◌≢◌, ◌<◌, [], ◌∷◌, ◌++◌, length, map, get_or, vec_len, if◌then◌else◌, true, Some, None, IfOk, OnOk, OnErr, IfErr, IfSome, IsSome, ◌↔◌};
 ghost use Rattle.std.specs.Vec.{vec_capacity};
 ghost use Rattle.meaning.specs.declared.value.ColType.TheVariants as of_type;
 ghost use Rattle.meaning.specs.declared.value.Value.TheVariants.{Null, Int, Text};
@@ -43,6 +43,22 @@ impl Column {
             nullable,
             nulls: Vec::new(alloc),
         }
+    }
+
+    /// A column of no row, with room for so many rows. The bytes of texts take their room as they come.
+    pub fn with_capacity(
+        alloc: Global,
+        col_type: ColType,
+        nullable: bool,
+        rows: usize,
+    ) -> Result<Column, AllocError>
+        ensures { IfOk result (λ column. column ≡ record { col_type = col_type; nullable = nullable; values = [] }) }
+    {
+        Ok(Column {
+            cells: Cells::with_capacity(alloc, col_type, rows)?,
+            nullable,
+            nulls: Vec::with_capacity(alloc, if nullable { rows } else { 0 })?,
+        })
     }
 
     pub fn col_type(&self) -> ColType

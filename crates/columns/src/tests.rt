@@ -31,7 +31,7 @@ fn is_null(column: &Column, row: usize) -> bool {
 
 /// 2, NULL, 0.
 fn numbers(alloc: Global) -> Result<Column, ColumnFault> {
-    let mut column = Column::new(alloc, ColType::Int, true);
+    let mut column = Column::with_capacity(alloc, ColType::Int, true, 2)?;
     column.push(Value::Int(2))?;
     column.push(Value::Null)?;
     column.push_int(0)?;

@@ -1,4 +1,4 @@
-ghost use Rattle.std.specs.Prelude.{◌≡◌, ◌<◌, ◌≤◌, ◌-◌, [], ◌∷◌, ◌++◌, length, take, drop, get_or, true, OnOk, OnErr};
+ghost use Rattle.std.specs.Prelude.{◌≡◌, ◌<◌, ◌≤◌, ◌-◌, [], ◌∷◌, ◌++◌, length, take, drop, get_or, true, IfOk, OnOk, OnErr};
 ghost use Rattle.std.specs.List.{concat, list_all};
 ghost use Rattle.columns.specs.Column.{is_text};
 
@@ -32,6 +32,16 @@ impl TextList {
             ends: Vec::new(alloc),
             joined: Vec::new(alloc),
         }
+    }
+
+    /// No text, with room for the ends of so many.
+    pub fn with_capacity(alloc: Global, texts: usize) -> Result<TextList, AllocError>
+        ensures { IfOk result (λ list. list ≡ []) }
+    {
+        Ok(TextList {
+            ends: Vec::with_capacity(alloc, texts)?,
+            joined: Vec::new(alloc),
+        })
     }
 
     pub fn len(&self) -> usize

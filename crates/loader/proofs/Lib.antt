@@ -3,6 +3,7 @@ pub mod DimensionSteps
 pub mod FactSteps
 pub mod Fields
 pub mod Fragments
+pub mod InOrder
 pub mod Integers
 pub mod Judging
 pub mod KeySets

@@ -1,6 +1,7 @@
 -- The steps from records to columns.
-use Rattle.std.specs.Prelude.{◌≡◌, ℕ, ◌+◌, ◌==◌, nat_lt, if◌then◌else◌, List, [], ◌∷◌, map, zip, length, take, drop, sum, position, unwrap_or, Option, Some, Result, Ok, Err, Bool, true, false, ⊤}
-use Rattle.std.specs.List.{range_with_len, enumerate_from}
+use Rattle.std.specs.Prelude.{◌≡◌, ℕ, ◌<◌, ◌^◌, ◌+◌, ◌==◌, nat_lt, if◌then◌else◌, List, [], ◌∷◌, map, zip, length, take, drop, sum, position, unwrap_or, Option, Some, Result, Ok, Err, Bool, true, false, ⊤}
+use Rattle.std.specs.List.{range_with_len, enumerate_from, list_all}
+use Rattle.std.specs.Str.Parse.{IsNumeral, digits_value}
 use Rattle.meaning.specs.declared.value.Value.{Value}
 use Rattle.meaning.specs.declared.value.Value.TheVariants as value
 use Rattle.meaning.specs.declared.catalog.Column.{Column}
@@ -10,7 +11,7 @@ use Rattle.meaning.specs.Order.{Row}
 use Rattle.meaning.specs.Records.{Record, is_header, file_order, judged_record, row_of}
 use Rattle.meaning.specs.Results.{all_ok, and_then}
 use Rattle.csv.specs.declared.reader.Reader.{Reader}
-use Rattle.columns.specs.Column.{ColumnSpec}
+use Rattle.columns.specs.Column.{ColumnSpec, with_value}
 use Rattle.loader.specs.Source.{IsLeft}
 use Rattle.loader.specs.declared.fault.LoadFault.{LoadFault}
 use Rattle.loader.specs.declared.fault.LoadFault.TheVariants.{Memory, Table, Device}
@@ -26,6 +27,10 @@ order_of columns header = if is_header columns header then Ok (file_order column
 abbrev pub field_places : List ℕ → List ℕ
 field_places order = map (λ place. unwrap_or (position (λ p. p == place) order) 0) (range_with_len 0 (length order))
 
+-- each field is that of the column at the field's place
+abbrev pub is_in_order : List ℕ → Bool
+is_in_order order = list_all (λ p. p.1 == p.0) (enumerate_from 0 order)
+
 -- the value of a field that was judged
 abbrev pub value_of : Parsed × List ℕ → Value
 value_of (parsed.Null, field) = value.Null
@@ -36,10 +41,21 @@ value_of (parsed.Text, field) = value.Text field
 abbrev pub values_of : List Parsed → Record → List Value
 values_of judged fields = map value_of (zip judged fields)
 
+-- a numeral of at most 18 digits, which fits 64 bits, and its number
+abbrev pub IsShortNumber : List ℕ → ℕ → Type 0
+IsShortNumber digits n = IsNumeral 10 digits × (n ≡ digits_value 10 digits) × (n < 10 ^ 18)
+
 -- what judging a field gave is the value or the fault that is meant
 abbrev pub ReadsField : List ℕ → Result Parsed TableFault → Result Value TableFault → Type 0
 ReadsField field (Ok p) meant = meant ≡ Ok (value_of (p, field))
 ReadsField field (Err fault) meant = meant ≡ Err fault
+
+-- a field's value stands behind the last, or its fault is told
+abbrev pub TakesField : Result Value TableFault → ColumnSpec → ColumnSpec → Result (Unit {0}) LoadFault → Type 0
+TakesField judged before after (Ok _) = (v : Value) × (judged ≡ Ok v) × (after ≡ with_value before v)
+TakesField judged before after (Err (Table fault)) = judged ≡ Err fault
+TakesField judged before after (Err Memory) = ⊤
+TakesField judged before after (Err Device) = ⊤
 
 -- a record's row stands behind the last rows, or its first fault is told
 abbrev pub TakesRow : Result Row TableFault → List ColumnSpec → List ColumnSpec → Result (Unit {0}) LoadFault → Type 0

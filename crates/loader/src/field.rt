@@ -1,8 +1,9 @@
 // One field: what it stands for in its column.
-ghost use Rattle.std.specs.Prelude.{◌≡◌, true, false, MatchOption, slice_get};
+ghost use Rattle.std.specs.Prelude.{◌≡◌, true, false, MatchOption, IfSome, Some, slice_get};
 ghost use Rattle.std.specs.Str.{is_utf8};
+ghost use Rattle.meaning.specs.declared.value.ColType.TheVariants as of_type;
 ghost use Rattle.meaning.specs.Records as declared;
-ghost use Rattle.loader.specs.Steps.{ReadsField};
+ghost use Rattle.loader.specs.Steps.{IsShortNumber, ReadsField};
 
 use meaning::catalog::Column;
 use meaning::table::TableFault;
@@ -10,6 +11,9 @@ use meaning::value::ColType;
 
 /// The most bytes of a text.
 const MAX_TEXT_BYTES: usize = 65_535;
+
+/// The most digits that surely stay within 64 bits.
+const SURE_DIGITS: usize = 18;
 
 /// What a field stands for. A text is the field itself, which is then UTF-8.
 #[derive(Clone, Copy)]
@@ -29,18 +33,63 @@ pub fn text_of(field: &[u8]) -> Option<&str>
     }
 }
 
+#[inline(always)]
 fn spells_null(field: &[u8]) -> bool
     ensures { result ≡ declared.spells_null field.now }
 {
     field.is_empty() || field == b"\\N".as_slice()
 }
 
+/// The number of 1 to 18 digits; none where something else stands.
+#[inline(always)]
+fn short_number(digits: &[u8]) -> Option<u64>
+    ensures { IfSome result (IsShortNumber digits.now) }
+{
+    let count = digits.len();
+    if count == 0 || count > SURE_DIGITS {
+        return None;
+    }
+    let mut number = 0u64;
+    for digit in digits {
+        if !digit.is_ascii_digit() {
+            return None;
+        }
+        number = number * 10 + u64::from(*digit - b'0');
+    }
+    Some(number)
+}
+
+/// The integer of a text of 1 to 18 digits, with a minus in front or none. Most integers are so.
+#[inline(always)]
+fn short_integer(text: &[u8]) -> Option<i64>
+    ensures { IfSome result (λ n. declared.integer_of text.now ≡ Some n) }
+{
+    match text.first() {
+        Some(b'-') => Some(-(short_number(&text[1..])? as i64)),
+        _ => Some(short_number(text)? as i64),
+    }
+}
+
+/// The same for a column of a kind; none in a column of texts.
+#[inline(always)]
+fn short_value(kind: ColType, text: &[u8]) -> Option<i64>
+    ensures { IfSome result (λ n. (kind ≡ of_type.Int) × (declared.integer_of text.now ≡ Some n)) }
+{
+    match kind {
+        ColType::Int => short_integer(text),
+        ColType::Text => None,
+    }
+}
+
+#[cold]
+#[inline(never)]
 fn integer_of(text: &str) -> Option<i64>
     ensures { result ≡ declared.integer_of text.now }
 {
     text.parse::<i64>().ok()
 }
 
+#[inline(always)]
 fn present_value(kind: ColType, row: u64, column: u64, text: &str) -> Result<Parsed, TableFault>
     ensures { ReadsField text.now result (declared.present_value kind row column text.now) }
 {
@@ -56,6 +105,7 @@ fn present_value(kind: ColType, row: u64, column: u64, text: &str) -> Result<Par
     }
 }
 
+#[inline(always)]
 fn not_null_value(kind: ColType, row: u64, column: u64, text: &str) -> Result<Parsed, TableFault>
     ensures { ReadsField text.now result (declared.not_null_value kind row column text.now) }
 {
@@ -67,10 +117,14 @@ fn not_null_value(kind: ColType, row: u64, column: u64, text: &str) -> Result<Pa
 
 /// What a field that is UTF-8 stands for in a column. Rows and columns count from 0, a column by its
 /// place in the catalogue.
+#[inline(always)]
 pub fn judge_text(row: u64, place: u64, column: &Column, text: &str) -> Result<Parsed, TableFault>
     requires { is_utf8 text.now ≡ true }
     ensures { ReadsField text.now result (declared.field_value row place column.now text.now) }
 {
+    if let Some(number) = short_value(column.col_type, text.as_bytes()) {
+        return Ok(Parsed::Int(number));
+    }
     if !spells_null(text.as_bytes()) {
         return present_value(column.col_type, row, place, text);
     }

@@ -4,7 +4,7 @@ ghost use Rattle.std.specs.List.{list_all};
 ghost use Rattle.csv.specs.Records.{fields_of};
 ghost use Rattle.meaning.specs.Records as declared;
 ghost use Rattle.loader.specs.Fault.{LoadsView};
-ghost use Rattle.loader.specs.Steps.{field_places, order_of};
+ghost use Rattle.loader.specs.Steps.{field_places, is_in_order, order_of};
 
 use crate::fault::LoadFault;
 use csv::{ByteRecord, StringRecord};
@@ -19,7 +19,10 @@ pub struct FileOrder {
     pub columns: Vec<usize>,
     /// The field of each column of the catalogue.
     pub fields: Vec<usize>,
+    /// Whether the fields have the order of the catalogue.
+    pub in_order: bool,
     ghost inverse: { fields.items ≡ field_places columns.items },
+    ghost ordered: { in_order ≡ is_in_order columns.items },
 }
 
 fn names(field: &[u8], column: &Column) -> bool
@@ -100,6 +103,12 @@ fn field_places(alloc: Global, order: &[usize]) -> Result<Vec<usize>, AllocError
         .collect(alloc)
 }
 
+fn is_in_order(order: &[usize]) -> bool
+    ensures { result ≡ is_in_order order.now }
+{
+    order.iter().enumerate().all(|(i, place)| *place == i)
+}
+
 /// The order of the columns that a header names.
 pub fn order_of(
     alloc: Global,
@@ -114,5 +123,10 @@ pub fn order_of(
     }
     let columns = file_order(alloc, columns, &header)?;
     let fields = field_places(alloc, &columns)?;
-    Ok(FileOrder { columns, fields })
+    let in_order = is_in_order(&columns);
+    Ok(FileOrder {
+        columns,
+        fields,
+        in_order,
+    })
 }

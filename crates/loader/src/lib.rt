@@ -7,6 +7,7 @@ mod fact;
 mod fault;
 mod field;
 mod header;
+mod in_order;
 mod keys;
 mod record;
 mod rows;

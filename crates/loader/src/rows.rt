@@ -15,7 +15,8 @@ use columns::Column;
 use csv::StringRecord;
 
 /// A judged field fits its column, so this fails for want of memory.
-fn push_field(column: &mut Column, parsed: Parsed, text: &str) -> Result<(), LoadFault>
+#[inline(always)]
+pub fn push_field(column: &mut Column, parsed: Parsed, text: &str) -> Result<(), LoadFault>
     ensures ok { OnOk result (column.new ≡ with_value column.old (value_of (parsed, text.now))) }
     ensures refused { IfErr result IsOutside }
 {

@@ -14,6 +14,7 @@ ghost use Rattle.loader.specs.Steps.{Opens, IsFaultOf, TakesAll, TakesTable, is_
 use crate::fault::LoadFault;
 use crate::field::{Parsed, text_of};
 use crate::header::{FileOrder, order_of};
+use crate::in_order::take_fields;
 use crate::keys::Keys;
 use crate::record::{judge_fields, judge_texts};
 use crate::rows::push_row;
@@ -29,28 +30,35 @@ use std::alloc::{AllocError, Global};
 use std::io::Read;
 use std::mem;
 
-fn new_column(alloc: Global, declared: &Declared) -> Column
-    ensures { result ≡ no_rows declared.now }
+/// The most rows that a column has room for at its beginning.
+const MOST_ROOM: usize = 262_144;
+
+fn new_column(alloc: Global, declared: &Declared, rows: usize) -> Result<Column, AllocError>
+    ensures { IfOk result (λ column. column ≡ no_rows declared.now) }
 {
-    Column::new(alloc, declared.col_type, declared.nullable)
+    Column::with_capacity(alloc, declared.col_type, declared.nullable, rows)
 }
 
-fn no_columns(alloc: Global, declared: &[Declared]) -> Result<Vec<Column>, AllocError>
+fn no_columns(alloc: Global, declared: &[Declared], rows: usize) -> Result<Vec<Column>, AllocError>
     ensures { IfOk result (λ columns. columns.items ≡ map no_rows declared.now) }
 {
     let mut columns = Vec::with_capacity(alloc, declared.len())?;
     for column in declared {
-        columns.push(new_column(alloc, column))?;
+        columns.push(new_column(alloc, column, rows)?)?;
     }
     Ok(columns)
 }
 
-/// Columns without rows, as they are declared.
+/// Columns without rows, as they are declared, with room for about so many.
 #[tactic(auto, using(crate::proofs::Tables::no_rows_of))]
-pub fn new_columns(alloc: Global, declared: &[Declared]) -> Result<Vec<Column>, AllocError>
+pub fn new_columns(
+    alloc: Global,
+    declared: &[Declared],
+    rows: usize,
+) -> Result<Vec<Column>, AllocError>
     ensures { IfOk result (λ columns. columns.items ≡ columns_of declared.now []) }
 {
-    no_columns(alloc, declared)
+    no_columns(alloc, declared, rows.min(MOST_ROOM))
 }
 
 fn owned(alloc: Global, value: ValueRef<'_>) -> Result<Value, AllocError>
@@ -95,6 +103,9 @@ pub fn load_record(
 {
     if fields.len() != declared.len() {
         return Err(LoadFault::Table(TableFault::FieldCount { row }));
+    }
+    if order.in_order && columns.len() == declared.len() {
+        return take_fields(declared, row, fields, columns);
     }
     judge_texts(declared, &order.columns, row, fields, parsed)?;
     push_row(columns, order, parsed, fields)
@@ -232,7 +243,7 @@ impl<R: Read> Rows<'_, R> {
         ensures taken { (rest : List Record) → IsLeft R.remaining self.old.reader rest
             → TakesFragment R.remaining self.old.declared.now self.old.order.columns.items first count rest self.new.reader result }
     {
-        let mut columns = new_columns(alloc, self.declared)?;
+        let mut columns = new_columns(alloc, self.declared, count as usize)?;
         self.next_rows(first, count, &mut columns)?;
         Ok(Sequence::from_vec(columns))
     }
@@ -309,7 +320,7 @@ impl<R: Read> Rows<'_, R> {
         ensures taken { (rest : List Record) → IsLeft R.remaining self.old.reader rest
             → TakesTable self.old.declared.now (keyed_rows self.old.declared.now self.old.order.columns.items key most rest) result }
     {
-        let mut columns = new_columns(alloc, self.declared)?;
+        let mut columns = new_columns(alloc, self.declared, 0)?;
         self.keyed_rows(alloc, key, most, &mut columns)?;
         Ok(Sequence::from_vec(columns))
     }

@@ -5,6 +5,7 @@ use meaning::read_catalog::read_catalog;
 use meaning::sequence::Sequence;
 use meaning::value::ValueRef;
 use std::alloc::{AllocError, Global};
+use std::process::Abort;
 use std::test::Fail;
 
 const CATALOG: &[u8] =
@@ -130,6 +131,75 @@ fn facts(rt: HostRuntime) -> Result<(), Fail> {
     ] {
         let told = fact(rt.alloc(), csv, lengths)?;
         assert_eq!(rt; told.as_str(), want);
+    }
+    Ok(())
+}
+
+/// The columns of one row with this field in its integer column, or the refusal.
+fn integer(alloc: Global, field: &str) -> Result<String, Fail> {
+    let csv = format!(in alloc; "q,name\n{field},\n")?;
+    fact(alloc, csv.as_bytes(), &[1])
+}
+
+const NO_INTEGER: &str = "3: row 0, column 0: not an integer of 64 bits";
+
+const INTEGERS: &[(&str, &str)] = &[
+    ("999999999999999999", "999999999999999999 |'' |/"),
+    ("-999999999999999999", "-999999999999999999 |'' |/"),
+    ("1000000000000000000", "1000000000000000000 |'' |/"),
+    ("-1000000000000000000", "-1000000000000000000 |'' |/"),
+    ("0000000000000000007", "7 |'' |/"),
+    ("9223372036854775807", "9223372036854775807 |'' |/"),
+    ("9223372036854775808", NO_INTEGER),
+    ("-9223372036854775808", "-9223372036854775808 |'' |/"),
+    ("-9223372036854775809", NO_INTEGER),
+    ("-0", "0 |'' |/"),
+    ("007", "7 |'' |/"),
+    ("+7", "7 |'' |/"),
+    ("-", NO_INTEGER),
+    ("--7", NO_INTEGER),
+    ("+-7", NO_INTEGER),
+    ("7-", NO_INTEGER),
+    ("1/", NO_INTEGER),
+    ("1:", NO_INTEGER),
+    ("1 ", NO_INTEGER),
+];
+
+#[test]
+fn integers(rt: HostRuntime) -> Result<(), Fail> {
+    for (field, want) in INTEGERS {
+        let told = integer(rt.alloc(), field)?;
+        assert_eq!(rt; told.as_str(), *want);
+    }
+    Ok(())
+}
+
+/// Tables of the columns `q,name`, and the same with the columns in the other order.
+const ORDERS: &[(&[u8], &[u8])] = &[
+    (
+        b"q,name\n1,a\n,\n-3,\xC3\xA4\n",
+        b"name,q\na,1\n,\n\xC3\xA4,-3\n",
+    ),
+    (b"q,name\n1,a\n2,b\nx,c\n", b"name,q\na,1\nb,2\nc,x\n"),
+    (b"q,name\n1,a\n2,b\n3,\xFF\n", b"name,q\na,1\nb,2\n\xFF,3\n"),
+    (b"q,name\n1,a\n2\n3,c\n", b"name,q\na,1\n2\nc,3\n"),
+    (
+        b"q,name\n1,a\n2,b\n3,c\n4,d\n",
+        b"name,q\na,1\nb,2\nc,3\nd,4\n",
+    ),
+];
+
+fn expect_same(rt: &impl Abort, alloc: Global, csv: &[u8], other: &[u8]) -> Result<(), Fail> {
+    let told = fact(alloc, csv, &[1, 2])?;
+    let other_told = fact(alloc, other, &[1, 2])?;
+    assert_eq!(rt; told.as_str(), other_told.as_str());
+    Ok(())
+}
+
+#[test]
+fn any_order_of_columns(rt: HostRuntime) -> Result<(), Fail> {
+    for (csv, other) in ORDERS {
+        expect_same(&rt, rt.alloc(), csv, other)?;
     }
     Ok(())
 }

@@ -1,0 +1,53 @@
+// A record whose fields have the order of the catalogue: each is judged and goes into its column at once.
+ghost use Rattle.std.specs.Prelude.{◌≡◌, length, true};
+ghost use Rattle.std.specs.List.{range_with_len};
+ghost use Rattle.std.specs.Str.{is_utf8};
+ghost use Rattle.csv.specs.Records.{AllText, fields_of};
+ghost use Rattle.meaning.specs.Records as records;
+ghost use Rattle.loader.specs.Steps.{TakesField, TakesRow};
+
+use crate::fault::LoadFault;
+use crate::field::judge_text;
+use crate::header::text_at;
+use crate::rows::push_field;
+use columns::Column;
+use csv::StringRecord;
+use meaning::catalog::Column as Declared;
+
+/// Judges a field, and puts its value behind the last of its column.
+#[inline(always)]
+fn take_field(
+    declared: &Declared,
+    row: u64,
+    place: u64,
+    text: &str,
+    column: &mut Column,
+) -> Result<(), LoadFault>
+    requires { is_utf8 text.now ≡ true }
+    ensures { TakesField (records.field_value row place declared.now text.now) column.old column.new result }
+{
+    let parsed = judge_text(row, place, declared, text)?;
+    push_field(column, parsed, text)
+}
+
+/// Judges the fields of a record one after the other, and puts its row behind the last rows.
+pub fn take_fields(
+    declared: &[Declared],
+    row: u64,
+    fields: &StringRecord,
+    columns: &mut [Column],
+) -> Result<(), LoadFault>
+    requires declared { length columns.old ≡ length declared.now }
+    requires fields { length (fields_of fields.now) ≡ length declared.now }
+    requires texts { AllText (fields_of fields.now) }
+    ensures { TakesRow (records.row_of declared.now (range_with_len 0 (length declared.now)) row (fields_of fields.now)) columns.old columns.new result }
+{
+    for i in 0..columns.len() {
+        let Some(text) = text_at(fields, i) else {
+            // There is a field for each column.
+            return Err(LoadFault::Memory);
+        };
+        take_field(&declared[i], row, i as u64, text, &mut columns[i])?;
+    }
+    Ok(())
+}

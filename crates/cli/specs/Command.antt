@@ -1,7 +1,7 @@
 -- The commands that the program takes.
 use Rattle.std.specs.Prelude.{◌≤◌}
-use Rattle.cli.specs.declared.command.Command.{Command}
-use Rattle.cli.specs.declared.command.Command.TheVariants.{Whole, Load}
+use Rattle.cli.specs.declared.commands.Command.{Command}
+use Rattle.cli.specs.declared.commands.Command.TheVariants.{Whole, Load}
 
 -- each number of a command is one that it may have
 abbrev pub IsInRange : Command → Type 0

@@ -7,8 +7,8 @@ use Rattle.coordinator.specs.declared.reporting.Ended.{Ended}
 use Rattle.cli.specs.Folder.{Holds, File, AreHeld, catalog_path, csv_path}
 use Rattle.cli.specs.Loading.{IsLoaded}
 use Rattle.cli.specs.Status.{end_status}
-use Rattle.cli.specs.declared.command.Command.{Command}
-use Rattle.cli.specs.declared.command.Command.TheVariants.{Whole, Load}
+use Rattle.cli.specs.declared.commands.Command.{Command}
+use Rattle.cli.specs.declared.commands.Command.TheVariants.{Whole, Load}
 use Rattle.cli.specs.declared.tables.CsvFile.{CsvFile}
 use Rattle.cli.specs.declared.tables.Tables.{Tables}
 

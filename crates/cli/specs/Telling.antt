@@ -65,11 +65,19 @@ plan_line e = numbered_line (codes "plan") (planning.number_of e) []
 abbrev pub vector_length_line : List ℕ
 vector_length_line = numbered_line (codes "work") 4 []
 
+-- words alone
+abbrev pub plain_line : List ℕ → List ℕ
+plain_line words = codes "xcols: " ++ words ++ 10 ∷ []
+
+-- what can't be done, and the path of the file
+abbrev pub file_line : List ℕ → List ℕ → List ℕ
+file_line lacks path = codes "xcols: " ++ (lacks ++ 32 ∷ path) ++ 10 ∷ []
+
 abbrev pub line_of : Refusal → List ℕ
-line_of refusal.Memory = codes "xcols: memory" ++ 10 ∷ []
-line_of (refusal.CannotRead path) = codes "xcols: cannot read " ++ path ++ 10 ∷ []
-line_of (refusal.CannotWrite path) = codes "xcols: cannot write " ++ path ++ 10 ∷ []
-line_of refusal.CannotPrint = codes "xcols: cannot write standard output" ++ 10 ∷ []
+line_of refusal.Memory = plain_line (codes "memory")
+line_of (refusal.CannotRead path) = file_line (codes "cannot read") path
+line_of (refusal.CannotWrite path) = file_line (codes "cannot write") path
+line_of refusal.CannotPrint = plain_line (codes "cannot write standard output")
 line_of (refusal.Catalog e) = catalog_line e
 line_of (refusal.Cut e) = numbered_line (codes "cut") (cut.fault_number e) []
 line_of (refusal.Sql e) = sql_line e

@@ -1,12 +1,13 @@
 ghost use Rattle.std.specs.Prelude.{◌≤◌, IfOk, IfSome};
 ghost use Rattle.cli.specs.Command.{IsInRange};
 
-use crate::command::Command;
+use crate::commands::Command;
 use crate::usage_fault::UsageFault;
 use clap::error::ErrorKind;
 use clap::{Arg, ArgMatches};
 use meaning::text::Text;
 use std::alloc::{AllocError, Global};
+use std::mem::drop;
 
 // The most rows of a fragment.
 const MOST_ROWS: u32 = 1_048_576;
@@ -19,27 +20,60 @@ pub fn command(alloc: Global, words: &[&str]) -> Result<Command, UsageFault>
     ensures { IfOk result IsInRange }
 {
     let mut parser = parser(alloc)?;
+    let command = parsed_command(alloc, &mut parser, words);
+    drop(parser);
+    command
+}
+
+fn parsed_command<'a>(
+    alloc: Global,
+    parser: &mut clap::Command<'a>,
+    words: &'a [&'a str],
+) -> Result<Command, UsageFault>
+    ensures { IfOk result IsInRange }
+{
     let matches = parser.try_get_matches_from_mut(words)?;
-    match found(alloc, &matches)? {
+    let found = found(alloc, &matches);
+    drop(matches);
+    match found? {
         Some(command) => Ok(command),
-        None => Err(refused(&mut parser)?),
+        None => Err(refused(parser)),
     }
 }
 
 // A number with a sign, which clap takes.
-fn refused(parser: &mut clap::Command<'_>) -> Result<UsageFault, AllocError> {
-    let error = parser.error(ErrorKind::ValueValidation, "a number is digits alone")?;
-    Ok(UsageFault::from(error))
+fn refused(parser: &mut clap::Command<'_>) -> UsageFault {
+    match parser.error(ErrorKind::ValueValidation, "a number is digits alone") {
+        Ok(error) => UsageFault::from(error),
+        Err(AllocError) => UsageFault::Memory,
+    }
+}
+
+fn empty_parser<'a>(alloc: Global) -> Result<clap::Command<'a>, AllocError> {
+    clap::Command::new(alloc, "xcols")
+        .no_binary_name(true)
+        .bin_name("xcols")
 }
 
 fn parser<'a>(alloc: Global) -> Result<clap::Command<'a>, AllocError> {
-    clap::Command::new(alloc, "xcols")
-        .no_binary_name(true)
-        .bin_name("xcols")?
+    let parser = empty_parser(alloc)?
         .about("Queries over a star of tables that lies in a folder")
-        .subcommand_required(true)
-        .subcommand(whole_parser(alloc)?)?
-        .subcommand(load_parser(alloc)?)
+        .subcommand_required(true);
+    let parser = with_subcommand(parser, whole_parser(alloc))?;
+    with_subcommand(parser, load_parser(alloc))
+}
+
+fn with_subcommand<'a>(
+    parser: clap::Command<'a>,
+    subcommand: Result<clap::Command<'a>, AllocError>,
+) -> Result<clap::Command<'a>, AllocError> {
+    match subcommand {
+        Ok(subcommand) => parser.subcommand(subcommand),
+        Err(error) => {
+            drop(parser);
+            Err(error)
+        }
+    }
 }
 
 fn folder_arg<'a>(alloc: Global) -> Arg<'a> {
@@ -57,39 +91,48 @@ fn rows_arg<'a>(alloc: Global) -> Arg<'a> {
         .help("The rows of a fragment")
 }
 
-fn whole_parser<'a>(alloc: Global) -> Result<clap::Command<'a>, AllocError> {
-    let query = Arg::new(alloc, "query")
+fn query_arg<'a>(alloc: Global) -> Arg<'a> {
+    Arg::new(alloc, "query")
         .long("query")
         .value_name("Q")
         .required(true)
         .allow_hyphen_values(true)
-        .help("The query in SQL");
-    let vector = Arg::new(alloc, "vector")
+        .help("The query in SQL")
+}
+
+fn vector_arg<'a>(alloc: Global) -> Arg<'a> {
+    Arg::new(alloc, "vector")
         .long("vector")
         .value_name("V")
         .default_value("1024")
         .value_parser(clap::value_parser!(u32).range(1..=i64::from(MOST_VECTOR)))
-        .help("The rows of a vector");
-    clap::Command::new(alloc, "whole")
-        .about("Answers a query in memory and prints the report")
-        .arg(folder_arg(alloc))?
-        .arg(query)?
-        .arg(rows_arg(alloc))?
-        .arg(vector)
+        .help("The rows of a vector")
 }
 
-fn load_parser<'a>(alloc: Global) -> Result<clap::Command<'a>, AllocError> {
-    let load = Arg::new(alloc, "load")
+fn load_arg<'a>(alloc: Global) -> Arg<'a> {
+    Arg::new(alloc, "load")
         .long("load")
         .value_name("N")
         .required(true)
         .value_parser(clap::value_parser!(u64))
-        .help("The number that the files carry");
-    clap::Command::new(alloc, "load")
-        .about("Writes the tables into files of columns")
-        .arg(folder_arg(alloc))?
-        .arg(load)?
-        .arg(rows_arg(alloc))
+        .help("The number that the files carry")
+}
+
+fn whole_parser<'a>(alloc: Global) -> Result<clap::Command<'a>, AllocError> {
+    let parser = clap::Command::new(alloc, "whole").about(
+        "Answers a query in memory and prints the report",
+    );
+    let parser = parser.arg(folder_arg(alloc))?;
+    let parser = parser.arg(query_arg(alloc))?;
+    let parser = parser.arg(rows_arg(alloc))?;
+    parser.arg(vector_arg(alloc))
+}
+
+fn load_parser<'a>(alloc: Global) -> Result<clap::Command<'a>, AllocError> {
+    let parser = clap::Command::new(alloc, "load").about("Writes the tables into files of columns");
+    let parser = parser.arg(folder_arg(alloc))?;
+    let parser = parser.arg(load_arg(alloc))?;
+    parser.arg(rows_arg(alloc))
 }
 
 fn found(alloc: Global, matches: &ArgMatches<'_>) -> Result<Option<Command>, AllocError>

@@ -14,7 +14,7 @@ use sql_reader::SqlFault;
 use std::alloc::{AllocError, AllocFailed, Global};
 
 /// Why a command was not done.
-#[derive(Debug, Drop)]
+#[derive(Drop)]
 pub enum Refusal {
     Memory,
     /// The file of this path.

@@ -9,7 +9,7 @@ ghost use Rattle.cli.specs.Loading.{AreDimensionColumns, AreEach, AreFiles, AreF
 ghost use Rattle.cli.specs.Running.{AreTables, IsDone, IsDoneFor, input_over};
 ghost use Rattle.cli.specs.Status.{IsRunStatus, end_status};
 
-use crate::command::Command;
+use crate::commands::Command;
 use crate::folder::Folder;
 use crate::loading::{Loaded, load_tables};
 use crate::paths::catalog_path;

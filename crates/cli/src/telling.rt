@@ -1,12 +1,13 @@
 // The line that tells a refusal.
 ghost use Rattle.std.specs.Prelude.{◌≡◌, [], ◌∷◌, decimal, OnOk};
 ghost use Rattle.std.specs.Io.KnownBytes.{Appends};
-ghost use Rattle.cli.specs.Telling.{numbered_line, catalog_line, sql_line, table_line, plan_line, vector_length_line, line_of};
+ghost use Rattle.cli.specs.Telling.{numbered_line, catalog_line, sql_line, table_line, plan_line, vector_length_line, file_line, plain_line, line_of};
 
 use crate::refusal::Refusal;
 use coordinator::PlanFault;
 use meaning::catalog::CatalogFault;
 use meaning::table::TableFault;
+use meaning::text::Text;
 use sql_reader::SqlFault;
 use std::io;
 use std::io::Write;
@@ -105,15 +106,27 @@ fn tell_vector_length<E: Write>(err: &mut E) -> io::Result<()>
     tell_number("work", 4, err)
 }
 
+fn tell_file<E: Write>(lacks: &str, path: &Text, err: &mut E) -> io::Result<()>
+    ensures { OnOk result (Appends (E.contents err.old) (E.contents err.new) (file_line lacks.now path.now)) }
+{
+    writeln!(err, "xcols: {lacks} {}", path.as_str())
+}
+
+fn tell_plain<E: Write>(words: &str, err: &mut E) -> io::Result<()>
+    ensures { OnOk result (Appends (E.contents err.old) (E.contents err.new) (plain_line words.now)) }
+{
+    writeln!(err, "xcols: {words}")
+}
+
 /// Writes the line that tells why a command was not done.
 pub fn tell<E: Write>(refusal: &Refusal, err: &mut E) -> io::Result<()>
     ensures { OnOk result (Appends (E.contents err.old) (E.contents err.new) (line_of refusal.now)) }
 {
     match refusal {
-        Refusal::Memory => writeln!(err, "xcols: memory"),
-        Refusal::CannotRead(path) => writeln!(err, "xcols: cannot read {}", path.as_str()),
-        Refusal::CannotWrite(path) => writeln!(err, "xcols: cannot write {}", path.as_str()),
-        Refusal::CannotPrint => writeln!(err, "xcols: cannot write standard output"),
+        Refusal::Memory => tell_plain("memory", err),
+        Refusal::CannotRead(path) => tell_file("cannot read", path, err),
+        Refusal::CannotWrite(path) => tell_file("cannot write", path, err),
+        Refusal::CannotPrint => tell_plain("cannot write standard output", err),
         Refusal::Catalog(fault) => tell_catalog(fault, err),
         Refusal::Cut(fault) => tell_number("cut", fault.number(), err),
         Refusal::Sql(fault) => tell_sql(fault, err),

@@ -9,6 +9,3 @@ mod text_list;
 pub use column::Column;
 pub use fault::ColumnFault;
 pub use text_list::TextList;
-
-#[cfg(test)]
-mod tests;

@@ -5,6 +5,7 @@ use Rattle.meaning.specs.declared.value.ColType.TheVariants as of_type
 use Rattle.meaning.specs.declared.expr.Expr.TheVariants as node
 use Rattle.meaning.specs.declared.plan.AggregateKind.TheVariants.{CountRows, Sum}
 use Rattle.meaning.specs.declared.plan.Aggregate.{Aggregate}
+use Rattle.meaning.specs.declared.plan.Item.{Item}
 use Rattle.meaning.specs.declared.plan.TableUse.{TableUse}
 use Rattle.meaning.specs.declared.plan.Plan.{Plan}
 
@@ -13,21 +14,29 @@ abbrev pub aggregate_of : Option ℕ → Aggregate
 aggregate_of None = record { kind = CountRows; argument = node.Literal (Int (pos 1)); col_type = of_type.Int }
 aggregate_of (Some place) = record { kind = Sum; argument = node.Column place; col_type = of_type.Int }
 
--- the plan of one aggregate over a fact table
-abbrev pub single_plan : List ℕ → TableUse → Option ℕ → Plan
-single_plan text fact summed = record {
+-- the item that shows the only aggregate
+abbrev pub only_item : Item
+only_item = record { header = codes "c1"; expr = node.Aggregate 0 }
+
+-- a plan of these parts over all rows of a fact table
+abbrev pub with_parts : List ℕ → TableUse → List Aggregate → List Item → Plan
+with_parts text fact aggs items = record {
   text = text;
   fact = fact;
   joins = [];
   conjuncts = [];
   keys = [];
-  aggs = aggregate_of summed ∷ [];
+  aggs = aggs;
   having = None;
-  items = record { header = codes "c1"; expr = node.Aggregate 0 } ∷ [];
+  items = items;
   order = [];
   limit = None;
   plain = false;
 }
+
+-- the plan of one aggregate over a fact table
+abbrev pub single_plan : List ℕ → TableUse → Option ℕ → Plan
+single_plan text fact summed = with_parts text fact (aggregate_of summed ∷ []) (only_item ∷ [])
 
 -- a plan of this form; `summed` is the place of the column that is summed, if one is
 pub record IsSingle (plan : Plan) : Type 0 where

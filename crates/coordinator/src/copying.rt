@@ -5,6 +5,7 @@ use meaning::answer::{Body, Group, Statistics};
 use meaning::sequence::Sequence;
 use meaning::value::{Row, Value};
 use std::alloc::{AllocError, Global};
+use std::mem::drop;
 
 fn copy_entry(entry: &Option<Value>) -> Result<Option<Value>, AllocError>
     ensures { IfOk result (λ copy. copy ≡ entry.now) }
@@ -18,11 +19,13 @@ fn copy_entry(entry: &Option<Value>) -> Result<Option<Value>, AllocError>
 fn copy_statistics(state: &Statistics) -> Result<Statistics, AllocError>
     ensures { IfOk result (λ copy. copy ≡ state.now) }
 {
+    let least = copy_entry(&state.least)?;
+    let greatest = copy_entry(&state.greatest)?;
     Ok(Statistics {
         count: state.count,
         sum: state.sum,
-        least: copy_entry(&state.least)?,
-        greatest: copy_entry(&state.greatest)?,
+        least,
+        greatest,
     })
 }
 
@@ -49,11 +52,18 @@ fn copy_row(alloc: Global, row: &[Value]) -> Result<Row, AllocError>
 fn copy_group(alloc: Global, group: &Group) -> Result<Group, AllocError>
     ensures { IfOk result (λ copy. copy ≡ group.now) }
 {
-    Ok(Group {
-        key: copy_row(alloc, group.key.as_slice())?,
-        rows: group.rows,
-        states: copy_states(alloc, group.states.as_slice())?,
-    })
+    let states = copy_states(alloc, group.states.as_slice())?;
+    match copy_row(alloc, group.key.as_slice()) {
+        Ok(key) => Ok(Group {
+            key,
+            rows: group.rows,
+            states,
+        }),
+        Err(e) => {
+            drop(states);
+            Err(e)
+        }
+    }
 }
 
 fn copy_groups(alloc: Global, groups: &[Group]) -> Result<Sequence<Group>, AllocError>

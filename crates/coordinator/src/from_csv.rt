@@ -9,6 +9,7 @@ ghost use Rattle.meaning.specs.Laws.{own_answers};
 ghost use Rattle.meaning.specs.Print.{report_text};
 ghost use Rattle.meaning.specs.CatalogText.{catalog_of};
 ghost use Rattle.meaning.specs.Cut.{IsCut};
+ghost use Rattle.partial_codec.specs.Answer.{Spells};
 ghost use Rattle.partial_codec.specs.Job.{IsPlanOfJob};
 ghost use Rattle.meaning.specs.declared.catalog.Column.{Column as Declared};
 ghost use Rattle.meaning.specs.Order.{Row};
@@ -29,7 +30,7 @@ use meaning::plan::Plan;
 use meaning::read_catalog::read_catalog;
 use meaning::sequence::Sequence;
 use partial_codec::{Job, encode};
-use std::alloc::Global;
+use std::alloc::{AllocError, Global};
 use std::io::Write;
 use std::mem::drop;
 
@@ -46,6 +47,28 @@ fn copy_cut(alloc: Global, cut: &Cut) -> Result<Cut, WholeFault>
     let lengths = Vec::from_slice(alloc, cut.lengths())?;
     // The lengths of a cut are a cut, so this is not refused.
     Cut::new(lengths).map_err(|_| WholeFault::Memory)
+}
+
+/// A fragment's own answer, spelled for the job.
+fn answer_bytes(
+    alloc: Global,
+    job: &Job,
+    columns: &[Column],
+    row_count: u32,
+    k: u32,
+) -> Result<Vec<u8>, AllocError>
+    requires single { IsSingle job.now.plan }
+    requires place { k < length job.now.cut }
+    requires rows { slice_index job.now.cut k ≡ row_count }
+    requires few { row_count ≤ 1048576 }
+    requires fragment { (declared : List Declared) × (rows : List Row) × IsFragmentFor job.now.plan declared rows row_count columns.now }
+    ensures { IfOk result (λ bytes. (declared : List Declared) (rows : List Row) (first : ℕ) → IsFragmentFor job.now.plan declared rows row_count columns.now
+        → Spells job.now bytes.items (record { k = k; body = own_body job.now.plan [] (enumerate_from first rows) })) }
+{
+    let answer = answer_fragment(alloc, job.plan(), columns, row_count, k)?;
+    let bytes = encode(alloc, job, &answer);
+    drop(answer);
+    bytes
 }
 
 /// Answers for a fragment of so many rows, and has the coordinator take the answer's bytes.
@@ -66,8 +89,7 @@ fn answer_one(
         → gather.new.cells ≡ joined gather.old.job.cut (answers ++ record { k = k; body = own_body gather.old.job.plan [] (enumerate_from first rows) } ∷ [])) }
     ensures refused { IfErr result (λ e. e ≡ WholeFault.Memory) }
 {
-    let answer = answer_fragment(alloc, gather.job().plan(), columns, row_count, k)?;
-    let bytes = encode(alloc, gather.job(), &answer)?;
+    let bytes = answer_bytes(alloc, gather.job(), columns, row_count, k)?;
     match gather.absorb(alloc, bytes.as_slice()) {
         Ok(_) => Ok(()),
         // An answer's own bytes are refused for want of memory alone.
@@ -98,6 +120,22 @@ fn answer_fragments(
     Ok(())
 }
 
+/// A coordinator that has taken no answer.
+fn start(alloc: Global, plan: Plan, cut: &Cut) -> Result<Gather, WholeFault>
+    requires single { IsSingle plan }
+    requires job { IsPlanOfJob plan }
+    ensures value { IfOk result (λ g. g ≡ record { job = record { load = 0; plan = plan; cut = cut.now }; cells = joined cut.now [] }) }
+    ensures refused { IfErr result (λ e. e ≡ WholeFault.Memory) }
+{
+    match copy_cut(alloc, cut) {
+        Ok(copy) => Ok(Gather::new(alloc, Job::new(LOAD, plan, copy))?),
+        Err(e) => {
+            drop(plan);
+            Err(e)
+        }
+    }
+}
+
 /// A coordinator that has taken just every fragment's own answer.
 fn answer_all(
     alloc: Global,
@@ -112,10 +150,14 @@ fn answer_all(
         → g ≡ record { job = record { load = 0; plan = plan; cut = cut.now }; cells = joined cut.now (own_answers plan [] cut.now rows (range_with_len 0 (length cut.now))) }) }
     ensures refused { IfErr result (λ e. e ≡ WholeFault.Memory) }
 {
-    let job = Job::new(LOAD, plan, copy_cut(alloc, cut)?);
-    let mut gather = Gather::new(alloc, job)?;
-    answer_fragments(alloc, &mut gather, cut.lengths(), fragments)?;
-    Ok(gather)
+    let mut gather = start(alloc, plan, cut)?;
+    match answer_fragments(alloc, &mut gather, cut.lengths(), fragments) {
+        Ok(()) => Ok(gather),
+        Err(e) => {
+            drop(gather);
+            Err(e)
+        }
+    }
 }
 
 /// Prints what the answers say together.
@@ -125,8 +167,11 @@ fn print_answer<W: Write>(alloc: Global, gather: &Gather, out: &mut W) -> Result
     ensures refused { IfErr result IsEndRefusal }
 {
     let finding = find(alloc, gather)?;
-    print_finding(alloc, gather.job().plan(), &finding, out)?;
-    Ok(ended_of(&finding))
+    let ended = ended_of(&finding);
+    let printed = print_finding(alloc, gather.job().plan(), &finding, out);
+    drop(finding);
+    printed?;
+    Ok(ended)
 }
 
 fn check_vector_len(vector_len: usize) -> Result<(), WholeFault>
@@ -274,5 +319,7 @@ pub fn whole<W: Write>(
     ensures refused { IfErr result (IsRefused (input_of catalog.now csvs.now query.now cut.now vector_len)) }
 {
     let declared = read_catalog(alloc, catalog)?;
-    answer_query(alloc, &declared, csvs, query, cut, vector_len, out)
+    let answered = answer_query(alloc, &declared, csvs, query, cut, vector_len, out);
+    drop(declared);
+    answered
 }

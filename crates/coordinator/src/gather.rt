@@ -87,8 +87,13 @@ impl Gather {
         requires { IsSingle job.plan }
         ensures { IfOk result (λ g. g ≡ record { job = job; cells = joined job.cut [] }) }
     {
-        let cells = no_answers(alloc, job.cut().lengths().len())?;
-        Ok(Gather { job, cells })
+        match no_answers(alloc, job.cut().lengths().len()) {
+            Ok(cells) => Ok(Gather { job, cells }),
+            Err(e) => {
+                drop(job);
+                Err(e)
+            }
+        }
     }
 
     /// What the answers are for.

@@ -8,8 +8,6 @@ mod fault;
 mod finishing;
 mod from_csv;
 mod gather;
-#[cfg(test)]
-mod gather_tests;
 mod inputs;
 mod joining;
 mod laws;
@@ -17,22 +15,19 @@ mod lent;
 mod only_group;
 mod planning;
 mod print_fault;
-mod printing;
-#[cfg(test)]
-mod printing_tests;
+pub mod printing;
 mod reporting;
 mod same_job;
 mod single;
 mod summing;
 mod tally;
 mod whole_fault;
-#[cfg(test)]
-mod whole_tests;
 
 pub use fault::GatherFault;
 pub use from_csv::whole;
 pub use gather::{Absorbed, Gather};
 pub use laws::{answers_decide, states_join};
 pub use planning::PlanFault;
+pub use print_fault::PrintFault;
 pub use reporting::{Ended, Report};
 pub use whole_fault::WholeFault;

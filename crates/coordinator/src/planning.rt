@@ -3,7 +3,8 @@ ghost use Rattle.std.specs.Prelude.{◌≡◌, [], ◌∷◌, codes, IfOk, Some,
 ghost use Rattle.std.specs.List.{list_any};
 ghost use Rattle.std.specs.Str.{bytes_eq};
 ghost use Rattle.coordinator.specs.Planning.{Form, tree_of, column_in, fact_named, summed_in, summable, use_of, uses_of, fact_use, plan_of, Plans, number_of};
-ghost use Rattle.coordinator.specs.Single.{IsSingle, aggregate_of, single_plan};
+ghost use Rattle.coordinator.specs.Single.{aggregate_of, only_item, single_plan, with_parts};
+ghost use Rattle.sql_reader.specs.Canonical.{canonical};
 
 use meaning::catalog::{Catalog, Column, Table};
 use meaning::expr::Expr;
@@ -13,7 +14,7 @@ use meaning::text::Text;
 use meaning::value::{ColType, Value};
 use sql_reader::print;
 use sql_reader::tree::{Expr as Tree, Query};
-use std::alloc::{AllocError, AllocFailed, Global};
+use std::alloc::{AllocError, Global};
 use thiserror::Error;
 
 /// Why a query has no plan.
@@ -176,29 +177,51 @@ fn aggregate_of(summed: Option<usize>) -> Aggregate
     }
 }
 
-fn only_item(alloc: Global) -> Result<Sequence<Item>, AllocError>
-    ensures { IfOk result (λ items. items ≡ (single_plan [] (record { name = []; columns = [] }) None).items) }
+/// The only aggregate and the only item of such a plan.
+fn only_parts(
+    alloc: Global,
+    summed: Option<usize>,
+) -> Result<(Sequence<Aggregate>, Sequence<Item>), AllocError>
+    ensures aggregate { IfOk result (λ parts. parts.0 ≡ aggregate_of summed ∷ []) }
+    ensures item { IfOk result (λ parts. parts.1 ≡ only_item ∷ []) }
 {
+    let header = Text::new(alloc, "c1")?;
     let mut items = Sequence::new(alloc);
     items.push(Item {
-        header: Text::new(alloc, "c1")?,
+        header,
         expr: Expr::Aggregate(0),
     })?;
-    Ok(items)
+    let mut aggs = Sequence::new(alloc);
+    aggs.push(aggregate_of(summed))?;
+    Ok((aggs, items))
 }
 
-/// The plan of one aggregate over the fact.
-fn single_plan(
+/// The canonical text, and what is read of the fact.
+fn named_parts(
+    alloc: Global,
+    query: &Query,
+    fact: &Table,
+    summed: Option<usize>,
+) -> Result<(Text, TableUse), AllocError>
+    ensures text { IfOk result (λ parts. parts.0 ≡ canonical query.now) }
+    ensures fact { IfOk result (λ parts. parts.1 ≡ fact_use fact.now summed) }
+{
+    let text = print(alloc, query)?;
+    let used = fact_use(alloc, fact, summed)?;
+    Ok((text, used))
+}
+
+/// A plan of these parts over all rows of the fact.
+fn with_parts(
     alloc: Global,
     text: Text,
     fact: TableUse,
-    summed: Option<usize>,
-) -> Result<Plan, AllocError>
-    ensures { IfOk result (λ plan. plan ≡ single_plan text fact summed) }
+    aggs: Sequence<Aggregate>,
+    items: Sequence<Item>,
+) -> Plan
+    ensures { result ≡ with_parts text fact aggs items }
 {
-    let mut aggs = Sequence::new(alloc);
-    aggs.push(aggregate_of(summed))?;
-    Ok(Plan {
+    Plan {
         text,
         fact,
         joins: Sequence::new(alloc),
@@ -206,11 +229,27 @@ fn single_plan(
         keys: Sequence::new(alloc),
         aggs,
         having: None,
-        items: only_item(alloc)?,
+        items,
         order: Sequence::new(alloc),
         limit: None,
         plain: false,
-    })
+    }
+}
+
+/// The plan of one aggregate over the fact.
+fn single_plan(
+    alloc: Global,
+    query: &Query,
+    fact: &Table,
+    summed: Option<usize>,
+) -> Result<Plan, AllocError>
+    ensures { IfOk result (λ plan. plan ≡ single_plan (canonical query.now) (fact_use fact.now summed) summed) }
+{
+    let (text, used) = named_parts(alloc, query, fact, summed)?;
+    match only_parts(alloc, summed) {
+        Ok((aggs, items)) => Ok(with_parts(alloc, text, used, aggs, items)),
+        Err(e) => Err(e),
+    }
 }
 
 /// The plan of a query, or its first refusal: the table's, then the column's, then its type's.
@@ -219,7 +258,5 @@ pub fn make_plan(alloc: Global, catalog: &Catalog, query: &Query) -> Result<Plan
 {
     let fact = find_fact(catalog, query.source.first.name.as_str())?;
     let summed = find_summed(fact.columns.as_slice(), summed_name(query))?;
-    let text = print(alloc, query)?;
-    let used = fact_use(alloc, fact, summed)?;
-    Ok(single_plan(alloc, text, used, summed)?)
+    Ok(single_plan(alloc, query, fact, summed)?)
 }

@@ -1,4 +1,4 @@
-// The bytes that a query prints: a header and rows as comma-separated values, or one line.
+//! The bytes that a query prints: a header and rows as comma-separated values, or one line.
 ghost use Rattle.std.specs.Prelude.{◌≡◌, ◌≢◌, ◌++◌, ◌∷◌, [], codes, decimal, map, OnOk};
 ghost use Rattle.std.specs.Io.KnownBytes.{Appends};
 ghost use Rattle.csv.specs.Records.{fields_of, partial_of};
@@ -15,6 +15,7 @@ use meaning::plan::{Item, Plan};
 use meaning::value::{Row, Value};
 use std::alloc::{AllocError, Global};
 use std::io::Write;
+use std::mem::drop;
 
 /// Prints the header and the rows as comma-separated values. NULL is `\N`.
 ///
@@ -33,7 +34,13 @@ pub fn print_rows<W: Write>(
     let mut writer = WriterBuilder::new()
         .flexible(true)
         .from_writer(Lent { out });
-    write_rows(alloc, &mut writer, plan, rows)?;
+    match write_rows(alloc, &mut writer, plan, rows) {
+        Ok(()) => {}
+        Err(fault) => {
+            drop(writer);
+            return Err(fault);
+        }
+    }
     match writer.into_inner() {
         Ok(Lent { out }) => {
             // No effect at run time. The proof reads what `out` holds from this use of it.
@@ -56,9 +63,26 @@ fn write_rows<W: Write + Drop>(
         (rows_text plan.now rows.now)) }
 {
     let mut fields = ByteRecord::new(alloc);
-    write_header(writer, &mut fields, plan.items.as_slice())?;
+    let written = write_records(writer, &mut fields, plan, rows);
+    drop(fields);
+    written
+}
+
+/// `fields` is room for the fields of one record.
+fn write_records<W: Write + Drop>(
+    writer: &mut Writer<W>,
+    fields: &mut ByteRecord,
+    plan: &Plan,
+    rows: &[Row],
+) -> Result<(), PrintFault>
+    requires before { IsBetween writer.old }
+    requires shown { HasFields plan.now rows.now }
+    ensures { OnOk result (Appends (text_written W.contents writer.old) (text_written W.contents writer.new)
+        (rows_text plan.now rows.now)) }
+{
+    write_header(writer, fields, plan.items.as_slice())?;
     for row in rows {
-        write_row(writer, &mut fields, row.as_slice())?;
+        write_row(writer, fields, row.as_slice())?;
     }
     Ok(())
 }

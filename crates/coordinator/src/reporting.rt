@@ -21,9 +21,10 @@ use meaning::plan::Plan;
 use meaning::sequence::Sequence;
 use std::alloc::{AllocError, Global};
 use std::io::Write;
+use std::mem::drop;
 
 /// Which of these a coordinator would print. Fragments ascend.
-#[derive(Debug, Drop)]
+#[derive(Drop)]
 pub enum Report {
     /// These fragments have unequal answers.
     Conflict(Sequence<u32>),
@@ -97,7 +98,9 @@ fn output_of_cells(
     ensures printable { IfOk result (IsPrintable plan.now) }
 {
     let body = combine(alloc, plan, cut, cells)?;
-    finish_body(alloc, plan, &body)
+    let finished = finish_body(alloc, plan, &body);
+    drop(body);
+    finished
 }
 
 /// What is to be printed of the cells.
@@ -218,7 +221,8 @@ impl Gather {
         ensures refused { IfErr result IsPrintRefusal }
     {
         let finding = find(alloc, self)?;
-        print_finding(alloc, self.job().plan(), &finding, out)?;
-        Ok(())
+        let printed = print_finding(alloc, self.job().plan(), &finding, out);
+        drop(finding);
+        Ok(printed?)
     }
 }

@@ -17,16 +17,16 @@ use thiserror::Error;
 pub enum WholeFault {
     #[error("out of memory")]
     Memory,
-    #[error("catalogue: {0}")]
+    #[error("the catalogue is refused")]
     Catalog(CatalogFault),
-    #[error("query: {0}")]
+    #[error("the query is refused")]
     Sql(SqlFault),
-    #[error("plan: {0}")]
+    #[error("the query has no plan")]
     Plan(PlanFault),
     /// There is no CSV file of this table.
-    #[error("no CSV file of {}", .0.as_str())]
+    #[error("a table has no CSV file")]
     MissingCsv(Text),
-    #[error("table: {0}")]
+    #[error("a table is refused")]
     Load(TableFault),
     #[error("a vector has 1 to 4,096 values")]
     VectorLength,

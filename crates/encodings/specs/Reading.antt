@@ -1,7 +1,8 @@
 -- What parts of a body are while they are read.
-use Rattle.std.specs.Prelude.{ℕ, Bool, List, map, length, flat_map, replicate, zip, ℤ, pos, ◌+ℤ◌}
-use Rattle.std.specs.List.{range_with_len}
+use Rattle.std.specs.Prelude.{◌≡◌, ℕ, ◌+◌, ◌*◌, ◌≤◌, Bool, true, List, map, length, flat_map, replicate, zip, ℤ, pos, ◌+ℤ◌}
+use Rattle.std.specs.List.{list_all, range_with_len}
 use Rattle.std.specs.Int.{w16, w32, from_le_bytes}
+use Rattle.meaning.specs.Operators.{fits_i64}
 use Rattle.encodings.specs.Bytes.{texts_from}
 use Rattle.encodings.specs.Block.{are_ends, offset_at}
 
@@ -25,3 +26,11 @@ repeats values lengths = flat_map (λ run. replicate run.1 run.0) (zip values le
 -- integers by their offsets from a base, n of them from place `from` on
 abbrev pub raised_offsets : ℤ → ℕ → List ℕ → ℕ → ℕ → List ℤ
 raised_offsets base width packed from n = map (λ i. base +ℤ pos (offset_at width packed i)) (range_with_len from n)
+
+-- integers that can be read by whole groups of eight offsets, n of them from one group on: the offsets lie in the bytes,
+-- and each integer has 64 bits
+pub record AreInGroups (base : ℤ) (width : ℕ) (packed : List ℕ) (first n : ℕ) : Type 0 where
+  pub narrow : width ≤ 64
+  pub few : 8 * first + n ≤ 8192
+  pub within : (8 * first + n) * width ≤ 8 * length packed
+  pub fits : list_all fits_i64 (raised_offsets base width packed (8 * first) n) ≡ true

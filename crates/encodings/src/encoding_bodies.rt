@@ -5,16 +5,17 @@ ghost use Rattle.std.specs.List.{list_all};
 ghost use Rattle.meaning.specs.declared.value.ColType.TheVariants as of_type;
 ghost use Rattle.meaning.specs.declared.value.Value.TheVariants.{Int, Text};
 ghost use Rattle.columns.specs.Column.{is_of};
-ghost use Rattle.encodings.specs.Written.{PutsBody};
+ghost use Rattle.encodings.specs.Written.{AreEntries, AreRuns, PutsBody};
 ghost use Rattle.encodings.specs.declared.kind.Kind.TheVariants as kind;
 
-use crate::encoding_dictionary::{dictionary_of_ints, dictionary_of_texts};
+use crate::encoding_dictionary::{Dictionary, dictionary_of_ints, dictionary_of_texts};
 use crate::encoding_forms::{put_integers, put_integers_at, put_texts, put_texts_at};
 use crate::encoding_numbers::{make_room, put_shorts, put_word};
-use crate::encoding_runs::{runs_of_ints, runs_of_texts};
+use crate::encoding_runs::{Runs, runs_of_ints, runs_of_texts};
 use crate::fault::EncodeFault;
 use columns::TextList;
 use std::alloc::{AllocError, Global};
+use std::mem::drop;
 
 pub fn put_plain_ints(out: &mut Vec<u8>, ints: &[i64]) -> Result<(), AllocError>
     requires fit { list_all (is_of of_type.Int false) (map Int ints.now) ≡ true }
@@ -43,6 +44,20 @@ pub fn put_plain_texts(
     Ok(())
 }
 
+fn put_int_runs(out: &mut Vec<u8>, ints: &[i64], runs: &Runs) -> Result<(), AllocError>
+    requires fit { list_all (is_of of_type.Int false) (map Int ints.now) ≡ true }
+    requires some { 1 ≤ length ints.now }
+    requires few { length ints.now ≤ 8192 }
+    requires runs { AreRuns (map Int ints.now) runs.now.starts.items runs.now.lengths.items }
+    ensures { OnOk result (PutsBody out.old.items out.new.items kind.Runs of_type.Int (map Int ints.now)) }
+{
+    make_room(out, runs.starts.len().saturating_mul(10).saturating_add(4))?;
+    put_word(out, runs.starts.len() as u32)?;
+    put_shorts(out, runs.lengths.as_slice())?;
+    put_integers_at(out, ints, runs.starts.as_slice())?;
+    Ok(())
+}
+
 pub fn put_runs_of_ints(alloc: Global, out: &mut Vec<u8>, ints: &[i64]) -> Result<(), AllocError>
     requires fit { list_all (is_of of_type.Int false) (map Int ints.now) ≡ true }
     requires some { 1 ≤ length ints.now }
@@ -50,10 +65,28 @@ pub fn put_runs_of_ints(alloc: Global, out: &mut Vec<u8>, ints: &[i64]) -> Resul
     ensures { OnOk result (PutsBody out.old.items out.new.items kind.Runs of_type.Int (map Int ints.now)) }
 {
     let runs = runs_of_ints(alloc, ints)?;
-    make_room(out, runs.starts.len().saturating_mul(10).saturating_add(4))?;
+    let put = put_int_runs(out, ints, &runs);
+    drop(runs);
+    put
+}
+
+fn put_text_runs(
+    out: &mut Vec<u8>,
+    texts: &TextList,
+    from: usize,
+    to: usize,
+    runs: &Runs,
+) -> Result<(), AllocError>
+    requires fit { list_all (is_of of_type.Text false) (map Text (take (to - from) (drop from texts.now))) ≡ true }
+    requires some { from < to }
+    requires within { to ≤ length texts.now }
+    requires few { to - from ≤ 8192 }
+    requires runs { AreRuns (map Text (take (to - from) (drop from texts.now))) runs.now.starts.items runs.now.lengths.items }
+    ensures { OnOk result (PutsBody out.old.items out.new.items kind.Runs of_type.Text (map Text (take (to - from) (drop from texts.now)))) }
+{
     put_word(out, runs.starts.len() as u32)?;
     put_shorts(out, runs.lengths.as_slice())?;
-    put_integers_at(out, ints, runs.starts.as_slice())?;
+    put_texts_at(out, texts, from, to, runs.starts.as_slice())?;
     Ok(())
 }
 
@@ -71,9 +104,30 @@ pub fn put_runs_of_texts(
     ensures { OnOk result (PutsBody out.old.items out.new.items kind.Runs of_type.Text (map Text (take (to - from) (drop from texts.now)))) }
 {
     let runs = runs_of_texts(alloc, texts, from, to)?;
-    put_word(out, runs.starts.len() as u32)?;
-    put_shorts(out, runs.lengths.as_slice())?;
-    put_texts_at(out, texts, from, to, runs.starts.as_slice())?;
+    let put = put_text_runs(out, texts, from, to, &runs);
+    drop(runs);
+    put
+}
+
+fn put_int_dictionary(
+    out: &mut Vec<u8>,
+    ints: &[i64],
+    dictionary: &Dictionary,
+) -> Result<(), AllocError>
+    requires fit { list_all (is_of of_type.Int false) (map Int ints.now) ≡ true }
+    requires some { 1 ≤ length ints.now }
+    requires few { length ints.now ≤ 8192 }
+    requires entries { AreEntries (map Int ints.now) dictionary.now.places.items dictionary.now.codes.items }
+    ensures { OnOk result (PutsBody out.old.items out.new.items kind.Dict of_type.Int (map Int ints.now)) }
+{
+    let entries = dictionary.places.len();
+    make_room(
+        out,
+        entries.saturating_mul(8).saturating_add(4 + 2 * ints.len()),
+    )?;
+    put_word(out, entries as u32)?;
+    put_integers_at(out, ints, dictionary.places.as_slice())?;
+    put_shorts(out, dictionary.codes.as_slice())?;
     Ok(())
 }
 
@@ -89,13 +143,27 @@ pub fn put_dictionary_of_ints(
     ensures err { IfErr result (λ f. f ≡ Memory) }
 {
     let dictionary = dictionary_of_ints(alloc, ints)?;
-    let entries = dictionary.places.len();
-    make_room(
-        out,
-        entries.saturating_mul(8).saturating_add(4 + 2 * ints.len()),
-    )?;
-    put_word(out, entries as u32)?;
-    put_integers_at(out, ints, dictionary.places.as_slice())?;
+    let put = put_int_dictionary(out, ints, &dictionary);
+    drop(dictionary);
+    Ok(put?)
+}
+
+fn put_text_dictionary(
+    out: &mut Vec<u8>,
+    texts: &TextList,
+    from: usize,
+    to: usize,
+    dictionary: &Dictionary,
+) -> Result<(), AllocError>
+    requires fit { list_all (is_of of_type.Text false) (map Text (take (to - from) (drop from texts.now))) ≡ true }
+    requires some { from < to }
+    requires within { to ≤ length texts.now }
+    requires few { to - from ≤ 8192 }
+    requires entries { AreEntries (map Text (take (to - from) (drop from texts.now))) dictionary.now.places.items dictionary.now.codes.items }
+    ensures { OnOk result (PutsBody out.old.items out.new.items kind.Dict of_type.Text (map Text (take (to - from) (drop from texts.now)))) }
+{
+    put_word(out, dictionary.places.len() as u32)?;
+    put_texts_at(out, texts, from, to, dictionary.places.as_slice())?;
     put_shorts(out, dictionary.codes.as_slice())?;
     Ok(())
 }
@@ -115,8 +183,7 @@ pub fn put_dictionary_of_texts(
     ensures err { IfErr result (λ f. f ≡ Memory) }
 {
     let dictionary = dictionary_of_texts(alloc, texts, from, to)?;
-    put_word(out, dictionary.places.len() as u32)?;
-    put_texts_at(out, texts, from, to, dictionary.places.as_slice())?;
-    put_shorts(out, dictionary.codes.as_slice())?;
-    Ok(())
+    let put = put_text_dictionary(out, texts, from, to, &dictionary);
+    drop(dictionary);
+    Ok(put?)
 }

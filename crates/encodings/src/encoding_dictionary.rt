@@ -15,6 +15,7 @@ use columns::TextList;
 use std::alloc::{AllocError, Global};
 use std::collections::HashMap;
 use std::hash::Hash;
+use std::mem::drop;
 
 /// A row for each entry, in the order of their cells, and for each row the place of its entry.
 #[derive(Drop)]
@@ -38,55 +39,110 @@ fn as_code(place: usize) -> u16 {
     u16::try_from(place).unwrap_or(u16::MAX)
 }
 
+fn number_of<K: Copy + Drop + Eq + Hash>(known: &HashMap<K, u16>, cell: &K) -> Option<u16> {
+    known.get(cell).copied()
+}
+
+fn remember<K: Copy + Drop + Eq + Hash>(
+    known: &mut HashMap<K, u16>,
+    cell: K,
+    number: u16,
+) -> Result<(), AllocError> {
+    known.insert(cell, number)?;
+    Ok(())
+}
+
 impl Numbers {
     fn new(alloc: Global, rows: usize) -> Result<Numbers, AllocError> {
+        let of_rows = Vec::with_capacity(alloc, rows)?;
         Ok(Numbers {
             firsts: Vec::new(alloc),
-            of_rows: Vec::with_capacity(alloc, rows)?,
+            of_rows,
         })
     }
 
-    /// A number for each row.
-    fn each(alloc: Global, rows: usize) -> Result<Numbers, AllocError> {
-        let mut numbers = Numbers::new(alloc, rows)?;
-        numbers.firsts.reserve(rows)?;
-        for row in 0..rows {
-            let number = numbers.add(row)?;
-            numbers.of_rows.push(number)?;
-        }
-        Ok(numbers)
-    }
-
-    /// A number that no row has yet.
+    /// Gives a row a number that no row has yet.
     fn add(&mut self, row: usize) -> Result<u16, AllocError> {
         let number = as_code(self.firsts.len());
         self.firsts.push(row)?;
+        self.of_rows.push(number)?;
         Ok(number)
+    }
+
+    /// Gives each row a number of its own.
+    fn add_each(&mut self, rows: usize) -> Result<(), AllocError> {
+        self.firsts.reserve(rows)?;
+        for row in 0..rows {
+            self.add(row)?;
+        }
+        Ok(())
+    }
+
+    /// Gives a row the number of the rows with its cell, unless too many cells are different.
+    fn add_cell<K: Copy + Drop + Eq + Hash>(
+        &mut self,
+        known: &mut HashMap<K, u16>,
+        row: usize,
+        cell: K,
+    ) -> Result<bool, AllocError> {
+        if let Some(number) = number_of(known, &cell) {
+            self.of_rows.push(number)?;
+            return Ok(true);
+        }
+        if self.firsts.len() == FEW {
+            return Ok(false);
+        }
+        let number = self.add(row)?;
+        remember(known, cell, number)?;
+        Ok(true)
+    }
+
+    /// Numbers the cells in the order in which they come, unless too many are different.
+    fn add_few<K: Copy + Drop + Eq + Hash>(
+        &mut self,
+        known: &mut HashMap<K, u16>,
+        cells: &[K],
+    ) -> Result<bool, AllocError> {
+        for (row, cell) in cells.iter().enumerate() {
+            if !self.add_cell(known, row, *cell)? {
+                return Ok(false);
+            }
+        }
+        Ok(true)
     }
 }
 
-/// Numbers the cells in the order in which they come, unless too many are different.
+/// The numbers of a few different cells.
 fn numbers_of_few<K: Copy + Drop + Eq + Hash>(
     alloc: Global,
     cells: &[K],
 ) -> Result<Option<Numbers>, AllocError> {
-    let mut known = HashMap::new(alloc);
     let mut numbers = Numbers::new(alloc, cells.len())?;
-    for (row, cell) in cells.iter().enumerate() {
-        let number = match known.get(cell) {
-            Some(number) => *number,
-            None => {
-                if numbers.firsts.len() == FEW {
-                    return Ok(None);
-                }
-                let number = numbers.add(row)?;
-                known.insert(*cell, number)?;
-                number
-            }
-        };
-        numbers.of_rows.push(number)?;
+    let mut known = HashMap::new(alloc);
+    let added = numbers.add_few(&mut known, cells);
+    drop(known);
+    match added {
+        Ok(true) => Ok(Some(numbers)),
+        Ok(false) => {
+            drop(numbers);
+            Ok(None)
+        }
+        Err(fault) => {
+            drop(numbers);
+            Err(fault)
+        }
     }
-    Ok(Some(numbers))
+}
+
+fn numbers_of_each(alloc: Global, rows: usize) -> Result<Numbers, AllocError> {
+    let mut numbers = Numbers::new(alloc, rows)?;
+    match numbers.add_each(rows) {
+        Ok(()) => Ok(numbers),
+        Err(fault) => {
+            drop(numbers);
+            Err(fault)
+        }
+    }
 }
 
 fn numbers_of<K: Copy + Drop + Eq + Hash>(
@@ -95,8 +151,22 @@ fn numbers_of<K: Copy + Drop + Eq + Hash>(
 ) -> Result<Numbers, AllocError> {
     match numbers_of_few(alloc, cells)? {
         Some(numbers) => Ok(numbers),
-        None => Numbers::each(alloc, cells.len()),
+        None => numbers_of_each(alloc, cells.len()),
     }
+}
+
+/// The numbers of some first rows, each with its cell.
+fn put_numbered<K: Copy + Drop>(
+    cells: &[K],
+    firsts: &[usize],
+    numbered: &mut Vec<(K, usize)>,
+) -> Result<(), AllocError> {
+    for (number, row) in firsts.iter().enumerate() {
+        if let Some(cell) = cells.get(*row) {
+            numbered.push((*cell, number))?;
+        }
+    }
+    Ok(())
 }
 
 /// The numbers in the order of their cells, each with its cell.
@@ -105,14 +175,85 @@ fn sorted<K: Copy + Drop + Ord>(
     cells: &[K],
     firsts: &[usize],
 ) -> Result<Vec<(K, usize)>, AllocError> {
-    let mut sorted = Vec::with_capacity(alloc, firsts.len())?;
-    for (number, row) in firsts.iter().enumerate() {
-        if let Some(cell) = cells.get(*row) {
-            sorted.push((*cell, number))?;
+    let mut numbered = Vec::with_capacity(alloc, firsts.len())?;
+    match put_numbered(cells, firsts, &mut numbered) {
+        Ok(()) => {
+            numbered.as_mut_slice().sort_unstable();
+            Ok(numbered)
+        }
+        Err(fault) => {
+            drop(numbered);
+            Err(fault)
         }
     }
-    sorted.as_mut_slice().sort_unstable();
-    Ok(sorted)
+}
+
+/// Whether the cell at a place is another one than that before it.
+fn begins_entry<K: Copy + Drop + Eq>(sorted: &[(K, usize)], place: usize) -> bool {
+    let Some((cell, _)) = sorted.get(place) else {
+        return false;
+    };
+    match sorted.get(place.wrapping_sub(1)) {
+        Some((before, _)) => before != cell,
+        None => true,
+    }
+}
+
+/// The number at a place.
+fn number_at<K: Copy + Drop>(sorted: &[(K, usize)], place: usize) -> usize {
+    match sorted.get(place) {
+        Some((_, number)) => *number,
+        None => 0,
+    }
+}
+
+/// Puts the first row of each entry into `places`, and for each number the place of its entry into `codes`.
+fn put_entries<K: Copy + Drop + Eq>(
+    sorted: &[(K, usize)],
+    firsts: &[usize],
+    places: &mut Vec<usize>,
+    codes: &mut [u16],
+) -> Result<(), AllocError> {
+    for place in 0..sorted.len() {
+        let number = number_at(sorted, place);
+        if begins_entry(sorted, place) {
+            places.push(firsts.get(number).copied().unwrap_or(0))?;
+        }
+        if let Some(code) = codes.get_mut(number) {
+            *code = as_code(places.len().saturating_sub(1));
+        }
+    }
+    Ok(())
+}
+
+/// A dictionary of the numbers: a first row for each entry, and for each number the place of its entry.
+fn entries_of<K: Copy + Drop + Eq>(
+    alloc: Global,
+    sorted: &[(K, usize)],
+    firsts: &[usize],
+) -> Result<Dictionary, AllocError> {
+    let mut codes = vec![in alloc; 0; firsts.len()]?;
+    let mut places = Vec::new(alloc);
+    match put_entries(sorted, firsts, &mut places, codes.as_mut_slice()) {
+        Ok(()) => Ok(Dictionary { places, codes }),
+        Err(fault) => {
+            drop(places);
+            drop(codes);
+            Err(fault)
+        }
+    }
+}
+
+/// A dictionary of the numbers that some first rows have.
+fn numbers_in_order<K: Copy + Drop + Eq + Ord>(
+    alloc: Global,
+    cells: &[K],
+    firsts: &[usize],
+) -> Result<Dictionary, AllocError> {
+    let sorted = sorted(alloc, cells, firsts)?;
+    let entries = entries_of(alloc, sorted.as_slice(), firsts);
+    drop(sorted);
+    entries
 }
 
 /// Puts the code of each number in place of the number.
@@ -122,33 +263,29 @@ fn recode(of_rows: &mut [u16], codes: &[u16]) {
     }
 }
 
+/// The dictionary of the rows, by that of their numbers.
+fn recoded(numbers: Numbers, entries: Dictionary) -> Dictionary {
+    let mut codes = numbers.of_rows;
+    recode(codes.as_mut_slice(), entries.codes.as_slice());
+    Dictionary {
+        places: entries.places,
+        codes,
+    }
+}
+
 /// What is to be the dictionary of some cells.
 fn ordered<K: Copy + Drop + Eq + Hash + Ord>(
     alloc: Global,
     cells: &[K],
 ) -> Result<Dictionary, AllocError> {
-    let Numbers {
-        firsts,
-        mut of_rows,
-    } = numbers_of(alloc, cells)?;
-    let sorted = sorted(alloc, cells, firsts.as_slice())?;
-    let mut places = Vec::new(alloc);
-    let mut codes = vec![in alloc; 0; firsts.len()]?;
-    let mut last = None;
-    for (cell, number) in sorted.iter() {
-        if last != Some(*cell) {
-            places.push(firsts.get(*number).copied().unwrap_or(0))?;
-            last = Some(*cell);
-        }
-        if let Some(code) = codes.get_mut(*number) {
-            *code = as_code(places.len().saturating_sub(1));
+    let numbers = numbers_of(alloc, cells)?;
+    match numbers_in_order(alloc, cells, numbers.firsts.as_slice()) {
+        Ok(entries) => Ok(recoded(numbers, entries)),
+        Err(fault) => {
+            drop(numbers);
+            Err(fault)
         }
     }
-    recode(of_rows.as_mut_slice(), codes.as_slice());
-    Ok(Dictionary {
-        places,
-        codes: of_rows,
-    })
 }
 
 // ---- integers
@@ -198,21 +335,26 @@ fn do_codes_tell_ints(ints: &[i64], places: &[usize], codes: &[u16]) -> bool
     true
 }
 
+fn is_dictionary_of_ints(ints: &[i64], dictionary: &Dictionary) -> bool
+    ensures { result ≡ true → AreEntries (map Int ints.now) dictionary.now.places.items dictionary.now.codes.items }
+{
+    let places = dictionary.places.as_slice();
+    if places.len() > ints.len() || !are_within(places, ints.len()) {
+        return false;
+    }
+    do_ints_ascend(ints, places) && do_codes_tell_ints(ints, places, dictionary.codes.as_slice())
+}
+
 pub fn dictionary_of_ints(alloc: Global, ints: &[i64]) -> Result<Dictionary, EncodeFault>
     ensures ok { IfOk result (λ d. AreEntries (map Int ints.now) d.places.items d.codes.items) }
     ensures err { IfErr result (λ f. f ≡ Memory) }
 {
     let dictionary = ordered(alloc, ints)?;
-    let places = dictionary.places.as_slice();
-    if places.len() > ints.len() || !are_within(places, ints.len()) {
-        return Err(EncodeFault::Memory);
+    if is_dictionary_of_ints(ints, &dictionary) {
+        return Ok(dictionary);
     }
-    if !do_ints_ascend(ints, places)
-        || !do_codes_tell_ints(ints, places, dictionary.codes.as_slice())
-    {
-        return Err(EncodeFault::Memory);
-    }
-    Ok(dictionary)
+    drop(dictionary);
+    Err(EncodeFault::Memory)
 }
 
 // ---- texts
@@ -282,6 +424,35 @@ fn do_codes_tell_texts(
     true
 }
 
+/// What is to be the dictionary of some texts.
+fn ordered_texts(
+    alloc: Global,
+    texts: &TextList,
+    from: usize,
+    to: usize,
+) -> Result<Dictionary, AllocError>
+    requires ordered { from ≤ to }
+    requires within { to ≤ length texts.now }
+{
+    let cells = texts_between(alloc, texts, from, to)?;
+    let dictionary = ordered(alloc, cells.as_slice());
+    drop(cells);
+    dictionary
+}
+
+fn is_dictionary_of_texts(texts: &TextList, from: usize, to: usize, dictionary: &Dictionary) -> bool
+    requires some { from < to }
+    requires within { to ≤ length texts.now }
+    ensures { result ≡ true → AreEntries (map Text (take (to - from) (drop from texts.now))) dictionary.now.places.items dictionary.now.codes.items }
+{
+    let places = dictionary.places.as_slice();
+    if places.len() > to - from || !are_within(places, to - from) {
+        return false;
+    }
+    do_texts_ascend(texts, from, to, places)
+        && do_codes_tell_texts(texts, from, to, places, dictionary.codes.as_slice())
+}
+
 pub fn dictionary_of_texts(
     alloc: Global,
     texts: &TextList,
@@ -293,16 +464,10 @@ pub fn dictionary_of_texts(
     ensures ok { IfOk result (λ d. AreEntries (map Text (take (to - from) (drop from texts.now))) d.places.items d.codes.items) }
     ensures err { IfErr result (λ f. f ≡ Memory) }
 {
-    let cells = texts_between(alloc, texts, from, to)?;
-    let dictionary = ordered(alloc, cells.as_slice())?;
-    let places = dictionary.places.as_slice();
-    if places.len() > to - from || !are_within(places, to - from) {
-        return Err(EncodeFault::Memory);
+    let dictionary = ordered_texts(alloc, texts, from, to)?;
+    if is_dictionary_of_texts(texts, from, to, &dictionary) {
+        return Ok(dictionary);
     }
-    if !do_texts_ascend(texts, from, to, places)
-        || !do_codes_tell_texts(texts, from, to, places, dictionary.codes.as_slice())
-    {
-        return Err(EncodeFault::Memory);
-    }
-    Ok(dictionary)
+    drop(dictionary);
+    Err(EncodeFault::Memory)
 }

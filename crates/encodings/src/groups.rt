@@ -1,9 +1,9 @@
 // Offsets by groups of eight, which take as many bytes as an offset has bits.
-ghost use Rattle.std.specs.Prelude.{◌≡◌, ℕ, pos, ◌+ℤ◌, ◌+◌, ◌-◌, ◌*◌, ◌/◌, ◌<◌, ◌≤◌, ◌++◌, length, take, true};
+ghost use Rattle.std.specs.Prelude.{◌≡◌, ℕ, pos, ◌+ℤ◌, ◌+◌, ◌-◌, ◌*◌, ◌/◌, ◌%◌, ◌<◌, ◌≤◌, ◌++◌, length, take, true};
 ghost use Rattle.std.specs.List.{list_all};
 ghost use Rattle.meaning.specs.Operators.{fits_i64};
 ghost use Rattle.encodings.specs.Block.{offset_at};
-ghost use Rattle.encodings.specs.Reading.{raised_offsets};
+ghost use Rattle.encodings.specs.Reading.{AreInGroups, raised_offsets};
 
 use crate::frame::{low_bits, window_at};
 
@@ -114,26 +114,47 @@ fn fill_each(base: i64, width: usize, packed: &[u8], first: usize, out: &mut [i6
     }
 }
 
-/// The same for a width that is known where it is called, so that all places and shifts are constants.
-fn fill_known<const W: usize>(base: i64, width: usize, packed: &[u8], first: usize, out: &mut [i64])
-    requires same { width ≡ W }
-    requires width { width ≤ 64 }
-    requires few { 8 * first + length out.old ≤ 8192 }
-    requires within { (8 * first + length out.old) * width ≤ 8 * length packed.now }
-    requires fits { list_all fits_i64 (raised_offsets base width packed.now (8 * first) (length out.old)) ≡ true }
+/// The same for a width that is known where it is called, eight times one constant and a second more, so that all
+/// places and shifts are constants.
+fn fill_known<const EIGHTS: usize, const MORE: usize>(
+    base: i64,
+    width: usize,
+    packed: &[u8],
+    first: usize,
+    out: &mut [i64],
+)
+    requires same { width ≡ 8 * EIGHTS + MORE }
+    requires given { AreInGroups base width packed.now first (length out.old) }
     ensures { take (8 * (length out.old / 8)) out.new
         ≡ raised_offsets base width packed.now (8 * first) (8 * (length out.old / 8)) }
 {
-    fill_each(base, W, packed, first, out);
+    fill_each(base, 8 * EIGHTS + MORE, packed, first, out);
 }
 
-macro_rules! by_width {
-    ($base:expr, $width:expr, $packed:expr, $first:expr, $out:expr, [$($known:literal)*]) => {
-        match $width {
-            $($known => fill_known::<$known>($base, $width, $packed, $first, $out),)*
-            _ => fill_each($base, $width, $packed, $first, $out),
-        }
-    };
+/// The same for a width of which the eighth is known.
+fn fill_eighth<const EIGHTS: usize>(
+    base: i64,
+    width: usize,
+    packed: &[u8],
+    first: usize,
+    out: &mut [i64],
+)
+    requires same { width / 8 ≡ EIGHTS }
+    requires given { AreInGroups base width packed.now first (length out.old) }
+    ensures { take (8 * (length out.old / 8)) out.new
+        ≡ raised_offsets base width packed.now (8 * first) (8 * (length out.old / 8)) }
+{
+    match width % 8 {
+        0 => fill_known::<EIGHTS, 0>(base, width, packed, first, out),
+        1 => fill_known::<EIGHTS, 1>(base, width, packed, first, out),
+        2 => fill_known::<EIGHTS, 2>(base, width, packed, first, out),
+        3 => fill_known::<EIGHTS, 3>(base, width, packed, first, out),
+        4 => fill_known::<EIGHTS, 4>(base, width, packed, first, out),
+        5 => fill_known::<EIGHTS, 5>(base, width, packed, first, out),
+        6 => fill_known::<EIGHTS, 6>(base, width, packed, first, out),
+        7 => fill_known::<EIGHTS, 7>(base, width, packed, first, out),
+        _ => fill_each(base, width, packed, first, out),
+    }
 }
 
 /// The cells up to the last that is a multiple of eight, by the groups from `first` on.
@@ -145,16 +166,16 @@ pub fn fill_groups(base: i64, width: usize, packed: &[u8], first: usize, out: &m
     ensures { take (8 * (length out.old / 8)) out.new
         ≡ raised_offsets base width packed.now (8 * first) (8 * (length out.old / 8)) }
 {
-    by_width!(
-        base,
-        width,
-        packed,
-        first,
-        out,
-        [
-            0 1 2 3 4 5 6 7 8 9 10 11 12 13 14 15 16 17 18 19 20 21 22 23 24 25 26 27 28 29 30 31 32
-            33 34 35 36 37 38 39 40 41 42 43 44 45 46 47 48 49 50 51 52 53 54 55 56 57 58 59 60 61 62
-            63 64
-        ]
-    )
+    match width / 8 {
+        0 => fill_eighth::<0>(base, width, packed, first, out),
+        1 => fill_eighth::<1>(base, width, packed, first, out),
+        2 => fill_eighth::<2>(base, width, packed, first, out),
+        3 => fill_eighth::<3>(base, width, packed, first, out),
+        4 => fill_eighth::<4>(base, width, packed, first, out),
+        5 => fill_eighth::<5>(base, width, packed, first, out),
+        6 => fill_eighth::<6>(base, width, packed, first, out),
+        7 => fill_eighth::<7>(base, width, packed, first, out),
+        8 => fill_eighth::<8>(base, width, packed, first, out),
+        _ => fill_each(base, width, packed, first, out),
+    }
 }

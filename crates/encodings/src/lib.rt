@@ -35,12 +35,3 @@ pub mod view;
 pub use choosing::choose;
 pub use encoding::encode_as;
 pub use fault::EncodeFault;
-
-#[cfg(test)]
-mod encoding_tests;
-#[cfg(test)]
-mod reading_tests;
-#[cfg(test)]
-mod size_tests;
-#[cfg(test)]
-mod view_tests;

@@ -5,12 +5,13 @@ ghost use Rattle.fragment_file.specs.Reading.{Reads, ReadsIfMemory};
 
 use crate::fault::FileFault;
 use crate::header::Header;
-use crate::name::take_name;
+use crate::name::{take_name, text_of};
 use crate::number::{is_1_to_64, take_bytes, take_u8, take_u16, take_u32, take_u64};
 use meaning::catalog::Column;
 use meaning::sequence::Sequence;
 use meaning::value::ColType;
 use std::alloc::Global;
+use std::mem::drop;
 
 /// The bytes behind the four that tell what the file is.
 #[tactic(auto, unfolding(crate::specs::FragmentReading::behind_magic))]
@@ -59,22 +60,21 @@ fn take_column<'a>(
 ) -> Result<(Column, &'a [u8]), FileFault>
     ensures { ReadsIfMemory (λ x. (x.0, x.1.now)) result (column_at earlier.now bytes.now) }
 {
-    let (name, rest) = take_name(alloc, bytes)?;
-    if is_named(name.as_bytes(), earlier) {
+    let (name, rest) = take_name(bytes)?;
+    if is_named(name, earlier) {
         return Err(FileFault::Header);
     }
     let (code, rest) = take_u8(rest)?;
     let col_type = type_of(code)?;
     let (code, rest) = take_u8(rest)?;
     let nullable = flag_of(code)?;
-    Ok((
-        Column {
-            name,
-            col_type,
-            nullable,
-        },
-        rest,
-    ))
+    let name = text_of(alloc, name)?;
+    let column = Column {
+        name,
+        col_type,
+        nullable,
+    };
+    Ok((column, rest))
 }
 
 fn take_columns(alloc: Global, count: u16, bytes: &[u8]) -> Result<(Vec<Column>, &[u8]), FileFault>
@@ -96,7 +96,7 @@ pub fn take_header(alloc: Global, bytes: &[u8]) -> Result<(Header, &[u8]), FileF
     ensures { ReadsIfMemory (λ x. (x.0, x.1.now)) result (header_at bytes.now) }
 {
     let (load, rest) = take_u64(bytes)?;
-    let (table, rest) = take_name(alloc, rest)?;
+    let (table, rest) = take_name(rest)?;
     let (fragment, rest) = take_u32(rest)?;
     let (first_row, rest) = take_u64(rest)?;
     let (rows, rest) = take_u32(rest)?;
@@ -107,17 +107,23 @@ pub fn take_header(alloc: Global, bytes: &[u8]) -> Result<(Header, &[u8]), FileF
     if !is_1_to_64(count) {
         return Err(FileFault::Limit);
     }
-    let (columns, rest) = take_columns(alloc, count, rest)?;
-    let columns = Sequence::from_vec(columns);
-    Ok((
-        Header {
-            load,
-            table,
-            fragment,
-            first_row,
-            rows,
-            columns,
-        },
-        rest,
-    ))
+    let table = text_of(alloc, table)?;
+    match take_columns(alloc, count, rest) {
+        Ok((columns, rest)) => {
+            let columns = Sequence::from_vec(columns);
+            let header = Header {
+                load,
+                table,
+                fragment,
+                first_row,
+                rows,
+                columns,
+            };
+            Ok((header, rest))
+        }
+        Err(fault) => {
+            drop(table);
+            Err(fault)
+        }
+    }
 }

@@ -24,12 +24,3 @@ pub use fault::FileFault;
 pub use laws::{one_cut, one_file, one_table_slice};
 pub use opening::open;
 pub use writing::write;
-
-#[cfg(test)]
-mod cut_writing_tests;
-#[cfg(test)]
-mod damage_tests;
-#[cfg(test)]
-mod tests;
-#[cfg(test)]
-mod writing_tests;

@@ -1,8 +1,8 @@
 // Names behind their lengths.
-ghost use Rattle.std.specs.Prelude.{◌≡◌, true, Ok};
+ghost use Rattle.std.specs.Prelude.{◌≡◌, true, Ok, IfOk};
 ghost use Rattle.meaning.specs.Catalog.{is_name};
 ghost use Rattle.fragment_file.specs.FragmentReading.{name_at};
-ghost use Rattle.fragment_file.specs.Reading.{ReadsIfMemory};
+ghost use Rattle.fragment_file.specs.Reading.{Reads, ReadsIfMemory};
 
 use crate::fault::FileFault;
 use crate::number::{is_1_to_64, take_bytes, take_u16};
@@ -11,7 +11,7 @@ use meaning::text::Text;
 use std::alloc::Global;
 
 /// A name's text, which is ASCII.
-fn text_of(alloc: Global, word: &[u8]) -> Result<Text, FileFault>
+pub fn text_of(alloc: Global, word: &[u8]) -> Result<Text, FileFault>
     requires { is_name word.now ≡ true }
     ensures { ReadsIfMemory (λ name. name) result (Ok word.now) }
 {
@@ -23,8 +23,9 @@ fn text_of(alloc: Global, word: &[u8]) -> Result<Text, FileFault>
 
 /// A name, and the bytes behind it.
 #[tactic(auto, unfolding(crate::specs::FragmentReading::name_at))]
-pub fn take_name(alloc: Global, bytes: &[u8]) -> Result<(Text, &[u8]), FileFault>
-    ensures { ReadsIfMemory (λ x. (x.0, x.1.now)) result (name_at bytes.now) }
+pub fn take_name(bytes: &[u8]) -> Result<(&[u8], &[u8]), FileFault>
+    ensures read { Reads (λ x. (x.0.now, x.1.now)) result (name_at bytes.now) }
+    ensures name { IfOk result (λ x. is_name x.0.now ≡ true) }
 {
     let (length, rest) = take_u16(bytes)?;
     if !is_1_to_64(length) {
@@ -34,5 +35,5 @@ pub fn take_name(alloc: Global, bytes: &[u8]) -> Result<(Text, &[u8]), FileFault
     if !is_name(word) {
         return Err(FileFault::Header);
     }
-    Ok((text_of(alloc, word)?, rest))
+    Ok((word, rest))
 }

@@ -7,8 +7,9 @@ use Rattle.meaning.specs.Records.{Record, row_of}
 use Rattle.columns.specs.Column.{ColumnSpec}
 use Rattle.loader.specs.declared.fault.LoadFault.{LoadFault}
 use Rattle.loader.specs.declared.fault.LoadFault.TheVariants.{Memory, Table, Device}
+use Rattle.loader.specs.Fault.{LoadsView}
 use Rattle.loader.specs.Source.{IsLeft, TakesNext}
-use Rattle.loader.specs.Steps.{IsFaultOf, TakesRow, TakesNextRow, is_more}
+use Rattle.loader.specs.Steps.{IsFaultOf, Opens, TakesRow, TakesNextRow, is_more, order_of}
 use Rattle.meaning.specs.Order.{Row}
 use Rattle.meaning.specs.declared.table.TableFault.{TableFault}
 
@@ -42,3 +43,12 @@ pub fault_taken : (judged : Result Row TableFault) (before now : List ColumnSpec
 fault_taken judged before now (Table fault) told = told
 fault_taken judged before now Memory told = tt
 fault_taken judged before now Device told = tt
+
+-- what the first record says of the columns is what opening gives
+pub opened : {R X : Type 0} (known : R → Option (List ℕ)) (after : Reader R) (declared : List Column) (order : X → List ℕ) (rest others : List Record) (header : Record)
+    → rest ≡ header ∷ others → IsLeft known after others → (result : Result X LoadFault) → LoadsView order result (order_of declared header)
+    → Opens order (λ _. after) known declared rest result
+opened known after declared order rest others header first left (Ok x) told = (header, others, first, told, left)
+opened known after declared order rest others header first left (Err (Table fault)) told = rw first told
+opened known after declared order rest others header first left (Err Memory) told = tt
+opened known after declared order rest others header first left (Err Device) told = tt

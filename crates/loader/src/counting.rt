@@ -11,13 +11,13 @@ use std::alloc::Global;
 use std::io::Read;
 use std::mem::drop;
 
-fn count_records<R: Read>(alloc: Global, reader: &mut Reader<R>) -> Result<u64, LoadFault>
+/// How many records are still to come. They are read into `fields`, one over another.
+fn count_records<R: Read>(reader: &mut Reader<R>, fields: &mut ByteRecord) -> Result<u64, LoadFault>
     ensures counted { (rest : List Record) → IsLeft R.remaining reader.old rest → IfOk result (λ n. n ≡ length rest) }
     ensures refused { IfErr result IsOutside }
 {
-    let mut fields = ByteRecord::new(alloc);
     for count in 0..u64::MAX {
-        if !next_record(reader, &mut fields)? {
+        if !next_record(reader, fields)? {
             return Ok(count);
         }
     }
@@ -31,7 +31,9 @@ pub fn count_rows<R: Read + Drop>(alloc: Global, reader: R) -> Result<u64, LoadF
     ensures refused { IfErr result IsOutside }
 {
     let mut reader = csv_reader(alloc, reader);
-    let records = count_records(alloc, &mut reader);
+    let mut fields = ByteRecord::new(alloc);
+    let records = count_records(&mut reader, &mut fields);
+    drop(fields);
     drop(reader);
     Ok(records?.saturating_sub(1))
 }

@@ -11,6 +11,7 @@ use csv::{ByteRecord, StringRecord};
 use meaning::catalog::Column;
 use meaning::table::TableFault;
 use std::alloc::{AllocError, Global};
+use std::mem::drop;
 
 /// How the columns of a file stand to those of the catalogue.
 #[derive(Drop)]
@@ -109,6 +110,34 @@ fn is_in_order(order: &[usize]) -> bool
     order.iter().enumerate().all(|(i, place)| *place == i)
 }
 
+/// Columns of the catalogue in the order of the fields, with the way back.
+fn with_places(alloc: Global, columns: Vec<usize>) -> Result<FileOrder, AllocError>
+    ensures { IfOk result (λ order. order.columns.items ≡ columns.items) }
+{
+    let in_order = is_in_order(&columns);
+    match field_places(alloc, &columns) {
+        Ok(fields) => Ok(FileOrder {
+            columns,
+            fields,
+            in_order,
+        }),
+        Err(fault) => {
+            drop(columns);
+            Err(fault)
+        }
+    }
+}
+
+/// The order of the columns that the fields of a header name.
+fn order_by(alloc: Global, columns: &[Column], header: &[&[u8]]) -> Result<FileOrder, LoadFault>
+    ensures { LoadsView (λ order. order.columns.items) result (order_of columns.now (map (λ field. field.now) header.now)) }
+{
+    if !is_header(columns, header) {
+        return Err(LoadFault::Table(TableFault::Header));
+    }
+    Ok(with_places(alloc, file_order(alloc, columns, header)?)?)
+}
+
 /// The order of the columns that a header names.
 pub fn order_of(
     alloc: Global,
@@ -118,15 +147,7 @@ pub fn order_of(
     ensures { LoadsView (λ order. order.columns.items) result (order_of columns.now (fields_of header.now)) }
 {
     let header = fields_in(alloc, header)?;
-    if !is_header(columns, &header) {
-        return Err(LoadFault::Table(TableFault::Header));
-    }
-    let columns = file_order(alloc, columns, &header)?;
-    let fields = field_places(alloc, &columns)?;
-    let in_order = is_in_order(&columns);
-    Ok(FileOrder {
-        columns,
-        fields,
-        in_order,
-    })
+    let order = order_by(alloc, columns, header.as_slice());
+    drop(header);
+    order
 }

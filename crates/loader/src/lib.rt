@@ -18,8 +18,3 @@ pub use counting::count_rows;
 pub use dimension::{load_dim, load_dimension};
 pub use fact::load_fact;
 pub use fault::LoadFault;
-
-#[cfg(test)]
-mod reader_tests;
-#[cfg(test)]
-mod tests;

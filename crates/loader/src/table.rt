@@ -7,8 +7,8 @@ ghost use Rattle.meaning.specs.Records.{Record};
 ghost use Rattle.meaning.specs.Records as records;
 ghost use Rattle.loader.specs.Columns.{columns_of, no_rows};
 ghost use Rattle.loader.specs.Fault.{IsOutside};
+ghost use Rattle.loader.specs.Keys.{HoldsKeys};
 ghost use Rattle.loader.specs.Source.{IsLeft, csv_records};
-ghost use Rattle.loader.specs.Fault.{IsOutside};
 ghost use Rattle.loader.specs.Steps.{Opens, IsFaultOf, TakesAll, TakesTable, is_more, keyed_rows, TakesFragment, TakesFragments, TakesNextRow, TakesRow, TakesRows};
 
 use crate::fault::LoadFault;
@@ -28,7 +28,7 @@ use meaning::text::Text;
 use meaning::value::{Value, ValueRef};
 use std::alloc::{AllocError, Global};
 use std::io::Read;
-use std::mem;
+use std::mem::{self, drop};
 
 /// The most rows that a column has room for at its beginning.
 const MOST_ROOM: usize = 262_144;
@@ -143,6 +143,23 @@ pub struct Rows<'c, R> {
     parsed: Vec<Parsed>,
 }
 
+/// The order of the columns that the first record names.
+fn read_header<R: Read>(
+    alloc: Global,
+    declared: &[Declared],
+    reader: &mut Reader<R>,
+    fields: &mut ByteRecord,
+) -> Result<FileOrder, LoadFault>
+    ensures declared { IfOk result (λ order. length declared.now ≡ length order.columns.items) }
+    ensures opened { (rest : List Record) → IsLeft R.remaining reader.old rest
+        → Opens (λ order. order.columns.items) (λ _. reader.new) R.remaining declared.now rest result }
+{
+    if !next_record(reader, fields)? {
+        return Err(LoadFault::Table(TableFault::Header));
+    }
+    order_of(alloc, declared, fields)
+}
+
 /// The records behind the header of a file, whose columns are declared so.
 pub fn open_rows<R: Read + Drop>(
     alloc: Global,
@@ -155,18 +172,21 @@ pub fn open_rows<R: Read + Drop>(
 {
     let mut reader = csv_reader(alloc, reader);
     let mut fields = ByteRecord::new(alloc);
-    if !next_record(&mut reader, &mut fields)? {
-        return Err(LoadFault::Table(TableFault::Header));
+    match read_header(alloc, declared, &mut reader, &mut fields) {
+        Ok(order) => Ok(Rows {
+            alloc,
+            reader,
+            declared,
+            order,
+            fields,
+            parsed: Vec::new(alloc),
+        }),
+        Err(fault) => {
+            drop(reader);
+            drop(fields);
+            Err(fault)
+        }
     }
-    let order = order_of(alloc, declared, &fields)?;
-    Ok(Rows {
-        alloc,
-        reader,
-        declared,
-        order,
-        fields,
-        parsed: Vec::new(alloc),
-    })
 }
 
 impl<R: Read> Rows<'_, R> {
@@ -248,6 +268,29 @@ impl<R: Read> Rows<'_, R> {
         Ok(Sequence::from_vec(columns))
     }
 
+    /// Puts the columns of each fragment behind no others, made of the next records.
+    fn add_fragments(
+        &mut self,
+        alloc: Global,
+        lengths: &[u32],
+        fragments: &mut Vec<Sequence<Column>>,
+    ) -> Result<(), LoadFault>
+        requires columns { length self.old.declared.now ≡ length self.old.order.columns.items }
+        requires few { sum lengths.now < 2 ^ 64 }
+        requires none { fragments.old.items ≡ [] }
+        ensures declared { self.new.declared.now ≡ self.old.declared.now }
+        ensures order { self.new.order ≡ self.old.order }
+        ensures taken { (rest : List Record) → IsLeft R.remaining self.old.reader rest
+            → TakesFragments (λ _. fragments.new.items) R.remaining self.old.declared.now self.old.order.columns.items lengths.now rest self.new.reader result }
+    {
+        let mut first = 0;
+        for length in lengths {
+            fragments.push(self.fragment(alloc, first, *length)?)?;
+            first += u64::from(*length);
+        }
+        Ok(())
+    }
+
     /// The columns of each fragment, made of the next records. Rows count from 0.
     pub fn fragments(
         &mut self,
@@ -262,12 +305,13 @@ impl<R: Read> Rows<'_, R> {
             → TakesFragments (λ fragments. fragments.items) R.remaining self.old.declared.now self.old.order.columns.items lengths.now rest self.new.reader result }
     {
         let mut fragments = Vec::with_capacity(alloc, lengths.len())?;
-        let mut first = 0;
-        for length in lengths {
-            fragments.push(self.fragment(alloc, first, *length)?)?;
-            first += u64::from(*length);
+        match self.add_fragments(alloc, lengths, &mut fragments) {
+            Ok(()) => Ok(fragments),
+            Err(fault) => {
+                drop(fragments);
+                Err(fault)
+            }
         }
-        Ok(fragments)
     }
 
     /// Whether there is a record more, which is then passed over.
@@ -276,6 +320,35 @@ impl<R: Read> Rows<'_, R> {
         ensures refused { IfErr result IsOutside }
     {
         next_record(&mut self.reader, &mut self.fields)
+    }
+
+    /// Puts the rows of all records behind the last rows, and their keys into `keys`.
+    fn add_keyed_rows(
+        &mut self,
+        alloc: Global,
+        key: usize,
+        most: u64,
+        keys: &mut Keys,
+        columns: &mut [Column],
+    ) -> Result<(), LoadFault>
+        requires columns { length columns.old ≡ length self.old.order.fields.items }
+        requires key { key < length columns.old }
+        requires none { HoldsKeys keys.old.present [] }
+        ensures taken { (rest : List Record) → IsLeft R.remaining self.old.reader rest
+            → TakesAll self.old.declared.now self.old.order.columns.items key most rest columns.old columns.new result }
+    {
+        for row in 0..most {
+            if !self.next_row(row, columns)? {
+                return Ok(());
+            }
+            if !keys.insert(last_value(alloc, &columns[key])?)? {
+                return Err(LoadFault::Table(TableFault::KeyTwice { row }));
+            }
+        }
+        if self.has_more()? {
+            return Err(LoadFault::Table(TableFault::TooManyRows));
+        }
+        Ok(())
     }
 
     /// Puts the rows of all records behind the last rows. No two rows have the same key, unless it
@@ -293,18 +366,9 @@ impl<R: Read> Rows<'_, R> {
             → TakesAll self.old.declared.now self.old.order.columns.items key most rest columns.old columns.new result }
     {
         let mut keys = Keys::new(alloc);
-        for row in 0..most {
-            if !self.next_row(row, columns)? {
-                return Ok(());
-            }
-            if !keys.insert(last_value(alloc, &columns[key])?)? {
-                return Err(LoadFault::Table(TableFault::KeyTwice { row }));
-            }
-        }
-        if self.has_more()? {
-            return Err(LoadFault::Table(TableFault::TooManyRows));
-        }
-        Ok(())
+        let added = self.add_keyed_rows(alloc, key, most, &mut keys, columns);
+        drop(keys);
+        added
     }
 
     /// The columns of all records, of which no two have the same key, and of which there are at

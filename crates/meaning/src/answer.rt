@@ -7,7 +7,7 @@ use crate::sequence::Sequence;
 use crate::value::{Row, Value};
 
 /// Arithmetic that failed: the row of the fact table, and the fault's code.
-#[derive(Clone, Copy, Debug, PartialEq, Eq, Drop)]
+#[derive(Clone, Copy, PartialEq, Eq, Drop)]
 pub struct RowFault {
     pub row: u64,
     pub code: u8,

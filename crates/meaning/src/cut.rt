@@ -14,7 +14,7 @@ pub const MAX_FRAGMENTS: usize = 4_096;
 pub const MAX_FRAGMENT_ROWS: u32 = 1_048_576;
 
 /// How many rows of the fact table each fragment has, in the order of the fragments.
-#[derive(Debug, Drop)]
+#[derive(Drop)]
 pub struct Cut {
     lengths: Sequence<u32>,
 }

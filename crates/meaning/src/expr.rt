@@ -3,7 +3,7 @@ use crate::sequence::Sequence;
 use crate::text::Text;
 use crate::value::Value;
 
-#[derive(Clone, Copy, Debug, PartialEq, Eq)]
+#[derive(Clone, Copy)]
 pub enum ArithmeticOperator {
     Add,
     Subtract,
@@ -11,7 +11,7 @@ pub enum ArithmeticOperator {
     Divide,
 }
 
-#[derive(Clone, Copy, Debug, PartialEq, Eq)]
+#[derive(Clone, Copy)]
 pub enum ComparisonOperator {
     Equal,
     NotEqual,

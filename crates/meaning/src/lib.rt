@@ -9,14 +9,8 @@ pub mod boxed;
 pub mod catalog;
 pub mod catalog_line;
 pub mod catalog_tables;
-#[cfg(test)]
-mod catalog_tests;
 pub mod cut;
-#[cfg(test)]
-mod cut_tests;
 pub mod eval;
-#[cfg(test)]
-mod eval_tests;
 pub mod expr;
 pub mod joined_row;
 pub mod laws;

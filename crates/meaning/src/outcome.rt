@@ -4,7 +4,7 @@ ghost use Rattle.meaning.specs.Operators.{code_of};
 use crate::value::Value;
 
 /// The three truths of SQL.
-#[derive(Clone, Copy, Debug, PartialEq, Eq)]
+#[derive(Clone, Copy)]
 pub enum Truth {
     False,
     Unknown,
@@ -12,7 +12,7 @@ pub enum Truth {
 }
 
 /// A fault of arithmetic.
-#[derive(Clone, Copy, Debug, PartialEq, Eq)]
+#[derive(Clone, Copy)]
 pub enum Fault {
     Overflow,
     DivisionByZero,
@@ -31,7 +31,7 @@ impl Fault {
 }
 
 /// What an expression gives on one row.
-#[derive(Debug, PartialEq, Eq, Drop)]
+#[derive(Drop)]
 pub enum Outcome {
     Value(Value),
     Truth(Truth),

@@ -35,7 +35,7 @@ pub struct GroupingKey {
 }
 
 /// The aggregate functions. `CountRows` is COUNT(*).
-#[derive(Clone, Copy, Debug, PartialEq, Eq, Drop)]
+#[derive(Clone, Copy, PartialEq, Eq, Drop)]
 pub enum AggregateKind {
     CountRows,
     Count,

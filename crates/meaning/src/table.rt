@@ -1,22 +1,22 @@
 use thiserror::Error;
 
 /// Why the records of a CSV file are no table of a declaration. Rows count from 0 behind the header, columns by their place
-/// in the catalogue from 0.
-#[derive(Clone, Copy, Debug, PartialEq, Eq, Error)]
+/// in the catalogue from 0. Its text says what is wrong, its fields where.
+#[derive(Clone, Copy, Debug, Error)]
 pub enum TableFault {
     #[error("the header does not have each declared column once")]
     Header,
-    #[error("row {row} does not have a field for each column")]
+    #[error("a row does not have a field for each column")]
     FieldCount { row: u64 },
-    #[error("row {row}, column {column}: not an integer of 64 bits")]
+    #[error("a field is not an integer of 64 bits")]
     NotAnInteger { row: u64, column: u64 },
-    #[error("row {row}, column {column}: NULL is not allowed")]
+    #[error("a field is NULL, which its column does not allow")]
     NullNotAllowed { row: u64, column: u64 },
-    #[error("row {row}, column {column}: a text of over 65,535 bytes")]
+    #[error("a field is a text of over 65,535 bytes")]
     TextTooLong { row: u64, column: u64 },
-    #[error("row {row}, column {column}: not UTF-8")]
+    #[error("a field is not UTF-8")]
     NotUtf8 { row: u64, column: u64 },
-    #[error("row {row} has the key of an earlier row")]
+    #[error("a row has the key of an earlier row")]
     KeyTwice { row: u64 },
     #[error("too many rows")]
     TooManyRows,

@@ -14,7 +14,7 @@ pub enum ColType {
 }
 
 /// What stands in one column of one row. The order is the whole order: NULL, integers by number, texts by their bytes.
-#[derive(Clone, Debug, Eq, PartialOrd, Ord, Drop)]
+#[derive(Clone, Eq, PartialOrd, Ord, Drop)]
 pub enum Value {
     Null,
     Int(i64),
@@ -22,7 +22,7 @@ pub enum Value {
 }
 
 /// A value that is lent: a text is a slice of bytes in UTF-8 that stand elsewhere.
-#[derive(Clone, Copy, Debug)]
+#[derive(Clone, Copy)]
 pub enum ValueRef<'a> {
     Null,
     Int(i64),

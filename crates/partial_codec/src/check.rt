@@ -21,6 +21,7 @@ use crate::shape::{AggregateShape, is_same_aggregate, shape_of_aggregate};
 use meaning::answer::{Answer, Body, Group, Statistics};
 use meaning::plan::{Aggregate, AggregateKind, Plan};
 use meaning::sequence::Sequence;
+use std::mem::drop;
 
 /// Whether the plan has no keys, and just this aggregate.
 fn has_shape(plan: &Plan, aggregate: AggregateShape) -> bool
@@ -178,13 +179,13 @@ pub fn is_shape_of(job: &Job, aggregate: AggregateShape) -> bool
     has_shape(job.plan(), aggregate)
 }
 
-/// The answer, where the fields are those of one for the job.
+/// The first thing in which the fields are not those of an answer for the job.
 #[tactic(auto, unfolding(crate::specs::Answer::held_against))]
-pub fn hold_against(job: &Job, layout: Layout<'_>) -> Result<Answer, DecodeFault>
+fn check_layout(job: &Job, layout: &Layout<'_>) -> Result<(), DecodeFault>
     // What was read by the plan's shape has its types.
-    requires { is_same_shape (one_aggregate layout.aggregate) (shape_of job.now.plan) ≡ true
-        → fitting.is_shaped job.now.plan (Groups layout.groups.items) ≡ true }
-    ensures { Reads (λ a. a) result (held_against job.now (layout_in layout.entry)) }
+    requires { is_same_shape (one_aggregate layout.now.aggregate) (shape_of job.now.plan) ≡ true
+        → fitting.is_shaped job.now.plan (Groups layout.now.groups.items) ≡ true }
+    ensures { Reads (λ _. record { k = layout.now.k; body = Groups layout.now.groups.items }) result (held_against job.now (layout_in layout.now)) }
 {
     if layout.job.load != job.load() {
         return Err(DecodeFault::OtherLoad);
@@ -204,9 +205,25 @@ pub fn hold_against(job: &Job, layout: Layout<'_>) -> Result<Answer, DecodeFault
     if !are_numbers_of_fragment(job, layout.k, &layout.groups) {
         return Err(DecodeFault::Numbers);
     }
-    let Layout { k, groups, .. } = layout;
-    Ok(Answer {
-        k,
-        body: Body::Groups(Sequence::from_vec(groups)),
-    })
+    Ok(())
+}
+
+/// The answer, where the fields are those of one for the job.
+pub fn hold_against(job: &Job, layout: Layout<'_>) -> Result<Answer, DecodeFault>
+    // What was read by the plan's shape has its types.
+    requires { is_same_shape (one_aggregate layout.aggregate) (shape_of job.now.plan) ≡ true
+        → fitting.is_shaped job.now.plan (Groups layout.groups.items) ≡ true }
+    ensures { Reads (λ a. a) result (held_against job.now (layout_in layout.entry)) }
+{
+    match check_layout(job, &layout) {
+        Ok(()) => {
+            let Layout { k, groups, .. } = layout;
+            let body = Body::Groups(Sequence::from_vec(groups));
+            Ok(Answer { k, body })
+        }
+        Err(fault) => {
+            drop(layout);
+            Err(fault)
+        }
+    }
 }

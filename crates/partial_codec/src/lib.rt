@@ -17,8 +17,6 @@ mod shape;
 mod state;
 mod state_check;
 mod state_fields;
-#[cfg(test)]
-mod state_tests;
 
 pub use decoding::decode;
 pub use encoding::encode;
@@ -27,6 +25,3 @@ pub use job::Job;
 pub use laws::{one_answer, one_spelling, one_state, one_state_spelling};
 pub use meaning::answer::{Answer, Body, Cell};
 pub use state::{decode_state, encode_state};
-
-#[cfg(test)]
-mod tests;

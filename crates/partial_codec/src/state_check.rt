@@ -14,6 +14,7 @@ use crate::job::Job;
 use crate::state_fields::StateLayout;
 use meaning::answer::{Body, Cell, RowFault};
 use meaning::plan::Plan;
+use std::mem::drop;
 
 fn is_cut_of(job: &Job, cut: &[u32]) -> bool
     ensures { result ≡ same_bytes cut.now job.now.cut }
@@ -83,15 +84,13 @@ fn check_cells(job: &Job, cells: &[Cell]) -> Result<(), DecodeFault>
     Ok(())
 }
 
-/// The cells, where the fields are those of a state for the job.
+/// The first thing in which the fields are not those of a state for the job.
 #[tactic(auto, unfolding(crate::specs::State::state_held_against))]
-pub fn hold_state_against(job: &Job, layout: StateLayout<'_>) -> Result<Vec<Cell>, DecodeFault>
-    // There is a cell for each fragment of the cut that was read.
-    requires fragments { length layout.cells.items ≡ length layout.job.cut.items }
-    // What was read by the plan's shape has its types.
-    requires shaped { is_same_shape (one_aggregate layout.aggregate) (shape_of job.now.plan) ≡ true
-        → list_all (is_cell_shaped job.now.plan) layout.cells.items ≡ true }
-    ensures { Reads (λ cells. cells.items) result (state_held_against job.now (state_layout_in layout.entry)) }
+fn check_state(job: &Job, layout: &StateLayout<'_>) -> Result<(), DecodeFault>
+    requires fragments { length layout.now.cells.items ≡ length layout.now.job.cut.items }
+    requires shaped { is_same_shape (one_aggregate layout.now.aggregate) (shape_of job.now.plan) ≡ true
+        → list_all (is_cell_shaped job.now.plan) layout.now.cells.items ≡ true }
+    ensures { Reads (λ _. layout.now.cells.items) result (state_held_against job.now (state_layout_in layout.now)) }
 {
     if layout.job.load != job.load() {
         return Err(DecodeFault::OtherLoad);
@@ -105,6 +104,26 @@ pub fn hold_state_against(job: &Job, layout: StateLayout<'_>) -> Result<Vec<Cell
     if !is_shape_of(job, layout.aggregate) {
         return Err(DecodeFault::Shape);
     }
-    check_cells(job, &layout.cells)?;
-    Ok(layout.cells)
+    check_cells(job, &layout.cells)
+}
+
+/// The cells, where the fields are those of a state for the job.
+pub fn hold_state_against(job: &Job, layout: StateLayout<'_>) -> Result<Vec<Cell>, DecodeFault>
+    // There is a cell for each fragment of the cut that was read.
+    requires fragments { length layout.cells.items ≡ length layout.job.cut.items }
+    // What was read by the plan's shape has its types.
+    requires shaped { is_same_shape (one_aggregate layout.aggregate) (shape_of job.now.plan) ≡ true
+        → list_all (is_cell_shaped job.now.plan) layout.cells.items ≡ true }
+    ensures { Reads (λ cells. cells.items) result (state_held_against job.now (state_layout_in layout.entry)) }
+{
+    match check_state(job, &layout) {
+        Ok(()) => {
+            let StateLayout { cells, .. } = layout;
+            Ok(cells)
+        }
+        Err(fault) => {
+            drop(layout);
+            Err(fault)
+        }
+    }
 }

@@ -8,3 +8,4 @@ pub mod Whole
 pub mod Names
 pub mod ReadBack
 pub mod Obstacles
+pub mod WorkedTokens

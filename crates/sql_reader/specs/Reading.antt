@@ -112,6 +112,14 @@ ended end (p ∷ ps) = Err (refusal p.terminal p.place)
 unfoldable pub ending_at : ℕ → List Placed → Result (Unit {0}) SqlFault
 ending_at end ps = if heads (is_sign sign.Semicolon) ps then ended end (drop 1 ps) else ended end ps
 
+-- `FROM table [;]` behind an item: the query that they make together
+abbrev pub query_from : Expr → ℕ → List Placed → Result Query SqlFault
+query_from item end ps = do
+  from ← behind (is_keyword keyword.From) end ps
+  table ← name_at end from
+  rest ← ending_at end table.1
+  Ok (query_of item table.0)
+
 -- `SELECT item FROM table [;]`
 unfoldable pub query_at : ℕ → List Placed → Result Query SqlFault
 query_at end ps = do

@@ -14,6 +14,3 @@ pub mod tree;
 pub use fault::SqlFault;
 pub use printing::print;
 pub use reading::read;
-
-#[cfg(test)]
-mod tests;

@@ -2,7 +2,8 @@ ghost use Rattle.std.specs.Prelude.{◌≡◌, IfOk};
 ghost use Rattle.sql_reader.specs.Words.{lower};
 ghost use Rattle.sql_reader.specs.Tokens.{all_placed, terminal_of};
 ghost use Rattle.sql_reader.specs.Grammar.{refusal, refusal_at, sum_column, query_of};
-ghost use Rattle.sql_reader.specs.Reading.{Gives, Tells, is_keyword, is_sign, behind, name_at, rows_at, sum_at, item_at, ended, ending_at, query_at};
+ghost use Rattle.sql_reader.specs.declared.tree.Expr.{Expr};
+ghost use Rattle.sql_reader.specs.Reading.{Gives, Tells, is_keyword, is_sign, behind, name_at, rows_at, sum_at, item_at, ended, ending_at, query_at, query_from};
 
 use crate::fault::SqlFault;
 use crate::keyword::Keyword;
@@ -12,6 +13,7 @@ use meaning::boxed::Boxed;
 use meaning::sequence::Sequence;
 use meaning::text::Text;
 use std::alloc::{AllocError, Global};
+use std::mem::drop;
 
 /// Reads the tokens of a text that has `end` bytes. Each method gives what is left behind the tokens that it took.
 #[derive(Clone, Copy)]
@@ -28,10 +30,23 @@ impl Parser {
     {
         let rest = self.behind_keyword(lexemes, Keyword::Select)?;
         let (expr, rest) = self.item(rest)?;
-        let rest = self.behind_keyword(rest, Keyword::From)?;
+        match self.source(rest) {
+            Ok(table) => Ok(query_of(self.alloc, expr, table)?),
+            Err(fault) => {
+                drop(expr);
+                Err(fault)
+            }
+        }
+    }
+
+    /// `FROM table [;]`, of which the table's name is kept.
+    fn source(&self, lexemes: &[Lexeme<'_>]) -> Result<Text, SqlFault>
+        ensures { (item : Expr) → Gives (query_of item) result (query_from item self.now.end (all_placed lexemes.now)) }
+    {
+        let rest = self.behind_keyword(lexemes, Keyword::From)?;
         let (table, rest) = self.name(rest)?;
         self.ending(rest)?;
-        Ok(query_of(self.alloc, expr, table)?)
+        Ok(table)
     }
 
     /// `COUNT ( * )` or `SUM ( column )`

@@ -1,6 +1,6 @@
 use crate::keyword::Keyword;
 
-#[derive(Clone, Copy, Debug, PartialEq, Eq)]
+#[derive(Clone, Copy, PartialEq, Eq)]
 pub enum Sign {
     Open,
     Close,
@@ -20,7 +20,7 @@ pub enum Sign {
 }
 
 /// A token, or what stands where no token can be read.
-#[derive(Clone, Copy, Debug)]
+#[derive(Clone, Copy)]
 pub enum Token<'a> {
     Keyword(Keyword),
     /// As it is written, in whatever case.
@@ -39,7 +39,7 @@ pub enum Token<'a> {
 }
 
 /// A token and its place: how many bytes of the text stand before it.
-#[derive(Clone, Copy, Debug)]
+#[derive(Clone, Copy)]
 pub struct Lexeme<'a> {
     pub token: Token<'a>,
     pub place: usize,

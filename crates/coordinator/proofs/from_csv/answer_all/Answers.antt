@@ -9,16 +9,13 @@ use Rattle.coordinator.specs.Fragment.{AreFragments}
 use Rattle.coordinator.specs.Gathering.{GatherSpec}
 use Rattle.coordinator.proofs.from_csv.answer_all.Goals as goal
 
--- the coordinator's job
-job_is : (c : goal.In_ok-answer_fragments) → c.in_ok-gather.gather.job ≡ record { load = 0; plan = c.args.plan; cut = c.args.cut.now }
-job_is c = ap (λ (g : GatherSpec). g.job) c.in_ok-gather.ensures ∙ c.new-job.ensures ∙ ap (λ (cut : Cut). record { load = 0; plan = c.args.plan; cut = cut }) c.in_ok-copy_cut.ensures.value
-
-pub returns-clause-state : goal.returns-clause-state
-returns-clause-state c = λ declared rows are.
-    let job = c.in_ok-answer_fragments.ensures.same ∙ job_is c in
-    let plan : c.in_ok-gather.gather.job.plan ≡ c.args.plan = ap (λ (j : JobSpec). j.plan) (job_is c) in
+pub returns-in-Ok-clause-state : goal.returns-in-Ok-clause-state
+returns-in-Ok-clause-state c = λ declared rows are.
+    let job_is = ap (λ (g : GatherSpec). g.job) c.in_ok-gather.ensures.value in
+    let job = c.in-Ok.ensures.same ∙ job_is in
+    let plan : c.in_ok-gather.gather.job.plan ≡ c.args.plan = ap (λ (j : JobSpec). j.plan) job_is in
     let fragments = c.args.fragments.now in
     let own = subst (λ (p : Plan). AreFragments p declared rows c.lengths.result.now fragments) (sym plan) (subst (λ (cut : Cut). AreFragments c.args.plan declared rows cut fragments) (sym c.lengths.ensures.value) are) in
-    let cells = c.in_ok-answer_fragments.ensures.taken declared rows own
+    let cells = c.in-Ok.ensures.taken declared rows own
     ∙ (λ i. joined (c.lengths.ensures.value i) (own_answers (plan i) [] (c.lengths.ensures.value i) rows (range_with_len 0 (length (c.lengths.ensures.value i))))) in
     λ i. record { job = job i; cells = cells i }

@@ -2,8 +2,8 @@ use Rattle.std.proofs.Common.{rules, sym, ⊎_elim}
 use Rattle.coordinator.proofs.Loans.{gave_back}
 use Rattle.coordinator.proofs.printing.print_rows.Goals as goal
 
-pub returns-in-Ok : goal.returns-in-Ok
-returns-in-Ok g c =
+pub returns-in-Ok-into_inner : goal.returns-in-Ok-into_inner
+returns-in-Ok-into_inner g c =
     let fresh = c.from_writer-writer.ensures in
     ⊎_elim (λ unknown. rw unknown tt) (λ known. let loan = sym known.0 in let bytes = known.1 in search rules)
-    (gave_back g.W.Write.contents c.from_writer-writer.result c.write_rows.new.writer _ c.in-Ok.field-0 _ fresh.wtr fresh.empty c.in_ok-write_rows.ensures c.in-Ok.ensures.ok)
+    (gave_back g.W.Write.contents c.from_writer-writer.result c.write_rows.new.writer _ c.in-Ok-into_inner.field-0 _ fresh.wtr fresh.empty c.in-Ok.ensures c.in-Ok-into_inner.ensures.ok)

@@ -1,0 +1,158 @@
+// Jobs that words tell: the number of a load, a cut, what is asked of each fragment, and the text of the query.
+ghost use Rattle.std.specs.Prelude.{◌≡◌, ◌≤◌, ◌∷◌, [], length, IfOk, IfSome};
+ghost use Rattle.partial_codec.specs.Job.{IsPlanOfJob};
+ghost use Rattle.coordinator.specs.Single.{IsSingle, aggregate_of, only_item, with_parts};
+
+use meaning::cut::Cut;
+use meaning::expr::Expr;
+use meaning::plan::{Aggregate, AggregateKind, Item, Plan, TableUse};
+use meaning::sequence::Sequence;
+use meaning::text::Text;
+use meaning::value::{ColType, Value};
+use partial_codec::Job;
+use std::alloc::{AllocError, Global};
+use std::mem::drop;
+
+/// The most bytes of a query's text.
+const MAX_TEXT: usize = 65_535;
+
+/// What is told where words tell no job.
+pub const NO_JOB: &str = "(no job: a load, a cut, count or sum, and a text)\n";
+
+fn lengths_of(alloc: Global, word: &str) -> Result<Option<Vec<u32>>, AllocError> {
+    let mut lengths = Vec::new(alloc);
+    for digits in word.split(',') {
+        let Ok(length) = digits.parse::<u32>() else {
+            return Ok(None);
+        };
+        lengths.push(length)?;
+    }
+    Ok(Some(lengths))
+}
+
+/// The cut of fragments with so many rows, as in `2,3`.
+pub fn cut_of(alloc: Global, word: &str) -> Result<Option<Cut>, AllocError> {
+    match lengths_of(alloc, word)? {
+        Some(lengths) => Ok(Cut::new(lengths).ok()),
+        None => Ok(None),
+    }
+}
+
+fn aggregate_of(summed: Option<usize>) -> Aggregate
+    ensures { result ≡ aggregate_of summed }
+{
+    let (kind, argument) = match summed {
+        Some(place) => (AggregateKind::Sum, Expr::Column(place)),
+        None => (AggregateKind::CountRows, Expr::Literal(Value::Int(1))),
+    };
+    Aggregate {
+        kind,
+        argument,
+        col_type: ColType::Int,
+    }
+}
+
+fn only_parts(
+    alloc: Global,
+    summed: Option<usize>,
+) -> Result<(Sequence<Aggregate>, Sequence<Item>), AllocError>
+    ensures aggregate { IfOk result (λ parts. parts.0 ≡ aggregate_of summed ∷ []) }
+    ensures item { IfOk result (λ parts. parts.1 ≡ only_item ∷ []) }
+{
+    let header = Text::new(alloc, "c1")?;
+    let mut items = Sequence::new(alloc);
+    items.push(Item {
+        header,
+        expr: Expr::Aggregate(0),
+    })?;
+    let mut aggs = Sequence::new(alloc);
+    aggs.push(aggregate_of(summed))?;
+    Ok((aggs, items))
+}
+
+fn with_parts(
+    alloc: Global,
+    text: Text,
+    name: Text,
+    aggs: Sequence<Aggregate>,
+    items: Sequence<Item>,
+) -> Plan
+    ensures { result ≡ with_parts text (record { name = name; columns = [] }) aggs items }
+{
+    Plan {
+        text,
+        fact: TableUse {
+            name,
+            columns: Sequence::new(alloc),
+        },
+        joins: Sequence::new(alloc),
+        conjuncts: Sequence::new(alloc),
+        keys: Sequence::new(alloc),
+        aggs,
+        having: None,
+        items,
+        order: Sequence::new(alloc),
+        limit: None,
+        plain: false,
+    }
+}
+
+fn plan_of(alloc: Global, text: &str, summed: Option<usize>) -> Result<Plan, AllocError>
+    requires { length text.now ≤ 65535 }
+    ensures single { IfOk result IsSingle }
+    ensures job { IfOk result IsPlanOfJob }
+{
+    let text = Text::new(alloc, text)?;
+    let name = Text::new(alloc, "t")?;
+    match only_parts(alloc, summed) {
+        Ok((aggs, items)) => Ok(with_parts(alloc, text, name, aggs, items)),
+        Err(e) => Err(e),
+    }
+}
+
+fn job_over(
+    alloc: Global,
+    load: u64,
+    cut: Cut,
+    summed: Option<usize>,
+    text: &str,
+) -> Result<Job, AllocError>
+    requires { length text.now ≤ 65535 }
+    ensures { IfOk result (λ job. IsSingle job.plan) }
+{
+    match plan_of(alloc, text, summed) {
+        Ok(plan) => Ok(Job::new(load, plan, cut)),
+        Err(e) => {
+            drop(cut);
+            Err(e)
+        }
+    }
+}
+
+// The place of the column that is summed, where one is.
+fn summed_by(word: &str) -> Option<Option<usize>> {
+    match word {
+        "count" => Some(None),
+        "sum" => Some(Some(0)),
+        _ => None,
+    }
+}
+
+/// The job that the words tell, as in `7 2,3 count "SELECT COUNT(*) FROM sales"`.
+pub fn job_of(alloc: Global, words: &[&str]) -> Result<Option<Job>, AllocError>
+    ensures { IfOk result (λ found. IfSome found (λ job. IsSingle job.plan)) }
+{
+    let [load, cut, kind, text] = words else {
+        return Ok(None);
+    };
+    let (Ok(load), Some(summed)) = (load.parse::<u64>(), summed_by(kind)) else {
+        return Ok(None);
+    };
+    if text.len() > MAX_TEXT {
+        return Ok(None);
+    }
+    match cut_of(alloc, cut)? {
+        Some(cut) => Ok(Some(job_over(alloc, load, cut, summed, text)?)),
+        None => Ok(None),
+    }
+}

@@ -1,0 +1,141 @@
+use crate::jobs::cut_of;
+use case_files::lines::tell_printed;
+use case_files::stored::{StoredFile, find};
+use coordinator::{Ended, Gather, WholeFault, whole};
+use meaning::cut::Cut;
+use std::alloc::{AllocError, Global};
+use std::fmt::Write;
+use std::mem::drop;
+
+// What a query asks of the tables of a folder.
+#[derive(Clone, Copy)]
+struct Asked<'a> {
+    folder: &'a str,
+    cut: &'a str,
+    vector_len: usize,
+    query: &'a str,
+}
+
+fn asked_by<'a>(words: &[&'a str]) -> Option<Asked<'a>> {
+    let [folder, cut, vector_len, query] = words else {
+        return None;
+    };
+    let vector_len = vector_len.parse::<usize>().ok()?;
+    Some(Asked {
+        folder,
+        cut,
+        vector_len,
+        query,
+    })
+}
+
+// The table whose CSV file in the folder has this path.
+fn table_of<'a>(folder: &str, path: &'a str) -> Option<&'a str> {
+    let name = path.strip_prefix(folder)?.strip_prefix("/")?;
+    name.strip_suffix(".csv")
+}
+
+fn catalog_of<'a>(
+    alloc: Global,
+    folder: &str,
+    files: &'a [StoredFile],
+) -> Result<&'a [u8], AllocError> {
+    let path = format!(in alloc; "{folder}/catalog.txt")?;
+    Ok(find(files, path.as_str()).unwrap_or(&[]))
+}
+
+fn csvs_of<'a>(
+    alloc: Global,
+    folder: &str,
+    files: &'a [StoredFile],
+) -> Result<Vec<(&'a str, &'a [u8])>, AllocError> {
+    let mut csvs = Vec::new(alloc);
+    for file in files.iter().rev() {
+        if let Some(table) = table_of(folder, file.path.as_str()) {
+            csvs.push((table, file.bytes.as_slice()))?;
+        }
+    }
+    Ok(csvs)
+}
+
+fn refusal_line(alloc: Global, fault: &WholeFault) -> Result<String, AllocError> {
+    match fault {
+        WholeFault::Memory => String::from_str(alloc, "refused for want of memory\n"),
+        WholeFault::Catalog(fault) => format!(in alloc; "refused catalog {}\n", fault.number()),
+        WholeFault::Sql(fault) => format!(in alloc; "refused sql {}\n", fault.number()),
+        WholeFault::Plan(fault) => format!(in alloc; "refused plan {}\n", fault.number()),
+        WholeFault::MissingCsv(table) => {
+            format!(in alloc; "refused, no CSV of {}\n", table.as_str())
+        }
+        WholeFault::Load(fault) => format!(in alloc; "refused load {}\n", fault.number()),
+        WholeFault::VectorLength => String::from_str(alloc, "refused, vector length\n"),
+        WholeFault::Writer => String::from_str(alloc, "refused by the writer\n"),
+    }
+}
+
+fn tell_held(alloc: Global, gather: &Gather, told: &mut String) -> Result<(), AllocError> {
+    match gather.state_bytes(alloc) {
+        Ok(bytes) => writeln!(told, "state of {} bytes", bytes.len()),
+        Err(fault) => writeln!(told, "refused {}", fault.number()),
+    }
+}
+
+fn tell_ended(
+    alloc: Global,
+    printed: &[u8],
+    ended: Ended,
+    gather: &Gather,
+) -> Result<String, AllocError> {
+    let mut told = String::new(alloc);
+    tell_printed(alloc, &mut told, "out", printed)?;
+    told.push_str(match ended {
+        Ended::Rows => "rows, ",
+        Ended::Fault => "fault, ",
+    })?;
+    tell_held(alloc, gather, &mut told)?;
+    Ok(told)
+}
+
+fn tell_over(
+    alloc: Global,
+    asked: Asked<'_>,
+    cut: &Cut,
+    files: &[StoredFile],
+) -> Result<String, AllocError> {
+    let catalog = catalog_of(alloc, asked.folder, files)?;
+    let csvs = csvs_of(alloc, asked.folder, files)?;
+    let query = asked.query.as_bytes();
+    let mut out = Vec::new(alloc);
+    match whole(
+        alloc,
+        catalog,
+        csvs.as_slice(),
+        query,
+        cut,
+        asked.vector_len,
+        &mut out,
+    ) {
+        Ok((ended, gather)) => {
+            let told = tell_ended(alloc, out.as_slice(), ended, &gather);
+            drop(gather);
+            told
+        }
+        Err(fault) => {
+            let told = refusal_line(alloc, &fault);
+            drop(fault);
+            told
+        }
+    }
+}
+
+/// What a query over the CSV files of a folder prints and how it ends, or its refusal. The words are the folder, the
+/// rows of each fragment, the vectors' length and the query.
+pub fn tell(alloc: Global, words: &[&str], files: &[StoredFile]) -> Result<String, AllocError> {
+    let Some(asked) = asked_by(words) else {
+        return String::from_str(alloc, "(a folder, a cut, a vector's length and a query)\n");
+    };
+    match cut_of(alloc, asked.cut)? {
+        Some(cut) => tell_over(alloc, asked, &cut, files),
+        None => String::from_str(alloc, "(no cut)\n"),
+    }
+}

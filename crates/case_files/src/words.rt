@@ -1,0 +1,90 @@
+use crate::escapes::unescape;
+use std::alloc::{AllocError, Global};
+use std::mem;
+
+/// A word of a line, without its quotes.
+#[derive(Drop)]
+pub struct Word {
+    pub text: String,
+    pub is_quoted: bool,
+}
+
+#[derive(Clone, Copy, PartialEq, Eq)]
+enum Place {
+    Between,
+    Bare,
+    Quoted,
+    // Behind a backslash within quotes.
+    Escaped,
+}
+
+#[derive(Drop)]
+struct Splitter {
+    alloc: Global,
+    words: Vec<Word>,
+    // What was read of the word that isn't ended.
+    raw: String,
+    place: Place,
+}
+
+impl Splitter {
+    // Within quotes a byte that is no text's is read as the sign for such.
+    fn end(&mut self) -> Result<(), AllocError> {
+        let is_quoted = self.place == Place::Quoted;
+        let raw = mem::replace(&mut self.raw, String::new(self.alloc));
+        let text = if is_quoted {
+            unquoted(self.alloc, raw.as_str())?
+        } else {
+            raw
+        };
+        self.place = Place::Between;
+        self.words.push(Word { text, is_quoted })?;
+        Ok(())
+    }
+
+    fn take(&mut self, letter: char) -> Result<(), AllocError> {
+        match (self.place, letter) {
+            (Place::Between, ' ') => Ok(()),
+            (Place::Between, '"') => {
+                self.place = Place::Quoted;
+                Ok(())
+            }
+            (Place::Bare, ' ') | (Place::Quoted, '"') => self.end(),
+            (place, letter) => {
+                self.place = behind(place, letter);
+                self.raw.push(letter)
+            }
+        }
+    }
+}
+
+fn behind(place: Place, letter: char) -> Place {
+    match place {
+        Place::Between | Place::Bare => Place::Bare,
+        Place::Quoted if letter == '\\' => Place::Escaped,
+        Place::Quoted | Place::Escaped => Place::Quoted,
+    }
+}
+
+fn unquoted(alloc: Global, raw: &str) -> Result<String, AllocError> {
+    let mut bytes = Vec::new(alloc);
+    unescape(raw, &mut bytes)?;
+    String::from_utf8_lossy(alloc, bytes.as_slice())
+}
+
+/// The words of a line. They stand apart by blanks; one in double quotes may have blanks and escapes in it.
+pub fn words(alloc: Global, line: &str) -> Result<Vec<Word>, AllocError> {
+    let mut splitter = Splitter {
+        alloc,
+        words: Vec::new(alloc),
+        raw: String::new(alloc),
+        place: Place::Between,
+    };
+    for letter in line.chars() {
+        splitter.take(letter)?;
+    }
+    if splitter.place != Place::Between {
+        splitter.end()?;
+    }
+    Ok(splitter.words)
+}

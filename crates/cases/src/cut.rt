@@ -1,0 +1,82 @@
+use crate::refusals::refusal_line;
+use cli::Refusal;
+use meaning::cut::{Cut, CutFault};
+use std::alloc::{AllocError, Global};
+use std::fmt::Write;
+
+fn tell_run(told: &mut String, count: usize, length: u32) -> Result<(), AllocError> {
+    match count {
+        0 => Ok(()),
+        1 => writeln!(told, "{length}"),
+        count => writeln!(told, "*{count} {length}"),
+    }
+}
+
+fn lengths_told(alloc: Global, lengths: &[u32]) -> Result<String, AllocError> {
+    let mut told = String::new(alloc);
+    let (mut count, mut last) = (0usize, 0u32);
+    for length in lengths {
+        if count == 0 || *length != last {
+            tell_run(&mut told, count, last)?;
+            count = 0;
+            last = *length;
+        }
+        count = count.saturating_add(1);
+    }
+    tell_run(&mut told, count, last)?;
+    Ok(told)
+}
+
+fn told(alloc: Global, cut: Result<Cut, CutFault>) -> Result<String, AllocError> {
+    match cut {
+        Ok(cut) => lengths_told(alloc, cut.lengths()),
+        Err(fault) => refusal_line(alloc, &Refusal::Cut(fault)),
+    }
+}
+
+// A length, or how often it stands in a row and the length.
+fn run_of(line: &str) -> Option<(usize, u32)> {
+    match line.strip_prefix('*') {
+        Some(rest) => {
+            let (count, length) = rest.split_once(' ')?;
+            Some((count.parse::<usize>().ok()?, length.parse::<u32>().ok()?))
+        }
+        None => Some((1, line.parse::<u32>().ok()?)),
+    }
+}
+
+fn lengths_of(alloc: Global, lines: &str) -> Result<Option<Vec<u32>>, AllocError> {
+    let mut lengths = Vec::new(alloc);
+    for line in lines.lines() {
+        let Some((count, length)) = run_of(line) else {
+            return Ok(None);
+        };
+        for _ in 0..count {
+            lengths.push(length)?;
+        }
+    }
+    Ok(Some(lengths))
+}
+
+fn tell_even(alloc: Global, rows: &str, length: &str) -> Result<String, AllocError> {
+    match (rows.parse::<u64>(), length.parse::<u32>()) {
+        (Ok(rows), Ok(length)) if length > 0 => told(alloc, Cut::even(alloc, rows, length)),
+        _ => String::from_str(alloc, "(no numbers of rows)\n"),
+    }
+}
+
+fn tell_given(alloc: Global, lines: &str) -> Result<String, AllocError> {
+    match lengths_of(alloc, lines)? {
+        Some(lengths) => told(alloc, Cut::new(lengths)),
+        None => String::from_str(alloc, "(no numbers of rows)\n"),
+    }
+}
+
+/// The cut into fragments of the numbers of rows that the lines say, or the even cut by the two numbers behind `even`:
+/// its numbers of rows, or the line of its refusal. A line `*3 5` is the number 5 three times.
+pub fn tell(alloc: Global, words: &[&str], body: &str) -> Result<String, AllocError> {
+    match words {
+        ["even", rows, length] => tell_even(alloc, rows, length),
+        _ => tell_given(alloc, body),
+    }
+}

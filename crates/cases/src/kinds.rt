@@ -1,0 +1,87 @@
+use crate::{catalog, cut, program, sql};
+use answer_cases::{answers, gathers, wholes};
+use case_files::byte_lines::bytes_of;
+use case_files::escapes::escaped_bytes;
+use case_files::stored::{StoredFile, find};
+use std::alloc::{AllocError, Global};
+use storage_cases::storage;
+
+fn tell_unknown(alloc: Global, word: &str) -> Result<String, AllocError> {
+    format!(in alloc; "(no record is of the kind {word})\n")
+}
+
+fn tell_kind(
+    alloc: Global,
+    kind: &str,
+    words: &[&str],
+    body: &str,
+    files: &mut Vec<StoredFile>,
+) -> Result<String, AllocError> {
+    match kind {
+        "xcols" => program::tell(alloc, words, files),
+        "sql" => sql::tell(alloc, body),
+        "catalog" => catalog::tell(alloc, words, body),
+        "cut" => cut::tell(alloc, words, body),
+        "answer" => answers::tell(alloc, false, words, body),
+        "state" => answers::tell(alloc, true, words, body),
+        "gather" => gathers::tell(alloc, words, body, files),
+        "whole" => wholes::tell(alloc, words, files.as_slice()),
+        "column"
+        | "block"
+        | "encode"
+        | "choose"
+        | "unpack"
+        | "fragment"
+        | "cut-file"
+        | "write"
+        | "write-cut"
+        | "load"
+        | "count-rows" => { storage::tell(alloc, kind, words, body, files.as_slice()) }
+        _ => tell_unknown(alloc, kind),
+    }
+}
+
+/// What a record's input tells, as lines. Where the words behind the kind begin with `of PATH`, the bytes of that file
+/// are its body, in hexadecimal digits.
+pub fn tell(
+    alloc: Global,
+    head: &[&str],
+    body: &str,
+    files: &mut Vec<StoredFile>,
+) -> Result<String, AllocError> {
+    match head {
+        [kind, "of", path, words @ ..] => {
+            let digits = hex::encode(alloc, find(files.as_slice(), path).unwrap_or(&[]))?;
+            tell_kind(alloc, kind, words, digits.as_str(), files)
+        }
+        [kind, words @ ..] => tell_kind(alloc, kind, words, body, files),
+        [] => tell_unknown(alloc, ""),
+    }
+}
+
+fn file_bytes(alloc: Global, kind: &str, body: &str) -> Result<Option<Vec<u8>>, AllocError> {
+    match kind {
+        "file" => Ok(Some(body.as_bytes().to_vec(alloc)?)),
+        "escaped" => Ok(Some(escaped_bytes(alloc, body)?)),
+        "bytes" => bytes_of(alloc, body),
+        _ => Ok(None),
+    }
+}
+
+/// Puts the file that a record without a wanted text defines, and tells whether it defines one.
+pub fn put_file(
+    alloc: Global,
+    head: &[&str],
+    body: &str,
+    files: &mut Vec<StoredFile>,
+) -> Result<bool, AllocError> {
+    let [kind, path] = head else {
+        return Ok(false);
+    };
+    let Some(bytes) = file_bytes(alloc, kind, body)? else {
+        return Ok(false);
+    };
+    let path = String::from_str(alloc, path)?;
+    files.push(StoredFile { path, bytes })?;
+    Ok(true)
+}

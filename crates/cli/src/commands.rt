@@ -1,0 +1,21 @@
+use meaning::text::Text;
+
+/// What the program is asked to do.
+#[derive(Drop)]
+pub enum Command {
+    /// To answer a query over a folder's tables in memory, with `rows` rows a fragment, at most
+    /// 1,048,576, and `vector` rows a vector, at most 4,096.
+    Whole {
+        folder: Text,
+        query: Text,
+        rows: u32,
+        vector: u32,
+    },
+    /// To load a folder's tables into files that carry the number `load`, with `rows` rows a
+    /// fragment, at most 1,048,576.
+    Load {
+        folder: Text,
+        load: u64,
+        rows: u32,
+    },
+}

@@ -1,0 +1,148 @@
+ghost use Rattle.std.specs.Prelude.{◌≡◌, ◌≢◌, [], IfOk};
+
+use coordinator::PrintFault;
+use coordinator::printing::{print_fault, print_fragments, print_row_fault, print_rows};
+use meaning::answer::RowFault;
+use meaning::expr::Expr;
+use meaning::plan::{Item, Plan, TableUse};
+use meaning::sequence::Sequence;
+use meaning::text::Text;
+use meaning::value::{Row, Value};
+use std::alloc::{AllocError, Global};
+use std::io::Write;
+use std::process::Abort;
+use std::test::Fail;
+
+fn items(alloc: Global, header: &str) -> Result<Sequence<Item>, AllocError>
+    ensures { IfOk result (λ list. list ≢ []) }
+{
+    let item = Item {
+        header: Text::new(alloc, header)?,
+        expr: Expr::Aggregate(0),
+    };
+    let mut list = Sequence::new(alloc);
+    list.push(item)?;
+    Ok(list)
+}
+
+fn plan(alloc: Global, header: &str) -> Result<Plan, AllocError>
+    ensures { IfOk result (λ plan. plan.items ≢ []) }
+{
+    Ok(Plan {
+        text: Text::new(alloc, "")?,
+        fact: TableUse {
+            name: Text::new(alloc, "sales")?,
+            columns: Sequence::new(alloc),
+        },
+        joins: Sequence::new(alloc),
+        conjuncts: Sequence::new(alloc),
+        keys: Sequence::new(alloc),
+        aggs: Sequence::new(alloc),
+        having: None,
+        items: items(alloc, header)?,
+        order: Sequence::new(alloc),
+        limit: None,
+        plain: false,
+    })
+}
+
+fn row(first: Value, others: Vec<Value>) -> Result<Row, AllocError>
+    ensures { IfOk result (λ row. row ≢ []) }
+{
+    let mut values = others;
+    values.insert(0, first)?;
+    Ok(Sequence::from_vec(values))
+}
+
+fn print_one<W: Write>(alloc: Global, header: &str, row: Row, out: &mut W) -> Result<(), PrintFault>
+    requires { row ≢ [] }
+{
+    let plan = plan(alloc, header)?;
+    let rows = [row];
+    print_rows(alloc, &plan, &rows, out)
+}
+
+fn text_row(alloc: Global, text: &str) -> Result<Row, AllocError>
+    ensures { IfOk result (λ row. row ≢ []) }
+{
+    row(Value::Text(Text::new(alloc, text)?), Vec::new(alloc))
+}
+
+fn shown(alloc: Global, text: &str) -> Result<Vec<u8>, Fail> {
+    let mut out = Vec::new(alloc);
+    print_one(alloc, "c1", text_row(alloc, text)?, &mut out)?;
+    Ok(out)
+}
+
+fn expect_field(rt: &impl Abort, alloc: Global, text: &str, want: &str) -> Result<(), Fail> {
+    let shown = shown(alloc, text)?;
+    assert_eq!(rt; shown.as_slice(), want.as_bytes(), "at {text}");
+    Ok(())
+}
+
+const FIELDS: &[(&str, &str)] = &[
+    ("plain", "c1\nplain\n"),
+    ("a,b", "c1\n\"a,b\"\n"),
+    ("say \"so\"", "c1\n\"say \"\"so\"\"\"\n"),
+    ("a\rb", "c1\n\"a\rb\"\n"),
+    ("a\nb", "c1\n\"a\nb\"\n"),
+    ("", "c1\n\"\"\n"),
+    (" ", "c1\n \n"),
+    ("\\N", "c1\n\\N\n"),
+];
+
+#[test]
+fn a_field_is_quoted_where_it_has_to_be(rt: HostRuntime) -> Result<(), Fail> {
+    for (text, want) in FIELDS {
+        expect_field(&rt, rt.alloc(), text, want)?;
+    }
+    Ok(())
+}
+
+#[test]
+fn a_row_has_values_of_each_kind(rt: HostRuntime) -> Result<(), Fail> {
+    let mut out = vec![in rt.alloc(); b'>']?;
+    let others = vec![in rt.alloc(); Value::Null, Value::Int(-9_223_372_036_854_775_808)]?;
+    let shown = row(Value::Int(0), others)?;
+    print_one(rt.alloc(), "a,b", shown, &mut out)?;
+    let want = ">\"a,b\"\n0,\\N,-9223372036854775808\n";
+    assert_eq!(rt; out.as_slice(), want.as_bytes());
+    Ok(())
+}
+
+#[test]
+fn faults_and_fragments_have_lines(rt: HostRuntime) -> Result<(), Fail> {
+    let mut out = Vec::new(rt.alloc());
+    print_fault(1, &mut out)?;
+    print_fault(2, &mut out)?;
+    print_row_fault(
+        &RowFault {
+            row: 5_000_000_000,
+            code: 3,
+        },
+        &mut out,
+    )?;
+    print_fragments("missing", &[0, 12], &mut out)?;
+    let want = "arithmetic: overflow\narithmetic: division by zero\n\
+                arithmetic: sum out of range at row 5000000000\nmissing: 0 12\n";
+    assert_eq!(rt; out.as_slice(), want.as_bytes());
+    Ok(())
+}
+
+fn is_full(alloc: Global) -> Result<bool, AllocError> {
+    let row = text_row(alloc, "plain")?;
+    let mut room = [0u8; 4];
+    let mut out = room.as_mut_slice();
+    let printed = print_one(alloc, "c1", row, &mut out);
+    Ok(matches!(printed, Err(PrintFault::Writer)))
+}
+
+#[test]
+fn a_full_writer_is_told(rt: HostRuntime) -> Result<(), Fail> {
+    assert!(rt; is_full(rt.alloc())?);
+    let mut room = [0u8; 4];
+    let mut out = room.as_mut_slice();
+    let line = print_fault(1, &mut out);
+    assert!(rt; matches!(line, Err(PrintFault::Writer)));
+    Ok(())
+}

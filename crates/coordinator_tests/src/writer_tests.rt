@@ -1,0 +1,52 @@
+use coordinator::{Ended, Gather, WholeFault, whole};
+use meaning::cut::Cut;
+use std::alloc::Global;
+use std::io::Write;
+use std::mem::drop;
+use std::test::Fail;
+
+/// Counts the rows of a table, and prints the count to this writer.
+fn count<W: Write>(alloc: Global, cut: &Cut, out: &mut W) -> Result<(Ended, Gather), WholeFault> {
+    let csvs = [("n", b"v\n1\n2\n".as_slice())];
+    let query = b"SELECT COUNT(*) FROM n";
+    whole(alloc, b"fact n\ncol v int\n", &csvs, query, cut, 1, out)
+}
+
+fn count_to_full(alloc: Global, cut: &Cut) -> Result<(Ended, Gather), WholeFault> {
+    let mut room = [0u8; 4];
+    let mut out = room.as_mut_slice();
+    count(alloc, cut, &mut out)
+}
+
+#[test]
+fn whole_tells_a_full_writer(rt: HostRuntime) -> Result<(), Fail> {
+    let alloc = rt.alloc();
+    let cut = Cut::new(vec![in alloc; 2]?)?;
+    assert!(rt; matches!(count_to_full(alloc, &cut), Err(WholeFault::Writer)));
+    Ok(())
+}
+
+fn refusal_of_print(alloc: Global, gather: &Gather) -> Option<u8> {
+    let mut room = [0u8; 4];
+    let mut out = room.as_mut_slice();
+    match gather.print_report(alloc, &mut out) {
+        Ok(()) => None,
+        Err(fault) => Some(fault.number()),
+    }
+}
+
+fn counted(alloc: Global) -> Result<Gather, Fail> {
+    let cut = Cut::new(vec![in alloc; 2]?)?;
+    let mut out = Vec::new(alloc);
+    let (_, gather) = count(alloc, &cut, &mut out)?;
+    Ok(gather)
+}
+
+#[test]
+fn a_coordinator_tells_a_full_writer(rt: HostRuntime) -> Result<(), Fail> {
+    let gather = counted(rt.alloc())?;
+    let refusal = refusal_of_print(rt.alloc(), &gather);
+    drop(gather);
+    assert_eq!(rt; refusal, Some(12));
+    Ok(())
+}

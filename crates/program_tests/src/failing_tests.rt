@@ -1,0 +1,81 @@
+use crate::memory_folder::MemoryFolder;
+use cli::{command, run};
+use std::alloc::Global;
+use std::process::Abort;
+use std::test::Fail;
+
+const FILES: &[(&str, &[u8])] = &[
+    (
+        "sales/catalog.txt",
+        b"fact sales\ncol id int\ndim store key k\ncol k int\n",
+    ),
+    ("sales/sales.csv", b"id\n1\n2\n3\n4\n5\n"),
+    ("sales/store.csv", b"k\n10\n20\n"),
+];
+
+/// The exit status, what went to standard output, and what went to standard error.
+fn outcome(alloc: Global, folder: &mut MemoryFolder<'_>, words: &[&str]) -> Result<String, Fail> {
+    let command = command(alloc, words)?;
+    let (mut out, mut err) = (Vec::new(alloc), Vec::new(alloc));
+    let status = run(alloc, &command, folder, &mut out, &mut err);
+    let (out, err) = (String::from_utf8(out)?, String::from_utf8(err)?);
+    Ok(format!(in alloc; "{status} [{out}] [{err}]")?)
+}
+
+/// Loads a folder in which so many files may be created and finished.
+fn expect_steps(
+    rt: &impl Abort,
+    alloc: Global,
+    steps: u32,
+    want: &str,
+    written: usize,
+) -> Result<(), Fail> {
+    let mut folder = MemoryFolder::new(alloc, FILES, steps);
+    let words = ["load", "sales", "--load", "7", "--rows", "2"];
+    let outcome = outcome(alloc, &mut folder, &words)?;
+    assert_eq!(rt; outcome.as_str(), want);
+    assert_eq!(rt; folder.written.len(), written, "at {steps}");
+    Ok(())
+}
+
+const STEPS: &[(u32, &str, usize)] = &[
+    (0, "1 [] [xcols: cannot write sales/sales.0.xcf\n]", 0),
+    (1, "1 [] [xcols: cannot write sales/sales.0.xcf\n]", 0),
+    (2, "1 [] [xcols: cannot write sales/sales.1.xcf\n]", 1),
+    (7, "1 [] [xcols: cannot write sales/store.xcf\n]", 3),
+    (8, "1 [] [xcols: cannot write sales/cut.xcl\n]", 4),
+    (9, "1 [] [xcols: cannot write sales/cut.xcl\n]", 4),
+    (10, "0 [loaded 5 rows in 3 fragments\n] []", 5),
+];
+
+#[test]
+fn a_file_may_not_be_written(rt: HostRuntime) -> Result<(), Fail> {
+    for (steps, want, written) in STEPS {
+        expect_steps(&rt, rt.alloc(), *steps, want, *written)?;
+    }
+    Ok(())
+}
+
+const COUNT: &[&str] = &[
+    "whole",
+    "sales",
+    "--query",
+    "SELECT COUNT(*) FROM sales",
+    "--rows",
+    "2",
+];
+
+#[test]
+fn standard_output_may_fail(rt: HostRuntime) -> Result<(), Fail> {
+    let command = command(rt.alloc(), COUNT)?;
+    let mut room = [0; 3];
+    let (mut out, mut err) = (room.as_mut_slice(), Vec::new(rt.alloc()));
+    let mut folder = MemoryFolder::new(rt.alloc(), FILES, 0);
+    let status = run(rt.alloc(), &command, &mut folder, &mut out, &mut err);
+    assert_eq!(rt; status, 1);
+    assert_eq!(rt;
+        err.as_slice(),
+        b"xcols: cannot write standard output\n".as_slice()
+    );
+    Ok(())
+}

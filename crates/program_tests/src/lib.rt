@@ -1,0 +1,7 @@
+//! Tests of the program's commands that data can't say: folders and outputs that fail.
+#![tactic(auto)]
+
+#[cfg(test)]
+mod failing_tests;
+#[cfg(test)]
+mod memory_folder;

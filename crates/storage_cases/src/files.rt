@@ -1,0 +1,244 @@
+ghost use Rattle.std.specs.Prelude.{◌≡◌, ◌∷◌, [], codes, IfOk};
+
+use crate::blocks::tell_block_values;
+use crate::values::{column_of, type_of, type_word};
+use case_files::byte_lines::bytes_of;
+use columns::Column;
+use fragment_file::header::Header;
+use fragment_file::view::{FragmentView, GroupView};
+use fragment_file::{FileFault, open, read_cut, write, write_cut};
+use meaning::catalog::Column as Declared;
+use meaning::cut::Cut;
+use meaning::sequence::Sequence;
+use meaning::text::Text;
+use meaning::value::ColType;
+use sha2::{Digest, Sha256};
+use std::alloc::{AllocError, Global};
+use std::fmt::Write;
+use std::mem::drop;
+
+fn tell_refusal(told: &mut String, fault: &FileFault) -> Result<(), AllocError> {
+    let number = fault.number();
+    match fault {
+        FileFault::Block { group, column } => writeln!(told, "refused {number} {group} {column}"),
+        _ => writeln!(told, "refused {number}"),
+    }
+}
+
+// ---- reading
+
+fn tell_header(told: &mut String, header: &Header) -> Result<(), AllocError> {
+    writeln!(
+        told,
+        "load {}, table {}, fragment {}, from row {}, {} rows",
+        header.load,
+        header.table.as_str(),
+        header.fragment,
+        header.first_row,
+        header.rows
+    )
+}
+
+fn tell_declared(told: &mut String, columns: &[Declared]) -> Result<(), AllocError> {
+    for column in columns {
+        let null = if column.nullable { " null" } else { "" };
+        let word = type_word(column.col_type);
+        writeln!(told, "col {} {word}{null}", column.name.as_str())?;
+    }
+    Ok(())
+}
+
+fn tell_group(told: &mut String, group: &GroupView<'_>) -> Result<(), AllocError> {
+    writeln!(told, "group of {} rows", group.rows())?;
+    for block in group.columns() {
+        tell_block_values(told, block)?;
+    }
+    Ok(())
+}
+
+fn tell_file(told: &mut String, view: &FragmentView<'_>) -> Result<(), AllocError> {
+    tell_header(told, view.header())?;
+    tell_declared(told, view.header().columns.as_slice())?;
+    for group in view.groups() {
+        tell_group(told, group)?;
+    }
+    Ok(())
+}
+
+fn tell_opened(alloc: Global, told: &mut String, bytes: &[u8]) -> Result<(), AllocError> {
+    match open(alloc, bytes) {
+        Ok(view) => {
+            let done = tell_file(told, &view);
+            drop(view);
+            done
+        }
+        Err(fault) => tell_refusal(told, &fault),
+    }
+}
+
+/// What the bytes are a fragment file of, or the refusal.
+pub fn tell_fragment(alloc: Global, told: &mut String, body: &str) -> Result<(), AllocError> {
+    let Some(bytes) = bytes_of(alloc, body)? else {
+        return told.push_str("(no bytes)\n");
+    };
+    let done = tell_opened(alloc, told, bytes.as_slice());
+    drop(bytes);
+    done
+}
+
+fn tell_cut(told: &mut String, load: u64, lengths: &[u32]) -> Result<(), AllocError> {
+    write!(told, "load {load}, cut")?;
+    for length in lengths {
+        write!(told, " {length}")?;
+    }
+    told.push_str("\n")
+}
+
+fn tell_read_cut(alloc: Global, told: &mut String, bytes: &[u8]) -> Result<(), AllocError> {
+    match read_cut(alloc, bytes) {
+        Ok((load, cut)) => {
+            let done = tell_cut(told, load, cut.lengths());
+            drop(cut);
+            done
+        }
+        Err(fault) => tell_refusal(told, &fault),
+    }
+}
+
+/// The load and the cut that the bytes are a file of, or the refusal.
+pub fn tell_cut_file(alloc: Global, told: &mut String, body: &str) -> Result<(), AllocError> {
+    let Some(bytes) = bytes_of(alloc, body)? else {
+        return told.push_str("(no bytes)\n");
+    };
+    let done = tell_read_cut(alloc, told, bytes.as_slice());
+    drop(bytes);
+    done
+}
+
+// ---- writing
+
+// The seal is told as a word, where it is that of the bytes before it.
+fn tell_sealed(alloc: Global, told: &mut String, bytes: &[u8]) -> Result<(), AllocError> {
+    let (front, seal) = bytes.split_at(bytes.len().saturating_sub(32));
+    let digits = hex::encode(alloc, front)?;
+    let word = if seal == Sha256::digest(front).as_slice() {
+        "seal"
+    } else {
+        "(another seal)"
+    };
+    let done = writeln!(told, "{} bytes\n{digits}\n{word}", bytes.len());
+    drop(digits);
+    done
+}
+
+// The header of a table `n` of one column `v`.
+fn header_of(
+    alloc: Global,
+    load: u64,
+    col_type: ColType,
+    nullable: bool,
+    rows: u32,
+) -> Result<Header, AllocError>
+    ensures { IfOk result (λ h. h ≡ record { load = load; table = codes "n"; fragment = 0; first_row = 0; rows = rows; columns = record { name = codes "v"; col_type = col_type; nullable = nullable } ∷ [] }) }
+{
+    let name = Text::new(alloc, "v")?;
+    let mut columns = Vec::new(alloc);
+    columns.push(Declared {
+        name,
+        col_type,
+        nullable,
+    })?;
+    Ok(Header {
+        load,
+        table: Text::new(alloc, "n")?,
+        fragment: 0,
+        first_row: 0,
+        rows,
+        columns: Sequence::from_vec(columns),
+    })
+}
+
+fn write_one(alloc: Global, load: u64, column: Column, out: &mut Vec<u8>) -> Result<(), FileFault> {
+    let rows = column.len();
+    if rows > 1_048_576 {
+        return Err(FileFault::Limit);
+    }
+    let header = header_of(
+        alloc,
+        load,
+        column.col_type(),
+        column.nullable(),
+        rows as u32,
+    )?;
+    write(alloc, &header, &[column], out)
+}
+
+fn tell_written(
+    alloc: Global,
+    told: &mut String,
+    load: u64,
+    column: Column,
+) -> Result<(), AllocError> {
+    let mut out = Vec::new(alloc);
+    match write_one(alloc, load, column, &mut out) {
+        Ok(()) => tell_sealed(alloc, told, out.as_slice()),
+        Err(fault) => tell_refusal(told, &fault),
+    }
+}
+
+/// The bytes of a file of a table `n` with one column `v` of these values.
+pub fn tell_write(
+    alloc: Global,
+    told: &mut String,
+    words: &[&str],
+    body: &str,
+) -> Result<(), AllocError> {
+    let Some((load, (col_type, nullable, _))) = words.split_first().and_then(|(word, words)| Some((
+        word.parse().ok()?,
+        type_of(words)?,
+    )))
+    else {
+        return told.push_str("(no load and type)\n");
+    };
+    let column = column_of(alloc, col_type, nullable, body)?;
+    tell_written(alloc, told, load, column)
+}
+
+/// The lengths that some words spell. A word that spells none is 0.
+pub fn lengths_of(alloc: Global, words: &[&str]) -> Result<Vec<u32>, AllocError> {
+    words
+        .iter()
+        .map(|word| word.parse().unwrap_or(0))
+        .collect(alloc)
+}
+
+fn tell_written_cut(
+    alloc: Global,
+    told: &mut String,
+    load: u64,
+    cut: &Cut,
+) -> Result<(), AllocError> {
+    let mut out = Vec::new(alloc);
+    let done = match write_cut(load, cut, &mut out) {
+        Ok(()) => tell_sealed(alloc, told, out.as_slice()),
+        Err(fault) => tell_refusal(told, &fault),
+    };
+    drop(out);
+    done
+}
+
+/// The bytes of the file of a load and a cut.
+pub fn tell_write_cut(alloc: Global, told: &mut String, words: &[&str]) -> Result<(), AllocError> {
+    let Some((load, words)) = words.split_first() else {
+        return told.push_str("(no load)\n");
+    };
+    let load = load.parse().unwrap_or(0);
+    match Cut::new(lengths_of(alloc, words)?) {
+        Ok(cut) => {
+            let done = tell_written_cut(alloc, told, load, &cut);
+            drop(cut);
+            done
+        }
+        Err(fault) => writeln!(told, "no cut: {fault}"),
+    }
+}

@@ -1,0 +1,288 @@
+// Files of several row groups in each kind of block, and a device that fails.
+ghost use Rattle.std.specs.Prelude.{◌≡◌, ◌≤◌, ◌∷◌, [], codes, length, IfOk};
+
+use columns::{Column, ColumnFault};
+use encodings::kind::Kind;
+use encodings::view::BlockView;
+use fragment_file::header::Header;
+use fragment_file::view::FragmentView;
+use fragment_file::{FileFault, open, write};
+use meaning::catalog::Column as Declared;
+use meaning::sequence::Sequence;
+use meaning::text::Text;
+use meaning::value::{ColType, ValueRef};
+use std::alloc::{AllocError, Global};
+use std::io;
+use std::io::Write;
+use std::test::Fail;
+
+// ---- files of one column
+
+/// Load 7, table `n`, the column `v`.
+fn header_of(
+    alloc: Global,
+    col_type: ColType,
+    nullable: bool,
+    rows: u32,
+) -> Result<Header, AllocError>
+    ensures { IfOk result (λ h. h ≡ record { load = 7; table = codes "n"; fragment = 0; first_row = 0; rows = rows; columns = record { name = codes "v"; col_type = col_type; nullable = nullable } ∷ [] }) }
+{
+    let name = Text::new(alloc, "v")?;
+    let mut columns = Vec::new(alloc);
+    columns.push(Declared {
+        name,
+        col_type,
+        nullable,
+    })?;
+    Ok(Header {
+        load: 7,
+        table: Text::new(alloc, "n")?,
+        fragment: 0,
+        first_row: 0,
+        rows,
+        columns: Sequence::from_vec(columns),
+    })
+}
+
+/// Writes a table of this column alone.
+fn write_one<W: Write>(alloc: Global, column: Column, out: &mut W) -> Result<(), FileFault> {
+    let rows = column.len();
+    if rows > 1_048_576 {
+        return Err(FileFault::Limit);
+    }
+    let header = header_of(alloc, column.col_type(), column.nullable(), rows as u32)?;
+    write(alloc, &header, &[column], out)
+}
+
+pub fn file_of(alloc: Global, column: Column) -> Result<Vec<u8>, FileFault> {
+    let mut bytes = Vec::new(alloc);
+    write_one(alloc, column, &mut bytes)?;
+    Ok(bytes)
+}
+
+// ---- columns
+
+/// How the rows of a column go.
+#[derive(Clone, Copy)]
+enum Shape {
+    /// Integers over all 64 bits.
+    Wide,
+    /// Two integers that are far apart.
+    Two,
+    /// A few long runs of integers that are far apart.
+    Runs,
+    /// Small integers.
+    Small,
+}
+
+fn integer(shape: Shape, row: i64) -> i64 {
+    let mixed = row.wrapping_add(1).wrapping_mul(0x1e37_79b9_7f4a_7c15);
+    match shape {
+        Shape::Wide => mixed,
+        Shape::Two if row % 2 == 0 => i64::MIN,
+        Shape::Two => i64::MAX,
+        Shape::Runs => (row / 1_000).wrapping_mul(0x1234_5678_9abc_def),
+        Shape::Small => mixed & 7,
+    }
+}
+
+/// Every fifth row of a nullable column is NULL.
+fn is_blank(nullable: bool, row: u64) -> bool {
+    nullable && row % 5 == 4
+}
+
+fn integers(alloc: Global, shape: Shape, nullable: bool, rows: u64) -> Result<Column, ColumnFault> {
+    let mut column = Column::new(alloc, ColType::Int, nullable);
+    let mut number = 0;
+    for row in 0..rows {
+        if is_blank(nullable, row) {
+            column.push_null()?;
+        } else {
+            column.push_int(integer(shape, number))?;
+        }
+        number = number.wrapping_add(1);
+    }
+    Ok(column)
+}
+
+const WORDS: [&str; 4] = ["", "granite", "marble and slate", "chalk"];
+
+/// Texts that differ from row to row, that come in turn, or in long runs.
+fn text(alloc: Global, shape: Shape, row: u64) -> Result<String, AllocError> {
+    match shape {
+        Shape::Wide | Shape::Small => format!(in alloc; "row {row}"),
+        Shape::Two => String::from_str(alloc, WORDS[row as usize % 4]),
+        Shape::Runs => String::from_str(alloc, WORDS[(row / 1_000) as usize % 4]),
+    }
+}
+
+fn texts(alloc: Global, shape: Shape, nullable: bool, rows: u64) -> Result<Column, ColumnFault> {
+    let mut column = Column::new(alloc, ColType::Text, nullable);
+    for row in 0..rows {
+        if is_blank(nullable, row) {
+            column.push_null()?;
+        } else {
+            column.push_text(text(alloc, shape, row)?.as_str())?;
+        }
+    }
+    Ok(column)
+}
+
+pub fn zeros(alloc: Global, rows: u64) -> Result<Column, ColumnFault> {
+    let mut column = Column::new(alloc, ColType::Int, false);
+    for _ in 0..rows {
+        column.push_int(0)?;
+    }
+    Ok(column)
+}
+
+// ---- what is read back
+
+fn is_same(a: ValueRef<'_>, b: ValueRef<'_>) -> bool {
+    match (a, b) {
+        (ValueRef::Null, ValueRef::Null) => true,
+        (ValueRef::Int(a), ValueRef::Int(b)) => a == b,
+        (ValueRef::Text(a), ValueRef::Text(b)) => a == b,
+        _ => false,
+    }
+}
+
+/// Whether a block has the rows of a column from one on.
+fn has_rows(block: &BlockView<'_>, column: &Column, from: usize) -> bool {
+    for row in 0..block.len() {
+        let place = from.saturating_add(row);
+        if place >= column.len() || !is_same(block.get(row), column.get(place)) {
+            return false;
+        }
+    }
+    true
+}
+
+/// Whether the row groups have the rows of a column, in blocks of a kind.
+fn has_column(view: &FragmentView<'_>, kind: Kind, column: &Column) -> bool {
+    let mut from: usize = 0;
+    for group in view.groups() {
+        let [block] = group.columns() else {
+            return false;
+        };
+        if block.kind() != kind || !has_rows(block, column, from) {
+            return false;
+        }
+        from = from.saturating_add(block.len());
+    }
+    from == column.len()
+}
+
+fn opens_to(alloc: Global, bytes: &[u8], kind: Kind, column: &Column) -> bool {
+    match open(alloc, bytes) {
+        Ok(view) => view.header().load == 7 && has_column(&view, kind, column),
+        Err(_) => false,
+    }
+}
+
+/// How many rows a table of three row groups has.
+const ROWS: u64 = 19_400;
+
+fn comes_back(alloc: Global, kind: Kind, written: Column, column: &Column) -> bool {
+    match file_of(alloc, written) {
+        Ok(bytes) => opens_to(alloc, &bytes, kind, column),
+        Err(_) => false,
+    }
+}
+
+fn integers_come_back(
+    alloc: Global,
+    shape: Shape,
+    nullable: bool,
+    kind: Kind,
+) -> Result<bool, ColumnFault> {
+    let written = integers(alloc, shape, nullable, ROWS)?;
+    let column = integers(alloc, shape, nullable, ROWS)?;
+    Ok(comes_back(alloc, kind, written, &column))
+}
+
+fn texts_come_back(
+    alloc: Global,
+    shape: Shape,
+    nullable: bool,
+    kind: Kind,
+) -> Result<bool, ColumnFault> {
+    let written = texts(alloc, shape, nullable, ROWS)?;
+    let column = texts(alloc, shape, nullable, ROWS)?;
+    Ok(comes_back(alloc, kind, written, &column))
+}
+
+#[test]
+fn integers_of_each_kind(rt: HostRuntime) -> Result<(), Fail> {
+    for nullable in [false, true] {
+        for (shape, kind) in [
+            (Shape::Wide, Kind::Plain),
+            (Shape::Two, Kind::Dict),
+            (Shape::Small, Kind::Frame),
+        ] {
+            assert!(rt; integers_come_back(rt.alloc(), shape, nullable, kind)?);
+        }
+    }
+    assert!(rt; integers_come_back(rt.alloc(), Shape::Runs, false, Kind::Runs)?);
+    Ok(())
+}
+
+#[test]
+fn texts_of_each_kind(rt: HostRuntime) -> Result<(), Fail> {
+    for nullable in [false, true] {
+        for (shape, kind) in [(Shape::Wide, Kind::Plain), (Shape::Two, Kind::Dict)] {
+            assert!(rt; texts_come_back(rt.alloc(), shape, nullable, kind)?);
+        }
+    }
+    assert!(rt; texts_come_back(rt.alloc(), Shape::Runs, false, Kind::Runs)?);
+    Ok(())
+}
+
+// ---- a device that fails
+
+/// Takes so many writes, and then fails.
+#[derive(Drop)]
+struct Failing {
+    left: u32,
+}
+
+impl Write for Failing {
+    fn write(&mut self, buf: &[u8]) -> io::Result<usize> {
+        if self.left == 0 {
+            return Err(io::Error::from(io::ErrorKind::Other));
+        }
+        self.left -= 1;
+        Ok(buf.len())
+    }
+
+    fn flush(&mut self) -> io::Result<()> {
+        Ok(())
+    }
+}
+
+/// By which number writing is refused where the device takes so many writes; `None` where it is not.
+fn refusal_after(alloc: Global, writes: u32) -> Result<Option<u8>, ColumnFault> {
+    let mut out = Failing { left: writes };
+    match write_one(alloc, integers(alloc, Shape::Small, false, ROWS)?, &mut out) {
+        Ok(()) => Ok(None),
+        Err(fault) => Ok(Some(fault.number())),
+    }
+}
+
+/// The first number of writes after which another refusal is told than should be. The header, three row groups and the
+/// seal are five writes.
+fn writes_missed(alloc: Global) -> Result<Option<u32>, ColumnFault> {
+    for writes in 0..7 {
+        let want = if writes < 5 { Some(8) } else { None };
+        if refusal_after(alloc, writes)? != want {
+            return Ok(Some(writes));
+        }
+    }
+    Ok(None)
+}
+
+#[test]
+fn each_write_fails_in_turn(rt: HostRuntime) -> Result<(), Fail> {
+    assert_eq!(rt; writes_missed(rt.alloc())?, None);
+    Ok(())
+}

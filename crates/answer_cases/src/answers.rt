@@ -1,3 +1,4 @@
+//! Cases about the bytes of answers and states.
 ghost use Rattle.partial_codec.specs.Answer.{Fits};
 ghost use Rattle.partial_codec.specs.State.{FitsState};
 

@@ -1,3 +1,4 @@
+//! Cases about coordinators: what each event does and what is printed.
 ghost use Rattle.std.specs.Prelude.{◌≡◌, IfOk, IfSome, length};
 ghost use Rattle.coordinator.specs.Single.{IsSingle};
 

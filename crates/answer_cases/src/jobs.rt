@@ -1,10 +1,13 @@
+//! The job that the words of a case name.
 // Jobs that words tell: the number of a load, a cut, what is asked of each fragment, and the text of the query.
 ghost use Rattle.std.specs.Prelude.{◌≡◌, ◌≤◌, ◌∷◌, [], length, IfOk, IfSome};
+ghost use Rattle.meaning.specs.Limits.{max_query_bytes};
 ghost use Rattle.partial_codec.specs.Job.{IsPlanOfJob};
 ghost use Rattle.coordinator.specs.Single.{IsSingle, aggregate_of, only_item, with_parts};
 
 use meaning::cut::Cut;
 use meaning::expr::Expr;
+use meaning::limits::MAX_QUERY_BYTES;
 use meaning::plan::{Aggregate, AggregateKind, Item, Plan, TableUse};
 use meaning::sequence::Sequence;
 use meaning::text::Text;
@@ -12,9 +15,6 @@ use meaning::value::{ColType, Value};
 use partial_codec::Job;
 use std::alloc::{AllocError, Global};
 use std::mem::drop;
-
-/// The most bytes of a query's text.
-const MAX_TEXT: usize = 65_535;
 
 /// What is told where words tell no job.
 pub const NO_JOB: &str = "(no job: a load, a cut, count or sum, and a text)\n";
@@ -98,7 +98,7 @@ fn with_parts(
 }
 
 fn plan_of(alloc: Global, text: &str, summed: Option<usize>) -> Result<Plan, AllocError>
-    requires { length text.now ≤ 65535 }
+    requires { length text.now ≤ max_query_bytes }
     ensures single { IfOk result IsSingle }
     ensures job { IfOk result IsPlanOfJob }
 {
@@ -117,7 +117,7 @@ fn job_over(
     summed: Option<usize>,
     text: &str,
 ) -> Result<Job, AllocError>
-    requires { length text.now ≤ 65535 }
+    requires { length text.now ≤ max_query_bytes }
     ensures { IfOk result (λ job. IsSingle job.plan) }
 {
     match plan_of(alloc, text, summed) {
@@ -148,7 +148,7 @@ pub fn job_of(alloc: Global, words: &[&str]) -> Result<Option<Job>, AllocError>
     let (Ok(load), Some(summed)) = (load.parse::<u64>(), summed_by(kind)) else {
         return Ok(None);
     };
-    if text.len() > MAX_TEXT {
+    if text.len() > MAX_QUERY_BYTES {
         return Ok(None);
     }
     match cut_of(alloc, cut)? {

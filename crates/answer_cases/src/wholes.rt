@@ -1,3 +1,4 @@
+//! Cases about whole queries over the CSV files of a folder.
 use crate::jobs::cut_of;
 use case_files::lines::tell_printed;
 use case_files::stored::{StoredFile, find};

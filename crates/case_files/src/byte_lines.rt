@@ -1,3 +1,4 @@
+//! Bytes spelled as lines of words.
 use crate::words::{Word, words};
 use hex::FromHexError;
 use sha2::{Digest, Sha256};

@@ -1,3 +1,4 @@
+//! A case file as its records.
 use std::alloc::{AllocError, Global};
 
 /// What stands between two empty lines of a case file.

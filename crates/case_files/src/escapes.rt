@@ -1,3 +1,4 @@
+//! Texts with escapes, and back.
 use std::alloc::{AllocError, Global};
 
 // What was read of an escape.

@@ -1,3 +1,4 @@
+//! Lines of what a case tells.
 use std::alloc::{AllocError, Global};
 use std::fmt::Write;
 

@@ -1,3 +1,4 @@
+//! The files of a case file's folder.
 use std::alloc::AllocError;
 
 /// A file of a case file's folder.

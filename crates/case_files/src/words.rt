@@ -1,3 +1,4 @@
+//! Words of a line, some of them in quotes.
 use crate::escapes::unescape;
 use std::alloc::{AllocError, Global};
 use std::mem;

@@ -1,3 +1,4 @@
+//! Cases about catalogues.
 use crate::refusals::refusal_line;
 use case_files::escapes::escaped_bytes;
 use cli::Refusal;

@@ -1,3 +1,4 @@
+//! Cases about cuts.
 use crate::refusals::refusal_line;
 use cli::Refusal;
 use meaning::cut::{Cut, CutFault};

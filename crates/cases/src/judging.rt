@@ -1,3 +1,4 @@
+//! Runs the records of a case file and counts the mismatches.
 use crate::kinds::{put_file, tell};
 use case_files::case_file::{Record, records};
 use case_files::stored::StoredFile;

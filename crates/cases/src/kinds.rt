@@ -1,4 +1,5 @@
-use crate::{catalog, cut, program, sql};
+//! Which kind of case a record is.
+use crate::{catalog, cut, program, selection, sql};
 use answer_cases::{answers, gathers, wholes};
 use case_files::byte_lines::bytes_of;
 use case_files::escapes::escaped_bytes;
@@ -22,6 +23,7 @@ fn tell_kind(
         "sql" => sql::tell(alloc, body),
         "catalog" => catalog::tell(alloc, words, body),
         "cut" => cut::tell(alloc, words, body),
+        "selection" => selection::tell(alloc, words, body),
         "answer" => answers::tell(alloc, false, words, body),
         "state" => answers::tell(alloc, true, words, body),
         "gather" => gathers::tell(alloc, words, body, files),

@@ -8,6 +8,7 @@ mod judging;
 mod kinds;
 mod program;
 mod refusals;
+mod selection;
 mod sql;
 mod stored_folder;
 

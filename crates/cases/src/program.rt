@@ -1,3 +1,4 @@
+//! Cases that run the program over a folder in memory.
 ghost use Rattle.cli.specs.Command.{IsInRange};
 
 use crate::stored_folder::StoredFolder;

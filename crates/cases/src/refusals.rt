@@ -1,3 +1,4 @@
+//! The line of a refusal.
 use cli::{Refusal, tell};
 use std::alloc::{AllocError, Global};
 

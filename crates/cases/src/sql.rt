@@ -1,3 +1,4 @@
+//! Cases about SQL texts.
 use crate::refusals::refusal_line;
 use case_files::escapes::escaped_bytes;
 use case_files::lines::tell_line;

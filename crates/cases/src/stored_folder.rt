@@ -1,3 +1,4 @@
+//! The folder in memory that a case's command works on.
 use case_files::stored::{StoredFile, find};
 use cli::Folder;
 use std::alloc::Global;

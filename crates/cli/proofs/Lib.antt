@@ -1,3 +1,4 @@
+-- The lemmas of this crate.
 mod Each
 mod Lines
 mod LoadedColumns

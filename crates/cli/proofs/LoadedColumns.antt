@@ -5,6 +5,7 @@ use Rattle.std.specs.List.{enumerate_from}
 use Rattle.std.proofs.lemmas.Bool.{ltb-false, leb-false}
 use Rattle.std.proofs.lemmas.List.{length-map, length-take-le, length-drop}
 use Rattle.std.proofs.lemmas.List.Sums.{sum_by-cons}
+use Rattle.meaning.specs.Limits.{max_rows}
 use Rattle.meaning.specs.declared.catalog.Column.{Column}
 use Rattle.meaning.specs.declared.catalog.Table.{Table}
 use Rattle.meaning.specs.declared.catalog.Catalog.{Catalog}
@@ -104,15 +105,15 @@ module _ (columns : List Column) (key : Option ℕ) (most : ℕ) (order : List �
       let rest = within_limit (i + 1) records others (omega arith) there in
       subst (λ (l : List Row). i + length l ≤ most) (sym all) (omega (arith, rest))
 
-dimension_rows : (d : Dimension) (records : List Record) (rows : List Row) → dimension_of d records ≡ Ok rows → length rows ≤ 1048576
+dimension_rows : (d : Dimension) (records : List Record) (rows : List Row) → dimension_of d records ≡ Ok rows → length rows ≤ max_rows
 dimension_rows d [] rows well = cc well
 dimension_rows d (header ∷ others) rows well =
     let order = file_order d.table.columns header in
-    let judged = all_from (judged_record d.table.columns (Some d.key) 1048576 order others) 0 others in
+    let judged = all_from (judged_record d.table.columns (Some d.key) max_rows order others) 0 others in
     let (all, made, kept) = well_before judged (unless_few 0) rows (under_header (is_header d.table.columns header) judged 0 rows well) in
     let few = not_few 0 all rows kept in
-    let most = within_limit d.table.columns (Some d.key) 1048576 order others 0 others all (omega arith) made in
-    subst (λ (l : List Row). length l ≤ 1048576) few.0 (omega (arith, most))
+    let most = within_limit d.table.columns (Some d.key) max_rows order others 0 others all (omega arith) made in
+    subst (λ (l : List Row). length l ≤ max_rows) few.0 (omega (arith, most))
 
 -- ---- loaded tables
 
@@ -125,10 +126,10 @@ fact_fits holds folder catalog rows cut fragments is =
     subst (AreEach (AreFragmentColumns catalog.fact) cut) (ok_same (fragments_of catalog.fact.columns cut all) fragments (Ok (fragments_of catalog.fact.columns cut all)) refl well)
     (fragments_fit catalog.fact cut all (fact_rows catalog cut records all made))
 
-dimension_fits : (d : Dimension) (all : List Row) (columns : List ColumnSpec) → length all ≤ 1048576 → columns_of d.table.columns all ≡ columns → AreDimensionColumns d columns
+dimension_fits : (d : Dimension) (all : List Row) (columns : List ColumnSpec) → length all ≤ max_rows → columns_of d.table.columns all ≡ columns → AreDimensionColumns d columns
 dimension_fits d all columns few same =
     let are = subst (AreColumns d.table.columns (length all)) same (columns_from all 0 d.table.columns) in
-    (own_rows d.table.columns (length all) columns are, few_rows d.table.columns (length all) 1048576 columns are few)
+    (own_rows d.table.columns (length all) columns are, few_rows d.table.columns (length all) max_rows columns are few)
 
 loaded_fits : (holds : Holds) (folder : List ℕ) (d : Dimension) (columns : List ColumnSpec) → IsDimensionLoaded holds folder d columns → AreDimensionColumns d columns
 loaded_fits holds folder d columns is =

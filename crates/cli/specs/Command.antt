@@ -1,9 +1,10 @@
 -- The commands that the program takes.
 use Rattle.std.specs.Prelude.{◌≤◌}
+use Rattle.meaning.specs.Limits.{max_rows, max_vector_rows}
 use Rattle.cli.specs.declared.commands.Command.{Command}
 use Rattle.cli.specs.declared.commands.Command.TheVariants.{Whole, Load}
 
 -- each number of a command is one that it may have
 abbrev pub IsInRange : Command → Type 0
-IsInRange (Whole folder query rows vector) = ((1 ≤ rows) × (rows ≤ 1048576)) × ((1 ≤ vector) × (vector ≤ 4096))
-IsInRange (Load folder load rows) = (1 ≤ rows) × (rows ≤ 1048576)
+IsInRange (Whole folder query rows vector) = ((1 ≤ rows) × (rows ≤ max_rows)) × ((1 ≤ vector) × (vector ≤ max_vector_rows))
+IsInRange (Load folder load rows) = (1 ≤ rows) × (rows ≤ max_rows)

@@ -1,3 +1,4 @@
+-- The definitions of this crate.
 pub mod Command
 pub mod Folder
 pub mod Loading

@@ -2,6 +2,7 @@
 use Rattle.std.specs.Prelude.{◌≡◌, ℕ, ◌≤◌, ⊤, List, [], ◌∷◌, ◌++◌, length, drop, sum, slice_index, zip, codes, decimal, Option, Ok}
 use Rattle.std.specs.List.{enumerate_from}
 use Rattle.std.specs.Io.KnownBytes.{Appends}
+use Rattle.meaning.specs.Limits.{max_rows}
 use Rattle.meaning.specs.CatalogText.{catalog_of}
 use Rattle.meaning.specs.Cut.{cut_of, even_lengths}
 use Rattle.meaning.specs.Table.{Cut, first_row}
@@ -11,7 +12,8 @@ use Rattle.meaning.specs.declared.catalog.Dimension.{Dimension}
 use Rattle.columns.specs.Column.{ColumnSpec}
 use Rattle.loader.specs.Columns.{fact_fragments, dimension_columns}
 use Rattle.loader.specs.Source.{csv_records}
-use Rattle.fragment_file.specs.Fragment.{Stands, sealed}
+use Rattle.fragment_file.specs.Fragment.{Stands}
+use Rattle.wire.specs.Bytes.{sealed}
 use Rattle.fragment_file.specs.Writing.{AreColumns}
 use Rattle.fragment_file.specs.CutFile.{cut_bytes}
 use Rattle.fragment_file.specs.declared.header.Header.{Header}
@@ -103,4 +105,4 @@ AreFragmentColumns table rows columns = AreColumns table.columns rows columns
 
 -- columns of a dimension, of no more rows than it may have
 abbrev pub AreDimensionColumns : Dimension → List ColumnSpec → Type 0
-AreDimensionColumns d columns = AreColumns d.table.columns (rows_in columns) columns × (rows_in columns ≤ 1048576)
+AreDimensionColumns d columns = AreColumns d.table.columns (rows_in columns) columns × (rows_in columns ≤ max_rows)

@@ -1,6 +1,9 @@
 -- What a command does.
-use Rattle.std.specs.Prelude.{◌≡◌, ℕ, List, map, Option, Ok, All}
+use Rattle.std.specs.Prelude.{◌≡◌, ℕ, List, ◌∷◌, map, drop, length, Option, None, Some, IfSome, Ok, All}
+use Rattle.meaning.specs.declared.catalog.Catalog.{Catalog}
+use Rattle.meaning.specs.CatalogText.{catalog_of}
 use Rattle.meaning.specs.Cut.{cut_of, even_lengths}
+use Rattle.loader.specs.Source.{csv_records}
 use Rattle.coordinator.specs.Gathering.{GatherSpec}
 use Rattle.coordinator.specs.Whole.{Files, Input, IsAnswered}
 use Rattle.coordinator.specs.declared.reporting.Ended.{Ended}
@@ -16,33 +19,46 @@ use Rattle.cli.specs.declared.tables.Tables.{Tables}
 abbrev pub IsCsvOf : Holds → List ℕ → CsvFile → Type 0
 IsCsvOf holds folder file = AreHeld (holds (csv_path folder file.table)) file.bytes.items
 
--- the files by the names of their tables
-abbrev pub files_of : List CsvFile → Files
-files_of files = map (λ file. (file.table, file.bytes.items)) files
+-- the fact's file, where it could be read, before those of the dimensions
+abbrev pub files_read : Option CsvFile → List CsvFile → List CsvFile
+files_read None dims = dims
+files_read (Some fact) dims = fact ∷ dims
 
--- tables of the folder's files, the fact cut into fragments of so many rows
-pub record AreTables (holds : Holds) (folder : List ℕ) (rows : ℕ) (tables : Tables) : Type 0 where
-  pub files : All (IsCsvOf holds folder) tables.files.items
-  pub counted : ℕ
-  pub evenly : cut_of (even_lengths counted rows) ≡ Ok tables.cut
+-- the files by the names of their tables
+abbrev pub files_of : Tables → Files
+files_of tables = map (λ file. (file.table, file.bytes.items)) (files_read tables.fact tables.dims.items)
+
+-- how many records stand behind the first of the fact's file; none where it could not be read
+abbrev pub rows_behind : Option CsvFile → ℕ
+rows_behind None = 0
+rows_behind (Some file) = length (drop 1 (csv_records file.bytes.items))
+
+-- tables of the folder's files, the fact, which has this name, cut into fragments of so many rows
+pub record AreTables (holds : Holds) (folder name : List ℕ) (rows : ℕ) (tables : Tables) : Type 0 where
+  pub fact : IfSome tables.fact (λ file. IsCsvOf holds folder file × (file.table ≡ name))
+  pub dims : All (IsCsvOf holds folder) tables.dims.items
+  pub evenly : cut_of (even_lengths (rows_behind tables.fact) rows) ≡ Ok tables.cut
 
 -- what a query over them runs over
 abbrev pub input_over : List ℕ → Tables → List ℕ → ℕ → Input
-input_over catalog tables query vector = record { catalog = catalog; files = files_of tables.files.items; query = query; cut = tables.cut; vector_len = vector }
+input_over catalog tables query vector = record { catalog = catalog; files = files_of tables; query = query; cut = tables.cut; vector_len = vector }
 
 -- a query was answered over a folder's files: what was printed is what it means over them, and the status is that of its end
 pub record IsDone (holds : Holds) (folder query : List ℕ) (rows vector : ℕ) (before after : Option (List ℕ)) (status : ℕ) : Type 0 where
-  pub catalog : List ℕ
-  pub declared : AreHeld (holds (catalog_path folder)) catalog
+  pub text : List ℕ
+  pub held : AreHeld (holds (catalog_path folder)) text
+  pub catalog : Catalog
+  pub declared : catalog_of text ≡ Ok catalog
   pub tables : Tables
-  pub loaded : AreTables holds folder rows tables
+  pub loaded : AreTables holds folder catalog.fact.name rows tables
   pub ended : Ended
   pub gather : GatherSpec
-  pub answered : IsAnswered (input_over catalog tables query vector) before after ended gather
+  pub answered : IsAnswered (input_over text tables query vector) before after ended gather
   pub ends : status ≡ end_status ended
 
--- the command was done
+-- the command was done; a query writes no file
 abbrev pub IsDoneFor : Holds → Command → Option (List ℕ) → Option (List ℕ) → Option (List File) → Option (List File) → ℕ → Type 0
-IsDoneFor holds (Whole folder query rows vector) before after wrote_before wrote_after status = IsDone holds folder query rows vector before after status
+IsDoneFor holds (Whole folder query rows vector) before after wrote_before wrote_after status =
+    IsDone holds folder query rows vector before after status × (wrote_after ≡ wrote_before)
 IsDoneFor holds (Load folder load rows) before after wrote_before wrote_after status =
     (status ≡ 0) × IsLoaded holds folder load rows before after wrote_before wrote_after

@@ -5,7 +5,7 @@ use Rattle.coordinator.specs.declared.reporting.Ended.TheVariants.{Rows, Fault}
 use Rattle.cli.specs.declared.usage_fault.UsageFault.{UsageFault}
 use Rattle.cli.specs.declared.usage_fault.UsageFault.TheVariants.{Memory, Encoding, Words}
 
--- words that are no command end with 2, want of memory with 1
+-- words that are no command end with 2, out of memory with 1
 abbrev pub status_of : UsageFault → ℕ
 status_of Memory = 1
 status_of Encoding = 2

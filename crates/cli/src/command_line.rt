@@ -1,3 +1,4 @@
+//! The words of the command line, read by `clap`.
 ghost use Rattle.std.specs.Prelude.{◌≤◌, IfOk, IfSome};
 ghost use Rattle.cli.specs.Command.{IsInRange};
 
@@ -5,15 +6,10 @@ use crate::commands::Command;
 use crate::usage_fault::UsageFault;
 use clap::error::ErrorKind;
 use clap::{Arg, ArgMatches};
+use meaning::limits::{MAX_ROWS, MAX_VECTOR_ROWS};
 use meaning::text::Text;
 use std::alloc::{AllocError, Global};
 use std::mem::drop;
-
-// The most rows of a fragment.
-const MOST_ROWS: u32 = 1_048_576;
-
-// The most rows of a vector.
-const MOST_VECTOR: u32 = 4_096;
 
 /// The command that the words behind the program's name ask for.
 pub fn command(alloc: Global, words: &[&str]) -> Result<Command, UsageFault>
@@ -87,7 +83,7 @@ fn rows_arg<'a>(alloc: Global) -> Arg<'a> {
         .long("rows")
         .value_name("R")
         .required(true)
-        .value_parser(clap::value_parser!(u32).range(1..=i64::from(MOST_ROWS)))
+        .value_parser(clap::value_parser!(u32).range(1..=i64::from(MAX_ROWS)))
         .help("The rows of a fragment")
 }
 
@@ -105,7 +101,7 @@ fn vector_arg<'a>(alloc: Global) -> Arg<'a> {
         .long("vector")
         .value_name("V")
         .default_value("1024")
-        .value_parser(clap::value_parser!(u32).range(1..=i64::from(MOST_VECTOR)))
+        .value_parser(clap::value_parser!(u32).range(1..=MAX_VECTOR_ROWS as i64))
         .help("The rows of a vector")
 }
 
@@ -152,8 +148,8 @@ fn whole(alloc: Global, matches: &ArgMatches<'_>) -> Result<Option<Command>, All
         return Ok(None);
     };
     let (Some(rows), Some(vector)) = (
-        number(matches, "rows", MOST_ROWS),
-        number(matches, "vector", MOST_VECTOR),
+        number(matches, "rows", MAX_ROWS),
+        number(matches, "vector", MAX_VECTOR_ROWS as u32),
     ) else {
         return Ok(None);
     };
@@ -171,7 +167,7 @@ fn load(alloc: Global, matches: &ArgMatches<'_>) -> Result<Option<Command>, Allo
     let (Some(folder), Some(load), Some(rows)) = (
         matches.get_str("DIR"),
         load_number(matches),
-        number(matches, "rows", MOST_ROWS),
+        number(matches, "rows", MAX_ROWS),
     ) else {
         return Ok(None);
     };

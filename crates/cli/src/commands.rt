@@ -1,3 +1,4 @@
+//! The commands of the program.
 use meaning::text::Text;
 
 /// What the program is asked to do.

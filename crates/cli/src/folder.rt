@@ -1,3 +1,4 @@
+//! The trait of folders that commands read from and write to.
 ghost use Rattle.std.specs.Prelude.{◌≡◌, ℕ, List, Option, None, IfOk, OnOk};
 ghost use Rattle.cli.specs.Folder.{File, Finishes, IsEmptyFile, Opens};
 

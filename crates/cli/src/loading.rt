@@ -1,3 +1,4 @@
+//! Reads the tables of `load` from their CSV files.
 // The columns of a folder's tables.
 ghost use Rattle.std.specs.Prelude.{◌≡◌, ◌≤◌, ◌<◌, Ok, IfOk, length, sum};
 ghost use Rattle.meaning.specs.Catalog.{IsWellFormed};
@@ -122,7 +123,7 @@ fn load_dimensions<F: Folder>(
 ///
 /// # Errors
 ///
-/// Want of memory, a file that cannot be read, a cut over its limits, and the first fault of a
+/// Out of memory, a file that cannot be read, a cut over its limits, and the first fault of a
 /// table, whichever comes first.
 pub fn load_tables<F: Folder>(
     alloc: Global,

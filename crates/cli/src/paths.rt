@@ -1,3 +1,4 @@
+//! The paths of a folder's files.
 ghost use Rattle.std.specs.Prelude.{◌≡◌, IfOk};
 ghost use Rattle.cli.specs.Folder.{path_in, csv_path, catalog_path, fragment_path, dimension_path, cut_path};
 

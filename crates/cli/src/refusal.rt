@@ -1,3 +1,4 @@
+//! Why a command was refused.
 ghost use Rattle.std.specs.Prelude.{◌≡◌, ◌≢◌};
 ghost use Rattle.cli.specs.Folder.{csv_path};
 ghost use Rattle.cli.specs.declared.refusal.Refusal.TheVariants.{CannotRead, CannotWrite};

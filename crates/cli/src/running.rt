@@ -1,6 +1,9 @@
-ghost use Rattle.std.specs.Prelude.{◌≡◌, ◌≢◌, ◌≤◌, IfOk, OnOk, length};
+//! Runs a command and gives its exit status.
+ghost use Rattle.std.specs.Prelude.{◌≡◌, ◌≢◌, ◌≤◌, IfOk, OnOk, Ok, length};
 ghost use Rattle.std.specs.Io.KnownBytes.{Appends};
+ghost use Rattle.meaning.specs.declared.catalog.Catalog.{Catalog as Declared};
 ghost use Rattle.meaning.specs.Catalog.{IsWellFormed};
+ghost use Rattle.meaning.specs.CatalogText.{catalog_of};
 ghost use Rattle.coordinator.specs.Gathering.{GatherSpec};
 ghost use Rattle.coordinator.specs.Whole.{IsAnswered};
 ghost use Rattle.cli.specs.Command.{IsInRange};
@@ -60,7 +63,7 @@ fn answer_over<O: Write>(
     ensures { IfOk result (λ ended. (gather : GatherSpec)
         × IsAnswered (input_over catalog.now tables.now query.now vector) (O.contents out.old) (O.contents out.new) ended gather) }
 {
-    let csvs = lend_files(alloc, tables.files.as_slice())?;
+    let csvs = lend_files(alloc, tables)?;
     let (csvs, query) = (csvs.as_slice(), query.as_bytes());
     match whole(
         alloc,
@@ -87,7 +90,8 @@ fn declared_tables<F: Folder>(
     rows: u32,
 ) -> Result<Tables, Refusal>
     requires { 1 ≤ rows }
-    ensures { IfOk result (AreTables (F.holds folder.now) directory.now rows) }
+    ensures { IfOk result (λ tables. (declared : Declared) × (catalog_of catalog.now ≡ Ok declared)
+        × AreTables (F.holds folder.now) directory.now declared.fact.name rows tables) }
 {
     let catalog = read_catalog(alloc, catalog)?;
     read_tables(alloc, folder, directory, &catalog, rows)
@@ -222,6 +226,7 @@ pub fn run<F: Folder, O: Write, E: Write>(
     requires { IsInRange command.now }
     ensures status { IsRunStatus result }
     ensures done { result ≢ 1 → IsDoneFor (F.holds folder.old) command.now (O.contents out.old) (O.contents out.new) (F.wrote folder.old) (F.wrote folder.new) result }
+    ensures quiet { result ≢ 1 → E.contents err.new ≡ E.contents err.old }
 {
     match status_by_command(alloc, command, folder, out) {
         Ok(status) => status,

@@ -1,9 +1,12 @@
+//! Writes the files of `load`.
 // The files of loaded tables.
 ghost use Rattle.std.specs.Prelude.{◌≡◌, ◌≢◌, ◌≤◌, IfOk, OnOk, zip};
 ghost use Rattle.std.specs.List.{enumerate_from};
+ghost use Rattle.meaning.specs.Limits.{max_rows};
 ghost use Rattle.meaning.specs.Catalog.{IsWellFormed, IsWellFormedTable};
 ghost use Rattle.meaning.specs.Table.{first_row};
-ghost use Rattle.fragment_file.specs.Fragment.{IsHeader, Stands, sealed};
+ghost use Rattle.fragment_file.specs.Fragment.{IsHeader, Stands};
+ghost use Rattle.wire.specs.Bytes.{sealed};
 ghost use Rattle.fragment_file.specs.Writing.{AreColumns, AreColumnsOf};
 ghost use Rattle.fragment_file.specs.CutFile.{cut_bytes};
 ghost use Rattle.fragment_file.specs.declared.fault.FileFault.TheVariants as no_file;
@@ -150,7 +153,7 @@ fn save_fragment<F: Folder>(
     columns: &[Column],
 ) -> Result<(), Refusal>
     requires table { IsWellFormedTable table.now }
-    requires few { place.rows ≤ 1048576 }
+    requires few { place.rows ≤ max_rows }
     requires columns { AreColumns table.now.columns place.rows columns.now }
     ensures { OnOk result (WritesOne (fragment_path directory.now table.now.name place.fragment)
         (λ bytes. Stands bytes (header_of load table.now place.fragment place.first_row place.rows) columns.now)
@@ -263,7 +266,7 @@ fn save_dimensions<F: Folder>(
 ///
 /// # Errors
 ///
-/// Want of memory, or the first file that cannot be written. Those before it stay, and so may the
+/// Out of memory, or the first file that cannot be written. Those before it stay, and so may the
 /// beginning of the file itself, under the name that the folder gives it until it is whole.
 pub fn save<F: Folder>(
     alloc: Global,

@@ -1,10 +1,11 @@
+//! The CSV files of a catalogue's tables.
 // The files of a folder that a query is answered over.
 ghost use Rattle.std.specs.Prelude.{◌≡◌, ◌≤◌, ℕ, Ok, IfOk, IfSome, All, length, drop};
 ghost use Rattle.meaning.specs.Cut.{cut_of, even_lengths};
 ghost use Rattle.loader.specs.Source.{csv_records};
 ghost use Rattle.coordinator.specs.Whole.{files_in};
 ghost use Rattle.cli.specs.Folder.{AreHeld};
-ghost use Rattle.cli.specs.Running.{AreTables, IsCsvOf, files_of};
+ghost use Rattle.cli.specs.Running.{AreTables, IsCsvOf, files_of, rows_behind};
 
 use crate::folder::Folder;
 use crate::paths::csv_path;
@@ -24,10 +25,11 @@ pub struct CsvFile {
     pub bytes: Vec<u8>,
 }
 
-/// The CSV files that could be read, and how the fact is cut.
+/// The CSV files that can be read, and how the fact is cut.
 #[derive(Drop)]
 pub struct Tables {
-    pub files: Vec<CsvFile>,
+    pub fact: Option<CsvFile>,
+    pub dims: Vec<CsvFile>,
     pub cut: Cut,
 }
 
@@ -63,7 +65,7 @@ fn try_read_csv<F: Folder>(
     directory: &str,
     table: &Text,
 ) -> Result<Option<CsvFile>, Refusal>
-    ensures { IfOk result (λ found. IfSome found (IsCsvOf (F.holds folder.now) directory.now)) }
+    ensures { IfOk result (λ found. IfSome found (λ file. IsCsvOf (F.holds folder.now) directory.now file × (file.table ≡ table.now))) }
 {
     let path = csv_path(alloc, directory, table.as_str())?;
     let Some(bytes) = try_read(alloc, folder, path.as_str())? else {
@@ -96,7 +98,7 @@ fn cut_evenly(
     rows: u32,
 ) -> Result<Cut, Refusal>
     requires { 1 ≤ rows }
-    ensures { IfOk result (λ cut. (counted : ℕ) × (cut_of (even_lengths counted rows) ≡ Ok cut)) }
+    ensures { IfOk result (λ cut. cut_of (even_lengths (rows_behind fact.now) rows) ≡ Ok cut) }
 {
     let counted = match fact {
         Some(file) => counted_rows(alloc, directory, &file.table, file.bytes.as_slice())?,
@@ -105,20 +107,16 @@ fn cut_evenly(
     Ok(Cut::even(alloc, counted, rows)?)
 }
 
-fn read_files<F: Folder>(
+/// The files of the dimensions that can be read.
+fn read_dims<F: Folder>(
     alloc: Global,
     folder: &F,
     directory: &str,
     catalog: &Catalog,
-    fact: Option<CsvFile>,
 ) -> Result<Vec<CsvFile>, Refusal>
-    requires { IfSome fact (IsCsvOf (F.holds folder.now) directory.now) }
     ensures { IfOk result (λ files. All (IsCsvOf (F.holds folder.now) directory.now) files.items) }
 {
     let mut files = Vec::new(alloc);
-    if let Some(file) = fact {
-        files.push(file)?;
-    }
     for dim in catalog.dims.as_slice() {
         if let Some(file) = try_read_csv(alloc, folder, directory, &dim.table.name)? {
             files.push(file)?;
@@ -136,23 +134,26 @@ pub fn read_tables<F: Folder>(
     rows: u32,
 ) -> Result<Tables, Refusal>
     requires { 1 ≤ rows }
-    ensures { IfOk result (AreTables (F.holds folder.now) directory.now rows) }
+    ensures { IfOk result (AreTables (F.holds folder.now) directory.now catalog.now.fact.name rows) }
 {
     let fact = try_read_csv(alloc, folder, directory, &catalog.fact.name)?;
     let cut = cut_evenly(alloc, directory, &fact, rows)?;
-    let files = read_files(alloc, folder, directory, catalog, fact)?;
-    Ok(Tables { files, cut })
+    let dims = read_dims(alloc, folder, directory, catalog)?;
+    Ok(Tables { fact, dims, cut })
 }
 
 /// The files' bytes by the names of their tables.
 pub fn lend_files<'a>(
     alloc: Global,
-    files: &'a [CsvFile],
+    tables: &'a Tables,
 ) -> Result<Vec<(&'a str, &'a [u8])>, AllocError>
-    ensures { IfOk result (λ csvs. files_in csvs.items ≡ files_of files.now) }
+    ensures { IfOk result (λ csvs. files_in csvs.items ≡ files_of tables.now) }
 {
     let mut csvs = Vec::new(alloc);
-    for file in files {
+    if let Some(file) = &tables.fact {
+        csvs.push((file.table.as_str(), file.bytes.as_slice()))?;
+    }
+    for file in tables.dims.as_slice() {
         csvs.push((file.table.as_str(), file.bytes.as_slice()))?;
     }
     Ok(csvs)

@@ -1,3 +1,4 @@
+//! The line on standard error that tells a refusal.
 // The line that tells a refusal.
 ghost use Rattle.std.specs.Prelude.{◌≡◌, [], ◌∷◌, decimal, OnOk};
 ghost use Rattle.std.specs.Io.KnownBytes.{Appends};

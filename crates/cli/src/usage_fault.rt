@@ -1,3 +1,4 @@
+//! Why words are no command.
 ghost use Rattle.std.specs.Prelude.{◌≡◌};
 ghost use Rattle.cli.specs.Status.{status_of};
 
@@ -39,7 +40,7 @@ impl From<clap::Error> for UsageFault {
     }
 }
 
-/// Of the arguments of a program: they are no text, or memory was wanting.
+/// Of the arguments of a program: they are no text, or memory ran out.
 impl From<io::Error> for UsageFault {
     fn from(error: io::Error) -> UsageFault {
         match error.kind() {

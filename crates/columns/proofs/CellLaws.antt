@@ -6,6 +6,7 @@ use Rattle.meaning.specs.declared.value.ColType.{ColType}
 use Rattle.meaning.specs.declared.value.ColType.TheVariants as of_type
 use Rattle.meaning.specs.declared.value.Value.{Value}
 use Rattle.meaning.specs.declared.value.Value.TheVariants.{Null, Int, Text}
+use Rattle.meaning.specs.Limits.{max_text_bytes}
 use Rattle.meaning.specs.Operators.{fits_i64}
 use mir.Syntax.{w64}
 use mir.Val.{SFits}
@@ -108,7 +109,7 @@ texts_lent cells nullable nulls values texts h v t c =
 pub text_fits : (col_type : ColType) (nullable : Bool) (t : List ℕ) → refusal col_type true (Text t) ≡ None → is_utf8 t ≡ true → is_of col_type nullable (Text t) ≡ true
 text_fits of_type.Int nullable t e f = cc
 text_fits of_type.Text nullable t e f =
-    elim (nat_le (length t) 65535) as (λ b. cond b None (Some TextTooLong) ≡ None → (is_utf8 t && b) ≡ true) [
+    elim (nat_le (length t) max_text_bytes) as (λ b. cond b None (Some TextTooLong) ≡ None → (is_utf8 t && b) ≡ true) [
       | true ↦ λ _. both _ _ f refl
       | false ↦ λ x. cc
     ] e

@@ -1,12 +1,11 @@
 -- Ends of texts, and cuts of their joined bytes.
-use Rattle.std.proofs.Common.{◌≡◌, ℕ, ◌+◌, ◌-◌, ◌<◌, ◌≤◌, true, List, [], ◌∷◌, ◌++◌, length, take, drop, get_or, refl, sym, ap, ◌∙◌, suc, zero, arith, append_assoc, length-append, add_assoc, add-zero, zero-add, add-one, rules}
+use Rattle.std.proofs.Common.{◌≡◌, ℕ, ◌+◌, ◌-◌, ◌<◌, ◌≤◌, true, List, [], ◌∷◌, ◌++◌, length, take, drop, get_or, refl, sym, ap, ◌∙◌, suc, zero, arith, append_assoc, length-append, add_assoc, add-zero, zero-add, add-one}
 use Rattle.std.specs.List.{concat, list_all}
 use Rattle.std.proofs.lemmas.List.Folds.{concat-append}
 use Rattle.std.proofs.lemmas.List.{take-append-drop, drop_more, append-nil, take_at, drop_at, get_or_read}
 use Rattle.std.proofs.Math.Seq.{take-add}
 use Rattle.columns.specs.Texts.{texts_from, ends_from, AreTexts}
 use Rattle.columns.specs.Column.{is_text}
-use Rattle.std.specs.Str.{is_utf8}
 use Rattle.meaning.proofs.Tests.{all_first, all_rest, all_append, both}
 
 pub length-texts_from : (start : ℕ) (ends : List ℕ) (joined : List ℕ) → length (texts_from start ends joined) ≡ length ends
@@ -88,11 +87,11 @@ texts-push ends joined ts t h =
     rw (concat-append ts (t ∷ []), append-nil t) (ap (λ x. x ++ t) h.joined_is) in
     rw (e, j) (texts_read [] (ts ++ t ∷ []))
 
-pub are_texts-push : (ends joined : List ℕ) (ts : List (List ℕ)) (t : List ℕ) → AreTexts ends joined ts → is_utf8 t ≡ true → length t ≤ 65535 → AreTexts (ends ++ length (joined ++ t) ∷ []) (joined ++ t) (ts ++ t ∷ [])
-are_texts-push ends joined ts t h u l = record {
+pub are_texts-push : (ends joined : List ℕ) (ts : List (List ℕ)) (t : List ℕ) → AreTexts ends joined ts → is_text t ≡ true → AreTexts (ends ++ length (joined ++ t) ∷ []) (joined ++ t) (ts ++ t ∷ [])
+are_texts-push ends joined ts t h u = record {
   ends_are = rw (h.ends_are, h.joined_is, length-append (concat ts) t) (sym (simp zero-add at (ends-push 0 ts t)));
   joined_is = rw (concat-append ts (t ∷ []), append-nil t) (ap (λ x. x ++ t) h.joined_is);
-  texts_are = all_append is_text ts (t ∷ []) h.texts_are (both _ _ (both _ _ u (search rules)) refl);
+  texts_are = all_append is_text ts (t ∷ []) h.texts_are (both _ _ u refl);
 }
 
 -- what is read as an end is where the texts up to it end
@@ -102,11 +101,11 @@ end_read ends joined ts k n h l long e =
     let s : get_or ends k 0 ≡ 0 + length (concat (take (suc k) ts)) = rw h.ends_are (ends_at 0 ts k l) in
     rw add-one (r ∙ (s ∙ zero-add (length (concat (take (suc k) ts)))))
 
-pub texts_pushed : (ends joined : List ℕ) (ts : List (List ℕ)) (t new_ends new_joined : List ℕ) (n : ℕ) → AreTexts ends joined ts → is_utf8 t ≡ true → length t ≤ 65535 → new_ends ≡ ends ++ n ∷ [] → new_joined ≡ joined ++ t → n ≡ length new_joined → AreTexts new_ends new_joined (texts_from 0 new_ends new_joined) × (texts_from 0 new_ends new_joined ≡ ts ++ t ∷ [])
-texts_pushed ends joined ts t new_ends new_joined n h u l e j p =
+pub texts_pushed : (ends joined : List ℕ) (ts : List (List ℕ)) (t new_ends new_joined : List ℕ) (n : ℕ) → AreTexts ends joined ts → is_text t ≡ true → new_ends ≡ ends ++ n ∷ [] → new_joined ≡ joined ++ t → n ≡ length new_joined → AreTexts new_ends new_joined (texts_from 0 new_ends new_joined) × (texts_from 0 new_ends new_joined ≡ ts ++ t ∷ [])
+texts_pushed ends joined ts t new_ends new_joined n h u e j p =
     let q : new_ends ≡ ends ++ length (joined ++ t) ∷ [] = e ∙ ap (λ m. ends ++ m ∷ []) (p ∙ ap length j) in
     let v : texts_from 0 new_ends new_joined ≡ ts ++ t ∷ [] = rw (q, j) (texts-push ends joined ts t h) in
-    (rw (v, q, j) (are_texts-push ends joined ts t h u l), v)
+    (rw (v, q, j) (are_texts-push ends joined ts t h u), v)
 
 -- the same, as the list of texts is seen
 pub end_seen : (ends joined : List ℕ) (ts : List (List ℕ)) (k n : ℕ) → AreTexts ends joined (texts_from 0 ends joined) → texts_from 0 ends joined ≡ ts → k < length ts → n ≡ get_or ends k n → n ≡ length (concat (take (k + 1) ts))

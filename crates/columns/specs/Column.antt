@@ -6,6 +6,7 @@ use Rattle.meaning.specs.declared.value.ColType.{ColType}
 use Rattle.meaning.specs.declared.value.ColType.TheVariants as of_type
 use Rattle.meaning.specs.declared.value.Value.{Value}
 use Rattle.meaning.specs.declared.value.Value.TheVariants.{Null, Int, Text}
+use Rattle.meaning.specs.Limits.{max_text_bytes}
 use Rattle.meaning.specs.Operators.{fits_i64}
 use Rattle.columns.specs.declared.fault.ColumnFault.{ColumnFault}
 use Rattle.columns.specs.declared.fault.ColumnFault.TheVariants as fault
@@ -20,9 +21,9 @@ pub record ColumnSpec : Type 0 where
 abbrev pub with_value : ColumnSpec → Value → ColumnSpec
 with_value c v = record { col_type = c.col_type; nullable = c.nullable; values = c.values ++ v ∷ [] }
 
--- a text is in UTF-8 and has at most 65,535 bytes
+-- a text is in UTF-8 and has at most `max_text_bytes` bytes
 abbrev pub is_text : List ℕ → Bool
-is_text t = is_utf8 t && nat_le (length t) 65535
+is_text t = is_utf8 t && nat_le (length t) max_text_bytes
 
 -- a value that may stand in a column
 abbrev pub is_of : ColType → Bool → Value → Bool
@@ -42,9 +43,9 @@ refusal col_type nullable Null = if nullable then None else Some fault.NullNotAl
 refusal of_type.Int nullable (Int n) = None
 refusal of_type.Text nullable (Int n) = Some fault.WrongType
 refusal of_type.Int nullable (Text t) = Some fault.WrongType
-refusal of_type.Text nullable (Text t) = if nat_le (length t) 65535 then None else Some fault.TextTooLong
+refusal of_type.Text nullable (Text t) = if nat_le (length t) max_text_bytes then None else Some fault.TextTooLong
 
--- by its number a refusal is told
+-- the error code
 abbrev pub number_of : ColumnFault → ℕ
 number_of fault.Memory = 0
 number_of fault.WrongType = 1

@@ -1,3 +1,5 @@
+-- The definitions of this crate.
 pub mod Cells
 pub mod Column
+pub mod Lent
 pub mod Texts

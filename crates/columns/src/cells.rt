@@ -1,5 +1,6 @@
-// A cell for each row of a column. A NULL row's cell is 0 or the empty text.
+//! A cell for each row of a column. A NULL row's cell is 0 or the empty text.
 ghost use Rattle.std.specs.Prelude.{◌≡◌, ◌≢◌, ◌<◌, [], ◌∷◌, ◌++◌, length, get_or, pos, Some, None, true, IfOk, OnOk, OnErr, IfErr};
+ghost use Rattle.std.specs.Str.{is_utf8};
 ghost use Rattle.meaning.specs.declared.value.Value.TheVariants.{Null, Int, Text};
 ghost use Rattle.meaning.specs.Order.{value_in};
 ghost use Rattle.columns.specs.Cells.{type_of, cells_in, blank};
@@ -8,11 +9,9 @@ ghost use Rattle.columns.specs.declared.fault.ColumnFault.TheVariants.{Memory};
 
 use crate::fault::ColumnFault;
 use crate::text_list::TextList;
+use meaning::limits::MAX_TEXT_BYTES;
 use meaning::value::{ColType, ValueRef};
 use std::alloc::{AllocError, Global};
-
-/// The longest text of a column, in bytes.
-pub const LONGEST_TEXT: usize = 65535;
 
 #[derive(Drop)]
 pub enum Cells {
@@ -85,7 +84,9 @@ impl Cells {
         }
     }
 
-    pub fn push_text(&mut self, text: &str) -> Result<(), ColumnFault>
+    /// Puts the bytes of a text behind the last cell.
+    pub fn push_text(&mut self, text: &[u8]) -> Result<(), ColumnFault>
+        requires { is_utf8 text.now ≡ true }
         ensures col_type { type_of self.new ≡ type_of self.old }
         ensures ok { OnOk result (cells_in self.new ≡ cells_in self.old ++ Text text.now ∷ []) }
         ensures taken { OnOk result (refusal (type_of self.old) true (Text text.now) ≡ None) }
@@ -95,7 +96,7 @@ impl Cells {
         match self {
             Cells::Ints(_) => Err(ColumnFault::WrongType),
             Cells::Texts(texts) => {
-                if text.len() > LONGEST_TEXT {
+                if text.len() > MAX_TEXT_BYTES {
                     return Err(ColumnFault::TextTooLong);
                 }
                 texts.push(text)?;
@@ -115,7 +116,7 @@ impl Cells {
                 ints.push(0)?;
                 Ok(())
             }
-            Cells::Texts(texts) => texts.push(""),
+            Cells::Texts(texts) => texts.push("".as_bytes()),
         }
     }
 }

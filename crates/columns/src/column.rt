@@ -1,9 +1,12 @@
+//! A column: values of one type, row by row.
 ghost use Rattle.std.specs.Prelude.{◌≡◌, ◌≢◌, ◌<◌, [], ◌∷◌, ◌++◌, length, map, get_or, vec_len, if◌then◌else◌, true, Some, None, IfOk, OnOk, OnErr, IfErr, IfSome, IsSome, ◌↔◌};
+ghost use Rattle.std.specs.Str.{is_utf8};
 ghost use Rattle.std.specs.Vec.{vec_capacity};
 ghost use Rattle.meaning.specs.declared.value.ColType.TheVariants as of_type;
 ghost use Rattle.meaning.specs.declared.value.Value.TheVariants.{Null, Int, Text};
 ghost use Rattle.meaning.specs.Order.{value_in, number, bytes, is_null};
 ghost use Rattle.columns.specs.Column.{with_value, refusal, IsColumn};
+ghost use Rattle.columns.specs.Lent.{AreLent};
 ghost use Rattle.columns.specs.declared.fault.ColumnFault.TheVariants.{Memory};
 
 use crate::cells::Cells;
@@ -20,6 +23,13 @@ pub struct Column {
     nullable: bool,
     // One for each row; empty in a column that isn't nullable.
     nulls: Vec<bool>,
+}
+
+/// The cells of a column, lent. A NULL row's is 0 or the empty text.
+#[derive(Clone, Copy)]
+pub enum LentCells<'a> {
+    Ints(&'a [i64]),
+    Texts(&'a TextList),
 }
 
 impl Model for Column {
@@ -124,6 +134,17 @@ impl Column {
         }
     }
 
+    /// The integers or the texts, by the type of the column.
+    pub fn cells(&self) -> LentCells<'_>
+        ensures cells { AreLent result self.now }
+        ensures column { IsColumn self.now }
+    {
+        match &self.cells {
+            Cells::Ints(ints) => LentCells::Ints(ints.as_slice()),
+            Cells::Texts(texts) => LentCells::Texts(texts),
+        }
+    }
+
     /// Which rows of a nullable column are NULL.
     pub fn nulls(&self) -> Option<&[bool]>
         ensures some { IsSome result ↔ (self.now.nullable ≡ true) }
@@ -136,7 +157,7 @@ impl Column {
         Some(self.nulls.as_slice())
     }
 
-    /// Puts an integer behind the last row. On an error the column is as it was.
+    /// Puts an integer behind the last row. On an error nothing changes.
     pub fn push_int(&mut self, n: i64) -> Result<(), ColumnFault>
         ensures ok { OnOk result (self.new ≡ with_value self.old (Int n)) }
         ensures taken { OnOk result (refusal self.old.col_type self.old.nullable (Int n) ≡ None) }
@@ -149,8 +170,19 @@ impl Column {
         Ok(())
     }
 
-    /// Puts a text behind the last row. On an error the column is as it was.
+    /// Puts a text behind the last row. On an error nothing changes.
     pub fn push_text(&mut self, text: &str) -> Result<(), ColumnFault>
+        ensures ok { OnOk result (self.new ≡ with_value self.old (Text text.now)) }
+        ensures taken { OnOk result (refusal self.old.col_type self.old.nullable (Text text.now) ≡ None) }
+        ensures err { OnErr result (self.new ≡ self.old) }
+        ensures told { IfErr result (λ f. f ≢ Memory → refusal self.old.col_type self.old.nullable (Text text.now) ≡ Some f) }
+    {
+        self.push_utf8(text.as_bytes())
+    }
+
+    /// The same for bytes that are known to be UTF-8, such as those of a text of another column.
+    pub fn push_utf8(&mut self, text: &[u8]) -> Result<(), ColumnFault>
+        requires { is_utf8 text.now ≡ true }
         ensures ok { OnOk result (self.new ≡ with_value self.old (Text text.now)) }
         ensures taken { OnOk result (refusal self.old.col_type self.old.nullable (Text text.now) ≡ None) }
         ensures err { OnErr result (self.new ≡ self.old) }
@@ -162,7 +194,7 @@ impl Column {
         Ok(())
     }
 
-    /// Puts a NULL behind the last row. On an error the column is as it was.
+    /// Puts a NULL behind the last row. On an error nothing changes.
     pub fn push_null(&mut self) -> Result<(), ColumnFault>
         ensures ok { OnOk result (self.new ≡ with_value self.old Null) }
         ensures taken { OnOk result (refusal self.old.col_type self.old.nullable Null ≡ None) }
@@ -178,7 +210,7 @@ impl Column {
         Ok(())
     }
 
-    /// Puts a value behind the last row. On an error the column is as it was.
+    /// Puts a value behind the last row. On an error nothing changes.
     pub fn push(&mut self, value: Value) -> Result<(), ColumnFault>
         ensures ok { OnOk result (self.new ≡ with_value self.old value) }
         ensures taken { OnOk result (refusal self.old.col_type self.old.nullable value ≡ None) }

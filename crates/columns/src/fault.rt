@@ -1,3 +1,4 @@
+//! Why a column refuses a value.
 ghost use Rattle.std.specs.Prelude.{◌≡◌};
 ghost use Rattle.columns.specs.Column.{number_of};
 ghost use Rattle.columns.specs.declared.fault.ColumnFault.TheVariants.{Memory};
@@ -5,7 +6,7 @@ ghost use Rattle.columns.specs.declared.fault.ColumnFault.TheVariants.{Memory};
 use std::alloc::{AllocError, AllocFailed};
 use thiserror::Error;
 
-/// Why a column doesn't take a value.
+/// Why a column refuses a value.
 #[derive(Debug, Drop, Error)]
 pub enum ColumnFault {
     #[error("out of memory")]
@@ -19,7 +20,7 @@ pub enum ColumnFault {
 }
 
 impl ColumnFault {
-    /// The number by which the refusal is told.
+    /// The error code.
     pub fn number(&self) -> u8
         ensures { result ≡ number_of self.now }
     {

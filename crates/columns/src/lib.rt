@@ -6,6 +6,6 @@ mod column;
 mod fault;
 mod text_list;
 
-pub use column::Column;
+pub use column::{Column, LentCells};
 pub use fault::ColumnFault;
 pub use text_list::TextList;

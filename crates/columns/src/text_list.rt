@@ -1,3 +1,4 @@
+//! Texts, one behind the other, and where each ends.
 ghost use Rattle.std.specs.Prelude.{◌≡◌, ◌<◌, ◌≤◌, ◌-◌, [], ◌∷◌, ◌++◌, length, take, drop, get_or, true, IfOk, OnOk, OnErr};
 ghost use Rattle.std.specs.List.{concat, list_all};
 ghost use Rattle.columns.specs.Column.{is_text};
@@ -81,14 +82,14 @@ impl TextList {
         &self.joined[self.start(place)..self.ends[place]]
     }
 
-    /// Puts a text behind the last. Where memory is wanting, the list is as it was.
-    pub fn push(&mut self, text: &str) -> Result<(), AllocError>
-        requires { length text.now ≤ 65535 }
+    /// Puts the bytes of a text behind the last. On an error nothing changes.
+    pub fn push(&mut self, text: &[u8]) -> Result<(), AllocError>
+        requires { is_text text.now ≡ true }
         ensures ok { OnOk result (self.new ≡ self.old ++ text.now ∷ []) }
         ensures err { OnErr result (self.new ≡ self.old) }
     {
         self.ends.reserve(1)?;
-        self.joined.extend_from_slice(text.as_bytes())?;
+        self.joined.extend_from_slice(text)?;
         self.ends.push_reserved(self.joined.len());
         Ok(())
     }

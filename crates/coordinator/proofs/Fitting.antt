@@ -4,6 +4,7 @@ use Rattle.std.specs.List.{list_all, enumerate_from}
 use Rattle.std.proofs.Common.{refl, sym, ap, subst, arith, add-zero}
 use Rattle.std.proofs.lemmas.Bool.{false≢true, ltb-true, leb-true, eqb-true}
 use Rattle.std.proofs.lemmas.Int.{ints}
+use Rattle.meaning.specs.Limits.{max_fragments}
 use Rattle.meaning.specs.declared.plan.TableUse.{TableUse}
 use Rattle.meaning.specs.declared.plan.Plan.{Plan}
 use Rattle.meaning.specs.declared.answer.Statistics.{Statistics}
@@ -123,7 +124,7 @@ module _ (text : List ℕ) (fact : TableUse) (summed : Option ℕ) where
         possible_of summed rows s kept (first_of _ _ p),
       )
 
-  one_form : (k n : ℕ) (g : Group) → (is_group_of plan g && true) ≡ true → (is_group_possible plan g && true) ≡ true → 0 + g.rows ≤ n → n ≤ 1048576 → k < 4096 → IsTallied k (Groups (g ∷ []))
+  one_form : (k n : ℕ) (g : Group) → (is_group_of plan g && true) ≡ true → (is_group_possible plan g && true) ≡ true → 0 + g.rows ≤ n → n ≤ 1048576 → k < max_fragments → IsTallied k (Groups (g ∷ []))
   one_form k n g e p within short few =
       let form = group_form g.key g.rows g.states (first_of _ _ e) (first_of _ _ p) in
       record {
@@ -132,7 +133,7 @@ module _ (text : List ℕ) (fact : TableUse) (summed : Option ℕ) where
         of_fragment = record { place = λ _. few; rows = omega (arith, form.2); possible = form.3 };
       }
 
-  groups_form : (k n first : ℕ) (gs : List Group) → list_all (is_group_of plan) gs ≡ true → are_numbers_possible plan first n (Groups gs) ≡ true → n ≤ 1048576 → k < 4096 → IsTallied k (Groups gs)
+  groups_form : (k n first : ℕ) (gs : List Group) → list_all (is_group_of plan) gs ≡ true → are_numbers_possible plan first n (Groups gs) ≡ true → n ≤ 1048576 → k < max_fragments → IsTallied k (Groups gs)
   groups_form k n first gs e p short few =
       let within = first_of (nat_le (sum (map (λ (g : Group). g.rows) gs)) n) _ p in
       let rest = second_of (nat_le (sum (map (λ (g : Group). g.rows) gs)) n) _ p in
@@ -150,10 +151,10 @@ module _ (text : List ℕ) (fact : TableUse) (summed : Option ℕ) where
       let rest = second_of (nat_lt k (length cut)) _ e in
       let shaped = first_of (list_all (is_group_of plan) gs) _ rest in
       let numbers = second_of _ _ (second_of (list_all (is_group_of plan) gs) _ rest) in
-      groups_form k (slice_index cut k) (first_row cut k) gs shaped numbers (is_cut.short k 0 within) (before_4096 (length cut) within is_cut.few)
+      groups_form k (slice_index cut k) (first_row cut k) gs shaped numbers (is_cut.short k 0 within) (below_limit (length cut) within is_cut.few)
     where
-      before_4096 : (n : ℕ) → k < n → n ≤ 4096 → k < 4096
-      before_4096 n below few = omega arith
+      below_limit : (n : ℕ) → k < n → n ≤ max_fragments → k < max_fragments
+      below_limit n below few = omega arith
 
   cell_form : (cut : Cut) → IsCut cut → (k : ℕ) (c : Cell) → is_fitting plan cut k c ≡ true → IsOfFragment k (tally_of_cell c)
   cell_form cut is_cut k Nothing e = record { place = λ h. absurd (omega (arith, h)); rows = omega arith; possible = none-possible }

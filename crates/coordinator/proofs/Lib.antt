@@ -1,3 +1,4 @@
+-- The lemmas of this crate.
 pub mod Keyless
 pub mod OwnBody
 pub mod Fragments

@@ -3,6 +3,7 @@ use Rattle.std.specs.Prelude.{◌≡◌, ◌≢◌, ℕ, ◌≤◌, Bool, true, 
 use Rattle.std.specs.List.{list_any}
 use Rattle.std.specs.Str.{bytes_eq}
 use Rattle.std.proofs.Common.{refl, sym, ap, ◌∙◌, subst, arith}
+use Rattle.meaning.specs.Limits.{max_query_bytes}
 use Rattle.meaning.specs.declared.value.ColType.{ColType}
 use Rattle.meaning.specs.declared.value.ColType.TheVariants as of_type
 use Rattle.meaning.specs.declared.expr.Expr.{Expr as Node}
@@ -72,7 +73,7 @@ single_if_planned catalog bytes plan planned =
     let found = of_steps (canonical (tree_of planned.form)) (λ t. summed_in t.columns (column_in planned.form)) (fact_named catalog (table_in planned.form)) plan planned.gives in (
       found.0,
       record {
-        text = subst (λ (text : List ℕ). length text ≤ 65535) (sym found.1) planned.short.printed;
+        text = subst (λ (text : List ℕ). length text ≤ max_query_bytes) (sym found.1) planned.short.printed;
         keys = subst (λ (p : Plan). length p.keys ≤ 64) (sym found.0.form) (omega arith);
         aggregates = subst (λ (p : Plan). length p.aggs ≤ 64) (sym found.0.form) (omega arith);
       },

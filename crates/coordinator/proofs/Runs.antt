@@ -1,5 +1,5 @@
 -- The fact's fragments, from the files to the answer.
-use Rattle.std.specs.Prelude.{◌≡◌, ℕ, List, [], Option, Result, Ok, Err, IfOk}
+use Rattle.std.specs.Prelude.{◌≡◌, ℕ, List, [], Option, Result, Ok, Err, IfOk, IfErr}
 use Rattle.std.specs.Borrow.{Bor}
 use Rattle.std.proofs.Common.{refl, sym, ap}
 use Rattle.meaning.specs.declared.catalog.Column.{Column}
@@ -14,10 +14,11 @@ use Rattle.loader.specs.Columns.{fragments_of, fact_fragments}
 use Rattle.loader.specs.Source.{csv_records}
 use Rattle.coordinator.specs.declared.reporting.Ended.{Ended}
 use Rattle.coordinator.specs.declared.whole_fault.WholeFault.{WholeFault}
+use Rattle.coordinator.specs.declared.whole_fault.WholeFault.TheVariants as fault
 use Rattle.coordinator.specs.Fragment.{AreFragments}
 use Rattle.coordinator.specs.Gathering.{GatherSpec}
 use Rattle.coordinator.specs.Single.{IsSingle}
-use Rattle.coordinator.specs.Whole.{Files, files_in, input_of, csv_of, tables_of, IsLoaded, IsPrepared, IsAnsweredOver, IsAnswered}
+use Rattle.coordinator.specs.Whole.{Files, files_in, input_of, csv_of, tables_of, IsLoaded, IsPrepared, IsAnsweredOver, IsAnswered, RunsOver, IsEndRefusal, IsRefused}
 use Rattle.coordinator.proofs.CountedRows.{went_on, counted_fact}
 use Rattle.coordinator.proofs.Planned.{summable_if_planned}
 
@@ -63,3 +64,22 @@ module _ (catalog : Catalog) (csvs : List (Bor (List ℕ) × Bor (List ℕ))) (q
         ends = told.ends;
         state = told.state;
       }
+
+  -- a refusal at the end stands behind all that is well
+  runs_over : (bytes : List ℕ) → catalog_of bytes ≡ Ok catalog → RunsOver (input_of bytes csvs query cut vector_len) plan prepared.loaded.rows []
+  runs_over bytes declared = record { catalog = catalog; declared = declared; planned = prepared.planned; tables = prepared.loaded.tables; vectors = prepared.vectors }
+
+  stands : (e : WholeFault) → IsEndRefusal e → (bytes : List ℕ) → catalog_of bytes ≡ Ok catalog → IsRefused (input_of bytes csvs query cut vector_len) e
+  stands fault.Memory end bytes declared = tt
+  stands fault.Writer end bytes declared = (plan, prepared.loaded.rows, [], runs_over bytes declared)
+  stands (fault.Catalog e) end bytes declared = absurd end
+  stands (fault.Sql e) end bytes declared = absurd end
+  stands (fault.Plan e) end bytes declared = absurd end
+  stands (fault.MissingCsv table) end bytes declared = absurd end
+  stands (fault.Load e) end bytes declared = absurd end
+  stands fault.VectorLength end bytes declared = absurd end
+
+  pub refused_at_end : (result : Result (Ended × GatherSpec) WholeFault) → IfErr result IsEndRefusal
+      → IfErr result (λ e. (bytes : List ℕ) → catalog_of bytes ≡ Ok catalog → IsRefused (input_of bytes csvs query cut vector_len) e)
+  refused_at_end (Ok r) end = tt
+  refused_at_end (Err e) end = stands e end

@@ -74,14 +74,14 @@ RefusesState job bytes (fault.Decode e) = state_obstacle job bytes ≡ Some e
 RefusesState job bytes fault.OtherJob = ⊥
 RefusesState job bytes fault.Writer = ⊥
 
--- the other's job is another, or memory was wanting
+-- the other's job is another, or memory ran out
 abbrev pub RefusesJoin : JobSpec → JobSpec → GatherFault → Type 0
 RefusesJoin job other fault.Memory = ⊤
 RefusesJoin job other (fault.Decode e) = ⊥
 RefusesJoin job other fault.OtherJob = job ≢ other
 RefusesJoin job other fault.Writer = ⊥
 
--- want of memory is the coordinator's own
+-- out of memory is the coordinator's own refusal
 abbrev pub fault_of : DecodeFault → GatherFault
 fault_of refusal.Memory = fault.Memory
 fault_of e = fault.Decode e
@@ -90,7 +90,7 @@ abbrev pub of_print : PrintFault → GatherFault
 of_print print.Memory = fault.Memory
 of_print print.Writer = fault.Writer
 
--- the number by which a refusal is told
+-- the error code of a refusal
 abbrev pub number_of : GatherFault → ℕ
 number_of fault.Memory = 0
 number_of (fault.Decode e) = codec.number_of e

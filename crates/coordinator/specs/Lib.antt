@@ -1,3 +1,4 @@
+-- The definitions of this crate.
 pub mod Finished
 pub mod Fitted
 pub mod Fragment

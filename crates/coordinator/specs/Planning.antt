@@ -83,12 +83,12 @@ plan_of catalog form =
     and_then (summed_in fact.columns (column_in form)) (λ summed.
     Ok (single_plan (canonical (tree_of form)) (fact_use fact summed) summed)))
 
--- what a call gave is what planning gives, unless memory was wanting
+-- what a call gave is what planning gives, unless memory runs out
 abbrev pub Plans : {X Y : Type 0} → (X → Y) → Result X PlanFault → Result Y PlanFault → Type 0
 Plans view (Ok x) planned = planned ≡ Ok (view x)
 Plans view (Err e) planned = e ≢ Memory → planned ≡ Err e
 
--- the number by which a refusal is told
+-- the error code of a refusal
 abbrev pub number_of : PlanFault → ℕ
 number_of Memory = 0
 number_of TableUnknown = 1

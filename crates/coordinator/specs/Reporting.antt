@@ -59,7 +59,7 @@ IsReportable plan (finding.Conflict ks) = ⊤
 IsReportable plan (finding.Missing ks) = ⊤
 IsReportable plan (finding.Output o) = IsPrintable plan o
 
--- memory was wanting, or the writer failed
+-- out of memory, or the writer failed
 abbrev pub IsPrintRefusal : GatherFault → Type 0
 IsPrintRefusal fault.Memory = ⊤
 IsPrintRefusal (fault.Decode e) = ⊥

@@ -1,5 +1,6 @@
 -- Tallies: how many rows there are, and how many entries of the aggregate with which sum.
 use Rattle.std.specs.Prelude.{ℕ, ℤ, pos, ◌+◌, ◌<◌, ◌≤◌, ◌+ℤ◌, ◌*ℤ◌, ◌≤ℤ◌, if◌then◌else◌, List, [], ◌∷◌, length, slice_index_or, None}
+use Rattle.meaning.specs.Limits.{max_fragments, max_rows}
 use Rattle.meaning.specs.declared.value.Value.{Value}
 use Rattle.meaning.specs.declared.answer.Statistics.{Statistics}
 use Rattle.meaning.specs.declared.answer.Group.{Group}
@@ -68,8 +69,8 @@ pub record IsPossible (t : Tally) : Type 0 where
 
 -- a tally of the rows of fragment k, if there are any
 pub record IsOfFragment (k : ℕ) (t : Tally) : Type 0 where
-  pub place : 0 < t.rows → k < 4096
-  pub rows : t.rows ≤ 1048576
+  pub place : 0 < t.rows → k < max_fragments
+  pub rows : t.rows ≤ max_rows
   pub possible : IsPossible t
 
 -- each cell's tally is of the fragment at its place

@@ -4,6 +4,7 @@ use Rattle.std.specs.Borrow.{Bor}
 use Rattle.std.specs.List.{range_with_len}
 use Rattle.std.specs.Str.{bytes_eq}
 use Rattle.std.specs.Io.KnownBytes.{Appends}
+use Rattle.meaning.specs.Limits.{max_vector_rows}
 use Rattle.meaning.specs.declared.catalog.Catalog.{Catalog}
 use Rattle.meaning.specs.declared.catalog.Dimension.{Dimension}
 use Rattle.meaning.specs.declared.catalog.CatalogFault.{CatalogFault}
@@ -49,7 +50,7 @@ Files = List (List ℕ × List ℕ)
 abbrev pub files_in : List (Bor (List ℕ) × Bor (List ℕ)) → Files
 files_in csvs = map (λ file. (file.0.now, file.1.now)) csvs
 
--- ---- a layer's refusal as one of the whole; want of memory is told as such
+-- ---- a layer's refusal as one of the whole; out of memory is told as such
 
 abbrev pub of_catalog : CatalogFault → WholeFault
 of_catalog catalog_fault.Memory = fault.Memory
@@ -73,7 +74,7 @@ abbrev pub of_print : PrintFault → WholeFault
 of_print print_fault.Memory = fault.Memory
 of_print print_fault.Writer = fault.Writer
 
--- what a call gave, seen by `view`, is what is meant, unless memory was wanting
+-- what a call gave, seen by `view`, is what is meant, unless memory runs out
 abbrev pub Gives : {X Y : Type 0} → (X → Y) → Result X WholeFault → Result Y WholeFault → Type 0
 Gives view (Ok x) meant = meant ≡ Ok (view x)
 Gives view (Err e) meant = e ≢ fault.Memory → meant ≡ Err e
@@ -90,7 +91,7 @@ pub record IsPlanned (catalog : Catalog) (query : List ℕ) (planned : Result Pl
 -- why the query has no plan
 abbrev pub IsPlanRefused : Catalog → List ℕ → WholeFault → Type 0
 IsPlanRefused catalog query fault.Memory = ⊤
-IsPlanRefused catalog query (fault.Sql e) = IsRefusal query e
+IsPlanRefused catalog query (fault.Sql e) = (e ≢ sql.Memory) × IsRefusal query e
 IsPlanRefused catalog query (fault.Plan e) = IsPlanned catalog query (Err e)
 IsPlanRefused catalog query _ = ⊥
 
@@ -131,7 +132,7 @@ tables_of catalog files cut plan =
 
 -- vectors have 1 to 4,096 values
 abbrev pub is_vector_length : ℕ → Bool
-is_vector_length n = nat_le 1 n && nat_le n 4096
+is_vector_length n = nat_le 1 n && nat_le n max_vector_rows
 
 -- all that a call is given but the writer
 pub record Input : Type 0 where
@@ -152,18 +153,18 @@ pub record RunsOver (input : Input) (plan : Plan) (rows : List Row) (dims : List
   pub tables : tables_of catalog input.files input.cut plan ≡ Ok (rows, dims)
   pub vectors : is_vector_length input.vector_len ≡ true
 
--- where each refusal stands in the input: the catalogue, the query, its plan, the tables, and last the vectors' length, each where
--- all before it is well
+-- where each refusal stands in the input: the catalogue, the query, its plan, the tables, the vectors' length, and last the writer,
+-- each where all before it is well
 abbrev pub IsRefused : Input → WholeFault → Type 0
 IsRefused input fault.Memory = ⊤
 IsRefused input (fault.Catalog e) = catalog_of input.catalog ≡ Err e
-IsRefused input (fault.Sql e) = (catalog : Catalog) × (catalog_of input.catalog ≡ Ok catalog) × IsRefusal input.query e
+IsRefused input (fault.Sql e) = (catalog : Catalog) × (catalog_of input.catalog ≡ Ok catalog) × (e ≢ sql.Memory) × IsRefusal input.query e
 IsRefused input (fault.Plan e) = (catalog : Catalog) × (catalog_of input.catalog ≡ Ok catalog) × IsPlanned catalog input.query (Err e)
 IsRefused input (fault.MissingCsv table) = (catalog : Catalog) × (plan : Plan) × (catalog_of input.catalog ≡ Ok catalog) × IsPlanned catalog input.query (Ok plan) × (tables_of catalog input.files input.cut plan ≡ Err (fault.MissingCsv table))
 IsRefused input (fault.Load e) = (catalog : Catalog) × (plan : Plan) × (catalog_of input.catalog ≡ Ok catalog) × IsPlanned catalog input.query (Ok plan) × (tables_of catalog input.files input.cut plan ≡ Err (fault.Load e))
 IsRefused input fault.VectorLength = (catalog : Catalog) × (plan : Plan) × (tables : List Row × List (List Row)) × (catalog_of input.catalog ≡ Ok catalog) × IsPlanned catalog input.query (Ok plan)
     × (tables_of catalog input.files input.cut plan ≡ Ok tables) × (is_vector_length input.vector_len ≡ false)
-IsRefused input fault.Writer = ⊤
+IsRefused input fault.Writer = (plan : Plan) × (rows : List Row) × (dims : List (List Row)) × RunsOver input plan rows dims
 
 -- why the tables or the vectors are refused
 abbrev pub IsTablesRefused : Catalog → Files → Cut → Plan → ℕ → WholeFault → Type 0
@@ -191,7 +192,7 @@ pub record IsPrepared (catalog : Catalog) (files : Files) (query : List ℕ) (cu
 -- the same, of a catalogue that was read
 abbrev pub IsPrepareRefused : Catalog → Files → List ℕ → Cut → ℕ → WholeFault → Type 0
 IsPrepareRefused catalog files query cut vector_len fault.Memory = ⊤
-IsPrepareRefused catalog files query cut vector_len (fault.Sql e) = IsRefusal query e
+IsPrepareRefused catalog files query cut vector_len (fault.Sql e) = (e ≢ sql.Memory) × IsRefusal query e
 IsPrepareRefused catalog files query cut vector_len (fault.Plan e) = IsPlanned catalog query (Err e)
 IsPrepareRefused catalog files query cut vector_len (fault.MissingCsv table) = (plan : Plan) × IsPlanned catalog query (Ok plan) × (tables_of catalog files cut plan ≡ Err (fault.MissingCsv table))
 IsPrepareRefused catalog files query cut vector_len (fault.Load e) = (plan : Plan) × IsPlanned catalog query (Ok plan) × (tables_of catalog files cut plan ≡ Err (fault.Load e))
@@ -215,7 +216,7 @@ pub record IsAnswered (input : Input) (before after : Option (List ℕ)) (ended 
   pub ends : ended ≡ ended_as (meaning plan (numbered rows) dims)
   pub state : gather ≡ record { job = record { load = 0; plan = plan; cut = input.cut }; cells = joined input.cut (own_answers plan dims input.cut rows (range_with_len 0 (length input.cut))) }
 
--- a refusal at the end: memory was wanting, or the writer failed
+-- a refusal at the end: out of memory, or the writer failed
 abbrev pub IsEndRefusal : WholeFault → Type 0
 IsEndRefusal fault.Memory = ⊤
 IsEndRefusal fault.Writer = ⊤

@@ -1,6 +1,8 @@
+//! A fragment's own answer, from its columns.
 // What the columns of a fragment answer.
 ghost use Rattle.std.specs.Prelude.{◌≡◌, ℕ, ◌<◌, ◌≤◌, [], List, length, slice_index, true, IfOk};
 ghost use Rattle.std.specs.List.{enumerate_from};
+ghost use Rattle.meaning.specs.Limits.{max_rows};
 ghost use Rattle.meaning.specs.declared.catalog.Column.{Column as Declared};
 ghost use Rattle.meaning.specs.Answer.{own_body};
 ghost use Rattle.meaning.specs.Order.{Row};
@@ -32,7 +34,7 @@ fn tally_of_count(row_count: u32) -> Tally
 
 /// What a fragment's rows come to. A count looks at no column.
 fn tally_of_rows(summed: Option<usize>, columns: &[Column], row_count: u32) -> Tally
-    requires few { row_count ≤ 1048576 }
+    requires few { row_count ≤ max_rows }
     requires fragment { (declared : List Declared) × (rows : List Row) × IsFragment summed declared rows row_count columns.now }
     ensures { (declared : List Declared) (rows : List Row) → IsFragment summed declared rows row_count columns.now → IsTallyOfRows summed rows result }
 {
@@ -51,7 +53,7 @@ pub fn answer_fragment(
     k: u32,
 ) -> Result<Answer, AllocError>
     requires single { IsSingle plan.now }
-    requires few { row_count ≤ 1048576 }
+    requires few { row_count ≤ max_rows }
     requires fragment { (declared : List Declared) × (rows : List Row) × IsFragmentFor plan.now declared rows row_count columns.now }
     ensures place { IfOk result (λ a. a.k ≡ k) }
     ensures value { IfOk result (λ a. (declared : List Declared) (rows : List Row) (first : ℕ) → IsFragmentFor plan.now declared rows row_count columns.now

@@ -1,3 +1,4 @@
+//! The tallies of all fragments as one.
 // What the answers in the cells say together.
 ghost use Rattle.std.specs.Prelude.{◌≡◌, ◌≤◌, map, filter_map, IfOk};
 ghost use Rattle.meaning.specs.Answer.{combined};

@@ -1,3 +1,4 @@
+//! Copies of answers and their parts.
 // Copies of what a coordinator holds.
 ghost use Rattle.std.specs.Prelude.{◌≡◌, IfOk};
 

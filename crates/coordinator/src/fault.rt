@@ -1,3 +1,4 @@
+//! Why a coordinator refuses a call.
 ghost use Rattle.std.specs.Prelude.{◌≡◌};
 ghost use Rattle.coordinator.specs.Gathering.{fault_of, of_print, number_of};
 ghost use Rattle.coordinator.specs.declared.fault.GatherFault.TheVariants as fault;
@@ -22,7 +23,7 @@ pub enum GatherFault {
 }
 
 impl GatherFault {
-    /// The number by which the refusal is told.
+    /// The error code.
     pub fn number(&self) -> u8
         ensures { result ≡ number_of self.now }
     {

@@ -1,3 +1,4 @@
+//! The last step of a query with one group.
 // The last step: from the one group to the row that is printed.
 ghost use Rattle.std.specs.Prelude.{◌≡◌, ℕ, ◌≤◌, ◌∷◌, [], IfOk};
 ghost use Rattle.meaning.specs.Aggregate.{value, unless_none, sum_value};

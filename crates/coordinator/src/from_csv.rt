@@ -1,6 +1,8 @@
+//! A whole query in memory, from CSV files to what is printed.
 ghost use Rattle.std.specs.Prelude.{◌≡◌, ◌<◌, ◌≤◌, [], ◌∷◌, ◌++◌, ℕ, List, length, slice_index, IfOk, IfErr, OnOk, Ok, true, false};
 ghost use Rattle.std.specs.List.{range_with_len, enumerate_from};
 ghost use Rattle.std.specs.Io.KnownBytes.{Appends};
+ghost use Rattle.meaning.specs.Limits.{max_rows};
 ghost use Rattle.meaning.specs.declared.answer.Answer.{Answer as AnAnswer};
 ghost use Rattle.meaning.specs.Answer.{own_body};
 ghost use Rattle.meaning.specs.Finish.{Output};
@@ -26,6 +28,7 @@ use crate::whole_fault::WholeFault;
 use columns::Column;
 use meaning::catalog::Catalog;
 use meaning::cut::Cut;
+use meaning::limits::MAX_VECTOR_ROWS;
 use meaning::plan::Plan;
 use meaning::read_catalog::read_catalog;
 use meaning::sequence::Sequence;
@@ -36,9 +39,6 @@ use std::mem::drop;
 
 /// The number of the load that is made here, and goes with the call.
 const LOAD: u64 = 0;
-
-/// The most values of a vector.
-const MAX_VECTOR_LEN: usize = 4_096;
 
 fn copy_cut(alloc: Global, cut: &Cut) -> Result<Cut, WholeFault>
     ensures value { IfOk result (λ copy. copy ≡ cut.now) }
@@ -60,7 +60,7 @@ fn answer_bytes(
     requires single { IsSingle job.now.plan }
     requires place { k < length job.now.cut }
     requires rows { slice_index job.now.cut k ≡ row_count }
-    requires few { row_count ≤ 1048576 }
+    requires few { row_count ≤ max_rows }
     requires fragment { (declared : List Declared) × (rows : List Row) × IsFragmentFor job.now.plan declared rows row_count columns.now }
     ensures { IfOk result (λ bytes. (declared : List Declared) (rows : List Row) (first : ℕ) → IsFragmentFor job.now.plan declared rows row_count columns.now
         → Spells job.now bytes.items (record { k = k; body = own_body job.now.plan [] (enumerate_from first rows) })) }
@@ -81,7 +81,7 @@ fn answer_one(
 ) -> Result<(), WholeFault>
     requires place { k < length gather.now.job.cut }
     requires rows { slice_index gather.now.job.cut k ≡ row_count }
-    requires few { row_count ≤ 1048576 }
+    requires few { row_count ≤ max_rows }
     requires fragment { (declared : List Declared) × (rows : List Row) × IsFragmentFor gather.now.job.plan declared rows row_count columns.now }
     ensures same { OnOk result (gather.new.job ≡ gather.old.job) }
     ensures taken { OnOk result ((answers : List AnAnswer) (declared : List Declared) (rows : List Row) (first : ℕ) → IsFragmentFor gather.old.job.plan declared rows row_count columns.now
@@ -92,7 +92,7 @@ fn answer_one(
     let bytes = answer_bytes(alloc, gather.job(), columns, row_count, k)?;
     match gather.absorb(alloc, bytes.as_slice()) {
         Ok(_) => Ok(()),
-        // An answer's own bytes are refused for want of memory alone.
+        // An answer's own bytes are refused only when out of memory.
         Err(_) => Err(WholeFault::Memory),
     }
 }
@@ -178,7 +178,7 @@ fn check_vector_len(vector_len: usize) -> Result<(), WholeFault>
     ensures ok { OnOk result (is_vector_length vector_len ≡ true) }
     ensures refused { IfErr result (λ e. (e ≡ WholeFault.VectorLength) × (is_vector_length vector_len ≡ false)) }
 {
-    if vector_len == 0 || vector_len > MAX_VECTOR_LEN {
+    if vector_len == 0 || vector_len > MAX_VECTOR_ROWS {
         return Err(WholeFault::VectorLength);
     }
     Ok(())

@@ -1,3 +1,4 @@
+//! The coordinator: a cell for each fragment, and what an answer does to it.
 ghost use Rattle.std.specs.Prelude.{◌≡◌, ℕ, [], ◌∷◌, ◌++◌, List, length, replicate, IfOk, IfErr, OnOk, OnErr};
 ghost use Rattle.meaning.specs.declared.answer.Answer.{Answer as AnAnswer};
 ghost use Rattle.meaning.specs.declared.answer.Cell.{Cell as ACell};
@@ -112,8 +113,8 @@ impl Gather {
         &self.cells
     }
 
-    /// Takes the answer that the bytes spell. The bytes' refusals are those of `partial_codec::decode`, and leave all as
-    /// it was.
+    /// Takes the answer that the bytes spell. The bytes' refusals are those of `partial_codec::decode`. On error nothing
+    /// changes.
     pub fn absorb(&mut self, alloc: Global, bytes: &[u8]) -> Result<Absorbed, GatherFault>
         // The answer's cell is joined with it.
         ensures takes { IfOk result (Takes self.old self.new bytes.now) }
@@ -131,8 +132,8 @@ impl Gather {
         Ok(absorbed)
     }
 
-    /// Takes all that another coordinator holds. Another load, plan or cut is refused, and a refusal leaves all as it
-    /// was.
+    /// Takes all that another coordinator holds. Another load, plan or cut is refused. On error nothing
+    /// changes.
     pub fn join(&mut self, alloc: Global, other: &Gather) -> Result<(), GatherFault>
         // Each cell is joined with the other's.
         ensures joins { OnOk result ((self.old.job ≡ other.now.job) × (self.new ≡ joined_with self.old other.now)) }
@@ -163,7 +164,7 @@ impl Gather {
         requires { IsSingle job.plan }
         // What it holds is spelled so.
         ensures reads { IfOk result (λ g. (g.job ≡ job) × SpellsState job bytes.now g.cells) }
-        // What is spelled so is read, unless memory is wanting.
+        // What is spelled so is read, unless memory runs out.
         ensures complete { (cells : List ACell) → SpellsState job bytes.now cells → IfErr result (λ e. e ≡ GatherFault.Memory) }
         ensures refused { IfErr result (RefusesState job bytes.now) }
     {

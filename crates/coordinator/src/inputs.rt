@@ -1,3 +1,4 @@
+//! The plan and the tables that a whole query runs over.
 // From the bytes that a call is given to a plan and the fact's fragments.
 ghost use Rattle.std.specs.Prelude.{◌≡◌, ◌≢◌, find, option_map, IfOk, IfErr, Ok, Err};
 ghost use Rattle.std.specs.Str.{bytes_eq};

@@ -1,3 +1,4 @@
+//! Joins the cells of two coordinators.
 // What another coordinator's cells add to one's own.
 ghost use Rattle.std.specs.Prelude.{◌≡◌, ◌<◌, length, slice_set, slice_index_or, IfOk};
 ghost use Rattle.meaning.specs.declared.answer.Cell.TheVariants.{Nothing};

@@ -1,3 +1,4 @@
+//! Laws of coordinators, each the contract of an empty function.
 // What coordinators side by side can rely on. A body does nothing: the clause is a theorem on the definitions.
 ghost use Rattle.coordinator.specs.Laws.{AnswersDecide, StatesJoin};
 

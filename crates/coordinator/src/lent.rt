@@ -1,3 +1,4 @@
+//! A writer that is lent, for writers that own theirs.
 ghost use Rattle.coordinator.specs.Lent.{lent_contents};
 
 use std::io;

@@ -1,3 +1,4 @@
+//! The answer of a fragment whose query has one group.
 // Bodies of one group without a key, with one state.
 ghost use Rattle.std.specs.Prelude.{◌≡◌, IfOk};
 ghost use Rattle.coordinator.specs.OneGroup.{one_group};

@@ -1,3 +1,4 @@
+//! Plans of the two forms of queries that are answered today.
 // From a query's syntax tree to its plan, for the two forms of queries.
 ghost use Rattle.std.specs.Prelude.{◌≡◌, [], ◌∷◌, codes, IfOk, Some, None, option_map, position, slice_get};
 ghost use Rattle.std.specs.List.{list_any};
@@ -33,7 +34,7 @@ pub enum PlanFault {
 }
 
 impl PlanFault {
-    /// The number by which the refusal is told.
+    /// The error code.
     pub fn number(&self) -> u8
         ensures { result ≡ number_of self.now }
     {

@@ -1,3 +1,4 @@
+//! Why a report was not printed.
 ghost use Rattle.std.specs.Prelude.{◌≡◌, if◌then◌else◌};
 ghost use Rattle.csv.specs.Reading.{error_kind, is_io};
 ghost use Rattle.coordinator.specs.declared.print_fault.PrintFault.TheVariants.{Memory, Writer};

@@ -1,6 +1,8 @@
+//! Which report a coordinator's state is.
 // What a coordinator prints: its conflicts, what is missing, or what the answers say together.
 ghost use Rattle.std.specs.Prelude.{◌≡◌, ◌≤◌, length, IfOk, IfErr, OnOk};
 ghost use Rattle.std.specs.Io.KnownBytes.{Appends};
+ghost use Rattle.meaning.specs.Limits.{max_fragments};
 ghost use Rattle.meaning.specs.Finish.{Output};
 ghost use Rattle.meaning.specs.Gather.{places, report, preview, output};
 ghost use Rattle.meaning.specs.Print.{output_text, report_text};
@@ -73,7 +75,7 @@ fn fragments_that_lack(
     lack: Lack,
     cells: &[Cell],
 ) -> Result<Sequence<u32>, AllocError>
-    requires { length cells.now ≤ 4096 }
+    requires { length cells.now ≤ max_fragments }
     ensures { IfOk result (λ ks. ks ≡ places (lacks lack) cells.now) }
 {
     let mut fragments = Sequence::new(alloc);
@@ -112,7 +114,7 @@ fn find_in_cells(
 ) -> Result<Finding, AllocError>
     requires single { IsSingle plan.now }
     requires fitting { AreFitting plan.now cut.now cells.now }
-    requires few { length cells.now ≤ 4096 }
+    requires few { length cells.now ≤ max_fragments }
     ensures value { IfOk result (λ f. report_in f ≡ report plan.now cells.now) }
     ensures printable { IfOk result (IsReportable plan.now) }
 {

@@ -1,3 +1,4 @@
+//! Compares two jobs.
 // Whether two coordinators' jobs are one.
 ghost use Rattle.std.specs.Prelude.{◌≡◌};
 ghost use Rattle.std.specs.Bool.{Decides};

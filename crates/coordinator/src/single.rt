@@ -1,3 +1,4 @@
+//! The only aggregate of a plan, and its column.
 // The plans of the two forms of queries: one aggregate over the whole fact table.
 ghost use Rattle.std.specs.Prelude.{◌≡◌, [], ◌∷◌};
 ghost use Rattle.coordinator.specs.Single.{IsSingle, single_plan};

@@ -1,5 +1,7 @@
+//! Sums and counts of an integer column.
 // What a column of integers adds up to.
 ghost use Rattle.std.specs.Prelude.{◌≡◌, ◌≤◌, ◌+ℤ◌, ◌*ℤ◌, ◌≤ℤ◌, pos, not, filter, length};
+ghost use Rattle.meaning.specs.Limits.{max_rows};
 ghost use Rattle.meaning.specs.declared.value.ColType.TheVariants as of_type;
 ghost use Rattle.meaning.specs.Aggregate.{present, total};
 ghost use Rattle.meaning.specs.Fitting.{least_integer, greatest_integer};
@@ -10,8 +12,8 @@ use columns::Column;
 
 /// The sum with one integer more.
 fn plus(sum: i128, int: i64) -> i128
-    requires low { (pos 1048576 *ℤ least_integer) ≤ℤ sum }
-    requires high { sum ≤ℤ (pos 1048576 *ℤ greatest_integer) }
+    requires low { (pos max_rows *ℤ least_integer) ≤ℤ sum }
+    requires high { sum ≤ℤ (pos max_rows *ℤ greatest_integer) }
     ensures value { result ≡ sum +ℤ int }
     ensures least { (sum +ℤ least_integer) ≤ℤ result }
     ensures greatest { result ≤ℤ (sum +ℤ greatest_integer) }
@@ -21,7 +23,7 @@ fn plus(sum: i128, int: i64) -> i128
 
 /// The exact sum of integers.
 fn sum_of(ints: &[i64]) -> i128
-    requires { length ints.now ≤ 1048576 }
+    requires { length ints.now ≤ max_rows }
     ensures { result ≡ sum_of_ints ints.now }
 {
     let mut sum = 0;
@@ -50,7 +52,7 @@ fn count_present(column: &Column) -> usize
 /// The sum of the values. A NULL row's integer is 0.
 fn sum_of_column(column: &Column) -> i128
     requires integers { column.now.col_type ≡ of_type.Int }
-    requires few { length column.now.values ≤ 1048576 }
+    requires few { length column.now.values ≤ max_rows }
     ensures { result ≡ total (present column.now.values) }
 {
     match column.ints() {
@@ -62,7 +64,7 @@ fn sum_of_column(column: &Column) -> i128
 /// The rows of a column of integers, whose entries are its values.
 pub fn tally_of_column(column: &Column) -> Tally
     requires integers { column.now.col_type ≡ of_type.Int }
-    requires few { length column.now.values ≤ 1048576 }
+    requires few { length column.now.values ≤ max_rows }
     ensures value { result ≡ tally_of_values column.now.values }
     ensures possible { IsPossible result }
 {

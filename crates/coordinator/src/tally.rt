@@ -1,3 +1,4 @@
+//! The count and the sum of one aggregate.
 // Counting rows and entries of the aggregate, and adding the entries, exactly.
 ghost use Rattle.std.specs.Prelude.{◌≡◌, ◌+◌, ◌≤◌};
 ghost use Rattle.coordinator.specs.Tally.{no_rows, plus, state_of, IsPossible};

@@ -1,3 +1,4 @@
+//! Why a whole query was refused.
 ghost use Rattle.std.specs.Prelude.{◌≡◌};
 ghost use Rattle.coordinator.specs.Whole.{of_catalog, of_sql, of_plan, of_load, of_print};
 ghost use Rattle.coordinator.specs.declared.whole_fault.WholeFault.TheVariants as fault;

@@ -1,3 +1,4 @@
+//! Answers of which each byte is changed in turn, and what `whole` hands back.
 use coordinator::{Gather, whole};
 use meaning::cut::Cut;
 use partial_codec::{Job, decode};

@@ -1,3 +1,4 @@
+//! Printing to writers that fail.
 ghost use Rattle.std.specs.Prelude.{◌≡◌, ◌≢◌, [], IfOk};
 
 use coordinator::PrintFault;
@@ -10,6 +11,7 @@ use meaning::text::Text;
 use meaning::value::{Row, Value};
 use std::alloc::{AllocError, Global};
 use std::io::Write;
+use std::mem::drop;
 use std::process::Abort;
 use std::test::Fail;
 
@@ -25,13 +27,14 @@ fn items(alloc: Global, header: &str) -> Result<Sequence<Item>, AllocError>
     Ok(list)
 }
 
-fn plan(alloc: Global, header: &str) -> Result<Plan, AllocError>
-    ensures { IfOk result (λ plan. plan.items ≢ []) }
+/// A plan that has nothing but its items.
+fn plan_of(alloc: Global, items: Sequence<Item>) -> Plan
+    ensures { result.items ≡ items }
 {
-    Ok(Plan {
-        text: Text::new(alloc, "")?,
+    Plan {
+        text: Text::from_string(String::new(alloc)),
         fact: TableUse {
-            name: Text::new(alloc, "sales")?,
+            name: Text::from_string(String::new(alloc)),
             columns: Sequence::new(alloc),
         },
         joins: Sequence::new(alloc),
@@ -39,11 +42,11 @@ fn plan(alloc: Global, header: &str) -> Result<Plan, AllocError>
         keys: Sequence::new(alloc),
         aggs: Sequence::new(alloc),
         having: None,
-        items: items(alloc, header)?,
+        items,
         order: Sequence::new(alloc),
         limit: None,
         plain: false,
-    })
+    }
 }
 
 fn row(first: Value, others: Vec<Value>) -> Result<Row, AllocError>
@@ -57,9 +60,12 @@ fn row(first: Value, others: Vec<Value>) -> Result<Row, AllocError>
 fn print_one<W: Write>(alloc: Global, header: &str, row: Row, out: &mut W) -> Result<(), PrintFault>
     requires { row ≢ [] }
 {
-    let plan = plan(alloc, header)?;
+    let items = items(alloc, header)?;
+    let plan = plan_of(alloc, items);
     let rows = [row];
-    print_rows(alloc, &plan, &rows, out)
+    let printed = print_rows(alloc, &plan, &rows, out);
+    drop(plan);
+    printed
 }
 
 fn text_row(alloc: Global, text: &str) -> Result<Row, AllocError>

@@ -1,3 +1,4 @@
+//! Whole queries and reports on writers that fail.
 use coordinator::{Ended, Gather, WholeFault, whole};
 use meaning::cut::Cut;
 use std::alloc::Global;
@@ -18,11 +19,19 @@ fn count_to_full(alloc: Global, cut: &Cut) -> Result<(Ended, Gather), WholeFault
     count(alloc, cut, &mut out)
 }
 
+fn is_told(alloc: Global, cut: &Cut) -> bool {
+    matches!(count_to_full(alloc, cut), Err(WholeFault::Writer))
+}
+
+fn one_fragment(alloc: Global) -> Result<Cut, Fail> {
+    let lengths = vec![in alloc; 2]?;
+    Ok(Cut::new(lengths)?)
+}
+
 #[test]
 fn whole_tells_a_full_writer(rt: HostRuntime) -> Result<(), Fail> {
-    let alloc = rt.alloc();
-    let cut = Cut::new(vec![in alloc; 2]?)?;
-    assert!(rt; matches!(count_to_full(alloc, &cut), Err(WholeFault::Writer)));
+    let cut = one_fragment(rt.alloc())?;
+    assert!(rt; is_told(rt.alloc(), &cut));
     Ok(())
 }
 
@@ -36,7 +45,7 @@ fn refusal_of_print(alloc: Global, gather: &Gather) -> Option<u8> {
 }
 
 fn counted(alloc: Global) -> Result<Gather, Fail> {
-    let cut = Cut::new(vec![in alloc; 2]?)?;
+    let cut = one_fragment(alloc)?;
     let mut out = Vec::new(alloc);
     let (_, gather) = count(alloc, &cut, &mut out)?;
     Ok(gather)

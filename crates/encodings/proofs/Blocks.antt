@@ -3,6 +3,7 @@ use Rattle.std.proofs.Common.{◌≡◌, ℕ, ◌<◌, Bool, true, false, not, �
 use Rattle.std.specs.List.{list_all}
 use Rattle.std.proofs.lemmas.List.{get_or-map, length-replicate}
 use Rattle.std.proofs.lemmas.Slice.Zip.{get_or-zip, length-zip}
+use Rattle.meaning.specs.Limits.{row_group_rows}
 use Rattle.meaning.specs.declared.value.Value.{Value}
 use Rattle.meaning.specs.declared.value.Value.TheVariants.{Null}
 use Rattle.encodings.specs.Block.{Block, bit_at, mask_length, mask_of, body_of, nulls_of, cells_of, values_of, masked, is_mask, is_body, is_blank, is_block}
@@ -25,8 +26,8 @@ block_body b e =
     let blanks = list_all (λ (p : Bool × Value). not p.0 || is_blank p.1) (zip (nulls_of b) (cells_of b)) in
     let body = is_body b.kind b.col_type b.rows (body_of b) in
     let mask = is_mask b.rows (mask_of b) in
-    let h1 = both_true (nat_le 1 b.rows) (nat_le b.rows 8192 && (nat_le (mask_length b.nullable b.rows) (length b.payload) && (mask && (body && blanks)))) e in
-    let h2 = both_true (nat_le b.rows 8192) (nat_le (mask_length b.nullable b.rows) (length b.payload) && (mask && (body && blanks))) h1.1 in
+    let h1 = both_true (nat_le 1 b.rows) (nat_le b.rows row_group_rows && (nat_le (mask_length b.nullable b.rows) (length b.payload) && (mask && (body && blanks)))) e in
+    let h2 = both_true (nat_le b.rows row_group_rows) (nat_le (mask_length b.nullable b.rows) (length b.payload) && (mask && (body && blanks))) h1.1 in
     let h3 = both_true (nat_le (mask_length b.nullable b.rows) (length b.payload)) (mask && (body && blanks)) h2.1 in
     let h4 = both_true mask (body && blanks) h3.1 in
     (both_true body blanks h4.1).0

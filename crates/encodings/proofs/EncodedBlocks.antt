@@ -8,6 +8,7 @@ use Rattle.std.proofs.lemmas.Nat.{pow-add, pow_pos, shr-shr, shr_high, shr_le, m
 use Rattle.std.proofs.Math.Nat.{div-one}
 use Rattle.std.proofs.lemmas.Str.{is_utf8-from_IsUtf8}
 use Rattle.std.proofs.Math.Pow.{mod-mod-pow}
+use Rattle.meaning.specs.Limits.{row_group_rows}
 use Rattle.meaning.specs.declared.value.ColType.{ColType}
 use Rattle.meaning.specs.declared.value.ColType.TheVariants as of_type
 use Rattle.meaning.specs.declared.value.Value.{Value}
@@ -205,7 +206,7 @@ pub record IsEncoded (k : Kind) (col_type : ColType) (nullable : Bool) (rows : �
   pub tight : is_tight (record { kind = k; col_type = col_type; nullable = nullable; rows = rows; payload = payload }) ≡ true
   pub size : length payload ≡ payload_size k col_type nullable values
 
-pub encoded : (k : Kind) (col_type : ColType) (nullable : Bool) (values : List Value) (mask body payload : List ℕ) → list_all (is_of col_type nullable) values ≡ true → 1 ≤ length values → length values ≤ 8192 → IsMaskOf nullable values mask → IsBodyOf k col_type (cells_for col_type values) body → payload ≡ mask ++ body → IsEncoded k col_type nullable (length values) values payload
+pub encoded : (k : Kind) (col_type : ColType) (nullable : Bool) (values : List Value) (mask body payload : List ℕ) → list_all (is_of col_type nullable) values ≡ true → 1 ≤ length values → length values ≤ row_group_rows → IsMaskOf nullable values mask → IsBodyOf k col_type (cells_for col_type values) body → payload ≡ mask ++ body → IsEncoded k col_type nullable (length values) values payload
 encoded k col_type nullable values mask body payload e some few m i p =
     let rows = length values in
     let ml = mask_length nullable rows in
@@ -224,7 +225,7 @@ encoded k col_type nullable values mask body payload e some few m i p =
     let none : list_all (λ p. not p.0 || is_blank p.1) (zip (cond nullable (map (bit_at (take ml payload)) (range_with_len 0 rows)) (replicate rows false)) (body_cells k col_type rows (drop ml payload))) ≡ true =
     ap (list_all (λ p. not p.0 || is_blank p.1)) pairs ∙ blanks col_type values in
     record {
-      block = both _ _ (le-leb 1 rows some) (both _ _ (le-leb rows 8192 few) (both _ _ (le-leb ml (length payload) (omega (arith, long))) (both _ _ mask_ok (both _ _ body_is none))));
+      block = both _ _ (le-leb 1 rows some) (both _ _ (le-leb rows row_group_rows few) (both _ _ (le-leb ml (length payload) (omega (arith, long))) (both _ _ mask_ok (both _ _ body_is none))));
       values_are = ap (map masked) pairs ∙ masked_back col_type values;
       tight = tight_is k col_type nullable rows cells payload body count cut_body i;
       size = long ∙ ap (λ n. ml + n) i.size;
@@ -325,7 +326,7 @@ body_turned before after k col_type known cells same t c p =
     subst (λ vs. P col_type vs) (sym c) q
 
 -- the whole payload
-pub encoded_rows : (k : Kind) (column : ColumnSpec) (from to : ℕ) (nothing a payload : List ℕ) → nothing ≡ [] → IsColumn column → from < to → to ≤ length column.values → to - from ≤ 8192 → PutsMask nothing a column.nullable (between from to column) → PutsBody a payload k column.col_type (cells_for column.col_type (between from to column)) → IsEncoded k column.col_type column.nullable (to - from) (between from to column) payload
+pub encoded_rows : (k : Kind) (column : ColumnSpec) (from to : ℕ) (nothing a payload : List ℕ) → nothing ≡ [] → IsColumn column → from < to → to ≤ length column.values → to - from ≤ row_group_rows → PutsMask nothing a column.nullable (between from to column) → PutsBody a payload k column.col_type (cells_for column.col_type (between from to column)) → IsEncoded k column.col_type column.nullable (to - from) (between from to column) payload
 encoded_rows k column from to nothing a payload n e some within few m b =
     let values = between from to column in
     let long = length-between column from to some within in

@@ -19,6 +19,7 @@ use Rattle.std.specs.Cmp.{Equal-is}
 use Rattle.std.specs.Ordering.{is_eq}
 use Rattle.std.specs.Prelude.{not}
 use Rattle.std.proofs.lemmas.Cmp.{tied_itself}
+use Rattle.meaning.specs.Limits.{max_text_bytes, row_group_rows}
 use Rattle.columns.specs.Column.{is_of, is_text}
 use Rattle.columns.specs.Texts.{ends_from}
 use Rattle.columns.specs.Texts as laid
@@ -73,7 +74,7 @@ ends_end start (t ∷ ts) total e =
     let long = length-append t (concat ts) in
     both _ _ (le-leb start (start + length t) (omega arith)) (ends_end (start + length t) ts total (omega arith))
 
-total_bound : (ts : List (List ℕ)) → list_all is_text ts ≡ true → length (concat ts) ≤ 65535 * length ts
+total_bound : (ts : List (List ℕ)) → list_all is_text ts ≡ true → length (concat ts) ≤ max_text_bytes * length ts
 total_bound [] e = omega arith
 total_bound (t ∷ ts) e =
     let short = text_short t (all_first is_text t ts e) in
@@ -102,7 +103,7 @@ form_ints ns h = (
   ap (integers (length ns)) (sym (append-nil (flat_map integer_bytes ns))) ∙ integers_read ns [] h,
 )
 
-pub form_is : (col_type : ColType) (cells : List Value) → list_all (is_of col_type false) cells ≡ true → length cells ≤ 8192 → IsFormOf col_type cells (form_of col_type cells)
+pub form_is : (col_type : ColType) (cells : List Value) → list_all (is_of col_type false) cells ≡ true → length cells ≤ row_group_rows → IsFormOf col_type cells (form_of col_type cells)
 form_is of_type.Int cells e few =
     let facts = ints_of cells e in
     let ns = map number cells in
@@ -137,7 +138,7 @@ form_is of_type.Text cells e few =
 
 -- ---- plain
 
-pub plain_body : (col_type : ColType) (cells : List Value) → list_all (is_of col_type false) cells ≡ true → length cells ≤ 8192 → IsBodyOf kind.Plain col_type cells (form_of col_type cells)
+pub plain_body : (col_type : ColType) (cells : List Value) → list_all (is_of col_type false) cells ≡ true → length cells ≤ row_group_rows → IsBodyOf kind.Plain col_type cells (form_of col_type cells)
 plain_body col_type cells e few =
     let form = form_is col_type cells e few in
     record { is = form.is; cells_are = form.cells_are; tight = tt; size = form.size }
@@ -171,8 +172,8 @@ none_longer (n ∷ ns) total h =
     let s = sum_by-cons (λ x. x) n ns in
     both _ _ (le-leb n total (omega (arith, s))) (none_longer ns total (omega (arith, s)))
 
-short_fit : (ns : List ℕ) → sum ns ≤ 8192 → list_all (λ n. nat_lt n (2 ^ 16)) ns ≡ true
-short_fit ns h = all_imply (λ n. nat_le n 8192) (λ n. nat_lt n (2 ^ 16)) (λ n e. lt-ltb n (2 ^ 16) (let l = leb-true n 8192 e in omega arith)) ns (none_longer ns 8192 h)
+short_fit : (ns : List ℕ) → sum ns ≤ row_group_rows → list_all (λ n. nat_lt n (2 ^ 16)) ns ≡ true
+short_fit ns h = all_imply (λ n. nat_le n row_group_rows) (λ n. nat_lt n (2 ^ 16)) (λ n e. lt-ltb n (2 ^ 16) (let l = leb-true n row_group_rows e in omega arith)) ns (none_longer ns row_group_rows h)
 
 same_itself : (x : Value) → same_value x x ≡ true
 same_itself x = ap is_eq (tied_itself value_total x)
@@ -219,7 +220,7 @@ some_run : (ns : List ℕ) → 1 ≤ sum ns → 1 ≤ length ns
 some_run [] h = absurd (omega arith)
 some_run (n ∷ ns) h = omega arith
 
-pub runs_are : (col_type : ColType) (cells : List Value) (starts lengths : List ℕ) → list_all (is_of col_type false) cells ≡ true → length cells ≤ 8192 → 1 ≤ length cells → AreRuns cells starts lengths → IsBodyOf kind.Runs col_type cells (runs_body col_type cells starts lengths)
+pub runs_are : (col_type : ColType) (cells : List Value) (starts lengths : List ℕ) → list_all (is_of col_type false) cells ≡ true → length cells ≤ row_group_rows → 1 ≤ length cells → AreRuns cells starts lengths → IsBodyOf kind.Runs col_type cells (runs_body col_type cells starts lengths)
 runs_are col_type cells starts lengths e few some r =
     let heads = at_places cells starts in
     let m = length starts in
@@ -232,7 +233,7 @@ runs_are col_type cells starts lengths e few some r =
     let not_more : length lengths ≤ sum lengths = fewer lengths r.not_empty in
     let one : 1 ≤ length lengths = some_run lengths (omega arith) in
     let same : length lengths ≡ m = r.a_length_each in
-    let heads_few : length heads ≤ 8192 = omega arith in
+    let heads_few : length heads ≤ row_group_rows = omega arith in
     let values = form_is col_type heads (all_at (is_of col_type false) cells starts e r.within) heads_few in
     let m_fits : m < 2 ^ 32 = omega arith in
     let count : count_of body ≡ m = count_back m tail m_fits in
@@ -303,11 +304,11 @@ laid_texts ts = flat_map word_bytes (ends_from 0 ts) ++ concat ts
 pub form_at_texts : (ts : List (List ℕ)) (places : List ℕ) → form_of of_type.Text (at_places (map Text ts) places) ≡ laid_texts (texts_at ts places)
 form_at_texts ts places = ap laid_texts (texts_at_places ts places)
 
-pub puts_plain_ints : (before after : List ℕ) (ns : List ℤ) → list_all (is_of of_type.Int false) (map Int ns) ≡ true → length (map Int ns) ≤ 8192 → after ≡ before ++ flat_map integer_bytes ns → PutsBody before after kind.Plain of_type.Int (map Int ns)
+pub puts_plain_ints : (before after : List ℕ) (ns : List ℤ) → list_all (is_of of_type.Int false) (map Int ns) ≡ true → length (map Int ns) ≤ row_group_rows → after ≡ before ++ flat_map integer_bytes ns → PutsBody before after kind.Plain of_type.Int (map Int ns)
 puts_plain_ints before after ns e few p =
     (form_of of_type.Int (map Int ns), p ∙ ap (λ ms. before ++ flat_map integer_bytes ms) (sym (numbers_back ns)), plain_body of_type.Int (map Int ns) e few)
 
-pub puts_plain_texts : (before after : List ℕ) (ts : List (List ℕ)) → list_all (is_of of_type.Text false) (map Text ts) ≡ true → length (map Text ts) ≤ 8192 → after ≡ before ++ laid_texts ts → PutsBody before after kind.Plain of_type.Text (map Text ts)
+pub puts_plain_texts : (before after : List ℕ) (ts : List (List ℕ)) → list_all (is_of of_type.Text false) (map Text ts) ≡ true → length (map Text ts) ≤ row_group_rows → after ≡ before ++ laid_texts ts → PutsBody before after kind.Plain of_type.Text (map Text ts)
 puts_plain_texts before after ts e few p =
     (form_of of_type.Text (map Text ts), p ∙ ap (λ us. before ++ laid_texts us) (sym (bytes_back ts)), plain_body of_type.Text (map Text ts) e few)
 
@@ -315,7 +316,7 @@ joined_runs : (before a b c count lengths form : List ℕ) → a ≡ before ++ c
 joined_runs before a b c count lengths form p q r =
     r ∙ (ap (λ xs. xs ++ form) (q ∙ ap (λ xs. xs ++ lengths) p) ∙ (append_assoc (before ++ count) lengths form ∙ append_assoc before count (lengths ++ form)))
 
-pub puts_runs : (col_type : ColType) (cells : List Value) (starts lengths before a b after : List ℕ) → list_all (is_of col_type false) cells ≡ true → length cells ≤ 8192 → 1 ≤ length cells → AreRuns cells starts lengths → a ≡ before ++ word_bytes (length starts) → b ≡ a ++ flat_map short_bytes lengths → after ≡ b ++ form_of col_type (at_places cells starts) → PutsBody before after kind.Runs col_type cells
+pub puts_runs : (col_type : ColType) (cells : List Value) (starts lengths before a b after : List ℕ) → list_all (is_of col_type false) cells ≡ true → length cells ≤ row_group_rows → 1 ≤ length cells → AreRuns cells starts lengths → a ≡ before ++ word_bytes (length starts) → b ≡ a ++ flat_map short_bytes lengths → after ≡ b ++ form_of col_type (at_places cells starts) → PutsBody before after kind.Runs col_type cells
 puts_runs col_type cells starts lengths before a b after e few some r p q s =
     (runs_body col_type cells starts lengths, joined_runs before a b after (word_bytes (length starts)) (flat_map short_bytes lengths) (form_of col_type (at_places cells starts)) p q s, runs_are col_type cells starts lengths e few some r)
 

@@ -7,6 +7,7 @@ use Rattle.std.specs.Ordering.{is_eq, eq_by_cmp}
 use Rattle.std.proofs.lemmas.Bool.{lt-ltb, ltb-true, le-leb}
 use Rattle.std.proofs.lemmas.Cmp.{tied_itself}
 use Rattle.std.proofs.lemmas.List.{take_at, drop_at, append-nil, length-map}
+use Rattle.meaning.specs.Limits.{row_group_rows}
 use Rattle.meaning.specs.declared.value.ColType.{ColType}
 use Rattle.meaning.specs.declared.value.Value.{Value}
 use Rattle.meaning.specs.declared.value.Value.TheVariants.{Null}
@@ -71,7 +72,7 @@ entries_set cells places codes d =
     λ t q. any_at t entries codes (ap (λ n. list_all (λ code. nat_lt code n) codes) entries_long ∙ d.codes_within) (ap (list_any t) d.cells_are ∙ q) in
     same_ascending_set value_total value_exact cells entries (λ q. both_ways _ _ (turn (eq_by_cmp value_cmp q)) (any_at (eq_by_cmp value_cmp q) cells places d.within)) ∙ ascending_set_itself value_total entries d.ascending
 
-pub dictionary_is : (col_type : ColType) (cells : List Value) (places codes : List ℕ) → list_all (is_of col_type false) cells ≡ true → length cells ≤ 8192 → 1 ≤ length cells → AreEntries cells places codes → IsBodyOf kind.Dict col_type cells (dictionary_body col_type cells places codes)
+pub dictionary_is : (col_type : ColType) (cells : List Value) (places codes : List ℕ) → list_all (is_of col_type false) cells ≡ true → length cells ≤ row_group_rows → 1 ≤ length cells → AreEntries cells places codes → IsBodyOf kind.Dict col_type cells (dictionary_body col_type cells places codes)
 dictionary_is col_type cells places codes e few some d =
     let entries = at_places cells places in
     let m = length places in
@@ -82,7 +83,7 @@ dictionary_is col_type cells places codes e few some d =
     let body = front ++ last in
     let entries_long : length entries ≡ m = length-map places (λ place. get_or cells place Null) in
     let codes_long : length codes ≡ rows = sym (length-map codes (λ code. get_or entries code Null)) ∙ ap length d.cells_are in
-    let m_few : m ≤ 8192 = let f = d.few in omega arith in
+    let m_few : m ≤ row_group_rows = let f = d.few in omega arith in
     let values = form_is col_type entries (all_at (is_of col_type false) cells places e d.within) (let l = entries_long in omega arith) in
     let whole : body ≡ word_bytes m ++ (form ++ last) = append_assoc (word_bytes m) form last in
     let count : count_of body ≡ m = ap count_of whole ∙ count_back m (form ++ last) (omega arith) in
@@ -116,7 +117,7 @@ dictionary_is col_type cells places codes e few some d =
       size = long ∙ ap (λ n. (4 + n) + 2 * rows) (values.size ∙ ap (form_size col_type) (sym set));
     }
 
-pub puts_dictionary : (col_type : ColType) (cells : List Value) (places codes before a b after : List ℕ) → list_all (is_of col_type false) cells ≡ true → length cells ≤ 8192 → 1 ≤ length cells → AreEntries cells places codes → a ≡ before ++ word_bytes (length places) → b ≡ a ++ form_of col_type (at_places cells places) → after ≡ b ++ flat_map short_bytes codes → PutsBody before after kind.Dict col_type cells
+pub puts_dictionary : (col_type : ColType) (cells : List Value) (places codes before a b after : List ℕ) → list_all (is_of col_type false) cells ≡ true → length cells ≤ row_group_rows → 1 ≤ length cells → AreEntries cells places codes → a ≡ before ++ word_bytes (length places) → b ≡ a ++ form_of col_type (at_places cells places) → after ≡ b ++ flat_map short_bytes codes → PutsBody before after kind.Dict col_type cells
 puts_dictionary col_type cells places codes before a b after e few some d p q r =
     let form = form_of col_type (at_places cells places) in
     let last = flat_map short_bytes codes in (

@@ -14,6 +14,7 @@ use Rattle.std.proofs.lemmas.List.Folds.{concat-append}
 use Rattle.columns.specs.Texts.{ends_from}
 use Rattle.columns.proofs.Joined.{ends-push}
 use Rattle.std.proofs.lemmas.Nat.{from_le_bytes-to_le_bytes_2, from_le_bytes-to_le_bytes_4, from_le_bytes-to_le_bytes_8}
+use Rattle.meaning.specs.Limits.{max_text_bytes}
 use mir.Val.{SFits}
 use Rattle.meaning.specs.Operators.{fits_i64}
 use Rattle.meaning.proofs.Tests.{all_first, all_rest, second_of}
@@ -128,8 +129,8 @@ ends_step xs from row end t before now new h l e n w p =
     p ∙ (ap (λ ys. ys ++ word_bytes (end + length t)) w ∙ (append_assoc before (flat_map word_bytes (ends_from 0 ts)) (word_bytes (end + length t)) ∙ ap (λ k. before ++ (flat_map word_bytes (ends_from 0 ts) ++ word_bytes k)) sum)) in
     (sum ∙ (sym (length-more ts t) ∙ ap (λ ys. length (concat ys)) (sym more)), all ∙ (ap (λ ys. before ++ ys) (sym (ends_more ts t)) ∙ ap (λ ys. before ++ flat_map word_bytes (ends_from 0 ys)) (sym more)))
 
-pub text_short : (t : List ℕ) → is_text t ≡ true → length t ≤ 65535
-text_short t e = leb-true (length t) 65535 (second_of (is_utf8 t) (nat_le (length t) 65535) e)
+pub text_short : (t : List ℕ) → is_text t ≡ true → length t ≤ max_text_bytes
+text_short t e = leb-true (length t) max_text_bytes (second_of (is_utf8 t) (nat_le (length t) max_text_bytes) e)
 
 -- ---- texts at some places
 

@@ -1,3 +1,4 @@
+-- The lemmas of this crate.
 pub mod Ascending
 pub mod Blocks
 pub mod ChosenKinds
@@ -7,7 +8,6 @@ pub mod EncodedBits
 pub mod EncodedBlocks
 pub mod EncodedBodies
 pub mod EncodedDictionaries
-pub mod EncodedEntries
 pub mod EncodedForms
 pub mod EncodedFrames
 pub mod EncodedRuns
@@ -16,12 +16,15 @@ pub mod Frames
 pub mod LaneGroups
 pub mod NullRuns
 pub mod Nulls
+pub mod NumberEntries
 pub mod PassedRuns
 pub mod ReadBodies
 pub mod ReadLists
 pub mod ReadParts
 pub mod ReadVectors
 pub mod RowCells
+pub mod RowCodes
+pub mod RowNumbers
 pub mod Steps
 pub mod UnpackNumbers
 pub mod Worked

@@ -6,13 +6,14 @@ use borrow.Author.Tests.{eqb-true}
 use Rattle.std.proofs.lemmas.Bool.{false≢true, cases_lt}
 use Rattle.std.proofs.lemmas.List.{length-map, length-drop, length-replicate, length-take-le, take_all, drop_all, take-replicate, drop-replicate, get_or-take, get_or-map}
 use Rattle.std.proofs.lemmas.List.FromFn.{length-map-range_with_len}
+use Rattle.meaning.specs.Limits.{row_group_rows}
 use Rattle.meaning.specs.declared.value.ColType.{ColType}
 use Rattle.meaning.specs.declared.value.ColType.TheVariants as of_type
 use Rattle.meaning.specs.declared.value.Value.{Value}
 use Rattle.meaning.specs.declared.value.Value.TheVariants.{Null, Int, Text}
 use Rattle.meaning.specs.Order.{is_null, number, bytes}
 use Rattle.encodings.specs.Block.{Block, bit_at, cells_of, is_blank, is_block, is_body, is_mask, mask_length, body_of, mask_of, masked, nulls_of, values_of}
-use Rattle.encodings.specs.Vector.{AreBlank, AreCells, cells_in, masked_cells, Vector, vector_of}
+use Rattle.encodings.specs.Vector.{AreBlank, AreRoom, AreCells, cells_in, masked_cells, Vector, vector_of}
 use Rattle.encodings.proofs.ReadBodies.{all-part, part-map, range-part}
 use Rattle.encodings.proofs.ReadLists.{both_left, both_right}
 
@@ -43,9 +44,21 @@ null-texts (true ∷ bs) (x ∷ xs) h = ap (λ ys. true ∷ ys) (null-texts bs x
 null-texts (false ∷ bs) (x ∷ xs) h = ap (λ ys. false ∷ ys) (null-texts bs xs (omega arith))
 
 pub nulls-masked : (col_type : ColType) (nulls : List Bool) (ints : List ℤ) (texts : List (List ℕ))
-    → length ints ≡ length nulls → length texts ≡ length nulls → map is_null (masked_cells col_type nulls ints texts) ≡ nulls
-nulls-masked of_type.Int nulls ints texts h k = null-ints nulls ints h
-nulls-masked of_type.Text nulls ints texts h k = null-texts nulls texts k
+    → AreRoom col_type nulls ints texts → map is_null (masked_cells col_type nulls ints texts) ≡ nulls
+nulls-masked of_type.Int nulls ints texts h = null-ints nulls ints h
+nulls-masked of_type.Text nulls ints texts h = null-texts nulls texts h
+
+-- as much room as there was
+pub room_kept : (col_type : ColType) (nulls nulls' : List Bool) (ints ints' : List ℤ) (texts texts' : List (List ℕ))
+    → AreRoom col_type nulls ints texts → length nulls' ≡ length nulls → length ints' ≡ length ints → length texts' ≡ length texts → AreRoom col_type nulls' ints' texts'
+room_kept of_type.Int nulls nulls' ints ints' texts texts' h a b d = b ∙ (h ∙ sym a)
+room_kept of_type.Text nulls nulls' ints ints' texts texts' h a b d = d ∙ (h ∙ sym a)
+
+-- the room that the front takes
+room_front : (col_type : ColType) (n : ℕ) (nulls : List Bool) (ints : List ℤ) (texts : List (List ℕ))
+    → AreRoom col_type nulls ints texts → n ≤ length nulls → AreRoom col_type (take n nulls) (take n ints) (take n texts)
+room_front of_type.Int n nulls ints texts h z = length-take-le n ints (omega arith) ∙ sym (length-take-le n nulls z)
+room_front of_type.Text n nulls ints texts h z = length-take-le n texts (omega arith) ∙ sym (length-take-le n nulls z)
 
 -- ---- cells of NULL
 blank_number : (z : ℤ) → is_blank (Int z) ≡ true → pos 0 ≡ z
@@ -82,10 +95,10 @@ blank-texts (true ∷ bs) (x ∷ xs) h l =
 blank-texts (false ∷ bs) (x ∷ xs) h l = ap (λ ys. x ∷ ys) (blank-texts bs xs (omega arith) l)
 
 blank_cells : (col_type : ColType) (nulls : List Bool) (ints : List ℤ) (texts : List (List ℕ))
-    → length nulls ≡ length ints → length nulls ≡ length texts
+    → AreRoom col_type nulls ints texts
     → list_all is_told (zip nulls (cells_in col_type ints texts)) ≡ true → AreBlank col_type nulls ints texts
-blank_cells of_type.Int nulls ints texts h k l = blank-ints nulls ints h l
-blank_cells of_type.Text nulls ints texts h k l = blank-texts nulls texts k l
+blank_cells of_type.Int nulls ints texts h l = blank-ints nulls ints (sym h) l
+blank_cells of_type.Text nulls ints texts h l = blank-texts nulls texts (sym h) l
 
 -- ---- parts of pairs
 zip-nil : {X Y : Type 0} (xs : List X) (ys : List Y) → length ys ≡ 0 → [] ≡ zip xs ys
@@ -140,7 +153,7 @@ pub int-at : (len : ℕ) (nulls : List Bool) (ints : List ℤ) (texts : List (Li
     → Int (get_or ints i (pos 0)) ≡ get_or (vector_of of_type.Int len nulls ints texts).values i Null
 int-at len nulls ints texts i cells h f =
     let k : i < len = below_len of_type.Int len nulls ints texts i cells.within h in
-    let room : len ≤ length ints = (let x : length ints ≡ length nulls = cells.ints_room in let y : len ≤ length nulls = cells.within in omega (arith, x, y)) in
+    let room : len ≤ length ints = (let x : length ints ≡ length nulls = cells.room in let y : len ≤ length nulls = cells.within in omega (arith, x, y)) in
     let m : length (take len ints) ≡ len = length-take-le len ints room in
     let own : List Value = map Int (take len ints) in
     let l : length own ≡ len = length-map (take len ints) Int ∙ m in
@@ -153,7 +166,7 @@ pub text-at : (len : ℕ) (nulls : List Bool) (ints : List ℤ) (texts : List (L
     → Text (get_or texts i []) ≡ get_or (vector_of of_type.Text len nulls ints texts).values i Null
 text-at len nulls ints texts i cells h f =
     let k : i < len = below_len of_type.Text len nulls ints texts i cells.within h in
-    let room : len ≤ length texts = (let x : length texts ≡ length nulls = cells.texts_room in let y : len ≤ length nulls = cells.within in omega (arith, x, y)) in
+    let room : len ≤ length texts = (let x : length texts ≡ length nulls = cells.room in let y : len ≤ length nulls = cells.within in omega (arith, x, y)) in
     let m : length (take len texts) ≡ len = length-take-le len texts room in
     let own : List Value = map Text (take len texts) in
     let l : length own ≡ len = length-map (take len texts) Text ∙ m in
@@ -166,18 +179,18 @@ pub text_room : {T : Type 0} (len : ℕ) (nulls : List Bool) (ints : List ℤ) (
     → i < length lent
 text_room len nulls ints texts lent i cells h e =
     let k : i < len = below_len of_type.Text len nulls ints texts i cells.within h in
-    let x : length texts ≡ length nulls = cells.texts_room in
+    let x : length texts ≡ length nulls = cells.room in
     let y : len ≤ length nulls = cells.within in
     omega (arith, x, y, e, k)
 
 length-cells : (col_type : ColType) (len : ℕ) (nulls : List Bool) (ints : List ℤ) (texts : List (List ℕ))
     → AreCells col_type len nulls ints texts → length (cells_in col_type (take len ints) (take len texts)) ≡ len
 length-cells of_type.Int len nulls ints texts cells =
-    let x : length ints ≡ length nulls = cells.ints_room in
+    let x : length ints ≡ length nulls = cells.room in
     let y : len ≤ length nulls = cells.within in
     length-map (take len ints) Int ∙ length-take-le len ints (omega (arith, x, y))
 length-cells of_type.Text len nulls ints texts cells =
-    let x : length texts ≡ length nulls = cells.texts_room in
+    let x : length texts ≡ length nulls = cells.room in
     let y : len ≤ length nulls = cells.within in
     length-map (take len texts) Text ∙ length-take-le len texts (omega (arith, x, y))
 
@@ -192,13 +205,7 @@ null-at col_type len nulls ints texts i cells h f =
 pub nulls-of : (col_type : ColType) (len : ℕ) (nulls : List Bool) (ints : List ℤ) (texts : List (List ℕ))
     → AreCells col_type len nulls ints texts → take len nulls ≡ map is_null (vector_of col_type len nulls ints texts).values
 nulls-of col_type len nulls ints texts cells =
-    let x : length ints ≡ length nulls = cells.ints_room in
-    let y : length texts ≡ length nulls = cells.texts_room in
-    let z : len ≤ length nulls = cells.within in
-    let a : length (take len nulls) ≡ len = length-take-le len nulls z in
-    let b : length (take len ints) ≡ len = length-take-le len ints (omega (arith, x, z)) in
-    let d : length (take len texts) ≡ len = length-take-le len texts (omega (arith, y, z)) in
-    sym (nulls-masked col_type (take len nulls) (take len ints) (take len texts) (b ∙ sym a) (d ∙ sym a))
+    sym (nulls-masked col_type (take len nulls) (take len ints) (take len texts) (room_front col_type len nulls ints texts cells.room cells.within))
 
 pub texts-of : (len : ℕ) (nulls : List Bool) (ints : List ℤ) (texts : List (List ℕ))
     → AreCells of_type.Text len nulls ints texts → take len texts ≡ map bytes (vector_of of_type.Text len nulls ints texts).values
@@ -265,13 +272,13 @@ values_read b room from nulls cells e f =
 pub blank_read : (b : Block) (col_type : ColType) (n k : ℕ) (nulls : List Bool) (ints : List ℤ) (texts : List (List ℕ))
     → is_block b ≡ true
     → nulls ≡ take n (drop k (nulls_of b)) → cells_in col_type ints texts ≡ take n (drop k (cells_of b))
-    → length nulls ≡ length ints → length nulls ≡ length texts → AreBlank col_type nulls ints texts
-blank_read b col_type n k nulls ints texts h e f x y =
+    → AreRoom col_type nulls ints texts → AreBlank col_type nulls ints texts
+blank_read b col_type n k nulls ints texts h e f x =
     let told : list_all is_told (zip (nulls_of b) (cells_of b)) ≡ true
     = both_right (is_body b.kind b.col_type b.rows (body_of b)) _ (both_right (is_mask b.rows (mask_of b)) _
-    (both_right (nat_le (mask_length b.nullable b.rows) (length b.payload)) _ (both_right (nat_le b.rows 8192) _
+    (both_right (nat_le (mask_length b.nullable b.rows) (length b.payload)) _ (both_right (nat_le b.rows row_group_rows) _
     (both_right (nat_le 1 b.rows) _ h)))) in
-    blank_cells col_type nulls ints texts x y
+    blank_cells col_type nulls ints texts x
     (ap (λ ns. list_all is_told (zip ns (cells_in col_type ints texts))) e
     ∙ ap (λ xs. list_all is_told (zip (take n (drop k (nulls_of b))) xs)) f
     ∙ ap (list_all is_told) (sym (zip-part n k (nulls_of b) (cells_of b)))
@@ -281,17 +288,12 @@ blank_read b col_type n k nulls ints texts h e f x y =
 pub cells_ready : (b : Block) (col_type : ColType) (n k : ℕ) (nulls : List Bool) (ints : List ℤ) (texts : List (List ℕ))
     → is_block b ≡ true
     → take n nulls ≡ take n (drop k (nulls_of b)) → cells_in col_type (take n ints) (take n texts) ≡ take n (drop k (cells_of b))
-    → length ints ≡ length nulls → length texts ≡ length nulls → n ≤ length nulls → AreCells col_type n nulls ints texts
-cells_ready b col_type n k nulls ints texts h e f x y z =
-    let a : length (take n nulls) ≡ n = length-take-le n nulls z in
-    let i : length (take n ints) ≡ n = length-take-le n ints (omega (arith, x, z)) in
-    let t : length (take n texts) ≡ n = length-take-le n texts (omega (arith, y, z)) in
-    record {
-      ints_room = x;
-      texts_room = y;
-      within = z;
-      blank = blank_read b col_type n k (take n nulls) (take n ints) (take n texts) h e f (a ∙ sym i) (a ∙ sym t);
-    }
+    → AreRoom col_type nulls ints texts → n ≤ length nulls → AreCells col_type n nulls ints texts
+cells_ready b col_type n k nulls ints texts h e f x z = record {
+  room = x;
+  within = z;
+  blank = blank_read b col_type n k (take n nulls) (take n ints) (take n texts) h e f (room_front col_type n nulls ints texts x z);
+}
 
 same_part : {X : Type 0} (n m k l : ℕ) → n ≡ m → k ≡ l → (xs : List X) → take n (drop k xs) ≡ take m (drop l xs)
 same_part n m k l e f xs = ap (λ (j : ℕ). take j (drop k xs)) e ∙ ap (λ (j : ℕ). take m (drop j xs)) f

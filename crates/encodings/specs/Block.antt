@@ -5,6 +5,7 @@
 use Rattle.std.specs.Prelude.{ℕ, ◌+◌, ◌-◌, ◌*◌, ◌/◌, ◌%◌, ◌^◌, ◌==◌, nat_lt, nat_le, ℤ, pos, negsuc, ◌+ℤ◌, Bool, false, ◌&&◌, ◌||◌, not, if◌then◌else◌, List, [], ◌∷◌, length, map, take, drop, sum, zip, get_or, replicate, flat_map}
 use Rattle.std.specs.List.{list_all, list_any, range_with_len}
 use Rattle.std.specs.Int.{w32, from_le_bytes}
+use Rattle.meaning.specs.Limits.{row_group_rows}
 use Rattle.meaning.specs.declared.value.ColType.{ColType}
 use Rattle.meaning.specs.declared.value.ColType.TheVariants as of_type
 use Rattle.meaning.specs.declared.value.Value.{Value}
@@ -207,7 +208,7 @@ values_of b = map masked (zip (nulls_of b) (cells_of b))
 abbrev pub is_block : Block → Bool
 is_block b =
     nat_le 1 b.rows
-    && (nat_le b.rows 8192
+    && (nat_le b.rows row_group_rows
     && (nat_le (mask_length b.nullable b.rows) (length b.payload)
     && (is_mask b.rows (mask_of b)
     && (is_body b.kind b.col_type b.rows (body_of b)

@@ -1,6 +1,9 @@
+-- The definitions of this crate.
 pub mod Block
 pub mod Bytes
+pub mod CellOrder
 pub mod Choice
+pub mod Entries
 pub mod Lent
 pub mod Packing
 pub mod Reading

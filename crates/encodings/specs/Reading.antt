@@ -2,6 +2,7 @@
 use Rattle.std.specs.Prelude.{◌≡◌, ℕ, ◌+◌, ◌*◌, ◌≤◌, Bool, true, List, map, length, flat_map, replicate, zip, ℤ, pos, ◌+ℤ◌}
 use Rattle.std.specs.List.{list_all, range_with_len}
 use Rattle.std.specs.Int.{w16, w32, from_le_bytes}
+use Rattle.meaning.specs.Limits.{row_group_rows}
 use Rattle.meaning.specs.Operators.{fits_i64}
 use Rattle.encodings.specs.Bytes.{texts_from}
 use Rattle.encodings.specs.Block.{are_ends, offset_at}
@@ -31,6 +32,6 @@ raised_offsets base width packed from n = map (λ i. base +ℤ pos (offset_at wi
 -- and each integer has 64 bits
 pub record AreInGroups (base : ℤ) (width : ℕ) (packed : List ℕ) (first n : ℕ) : Type 0 where
   pub narrow : width ≤ 64
-  pub few : 8 * first + n ≤ 8192
+  pub few : 8 * first + n ≤ row_group_rows
   pub within : (8 * first + n) * width ≤ 8 * length packed
   pub fits : list_all fits_i64 (raised_offsets base width packed (8 * first) n) ≡ true

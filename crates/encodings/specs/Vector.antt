@@ -4,10 +4,12 @@ use Rattle.meaning.specs.declared.value.ColType.{ColType}
 use Rattle.meaning.specs.declared.value.ColType.TheVariants as of_type
 use Rattle.meaning.specs.declared.value.Value.{Value}
 use Rattle.meaning.specs.declared.value.Value.TheVariants.{Int, Text}
-use Rattle.meaning.specs.Order.{number, bytes}
+use Rattle.meaning.specs.Order.{is_null, number, bytes}
 use Rattle.encodings.specs.Block.{masked}
+use Rattle.encodings.specs.declared.vector_buf.Lanes.{Lanes}
+use Rattle.encodings.specs.declared.vector_buf.Lanes.TheVariants as lanes
 
--- how many values there is room for, the type of those that were read last, and these values
+-- how many values of a type there is room for, and the values that were read last
 pub record Vector : Type 0 where
   pub room : ℕ
   pub col_type : ColType
@@ -27,10 +29,14 @@ abbrev pub AreBlank : ColType → List Bool → List ℤ → List (List ℕ) →
 AreBlank of_type.Int nulls ints texts = map number (masked_cells of_type.Int nulls ints texts) ≡ ints
 AreBlank of_type.Text nulls ints texts = map bytes (masked_cells of_type.Text nulls ints texts) ≡ texts
 
--- cells that lie side by side: as many of each sort, of which the first `len` are in use
+-- there are as many cells of the type as there are marks of NULL
+abbrev pub AreRoom : ColType → List Bool → List ℤ → List (List ℕ) → Type 0
+AreRoom of_type.Int nulls ints texts = length ints ≡ length nulls
+AreRoom of_type.Text nulls ints texts = length texts ≡ length nulls
+
+-- cells that lie side by side, of which the first `len` are in use
 pub record AreCells (col_type : ColType) (len : ℕ) (nulls : List Bool) (ints : List ℤ) (texts : List (List ℕ)) : Type 0 where
-  pub ints_room : length ints ≡ length nulls
-  pub texts_room : length texts ≡ length nulls
+  pub room : AreRoom col_type nulls ints texts
   pub within : len ≤ length nulls
   pub blank : AreBlank col_type (take len nulls) (take len ints) (take len texts)
 
@@ -41,3 +47,8 @@ vector_of col_type len nulls ints texts = record {
   col_type = col_type;
   values = masked_cells col_type (take len nulls) (take len ints) (take len texts);
 }
+
+-- the lanes of a vector's type, and which of its values are NULL
+abbrev pub AreParts : Lanes → List Bool → Vector → Type 0
+AreParts (lanes.Ints ints) nulls v = (v.col_type ≡ of_type.Int) × (ints.items ≡ map number v.values) × (nulls ≡ map is_null v.values)
+AreParts (lanes.Texts texts) nulls v = (v.col_type ≡ of_type.Text) × (map (λ t. t.now) texts.items ≡ map bytes v.values) × (nulls ≡ map is_null v.values)

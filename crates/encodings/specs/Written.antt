@@ -113,7 +113,7 @@ pub record IsWidth (n width : ℕ) : Type 0 where
 abbrev pub PutsMask : List ℕ → List ℕ → Bool → List Value → Type 0
 PutsMask before after nullable values = (mask : List ℕ) × (after ≡ before ++ mask) × IsMaskOf nullable values mask
 
--- want of memory, or a frame of reference on texts
+-- out of memory, or a frame of reference on texts
 abbrev pub FaultOf : Kind → ColType → EncodeFault → Type 0
 FaultOf k col_type fault.Memory = Unit {0}
 FaultOf kind.Frame of_type.Text fault.FrameOnText = Unit {0}
@@ -133,10 +133,5 @@ pub record AreEntries (cells : List Value) (places : List ℕ) (codes : List ℕ
   pub within : list_all (λ place. nat_lt place (length cells)) places ≡ true
   pub few : length places ≤ length cells
   pub ascending : is_ascending value_cmp (at_places cells places) ≡ true
-  pub codes_within : list_all (λ code. nat_lt code (length places)) codes ≡ true
-  pub cells_are : at_places (at_places cells places) codes ≡ cells
-
--- each cell is that of the entry that its code tells
-pub record DoTell (cells : List Value) (places : List ℕ) (codes : List ℕ) : Type 0 where
   pub codes_within : list_all (λ code. nat_lt code (length places)) codes ≡ true
   pub cells_are : at_places (at_places cells places) codes ≡ cells

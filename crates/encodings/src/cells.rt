@@ -1,6 +1,7 @@
-// What stands in the cell of each row, NULL or not.
+//! What stands in the cell of each row, NULL or not.
 ghost use Rattle.std.specs.Prelude.{◌≡◌, ◌/◌, ◌<◌, ◌≤◌, ◌||◌, true, false, not, if◌then◌else◌, replicate, length, get_or, map, zip};
 ghost use Rattle.std.specs.List.{list_all, range_with_len};
+ghost use Rattle.meaning.specs.Limits.{row_group_rows};
 ghost use Rattle.meaning.specs.Order.{value_in};
 ghost use Rattle.meaning.specs.declared.value.Value.TheVariants.{Null};
 ghost use Rattle.encodings.specs.Block.{bit_at, bytes_of_bits, mask_length, body_cells, is_body, is_blank};
@@ -17,7 +18,7 @@ use meaning::value::{ColType, ValueRef};
 
 /// Whether bytes are a body of a kind, with a cell for each of `rows` rows.
 pub fn is_body(kind: Kind, col_type: ColType, rows: usize, body: &[u8]) -> bool
-    requires { rows ≤ 8192 }
+    requires { rows ≤ row_group_rows }
     ensures { result ≡ is_body kind col_type rows body.now }
 {
     match (kind, col_type) {
@@ -33,7 +34,7 @@ pub fn is_body(kind: Kind, col_type: ColType, rows: usize, body: &[u8]) -> bool
 pub fn cell_at(kind: Kind, col_type: ColType, rows: usize, body: &[u8], row: usize) -> ValueRef<'_>
     requires form { is_body kind col_type rows body.now ≡ true }
     requires within { row < rows }
-    requires few { rows ≤ 8192 }
+    requires few { rows ≤ row_group_rows }
     ensures { value_in result ≡ get_or (body_cells kind col_type rows body.now) row Null }
 {
     match kind {
@@ -55,7 +56,7 @@ fn is_blank_if_null(
 ) -> bool
     requires form { is_body kind col_type rows body.now ≡ true }
     requires within { row < rows }
-    requires few { rows ≤ 8192 }
+    requires few { rows ≤ row_group_rows }
     requires covered { row / 8 < length mask.now }
     ensures { result ≡ (not (bit_at mask.now row) || is_blank (get_or (body_cells kind col_type rows body.now) row Null)) }
 {
@@ -74,7 +75,7 @@ fn are_null_cells_blank(
     body: &[u8],
 ) -> bool
     requires form { is_body kind col_type rows body.now ≡ true }
-    requires few { rows ≤ 8192 }
+    requires few { rows ≤ row_group_rows }
     requires covered { length mask.now ≡ bytes_of_bits rows }
     ensures { result ≡ list_all (λ p. not p.0 || is_blank p.1) (zip (map (bit_at mask.now) (range_with_len 0 rows)) (body_cells kind col_type rows body.now)) }
 {
@@ -96,7 +97,7 @@ pub fn are_nulls_blank(
     body: &[u8],
 ) -> bool
     requires form { is_body kind col_type rows body.now ≡ true }
-    requires few { rows ≤ 8192 }
+    requires few { rows ≤ row_group_rows }
     requires covered { length mask.now ≡ mask_length nullable rows }
     ensures { result ≡ list_all (λ p. not p.0 || is_blank p.1) (zip (if nullable then map (bit_at mask.now) (range_with_len 0 rows) else replicate rows false) (body_cells kind col_type rows body.now)) }
 {

@@ -1,6 +1,7 @@
-// Whether bytes are the mask or the body of a block.
+//! Whether bytes are the mask or the body of a block.
 ghost use Rattle.std.specs.Prelude.{◌≡◌, ◌+◌, ◌*◌, ◌/◌, ◌<◌, ◌≤◌, ◌==◌, ◌&&◌, true, false, not, length, nat_le, nat_lt, sum, zip, get_or, map};
 ghost use Rattle.std.specs.List.{list_all, range_with_len};
+ghost use Rattle.meaning.specs.Limits.{row_group_rows};
 ghost use Rattle.encodings.specs.Block.{mask_length, is_mask, is_dictionary, are_runs, bit_at};
 ghost use Rattle.encodings.specs.Bytes.{shorts};
 
@@ -12,7 +13,7 @@ use meaning::value::ColType;
 
 /// How many bytes the mask takes.
 pub fn mask_length(nullable: bool, rows: usize) -> usize
-    requires { rows ≤ 8192 }
+    requires { rows ≤ row_group_rows }
     ensures { result ≡ mask_length nullable rows }
 {
     if nullable { (rows + 7) / 8 } else { 0 }
@@ -48,7 +49,7 @@ fn are_codes(rows: usize, bytes: &[u8], count: usize) -> bool
 /// Whether `count` lengths of runs are at least 1, and `rows` together.
 fn are_lengths(count: usize, bytes: &[u8], rows: usize) -> bool
     requires within { count ≤ length bytes.now / 2 }
-    requires few { count ≤ 8192 }
+    requires few { count ≤ row_group_rows }
     ensures { result ≡ (list_all (λ n. nat_le 1 n) (shorts count bytes.now) && sum (shorts count bytes.now) == rows) }
 {
     let mut total = 0;
@@ -64,7 +65,7 @@ fn are_lengths(count: usize, bytes: &[u8], rows: usize) -> bool
 
 /// Whether bytes are a dictionary and `rows` codes, and no more.
 pub fn is_dictionary(col_type: ColType, rows: usize, body: &[u8]) -> bool
-    requires { rows ≤ 8192 }
+    requires { rows ≤ row_group_rows }
     ensures { result ≡ is_dictionary col_type rows body.now }
 {
     if body.len() < 4 + 2 * rows {
@@ -86,7 +87,7 @@ pub fn is_dictionary(col_type: ColType, rows: usize, body: &[u8]) -> bool
 
 /// Whether bytes are runs over `rows` rows, and no more.
 pub fn are_runs(col_type: ColType, rows: usize, body: &[u8]) -> bool
-    requires { rows ≤ 8192 }
+    requires { rows ≤ row_group_rows }
     ensures { result ≡ are_runs col_type rows body.now }
 {
     if body.len() < 4 {

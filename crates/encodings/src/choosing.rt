@@ -1,7 +1,8 @@
-// The kind of fewest bytes, without writing any.
+//! The kind of fewest bytes, without writing any.
 ghost use Rattle.std.specs.Prelude.{◌≡◌, ◌≤◌, ◌<◌, ◌+◌, ◌*◌, ◌-◌, false, true, length, map, take, drop, IfOk, IfErr, OnOk};
 ghost use Rattle.std.specs.Prelude.{Bool, List, nat_lt};
 ghost use Rattle.std.specs.List.{list_all};
+ghost use Rattle.meaning.specs.Limits.{row_group_rows};
 ghost use Rattle.encodings.specs.Written.{at_places};
 ghost use Rattle.meaning.specs.declared.value.ColType.TheVariants as of_type;
 ghost use Rattle.meaning.specs.declared.value.Value.{Value};
@@ -17,7 +18,7 @@ use crate::encoding_frame::{bounds_of, width_of};
 use crate::encoding_runs::{runs_of_ints, runs_of_texts};
 use crate::fault::EncodeFault;
 use crate::kind::Kind;
-use columns::{Column, TextList};
+use columns::{Column, LentCells, TextList};
 use std::alloc::{AllocError, Global};
 
 #[tactic(auto, using(crate::proofs::ChosenKinds::least_dictionary))]
@@ -52,7 +53,7 @@ fn least_of_three(plain: usize, dict: usize, runs: usize) -> Kind
 
 fn runs_size_of_ints(alloc: Global, ints: &[i64]) -> Result<usize, AllocError>
     requires some { 1 ≤ length ints.now }
-    requires few { length ints.now ≤ 8192 }
+    requires few { length ints.now ≤ row_group_rows }
     ensures { IfOk result (λ n. n ≡ body_size kind.Runs of_type.Int (map Int ints.now)) }
 {
     let runs = runs_of_ints(alloc, ints)?;
@@ -62,7 +63,7 @@ fn runs_size_of_ints(alloc: Global, ints: &[i64]) -> Result<usize, AllocError>
 
 fn frame_size(ints: &[i64]) -> usize
     requires some { 1 ≤ length ints.now }
-    requires few { length ints.now ≤ 8192 }
+    requires few { length ints.now ≤ row_group_rows }
     ensures { result ≡ body_size kind.Frame of_type.Int (map Int ints.now) }
 {
     let bounds = bounds_of(ints);
@@ -71,11 +72,10 @@ fn frame_size(ints: &[i64]) -> usize
 }
 
 /// The size of a dictionary, or of the least one where that is more than the best of the other kinds.
-fn dictionary_size_of_ints(alloc: Global, ints: &[i64], best: usize) -> Result<usize, EncodeFault>
+fn dictionary_size_of_ints(alloc: Global, ints: &[i64], best: usize) -> Result<usize, AllocError>
     requires some { 1 ≤ length ints.now }
-    requires few { length ints.now ≤ 8192 }
-    ensures ok { IfOk result (λ d. IsDictionarySize d best (body_size kind.Dict of_type.Int (map Int ints.now))) }
-    ensures err { IfErr result (λ f. f ≡ Memory) }
+    requires few { length ints.now ≤ row_group_rows }
+    ensures { IfOk result (λ d. IsDictionarySize d best (body_size kind.Dict of_type.Int (map Int ints.now))) }
 {
     let least = 12 + 2 * ints.len();
     if best < least {
@@ -85,11 +85,10 @@ fn dictionary_size_of_ints(alloc: Global, ints: &[i64], best: usize) -> Result<u
     Ok(4 + 8 * dictionary.places.len() + 2 * ints.len())
 }
 
-fn choose_ints(alloc: Global, ints: &[i64]) -> Result<Kind, EncodeFault>
+fn choose_ints(alloc: Global, ints: &[i64]) -> Result<Kind, AllocError>
     requires some { 1 ≤ length ints.now }
-    requires few { length ints.now ≤ 8192 }
-    ensures ok { IfOk result (λ k. (nullable : Bool) (values : List Value) → cells_for of_type.Int values ≡ map Int ints.now → is_chosen of_type.Int nullable values k ≡ true) }
-    ensures err { IfErr result (λ f. f ≡ Memory) }
+    requires few { length ints.now ≤ row_group_rows }
+    ensures { IfOk result (λ k. (nullable : Bool) (values : List Value) → cells_for of_type.Int values ≡ map Int ints.now → is_chosen of_type.Int nullable values k ≡ true) }
 {
     let plain = 8 * ints.len();
     let runs = runs_size_of_ints(alloc, ints)?;
@@ -105,7 +104,7 @@ fn choose_ints(alloc: Global, ints: &[i64]) -> Result<Kind, EncodeFault>
 fn text_size_at(texts: &TextList, from: usize, to: usize, places: &[usize]) -> usize
     requires within { to ≤ length texts.now }
     requires places { list_all (λ place. nat_lt place (to - from)) places.now ≡ true }
-    requires few { length places.now ≤ 8192 }
+    requires few { length places.now ≤ row_group_rows }
     ensures value { result ≡ form_size of_type.Text (at_places (map Text (take (to - from) (drop from texts.now))) places.now) }
     ensures bound { result ≤ 65539 * length places.now }
 {
@@ -124,7 +123,7 @@ fn runs_size_of_texts(
 ) -> Result<usize, AllocError>
     requires some { from < to }
     requires within { to ≤ length texts.now }
-    requires few { to - from ≤ 8192 }
+    requires few { to - from ≤ row_group_rows }
     ensures { IfOk result (λ n. n ≡ body_size kind.Runs of_type.Text (map Text (take (to - from) (drop from texts.now)))) }
 {
     let runs = runs_of_texts(alloc, texts, from, to)?;
@@ -138,12 +137,11 @@ fn dictionary_size_of_texts(
     from: usize,
     to: usize,
     best: usize,
-) -> Result<usize, EncodeFault>
+) -> Result<usize, AllocError>
     requires some { from < to }
     requires within { to ≤ length texts.now }
-    requires few { to - from ≤ 8192 }
-    ensures ok { IfOk result (λ d. IsDictionarySize d best (body_size kind.Dict of_type.Text (map Text (take (to - from) (drop from texts.now))))) }
-    ensures err { IfErr result (λ f. f ≡ Memory) }
+    requires few { to - from ≤ row_group_rows }
+    ensures { IfOk result (λ d. IsDictionarySize d best (body_size kind.Dict of_type.Text (map Text (take (to - from) (drop from texts.now))))) }
 {
     let least = 8 + 2 * (to - from);
     if best < least {
@@ -153,17 +151,11 @@ fn dictionary_size_of_texts(
     Ok(4 + text_size_at(texts, from, to, dictionary.places.as_slice()) + 2 * (to - from))
 }
 
-fn choose_texts(
-    alloc: Global,
-    texts: &TextList,
-    from: usize,
-    to: usize,
-) -> Result<Kind, EncodeFault>
+fn choose_texts(alloc: Global, texts: &TextList, from: usize, to: usize) -> Result<Kind, AllocError>
     requires some { from < to }
     requires within { to ≤ length texts.now }
-    requires few { to - from ≤ 8192 }
-    ensures ok { IfOk result (λ k. (nullable : Bool) (values : List Value) → cells_for of_type.Text values ≡ map Text (take (to - from) (drop from texts.now)) → is_chosen of_type.Text nullable values k ≡ true) }
-    ensures err { IfErr result (λ f. f ≡ Memory) }
+    requires few { to - from ≤ row_group_rows }
+    ensures { IfOk result (λ k. (nullable : Bool) (values : List Value) → cells_for of_type.Text values ≡ map Text (take (to - from) (drop from texts.now)) → is_chosen of_type.Text nullable values k ≡ true) }
 {
     let plain = 4 * (to - from) + texts.joined(from, to).len();
     let runs = runs_size_of_texts(alloc, texts, from, to)?;
@@ -173,19 +165,16 @@ fn choose_texts(
 }
 
 /// The kind in which some rows, 1 to 8,192 of them, take the fewest bytes; of equals the first in the order of the
-/// kinds. An error is want of memory.
+/// kinds. The only error is out of memory.
 pub fn choose(alloc: Global, column: &Column, from: usize, to: usize) -> Result<Kind, EncodeFault>
     requires some { from < to }
     requires within { to ≤ length column.now.values }
-    requires few { to - from ≤ 8192 }
+    requires few { to - from ≤ row_group_rows }
     ensures ok { IfOk result (λ k. is_chosen column.now.col_type column.now.nullable (between from to column.now) k ≡ true) }
     ensures err { IfErr result (λ f. f ≡ Memory) }
 {
-    if let Some(ints) = column.ints() {
-        return choose_ints(alloc, &ints[from..to]);
+    match column.cells() {
+        LentCells::Ints(ints) => Ok(choose_ints(alloc, &ints[from..to])?),
+        LentCells::Texts(texts) => Ok(choose_texts(alloc, texts, from, to)?),
     }
-    if let Some(texts) = column.texts() {
-        return choose_texts(alloc, texts, from, to);
-    }
-    Err(EncodeFault::Memory)
 }

@@ -1,5 +1,7 @@
+//! Rows of a column as the payload of a block.
 ghost use Rattle.std.specs.Prelude.{◌≡◌, ◌≢◌, ◌≤◌, ◌<◌, ◌-◌, [], ◌++◌, false, true, length, map, take, drop, IfOk, IfErr, OnOk};
 ghost use Rattle.std.specs.List.{list_all};
+ghost use Rattle.meaning.specs.Limits.{row_group_rows};
 ghost use Rattle.meaning.specs.declared.value.ColType.TheVariants as of_type;
 ghost use Rattle.meaning.specs.declared.value.Value.TheVariants.{Int, Text};
 ghost use Rattle.columns.specs.Column.{is_of, IsColumn};
@@ -16,19 +18,19 @@ use crate::encoding_bodies::{
 use crate::encoding_frame::put_frame;
 use crate::fault::EncodeFault;
 use crate::kind::Kind;
-use columns::{Column, TextList};
+use columns::{Column, LentCells, TextList};
 use std::alloc::{AllocError, Global};
 
 fn put_ints(alloc: Global, out: &mut Vec<u8>, kind: Kind, ints: &[i64]) -> Result<(), EncodeFault>
     requires fit { list_all (is_of of_type.Int false) (map Int ints.now) ≡ true }
     requires some { 1 ≤ length ints.now }
-    requires few { length ints.now ≤ 8192 }
+    requires few { length ints.now ≤ row_group_rows }
     ensures ok { OnOk result (PutsBody out.old.items out.new.items kind of_type.Int (map Int ints.now)) }
     ensures err { IfErr result (FaultOf kind of_type.Int) }
 {
     match kind {
         Kind::Plain => Ok(put_plain_ints(out, ints)?),
-        Kind::Dict => put_dictionary_of_ints(alloc, out, ints),
+        Kind::Dict => Ok(put_dictionary_of_ints(alloc, out, ints)?),
         Kind::Runs => Ok(put_runs_of_ints(alloc, out, ints)?),
         Kind::Frame => Ok(put_frame(out, ints)?),
     }
@@ -45,13 +47,13 @@ fn put_texts(
     requires fit { list_all (is_of of_type.Text false) (map Text (take (to - from) (drop from texts.now))) ≡ true }
     requires some { from < to }
     requires within { to ≤ length texts.now }
-    requires few { to - from ≤ 8192 }
+    requires few { to - from ≤ row_group_rows }
     ensures ok { OnOk result (PutsBody out.old.items out.new.items kind of_type.Text (map Text (take (to - from) (drop from texts.now)))) }
     ensures err { IfErr result (FaultOf kind of_type.Text) }
 {
     match kind {
         Kind::Plain => Ok(put_plain_texts(out, texts, from, to)?),
-        Kind::Dict => put_dictionary_of_texts(alloc, out, texts, from, to),
+        Kind::Dict => Ok(put_dictionary_of_texts(alloc, out, texts, from, to)?),
         Kind::Runs => Ok(put_runs_of_texts(alloc, out, texts, from, to)?),
         Kind::Frame => Err(EncodeFault::FrameOnText),
     }
@@ -80,21 +82,18 @@ fn put_cells(
 ) -> Result<(), EncodeFault>
     requires some { from < to }
     requires within { to ≤ length column.now.values }
-    requires few { to - from ≤ 8192 }
+    requires few { to - from ≤ row_group_rows }
     ensures ok { OnOk result (PutsBody out.old.items out.new.items kind column.now.col_type (cells_for column.now.col_type (between from to column.now))) }
     ensures err { IfErr result (FaultOf kind column.now.col_type) }
 {
-    if let Some(ints) = column.ints() {
-        return put_ints(alloc, out, kind, &ints[from..to]);
+    match column.cells() {
+        LentCells::Ints(ints) => put_ints(alloc, out, kind, &ints[from..to]),
+        LentCells::Texts(texts) => put_texts(alloc, out, kind, texts, from, to),
     }
-    if let Some(texts) = column.texts() {
-        return put_texts(alloc, out, kind, texts, from, to);
-    }
-    Err(EncodeFault::Memory)
 }
 
 /// The rows from one on and up to another, 1 to 8,192 of them, as the payload of a block of a kind. A frame of
-/// reference is refused on a text column, and nothing else but for want of memory.
+/// reference is refused on a text column; the only other error is out of memory.
 pub fn encode_as(
     alloc: Global,
     kind: Kind,
@@ -104,7 +103,7 @@ pub fn encode_as(
 ) -> Result<Vec<u8>, EncodeFault>
     requires some { from < to }
     requires within { to ≤ length column.now.values }
-    requires few { to - from ≤ 8192 }
+    requires few { to - from ≤ row_group_rows }
     ensures block { IfOk result (λ bytes. is_block (block_of kind column.now from to bytes.items) ≡ true) }
     ensures values { IfOk result (λ bytes. values_of (block_of kind column.now from to bytes.items) ≡ between from to column.now) }
     ensures tight { IfOk result (λ bytes. is_tight (block_of kind column.now from to bytes.items) ≡ true) }

@@ -1,25 +1,25 @@
-// Bodies of plain values, of dictionaries and of runs.
-ghost use Rattle.std.specs.Prelude.{◌≡◌, ◌≤◌, ◌<◌, ◌-◌, false, true, length, map, take, drop, IfErr, OnOk};
-ghost use Rattle.encodings.specs.declared.fault.EncodeFault.TheVariants.{Memory};
+//! Bodies of plain values, of dictionaries and of runs.
+ghost use Rattle.std.specs.Prelude.{◌≡◌, ◌≤◌, ◌<◌, ◌-◌, false, true, length, map, take, drop, OnOk};
 ghost use Rattle.std.specs.List.{list_all};
+ghost use Rattle.meaning.specs.Limits.{row_group_rows};
 ghost use Rattle.meaning.specs.declared.value.ColType.TheVariants as of_type;
 ghost use Rattle.meaning.specs.declared.value.Value.TheVariants.{Int, Text};
 ghost use Rattle.columns.specs.Column.{is_of};
 ghost use Rattle.encodings.specs.Written.{AreEntries, AreRuns, PutsBody};
 ghost use Rattle.encodings.specs.declared.kind.Kind.TheVariants as kind;
 
-use crate::encoding_dictionary::{Dictionary, dictionary_of_ints, dictionary_of_texts};
+use crate::encoding_dictionary::{dictionary_of_ints, dictionary_of_texts};
 use crate::encoding_forms::{put_integers, put_integers_at, put_texts, put_texts_at};
 use crate::encoding_numbers::{make_room, put_shorts, put_word};
 use crate::encoding_runs::{Runs, runs_of_ints, runs_of_texts};
-use crate::fault::EncodeFault;
+use crate::ordering::Dictionary;
 use columns::TextList;
 use std::alloc::{AllocError, Global};
 use std::mem::drop;
 
 pub fn put_plain_ints(out: &mut Vec<u8>, ints: &[i64]) -> Result<(), AllocError>
     requires fit { list_all (is_of of_type.Int false) (map Int ints.now) ≡ true }
-    requires few { length ints.now ≤ 8192 }
+    requires few { length ints.now ≤ row_group_rows }
     ensures { OnOk result (PutsBody out.old.items out.new.items kind.Plain of_type.Int (map Int ints.now)) }
 {
     make_room(out, 8 * ints.len())?;
@@ -36,7 +36,7 @@ pub fn put_plain_texts(
     requires fit { list_all (is_of of_type.Text false) (map Text (take (to - from) (drop from texts.now))) ≡ true }
     requires some { from < to }
     requires within { to ≤ length texts.now }
-    requires few { to - from ≤ 8192 }
+    requires few { to - from ≤ row_group_rows }
     ensures { OnOk result (PutsBody out.old.items out.new.items kind.Plain of_type.Text (map Text (take (to - from) (drop from texts.now)))) }
 {
     make_room(out, 4 * (to - from) + texts.joined(from, to).len())?;
@@ -47,7 +47,7 @@ pub fn put_plain_texts(
 fn put_int_runs(out: &mut Vec<u8>, ints: &[i64], runs: &Runs) -> Result<(), AllocError>
     requires fit { list_all (is_of of_type.Int false) (map Int ints.now) ≡ true }
     requires some { 1 ≤ length ints.now }
-    requires few { length ints.now ≤ 8192 }
+    requires few { length ints.now ≤ row_group_rows }
     requires runs { AreRuns (map Int ints.now) runs.now.starts.items runs.now.lengths.items }
     ensures { OnOk result (PutsBody out.old.items out.new.items kind.Runs of_type.Int (map Int ints.now)) }
 {
@@ -61,7 +61,7 @@ fn put_int_runs(out: &mut Vec<u8>, ints: &[i64], runs: &Runs) -> Result<(), Allo
 pub fn put_runs_of_ints(alloc: Global, out: &mut Vec<u8>, ints: &[i64]) -> Result<(), AllocError>
     requires fit { list_all (is_of of_type.Int false) (map Int ints.now) ≡ true }
     requires some { 1 ≤ length ints.now }
-    requires few { length ints.now ≤ 8192 }
+    requires few { length ints.now ≤ row_group_rows }
     ensures { OnOk result (PutsBody out.old.items out.new.items kind.Runs of_type.Int (map Int ints.now)) }
 {
     let runs = runs_of_ints(alloc, ints)?;
@@ -80,7 +80,7 @@ fn put_text_runs(
     requires fit { list_all (is_of of_type.Text false) (map Text (take (to - from) (drop from texts.now))) ≡ true }
     requires some { from < to }
     requires within { to ≤ length texts.now }
-    requires few { to - from ≤ 8192 }
+    requires few { to - from ≤ row_group_rows }
     requires runs { AreRuns (map Text (take (to - from) (drop from texts.now))) runs.now.starts.items runs.now.lengths.items }
     ensures { OnOk result (PutsBody out.old.items out.new.items kind.Runs of_type.Text (map Text (take (to - from) (drop from texts.now)))) }
 {
@@ -100,7 +100,7 @@ pub fn put_runs_of_texts(
     requires fit { list_all (is_of of_type.Text false) (map Text (take (to - from) (drop from texts.now))) ≡ true }
     requires some { from < to }
     requires within { to ≤ length texts.now }
-    requires few { to - from ≤ 8192 }
+    requires few { to - from ≤ row_group_rows }
     ensures { OnOk result (PutsBody out.old.items out.new.items kind.Runs of_type.Text (map Text (take (to - from) (drop from texts.now)))) }
 {
     let runs = runs_of_texts(alloc, texts, from, to)?;
@@ -116,7 +116,7 @@ fn put_int_dictionary(
 ) -> Result<(), AllocError>
     requires fit { list_all (is_of of_type.Int false) (map Int ints.now) ≡ true }
     requires some { 1 ≤ length ints.now }
-    requires few { length ints.now ≤ 8192 }
+    requires few { length ints.now ≤ row_group_rows }
     requires entries { AreEntries (map Int ints.now) dictionary.now.places.items dictionary.now.codes.items }
     ensures { OnOk result (PutsBody out.old.items out.new.items kind.Dict of_type.Int (map Int ints.now)) }
 {
@@ -135,17 +135,16 @@ pub fn put_dictionary_of_ints(
     alloc: Global,
     out: &mut Vec<u8>,
     ints: &[i64],
-) -> Result<(), EncodeFault>
+) -> Result<(), AllocError>
     requires fit { list_all (is_of of_type.Int false) (map Int ints.now) ≡ true }
     requires some { 1 ≤ length ints.now }
-    requires few { length ints.now ≤ 8192 }
-    ensures ok { OnOk result (PutsBody out.old.items out.new.items kind.Dict of_type.Int (map Int ints.now)) }
-    ensures err { IfErr result (λ f. f ≡ Memory) }
+    requires few { length ints.now ≤ row_group_rows }
+    ensures { OnOk result (PutsBody out.old.items out.new.items kind.Dict of_type.Int (map Int ints.now)) }
 {
     let dictionary = dictionary_of_ints(alloc, ints)?;
     let put = put_int_dictionary(out, ints, &dictionary);
     drop(dictionary);
-    Ok(put?)
+    put
 }
 
 fn put_text_dictionary(
@@ -158,7 +157,7 @@ fn put_text_dictionary(
     requires fit { list_all (is_of of_type.Text false) (map Text (take (to - from) (drop from texts.now))) ≡ true }
     requires some { from < to }
     requires within { to ≤ length texts.now }
-    requires few { to - from ≤ 8192 }
+    requires few { to - from ≤ row_group_rows }
     requires entries { AreEntries (map Text (take (to - from) (drop from texts.now))) dictionary.now.places.items dictionary.now.codes.items }
     ensures { OnOk result (PutsBody out.old.items out.new.items kind.Dict of_type.Text (map Text (take (to - from) (drop from texts.now)))) }
 {
@@ -174,16 +173,15 @@ pub fn put_dictionary_of_texts(
     texts: &TextList,
     from: usize,
     to: usize,
-) -> Result<(), EncodeFault>
+) -> Result<(), AllocError>
     requires fit { list_all (is_of of_type.Text false) (map Text (take (to - from) (drop from texts.now))) ≡ true }
     requires some { from < to }
     requires within { to ≤ length texts.now }
-    requires few { to - from ≤ 8192 }
-    ensures ok { OnOk result (PutsBody out.old.items out.new.items kind.Dict of_type.Text (map Text (take (to - from) (drop from texts.now)))) }
-    ensures err { IfErr result (λ f. f ≡ Memory) }
+    requires few { to - from ≤ row_group_rows }
+    ensures { OnOk result (PutsBody out.old.items out.new.items kind.Dict of_type.Text (map Text (take (to - from) (drop from texts.now)))) }
 {
     let dictionary = dictionary_of_texts(alloc, texts, from, to)?;
     let put = put_text_dictionary(out, texts, from, to, &dictionary);
     drop(dictionary);
-    Ok(put?)
+    put
 }

@@ -1,6 +1,7 @@
-// Cells one by one: integers, or where each text ends and then the texts.
+//! Cells one by one: integers, or where each text ends and then the texts.
 ghost use Rattle.std.specs.Prelude.{◌≡◌, ◌≤◌, ◌<◌, nat_lt, ◌+◌, ◌-◌, ◌++◌, [], length, map, take, drop, pos, get_or, true, OnOk};
 ghost use Rattle.std.specs.List.{concat, flat_map, list_all};
+ghost use Rattle.meaning.specs.Limits.{row_group_rows};
 ghost use Rattle.columns.specs.Column.{is_text};
 ghost use Rattle.columns.specs.Texts.{ends_from};
 ghost use Rattle.encodings.specs.Written.{integer_bytes, word_bytes, ints_at, texts_at};
@@ -33,7 +34,7 @@ pub fn put_integers_at(out: &mut Vec<u8>, ints: &[i64], places: &[usize]) -> Res
 fn put_ends(out: &mut Vec<u8>, texts: &TextList, from: usize, to: usize) -> Result<(), AllocError>
     requires ordered { from ≤ to }
     requires within { to ≤ length texts.now }
-    requires few { to - from ≤ 8192 }
+    requires few { to - from ≤ row_group_rows }
     ensures { OnOk result (out.new.items
         ≡ out.old.items ++ flat_map word_bytes (ends_from 0 (take (to - from) (drop from texts.now)))) }
 {
@@ -54,7 +55,7 @@ pub fn put_texts(
 ) -> Result<(), AllocError>
     requires ordered { from ≤ to }
     requires within { to ≤ length texts.now }
-    requires few { to - from ≤ 8192 }
+    requires few { to - from ≤ row_group_rows }
     ensures { OnOk result (out.new.items
         ≡ out.old.items ++ (flat_map word_bytes (ends_from 0 (take (to - from) (drop from texts.now)))
         ++ concat (take (to - from) (drop from texts.now)))) }
@@ -82,7 +83,7 @@ fn put_ends_at(
 ) -> Result<(), AllocError>
     requires within { to ≤ length texts.now }
     requires places { list_all (λ place. nat_lt place (to - from)) places.now ≡ true }
-    requires few { length places.now ≤ 8192 }
+    requires few { length places.now ≤ row_group_rows }
     ensures { OnOk result (out.new.items
         ≡ out.old.items ++ flat_map word_bytes (ends_from 0 (texts_at (take (to - from) (drop from texts.now)) places.now))) }
 {
@@ -122,7 +123,7 @@ pub fn put_texts_at(
 ) -> Result<(), AllocError>
     requires within { to ≤ length texts.now }
     requires places { list_all (λ place. nat_lt place (to - from)) places.now ≡ true }
-    requires few { length places.now ≤ 8192 }
+    requires few { length places.now ≤ row_group_rows }
     ensures { OnOk result (out.new.items
         ≡ out.old.items ++ (flat_map word_bytes (ends_from 0 (texts_at (take (to - from) (drop from texts.now)) places.now))
         ++ concat (texts_at (take (to - from) (drop from texts.now)) places.now))) }

@@ -1,7 +1,8 @@
-// A frame of reference: the least integer, and how far each integer is above it.
+//! A frame of reference: the least integer, and how far each integer is above it.
 ghost use Rattle.std.specs.Prelude.{◌≡◌, ◌≤◌, ◌<◌, ◌-◌, ◌-ℤ◌, ◌∷◌, false, true, length, map, take, drop, unsigned_abs, OnOk};
 ghost use Rattle.std.specs.List.{list_all};
 ghost use Rattle.std.specs.Ordering.{int_cmp, ord_min, ord_max};
+ghost use Rattle.meaning.specs.Limits.{row_group_rows};
 ghost use Rattle.meaning.specs.declared.value.ColType.TheVariants as of_type;
 ghost use Rattle.meaning.specs.declared.value.Value.TheVariants.{Int};
 ghost use Rattle.columns.specs.Column.{is_of};
@@ -56,7 +57,7 @@ pub fn width_of(number: u64) -> u32
 pub fn put_frame(out: &mut Vec<u8>, ints: &[i64]) -> Result<(), AllocError>
     requires fit { list_all (is_of of_type.Int false) (map Int ints.now) ≡ true }
     requires some { 1 ≤ length ints.now }
-    requires few { length ints.now ≤ 8192 }
+    requires few { length ints.now ≤ row_group_rows }
     ensures { OnOk result (PutsBody out.old.items out.new.items kind.Frame of_type.Int (map Int ints.now)) }
 {
     let bounds = bounds_of(ints);

@@ -1,4 +1,4 @@
-// Numbers behind the bytes that are written so far, the lowest byte first.
+//! Numbers behind the bytes that are written so far, the lowest byte first.
 ghost use Rattle.std.specs.Prelude.{◌≡◌, ◌++◌, OnOk};
 ghost use Rattle.std.specs.List.{flat_map};
 ghost use Rattle.encodings.specs.Written.{short_bytes, word_bytes, integer_bytes};

@@ -1,5 +1,6 @@
-// The longest runs of equal cells.
+//! The longest runs of equal cells.
 ghost use Rattle.std.specs.Prelude.{◌≡◌, ◌≤◌, ◌<◌, ◌-◌, ◌++◌, ◌∷◌, [], length, map, take, drop, get_or, ◌+◌, IfOk, OnOk};
+ghost use Rattle.meaning.specs.Limits.{row_group_rows};
 ghost use Rattle.meaning.specs.declared.value.Value.TheVariants.{Null, Int, Text};
 ghost use Rattle.meaning.specs.Gather.{same_value};
 ghost use Rattle.encodings.specs.Written.{AreRuns};
@@ -17,7 +18,7 @@ pub struct Runs {
 impl Runs {
     fn put(&mut self, start: usize, end: usize) -> Result<(), AllocError>
         requires ordered { start < end }
-        requires few { end ≤ 8192 }
+        requires few { end ≤ row_group_rows }
         ensures starts { OnOk result (self.new.starts.items ≡ self.old.starts.items ++ start ∷ []) }
         ensures lengths { OnOk result (self.new.lengths.items ≡ self.old.lengths.items ++ (end - start) ∷ []) }
     {
@@ -47,7 +48,7 @@ pub fn is_same_text(texts: &TextList, row: usize, other: usize) -> bool
 
 pub fn runs_of_ints(alloc: Global, ints: &[i64]) -> Result<Runs, AllocError>
     requires some { 1 ≤ length ints.now }
-    requires few { length ints.now ≤ 8192 }
+    requires few { length ints.now ≤ row_group_rows }
     ensures { IfOk result (λ r. AreRuns (map Int ints.now) r.starts.items r.lengths.items) }
 {
     let mut runs = Runs {
@@ -73,7 +74,7 @@ pub fn runs_of_texts(
 ) -> Result<Runs, AllocError>
     requires some { from < to }
     requires within { to ≤ length texts.now }
-    requires few { to - from ≤ 8192 }
+    requires few { to - from ≤ row_group_rows }
     ensures { IfOk result (λ r. AreRuns (map Text (take (to - from) (drop from texts.now))) r.starts.items r.lengths.items) }
 {
     let mut runs = Runs {

@@ -1,3 +1,4 @@
+//! Why a block is not written.
 ghost use Rattle.std.specs.Prelude.{◌≡◌};
 ghost use Rattle.encodings.specs.declared.fault.EncodeFault.TheVariants.{Memory};
 ghost use Rattle.encodings.specs.Written.{number_of_fault};
@@ -15,7 +16,7 @@ pub enum EncodeFault {
 }
 
 impl EncodeFault {
-    /// The number by which the refusal is told.
+    /// The error code.
     pub fn number(&self) -> u8
         ensures { result ≡ number_of_fault self.now }
     {

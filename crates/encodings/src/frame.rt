@@ -1,6 +1,7 @@
-// A frame of reference: a base, a width in bits, and an offset of that width for each row.
+//! A frame of reference: a base, a width in bits, and an offset of that width for each row.
 ghost use Rattle.std.specs.Prelude.{◌≡◌, ℤ, pos, ◌+ℤ◌, ◌+◌, ◌*◌, ◌/◌, ◌%◌, ◌^◌, ◌-◌, ◌<◌, ◌≤◌, ◌==◌, ◌&&◌, ◌||◌, true, length, take, drop, get_or, map, nat_le, nat_lt};
 ghost use Rattle.std.specs.List.{list_any, list_all, range_with_len};
+ghost use Rattle.meaning.specs.Limits.{row_group_rows};
 ghost use Rattle.encodings.specs.Block.{offset_at, is_frame, frame_integers};
 ghost use Rattle.meaning.specs.Operators.{fits_i64};
 ghost use Rattle.encodings.specs.Bytes.{number_of};
@@ -49,7 +50,7 @@ pub fn low_bits(number: u64, width: usize) -> u64
 #[inline(always)]
 pub fn offset_at(width: usize, packed: &[u8], i: usize) -> u64
     requires narrow { width ≤ 64 }
-    requires few { i < 8192 }
+    requires few { i < row_group_rows }
     requires within { width * i + width ≤ 8 * length packed.now }
     ensures { result ≡ offset_at width packed.now i }
 {
@@ -98,7 +99,7 @@ fn room_above(base: i64) -> u64
 /// Whether some offset is 0, one takes the whole width, and each is within the integers.
 fn are_offsets(width: usize, packed: &[u8], rows: usize, base: i64) -> bool
     requires narrow { width ≤ 64 }
-    requires few { rows ≤ 8192 }
+    requires few { rows ≤ row_group_rows }
     requires within { width * rows ≤ 8 * length packed.now }
     ensures { let offsets = map (offset_at width packed.now) (range_with_len 0 rows) in
         result ≡ (list_any (λ offset. offset == 0) offsets && ((width == 0 || list_any (λ offset. nat_le (2 ^ (width - 1)) offset) offsets) && list_all fits_i64 (map (λ offset. base +ℤ pos offset) offsets))) }
@@ -119,7 +120,7 @@ fn are_offsets(width: usize, packed: &[u8], rows: usize, base: i64) -> bool
 
 /// Whether bytes are a frame of `rows` offsets, and no more.
 pub fn is_frame(rows: usize, body: &[u8]) -> bool
-    requires { rows ≤ 8192 }
+    requires { rows ≤ row_group_rows }
     ensures { result ≡ is_frame rows body.now }
 {
     if body.len() < 9 {
@@ -143,7 +144,7 @@ pub fn is_frame(rows: usize, body: &[u8]) -> bool
 pub fn frame_cell(rows: usize, body: &[u8], row: usize) -> i64
     requires form { is_frame rows body.now ≡ true }
     requires within { row < rows }
-    requires few { rows ≤ 8192 }
+    requires few { rows ≤ row_group_rows }
     ensures { result ≡ get_or (frame_integers rows body.now) row (pos 0) }
 {
     let width = usize::from(body[8]);

@@ -1,6 +1,7 @@
-// Offsets by groups of eight, which take as many bytes as an offset has bits.
+//! Offsets by groups of eight, which take as many bytes as an offset has bits.
 ghost use Rattle.std.specs.Prelude.{◌≡◌, ℕ, pos, ◌+ℤ◌, ◌+◌, ◌-◌, ◌*◌, ◌/◌, ◌%◌, ◌<◌, ◌≤◌, ◌++◌, length, take, true};
 ghost use Rattle.std.specs.List.{list_all};
+ghost use Rattle.meaning.specs.Limits.{row_group_rows};
 ghost use Rattle.meaning.specs.Operators.{fits_i64};
 ghost use Rattle.encodings.specs.Block.{offset_at};
 ghost use Rattle.encodings.specs.Reading.{AreInGroups, raised_offsets};
@@ -101,7 +102,7 @@ fn put_group(group: [i64; 8], at: usize, out: &mut [i64])
 #[inline(always)]
 fn fill_each(base: i64, width: usize, packed: &[u8], first: usize, out: &mut [i64])
     requires width { width ≤ 64 }
-    requires few { 8 * first + length out.old ≤ 8192 }
+    requires few { 8 * first + length out.old ≤ row_group_rows }
     requires within { (8 * first + length out.old) * width ≤ 8 * length packed.now }
     requires fits { list_all fits_i64 (raised_offsets base width packed.now (8 * first) (length out.old)) ≡ true }
     ensures { take (8 * (length out.old / 8)) out.new
@@ -160,7 +161,7 @@ fn fill_eighth<const EIGHTS: usize>(
 /// The cells up to the last that is a multiple of eight, by the groups from `first` on.
 pub fn fill_groups(base: i64, width: usize, packed: &[u8], first: usize, out: &mut [i64])
     requires width { width ≤ 64 }
-    requires few { 8 * first + length out.old ≤ 8192 }
+    requires few { 8 * first + length out.old ≤ row_group_rows }
     requires within { (8 * first + length out.old) * width ≤ 8 * length packed.now }
     requires fits { list_all fits_i64 (raised_offsets base width packed.now (8 * first) (length out.old)) ≡ true }
     ensures { take (8 * (length out.old / 8)) out.new

@@ -1,3 +1,4 @@
+//! The four kinds of block.
 ghost use Rattle.std.specs.Prelude.{◌≡◌, ◌<◌, MatchOption};
 ghost use Rattle.encodings.specs.Tight.{place_of};
 

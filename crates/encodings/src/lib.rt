@@ -1,6 +1,7 @@
 //! Blocks: the values of one column in up to 8,192 rows, as bytes of one of four kinds.
 #![tactic(auto)]
 
+mod cell;
 mod cells;
 mod checking;
 mod choosing;
@@ -18,7 +19,9 @@ mod frame;
 mod groups;
 pub mod kind;
 mod null_runs;
+mod numbering;
 mod numbers;
+mod ordering;
 mod reading;
 mod reading_dict;
 mod reading_frame;

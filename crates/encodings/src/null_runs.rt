@@ -1,6 +1,7 @@
-// Whether the blank stands in each run that has a NULL row.
+//! Whether the blank stands in each run that has a NULL row.
 ghost use Rattle.std.specs.Prelude.{◌≡◌, ◌+◌, ◌-◌, ◌<◌, ◌≤◌, ◌*◌, ◌||◌, true, not, length, get_or, map, zip};
 ghost use Rattle.std.specs.List.{list_all, range_with_len};
+ghost use Rattle.meaning.specs.Limits.{row_group_rows};
 ghost use Rattle.meaning.specs.declared.value.Value.TheVariants.{Null};
 ghost use Rattle.encodings.specs.Block.{bit_at, bytes_of_bits, values_form, is_values_form, are_runs, run_cells, is_blank};
 
@@ -46,7 +47,7 @@ fn is_run_blank_if_null(
 /// Whether the blank stands in the cell of each row whose bit is set.
 pub fn are_null_runs_blank(col_type: ColType, rows: usize, mask: &[u8], body: &[u8]) -> bool
     requires form { are_runs col_type rows body.now ≡ true }
-    requires few { rows ≤ 8192 }
+    requires few { rows ≤ row_group_rows }
     requires covered { length mask.now ≡ bytes_of_bits rows }
     ensures { result ≡ list_all (λ p. not p.0 || is_blank p.1) (zip (map (bit_at mask.now) (range_with_len 0 rows)) (run_cells col_type body.now)) }
 {

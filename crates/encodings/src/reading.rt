@@ -1,4 +1,6 @@
+//! The values of a block into a buffer.
 ghost use Rattle.std.specs.Prelude.{◌≡◌, ◌+◌, ◌≤◌, length, map, take, drop, true};
+ghost use Rattle.meaning.specs.Limits.{row_group_rows};
 ghost use Rattle.meaning.specs.declared.value.ColType.TheVariants as of_type;
 ghost use Rattle.meaning.specs.declared.value.Value.TheVariants.{Int, Text};
 ghost use Rattle.encodings.specs.Block.{Block, body_cells, is_block, is_body, mask_length, values_of};
@@ -15,7 +17,7 @@ use meaning::value::ColType;
 
 /// How many bytes the mask takes.
 fn mask_len(nullable: bool, rows: usize) -> usize
-    requires { rows ≤ 8192 }
+    requires { rows ≤ row_group_rows }
     ensures { result ≡ mask_length nullable rows }
 {
     if nullable { rows.div_ceil(8) } else { 0 }
@@ -23,7 +25,7 @@ fn mask_len(nullable: bool, rows: usize) -> usize
 
 fn read_integers(kind: Kind, rows: usize, body: &[u8], from: usize, out: &mut [i64])
     requires body { is_body kind of_type.Int rows body.now ≡ true }
-    requires few { rows ≤ 8192 }
+    requires few { rows ≤ row_group_rows }
     requires within { from + length out.old ≤ rows }
     ensures { map Int out.new ≡ take (length out.old) (drop from (body_cells kind of_type.Int rows body.now)) }
 {
@@ -63,10 +65,10 @@ struct Rows<'a> {
 /// The cells of `count` rows, into the first of the cells of their type.
 fn read_cells<'a>(part: Rows<'a>, ints: &mut [i64], texts: &mut [&'a [u8]])
     requires body { is_body part.kind part.col_type part.rows part.body.now ≡ true }
-    requires few { part.rows ≤ 8192 }
+    requires few { part.rows ≤ row_group_rows }
     requires within { part.from + part.count ≤ part.rows }
-    requires ints_room { part.count ≤ length ints.old }
-    requires texts_room { part.count ≤ length texts.old }
+    requires ints_room { part.col_type ≡ of_type.Int → part.count ≤ length ints.old }
+    requires texts_room { part.col_type ≡ of_type.Text → part.count ≤ length texts.old }
     ensures { cells_in part.entry.col_type (take part.entry.count ints.new) (take part.entry.count (map (λ t. t.now) texts.new))
         ≡ take part.entry.count (drop part.entry.from
         (body_cells part.entry.kind part.entry.col_type part.entry.rows part.entry.body.now)) }
@@ -99,7 +101,8 @@ pub fn read_rows<'a>(
     from: usize,
     out: &mut VectorBuf<'a>,
 )
-    requires { is_block (record { kind = kind; col_type = col_type; nullable = nullable; rows = rows; payload = payload.now }) ≡ true }
+    requires block { is_block (record { kind = kind; col_type = col_type; nullable = nullable; rows = rows; payload = payload.now }) ≡ true }
+    requires typed { out.old.col_type ≡ col_type }
     ensures { out.new ≡ record {
       room = out.old.room;
       col_type = col_type;
@@ -121,5 +124,4 @@ pub fn read_rows<'a>(
     };
     read_cells(part, out.ints.as_mut_slice(), out.texts.as_mut_slice());
     out.len = count;
-    out.col_type = col_type;
 }

@@ -1,4 +1,4 @@
-// A code for each row, and the entries that codes name.
+//! A code for each row, and the entries that codes name.
 ghost use Rattle.std.specs.Prelude.{◌≡◌, ◌≤◌, ◌<◌, ◌+◌, ◌-◌, ◌*◌, nat_lt, length, map, take, drop, true, get_or, pos, []};
 ghost use Rattle.std.specs.Simd.{first_chunks};
 ghost use Rattle.meaning.specs.declared.value.ColType.TheVariants as of_type;

@@ -1,6 +1,7 @@
-// A base, and an offset of some bits for each row.
+//! A base, and an offset of some bits for each row.
 ghost use Rattle.std.specs.Prelude.{◌≡◌, ◌+◌, ◌*◌, ◌≤◌, ◌<◌, ◌+ℤ◌, length, map, take, drop, pos, true};
 ghost use Rattle.std.specs.List.{list_all};
+ghost use Rattle.meaning.specs.Limits.{row_group_rows};
 ghost use Rattle.encodings.specs.Reading.{raised_offsets};
 ghost use Rattle.meaning.specs.Operators.{fits_i64};
 ghost use Rattle.encodings.specs.Block.{base_of, frame_integers, is_frame};
@@ -13,7 +14,7 @@ use crate::unpacking::near_offset;
 fn fill_lanes(base: i64, width: u8, packed: &[u8], from: usize, start: usize, out: &mut [i64])
     requires width { width ≤ 64 }
     requires within { (from + length out.old) * width ≤ 8 * length packed.now }
-    requires few { from + length out.old ≤ 8192 }
+    requires few { from + length out.old ≤ row_group_rows }
     requires fits { list_all fits_i64 (raised_offsets base width packed.now from (length out.old)) ≡ true }
     requires start { start ≤ length out.old }
     requires front { take start out.old ≡ raised_offsets base width packed.now from start }
@@ -28,7 +29,7 @@ fn fill_lanes(base: i64, width: u8, packed: &[u8], from: usize, start: usize, ou
 pub fn fill_raised(base: i64, width: u8, packed: &[u8], from: usize, out: &mut [i64])
     requires width { width ≤ 64 }
     requires within { (from + length out.old) * width ≤ 8 * length packed.now }
-    requires few { from + length out.old ≤ 8192 }
+    requires few { from + length out.old ≤ row_group_rows }
     requires fits { list_all fits_i64 (raised_offsets base width packed.now from (length out.old)) ≡ true }
     ensures { out.new ≡ raised_offsets base width packed.now from (length out.old) }
 {
@@ -52,7 +53,7 @@ fn base_at(body: &[u8]) -> i64
 pub fn read_frame(rows: usize, body: &[u8], from: usize, out: &mut [i64])
     requires form { is_frame rows body.now ≡ true }
     requires within { from + length out.old ≤ rows }
-    requires few { rows ≤ 8192 }
+    requires few { rows ≤ row_group_rows }
     ensures { out.new ≡ take (length out.old) (drop from (frame_integers rows body.now)) }
 {
     let base = base_at(body);

@@ -1,6 +1,7 @@
-// Which rows are NULL.
+//! Which rows are NULL.
 ghost use Rattle.std.specs.Prelude.{◌≡◌, if◌then◌else◌, replicate, true, false, ◌+◌, ◌*◌, ◌/◌, ◌%◌, ◌^◌, ◌==◌, ◌≤◌, ◌<◌, length, map, take, [], ◌∷◌, ◌++◌, get_or};
 ghost use Rattle.std.specs.List.{range_with_len};
+ghost use Rattle.meaning.specs.Limits.{row_group_rows};
 ghost use Rattle.encodings.specs.Block.{bit_at};
 
 /// A bit for each of eight lanes, the lowest first.
@@ -52,7 +53,7 @@ fn fill_lanes(mask: &[u8], first: usize, out: &mut [bool])
 /// The lanes from `start` on, one by one.
 fn fill_bits(mask: &[u8], from: usize, start: usize, out: &mut [bool])
     requires within { from + length out.old ≤ 8 * length mask.now }
-    requires few { from + length out.old ≤ 8192 }
+    requires few { from + length out.old ≤ row_group_rows }
     requires start { start ≤ length out.old }
     requires front { take start out.old ≡ map (bit_at mask.now) (range_with_len from start) }
     ensures { out.new ≡ map (bit_at mask.now) (range_with_len from (length out.old)) }
@@ -65,7 +66,7 @@ fn fill_bits(mask: &[u8], from: usize, start: usize, out: &mut [bool])
 /// The bits of the mask from place `from` on.
 fn fill_nulls(mask: &[u8], from: usize, out: &mut [bool])
     requires within { from + length out.old ≤ 8 * length mask.now }
-    requires few { from + length out.old ≤ 8192 }
+    requires few { from + length out.old ≤ row_group_rows }
     ensures { out.new ≡ map (bit_at mask.now) (range_with_len from (length out.old)) }
 {
     if from % 8 == 0 {
@@ -79,7 +80,7 @@ fn fill_nulls(mask: &[u8], from: usize, out: &mut [bool])
 /// Which rows are NULL, of the `n` from row `from` on, where the mask of a nullable column tells.
 pub fn read_nulls(nullable: bool, mask: &[u8], from: usize, n: usize, out: &mut [bool])
     requires room { n ≤ length out.old }
-    requires few { from + n ≤ 8192 }
+    requires few { from + n ≤ row_group_rows }
     requires within { nullable ≡ true → from + n ≤ 8 * length mask.now }
     ensures { take n out.new
         ≡ (if nullable then map (bit_at mask.now) (range_with_len from n) else replicate n false) }

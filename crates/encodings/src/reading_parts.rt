@@ -1,4 +1,4 @@
-// The parts of a body: numbers of some bytes each, and texts by their ends.
+//! The parts of a body: numbers of some bytes each, and texts by their ends.
 ghost use Rattle.std.specs.Prelude.{◌≡◌, ◌+◌, ◌-◌, ◌*◌, ◌<◌, ◌≤◌, length, get_or, map, true, [], ◌∷◌, drop, take};
 ghost use Rattle.std.specs.Int.{w32};
 ghost use Rattle.std.specs.Simd.{first_chunks};

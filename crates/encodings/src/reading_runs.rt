@@ -1,7 +1,8 @@
-// Values with the lengths of their runs.
+//! Values with the lengths of their runs.
 ghost use Rattle.std.specs.Prelude.{◌≡◌, ◌+◌, ◌*◌, ◌++◌, ◌≤◌, ◌<◌, length, map, take, drop, zip, sum, replicate, true, get_or};
 ghost use Rattle.encodings.specs.Bytes.{integer_of};
 ghost use Rattle.std.specs.Simd.{first_chunks};
+ghost use Rattle.meaning.specs.Limits.{row_group_rows};
 ghost use Rattle.meaning.specs.declared.value.ColType.TheVariants as of_type;
 ghost use Rattle.meaning.specs.declared.value.Value.TheVariants.{Int, Text};
 ghost use Rattle.encodings.specs.Block.{are_runs, count_of, run_cells, run_value_bytes};
@@ -23,7 +24,7 @@ fn put_texts<'a>(out: &mut [&'a [u8]], at: usize, n: usize, text: &'a [u8])
 #[cold]
 #[inline(never)]
 fn rows_of(lengths: &[[u8; 2]]) -> usize
-    requires { length lengths.now ≤ 8192 }
+    requires { length lengths.now ≤ row_group_rows }
     ensures { result ≡ sum (codes_in lengths.now) }
 {
     let mut rows = 0;

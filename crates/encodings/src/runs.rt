@@ -1,3 +1,4 @@
+//! The runs that a block lends.
 ghost use Rattle.std.specs.Prelude.{◌≡◌, ◌+◌, ◌-◌, ◌*◌, ◌/◌, ◌<◌, ◌≤◌, List, true, length, drop, get_or, zip, sum};
 ghost use Rattle.meaning.specs.Order.{value_in};
 ghost use Rattle.meaning.specs.declared.value.Value.{Value};

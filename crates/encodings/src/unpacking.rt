@@ -1,8 +1,11 @@
-// Offsets of a fixed width in bits, one behind the other.
+//! Offsets of a fixed width in bits, one behind the other.
 ghost use Rattle.std.specs.Prelude.{◌≡◌, ℕ, ◌+◌, ◌*◌, ◌/◌, ◌%◌, ◌^◌, ◌<◌, ◌≤◌, length, drop, take, map};
 ghost use Rattle.std.specs.List.{range_with_len};
+ghost use Rattle.meaning.specs.Limits.{row_group_rows};
 ghost use Rattle.encodings.specs.Block.{offset_at};
 ghost use Rattle.encodings.specs.Bytes.{number_of};
+
+use meaning::limits::ROW_GROUP_ROWS;
 
 /// The number that few bytes are, the lowest byte first.
 fn number(bytes: &[u8]) -> u128
@@ -69,7 +72,7 @@ fn first_offset(bytes: &[u8], width: u8, shift: usize) -> u64
 #[inline]
 pub fn near_offset(bytes: &[u8], width: u8, i: usize) -> u64
     requires width { width ≤ 64 }
-    requires few { i ≤ 8192 }
+    requires few { i ≤ row_group_rows }
     requires within { i * width ≤ 8 * length bytes.now }
     ensures { result ≡ offset_at width bytes.now i }
 {
@@ -90,7 +93,7 @@ fn offset(bytes: &[u8], width: u8, i: usize) -> u64
 
 fn fill_near(bytes: &[u8], width: u8, from: usize, out: &mut [u64])
     requires width { width ≤ 64 }
-    requires few { from + length out.old ≤ 8192 }
+    requires few { from + length out.old ≤ row_group_rows }
     requires within { (from + length out.old) * width ≤ 8 * length bytes.now }
     ensures { out.new ≡ map (offset_at width bytes.now) (range_with_len from (length out.old)) }
 {
@@ -116,7 +119,7 @@ pub fn unpack(bytes: &[u8], width: u8, from: usize, out: &mut [u64])
     requires within { (from + length out.old) * width ≤ 8 * length bytes.now }
     ensures { out.new ≡ map (offset_at width bytes.now) (range_with_len from (length out.old)) }
 {
-    if out.len() <= 8192 && from <= 8192 - out.len() {
+    if out.len() <= ROW_GROUP_ROWS && from <= ROW_GROUP_ROWS - out.len() {
         fill_near(bytes, width, from, out);
         return;
     }

@@ -1,7 +1,8 @@
-// Values that stand one by one: integers of 64 bits, or the ends of texts and then the texts.
+//! Values that stand one by one: integers of 64 bits, or the ends of texts and then the texts.
 ghost use Rattle.std.specs.Prelude.{◌≡◌, ◌*◌, ◌<◌, ◌≤◌, [], ◌∷◌, true, length, get_or};
 ghost use Rattle.std.specs.List.{list_all};
 ghost use Rattle.std.specs.Ordering.{is_lt};
+ghost use Rattle.meaning.specs.Limits.{row_group_rows};
 ghost use Rattle.meaning.specs.Order.{value_cmp, is_ascending, value_in};
 ghost use Rattle.meaning.specs.Order.{rank as value_rank};
 ghost use Rattle.meaning.specs.declared.value.Value.TheVariants.{Null};
@@ -10,13 +11,14 @@ ghost use Rattle.encodings.specs.Block.{values_form, is_values_form, are_ends, e
 ghost use Rattle.encodings.specs.Bytes.{words, texts_from};
 
 use crate::numbers::{integer_at, word_at};
+use meaning::limits::MAX_TEXT_BYTES;
 use meaning::value::{ColType, ValueRef};
 use std::cmp::Ordering;
 
 fn is_text(text: &[u8]) -> bool
     ensures { result ≡ is_text text.now }
 {
-    text.len() <= 65535 && str::from_utf8(text).is_ok()
+    text.len() <= MAX_TEXT_BYTES && str::from_utf8(text).is_ok()
 }
 
 fn are_ends(count: usize, bytes: &[u8], total: usize) -> bool
@@ -51,7 +53,7 @@ fn are_texts(count: usize, bytes: &[u8], joined: &[u8]) -> bool
 }
 
 fn are_ended_texts(count: usize, bytes: &[u8]) -> bool
-    requires { count ≤ 8192 }
+    requires { count ≤ row_group_rows }
     ensures { result ≡ is_values_form ColType.Text count bytes.now }
 {
     if bytes.len() < 4 * count {
@@ -66,7 +68,7 @@ fn are_ended_texts(count: usize, bytes: &[u8]) -> bool
 
 /// Whether bytes are `count` values of a type and no more.
 pub fn is_values_form(col_type: ColType, count: usize, bytes: &[u8]) -> bool
-    requires { count ≤ 8192 }
+    requires { count ≤ row_group_rows }
     ensures { result ≡ is_values_form col_type count bytes.now }
 {
     match col_type {

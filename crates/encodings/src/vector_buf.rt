@@ -1,16 +1,26 @@
+//! A buffer for values that are read out of a block.
 ghost use Rattle.std.specs.Prelude.{pos, ◌≡◌, ◌==◌, ◌<◌, ◌↔◌, [], map, length, get_or, IfOk, IsSome, IfSome};
 ghost use Rattle.meaning.specs.declared.value.ColType.TheVariants as of_type;
 ghost use Rattle.meaning.specs.declared.value.Value.TheVariants.{Null};
 ghost use Rattle.meaning.specs.Order.{value_in, is_null, number, bytes};
-ghost use Rattle.encodings.specs.Vector.{Vector};
+ghost use Rattle.encodings.specs.Vector.{Vector, AreParts};
 
 use meaning::value::{ColType, ValueRef};
 use std::alloc::{AllocError, Global};
 use std::marker::Model;
+use std::mem::drop;
 
-/// Room for values of one column, filled anew by each read.
+/// The values of a vector without its marks of NULL.
+#[derive(Drop)]
+pub enum Lanes<'a> {
+    Ints(Vec<i64>),
+    Texts(Vec<&'a [u8]>),
+}
+
+/// Room for values of one type, filled anew by each read.
 #[derive(Drop)]
 pub struct VectorBuf<'a> {
+    // Of the two, the one of the other type is empty.
     pub(crate) ints: Vec<i64>,
     pub(crate) texts: Vec<&'a [u8]>,
     pub(crate) nulls: Vec<bool>,
@@ -37,18 +47,29 @@ fn integer_at(ints: &[i64], i: usize) -> i64
 }
 
 impl<'a> VectorBuf<'a> {
-    /// Room for `n` values, and none there.
-    pub fn new(alloc: Global, n: usize) -> Result<VectorBuf<'a>, AllocError>
-        ensures { IfOk result (λ v. v ≡ record { room = n; col_type = of_type.Int; values = [] }) }
+    /// Room for `n` values of a type, and none there. Takes no memory for the other type.
+    pub fn new(alloc: Global, col_type: ColType, n: usize) -> Result<VectorBuf<'a>, AllocError>
+        ensures { IfOk result (λ v. v ≡ record { room = n; col_type = col_type; values = [] }) }
     {
         let blank: &'a [u8] = &[];
+        let (ints, texts) = match col_type {
+            ColType::Int => (n, 0),
+            ColType::Text => (0, n),
+        };
         Ok(VectorBuf {
-            ints: vec![in alloc; 0; n]?,
-            texts: vec![in alloc; blank; n]?,
+            ints: vec![in alloc; 0; ints]?,
+            texts: vec![in alloc; blank; texts]?,
             nulls: vec![in alloc; false; n]?,
             len: 0,
-            col_type: ColType::Int,
+            col_type,
         })
+    }
+
+    /// The type of the values.
+    pub fn col_type(&self) -> ColType
+        ensures { result ≡ self.now.col_type }
+    {
+        self.col_type
     }
 
     /// How many values were read.
@@ -105,6 +126,33 @@ impl<'a> VectorBuf<'a> {
         match self.col_type {
             ColType::Text => Some(&self.texts.as_slice()[..self.len]),
             ColType::Int => None,
+        }
+    }
+
+    /// The values that were read, and which of them are NULL: 0 or the empty text stands in the place of such. Nothing
+    /// is copied.
+    pub fn into_parts(self) -> (Lanes<'a>, Vec<bool>)
+        ensures { AreParts result.0 result.1.items self.entry }
+    {
+        let VectorBuf {
+            mut ints,
+            mut texts,
+            mut nulls,
+            len,
+            col_type,
+        } = self;
+        nulls.truncate(len);
+        match col_type {
+            ColType::Int => {
+                ints.truncate(len);
+                drop(texts);
+                (Lanes::Ints(ints), nulls)
+            }
+            ColType::Text => {
+                texts.truncate(len);
+                drop(ints);
+                (Lanes::Texts(texts), nulls)
+            }
         }
     }
 }

@@ -1,8 +1,9 @@
-ghost use Rattle.std.specs.Prelude.{◌≡◌, ◌<◌, true, false, length, get_or, take, drop, MatchOption};
-ghost use Rattle.meaning.specs.Order.{value_in};
+//! A block in bytes that stand elsewhere.
+ghost use Rattle.std.specs.Prelude.{◌≡◌, ◌<◌, true, false, length, get_or, take, drop, sum, MatchOption, IfSome};
+ghost use Rattle.meaning.specs.Order.{value_in, value_cmp, is_ascending};
 ghost use Rattle.meaning.specs.declared.value.Value.TheVariants.{Null};
 ghost use Rattle.encodings.specs.Block.{Block, is_block, mask_of, body_of, nulls_of, cells_of, values_of};
-ghost use Rattle.encodings.specs.Lent.{dictionary_in, runs_in};
+ghost use Rattle.encodings.specs.Lent.{dictionary_in, runs_in, StandsFor, coded_cells, run_cells};
 
 use crate::cells::{are_nulls_blank, cell_at, is_body};
 use crate::checking::{is_mask, mask_length};
@@ -12,6 +13,7 @@ use crate::numbers::has_bit;
 use crate::reading::read_rows;
 use crate::runs::{RunsView, lend_runs};
 use crate::vector_buf::VectorBuf;
+use meaning::limits::ROW_GROUP_ROWS;
 use meaning::value::{ColType, ValueRef};
 use std::marker::Model;
 
@@ -42,7 +44,7 @@ fn is_block(kind: Kind, col_type: ColType, nullable: bool, rows: usize, payload:
     if rows < 1 {
         return false;
     }
-    if 8192 < rows {
+    if ROW_GROUP_ROWS < rows {
         return false;
     }
     let masked = mask_length(nullable, rows);
@@ -74,13 +76,40 @@ impl<'a> BlockView<'a> {
         if !is_block(kind, col_type, nullable, rows, payload) {
             return None;
         }
-        Some(BlockView {
+        Some(BlockView::new_unchecked(kind, col_type, nullable, rows, payload))
+    }
+
+    /// The same for bytes that are known to be a block, such as those of a file that was opened. Looks at none of them.
+    pub fn new_unchecked(
+        kind: Kind,
+        col_type: ColType,
+        nullable: bool,
+        rows: usize,
+        payload: &'a [u8],
+    ) -> BlockView<'a>
+        requires { is_block (record { kind = kind; col_type = col_type; nullable = nullable; rows = rows; payload = payload.now }) ≡ true }
+        ensures { result ≡ record { kind = kind; col_type = col_type; nullable = nullable; rows = rows; payload = payload.entry.now } }
+    {
+        BlockView {
             kind,
             col_type,
             nullable,
             rows,
             payload,
-        })
+        }
+    }
+
+    /// The same view again. Takes no memory.
+    pub fn copy(&self) -> BlockView<'a>
+        ensures { result ≡ self.now }
+    {
+        BlockView {
+            kind: self.kind,
+            col_type: self.col_type,
+            nullable: self.nullable,
+            rows: self.rows,
+            payload: self.payload,
+        }
     }
 
     /// How the bytes stand for the values.
@@ -119,9 +148,10 @@ impl<'a> BlockView<'a> {
         self.payload
     }
 
-    /// Fills the buffer anew with the values from row `from` on, as many as it has room for or as are left. Takes no
-    /// memory.
+    /// Fills the buffer, which is for values of this type, anew with those from row `from` on, as many as it has room
+    /// for or as are left. Takes no memory.
     pub fn read_into(&self, from: usize, out: &mut VectorBuf<'a>)
+        requires { out.old.col_type ≡ self.now.col_type }
         ensures { out.new ≡ record { room = out.old.room; col_type = self.now.col_type; values = take out.old.room (drop from (values_of self.now)) } }
     {
         read_rows(
@@ -172,9 +202,11 @@ impl<'a> BlockView<'a> {
         cell_at(self.kind, self.col_type, self.rows, self.body(), row)
     }
 
-    /// The entries and the codes, where the block is a dictionary.
+    /// The entries and the codes, where the block is a dictionary. A row that isn't NULL has the entry at its code.
     pub fn dictionary(&self) -> Option<Dictionary<'a>>
-        ensures { MatchOption result (¬ (self.now.kind ≡ Kind.Dict)) (λ dictionary. (self.now.kind ≡ Kind.Dict) × (dictionary ≡ dictionary_in self.now)) }
+        ensures lent { MatchOption result (¬ (self.now.kind ≡ Kind.Dict)) (λ dictionary. (self.now.kind ≡ Kind.Dict) × (dictionary ≡ dictionary_in self.now)) }
+        ensures values { IfSome result (λ dictionary. StandsFor self.now (coded_cells dictionary)) }
+        ensures ascending { IfSome result (λ dictionary. is_ascending value_cmp dictionary.entries ≡ true) }
     {
         match self.kind {
             Kind::Dict => Some(lend_dictionary(self.col_type, self.rows, self.body())),
@@ -182,9 +214,11 @@ impl<'a> BlockView<'a> {
         }
     }
 
-    /// The runs, where the block is made of such.
+    /// The runs, where the block is made of such. A row that isn't NULL has the value of its run.
     pub fn runs(&self) -> Option<RunsView<'a>>
-        ensures { MatchOption result (¬ (self.now.kind ≡ Kind.Runs)) (λ runs. (self.now.kind ≡ Kind.Runs) × (runs ≡ runs_in self.now)) }
+        ensures lent { MatchOption result (¬ (self.now.kind ≡ Kind.Runs)) (λ runs. (self.now.kind ≡ Kind.Runs) × (runs ≡ runs_in self.now)) }
+        ensures values { IfSome result (λ runs. StandsFor self.now (run_cells runs)) }
+        ensures all_rows { IfSome result (λ runs. sum runs.lengths ≡ self.now.rows) }
     {
         match self.kind {
             Kind::Runs => Some(lend_runs(self.col_type, self.rows, self.body())),

@@ -4,16 +4,20 @@ use Rattle.std.specs.List.{flat_map, AllByRecursion}
 use Rattle.std.proofs.lemmas.Bool.{eqb-true, eq-eqb}
 use Rattle.std.proofs.lemmas.List.Concat.{flat_map-cons}
 use Rattle.meaning.specs.declared.catalog.Column.{Column}
+use Rattle.meaning.specs.Limits.{row_group_rows}
 use Rattle.encodings.specs.declared.kind.Kind.{Kind}
 use Rattle.encodings.specs.declared.kind.Kind.TheVariants as kind
 use Rattle.encodings.specs.Block.{Block, is_block}
 use Rattle.encodings.specs.Tight.{place_of}
 use Rattle.fragment_file.specs.declared.fault.FileFault.TheVariants as refusal
-use Rattle.fragment_file.specs.Reading.{◌>>=◌, bytes_at, number_at}
-use Rattle.fragment_file.specs.Fragment.{IsBlockOf, AreBlocks, AreGroups, group_sizes, number_bytes, block_bytes, group_bytes}
+use Rattle.wire.specs.Reading.{◌>>=◌, bytes_at, number_at}
+use Rattle.fragment_file.specs.Fragment.{IsBlockOf, AreBlocks, AreGroups, group_sizes, block_bytes, group_bytes}
+use Rattle.wire.specs.Bytes.{number_bytes}
 use Rattle.fragment_file.specs.FragmentReading.{formed, kind_of, block_of, sound, block_at, blocks_at, group_at, groups_at}
-use Rattle.fragment_file.proofs.Numbers.{bind_ok, ok_is, IsBytes, Takes, Takes-then, bytes_take, bytes_again, number_takes, number_again}
+use Rattle.wire.proofs.Numbers.{bind_ok, ok_is, IsBytes, Takes, Takes-then, bytes_take, bytes_again, number_takes, number_again}
 use Rattle.fragment_file.proofs.HeaderLaws.{passed}
+use Rattle.fragment_file.proofs.FromWire.{read_ok}
+use Rattle.fragment_file.specs.Fault.{from_wire}
 
 -- ---- kinds
 
@@ -76,9 +80,9 @@ sound_again group column c rows b is =
 block_takes : (group column : ℕ) (c : Column) (rows : ℕ) (bytes : List ℕ) (p : Block × List ℕ) → IsBytes bytes → block_at group column c rows bytes ≡ Ok p → Takes bytes (block_bytes p.0) p.1 × IsBlockOf c rows p.0
 unfolding block_at block_bytes
 block_takes group column c rows bytes p fits e =
-    let a = bind_ok (number_at 1 bytes) (λ k. number_at 4 k.1 >>= λ n. bytes_at n.0 n.1 >>= λ payload. sound group column (block_of (kind_of k.0) c rows payload.0) >>= λ b. Ok (b, payload.1)) p e in
-    let n = bind_ok (number_at 4 a.0.1) (λ n. bytes_at n.0 n.1 >>= λ payload. sound group column (block_of (kind_of a.0.0) c rows payload.0) >>= λ b. Ok (b, payload.1)) p a.2 in
-    let t = bind_ok (bytes_at n.0.0 n.0.1) (λ payload. sound group column (block_of (kind_of a.0.0) c rows payload.0) >>= λ b. Ok (b, payload.1)) p n.2 in
+    let a = read_ok (number_at 1 bytes) (λ k. from_wire (number_at 4 k.1) >>= λ n. from_wire (bytes_at n.0 n.1) >>= λ payload. sound group column (block_of (kind_of k.0) c rows payload.0) >>= λ b. Ok (b, payload.1)) p e in
+    let n = read_ok (number_at 4 a.0.1) (λ n. from_wire (bytes_at n.0 n.1) >>= λ payload. sound group column (block_of (kind_of a.0.0) c rows payload.0) >>= λ b. Ok (b, payload.1)) p a.2 in
+    let t = read_ok (bytes_at n.0.0 n.0.1) (λ payload. sound group column (block_of (kind_of a.0.0) c rows payload.0) >>= λ b. Ok (b, payload.1)) p n.2 in
     let s = bind_ok (sound group column (block_of (kind_of a.0.0) c rows t.0.0)) (λ b. Ok (b, t.0.1)) p t.2 in
     let k = sound_is group column (kind_of a.0.0) c rows t.0.0 s.0 s.1 in
     let code = number_takes 1 bytes a.0.0 a.0.1 fits a.1 in
@@ -139,7 +143,7 @@ blocks_again group column (c ∷ cs) rows (b ∷ bs) rest are =
 group_takes : (group : ℕ) (cs : List Column) (rows : ℕ) (bytes : List ℕ) (p : List Block × List ℕ) → IsBytes bytes → group_at group cs rows bytes ≡ Ok p → Takes bytes (group_bytes (rows, p.0)) p.1 × AreBlocks cs rows p.0
 unfolding group_at group_bytes
 group_takes group cs rows bytes p fits e =
-    let a = bind_ok (number_at 4 bytes) (λ n. formed (eqb n.0 rows) n >>= λ n. blocks_at group 0 cs rows n.1) p e in
+    let a = read_ok (number_at 4 bytes) (λ n. formed (eqb n.0 rows) n >>= λ n. blocks_at group 0 cs rows n.1) p e in
     let w = passed (eqb a.0.0 rows) refusal.Header a.0 (λ n. blocks_at group 0 cs rows n.1) p a.2 in
     let number = number_takes 4 bytes a.0.0 a.0.1 fits a.1 in
     let blocks = blocks_takes group 0 cs rows a.0.1 p number.0.rest_fits w.1 in
@@ -180,7 +184,7 @@ groups_again group cs (n ∷ sizes) (g ∷ gs) rest few are =
 
 -- ---- sizes
 
-behind_full : (k : ℕ) (tail : List ℕ) → AllByRecursion (λ n. n < 2 ^ 32) tail → AllByRecursion (λ n. n < 2 ^ 32) (replicate k 8192 ++ tail)
+behind_full : (k : ℕ) (tail : List ℕ) → AllByRecursion (λ n. n < 2 ^ 32) tail → AllByRecursion (λ n. n < 2 ^ 32) (replicate k row_group_rows ++ tail)
 behind_full zero tail few = few
 behind_full (suc k) tail few = (omega arith, behind_full k tail few)
 
@@ -189,4 +193,4 @@ last_size true n few = tt
 last_size false n few = (few, tt)
 
 pub sizes_few : (rows : ℕ) → AllByRecursion (λ n. n < 2 ^ 32) (group_sizes rows)
-sizes_few rows = behind_full (rows / 8192) (cond (eqb (rows % 8192) 0) [] ((rows % 8192) ∷ [])) (last_size (eqb (rows % 8192) 0) (rows % 8192) (omega arith))
+sizes_few rows = behind_full (rows / row_group_rows) (cond (eqb (rows % row_group_rows) 0) [] ((rows % row_group_rows) ∷ [])) (last_size (eqb (rows % row_group_rows) 0) (rows % row_group_rows) (omega arith))

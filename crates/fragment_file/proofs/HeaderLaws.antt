@@ -12,13 +12,17 @@ use Rattle.meaning.specs.declared.value.ColType.{ColType}
 use Rattle.meaning.specs.declared.value.ColType.TheVariants as of_type
 use Rattle.meaning.specs.declared.catalog.Column.{Column}
 use Rattle.meaning.specs.Catalog.{is_name, IsName}
+use Rattle.meaning.specs.Limits.{max_columns, max_name_bytes, max_rows}
 use Rattle.fragment_file.specs.declared.fault.FileFault.{FileFault}
 use Rattle.fragment_file.specs.declared.fault.FileFault.TheVariants as refusal
 use Rattle.fragment_file.specs.declared.header.Header.{Header}
-use Rattle.fragment_file.specs.Reading.{◌>>=◌, Read, same_bytes, bytes_at, number_at}
-use Rattle.fragment_file.specs.Fragment.{IsHeader, number_bytes, name_bytes, type_code, column_bytes, header_bytes}
+use Rattle.wire.specs.Reading.{◌>>=◌, Read, same_bytes, bytes_at, number_at}
+use Rattle.fragment_file.specs.Fragment.{IsHeader, name_bytes, type_code, column_bytes, header_bytes}
+use Rattle.wire.specs.Bytes.{number_bytes}
 use Rattle.fragment_file.specs.FragmentReading.{within, formed, name_at, type_of, flag_of, is_named, column_at, columns_at, header_at}
-use Rattle.fragment_file.proofs.Numbers.{bind_ok, test_passed, ok_is, IsBytes, Takes, Takes-then, bytes_take, bytes_again, number_takes, number_again}
+use Rattle.wire.proofs.Numbers.{bind_ok, test_passed, ok_is, IsBytes, Takes, Takes-then, bytes_take, bytes_again, number_takes, number_again}
+use Rattle.fragment_file.proofs.FromWire.{read_ok}
+use Rattle.fragment_file.specs.Fault.{from_wire}
 
 pub all_of : (a b : Bool) → a ≡ true → b ≡ true → (a && b) ≡ true
 all_of true b p q = q
@@ -38,17 +42,17 @@ not_true false h = refl
 pub name_takes : (bytes : List ℕ) (p : List ℕ × List ℕ) → IsBytes bytes → name_at bytes ≡ Ok p → Takes bytes (name_bytes p.0) p.1 × IsName p.0
 unfolding name_at name_bytes
 name_takes bytes p fits e =
-    let a = bind_ok (number_at 2 bytes) (λ n. within (nat_le 1 n.0 && nat_le n.0 64) n >>= λ n. bytes_at n.0 n.1 >>= λ name. formed (is_name name.0) name) p e in
-    let w = passed (nat_le 1 a.0.0 && nat_le a.0.0 64) refusal.Limit a.0 (λ n. bytes_at n.0 n.1 >>= λ name. formed (is_name name.0) name) p a.2 in
-    let b = bind_ok (bytes_at a.0.0 a.0.1) (λ name. formed (is_name name.0) name) p w.1 in
+    let a = read_ok (number_at 2 bytes) (λ n. within (nat_le 1 n.0 && nat_le n.0 max_name_bytes) n >>= λ n. from_wire (bytes_at n.0 n.1) >>= λ name. formed (is_name name.0) name) p e in
+    let w = passed (nat_le 1 a.0.0 && nat_le a.0.0 max_name_bytes) refusal.Limit a.0 (λ n. from_wire (bytes_at n.0 n.1) >>= λ name. formed (is_name name.0) name) p a.2 in
+    let b = read_ok (bytes_at a.0.0 a.0.1) (λ name. formed (is_name name.0) name) p w.1 in
     let f = test_passed (is_name b.0.0) refusal.Header (Ok b.0) p b.2 in
-    let few = leb-true _ _ (and_parts (nat_le 1 a.0.0) (nat_le a.0.0 64) w.0).1 in
+    let few = leb-true _ _ (and_parts (nat_le 1 a.0.0) (nat_le a.0.0 max_name_bytes) w.0).1 in
     let number = number_takes 2 bytes a.0.0 a.0.1 fits a.1 in
     let text = bytes_take a.0.0 a.0.1 b.0.0 b.0.1 number.0.rest_fits b.1 in
     let len = text.1 in
     let both = Takes-then bytes (number_bytes 2 a.0.0) a.0.1 b.0.0 b.0.1 number.0 text.0 in
     let whole : Takes bytes (number_bytes 2 (length b.0.0) ++ b.0.0) b.0.1 = subst (λ (k : ℕ). Takes bytes (number_bytes 2 k ++ b.0.0) b.0.1) (sym len) both in
-    let short : length b.0.0 ≤ 64 = omega (arith, len, few) in
+    let short : length b.0.0 ≤ max_name_bytes = omega (arith, len, few) in
     subst (λ (q : List ℕ × List ℕ). Takes bytes (number_bytes 2 (length q.0) ++ q.0) q.1 × IsName q.0) (ok_is b.0 p f.1) (whole, record { word = f.0; short = short })
 
 some_byte : (name : List ℕ) → is_name name ≡ true → 1 ≤ length name
@@ -59,7 +63,7 @@ pub name_again : (name rest : List ℕ) → IsName name → name_at (name_bytes 
 unfolding name_at name_bytes
 name_again name rest is =
     let few = is.short in
-    let counted = all_of _ _ (le-leb 1 (length name) (some_byte name is.word)) (le-leb (length name) 64 few) in
+    let counted = all_of _ _ (le-leb 1 (length name) (some_byte name is.word)) (le-leb (length name) max_name_bytes few) in
     ap name_at (append_assoc (number_bytes 2 (length name)) name rest)
     ∙ rw (number_again 2 (length name) (name ++ rest) (omega (arith, few)), counted, bytes_again (length name) name rest refl, is.word) refl
 
@@ -112,11 +116,11 @@ column_takes : (earlier : List Column) (bytes : List ℕ) (p : Column × List �
 unfolding column_at column_bytes
 column_takes earlier bytes p fits e =
     let done : List ℕ → ColType → Bool → Column = λ name t b. record { name = name; col_type = t; nullable = b } in
-    let a = bind_ok (name_at bytes) (λ name. formed (not (is_named name.0 earlier)) name >>= λ name. number_at 1 name.1 >>= λ t. type_of t.0 >>= λ col_type. number_at 1 t.1 >>= λ f. flag_of f.0 >>= λ nullable. Ok (done name.0 col_type nullable, f.1)) p e in
-    let w = passed (not (is_named a.0.0 earlier)) refusal.Header a.0 (λ name. number_at 1 name.1 >>= λ t. type_of t.0 >>= λ col_type. number_at 1 t.1 >>= λ f. flag_of f.0 >>= λ nullable. Ok (done name.0 col_type nullable, f.1)) p a.2 in
-    let b = bind_ok (number_at 1 a.0.1) (λ t. type_of t.0 >>= λ col_type. number_at 1 t.1 >>= λ f. flag_of f.0 >>= λ nullable. Ok (done a.0.0 col_type nullable, f.1)) p w.1 in
-    let t = bind_ok (type_of b.0.0) (λ col_type. number_at 1 b.0.1 >>= λ f. flag_of f.0 >>= λ nullable. Ok (done a.0.0 col_type nullable, f.1)) p b.2 in
-    let d = bind_ok (number_at 1 b.0.1) (λ f. flag_of f.0 >>= λ nullable. Ok (done a.0.0 t.0 nullable, f.1)) p t.2 in
+    let a = bind_ok (name_at bytes) (λ name. formed (not (is_named name.0 earlier)) name >>= λ name. from_wire (number_at 1 name.1) >>= λ t. type_of t.0 >>= λ col_type. from_wire (number_at 1 t.1) >>= λ f. flag_of f.0 >>= λ nullable. Ok (done name.0 col_type nullable, f.1)) p e in
+    let w = passed (not (is_named a.0.0 earlier)) refusal.Header a.0 (λ name. from_wire (number_at 1 name.1) >>= λ t. type_of t.0 >>= λ col_type. from_wire (number_at 1 t.1) >>= λ f. flag_of f.0 >>= λ nullable. Ok (done name.0 col_type nullable, f.1)) p a.2 in
+    let b = read_ok (number_at 1 a.0.1) (λ t. type_of t.0 >>= λ col_type. from_wire (number_at 1 t.1) >>= λ f. flag_of f.0 >>= λ nullable. Ok (done a.0.0 col_type nullable, f.1)) p w.1 in
+    let t = bind_ok (type_of b.0.0) (λ col_type. from_wire (number_at 1 b.0.1) >>= λ f. flag_of f.0 >>= λ nullable. Ok (done a.0.0 col_type nullable, f.1)) p b.2 in
+    let d = read_ok (number_at 1 b.0.1) (λ f. flag_of f.0 >>= λ nullable. Ok (done a.0.0 t.0 nullable, f.1)) p t.2 in
     let f = bind_ok (flag_of d.0.0) (λ nullable. Ok (done a.0.0 t.0 nullable, d.0.1)) p d.2 in
     let name = name_takes bytes a.0 fits a.1 in
     let code = number_takes 1 a.0.1 b.0.0 b.0.1 name.0.rest_fits b.1 in
@@ -250,44 +254,44 @@ new_from_apart earlier (c ∷ cs) apart named = (
 abbrev header_of : ℕ → List ℕ → ℕ → ℕ → ℕ → List Column → Header
 header_of load table k first rows columns = record { load = load; table = table; fragment = k; first_row = first; rows = rows; columns = columns }
 
-abbrev behind_columns : ℕ → List ℕ → ℕ → ℕ → ℕ → List Column × List ℕ → Read Header
+abbrev behind_columns : ℕ → List ℕ → ℕ → ℕ → ℕ → List Column × List ℕ → Read FileFault Header
 behind_columns load table k first rows columns = Ok (header_of load table k first rows columns.0, columns.1)
 
-abbrev behind_counted : ℕ → List ℕ → ℕ → ℕ → ℕ → ℕ × List ℕ → Read Header
+abbrev behind_counted : ℕ → List ℕ → ℕ → ℕ → ℕ → ℕ × List ℕ → Read FileFault Header
 behind_counted load table k first rows n = columns_at n.0 [] n.1 >>= behind_columns load table k first rows
 
-abbrev behind_count : ℕ → List ℕ → ℕ → ℕ → ℕ → ℕ × List ℕ → Read Header
-behind_count load table k first rows n = within (nat_le 1 n.0 && nat_le n.0 64) n >>= behind_counted load table k first rows
+abbrev behind_count : ℕ → List ℕ → ℕ → ℕ → ℕ → ℕ × List ℕ → Read FileFault Header
+behind_count load table k first rows n = within (nat_le 1 n.0 && nat_le n.0 max_columns) n >>= behind_counted load table k first rows
 
-abbrev behind_kept : ℕ → List ℕ → ℕ → ℕ → ℕ × List ℕ → Read Header
-behind_kept load table k first rows = number_at 2 rows.1 >>= behind_count load table k first rows.0
+abbrev behind_kept : ℕ → List ℕ → ℕ → ℕ → ℕ × List ℕ → Read FileFault Header
+behind_kept load table k first rows = from_wire (number_at 2 rows.1) >>= behind_count load table k first rows.0
 
-abbrev behind_rows : ℕ → List ℕ → ℕ → ℕ → ℕ × List ℕ → Read Header
-behind_rows load table k first rows = within (nat_le rows.0 1048576) rows >>= behind_kept load table k first
+abbrev behind_rows : ℕ → List ℕ → ℕ → ℕ → ℕ × List ℕ → Read FileFault Header
+behind_rows load table k first rows = within (nat_le rows.0 max_rows) rows >>= behind_kept load table k first
 
-abbrev behind_first : ℕ → List ℕ → ℕ → ℕ × List ℕ → Read Header
-behind_first load table k first = number_at 4 first.1 >>= behind_rows load table k first.0
+abbrev behind_first : ℕ → List ℕ → ℕ → ℕ × List ℕ → Read FileFault Header
+behind_first load table k first = from_wire (number_at 4 first.1) >>= behind_rows load table k first.0
 
-abbrev behind_place : ℕ → List ℕ → ℕ × List ℕ → Read Header
-behind_place load table k = number_at 8 k.1 >>= behind_first load table k.0
+abbrev behind_place : ℕ → List ℕ → ℕ × List ℕ → Read FileFault Header
+behind_place load table k = from_wire (number_at 8 k.1) >>= behind_first load table k.0
 
-abbrev behind_table : ℕ → List ℕ × List ℕ → Read Header
-behind_table load table = number_at 4 table.1 >>= behind_place load table.0
+abbrev behind_table : ℕ → List ℕ × List ℕ → Read FileFault Header
+behind_table load table = from_wire (number_at 4 table.1) >>= behind_place load table.0
 
-abbrev behind_load : ℕ × List ℕ → Read Header
+abbrev behind_load : ℕ × List ℕ → Read FileFault Header
 behind_load load = name_at load.1 >>= behind_table load.0
 
 pub header_takes : (bytes : List ℕ) (p : Header × List ℕ) → IsBytes bytes → header_at bytes ≡ Ok p → Takes bytes (header_bytes p.0) p.1 × IsHeader p.0
 unfolding header_at header_bytes
 header_takes bytes p fits e =
-    let a = bind_ok (number_at 8 bytes) behind_load p e in
+    let a = read_ok (number_at 8 bytes) behind_load p e in
     let b = bind_ok (name_at a.0.1) (behind_table a.0.0) p a.2 in
-    let c = bind_ok (number_at 4 b.0.1) (behind_place a.0.0 b.0.0) p b.2 in
-    let d = bind_ok (number_at 8 c.0.1) (behind_first a.0.0 b.0.0 c.0.0) p c.2 in
-    let r = bind_ok (number_at 4 d.0.1) (behind_rows a.0.0 b.0.0 c.0.0 d.0.0) p d.2 in
-    let limit = passed (nat_le r.0.0 1048576) refusal.Limit r.0 (behind_kept a.0.0 b.0.0 c.0.0 d.0.0) p r.2 in
-    let n = bind_ok (number_at 2 r.0.1) (behind_count a.0.0 b.0.0 c.0.0 d.0.0 r.0.0) p limit.1 in
-    let counted = passed (nat_le 1 n.0.0 && nat_le n.0.0 64) refusal.Limit n.0 (behind_counted a.0.0 b.0.0 c.0.0 d.0.0 r.0.0) p n.2 in
+    let c = read_ok (number_at 4 b.0.1) (behind_place a.0.0 b.0.0) p b.2 in
+    let d = read_ok (number_at 8 c.0.1) (behind_first a.0.0 b.0.0 c.0.0) p c.2 in
+    let r = read_ok (number_at 4 d.0.1) (behind_rows a.0.0 b.0.0 c.0.0 d.0.0) p d.2 in
+    let limit = passed (nat_le r.0.0 max_rows) refusal.Limit r.0 (behind_kept a.0.0 b.0.0 c.0.0 d.0.0) p r.2 in
+    let n = read_ok (number_at 2 r.0.1) (behind_count a.0.0 b.0.0 c.0.0 d.0.0 r.0.0) p limit.1 in
+    let counted = passed (nat_le 1 n.0.0 && nat_le n.0.0 max_columns) refusal.Limit n.0 (behind_counted a.0.0 b.0.0 c.0.0 d.0.0 r.0.0) p n.2 in
     let f = bind_ok (columns_at n.0.0 [] n.0.1) (behind_columns a.0.0 b.0.0 c.0.0 d.0.0 r.0.0) p counted.1 in
     let load = number_takes 8 bytes a.0.0 a.0.1 fits a.1 in
     let table = name_takes a.0.1 b.0 load.0.rest_fits b.1 in
@@ -312,7 +316,7 @@ header_takes bytes p fits e =
     let p5 = Takes-then bytes t4 d.0.1 (number_bytes 4 r.0.0) r.0.1 p4 rows.0 in
     let p6 = Takes-then bytes t5 r.0.1 (number_bytes 2 (length f.0.0)) n.0.1 p5 counted_is in
     let p7 = Takes-then bytes t6 n.0.1 (flat_map column_bytes f.0.0) f.0.1 p6 columns_is in
-    let limits = and_parts (nat_le 1 n.0.0) (nat_le n.0.0 64) counted.0 in
+    let limits = and_parts (nat_le 1 n.0.0) (nat_le n.0.0 max_columns) counted.0 in
     let some = leb-true _ _ limits.0 in
     let few = leb-true _ _ limits.1 in
     let named = names_from_new [] columns.more columns.new in
@@ -343,7 +347,7 @@ header_again h rest is =
     let columns = flat_map column_bytes h.columns in
     let few = is.few in
     let many = is.rows in
-    let counted = all_of _ _ (le-leb 1 (length h.columns) is.some) (le-leb (length h.columns) 64 few) in
+    let counted = all_of _ _ (le-leb 1 (length h.columns) is.some) (le-leb (length h.columns) max_columns few) in
     let new = new_from_apart [] h.columns is.distinct (recursion_from_All (λ c. IsName c.name) h.columns is.columns) in
     ap header_at (append_assoc (load ++ table ++ place ++ first ++ rows ++ count) columns rest ∙ append_assoc (load ++ table ++ place ++ first ++ rows) count (columns ++ rest) ∙ append_assoc (load ++ table ++ place ++ first) rows (count ++ (columns ++ rest)) ∙ append_assoc (load ++ table ++ place) first (rows ++ (count ++ (columns ++ rest))) ∙ append_assoc (load ++ table) place (first ++ (rows ++ (count ++ (columns ++ rest)))) ∙ append_assoc load table (place ++ (first ++ (rows ++ (count ++ (columns ++ rest))))))
     ∙ rw (
@@ -352,7 +356,7 @@ header_again h rest is =
       number_again 4 h.fragment (first ++ (rows ++ (count ++ (columns ++ rest)))) is.fragment,
       number_again 8 h.first_row (rows ++ (count ++ (columns ++ rest))) is.first_row,
       number_again 4 h.rows (count ++ (columns ++ rest)) (omega (arith, many)),
-      le-leb h.rows 1048576 many,
+      le-leb h.rows max_rows many,
       number_again 2 (length h.columns) (columns ++ rest) (omega (arith, few)),
       counted,
       columns_again h.columns [] rest new,

@@ -12,6 +12,7 @@ use Rattle.meaning.specs.declared.value.ColType.TheVariants as of_type
 use Rattle.meaning.specs.declared.value.Value.{Value}
 use Rattle.meaning.specs.declared.value.Value.TheVariants.{Null, Int, Text}
 use Rattle.meaning.specs.Order.{bytes}
+use Rattle.meaning.specs.Limits.{max_text_bytes, row_group_rows}
 use Rattle.columns.specs.Column.{ColumnSpec, IsColumn, is_of, is_text}
 use Rattle.encodings.specs.declared.kind.Kind.{Kind}
 use Rattle.encodings.specs.declared.kind.Kind.TheVariants as kind
@@ -37,7 +38,7 @@ no_worse : (t : ColType) (nullable : Bool) (values : List Value) (k : Kind) → 
 no_worse of_type.Int nullable values k h = (both _ _ (both _ _ h).1).0
 no_worse of_type.Text nullable values k h = (both _ _ (both _ _ h).1).0
 
-short_mask : (nullable : Bool) (n : ℕ) → n ≤ 8192 → mask_length nullable n ≤ 1024
+short_mask : (nullable : Bool) (n : ℕ) → n ≤ row_group_rows → mask_length nullable n ≤ 1024
 short_mask true n h = omega arith
 short_mask false n h = omega arith
 
@@ -48,7 +49,7 @@ short_texts nullable (Null ∷ vs) h = (omega arith, short_texts nullable vs (bo
 short_texts nullable (Int n ∷ vs) h = absurd (false≢true h)
 short_texts nullable (Text t ∷ vs) h =
     let is : is_text t ≡ true = (both (is_text t) _ h).0 in
-    let short : length t ≤ 65535 = leb-true _ _ (both (is_utf8 t) (nat_le (length t) 65535) is).1 in
+    let short : length t ≤ max_text_bytes = leb-true _ _ (both (is_utf8 t) (nat_le (length t) max_text_bytes) is).1 in
     (omega arith, short_texts nullable vs (both (is_text t) _ h).1)
 
 short_form : (t : ColType) (nullable : Bool) (vs : List Value) → list_all (is_of t nullable) vs ≡ true → form_size t (cells_for t vs) ≤ 65539 * length vs
@@ -65,17 +66,17 @@ at_most zero xs = omega arith
 at_most (suc n) [] = omega arith
 at_most (suc n) (x ∷ xs) = let rest : length (take n xs) ≤ n = at_most n xs in omega arith
 
-small : (s a m f n : ℕ) → s ≡ a → a ≤ m + f → m ≤ 1024 → f ≤ 65539 * n → n ≤ 8192 → s < 2 ^ 32
+small : (s a m f n : ℕ) → s ≡ a → a ≤ m + f → m ≤ 1024 → f ≤ 65539 * n → n ≤ row_group_rows → s < 2 ^ 32
 small s a m f n p q r t u = omega arith
 
-few : (l n : ℕ) → l ≤ n → n ≤ 8192 → l ≤ 8192
+few : (l n : ℕ) → l ≤ n → n ≤ row_group_rows → l ≤ row_group_rows
 few l n p q = omega arith
 
-pub short_payload : (c : ColumnSpec) (k : Kind) (from to size : ℕ) → IsColumn c → to - from ≤ 8192 → is_chosen c.col_type c.nullable (between from to c) k ≡ true
+pub short_payload : (c : ColumnSpec) (k : Kind) (from to size : ℕ) → IsColumn c → to - from ≤ row_group_rows → is_chosen c.col_type c.nullable (between from to c) k ≡ true
     → size ≡ payload_size k c.col_type c.nullable (between from to c) → size < 2 ^ 32
 short_payload c k from to size sound short chosen is =
     let values = between from to c in
-    let n : length values ≤ 8192 = few (length values) (to - from) (at_most (to - from) (drop from c.values)) short in
+    let n : length values ≤ row_group_rows = few (length values) (to - from) (at_most (to - from) (drop from c.values)) short in
     let fit = all-take (is_of c.col_type c.nullable) (to - from) (drop from c.values) (all-drop (is_of c.col_type c.nullable) from c.values sound) in
     small size (payload_size k c.col_type c.nullable values) (mask_length c.nullable (length values)) (form_size c.col_type (cells_for c.col_type values)) (length values) is
     (no_longer c.col_type c.nullable values k (no_worse c.col_type c.nullable values k chosen)) (short_mask c.nullable (length values) n)

@@ -5,7 +5,8 @@ use Rattle.meaning.specs.declared.value.Value.TheVariants.{Int}
 use Rattle.encodings.specs.declared.kind.Kind.TheVariants as kind
 use Rattle.encodings.specs.Block.{Block}
 use Rattle.fragment_file.specs.declared.header.Header.{Header}
-use Rattle.fragment_file.specs.Fragment.{FragmentSpec, fragment_bytes, columns_in, fragment_magic, header_bytes, column_bytes, name_bytes, number_bytes, groups_bytes, group_bytes, block_bytes}
+use Rattle.fragment_file.specs.Fragment.{FragmentSpec, fragment_bytes, columns_in, fragment_magic, header_bytes, column_bytes, name_bytes, groups_bytes, group_bytes, block_bytes}
+use Rattle.wire.specs.Bytes.{number_bytes}
 
 abbrev pub header : ℕ → Header
 header rows = record { load = 7; table = 110 ∷ []; fragment = 0; first_row = 0; rows = rows; columns = record { name = 118 ∷ []; col_type = of_type.Int; nullable = false } ∷ [] }

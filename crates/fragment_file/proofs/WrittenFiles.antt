@@ -12,12 +12,17 @@ use Rattle.sha2.specs.Hashers.{Holds256}
 use Rattle.meaning.specs.declared.value.ColType.TheVariants as of_type
 use Rattle.meaning.specs.declared.value.Value.{Value}
 use Rattle.meaning.specs.declared.catalog.Column.{Column}
+use Rattle.meaning.specs.Limits.{row_group_rows}
 use Rattle.columns.specs.Column.{ColumnSpec}
 use Rattle.encodings.specs.Block.{Block, values_of}
 use Rattle.fragment_file.specs.declared.header.Header.{Header}
-use Rattle.fragment_file.specs.Fragment.{FragmentSpec, IsHeader, AreBlocks, AreGroups, groups_bytes, group_sizes, fragment_magic, header_bytes, fragment_bytes, seal_of, sealed, no_block, column_values, column_in, columns_in}
-use Rattle.fragment_file.specs.Writing.{Puts, AreColumns, AreColumnsOf, WritesFile, AreRowsOf, AreGroupsOf, WritesGroups}
-use Rattle.fragment_file.proofs.Written.{puts_both, puts_sealed}
+use Rattle.fragment_file.specs.Fragment.{FragmentSpec, IsFileOf, IsHeader, AreBlocks, AreGroups, groups_bytes, group_sizes, fragment_magic, header_bytes, fragment_bytes, no_block, column_values, column_in, columns_in}
+use Rattle.wire.specs.Bytes.{seal_of, sealed}
+use Rattle.wire.specs.Writing.{Puts}
+use Rattle.fragment_file.specs.Writing.{AreColumns, AreColumnsOf, WritesFile, WritesBest, IsBest, AreRowsOf, AreGroupsOf, WritesGroups}
+use Rattle.wire.proofs.Written.{puts_both, puts_sealed}
+use Rattle.wire.proofs.Numbers.{ok_is}
+use Rattle.fragment_file.proofs.FileLaws.{file_again}
 use Rattle.fragment_file.proofs.WrittenGroups.{total, sum_full}
 
 no_column : ColumnSpec
@@ -80,12 +85,12 @@ total_both (m ∷ ms) ns =
 
 all_rows : (rows : ℕ) → total (group_sizes rows) ≡ rows
 all_rows rows =
-    let full : total (replicate (rows / 8192) 8192) ≡ rows / 8192 * 8192 = sum_full (rows / 8192) in
-    let rest : total (if rows % 8192 == 0 then [] else (rows % 8192) ∷ []) ≡ rows % 8192 =
-    elim (rows % 8192 == 0) as (λ (b : Bool). (rows % 8192 == 0) ≡ b → total (if b then [] else (rows % 8192) ∷ []) ≡ rows % 8192)
-    [ true ↦ λ e. sym (eqb-true (rows % 8192) 0 e) | false ↦ λ e. omega arith ] refl in
-    let both = total_both (replicate (rows / 8192) 8192) (if rows % 8192 == 0 then [] else (rows % 8192) ∷ []) in
-    let whole : total (replicate (rows / 8192) 8192) + total (if rows % 8192 == 0 then [] else (rows % 8192) ∷ []) ≡ rows = omega arith in
+    let full : total (replicate (rows / row_group_rows) row_group_rows) ≡ rows / row_group_rows * row_group_rows = sum_full (rows / row_group_rows) in
+    let rest : total (if rows % row_group_rows == 0 then [] else (rows % row_group_rows) ∷ []) ≡ rows % row_group_rows =
+    elim (rows % row_group_rows == 0) as (λ (b : Bool). (rows % row_group_rows == 0) ≡ b → total (if b then [] else (rows % row_group_rows) ∷ []) ≡ rows % row_group_rows)
+    [ true ↦ λ e. sym (eqb-true (rows % row_group_rows) 0 e) | false ↦ λ e. omega arith ] refl in
+    let both = total_both (replicate (rows / row_group_rows) row_group_rows) (if rows % row_group_rows == 0 then [] else (rows % row_group_rows) ∷ []) in
+    let whole : total (replicate (rows / row_group_rows) row_group_rows) + total (if rows % row_group_rows == 0 then [] else (rows % row_group_rows) ∷ []) ≡ rows = omega arith in
     both ∙ whole
 
 column_rows : (cs : List Column) (rows : ℕ) (cols : List ColumnSpec) (j : ℕ) → AreColumns cs rows cols → j < length cols
@@ -140,6 +145,37 @@ file_written a b c d h i j header cols sound p empty front q seal =
         header_is = refl;
         columns_are = columns_are header cols q.groups p q.are;
       },
+    )
+
+-- ---- the kinds
+
+best_blocks : (cols : List ColumnSpec) (from n : ℕ) (bs : List Block) → AreRowsOf cols from n bs → AllByRecursion IsBest bs
+best_blocks [] from n [] p = tt
+best_blocks [] from n (b ∷ bs) p = absurd p
+best_blocks (s ∷ ss) from n [] p = absurd p
+best_blocks (s ∷ ss) from n (b ∷ bs) p = (p.0.best, best_blocks ss from n bs p.1)
+
+best_groups : (cols : List ColumnSpec) (from : ℕ) (sizes : List ℕ) (gs : List (List Block)) → AreGroupsOf cols from sizes gs → AllByRecursion (All IsBest) gs
+best_groups cols from [] [] p = tt
+best_groups cols from [] (g ∷ gs) p = absurd p
+best_groups cols from (n ∷ ns) [] p = absurd p
+best_groups cols from (n ∷ ns) (g ∷ gs) p = (All-from_recursion IsBest g (best_blocks cols from n g p.0), best_groups cols (from + n) ns gs p.1)
+
+pub best_written : (a b c d : Option (List ℕ)) (h i j : Sha256) (header : Header) (cols : List ColumnSpec) → IsHeader header → AreColumnsOf header cols → Holds256 h []
+    → Puts a b h i (fragment_magic ++ header_bytes header) → WritesGroups b c i j cols (group_sizes header.rows)
+    → ((m : List ℕ) → Holds256 j m → Appends c d (seal_of m)) → WritesBest a d
+unfolding fragment_bytes groups_bytes
+best_written a b c d h i j header cols sound p empty front q seal =
+    let file : FragmentSpec = record { header = header; groups = q.groups } in
+    let all = puts_both a b c h i j (fragment_magic ++ header_bytes header) (groups_bytes header.rows q.groups) front q.put in
+    let own : IsFileOf (sealed (fragment_bytes file)) file =
+    record { spelled = refl; sound = record { header = sound; groups = are_groups header.columns header.rows cols 0 (group_sizes header.rows) q.groups p q.are } } in
+    let best : All (All IsBest) file.groups = All-from_recursion (All IsBest) q.groups (best_groups cols 0 (group_sizes header.rows) q.groups q.are) in (
+      sealed (fragment_bytes file),
+      puts_sealed a c d h j (fragment_bytes file) empty all seal,
+      λ other is.
+          let same : file ≡ other = ok_is file other (sym (file_again (sealed (fragment_bytes file)) file own) ∙ file_again (sealed (fragment_bytes file)) other is) in
+          subst (λ (f : FragmentSpec). All (All IsBest) f.groups) same best,
     )
 
 pub long_columns : (cs : List Column) (rows : ℕ) (cols : List ColumnSpec) → AreColumns cs rows cols → All (λ c. rows ≤ length c.values) cols

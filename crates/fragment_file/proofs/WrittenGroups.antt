@@ -4,12 +4,14 @@ use Rattle.std.specs.Prelude.{flat_map, zip}
 use Rattle.std.proofs.lemmas.List.{take_more, replicate_more}
 use Rattle.std.proofs.lemmas.Grind.{flat_map-append}
 use Rattle.std.proofs.lemmas.Bool.{ne_eqb}
+use Rattle.meaning.specs.Limits.{row_group_rows}
 use Rattle.sha2.specs.declared.Sha256.{Sha256}
 use Rattle.columns.specs.Column.{ColumnSpec}
 use Rattle.encodings.specs.Block.{Block}
-use Rattle.fragment_file.specs.Fragment.{number_bytes, block_bytes, group_bytes, group_sizes}
+use Rattle.wire.specs.Bytes.{number_bytes}
+use Rattle.fragment_file.specs.Fragment.{block_bytes, group_bytes, group_sizes}
 use Rattle.fragment_file.specs.Writing.{IsRowsOf, AreRowsOf, AreGroupsOf, PutsBlock, PutsBlocks, PutsGroup, WritesGroup, WritesGroups}
-use Rattle.fragment_file.proofs.Written.{puts_nothing, puts_more}
+use Rattle.wire.proofs.Written.{puts_nothing, puts_more}
 
 -- ---- blocks
 
@@ -82,23 +84,23 @@ writes_last a b c h i j cols sizes from n e p q =
       put = puts_more a b c h i j (flat_map group_bytes (zip sizes p.groups)) (group_bytes (n, q.blocks)) _ p.put q.put (spelled_last cols 0 sizes n p.groups q.blocks p.are);
     }
 
-pub sum_full : (n : ℕ) → total (replicate n 8192) ≡ n * 8192
+pub sum_full : (n : ℕ) → total (replicate n row_group_rows) ≡ n * row_group_rows
 sum_full zero = refl
 sum_full (suc n) =
-    let e : total (replicate n 8192) ≡ n * 8192 = sum_full n in
-    let all : 8192 + total (replicate n 8192) ≡ suc n * 8192 = omega arith in
+    let e : total (replicate n row_group_rows) ≡ n * row_group_rows = sum_full n in
+    let all : row_group_rows + total (replicate n row_group_rows) ≡ suc n * row_group_rows = omega arith in
     all
 
-pub writes_full : (a b c : Option (List ℕ)) (h i j : Sha256) (cols : List ColumnSpec) (n m : ℕ) → m ≡ 8192
-    → WritesGroups a b h i cols (replicate n 8192) → WritesGroup b c i j cols (n * 8192) m → WritesGroups a c h j cols (replicate (n + 1) 8192)
+pub writes_full : (a b c : Option (List ℕ)) (h i j : Sha256) (cols : List ColumnSpec) (n m : ℕ) → m ≡ row_group_rows
+    → WritesGroups a b h i cols (replicate n row_group_rows) → WritesGroup b c i j cols (n * row_group_rows) m → WritesGroups a c h j cols (replicate (n + 1) row_group_rows)
 writes_full a b c h i j cols n m e p q =
-    subst (WritesGroups a c h j cols) (replicate_more n 8192)
-    (writes_last a b c h i j cols (replicate n 8192) (n * 8192) 8192 (sym (sum_full n)) p (subst (WritesGroup b c i j cols (n * 8192)) e q))
+    subst (WritesGroups a c h j cols) (replicate_more n row_group_rows)
+    (writes_last a b c h i j cols (replicate n row_group_rows) (n * row_group_rows) row_group_rows (sym (sum_full n)) p (subst (WritesGroup b c i j cols (n * row_group_rows)) e q))
 
-pub writes_rest : (a b c : Option (List ℕ)) (h i j : Sha256) (cols : List ColumnSpec) (rows m : ℕ) → m ≡ rows % 8192 → (rows % 8192 ≡ 0 → ⊥)
-    → WritesGroups a b h i cols (replicate (rows / 8192) 8192) → WritesGroup b c i j cols (rows / 8192 * 8192) m → WritesGroups a c h j cols (group_sizes rows)
+pub writes_rest : (a b c : Option (List ℕ)) (h i j : Sha256) (cols : List ColumnSpec) (rows m : ℕ) → m ≡ rows % row_group_rows → (rows % row_group_rows ≡ 0 → ⊥)
+    → WritesGroups a b h i cols (replicate (rows / row_group_rows) row_group_rows) → WritesGroup b c i j cols (rows / row_group_rows * row_group_rows) m → WritesGroups a c h j cols (group_sizes rows)
 writes_rest a b c h i j cols rows m e some p q =
-    let last : (rows % 8192) ∷ [] ≡ (if rows % 8192 == 0 then [] else (rows % 8192) ∷ []) = sym (ap (λ t. if t then [] else (rows % 8192) ∷ []) (ne_eqb (rows % 8192) 0 some)) in
-    subst (λ (ns : List ℕ). WritesGroups a c h j cols (replicate (rows / 8192) 8192 ++ ns)) last
-    (writes_last a b c h i j cols (replicate (rows / 8192) 8192) (rows / 8192 * 8192) (rows % 8192) (sym (sum_full (rows / 8192))) p
-    (subst (WritesGroup b c i j cols (rows / 8192 * 8192)) e q))
+    let last : (rows % row_group_rows) ∷ [] ≡ (if rows % row_group_rows == 0 then [] else (rows % row_group_rows) ∷ []) = sym (ap (λ t. if t then [] else (rows % row_group_rows) ∷ []) (ne_eqb (rows % row_group_rows) 0 some)) in
+    subst (λ (ns : List ℕ). WritesGroups a c h j cols (replicate (rows / row_group_rows) row_group_rows ++ ns)) last
+    (writes_last a b c h i j cols (replicate (rows / row_group_rows) row_group_rows) (rows / row_group_rows * row_group_rows) (rows % row_group_rows) (sym (sum_full (rows / row_group_rows))) p
+    (subst (WritesGroup b c i j cols (rows / row_group_rows * row_group_rows)) e q))

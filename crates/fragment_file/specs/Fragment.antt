@@ -4,13 +4,13 @@
 -- as a block may be of any kind that fits; bytes stand for at most one.
 use Rattle.std.specs.Prelude.{◌≡◌, ◌≢◌, ℕ, ◌/◌, ◌%◌, ◌==◌, ◌≤◌, ◌<◌, ◌^◌, true, false, if◌then◌else◌, List, [], ◌∷◌, ◌++◌, length, map, zip, get_or, replicate, flat_map, All, AllPairs}
 use Rattle.std.specs.List.{range_with_len}
-use Rattle.byteorder.specs.Endian.{little_bytes}
-use Rattle.sha2.specs.Sha256.{sha256}
+use Rattle.wire.specs.Bytes.{number_bytes, sealed}
 use Rattle.meaning.specs.declared.value.ColType.{ColType}
 use Rattle.meaning.specs.declared.value.ColType.TheVariants as of_type
 use Rattle.meaning.specs.declared.value.Value.{Value}
 use Rattle.meaning.specs.declared.catalog.Column.{Column}
 use Rattle.meaning.specs.Catalog.{IsName}
+use Rattle.meaning.specs.Limits.{max_columns, max_rows, row_group_rows}
 use Rattle.columns.specs.Column.{ColumnSpec}
 use Rattle.encodings.specs.declared.kind.Kind.TheVariants as kind
 use Rattle.encodings.specs.Block.{Block, is_block, values_of}
@@ -26,7 +26,7 @@ pub record FragmentSpec : Type 0 where
 
 -- row groups of 8,192 rows and, where rows are left over, one of the rest
 abbrev pub group_sizes : ℕ → List ℕ
-group_sizes rows = replicate (rows / 8192) 8192 ++ (if rows % 8192 == 0 then [] else (rows % 8192) ∷ [])
+group_sizes rows = replicate (rows / row_group_rows) row_group_rows ++ (if rows % row_group_rows == 0 then [] else (rows % row_group_rows) ∷ [])
 
 -- names in their form, 1 to 64 columns with names that differ, and at most 1,048,576 rows
 pub record IsHeader (h : Header) : Type 0 where
@@ -34,9 +34,9 @@ pub record IsHeader (h : Header) : Type 0 where
   pub table : IsName h.table
   pub fragment : h.fragment < 2 ^ 32
   pub first_row : h.first_row < 2 ^ 64
-  pub rows : h.rows ≤ 1048576
+  pub rows : h.rows ≤ max_rows
   pub some : 1 ≤ length h.columns
-  pub few : length h.columns ≤ 64
+  pub few : length h.columns ≤ max_columns
   pub columns : All (λ c. IsName c.name) h.columns
   pub distinct : AllPairs (λ a b. a ≢ b) (map (λ c. c.name) h.columns)
 
@@ -83,10 +83,6 @@ columns_in f = map (column_in f.groups) (zip (range_with_len 0 (length f.header.
 
 -- ---- spelling
 
--- a number of n bytes, the lowest first
-unfoldable pub number_bytes : ℕ → ℕ → List ℕ
-number_bytes n x = little_bytes n x
-
 unfoldable pub name_bytes : List ℕ → List ℕ
 name_bytes name = number_bytes 2 (length name) ++ name
 
@@ -118,13 +114,6 @@ fragment_magic = 88 ∷ 67 ∷ 70 ∷ 49 ∷ []
 -- all of a file but its seal
 unfoldable pub fragment_bytes : FragmentSpec → List ℕ
 fragment_bytes f = fragment_magic ++ header_bytes f.header ++ groups_bytes f.header.rows f.groups
-
--- the seal of bytes is their SHA-256
-unfoldable pub seal_of : List ℕ → List ℕ
-seal_of bytes = sha256 bytes
-
-abbrev pub sealed : List ℕ → List ℕ
-sealed bytes = bytes ++ seal_of bytes
 
 -- the bytes are a file of this header and these blocks
 pub record IsFileOf (bytes : List ℕ) (f : FragmentSpec) : Type 0 where

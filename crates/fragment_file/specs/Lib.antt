@@ -1,7 +1,8 @@
+-- The definitions of this crate.
+pub mod Copying
 pub mod CutFile
 pub mod Fault
 pub mod Fragment
 pub mod FragmentReading
-pub mod Reading
 pub mod View
 pub mod Writing

@@ -1,24 +1,16 @@
 -- What writing does to a writer and to the hasher of all bytes that went to it, and which columns a file is written of.
-use Rattle.std.specs.Prelude.{◌≡◌, ℕ, ◌+◌, ◌<◌, ◌^◌, true, List, [], ◌∷◌, ◌++◌, length, take, drop, zip, flat_map, Option}
+use Rattle.std.specs.Prelude.{◌≡◌, ℕ, ◌+◌, ◌<◌, ◌^◌, true, List, [], ◌∷◌, ◌++◌, length, take, drop, zip, flat_map, Option, All}
 use Rattle.std.specs.Io.KnownBytes.{Appends}
 use Rattle.sha2.specs.declared.Sha256.{Sha256}
-use Rattle.sha2.specs.Hashers.{Holds256}
+use Rattle.wire.specs.Writing.{Puts}
 use Rattle.meaning.specs.declared.catalog.Column.{Column}
 use Rattle.columns.specs.Column.{ColumnSpec}
 use Rattle.encodings.specs.Block.{Block, is_block, values_of}
+use Rattle.encodings.specs.Tight.{is_chosen, is_tight}
 use Rattle.fragment_file.specs.declared.fault.FileFault.{FileFault}
 use Rattle.fragment_file.specs.declared.fault.FileFault.TheVariants as fault
 use Rattle.fragment_file.specs.declared.header.Header.{Header}
-use Rattle.fragment_file.specs.Fragment.{Stands, block_bytes, group_bytes}
-
--- a hasher took in bytes behind whatever it held
-unfoldable pub Hashes : Sha256 → Sha256 → List ℕ → Type 0
-Hashes before after bytes = (m : List ℕ) → Holds256 before m → Holds256 after (m ++ bytes)
-
--- bytes went to a writer, and to a hasher
-pub record Puts (before after : Option (List ℕ)) (old new : Sha256) (bytes : List ℕ) : Type 0 where
-  pub written : Appends before after bytes
-  pub hashed : Hashes old new bytes
+use Rattle.fragment_file.specs.Fragment.{FragmentSpec, IsFileOf, Stands, block_bytes, group_bytes}
 
 -- ---- columns
 
@@ -43,7 +35,16 @@ AreColumnsOf header columns = AreColumns header.columns header.rows columns
 abbrev pub WritesFile : Option (List ℕ) → Option (List ℕ) → Header → List ColumnSpec → Type 0
 WritesFile before after header columns = (bytes : List ℕ) × Appends before after bytes × Stands bytes header columns
 
--- want of memory, or a device that failed
+-- a block of the kind that `choose` names for its values, without an entry or a run that they don't need
+pub record IsBest (b : Block) : Type 0 where
+  pub chosen : is_chosen b.col_type b.nullable (values_of b) b.kind ≡ true
+  pub tight : is_tight b ≡ true
+
+-- bytes went to a writer, and the file that they are has only such blocks
+abbrev pub WritesBest : Option (List ℕ) → Option (List ℕ) → Type 0
+WritesBest before after = (bytes : List ℕ) × Appends before after bytes × ((file : FragmentSpec) → IsFileOf bytes file → All (All IsBest) file.groups)
+
+-- out of memory, or a device that failed
 abbrev pub IsWriteFault : FileFault → Type 0
 IsWriteFault fault.Memory = Unit {0}
 IsWriteFault fault.Magic = ⊥
@@ -65,6 +66,7 @@ pub record IsRowsOf (column : ColumnSpec) (from n : ℕ) (b : Block) : Type 0 wh
   pub sound : is_block b ≡ true
   pub short : length b.payload < 2 ^ 32
   pub values : values_of b ≡ take n (drop from column.values)
+  pub best : IsBest b
 
 -- such a block of each column
 abbrev pub AreRowsOf : List ColumnSpec → ℕ → ℕ → List Block → Type 0

@@ -1,9 +1,11 @@
+//! Why bytes are no file, and why a file is not written.
 ghost use Rattle.std.specs.Prelude.{◌≡◌};
-ghost use Rattle.fragment_file.specs.Fault.{number_of};
-ghost use Rattle.fragment_file.specs.declared.fault.FileFault.TheVariants.{Memory};
+ghost use Rattle.fragment_file.specs.Fault.{fault_of, number_of};
+ghost use Rattle.fragment_file.specs.declared.fault.FileFault.TheVariants.{Device, Memory};
 
 use std::alloc::{AllocError, AllocFailed};
 use thiserror::Error;
+use wire::{DeviceFault, WireFault};
 
 /// Why bytes are no file, or why a file is not written: the first obstacle from front to back.
 #[derive(Debug, Drop, Error)]
@@ -30,7 +32,7 @@ pub enum FileFault {
 }
 
 impl FileFault {
-    /// The number by which the refusal is told.
+    /// The error code.
     pub fn number(&self) -> u8
         ensures { result ≡ number_of self.now }
     {
@@ -61,5 +63,27 @@ impl<T: Drop> From<AllocFailed<T>> for FileFault {
 
     fn from(_: AllocFailed<T>) -> FileFault {
         FileFault::Memory
+    }
+}
+
+impl From<WireFault> for FileFault {
+    ghost from_gives = { λ fault given. given ≡ fault_of fault };
+
+    fn from(fault: WireFault) -> FileFault {
+        match fault {
+            WireFault::Magic => FileFault::Magic,
+            WireFault::Truncated => FileFault::Truncated,
+            WireFault::NotUtf8 => FileFault::Header,
+            WireFault::TrailingBytes => FileFault::TrailingBytes,
+            WireFault::Seal => FileFault::Seal,
+        }
+    }
+}
+
+impl From<DeviceFault> for FileFault {
+    ghost from_gives = { λ _ given. given ≡ Device };
+
+    fn from(_: DeviceFault) -> FileFault {
+        FileFault::Device
     }
 }

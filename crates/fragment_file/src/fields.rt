@@ -1,29 +1,19 @@
-// The magic and the fields of a header, read from front to back.
+//! The fields of a header, read from front to back.
 ghost use Rattle.std.specs.Prelude.{◌≡◌, []};
-ghost use Rattle.fragment_file.specs.FragmentReading.{behind_magic, column_at, columns_at, flag_of, header_at, is_named, type_of};
-ghost use Rattle.fragment_file.specs.Reading.{Reads, ReadsIfMemory};
+ghost use Rattle.wire.specs.Reading.{behind_magic, Reads, ReadsIfMemory};
+ghost use Rattle.fragment_file.specs.FragmentReading.{column_at, columns_at, flag_of, header_at, is_named, type_of};
 
 use crate::fault::FileFault;
 use crate::header::Header;
+use crate::limits::is_1_to;
 use crate::name::{take_name, text_of};
-use crate::number::{is_1_to_64, take_bytes, take_u8, take_u16, take_u32, take_u64};
 use meaning::catalog::Column;
+use meaning::limits::{MAX_COLUMNS, MAX_ROWS};
 use meaning::sequence::Sequence;
 use meaning::value::ColType;
 use std::alloc::Global;
 use std::mem::drop;
-
-/// The bytes behind the four that tell what the file is.
-#[tactic(auto, unfolding(crate::specs::FragmentReading::behind_magic))]
-pub fn skip_magic<'a>(magic: &[u8; 4], bytes: &'a [u8]) -> Result<&'a [u8], FileFault>
-    ensures { Reads (λ x. x.now) result (behind_magic magic.now bytes.now) }
-{
-    let (first, rest) = take_bytes(bytes, 4)?;
-    if first != magic.as_slice() {
-        return Err(FileFault::Magic);
-    }
-    Ok(rest)
-}
+use wire::{take_u8, take_u16, take_u32, take_u64};
 
 fn type_of(code: u8) -> Result<ColType, FileFault>
     ensures { Reads (λ t. t) result (type_of code) }
@@ -58,7 +48,7 @@ fn take_column<'a>(
     earlier: &[Column],
     bytes: &'a [u8],
 ) -> Result<(Column, &'a [u8]), FileFault>
-    ensures { ReadsIfMemory (λ x. (x.0, x.1.now)) result (column_at earlier.now bytes.now) }
+    ensures { ReadsIfMemory FileFault.Memory (λ x. (x.0, x.1.now)) result (column_at earlier.now bytes.now) }
 {
     let (name, rest) = take_name(bytes)?;
     if is_named(name, earlier) {
@@ -78,7 +68,7 @@ fn take_column<'a>(
 }
 
 fn take_columns(alloc: Global, count: u16, bytes: &[u8]) -> Result<(Vec<Column>, &[u8]), FileFault>
-    ensures { ReadsIfMemory (λ x. (x.0.items, x.1.now)) result (columns_at count [] bytes.now) }
+    ensures { ReadsIfMemory FileFault.Memory (λ x. (x.0.items, x.1.now)) result (columns_at count [] bytes.now) }
 {
     let mut columns = Vec::new(alloc);
     let mut rest = bytes;
@@ -93,18 +83,18 @@ fn take_columns(alloc: Global, count: u16, bytes: &[u8]) -> Result<(Vec<Column>,
 /// What stands in front of the row groups, and the bytes from there.
 #[tactic(auto, unfolding(crate::specs::FragmentReading::header_at))]
 pub fn take_header(alloc: Global, bytes: &[u8]) -> Result<(Header, &[u8]), FileFault>
-    ensures { ReadsIfMemory (λ x. (x.0, x.1.now)) result (header_at bytes.now) }
+    ensures { ReadsIfMemory FileFault.Memory (λ x. (x.0, x.1.now)) result (header_at bytes.now) }
 {
     let (load, rest) = take_u64(bytes)?;
     let (table, rest) = take_name(rest)?;
     let (fragment, rest) = take_u32(rest)?;
     let (first_row, rest) = take_u64(rest)?;
     let (rows, rest) = take_u32(rest)?;
-    if 1_048_576 < rows {
+    if rows > MAX_ROWS {
         return Err(FileFault::Limit);
     }
     let (count, rest) = take_u16(rest)?;
-    if !is_1_to_64(count) {
+    if !is_1_to(MAX_COLUMNS, u32::from(count)) {
         return Err(FileFault::Limit);
     }
     let table = text_of(alloc, table)?;

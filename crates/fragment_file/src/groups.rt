@@ -1,20 +1,20 @@
-// The row groups, read from front to back.
-ghost use Rattle.std.specs.Prelude.{◌≡◌, ◌≤◌, ◌<◌, ◌-◌, nat_lt, if◌then◌else◌};
+//! The row groups, read from front to back.
+ghost use Rattle.std.specs.Prelude.{◌≡◌, ◌≤◌, ◌<◌, ◌-◌, ◌++◌, ℕ, List, map, nat_lt, if◌then◌else◌, IfOk};
+ghost use Rattle.fragment_file.specs.View.{AreGroupsTaken, AreTaken, IsEnd, IsWithin, block_in};
+ghost use Rattle.meaning.specs.Limits.{row_group_rows};
 ghost use Rattle.fragment_file.specs.Fragment.{group_sizes};
 ghost use Rattle.fragment_file.specs.FragmentReading.{block_at, block_of, blocks_at, group_at, groups_at, kind_of, sound};
-ghost use Rattle.fragment_file.specs.Reading.{Reads, ReadsIfMemory};
+ghost use Rattle.wire.specs.Reading.{Reads, ReadsIfMemory};
 
 use crate::fault::FileFault;
-use crate::number::{take_bytes, take_u8, take_u32};
-use crate::view::GroupView;
+use crate::view::BlockPlace;
 use encodings::kind::Kind;
 use encodings::view::BlockView;
 use meaning::catalog::Column;
+use meaning::limits::ROW_GROUP_ROWS;
 use meaning::sequence::Sequence;
 use std::alloc::Global;
-
-/// The most rows of a row group.
-const GROUP_ROWS: u32 = 8_192;
+use wire::{take_bytes, take_u8, take_u32};
 
 fn block_of<'a>(code: u8, of: &Column, rows: usize, payload: &'a [u8]) -> Option<BlockView<'a>>
     ensures { result ≡ block_of (kind_of code) of.now rows payload.now }
@@ -23,17 +23,36 @@ fn block_of<'a>(code: u8, of: &Column, rows: usize, payload: &'a [u8]) -> Option
     BlockView::new(kind, of.col_type, of.nullable, rows, payload)
 }
 
+/// The place of a block whose payload stands right before `rest`, the end of the bytes.
+fn place_of(bytes: &[u8], block: &BlockView<'_>, rest: &[u8]) -> BlockPlace
+    requires { IsEnd bytes.now (block.now.payload ++ rest.now) }
+    ensures value { block_in bytes.now result ≡ block.now }
+    ensures within { IsWithin bytes.now result }
+{
+    let end = bytes.len() - rest.len();
+    BlockPlace {
+        kind: block.kind(),
+        col_type: block.col_type(),
+        nullable: block.nullable(),
+        rows: block.len(),
+        start: end - block.payload().len(),
+        end,
+    }
+}
+
+/// The block that stands at the front of `rest`, and the bytes behind it.
 #[tactic(auto, unfolding(crate::specs::FragmentReading::block_at))]
 fn take_block<'a>(
     group: u64,
     column: u64,
     of: &Column,
     rows: usize,
-    bytes: &'a [u8],
+    rest: &'a [u8],
 ) -> Result<(BlockView<'a>, &'a [u8]), FileFault>
-    ensures { Reads (λ x. (x.0, x.1.now)) result (block_at group column of.now rows bytes.now) }
+    ensures read { Reads (λ x. (x.0, x.1.now)) result (block_at group column of.now rows rest.now) }
+    ensures behind { (bytes : List ℕ) → IsEnd bytes rest.now → IfOk result (λ x. IsEnd bytes (x.0.payload ++ x.1.now)) }
 {
-    let (code, rest) = take_u8(bytes)?;
+    let (code, rest) = take_u8(rest)?;
     let (length, rest) = take_u32(rest)?;
     let (payload, rest) = take_bytes(rest, length as usize)?;
     let Some(block) = block_of(code, of, rows, payload) else {
@@ -42,23 +61,28 @@ fn take_block<'a>(
     Ok((block, rest))
 }
 
+/// The places of the blocks of a row group, which stand at the front of `rest`, the end of the bytes.
 fn take_blocks<'a>(
     alloc: Global,
     group: u64,
     columns: &[Column],
     rows: usize,
-    bytes: &'a [u8],
-) -> Result<(Vec<BlockView<'a>>, &'a [u8]), FileFault>
-    ensures { ReadsIfMemory (λ x. (x.0.items, x.1.now)) result (blocks_at group 0 columns.now rows bytes.now) }
+    bytes: &[u8],
+    rest: &'a [u8],
+) -> Result<(Vec<BlockPlace>, &'a [u8]), FileFault>
+    requires { IsEnd bytes.now rest.now }
+    ensures read { ReadsIfMemory FileFault.Memory (λ x. (map (block_in bytes.now) x.0.items, x.1.now)) result
+        (blocks_at group 0 columns.now rows rest.now) }
+    ensures taken { IfOk result (λ x. AreTaken bytes.now x.0.items x.1.now) }
 {
-    let mut taken = Vec::new(alloc);
-    let mut rest = bytes;
+    let mut places = Vec::new(alloc);
+    let mut rest = rest;
     for column in 0..columns.len() {
-        let (block, after) = take_block(group, column as u64, &columns[column], rows, rest)?;
-        taken.push(block)?;
-        rest = after;
+        let (block, behind) = take_block(group, column as u64, &columns[column], rows, rest)?;
+        places.push(place_of(bytes, &block, behind))?;
+        rest = behind;
     }
-    Ok((taken, rest))
+    Ok((places, rest))
 }
 
 #[tactic(auto, unfolding(crate::specs::FragmentReading::group_at))]
@@ -67,42 +91,52 @@ fn take_group<'a>(
     group: u64,
     columns: &[Column],
     rows: u32,
-    bytes: &'a [u8],
-) -> Result<(GroupView<'a>, &'a [u8]), FileFault>
-    ensures { ReadsIfMemory (λ x. (x.0, x.1.now)) result (group_at group columns.now rows bytes.now) }
+    bytes: &[u8],
+    rest: &'a [u8],
+) -> Result<(Sequence<BlockPlace>, &'a [u8]), FileFault>
+    requires { IsEnd bytes.now rest.now }
+    ensures read { ReadsIfMemory FileFault.Memory (λ x. (map (block_in bytes.now) x.0, x.1.now)) result
+        (group_at group columns.now rows rest.now) }
+    ensures taken { IfOk result (λ x. AreTaken bytes.now x.0 x.1.now) }
 {
-    let (told, rest) = take_u32(bytes)?;
+    let (told, rest) = take_u32(rest)?;
     if told != rows {
         return Err(FileFault::Header);
     }
-    let (blocks, rest) = take_blocks(alloc, group, columns, rows as usize, rest)?;
-    Ok((GroupView::new(Sequence::from_vec(blocks)), rest))
+    let (places, rest) = take_blocks(alloc, group, columns, rows as usize, bytes, rest)?;
+    Ok((Sequence::from_vec(places), rest))
 }
 
 /// How many of the rows that are left the next row group has.
 fn next_rows(left: u32) -> u32
-    ensures { result ≡ if nat_lt left 8192 then left else 8192 }
+    ensures { result ≡ if nat_lt left row_group_rows then left else row_group_rows }
 {
-    if left < GROUP_ROWS { left } else { GROUP_ROWS }
+    let full = ROW_GROUP_ROWS as u32;
+    if left < full { left } else { full }
 }
 
-/// The row groups of so many rows, and the bytes behind them.
+/// The places of the blocks of so many rows, row group by row group, and the bytes behind them. The row groups stand at
+/// the front of `rest`, the end of the bytes.
 pub fn take_groups<'a>(
     alloc: Global,
     columns: &[Column],
     rows: u32,
-    bytes: &'a [u8],
-) -> Result<(Sequence<GroupView<'a>>, &'a [u8]), FileFault>
-    ensures { ReadsIfMemory (λ x. (x.0, x.1.now)) result (groups_at 0 columns.now (group_sizes rows) bytes.now) }
+    bytes: &[u8],
+    rest: &'a [u8],
+) -> Result<(Sequence<Sequence<BlockPlace>>, &'a [u8]), FileFault>
+    requires { IsEnd bytes.now rest.now }
+    ensures read { ReadsIfMemory FileFault.Memory (λ x. (map (map (block_in bytes.now)) x.0, x.1.now)) result
+        (groups_at 0 columns.now (group_sizes rows) rest.now) }
+    ensures taken { IfOk result (λ x. AreGroupsTaken bytes.now x.0 x.1.now) }
 {
     let mut groups = Vec::new(alloc);
-    let mut rest = bytes;
+    let mut rest = rest;
     let mut left = rows;
     while left > 0 {
         let size = next_rows(left);
-        let (group, after) = take_group(alloc, groups.len() as u64, columns, size, rest)?;
+        let (group, behind) = take_group(alloc, groups.len() as u64, columns, size, bytes, rest)?;
         groups.push(group)?;
-        rest = after;
+        rest = behind;
         left -= size;
     }
     Ok((Sequence::from_vec(groups), rest))

@@ -1,4 +1,4 @@
-// The laws of the formats. A body does nothing: the clause is a theorem on the definitions.
+//! The laws of the formats. A body does nothing: the clause is a theorem on the definitions.
 ghost use Rattle.std.specs.Prelude.{◌≡◌, ℕ, List};
 ghost use Rattle.columns.specs.Column.{ColumnSpec};
 ghost use Rattle.fragment_file.specs.declared.header.Header.{Header as AHeader};

@@ -1,6 +1,7 @@
 //! Fragment, dimension and cut files: columns in row groups of blocks, behind a header and before a seal.
 #![tactic(auto)]
 
+mod copying;
 mod cut_reading;
 mod cut_writing;
 mod fault;
@@ -8,16 +9,15 @@ mod fields;
 mod groups;
 pub mod header;
 mod laws;
+mod limits;
 mod name;
-mod number;
 mod opening;
-mod sealing;
 pub mod view;
 mod writing;
 mod writing_groups;
 mod writing_header;
-mod writing_numbers;
 
+pub use copying::read_columns;
 pub use cut_reading::read_cut;
 pub use cut_writing::write_cut;
 pub use fault::FileFault;

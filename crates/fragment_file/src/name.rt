@@ -1,19 +1,21 @@
-// Names behind their lengths.
+//! Names behind their lengths.
 ghost use Rattle.std.specs.Prelude.{◌≡◌, true, Ok, IfOk};
 ghost use Rattle.meaning.specs.Catalog.{is_name};
 ghost use Rattle.fragment_file.specs.FragmentReading.{name_at};
-ghost use Rattle.fragment_file.specs.Reading.{Reads, ReadsIfMemory};
+ghost use Rattle.wire.specs.Reading.{Reads, ReadsIfMemory};
 
 use crate::fault::FileFault;
-use crate::number::{is_1_to_64, take_bytes, take_u16};
+use crate::limits::is_1_to;
+use meaning::limits::MAX_NAME_BYTES;
 use meaning::name::is_name;
 use meaning::text::Text;
 use std::alloc::Global;
+use wire::{take_bytes, take_u16};
 
 /// A name's text, which is ASCII.
 pub fn text_of(alloc: Global, word: &[u8]) -> Result<Text, FileFault>
     requires { is_name word.now ≡ true }
-    ensures { ReadsIfMemory (λ name. name) result (Ok word.now) }
+    ensures { ReadsIfMemory FileFault.Memory (λ name. name) result (Ok word.now) }
 {
     let Ok(name) = std::str::from_utf8(word) else {
         return Err(FileFault::Header);
@@ -28,7 +30,7 @@ pub fn take_name(bytes: &[u8]) -> Result<(&[u8], &[u8]), FileFault>
     ensures name { IfOk result (λ x. is_name x.0.now ≡ true) }
 {
     let (length, rest) = take_u16(bytes)?;
-    if !is_1_to_64(length) {
+    if !is_1_to(MAX_NAME_BYTES, u32::from(length)) {
         return Err(FileFault::Limit);
     }
     let (word, rest) = take_bytes(rest, length as usize)?;

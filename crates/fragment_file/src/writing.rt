@@ -1,16 +1,18 @@
+//! The file of a fragment or of a dimension, written.
 ghost use Rattle.std.specs.Prelude.{◌++◌, OnOk, IfErr};
 ghost use Rattle.fragment_file.specs.Fragment.{IsHeader, fragment_magic, header_bytes};
-ghost use Rattle.fragment_file.specs.Writing.{AreColumnsOf, IsWriteFault, Puts, WritesFile};
+ghost use Rattle.fragment_file.specs.Writing.{AreColumnsOf, IsWriteFault, WritesBest, WritesFile};
+ghost use Rattle.wire.specs.Writing.{Puts};
 
 use crate::fault::FileFault;
 use crate::header::Header;
-use crate::sealing::{put, put_seal};
 use crate::writing_groups::put_groups;
 use crate::writing_header::append_header;
 use columns::Column;
 use sha2::{Digest, Sha256};
 use std::alloc::Global;
 use std::io::Write;
+use wire::{put, put_seal};
 
 /// The magic and the header.
 fn put_header<W: Write>(
@@ -26,7 +28,8 @@ fn put_header<W: Write>(
 {
     let mut bytes = Vec::new(alloc);
     append_header(&mut bytes, header)?;
-    put(out, hasher, bytes.as_slice())
+    put(out, hasher, bytes.as_slice())?;
+    Ok(())
 }
 
 /// Writes the file of a fragment or a dimension: the header, row groups of 8,192 rows and one of the rest, and the seal.
@@ -35,7 +38,7 @@ fn put_header<W: Write>(
 ///
 /// # Errors
 ///
-/// Want of memory, or one of the device. How much went out is open.
+/// Out of memory, or one of the device. How much was written is open.
 pub fn write<W: Write>(
     alloc: Global,
     header: &Header,
@@ -45,10 +48,12 @@ pub fn write<W: Write>(
     requires header { IsHeader header.now }
     requires columns { AreColumnsOf header.now columns.now }
     ensures ok { OnOk result (WritesFile (W.contents out.old) (W.contents out.new) header.now columns.now) }
+    ensures best { OnOk result (WritesBest (W.contents out.old) (W.contents out.new)) }
     ensures err { IfErr result IsWriteFault }
 {
     let mut hasher = Sha256::new();
     put_header(alloc, out, &mut hasher, header)?;
     put_groups(alloc, out, &mut hasher, columns, header.rows as usize)?;
-    put_seal(out, hasher)
+    put_seal(out, hasher)?;
+    Ok(())
 }

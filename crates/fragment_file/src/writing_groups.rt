@@ -1,28 +1,27 @@
-// The row groups of a file: for each column a block of the kind of fewest bytes.
+//! The row groups of a file: for each column a block of the kind of fewest bytes.
 ghost use Rattle.std.specs.Prelude.{◌≡◌, ◌≤◌, ◌<◌, ◌-◌, ◌*◌, ◌^◌, ◌++◌, length, replicate, true, All, OnOk, IfOk, IfErr};
+ghost use Rattle.meaning.specs.Limits.{max_rows, row_group_rows};
 ghost use Rattle.encodings.specs.Tight.{between, is_chosen, place_of};
 ghost use Rattle.encodings.specs.Written.{block_of};
-ghost use Rattle.fragment_file.specs.Fragment.{group_sizes, number_bytes};
+ghost use Rattle.fragment_file.specs.Fragment.{group_sizes};
+ghost use Rattle.wire.specs.Bytes.{number_bytes};
 ghost use Rattle.fragment_file.specs.Writing.{IsRowsOf, IsWriteFault, PutsBlock, PutsBlocks, PutsGroup, WritesGroup, WritesGroups};
 ghost use Rattle.fragment_file.specs.declared.fault.FileFault.TheVariants.{Memory};
 
 use crate::fault::FileFault;
-use crate::sealing::put;
-use crate::writing_numbers::{append_u8, append_u32};
 use columns::Column;
 use encodings::kind::Kind;
 use encodings::{choose, encode_as};
+use meaning::limits::ROW_GROUP_ROWS;
 use sha2::Sha256;
 use std::alloc::{AllocError, Global};
 use std::io::Write;
-
-/// How many rows a row group has, but for the last.
-pub const GROUP_ROWS: usize = 8_192;
+use wire::{append_u8, append_u32, put};
 
 fn chosen_kind(alloc: Global, column: &Column, from: usize, to: usize) -> Result<Kind, FileFault>
     requires some { from < to }
     requires within { to ≤ length column.now.values }
-    requires few { to - from ≤ 8192 }
+    requires few { to - from ≤ row_group_rows }
     ensures ok { IfOk result (λ k. is_chosen column.now.col_type column.now.nullable (between from to column.now) k ≡ true) }
     ensures err { IfErr result (λ f. f ≡ Memory) }
 {
@@ -42,7 +41,7 @@ fn payload_of(
 ) -> Result<Vec<u8>, FileFault>
     requires some { from < to }
     requires within { to ≤ length column.now.values }
-    requires few { to - from ≤ 8192 }
+    requires few { to - from ≤ row_group_rows }
     requires chosen { is_chosen column.now.col_type column.now.nullable (between from to column.now) kind ≡ true }
     ensures ok { IfOk result (λ bytes. IsRowsOf column.now from (to - from) (block_of kind column.now from to bytes.items)) }
     ensures err { IfErr result (λ f. f ≡ Memory) }
@@ -76,7 +75,7 @@ fn append_block(
 ) -> Result<(), FileFault>
     requires some { from < to }
     requires within { to ≤ length column.now.values }
-    requires few { to - from ≤ 8192 }
+    requires few { to - from ≤ row_group_rows }
     ensures ok { OnOk result (PutsBlock out.old.items out.new.items column.now from (to - from)) }
     ensures err { IfErr result (λ f. f ≡ Memory) }
 {
@@ -95,7 +94,7 @@ fn append_blocks(
 ) -> Result<(), FileFault>
     requires some { from < to }
     requires within { All (λ c. to ≤ length c.values) columns.now }
-    requires few { to - from ≤ 8192 }
+    requires few { to - from ≤ row_group_rows }
     ensures ok { OnOk result (PutsBlocks out.old.items out.new.items columns.now from (to - from)) }
     ensures err { IfErr result (λ f. f ≡ Memory) }
 {
@@ -114,7 +113,7 @@ fn append_group(
 ) -> Result<(), FileFault>
     requires some { from < to }
     requires within { All (λ c. to ≤ length c.values) columns.now }
-    requires few { to - from ≤ 8192 }
+    requires few { to - from ≤ row_group_rows }
     ensures ok { OnOk result (PutsGroup out.old.items out.new.items columns.now from (to - from)) }
     ensures err { IfErr result (λ f. f ≡ Memory) }
 {
@@ -133,13 +132,14 @@ fn put_group<W: Write>(
 ) -> Result<(), FileFault>
     requires some { from < to }
     requires within { All (λ c. to ≤ length c.values) columns.now }
-    requires few { to - from ≤ 8192 }
+    requires few { to - from ≤ row_group_rows }
     ensures ok { OnOk result (WritesGroup (W.contents out.old) (W.contents out.new) hasher.old hasher.new columns.now from (to - from)) }
     ensures err { IfErr result IsWriteFault }
 {
     let mut bytes = Vec::new(alloc);
     append_group(alloc, &mut bytes, columns, from, to)?;
-    put(out, hasher, bytes.as_slice())
+    put(out, hasher, bytes.as_slice())?;
+    Ok(())
 }
 
 /// The row groups that are full.
@@ -151,13 +151,14 @@ fn put_full_groups<W: Write>(
     groups: usize,
 ) -> Result<(), FileFault>
     requires few { groups ≤ 128 }
-    requires within { All (λ c. groups * 8192 ≤ length c.values) columns.now }
-    ensures ok { OnOk result (WritesGroups (W.contents out.old) (W.contents out.new) hasher.old hasher.new columns.now (replicate groups 8192)) }
+    requires within { All (λ c. groups * row_group_rows ≤ length c.values) columns.now }
+    ensures ok { OnOk result (WritesGroups (W.contents out.old) (W.contents out.new) hasher.old hasher.new
+        columns.now (replicate groups row_group_rows)) }
     ensures err { IfErr result IsWriteFault }
 {
     for group in 0..groups {
-        let from = group * GROUP_ROWS;
-        put_group(alloc, out, hasher, columns, from, from + GROUP_ROWS)?;
+        let from = group * ROW_GROUP_ROWS;
+        put_group(alloc, out, hasher, columns, from, from + ROW_GROUP_ROWS)?;
     }
     Ok(())
 }
@@ -170,15 +171,15 @@ pub fn put_groups<W: Write>(
     columns: &[Column],
     rows: usize,
 ) -> Result<(), FileFault>
-    requires few { rows ≤ 1048576 }
+    requires few { rows ≤ max_rows }
     requires within { All (λ c. rows ≤ length c.values) columns.now }
     ensures ok { OnOk result (WritesGroups (W.contents out.old) (W.contents out.new) hasher.old hasher.new columns.now (group_sizes rows)) }
     ensures err { IfErr result IsWriteFault }
 {
-    let full = rows / GROUP_ROWS;
+    let full = rows / ROW_GROUP_ROWS;
     put_full_groups(alloc, out, hasher, columns, full)?;
-    if rows % GROUP_ROWS == 0 {
+    if rows % ROW_GROUP_ROWS == 0 {
         return Ok(());
     }
-    put_group(alloc, out, hasher, columns, full * GROUP_ROWS, rows)
+    put_group(alloc, out, hasher, columns, full * ROW_GROUP_ROWS, rows)
 }

@@ -1,15 +1,16 @@
-// What stands in front of the row groups.
+//! What stands in front of the row groups.
 ghost use Rattle.std.specs.Prelude.{◌≡◌, ◌++◌, ◌≤◌, length, All, flat_map, OnOk};
 ghost use Rattle.meaning.specs.Catalog.{IsName};
+ghost use Rattle.meaning.specs.Limits.{max_name_bytes};
 ghost use Rattle.fragment_file.specs.Fragment.{IsHeader, column_bytes, fragment_magic, header_bytes, name_bytes, type_code};
 
 use crate::header::Header;
 use crate::opening::FRAGMENT_MAGIC;
-use crate::writing_numbers::{append_u8, append_u16, append_u32, append_u64};
 use meaning::catalog::Column;
 use meaning::text::Text;
 use meaning::value::ColType;
 use std::alloc::AllocError;
+use wire::{append_u8, append_u16, append_u32, append_u64};
 
 fn type_byte(col_type: ColType) -> u8
     ensures { result ≡ type_code col_type }
@@ -22,7 +23,7 @@ fn type_byte(col_type: ColType) -> u8
 
 #[tactic(auto, unfolding(crate::specs::Fragment::name_bytes))]
 fn append_name(out: &mut Vec<u8>, name: &Text) -> Result<(), AllocError>
-    requires { length name.now ≤ 64 }
+    requires { length name.now ≤ max_name_bytes }
     ensures { OnOk result (out.new.items ≡ out.old.items ++ name_bytes name.now) }
 {
     let bytes = name.as_bytes();
@@ -32,7 +33,7 @@ fn append_name(out: &mut Vec<u8>, name: &Text) -> Result<(), AllocError>
 
 #[tactic(auto, unfolding(crate::specs::Fragment::column_bytes))]
 fn append_column(out: &mut Vec<u8>, column: &Column) -> Result<(), AllocError>
-    requires { length column.now.name ≤ 64 }
+    requires { length column.now.name ≤ max_name_bytes }
     ensures { OnOk result (out.new.items ≡ out.old.items ++ column_bytes column.now) }
 {
     append_name(out, &column.name)?;

@@ -3,6 +3,7 @@ use Rattle.std.proofs.Common.{◌≡◌, ◌<◌, ℕ, suc, Bool, true, false, c
 use Rattle.std.specs.Prelude.{All, Result, find, if◌then◌else◌}
 use Rattle.std.specs.List.{enumerate_from}
 use Rattle.std.proofs.lemmas.Bool.{le-ltb}
+use Rattle.meaning.specs.Limits.{max_rows}
 use Rattle.meaning.specs.declared.catalog.Dimension.{Dimension}
 use Rattle.meaning.specs.declared.catalog.Column.{Column}
 use Rattle.meaning.specs.Catalog.{HasKey}
@@ -28,19 +29,19 @@ never_few (Err f) = refl
 never_few (Ok zs) = rw (le-ltb (length zs) 0 (omega arith)) refl
 
 by_header : (declared : List Column) (key : ℕ) (header : Record) (others : List Record) (order : List ℕ) (b : Bool) → ordered b (file_order declared header) ≡ Ok order
-    → in_columns declared (if b then and_then (all_ok (map (judged_record declared (Some key) 1048576 (file_order declared header) others) (enumerate_from 0 others))) (unless_few 0) else Err fault.Header)
-    ≡ in_columns declared (keyed_rows declared order key 1048576 others)
+    → in_columns declared (if b then and_then (all_ok (map (judged_record declared (Some key) max_rows (file_order declared header) others) (enumerate_from 0 others))) (unless_few 0) else Err fault.Header)
+    ≡ in_columns declared (keyed_rows declared order key max_rows others)
 by_header declared key header others order true e =
     let same : file_order declared header ≡ order = cc e in
-    ap (in_columns declared) (never_few (keyed_rows declared (file_order declared header) key 1048576 others)) ∙ ap (λ (o : List ℕ). in_columns declared (keyed_rows declared o key 1048576 others)) same
+    ap (in_columns declared) (never_few (keyed_rows declared (file_order declared header) key max_rows others)) ∙ ap (λ (o : List ℕ). in_columns declared (keyed_rows declared o key max_rows others)) same
 by_header declared key header others order false e = cc e
 
 -- the table of a file whose header was read
 pub opened_dimension : (d : Dimension) (declared : List Column) (records : List Record) (header : Record) (others : List Record) (order : List ℕ) → declared ≡ d.table.columns → records ≡ header ∷ others
-    → order_of declared header ≡ Ok order → dimension_columns d records ≡ in_columns declared (keyed_rows declared order d.key 1048576 others)
+    → order_of declared header ≡ Ok order → dimension_columns d records ≡ in_columns declared (keyed_rows declared order d.key max_rows others)
 opened_dimension d declared records header others order same all ordered_so =
     ap (dimension_columns d) all ∙ by_header d.table.columns d.key header others order (is_header d.table.columns header) (rw same at ordered_so)
-    ∙ ap (λ (c : List Column). in_columns c (keyed_rows c order d.key 1048576 others)) (sym same)
+    ∙ ap (λ (c : List Column). in_columns c (keyed_rows c order d.key max_rows others)) (sym same)
 
 pub table_loaded : (declared : List Column) (rows : Result (List Row) TableFault) (result : Result (List ColumnSpec) LoadFault) → TakesTable declared rows result → LoadsView (λ (columns : List ColumnSpec). columns) result (in_columns declared rows)
 table_loaded declared rows (Ok columns) (zs, e, same) = rw (e, same) refl

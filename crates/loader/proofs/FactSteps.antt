@@ -3,6 +3,7 @@ use Rattle.std.proofs.Common.{◌≡◌, ◌≤◌, ◌<◌, ◌^◌, ℕ, suc, 
 use Rattle.std.specs.Prelude.{Result, sum, if◌then◌else◌}
 use Rattle.std.specs.List.{enumerate_from}
 use Rattle.csv.specs.declared.reader.Reader.{Reader}
+use Rattle.meaning.specs.Limits.{max_rows}
 use Rattle.meaning.specs.declared.catalog.Catalog.{Catalog}
 use Rattle.meaning.specs.declared.catalog.Column.{Column}
 use Rattle.meaning.specs.declared.table.TableFault.{TableFault}
@@ -76,5 +77,5 @@ sum_short (n ∷ ns) m each =
 
 pub rows_few : (cut : Cut) → IsCut cut → sum cut < 2 ^ 64
 rows_few cut is =
-    let most = sum_short cut 1048576 is.short in
+    let most = sum_short cut max_rows is.short in
     omega (arith, most, is.few)

@@ -1,3 +1,4 @@
+-- The lemmas of this crate.
 pub mod CsvRecords
 pub mod DimensionSteps
 pub mod FactSteps
@@ -11,6 +12,7 @@ pub mod KeyedRows
 pub mod RowRuns
 pub mod Steps
 pub mod Tables
+pub mod TextFields
 pub mod Taking
 pub mod Values
 pub mod WholeTable

@@ -1,6 +1,7 @@
 -- The columns that rows are kept in.
-use Rattle.std.specs.Prelude.{ℕ, List, [], ◌∷◌, map, zip, take, drop, Result, Ok}
+use Rattle.std.specs.Prelude.{◌≡◌, ◌<◌, ℕ, Some, length, List, [], ◌∷◌, map, zip, take, drop, Option, find, Result, Ok}
 use Rattle.std.specs.List.{enumerate_from}
+use Rattle.std.specs.Str.{bytes_eq}
 use Rattle.meaning.specs.declared.catalog.Column.{Column}
 use Rattle.meaning.specs.declared.catalog.Catalog.{Catalog}
 use Rattle.meaning.specs.declared.catalog.Dimension.{Dimension}
@@ -31,6 +32,14 @@ fragments_of declared (n ∷ cut) rows = columns_of declared (take n rows) ∷ f
 -- the fact table's columns, fragment by fragment, or the first fault
 abbrev pub fact_fragments : Catalog → Cut → List Record → Result (List (List ColumnSpec)) TableFault
 fact_fragments catalog cut records = and_then (fact_of catalog cut records) (λ rows. Ok (fragments_of catalog.fact.columns cut rows))
+
+-- the first dimension of a name
+abbrev pub dimension_named : Catalog → List ℕ → Option Dimension
+dimension_named catalog name = find (λ d. bytes_eq d.table.name name) catalog.dims
+
+-- the catalogue has a dimension of a name, and its key is the place of one of its columns
+abbrev pub HasDimension : Catalog → List ℕ → Type 0
+HasDimension catalog name = (d : Dimension) × (dimension_named catalog name ≡ Some d) × (d.key < length d.table.columns)
 
 -- a dimension's columns, or the first fault
 abbrev pub dimension_columns : Dimension → List Record → Result (List ColumnSpec) TableFault

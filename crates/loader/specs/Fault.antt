@@ -10,13 +10,13 @@ number_of Memory = 0
 number_of (Table fault) = records.number_of fault
 number_of Device = 10
 
--- memory was wanting, or the reader failed
+-- out of memory, or the reader failed
 abbrev pub IsOutside : LoadFault → Type 0
 IsOutside Memory = ⊤
 IsOutside Device = ⊤
 IsOutside (Table fault) = ⊥
 
--- what a call gave, seen by `view`, is what is meant, unless memory was wanting or the reader failed
+-- what a call gave, seen by `view`, is what is meant, unless memory runs out or the reader failed
 abbrev pub LoadsView : {X Y : Type 0} → (X → Y) → Result X LoadFault → Result Y TableFault → Type 0
 LoadsView view (Ok x) meant = meant ≡ Ok (view x)
 LoadsView view (Err (Table fault)) meant = meant ≡ Err fault

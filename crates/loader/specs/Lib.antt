@@ -1,3 +1,4 @@
+-- The definitions of this crate.
 pub mod Columns
 pub mod Fault
 pub mod Keys

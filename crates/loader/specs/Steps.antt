@@ -23,6 +23,11 @@ use Rattle.loader.specs.declared.field.Parsed.TheVariants as parsed
 abbrev pub order_of : List Column → Record → Result (List ℕ) TableFault
 order_of columns header = if is_header columns header then Ok (file_order columns header) else Err fault.Header
 
+-- a place of one of `count` columns for each of as many fields
+pub record IsOrderOf (order : List ℕ) (count : ℕ) : Type 0 where
+  pub long : length order ≡ count
+  pub within : list_all (λ place. nat_lt place count) order ≡ true
+
 -- the field of each column, by the columns of the fields
 abbrev pub field_places : List ℕ → List ℕ
 field_places order = map (λ place. unwrap_or (position (λ p. p == place) order) 0) (range_with_len 0 (length order))
@@ -64,7 +69,7 @@ TakesRow judged before after (Err (Table fault)) = judged ≡ Err fault
 TakesRow judged before after (Err Memory) = ⊤
 TakesRow judged before after (Err Device) = ⊤
 
--- a record's first fault, where memory was not wanting and the reader did not fail
+-- a record's first fault, unless memory runs out or the reader fails
 abbrev pub IsFaultOf : Result Row TableFault → LoadFault → Type 0
 IsFaultOf judged (Table fault) = judged ≡ Err fault
 IsFaultOf judged Memory = ⊤

@@ -1,3 +1,4 @@
+//! Why a table is not loaded.
 ghost use Rattle.std.specs.Prelude.{◌≡◌};
 ghost use Rattle.loader.specs.Fault.{number_of};
 
@@ -18,7 +19,7 @@ pub enum LoadFault {
 }
 
 impl LoadFault {
-    /// The number by which the refusal is told.
+    /// The error code.
     pub fn number(&self) -> u8
         ensures { result ≡ number_of self.now }
     {

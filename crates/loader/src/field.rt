@@ -1,4 +1,4 @@
-// One field: what it stands for in its column.
+//! One field: what it stands for in its column.
 ghost use Rattle.std.specs.Prelude.{◌≡◌, true, false, MatchOption, IfSome, Some, slice_get};
 ghost use Rattle.std.specs.Str.{is_utf8};
 ghost use Rattle.meaning.specs.declared.value.ColType.TheVariants as of_type;
@@ -6,11 +6,9 @@ ghost use Rattle.meaning.specs.Records as declared;
 ghost use Rattle.loader.specs.Steps.{IsShortNumber, ReadsField};
 
 use meaning::catalog::Column;
+use meaning::limits::MAX_TEXT_BYTES;
 use meaning::table::TableFault;
 use meaning::value::ColType;
-
-/// The most bytes of a text.
-const MAX_TEXT_BYTES: usize = 65_535;
 
 /// The most digits that surely stay within 64 bits.
 const SURE_DIGITS: usize = 18;

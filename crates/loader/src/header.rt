@@ -1,4 +1,4 @@
-// The header of a CSV file: which field is which column's.
+//! The header of a CSV file: which field is which column's.
 ghost use Rattle.std.specs.Prelude.{◌≡◌, ◌==◌, map, count_by, position, unwrap_or, option_map, slice_get, IfOk};
 ghost use Rattle.std.specs.List.{list_all};
 ghost use Rattle.csv.specs.Records.{fields_of};

@@ -1,4 +1,4 @@
-// A record whose fields have the order of the catalogue: each is judged and goes into its column at once.
+//! A record whose fields have the order of the catalogue: each is judged and goes into its column at once.
 ghost use Rattle.std.specs.Prelude.{◌≡◌, length, true};
 ghost use Rattle.std.specs.List.{range_with_len};
 ghost use Rattle.std.specs.Str.{is_utf8};
@@ -44,8 +44,7 @@ pub fn take_fields(
 {
     for i in 0..columns.len() {
         let Some(text) = text_at(fields, i) else {
-            // There is a field for each column.
-            return Err(LoadFault::Memory);
+            unreachable!()
         };
         take_field(&declared[i], row, i as u64, text, &mut columns[i])?;
     }

@@ -1,4 +1,4 @@
-// The keys of a dimension, of which no two may be equal.
+//! The keys of a dimension, of which no two may be equal.
 ghost use Rattle.std.specs.Prelude.{◌≡◌, ◌++◌, [], ◌∷◌, List, not, true, false, IfOk};
 ghost use Rattle.meaning.specs.declared.value.Value.{Value as AValue};
 ghost use Rattle.meaning.specs.Order.{is_null};

@@ -15,6 +15,6 @@ mod source;
 mod table;
 
 pub use counting::count_rows;
-pub use dimension::{load_dim, load_dimension};
+pub use dimension::{has_dim, load_dim, load_dimension};
 pub use fact::load_fact;
 pub use fault::LoadFault;

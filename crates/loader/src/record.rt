@@ -1,4 +1,4 @@
-// One record: its fields, judged in the order of the file.
+//! One record: its fields, judged in the order of the file.
 ghost use Rattle.std.specs.Prelude.{◌≡◌, true, slice_get, map, zip, Result, Ok, Err};
 ghost use Rattle.std.specs.Str.{is_utf8};
 ghost use Rattle.csv.specs.Records.{AllText, fields_of};

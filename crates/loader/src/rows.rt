@@ -1,4 +1,4 @@
-// Rows behind the last rows of columns.
+//! Rows behind the last rows of columns.
 ghost use Rattle.std.specs.Prelude.{◌≡◌, length, slice_index_or, OnOk, IfErr};
 ghost use Rattle.csv.specs.Records.{fields_of};
 ghost use Rattle.meaning.specs.declared.value.Value.TheVariants.{Null};
@@ -14,7 +14,7 @@ use crate::header::{FileOrder, text_at};
 use columns::Column;
 use csv::StringRecord;
 
-/// A judged field fits its column, so this fails for want of memory.
+/// A judged field fits its column. Were it refused all the same, that would be told as out of memory.
 #[inline(always)]
 pub fn push_field(column: &mut Column, parsed: Parsed, text: &str) -> Result<(), LoadFault>
     ensures ok { OnOk result (column.new ≡ with_value column.old (value_of (parsed, text.now))) }

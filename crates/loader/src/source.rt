@@ -1,4 +1,4 @@
-// Records one after the other, from any reader.
+//! Records one after the other, from any reader.
 ghost use Rattle.std.specs.Prelude.{◌≡◌, ℕ, List, Some, IfOk, IfErr};
 ghost use Rattle.csv.specs.Records.{fields_of};
 ghost use Rattle.meaning.specs.Records.{Record};
@@ -21,7 +21,7 @@ pub fn csv_reader<R: Read>(alloc: Global, reader: R) -> Reader<R>
         .from_reader(alloc, reader)
 }
 
-/// Want of memory, or the fault of the reader underneath.
+/// Out of memory, or the fault of the reader underneath.
 fn fault_of(error: Error) -> LoadFault
     ensures { IsOutside result }
 {

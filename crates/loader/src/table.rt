@@ -1,7 +1,9 @@
-// Records judged one after the other and put into columns.
-ghost use Rattle.std.specs.Prelude.{◌≡◌, ◌-◌, get_or, ◌++◌, [], ◌∷◌, ◌+◌, ◌<◌, ◌^◌, List, length, map, sum, ℕ, Some, Ok, Err, IfOk, IfErr};
+//! Records judged one after the other and put into columns.
+ghost use Rattle.std.specs.Prelude.{◌≡◌, ◌-◌, get_or, ◌++◌, [], ◌∷◌, ◌+◌, ◌<◌, ◌^◌, List, length, map, sum, ℕ, Some, Ok, Err, IfOk, IfErr, OnOk, true};
 ghost use Rattle.csv.specs.Records.{AllText, fields_of};
+ghost use Rattle.std.specs.Str.{is_utf8};
 ghost use Rattle.meaning.specs.declared.value.Value.TheVariants.{Null};
+ghost use Rattle.meaning.specs.declared.value.Value.TheVariants as of_value;
 ghost use Rattle.meaning.specs.Order.{value_in};
 ghost use Rattle.meaning.specs.Records.{Record};
 ghost use Rattle.meaning.specs.Records as records;
@@ -9,7 +11,7 @@ ghost use Rattle.loader.specs.Columns.{columns_of, no_rows};
 ghost use Rattle.loader.specs.Fault.{IsOutside};
 ghost use Rattle.loader.specs.Keys.{HoldsKeys};
 ghost use Rattle.loader.specs.Source.{IsLeft, csv_records};
-ghost use Rattle.loader.specs.Steps.{Opens, IsFaultOf, TakesAll, TakesTable, is_more, keyed_rows, TakesFragment, TakesFragments, TakesNextRow, TakesRow, TakesRows};
+ghost use Rattle.loader.specs.Steps.{Opens, IsFaultOf, IsOrderOf, TakesAll, TakesTable, is_more, keyed_rows, TakesFragment, TakesFragments, TakesNextRow, TakesRow, TakesRows};
 
 use crate::fault::LoadFault;
 use crate::field::{Parsed, text_of};
@@ -62,15 +64,15 @@ pub fn new_columns(
 }
 
 fn owned(alloc: Global, value: ValueRef<'_>) -> Result<Value, AllocError>
+    requires { (text : List ℕ) → value_in value ≡ of_value.Text text → is_utf8 text ≡ true }
     ensures { IfOk result (λ v. v ≡ value_in value.entry) }
 {
     match value {
         ValueRef::Null => Ok(Value::Null),
         ValueRef::Int(number) => Ok(Value::Int(number)),
         ValueRef::Text(bytes) => {
-            // The texts of a column are UTF-8.
             let Some(text) = text_of(bytes) else {
-                return Err(AllocError);
+                unreachable!()
             };
             Ok(Value::Text(Text::new(alloc, text)?))
         }
@@ -111,6 +113,13 @@ pub fn load_record(
     push_row(columns, order, parsed, fields)
 }
 
+/// Whether a record is of ASCII alone.
+fn is_ascii(fields: &ByteRecord) -> bool
+    ensures { result ≡ true → AllText (fields_of fields.now) }
+{
+    fields.as_slice().is_ascii()
+}
+
 /// Refuses a record of which some field is no text, by its first fault. Most records are of ASCII
 /// alone, so that their fields need no look one by one.
 fn check_texts(
@@ -120,9 +129,11 @@ fn check_texts(
     fields: &ByteRecord,
     parsed: &mut Vec<Parsed>,
 ) -> Result<(), LoadFault>
-    ensures { IfErr result (IsFaultOf (records.row_of declared.now order.now.columns.items row (fields_of fields.now))) }
+    requires { IsOrderOf order.now.columns.items (length declared.now) }
+    ensures texts { OnOk result (AllText (fields_of fields.now)) }
+    ensures refused { IfErr result (IsFaultOf (records.row_of declared.now order.now.columns.items row (fields_of fields.now))) }
 {
-    if fields.as_slice().is_ascii() {
+    if is_ascii(fields) {
         return Ok(());
     }
     if fields.len() != declared.len() {
@@ -141,6 +152,7 @@ pub struct Rows<'c, R> {
     // Room that is used again from record to record.
     fields: ByteRecord,
     parsed: Vec<Parsed>,
+    ghost order_is: { IsOrderOf order.columns.items (length declared.now) },
 }
 
 /// The order of the columns that the first record names.
@@ -150,7 +162,7 @@ fn read_header<R: Read>(
     reader: &mut Reader<R>,
     fields: &mut ByteRecord,
 ) -> Result<FileOrder, LoadFault>
-    ensures declared { IfOk result (λ order. length declared.now ≡ length order.columns.items) }
+    ensures declared { IfOk result (λ order. IsOrderOf order.columns.items (length declared.now)) }
     ensures opened { (rest : List Record) → IsLeft R.remaining reader.old rest
         → Opens (λ order. order.columns.items) (λ _. reader.new) R.remaining declared.now rest result }
 {
@@ -208,8 +220,7 @@ impl<R: Read> Rows<'_, R> {
         )?;
         let fields = mem::replace(&mut self.fields, ByteRecord::new(self.alloc));
         let Ok(texts) = StringRecord::from_byte_record(fields) else {
-            // Each field is a text.
-            return Err(LoadFault::Memory);
+            unreachable!()
         };
         let (declared, order, parsed) = (self.declared, &self.order, &mut self.parsed);
         let taken = load_record(declared, order, row, &texts, parsed, columns);

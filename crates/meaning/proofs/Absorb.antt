@@ -36,7 +36,8 @@ module _ (answers : List Answer) (a : Answer) where
   at_own : cell_of (said_of a.k (answers ++ a ∷ [])) ≡ join_cells (cell_of (said_of a.k answers)) (One a.body)
   at_own =
       ap cell_of (said_of-append a.k answers (a ∷ [])) ∙ cell_of-append (said_of a.k answers) (said_of a.k (a ∷ []))
-      ∙ ap (λ b. join_cells (cell_of (said_of a.k answers)) (cell_of (map (λ x. x.body) (cond b (a ∷ []) [])))) (eq-eqb a.k a.k refl)
+      ∙ ap (λ b. join_cells (cell_of (said_of a.k answers)) (cell_of (map (λ x. x.body) (cond b (a ∷ []) []))))
+      (eq-eqb a.k a.k refl)
 
   append_nil : (xs : List Body) → xs ++ [] ≡ xs
   append_nil [] = refl
@@ -44,10 +45,17 @@ module _ (answers : List Answer) (a : Answer) where
 
   elsewhere : (k : ℕ) → k ≢ a.k → cell_of (said_of k (answers ++ a ∷ [])) ≡ cell_of (said_of k answers)
   elsewhere k other =
-      ap cell_of (said_of-append k answers (a ∷ []) ∙ ap (λ b. said_of k answers ++ map (λ (x : Answer). x.body) (cond b (a ∷ []) [])) (ne_eqb a.k k (λ e. other (sym e))) ∙ append_nil (said_of k answers))
+      ap cell_of (said_of-append k answers (a ∷ [])
+      ∙ ap (λ b. said_of k answers ++ map (λ (x : Answer). x.body) (cond b (a ∷ []) []))
+      (ne_eqb a.k k (λ e. other (sym e))) ∙ append_nil (said_of k answers))
 
   -- the state with one more answer
-  pub joined-push : (cut : Cut) → a.k < length cut → joined cut (answers ++ a ∷ []) ≡ slice_set (joined cut answers) a.k (join_cells (slice_index_or (joined cut answers) a.k Nothing) (One a.body))
+  pub joined-push : (cut : Cut) → a.k < length cut → joined cut (answers ++ a ∷ [])
+      ≡ slice_set (joined cut answers) a.k (join_cells (slice_index_or (joined cut answers) a.k Nothing) (One a.body))
   joined-push cut below =
-      changed_at (λ k. cell_of (said_of k answers)) (λ k. cell_of (said_of k (answers ++ a ∷ []))) a.k elsewhere 0 (length cut) a.k (omega arith)
-      ∙ ap (slice_set (joined cut answers) a.k) (at_own ∙ ap (λ c. join_cells c (One a.body)) (sym (get_or-map-range_with_len (λ k. cell_of (said_of k answers)) 0 (length cut) a.k a.k Nothing below (omega arith))))
+      changed_at (λ k. cell_of (said_of k answers)) (λ k. cell_of (said_of k (answers ++ a ∷ []))) a.k elsewhere 0
+      (length cut) a.k (omega arith)
+      ∙ ap (slice_set (joined cut answers) a.k)
+      (at_own ∙ ap (λ c. join_cells c (One a.body))
+      (sym (get_or-map-range_with_len (λ k. cell_of (said_of k answers)) 0 (length cut) a.k a.k Nothing below
+      (omega arith))))

@@ -15,7 +15,9 @@ use Rattle.meaning.proofs.Same.{body_exact, same_body_itself, same_body-comm}
 
 -- a test of equal answers, as an equation in its two cases
 by_same : {P : Type 0} (a b : Body) → (same_body a b ≡ true → a ≡ b → P) → (same_body a b ≡ false → P) → P
-by_same {P} a b yes_case no_case = elim (same_body a b) as (λ t. same_body a b ≡ t → P) [ true ↦ λ e. yes_case e ((body_exact a b).0 e) | false ↦ λ e. no_case e ] refl
+by_same {P} a b yes_case no_case =
+    elim (same_body a b) as (λ t. same_body a b
+    ≡ t → P) [ true ↦ λ e. yes_case e ((body_exact a b).0 e) | false ↦ λ e. no_case e ] refl
 
 abbrev unless : Bool → Body → Cell
 unless t a = cond t (One a) Conflict
@@ -52,7 +54,8 @@ three : (a b c : Body) → join_cells (unless (same_body a b) a) (One c) ≡ joi
 three a b c = by_same a b
     (λ ab q. ap (λ t. join_cells (unless t a) (One c)) ab
     ∙ by_same b c
-    (λ bc r. ap (λ t. unless t a) (ap (λ x. same_body x c) q ∙ bc) ∙ sym (ap (λ t. join_cells (One a) (unless t b)) bc ∙ ap (λ t. unless t a) ab))
+    (λ bc r. ap (λ t. unless t a) (ap (λ x. same_body x c) q ∙ bc)
+    ∙ sym (ap (λ t. join_cells (One a) (unless t b)) bc ∙ ap (λ t. unless t a) ab))
     (λ bc. ap (λ t. unless t a) (ap (λ x. same_body x c) q ∙ bc) ∙ sym (ap (λ t. join_cells (One a) (unless t b)) bc)))
     (λ ab. ap (λ t. join_cells (unless t a) (One c)) ab
     ∙ by_same b c
@@ -81,7 +84,8 @@ pub cell_of-cons : (b : Body) (bs : List Body) → cell_of (b ∷ bs) ≡ join_c
 cell_of-cons b [] = refl
 cell_of-cons b (c ∷ bs) = by_same b c
     (λ bc q. ap (λ t. unless (t && list_all (same_body b) bs) b) bc
-    ∙ elim (list_all (same_body c) bs) as (λ t. list_all (same_body c) bs ≡ t → unless (list_all (same_body b) bs) b ≡ join_cells (One b) (unless t c)) [
+    ∙ elim (list_all (same_body c) bs) as
+    (λ t. list_all (same_body c) bs ≡ t → unless (list_all (same_body b) bs) b ≡ join_cells (One b) (unless t c)) [
       | true ↦ λ all. ap (λ t. unless t b) (ap (λ x. list_all (same_body x) bs) q ∙ all) ∙ sym (ap (λ t. unless t b) bc)
       | false ↦ λ all. ap (λ t. unless t b) (ap (λ x. list_all (same_body x) bs) q ∙ all)
     ] refl)
@@ -95,21 +99,26 @@ cell_of-cons b (c ∷ bs) = by_same b c
 pub cell_of-append : (xs ys : List Body) → cell_of (xs ++ ys) ≡ join_cells (cell_of xs) (cell_of ys)
 cell_of-append [] ys = refl
 cell_of-append (x ∷ xs) ys =
-    cell_of-cons x (xs ++ ys) ∙ ap (join_cells (One x)) (cell_of-append xs ys) ∙ sym (join_cells-assoc (One x) (cell_of xs) (cell_of ys))
+    cell_of-cons x (xs ++ ys) ∙ ap (join_cells (One x)) (cell_of-append xs ys)
+    ∙ sym (join_cells-assoc (One x) (cell_of xs) (cell_of ys))
     ∙ ap (λ c. join_cells c (cell_of ys)) (sym (cell_of-cons x xs))
 
 -- an answer that was heard changes nothing
-pub known_answer : (x : Body) (ys : List Body) → list_any (same_body x) ys ≡ true → join_cells (One x) (cell_of ys) ≡ cell_of ys
+pub known_answer : (x : Body) (ys : List Body) → list_any (same_body x) ys ≡ true → join_cells (One x) (cell_of ys)
+    ≡ cell_of ys
 known_answer x [] e = cc
 known_answer x (y ∷ ys) e =
     ap (join_cells (One x)) (cell_of-cons y ys) ∙ sym (join_cells-assoc (One x) (One y) (cell_of ys))
     ∙ by_same x y
     (λ xy q. ap (λ c. join_cells c (cell_of ys)) (ap (λ t. unless t x) xy ∙ ap One q))
-    (λ xy. ap (λ c. join_cells c (cell_of ys)) (join_cells-comm (One x) (One y)) ∙ join_cells-assoc (One y) (One x) (cell_of ys)
+    (λ xy. ap (λ c. join_cells c (cell_of ys)) (join_cells-comm (One x) (One y))
+    ∙ join_cells-assoc (One y) (One x) (cell_of ys)
     ∙ ap (join_cells (One y)) (known_answer x ys (sym (ap (λ t. t || list_any (same_body x) ys) xy) ∙ e)))
     ∙ sym (cell_of-cons y ys)
 
-known_answers : (xs ys : List Body) → ((b : Body) → list_any (same_body b) xs ≡ true → list_any (same_body b) ys ≡ true) → join_cells (cell_of xs) (cell_of ys) ≡ cell_of ys
+known_answers : (xs ys : List Body)
+    → ((b : Body) → list_any (same_body b) xs ≡ true → list_any (same_body b) ys ≡ true)
+    → join_cells (cell_of xs) (cell_of ys) ≡ cell_of ys
 known_answers [] ys within = refl
 known_answers (x ∷ xs) ys within =
     ap (λ c. join_cells c (cell_of ys)) (cell_of-cons x xs) ∙ join_cells-assoc (One x) (cell_of xs) (cell_of ys)
@@ -121,9 +130,11 @@ known_answers (x ∷ xs) ys within =
     or_true false t e = e
 
 -- the same answers make the same cell, in any order and however often
-pub same_cell : (xs ys : List Body) → ((b : Body) → list_any (same_body b) xs ≡ list_any (same_body b) ys) → cell_of xs ≡ cell_of ys
+pub same_cell : (xs ys : List Body) → ((b : Body) → list_any (same_body b) xs ≡ list_any (same_body b) ys) → cell_of xs
+    ≡ cell_of ys
 same_cell xs ys same =
-    sym (known_answers ys xs (λ b h. same b ∙ h)) ∙ join_cells-comm (cell_of ys) (cell_of xs) ∙ known_answers xs ys (λ b h. sym (same b) ∙ h)
+    sym (known_answers ys xs (λ b h. same b ∙ h)) ∙ join_cells-comm (cell_of ys) (cell_of xs)
+    ∙ known_answers xs ys (λ b h. sym (same b) ∙ h)
 
 -- ---- states
 
@@ -136,12 +147,16 @@ same_state cut xs ys same = at (range_with_len 0 (length cut))
     at (k ∷ ks) = λ i. same_cell (said_of k xs) (said_of k ys) (same k) i ∷ at ks i
 
 pub said_of-append : (k : ℕ) (xs ys : List Answer) → said_of k (xs ++ ys) ≡ said_of k xs ++ said_of k ys
-said_of-append k xs ys = ap (map (λ a. a.body)) (filter-append (λ a. a.k == k) xs ys) ∙ map-append (λ a. a.body) (filter (λ a. a.k == k) xs) (filter (λ a. a.k == k) ys)
+said_of-append k xs ys = ap (map (λ a. a.body)) (filter-append (λ a. a.k == k) xs ys)
+    ∙ map-append (λ a. a.body) (filter (λ a. a.k == k) xs) (filter (λ a. a.k == k) ys)
 
 -- the state of two sets together is the join of their states, cell by cell
-pub joined-append : (cut : Cut) (xs ys : List Answer) → joined cut (xs ++ ys) ≡ map (λ p. join_cells p.0 p.1) (zip (joined cut xs) (joined cut ys))
+pub joined-append : (cut : Cut) (xs ys : List Answer) → joined cut (xs ++ ys)
+    ≡ map (λ p. join_cells p.0 p.1) (zip (joined cut xs) (joined cut ys))
 joined-append cut xs ys = at (range_with_len 0 (length cut))
   where
-    at : (ks : List ℕ) → map (λ k. cell_of (said_of k (xs ++ ys))) ks ≡ map (λ (p : Cell × Cell). join_cells p.0 p.1) (zip (map (λ k. cell_of (said_of k xs)) ks) (map (λ k. cell_of (said_of k ys)) ks))
+    at : (ks : List ℕ) → map (λ k. cell_of (said_of k (xs ++ ys))) ks
+        ≡ map (λ (p : Cell × Cell). join_cells p.0 p.1)
+        (zip (map (λ k. cell_of (said_of k xs)) ks) (map (λ k. cell_of (said_of k ys)) ks))
     at [] = refl
     at (k ∷ ks) = λ i. (ap cell_of (said_of-append k xs ys) ∙ cell_of-append (said_of k xs) (said_of k ys)) i ∷ at ks i

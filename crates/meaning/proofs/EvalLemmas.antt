@@ -19,8 +19,10 @@ one_of-truth x [] = refl
 one_of-truth x (a ∷ more) = or_of-False (compare_of Equal x a) (one_of x more)
 
 -- where no arm was taken, the rest decides
-pub no_arm : {E : Type 0} (r : Result (Option Outcome) E) (f : Option Outcome) (arms : List (Outcome × Outcome)) (b : Outcome) → r ≡ Ok f → f ≡ None
-    → IfOk r (λ found. (otherwise : Outcome) → unwrap_or found otherwise ≡ cases_of arms otherwise) → b ≡ cases_of arms b
+pub no_arm : {E : Type 0} (r : Result (Option Outcome) E) (f : Option Outcome) (arms : List (Outcome × Outcome))
+    (b : Outcome) → r ≡ Ok f → f ≡ None
+    → IfOk r (λ found. (otherwise : Outcome) → unwrap_or found otherwise ≡ cases_of arms otherwise) → b
+    ≡ cases_of arms b
 no_arm (Ok None) f arms b is none says = says b
 no_arm (Ok (Some o)) f arms b is none says = absurd cc
 no_arm (Err e) f arms b is none says = absurd cc

@@ -32,10 +32,12 @@ eval-Literal v r = search (rules, the_lemmas)
 pub eval-Minus : (a : Expr) (r : JoinedRow) → eval (node.Minus a) r ≡ minus_of (eval a r)
 eval-Minus a r = search (rules, the_lemmas)
 
-pub eval-Arithmetic : (op : ArithmeticOperator) (a b : Expr) (r : JoinedRow) → eval (node.Arithmetic op a b) r ≡ arith_of op (eval a r) (eval b r)
+pub eval-Arithmetic : (op : ArithmeticOperator) (a b : Expr) (r : JoinedRow) → eval (node.Arithmetic op a b) r
+    ≡ arith_of op (eval a r) (eval b r)
 eval-Arithmetic op a b r = search (rules, the_lemmas)
 
-pub eval-Compare : (op : ComparisonOperator) (a b : Expr) (r : JoinedRow) → eval (node.Compare op a b) r ≡ compare_of op (eval a r) (eval b r)
+pub eval-Compare : (op : ComparisonOperator) (a b : Expr) (r : JoinedRow) → eval (node.Compare op a b) r
+    ≡ compare_of op (eval a r) (eval b r)
 eval-Compare op a b r = search (rules, the_lemmas)
 
 pub eval-Not : (a : Expr) (r : JoinedRow) → eval (node.Not a) r ≡ not_of (eval a r)
@@ -50,13 +52,16 @@ eval-Or a b r = search (rules, the_lemmas)
 pub eval-IsNull : (n : Bool) (x : Expr) (r : JoinedRow) → eval (node.IsNull n x) r ≡ not_if n (is_null_of (eval x r))
 eval-IsNull n x r = search (rules, the_lemmas)
 
-pub eval-Between : (n : Bool) (x low high : Expr) (r : JoinedRow) → eval (node.Between n x low high) r ≡ not_if n (between_of (eval x r) (eval low r) (eval high r))
+pub eval-Between : (n : Bool) (x low high : Expr) (r : JoinedRow) → eval (node.Between n x low high) r
+    ≡ not_if n (between_of (eval x r) (eval low r) (eval high r))
 eval-Between n x low high r = search (rules, the_lemmas)
 
-pub eval-In : (n : Bool) (x : Expr) (list : List Expr) (r : JoinedRow) → eval (node.In n x list) r ≡ not_if n (one_of (eval x r) (outcomes list r))
+pub eval-In : (n : Bool) (x : Expr) (list : List Expr) (r : JoinedRow) → eval (node.In n x list) r
+    ≡ not_if n (one_of (eval x r) (outcomes list r))
 eval-In n x list r = search (rules, the_lemmas)
 
-pub eval-Like : (n : Bool) (x : Expr) (pattern : List ℕ) (r : JoinedRow) → eval (node.Like n x pattern) r ≡ not_if n (like_of pattern (eval x r))
+pub eval-Like : (n : Bool) (x : Expr) (pattern : List ℕ) (r : JoinedRow) → eval (node.Like n x pattern) r
+    ≡ not_if n (like_of pattern (eval x r))
 eval-Like n x pattern r = search (rules, the_lemmas)
 
 pub eval-Coalesce : (list : List Expr) (r : JoinedRow) → eval (node.Coalesce list) r ≡ first_of (outcomes list r)
@@ -65,8 +70,28 @@ eval-Coalesce list r = search (rules, the_lemmas)
 pub eval_arm-record : (a b : Expr) → eval_arm (record { when = a; then = b }) ≡ (eval a, eval b)
 eval_arm-record a b = search (rules, the_lemmas)
 
-pub eval-Case : (arms : List Arm) (otherwise : Expr) (r : JoinedRow) → eval (node.Case arms otherwise) r ≡ cases_of (arms_at r (map eval_arm arms)) (eval otherwise r)
+pub eval-Case : (arms : List Arm) (otherwise : Expr) (r : JoinedRow) → eval (node.Case arms otherwise) r
+    ≡ cases_of (arms_at r (map eval_arm arms)) (eval otherwise r)
 eval-Case arms otherwise r = search (rules, the_lemmas)
 
 -- all of them
-pub ruleset evaluation = (eval-Column, eval-Joined, eval-Key, eval-Aggregate, eval-Literal, eval-Minus, eval-Arithmetic, eval-Compare, eval-Not, eval-And, eval-Or, eval-IsNull, eval-Between, eval-In, eval-Like, eval-Coalesce, eval_arm-record, eval-Case)
+pub ruleset evaluation = (
+  eval-Column,
+  eval-Joined,
+  eval-Key,
+  eval-Aggregate,
+  eval-Literal,
+  eval-Minus,
+  eval-Arithmetic,
+  eval-Compare,
+  eval-Not,
+  eval-And,
+  eval-Or,
+  eval-IsNull,
+  eval-Between,
+  eval-In,
+  eval-Like,
+  eval-Coalesce,
+  eval_arm-record,
+  eval-Case,
+)

@@ -4,30 +4,34 @@ use Rattle.std.proofs.lemmas.List.{append-nil}
 use Rattle.std.specs.Option.{option_or}
 use Rattle.meaning.specs.declared.catalog.CatalogFault.{CatalogFault}
 use Rattle.meaning.specs.declared.catalog_line.Line.{Line}
-use Rattle.meaning.specs.CatalogTables.{line_fault, first_fault, AreFaultless, IsFirstFault}
-use Rattle.meaning.proofs.CatalogSteps.{first_fault-append, first_fault-next}
+use Rattle.meaning.specs.CatalogTables.{line_fault, first_line_fault, AreFaultless, IsFirstFault}
+use Rattle.meaning.proofs.CatalogSteps.{first_line_fault-append, first_line_fault-next}
 
 neither : {X : Type 0} (a b : Option X) → option_or a b ≡ None → (a ≡ None) × (b ≡ None)
 neither None b none = (refl, none)
 neither (Some x) b none = cc
 
-pub faultless-from_none : (lines : List Line) → first_fault [] lines ≡ None → AreFaultless lines
+pub faultless-from_none : (lines : List Line) → first_line_fault [] lines ≡ None → AreFaultless lines
 faultless-from_none lines none before line after whole =
-    let split = sym (first_fault-append [] before (line ∷ after)) ∙ ap (first_fault []) (sym whole) ∙ none in
-    let parts = neither (first_fault [] before) (first_fault before (line ∷ after)) split in
-    let here = neither (line_fault before line) (first_fault (before ++ line ∷ []) after) parts.1 in
+    let split = sym (first_line_fault-append [] before (line ∷ after)) ∙ ap (first_line_fault []) (sym whole) ∙ none in
+    let parts = neither (first_line_fault [] before) (first_line_fault before (line ∷ after)) split in
+    let here = neither (line_fault before line) (first_line_fault (before ++ line ∷ []) after) parts.1 in
     here.0
 
-none-behind : (front lines : List Line) → ((before : List Line) (line : Line) (after : List Line) → lines ≡ before ++ line ∷ after → line_fault (front ++ before) line ≡ None) → first_fault front lines ≡ None
+none-behind : (front lines : List Line)
+    → ((before : List Line) (line : Line) (after : List Line) → lines
+    ≡ before ++ line ∷ after → line_fault (front ++ before) line ≡ None) → first_line_fault front lines ≡ None
 none-behind front [] each = refl
 none-behind front (line ∷ lines) each =
-    let here : line_fault front line ≡ None = ap (λ ls. line_fault ls line) (sym (append-nil front)) ∙ each [] line lines refl in
-    let later : first_fault (front ++ line ∷ []) lines ≡ None =
+    let here : line_fault front line
+    ≡ None = ap (λ ls. line_fault ls line) (sym (append-nil front)) ∙ each [] line lines refl in
+    let later : first_line_fault (front ++ line ∷ []) lines ≡ None =
     none-behind (front ++ line ∷ []) lines (λ before next after whole.
-    ap (λ ls. line_fault ls next) (append_assoc front (line ∷ []) before) ∙ each (line ∷ before) next after (ap (λ ls. line ∷ ls) whole)) in
-    ap (λ f. option_or f (first_fault (front ++ line ∷ []) lines)) here ∙ later
+    ap (λ ls. line_fault ls next) (append_assoc front (line ∷ []) before)
+    ∙ each (line ∷ before) next after (ap (λ ls. line ∷ ls) whole)) in
+    ap (λ f. option_or f (first_line_fault (front ++ line ∷ []) lines)) here ∙ later
 
-pub none-from_faultless : (lines : List Line) → AreFaultless lines → first_fault [] lines ≡ None
+pub none-from_faultless : (lines : List Line) → AreFaultless lines → first_line_fault [] lines ≡ None
 none-from_faultless lines each = none-behind [] lines each
 
 -- where the first fault stands
@@ -37,12 +41,15 @@ record Stands (front lines : List Line) (fault : CatalogFault) : Type 0 where
   after : List Line
   whole : lines ≡ before ++ line ∷ after
   here : line_fault (front ++ before) line ≡ Some fault
-  earlier : first_fault front before ≡ None
+  earlier : first_line_fault front before ≡ None
 
-stands : (front lines : List Line) (fault : CatalogFault) → first_fault front lines ≡ Some fault → Stands front lines fault
+stands : (front lines : List Line) (fault : CatalogFault) → first_line_fault front lines
+    ≡ Some fault → Stands front lines fault
 stands front [] fault told = cc
 stands front (line ∷ lines) fault told =
-    elim (line_fault front line) as (λ o. line_fault front line ≡ o → option_or o (first_fault (front ++ line ∷ []) lines) ≡ Some fault → Stands front (line ∷ lines) fault) [
+    elim (line_fault front line) as
+    (λ o. line_fault front line ≡ o → option_or o (first_line_fault (front ++ line ∷ []) lines)
+    ≡ Some fault → Stands front (line ∷ lines) fault) [
       | Some f ↦ λ is same. record {
         before = [];
         line = line;
@@ -59,16 +66,27 @@ stands front (line ∷ lines) fault told =
             after = rest.after;
             whole = ap (λ ls. line ∷ ls) rest.whole;
             here = ap (λ ls. line_fault ls rest.line) (sym (append_assoc front (line ∷ []) rest.before)) ∙ rest.here;
-            earlier = ap (λ f. option_or f (first_fault (front ++ line ∷ []) rest.before)) is ∙ rest.earlier;
+            earlier = ap (λ f. option_or f (first_line_fault (front ++ line ∷ []) rest.before)) is ∙ rest.earlier;
           }
     ] refl told
 
-pub first-from_some : (lines : List Line) (fault : CatalogFault) → first_fault [] lines ≡ Some fault → IsFirstFault lines fault
+pub first-from_some : (lines : List Line) (fault : CatalogFault) → first_line_fault [] lines
+    ≡ Some fault → IsFirstFault lines fault
 first-from_some lines fault told =
     let s = stands [] lines fault told in
-    record { before = s.before; line = s.line; after = s.after; whole = s.whole; here = s.here; earlier = faultless-from_none s.before s.earlier }
+    record {
+      before = s.before;
+      line = s.line;
+      after = s.after;
+      whole = s.whole;
+      here = s.here;
+      earlier =
+          faultless-from_none s.before s.earlier;
+    }
 
-pub some-from_first : (lines : List Line) (fault : CatalogFault) → IsFirstFault lines fault → first_fault [] lines ≡ Some fault
+pub some-from_first : (lines : List Line) (fault : CatalogFault) → IsFirstFault lines fault → first_line_fault [] lines
+    ≡ Some fault
 some-from_first lines fault f =
-    ap (first_fault []) f.whole ∙ first_fault-next f.before f.line f.after (none-from_faultless f.before f.earlier)
-    ∙ ap (λ o. option_or o (first_fault (f.before ++ f.line ∷ []) f.after)) f.here
+    ap (first_line_fault []) f.whole
+    ∙ first_line_fault-next f.before f.line f.after (none-from_faultless f.before f.earlier)
+    ∙ ap (λ o. option_or o (first_line_fault (f.before ++ f.line ∷ []) f.after)) f.here

@@ -29,7 +29,8 @@ module _ (plan : Plan) (dims : List (List Row)) (cut : Cut) (rows : List Row) wh
 
   -- ---- a state of own answers alone
 
-  bodies_in : (ks : List ℕ) → filter_map body_in (map own_cell ks) ≡ map (own_body plan dims) (map (λ k. fragment cut k rows) ks)
+  bodies_in : (ks : List ℕ) → filter_map body_in (map own_cell ks)
+      ≡ map (own_body plan dims) (map (λ k. fragment cut k rows) ks)
   bodies_in [] = refl
   bodies_in (k ∷ ks) = ap (λ bs. own_at k ∷ bs) (bodies_in ks)
 
@@ -40,18 +41,26 @@ module _ (plan : Plan) (dims : List (List Row)) (cut : Cut) (rows : List Row) wh
   -- a preview of own answers is the query's meaning over their fragments
   pub preview-own : (ks : List ℕ) → preview plan (map own_cell ks) ≡ meaning plan (part cut ks rows) dims
   preview-own ks =
-      ap (λ bs. output_of plan (combined plan bs)) (bodies_in ks) ∙ output_of-combined plan dims (map (λ k. fragment cut k rows) ks) ∙ ap (λ table. meaning plan table dims) (fragments ks)
+      ap (λ bs. output_of plan (combined plan bs)) (bodies_in ks)
+      ∙ output_of-combined plan dims (map (λ k. fragment cut k rows) ks)
+      ∙ ap (λ table. meaning plan table dims) (fragments ks)
 
-  no_place : (test : Cell → Bool) → ((k : ℕ) → test (own_cell k) ≡ false) → (n : ℕ) (ks : List ℕ) → map (λ p. p.0) (filter (λ p. test p.1) (enumerate_from n (map own_cell ks))) ≡ []
+  no_place : (test : Cell → Bool) → ((k : ℕ) → test (own_cell k) ≡ false) → (n : ℕ) (ks : List ℕ)
+      → map (λ p. p.0) (filter (λ p. test p.1) (enumerate_from n (map own_cell ks))) ≡ []
   no_place test none n [] = refl
   no_place test none n (k ∷ ks) =
-      ap (λ b. map (λ (p : ℕ × Cell). p.0) (cond b ((n, own_cell k) ∷ filter (λ p. test p.1) (enumerate_from (n + 1) (map own_cell ks))) (filter (λ p. test p.1) (enumerate_from (n + 1) (map own_cell ks))))) (none k)
+      ap (λ b. map (λ (p : ℕ × Cell). p.0)
+      (cond b ((n, own_cell k) ∷ filter (λ p. test p.1) (enumerate_from (n + 1) (map own_cell ks)))
+      (filter (λ p. test p.1) (enumerate_from (n + 1) (map own_cell ks))))) (none k)
       ∙ no_place test none (n + 1) ks
 
   pub report-own : (ks : List ℕ) → report plan (map own_cell ks) ≡ output (meaning plan (part cut ks rows) dims)
   report-own ks =
-      ap (λ js. unless_empty conflict js (unless_empty missing (places is_nothing (map own_cell ks)) (output (preview plan (map own_cell ks))))) (no_place is_conflict (λ k. refl) 0 ks)
-      ∙ ap (λ js. unless_empty missing js (output (preview plan (map own_cell ks)))) (no_place is_nothing (λ k. refl) 0 ks)
+      ap (λ js. unless_empty conflict js
+      (unless_empty missing (places is_nothing (map own_cell ks)) (output (preview plan (map own_cell ks)))))
+      (no_place is_conflict (λ k. refl) 0 ks)
+      ∙ ap (λ js. unless_empty missing js (output (preview plan (map own_cell ks))))
+      (no_place is_nothing (λ k. refl) 0 ks)
       ∙ ap output (preview-own ks)
 
   -- ---- every own answer is in, and none conflicts
@@ -60,19 +69,25 @@ module _ (plan : Plan) (dims : List (List Row)) (cut : Cut) (rows : List Row) wh
   only_one : (b : Body) (c : Cell) → join_cells (One b) c ≡ c → is_conflict c ≡ false → c ≡ One b
   only_one b Nothing known calm = cc
   only_one b (One x) known calm =
-      elim (same_body b x) as (λ t. cond t (One b) Conflict ≡ One x → One x ≡ One b) [ true ↦ λ e. sym e | false ↦ λ e. cc ] known
+      elim (same_body b x) as (λ t. cond t (One b) Conflict ≡ One x → One x
+      ≡ One b) [ true ↦ λ e. sym e | false ↦ λ e. cc ] known
   only_one b Conflict known calm = cc
 
-  said : (answers : List Answer) (a : Answer) (i : ℕ) → i < length answers → slice_index_or answers i a ≡ a → list_any (same_body a.body) (said_of a.k answers) ≡ true
+  said : (answers : List Answer) (a : Answer) (i : ℕ) → i < length answers → slice_index_or answers i a
+      ≡ a → list_any (same_body a.body) (said_of a.k answers) ≡ true
   said [] a i below e = absurd (omega arith)
   said (x ∷ answers) a zero below e =
       let same_k : (x.k == a.k) ≡ true = eq-eqb x.k a.k (ap (λ y. y.k) e) in
-      let same_b : same_body a.body x.body ≡ true = ap (same_body a.body) (ap (λ y. y.body) e) ∙ same_body_itself a.body in
-      ap (λ t. list_any (same_body a.body) (map (λ y. y.body) (cond t (x ∷ filter (λ y. y.k == a.k) answers) (filter (λ y. y.k == a.k) answers)))) same_k
+      let same_b : same_body a.body x.body
+      ≡ true = ap (same_body a.body) (ap (λ y. y.body) e) ∙ same_body_itself a.body in
+      ap (λ t. list_any (same_body a.body)
+      (map (λ y. y.body) (cond t (x ∷ filter (λ y. y.k == a.k) answers) (filter (λ y. y.k == a.k) answers)))) same_k
       ∙ ap (λ t. t || list_any (same_body a.body) (said_of a.k answers)) same_b
   said (x ∷ answers) a (suc i) below e =
       let rest = said answers a i (omega arith) e in
-      elim (x.k == a.k) as (λ t. list_any (same_body a.body) (map (λ (y : Answer). y.body) (cond t (x ∷ filter (λ y. y.k == a.k) answers) (filter (λ y. y.k == a.k) answers))) ≡ true) [
+      elim (x.k == a.k) as (λ t. list_any (same_body a.body)
+      (map (λ (y : Answer). y.body) (cond t (x ∷ filter (λ y. y.k == a.k) answers)
+      (filter (λ y. y.k == a.k) answers))) ≡ true) [
         | true ↦ or_true (same_body a.body x.body) _ rest
         | false ↦ rest
       ]
@@ -81,7 +96,8 @@ module _ (plan : Plan) (dims : List (List Row)) (cut : Cut) (rows : List Row) wh
       or_true true t e = refl
       or_true false t e = e
 
-  module _ (answers : List Answer) (all_in : (k : ℕ) → k < length cut → Contains answers (own plan dims cut rows k)) where
+  module _ (answers : List Answer)
+      (all_in : (k : ℕ) → k < length cut → Contains answers (own plan dims cut rows k)) where
     abbrev cell_at : ℕ → Cell
     cell_at k = cell_of (said_of k answers)
 
@@ -89,25 +105,34 @@ module _ (plan : Plan) (dims : List (List Row)) (cut : Cut) (rows : List Row) wh
     first_calm true p ps e = cc
     first_calm false p ps e = (refl, e)
 
-    own_cells : (n a m : ℕ) → a + m ≤ length cut → map (λ p. p.0) (filter (λ p. is_conflict p.1) (enumerate_from n (map cell_at (range_with_len a m)))) ≡ [] → map cell_at (range_with_len a m) ≡ map own_cell (range_with_len a m)
+    own_cells : (n a m : ℕ) → a + m ≤ length cut
+        → map (λ p. p.0) (filter (λ p. is_conflict p.1) (enumerate_from n (map cell_at (range_with_len a m))))
+        ≡ [] → map cell_at (range_with_len a m) ≡ map own_cell (range_with_len a m)
     own_cells n a zero below calm = refl
     own_cells n a (suc m) below calm =
         let inside = all_in a (omega arith) in
         let more = filter (λ p. is_conflict p.1) (enumerate_from (n + 1) (map cell_at (range_with_len (a + 1) m))) in
-        let parts = first_calm (is_conflict (cell_at a)) n (map (λ p. p.0) more) (pushed (is_conflict (cell_at a)) (n, cell_at a) more ∙ calm) in
-        let here = only_one (own_at a) (cell_at a) (known_answer (own_at a) (said_of a answers) (said answers (own plan dims cut rows a) inside.0 inside.1 inside.2)) parts.0 in
+        let parts = first_calm (is_conflict (cell_at a)) n (map (λ p. p.0) more)
+        (pushed (is_conflict (cell_at a)) (n, cell_at a) more ∙ calm) in
+        let here = only_one (own_at a) (cell_at a)
+        (known_answer (own_at a) (said_of a answers)
+        (said answers (own plan dims cut rows a) inside.0 inside.1 inside.2)) parts.0 in
         λ i. here i ∷ own_cells (n + 1) (a + 1) m (omega arith) parts.1 i
       where
-        pushed : (b : Bool) (p : ℕ × Cell) (ps : List (ℕ × Cell)) → cond b (p.0 ∷ map (λ p. p.0) ps) (map (λ p. p.0) ps) ≡ map (λ p. p.0) (cond b (p ∷ ps) ps)
+        pushed : (b : Bool) (p : ℕ × Cell) (ps : List (ℕ × Cell))
+            → cond b (p.0 ∷ map (λ p. p.0) ps) (map (λ p. p.0) ps) ≡ map (λ p. p.0) (cond b (p ∷ ps) ps)
         pushed true p ps = refl
         pushed false p ps = refl
 
     -- the headline: what is reported is the query's meaning over the whole table
-    pub report-joined : sum cut ≡ length rows → places is_conflict (joined cut answers) ≡ [] → report plan (joined cut answers) ≡ output (meaning plan (numbered rows) dims)
+    pub report-joined : sum cut ≡ length rows → places is_conflict (joined cut answers)
+        ≡ [] → report plan (joined cut answers) ≡ output (meaning plan (numbered rows) dims)
     report-joined whole calm =
         ap (report plan) (own_cells 0 0 (length cut) (omega arith) calm) ∙ report-own (range_with_len 0 (length cut))
         ∙ ap (λ table. output (meaning plan table dims)) (part-all cut rows whole)
 
     -- and so is what is printed
-    pub text-joined : sum cut ≡ length rows → places is_conflict (joined cut answers) ≡ [] → report_text plan (report plan (joined cut answers)) ≡ output_text plan (meaning plan (numbered rows) dims)
+    pub text-joined : sum cut ≡ length rows → places is_conflict (joined cut answers)
+        ≡ [] → report_text plan (report plan (joined cut answers))
+        ≡ output_text plan (meaning plan (numbered rows) dims)
     text-joined whole calm = ap (report_text plan) (report-joined whole calm)

@@ -11,7 +11,8 @@ module _ {X : Type 0} where
   split_last : (xs : List X) (i : ℕ) (d : X) → i + 1 ≡ length xs → get_or xs i d ≡ d → xs ≡ take i xs ++ d ∷ []
   split_last xs i d whole last =
       let within : i < length xs = omega arith in
-      sym (take-length xs) ∙ ap (λ n. take n xs) (sym whole) ∙ take_more xs i d within ∙ ap (λ y. take i xs ++ y ∷ []) last
+      sym (take-length xs) ∙ ap (λ n. take n xs) (sym whole) ∙ take_more xs i d within
+      ∙ ap (λ y. take i xs ++ y ∷ []) last
 
   -- a write to the last place
   set_last : (xs : List X) (i : ℕ) (y : X) → i + 1 ≡ length xs → set xs i y ≡ take i xs ++ y ∷ []
@@ -20,22 +21,31 @@ module _ {X : Type 0} where
       let whole' : i + 1 ≡ length (set xs i y) = omega (arith, length-set xs i y) in
       sym (take-length (set xs i y)) ∙ ap (λ n. take n (set xs i y)) (sym whole') ∙ take_more_set xs i y within
 
-column_fault-front : (front : List Declared) (d : Declared) (line : ℕ) (column : Column) → column_fault (front ++ d ∷ []) line column ≡ column_fault (d ∷ []) line column
+column_fault-front : (front : List Declared) (d : Declared) (line : ℕ) (column : Column)
+    → column_fault (front ++ d ∷ []) line column ≡ column_fault (d ∷ []) line column
 column_fault-front [] d line column = refl
 column_fault-front (t ∷ []) d line column = refl
 column_fault-front (t ∷ u ∷ more) d line column = column_fault-front (u ∷ more) d line column
 
-with_column-front : (front : List Declared) (d : Declared) (column : Column) → with_column (front ++ d ∷ []) column ≡ front ++ with_column (d ∷ []) column
+with_column-front : (front : List Declared) (d : Declared) (column : Column) → with_column (front ++ d ∷ []) column
+    ≡ front ++ with_column (d ∷ []) column
 with_column-front [] d column = refl
 with_column-front (t ∷ []) d column = refl
 with_column-front (t ∷ u ∷ more) d column = ap (λ tables. t ∷ tables) (with_column-front (u ∷ more) d column)
 
 -- the fault of a column is said of the last table
-pub column_fault-last : (tables : List Declared) (i : ℕ) (d : Declared) (line : ℕ) (column : Column) → i + 1 ≡ length tables → get_or tables i d ≡ d → column_fault tables line column ≡ column_fault (d ∷ []) line column
+pub column_fault-last : (tables : List Declared) (i : ℕ) (d : Declared) (line : ℕ) (column : Column) → i + 1
+    ≡ length tables → get_or tables i d ≡ d → column_fault tables line column ≡ column_fault (d ∷ []) line column
 column_fault-last tables i d line column whole last =
-    ap (λ ts. column_fault ts line column) (split_last tables i d whole last) ∙ column_fault-front (take i tables) d line column
+    ap (λ ts. column_fault ts line column) (split_last tables i d whole last)
+    ∙ column_fault-front (take i tables) d line column
 
 -- one more column is a write to the last table
-pub with_column-last : (tables : List Declared) (i : ℕ) (d : Declared) (column : Column) → i + 1 ≡ length tables → get_or tables i d ≡ d → set tables i (record d { table = record d.table { columns = d.table.columns ++ column ∷ [] } }) ≡ with_column tables column
+pub with_column-last : (tables : List Declared) (i : ℕ) (d : Declared) (column : Column) → i + 1
+    ≡ length tables → get_or tables i d
+    ≡ d → set tables i (record d { table = record d.table { columns = d.table.columns ++ column ∷ [] } })
+    ≡ with_column tables column
 with_column-last tables i d column whole last =
-    set_last tables i _ whole ∙ sym (ap (λ ts. with_column ts column) (split_last tables i d whole last) ∙ with_column-front (take i tables) d column)
+    set_last tables i _ whole ∙ sym
+    (ap (λ ts. with_column ts column) (split_last tables i d whole last)
+    ∙ with_column-front (take i tables) d column)

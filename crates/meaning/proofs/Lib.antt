@@ -1,3 +1,4 @@
+-- The lemmas of this crate.
 pub mod Orders
 pub mod Least
 pub mod Merge
@@ -16,8 +17,25 @@ pub mod Absorb
 pub mod EvalLemmas
 pub mod LikeLemmas
 pub mod Evaluation
+pub mod ColumnsUsed
+pub mod Typed
+pub mod Filters
+pub mod LoadedRows
+pub mod LoadedTables
+pub mod LoadedQueries
+pub mod LikeBytes
+pub mod Unions
+pub mod FittingGroups
 mod WorkedExpressions
+mod WorkedLike
+mod WorkedTables
 mod Worked
+mod WorkedFaults
+mod WorkedGroups
+mod WorkedGathering
+mod WorkedRecords
+mod WorkedTypes
+mod WorkedFitting
 pub mod UniqueKeys
 pub mod Reports
 pub mod Fragments

@@ -59,7 +59,9 @@ fault_exact f g e =
     λ i. record { row = rows i; code = codes i }
 
 by_key_total : (k : OrderKey) → IsTotalOrder (by_key k)
-by_key_total k = on_total (λ row. column row k.item) (elim k.descending as (λ b. IsTotalOrder (cond b (flip_args value_cmp) value_cmp)) [ true ↦ down_total | false ↦ value_total ])
+by_key_total k = on_total (λ row. column row k.item)
+    (elim k.descending as (λ b. IsTotalOrder
+    (cond b (flip_args value_cmp) value_cmp)) [ true ↦ down_total | false ↦ value_total ])
 
 -- the order of the answer is total, and tells any two rows apart
 pub order_total : (keys : List OrderKey) → IsTotalOrder (order_cmp keys)

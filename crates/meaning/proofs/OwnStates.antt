@@ -1,19 +1,19 @@
 -- The state of just some fragments' own answers: its preview, and its report where they are all.
-use Rattle.std.specs.Prelude.{◌≡◌, ℕ, zero, suc, ◌+◌, ◌<◌, ◌≤◌, ◌==◌, Bool, true, false, cond, ◌||◌, List, [], ◌∷◌, ◌++◌, map, filter, filter_map, flat_map, length, sum}
-use Rattle.std.specs.List.{list_any, range_with_len}
-use Rattle.std.proofs.Common.{refl, ap, ◌∙◌, arith}
+use Rattle.std.specs.Prelude.{◌≡◌, ℕ, zero, suc, ◌+◌, ◌<◌, ◌≤◌, ◌==◌, Bool, true, false, cond, ◌||◌, List, [], ◌∷◌, ◌++◌, map, filter, filter_map, flat_map, length, sum, Some, slice_get}
+use Rattle.std.specs.List.{list_any, range_with_len, enumerate_from}
+use Rattle.std.proofs.Common.{refl, ap, ap₂, ◌∙◌, arith}
 use Rattle.std.proofs.lemmas.Bool.{eqb-true}
 use Rattle.std.proofs.lemmas.Bool.Decides.{nat_tests}
 use Rattle.meaning.specs.declared.plan.Plan.{Plan}
 use Rattle.meaning.specs.declared.answer.Body.{Body}
 use Rattle.meaning.specs.declared.answer.Answer.{Answer}
 use Rattle.meaning.specs.declared.answer.Cell.{Cell}
-use Rattle.meaning.specs.declared.answer.Cell.TheVariants.{Nothing, One}
+use Rattle.meaning.specs.declared.answer.Cell.TheVariants.{Nothing, One, Conflict}
 use Rattle.meaning.specs.Order.{Row}
 use Rattle.meaning.specs.Table.{Cut, numbered, fragment, part}
 use Rattle.meaning.specs.Meaning.{meaning}
 use Rattle.meaning.specs.Answer.{own, own_body, combined, output_of}
-use Rattle.meaning.specs.Gather.{join_cells, cell_of, said_of, joined, body_in, output, preview, report}
+use Rattle.meaning.specs.Gather.{join_cells, cell_of, said_of, joined, body_in, is_one, places, output, preview, report}
 use Rattle.meaning.specs.Laws.{among, own_answers}
 use Rattle.meaning.proofs.Cells.{join_cells_same, cell_of-cons}
 use Rattle.meaning.proofs.Combine.{output_of-combined}
@@ -31,7 +31,8 @@ module _ (plan : Plan) (dims : List (List Row)) (cut : Cut) (rows : List Row) wh
   abbrev answers : List ℕ → List Answer
   answers ks = own_answers plan dims cut rows ks
 
-  pushed : (b : Bool) (x : Answer) (xs : List Answer) → map (λ (a : Answer). a.body) (cond b (x ∷ xs) xs) ≡ cond b (x.body ∷ map (λ (a : Answer). a.body) xs) (map (λ (a : Answer). a.body) xs)
+  pushed : (b : Bool) (x : Answer) (xs : List Answer) → map (λ (a : Answer). a.body) (cond b (x ∷ xs) xs)
+      ≡ cond b (x.body ∷ map (λ (a : Answer). a.body) xs) (map (λ (a : Answer). a.body) xs)
   pushed true x xs = refl
   pushed false x xs = refl
 
@@ -44,10 +45,13 @@ module _ (plan : Plan) (dims : List (List Row)) (cut : Cut) (rows : List Row) wh
   cell_of-own k [] = refl
   cell_of-own k (j ∷ ks) =
       ap cell_of (pushed (j == k) (own plan dims cut rows j) (filter (λ (a : Answer). a.k == k) (answers ks)))
-      ∙ elim (j == k) as (λ b. j == k ≡ b → cell_of (cond b (own_at j ∷ said_of k (answers ks)) (said_of k (answers ks))) ≡ cond (b || list_any (λ j. j == k) ks) (One (own_at k)) Nothing) [
+      ∙ elim (j == k) as (λ b. j == k
+      ≡ b → cell_of (cond b (own_at j ∷ said_of k (answers ks)) (said_of k (answers ks)))
+      ≡ cond (b || list_any (λ j. j == k) ks) (One (own_at k)) Nothing) [
         | true ↦ λ e.
             let same : One (own_at j) ≡ One (own_at k) = ap (λ i. One (own_at i)) (eqb-true j k e) in
-            cell_of-cons (own_at j) (said_of k (answers ks)) ∙ (λ i. join_cells (same i) (cell_of-own k ks i)) ∙ own_again (list_any (λ j. j == k) ks) (own_at k)
+            cell_of-cons (own_at j) (said_of k (answers ks)) ∙ (λ i. join_cells (same i) (cell_of-own k ks i))
+            ∙ own_again (list_any (λ j. j == k) ks) (own_at k)
         | false ↦ λ e. cell_of-own k ks
       ] refl
 
@@ -57,11 +61,15 @@ module _ (plan : Plan) (dims : List (List Row)) (cut : Cut) (rows : List Row) wh
 
   -- ---- previews
 
-  bodies-own : (ks ns : List ℕ) → filter_map body_in (map (cell_at ks) ns) ≡ map (own_body plan dims) (map (λ k. fragment cut k rows) (filter (λ k. list_any (λ j. j == k) ks) ns))
+  bodies-own : (ks ns : List ℕ) → filter_map body_in (map (cell_at ks) ns)
+      ≡ map (own_body plan dims) (map (λ k. fragment cut k rows) (filter (λ k. list_any (λ j. j == k) ks) ns))
   bodies-own ks [] = refl
   bodies-own ks (n ∷ ns) =
       let rest = bodies-own ks ns in
-      elim (list_any (λ j. j == n) ks) as (λ b. filter_map body_in (cond b (One (own_at n)) Nothing ∷ map (cell_at ks) ns) ≡ map (own_body plan dims) (map (λ k. fragment cut k rows) (cond b (n ∷ filter (λ k. list_any (λ j. j == k) ks) ns) (filter (λ k. list_any (λ j. j == k) ks) ns)))) [
+      elim (list_any (λ j. j == n) ks) as
+      (λ b. filter_map body_in (cond b (One (own_at n)) Nothing ∷ map (cell_at ks) ns)
+      ≡ map (own_body plan dims) (map (λ k. fragment cut k rows)
+      (cond b (n ∷ filter (λ k. list_any (λ j. j == k) ks) ns) (filter (λ k. list_any (λ j. j == k) ks) ns)))) [
         | true ↦ ap (λ bs. own_at n ∷ bs) rest
         | false ↦ rest
       ]
@@ -71,7 +79,8 @@ module _ (plan : Plan) (dims : List (List Row)) (cut : Cut) (rows : List Row) wh
   fragments (k ∷ ks) = ap (λ rest. fragment cut k rows ++ rest) (fragments ks)
 
   -- the preview of some fragments' own answers is the meaning over their rows
-  pub preview-joined : (ks : List ℕ) → preview plan (joined cut (answers ks)) ≡ meaning plan (part cut (among cut ks) rows) dims
+  pub preview-joined : (ks : List ℕ) → preview plan (joined cut (answers ks))
+      ≡ meaning plan (part cut (among cut ks) rows) dims
   preview-joined ks =
       ap (preview plan) (joined-own ks (range_with_len 0 (length cut)))
       ∙ ap (λ bs. output_of plan (combined plan bs)) (bodies-own ks (range_with_len 0 (length cut)))
@@ -92,7 +101,8 @@ module _ (plan : Plan) (dims : List (List Row)) (cut : Cut) (rows : List Row) wh
       later : (a k : ℕ) → a ≤ k → (a == k) ≡ false → a + 1 ≤ k
       later a k low e = grind (arith, nat_tests)
 
-  all_own : (n a m : ℕ) → a + m ≤ n → map (cell_at (range_with_len 0 n)) (range_with_len a m) ≡ map (λ k. One (own_at k)) (range_with_len a m)
+  all_own : (n a m : ℕ) → a + m ≤ n → map (cell_at (range_with_len 0 n)) (range_with_len a m)
+      ≡ map (λ k. One (own_at k)) (range_with_len a m)
   all_own n a zero below = refl
   all_own n a (suc m) below =
       let here = ap (λ b. cond b (One (own_at a)) Nothing) (in_range a 0 n (omega arith) (omega arith)) in
@@ -100,7 +110,43 @@ module _ (plan : Plan) (dims : List (List Row)) (cut : Cut) (rows : List Row) wh
       λ i. here i ∷ rest i
 
   -- the report of every fragment's own answer is the meaning of the whole table
-  pub report-own_answers : sum cut ≡ length rows → report plan (joined cut (answers (range_with_len 0 (length cut)))) ≡ output (meaning plan (numbered rows) dims)
+  pub report-own_answers : sum cut ≡ length rows → report plan (joined cut (answers (range_with_len 0 (length cut))))
+      ≡ output (meaning plan (numbered rows) dims)
   report-own_answers whole =
-      ap (report plan) (joined-own (range_with_len 0 (length cut)) (range_with_len 0 (length cut)) ∙ all_own (length cut) 0 (length cut) (omega arith))
-      ∙ report-own plan dims cut rows (range_with_len 0 (length cut)) ∙ ap (λ table. output (meaning plan table dims)) (part-all cut rows whole)
+      ap (report plan) (joined-own (range_with_len 0 (length cut)) (range_with_len 0 (length cut))
+      ∙ all_own (length cut) 0 (length cut) (omega arith))
+      ∙ report-own plan dims cut rows (range_with_len 0 (length cut))
+      ∙ ap (λ table. output (meaning plan table dims)) (part-all cut rows whole)
+
+  -- ---- any state whose One cells hold own answers
+
+  abbrev ones_from : ℕ → List Cell → List ℕ
+  ones_from n cells = map (λ p. p.0) (filter (λ p. is_one p.1) (enumerate_from n cells))
+
+  -- from the fragment n on, what stands alone in a cell is its fragment's own
+  abbrev AreOwnFrom : ℕ → List Cell → Type 0
+  AreOwnFrom n cells = (k : ℕ) (b : Body) → slice_get cells k ≡ Some (One b) → b ≡ own_at (n + k)
+
+  own-later : (n : ℕ) (c : Cell) (cells : List Cell) → AreOwnFrom n (c ∷ cells) → AreOwnFrom (n + 1) cells
+  own-later n c cells own k b at = let moved : n + suc k ≡ (n + 1) + k = omega arith in
+      own (suc k) b at ∙ ap own_at moved
+
+  bodies_of-own : (n : ℕ) (cells : List Cell) → AreOwnFrom n cells → filter_map body_in cells
+      ≡ map (own_body plan dims) (map (λ k. fragment cut k rows) (ones_from n cells))
+  bodies_of-own n [] own = refl
+  bodies_of-own n (Nothing ∷ cells) own = bodies_of-own (n + 1) cells (own-later n Nothing cells own)
+  bodies_of-own n (Conflict ∷ cells) own = bodies_of-own (n + 1) cells (own-later n Conflict cells own)
+  bodies_of-own n (One b ∷ cells) own =
+      let first : n + 0 ≡ n = omega arith in
+      ap₂ (λ (c : Body) (cs : List Body). c ∷ cs) (own 0 b refl ∙ ap own_at first)
+      (bodies_of-own (n + 1) cells (own-later n (One b) cells own))
+
+  -- the preview of such a state is the meaning over the rows of the fragments that hold one answer
+  pub preview-cells : (cells : List Cell)
+      → ((k : ℕ) (b : Body) → slice_get cells k ≡ Some (One b) → b ≡ own_body plan dims (fragment cut k rows))
+      → preview plan cells ≡ meaning plan (part cut (places is_one cells) rows) dims
+  preview-cells cells own =
+      ap (λ bs. output_of plan (combined plan bs))
+      (bodies_of-own 0 cells (λ k b at. let first : k ≡ 0 + k = omega arith in own k b at ∙ ap own_at first))
+      ∙ output_of-combined plan dims (map (λ k. fragment cut k rows) (places is_one cells))
+      ∙ ap (λ table. meaning plan table dims) (fragments (places is_one cells))

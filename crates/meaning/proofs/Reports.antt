@@ -15,11 +15,13 @@ module _ (test : Cell → Bool) where
   abbrev places_from : ℕ → List Cell → List ℕ
   places_from n cells = map (λ p. p.0) (filter (λ p. test p.1) (enumerate_from n cells))
 
-  pushed : (b : Bool) (p : ℕ × Cell) (ps : List (ℕ × Cell)) → map (λ p. p.0) (cond b (p ∷ ps) ps) ≡ cond b (p.0 ∷ map (λ p. p.0) ps) (map (λ p. p.0) ps)
+  pushed : (b : Bool) (p : ℕ × Cell) (ps : List (ℕ × Cell)) → map (λ p. p.0) (cond b (p ∷ ps) ps)
+      ≡ cond b (p.0 ∷ map (λ p. p.0) ps) (map (λ p. p.0) ps)
   pushed true p ps = refl
   pushed false p ps = refl
 
-  places_from-cons : (n : ℕ) (c : Cell) (cs : List Cell) → places_from n (c ∷ cs) ≡ cond (test c) (n ∷ places_from (n + 1) cs) (places_from (n + 1) cs)
+  places_from-cons : (n : ℕ) (c : Cell) (cs : List Cell) → places_from n (c ∷ cs)
+      ≡ cond (test c) (n ∷ places_from (n + 1) cs) (places_from (n + 1) cs)
   places_from-cons n c cs = pushed (test c) (n, c) (filter (λ p. test p.1) (enumerate_from (n + 1) cs))
 
   both : (a b : Bool) → a ≡ true → b ≡ true → (a && b) ≡ true
@@ -33,7 +35,8 @@ module _ (test : Cell → Bool) where
   ascending_after [] m n below = refl
   ascending_after (c ∷ cs) m n below =
       ap (λ ks. is_ascending nat_cmp (m ∷ ks)) (places_from-cons n c cs)
-      ∙ elim (test c) as (λ b. is_ascending nat_cmp (m ∷ cond b (n ∷ places_from (n + 1) cs) (places_from (n + 1) cs)) ≡ true) [
+      ∙ elim (test c) as (λ b. is_ascending nat_cmp (m ∷ cond b (n ∷ places_from (n + 1) cs) (places_from (n + 1) cs))
+      ≡ true) [
         | true ↦ both _ _ (less m n below) (ascending_after cs n (n + 1) (omega arith))
         | false ↦ ascending_after cs m (n + 1) (omega arith)
       ]
@@ -42,7 +45,8 @@ module _ (test : Cell → Bool) where
   ascending [] n = refl
   ascending (c ∷ cs) n =
       ap (is_ascending nat_cmp) (places_from-cons n c cs)
-      ∙ elim (test c) as (λ b. is_ascending nat_cmp (cond b (n ∷ places_from (n + 1) cs) (places_from (n + 1) cs)) ≡ true) [
+      ∙ elim (test c) as (λ b. is_ascending nat_cmp (cond b (n ∷ places_from (n + 1) cs) (places_from (n + 1) cs))
+      ≡ true) [
         | true ↦ ascending_after cs n (n + 1) (omega arith)
         | false ↦ ascending cs (n + 1)
       ]
@@ -52,33 +56,51 @@ module _ (test : Cell → Bool) where
   before [] k n below = refl
   before (c ∷ cs) k n below =
       ap (list_any (λ j. j == k)) (places_from-cons n c cs)
-      ∙ elim (test c) as (λ b. list_any (λ j. j == k) (cond b (n ∷ places_from (n + 1) cs) (places_from (n + 1) cs)) ≡ false) [
-        | true ↦ ap (λ b. b || list_any (λ j. j == k) (places_from (n + 1) cs)) (ne_eqb n k (omega arith)) ∙ before cs k (n + 1) (omega arith)
+      ∙ elim (test c) as (λ b. list_any (λ j. j == k) (cond b (n ∷ places_from (n + 1) cs) (places_from (n + 1) cs))
+      ≡ false) [
+        | true ↦ ap (λ b. b || list_any (λ j. j == k) (places_from (n + 1) cs)) (ne_eqb n k (omega arith))
+            ∙ before cs k (n + 1) (omega arith)
         | false ↦ before cs k (n + 1) (omega arith)
       ]
 
-  pub named : (cells : List Cell) (n i k : ℕ) → k ≡ n + i → list_any (λ j. j == k) (places_from n cells) ≡ option_map_or test (slice_get cells i) false
+  pub named : (cells : List Cell) (n i k : ℕ) → k ≡ n + i → list_any (λ j. j == k) (places_from n cells)
+      ≡ option_map_or test (slice_get cells i) false
   named [] n i k e = refl
   named (c ∷ cs) n zero k e =
       ap (list_any (λ j. j == k)) (places_from-cons n c cs)
-      ∙ elim (test c) as (λ b. list_any (λ j. j == k) (cond b (n ∷ places_from (n + 1) cs) (places_from (n + 1) cs)) ≡ b) [
+      ∙ elim (test c) as (λ b. list_any (λ j. j == k) (cond b (n ∷ places_from (n + 1) cs) (places_from (n + 1) cs))
+      ≡ b) [
         | true ↦ ap (λ b. b || list_any (λ j. j == k) (places_from (n + 1) cs)) (eq-eqb n k (omega arith))
         | false ↦ before cs k (n + 1) (omega arith)
       ]
   named (c ∷ cs) n (suc i) k e =
       ap (list_any (λ j. j == k)) (places_from-cons n c cs)
-      ∙ elim (test c) as (λ b. list_any (λ j. j == k) (cond b (n ∷ places_from (n + 1) cs) (places_from (n + 1) cs)) ≡ option_map_or test (slice_get cs i) false) [
-        | true ↦ ap (λ b. b || list_any (λ j. j == k) (places_from (n + 1) cs)) (ne_eqb n k (omega arith)) ∙ named cs (n + 1) i k (omega arith)
+      ∙ elim (test c) as (λ b. list_any (λ j. j == k) (cond b (n ∷ places_from (n + 1) cs) (places_from (n + 1) cs))
+      ≡ option_map_or test (slice_get cs i) false) [
+        | true ↦ ap (λ b. b || list_any (λ j. j == k) (places_from (n + 1) cs)) (ne_eqb n k (omega arith))
+            ∙ named cs (n + 1) i k (omega arith)
         | false ↦ named cs (n + 1) i k (omega arith)
       ]
 
   -- where a cell passes there is a place, and else there is none
-  pub some_place : (cells : List Cell) (n : ℕ) → list_any test cells ≡ true → (j : ℕ) × (js : List ℕ) × (places_from n cells ≡ j ∷ js)
+  pub some_place : (cells : List Cell) (n : ℕ) → list_any test cells
+      ≡ true → (j : ℕ) × (js : List ℕ) × (places_from n cells ≡ j ∷ js)
   some_place [] n any = cc
   some_place (c ∷ cs) n any =
-      elim (test c) as (λ b. test c ≡ b → (b || list_any test cs) ≡ true → (j : ℕ) × (js : List ℕ) × (places_from n (c ∷ cs) ≡ j ∷ js)) [
-        | true ↦ λ here _. (n, places_from (n + 1) cs, places_from-cons n c cs ∙ ap (λ b. cond b (n ∷ places_from (n + 1) cs) (places_from (n + 1) cs)) here)
-        | false ↦ λ here rest. let found = some_place cs (n + 1) rest in (found.0, found.1, places_from-cons n c cs ∙ ap (λ b. cond b (n ∷ places_from (n + 1) cs) (places_from (n + 1) cs)) here ∙ found.2)
+      elim (test c) as (λ b. test c ≡ b → (b || list_any test cs)
+      ≡ true → (j : ℕ) × (js : List ℕ) × (places_from n (c ∷ cs) ≡ j ∷ js)) [
+        | true ↦ λ here _. (
+          n,
+          places_from (n + 1) cs,
+          places_from-cons n c cs
+              ∙ ap (λ b. cond b (n ∷ places_from (n + 1) cs) (places_from (n + 1) cs)) here,
+        )
+        | false ↦ λ here rest. let found = some_place cs (n + 1) rest in (
+          found.0,
+          found.1,
+          places_from-cons n c cs
+              ∙ ap (λ b. cond b (n ∷ places_from (n + 1) cs) (places_from (n + 1) cs)) here ∙ found.2,
+        )
       ] refl any
 
   pub no_place : (cells : List Cell) (n : ℕ) → list_any test cells ≡ false → places_from n cells ≡ []
@@ -86,21 +108,28 @@ module _ (test : Cell → Bool) where
   no_place (c ∷ cs) n none =
       elim (test c) as (λ b. test c ≡ b → (b || list_any test cs) ≡ false → places_from n (c ∷ cs) ≡ []) [
         | true ↦ λ here rest. cc
-        | false ↦ λ here rest. places_from-cons n c cs ∙ ap (λ b. cond b (n ∷ places_from (n + 1) cs) (places_from (n + 1) cs)) here ∙ no_place cs (n + 1) rest
+        | false ↦ λ here rest. places_from-cons n c cs
+            ∙ ap (λ b. cond b (n ∷ places_from (n + 1) cs) (places_from (n + 1) cs)) here ∙ no_place cs (n + 1) rest
       ] refl none
 
-unless_some : (name : List ℕ → Report) (ks : List ℕ) (next : Report) → ((j : ℕ) × (js : List ℕ) × (ks ≡ j ∷ js)) → unless_empty name ks next ≡ name ks
+unless_some : (name : List ℕ → Report) (ks : List ℕ) (next : Report) → ((j : ℕ) × (js : List ℕ) × (ks ≡ j ∷ js))
+    → unless_empty name ks next ≡ name ks
 unless_some name ks next found = ap (λ js. unless_empty name js next) found.2 ∙ ap name (sym found.2)
 
-pub conflicts_first : (plan : Plan) (cells : List Cell) → list_any is_conflict cells ≡ true → report plan cells ≡ conflict (places is_conflict cells)
+pub conflicts_first : (plan : Plan) (cells : List Cell) → list_any is_conflict cells ≡ true → report plan cells
+    ≡ conflict (places is_conflict cells)
 conflicts_first plan cells any = unless_some conflict (places is_conflict cells) _ (some_place is_conflict cells 0 any)
 
-pub missing_next : (plan : Plan) (cells : List Cell) → list_any is_conflict cells ≡ false → list_any is_nothing cells ≡ true → report plan cells ≡ missing (places is_nothing cells)
+pub missing_next : (plan : Plan) (cells : List Cell) → list_any is_conflict cells ≡ false → list_any is_nothing cells
+    ≡ true → report plan cells ≡ missing (places is_nothing cells)
 missing_next plan cells calm any =
-    ap (λ ks. unless_empty conflict ks (unless_empty missing (places is_nothing cells) (output (preview plan cells)))) (no_place is_conflict cells 0 calm)
+    ap (λ ks. unless_empty conflict ks (unless_empty missing (places is_nothing cells) (output (preview plan cells))))
+    (no_place is_conflict cells 0 calm)
     ∙ unless_some missing (places is_nothing cells) _ (some_place is_nothing cells 0 any)
 
-pub complete_last : (plan : Plan) (cells : List Cell) → list_any is_conflict cells ≡ false → list_any is_nothing cells ≡ false → report plan cells ≡ output (preview plan cells)
+pub complete_last : (plan : Plan) (cells : List Cell) → list_any is_conflict cells ≡ false → list_any is_nothing cells
+    ≡ false → report plan cells ≡ output (preview plan cells)
 complete_last plan cells calm whole =
-    ap (λ ks. unless_empty conflict ks (unless_empty missing (places is_nothing cells) (output (preview plan cells)))) (no_place is_conflict cells 0 calm)
+    ap (λ ks. unless_empty conflict ks (unless_empty missing (places is_nothing cells) (output (preview plan cells))))
+    (no_place is_conflict cells 0 calm)
     ∙ ap (λ ks. unless_empty missing ks (output (preview plan cells))) (no_place is_nothing cells 0 whole)

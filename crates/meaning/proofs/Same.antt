@@ -35,7 +35,8 @@ both_true true b p q = q
 both_true false b p q = p
 
 cmp_exact : {X : Type 0} {cmp : X → X → Ordering} → IsTotalOrder cmp → IsAntisymmetric cmp → IsExact (eq_by_cmp cmp)
-cmp_exact {cmp = cmp} o exact x y = (λ e. exact x y ((Equal-is (cmp x y)).0 e), λ e. subst (λ z. is_eq (cmp x z) ≡ true) e (ap is_eq (tied_itself o x)))
+cmp_exact {cmp = cmp} o exact x y =
+    (λ e. exact x y ((Equal-is (cmp x y)).0 e), λ e. subst (λ z. is_eq (cmp x z) ≡ true) e (ap is_eq (tied_itself o x)))
 
 option_exact : {X : Type 0} {same : X → X → Bool} → IsExact same → IsExact (option_eq same)
 option_exact exact None None = (λ e. refl, λ e. refl)
@@ -71,7 +72,8 @@ statistics_exact a b = (
   λ e.
       both_true _ _ ((nat_exact a.count b.count).1 (ap (λ s. s.count) e))
       (both_true _ _ ((int_exact a.sum b.sum).1 (ap (λ s. s.sum) e))
-      (both_true _ _ ((maybe_value_exact a.least b.least).1 (ap (λ s. s.least) e)) ((maybe_value_exact a.greatest b.greatest).1 (ap (λ s. s.greatest) e)))),
+      (both_true _ _ ((maybe_value_exact a.least b.least).1 (ap (λ s. s.least) e))
+      ((maybe_value_exact a.greatest b.greatest).1 (ap (λ s. s.greatest) e)))),
 )
 
 equal_groups : (a b : Group) → same_group a b ≡ true → a ≡ b
@@ -87,7 +89,8 @@ group_exact a b = (
   equal_groups a b,
   λ e.
       both_true _ _ ((pointwise_decides value_same a.key b.key).1 (ap (λ g. g.key) e))
-      (both_true _ _ ((nat_exact a.rows b.rows).1 (ap (λ g. g.rows) e)) ((pointwise_decides statistics_exact a.states b.states).1 (ap (λ g. g.states) e))),
+      (both_true _ _ ((nat_exact a.rows b.rows).1 (ap (λ g. g.rows) e))
+      ((pointwise_decides statistics_exact a.states b.states).1 (ap (λ g. g.states) e))),
 )
 
 equal_faults : (f g : RowFault) → ((f.row == g.row) && (f.code == g.code)) ≡ true → f ≡ g
@@ -97,21 +100,24 @@ equal_faults f g e =
     λ i. record { row = rows i; code = codes i }
 
 pub body_exact : IsExact same_body
-body_exact (Groups gs) (Groups hs) = (λ e. ap Groups ((pointwise_decides group_exact gs hs).0 e), λ e. (pointwise_decides group_exact gs hs).1 (cc))
+body_exact (Groups gs) (Groups hs) =
+    (λ e. ap Groups ((pointwise_decides group_exact gs hs).0 e), λ e. (pointwise_decides group_exact gs hs).1 (cc))
 body_exact (Groups gs) (Fault f) = (λ e. cc, λ e. cc)
 body_exact (Fault f) (Groups gs) = (λ e. cc, λ e. cc)
 body_exact (Fault f) (Fault g) = (
   λ e. ap Fault (equal_faults f g e),
   λ e.
       let same : f ≡ g = cc in
-      both_true _ _ ((nat_exact f.row g.row).1 (ap (λ h. h.row) same)) ((nat_exact f.code g.code).1 (ap (λ h. h.code) same)),
+      both_true _ _ ((nat_exact f.row g.row).1 (ap (λ h. h.row) same))
+      ((nat_exact f.code g.code).1 (ap (λ h. h.code) same)),
 )
 
 pub same_body_itself : (a : Body) → same_body a a ≡ true
 same_body_itself a = (body_exact a a).1 refl
 
 pub same_body-comm : (a b : Body) → same_body a b ≡ same_body b a
-same_body-comm a b = both_ways (same_body a b) (same_body b a) (λ e. (body_exact b a).1 (sym ((body_exact a b).0 e))) (λ e. (body_exact a b).1 (sym ((body_exact b a).0 e)))
+same_body-comm a b = both_ways (same_body a b) (same_body b a) (λ e. (body_exact b a).1 (sym ((body_exact a b).0 e)))
+    (λ e. (body_exact a b).1 (sym ((body_exact b a).0 e)))
   where
     both_ways : (s t : Bool) → (s ≡ true → t ≡ true) → (t ≡ true → s ≡ true) → s ≡ t
     both_ways true t f g = sym (f refl)

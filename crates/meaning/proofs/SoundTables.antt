@@ -15,8 +15,8 @@ use Rattle.meaning.specs.declared.catalog_line.Line.{Line}
 use Rattle.meaning.specs.declared.catalog_line.Line.TheVariants.{Passed, Unknown, Declares}
 use Rattle.meaning.specs.declared.catalog_tables.Declared.{Declared}
 use Rattle.meaning.specs.Catalog.{is_name}
-use Rattle.meaning.specs.CatalogLine.{name_of, type_of, fact_of, dimension_of, column_of, two_words, three_words, four_words, statement_of, words, is_comment, declared_by, line_of}
-use Rattle.meaning.specs.CatalogTables.{has_column, is_declared, table_fault, column_fault, fault_at, line_fault, first_fault, statements, tables_of, new_table, with_column, with_line}
+use Rattle.meaning.specs.CatalogLine.{name_of, type_of, fact_line, dimension_line, column_of, two_words, three_words, four_words, statement_of, words, is_comment, declared_by, line_of}
+use Rattle.meaning.specs.CatalogTables.{has_column, is_declared, table_fault, column_fault, fault_at, line_fault, first_line_fault, statements, tables_of, new_table, with_column, with_line}
 use Rattle.meaning.proofs.CatalogSteps.{tables_of-line}
 
 -- ---- names that differ
@@ -26,11 +26,13 @@ abbrev pub AreApart : List (List ℕ) → Type 0
 AreApart [] = Unit {0}
 AreApart (x ∷ xs) = AllByRecursion (λ y. x ≢ y) xs × AreApart xs
 
-All-push : {X : Type 0} (P : X → Type 0) (xs : List X) (y : X) → AllByRecursion P xs → P y → AllByRecursion P (xs ++ y ∷ [])
+All-push : {X : Type 0} (P : X → Type 0) (xs : List X) (y : X) → AllByRecursion P xs → P y
+    → AllByRecursion P (xs ++ y ∷ [])
 All-push P [] y all here = (here, tt)
 All-push P (x ∷ xs) y all here = (all.0, All-push P xs y all.1 here)
 
-AreApart-push : (xs : List (List ℕ)) (y : List ℕ) → AreApart xs → AllByRecursion (λ x. x ≢ y) xs → AreApart (xs ++ y ∷ [])
+AreApart-push : (xs : List (List ℕ)) (y : List ℕ) → AreApart xs → AllByRecursion (λ x. x ≢ y) xs
+    → AreApart (xs ++ y ∷ [])
 AreApart-push [] y apart new = (tt, tt)
 AreApart-push (x ∷ xs) y apart new = (All-push (λ z. x ≢ z) xs y apart.0 new.0, AreApart-push xs y apart.1 new.1)
 
@@ -38,7 +40,8 @@ different : (a b : List ℕ) → bytes_eq a b ≡ false → a ≢ b
 different a b unequal same = let equal = (bytes_eq-Decides a b).1 same in cc
 
 -- a name that no element has
-none_named : {X : Type 0} (f : X → List ℕ) (xs : List X) (name : List ℕ) → list_any (λ x. bytes_eq (f x) name) xs ≡ false → AllByRecursion (λ y. y ≢ name) (map f xs)
+none_named : {X : Type 0} (f : X → List ℕ) (xs : List X) (name : List ℕ) → list_any (λ x. bytes_eq (f x) name) xs
+    ≡ false → AllByRecursion (λ y. y ≢ name) (map f xs)
 none_named f [] name none = tt
 none_named f (x ∷ xs) name none =
     let parts = or_parts _ _ none in (different (f x) name parts.0, none_named f xs name parts.1)
@@ -63,25 +66,30 @@ IsSoundLine Passed = Unit {0}
 IsSoundLine Unknown = Unit {0}
 IsSoundLine (Declares s) = IsSoundStatement s
 
-fact_of-sound : (name : List ℕ) → IsSoundFound (fact_of name)
-fact_of-sound name =
+fact_line-sound : (name : List ℕ) → IsSoundFound (fact_line name)
+fact_line-sound name =
     elim (is_name name) as (λ b. is_name name ≡ b → IsSoundFound (option_map Fact (if b then Some name else None))) [
       | true ↦ λ named. named
       | false ↦ λ _. tt
     ] refl
 
-dimension_of-sound : (name key : List ℕ) → IsSoundFound (dimension_of name key)
-dimension_of-sound name key =
-    elim (is_name name) as (λ b. is_name name ≡ b → IsSoundFound (option_and_then (λ n. option_map (Dim n) (name_of key)) (if b then Some name else None))) [
-      | true ↦ λ named. elim (name_of key) as (λ o. IsSoundFound (option_map (Dim name) o)) [ None ↦ tt | Some k ↦ named ]
+dimension_line-sound : (name key : List ℕ) → IsSoundFound (dimension_line name key)
+dimension_line-sound name key =
+    elim (is_name name) as (λ b. is_name name
+    ≡ b → IsSoundFound (option_and_then (λ n. option_map (Dim n) (name_of key)) (if b then Some name else None))) [
+      | true ↦ λ named. elim (name_of key) as
+          (λ o. IsSoundFound (option_map (Dim name) o)) [ None ↦ tt | Some k ↦ named ]
       | false ↦ λ _. tt
     ] refl
 
 column_of-sound : (name type : List ℕ) (nullable : Bool) → IsSoundFound (column_of name type nullable)
 column_of-sound name type nullable =
     let column : List ℕ → ColType → Statement = λ n t. Col (record { name = n; col_type = t; nullable = nullable }) in
-    elim (is_name name) as (λ b. is_name name ≡ b → IsSoundFound (option_and_then (λ n. option_map (column n) (type_of type)) (if b then Some name else None))) [
-      | true ↦ λ named. elim (type_of type) as (λ o. IsSoundFound (option_map (column name) o)) [ None ↦ tt | Some t ↦ named ]
+    elim (is_name name) as (λ b. is_name name
+    ≡ b → IsSoundFound (option_and_then (λ n. option_map (column n) (type_of type))
+    (if b then Some name else None))) [
+      | true ↦ λ named. elim (type_of type) as
+          (λ o. IsSoundFound (option_map (column name) o)) [ None ↦ tt | Some t ↦ named ]
       | false ↦ λ _. tt
     ] refl
 
@@ -90,7 +98,7 @@ found_if true x y there here = there
 found_if false x y there here = here
 
 two_words-sound : (a b : List ℕ) → IsSoundFound (two_words a b)
-two_words-sound a b = found_if (bytes_eq a (codes "fact")) (fact_of b) None (fact_of-sound b) tt
+two_words-sound a b = found_if (bytes_eq a (codes "fact")) (fact_line b) None (fact_line-sound b) tt
 
 three_words-sound : (a b c : List ℕ) → IsSoundFound (three_words a b c)
 three_words-sound a b c = found_if (bytes_eq a (codes "col")) (column_of b c false) None (column_of-sound b c false) tt
@@ -99,7 +107,7 @@ four_words-sound : (a b c d : List ℕ) → IsSoundFound (four_words a b c d)
 four_words-sound a b c d =
     let is_dim = bytes_eq a (codes "dim") && bytes_eq c (codes "key") in
     let is_col = bytes_eq a (codes "col") && bytes_eq d (codes "null") in
-    found_if is_dim (dimension_of b d) (if is_col then column_of b c true else None) (dimension_of-sound b d)
+    found_if is_dim (dimension_line b d) (if is_col then column_of b c true else None) (dimension_line-sound b d)
     (found_if is_col (column_of b c true) None (column_of-sound b c true) tt)
 
 statement_of-sound : (ws : List (List ℕ)) → IsSoundFound (statement_of ws)
@@ -122,7 +130,8 @@ line_of-sound : (line : List ℕ) → IsSoundLine (line_of line)
 line_of-sound line =
     let said = declared_by (statement_of (words line)) in
     line_if (is_comment line) (if length (words line) == 0 then Passed else said)
-    (line_if (length (words line) == 0) said (declared_by-sound (statement_of (words line)) (statement_of-sound (words line))))
+    (line_if (length (words line) == 0) said
+    (declared_by-sound (statement_of (words line)) (statement_of-sound (words line))))
 
 pub lines-sound : (texts : List (List ℕ)) → AllByRecursion IsSoundLine (map line_of texts)
 lines-sound [] = tt
@@ -145,41 +154,54 @@ pub record AreSound (tables : List Declared) : Type 0 where
   pub apart : AreApart (map table_name tables)
   pub each : AllByRecursion IsSoundTable tables
 
-one_more_table : (tables : List Declared) (line : ℕ) (name : List ℕ) (key : Option (List ℕ)) → AreSound tables → is_name name ≡ true → table_fault tables line name ≡ None → AreSound (tables ++ new_table name key ∷ [])
+one_more_table : (tables : List Declared) (line : ℕ) (name : List ℕ) (key : Option (List ℕ)) → AreSound tables
+    → is_name name ≡ true → table_fault tables line name ≡ None → AreSound (tables ++ new_table name key ∷ [])
 one_more_table tables line name key sound named well =
     let new : is_declared tables name ≡ false =
-    elim (is_declared tables name) as (λ b. (if b then Some (NameTwice line) else None) ≡ None → b ≡ false) [ true ↦ λ h. cc | false ↦ λ h. refl ] well in
+    elim (is_declared tables name) as
+    (λ b. (if b then Some (NameTwice line) else None) ≡ None → b
+    ≡ false) [ true ↦ λ h. cc | false ↦ λ h. refl ] well in
     record {
       apart = subst AreApart (sym (map-push table_name tables (new_table name key)))
           (AreApart-push (map table_name tables) name sound.apart (none_named table_name tables name new));
-      each = All-push IsSoundTable tables (new_table name key) sound.each (record { name = named; columns = tt; apart = tt });
+      each = All-push IsSoundTable tables (new_table name key) sound.each
+          (record { name = named; columns = tt; apart = tt });
     }
 
-names-with_column : (tables : List Declared) (column : Column) → map table_name (with_column tables column) ≡ map table_name tables
+names-with_column : (tables : List Declared) (column : Column) → map table_name (with_column tables column)
+    ≡ map table_name tables
 names-with_column [] column = refl
 names-with_column (d ∷ []) column = refl
 names-with_column (d ∷ next ∷ more) column = ap (λ names. d.table.name ∷ names) (names-with_column (next ∷ more) column)
 
-one_more_column : (tables : List Declared) (line : ℕ) (column : Column) → AllByRecursion IsSoundTable tables → is_name column.name ≡ true → column_fault tables line column ≡ None → AllByRecursion IsSoundTable (with_column tables column)
+one_more_column : (tables : List Declared) (line : ℕ) (column : Column) → AllByRecursion IsSoundTable tables
+    → is_name column.name ≡ true → column_fault tables line column
+    ≡ None → AllByRecursion IsSoundTable (with_column tables column)
 one_more_column [] line column each named well = tt
 one_more_column (d ∷ []) line column each named well =
     let new : has_column d.table.columns column.name ≡ false =
-    elim (has_column d.table.columns column.name) as (λ b. (if b then Some (NameTwice line) else None) ≡ None → b ≡ false) [ true ↦ λ h. cc | false ↦ λ h. refl ] well in (
+    elim (has_column d.table.columns column.name) as
+    (λ b. (if b then Some (NameTwice line) else None) ≡ None → b
+    ≡ false) [ true ↦ λ h. cc | false ↦ λ h. refl ] well in (
       record {
         name = each.0.name;
         columns = All-push (λ c. is_name (column_name c) ≡ true) d.table.columns column each.0.columns named;
         apart = subst AreApart (sym (map-push column_name d.table.columns column))
-            (AreApart-push (map column_name d.table.columns) column.name each.0.apart (none_named column_name d.table.columns column.name new));
+            (AreApart-push (map column_name d.table.columns) column.name each.0.apart
+            (none_named column_name d.table.columns column.name new));
       },
       tt,
     )
-one_more_column (d ∷ next ∷ more) line column each named well = (each.0, one_more_column (next ∷ more) line column each.1 named well)
+one_more_column (d ∷ next ∷ more) line column each named well =
+    (each.0, one_more_column (next ∷ more) line column each.1 named well)
 
-one_more_line : (tables : List Declared) (n : ℕ) (line : Line) → AreSound tables → IsSoundLine line → fault_at tables n line ≡ None → AreSound (with_line tables line)
+one_more_line : (tables : List Declared) (n : ℕ) (line : Line) → AreSound tables → IsSoundLine line
+    → fault_at tables n line ≡ None → AreSound (with_line tables line)
 one_more_line tables n Passed sound named well = sound
 one_more_line tables n Unknown sound named well = cc
 one_more_line tables n (Declares (Fact name)) sound named well = one_more_table tables n name None sound named well
-one_more_line tables n (Declares (Dim name key)) sound named well = one_more_table tables n name (Some key) sound named well
+one_more_line tables n (Declares (Dim name key)) sound named well =
+    one_more_table tables n name (Some key) sound named well
 one_more_line tables n (Declares (Col column)) sound named well = record {
   apart = subst AreApart (sym (names-with_column tables column)) sound.apart;
   each = one_more_column tables n column sound.each named well;
@@ -189,16 +211,19 @@ neither : {X : Type 0} (a b : Option X) → option_or a b ≡ None → (a ≡ No
 neither None b none = (refl, none)
 neither (Some x) b none = cc
 
-more_lines : (before lines : List Line) → AllByRecursion IsSoundLine lines → AreSound (tables_of (statements before)) → first_fault before lines ≡ None → AreSound (tables_of (statements (before ++ lines)))
+more_lines : (before lines : List Line) → AllByRecursion IsSoundLine lines → AreSound (tables_of (statements before))
+    → first_line_fault before lines ≡ None → AreSound (tables_of (statements (before ++ lines)))
 more_lines before [] named sound none =
     let P : List Line → Type 0 = λ ls. AreSound (tables_of (statements ls)) in subst P (sym (append-nil before)) sound
 more_lines before (line ∷ lines) named sound none =
-    let parts = neither (line_fault before line) (first_fault (before ++ line ∷ []) lines) none in
+    let parts = neither (line_fault before line) (first_line_fault (before ++ line ∷ []) lines) none in
     let P : List Line → Type 0 = λ ls. AreSound (tables_of (statements ls)) in
     let next : AreSound (tables_of (statements (before ++ line ∷ []))) =
-    subst AreSound (sym (tables_of-line before line)) (one_more_line _ (length before + 1) line sound named.0 parts.0) in
+    subst AreSound (sym (tables_of-line before line))
+    (one_more_line _ (length before + 1) line sound named.0 parts.0) in
     subst P (append_assoc before (line ∷ []) lines) (more_lines (before ++ line ∷ []) lines named.1 next parts.1)
 
 -- lines with no fault
-pub tables_of-sound : (lines : List Line) → AllByRecursion IsSoundLine lines → first_fault [] lines ≡ None → AreSound (tables_of (statements lines))
+pub tables_of-sound : (lines : List Line) → AllByRecursion IsSoundLine lines → first_line_fault [] lines
+    ≡ None → AreSound (tables_of (statements lines))
 tables_of-sound lines named none = more_lines [] lines named (record { apart = tt; each = tt }) none

@@ -31,11 +31,13 @@ module _ {X : Type 0} where
   pub all_rest : (p : X → Bool) (x : X) (xs : List X) → list_all p (x ∷ xs) ≡ true → list_all p xs ≡ true
   all_rest p x xs e = second_of (p x) (list_all p xs) e
 
-  pub all_append : (p : X → Bool) (xs ys : List X) → list_all p xs ≡ true → list_all p ys ≡ true → list_all p (xs ++ ys) ≡ true
+  pub all_append : (p : X → Bool) (xs ys : List X) → list_all p xs ≡ true → list_all p ys
+      ≡ true → list_all p (xs ++ ys) ≡ true
   all_append p xs ys a b = list_all-append p xs ys ∙ both _ _ a b
 
   -- what follows from a test
-  pub all_imply : (p q : X → Bool) → ((x : X) → p x ≡ true → q x ≡ true) → (xs : List X) → list_all p xs ≡ true → list_all q xs ≡ true
+  pub all_imply : (p q : X → Bool) → ((x : X) → p x ≡ true → q x ≡ true) → (xs : List X) → list_all p xs
+      ≡ true → list_all q xs ≡ true
   all_imply p q f [] e = refl
   all_imply p q f (x ∷ xs) e = both _ _ (f x (all_first p x xs e)) (all_imply p q f xs (all_rest p x xs e))
 
@@ -53,7 +55,8 @@ module _ {X : Type 0} where
       ]
 
   -- a set has its list's elements alone
-  all_placed : (cmp : X → X → Ordering) (p : X → Bool) (x : X) (ys : List X) → p x ≡ true → list_all p ys ≡ true → list_all p (placed_once cmp x ys) ≡ true
+  all_placed : (cmp : X → X → Ordering) (p : X → Bool) (x : X) (ys : List X) → p x ≡ true → list_all p ys
+      ≡ true → list_all p (placed_once cmp x ys) ≡ true
   all_placed cmp p x [] a e = both _ _ a refl
   all_placed cmp p x (y ∷ ys) a e =
       elim (cmp x y) as (λ r. list_all p (match_ordering r (x ∷ y ∷ ys) (y ∷ ys) (y ∷ placed_once cmp x ys)) ≡ true) [
@@ -62,26 +65,34 @@ module _ {X : Type 0} where
         | Greater ↦ both _ _ (all_first p y ys e) (all_placed cmp p x ys a (all_rest p y ys e))
       ]
 
-  pub all_set : (cmp : X → X → Ordering) (p : X → Bool) (xs : List X) → list_all p xs ≡ true → list_all p (ascending_set cmp xs) ≡ true
+  pub all_set : (cmp : X → X → Ordering) (p : X → Bool) (xs : List X) → list_all p xs
+      ≡ true → list_all p (ascending_set cmp xs) ≡ true
   all_set cmp p [] e = refl
-  all_set cmp p (x ∷ xs) e = all_placed cmp p x (ascending_set cmp xs) (all_first p x xs e) (all_set cmp p xs (all_rest p x xs e))
+  all_set cmp p (x ∷ xs) e = all_placed cmp p x (ascending_set cmp xs) (all_first p x xs e)
+      (all_set cmp p xs (all_rest p x xs e))
 
 module _ {X Y : Type 0} where
-  pub all_map : (p : Y → Bool) (f : X → Y) (xs : List X) → list_all (λ x. p (f x)) xs ≡ true → list_all p (map f xs) ≡ true
+  pub all_map : (p : Y → Bool) (f : X → Y) (xs : List X) → list_all (λ x. p (f x)) xs ≡ true → list_all p (map f xs)
+      ≡ true
   all_map p f [] e = refl
   all_map p f (x ∷ xs) e = both _ _ (all_first (λ x. p (f x)) x xs e) (all_map p f xs (all_rest (λ x. p (f x)) x xs e))
 
-  pub all_flat_map : (p : Y → Bool) (f : X → List Y) (xs : List X) → list_all (λ x. list_all p (f x)) xs ≡ true → list_all p (flat_map f xs) ≡ true
+  pub all_flat_map : (p : Y → Bool) (f : X → List Y) (xs : List X) → list_all (λ x. list_all p (f x)) xs
+      ≡ true → list_all p (flat_map f xs) ≡ true
   all_flat_map p f [] e = refl
-  all_flat_map p f (x ∷ xs) e = all_append p (f x) (flat_map f xs) (all_first (λ x. list_all p (f x)) x xs e) (all_flat_map p f xs (all_rest (λ x. list_all p (f x)) x xs e))
+  all_flat_map p f (x ∷ xs) e = all_append p (f x) (flat_map f xs) (all_first (λ x. list_all p (f x)) x xs e)
+      (all_flat_map p f xs (all_rest (λ x. list_all p (f x)) x xs e))
 
   -- the tests of each pair, the other way round
-  heads : (t : X → Y → Bool) (y : Y) (ys : List Y) (xs : List X) → list_all (λ x. list_all (t x) (y ∷ ys)) xs ≡ true → list_all (λ x. t x y) xs ≡ true
+  heads : (t : X → Y → Bool) (y : Y) (ys : List Y) (xs : List X) → list_all (λ x. list_all (t x) (y ∷ ys)) xs
+      ≡ true → list_all (λ x. t x y) xs ≡ true
   heads t y ys xs e = all_imply (λ x. list_all (t x) (y ∷ ys)) (λ x. t x y) (λ x. all_first (t x) y ys) xs e
 
-  tails : (t : X → Y → Bool) (y : Y) (ys : List Y) (xs : List X) → list_all (λ x. list_all (t x) (y ∷ ys)) xs ≡ true → list_all (λ x. list_all (t x) ys) xs ≡ true
+  tails : (t : X → Y → Bool) (y : Y) (ys : List Y) (xs : List X) → list_all (λ x. list_all (t x) (y ∷ ys)) xs
+      ≡ true → list_all (λ x. list_all (t x) ys) xs ≡ true
   tails t y ys xs e = all_imply (λ x. list_all (t x) (y ∷ ys)) (λ x. list_all (t x) ys) (λ x. all_rest (t x) y ys) xs e
 
-  pub all_turned : (t : X → Y → Bool) (xs : List X) (ys : List Y) → list_all (λ x. list_all (t x) ys) xs ≡ true → list_all (λ y. list_all (λ x. t x y) xs) ys ≡ true
+  pub all_turned : (t : X → Y → Bool) (xs : List X) (ys : List Y) → list_all (λ x. list_all (t x) ys) xs
+      ≡ true → list_all (λ y. list_all (λ x. t x y) xs) ys ≡ true
   all_turned t xs [] e = refl
   all_turned t xs (y ∷ ys) e = both _ _ (heads t y ys xs e) (all_turned t xs ys (tails t y ys xs e))

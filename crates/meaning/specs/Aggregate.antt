@@ -38,7 +38,8 @@ aggregate Count xs = Ok (Int (pos (length (present xs))))
 aggregate Sum xs = unless_none (length (present xs)) (sum_value (total (present xs)))
 aggregate Min xs = Ok (unwrap_or (least value_cmp (present xs)) Null)
 aggregate Max xs = Ok (unwrap_or (least down_cmp (present xs)) Null)
-aggregate Avg xs = unless_none (length (present xs)) (Ok (Int (int_div (total (present xs)) (pos (length (present xs))))))
+aggregate Avg xs = unless_none (length (present xs))
+    (Ok (Int (int_div (total (present xs)) (pos (length (present xs))))))
 
 -- the statistics of no entry
 abbrev pub no_statistics : Statistics

@@ -1,6 +1,7 @@
 -- Declared tables within the limits.
 use Rattle.std.specs.Prelude.{◌≡◌, ◌≢◌, ℕ, ◌≤◌, ◌<◌, nat_le, ◌==◌, Bool, false, ◌&&◌, ◌||◌, not, IsTrue, List, [], ◌∷◌, length, map, All, AllPairs, HoldsAt}
 use Rattle.std.specs.List.{list_all}
+use Rattle.meaning.specs.Limits.{max_name_bytes, max_columns, max_dimensions}
 use Rattle.meaning.specs.declared.catalog.Table.{Table}
 use Rattle.meaning.specs.declared.catalog.Dimension.{Dimension}
 use Rattle.meaning.specs.declared.catalog.Catalog.{Catalog}
@@ -21,7 +22,7 @@ abbrev pub has_name_form : List ℕ → Bool
 has_name_form [] = false
 has_name_form (b ∷ bs) = begins_name b && list_all continues_name bs
 
--- the number by which a refusal is told
+-- the error code of a refusal
 abbrev pub catalog_fault_number : CatalogFault → ℕ
 catalog_fault_number Memory = 0
 catalog_fault_number NotUtf8 = 1
@@ -38,13 +39,13 @@ is_name word = has_name_form word && not (is_reserved word)
 -- a name of 1 to 64 bytes that isn't reserved
 pub record IsName (name : List ℕ) : Type 0 where
   pub word : IsTrue (is_name name)
-  pub short : length name ≤ 64
+  pub short : length name ≤ max_name_bytes
 
 -- 1 to 64 columns with names that differ
 pub record IsWellFormedTable (table : Table) : Type 0 where
   pub name : IsName table.name
   pub some : 1 ≤ length table.columns
-  pub few : length table.columns ≤ 64
+  pub few : length table.columns ≤ max_columns
   pub columns : All (λ column. IsName column.name) table.columns
   pub distinct : AllPairs (λ a b. a ≢ b) (map (λ column. column.name) table.columns)
 
@@ -58,5 +59,5 @@ pub record IsWellFormed (catalog : Catalog) : Type 0 where
   pub fact : IsWellFormedTable catalog.fact
   pub dims : All (λ dimension. IsWellFormedTable dimension.table) catalog.dims
   pub keys : All HasKey catalog.dims
-  pub few : length catalog.dims ≤ 16
+  pub few : length catalog.dims ≤ max_dimensions
   pub distinct : AllPairs (λ a b. a ≢ b) (catalog.fact.name ∷ map (λ dimension. dimension.table.name) catalog.dims)

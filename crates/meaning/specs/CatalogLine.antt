@@ -29,21 +29,22 @@ abbrev pub name_of : List ℕ → Option (List ℕ)
 name_of word = if is_name word then Some word else None
 
 -- `fact N`
-abbrev pub fact_of : List ℕ → Option Statement
-fact_of name = option_map Fact (name_of name)
+abbrev pub fact_line : List ℕ → Option Statement
+fact_line name = option_map Fact (name_of name)
 
 -- `dim N key C`
-abbrev pub dimension_of : List ℕ → List ℕ → Option Statement
-dimension_of name key = option_and_then (λ n. option_map (Dim n) (name_of key)) (name_of name)
+abbrev pub dimension_line : List ℕ → List ℕ → Option Statement
+dimension_line name key = option_and_then (λ n. option_map (Dim n) (name_of key)) (name_of name)
 
 -- `col N T`, and the same with `null` behind it
 abbrev pub column_of : List ℕ → List ℕ → Bool → Option Statement
 column_of name type nullable =
-    option_and_then (λ n. option_map (λ t. Col (record { name = n; col_type = t; nullable = nullable })) (type_of type)) (name_of name)
+    option_and_then (λ n. option_map (λ t. Col (record { name = n; col_type = t; nullable = nullable }))
+    (type_of type)) (name_of name)
 
 -- what two words declare
 abbrev pub two_words : List ℕ → List ℕ → Option Statement
-two_words keyword name = if bytes_eq keyword (codes "fact") then fact_of name else None
+two_words keyword name = if bytes_eq keyword (codes "fact") then fact_line name else None
 
 -- what three words declare
 abbrev pub three_words : List ℕ → List ℕ → List ℕ → Option Statement
@@ -52,7 +53,7 @@ three_words keyword name type = if bytes_eq keyword (codes "col") then column_of
 -- what four words declare
 abbrev pub four_words : List ℕ → List ℕ → List ℕ → List ℕ → Option Statement
 four_words keyword name third fourth =
-    if bytes_eq keyword (codes "dim") && bytes_eq third (codes "key") then dimension_of name fourth
+    if bytes_eq keyword (codes "dim") && bytes_eq third (codes "key") then dimension_line name fourth
     else if bytes_eq keyword (codes "col") && bytes_eq fourth (codes "null") then column_of name third true
     else None
 

@@ -73,14 +73,15 @@ abbrev pub line_fault : List Line → Line → Option CatalogFault
 line_fault before line = fault_at (tables_of (statements before)) (length before + 1) line
 
 -- the fault of the least line that has one, behind the lines before
-abbrev pub first_fault : List Line → List Line → Option CatalogFault
-first_fault before [] = None
-first_fault before (line ∷ more) = option_or (line_fault before line) (first_fault (before ++ line ∷ []) more)
+abbrev pub first_line_fault : List Line → List Line → Option CatalogFault
+first_line_fault before [] = None
+first_line_fault before (line ∷ more) = option_or (line_fault before line) (first_line_fault (before ++ line ∷ []) more)
 
 -- no line has a fault, each behind the lines before it
 abbrev pub AreFaultless : List Line → Type 0
 AreFaultless lines =
-    (before : List Line) (line : Line) (after : List Line) → lines ≡ before ++ line ∷ after → line_fault before line ≡ None
+    (before : List Line) (line : Line) (after : List Line) → lines ≡ before ++ line ∷ after
+    → line_fault before line ≡ None
 
 -- the fault of a line, where no line before it has one
 pub record IsFirstFault (lines : List Line) (fault : CatalogFault) : Type 0 where

@@ -4,6 +4,7 @@ use Rattle.std.specs.List.{list_any, filter_map}
 use Rattle.std.specs.Char.{to_ascii_lowercase}
 use Rattle.std.specs.Str.{is_utf8}
 use Rattle.std.specs.Str.Lines.{lines}
+use Rattle.meaning.specs.Limits.{max_name_bytes, max_columns, max_dimensions}
 use Rattle.meaning.specs.declared.catalog.Column.{Column}
 use Rattle.meaning.specs.declared.catalog.Table.{Table}
 use Rattle.meaning.specs.declared.catalog.Dimension.{Dimension}
@@ -13,24 +14,25 @@ use Rattle.meaning.specs.declared.catalog.CatalogFault.TheVariants.{NotUtf8, Not
 use Rattle.meaning.specs.declared.catalog_line.Line.{Line}
 use Rattle.meaning.specs.declared.catalog_tables.Declared.{Declared}
 use Rattle.meaning.specs.CatalogLine.{line_of}
-use Rattle.meaning.specs.CatalogTables.{statements, tables_of, first_fault}
+use Rattle.meaning.specs.CatalogTables.{statements, tables_of, first_line_fault}
 
 -- the place of the column that has the key's name and isn't nullable
 abbrev pub key_place : List Column → List ℕ → Option ℕ
 key_place columns key = position (λ column. bytes_eq column.name key && not column.nullable) columns
 
 -- the fact table that a table is, if it is one
-abbrev pub fact_of : Declared → Option Table
-fact_of declared = if is_none declared.key then Some declared.table else None
+abbrev pub declared_fact : Declared → Option Table
+declared_fact declared = if is_none declared.key then Some declared.table else None
 
 -- the dimension that a table is, if it is one and has its key column
 abbrev pub keyed : Declared → Option Dimension
 keyed declared =
-    option_and_then (λ key. option_map (λ place. record { table = declared.table; key = place }) (key_place declared.table.columns key)) declared.key
+    option_and_then (λ key. option_map (λ place. record { table = declared.table; key = place })
+    (key_place declared.table.columns key)) declared.key
 
 -- the fact tables, in the order of the text
 abbrev pub facts : List Declared → List Table
-facts tables = filter_map fact_of tables
+facts tables = filter_map declared_fact tables
 
 -- the dimensions that have their key columns, in the order of the text
 abbrev pub dims : List Declared → List Dimension
@@ -42,17 +44,18 @@ lacks_key declared = is_some declared.key && is_none (keyed declared)
 
 -- one of the columns has a name of over 64 bytes
 abbrev pub has_long_name : List Column → Bool
-has_long_name columns = list_any (λ column. nat_lt 64 (length column.name)) columns
+has_long_name columns = list_any (λ column. nat_lt max_name_bytes (length column.name)) columns
 
 -- no column or over 64, or a name of over 64 bytes
 abbrev pub exceeds_limits : Table → Bool
 exceeds_limits table =
-    length table.columns == 0 || nat_lt 64 (length table.columns) || nat_lt 64 (length table.name)
+    length table.columns == 0 || nat_lt max_columns (length table.columns) || nat_lt max_name_bytes (length table.name)
     || has_long_name table.columns
 
 -- over 16 dimensions, or a table over its limits
 abbrev pub exceed_limits : List Declared → Bool
-exceed_limits tables = list_any (λ declared. exceeds_limits declared.table) tables || nat_lt 16 (length (dims tables))
+exceed_limits tables =
+    list_any (λ declared. exceeds_limits declared.table) tables || nat_lt max_dimensions (length (dims tables))
 
 -- the catalogue of the tables, where just one of them is the fact table
 abbrev pub catalog_with : List Table → List Declared → Result Catalog CatalogFault
@@ -77,7 +80,7 @@ lines_of text = map line_of (lines (map to_ascii_lowercase text))
 
 -- the catalogue of a text in UTF-8
 abbrev pub catalog_of_text : List ℕ → Result Catalog CatalogFault
-catalog_of_text text = catalog_unless (first_fault [] (lines_of text)) (lines_of text)
+catalog_of_text text = catalog_unless (first_line_fault [] (lines_of text)) (lines_of text)
 
 -- the catalogue of the bytes of a file
 abbrev pub catalog_of : List ℕ → Result Catalog CatalogFault

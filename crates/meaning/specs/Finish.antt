@@ -75,4 +75,5 @@ output_of (Err c) = final_fault c
 
 -- the first fault, from group to group in the order of their keys; else the rows, in order and cut by LIMIT
 abbrev pub finish : Plan → List Evaluated → Output
-finish plan groups = output_of (and_then (all_ok (map (rows_of plan) groups)) (λ parts. Ok (limited plan.limit (sorted (order_cmp plan.order) (all_rows parts)))))
+finish plan groups = output_of (and_then (all_ok (map (rows_of plan) groups))
+    (λ parts. Ok (limited plan.limit (sorted (order_cmp plan.order) (all_rows parts)))))

@@ -3,6 +3,7 @@ use Rattle.std.specs.Prelude.{ℕ, ◌+◌, ◌==◌, nat_lt, nat_le, ℤ, pos, 
 use Rattle.std.specs.List.{list_all}
 use Rattle.std.specs.Cmp.Lexicographic.{pointwise}
 use Rattle.std.specs.Str.{is_utf8}
+use Rattle.meaning.specs.Limits.{max_text_bytes}
 use Rattle.meaning.specs.declared.value.Value.{Value}
 use Rattle.meaning.specs.declared.value.Value.TheVariants.{Null, Int, Text}
 use Rattle.meaning.specs.declared.value.ColType.{ColType}
@@ -32,7 +33,7 @@ is_of_type kind Null = true
 is_of_type of_type.Int (Int n) = fits_i64 n
 is_of_type of_type.Int (Text t) = false
 is_of_type of_type.Text (Int n) = false
-is_of_type of_type.Text (Text t) = is_utf8 t && nat_le (length t) 65535
+is_of_type of_type.Text (Text t) = is_utf8 t && nat_le (length t) max_text_bytes
 
 -- a least or a greatest value is not NULL
 abbrev pub is_extreme : ColType → Option Value → Bool
@@ -45,7 +46,8 @@ is_key_of plan key = pointwise (λ k v. is_of_type k.col_type v) plan.keys key
 
 -- what the aggregate's kind does not keep is blank, and the rest is of its argument's type
 abbrev pub is_state_of : Aggregate → Statistics → Bool
-is_state_of a s = same_statistics (kept_by a.kind s) s && (is_extreme a.col_type s.least && is_extreme a.col_type s.greatest)
+is_state_of a s = same_statistics (kept_by a.kind s) s &&
+    (is_extreme a.col_type s.least && is_extreme a.col_type s.greatest)
 
 -- a key of the plan's keys, and a state of each of its aggregates
 abbrev pub is_group_of : Plan → Group → Bool
@@ -104,11 +106,13 @@ is_fault_possible first rows f = ((f.code == 1) || (f.code == 2)) && (nat_le fir
 abbrev pub are_numbers_possible : Plan → ℕ → ℕ → Body → Bool
 are_numbers_possible plan first rows (Fault f) = is_fault_possible first rows f
 are_numbers_possible plan first rows (Groups gs) =
-    nat_le (sum (map (λ g. g.rows) gs)) rows && (are_rows_possible (certain_keys plan.plain plan.keys) gs && list_all (is_group_possible plan) gs)
+    nat_le (sum (map (λ g. g.rows) gs)) rows &&
+    (are_rows_possible (certain_keys plan.plain plan.keys) gs && list_all (is_group_possible plan) gs)
 
 -- ---- answers
 
 -- an answer for a fragment of the cut, of the plan's shape, with ascending keys and possible numbers
 abbrev pub fits : Plan → Cut → Answer → Bool
 fits plan cut a =
-    nat_lt a.k (length cut) && (is_shaped plan a.body && (are_keys_ascending a.body && are_numbers_possible plan (first_row cut a.k) (slice_index cut a.k) a.body))
+    nat_lt a.k (length cut) && (is_shaped plan a.body &&
+    (are_keys_ascending a.body && are_numbers_possible plan (first_row cut a.k) (slice_index cut a.k) a.body))

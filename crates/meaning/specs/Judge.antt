@@ -33,17 +33,48 @@ values [] s = Ok []
 values (e ∷ es) s = with_value (eval e s) (values es s)
 
 -- what becomes of a row behind a condition: only TRUE lets it pass
-abbrev pub behind : Outcome → Judged → Judged
-behind (gives.Fault f) row = fault (code_of f)
-behind (gives.Truth True) row = row
-behind (gives.Truth Unknown) row = dropped
-behind (gives.Truth False) row = dropped
-behind (gives.Value v) row = dropped
+abbrev pub behind_condition : Outcome → Judged → Judged
+behind_condition (gives.Fault f) row = fault (code_of f)
+behind_condition (gives.Truth True) row = row
+behind_condition (gives.Truth Unknown) row = dropped
+behind_condition (gives.Truth False) row = dropped
+behind_condition (gives.Value v) row = dropped
 
 -- what becomes of a row behind several conditions, from left to right
-abbrev pub behind_all : List Expr → JoinedRow → Judged → Judged
-behind_all [] s row = row
-behind_all (c ∷ cs) s row = behind (eval c s) (behind_all cs s row)
+abbrev pub behind_conditions : List Expr → JoinedRow → Judged → Judged
+behind_conditions [] s row = row
+behind_conditions (c ∷ cs) s row = behind_condition (eval c s) (behind_conditions cs s row)
+
+-- what conditions make of a row: they keep it, they drop it, or one of them faults
+pub data Filtered : Type 0 where
+  Passes : Filtered
+  Drops : Filtered
+  Faults : ℕ → Filtered
+
+-- only TRUE goes on to the next condition
+abbrev pub filtered_by : Outcome → Filtered → Filtered
+filtered_by (gives.Fault f) next = Faults (code_of f)
+filtered_by (gives.Truth True) next = next
+filtered_by (gives.Truth Unknown) next = Drops
+filtered_by (gives.Truth False) next = Drops
+filtered_by (gives.Value v) next = Drops
+
+-- the conditions from left to right, with no regard to keys and arguments
+abbrev pub filtered : List Expr → JoinedRow → Filtered
+filtered [] s = Passes
+filtered (c ∷ cs) s = filtered_by (eval c s) (filtered cs s)
+
+-- what becomes of a row that the conditions let pass, or not
+abbrev pub behind_filter : Filtered → Judged → Judged
+behind_filter Passes row = row
+behind_filter Drops row = dropped
+behind_filter (Faults c) row = fault c
+
+-- two filters, one after the other
+abbrev pub then_filtered : Filtered → Filtered → Filtered
+then_filtered Passes next = next
+then_filtered Drops next = Drops
+then_filtered (Faults c) next = Faults c
 
 -- the keys' fault comes before the arguments'
 abbrev pub keep : Result Row ℕ → Result Row ℕ → Judged
@@ -53,7 +84,8 @@ keep (Ok key) (Ok args) = kept key args
 
 -- the conditions from left to right, then the keys, then the aggregates' arguments
 abbrev pub judge : Plan → JoinedRow → Judged
-judge plan s = behind_all plan.conjuncts s (keep (values (map (λ k. k.expr) plan.keys) s) (values (map (λ a. a.argument) plan.aggs) s))
+judge plan s = behind_conditions plan.conjuncts s
+    (keep (values (map (λ k. k.expr) plan.keys) s) (values (map (λ a. a.argument) plan.aggs) s))
 
 -- what becomes of a fact row: at most one joined row where the dimensions' keys are unique
 abbrev pub judged : Plan → List (List Row) → Row → List Judged
@@ -76,7 +108,8 @@ abbrev pub fault_cmp : RowFault → RowFault → Ordering
 fault_cmp = then_cmp (on (λ f. f.row) nat_cmp) (on (λ f. f.code) nat_cmp)
 
 abbrev pub row_faults : Plan → List (List Row) → Numbered → List RowFault
-row_faults plan dims rows = filter_map (λ r. option_map (λ c. record { row = r.0; code = c }) (first_fault (judged plan dims r.1))) rows
+row_faults plan dims rows = filter_map
+    (λ r. option_map (λ c. record { row = r.0; code = c }) (first_fault (judged plan dims r.1))) rows
 
 -- the fault of the least row that has one
 abbrev pub row_fault : Plan → List (List Row) → Numbered → Option RowFault

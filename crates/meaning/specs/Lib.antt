@@ -1,6 +1,8 @@
+-- The definitions of this crate.
 pub mod formers
 pub mod Order
 pub mod Results
+pub mod Limits
 pub mod Cut
 pub mod Reserved
 pub mod Catalog
@@ -12,6 +14,7 @@ pub mod Truth
 pub mod Like
 pub mod Operators
 pub mod Expr
+pub mod References
 pub mod Table
 pub mod Judge
 pub mod Group
@@ -22,7 +25,11 @@ pub mod Print
 pub mod Answer
 pub mod Gather
 pub mod Fitting
+pub mod Typing
 pub mod Dimensions
 pub mod Records
 pub mod Heard
+pub mod Running
 pub mod Laws
+pub mod ExpressionLaws
+pub mod TableLaws

@@ -20,7 +20,7 @@ use Rattle.meaning.specs.Like.{is_like}
 
 -- ---- faults
 
--- by its number an arithmetic fault is told in answers and refusals
+-- the code of an arithmetic fault in answers and refusals
 abbrev pub code_of : Fault → ℕ
 code_of Overflow = 1
 code_of DivisionByZero = 2

@@ -1,8 +1,10 @@
 -- Words on lists in an order, and the whole order of values and rows.
 --     lesser, least       the lesser of two that may be absent; the least of a list
 --     sorted              a list in ascending order
---     ascending_set       the elements of a list, each once, in ascending order;  is_ascending      a list that is such a set
-use Rattle.std.specs.Prelude.{ℕ, ℤ, pos, Bool, true, false, ◌&&◌, if◌then◌else◌, List, [], ◌∷◌, slice_index_or, Option, Some, None}
+--     ascending_set       the elements of a list, each once, in ascending order
+--     is_ascending        a list that is such a set
+--     union               two sets as one
+use Rattle.std.specs.Prelude.{ℕ, ℤ, pos, Bool, true, false, ◌&&◌, if◌then◌else◌, List, [], ◌∷◌, ◌++◌, slice_index_or, Option, Some, None}
 use Rattle.std.specs.declared.cmp.Ordering.{Ordering}
 use Rattle.std.specs.Ordering.{nat_cmp, int_cmp, is_lt, on, then_cmp, ord_min, match_ordering}
 use Rattle.std.specs.Cmp.{IsTotalOrder, nat_cmp_total, int_cmp_total, on_total, then_total}
@@ -43,6 +45,12 @@ module _ {X : Type 0} (cmp : X → X → Ordering) where
   abbrev pub ascending_set : List X → List X
   ascending_set [] = []
   ascending_set (x ∷ xs) = placed_once x (ascending_set xs)
+
+  -- two sets as one: where one has no element it is the other, so that nothing is changed by a set of none
+  abbrev pub union : List X → List X → List X
+  union [] ys = ys
+  union (x ∷ xs) [] = x ∷ xs
+  union (x ∷ xs) (y ∷ ys) = ascending_set ((x ∷ xs) ++ (y ∷ ys))
 
   -- each element is less than the next
   abbrev pub is_ascending : List X → Bool
@@ -86,7 +94,8 @@ abbrev pub value_cmp : Value → Value → Ordering
 value_cmp = then_cmp (on rank nat_cmp) (then_cmp (on number int_cmp) (on bytes (slice_cmp nat_cmp)))
 
 pub value_total : IsTotalOrder value_cmp
-value_total = then_total (on_total rank nat_cmp_total) (then_total (on_total number int_cmp_total) (on_total bytes nat_list_cmp_total))
+value_total = then_total (on_total rank nat_cmp_total)
+    (then_total (on_total number int_cmp_total) (on_total bytes nat_list_cmp_total))
 
 -- the whole order of rows, column by column
 abbrev pub row_cmp : Row → Row → Ordering

@@ -1,2 +1,3 @@
+-- Types that hold others, as the prover reads them.
 pub mod boxed
 pub mod sequence

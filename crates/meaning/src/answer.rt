@@ -1,4 +1,5 @@
-// What fragments answer, and what a coordinator holds.
+//! What fragments answer, and what a coordinator holds.
+
 ghost use Rattle.std.specs.Prelude.{◌≡◌};
 ghost use Rattle.meaning.specs.Gather.{same_body, join_cells};
 ghost use Rattle.meaning.specs.declared.answer.Cell.TheVariants.{One};

@@ -1,3 +1,5 @@
+//! A part of a tree on the heap, which contracts see as the part itself.
+
 ghost use Rattle.std.specs.Prelude.{◌≡◌, IfOk};
 
 use std::alloc::{AllocError, Global};

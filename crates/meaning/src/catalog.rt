@@ -8,15 +8,6 @@ use crate::value::ColType;
 use std::alloc::AllocError;
 use thiserror::Error;
 
-/// The most bytes of a name.
-pub const MAX_NAME_BYTES: usize = 64;
-
-/// The most columns of a table.
-pub const MAX_COLUMNS: usize = 64;
-
-/// The most dimensions of a catalogue.
-pub const MAX_DIMENSIONS: usize = 16;
-
 /// A column as the catalogue declares it.
 #[derive(Drop)]
 pub struct Column {
@@ -69,7 +60,7 @@ pub enum CatalogFault {
 }
 
 impl CatalogFault {
-    /// The number by which the refusal is told.
+    /// The error code.
     pub fn number(&self) -> u8
         ensures { result ≡ catalog_fault_number self.now }
     {

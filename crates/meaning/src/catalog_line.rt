@@ -1,6 +1,6 @@
 //! What one line of a catalogue says.
 ghost use Rattle.std.specs.Prelude.{◌≡◌, IfOk, map};
-ghost use Rattle.meaning.specs.CatalogLine.{is_blank, words, name_of, type_of, fact_of, dimension_of, column_of, two_words, three_words, four_words, statement_of, line_of};
+ghost use Rattle.meaning.specs.CatalogLine.{is_blank, words, name_of, type_of, fact_line, dimension_line, column_of, two_words, three_words, four_words, statement_of, line_of};
 
 use crate::catalog::Column;
 use crate::name::is_name;
@@ -86,8 +86,8 @@ fn column_of(
     })))
 }
 
-fn fact_of(alloc: Global, name: &[u8]) -> Result<Option<Statement>, AllocError>
-    ensures { IfOk result (λ found. found ≡ fact_of name.now) }
+fn fact_line(alloc: Global, name: &[u8]) -> Result<Option<Statement>, AllocError>
+    ensures { IfOk result (λ found. found ≡ fact_line name.now) }
 {
     let Some(name) = name_of(alloc, name)? else {
         return Ok(None);
@@ -95,8 +95,8 @@ fn fact_of(alloc: Global, name: &[u8]) -> Result<Option<Statement>, AllocError>
     Ok(Some(Statement::Fact(name)))
 }
 
-fn dimension_of(alloc: Global, name: &[u8], key: &[u8]) -> Result<Option<Statement>, AllocError>
-    ensures { IfOk result (λ found. found ≡ dimension_of name.now key.now) }
+fn dimension_line(alloc: Global, name: &[u8], key: &[u8]) -> Result<Option<Statement>, AllocError>
+    ensures { IfOk result (λ found. found ≡ dimension_line name.now key.now) }
 {
     let Some(name) = name_of(alloc, name)? else {
         return Ok(None);
@@ -111,7 +111,7 @@ fn two_words(alloc: Global, keyword: &[u8], name: &[u8]) -> Result<Option<Statem
     ensures { IfOk result (λ found. found ≡ two_words keyword.now name.now) }
 {
     if keyword == b"fact".as_slice() {
-        return fact_of(alloc, name);
+        return fact_line(alloc, name);
     }
     Ok(None)
 }
@@ -140,7 +140,7 @@ fn four_words(
     ensures { IfOk result (λ found. found ≡ four_words keyword.now name.now third.now fourth.now) }
 {
     if keyword == b"dim".as_slice() && third == b"key".as_slice() {
-        return dimension_of(alloc, name, fourth);
+        return dimension_line(alloc, name, fourth);
     }
     if keyword == b"col".as_slice() && fourth == b"null".as_slice() {
         return column_of(alloc, name, third, true);

@@ -1,7 +1,7 @@
 //! The tables that the lines of a catalogue declare together.
 ghost use Rattle.std.specs.Prelude.{◌≡◌, ◌≢◌, ◌++◌, [], ◌∷◌, OnOk, IfOk, IfErr, Some, None, map};
 ghost use Rattle.meaning.specs.CatalogLine.{line_of};
-ghost use Rattle.meaning.specs.CatalogTables.{has_column, is_declared, new_table, table_fault, column_fault, statement_fault, fault_at, first_fault, with_column, with_statement, with_line, statements, tables_of};
+ghost use Rattle.meaning.specs.CatalogTables.{has_column, is_declared, new_table, table_fault, column_fault, statement_fault, fault_at, first_line_fault, with_column, with_statement, with_line, statements, tables_of};
 
 use crate::catalog::{CatalogFault, Column, Table};
 use crate::catalog_line::{Line, Statement, line_of};
@@ -108,11 +108,11 @@ fn declare_line(
 
 /// The tables that lines in lower case declare, where no line has a fault.
 pub fn declared_tables(alloc: Global, lines: &[&str]) -> Result<Vec<Declared>, CatalogFault>
-    ensures ok { OnOk result (first_fault [] (map line_of (map (λ line. line.now) lines.now)) ≡ None) }
+    ensures ok { OnOk result (first_line_fault [] (map line_of (map (λ line. line.now) lines.now)) ≡ None) }
     ensures tables { IfOk result (λ tables.
         tables.items ≡ tables_of (statements (map line_of (map (λ line. line.now) lines.now)))) }
     ensures err { IfErr result (λ fault. fault ≢ CatalogFault.Memory →
-        first_fault [] (map line_of (map (λ line. line.now) lines.now)) ≡ Some fault) }
+        first_line_fault [] (map line_of (map (λ line. line.now) lines.now)) ≡ Some fault) }
 {
     let mut tables = Vec::new(alloc);
     for (index, line) in lines.iter().enumerate() {

@@ -1,17 +1,15 @@
+//! How the fact table is cut into fragments.
+
 ghost use Rattle.std.specs.Prelude.{◌≡◌, ◌≢◌, ◌≤◌, nat_lt, IfOk, sum};
 ghost use Rattle.std.specs.List.{list_any};
+ghost use Rattle.meaning.specs.Limits.{max_rows};
 ghost use Rattle.meaning.specs.Cut.{cut_of, even_lengths, fault_number};
 
+use crate::limits::{MAX_FRAGMENTS, MAX_ROWS};
 use crate::sequence::Sequence;
 use std::alloc::{AllocError, Global};
 use std::marker::Model;
 use thiserror::Error;
-
-/// The most fragments that a cut has.
-pub const MAX_FRAGMENTS: usize = 4_096;
-
-/// The most rows that a fragment has.
-pub const MAX_FRAGMENT_ROWS: u32 = 1_048_576;
 
 /// How many rows of the fact table each fragment has, in the order of the fragments.
 #[derive(Drop)]
@@ -33,7 +31,7 @@ pub enum CutFault {
 }
 
 impl CutFault {
-    /// The number by which the refusal is told.
+    /// The error code.
     pub fn number(&self) -> u8
         ensures { result ≡ fault_number self.now }
     {
@@ -59,6 +57,7 @@ impl From<AllocError> for CutFault {
 
 impl Model for Cut {
     ghost use Rattle.std.specs.Prelude.{ℕ, List};
+    ghost use Rattle.meaning.specs.Limits.{max_rows};
     ghost use Rattle.meaning.specs.Cut.{IsCut};
 
     ghost Value = { List ℕ };
@@ -69,12 +68,13 @@ impl Model for Cut {
 }
 
 fn has_long_fragment(lengths: &[u32]) -> bool
-    ensures { result ≡ list_any (λ n. nat_lt 1048576 n) lengths.now }
+    ensures { result ≡ list_any (λ n. nat_lt max_rows n) lengths.now }
 {
-    lengths.iter().any(|length| *length > MAX_FRAGMENT_ROWS)
+    lengths.iter().any(|length| *length > MAX_ROWS)
 }
 
 impl Cut {
+    ghost use Rattle.meaning.specs.Limits.{max_rows};
     ghost use Rattle.meaning.specs.Cut.{IsCut};
 
     /// The cut into fragments of these numbers of rows. Takes no memory.

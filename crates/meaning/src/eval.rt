@@ -1,3 +1,5 @@
+//! What an expression gives on one row, node by node.
+
 ghost use Rattle.std.specs.Prelude.{◌≡◌, IfOk, map};
 ghost use Rattle.std.specs.Option.{unwrap_or};
 ghost use Rattle.meaning.specs.declared.outcome.Outcome.{Outcome};

@@ -1,3 +1,5 @@
+//! What an expression reads.
+
 ghost use Rattle.std.specs.Prelude.{◌≡◌, IfOk};
 ghost use Rattle.meaning.specs.Order.{column};
 ghost use Rattle.meaning.specs.Joined.{joined_column};

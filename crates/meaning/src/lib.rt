@@ -15,6 +15,7 @@ pub mod expr;
 pub mod joined_row;
 pub mod laws;
 mod like;
+pub mod limits;
 pub mod name;
 mod operators;
 pub mod outcome;

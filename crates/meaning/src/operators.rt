@@ -1,3 +1,5 @@
+//! What each operator makes of the outcomes of its operands.
+
 ghost use Rattle.std.specs.Prelude.{◌≡◌, IfOk, if◌then◌else◌};
 ghost use Rattle.std.specs.Bool.{OnTrue};
 ghost use Rattle.meaning.specs.declared.expr.ComparisonOperator.{ComparisonOperator};

@@ -1,3 +1,5 @@
+//! What an expression gives: a value, a truth or a fault.
+
 ghost use Rattle.std.specs.Prelude.{◌≡◌};
 ghost use Rattle.meaning.specs.Operators.{code_of};
 
@@ -19,7 +21,7 @@ pub enum Fault {
 }
 
 impl Fault {
-    /// The number by which answers and refusals tell the fault.
+    /// The fault's code in answers and refusals.
     pub fn code(self) -> u8
         ensures { result ≡ code_of self }
     {

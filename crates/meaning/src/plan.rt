@@ -1,4 +1,5 @@
-// A query with its names looked up.
+//! A query with its names looked up.
+
 use crate::expr::Expr;
 use crate::sequence::Sequence;
 use crate::text::Text;

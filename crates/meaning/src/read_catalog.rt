@@ -4,13 +4,12 @@ ghost use Rattle.std.specs.List.{list_any};
 ghost use Rattle.std.specs.Str.Lines.{lines};
 ghost use Rattle.meaning.specs.Catalog.{IsWellFormed};
 ghost use Rattle.meaning.specs.declared.catalog_line.Line.{Line};
-ghost use Rattle.meaning.specs.CatalogTables.{first_fault, AreFaultless, IsFirstFault};
+ghost use Rattle.meaning.specs.CatalogTables.{first_line_fault, AreFaultless, IsFirstFault};
 ghost use Rattle.meaning.specs.CatalogText.{key_place, lacks_key, has_long_name, exceeds_limits, facts, dims, catalog_from, catalog_of_text, catalog_of};
 
-use crate::catalog::{
-    Catalog, CatalogFault, Column, Dimension, MAX_COLUMNS, MAX_DIMENSIONS, MAX_NAME_BYTES, Table,
-};
+use crate::catalog::{Catalog, CatalogFault, Column, Dimension, Table};
 use crate::catalog_tables::{Declared, declared_tables};
+use crate::limits::{MAX_COLUMNS, MAX_DIMENSIONS, MAX_NAME_BYTES};
 use crate::sequence::Sequence;
 use crate::text::Text;
 use std::alloc::{AllocError, Global};
@@ -151,7 +150,7 @@ pub fn read_catalog(alloc: Global, bytes: &[u8]) -> Result<Catalog, CatalogFault
 
 /// Of the lines that have a fault, the least is told.
 pub fn least_fault_is_told()
-    ensures none { (lines : List Line) → (first_fault [] lines ≡ None) ↔ AreFaultless lines }
+    ensures none { (lines : List Line) → (first_line_fault [] lines ≡ None) ↔ AreFaultless lines }
     ensures some { (lines : List Line) (fault : CatalogFault) →
-        (first_fault [] lines ≡ Some fault) ↔ IsFirstFault lines fault }
+        (first_line_fault [] lines ≡ Some fault) ↔ IsFirstFault lines fault }
 {}

@@ -1,3 +1,5 @@
+//! A `Vec` that contracts see as its list.
+
 ghost use Rattle.std.specs.Prelude.{◌≡◌, [], ◌∷◌, ◌++◌, ◌<◌, length, slice_get, option_copied, OnOk, OnErr, OnSome};
 
 use std::alloc::{AllocError, Global};
@@ -66,7 +68,7 @@ impl<T> Sequence<T> {
 }
 
 impl<T: Drop> Sequence<T> {
-    /// Puts an element behind the last. Where memory is wanting, the list is as it was.
+    /// Puts an element behind the last. On error nothing changes.
     pub fn push(&mut self, item: T) -> Result<(), AllocError>
         ensures ok { OnOk result (self.new ≡ self.old ++ item ∷ []) }
         ensures err { OnErr result (self.new ≡ self.old) }

@@ -1,7 +1,9 @@
+//! Why the records of a CSV file are no table.
+
 use thiserror::Error;
 
-/// Why the records of a CSV file are no table of a declaration. Rows count from 0 behind the header, columns by their place
-/// in the catalogue from 0. Its text says what is wrong, its fields where.
+/// Why the records of a CSV file are no table of a declaration. Rows count from 0 behind the header, columns by their
+/// place in the catalogue from 0. Its text says what is wrong, its fields where.
 #[derive(Clone, Copy, Debug, Error)]
 pub enum TableFault {
     #[error("the header does not have each declared column once")]
@@ -28,7 +30,7 @@ impl TableFault {
     ghost use Rattle.std.specs.Prelude.{◌≡◌};
     ghost use Rattle.meaning.specs.Records.{number_of};
 
-    /// The number by which the refusal is told.
+    /// The error code.
     pub fn number(self) -> u8
         ensures { result ≡ number_of self }
     {

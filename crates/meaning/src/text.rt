@@ -1,3 +1,5 @@
+//! A `String` that contracts see as its bytes.
+
 ghost use Rattle.std.specs.Prelude.{◌≡◌, IfOk, string_bytes};
 
 use std::alloc::{AllocError, Global};

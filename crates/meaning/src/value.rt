@@ -1,3 +1,5 @@
+//! Values, their types, and their whole order.
+
 ghost use Rattle.std.specs.Prelude.{◌≡◌, IfOk};
 ghost use Rattle.meaning.specs.Order.{value_cmp, value_in};
 
@@ -21,8 +23,8 @@ pub enum Value {
     Text(Text),
 }
 
-/// A value that is lent: a text is a slice of bytes in UTF-8 that stand elsewhere.
-#[derive(Clone, Copy)]
+/// A value that is lent: a text is a slice of bytes in UTF-8 that stand elsewhere. The order is that of the values.
+#[derive(Clone, Copy, PartialEq, Eq, PartialOrd, Ord)]
 pub enum ValueRef<'a> {
     Null,
     Int(i64),
@@ -47,6 +49,13 @@ pub fn compare(a: &Value, b: &Value) -> Ordering
     ensures { result ≡ value_cmp a.now b.now }
 {
     a.cmp(b)
+}
+
+/// The whole order of two values that are lent.
+pub fn compare_lent(a: ValueRef<'_>, b: ValueRef<'_>) -> Ordering
+    ensures { result ≡ value_cmp (value_in a.entry) (value_in b.entry) }
+{
+    a.cmp(&b)
 }
 
 impl PartialEq for Value {

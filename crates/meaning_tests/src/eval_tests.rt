@@ -1,3 +1,4 @@
+//! Each node over NULL, faults and values.
 use meaning::boxed::Boxed;
 use meaning::eval::eval_row;
 use meaning::expr::{ArithmeticOperator, Arm, ComparisonOperator, Expr};

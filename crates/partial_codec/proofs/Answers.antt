@@ -1,14 +1,12 @@
 -- The two laws of answers: what is read is spelled so and fits, and what fits and is spelled is read.
-use Rattle.std.proofs.Common.{◌≡◌, ℕ, zero, suc, ◌-◌, ◌*◌, ◌≤◌, Bool, true, false, ◌&&◌, cond, eqb, List, [], ◌∷◌, ◌++◌, length, map, take, Option, Some, None, Result, Ok, Err, refl, sym, ap, subst, ◌∙◌, arith}
-use Rattle.std.specs.Prelude.{not, nat_lt, nat_le, sum, slice_index}
+use Rattle.std.proofs.Common.{◌≡◌, ℕ, ◌≤◌, true, ◌&&◌, eqb, List, [], ◌∷◌, ◌++◌, length, map, Option, Some, None, Result, Ok, refl, sym, ap, subst, ◌∙◌, arith}
+use Rattle.std.specs.Prelude.{nat_lt, nat_le, sum, slice_index}
 use Rattle.std.specs.List.{AllByRecursion, list_all}
 use Rattle.std.specs.Bool.{Decides}
-use Rattle.std.specs.Int.{w32, to_be_bytes}
 use Rattle.std.specs.Cmp.Lexicographic.{pointwise, pointwise_decides, bytes_decides}
 use Rattle.std.proofs.lemmas.Bool.{eqb-true, eq-eqb, ltb-true, leb-true}
-use Rattle.std.proofs.lemmas.List.{append-nil, nil_from_length, length-append, length-map, take_at}
+use Rattle.std.proofs.lemmas.List.{length-map}
 use Rattle.std.proofs.lemmas.List.Elements.{recursion_from_All}
-use Rattle.sha2.specs.Sha256.{sha256, digest_bytes}
 use Rattle.meaning.specs.declared.value.ColType.{ColType}
 use Rattle.meaning.specs.declared.value.ColType.TheVariants as of_type
 use Rattle.meaning.specs.declared.plan.AggregateKind.{AggregateKind}
@@ -20,22 +18,27 @@ use Rattle.meaning.specs.declared.answer.Answer.{Answer}
 use Rattle.meaning.specs.Group.{certain_keys}
 use Rattle.meaning.specs.Table.{first_row}
 use Rattle.meaning.specs.Fitting.{is_group_possible, are_rows_possible, is_shaped, are_keys_ascending, are_numbers_possible, fits}
+use Rattle.meaning.specs.Limits.{max_rows}
 use Rattle.partial_codec.specs.declared.fault.DecodeFault.{DecodeFault}
 use Rattle.partial_codec.specs.declared.fault.DecodeFault.TheVariants as refusal
 use Rattle.partial_codec.specs.declared.shape.AggregateShape.{AggregateShape}
-use Rattle.partial_codec.specs.Reading.{◌>>=◌, bytes_at}
+use Rattle.wire.specs.Reading.{◌>>=◌, bytes_at, same_bytes, sealed_end}
 use Rattle.partial_codec.specs.Job.{JobSpec, IsJob}
 use Rattle.partial_codec.specs.Shape.{Shape, shape_of, shape_of_aggregate, argument_of, argument_code, kind_code, type_code, is_same_type, is_same_aggregate, is_same_shape}
 use Rattle.partial_codec.specs.Supported.{is_supported}
 use Rattle.partial_codec.specs.Supported as feature
-use Rattle.partial_codec.specs.Spelling.{Layout, layout_bytes, layout_of, seal_of, answer_bytes}
-use Rattle.partial_codec.specs.LayoutReading.{same_bytes, type_of, kind_of, argument_from, layout_at}
-use Rattle.partial_codec.specs.Answer.{is_body_supported, is_shape_known, is_known, Fits, Spells, held_against, sealed_end, judged}
-use Rattle.partial_codec.proofs.Numbers.{bind_ok, ok_is, IsBytes, bytes_take, bytes_again}
+use Rattle.partial_codec.specs.Spelling.{Layout, layout_bytes, layout_of, answer_bytes}
+use Rattle.wire.specs.Bytes.{seal_of}
+use Rattle.partial_codec.specs.LayoutReading.{type_of, kind_of, argument_from, layout_at}
+use Rattle.partial_codec.specs.Answer.{is_body_supported, is_shape_known, is_known, Fits, Spells, held_against, judged}
+use Rattle.wire.proofs.Numbers.{bind_ok, ok_is, IsBytes, bytes_take, test_not}
 use Rattle.partial_codec.specs.Ranges.{IsBody}
 use Rattle.partial_codec.proofs.FieldLaws.{type_again, kind_again, IsAggregate, IsShape, AreJobFields, IsLayout, layout_takes, layout_again}
 use Rattle.partial_codec.proofs.Fitting.{both, groups_fit, few_groups, short_at, few_rows_before, words, fault_fits}
 use Rattle.partial_codec.proofs.Known.{all_of, known_shape, layout_known}
+use Rattle.partial_codec.proofs.FromWire.{read_ok}
+use Rattle.partial_codec.specs.Fault.{from_wire}
+use Rattle.wire.proofs.Seals.{seal_takes, seal_left, seal_again}
 
 -- ---- equal shapes
 
@@ -82,10 +85,6 @@ shape_itself a = all_of _ _ ((pointwise_decides type_exact a.keys a.keys).1 refl
 
 -- ---- what is read is spelled so and fits
 
-pub test_not : {A : Type 0} (b : Bool) (d : DecodeFault) (r : Result A DecodeFault) (y : A) → cond (not b) (Err d) r ≡ Ok y → (b ≡ true) × (r ≡ Ok y)
-test_not true d r y e = (refl, e)
-test_not false d r y e = absurd cc
-
 -- the fields that were held against the job
 record IsHeld (job : JobSpec) (l : Layout) (a : Answer) : Type 0 where
   layout : l ≡ layout_of job a
@@ -112,23 +111,12 @@ held_takes job l a e =
     let held : IsHeld job l made = record { layout = same_layout; fits = all } in
     subst (λ (b : Answer). IsHeld job l b) (ok_is made a numbers.1) held
 
-pub seal_takes : (front seal rest end : List ℕ) → length seal ≡ 32 → sealed_end (front ++ (seal ++ rest)) seal rest ≡ Ok end → front ++ (seal ++ rest) ≡ front ++ seal_of front
-unfolding sealed_end
-seal_takes front seal rest end len e =
-    let nothing = test_not (eqb (length rest) 0) refusal.TrailingBytes _ end e in
-    let sealed = test_not (same_bytes seal (seal_of (take (length (front ++ (seal ++ rest)) - 32) (front ++ (seal ++ rest))))) refusal.Seal _ end nothing.1 in
-    let none : rest ≡ [] = nil_from_length rest (eqb-true _ _ nothing.0) in
-    let short : length (front ++ (seal ++ rest)) - 32 ≡ length front = omega (arith, length-append front (seal ++ rest), length-append seal rest, eqb-true _ _ nothing.0) in
-    let taken : take (length (front ++ (seal ++ rest)) - 32) (front ++ (seal ++ rest)) ≡ front = rw short (take_at front (seal ++ rest) (length front) refl) in
-    let same : seal ≡ seal_of front = (bytes_decides seal _).0 sealed.0 ∙ ap seal_of taken in
-    ap (λ (r : List ℕ). front ++ (seal ++ r)) none ∙ ap (λ (s : List ℕ). front ++ s) (append-nil seal ∙ same)
-
 pub answer_takes : (job : JobSpec) (bytes : List ℕ) (a : Answer) → IsBytes bytes → judged job bytes ≡ Ok a → Spells job bytes a
 unfolding judged
 answer_takes job bytes a ok e =
-    let one = bind_ok (layout_at bytes) (λ layout. bytes_at 32 layout.1 >>= λ seal. sealed_end bytes seal.0 seal.1 >>= λ end. held_against job layout.0) a e in
-    let two = bind_ok (bytes_at 32 one.0.1) (λ seal. sealed_end bytes seal.0 seal.1 >>= λ end. held_against job one.0.0) a one.2 in
-    let three = bind_ok (sealed_end bytes two.0.0 two.0.1) (λ end. held_against job one.0.0) a two.2 in
+    let one = bind_ok (layout_at bytes) (λ layout. from_wire (bytes_at 32 layout.1) >>= λ seal. from_wire (sealed_end bytes seal.0 seal.1) >>= λ end. held_against job layout.0) a e in
+    let two = read_ok (bytes_at 32 one.0.1) (λ seal. from_wire (sealed_end bytes seal.0 seal.1) >>= λ end. held_against job one.0.0) a one.2 in
+    let three = read_ok (sealed_end bytes two.0.0 two.0.1) (λ end. held_against job one.0.0) a two.2 in
     let layout = layout_takes bytes one.0 ok one.1 in
     let seal = bytes_take 32 one.0.1 two.0.0 two.0.1 layout.rest_fits two.1 in
     let front = layout_bytes one.0.0 in
@@ -141,15 +129,6 @@ answer_takes job bytes a ok e =
     record { fits = record { known = known; fits = held.fits }; spelled = whole }
 
 -- ---- what fits and is spelled is read
-
-length_digest : (h : List ℕ) (n : ℕ) → length (digest_bytes h n) ≡ 4 * n
-unfolding digest_bytes
-length_digest h zero = refl
-length_digest h (suc n) = let len = length_digest h n in omega (arith, len, length-append (digest_bytes h n) (to_be_bytes w32 (slice_index h n)))
-
-pub length_seal : (bytes : List ℕ) → length (seal_of bytes) ≡ 32
-unfolding seal_of sha256
-length_seal bytes = length_digest _ 8
 
 argument_back : (k : AggregateKind) (t : ColType) → argument_from k (argument_code (argument_of k t)) ≡ Ok (argument_of k t)
 argument_back CountRows t = refl
@@ -170,8 +149,8 @@ body_fits job a is known fit =
     let shaped = both (is_shaped job.plan a.body) _ (both (nat_lt a.k (length job.cut)) _ fit).1 in
     of_body a.body known shaped.0 (both (are_keys_ascending a.body) _ shaped.1).1
   where
-    short : AllByRecursion (λ n. n ≤ 1048576) job.cut
-    short = recursion_from_All (λ n. n ≤ 1048576) job.cut is.cut.short
+    short : AllByRecursion (λ n. n ≤ max_rows) job.cut
+    short = recursion_from_All (λ n. n ≤ max_rows) job.cut is.cut.short
 
     of_body : (body : Body) → is_body_supported body ≡ true → is_shaped job.plan body ≡ true → are_numbers_possible job.plan (first_row job.cut a.k) (slice_index job.cut a.k) body ≡ true → IsBody (shape_of job.plan) body
     of_body (Fault f) known shaped possible =
@@ -185,7 +164,7 @@ body_fits job a is known fit =
         let k = both (are_rows_possible (certain_keys job.plan.plain job.plan.keys) gs) (list_all (is_group_possible job.plan) gs) h.1 in
         let within = leb-true _ _ h.0 in
         let rows = short_at job.cut a.k short in
-        let all : sum (map (λ g. g.rows) gs) ≤ 1048576 = omega (arith, within, rows) in
+        let all : sum (map (λ g. g.rows) gs) ≤ max_rows = omega (arith, within, rows) in
         let count = few_groups (certain_keys job.plan.plain job.plan.keys) gs all k.0 in
         (omega (arith, count), groups_fit job.plan gs all shaped k.1)
 
@@ -198,7 +177,7 @@ job_fits job is =
       load = is.load;
       text = record { is_text = is.is_text; short = omega (arith, text) };
       fragments = omega (arith, few);
-      each = words job.cut (recursion_from_All (λ n. n ≤ 1048576) job.cut is.cut.short);
+      each = words job.cut (recursion_from_All (λ n. n ≤ max_rows) job.cut is.cut.short);
     }
 
 -- a shape that this version knows has a spelling
@@ -235,18 +214,12 @@ held_again job a fit =
     let sorted = both (are_keys_ascending a.body) _ shaped.1 in
     rw (eq-eqb job.load job.load refl, (bytes_decides job.plan.text job.plan.text).1 refl, (bytes_decides job.cut job.cut).1 refl, k.0, shape_itself (shape_of job.plan), shaped.0, sorted.0, sorted.1) refl
 
-pub seal_again : (front : List ℕ) → sealed_end (front ++ seal_of front) (seal_of front) [] ≡ Ok (seal_of front)
-unfolding sealed_end
-seal_again front =
-    let short : length (front ++ seal_of front) - 32 ≡ length front = omega (arith, length-append front (seal_of front), length_seal front) in
-    rw (short, take_at front (seal_of front) (length front) refl, (bytes_decides (seal_of front) (seal_of front)).1 refl) refl
-
 pub answer_again : (job : JobSpec) (a : Answer) → IsJob job → Fits job a → judged job (answer_bytes job a) ≡ Ok a
 unfolding judged
 answer_again job a is fit =
     let front = layout_bytes (layout_of job a) in
     let seal = seal_of front in
-    let sealed : bytes_at 32 seal ≡ Ok (seal, []) = ap (bytes_at 32) (sym (append-nil seal)) ∙ bytes_again 32 seal [] (length_seal front) in
+    let sealed = seal_left front in
     rw (layout_again (layout_of job a) seal (layout_fits job a is fit), sealed, seal_again front, held_again job a fit.fits) refl
 
 pub spelled_reads : (job : JobSpec) (bytes : List ℕ) (a : Answer) → IsJob job → Spells job bytes a → judged job bytes ≡ Ok a

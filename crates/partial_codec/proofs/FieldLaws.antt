@@ -1,7 +1,6 @@
 -- Shapes, the fields that tell the job, and the whole layout: what is read is spelled so, and what is spelled is read again.
-use Rattle.std.proofs.Common.{◌≡◌, ℕ, ◌^◌, ◌<◌, Bool, true, false, cond, eqb, List, [], ◌∷◌, ◌++◌, length, Option, Some, None, Result, Ok, Err, refl, sym, ap, subst, ◌∙◌, append_assoc, arith}
+use Rattle.std.proofs.Common.{◌≡◌, ℕ, ◌^◌, ◌<◌, Bool, true, false, cond, eqb, List, [], ◌∷◌, ◌++◌, length, Option, Some, None, Result, Ok, refl, sym, ap, subst, ◌∙◌, append_assoc, arith}
 use Rattle.std.specs.List.{flat_map, AllByRecursion}
-use Rattle.std.specs.Cmp.Lexicographic.{bytes_decides}
 use Rattle.std.proofs.lemmas.Bool.{eqb-true}
 use Rattle.meaning.specs.declared.value.ColType.{ColType}
 use Rattle.meaning.specs.declared.value.ColType.TheVariants as of_type
@@ -11,16 +10,20 @@ use Rattle.meaning.specs.declared.answer.Body.{Body}
 use Rattle.partial_codec.specs.declared.fault.DecodeFault.{DecodeFault}
 use Rattle.partial_codec.specs.declared.fault.DecodeFault.TheVariants as refusal
 use Rattle.partial_codec.specs.declared.shape.AggregateShape.{AggregateShape}
-use Rattle.partial_codec.specs.Reading.{◌>>=◌, bytes_at, number_at, text_at, repeat_at}
+use Rattle.wire.specs.Reading.{◌>>=◌, number_at, text_at, repeat_at, behind_magic}
 use Rattle.partial_codec.specs.Shape.{Shape, type_code, argument_code, kind_code}
 use Rattle.partial_codec.specs.Supported.{is_supported, if_supported}
 use Rattle.partial_codec.specs.Supported as feature
-use Rattle.partial_codec.specs.Spelling.{Layout, number_bytes, text_bytes, job_bytes, aggregate_bytes, shape_bytes, body_bytes, answer_magic, layout_bytes}
-use Rattle.partial_codec.specs.LayoutReading.{JobFields, same_bytes, type_of, type_at, kind_of, known_kind, argument_from, argument_at, aggregate_at, shape_at, behind_magic, job_at, body_at, layout_at}
-use Rattle.partial_codec.specs.Ranges.{IsText, IsBody}
-use Rattle.partial_codec.proofs.Numbers.{bind_ok, test_passed, ok_is, IsBytes, Takes, Takes-then, bytes_take, bytes_again, number_takes, number_again}
-use Rattle.partial_codec.proofs.Values.{IsSpelled, IsReadAgain, repeat_takes, repeat_again, text_takes, text_again}
+use Rattle.partial_codec.specs.Spelling.{Layout, job_bytes, aggregate_bytes, shape_bytes, body_bytes, answer_magic, layout_bytes}
+use Rattle.wire.specs.Bytes.{number_bytes, text_bytes, IsText}
+use Rattle.partial_codec.specs.LayoutReading.{JobFields, type_of, type_at, kind_of, known_kind, argument_from, argument_at, aggregate_at, shape_at, job_at, body_at, layout_at, length_at}
+use Rattle.partial_codec.specs.Ranges.{IsBody}
+use Rattle.wire.proofs.Numbers.{bind_ok, test_passed, ok_is, Takes, Takes-then, number_takes, number_again}
+use Rattle.wire.proofs.Parts.{IsSpelled, IsReadAgain, repeat_takes, repeat_again, text_takes, text_again}
 use Rattle.partial_codec.proofs.Groups.{body_takes, body_again}
+use Rattle.partial_codec.proofs.FromWire.{read_ok, wire_ok}
+use Rattle.partial_codec.specs.Fault.{from_wire}
+use Rattle.wire.proofs.Seals.{magic_takes, magic_again}
 
 -- ---- codes
 
@@ -81,7 +84,7 @@ known_from n k e =
 type_takes : IsSpelled type_at (λ t. number_bytes 1 (type_code t))
 unfolding type_at
 type_takes bytes p fits e =
-    let a = bind_ok (number_at 1 bytes) (λ n. type_of n.0 >>= λ t. Ok (t, n.1)) p e in
+    let a = read_ok (number_at 1 bytes) (λ n. type_of n.0 >>= λ t. Ok (t, n.1)) p e in
     let b = bind_ok (type_of a.0.0) (λ t. Ok (t, a.0.1)) p a.2 in
     let n = number_takes 1 bytes a.0.0 a.0.1 fits a.1 in
     let made : ColType × List ℕ = (b.0, a.0.1) in
@@ -98,9 +101,9 @@ types_again t rest fits = rw (number_again 1 (type_code t) rest (type_fits t), t
 aggregate_takes : IsSpelled aggregate_at aggregate_bytes
 unfolding aggregate_at argument_at
 aggregate_takes bytes p fits e =
-    let a = bind_ok (number_at 1 bytes) (λ n. known_kind n.0 >>= λ kind. argument_at kind n.1) p e in
+    let a = read_ok (number_at 1 bytes) (λ n. known_kind n.0 >>= λ kind. argument_at kind n.1) p e in
     let b = bind_ok (known_kind a.0.0) (λ kind. argument_at kind a.0.1) p a.2 in
-    let d = bind_ok (number_at 1 a.0.1) (λ n. argument_from b.0 n.0 >>= λ argument. Ok (record { kind = b.0; argument = argument }, n.1)) p b.2 in
+    let d = read_ok (number_at 1 a.0.1) (λ n. argument_from b.0 n.0 >>= λ argument. Ok (record { kind = b.0; argument = argument }, n.1)) p b.2 in
     let f = bind_ok (argument_from b.0 d.0.0) (λ argument. Ok (record { kind = b.0; argument = argument }, d.0.1)) p d.2 in
     let kind = number_takes 1 bytes a.0.0 a.0.1 fits a.1 in
     let argument = number_takes 1 a.0.1 d.0.0 d.0.1 kind.0.rest_fits d.1 in
@@ -138,9 +141,9 @@ type_bytes t = number_bytes 1 (type_code t)
 pub shape_takes : IsSpelled shape_at shape_bytes
 unfolding shape_at shape_bytes
 shape_takes bytes p fits e =
-    let a = bind_ok (number_at 2 bytes) (λ n. if_supported (feature.keys n.0) (repeat_at type_at n.0 n.1) >>= λ keys. number_at 2 keys.1 >>= λ m. if_supported (feature.aggregates m.0) (repeat_at aggregate_at m.0 m.1) >>= λ aggregates. Ok (record { keys = keys.0; aggregates = aggregates.0 }, aggregates.1)) p e in
-    let b = bind_ok (if_supported (feature.keys a.0.0) (repeat_at type_at a.0.0 a.0.1)) (λ keys. number_at 2 keys.1 >>= λ m. if_supported (feature.aggregates m.0) (repeat_at aggregate_at m.0 m.1) >>= λ aggregates. Ok (record { keys = keys.0; aggregates = aggregates.0 }, aggregates.1)) p a.2 in
-    let c = bind_ok (number_at 2 b.0.1) (λ m. if_supported (feature.aggregates m.0) (repeat_at aggregate_at m.0 m.1) >>= λ aggregates. Ok (record { keys = b.0.0; aggregates = aggregates.0 }, aggregates.1)) p b.2 in
+    let a = read_ok (number_at 2 bytes) (λ n. if_supported (feature.keys n.0) (repeat_at type_at n.0 n.1) >>= λ keys. from_wire (number_at 2 keys.1) >>= λ m. if_supported (feature.aggregates m.0) (repeat_at aggregate_at m.0 m.1) >>= λ aggregates. Ok (record { keys = keys.0; aggregates = aggregates.0 }, aggregates.1)) p e in
+    let b = bind_ok (if_supported (feature.keys a.0.0) (repeat_at type_at a.0.0 a.0.1)) (λ keys. from_wire (number_at 2 keys.1) >>= λ m. if_supported (feature.aggregates m.0) (repeat_at aggregate_at m.0 m.1) >>= λ aggregates. Ok (record { keys = keys.0; aggregates = aggregates.0 }, aggregates.1)) p a.2 in
+    let c = read_ok (number_at 2 b.0.1) (λ m. if_supported (feature.aggregates m.0) (repeat_at aggregate_at m.0 m.1) >>= λ aggregates. Ok (record { keys = b.0.0; aggregates = aggregates.0 }, aggregates.1)) p b.2 in
     let d = bind_ok (if_supported (feature.aggregates c.0.0) (repeat_at aggregate_at c.0.0 c.0.1)) (λ aggregates. Ok (record { keys = b.0.0; aggregates = aggregates.0 }, aggregates.1)) p c.2 in
     let n = number_takes 2 bytes a.0.0 a.0.1 fits a.1 in
     let keys = repeat_takes type_at type_bytes type_takes a.0.0 a.0.1 b.0 n.0.rest_fits (test_passed (is_supported (feature.keys a.0.0)) refusal.Shape (repeat_at type_at a.0.0 a.0.1) b.0 b.1).1 in
@@ -185,8 +188,8 @@ shape_again shape rest fits =
 
 -- ---- the fields that tell the job
 
-word_takes : IsSpelled (number_at 4) (number_bytes 4)
-word_takes bytes p fits e = (number_takes 4 bytes p.0 p.1 fits e).0
+word_takes : IsSpelled length_at (number_bytes 4)
+word_takes bytes p fits e = (number_takes 4 bytes p.0 p.1 fits (wire_ok (number_at 4 bytes) p e)).0
 
 abbrev pub job_text : JobFields → List ℕ
 job_text job = job_bytes job.load job.text job.cut
@@ -194,14 +197,14 @@ job_text job = job_bytes job.load job.text job.cut
 pub job_takes : IsSpelled job_at job_text
 unfolding job_at job_bytes
 job_takes bytes p fits e =
-    let a = bind_ok (number_at 8 bytes) (λ load. text_at 4 load.1 >>= λ text. number_at 4 text.1 >>= λ n. repeat_at (number_at 4) n.0 n.1 >>= λ cut. Ok (record { load = load.0; text = text.0; cut = cut.0 }, cut.1)) p e in
-    let b = bind_ok (text_at 4 a.0.1) (λ text. number_at 4 text.1 >>= λ n. repeat_at (number_at 4) n.0 n.1 >>= λ cut. Ok (record { load = a.0.0; text = text.0; cut = cut.0 }, cut.1)) p a.2 in
-    let c = bind_ok (number_at 4 b.0.1) (λ n. repeat_at (number_at 4) n.0 n.1 >>= λ cut. Ok (record { load = a.0.0; text = b.0.0; cut = cut.0 }, cut.1)) p b.2 in
-    let d = bind_ok (repeat_at (number_at 4) c.0.0 c.0.1) (λ cut. Ok (record { load = a.0.0; text = b.0.0; cut = cut.0 }, cut.1)) p c.2 in
+    let a = read_ok (number_at 8 bytes) (λ load. from_wire (text_at 4 load.1) >>= λ text. from_wire (number_at 4 text.1) >>= λ n. repeat_at length_at n.0 n.1 >>= λ cut. Ok (record { load = load.0; text = text.0; cut = cut.0 }, cut.1)) p e in
+    let b = read_ok (text_at 4 a.0.1) (λ text. from_wire (number_at 4 text.1) >>= λ n. repeat_at length_at n.0 n.1 >>= λ cut. Ok (record { load = a.0.0; text = text.0; cut = cut.0 }, cut.1)) p a.2 in
+    let c = read_ok (number_at 4 b.0.1) (λ n. repeat_at length_at n.0 n.1 >>= λ cut. Ok (record { load = a.0.0; text = b.0.0; cut = cut.0 }, cut.1)) p b.2 in
+    let d = bind_ok (repeat_at length_at c.0.0 c.0.1) (λ cut. Ok (record { load = a.0.0; text = b.0.0; cut = cut.0 }, cut.1)) p c.2 in
     let load = number_takes 8 bytes a.0.0 a.0.1 fits a.1 in
     let text = text_takes 4 a.0.1 b.0 load.0.rest_fits b.1 in
     let n = number_takes 4 b.0.1 c.0.0 c.0.1 text.rest_fits c.1 in
-    let cut = repeat_takes (number_at 4) (number_bytes 4) word_takes c.0.0 c.0.1 d.0 n.0.rest_fits d.1 in
+    let cut = repeat_takes length_at (number_bytes 4) word_takes c.0.0 c.0.1 d.0 n.0.rest_fits d.1 in
     let counted : Takes b.0.1 (number_bytes 4 (length d.0.0)) c.0.1 = subst (λ (x : ℕ). Takes b.0.1 (number_bytes 4 x) c.0.1) (sym cut.1) n.0 in
     let one = Takes-then bytes (number_bytes 8 a.0.0) a.0.1 (text_bytes 4 b.0.0) b.0.1 load.0 text in
     let two = Takes-then bytes (number_bytes 8 a.0.0 ++ text_bytes 4 b.0.0) b.0.1 (number_bytes 4 (length d.0.0)) c.0.1 one counted in
@@ -216,8 +219,8 @@ pub record AreJobFields (job : JobFields) : Type 0 where
   pub fragments : length job.cut < 2 ^ 32
   pub each : AllByRecursion (λ n. n < 2 ^ 32) job.cut
 
-word_again : IsReadAgain (number_at 4) (number_bytes 4) (λ n. n < 2 ^ 32)
-word_again n rest fits = number_again 4 n rest fits
+word_again : IsReadAgain length_at (number_bytes 4) (λ n. n < 2 ^ 32)
+word_again n rest fits = rw (number_again 4 n rest fits) refl
 
 pub job_again : IsReadAgain job_at job_text AreJobFields
 unfolding job_at job_bytes
@@ -231,31 +234,18 @@ job_again job rest fits =
       number_again 8 job.load (text ++ (n ++ (cut ++ rest))) fits.load,
       text_again 4 job.text (n ++ (cut ++ rest)) fits.text,
       number_again 4 (length job.cut) (cut ++ rest) fits.fragments,
-      repeat_again (number_at 4) (number_bytes 4) (λ k. k < 2 ^ 32) word_again (length job.cut) job.cut rest refl fits.each,
+      repeat_again length_at (number_bytes 4) (λ k. k < 2 ^ 32) word_again (length job.cut) job.cut rest refl fits.each,
     ) refl
 
 -- ---- the whole
-
-pub magic_takes : (magic bytes rest : List ℕ) → IsBytes bytes → behind_magic magic bytes ≡ Ok rest → Takes bytes magic rest
-unfolding behind_magic
-magic_takes magic bytes rest fits e =
-    let a = bind_ok (bytes_at 4 bytes) (λ first. cond (same_bytes first.0 magic) (Ok first.1) (Err refusal.Magic)) rest e in
-    let g = test_passed (same_bytes a.0.0 magic) refusal.Magic (Ok a.0.1) rest a.2 in
-    let taken = bytes_take 4 bytes a.0.0 a.0.1 fits a.1 in
-    let same : a.0.0 ≡ magic = (bytes_decides a.0.0 magic).0 g.0 in
-    subst (λ (r : List ℕ). Takes bytes magic r) (ok_is a.0.1 rest g.1) (subst (λ (m : List ℕ). Takes bytes m a.0.1) same taken.0)
-
-pub magic_again : (magic rest : List ℕ) → length magic ≡ 4 → behind_magic magic (magic ++ rest) ≡ Ok rest
-unfolding behind_magic
-magic_again magic rest len = rw (bytes_again 4 magic rest len, (bytes_decides magic magic).1 refl) refl
 
 pub layout_takes : IsSpelled layout_at layout_bytes
 unfolding layout_at layout_bytes
 layout_takes bytes p fits e =
     let done : JobFields → ℕ → Shape → Body → Layout = λ job k shape body. record { load = job.load; text = job.text; cut = job.cut; k = k; shape = shape; body = body } in
-    let a = bind_ok (behind_magic answer_magic bytes) (λ rest. job_at rest >>= λ job. number_at 4 job.1 >>= λ k. shape_at k.1 >>= λ shape. body_at shape.0 shape.1 >>= λ body. Ok (done job.0 k.0 shape.0 body.0, body.1)) p e in
-    let b = bind_ok (job_at a.0) (λ job. number_at 4 job.1 >>= λ k. shape_at k.1 >>= λ shape. body_at shape.0 shape.1 >>= λ body. Ok (done job.0 k.0 shape.0 body.0, body.1)) p a.2 in
-    let c = bind_ok (number_at 4 b.0.1) (λ k. shape_at k.1 >>= λ shape. body_at shape.0 shape.1 >>= λ body. Ok (done b.0.0 k.0 shape.0 body.0, body.1)) p b.2 in
+    let a = read_ok (behind_magic answer_magic bytes) (λ rest. job_at rest >>= λ job. from_wire (number_at 4 job.1) >>= λ k. shape_at k.1 >>= λ shape. body_at shape.0 shape.1 >>= λ body. Ok (done job.0 k.0 shape.0 body.0, body.1)) p e in
+    let b = bind_ok (job_at a.0) (λ job. from_wire (number_at 4 job.1) >>= λ k. shape_at k.1 >>= λ shape. body_at shape.0 shape.1 >>= λ body. Ok (done job.0 k.0 shape.0 body.0, body.1)) p a.2 in
+    let c = read_ok (number_at 4 b.0.1) (λ k. shape_at k.1 >>= λ shape. body_at shape.0 shape.1 >>= λ body. Ok (done b.0.0 k.0 shape.0 body.0, body.1)) p b.2 in
     let d = bind_ok (shape_at c.0.1) (λ shape. body_at shape.0 shape.1 >>= λ body. Ok (done b.0.0 c.0.0 shape.0 body.0, body.1)) p c.2 in
     let f = bind_ok (body_at d.0.0 d.0.1) (λ body. Ok (done b.0.0 c.0.0 d.0.0 body.0, body.1)) p d.2 in
     let magic = magic_takes answer_magic bytes a.0 fits a.1 in

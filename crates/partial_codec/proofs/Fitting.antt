@@ -27,8 +27,10 @@ use Rattle.meaning.specs.Aggregate.{kept_by}
 use Rattle.meaning.specs.Gather.{same_statistics, same_body}
 use Rattle.meaning.specs.Fitting.{is_of_type, is_extreme, is_key_of, is_state_of, is_group_of, is_sum_of, is_possible, is_group_possible, are_rows_possible, is_fault_possible}
 use Rattle.meaning.proofs.Same.{body_exact}
+use Rattle.meaning.specs.Limits.{max_rows, max_text_bytes}
 use Rattle.partial_codec.specs.Shape.{shape_of, shape_of_aggregate}
-use Rattle.partial_codec.specs.Ranges.{IsText, IsValue, IsExtreme, IsState, AreStates, IsGroup}
+use Rattle.wire.specs.Bytes.{IsText}
+use Rattle.partial_codec.specs.Ranges.{IsValue, IsExtreme, IsState, AreStates, IsGroup}
 
 -- ---- tests
 
@@ -52,10 +54,10 @@ fits_word : (z : ℤ) → fits_i64 z ≡ true → FitsSigned w64 z
 fits_word (pos n) e = record { sfits = ltb-true n (2 ^ 63) e }
 fits_word (negsuc n) e = record { sfits = ltb-true n (2 ^ 63) e }
 
-fits_text : (t : List ℕ) → (is_utf8 t && nat_le (length t) 65535) ≡ true → IsText 2 t
+fits_text : (t : List ℕ) → (is_utf8 t && nat_le (length t) max_text_bytes) ≡ true → IsText 2 t
 fits_text t e =
-    let h = both (is_utf8 t) (nat_le (length t) 65535) e in
-    let short = leb-true (length t) 65535 h.1 in
+    let h = both (is_utf8 t) (nat_le (length t) max_text_bytes) e in
+    let short = leb-true (length t) max_text_bytes h.1 in
     record { is_text = h.0; short = omega (arith, short) }
 
 value_fits : (t : ColType) (v : Value) → is_of_type t v ≡ true → IsValue v
@@ -81,7 +83,7 @@ between x (pos m) y hx hy low high = let h = leb-true m y high in record { sfits
 between zero (negsuc m) y hx hy low high = absurd cc
 between (suc x) (negsuc m) y hx hy low high = let h = leb-true m x low in record { sfits = omega (arith, h) }
 
-sum_fits : (n : ℕ) (z : ℤ) → n ≤ 1048576 → is_sum_of n z ≡ true → FitsSigned w128 z
+sum_fits : (n : ℕ) (z : ℤ) → n ≤ max_rows → is_sum_of n z ≡ true → FitsSigned w128 z
 sum_fits n z le e =
     let h = both (int_le (neg_ℤ (pos (n * 9223372036854775808))) z) (int_le z (pos (n * 9223372036854775807))) e in
     between (n * 9223372036854775808) z (n * 9223372036854775807) (omega arith) (omega arith) h.0 h.1
@@ -125,7 +127,7 @@ count_fits Avg rows s e = leb-true s.count rows (both _ _ e).0
 count_fits Min rows s e = leb-true s.count rows (both _ _ e).0
 count_fits Max rows s e = leb-true s.count rows (both _ _ e).0
 
-sum_of_state : (kind : AggregateKind) (rows : ℕ) (s : Statistics) → rows ≤ 1048576 → kept_by kind s ≡ s → is_possible kind rows s ≡ true → FitsSigned w128 s.sum
+sum_of_state : (kind : AggregateKind) (rows : ℕ) (s : Statistics) → rows ≤ max_rows → kept_by kind s ≡ s → is_possible kind rows s ≡ true → FitsSigned w128 s.sum
 sum_of_state CountRows rows s le kept e = no_sum s.sum (ap (λ (t : Statistics). t.sum) kept)
 sum_of_state Count rows s le kept e = no_sum s.sum (ap (λ (t : Statistics). t.sum) kept)
 sum_of_state Sum rows s le kept e = let h = both _ _ e in let c = leb-true s.count rows h.0 in sum_fits s.count s.sum (omega (arith, c)) h.1
@@ -133,7 +135,7 @@ sum_of_state Avg rows s le kept e = let h = both _ _ e in let c = leb-true s.cou
 sum_of_state Min rows s le kept e = no_sum s.sum (ap (λ (t : Statistics). t.sum) kept)
 sum_of_state Max rows s le kept e = no_sum s.sum (ap (λ (t : Statistics). t.sum) kept)
 
-state_fits : (a : Aggregate) (rows : ℕ) (s : Statistics) → rows ≤ 1048576 → is_state_of a s ≡ true → is_possible a.kind rows s ≡ true → IsState a.kind s
+state_fits : (a : Aggregate) (rows : ℕ) (s : Statistics) → rows ≤ max_rows → is_state_of a s ≡ true → is_possible a.kind rows s ≡ true → IsState a.kind s
 state_fits a rows s le shaped possible =
     let h = both (same_statistics (kept_by a.kind s) s) (is_extreme a.col_type s.least && is_extreme a.col_type s.greatest) shaped in
     let extremes = both (is_extreme a.col_type s.least) (is_extreme a.col_type s.greatest) h.1 in
@@ -147,7 +149,7 @@ state_fits a rows s le shaped possible =
       kept = kept;
     }
 
-states_fit : (aggs : List Aggregate) (rows : ℕ) (states : List Statistics) → rows ≤ 1048576 → pointwise is_state_of aggs states ≡ true → pointwise (λ a s. is_possible a.kind rows s) aggs states ≡ true
+states_fit : (aggs : List Aggregate) (rows : ℕ) (states : List Statistics) → rows ≤ max_rows → pointwise is_state_of aggs states ≡ true → pointwise (λ a s. is_possible a.kind rows s) aggs states ≡ true
     → AreStates (map shape_of_aggregate aggs) states
 states_fit [] rows [] le shaped possible = tt
 states_fit [] rows (s ∷ states) le shaped possible = absurd cc
@@ -168,13 +170,13 @@ key_fits (k ∷ keys) (v ∷ key) e =
     let others = key_fits keys key h.1 in
     (ap suc others.0, (value_fits k.col_type v h.0, others.1))
 
-group_fits : (plan : Plan) (g : Group) → g.rows ≤ 1048576 → is_group_of plan g ≡ true → is_group_possible plan g ≡ true → IsGroup (shape_of plan) g
+group_fits : (plan : Plan) (g : Group) → g.rows ≤ max_rows → is_group_of plan g ≡ true → is_group_possible plan g ≡ true → IsGroup (shape_of plan) g
 group_fits plan g le shaped possible =
     let h = both (is_key_of plan g.key) (pointwise is_state_of plan.aggs g.states) shaped in
     let key = key_fits plan.keys g.key h.0 in
     record { keys = key.0; key = key.1; rows = omega arith; states = states_fit plan.aggs g.rows g.states le h.1 possible }
 
-pub groups_fit : (plan : Plan) (gs : List Group) → sum (map (λ g. g.rows) gs) ≤ 1048576 → list_all (is_group_of plan) gs ≡ true → list_all (is_group_possible plan) gs ≡ true → AllByRecursion (IsGroup (shape_of plan)) gs
+pub groups_fit : (plan : Plan) (gs : List Group) → sum (map (λ g. g.rows) gs) ≤ max_rows → list_all (is_group_of plan) gs ≡ true → list_all (is_group_possible plan) gs ≡ true → AllByRecursion (IsGroup (shape_of plan)) gs
 groups_fit plan [] le shaped possible = tt
 groups_fit plan (g ∷ gs) le shaped possible =
     let h = both (is_group_of plan g) (list_all (is_group_of plan) gs) shaped in
@@ -190,24 +192,24 @@ rows_count (g ∷ gs) e =
     let others = rows_count gs h.1 in
     omega (arith, one, others, sum-cons g.rows (rows_of gs))
 
-pub few_groups : (certain : List Row) (gs : List Group) → sum (map (λ g. g.rows) gs) ≤ 1048576 → are_rows_possible certain gs ≡ true → length gs ≤ 1048576
+pub few_groups : (certain : List Row) (gs : List Group) → sum (map (λ g. g.rows) gs) ≤ max_rows → are_rows_possible certain gs ≡ true → length gs ≤ max_rows
 few_groups [] gs le e = let h = rows_count gs e in omega (arith, h)
 few_groups (k ∷ ks) gs le e = let h = eqb-true (length gs) 1 e in omega (arith, h)
 
 -- ---- cuts
 
-pub short_at : (cut : List ℕ) (k : ℕ) → AllByRecursion (λ n. n ≤ 1048576) cut → slice_index cut k ≤ 1048576
+pub short_at : (cut : List ℕ) (k : ℕ) → AllByRecursion (λ n. n ≤ max_rows) cut → slice_index cut k ≤ max_rows
 short_at [] k short = omega arith
 short_at (n ∷ cut) zero short = short.0
 short_at (n ∷ cut) (suc k) short = short_at cut k short.1
 
-pub few_rows_before : (cut : List ℕ) (k : ℕ) → AllByRecursion (λ n. n ≤ 1048576) cut → sum (take k cut) ≤ 1048576 * length cut
+pub few_rows_before : (cut : List ℕ) (k : ℕ) → AllByRecursion (λ n. n ≤ max_rows) cut → sum (take k cut) ≤ max_rows * length cut
 few_rows_before [] zero short = omega arith
 few_rows_before [] (suc k) short = omega arith
 few_rows_before (n ∷ cut) zero short = omega arith
 few_rows_before (n ∷ cut) (suc k) short = let h = few_rows_before cut k short.1 in let n_is = short.0 in omega (arith, h, n_is, sum-cons n (take k cut))
 
-pub words : (cut : List ℕ) → AllByRecursion (λ n. n ≤ 1048576) cut → AllByRecursion (λ n. n < 2 ^ 32) cut
+pub words : (cut : List ℕ) → AllByRecursion (λ n. n ≤ max_rows) cut → AllByRecursion (λ n. n < 2 ^ 32) cut
 words [] short = tt
 words (n ∷ cut) short = (let n_is = short.0 in omega (arith, n_is), words cut short.1)
 

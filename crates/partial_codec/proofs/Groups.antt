@@ -14,15 +14,19 @@ use Rattle.meaning.specs.Aggregate.{no_statistics}
 use Rattle.partial_codec.specs.declared.fault.DecodeFault.{DecodeFault}
 use Rattle.partial_codec.specs.declared.fault.DecodeFault.TheVariants as refusal
 use Rattle.partial_codec.specs.declared.shape.AggregateShape.{AggregateShape}
-use Rattle.partial_codec.specs.Reading.{◌>>=◌, number_at, repeat_at}
+use Rattle.wire.specs.Reading.{◌>>=◌, number_at, repeat_at, i128_at}
 use Rattle.partial_codec.specs.Shape.{Shape}
 use Rattle.partial_codec.specs.Supported.{is_supported, if_supported}
 use Rattle.partial_codec.specs.Supported as feature
-use Rattle.partial_codec.specs.Spelling.{number_bytes, sum_bytes, value_bytes, value_or_null, state_bytes, states_bytes, group_bytes, body_bytes}
-use Rattle.partial_codec.specs.LayoutReading.{sum_at, value_at, unless_null, state_at, states_at, group_at, groups_at, fault_at, tagged_body_at, body_at}
+use Rattle.wire.specs.Bytes.{number_bytes, i128_bytes}
+use Rattle.partial_codec.specs.Spelling.{value_bytes, value_or_null, state_bytes, states_bytes, group_bytes, body_bytes}
+use Rattle.partial_codec.specs.LayoutReading.{value_at, unless_null, state_at, states_at, group_at, groups_at, fault_at, tagged_body_at, body_at}
 use Rattle.partial_codec.specs.Ranges.{IsValue, IsExtreme, IsState, AreStates, IsGroup, IsBody}
-use Rattle.partial_codec.proofs.Numbers.{bind_ok, test_passed, ok_is, IsBytes, Takes, Takes-then, number_takes, number_again}
-use Rattle.partial_codec.proofs.Values.{IsSpelled, IsReadAgain, repeat_takes, repeat_again, sum_takes, sum_again, value_takes, value_again}
+use Rattle.wire.proofs.Numbers.{bind_ok, test_passed, ok_is, IsBytes, Takes, Takes-then, number_takes, number_again}
+use Rattle.wire.proofs.Parts.{IsSpelled, IsReadAgain, repeat_takes, repeat_again, i128_takes, i128_again}
+use Rattle.partial_codec.proofs.Values.{value_takes, value_again}
+use Rattle.partial_codec.proofs.FromWire.{read_ok}
+use Rattle.partial_codec.specs.Fault.{from_wire}
 
 -- ---- states
 
@@ -31,31 +35,31 @@ null_back Null = refl
 null_back (Int z) = refl
 null_back (Text t) = refl
 
-count_takes : (bytes : List ℕ) (p : Statistics × List ℕ) → IsBytes bytes → (number_at 4 bytes >>= λ n. Ok (record no_statistics { count = n.0 }, n.1)) ≡ Ok p → Takes bytes (number_bytes 4 p.0.count) p.1
+count_takes : (bytes : List ℕ) (p : Statistics × List ℕ) → IsBytes bytes → (from_wire (number_at 4 bytes) >>= λ n. Ok (record no_statistics { count = n.0 }, n.1)) ≡ Ok p → Takes bytes (number_bytes 4 p.0.count) p.1
 count_takes bytes p fits e =
-    let a = bind_ok (number_at 4 bytes) (λ n. Ok (record no_statistics { count = n.0 }, n.1)) p e in
+    let a = read_ok (number_at 4 bytes) (λ n. Ok (record no_statistics { count = n.0 }, n.1)) p e in
     let n = number_takes 4 bytes a.0.0 a.0.1 fits a.1 in
     let made : Statistics × List ℕ = (record no_statistics { count = a.0.0 }, a.0.1) in
     subst (λ (q : Statistics × List ℕ). Takes bytes (number_bytes 4 q.0.count) q.1) (ok_is made p a.2) n.0
 
-sum_state_takes : (bytes : List ℕ) (p : Statistics × List ℕ) → IsBytes bytes → (number_at 4 bytes >>= λ n. sum_at n.1 >>= λ sum. Ok (record no_statistics { count = n.0; sum = sum.0 }, sum.1)) ≡ Ok p
-    → Takes bytes (number_bytes 4 p.0.count ++ sum_bytes p.0.sum) p.1
+sum_state_takes : (bytes : List ℕ) (p : Statistics × List ℕ) → IsBytes bytes → (from_wire (number_at 4 bytes) >>= λ n. from_wire (i128_at n.1) >>= λ sum. Ok (record no_statistics { count = n.0; sum = sum.0 }, sum.1)) ≡ Ok p
+    → Takes bytes (number_bytes 4 p.0.count ++ i128_bytes p.0.sum) p.1
 sum_state_takes bytes p fits e =
-    let a = bind_ok (number_at 4 bytes) (λ n. sum_at n.1 >>= λ sum. Ok (record no_statistics { count = n.0; sum = sum.0 }, sum.1)) p e in
-    let b = bind_ok (sum_at a.0.1) (λ sum. Ok (record no_statistics { count = a.0.0; sum = sum.0 }, sum.1)) p a.2 in
+    let a = read_ok (number_at 4 bytes) (λ n. from_wire (i128_at n.1) >>= λ sum. Ok (record no_statistics { count = n.0; sum = sum.0 }, sum.1)) p e in
+    let b = read_ok (i128_at a.0.1) (λ sum. Ok (record no_statistics { count = a.0.0; sum = sum.0 }, sum.1)) p a.2 in
     let n = number_takes 4 bytes a.0.0 a.0.1 fits a.1 in
-    let sum = sum_takes a.0.1 b.0 n.0.rest_fits b.1 in
+    let sum = i128_takes a.0.1 b.0 n.0.rest_fits b.1 in
     let made : Statistics × List ℕ = (record no_statistics { count = a.0.0; sum = b.0.0 }, b.0.1) in
-    subst (λ (q : Statistics × List ℕ). Takes bytes (number_bytes 4 q.0.count ++ sum_bytes q.0.sum) q.1) (ok_is made p b.2)
-    (Takes-then bytes (number_bytes 4 a.0.0) a.0.1 (sum_bytes b.0.0) b.0.1 n.0 sum)
+    subst (λ (q : Statistics × List ℕ). Takes bytes (number_bytes 4 q.0.count ++ i128_bytes q.0.sum) q.1) (ok_is made p b.2)
+    (Takes-then bytes (number_bytes 4 a.0.0) a.0.1 (i128_bytes b.0.0) b.0.1 n.0 sum)
 
 -- a state of a count and a value, which `put` makes
 value_state_takes : (put : ℕ → Option Value → Statistics) (spell : Statistics → List ℕ)
     → ((n : ℕ) (v : Value) → spell (put n (unless_null v)) ≡ number_bytes 4 n ++ value_bytes v)
-    → (bytes : List ℕ) (p : Statistics × List ℕ) → IsBytes bytes → (number_at 4 bytes >>= λ n. value_at n.1 >>= λ value. Ok (put n.0 (unless_null value.0), value.1)) ≡ Ok p
+    → (bytes : List ℕ) (p : Statistics × List ℕ) → IsBytes bytes → (from_wire (number_at 4 bytes) >>= λ n. value_at n.1 >>= λ value. Ok (put n.0 (unless_null value.0), value.1)) ≡ Ok p
     → Takes bytes (spell p.0) p.1
 value_state_takes put spell same bytes p fits e =
-    let a = bind_ok (number_at 4 bytes) (λ n. value_at n.1 >>= λ value. Ok (put n.0 (unless_null value.0), value.1)) p e in
+    let a = read_ok (number_at 4 bytes) (λ n. value_at n.1 >>= λ value. Ok (put n.0 (unless_null value.0), value.1)) p e in
     let b = bind_ok (value_at a.0.1) (λ value. Ok (put a.0.0 (unless_null value.0), value.1)) p a.2 in
     let n = number_takes 4 bytes a.0.0 a.0.1 fits a.1 in
     let value = value_takes a.0.1 b.0 n.0.rest_fits b.1 in
@@ -91,9 +95,9 @@ unfolding state_at state_bytes
 state_again CountRows s rest fits = rw (number_again 4 s.count rest fits.count) (ap (λ (t : Statistics). Ok (t, rest)) fits.kept)
 state_again Count s rest fits = rw (number_again 4 s.count rest fits.count) (ap (λ (t : Statistics). Ok (t, rest)) fits.kept)
 state_again Sum s rest fits =
-    ap (state_at Sum) (append_assoc (number_bytes 4 s.count) (sum_bytes s.sum) rest) ∙ rw (number_again 4 s.count (sum_bytes s.sum ++ rest) fits.count, sum_again s.sum rest fits.sum) (ap (λ (t : Statistics). Ok (t, rest)) fits.kept)
+    ap (state_at Sum) (append_assoc (number_bytes 4 s.count) (i128_bytes s.sum) rest) ∙ rw (number_again 4 s.count (i128_bytes s.sum ++ rest) fits.count, i128_again s.sum rest fits.sum) (ap (λ (t : Statistics). Ok (t, rest)) fits.kept)
 state_again Avg s rest fits =
-    ap (state_at Avg) (append_assoc (number_bytes 4 s.count) (sum_bytes s.sum) rest) ∙ rw (number_again 4 s.count (sum_bytes s.sum ++ rest) fits.count, sum_again s.sum rest fits.sum) (ap (λ (t : Statistics). Ok (t, rest)) fits.kept)
+    ap (state_at Avg) (append_assoc (number_bytes 4 s.count) (i128_bytes s.sum) rest) ∙ rw (number_again 4 s.count (i128_bytes s.sum ++ rest) fits.count, i128_again s.sum rest fits.sum) (ap (λ (t : Statistics). Ok (t, rest)) fits.kept)
 state_again Min s rest fits =
     let value = value_or_null s.least in
     ap (state_at Min) (append_assoc (number_bytes 4 s.count) (value_bytes value) rest)
@@ -130,8 +134,8 @@ pub group_takes : (shape : Shape) → IsSpelled (group_at shape) (group_bytes sh
 unfolding group_at group_bytes
 group_takes shape bytes p fits e =
     let after_rows : List Value → ℕ → List ℕ → Result (Group × List ℕ) DecodeFault = λ key rows rest. states_at shape.aggregates rest >>= λ states. Ok (record { key = key; rows = rows; states = states.0 }, states.1) in
-    let a = bind_ok (repeat_at value_at (length shape.keys) bytes) (λ key. number_at 4 key.1 >>= λ rows. after_rows key.0 rows.0 rows.1) p e in
-    let b = bind_ok (number_at 4 a.0.1) (λ rows. after_rows a.0.0 rows.0 rows.1) p a.2 in
+    let a = bind_ok (repeat_at value_at (length shape.keys) bytes) (λ key. from_wire (number_at 4 key.1) >>= λ rows. after_rows key.0 rows.0 rows.1) p e in
+    let b = read_ok (number_at 4 a.0.1) (λ rows. after_rows a.0.0 rows.0 rows.1) p a.2 in
     let c = bind_ok (states_at shape.aggregates b.0.1) (λ states. Ok (record { key = a.0.0; rows = b.0.0; states = states.0 }, states.1)) p b.2 in
     let key = repeat_takes value_at value_bytes value_takes (length shape.keys) bytes a.0 fits a.1 in
     let rows = number_takes 4 a.0.1 b.0.0 b.0.1 key.0.rest_fits b.1 in
@@ -157,8 +161,8 @@ tagged_takes : (shape : Shape) (start : List ℕ) (tag : ℕ) (bytes : List ℕ)
 unfolding tagged_body_at fault_at groups_at body_bytes
 tagged_takes shape start zero bytes p fits first e =
     let g = test_passed (is_supported feature.fault) refusal.Shape (fault_at bytes) p e in
-    let a = bind_ok (number_at 8 bytes) (λ row. number_at 1 row.1 >>= λ code. Ok (Fault (record { row = row.0; code = code.0 }), code.1)) p g.1 in
-    let b = bind_ok (number_at 1 a.0.1) (λ code. Ok (Fault (record { row = a.0.0; code = code.0 }), code.1)) p a.2 in
+    let a = read_ok (number_at 8 bytes) (λ row. from_wire (number_at 1 row.1) >>= λ code. Ok (Fault (record { row = row.0; code = code.0 }), code.1)) p g.1 in
+    let b = read_ok (number_at 1 a.0.1) (λ code. Ok (Fault (record { row = a.0.0; code = code.0 }), code.1)) p a.2 in
     let row = number_takes 8 bytes a.0.0 a.0.1 fits a.1 in
     let code = number_takes 1 a.0.1 b.0.0 b.0.1 row.0.rest_fits b.1 in
     let front = Takes-then start (number_bytes 1 0) bytes (number_bytes 8 a.0.0) a.0.1 first row.0 in
@@ -166,7 +170,7 @@ tagged_takes shape start zero bytes p fits first e =
     subst (λ (q : Body × List ℕ). Takes start (body_bytes shape q.0) q.1) (ok_is made p b.2)
     (Takes-then start (number_bytes 1 0 ++ number_bytes 8 a.0.0) a.0.1 (number_bytes 1 b.0.0) b.0.1 front code.0)
 tagged_takes shape start (suc zero) bytes p fits first e =
-    let a = bind_ok (number_at 4 bytes) (λ count. repeat_at (group_at shape) count.0 count.1 >>= λ groups. Ok (Groups groups.0, groups.1)) p e in
+    let a = read_ok (number_at 4 bytes) (λ count. repeat_at (group_at shape) count.0 count.1 >>= λ groups. Ok (Groups groups.0, groups.1)) p e in
     let b = bind_ok (repeat_at (group_at shape) a.0.0 a.0.1) (λ groups. Ok (Groups groups.0, groups.1)) p a.2 in
     let count = number_takes 4 bytes a.0.0 a.0.1 fits a.1 in
     let groups = repeat_takes (group_at shape) (group_bytes shape) (group_takes shape) a.0.0 a.0.1 b.0 count.0.rest_fits b.1 in
@@ -184,7 +188,7 @@ tagged_takes shape start (suc (suc n)) bytes p fits first e =
 pub body_takes : (shape : Shape) → IsSpelled (body_at shape) (body_bytes shape)
 unfolding body_at
 body_takes shape bytes p fits e =
-    let a = bind_ok (number_at 1 bytes) (λ tag. tagged_body_at shape tag.0 tag.1) p e in
+    let a = read_ok (number_at 1 bytes) (λ tag. tagged_body_at shape tag.0 tag.1) p e in
     let tag = number_takes 1 bytes a.0.0 a.0.1 fits a.1 in
     tagged_takes shape bytes a.0.0 a.0.1 p tag.0.rest_fits tag.0 a.2
 

@@ -1,10 +1,10 @@
-pub mod Numbers
+-- The lemmas of this crate.
+pub mod FromWire
 pub mod Values
 pub mod Groups
 pub mod FieldLaws
 pub mod Fitting
 pub mod Known
-pub mod Loops
 pub mod Steps
 pub mod Shaped
 pub mod Answers

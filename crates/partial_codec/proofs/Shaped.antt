@@ -17,7 +17,7 @@ use Rattle.meaning.specs.Aggregate.{no_statistics, kept_by}
 use Rattle.meaning.specs.Gather.{same_statistics}
 use Rattle.meaning.specs.Fitting.{is_of_type, is_state_of, is_group_of, is_shaped}
 use Rattle.partial_codec.specs.declared.fault.DecodeFault.TheVariants as refusal
-use Rattle.partial_codec.specs.Reading.{◌>>=◌, number_at, repeat_at}
+use Rattle.wire.specs.Reading.{◌>>=◌, number_at, repeat_at, i128_at, behind_magic}
 use Rattle.partial_codec.specs.Shape.{Shape, shape_of, shape_of_aggregate, is_same_shape}
 use Rattle.partial_codec.specs.Fields.{one_aggregate}
 use Rattle.partial_codec.specs.Answer.{is_shape_known}
@@ -25,11 +25,14 @@ use Rattle.std.proofs.lemmas.List.{nil_from_length}
 use Rattle.partial_codec.specs.Supported.{is_supported}
 use Rattle.partial_codec.specs.Supported as feature
 use Rattle.partial_codec.specs.Spelling.{Layout, answer_magic}
-use Rattle.partial_codec.specs.LayoutReading.{JobFields, sum_at, value_at, state_at, states_at, group_at, groups_at, fault_at, tagged_body_at, body_at, shape_at, behind_magic, job_at, layout_at}
-use Rattle.partial_codec.proofs.Numbers.{bind_ok, test_passed, ok_is}
+use Rattle.partial_codec.specs.LayoutReading.{JobFields, value_at, state_at, states_at, group_at, groups_at, fault_at, tagged_body_at, body_at, shape_at, job_at, layout_at}
+use Rattle.wire.proofs.Numbers.{bind_ok, test_passed, ok_is}
 use Rattle.partial_codec.proofs.Fitting.{both, statistics_itself}
 use Rattle.partial_codec.proofs.Answers.{shape_same}
-use Rattle.partial_codec.proofs.Known.{all_of, repeat_all, IsKnownShape, known_shape, shape_known}
+use Rattle.partial_codec.proofs.Known.{all_of, IsKnownShape, known_shape, shape_known}
+use Rattle.wire.proofs.Parts.{repeat_all}
+use Rattle.partial_codec.proofs.FromWire.{read_ok}
+use Rattle.partial_codec.specs.Fault.{from_wire}
 
 -- a state that was read has nothing but what the kind keeps
 record IsKept (kind : AggregateKind) (s : Statistics) : Type 0 where
@@ -40,12 +43,12 @@ record IsKept (kind : AggregateKind) (s : Statistics) : Type 0 where
 kept_state : (kind : AggregateKind) (bytes : List ℕ) (p : Statistics × List ℕ) → is_supported (feature.kind kind) ≡ true → state_at kind bytes ≡ Ok p → IsKept kind p.0
 unfolding state_at is_supported
 kept_state CountRows bytes p known e =
-    let a = bind_ok (number_at 4 bytes) (λ n. Ok (record no_statistics { count = n.0 }, n.1)) p e in
+    let a = read_ok (number_at 4 bytes) (λ n. Ok (record no_statistics { count = n.0 }, n.1)) p e in
     let made : Statistics × List ℕ = (record no_statistics { count = a.0.0 }, a.0.1) in
     subst (λ (q : Statistics × List ℕ). IsKept CountRows q.0) (ok_is made p a.2) (record { kept = statistics_itself made.0; least = refl; greatest = refl })
 kept_state Sum bytes p known e =
-    let a = bind_ok (number_at 4 bytes) (λ n. sum_at n.1 >>= λ sum. Ok (record no_statistics { count = n.0; sum = sum.0 }, sum.1)) p e in
-    let b = bind_ok (sum_at a.0.1) (λ sum. Ok (record no_statistics { count = a.0.0; sum = sum.0 }, sum.1)) p a.2 in
+    let a = read_ok (number_at 4 bytes) (λ n. from_wire (i128_at n.1) >>= λ sum. Ok (record no_statistics { count = n.0; sum = sum.0 }, sum.1)) p e in
+    let b = read_ok (i128_at a.0.1) (λ sum. Ok (record no_statistics { count = a.0.0; sum = sum.0 }, sum.1)) p a.2 in
     let made : Statistics × List ℕ = (record no_statistics { count = a.0.0; sum = b.0.0 }, b.0.1) in
     subst (λ (q : Statistics × List ℕ). IsKept Sum q.0) (ok_is made p b.2) (record { kept = statistics_itself made.0; least = refl; greatest = refl })
 kept_state Count bytes p known e = absurd cc
@@ -84,8 +87,8 @@ group_shaped : (plan : Plan) → IsKnownShape (shape_of plan) → (bytes : List 
 unfolding group_at
 group_shaped plan known bytes p e =
     let shape = shape_of plan in
-    let a = bind_ok (repeat_at value_at (length shape.keys) bytes) (λ key. number_at 4 key.1 >>= λ rows. states_at shape.aggregates rows.1 >>= λ states. Ok (record { key = key.0; rows = rows.0; states = states.0 }, states.1)) p e in
-    let b = bind_ok (number_at 4 a.0.1) (λ rows. states_at shape.aggregates rows.1 >>= λ states. Ok (record { key = a.0.0; rows = rows.0; states = states.0 }, states.1)) p a.2 in
+    let a = bind_ok (repeat_at value_at (length shape.keys) bytes) (λ key. from_wire (number_at 4 key.1) >>= λ rows. states_at shape.aggregates rows.1 >>= λ states. Ok (record { key = key.0; rows = rows.0; states = states.0 }, states.1)) p e in
+    let b = read_ok (number_at 4 a.0.1) (λ rows. states_at shape.aggregates rows.1 >>= λ states. Ok (record { key = a.0.0; rows = rows.0; states = states.0 }, states.1)) p a.2 in
     let c = bind_ok (states_at shape.aggregates b.0.1) (λ states. Ok (record { key = a.0.0; rows = b.0.0; states = states.0 }, states.1)) p b.2 in
     let made : Group × List ℕ = (record { key = a.0.0; rows = b.0.0; states = c.0.0 }, c.0.1) in
     subst (λ (q : Group × List ℕ). is_group_of plan q.0 ≡ true) (ok_is made p c.2)
@@ -95,12 +98,12 @@ tagged_shaped : (plan : Plan) → IsKnownShape (shape_of plan) → (tag : ℕ) (
 unfolding tagged_body_at fault_at groups_at
 tagged_shaped plan known zero bytes p e =
     let g = test_passed (is_supported feature.fault) refusal.Shape (fault_at bytes) p e in
-    let a = bind_ok (number_at 8 bytes) (λ row. number_at 1 row.1 >>= λ code. Ok (Fault (record { row = row.0; code = code.0 }), code.1)) p g.1 in
-    let b = bind_ok (number_at 1 a.0.1) (λ code. Ok (Fault (record { row = a.0.0; code = code.0 }), code.1)) p a.2 in
+    let a = read_ok (number_at 8 bytes) (λ row. from_wire (number_at 1 row.1) >>= λ code. Ok (Fault (record { row = row.0; code = code.0 }), code.1)) p g.1 in
+    let b = read_ok (number_at 1 a.0.1) (λ code. Ok (Fault (record { row = a.0.0; code = code.0 }), code.1)) p a.2 in
     let made : Body × List ℕ = (Fault (record { row = a.0.0; code = b.0.0 }), b.0.1) in
     subst (λ (q : Body × List ℕ). is_shaped plan q.0 ≡ true) (ok_is made p b.2) refl
 tagged_shaped plan known (suc zero) bytes p e =
-    let a = bind_ok (number_at 4 bytes) (λ count. repeat_at (group_at (shape_of plan)) count.0 count.1 >>= λ groups. Ok (Groups groups.0, groups.1)) p e in
+    let a = read_ok (number_at 4 bytes) (λ count. repeat_at (group_at (shape_of plan)) count.0 count.1 >>= λ groups. Ok (Groups groups.0, groups.1)) p e in
     let b = bind_ok (repeat_at (group_at (shape_of plan)) a.0.0 a.0.1) (λ groups. Ok (Groups groups.0, groups.1)) p a.2 in
     let made : Body × List ℕ = (Groups b.0.0, b.0.1) in
     subst (λ (q : Body × List ℕ). is_shaped plan q.0 ≡ true) (ok_is made p b.2) (repeat_all (group_at (shape_of plan)) (is_group_of plan) (group_shaped plan known) a.0.0 a.0.1 b.0 b.1).1
@@ -113,16 +116,16 @@ tagged_shaped plan known (suc (suc n)) bytes p e =
 pub body_shaped : (plan : Plan) → IsKnownShape (shape_of plan) → (bytes : List ℕ) (p : Body × List ℕ) → body_at (shape_of plan) bytes ≡ Ok p → is_shaped plan p.0 ≡ true
 unfolding body_at
 body_shaped plan known bytes p e =
-    let a = bind_ok (number_at 1 bytes) (λ tag. tagged_body_at (shape_of plan) tag.0 tag.1) p e in
+    let a = read_ok (number_at 1 bytes) (λ tag. tagged_body_at (shape_of plan) tag.0 tag.1) p e in
     tagged_shaped plan known a.0.0 a.0.1 p a.2
 
 pub layout_shaped : (plan : Plan) (bytes : List ℕ) (p : Layout × List ℕ) → layout_at bytes ≡ Ok p → is_same_shape p.0.shape (shape_of plan) ≡ true → is_shaped plan p.0.body ≡ true
 unfolding layout_at
 layout_shaped plan bytes p e =
     let done : JobFields → ℕ → Shape → Body → Layout = λ job k shape body. record { load = job.load; text = job.text; cut = job.cut; k = k; shape = shape; body = body } in
-    let a = bind_ok (behind_magic answer_magic bytes) (λ rest. job_at rest >>= λ job. number_at 4 job.1 >>= λ k. shape_at k.1 >>= λ shape. body_at shape.0 shape.1 >>= λ body. Ok (done job.0 k.0 shape.0 body.0, body.1)) p e in
-    let b = bind_ok (job_at a.0) (λ job. number_at 4 job.1 >>= λ k. shape_at k.1 >>= λ shape. body_at shape.0 shape.1 >>= λ body. Ok (done job.0 k.0 shape.0 body.0, body.1)) p a.2 in
-    let c = bind_ok (number_at 4 b.0.1) (λ k. shape_at k.1 >>= λ shape. body_at shape.0 shape.1 >>= λ body. Ok (done b.0.0 k.0 shape.0 body.0, body.1)) p b.2 in
+    let a = read_ok (behind_magic answer_magic bytes) (λ rest. job_at rest >>= λ job. from_wire (number_at 4 job.1) >>= λ k. shape_at k.1 >>= λ shape. body_at shape.0 shape.1 >>= λ body. Ok (done job.0 k.0 shape.0 body.0, body.1)) p e in
+    let b = bind_ok (job_at a.0) (λ job. from_wire (number_at 4 job.1) >>= λ k. shape_at k.1 >>= λ shape. body_at shape.0 shape.1 >>= λ body. Ok (done job.0 k.0 shape.0 body.0, body.1)) p a.2 in
+    let c = read_ok (number_at 4 b.0.1) (λ k. shape_at k.1 >>= λ shape. body_at shape.0 shape.1 >>= λ body. Ok (done b.0.0 k.0 shape.0 body.0, body.1)) p b.2 in
     let d = bind_ok (shape_at c.0.1) (λ shape. body_at shape.0 shape.1 >>= λ body. Ok (done b.0.0 c.0.0 shape.0 body.0, body.1)) p c.2 in
     let f = bind_ok (body_at d.0.0 d.0.1) (λ body. Ok (done b.0.0 c.0.0 d.0.0 body.0, body.1)) p d.2 in
     let known = shape_known c.0.1 d.0 d.1 in

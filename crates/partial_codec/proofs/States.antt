@@ -1,10 +1,9 @@
 -- The two laws of states: what is read is spelled so and fits, and what fits and is spelled is read.
-use Rattle.std.proofs.Common.{◌≡◌, ℕ, zero, suc, ◌+◌, ◌<◌, Bool, true, false, ◌&&◌, eqb, List, [], ◌∷◌, ◌++◌, length, get_or, Ok, refl, sym, ap, subst, ◌∙◌, append_assoc, arith}
+use Rattle.std.proofs.Common.{◌≡◌, ℕ, zero, suc, ◌+◌, ◌<◌, Bool, true, false, ◌&&◌, eqb, List, [], ◌∷◌, ◌++◌, length, get_or, Ok, refl, ap, subst, ◌∙◌, append_assoc, arith}
 use Rattle.std.specs.Prelude.{nat_lt, slice_index}
 use Rattle.std.specs.List.{flat_map, AllByRecursion, list_all}
 use Rattle.std.specs.Cmp.Lexicographic.{bytes_decides}
 use Rattle.std.proofs.lemmas.Bool.{eqb-true, eq-eqb, lt-ltb, ne_eqb}
-use Rattle.std.proofs.lemmas.List.{append-nil}
 use Rattle.meaning.specs.declared.plan.Plan.{Plan}
 use Rattle.meaning.specs.declared.answer.Body.{Body}
 use Rattle.meaning.specs.declared.answer.Cell.{Cell}
@@ -12,22 +11,26 @@ use Rattle.meaning.specs.declared.answer.Cell.TheVariants.{Nothing, One, Conflic
 use Rattle.meaning.specs.Table.{first_row}
 use Rattle.meaning.specs.Fitting.{is_shaped, are_keys_ascending, are_numbers_possible, fits}
 use Rattle.partial_codec.specs.declared.fault.DecodeFault.TheVariants as refusal
-use Rattle.partial_codec.specs.Reading.{◌>>=◌, bytes_at, number_at, repeat_at}
+use Rattle.wire.specs.Reading.{◌>>=◌, bytes_at, number_at, repeat_at, same_bytes, behind_magic, sealed_end}
 use Rattle.partial_codec.specs.Job.{JobSpec, IsJob}
 use Rattle.partial_codec.specs.Shape.{Shape, shape_of, is_same_shape}
-use Rattle.partial_codec.specs.Spelling.{number_bytes, body_bytes, shape_bytes, seal_of}
-use Rattle.partial_codec.specs.LayoutReading.{JobFields, same_bytes, body_at, shape_at, behind_magic, job_at}
+use Rattle.wire.specs.Bytes.{number_bytes, seal_of}
+use Rattle.partial_codec.specs.Spelling.{body_bytes, shape_bytes}
+use Rattle.partial_codec.specs.LayoutReading.{JobFields, body_at, shape_at, job_at}
 use Rattle.partial_codec.specs.Ranges.{IsCell}
-use Rattle.partial_codec.specs.Answer.{is_body_supported, is_shape_known, Fits, sealed_end}
+use Rattle.partial_codec.specs.Answer.{is_body_supported, is_shape_known, Fits}
 use Rattle.partial_codec.specs.State.{StateLayout, FitsState, SpellsState, cell_bytes, state_magic, state_layout_bytes, state_layout_of, state_bytes, tagged_cell_at, cell_at, state_layout_at, is_cell_shaped, body_held, cell_held, cells_held, state_held_against, judged_state}
-use Rattle.partial_codec.proofs.Numbers.{bind_ok, ok_is, IsBytes, Takes, Takes-then, bytes_take, bytes_again, number_takes, number_again}
-use Rattle.partial_codec.proofs.Values.{IsSpelled, IsReadAgain, repeat_takes, repeat_again}
+use Rattle.wire.proofs.Numbers.{bind_ok, ok_is, IsBytes, Takes, Takes-then, bytes_take, number_takes, number_again, test_not}
+use Rattle.wire.proofs.Parts.{IsSpelled, IsReadAgain, repeat_takes, repeat_again, repeat_all}
 use Rattle.partial_codec.proofs.Groups.{body_takes, body_again}
-use Rattle.partial_codec.proofs.FieldLaws.{IsShape, AreJobFields, job_text, job_takes, job_again, shape_takes, shape_again, magic_takes, magic_again}
+use Rattle.partial_codec.proofs.FieldLaws.{IsShape, AreJobFields, job_text, job_takes, job_again, shape_takes, shape_again}
+use Rattle.wire.proofs.Seals.{magic_takes, magic_again, seal_takes, seal_again, seal_left}
 use Rattle.partial_codec.proofs.Fitting.{both}
-use Rattle.partial_codec.proofs.Known.{IsKnownShape, all_of, known_test, shape_known, body_known, repeat_all}
+use Rattle.partial_codec.proofs.Known.{IsKnownShape, all_of, known_test, shape_known, body_known}
 use Rattle.partial_codec.proofs.Shaped.{body_shaped}
-use Rattle.partial_codec.proofs.Answers.{shape_same, shape_itself, test_not, seal_takes, seal_again, length_seal, job_fits, shape_fits, body_fits}
+use Rattle.partial_codec.proofs.Answers.{shape_same, shape_itself, job_fits, shape_fits, body_fits}
+use Rattle.partial_codec.proofs.FromWire.{read_ok}
+use Rattle.partial_codec.specs.Fault.{from_wire}
 
 -- ---- cells
 
@@ -53,7 +56,7 @@ tagged_takes shape start (suc (suc (suc n))) bytes p fits first e =
 cell_takes : (shape : Shape) → IsSpelled (cell_at shape) (cell_bytes shape)
 unfolding cell_at
 cell_takes shape bytes p fits e =
-    let a = bind_ok (number_at 1 bytes) (λ tag. tagged_cell_at shape tag.0 tag.1) p e in
+    let a = read_ok (number_at 1 bytes) (λ tag. tagged_cell_at shape tag.0 tag.1) p e in
     let tag = number_takes 1 bytes a.0.0 a.0.1 fits a.1 in
     tagged_takes shape bytes a.0.0 a.0.1 p tag.0.rest_fits tag.0 a.2
 
@@ -91,7 +94,7 @@ module _ (Holds : Cell → Type 0) (shape : Shape) (nothing : Holds Nothing) (co
   of_cell : (bytes : List ℕ) (p : Cell × List ℕ) → cell_at shape bytes ≡ Ok p → Holds p.0
   unfolding cell_at
   of_cell bytes p e =
-      let a = bind_ok (number_at 1 bytes) (λ tag. tagged_cell_at shape tag.0 tag.1) p e in
+      let a = read_ok (number_at 1 bytes) (λ tag. tagged_cell_at shape tag.0 tag.1) p e in
       of_tagged a.0.0 a.0.1 p a.2
 
 cells_known : (shape : Shape) (n : ℕ) (bytes : List ℕ) (p : List Cell × List ℕ) → repeat_at (cell_at shape) n bytes ≡ Ok p → list_all is_cell_supported p.0 ≡ true
@@ -120,7 +123,7 @@ layout_read : (bytes : List ℕ) (p : StateLayout × List ℕ) → state_layout_
 unfolding state_layout_at
 layout_read bytes p e =
     let done : JobFields → Shape → List Cell → StateLayout = λ job shape cells. record { load = job.load; text = job.text; cut = job.cut; shape = shape; cells = cells } in
-    let a = bind_ok (behind_magic state_magic bytes) (λ rest. job_at rest >>= λ job. shape_at job.1 >>= λ shape. repeat_at (cell_at shape.0) (length job.0.cut) shape.1 >>= λ cells. Ok (done job.0 shape.0 cells.0, cells.1)) p e in
+    let a = read_ok (behind_magic state_magic bytes) (λ rest. job_at rest >>= λ job. shape_at job.1 >>= λ shape. repeat_at (cell_at shape.0) (length job.0.cut) shape.1 >>= λ cells. Ok (done job.0 shape.0 cells.0, cells.1)) p e in
     let b = bind_ok (job_at a.0) (λ job. shape_at job.1 >>= λ shape. repeat_at (cell_at shape.0) (length job.0.cut) shape.1 >>= λ cells. Ok (done job.0 shape.0 cells.0, cells.1)) p a.2 in
     let c = bind_ok (shape_at b.0.1) (λ shape. repeat_at (cell_at shape.0) (length b.0.0.cut) shape.1 >>= λ cells. Ok (done b.0.0 shape.0 cells.0, cells.1)) p b.2 in
     let d = bind_ok (repeat_at (cell_at c.0.0) (length b.0.0.cut) c.0.1) (λ cells. Ok (done b.0.0 c.0.0 cells.0, cells.1)) p c.2 in
@@ -276,9 +279,9 @@ state_fits job l cells is held =
 pub file_takes : (job : JobSpec) (bytes : List ℕ) (cells : List Cell) → IsBytes bytes → judged_state job bytes ≡ Ok cells → SpellsState job bytes cells
 unfolding judged_state
 file_takes job bytes cells ok e =
-    let one = bind_ok (state_layout_at bytes) (λ layout. bytes_at 32 layout.1 >>= λ seal. sealed_end bytes seal.0 seal.1 >>= λ end. state_held_against job layout.0) cells e in
-    let two = bind_ok (bytes_at 32 one.0.1) (λ seal. sealed_end bytes seal.0 seal.1 >>= λ end. state_held_against job one.0.0) cells one.2 in
-    let three = bind_ok (sealed_end bytes two.0.0 two.0.1) (λ end. state_held_against job one.0.0) cells two.2 in
+    let one = bind_ok (state_layout_at bytes) (λ layout. from_wire (bytes_at 32 layout.1) >>= λ seal. from_wire (sealed_end bytes seal.0 seal.1) >>= λ end. state_held_against job layout.0) cells e in
+    let two = read_ok (bytes_at 32 one.0.1) (λ seal. from_wire (sealed_end bytes seal.0 seal.1) >>= λ end. state_held_against job one.0.0) cells one.2 in
+    let three = read_ok (sealed_end bytes two.0.0 two.0.1) (λ end. state_held_against job one.0.0) cells two.2 in
     let layout = layout_takes bytes one.0 ok one.1 in
     let seal = bytes_take 32 one.0.1 two.0.0 two.0.1 layout.rest_fits two.1 in
     let front = state_layout_bytes one.0.0 in
@@ -356,7 +359,7 @@ unfolding judged_state
 file_again job cells is fit =
     let front = state_layout_bytes (state_layout_of job cells) in
     let seal = seal_of front in
-    let sealed : bytes_at 32 seal ≡ Ok (seal, []) = ap (bytes_at 32) (sym (append-nil seal)) ∙ bytes_again 32 seal [] (length_seal front) in
+    let sealed = seal_left front in
     rw (layout_again (state_layout_of job cells) seal (state_layout_fits job cells is fit), sealed, seal_again front, held_again job cells fit) refl
 
 pub spelled_state_reads : (job : JobSpec) (bytes : List ℕ) (cells : List Cell) → IsJob job → SpellsState job bytes cells → judged_state job bytes ≡ Ok cells

@@ -13,9 +13,10 @@ use Rattle.meaning.specs.declared.plan.Plan.{Plan}
 use Rattle.meaning.specs.Cut.{IsCut}
 use Rattle.meaning.specs.Order.{is_ascending, row_cmp}
 use Rattle.meaning.specs.Table.{first_row}
+use Rattle.meaning.specs.Limits.{max_rows}
 use Rattle.partial_codec.specs.declared.fault.DecodeFault.{DecodeFault}
 use Rattle.partial_codec.specs.Job.{JobSpec}
-use Rattle.partial_codec.specs.Reading.{◌>>=◌}
+use Rattle.wire.specs.Reading.{◌>>=◌}
 use Rattle.partial_codec.specs.State.{cell_held, cells_held}
 use Rattle.partial_codec.proofs.Fitting.{short_at, few_rows_before}
 
@@ -106,7 +107,7 @@ next_first cut k lt =
 -- the rows of a cut have numbers of 64 bits
 pub rows_fit : (cut : List ℕ) (k : ℕ) → IsCut cut → first_row cut k + slice_index cut k < 2 ^ 64
 rows_fit cut k is =
-    let short = recursion_from_All (λ n. n ≤ 1048576) cut is.short in
+    let short = recursion_from_All (λ n. n ≤ max_rows) cut is.short in
     let rows = short_at cut k short in
     let first = few_rows_before cut k short in
     let few = is.few in

@@ -1,5 +1,5 @@
 -- Which bytes are an answer for a job, and what is wrong first with others.
-use Rattle.std.specs.Prelude.{◌≡◌, ℕ, ◌-◌, ◌==◌, nat_lt, Bool, true, ◌&&◌, not, if◌then◌else◌, List, length, take, slice_index, Option, Some, None, Result, Ok, Err}
+use Rattle.std.specs.Prelude.{◌≡◌, ℕ, ◌==◌, nat_lt, Bool, true, ◌&&◌, not, if◌then◌else◌, List, length, slice_index, Option, Some, None, Result, Ok, Err}
 use Rattle.std.specs.List.{list_all}
 use Rattle.meaning.specs.declared.answer.Body.{Body}
 use Rattle.meaning.specs.declared.answer.Body.TheVariants.{Groups, Fault}
@@ -7,13 +7,14 @@ use Rattle.meaning.specs.declared.answer.Answer.{Answer}
 use Rattle.meaning.specs.Table.{first_row}
 use Rattle.meaning.specs.Fitting.{is_shaped, are_keys_ascending, are_numbers_possible, fits}
 use Rattle.partial_codec.specs.declared.fault.DecodeFault.{DecodeFault}
-use Rattle.partial_codec.specs.declared.fault.DecodeFault.TheVariants.{TrailingBytes, Seal, OtherLoad, OtherQuery, OtherCut, UnsortedGroups, Shape, Numbers}
-use Rattle.partial_codec.specs.Reading.{◌>>=◌, bytes_at}
+use Rattle.partial_codec.specs.declared.fault.DecodeFault.TheVariants.{OtherLoad, OtherQuery, OtherCut, UnsortedGroups, Shape, Numbers}
+use Rattle.wire.specs.Reading.{◌>>=◌, bytes_at, same_bytes, sealed_end}
 use Rattle.partial_codec.specs.Job.{JobSpec}
 use Rattle.partial_codec.specs.Shape as shapes
 use Rattle.partial_codec.specs.Supported.{is_supported, keys, aggregates, kind, fault}
-use Rattle.partial_codec.specs.Spelling.{Layout, seal_of, answer_bytes}
-use Rattle.partial_codec.specs.LayoutReading.{same_bytes, layout_at}
+use Rattle.partial_codec.specs.Spelling.{Layout, answer_bytes}
+use Rattle.partial_codec.specs.LayoutReading.{layout_at}
+use Rattle.partial_codec.specs.Fault.{from_wire}
 
 -- ---- what is spelled
 
@@ -53,20 +54,13 @@ held_against job l =
     else if not (are_numbers_possible job.plan (first_row job.cut l.k) (slice_index job.cut l.k) l.body) then Err Numbers
     else Ok (record { k = l.k; body = l.body })
 
--- the seal is the end of the bytes, and that of all bytes before it
-unfoldable pub sealed_end : List ℕ → List ℕ → List ℕ → Result (List ℕ) DecodeFault
-sealed_end bytes seal rest =
-    if not (length rest == 0) then Err TrailingBytes
-    else if not (same_bytes seal (seal_of (take (length bytes - 32) bytes))) then Err Seal
-    else Ok seal
-
 -- the answer that the bytes give, or the first thing that is wrong: a field from front to back, the seal among them;
 -- bytes behind the seal; the seal; and then the fields against the job
 unfoldable pub judged : JobSpec → List ℕ → Result Answer DecodeFault
 judged job bytes = do
   layout ← layout_at bytes
-  seal ← bytes_at 32 layout.1
-  end ← sealed_end bytes seal.0 seal.1
+  seal ← from_wire (bytes_at 32 layout.1)
+  end ← from_wire (sealed_end bytes seal.0 seal.1)
   held_against job layout.0
 
 abbrev pub fault_in : {A : Type 0} → Result A DecodeFault → Option DecodeFault

@@ -1,8 +1,5 @@
 -- How an answer's fields are read from front to back.
-use Rattle.std.specs.Prelude.{ℕ, Bool, ◌==◌, ℤ, if◌then◌else◌, List, [], ◌∷◌, length, Option, Some, None, Result, Ok, Err}
-use Rattle.std.specs.Int.{w64, w128, cast_signed}
-use Rattle.std.specs.Cmp.Lexicographic.{pointwise}
-use Rattle.std.specs.Prelude.{nat_eq}
+use Rattle.std.specs.Prelude.{ℕ, ◌==◌, if◌then◌else◌, List, [], ◌∷◌, length, Option, Some, None, Result, Ok, Err}
 use Rattle.meaning.specs.declared.value.ColType.{ColType}
 use Rattle.meaning.specs.declared.value.ColType.TheVariants as of_type
 use Rattle.meaning.specs.declared.value.Value.{Value}
@@ -18,38 +15,26 @@ use Rattle.partial_codec.specs.declared.shape.AggregateShape.{AggregateShape}
 use Rattle.partial_codec.specs.declared.fault.DecodeFault.{DecodeFault}
 use Rattle.partial_codec.specs.declared.fault.DecodeFault.TheVariants.{Magic}
 use Rattle.partial_codec.specs.declared.fault.DecodeFault.TheVariants as fault
-use Rattle.partial_codec.specs.Reading.{◌>>=◌, Read, bytes_at, number_at, text_at, repeat_at}
+use Rattle.wire.specs.Reading.{◌>>=◌, Read, number_at, text_at, repeat_at, i64_at, i128_at, behind_magic}
 use Rattle.partial_codec.specs.Shape.{Shape}
 use Rattle.partial_codec.specs.Supported.{if_supported}
 use Rattle.partial_codec.specs.Supported as feature
 use Rattle.partial_codec.specs.Spelling.{Layout, answer_magic}
-
-abbrev pub same_bytes : List ℕ → List ℕ → Bool
-same_bytes = pointwise nat_eq
+use Rattle.partial_codec.specs.Fault.{from_wire}
 
 -- ---- values
 
-unfoldable pub integer_at : List ℕ → Read ℤ
-integer_at bytes = do
-  n ← number_at 8 bytes
-  Ok (cast_signed w64 n.0, n.1)
-
-unfoldable pub sum_at : List ℕ → Read ℤ
-sum_at bytes = do
-  n ← number_at 16 bytes
-  Ok (cast_signed w128 n.0, n.1)
-
 -- NULL behind a 0, an integer behind a 1, a text behind a 2
-unfoldable pub tagged_value_at : ℕ → List ℕ → Read Value
+unfoldable pub tagged_value_at : ℕ → List ℕ → Read DecodeFault Value
 tagged_value_at tag bytes =
     if tag == 0 then Ok (Null, bytes)
-    else if tag == 1 then (integer_at bytes >>= λ z. Ok (Int z.0, z.1))
-    else if tag == 2 then (text_at 2 bytes >>= λ t. Ok (Text t.0, t.1))
+    else if tag == 1 then (from_wire (i64_at bytes) >>= λ z. Ok (Int z.0, z.1))
+    else if tag == 2 then (from_wire (text_at 2 bytes) >>= λ t. Ok (Text t.0, t.1))
     else Err fault.Shape
 
-unfoldable pub value_at : List ℕ → Read Value
+unfoldable pub value_at : List ℕ → Read DecodeFault Value
 value_at bytes = do
-  tag ← number_at 1 bytes
+  tag ← from_wire (number_at 1 bytes)
   tagged_value_at tag.0 tag.1
 
 -- ---- groups
@@ -61,67 +46,67 @@ unless_null (Int z) = Some (Int z)
 unless_null (Text t) = Some (Text t)
 
 -- what the aggregate's kind keeps
-unfoldable pub state_at : AggregateKind → List ℕ → Read Statistics
+unfoldable pub state_at : AggregateKind → List ℕ → Read DecodeFault Statistics
 state_at CountRows bytes = do
-  n ← number_at 4 bytes
+  n ← from_wire (number_at 4 bytes)
   Ok (record no_statistics { count = n.0 }, n.1)
 state_at Count bytes = do
-  n ← number_at 4 bytes
+  n ← from_wire (number_at 4 bytes)
   Ok (record no_statistics { count = n.0 }, n.1)
 state_at Sum bytes = do
-  n ← number_at 4 bytes
-  sum ← sum_at n.1
+  n ← from_wire (number_at 4 bytes)
+  sum ← from_wire (i128_at n.1)
   Ok (record no_statistics { count = n.0; sum = sum.0 }, sum.1)
 state_at Avg bytes = do
-  n ← number_at 4 bytes
-  sum ← sum_at n.1
+  n ← from_wire (number_at 4 bytes)
+  sum ← from_wire (i128_at n.1)
   Ok (record no_statistics { count = n.0; sum = sum.0 }, sum.1)
 state_at Min bytes = do
-  n ← number_at 4 bytes
+  n ← from_wire (number_at 4 bytes)
   value ← value_at n.1
   Ok (record no_statistics { count = n.0; least = unless_null value.0 }, value.1)
 state_at Max bytes = do
-  n ← number_at 4 bytes
+  n ← from_wire (number_at 4 bytes)
   value ← value_at n.1
   Ok (record no_statistics { count = n.0; greatest = unless_null value.0 }, value.1)
 
 -- one state for each aggregate
-unfoldable pub states_at : List AggregateShape → List ℕ → Read (List Statistics)
+unfoldable pub states_at : List AggregateShape → List ℕ → Read DecodeFault (List Statistics)
 states_at [] bytes = Ok ([], bytes)
 states_at (a ∷ shapes) bytes = do
   first ← state_at a.kind bytes
   others ← states_at shapes first.1
   Ok (first.0 ∷ others.0, others.1)
 
-unfoldable pub group_at : Shape → List ℕ → Read Group
+unfoldable pub group_at : Shape → List ℕ → Read DecodeFault Group
 group_at shape bytes = do
   key ← repeat_at value_at (length shape.keys) bytes
-  rows ← number_at 4 key.1
+  rows ← from_wire (number_at 4 key.1)
   states ← states_at shape.aggregates rows.1
   Ok (record { key = key.0; rows = rows.0; states = states.0 }, states.1)
 
-unfoldable pub groups_at : Shape → List ℕ → Read Body
+unfoldable pub groups_at : Shape → List ℕ → Read DecodeFault Body
 groups_at shape bytes = do
-  count ← number_at 4 bytes
+  count ← from_wire (number_at 4 bytes)
   groups ← repeat_at (group_at shape) count.0 count.1
   Ok (Groups groups.0, groups.1)
 
-unfoldable pub fault_at : List ℕ → Read Body
+unfoldable pub fault_at : List ℕ → Read DecodeFault Body
 fault_at bytes = do
-  row ← number_at 8 bytes
-  code ← number_at 1 row.1
+  row ← from_wire (number_at 8 bytes)
+  code ← from_wire (number_at 1 row.1)
   Ok (Fault (record { row = row.0; code = code.0 }), code.1)
 
 -- a fault behind a 0, groups behind a 1
-unfoldable pub tagged_body_at : Shape → ℕ → List ℕ → Read Body
+unfoldable pub tagged_body_at : Shape → ℕ → List ℕ → Read DecodeFault Body
 tagged_body_at shape tag bytes =
     if tag == 0 then if_supported feature.fault (fault_at bytes)
     else if tag == 1 then groups_at shape bytes
     else Err fault.Shape
 
-unfoldable pub body_at : Shape → List ℕ → Read Body
+unfoldable pub body_at : Shape → List ℕ → Read DecodeFault Body
 body_at shape bytes = do
-  tag ← number_at 1 bytes
+  tag ← from_wire (number_at 1 bytes)
   tagged_body_at shape tag.0 tag.1
 
 -- ---- shapes
@@ -129,9 +114,9 @@ body_at shape bytes = do
 abbrev pub type_of : ℕ → Result ColType DecodeFault
 type_of n = if n == 1 then Ok of_type.Int else if n == 2 then Ok of_type.Text else Err fault.Shape
 
-unfoldable pub type_at : List ℕ → Read ColType
+unfoldable pub type_at : List ℕ → Read DecodeFault ColType
 type_at bytes = do
-  n ← number_at 1 bytes
+  n ← from_wire (number_at 1 bytes)
   t ← type_of n.0
   Ok (t, n.1)
 
@@ -148,33 +133,27 @@ abbrev pub argument_from : AggregateKind → ℕ → Result (Option ColType) Dec
 argument_from CountRows n = if n == 0 then Ok None else Err fault.Shape
 argument_from _ n = type_of n >>= λ t. Ok (Some t)
 
-unfoldable pub argument_at : AggregateKind → List ℕ → Read AggregateShape
+unfoldable pub argument_at : AggregateKind → List ℕ → Read DecodeFault AggregateShape
 argument_at kind bytes = do
-  n ← number_at 1 bytes
+  n ← from_wire (number_at 1 bytes)
   argument ← argument_from kind n.0
   Ok (record { kind = kind; argument = argument }, n.1)
 
-unfoldable pub aggregate_at : List ℕ → Read AggregateShape
+unfoldable pub aggregate_at : List ℕ → Read DecodeFault AggregateShape
 aggregate_at bytes = do
-  n ← number_at 1 bytes
+  n ← from_wire (number_at 1 bytes)
   kind ← known_kind n.0
   argument_at kind n.1
 
-unfoldable pub shape_at : List ℕ → Read Shape
+unfoldable pub shape_at : List ℕ → Read DecodeFault Shape
 shape_at bytes = do
-  n ← number_at 2 bytes
+  n ← from_wire (number_at 2 bytes)
   keys ← if_supported (feature.keys n.0) (repeat_at type_at n.0 n.1)
-  m ← number_at 2 keys.1
+  m ← from_wire (number_at 2 keys.1)
   aggregates ← if_supported (feature.aggregates m.0) (repeat_at aggregate_at m.0 m.1)
   Ok (record { keys = keys.0; aggregates = aggregates.0 }, aggregates.1)
 
 -- ---- the whole
-
--- the bytes behind the magic
-unfoldable pub behind_magic : List ℕ → List ℕ → Result (List ℕ) DecodeFault
-behind_magic magic bytes = do
-  first ← bytes_at 4 bytes
-  if same_bytes first.0 magic then Ok first.1 else Err Magic
 
 -- the fields that tell the job: its load, the query's text, and the cut
 pub record JobFields : Type 0 where
@@ -182,19 +161,23 @@ pub record JobFields : Type 0 where
   pub text : List ℕ
   pub cut : List ℕ
 
-unfoldable pub job_at : List ℕ → Read JobFields
+-- how many rows one fragment has
+abbrev pub length_at : List ℕ → Read DecodeFault ℕ
+length_at bytes = from_wire (number_at 4 bytes)
+
+unfoldable pub job_at : List ℕ → Read DecodeFault JobFields
 job_at bytes = do
-  load ← number_at 8 bytes
-  text ← text_at 4 load.1
-  n ← number_at 4 text.1
-  cut ← repeat_at (number_at 4) n.0 n.1
+  load ← from_wire (number_at 8 bytes)
+  text ← from_wire (text_at 4 load.1)
+  n ← from_wire (number_at 4 text.1)
+  cut ← repeat_at length_at n.0 n.1
   Ok (record { load = load.0; text = text.0; cut = cut.0 }, cut.1)
 
-unfoldable pub layout_at : List ℕ → Read Layout
+unfoldable pub layout_at : List ℕ → Read DecodeFault Layout
 layout_at bytes = do
-  rest ← behind_magic answer_magic bytes
+  rest ← from_wire (behind_magic answer_magic bytes)
   job ← job_at rest
-  k ← number_at 4 job.1
+  k ← from_wire (number_at 4 job.1)
   shape ← shape_at k.1
   body ← body_at shape.0 shape.1
   Ok (record { load = job.0.load; text = job.0.text; cut = job.0.cut; k = k.0; shape = shape.0; body = body.0 }, body.1)

@@ -1,6 +1,6 @@
+-- The definitions of this crate.
 pub mod Fault
 pub mod Job
-pub mod Reading
 pub mod Shape
 pub mod Supported
 pub mod Spelling

@@ -1,8 +1,7 @@
 -- What has a spelling: numbers and texts that their fields can hold.
-use Rattle.std.specs.Prelude.{◌≡◌, ℕ, ◌<◌, ◌^◌, true, List, [], ◌∷◌, length, Option, Some, None, FitsSigned}
+use Rattle.std.specs.Prelude.{◌≡◌, ◌<◌, ◌^◌, true, List, [], ◌∷◌, length, Option, Some, None, FitsSigned}
 use Rattle.std.specs.List.{AllByRecursion}
 use Rattle.std.specs.Int.{w64, w128}
-use Rattle.std.specs.Str.{is_utf8}
 use Rattle.meaning.specs.declared.value.Value.{Value}
 use Rattle.meaning.specs.declared.value.Value.TheVariants.{Null, Int, Text}
 use Rattle.meaning.specs.declared.plan.AggregateKind.{AggregateKind}
@@ -16,11 +15,7 @@ use Rattle.meaning.specs.Aggregate.{kept_by}
 use Rattle.partial_codec.specs.declared.shape.AggregateShape.{AggregateShape}
 use Rattle.partial_codec.specs.Shape.{Shape}
 use Rattle.partial_codec.specs.Supported.{is_supported, fault}
-
--- a text that a length of w bytes can stand before
-pub record IsText (w : ℕ) (text : List ℕ) : Type 0 where
-  pub is_text : is_utf8 text ≡ true
-  pub short : length text < 256 ^ w
+use Rattle.wire.specs.Bytes.{IsText}
 
 abbrev pub IsValue : Value → Type 0
 IsValue Null = Unit {0}

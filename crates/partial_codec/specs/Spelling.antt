@@ -1,9 +1,6 @@
 -- The one spelling of each part of an answer. Numbers stand with their lowest byte first, signed ones in two's complement.
-use Rattle.std.specs.Prelude.{ℕ, ℤ, List, [], ◌∷◌, ◌++◌, length, Option, Some, None}
+use Rattle.std.specs.Prelude.{ℕ, List, [], ◌∷◌, ◌++◌, length, Option, Some, None}
 use Rattle.std.specs.List.{flat_map}
-use Rattle.std.specs.Int.{w64, w128, cast_unsigned}
-use Rattle.byteorder.specs.Endian.{little_bytes}
-use Rattle.sha2.specs.Sha256.{sha256}
 use Rattle.meaning.specs.declared.value.Value.{Value}
 use Rattle.meaning.specs.declared.value.Value.TheVariants.{Null, Int, Text}
 use Rattle.meaning.specs.declared.plan.AggregateKind.{AggregateKind}
@@ -16,27 +13,14 @@ use Rattle.meaning.specs.declared.answer.Answer.{Answer}
 use Rattle.partial_codec.specs.declared.shape.AggregateShape.{AggregateShape}
 use Rattle.partial_codec.specs.Job.{JobSpec}
 use Rattle.partial_codec.specs.Shape.{Shape, shape_of, type_code, kind_code, argument_code}
+use Rattle.wire.specs.Bytes.{number_bytes, i64_bytes, i128_bytes, text_bytes, sealed}
 
 -- ---- values
-
--- a number of n bytes, the lowest first
-unfoldable pub number_bytes : ℕ → ℕ → List ℕ
-number_bytes n x = little_bytes n x
-
-abbrev pub integer_bytes : ℤ → List ℕ
-integer_bytes z = number_bytes 8 (cast_unsigned w64 z)
-
-abbrev pub sum_bytes : ℤ → List ℕ
-sum_bytes z = number_bytes 16 (cast_unsigned w128 z)
-
--- a text behind its length, a number of w bytes
-unfoldable pub text_bytes : ℕ → List ℕ → List ℕ
-text_bytes w text = number_bytes w (length text) ++ text
 
 -- a tag, and an integer or a text
 unfoldable pub value_bytes : Value → List ℕ
 value_bytes Null = number_bytes 1 0
-value_bytes (Int z) = number_bytes 1 1 ++ integer_bytes z
+value_bytes (Int z) = number_bytes 1 1 ++ i64_bytes z
 value_bytes (Text t) = number_bytes 1 2 ++ text_bytes 2 t
 
 -- ---- groups
@@ -50,8 +34,8 @@ value_or_null (Some v) = v
 unfoldable pub state_bytes : AggregateKind → Statistics → List ℕ
 state_bytes CountRows s = number_bytes 4 s.count
 state_bytes Count s = number_bytes 4 s.count
-state_bytes Sum s = number_bytes 4 s.count ++ sum_bytes s.sum
-state_bytes Avg s = number_bytes 4 s.count ++ sum_bytes s.sum
+state_bytes Sum s = number_bytes 4 s.count ++ i128_bytes s.sum
+state_bytes Avg s = number_bytes 4 s.count ++ i128_bytes s.sum
 state_bytes Min s = number_bytes 4 s.count ++ value_bytes (value_or_null s.least)
 state_bytes Max s = number_bytes 4 s.count ++ value_bytes (value_or_null s.greatest)
 
@@ -103,14 +87,6 @@ layout_bytes l = answer_magic ++ job_bytes l.load l.text l.cut ++ number_bytes 4
 -- what an answer for a job is laid out from
 abbrev pub layout_of : JobSpec → Answer → Layout
 layout_of job a = record { load = job.load; text = job.plan.text; cut = job.cut; k = a.k; shape = shape_of job.plan; body = a.body }
-
--- the seal of bytes is their SHA-256
-unfoldable pub seal_of : List ℕ → List ℕ
-seal_of bytes = sha256 bytes
-
--- bytes with their seal
-abbrev pub sealed : List ℕ → List ℕ
-sealed bytes = bytes ++ seal_of bytes
 
 -- the one spelling of an answer for a job
 abbrev pub answer_bytes : JobSpec → Answer → List ℕ

@@ -9,12 +9,14 @@ use Rattle.meaning.specs.Table.{first_row}
 use Rattle.meaning.specs.Fitting.{is_shaped, are_keys_ascending, are_numbers_possible}
 use Rattle.partial_codec.specs.declared.fault.DecodeFault.{DecodeFault}
 use Rattle.partial_codec.specs.declared.fault.DecodeFault.TheVariants as fault
-use Rattle.partial_codec.specs.Reading.{◌>>=◌, Read, bytes_at, number_at, repeat_at}
+use Rattle.wire.specs.Reading.{◌>>=◌, Read, bytes_at, number_at, repeat_at, same_bytes, behind_magic, sealed_end}
 use Rattle.partial_codec.specs.Job.{JobSpec}
 use Rattle.partial_codec.specs.Shape.{Shape, shape_of, is_same_shape}
-use Rattle.partial_codec.specs.Spelling.{number_bytes, body_bytes, job_bytes, shape_bytes, sealed}
-use Rattle.partial_codec.specs.LayoutReading.{same_bytes, body_at, shape_at, behind_magic, job_at}
-use Rattle.partial_codec.specs.Answer.{is_shape_known, Fits, sealed_end, fault_in}
+use Rattle.wire.specs.Bytes.{number_bytes, sealed}
+use Rattle.partial_codec.specs.Spelling.{body_bytes, job_bytes, shape_bytes}
+use Rattle.partial_codec.specs.LayoutReading.{body_at, shape_at, job_at}
+use Rattle.partial_codec.specs.Answer.{is_shape_known, Fits, fault_in}
+use Rattle.partial_codec.specs.Fault.{from_wire}
 
 -- ---- what is spelled
 
@@ -61,22 +63,22 @@ pub record SpellsState (job : JobSpec) (bytes : List ℕ) (cells : List Cell) : 
 
 -- ---- how it is read
 
-unfoldable pub tagged_cell_at : Shape → ℕ → List ℕ → Read Cell
+unfoldable pub tagged_cell_at : Shape → ℕ → List ℕ → Read DecodeFault Cell
 tagged_cell_at shape tag bytes =
     if tag == 0 then Ok (Nothing, bytes)
     else if tag == 1 then (body_at shape bytes >>= λ body. Ok (One body.0, body.1))
     else if tag == 2 then Ok (Conflict, bytes)
     else Err fault.Shape
 
-unfoldable pub cell_at : Shape → List ℕ → Read Cell
+unfoldable pub cell_at : Shape → List ℕ → Read DecodeFault Cell
 cell_at shape bytes = do
-  tag ← number_at 1 bytes
+  tag ← from_wire (number_at 1 bytes)
   tagged_cell_at shape tag.0 tag.1
 
 -- a cell for each fragment of the cut that was read
-unfoldable pub state_layout_at : List ℕ → Read StateLayout
+unfoldable pub state_layout_at : List ℕ → Read DecodeFault StateLayout
 state_layout_at bytes = do
-  rest ← behind_magic state_magic bytes
+  rest ← from_wire (behind_magic state_magic bytes)
   job ← job_at rest
   shape ← shape_at job.1
   cells ← repeat_at (cell_at shape.0) (length job.0.cut) shape.1
@@ -124,8 +126,8 @@ state_held_against job l =
 unfoldable pub judged_state : JobSpec → List ℕ → Result (List Cell) DecodeFault
 judged_state job bytes = do
   layout ← state_layout_at bytes
-  seal ← bytes_at 32 layout.1
-  end ← sealed_end bytes seal.0 seal.1
+  seal ← from_wire (bytes_at 32 layout.1)
+  end ← from_wire (sealed_end bytes seal.0 seal.1)
   state_held_against job layout.0
 
 -- the first obstacle to the bytes' being the state of a coordinator for the job

@@ -1,19 +1,19 @@
-// The groups of an answer, read from front to back.
+//! The groups of an answer, read from front to back.
 ghost use Rattle.std.specs.Prelude.{◌≡◌, true};
 ghost use Rattle.meaning.specs.declared.answer.Body.TheVariants.{Groups};
 ghost use Rattle.partial_codec.specs.Fields.{one_aggregate};
 ghost use Rattle.partial_codec.specs.LayoutReading.{body_at, group_at, state_at};
-ghost use Rattle.partial_codec.specs.Reading.{Reads, ReadsIfMemory, repeat_at};
+ghost use Rattle.wire.specs.Reading.{Reads, ReadsIfMemory, repeat_at};
 ghost use Rattle.partial_codec.specs.Supported.{is_supported};
 ghost use Rattle.partial_codec.specs.Supported as feature;
 
 use crate::fault::DecodeFault;
-use crate::number::{take_i128, take_u8, take_u32};
 use crate::shape::AggregateShape;
 use meaning::answer::{Group, Statistics};
 use meaning::plan::AggregateKind;
 use meaning::sequence::Sequence;
 use std::alloc::Global;
+use wire::{take_i128, take_u8, take_u32};
 
 #[tactic(auto, unfolding(crate::specs::LayoutReading::state_at))]
 fn take_row_count(bytes: &[u8]) -> Result<(Statistics, &[u8]), DecodeFault>
@@ -59,14 +59,15 @@ fn take_state(kind: AggregateKind, bytes: &[u8]) -> Result<(Statistics, &[u8]), 
     }
 }
 
-#[tactic(auto, unfolding(crate::specs::LayoutReading::group_at, crate::specs::LayoutReading::states_at, crate::specs::Reading::repeat_at))]
+#[tactic(auto, unfolding(crate::specs::LayoutReading::group_at, crate::specs::LayoutReading::states_at, wire::specs::Reading::repeat_at))]
 fn take_group(
     alloc: Global,
     aggregate: AggregateShape,
     bytes: &[u8],
 ) -> Result<(Group, &[u8]), DecodeFault>
     requires { is_supported (feature.kind aggregate.kind) ≡ true }
-    ensures { ReadsIfMemory (λ x. (x.0, x.1.now)) result (group_at (one_aggregate aggregate) bytes.now) }
+    ensures { ReadsIfMemory DecodeFault.Memory (λ x. (x.0, x.1.now)) result
+        (group_at (one_aggregate aggregate) bytes.now) }
 {
     let (rows, rest) = take_u32(bytes)?;
     let (state, rest) = take_state(aggregate.kind, rest)?;
@@ -89,7 +90,8 @@ fn take_groups(
     bytes: &[u8],
 ) -> Result<(Vec<Group>, &[u8]), DecodeFault>
     requires { is_supported (feature.kind aggregate.kind) ≡ true }
-    ensures { ReadsIfMemory (λ x. (x.0.items, x.1.now)) result (repeat_at (group_at (one_aggregate aggregate)) count bytes.now) }
+    ensures { ReadsIfMemory DecodeFault.Memory (λ x. (x.0.items, x.1.now)) result
+        (repeat_at (group_at (one_aggregate aggregate)) count bytes.now) }
 {
     let mut groups = Vec::new(alloc);
     let mut rest = bytes;
@@ -101,7 +103,7 @@ fn take_groups(
     Ok((groups, rest))
 }
 
-/// The groups, and the bytes behind them.
+///! The groups, and the bytes behind them.
 #[tactic(auto, unfolding(crate::specs::LayoutReading::body_at, crate::specs::LayoutReading::tagged_body_at, crate::specs::LayoutReading::groups_at, crate::specs::Supported::is_supported))]
 pub fn take_body(
     alloc: Global,
@@ -109,7 +111,8 @@ pub fn take_body(
     bytes: &[u8],
 ) -> Result<(Vec<Group>, &[u8]), DecodeFault>
     requires { is_supported (feature.kind aggregate.kind) ≡ true }
-    ensures { ReadsIfMemory (λ x. (Groups x.0.items, x.1.now)) result (body_at (one_aggregate aggregate) bytes.now) }
+    ensures { ReadsIfMemory DecodeFault.Memory (λ x. (Groups x.0.items, x.1.now)) result
+        (body_at (one_aggregate aggregate) bytes.now) }
 {
     let (tag, rest) = take_u8(bytes)?;
     if tag != 1 {

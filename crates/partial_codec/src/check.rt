@@ -1,7 +1,7 @@
-// What was read, held against the job.
+//! What was read, held against the job.
 ghost use Rattle.std.specs.Prelude.{◌≡◌, ◌<◌, ◌^◌, ℕ, ℤ, pos, ◌*ℤ◌, int_le, ◌&&◌, ◌==◌, nat_le, length, map, sum, slice_index, true, not, nat_lt};
 ghost use Rattle.meaning.specs.Table.{first_row};
-ghost use Rattle.partial_codec.specs.LayoutReading.{same_bytes};
+ghost use Rattle.wire.specs.Reading.{same_bytes, Reads};
 ghost use Rattle.std.specs.List.{list_all};
 ghost use Rattle.std.specs.Cmp.Lexicographic.{pointwise};
 ghost use Rattle.std.specs.Ordering.{is_lt};
@@ -11,7 +11,6 @@ ghost use Rattle.meaning.specs.Fitting as fitting;
 ghost use Rattle.meaning.specs.Group.{certain_keys};
 ghost use Rattle.partial_codec.specs.Answer.{held_against};
 ghost use Rattle.partial_codec.specs.Fields.{layout_in, one_aggregate};
-ghost use Rattle.partial_codec.specs.Reading.{Reads};
 ghost use Rattle.partial_codec.specs.Shape.{is_same_shape, shape_of};
 
 use crate::fault::DecodeFault;

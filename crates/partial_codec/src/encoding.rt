@@ -1,3 +1,4 @@
+//! Answers as bytes, and the parts that states have too.
 ghost use Rattle.std.specs.Prelude.{◌≡◌, ◌<◌, ◌^◌, ◌++◌, [], ◌∷◌, ℕ, length, map, IfOk, OnOk, true, option_copied};
 ghost use Rattle.std.specs.List.{flat_map, AllByRecursion};
 ghost use Rattle.std.specs.Int.{w128, cast_unsigned};
@@ -13,69 +14,23 @@ ghost use Rattle.partial_codec.specs.Supported as feature;
 use crate::fields::ANSWER_MAGIC;
 use crate::job::Job;
 use crate::shape::{argument_code, kind_code, shape_of_aggregate};
-use byteorder::{ByteOrder, LittleEndian};
 use meaning::answer::{Answer, Body, Group, Statistics};
 use meaning::plan::{Aggregate, AggregateKind, Plan};
-use sha2::{Digest, Sha256};
 use std::alloc::{AllocError, Global};
-
-#[tactic(auto, unfolding(crate::specs::Spelling::number_bytes))]
-pub fn put_u8(out: &mut Vec<u8>, n: u8) -> Result<(), AllocError>
-    ensures { OnOk result (out.new.items ≡ out.old.items ++ spec.number_bytes 1 n) }
-{
-    out.push(n)?;
-    Ok(())
-}
-
-#[tactic(auto, unfolding(crate::specs::Spelling::number_bytes))]
-fn put_u16(out: &mut Vec<u8>, n: u16) -> Result<(), AllocError>
-    ensures { OnOk result (out.new.items ≡ out.old.items ++ spec.number_bytes 2 n) }
-{
-    let mut word = [0; 2];
-    LittleEndian::write_u16(&mut word, n);
-    out.extend_from_slice(&word)
-}
-
-#[tactic(auto, unfolding(crate::specs::Spelling::number_bytes))]
-fn put_u32(out: &mut Vec<u8>, n: u32) -> Result<(), AllocError>
-    ensures { OnOk result (out.new.items ≡ out.old.items ++ spec.number_bytes 4 n) }
-{
-    let mut word = [0; 4];
-    LittleEndian::write_u32(&mut word, n);
-    out.extend_from_slice(&word)
-}
-
-#[tactic(auto, unfolding(crate::specs::Spelling::number_bytes))]
-fn put_u64(out: &mut Vec<u8>, n: u64) -> Result<(), AllocError>
-    ensures { OnOk result (out.new.items ≡ out.old.items ++ spec.number_bytes 8 n) }
-{
-    let mut word = [0; 8];
-    LittleEndian::write_u64(&mut word, n);
-    out.extend_from_slice(&word)
-}
-
-#[tactic(auto, unfolding(crate::specs::Spelling::number_bytes))]
-fn put_sum(out: &mut Vec<u8>, sum: i128) -> Result<(), AllocError>
-    ensures { OnOk result (out.new.items ≡ out.old.items ++ spec.sum_bytes sum) }
-{
-    let mut word = [0; 16];
-    LittleEndian::write_i128(&mut word, sum);
-    out.extend_from_slice(&word)
-}
+use wire::{append_i128, append_seal, append_text, append_u8, append_u16, append_u32, append_u64};
 
 /// The load, the query and the cut.
-#[tactic(auto, unfolding(crate::specs::Spelling::job_bytes, crate::specs::Spelling::text_bytes))]
+#[tactic(auto, unfolding(crate::specs::Spelling::job_bytes))]
 pub fn put_job(out: &mut Vec<u8>, load: u64, text: &str, lengths: &[u32]) -> Result<(), AllocError>
     requires text { length text.now < 2 ^ 32 }
     requires fragments { length lengths.now < 2 ^ 32 }
     ensures { OnOk result (out.new.items ≡ out.old.items ++ spec.job_bytes load text.now lengths.now) }
 {
-    put_u64(out, load)?;
-    put_u32(out, text.len() as u32)?;
-    out.extend_from_slice(text.as_bytes())?;
-    put_u32(out, lengths.len() as u32)?;
+    append_u64(out, load)?;
+    append_text(out, text)?;
+    append_u32(out, lengths.len() as u32)?;
     for length in lengths {
-        put_u32(out, *length)?;
+        append_u32(out, *length)?;
     }
     Ok(())
 }
@@ -87,10 +42,10 @@ pub fn put_shape(out: &mut Vec<u8>, only: &Aggregate) -> Result<(), AllocError>
         ≡ out.old.items ++ spec.shape_bytes (one_aggregate (shapes.shape_of_aggregate only.now))) }
 {
     let shape = shape_of_aggregate(only);
-    put_u16(out, 0)?;
-    put_u16(out, 1)?;
-    put_u8(out, kind_code(shape.kind))?;
-    put_u8(out, argument_code(shape.argument))
+    append_u16(out, 0)?;
+    append_u16(out, 1)?;
+    append_u8(out, kind_code(shape.kind))?;
+    append_u8(out, argument_code(shape.argument))
 }
 
 #[tactic(auto, unfolding(crate::specs::Spelling::state_bytes, crate::specs::Supported::is_supported))]
@@ -99,9 +54,9 @@ fn put_state(out: &mut Vec<u8>, kind: AggregateKind, state: &Statistics) -> Resu
     requires count { state.now.count < 2 ^ 32 }
     ensures { OnOk result (out.new.items ≡ out.old.items ++ spec.state_bytes kind state.now) }
 {
-    put_u32(out, state.count as u32)?;
+    append_u32(out, state.count as u32)?;
     match kind {
-        AggregateKind::Sum => put_sum(out, state.sum),
+        AggregateKind::Sum => append_i128(out, state.sum),
         _ => Ok(()),
     }
 }
@@ -113,7 +68,7 @@ fn put_group(out: &mut Vec<u8>, only: &Aggregate, group: &Group) -> Result<(), A
     ensures { OnOk result (out.new.items
         ≡ out.old.items ++ spec.group_bytes (one_aggregate (shapes.shape_of_aggregate only.now)) group.now) }
 {
-    put_u32(out, group.rows as u32)?;
+    append_u32(out, group.rows as u32)?;
     put_state(out, only.kind, &group.states.as_slice()[0])
 }
 
@@ -124,8 +79,8 @@ fn put_groups(out: &mut Vec<u8>, only: &Aggregate, groups: &[Group]) -> Result<(
     ensures { OnOk result (out.new.items
         ≡ out.old.items ++ spec.body_bytes (one_aggregate (shapes.shape_of_aggregate only.now)) (Groups groups.now)) }
 {
-    put_u8(out, 1)?;
-    put_u32(out, groups.len() as u32)?;
+    append_u8(out, 1)?;
+    append_u32(out, groups.len() as u32)?;
     for group in groups {
         put_group(out, only, group)?;
     }
@@ -142,9 +97,9 @@ pub fn put_body(out: &mut Vec<u8>, only: &Aggregate, body: &Body) -> Result<(), 
     match body {
         Body::Groups(groups) => put_groups(out, only, groups.as_slice()),
         Body::Fault(fault) => {
-            put_u8(out, 0)?;
-            put_u64(out, fault.row)?;
-            put_u8(out, fault.code)
+            append_u8(out, 0)?;
+            append_u64(out, fault.row)?;
+            append_u8(out, fault.code)
         }
     }
 }
@@ -166,7 +121,7 @@ fn put_layout(
     let lengths = job.cut().lengths();
     out.extend_from_slice(&ANSWER_MAGIC)?;
     put_job(out, job.load(), text, lengths)?;
-    put_u32(out, answer.k)?;
+    append_u32(out, answer.k)?;
     put_shape(out, only)?;
     put_body(out, only, &answer.body)
 }
@@ -180,15 +135,6 @@ pub fn only_aggregate(plan: &Plan) -> &Aggregate
     &plan.aggs.as_slice()[0]
 }
 
-/// The seal of all bytes so far.
-#[tactic(auto, unfolding(crate::specs::Spelling::seal_of))]
-pub fn put_seal(out: &mut Vec<u8>) -> Result<(), AllocError>
-    ensures { OnOk result (out.new.items ≡ spec.sealed out.old.items) }
-{
-    let seal = Sha256::digest(out.as_slice());
-    out.extend_from_slice(&seal)
-}
-
 /// The one spelling of an answer that fits the job.
 pub fn encode(alloc: Global, job: &Job, answer: &Answer) -> Result<Vec<u8>, AllocError>
     requires { Fits job.now answer.now }
@@ -197,6 +143,6 @@ pub fn encode(alloc: Global, job: &Job, answer: &Answer) -> Result<Vec<u8>, Allo
     let only = only_aggregate(job.plan());
     let mut out = Vec::new(alloc);
     put_layout(&mut out, job, only, answer)?;
-    put_seal(&mut out)?;
+    append_seal(&mut out)?;
     Ok(out)
 }

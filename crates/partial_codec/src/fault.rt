@@ -1,9 +1,11 @@
+//! Why bytes are no answer, or no state, for a job.
 ghost use Rattle.std.specs.Prelude.{◌≡◌};
-ghost use Rattle.partial_codec.specs.Fault.{number_of};
+ghost use Rattle.partial_codec.specs.Fault.{fault_of, number_of};
 ghost use Rattle.partial_codec.specs.declared.fault.DecodeFault.TheVariants.{Memory};
 
 use std::alloc::{AllocError, AllocFailed};
 use thiserror::Error;
+use wire::WireFault;
 
 /// Why bytes are no answer, or no state, for a job: the first obstacle from front to back.
 #[derive(Debug, Drop, Error)]
@@ -33,7 +35,7 @@ pub enum DecodeFault {
 }
 
 impl DecodeFault {
-    /// The number by which the refusal is told.
+    /// The error code.
     pub fn number(&self) -> u8
         ensures { result ≡ number_of self.now }
     {
@@ -66,5 +68,19 @@ impl<T: Drop> From<AllocFailed<T>> for DecodeFault {
 
     fn from(_: AllocFailed<T>) -> DecodeFault {
         DecodeFault::Memory
+    }
+}
+
+impl From<WireFault> for DecodeFault {
+    ghost from_gives = { λ fault given. given ≡ fault_of fault };
+
+    fn from(fault: WireFault) -> DecodeFault {
+        match fault {
+            WireFault::Magic => DecodeFault::Magic,
+            WireFault::Truncated => DecodeFault::Truncated,
+            WireFault::NotUtf8 => DecodeFault::Shape,
+            WireFault::TrailingBytes => DecodeFault::TrailingBytes,
+            WireFault::Seal => DecodeFault::Seal,
+        }
     }
 }

@@ -1,19 +1,20 @@
-// The fields of an answer, read from front to back, and those that a state has too.
+//! The fields of an answer, read from front to back, and those that a state has too.
 ghost use Rattle.std.specs.Prelude.{◌≡◌, IfOk, true};
 ghost use Rattle.partial_codec.specs.Fields.{job_in, layout_in, one_aggregate};
-ghost use Rattle.partial_codec.specs.LayoutReading.{aggregate_at, argument_at, argument_from, behind_magic, job_at, known_kind, layout_at, shape_at};
-ghost use Rattle.partial_codec.specs.Reading.{Reads, ReadsIfMemory, number_at, repeat_at};
+ghost use Rattle.partial_codec.specs.LayoutReading.{aggregate_at, argument_at, argument_from, known_kind, shape_at};
+ghost use Rattle.partial_codec.specs.LayoutReading.{job_at, layout_at, length_at};
+ghost use Rattle.wire.specs.Reading.{behind_magic, Reads, ReadsIfMemory, number_at, repeat_at};
 ghost use Rattle.partial_codec.specs.Supported.{is_supported};
 ghost use Rattle.partial_codec.specs.Supported as feature;
 
 use crate::body::take_body;
 use crate::fault::DecodeFault;
-use crate::number::{take_bytes, take_long_text, take_u8, take_u16, take_u32, take_u64};
 use crate::shape::AggregateShape;
 use meaning::answer::Group;
 use meaning::plan::AggregateKind;
 use meaning::value::ColType;
 use std::alloc::Global;
+use wire::{skip_magic, take_text, take_u8, take_u16, take_u32, take_u64};
 
 /// What an answer's bytes begin with.
 pub const ANSWER_MAGIC: [u8; 4] = *b"XGA1";
@@ -69,7 +70,7 @@ fn take_aggregate(bytes: &[u8]) -> Result<(AggregateShape, &[u8]), DecodeFault>
     Ok((AggregateShape { kind, argument }, rest))
 }
 
-#[tactic(auto, unfolding(crate::specs::LayoutReading::shape_at, crate::specs::Reading::repeat_at, crate::specs::Supported::is_supported))]
+#[tactic(auto, unfolding(crate::specs::LayoutReading::shape_at, wire::specs::Reading::repeat_at, crate::specs::Supported::is_supported))]
 pub fn take_shape(bytes: &[u8]) -> Result<(AggregateShape, &[u8]), DecodeFault>
     ensures { Reads (λ x. (one_aggregate x.0, x.1.now)) result (shape_at bytes.now) }
 {
@@ -84,13 +85,21 @@ pub fn take_shape(bytes: &[u8]) -> Result<(AggregateShape, &[u8]), DecodeFault>
     take_aggregate(rest)
 }
 
+fn take_length(bytes: &[u8]) -> Result<(u32, &[u8]), DecodeFault>
+    ensures { Reads (λ x. (x.0, x.1.now)) result (length_at bytes.now) }
+{
+    let (length, rest) = take_u32(bytes)?;
+    Ok((length, rest))
+}
+
 fn take_lengths(alloc: Global, count: u32, bytes: &[u8]) -> Result<(Vec<u32>, &[u8]), DecodeFault>
-    ensures { ReadsIfMemory (λ x. (x.0.items, x.1.now)) result (repeat_at (number_at 4) count bytes.now) }
+    ensures { ReadsIfMemory DecodeFault.Memory (λ x. (x.0.items, x.1.now)) result
+        (repeat_at length_at count bytes.now) }
 {
     let mut lengths = Vec::new(alloc);
     let mut rest = bytes;
     for _ in 0..count {
-        let (length, after) = take_u32(rest)?;
+        let (length, after) = take_length(rest)?;
         lengths.push(length)?;
         rest = after;
     }
@@ -99,31 +108,19 @@ fn take_lengths(alloc: Global, count: u32, bytes: &[u8]) -> Result<(Vec<u32>, &[
 
 #[tactic(auto, unfolding(crate::specs::LayoutReading::job_at))]
 pub fn take_job(alloc: Global, bytes: &[u8]) -> Result<(JobFields<'_>, &[u8]), DecodeFault>
-    ensures { ReadsIfMemory (λ x. (job_in x.0, x.1.now)) result (job_at bytes.now) }
+    ensures { ReadsIfMemory DecodeFault.Memory (λ x. (job_in x.0, x.1.now)) result (job_at bytes.now) }
 {
     let (load, rest) = take_u64(bytes)?;
-    let (text, rest) = take_long_text(rest)?;
+    let (text, rest) = take_text(rest)?;
     let (count, rest) = take_u32(rest)?;
     let (cut, rest) = take_lengths(alloc, count, rest)?;
     Ok((JobFields { load, text, cut }, rest))
 }
 
-/// The bytes behind the four that tell what the file is.
-#[tactic(auto, unfolding(crate::specs::LayoutReading::behind_magic))]
-pub fn skip_magic<'a>(magic: &[u8; 4], bytes: &'a [u8]) -> Result<&'a [u8], DecodeFault>
-    ensures { Reads (λ x. x.now) result (behind_magic magic.now bytes.now) }
-{
-    let (first, rest) = take_bytes(bytes, 4)?;
-    if first != magic.as_slice() {
-        return Err(DecodeFault::Magic);
-    }
-    Ok(rest)
-}
-
 /// All fields up to the seal, and the bytes from there.
 #[tactic(auto, unfolding(crate::specs::LayoutReading::layout_at, crate::specs::Spelling::answer_magic))]
 pub fn take_layout(alloc: Global, bytes: &[u8]) -> Result<(Layout<'_>, &[u8]), DecodeFault>
-    ensures { ReadsIfMemory (λ x. (layout_in x.0, x.1.now)) result (layout_at bytes.now) }
+    ensures { ReadsIfMemory DecodeFault.Memory (λ x. (layout_in x.0, x.1.now)) result (layout_at bytes.now) }
 {
     let rest = skip_magic(&ANSWER_MAGIC, bytes)?;
     let (job, rest) = take_job(alloc, rest)?;

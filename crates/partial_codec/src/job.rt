@@ -1,3 +1,4 @@
+//! What answers and states are for.
 ghost use Rattle.std.specs.Prelude.{◌≡◌, ◌≤◌, length};
 ghost use Rattle.partial_codec.specs.Job.{JobSpec, IsPlanOfJob};
 

@@ -1,4 +1,4 @@
-// The laws of the format. A body does nothing: the clause is a theorem on the definitions.
+//! The laws of the format. A body does nothing: the clause is a theorem on the definitions.
 ghost use Rattle.std.specs.Prelude.{◌≡◌, ℕ, List};
 ghost use Rattle.meaning.specs.declared.answer.Answer.{Answer};
 ghost use Rattle.meaning.specs.declared.answer.Cell.{Cell};

@@ -12,7 +12,6 @@ mod fault;
 mod fields;
 mod job;
 mod laws;
-mod number;
 mod shape;
 mod state;
 mod state_check;

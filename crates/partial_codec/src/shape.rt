@@ -1,3 +1,4 @@
+//! The shape of a query's groups.
 ghost use Rattle.std.specs.Prelude.{◌≡◌};
 ghost use Rattle.partial_codec.specs.Shape as spec;
 

@@ -1,25 +1,25 @@
+//! The states of coordinators as bytes: written, read and judged.
 ghost use Rattle.std.specs.Prelude.{◌≡◌, ◌≢◌, ◌++◌, IfOk, IfErr, OnOk, List, Some, Ok, true};
 ghost use Rattle.std.specs.List.{flat_map, AllByRecursion};
 ghost use Rattle.meaning.specs.declared.answer.Cell.{Cell as ACell};
 ghost use Rattle.partial_codec.specs.Fields.{one_aggregate, state_layout};
 ghost use Rattle.partial_codec.specs.Job.{IsJob};
 ghost use Rattle.partial_codec.specs.Ranges.{IsCell};
-ghost use Rattle.partial_codec.specs.Reading.{ReadsIfMemory};
+ghost use Rattle.wire.specs.Reading.{ReadsIfMemory};
 ghost use Rattle.partial_codec.specs.Shape as shapes;
 ghost use Rattle.partial_codec.specs.State.{FitsState, SpellsState, cell_bytes, judged_state, state_bytes, state_layout_bytes, state_obstacle};
 ghost use Rattle.partial_codec.specs.Supported.{is_supported};
 ghost use Rattle.partial_codec.specs.Supported as feature;
 
-use crate::decoding::check_seal;
-use crate::encoding::{only_aggregate, put_body, put_job, put_seal, put_shape, put_u8};
+use crate::encoding::{only_aggregate, put_body, put_job, put_shape};
 use crate::fault::DecodeFault;
 use crate::job::Job;
-use crate::number::take_bytes;
 use crate::state_check::hold_state_against;
 use crate::state_fields::{STATE_MAGIC, take_state_layout};
 use meaning::answer::Cell;
 use meaning::plan::Aggregate;
 use std::alloc::{AllocError, Global};
+use wire::{SEAL_BYTES, append_seal, append_u8, check_seal, take_bytes};
 
 #[tactic(auto, unfolding(crate::specs::State::cell_bytes))]
 fn put_cell(out: &mut Vec<u8>, only: &Aggregate, cell: &Cell) -> Result<(), AllocError>
@@ -29,12 +29,12 @@ fn put_cell(out: &mut Vec<u8>, only: &Aggregate, cell: &Cell) -> Result<(), Allo
         ≡ out.old.items ++ cell_bytes (one_aggregate (shapes.shape_of_aggregate only.now)) cell.now) }
 {
     match cell {
-        Cell::Nothing => put_u8(out, 0),
+        Cell::Nothing => append_u8(out, 0),
         Cell::One(body) => {
-            put_u8(out, 1)?;
+            append_u8(out, 1)?;
             put_body(out, only, body)
         }
-        Cell::Conflict => put_u8(out, 2),
+        Cell::Conflict => append_u8(out, 2),
     }
 }
 
@@ -79,18 +79,18 @@ pub fn encode_state(alloc: Global, job: &Job, cells: &[Cell]) -> Result<Vec<u8>,
     let only = only_aggregate(job.plan());
     let mut out = Vec::new(alloc);
     put_state_layout(&mut out, job, only, cells)?;
-    put_seal(&mut out)?;
+    append_seal(&mut out)?;
     Ok(out)
 }
 
 #[tactic(auto, unfolding(crate::specs::State::judged_state))]
 fn judge_state(alloc: Global, job: &Job, bytes: &[u8]) -> Result<Vec<Cell>, DecodeFault>
-    ensures exact { ReadsIfMemory (λ cells. cells.items) result (judged_state job.now bytes.now) }
+    ensures exact { ReadsIfMemory DecodeFault.Memory (λ cells. cells.items) result (judged_state job.now bytes.now) }
     ensures within_limits { IsJob job.now }
 {
     let _plan = job.plan();
     let (layout, rest) = take_state_layout(alloc, bytes)?;
-    let (seal, rest) = take_bytes(rest, 32)?;
+    let (seal, rest) = take_bytes(rest, SEAL_BYTES)?;
     check_seal(bytes, seal, rest)?;
     hold_state_against(job, layout)
 }
@@ -103,8 +103,9 @@ fn judge_state(alloc: Global, job: &Job, bytes: &[u8]) -> Result<Vec<Cell>, Deco
 pub fn decode_state(alloc: Global, job: &Job, bytes: &[u8]) -> Result<Vec<Cell>, DecodeFault>
     // What is given is spelled so.
     ensures spelled { IfOk result (λ cells. SpellsState job.now bytes.now cells.items) }
-    // What is spelled so is given, unless memory is wanting.
-    ensures complete { (cells : List ACell) → SpellsState job.now bytes.now cells → ReadsIfMemory (λ given. given.items) result (Ok cells) }
+    // What is spelled so is given, unless memory runs out.
+    ensures complete { (cells : List ACell) → SpellsState job.now bytes.now cells →
+        ReadsIfMemory DecodeFault.Memory (λ given. given.items) result (Ok cells) }
     // Which obstacle it is.
     ensures obstacle { IfErr result (λ e. e ≢ DecodeFault.Memory → state_obstacle job.now bytes.now ≡ Some e) }
 {

@@ -1,10 +1,9 @@
-// What was read of a state, held against the job.
+//! What was read of a state, held against the job.
 ghost use Rattle.std.specs.Prelude.{◌≡◌, length, true};
 ghost use Rattle.std.specs.List.{list_all};
 ghost use Rattle.meaning.specs.Fitting as fitting;
 ghost use Rattle.partial_codec.specs.Fields.{one_aggregate, state_layout_in};
-ghost use Rattle.partial_codec.specs.LayoutReading.{same_bytes};
-ghost use Rattle.partial_codec.specs.Reading.{Reads};
+ghost use Rattle.wire.specs.Reading.{same_bytes, Reads};
 ghost use Rattle.partial_codec.specs.Shape.{is_same_shape, shape_of};
 ghost use Rattle.partial_codec.specs.State.{body_held, cell_held, cells_held, is_cell_shaped, state_held_against};
 

@@ -1,19 +1,19 @@
-// The fields of a state, read from front to back.
+//! The fields of a state, read from front to back.
 ghost use Rattle.std.specs.Prelude.{◌≡◌, true, length};
 ghost use Rattle.partial_codec.specs.Fields.{one_aggregate, state_layout_in};
-ghost use Rattle.partial_codec.specs.Reading.{ReadsIfMemory, repeat_at};
+ghost use Rattle.wire.specs.Reading.{ReadsIfMemory, repeat_at};
 ghost use Rattle.partial_codec.specs.State.{cell_at, state_layout_at};
 ghost use Rattle.partial_codec.specs.Supported.{is_supported};
 ghost use Rattle.partial_codec.specs.Supported as feature;
 
 use crate::body::take_body;
 use crate::fault::DecodeFault;
-use crate::fields::{JobFields, skip_magic, take_job, take_shape};
-use crate::number::take_u8;
+use crate::fields::{JobFields, take_job, take_shape};
 use crate::shape::AggregateShape;
 use meaning::answer::{Body, Cell};
 use meaning::sequence::Sequence;
 use std::alloc::Global;
+use wire::{skip_magic, take_u8};
 
 /// What a state's bytes begin with.
 pub const STATE_MAGIC: [u8; 4] = *b"XGS1";
@@ -33,7 +33,8 @@ fn take_cell(
     bytes: &[u8],
 ) -> Result<(Cell, &[u8]), DecodeFault>
     requires { is_supported (feature.kind aggregate.kind) ≡ true }
-    ensures { ReadsIfMemory (λ x. (x.0, x.1.now)) result (cell_at (one_aggregate aggregate) bytes.now) }
+    ensures { ReadsIfMemory DecodeFault.Memory (λ x. (x.0, x.1.now)) result
+        (cell_at (one_aggregate aggregate) bytes.now) }
 {
     let (tag, rest) = take_u8(bytes)?;
     match tag {
@@ -54,7 +55,8 @@ fn take_cells(
     bytes: &[u8],
 ) -> Result<(Vec<Cell>, &[u8]), DecodeFault>
     requires { is_supported (feature.kind aggregate.kind) ≡ true }
-    ensures { ReadsIfMemory (λ x. (x.0.items, x.1.now)) result (repeat_at (cell_at (one_aggregate aggregate)) count bytes.now) }
+    ensures { ReadsIfMemory DecodeFault.Memory (λ x. (x.0.items, x.1.now)) result
+        (repeat_at (cell_at (one_aggregate aggregate)) count bytes.now) }
 {
     let mut cells = Vec::new(alloc);
     let mut rest = bytes;
@@ -72,7 +74,8 @@ pub fn take_state_layout(
     alloc: Global,
     bytes: &[u8],
 ) -> Result<(StateLayout<'_>, &[u8]), DecodeFault>
-    ensures { ReadsIfMemory (λ x. (state_layout_in x.0, x.1.now)) result (state_layout_at bytes.now) }
+    ensures { ReadsIfMemory DecodeFault.Memory (λ x. (state_layout_in x.0, x.1.now)) result
+        (state_layout_at bytes.now) }
 {
     let rest = skip_magic(&STATE_MAGIC, bytes)?;
     let (job, rest) = take_job(alloc, rest)?;

@@ -1,3 +1,4 @@
+//! Commands over folders and writers that fail.
 use crate::memory_folder::MemoryFolder;
 use cli::{command, run};
 use std::alloc::Global;

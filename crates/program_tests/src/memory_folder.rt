@@ -1,4 +1,6 @@
-ghost use Rattle.std.specs.Prelude.{◌≡◌};
+//! A folder in memory, whose writing fails after some steps.
+ghost use Rattle.std.specs.Prelude.{◌≡◌, find, option_map};
+ghost use Rattle.std.specs.Str.{bytes_eq};
 
 use cli::Folder;
 use std::alloc::Global;
@@ -35,7 +37,9 @@ impl<'a> MemoryFolder<'a> {
         }
     }
 
-    fn file(&self, path: &str) -> Option<&'a [u8]> {
+    fn file(&self, path: &str) -> Option<&'a [u8]>
+        ensures { option_map (λ bytes. bytes.now) result ≡ option_map (λ file. file.1.now) (find (λ file. bytes_eq file.0.now path.now) self.now.files.now) }
+    {
         let file = self.files.iter().find(|file| file.0 == path)?;
         Some(file.1)
     }
@@ -51,13 +55,16 @@ impl<'a> MemoryFolder<'a> {
     }
 }
 
-// What is written is known, so that the contracts of the commands are met at a type that says so.
+// What is held and written is known, so that the contracts of the commands are met at a type that says so.
 impl<'a> Folder for MemoryFolder<'a> {
-    ghost use Rattle.std.specs.Prelude.{Some, map, string_bytes};
+    ghost use Rattle.std.specs.Prelude.{Some, find, map, option_map, string_bytes};
+    ghost use Rattle.std.specs.Str.{bytes_eq};
 
     type Reader = &'a [u8];
 
     type Writer = Vec<u8>;
+
+    ghost holds = { λ f path. option_map (λ file. file.1.now) (find (λ file. bytes_eq file.0.now path) f.files.now) };
 
     ghost wrote = { λ f. Some (map (λ file. (string_bytes file.path, file.bytes.items)) f.written.items) };
 

@@ -1,3 +1,4 @@
+-- The lemmas of this crate.
 pub mod Blanks
 pub mod Runs
 pub mod Quotes

@@ -1,6 +1,7 @@
 -- Which tokens spell which tree.
 use Rattle.std.specs.Prelude.{◌≡◌, ◌⊎◌, ℕ, ◌≤◌, ◌<◌, List, [], ◌∷◌, ◌++◌, length, map, None, nat_le, if◌then◌else◌}
 use Rattle.std.specs.Str.{IsUtf8}
+use Rattle.meaning.specs.Limits.{max_query_bytes}
 use Rattle.sql_reader.specs.declared.keyword.Keyword.TheVariants as keyword
 use Rattle.sql_reader.specs.declared.token.Sign.TheVariants as sign
 use Rattle.sql_reader.specs.declared.fault.SqlFault.{SqlFault}
@@ -67,14 +68,10 @@ pub record IsTree (bs : List ℕ) (q : Query) : Type 0 where
   pub utf8 : IsUtf8 bs
   pub spells : Spells (terminals (tokens_of bs)) q
 
--- the most bytes that a text may have, and its canonical text
-abbrev pub longest : ℕ
-longest = 65535
-
 -- neither the text nor its canonical text is too long
 pub record IsShort (bs : List ℕ) (q : Query) : Type 0 where
-  pub text : length bs ≤ longest
-  pub printed : length (canonical q) ≤ longest
+  pub text : length bs ≤ max_query_bytes
+  pub printed : length (canonical q) ≤ max_query_bytes
 
 -- ---- refusals
 
@@ -116,7 +113,7 @@ pub record IsObstacle (end : ℕ) (ps : List Placed) (told : SqlFault) : Type 0 
 -- where each refusal is told
 abbrev pub IsRefusal : List ℕ → SqlFault → Type 0
 IsRefusal bs fault.Memory = Unit {0}
-IsRefusal bs fault.TooLong = (longest < length bs) ⊎ ((q : Query) × IsTree bs q × (longest < length (canonical q)))
-IsRefusal bs fault.NotUtf8 = (length bs ≤ longest) × (IsUtf8 bs → ⊥)
+IsRefusal bs fault.TooLong = (max_query_bytes < length bs) ⊎ ((q : Query) × IsTree bs q × (max_query_bytes < length (canonical q)))
+IsRefusal bs fault.NotUtf8 = (length bs ≤ max_query_bytes) × (IsUtf8 bs → ⊥)
 IsRefusal bs fault.TooDeep = ⊥
-IsRefusal bs told = (length bs ≤ longest) × IsUtf8 bs × IsObstacle (length bs) (tokens_of bs) told
+IsRefusal bs told = (length bs ≤ max_query_bytes) × IsUtf8 bs × IsObstacle (length bs) (tokens_of bs) told

@@ -1,6 +1,7 @@
 -- Reading the tokens from front to back, with the first refusal.
 use Rattle.std.specs.Prelude.{◌≡◌, ℕ, Bool, false, nat_le, nat_lt, if◌then◌else◌, List, [], ◌∷◌, length, drop, Option, Some, None, Result, Ok, Err}
 use Rattle.std.specs.Str.{is_utf8}
+use Rattle.meaning.specs.Limits.{max_query_bytes}
 use denote.Enum.Bare.{sameb}
 use Rattle.sql_reader.specs.contracts.keyword.Keyword as keyword_contract
 use Rattle.sql_reader.specs.contracts.token.Sign as sign_contract
@@ -17,7 +18,7 @@ use Rattle.sql_reader.specs.Words.{lower}
 use Rattle.sql_reader.specs.Tokens as terminal
 use Rattle.sql_reader.specs.Tokens.{Terminal, Placed, tokens_of}
 use Rattle.sql_reader.specs.Canonical.{canonical}
-use Rattle.sql_reader.specs.Grammar.{longest, query_of, sum_column, refusal, refusal_at}
+use Rattle.sql_reader.specs.Grammar.{query_of, sum_column, refusal, refusal_at}
 
 -- ---- what a call gives
 
@@ -132,7 +133,7 @@ query_at end ps = do
 
 -- the query, where its canonical text isn't too long
 abbrev pub if_short : Query → Result Query SqlFault
-if_short q = if nat_le (length (canonical q)) longest then Ok q else Err fault.TooLong
+if_short q = if nat_le (length (canonical q)) max_query_bytes then Ok q else Err fault.TooLong
 
 -- a text that isn't too long, and is UTF-8
 abbrev pub reading_of_text : List ℕ → Result Query SqlFault
@@ -141,5 +142,5 @@ reading_of_text bs = query_at (length bs) (tokens_of bs) >>= if_short
 -- all of a text
 unfoldable pub reading : List ℕ → Result Query SqlFault
 reading bs =
-    if nat_lt longest (length bs) then Err fault.TooLong
+    if nat_lt max_query_bytes (length bs) then Err fault.TooLong
     else (if is_utf8 bs then reading_of_text bs else Err fault.NotUtf8)

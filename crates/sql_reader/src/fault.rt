@@ -1,3 +1,4 @@
+//! Why a text is no query.
 ghost use Rattle.std.specs.Prelude.{◌≡◌};
 ghost use Rattle.sql_reader.specs.declared.fault.SqlFault.TheVariants.{Memory};
 ghost use Rattle.sql_reader.specs.Faults.{number_of};

@@ -1,3 +1,4 @@
+//! Reserved words, and words that are left out.
 ghost use Rattle.std.specs.Prelude.{◌≡◌};
 ghost use Rattle.std.specs.List.{list_any};
 ghost use Rattle.sql_reader.specs.Words.{spelling_of, same_word, keyword_of, is_left_out};

@@ -1,3 +1,4 @@
+//! A query's tree from its tokens.
 ghost use Rattle.std.specs.Prelude.{◌≡◌, IfOk};
 ghost use Rattle.sql_reader.specs.Words.{lower};
 ghost use Rattle.sql_reader.specs.Tokens.{all_placed, terminal_of};

@@ -1,3 +1,4 @@
+//! The canonical text of a tree.
 ghost use Rattle.std.specs.Prelude.{◌≡◌, ◌++◌, IfOk, OnOk, string_bytes};
 ghost use Rattle.sql_reader.specs.Canonical.{canonical, aggregate_text, column_text, expr_text};
 

@@ -1,3 +1,4 @@
+//! A query from the bytes of its text.
 ghost use Rattle.std.specs.Prelude.{IfOk, IfErr, Ok};
 ghost use Rattle.sql_reader.specs.declared.tree.Query.{Query};
 ghost use Rattle.sql_reader.specs.Grammar.{IsTree, IsShort, IsRefusal};
@@ -8,11 +9,9 @@ use crate::lexer::tokens;
 use crate::parser::Parser;
 use crate::printing::print;
 use crate::tree::Query;
+use meaning::limits::MAX_QUERY_BYTES;
 use std::alloc::Global;
 use std::mem::drop;
-
-/// How many bytes a text, and its canonical text, may have.
-const LONGEST: usize = 65_535;
 
 /// The syntax tree of a text, which is either `SELECT COUNT(*) FROM table` or `SELECT SUM(column) FROM table`, with or
 /// without a semicolon. Where several refusals stand in a text, one of the whole text comes first, then the one of the
@@ -32,7 +31,7 @@ pub fn read(alloc: Global, text: &[u8]) -> Result<Query, SqlFault>
 fn read_bytes(alloc: Global, text: &[u8]) -> Result<Query, SqlFault>
     ensures { Gives (λ q. q) result (reading text.now) }
 {
-    if text.len() > LONGEST {
+    if text.len() > MAX_QUERY_BYTES {
         return Err(SqlFault::TooLong);
     }
     match str::from_utf8(text) {
@@ -59,7 +58,7 @@ fn if_short(alloc: Global, query: Query) -> Result<Query, SqlFault>
 {
     match print(alloc, &query) {
         Ok(canonical) => {
-            if canonical.as_bytes().len() <= LONGEST {
+            if canonical.as_bytes().len() <= MAX_QUERY_BYTES {
                 Ok(query)
             } else {
                 drop(query);

@@ -1,3 +1,4 @@
+//! Tokens and their places.
 use crate::keyword::Keyword;
 
 #[derive(Clone, Copy, PartialEq, Eq)]

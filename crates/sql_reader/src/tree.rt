@@ -1,3 +1,4 @@
+//! The tree of a query as it is written.
 use meaning::boxed::Boxed;
 use meaning::sequence::Sequence;
 use meaning::text::Text;

@@ -1,3 +1,6 @@
+//! Cases of blocks: the values that bytes stand for, and the bytes that values are written as.
+ghost use Rattle.std.specs.Prelude.{◌≡◌};
+
 use crate::values::{column_of, tell_value, type_of};
 use case_files::byte_lines::bytes_of;
 use columns::Column;
@@ -108,7 +111,9 @@ fn tell_vectors<'a>(
     told: &mut String,
     view: &BlockView<'a>,
     vector: &mut VectorBuf<'a>,
-) -> Result<(), AllocError> {
+) -> Result<(), AllocError>
+    requires { vector.old.col_type ≡ view.now.col_type }
+{
     let mut from: usize = 0;
     for _ in 0..view.len() {
         if from >= view.len() {
@@ -130,7 +135,7 @@ fn tell_read(
     if room == 0 {
         return Ok(());
     }
-    let mut vector = VectorBuf::new(alloc, room)?;
+    let mut vector = VectorBuf::new(alloc, view.col_type(), room)?;
     let read = tell_vectors(told, view, &mut vector);
     drop(vector);
     read

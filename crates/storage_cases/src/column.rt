@@ -1,3 +1,4 @@
+//! Cases about columns.
 use crate::values::{tell_values, type_of};
 use columns::{Column, ColumnFault};
 use meaning::text::Text;

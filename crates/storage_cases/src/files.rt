@@ -1,3 +1,4 @@
+//! Cases about fragment files and cut files.
 ghost use Rattle.std.specs.Prelude.{◌≡◌, ◌∷◌, [], codes, IfOk};
 
 use crate::blocks::tell_block_values;
@@ -50,8 +51,9 @@ fn tell_declared(told: &mut String, columns: &[Declared]) -> Result<(), AllocErr
 
 fn tell_group(told: &mut String, group: &GroupView<'_>) -> Result<(), AllocError> {
     writeln!(told, "group of {} rows", group.rows())?;
-    for block in group.columns() {
-        tell_block_values(told, block)?;
+    for place in 0..group.column_count() {
+        let block = group.column(place);
+        tell_block_values(told, &block)?;
     }
     Ok(())
 }
@@ -59,8 +61,9 @@ fn tell_group(told: &mut String, group: &GroupView<'_>) -> Result<(), AllocError
 fn tell_file(told: &mut String, view: &FragmentView<'_>) -> Result<(), AllocError> {
     tell_header(told, view.header())?;
     tell_declared(told, view.header().columns.as_slice())?;
-    for group in view.groups() {
-        tell_group(told, group)?;
+    for place in 0..view.group_count() {
+        let group = view.group(place);
+        tell_group(told, &group)?;
     }
     Ok(())
 }

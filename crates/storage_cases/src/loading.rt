@@ -1,11 +1,10 @@
-ghost use Rattle.meaning.specs.Catalog.{IsWellFormed};
-
+//! Cases of loading: the columns of a table, or the refusal.
 use crate::files::lengths_of;
 use crate::values::tell_values;
 use case_files::escapes::escaped_bytes;
 use case_files::stored::{StoredFile, find};
 use columns::Column;
-use loader::{LoadFault, count_rows, load_dim, load_fact};
+use loader::{LoadFault, count_rows, has_dim, load_dim, load_fact};
 use meaning::catalog::{Catalog, Column as Declared};
 use meaning::cut::Cut;
 use meaning::read_catalog::read_catalog;
@@ -115,9 +114,10 @@ fn tell_dim(
     catalog: &Catalog,
     name: &str,
     csv: &[u8],
-) -> Result<(), AllocError>
-    requires { IsWellFormed catalog.now }
-{
+) -> Result<(), AllocError> {
+    if !has_dim(catalog, name) {
+        return writeln!(told, "no dimension {name}");
+    }
     match load_dim(alloc, catalog, name, csv) {
         Ok(columns) => {
             let done = tell_columns(told, declared_in(catalog, name), columns.as_slice());
@@ -134,9 +134,7 @@ fn tell_table(
     catalog: &Catalog,
     words: &[&str],
     csv: &[u8],
-) -> Result<(), AllocError>
-    requires { IsWellFormed catalog.now }
-{
+) -> Result<(), AllocError> {
     match words {
         ["fact", lengths @ ..] => {
             tell_cut_fact(alloc, told, catalog, lengths_of(alloc, lengths)?, csv)

@@ -1,3 +1,4 @@
+//! Which kind of storage case a record is.
 use crate::{blocks, column, files, loading};
 use case_files::stored::StoredFile;
 use std::alloc::{AllocError, Global};

@@ -1,3 +1,4 @@
+//! Types and values as words.
 use columns::{Column, ColumnFault};
 use meaning::value::{ColType, ValueRef};
 use std::alloc::{AllocError, Global};

@@ -1,4 +1,4 @@
-// Columns of many sizes and patterns as blocks of each kind, and back.
+//! Columns of many sizes and patterns as blocks of each kind, and back.
 use columns::{Column, ColumnFault};
 use encodings::kind::Kind;
 use encodings::vector_buf::VectorBuf;
@@ -21,6 +21,8 @@ enum Pattern {
     /// The least and the greatest integer, and others. Offsets take 64 bits.
     Far,
     Small,
+    /// No two rows have one value, and the values fall: a dictionary has an entry for each row.
+    Different,
     RunsOfEight,
     AllNull,
     EveryThirdNull,
@@ -37,6 +39,7 @@ fn integer(pattern: Pattern, row: usize) -> Option<i64> {
             _ => Some(n),
         },
         Pattern::Small => Some(n % 13 - 6),
+        Pattern::Different => Some(-n),
         Pattern::RunsOfEight => Some(n / 8),
         Pattern::AllNull => None,
         Pattern::EveryThirdNull => { if row % 3 == 0 { None } else { Some(n % 100) } }
@@ -63,7 +66,7 @@ fn integers(
 fn text(pattern: Pattern, row: usize) -> Option<&'static str> {
     match pattern {
         Pattern::Equal => Some(""),
-        Pattern::Small | Pattern::Far => match row % 5 {
+        Pattern::Small | Pattern::Far | Pattern::Different => match row % 5 {
             0 => Some("b"),
             1 => Some(""),
             2 => Some("ab"),
@@ -88,6 +91,16 @@ fn texts(
             Some(text) => column.push_text(text)?,
             None => column.push_null()?,
         }
+    }
+    Ok(column)
+}
+
+/// Texts of which no two are equal, from the greatest down.
+fn falling_texts(alloc: Global, nullable: bool, rows: usize) -> Result<Column, ColumnFault> {
+    let mut column = Column::new(alloc, ColType::Text, nullable);
+    for row in 0..rows {
+        let text = format!(in alloc; "{}", 99_999usize.saturating_sub(row))?;
+        column.push_text(text.as_str())?;
     }
     Ok(column)
 }
@@ -170,7 +183,7 @@ fn is_read<'a>(
     column: &Column,
     room: usize,
 ) -> Result<bool, AllocError> {
-    let mut vector = VectorBuf::new(alloc, room)?;
+    let mut vector = VectorBuf::new(alloc, view.col_type(), room)?;
     let mut from = 0;
     for _ in 0..column.len() {
         view.read_into(from, &mut vector);
@@ -282,6 +295,7 @@ fn integers_come_back(rt: HostRuntime) -> Result<(), Fail> {
         Pattern::Equal,
         Pattern::Far,
         Pattern::Small,
+        Pattern::Different,
         Pattern::RunsOfEight,
     ] {
         assert_eq!(rt; failing(rt.alloc(), ColType::Int, false, pattern)?, None);
@@ -304,6 +318,18 @@ fn nulls_come_back(rt: HostRuntime) -> Result<(), Fail> {
     for pattern in [Pattern::AllNull, Pattern::EveryThirdNull] {
         assert_eq!(rt; failing(rt.alloc(), ColType::Int, true, pattern)?, None);
         assert_eq!(rt; failing(rt.alloc(), ColType::Text, true, pattern)?, None);
+    }
+    Ok(())
+}
+
+#[test]
+fn dictionaries_of_up_to_8192_texts_come_back(rt: HostRuntime) -> Result<(), Fail> {
+    for rows in [1_024, 1_025, 8_192] {
+        let column = falling_texts(rt.alloc(), false, rows)?;
+        assert!(rt; passes(rt.alloc(), &column)?);
+        // Each entry is a text of five bytes.
+        let size = encoded(rt.alloc(), Kind::Dict, &column).map(|payload| payload.len());
+        assert_eq!(rt; size, Some(4 + (4 + 5 + 2) * rows));
     }
     Ok(())
 }

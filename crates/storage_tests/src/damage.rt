@@ -1,3 +1,4 @@
+//! Files of which each byte is changed in turn.
 // A file of two row groups, each of whose bytes is changed, against a plain reading of the format.
 use crate::files::{file_of, zeros};
 use encodings::kind::Kind;

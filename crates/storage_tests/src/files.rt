@@ -1,3 +1,4 @@
+//! Files of every kind of block, and writers that fail at each write.
 // Files of several row groups in each kind of block, and a device that fails.
 ghost use Rattle.std.specs.Prelude.{◌≡◌, ◌≤◌, ◌∷◌, [], codes, length, IfOk};
 
@@ -6,7 +7,7 @@ use encodings::kind::Kind;
 use encodings::view::BlockView;
 use fragment_file::header::Header;
 use fragment_file::view::FragmentView;
-use fragment_file::{FileFault, open, write};
+use fragment_file::{FileFault, open, read_columns, write};
 use meaning::catalog::Column as Declared;
 use meaning::sequence::Sequence;
 use meaning::text::Text;
@@ -161,11 +162,13 @@ fn has_rows(block: &BlockView<'_>, column: &Column, from: usize) -> bool {
 /// Whether the row groups have the rows of a column, in blocks of a kind.
 fn has_column(view: &FragmentView<'_>, kind: Kind, column: &Column) -> bool {
     let mut from: usize = 0;
-    for group in view.groups() {
-        let [block] = group.columns() else {
+    for place in 0..view.group_count() {
+        let group = view.group(place);
+        if group.column_count() != 1 {
             return false;
-        };
-        if block.kind() != kind || !has_rows(block, column, from) {
+        }
+        let block = group.column(0);
+        if block.kind() != kind || !has_rows(&block, column, from) {
             return false;
         }
         from = from.saturating_add(block.len());
@@ -173,9 +176,33 @@ fn has_column(view: &FragmentView<'_>, kind: Kind, column: &Column) -> bool {
     from == column.len()
 }
 
+fn is_same_column(a: &Column, b: &Column) -> bool {
+    if a.len() != b.len() {
+        return false;
+    }
+    for row in 0..a.len() {
+        if !is_same(a.get(row), b.get(row)) {
+            return false;
+        }
+    }
+    true
+}
+
+/// Whether the file's columns are this one alone.
+fn reads_as(alloc: Global, view: &FragmentView<'_>, column: &Column) -> bool {
+    match read_columns(alloc, view) {
+        Ok(columns) => columns.len() == 1 && is_same_column(&columns[0], column),
+        Err(_) => false,
+    }
+}
+
 fn opens_to(alloc: Global, bytes: &[u8], kind: Kind, column: &Column) -> bool {
     match open(alloc, bytes) {
-        Ok(view) => view.header().load == 7 && has_column(&view, kind, column),
+        Ok(view) => {
+            view.header().load == 7
+                && has_column(&view, kind, column)
+                && reads_as(alloc, &view, column)
+        }
         Err(_) => false,
     }
 }

@@ -1,6 +1,7 @@
+//! CSV readers that give pieces or fail.
 // Readers that give what they have in pieces, that fail, and that make a large dimension.
 use columns::Column;
-use loader::{LoadFault, count_rows, load_dim, load_fact};
+use loader::{LoadFault, count_rows, has_dim, load_dim, load_fact};
 use meaning::cut::Cut;
 use meaning::read_catalog::read_catalog;
 use meaning::value::ValueRef;
@@ -218,6 +219,9 @@ fn many_rows(rows: u32) -> ManyRows {
 /// The last key of a dimension of so many rows, or the refusal's number.
 fn last_key(alloc: Global, rows: u32) -> Result<Option<i64>, Fail> {
     let catalog = read_catalog(alloc, CATALOG)?;
+    if !has_dim(&catalog, "store") {
+        return Ok(None);
+    }
     match load_dim(alloc, &catalog, "store", many_rows(rows)) {
         Ok(columns) => match columns.as_slice().first() {
             Some(keys) if keys.len() > 0 => Ok(integer(Some(keys), keys.len() - 1)),

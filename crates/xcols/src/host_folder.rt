@@ -1,3 +1,4 @@
+//! The files of the host.
 use cli::Folder;
 use std::alloc::{AllocError, Global};
 use std::fs::OpenFile;

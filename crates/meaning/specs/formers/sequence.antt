@@ -1,1 +1,2 @@
+-- The former of `Sequence`.
 pub mod Sequence

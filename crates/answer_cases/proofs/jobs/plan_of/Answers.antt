@@ -1,3 +1,4 @@
+-- Proofs of the goals of `plan_of` (`jobs`).
 use Rattle.std.proofs.Common.{◌≡◌, ◌∙◌, [], ◌∷◌, refl, sym, ap, subst, length, arith}
 use Rattle.meaning.specs.declared.plan.TableUse.{TableUse}
 use Rattle.partial_codec.specs.Job.{IsPlanOfJob}

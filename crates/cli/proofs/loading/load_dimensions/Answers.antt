@@ -1,3 +1,4 @@
+-- Proofs of the goals of `load_dimensions` (`loading`).
 use Rattle.cli.specs.Loading.{IsDimensionLoaded}
 use Rattle.cli.proofs.Each.{each_next}
 use Rattle.cli.proofs.loading.load_dimensions.Goals as goal

@@ -1,3 +1,4 @@
+-- Loop invariants of `load_dimensions` (`loading`).
 use Rattle.std.proofs.Common.{take}
 use Rattle.cli.specs.Loading.{AreEach, IsDimensionLoaded}
 use Rattle.cli.proofs.loading.load_dimensions.Given as goal

@@ -1,3 +1,4 @@
+-- Proofs of the goals of `load_declared` (`running`).
 use Rattle.cli.proofs.LoadedColumns.{dimensions_fit, fact_fits}
 use Rattle.cli.proofs.running.load_declared.Goals as goal
 

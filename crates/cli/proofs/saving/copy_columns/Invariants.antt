@@ -1,3 +1,4 @@
+-- Loop invariants of `copy_columns` (`saving`).
 use Rattle.std.proofs.Common.{◌≡◌, take}
 use Rattle.cli.proofs.saving.copy_columns.Given as goal
 

@@ -1,3 +1,4 @@
+-- Proofs of the goals of `save_dimensions` (`saving`).
 use Rattle.std.proofs.Common.{◌≡◌, ◌<◌, List, length, get_or, sym, subst, ap, arith}
 use Rattle.columns.specs.Column.{ColumnSpec}
 use Rattle.cli.specs.Loading.{AreDimensionColumns, IsDimensionFile}

@@ -1,3 +1,4 @@
+-- Loop invariants of `save_dimensions` (`saving`).
 use Rattle.std.proofs.Common.{take}
 use Rattle.std.specs.Prelude.{zip}
 use Rattle.cli.specs.Folder.{Writes}

@@ -1,3 +1,4 @@
+-- Loop invariants of `save_fragments` (`saving`).
 use Rattle.std.proofs.Common.{◌≡◌, take}
 use Rattle.std.specs.List.{enumerate_from}
 use Rattle.meaning.specs.Table.{first_row}

@@ -1,3 +1,4 @@
+-- Proofs of the goals of `tell_plan` (`telling`).
 use Rattle.std.proofs.Common.{sym}
 use Rattle.cli.proofs.telling.tell_plan.Goals as goal
 

@@ -1,3 +1,4 @@
+-- Proofs of the goals of `tell_table` (`telling`).
 use Rattle.std.proofs.Common.{[], ◌∷◌, OnOk, decimal, ap, subst, inl, inr}
 use Rattle.std.specs.Io.KnownBytes.{Appends}
 use Rattle.cli.specs.Telling.{table_details}

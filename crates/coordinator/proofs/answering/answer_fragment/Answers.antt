@@ -1,3 +1,4 @@
+-- Proofs of the goals of `answer_fragment` (`answering`).
 use Rattle.std.proofs.Common.{sym, ap, ◌∙◌}
 use Rattle.meaning.specs.declared.answer.Body.{Body}
 use Rattle.coordinator.specs.OneGroup.{one_group}

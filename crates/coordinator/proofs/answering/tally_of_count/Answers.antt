@@ -1,3 +1,4 @@
+-- Proofs of the goals of `tally_of_count` (`answering`).
 use Rattle.std.proofs.Common.{sym, ◌∙◌}
 use Rattle.coordinator.proofs.Tallies.{count_of_rows}
 use Rattle.coordinator.proofs.answering.tally_of_count.Goals as goal

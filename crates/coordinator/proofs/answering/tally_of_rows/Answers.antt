@@ -1,3 +1,4 @@
+-- Proofs of the goals of `tally_of_rows` (`answering`).
 use Rattle.std.proofs.Common.{length, ap, arith, rules, Some}
 use Rattle.std.proofs.lemmas.List.{length-map}
 use Rattle.coordinator.specs.OneGroup.{entry_of}

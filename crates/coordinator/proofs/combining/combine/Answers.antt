@@ -1,3 +1,4 @@
+-- Proofs of the goals of `combine` (`combining`).
 use Rattle.std.proofs.Common.{◌≡◌, IfOk, sym, subst}
 use Rattle.meaning.specs.declared.answer.Body.{Body}
 use Rattle.coordinator.proofs.Combined.{combined-single}

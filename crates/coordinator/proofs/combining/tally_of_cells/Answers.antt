@@ -1,13 +1,15 @@
+-- Proofs of the goals of `tally_of_cells` (`combining`).
 use Rattle.std.proofs.Common.{◌≡◌, ℕ, zero, suc, ◌+◌, ◌*◌, ◌<◌, ◌≤◌, ap, sym, subst, arith}
+use Rattle.meaning.specs.Limits.{max_fragments, max_rows}
 use Rattle.meaning.specs.declared.answer.Cell.{Cell}
 use Rattle.coordinator.specs.declared.tally.Tally.{Tally}
 use Rattle.coordinator.specs.Tally.{tally_of_cell, IsOfFragment}
 use Rattle.coordinator.proofs.Tallies.{at_next}
 use Rattle.coordinator.proofs.combining.tally_of_cells.Goals as goal
 
-few_more : (a r i : ℕ) → (0 < r → i < 4096) → r ≤ 1048576 → a ≤ i * 1048576 → a ≤ 4294967296 → a + r ≤ 4294967296
+few_more : (a r i : ℕ) → (0 < r → i < max_fragments) → r ≤ max_rows → a ≤ i * max_rows → a ≤ 4294967296 → a + r ≤ 4294967296
 few_more a zero i place short rows few = omega arith
-few_more a (suc r) i place short rows few = let here : i < 4096 = place (omega arith) in omega arith
+few_more a (suc r) i place short rows few = let here : i < max_fragments = place (omega arith) in omega arith
 
 pub loop-cell-preserved : goal.loop-cell-preserved
 loop-cell-preserved c =

@@ -1,3 +1,4 @@
+-- Loop invariants of `tally_of_cells` (`combining`).
 use Rattle.std.proofs.Common.{◌≤◌, ◌*◌}
 use Rattle.coordinator.specs.Tally.{tally_of_cell}
 use Rattle.coordinator.proofs.Tallies.{IsSoFar}

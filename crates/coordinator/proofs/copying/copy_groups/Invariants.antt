@@ -1,3 +1,4 @@
+-- Loop invariants of `copy_groups` (`copying`).
 use Rattle.std.proofs.Common.{◌≡◌, take}
 use Rattle.coordinator.proofs.copying.copy_groups.Given as goal
 

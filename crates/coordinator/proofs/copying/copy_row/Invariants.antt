@@ -1,3 +1,4 @@
+-- Loop invariants of `copy_row` (`copying`).
 use Rattle.std.proofs.Common.{◌≡◌, take}
 use Rattle.coordinator.proofs.copying.copy_row.Given as goal
 

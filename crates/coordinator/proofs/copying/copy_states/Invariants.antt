@@ -1,3 +1,4 @@
+-- Loop invariants of `copy_states` (`copying`).
 use Rattle.std.proofs.Common.{◌≡◌, take}
 use Rattle.coordinator.proofs.copying.copy_states.Given as goal
 

@@ -1,3 +1,4 @@
+-- Proofs of the goals of `finish_body` (`finishing`).
 use Rattle.std.proofs.Common.{◌≡◌, IfOk, sym, ap, subst, ◌∙◌}
 use Rattle.meaning.specs.Finish.{Output}
 use Rattle.meaning.specs.Answer.{output_of}

@@ -1,3 +1,4 @@
+-- Proofs of the goals of `answer_all` (`from_csv`).
 use Rattle.std.proofs.Common.{◌≡◌, ap, sym, subst, ◌∙◌, [], length}
 use Rattle.std.specs.List.{range_with_len}
 use Rattle.meaning.specs.declared.plan.Plan.{Plan}

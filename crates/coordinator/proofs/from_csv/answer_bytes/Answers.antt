@@ -1,3 +1,4 @@
+-- Proofs of the goals of `answer_bytes` (`from_csv`).
 use Rattle.std.proofs.Common.{sym, subst}
 use Rattle.std.proofs.lemmas.Result.{IfOk-weaker}
 use Rattle.meaning.specs.declared.plan.Plan.{Plan}

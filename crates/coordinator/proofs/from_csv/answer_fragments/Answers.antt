@@ -1,3 +1,4 @@
+-- Proofs of the goals of `answer_fragments` (`from_csv`).
 use Rattle.std.proofs.Common.{◌≡◌, ap, sym, subst, refl, ◌∙◌, [], ◌∷◌, ◌++◌, ℕ, ◌+◌, List, arith}
 use Rattle.std.specs.List.{range_with_len, enumerate_from}
 use Rattle.meaning.specs.declared.plan.Plan.{Plan}

@@ -1,3 +1,4 @@
+-- Loop invariants of `answer_fragments` (`from_csv`).
 use Rattle.std.proofs.Common.{◌≡◌, [], List}
 use Rattle.std.specs.List.{range_with_len}
 use Rattle.meaning.specs.declared.catalog.Column.{Column}

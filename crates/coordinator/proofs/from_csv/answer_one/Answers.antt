@@ -1,3 +1,4 @@
+-- Proofs of the goals of `answer_one` (`from_csv`).
 use Rattle.std.proofs.Common.{List, ℕ, sym, subst, []}
 use Rattle.std.specs.List.{enumerate_from}
 use Rattle.meaning.specs.Answer.{own_body}

@@ -1,3 +1,4 @@
+-- Proofs of the goals of `answer_run` (`from_csv`).
 use Rattle.std.proofs.Common.{List, sym, subst}
 use Rattle.columns.specs.Column.{ColumnSpec}
 use Rattle.coordinator.specs.Fragment.{AreFragments}

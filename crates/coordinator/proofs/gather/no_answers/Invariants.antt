@@ -1,3 +1,4 @@
+-- Loop invariants of `no_answers` (`gather`).
 use Rattle.std.proofs.Common.{◌≡◌, replicate}
 use Rattle.meaning.specs.declared.answer.Cell.TheVariants.{Nothing}
 use Rattle.coordinator.proofs.gather.no_answers.Given as goal

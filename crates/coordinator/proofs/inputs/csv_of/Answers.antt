@@ -1,3 +1,4 @@
+-- Proofs of the goals of `csv_of` (`inputs`).
 use Rattle.std.proofs.Common.{ap, sym, ◌∙◌, Err, List, ℕ}
 use Rattle.coordinator.specs.declared.whole_fault.WholeFault.TheVariants as fault
 use Rattle.coordinator.specs.Whole.{files_in, csv_of}

@@ -1,3 +1,4 @@
+-- Proofs of the goals of `load_tables` (`inputs`).
 use Rattle.std.proofs.Common.{refl}
 use Rattle.coordinator.specs.Whole.{files_in}
 use Rattle.coordinator.proofs.Runs.{loaded}

@@ -1,3 +1,4 @@
+-- Proofs of the goals of `plan_query` (`inputs`).
 use Rattle.std.proofs.Common.{Ok}
 use Rattle.std.proofs.lemmas.Result.{err_from_is_err_and}
 use Rattle.coordinator.proofs.Planned.{form_of_tree, planned_as, refused_as, single_if_planned}

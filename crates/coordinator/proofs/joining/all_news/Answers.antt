@@ -1,3 +1,4 @@
+-- Proofs of the goals of `all_news` (`joining`).
 use Rattle.std.proofs.Common.{◌≡◌, suc, ◌+◌, List, [], ◌∷◌, ◌++◌, take, ap, sym, ◌∙◌, arith}
 use Rattle.std.proofs.lemmas.List.{take_all}
 use Rattle.meaning.specs.declared.answer.Cell.{Cell}

@@ -1,3 +1,4 @@
+-- Loop invariants of `all_news` (`joining`).
 use Rattle.std.proofs.Common.{◌≡◌, take}
 use Rattle.coordinator.specs.Joining.{all_news}
 use Rattle.coordinator.proofs.joining.all_news.Given as goal

@@ -1,3 +1,4 @@
+-- Loop invariants of `join_all` (`joining`).
 use Rattle.std.proofs.Common.{◌≡◌, ◌++◌, List, length, take, drop}
 use Rattle.meaning.specs.declared.answer.Cell.{Cell}
 use Rattle.coordinator.specs.Gathering.{join_states}

@@ -1,3 +1,4 @@
+-- Proofs of the goals of `answers_decide` (`laws`).
 use Rattle.std.proofs.Common.{List, ap}
 use Rattle.meaning.specs.declared.answer.Cell.{Cell}
 use Rattle.meaning.specs.Gather.{report}

@@ -1,3 +1,4 @@
+-- Proofs of the goals of `states_join` (`laws`).
 use Rattle.coordinator.proofs.Joined.{join_states-comm, join_states-assoc, join_states_same}
 use Rattle.coordinator.proofs.laws.states_join.Goals as goal
 

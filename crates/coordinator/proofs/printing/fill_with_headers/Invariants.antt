@@ -1,3 +1,4 @@
+-- Loop invariants of `fill_with_headers` (`printing`).
 use Rattle.std.proofs.Common.{◌≡◌, [], map, take}
 use Rattle.csv.specs.Records.{fields_of, partial_of}
 use Rattle.coordinator.proofs.printing.fill_with_headers.Given as goal

@@ -1,3 +1,4 @@
+-- Loop invariants of `fill_with_values` (`printing`).
 use Rattle.std.proofs.Common.{◌≡◌, [], map, take}
 use Rattle.csv.specs.Records.{fields_of, partial_of}
 use Rattle.meaning.specs.Print.{value_text}

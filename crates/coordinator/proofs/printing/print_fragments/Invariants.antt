@@ -1,3 +1,4 @@
+-- Loop invariants of `print_fragments` (`printing`).
 use Rattle.std.proofs.Common.{◌∷◌, ◌++◌, decimal, take}
 use Rattle.std.specs.Prelude.{flat_map}
 use Rattle.std.specs.Io.KnownBytes.{Appends}

@@ -1,3 +1,4 @@
+-- Proofs of the goals of `print_rows` (`printing`).
 use Rattle.std.proofs.Common.{rules, sym, ⊎_elim}
 use Rattle.coordinator.proofs.Loans.{gave_back}
 use Rattle.coordinator.proofs.printing.print_rows.Goals as goal

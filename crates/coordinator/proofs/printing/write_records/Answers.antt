@@ -1,3 +1,4 @@
+-- Proofs of the goals of `write_records` (`printing`).
 use Rattle.std.proofs.Common.{◌≡◌, ℕ, ◌+◌, ◌<◌, List, [], ◌∷◌, ◌++◌, length, get_or, map, take, ap, sym, ◌∙◌, subst}
 use Rattle.std.specs.Prelude.{Option, flat_map}
 use Rattle.std.proofs.KnownBytes.{Appends-trans}

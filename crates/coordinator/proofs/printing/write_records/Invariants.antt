@@ -1,3 +1,4 @@
+-- Loop invariants of `write_records` (`printing`).
 use Rattle.std.proofs.Common.{◌++◌, map, take}
 use Rattle.std.specs.Prelude.{flat_map}
 use Rattle.std.specs.Io.KnownBytes.{Appends}

@@ -1,3 +1,4 @@
+-- Proofs of the goals of `fragments_that_lack` (`reporting`).
 use Rattle.std.proofs.Common.{◌≡◌, ap, sym, ◌∙◌, ◌+◌, ◌++◌, [], ◌∷◌, Bool, true, false, cond, take}
 use Rattle.std.proofs.lemmas.List.{append-nil}
 use Rattle.meaning.specs.Gather.{places}

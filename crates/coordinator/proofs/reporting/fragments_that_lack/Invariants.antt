@@ -1,3 +1,4 @@
+-- Loop invariants of `fragments_that_lack` (`reporting`).
 use Rattle.std.proofs.Common.{◌≡◌, take}
 use Rattle.meaning.specs.Gather.{places}
 use Rattle.coordinator.specs.Reporting.{lacks}

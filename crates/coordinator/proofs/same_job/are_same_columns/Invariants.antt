@@ -1,3 +1,4 @@
+-- Loop invariants of `are_same_columns` (`same_job`).
 use Rattle.std.proofs.Common.{◌≡◌, take}
 use Rattle.coordinator.proofs.same_job.are_same_columns.Given as goal
 

@@ -1,3 +1,4 @@
+-- Proofs of the goals of `count_present` (`summing`).
 use Rattle.std.proofs.Common.{Bool, not, List, length, inl, inr, ap, sym, ◌∙◌}
 use Rattle.std.specs.Prelude.{filter}
 use Rattle.std.proofs.lemmas.Bool.{cases_Bool, false≢true}

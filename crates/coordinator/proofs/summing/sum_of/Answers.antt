@@ -1,3 +1,4 @@
+-- Proofs of the goals of `sum_of` (`summing`).
 use Rattle.std.proofs.Common.{pos, ◌+ℤ◌, get_or, rules, ap, ◌∙◌, arith, w64, to_z, FitsSigned}
 use Rattle.std.specs.Int.{w128}
 use Rattle.std.proofs.lemmas.Int.{to_z-of_z, ints}

@@ -1,3 +1,4 @@
+-- Loop invariants of `sum_of` (`summing`).
 use Rattle.std.proofs.Common.{◌≡◌, pos, ◌+ℤ◌, ◌*ℤ◌, ◌≤ℤ◌, drop}
 use Rattle.meaning.specs.Fitting.{least_integer, greatest_integer}
 use Rattle.coordinator.specs.Tally.{sum_of_ints}

@@ -1,3 +1,4 @@
+-- Proofs of the goals of `sum_of_column` (`summing`).
 use Rattle.std.proofs.Common.{ap, ◌∙◌, FitsSigned}
 use Rattle.std.specs.Int.{w128}
 use Rattle.std.proofs.lemmas.Int.{to_z-of_z}

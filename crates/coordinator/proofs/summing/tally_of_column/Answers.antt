@@ -1,3 +1,4 @@
+-- Proofs of the goals of `tally_of_column` (`summing`).
 use Rattle.std.proofs.Common.{sym, subst, ◌∙◌, FitsSigned}
 use Rattle.std.specs.Int.{w128}
 use Rattle.std.proofs.lemmas.Int.{to_z-of_z}

@@ -1,3 +1,4 @@
+-- Proofs of the goals of `are_null_cells_blank` (`cells`).
 use Rattle.std.proofs.Common.{◌||◌, Bool, false, not, zip, sym, ◌∙◌, arith}
 use Rattle.meaning.specs.declared.value.Value.{Value}
 use Rattle.meaning.specs.declared.value.Value.TheVariants.{Null}

@@ -1,3 +1,4 @@
+-- Loop invariants of `are_null_cells_blank` (`cells`).
 use Rattle.std.proofs.Common.{◌≡◌, ◌||◌, not, drop, map, zip}
 use Rattle.std.specs.List.{list_all, range_with_len}
 use Rattle.encodings.specs.Block.{bit_at, body_cells, is_blank}

@@ -1,3 +1,4 @@
+-- Proofs of the goals of `are_nulls_blank` (`cells`).
 use Rattle.std.proofs.Common.{◌||◌, Bool, false, not, zip, replicate, map, if◌then◌else◌, sym, ap, ◌∙◌}
 use Rattle.std.specs.List.{list_all, range_with_len}
 use Rattle.meaning.specs.declared.value.Value.{Value}

@@ -1,3 +1,4 @@
+-- Proofs of the goals of `cell_at` (`cells`).
 use Rattle.std.proofs.Common.{◌∙◌, rules}
 use Rattle.std.specs.Int.{w64}
 use Rattle.std.specs.Int.RustNames.{FitsSigned}

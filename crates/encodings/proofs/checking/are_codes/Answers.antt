@@ -1,3 +1,4 @@
+-- Proofs of the goals of `are_codes` (`checking`).
 use Rattle.std.proofs.Common.{◌≡◌, get_or, nat_lt, true, false, sym, ap, ◌∙◌, arith}
 use Rattle.std.proofs.lemmas.Bool.Decides.{nat_tests}
 use Rattle.encodings.specs.Bytes.{shorts}

@@ -1,3 +1,4 @@
+-- Loop invariants of `are_codes` (`checking`).
 use Rattle.std.proofs.Common.{◌≡◌, drop, nat_lt}
 use Rattle.std.specs.List.{list_all}
 use Rattle.encodings.specs.Bytes.{shorts}

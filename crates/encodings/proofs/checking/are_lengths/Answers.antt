@@ -1,3 +1,4 @@
+-- Proofs of the goals of `are_lengths` (`checking`).
 use Rattle.std.proofs.Common.{◌≡◌, ◌+◌, ◌&&◌, ◌==◌, get_or, drop, sum, nat_le, true, false, sym, ap, ◌∙◌, arith}
 use Rattle.std.proofs.lemmas.Bool.Decides.{nat_tests}
 use Rattle.std.proofs.lemmas.List.{at_drop_all}

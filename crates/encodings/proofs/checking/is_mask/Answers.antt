@@ -1,3 +1,4 @@
+-- Proofs of the goals of `is_mask` (`checking`).
 use Rattle.std.proofs.Common.{◌*◌, length, not, sym, ap, ◌∙◌}
 use Rattle.encodings.specs.Block.{bit_at}
 use Rattle.encodings.proofs.Steps.{range_keeps}

@@ -1,3 +1,4 @@
+-- Loop invariants of `is_mask` (`checking`).
 use Rattle.std.proofs.Common.{◌≡◌, ◌*◌, ◌-◌, length, not}
 use Rattle.std.specs.List.{list_all, range_with_len}
 use Rattle.encodings.specs.Block.{is_mask, bit_at}

@@ -1,26 +1,22 @@
-use Rattle.std.proofs.Common.{◌≡◌, ◌∙◌, ap, sym, subst, rules, true}
-use Rattle.std.proofs.lemmas.Result.{IfOk-weaker}
+-- Proofs of the goals of `choose` (`choosing`).
+use Rattle.std.proofs.Common.{◌≡◌, ◌∙◌, ap, sym, subst, true}
 use Rattle.meaning.specs.declared.value.ColType.{ColType}
-use Rattle.meaning.specs.declared.value.ColType.TheVariants as of_type
-use Rattle.encodings.specs.declared.kind.Kind.{Kind}
 use Rattle.encodings.specs.Tight.{between, cells_for, is_chosen}
 use Rattle.encodings.proofs.EncodedBlocks.{ints_fit, texts_fit}
 use Rattle.encodings.proofs.choosing.choose.Goals as goal
 
-pub returns-in-Some-clause-ok : goal.returns-in-Some-clause-ok
-returns-in-Some-clause-ok c =
-    let ty : c.args.column.now.col_type ≡ of_type.Int = search rules in
+pub returns-in_ok-choose_ints-in-Ints-clause-ok : goal.returns-in_ok-choose_ints-in-Ints-clause-ok
+returns-in_ok-choose_ints-in-Ints-clause-ok c =
     let column = c.args.column.now in
     let values = between c.args.from c.args.to column in
-    IfOk-weaker c.choose_ints.result _ (λ (k : Kind). is_chosen column.col_type column.nullable values k ≡ true)
-    (λ k h. subst (λ (t : ColType). is_chosen t column.nullable values k ≡ true) (sym ty) (h column.nullable values (ap (λ (t : ColType). cells_for t values) (sym ty) ∙ (ints_fit column c.args.from c.args.to c.in-Some.ints.now c.ints.ensures.column ty c.in-Some.ensures.values).0)))
-    c.choose_ints.ensures.ok
+    let lent = c.in-Ints.ensures.cells in
+    subst (λ (t : ColType). is_chosen t column.nullable values c.in_ok-choose_ints-in-Ints.field-0 ≡ true) (sym lent.0)
+    (c.in_ok-choose_ints-in-Ints.ensures column.nullable values (ap (λ (t : ColType). cells_for t values) (sym lent.0) ∙ (ints_fit column c.args.from c.args.to c.in-Ints.ints.now c.cells.ensures.column lent.0 lent.1).0))
 
-pub returns-in-Some-texts-clause-ok : goal.returns-in-Some-texts-clause-ok
-returns-in-Some-texts-clause-ok c =
-    let ty : c.args.column.now.col_type ≡ of_type.Text = search rules in
+pub returns-in_ok-choose_texts-in-Texts-clause-ok : goal.returns-in_ok-choose_texts-in-Texts-clause-ok
+returns-in_ok-choose_texts-in-Texts-clause-ok c =
     let column = c.args.column.now in
     let values = between c.args.from c.args.to column in
-    IfOk-weaker c.choose_texts.result _ (λ (k : Kind). is_chosen column.col_type column.nullable values k ≡ true)
-    (λ k h. subst (λ (t : ColType). is_chosen t column.nullable values k ≡ true) (sym ty) (h column.nullable values (ap (λ (t : ColType). cells_for t values) (sym ty) ∙ (texts_fit column c.args.from c.args.to c.in-Some-texts.texts.now c.texts.ensures.column ty c.in-Some-texts.ensures.values).0)))
-    c.choose_texts.ensures.ok
+    let lent = c.in-Texts.ensures.cells in
+    subst (λ (t : ColType). is_chosen t column.nullable values c.in_ok-choose_texts-in-Texts.field-0 ≡ true) (sym lent.0)
+    (c.in_ok-choose_texts-in-Texts.ensures column.nullable values (ap (λ (t : ColType). cells_for t values) (sym lent.0) ∙ (texts_fit column c.args.from c.args.to c.in-Texts.texts.now c.cells.ensures.column lent.0 lent.1).0))

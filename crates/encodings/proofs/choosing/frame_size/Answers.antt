@@ -1,3 +1,4 @@
+-- Proofs of the goals of `frame_size` (`choosing`).
 use Rattle.std.proofs.Common.{◌≡◌, rules, ◌∙◌, ◌-ℤ◌, unsigned_abs, w64, to_z, of_z, FitsSigned}
 use Rattle.std.proofs.lemmas.Int.{to_z-of_z}
 use Rattle.encodings.specs.Written.{IsWidth, least_in, greatest_in}

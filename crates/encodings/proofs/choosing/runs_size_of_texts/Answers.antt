@@ -1,4 +1,6 @@
+-- Proofs of the goals of `runs_size_of_texts` (`choosing`).
 use Rattle.std.proofs.Common.{◌≡◌, ◌≤◌, ◌*◌, ◌-◌, ◌∙◌, ap, length, map, take, drop, arith, rules}
+use Rattle.meaning.specs.Limits.{row_group_rows}
 use Rattle.meaning.specs.declared.value.ColType.TheVariants as of_type
 use Rattle.meaning.specs.declared.value.Value.TheVariants.{Text}
 use Rattle.encodings.specs.Tight.{form_size}
@@ -22,8 +24,8 @@ overflow_add-result-2 c =
     let same = ap length c.as_slice.ensures.value in
     let count : c.len.result ≡ length c.in_ok-runs.runs.starts.items = omega (arith, c.len.ensures, c.in_ok-runs.runs.starts.ok.0) in
     let bound = c.text_size_at.ensures.bound in
-    let small : c.text_size_at.result ≤ 65539 * 8192 = omega arith in
-    let few : c.len.result ≤ 8192 = omega arith in
+    let small : c.text_size_at.result ≤ 65539 * row_group_rows = omega arith in
+    let few : c.len.result ≤ row_group_rows = omega arith in
     search rules
 
 pub returns : goal.returns

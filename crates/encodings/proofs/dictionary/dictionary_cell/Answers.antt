@@ -1,3 +1,4 @@
+-- Proofs of the goals of `dictionary_cell` (`dictionary`).
 use Rattle.std.proofs.Common.{arith}
 use Rattle.encodings.proofs.RowCells.{code_is, code_within, dictionary_cell_is}
 use Rattle.encodings.proofs.dictionary.dictionary_cell.Goals as goal

@@ -1,3 +1,4 @@
+-- Proofs of the goals of `lend_dictionary` (`dictionary`).
 use Rattle.encodings.proofs.RowCells.{is_dictionary_of}
 use Rattle.encodings.proofs.dictionary.lend_dictionary.Goals as goal
 

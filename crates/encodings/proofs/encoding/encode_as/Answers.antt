@@ -1,3 +1,4 @@
+-- Proofs of the goals of `encode_as` (`encoding`).
 use Rattle.encodings.proofs.EncodedBlocks.{encoded_rows}
 use Rattle.encodings.proofs.encoding.encode_as.Goals as goal
 

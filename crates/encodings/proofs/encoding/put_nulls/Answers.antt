@@ -1,3 +1,4 @@
+-- Proofs of the goals of `put_nulls` (`encoding`).
 use Rattle.std.proofs.Common.{◌≡◌, rules, true}
 use Rattle.encodings.proofs.EncodedBlocks.{mask_put}
 use Rattle.encodings.proofs.encoding.put_nulls.Goals as goal

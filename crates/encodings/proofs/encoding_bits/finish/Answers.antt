@@ -1,3 +1,4 @@
+-- Proofs of the goals of `finish` (`encoding_bits`).
 use Rattle.std.proofs.Common.{◌+◌, ◌/◌, arith, refl}
 use Rattle.encodings.proofs.EncodedBits.{packs_finished}
 use Rattle.encodings.proofs.encoding_bits.finish.Goals as goal

@@ -1,3 +1,4 @@
+-- Proofs of the goals of `put_bits` (`encoding_bits`).
 use Rattle.std.proofs.Common.{◌+◌, ap, arith, length}
 use Rattle.encodings.proofs.EncodedBits.{packs_kept, packs_flushed, shifted_in, word_number}
 use Rattle.encodings.proofs.encoding_bits.put_bits.Goals as goal

@@ -1,3 +1,4 @@
+-- Proofs of the goals of `put_mask` (`encoding_bits`).
 use Rattle.std.proofs.Common.{◌∙◌, arith, false, get_or, subst, List, ℕ, length, map}
 use Rattle.std.proofs.lemmas.List.{get_or_default}
 use Rattle.encodings.specs.Packing.{ArePacked, packed, bit_of}

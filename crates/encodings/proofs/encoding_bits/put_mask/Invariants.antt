@@ -1,3 +1,4 @@
+-- Loop invariants of `put_mask` (`encoding_bits`).
 use Rattle.std.proofs.Common.{◌<◌, ◌*◌, take, map}
 use Rattle.encodings.specs.Packing.{Packs, packed, bit_of}
 use Rattle.encodings.proofs.encoding_bits.put_mask.Given as goal

@@ -1,3 +1,4 @@
+-- Proofs of the goals of `put_offsets` (`encoding_bits`).
 use Rattle.std.proofs.Common.{◌≡◌, ◌*◌, arith, rules, length, map, refl, pos, get_or, ◌-ℤ◌, unsigned_abs, ℤ, to_z, of_z, w64, FitsSigned}
 use Rattle.std.proofs.lemmas.Int.{to_z-of_z}
 use Rattle.std.proofs.lemmas.List.{get_or_default}

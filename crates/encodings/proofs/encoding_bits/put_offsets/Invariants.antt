@@ -1,3 +1,4 @@
+-- Loop invariants of `put_offsets` (`encoding_bits`).
 use Rattle.std.proofs.Common.{◌<◌, ◌*◌, take, map, ◌-ℤ◌}
 use Rattle.encodings.specs.Packing.{Packs, packed}
 use Rattle.std.specs.Prelude.{unsigned_abs}

@@ -1,6 +1,8 @@
+-- Proofs of the goals of `put_int_dictionary` (`encoding_bodies`).
 use Rattle.std.proofs.Common.{arith, rules, length, map, ap, ◌∙◌, ◌++◌, ◌≤◌, sym, ◌≡◌, List, ℕ}
 use Rattle.std.specs.List.{flat_map}
 use Rattle.std.proofs.lemmas.List.{length-map}
+use Rattle.meaning.specs.Limits.{row_group_rows}
 use Rattle.meaning.specs.declared.value.ColType.TheVariants as of_type
 use Rattle.meaning.specs.declared.value.Value.TheVariants.{Int}
 use Rattle.encodings.specs.Written.{word_bytes, short_bytes, integer_bytes, ints_at, AreEntries}
@@ -13,7 +15,7 @@ overflow_cast-entries c =
     let long = length-map c.args.ints.now (λ n. Int n) in
     let d : AreEntries (map Int c.args.ints.now) c.args.dictionary.now.places.items c.args.dictionary.now.codes.items = c.requires.entries in
     let some = d.few in
-    let few : c.len-entries.result ≤ 8192 = omega (arith, some, c.args.dictionary.now.places.ok.0) in
+    let few : c.len-entries.result ≤ row_group_rows = omega (arith, some, c.args.dictionary.now.places.ok.0) in
     search rules
 
 pub returns : goal.returns

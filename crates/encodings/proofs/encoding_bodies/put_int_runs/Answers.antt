@@ -1,6 +1,8 @@
+-- Proofs of the goals of `put_int_runs` (`encoding_bodies`).
 use Rattle.std.proofs.Common.{arith, rules, length, map, ap, ◌∙◌, ◌++◌, ◌≤◌, sym, ◌≡◌, List, ℕ}
 use Rattle.std.specs.List.{flat_map}
 use Rattle.std.proofs.lemmas.List.{length-map}
+use Rattle.meaning.specs.Limits.{row_group_rows}
 use Rattle.meaning.specs.declared.value.ColType.TheVariants as of_type
 use Rattle.meaning.specs.declared.value.Value.TheVariants.{Int}
 use Rattle.encodings.specs.Written.{word_bytes, short_bytes, integer_bytes, ints_at}
@@ -11,7 +13,7 @@ pub overflow_cast-len : goal.overflow_cast-len
 overflow_cast-len c =
     let long = length-map c.args.ints.now (λ n. Int n) in
     let some = runs_few (map Int c.args.ints.now) _ _ c.requires.runs in
-    let few : c.len-2.result ≤ 8192 = omega (arith, some, c.args.runs.now.starts.ok.0) in
+    let few : c.len-2.result ≤ row_group_rows = omega (arith, some, c.args.runs.now.starts.ok.0) in
     search rules
 
 pub returns : goal.returns

@@ -1,3 +1,4 @@
+-- Proofs of the goals of `put_plain_ints` (`encoding_bodies`).
 use Rattle.std.proofs.Common.{arith, ap, ◌∙◌, ◌++◌, List, ℕ}
 use Rattle.std.specs.List.{flat_map}
 use Rattle.std.proofs.lemmas.List.{length-map}

@@ -1,3 +1,4 @@
+-- Proofs of the goals of `put_plain_texts` (`encoding_bodies`).
 use Rattle.std.proofs.Common.{arith, take, drop, ◌-◌, ap, ◌∙◌, ◌++◌, List, ℕ}
 use Rattle.encodings.proofs.EncodedBodies.{puts_plain_texts, laid_texts}
 use Rattle.encodings.proofs.EncodedRuns.{rows_of}

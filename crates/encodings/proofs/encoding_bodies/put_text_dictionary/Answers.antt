@@ -1,5 +1,7 @@
+-- Proofs of the goals of `put_text_dictionary` (`encoding_bodies`).
 use Rattle.std.proofs.Common.{arith, rules, length, map, take, drop, ap, ◌∙◌, ◌++◌, ◌-◌, ◌≤◌, sym, ◌≡◌, List, ℕ}
 use Rattle.std.specs.List.{flat_map}
+use Rattle.meaning.specs.Limits.{row_group_rows}
 use Rattle.meaning.specs.declared.value.ColType.TheVariants as of_type
 use Rattle.meaning.specs.declared.value.Value.TheVariants.{Text}
 use Rattle.encodings.specs.Written.{word_bytes, short_bytes, texts_at, AreEntries}
@@ -13,7 +15,7 @@ overflow_cast-len c =
     let long = rows_of c.args.texts.now c.args.from c.args.to c.requires.within in
     let d : AreEntries (map Text (take (c.args.to - c.args.from) (drop c.args.from c.args.texts.now))) c.args.dictionary.now.places.items c.args.dictionary.now.codes.items = c.requires.entries in
     let some = d.few in
-    let few : c.len.result ≤ 8192 = omega (arith, some, c.args.dictionary.now.places.ok.0) in
+    let few : c.len.result ≤ row_group_rows = omega (arith, some, c.args.dictionary.now.places.ok.0) in
     search rules
 
 pub returns : goal.returns

@@ -1,5 +1,7 @@
+-- Proofs of the goals of `put_text_runs` (`encoding_bodies`).
 use Rattle.std.proofs.Common.{arith, rules, length, map, take, drop, ap, ◌∙◌, ◌++◌, ◌-◌, ◌≤◌, sym, ◌≡◌, List, ℕ}
 use Rattle.std.specs.List.{flat_map}
+use Rattle.meaning.specs.Limits.{row_group_rows}
 use Rattle.meaning.specs.declared.value.ColType.TheVariants as of_type
 use Rattle.meaning.specs.declared.value.Value.TheVariants.{Text}
 use Rattle.encodings.specs.Written.{word_bytes, short_bytes, texts_at}
@@ -11,7 +13,7 @@ pub overflow_cast-len : goal.overflow_cast-len
 overflow_cast-len c =
     let long = rows_of c.args.texts.now c.args.from c.args.to c.requires.within in
     let some = runs_few (map Text (take (c.args.to - c.args.from) (drop c.args.from c.args.texts.now))) _ _ c.requires.runs in
-    let few : c.len.result ≤ 8192 = omega (arith, some, c.args.runs.now.starts.ok.0) in
+    let few : c.len.result ≤ row_group_rows = omega (arith, some, c.args.runs.now.starts.ok.0) in
     search rules
 
 pub returns : goal.returns

@@ -1,5 +1,7 @@
+-- Loop invariants of `put_ends` (`encoding_forms`).
 use Rattle.std.proofs.Common.{◌≡◌, ◌++◌, ◌-◌, ◌≤◌, ◌*◌, take, drop, length}
 use Rattle.std.specs.List.{flat_map, concat}
+use Rattle.meaning.specs.Limits.{max_text_bytes}
 use Rattle.columns.specs.Texts.{ends_from}
 use Rattle.encodings.specs.Written.{word_bytes}
 use Rattle.encodings.proofs.encoding_forms.put_ends.Given as goal
@@ -7,6 +9,6 @@ use Rattle.encodings.proofs.encoding_forms.put_ends.Given as goal
 abbrev pub invariant-loop-row : goal.invariant-loop-row
 invariant-loop-row l = record {
   end_is : l.end ≡ length (concat (take (l.row - l.from) (drop l.from l.texts)));
-  bound : l.end ≤ 65535 * (l.row - l.from);
+  bound : l.end ≤ max_text_bytes * (l.row - l.from);
   written : l.out.items ≡ l.initial.out.items ++ flat_map word_bytes (ends_from 0 (take (l.row - l.from) (drop l.from l.texts)));
 }

@@ -1,3 +1,4 @@
+-- Loop invariants of `put_integers_at` (`encoding_forms`).
 use Rattle.std.proofs.Common.{◌≡◌, ◌++◌, take}
 use Rattle.std.specs.List.{flat_map}
 use Rattle.encodings.specs.Written.{integer_bytes, ints_at}

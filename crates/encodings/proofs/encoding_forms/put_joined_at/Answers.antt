@@ -1,3 +1,4 @@
+-- Proofs of the goals of `put_joined_at` (`encoding_forms`).
 use Rattle.std.proofs.Common.{◌∙◌, ◌++◌, ◌-◌, take, drop, get_or, [], arith}
 use Rattle.std.specs.List.{concat}
 use Rattle.encodings.proofs.EncodedForms.{joined_at_step, all_places, place_below}

@@ -1,3 +1,4 @@
+-- Loop invariants of `put_joined_at` (`encoding_forms`).
 use Rattle.std.proofs.Common.{◌≡◌, ◌++◌, ◌-◌, take, drop}
 use Rattle.std.specs.List.{concat}
 use Rattle.encodings.specs.Written.{texts_at}

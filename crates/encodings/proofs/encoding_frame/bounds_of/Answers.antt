@@ -1,3 +1,4 @@
+-- Proofs of the goals of `bounds_of` (`encoding_frame`).
 use Rattle.std.proofs.Common.{◌≡◌, ◌-◌, ◌+◌, arith, rules, length, drop, get_or, pos, sym, ap, ◌∙◌, w64, FitsSigned}
 use Rattle.std.specs.Ordering.{int_cmp, ord_min, ord_max}
 use Rattle.std.proofs.lemmas.Int.{to_z-of_z}

@@ -1,3 +1,4 @@
+-- Loop invariants of `bounds_of` (`encoding_frame`).
 use Rattle.std.proofs.Common.{◌≡◌, ◌<◌, drop, length}
 use Rattle.encodings.specs.Written.{least_in, greatest_in}
 use Rattle.encodings.proofs.encoding_frame.bounds_of.Given as goal

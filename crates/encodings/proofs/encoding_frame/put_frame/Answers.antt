@@ -1,3 +1,4 @@
+-- Proofs of the goals of `put_frame` (`encoding_frame`).
 use Rattle.std.proofs.Common.{◌≡◌, ◌^◌, ◌*◌, rules, length, ℤ, ◌-ℤ◌, unsigned_abs, true, map, sym, ap, subst, ◌∙◌, ◌++◌, w64, to_z, of_z, FitsSigned, refl, List, ℕ}
 use Rattle.std.specs.Prelude.{nat_lt}
 use Rattle.std.specs.List.{list_all}

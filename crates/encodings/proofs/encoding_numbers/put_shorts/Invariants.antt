@@ -1,3 +1,4 @@
+-- Loop invariants of `put_shorts` (`encoding_numbers`).
 use Rattle.std.proofs.Common.{◌≡◌, ◌++◌, take}
 use Rattle.std.specs.List.{flat_map}
 use Rattle.encodings.specs.Written.{short_bytes}

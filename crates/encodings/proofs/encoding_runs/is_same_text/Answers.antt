@@ -1,3 +1,4 @@
+-- Proofs of the goals of `is_same_text` (`encoding_runs`).
 use Rattle.std.proofs.Common.{◌∙◌, sym, get_or, []}
 use Rattle.std.proofs.lemmas.Map.Text.{is_eq-slice_cmp}
 use Rattle.encodings.proofs.encoding_runs.is_same_text.Goals as goal

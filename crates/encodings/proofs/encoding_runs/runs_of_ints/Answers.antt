@@ -1,3 +1,4 @@
+-- Proofs of the goals of `runs_of_ints` (`encoding_runs`).
 use Rattle.std.proofs.Common.{◌≡◌, ◌∙◌, sym, subst, ℕ, arith, rules, length, map, true, false}
 use Rattle.std.proofs.lemmas.List.{length-map}
 use Rattle.meaning.specs.declared.value.Value.TheVariants.{Int}

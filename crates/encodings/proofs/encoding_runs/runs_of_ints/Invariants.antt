@@ -1,3 +1,4 @@
+-- Loop invariants of `runs_of_ints` (`encoding_runs`).
 use Rattle.std.proofs.Common.{map}
 use Rattle.meaning.specs.declared.value.Value.TheVariants.{Int}
 use Rattle.encodings.proofs.EncodedRuns.{RunsSoFar}

@@ -1,3 +1,4 @@
+-- Proofs of the goals of `runs_of_texts` (`encoding_runs`).
 use Rattle.std.proofs.Common.{◌≡◌, ◌∙◌, sym, subst, ℕ, ◌-◌, arith, rules, map, take, drop, true, false}
 use Rattle.meaning.specs.declared.value.Value.TheVariants.{Text}
 use Rattle.encodings.proofs.EncodedRuns.{RunsSoFar, runs_goes_on, runs_go_apart, runs_done, same_at, rows_of}

@@ -1,3 +1,4 @@
+-- Loop invariants of `runs_of_texts` (`encoding_runs`).
 use Rattle.std.proofs.Common.{map, take, drop, ◌-◌}
 use Rattle.meaning.specs.declared.value.Value.TheVariants.{Text}
 use Rattle.encodings.proofs.EncodedRuns.{RunsSoFar}

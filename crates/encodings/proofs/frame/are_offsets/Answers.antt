@@ -1,3 +1,4 @@
+-- Proofs of the goals of `are_offsets` (`frame`).
 use Rattle.std.proofs.Common.{◌≡◌, ◌-◌, ◌^◌, ◌<◌, ◌≤ℤ◌, negsuc, pos, ◌+ℤ◌, ◌==◌, nat_le, length, get_or, take, map, refl, sym, ap, ◌∙◌, arith, rules}
 use Rattle.std.specs.List.{list_any, list_all, range_with_len}
 use Rattle.std.specs.Int.{w64}

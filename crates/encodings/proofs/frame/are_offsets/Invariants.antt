@@ -1,3 +1,4 @@
+-- Loop invariants of `are_offsets` (`frame`).
 use Rattle.std.proofs.Common.{◌≡◌, ◌-◌, ◌^◌, ◌==◌, take, map, nat_le}
 use Rattle.std.specs.List.{list_any, list_all, range_with_len}
 use Rattle.encodings.specs.Block.{offset_at}

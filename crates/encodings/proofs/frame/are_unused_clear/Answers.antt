@@ -1,3 +1,4 @@
+-- Proofs of the goals of `are_unused_clear` (`frame`).
 use Rattle.std.proofs.Common.{◌-◌, ◌*◌, length, nat_lt, ap, ◌∙◌, arith}
 use Rattle.std.proofs.lemmas.Nat.{one_shl}
 use Rattle.encodings.proofs.Digits.{AreBytes, last_byte}

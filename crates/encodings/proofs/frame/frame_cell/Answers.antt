@@ -1,3 +1,4 @@
+-- Proofs of the goals of `frame_cell` (`frame`).
 use Rattle.std.proofs.Common.{◌≡◌, ℤ, pos, ◌+ℤ◌, ◌-◌, length, take, drop, sym, ap, ◌∙◌, subst, rules}
 use Rattle.std.specs.Int.{w64, w128}
 use Rattle.std.specs.Int.RustNames.{FitsSigned}

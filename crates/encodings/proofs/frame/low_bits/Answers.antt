@@ -1,3 +1,4 @@
+-- Proofs of the goals of `low_bits` (`frame`).
 use Rattle.std.proofs.Common.{◌-◌, ap, ◌∙◌, bit_and, arith}
 use Rattle.std.proofs.lemmas.Nat.{one_shl, and_mask}
 use Rattle.encodings.proofs.frame.low_bits.Goals as goal

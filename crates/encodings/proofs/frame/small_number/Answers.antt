@@ -1,3 +1,4 @@
+-- Proofs of the goals of `small_number` (`frame`).
 use Rattle.std.proofs.Common.{◌≡◌, ◌-◌, ◌<◌, length, get_or, arith, rules}
 use Rattle.encodings.proofs.Digits.{byte_more, eight_next, room_for_byte}
 use Rattle.encodings.proofs.frame.small_number.Goals as goal

@@ -1,3 +1,4 @@
+-- Loop invariants of `small_number` (`frame`).
 use Rattle.std.proofs.Common.{◌≡◌, ◌-◌, ◌*◌, ◌^◌, ◌<◌, length, drop}
 use Rattle.encodings.specs.Bytes.{number_of}
 use Rattle.encodings.proofs.frame.small_number.Given as goal

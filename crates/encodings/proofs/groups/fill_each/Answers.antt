@@ -1,3 +1,4 @@
+-- Proofs of the goals of `fill_each` (`groups`).
 use Rattle.std.proofs.Common.{◌≡◌, ℕ, List, ◌+◌, ◌-◌, ◌*◌, ◌++◌, length, take, drop, ap, ◌∙◌, arith, ℤ, pos, ◌+ℤ◌, w64, to_z, of_z}
 use Rattle.std.proofs.lemmas.Int.{to_z-of_z}
 use Rattle.meaning.specs.Operators.{fits_i64}

@@ -1,3 +1,4 @@
+-- Loop invariants of `fill_each` (`groups`).
 use Rattle.std.proofs.Common.{◌≡◌, ◌*◌, take}
 use Rattle.encodings.specs.Reading.{raised_offsets}
 use Rattle.encodings.proofs.groups.fill_each.Given as goal

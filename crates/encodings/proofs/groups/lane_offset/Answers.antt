@@ -1,3 +1,4 @@
+-- Proofs of the goals of `lane_offset` (`groups`).
 use Rattle.std.proofs.Common.{◌≡◌, ℕ, List, ◌+◌, ◌-◌, ◌*◌, ◌/◌, ◌%◌, ◌^◌, ◌<◌, ◌≤◌, get_or, sym, ap, ◌∙◌, arith}
 use Rattle.std.proofs.lemmas.Nat.{mod_below, pow_pos, shl_whole}
 use Rattle.std.proofs.Math.Nat.{pow-le-pow_right}

@@ -1,3 +1,4 @@
+-- Loop invariants of `put_group` (`groups`).
 use Rattle.std.proofs.Common.{◌≡◌, ◌+◌, ◌++◌, take}
 use Rattle.encodings.proofs.groups.put_group.Given as goal
 

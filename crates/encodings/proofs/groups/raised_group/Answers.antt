@@ -1,3 +1,4 @@
+-- Proofs of the goals of `raised_group` (`groups`).
 use Rattle.std.proofs.Common.{◌≡◌, ℕ, pos, ◌+ℤ◌, refl, ap, ◌∙◌, w64, to_z, of_z}
 use Rattle.std.proofs.lemmas.Int.{to_z-of_z}
 use Rattle.encodings.specs.Block.{offset_at}

@@ -1,3 +1,4 @@
+-- Proofs of the goals of `are_bits_clear` (`null_runs`).
 use Rattle.std.proofs.Common.{not, sym, ap, ◌∙◌}
 use Rattle.encodings.specs.Block.{bit_at}
 use Rattle.encodings.proofs.Steps.{range_keeps}

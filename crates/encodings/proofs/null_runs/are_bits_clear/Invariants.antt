@@ -1,3 +1,4 @@
+-- Loop invariants of `are_bits_clear` (`null_runs`).
 use Rattle.std.proofs.Common.{◌≡◌, ◌-◌, not}
 use Rattle.std.specs.List.{list_all, range_with_len}
 use Rattle.encodings.specs.Block.{bit_at}

@@ -1,3 +1,4 @@
+-- Proofs of the goals of `are_null_runs_blank` (`null_runs`).
 use Rattle.std.proofs.Common.{◌≡◌, ◌+◌, ◌-◌, ◌*◌, ◌<◌, ◌||◌, not, get_or, take, drop, map, zip, sum, sym, ap, ◌∙◌, arith}
 use Rattle.std.specs.List.{list_all, range_with_len}
 use Rattle.std.specs.Int.{w16, from_le_bytes}

@@ -1,3 +1,4 @@
+-- Loop invariants of `are_null_runs_blank` (`null_runs`).
 use Rattle.std.proofs.Common.{◌≡◌, ◌+◌, ◌-◌, drop, map, zip, sum}
 use Rattle.std.specs.List.{list_all, range_with_len}
 use Rattle.encodings.specs.Block.{bit_at, repeated, run_cells, run_lengths, run_values}

@@ -1,3 +1,4 @@
+-- Proofs of the goals of `integer_at` (`numbers`).
 use Rattle.std.proofs.Common.{◌∙◌, ap, get_or, [], rules}
 use Rattle.std.specs.Int.{w64}
 use Rattle.std.specs.Int.RustNames.{FitsSigned}

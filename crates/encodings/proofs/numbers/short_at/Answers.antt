@@ -1,3 +1,4 @@
+-- Proofs of the goals of `short_at` (`numbers`).
 use Rattle.std.proofs.Common.{◌∙◌, ap, get_or, []}
 use Rattle.std.specs.Int.{w16, from_le_bytes}
 use Rattle.encodings.proofs.Chunks.{get_or-first_chunks}

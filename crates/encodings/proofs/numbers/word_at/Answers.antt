@@ -1,3 +1,4 @@
+-- Proofs of the goals of `word_at` (`numbers`).
 use Rattle.std.proofs.Common.{◌∙◌, ap, get_or, []}
 use Rattle.std.specs.Int.{w32, from_le_bytes}
 use Rattle.encodings.proofs.Chunks.{get_or-first_chunks}

@@ -1,3 +1,4 @@
+-- Proofs of the goals of `read_integers` (`reading`).
 use Rattle.std.proofs.Common.{length, take, drop, map, sym, ap, ◌∙◌}
 use Rattle.meaning.specs.declared.value.ColType.TheVariants as of_type
 use Rattle.meaning.specs.declared.value.Value.TheVariants.{Int}

@@ -1,11 +1,12 @@
+-- Proofs of the goals of `read_rows` (`reading`).
 use Rattle.std.proofs.Common.{◌≡◌, ℕ, ◌-◌, min, List, length, take, drop, map, sym, ap, subst, ◌∙◌, arith, Bool, false, ℤ, replicate}
 use Rattle.std.specs.Prelude.{if◌then◌else◌}
 use Rattle.std.specs.List.{range_with_len}
 use Rattle.std.specs.Vec.{with_items}
 use Rattle.std.proofs.lemmas.List.{with_items_is, length-map}
 use Rattle.encodings.specs.Block.{Block, bit_at, body_cells, body_of, cells_of, mask_of, nulls_of}
-use Rattle.encodings.specs.Vector.{AreCells, cells_in, vector_of}
-use Rattle.encodings.proofs.ReadVectors.{cells_ready, nulls_read, vector_read}
+use Rattle.encodings.specs.Vector.{AreCells, AreRoom, cells_in, vector_of}
+use Rattle.encodings.proofs.ReadVectors.{cells_ready, room_kept, nulls_read, vector_read}
 use Rattle.encodings.proofs.reading.read_rows.Goals as goal
 use denote.Bor.{Bor}
 
@@ -36,19 +37,21 @@ invariant_of-out c =
     ∙ nulls_read c.args.nullable (mask_of b) k n c.args.rows (omega (arith, hn, hk)) in
     let g : cells_in c.args.col_type (take n ints) (take n texts) ≡ take n (drop k (cells_of b))
     = c.read_cells.ensures ∙ ap (λ ys. take n (drop k (body_cells c.args.kind c.args.col_type c.args.rows ys))) body in
-    let x : length f.ints.items ≡ length f.nulls.items = c.out.invariant.ints_room in
-    let y : length (map now f.texts.items) ≡ length f.nulls.items = c.out.invariant.texts_room in
     let nv : length f.nulls.items ≡ f.nulls.len = ap length (sym c.as_mut_slice.ensures.value) ∙ c.as_mut_slice.ensures.len in
     let iv : length f.ints.items ≡ f.ints.len = ap length (sym c.as_mut_slice-2.ensures.value) ∙ c.as_mut_slice-2.ensures.len in
     let tv : length f.texts.items ≡ f.texts.len = ap length (sym c.as_mut_slice-3.ensures.value) ∙ c.as_mut_slice-3.ensures.len in
     let tm : length (map now f.texts.items) ≡ length f.texts.items = length-map f.texts.items now in
     let tn : length texts ≡ length c.read_cells.new.texts = length-map c.read_cells.new.texts now in
+    let typed : f.col_type ≡ c.args.col_type = ap (λ v. v.col_type) c.out.view_is ∙ c.requires.typed in
+    let own : AreRoom c.args.col_type f.nulls.items f.ints.items (map now f.texts.items) =
+    subst (λ t. AreRoom t f.nulls.items f.ints.items (map now f.texts.items)) typed c.out.invariant.room in
     let ready : AreCells c.args.col_type n nulls ints texts
-    = cells_ready b c.args.col_type n k nulls ints texts c.requires e g
-    (omega (arith, x, nl, il, nv, iv)) (omega (arith, y, nl, tl, nv, tv, tm, tn)) (omega (arith, hn, nl)) in
-    subst (λ cs. AreCells c.args.col_type n cs (with_items f.ints ints).items (map now (with_items f.texts c.read_cells.new.texts).items)) (sym ns)
+    = cells_ready b c.args.col_type n k nulls ints texts c.requires.block e g
+    (room_kept c.args.col_type f.nulls.items nulls f.ints.items ints (map now f.texts.items) texts own (nl ∙ sym nv) (il ∙ sym iv) (tn ∙ (tl ∙ (sym tv ∙ sym tm)))) (omega (arith, hn, nl)) in
+    subst (λ t. AreCells t n (with_items f.nulls nulls).items (with_items f.ints ints).items (map now (with_items f.texts c.read_cells.new.texts).items)) (sym typed)
+    (subst (λ cs. AreCells c.args.col_type n cs (with_items f.ints ints).items (map now (with_items f.texts c.read_cells.new.texts).items)) (sym ns)
     (subst (λ cs. AreCells c.args.col_type n nulls cs (map now (with_items f.texts c.read_cells.new.texts).items)) (sym is)
-    (subst (AreCells c.args.col_type n nulls ints) (sym ts) ready))
+    (subst (AreCells c.args.col_type n nulls ints) (sym ts) ready)))
 
 pub returns : goal.returns
 returns c =
@@ -77,10 +80,12 @@ returns c =
     ∙ nulls_read c.args.nullable (mask_of b) k n c.args.rows (omega (arith, hn, hk)) in
     let g : cells_in c.args.col_type (take n ints) (take n texts) ≡ take n (drop k (cells_of b))
     = c.read_cells.ensures ∙ ap (λ ys. take n (drop k (body_cells c.args.kind c.args.col_type c.args.rows ys))) body in
+    let typed : f.col_type ≡ c.args.col_type = ap (λ v. v.col_type) c.out.view_is ∙ c.requires.typed in
     let room : length f.nulls.items ≡ c.args.out.now.room = ap (λ v. v.room) c.out.view_is in
     let nv : length f.nulls.items ≡ f.nulls.len = ap length (sym c.as_mut_slice.ensures.value) ∙ c.as_mut_slice.ensures.len in
     let r : f.nulls.len ≡ c.args.out.now.room = sym nv ∙ room in
-    ap (λ cs. vector_of c.args.col_type n cs (with_items f.ints ints).items (map now (with_items f.texts c.read_cells.new.texts).items)) ns
+    ap (λ t. vector_of t n (with_items f.nulls nulls).items (with_items f.ints ints).items (map now (with_items f.texts c.read_cells.new.texts).items)) typed
+    ∙ ap (λ cs. vector_of c.args.col_type n cs (with_items f.ints ints).items (map now (with_items f.texts c.read_cells.new.texts).items)) ns
     ∙ ap (λ cs. vector_of c.args.col_type n nulls cs (map now (with_items f.texts c.read_cells.new.texts).items)) is
     ∙ ap (vector_of c.args.col_type n nulls ints) ts
     ∙ vector_read b c.args.col_type c.args.out.now.room c.args.from n k nulls ints texts

@@ -1,3 +1,4 @@
+-- Proofs of the goals of `fill_coded_integers` (`reading_dict`).
 use Rattle.std.proofs.Common.{◌≡◌, ℕ, ◌+◌, ◌<◌, List, [], length, drop, map, get_or, sym, ap, ◌∙◌, arith, ℤ, pos}
 use Rattle.std.proofs.lemmas.List.{length-map, length-drop, get_or-drop, get_or-map}
 use borrow.Author.Tests.{ltb-true}

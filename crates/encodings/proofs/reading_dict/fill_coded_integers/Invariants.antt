@@ -1,3 +1,4 @@
+-- Loop invariants of `fill_coded_integers` (`reading_dict`).
 use Rattle.std.proofs.Common.{◌≡◌, take, drop, map, get_or, pos}
 use Rattle.encodings.specs.Reading.{codes_in}
 use Rattle.encodings.specs.Bytes.{integer_of}

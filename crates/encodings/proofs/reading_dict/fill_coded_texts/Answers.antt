@@ -1,3 +1,4 @@
+-- Proofs of the goals of `fill_coded_texts` (`reading_dict`).
 use Rattle.std.proofs.Common.{◌≡◌, ℕ, ◌+◌, ◌<◌, List, [], length, take, drop, map, get_or, sym, ap, ◌∙◌, arith}
 use Rattle.std.proofs.lemmas.List.{length-map, length-drop, get_or-drop, get_or-map, map-set}
 use Rattle.std.specs.Int.{from_le_bytes, w16}

@@ -1,3 +1,4 @@
+-- Loop invariants of `fill_coded_texts` (`reading_dict`).
 use Rattle.std.proofs.Common.{◌≡◌, take, drop, map, get_or, []}
 use Rattle.encodings.specs.Reading.{codes_in, texts_in}
 use Rattle.encodings.proofs.reading_dict.fill_coded_texts.Given as goal

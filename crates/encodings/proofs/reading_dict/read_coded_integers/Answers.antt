@@ -1,3 +1,4 @@
+-- Proofs of the goals of `read_coded_integers` (`reading_dict`).
 use Rattle.std.proofs.Common.{◌≡◌, ℕ, List, length, take, drop, map, get_or, ap, ◌∙◌, ℤ, pos, true}
 use Rattle.std.specs.Prelude.{nat_lt}
 use Rattle.std.specs.List.{list_all}

@@ -1,3 +1,4 @@
+-- Proofs of the goals of `read_coded_texts` (`reading_dict`).
 use Rattle.std.proofs.Common.{◌≡◌, ℕ, ◌*◌, List, [], length, take, drop, map, get_or, ap, ◌∙◌, true}
 use Rattle.std.specs.Prelude.{nat_lt}
 use Rattle.std.specs.Int.{from_le_bytes, w32}

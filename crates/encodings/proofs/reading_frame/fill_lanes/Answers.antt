@@ -1,3 +1,4 @@
+-- Proofs of the goals of `fill_lanes` (`reading_frame`).
 use Rattle.std.proofs.Common.{◌≡◌, ℕ, ◌+◌, length, ap, ◌∙◌, arith, ℤ, pos, ◌+ℤ◌, w64, to_z, of_z, true}
 use Rattle.std.proofs.lemmas.Int.{to_z-of_z}
 use Rattle.meaning.specs.Operators.{fits_i64}

@@ -1,3 +1,4 @@
+-- Loop invariants of `fill_lanes` (`reading_frame`).
 use Rattle.std.proofs.Common.{◌≡◌, take}
 use Rattle.encodings.specs.Reading.{raised_offsets}
 use Rattle.encodings.proofs.reading_frame.fill_lanes.Given as goal

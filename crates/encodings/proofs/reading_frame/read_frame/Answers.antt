@@ -1,3 +1,4 @@
+-- Proofs of the goals of `read_frame` (`reading_frame`).
 use Rattle.std.proofs.Common.{◌≡◌, ℕ, ◌-◌, length, take, drop, ap, ◌∙◌, w64, to_z, of_z, true}
 use Rattle.std.specs.List.{list_all}
 use Rattle.std.proofs.lemmas.List.{take_rest}

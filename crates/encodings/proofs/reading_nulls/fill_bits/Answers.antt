@@ -1,3 +1,4 @@
+-- Proofs of the goals of `fill_bits` (`reading_nulls`).
 use Rattle.std.proofs.Common.{arith}
 use Rattle.encodings.specs.Block.{bit_at}
 use Rattle.encodings.proofs.ReadLists.{step-range}

@@ -1,3 +1,4 @@
+-- Proofs of the goals of `fill_lanes` (`reading_nulls`).
 use Rattle.std.proofs.Common.{◌≡◌, ℕ, ◌+◌, ◌*◌, ◌++◌, take, map, ap, ◌∙◌, arith}
 use Rattle.std.specs.List.{range_with_len}
 use Rattle.encodings.specs.Block.{bit_at}

@@ -1,3 +1,4 @@
+-- Loop invariants of `put_lanes` (`reading_nulls`).
 use Rattle.std.proofs.Common.{◌≡◌, ◌+◌, ◌++◌, take}
 use Rattle.encodings.proofs.reading_nulls.put_lanes.Given as goal
 

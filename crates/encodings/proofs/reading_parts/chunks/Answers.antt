@@ -1,3 +1,4 @@
+-- Proofs of the goals of `chunks` (`reading_parts`).
 use Rattle.std.proofs.Common.{◌≡◌, ◌/◌, length, take, ap, ◌∙◌}
 use Rattle.std.specs.Simd.{first_chunks}
 use Rattle.std.proofs.lemmas.Nat.{le-div}

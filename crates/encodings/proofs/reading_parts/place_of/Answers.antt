@@ -1,3 +1,4 @@
+-- Proofs of the goals of `place_of` (`reading_parts`).
 use Rattle.std.proofs.Common.{◌≡◌, ℕ, suc, ◌+◌, ◌-◌, ◌<◌, ◌≤◌, List, ◌∷◌, length, take, drop, get_or, ap, ◌∙◌, arith}
 use Rattle.std.specs.Int.{from_le_bytes, w32}
 use Rattle.std.proofs.lemmas.List.{length-map}

@@ -1,3 +1,4 @@
+-- Proofs of the goals of `fill_integers` (`reading_plain`).
 use Rattle.std.proofs.Common.{◌≡◌, ℕ, ◌+◌, ◌<◌, List, [], length, drop, map, sym, ◌∙◌, arith, ℤ, pos}
 use Rattle.std.proofs.lemmas.List.{length-map, length-drop, get_or-drop, get_or-map}
 use Rattle.encodings.specs.Bytes.{integer_of}

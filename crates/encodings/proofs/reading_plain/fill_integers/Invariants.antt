@@ -1,3 +1,4 @@
+-- Loop invariants of `fill_integers` (`reading_plain`).
 use Rattle.std.proofs.Common.{◌≡◌, take, drop, map}
 use Rattle.encodings.specs.Bytes.{integer_of}
 use Rattle.encodings.proofs.reading_plain.fill_integers.Given as goal

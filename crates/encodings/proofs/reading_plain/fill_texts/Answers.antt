@@ -1,3 +1,4 @@
+-- Proofs of the goals of `fill_texts` (`reading_plain`).
 use Rattle.std.proofs.Common.{◌≡◌, ℕ, ◌+◌, ◌<◌, List, [], length, take, drop, map, sym, ap, ◌∙◌, arith}
 use Rattle.std.proofs.lemmas.List.{length-map, length-drop, get_or-drop, map-set}
 use Rattle.encodings.specs.Reading.{ends_in, texts_in}

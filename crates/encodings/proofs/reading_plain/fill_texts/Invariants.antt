@@ -1,3 +1,4 @@
+-- Loop invariants of `fill_texts` (`reading_plain`).
 use Rattle.std.proofs.Common.{◌≡◌, take, drop, map}
 use Rattle.encodings.specs.Reading.{texts_in}
 use Rattle.encodings.proofs.reading_plain.fill_texts.Given as goal

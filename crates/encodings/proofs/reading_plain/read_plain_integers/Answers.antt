@@ -1,3 +1,4 @@
+-- Proofs of the goals of `read_plain_integers` (`reading_plain`).
 use Rattle.std.proofs.Common.{ℕ, length, take, drop, map, ap, ◌∙◌}
 use Rattle.meaning.specs.declared.value.Value.TheVariants.{Int}
 use Rattle.encodings.specs.Bytes.{integer_of}

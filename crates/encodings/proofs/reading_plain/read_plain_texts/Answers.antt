@@ -1,3 +1,4 @@
+-- Proofs of the goals of `read_plain_texts` (`reading_plain`).
 use Rattle.std.proofs.Common.{ℕ, length, take, drop, map, ap, ◌∙◌}
 use Rattle.meaning.specs.declared.value.Value.TheVariants.{Text}
 use Rattle.encodings.specs.Bytes.{texts_from}

@@ -1,3 +1,4 @@
+-- Proofs of the goals of `fill_front` (`reading_runs`).
 use Rattle.std.proofs.Common.{◌≡◌, ℕ, ◌+◌, ◌<◌, ◌≤◌, List, [], length, take, map, get_or, sym, ◌∙◌, arith, ℤ, pos, w64, to_z, of_z}
 use Rattle.std.specs.Int.{from_le_bytes, w16}
 use Rattle.std.proofs.lemmas.List.{length-map, get_or-map}

@@ -1,3 +1,4 @@
+-- Proofs of the goals of `fill_integer_runs` (`reading_runs`).
 use Rattle.std.proofs.Common.{◌≡◌, ℕ, ◌+◌, ◌-◌, ◌<◌, ◌≤◌, List, [], length, take, drop, map, sum, get_or, replicate, sym, ap, ◌∙◌, arith, ℤ, pos, w64, to_z, of_z}
 use Rattle.std.specs.Int.{from_le_bytes, w16}
 use Rattle.std.proofs.lemmas.List.{length-map, get_or-map}

@@ -1,3 +1,4 @@
+-- Loop invariants of `fill_rest` (`reading_runs`).
 use Rattle.std.proofs.Common.{◌≤◌, length, take, map}
 use Rattle.encodings.specs.Bytes.{integer_of}
 use Rattle.encodings.specs.Reading.{codes_in, repeats}

@@ -1,3 +1,4 @@
+-- Proofs of the goals of `fill_text_runs` (`reading_runs`).
 use Rattle.std.proofs.Common.{◌≡◌, ℕ, ◌+◌, ◌<◌, ◌≤◌, List, [], length, take, drop, map, get_or, sym, ap, ◌∙◌, arith}
 use Rattle.std.specs.Int.{from_le_bytes, w16, w32}
 use Rattle.std.proofs.lemmas.List.{length-map, get_or-map, length-take-le, take_all}

@@ -1,3 +1,4 @@
+-- Loop invariants of `fill_text_runs` (`reading_runs`).
 use Rattle.std.proofs.Common.{◌≤◌, length, take, drop, map}
 use Rattle.encodings.specs.Reading.{codes_in, texts_in, repeats}
 use Rattle.encodings.proofs.ReadLists.{AreLined}

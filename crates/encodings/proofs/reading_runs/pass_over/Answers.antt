@@ -1,3 +1,4 @@
+-- Proofs of the goals of `pass_over` (`reading_runs`).
 use Rattle.std.proofs.Common.{◌≡◌, ℕ, ◌+◌, ◌-◌, ◌*◌, ◌≤◌, List, take, drop, sum, ap, ◌∙◌, arith}
 use Rattle.std.specs.Int.{from_le_bytes, w16}
 use Rattle.encodings.specs.Reading.{codes_in}

@@ -1,3 +1,4 @@
+-- Loop invariants of `put_texts` (`reading_runs`).
 use Rattle.std.proofs.Common.{◌≡◌, ◌-◌, ◌++◌, take, map, replicate}
 use Rattle.encodings.proofs.reading_runs.put_texts.Given as goal
 

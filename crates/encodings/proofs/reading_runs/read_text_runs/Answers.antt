@@ -1,3 +1,4 @@
+-- Proofs of the goals of `read_text_runs` (`reading_runs`).
 use Rattle.std.proofs.Common.{◌≡◌, ℕ, ◌*◌, length, take, drop, map, ap, ◌∙◌}
 use Rattle.std.specs.Simd.{first_chunks}
 use Rattle.meaning.specs.declared.value.Value.TheVariants.{Text}

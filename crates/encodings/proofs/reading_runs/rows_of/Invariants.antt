@@ -1,3 +1,4 @@
+-- Loop invariants of `rows_of` (`reading_runs`).
 use Rattle.std.proofs.Common.{◌≡◌, ◌*◌, ◌≤◌, take, sum}
 use Rattle.encodings.specs.Reading.{codes_in}
 use Rattle.encodings.proofs.reading_runs.rows_of.Given as goal

@@ -1,3 +1,4 @@
+-- Proofs of the goals of `run_at` (`reading_runs`).
 use Rattle.std.proofs.Common.{◌≡◌, ℕ, ◌+◌, List, [], length, take, get_or, sum, sym, ◌∙◌, arith}
 use Rattle.std.specs.Int.{from_le_bytes, w16}
 use Rattle.std.proofs.lemmas.List.{length-map, get_or-map}

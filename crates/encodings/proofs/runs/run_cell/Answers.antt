@@ -1,3 +1,4 @@
+-- Proofs of the goals of `run_cell` (`runs`).
 use Rattle.encodings.proofs.RowCells.{run_cell_is}
 use Rattle.encodings.proofs.runs.run_cell.Goals as goal
 

@@ -1,3 +1,4 @@
+-- Proofs of the goals of `run_of` (`runs`).
 use Rattle.std.proofs.Common.{◌≡◌, ◌+◌, ◌-◌, get_or, drop, sum, sym, ap, ◌∙◌, zip, arith}
 use Rattle.std.proofs.lemmas.List.{at_drop_all}
 use Rattle.std.proofs.lemmas.List.Sums.{sum_by-drop_more}

@@ -1,3 +1,4 @@
+-- Loop invariants of `run_of` (`runs`).
 use Rattle.std.proofs.Common.{◌≡◌, ◌<◌, length, drop, get_or, zip, sum, List}
 use Rattle.meaning.specs.declared.value.Value.{Value}
 use Rattle.meaning.specs.declared.value.Value.TheVariants.{Null}

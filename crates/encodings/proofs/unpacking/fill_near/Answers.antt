@@ -1,3 +1,4 @@
+-- Proofs of the goals of `fill_near` (`unpacking`).
 use Rattle.std.proofs.Common.{arith}
 use Rattle.encodings.specs.Block.{offset_at}
 use Rattle.encodings.proofs.ReadLists.{step-range}

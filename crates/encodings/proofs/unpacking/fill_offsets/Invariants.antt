@@ -1,3 +1,4 @@
+-- Loop invariants of `fill_offsets` (`unpacking`).
 use Rattle.std.proofs.Common.{◌≡◌, take, map}
 use Rattle.std.specs.List.{range_with_len}
 use Rattle.encodings.specs.Block.{offset_at}

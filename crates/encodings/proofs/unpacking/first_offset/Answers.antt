@@ -1,3 +1,4 @@
+-- Proofs of the goals of `first_offset` (`unpacking`).
 use Rattle.std.proofs.Common.{◌≡◌, ℕ, ◌+◌, ◌*◌, ◌/◌, ◌%◌, ◌^◌, ap, sym, ◌∙◌, arith, take, get_or}
 use Rattle.encodings.specs.Bytes.{number_of}
 use Rattle.encodings.proofs.UnpackNumbers.{are_bytes, digit-take, number-take_9}

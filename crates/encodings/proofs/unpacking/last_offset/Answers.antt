@@ -1,3 +1,4 @@
+-- Proofs of the goals of `last_offset` (`unpacking`).
 use Rattle.std.proofs.Common.{ℕ, ◌/◌, ◌%◌, ◌^◌, ap, ◌∙◌, arith}
 use Rattle.encodings.proofs.UnpackNumbers.{masked_128}
 use Rattle.encodings.proofs.unpacking.last_offset.Goals as goal

@@ -1,3 +1,4 @@
+-- Proofs of the goals of `narrow_offset` (`unpacking`).
 use Rattle.std.proofs.Common.{ℕ, ◌/◌, ◌%◌, ◌^◌, ap, ◌∙◌, arith}
 use Rattle.encodings.proofs.UnpackNumbers.{from_le_bytes-64, masked_64, number-take_all}
 use Rattle.encodings.proofs.unpacking.narrow_offset.Goals as goal

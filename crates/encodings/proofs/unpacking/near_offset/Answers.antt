@@ -1,13 +1,15 @@
+-- Proofs of the goals of `near_offset` (`unpacking`).
 use Rattle.std.proofs.Common.{ℕ, ◌*◌, ◌/◌, ◌%◌, ◌^◌, ◌≤◌, List, ap, sym, ◌∙◌, arith}
 use Rattle.std.proofs.lemmas.List.{take_rest}
 use Rattle.std.proofs.lemmas.Nat.{mul-le}
+use Rattle.meaning.specs.Limits.{row_group_rows}
 use Rattle.encodings.specs.Bytes.{number_of}
 use Rattle.encodings.proofs.UnpackNumbers.{are_bytes, offset_at-drop}
 use Rattle.encodings.proofs.unpacking.near_offset.Goals as goal
 
 pub overflow_mul-bit : goal.overflow_mul-bit
 overflow_mul-bit c =
-    let h : c.args.i * c.args.width ≤ 8192 * 64 = mul-le c.args.i c.args.width 8192 64 c.requires.few c.requires.width in
+    let h : c.args.i * c.args.width ≤ row_group_rows * 64 = mul-le c.args.i c.args.width row_group_rows 64 c.requires.few c.requires.width in
     omega arith
 
 pub returns : goal.returns

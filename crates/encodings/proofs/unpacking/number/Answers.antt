@@ -1,3 +1,4 @@
+-- Proofs of the goals of `number` (`unpacking`).
 use Rattle.std.proofs.Common.{◌≡◌, ℕ, ◌+◌, ◌-◌, ◌*◌, ◌^◌, ◌<◌, length, get_or, drop, arith, ap}
 use Rattle.encodings.specs.Bytes.{number_of}
 use Rattle.encodings.proofs.UnpackNumbers.{are_bytes, byte_below, few_bytes_below, number-drop_less}

@@ -1,3 +1,4 @@
+-- Loop invariants of `number` (`unpacking`).
 use Rattle.std.proofs.Common.{◌≡◌, ◌-◌, ◌*◌, ◌^◌, ◌<◌, length, drop}
 use Rattle.encodings.specs.Bytes.{number_of}
 use Rattle.encodings.proofs.unpacking.number.Given as goal

@@ -1,3 +1,4 @@
+-- Proofs of the goals of `offset` (`unpacking`).
 use Rattle.std.proofs.Common.{◌+◌, ◌*◌, ◌/◌, ◌%◌, ◌^◌, ◌<◌, ◌≤◌, ap, ◌∙◌, arith, length}
 use Rattle.std.proofs.lemmas.List.{take_rest}
 use Rattle.encodings.specs.Bytes.{number_of}

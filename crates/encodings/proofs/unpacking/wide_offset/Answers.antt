@@ -1,3 +1,4 @@
+-- Proofs of the goals of `wide_offset` (`unpacking`).
 use Rattle.std.proofs.Common.{◌≡◌, ℕ, ◌+◌, ◌*◌, ◌/◌, ◌%◌, ◌^◌, ap, ◌∙◌, arith}
 use Rattle.encodings.specs.Bytes.{number_of}
 use Rattle.encodings.proofs.UnpackNumbers.{from_le_bytes-64, masked_128, number-take_all}

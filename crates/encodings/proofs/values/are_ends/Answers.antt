@@ -1,3 +1,4 @@
+-- Proofs of the goals of `are_ends` (`values`).
 use Rattle.std.proofs.Common.{◌≡◌, true, false, nat_le, arith}
 use Rattle.std.proofs.lemmas.Bool.Decides.{nat_tests}
 use Rattle.encodings.proofs.Ends.{ends_step, ends_end}

@@ -1,3 +1,4 @@
+-- Loop invariants of `are_ends` (`values`).
 use Rattle.std.proofs.Common.{◌≡◌, drop}
 use Rattle.encodings.specs.Block.{are_ends}
 use Rattle.encodings.specs.Bytes.{words}

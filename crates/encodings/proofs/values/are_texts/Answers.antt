@@ -1,3 +1,4 @@
+-- Proofs of the goals of `are_texts` (`values`).
 use Rattle.std.proofs.Common.{◌≤◌, length, sym, ◌∙◌, rules}
 use Rattle.encodings.proofs.Ends.{ends_within, texts_step, texts_end}
 use Rattle.encodings.proofs.Steps.{and_true, and_false}

@@ -1,3 +1,4 @@
+-- Loop invariants of `are_texts` (`values`).
 use Rattle.std.proofs.Common.{◌≡◌, drop, length, true}
 use Rattle.std.specs.List.{list_all}
 use Rattle.columns.specs.Column.{is_text}

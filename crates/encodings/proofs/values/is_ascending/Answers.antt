@@ -1,3 +1,4 @@
+-- Proofs of the goals of `is_ascending` (`values`).
 use Rattle.std.proofs.Common.{◌≡◌, sym, ap, ◌∙◌, arith}
 use Rattle.std.specs.Ordering.{is_lt}
 use Rattle.meaning.specs.declared.value.Value.{Value}

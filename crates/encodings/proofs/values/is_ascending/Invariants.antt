@@ -1,3 +1,4 @@
+-- Loop invariants of `is_ascending` (`values`).
 use Rattle.std.proofs.Common.{◌≡◌, ◌-◌, drop}
 use Rattle.meaning.specs.Order.{value_cmp, is_ascending}
 use Rattle.encodings.specs.Block.{values_form}

@@ -1,3 +1,4 @@
+-- Proofs of the goals of `start_at` (`values`).
 use Rattle.std.proofs.Common.{◌-◌, sym, ◌∙◌, arith}
 use Rattle.encodings.specs.Bytes.{words}
 use Rattle.encodings.proofs.Chunks.{get_or-words}

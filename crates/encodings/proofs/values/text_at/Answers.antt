@@ -1,3 +1,4 @@
+-- Proofs of the goals of `text_at` (`values`).
 use Rattle.std.proofs.Common.{◌≤◌, ◌-◌, ◌*◌, length, rules}
 use Rattle.encodings.proofs.Ends.{text_within, text_is}
 use Rattle.encodings.proofs.values.text_at.Goals as goal

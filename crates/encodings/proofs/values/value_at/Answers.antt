@@ -1,3 +1,4 @@
+-- Proofs of the goals of `value_at` (`values`).
 use Rattle.std.proofs.Common.{◌∙◌, rules}
 use Rattle.std.specs.Int.{w64}
 use Rattle.std.specs.Int.RustNames.{FitsSigned}

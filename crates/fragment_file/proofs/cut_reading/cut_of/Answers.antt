@@ -1,3 +1,4 @@
+-- Proofs of the goals of `cut_of` (`cut_reading`).
 use Rattle.std.proofs.Common.{◌≡◌, ℕ, List, Result, Ok, Err, ◌∙◌}
 use Rattle.meaning.specs.declared.cut.CutFault.{CutFault}
 use Rattle.fragment_file.proofs.CutLaws.{cut_taken}

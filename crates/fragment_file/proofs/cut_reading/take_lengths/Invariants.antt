@@ -1,7 +1,9 @@
+-- Loop invariants of `take_lengths` (`cut_reading`).
 use Rattle.std.proofs.Common.{◌≡◌, ◌-◌}
-use Rattle.fragment_file.specs.CutFile.{lengths_at}
-use Rattle.fragment_file.proofs.Loops.{behind}
+use Rattle.wire.specs.Reading.{repeat_at}
+use Rattle.wire.proofs.Loops.{read_behind}
+use Rattle.fragment_file.specs.CutFile.{length_at}
 use Rattle.fragment_file.proofs.cut_reading.take_lengths.Given as goal
 
 abbrev pub invariant-loop : goal.invariant-loop
-invariant-loop l = behind l.lengths.items (lengths_at (l.count - l.counter) l.rest) ≡ lengths_at l.count l.bytes
+invariant-loop l = read_behind length_at l.lengths.items (l.count - l.counter) l.rest ≡ repeat_at length_at l.count l.bytes

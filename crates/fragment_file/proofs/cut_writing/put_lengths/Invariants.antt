@@ -1,7 +1,8 @@
+-- Loop invariants of `put_lengths` (`cut_writing`).
 use Rattle.std.proofs.Common.{take}
 use Rattle.std.specs.Prelude.{flat_map}
-use Rattle.fragment_file.specs.Fragment.{number_bytes}
-use Rattle.fragment_file.specs.Writing.{Puts}
+use Rattle.wire.specs.Bytes.{number_bytes}
+use Rattle.wire.specs.Writing.{Puts}
 use Rattle.fragment_file.proofs.cut_writing.put_lengths.Given as goal
 
 abbrev pub invariant-loop-length : goal.invariant-loop-length

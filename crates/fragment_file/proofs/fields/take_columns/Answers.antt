@@ -1,3 +1,4 @@
+-- Proofs of the goals of `take_columns` (`fields`).
 use Rattle.std.proofs.Common.{[]}
 use Rattle.std.proofs.lemmas.Result.{err_from_is_err_and}
 use Rattle.fragment_file.specs.FragmentReading.{columns_at}

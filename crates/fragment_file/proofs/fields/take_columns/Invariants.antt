@@ -1,3 +1,4 @@
+-- Loop invariants of `take_columns` (`fields`).
 use Rattle.std.proofs.Common.{◌≡◌, ◌-◌, []}
 use Rattle.fragment_file.specs.FragmentReading.{columns_at}
 use Rattle.fragment_file.proofs.fields.take_columns.Given as goal

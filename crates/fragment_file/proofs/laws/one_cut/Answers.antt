@@ -1,5 +1,6 @@
+-- Proofs of the goals of `one_cut` (`laws`).
 use Rattle.std.proofs.Common.{sym, ◌∙◌}
-use Rattle.fragment_file.proofs.Numbers.{ok_is}
+use Rattle.wire.proofs.Numbers.{ok_is}
 use Rattle.fragment_file.proofs.CutLaws.{cut_again}
 use Rattle.fragment_file.proofs.laws.one_cut.Goals as goal
 

@@ -1,5 +1,6 @@
+-- Proofs of the goals of `one_file` (`laws`).
 use Rattle.std.proofs.Common.{sym, ◌∙◌}
-use Rattle.fragment_file.proofs.Numbers.{ok_is}
+use Rattle.wire.proofs.Numbers.{ok_is}
 use Rattle.fragment_file.proofs.FileLaws.{file_again}
 use Rattle.fragment_file.proofs.laws.one_file.Goals as goal
 

@@ -1,6 +1,7 @@
+-- Proofs of the goals of `one_table_slice` (`laws`).
 use Rattle.std.proofs.Common.{◌≡◌, sym, ap, ◌∙◌}
 use Rattle.fragment_file.specs.Fragment.{FragmentSpec, columns_in}
-use Rattle.fragment_file.proofs.Numbers.{ok_is}
+use Rattle.wire.proofs.Numbers.{ok_is}
 use Rattle.fragment_file.proofs.FileLaws.{file_again}
 use Rattle.fragment_file.proofs.laws.one_table_slice.Goals as goal
 

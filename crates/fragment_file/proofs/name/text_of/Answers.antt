@@ -1,3 +1,4 @@
+-- Proofs of the goals of `text_of` (`name`).
 use Rattle.std.proofs.lemmas.Str.{IsUtf8-from_ascii}
 use Rattle.meaning.proofs.NameForms.{is_name-ascii}
 use Rattle.fragment_file.proofs.name.text_of.Goals as goal

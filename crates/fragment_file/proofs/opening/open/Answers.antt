@@ -1,18 +1,21 @@
+-- Proofs of the goals of `open` (`opening`).
 use Rattle.std.proofs.Common.{List, ℕ, Result, Ok, Err, sym, ◌∙◌}
 use Rattle.std.specs.Prelude.{IfOk}
 use Rattle.fragment_file.specs.declared.fault.FileFault.{FileFault}
+use Rattle.fragment_file.specs.declared.fault.FileFault.TheVariants.{Memory}
 use Rattle.fragment_file.specs.Fragment.{FragmentSpec, IsFileOf}
 use Rattle.fragment_file.specs.FragmentReading.{read_fragment}
-use Rattle.fragment_file.specs.Reading.{ReadsIfMemory}
-use Rattle.fragment_file.proofs.Numbers.{IsBytes}
+use Rattle.wire.specs.Reading.{ReadsIfMemory}
+use Rattle.wire.proofs.Numbers.{IsBytes}
 use Rattle.fragment_file.proofs.FileLaws.{file_takes, file_again}
+use Rattle.fragment_file.proofs.ReadFaults.{fragment_told, told_by}
 use Rattle.fragment_file.proofs.opening.open.Goals as goal
 
-is_spelled : (bytes : List ℕ) (r : Result FragmentSpec FileFault) → IsBytes bytes → ReadsIfMemory (λ v. v) r (read_fragment bytes) → IfOk r (λ v. IsFileOf bytes v)
+is_spelled : (bytes : List ℕ) (r : Result FragmentSpec FileFault) → IsBytes bytes → ReadsIfMemory Memory (λ v. v) r (read_fragment bytes) → IfOk r (λ v. IsFileOf bytes v)
 is_spelled bytes (Ok v) ok read = file_takes bytes v ok read
 is_spelled bytes (Err e) ok read = tt
 
-is_given : (bytes : List ℕ) (f : FragmentSpec) (r : Result FragmentSpec FileFault) → IsFileOf bytes f → ReadsIfMemory (λ v. v) r (read_fragment bytes) → ReadsIfMemory (λ v. v) r (Ok f)
+is_given : (bytes : List ℕ) (f : FragmentSpec) (r : Result FragmentSpec FileFault) → IsFileOf bytes f → ReadsIfMemory Memory (λ v. v) r (read_fragment bytes) → ReadsIfMemory Memory (λ v. v) r (Ok f)
 is_given bytes f (Ok v) is read = sym (file_again bytes f is) ∙ read
 is_given bytes f (Err e) is read = λ not_memory. sym (file_again bytes f is) ∙ read not_memory
 
@@ -21,3 +24,6 @@ returns-clause-spelled c = is_spelled c.args.bytes.now c.read.result (λ i. (c.t
 
 pub returns-clause-complete : goal.returns-clause-complete
 returns-clause-complete c = λ f is. is_given c.args.bytes.now f c.read.result is c.read.ensures
+
+pub returns-clause-told : goal.returns-clause-told
+returns-clause-told c = told_by (λ v. v) c.read.result _ c.read.ensures (fragment_told c.args.bytes.now)

@@ -1,3 +1,4 @@
+-- Proofs of the goals of `append_blocks` (`writing_groups`).
 use Rattle.std.proofs.Common.{◌-◌}
 use Rattle.fragment_file.proofs.WrittenGroups.{puts_block_more}
 use Rattle.fragment_file.proofs.writing_groups.append_blocks.Goals as goal

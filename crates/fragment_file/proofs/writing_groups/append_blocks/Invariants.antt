@@ -1,3 +1,4 @@
+-- Loop invariants of `append_blocks` (`writing_groups`).
 use Rattle.std.proofs.Common.{◌-◌, take}
 use Rattle.fragment_file.specs.Writing.{PutsBlocks}
 use Rattle.fragment_file.proofs.writing_groups.append_blocks.Given as goal

@@ -1,3 +1,4 @@
+-- Proofs of the goals of `append_group` (`writing_groups`).
 use Rattle.std.proofs.Common.{◌-◌}
 use Rattle.fragment_file.proofs.Written.{on_ok}
 use Rattle.fragment_file.proofs.WrittenGroups.{puts_group}

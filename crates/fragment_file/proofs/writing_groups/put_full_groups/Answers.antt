@@ -1,3 +1,4 @@
+-- Proofs of the goals of `put_full_groups` (`writing_groups`).
 use Rattle.std.proofs.Common.{arith}
 use Rattle.fragment_file.proofs.WrittenGroups.{writes_nothing, writes_full}
 use Rattle.fragment_file.proofs.writing_groups.put_full_groups.Goals as goal

@@ -1,3 +1,4 @@
+-- Proofs of the goals of `put_groups` (`writing_groups`).
 use Rattle.std.proofs.Common.{arith}
 use Rattle.fragment_file.proofs.Written.{on_ok}
 use Rattle.fragment_file.proofs.WrittenGroups.{writes_rest}

@@ -1,3 +1,4 @@
+-- Loop invariants of `append_columns` (`writing_header`).
 use Rattle.std.proofs.Common.{◌≡◌, ◌++◌, take}
 use Rattle.std.specs.List.{flat_map}
 use Rattle.fragment_file.specs.Fragment.{column_bytes}

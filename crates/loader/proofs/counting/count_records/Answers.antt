@@ -1,3 +1,4 @@
+-- Proofs of the goals of `count_records` (`counting`).
 use Rattle.std.proofs.Common.{◌≡◌, suc, ap, arith, length}
 use Rattle.csv.specs.Records.{fields_of}
 use Rattle.loader.proofs.Steps.{none_taken, one_taken}

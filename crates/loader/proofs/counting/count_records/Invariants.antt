@@ -1,3 +1,4 @@
+-- Loop invariants of `count_records` (`counting`).
 use Rattle.std.proofs.Common.{◌≡◌, ◌+◌, List, length}
 use Rattle.meaning.specs.Records.{Record}
 use Rattle.loader.specs.Source.{IsLeft}

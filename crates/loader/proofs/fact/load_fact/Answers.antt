@@ -1,3 +1,4 @@
+-- Proofs of the goals of `load_fact` (`fact`).
 use Rattle.std.proofs.Common.{◌∙◌}
 use Rattle.loader.specs.Source.{csv_records}
 use Rattle.loader.proofs.FactSteps.{opened_fact}

@@ -1,3 +1,4 @@
+-- Proofs of the goals of `load_rows` (`fact`).
 use Rattle.std.proofs.Common.{Vec, Global}
 use Rattle.meaning.specs.declared.sequence.Sequence.{Sequence}
 use Rattle.columns.specs.declared.column.Column.{Column}

@@ -1,3 +1,4 @@
+-- Proofs of the goals of `integer_of` (`field`).
 use Rattle.loader.proofs.Integers.{parsed_integer}
 use Rattle.loader.proofs.field.integer_of.Goals as goal
 

@@ -1,3 +1,4 @@
+-- Proofs of the goals of `short_integer` (`field`).
 use Rattle.std.proofs.Common.{◌∙◌, ap, sym, arith, Some}
 use Rattle.loader.proofs.Integers.{negated, short_minus, short_plain, word_is}
 use Rattle.loader.proofs.field.short_integer.Goals as goal

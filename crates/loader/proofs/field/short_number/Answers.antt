@@ -1,3 +1,4 @@
+-- Proofs of the goals of `short_number` (`field`).
 use Rattle.std.proofs.Common.{arith}
 use Rattle.loader.proofs.Integers.{front_value, front_more, whole_number}
 use Rattle.loader.proofs.field.short_number.Goals as goal

@@ -1,3 +1,4 @@
+-- Loop invariants of `short_number` (`field`).
 use Rattle.std.proofs.Common.{◌≡◌, take}
 use Rattle.std.specs.Str.Parse.{AllDigits, digits_value}
 use Rattle.loader.proofs.field.short_number.Given as goal

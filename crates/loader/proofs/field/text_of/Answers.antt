@@ -1,3 +1,4 @@
+-- Proofs of the goals of `text_of` (`field`).
 use Rattle.std.proofs.Common.{inl, inr}
 use Rattle.std.specs.Str.{is_utf8}
 use Rattle.std.proofs.lemmas.Bool.{cases_Bool}

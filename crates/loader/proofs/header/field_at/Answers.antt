@@ -1,3 +1,4 @@
+-- Proofs of the goals of `field_at` (`header`).
 use Rattle.std.proofs.Common.{◌∙◌}
 use Rattle.csv.specs.Records.{fields_of}
 use Rattle.loader.proofs.Fields.{field_there}

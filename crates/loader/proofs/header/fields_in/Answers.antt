@@ -1,3 +1,4 @@
+-- Proofs of the goals of `fields_in` (`header`).
 use Rattle.std.proofs.Common.{Bor, ℕ, List, [], ◌∷◌, ◌++◌, ◌∙◌, sym, ap, arith}
 use Rattle.std.proofs.lemmas.List.{map-append, take_all}
 use Rattle.csv.specs.Records.{fields_of}

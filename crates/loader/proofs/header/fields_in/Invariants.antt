@@ -1,3 +1,4 @@
+-- Loop invariants of `fields_in` (`header`).
 use Rattle.std.proofs.Common.{◌≡◌, map, take}
 use Rattle.csv.specs.Records.{fields_of}
 use Rattle.loader.proofs.header.fields_in.Given as goal

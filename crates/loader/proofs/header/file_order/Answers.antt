@@ -1,3 +1,4 @@
+-- Proofs of the goals of `file_order` (`header`).
 use Rattle.std.proofs.Common.{Bor, ℕ, List, rules}
 use Rattle.std.specs.Prelude.{position, unwrap_or}
 use Rattle.meaning.specs.Records as declared

@@ -1,3 +1,4 @@
+-- Proofs of the goals of `take_fields` (`in_order`).
 use Rattle.std.proofs.Common.{◌≡◌, ◌∙◌, ap, arith, sym, Some}
 use Rattle.std.specs.Prelude.{slice_get, slice_set}
 use Rattle.std.proofs.lemmas.Option.{slice_get-get_or}

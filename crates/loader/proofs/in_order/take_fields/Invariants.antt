@@ -1,3 +1,4 @@
+-- Loop invariants of `take_fields` (`in_order`).
 use Rattle.csv.specs.Records.{fields_of}
 use Rattle.loader.proofs.InOrder.{HasFront}
 use Rattle.loader.proofs.in_order.take_fields.Given as goal

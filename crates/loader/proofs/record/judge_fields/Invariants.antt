@@ -1,3 +1,4 @@
+-- Loop invariants of `judge_fields` (`record`).
 use Rattle.std.proofs.Common.{◌≡◌, drop, length}
 use Rattle.std.specs.Prelude.{slice_get, zip}
 use Rattle.csv.specs.Records.{fields_of}

@@ -1,3 +1,4 @@
+-- Proofs of the goals of `judge_texts` (`record`).
 use Rattle.std.proofs.Common.{◌≡◌, ℕ, List, [], ◌∷◌, length, get_or, sym, ap, ◌∙◌, arith, Some}
 use Rattle.std.specs.Prelude.{slice_get, zip, Result}
 use Rattle.std.proofs.lemmas.List.{length-append}

@@ -1,3 +1,4 @@
+-- Proofs of the goals of `judged_at` (`rows`).
 use Rattle.std.proofs.Common.{sym}
 use Rattle.csv.specs.Records.{fields_of}
 use Rattle.loader.proofs.Values.{value_there, no_field, none_judged}

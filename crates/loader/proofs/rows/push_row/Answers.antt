@@ -1,3 +1,4 @@
+-- Proofs of the goals of `push_row` (`rows`).
 use Rattle.std.proofs.Common.{◌≡◌, ◌<◌, ◌∙◌, ◌++◌, ap, sym, arith, length, take, drop, add-one}
 use Rattle.std.specs.Prelude.{slice_index_or}
 use Rattle.meaning.specs.declared.value.Value.TheVariants.{Null}

@@ -1,3 +1,4 @@
+-- Loop invariants of `push_row` (`rows`).
 use Rattle.std.proofs.Common.{◌≡◌, ◌++◌, take, drop}
 use Rattle.csv.specs.Records.{fields_of}
 use Rattle.meaning.specs.Records as declared

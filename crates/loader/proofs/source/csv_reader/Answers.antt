@@ -1,3 +1,4 @@
+-- Proofs of the goals of `csv_reader` (`source`).
 use Rattle.std.proofs.Common.{inr, ◌∙◌, ap, option_map}
 use Rattle.csv.specs.Reading.{default_config, strip_bom}
 use Rattle.loader.proofs.CsvRecords.{all_records}

@@ -1,3 +1,4 @@
+-- Proofs of the goals of `next_record` (`source`).
 use Rattle.csv.specs.Records.{fields_of}
 use Rattle.loader.proofs.Taking.{takes}
 use Rattle.loader.proofs.source.next_record.Goals as goal

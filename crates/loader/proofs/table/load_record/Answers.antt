@@ -1,3 +1,4 @@
+-- Proofs of the goals of `load_record` (`table`).
 use Rattle.std.proofs.Common.{◌≡◌, arith, length}
 use Rattle.std.specs.List.{range_with_len}
 use Rattle.loader.proofs.InOrder.{order_whole}

@@ -1,3 +1,4 @@
+-- Loop invariants of `no_columns` (`table`).
 use Rattle.std.proofs.Common.{◌≡◌, map, take}
 use Rattle.loader.specs.Columns.{no_rows}
 use Rattle.loader.proofs.table.no_columns.Given as goal

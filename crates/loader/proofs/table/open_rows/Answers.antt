@@ -1,3 +1,4 @@
+-- Proofs of the goals of `open_rows` (`table`).
 use Rattle.loader.specs.Source.{csv_records}
 use Rattle.loader.proofs.table.open_rows.Goals as goal
 

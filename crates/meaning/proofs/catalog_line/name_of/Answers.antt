@@ -1,3 +1,4 @@
+-- Proofs of the goals of `name_of` (`catalog_line`).
 use Rattle.std.proofs.Common.{◌≡◌, true}
 use Rattle.std.proofs.lemmas.Str.{IsUtf8-from_ascii}
 use Rattle.meaning.specs.Catalog.{is_name}

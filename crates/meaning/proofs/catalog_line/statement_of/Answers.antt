@@ -1,9 +1,11 @@
+-- Proofs of the goals of `statement_of` (`catalog_line`).
 use Rattle.std.proofs.Common.{◌≡◌, ◌≢◌, ℕ, List, [], ◌∷◌, length, map, None, Bor, refl}
 use Rattle.meaning.specs.CatalogLine.{statement_of}
 use Rattle.meaning.proofs.catalog_line.statement_of.Goals as goal
 
 -- other numbers of words declare nothing
-others : (ws : List (Bor (List ℕ))) → length ws ≢ 2 → length ws ≢ 3 → length ws ≢ 4 → None ≡ statement_of (map (λ word. word.now) ws)
+others : (ws : List (Bor (List ℕ))) → length ws ≢ 2 → length ws ≢ 3 → length ws ≢ 4 → None
+    ≡ statement_of (map (λ word. word.now) ws)
 others [] two three four = refl
 others (a ∷ []) two three four = refl
 others (a ∷ b ∷ []) two three four = absurd (two refl)

@@ -1,3 +1,4 @@
+-- Proofs of the goals of `words` (`catalog_line`).
 use Rattle.std.proofs.Common.{rules, ◌==◌, not, length}
 use Rattle.std.proofs.lemmas.Iterator.Consumers.{YieldsList-from_filter, map_from_collect}
 use Rattle.std.proofs.lemmas.Iterator.Splits.{YieldsList-from_slice_split}

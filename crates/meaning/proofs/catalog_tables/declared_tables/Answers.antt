@@ -1,10 +1,11 @@
+-- Proofs of the goals of `declared_tables` (`catalog_tables`).
 use Rattle.std.proofs.Common.{◌≡◌, refl, ℕ, ◌+◌, ◌<◌, ◌∙◌, sym, List, [], Bor, length, map, get_or, arith, ap}
 use Rattle.std.proofs.lemmas.Result.{err_from_is_err_and}
 use Rattle.std.proofs.lemmas.List.{length-map, get_or-map}
 use Rattle.meaning.specs.declared.catalog_line.Line.{Line}
 use Rattle.meaning.specs.CatalogLine.{line_of}
 use Rattle.meaning.specs.CatalogTables.{fault_at, with_line}
-use Rattle.meaning.proofs.CatalogSteps.{first_fault-more, tables_of-more, first_fault-stop}
+use Rattle.meaning.proofs.CatalogSteps.{first_line_fault-more, tables_of-more, first_line_fault-stop}
 use Rattle.meaning.proofs.catalog_tables.declared_tables.Goals as goal
 
 -- what the lines say
@@ -14,7 +15,8 @@ said lines = map line_of (map (λ line. line.now) lines)
 length-said : (lines : List (Bor (List ℕ))) → length (said lines) ≡ length lines
 length-said lines = simp length-map refl
 
-get_or-said : (lines : List (Bor (List ℕ))) (i : ℕ) (d : Bor (List ℕ)) (e : Line) → i < length lines → get_or (said lines) i e ≡ line_of (get_or lines i d).now
+get_or-said : (lines : List (Bor (List ℕ))) (i : ℕ) (d : Bor (List ℕ)) (e : Line) → i < length lines
+    → get_or (said lines) i e ≡ line_of (get_or lines i d).now
 get_or-said lines i d e within =
     let text : Bor (List ℕ) → List ℕ = λ line. line.now in
     let within' : i < length (map text lines) = simp length-map within in
@@ -27,9 +29,11 @@ returns-in_err-declare_line-clause-err c =
     let lines = said c.args.lines.now in
     let line = line_of c.as_bytes.result.now in
     let within : i < length lines = omega (arith, length-said c.args.lines.now) in
-    let is : get_or lines i line ≡ line = get_or-said c.args.lines.now i _ line c.loop-index-test.true ∙ ap line_of (sym c.as_bytes.ensures.value) in
-    rw (p.1, p.2) (λ other. first_fault-stop lines i line _ within is c.loop-index.invariant.0
-    (ap (λ tables. fault_at tables (i + 1) line) (sym c.loop-index.invariant.1) ∙ c.in_err-declare_line.ensures.err other))
+    let is : get_or lines i line ≡ line = get_or-said c.args.lines.now i _ line c.loop-index-test.true
+    ∙ ap line_of (sym c.as_bytes.ensures.value) in
+    rw (p.1, p.2) (λ other. first_line_fault-stop lines i line _ within is c.loop-index.invariant.0
+    (ap (λ tables. fault_at tables (i + 1) line) (sym c.loop-index.invariant.1)
+    ∙ c.in_err-declare_line.ensures.err other))
 
 pub loop-index-preserved : goal.loop-index-preserved
 loop-index-preserved c =
@@ -37,9 +41,11 @@ loop-index-preserved c =
     let lines = said c.args.lines.now in
     let line = line_of c.as_bytes.result.now in
     let within : i < length lines = omega (arith, length-said c.args.lines.now) in
-    let is : get_or lines i line ≡ line = get_or-said c.args.lines.now i _ line c.loop-index-test.true ∙ ap line_of (sym c.as_bytes.ensures.value) in (
-      first_fault-more lines i line within is c.loop-index.invariant.0
-          (ap (λ tables. fault_at tables (i + 1) line) (sym c.loop-index.invariant.1) ∙ c.in_ok-declare_line.ensures.ok),
+    let is : get_or lines i line ≡ line = get_or-said c.args.lines.now i _ line c.loop-index-test.true
+    ∙ ap line_of (sym c.as_bytes.ensures.value) in (
+      first_line_fault-more lines i line within is c.loop-index.invariant.0
+          (ap (λ tables. fault_at tables (i + 1) line) (sym c.loop-index.invariant.1)
+          ∙ c.in_ok-declare_line.ensures.ok),
       c.in_ok-declare_line.ensures.added ∙ ap (λ tables. with_line tables line) c.loop-index.invariant.1
           ∙ sym (tables_of-more lines i line within is),
     )

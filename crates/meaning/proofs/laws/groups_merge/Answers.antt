@@ -1,3 +1,4 @@
+-- Proofs of the goals of `groups_merge` (`laws`).
 use Rattle.meaning.proofs.LiveTable.{merged_groups-turned, merged_groups-again}
 use Rattle.meaning.proofs.laws.groups_merge.Goals as goal
 

@@ -1,3 +1,4 @@
+-- Proofs of the goals of `one_combination` (`laws`).
 use Rattle.meaning.proofs.UniqueKeys.{one_combo}
 use Rattle.meaning.proofs.laws.one_combination.Goals as goal
 

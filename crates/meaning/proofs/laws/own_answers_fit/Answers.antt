@@ -1,3 +1,4 @@
+-- Proofs of the goals of `own_answers_fit` (`laws`).
 use Rattle.meaning.proofs.OwnFits.{own_fits}
 use Rattle.meaning.proofs.laws.own_answers_fit.Goals as goal
 

@@ -1,3 +1,4 @@
+-- Proofs of the goals of `whole_from_parts` (`laws`).
 use Rattle.meaning.proofs.OwnStates.{report-own_answers}
 use Rattle.meaning.proofs.laws.whole_from_parts.Goals as goal
 

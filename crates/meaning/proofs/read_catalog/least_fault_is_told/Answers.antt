@@ -1,3 +1,4 @@
+-- Proofs of the goals of `least_fault_is_told` (`read_catalog`).
 use Rattle.meaning.proofs.FirstFault.{faultless-from_none, none-from_faultless, first-from_some, some-from_first}
 use Rattle.meaning.proofs.read_catalog.least_fault_is_told.Goals as goal
 

@@ -1,3 +1,4 @@
+-- Proofs of the goals of `read_catalog` (`read_catalog`).
 use Rattle.std.proofs.Common.{◌≡◌, ◌≢◌, refl, ◌∙◌, ap, sym, true, false, if◌then◌else◌, Err}
 use Rattle.std.specs.Str.{is_utf8}
 use Rattle.std.proofs.lemmas.Str.{IsUtf8-from_is_utf8, is_utf8-from_IsUtf8}
@@ -17,7 +18,9 @@ returns-in-Ok c =
 pub returns-in-Err : goal.returns-in-Err
 returns-in-Err c = record {
   value = λ _.
-      elim (is_utf8 c.args.bytes.now) as (λ b. is_utf8 c.args.bytes.now ≡ b → Err NotUtf8 ≡ (if b then catalog_of_text c.args.bytes.now else Err NotUtf8)) [
+      elim (is_utf8 c.args.bytes.now) as
+      (λ b. is_utf8 c.args.bytes.now ≡ b → Err NotUtf8
+      ≡ (if b then catalog_of_text c.args.bytes.now else Err NotUtf8)) [
         | true ↦ λ valid. absurd (c.in-Err.ensures.cases.0 (IsUtf8-from_is_utf8 _ valid))
         | false ↦ λ _. refl
       ] refl;

@@ -1,3 +1,4 @@
+-- Loop invariants of `sorted_out` (`read_catalog`).
 use Rattle.std.proofs.Common.{◌≡◌}
 use Rattle.meaning.specs.CatalogText.{facts, dims}
 use Rattle.meaning.proofs.read_catalog.sorted_out.Given as goal

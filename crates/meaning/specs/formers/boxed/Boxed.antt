@@ -1,4 +1,5 @@
--- How a part on the heap holds what it is a part of, so that a tree may hold trees. The names are those that the check asks for.
+-- How a part on the heap holds what it is a part of, so that a tree may hold trees. The names are those that the
+-- check asks for.
 use mathlib.Core.Path.{refl}
 use mathlib.Core.Former.{Former, this, const, pair, via}
 use base.Fml.{ftrue}
@@ -46,15 +47,21 @@ module _ (R S : RattleType) (h : R.Denot → S.Denot) where
   unfolding part_of
   moved_alike same = record {
     mir_same = λ i. (boxes (one_value R (same.mir_same i) (λ _. ftrue) (λ _ _. nothing) gnil)).mir;
-    own_same = λ b i. (boxes (one_value R (same.mir_same i) (same.own_same b.value i) (same.shr_same b.value i) gnil)).own_val (record { ptr = b.ptr; alloc = b.alloc; value = tt });
-    shr_same = λ b i. (boxes (one_value R (same.mir_same i) (same.own_same b.value i) (same.shr_same b.value i) gnil)).shr_at (record { ptr = b.ptr; alloc = b.alloc; value = tt });
+    own_same = λ b i. (boxes (one_value R (same.mir_same i) (same.own_same b.value i)
+        (same.shr_same b.value i) gnil)).own_val (record { ptr = b.ptr; alloc = b.alloc; value = tt });
+    shr_same = λ b i. (boxes (one_value R (same.mir_same i) (same.own_same b.value i)
+        (same.shr_same b.value i) gnil)).shr_at (record { ptr = b.ptr; alloc = b.alloc; value = tt });
   }
 
-  pub the_places : Alike R S h → Alike (contract.the_row R) (contract.the_row S) ((the_former this).map R.Denot S.Denot h)
-  the_places same = view_places field this view (λ X Y k u. refl) (λ X u. refl) R.Denot S.Denot h (contract.the_row R).coded (contract.the_row S).coded
+  pub the_places : Alike R S h → Alike (contract.the_row R) (contract.the_row S)
+      ((the_former this).map R.Denot S.Denot h)
+  the_places same = view_places field this view (λ X Y k u. refl) (λ X u. refl) R.Denot S.Denot h
+      (contract.the_row R).coded (contract.the_row S).coded
       (invariant R.Denot) (invariant S.Denot) (λ u p q. refl) (λ u p q. refl) (λ u e. tt) (λ u e. tt)
       (over (inside.the_row R)) (over (inside.the_row S))
-      (struct_places (inside.the_type R) (inside.the_type S) (moved, tt) _ (λ d. refl) refl (laid _ _ _ (moved_alike same), tt))
+      (struct_places (inside.the_type R) (inside.the_type S) (moved, tt) _ (λ d. refl) refl
+      (laid _ _ _ (moved_alike same), tt))
 
-  pub the_codes_placed : Recodes R S h → Recodes (contract.the_row R) (contract.the_row S) ((the_former this).map R.Denot S.Denot h)
+  pub the_codes_placed : Recodes R S h
+      → Recodes (contract.the_row R) (contract.the_row S) ((the_former this).map R.Denot S.Denot h)
   the_codes_placed same part = same part

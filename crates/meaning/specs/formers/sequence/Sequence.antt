@@ -37,14 +37,19 @@ the_items_listed X xs = list-listed X xs
 
 -- the one field is a `Vec`
 abbrev field : Former {0}
-field = via (vec.the_former this Global) Inside (λ X f. f.items) (λ X v. record { items = v }) (λ X f. refl) (λ X v. refl)
+field = via (vec.the_former this Global) Inside (λ X f. f.items) (λ X v. record { items = v }) (λ X f. refl)
+    (λ X v. refl)
 
 module _ (R S : RattleType) (h : R.Denot → S.Denot) where
-  pub the_places : Alike R S h → Alike (contract.the_row R) (contract.the_row S) ((the_former this).map R.Denot S.Denot h)
-  the_places same = view_places field (list this) view (λ X Y k u. refl) (λ X u. refl) R.Denot S.Denot h (contract.the_row R).coded (contract.the_row S).coded
+  pub the_places : Alike R S h → Alike (contract.the_row R) (contract.the_row S)
+      ((the_former this).map R.Denot S.Denot h)
+  the_places same = view_places field (list this) view (λ X Y k u. refl) (λ X u. refl) R.Denot S.Denot h
+      (contract.the_row R).coded (contract.the_row S).coded
       (invariant R.Denot) (invariant S.Denot) (λ u p q. refl) (λ u p q. refl) (λ u e. tt) (λ u e. tt)
       (over (inside.the_row R)) (over (inside.the_row S))
-      (struct_places (inside.the_type R) (inside.the_type S) (vec.mapped h, tt) _ (λ d. refl) refl (laid _ _ _ (vec.the_places global.the_row ghosts R S h same), tt))
+      (struct_places (inside.the_type R) (inside.the_type S) (vec.mapped h, tt) _ (λ d. refl) refl
+      (laid _ _ _ (vec.the_places global.the_row ghosts R S h same), tt))
 
-  pub the_codes_placed : Recodes R S h → Recodes (contract.the_row R) (contract.the_row S) ((the_former this).map R.Denot S.Denot h)
+  pub the_codes_placed : Recodes R S h
+      → Recodes (contract.the_row R) (contract.the_row S) ((the_former this).map R.Denot S.Denot h)
   the_codes_placed same xs = sym (code_map R.coded.code S.coded.code h (λ x. sym (same x)) xs)

@@ -1,8 +1,9 @@
+-- Proofs of the goals of `take_groups` (`body`).
 use Rattle.std.proofs.lemmas.Result.{err_from_is_err_and}
 use Rattle.partial_codec.specs.Fields.{one_aggregate}
 use Rattle.partial_codec.specs.LayoutReading.{group_at}
-use Rattle.partial_codec.specs.Reading.{repeat_at}
-use Rattle.partial_codec.proofs.Loops.{goes_on, fails, finishes}
+use Rattle.wire.specs.Reading.{repeat_at}
+use Rattle.wire.proofs.Loops.{goes_on, fails, finishes}
 use Rattle.partial_codec.proofs.body.take_groups.Goals as goal
 
 pub returns-in_err-group : goal.returns-in_err-group

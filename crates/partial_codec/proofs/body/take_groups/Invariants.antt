@@ -1,8 +1,9 @@
+-- Loop invariants of `take_groups` (`body`).
 use Rattle.std.proofs.Common.{◌≡◌, ◌-◌}
 use Rattle.partial_codec.specs.Fields.{one_aggregate}
 use Rattle.partial_codec.specs.LayoutReading.{group_at}
-use Rattle.partial_codec.specs.Reading.{repeat_at}
-use Rattle.partial_codec.proofs.Loops.{read_behind}
+use Rattle.wire.specs.Reading.{repeat_at}
+use Rattle.wire.proofs.Loops.{read_behind}
 use Rattle.partial_codec.proofs.body.take_groups.Given as goal
 
 abbrev pub invariant-loop : goal.invariant-loop

@@ -1,3 +1,4 @@
+-- Proofs of the goals of `are_keys_ascending` (`check`).
 use Rattle.std.proofs.Common.{◌-◌, sym, ◌∙◌, arith}
 use Rattle.partial_codec.proofs.Steps.{ascend_end}
 use Rattle.partial_codec.proofs.check.are_keys_ascending.Goals as goal

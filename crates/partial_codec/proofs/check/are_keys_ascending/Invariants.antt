@@ -1,3 +1,4 @@
+-- Loop invariants of `are_keys_ascending` (`check`).
 use Rattle.std.proofs.Common.{◌≡◌, ◌-◌, drop}
 use Rattle.partial_codec.proofs.Steps.{ascend}
 use Rattle.partial_codec.proofs.check.are_keys_ascending.Given as goal

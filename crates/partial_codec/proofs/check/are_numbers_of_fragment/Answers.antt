@@ -1,3 +1,4 @@
+-- Proofs of the goals of `are_numbers_of_fragment` (`check`).
 use Rattle.std.proofs.Common.{◌≡◌, ℕ, List, get_or, ap, ◌∙◌}
 use Rattle.std.specs.Prelude.{slice_index}
 use Rattle.meaning.specs.declared.answer.Body.TheVariants.{Groups}

@@ -1,3 +1,4 @@
+-- Loop invariants of `are_rows_within` (`check`).
 use Rattle.std.proofs.Common.{◌≡◌, ◌≤◌, ◌+◌, drop}
 use Rattle.partial_codec.proofs.Steps.{all_rows}
 use Rattle.partial_codec.proofs.check.are_rows_within.Given as goal

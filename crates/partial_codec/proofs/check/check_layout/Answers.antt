@@ -1,3 +1,4 @@
+-- Proofs of the goals of `check_layout` (`check`).
 use Rattle.std.proofs.Common.{◌≡◌, Bool, true, false, cond, List, length, Result, Ok, Err, refl, sym, ap, ◌∙◌, ◌&&◌}
 use Rattle.std.specs.Prelude.{not, slice_index, nat_lt}
 use Rattle.std.proofs.lemmas.Bool.{eq-eqb, ltb-true}
@@ -10,7 +11,7 @@ use Rattle.partial_codec.specs.declared.fault.DecodeFault.TheVariants as refusal
 use Rattle.partial_codec.specs.Answer.{held_against}
 use Rattle.partial_codec.specs.Fields.{layout_in}
 use Rattle.partial_codec.specs.Job.{JobSpec}
-use Rattle.partial_codec.specs.LayoutReading.{same_bytes}
+use Rattle.wire.specs.Reading.{same_bytes}
 use Rattle.partial_codec.specs.Shape.{is_same_shape, shape_of}
 use Rattle.partial_codec.specs.Spelling.{Layout}
 use Rattle.partial_codec.proofs.Fitting.{both}

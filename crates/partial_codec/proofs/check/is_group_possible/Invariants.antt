@@ -1,3 +1,4 @@
+-- Loop invariants of `is_group_possible` (`check`).
 use Rattle.std.proofs.Common.{◌≡◌, drop}
 use Rattle.std.specs.Cmp.Lexicographic.{pointwise}
 use Rattle.meaning.specs.Fitting.{is_possible}

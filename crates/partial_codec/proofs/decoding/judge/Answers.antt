@@ -1,7 +1,8 @@
+-- Proofs of the goals of `judge` (`decoding`).
 use Rattle.std.proofs.Common.{length, arith, ap, length-append}
 use Rattle.partial_codec.specs.Fields.{layout_in}
 use Rattle.partial_codec.specs.Spelling.{layout_bytes}
-use Rattle.partial_codec.proofs.Numbers.{bytes_take}
+use Rattle.wire.proofs.Numbers.{bytes_take}
 use Rattle.partial_codec.proofs.FieldLaws.{layout_takes}
 use Rattle.partial_codec.proofs.Shaped.{layout_shaped}
 use Rattle.partial_codec.proofs.decoding.judge.Goals as goal

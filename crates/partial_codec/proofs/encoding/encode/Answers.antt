@@ -1,3 +1,4 @@
+-- Proofs of the goals of `encode` (`encoding`).
 use Rattle.std.proofs.Common.{◌≡◌, List, ℕ, [], ◌++◌, subst, sym, ap, ◌∙◌}
 use Rattle.meaning.specs.declared.plan.Plan.{Plan}
 use Rattle.meaning.specs.declared.plan.Aggregate.{Aggregate}
@@ -6,7 +7,8 @@ use Rattle.partial_codec.specs.Ranges.{IsBody}
 use Rattle.meaning.specs.declared.answer.Answer.{Answer}
 use Rattle.partial_codec.specs.Job.{JobSpec}
 use Rattle.partial_codec.specs.Fields.{answer_layout, one_aggregate}
-use Rattle.partial_codec.specs.Spelling.{layout_bytes, layout_of, sealed, answer_bytes}
+use Rattle.partial_codec.specs.Spelling.{layout_bytes, layout_of, answer_bytes}
+use Rattle.wire.specs.Bytes.{sealed}
 use Rattle.partial_codec.specs.Answer.{is_body_supported, is_shape_known}
 use Rattle.partial_codec.proofs.Fitting.{both}
 use Rattle.partial_codec.proofs.Answers.{layout_fits}
@@ -33,5 +35,5 @@ returns c =
     let job = c.args.job.now in
     let only = c.only_aggregate-only.result.now in
     let aggs = ap (λ (p : Plan). p.aggs) (sym c.plan.ensures.value) ∙ c.only_aggregate-only.ensures in
-    written job only c.args.answer.now c.put_seal.new.out.items c.new-out.result.items c.put_layout.new.out.items
-    (only_shape job.plan only (both (is_shape_known (shape_of job.plan)) (is_body_supported c.args.answer.now.body) c.requires.known).0 aggs) c.new-out.ensures.items c.in_ok-put_layout.ensures c.in_ok-put_seal.ensures
+    written job only c.args.answer.now c.append_seal.new.out.items c.new-out.result.items c.put_layout.new.out.items
+    (only_shape job.plan only (both (is_shape_known (shape_of job.plan)) (is_body_supported c.args.answer.now.body) c.requires.known).0 aggs) c.new-out.ensures.items c.in_ok-put_layout.ensures c.in_ok-append_seal.ensures

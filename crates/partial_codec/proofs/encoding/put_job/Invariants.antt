@@ -1,6 +1,7 @@
+-- Loop invariants of `put_job` (`encoding`).
 use Rattle.std.proofs.Common.{◌≡◌, ◌++◌, length, take}
 use Rattle.std.specs.List.{flat_map}
-use Rattle.partial_codec.specs.Spelling.{number_bytes, text_bytes}
+use Rattle.wire.specs.Bytes.{number_bytes, text_bytes}
 use Rattle.partial_codec.proofs.encoding.put_job.Given as goal
 
 abbrev pub invariant-loop-length : goal.invariant-loop-length

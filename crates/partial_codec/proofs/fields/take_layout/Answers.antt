@@ -1,3 +1,4 @@
+-- Proofs of the goals of `take_layout` (`fields`).
 use Rattle.std.proofs.Common.{true}
 use Rattle.partial_codec.specs.Fields.{one_aggregate}
 use Rattle.partial_codec.specs.Supported.{is_supported}

@@ -1,5 +1,6 @@
+-- Proofs of the goals of `one_answer` (`laws`).
 use Rattle.std.proofs.Common.{sym, ◌∙◌}
-use Rattle.partial_codec.proofs.Numbers.{ok_is}
+use Rattle.wire.proofs.Numbers.{ok_is}
 use Rattle.partial_codec.proofs.Answers.{spelled_reads}
 use Rattle.partial_codec.proofs.laws.one_answer.Goals as goal
 

@@ -1,5 +1,6 @@
+-- Proofs of the goals of `one_state` (`laws`).
 use Rattle.std.proofs.Common.{sym, ◌∙◌}
-use Rattle.partial_codec.proofs.Numbers.{ok_is}
+use Rattle.wire.proofs.Numbers.{ok_is}
 use Rattle.partial_codec.proofs.States.{spelled_state_reads}
 use Rattle.partial_codec.proofs.laws.one_state.Goals as goal
 

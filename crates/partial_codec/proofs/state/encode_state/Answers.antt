@@ -1,3 +1,4 @@
+-- Proofs of the goals of `encode_state` (`state`).
 use Rattle.std.proofs.Common.{◌≡◌, List, ℕ, [], ◌++◌, subst, sym, ap, ◌∙◌}
 use Rattle.std.specs.List.{AllByRecursion}
 use Rattle.meaning.specs.declared.plan.Plan.{Plan}
@@ -7,7 +8,7 @@ use Rattle.partial_codec.specs.Ranges.{IsCell}
 use Rattle.partial_codec.specs.Shape.{Shape, shape_of, shape_of_aggregate}
 use Rattle.partial_codec.specs.Job.{JobSpec}
 use Rattle.partial_codec.specs.Fields.{one_aggregate, state_layout}
-use Rattle.partial_codec.specs.Spelling.{sealed}
+use Rattle.wire.specs.Bytes.{sealed}
 use Rattle.partial_codec.specs.State.{state_layout_bytes, state_layout_of, state_bytes}
 use Rattle.partial_codec.proofs.Shaped.{only_shape}
 use Rattle.partial_codec.proofs.States.{state_layout_fits}
@@ -33,5 +34,5 @@ returns c =
     let job = c.args.job.now in
     let only = c.only_aggregate-only.result.now in
     let aggs = ap (λ (p : Plan). p.aggs) (sym c.plan.ensures.value) ∙ c.only_aggregate-only.ensures in
-    written job only c.args.cells.now c.put_seal.new.out.items c.new-out.result.items c.put_state_layout.new.out.items
-    (only_shape job.plan only c.requires.known aggs) c.new-out.ensures.items c.in_ok-put_state_layout.ensures c.in_ok-put_seal.ensures
+    written job only c.args.cells.now c.append_seal.new.out.items c.new-out.result.items c.put_state_layout.new.out.items
+    (only_shape job.plan only c.requires.known aggs) c.new-out.ensures.items c.in_ok-put_state_layout.ensures c.in_ok-append_seal.ensures

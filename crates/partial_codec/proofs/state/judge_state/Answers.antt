@@ -1,7 +1,8 @@
+-- Proofs of the goals of `judge_state` (`state`).
 use Rattle.std.proofs.Common.{length, arith, ap, length-append}
 use Rattle.partial_codec.specs.Fields.{state_layout_in}
 use Rattle.partial_codec.specs.State.{state_layout_bytes}
-use Rattle.partial_codec.proofs.Numbers.{bytes_take}
+use Rattle.wire.proofs.Numbers.{bytes_take}
 use Rattle.partial_codec.proofs.States.{layout_takes, layout_known, layout_shaped}
 use Rattle.partial_codec.proofs.state.judge_state.Goals as goal
 

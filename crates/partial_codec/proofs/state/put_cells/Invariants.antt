@@ -1,3 +1,4 @@
+-- Loop invariants of `put_cells` (`state`).
 use Rattle.std.proofs.Common.{◌≡◌, ◌++◌, take}
 use Rattle.std.specs.List.{flat_map}
 use Rattle.partial_codec.specs.Fields.{one_aggregate}

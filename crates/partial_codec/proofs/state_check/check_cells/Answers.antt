@@ -1,3 +1,4 @@
+-- Proofs of the goals of `check_cells` (`state_check`).
 use Rattle.std.proofs.Common.{◌≡◌, ℕ, ◌<◌, length, List, Ok, Err, get_or, ap, ◌∙◌, ◌^◌, ◌+◌, arith}
 use Rattle.std.specs.Prelude.{slice_index}
 use Rattle.std.proofs.lemmas.Result.{err_from_is_err_and}

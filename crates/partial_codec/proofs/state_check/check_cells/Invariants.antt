@@ -1,3 +1,4 @@
+-- Loop invariants of `check_cells` (`state_check`).
 use Rattle.std.proofs.Common.{◌≡◌, drop}
 use Rattle.meaning.specs.Table.{first_row}
 use Rattle.partial_codec.specs.State.{cells_held}

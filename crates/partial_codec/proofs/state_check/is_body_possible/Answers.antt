@@ -1,3 +1,4 @@
+-- Proofs of the goals of `is_body_possible` (`state_check`).
 use Rattle.std.proofs.Common.{List, sym, ap, ◌∙◌}
 use Rattle.meaning.specs.declared.answer.Body.{Body}
 use Rattle.meaning.specs.declared.answer.Body.TheVariants.{Groups}

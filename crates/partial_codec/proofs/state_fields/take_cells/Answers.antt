@@ -1,8 +1,9 @@
+-- Proofs of the goals of `take_cells` (`state_fields`).
 use Rattle.std.proofs.lemmas.Result.{err_from_is_err_and}
 use Rattle.partial_codec.specs.Fields.{one_aggregate}
 use Rattle.partial_codec.specs.State.{cell_at}
-use Rattle.partial_codec.specs.Reading.{repeat_at}
-use Rattle.partial_codec.proofs.Loops.{goes_on, fails, finishes}
+use Rattle.wire.specs.Reading.{repeat_at}
+use Rattle.wire.proofs.Loops.{goes_on, fails, finishes}
 use Rattle.partial_codec.proofs.state_fields.take_cells.Goals as goal
 
 pub returns-in_err-cell : goal.returns-in_err-cell

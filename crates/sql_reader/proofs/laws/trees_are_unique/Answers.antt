@@ -1,3 +1,4 @@
+-- Proofs of the goals of `trees_are_unique` (`laws`).
 use Rattle.sql_reader.proofs.Whole.{same_tree}
 use Rattle.sql_reader.proofs.laws.trees_are_unique.Goals as goal
 

@@ -1,3 +1,4 @@
+-- Proofs of the goals of `blank_length` (`lexer`).
 use Rattle.sql_reader.proofs.Runs.{boundary_behind}
 use Rattle.sql_reader.proofs.lexer.blank_length.Goals as goal
 

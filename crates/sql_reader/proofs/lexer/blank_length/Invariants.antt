@@ -1,3 +1,4 @@
+-- Loop invariants of `blank_length` (`lexer`).
 use Rattle.std.proofs.Common.{length, ◌-◌, ◌≡◌, ◌≤◌, ◌<◌, false, drop, get_or}
 use Rattle.sql_reader.specs.Tokens.{behind_blanks}
 use Rattle.sql_reader.proofs.Blanks.{left}

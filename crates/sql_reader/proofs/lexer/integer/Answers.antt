@@ -1,3 +1,4 @@
+-- Proofs of the goals of `integer` (`lexer`).
 use Rattle.sql_reader.specs.Tokens.{is_digit}
 use Rattle.sql_reader.proofs.Runs.{run_boundary, digits_ascii}
 use Rattle.sql_reader.proofs.lexer.integer.Goals as goal

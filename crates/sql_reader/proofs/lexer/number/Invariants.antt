@@ -1,3 +1,4 @@
+-- Loop invariants of `number` (`lexer`).
 use Rattle.std.proofs.Common.{◌≡◌, ◌≤◌, ◌<◌, true, false, take}
 use Rattle.sql_reader.specs.Tokens.{number_of}
 use Rattle.sql_reader.proofs.lexer.number.Given as goal

@@ -1,3 +1,4 @@
+-- Proofs of the goals of `quoted` (`lexer`).
 use Rattle.std.proofs.Common.{sym, arith}
 use Rattle.std.proofs.lemmas.Str.{IsCharBoundary-after_ascii, IsCharBoundary-before_ascii}
 use Rattle.sql_reader.proofs.Quotes.{StandsAt, has_byte, quote_stands}

@@ -1,3 +1,4 @@
+-- Loop invariants of `quoted_length` (`lexer`).
 use Rattle.std.proofs.Common.{length, ◌-◌, ◌≡◌, ◌≤◌, drop}
 use Rattle.sql_reader.specs.Tokens.{quoted_len}
 use Rattle.sql_reader.proofs.Quotes.{ahead}

@@ -1,3 +1,4 @@
+-- Proofs of the goals of `sign` (`lexer`).
 use Rattle.std.proofs.Common.{arith}
 use Rattle.std.proofs.lemmas.Str.{IsCharBoundary-after_ascii}
 use Rattle.sql_reader.proofs.lexer.sign.Goals as goal

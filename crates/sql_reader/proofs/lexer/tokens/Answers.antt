@@ -1,3 +1,4 @@
+-- Proofs of the goals of `tokens` (`lexer`).
 use Rattle.std.proofs.Common.{◌<◌, length, refl, arith, false-eqb}
 use Rattle.sql_reader.proofs.AllTokens.{begins, continues}
 use Rattle.sql_reader.proofs.lexer.tokens.Goals as goal

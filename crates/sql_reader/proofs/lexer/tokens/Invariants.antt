@@ -1,3 +1,4 @@
+-- Loop invariants of `tokens` (`lexer`).
 use Rattle.std.proofs.Common.{◌≤◌, length}
 use denote.Text.{Utf8}
 use denote.Shadow.{shadow}

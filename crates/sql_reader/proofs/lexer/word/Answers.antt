@@ -1,3 +1,4 @@
+-- Proofs of the goals of `word` (`lexer`).
 use Rattle.sql_reader.specs.Tokens.{is_word_byte}
 use Rattle.sql_reader.proofs.Runs.{run_boundary, words_ascii}
 use Rattle.sql_reader.proofs.lexer.word.Goals as goal

@@ -1,3 +1,4 @@
+-- Loop invariants of `print` (`printing`).
 use Rattle.std.proofs.Common.{◌≡◌, ◌++◌, take}
 use Rattle.std.specs.Prelude.{codes, string_bytes, flat_map}
 use Rattle.sql_reader.specs.Canonical.{expr_text}

@@ -1,3 +1,4 @@
+-- Proofs of the goals of `read` (`reading`).
 use Rattle.std.proofs.Common.{subst}
 use Rattle.sql_reader.specs.Reading.{Gives}
 use Rattle.sql_reader.proofs.Whole.{gave_tree, gave_refusal, reading_again}

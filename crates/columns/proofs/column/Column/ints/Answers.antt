@@ -1,3 +1,4 @@
+-- Proofs of the goals of `Column::ints` (`column`).
 use Rattle.std.proofs.Common.{◌∙◌, ap, sym, map}
 use Rattle.meaning.specs.declared.value.Value.TheVariants.{Int}
 use Rattle.columns.specs.Cells.{type_of, cells_in}

@@ -1,3 +1,4 @@
+-- Proofs of the goals of `Column::push_int` (`column`).
 use Rattle.std.proofs.Common.{◌≡◌, None, true, ◌∷◌, [], ◌++◌}
 use mir.Syntax.{w64}
 use Rattle.std.proofs.lemmas.Int.{to_z-of_z}

@@ -1,3 +1,4 @@
+-- Proofs of the goals of `Column::push_null` (`column`).
 use Rattle.std.proofs.Common.{rules}
 use Rattle.meaning.specs.declared.value.Value.TheVariants.{Null}
 use Rattle.columns.proofs.CellLaws.{column_pushed}

@@ -1,12 +1,6 @@
-use Rattle.meaning.specs.declared.value.Value.TheVariants.{Text}
+-- Proofs of the goals of `Column::push_text` (`column`).
 use Rattle.std.proofs.lemmas.Str.{is_utf8-from_IsUtf8}
-use Rattle.columns.proofs.CellLaws.{column_pushed, text_fits}
 use Rattle.columns.proofs.column.Column.push_text.Goals as goal
 
-pub invariant_of-self-2 : goal.invariant_of-self-2
-invariant_of-self-2 c =
-    (column_pushed c.args.self.now c.self.inside.cells c.push_text.new.self _ _ _ _ (Text c.args.text.now) c.self.invariant c.self.view_is c.push_text.ensures.col_type (text_fits _ _ _ c.in_ok-push_text.ensures.taken (is_utf8-from_IsUtf8 _ c.utf8.text)) c.make_room.ensures.same c.mark.ensures c.in_ok-push_text.ensures.ok).0
-
-pub returns-clause-ok : goal.returns-clause-ok
-returns-clause-ok c =
-    (column_pushed c.args.self.now c.self.inside.cells c.push_text.new.self _ _ _ _ (Text c.args.text.now) c.self.invariant c.self.view_is c.push_text.ensures.col_type (text_fits _ _ _ c.in_ok-push_text.ensures.taken (is_utf8-from_IsUtf8 _ c.utf8.text)) c.make_room.ensures.same c.mark.ensures c.in_ok-push_text.ensures.ok).1
+pub push_utf8-requires : goal.push_utf8-requires
+push_utf8-requires c = is_utf8-from_IsUtf8 _ c.as_bytes.ensures.utf8

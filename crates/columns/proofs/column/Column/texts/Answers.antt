@@ -1,3 +1,4 @@
+-- Proofs of the goals of `Column::texts` (`column`).
 use Rattle.std.proofs.Common.{ap}
 use Rattle.columns.specs.Cells.{type_of, cells_in}
 use Rattle.columns.proofs.CellLaws.{texts_lent}

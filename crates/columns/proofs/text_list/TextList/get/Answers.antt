@@ -1,3 +1,4 @@
+-- Proofs of the goals of `TextList::get` (`text_list`).
 use Rattle.std.proofs.Common.{◌≡◌, ◌+◌, ◌≤◌, arith, rules, ap, ◌∙◌, length, take}
 use Rattle.std.specs.List.{concat}
 use Rattle.columns.proofs.Joined.{front_le, front_within, cut_one, length-texts_from, end_seen, one_is_text}

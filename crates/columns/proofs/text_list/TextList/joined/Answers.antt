@@ -1,3 +1,4 @@
+-- Proofs of the goals of `TextList::joined` (`text_list`).
 use Rattle.std.proofs.Common.{◌≤◌, arith, rules, ap, ◌∙◌, length}
 use Rattle.std.specs.List.{concat}
 use Rattle.columns.proofs.Joined.{front_le, front_within, cut_joined}

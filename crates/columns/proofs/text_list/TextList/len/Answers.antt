@@ -1,3 +1,4 @@
+-- Proofs of the goals of `TextList::len` (`text_list`).
 use Rattle.std.proofs.Common.{arith, ap, length}
 use Rattle.columns.proofs.Joined.{length-texts_from}
 use Rattle.columns.proofs.text_list.TextList.len.Goals as goal

@@ -1,5 +1,5 @@
+-- Proofs of the goals of `TextList::push` (`text_list`).
 use Rattle.std.proofs.Common.{◌≡◌, arith, ◌∙◌, ap, length, ◌++◌, ◌∷◌, []}
-use Rattle.std.proofs.lemmas.Str.{is_utf8-from_IsUtf8}
 use Rattle.columns.specs.Texts.{AreTexts, texts_from}
 use Rattle.columns.proofs.Joined.{texts_pushed}
 use Rattle.columns.proofs.text_list.TextList.push.Goals as goal
@@ -8,8 +8,7 @@ pushed : (c : goal.After-push_reserved) → AreTexts c.push_reserved.new.self.it
 pushed c =
     let n : c.len.result ≡ length c.extend_from_slice.new.self.items = omega (arith, c.len.ensures, c.extend_from_slice.new.self.ok.0) in
     let ends = c.push_reserved.ensures.items ∙ ap (λ xs. xs ++ c.len.result ∷ []) c.reserve.ensures.items in
-    let joined = c.in_ok-extend_from_slice.ensures.items ∙ ap (λ xs. c.self.inside.joined.items ++ xs) c.as_bytes.ensures.value in
-    texts_pushed c.self.inside.ends.items c.self.inside.joined.items _ c.args.text.now _ _ _ c.self.invariant (is_utf8-from_IsUtf8 _ c.utf8.text) c.requires ends joined n
+    texts_pushed c.self.inside.ends.items c.self.inside.joined.items _ c.args.text.now _ _ _ c.self.invariant c.requires ends c.in_ok-extend_from_slice.ensures.items n
 
 pub invariant_of-self-2 : goal.invariant_of-self-2
 invariant_of-self-2 c = (pushed c).0

@@ -1,3 +1,4 @@
+-- Proofs of the goals of `TextList::start` (`text_list`).
 use Rattle.std.proofs.Common.{◌≡◌, ◌+◌, ◌-◌, arith, ap, sym, ◌∙◌, length, take}
 use Rattle.std.specs.List.{concat}
 use Rattle.columns.specs.Texts.{texts_from}

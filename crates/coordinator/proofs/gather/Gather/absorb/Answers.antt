@@ -1,9 +1,10 @@
+-- Proofs of the goals of `Gather::absorb` (`gather`).
 use Rattle.std.proofs.Common.{◌≡◌, ap, sym, ◌∙◌, subst, slice_index_or, slice_set, List, [], ◌∷◌, ◌++◌}
 use Rattle.meaning.specs.declared.answer.Answer.{Answer}
 use Rattle.meaning.specs.declared.answer.Cell.TheVariants.{Nothing, One}
 use Rattle.meaning.specs.Gather.{join_cells, joined}
 use Rattle.partial_codec.specs.Answer.{Fits, Spells}
-use Rattle.partial_codec.proofs.Numbers.{ok_is}
+use Rattle.wire.proofs.Numbers.{ok_is}
 use Rattle.coordinator.specs.Gathering.{IsGather, GatherSpec}
 use Rattle.coordinator.proofs.Held.{kept, one_more, below, below_cut, same_at}
 use Rattle.coordinator.proofs.gather.Gather.absorb.Goals as goal

@@ -1,3 +1,4 @@
+-- Proofs of the goals of `Gather::from_state` (`gather`).
 use Rattle.coordinator.proofs.StateFiles.{held_state}
 use Rattle.coordinator.proofs.gather.Gather.from_state.Goals as goal
 

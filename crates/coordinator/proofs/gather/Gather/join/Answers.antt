@@ -1,3 +1,4 @@
+-- Proofs of the goals of `Gather::join` (`gather`).
 use Rattle.std.proofs.Common.{◌≡◌, true, List, ◌++◌, length, ap, sym, ◌∙◌, subst}
 use Rattle.meaning.specs.declared.answer.Answer.{Answer}
 use Rattle.meaning.specs.declared.answer.Cell.{Cell}

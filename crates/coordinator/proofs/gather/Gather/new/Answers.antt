@@ -1,3 +1,4 @@
+-- Proofs of the goals of `Gather::new` (`gather`).
 use Rattle.std.proofs.Common.{ap, sym, ◌∙◌, subst, length, replicate}
 use Rattle.meaning.specs.declared.answer.Cell.TheVariants.{Nothing}
 use Rattle.coordinator.specs.Gathering.{IsGather}

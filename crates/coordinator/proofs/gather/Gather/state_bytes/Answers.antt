@@ -1,3 +1,4 @@
+-- Proofs of the goals of `Gather::state_bytes` (`gather`).
 use Rattle.std.proofs.Common.{sym, subst}
 use Rattle.partial_codec.specs.State.{FitsState}
 use Rattle.coordinator.proofs.StateFiles.{fits_state}

@@ -1,3 +1,4 @@
+-- Proofs of the goals of `Dictionary::code` (`dictionary`).
 use Rattle.std.proofs.Common.{◌≡◌, ◌<◌, ◌≤◌, ◌/◌, length, get_or, nat_lt, true, sym, ap, ◌∙◌, arith}
 use Rattle.std.proofs.lemmas.Bool.Decides.{nat_tests}
 use Rattle.encodings.specs.Bytes.{shorts}

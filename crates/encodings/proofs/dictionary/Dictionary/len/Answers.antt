@@ -1,3 +1,4 @@
+-- Proofs of the goals of `Dictionary::len` (`dictionary`).
 use Rattle.std.proofs.Common.{length, sym, ap, ◌∙◌}
 use Rattle.encodings.specs.Lent.{DictionarySpec}
 use Rattle.encodings.proofs.Ends.{length-values_form}

@@ -1,3 +1,4 @@
+-- Proofs of the goals of `RunsView::len` (`runs`).
 use Rattle.std.proofs.Common.{length, sym, ap, ◌∙◌}
 use Rattle.encodings.specs.Lent.{RunsSpec}
 use Rattle.encodings.proofs.Chunks.{length-shorts}

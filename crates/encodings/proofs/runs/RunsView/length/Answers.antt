@@ -1,3 +1,4 @@
+-- Proofs of the goals of `RunsView::length` (`runs`).
 use Rattle.std.proofs.Common.{◌≡◌, ◌<◌, ◌≤◌, ◌/◌, length, get_or, sym, ap, ◌∙◌, arith}
 use Rattle.encodings.specs.Lent.{RunsSpec}
 use Rattle.encodings.proofs.Chunks.{get_or-shorts, length-shorts}

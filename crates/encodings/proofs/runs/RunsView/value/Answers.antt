@@ -1,3 +1,4 @@
+-- Proofs of the goals of `RunsView::value` (`runs`).
 use Rattle.std.proofs.Common.{length, sym, ap, ◌∙◌, arith}
 use Rattle.encodings.specs.Lent.{RunsSpec}
 use Rattle.encodings.proofs.Ends.{length-values_form}

@@ -1,3 +1,4 @@
+-- Proofs of the goals of `VectorBuf::get` (`vector_buf`).
 use Rattle.std.proofs.Common.{◌≡◌, ℕ, ◌<◌, List, [], length, map, get_or, sym, ap, subst, ◌∙◌, true, false, pos}
 use Rattle.std.proofs.lemmas.List.{length-map, get_or-map}
 use Rattle.meaning.specs.declared.value.ColType.{ColType}

@@ -1,3 +1,4 @@
+-- Proofs of the goals of `VectorBuf::nulls` (`vector_buf`).
 use Rattle.std.proofs.Common.{◌≡◌, ℕ, List, take, map, ap, ◌∙◌}
 use Rattle.meaning.specs.declared.value.ColType.{ColType}
 use Rattle.meaning.specs.Order.{is_null}

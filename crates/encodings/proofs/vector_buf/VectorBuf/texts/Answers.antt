@@ -1,3 +1,4 @@
+-- Proofs of the goals of `VectorBuf::texts` (`vector_buf`).
 use Rattle.std.proofs.Common.{◌≡◌, ℕ, List, take, map, sym, ap, subst, ◌∙◌}
 use Rattle.std.proofs.lemmas.List.{take-map}
 use Rattle.meaning.specs.declared.value.ColType.{ColType}

@@ -1,3 +1,4 @@
+-- Proofs of the goals of `BlockView::get` (`view`).
 use Rattle.std.proofs.Common.{get_or, sym, ap, ◌∙◌}
 use Rattle.meaning.specs.declared.value.Value.TheVariants.{Null}
 use Rattle.encodings.specs.Block.{Block, body_cells}

@@ -1,3 +1,4 @@
+-- Proofs of the goals of `BlockView::is_null` (`view`).
 use Rattle.std.proofs.Common.{ap, ◌∙◌, rules}
 use Rattle.encodings.specs.Block.{bit_at, mask_of}
 use Rattle.encodings.proofs.Blocks.{null_is}

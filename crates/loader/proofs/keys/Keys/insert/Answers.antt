@@ -1,3 +1,4 @@
+-- Proofs of the goals of `Keys::insert` (`keys`).
 use Rattle.std.proofs.Common.{◌∙◌, sym}
 use Rattle.loader.proofs.KeySets.{is_new, holds_more}
 use Rattle.loader.proofs.keys.Keys.insert.Goals as goal

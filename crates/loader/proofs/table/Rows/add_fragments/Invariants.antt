@@ -1,3 +1,4 @@
+-- Loop invariants of `Rows::add_fragments` (`table`).
 use Rattle.std.proofs.Common.{◌≡◌, ◌+◌, List, drop}
 use Rattle.std.specs.Prelude.{sum}
 use Rattle.meaning.specs.Records.{Record}

@@ -1,3 +1,4 @@
+-- Proofs of the goals of `Rows::add_keyed_rows` (`table`).
 use Rattle.std.proofs.Common.{◌+◌, ◌∙◌, refl, sym, subst, ap, arith, [], length, Ok, Err}
 use Rattle.std.proofs.lemmas.Result.{err_from_is_err_and}
 use Rattle.meaning.specs.declared.table.TableFault.TheVariants.{KeyTwice}

@@ -1,3 +1,4 @@
+-- Loop invariants of `Rows::add_keyed_rows` (`table`).
 use Rattle.std.proofs.Common.{◌≡◌, List, ◌++◌, map, length, Ok, Some}
 use Rattle.std.specs.List.{enumerate_from}
 use Rattle.meaning.specs.Order.{Row, column}

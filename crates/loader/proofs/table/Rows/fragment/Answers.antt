@@ -1,3 +1,4 @@
+-- Proofs of the goals of `Rows::fragment` (`table`).
 use Rattle.std.proofs.Common.{◌≡◌, ◌∙◌, sym, ap, length, []}
 use Rattle.std.proofs.lemmas.Result.{err_from_is_err_and}
 use Rattle.loader.proofs.Fragments.{columns_length, fragment_columns, places_length, put_back}

@@ -1,3 +1,4 @@
+-- Proofs of the goals of `Rows::has_more` (`table`).
 use Rattle.csv.specs.Records.{fields_of}
 use Rattle.loader.proofs.Steps.{more_come}
 use Rattle.loader.proofs.table.Rows.has_more.Goals as goal

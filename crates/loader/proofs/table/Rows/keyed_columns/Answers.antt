@@ -1,3 +1,4 @@
+-- Proofs of the goals of `Rows::keyed_columns` (`table`).
 use Rattle.std.proofs.Common.{◌≡◌, ◌∙◌, sym, ap, arith, length, []}
 use Rattle.std.proofs.lemmas.Result.{err_from_is_err_and}
 use Rattle.loader.proofs.Fragments.{columns_length, places_length, put_back, rows_into}

@@ -1,3 +1,4 @@
+-- Proofs of the goals of `Rows::next_row` (`table`).
 use Rattle.std.proofs.Common.{refl}
 use Rattle.std.proofs.lemmas.Result.{err_from_is_err_and}
 use Rattle.csv.specs.Records.{fields_of}

@@ -1,3 +1,4 @@
+-- Proofs of the goals of `Rows::next_rows` (`table`).
 use Rattle.std.proofs.Common.{◌≡◌, ◌<◌, ◌+◌, ◌∙◌, refl, sym, ap, arith, [], length, Ok, Err}
 use Rattle.std.proofs.lemmas.Result.{err_from_is_err_and}
 use Rattle.loader.proofs.RowRuns.{next_refused, next_missing, next_taken, are_enough, as_meant, left_behind}

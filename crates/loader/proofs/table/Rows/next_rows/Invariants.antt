@@ -1,3 +1,4 @@
+-- Loop invariants of `Rows::next_rows` (`table`).
 use Rattle.std.proofs.Common.{◌≡◌, List, ◌++◌, length, Ok}
 use Rattle.meaning.specs.Order.{Row}
 use Rattle.meaning.specs.Records.{Record}

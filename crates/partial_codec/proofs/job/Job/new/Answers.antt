@@ -1,3 +1,4 @@
+-- Proofs of the goals of `Job::new` (`job`).
 use Rattle.std.proofs.Common.{◌≡◌, ℕ, List, true, subst}
 use Rattle.std.specs.Str.{is_utf8}
 use Rattle.std.proofs.lemmas.Str.{is_utf8-from_IsUtf8}

@@ -1,3 +1,4 @@
+-- Proofs of the goals of `Parser::query` (`parser`).
 use Rattle.std.proofs.Common.{rules}
 use Rattle.sql_reader.specs.Reading.{query_at}
 use Rattle.sql_reader.proofs.parser.Parser.query.Goals as goal

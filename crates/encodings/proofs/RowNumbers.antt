@@ -1,0 +1,84 @@
+-- Rows that get numbers one after the other.
+use Rattle.std.proofs.Common.{◌≡◌, ℕ, ◌+◌, ◌<◌, ◌≤◌, Bool, true, false, cond, List, [], ◌∷◌, ◌++◌, length, get_or, nat_lt, Option, Some, refl, sym, ap, ◌∙◌, arith}
+use Rattle.std.specs.List.{list_all}
+use Rattle.std.specs.Cmp.{Equal-is}
+use Rattle.std.proofs.lemmas.Bool.{lt-ltb, ltb-true}
+use Rattle.std.proofs.lemmas.List.{take_more, map-append, get_or-map, length-map, length_push, get_or_push, get_or_append_left}
+use Rattle.meaning.specs.declared.value.Value.{Value}
+use Rattle.meaning.specs.declared.value.Value.TheVariants.{Null}
+use Rattle.meaning.specs.Gather.{same_value}
+use Rattle.meaning.specs.Order.{value_cmp}
+use Rattle.meaning.proofs.Orders.{value_exact}
+use Rattle.meaning.proofs.Tests.{all_append, all_imply, all_first, all_rest, both}
+use Rattle.encodings.specs.Entries.{AreNumbers, Knows}
+use Rattle.encodings.specs.Written.{at_places}
+
+pub same_is : (v w : Value) → same_value v w ≡ true → v ≡ w
+same_is v w e = value_exact v w ((Equal-is (value_cmp v w)).0 e)
+
+-- one more number keeps a list of numbers below the bound
+pub bound_kept : (m n : ℕ) (ns : List ℕ) → m ≤ n → list_all (λ k. nat_lt k m) ns ≡ true → list_all (λ k. nat_lt k n) ns ≡ true
+bound_kept m n ns h e = all_imply (λ k. nat_lt k m) (λ k. nat_lt k n) (λ k t. lt-ltb k n (let l = ltb-true k m t in omega arith)) ns e
+
+pub below_push : (ns : List ℕ) (n bound : ℕ) → list_all (λ k. nat_lt k bound) ns ≡ true → n < bound → list_all (λ k. nat_lt k bound) (ns ++ n ∷ []) ≡ true
+below_push ns n bound e h = all_append (λ k. nat_lt k bound) ns (n ∷ []) e (both _ _ (lt-ltb n bound h) refl)
+
+pub at_push : (cells : List Value) (places : List ℕ) (place : ℕ) → at_places cells (places ++ place ∷ []) ≡ at_places cells places ++ get_or cells place Null ∷ []
+at_push cells places place = map-append (λ p. get_or cells p Null) places (place ∷ [])
+
+-- more entries behind the last change nothing at codes of those before
+pub at_kept : (entries more : List Value) (codes : List ℕ) → list_all (λ code. nat_lt code (length entries)) codes ≡ true → at_places (entries ++ more) codes ≡ at_places entries codes
+at_kept entries more [] e = refl
+at_kept entries more (code ∷ codes) e =
+    let low = ltb-true code (length entries) (all_first (λ c. nat_lt c (length entries)) code codes e) in
+    let first : get_or (entries ++ more) code Null ≡ get_or entries code Null = get_or_append_left entries more Null code low in
+    ap (λ v. v ∷ at_places (entries ++ more) codes) first ∙ ap (λ vs. get_or entries code Null ∷ vs) (at_kept entries more codes (all_rest (λ c. nat_lt c (length entries)) code codes e))
+
+pub no_numbers : (cells : List Value) → AreNumbers cells [] [] 0
+no_numbers cells = record { within = refl; few = omega arith; known = refl; cells_are = refl }
+
+pub number_new : (cells : List Value) (firsts of_rows : List ℕ) (row number : ℕ) → AreNumbers cells firsts of_rows row → row < length cells → number ≡ length firsts → AreNumbers cells (firsts ++ row ∷ []) (of_rows ++ number ∷ []) (row + 1)
+number_new cells firsts of_rows row number h l e =
+    let entries = at_places cells firsts in
+    let long : length entries ≡ length firsts = length-map firsts (λ p. get_or cells p Null) in
+    let longer = length_push firsts row in
+    let few = h.few in
+    let known : list_all (λ n. nat_lt n (length entries)) of_rows ≡ true = ap (λ m. list_all (λ n. nat_lt n m) of_rows) long ∙ h.known in
+    let next : get_or (entries ++ get_or cells row Null ∷ []) number Null ≡ get_or cells row Null = get_or_push entries (get_or cells row Null) Null number (long ∙ sym e) in
+    record {
+      within = below_push firsts row (length cells) h.within l;
+      few = omega arith;
+      known = below_push of_rows number (length (firsts ++ row ∷ [])) (bound_kept (length firsts) (length (firsts ++ row ∷ [])) of_rows (omega arith) h.known) (omega arith);
+      cells_are = ap (λ es. at_places es (of_rows ++ number ∷ [])) (at_push cells firsts row)
+          ∙ (at_push (entries ++ get_or cells row Null ∷ []) of_rows number
+          ∙ (ap (λ v. at_places (entries ++ get_or cells row Null ∷ []) of_rows ++ v ∷ []) next
+          ∙ (ap (λ vs. vs ++ get_or cells row Null ∷ []) (at_kept entries (get_or cells row Null ∷ []) of_rows known ∙ h.cells_are)
+          ∙ sym (take_more cells row Null l))));
+    }
+
+pub number_known : (cells : List Value) (firsts of_rows : List ℕ) (row number : ℕ) → AreNumbers cells firsts of_rows row → row < length cells → number < length firsts → get_or cells (get_or firsts number 0) Null ≡ get_or cells row Null → AreNumbers cells firsts (of_rows ++ number ∷ []) (row + 1)
+number_known cells firsts of_rows row number h l below same =
+    let few = h.few in
+    let entry : get_or (at_places cells firsts) number Null ≡ get_or cells row Null = get_or-map (λ p. get_or cells p Null) firsts number 0 Null below ∙ same in
+    record {
+      within = h.within;
+      few = omega arith;
+      known = below_push of_rows number (length firsts) h.known below;
+      cells_are = at_push (at_places cells firsts) of_rows number
+          ∙ (ap (λ v. at_places (at_places cells firsts) of_rows ++ v ∷ []) entry
+          ∙ (ap (λ vs. vs ++ get_or cells row Null ∷ []) h.cells_are
+          ∙ sym (take_more cells row Null l)));
+    }
+
+pub knows_more : {K : Type 0} (eq : K → K → Bool) (before after : K → Option ℕ) (value : K → Value) (cells : List Value) (firsts : List ℕ) (row number : ℕ) (cell : K) → Knows before value cells firsts → ((q : K) → after q ≡ cond (eq cell q) (Some number) (before q)) → ((q : K) → eq cell q ≡ true → value cell ≡ value q) → get_or cells row Null ≡ value cell → number ≡ length firsts → Knows after value cells (firsts ++ row ∷ [])
+knows_more {K} eq before after value cells firsts row number cell knows updates same here e k n found =
+    let longer = length_push firsts row in
+    elim (eq cell k) as (λ b. eq cell k ≡ b → cond b (Some number) (before k) ≡ Some n → (n < length (firsts ++ row ∷ [])) × (get_or cells (get_or (firsts ++ row ∷ []) n 0) Null ≡ value k)) [
+      | true ↦ λ is put.
+          let n_is : number ≡ n = cc in
+          (omega arith, ap (λ p. get_or cells p Null) (get_or_push firsts row 0 n (sym e ∙ n_is)) ∙ (here ∙ same k is))
+      | false ↦ λ is kept.
+          let old = knows k n kept in
+          let low = old.0 in
+          (omega arith, ap (λ p. get_or cells p Null) (get_or_append_left firsts (row ∷ []) 0 n low) ∙ old.1)
+    ] refl (sym (updates k) ∙ found)

@@ -1,0 +1,10 @@
+-- Loop invariants of `mask_to_places` (`places`).
+use Rattle.std.proofs.Common.{◌≡◌, ◌≤◌, ◌==◌, not, length, filter, get_or, take}
+use Rattle.std.specs.List.{range_with_len}
+use Rattle.lane_loops.proofs.places.mask_to_places.Given as goal
+
+abbrev pub invariant-loop-i : goal.invariant-loop-i
+invariant-loop-i l =
+    (take l.count l.places ≡ filter (λ i. not (get_or l.mask i 0 == 0)) (range_with_len 0 l.i))
+    × (l.count ≤ l.i)
+    × (length l.places ≡ length l.fn.places)

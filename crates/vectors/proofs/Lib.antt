@@ -1,0 +1,4 @@
+-- The lemmas of this crate.
+pub mod Narrowing
+pub mod Positions
+pub mod Lanes

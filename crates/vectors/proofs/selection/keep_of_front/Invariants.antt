@@ -1,0 +1,11 @@
+-- Loop invariants of `keep_of_front` (`selection`).
+use Rattle.std.proofs.Common.{◌≡◌, ◌≤◌, length, take, drop}
+use Rattle.vectors.specs.Selection.{Keeps}
+use Rattle.vectors.proofs.selection.keep_of_front.Given as goal
+
+abbrev pub invariant-loop-i : goal.invariant-loop-i
+invariant-loop-i g l =
+    Keeps (goal.F-post g l.keep) (take l.i l.fn.places) (take l.count l.places)
+    × (l.count ≤ l.i)
+    × (length l.places ≡ length l.fn.places)
+    × (drop l.i l.places ≡ drop l.i l.fn.places)

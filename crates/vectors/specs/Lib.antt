@@ -1,0 +1,4 @@
+-- The definitions of this crate.
+pub mod Selection
+pub mod Lanes
+pub mod Vector

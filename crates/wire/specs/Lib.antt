@@ -1,0 +1,4 @@
+-- The definitions of this crate.
+pub mod Bytes
+pub mod Reading
+pub mod Writing

@@ -24,6 +24,7 @@ fn tell_kind(
         "catalog" => catalog::tell(alloc, words, body),
         "cut" => cut::tell(alloc, words, body),
         "selection" => selection::tell(alloc, words, body),
+        "lanes" => lane_cases::tell(alloc, words, body),
         "answer" => answers::tell(alloc, false, words, body),
         "state" => answers::tell(alloc, true, words, body),
         "gather" => gathers::tell(alloc, words, body, files),

@@ -15,7 +15,7 @@ use Rattle.meaning.specs.declared.table.TableFault.TheVariants as fault
 use Rattle.meaning.specs.Order.{Row}
 use Rattle.meaning.specs.Records.{Record, fact_of, dimension_of, file_order, is_header, judged_record, unless_few, row_of, unless_repeated}
 use Rattle.meaning.specs.Results.{and_then}
-use Rattle.meaning.specs.Table.{Cut}
+use Rattle.meaning.specs.Cut.{Cut}
 use Rattle.columns.specs.Column.{ColumnSpec}
 use Rattle.loader.specs.Columns.{columns_of, column_of, fragments_of}
 use Rattle.loader.specs.Source.{csv_records}

@@ -4,8 +4,7 @@ use Rattle.std.specs.Prelude.{Option, Some, sum, slice_index, zip}
 use Rattle.std.specs.List.{enumerate_from}
 use Rattle.std.proofs.lemmas.List.{take_all}
 use Rattle.std.proofs.lemmas.List.Sums.{sum_by-cons}
-use Rattle.meaning.specs.Cut.{IsCut}
-use Rattle.meaning.specs.Table.{Cut, first_row}
+use Rattle.meaning.specs.Cut.{IsCut, Cut, first_row}
 use Rattle.meaning.specs.declared.catalog.Dimension.{Dimension}
 use Rattle.meaning.specs.declared.catalog.Table.{Table}
 use Rattle.columns.specs.Column.{ColumnSpec}

@@ -4,15 +4,14 @@ use Rattle.std.specs.List.{enumerate_from}
 use Rattle.std.specs.Io.KnownBytes.{Appends}
 use Rattle.meaning.specs.Limits.{max_rows}
 use Rattle.meaning.specs.CatalogText.{catalog_of}
-use Rattle.meaning.specs.Cut.{cut_of, even_lengths}
-use Rattle.meaning.specs.Table.{Cut, first_row}
+use Rattle.meaning.specs.Cut.{cut_of, even_lengths, Cut, first_row}
 use Rattle.meaning.specs.declared.catalog.Table.{Table}
 use Rattle.meaning.specs.declared.catalog.Catalog.{Catalog}
 use Rattle.meaning.specs.declared.catalog.Dimension.{Dimension}
 use Rattle.columns.specs.Column.{ColumnSpec}
 use Rattle.loader.specs.Columns.{fact_fragments, dimension_columns}
 use Rattle.loader.specs.Source.{csv_records}
-use Rattle.fragment_file.specs.Fragment.{Stands}
+use Rattle.fragment_file.specs.Fragment.{Stands, table_header}
 use Rattle.wire.specs.Bytes.{sealed}
 use Rattle.fragment_file.specs.Writing.{AreColumns}
 use Rattle.fragment_file.specs.CutFile.{cut_bytes}
@@ -45,7 +44,7 @@ pub record IsFactLoaded (holds : Holds) (folder : List ℕ) (catalog : Catalog) 
 
 -- the header of so many of a table's rows
 abbrev pub header_of : ℕ → Table → ℕ → ℕ → ℕ → Header
-header_of load table fragment first_row rows = record { load = load; table = table.name; fragment = fragment; first_row = first_row; rows = rows; columns = table.columns }
+header_of load table fragment first_row rows = table_header load table (record { fragment = fragment; first_row = first_row; rows = rows })
 
 -- how many rows columns have
 abbrev pub rows_in : List ColumnSpec → ℕ

@@ -1,6 +1,6 @@
 -- The line that tells a refusal.
 use Rattle.std.specs.Prelude.{ℕ, List, [], ◌∷◌, ◌++◌, codes, decimal, flat_map}
-use Rattle.meaning.specs.Catalog.{catalog_fault_number}
+use Rattle.meaning.specs.Catalog.{number_of}
 use Rattle.meaning.specs.declared.catalog.CatalogFault.{CatalogFault}
 use Rattle.meaning.specs.declared.catalog.CatalogFault.TheVariants as catalog_fault
 use Rattle.meaning.specs.Cut as cut
@@ -51,7 +51,7 @@ table_details _ = []
 -- ---- the line
 
 abbrev pub catalog_line : CatalogFault → List ℕ
-catalog_line e = numbered_line (codes "catalog") (catalog_fault_number e) (catalog_details e)
+catalog_line e = numbered_line (codes "catalog") (number_of e) (catalog_details e)
 
 abbrev pub sql_line : SqlFault → List ℕ
 sql_line e = numbered_line (codes "sql") (sql.number_of e) (sql_details e)
@@ -79,7 +79,7 @@ line_of (refusal.CannotRead path) = file_line (codes "cannot read") path
 line_of (refusal.CannotWrite path) = file_line (codes "cannot write") path
 line_of refusal.CannotPrint = plain_line (codes "cannot write standard output")
 line_of (refusal.Catalog e) = catalog_line e
-line_of (refusal.Cut e) = numbered_line (codes "cut") (cut.fault_number e) []
+line_of (refusal.Cut e) = numbered_line (codes "cut") (cut.number_of e) []
 line_of (refusal.Sql e) = sql_line e
 line_of (refusal.Plan e) = plan_line e
 line_of (refusal.Load e) = table_line e

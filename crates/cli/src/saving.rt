@@ -4,8 +4,8 @@ ghost use Rattle.std.specs.Prelude.{◌≡◌, ◌≢◌, ◌≤◌, IfOk, OnOk,
 ghost use Rattle.std.specs.List.{enumerate_from};
 ghost use Rattle.meaning.specs.Limits.{max_rows};
 ghost use Rattle.meaning.specs.Catalog.{IsWellFormed, IsWellFormedTable};
-ghost use Rattle.meaning.specs.Table.{first_row};
-ghost use Rattle.fragment_file.specs.Fragment.{IsHeader, Stands};
+ghost use Rattle.meaning.specs.Cut.{first_row};
+ghost use Rattle.fragment_file.specs.Fragment.{IsHeader, Stands, table_header};
 ghost use Rattle.wire.specs.Bytes.{sealed};
 ghost use Rattle.fragment_file.specs.Writing.{AreColumns, AreColumnsOf};
 ghost use Rattle.fragment_file.specs.CutFile.{cut_bytes};
@@ -19,54 +19,15 @@ use crate::loading::Loaded;
 use crate::paths::{cut_path, dimension_path, fragment_path};
 use crate::refusal::{Refusal, cannot_write};
 use columns::Column;
-use fragment_file::header::Header;
+use fragment_file::header::{Header, Slice};
 use fragment_file::{FileFault, write, write_cut};
-use meaning::catalog;
 use meaning::catalog::{Catalog, Dimension, Table};
 use meaning::cut::Cut;
 use meaning::sequence::Sequence;
 use meaning::text::Text;
-use std::alloc::{AllocError, Global};
+use std::alloc::Global;
 use std::io;
 use std::io::ErrorKind;
-
-/// Which rows of a table a file has.
-#[derive(Clone, Copy)]
-struct Place {
-    fragment: u32,
-    first_row: u64,
-    rows: u32,
-}
-
-fn copy_columns(
-    alloc: Global,
-    columns: &[catalog::Column],
-) -> Result<Sequence<catalog::Column>, AllocError>
-    ensures { IfOk result (λ copy. copy ≡ columns.now) }
-{
-    let mut copy = Sequence::new(alloc);
-    for column in columns {
-        copy.push(catalog::Column {
-            name: column.name.clone()?,
-            col_type: column.col_type,
-            nullable: column.nullable,
-        })?;
-    }
-    Ok(copy)
-}
-
-fn header(alloc: Global, load: u64, table: &Table, place: Place) -> Result<Header, AllocError>
-    ensures { IfOk result (λ header. header ≡ header_of load table.now place.fragment place.first_row place.rows) }
-{
-    Ok(Header {
-        load,
-        table: table.name.clone()?,
-        fragment: place.fragment,
-        first_row: place.first_row,
-        rows: place.rows,
-        columns: copy_columns(alloc, table.columns.as_slice())?,
-    })
-}
 
 /// How it is told that the file of a path was not written.
 fn device_refusal(path: &Text, error: io::Error) -> Refusal
@@ -149,18 +110,18 @@ fn save_fragment<F: Folder>(
     directory: &str,
     load: u64,
     table: &Table,
-    place: Place,
+    slice: Slice,
     columns: &[Column],
 ) -> Result<(), Refusal>
     requires table { IsWellFormedTable table.now }
-    requires few { place.rows ≤ max_rows }
-    requires columns { AreColumns table.now.columns place.rows columns.now }
-    ensures { OnOk result (WritesOne (fragment_path directory.now table.now.name place.fragment)
-        (λ bytes. Stands bytes (header_of load table.now place.fragment place.first_row place.rows) columns.now)
+    requires few { slice.rows ≤ max_rows }
+    requires columns { AreColumns table.now.columns slice.rows columns.now }
+    ensures { OnOk result (WritesOne (fragment_path directory.now table.now.name slice.fragment)
+        (λ bytes. Stands bytes (table_header load table.now slice) columns.now)
         (F.wrote folder.old) (F.wrote folder.new)) }
 {
-    let path = fragment_path(alloc, directory, table.name.as_str(), place.fragment)?;
-    let header = header(alloc, load, table, place)?;
+    let path = fragment_path(alloc, directory, table.name.as_str(), slice.fragment)?;
+    let header = Header::of_table(alloc, load, table, slice)?;
     save_rows(alloc, folder, &path, &header, columns)
 }
 
@@ -181,7 +142,7 @@ fn save_fragments<F: Folder>(
     let lengths = cut.lengths();
     let mut first_row = 0;
     for k in 0..lengths.len() {
-        let place = Place {
+        let slice = Slice {
             fragment: k as u32,
             first_row,
             rows: lengths[k],
@@ -192,7 +153,7 @@ fn save_fragments<F: Folder>(
             directory,
             load,
             table,
-            place,
+            slice,
             fragments[k].as_slice(),
         )?;
         first_row += u64::from(lengths[k]);
@@ -225,12 +186,12 @@ fn save_dimension<F: Folder>(
         (F.wrote folder.old) (F.wrote folder.new)) }
 {
     let path = dimension_path(alloc, directory, dim.table.name.as_str())?;
-    let place = Place {
+    let slice = Slice {
         fragment: 0,
         first_row: 0,
         rows: rows_in(columns) as u32,
     };
-    let header = header(alloc, load, &dim.table, place)?;
+    let header = Header::of_table(alloc, load, &dim.table, slice)?;
     save_rows(alloc, folder, &path, &header, columns)
 }
 

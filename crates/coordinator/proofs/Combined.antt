@@ -9,8 +9,7 @@ use Rattle.meaning.specs.declared.answer.Body.{Body}
 use Rattle.meaning.specs.declared.answer.Cell.{Cell}
 use Rattle.meaning.specs.declared.answer.Cell.TheVariants.{Nothing, One, Conflict}
 use Rattle.meaning.specs.Order.{Row, least}
-use Rattle.meaning.specs.Cut.{IsCut}
-use Rattle.meaning.specs.Table.{Cut}
+use Rattle.meaning.specs.Cut.{IsCut, Cut}
 use Rattle.meaning.specs.Judge.{fault_cmp}
 use Rattle.meaning.specs.Group.{grouped, merge_groups, merged, merged_groups}
 use Rattle.meaning.specs.Answer.{body_of, fault_of, groups_of, combined}

@@ -11,7 +11,7 @@ use Rattle.meaning.specs.declared.table.TableFault.TheVariants as fault
 use Rattle.meaning.specs.Order.{Row, column}
 use Rattle.meaning.specs.Records.{Record, fact_of, file_order, is_header, is_repeated, key_of, judged_record, row_of, table_of, unless_few, unless_repeated}
 use Rattle.meaning.specs.Results.{all_ok, and_then, with_result}
-use Rattle.meaning.specs.Table.{Cut}
+use Rattle.meaning.specs.Cut.{Cut}
 
 -- what goes on well went well before
 pub went_on : {X Y E : Type 0} (r : Result X E) (next : X → Result Y E) (y : Y) → and_then r next ≡ Ok y → (x : X) × (r ≡ Ok x) × (next x ≡ Ok y)

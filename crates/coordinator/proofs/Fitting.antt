@@ -14,8 +14,7 @@ use Rattle.meaning.specs.declared.answer.Body.TheVariants.{Groups, Fault}
 use Rattle.meaning.specs.declared.answer.Cell.{Cell}
 use Rattle.meaning.specs.declared.answer.Cell.TheVariants.{Nothing, One, Conflict}
 use Rattle.meaning.specs.Order.{Row}
-use Rattle.meaning.specs.Cut.{IsCut}
-use Rattle.meaning.specs.Table.{Cut, first_row}
+use Rattle.meaning.specs.Cut.{IsCut, Cut, first_row}
 use Rattle.meaning.specs.Aggregate.{kept_by}
 use Rattle.meaning.specs.Gather.{same_body, join_cells}
 use Rattle.meaning.specs.Fitting.{is_group_of, is_state_of, is_possible, is_sum_of, is_group_possible, are_numbers_possible, least_integer, greatest_integer}

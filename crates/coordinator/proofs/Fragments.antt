@@ -3,7 +3,7 @@ use Rattle.std.specs.Prelude.{◌≡◌, ℕ, List, [], ◌∷◌, take, drop, s
 use Rattle.std.specs.List.{enumerate_from}
 use Rattle.std.proofs.Common.{zero, suc, ◌+◌, refl, sym, ap, ◌∙◌, arith}
 use Rattle.meaning.specs.Order.{Row}
-use Rattle.meaning.specs.Table.{Numbered, Cut, first_row, fragment}
+use Rattle.meaning.specs.Cut.{Numbered, Cut, first_row, fragment}
 use Rattle.meaning.specs.declared.plan.Plan.{Plan}
 use Rattle.meaning.specs.Answer.{own_body, own}
 

@@ -5,7 +5,7 @@ use Rattle.std.proofs.Common.{refl, sym, ap, subst, arith}
 use Rattle.meaning.specs.declared.plan.Plan.{Plan}
 use Rattle.meaning.specs.declared.answer.Cell.{Cell}
 use Rattle.meaning.specs.declared.answer.Cell.TheVariants.{Nothing, One, Conflict}
-use Rattle.meaning.specs.Table.{Cut}
+use Rattle.meaning.specs.Cut.{Cut}
 use Rattle.meaning.specs.Gather.{same_body, join_cells}
 use Rattle.meaning.proofs.Cells.{join_cells-comm, join_cells-assoc, join_cells_same}
 use Rattle.meaning.proofs.Tests.{first_of, second_of, both}

@@ -8,6 +8,7 @@ use Rattle.meaning.specs.declared.answer.Statistics.{Statistics}
 use Rattle.meaning.specs.declared.answer.Body.{Body}
 use Rattle.meaning.specs.Aggregate.{value}
 use Rattle.meaning.specs.Finish.{finish}
+use Rattle.meaning.specs.Output.{output_behind}
 use Rattle.meaning.specs.Answer.{output_of}
 use Rattle.meaning.proofs.Evaluation.{evaluation}
 use Rattle.coordinator.specs.OneGroup.{one_group}
@@ -15,7 +16,7 @@ use Rattle.coordinator.specs.Single.{aggregate_of, single_plan}
 use Rattle.coordinator.specs.Finished.{output_of_value}
 use Rattle.coordinator.proofs.Keyless.{no_key}
 
-finish_one : (text : List ℕ) (fact : TableUse) (summed : Option ℕ) (rows : ℕ) (v : Result Value ℕ) → finish (single_plan text fact summed) (record { key = no_key; rows = rows; aggregates = v ∷ [] } ∷ []) ≡ output_of_value v
+finish_one : (text : List ℕ) (fact : TableUse) (summed : Option ℕ) (rows : ℕ) (v : Result Value ℕ) → output_behind (finish (single_plan text fact summed) (record { key = no_key; rows = rows; aggregates = v ∷ [] } ∷ [])) ≡ output_of_value v
 finish_one text fact summed rows (Ok v) = simp evaluation
 finish_one text fact summed rows (Err code) = refl
 

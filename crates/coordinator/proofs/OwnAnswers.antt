@@ -5,7 +5,7 @@ use Rattle.std.proofs.Common.{sym, ap, ◌∙◌, subst}
 use Rattle.meaning.specs.declared.plan.Plan.{Plan}
 use Rattle.meaning.specs.declared.answer.Answer.{Answer}
 use Rattle.meaning.specs.Order.{Row}
-use Rattle.meaning.specs.Table.{Cut}
+use Rattle.meaning.specs.Cut.{Cut}
 use Rattle.meaning.specs.Answer.{own_body}
 use Rattle.partial_codec.specs.Job.{JobSpec}
 use Rattle.partial_codec.specs.Answer.{Fits}

@@ -8,7 +8,7 @@ use Rattle.meaning.specs.declared.plan.TableUse.{TableUse}
 use Rattle.meaning.specs.declared.answer.Statistics.{Statistics}
 use Rattle.meaning.specs.declared.answer.Body.{Body}
 use Rattle.meaning.specs.Order.{Row}
-use Rattle.meaning.specs.Table.{Cut}
+use Rattle.meaning.specs.Cut.{Cut}
 use Rattle.meaning.specs.Aggregate.{statistics, kept_by}
 use Rattle.meaning.specs.Fitting.{is_state_of, is_possible, least_integer, greatest_integer}
 use Rattle.meaning.proofs.Same.{statistics_exact}

@@ -16,11 +16,11 @@ use Rattle.meaning.specs.declared.value.Value.{Value}
 use Rattle.meaning.specs.Answer.{output_of, read_off}
 use Rattle.meaning.specs.declared.answer.Body.{Body}
 use Rattle.meaning.specs.declared.answer.Body.TheVariants.{Groups, Fault}
-use Rattle.meaning.specs.Finish.{Output, Evaluated, behind, behind_having, shown, rows_of, limited, all_rows, finish, order_cmp}
-use Rattle.meaning.specs.Finish as output
-use Rattle.meaning.specs.Expr.{eval}
+use Rattle.meaning.specs.Finish.{Evaluated, Finished, Rows, Refusal, finished, rows_behind, behind_having, shown, rows_of, limited, all_rows, finish, order_cmp}
+use Rattle.meaning.specs.Output.{Output, output_behind}
+use Rattle.meaning.specs.Output as output
+use Rattle.meaning.specs.Expr.{eval, with_value, values}
 use Rattle.meaning.specs.Joined.{group_row}
-use Rattle.meaning.specs.Judge.{with_value, values}
 use Rattle.meaning.specs.Order.{Row, placed, sorted}
 use Rattle.meaning.specs.Results.{with_result, all_ok, and_then}
 use Rattle.coordinator.specs.Printing.{HasFields}
@@ -72,7 +72,7 @@ full_alone : (row : Result Row ℕ) → IfOk row IsFull → IfOk (and_then row (
 full_alone (Err c) p = tt
 full_alone (Ok r) p = (p, tt)
 
-full_behind : (o : Outcome) (group : Result (List Row) ℕ) → IfOk group AreFull → IfOk (behind o group) AreFull
+full_behind : (o : Outcome) (group : Result (List Row) ℕ) → IfOk group AreFull → IfOk (rows_behind o group) AreFull
 full_behind (gives.Fault f) group p = tt
 full_behind (gives.Truth True) group p = p
 full_behind (gives.Truth Unknown) group p = tt
@@ -112,7 +112,7 @@ full_groups plan [] grouped some = tt
 full_groups plan (g ∷ gs) grouped some = full_joined (rows_of plan g) (all_ok (map (rows_of plan) gs)) (full_rows_of plan g grouped some) (full_groups plan gs grouped some)
 
 full_output : (plan : Plan) (parts : Result (List (List Row)) ℕ) (rows : List Row) → IfOk parts (λ parts. AreFull (all_rows parts))
-    → output.output_of (and_then parts (λ parts. Ok (limited plan.limit (sorted (order_cmp plan.order) (all_rows parts))))) ≡ output.rows rows → AreFull rows
+    → finished (and_then parts (λ parts. Ok (limited plan.limit (sorted (order_cmp plan.order) (all_rows parts))))) ≡ Rows rows → AreFull rows
 full_output plan (Err c) rows p e = cc
 full_output plan (Ok parts) rows p e =
     let made : AreFull (limited plan.limit (sorted (order_cmp plan.order) (all_rows parts))) = full_limited plan.limit _ (full_sorted (order_cmp plan.order) (all_rows parts) p) in
@@ -120,16 +120,21 @@ full_output plan (Ok parts) rows p e =
     subst AreFull same made
 
 -- what the last step of a grouped query shows can be printed
-pub finished_has_fields : (plan : Plan) (groups : List Evaluated) (rows : List Row) → plan.plain ≡ false → plan.items ≢ [] → finish plan groups ≡ output.rows rows → HasFields plan rows
+pub finished_has_fields : (plan : Plan) (groups : List Evaluated) (rows : List Row) → plan.plain ≡ false → plan.items ≢ [] → finish plan groups ≡ Rows rows → HasFields plan rows
 finished_has_fields plan groups rows grouped some e = record {
   header = some;
   rows = All-from_recursion IsFull rows (full_output plan (all_ok (map (rows_of plan) groups)) rows (full_groups plan groups grouped some) e);
 }
 
+rows_behind_are : (done : Finished) (rows : List Row) → output_behind done ≡ output.rows rows → done ≡ Rows rows
+rows_behind_are (Rows shown) rows e = let same : shown ≡ rows = cc e in ap Rows same
+rows_behind_are (Refusal c) rows e = cc e
+
 -- and so can what an answer's body stands for
 pub output_has_fields : (plan : Plan) (body : Body) (rows : List Row) → plan.plain ≡ false → plan.items ≢ [] → output_of plan body ≡ output.rows rows → HasFields plan rows
 output_has_fields plan (Fault f) rows grouped some e = cc
-output_has_fields plan (Groups gs) rows grouped some e = finished_has_fields plan (map (read_off plan) gs) rows grouped some e
+output_has_fields plan (Groups gs) rows grouped some e =
+    finished_has_fields plan (map (read_off plan) gs) rows grouped some (rows_behind_are (finish plan (map (read_off plan) gs)) rows e)
 
 -- the two forms of queries are grouped and have an item
 pub single_has_fields : (plan : Plan) (body : Body) (rows : List Row) → IsSingle plan → output_of plan body ≡ output.rows rows → HasFields plan rows

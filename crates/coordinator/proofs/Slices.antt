@@ -7,7 +7,7 @@ use Rattle.std.proofs.lemmas.List.{length-drop, map-append}
 use Rattle.std.proofs.lemmas.List.Sums.{sum_by-cons}
 use Rattle.meaning.specs.declared.plan.Plan.{Plan}
 use Rattle.meaning.specs.Order.{Row}
-use Rattle.meaning.specs.Table.{Cut, first_row}
+use Rattle.meaning.specs.Cut.{Cut, first_row}
 use Rattle.meaning.specs.Answer.{own}
 use Rattle.meaning.specs.Laws.{own_answers}
 

@@ -6,8 +6,8 @@ use Rattle.std.proofs.Common.{sym, ◌∙◌, subst}
 use Rattle.meaning.specs.declared.catalog.Column.{Column}
 use Rattle.meaning.specs.declared.plan.Plan.{Plan}
 use Rattle.meaning.specs.Order.{Row}
-use Rattle.meaning.specs.Table.{Cut, numbered}
-use Rattle.meaning.specs.Finish.{Output}
+use Rattle.meaning.specs.Cut.{Cut, numbered}
+use Rattle.meaning.specs.Output.{Output}
 use Rattle.meaning.specs.Meaning.{meaning}
 use Rattle.meaning.specs.Gather.{Report, joined, report, output}
 use Rattle.meaning.specs.Laws.{own_answers}
@@ -26,7 +26,7 @@ module _ (plan : Plan) (rows : List Row) (cut : Cut) (whole : length rows ≡ su
   abbrev own_state : GatherSpec
   own_state = record { job = record { load = 0; plan = plan; cut = cut }; cells = joined cut (own_answers plan [] cut rows (range_with_len 0 (length cut))) }
 
-  means : report plan own_state.cells ≡ output (meaning plan (numbered rows) [])
+  means : report plan own_state.cells ≡ output (meaning plan [] (numbered rows))
   means = report-own_answers plan [] cut rows (sym whole)
 
   abbrev Prints : Option (List ℕ) → Option (List ℕ) → GatherSpec → Type 0
@@ -38,7 +38,7 @@ module _ (plan : Plan) (rows : List Row) (cut : Cut) (whole : length rows ≡ su
   answered : (before after : Option (List ℕ)) (g : GatherSpec) → g ≡ own_state → (ended : Ended) (handed : GatherSpec) → Prints before after g → Ends g ended → handed ≡ g → IsAnsweredOver plan rows cut before after ended handed
   answered before after g is ended handed prints ends same = record {
     printed = subst (λ (r : Report). Appends before after (report_text plan r)) means (subst (Prints before after) is prints);
-    ends = subst (λ (h : GatherSpec). Ends h ended) is ends (meaning plan (numbered rows) []) means;
+    ends = subst (λ (h : GatherSpec). Ends h ended) is ends (meaning plan [] (numbered rows)) means;
     state = same ∙ is;
   }
 

@@ -1,8 +1,8 @@
 -- What the last step gives.
 use Rattle.std.specs.Prelude.{ℕ, [], ◌∷◌, Result, Ok, Err}
 use Rattle.meaning.specs.declared.value.Value.{Value}
-use Rattle.meaning.specs.Finish.{Output}
-use Rattle.meaning.specs.Finish as output
+use Rattle.meaning.specs.Output.{Output}
+use Rattle.meaning.specs.Output as output
 use Rattle.coordinator.specs.declared.finishing.Finished.{Finished}
 use Rattle.coordinator.specs.declared.finishing.Finished.TheVariants as finished
 

@@ -1,8 +1,8 @@
 -- What a coordinator finds in its cells, and what is told of it.
 use Rattle.std.specs.Prelude.{Bool, ⊤}
 use Rattle.meaning.specs.declared.answer.Cell.{Cell}
-use Rattle.meaning.specs.Finish.{Output}
-use Rattle.meaning.specs.Finish as output
+use Rattle.meaning.specs.Output.{Output}
+use Rattle.meaning.specs.Output as output
 use Rattle.meaning.specs.Gather.{is_conflict, is_nothing}
 use Rattle.meaning.specs.Gather as gather
 use Rattle.coordinator.specs.declared.reporting.Finding.{Finding}

@@ -12,7 +12,7 @@ use Rattle.meaning.specs.declared.plan.Join.{Join}
 use Rattle.meaning.specs.declared.plan.Plan.{Plan}
 use Rattle.meaning.specs.declared.table.TableFault.{TableFault}
 use Rattle.meaning.specs.Order.{Row}
-use Rattle.meaning.specs.Table.{Cut, numbered}
+use Rattle.meaning.specs.Cut.{Cut, numbered}
 use Rattle.meaning.specs.Meaning.{meaning}
 use Rattle.meaning.specs.Print.{output_text}
 use Rattle.meaning.specs.Gather.{joined}
@@ -201,8 +201,8 @@ IsPrepareRefused catalog files query cut vector_len _ = ⊥
 
 -- the answer over a fact's rows
 pub record IsAnsweredOver (plan : Plan) (rows : List Row) (cut : Cut) (before after : Option (List ℕ)) (ended : Ended) (gather : GatherSpec) : Type 0 where
-  pub printed : Appends before after (output_text plan (meaning plan (numbered rows) []))
-  pub ends : ended ≡ ended_as (meaning plan (numbered rows) [])
+  pub printed : Appends before after (output_text plan (meaning plan [] (numbered rows)))
+  pub ends : ended ≡ ended_as (meaning plan [] (numbered rows))
   pub state : gather ≡ record { job = record { load = 0; plan = plan; cut = cut }; cells = joined cut (own_answers plan [] cut rows (range_with_len 0 (length cut))) }
 
 -- what has been printed is what the query means over the tables; it says whether that is rows or a fault; and the state is that
@@ -212,8 +212,8 @@ pub record IsAnswered (input : Input) (before after : Option (List ℕ)) (ended 
   pub rows : List Row
   pub dims : List (List Row)
   pub over : RunsOver input plan rows dims
-  pub printed : Appends before after (output_text plan (meaning plan (numbered rows) dims))
-  pub ends : ended ≡ ended_as (meaning plan (numbered rows) dims)
+  pub printed : Appends before after (output_text plan (meaning plan dims (numbered rows)))
+  pub ends : ended ≡ ended_as (meaning plan dims (numbered rows))
   pub state : gather ≡ record { job = record { load = 0; plan = plan; cut = input.cut }; cells = joined input.cut (own_answers plan dims input.cut rows (range_with_len 0 (length input.cut))) }
 
 -- a refusal at the end: out of memory, or the writer failed

@@ -6,7 +6,7 @@ ghost use Rattle.meaning.specs.Limits.{max_rows};
 ghost use Rattle.meaning.specs.declared.catalog.Column.{Column as Declared};
 ghost use Rattle.meaning.specs.Answer.{own_body};
 ghost use Rattle.meaning.specs.Order.{Row};
-ghost use Rattle.meaning.specs.Table.{Cut};
+ghost use Rattle.meaning.specs.Cut.{Cut};
 ghost use Rattle.coordinator.specs.Fitted.{is_fitting_body};
 ghost use Rattle.coordinator.specs.Fragment.{IsFragment, IsFragmentFor};
 ghost use Rattle.coordinator.specs.OneGroup.{IsTallyOfRows};

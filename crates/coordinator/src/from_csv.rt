@@ -5,7 +5,7 @@ ghost use Rattle.std.specs.Io.KnownBytes.{Appends};
 ghost use Rattle.meaning.specs.Limits.{max_rows};
 ghost use Rattle.meaning.specs.declared.answer.Answer.{Answer as AnAnswer};
 ghost use Rattle.meaning.specs.Answer.{own_body};
-ghost use Rattle.meaning.specs.Finish.{Output};
+ghost use Rattle.meaning.specs.Output.{Output};
 ghost use Rattle.meaning.specs.Gather.{joined, report, output};
 ghost use Rattle.meaning.specs.Laws.{own_answers};
 ghost use Rattle.meaning.specs.Print.{report_text};

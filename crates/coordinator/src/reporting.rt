@@ -3,7 +3,7 @@
 ghost use Rattle.std.specs.Prelude.{◌≡◌, ◌≤◌, length, IfOk, IfErr, OnOk};
 ghost use Rattle.std.specs.Io.KnownBytes.{Appends};
 ghost use Rattle.meaning.specs.Limits.{max_fragments};
-ghost use Rattle.meaning.specs.Finish.{Output};
+ghost use Rattle.meaning.specs.Output.{Output};
 ghost use Rattle.meaning.specs.Gather.{places, report, preview, output};
 ghost use Rattle.meaning.specs.Print.{output_text, report_text};
 ghost use Rattle.coordinator.specs.Finished.{output_in};

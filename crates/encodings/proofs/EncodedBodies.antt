@@ -11,9 +11,8 @@ use Rattle.meaning.specs.declared.value.ColType.TheVariants as of_type
 use Rattle.meaning.specs.declared.value.Value.{Value}
 use Rattle.meaning.specs.declared.value.Value.TheVariants.{Null, Int, Text}
 use Rattle.meaning.specs.Operators.{fits_i64}
-use Rattle.meaning.specs.Order.{number, bytes, value_cmp}
+use Rattle.meaning.specs.Order.{number, bytes, value_cmp, same_value}
 use Rattle.meaning.proofs.Tests.{all_first, all_rest, both, first_of, second_of, all_imply}
-use Rattle.meaning.specs.Gather.{same_value}
 use Rattle.meaning.proofs.Orders.{value_total, value_exact}
 use Rattle.std.specs.Cmp.{Equal-is}
 use Rattle.std.specs.Ordering.{is_eq}

@@ -11,8 +11,7 @@ use Rattle.meaning.specs.Limits.{row_group_rows}
 use Rattle.meaning.specs.declared.value.ColType.{ColType}
 use Rattle.meaning.specs.declared.value.Value.{Value}
 use Rattle.meaning.specs.declared.value.Value.TheVariants.{Null}
-use Rattle.meaning.specs.Gather.{same_value}
-use Rattle.meaning.specs.Order.{value_cmp, ascending_set, is_ascending}
+use Rattle.meaning.specs.Order.{same_value, value_cmp, ascending_set, is_ascending}
 use Rattle.meaning.proofs.Orders.{value_total, value_exact}
 use Rattle.meaning.proofs.Sets.{same_ascending_set, ascending_set_itself}
 use Rattle.meaning.proofs.Tests.{all_first, all_rest, all_imply, both, or_second}

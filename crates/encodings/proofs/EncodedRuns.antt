@@ -11,8 +11,7 @@ use Rattle.std.proofs.lemmas.List.Concat.{flat_map-append}
 use Rattle.std.proofs.lemmas.Grind.{replicate_next}
 use Rattle.meaning.specs.declared.value.Value.{Value}
 use Rattle.meaning.specs.declared.value.Value.TheVariants.{Null, Text}
-use Rattle.meaning.specs.Gather.{same_value}
-use Rattle.meaning.specs.Order.{value_cmp}
+use Rattle.meaning.specs.Order.{same_value, value_cmp}
 use Rattle.meaning.proofs.Orders.{value_total, value_exact}
 use Rattle.meaning.proofs.Tests.{all_append, both, first_of, second_of}
 use Rattle.encodings.specs.Block.{repeated}

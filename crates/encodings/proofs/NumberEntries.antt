@@ -11,8 +11,7 @@ use Rattle.std.proofs.lemmas.List.Elements.{All-push, All-contains, Contains-pus
 use Rattle.std.proofs.lemmas.List.Sorted.{length_permutation, All-permutation, Contains-permutation}
 use Rattle.meaning.specs.declared.value.Value.{Value}
 use Rattle.meaning.specs.declared.value.Value.TheVariants.{Null}
-use Rattle.meaning.specs.Gather.{same_value}
-use Rattle.meaning.specs.Order.{value_cmp, is_ascending}
+use Rattle.meaning.specs.Order.{same_value, value_cmp, is_ascending}
 use Rattle.meaning.proofs.Orders.{value_total}
 use Rattle.meaning.proofs.Tests.{both, first_of, second_of}
 use Rattle.encodings.specs.Entries.{AreNumbered, DoNotFall, AreFirstEntries, AreFirstCodes, AreNumberEntries}

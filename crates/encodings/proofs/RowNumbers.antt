@@ -6,8 +6,7 @@ use Rattle.std.proofs.lemmas.Bool.{lt-ltb, ltb-true}
 use Rattle.std.proofs.lemmas.List.{take_more, map-append, get_or-map, length-map, length_push, get_or_push, get_or_append_left}
 use Rattle.meaning.specs.declared.value.Value.{Value}
 use Rattle.meaning.specs.declared.value.Value.TheVariants.{Null}
-use Rattle.meaning.specs.Gather.{same_value}
-use Rattle.meaning.specs.Order.{value_cmp}
+use Rattle.meaning.specs.Order.{same_value, value_cmp}
 use Rattle.meaning.proofs.Orders.{value_exact}
 use Rattle.meaning.proofs.Tests.{all_append, all_imply, all_first, all_rest, both}
 use Rattle.encodings.specs.Entries.{AreNumbers, Knows}

@@ -7,8 +7,7 @@ use Rattle.std.specs.declared.cmp.Ordering.TheVariants.{Less, Equal, Greater}
 use Rattle.std.specs.Ordering.{int_cmp, int_eq, nat_cmp, is_eq, ordering_then}
 use Rattle.std.specs.Cmp.Lexicographic.{slice_cmp, pointwise}
 use Rattle.meaning.specs.declared.value.Value.TheVariants.{Int, Text}
-use Rattle.meaning.specs.Order.{value_cmp}
-use Rattle.meaning.specs.Gather.{same_value}
+use Rattle.meaning.specs.Order.{value_cmp, same_value}
 
 then_equal : (r : Ordering) → r ≡ ordering_then r Equal
 then_equal Less = refl

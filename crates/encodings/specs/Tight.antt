@@ -5,8 +5,7 @@ use Rattle.std.specs.Ordering.{int_cmp, ord_min, ord_max}
 use Rattle.meaning.specs.declared.value.ColType.{ColType}
 use Rattle.meaning.specs.declared.value.ColType.TheVariants as of_type
 use Rattle.meaning.specs.declared.value.Value.{Value}
-use Rattle.meaning.specs.Order.{value_cmp, ascending_set, is_null, number, bytes}
-use Rattle.meaning.specs.Gather.{same_value}
+use Rattle.meaning.specs.Order.{value_cmp, ascending_set, is_null, number, bytes, same_value}
 use Rattle.columns.specs.Column.{ColumnSpec}
 use Rattle.encodings.specs.declared.kind.Kind.{Kind}
 use Rattle.encodings.specs.declared.kind.Kind.TheVariants as kind

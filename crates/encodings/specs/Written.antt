@@ -6,8 +6,7 @@ use Rattle.meaning.specs.declared.value.ColType.{ColType}
 use Rattle.meaning.specs.declared.value.ColType.TheVariants as of_type
 use Rattle.meaning.specs.declared.value.Value.{Value}
 use Rattle.meaning.specs.declared.value.Value.TheVariants.{Null}
-use Rattle.meaning.specs.Gather.{same_value}
-use Rattle.meaning.specs.Order.{is_null, is_ascending, value_cmp, number, bytes}
+use Rattle.meaning.specs.Order.{same_value, is_null, is_ascending, value_cmp, number, bytes}
 use Rattle.columns.specs.Column.{ColumnSpec}
 use Rattle.columns.specs.Texts.{ends_from}
 use Rattle.encodings.specs.declared.kind.Kind.{Kind}

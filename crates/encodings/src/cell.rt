@@ -2,8 +2,7 @@
 ghost use Rattle.std.specs.Prelude.{◌≡◌};
 ghost use Rattle.meaning.specs.declared.value.Value.{Value};
 ghost use Rattle.meaning.specs.declared.value.Value.TheVariants.{Int, Text};
-ghost use Rattle.meaning.specs.Order.{value_cmp};
-ghost use Rattle.meaning.specs.Gather.{same_value};
+ghost use Rattle.meaning.specs.Order.{value_cmp, same_value};
 ghost use Rattle.encodings.specs.CellOrder.{int_order, int_same, text_order, text_same};
 
 use std::hash::Hash;

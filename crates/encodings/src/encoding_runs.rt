@@ -2,7 +2,7 @@
 ghost use Rattle.std.specs.Prelude.{◌≡◌, ◌≤◌, ◌<◌, ◌-◌, ◌++◌, ◌∷◌, [], length, map, take, drop, get_or, ◌+◌, IfOk, OnOk};
 ghost use Rattle.meaning.specs.Limits.{row_group_rows};
 ghost use Rattle.meaning.specs.declared.value.Value.TheVariants.{Null, Int, Text};
-ghost use Rattle.meaning.specs.Gather.{same_value};
+ghost use Rattle.meaning.specs.Order.{same_value};
 ghost use Rattle.encodings.specs.Written.{AreRuns};
 
 use columns::TextList;

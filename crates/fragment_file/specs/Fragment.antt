@@ -9,6 +9,7 @@ use Rattle.meaning.specs.declared.value.ColType.{ColType}
 use Rattle.meaning.specs.declared.value.ColType.TheVariants as of_type
 use Rattle.meaning.specs.declared.value.Value.{Value}
 use Rattle.meaning.specs.declared.catalog.Column.{Column}
+use Rattle.meaning.specs.declared.catalog.Table.{Table}
 use Rattle.meaning.specs.Catalog.{IsName}
 use Rattle.meaning.specs.Limits.{max_columns, max_rows, row_group_rows}
 use Rattle.columns.specs.Column.{ColumnSpec}
@@ -16,6 +17,7 @@ use Rattle.encodings.specs.declared.kind.Kind.TheVariants as kind
 use Rattle.encodings.specs.Block.{Block, is_block, values_of}
 use Rattle.encodings.specs.Tight.{place_of}
 use Rattle.fragment_file.specs.declared.header.Header.{Header}
+use Rattle.fragment_file.specs.declared.header.Slice.{Slice}
 
 -- a header, and for each row group its blocks
 pub record FragmentSpec : Type 0 where
@@ -39,6 +41,17 @@ pub record IsHeader (h : Header) : Type 0 where
   pub few : length h.columns ≤ max_columns
   pub columns : All (λ c. IsName c.name) h.columns
   pub distinct : AllPairs (λ a b. a ≢ b) (map (λ c. c.name) h.columns)
+
+-- the header of a file that has these rows of a table
+abbrev pub table_header : ℕ → Table → Slice → Header
+table_header load table slice = record {
+  load = load;
+  table = table.name;
+  fragment = slice.fragment;
+  first_row = slice.first_row;
+  rows = slice.rows;
+  columns = table.columns;
+}
 
 -- a block of so many rows of a column
 pub record IsBlockOf (c : Column) (n : ℕ) (b : Block) : Type 0 where

@@ -1,7 +1,24 @@
 //! Arithmetic lane by lane, with a flag where 64 bits don't hold the result.
 ghost use Rattle.std.specs.Prelude.{◌≡◌, ◌<◌, ◌+ℤ◌, ◌-ℤ◌, ◌*ℤ◌, pos, length, set};
-ghost use Rattle.std.specs.Int.{int_wrapping_add, int_wrapping_mul, int_wrapping_sub, w64};
+ghost use Rattle.std.specs.Int.{int_wrap, w64};
 ghost use Rattle.lane_loops.specs.Lanes.{AreLanes, int_at, overflow_bit};
+
+#[inline(always)]
+fn sum_overflow(left: &[i64], right: &[i64], lane: usize) -> u8
+    requires left { lane < length left.now }
+    requires right { lane < length right.now }
+    ensures { result ≡ overflow_bit (int_at left.now lane +ℤ int_at right.now lane) }
+{
+    let (_, is_over) = left[lane].overflowing_add(right[lane]);
+    u8::from(is_over)
+}
+
+#[inline(always)]
+fn wrapped_sum(left: i64, right: i64) -> i64
+    ensures { result ≡ int_wrap w64 (left +ℤ right) }
+{
+    left.wrapping_add(right)
+}
 
 #[inline(always)]
 fn put_sum(left: &[i64], right: &[i64], lane: usize, out: &mut [i64], over: &mut [u8])
@@ -9,12 +26,11 @@ fn put_sum(left: &[i64], right: &[i64], lane: usize, out: &mut [i64], over: &mut
     requires right { lane < length right.now }
     requires out { lane < length out.old }
     requires over { lane < length over.old }
-    ensures wrapped { out.new ≡ set out.old lane (int_wrapping_add w64 (int_at left.now lane) (int_at right.now lane)) }
+    ensures wrapped { out.new ≡ set out.old lane (int_wrap w64 (int_at left.now lane +ℤ int_at right.now lane)) }
     ensures over { over.new ≡ set over.old lane (overflow_bit (int_at left.now lane +ℤ int_at right.now lane)) }
 {
-    let (sum, is_over) = left[lane].overflowing_add(right[lane]);
-    out[lane] = sum;
-    over[lane] = u8::from(is_over);
+    over[lane] = sum_overflow(left, right, lane);
+    out[lane] = wrapped_sum(left[lane], right[lane]);
 }
 
 /// The sums, wrapped to 64 bits, and 1 in `over` where the exact one isn't held by these, else 0.
@@ -22,7 +38,7 @@ pub fn add_ints(left: &[i64], right: &[i64], out: &mut [i64], over: &mut [u8])
     requires left { length left.now ≡ length out.old }
     requires right { length right.now ≡ length out.old }
     requires over { length over.old ≡ length out.old }
-    ensures wrapped { AreLanes (pos 0) (length out.old) (λ i. int_wrapping_add w64 (int_at left.now i) (int_at right.now i)) out.new }
+    ensures wrapped { AreLanes (pos 0) (length out.old) (λ i. int_wrap w64 (int_at left.now i +ℤ int_at right.now i)) out.new }
     ensures over { AreLanes 0 (length out.old) (λ i. overflow_bit (int_at left.now i +ℤ int_at right.now i)) over.new }
 {
     for i in 0..out.len() {
@@ -31,17 +47,33 @@ pub fn add_ints(left: &[i64], right: &[i64], out: &mut [i64], over: &mut [u8])
 }
 
 #[inline(always)]
+fn difference_overflow(left: &[i64], right: &[i64], lane: usize) -> u8
+    requires left { lane < length left.now }
+    requires right { lane < length right.now }
+    ensures { result ≡ overflow_bit (int_at left.now lane -ℤ int_at right.now lane) }
+{
+    let (_, is_over) = left[lane].overflowing_sub(right[lane]);
+    u8::from(is_over)
+}
+
+#[inline(always)]
+fn wrapped_difference(left: i64, right: i64) -> i64
+    ensures { result ≡ int_wrap w64 (left -ℤ right) }
+{
+    left.wrapping_sub(right)
+}
+
+#[inline(always)]
 fn put_difference(left: &[i64], right: &[i64], lane: usize, out: &mut [i64], over: &mut [u8])
     requires left { lane < length left.now }
     requires right { lane < length right.now }
     requires out { lane < length out.old }
     requires over { lane < length over.old }
-    ensures wrapped { out.new ≡ set out.old lane (int_wrapping_sub w64 (int_at left.now lane) (int_at right.now lane)) }
+    ensures wrapped { out.new ≡ set out.old lane (int_wrap w64 (int_at left.now lane -ℤ int_at right.now lane)) }
     ensures over { over.new ≡ set over.old lane (overflow_bit (int_at left.now lane -ℤ int_at right.now lane)) }
 {
-    let (difference, is_over) = left[lane].overflowing_sub(right[lane]);
-    out[lane] = difference;
-    over[lane] = u8::from(is_over);
+    over[lane] = difference_overflow(left, right, lane);
+    out[lane] = wrapped_difference(left[lane], right[lane]);
 }
 
 /// The differences, wrapped to 64 bits, and 1 in `over` where the exact one isn't held by these, else 0.
@@ -49,7 +81,7 @@ pub fn sub_ints(left: &[i64], right: &[i64], out: &mut [i64], over: &mut [u8])
     requires left { length left.now ≡ length out.old }
     requires right { length right.now ≡ length out.old }
     requires over { length over.old ≡ length out.old }
-    ensures wrapped { AreLanes (pos 0) (length out.old) (λ i. int_wrapping_sub w64 (int_at left.now i) (int_at right.now i)) out.new }
+    ensures wrapped { AreLanes (pos 0) (length out.old) (λ i. int_wrap w64 (int_at left.now i -ℤ int_at right.now i)) out.new }
     ensures over { AreLanes 0 (length out.old) (λ i. overflow_bit (int_at left.now i -ℤ int_at right.now i)) over.new }
 {
     for i in 0..out.len() {
@@ -73,7 +105,7 @@ fn put_product(left: &[i64], right: &[i64], lane: usize, out: &mut [i64], over: 
     requires right { lane < length right.now }
     requires out { lane < length out.old }
     requires over { lane < length over.old }
-    ensures wrapped { out.new ≡ set out.old lane (int_wrapping_mul w64 (int_at left.now lane) (int_at right.now lane)) }
+    ensures wrapped { out.new ≡ set out.old lane (int_wrap w64 (int_at left.now lane *ℤ int_at right.now lane)) }
     ensures over { over.new ≡ set over.old lane (overflow_bit (int_at left.now lane *ℤ int_at right.now lane)) }
 {
     over[lane] = product_overflow(left, right, lane);
@@ -85,7 +117,7 @@ pub fn mul_ints(left: &[i64], right: &[i64], out: &mut [i64], over: &mut [u8])
     requires left { length left.now ≡ length out.old }
     requires right { length right.now ≡ length out.old }
     requires over { length over.old ≡ length out.old }
-    ensures wrapped { AreLanes (pos 0) (length out.old) (λ i. int_wrapping_mul w64 (int_at left.now i) (int_at right.now i)) out.new }
+    ensures wrapped { AreLanes (pos 0) (length out.old) (λ i. int_wrap w64 (int_at left.now i *ℤ int_at right.now i)) out.new }
     ensures over { AreLanes 0 (length out.old) (λ i. overflow_bit (int_at left.now i *ℤ int_at right.now i)) over.new }
 {
     for i in 0..out.len() {

@@ -7,16 +7,39 @@ ghost use Rattle.lane_loops.specs.Lanes.{AreLanes, truth_at};
 use meaning::outcome::Truth;
 
 #[inline(always)]
+fn and(left: Truth, right: Truth) -> Truth
+    ensures { result ≡ and3 left right }
+{
+    // No short circuit, so that there is no branch.
+    if matches!(left, Truth::False) | matches!(right, Truth::False) {
+        return Truth::False;
+    }
+    if matches!(left, Truth::Unknown) | matches!(right, Truth::Unknown) {
+        return Truth::Unknown;
+    }
+    Truth::True
+}
+
+#[inline(always)]
+fn or(left: Truth, right: Truth) -> Truth
+    ensures { result ≡ or3 left right }
+{
+    if matches!(left, Truth::True) | matches!(right, Truth::True) {
+        return Truth::True;
+    }
+    if matches!(left, Truth::Unknown) | matches!(right, Truth::Unknown) {
+        return Truth::Unknown;
+    }
+    Truth::False
+}
+
+#[inline(always)]
 fn and_at(left: &[Truth], right: &[Truth], lane: usize) -> Truth
     requires left { lane < length left.now }
     requires right { lane < length right.now }
     ensures { result ≡ and3 (truth_at left.now lane) (truth_at right.now lane) }
 {
-    match (left[lane], right[lane]) {
-        (Truth::False, _) | (_, Truth::False) => Truth::False,
-        (Truth::Unknown, _) | (_, Truth::Unknown) => Truth::Unknown,
-        (Truth::True, Truth::True) => Truth::True,
-    }
+    and(left[lane], right[lane])
 }
 
 /// AND of each two lanes.
@@ -36,11 +59,7 @@ fn or_at(left: &[Truth], right: &[Truth], lane: usize) -> Truth
     requires right { lane < length right.now }
     ensures { result ≡ or3 (truth_at left.now lane) (truth_at right.now lane) }
 {
-    match (left[lane], right[lane]) {
-        (Truth::True, _) | (_, Truth::True) => Truth::True,
-        (Truth::Unknown, _) | (_, Truth::Unknown) => Truth::Unknown,
-        (Truth::False, Truth::False) => Truth::False,
-    }
+    or(left[lane], right[lane])
 }
 
 /// OR of each two lanes.

@@ -8,10 +8,9 @@ use Rattle.meaning.specs.declared.catalog.Catalog.{Catalog}
 use Rattle.meaning.specs.declared.catalog.Column.{Column}
 use Rattle.meaning.specs.declared.table.TableFault.{TableFault}
 use Rattle.meaning.specs.declared.table.TableFault.TheVariants as fault
-use Rattle.meaning.specs.Cut.{IsCut}
+use Rattle.meaning.specs.Cut.{IsCut, Cut}
 use Rattle.meaning.specs.Records.{Record, is_header, file_order, unless_few, judged_record}
 use Rattle.meaning.specs.Results.{all_ok, and_then}
-use Rattle.meaning.specs.Table.{Cut}
 use Rattle.columns.specs.Column.{ColumnSpec}
 use Rattle.loader.specs.declared.fault.LoadFault.{LoadFault}
 use Rattle.loader.specs.declared.fault.LoadFault.TheVariants.{Memory, Table, Device}

@@ -33,7 +33,7 @@ by_length : (order : List ℕ) (columns : List Column) (row : ℕ) (fields : Rec
 by_length order columns row fields r true e = by_values order r (file_values columns order row fields) e
 by_length order columns row fields r false e = cc e
 
-long_row : (columns : List Column) (order : List ℕ) (row : ℕ) (fields : Record) (r : Row) → row_of columns order row fields ≡ Ok r → length r ≡ length order
+pub long_row : (columns : List Column) (order : List ℕ) (row : ℕ) (fields : Record) (r : Row) → row_of columns order row fields ≡ Ok r → length r ≡ length order
 long_row columns order row fields r e =
     by_length order columns row fields r (length fields == length columns) e
 

@@ -10,8 +10,7 @@ use Rattle.std.specs.Ordering.{int_cmp, is_eq, ordering_then}
 use Rattle.meaning.specs.declared.value.Value.{Value}
 use Rattle.meaning.specs.declared.value.Value.TheVariants.{Null, Int, Text}
 use Rattle.meaning.specs.contracts.value.ValueOrd.TheImpl as order
-use Rattle.meaning.specs.Order.{value_cmp, value_total, is_null}
-use Rattle.meaning.specs.Gather.{same_value}
+use Rattle.meaning.specs.Order.{value_cmp, value_total, is_null, same_value}
 use Rattle.meaning.specs.Records.{is_repeated}
 use Rattle.loader.specs.Keys.{HoldsKeys}
 

@@ -1,5 +1,6 @@
 -- The lemmas of this crate.
 pub mod CsvRecords
+pub mod Declared
 pub mod DimensionSteps
 pub mod FactSteps
 pub mod Fields

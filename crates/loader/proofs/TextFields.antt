@@ -60,10 +60,6 @@ valued_fields columns (place ∷ order) row (f ∷ fields) values within long e 
       valued_fields columns order row fields vs parts.1 (omega arith) rest,
     )
 
-pub judged_texts : (values : List Value) (columns : List Column) (order : List ℕ) (row : ℕ) (fields : Record) (r : Result (Unit {0}) LoadFault) → IsOrderOf order (length columns) → length fields ≡ length columns → LoadsView (λ _. values) r (file_values columns order row fields) → OnOk r (AllText fields)
-judged_texts values columns order row fields (Ok x) is long told = valued_fields columns order row fields values is.within (is.long ∙ sym long) told
-judged_texts values columns order row fields (Err f) is long told = tt
-
 -- ---- the order of a header's columns
 
 named_within : (p : Column → Bool) (c : Column) (columns : List Column) → unwrap_or (position p (c ∷ columns)) 0 < length (c ∷ columns)
@@ -86,9 +82,9 @@ all_within [] [] long = refl
 all_within [] (field ∷ header) long = absurd (omega arith)
 all_within (c ∷ columns) header long = order_within c columns header
 
-pub order_is : (columns : List Column) (header : Record) (order : List ℕ) → order_of columns header ≡ Ok order → IsOrderOf order (length columns)
+pub order_is : (columns : List Column) (header : Record) (order : List ℕ) → order_of columns header ≡ Ok order → IsOrderOf columns order
 order_is columns header order e =
-    elim (is_header columns header) as (λ b. is_header columns header ≡ b → cond b (Ok (file_order columns header)) (Err fault.Header) ≡ Ok order → IsOrderOf order (length columns)) [
+    elim (is_header columns header) as (λ b. is_header columns header ≡ b → cond b (Ok (file_order columns header)) (Err fault.Header) ≡ Ok order → IsOrderOf columns order) [
       | true ↦ λ t same.
           let parts = and_parts _ _ t in
           let long = eqb-true (length header) (length columns) parts.0 in
@@ -100,7 +96,11 @@ order_is columns header order e =
       | false ↦ λ t wrong. cc wrong
     ] refl e
 
-pub order_told : (columns : List Column) (header : Record) (r : Result FileOrder LoadFault) → LoadsView (λ (o : FileOrder). o.columns.items) r (order_of columns header) → IfOk r (λ o. IsOrderOf o.columns.items (length columns))
+pub judged_texts : (values : List Value) (columns : List Column) (order : List ℕ) (row : ℕ) (fields : Record) (r : Result (Unit {0}) LoadFault) → IsOrderOf columns order → length fields ≡ length columns → LoadsView (λ _. values) r (file_values columns order row fields) → OnOk r (AllText fields)
+judged_texts values columns order row fields (Ok x) is long told = valued_fields columns order row fields values is.within (is.long ∙ sym long) told
+judged_texts values columns order row fields (Err f) is long told = tt
+
+pub order_told : (columns : List Column) (header : Record) (r : Result FileOrder LoadFault) → LoadsView (λ (o : FileOrder). o.columns.items) r (order_of columns header) → IfOk r (λ o. IsOrderOf columns o.columns.items)
 order_told columns header (Ok o) told = order_is columns header o.columns.items told
 order_told columns header (Err f) told = tt
 

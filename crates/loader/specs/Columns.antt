@@ -1,7 +1,10 @@
 -- The columns that rows are kept in.
-use Rattle.std.specs.Prelude.{◌≡◌, ◌<◌, ℕ, Some, length, List, [], ◌∷◌, map, zip, take, drop, Option, find, Result, Ok}
+use Rattle.std.specs.Prelude.{◌≡◌, ◌<◌, ℕ, Bool, Some, length, List, [], ◌∷◌, map, zip, take, drop, Option, is_none, find, Result, Ok}
 use Rattle.std.specs.List.{enumerate_from}
 use Rattle.std.specs.Str.{bytes_eq}
+use Rattle.std.specs.Cmp.Lexicographic.{pointwise}
+use Rattle.meaning.specs.declared.value.ColType.{ColType}
+use Rattle.meaning.specs.declared.value.Value.{Value}
 use Rattle.meaning.specs.declared.catalog.Column.{Column}
 use Rattle.meaning.specs.declared.catalog.Catalog.{Catalog}
 use Rattle.meaning.specs.declared.catalog.Dimension.{Dimension}
@@ -9,12 +12,33 @@ use Rattle.meaning.specs.declared.table.TableFault.{TableFault}
 use Rattle.meaning.specs.Order.{Row, column}
 use Rattle.meaning.specs.Records.{Record, fact_of, dimension_of}
 use Rattle.meaning.specs.Results.{and_then}
-use Rattle.meaning.specs.Table.{Cut}
-use Rattle.columns.specs.Column.{ColumnSpec, with_value}
+use Rattle.meaning.specs.Cut.{Cut}
+use Rattle.columns.specs.Column.{ColumnSpec, with_value, refusal}
 
 -- a declared column with its values from row to row
 abbrev pub column_of : List Row → ℕ × Column → ColumnSpec
 column_of rows p = record { col_type = p.1.col_type; nullable = p.1.nullable; values = map (λ row. column row p.0) rows }
+
+-- a column's type, and whether NULL may stand in it
+abbrev pub Kind : Type 0
+Kind = ColType × Bool
+
+abbrev pub kind_of : ColumnSpec → Kind
+kind_of c = (c.col_type, c.nullable)
+
+abbrev pub declared_kind : Column → Kind
+declared_kind d = (d.col_type, d.nullable)
+
+-- the columns are of the declared kinds, in the order of the catalogue
+abbrev pub AreDeclared : List Column → List ColumnSpec → Type 0
+AreDeclared declared columns = map kind_of columns ≡ map declared_kind declared
+
+-- a value may stand in the column, and each value of a row in its own
+abbrev pub takes : ColumnSpec → Value → Bool
+takes c v = is_none (refusal c.col_type c.nullable v)
+
+abbrev pub take_row : List ColumnSpec → Row → Bool
+take_row columns row = pointwise takes columns row
 
 -- a declared column without rows
 abbrev pub no_rows : Column → ColumnSpec

@@ -1,9 +1,14 @@
 -- The numbers of refusals, and what a call gives beside what is meant.
-use Rattle.std.specs.Prelude.{◌≡◌, ℕ, ⊤, Result, Ok, Err}
+use Rattle.std.specs.Prelude.{◌≡◌, ◌≤◌, ℕ, ⊤, Result, Ok, Err}
 use Rattle.meaning.specs.declared.table.TableFault.{TableFault}
+use Rattle.meaning.specs.declared.table.TableFault.TheVariants.{TooManyRows}
 use Rattle.meaning.specs.Records as records
 use Rattle.loader.specs.declared.fault.LoadFault.{LoadFault}
 use Rattle.loader.specs.declared.fault.LoadFault.TheVariants.{Memory, Table, Device}
+
+-- the most records that are counted: the greatest number of 64 bits
+abbrev pub max_counted : ℕ
+max_counted = 18446744073709551615
 
 abbrev pub number_of : LoadFault → ℕ
 number_of Memory = 0
@@ -15,6 +20,12 @@ abbrev pub IsOutside : LoadFault → Type 0
 IsOutside Memory = ⊤
 IsOutside Device = ⊤
 IsOutside (Table fault) = ⊥
+
+-- out of memory, or the reader failed; or too many rows, which is told of this many records
+abbrev pub IsUncounted : ℕ → LoadFault → Type 0
+IsUncounted records Memory = ⊤
+IsUncounted records Device = ⊤
+IsUncounted records (Table fault) = (fault ≡ TooManyRows) × (max_counted ≤ records)
 
 -- what a call gave, seen by `view`, is what is meant, unless memory runs out or the reader failed
 abbrev pub LoadsView : {X Y : Type 0} → (X → Y) → Result X LoadFault → Result Y TableFault → Type 0

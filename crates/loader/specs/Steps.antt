@@ -1,5 +1,5 @@
 -- The steps from records to columns.
-use Rattle.std.specs.Prelude.{◌≡◌, ℕ, ◌<◌, ◌^◌, ◌+◌, ◌==◌, nat_lt, if◌then◌else◌, List, [], ◌∷◌, map, zip, length, take, drop, sum, position, unwrap_or, Option, Some, Result, Ok, Err, Bool, true, false, ⊤}
+use Rattle.std.specs.Prelude.{◌≡◌, ℕ, ◌<◌, ◌^◌, ◌+◌, ◌==◌, nat_lt, if◌then◌else◌, List, [], ◌∷◌, map, zip, length, take, drop, sum, position, unwrap_or, Option, Some, is_some, Result, Ok, Err, Bool, true, false, ⊤}
 use Rattle.std.specs.List.{range_with_len, enumerate_from, list_all}
 use Rattle.std.specs.Str.Parse.{IsNumeral, digits_value}
 use Rattle.meaning.specs.declared.value.Value.{Value}
@@ -23,14 +23,18 @@ use Rattle.loader.specs.declared.field.Parsed.TheVariants as parsed
 abbrev pub order_of : List Column → Record → Result (List ℕ) TableFault
 order_of columns header = if is_header columns header then Ok (file_order columns header) else Err fault.Header
 
--- a place of one of `count` columns for each of as many fields
-pub record IsOrderOf (order : List ℕ) (count : ℕ) : Type 0 where
-  pub long : length order ≡ count
-  pub within : list_all (λ place. nat_lt place count) order ≡ true
+-- a place of one of the declared columns for each of as many fields
+pub record IsOrderOf (declared : List Column) (order : List ℕ) : Type 0 where
+  pub long : length order ≡ length declared
+  pub within : list_all (λ place. nat_lt place (length declared)) order ≡ true
 
 -- the field of each column, by the columns of the fields
 abbrev pub field_places : List ℕ → List ℕ
 field_places order = map (λ place. unwrap_or (position (λ p. p == place) order) 0) (range_with_len 0 (length order))
+
+-- each column has a field
+abbrev pub has_each : List ℕ → Bool
+has_each order = list_all (λ place. is_some (position (λ p. p == place) order)) (range_with_len 0 (length order))
 
 -- each field is that of the column at the field's place
 abbrev pub is_in_order : List ℕ → Bool

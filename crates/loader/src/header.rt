@@ -1,10 +1,10 @@
 //! The header of a CSV file: which field is which column's.
-ghost use Rattle.std.specs.Prelude.{◌≡◌, ◌==◌, map, count_by, position, unwrap_or, option_map, slice_get, IfOk};
+ghost use Rattle.std.specs.Prelude.{◌≡◌, ◌==◌, true, map, count_by, position, unwrap_or, option_map, slice_get, IfOk};
 ghost use Rattle.std.specs.List.{list_all};
 ghost use Rattle.csv.specs.Records.{fields_of};
 ghost use Rattle.meaning.specs.Records as declared;
 ghost use Rattle.loader.specs.Fault.{LoadsView};
-ghost use Rattle.loader.specs.Steps.{field_places, is_in_order, order_of};
+ghost use Rattle.loader.specs.Steps.{field_places, has_each, is_in_order, order_of};
 
 use crate::fault::LoadFault;
 use csv::{ByteRecord, StringRecord};
@@ -23,6 +23,7 @@ pub struct FileOrder {
     /// Whether the fields have the order of the catalogue.
     pub in_order: bool,
     ghost inverse: { fields.items ≡ field_places columns.items },
+    ghost each: { has_each columns.items ≡ true },
     ghost ordered: { in_order ≡ is_in_order columns.items },
 }
 
@@ -104,6 +105,12 @@ fn field_places(alloc: Global, order: &[usize]) -> Result<Vec<usize>, AllocError
         .collect(alloc)
 }
 
+fn has_each(order: &[usize]) -> bool
+    ensures { result ≡ has_each order.now }
+{
+    (0..order.len()).all(|place| field_of(order, place).is_some())
+}
+
 fn is_in_order(order: &[usize]) -> bool
     ensures { result ≡ is_in_order order.now }
 {
@@ -114,6 +121,11 @@ fn is_in_order(order: &[usize]) -> bool
 fn with_places(alloc: Global, columns: Vec<usize>) -> Result<FileOrder, AllocError>
     ensures { IfOk result (λ order. order.columns.items ≡ columns.items) }
 {
+    if !has_each(&columns) {
+        // Two columns of the catalogue have one name, so no record can stand for a row.
+        drop(columns);
+        return Err(AllocError);
+    }
     let in_order = is_in_order(&columns);
     match field_places(alloc, &columns) {
         Ok(fields) => Ok(FileOrder {

@@ -4,6 +4,7 @@ ghost use Rattle.std.specs.List.{range_with_len};
 ghost use Rattle.std.specs.Str.{is_utf8};
 ghost use Rattle.csv.specs.Records.{AllText, fields_of};
 ghost use Rattle.meaning.specs.Records as records;
+ghost use Rattle.loader.specs.Columns.{AreDeclared};
 ghost use Rattle.loader.specs.Steps.{TakesField, TakesRow};
 
 use crate::fault::LoadFault;
@@ -23,7 +24,8 @@ fn take_field(
     text: &str,
     column: &mut Column,
 ) -> Result<(), LoadFault>
-    requires { is_utf8 text.now ≡ true }
+    requires text { is_utf8 text.now ≡ true }
+    requires declared { (column.old.col_type ≡ declared.now.col_type) × (column.old.nullable ≡ declared.now.nullable) }
     ensures { TakesField (records.field_value row place declared.now text.now) column.old column.new result }
 {
     let parsed = judge_text(row, place, declared, text)?;
@@ -37,7 +39,7 @@ pub fn take_fields(
     fields: &StringRecord,
     columns: &mut [Column],
 ) -> Result<(), LoadFault>
-    requires declared { length columns.old ≡ length declared.now }
+    requires declared { AreDeclared declared.now columns.old }
     requires fields { length (fields_of fields.now) ≡ length declared.now }
     requires texts { AllText (fields_of fields.now) }
     ensures { TakesRow (records.row_of declared.now (range_with_len 0 (length declared.now)) row (fields_of fields.now)) columns.old columns.new result }

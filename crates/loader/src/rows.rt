@@ -1,33 +1,44 @@
 //! Rows behind the last rows of columns.
-ghost use Rattle.std.specs.Prelude.{◌≡◌, length, slice_index_or, OnOk, IfErr};
+ghost use Rattle.std.specs.Prelude.{◌≡◌, ◌≢◌, length, slice_index_or, Some, None, true, OnOk, IfErr};
 ghost use Rattle.csv.specs.Records.{fields_of};
 ghost use Rattle.meaning.specs.declared.value.Value.TheVariants.{Null};
 ghost use Rattle.meaning.specs.Records as declared;
-ghost use Rattle.columns.specs.Column.{with_value};
-ghost use Rattle.loader.specs.Columns.{with_row};
+ghost use Rattle.columns.specs.Column.{with_value, refusal};
+ghost use Rattle.columns.specs.declared.fault.ColumnFault.TheVariants as refused;
+ghost use Rattle.loader.specs.Columns.{take_row, with_row};
 ghost use Rattle.loader.specs.Fault.{IsOutside};
+ghost use Rattle.loader.specs.declared.fault.LoadFault.TheVariants.{Memory};
 ghost use Rattle.loader.specs.Steps.{value_of, values_of};
 
 use crate::fault::LoadFault;
 use crate::field::Parsed;
 use crate::header::{FileOrder, text_at};
-use columns::Column;
+use columns::{Column, ColumnFault};
 use csv::StringRecord;
 
-/// A judged field fits its column. Were it refused all the same, that would be told as out of memory.
 #[inline(always)]
-pub fn push_field(column: &mut Column, parsed: Parsed, text: &str) -> Result<(), LoadFault>
+fn push_parsed(column: &mut Column, parsed: Parsed, text: &str) -> Result<(), ColumnFault>
     ensures ok { OnOk result (column.new ≡ with_value column.old (value_of (parsed, text.now))) }
-    ensures refused { IfErr result IsOutside }
+    ensures told { IfErr result (λ f. f ≢ refused.Memory → refusal column.old.col_type column.old.nullable (value_of (parsed, text.now)) ≡ Some f) }
 {
-    let pushed = match parsed {
+    match parsed {
         Parsed::Null => column.push_null(),
         Parsed::Int(number) => column.push_int(number),
         Parsed::Text => column.push_text(text),
-    };
-    match pushed {
+    }
+}
+
+/// What a judged field stands for, behind the last value of its column.
+#[inline(always)]
+pub fn push_field(column: &mut Column, parsed: Parsed, text: &str) -> Result<(), LoadFault>
+    requires { refusal column.old.col_type column.old.nullable (value_of (parsed, text.now)) ≡ None }
+    ensures ok { OnOk result (column.new ≡ with_value column.old (value_of (parsed, text.now))) }
+    ensures memory { IfErr result (λ f. f ≡ Memory) }
+{
+    match push_parsed(column, parsed, text) {
         Ok(()) => Ok(()),
-        Err(_) => Err(LoadFault::Memory),
+        Err(ColumnFault::Memory) => Err(LoadFault::Memory),
+        Err(_) => unreachable!(),
     }
 }
 
@@ -51,7 +62,8 @@ pub fn push_row(
     parsed: &[Parsed],
     fields: &StringRecord,
 ) -> Result<(), LoadFault>
-    requires { length columns.old ≡ length order.now.fields.items }
+    requires columns { length columns.old ≡ length order.now.fields.items }
+    requires taken { take_row columns.old (declared.catalog_row order.now.columns.items (values_of parsed.now (fields_of fields.now))) ≡ true }
     ensures ok { OnOk result (columns.new ≡ with_row columns.old (declared.catalog_row order.now.columns.items (values_of parsed.now (fields_of fields.now)))) }
     ensures refused { IfErr result IsOutside }
 {

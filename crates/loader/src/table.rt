@@ -7,7 +7,7 @@ ghost use Rattle.meaning.specs.declared.value.Value.TheVariants as of_value;
 ghost use Rattle.meaning.specs.Order.{value_in};
 ghost use Rattle.meaning.specs.Records.{Record};
 ghost use Rattle.meaning.specs.Records as records;
-ghost use Rattle.loader.specs.Columns.{columns_of, no_rows};
+ghost use Rattle.loader.specs.Columns.{AreDeclared, columns_of, no_rows};
 ghost use Rattle.loader.specs.Fault.{IsOutside};
 ghost use Rattle.loader.specs.Keys.{HoldsKeys};
 ghost use Rattle.loader.specs.Source.{IsLeft, csv_records};
@@ -99,14 +99,15 @@ pub fn load_record(
     parsed: &mut Vec<Parsed>,
     columns: &mut [Column],
 ) -> Result<(), LoadFault>
-    requires columns { length columns.old ≡ length order.now.fields.items }
+    requires columns { AreDeclared declared.now columns.old }
+    requires order { IsOrderOf declared.now order.now.columns.items }
     requires texts { AllText (fields_of fields.now) }
     ensures { TakesRow (records.row_of declared.now order.now.columns.items row (fields_of fields.now)) columns.old columns.new result }
 {
     if fields.len() != declared.len() {
         return Err(LoadFault::Table(TableFault::FieldCount { row }));
     }
-    if order.in_order && columns.len() == declared.len() {
+    if order.in_order {
         return take_fields(declared, row, fields, columns);
     }
     judge_texts(declared, &order.columns, row, fields, parsed)?;
@@ -129,7 +130,7 @@ fn check_texts(
     fields: &ByteRecord,
     parsed: &mut Vec<Parsed>,
 ) -> Result<(), LoadFault>
-    requires { IsOrderOf order.now.columns.items (length declared.now) }
+    requires { IsOrderOf declared.now order.now.columns.items }
     ensures texts { OnOk result (AllText (fields_of fields.now)) }
     ensures refused { IfErr result (IsFaultOf (records.row_of declared.now order.now.columns.items row (fields_of fields.now))) }
 {
@@ -152,7 +153,7 @@ pub struct Rows<'c, R> {
     // Room that is used again from record to record.
     fields: ByteRecord,
     parsed: Vec<Parsed>,
-    ghost order_is: { IsOrderOf order.columns.items (length declared.now) },
+    ghost order_is: { IsOrderOf declared.now order.columns.items },
 }
 
 /// The order of the columns that the first record names.
@@ -162,7 +163,7 @@ fn read_header<R: Read>(
     reader: &mut Reader<R>,
     fields: &mut ByteRecord,
 ) -> Result<FileOrder, LoadFault>
-    ensures declared { IfOk result (λ order. IsOrderOf order.columns.items (length declared.now)) }
+    ensures declared { IfOk result (λ order. IsOrderOf declared.now order.columns.items) }
     ensures opened { (rest : List Record) → IsLeft R.remaining reader.old rest
         → Opens (λ order. order.columns.items) (λ _. reader.new) R.remaining declared.now rest result }
 {
@@ -205,8 +206,9 @@ impl<R: Read> Rows<'_, R> {
     /// Puts the row of the record that was read behind the last rows. The record's buffers come back
     /// unless it is refused.
     fn take_record(&mut self, row: u64, columns: &mut [Column]) -> Result<(), LoadFault>
-        requires { length columns.old ≡ length self.old.order.fields.items }
+        requires { AreDeclared self.old.declared.now columns.old }
         ensures declared { self.new.declared.now ≡ self.old.declared.now }
+        ensures kept { OnOk result (AreDeclared self.old.declared.now columns.new) }
         ensures order { self.new.order ≡ self.old.order }
         ensures reader { self.new.reader ≡ self.old.reader }
         ensures taken { TakesRow (records.row_of self.old.declared.now self.old.order.columns.items row (fields_of self.old.fields)) columns.old columns.new result }
@@ -230,8 +232,9 @@ impl<R: Read> Rows<'_, R> {
 
     /// Puts the next record's row behind the last rows, if there is a next record.
     fn next_row(&mut self, row: u64, columns: &mut [Column]) -> Result<bool, LoadFault>
-        requires { length columns.old ≡ length self.old.order.fields.items }
+        requires { AreDeclared self.old.declared.now columns.old }
         ensures declared { self.new.declared.now ≡ self.old.declared.now }
+        ensures kept { OnOk result (AreDeclared self.old.declared.now columns.new) }
         ensures order { self.new.order ≡ self.old.order }
         ensures taken { (rest : List Record) → IsLeft R.remaining self.old.reader rest
             → TakesNextRow R.remaining self.old.declared.now self.old.order.columns.items row rest columns.old columns.new self.new.reader result }
@@ -245,7 +248,7 @@ impl<R: Read> Rows<'_, R> {
 
     /// Puts the rows of so many records behind the last rows. Rows count from `first`.
     fn next_rows(&mut self, first: u64, count: u32, columns: &mut [Column]) -> Result<(), LoadFault>
-        requires columns { length columns.old ≡ length self.old.order.fields.items }
+        requires columns { AreDeclared self.old.declared.now columns.old }
         requires numbers { first + count < 2 ^ 64 }
         ensures declared { self.new.declared.now ≡ self.old.declared.now }
         ensures order { self.new.order ≡ self.old.order }
@@ -342,7 +345,7 @@ impl<R: Read> Rows<'_, R> {
         keys: &mut Keys,
         columns: &mut [Column],
     ) -> Result<(), LoadFault>
-        requires columns { length columns.old ≡ length self.old.order.fields.items }
+        requires columns { AreDeclared self.old.declared.now columns.old }
         requires key { key < length columns.old }
         requires none { HoldsKeys keys.old.present [] }
         ensures taken { (rest : List Record) → IsLeft R.remaining self.old.reader rest
@@ -371,7 +374,7 @@ impl<R: Read> Rows<'_, R> {
         most: u64,
         columns: &mut [Column],
     ) -> Result<(), LoadFault>
-        requires columns { length columns.old ≡ length self.old.order.fields.items }
+        requires columns { AreDeclared self.old.declared.now columns.old }
         requires key { key < length columns.old }
         ensures taken { (rest : List Record) → IsLeft R.remaining self.old.reader rest
             → TakesAll self.old.declared.now self.old.order.columns.items key most rest columns.old columns.new result }

@@ -8,7 +8,7 @@ use Rattle.meaning.specs.declared.answer.Body.{Body}
 use Rattle.meaning.specs.declared.answer.Answer.{Answer}
 use Rattle.meaning.specs.declared.answer.Cell.{Cell}
 use Rattle.meaning.specs.declared.answer.Cell.TheVariants.{Nothing, One, Conflict}
-use Rattle.meaning.specs.Table.{Cut}
+use Rattle.meaning.specs.Cut.{Cut}
 use Rattle.meaning.specs.Gather.{same_body, join_cells, cell_of, said_of, joined}
 use Rattle.meaning.specs.Laws.{SameAnswers}
 use Rattle.meaning.proofs.Same.{body_exact, same_body_itself, same_body-comm}

@@ -11,12 +11,12 @@ use Rattle.meaning.specs.declared.outcome.Outcome.{Outcome}
 use Rattle.meaning.specs.declared.outcome.Outcome.TheVariants as gives
 use Rattle.meaning.specs.declared.joined_row.JoinedRow.{JoinedRow}
 use Rattle.meaning.specs.Operators.{minus_of, arith_of, compare_of, not_of, and_of, or_of, not_if, is_null_of, like_of, between_of, one_of, first_of, cases_of}
-use Rattle.meaning.specs.Expr.{Meaning, node_meaning, arm_meanings, at_row, arms_at, eval, eval_arm}
+use Rattle.meaning.specs.Expr.{Meaning, node_meaning, arm_meanings, at_row, arms_at, eval, eval_arm, with_value, values}
 use Rattle.meaning.specs.References.{Reference, referenced, node_references, arm_references, all_references, columns_used, columns_used_in_arm, columns_used_in_all}
 use Rattle.meaning.specs.ExpressionLaws.{ReadsColumnsUsed, JudgesColumnsUsed}
 use Rattle.meaning.specs.declared.plan.Aggregate.{Aggregate}
 use Rattle.meaning.specs.declared.plan.GroupingKey.{GroupingKey}
-use Rattle.meaning.specs.Judge.{Judged, with_value, values, behind_condition, behind_conditions, keep}
+use Rattle.meaning.specs.Judge.{Judged, behind_condition, behind_conditions, keep}
 
 module _ {X : Type 0} (P : X → Type 0) where
   pub first_part : (xs ys : List X) → AllByRecursion P (xs ++ ys) → AllByRecursion P xs

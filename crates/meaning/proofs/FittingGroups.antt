@@ -27,8 +27,8 @@ use Rattle.meaning.specs.Group.{merge_groups}
 use Rattle.meaning.specs.Answer.{read_off}
 use Rattle.meaning.specs.Gather.{same_statistics}
 use Rattle.meaning.specs.Joined.{group_row}
-use Rattle.meaning.specs.Fitting.{is_of_type, is_extreme, is_key_of, is_state_of, is_group_of, least_integer, greatest_integer, is_sum_of, is_there, is_possible, is_group_possible}
-use Rattle.meaning.specs.Typing.{are_of_types, fits_row_types, result_type, group_types}
+use Rattle.meaning.specs.Typing.{is_of_type, are_of_types, fits_row_types, result_type, group_types}
+use Rattle.meaning.specs.Fitting.{is_extreme, is_key_of, is_state_of, is_group_of, least_integer, greatest_integer, is_sum_of, is_there, is_possible, is_group_possible}
 use Rattle.meaning.proofs.Tests.{first_of, second_of, both}
 use Rattle.meaning.proofs.Same.{statistics_exact}
 use Rattle.meaning.proofs.Merge.{kept_by-merge}

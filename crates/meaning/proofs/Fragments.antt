@@ -5,7 +5,7 @@ use Rattle.std.proofs.Common.{refl, sym, ap, ◌∙◌}
 use Rattle.meaning.specs.declared.plan.Plan.{Plan}
 use Rattle.meaning.specs.declared.answer.RowFault.{RowFault}
 use Rattle.meaning.specs.Order.{Row, lesser, least}
-use Rattle.meaning.specs.Table.{Cut, numbered, fragment, part}
+use Rattle.meaning.specs.Cut.{Cut, numbered, fragment, part}
 use Rattle.meaning.specs.Judge.{row_fault, kept_rows, fault_cmp}
 use Rattle.meaning.proofs.Combine.{row_fault-append, kept_rows-append}
 use Rattle.meaning.proofs.Cuts.{part-all}

@@ -9,7 +9,7 @@ use Rattle.meaning.specs.declared.answer.Answer.{Answer}
 use Rattle.meaning.specs.declared.answer.Cell.{Cell}
 use Rattle.meaning.specs.declared.answer.Cell.TheVariants.{Nothing, One, Conflict}
 use Rattle.meaning.specs.Order.{Row}
-use Rattle.meaning.specs.Table.{Cut, numbered, fragment, part}
+use Rattle.meaning.specs.Cut.{Cut, numbered, fragment, part}
 use Rattle.meaning.specs.Meaning.{meaning}
 use Rattle.meaning.specs.Answer.{own, own_body, combined, output_of}
 use Rattle.meaning.specs.Gather.{same_body, join_cells, cell_of, said_of, joined, is_conflict, is_nothing, body_in, places, conflict, missing, output, unless_empty, preview, report}
@@ -39,11 +39,11 @@ module _ (plan : Plan) (dims : List (List Row)) (cut : Cut) (rows : List Row) wh
   fragments (k ∷ ks) = ap (λ rest. fragment cut k rows ++ rest) (fragments ks)
 
   -- a preview of own answers is the query's meaning over their fragments
-  pub preview-own : (ks : List ℕ) → preview plan (map own_cell ks) ≡ meaning plan (part cut ks rows) dims
+  pub preview-own : (ks : List ℕ) → preview plan (map own_cell ks) ≡ meaning plan dims (part cut ks rows)
   preview-own ks =
       ap (λ bs. output_of plan (combined plan bs)) (bodies_in ks)
       ∙ output_of-combined plan dims (map (λ k. fragment cut k rows) ks)
-      ∙ ap (λ table. meaning plan table dims) (fragments ks)
+      ∙ ap (λ table. meaning plan dims table) (fragments ks)
 
   no_place : (test : Cell → Bool) → ((k : ℕ) → test (own_cell k) ≡ false) → (n : ℕ) (ks : List ℕ)
       → map (λ p. p.0) (filter (λ p. test p.1) (enumerate_from n (map own_cell ks))) ≡ []
@@ -54,7 +54,7 @@ module _ (plan : Plan) (dims : List (List Row)) (cut : Cut) (rows : List Row) wh
       (filter (λ p. test p.1) (enumerate_from (n + 1) (map own_cell ks))))) (none k)
       ∙ no_place test none (n + 1) ks
 
-  pub report-own : (ks : List ℕ) → report plan (map own_cell ks) ≡ output (meaning plan (part cut ks rows) dims)
+  pub report-own : (ks : List ℕ) → report plan (map own_cell ks) ≡ output (meaning plan dims (part cut ks rows))
   report-own ks =
       ap (λ js. unless_empty conflict js
       (unless_empty missing (places is_nothing (map own_cell ks)) (output (preview plan (map own_cell ks)))))
@@ -126,13 +126,13 @@ module _ (plan : Plan) (dims : List (List Row)) (cut : Cut) (rows : List Row) wh
 
     -- the headline: what is reported is the query's meaning over the whole table
     pub report-joined : sum cut ≡ length rows → places is_conflict (joined cut answers)
-        ≡ [] → report plan (joined cut answers) ≡ output (meaning plan (numbered rows) dims)
+        ≡ [] → report plan (joined cut answers) ≡ output (meaning plan dims (numbered rows))
     report-joined whole calm =
         ap (report plan) (own_cells 0 0 (length cut) (omega arith) calm) ∙ report-own (range_with_len 0 (length cut))
-        ∙ ap (λ table. output (meaning plan table dims)) (part-all cut rows whole)
+        ∙ ap (λ table. output (meaning plan dims table)) (part-all cut rows whole)
 
     -- and so is what is printed
     pub text-joined : sum cut ≡ length rows → places is_conflict (joined cut answers)
         ≡ [] → report_text plan (report plan (joined cut answers))
-        ≡ output_text plan (meaning plan (numbered rows) dims)
+        ≡ output_text plan (meaning plan dims (numbered rows))
     text-joined whole calm = ap (report_text plan) (report-joined whole calm)

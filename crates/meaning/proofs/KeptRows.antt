@@ -17,12 +17,14 @@ use Rattle.meaning.specs.declared.plan.GroupingKey.{GroupingKey}
 use Rattle.meaning.specs.declared.plan.Plan.{Plan}
 use Rattle.meaning.specs.Order.{Row}
 use Rattle.meaning.specs.Operators.{code_of}
-use Rattle.meaning.specs.Expr.{eval}
-use Rattle.meaning.specs.Table.{Numbered, combos}
-use Rattle.meaning.specs.Judge.{Judged, with_value, values, behind_condition, behind_conditions, keep, judged, first_fault, pairs, kept_rows}
+use Rattle.meaning.specs.Expr.{eval, with_value, values}
+use Rattle.meaning.specs.Cut.{Numbered}
+use Rattle.meaning.specs.Joined.{combos}
+use Rattle.meaning.specs.Judge.{Judged, behind_condition, behind_conditions, keep, judged, first_fault, pairs, kept_rows}
 use Rattle.meaning.specs.Judge as judge
-use Rattle.meaning.specs.Fitting.{is_of_type, is_key_of}
-use Rattle.meaning.specs.Dimensions.{gives_type, is_argument_of, gives_argument, is_typed_at, is_typed_on, AreDimensionsOf}
+use Rattle.meaning.specs.Typing.{is_of_type, gives_type, is_argument_of, gives_argument, is_typed_at, is_typed_on}
+use Rattle.meaning.specs.Fitting.{is_key_of}
+use Rattle.meaning.specs.Dimensions.{AreDimensionsOf}
 use Rattle.meaning.proofs.Tests.{first_of, second_of, both, all_first, all_rest, all_append}
 use Rattle.meaning.proofs.UniqueKeys.{one_combo}
 

@@ -10,7 +10,7 @@ use Rattle.std.proofs.lemmas.Bool.Decides.{Decides-eqb}
 use Rattle.std.proofs.lemmas.List.{append-nil, length-append}
 use Rattle.std.proofs.lemmas.Slice.Eq.{bytes_eq-Decides, starts_is, ends_is}
 use Rattle.std.proofs.lemmas.Str.{IsUtf8-from_is_utf8, IsUtf8-take, IsCharBoundary-at_seam, IsCharBoundary-start, chars-nil, chars-append, encodes-chars, encodes-append, encode_ascii}
-use Rattle.meaning.specs.Like.{after_any_run, fits, is_like}
+use Rattle.meaning.specs.Like.{after_any_run, characters_fit, is_like}
 use Rattle.meaning.specs.ExpressionLaws.{is_plain, LikeOfBytes}
 use Rattle.meaning.proofs.Tests.{first_of, second_of, both}
 
@@ -27,33 +27,33 @@ not_sign c e =
 record Behind (part more text : List ℕ) : Type 0 where
   rest : List ℕ
   whole : text ≡ part ++ rest
-  there : fits more rest ≡ true
+  there : characters_fit more rest ≡ true
 
 -- behind plain characters the text goes on as the pattern does
-plain-to : (part more text : List ℕ) → is_plain part ≡ true → fits (part ++ more) text ≡ true → Behind part more text
+plain-to : (part more text : List ℕ) → is_plain part ≡ true → characters_fit (part ++ more) text ≡ true → Behind part more text
 plain-to [] more text plain e = record { rest = text; whole = refl; there = e }
 plain-to (p ∷ part) more [] plain e =
     let sign = not_sign p (first_of _ _ plain) in
-    let bad : false ≡ true = ap (λ b. cond b (after_any_run (fits (part ++ more)) []) false) (sym sign.0) ∙ e in
+    let bad : false ≡ true = ap (λ b. cond b (after_any_run (characters_fit (part ++ more)) []) false) (sym sign.0) ∙ e in
     absurd cc
 plain-to (p ∷ part) more (c ∷ text) plain e =
     let sign = not_sign p (first_of _ _ plain) in
-    let here : (((p == 95) || (c == p)) && fits (part ++ more) text)
-    ≡ true = ap (λ b. cond b (after_any_run (fits (part ++ more)) (c ∷ text))
-    (((p == 95) || (c == p)) && fits (part ++ more) text)) (sym sign.0) ∙ e in
+    let here : (((p == 95) || (c == p)) && characters_fit (part ++ more) text)
+    ≡ true = ap (λ b. cond b (after_any_run (characters_fit (part ++ more)) (c ∷ text))
+    (((p == 95) || (c == p)) && characters_fit (part ++ more) text)) (sym sign.0) ∙ e in
     let same : (c == p) ≡ true = ap (λ b. b || (c == p)) (sym sign.1) ∙ first_of _ _ here in
     let later = plain-to part more text (second_of (not ((p == 37) || (p == 95))) (is_plain part) plain)
-    (second_of ((p == 95) || (c == p)) (fits (part ++ more) text) here) in
+    (second_of ((p == 95) || (c == p)) (characters_fit (part ++ more) text) here) in
     record { rest = later.rest; whole = λ i. eqb-true c p same i ∷ later.whole i; there = later.there }
 
-plain-from : (part more rest : List ℕ) → is_plain part ≡ true → fits more rest
-    ≡ true → fits (part ++ more) (part ++ rest) ≡ true
+plain-from : (part more rest : List ℕ) → is_plain part ≡ true → characters_fit more rest
+    ≡ true → characters_fit (part ++ more) (part ++ rest) ≡ true
 plain-from [] more rest plain e = e
 plain-from (p ∷ part) more rest plain e =
     let sign = not_sign p (first_of _ _ plain) in
     let later = plain-from part more rest (second_of (not ((p == 37) || (p == 95))) (is_plain part) plain) e in
-    ap (λ b. cond b (after_any_run (fits (part ++ more)) (p ∷ (part ++ rest)))
-    (((p == 95) || (p == p)) && fits (part ++ more) (part ++ rest))) sign.0
+    ap (λ b. cond b (after_any_run (characters_fit (part ++ more)) (p ∷ (part ++ rest)))
+    (((p == 95) || (p == p)) && characters_fit (part ++ more) (part ++ rest))) sign.0
     ∙ both _ _ (ap (λ b. b || (p == p)) sign.1 ∙ eq-eqb p p refl) later
 
 record Split (test : List ℕ → Bool) (text : List ℕ) : Type 0 where
@@ -81,15 +81,15 @@ run-from test (c ∷ before) after e =
     (λ b. (b || after_any_run test (before ++ after)) ≡ true) [ true ↦ refl | false ↦ run-from test before after e ]
 
 -- `%` at the end takes any rest
-any_rest : (rest : List ℕ) → fits (37 ∷ []) rest ≡ true
+any_rest : (rest : List ℕ) → characters_fit (37 ∷ []) rest ≡ true
 any_rest [] = refl
 any_rest (c ∷ cs) = any_end (c ∷ cs)
   where
-    any_end : (cs : List ℕ) → after_any_run (fits []) cs ≡ true
+    any_end : (cs : List ℕ) → after_any_run (characters_fit []) cs ≡ true
     any_end [] = refl
     any_end (c ∷ cs) = any_end cs
 
-no_rest : (rest : List ℕ) → fits [] rest ≡ true → rest ≡ []
+no_rest : (rest : List ℕ) → characters_fit [] rest ≡ true → rest ≡ []
 no_rest [] e = refl
 no_rest (c ∷ cs) e = cc
 
@@ -159,34 +159,34 @@ module _ (part text : List ℕ) (of_part : IsUtf8 part) (plain : is_plain part �
   part_first : (rest : List ℕ) → chars text ≡ chars part ++ rest → text ≡ part ++ encodes rest
   part_first rest e = bytes_of (chars part) rest e ∙ ap (λ bs. bs ++ encodes rest) (encodes-chars part of_part)
 
-  equal_to : fits (chars part) (chars text) ≡ true → part ≡ text
+  equal_to : characters_fit (chars part) (chars text) ≡ true → part ≡ text
   equal_to e =
       let b = plain-to (chars part) [] (chars text) plain_part
-      (ap (λ ps. fits ps (chars text)) (append-nil (chars part)) ∙ e) in
+      (ap (λ ps. characters_fit ps (chars text)) (append-nil (chars part)) ∙ e) in
       sym (part_first b.rest b.whole ∙ ap (λ r. part ++ encodes r) (no_rest b.rest b.there) ∙ append-nil part)
 
-  equal_from : part ≡ text → fits (chars part) (chars text) ≡ true
+  equal_from : part ≡ text → characters_fit (chars part) (chars text) ≡ true
   equal_from e =
-      ap (λ t. fits (chars part) (chars t)) (sym e)
-      ∙ (λ i. fits (sym (append-nil (chars part)) i) (sym (append-nil (chars part)) i))
+      ap (λ t. characters_fit (chars part) (chars t)) (sym e)
+      ∙ (λ i. characters_fit (sym (append-nil (chars part)) i) (sym (append-nil (chars part)) i))
       ∙ plain-from (chars part) [] [] plain_part refl
 
   -- the part in front
-  prefix_to : fits (chars part ++ 37 ∷ []) (chars text) ≡ true → (rest : List ℕ) × (text ≡ part ++ rest)
+  prefix_to : characters_fit (chars part ++ 37 ∷ []) (chars text) ≡ true → (rest : List ℕ) × (text ≡ part ++ rest)
   prefix_to e = let b = plain-to (chars part) (37 ∷ []) (chars text) plain_part e in
       (encodes b.rest, part_first b.rest b.whole)
 
-  prefix_from : (rest : List ℕ) → text ≡ part ++ rest → fits (chars part ++ 37 ∷ []) (chars text) ≡ true
+  prefix_from : (rest : List ℕ) → text ≡ part ++ rest → characters_fit (chars part ++ 37 ∷ []) (chars text) ≡ true
   prefix_from rest e =
-      ap (λ cs. fits (chars part ++ 37 ∷ []) cs) (ap chars e ∙ chars-append part rest of_part)
+      ap (λ cs. characters_fit (chars part ++ 37 ∷ []) cs) (ap chars e ∙ chars-append part rest of_part)
       ∙ plain-from (chars part) (37 ∷ []) (chars rest) plain_part (any_rest (chars rest))
 
   -- the part at the end
-  suffix_to : after_any_run (fits (chars part)) (chars text) ≡ true → (front : List ℕ) × (text ≡ front ++ part)
+  suffix_to : after_any_run (characters_fit (chars part)) (chars text) ≡ true → (front : List ℕ) × (text ≡ front ++ part)
   suffix_to e =
-      let s = run-to (fits (chars part)) (chars text) e in
+      let s = run-to (characters_fit (chars part)) (chars text) e in
       let b = plain-to (chars part) [] s.after plain_part
-      (ap (λ ps. fits ps s.after) (append-nil (chars part)) ∙ s.passes) in
+      (ap (λ ps. characters_fit ps s.after) (append-nil (chars part)) ∙ s.passes) in
       let after_is : s.after ≡ chars part = b.whole ∙ ap (λ r. chars part ++ r) (no_rest b.rest b.there)
       ∙ append-nil (chars part) in (
         encodes s.before,
@@ -199,17 +199,17 @@ module _ (part text : List ℕ) (of_part : IsUtf8 part) (plain : is_plain part �
       subst IsUtf8 (ap (take (length front)) e ∙ take_front front rest)
       (IsUtf8-take text (length front) of_text (IsCharBoundary-at_seam text front rest e of_rest))
 
-  suffix_from : (front : List ℕ) → text ≡ front ++ part → after_any_run (fits (chars part)) (chars text) ≡ true
+  suffix_from : (front : List ℕ) → text ≡ front ++ part → after_any_run (characters_fit (chars part)) (chars text) ≡ true
   suffix_from front e =
-      ap (after_any_run (fits (chars part))) (ap chars e ∙ chars-append front part (front_utf8 front part e of_part))
-      ∙ run-from (fits (chars part)) (chars front) (chars part)
-      ((λ i. fits (sym (append-nil (chars part)) i) (sym (append-nil (chars part)) i))
+      ap (after_any_run (characters_fit (chars part))) (ap chars e ∙ chars-append front part (front_utf8 front part e of_part))
+      ∙ run-from (characters_fit (chars part)) (chars front) (chars part)
+      ((λ i. characters_fit (sym (append-nil (chars part)) i) (sym (append-nil (chars part)) i))
       ∙ plain-from (chars part) [] [] plain_part refl)
 
   -- the part anywhere
-  within_to : after_any_run (fits (chars part ++ 37 ∷ [])) (chars text) ≡ true → HasSubslice text part
+  within_to : after_any_run (characters_fit (chars part ++ 37 ∷ [])) (chars text) ≡ true → HasSubslice text part
   within_to e =
-      let s = run-to (fits (chars part ++ 37 ∷ [])) (chars text) e in
+      let s = run-to (characters_fit (chars part ++ 37 ∷ [])) (chars text) e in
       let b = plain-to (chars part) (37 ∷ []) s.after plain_part s.passes in (
         encodes s.before,
         encodes b.rest,
@@ -241,22 +241,22 @@ module _ (part text : List ℕ) (of_part : IsUtf8 part) (plain : is_plain part �
       first_byte (x ∷ xs) ys some = refl
 
   within_some : (front rest : List ℕ) → text
-      ≡ front ++ (part ++ rest) → 0 < length part → after_any_run (fits (chars part ++ 37 ∷ [])) (chars text) ≡ true
+      ≡ front ++ (part ++ rest) → 0 < length part → after_any_run (characters_fit (chars part ++ 37 ∷ [])) (chars text) ≡ true
   within_some front rest e some =
       let cut = cut_before front rest e some in
       let of_front : IsUtf8 front = subst IsUtf8 (ap (take (length front)) e ∙ take_front front (part ++ rest))
       (IsUtf8-take text (length front) of_text cut) in
-      ap (after_any_run (fits (chars part ++ 37 ∷ [])))
+      ap (after_any_run (characters_fit (chars part ++ 37 ∷ [])))
       (ap chars e ∙ chars-append front (part ++ rest) of_front
       ∙ ap (λ cs. chars front ++ cs) (chars-append part rest of_part))
-      ∙ run-from (fits (chars part ++ 37 ∷ [])) (chars front) (chars part ++ chars rest)
+      ∙ run-from (characters_fit (chars part ++ 37 ∷ [])) (chars front) (chars part ++ chars rest)
       (plain-from (chars part) (37 ∷ []) (chars rest) plain_part (any_rest (chars rest)))
 
-  within_from : HasSubslice text part → after_any_run (fits (chars part ++ 37 ∷ [])) (chars text) ≡ true
+  within_from : HasSubslice text part → after_any_run (characters_fit (chars part ++ 37 ∷ [])) (chars text) ≡ true
   within_from (front, rest, e) =
       elim (some_or_none part) [
-        | inl none ↦ ap (λ cs. after_any_run (fits (cs ++ 37 ∷ [])) (chars text)) (ap chars none ∙ chars-nil)
-            ∙ run-from (fits (37 ∷ [])) [] (chars text) (any_rest (chars text))
+        | inl none ↦ ap (λ cs. after_any_run (characters_fit (cs ++ 37 ∷ [])) (chars text)) (ap chars none ∙ chars-nil)
+            ∙ run-from (characters_fit (37 ∷ [])) [] (chars text) (any_rest (chars text))
         | inr some ↦ within_some front rest e some
       ]
     where
@@ -279,20 +279,20 @@ module _ (part text : List ℕ) (of_part : IsUtf8 part) (plain : is_plain part �
       let both_signs : chars (37 ∷ (part ++ 37 ∷ []))
       ≡ 37 ∷ (chars part ++ 37 ∷ []) = sign_before (part ++ 37 ∷ []) ∙ ap (λ cs. 37 ∷ cs) behind_sign in
       record {
-        equal = same_test (fits (chars part) (chars text)) (bytes_eq part text) (λ e. same.1 (equal_to e))
+        equal = same_test (characters_fit (chars part) (chars text)) (bytes_eq part text) (λ e. same.1 (equal_to e))
             (λ e. equal_from (same.0 e));
-        prefix = ap (λ ps. fits ps (chars text)) behind_sign
-            ∙ same_test (fits (chars part ++ 37 ∷ []) (chars text)) (starts_with nat_eq text part)
+        prefix = ap (λ ps. characters_fit ps (chars text)) behind_sign
+            ∙ same_test (characters_fit (chars part ++ 37 ∷ []) (chars text)) (starts_with nat_eq text part)
             (λ e. let found = prefix_to e in starts.1 found.0 found.1)
             (λ e. prefix_from (drop (length part) text) (starts.0 e));
-        suffix = ap (λ ps. fits ps (chars text)) (sign_before part)
-            ∙ same_test (after_any_run (fits (chars part)) (chars text)) (ends_with nat_eq text part)
+        suffix = ap (λ ps. characters_fit ps (chars text)) (sign_before part)
+            ∙ same_test (after_any_run (characters_fit (chars part)) (chars text)) (ends_with nat_eq text part)
             (λ e. let found = suffix_to e in ends.1 found.0 found.1)
             (λ e. suffix_from (take (length text - length part) text) (ends.0 e));
         within = (
-          λ e. within_to (ap (λ ps. fits ps (chars text)) (sym both_signs) ∙ e),
+          λ e. within_to (ap (λ ps. characters_fit ps (chars text)) (sym both_signs) ∙ e),
           λ has. ap
-              (λ ps. fits ps (chars text)) both_signs ∙ within_from has,
+              (λ ps. characters_fit ps (chars text)) both_signs ∙ within_from has,
         );
       }
 

@@ -23,11 +23,11 @@ use Rattle.meaning.specs.Limits.{max_rows}
 use Rattle.meaning.specs.Catalog.{IsWellFormed, IsWellFormedTable}
 use Rattle.meaning.specs.Order.{Row, is_null}
 use Rattle.meaning.specs.Expr.{eval}
-use Rattle.meaning.specs.Joined.{joined_row}
-use Rattle.meaning.specs.Table.{Cut, numbered, first_row, fragment, choices, is_joined, combos}
-use Rattle.meaning.specs.Dimensions.{IsUniqueIn, AreDimensionsOf, gives_type, is_taken_by, gives_argument, is_typed_at, is_typed_on}
+use Rattle.meaning.specs.Joined.{joined_row, choices, is_joined, combos}
+use Rattle.meaning.specs.Cut.{Cut, numbered, first_row, fragment}
+use Rattle.meaning.specs.Dimensions.{IsUniqueIn, AreDimensionsOf}
+use Rattle.meaning.specs.Typing.{gives_type, is_taken_by, gives_argument, is_typed_at, is_typed_on, Valued, RowTypes, are_of_types, fits_row_types, gives_expr_type, has_type}
 use Rattle.meaning.specs.Records.{Record, dimension_of}
-use Rattle.meaning.specs.Typing.{Valued, RowTypes, are_of_types, fits_row_types, gives_expr_type, has_type}
 use Rattle.meaning.specs.TableLaws.{is_value_of, are_rows_of, column_types, joined_types, AreJoined, IsTypedAggregate, IsTypedPlan, AreLoaded, LoadedTablesServe}
 use Rattle.meaning.proofs.Tests.{first_of, second_of, both, all_first, all_rest, all_imply, all_filter, all_map, all_flat_map}
 use Rattle.meaning.proofs.Evaluation.{eval-Literal}

@@ -25,7 +25,7 @@ use Rattle.meaning.specs.Limits.{max_text_bytes}
 use Rattle.meaning.specs.Catalog.{begins_name, continues_name, has_name_form, IsName, IsWellFormedTable}
 use Rattle.meaning.specs.Order.{Row, is_null}
 use Rattle.meaning.specs.Operators.{fits_i64}
-use Rattle.meaning.specs.Fitting.{is_of_type}
+use Rattle.meaning.specs.Typing.{is_of_type}
 use Rattle.meaning.specs.Results.{with_result, all_ok, and_then}
 use Rattle.meaning.specs.Records.{Record, names, is_header, file_order, spells_null, integer_value, present_value, not_null_value, value_at, file_values, catalog_row, row_of}
 use Rattle.meaning.specs.TableLaws.{is_value_of}

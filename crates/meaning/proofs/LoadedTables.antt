@@ -13,8 +13,7 @@ use Rattle.meaning.specs.declared.catalog.Column.{Column}
 use Rattle.meaning.specs.declared.catalog.Table.{Table}
 use Rattle.meaning.specs.declared.table.TableFault.{TableFault}
 use Rattle.meaning.specs.Catalog.{IsWellFormedTable}
-use Rattle.meaning.specs.Order.{Row, column, is_null, value_cmp}
-use Rattle.meaning.specs.Gather.{same_value}
+use Rattle.meaning.specs.Order.{Row, column, is_null, value_cmp, same_value}
 use Rattle.meaning.specs.Dimensions.{IsUniqueIn}
 use Rattle.meaning.specs.Results.{all_ok, and_then}
 use Rattle.meaning.specs.Records.{Record, is_header, file_order, row_of, key_of, is_repeated, unless_repeated, judged_record, unless_few, table_of}

@@ -19,12 +19,14 @@ use Rattle.meaning.specs.declared.answer.Group.{Group}
 use Rattle.meaning.specs.declared.answer.Body.{Body}
 use Rattle.meaning.specs.declared.answer.Body.TheVariants.{Groups}
 use Rattle.meaning.specs.Order.{Row, column, row_cmp, least, lesser, is_ascending, placed_once, ascending_set}
-use Rattle.meaning.specs.Table.{Cut, Numbered, numbered, first_row, fragment, combos}
+use Rattle.meaning.specs.Cut.{Cut, Numbered, numbered, first_row, fragment}
+use Rattle.meaning.specs.Joined.{combos}
 use Rattle.meaning.specs.Judge.{fault_cmp, first_fault, judged, row_faults, row_fault, kept_rows}
 use Rattle.meaning.specs.Group.{beside, certain_keys, groups, group_of}
 use Rattle.meaning.specs.Answer.{body_of, own}
-use Rattle.meaning.specs.Fitting.{is_of_type, is_key_of, is_state_of, is_group_of, is_shaped, is_possible, is_group_possible, are_rows_possible, is_fault_possible, are_keys_ascending, are_numbers_possible, fits}
-use Rattle.meaning.specs.Dimensions.{is_argument_of, is_typed_at, is_typed_on, AreDimensionsOf}
+use Rattle.meaning.specs.Typing.{is_of_type, is_argument_of, is_typed_at, is_typed_on}
+use Rattle.meaning.specs.Fitting.{is_key_of, is_state_of, is_group_of, is_shaped, is_possible, is_group_possible, are_rows_possible, is_fault_possible, are_keys_ascending, are_numbers_possible, fits}
+use Rattle.meaning.specs.Dimensions.{AreDimensionsOf}
 use Rattle.meaning.proofs.Orders.{row_total, row_exact}
 use Rattle.meaning.proofs.Sets.{any-ascending_set, filter-ascending_set, is_ascending-ascending_set}
 use Rattle.meaning.proofs.Groups.{entries_of, state_of, states_of, list_any-append}

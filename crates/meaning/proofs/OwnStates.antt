@@ -10,7 +10,7 @@ use Rattle.meaning.specs.declared.answer.Answer.{Answer}
 use Rattle.meaning.specs.declared.answer.Cell.{Cell}
 use Rattle.meaning.specs.declared.answer.Cell.TheVariants.{Nothing, One, Conflict}
 use Rattle.meaning.specs.Order.{Row}
-use Rattle.meaning.specs.Table.{Cut, numbered, fragment, part}
+use Rattle.meaning.specs.Cut.{Cut, numbered, fragment, part}
 use Rattle.meaning.specs.Meaning.{meaning}
 use Rattle.meaning.specs.Answer.{own, own_body, combined, output_of}
 use Rattle.meaning.specs.Gather.{join_cells, cell_of, said_of, joined, body_in, is_one, places, output, preview, report}
@@ -80,12 +80,12 @@ module _ (plan : Plan) (dims : List (List Row)) (cut : Cut) (rows : List Row) wh
 
   -- the preview of some fragments' own answers is the meaning over their rows
   pub preview-joined : (ks : List ℕ) → preview plan (joined cut (answers ks))
-      ≡ meaning plan (part cut (among cut ks) rows) dims
+      ≡ meaning plan dims (part cut (among cut ks) rows)
   preview-joined ks =
       ap (preview plan) (joined-own ks (range_with_len 0 (length cut)))
       ∙ ap (λ bs. output_of plan (combined plan bs)) (bodies-own ks (range_with_len 0 (length cut)))
       ∙ output_of-combined plan dims (map (λ k. fragment cut k rows) (among cut ks))
-      ∙ ap (λ table. meaning plan table dims) (fragments (among cut ks))
+      ∙ ap (λ table. meaning plan dims table) (fragments (among cut ks))
 
   -- ---- all fragments
 
@@ -111,12 +111,12 @@ module _ (plan : Plan) (dims : List (List Row)) (cut : Cut) (rows : List Row) wh
 
   -- the report of every fragment's own answer is the meaning of the whole table
   pub report-own_answers : sum cut ≡ length rows → report plan (joined cut (answers (range_with_len 0 (length cut))))
-      ≡ output (meaning plan (numbered rows) dims)
+      ≡ output (meaning plan dims (numbered rows))
   report-own_answers whole =
       ap (report plan) (joined-own (range_with_len 0 (length cut)) (range_with_len 0 (length cut))
       ∙ all_own (length cut) 0 (length cut) (omega arith))
       ∙ report-own plan dims cut rows (range_with_len 0 (length cut))
-      ∙ ap (λ table. output (meaning plan table dims)) (part-all cut rows whole)
+      ∙ ap (λ table. output (meaning plan dims table)) (part-all cut rows whole)
 
   -- ---- any state whose One cells hold own answers
 
@@ -144,9 +144,9 @@ module _ (plan : Plan) (dims : List (List Row)) (cut : Cut) (rows : List Row) wh
   -- the preview of such a state is the meaning over the rows of the fragments that hold one answer
   pub preview-cells : (cells : List Cell)
       → ((k : ℕ) (b : Body) → slice_get cells k ≡ Some (One b) → b ≡ own_body plan dims (fragment cut k rows))
-      → preview plan cells ≡ meaning plan (part cut (places is_one cells) rows) dims
+      → preview plan cells ≡ meaning plan dims (part cut (places is_one cells) rows)
   preview-cells cells own =
       ap (λ bs. output_of plan (combined plan bs))
       (bodies_of-own 0 cells (λ k b at. let first : k ≡ 0 + k = omega arith in own k b at ∙ ap own_at first))
       ∙ output_of-combined plan dims (map (λ k. fragment cut k rows) (places is_one cells))
-      ∙ ap (λ table. meaning plan table dims) (fragments (places is_one cells))
+      ∙ ap (λ table. meaning plan dims table) (fragments (places is_one cells))

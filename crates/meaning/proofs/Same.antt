@@ -15,24 +15,14 @@ use Rattle.meaning.specs.declared.answer.Statistics.{Statistics}
 use Rattle.meaning.specs.declared.answer.Group.{Group}
 use Rattle.meaning.specs.declared.answer.Body.{Body}
 use Rattle.meaning.specs.declared.answer.Body.TheVariants.{Groups, Fault}
-use Rattle.meaning.specs.Gather.{same_value, same_statistics, same_group, same_body}
+use Rattle.meaning.specs.Order.{same_value}
+use Rattle.meaning.specs.Gather.{same_statistics, same_group, same_body}
+use Rattle.meaning.proofs.Tests.{first_of, second_of, both}
 use Rattle.meaning.proofs.Orders.{value_total, value_exact}
 
 -- a test that answers true exactly of equal values
 abbrev pub IsExact : {X : Type 0} → (X → X → Bool) → Type 0
 IsExact {X} same = (x y : X) → Decides (same x y) (x ≡ y)
-
-first_of_two : (a b : Bool) → (a && b) ≡ true → a ≡ true
-first_of_two true b e = refl
-first_of_two false b e = e
-
-second_of_two : (a b : Bool) → (a && b) ≡ true → b ≡ true
-second_of_two true b e = e
-second_of_two false b e = cc
-
-both_true : (a b : Bool) → a ≡ true → b ≡ true → (a && b) ≡ true
-both_true true b p q = q
-both_true false b p q = p
 
 cmp_exact : {X : Type 0} {cmp : X → X → Ordering} → IsTotalOrder cmp → IsAntisymmetric cmp → IsExact (eq_by_cmp cmp)
 cmp_exact {cmp = cmp} o exact x y =
@@ -58,45 +48,45 @@ nat_exact m n = (eqb-true m n, eq-eqb m n)
 
 equal_statistics : (a b : Statistics) → same_statistics a b ≡ true → a ≡ b
 equal_statistics a b e =
-    let e2 = second_of_two _ _ e in
-    let e3 = second_of_two _ _ e2 in
-    let counts = (nat_exact a.count b.count).0 (first_of_two _ _ e) in
-    let sums = (int_exact a.sum b.sum).0 (first_of_two _ _ e2) in
-    let leasts = (maybe_value_exact a.least b.least).0 (first_of_two _ _ e3) in
-    let greatests = (maybe_value_exact a.greatest b.greatest).0 (second_of_two _ _ e3) in
+    let e2 = second_of _ _ e in
+    let e3 = second_of _ _ e2 in
+    let counts = (nat_exact a.count b.count).0 (first_of _ _ e) in
+    let sums = (int_exact a.sum b.sum).0 (first_of _ _ e2) in
+    let leasts = (maybe_value_exact a.least b.least).0 (first_of _ _ e3) in
+    let greatests = (maybe_value_exact a.greatest b.greatest).0 (second_of _ _ e3) in
     λ i. record { count = counts i; sum = sums i; least = leasts i; greatest = greatests i }
 
 pub statistics_exact : IsExact same_statistics
 statistics_exact a b = (
   equal_statistics a b,
   λ e.
-      both_true _ _ ((nat_exact a.count b.count).1 (ap (λ s. s.count) e))
-      (both_true _ _ ((int_exact a.sum b.sum).1 (ap (λ s. s.sum) e))
-      (both_true _ _ ((maybe_value_exact a.least b.least).1 (ap (λ s. s.least) e))
+      both _ _ ((nat_exact a.count b.count).1 (ap (λ s. s.count) e))
+      (both _ _ ((int_exact a.sum b.sum).1 (ap (λ s. s.sum) e))
+      (both _ _ ((maybe_value_exact a.least b.least).1 (ap (λ s. s.least) e))
       ((maybe_value_exact a.greatest b.greatest).1 (ap (λ s. s.greatest) e)))),
 )
 
 equal_groups : (a b : Group) → same_group a b ≡ true → a ≡ b
 equal_groups a b e =
-    let e2 = second_of_two _ _ e in
-    let keys = (pointwise_decides value_same a.key b.key).0 (first_of_two _ _ e) in
-    let rows = (nat_exact a.rows b.rows).0 (first_of_two _ _ e2) in
-    let states = (pointwise_decides statistics_exact a.states b.states).0 (second_of_two _ _ e2) in
+    let e2 = second_of _ _ e in
+    let keys = (pointwise_decides value_same a.key b.key).0 (first_of _ _ e) in
+    let rows = (nat_exact a.rows b.rows).0 (first_of _ _ e2) in
+    let states = (pointwise_decides statistics_exact a.states b.states).0 (second_of _ _ e2) in
     λ i. record { key = keys i; rows = rows i; states = states i }
 
 group_exact : IsExact same_group
 group_exact a b = (
   equal_groups a b,
   λ e.
-      both_true _ _ ((pointwise_decides value_same a.key b.key).1 (ap (λ g. g.key) e))
-      (both_true _ _ ((nat_exact a.rows b.rows).1 (ap (λ g. g.rows) e))
+      both _ _ ((pointwise_decides value_same a.key b.key).1 (ap (λ g. g.key) e))
+      (both _ _ ((nat_exact a.rows b.rows).1 (ap (λ g. g.rows) e))
       ((pointwise_decides statistics_exact a.states b.states).1 (ap (λ g. g.states) e))),
 )
 
 equal_faults : (f g : RowFault) → ((f.row == g.row) && (f.code == g.code)) ≡ true → f ≡ g
 equal_faults f g e =
-    let rows = (nat_exact f.row g.row).0 (first_of_two _ _ e) in
-    let codes = (nat_exact f.code g.code).0 (second_of_two _ _ e) in
+    let rows = (nat_exact f.row g.row).0 (first_of _ _ e) in
+    let codes = (nat_exact f.code g.code).0 (second_of _ _ e) in
     λ i. record { row = rows i; code = codes i }
 
 pub body_exact : IsExact same_body
@@ -108,7 +98,7 @@ body_exact (Fault f) (Fault g) = (
   λ e. ap Fault (equal_faults f g e),
   λ e.
       let same : f ≡ g = cc in
-      both_true _ _ ((nat_exact f.row g.row).1 (ap (λ h. h.row) same))
+      both _ _ ((nat_exact f.row g.row).1 (ap (λ h. h.row) same))
       ((nat_exact f.code g.code).1 (ap (λ h. h.code) same)),
 )
 

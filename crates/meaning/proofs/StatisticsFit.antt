@@ -19,8 +19,8 @@ use Rattle.meaning.specs.declared.plan.Aggregate.{Aggregate}
 use Rattle.meaning.specs.declared.answer.Statistics.{Statistics}
 use Rattle.meaning.specs.Order.{is_null, number, lesser, least, value_cmp}
 use Rattle.meaning.specs.Aggregate.{present, total, down_cmp, statistics, kept_by}
-use Rattle.meaning.specs.Fitting.{is_of_type, is_extreme, is_state_of, least_integer, greatest_integer, is_sum_of, is_there, is_possible}
-use Rattle.meaning.specs.Dimensions.{is_taken_by, is_argument_of}
+use Rattle.meaning.specs.Typing.{is_of_type, is_taken_by, is_argument_of}
+use Rattle.meaning.specs.Fitting.{is_extreme, is_state_of, least_integer, greatest_integer, is_sum_of, is_there, is_possible}
 use Rattle.meaning.proofs.Same.{statistics_exact}
 use Rattle.meaning.proofs.Tests.{first_of, second_of, both, all_first, all_rest, all_imply}
 

@@ -25,8 +25,7 @@ use Rattle.meaning.specs.declared.joined_row.JoinedRow.{JoinedRow}
 use Rattle.meaning.specs.Order.{Row, column}
 use Rattle.meaning.specs.Operators.{fits_i64, or_overflow, fitted, of_integers, minus_of, arith_of, compare_of, not_of, and_of, or_of, not_if, is_null_of, like_of, one_of, first_of, coalesce_of, case_of, cases_of}
 use Rattle.meaning.specs.Expr.{Meaning, node_meaning, arm_meanings, at_row, arms_at, eval, eval_arm}
-use Rattle.meaning.specs.Fitting.{is_of_type}
-use Rattle.meaning.specs.Typing.{ExprType, Valued, Boolean, RowTypes, are_of_types, fits_row_types, gives_expr_type, same_type, Typing, is_integer, is_boolean, is_column_type, is_literal_type, arm_typing, node_typing, has_type, arm_types}
+use Rattle.meaning.specs.Typing.{is_of_type, ExprType, Valued, Boolean, RowTypes, are_of_types, fits_row_types, gives_expr_type, same_type, Typing, is_integer, is_boolean, is_column_type, is_literal_type, arm_typing, node_typing, has_type, arm_types}
 use Rattle.meaning.proofs.Tests.{first_of as left_of, second_of as right_of}
 
 -- ---- operators
@@ -34,8 +33,8 @@ use Rattle.meaning.proofs.Tests.{first_of as left_of, second_of as right_of}
 abbrev is_truth : Outcome → Type 0
 is_truth o = gives_expr_type Boolean o ≡ true
 
-abbrev is_value_of : ColType → Outcome → Type 0
-is_value_of kind o = gives_expr_type (Valued kind) o ≡ true
+abbrev gives_value_of : ColType → Outcome → Type 0
+gives_value_of kind o = gives_expr_type (Valued kind) o ≡ true
 
 not_truth : (o : Outcome) → is_truth (not_of o)
 not_truth (gives.Value v) = refl
@@ -99,23 +98,23 @@ one_truth : (x : Outcome) (list : List Outcome) → is_truth (one_of x list)
 one_truth x [] = refl
 one_truth x (a ∷ more) = or_truth (compare_of Equal x a) (one_of x more)
 
-fitted_integer : (n : ℤ) → is_value_of of_type.Int (fitted n)
+fitted_integer : (n : ℤ) → gives_value_of of_type.Int (fitted n)
 fitted_integer n = elim (fits_i64 n) as
     (λ b. fits_i64 n ≡ b → gives_expr_type (Valued of_type.Int) (or_overflow (cond b (Some n) None))
     ≡ true) [ true ↦ λ e. e | false ↦ λ e. refl ] refl
 
-divided_integer : (b : Bool) (o : Outcome) → is_value_of of_type.Int o
-    → is_value_of of_type.Int (cond b (gives.Fault DivisionByZero) o)
+divided_integer : (b : Bool) (o : Outcome) → gives_value_of of_type.Int o
+    → gives_value_of of_type.Int (cond b (gives.Fault DivisionByZero) o)
 divided_integer true o is = refl
 divided_integer false o is = is
 
-operated_integer : (op : ArithmeticOperator) (m n : ℤ) → is_value_of of_type.Int (of_integers op m n)
+operated_integer : (op : ArithmeticOperator) (m n : ℤ) → gives_value_of of_type.Int (of_integers op m n)
 operated_integer Add m n = fitted_integer (m +ℤ n)
 operated_integer Subtract m n = fitted_integer (m -ℤ n)
 operated_integer Multiply m n = fitted_integer (m *ℤ n)
 operated_integer Divide m n = divided_integer (int_eq n (pos 0)) (fitted (int_div m n)) (fitted_integer (int_div m n))
 
-arith_integer : (op : ArithmeticOperator) (a b : Outcome) → is_value_of of_type.Int (arith_of op a b)
+arith_integer : (op : ArithmeticOperator) (a b : Outcome) → gives_value_of of_type.Int (arith_of op a b)
 arith_integer op (gives.Fault f) b = refl
 arith_integer op (gives.Truth t) (gives.Fault f) = refl
 arith_integer op (gives.Truth t) (gives.Truth u) = refl
@@ -130,7 +129,7 @@ arith_integer op (gives.Value (Int m)) (gives.Value (Int n)) = operated_integer 
 arith_integer op (gives.Value (Int m)) (gives.Value (Text t)) = refl
 arith_integer op (gives.Value (Text t)) (gives.Value v) = refl
 
-minus_integer : (a : Outcome) → is_value_of of_type.Int (minus_of a)
+minus_integer : (a : Outcome) → gives_value_of of_type.Int (minus_of a)
 minus_integer (gives.Fault f) = refl
 minus_integer (gives.Truth t) = refl
 minus_integer (gives.Value Null) = refl
@@ -138,15 +137,15 @@ minus_integer (gives.Value (Int n)) = fitted_integer (neg_ℤ n)
 minus_integer (gives.Value (Text t)) = refl
 
 -- a value that is not read past the first that is not NULL
-coalesced : (kind : ColType) (a b : Outcome) → is_value_of kind a → is_value_of kind b
-    → is_value_of kind (coalesce_of a b)
+coalesced : (kind : ColType) (a b : Outcome) → gives_value_of kind a → gives_value_of kind b
+    → gives_value_of kind (coalesce_of a b)
 coalesced kind (gives.Value Null) b left right = right
 coalesced kind (gives.Value (Int n)) b left right = left
 coalesced kind (gives.Value (Text t)) b left right = left
 coalesced kind (gives.Truth t) b left right = left
 coalesced kind (gives.Fault f) b left right = left
 
-chosen : (kind : ColType) (c a b : Outcome) → is_value_of kind a → is_value_of kind b → is_value_of kind (case_of c a b)
+chosen : (kind : ColType) (c a b : Outcome) → gives_value_of kind a → gives_value_of kind b → gives_value_of kind (case_of c a b)
 chosen kind (gives.Fault f) a b left right = refl
 chosen kind (gives.Truth True) a b left right = left
 chosen kind (gives.Truth False) a b left right = right
@@ -190,7 +189,7 @@ literal_fits v (Valued kind) e = e
 literal_fits v Boolean e = cc
 
 integer_only : (type : ExprType) (test : Bool) (o : Outcome) → (is_integer type && test)
-    ≡ true → is_value_of of_type.Int o → gives_expr_type type o ≡ true
+    ≡ true → gives_value_of of_type.Int o → gives_expr_type type o ≡ true
 integer_only (Valued of_type.Int) test o e is = is
 integer_only (Valued of_type.Text) test o e is = cc
 integer_only Boolean test o e is = cc
@@ -224,15 +223,15 @@ module _ (types : RowTypes) (r : JoinedRow) (fits : fits_row_types types r ≡ t
 
   first_typed : (kind : ColType) (es : List TypedExpr)
       → list_all (λ (part : Typing). part (Valued kind)) (map (has_type types) (map (λ e. e.0) es))
-      ≡ true → is_value_of kind (first_of (at_row r (map eval (map (λ e. e.0) es))))
+      ≡ true → gives_value_of kind (first_of (at_row r (map eval (map (λ e. e.0) es))))
   first_typed kind [] e = refl
   first_typed kind (x ∷ es) e = coalesced kind (eval x.0 r) _ (x.1 (Valued kind) (left_of _ _ e))
       (first_typed kind es (right_of _ _ e))
 
   cases_typed : (kind : ColType) (es : List TypedArm) (otherwise : Outcome)
       → list_all (λ (arm : Typing × Typing). arm.0 Boolean && arm.1 (Valued kind))
-      (map (arm_types types) (map (λ a. a.0) es)) ≡ true → is_value_of kind otherwise
-      → is_value_of kind (cases_of (arms_at r (map eval_arm (map (λ a. a.0) es))) otherwise)
+      (map (arm_types types) (map (λ a. a.0) es)) ≡ true → gives_value_of kind otherwise
+      → gives_value_of kind (cases_of (arms_at r (map eval_arm (map (λ a. a.0) es))) otherwise)
   cases_typed kind [] otherwise e is = is
   cases_typed kind (a ∷ es) otherwise e is =
       chosen kind ((eval_arm a.0).0 r) ((eval_arm a.0).1 r) _ (a.1 (Valued kind) (right_of _ _ (left_of _ _ e)))

@@ -18,7 +18,7 @@ use Rattle.meaning.specs.declared.plan.TableUse.{TableUse}
 use Rattle.meaning.specs.declared.plan.GroupingKey.{GroupingKey}
 use Rattle.meaning.specs.declared.plan.Aggregate.{Aggregate}
 use Rattle.meaning.specs.Order.{Row}
-use Rattle.meaning.specs.Table.{Cut, numbered}
+use Rattle.meaning.specs.Cut.{Cut, numbered}
 use Rattle.meaning.specs.Meaning.{meaning}
 use Rattle.meaning.specs.Answer.{own}
 use Rattle.meaning.specs.Gather.{report, joined}
@@ -114,7 +114,7 @@ listing keys items = record (totals [] items) { keys = keys; plain = true }
 
 -- the query over the whole table
 abbrev pub whole : Plan → List Row → List (List Row) → List ℕ
-whole plan rows dims = output_text plan (meaning plan (numbered rows) dims)
+whole plan rows dims = output_text plan (meaning plan dims (numbered rows))
 
 -- the query over fragments, each of which answers
 abbrev pub gathered : Plan → List Row → List (List Row) → Cut → List ℕ

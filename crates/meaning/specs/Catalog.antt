@@ -23,14 +23,14 @@ has_name_form [] = false
 has_name_form (b ∷ bs) = begins_name b && list_all continues_name bs
 
 -- the error code of a refusal
-abbrev pub catalog_fault_number : CatalogFault → ℕ
-catalog_fault_number Memory = 0
-catalog_fault_number NotUtf8 = 1
-catalog_fault_number (UnknownLine line) = 2
-catalog_fault_number (NameTwice line) = 3
-catalog_fault_number NotOneFact = 4
-catalog_fault_number UnfitKey = 5
-catalog_fault_number OverLimit = 6
+abbrev pub number_of : CatalogFault → ℕ
+number_of Memory = 0
+number_of NotUtf8 = 1
+number_of (UnknownLine line) = 2
+number_of (NameTwice line) = 3
+number_of NotOneFact = 4
+number_of UnfitKey = 5
+number_of OverLimit = 6
 
 -- a word that can be a name, of any length
 abbrev pub is_name : List ℕ → Bool

@@ -1,5 +1,6 @@
 -- What an expression gives on a row: a value, a truth or a fault.
-use Rattle.std.specs.Prelude.{List, map}
+use Rattle.std.specs.Prelude.{ℕ, List, [], ◌∷◌, map, Result, Ok, Err}
+use Rattle.meaning.specs.declared.value.Value.TheVariants.{Null}
 use Rattle.meaning.specs.declared.outcome.Outcome.{Outcome}
 use Rattle.meaning.specs.declared.outcome.Outcome.TheVariants as gives
 use Rattle.meaning.specs.declared.expr.Expr.{Expr}
@@ -7,10 +8,10 @@ use Rattle.meaning.specs.declared.expr.Expr.TheOpen as node
 use Rattle.meaning.specs.declared.expr.Expr.TheOpen.{Expr-F, Arm-F}
 use Rattle.meaning.specs.declared.expr.Expr.TheFolds.{fold-Expr, fold-Arm}
 use Rattle.meaning.specs.declared.expr.Arm.{Arm}
-use Rattle.meaning.specs.Order.{column}
+use Rattle.meaning.specs.Order.{Row, column}
 use Rattle.meaning.specs.declared.joined_row.JoinedRow.{JoinedRow}
 use Rattle.meaning.specs.Joined.{joined_column}
-use Rattle.meaning.specs.Operators.{minus_of, arith_of, compare_of, not_of, and_of, or_of, not_if, is_null_of, like_of, between_of, one_of, first_of, cases_of}
+use Rattle.meaning.specs.Operators.{code_of, minus_of, arith_of, compare_of, not_of, and_of, or_of, not_if, is_null_of, like_of, between_of, one_of, first_of, cases_of}
 
 -- what a part gives on each row
 abbrev pub Meaning : Type 0
@@ -58,3 +59,15 @@ eval_arm = fold-Arm Meaning (Meaning × Meaning) node_meaning arm_meanings
 -- what the list gives
 abbrev pub outcomes : List Expr → JoinedRow → List Outcome
 outcomes list r = at_row r (map eval list)
+
+-- a value in front of others, unless there is a fault: the value's comes first
+abbrev pub with_value : Outcome → Result Row ℕ → Result Row ℕ
+with_value (gives.Fault f) others = Err (code_of f)
+with_value v (Err c) = Err c
+with_value (gives.Value v) (Ok vs) = Ok (v ∷ vs)
+with_value (gives.Truth t) (Ok vs) = Ok (Null ∷ vs)
+
+-- the values of expressions, or the first fault from left to right
+abbrev pub values : List Expr → JoinedRow → Result Row ℕ
+values [] s = Ok []
+values (e ∷ es) s = with_value (eval e s) (values es s)

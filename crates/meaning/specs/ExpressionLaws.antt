@@ -9,10 +9,10 @@ use Rattle.meaning.specs.declared.outcome.Truth.TheVariants.{True}
 use Rattle.meaning.specs.declared.outcome.Outcome.TheVariants as gives
 use Rattle.meaning.specs.declared.plan.Plan.{Plan}
 use Rattle.meaning.specs.Like.{is_like}
-use Rattle.meaning.specs.Expr.{eval}
+use Rattle.meaning.specs.Expr.{eval, values}
 use Rattle.meaning.specs.References.{referenced, columns_used, columns_of_plan}
 use Rattle.meaning.specs.Typing.{ExprType, RowTypes, fits_row_types, has_type, gives_expr_type}
-use Rattle.meaning.specs.Judge.{values, keep, judge, Passes, filtered, then_filtered, behind_filter}
+use Rattle.meaning.specs.Judge.{keep, judge, Passes, filtered, then_filtered, behind_filter}
 
 -- evaluation reads only the columns, keys and aggregates that the expression names
 abbrev pub ReadsColumnsUsed : Type 0

@@ -9,20 +9,17 @@ use Rattle.meaning.specs.declared.outcome.Outcome.TheVariants as gives
 use Rattle.meaning.specs.declared.expr.Expr.{Expr}
 use Rattle.meaning.specs.declared.plan.OrderKey.{OrderKey}
 use Rattle.meaning.specs.declared.plan.Plan.{Plan}
-use Rattle.meaning.specs.declared.answer.RowFault.{RowFault}
 use Rattle.meaning.specs.Order.{Row, column, value_cmp, row_cmp, sorted}
 use Rattle.meaning.specs.declared.joined_row.JoinedRow.{JoinedRow}
 use Rattle.meaning.specs.Joined.{group_row}
 use Rattle.meaning.specs.Operators.{code_of}
-use Rattle.meaning.specs.Expr.{eval}
-use Rattle.meaning.specs.Judge.{values}
+use Rattle.meaning.specs.Expr.{eval, values}
 use Rattle.meaning.specs.Results.{all_ok, and_then}
 
--- what a query gives: rows, a fault over groups, or the fault of a row
-pub data Output : Type 0 where
-  rows : List Row → Output
-  final_fault : ℕ → Output
-  row_fault : RowFault → Output
+-- what the last step gives: rows, or the first fault over groups
+pub data Finished : Type 0 where
+  Rows : List Row → Finished
+  Refusal : ℕ → Finished
 
 -- a group in the last step: its key, its row count, and the value or the fault of each aggregate
 pub record Evaluated : Type 0 where
@@ -31,16 +28,16 @@ pub record Evaluated : Type 0 where
   pub aggregates : List (Result Value ℕ)
 
 -- the rows of a group behind HAVING: only TRUE lets them pass
-abbrev pub behind : Outcome → Result (List Row) ℕ → Result (List Row) ℕ
-behind (gives.Fault f) group = Err (code_of f)
-behind (gives.Truth True) group = group
-behind (gives.Truth Unknown) group = Ok []
-behind (gives.Truth False) group = Ok []
-behind (gives.Value v) group = Ok []
+abbrev pub rows_behind : Outcome → Result (List Row) ℕ → Result (List Row) ℕ
+rows_behind (gives.Fault f) group = Err (code_of f)
+rows_behind (gives.Truth True) group = group
+rows_behind (gives.Truth Unknown) group = Ok []
+rows_behind (gives.Truth False) group = Ok []
+rows_behind (gives.Value v) group = Ok []
 
 abbrev pub behind_having : Option Expr → JoinedRow → Result (List Row) ℕ → Result (List Row) ℕ
 behind_having None s group = group
-behind_having (Some condition) s group = behind (eval condition s) group
+behind_having (Some condition) s group = rows_behind (eval condition s) group
 
 -- the row that a group shows, unless HAVING drops it, or the first fault of HAVING and the items
 abbrev pub shown : Plan → JoinedRow → Result (List Row) ℕ
@@ -69,11 +66,11 @@ abbrev pub all_rows : List (List Row) → List Row
 all_rows [] = []
 all_rows (xs ∷ xss) = xs ++ all_rows xss
 
-abbrev pub output_of : Result (List Row) ℕ → Output
-output_of (Ok shown) = rows shown
-output_of (Err c) = final_fault c
+abbrev pub finished : Result (List Row) ℕ → Finished
+finished (Ok shown) = Rows shown
+finished (Err c) = Refusal c
 
 -- the first fault, from group to group in the order of their keys; else the rows, in order and cut by LIMIT
-abbrev pub finish : Plan → List Evaluated → Output
-finish plan groups = output_of (and_then (all_ok (map (rows_of plan) groups))
+abbrev pub finish : Plan → List Evaluated → Finished
+finish plan groups = finished (and_then (all_ok (map (rows_of plan) groups))
     (λ parts. Ok (limited plan.limit (sorted (order_cmp plan.order) (all_rows parts)))))

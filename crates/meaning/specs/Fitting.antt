@@ -2,12 +2,8 @@
 use Rattle.std.specs.Prelude.{ℕ, ◌+◌, ◌==◌, nat_lt, nat_le, ℤ, pos, negsuc, ◌*ℤ◌, int_le, Bool, true, false, ◌&&◌, not, if◌then◌else◌, List, [], ◌∷◌, length, map, sum, slice_index, Option, Some, None, is_none, is_some, ◌||◌}
 use Rattle.std.specs.List.{list_all}
 use Rattle.std.specs.Cmp.Lexicographic.{pointwise}
-use Rattle.std.specs.Str.{is_utf8}
-use Rattle.meaning.specs.Limits.{max_text_bytes}
 use Rattle.meaning.specs.declared.value.Value.{Value}
-use Rattle.meaning.specs.declared.value.Value.TheVariants.{Null, Int, Text}
 use Rattle.meaning.specs.declared.value.ColType.{ColType}
-use Rattle.meaning.specs.declared.value.ColType.TheVariants as of_type
 use Rattle.meaning.specs.declared.plan.AggregateKind.{AggregateKind}
 use Rattle.meaning.specs.declared.plan.AggregateKind.TheVariants.{CountRows, Count, Sum, Min, Max, Avg}
 use Rattle.meaning.specs.declared.plan.Aggregate.{Aggregate}
@@ -19,21 +15,13 @@ use Rattle.meaning.specs.declared.answer.Body.{Body}
 use Rattle.meaning.specs.declared.answer.Body.TheVariants.{Groups, Fault}
 use Rattle.meaning.specs.declared.answer.Answer.{Answer}
 use Rattle.meaning.specs.Order.{Row, is_null, row_cmp, is_ascending}
-use Rattle.meaning.specs.Operators.{fits_i64}
-use Rattle.meaning.specs.Table.{Cut, first_row}
+use Rattle.meaning.specs.Typing.{is_of_type}
+use Rattle.meaning.specs.Cut.{Cut, first_row}
 use Rattle.meaning.specs.Group.{certain_keys}
 use Rattle.meaning.specs.Aggregate.{kept_by}
 use Rattle.meaning.specs.Gather.{same_statistics}
 
 -- ---- types
-
--- NULL is of each type; an integer has 64 bits, a text is UTF-8 of at most 65,535 bytes
-abbrev pub is_of_type : ColType → Value → Bool
-is_of_type kind Null = true
-is_of_type of_type.Int (Int n) = fits_i64 n
-is_of_type of_type.Int (Text t) = false
-is_of_type of_type.Text (Int n) = false
-is_of_type of_type.Text (Text t) = is_utf8 t && nat_le (length t) max_text_bytes
 
 -- a least or a greatest value is not NULL
 abbrev pub is_extreme : ColType → Option Value → Bool

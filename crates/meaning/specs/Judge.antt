@@ -2,7 +2,6 @@
 use Rattle.std.specs.Prelude.{ℕ, List, [], ◌∷◌, map, flat_map, filter_map, Option, Some, None, option_map, Result, Ok, Err}
 use Rattle.std.specs.declared.cmp.Ordering.{Ordering}
 use Rattle.std.specs.Ordering.{nat_cmp, on, then_cmp}
-use Rattle.meaning.specs.declared.value.Value.TheVariants.{Null}
 use Rattle.meaning.specs.declared.outcome.Truth.TheVariants.{False, Unknown, True}
 use Rattle.meaning.specs.declared.outcome.Outcome.{Outcome}
 use Rattle.meaning.specs.declared.outcome.Outcome.TheVariants as gives
@@ -12,25 +11,14 @@ use Rattle.meaning.specs.declared.answer.RowFault.{RowFault}
 use Rattle.meaning.specs.Order.{Row, least}
 use Rattle.meaning.specs.declared.joined_row.JoinedRow.{JoinedRow}
 use Rattle.meaning.specs.Operators.{code_of}
-use Rattle.meaning.specs.Expr.{eval}
-use Rattle.meaning.specs.Table.{Numbered, combos}
+use Rattle.meaning.specs.Expr.{eval, values}
+use Rattle.meaning.specs.Cut.{Numbered}
+use Rattle.meaning.specs.Joined.{combos}
 
 pub data Judged : Type 0 where
   kept : Row → Row → Judged
   dropped : Judged
   fault : ℕ → Judged
-
--- a value in front of others, unless there is a fault: the value's comes first
-abbrev pub with_value : Outcome → Result Row ℕ → Result Row ℕ
-with_value (gives.Fault f) others = Err (code_of f)
-with_value v (Err c) = Err c
-with_value (gives.Value v) (Ok vs) = Ok (v ∷ vs)
-with_value (gives.Truth t) (Ok vs) = Ok (Null ∷ vs)
-
--- the values of expressions, or the first fault from left to right
-abbrev pub values : List Expr → JoinedRow → Result Row ℕ
-values [] s = Ok []
-values (e ∷ es) s = with_value (eval e s) (values es s)
 
 -- what becomes of a row behind a condition: only TRUE lets it pass
 abbrev pub behind_condition : Outcome → Judged → Judged

@@ -16,7 +16,8 @@ use Rattle.meaning.specs.declared.answer.Answer.{Answer}
 use Rattle.meaning.specs.declared.answer.Cell.{Cell}
 use Rattle.meaning.specs.declared.answer.Cell.TheVariants.{Nothing, One}
 use Rattle.meaning.specs.Order.{Row, lesser, least, sorted, ascending_set, union, is_ascending}
-use Rattle.meaning.specs.Table.{Numbered, Cut, numbered, fragment, part, choices, is_joined, combos, matched_rows}
+use Rattle.meaning.specs.Cut.{Numbered, Cut, numbered, fragment, part}
+use Rattle.meaning.specs.Joined.{choices, is_joined, combos, matched_rows, group_row}
 use Rattle.meaning.specs.Judge.{row_fault, kept_rows, fault_cmp}
 use Rattle.meaning.specs.Aggregate.{aggregate, no_statistics, statistics, kept_by, merge, value}
 use Rattle.meaning.specs.Group.{group_of, kept_groups, merge_groups, merged_groups}
@@ -27,10 +28,9 @@ use Rattle.meaning.specs.Gather.{same_body, join_cells, said_of, joined, is_conf
 use Rattle.meaning.specs.Heard.{Event, heard}
 use Rattle.meaning.specs.Running.{state_after}
 use Rattle.meaning.specs.Fitting.{is_group_of, is_group_possible, fits}
-use Rattle.meaning.specs.Joined.{group_row}
 use Rattle.meaning.specs.Results.{all_ok}
-use Rattle.meaning.specs.Typing.{fits_row_types, group_types}
-use Rattle.meaning.specs.Dimensions.{AreDimensionsOf, is_typed_on}
+use Rattle.meaning.specs.Typing.{fits_row_types, group_types, is_typed_on}
+use Rattle.meaning.specs.Dimensions.{AreDimensionsOf}
 use Rattle.meaning.specs.Print.{output_text, report_text}
 
 -- joining cells is commutative, associative and idempotent
@@ -109,14 +109,14 @@ among cut ks = filter (λ k. list_any (λ j. j == k) ks) (range_with_len 0 (leng
 -- whole table
 abbrev pub PreviewsAreMeanings : Type 0
 PreviewsAreMeanings = (plan : Plan) (dims : List (List Row)) (cut : Cut) (rows : List Row) (ks : List ℕ)
-    → preview plan (joined cut (own_answers plan dims cut rows ks)) ≡ meaning plan (part cut (among cut ks) rows) dims
+    → preview plan (joined cut (own_answers plan dims cut rows ks)) ≡ meaning plan dims (part cut (among cut ks) rows)
 
 -- the preview of any state whose single answers are own ones is the query's meaning over the rows of the fragments
 -- that have one, whatever stands in the other cells
 abbrev pub PreviewsOfOwnAnswers : Type 0
 PreviewsOfOwnAnswers = (plan : Plan) (dims : List (List Row)) (cut : Cut) (rows : List Row) (cells : List Cell)
     → ((k : ℕ) (b : Body) → slice_get cells k ≡ Some (One b) → b ≡ own_body plan dims (fragment cut k rows))
-    → preview plan cells ≡ meaning plan (part cut (places is_one cells) rows) dims
+    → preview plan cells ≡ meaning plan dims (part cut (places is_one cells) rows)
 
 -- coordinators that hold cells alone hold after any events the states of what they have heard
 abbrev pub StatesOfHeard : Type 0
@@ -127,7 +127,7 @@ abbrev pub WholeFromParts : Type 0
 WholeFromParts = (plan : Plan) (dims : List (List Row)) (cut : Cut) (rows : List Row)
     → sum cut ≡ length rows
     → report plan (joined cut (own_answers plan dims cut rows (range_with_len 0 (length cut))))
-    ≡ output (meaning plan (numbered rows) dims)
+    ≡ output (meaning plan dims (numbered rows))
 
 -- the least fault of the whole is the least of its fragments', and its kept rows are theirs, one after another
 abbrev pub FragmentsCombine : Type 0
@@ -216,4 +216,4 @@ Headline = (plan : Plan) (dims : List (List Row)) (cut : Cut) (rows : List Row) 
     → sum cut ≡ length rows
     → ((k : ℕ) → k < length cut → Contains answers (own plan dims cut rows k))
     → places is_conflict (joined cut answers) ≡ []
-    → report_text plan (report plan (joined cut answers)) ≡ output_text plan (meaning plan (numbered rows) dims)
+    → report_text plan (report plan (joined cut answers)) ≡ output_text plan (meaning plan dims (numbered rows))

@@ -15,11 +15,11 @@ pub mod Like
 pub mod Operators
 pub mod Expr
 pub mod References
-pub mod Table
 pub mod Judge
 pub mod Group
 pub mod Aggregate
 pub mod Finish
+pub mod Output
 pub mod Meaning
 pub mod Print
 pub mod Answer

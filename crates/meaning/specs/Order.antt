@@ -6,7 +6,7 @@
 --     union               two sets as one
 use Rattle.std.specs.Prelude.{ℕ, ℤ, pos, Bool, true, false, ◌&&◌, if◌then◌else◌, List, [], ◌∷◌, ◌++◌, slice_index_or, Option, Some, None}
 use Rattle.std.specs.declared.cmp.Ordering.{Ordering}
-use Rattle.std.specs.Ordering.{nat_cmp, int_cmp, is_lt, on, then_cmp, ord_min, match_ordering}
+use Rattle.std.specs.Ordering.{nat_cmp, int_cmp, is_lt, on, then_cmp, ord_min, match_ordering, eq_by_cmp}
 use Rattle.std.specs.Cmp.{IsTotalOrder, nat_cmp_total, int_cmp_total, on_total, then_total}
 use Rattle.std.specs.Cmp.Lexicographic.{slice_cmp, nat_list_cmp_total}
 use Rattle.meaning.specs.declared.value.Value.{Value}
@@ -96,6 +96,10 @@ value_cmp = then_cmp (on rank nat_cmp) (then_cmp (on number int_cmp) (on bytes (
 pub value_total : IsTotalOrder value_cmp
 value_total = then_total (on_total rank nat_cmp_total)
     (then_total (on_total number int_cmp_total) (on_total bytes nat_list_cmp_total))
+
+-- equal values: what the derived `==` answers
+abbrev pub same_value : Value → Value → Bool
+same_value = eq_by_cmp value_cmp
 
 -- the whole order of rows, column by column
 abbrev pub row_cmp : Row → Row → Ordering

@@ -11,12 +11,10 @@ use Rattle.meaning.specs.declared.value.ColType.TheVariants as of_type
 use Rattle.meaning.specs.declared.catalog.Column.{Column}
 use Rattle.meaning.specs.declared.table.TableFault.{TableFault}
 use Rattle.meaning.specs.declared.table.TableFault.TheVariants as fault
-use Rattle.meaning.specs.Order.{Row, is_null}
-use Rattle.meaning.specs.Gather.{same_value}
+use Rattle.meaning.specs.Order.{Row, is_null, same_value, column}
 use Rattle.meaning.specs.Operators.{fits_i64}
 use Rattle.meaning.specs.Results.{all_ok, and_then}
-use Rattle.meaning.specs.Order.{column}
-use Rattle.meaning.specs.Table.{Cut}
+use Rattle.meaning.specs.Cut.{Cut}
 use Rattle.meaning.specs.declared.catalog.Dimension.{Dimension}
 use Rattle.meaning.specs.declared.catalog.Catalog.{Catalog}
 

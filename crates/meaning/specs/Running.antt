@@ -2,7 +2,7 @@
 use Rattle.std.specs.Prelude.{ℕ, List, [], ◌∷◌, ◌++◌, map, zip, length, replicate, Option, Some, None, option_to_list, slice_get, slice_set, slice_index_or}
 use Rattle.meaning.specs.declared.answer.Cell.{Cell}
 use Rattle.meaning.specs.declared.answer.Cell.TheVariants.{Nothing}
-use Rattle.meaning.specs.Table.{Cut}
+use Rattle.meaning.specs.Cut.{Cut}
 use Rattle.meaning.specs.Gather.{join_cells, joined}
 use Rattle.meaning.specs.Heard.{Event, post, share, take, save, restart}
 

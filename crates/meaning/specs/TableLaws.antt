@@ -15,11 +15,11 @@ use Rattle.meaning.specs.declared.plan.Plan.{Plan}
 use Rattle.meaning.specs.Order.{Row, is_null}
 use Rattle.meaning.specs.Catalog.{IsWellFormedTable, IsWellFormed}
 use Rattle.meaning.specs.Records.{Record, table_of, fact_of, dimension_of}
-use Rattle.meaning.specs.Table.{Cut, fragment}
+use Rattle.meaning.specs.Cut.{Cut, fragment}
 use Rattle.meaning.specs.Answer.{own}
-use Rattle.meaning.specs.Fitting.{is_of_type, fits}
-use Rattle.meaning.specs.Typing.{Valued, Boolean, RowTypes, has_type}
-use Rattle.meaning.specs.Dimensions.{IsUniqueIn, AreDimensionsOf, is_typed_on}
+use Rattle.meaning.specs.Typing.{is_of_type, Valued, Boolean, RowTypes, has_type, is_typed_on}
+use Rattle.meaning.specs.Fitting.{fits}
+use Rattle.meaning.specs.Dimensions.{IsUniqueIn, AreDimensionsOf}
 
 -- ---- one table
 

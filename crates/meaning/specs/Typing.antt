@@ -1,8 +1,11 @@
--- Which type an expression has, told from its nodes alone.
-use Rattle.std.specs.Prelude.{Bool, true, false, ◌&&◌, ◌||◌, List, [], ◌∷◌, map, Option, Some, None, slice_get, slice_index_or}
+-- Of which types values, keys, arguments and expressions are; an expression's type is told from its nodes alone.
+use Rattle.std.specs.Prelude.{nat_le, Bool, true, false, ◌&&◌, ◌||◌, not, List, [], ◌∷◌, length, map, Option, Some, None, slice_get, slice_index_or}
 use Rattle.std.specs.List.{list_all}
 use Rattle.std.specs.Cmp.Lexicographic.{pointwise}
+use Rattle.std.specs.Str.{is_utf8}
+use Rattle.meaning.specs.Limits.{max_text_bytes}
 use Rattle.meaning.specs.declared.value.Value.{Value}
+use Rattle.meaning.specs.declared.value.Value.TheVariants.{Null, Int, Text}
 use Rattle.meaning.specs.declared.value.ColType.{ColType}
 use Rattle.meaning.specs.declared.value.ColType.TheVariants as of_type
 use Rattle.meaning.specs.declared.outcome.Outcome.{Outcome}
@@ -14,10 +17,59 @@ use Rattle.meaning.specs.declared.expr.Expr.TheFolds.{fold-Expr, fold-Arm}
 use Rattle.meaning.specs.declared.expr.Arm.{Arm}
 use Rattle.meaning.specs.declared.plan.AggregateKind.{AggregateKind}
 use Rattle.meaning.specs.declared.plan.AggregateKind.TheVariants.{CountRows, Count, Sum, Min, Max, Avg}
+use Rattle.meaning.specs.declared.plan.Aggregate.{Aggregate}
 use Rattle.meaning.specs.declared.plan.Plan.{Plan}
 use Rattle.meaning.specs.declared.joined_row.JoinedRow.{JoinedRow}
-use Rattle.meaning.specs.Order.{Row}
-use Rattle.meaning.specs.Fitting.{is_of_type}
+use Rattle.meaning.specs.Order.{Row, is_null}
+use Rattle.meaning.specs.Operators.{fits_i64}
+use Rattle.meaning.specs.Cut.{Numbered}
+use Rattle.meaning.specs.Joined.{combos}
+use Rattle.meaning.specs.Expr.{eval}
+
+-- ---- values
+
+-- NULL is of each type; an integer has 64 bits, a text is UTF-8 of at most 65,535 bytes
+abbrev pub is_of_type : ColType → Value → Bool
+is_of_type kind Null = true
+is_of_type of_type.Int (Int n) = fits_i64 n
+is_of_type of_type.Int (Text t) = false
+is_of_type of_type.Text (Int n) = false
+is_of_type of_type.Text (Text t) = is_utf8 t && nat_le (length t) max_text_bytes
+
+-- ---- keys and arguments
+
+-- a value of the type, or a fault
+abbrev pub gives_type : ColType → Outcome → Bool
+gives_type kind (gives.Value v) = is_of_type kind v
+gives_type kind (gives.Truth t) = false
+gives_type kind (gives.Fault f) = true
+
+-- a value that an aggregate takes: that of COUNT(*) is never NULL
+abbrev pub is_taken_by : AggregateKind → Value → Bool
+is_taken_by CountRows v = not (is_null v)
+is_taken_by _ v = true
+
+-- an argument of its type
+abbrev pub is_argument_of : Aggregate → Value → Bool
+is_argument_of a v = is_of_type a.col_type v && is_taken_by a.kind v
+
+-- the argument is of its type, or faults
+abbrev pub gives_argument : Aggregate → Outcome → Bool
+gives_argument a (gives.Value v) = is_argument_of a v
+gives_argument a (gives.Truth t) = false
+gives_argument a (gives.Fault f) = true
+
+-- on a joined row, each key and each argument is of its type, or faults
+abbrev pub is_typed_at : Plan → JoinedRow → Bool
+is_typed_at plan s =
+    list_all (λ k. gives_type k.col_type (eval k.expr s)) plan.keys
+    && list_all (λ a. gives_argument a (eval a.argument s)) plan.aggs
+
+-- the same on each joined row of some fact rows
+abbrev pub is_typed_on : Plan → List (List Row) → Numbered → Bool
+is_typed_on plan dims rows = list_all (λ r. list_all (is_typed_at plan) (combos plan dims r.1)) rows
+
+-- ---- expressions
 
 -- a value of a type, or a truth
 pub data ExprType : Type 0 where

@@ -1,6 +1,6 @@
 //! The declared tables, and why a text declares none.
 ghost use Rattle.std.specs.Prelude.{◌≡◌};
-ghost use Rattle.meaning.specs.Catalog.{catalog_fault_number};
+ghost use Rattle.meaning.specs.Catalog.{number_of};
 
 use crate::sequence::Sequence;
 use crate::text::Text;
@@ -62,7 +62,7 @@ pub enum CatalogFault {
 impl CatalogFault {
     /// The error code.
     pub fn number(&self) -> u8
-        ensures { result ≡ catalog_fault_number self.now }
+        ensures { result ≡ number_of self.now }
     {
         match self {
             CatalogFault::Memory => 0,

@@ -3,7 +3,7 @@
 ghost use Rattle.std.specs.Prelude.{◌≡◌, ◌≢◌, ◌≤◌, nat_lt, IfOk, sum};
 ghost use Rattle.std.specs.List.{list_any};
 ghost use Rattle.meaning.specs.Limits.{max_rows};
-ghost use Rattle.meaning.specs.Cut.{cut_of, even_lengths, fault_number};
+ghost use Rattle.meaning.specs.Cut.{cut_of, even_lengths, number_of};
 
 use crate::limits::{MAX_FRAGMENTS, MAX_ROWS};
 use crate::sequence::Sequence;
@@ -33,7 +33,7 @@ pub enum CutFault {
 impl CutFault {
     /// The error code.
     pub fn number(&self) -> u8
-        ensures { result ≡ fault_number self.now }
+        ensures { result ≡ number_of self.now }
     {
         match self {
             CutFault::Memory => 0,

@@ -16,7 +16,7 @@ use Rattle.meaning.specs.declared.answer.Body.{Body}
 use Rattle.meaning.specs.declared.answer.Body.TheVariants.{Groups, Fault}
 use Rattle.meaning.specs.declared.answer.Answer.{Answer}
 use Rattle.meaning.specs.Group.{certain_keys}
-use Rattle.meaning.specs.Table.{first_row}
+use Rattle.meaning.specs.Cut.{first_row}
 use Rattle.meaning.specs.Fitting.{is_group_possible, are_rows_possible, is_shaped, are_keys_ascending, are_numbers_possible, fits}
 use Rattle.meaning.specs.Limits.{max_rows}
 use Rattle.partial_codec.specs.declared.fault.DecodeFault.{DecodeFault}

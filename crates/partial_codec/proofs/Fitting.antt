@@ -25,7 +25,8 @@ use Rattle.meaning.specs.Order.{Row}
 use Rattle.meaning.specs.Operators.{fits_i64}
 use Rattle.meaning.specs.Aggregate.{kept_by}
 use Rattle.meaning.specs.Gather.{same_statistics, same_body}
-use Rattle.meaning.specs.Fitting.{is_of_type, is_extreme, is_key_of, is_state_of, is_group_of, is_sum_of, is_possible, is_group_possible, are_rows_possible, is_fault_possible}
+use Rattle.meaning.specs.Typing.{is_of_type}
+use Rattle.meaning.specs.Fitting.{is_extreme, is_key_of, is_state_of, is_group_of, is_sum_of, is_possible, is_group_possible, are_rows_possible, is_fault_possible}
 use Rattle.meaning.proofs.Same.{body_exact}
 use Rattle.meaning.specs.Limits.{max_rows, max_text_bytes}
 use Rattle.partial_codec.specs.Shape.{shape_of, shape_of_aggregate}

@@ -15,7 +15,8 @@ use Rattle.meaning.specs.declared.answer.Body.{Body}
 use Rattle.meaning.specs.declared.answer.Body.TheVariants.{Groups, Fault}
 use Rattle.meaning.specs.Aggregate.{no_statistics, kept_by}
 use Rattle.meaning.specs.Gather.{same_statistics}
-use Rattle.meaning.specs.Fitting.{is_of_type, is_state_of, is_group_of, is_shaped}
+use Rattle.meaning.specs.Typing.{is_of_type}
+use Rattle.meaning.specs.Fitting.{is_state_of, is_group_of, is_shaped}
 use Rattle.partial_codec.specs.declared.fault.DecodeFault.TheVariants as refusal
 use Rattle.wire.specs.Reading.{◌>>=◌, number_at, repeat_at, i128_at, behind_magic}
 use Rattle.partial_codec.specs.Shape.{Shape, shape_of, shape_of_aggregate, is_same_shape}

@@ -8,7 +8,7 @@ use Rattle.meaning.specs.declared.plan.Plan.{Plan}
 use Rattle.meaning.specs.declared.answer.Body.{Body}
 use Rattle.meaning.specs.declared.answer.Cell.{Cell}
 use Rattle.meaning.specs.declared.answer.Cell.TheVariants.{Nothing, One, Conflict}
-use Rattle.meaning.specs.Table.{first_row}
+use Rattle.meaning.specs.Cut.{first_row}
 use Rattle.meaning.specs.Fitting.{is_shaped, are_keys_ascending, are_numbers_possible, fits}
 use Rattle.partial_codec.specs.declared.fault.DecodeFault.TheVariants as refusal
 use Rattle.wire.specs.Reading.{◌>>=◌, bytes_at, number_at, repeat_at, same_bytes, behind_magic, sealed_end}

@@ -10,9 +10,8 @@ use Rattle.std.proofs.lemmas.List.Sums.{sum_by-cons}
 use Rattle.meaning.specs.declared.answer.Group.{Group}
 use Rattle.meaning.specs.declared.answer.Cell.{Cell}
 use Rattle.meaning.specs.declared.plan.Plan.{Plan}
-use Rattle.meaning.specs.Cut.{IsCut}
+use Rattle.meaning.specs.Cut.{IsCut, first_row}
 use Rattle.meaning.specs.Order.{is_ascending, row_cmp}
-use Rattle.meaning.specs.Table.{first_row}
 use Rattle.meaning.specs.Limits.{max_rows}
 use Rattle.partial_codec.specs.declared.fault.DecodeFault.{DecodeFault}
 use Rattle.partial_codec.specs.Job.{JobSpec}

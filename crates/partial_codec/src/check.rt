@@ -1,6 +1,6 @@
 //! What was read, held against the job.
 ghost use Rattle.std.specs.Prelude.{◌≡◌, ◌<◌, ◌^◌, ℕ, ℤ, pos, ◌*ℤ◌, int_le, ◌&&◌, ◌==◌, nat_le, length, map, sum, slice_index, true, not, nat_lt};
-ghost use Rattle.meaning.specs.Table.{first_row};
+ghost use Rattle.meaning.specs.Cut.{first_row};
 ghost use Rattle.wire.specs.Reading.{same_bytes, Reads};
 ghost use Rattle.std.specs.List.{list_all};
 ghost use Rattle.std.specs.Cmp.Lexicographic.{pointwise};

@@ -10,3 +10,13 @@ pub mod Names
 pub mod ReadBack
 pub mod Obstacles
 pub mod WorkedTokens
+pub mod Canonical
+pub mod CanonicalQuery
+pub mod Examples
+pub mod Doubling
+pub mod Writing
+pub mod TwoForms
+pub mod TokenTexts
+pub mod ReadAgain
+pub mod Apart
+pub mod ApartQuery

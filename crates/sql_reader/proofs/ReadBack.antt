@@ -1,5 +1,5 @@
 -- The canonical text of a tree is read as that tree.
-use Rattle.std.proofs.Common.{◌≡◌, ℕ, zero, suc, Bool, true, false, List, [], ◌∷◌, ◌++◌, length, get_or, IsUtf8, ◌&&◌, ltb, refl, sym, ap, subst, ◌∙◌, append_assoc, rules, inl}
+use Rattle.std.proofs.Common.{None, ◌≡◌, ℕ, zero, suc, Bool, true, false, List, [], ◌∷◌, ◌++◌, length, get_or, IsUtf8, ◌&&◌, ltb, refl, sym, ap, subst, ◌∙◌, inl}
 use Rattle.std.specs.Prelude.{codes}
 use Rattle.std.specs.List.{AllByRecursion}
 use Rattle.std.specs.Str.{IsAscii}
@@ -12,27 +12,24 @@ use Rattle.sql_reader.specs.declared.token.Sign.TheVariants as sign
 use Rattle.sql_reader.specs.declared.tree.Expr.{Expr}
 use Rattle.sql_reader.specs.declared.tree.Expr.TheVariants as expr
 use Rattle.sql_reader.specs.declared.tree.Query.{Query}
-use Rattle.sql_reader.specs.declared.tree.Expr.TheFolds.{the_lemmas}
+use Rattle.sql_reader.specs.declared.tree.Aggregate.TheVariants as aggregate
 use Rattle.sql_reader.specs.Words.{lower, keyword_of}
 use Rattle.sql_reader.specs.Tokens as terminal
 use Rattle.sql_reader.specs.Tokens.{Terminal, Placed, behind_blanks, is_word_byte, terminal_at, with_first, placed_from, tokens_of}
-use Rattle.sql_reader.specs.Canonical.{expr_text, canonical}
+use Rattle.sql_reader.specs.Canonical.{canonical}
 use Rattle.sql_reader.specs.Grammar.{sum_column, query_of, terminals, rows_tokens, sum_tokens, SpellsItem, rows, sum, IsTree}
+use Rattle.sql_reader.proofs.Canonical.{printed_rows, printed_aggregate, printed_column}
 use Rattle.sql_reader.proofs.Names.{IsName, IsProper, name_stays, name_first, tokens_proper, lower_lower, lower_name, name_ascii}
 
 -- ---- the canonical texts
 
-rows_text : expr_text expr.CountRows ≡ codes "COUNT(*)"
-rows_text = search (rules, the_lemmas)
-
-sum_text : (column : List ℕ) → expr_text (sum_column column) ≡ codes "SUM(" ++ (column ++ codes ")")
-sum_text column = search (rules, the_lemmas)
-
 canonical_rows : (table : List ℕ) → canonical (query_of expr.CountRows table) ≡ codes "SELECT COUNT(*) FROM " ++ table
-canonical_rows table = rw rows_text refl
+unfolding canonical
+canonical_rows table = rw printed_rows (search (append-nil))
 
 canonical_sum : (column table : List ℕ) → canonical (query_of (sum_column column) table) ≡ codes "SELECT SUM(" ++ (column ++ (codes ") FROM " ++ table))
-canonical_sum column table = rw (sum_text column) (simp (append_assoc, append-nil))
+unfolding canonical
+canonical_sum column table = rw (printed_aggregate aggregate.Sum (expr.Column None column), printed_column None column) (search (append-nil))
 
 -- ---- their tokens
 

@@ -5,3 +5,9 @@ pub mod Tokens
 pub mod Canonical
 pub mod Grammar
 pub mod Reading
+pub mod Strength
+pub mod Phrases
+pub mod CanonicalTokens
+pub mod Queries
+pub mod Quoting
+pub mod Printing

@@ -6,8 +6,11 @@ mod keyword;
 pub mod laws;
 mod lexer;
 mod parser;
+mod printer;
 mod printing;
+mod quoting;
 mod reading;
+mod strength;
 mod token;
 pub mod tree;
 

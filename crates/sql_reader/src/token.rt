@@ -1,4 +1,7 @@
 //! Tokens and their places.
+ghost use Rattle.std.specs.Prelude.{◌≡◌};
+ghost use Rattle.sql_reader.specs.Queries.{sign_text};
+
 use crate::keyword::Keyword;
 
 #[derive(Clone, Copy, PartialEq, Eq)]
@@ -18,6 +21,30 @@ pub enum Sign {
     AtMost,
     Greater,
     AtLeast,
+}
+
+impl Sign {
+    pub fn spelling(self) -> &'static str
+        ensures { result.now ≡ sign_text self }
+    {
+        match self {
+            Sign::Open => "(",
+            Sign::Close => ")",
+            Sign::Comma => ",",
+            Sign::Dot => ".",
+            Sign::Semicolon => ";",
+            Sign::Plus => "+",
+            Sign::Minus => "-",
+            Sign::Star => "*",
+            Sign::Slash => "/",
+            Sign::Equal => "=",
+            Sign::NotEqual => "<>",
+            Sign::Less => "<",
+            Sign::AtMost => "<=",
+            Sign::Greater => ">",
+            Sign::AtLeast => ">=",
+        }
+    }
 }
 
 /// A token, or what stands where no token can be read.

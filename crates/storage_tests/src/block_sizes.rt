@@ -261,7 +261,7 @@ fn chosen(alloc: Global, column: &Column) -> Option<Kind> {
 }
 
 /// Whether the column comes back out of each kind, and the smallest is chosen.
-fn passes(alloc: Global, column: &Column) -> Result<bool, AllocError> {
+pub fn passes(alloc: Global, column: &Column) -> Result<bool, AllocError> {
     for kind in KINDS {
         if !comes_back(alloc, kind, column)? {
             return Ok(false);
@@ -322,14 +322,17 @@ fn nulls_come_back(rt: HostRuntime) -> Result<(), Fail> {
     Ok(())
 }
 
+/// Whether so many different texts come back, and their dictionary has as many entries. Each is a text of five bytes.
+fn dictionary_comes_back(alloc: Global, rows: usize) -> Result<bool, ColumnFault> {
+    let column = falling_texts(alloc, false, rows)?;
+    let size = encoded(alloc, Kind::Dict, &column).map_or(0, |payload| payload.len());
+    Ok(passes(alloc, &column)? && size == rows.saturating_mul(4 + 5 + 2).saturating_add(4))
+}
+
 #[test]
 fn dictionaries_of_up_to_8192_texts_come_back(rt: HostRuntime) -> Result<(), Fail> {
     for rows in [1_024, 1_025, 8_192] {
-        let column = falling_texts(rt.alloc(), false, rows)?;
-        assert!(rt; passes(rt.alloc(), &column)?);
-        // Each entry is a text of five bytes.
-        let size = encoded(rt.alloc(), Kind::Dict, &column).map(|payload| payload.len());
-        assert_eq!(rt; size, Some(4 + (4 + 5 + 2) * rows));
+        assert!(rt; dictionary_comes_back(rt.alloc(), rows)?);
     }
     Ok(())
 }

@@ -1,6 +1,7 @@
 //! Files of which each byte is changed in turn.
 // A file of two row groups, each of whose bytes is changed, against a plain reading of the format.
-use crate::files::{file_of, zeros};
+use crate::files::{Shape, file_of, first_kind, integers, texts, zeros};
+use columns::Column;
 use encodings::kind::Kind;
 use encodings::view::BlockView;
 use fragment_file::{FileFault, open};
@@ -212,6 +213,52 @@ fn each_byte_changed(rt: HostRuntime) -> Result<(), Fail> {
     assert_eq!(rt; refusal(rt.alloc(), &bytes), None);
     assert_eq!(rt; number_of(obstacle(rt.alloc(), &bytes)), None);
     assert_eq!(rt; place_missed(rt.alloc(), &mut bytes), None);
+    Ok(())
+}
+
+/// Whether a column is written in blocks of a kind, and each change of a byte is refused.
+fn is_safe(alloc: Global, column: Column, kind: Kind) -> bool {
+    match file_of(alloc, column) {
+        Ok(mut bytes) => {
+            first_kind(alloc, &bytes) == Some(kind)
+                && number_of(obstacle(alloc, &bytes)).is_none()
+                && place_missed(alloc, &mut bytes).is_none()
+        }
+        Err(_) => false,
+    }
+}
+
+/// How many rows a column has of which each byte is changed.
+const FEW_ROWS: u32 = 64;
+
+#[test]
+fn each_byte_changed_of_integers_in_each_kind(rt: HostRuntime) -> Result<(), Fail> {
+    for nullable in [false, true] {
+        for (shape, kind) in [
+            (Shape::Wide, Kind::Plain),
+            (Shape::Two, Kind::Dict),
+            (Shape::Runs, Kind::Runs),
+            (Shape::Small, Kind::Frame),
+        ] {
+            let column = integers(rt.alloc(), shape, nullable, FEW_ROWS)?;
+            assert!(rt; is_safe(rt.alloc(), column, kind));
+        }
+    }
+    Ok(())
+}
+
+#[test]
+fn each_byte_changed_of_texts_in_each_kind(rt: HostRuntime) -> Result<(), Fail> {
+    for nullable in [false, true] {
+        for (shape, kind) in [
+            (Shape::Wide, Kind::Plain),
+            (Shape::Two, Kind::Dict),
+            (Shape::Runs, Kind::Runs),
+        ] {
+            let column = texts(rt.alloc(), shape, nullable, FEW_ROWS)?;
+            assert!(rt; is_safe(rt.alloc(), column, kind));
+        }
+    }
     Ok(())
 }
 

@@ -65,43 +65,57 @@ pub fn file_of(alloc: Global, column: Column) -> Result<Vec<u8>, FileFault> {
 
 /// How the rows of a column go.
 #[derive(Clone, Copy)]
-enum Shape {
+pub enum Shape {
     /// Integers over all 64 bits.
     Wide,
     /// Two integers that are far apart.
     Two,
-    /// A few long runs of integers that are far apart.
+    /// A few runs of integers that are far apart.
     Runs,
     /// Small integers.
     Small,
 }
 
-fn integer(shape: Shape, row: i64) -> i64 {
+/// How many rows a run has where there are so many in all.
+fn run_length(rows: u32) -> u32 {
+    if rows < 1_000 { 16 } else { 1_000 }
+}
+
+fn integer(shape: Shape, row: u32, run: u32) -> i64 {
+    let (row, run) = (i64::from(row), i64::from(run));
     let mixed = row.wrapping_add(1).wrapping_mul(0x1e37_79b9_7f4a_7c15);
     match shape {
         Shape::Wide => mixed,
         Shape::Two if row % 2 == 0 => i64::MIN,
         Shape::Two => i64::MAX,
-        Shape::Runs => (row / 1_000).wrapping_mul(0x1234_5678_9abc_def),
+        Shape::Runs => run.wrapping_mul(0x1234_5678_9abc_def),
         Shape::Small => mixed & 7,
     }
 }
 
-/// Every fifth row of a nullable column is NULL.
-fn is_blank(nullable: bool, row: u64) -> bool {
-    nullable && row % 5 == 4
+/// Every fifth row of a nullable column is NULL; of runs, every third run.
+fn is_blank(shape: Shape, nullable: bool, row: u32, run: u32) -> bool {
+    match shape {
+        Shape::Runs => nullable && run % 3 == 2,
+        _ => nullable && row % 5 == 4,
+    }
 }
 
-fn integers(alloc: Global, shape: Shape, nullable: bool, rows: u64) -> Result<Column, ColumnFault> {
+pub fn integers(
+    alloc: Global,
+    shape: Shape,
+    nullable: bool,
+    rows: u32,
+) -> Result<Column, ColumnFault> {
     let mut column = Column::new(alloc, ColType::Int, nullable);
-    let mut number = 0;
+    let length = run_length(rows);
     for row in 0..rows {
-        if is_blank(nullable, row) {
+        let run = row.checked_div(length).unwrap_or(0);
+        if is_blank(shape, nullable, row, run) {
             column.push_null()?;
         } else {
-            column.push_int(integer(shape, number))?;
+            column.push_int(integer(shape, row, run))?;
         }
-        number = number.wrapping_add(1);
     }
     Ok(column)
 }
@@ -109,21 +123,28 @@ fn integers(alloc: Global, shape: Shape, nullable: bool, rows: u64) -> Result<Co
 const WORDS: [&str; 4] = ["", "granite", "marble and slate", "chalk"];
 
 /// Texts that differ from row to row, that come in turn, or in long runs.
-fn text(alloc: Global, shape: Shape, row: u64) -> Result<String, AllocError> {
+fn text(alloc: Global, shape: Shape, row: u32, run: u32) -> Result<String, AllocError> {
     match shape {
         Shape::Wide | Shape::Small => format!(in alloc; "row {row}"),
         Shape::Two => String::from_str(alloc, WORDS[row as usize % 4]),
-        Shape::Runs => String::from_str(alloc, WORDS[(row / 1_000) as usize % 4]),
+        Shape::Runs => String::from_str(alloc, WORDS[run as usize % 4]),
     }
 }
 
-fn texts(alloc: Global, shape: Shape, nullable: bool, rows: u64) -> Result<Column, ColumnFault> {
+pub fn texts(
+    alloc: Global,
+    shape: Shape,
+    nullable: bool,
+    rows: u32,
+) -> Result<Column, ColumnFault> {
     let mut column = Column::new(alloc, ColType::Text, nullable);
+    let length = run_length(rows);
     for row in 0..rows {
-        if is_blank(nullable, row) {
+        let run = row.checked_div(length).unwrap_or(0);
+        if is_blank(shape, nullable, row, run) {
             column.push_null()?;
         } else {
-            column.push_text(text(alloc, shape, row)?.as_str())?;
+            column.push_text(text(alloc, shape, row, run)?.as_str())?;
         }
     }
     Ok(column)
@@ -207,8 +228,26 @@ fn opens_to(alloc: Global, bytes: &[u8], kind: Kind, column: &Column) -> bool {
     }
 }
 
+/// How many row groups a file has.
+pub fn groups_in(alloc: Global, bytes: &[u8]) -> Option<usize> {
+    match open(alloc, bytes) {
+        Ok(view) => Some(view.group_count()),
+        Err(_) => None,
+    }
+}
+
+/// The kind of a file's first block.
+pub fn first_kind(alloc: Global, bytes: &[u8]) -> Option<Kind> {
+    match open(alloc, bytes) {
+        Ok(view) if view.group_count() > 0 && view.group(0).column_count() > 0 => {
+            Some(view.group(0).column(0).kind())
+        }
+        _ => None,
+    }
+}
+
 /// How many rows a table of three row groups has.
-const ROWS: u64 = 19_400;
+const ROWS: u32 = 19_400;
 
 fn comes_back(alloc: Global, kind: Kind, written: Column, column: &Column) -> bool {
     match file_of(alloc, written) {
@@ -222,9 +261,10 @@ fn integers_come_back(
     shape: Shape,
     nullable: bool,
     kind: Kind,
+    rows: u32,
 ) -> Result<bool, ColumnFault> {
-    let written = integers(alloc, shape, nullable, ROWS)?;
-    let column = integers(alloc, shape, nullable, ROWS)?;
+    let written = integers(alloc, shape, nullable, rows)?;
+    let column = integers(alloc, shape, nullable, rows)?;
     Ok(comes_back(alloc, kind, written, &column))
 }
 
@@ -247,10 +287,22 @@ fn integers_of_each_kind(rt: HostRuntime) -> Result<(), Fail> {
             (Shape::Two, Kind::Dict),
             (Shape::Small, Kind::Frame),
         ] {
-            assert!(rt; integers_come_back(rt.alloc(), shape, nullable, kind)?);
+            assert!(rt; integers_come_back(rt.alloc(), shape, nullable, kind, ROWS)?);
         }
     }
-    assert!(rt; integers_come_back(rt.alloc(), Shape::Runs, false, Kind::Runs)?);
+    for nullable in [false, true] {
+        assert!(rt; integers_come_back(rt.alloc(), Shape::Runs, nullable, Kind::Runs, ROWS)?);
+    }
+    Ok(())
+}
+
+#[test]
+fn a_fragment_has_up_to_128_row_groups(rt: HostRuntime) -> Result<(), Fail> {
+    for (shape, kind) in [(Shape::Small, Kind::Frame), (Shape::Runs, Kind::Runs)] {
+        assert!(rt; integers_come_back(rt.alloc(), shape, false, kind, 1_048_576)?);
+    }
+    let bytes = file_of(rt.alloc(), zeros(rt.alloc(), 1_048_576)?)?;
+    assert_eq!(rt; groups_in(rt.alloc(), &bytes), Some(128));
     Ok(())
 }
 
@@ -261,7 +313,9 @@ fn texts_of_each_kind(rt: HostRuntime) -> Result<(), Fail> {
             assert!(rt; texts_come_back(rt.alloc(), shape, nullable, kind)?);
         }
     }
-    assert!(rt; texts_come_back(rt.alloc(), Shape::Runs, false, Kind::Runs)?);
+    for nullable in [false, true] {
+        assert!(rt; texts_come_back(rt.alloc(), Shape::Runs, nullable, Kind::Runs)?);
+    }
     Ok(())
 }
 

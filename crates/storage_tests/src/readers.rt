@@ -1,11 +1,13 @@
 //! CSV readers that give pieces or fail.
 // Readers that give what they have in pieces, that fail, and that make a large dimension.
+use crate::block_sizes::passes;
 use columns::Column;
 use loader::{LoadFault, count_rows, has_dim, load_dim, load_fact};
 use meaning::cut::Cut;
 use meaning::read_catalog::read_catalog;
 use meaning::value::ValueRef;
-use std::alloc::Global;
+use std::alloc::{AllocError, Global};
+use std::fmt::Write;
 use std::io;
 use std::io::Read;
 use std::test::Fail;
@@ -91,6 +93,52 @@ fn pieces_missed(alloc: Global) -> Result<Option<usize>, Fail> {
 #[test]
 fn bytes_come_in_pieces(rt: HostRuntime) -> Result<(), Fail> {
     assert_eq!(rt; pieces_missed(rt.alloc())?, None);
+    Ok(())
+}
+
+// ---- into blocks of each kind
+
+/// A header and so many rows, of which every seventh has no number.
+fn long_csv(alloc: Global, rows: u32) -> Result<String, AllocError> {
+    let mut csv = String::from_str(alloc, "name,q\n")?;
+    for row in 0..rows {
+        if row % 7 == 6 {
+            write!(csv, "{row} in all,\n")?;
+        } else {
+            write!(csv, "granite,{row}\n")?;
+        }
+    }
+    Ok(csv)
+}
+
+fn are_in_each_kind(alloc: Global, columns: &[Column], rows: usize) -> Result<bool, AllocError> {
+    for column in columns {
+        if column.len() != rows || !passes(alloc, column)? {
+            return Ok(false);
+        }
+    }
+    Ok(columns.len() == 2)
+}
+
+/// Whether so many rows are loaded, and the columns come back out of each kind of block.
+fn loads_into_each_kind(alloc: Global, rows: u32) -> Result<bool, Fail> {
+    let cut = Cut::even(alloc, u64::from(rows), 8_192)?;
+    let catalog = read_catalog(alloc, CATALOG)?;
+    let csv = long_csv(alloc, rows)?;
+    match load_fact(alloc, &catalog, csv.as_bytes(), &cut) {
+        Ok(fragments) => match fragments.as_slice() {
+            [columns] => Ok(are_in_each_kind(alloc, columns.as_slice(), rows as usize)?),
+            _ => Ok(false),
+        },
+        Err(_) => Ok(false),
+    }
+}
+
+#[test]
+fn loaded_columns_come_back_in_each_kind(rt: HostRuntime) -> Result<(), Fail> {
+    for rows in [1, 100, 8_192] {
+        assert!(rt; loads_into_each_kind(rt.alloc(), rows)?);
+    }
     Ok(())
 }
 

@@ -1,7 +1,7 @@
 -- Loop invariants of `save_fragments` (`saving`).
 use Rattle.std.proofs.Common.{◌≡◌, take}
 use Rattle.std.specs.List.{enumerate_from}
-use Rattle.meaning.specs.Table.{first_row}
+use Rattle.meaning.specs.Cut.{first_row}
 use Rattle.cli.specs.Folder.{Writes}
 use Rattle.cli.specs.Loading.{AreEach, IsFragmentFile}
 use Rattle.cli.proofs.saving.save_fragments.Given as goal

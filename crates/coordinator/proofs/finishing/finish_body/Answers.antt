@@ -1,6 +1,6 @@
 -- Proofs of the goals of `finish_body` (`finishing`).
 use Rattle.std.proofs.Common.{◌≡◌, IfOk, sym, ap, subst, ◌∙◌}
-use Rattle.meaning.specs.Finish.{Output}
+use Rattle.meaning.specs.Output.{Output}
 use Rattle.meaning.specs.Answer.{output_of}
 use Rattle.coordinator.specs.Finished.{output_in, output_of_value}
 use Rattle.coordinator.proofs.LastStep.{output_of-one_group}

@@ -2,7 +2,7 @@
 use Rattle.std.proofs.Common.{◌≡◌, ap, sym, subst, ◌∙◌, [], length}
 use Rattle.std.specs.List.{range_with_len}
 use Rattle.meaning.specs.declared.plan.Plan.{Plan}
-use Rattle.meaning.specs.Table.{Cut}
+use Rattle.meaning.specs.Cut.{Cut}
 use Rattle.meaning.specs.Gather.{joined}
 use Rattle.meaning.specs.Laws.{own_answers}
 use Rattle.partial_codec.specs.Job.{JobSpec}

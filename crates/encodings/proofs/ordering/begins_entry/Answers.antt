@@ -3,8 +3,7 @@ use Rattle.std.proofs.Common.{◌≡◌, ℕ, ◌+◌, ◌-◌, ◌<◌, true, f
 use Rattle.std.proofs.lemmas.Bool.{not-true, not-false}
 use Rattle.std.proofs.lemmas.List.{get_or-map, length-map}
 use Rattle.meaning.specs.declared.value.Value.TheVariants.{Null}
-use Rattle.meaning.specs.Gather.{same_value}
-use Rattle.meaning.specs.Order.{value_cmp}
+use Rattle.meaning.specs.Order.{same_value, value_cmp}
 use Rattle.encodings.proofs.NumberEntries.{less_next}
 use Rattle.encodings.proofs.RowNumbers.{same_is}
 use Rattle.encodings.proofs.ordering.begins_entry.Goals as goal

@@ -1,5 +1,5 @@
 -- Proofs of the goals of `mask_to_places` (`places`).
-use Rattle.std.proofs.Common.{◌≡◌, ◌<◌, ◌==◌, ◌∙◌, not, arith, length, get_or}
+use Rattle.std.proofs.Common.{◌<◌, ◌==◌, ◌∙◌, not, arith, length, get_or}
 use Rattle.std.proofs.lemmas.List.{length-set}
 use Rattle.vectors.proofs.Narrowing.{counted_more}
 use Rattle.lane_loops.proofs.GatheredPlaces.{places_more}

@@ -1,13 +1,30 @@
 -- Proofs of the goals of `push_row` (`rows`).
-use Rattle.std.proofs.Common.{◌≡◌, ◌<◌, ◌∙◌, ◌++◌, ap, sym, arith, length, take, drop, add-one}
+use Rattle.std.proofs.Common.{◌≡◌, ◌<◌, ◌∙◌, ◌++◌, ap, sym, arith, length, take, drop, get_or, add-one, List}
 use Rattle.std.specs.Prelude.{slice_index_or}
 use Rattle.meaning.specs.declared.value.Value.TheVariants.{Null}
 use Rattle.csv.specs.Records.{fields_of}
 use Rattle.meaning.specs.Records.{catalog_row}
-use Rattle.loader.specs.Columns.{with_row}
+use Rattle.columns.specs.Column.{ColumnSpec, refusal}
+use Rattle.loader.specs.Columns.{Kind, kind_of, with_row}
 use Rattle.loader.specs.Steps.{value_of, values_of}
+use Rattle.loader.proofs.Declared.{front_kind, taken_at}
 use Rattle.loader.proofs.Values.{set_next, all_set, row_value, row_length}
 use Rattle.loader.proofs.rows.push_row.Goals as goal
+
+pub push_field-requires : goal.push_field-requires
+push_field-requires c =
+    let order = c.args.order.now.columns.items in
+    let places = c.args.order.now.fields.items in
+    let values = values_of c.args.parsed.now (fields_of c.args.fields.now) in
+    let row = catalog_row order values in
+    let i = c.loop-i.i in
+    let cs = c.args.columns.now in
+    let x = c.index-columns-i.result in
+    let lt : i < length places = omega (arith, c.loop-i-test.true, c.requires.columns) in
+    let long : length row ≡ length places = row_length order places values c.args.order.now.inverse in
+    let value = c.judged_at-judged.ensures ∙ sym (row_value order places values i c.index.result.now c.args.order.now.inverse lt ∙ ap (λ j. slice_index_or values j Null) (sym c.index.ensures)) in
+    let here : kind_of (get_or c.loop-i.columns i x) ≡ kind_of (get_or cs i x) = ap (λ (l : List ColumnSpec). kind_of (get_or l i x)) c.loop-i.invariant ∙ front_kind cs row i x (omega (arith, lt, long)) c.loop-i-test.true in
+    (λ k. refusal (here k).0 (here k).1 (value k)) ∙ taken_at cs row i x c.requires.taken c.loop-i-test.true
 
 pub loop-i-preserved : goal.loop-i-preserved
 loop-i-preserved c =
@@ -16,7 +33,7 @@ loop-i-preserved c =
     let values = values_of c.args.parsed.now (fields_of c.args.fields.now) in
     let row = catalog_row order values in
     let i = c.loop-i.i in
-    let lt : i < length places = omega (arith, c.loop-i-test.true, c.requires) in
+    let lt : i < length places = omega (arith, c.loop-i-test.true, c.requires.columns) in
     let long : length row ≡ length places = row_length order places values c.args.order.now.inverse in
     let value = c.judged_at-judged.ensures ∙ sym (row_value order places values i c.index.result.now c.args.order.now.inverse lt ∙ ap (λ j. slice_index_or values j Null) (sym c.index.ensures)) in
     let next = set_next c.args.columns.now row i c.index-columns-i.result (value_of (c.judged_at-judged.result.0, c.judged_at-judged.result.1.now)) c.loop-i-test.true (omega (arith, lt, long)) value in

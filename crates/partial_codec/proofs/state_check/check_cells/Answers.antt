@@ -2,7 +2,7 @@
 use Rattle.std.proofs.Common.{◌≡◌, ℕ, ◌<◌, length, List, Ok, Err, get_or, ap, ◌∙◌, ◌^◌, ◌+◌, arith}
 use Rattle.std.specs.Prelude.{slice_index}
 use Rattle.std.proofs.lemmas.Result.{err_from_is_err_and}
-use Rattle.meaning.specs.Table.{first_row}
+use Rattle.meaning.specs.Cut.{first_row}
 use Rattle.partial_codec.proofs.Steps.{cells_after, cells_end, next_first, rows_fit}
 use Rattle.partial_codec.proofs.state_check.check_cells.Goals as goal
 

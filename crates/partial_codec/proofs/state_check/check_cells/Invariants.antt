@@ -1,6 +1,6 @@
 -- Loop invariants of `check_cells` (`state_check`).
 use Rattle.std.proofs.Common.{◌≡◌, drop}
-use Rattle.meaning.specs.Table.{first_row}
+use Rattle.meaning.specs.Cut.{first_row}
 use Rattle.partial_codec.specs.State.{cells_held}
 use Rattle.partial_codec.proofs.state_check.check_cells.Given as goal
 

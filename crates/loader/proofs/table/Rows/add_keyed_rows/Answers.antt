@@ -1,14 +1,16 @@
 -- Proofs of the goals of `Rows::add_keyed_rows` (`table`).
-use Rattle.std.proofs.Common.{◌+◌, ◌∙◌, refl, sym, subst, ap, arith, [], length, Ok, Err}
+use Rattle.std.proofs.Common.{◌+◌, ◌∙◌, refl, sym, subst, ap, arith, List, [], length, Ok, Err}
 use Rattle.std.proofs.lemmas.Result.{err_from_is_err_and}
 use Rattle.meaning.specs.declared.table.TableFault.TheVariants.{KeyTwice}
 use Rattle.loader.specs.Keys.{HoldsKeys}
+use Rattle.meaning.specs.declared.catalog.Column.{Column}
+use Rattle.loader.specs.Columns.{AreDeclared}
 use Rattle.loader.proofs.RowRuns.{as_meant}
 use Rattle.loader.proofs.KeyedRows.{all_refused, all_taken, one_row, all_many, all_done, keys_in}
 use Rattle.loader.proofs.table.Rows.add_keyed_rows.Goals as goal
 
 pub loop-row-init : goal.loop-row-init
-loop-row-init g c = (refl, refl, λ rest left. ([], rest, [], refl, refl, refl, refl, refl, c.requires.none, left))
+loop-row-init g c = (refl, refl, c.requires.columns, λ rest left. ([], rest, [], refl, refl, refl, refl, refl, c.requires.none, left))
 
 pub returns-in_err-next_row : goal.returns-in_err-next_row
 returns-in_err-next_row g c = record {
@@ -16,7 +18,7 @@ returns-in_err-next_row g c = record {
       let known = g.R.Read.remaining in
       let declared = c.args.self.now.declared.now in
       let order = c.args.self.now.order.columns.items in
-      let (same, ordered, so_far) = c.loop-row.invariant in
+      let (same, ordered, are, so_far) = c.loop-row.invariant in
       let (before, later, rows, all, long, done, judged, kept, held, on) = so_far rest left in
       let p = err_from_is_err_and c.from_residual.result c.from_residual.ensures.1 in
       let taken = as_meant known c.next_row.new.self.reader declared c.loop-row.self.declared.now order c.loop-row.self.order.columns.items (length before) c.loop-row.row later c.loop-row.columns c.next_row.new.columns (Err c.in_err-next_row.field-0.0)
@@ -30,7 +32,7 @@ returns-then-not-branch g c = record {
       let known = g.R.Read.remaining in
       let declared = c.args.self.now.declared.now in
       let order = c.args.self.now.order.columns.items in
-      let (same, ordered, so_far) = c.loop-row.invariant in
+      let (same, ordered, are, so_far) = c.loop-row.invariant in
       let (before, later, rows, all, long, done, judged, kept, held, on) = so_far rest left in
       let taken = as_meant known c.next_row.new.self.reader declared c.loop-row.self.declared.now order c.loop-row.self.order.columns.items (length before) c.loop-row.row later c.loop-row.columns c.next_row.new.columns (Ok c.in_ok-next_row.field-0)
       same (ap (λ o. o.columns.items) ordered) (sym long) (c.in_ok-next_row.ensures.taken later on) in
@@ -43,7 +45,7 @@ returns-then-not-branch-2 g c = record {
       let known = g.R.Read.remaining in
       let declared = c.args.self.now.declared.now in
       let order = c.args.self.now.order.columns.items in
-      let (same, ordered, so_far) = c.loop-row.invariant in
+      let (same, ordered, are, so_far) = c.loop-row.invariant in
       let (before, later, rows, all, long, done, judged, kept, held, on) = so_far rest left in
       let taken = as_meant known c.next_row.new.self.reader declared c.loop-row.self.declared.now order c.loop-row.self.order.columns.items (length before) c.loop-row.row later c.loop-row.columns c.next_row.new.columns (Ok c.in_ok-next_row.field-0)
       same (ap (λ o. o.columns.items) ordered) (sym long) (c.in_ok-next_row.ensures.taken later on) in
@@ -58,9 +60,10 @@ loop-row-preserved g c =
     let known = g.R.Read.remaining in
     let declared = c.args.self.now.declared.now in
     let order = c.args.self.now.order.columns.items in
-    let (same, ordered, so_far) = c.loop-row.invariant in (
+    let (same, ordered, are, so_far) = c.loop-row.invariant in (
       c.next_row.ensures.declared ∙ same,
       c.next_row.ensures.order ∙ ordered,
+      subst (λ (ds : List Column). AreDeclared ds c.next_row.new.columns) same c.in_ok-next_row.ensures.kept,
       λ rest left.
           let (before, later, rows, all, long, done, judged, kept, held, on) = so_far rest left in
           let taken = as_meant known c.next_row.new.self.reader declared c.loop-row.self.declared.now order c.loop-row.self.order.columns.items (length before) c.loop-row.row later c.loop-row.columns c.next_row.new.columns (Ok c.in_ok-next_row.field-0)
@@ -75,7 +78,7 @@ loop-row-preserved g c =
 pub returns-then-branch : goal.returns-then-branch
 returns-then-branch g c = record {
   taken = λ rest left.
-      let (same, ordered, so_far) = c.loop-row.invariant in
+      let (same, ordered, are, so_far) = c.loop-row.invariant in
       let (before, later, rows, all, long, done, judged, kept, held, on) = so_far rest left in
       all_many g.R.Read.remaining c.loop-row.self.reader c.args.self.now.declared.now c.args.self.now.order.columns.items c.args.key c.args.most c.args.columns.now c.loop-row.columns c.loop-row.columns rest before later rows all done judged kept c.in_ok-has_more.field-0 c.if-branch.true (omega (arith, long, c.loop-row-test.false)) (c.in_ok-has_more.ensures.found later on);
 }
@@ -83,7 +86,12 @@ returns-then-branch g c = record {
 pub returns : goal.returns
 returns g c = record {
   taken = λ rest left.
-      let (same, ordered, so_far) = c.loop-row.invariant in
+      let (same, ordered, are, so_far) = c.loop-row.invariant in
       let (before, later, rows, all, long, done, judged, kept, held, on) = so_far rest left in
       all_done g.R.Read.remaining c.loop-row.self.reader c.args.self.now.declared.now c.args.self.now.order.columns.items c.args.key c.args.most c.args.columns.now c.loop-row.columns c.loop-row.columns rest before later rows all done judged kept c.in_ok-has_more.field-0 c.if-branch.false (c.in_ok-has_more.ensures.found later on);
 }
+
+pub next_row-requires : goal.next_row-requires
+next_row-requires g c =
+    let (same, ordered, are, so_far) = c.loop-row.invariant in
+    subst (λ (ds : List Column). AreDeclared ds c.loop-row.columns) (sym same) are

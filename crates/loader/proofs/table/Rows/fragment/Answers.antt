@@ -1,14 +1,15 @@
 -- Proofs of the goals of `Rows::fragment` (`table`).
-use Rattle.std.proofs.Common.{◌≡◌, ◌∙◌, sym, ap, length, []}
+use Rattle.std.proofs.Common.{◌≡◌, ◌∙◌, sym, ap, length, map, []}
 use Rattle.std.proofs.lemmas.Result.{err_from_is_err_and}
-use Rattle.loader.proofs.Fragments.{columns_length, fragment_columns, places_length, put_back}
+use Rattle.loader.specs.Columns.{kind_of}
+use Rattle.loader.proofs.Declared.{fresh_declared}
+use Rattle.loader.proofs.Fragments.{columns_length, fragment_columns, put_back}
 use Rattle.loader.proofs.RowRuns.{fragment_refused}
 use Rattle.loader.proofs.table.Rows.fragment.Goals as goal
 
 pub next_rows-requires-clause-columns : goal.next_rows-requires-clause-columns
 next_rows-requires-clause-columns g c =
-    ap length (c.deref_mut.ensures.value ∙ c.in_ok-columns.ensures) ∙ columns_length c.args.self.now.declared.now [] ∙ c.requires.columns
-    ∙ sym (places_length c.args.self.now.order.columns.items c.args.self.now.order.fields.items c.args.self.now.order.inverse)
+    ap (map kind_of) (c.deref_mut.ensures.value ∙ c.in_ok-columns.ensures) ∙ fresh_declared c.args.self.now.declared.now
 
 pub returns-in_err-next_rows-clause-taken : goal.returns-in_err-next_rows-clause-taken
 returns-in_err-next_rows-clause-taken g c rest left =

@@ -1,15 +1,16 @@
 -- Proofs of the goals of `Rows::keyed_columns` (`table`).
-use Rattle.std.proofs.Common.{◌≡◌, ◌∙◌, sym, ap, arith, length, []}
+use Rattle.std.proofs.Common.{◌≡◌, ◌∙◌, sym, ap, arith, length, map, []}
 use Rattle.std.proofs.lemmas.Result.{err_from_is_err_and}
-use Rattle.loader.proofs.Fragments.{columns_length, places_length, put_back, rows_into}
+use Rattle.loader.specs.Columns.{kind_of}
+use Rattle.loader.proofs.Declared.{fresh_declared}
+use Rattle.loader.proofs.Fragments.{columns_length, put_back, rows_into}
 use Rattle.loader.specs.Steps.{with_rows}
 use Rattle.loader.proofs.KeyedRows.{own_rows, table_refused}
 use Rattle.loader.proofs.table.Rows.keyed_columns.Goals as goal
 
 pub keyed_rows-requires-clause-columns : goal.keyed_rows-requires-clause-columns
 keyed_rows-requires-clause-columns g c =
-    ap length (c.deref_mut.ensures.value ∙ c.in_ok-columns.ensures) ∙ columns_length c.args.self.now.declared.now [] ∙ c.requires.columns
-    ∙ sym (places_length c.args.self.now.order.columns.items c.args.self.now.order.fields.items c.args.self.now.order.inverse)
+    ap (map kind_of) (c.deref_mut.ensures.value ∙ c.in_ok-columns.ensures) ∙ fresh_declared c.args.self.now.declared.now
 
 pub keyed_rows-requires-clause-key : goal.keyed_rows-requires-clause-key
 keyed_rows-requires-clause-key g c =

@@ -1,0 +1,16 @@
+-- Invariants of `found_selected` (`extreme`).
+use Rattle.std.proofs.Common.{◌≡◌, ◌≤◌, true}
+use Rattle.meaning.specs.Aggregate.{no_statistics}
+use Rattle.meaning.specs.Order.{value_in}
+use Rattle.accumulators.specs.Kinds.{end_state, kind_from}
+use Rattle.accumulators.specs.Values.{is_spelled, values_of}
+use Rattle.accumulators.proofs.Growing.{AddsUp}
+use Rattle.accumulators.proofs.extreme.found_selected.Given as goal
+
+-- the values that are left make it whole
+abbrev pub invariant-loop-k : goal.invariant-loop-k
+invariant-loop-k l = record {
+  whole : AddsUp (kind_from l.end) (values_of l.lanes) l.selection.list no_statistics l.k (end_state l.end l.found.0 (value_in l.found.1.0));
+  few : l.found.0 ≤ l.k;
+  spelled : is_spelled (value_in l.found.1.0) ≡ true;
+}

@@ -1,0 +1,12 @@
+-- Proofs of the goals of `MaxAcc::add` (`max_acc`).
+use Rattle.std.proofs.Common.{◌≡◌, OnOk, subst}
+use Rattle.meaning.specs.declared.answer.Statistics.{Statistics}
+use Rattle.meaning.specs.Aggregate.{merge}
+use Rattle.accumulators.specs.declared.end.End.TheVariants as end
+use Rattle.accumulators.specs.Kinds.{end_state}
+use Rattle.accumulators.proofs.max_acc.MaxAcc.add.Goals as goal
+
+pub returns-clause-ok : goal.returns-clause-ok
+returns-clause-ok c =
+    let new = end_state end.Greatest c.add.new.self.count c.add.new.self.best in
+    subst (λ (p : Statistics × Statistics). OnOk c.add.result (new ≡ merge p.0 p.1)) (λ i. (c.self.view_is i, c.of_value.ensures.value end.Greatest i)) c.add.ensures.ok

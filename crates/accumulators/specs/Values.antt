@@ -1,0 +1,34 @@
+-- The values that aggregates take.
+use Rattle.std.specs.Prelude.{ℕ, Bool, true, List, [], map, get_or, Option, Some, None}
+use Rattle.std.specs.Str.{is_utf8}
+use Rattle.meaning.specs.declared.value.Value.{Value}
+use Rattle.meaning.specs.declared.value.Value.TheVariants.{Null, Int, Text}
+use Rattle.vectors.specs.declared.vector.Vector.{Vector}
+use Rattle.vectors.specs.declared.vector.Vector.TheVariants as vector
+
+-- a text is UTF-8
+abbrev pub is_spelled : Value → Bool
+is_spelled Null = true
+is_spelled (Int n) = true
+is_spelled (Text t) = is_utf8 t
+
+-- a value that counts: NULL does not
+abbrev pub entry : Value → Option Value
+entry Null = None
+entry (Int n) = Some (Int n)
+entry (Text t) = Some (Text t)
+
+-- the value that counts, and NULL where there is none
+abbrev pub or_null : Option Value → Value
+or_null None = Null
+or_null (Some v) = v
+
+-- the values of a vector's lanes; truths are none
+abbrev pub values_of : Vector → List Value
+values_of (vector.Ints lanes) = lanes
+values_of (vector.Texts lanes) = lanes
+values_of (vector.Truths lanes) = []
+
+-- the values at some positions
+abbrev pub selected : List Value → List ℕ → List Value
+selected values positions = map (λ at. get_or values at Null) positions

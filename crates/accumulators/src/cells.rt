@@ -1,0 +1,351 @@
+//! The states of one kind, by their places.
+ghost use Rattle.std.specs.Prelude.{◌≡◌, ◌<◌, ◌≤◌, ◌+◌, [], ◌∷◌, ◌++◌, length, map, zip, get_or, pos, true, All, IsOk, OnOk, OnErr, IfOk};
+ghost use Rattle.meaning.specs.declared.plan.AggregateKind.TheVariants as kind;
+ghost use Rattle.meaning.specs.Aggregate.{kept_by, no_statistics};
+ghost use Rattle.meaning.specs.Order.{value_in};
+ghost use Rattle.accumulators.specs.Columns.{kind_of_cells, merged_at, states_in};
+ghost use Rattle.meaning.specs.declared.value.Value.TheVariants as of_value;
+ghost use Rattle.accumulators.specs.Entries.{state_of, with_entries};
+ghost use Rattle.accumulators.specs.Kinds.{has_one_size, keeps_sums};
+ghost use Rattle.accumulators.specs.State.{most_entries};
+ghost use Rattle.accumulators.specs.Values.{is_spelled};
+
+use crate::accumulator::Accumulator;
+use crate::count_acc::CountAcc;
+use crate::max_acc::MaxAcc;
+use crate::min_acc::MinAcc;
+use crate::state::State;
+use crate::sum_acc::SumAcc;
+use meaning::plan::AggregateKind;
+use meaning::value::ValueRef;
+use std::alloc::{AllocError, Global};
+
+/// What the states of each kind are kept in.
+#[derive(Drop)]
+pub enum Cells {
+    CountRows(Vec<CountAcc>),
+    Count(Vec<CountAcc>),
+    Sum(Vec<SumAcc>),
+    Min(Vec<MinAcc>),
+    Max(Vec<MaxAcc>),
+    Avg(Vec<SumAcc>),
+}
+
+#[inline(always)]
+fn add_to_count(cells: &mut [CountAcc], place: usize, value: ValueRef<'_>)
+    requires place { place < length cells.old }
+    requires few { (get_or cells.old place no_statistics).count < most_entries }
+    ensures { cells.new ≡ merged_at cells.old place (state_of kind.Count (value_in value.entry ∷ [])) }
+{
+    let cell = &mut cells[place];
+    cell.add(value);
+}
+
+fn add_state_to_count(cells: &mut [CountAcc], place: usize, state: &State)
+    requires place { place < length cells.old }
+    requires few { (get_or cells.old place no_statistics).count + state.now.count ≤ most_entries }
+    ensures { cells.new ≡ merged_at cells.old place (kept_by kind.Count state.now) }
+{
+    let cell = &mut cells[place];
+    cell.add_state(state);
+}
+
+#[inline(always)]
+fn add_to_sum(cells: &mut [SumAcc], place: usize, value: ValueRef<'_>)
+    requires place { place < length cells.old }
+    requires few { (get_or cells.old place no_statistics).count < most_entries }
+    ensures { cells.new ≡ merged_at cells.old place (state_of kind.Sum (value_in value.entry ∷ [])) }
+{
+    let cell = &mut cells[place];
+    cell.add(value);
+}
+
+#[inline(always)]
+fn add_int_to_sum(cells: &mut [SumAcc], place: usize, ints: &[i64], k: usize)
+    requires place { place < length cells.old }
+    requires within { k < length ints.now }
+    requires few { (get_or cells.old place no_statistics).count < most_entries }
+    ensures { cells.new ≡ merged_at cells.old place (state_of kind.Sum (of_value.Int (get_or ints.now k (pos 0)) ∷ [])) }
+{
+    let cell = &mut cells[place];
+    cell.add_int(ints, k);
+}
+
+/// One integer after the other goes to the sum at its place.
+fn add_ints_to_sums(cells: &mut [SumAcc], places: &[u32], ints: &[i64])
+    requires places { length places.now ≡ length ints.now }
+    requires within { All (λ place. place < length cells.old) places.now }
+    requires few { All (λ s. s.count + length ints.now ≤ most_entries) cells.old }
+    ensures { cells.new ≡ with_entries kind.Sum cells.old (zip places.now (map of_value.Int ints.now)) }
+{
+    for k in 0..ints.len() {
+        add_int_to_sum(cells, places[k] as usize, ints, k);
+    }
+}
+
+fn add_state_to_sum(cells: &mut [SumAcc], place: usize, state: &State)
+    requires place { place < length cells.old }
+    requires few { (get_or cells.old place no_statistics).count + state.now.count ≤ most_entries }
+    ensures { cells.new ≡ merged_at cells.old place (kept_by kind.Sum state.now) }
+{
+    let cell = &mut cells[place];
+    cell.add_state(state);
+}
+
+fn add_to_min(
+    cells: &mut [MinAcc],
+    alloc: Global,
+    place: usize,
+    value: ValueRef<'_>,
+) -> Result<(), AllocError>
+    requires place { place < length cells.old }
+    requires few { (get_or cells.old place no_statistics).count < most_entries }
+    requires spelled { is_spelled (value_in value) ≡ true }
+    ensures ok { OnOk result (cells.new ≡ merged_at cells.old place (state_of kind.Min (value_in value.entry ∷ []))) }
+    ensures err { OnErr result (cells.new ≡ cells.old) }
+{
+    let cell = &mut cells[place];
+    cell.add(alloc, value)
+}
+
+fn add_state_to_min(
+    cells: &mut [MinAcc],
+    alloc: Global,
+    place: usize,
+    state: &State,
+) -> Result<(), AllocError>
+    requires place { place < length cells.old }
+    requires few { (get_or cells.old place no_statistics).count + state.now.count ≤ most_entries }
+    ensures ok { OnOk result (cells.new ≡ merged_at cells.old place (kept_by kind.Min state.now)) }
+    ensures err { OnErr result (cells.new ≡ cells.old) }
+{
+    let cell = &mut cells[place];
+    cell.add_state(alloc, state)
+}
+
+fn add_to_max(
+    cells: &mut [MaxAcc],
+    alloc: Global,
+    place: usize,
+    value: ValueRef<'_>,
+) -> Result<(), AllocError>
+    requires place { place < length cells.old }
+    requires few { (get_or cells.old place no_statistics).count < most_entries }
+    requires spelled { is_spelled (value_in value) ≡ true }
+    ensures ok { OnOk result (cells.new ≡ merged_at cells.old place (state_of kind.Max (value_in value.entry ∷ []))) }
+    ensures err { OnErr result (cells.new ≡ cells.old) }
+{
+    let cell = &mut cells[place];
+    cell.add(alloc, value)
+}
+
+fn add_state_to_max(
+    cells: &mut [MaxAcc],
+    alloc: Global,
+    place: usize,
+    state: &State,
+) -> Result<(), AllocError>
+    requires place { place < length cells.old }
+    requires few { (get_or cells.old place no_statistics).count + state.now.count ≤ most_entries }
+    ensures ok { OnOk result (cells.new ≡ merged_at cells.old place (kept_by kind.Max state.now)) }
+    ensures err { OnErr result (cells.new ≡ cells.old) }
+{
+    let cell = &mut cells[place];
+    cell.add_state(alloc, state)
+}
+
+fn push_count(cells: &mut Vec<CountAcc>) -> Result<(), AllocError>
+    ensures ok { OnOk result (cells.new.items ≡ cells.old.items ++ no_statistics ∷ []) }
+    ensures err { OnErr result (cells.new.items ≡ cells.old.items) }
+{
+    cells.push(CountAcc::new())?;
+    Ok(())
+}
+
+fn push_sum(cells: &mut Vec<SumAcc>) -> Result<(), AllocError>
+    ensures ok { OnOk result (cells.new.items ≡ cells.old.items ++ no_statistics ∷ []) }
+    ensures err { OnErr result (cells.new.items ≡ cells.old.items) }
+{
+    cells.push(SumAcc::new())?;
+    Ok(())
+}
+
+fn push_min(cells: &mut Vec<MinAcc>) -> Result<(), AllocError>
+    ensures ok { OnOk result (cells.new.items ≡ cells.old.items ++ no_statistics ∷ []) }
+    ensures err { OnErr result (cells.new.items ≡ cells.old.items) }
+{
+    cells.push(MinAcc::new())?;
+    Ok(())
+}
+
+fn push_max(cells: &mut Vec<MaxAcc>) -> Result<(), AllocError>
+    ensures ok { OnOk result (cells.new.items ≡ cells.old.items ++ no_statistics ∷ []) }
+    ensures err { OnErr result (cells.new.items ≡ cells.old.items) }
+{
+    cells.push(MaxAcc::new())?;
+    Ok(())
+}
+
+impl Cells {
+    /// No state.
+    pub fn new(alloc: Global, kind: AggregateKind) -> Cells
+        ensures kind { kind_of_cells result ≡ kind }
+        ensures states { states_in result ≡ [] }
+    {
+        match kind {
+            AggregateKind::CountRows => Cells::CountRows(Vec::new(alloc)),
+            AggregateKind::Count => Cells::Count(Vec::new(alloc)),
+            AggregateKind::Sum => Cells::Sum(Vec::new(alloc)),
+            AggregateKind::Min => Cells::Min(Vec::new(alloc)),
+            AggregateKind::Max => Cells::Max(Vec::new(alloc)),
+            AggregateKind::Avg => Cells::Avg(Vec::new(alloc)),
+        }
+    }
+
+    /// How many states there are.
+    pub fn len(&self) -> usize
+        ensures { result ≡ length (states_in self.now) }
+    {
+        match self {
+            Cells::CountRows(cells) => cells.len(),
+            Cells::Count(cells) => cells.len(),
+            Cells::Sum(cells) => cells.len(),
+            Cells::Min(cells) => cells.len(),
+            Cells::Max(cells) => cells.len(),
+            Cells::Avg(cells) => cells.len(),
+        }
+    }
+
+    /// A state more, of no entry. On an error nothing changes.
+    pub fn push(&mut self) -> Result<(), AllocError>
+        ensures kind { kind_of_cells self.new ≡ kind_of_cells self.old }
+        ensures ok { OnOk result (states_in self.new ≡ states_in self.old ++ no_statistics ∷ []) }
+        ensures err { OnErr result (states_in self.new ≡ states_in self.old) }
+    {
+        match self {
+            Cells::CountRows(cells) => push_count(cells),
+            Cells::Count(cells) => push_count(cells),
+            Cells::Sum(cells) => push_sum(cells),
+            Cells::Min(cells) => push_min(cells),
+            Cells::Max(cells) => push_max(cells),
+            Cells::Avg(cells) => push_sum(cells),
+        }
+    }
+
+    /// One value more in a state. On an error nothing changes.
+    #[inline(always)]
+    pub fn add(
+        &mut self,
+        alloc: Global,
+        place: usize,
+        value: ValueRef<'_>,
+    ) -> Result<(), AllocError>
+        requires place { place < length (states_in self.old) }
+        requires few { (get_or (states_in self.old) place no_statistics).count < most_entries }
+        requires spelled { is_spelled (value_in value) ≡ true }
+        ensures kind { kind_of_cells self.new ≡ kind_of_cells self.old }
+        ensures ok { OnOk result (states_in self.new ≡ merged_at (states_in self.old) place (state_of (kind_of_cells self.old) (value_in value.entry ∷ []))) }
+        ensures err { OnErr result (states_in self.new ≡ states_in self.old) }
+        ensures roomy { has_one_size (kind_of_cells self.old) ≡ true → IsOk result }
+    {
+        match self {
+            Cells::CountRows(cells) => {
+                add_to_count(cells.as_mut_slice(), place, value);
+                Ok(())
+            }
+            Cells::Count(cells) => {
+                add_to_count(cells.as_mut_slice(), place, value);
+                Ok(())
+            }
+            Cells::Sum(cells) => {
+                add_to_sum(cells.as_mut_slice(), place, value);
+                Ok(())
+            }
+            Cells::Min(cells) => add_to_min(cells.as_mut_slice(), alloc, place, value),
+            Cells::Max(cells) => add_to_max(cells.as_mut_slice(), alloc, place, value),
+            Cells::Avg(cells) => {
+                add_to_sum(cells.as_mut_slice(), place, value);
+                Ok(())
+            }
+        }
+    }
+
+    /// Whether the states are sums.
+    pub fn are_sums(&self) -> bool
+        ensures { result ≡ keeps_sums (kind_of_cells self.now) }
+    {
+        match self {
+            Cells::Sum(_) => true,
+            Cells::Avg(_) => true,
+            _ => false,
+        }
+    }
+
+    /// One integer after the other goes to the sum at its place.
+    pub fn add_ints(&mut self, places: &[u32], ints: &[i64])
+        requires sums { keeps_sums (kind_of_cells self.old) ≡ true }
+        requires places { length places.now ≡ length ints.now }
+        requires within { All (λ place. place < length (states_in self.old)) places.now }
+        requires few { All (λ s. s.count + length ints.now ≤ most_entries) (states_in self.old) }
+        ensures kind { kind_of_cells self.new ≡ kind_of_cells self.old }
+        ensures height { length (states_in self.new) ≡ length (states_in self.old) }
+        ensures value { states_in self.new ≡ with_entries (kind_of_cells self.old) (states_in self.old) (zip places.now (map of_value.Int ints.now)) }
+    {
+        match self {
+            Cells::Sum(cells) => add_ints_to_sums(cells.as_mut_slice(), places, ints),
+            Cells::Avg(cells) => add_ints_to_sums(cells.as_mut_slice(), places, ints),
+            _ => unreachable!(),
+        }
+    }
+
+    /// The entries of a state more in a state. On an error nothing changes.
+    pub fn add_state(
+        &mut self,
+        alloc: Global,
+        place: usize,
+        state: &State,
+    ) -> Result<(), AllocError>
+        requires place { place < length (states_in self.old) }
+        requires few { (get_or (states_in self.old) place no_statistics).count + state.now.count ≤ most_entries }
+        ensures kind { kind_of_cells self.new ≡ kind_of_cells self.old }
+        ensures ok { OnOk result (states_in self.new ≡ merged_at (states_in self.old) place (kept_by (kind_of_cells self.old) state.now)) }
+        ensures err { OnErr result (states_in self.new ≡ states_in self.old) }
+        ensures roomy { has_one_size (kind_of_cells self.old) ≡ true → IsOk result }
+    {
+        match self {
+            Cells::CountRows(cells) => {
+                add_state_to_count(cells.as_mut_slice(), place, state);
+                Ok(())
+            }
+            Cells::Count(cells) => {
+                add_state_to_count(cells.as_mut_slice(), place, state);
+                Ok(())
+            }
+            Cells::Sum(cells) => {
+                add_state_to_sum(cells.as_mut_slice(), place, state);
+                Ok(())
+            }
+            Cells::Min(cells) => add_state_to_min(cells.as_mut_slice(), alloc, place, state),
+            Cells::Max(cells) => add_state_to_max(cells.as_mut_slice(), alloc, place, state),
+            Cells::Avg(cells) => {
+                add_state_to_sum(cells.as_mut_slice(), place, state);
+                Ok(())
+            }
+        }
+    }
+
+    /// The state at a place.
+    pub fn state(&self, alloc: Global, place: usize) -> Result<State, AllocError>
+        requires { place < length (states_in self.now) }
+        ensures { IfOk result (λ s. s ≡ get_or (states_in self.now) place no_statistics) }
+    {
+        match self {
+            Cells::CountRows(cells) => cells[place].state(alloc),
+            Cells::Count(cells) => cells[place].state(alloc),
+            Cells::Sum(cells) => cells[place].state(alloc),
+            Cells::Min(cells) => cells[place].state(alloc),
+            Cells::Max(cells) => cells[place].state(alloc),
+            Cells::Avg(cells) => cells[place].state(alloc),
+        }
+    }
+}

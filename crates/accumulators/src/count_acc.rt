@@ -1,0 +1,117 @@
+//! How many entries of a list are not NULL.
+ghost use Rattle.std.specs.Prelude.{◌≡◌, ◌<◌, ◌≤◌, ◌+◌, ◌∷◌, []};
+ghost use Rattle.meaning.specs.declared.plan.AggregateKind.TheVariants.{Count};
+ghost use Rattle.meaning.specs.Aggregate.{kept_by, merge, no_statistics};
+ghost use Rattle.meaning.specs.Order.{value_in};
+ghost use Rattle.accumulators.specs.Entries.{state_of};
+ghost use Rattle.accumulators.specs.State.{most_entries};
+
+use crate::accumulator::Accumulator;
+use crate::end::is_null;
+use crate::fault::AggFault;
+use crate::lanes::selected_value;
+use crate::state::State;
+use meaning::answer::Statistics;
+use meaning::plan::AggregateKind;
+use meaning::value::{Value, ValueRef};
+use std::alloc::{AllocError, Global};
+use std::marker::Model;
+use vectors::selection::Selection;
+use vectors::vector::Vector;
+
+/// COUNT of one list. Contracts see its state.
+#[derive(Drop)]
+pub struct CountAcc {
+    entries: u64,
+}
+
+impl Model for CountAcc {
+    ghost use Rattle.std.specs.Prelude.{◌≤◌};
+    ghost use Rattle.meaning.specs.declared.answer.Statistics.{Statistics};
+    ghost use Rattle.accumulators.specs.Kinds.{count_state};
+    ghost use Rattle.accumulators.specs.State.{most_entries};
+
+    ghost Value = { Statistics };
+
+    ghost view = { λ a. count_state a.entries };
+
+    ghost invariant = { λ a. a.entries ≤ most_entries };
+}
+
+impl CountAcc {
+    /// Of no entry.
+    pub fn new() -> CountAcc
+        ensures { result ≡ no_statistics }
+    {
+        CountAcc { entries: 0 }
+    }
+
+    /// One value more.
+    #[inline(always)]
+    pub fn add(&mut self, value: ValueRef<'_>)
+        requires { self.old.count < most_entries }
+        ensures { self.new ≡ merge self.old (state_of Count (value_in value.entry ∷ [])) }
+    {
+        if !is_null(value) {
+            self.entries += 1;
+        }
+    }
+
+    /// The entries of a state more.
+    pub fn add_state(&mut self, state: &State)
+        requires { self.old.count + state.now.count ≤ most_entries }
+        ensures { self.new ≡ merge self.old (kept_by Count state.now) }
+    {
+        self.entries += state.count();
+    }
+
+    /// The state.
+    pub fn to_state(&self) -> State
+        ensures { result ≡ self.now }
+    {
+        State::from_statistics(Statistics {
+            count: self.entries,
+            sum: 0,
+            least: None,
+            greatest: None,
+        })
+    }
+}
+
+impl Accumulator for CountAcc {
+    ghost use Rattle.meaning.specs.declared.plan.AggregateKind.TheVariants.{Count};
+    ghost use Rattle.accumulators.specs.StateLaws.{states_merge};
+
+    ghost kind = { λ _. Count };
+
+    ghost held = { λ a. a };
+
+    ghost merges = { λ _. states_merge Count };
+
+    fn update_batch(
+        &mut self,
+        alloc: Global,
+        lanes: &Vector<'_>,
+        selection: &Selection,
+    ) -> Result<(), AllocError> {
+        for k in 0..selection.len() {
+            self.add(selected_value(lanes, selection, k));
+        }
+        Ok(())
+    }
+
+    fn merge_batch(&mut self, alloc: Global, states: &[State]) -> Result<(), AllocError> {
+        for k in 0..states.len() {
+            self.add_state(&states[k]);
+        }
+        Ok(())
+    }
+
+    fn state(&self, alloc: Global) -> Result<State, AllocError> {
+        Ok(self.to_state())
+    }
+
+    fn evaluate(&self, alloc: Global) -> Result<Value, AggFault> {
+        self.to_state().evaluate(alloc, AggregateKind::Count)
+    }
+}

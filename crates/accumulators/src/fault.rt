@@ -1,0 +1,31 @@
+//! Why an aggregate has no value.
+ghost use Rattle.std.specs.Prelude.{◌≡◌};
+ghost use Rattle.accumulators.specs.declared.fault.AggFault.TheVariants.{Memory};
+
+use std::alloc::{AllocError, AllocFailed};
+use thiserror::Error;
+
+/// Why an aggregate has no value.
+#[derive(Debug, Drop, Error)]
+pub enum AggFault {
+    #[error("out of memory")]
+    Memory,
+    #[error("sum out of range")]
+    SumOutOfRange,
+}
+
+impl From<AllocError> for AggFault {
+    ghost from_gives = { λ _ given. given ≡ Memory };
+
+    fn from(_: AllocError) -> AggFault {
+        AggFault::Memory
+    }
+}
+
+impl<T: Drop> From<AllocFailed<T>> for AggFault {
+    ghost from_gives = { λ _ given. given ≡ Memory };
+
+    fn from(_: AllocFailed<T>) -> AggFault {
+        AggFault::Memory
+    }
+}

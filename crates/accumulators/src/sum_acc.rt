@@ -1,0 +1,152 @@
+//! The exact sum of a list.
+ghost use Rattle.std.specs.Prelude.{◌≡◌, ◌<◌, ◌≤◌, ◌+◌, ◌∷◌, [], length, map, get_or, pos, true, All};
+ghost use Rattle.meaning.specs.declared.plan.AggregateKind.TheVariants.{Sum};
+ghost use Rattle.meaning.specs.declared.value.Value.TheVariants.{Int};
+ghost use Rattle.meaning.specs.Aggregate.{kept_by, merge, no_statistics};
+ghost use Rattle.meaning.specs.Order.{value_in};
+ghost use Rattle.accumulators.specs.Entries.{state_of};
+ghost use Rattle.accumulators.specs.Kinds.{sum_state, IsSum};
+ghost use Rattle.accumulators.specs.State.{most_entries};
+ghost use Rattle.accumulators.specs.Values.{is_spelled, selected, values_of};
+
+use crate::accumulator::Accumulator;
+use crate::fault::AggFault;
+use crate::lanes::{plain_ints, selected_value};
+use crate::state::State;
+use crate::tally::Tally;
+use meaning::answer::Statistics;
+use meaning::plan::AggregateKind;
+use meaning::value::{Value, ValueRef};
+use std::alloc::{AllocError, Global};
+use std::marker::Model;
+use vectors::selection::Selection;
+use vectors::vector::Vector;
+
+/// SUM of one list, and what AVG is read off. Contracts see its state.
+#[derive(Drop)]
+pub struct SumAcc {
+    tally: Tally,
+}
+
+impl Model for SumAcc {
+    ghost use Rattle.meaning.specs.declared.answer.Statistics.{Statistics};
+    ghost use Rattle.accumulators.specs.Kinds.{sum_state, IsSum};
+
+    ghost Value = { Statistics };
+
+    ghost view = { λ a. sum_state a.tally.count a.tally.sum };
+
+    ghost invariant = { λ a. IsSum a.tally.count a.tally.sum };
+}
+
+impl SumAcc {
+    /// Of no entry.
+    pub fn new() -> SumAcc
+        ensures { result ≡ no_statistics }
+    {
+        SumAcc {
+            tally: Tally::new(),
+        }
+    }
+
+    /// One value more.
+    #[inline(always)]
+    pub fn add(&mut self, value: ValueRef<'_>)
+        requires { self.old.count < most_entries }
+        ensures { self.new ≡ merge self.old (state_of Sum (value_in value.entry ∷ [])) }
+    {
+        self.tally = self.tally.plus(Tally::of_value(value));
+    }
+
+    /// One integer more, of these.
+    #[inline(always)]
+    pub fn add_int(&mut self, ints: &[i64], k: usize)
+        requires within { k < length ints.now }
+        requires few { self.old.count < most_entries }
+        ensures { self.new ≡ merge self.old (state_of Sum (Int (get_or ints.now k (pos 0)) ∷ [])) }
+    {
+        self.tally = self.tally.plus(Tally::of_int(ints[k]));
+    }
+
+    /// Integers more.
+    fn add_ints(&mut self, ints: &[i64])
+        requires { self.old.count + length ints.now ≤ most_entries }
+        ensures { self.new ≡ merge self.old (state_of Sum (map Int ints.now)) }
+    {
+        for k in 0..ints.len() {
+            self.add_int(ints, k);
+        }
+    }
+
+    /// Selected values more.
+    fn add_selected(&mut self, lanes: &Vector<'_>, selection: &Selection)
+        requires lanes { length (values_of lanes.now) ≡ selection.now.below }
+        requires spelled { All (λ v. is_spelled v ≡ true) (values_of lanes.now) }
+        requires few { self.old.count + length selection.now.list ≤ most_entries }
+        ensures { self.new ≡ merge self.old (state_of Sum (selected (values_of lanes.now) selection.now.list)) }
+    {
+        for k in 0..selection.len() {
+            self.add(selected_value(lanes, selection, k));
+        }
+    }
+
+    /// The entries of a state more.
+    pub fn add_state(&mut self, state: &State)
+        requires { self.old.count + state.now.count ≤ most_entries }
+        ensures { self.new ≡ merge self.old (kept_by Sum state.now) }
+    {
+        self.tally = self.tally.plus(Tally::of_state(state));
+    }
+
+    /// The state.
+    pub fn to_state(&self) -> State
+        ensures { result ≡ self.now }
+    {
+        State::from_statistics(Statistics {
+            count: self.tally.count,
+            sum: self.tally.sum,
+            least: None,
+            greatest: None,
+        })
+    }
+}
+
+impl Accumulator for SumAcc {
+    ghost use Rattle.meaning.specs.declared.plan.AggregateKind.TheVariants.{Sum};
+    ghost use Rattle.accumulators.specs.StateLaws.{states_merge};
+
+    ghost kind = { λ _. Sum };
+
+    ghost held = { λ a. a };
+
+    ghost merges = { λ _. states_merge Sum };
+
+    fn update_batch(
+        &mut self,
+        alloc: Global,
+        lanes: &Vector<'_>,
+        selection: &Selection,
+    ) -> Result<(), AllocError> {
+        if let Some(ints) = plain_ints(lanes, selection) {
+            self.add_ints(ints);
+            return Ok(());
+        }
+        self.add_selected(lanes, selection);
+        Ok(())
+    }
+
+    fn merge_batch(&mut self, alloc: Global, states: &[State]) -> Result<(), AllocError> {
+        for k in 0..states.len() {
+            self.add_state(&states[k]);
+        }
+        Ok(())
+    }
+
+    fn state(&self, alloc: Global) -> Result<State, AllocError> {
+        Ok(self.to_state())
+    }
+
+    fn evaluate(&self, alloc: Global) -> Result<Value, AggFault> {
+        self.to_state().evaluate(alloc, AggregateKind::Sum)
+    }
+}

@@ -1,0 +1,75 @@
+-- The parts of a pattern, and where a part stands in a text.
+use Rattle.std.specs.Prelude.{◌-◌, ◌<◌, nat_eq, Bool, false, ◌≡◌, ℕ, ◌+◌, ◌≤◌, true, List, [], ◌∷◌, ◌++◌, length, take, drop, Option, Some, None, is_some}
+use Rattle.std.proofs.Common.{refl, sym, ap, subst, arith, ◌∙◌}
+use Rattle.std.specs.List.{starts_with, ends_with}
+use Rattle.std.proofs.lemmas.Bool.Decides.{Decides-eqb}
+use Rattle.std.proofs.lemmas.Slice.Eq.{starts_is, ends_is}
+use Rattle.std.specs.Str.{chars, IsUtf8, is_utf8}
+use lib.Utf8.{encode}
+use Rattle.std.specs.Str.Iter.{HasSubslice}
+use Rattle.std.proofs.lemmas.List.{length-append, take-append-drop}
+use Rattle.std.proofs.lemmas.Str.{IsUtf8-from_is_utf8, is_utf8-from_IsUtf8, IsUtf8-take, IsUtf8-drop, IsCharBoundary-after_ascii, IsCharBoundary-at_seam}
+use Rattle.memchr.specs.Find.{OccursAt, FindsNeedle}
+use Rattle.memchr.proofs.lemmas.MatchLemmas.{OccursAt-split, OccursAt-from_part}
+
+-- ---- UTF-8 on either side of a `%`
+
+pub utf8_behind : (rest : List ℕ) → is_utf8 (37 ∷ rest) ≡ true → is_utf8 rest ≡ true
+utf8_behind rest e =
+    let whole = IsUtf8-from_is_utf8 (37 ∷ rest) e in
+    is_utf8-from_IsUtf8 rest (IsUtf8-drop (37 ∷ rest) 1 whole (IsCharBoundary-after_ascii (37 ∷ rest) 0 whole (omega arith) (omega arith)))
+
+take_front : (xs ys : List ℕ) → take (length xs) (xs ++ ys) ≡ xs
+take_front [] ys = refl
+take_front (x ∷ xs) ys = ap (λ zs. x ∷ zs) (take_front xs ys)
+
+drop_front : (xs ys : List ℕ) → drop (length xs) (xs ++ ys) ≡ ys
+drop_front [] ys = refl
+drop_front (x ∷ xs) ys = drop_front xs ys
+
+sign_utf8 : is_utf8 (37 ∷ []) ≡ true
+unfolding is_utf8 chars encode
+sign_utf8 = refl
+
+pub utf8_before : (front : List ℕ) → is_utf8 (front ++ 37 ∷ []) ≡ true → is_utf8 front ≡ true
+utf8_before front e =
+    let whole = IsUtf8-from_is_utf8 (front ++ 37 ∷ []) e in
+    let sign = IsUtf8-from_is_utf8 (37 ∷ []) sign_utf8 in
+    is_utf8-from_IsUtf8 front (subst IsUtf8 (take_front front (37 ∷ [])) (IsUtf8-take (front ++ 37 ∷ []) (length front) whole (IsCharBoundary-at_seam (front ++ 37 ∷ []) front (37 ∷ []) refl sign)))
+
+-- ---- a part is found just where it stands
+
+module _ (text part : List ℕ) where
+  stands_at : (at : ℕ) → OccursAt text part at → HasSubslice text part
+  stands_at at occurs = (take at text, drop (at + length part) text, sym (take-append-drop at text) ∙ ap (λ (bs : List ℕ). take at text ++ bs) (OccursAt-split text part at occurs))
+
+  occurs_behind : (front rest : List ℕ) → text ≡ front ++ (part ++ rest) → OccursAt text part (length front)
+  occurs_behind front rest e =
+      let long : length front + length part ≤ length text = omega (arith, ap length e, length-append front (part ++ rest), length-append part rest) in
+      OccursAt-from_part text part (length front) long (ap (λ (bs : List ℕ). take (length part) (drop (length front) bs)) e ∙ ap (take (length part)) (drop_front front (part ++ rest)) ∙ take_front part rest)
+
+  pub found_to : (r : Option ℕ) → FindsNeedle text part 0 r → is_some r ≡ true → HasSubslice text part
+  found_to None finds e = absurd cc
+  found_to (Some at) finds e = stands_at at finds.1
+
+  pub found_from : (r : Option ℕ) → FindsNeedle text part 0 r → HasSubslice text part → is_some r ≡ true
+  found_from None finds (front, rest, e) =
+      let there = occurs_behind front rest e in
+      absurd (finds (length front) (omega arith) (omega (arith, there.fits)) there)
+  found_from (Some at) finds has = refl
+
+-- ---- a part that is longer than the text
+
+isnt : (b : Bool) → (b ≡ true → ⊥) → false ≡ b
+isnt true refuted = absurd (refuted refl)
+isnt false refuted = refl
+
+pub short_starts : (text part : List ℕ) → length text < length part → false ≡ starts_with nat_eq text part
+short_starts text part short = isnt (starts_with nat_eq text part) (λ e.
+    let whole = (starts_is Decides-eqb text part (starts_with nat_eq text part) refl).0 e in
+    omega (arith, short, ap length whole, length-append part (drop (length part) text)))
+
+pub short_ends : (text part : List ℕ) → length text < length part → false ≡ ends_with nat_eq text part
+short_ends text part short = isnt (ends_with nat_eq text part) (λ e.
+    let whole = (ends_is Decides-eqb text part (ends_with nat_eq text part) refl).0 e in
+    omega (arith, short, ap length whole, length-append (take (length text - length part) text) part))

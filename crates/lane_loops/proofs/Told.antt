@@ -1,0 +1,87 @@
+-- What lanes tell, operator by operator.
+use Rattle.std.specs.Prelude.{◌≡◌, ◌^◌, ℤ, pos, negsuc, ◌+ℤ◌, ◌-ℤ◌, ◌*ℤ◌, neg_ℤ, int_div, Bool, true, false, if◌then◌else◌}
+use Rattle.std.proofs.Common.{refl, ap, arith, ◌∙◌, FitsSigned}
+use Rattle.std.specs.Int.{from_bool, int_wrap, w64}
+use Rattle.std.specs.declared.cmp.Ordering.{Ordering}
+use Rattle.std.specs.declared.cmp.Ordering.TheVariants.{Less, Equal, Greater}
+use Rattle.std.specs.Ordering.{int_cmp, int_eq, nat_cmp, ordering_then}
+use Rattle.std.specs.Cmp.Lexicographic.{slice_cmp}
+use borrow.Author.Tests.{ltb-true}
+use Rattle.std.proofs.lemmas.Int.{int_wrap_fits}
+use Rattle.meaning.specs.declared.value.Value.{Value}
+use Rattle.meaning.specs.declared.value.Value.TheVariants.{Int, Text}
+use Rattle.meaning.specs.declared.outcome.Truth.{Truth}
+use Rattle.meaning.specs.declared.outcome.Truth.TheVariants.{True, False, Unknown}
+use Rattle.meaning.specs.declared.outcome.Outcome.{Outcome}
+use Rattle.meaning.specs.declared.outcome.Outcome.TheVariants as gives
+use Rattle.meaning.specs.declared.expr.ArithmeticOperator.TheVariants.{Divide}
+use Rattle.meaning.specs.declared.expr.ComparisonOperator.{ComparisonOperator}
+use Rattle.meaning.specs.Order.{value_cmp}
+use Rattle.meaning.specs.Truth.{is_true, known}
+use Rattle.meaning.specs.Operators.{fitted, fits_i64, of_integers, test, case_of, coalesce_of}
+use Rattle.vectors.specs.Lanes.{lane_value}
+use Rattle.lane_loops.specs.Lanes.{fault_code, overflow_bit, quotient}
+use Rattle.lane_loops.specs.Outcomes.{told_outcome, told_truth, ArithmeticIsTold, TestsAreTold, ChoicesAreTold, LanesAreTold}
+
+fits_signed : (z : ℤ) → fits_i64 z ≡ true → FitsSigned w64 z
+fits_signed (pos n) e = omega (arith, ltb-true n (2 ^ 63) e)
+fits_signed (negsuc n) e = omega (arith, ltb-true n (2 ^ 63) e)
+
+fitted_told : (z : ℤ) → fitted z ≡ told_outcome false (overflow_bit z) (int_wrap w64 z)
+fitted_told z =
+    elim (fits_i64 z) as (λ b. fits_i64 z ≡ b → fitted z ≡ told_outcome false (overflow_bit z) (int_wrap w64 z)) [
+      | true ↦ λ e. rw (int_wrap_fits w64 z (fits_signed z e), e)
+      | false ↦ λ e. rw e
+    ] refl
+
+divided_told : (m n : ℤ) → of_integers Divide m n ≡ told_outcome false (fault_code (of_integers Divide m n)) (quotient m n)
+divided_told m n =
+    elim (int_eq n (pos 0)) as (λ b. int_eq n (pos 0) ≡ b → of_integers Divide m n ≡ told_outcome false (fault_code (of_integers Divide m n)) (quotient m n)) [
+      | true ↦ λ e. rw e
+      | false ↦ λ e. elim (fits_i64 (int_div m n)) as (λ b. fits_i64 (int_div m n) ≡ b → of_integers Divide m n ≡ told_outcome false (fault_code (of_integers Divide m n)) (quotient m n)) [
+        | true ↦ λ f. rw (e, f)
+        | false ↦ λ f. rw (e, f)
+      ] refl
+    ] refl
+
+arithmetic : (l r : Bool) (m n : ℤ) → ArithmeticIsTold l r m n
+arithmetic true r m n = record { add = refl; subtract = refl; multiply = refl; divide = refl; negate = refl }
+arithmetic false true m n = record { add = refl; subtract = refl; multiply = refl; divide = refl; negate = fitted_told (neg_ℤ m) }
+arithmetic false false m n = record {
+  add = fitted_told (m +ℤ n);
+  subtract = fitted_told (m -ℤ n);
+  multiply = fitted_told (m *ℤ n);
+  divide = divided_told m n;
+  negate = fitted_told (neg_ℤ m);
+}
+
+bit_told : (b : Bool) → known b ≡ told_truth false (from_bool b)
+bit_told true = refl
+bit_told false = refl
+
+ints_cmp : (m n : ℤ) → value_cmp (Int m) (Int n) ≡ int_cmp m n
+ints_cmp m n = elim (int_cmp m n) as (λ o. ordering_then o Equal ≡ o) [ Less ↦ refl | Equal ↦ refl | Greater ↦ refl ]
+
+tests : (op : ComparisonOperator) (l r : Bool) → TestsAreTold op l r
+tests op true r = record { ints = λ m n. refl; texts = λ a b. refl; like = λ pattern a. refl; null_ints = λ m. refl; null_texts = λ a. refl }
+tests op false true = record { ints = λ m n. refl; texts = λ a b. refl; like = λ pattern a. ap gives.Truth (bit_told _); null_ints = λ m. refl; null_texts = λ a. refl }
+tests op false false = record { ints = λ m n. ap (λ (o : Ordering). known (test op o)) (ints_cmp m n) ∙ bit_told (test op (int_cmp m n)); texts = λ a b. bit_told (test op (slice_cmp nat_cmp a b)); like = λ pattern a. ap gives.Truth (bit_told _); null_ints = λ m. refl; null_texts = λ a. refl }
+
+module _ {X : Type 0} (value : X → Value) where
+  case_told : (t : Truth) (these those : Bool × X) → case_of (gives.Truth t) (gives.Value (lane_value value these)) (gives.Value (lane_value value those))
+      ≡ gives.Value (lane_value value ((if is_true t then these.0 else those.0), (if is_true t then these.1 else those.1)))
+  case_told True these those = refl
+  case_told False these those = refl
+  case_told Unknown these those = refl
+
+  coalesce_told : ((x : X) (b : Outcome) → coalesce_of (gives.Value (value x)) b ≡ gives.Value (value x)) → (l : Bool) (x : X) (those : Bool × X)
+      → coalesce_of (gives.Value (lane_value value (l, x))) (gives.Value (lane_value value those))
+      ≡ gives.Value (lane_value value ((if l then those.0 else l), (if l then those.1 else x)))
+  coalesce_told present true x those = refl
+  coalesce_told present false x those = present x (gives.Value (lane_value value those))
+
+  choices_told : ((x : X) (b : Outcome) → coalesce_of (gives.Value (value x)) b ≡ gives.Value (value x)) → ChoicesAreTold value
+  choices_told present = record { case = case_told; coalesce = coalesce_told present }
+
+pub lanes_told : LanesAreTold
+lanes_told = record { arithmetic = arithmetic; tests = tests; ints = choices_told Int (λ x b. refl); texts = choices_told Text (λ x b. refl) }

@@ -1,0 +1,73 @@
+//! Flags of faults: whether a lane has one, and the least that is selected.
+ghost use Rattle.std.specs.Prelude.{◌≡◌, ◌<◌, length, find, All};
+ghost use Rattle.std.specs.List.{list_any, range_with_len};
+ghost use Rattle.lane_loops.specs.Lanes.{AreLanes, cleared_flag, is_flag, is_flagged};
+
+use vectors::selection::Selection;
+
+/// Whether any flag isn't 0.
+pub fn has_flag(flags: &[u8]) -> bool
+    ensures { result ≡ list_any is_flag flags.now }
+{
+    let mut is_any = false;
+    for flag in flags {
+        is_any |= *flag != 0;
+    }
+    is_any
+}
+
+#[inline(always)]
+fn flag_unless_null(nulls: &[bool], flags: &[u8], lane: usize) -> u8
+    requires nulls { lane < length nulls.now }
+    requires flags { lane < length flags.now }
+    ensures { result ≡ cleared_flag nulls.now flags.now lane }
+{
+    // Read in any case, so that there is no branch.
+    let flag = flags[lane];
+    if nulls[lane] { 0 } else { flag }
+}
+
+/// Takes the flag off each lane that is NULL: arithmetic on NULL is NULL, whatever stands in its lane, and no fault.
+pub fn clear_flags(nulls: &[bool], flags: &mut [u8])
+    requires { length nulls.now ≡ length flags.old }
+    ensures { AreLanes 0 (length flags.old) (cleared_flag nulls.now flags.old) flags.new }
+{
+    for i in 0..flags.len() {
+        flags[i] = flag_unless_null(nulls, flags, i);
+    }
+}
+
+fn first_of_all(flags: &[u8]) -> Option<usize>
+    ensures { result ≡ find (is_flagged flags.now) (range_with_len 0 (length flags.now)) }
+{
+    for i in 0..flags.len() {
+        if flags[i] != 0 {
+            return Some(i);
+        }
+    }
+    None
+}
+
+fn first_of_places(flags: &[u8], places: &[u32]) -> Option<usize>
+    requires { All (λ p. p < length flags.now) places.now }
+    ensures { result ≡ find (is_flagged flags.now) places.now }
+{
+    for i in 0..places.len() {
+        let place = places[i] as usize;
+        if flags[place] != 0 {
+            return Some(place);
+        }
+    }
+    None
+}
+
+/// The least selected position whose flag isn't 0.
+pub fn first_flagged(flags: &[u8], selection: &Selection) -> Option<usize>
+    requires { selection.now.below ≡ length flags.now }
+    ensures { result ≡ find (is_flagged flags.now) selection.now.list }
+{
+    match selection.places() {
+        None => first_of_all(flags),
+        Some(places) => first_of_places(flags, places),
+    }
+}

@@ -27,6 +27,12 @@ IsUncounted records Memory = ⊤
 IsUncounted records Device = ⊤
 IsUncounted records (Table fault) = (fault ≡ TooManyRows) × (max_counted ≤ records)
 
+-- out of memory, or the reader failed, or too many rows
+abbrev pub IsOfCounting : LoadFault → Type 0
+IsOfCounting Memory = ⊤
+IsOfCounting Device = ⊤
+IsOfCounting (Table fault) = fault ≡ TooManyRows
+
 -- what a call gave, seen by `view`, is what is meant, unless memory runs out or the reader failed
 abbrev pub LoadsView : {X Y : Type 0} → (X → Y) → Result X LoadFault → Result Y TableFault → Type 0
 LoadsView view (Ok x) meant = meant ≡ Ok (view x)

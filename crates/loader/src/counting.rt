@@ -1,7 +1,7 @@
 //! How many rows a CSV file has.
 ghost use Rattle.std.specs.Prelude.{◌≡◌, ℕ, List, length, drop, Some, IfOk, IfErr};
 ghost use Rattle.meaning.specs.Records.{Record};
-ghost use Rattle.loader.specs.Fault.{IsUncounted};
+ghost use Rattle.loader.specs.Fault.{IsOfCounting, IsUncounted};
 ghost use Rattle.loader.specs.Source.{IsLeft, csv_records};
 
 use crate::fault::LoadFault;
@@ -15,6 +15,7 @@ use std::mem::drop;
 /// How many records are still to come. They are read into `fields`, one over another.
 fn count_records<R: Read>(reader: &mut Reader<R>, fields: &mut ByteRecord) -> Result<u64, LoadFault>
     ensures counted { (rest : List Record) → IsLeft R.remaining reader.old rest → IfOk result (λ n. n ≡ length rest) }
+    ensures told { IfErr result IsOfCounting }
     ensures refused { (rest : List Record) → IsLeft R.remaining reader.old rest → IfErr result (IsUncounted (length rest)) }
 {
     for count in 0..u64::MAX {
@@ -32,6 +33,7 @@ fn count_records<R: Read>(reader: &mut Reader<R>, fields: &mut ByteRecord) -> Re
 /// Out of memory, the reader's own, or too many rows where 64 bits don't count the records.
 pub fn count_rows<R: Read + Drop>(alloc: Global, reader: R) -> Result<u64, LoadFault>
     ensures counted { (bytes : List ℕ) → R.remaining reader ≡ Some bytes → IfOk result (λ n. n ≡ length (drop 1 (csv_records bytes))) }
+    ensures told { IfErr result IsOfCounting }
     ensures refused { (bytes : List ℕ) → R.remaining reader ≡ Some bytes → IfErr result (IsUncounted (length (csv_records bytes))) }
 {
     let mut reader = csv_reader(alloc, reader);

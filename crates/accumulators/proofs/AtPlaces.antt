@@ -104,3 +104,40 @@ room_next left less n p now new more is_left few inside e room = subst (λ (ss :
 
 pub height_next : (p : ℕ) (now new : List Statistics) (more : Statistics) → new ≡ merged_at now p more → length new ≡ length now
 height_next p now new more e = ap (λ (ss : List Statistics). length ss) e ∙ length-set now p (merge (get_or now p no_statistics) more)
+
+-- ---- one place
+
+module _ {X : Type 0} where
+  pub zip_one : (p : ℕ) (ps : List ℕ) (xs : List X) → length ps ≡ length xs → ((j : ℕ) → j < length ps → get_or ps j 0 ≡ p) → zip ps xs ≡ map (λ x. (p, x)) xs
+  zip_one p [] [] long same = refl
+  zip_one p [] (x ∷ xs) long same = absurd (omega (arith, long))
+  zip_one p (q ∷ ps) [] long same = absurd (omega (arith, long))
+  zip_one p (q ∷ ps) (x ∷ xs) long same = λ i. (same 0 (omega arith) i, x) ∷ zip_one p ps xs (omega (arith, long)) (λ j l. same (suc j) (omega (arith, l))) i
+
+  all_there : (p n : ℕ) (xs : List X) → p ≡ n → at_place n (map (λ x. (p, x)) xs) ≡ xs
+  all_there p n [] e = refl
+  all_there p n (x ∷ xs) e = at_place-here p n x (map (λ x. (p, x)) xs) e ∙ (λ i. x ∷ all_there p n xs e i)
+
+  none_there : (p n : ℕ) (xs : List X) → (p == n) ≡ false → at_place n (map (λ x. (p, x)) xs) ≡ []
+  none_there p n [] e = refl
+  none_there p n (x ∷ xs) e = at_place-other p n x (map (λ x. (p, x)) xs) e ∙ none_there p n xs e
+
+module _ {X : Type 0} (known : List X → Statistics) (fresh : (s : Statistics) → merge s (known []) ≡ s) where
+  abbrev from_one : ℕ → List Statistics → ℕ → List X → List Statistics
+  from_one first states p xs = map (λ (s : ℕ × Statistics). merge s.1 (known (at_place s.0 (map (λ x. (p, x)) xs)))) (enumerate_from first states)
+
+  stays : (p n : ℕ) (xs : List X) (s : Statistics) → (p == n) ≡ false → merge s (known (at_place n (map (λ x. (p, x)) xs))) ≡ s
+  stays p n xs s e = ap (λ (ys : List X). merge s (known ys)) (none_there p n xs e) ∙ fresh s
+
+  all_stay : (first p : ℕ) (xs : List X) (states : List Statistics) → p < first → from_one first states p xs ≡ states
+  all_stay first p xs [] l = refl
+  all_stay first p xs (s ∷ states) l = λ i. stays p first xs s (other p first l) i ∷ all_stay (first + 1) p xs states (omega (arith, l)) i
+
+  -- what goes to one place is merged there at once
+  pub at_one : (first p q : ℕ) (xs : List X) (states : List Statistics) → p ≡ first + q → from_one first states p xs ≡ merged_at states q (known xs)
+  at_one first p q xs [] at = refl
+  at_one first p zero xs (s ∷ states) at =
+      let head = ap (λ (ys : List X). merge s (known ys)) (all_there p first xs (omega (arith, at))) in
+      λ i. head i ∷ all_stay (first + 1) p xs states (omega (arith, at)) i
+  at_one first p (suc q) xs (s ∷ states) at =
+      λ i. stays p first xs s (other_above p first (omega (arith, at))) i ∷ at_one (first + 1) p q xs states (omega (arith, at)) i

@@ -1,5 +1,5 @@
 -- A state that grows by one entry after the other.
-use Rattle.std.specs.Prelude.{◌≡◌, ℕ, ◌+◌, ◌<◌, ◌≤◌, List, [], ◌∷◌, length, map, sum, drop, get_or}
+use Rattle.std.specs.Prelude.{◌≡◌, ℕ, ℤ, suc, ◌+◌, ◌<◌, ◌≤◌, List, [], ◌∷◌, length, map, sum, drop, get_or}
 use Rattle.std.proofs.Common.{refl, sym, ap, ◌∙◌, arith, add-one}
 use Rattle.std.proofs.Math.Seq.{drop-cons}
 use Rattle.std.proofs.Math.ListN.{drop_of_length-le}
@@ -12,6 +12,7 @@ use Rattle.meaning.specs.Aggregate.{no_statistics, merge, kept_by, present, stat
 use Rattle.meaning.proofs.Merge.{merge-comm, merge-assoc, merge-none}
 use Rattle.accumulators.specs.Entries.{state_of, together}
 use Rattle.accumulators.specs.StateLaws.{state_of-append}
+use Rattle.accumulators.specs.Kinds.{count_state}
 use Rattle.accumulators.specs.State.{most_entries}
 use Rattle.accumulators.specs.Values.{selected}
 use Rattle.std.proofs.lemmas.List.Sums.{sum_by-cons}
@@ -123,3 +124,12 @@ as_count (s ∷ states) = ap (merge (kept_by Count s)) (as_count states)
 pub as_sum : (states : List Statistics) → together Sum states ≡ together Avg states
 as_sum [] = refl
 as_sum (s ∷ states) = ap (merge (kept_by Sum s)) (as_sum states)
+
+-- ---- integers all count
+
+present_ints : (ints : List ℤ) → length (present (map Int ints)) ≡ length ints
+present_ints [] = refl
+present_ints (z ∷ ints) = ap suc (present_ints ints)
+
+pub count_of_ints : (ints : List ℤ) → state_of Count (map Int ints) ≡ count_state (length ints)
+count_of_ints ints = ap count_state (present_ints ints)

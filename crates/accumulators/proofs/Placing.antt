@@ -1,7 +1,7 @@
 -- The loops over places: one entry, or one state, goes to its place after the other.
 use Rattle.std.specs.Prelude.{◌≡◌, ℕ, ℤ, pos, zero, suc, ◌+◌, ◌<◌, ◌≤◌, List, [], ◌∷◌, length, map, drop, get_or}
 use Rattle.std.specs.List.{zip}
-use Rattle.std.proofs.Common.{refl, ap, ◌∙◌, arith}
+use Rattle.std.proofs.Common.{refl, sym, ap, ◌∙◌, arith}
 use Rattle.meaning.specs.declared.value.Value.{Value}
 use Rattle.meaning.specs.declared.value.Value.TheVariants.{Null, Int}
 use Rattle.meaning.specs.declared.plan.AggregateKind.{AggregateKind}
@@ -12,7 +12,7 @@ use Rattle.accumulators.specs.Columns.{merged_at}
 use Rattle.accumulators.specs.Entries.{state_of, together, with_entries, with_states}
 use Rattle.accumulators.specs.Values.{selected}
 use Rattle.accumulators.proofs.Growing.{joined, merge-no_entry, merge-fresh, first_left, kept_count, present_one}
-use Rattle.accumulators.proofs.AtPlaces.{places_more, places_end}
+use Rattle.accumulators.proofs.AtPlaces.{at_one, places_more, places_end, zip_one}
 
 module _ (kind : AggregateKind) where
   abbrev one_entry : Value → Statistics
@@ -68,3 +68,10 @@ pub int_at : (ints : List ℤ) (k : ℕ) → k < length ints → get_or (map Int
 int_at [] k here = absurd (omega (arith, here))
 int_at (z ∷ ints) zero here = refl
 int_at (z ∷ ints) (suc k) here = int_at ints k (omega (arith, here))
+
+-- all values at one place
+pub entries_at_one : (kind : AggregateKind) (places : List ℕ) (values : List Value) (p : ℕ) (states : List Statistics) → length places ≡ length values
+    → ((j : ℕ) → j < length places → get_or places j 0 ≡ p) → merged_at states p (state_of kind values) ≡ with_entries kind states (zip places values)
+entries_at_one kind places values p states long same =
+    sym (ap (λ (placed : List (ℕ × Value)). with_entries kind states placed) (zip_one p places values long same)
+    ∙ at_one (state_of kind) (merge-no_entry kind) 0 p p values states (omega arith))

@@ -8,7 +8,7 @@ ghost use Rattle.meaning.specs.declared.value.Value.TheVariants as of_value;
 ghost use Rattle.accumulators.specs.Entries.{state_of, with_entries};
 ghost use Rattle.accumulators.specs.Kinds.{has_one_size, keeps_sums};
 ghost use Rattle.accumulators.specs.State.{most_entries};
-ghost use Rattle.accumulators.specs.Values.{is_spelled};
+ghost use Rattle.accumulators.specs.Values.{is_spelled, selected, values_of};
 
 use crate::accumulator::Accumulator;
 use crate::count_acc::CountAcc;
@@ -19,6 +19,8 @@ use crate::sum_acc::SumAcc;
 use meaning::plan::AggregateKind;
 use meaning::value::ValueRef;
 use std::alloc::{AllocError, Global};
+use vectors::selection::Selection;
+use vectors::vector::Vector;
 
 /// What the states of each kind are kept in.
 #[derive(Drop)]
@@ -154,6 +156,77 @@ fn add_state_to_max(
     cell.add_state(alloc, state)
 }
 
+/// Selected values more at one place.
+fn update_count(
+    cells: &mut [CountAcc],
+    alloc: Global,
+    place: usize,
+    lanes: &Vector<'_>,
+    selection: &Selection,
+) -> Result<(), AllocError>
+    requires place { place < length cells.old }
+    requires lanes { length (values_of lanes.now) ≡ selection.now.below }
+    requires spelled { All (λ v. is_spelled v ≡ true) (values_of lanes.now) }
+    requires few { (get_or cells.old place no_statistics).count + length selection.now.list ≤ most_entries }
+    ensures ok { OnOk result (cells.new ≡ merged_at cells.old place (state_of kind.Count (selected (values_of lanes.now) selection.now.list))) }
+    ensures roomy { IsOk result }
+{
+    let cell = &mut cells[place];
+    cell.update_batch(alloc, lanes, selection)
+}
+
+fn update_sum(
+    cells: &mut [SumAcc],
+    alloc: Global,
+    place: usize,
+    lanes: &Vector<'_>,
+    selection: &Selection,
+) -> Result<(), AllocError>
+    requires place { place < length cells.old }
+    requires lanes { length (values_of lanes.now) ≡ selection.now.below }
+    requires spelled { All (λ v. is_spelled v ≡ true) (values_of lanes.now) }
+    requires few { (get_or cells.old place no_statistics).count + length selection.now.list ≤ most_entries }
+    ensures ok { OnOk result (cells.new ≡ merged_at cells.old place (state_of kind.Sum (selected (values_of lanes.now) selection.now.list))) }
+    ensures roomy { IsOk result }
+{
+    let cell = &mut cells[place];
+    cell.update_batch(alloc, lanes, selection)
+}
+
+fn update_min(
+    cells: &mut [MinAcc],
+    alloc: Global,
+    place: usize,
+    lanes: &Vector<'_>,
+    selection: &Selection,
+) -> Result<(), AllocError>
+    requires place { place < length cells.old }
+    requires lanes { length (values_of lanes.now) ≡ selection.now.below }
+    requires spelled { All (λ v. is_spelled v ≡ true) (values_of lanes.now) }
+    requires few { (get_or cells.old place no_statistics).count + length selection.now.list ≤ most_entries }
+    ensures ok { OnOk result (cells.new ≡ merged_at cells.old place (state_of kind.Min (selected (values_of lanes.now) selection.now.list))) }
+{
+    let cell = &mut cells[place];
+    cell.update_batch(alloc, lanes, selection)
+}
+
+fn update_max(
+    cells: &mut [MaxAcc],
+    alloc: Global,
+    place: usize,
+    lanes: &Vector<'_>,
+    selection: &Selection,
+) -> Result<(), AllocError>
+    requires place { place < length cells.old }
+    requires lanes { length (values_of lanes.now) ≡ selection.now.below }
+    requires spelled { All (λ v. is_spelled v ≡ true) (values_of lanes.now) }
+    requires few { (get_or cells.old place no_statistics).count + length selection.now.list ≤ most_entries }
+    ensures ok { OnOk result (cells.new ≡ merged_at cells.old place (state_of kind.Max (selected (values_of lanes.now) selection.now.list))) }
+{
+    let cell = &mut cells[place];
+    cell.update_batch(alloc, lanes, selection)
+}
+
 fn push_count(cells: &mut Vec<CountAcc>) -> Result<(), AllocError>
     ensures ok { OnOk result (cells.new.items ≡ cells.old.items ++ no_statistics ∷ []) }
     ensures err { OnErr result (cells.new.items ≡ cells.old.items) }
@@ -199,6 +272,21 @@ impl Cells {
             AggregateKind::Min => Cells::Min(Vec::new(alloc)),
             AggregateKind::Max => Cells::Max(Vec::new(alloc)),
             AggregateKind::Avg => Cells::Avg(Vec::new(alloc)),
+        }
+    }
+
+    /// A copy, in memory of its own.
+    pub fn copy(&self) -> Result<Cells, AllocError>
+        ensures kind { IfOk result (λ c. kind_of_cells c ≡ kind_of_cells self.now) }
+        ensures states { IfOk result (λ c. states_in c ≡ states_in self.now) }
+    {
+        match self {
+            Cells::CountRows(cells) => Ok(Cells::CountRows(cells.clone()?)),
+            Cells::Count(cells) => Ok(Cells::Count(cells.clone()?)),
+            Cells::Sum(cells) => Ok(Cells::Sum(cells.clone()?)),
+            Cells::Min(cells) => Ok(Cells::Min(cells.clone()?)),
+            Cells::Max(cells) => Ok(Cells::Max(cells.clone()?)),
+            Cells::Avg(cells) => Ok(Cells::Avg(cells.clone()?)),
         }
     }
 
@@ -267,6 +355,45 @@ impl Cells {
                 add_to_sum(cells.as_mut_slice(), place, value);
                 Ok(())
             }
+        }
+    }
+
+    /// Selected values more in the state at one place. On an error the states are open.
+    pub fn update_at(
+        &mut self,
+        alloc: Global,
+        place: usize,
+        lanes: &Vector<'_>,
+        selection: &Selection,
+    ) -> Result<(), AllocError>
+        requires place { place < length (states_in self.old) }
+        requires lanes { length (values_of lanes.now) ≡ selection.now.below }
+        requires spelled { All (λ v. is_spelled v ≡ true) (values_of lanes.now) }
+        requires few { (get_or (states_in self.old) place no_statistics).count + length selection.now.list ≤ most_entries }
+        ensures kind { kind_of_cells self.new ≡ kind_of_cells self.old }
+        ensures height { length (states_in self.new) ≡ length (states_in self.old) }
+        ensures ok { OnOk result (states_in self.new ≡ merged_at (states_in self.old) place (state_of (kind_of_cells self.old) (selected (values_of lanes.now) selection.now.list))) }
+        ensures roomy { has_one_size (kind_of_cells self.old) ≡ true → IsOk result }
+    {
+        match self {
+            Cells::CountRows(cells) => update_count(
+                cells.as_mut_slice(),
+                alloc,
+                place,
+                lanes,
+                selection,
+            ),
+            Cells::Count(cells) => update_count(
+                cells.as_mut_slice(),
+                alloc,
+                place,
+                lanes,
+                selection,
+            ),
+            Cells::Sum(cells) => update_sum(cells.as_mut_slice(), alloc, place, lanes, selection),
+            Cells::Min(cells) => update_min(cells.as_mut_slice(), alloc, place, lanes, selection),
+            Cells::Max(cells) => update_max(cells.as_mut_slice(), alloc, place, lanes, selection),
+            Cells::Avg(cells) => update_sum(cells.as_mut_slice(), alloc, place, lanes, selection),
         }
     }
 

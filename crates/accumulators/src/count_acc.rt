@@ -1,15 +1,18 @@
 //! How many entries of a list are not NULL.
-ghost use Rattle.std.specs.Prelude.{◌≡◌, ◌<◌, ◌≤◌, ◌+◌, ◌∷◌, []};
+ghost use Rattle.std.specs.Prelude.{◌≡◌, ◌<◌, ◌≤◌, ◌+◌, ◌∷◌, [], length, map, true, All};
 ghost use Rattle.meaning.specs.declared.plan.AggregateKind.TheVariants.{Count};
+ghost use Rattle.meaning.specs.declared.value.Value.TheVariants.{Int};
 ghost use Rattle.meaning.specs.Aggregate.{kept_by, merge, no_statistics};
 ghost use Rattle.meaning.specs.Order.{value_in};
 ghost use Rattle.accumulators.specs.Entries.{state_of};
+ghost use Rattle.accumulators.specs.Kinds.{count_state};
 ghost use Rattle.accumulators.specs.State.{most_entries};
+ghost use Rattle.accumulators.specs.Values.{is_spelled, selected, values_of};
 
 use crate::accumulator::Accumulator;
 use crate::end::is_null;
 use crate::fault::AggFault;
-use crate::lanes::selected_value;
+use crate::lanes::{plain_ints, selected_value};
 use crate::state::State;
 use meaning::answer::Statistics;
 use meaning::plan::AggregateKind;
@@ -20,7 +23,7 @@ use vectors::selection::Selection;
 use vectors::vector::Vector;
 
 /// COUNT of one list. Contracts see its state.
-#[derive(Drop)]
+#[derive(Clone, Drop)]
 pub struct CountAcc {
     entries: u64,
 }
@@ -54,6 +57,34 @@ impl CountAcc {
     {
         if !is_null(value) {
             self.entries += 1;
+        }
+    }
+
+    /// So many entries more.
+    fn add_many(&mut self, many: u64)
+        requires { self.old.count + many ≤ most_entries }
+        ensures { self.new ≡ merge self.old (count_state many) }
+    {
+        self.entries += many;
+    }
+
+    /// Integers more, which all count.
+    fn add_ints(&mut self, ints: &[i64])
+        requires { self.old.count + length ints.now ≤ most_entries }
+        ensures { self.new ≡ merge self.old (state_of Count (map Int ints.now)) }
+    {
+        self.add_many(ints.len() as u64);
+    }
+
+    /// Selected values more.
+    fn add_selected(&mut self, lanes: &Vector<'_>, selection: &Selection)
+        requires lanes { length (values_of lanes.now) ≡ selection.now.below }
+        requires spelled { All (λ v. is_spelled v ≡ true) (values_of lanes.now) }
+        requires few { self.old.count + length selection.now.list ≤ most_entries }
+        ensures { self.new ≡ merge self.old (state_of Count (selected (values_of lanes.now) selection.now.list)) }
+    {
+        for k in 0..selection.len() {
+            self.add(selected_value(lanes, selection, k));
         }
     }
 
@@ -94,9 +125,11 @@ impl Accumulator for CountAcc {
         lanes: &Vector<'_>,
         selection: &Selection,
     ) -> Result<(), AllocError> {
-        for k in 0..selection.len() {
-            self.add(selected_value(lanes, selection, k));
+        if let Some(ints) = plain_ints(lanes, selection) {
+            self.add_ints(ints);
+            return Ok(());
         }
+        self.add_selected(lanes, selection);
         Ok(())
     }
 

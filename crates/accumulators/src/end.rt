@@ -26,7 +26,8 @@ pub fn is_null(value: ValueRef<'_>) -> bool
     }
 }
 
-fn comes_first(end: End, value: ValueRef<'_>, other: ValueRef<'_>) -> bool
+/// Whether a value comes before another, from this end.
+pub fn comes_first(end: End, value: ValueRef<'_>, other: ValueRef<'_>) -> bool
     ensures { result ≡ is_lt (cmp_from end (value_in value.entry) (value_in other.entry)) }
 {
     match end {

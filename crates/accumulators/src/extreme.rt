@@ -118,7 +118,7 @@ pub fn found_in_states<'a>(end: End, states: &'a [State]) -> Found<'a>
 }
 
 /// How many entries there are, and the best of them: NULL where there is none.
-#[derive(Drop)]
+#[derive(Clone, Drop)]
 pub struct Extreme {
     pub count: u64,
     pub best: Value,

@@ -20,7 +20,7 @@ use vectors::selection::Selection;
 use vectors::vector::Vector;
 
 /// MAX of one list. Contracts see its state.
-#[derive(Drop)]
+#[derive(Clone, Drop)]
 pub struct MaxAcc {
     found: Extreme,
 }

@@ -1,16 +1,20 @@
 //! What is known of some entries.
-ghost use Rattle.std.specs.Prelude.{◌≡◌, true, Ok, Err, IfOk, IfErr};
+ghost use Rattle.std.specs.Prelude.{◌≡◌, ◌≤◌, ◌+◌, true, Ok, Err, IfOk, IfErr};
+ghost use Rattle.std.specs.Ordering.{ord_min};
 ghost use Rattle.meaning.specs.declared.plan.AggregateKind.TheVariants as kind;
-ghost use Rattle.meaning.specs.Aggregate.{no_statistics, value};
+ghost use Rattle.meaning.specs.Aggregate.{merge, no_statistics, value};
 ghost use Rattle.meaning.specs.Operators.{sum_out_of_range};
-ghost use Rattle.meaning.specs.Order.{value_in};
+ghost use Rattle.meaning.specs.Order.{lesser, value_in};
 ghost use Rattle.accumulators.specs.declared.fault.AggFault.TheVariants.{SumOutOfRange};
-ghost use Rattle.accumulators.specs.State.{is_extreme, IsState};
+ghost use Rattle.accumulators.specs.State.{is_extreme, most_entries, IsState};
+ghost use Rattle.accumulators.specs.Kinds.{cmp_from, IsSum};
 ghost use Rattle.accumulators.specs.Values.{entry, is_spelled};
 
+use crate::end::{End, comes_first};
 use crate::evaluating::{average, count_value, sum_value};
 use crate::fault::AggFault;
 use crate::lanes::owned;
+use crate::tally::Tally;
 use meaning::answer::Statistics;
 use meaning::plan::AggregateKind;
 use meaning::value::{Value, ValueRef};
@@ -55,6 +59,40 @@ pub fn unless_null(value: Value) -> Option<Value>
     }
 }
 
+fn tally_of(statistics: &Statistics) -> Tally
+    requires { IsState statistics.now }
+    ensures count { result.count ≡ statistics.now.count }
+    ensures sum { result.sum ≡ statistics.now.sum }
+    ensures possible { IsSum result.count result.sum }
+{
+    Tally {
+        count: statistics.count,
+        sum: statistics.sum,
+    }
+}
+
+/// Of two values the one that comes first from an end.
+fn first_of(end: End, one: Value, other: Value) -> Value
+    ensures { result ≡ ord_min (cmp_from end) one other }
+{
+    if comes_first(end, other.as_value_ref(), one.as_value_ref()) {
+        return other;
+    }
+    one
+}
+
+/// Of two values that may be absent the one that comes first from an end.
+fn nearer(end: End, one: Option<Value>, other: Option<Value>) -> Option<Value>
+    ensures value { result ≡ lesser (cmp_from end) one other }
+    ensures extreme { is_extreme one ≡ true → is_extreme other ≡ true → is_extreme result ≡ true }
+{
+    match (one, other) {
+        (None, other) => other,
+        (one, None) => one,
+        (Some(one), Some(other)) => Some(first_of(end, one, other)),
+    }
+}
+
 impl State {
     /// The state of no entry.
     pub fn new() -> State
@@ -76,6 +114,22 @@ impl State {
         ensures { result ≡ statistics }
     {
         State { statistics }
+    }
+
+    /// What is known of the entries of both.
+    pub fn merge(self, other: State) -> State
+        requires { self.count + other.count ≤ most_entries }
+        ensures { result ≡ merge self other }
+    {
+        let one = self.into_statistics();
+        let other = other.into_statistics();
+        let tally = tally_of(&one).plus(tally_of(&other));
+        State::from_statistics(Statistics {
+            count: tally.count,
+            sum: tally.sum,
+            least: nearer(End::Least, one.least, other.least),
+            greatest: nearer(End::Greatest, one.greatest, other.greatest),
+        })
     }
 
     /// The statistics alone.

@@ -1,7 +1,7 @@
 //! The states of one aggregate in all groups, by their places.
 ghost use Rattle.std.specs.Prelude.{◌≡◌, ◌<◌, ◌≤◌, ◌+◌, [], ◌∷◌, ◌++◌, length, map, sum, zip, get_or, true, All, IsOk, OnOk, OnErr, IfOk};
 ghost use Rattle.meaning.specs.Aggregate.{kept_by, no_statistics};
-ghost use Rattle.accumulators.specs.Columns.{kind_of_cells, of_states, states_in};
+ghost use Rattle.accumulators.specs.Columns.{kind_of_cells, merged_at, of_states, states_in};
 ghost use Rattle.accumulators.specs.Entries.{with_entries, with_states};
 ghost use Rattle.accumulators.specs.Kinds.{has_one_size, keeps_sums};
 ghost use Rattle.accumulators.specs.State.{most_entries};
@@ -9,6 +9,7 @@ ghost use Rattle.accumulators.specs.Values.{is_spelled, selected, values_of};
 
 use crate::cells::Cells;
 use crate::lanes::{plain_ints, selected_value};
+use crate::same_places::one_place;
 use crate::state::State;
 use meaning::plan::AggregateKind;
 use std::alloc::{AllocError, Global};
@@ -65,6 +66,30 @@ fn update_sums(
     };
     cells.add_ints(places, ints);
     Ok(())
+}
+
+/// All values go to the state at one place.
+fn update_one(
+    cells: &mut Cells,
+    alloc: Global,
+    place: u32,
+    places: &[u32],
+    lanes: &Vector<'_>,
+    selection: &Selection,
+) -> Result<(), AllocError>
+    requires same { All (λ p. p ≡ place) places.now }
+    requires some { 0 < length places.now }
+    requires places { length places.now ≡ length selection.now.list }
+    requires within { All (λ place. place < length (states_in cells.old)) places.now }
+    requires lanes { length (values_of lanes.now) ≡ selection.now.below }
+    requires spelled { All (λ v. is_spelled v ≡ true) (values_of lanes.now) }
+    requires few { All (λ s. s.count + length selection.now.list ≤ most_entries) (states_in cells.old) }
+    ensures kind { kind_of_cells cells.new ≡ kind_of_cells cells.old }
+    ensures height { length (states_in cells.new) ≡ length (states_in cells.old) }
+    ensures ok { OnOk result (states_in cells.new ≡ with_entries (kind_of_cells cells.old) (states_in cells.old) (zip places.now (selected (values_of lanes.now) selection.now.list))) }
+    ensures roomy { has_one_size (kind_of_cells cells.old) ≡ true → IsOk result }
+{
+    cells.update_at(alloc, place as usize, lanes, selection)
 }
 
 /// One state after the other goes to the state at its place.
@@ -146,6 +171,9 @@ impl StateColumn {
         ensures ok { OnOk result (self.new ≡ of_states self.old (with_entries self.old.kind self.old.states (zip places.now (selected (values_of lanes.now) selection.now.list)))) }
         ensures roomy { has_one_size self.old.kind ≡ true → IsOk result }
     {
+        if let Some(place) = one_place(places) {
+            return update_one(&mut self.cells, alloc, place, places, lanes, selection);
+        }
         if self.cells.are_sums() {
             return update_sums(&mut self.cells, alloc, places, lanes, selection);
         }
@@ -169,6 +197,27 @@ impl StateColumn {
         ensures roomy { has_one_size self.old.kind ≡ true → IsOk result }
     {
         merge_each(&mut self.cells, alloc, places, states)
+    }
+
+    /// Merges a state into the one at a place. On an error nothing changes. What keeps no value of its own takes no memory.
+    pub fn merge_at(&mut self, alloc: Global, place: usize, state: &State) -> Result<(), AllocError>
+        requires place { place < length self.old.states }
+        requires few { (get_or self.old.states place no_statistics).count + state.now.count ≤ most_entries }
+        ensures kind { self.new.kind ≡ self.old.kind }
+        ensures ok { OnOk result (self.new ≡ of_states self.old (merged_at self.old.states place (kept_by self.old.kind state.now))) }
+        ensures err { OnErr result (self.new ≡ self.old) }
+        ensures roomy { has_one_size self.old.kind ≡ true → IsOk result }
+    {
+        self.cells.add_state(alloc, place, state)
+    }
+
+    /// A copy, in memory of its own.
+    pub fn copy(&self) -> Result<StateColumn, AllocError>
+        ensures { IfOk result (λ c. c ≡ self.now) }
+    {
+        Ok(StateColumn {
+            cells: self.cells.copy()?,
+        })
     }
 
     /// The state of a group.

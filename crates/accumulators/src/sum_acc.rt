@@ -23,7 +23,7 @@ use vectors::selection::Selection;
 use vectors::vector::Vector;
 
 /// SUM of one list, and what AVG is read off. Contracts see its state.
-#[derive(Drop)]
+#[derive(Clone, Drop)]
 pub struct SumAcc {
     tally: Tally,
 }

@@ -15,12 +15,12 @@ use Rattle.meaning.specs.declared.plan.Aggregate.{Aggregate}
 use Rattle.meaning.specs.declared.plan.TableUse.{TableUse}
 use Rattle.meaning.specs.declared.plan.Plan.{Plan}
 use Rattle.meaning.specs.Results.{and_then}
-use Rattle.sql_reader.specs.declared.tree.Query.{Query}
-use Rattle.sql_reader.specs.declared.tree.Expr.{Expr}
-use Rattle.sql_reader.specs.Words.{lower}
-use Rattle.sql_reader.specs.Tokens.{Terminal}
+use Rattle.sql_syntax.specs.declared.tree.Query.{Query}
+use Rattle.sql_syntax.specs.declared.tree.Expr.{Expr}
+use Rattle.sql_syntax.specs.Words.{lower}
+use Rattle.sql_syntax.specs.Tokens.{Terminal}
 use Rattle.sql_reader.specs.Grammar.{query_of, SpellsItem, rows, sum, IsTree, IsShort}
-use Rattle.sql_reader.specs.Canonical.{canonical}
+use Rattle.sql_syntax.specs.Canonical.{canonical}
 use Rattle.partial_codec.specs.Job.{IsPlanOfJob}
 use Rattle.coordinator.specs.declared.planning.PlanFault.{PlanFault}
 use Rattle.coordinator.specs.declared.planning.PlanFault.TheVariants as fault

@@ -11,10 +11,10 @@ use Rattle.meaning.specs.declared.plan.ColumnUse.{ColumnUse}
 use Rattle.meaning.specs.declared.plan.TableUse.{TableUse}
 use Rattle.meaning.specs.declared.plan.Plan.{Plan}
 use Rattle.meaning.specs.Results.{and_then}
-use Rattle.sql_reader.specs.declared.tree.Query.{Query}
-use Rattle.sql_reader.specs.declared.tree.Expr.TheVariants as expr
+use Rattle.sql_syntax.specs.declared.tree.Query.{Query}
+use Rattle.sql_syntax.specs.declared.tree.Expr.TheVariants as expr
 use Rattle.sql_reader.specs.Grammar.{query_of, sum_column}
-use Rattle.sql_reader.specs.Canonical.{canonical}
+use Rattle.sql_syntax.specs.Canonical.{canonical}
 use Rattle.coordinator.specs.Single.{single_plan}
 use Rattle.coordinator.specs.declared.planning.PlanFault.{PlanFault}
 use Rattle.coordinator.specs.declared.planning.PlanFault.TheVariants.{Memory, TableUnknown, ColumnUnknown, TypeMismatch, FactNotOnce}

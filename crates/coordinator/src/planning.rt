@@ -5,7 +5,7 @@ ghost use Rattle.std.specs.List.{list_any};
 ghost use Rattle.std.specs.Str.{bytes_eq};
 ghost use Rattle.coordinator.specs.Planning.{Form, tree_of, column_in, fact_named, summed_in, summable, use_of, uses_of, fact_use, plan_of, Plans, number_of};
 ghost use Rattle.coordinator.specs.Single.{aggregate_of, only_item, single_plan, with_parts};
-ghost use Rattle.sql_reader.specs.Canonical.{canonical};
+ghost use Rattle.sql_syntax.specs.Canonical.{canonical};
 
 use meaning::catalog::{Catalog, Column, Table};
 use meaning::expr::Expr;

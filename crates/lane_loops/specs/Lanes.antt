@@ -10,7 +10,7 @@ use Rattle.meaning.specs.declared.outcome.Outcome.{Outcome}
 use Rattle.meaning.specs.declared.outcome.Outcome.TheVariants as gives
 use Rattle.meaning.specs.declared.expr.ComparisonOperator.{ComparisonOperator}
 use Rattle.meaning.specs.declared.expr.ArithmeticOperator.TheVariants.{Divide}
-use Rattle.meaning.specs.Truth.{known}
+use Rattle.meaning.specs.Truth.{is_true, known, not3}
 use Rattle.meaning.specs.Like.{is_like}
 use Rattle.meaning.specs.Operators.{test, fits_i64, code_of, of_integers}
 
@@ -44,6 +44,14 @@ int_at ints i = get_or ints i (pos 0)
 -- the truth of a lane
 abbrev pub truth_at : List Truth → ℕ → Truth
 truth_at truths i = get_or truths i Unknown
+
+-- the truth of a lane isn't FALSE
+abbrev pub not_false_at : List Truth → ℕ → Bool
+not_false_at truths i = not (is_true (not3 (truth_at truths i)))
+
+-- the truth of a lane isn't TRUE
+abbrev pub not_true_at : List Truth → ℕ → Bool
+not_true_at truths i = not (is_true (truth_at truths i))
 
 -- 1 where the comparison holds, else 0
 abbrev pub compared_bit : ComparisonOperator → List ℤ → List ℤ → ℕ → ℕ

@@ -2,7 +2,7 @@
 ghost use Rattle.std.specs.Prelude.{◌≡◌, ◌<◌, false, length, if◌then◌else◌};
 ghost use Rattle.meaning.specs.declared.outcome.Truth.TheVariants.{Unknown};
 ghost use Rattle.meaning.specs.Truth.{is_true};
-ghost use Rattle.lane_loops.specs.Lanes.{AreChosen, AreLanes, chosen_lane, truth_at, truth_of_bit, truth_or_unknown};
+ghost use Rattle.lane_loops.specs.Lanes.{AreChosen, AreLanes, chosen_lane, not_false_at, not_true_at, truth_at, truth_of_bit, truth_or_unknown};
 
 use meaning::outcome::Truth;
 
@@ -46,6 +46,42 @@ pub fn true_lanes(truths: &[Truth], out: &mut [bool])
 {
     for i in 0..out.len() {
         out[i] = is_true_at(truths, i);
+    }
+}
+
+#[inline(always)]
+fn is_not_false_at(truths: &[Truth], lane: usize) -> bool
+    requires { lane < length truths.now }
+    ensures { result ≡ not_false_at truths.now lane }
+{
+    !matches!(truths[lane], Truth::False)
+}
+
+/// Which lanes aren't FALSE: those on which AND has its right side evaluated.
+pub fn not_false_lanes(truths: &[Truth], out: &mut [bool])
+    requires { length truths.now ≡ length out.old }
+    ensures { AreLanes false (length out.old) (not_false_at truths.now) out.new }
+{
+    for i in 0..out.len() {
+        out[i] = is_not_false_at(truths, i);
+    }
+}
+
+#[inline(always)]
+fn is_not_true_at(truths: &[Truth], lane: usize) -> bool
+    requires { lane < length truths.now }
+    ensures { result ≡ not_true_at truths.now lane }
+{
+    !matches!(truths[lane], Truth::True)
+}
+
+/// Which lanes aren't TRUE: those on which OR has its right side evaluated.
+pub fn not_true_lanes(truths: &[Truth], out: &mut [bool])
+    requires { length truths.now ≡ length out.old }
+    ensures { AreLanes false (length out.old) (not_true_at truths.now) out.new }
+{
+    for i in 0..out.len() {
+        out[i] = is_not_true_at(truths, i);
     }
 }
 

@@ -1,22 +1,11 @@
 -- The lemmas of this crate.
-pub mod Blanks
-pub mod Runs
-pub mod Quotes
-pub mod AllTokens
 pub mod Steps
 pub mod Trees
 pub mod Whole
-pub mod Names
 pub mod ReadBack
 pub mod Obstacles
-pub mod WorkedTokens
-pub mod Canonical
-pub mod CanonicalQuery
-pub mod Examples
-pub mod Doubling
-pub mod Writing
 pub mod TwoForms
-pub mod TokenTexts
-pub mod ReadAgain
-pub mod Apart
-pub mod ApartQuery
+pub mod Rules
+pub mod Ahead
+pub mod Complete
+pub mod CompleteQuery

@@ -2,21 +2,21 @@
 use Rattle.std.proofs.Common.{◌≡◌, ℕ, Bool, true, false, cond, List, [], ◌∷◌, ◌++◌, Option, Some, None, Result, Ok, Err, ◌⊎◌, inl, inr, refl, sym, ap, subst, ◌∙◌, append_assoc}
 use Rattle.std.proofs.lemmas.List.{append-nil, map-append}
 use denote.Enum.Bare.{true_same}
-use Rattle.sql_reader.specs.contracts.keyword.Keyword as keyword_contract
-use Rattle.sql_reader.specs.contracts.token.Sign as sign_contract
-use Rattle.sql_reader.specs.declared.keyword.Keyword.{Keyword}
-use Rattle.sql_reader.specs.declared.keyword.Keyword.TheVariants as keyword
-use Rattle.sql_reader.specs.declared.token.Sign.{Sign}
-use Rattle.sql_reader.specs.declared.token.Sign.TheVariants as sign
+use Rattle.sql_syntax.specs.contracts.keyword.Keyword as keyword_contract
+use Rattle.sql_syntax.specs.contracts.token.Sign as sign_contract
+use Rattle.sql_syntax.specs.declared.keyword.Keyword.{Keyword}
+use Rattle.sql_syntax.specs.declared.keyword.Keyword.TheVariants as keyword
+use Rattle.sql_syntax.specs.declared.token.Sign.{Sign}
+use Rattle.sql_syntax.specs.declared.token.Sign.TheVariants as sign
 use Rattle.sql_reader.specs.declared.fault.SqlFault.{SqlFault}
-use Rattle.sql_reader.specs.declared.tree.Expr.{Expr}
-use Rattle.sql_reader.specs.declared.tree.Expr.TheVariants as expr
-use Rattle.sql_reader.specs.declared.tree.Query.{Query}
-use Rattle.sql_reader.specs.Words.{lower}
-use Rattle.sql_reader.specs.Tokens as terminal
-use Rattle.sql_reader.specs.Tokens.{Terminal, Placed}
+use Rattle.sql_syntax.specs.declared.tree.Expr.{Expr}
+use Rattle.sql_syntax.specs.declared.tree.Expr.TheVariants as expr
+use Rattle.sql_syntax.specs.declared.tree.Query.{Query}
+use Rattle.sql_syntax.specs.Words.{lower}
+use Rattle.sql_syntax.specs.Tokens as terminal
+use Rattle.sql_syntax.specs.Tokens.{Terminal, Placed, terminals}
 use Rattle.sql_reader.specs.Reading.{◌>>=◌, is_keyword, is_sign, behind, name_of, named, name_at, rows_at, sum_at, item_at, ended, ending_at, query_at}
-use Rattle.sql_reader.specs.Grammar.{refusal, refusal_at, sum_column, query_of, terminals, rows_tokens, sum_tokens, SpellsItem, rows, sum, IsEnding, Spells, Begins, Stops, IsObstacle}
+use Rattle.sql_reader.specs.Grammar.{refusal, refusal_at, sum_column, query_of, rows_tokens, sum_tokens, SpellsItem, rows, sum, IsEnding, Spells, Begins, Stops, IsObstacle}
 use Rattle.sql_reader.proofs.Steps.{Takes, keyword_is, sign_is, behind_keyword, behind_sign, name_ok}
 use Rattle.sql_reader.proofs.Trees.{item_ok}
 

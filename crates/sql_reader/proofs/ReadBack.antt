@@ -7,19 +7,19 @@ use Rattle.std.proofs.lemmas.Bool.{ltb-true}
 use Rattle.std.proofs.lemmas.List.{append-nil}
 use Rattle.std.proofs.lemmas.Str.Ascii.{IsAscii-nil, IsAscii-cons}
 use Rattle.std.proofs.lemmas.Str.{IsUtf8-from_ascii, IsAscii-append}
-use Rattle.sql_reader.specs.declared.keyword.Keyword.TheVariants as keyword
-use Rattle.sql_reader.specs.declared.token.Sign.TheVariants as sign
-use Rattle.sql_reader.specs.declared.tree.Expr.{Expr}
-use Rattle.sql_reader.specs.declared.tree.Expr.TheVariants as expr
-use Rattle.sql_reader.specs.declared.tree.Query.{Query}
-use Rattle.sql_reader.specs.declared.tree.Aggregate.TheVariants as aggregate
-use Rattle.sql_reader.specs.Words.{lower, keyword_of}
-use Rattle.sql_reader.specs.Tokens as terminal
-use Rattle.sql_reader.specs.Tokens.{Terminal, Placed, behind_blanks, is_word_byte, terminal_at, with_first, placed_from, tokens_of}
-use Rattle.sql_reader.specs.Canonical.{canonical}
-use Rattle.sql_reader.specs.Grammar.{sum_column, query_of, terminals, rows_tokens, sum_tokens, SpellsItem, rows, sum, IsTree}
-use Rattle.sql_reader.proofs.Canonical.{printed_rows, printed_aggregate, printed_column}
-use Rattle.sql_reader.proofs.Names.{IsName, IsProper, name_stays, name_first, tokens_proper, lower_lower, lower_name, name_ascii}
+use Rattle.sql_syntax.specs.declared.keyword.Keyword.TheVariants as keyword
+use Rattle.sql_syntax.specs.declared.token.Sign.TheVariants as sign
+use Rattle.sql_syntax.specs.declared.tree.Expr.{Expr}
+use Rattle.sql_syntax.specs.declared.tree.Expr.TheVariants as expr
+use Rattle.sql_syntax.specs.declared.tree.Query.{Query}
+use Rattle.sql_syntax.specs.declared.tree.Aggregate.TheVariants as aggregate
+use Rattle.sql_syntax.specs.Words.{lower, keyword_of}
+use Rattle.sql_syntax.specs.Tokens as terminal
+use Rattle.sql_syntax.specs.Tokens.{Terminal, Placed, behind_blanks, is_word_byte, terminal_at, with_first, placed_from, tokens_of, terminals}
+use Rattle.sql_syntax.specs.Canonical.{canonical}
+use Rattle.sql_reader.specs.Grammar.{sum_column, query_of, rows_tokens, sum_tokens, SpellsItem, rows, sum, IsTree}
+use Rattle.sql_syntax.proofs.Canonical.{printed_rows, printed_aggregate, printed_column}
+use Rattle.sql_syntax.proofs.Names.{IsName, IsProper, name_stays, name_first, tokens_proper, lower_lower, lower_name, name_ascii}
 
 -- ---- the canonical texts
 

@@ -2,16 +2,16 @@
 use Rattle.std.proofs.Common.{◌≡◌, ℕ, Bool, true, false, cond, List, [], ◌∷◌, ◌++◌, Option, Some, None, Result, Ok, Err, refl, sym, ap, ◌∙◌, append_assoc}
 use Rattle.std.proofs.lemmas.List.{map-append}
 use denote.Enum.Bare.{same_true}
-use Rattle.sql_reader.specs.contracts.keyword.Keyword as keyword_contract
-use Rattle.sql_reader.specs.contracts.token.Sign as sign_contract
-use Rattle.sql_reader.specs.declared.keyword.Keyword.{Keyword}
-use Rattle.sql_reader.specs.declared.token.Sign.{Sign}
+use Rattle.sql_syntax.specs.contracts.keyword.Keyword as keyword_contract
+use Rattle.sql_syntax.specs.contracts.token.Sign as sign_contract
+use Rattle.sql_syntax.specs.declared.keyword.Keyword.{Keyword}
+use Rattle.sql_syntax.specs.declared.token.Sign.{Sign}
 use Rattle.sql_reader.specs.declared.fault.SqlFault.{SqlFault}
-use Rattle.sql_reader.specs.Words.{lower}
-use Rattle.sql_reader.specs.Tokens as terminal
-use Rattle.sql_reader.specs.Tokens.{Terminal, Placed}
+use Rattle.sql_syntax.specs.Words.{lower}
+use Rattle.sql_syntax.specs.Tokens as terminal
+use Rattle.sql_syntax.specs.Tokens.{Terminal, Placed, terminals}
 use Rattle.sql_reader.specs.Reading.{◌>>=◌, is_keyword, is_sign, behind, name_of, named, name_at}
-use Rattle.sql_reader.specs.Grammar.{refusal, terminals}
+use Rattle.sql_reader.specs.Grammar.{refusal}
 
 -- the value of a step that did not fail
 pub bind_ok : {A B : Type 0} (r : Result A SqlFault) (f : A → Result B SqlFault) (y : B) → (r >>= f) ≡ Ok y → (x : A) × (r ≡ Ok x) × (f x ≡ Ok y)

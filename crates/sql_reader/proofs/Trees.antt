@@ -1,16 +1,16 @@
 -- What is read is in the grammar, and what is in the grammar is read.
 use Rattle.std.proofs.Common.{◌≡◌, ℕ, Bool, true, false, cond, List, [], ◌∷◌, ◌++◌, Ok, Err, refl, sym, ap, subst, ◌∙◌, inl, inr}
-use Rattle.sql_reader.specs.declared.keyword.Keyword.TheVariants as keyword
-use Rattle.sql_reader.specs.declared.token.Sign.TheVariants as sign
+use Rattle.sql_syntax.specs.declared.keyword.Keyword.TheVariants as keyword
+use Rattle.sql_syntax.specs.declared.token.Sign.TheVariants as sign
 use Rattle.sql_reader.specs.declared.fault.SqlFault.{SqlFault}
-use Rattle.sql_reader.specs.declared.tree.Expr.{Expr}
-use Rattle.sql_reader.specs.declared.tree.Expr.TheVariants as expr
-use Rattle.sql_reader.specs.declared.tree.Query.{Query}
-use Rattle.sql_reader.specs.Words.{lower}
-use Rattle.sql_reader.specs.Tokens as terminal
-use Rattle.sql_reader.specs.Tokens.{Terminal, Placed}
+use Rattle.sql_syntax.specs.declared.tree.Expr.{Expr}
+use Rattle.sql_syntax.specs.declared.tree.Expr.TheVariants as expr
+use Rattle.sql_syntax.specs.declared.tree.Query.{Query}
+use Rattle.sql_syntax.specs.Words.{lower}
+use Rattle.sql_syntax.specs.Tokens as terminal
+use Rattle.sql_syntax.specs.Tokens.{Terminal, Placed, terminals}
 use Rattle.sql_reader.specs.Reading.{◌>>=◌, is_keyword, is_sign, behind, name_at, rows_at, sum_at, item_at, ended, ending_at, query_at}
-use Rattle.sql_reader.specs.Grammar.{refusal_at, sum_column, query_of, terminals, rows_tokens, sum_tokens, SpellsItem, rows, sum, IsEnding, Spells}
+use Rattle.sql_reader.specs.Grammar.{refusal_at, sum_column, query_of, rows_tokens, sum_tokens, SpellsItem, rows, sum, IsEnding, Spells}
 use Rattle.sql_reader.proofs.Steps.{Takes, takes_then, taken_parts, bind_ok, keyword_is, sign_is, behind_keyword, behind_sign, behind_again, name_ok, name_again}
 
 -- the tokens of an item were taken from the front

@@ -1,19 +1,19 @@
 -- The two forms that are read are queries of the whole grammar.
 use Rattle.std.proofs.Common.{ℕ, List, [], ◌∷◌, ◌++◌, inl, inr, sym, ap, subst}
 use Rattle.std.proofs.lemmas.List.{append-nil}
-use Rattle.sql_reader.specs.declared.keyword.Keyword.TheVariants as keyword
-use Rattle.sql_reader.specs.declared.strength.Level.TheVariants as level
-use Rattle.sql_reader.specs.declared.tree.Aggregate.TheVariants as aggregate
-use Rattle.sql_reader.specs.declared.tree.Expr.{Expr}
-use Rattle.sql_reader.specs.declared.tree.Query.{Query}
-use Rattle.sql_reader.specs.Words.{lower}
-use Rattle.sql_reader.specs.Tokens as terminal
-use Rattle.sql_reader.specs.Tokens.{Terminal}
+use Rattle.sql_syntax.specs.declared.keyword.Keyword.TheVariants as keyword
+use Rattle.sql_syntax.specs.declared.strength.Level.TheVariants as level
+use Rattle.sql_syntax.specs.declared.tree.Aggregate.TheVariants as aggregate
+use Rattle.sql_syntax.specs.declared.tree.Expr.{Expr}
+use Rattle.sql_syntax.specs.declared.tree.Query.{Query}
+use Rattle.sql_syntax.specs.Words.{lower}
+use Rattle.sql_syntax.specs.Tokens as terminal
+use Rattle.sql_syntax.specs.Tokens.{Terminal}
 use Rattle.sql_reader.specs.Grammar as two
 use Rattle.sql_reader.specs.Grammar.{SpellsItem, IsEnding, query_of}
-use Rattle.sql_reader.specs.Phrases.{word, Spells, rows, aggregated, column}
-use Rattle.sql_reader.specs.Queries.{none, table, last_item, no_others, no_clause, no_groups, no_order, no_limit, SpellsEnd, no_end, semicolon, SpellsQuery}
-use Rattle.sql_reader.proofs.Canonical.{from_primary}
+use Rattle.sql_syntax.specs.Phrases.{word, Spells, rows, aggregated, column}
+use Rattle.sql_syntax.specs.Queries.{none, table, last_item, no_others, no_clause, no_groups, no_order, no_limit, SpellsEnd, no_end, semicolon, SpellsQuery}
+use Rattle.sql_syntax.proofs.Canonical.{from_primary}
 
 item_is : {ts : List Terminal} {e : Expr} → SpellsItem ts e → Spells level.Disjunction ts e
 item_is (two.rows ts e tokens tree) = subst (λ us. Spells level.Disjunction us e) (sym tokens) (subst (λ x. Spells level.Disjunction two.rows_tokens x) (sym tree) (from_primary level.Disjunction rows))

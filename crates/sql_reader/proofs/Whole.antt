@@ -7,12 +7,12 @@ use Rattle.std.proofs.lemmas.Str.{IsUtf8-from_is_utf8, is_utf8-from_IsUtf8}
 use Rattle.meaning.specs.Limits.{max_query_bytes}
 use Rattle.sql_reader.specs.declared.fault.SqlFault.{SqlFault}
 use Rattle.sql_reader.specs.declared.fault.SqlFault.TheVariants as fault
-use Rattle.sql_reader.specs.declared.tree.Query.{Query}
-use Rattle.sql_reader.specs.Tokens as terminal
-use Rattle.sql_reader.specs.Tokens.{Terminal, Placed, tokens_of}
-use Rattle.sql_reader.specs.Canonical.{canonical}
+use Rattle.sql_syntax.specs.declared.tree.Query.{Query}
+use Rattle.sql_syntax.specs.Tokens as terminal
+use Rattle.sql_syntax.specs.Tokens.{Terminal, Placed, tokens_of, terminals}
+use Rattle.sql_syntax.specs.Canonical.{canonical}
 use Rattle.sql_reader.specs.Reading.{◌>>=◌, Fails, Gives, if_short, query_at, reading_of_text, reading}
-use Rattle.sql_reader.specs.Grammar.{refusal, refusal_at, terminals, Spells, IsTree, IsShort, IsObstacle, IsRefusal}
+use Rattle.sql_reader.specs.Grammar.{refusal, refusal_at, Spells, IsTree, IsShort, IsObstacle, IsRefusal}
 use Rattle.sql_reader.proofs.Steps.{bind_ok}
 use Rattle.sql_reader.proofs.Trees.{query_ok, query_again}
 use Rattle.sql_reader.proofs.Obstacles.{bind_err, query_obstacle}

@@ -1,23 +1,19 @@
 -- Which tokens spell which tree.
-use Rattle.std.specs.Prelude.{◌≡◌, ◌⊎◌, ℕ, ◌≤◌, ◌<◌, List, [], ◌∷◌, ◌++◌, length, map, None, nat_le, if◌then◌else◌}
+use Rattle.std.specs.Prelude.{◌≡◌, ◌⊎◌, ℕ, ◌≤◌, ◌<◌, List, [], ◌∷◌, ◌++◌, length, None, nat_le, if◌then◌else◌}
 use Rattle.std.specs.Str.{IsUtf8}
 use Rattle.meaning.specs.Limits.{max_query_bytes}
-use Rattle.sql_reader.specs.declared.keyword.Keyword.TheVariants as keyword
-use Rattle.sql_reader.specs.declared.token.Sign.TheVariants as sign
+use Rattle.sql_syntax.specs.declared.keyword.Keyword.TheVariants as keyword
+use Rattle.sql_syntax.specs.declared.token.Sign.TheVariants as sign
 use Rattle.sql_reader.specs.declared.fault.SqlFault.{SqlFault}
 use Rattle.sql_reader.specs.declared.fault.SqlFault.TheVariants as fault
-use Rattle.sql_reader.specs.declared.tree.Aggregate.TheVariants as aggregate
-use Rattle.sql_reader.specs.declared.tree.Expr.{Expr}
-use Rattle.sql_reader.specs.declared.tree.Expr.TheVariants as expr
-use Rattle.sql_reader.specs.declared.tree.Query.{Query}
-use Rattle.sql_reader.specs.Words.{lower}
-use Rattle.sql_reader.specs.Tokens as terminal
-use Rattle.sql_reader.specs.Tokens.{Terminal, Placed, tokens_of}
-use Rattle.sql_reader.specs.Canonical.{canonical}
-
--- the tokens alone, wherever they stand
-abbrev pub terminals : List Placed → List Terminal
-terminals = map (λ p. p.terminal)
+use Rattle.sql_syntax.specs.declared.tree.Aggregate.TheVariants as aggregate
+use Rattle.sql_syntax.specs.declared.tree.Expr.{Expr}
+use Rattle.sql_syntax.specs.declared.tree.Expr.TheVariants as expr
+use Rattle.sql_syntax.specs.declared.tree.Query.{Query}
+use Rattle.sql_syntax.specs.Words.{lower}
+use Rattle.sql_syntax.specs.Tokens as terminal
+use Rattle.sql_syntax.specs.Tokens.{Terminal, Placed, tokens_of, terminals}
+use Rattle.sql_syntax.specs.Canonical.{canonical}
 
 -- the tree of `SUM ( column )`
 abbrev pub sum_column : List ℕ → Expr

@@ -1,13 +1,11 @@
 -- The definitions of this crate.
-pub mod Words
 pub mod Faults
-pub mod Tokens
-pub mod Canonical
 pub mod Grammar
 pub mod Reading
-pub mod Strength
-pub mod Phrases
-pub mod CanonicalTokens
-pub mod Queries
-pub mod Quoting
-pub mod Printing
+pub use Rattle.sql_syntax.specs.Words
+pub use Rattle.sql_syntax.specs.Tokens
+pub use Rattle.sql_syntax.specs.Canonical
+pub use Rattle.sql_syntax.specs.Strength
+pub use Rattle.sql_syntax.specs.Phrases
+pub use Rattle.sql_syntax.specs.CanonicalTokens
+pub use Rattle.sql_syntax.specs.Queries

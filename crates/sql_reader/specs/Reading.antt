@@ -3,21 +3,21 @@ use Rattle.std.specs.Prelude.{◌≡◌, ℕ, Bool, false, nat_le, nat_lt, if◌
 use Rattle.std.specs.Str.{is_utf8}
 use Rattle.meaning.specs.Limits.{max_query_bytes}
 use denote.Enum.Bare.{sameb}
-use Rattle.sql_reader.specs.contracts.keyword.Keyword as keyword_contract
-use Rattle.sql_reader.specs.contracts.token.Sign as sign_contract
-use Rattle.sql_reader.specs.declared.keyword.Keyword.{Keyword}
-use Rattle.sql_reader.specs.declared.keyword.Keyword.TheVariants as keyword
-use Rattle.sql_reader.specs.declared.token.Sign.{Sign}
-use Rattle.sql_reader.specs.declared.token.Sign.TheVariants as sign
+use Rattle.sql_syntax.specs.contracts.keyword.Keyword as keyword_contract
+use Rattle.sql_syntax.specs.contracts.token.Sign as sign_contract
+use Rattle.sql_syntax.specs.declared.keyword.Keyword.{Keyword}
+use Rattle.sql_syntax.specs.declared.keyword.Keyword.TheVariants as keyword
+use Rattle.sql_syntax.specs.declared.token.Sign.{Sign}
+use Rattle.sql_syntax.specs.declared.token.Sign.TheVariants as sign
 use Rattle.sql_reader.specs.declared.fault.SqlFault.{SqlFault}
 use Rattle.sql_reader.specs.declared.fault.SqlFault.TheVariants as fault
-use Rattle.sql_reader.specs.declared.tree.Expr.{Expr}
-use Rattle.sql_reader.specs.declared.tree.Expr.TheVariants as expr
-use Rattle.sql_reader.specs.declared.tree.Query.{Query}
-use Rattle.sql_reader.specs.Words.{lower}
-use Rattle.sql_reader.specs.Tokens as terminal
-use Rattle.sql_reader.specs.Tokens.{Terminal, Placed, tokens_of}
-use Rattle.sql_reader.specs.Canonical.{canonical}
+use Rattle.sql_syntax.specs.declared.tree.Expr.{Expr}
+use Rattle.sql_syntax.specs.declared.tree.Expr.TheVariants as expr
+use Rattle.sql_syntax.specs.declared.tree.Query.{Query}
+use Rattle.sql_syntax.specs.Words.{lower}
+use Rattle.sql_syntax.specs.Tokens as terminal
+use Rattle.sql_syntax.specs.Tokens.{Terminal, Placed, tokens_of}
+use Rattle.sql_syntax.specs.Canonical.{canonical}
 use Rattle.sql_reader.specs.Grammar.{query_of, sum_column, refusal, refusal_at}
 
 -- ---- what a call gives

@@ -1,18 +1,18 @@
 //! A query's tree from its tokens.
 ghost use Rattle.std.specs.Prelude.{◌≡◌, IfOk};
-ghost use Rattle.sql_reader.specs.Words.{lower};
-ghost use Rattle.sql_reader.specs.Tokens.{all_placed, terminal_of};
+ghost use Rattle.sql_syntax.specs.Words.{lower};
+ghost use Rattle.sql_syntax.specs.Tokens.{all_placed, terminal_of};
 ghost use Rattle.sql_reader.specs.Grammar.{refusal, refusal_at, sum_column, query_of};
-ghost use Rattle.sql_reader.specs.declared.tree.Expr.{Expr};
+ghost use Rattle.sql_syntax.specs.declared.tree.Expr.{Expr};
 ghost use Rattle.sql_reader.specs.Reading.{Gives, Tells, is_keyword, is_sign, behind, name_at, rows_at, sum_at, item_at, ended, ending_at, query_at, query_from};
 
 use crate::fault::SqlFault;
-use crate::keyword::Keyword;
-use crate::token::{Lexeme, Sign, Token};
-use crate::tree::{Aggregate, Expr, Item, Query, Source, Table};
 use meaning::boxed::Boxed;
 use meaning::sequence::Sequence;
 use meaning::text::Text;
+use sql_syntax::keyword::Keyword;
+use sql_syntax::token::{Lexeme, Sign, Token};
+use sql_syntax::tree::{Aggregate, Expr, Item, Query, Source, Table};
 use std::alloc::{AllocError, Global};
 use std::mem::drop;
 

@@ -1,15 +1,15 @@
 //! A query from the bytes of its text.
 ghost use Rattle.std.specs.Prelude.{IfOk, IfErr, Ok};
-ghost use Rattle.sql_reader.specs.declared.tree.Query.{Query};
+ghost use Rattle.sql_syntax.specs.declared.tree.Query.{Query};
 ghost use Rattle.sql_reader.specs.Grammar.{IsTree, IsShort, IsRefusal};
 ghost use Rattle.sql_reader.specs.Reading.{Gives, reading, reading_of_text, if_short};
 
 use crate::fault::SqlFault;
-use crate::lexer::tokens;
 use crate::parser::Parser;
-use crate::printing::print;
-use crate::tree::Query;
 use meaning::limits::MAX_QUERY_BYTES;
+use sql_syntax::lexer::tokens;
+use sql_syntax::print;
+use sql_syntax::tree::Query;
 use std::alloc::Global;
 use std::mem::drop;
 

@@ -35,13 +35,13 @@ fn is_lane(lanes: &Vector<'_>, lane: usize, value: ValueRef<'_>) -> bool {
     }
 }
 
-/// Whether the lanes are the first rows of the column.
-fn are_rows(lanes: &Vector<'_>, column: &Column) -> bool {
-    if lanes.len() > column.len() {
+/// Whether the lanes are rows of the column, from one on.
+pub fn are_rows(lanes: &Vector<'_>, column: &Column, from: usize) -> bool {
+    if from > column.len() || lanes.len() > column.len() - from {
         return false;
     }
-    for row in 0..lanes.len() {
-        if !is_lane(lanes, row, column.get(row)) {
+    for lane in 0..lanes.len() {
+        if !is_lane(lanes, lane, column.get(from + lane)) {
             return false;
         }
     }
@@ -60,7 +60,7 @@ fn lends_rows<'v>(
     let mut batch: Batch<'v> = Batch::new(alloc, lanes.len());
     batch.push(BatchColumn { place, lanes })?;
     match batch.column(place) {
-        Some(lanes) => Ok(lanes.len() > 0 && are_rows(lanes, column)),
+        Some(lanes) => Ok(lanes.len() > 0 && are_rows(lanes, column, 0)),
         None => Ok(false),
     }
 }

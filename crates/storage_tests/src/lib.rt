@@ -12,3 +12,5 @@ mod damage;
 mod files;
 #[cfg(test)]
 mod readers;
+#[cfg(test)]
+mod scans;

@@ -191,6 +191,13 @@ impl Selection {
         self.narrow(|place| mask[place as usize]);
     }
 
+    /// For each position below the length whether it is selected.
+    pub fn mask(&self, alloc: Global) -> Result<Vec<bool>, AllocError>
+        ensures { IfOk result (λ mask. IsMask self.now.list self.now.below mask.items) }
+    {
+        mask_of(alloc, self)
+    }
+
     /// A copy, with room of its own.
     pub fn copy(&self, alloc: Global) -> Result<Selection, AllocError>
         ensures { IfOk result (λ s. s ≡ self.now) }

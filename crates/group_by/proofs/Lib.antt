@@ -1,0 +1,12 @@
+pub mod Shapes
+pub mod Growing
+pub mod Together
+pub mod Rows
+pub mod Batches
+pub mod Finding
+pub mod Updating
+pub mod Adding
+pub mod Merging
+pub mod Fresh
+pub mod Combining
+pub mod Handing

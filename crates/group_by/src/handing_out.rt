@@ -1,0 +1,182 @@
+//! The groups of a table in the order of their keys, those of one key as one.
+ghost use Rattle.std.specs.Prelude.{◌≡◌, ℕ, ◌<◌, ◌≤◌, ◌+◌, ◌∷◌, length, map, reverse, get_or, sum, All, IfOk, OnOk, IsPermutation};
+ghost use Rattle.meaning.specs.Aggregate.{no_statistics};
+ghost use Rattle.meaning.specs.Group.{merge_groups};
+ghost use Rattle.meaning.specs.Order.{row_cmp};
+ghost use Rattle.accumulators.specs.State.{most_entries};
+ghost use Rattle.group_by.specs.Combined.{combined, put_before, zipped, AreFit, AreMergeable, IsInOrder, MergesWithFirst, Rises, SameBeside};
+ghost use Rattle.group_by.specs.Places.{by_place, group_at, state_at, state_in};
+
+use crate::keys::{are_equal, compare_keys, copy_key};
+use accumulators::{Group, State, StateColumn};
+use meaning::sequence::Sequence;
+use meaning::value::Row;
+use std::alloc::{AllocError, Global};
+use std::cmp::Ordering;
+use std::mem::drop;
+
+/// The state at a place of each column.
+fn states_at(
+    alloc: Global,
+    columns: &[StateColumn],
+    place: usize,
+) -> Result<Sequence<State>, AllocError>
+    requires { All (λ c. place < length c.states) columns.now }
+    ensures { IfOk result (λ states. states ≡ map (λ c. state_in c place) columns.now) }
+{
+    let mut states = Sequence::new(alloc);
+    for column in columns {
+        states.push(column.state(alloc, place)?)?;
+    }
+    Ok(states)
+}
+
+/// The group at a place.
+fn group_of(
+    alloc: Global,
+    key: Row,
+    rows: &[u64],
+    columns: &[StateColumn],
+    place: usize,
+) -> Result<Group, AllocError>
+    requires rows { place < length rows.now }
+    requires columns { All (λ c. place < length c.states) columns.now }
+    ensures { IfOk result (λ g. g ≡ group_at rows.now columns.now key place) }
+{
+    let states = states_at(alloc, columns, place)?;
+    Ok(Group::new(key, rows[place], states))
+}
+
+/// The groups by their places, the last first.
+pub fn by_places(
+    alloc: Global,
+    keys: Vec<Row>,
+    rows: &[u64],
+    columns: &[StateColumn],
+) -> Result<Vec<Group>, AllocError>
+    requires rows { length rows.now ≡ length keys.items }
+    requires columns { All (λ c. length c.states ≡ length keys.items) columns.now }
+    ensures { IfOk result (λ groups. groups.items ≡ reverse (by_place keys.items rows.now columns.now)) }
+{
+    let mut keys = keys;
+    let mut groups = Vec::with_capacity(alloc, keys.len())?;
+    while let Some(key) = keys.pop() {
+        groups.push(group_of(alloc, key, rows, columns, keys.len())?)?;
+    }
+    Ok(groups)
+}
+
+fn compare(one: &Group, other: &Group) -> Ordering
+    ensures { result ≡ row_cmp one.now.key other.now.key }
+{
+    compare_keys(one.key(), other.key())
+}
+
+/// Puts groups in the order of their keys.
+fn sort(groups: &mut Vec<Group>) -> Result<(), AllocError>
+    ensures beside { OnOk result (SameBeside groups.old.items groups.new.items) }
+    ensures sorted { OnOk result (Rises (map (λ g. g.key) groups.new.items)) }
+    ensures permutation { OnOk result (IsPermutation groups.old.items groups.new.items) }
+{
+    groups.sort_by(|one, other| compare(one, other))?;
+    Ok(())
+}
+
+/// The states of two groups, merged one by one.
+fn merged_states(
+    alloc: Global,
+    states: &[State],
+    others: &[State],
+) -> Result<Sequence<State>, AllocError>
+    requires widths { length states.now ≡ length others.now }
+    requires few { (c : ℕ) → (get_or states.now c no_statistics).count + (get_or others.now c no_statistics).count ≤ most_entries }
+    ensures { IfOk result (λ merged. merged ≡ zipped states.now others.now) }
+{
+    let mut merged = Sequence::new(alloc);
+    for k in 0..states.len() {
+        let one = states[k].copy(alloc)?;
+        let other = others[k].copy(alloc)?;
+        merged.push(one.merge(other))?;
+    }
+    Ok(merged)
+}
+
+/// Two groups of one key as one.
+fn merged(alloc: Global, one: &Group, other: &Group) -> Result<Group, AllocError>
+    requires { AreMergeable one.now other.now }
+    ensures { IfOk result (λ g. g ≡ merge_groups one.now other.now) }
+{
+    let key = copy_key(alloc, other.key())?;
+    let states = merged_states(alloc, one.states(), other.states())?;
+    Ok(Group::new(key, one.rows() + other.rows(), states))
+}
+
+/// Puts a group behind the last, and makes them one where they have one key.
+fn put_behind(
+    alloc: Global,
+    groups: &mut Vec<Group>,
+    last: Group,
+    group: Group,
+) -> Result<(), AllocError>
+    requires { AreMergeable group last }
+    ensures { OnOk result (reverse groups.new.items ≡ put_before group (last ∷ reverse groups.old.items)) }
+{
+    if are_equal(group.key(), last.key()) {
+        groups.push(merged(alloc, &group, &last)?)?;
+        return Ok(());
+    }
+    groups.push(last)?;
+    groups.push(group)?;
+    Ok(())
+}
+
+/// Puts a group behind the others, as one with the last where they have one key.
+fn put(alloc: Global, groups: &mut Vec<Group>, group: Group) -> Result<(), AllocError>
+    requires { MergesWithFirst group (reverse groups.old.items) }
+    ensures { OnOk result (reverse groups.new.items ≡ put_before group (reverse groups.old.items)) }
+{
+    match groups.pop() {
+        Some(last) => put_behind(alloc, groups, last, group),
+        None => {
+            groups.push(group)?;
+            Ok(())
+        }
+    }
+}
+
+/// Groups that stand in order, those of one key as one.
+fn combine(alloc: Global, groups: Vec<Group>, width: usize) -> Result<Vec<Group>, AllocError>
+    requires { AreFit width groups.items }
+    ensures { IfOk result (λ out. out.items ≡ combined groups.items) }
+{
+    let mut groups = groups;
+    let mut out = Vec::with_capacity(alloc, groups.len())?;
+    while let Some(group) = groups.pop() {
+        put(alloc, &mut out, group)?;
+    }
+    out.reverse();
+    Ok(out)
+}
+
+/// The groups of the places in the order of their keys, those of one key as one.
+pub fn in_order(
+    alloc: Global,
+    keys: Vec<Row>,
+    rows: &[u64],
+    columns: &[StateColumn],
+) -> Result<Vec<Group>, AllocError>
+    requires rows { length rows.now ≡ length keys.items }
+    requires columns { All (λ c. length c.states ≡ length keys.items) columns.now }
+    requires few { sum rows.now ≤ most_entries }
+    requires within { (c place : ℕ) → (state_at columns.now c place).count ≤ get_or rows.now place 0 }
+    ensures { IfOk result (λ groups. IsInOrder keys.items rows.now columns.now groups.items) }
+{
+    let mut groups = by_places(alloc, keys, rows, columns)?;
+    match sort(&mut groups) {
+        Ok(()) => combine(alloc, groups, columns.len()),
+        Err(fault) => {
+            drop(groups);
+            Err(fault)
+        }
+    }
+}

@@ -1,0 +1,345 @@
+//! Keys by their places, and a hash table that leads to them.
+//!
+//! The hash table is a hint: a place that it names is taken only after its key was compared, and a key that it leads to no
+//! place of gets a place more. So no contract rests on hashes. The groups of a key with two places are made one when they
+//! are handed out.
+ghost use Rattle.std.specs.Prelude.{◌≡◌, ◌<◌, ◌≤◌, ◌∷◌, ◌++◌, [], length, get_or, All, true, IfOk, IfSome, OnOk};
+ghost use Rattle.meaning.specs.declared.value.Value.TheVariants.{Int};
+ghost use Rattle.accumulators.specs.Values.{values_of};
+ghost use Rattle.group_by.specs.Places.{AreFound, IsFound};
+ghost use Rattle.group_by.specs.Shape.{empty_key};
+ghost use Rattle.group_by.specs.Rows.{int_keys, row_at, rows_at, AreLanesOf};
+
+use crate::hashing::{hash_int, hash_lanes, hash_row};
+use crate::key_list::KeyList;
+use crate::keys::{copy_key, key_of, plain_key};
+use accumulators::position;
+use meaning::sequence::Sequence;
+use meaning::value::Row;
+use std::alloc::{AllocError, Global};
+use vectors::selection::Selection;
+use vectors::vector::Vector;
+
+/// An entry of the hash table: a place, and the part of its key's hash that doesn't choose the slot.
+#[derive(Clone, Copy)]
+struct Slot {
+    tag: u32,
+    place: u32,
+}
+
+const EMPTY: u32 = u32::MAX;
+
+const LEAST_SLOTS: usize = 16;
+
+/// Keys in the order in which they came.
+#[derive(Drop)]
+pub struct KeyIndex {
+    pub keys: KeyList,
+    hashes: Vec<u64>,
+    // A power of two of them, at least half of them empty.
+    slots: Vec<Slot>,
+}
+
+#[inline(always)]
+fn tag_of(hash: u64) -> u32 {
+    let [_, _, _, _, a, b, c, d] = hash.to_le_bytes();
+    u32::from_le_bytes([a, b, c, d])
+}
+
+/// The slot to look at after so many steps. Linear probing.
+#[inline(always)]
+fn slot_number(hash: u64, step: usize, slots: usize) -> usize {
+    (hash as usize).wrapping_add(step) & slots.wrapping_sub(1)
+}
+
+/// Whether the slot's place is that of the key at a position.
+#[inline(always)]
+fn leads_to_lanes(slot: Slot, hash: u64, keys: &KeyList, lanes: &[Vector<'_>], at: usize) -> bool
+    requires { All (λ column. at < length (values_of column)) lanes.now }
+    ensures { result ≡ true → (slot.place < length keys.now) × (get_or keys.now slot.place [] ≡ row_at lanes.now at) }
+{
+    if slot.tag != tag_of(hash) {
+        return false;
+    }
+    keys.is_key(slot.place, lanes, at)
+}
+
+#[inline(always)]
+fn leads_to_row(slot: Slot, hash: u64, keys: &KeyList, row: &Row) -> bool
+    ensures { result ≡ true → (slot.place < length keys.now) × (get_or keys.now slot.place [] ≡ row.now) }
+{
+    if slot.tag != tag_of(hash) {
+        return false;
+    }
+    keys.is_row(slot.place, row)
+}
+
+/// Puts a place into the first empty slot for its hash.
+fn enter(slots: &mut [Slot], hash: u64, place: u32) {
+    for step in 0..slots.len() {
+        let number = slot_number(hash, step, slots.len());
+        if number < slots.len() && slots[number].place == EMPTY {
+            slots[number] = Slot {
+                tag: tag_of(hash),
+                place,
+            };
+            return;
+        }
+    }
+}
+
+fn enter_all(slots: &mut [Slot], hashes: &[u64]) {
+    for place in 0..hashes.len() {
+        if let Ok(number) = u32::try_from(place) {
+            enter(slots, hashes[place], number);
+        }
+    }
+}
+
+impl KeyIndex {
+    /// No key. Takes no memory.
+    pub fn new(alloc: Global) -> KeyIndex
+        ensures { result.keys ≡ [] }
+    {
+        KeyIndex {
+            keys: KeyList::new(alloc),
+            hashes: Vec::new(alloc),
+            slots: Vec::new(alloc),
+        }
+    }
+
+    /// The place of the key at a position, where the hash table leads to one.
+    #[inline(always)]
+    fn find_lanes(&self, hash: u64, lanes: &[Vector<'_>], at: usize) -> Option<u32>
+        requires { All (λ column. at < length (values_of column)) lanes.now }
+        ensures { IfSome result (λ place. (place < length self.now.keys) × (get_or self.now.keys place [] ≡ row_at lanes.now at)) }
+    {
+        let slots = self.slots.as_slice();
+        for step in 0..slots.len() {
+            let slot = *slots.get(slot_number(hash, step, slots.len()))?;
+            if slot.place == EMPTY {
+                return None;
+            }
+            if leads_to_lanes(slot, hash, &self.keys, lanes, at) {
+                return Some(slot.place);
+            }
+        }
+        None
+    }
+
+    /// The place of a key, where the hash table leads to one.
+    fn find_row(&self, hash: u64, row: &Row) -> Option<u32>
+        ensures { IfSome result (λ place. (place < length self.now.keys) × (get_or self.now.keys place [] ≡ row.now)) }
+    {
+        let slots = self.slots.as_slice();
+        for step in 0..slots.len() {
+            let slot = *slots.get(slot_number(hash, step, slots.len()))?;
+            if slot.place == EMPTY {
+                return None;
+            }
+            if leads_to_row(slot, hash, &self.keys, row) {
+                return Some(slot.place);
+            }
+        }
+        None
+    }
+
+    /// Makes the hash table twice as large where half of it is full.
+    fn make_room(&mut self, alloc: Global) -> Result<(), AllocError>
+        ensures { self.new.keys ≡ self.old.keys }
+    {
+        if self.keys.len() < self.slots.len() / 2 {
+            return Ok(());
+        }
+        let many = self.slots.len().saturating_mul(2).max(LEAST_SLOTS);
+        let mut slots = vec![in alloc; Slot {
+            tag: 0,
+            place: EMPTY
+        }; many]?;
+        enter_all(slots.as_mut_slice(), self.hashes.as_slice());
+        self.slots = slots;
+        Ok(())
+    }
+
+    /// A place for a key more. More than 2^32 keys are refused as more than memory holds.
+    fn push(&mut self, alloc: Global, hash: u64, key: Row) -> Result<u32, AllocError>
+        ensures place { IfOk result (λ place. place ≡ length self.old.keys) }
+        ensures keys { IfOk result (λ place. self.new.keys ≡ self.old.keys ++ key ∷ []) }
+    {
+        let Ok(place) = u32::try_from(self.keys.len()) else {
+            return Err(AllocError);
+        };
+        self.make_room(alloc)?;
+        self.hashes.push(hash)?;
+        self.keys.push(alloc, key)?;
+        enter(self.slots.as_mut_slice(), hash, place);
+        Ok(place)
+    }
+
+    /// The place of the key at a position, which gets one where it has none. On an error the keys are open.
+    #[inline(always)]
+    fn place_of_lanes(
+        &mut self,
+        alloc: Global,
+        lanes: &[Vector<'_>],
+        at: usize,
+        below: usize,
+    ) -> Result<u32, AllocError>
+        requires lanes { AreLanesOf below lanes.now }
+        requires at { at < below }
+        ensures { IfOk result (λ place. IsFound (row_at lanes.now at) self.old.keys place self.new.keys) }
+    {
+        let hash = hash_lanes(lanes, at);
+        if let Some(place) = self.find_lanes(hash, lanes, at) {
+            return Ok(place);
+        }
+        let key = key_of(alloc, lanes, at, below)?;
+        self.push(alloc, hash, key)
+    }
+
+    /// The place of a key, which gets one where it has none. On an error the keys are open.
+    pub fn place_of_row(&mut self, alloc: Global, row: &Row) -> Result<u32, AllocError>
+        ensures { IfOk result (λ place. IsFound row.now self.old.keys place self.new.keys) }
+    {
+        let hash = hash_row(row);
+        if let Some(place) = self.find_row(hash, row) {
+            return Ok(place);
+        }
+        let key = copy_key(alloc, row)?;
+        self.push(alloc, hash, key)
+    }
+
+    /// The place of the empty key, for each selected row. On an error the keys are open.
+    fn places_without_keys(
+        &mut self,
+        alloc: Global,
+        selection: &Selection,
+    ) -> Result<Vec<u32>, AllocError>
+        ensures { IfOk result (λ places. AreFound (rows_at [] selection.now.list) self.old.keys places.items self.new.keys) }
+    {
+        if selection.len() == 0 {
+            return Ok(Vec::new(alloc));
+        }
+        let key = Sequence::new(alloc);
+        let place = self.place_of_row(alloc, &key)?;
+        let places = vec![in alloc; place; selection.len()]?;
+        Ok(places)
+    }
+
+    /// The place of the key of this integer alone, where the hash table leads to one.
+    #[inline(always)]
+    fn find_int(&self, hash: u64, int: &i64) -> Option<u32>
+        ensures { IfSome result (λ place. (place < length self.now.keys) × (get_or self.now.keys place [] ≡ Int int.now ∷ [])) }
+    {
+        let slots = self.slots.as_slice();
+        for step in 0..slots.len() {
+            let slot = *slots.get(slot_number(hash, step, slots.len()))?;
+            if slot.place == EMPTY {
+                return None;
+            }
+            if self.keys.is_int(slot.place, int) {
+                return Some(slot.place);
+            }
+        }
+        None
+    }
+
+    /// A place for the key of this integer alone.
+    #[cold]
+    #[inline(never)]
+    fn push_int(&mut self, alloc: Global, hash: u64, int: &i64) -> Result<u32, AllocError>
+        ensures place { IfOk result (λ place. place ≡ length self.old.keys) }
+        ensures keys { IfOk result (λ place. self.new.keys ≡ self.old.keys ++ (Int int.now ∷ []) ∷ []) }
+    {
+        let Ok(place) = u32::try_from(self.keys.len()) else {
+            return Err(AllocError);
+        };
+        self.make_room(alloc)?;
+        self.hashes.push(hash)?;
+        self.keys.push_int(alloc, int)?;
+        enter(self.slots.as_mut_slice(), hash, place);
+        Ok(place)
+    }
+
+    /// The place of the key of this integer alone, which gets one where it has none. On an error the keys are open.
+    #[inline(always)]
+    fn place_of_int(&mut self, alloc: Global, int: &i64) -> Result<u32, AllocError>
+        ensures { IfOk result (λ place. IsFound (Int int.now ∷ []) self.old.keys place self.new.keys) }
+    {
+        let hash = hash_int(int);
+        if let Some(place) = self.find_int(hash, int) {
+            return Ok(place);
+        }
+        self.push_int(alloc, hash, int)
+    }
+
+    /// The place of each integer's key. On an error the keys are open.
+    fn find_ints(&mut self, alloc: Global, ints: &[i64]) -> Result<Vec<u32>, AllocError>
+        ensures { IfOk result (λ places. AreFound (int_keys ints.now) self.old.keys places.items self.new.keys) }
+    {
+        let mut places = Vec::with_capacity(alloc, ints.len())?;
+        for k in 0..ints.len() {
+            places.push(self.place_of_int(alloc, &ints[k])?)?;
+        }
+        Ok(places)
+    }
+
+    /// The place of each selected row's key. Keys that have none get one. On an error the keys are open.
+    pub fn find_places(
+        &mut self,
+        alloc: Global,
+        lanes: &[Vector<'_>],
+        selection: &Selection,
+    ) -> Result<Vec<u32>, AllocError>
+        requires { AreLanesOf selection.now.below lanes.now }
+        ensures { IfOk result (λ places. AreFound (rows_at lanes.now selection.now.list) self.old.keys places.items self.new.keys) }
+    {
+        if lanes.is_empty() {
+            return self.places_without_keys(alloc, selection);
+        }
+        if let Some(ints) = plain_key(lanes, selection) {
+            return self.find_ints(alloc, ints);
+        }
+        let mut places = Vec::with_capacity(alloc, selection.len())?;
+        for k in 0..selection.len() {
+            let at = position(selection, k);
+            places.push(self.place_of_lanes(alloc, lanes, at, selection.below())?)?;
+        }
+        Ok(places)
+    }
+
+    /// The empty key alone, or no key.
+    pub fn certain(alloc: Global, is_certain: bool) -> Result<KeyIndex, AllocError>
+        ensures { IfOk result (λ index. index.keys ≡ empty_key is_certain) }
+    {
+        let mut index = KeyIndex::new(alloc);
+        if is_certain {
+            let key = Sequence::new(alloc);
+            let hash = hash_row(&key);
+            index.push(alloc, hash, key)?;
+        }
+        Ok(index)
+    }
+
+    /// The keys alone.
+    pub fn into_keys(self) -> KeyList
+        ensures { result ≡ self.keys }
+    {
+        let KeyIndex { keys, .. } = self;
+        keys
+    }
+
+    /// The same keys at the same places, in memory of their own.
+    pub fn copy(&self, alloc: Global) -> Result<KeyIndex, AllocError>
+        ensures { IfOk result (λ index. index.keys ≡ self.now.keys) }
+    {
+        let keys = self.keys.copy(alloc)?;
+        let hashes = Vec::from_slice(alloc, self.hashes.as_slice())?;
+        let slots = Vec::from_slice(alloc, self.slots.as_slice())?;
+        Ok(KeyIndex {
+            keys,
+            hashes,
+            slots,
+        })
+    }
+}

@@ -1,0 +1,222 @@
+//! Keys in the order of their places. Keys of one column stand as values, so that they need no memory of their own.
+ghost use Rattle.std.specs.Prelude.{◌≡◌, ◌<◌, ◌∷◌, ◌++◌, [], length, map, get_or, All, true, IfOk, IfSome, OnOk};
+ghost use Rattle.meaning.specs.declared.value.Value.TheVariants.{Int};
+ghost use Rattle.accumulators.specs.Values.{values_of};
+ghost use Rattle.group_by.specs.Keys.{alone, rows_in};
+ghost use Rattle.group_by.specs.Rows.{row_at, AreLanesOf};
+
+use crate::keys::{
+    copy_key, is_int, is_int_value, is_key, is_lane_value, is_row, is_row_value, key_of_value,
+    only_value,
+};
+use meaning::value::{Row, Value};
+use std::alloc::{AllocError, Global};
+use std::marker::Model;
+use std::mem::replace;
+use vectors::vector::Vector;
+
+#[derive(Drop)]
+enum Held {
+    Values(Vec<Value>),
+    Rows(Vec<Row>),
+}
+
+/// Keys by their places. Contracts see their list.
+#[derive(Drop)]
+pub struct KeyList {
+    held: Held,
+}
+
+impl Model for KeyList {
+    ghost use Rattle.std.specs.Prelude.{List};
+    ghost use Rattle.meaning.specs.Order.{Row as ARow};
+    ghost use Rattle.group_by.specs.Keys.{rows_in};
+
+    ghost Value = { List ARow };
+
+    ghost view = { λ k. rows_in k.held };
+}
+
+#[inline(always)]
+fn value_of(values: &[Value], place: u32) -> Option<&Value>
+    ensures { IfSome result (λ v. (place < length (alone values.now)) × (get_or (alone values.now) place [] ≡ v.now ∷ [])) }
+{
+    values.get(place as usize)
+}
+
+#[inline(always)]
+fn row_of(rows: &[Row], place: u32) -> Option<&Row>
+    ensures { IfSome result (λ row. (place < length rows.now) × (get_or rows.now place [] ≡ row.now)) }
+{
+    rows.get(place as usize)
+}
+
+/// The same keys as rows.
+fn rows_of(alloc: Global, values: &[Value]) -> Result<Vec<Row>, AllocError>
+    ensures { IfOk result (λ rows. rows.items ≡ alone values.now) }
+{
+    let mut rows = Vec::with_capacity(alloc, values.len())?;
+    for value in values {
+        rows.push(key_of_value(alloc, value.clone()?)?)?;
+    }
+    Ok(rows)
+}
+
+fn copy_rows(alloc: Global, rows: &[Row]) -> Result<Vec<Row>, AllocError>
+    ensures { IfOk result (λ copy. copy.items ≡ rows.now) }
+{
+    let mut copy = Vec::with_capacity(alloc, rows.len())?;
+    for row in rows {
+        copy.push(copy_key(alloc, row)?)?;
+    }
+    Ok(copy)
+}
+
+fn copy_held(alloc: Global, held: &Held) -> Result<Held, AllocError>
+    ensures { IfOk result (λ copy. rows_in copy ≡ rows_in held.now) }
+{
+    match held {
+        Held::Values(values) => Ok(Held::Values(values.clone()?)),
+        Held::Rows(rows) => Ok(Held::Rows(copy_rows(alloc, rows.as_slice())?)),
+    }
+}
+
+fn held_as_rows(alloc: Global, held: Held) -> Result<Vec<Row>, AllocError>
+    ensures { IfOk result (λ rows. rows.items ≡ rows_in held) }
+{
+    match held {
+        Held::Values(values) => rows_of(alloc, values.as_slice()),
+        Held::Rows(rows) => Ok(rows),
+    }
+}
+
+fn push_value(held: &mut Held, alloc: Global, value: Value) -> Result<(), AllocError>
+    ensures { OnOk result (rows_in held.new ≡ rows_in held.old ++ (value ∷ []) ∷ []) }
+{
+    match held {
+        Held::Values(values) => {
+            values.push(value)?;
+            Ok(())
+        }
+        Held::Rows(rows) => {
+            rows.push(key_of_value(alloc, value)?)?;
+            Ok(())
+        }
+    }
+}
+
+fn push_row(alloc: Global, held: Held, key: Row) -> Result<Held, AllocError>
+    ensures { IfOk result (λ more. rows_in more ≡ rows_in held ++ key ∷ []) }
+{
+    let mut rows = held_as_rows(alloc, held)?;
+    rows.push(key)?;
+    Ok(Held::Rows(rows))
+}
+
+impl KeyList {
+    /// No key. Takes no memory.
+    pub fn new(alloc: Global) -> KeyList
+        ensures { result ≡ [] }
+    {
+        KeyList {
+            held: Held::Values(Vec::new(alloc)),
+        }
+    }
+
+    /// How many keys there are.
+    pub fn len(&self) -> usize
+        ensures { result ≡ length self.now }
+    {
+        match &self.held {
+            Held::Values(values) => values.len(),
+            Held::Rows(rows) => rows.len(),
+        }
+    }
+
+    /// Whether the key at a place is the one that these vectors have at a position.
+    #[inline(always)]
+    pub fn is_key(&self, place: u32, lanes: &[Vector<'_>], at: usize) -> bool
+        requires { All (λ column. at < length (values_of column)) lanes.now }
+        ensures { result ≡ true → (place < length self.now) × (get_or self.now place [] ≡ row_at lanes.now at) }
+    {
+        match &self.held {
+            Held::Values(values) => match value_of(values.as_slice(), place) {
+                Some(value) => is_lane_value(value, lanes, at),
+                None => false,
+            },
+            Held::Rows(rows) => match row_of(rows.as_slice(), place) {
+                Some(row) => is_key(row, lanes, at),
+                None => false,
+            },
+        }
+    }
+
+    /// Whether the key at a place is this one.
+    pub fn is_row(&self, place: u32, key: &Row) -> bool
+        ensures { result ≡ true → (place < length self.now) × (get_or self.now place [] ≡ key.now) }
+    {
+        match &self.held {
+            Held::Values(values) => match value_of(values.as_slice(), place) {
+                Some(value) => is_row_value(value, key),
+                None => false,
+            },
+            Held::Rows(rows) => match row_of(rows.as_slice(), place) {
+                Some(row) => is_row(row, key),
+                None => false,
+            },
+        }
+    }
+
+    /// Whether the key at a place is this integer alone.
+    #[inline(always)]
+    pub fn is_int(&self, place: u32, int: &i64) -> bool
+        ensures { result ≡ true → (place < length self.now) × (get_or self.now place [] ≡ Int int.now ∷ []) }
+    {
+        match &self.held {
+            Held::Values(values) => match value_of(values.as_slice(), place) {
+                Some(value) => is_int_value(value, int),
+                None => false,
+            },
+            Held::Rows(rows) => match row_of(rows.as_slice(), place) {
+                Some(row) => is_int(row, int),
+                None => false,
+            },
+        }
+    }
+
+    /// An integer more. On an error the keys are open.
+    pub fn push_int(&mut self, alloc: Global, int: &i64) -> Result<(), AllocError>
+        ensures { OnOk result (self.new ≡ self.old ++ (Int int.now ∷ []) ∷ []) }
+    {
+        push_value(&mut self.held, alloc, Value::Int(*int))
+    }
+
+    /// A key more. On an error the keys are open.
+    pub fn push(&mut self, alloc: Global, key: Row) -> Result<(), AllocError>
+        ensures { OnOk result (self.new ≡ self.old ++ key ∷ []) }
+    {
+        if key.len() == 1 {
+            return push_value(&mut self.held, alloc, only_value(key));
+        }
+        let held = replace(&mut self.held, Held::Rows(Vec::new(alloc)));
+        self.held = push_row(alloc, held, key)?;
+        Ok(())
+    }
+
+    /// The keys as rows.
+    pub fn into_rows(self, alloc: Global) -> Result<Vec<Row>, AllocError>
+        ensures { IfOk result (λ rows. rows.items ≡ self) }
+    {
+        let KeyList { held } = self;
+        held_as_rows(alloc, held)
+    }
+
+    /// The same keys, in memory of their own.
+    pub fn copy(&self, alloc: Global) -> Result<KeyList, AllocError>
+        ensures { IfOk result (λ copy. copy ≡ self.now) }
+    {
+        Ok(KeyList {
+            held: copy_held(alloc, &self.held)?,
+        })
+    }
+}

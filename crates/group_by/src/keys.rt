@@ -1,0 +1,169 @@
+//! Keys: values of some columns, compared and copied.
+ghost use Rattle.std.specs.Prelude.{◌≡◌, ◌<◌, ◌∷◌, [], length, get_or, All, true, IfOk, IfSome};
+ghost use Rattle.std.specs.Ordering.{eq_by_cmp};
+ghost use Rattle.meaning.specs.declared.value.Value.TheVariants.{Int};
+ghost use Rattle.meaning.specs.Order.{row_cmp, value_in};
+ghost use Rattle.accumulators.specs.Values.{is_spelled, values_of};
+ghost use Rattle.group_by.specs.Rows.{int_keys, row_at, rows_at, AreLanesOf};
+
+use accumulators::{owned, plain_ints, value_at};
+use meaning::sequence::Sequence;
+use meaning::value::{Row, Value, ValueRef, compare_lent};
+use std::alloc::{AllocError, Global};
+use std::cmp::Ordering;
+use vectors::selection::Selection;
+use vectors::vector::Vector;
+
+#[inline(always)]
+fn is_value(value: &Value, other: ValueRef<'_>) -> bool
+    ensures { result ≡ true → value.now ≡ value_in other.entry }
+{
+    compare_lent(value.as_value_ref(), other).is_eq()
+}
+
+/// Whether a key is the one that these vectors have at a position.
+#[inline(always)]
+pub fn is_key(key: &Row, lanes: &[Vector<'_>], at: usize) -> bool
+    requires { All (λ column. at < length (values_of column)) lanes.now }
+    ensures { result ≡ true → key.now ≡ row_at lanes.now at }
+{
+    let key = key.as_slice();
+    if key.len() != lanes.len() {
+        return false;
+    }
+    for k in 0..lanes.len() {
+        if !is_value(&key[k], value_at(&lanes[k], at)) {
+            return false;
+        }
+    }
+    true
+}
+
+#[inline(always)]
+pub fn is_int_value(value: &Value, int: &i64) -> bool
+    ensures { result ≡ true → value.now ≡ Int int.now }
+{
+    match value {
+        Value::Null => false,
+        Value::Int(number) => number == int,
+        Value::Text(_) => false,
+    }
+}
+
+/// Whether a key is this integer alone.
+#[inline(always)]
+pub fn is_int(key: &Row, int: &i64) -> bool
+    ensures { result ≡ true → key.now ≡ Int int.now ∷ [] }
+{
+    let key = key.as_slice();
+    if key.len() != 1 {
+        return false;
+    }
+    is_int_value(&key[0], int)
+}
+
+/// Whether these vectors have this value alone at a position.
+#[inline(always)]
+pub fn is_lane_value(value: &Value, lanes: &[Vector<'_>], at: usize) -> bool
+    requires { All (λ column. at < length (values_of column)) lanes.now }
+    ensures { result ≡ true → value.now ∷ [] ≡ row_at lanes.now at }
+{
+    if lanes.len() != 1 {
+        return false;
+    }
+    is_value(value, value_at(&lanes[0], at))
+}
+
+/// Whether a key is this value alone.
+pub fn is_row_value(value: &Value, key: &Row) -> bool
+    ensures { result ≡ true → value.now ∷ [] ≡ key.now }
+{
+    let key = key.as_slice();
+    if key.len() != 1 {
+        return false;
+    }
+    is_value(value, key[0].as_value_ref())
+}
+
+/// Whether two keys are one.
+pub fn is_row(one: &Row, other: &Row) -> bool
+    ensures { result ≡ true → one.now ≡ other.now }
+{
+    are_equal(one, other)
+}
+
+/// The key of this value alone.
+pub fn key_of_value(alloc: Global, value: Value) -> Result<Row, AllocError>
+    ensures { IfOk result (λ key. key ≡ value ∷ []) }
+{
+    let mut key = Sequence::new(alloc);
+    key.push(value)?;
+    Ok(key)
+}
+
+/// The value of a key of one column.
+pub fn only_value(key: Row) -> Value
+    requires { length key ≡ 1 }
+    ensures { result ∷ [] ≡ key }
+{
+    let mut values = key.into_vec();
+    let Some(value) = values.pop() else {
+        unreachable!()
+    };
+    value
+}
+
+/// The integers of one key, where all rows are selected and none is NULL.
+pub fn plain_key<'v>(lanes: &'v [Vector<'_>], selection: &Selection) -> Option<&'v [i64]>
+    requires { AreLanesOf selection.now.below lanes.now }
+    ensures { IfSome result (λ ints. int_keys ints.now ≡ rows_at lanes.now selection.now.list) }
+{
+    if lanes.len() != 1 {
+        return None;
+    }
+    let ints = plain_ints(&lanes[0], selection)?;
+    Some(ints)
+}
+
+/// The key that these vectors have at a position.
+pub fn key_of(
+    alloc: Global,
+    lanes: &[Vector<'_>],
+    at: usize,
+    below: usize,
+) -> Result<Row, AllocError>
+    requires lanes { AreLanesOf below lanes.now }
+    requires at { at < below }
+    ensures { IfOk result (λ key. key ≡ row_at lanes.now at) }
+{
+    let mut key = Sequence::new(alloc);
+    for k in 0..lanes.len() {
+        key.push(owned(alloc, value_at(&lanes[k], at))?)?;
+    }
+    Ok(key)
+}
+
+/// A key in memory of its own.
+pub fn copy_key(alloc: Global, key: &Row) -> Result<Row, AllocError>
+    ensures { IfOk result (λ copy. copy ≡ key.now) }
+{
+    let mut copy = Sequence::new(alloc);
+    for value in key.as_slice() {
+        copy.push(value.clone()?)?;
+    }
+    Ok(copy)
+}
+
+/// The order of two keys.
+pub fn compare_keys(one: &Row, other: &Row) -> Ordering
+    ensures { result ≡ row_cmp one.now other.now }
+{
+    one.as_slice().cmp(other.as_slice())
+}
+
+/// Whether two keys are equal. NULL is equal to NULL here.
+pub fn are_equal(one: &Row, other: &Row) -> bool
+    ensures { result ≡ eq_by_cmp row_cmp one.now other.now }
+{
+    compare_keys(one, other).is_eq()
+}

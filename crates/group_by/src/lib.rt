@@ -1,0 +1,15 @@
+//! Groups: the set of the keys, with the states of each one's rows.
+#![tactic(auto)]
+
+mod columns;
+mod counts;
+mod handing_out;
+mod hashing;
+mod index;
+mod key_list;
+mod keys;
+mod laws;
+mod table;
+
+pub use laws::{says_as, tables_grow};
+pub use table::GroupTable;

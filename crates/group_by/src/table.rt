@@ -1,0 +1,294 @@
+//! A table of groups that grows by rows and by groups.
+ghost use Rattle.std.specs.Prelude.{◌≡◌, ℕ, ◌<◌, ◌≤◌, ◌+◌, [], ◌∷◌, length, map, get_or, sum, replicate, All, IfOk, OnOk};
+ghost use Rattle.meaning.specs.Aggregate.{no_statistics};
+ghost use Rattle.meaning.specs.Group.{certain_keys};
+ghost use Rattle.accumulators.specs.State.{most_entries};
+ghost use Rattle.group_by.specs.Shape.{empty_key, shape_of};
+ghost use Rattle.group_by.specs.Groups.{all_rows, fresh, with_rows, with_groups};
+ghost use Rattle.group_by.specs.Places.{no_column, state_at, AreAdded, AreFresh, IsAbsorbed};
+ghost use Rattle.group_by.specs.Rows.{kept_rows, rows_at, AreLanesOf, IsGroupOf};
+
+use crate::columns::{copy_columns, fresh_columns, merge_all, update_all};
+use crate::counts::{count_rows, raise};
+use crate::handing_out::in_order;
+use crate::index::KeyIndex;
+use accumulators::{Group, StateColumn};
+use meaning::plan::{Aggregate, Plan};
+use meaning::sequence::Sequence;
+use std::alloc::{AllocError, Global};
+use std::marker::Model;
+use vectors::selection::Selection;
+use vectors::vector::Vector;
+
+/// A table of groups. Contracts see the groups in the order of their keys, whatever the order in which rows came, how many
+/// rows were taken in all, and how many groups were handed to `absorb_groups`.
+#[derive(Drop)]
+pub struct GroupTable {
+    // Whether the empty key has a group in any case.
+    is_certain: bool,
+    index: KeyIndex,
+    // By the places of the keys, as the states in the columns are.
+    rows: Vec<u64>,
+    columns: Vec<StateColumn>,
+    taken: u64,
+    handed: u64,
+}
+
+impl Model for GroupTable {
+    ghost use Rattle.group_by.specs.Shape.{GroupsSpec};
+    ghost use Rattle.group_by.specs.Places.{table_of, ArePlaces};
+
+    ghost Value = { GroupsSpec };
+
+    ghost view = { λ t. table_of t.is_certain t.index.keys t.rows.items t.columns.items t.taken t.handed };
+
+    ghost invariant = { λ t. ArePlaces t.is_certain t.index.keys t.rows.items t.columns.items t.taken };
+}
+
+/// Finds the places of the selected rows, and counts them and their arguments there. On an error all of it is open.
+fn add_rows(
+    alloc: Global,
+    index: &mut KeyIndex,
+    rows: &mut Vec<u64>,
+    columns: &mut Vec<StateColumn>,
+    keys: &[Vector<'_>],
+    arguments: &[Vector<'_>],
+    selection: &Selection,
+) -> Result<(), AllocError>
+    requires keys { AreLanesOf selection.now.below keys.now }
+    requires arguments { AreLanesOf selection.now.below arguments.now }
+    requires widths { length arguments.now ≡ length columns.old.items }
+    requires counted { length rows.old.items ≡ length index.old.keys }
+    requires heights { (c : ℕ) → length (get_or columns.old.items c no_column).states ≤ length index.old.keys }
+    requires few { sum rows.old.items + length selection.now.list ≤ most_entries }
+    requires states { (c place : ℕ) → (state_at columns.old.items c place).count + length selection.now.list ≤ most_entries }
+    ensures { OnOk result (AreAdded (rows_at keys.now selection.now.list) (rows_at arguments.now selection.now.list) index.old.keys rows.old.items columns.old.items index.new.keys rows.new.items columns.new.items) }
+{
+    let places = index.find_places(alloc, keys, selection)?;
+    let height = index.keys.len();
+    count_rows(rows, height, places.as_slice())?;
+    update_all(
+        columns.as_mut_slice(),
+        alloc,
+        height,
+        places.as_slice(),
+        arguments,
+        selection,
+    )?;
+    Ok(())
+}
+
+/// Row counts and columns of so many groups of no row.
+fn fresh_parts(
+    alloc: Global,
+    aggregates: &[Aggregate],
+    height: usize,
+) -> Result<(Vec<u64>, Vec<StateColumn>), AllocError>
+    ensures rows { IfOk result (λ parts. parts.0.items ≡ replicate height 0) }
+    ensures columns { IfOk result (λ parts. AreFresh height (map (λ a. a.kind) aggregates.now) parts.1.items) }
+{
+    let rows = vec![in alloc; 0; height]?;
+    let columns = fresh_columns(alloc, aggregates, height)?;
+    Ok((rows, columns))
+}
+
+fn copy_parts(
+    alloc: Global,
+    rows: &[u64],
+    columns: &[StateColumn],
+) -> Result<(Vec<u64>, Vec<StateColumn>), AllocError>
+    ensures rows { IfOk result (λ parts. parts.0.items ≡ rows.now) }
+    ensures columns { IfOk result (λ parts. parts.1.items ≡ columns.now) }
+{
+    let rows = Vec::from_slice(alloc, rows)?;
+    let columns = copy_columns(alloc, columns)?;
+    Ok((rows, columns))
+}
+
+/// Whether the empty key has a group in any case.
+fn has_certain_key(plan: &Plan) -> bool
+    ensures { empty_key result ≡ certain_keys plan.now.plain plan.now.keys }
+{
+    match (plan.plain, plan.keys.as_slice()) {
+        (false, []) => true,
+        _ => false,
+    }
+}
+
+/// Finds the place of a group's key, and merges the group there. On an error all of it is open.
+fn add_group(
+    alloc: Global,
+    index: &mut KeyIndex,
+    rows: &mut Vec<u64>,
+    columns: &mut Vec<StateColumn>,
+    group: &Group,
+) -> Result<(), AllocError>
+    requires widths { length group.now.states ≡ length columns.old.items }
+    requires counted { length rows.old.items ≡ length index.old.keys }
+    requires heights { (c : ℕ) → length (get_or columns.old.items c no_column).states ≤ length index.old.keys }
+    requires few { sum rows.old.items + group.now.rows ≤ most_entries }
+    requires states { (c place : ℕ) → c < length columns.old.items → (state_at columns.old.items c place).count + (get_or group.now.states c no_statistics).count ≤ most_entries }
+    ensures { OnOk result (IsAbsorbed group.now index.old.keys rows.old.items columns.old.items index.new.keys rows.new.items columns.new.items) }
+{
+    let place = index.place_of_row(alloc, group.key())? as usize;
+    let height = index.keys.len();
+    raise(rows, height, place, group.rows())?;
+    merge_all(columns.as_mut_slice(), alloc, height, place, group.states())?;
+    Ok(())
+}
+
+impl GroupTable {
+    /// The groups of no row.
+    pub fn new(alloc: Global, plan: &Plan) -> Result<GroupTable, AllocError>
+        ensures { IfOk result (λ t. t ≡ fresh (shape_of plan.now)) }
+    {
+        let is_certain = has_certain_key(plan);
+        let index = KeyIndex::certain(alloc, is_certain)?;
+        match fresh_parts(alloc, plan.aggs.as_slice(), index.keys.len()) {
+            Ok((rows, columns)) => Ok(GroupTable {
+                is_certain,
+                index,
+                rows,
+                columns,
+                taken: 0,
+                handed: 0,
+            }),
+            Err(fault) => Err(fault),
+        }
+    }
+
+    /// Takes one group, merged with that of its key.
+    fn absorb_group(self, alloc: Global, group: &Group) -> Result<GroupTable, AllocError>
+        requires fit { IsGroupOf self.shape group.now }
+        requires handed { self.handed + 1 < 9223372036854775808 }
+        requires few { self.rows + group.now.rows ≤ most_entries }
+        ensures { IfOk result (λ t. t ≡ with_groups self (group.now ∷ [])) }
+    {
+        let GroupTable {
+            is_certain,
+            mut index,
+            mut rows,
+            mut columns,
+            taken,
+            handed,
+        } = self;
+        match add_group(alloc, &mut index, &mut rows, &mut columns, group) {
+            Ok(()) => Ok(GroupTable {
+                is_certain,
+                index,
+                rows,
+                columns,
+                taken: taken + group.rows(),
+                handed: handed + 1,
+            }),
+            Err(fault) => Err(fault),
+        }
+    }
+
+    /// Takes groups, each merged with that of its key. A refusal gives the table up.
+    pub fn absorb_groups(self, alloc: Global, groups: &[Group]) -> Result<GroupTable, AllocError>
+        requires fit { All (IsGroupOf self.shape) groups.now }
+        requires handed { self.handed + length groups.now < 9223372036854775808 }
+        requires few { self.rows + all_rows groups.now ≤ most_entries }
+        ensures { IfOk result (λ t. t ≡ with_groups self groups.now) }
+    {
+        // That the groups were merged before.
+        let _ = &self.rows;
+        let mut table = self;
+        for k in 0..groups.len() {
+            table = table.absorb_group(alloc, &groups[k])?;
+        }
+        Ok(table)
+    }
+
+    /// An equal table, in memory of its own.
+    pub fn copy(&self, alloc: Global) -> Result<GroupTable, AllocError>
+        ensures { IfOk result (λ t. t ≡ self.now) }
+    {
+        let index = self.index.copy(alloc)?;
+        match copy_parts(alloc, self.rows.as_slice(), self.columns.as_slice()) {
+            Ok((rows, columns)) => Ok(GroupTable {
+                is_certain: self.is_certain,
+                index,
+                rows,
+                columns,
+                taken: self.taken,
+                handed: self.handed,
+            }),
+            Err(fault) => Err(fault),
+        }
+    }
+
+    /// Takes the selected rows, each with its key and an argument of each aggregate. A refusal gives the table up.
+    pub fn add(
+        self,
+        alloc: Global,
+        keys: &[Vector<'_>],
+        arguments: &[Vector<'_>],
+        selection: &Selection,
+    ) -> Result<GroupTable, AllocError>
+        requires keys { AreLanesOf selection.now.below keys.now }
+        requires arguments { AreLanesOf selection.now.below arguments.now }
+        requires widths { length arguments.now ≡ length self.shape.kinds }
+        requires few { self.rows + length selection.now.list ≤ most_entries }
+        ensures { IfOk result (λ t. t ≡ with_rows self (kept_rows keys.now arguments.now selection.now.list)) }
+    {
+        let GroupTable {
+            is_certain,
+            mut index,
+            mut rows,
+            mut columns,
+            taken,
+            handed,
+        } = self;
+        let many = selection.len() as u64;
+        match add_rows(
+            alloc,
+            &mut index,
+            &mut rows,
+            &mut columns,
+            keys,
+            arguments,
+            selection,
+        ) {
+            Ok(()) => Ok(GroupTable {
+                is_certain,
+                index,
+                rows,
+                columns,
+                taken: taken + many,
+                handed,
+            }),
+            Err(fault) => Err(fault),
+        }
+    }
+
+    /// The groups in the order of their keys.
+    pub fn into_groups(self, alloc: Global) -> Result<Sequence<Group>, AllocError>
+        ensures { IfOk result (λ groups. groups ≡ self.groups) }
+    {
+        let GroupTable {
+            index,
+            rows,
+            columns,
+            ..
+        } = self;
+        let keys = index.into_keys().into_rows(alloc)?;
+        let groups = in_order(alloc, keys, rows.as_slice(), columns.as_slice())?;
+        Ok(Sequence::from_vec(groups))
+    }
+
+    /// The groups in the order of their keys.
+    pub fn groups(&self, alloc: Global) -> Result<Sequence<Group>, AllocError>
+        ensures { IfOk result (λ groups. groups ≡ self.now.groups) }
+    {
+        self.copy(alloc)?.into_groups(alloc)
+    }
+
+    /// How many groups were handed to `absorb_groups`, the copied table's too. Takes no memory.
+    pub fn merged(&self) -> u64
+        ensures { result ≡ self.now.handed }
+    {
+        self.handed
+    }
+}

@@ -1,0 +1,218 @@
+-- Proofs of the goals of `+eval` (`nodes`).
+use Rattle.std.proofs.Common.{rules, ◌∙◌, sym, ap, length}
+use Rattle.meaning.specs.declared.expr.Expr.TheVariants as node
+use Rattle.meaning.specs.declared.expr.ComparisonOperator.TheVariants as comparison
+use Rattle.meaning.specs.Operators.{and_of, or_of}
+use Rattle.primitives.specs.Given.{given_at, is_not_false, is_not_true}
+use Rattle.primitives.proofs.Steps.{and_node as and_lanes, or_node as or_lanes}
+use Rattle.primitives.proofs.ExprNodes.{aggregate_node, and_node, arithmetic_node, as_lent, as_node, between_node, case_node, coalesce_node, column_node, compare_node, in_node, in_nothing, is_null_node, joined_node, key_node, like_node, literal_node, minus_node, not_node, or_node}
+use Rattle.primitives.proofs.Loops.{arms_all, arms_more, arms_start, first_all, first_more, first_start, found_all, found_more, found_start}
+use Rattle.primitives.proofs.NodeGives.{arithmetic_gives, arm_gives, behind_gives, coalesce_gives, compare_gives, narrowed_gives, operator_gives, rest_gives, second_alone, second_gives, test_gives, when_passes}
+use Rattle.primitives.proofs.nodes.+eval.Goals as goal
+
+pub eval_arithmetic-returns-clause-gives : goal.eval_arithmetic-returns-clause-gives
+eval_arithmetic-returns-clause-gives t c = arithmetic_gives _ _ _ _ _ _ _ _ _ _ c.in_ok-right.ensures.gives c.arithmetic-result.ensures.exact c.arithmetic-result.ensures.kind
+
+pub eval_compare-returns-clause-gives : goal.eval_compare-returns-clause-gives
+eval_compare-returns-clause-gives t c =
+    compare_gives _ _ _ _ _ _ _ _ _ _ (c.requires.below ∙ sym c.rows.ensures) c.in_ok-right.ensures.gives c.compare-result.ensures.value c.compare-result.ensures.kind
+
+pub eval_unless_false-returns-clause-gives : goal.eval_unless_false-returns-clause-gives
+eval_unless_false-returns-clause-gives t c = narrowed_gives _ _ _ _ _ _ _ _ c.in_ok-narrowed.ensures c.eval-result.ensures.gives
+
+pub eval_unless_true-returns-clause-gives : goal.eval_unless_true-returns-clause-gives
+eval_unless_true-returns-clause-gives t c = narrowed_gives _ _ _ _ _ _ _ _ c.in_ok-narrowed.ensures c.eval-result.ensures.gives
+
+pub eval_where_null-returns-clause-gives : goal.eval_where_null-returns-clause-gives
+eval_where_null-returns-clause-gives t c = narrowed_gives _ _ _ _ _ _ _ _ c.in_ok-narrowed.ensures c.eval-result.ensures.gives
+
+pub eval_and-returns-clause-gives : goal.eval_and-returns-clause-gives
+eval_and-returns-clause-gives t c =
+    operator_gives and_of is_not_false and_lanes _ _ _ _ _ _ _ _ _ (c.requires.below ∙ sym c.rows.ensures) c.in_ok-right.ensures.gives c.and-result.ensures.value c.and-result.ensures.kind
+
+pub eval_or-returns-clause-gives : goal.eval_or-returns-clause-gives
+eval_or-returns-clause-gives t c =
+    operator_gives or_of is_not_true or_lanes _ _ _ _ _ _ _ _ _ (c.requires.below ∙ sym c.rows.ensures) c.in_ok-right.ensures.gives c.or-result.ensures.value c.or-result.ensures.kind
+
+pub eval_at_most-returns-clause-gives : goal.eval_at_most-returns-clause-gives
+eval_at_most-returns-clause-gives t c =
+    test_gives comparison.LessOrEqual _ _ _ (λ i. is_not_false (given_at c.args.before.now i)) _ _ _ _ _ _ (c.requires.below ∙ sym c.rows.ensures) c.in_ok-high.ensures.gives c.compare-result.ensures.value c.compare-result.ensures.kind
+
+pub eval_equal-returns-clause-gives : goal.eval_equal-returns-clause-gives
+eval_equal-returns-clause-gives t c =
+    test_gives comparison.Equal _ _ _ (λ i. is_not_true (given_at c.args.before.now i)) _ _ _ _ _ _ (c.requires.below ∙ sym c.rows.ensures) c.in_ok-item.ensures.gives c.compare-result.ensures.value c.compare-result.ensures.kind
+
+pub eval_high-returns-clause-gives : goal.eval_high-returns-clause-gives
+eval_high-returns-clause-gives t c =
+    second_alone and_of comparison.LessOrEqual _ _ _ _ _ _ _ _
+    (second_gives and_of is_not_false and_lanes comparison.LessOrEqual _ _ _ _ _ _ _ _ _ _ (c.requires.below ∙ sym c.rows.ensures) c.in_ok-below.ensures.gives c.and-result.ensures.value c.and-result.ensures.kind)
+
+pub eval_above-returns-clause-gives : goal.eval_above-returns-clause-gives
+eval_above-returns-clause-gives t c = behind_gives and_of comparison.LessOrEqual _ _ _ _ _ _ _ _ _ c.in_ok-above.was c.eval_high-result.ensures.gives
+
+pub find_next-returns-clause-gives : goal.find_next-returns-clause-gives
+find_next-returns-clause-gives t c =
+    second_gives or_of is_not_true or_lanes comparison.Equal _ _ _ _ _ _ _ _ _ _ (c.requires.below ∙ sym c.rows.ensures) c.in_ok-equal.ensures.gives c.or-result.ensures.value c.or-result.ensures.kind
+
+pub find_in-loop-item-init : goal.find_in-loop-item-init
+find_in-loop-item-init t c = record {
+  long = search rules;
+  one = found_start _ _ _ _ _ _ _ (c.requires.below ∙ sym c.rows.ensures) c.one_truth-found.ensures.value c.one_truth-found.ensures.kind;
+}
+
+pub find_in-loop-item-preserved : goal.find_in-loop-item-preserved
+find_in-loop-item-preserved t c = record {
+  long = c.find_item.ensures.long;
+  one = found_more _ _ _ _ _ _ _ _ _ _ _ c.loop-item-test.true c.item-item.is c.in_ok-find_item.ensures.gives c.loop-item.invariant.one;
+}
+
+pub find_in-returns-clause-gives : goal.find_in-returns-clause-gives
+find_in-returns-clause-gives t c = found_all _ _ _ _ _ _ _ _ c.loop-item-test.false c.loop-item.invariant.one
+
+pub eval_next-returns-clause-gives : goal.eval_next-returns-clause-gives
+eval_next-returns-clause-gives t c =
+    coalesce_gives _ _ _ _ _ _ _ _ _ (c.requires.below ∙ sym c.rows.ensures) c.in_ok-item.ensures.gives c.coalesce-result.ensures.value c.coalesce-result.ensures.kind
+
+pub eval_coalesce-loop-item-init : goal.eval_coalesce-loop-item-init
+eval_coalesce-loop-item-init t c = record { long = tt; first = first_start _ _ _ _ }
+
+pub eval_coalesce-loop-item-preserved : goal.eval_coalesce-loop-item-preserved
+eval_coalesce-loop-item-preserved t c = record {
+  long = c.eval_item.ensures.long;
+  first = first_more _ _ _ _ _ _ _ _ _ _ c.loop-item-test.true c.item-item.is c.in_ok-eval_item.ensures.gives c.loop-item.invariant.first;
+}
+
+pub eval_coalesce-returns-clause-gives : goal.eval_coalesce-returns-clause-gives
+eval_coalesce-returns-clause-gives t c = first_all _ _ _ _ _ _ _ c.loop-item-test.false c.loop-item.invariant.first
+
+pub eval_when-returns-clause-gives : goal.eval_when-returns-clause-gives
+eval_when-returns-clause-gives t c = when_passes _ _ _ _ _ _ _ c.in_ok-when.ensures.gives c.where_true-lanes.ensures
+
+pub eval_taken-returns-clause-gives : goal.eval_taken-returns-clause-gives
+eval_taken-returns-clause-gives t c types rows kind are fits = record {
+  between = c.eval_when.new.fault.held;
+  passes = c.in_ok-lanes.ensures.gives types rows are fits.condition;
+  gives = c.in_ok-then.ensures.gives types _ rows are fits.value;
+}
+
+pub eval_next_arm-returns-clause-gives : goal.eval_next_arm-returns-clause-gives
+eval_next_arm-returns-clause-gives t c =
+    arm_gives _ _ _ _ _ _ _ c.in_ok-taken.ensures.gives (c.in_ok-taken.ensures.long.1 ∙ sym c.requires.left)
+    c.put_taken-result.ensures.left c.put_taken-result.ensures.value c.put_taken-result.ensures.kind
+
+pub eval_rest-returns-clause-gives : goal.eval_rest-returns-clause-gives
+eval_rest-returns-clause-gives t c = rest_gives _ _ _ _ _ _ _ _ c.in_ok-otherwise.ensures.gives c.put-result.ensures.value c.put-result.ensures.kind
+
+pub eval_arms-loop-arm-init : goal.eval_arms-loop-arm-init
+eval_arms-loop-arm-init t c = record {
+  long = tt;
+  below = ap (λ s. s.below) c.in_ok-copy.ensures ∙ c.requires.below;
+  decide = arms_start _ _ _ _ _ c.in_ok-copy.ensures;
+}
+
+pub eval_arms-loop-arm-preserved : goal.eval_arms-loop-arm-preserved
+eval_arms-loop-arm-preserved t c = record {
+  long = c.eval_arm.ensures.long.0;
+  below = c.eval_arm.ensures.long.1;
+  decide = arms_more _ _ _ _ _ _ _ _ _ _ _ _ c.loop-arm-test.true c.arm-item.is c.in_ok-eval_arm.ensures.gives c.loop-arm.invariant.decide;
+}
+
+pub eval_arms-returns-clause-gives : goal.eval_arms-returns-clause-gives
+eval_arms-returns-clause-gives t c = arms_all _ _ _ _ _ _ _ _ c.loop-arm-test.false c.loop-arm.invariant.decide
+
+pub eval-returns-in-Column-clause-gives : goal.eval-returns-in-Column-clause-gives
+eval-returns-in-Column-clause-gives t c = as_lent _ _ _ _ _ _ (node.Column c.in-Column.column) c.in-Column.is (column_node _ _ _ _ _ c.requires c.lent_column.ensures.value)
+
+pub eval-returns-in-Joined-clause-gives : goal.eval-returns-in-Joined-clause-gives
+eval-returns-in-Joined-clause-gives t c = as_lent _ _ _ _ _ _ (node.Joined c.in-Joined.join c.in-Joined.place) c.in-Joined.is (joined_node _ _ _ _ _ _ c.requires c.lent_column-in-Joined.ensures.value)
+
+pub eval-returns-in-Key-clause-gives : goal.eval-returns-in-Key-clause-gives
+eval-returns-in-Key-clause-gives t c = as_lent _ _ _ _ _ _ (node.Key c.in-Key.key) c.in-Key.is (key_node _ _ _ _ _ c.requires c.lent_column-in-Key.ensures.value)
+
+pub eval-returns-in-Aggregate-clause-gives : goal.eval-returns-in-Aggregate-clause-gives
+eval-returns-in-Aggregate-clause-gives t c = as_lent _ _ _ _ _ _ (node.Aggregate c.in-Aggregate.aggregate) c.in-Aggregate.is (aggregate_node _ _ _ _ _ c.requires c.lent_column-in-Aggregate.ensures.value)
+
+pub eval-returns-in-Literal-clause-gives : goal.eval-returns-in-Literal-clause-gives
+eval-returns-in-Literal-clause-gives t c =
+    as_lent _ _ _ _ _ _ (node.Literal c.in-Literal.value) c.in-Literal.is (literal_node _ _ _ _ _ _ (c.requires ∙ sym c.rows.ensures) c.repeated.ensures.value c.repeated.ensures.kind)
+
+pub eval-returns-in_ok-a-in-Minus-clause-gives : goal.eval-returns-in_ok-a-in-Minus-clause-gives
+eval-returns-in_ok-a-in-Minus-clause-gives t c =
+    as_node _ _ _ _ _ _ (node.Minus _) (c.in-Minus.is ∙ ap node.Minus (sym c.get.ensures)) (minus_node _ _ _ _ _ _ _ _ c.in_ok-a-in-Minus.ensures.gives c.of_minus.ensures.exact c.of_minus.ensures.kind)
+
+pub eval-returns-in_ok-a-in-Not-clause-gives : goal.eval-returns-in_ok-a-in-Not-clause-gives
+eval-returns-in_ok-a-in-Not-clause-gives t c =
+    as_node _ _ _ _ _ _ (node.Not _) (c.in-Not.is ∙ ap node.Not (sym c.get-in-Not.ensures))
+    (not_node _ _ _ _ _ _ _ _ (c.requires ∙ sym c.rows-in-Not.ensures) c.in_ok-a-in-Not.ensures.gives c.of_not.ensures.value c.of_not.ensures.kind)
+
+pub eval-returns-in_ok-left-in-Arithmetic-clause-gives : goal.eval-returns-in_ok-left-in-Arithmetic-clause-gives
+eval-returns-in_ok-left-in-Arithmetic-clause-gives t c =
+    as_node _ _ _ _ _ _ (node.Arithmetic c.in-Arithmetic.op c.get-in-Arithmetic.result.now c.get-in-Arithmetic-2.result.now)
+    (c.in-Arithmetic.is ∙ ap (λ e. node.Arithmetic c.in-Arithmetic.op e c.in-Arithmetic.b) (sym c.get-in-Arithmetic.ensures) ∙ ap (node.Arithmetic c.in-Arithmetic.op c.get-in-Arithmetic.result.now) (sym c.get-in-Arithmetic-2.ensures))
+    (arithmetic_node _ _ _ _ _ _ _ _ _ _ c.in_ok-left-in-Arithmetic.ensures.gives c.eval_arithmetic-result.ensures.gives)
+
+pub eval-returns-in_ok-left-in-Compare-clause-gives : goal.eval-returns-in_ok-left-in-Compare-clause-gives
+eval-returns-in_ok-left-in-Compare-clause-gives t c =
+    as_node _ _ _ _ _ _ (node.Compare c.in-Compare.op c.get-in-Compare.result.now c.get-in-Compare-2.result.now)
+    (c.in-Compare.is ∙ ap (λ e. node.Compare c.in-Compare.op e c.in-Compare.b) (sym c.get-in-Compare.ensures) ∙ ap (node.Compare c.in-Compare.op c.get-in-Compare.result.now) (sym c.get-in-Compare-2.ensures))
+    (compare_node _ _ _ _ _ _ _ _ _ _ c.in_ok-left-in-Compare.ensures.gives c.eval_compare-result.ensures.gives)
+
+pub eval-returns-in_ok-left-in-And-clause-gives : goal.eval-returns-in_ok-left-in-And-clause-gives
+eval-returns-in_ok-left-in-And-clause-gives t c =
+    as_node _ _ _ _ _ _ (node.And c.get-in-And.result.now c.get-in-And-2.result.now)
+    (c.in-And.is ∙ ap (λ e. node.And e c.in-And.b) (sym c.get-in-And.ensures) ∙ ap (node.And c.get-in-And.result.now) (sym c.get-in-And-2.ensures))
+    (and_node _ _ _ _ _ _ _ _ _ c.in_ok-left-in-And.ensures.gives c.eval_and-result.ensures.gives)
+
+pub eval-returns-in_ok-left-in-Or-clause-gives : goal.eval-returns-in_ok-left-in-Or-clause-gives
+eval-returns-in_ok-left-in-Or-clause-gives t c =
+    as_node _ _ _ _ _ _ (node.Or c.get-in-Or.result.now c.get-in-Or-2.result.now)
+    (c.in-Or.is ∙ ap (λ e. node.Or e c.in-Or.b) (sym c.get-in-Or.ensures) ∙ ap (node.Or c.get-in-Or.result.now) (sym c.get-in-Or-2.ensures))
+    (or_node _ _ _ _ _ _ _ _ _ c.in_ok-left-in-Or.ensures.gives c.eval_or-result.ensures.gives)
+
+pub eval-returns-in_ok-subject-in-IsNull-clause-gives : goal.eval-returns-in_ok-subject-in-IsNull-clause-gives
+eval-returns-in_ok-subject-in-IsNull-clause-gives t c =
+    as_node _ _ _ _ _ _ (node.IsNull c.in-IsNull.negated c.get-in-IsNull.result.now) (c.in-IsNull.is ∙ ap (node.IsNull c.in-IsNull.negated) (sym c.get-in-IsNull.ensures))
+    (is_null_node _ _ _ _ _ _ _ _ _ (c.requires ∙ sym c.rows-in-IsNull.ensures) c.in_ok-subject-in-IsNull.ensures.gives c.of_is_null.ensures.value c.of_is_null.ensures.kind)
+
+pub eval-returns-in_ok-subject-in-Between-clause-gives : goal.eval-returns-in_ok-subject-in-Between-clause-gives
+eval-returns-in_ok-subject-in-Between-clause-gives t c =
+    let n = c.in-Between.negated in
+    let x = c.get-in-Between.result.now in
+    let low = c.get-in-Between-2.result.now in
+    as_node _ _ _ _ _ _ (node.Between n x low c.get-in-Between-3.result.now)
+    (c.in-Between.is
+    ∙ ap (λ e. node.Between n e c.in-Between.low c.in-Between.high) (sym c.get-in-Between.ensures)
+    ∙ ap (λ e. node.Between n x e c.in-Between.high) (sym c.get-in-Between-2.ensures)
+    ∙ ap (node.Between n x low) (sym c.get-in-Between-3.ensures))
+    (between_node _ _ _ _ _ _ _ _ _ _ _ _ _ _ _ (c.requires ∙ sym c.rows-in-Between.ensures) c.in_ok-subject-in-Between.ensures.gives
+    c.eval_compare-above.ensures.gives c.eval_above-within.ensures.gives c.not_if_known.ensures.value c.not_if_known.ensures.kind)
+
+pub eval-returns-then-len-eq0-clause-gives : goal.eval-returns-then-len-eq0-clause-gives
+eval-returns-then-len-eq0-clause-gives t c =
+    as_node _ _ _ _ _ _ (node.In c.in-In.negated c.in-In.subject c.in-In.list) c.in-In.is
+    (in_nothing _ _ _ _ _ _ _ _ _ (c.requires ∙ sym c.rows-then-len-eq0-2.ensures) (sym c.len.ensures ∙ c.if-len-eq0.true)
+    (λ i w. c.one_truth.ensures.value i (search (rules, w, c.rows-then-len-eq0.ensures, c.rows-then-len-eq0-2.ensures))) c.one_truth.ensures.kind c.not_if.ensures.value c.not_if.ensures.kind)
+
+pub eval-returns-in_ok-subject-in-In-clause-gives : goal.eval-returns-in_ok-subject-in-In-clause-gives
+eval-returns-in_ok-subject-in-In-clause-gives t c =
+    as_node _ _ _ _ _ _ (node.In c.in-In.negated c.get-in-In.result.now c.as_slice.result.now)
+    (c.in-In.is ∙ ap (λ e. node.In c.in-In.negated e c.in-In.list) (sym c.get-in-In.ensures) ∙ ap (node.In c.in-In.negated c.get-in-In.result.now) (sym c.as_slice.ensures))
+    (in_node _ _ _ _ _ _ _ _ _ _ _ _ (c.requires ∙ sym c.rows-in-In.ensures) (λ none. c.if-len-eq0.false (c.len.ensures ∙ ap (λ es. length es) (sym c.as_slice.ensures) ∙ none))
+    c.in_ok-subject-in-In.ensures.gives c.find_in-found.ensures.gives c.not_if_known-in-In.ensures.value c.not_if_known-in-In.ensures.kind)
+
+pub eval-returns-in_ok-subject-in-Like-clause-gives : goal.eval-returns-in_ok-subject-in-Like-clause-gives
+eval-returns-in_ok-subject-in-Like-clause-gives t c =
+    as_node _ _ _ _ _ _ (node.Like c.in-Like.negated c.get-in-Like.result.now c.in-Like.pattern) (c.in-Like.is ∙ ap (λ e. node.Like c.in-Like.negated e c.in-Like.pattern) (sym c.get-in-Like.ensures))
+    (like_node _ _ _ _ _ _ _ _ _ _ _ _ (c.requires ∙ sym c.rows-in-Like.ensures) (c.requires ∙ sym c.rows-in-Like-2.ensures) c.requires c.in_ok-subject-in-Like.ensures.gives
+    c.of_like-found.ensures.value c.of_like-found.ensures.kind c.not_if_known-in-Like.ensures.value c.not_if_known-in-Like.ensures.kind)
+
+pub eval-returns-in-Coalesce-clause-gives : goal.eval-returns-in-Coalesce-clause-gives
+eval-returns-in-Coalesce-clause-gives t c =
+    as_node _ _ _ _ _ _ (node.Coalesce c.as_slice-in-Coalesce.result.now) (c.in-Coalesce.is ∙ ap node.Coalesce (sym c.as_slice-in-Coalesce.ensures))
+    (coalesce_node _ _ _ _ _ _ c.eval_coalesce.ensures.gives)
+
+pub eval-returns-in_ok-cases-in-Case-clause-gives : goal.eval-returns-in_ok-cases-in-Case-clause-gives
+eval-returns-in_ok-cases-in-Case-clause-gives t c =
+    as_node _ _ _ _ _ _ (node.Case c.as_slice-in-Case.result.now c.get-in-Case.result.now)
+    (c.in-Case.is ∙ ap (λ arms. node.Case arms c.in-Case.otherwise) (sym c.as_slice-in-Case.ensures) ∙ ap (node.Case c.as_slice-in-Case.result.now) (sym c.get-in-Case.ensures))
+    (case_node _ _ _ _ _ _ _ _ _ _ c.in_ok-cases-in-Case.ensures.gives c.eval_otherwise.ensures.gives)

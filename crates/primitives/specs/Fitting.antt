@@ -1,0 +1,59 @@
+-- When an expression fits a batch: in the types of its columns, and in which columns are there.
+use Rattle.std.specs.Prelude.{◌≡◌, ◌⊎◌, Bool, true, List, [], All, Option, slice_get, slice_index_or}
+use Rattle.std.specs.List.{list_any}
+use Rattle.meaning.specs.declared.value.ColType.{ColType}
+use Rattle.meaning.specs.declared.value.ColType.TheVariants as of_type
+use Rattle.meaning.specs.declared.value.Value.TheVariants.{Null}
+use Rattle.meaning.specs.declared.outcome.Outcome.TheVariants as gives
+use Rattle.meaning.specs.declared.expr.Expr.{Expr}
+use Rattle.meaning.specs.declared.joined_row.JoinedRow.{JoinedRow}
+use Rattle.meaning.specs.References.{Reference, FactColumn, JoinColumn, GroupKey, GroupAggregate, columns_used}
+use Rattle.meaning.specs.Typing.{ExprType, Valued, Boolean, RowTypes, is_column_type, is_valued, fits_row_types, has_type}
+use Rattle.vectors.specs.declared.vector.Vector.{Vector}
+use Rattle.vectors.specs.declared.vector.Vector.TheVariants as vector
+use Rattle.vectors.specs.declared.batch.Place.{Place}
+use Rattle.vectors.specs.declared.batch.Place.TheVariants as place
+use Rattle.vectors.specs.declared.batch.BatchColumn.{BatchColumn}
+use Rattle.vectors.specs.Vector.{BatchSpec, AreRowsOf, outcomes_of, reference_of, same_place}
+
+-- of which type the lanes are
+abbrev pub type_of_lanes : Vector → ExprType
+type_of_lanes (vector.Ints lanes) = Valued of_type.Int
+type_of_lanes (vector.Texts lanes) = Valued of_type.Text
+type_of_lanes (vector.Truths lanes) = Boolean
+
+-- the type of what stands there, if the rows have it
+abbrev pub referenced_type : RowTypes → Reference → Option ColType
+referenced_type types (FactColumn at) = slice_get types.fact at
+referenced_type types (JoinColumn join at) = slice_get (slice_index_or types.joins join []) at
+referenced_type types (GroupKey i) = slice_get types.key i
+referenced_type types (GroupAggregate i) = slice_get types.aggregates i
+
+-- lanes of the type, or NULL in each, which is of any type of values
+abbrev pub IsOfType : ExprType → Vector → Type 0
+IsOfType type v = (type_of_lanes v ≡ type) ⊎ ((is_valued type ≡ true) × All (λ lane. lane ≡ gives.Value Null) (outcomes_of v))
+
+-- the column's lanes are of the type of what stands in its place
+abbrev pub is_typed_column : RowTypes → BatchColumn → Bool
+is_typed_column types column = is_column_type (referenced_type types (reference_of column.place)) (type_of_lanes column.lanes)
+
+-- rows that the batch has the columns of, each value of its type, a text in UTF-8 among it
+pub record AreTypedRows (types : RowTypes) (batch : BatchSpec) (rows : List JoinedRow) : Type 0 where
+  pub are_rows : AreRowsOf batch rows
+  pub values : All (λ r. fits_row_types types r ≡ true) rows
+  pub columns : All (λ column. is_typed_column types column ≡ true) batch.columns
+
+-- where a batch has what an expression reads
+abbrev pub place_of : Reference → Place
+place_of (FactColumn at) = place.Fact at
+place_of (JoinColumn join at) = place.Join join at
+place_of (GroupKey i) = place.Key i
+place_of (GroupAggregate i) = place.Aggregate i
+
+abbrev pub has_column : List BatchColumn → Reference → Bool
+has_column columns u = list_any (λ column. same_place column.place (place_of u)) columns
+
+-- the expression has the type, and each column that it names is there
+pub record Fits (types : RowTypes) (columns : List BatchColumn) (e : Expr) (type : ExprType) : Type 0 where
+  pub typed : has_type types e type ≡ true
+  pub present : All (λ u. has_column columns u ≡ true) (columns_used e)

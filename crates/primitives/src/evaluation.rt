@@ -1,0 +1,46 @@
+//! Expressions over the columns of a batch.
+ghost use Rattle.std.specs.Prelude.{◌≡◌, ℕ, true, List, length, IfOk};
+ghost use Rattle.meaning.specs.declared.joined_row.JoinedRow.{JoinedRow};
+ghost use Rattle.meaning.specs.Typing.{ExprType, RowTypes};
+ghost use Rattle.vectors.specs.Selection.{is_among};
+ghost use Rattle.vectors.specs.Vector.{outcomes_of};
+ghost use Rattle.primitives.specs.Evaluated.{Evaluates, IsEvaluated, lane_of, meant_at};
+ghost use Rattle.primitives.specs.Fitting.{AreTypedRows, Fits, IsOfType};
+
+use crate::fault::Fault1;
+use crate::nodes::eval;
+use meaning::expr::Expr;
+use std::alloc::{AllocError, Global};
+use vectors::batch::Batch;
+use vectors::selection::Selection;
+use vectors::vector::Vector;
+
+/// What the expression gives on each selected row of the batch, as one vector.
+///
+/// The fault of the least selected position that has one goes to `fault`, unless one at that position or before is held there.
+/// Each selected lane before the fault that is then held is what evaluation gives on its row; the others are open. Types fit
+/// where the expression has a type over the batch's columns, and these are there.
+pub fn eval_vec<'a>(
+    alloc: Global,
+    expr: &'a Expr,
+    batch: &'a Batch<'_>,
+    selection: &Selection,
+    fault: &mut Fault1,
+) -> Result<Vector<'a>, AllocError>
+    requires { selection.now.below ≡ batch.now.rows }
+    ensures evaluated { IfOk result (λ v. (types : RowTypes) (type : ExprType) (rows : List JoinedRow)
+        → AreTypedRows types batch.now rows → Fits types batch.now.columns expr.now type
+        → IsEvaluated (meant_at expr.now rows) selection.now.list fault.old.held fault.new.held (lane_of v)) }
+    ensures composes { IfOk result (λ v. (types : RowTypes) (type : ExprType) (rows : List JoinedRow)
+        → AreTypedRows types batch.now rows → Fits types batch.now.columns expr.now type
+        → Evaluates (meant_at expr.now rows) (λ i. is_among selection.now.list i ≡ true) fault.old.held fault.new.held (lane_of v)) }
+    ensures typed { IfOk result (λ v. (types : RowTypes) (type : ExprType) (rows : List JoinedRow)
+        → AreTypedRows types batch.now rows → Fits types batch.now.columns expr.now type
+        → IsOfType type v) }
+    ensures long { IfOk result (λ v. length (outcomes_of v) ≡ batch.now.rows) }
+{
+    // That positions ascend below the number of rows.
+    let _ = selection.len();
+    let given = eval(alloc, expr, batch, selection, fault)?;
+    given.into_vector(alloc, batch.rows())
+}

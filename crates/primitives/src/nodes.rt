@@ -1,0 +1,900 @@
+//! The nodes of an expression: each part is evaluated on the lanes on which what stands before it leaves it needed.
+ghost use Rattle.std.specs.Prelude.{◌≡◌, ◌<◌, ℕ, true, List, map, All, Ok, IfOk};
+ghost use Rattle.meaning.specs.declared.joined_row.JoinedRow.{JoinedRow};
+ghost use Rattle.meaning.specs.declared.outcome.Outcome.{Outcome};
+ghost use Rattle.meaning.specs.declared.value.ColType.{ColType};
+ghost use Rattle.meaning.specs.declared.value.ColType.TheVariants as of_type;
+ghost use Rattle.meaning.specs.declared.expr.ComparisonOperator.TheVariants as comparison;
+ghost use Rattle.meaning.specs.Operators.{and_of, arith_of, case_of, cases_of, coalesce_of, compare_of, first_of, is_null_of, like_of, minus_of, not_if, not_of, or_of};
+ghost use Rattle.meaning.specs.Expr.{arms_at, eval_arm, outcomes};
+ghost use Rattle.meaning.specs.Typing.{Boolean, ExprType, RowTypes, Valued};
+ghost use Rattle.vectors.specs.Selection.{Positions, without};
+ghost use Rattle.primitives.specs.Evaluated.{Evaluates, Held, IsWithin, meant_at, row_at};
+ghost use Rattle.primitives.specs.declared.given.Given.{Given};
+ghost use Rattle.primitives.specs.Fitting.{AreTypedRows, Fits};
+ghost use Rattle.primitives.specs.Given.{AreNegatedIf, IsLong, IsSpelledIn, are_alike, given_at, is_not_false, is_not_true, is_null_lane, is_of_kind};
+ghost use Rattle.primitives.specs.Nodes.{ArePut, Decides, FitsArm, Gives, IsExact, IsNoLater, IsTaken, IsWhere, Passes, one_of_subject};
+
+use crate::arithmetic::{arithmetic, minus};
+use crate::choice::choose_lanes;
+use crate::comparing::{compare, is_null, like, one_truth};
+use crate::fault::Fault1;
+use crate::given::{Given, lent_column, repeated};
+use crate::logic::{and, not, not_if, or, unless_false, unless_true, where_null, where_true};
+use crate::spread::null_lanes;
+use meaning::expr::{ArithmeticOperator, Arm, ComparisonOperator, Expr};
+use meaning::outcome::Truth;
+use meaning::text::Text;
+use std::alloc::{AllocError, Global};
+use std::mem::drop;
+use vectors::batch::{Batch, Place};
+use vectors::selection::Selection;
+
+/// What the expression gives, node by node.
+#[cycle(eval)]
+pub fn eval<'a>(
+    alloc: Global,
+    expr: &'a Expr,
+    batch: &'a Batch<'_>,
+    selection: &Selection,
+    fault: &mut Fault1,
+) -> Result<Given<'a>, AllocError>
+    requires { selection.now.below ≡ batch.now.rows }
+    ensures long { IfOk result (IsLong batch.now.rows) }
+    ensures gives { IfOk result (λ g. (types : RowTypes) (type : ExprType) (rows : List JoinedRow)
+        → AreTypedRows types batch.now rows → Fits types batch.now.columns expr.now type
+        → Gives type (meant_at expr.now rows) (IsWithin selection.now) fault.old.held fault.new.held g) }
+{
+    match expr {
+        Expr::Column(column) => Ok(lent_column(batch, Place::Fact { column: *column })),
+        Expr::Joined { join, place } => Ok(lent_column(
+            batch,
+            Place::Join {
+                join: *join,
+                column: *place,
+            },
+        )),
+        Expr::Key(key) => Ok(lent_column(batch, Place::Key { key: *key })),
+        Expr::Aggregate(aggregate) => Ok(lent_column(
+            batch,
+            Place::Aggregate {
+                aggregate: *aggregate,
+            },
+        )),
+        Expr::Literal(value) => Ok(repeated(value, batch.rows())),
+        Expr::Minus(a) => {
+            let a = eval(alloc, a.get(), batch, selection, fault)?;
+            of_minus(alloc, a, selection, fault)
+        }
+        Expr::Arithmetic(op, a, b) => {
+            let left = eval(alloc, a.get(), batch, selection, fault)?;
+            let result = eval_arithmetic(alloc, *op, &left, b.get(), batch, selection, fault);
+            drop(left);
+            result
+        }
+        Expr::Compare(op, a, b) => {
+            let left = eval(alloc, a.get(), batch, selection, fault)?;
+            let result = eval_compare(alloc, *op, &left, b.get(), batch, selection, fault);
+            drop(left);
+            result
+        }
+        Expr::Not(a) => {
+            let a = eval(alloc, a.get(), batch, selection, fault)?;
+            of_not(alloc, a, batch.rows())
+        }
+        Expr::And(a, b) => {
+            let left = eval(alloc, a.get(), batch, selection, fault)?;
+            let result = eval_and(alloc, &left, b.get(), batch, selection, fault);
+            drop(left);
+            result
+        }
+        Expr::Or(a, b) => {
+            let left = eval(alloc, a.get(), batch, selection, fault)?;
+            let result = eval_or(alloc, &left, b.get(), batch, selection, fault);
+            drop(left);
+            result
+        }
+        Expr::IsNull { negated, subject } => {
+            let subject = eval(alloc, subject.get(), batch, selection, fault)?;
+            of_is_null(alloc, *negated, subject, batch.rows())
+        }
+        Expr::Between {
+            negated,
+            subject,
+            low,
+            high,
+        } => {
+            let subject = eval(alloc, subject.get(), batch, selection, fault)?;
+            let above = eval_compare(
+                alloc,
+                ComparisonOperator::GreaterOrEqual,
+                &subject,
+                low.get(),
+                batch,
+                selection,
+                fault,
+            );
+            let within = eval_above(alloc, &subject, above, high.get(), batch, selection, fault);
+            drop(subject);
+            not_if_known(alloc, *negated, within, batch.rows())
+        }
+        Expr::In {
+            negated,
+            subject,
+            list,
+        } => {
+            if list.len() == 0 {
+                return not_if(
+                    alloc,
+                    *negated,
+                    one_truth(Truth::False, batch.rows()),
+                    batch.rows(),
+                );
+            }
+            let subject = eval(alloc, subject.get(), batch, selection, fault)?;
+            let found = find_in(alloc, &subject, list.as_slice(), batch, selection, fault);
+            drop(subject);
+            not_if_known(alloc, *negated, found, batch.rows())
+        }
+        Expr::Like {
+            negated,
+            subject,
+            pattern,
+        } => {
+            let subject = eval(alloc, subject.get(), batch, selection, fault)?;
+            let found = of_like(alloc, pattern, subject, batch.rows());
+            not_if_known(alloc, *negated, found, batch.rows())
+        }
+        Expr::Coalesce(list) => eval_coalesce(alloc, list.as_slice(), batch, selection, fault),
+        Expr::Case { arms, otherwise } => {
+            let cases = eval_arms(alloc, arms.as_slice(), batch, selection, fault)?;
+            eval_otherwise(alloc, cases, otherwise.get(), batch, fault)
+        }
+    }
+}
+
+fn not_if_known<'a>(
+    alloc: Global,
+    negated: bool,
+    given: Result<Given<'a>, AllocError>,
+    lanes: usize,
+) -> Result<Given<'a>, AllocError>
+    requires { IfOk given (IsLong lanes) }
+    ensures long { IfOk result (IsLong lanes) }
+    ensures value { IfOk result (AreNegatedIf negated lanes given.entry) }
+    ensures kind { IfOk given.entry (λ a. is_of_kind Boolean a ≡ true) → IfOk result (λ g. is_of_kind Boolean g ≡ true) }
+{
+    not_if(alloc, negated, given?, lanes)
+}
+
+fn of_minus<'a>(
+    alloc: Global,
+    a: Given<'a>,
+    selection: &Selection,
+    fault: &mut Fault1,
+) -> Result<Given<'a>, AllocError>
+    requires { IsLong selection.now.below a }
+    ensures long { IfOk result (IsLong selection.now.below) }
+    ensures exact { is_of_kind (Valued of_type.Int) a.entry ≡ true → IfOk result (λ g. Evaluates (λ i. minus_of (given_at a.entry i)) (IsWithin selection.now) fault.old.held fault.new.held (given_at g)) }
+    ensures kind { IfOk result (λ g. is_of_kind (Valued of_type.Int) g ≡ true) }
+{
+    let result = minus(alloc, &a, selection, fault);
+    drop(a);
+    result
+}
+
+fn of_not<'a>(alloc: Global, a: Given<'a>, lanes: usize) -> Result<Given<'a>, AllocError>
+    requires { IsLong lanes a }
+    ensures long { IfOk result (IsLong lanes) }
+    ensures value { IfOk result (λ g. (i : ℕ) → i < lanes → given_at g i ≡ not_of (given_at a.entry i)) }
+    ensures kind { IfOk result (λ g. is_of_kind Boolean g ≡ true) }
+{
+    let result = not(alloc, &a, lanes);
+    drop(a);
+    result
+}
+
+fn of_is_null<'a>(
+    alloc: Global,
+    negated: bool,
+    a: Given<'a>,
+    lanes: usize,
+) -> Result<Given<'a>, AllocError>
+    requires { IsLong lanes a }
+    ensures long { IfOk result (IsLong lanes) }
+    ensures value { IfOk result (λ g. (i : ℕ) → i < lanes → given_at g i ≡ not_if negated (is_null_of (given_at a.entry i))) }
+    ensures kind { IfOk result (λ g. is_of_kind Boolean g ≡ true) }
+{
+    let result = is_null(alloc, negated, &a, lanes);
+    drop(a);
+    result
+}
+
+fn of_like<'a>(
+    alloc: Global,
+    pattern: &Text,
+    a: Given<'a>,
+    lanes: usize,
+) -> Result<Given<'a>, AllocError>
+    requires { IsLong lanes a }
+    ensures long { IfOk result (IsLong lanes) }
+    ensures value { is_of_kind (Valued of_type.Text) a.entry ≡ true → IfOk result (λ g. (i : ℕ) → i < lanes → IsSpelledIn a.entry i → given_at g i ≡ like_of pattern.now (given_at a.entry i)) }
+    ensures kind { IfOk result (λ g. is_of_kind Boolean g ≡ true) }
+{
+    let result = like(alloc, pattern, &a, lanes);
+    drop(a);
+    result
+}
+
+/// Arithmetic: both sides are evaluated on each lane.
+#[cycle(eval)]
+fn eval_arithmetic<'a>(
+    alloc: Global,
+    op: ArithmeticOperator,
+    left: &Given<'_>,
+    right: &'a Expr,
+    batch: &'a Batch<'_>,
+    selection: &Selection,
+    fault: &mut Fault1,
+) -> Result<Given<'a>, AllocError>
+    requires below { selection.now.below ≡ batch.now.rows }
+    requires left { IsLong batch.now.rows left.now }
+    ensures long { IfOk result (IsLong batch.now.rows) }
+    ensures gives { IfOk result (λ g. (types : RowTypes) (rows : List JoinedRow) (a : ℕ → Outcome) (held : Held)
+        → AreTypedRows types batch.now rows → Fits types batch.now.columns right.now (Valued of_type.Int)
+        → is_of_kind (Valued of_type.Int) left.now ≡ true
+        → Evaluates a (IsWithin selection.now) held fault.old.held (given_at left.now)
+        → Gives (Valued of_type.Int) (λ i. arith_of op (a i) (meant_at right.now rows i)) (IsWithin selection.now) held fault.new.held g) }
+{
+    let right = eval(alloc, right, batch, selection, fault)?;
+    let result = arithmetic(alloc, op, left, &right, selection, fault);
+    drop(right);
+    result
+}
+
+/// A comparison: both sides are evaluated on each lane.
+#[cycle(eval)]
+fn eval_compare<'a>(
+    alloc: Global,
+    op: ComparisonOperator,
+    left: &Given<'_>,
+    right: &'a Expr,
+    batch: &'a Batch<'_>,
+    selection: &Selection,
+    fault: &mut Fault1,
+) -> Result<Given<'a>, AllocError>
+    requires below { selection.now.below ≡ batch.now.rows }
+    requires left { IsLong batch.now.rows left.now }
+    ensures long { IfOk result (IsLong batch.now.rows) }
+    ensures gives { IfOk result (λ g. (types : RowTypes) (rows : List JoinedRow) (kind : ColType) (a : ℕ → Outcome) (held : Held)
+        → AreTypedRows types batch.now rows → Fits types batch.now.columns right.now (Valued kind)
+        → is_of_kind (Valued kind) left.now ≡ true
+        → Evaluates a (IsWithin selection.now) held fault.old.held (given_at left.now)
+        → Gives Boolean (λ i. compare_of op (a i) (meant_at right.now rows i)) (IsWithin selection.now) held fault.new.held g × IsNoLater fault.old.held fault.new.held) }
+{
+    let right = eval(alloc, right, batch, selection, fault)?;
+    let result = compare(alloc, op, left, &right, batch.rows());
+    drop(right);
+    result
+}
+
+/// The expression on the selected lanes that aren't FALSE.
+#[cycle(eval)]
+fn eval_unless_false<'a>(
+    alloc: Global,
+    before: &Given<'_>,
+    expr: &'a Expr,
+    batch: &'a Batch<'_>,
+    selection: &Selection,
+    fault: &mut Fault1,
+) -> Result<Given<'a>, AllocError>
+    requires below { selection.now.below ≡ batch.now.rows }
+    requires before { IsLong batch.now.rows before.now }
+    ensures long { IfOk result (IsLong batch.now.rows) }
+    ensures gives { IfOk result (λ g. (types : RowTypes) (type : ExprType) (rows : List JoinedRow)
+        → AreTypedRows types batch.now rows → Fits types batch.now.columns expr.now type
+        → Gives type (meant_at expr.now rows) (IsWhere (λ i. is_not_false (given_at before.now i)) selection.now) fault.old.held fault.new.held g) }
+{
+    let narrowed = unless_false(alloc, before, selection)?;
+    let result = eval(alloc, expr, batch, &narrowed, fault);
+    drop(narrowed);
+    result
+}
+
+/// The expression on the selected lanes that aren't TRUE.
+#[cycle(eval)]
+fn eval_unless_true<'a>(
+    alloc: Global,
+    before: &Given<'_>,
+    expr: &'a Expr,
+    batch: &'a Batch<'_>,
+    selection: &Selection,
+    fault: &mut Fault1,
+) -> Result<Given<'a>, AllocError>
+    requires below { selection.now.below ≡ batch.now.rows }
+    requires before { IsLong batch.now.rows before.now }
+    ensures long { IfOk result (IsLong batch.now.rows) }
+    ensures gives { IfOk result (λ g. (types : RowTypes) (type : ExprType) (rows : List JoinedRow)
+        → AreTypedRows types batch.now rows → Fits types batch.now.columns expr.now type
+        → Gives type (meant_at expr.now rows) (IsWhere (λ i. is_not_true (given_at before.now i)) selection.now) fault.old.held fault.new.held g) }
+{
+    let narrowed = unless_true(alloc, before, selection)?;
+    let result = eval(alloc, expr, batch, &narrowed, fault);
+    drop(narrowed);
+    result
+}
+
+/// The expression on the selected lanes that are NULL.
+#[cycle(eval)]
+fn eval_where_null<'a>(
+    alloc: Global,
+    before: &Given<'_>,
+    expr: &'a Expr,
+    batch: &'a Batch<'_>,
+    selection: &Selection,
+    fault: &mut Fault1,
+) -> Result<Given<'a>, AllocError>
+    requires below { selection.now.below ≡ batch.now.rows }
+    requires before { IsLong batch.now.rows before.now }
+    ensures long { IfOk result (IsLong batch.now.rows) }
+    ensures gives { IfOk result (λ g. (types : RowTypes) (type : ExprType) (rows : List JoinedRow)
+        → AreTypedRows types batch.now rows → Fits types batch.now.columns expr.now type
+        → Gives type (meant_at expr.now rows) (IsWhere (λ i. is_null_lane (given_at before.now i)) selection.now) fault.old.held fault.new.held g) }
+{
+    let narrowed = where_null(alloc, before, selection)?;
+    let result = eval(alloc, expr, batch, &narrowed, fault);
+    drop(narrowed);
+    result
+}
+
+/// AND: the right side is evaluated on the lanes where the left one isn't FALSE.
+#[cycle(eval)]
+fn eval_and<'a>(
+    alloc: Global,
+    left: &Given<'_>,
+    right: &'a Expr,
+    batch: &'a Batch<'_>,
+    selection: &Selection,
+    fault: &mut Fault1,
+) -> Result<Given<'a>, AllocError>
+    requires below { selection.now.below ≡ batch.now.rows }
+    requires left { IsLong batch.now.rows left.now }
+    ensures long { IfOk result (IsLong batch.now.rows) }
+    ensures gives { IfOk result (λ g. (types : RowTypes) (rows : List JoinedRow) (a : ℕ → Outcome) (held : Held)
+        → AreTypedRows types batch.now rows → Fits types batch.now.columns right.now Boolean
+        → Evaluates a (IsWithin selection.now) held fault.old.held (given_at left.now)
+        → Gives Boolean (λ i. and_of (a i) (meant_at right.now rows i)) (IsWithin selection.now) held fault.new.held g) }
+{
+    let right = eval_unless_false(alloc, left, right, batch, selection, fault)?;
+    let result = and(alloc, left, &right, batch.rows());
+    drop(right);
+    result
+}
+
+/// OR: the right side is evaluated on the lanes where the left one isn't TRUE.
+#[cycle(eval)]
+fn eval_or<'a>(
+    alloc: Global,
+    left: &Given<'_>,
+    right: &'a Expr,
+    batch: &'a Batch<'_>,
+    selection: &Selection,
+    fault: &mut Fault1,
+) -> Result<Given<'a>, AllocError>
+    requires below { selection.now.below ≡ batch.now.rows }
+    requires left { IsLong batch.now.rows left.now }
+    ensures long { IfOk result (IsLong batch.now.rows) }
+    ensures gives { IfOk result (λ g. (types : RowTypes) (rows : List JoinedRow) (a : ℕ → Outcome) (held : Held)
+        → AreTypedRows types batch.now rows → Fits types batch.now.columns right.now Boolean
+        → Evaluates a (IsWithin selection.now) held fault.old.held (given_at left.now)
+        → Gives Boolean (λ i. or_of (a i) (meant_at right.now rows i)) (IsWithin selection.now) held fault.new.held g) }
+{
+    let right = eval_unless_true(alloc, left, right, batch, selection, fault)?;
+    let result = or(alloc, left, &right, batch.rows());
+    drop(right);
+    result
+}
+
+/// The upper half of BETWEEN: the upper bound is evaluated on the lanes where the lower half isn't FALSE.
+#[cycle(eval)]
+fn eval_high<'a>(
+    alloc: Global,
+    subject: &Given<'_>,
+    above: &Given<'_>,
+    high: &'a Expr,
+    batch: &'a Batch<'_>,
+    selection: &Selection,
+    fault: &mut Fault1,
+) -> Result<Given<'a>, AllocError>
+    requires below { selection.now.below ≡ batch.now.rows }
+    requires subject { IsLong batch.now.rows subject.now }
+    requires above { IsLong batch.now.rows above.now }
+    ensures long { IfOk result (IsLong batch.now.rows) }
+    ensures gives { IfOk result (λ g. (types : RowTypes) (rows : List JoinedRow) (kind : ColType) (x a : ℕ → Outcome) (held : Held)
+        → AreTypedRows types batch.now rows → Fits types batch.now.columns high.now (Valued kind)
+        → is_of_kind (Valued kind) subject.now ≡ true
+        → IsExact x (IsWithin selection.now) fault.old.held (given_at subject.now)
+        → Evaluates a (IsWithin selection.now) held fault.old.held (given_at above.now)
+        → Gives Boolean (λ i. and_of (a i) (compare_of comparison.LessOrEqual (x i) (meant_at high.now rows i))) (IsWithin selection.now) held fault.new.held g) }
+{
+    let below = eval_at_most(alloc, subject, above, high, batch, selection, fault)?;
+    let result = and(alloc, above, &below, batch.rows());
+    drop(below);
+    result
+}
+
+/// The same behind what the lower half gave.
+#[cycle(eval)]
+fn eval_above<'a>(
+    alloc: Global,
+    subject: &Given<'_>,
+    above: Result<Given<'a>, AllocError>,
+    high: &'a Expr,
+    batch: &'a Batch<'_>,
+    selection: &Selection,
+    fault: &mut Fault1,
+) -> Result<Given<'a>, AllocError>
+    requires below { selection.now.below ≡ batch.now.rows }
+    requires subject { IsLong batch.now.rows subject.now }
+    requires above { IfOk above (IsLong batch.now.rows) }
+    ensures long { IfOk result (IsLong batch.now.rows) }
+    ensures gives { IfOk result (λ g. (types : RowTypes) (rows : List JoinedRow) (kind : ColType) (x a : ℕ → Outcome) (held : Held)
+        → AreTypedRows types batch.now rows → Fits types batch.now.columns high.now (Valued kind)
+        → is_of_kind (Valued kind) subject.now ≡ true
+        → IfOk above.entry (λ b. IsExact x (IsWithin selection.now) fault.old.held (given_at subject.now)
+        × Evaluates a (IsWithin selection.now) held fault.old.held (given_at b))
+        → Gives Boolean (λ i. and_of (a i) (compare_of comparison.LessOrEqual (x i) (meant_at high.now rows i))) (IsWithin selection.now) held fault.new.held g) }
+{
+    let above = above?;
+    let result = eval_high(alloc, subject, &above, high, batch, selection, fault);
+    drop(above);
+    result
+}
+
+/// `subject <= high` on the lanes where what stands before isn't FALSE.
+#[cycle(eval)]
+fn eval_at_most<'a>(
+    alloc: Global,
+    subject: &Given<'_>,
+    before: &Given<'_>,
+    high: &'a Expr,
+    batch: &'a Batch<'_>,
+    selection: &Selection,
+    fault: &mut Fault1,
+) -> Result<Given<'a>, AllocError>
+    requires below { selection.now.below ≡ batch.now.rows }
+    requires subject { IsLong batch.now.rows subject.now }
+    requires before { IsLong batch.now.rows before.now }
+    ensures long { IfOk result (IsLong batch.now.rows) }
+    ensures gives { IfOk result (λ g. (types : RowTypes) (rows : List JoinedRow) (kind : ColType) (x : ℕ → Outcome)
+        → AreTypedRows types batch.now rows → Fits types batch.now.columns high.now (Valued kind)
+        → is_of_kind (Valued kind) subject.now ≡ true
+        → IsExact x (IsWithin selection.now) fault.old.held (given_at subject.now)
+        → Gives Boolean (λ i. compare_of comparison.LessOrEqual (x i) (meant_at high.now rows i)) (IsWhere (λ i. is_not_false (given_at before.now i)) selection.now) fault.old.held fault.new.held g) }
+{
+    let high = eval_unless_false(alloc, before, high, batch, selection, fault)?;
+    let result = compare(
+        alloc,
+        ComparisonOperator::LessOrEqual,
+        subject,
+        &high,
+        batch.rows(),
+    );
+    drop(high);
+    result
+}
+
+/// IN a list that isn't empty: the subject was evaluated once, and each item is on the lanes where none before it was equal.
+#[cycle(eval)]
+fn find_in<'a>(
+    alloc: Global,
+    subject: &Given<'_>,
+    list: &'a [Expr],
+    batch: &'a Batch<'_>,
+    selection: &Selection,
+    fault: &mut Fault1,
+) -> Result<Given<'static>, AllocError>
+    requires below { selection.now.below ≡ batch.now.rows }
+    requires subject { IsLong batch.now.rows subject.now }
+    ensures long { IfOk result (IsLong batch.now.rows) }
+    ensures gives { IfOk result (λ g. (types : RowTypes) (rows : List JoinedRow) (kind : ColType) (x : ℕ → Outcome) (held : Held)
+        → AreTypedRows types batch.now rows → All (λ e. Fits types batch.now.columns e (Valued kind)) list.now
+        → is_of_kind (Valued kind) subject.now ≡ true
+        → Evaluates x (IsWithin selection.now) held fault.old.held (given_at subject.now)
+        → Gives Boolean (λ i. one_of_subject (x i) (outcomes list.now (row_at rows i))) (IsWithin selection.now) held fault.new.held g) }
+{
+    let mut found = one_truth(Truth::False, batch.rows());
+    for item in list {
+        find_item(alloc, subject, &mut found, item, batch, selection, fault)?;
+    }
+    Ok(found)
+}
+
+/// What was found, or whether the subject equals one item more.
+#[cycle(eval)]
+fn find_item<'a>(
+    alloc: Global,
+    subject: &Given<'_>,
+    found: &mut Given<'static>,
+    item: &'a Expr,
+    batch: &'a Batch<'_>,
+    selection: &Selection,
+    fault: &mut Fault1,
+) -> Result<(), AllocError>
+    requires below { selection.now.below ≡ batch.now.rows }
+    requires subject { IsLong batch.now.rows subject.now }
+    requires found { IsLong batch.now.rows found.old }
+    ensures long { IsLong batch.now.rows found.new }
+    ensures gives { IfOk result (λ _. (types : RowTypes) (rows : List JoinedRow) (kind : ColType) (x a : ℕ → Outcome) (held : Held)
+        → AreTypedRows types batch.now rows → Fits types batch.now.columns item.now (Valued kind)
+        → is_of_kind (Valued kind) subject.now ≡ true
+        → IsExact x (IsWithin selection.now) fault.old.held (given_at subject.now)
+        → Evaluates a (IsWithin selection.now) held fault.old.held (given_at found.old)
+        → Gives Boolean (λ i. or_of (a i) (compare_of comparison.Equal (x i) (meant_at item.now rows i))) (IsWithin selection.now) held fault.new.held found.new
+        × IsNoLater fault.old.held fault.new.held) }
+{
+    let next = find_next(alloc, subject, found, item, batch, selection, fault)?;
+    *found = next;
+    Ok(())
+}
+
+/// The same, of what is lent.
+#[cycle(eval)]
+fn find_next<'a>(
+    alloc: Global,
+    subject: &Given<'_>,
+    found: &Given<'_>,
+    item: &'a Expr,
+    batch: &'a Batch<'_>,
+    selection: &Selection,
+    fault: &mut Fault1,
+) -> Result<Given<'static>, AllocError>
+    requires below { selection.now.below ≡ batch.now.rows }
+    requires subject { IsLong batch.now.rows subject.now }
+    requires found { IsLong batch.now.rows found.now }
+    ensures long { IfOk result (IsLong batch.now.rows) }
+    ensures gives { IfOk result (λ g. (types : RowTypes) (rows : List JoinedRow) (kind : ColType) (x a : ℕ → Outcome) (held : Held)
+        → AreTypedRows types batch.now rows → Fits types batch.now.columns item.now (Valued kind)
+        → is_of_kind (Valued kind) subject.now ≡ true
+        → IsExact x (IsWithin selection.now) fault.old.held (given_at subject.now)
+        → Evaluates a (IsWithin selection.now) held fault.old.held (given_at found.now)
+        → Gives Boolean (λ i. or_of (a i) (compare_of comparison.Equal (x i) (meant_at item.now rows i))) (IsWithin selection.now) held fault.new.held g
+        × IsNoLater fault.old.held fault.new.held) }
+{
+    let equal = eval_equal(alloc, subject, found, item, batch, selection, fault)?;
+    let result = or(alloc, found, &equal, batch.rows());
+    drop(equal);
+    result
+}
+
+/// `subject = item` on the lanes where what stands before isn't TRUE.
+#[cycle(eval)]
+fn eval_equal<'a>(
+    alloc: Global,
+    subject: &Given<'_>,
+    before: &Given<'_>,
+    item: &'a Expr,
+    batch: &'a Batch<'_>,
+    selection: &Selection,
+    fault: &mut Fault1,
+) -> Result<Given<'a>, AllocError>
+    requires below { selection.now.below ≡ batch.now.rows }
+    requires subject { IsLong batch.now.rows subject.now }
+    requires before { IsLong batch.now.rows before.now }
+    ensures long { IfOk result (IsLong batch.now.rows) }
+    ensures gives { IfOk result (λ g. (types : RowTypes) (rows : List JoinedRow) (kind : ColType) (x : ℕ → Outcome)
+        → AreTypedRows types batch.now rows → Fits types batch.now.columns item.now (Valued kind)
+        → is_of_kind (Valued kind) subject.now ≡ true
+        → IsExact x (IsWithin selection.now) fault.old.held (given_at subject.now)
+        → Gives Boolean (λ i. compare_of comparison.Equal (x i) (meant_at item.now rows i)) (IsWhere (λ i. is_not_true (given_at before.now i)) selection.now) fault.old.held fault.new.held g) }
+{
+    let item = eval_unless_true(alloc, before, item, batch, selection, fault)?;
+    let result = compare(
+        alloc,
+        ComparisonOperator::Equal,
+        subject,
+        &item,
+        batch.rows(),
+    );
+    drop(item);
+    result
+}
+
+/// COALESCE: each item is evaluated on the lanes where all before it are NULL.
+#[cycle(eval)]
+fn eval_coalesce<'a>(
+    alloc: Global,
+    list: &'a [Expr],
+    batch: &'a Batch<'_>,
+    selection: &Selection,
+    fault: &mut Fault1,
+) -> Result<Given<'a>, AllocError>
+    requires below { selection.now.below ≡ batch.now.rows }
+    ensures long { IfOk result (IsLong batch.now.rows) }
+    ensures gives { IfOk result (λ g. (types : RowTypes) (rows : List JoinedRow) (kind : ColType)
+        → AreTypedRows types batch.now rows → All (λ e. Fits types batch.now.columns e (Valued kind)) list.now
+        → Gives (Valued kind) (λ i. first_of (outcomes list.now (row_at rows i))) (IsWithin selection.now) fault.old.held fault.new.held g) }
+{
+    let mut so_far = Given::Null;
+    for item in list {
+        eval_item(alloc, &mut so_far, item, batch, selection, fault)?;
+    }
+    Ok(so_far)
+}
+
+/// What there is so far, and where that is NULL one item more.
+#[cycle(eval)]
+fn eval_item<'a>(
+    alloc: Global,
+    so_far: &mut Given<'a>,
+    item: &'a Expr,
+    batch: &'a Batch<'_>,
+    selection: &Selection,
+    fault: &mut Fault1,
+) -> Result<(), AllocError>
+    requires below { selection.now.below ≡ batch.now.rows }
+    requires so_far { IsLong batch.now.rows so_far.old }
+    ensures long { IsLong batch.now.rows so_far.new }
+    ensures gives { IfOk result (λ _. (types : RowTypes) (rows : List JoinedRow) (kind : ColType) (a : ℕ → Outcome) (held : Held)
+        → AreTypedRows types batch.now rows → Fits types batch.now.columns item.now (Valued kind)
+        → is_of_kind (Valued kind) so_far.old ≡ true
+        → Evaluates a (IsWithin selection.now) held fault.old.held (given_at so_far.old)
+        → Gives (Valued kind) (λ i. coalesce_of (a i) (meant_at item.now rows i)) (IsWithin selection.now) held fault.new.held so_far.new) }
+{
+    let next = eval_next(alloc, so_far, item, batch, selection, fault)?;
+    *so_far = next;
+    Ok(())
+}
+
+/// The same, of what is lent.
+#[cycle(eval)]
+fn eval_next<'a>(
+    alloc: Global,
+    so_far: &Given<'a>,
+    item: &'a Expr,
+    batch: &'a Batch<'_>,
+    selection: &Selection,
+    fault: &mut Fault1,
+) -> Result<Given<'a>, AllocError>
+    requires below { selection.now.below ≡ batch.now.rows }
+    requires so_far { IsLong batch.now.rows so_far.now }
+    ensures long { IfOk result (IsLong batch.now.rows) }
+    ensures gives { IfOk result (λ g. (types : RowTypes) (rows : List JoinedRow) (kind : ColType) (a : ℕ → Outcome) (held : Held)
+        → AreTypedRows types batch.now rows → Fits types batch.now.columns item.now (Valued kind)
+        → is_of_kind (Valued kind) so_far.now ≡ true
+        → Evaluates a (IsWithin selection.now) held fault.old.held (given_at so_far.now)
+        → Gives (Valued kind) (λ i. coalesce_of (a i) (meant_at item.now rows i)) (IsWithin selection.now) held fault.new.held g) }
+{
+    let item = eval_where_null(alloc, so_far, item, batch, selection, fault)?;
+    let result = coalesce(alloc, so_far, &item, batch.rows());
+    drop(item);
+    result
+}
+
+/// The first lane, and where it is NULL the second.
+fn coalesce<'a>(
+    alloc: Global,
+    first: &Given<'a>,
+    second: &Given<'a>,
+    lanes: usize,
+) -> Result<Given<'a>, AllocError>
+    requires first { IsLong lanes first.now }
+    requires second { IsLong lanes second.now }
+    ensures long { IfOk result (IsLong lanes) }
+    ensures value { (kind : ColType) → is_of_kind (Valued kind) first.now ≡ true → is_of_kind (Valued kind) second.now ≡ true
+        → IfOk result (λ g. (i : ℕ) → i < lanes → given_at g i ≡ coalesce_of (given_at first.now i) (given_at second.now i)) }
+    ensures kind { (kind : ColType) → is_of_kind (Valued kind) first.now ≡ true → is_of_kind (Valued kind) second.now ≡ true
+        → IfOk result (λ g. is_of_kind (Valued kind) g ≡ true) }
+{
+    let mask = null_lanes(alloc, first, lanes)?;
+    choose_lanes(alloc, mask.as_slice(), second, first)
+}
+
+/// What the arms of a CASE gave so far, and the lanes that none of them took.
+#[derive(Drop)]
+pub struct Cases<'a> {
+    given: Given<'a>,
+    left: Selection,
+}
+
+/// The lanes that an arm takes, and what it gives on them.
+#[derive(Drop)]
+pub struct Taken<'a> {
+    then: Given<'a>,
+    lanes: Selection,
+}
+
+/// The arms of CASE: each condition is evaluated on the lanes that no arm before it took, each value where it is chosen.
+#[cycle(eval)]
+fn eval_arms<'a>(
+    alloc: Global,
+    arms: &'a [Arm],
+    batch: &'a Batch<'_>,
+    selection: &Selection,
+    fault: &mut Fault1,
+) -> Result<Cases<'a>, AllocError>
+    requires below { selection.now.below ≡ batch.now.rows }
+    ensures long { IfOk result (λ c. IsLong batch.now.rows c.given × (c.left.below ≡ batch.now.rows)) }
+    ensures gives { IfOk result (λ c. (types : RowTypes) (rows : List JoinedRow) (kind : ColType) (rest : ℕ → Outcome)
+        → AreTypedRows types batch.now rows → All (FitsArm types batch.now.columns kind) arms.now
+        → Decides kind (λ i. cases_of (arms_at (row_at rows i) (map eval_arm arms.now)) (rest i)) rest (IsWithin selection.now) c.left fault.old.held fault.new.held c.given) }
+{
+    let mut cases = Cases {
+        given: Given::Null,
+        left: selection.copy(alloc)?,
+    };
+    for arm in arms {
+        eval_arm(alloc, &mut cases, arm, batch, fault)?;
+    }
+    Ok(cases)
+}
+
+/// One arm more.
+#[cycle(eval)]
+fn eval_arm<'a>(
+    alloc: Global,
+    cases: &mut Cases<'a>,
+    arm: &'a Arm,
+    batch: &'a Batch<'_>,
+    fault: &mut Fault1,
+) -> Result<(), AllocError>
+    requires given { IsLong batch.now.rows cases.old.given }
+    requires left { cases.old.left.below ≡ batch.now.rows }
+    ensures long { IsLong batch.now.rows cases.new.given × (cases.new.left.below ≡ batch.now.rows) }
+    ensures gives { IfOk result (λ _. (types : RowTypes) (rows : List JoinedRow) (kind : ColType) (meant rest : ℕ → Outcome) (s : Positions) (held : Held)
+        → AreTypedRows types batch.now rows → FitsArm types batch.now.columns kind arm.now
+        → Decides kind meant (λ i. case_of (meant_at arm.now.when rows i) (meant_at arm.now.then rows i) (rest i)) (IsWithin s) cases.old.left held fault.old.held cases.old.given
+        → Decides kind meant rest (IsWithin s) cases.new.left held fault.new.held cases.new.given) }
+{
+    let next = eval_next_arm(alloc, cases, arm, batch, fault)?;
+    *cases = next;
+    Ok(())
+}
+
+/// The same, of what is lent.
+#[cycle(eval)]
+fn eval_next_arm<'a>(
+    alloc: Global,
+    cases: &Cases<'a>,
+    arm: &'a Arm,
+    batch: &'a Batch<'_>,
+    fault: &mut Fault1,
+) -> Result<Cases<'a>, AllocError>
+    requires given { IsLong batch.now.rows cases.now.given }
+    requires left { cases.now.left.below ≡ batch.now.rows }
+    ensures long { IfOk result (λ c. IsLong batch.now.rows c.given × (c.left.below ≡ batch.now.rows)) }
+    ensures gives { IfOk result (λ c. (types : RowTypes) (rows : List JoinedRow) (kind : ColType) (meant rest : ℕ → Outcome) (s : Positions) (held : Held)
+        → AreTypedRows types batch.now rows → FitsArm types batch.now.columns kind arm.now
+        → Decides kind meant (λ i. case_of (meant_at arm.now.when rows i) (meant_at arm.now.then rows i) (rest i)) (IsWithin s) cases.now.left held fault.old.held cases.now.given
+        → Decides kind meant rest (IsWithin s) c.left held fault.new.held c.given) }
+{
+    let taken = eval_taken(alloc, arm, batch, &cases.left, fault)?;
+    let result = put_taken(alloc, cases, &taken);
+    drop(taken);
+    result
+}
+
+/// The lanes among these that the arm takes, and what it gives on them.
+#[cycle(eval)]
+fn eval_taken<'a>(
+    alloc: Global,
+    arm: &'a Arm,
+    batch: &'a Batch<'_>,
+    left: &Selection,
+    fault: &mut Fault1,
+) -> Result<Taken<'a>, AllocError>
+    requires { left.now.below ≡ batch.now.rows }
+    ensures long { IfOk result (λ t. IsLong batch.now.rows t.then × (t.lanes.below ≡ batch.now.rows)) }
+    ensures gives { IfOk result (λ t. (types : RowTypes) (rows : List JoinedRow) (kind : ColType)
+        → AreTypedRows types batch.now rows → FitsArm types batch.now.columns kind arm.now
+        → IsTaken kind (meant_at arm.now.when rows) (meant_at arm.now.then rows) left.now t.lanes fault.old.held fault.new.held t.then) }
+{
+    let lanes = eval_when(alloc, &arm.when, batch, left, fault)?;
+    let then = eval(alloc, &arm.then, batch, &lanes, fault)?;
+    Ok(Taken { then, lanes })
+}
+
+/// The lanes among these on which the condition is TRUE.
+#[cycle(eval)]
+fn eval_when<'a>(
+    alloc: Global,
+    when: &'a Expr,
+    batch: &'a Batch<'_>,
+    left: &Selection,
+    fault: &mut Fault1,
+) -> Result<Selection, AllocError>
+    requires { left.now.below ≡ batch.now.rows }
+    ensures below { IfOk result (λ lanes. lanes.below ≡ batch.now.rows) }
+    ensures gives { IfOk result (λ lanes. (types : RowTypes) (rows : List JoinedRow)
+        → AreTypedRows types batch.now rows → Fits types batch.now.columns when.now Boolean
+        → Passes (meant_at when.now rows) left.now lanes fault.old.held fault.new.held) }
+{
+    let when = eval(alloc, when, batch, left, fault)?;
+    let lanes = where_true(alloc, &when, left);
+    drop(when);
+    lanes
+}
+
+fn put_taken<'a>(
+    alloc: Global,
+    cases: &Cases<'a>,
+    taken: &Taken<'a>,
+) -> Result<Cases<'a>, AllocError>
+    requires given { IsLong cases.now.left.below cases.now.given }
+    requires then { IsLong cases.now.left.below taken.now.then }
+    requires lanes { taken.now.lanes.below ≡ cases.now.left.below }
+    ensures long { IfOk result (λ c. IsLong cases.now.left.below c.given × (c.left.below ≡ cases.now.left.below)) }
+    ensures left { IfOk result (λ c. c.left ≡ record { below = cases.now.left.below; list = without cases.now.left.list taken.now.lanes.list }) }
+    ensures value { (kind : ColType) → is_of_kind (Valued kind) cases.now.given ≡ true → is_of_kind (Valued kind) taken.now.then ≡ true
+        → IfOk result (λ c. ArePut taken.now.lanes taken.now.then cases.now.given c.given) }
+    ensures kind { (kind : ColType) → is_of_kind (Valued kind) cases.now.given ≡ true → is_of_kind (Valued kind) taken.now.then ≡ true
+        → IfOk result (λ c. is_of_kind (Valued kind) c.given ≡ true) }
+{
+    let given = put(alloc, &taken.lanes, &taken.then, &cases.given)?;
+    let left = cases.left.minus(alloc, &taken.lanes)?;
+    Ok(Cases { given, left })
+}
+
+/// The lanes of `these` at the selected positions, elsewhere those of `those`.
+fn put<'a>(
+    alloc: Global,
+    selection: &Selection,
+    these: &Given<'a>,
+    those: &Given<'a>,
+) -> Result<Given<'a>, AllocError>
+    requires these { IsLong selection.now.below these.now }
+    requires those { IsLong selection.now.below those.now }
+    ensures long { IfOk result (IsLong selection.now.below) }
+    ensures value { (kind : ColType) → is_of_kind (Valued kind) those.now ≡ true → is_of_kind (Valued kind) these.now ≡ true
+        → IfOk result (ArePut selection.now these.now those.now) }
+    ensures kind { (kind : ColType) → is_of_kind (Valued kind) those.now ≡ true → is_of_kind (Valued kind) these.now ≡ true
+        → IfOk result (λ g. is_of_kind (Valued kind) g ≡ true) }
+{
+    let mask = selection.mask(alloc)?;
+    choose_lanes(alloc, mask.as_slice(), these, those)
+}
+
+/// ELSE, on the lanes that no arm took.
+#[cycle(eval)]
+fn eval_otherwise<'a>(
+    alloc: Global,
+    cases: Cases<'a>,
+    otherwise: &'a Expr,
+    batch: &'a Batch<'_>,
+    fault: &mut Fault1,
+) -> Result<Given<'a>, AllocError>
+    requires given { IsLong batch.now.rows cases.given }
+    requires left { cases.left.below ≡ batch.now.rows }
+    ensures long { IfOk result (IsLong batch.now.rows) }
+    ensures gives { IfOk result (λ g. (types : RowTypes) (rows : List JoinedRow) (kind : ColType) (meant : ℕ → Outcome) (s : Positions) (held : Held)
+        → AreTypedRows types batch.now rows → Fits types batch.now.columns otherwise.now (Valued kind)
+        → Decides kind meant (meant_at otherwise.now rows) (IsWithin s) cases.entry.left held fault.old.held cases.entry.given
+        → Gives (Valued kind) meant (IsWithin s) held fault.new.held g) }
+{
+    let result = eval_rest(alloc, &cases, otherwise, batch, fault);
+    drop(cases);
+    result
+}
+
+/// The same, of what is lent.
+#[cycle(eval)]
+fn eval_rest<'a>(
+    alloc: Global,
+    cases: &Cases<'a>,
+    otherwise: &'a Expr,
+    batch: &'a Batch<'_>,
+    fault: &mut Fault1,
+) -> Result<Given<'a>, AllocError>
+    requires given { IsLong batch.now.rows cases.now.given }
+    requires left { cases.now.left.below ≡ batch.now.rows }
+    ensures long { IfOk result (IsLong batch.now.rows) }
+    ensures gives { IfOk result (λ g. (types : RowTypes) (rows : List JoinedRow) (kind : ColType) (meant : ℕ → Outcome) (s : Positions) (held : Held)
+        → AreTypedRows types batch.now rows → Fits types batch.now.columns otherwise.now (Valued kind)
+        → Decides kind meant (meant_at otherwise.now rows) (IsWithin s) cases.now.left held fault.old.held cases.now.given
+        → Gives (Valued kind) meant (IsWithin s) held fault.new.held g) }
+{
+    let otherwise = eval(alloc, otherwise, batch, &cases.left, fault)?;
+    let result = put(alloc, &cases.left, &otherwise, &cases.given);
+    drop(otherwise);
+    result
+}

@@ -1,0 +1,8 @@
+-- The lemmas of this crate.
+pub mod Sizes
+pub mod Advancing
+pub mod Masks
+pub mod Rows
+pub mod Least
+pub mod Narrowing
+pub mod LawProofs

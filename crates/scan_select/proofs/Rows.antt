@@ -1,0 +1,182 @@
+-- The rows that a batch has the columns of.
+use Rattle.std.proofs.Common.{◌≡◌, ℕ, zero, suc, ◌+◌, ◌≤◌, ◌<◌, Bool, false, true, cond, eqb, List, [], ◌∷◌, ◌++◌, length, Option, Some, append_assoc, get_or, map, zip, take, drop, replicate, refl, ap, sym, ◌∙◌, subst, arith}
+use Rattle.std.specs.Prelude.{nat_le, All}
+use Rattle.std.specs.List.{range_with_len, AllByRecursion, AllZip}
+use Rattle.std.proofs.lemmas.List.Elements.{All-from_recursion, recursion_from_All}
+use Rattle.std.proofs.lemmas.List.{length-map, length-replicate, take_more}
+use Rattle.std.proofs.lemmas.Slice.Zip.{length-zip}
+use Rattle.std.proofs.lemmas.List.FromFn.{length-range_with_len}
+use Rattle.std.proofs.lemmas.Simd.{pick_l-range_with_len}
+use Rattle.meaning.specs.declared.value.Value.{Value}
+use Rattle.meaning.specs.declared.value.Value.TheVariants.{Null}
+use Rattle.meaning.specs.declared.outcome.Outcome.{Outcome}
+use Rattle.meaning.specs.declared.outcome.Outcome.TheVariants as gives
+use Rattle.meaning.specs.declared.joined_row.JoinedRow.{JoinedRow}
+use Rattle.meaning.specs.Order.{Row, column}
+use Rattle.meaning.specs.Joined.{joined_row}
+use Rattle.meaning.specs.References.{Reference, FactColumn, referenced}
+use Rattle.encodings.specs.Block.{Block, bit_at, is_block, mask_of, nulls_of, cells_of, values_of, masked}
+use Rattle.encodings.proofs.Blocks.{block_body}
+use Rattle.encodings.proofs.Nulls.{length_cells}
+use Rattle.meaning.specs.declared.catalog.Column.{Column}
+use Rattle.std.proofs.lemmas.Bool.{and_parts, leb-true}
+use Rattle.fragment_file.specs.Fragment.{AreBlocks, no_block}
+use Rattle.fragment_file.specs.View.{rows_of, IsGroup}
+use Rattle.vectors.specs.declared.batch.Place.{Place}
+use Rattle.vectors.specs.declared.batch.Place.TheVariants as place
+use Rattle.vectors.specs.declared.batch.BatchColumn.{BatchColumn}
+use Rattle.vectors.specs.declared.vector.Vector.{Vector}
+use Rattle.vectors.specs.Vector.{BatchSpec, AreRowsOf, IsColumnOf, outcomes_of, reference_of}
+use Rattle.scan_select.specs.Pieces.{Piece, piece_now, row_in, rows_of_piece}
+use Rattle.scan_select.specs.Scanned.{ScanSpec, IsPosition, IsColumnAt, AreColumnsAt, AddsColumns, IsBatchOf, IsOfType, GivesBatch, fact_rows}
+use Rattle.scan_select.specs.declared.scan.ScanBatch.{ScanBatch}
+use Rattle.scan_select.specs.Groups.{current_rows}
+
+-- a block has a value for each of its rows
+length-nulls : (nullable : Bool) (rows : ℕ) (mask : List ℕ) → length (cond nullable (map (bit_at mask) (range_with_len 0 rows)) (replicate rows false)) ≡ rows
+length-nulls true rows mask = length-map (range_with_len 0 rows) (bit_at mask) ∙ length-range_with_len 0 rows
+length-nulls false rows mask = length-replicate rows false
+
+pub length-values : (b : Block) → is_block b ≡ true → length (values_of b) ≡ b.rows
+length-values b sound =
+    let cells = length_cells b.kind b.col_type b.rows _ (block_body b sound) in
+    let nulls = length-nulls b.nullable b.rows (mask_of b) in
+    let zipped = length-zip (nulls_of b) (cells_of b) in
+    let mapped = length-map (zip (nulls_of b) (cells_of b)) masked in
+    omega (arith, cells, nulls, zipped, mapped)
+
+-- what a row has in a column is what the column's block has in that row
+pub column_of_row : (group : List Block) (i p : ℕ) → p < length group → column (row_in group i) p ≡ get_or (values_of (get_or group p no_block)) i Null
+column_of_row [] i p below = absurd (omega arith)
+column_of_row (b ∷ bs) i zero below = refl
+column_of_row (b ∷ bs) i (suc p) below = column_of_row bs i p (omega (arith, below))
+
+abbrev outcome_at : List Block → ℕ → ℕ → Outcome
+outcome_at group p i = gives.Value (get_or (values_of (get_or group p no_block)) i Null)
+
+rows_one_by_one : (group : List Block) (p : ℕ) (is : List ℕ) → p < length group
+    → map (λ row. gives.Value (referenced row (FactColumn p))) (map (λ row. joined_row row []) (map (row_in group) is)) ≡ map (outcome_at group p) is
+rows_one_by_one group p [] below = refl
+rows_one_by_one group p (i ∷ is) below =
+    let first : gives.Value (column (row_in group i) p) ≡ outcome_at group p i = ap gives.Value (column_of_row group i p below) in
+    let rest = rows_one_by_one group p is below in
+    ap (λ (o : Outcome). o ∷ map (λ row. gives.Value (referenced row (FactColumn p))) (map (λ row. joined_row row []) (map (row_in group) is))) first
+    ∙ ap (λ (os : List Outcome). outcome_at group p i ∷ os) rest
+
+values_one_by_one : (vs : List Value) (is : List ℕ) → map gives.Value (map (λ i. get_or vs i Null) is) ≡ map (λ i. gives.Value (get_or vs i Null)) is
+values_one_by_one vs [] = refl
+values_one_by_one vs (i ∷ is) = ap (λ (os : List Outcome). gives.Value (get_or vs i Null) ∷ os) (values_one_by_one vs is)
+
+-- the values of a column from a row on are those that the rows have in it
+column_is : (group : List Block) (first rows p : ℕ) → is_block (get_or group p no_block) ≡ true → p < length group → first + rows ≤ (get_or group p no_block).rows
+    → map gives.Value (take rows (drop first (values_of (get_or group p no_block))))
+    ≡ map (λ row. gives.Value (referenced row (FactColumn p))) (fact_rows (record { group = group; first = first; rows = rows }))
+column_is group first rows p sound below within =
+    let vs : List Value = values_of (get_or group p no_block) in
+    let count = length-values (get_or group p no_block) sound in
+    let window : map (λ i. get_or vs i Null) (range_with_len first rows) ≡ take rows (drop first vs) = pick_l-range_with_len Null vs first rows (omega (arith, count, within)) in
+    ap (map gives.Value) (sym window) ∙ values_one_by_one vs (range_with_len first rows) ∙ sym (rows_one_by_one group p (range_with_len first rows) below)
+
+pub all_at : {X : Type 0} (P : X → Type 0) (xs : List X) (i : ℕ) (d : X) → AllByRecursion P xs → i < length xs → P (get_or xs i d)
+all_at P [] i d all below = absurd (omega arith)
+all_at P (x ∷ xs) zero d all below = all.0
+all_at P (x ∷ xs) (suc i) d all below = all_at P xs i d all.1 (omega (arith, below))
+
+place_is : (group : List Block) (first rows p : ℕ) (c : BatchColumn) → IsGroup group → p < length group → first + rows ≤ rows_of group → IsColumnAt group first rows p c
+    → IsColumnOf (fact_rows (record { group = group; first = first; rows = rows })) c
+place_is group first rows p c sound below within at =
+    let block = all_at (λ b. is_block b ≡ true) group p no_block (recursion_from_All (λ b. is_block b ≡ true) group sound.sound) below in
+    let equal = all_at (λ b. b.rows ≡ rows_of group) group p no_block (recursion_from_All (λ b. b.rows ≡ rows_of group) group sound.equal) below in
+    let values = at.values ∙ column_is group first rows p block below (omega (arith, within, equal)) in
+    subst (λ (q : Place). outcomes_of c.lanes ≡ map (λ row. gives.Value (referenced row (reference_of q))) (fact_rows (record { group = group; first = first; rows = rows }))) (sym at.place) values
+
+all_places : (group : List Block) (first rows : ℕ) (places : List ℕ) (columns : List BatchColumn) → IsGroup group → AllByRecursion (λ p. p < length group) places → first + rows ≤ rows_of group
+    → AreColumnsAt group first rows places columns → AllByRecursion (IsColumnOf (fact_rows (record { group = group; first = first; rows = rows }))) columns
+all_places group first rows [] [] sound below within are = tt
+all_places group first rows [] (c ∷ cs) sound below within are = absurd are
+all_places group first rows (p ∷ ps) [] sound below within are = absurd are
+all_places group first rows (p ∷ ps) (c ∷ cs) sound below within are =
+    (place_is group first rows p c sound below.0 within are.0, all_places group first rows ps cs sound below.1 within are.1)
+
+-- the columns at places of a row group are those of its rows
+pub batch_has_rows : (group : List Block) (first rows : ℕ) (places : List ℕ) (columns : List BatchColumn) → IsGroup group → All (λ p. p < length group) places → first + rows ≤ rows_of group
+    → AreColumnsAt group first rows places columns → AreRowsOf (record { rows = rows; columns = columns }) (fact_rows (record { group = group; first = first; rows = rows }))
+batch_has_rows group first rows places columns sound below within are = record {
+  counted = length-map (rows_of_piece (record { group = group; first = first; rows = rows })) (λ row. joined_row row [])
+      ∙ length-map (range_with_len first rows) (row_in group) ∙ length-range_with_len first rows;
+  columns = All-from_recursion (IsColumnOf (fact_rows (record { group = group; first = first; rows = rows }))) columns
+      (all_places group first rows places columns sound (recursion_from_All (λ p. p < length group) places below) within are);
+}
+
+first_part : (b : Block) → is_block b ≡ true → nat_le 1 b.rows ≡ true
+first_part b sound = (and_parts _ _ sound).0
+
+-- a row group of a file with a column has a row
+pub some_rows : (cs : List Column) (n : ℕ) (bs : List Block) → AreBlocks cs n bs → 1 ≤ length cs → 1 ≤ n
+some_rows [] n bs are some = absurd (omega (arith, some))
+some_rows (c ∷ cs) n [] are some = absurd are
+some_rows (c ∷ cs) n (b ∷ bs) are some =
+    let rows = leb-true 1 b.rows (first_part b are.0.sound) in
+    let same = are.0.rows in
+    omega (arith, rows, same)
+
+-- ---- columns behind columns
+
+columns_at_end : (group : List Block) (first rows : ℕ) (places : List ℕ) (p : ℕ) (columns : List BatchColumn) (c : BatchColumn) → AreColumnsAt group first rows places columns → IsColumnAt group first rows p c
+    → AreColumnsAt group first rows (places ++ p ∷ []) (columns ++ c ∷ [])
+columns_at_end group first rows [] p [] c are at = (at, tt)
+columns_at_end group first rows [] p (d ∷ ds) c are at = absurd are
+columns_at_end group first rows (q ∷ qs) p [] c are at = absurd are
+columns_at_end group first rows (q ∷ qs) p (d ∷ ds) c are at = (are.0, columns_at_end group first rows qs p ds c are.1 at)
+
+pub column_at : (group : List Block) (first rows p read : ℕ) (b : Block) (lanes : Vector) → b ≡ get_or group p no_block → read ≡ rows → outcomes_of lanes ≡ map gives.Value (take read (drop first (values_of b))) → IsOfType b.col_type lanes
+    → IsColumnAt group first rows p (record { place = place.Fact p; lanes = lanes })
+column_at group first rows p read b lanes is count values typed = record {
+  place = refl;
+  values = values ∙ ap (λ (n : ℕ). map gives.Value (take n (drop first (values_of b)))) count ∙ ap (λ (x : Block). map gives.Value (take rows (drop first (values_of x)))) is;
+  typed = subst (λ (x : Block). IsOfType x.col_type lanes) is typed;
+}
+
+-- one column more
+pub one_more : (group : List Block) (first : ℕ) (places : List ℕ) (i p : ℕ) (old now new : BatchSpec) (c : BatchColumn) → i < length places → p ≡ get_or places i p
+    → AddsColumns group first (take i places) old now → new ≡ record { rows = now.rows; columns = now.columns ++ c ∷ [] } → IsColumnAt group first old.rows p c
+    → AddsColumns group first (take (i + 1) places) old new
+one_more group first places i p old now new c below is adds pushed at = record {
+  rows = ap (λ (b : BatchSpec). b.rows) pushed ∙ adds.rows;
+  more = adds.more ++ c ∷ [];
+  columns = ap (λ (b : BatchSpec). b.columns) pushed ∙ ap (λ (cs : List BatchColumn). cs ++ c ∷ []) adds.columns ∙ append_assoc old.columns adds.more (c ∷ []);
+  are =
+      let next : take (i + 1) places ≡ take i places ++ p ∷ [] = take_more places i p below ∙ ap (λ (q : ℕ). take i places ++ q ∷ []) (sym is) in
+      subst (λ (ps : List ℕ). AreColumnsAt group first old.rows ps (adds.more ++ c ∷ [])) (sym next) (columns_at_end group first old.rows (take i places) p adds.more c adds.are at);
+}
+
+-- the batch of the rows that stand
+pub batch_gives : (scan : ScanSpec) (current : Option (List Block)) (n columns group_rows first rows : ℕ) (places : List ℕ) (b : ScanBatch) (old : BatchSpec) → current ≡ Some b.group
+    → scan.at ≡ piece_now current first rows → scan.places ≡ places → IsPosition n columns places current group_rows first rows → length b.group ≡ columns → IsGroup b.group → eqb rows 0 ≡ false
+    → b.first_row ≡ first → old ≡ record { rows = rows; columns = [] } → AddsColumns b.group first places old b.batch → GivesBatch scan (Some b)
+batch_gives scan current n columns group_rows first rows places b old stands at same position count sound some first_is fresh adds =
+    let piece : Piece = record { group = b.group; first = first; rows = rows } in
+    let now : scan.at ≡ Some piece = at ∙ rw (stands, some) refl in
+    let places_within : All (λ p. p < length b.group) places = subst (λ (k : ℕ). All (λ p. p < k) places) (sym count) position.places_within in
+    let rows_are : group_rows ≡ rows_of b.group = position.group_rows_are ∙ ap current_rows stands in
+    let within : first + rows ≤ rows_of b.group = let h = position.within in omega (arith, rows_are, h) in
+    let old_rows : old.rows ≡ rows = ap (λ (x : BatchSpec). x.rows) fresh in
+    let are : AreColumnsAt b.group first rows places adds.more = subst (λ (k : ℕ). AreColumnsAt b.group first k places adds.more) old_rows adds.are in
+    let all : b.batch ≡ record { rows = rows; columns = adds.more } =
+    λ i. record { rows = (adds.rows ∙ old_rows) i; columns = (adds.columns ∙ ap (λ (x : BatchSpec). x.columns ++ adds.more) fresh) i } in (
+      piece,
+      record {
+        stands = now;
+        group = refl;
+        first_row = first_is;
+        batch = subst (IsBatchOf scan.places piece) (sym all) (subst (λ (ps : List ℕ). IsBatchOf ps piece (record { rows = rows; columns = adds.more })) (sym same)
+            (record { rows = batch_has_rows b.group first rows places adds.more sound places_within within are; columns = are }));
+      },
+    )
+
+-- a column's block has as many rows as its row group
+pub within_block : (group : List Block) (first rows p : ℕ) (b : Block) → IsGroup group → b ≡ get_or group p no_block → p < length group → first + rows ≤ rows_of group → first + rows ≤ b.rows
+within_block group first rows p b sound is below within =
+    let equal = all_at (λ x. x.rows ≡ rows_of group) group p no_block (recursion_from_All (λ x. x.rows ≡ rows_of group) group sound.equal) below in
+    let same = ap (λ (x : Block). x.rows) is in
+    omega (arith, same, equal, within)

@@ -1,0 +1,15 @@
+-- The row groups of an opened file, of which some have come.
+use Rattle.std.specs.Prelude.{ℕ, ◌<◌, List, length, Option, Some, None}
+use Rattle.encodings.specs.Block.{Block}
+use Rattle.fragment_file.specs.Fragment.{FragmentSpec}
+
+-- the file, the row groups that are still to come, and the one that came last
+pub record FileGroupsSpec : Type 0 where
+  pub file : FragmentSpec
+  pub coming : List (List Block)
+  pub current : Option (List Block)
+
+-- the place of the row group that came last is one of the file's
+abbrev pub IsAt : List (List Block) → Option ℕ → Type 0
+IsAt groups None = Unit {0}
+IsAt groups (Some k) = k < length groups

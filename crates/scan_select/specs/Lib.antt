@@ -1,0 +1,7 @@
+-- The definitions of this crate.
+pub mod FileGroups
+pub mod Groups
+pub mod Pieces
+pub mod Scanned
+pub mod Selected
+pub mod Laws

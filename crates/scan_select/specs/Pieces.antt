@@ -1,0 +1,57 @@
+-- The rows of row groups, and how they are cut into batches.
+use Rattle.std.specs.Prelude.{ℕ, ◌+◌, ◌-◌, ◌/◌, ◌%◌, ◌==◌, if◌then◌else◌, List, [], ◌∷◌, ◌++◌, map, flat_map, get_or, replicate, Option, Some, None, option_map}
+use Rattle.std.specs.List.{range_with_len}
+use Rattle.meaning.specs.declared.value.Value.TheVariants.{Null}
+use Rattle.meaning.specs.Order.{Row}
+use Rattle.encodings.specs.Block.{Block, values_of}
+use Rattle.fragment_file.specs.View.{rows_of}
+
+-- the row of a row group at a place: what each block has there
+abbrev pub row_in : List Block → ℕ → Row
+row_in group i = map (λ b. get_or (values_of b) i Null) group
+
+-- all rows of a row group
+abbrev pub rows_in : List Block → List Row
+rows_in group = map (row_in group) (range_with_len 0 (rows_of group))
+
+-- some rows of a row group, which stand one behind the other
+pub record Piece : Type 0 where
+  pub group : List Block
+  pub first : ℕ
+  pub rows : ℕ
+
+abbrev pub rows_of_piece : Piece → List Row
+rows_of_piece piece = map (row_in piece.group) (range_with_len piece.first piece.rows)
+
+-- so many rows each and, where rows are left over, the rest
+abbrev pub sizes : ℕ → ℕ → List ℕ
+sizes n rows = replicate (rows / n) n ++ (if rows % n == 0 then [] else (rows % n) ∷ [])
+
+-- pieces of these sizes, one behind the other
+abbrev pub pieces_at : List Block → ℕ → List ℕ → List Piece
+pieces_at group first [] = []
+pieces_at group first (rows ∷ more) = record { group = group; first = first; rows = rows } ∷ pieces_at group (first + rows) more
+
+-- a row group in pieces of at most so many rows
+abbrev pub pieces_of : ℕ → List Block → List Piece
+pieces_of n group = pieces_at group 0 (sizes n (rows_of group))
+
+-- row groups in such pieces
+abbrev pub pieces : ℕ → List (List Block) → List Piece
+pieces n groups = flat_map (pieces_of n) groups
+
+-- ---- within a row group
+
+-- the rows that stand now
+abbrev pub piece_now : Option (List Block) → ℕ → ℕ → Option Piece
+piece_now None first rows = None
+piece_now (Some group) first rows = if rows == 0 then None else Some (record { group = group; first = first; rows = rows })
+
+-- what is left of the row group behind them
+abbrev pub pieces_behind : ℕ → Option (List Block) → ℕ → List Piece
+pieces_behind n None from = []
+pieces_behind n (Some group) from = pieces_at group from (sizes n (rows_of group - from))
+
+-- what is left of it and of those that are still to come
+abbrev pub pieces_left : ℕ → Option (List Block) → ℕ → Option (List (List Block)) → Option (List Piece)
+pieces_left n current from coming = option_map (λ groups. pieces_behind n current from ++ pieces n groups) coming

@@ -1,0 +1,126 @@
+-- What a scan has read, and what it is still to read.
+use Rattle.std.specs.Prelude.{◌≡◌, ℕ, ◌+◌, ◌≤◌, ◌<◌, Bool, true, false, List, [], ◌∷◌, ◌++◌, map, length, replicate, get_or, take, drop, Option, Some, None, option_map, All}
+use Rattle.std.specs.List.{AllZip}
+use Rattle.meaning.specs.declared.value.ColType.{ColType}
+use Rattle.meaning.specs.declared.value.ColType.TheVariants as of_type
+use Rattle.meaning.specs.declared.value.Value.{Value}
+use Rattle.meaning.specs.declared.value.Value.TheVariants.{Int, Text}
+use Rattle.meaning.specs.declared.outcome.Outcome.TheVariants as gives
+use Rattle.meaning.specs.declared.joined_row.JoinedRow.{JoinedRow}
+use Rattle.meaning.specs.Joined.{joined_row}
+use Rattle.meaning.specs.Limits.{max_vector_rows}
+use Rattle.encodings.specs.Block.{Block, values_of}
+use Rattle.encodings.specs.declared.vector_buf.Lanes.{Lanes}
+use Rattle.encodings.specs.declared.vector_buf.Lanes.TheVariants as lanes
+use Rattle.fragment_file.specs.declared.header.Header.{Header}
+use Rattle.fragment_file.specs.Fragment.{no_block}
+use Rattle.vectors.specs.declared.vector.Vector.{Vector}
+use Rattle.vectors.specs.declared.vector.Vector.TheVariants as vector
+use Rattle.vectors.specs.declared.batch.Place.TheVariants as place
+use Rattle.vectors.specs.declared.batch.BatchColumn.{BatchColumn}
+use Rattle.vectors.specs.Vector.{BatchSpec, AreRowsOf, outcomes_of}
+use Rattle.scan_select.specs.declared.fault.ScanFault.{ScanFault}
+use Rattle.scan_select.specs.declared.fault.ScanFault.TheVariants.{Memory, VectorLength}
+use Rattle.scan_select.specs.declared.scan.ScanBatch.{ScanBatch}
+use Rattle.scan_select.specs.Groups.{current_rows}
+use Rattle.scan_select.specs.Pieces.{Piece, pieces, rows_of_piece}
+
+-- the error code
+abbrev pub number_of : ScanFault → ℕ
+number_of Memory = 0
+number_of VectorLength = 1
+
+-- a scan: the file's header, the columns that it reads by their places in it, the rows that stand now, and those that
+-- are still to come, where that is known
+pub record ScanSpec : Type 0 where
+  pub header : Header
+  pub places : List ℕ
+  pub most : ℕ
+  pub at : Option Piece
+  pub left : Option (List Piece)
+
+-- vectors of 1 to 4,096 rows
+pub record IsVectorLength (n : ℕ) : Type 0 where
+  pub some : 1 ≤ n
+  pub few : n ≤ max_vector_rows
+
+-- where a scan stands in a row group
+pub record IsPosition (n columns : ℕ) (places : List ℕ) (current : Option (List Block)) (group_rows first rows : ℕ) : Type 0 where
+  pub length : IsVectorLength n
+  pub places_within : All (λ p. p < columns) places
+  pub group_rows_are : group_rows ≡ current_rows current
+  pub within : first + rows ≤ group_rows
+
+-- the first of the pieces that were to come stands now, or none was to come
+abbrev pub Advances : Bool → List Piece → Option Piece → Option (List Piece) → Type 0
+Advances true pieces at left = (piece : Piece) × (rest : List Piece) × (pieces ≡ piece ∷ rest) × (at ≡ Some piece) × (left ≡ Some rest)
+Advances false pieces at left = (pieces ≡ []) × (at ≡ None) × (left ≡ Some [])
+
+-- whether rows stand now
+abbrev pub IsStanding : Bool → Option Piece → Type 0
+IsStanding true at = (piece : Piece) × (at ≡ Some piece)
+IsStanding false at = at ≡ None
+
+-- before the first row
+pub record IsFresh (scan : ScanSpec) (header : Header) (places : List ℕ) (most : ℕ) (coming : Option (List (List Block))) : Type 0 where
+  pub length : IsVectorLength most
+  pub fresh : scan ≡ record { header = header; places = places; most = most; at = None; left = option_map (pieces most) coming }
+
+-- ---- lanes
+
+-- where a column isn't nullable, no lane is NULL
+abbrev pub IsMask : Bool → List Bool → Type 0
+IsMask nullable mask = nullable ≡ false → mask ≡ replicate (length mask) false
+
+-- what stands in the lanes, without regard to NULL
+abbrev pub cells_of : Lanes → List Value
+cells_of (lanes.Ints ints) = map Int ints.items
+cells_of (lanes.Texts texts) = map (λ t. Text t.now) texts.items
+
+abbrev pub type_of : Lanes → ColType
+type_of (lanes.Ints ints) = of_type.Int
+type_of (lanes.Texts texts) = of_type.Text
+
+-- ---- batches
+
+-- lanes of a type
+abbrev pub IsOfType : ColType → Vector → Type 0
+IsOfType of_type.Int (vector.Ints lanes) = Unit {0}
+IsOfType of_type.Text (vector.Texts lanes) = Unit {0}
+IsOfType _ _ = ⊥
+
+-- a column of a row group: so many of its values from the first on
+pub record IsColumnAt (group : List Block) (first rows : ℕ) (p : ℕ) (column : BatchColumn) : Type 0 where
+  pub place : column.place ≡ place.Fact p
+  pub values : outcomes_of column.lanes ≡ map gives.Value (take rows (drop first (values_of (get_or group p no_block))))
+  pub typed : IsOfType (get_or group p no_block).col_type column.lanes
+
+abbrev pub AreColumnsAt : List Block → ℕ → ℕ → List ℕ → List BatchColumn → Type 0
+AreColumnsAt group first rows places columns = AllZip (IsColumnAt group first rows) places columns
+
+-- the columns stand behind those that were there
+pub record AddsColumns (group : List Block) (first : ℕ) (places : List ℕ) (old new : BatchSpec) : Type 0 where
+  pub rows : new.rows ≡ old.rows
+  pub more : List BatchColumn
+  pub columns : new.columns ≡ old.columns ++ more
+  pub are : AreColumnsAt group first old.rows places more
+
+-- rows of the fact table alone, as expressions read them
+abbrev pub fact_rows : Piece → List JoinedRow
+fact_rows piece = map (λ row. joined_row row []) (rows_of_piece piece)
+
+-- a batch of the columns at these places: it has the columns of these rows
+pub record IsBatchOf (places : List ℕ) (piece : Piece) (batch : BatchSpec) : Type 0 where
+  pub rows : AreRowsOf batch (fact_rows piece)
+  pub columns : AreColumnsAt piece.group piece.first piece.rows places batch.columns
+
+-- the batch of the rows that stand now
+pub record IsScanBatch (scan : ScanSpec) (piece : Piece) (b : ScanBatch) : Type 0 where
+  pub stands : scan.at ≡ Some piece
+  pub group : b.group ≡ piece.group
+  pub first_row : b.first_row ≡ piece.first
+  pub batch : IsBatchOf scan.places piece b.batch
+
+abbrev pub GivesBatch : ScanSpec → Option ScanBatch → Type 0
+GivesBatch scan None = scan.at ≡ None
+GivesBatch scan (Some b) = (piece : Piece) × IsScanBatch scan piece b

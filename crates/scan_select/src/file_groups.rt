@@ -1,0 +1,74 @@
+//! The row groups of an opened file.
+ghost use Rattle.std.specs.Prelude.{◌≡◌, None, Some};
+ghost use Rattle.scan_select.specs.FileGroups.{FileGroupsSpec};
+
+use crate::row_groups::RowGroups;
+use fragment_file::header::Header;
+use fragment_file::view::{FragmentView, GroupView};
+use std::convert::Infallible;
+use std::marker::Model;
+
+/// The row groups of an opened file, one after the other. They can always be had.
+#[derive(Drop)]
+pub struct FileGroups<'v> {
+    view: &'v FragmentView<'v>,
+    // The place of the row group that came last.
+    at: Option<usize>,
+    // How many row groups came.
+    next: usize,
+}
+
+impl<'v> Model for FileGroups<'v> {
+    ghost use Rattle.std.specs.Prelude.{◌<◌, ◌≤◌, length, IfSome, drop, get_or, option_map, []};
+    ghost use Rattle.scan_select.specs.FileGroups.{FileGroupsSpec, IsAt};
+
+    ghost Value = { FileGroupsSpec };
+
+    ghost view = { λ g. record { file = g.view.now; coming = drop g.next g.view.now.groups; current = option_map (λ k. get_or g.view.now.groups k []) g.at } };
+
+    ghost invariant = { λ g. IsAt g.view.now.groups g.at };
+}
+
+impl<'v> FileGroups<'v> {
+    /// Before the first row group.
+    pub fn new(view: &'v FragmentView<'v>) -> FileGroups<'v>
+        ensures { result ≡ record { file = view.entry.now; coming = view.entry.now.groups; current = None } }
+    {
+        FileGroups {
+            view,
+            at: None,
+            next: 0,
+        }
+    }
+}
+
+impl<'v> RowGroups for FileGroups<'v> {
+    type Fault = Infallible;
+
+    ghost header_of = { λ g. g.file.header };
+
+    ghost coming = { λ g. Some g.coming };
+
+    ghost current = { λ g. g.current };
+
+    fn header(&self) -> &Header {
+        self.view.header()
+    }
+
+    fn next_group(&mut self) -> Result<bool, Infallible> {
+        if self.next < self.view.group_count() {
+            self.at = Some(self.next);
+            self.next += 1;
+            return Ok(true);
+        }
+        self.at = None;
+        Ok(false)
+    }
+
+    fn group(&self) -> Option<GroupView<'_>> {
+        let place = self.at?;
+        // That the file has a column, so that a row group has a row.
+        let _header = self.view.header();
+        Some(self.view.group(place))
+    }
+}

@@ -1,0 +1,17 @@
+//! Laws on scans and conditions, each the contract of a function that does nothing.
+ghost use Rattle.scan_select.specs.Laws.{BatchesAreRows, ConditionsJudge, RowsAreColumns};
+
+/// The rows of all batches, one after the other, are the rows of all row groups.
+pub fn batches_are_rows()
+    ensures { BatchesAreRows }
+{}
+
+/// The rows of a file's row groups have in each column what the file's column holds.
+pub fn rows_are_columns()
+    ensures { RowsAreColumns }
+{}
+
+/// Conditions keep a row, drop it or fault as they do when the row is judged.
+pub fn conditions_judge()
+    ensures { ConditionsJudge }
+{}

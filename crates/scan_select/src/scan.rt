@@ -1,0 +1,194 @@
+//! The rows of a file, vector by vector.
+ghost use Rattle.std.specs.Prelude.{◌≡◌, ◌≤◌, ◌<◌, List, None, Some, length, All, OnErr, IfErr, IfOk, IfSome, MatchResult};
+ghost use Rattle.std.specs.List.{range_with_len};
+ghost use Rattle.scan_select.specs.declared.fault.ScanFault.TheVariants.{VectorLength};
+ghost use Rattle.scan_select.specs.Groups.{current_rows};
+ghost use Rattle.scan_select.specs.Pieces.{Piece};
+ghost use Rattle.scan_select.specs.Scanned.{Advances, GivesBatch, IsFresh, IsStanding, IsVectorLength};
+
+use crate::fault::ScanFault;
+use crate::file_groups::FileGroups;
+use crate::reading::add_columns;
+use crate::row_groups::RowGroups;
+use fragment_file::view::{FragmentView, GroupView};
+use meaning::limits::MAX_VECTOR_ROWS;
+use std::alloc::{AllocError, Global};
+use std::marker::Model;
+use vectors::batch::Batch;
+
+/// Some rows of one row group, as vectors.
+#[derive(Drop)]
+pub struct ScanBatch<'s> {
+    /// The columns that were asked for. Columns of joined rows may be put behind them.
+    pub batch: Batch<'s>,
+    pub group: GroupView<'s>,
+    /// The batch's first row, counted from 0 in the row group.
+    pub first_row: usize,
+}
+
+/// The rows of a file in vectors. A vector never crosses from one row group to the next. After MonetDB/X100, where a scan
+/// gives vectors of the columns that a query uses, and of no others.
+#[derive(Drop)]
+pub struct Scan<G: RowGroups + Drop> {
+    groups: G,
+    // The places in the header of the columns that are read.
+    places: Vec<usize>,
+    // The most rows of a vector.
+    most: usize,
+    // The rows of the row group that came last; the vector's first among them, and how many the vector has.
+    group_rows: usize,
+    first: usize,
+    rows: usize,
+}
+
+impl<G: RowGroups + Drop> Model for Scan<G> {
+    ghost use Rattle.std.specs.Prelude.{◌+◌, length};
+    ghost use Rattle.scan_select.specs.Pieces.{piece_now, pieces_left};
+    ghost use Rattle.scan_select.specs.Scanned.{IsPosition, ScanSpec};
+
+    ghost Value = { ScanSpec };
+
+    ghost view = { λ s. record {
+      header = G.header_of s.groups;
+      places = s.places.items;
+      most = s.most;
+      at = piece_now (G.current s.groups) s.first s.rows;
+      left = pieces_left s.most (G.current s.groups) (s.first + s.rows) (G.coming s.groups);
+    } };
+
+    ghost invariant = { λ s. IsPosition s.most (length (G.header_of s.groups).columns) s.places.items (G.current s.groups) s.group_rows s.first s.rows };
+}
+
+/// The places below a number.
+fn all_places(alloc: Global, n: usize) -> Result<Vec<usize>, AllocError>
+    ensures { IfOk result (λ places. places.items ≡ range_with_len 0 n) }
+{
+    let mut places = Vec::new(alloc);
+    for place in 0..n {
+        places.push(place)?;
+    }
+    Ok(places)
+}
+
+/// How many rows the row group has that came last.
+fn rows_now<G: RowGroups>(groups: &G) -> usize
+    ensures value { result ≡ current_rows (G.current groups.now) }
+    ensures some { IfSome (G.current groups.now) (λ _. 1 ≤ result) }
+{
+    match groups.group() {
+        Some(group) => group.rows(),
+        None => 0,
+    }
+}
+
+impl<G: RowGroups + Drop> Scan<G> {
+    /// Before the first of the row groups, none of which has come yet. Reads the columns at these places in the header, in
+    /// vectors of at most so many rows.
+    ///
+    /// # Errors
+    ///
+    /// Vectors of no row, or of more than 4,096.
+    pub fn over(groups: G, most: usize, places: Vec<usize>) -> Result<Scan<G>, ScanFault>
+        requires places { All (λ p. p < length (G.header_of groups).columns) places.items }
+        requires before { G.current groups ≡ None }
+        ensures { MatchResult result (λ scan. IsFresh scan (G.header_of groups) places.items most (G.coming groups)) (λ f. (f ≡ VectorLength) × (IsVectorLength most → ⊥)) }
+    {
+        if most < 1 || MAX_VECTOR_ROWS < most {
+            return Err(ScanFault::VectorLength);
+        }
+        Ok(Scan {
+            groups,
+            places,
+            most,
+            group_rows: 0,
+            first: 0,
+            rows: 0,
+        })
+    }
+
+    /// Goes on to the next vector, and says whether there is one. Takes no memory.
+    ///
+    /// # Errors
+    ///
+    /// Why the next row group can't be had; no vector stands then.
+    pub fn advance(&mut self) -> Result<bool, G::Fault>
+        ensures header { self.new.header ≡ self.old.header }
+        ensures places { self.new.places ≡ self.old.places }
+        ensures most { self.new.most ≡ self.old.most }
+        ensures told { IfOk result (λ more. (left : List Piece) → self.old.left ≡ Some left → Advances more left self.new.at self.new.left) }
+        ensures stands { IfOk result (λ more. IsStanding more self.new.at) }
+        ensures refused { OnErr result (self.new.at ≡ None) }
+    {
+        let behind = self.first + self.rows;
+        if behind < self.group_rows {
+            self.first = behind;
+            self.rows = self.most.min(self.group_rows - behind);
+            return Ok(true);
+        }
+        self.first = 0;
+        self.rows = 0;
+        self.group_rows = 0;
+        let more = self.groups.next_group()?;
+        self.group_rows = rows_now(&self.groups);
+        self.rows = self.most.min(self.group_rows);
+        Ok(more)
+    }
+
+    /// The vector that stands now, if any. Texts are lent from the bytes of the row group.
+    pub fn batch(&self, alloc: Global) -> Result<Option<ScanBatch<'_>>, AllocError>
+        ensures { IfOk result (λ batch. GivesBatch self.now batch) }
+    {
+        if self.rows == 0 {
+            return Ok(None);
+        }
+        let Some(group) = self.groups.group() else {
+            return Ok(None);
+        };
+        // That all blocks have as many rows.
+        let _rows = group.rows();
+        let mut batch = Batch::new(alloc, self.rows);
+        let places = self.places.as_slice();
+        add_columns(alloc, &mut batch, &group, places, self.first)?;
+        Ok(Some(ScanBatch {
+            batch,
+            group,
+            first_row: self.first,
+        }))
+    }
+}
+
+impl<'v> Scan<FileGroups<'v>> {
+    /// Before the first row of an opened file. Reads the columns at these places in its header, in vectors of at most so many
+    /// rows.
+    ///
+    /// # Errors
+    ///
+    /// Vectors of no row, or of more than 4,096.
+    pub fn of_columns(
+        view: &'v FragmentView<'v>,
+        most: usize,
+        places: Vec<usize>,
+    ) -> Result<Scan<FileGroups<'v>>, ScanFault>
+        requires { All (λ p. p < length view.now.header.columns) places.items }
+        ensures { MatchResult result (λ scan. IsFresh scan view.now.header places.items most (Some view.now.groups)) (λ f. (f ≡ VectorLength) × (IsVectorLength most → ⊥)) }
+    {
+        Scan::over(FileGroups::new(view), most, places)
+    }
+
+    /// The same, of all columns.
+    ///
+    /// # Errors
+    ///
+    /// Out of memory; vectors of no row, or of more than 4,096.
+    pub fn new(
+        alloc: Global,
+        view: &'v FragmentView<'v>,
+        most: usize,
+    ) -> Result<Scan<FileGroups<'v>>, ScanFault>
+        ensures ok { IfOk result (λ scan. IsFresh scan view.now.header (range_with_len 0 (length view.now.header.columns)) most (Some view.now.groups)) }
+        ensures err { IfErr result (λ f. f ≡ VectorLength → IsVectorLength most → ⊥) }
+    {
+        let places = all_places(alloc, view.header().columns.len())?;
+        Scan::of_columns(view, most, places)
+    }
+}

@@ -1,7 +1,0 @@
--- Proofs of the goals of `is_left_out` (`keyword`).
-use Rattle.sql_reader.specs.Words.{is_left_out}
-use Rattle.sql_reader.proofs.keyword.is_left_out.Goals as goal
-
-pub returns : goal.returns
-unfolding is_left_out
-returns c = c.is_among.ensures

@@ -1,0 +1,10 @@
+-- The definitions of this crate.
+pub mod Words
+pub mod Tokens
+pub mod Canonical
+pub mod Strength
+pub mod Phrases
+pub mod CanonicalTokens
+pub mod Queries
+pub mod Quoting
+pub mod Printing

@@ -7,7 +7,7 @@ use meaning::value::Row;
 use std::marker::Model;
 
 /// A group: its key, how many rows it has, and the state of each aggregate. Contracts see the group as it is defined.
-#[derive(Drop)]
+#[derive(PartialEq, Eq, Drop)]
 pub struct Group {
     key: Row,
     rows: u64,
@@ -20,6 +20,8 @@ impl Model for Group {
     ghost Value = { AGroup };
 
     ghost view = { λ g. record { key = g.key; rows = g.rows; states = g.states } };
+
+    ghost inverse = { λ g. record { key = g.key; rows = g.rows; states = g.states } };
 }
 
 impl Group {

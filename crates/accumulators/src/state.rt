@@ -23,7 +23,7 @@ use std::marker::Model;
 
 /// What is known of a list of values that are not NULL. What an aggregate does not keep is 0 or `None`. Contracts see the
 /// statistics.
-#[derive(Drop)]
+#[derive(PartialEq, Eq, Drop)]
 pub struct State {
     statistics: Statistics,
 }
@@ -35,6 +35,8 @@ impl Model for State {
     ghost Value = { Statistics };
 
     ghost view = { λ s. s.statistics };
+
+    ghost inverse = { λ statistics. record { statistics = statistics } };
 
     ghost invariant = { λ s. IsState s.statistics };
 }

@@ -2,23 +2,54 @@
 ghost use Rattle.partial_codec.specs.Answer.{Fits};
 ghost use Rattle.partial_codec.specs.State.{FitsState};
 
-use crate::jobs::{NO_JOB, job_of};
+use crate::jobs::{NO_JOB, shaped_job_of};
+use accumulators::Group;
 use case_files::byte_lines::bytes_of;
-use meaning::answer::{Answer, Body, Cell, Group};
+use meaning::answer::{Answer, Body, Cell};
+use meaning::value::ValueRef;
 use partial_codec::{DecodeFault, Job, decode, decode_state, encode, encode_state};
 use std::alloc::{AllocError, Global};
 use std::fmt::Write;
 use std::mem::drop;
 
+fn tell_value(told: &mut String, value: ValueRef<'_>) -> Result<(), AllocError> {
+    match value {
+        ValueRef::Null => told.push_str("NULL"),
+        ValueRef::Int(int) => write!(told, "{int}"),
+        ValueRef::Text(text) => match str::from_utf8(text) {
+            Ok(text) => write!(told, "'{text}'"),
+            Err(_) => told.push_str("(no UTF-8)"),
+        },
+    }
+}
+
+// A least or a greatest value, where one is kept.
+fn tell_extreme(told: &mut String, name: &str, value: ValueRef<'_>) -> Result<(), AllocError> {
+    match value {
+        ValueRef::Null => Ok(()),
+        value => {
+            write!(told, ", {name} ")?;
+            tell_value(told, value)
+        }
+    }
+}
+
 fn tell_group(told: &mut String, group: &Group) -> Result<(), AllocError> {
-    write!(told, "rows {}", group.rows)?;
-    for state in group.states.as_slice() {
-        write!(told, ", count {}, sum {}", state.count, state.sum)?;
+    for value in group.key().as_slice() {
+        told.push_str("key ")?;
+        tell_value(told, value.as_value_ref())?;
+        told.push_str(", ")?;
+    }
+    write!(told, "rows {}", group.rows())?;
+    for state in group.states() {
+        write!(told, ", count {}, sum {}", state.count(), state.sum())?;
+        tell_extreme(told, "least", state.least())?;
+        tell_extreme(told, "greatest", state.greatest())?;
     }
     told.push_str("\n")
 }
 
-fn tell_body(told: &mut String, body: &Body) -> Result<(), AllocError> {
+fn tell_body(told: &mut String, body: &Body<Group>) -> Result<(), AllocError> {
     match body {
         Body::Groups(groups) => {
             for group in groups.as_slice() {
@@ -30,7 +61,7 @@ fn tell_body(told: &mut String, body: &Body) -> Result<(), AllocError> {
     }
 }
 
-fn tell_cell(told: &mut String, cell: &Cell) -> Result<(), AllocError> {
+fn tell_cell(told: &mut String, cell: &Cell<Group>) -> Result<(), AllocError> {
     match cell {
         Cell::Nothing => told.push_str("nothing\n"),
         Cell::One(body) => tell_body(told, body),
@@ -54,7 +85,7 @@ fn tell_refusal(alloc: Global, fault: &DecodeFault) -> Result<String, AllocError
 fn answer_lines(
     alloc: Global,
     job: &Job,
-    answer: &Answer,
+    answer: &Answer<Group>,
     bytes: &[u8],
 ) -> Result<String, AllocError>
     requires { Fits job.now answer.now }
@@ -78,7 +109,12 @@ fn tell_answer(alloc: Global, job: &Job, bytes: &[u8]) -> Result<String, AllocEr
     }
 }
 
-fn state_lines(alloc: Global, job: &Job, cells: &[Cell], bytes: &[u8]) -> Result<String, AllocError>
+fn state_lines(
+    alloc: Global,
+    job: &Job,
+    cells: &[Cell<Group>],
+    bytes: &[u8],
+) -> Result<String, AllocError>
     requires { FitsState job.now cells.now }
 {
     let again = encode_state(alloc, job, cells)?;
@@ -112,7 +148,7 @@ pub fn tell(
     let Some(bytes) = bytes_of(alloc, body)? else {
         return String::from_str(alloc, "(a word spells no bytes)\n");
     };
-    let Some(job) = job_of(alloc, words)? else {
+    let Some(job) = shaped_job_of(alloc, words)? else {
         return String::from_str(alloc, NO_JOB);
     };
     let told = if is_state {

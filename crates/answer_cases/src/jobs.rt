@@ -5,6 +5,7 @@ ghost use Rattle.meaning.specs.Limits.{max_query_bytes};
 ghost use Rattle.partial_codec.specs.Job.{IsPlanOfJob};
 ghost use Rattle.coordinator.specs.Single.{IsSingle, aggregate_of, only_item, with_parts};
 
+use crate::shapes::shaped_plan;
 use meaning::cut::Cut;
 use meaning::expr::Expr;
 use meaning::limits::MAX_QUERY_BYTES;
@@ -17,7 +18,7 @@ use std::alloc::{AllocError, Global};
 use std::mem::drop;
 
 /// What is told where words tell no job.
-pub const NO_JOB: &str = "(no job: a load, a cut, count or sum, and a text)\n";
+pub const NO_JOB: &str = "(no job: a load, a cut, count or sum or a shape, and a text)\n";
 
 fn lengths_of(alloc: Global, word: &str) -> Result<Option<Vec<u32>>, AllocError> {
     let mut lengths = Vec::new(alloc);
@@ -135,6 +136,33 @@ fn summed_by(word: &str) -> Option<Option<usize>> {
         "count" => Some(None),
         "sum" => Some(Some(0)),
         _ => None,
+    }
+}
+
+/// The job that the words tell, where the third may be a shape, as in `7 2,3 int/rows,min:text "SELECT ..."`.
+pub fn shaped_job_of(alloc: Global, words: &[&str]) -> Result<Option<Job>, AllocError> {
+    let [load, cut, shape, text] = words else {
+        return Ok(None);
+    };
+    if !shape.contains('/') {
+        return job_of(alloc, words);
+    }
+    let Ok(load) = load.parse::<u64>() else {
+        return Ok(None);
+    };
+    let Some(cut) = cut_of(alloc, cut)? else {
+        return Ok(None);
+    };
+    match shaped_plan(alloc, shape, text) {
+        Ok(Some(plan)) => Ok(Some(Job::new(load, plan, cut))),
+        Ok(None) => {
+            drop(cut);
+            Ok(None)
+        }
+        Err(e) => {
+            drop(cut);
+            Err(e)
+        }
     }
 }
 

@@ -4,4 +4,5 @@
 pub mod answers;
 pub mod gathers;
 mod jobs;
+mod shapes;
 pub mod wholes;

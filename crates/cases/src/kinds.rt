@@ -20,11 +20,13 @@ fn tell_kind(
 ) -> Result<String, AllocError> {
     match kind {
         "xcols" => program::tell(alloc, words, files),
-        "sql" => sql::tell(alloc, body),
+        "sql" => sql::tell(alloc, words, body),
         "catalog" => catalog::tell(alloc, words, body),
         "cut" => cut::tell(alloc, words, body),
         "selection" => selection::tell(alloc, words, body),
         "lanes" => lane_cases::tell(alloc, words, body),
+        "evaluate" => expression_cases::tell(alloc, words, body),
+        "agree" => expression_cases::tell_agreement(alloc, words, body),
         "answer" => answers::tell(alloc, false, words, body),
         "state" => answers::tell(alloc, true, words, body),
         "gather" => gathers::tell(alloc, words, body, files),

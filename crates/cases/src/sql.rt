@@ -15,12 +15,24 @@ fn canonical_line(alloc: Global, query: &Query) -> Result<String, AllocError> {
     Ok(told)
 }
 
-/// The canonical text of the query that the escaped lines spell, or the line of its refusal.
-pub fn tell(alloc: Global, body: &str) -> Result<String, AllocError> {
+fn length_line(alloc: Global, query: &Query) -> Result<String, AllocError> {
+    let text = print(alloc, query)?;
+    format!(in alloc; "canonical text of {} bytes\n", text.as_str().len())
+}
+
+fn query_line(alloc: Global, words: &[&str], query: &Query) -> Result<String, AllocError> {
+    match words {
+        ["length"] => length_line(alloc, query),
+        _ => canonical_line(alloc, query),
+    }
+}
+
+/// The canonical text of the query that the escaped lines spell, or its length, or the line of its refusal.
+pub fn tell(alloc: Global, words: &[&str], body: &str) -> Result<String, AllocError> {
     let text = escaped_bytes(alloc, body)?;
     match read(alloc, text.as_slice()) {
         Ok(query) => {
-            let told = canonical_line(alloc, &query);
+            let told = query_line(alloc, words, &query);
             drop(query);
             told
         }

@@ -81,6 +81,7 @@ line_of refusal.CannotPrint = plain_line (codes "cannot write standard output")
 line_of (refusal.Catalog e) = catalog_line e
 line_of (refusal.Cut e) = numbered_line (codes "cut") (cut.number_of e) []
 line_of (refusal.Sql e) = sql_line e
+line_of refusal.Later = plain_line (codes "later")
 line_of (refusal.Plan e) = plan_line e
 line_of (refusal.Load e) = table_line e
 line_of refusal.VectorLength = vector_length_line
@@ -90,6 +91,7 @@ abbrev pub refusal_of : List ℕ → WholeFault → Refusal
 refusal_of folder whole_fault.Memory = refusal.Memory
 refusal_of folder (whole_fault.Catalog e) = refusal.Catalog e
 refusal_of folder (whole_fault.Sql e) = refusal.Sql e
+refusal_of folder whole_fault.Later = refusal.Later
 refusal_of folder (whole_fault.Plan e) = refusal.Plan e
 refusal_of folder (whole_fault.MissingCsv table) = refusal.CannotRead (csv_path folder table)
 refusal_of folder (whole_fault.Load e) = refusal.Load e

@@ -27,6 +27,8 @@ pub enum Refusal {
     Catalog(CatalogFault),
     Cut(CutFault),
     Sql(SqlFault),
+    /// The query is of the grammar, and not answered yet.
+    Later,
     Plan(PlanFault),
     Load(TableFault),
     VectorLength,
@@ -101,6 +103,7 @@ pub fn refusal_of(alloc: Global, folder: &str, fault: WholeFault) -> Refusal
         WholeFault::Memory => Refusal::Memory,
         WholeFault::Catalog(fault) => Refusal::Catalog(fault),
         WholeFault::Sql(fault) => Refusal::Sql(fault),
+        WholeFault::Later => Refusal::Later,
         WholeFault::Plan(fault) => Refusal::Plan(fault),
         WholeFault::MissingCsv(table) => cannot_read_csv(alloc, folder, table.as_str()),
         WholeFault::Load(fault) => Refusal::Load(fault),

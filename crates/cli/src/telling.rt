@@ -131,6 +131,7 @@ pub fn tell<E: Write>(refusal: &Refusal, err: &mut E) -> io::Result<()>
         Refusal::Catalog(fault) => tell_catalog(fault, err),
         Refusal::Cut(fault) => tell_number("cut", fault.number(), err),
         Refusal::Sql(fault) => tell_sql(fault, err),
+        Refusal::Later => tell_plain("later", err),
         Refusal::Plan(fault) => tell_plan(fault, err),
         Refusal::Load(fault) => tell_table(fault, err),
         Refusal::VectorLength => tell_vector_length(err),

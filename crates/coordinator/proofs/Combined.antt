@@ -5,11 +5,14 @@ use Rattle.std.proofs.Common.{refl, sym, ap, subst, ◌∙◌}
 use Rattle.meaning.specs.declared.plan.TableUse.{TableUse}
 use Rattle.meaning.specs.declared.plan.Plan.{Plan}
 use Rattle.meaning.specs.declared.answer.Group.{Group}
-use Rattle.meaning.specs.declared.answer.Body.{Body}
-use Rattle.meaning.specs.declared.answer.Cell.{Cell}
+use Rattle.meaning.specs.Said.{Body}
+use Rattle.meaning.specs.Said.{Cell}
 use Rattle.meaning.specs.declared.answer.Cell.TheVariants.{Nothing, One, Conflict}
-use Rattle.meaning.specs.Order.{Row, least}
+use Rattle.meaning.specs.Order.{Row, lesser, least}
 use Rattle.meaning.specs.Cut.{IsCut, Cut}
+use Rattle.meaning.specs.declared.answer.RowFault.{RowFault}
+use Rattle.meaning.specs.declared.answer.Body.TheVariants.{Groups, Fault}
+use Rattle.coordinator.specs.Faults.{least_fault}
 use Rattle.meaning.specs.Judge.{fault_cmp}
 use Rattle.meaning.specs.Group.{grouped, merge_groups, merged, merged_groups}
 use Rattle.meaning.specs.Answer.{body_of, fault_of, groups_of, combined}
@@ -66,38 +69,46 @@ module _ (text : List ℕ) (fact : TableUse) where
 
   -- ---- cells
 
+  some_fault : (f : RowFault) (cells : List Cell) → least_fault (One (Fault f) ∷ cells) ≡ None → ⊥
+  some_fault f cells none = absurd (not_none (least_fault cells) none)
+    where
+      not_none : (other : Option RowFault) → lesser fault_cmp (Some f) other ≡ None → ⊥
+      not_none None e = absurd cc
+      not_none (Some g) e = absurd cc
+
   -- the tallies of the answers in the cells
   pub record AreTallied (cells : List Cell) : Type 0 where
     pub tallies : List Tally
     pub bodies : filter_map body_in cells ≡ map body_of_tally tallies
     pub whole : together (map tally_of_cell cells) ≡ together tallies
 
-  tallied : (summed : Option ℕ) (cut : Cut) → IsCut cut → (n : ℕ) (cells : List Cell) → list_all (λ p. is_fitting (plan summed) cut p.0 p.1) (enumerate_from n cells) ≡ true → AreTallied cells
-  tallied summed cut is_cut n [] e = record { tallies = []; bodies = refl; whole = refl }
-  tallied summed cut is_cut n (Nothing ∷ cells) e =
-      let rest = tallied summed cut is_cut (n + 1) cells e in
+  tallied : (summed : Option ℕ) (cut : Cut) → IsCut cut → (n : ℕ) (cells : List Cell) → list_all (λ p. is_fitting (plan summed) cut p.0 p.1) (enumerate_from n cells) ≡ true → least_fault cells ≡ None → AreTallied cells
+  tallied summed cut is_cut n [] e none = record { tallies = []; bodies = refl; whole = refl }
+  tallied summed cut is_cut n (Nothing ∷ cells) e none =
+      let rest = tallied summed cut is_cut (n + 1) cells e none in
       record { tallies = rest.tallies; bodies = rest.bodies; whole = none-plus (together (map tally_of_cell cells)) ∙ rest.whole }
-  tallied summed cut is_cut n (Conflict ∷ cells) e =
-      let rest = tallied summed cut is_cut (n + 1) cells e in
+  tallied summed cut is_cut n (Conflict ∷ cells) e none =
+      let rest = tallied summed cut is_cut (n + 1) cells e none in
       record { tallies = rest.tallies; bodies = rest.bodies; whole = none-plus (together (map tally_of_cell cells)) ∙ rest.whole }
-  tallied summed cut is_cut n (One b ∷ cells) e =
-      let here = body_form text fact summed cut is_cut n b (first_of _ _ e) in
-      let rest = tallied summed cut is_cut (n + 1) cells (second_of _ _ e) in
+  tallied summed cut is_cut n (One (Fault f) ∷ cells) e none = absurd (some_fault f cells none)
+  tallied summed cut is_cut n (One (Groups gs) ∷ cells) e none =
+      let here = body_form text fact summed cut is_cut n gs (first_of _ _ e) in
+      let rest = tallied summed cut is_cut (n + 1) cells (second_of _ _ e) none in
       record {
         tallies = here.tally ∷ rest.tallies;
         bodies = λ i. here.form i ∷ rest.bodies i;
         whole = λ i. plus (tally_of_cell (One (here.form i))) (rest.whole i);
       }
 
-  combined-cells : (summed : Option ℕ) (cut : Cut) → IsCut cut → (cells : List Cell) → AreFitting (plan summed) cut cells → combined (plan summed) (filter_map body_in cells) ≡ body_of_tally (together (map tally_of_cell cells))
-  combined-cells summed cut is_cut cells fitting =
-      let all = tallied summed cut is_cut 0 cells fitting.each in
+  combined-cells : (summed : Option ℕ) (cut : Cut) → IsCut cut → (cells : List Cell) → AreFitting (plan summed) cut cells → least_fault cells ≡ None → combined (plan summed) (filter_map body_in cells) ≡ body_of_tally (together (map tally_of_cell cells))
+  combined-cells summed cut is_cut cells fitting none =
+      let all = tallied summed cut is_cut 0 cells fitting.each none in
       ap (combined (plan summed)) all.bodies ∙ combined-tallies summed all.tallies ∙ ap body_of_tally (sym all.whole)
 
 -- what the answers in fitting cells say together
-pub combined-single : (plan : Plan) (cut : Cut) (cells : List Cell) → IsSingle plan → IsCut cut → AreFitting plan cut cells
+pub combined-single : (plan : Plan) (cut : Cut) (cells : List Cell) → IsSingle plan → IsCut cut → AreFitting plan cut cells → least_fault cells ≡ None
     → (t : Tally) → t ≡ together (map tally_of_cell cells) → combined plan (filter_map body_in cells) ≡ one_group t.rows (state_of t)
-combined-single plan cut cells single is_cut fitting t e =
+combined-single plan cut cells single is_cut fitting none t e =
     ap (λ (p : Plan). combined p (filter_map body_in cells)) single.form
-    ∙ combined-cells plan.text plan.fact single.summed cut is_cut cells (subst (λ (p : Plan). AreFitting p cut cells) single.form fitting)
+    ∙ combined-cells plan.text plan.fact single.summed cut is_cut cells (subst (λ (p : Plan). AreFitting p cut cells) single.form fitting) none
     ∙ ap body_of_tally (sym e)

@@ -9,9 +9,9 @@ use Rattle.meaning.specs.declared.plan.TableUse.{TableUse}
 use Rattle.meaning.specs.declared.plan.Plan.{Plan}
 use Rattle.meaning.specs.declared.answer.Statistics.{Statistics}
 use Rattle.meaning.specs.declared.answer.Group.{Group}
-use Rattle.meaning.specs.declared.answer.Body.{Body}
+use Rattle.meaning.specs.Said.{Body}
 use Rattle.meaning.specs.declared.answer.Body.TheVariants.{Groups, Fault}
-use Rattle.meaning.specs.declared.answer.Cell.{Cell}
+use Rattle.meaning.specs.Said.{Cell}
 use Rattle.meaning.specs.declared.answer.Cell.TheVariants.{Nothing, One, Conflict}
 use Rattle.meaning.specs.Order.{Row}
 use Rattle.meaning.specs.Cut.{IsCut, Cut, first_row}
@@ -143,9 +143,8 @@ module _ (text : List ℕ) (fact : TableUse) (summed : Option ℕ) where
       by (g ∷ []) e within one p = one_form k n g e p within short few
       by (g ∷ h ∷ gs) e within one p = absurd (omega (arith, one))
 
-  pub body_form : (cut : Cut) → IsCut cut → (k : ℕ) (b : Body) → is_fitting_body plan cut k b ≡ true → IsTallied k b
-  body_form cut is_cut k (Fault f) e = absurd cc
-  body_form cut is_cut k (Groups gs) e =
+  pub body_form : (cut : Cut) → IsCut cut → (k : ℕ) (gs : List Group) → is_fitting_body plan cut k (Groups gs) ≡ true → IsTallied k (Groups gs)
+  body_form cut is_cut k gs e =
       let within : k < length cut = ltb-true k (length cut) (first_of (nat_lt k (length cut)) _ e) in
       let rest = second_of (nat_lt k (length cut)) _ e in
       let shaped = first_of (list_all (is_group_of plan) gs) _ rest in
@@ -158,8 +157,9 @@ module _ (text : List ℕ) (fact : TableUse) (summed : Option ℕ) where
   cell_form : (cut : Cut) → IsCut cut → (k : ℕ) (c : Cell) → is_fitting plan cut k c ≡ true → IsOfFragment k (tally_of_cell c)
   cell_form cut is_cut k Nothing e = record { place = λ h. absurd (omega (arith, h)); rows = omega arith; possible = none-possible }
   cell_form cut is_cut k Conflict e = record { place = λ h. absurd (omega (arith, h)); rows = omega arith; possible = none-possible }
-  cell_form cut is_cut k (One b) e =
-      let form = body_form cut is_cut k b e in
+  cell_form cut is_cut k (One (Fault f)) e = record { place = λ h. absurd (omega (arith, h)); rows = omega arith; possible = none-possible }
+  cell_form cut is_cut k (One (Groups gs)) e =
+      let form = body_form cut is_cut k gs e in
       subst (λ (a : Body). IsOfFragment k (tally_of_cell (One a))) (sym form.form) form.of_fragment
 
   cells_form : (cut : Cut) → IsCut cut → (cells : List Cell) → AreFitting plan cut cells → AreOfFragments cells

@@ -5,8 +5,8 @@ use Rattle.std.proofs.Common.{refl, sym, ap, ◌∙◌, subst}
 use Rattle.std.proofs.lemmas.List.{length-set, length-replicate}
 use Rattle.std.proofs.lemmas.Bool.{ltb-true}
 use Rattle.std.proofs.lemmas.Option.{slice_get-get_or, same_Some}
-use Rattle.meaning.specs.declared.answer.Answer.{Answer}
-use Rattle.meaning.specs.declared.answer.Cell.{Cell}
+use Rattle.meaning.specs.Said.{Answer}
+use Rattle.meaning.specs.Said.{Cell}
 use Rattle.meaning.specs.declared.answer.Cell.TheVariants.{Nothing, One}
 use Rattle.meaning.specs.Cut.{Cut}
 use Rattle.meaning.specs.Gather.{join_cells, joined}
@@ -16,7 +16,6 @@ use Rattle.partial_codec.specs.Job.{JobSpec}
 use Rattle.partial_codec.specs.Answer.{Fits}
 use Rattle.coordinator.specs.Single.{IsSingle}
 use Rattle.coordinator.proofs.Fitting.{AreFitting-set, AreFitting-none, AreFitting-at, is_fitting-join}
-use Rattle.coordinator.proofs.Spelled.{is_fitting-spelled}
 use Rattle.coordinator.specs.Gathering.{GatherSpec, IsGather, cell_at, with_answer}
 
 -- ---- a coordinator that has taken nothing
@@ -30,9 +29,9 @@ fresh_fits job single = record {
 
 pub fresh_cells : (cut : Cut) → replicate (length cut) Nothing ≡ joined cut []
 fresh_cells cut = from 0 (length cut) where
-  from : (start n : ℕ) → replicate n Nothing ≡ map (λ k. Nothing) (range_with_len start n)
+  from : (start n : ℕ) → replicate {A = Cell} n Nothing ≡ map {B = Cell} (λ k. Nothing) (range_with_len start n)
   from start zero = refl
-  from start (suc n) = ap (λ cells. Nothing ∷ cells) (from (start + 1) n)
+  from start (suc n) = ap (λ (cells : List Cell). Nothing ∷ cells) (from (start + 1) n)
 
 -- the state of a set of answers becomes that of the set with one more
 pub one_more : (cut : Cut) (answers : List Answer) (a : Answer) (cells : List Cell) → a.k < length cut → cells ≡ joined cut answers
@@ -43,7 +42,7 @@ one_more cut answers a cells below e = ap (λ cs. slice_set cs a.k (join_cells (
 
 -- its fragment is one of the cut's
 pub below_cut : (job : JobSpec) (a : Answer) → Fits job a → a.k < length job.cut
-below_cut job a fits = ltb-true a.k (length job.cut) (first_of _ _ fits.fits)
+below_cut job a fits = ltb-true a.k (length job.cut) (first_of _ _ fits)
 
 pub below : (g : GatherSpec) (a : Answer) → IsGather g → Fits g.job a → a.k < length g.cells
 below g a ok fits = subst (λ n. a.k < n) (sym ok.each) (below_cut g.job a fits)
@@ -58,6 +57,6 @@ kept g a ok fits = record {
   single = ok.single;
   each = length-set g.cells a.k (join_cells (cell_at g a.k) (One a.body)) ∙ ok.each;
   fitting = AreFitting-set g.job.plan g.job.cut g.cells a.k (join_cells (cell_at g a.k) (One a.body))
-      (is_fitting-join g.job.plan g.job.cut a.k (cell_at g a.k) (One a.body) (AreFitting-at g.job.plan g.job.cut g.cells a.k Nothing (below g a ok fits) ok.fitting) (is_fitting-spelled g.job a fits))
+      (is_fitting-join g.job.plan g.job.cut a.k (cell_at g a.k) (One a.body) (AreFitting-at g.job.plan g.job.cut g.cells a.k Nothing (below g a ok fits) ok.fitting) fits)
       ok.fitting;
 }

@@ -3,7 +3,7 @@ use Rattle.std.specs.Prelude.{◌≡◌, ℕ, zero, suc, ◌+◌, ◌<◌, true,
 use Rattle.std.specs.List.{list_all, enumerate_from}
 use Rattle.std.proofs.Common.{refl, sym, ap, subst, arith}
 use Rattle.meaning.specs.declared.plan.Plan.{Plan}
-use Rattle.meaning.specs.declared.answer.Cell.{Cell}
+use Rattle.meaning.specs.Said.{Cell}
 use Rattle.meaning.specs.declared.answer.Cell.TheVariants.{Nothing, One, Conflict}
 use Rattle.meaning.specs.Cut.{Cut}
 use Rattle.meaning.specs.Gather.{same_body, join_cells}

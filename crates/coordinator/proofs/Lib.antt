@@ -6,7 +6,7 @@ pub mod Tallies
 pub mod ColumnTallies
 pub mod Fitting
 pub mod OwnFits
-pub mod Spelled
+pub mod Faults
 pub mod Combined
 pub mod LastStep
 pub mod Held
@@ -15,6 +15,7 @@ pub mod CountedRows
 pub mod OwnAnswers
 pub mod Slices
 pub mod FragmentColumns
+pub mod TwoForms
 pub mod Planned
 pub mod Files
 pub mod RecordTexts

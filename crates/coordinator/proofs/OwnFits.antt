@@ -6,7 +6,7 @@ use Rattle.std.proofs.lemmas.Int.{ints}
 use Rattle.meaning.specs.declared.plan.Plan.{Plan}
 use Rattle.meaning.specs.declared.plan.TableUse.{TableUse}
 use Rattle.meaning.specs.declared.answer.Statistics.{Statistics}
-use Rattle.meaning.specs.declared.answer.Body.{Body}
+use Rattle.meaning.specs.Said.{Body}
 use Rattle.meaning.specs.Order.{Row}
 use Rattle.meaning.specs.Cut.{Cut}
 use Rattle.meaning.specs.Aggregate.{statistics, kept_by}

@@ -1,5 +1,5 @@
 -- What is known of a plan from the query's text.
-use Rattle.std.specs.Prelude.{◌≡◌, ◌≢◌, ℕ, ◌≤◌, Bool, true, false, if◌then◌else◌, List, [], ◌∷◌, length, position, slice_get, Option, Some, None, Result, Ok, Err}
+use Rattle.std.specs.Prelude.{◌≡◌, ℕ, ◌≤◌, Bool, true, false, if◌then◌else◌, List, [], ◌∷◌, length, position, slice_get, Option, Some, None, Result, Ok, Err, IfOk, IfErr}
 use Rattle.std.specs.List.{list_any}
 use Rattle.std.specs.Str.{bytes_eq}
 use Rattle.std.proofs.Common.{refl, sym, ap, ◌∙◌, subst, arith}
@@ -16,29 +16,18 @@ use Rattle.meaning.specs.declared.plan.TableUse.{TableUse}
 use Rattle.meaning.specs.declared.plan.Plan.{Plan}
 use Rattle.meaning.specs.Results.{and_then}
 use Rattle.sql_syntax.specs.declared.tree.Query.{Query}
-use Rattle.sql_syntax.specs.declared.tree.Expr.{Expr}
-use Rattle.sql_syntax.specs.Words.{lower}
-use Rattle.sql_syntax.specs.Tokens.{Terminal}
-use Rattle.sql_reader.specs.Grammar.{query_of, SpellsItem, rows, sum, IsTree, IsShort}
+use Rattle.sql_reader.specs.Grammar.{IsTree, IsShort, IsWithin}
 use Rattle.sql_syntax.specs.Canonical.{canonical}
 use Rattle.partial_codec.specs.Job.{IsPlanOfJob}
 use Rattle.coordinator.specs.declared.planning.PlanFault.{PlanFault}
 use Rattle.coordinator.specs.declared.planning.PlanFault.TheVariants as fault
 use Rattle.coordinator.specs.Single.{single_plan, IsSingle}
-use Rattle.coordinator.specs.Planning.{Form, counts, sums, tree_of, table_in, column_in, fact_named, summable, summed_at, summed_in, fact_use, plan_of}
+use Rattle.coordinator.specs.Planning.{Form, tree_of, table_in, column_in, fact_named, summable, summed_at, summed_in, fact_use, plan_of}
 use Rattle.coordinator.specs.Fragment.{IsSummable}
-use Rattle.coordinator.specs.Whole.{IsPlanned, IsPlanRefused, of_plan}
+use Rattle.coordinator.specs.declared.whole_fault.WholeFault.{WholeFault}
+use Rattle.coordinator.specs.declared.whole_fault.WholeFault.TheVariants as whole_fault
+use Rattle.coordinator.specs.Whole.{IsPlanned, IsTreeRefused, IsPlanRefused}
 use Rattle.coordinator.proofs.CountedRows.{went_on}
-
-form_of_item : (ts : List Terminal) (e : Expr) (table : List ℕ) → SpellsItem ts e → (form : Form) × (query_of e table ≡ tree_of form)
-form_of_item ts e table (rows _ _ tokens is) = (counts table, ap (λ x. query_of x table) is)
-form_of_item ts e table (sum _ _ column tokens is) = (sums (lower column) table, ap (λ x. query_of x table) is)
-
--- a tree is one of the two forms
-pub form_of_tree : (bytes : List ℕ) (q : Query) → IsTree bytes q → (form : Form) × (q ≡ tree_of form)
-form_of_tree bytes q tree =
-    let found = form_of_item tree.spells.item tree.spells.expr (lower tree.spells.table) tree.spells.item_spells in
-    (found.0, tree.spells.tree ∙ found.1)
 
 pub planned_as : (catalog : Catalog) (bytes : List ℕ) (q : Query) (r : Result Plan PlanFault) → IsTree bytes q → IsShort bytes q → (form : Form) → q ≡ tree_of form → plan_of catalog form ≡ r → IsPlanned catalog bytes r
 planned_as catalog bytes q r tree short form is gives = record {
@@ -48,13 +37,17 @@ planned_as catalog bytes q r tree short form is gives = record {
   gives = gives;
 }
 
--- the refusal of a query of this form
-pub refused_as : (catalog : Catalog) (bytes : List ℕ) (q : Query) → IsTree bytes q → IsShort bytes q → (form : Form) → q ≡ tree_of form → (e : PlanFault) → (e ≢ fault.Memory → plan_of catalog form ≡ Err e) → IsPlanRefused catalog bytes (of_plan e)
-refused_as catalog bytes q tree short form is fault.Memory refused = tt
-refused_as catalog bytes q tree short form is fault.TableUnknown refused = planned_as catalog bytes q (Err fault.TableUnknown) tree short form is (refused (λ e. absurd cc))
-refused_as catalog bytes q tree short form is fault.ColumnUnknown refused = planned_as catalog bytes q (Err fault.ColumnUnknown) tree short form is (refused (λ e. absurd cc))
-refused_as catalog bytes q tree short form is fault.TypeMismatch refused = planned_as catalog bytes q (Err fault.TypeMismatch) tree short form is (refused (λ e. absurd cc))
-refused_as catalog bytes q tree short form is fault.FactNotOnce refused = planned_as catalog bytes q (Err fault.FactNotOnce) tree short form is (refused (λ e. absurd cc))
+-- the refusal of a text by that of its tree
+text_refused : (catalog : Catalog) (bytes : List ℕ) (q : Query) → IsWithin bytes q → (e : WholeFault) → IsTreeRefused catalog q e → IsPlanRefused catalog bytes e
+text_refused catalog bytes q read whole_fault.Memory refused = tt
+text_refused catalog bytes q read whole_fault.Later refused = (q, read, refused)
+text_refused catalog bytes q read (whole_fault.Plan e) refused = planned_as catalog bytes q (Err e) read.tree read.short refused.0 refused.1 refused.2
+text_refused catalog bytes q read (whole_fault.Catalog e) refused = absurd refused
+text_refused catalog bytes q read (whole_fault.Sql e) refused = absurd refused
+text_refused catalog bytes q read (whole_fault.MissingCsv table) refused = absurd refused
+text_refused catalog bytes q read (whole_fault.Load e) refused = absurd refused
+text_refused catalog bytes q read whole_fault.VectorLength refused = absurd refused
+text_refused catalog bytes q read whole_fault.Writer refused = absurd refused
 
 -- ---- a plan of this form
 
@@ -78,6 +71,25 @@ single_if_planned catalog bytes plan planned =
         aggregates = subst (λ (p : Plan). length p.aggs ≤ 64) (sym found.0.form) (omega arith);
       },
     )
+
+-- the same of what planning a text gave
+pub single_as_planned : (catalog : Catalog) (bytes : List ℕ) (r : Result Plan WholeFault) → IfOk r (λ plan. IsPlanned catalog bytes (Ok plan)) → IfOk r IsSingle
+single_as_planned catalog bytes (Ok plan) planned = (single_if_planned catalog bytes plan planned).0
+single_as_planned catalog bytes (Err e) planned = tt
+
+pub job_as_planned : (catalog : Catalog) (bytes : List ℕ) (r : Result Plan WholeFault) → IfOk r (λ plan. IsPlanned catalog bytes (Ok plan)) → IfOk r IsPlanOfJob
+job_as_planned catalog bytes (Ok plan) planned = (single_if_planned catalog bytes plan planned).1
+job_as_planned catalog bytes (Err e) planned = tt
+
+-- what planning a tree gave, of its text
+pub planned_of_text : (catalog : Catalog) (bytes : List ℕ) (q : Query) → IsWithin bytes q → (r : Result Plan WholeFault)
+    → IfOk r (λ plan. (form : Form) × (q ≡ tree_of form) × (plan_of catalog form ≡ Ok plan)) → IfOk r (λ plan. IsPlanned catalog bytes (Ok plan))
+planned_of_text catalog bytes q read (Ok plan) planned = planned_as catalog bytes q (Ok plan) read.tree read.short planned.0 planned.1 planned.2
+planned_of_text catalog bytes q read (Err e) planned = tt
+
+pub refused_of_text : (catalog : Catalog) (bytes : List ℕ) (q : Query) → IsWithin bytes q → (r : Result Plan WholeFault) → IfErr r (IsTreeRefused catalog q) → IfErr r (IsPlanRefused catalog bytes)
+refused_of_text catalog bytes q read (Ok plan) refused = tt
+refused_of_text catalog bytes q read (Err e) refused = text_refused catalog bytes q read e refused
 
 -- ---- what such a plan sums
 

@@ -74,6 +74,7 @@ module _ (catalog : Catalog) (csvs : List (Bor (List ℕ) × Bor (List ℕ))) (q
   stands fault.Writer end bytes declared = (plan, prepared.loaded.rows, [], runs_over bytes declared)
   stands (fault.Catalog e) end bytes declared = absurd end
   stands (fault.Sql e) end bytes declared = absurd end
+  stands fault.Later end bytes declared = absurd end
   stands (fault.Plan e) end bytes declared = absurd end
   stands (fault.MissingCsv table) end bytes declared = absurd end
   stands (fault.Load e) end bytes declared = absurd end

@@ -14,7 +14,7 @@ use Rattle.meaning.specs.declared.plan.Item.{Item}
 use Rattle.meaning.specs.declared.plan.Plan.{Plan}
 use Rattle.meaning.specs.declared.value.Value.{Value}
 use Rattle.meaning.specs.Answer.{output_of, read_off}
-use Rattle.meaning.specs.declared.answer.Body.{Body}
+use Rattle.meaning.specs.Said.{Body}
 use Rattle.meaning.specs.declared.answer.Body.TheVariants.{Groups, Fault}
 use Rattle.meaning.specs.Finish.{Evaluated, Finished, Rows, Refusal, finished, rows_behind, behind_having, shown, rows_of, limited, all_rows, finish, order_cmp}
 use Rattle.meaning.specs.Output.{Output, output_behind}

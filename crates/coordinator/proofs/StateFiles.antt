@@ -1,26 +1,17 @@
 -- What a coordinator holds may be spelled as a state, and what a state spells may be held.
-use Rattle.std.specs.Prelude.{◌≡◌, ℕ, zero, suc, ◌<◌, true, List, [], ◌∷◌, length, Option, Some, None, get_or}
+use Rattle.std.specs.Prelude.{◌≡◌, ℕ, zero, suc, ◌<◌, true, List, [], ◌∷◌, length, get_or}
 use Rattle.std.proofs.Common.{refl, sym, ap, ◌∙◌, subst, arith}
-use Rattle.meaning.specs.declared.plan.TableUse.{TableUse}
-use Rattle.meaning.specs.declared.answer.Body.{Body}
-use Rattle.meaning.specs.declared.answer.Cell.{Cell}
+use Rattle.meaning.specs.Said.{Body}
+use Rattle.meaning.specs.Said.{Cell}
 use Rattle.meaning.specs.declared.answer.Cell.TheVariants.{Nothing, One, Conflict}
-use Rattle.partial_codec.specs.Answer.{is_shape_known, Fits}
+use Rattle.partial_codec.specs.Answer.{Fits}
 use Rattle.partial_codec.specs.Job.{JobSpec}
-use Rattle.partial_codec.specs.Shape.{shape_of}
 use Rattle.partial_codec.specs.State.{FitsState}
-use Rattle.partial_codec.specs.Supported.{is_supported}
-use Rattle.coordinator.specs.Single.{IsSingle, single_plan}
+use Rattle.coordinator.specs.Single.{IsSingle}
 use Rattle.coordinator.specs.Fitted.{is_fitting}
 use Rattle.coordinator.specs.Gathering.{GatherSpec, IsGather, joined_with}
 use Rattle.coordinator.proofs.Fitting.{AreFitting-at}
 use Rattle.coordinator.proofs.Joined.{AreFitting-from, AreFitting-join, length-join_states}
-use Rattle.coordinator.proofs.Spelled.{is_fitting-spelled, Fits-is_fitting}
-
-shape_known : (text : List ℕ) (fact : TableUse) (summed : Option ℕ) → is_shape_known (shape_of (single_plan text fact summed)) ≡ true
-unfolding is_supported
-shape_known text fact None = refl
-shape_known text fact (Some place) = refl
 
 -- an answer stands in a cell alone
 within : (cells : List Cell) (k : ℕ) (body : Body) → get_or cells k Nothing ≡ One body → k < length cells
@@ -31,15 +22,13 @@ within (c ∷ cells) (suc k) body e = let below = within cells k body e in omega
 -- what is held may be spelled
 pub fits_state : (g : GatherSpec) → IsGather g → FitsState g.job g.cells
 fits_state g ok = record {
-  known = ap (λ p. is_shape_known (shape_of p)) ok.single.form ∙ shape_known g.job.plan.text g.job.plan.fact ok.single.summed;
   fragments = ok.each;
-  answers = λ k body e. Fits-is_fitting g.job (record { k = k; body = body }) ok.single
-      (subst (λ c. is_fitting g.job.plan g.job.cut k c ≡ true) e (AreFitting-at g.job.plan g.job.cut g.cells k Nothing (within g.cells k body e) ok.fitting));
+  answers = λ k body e. subst (λ c. is_fitting g.job.plan g.job.cut k c ≡ true) e (AreFitting-at g.job.plan g.job.cut g.cells k Nothing (within g.cells k body e) ok.fitting);
 }
 
 cell_fits : (job : JobSpec) (k : ℕ) (c : Cell) → ((body : Body) → c ≡ One body → Fits job (record { k = k; body = body })) → is_fitting job.plan job.cut k c ≡ true
 cell_fits job k Nothing fits = refl
-cell_fits job k (One body) fits = is_fitting-spelled job (record { k = k; body = body }) (fits body refl)
+cell_fits job k (One body) fits = fits body refl
 cell_fits job k Conflict fits = refl
 
 -- what is spelled may be held

@@ -1,23 +1,18 @@
--- Cells whose answers fit their fragments, and hold groups.
-use Rattle.std.specs.Prelude.{◌≡◌, ℕ, Bool, true, false, ◌&&◌, List}
+-- Cells whose answers fit their fragments.
+use Rattle.std.specs.Prelude.{◌≡◌, ℕ, Bool, true, List}
 use Rattle.std.specs.List.{list_all, enumerate_from}
 use Rattle.meaning.specs.declared.plan.Plan.{Plan}
-use Rattle.meaning.specs.declared.answer.Body.{Body}
-use Rattle.meaning.specs.declared.answer.Body.TheVariants.{Groups, Fault}
-use Rattle.meaning.specs.declared.answer.Cell.{Cell}
+use Rattle.meaning.specs.Said.{Body}
+use Rattle.meaning.specs.Said.{Cell}
 use Rattle.meaning.specs.declared.answer.Cell.TheVariants.{Nothing, One, Conflict}
 use Rattle.meaning.specs.Cut.{Cut}
 use Rattle.meaning.specs.Fitting.{fits}
 
-abbrev pub has_groups : Body → Bool
-has_groups (Groups gs) = true
-has_groups (Fault f) = false
-
--- a body of groups that fits the fragment
+-- a body that fits the fragment
 abbrev pub is_fitting_body : Plan → Cut → ℕ → Body → Bool
-is_fitting_body plan cut k b = has_groups b && fits plan cut (record { k = k; body = b })
+is_fitting_body plan cut k b = fits plan cut (record { k = k; body = b })
 
--- the answer in the cell of the fragment, if there is one, holds groups and fits
+-- the answer in the cell of the fragment, if there is one, fits
 abbrev pub is_fitting : Plan → Cut → ℕ → Cell → Bool
 is_fitting plan cut k Nothing = true
 is_fitting plan cut k (One b) = is_fitting_body plan cut k b

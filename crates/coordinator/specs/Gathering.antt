@@ -1,8 +1,8 @@
 -- What a coordinator holds, and what an answer does to it.
 use Rattle.std.specs.Prelude.{◌≡◌, ◌≢◌, ℕ, if◌then◌else◌, List, length, map, zip, slice_set, slice_index_or, Some, ⊤}
-use Rattle.meaning.specs.declared.answer.Body.{Body}
-use Rattle.meaning.specs.declared.answer.Answer.{Answer}
-use Rattle.meaning.specs.declared.answer.Cell.{Cell}
+use Rattle.meaning.specs.Said.{Body}
+use Rattle.meaning.specs.Said.{Answer}
+use Rattle.meaning.specs.Said.{Cell}
 use Rattle.meaning.specs.declared.answer.Cell.TheVariants.{Nothing, One, Conflict}
 use Rattle.meaning.specs.Gather.{same_body, join_cells}
 use Rattle.partial_codec.specs.declared.fault.DecodeFault.{DecodeFault}

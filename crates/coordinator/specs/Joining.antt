@@ -1,6 +1,6 @@
 -- What another coordinator's cells add to one's own.
 use Rattle.std.specs.Prelude.{Bool, if◌then◌else◌, List, map, zip}
-use Rattle.meaning.specs.declared.answer.Cell.{Cell}
+use Rattle.meaning.specs.Said.{Cell}
 use Rattle.meaning.specs.declared.answer.Cell.TheVariants.{Nothing, One, Conflict}
 use Rattle.meaning.specs.Gather.{same_body}
 

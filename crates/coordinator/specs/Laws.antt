@@ -1,7 +1,7 @@
 -- What two coordinators of one job can rely on, each of it the contract of a function of `src/laws.rt`.
 use Rattle.std.specs.Prelude.{◌≡◌, List}
-use Rattle.meaning.specs.declared.answer.Answer.{Answer}
-use Rattle.meaning.specs.declared.answer.Cell.{Cell}
+use Rattle.meaning.specs.Said.{Answer}
+use Rattle.meaning.specs.Said.{Cell}
 use Rattle.meaning.specs.Gather.{joined, report}
 use Rattle.meaning.specs.Laws.{SameAnswers}
 use Rattle.meaning.specs.Print.{report_text}

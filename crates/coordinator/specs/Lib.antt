@@ -7,6 +7,7 @@ pub mod Joining
 pub mod Laws
 pub mod Lent
 pub mod OneGroup
+pub mod Faults
 pub mod Planning
 pub mod Printing
 pub mod Reporting

@@ -4,8 +4,8 @@ use Rattle.meaning.specs.declared.value.Value.{Value}
 use Rattle.meaning.specs.declared.value.Value.TheVariants.{Int}
 use Rattle.meaning.specs.declared.answer.Statistics.{Statistics}
 use Rattle.meaning.specs.declared.answer.Group.{Group}
-use Rattle.meaning.specs.declared.answer.Body.{Body}
-use Rattle.meaning.specs.declared.answer.Body.TheVariants.{Groups}
+use Rattle.meaning.specs.Said.{Body}
+use Rattle.meaning.specs.declared.answer.Body.TheVariants.{Groups, Fault}
 use Rattle.meaning.specs.Order.{Row, column}
 use Rattle.meaning.specs.Aggregate.{statistics, kept_by}
 use Rattle.coordinator.specs.declared.tally.Tally.{Tally}
@@ -26,6 +26,11 @@ pub record IsOneGroup (body : Body) : Type 0 where
   pub state : Statistics
   pub form : body ≡ one_group rows state
   pub few : state.count ≤ 4294967296
+
+-- a fault, or a body of one group
+abbrev pub IsFinishable : Body → Type 0
+IsFinishable (Fault f) = Unit {0}
+IsFinishable (Groups gs) = IsOneGroup (Groups gs)
 
 -- what an aggregate takes from a row: 1 where it counts rows, else the value in the column that is summed
 abbrev pub entry_of : Option ℕ → Row → Value

@@ -1,5 +1,5 @@
 -- The plan of a query of the two forms: its names looked up in the catalogue.
-use Rattle.std.specs.Prelude.{◌≡◌, ◌≢◌, ℕ, if◌then◌else◌, List, [], ◌∷◌, position, slice_get, Option, Some, None, Result, Ok, Err}
+use Rattle.std.specs.Prelude.{◌≡◌, ◌≢◌, ◌⊎◌, ℕ, if◌then◌else◌, List, [], ◌∷◌, position, slice_get, Option, Some, None, Result, Ok, Err}
 use Rattle.std.specs.List.{list_any}
 use Rattle.std.specs.Str.{bytes_eq}
 use Rattle.meaning.specs.declared.value.ColType.{ColType}
@@ -11,13 +11,34 @@ use Rattle.meaning.specs.declared.plan.ColumnUse.{ColumnUse}
 use Rattle.meaning.specs.declared.plan.TableUse.{TableUse}
 use Rattle.meaning.specs.declared.plan.Plan.{Plan}
 use Rattle.meaning.specs.Results.{and_then}
+use Rattle.sql_syntax.specs.declared.tree.Aggregate.TheVariants as aggregate
 use Rattle.sql_syntax.specs.declared.tree.Query.{Query}
+use Rattle.sql_syntax.specs.declared.tree.Expr.{Expr}
 use Rattle.sql_syntax.specs.declared.tree.Expr.TheVariants as expr
-use Rattle.sql_reader.specs.Grammar.{query_of, sum_column}
 use Rattle.sql_syntax.specs.Canonical.{canonical}
 use Rattle.coordinator.specs.Single.{single_plan}
 use Rattle.coordinator.specs.declared.planning.PlanFault.{PlanFault}
 use Rattle.coordinator.specs.declared.planning.PlanFault.TheVariants.{Memory, TableUnknown, ColumnUnknown, TypeMismatch, FactNotOnce}
+
+-- the tree of `SUM(column)`
+abbrev pub sum_column : List ℕ → Expr
+sum_column column = expr.Aggregate aggregate.Sum (expr.Column None column)
+
+-- the tree of a query of one item and one table, with no other names and no clause behind FROM
+abbrev pub query_of : Expr → List ℕ → Query
+query_of e table = record {
+  items = record { expr = e; alias = None } ∷ [];
+  source = record { first = record { name = table; alias = None }; others = [] };
+  filter = None;
+  group_by = [];
+  having = None;
+  order_by = [];
+  limit = None;
+}
+
+-- the item of such a query: COUNT(*), or the sum of a column
+abbrev pub IsItemOfForm : Expr → Type 0
+IsItemOfForm e = (e ≡ expr.CountRows) ⊎ ((column : List ℕ) × (e ≡ sum_column column))
 
 -- COUNT(*) over a table, or the sum of a column of a table
 pub data Form : Type 0 where
@@ -28,6 +49,10 @@ pub data Form : Type 0 where
 abbrev pub tree_of : Form → Query
 tree_of (counts table) = query_of expr.CountRows table
 tree_of (sums column table) = query_of (sum_column column) table
+
+-- the tree is one of the two forms
+abbrev pub HasForm : Query → Type 0
+HasForm q = (form : Form) × (q ≡ tree_of form)
 
 -- the table's name
 abbrev pub table_in : Form → List ℕ

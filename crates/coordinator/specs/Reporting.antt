@@ -1,6 +1,6 @@
 -- What a coordinator finds in its cells, and what is told of it.
 use Rattle.std.specs.Prelude.{Bool, ⊤}
-use Rattle.meaning.specs.declared.answer.Cell.{Cell}
+use Rattle.meaning.specs.Said.{Cell}
 use Rattle.meaning.specs.Output.{Output}
 use Rattle.meaning.specs.Output as output
 use Rattle.meaning.specs.Gather.{is_conflict, is_nothing}

@@ -21,7 +21,7 @@ use Rattle.meaning.specs.Results.{all_ok, and_then}
 use Rattle.meaning.specs.Records.{Record, fact_of, dimension_of}
 use Rattle.meaning.specs.CatalogText.{catalog_of}
 use Rattle.sql_reader.specs.declared.fault.SqlFault.{SqlFault}
-use Rattle.sql_reader.specs.Grammar.{IsTree, IsShort, IsRefusal}
+use Rattle.sql_reader.specs.Grammar.{IsTree, IsShort, IsWithin, IsRefusal}
 use Rattle.sql_reader.specs.declared.fault.SqlFault.TheVariants as sql
 use Rattle.meaning.specs.declared.catalog.CatalogFault.TheVariants as catalog_fault
 use Rattle.coordinator.specs.declared.planning.PlanFault.TheVariants as plan_fault
@@ -37,7 +37,8 @@ use Rattle.coordinator.specs.Reporting.{ended_as}
 use Rattle.partial_codec.specs.Job.{IsPlanOfJob}
 use Rattle.coordinator.specs.Single.{IsSingle}
 use Rattle.coordinator.specs.Gathering.{GatherSpec}
-use Rattle.coordinator.specs.Planning.{Form, tree_of, plan_of}
+use Rattle.sql_syntax.specs.declared.tree.Query.{Query}
+use Rattle.coordinator.specs.Planning.{Form, HasForm, tree_of, plan_of}
 use Rattle.coordinator.specs.declared.planning.PlanFault.{PlanFault}
 use Rattle.coordinator.specs.declared.whole_fault.WholeFault.{WholeFault}
 use Rattle.coordinator.specs.declared.whole_fault.WholeFault.TheVariants as fault
@@ -88,10 +89,22 @@ pub record IsPlanned (catalog : Catalog) (query : List ℕ) (planned : Result Pl
   pub short : IsShort query (tree_of form)
   pub gives : plan_of catalog form ≡ planned
 
+-- the query's text has a tree of the grammar that is none of the forms
+abbrev pub IsLater : List ℕ → Type 0
+IsLater query = (q : Query) × IsWithin query q × (HasForm q → ⊥)
+
+-- why a tree has no plan
+abbrev pub IsTreeRefused : Catalog → Query → WholeFault → Type 0
+IsTreeRefused catalog q fault.Memory = ⊤
+IsTreeRefused catalog q fault.Later = HasForm q → ⊥
+IsTreeRefused catalog q (fault.Plan e) = (form : Form) × (q ≡ tree_of form) × (plan_of catalog form ≡ Err e)
+IsTreeRefused catalog q _ = ⊥
+
 -- why the query has no plan
 abbrev pub IsPlanRefused : Catalog → List ℕ → WholeFault → Type 0
 IsPlanRefused catalog query fault.Memory = ⊤
 IsPlanRefused catalog query (fault.Sql e) = (e ≢ sql.Memory) × IsRefusal query e
+IsPlanRefused catalog query fault.Later = IsLater query
 IsPlanRefused catalog query (fault.Plan e) = IsPlanned catalog query (Err e)
 IsPlanRefused catalog query _ = ⊥
 
@@ -153,12 +166,13 @@ pub record RunsOver (input : Input) (plan : Plan) (rows : List Row) (dims : List
   pub tables : tables_of catalog input.files input.cut plan ≡ Ok (rows, dims)
   pub vectors : is_vector_length input.vector_len ≡ true
 
--- where each refusal stands in the input: the catalogue, the query, its plan, the tables, the vectors' length, and last the writer,
+-- where each refusal stands in the input: the catalogue, the query, its form, its plan, the tables, the vectors' length, and last the writer,
 -- each where all before it is well
 abbrev pub IsRefused : Input → WholeFault → Type 0
 IsRefused input fault.Memory = ⊤
 IsRefused input (fault.Catalog e) = catalog_of input.catalog ≡ Err e
 IsRefused input (fault.Sql e) = (catalog : Catalog) × (catalog_of input.catalog ≡ Ok catalog) × (e ≢ sql.Memory) × IsRefusal input.query e
+IsRefused input fault.Later = (catalog : Catalog) × (catalog_of input.catalog ≡ Ok catalog) × IsLater input.query
 IsRefused input (fault.Plan e) = (catalog : Catalog) × (catalog_of input.catalog ≡ Ok catalog) × IsPlanned catalog input.query (Err e)
 IsRefused input (fault.MissingCsv table) = (catalog : Catalog) × (plan : Plan) × (catalog_of input.catalog ≡ Ok catalog) × IsPlanned catalog input.query (Ok plan) × (tables_of catalog input.files input.cut plan ≡ Err (fault.MissingCsv table))
 IsRefused input (fault.Load e) = (catalog : Catalog) × (plan : Plan) × (catalog_of input.catalog ≡ Ok catalog) × IsPlanned catalog input.query (Ok plan) × (tables_of catalog input.files input.cut plan ≡ Err (fault.Load e))
@@ -193,6 +207,7 @@ pub record IsPrepared (catalog : Catalog) (files : Files) (query : List ℕ) (cu
 abbrev pub IsPrepareRefused : Catalog → Files → List ℕ → Cut → ℕ → WholeFault → Type 0
 IsPrepareRefused catalog files query cut vector_len fault.Memory = ⊤
 IsPrepareRefused catalog files query cut vector_len (fault.Sql e) = (e ≢ sql.Memory) × IsRefusal query e
+IsPrepareRefused catalog files query cut vector_len fault.Later = IsLater query
 IsPrepareRefused catalog files query cut vector_len (fault.Plan e) = IsPlanned catalog query (Err e)
 IsPrepareRefused catalog files query cut vector_len (fault.MissingCsv table) = (plan : Plan) × IsPlanned catalog query (Ok plan) × (tables_of catalog files cut plan ≡ Err (fault.MissingCsv table))
 IsPrepareRefused catalog files query cut vector_len (fault.Load e) = (plan : Plan) × IsPlanned catalog query (Ok plan) × (tables_of catalog files cut plan ≡ Err (fault.Load e))

@@ -16,6 +16,7 @@ use crate::only_group::body_of_tally;
 use crate::single::summed_column;
 use crate::summing::tally_of_column;
 use crate::tally::Tally;
+use accumulators::Group;
 use columns::Column;
 use meaning::answer::Answer;
 use meaning::plan::Plan;
@@ -51,7 +52,7 @@ pub fn answer_fragment(
     columns: &[Column],
     row_count: u32,
     k: u32,
-) -> Result<Answer, AllocError>
+) -> Result<Answer<Group>, AllocError>
     requires single { IsSingle plan.now }
     requires few { row_count ≤ max_rows }
     requires fragment { (declared : List Declared) × (rows : List Row) × IsFragmentFor plan.now declared rows row_count columns.now }

@@ -2,40 +2,19 @@
 // Copies of what a coordinator holds.
 ghost use Rattle.std.specs.Prelude.{◌≡◌, IfOk};
 
-use meaning::answer::{Body, Group, Statistics};
+use accumulators::{Group, State};
+use meaning::answer::Body;
 use meaning::sequence::Sequence;
 use meaning::value::{Row, Value};
 use std::alloc::{AllocError, Global};
 use std::mem::drop;
 
-fn copy_entry(entry: &Option<Value>) -> Result<Option<Value>, AllocError>
-    ensures { IfOk result (λ copy. copy ≡ entry.now) }
-{
-    match entry {
-        Some(value) => Ok(Some(value.clone()?)),
-        None => Ok(None),
-    }
-}
-
-fn copy_statistics(state: &Statistics) -> Result<Statistics, AllocError>
-    ensures { IfOk result (λ copy. copy ≡ state.now) }
-{
-    let least = copy_entry(&state.least)?;
-    let greatest = copy_entry(&state.greatest)?;
-    Ok(Statistics {
-        count: state.count,
-        sum: state.sum,
-        least,
-        greatest,
-    })
-}
-
-fn copy_states(alloc: Global, states: &[Statistics]) -> Result<Sequence<Statistics>, AllocError>
+fn copy_states(alloc: Global, states: &[State]) -> Result<Sequence<State>, AllocError>
     ensures { IfOk result (λ copy. copy ≡ states.now) }
 {
     let mut copy = Sequence::new(alloc);
     for state in states {
-        copy.push(copy_statistics(state)?)?;
+        copy.push(state.copy(alloc)?)?;
     }
     Ok(copy)
 }
@@ -53,13 +32,9 @@ fn copy_row(alloc: Global, row: &[Value]) -> Result<Row, AllocError>
 fn copy_group(alloc: Global, group: &Group) -> Result<Group, AllocError>
     ensures { IfOk result (λ copy. copy ≡ group.now) }
 {
-    let states = copy_states(alloc, group.states.as_slice())?;
-    match copy_row(alloc, group.key.as_slice()) {
-        Ok(key) => Ok(Group {
-            key,
-            rows: group.rows,
-            states,
-        }),
+    let states = copy_states(alloc, group.states())?;
+    match copy_row(alloc, group.key().as_slice()) {
+        Ok(key) => Ok(Group::new(key, group.rows(), states)),
         Err(e) => {
             drop(states);
             Err(e)
@@ -78,7 +53,7 @@ fn copy_groups(alloc: Global, groups: &[Group]) -> Result<Sequence<Group>, Alloc
 }
 
 /// A copy of what is said of a fragment.
-pub fn copy_body(alloc: Global, body: &Body) -> Result<Body, AllocError>
+pub fn copy_body(alloc: Global, body: &Body<Group>) -> Result<Body<Group>, AllocError>
     ensures { IfOk result (λ copy. copy ≡ body.now) }
 {
     match body {

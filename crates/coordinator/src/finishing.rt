@@ -4,11 +4,12 @@ ghost use Rattle.std.specs.Prelude.{◌≡◌, ℕ, ◌≤◌, ◌∷◌, [], If
 ghost use Rattle.meaning.specs.Aggregate.{value, unless_none, sum_value};
 ghost use Rattle.meaning.specs.Answer.{output_of};
 ghost use Rattle.coordinator.specs.Finished.{output_in, output_of_value};
-ghost use Rattle.coordinator.specs.OneGroup.{IsOneGroup, one_group};
+ghost use Rattle.coordinator.specs.OneGroup.{IsFinishable, IsOneGroup, one_group};
 ghost use Rattle.coordinator.specs.Single.{IsSingle, aggregate_of};
 
 use crate::single::summed_column;
-use meaning::answer::{Body, Group, RowFault, Statistics};
+use accumulators::{Group, State};
+use meaning::answer::{Body, RowFault};
 use meaning::plan::Plan;
 use meaning::sequence::Sequence;
 use meaning::value::{Row, Value};
@@ -39,13 +40,13 @@ fn value_of_sum(count: u64, sum: i128) -> Result<Value, u8>
 }
 
 /// The aggregate, read off its state.
-fn value_of(summed: Option<usize>, state: &Statistics) -> Result<Value, u8>
+fn value_of(summed: Option<usize>, state: &State) -> Result<Value, u8>
     requires { state.now.count ≤ 4294967296 }
     ensures { result ≡ value (aggregate_of summed).kind state.now }
 {
     match summed {
-        None => Ok(Value::Int(state.count as i64)),
-        Some(_) => value_of_sum(state.count, state.sum),
+        None => Ok(Value::Int(state.count() as i64)),
+        Some(_) => value_of_sum(state.count(), state.sum()),
     }
 }
 
@@ -69,17 +70,17 @@ fn finish_value(alloc: Global, value: Result<Value, u8>) -> Result<Finished, All
     }
 }
 
-fn only_state(groups: &Sequence<Group>) -> &Statistics
+fn only_state(groups: &Sequence<Group>) -> &State
     requires { IsOneGroup (Body.Groups groups.now) }
     ensures { (rows : ℕ) × (Body.Groups groups.now ≡ one_group rows result.now) }
 {
-    &groups.as_slice()[0].states.as_slice()[0]
+    &groups.as_slice()[0].states()[0]
 }
 
 /// The last step over one group with one state.
-pub fn finish_body(alloc: Global, plan: &Plan, body: &Body) -> Result<Finished, AllocError>
+pub fn finish_body(alloc: Global, plan: &Plan, body: &Body<Group>) -> Result<Finished, AllocError>
     requires single { IsSingle plan.now }
-    requires one_group { IsOneGroup body.now }
+    requires finishable { IsFinishable body.now }
     ensures { IfOk result (λ f. output_in f ≡ output_of plan.now body.now) }
 {
     match body {

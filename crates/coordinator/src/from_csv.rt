@@ -3,7 +3,7 @@ ghost use Rattle.std.specs.Prelude.{◌≡◌, ◌<◌, ◌≤◌, [], ◌∷◌
 ghost use Rattle.std.specs.List.{range_with_len, enumerate_from};
 ghost use Rattle.std.specs.Io.KnownBytes.{Appends};
 ghost use Rattle.meaning.specs.Limits.{max_rows};
-ghost use Rattle.meaning.specs.declared.answer.Answer.{Answer as AnAnswer};
+ghost use Rattle.meaning.specs.Said.{Answer as AnAnswer};
 ghost use Rattle.meaning.specs.Answer.{own_body};
 ghost use Rattle.meaning.specs.Output.{Output};
 ghost use Rattle.meaning.specs.Gather.{joined, report, output};

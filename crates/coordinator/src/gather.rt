@@ -1,7 +1,7 @@
 //! The coordinator: a cell for each fragment, and what an answer does to it.
 ghost use Rattle.std.specs.Prelude.{◌≡◌, ℕ, [], ◌∷◌, ◌++◌, List, length, replicate, IfOk, IfErr, OnOk, OnErr};
-ghost use Rattle.meaning.specs.declared.answer.Answer.{Answer as AnAnswer};
-ghost use Rattle.meaning.specs.declared.answer.Cell.{Cell as ACell};
+ghost use Rattle.meaning.specs.Said.{Answer as AnAnswer};
+ghost use Rattle.meaning.specs.Said.{Cell as ACell};
 ghost use Rattle.meaning.specs.declared.answer.Cell.TheVariants.{Nothing};
 ghost use Rattle.meaning.specs.Gather.{joined};
 ghost use Rattle.partial_codec.specs.Answer.{Spells};
@@ -10,9 +10,10 @@ ghost use Rattle.coordinator.specs.Gathering.{Takes, Refuses, RefusesState, Refu
 ghost use Rattle.coordinator.specs.Single.{IsSingle};
 
 use crate::fault::GatherFault;
-use crate::joining::{all_news, join_all};
+use crate::joining::{all_news, is_same, join_all, with_answer};
 use crate::same_job::is_same_job;
-use meaning::answer::{Answer, Body, Cell, is_same, with_answer};
+use accumulators::Group;
+use meaning::answer::{Answer, Body, Cell};
 use partial_codec::{Job, decode, decode_state, encode_state};
 use std::alloc::{AllocError, Global};
 use std::marker::Model;
@@ -23,7 +24,7 @@ use std::mem::drop;
 #[derive(Drop)]
 pub struct Gather {
     job: Job,
-    cells: Vec<Cell>,
+    cells: Vec<Cell<Group>>,
 }
 
 /// What became of an answer.
@@ -40,12 +41,13 @@ pub enum Absorbed {
 impl Model for Gather {
     ghost use Rattle.std.specs.Coded.{codes};
     ghost use Rattle.meaning.specs.contracts.plan.Plan as a_plan;
+    ghost use Rattle.meaning.specs.contracts.answer.Group as a_group;
     ghost use Rattle.meaning.specs.contracts.answer.Cell as a_cell;
     ghost use Rattle.coordinator.specs.Gathering.{GatherSpec, IsGather};
 
     ghost Value = { GatherSpec };
 
-    ghost coded = { Prim.hlevel (codes, a_plan.the_row.coded, a_cell.the_row.coded) };
+    ghost coded = { Prim.hlevel (codes, a_plan.the_row.coded, (a_cell.the_row a_group.the_row).coded) };
 
     ghost view = { λ g. record { job = g.job; cells = g.cells.items } };
 
@@ -53,7 +55,7 @@ impl Model for Gather {
 }
 
 /// What is said of an answer for a fragment of which this is held.
-fn tell(held: &Cell, fragment: u32, body: &Body) -> Absorbed
+fn tell(held: &Cell<Group>, fragment: u32, body: &Body<Group>) -> Absorbed
     ensures { result ≡ absorbed_as held.now fragment body.now }
 {
     match held {
@@ -70,7 +72,7 @@ fn tell(held: &Cell, fragment: u32, body: &Body) -> Absorbed
 }
 
 /// Nothing for each of so many fragments.
-fn no_answers(alloc: Global, fragments: usize) -> Result<Vec<Cell>, AllocError>
+fn no_answers(alloc: Global, fragments: usize) -> Result<Vec<Cell<Group>>, AllocError>
     ensures { IfOk result (λ cells. cells.items ≡ replicate fragments Nothing) }
 {
     let mut cells = Vec::new(alloc);
@@ -106,7 +108,7 @@ impl Gather {
     }
 
     /// What is held for each fragment.
-    pub fn cells(&self) -> &[Cell]
+    pub fn cells(&self) -> &[Cell<Group>]
         ensures value { result.now ≡ self.now.cells }
         ensures sound { IsGather self.now }
     {

@@ -3,10 +3,12 @@
 ghost use Rattle.std.specs.Prelude.{◌≡◌, ◌≢◌, find, option_map, IfOk, IfErr, Ok, Err};
 ghost use Rattle.std.specs.Str.{bytes_eq};
 ghost use Rattle.partial_codec.specs.Job.{IsPlanOfJob};
+ghost use Rattle.coordinator.specs.Planning.{Form, tree_of, plan_of};
 ghost use Rattle.coordinator.specs.Single.{IsSingle};
-ghost use Rattle.coordinator.specs.Whole.{IsPlanned, IsPlanRefused, Gives, IsLoaded, files_in, csv_of, tables_of};
+ghost use Rattle.coordinator.specs.Whole.{IsPlanned, IsTreeRefused, IsPlanRefused, Gives, IsLoaded, files_in, csv_of, tables_of};
 ghost use Rattle.coordinator.specs.declared.whole_fault.WholeFault.TheVariants as fault;
 
+use crate::forms::has_form;
 use crate::planning::make_plan;
 use crate::whole_fault::WholeFault;
 use columns::Column;
@@ -17,8 +19,20 @@ use meaning::plan::Plan;
 use meaning::sequence::Sequence;
 use meaning::text::Text;
 use sql_reader::read;
+use sql_reader::tree::Query;
 use std::alloc::Global;
 use std::mem::drop;
+
+/// The plan of a query's tree, where it is one of the two forms.
+fn plan_tree(alloc: Global, catalog: &Catalog, query: &Query) -> Result<Plan, WholeFault>
+    ensures planned { IfOk result (λ plan. (form : Form) × (query.now ≡ tree_of form) × (plan_of catalog.now form ≡ Ok plan)) }
+    ensures refused { IfErr result (IsTreeRefused catalog.now query.now) }
+{
+    if !has_form(query) {
+        return Err(WholeFault::Later);
+    }
+    Ok(make_plan(alloc, catalog, query)?)
+}
 
 /// The plan of a query's text.
 pub fn plan_query(alloc: Global, catalog: &Catalog, query: &[u8]) -> Result<Plan, WholeFault>
@@ -28,9 +42,9 @@ pub fn plan_query(alloc: Global, catalog: &Catalog, query: &[u8]) -> Result<Plan
     ensures refused { IfErr result (IsPlanRefused catalog.now query.now) }
 {
     let tree = read(alloc, query)?;
-    let planned = make_plan(alloc, catalog, &tree);
+    let planned = plan_tree(alloc, catalog, &tree);
     drop(tree);
-    Ok(planned?)
+    planned
 }
 
 fn find_csv<'a>(csvs: &[(&'a str, &'a [u8])], table: &str) -> Option<&'a [u8]>

@@ -6,6 +6,7 @@ mod combining;
 mod copying;
 mod fault;
 mod finishing;
+mod forms;
 mod from_csv;
 mod gather;
 mod inputs;

@@ -17,6 +17,7 @@ use crate::finishing::{Finished, finish_body};
 use crate::gather::Gather;
 use crate::print_fault::PrintFault;
 use crate::printing::{print_fault, print_fragments, print_row_fault, print_rows};
+use accumulators::Group;
 use meaning::answer::Cell;
 use meaning::cut::Cut;
 use meaning::plan::Plan;
@@ -60,7 +61,7 @@ enum Lack {
     OfAnswer,
 }
 
-fn lacks(lack: Lack, cell: &Cell) -> bool
+fn lacks(lack: Lack, cell: &Cell<Group>) -> bool
     ensures { result ≡ lacks lack cell.now }
 {
     match (lack, cell) {
@@ -73,7 +74,7 @@ fn lacks(lack: Lack, cell: &Cell) -> bool
 fn fragments_that_lack(
     alloc: Global,
     lack: Lack,
-    cells: &[Cell],
+    cells: &[Cell<Group>],
 ) -> Result<Sequence<u32>, AllocError>
     requires { length cells.now ≤ max_fragments }
     ensures { IfOk result (λ ks. ks ≡ places (lacks lack) cells.now) }
@@ -92,7 +93,7 @@ fn output_of_cells(
     alloc: Global,
     plan: &Plan,
     cut: &Cut,
-    cells: &[Cell],
+    cells: &[Cell<Group>],
 ) -> Result<Finished, AllocError>
     requires single { IsSingle plan.now }
     requires fitting { AreFitting plan.now cut.now cells.now }
@@ -110,7 +111,7 @@ fn find_in_cells(
     alloc: Global,
     plan: &Plan,
     cut: &Cut,
-    cells: &[Cell],
+    cells: &[Cell<Group>],
 ) -> Result<Finding, AllocError>
     requires single { IsSingle plan.now }
     requires fitting { AreFitting plan.now cut.now cells.now }

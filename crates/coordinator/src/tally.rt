@@ -3,6 +3,7 @@
 ghost use Rattle.std.specs.Prelude.{◌≡◌, ◌+◌, ◌≤◌};
 ghost use Rattle.coordinator.specs.Tally.{no_rows, plus, state_of, IsPossible};
 
+use accumulators::State;
 use meaning::answer::Statistics;
 
 /// How many rows there are, and how many entries of the aggregate with which sum.
@@ -39,14 +40,16 @@ impl Tally {
     }
 
     /// What an aggregate keeps of the entries, where it keeps their number and sum alone.
-    pub fn into_state(self) -> Statistics
+    pub fn into_state(self) -> State
+        requires few { self.count ≤ 4294967296 }
+        requires possible { IsPossible self }
         ensures { result ≡ state_of self }
     {
-        Statistics {
+        State::from_statistics(Statistics {
             count: self.count,
             sum: self.sum,
             least: None,
             greatest: None,
-        }
+        })
     }
 }

@@ -22,6 +22,9 @@ pub enum WholeFault {
     Catalog(CatalogFault),
     #[error("the query is refused")]
     Sql(SqlFault),
+    /// The query is of the grammar, but none of the two forms that are answered so far.
+    #[error("such queries are not answered yet")]
+    Later,
     #[error("the query has no plan")]
     Plan(PlanFault),
     /// There is no CSV file of this table.

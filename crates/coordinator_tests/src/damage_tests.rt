@@ -75,17 +75,17 @@ fn expect_lengths(rt: &impl Abort, alloc: Global, job: &Job) -> Result<(), Alloc
 fn want_under_seal(place: usize) -> Option<u8> {
     match place {
         0..=3 => Some(1),
-        // The text, the cut or the groups are then longer than the bytes.
-        12..=15 | 43..=45 | 66..=68 => Some(2),
-        // No group: the seal ends eight bytes earlier.
-        65 => Some(3),
+        // The text, the cut or the groups are then longer than the bytes; or without an aggregate its bytes count groups.
+        12..=15 | 43..=45 | 60 | 66..=68 => Some(2),
+        // A fault, or no group: the seal ends three or eight bytes earlier.
+        64 | 65 => Some(3),
         4..=11 => Some(5),
         16..=41 => Some(6),
         // Fragment 1 may have 2 rows too.
         54 => None,
         46..=57 => Some(7),
         // With a third length, which is the fragment's number, the shape tells a key.
-        42 | 58..=64 => Some(9),
+        42 | 58..=63 => Some(9),
         _ => Some(10),
     }
 }

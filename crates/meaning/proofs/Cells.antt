@@ -4,9 +4,9 @@ use Rattle.std.specs.List.{list_all, list_any, range_with_len, zip}
 use Rattle.std.proofs.Common.{refl, sym, ap, ◌∙◌}
 use Rattle.std.proofs.lemmas.List.{map-append}
 use Rattle.std.proofs.lemmas.List.Elements.{filter-append}
-use Rattle.meaning.specs.declared.answer.Body.{Body}
-use Rattle.meaning.specs.declared.answer.Answer.{Answer}
-use Rattle.meaning.specs.declared.answer.Cell.{Cell}
+use Rattle.meaning.specs.Said.{Body}
+use Rattle.meaning.specs.Said.{Answer}
+use Rattle.meaning.specs.Said.{Cell}
 use Rattle.meaning.specs.declared.answer.Cell.TheVariants.{Nothing, One, Conflict}
 use Rattle.meaning.specs.Cut.{Cut}
 use Rattle.meaning.specs.Gather.{same_body, join_cells, cell_of, said_of, joined}

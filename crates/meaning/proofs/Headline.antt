@@ -4,9 +4,9 @@ use Rattle.std.specs.List.{list_any, range_with_len, enumerate_from}
 use Rattle.std.proofs.Common.{refl, sym, ap, ◌∙◌, arith}
 use Rattle.std.proofs.lemmas.Bool.{eq-eqb}
 use Rattle.meaning.specs.declared.plan.Plan.{Plan}
-use Rattle.meaning.specs.declared.answer.Body.{Body}
-use Rattle.meaning.specs.declared.answer.Answer.{Answer}
-use Rattle.meaning.specs.declared.answer.Cell.{Cell}
+use Rattle.meaning.specs.Said.{Body}
+use Rattle.meaning.specs.Said.{Answer}
+use Rattle.meaning.specs.Said.{Cell}
 use Rattle.meaning.specs.declared.answer.Cell.TheVariants.{Nothing, One, Conflict}
 use Rattle.meaning.specs.Order.{Row}
 use Rattle.meaning.specs.Cut.{Cut, numbered, fragment, part}

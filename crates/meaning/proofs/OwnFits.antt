@@ -16,7 +16,7 @@ use Rattle.meaning.specs.declared.plan.GroupingKey.{GroupingKey}
 use Rattle.meaning.specs.declared.plan.Plan.{Plan}
 use Rattle.meaning.specs.declared.answer.RowFault.{RowFault}
 use Rattle.meaning.specs.declared.answer.Group.{Group}
-use Rattle.meaning.specs.declared.answer.Body.{Body}
+use Rattle.meaning.specs.Said.{Body}
 use Rattle.meaning.specs.declared.answer.Body.TheVariants.{Groups}
 use Rattle.meaning.specs.Order.{Row, column, row_cmp, least, lesser, is_ascending, placed_once, ascending_set}
 use Rattle.meaning.specs.Cut.{Cut, Numbered, numbered, first_row, fragment}

@@ -10,7 +10,7 @@ use Rattle.meaning.specs.declared.plan.AggregateKind.TheVariants.{CountRows, Cou
 use Rattle.meaning.specs.declared.plan.Plan.{Plan}
 use Rattle.meaning.specs.declared.answer.Statistics.{Statistics}
 use Rattle.meaning.specs.declared.answer.Group.{Group}
-use Rattle.meaning.specs.declared.answer.Body.{Body}
+use Rattle.meaning.specs.Said.{Body}
 use Rattle.meaning.specs.declared.answer.Body.TheVariants.{Groups, Fault}
 use Rattle.meaning.specs.Order.{Row}
 use Rattle.meaning.specs.Aggregate.{no_statistics}

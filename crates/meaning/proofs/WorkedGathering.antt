@@ -5,10 +5,10 @@ use Rattle.std.proofs.Common.{refl}
 use Rattle.meaning.specs.declared.value.Value.TheVariants.{Null, Int}
 use Rattle.meaning.proofs.Evaluation.{evaluation}
 use Rattle.meaning.specs.declared.plan.AggregateKind.TheVariants.{Count, Min, Max, Avg}
-use Rattle.meaning.specs.declared.answer.Answer.{Answer}
-use Rattle.meaning.specs.declared.answer.Body.{Body}
+use Rattle.meaning.specs.Said.{Answer}
+use Rattle.meaning.specs.Said.{Body}
 use Rattle.meaning.specs.declared.answer.Body.TheVariants.{Groups, Fault}
-use Rattle.meaning.specs.declared.answer.Cell.{Cell}
+use Rattle.meaning.specs.Said.{Cell}
 use Rattle.meaning.specs.declared.answer.Cell.TheVariants.{Nothing, One, Conflict}
 use Rattle.meaning.specs.Aggregate.{no_statistics}
 use Rattle.meaning.specs.Answer.{own}

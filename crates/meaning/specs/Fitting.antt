@@ -1,5 +1,5 @@
 -- Answers that fit a plan and a cut: what a fragment's rows can give.
-use Rattle.std.specs.Prelude.{ℕ, ◌+◌, ◌==◌, nat_lt, nat_le, ℤ, pos, negsuc, ◌*ℤ◌, int_le, Bool, true, false, ◌&&◌, not, if◌then◌else◌, List, [], ◌∷◌, length, map, sum, slice_index, Option, Some, None, is_none, is_some, ◌||◌}
+use Rattle.std.specs.Prelude.{ℕ, ◌+◌, ◌==◌, nat_lt, nat_le, ℤ, pos, negsuc, ◌*ℤ◌, int_le, Bool, true, ◌&&◌, not, if◌then◌else◌, List, [], ◌∷◌, length, map, sum, slice_index, Option, Some, None, is_none, is_some, ◌||◌}
 use Rattle.std.specs.List.{list_all}
 use Rattle.std.specs.Cmp.Lexicographic.{pointwise}
 use Rattle.meaning.specs.declared.value.Value.{Value}
@@ -11,9 +11,9 @@ use Rattle.meaning.specs.declared.plan.Plan.{Plan}
 use Rattle.meaning.specs.declared.answer.RowFault.{RowFault}
 use Rattle.meaning.specs.declared.answer.Statistics.{Statistics}
 use Rattle.meaning.specs.declared.answer.Group.{Group}
-use Rattle.meaning.specs.declared.answer.Body.{Body}
+use Rattle.meaning.specs.Said.{Body}
 use Rattle.meaning.specs.declared.answer.Body.TheVariants.{Groups, Fault}
-use Rattle.meaning.specs.declared.answer.Answer.{Answer}
+use Rattle.meaning.specs.Said.{Answer}
 use Rattle.meaning.specs.Order.{Row, is_null, row_cmp, is_ascending}
 use Rattle.meaning.specs.Typing.{is_of_type}
 use Rattle.meaning.specs.Cut.{Cut, first_row}

@@ -18,6 +18,7 @@ pub mod References
 pub mod Judge
 pub mod Group
 pub mod Aggregate
+pub mod Said
 pub mod Finish
 pub mod Output
 pub mod Meaning

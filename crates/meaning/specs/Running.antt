@@ -1,6 +1,6 @@
 -- Coordinators that hold cells alone, and no answers one by one, through any list of events.
 use Rattle.std.specs.Prelude.{ℕ, List, [], ◌∷◌, ◌++◌, map, zip, length, replicate, Option, Some, None, option_to_list, slice_get, slice_set, slice_index_or}
-use Rattle.meaning.specs.declared.answer.Cell.{Cell}
+use Rattle.meaning.specs.Said.{Cell}
 use Rattle.meaning.specs.declared.answer.Cell.TheVariants.{Nothing}
 use Rattle.meaning.specs.Cut.{Cut}
 use Rattle.meaning.specs.Gather.{join_cells, joined}

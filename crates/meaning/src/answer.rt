@@ -1,9 +1,5 @@
 //! What fragments answer, and what a coordinator holds.
 
-ghost use Rattle.std.specs.Prelude.{◌≡◌};
-ghost use Rattle.meaning.specs.Gather.{same_body, join_cells};
-ghost use Rattle.meaning.specs.declared.answer.Cell.TheVariants.{One};
-
 use crate::sequence::Sequence;
 use crate::value::{Row, Value};
 
@@ -33,46 +29,22 @@ pub struct Group {
 
 /// What is known of some rows: the groups in the order of their keys, or the fault of the least row.
 #[derive(PartialEq, Eq, Drop)]
-pub enum Body {
-    Groups(Sequence<Group>),
+pub enum Body<G> {
+    Groups(Sequence<G>),
     Fault(RowFault),
 }
 
 /// What is said of a fragment.
 #[derive(Drop)]
-pub struct Answer {
+pub struct Answer<G> {
     pub k: u32,
-    pub body: Body,
+    pub body: Body<G>,
 }
 
 /// What a coordinator holds for a fragment.
 #[derive(Drop)]
-pub enum Cell {
+pub enum Cell<G> {
     Nothing,
-    One(Body),
+    One(Body<G>),
     Conflict,
-}
-
-/// Whether two answers are equal.
-pub fn is_same(a: &Body, b: &Body) -> bool
-    ensures { result ≡ same_body a.now b.now }
-{
-    a == b
-}
-
-/// The cell after one more answer for its fragment.
-pub fn with_answer(cell: Cell, body: Body) -> Cell
-    ensures { result ≡ join_cells cell (One body) }
-{
-    match cell {
-        Cell::Nothing => Cell::One(body),
-        Cell::One(known) => {
-            if is_same(&known, &body) {
-                Cell::One(known)
-            } else {
-                Cell::Conflict
-            }
-        }
-        Cell::Conflict => Cell::Conflict,
-    }
 }

@@ -1,7 +1,7 @@
 //! The laws that other crates rest on. A body does nothing: the clause is a theorem on the definitions.
 
 ghost use Rattle.std.specs.Prelude.{Bool, List};
-ghost use Rattle.meaning.specs.declared.answer.Cell.{Cell};
+ghost use Rattle.meaning.specs.Said.{Cell};
 ghost use Rattle.meaning.specs.declared.plan.AggregateKind.{AggregateKind as Kind};
 ghost use Rattle.meaning.specs.declared.plan.OrderKey.{OrderKey};
 ghost use Rattle.meaning.specs.declared.plan.Plan.{Plan};

@@ -12,9 +12,9 @@ use Rattle.meaning.specs.declared.value.ColType.TheVariants as of_type
 use Rattle.meaning.specs.declared.plan.AggregateKind.{AggregateKind}
 use Rattle.meaning.specs.declared.plan.AggregateKind.TheVariants.{CountRows, Count, Sum, Min, Max, Avg}
 use Rattle.meaning.specs.declared.plan.Aggregate.{Aggregate}
-use Rattle.meaning.specs.declared.answer.Body.{Body}
+use Rattle.meaning.specs.Said.{Body}
 use Rattle.meaning.specs.declared.answer.Body.TheVariants.{Groups, Fault}
-use Rattle.meaning.specs.declared.answer.Answer.{Answer}
+use Rattle.meaning.specs.Said.{Answer}
 use Rattle.meaning.specs.Group.{certain_keys}
 use Rattle.meaning.specs.Cut.{first_row}
 use Rattle.meaning.specs.Fitting.{is_group_possible, are_rows_possible, is_shaped, are_keys_ascending, are_numbers_possible, fits}
@@ -25,17 +25,14 @@ use Rattle.partial_codec.specs.declared.shape.AggregateShape.{AggregateShape}
 use Rattle.wire.specs.Reading.{◌>>=◌, bytes_at, same_bytes, sealed_end}
 use Rattle.partial_codec.specs.Job.{JobSpec, IsJob}
 use Rattle.partial_codec.specs.Shape.{Shape, shape_of, shape_of_aggregate, argument_of, argument_code, kind_code, type_code, is_same_type, is_same_aggregate, is_same_shape}
-use Rattle.partial_codec.specs.Supported.{is_supported}
-use Rattle.partial_codec.specs.Supported as feature
 use Rattle.partial_codec.specs.Spelling.{Layout, layout_bytes, layout_of, answer_bytes}
 use Rattle.wire.specs.Bytes.{seal_of}
 use Rattle.partial_codec.specs.LayoutReading.{type_of, kind_of, argument_from, layout_at}
-use Rattle.partial_codec.specs.Answer.{is_body_supported, is_shape_known, is_known, Fits, Spells, held_against, judged}
+use Rattle.partial_codec.specs.Answer.{Fits, Spells, held_against, judged}
 use Rattle.wire.proofs.Numbers.{bind_ok, ok_is, IsBytes, bytes_take, test_not}
 use Rattle.partial_codec.specs.Ranges.{IsBody}
 use Rattle.partial_codec.proofs.FieldLaws.{type_again, kind_again, IsAggregate, IsShape, AreJobFields, IsLayout, layout_takes, layout_again}
-use Rattle.partial_codec.proofs.Fitting.{both, groups_fit, few_groups, short_at, few_rows_before, words, fault_fits}
-use Rattle.partial_codec.proofs.Known.{all_of, known_shape, layout_known}
+use Rattle.partial_codec.proofs.Fitting.{all_of, both, groups_fit, few_groups, short_at, few_rows_before, words, fault_fits}
 use Rattle.partial_codec.proofs.FromWire.{read_ok}
 use Rattle.partial_codec.specs.Fault.{from_wire}
 use Rattle.wire.proofs.Seals.{seal_takes, seal_left, seal_again}
@@ -125,8 +122,7 @@ answer_takes job bytes a ok e =
     let sealed = seal_takes front two.0.0 two.0.1 three.0 seal.1 ended in
     let held = held_takes job one.0.0 a three.2 in
     let whole : bytes ≡ answer_bytes job a = parts ∙ sealed ∙ ap (λ (l : Layout). layout_bytes l ++ seal_of (layout_bytes l)) held.layout in
-    let known : is_known (shape_of job.plan) a.body ≡ true = subst (λ (l : Layout). is_known l.shape l.body ≡ true) held.layout (layout_known bytes one.0 one.1) in
-    record { fits = record { known = known; fits = held.fits }; spelled = whole }
+    record { fits = held.fits; spelled = whole }
 
 -- ---- what fits and is spelled is read
 
@@ -138,28 +134,25 @@ argument_back Min t = rw (type_again t) refl
 argument_back Max t = rw (type_again t) refl
 argument_back Avg t = rw (type_again t) refl
 
-aggregates_fit : (aggs : List Aggregate) → list_all (λ a. is_supported (feature.kind a.kind)) (map shape_of_aggregate aggs) ≡ true → AllByRecursion IsAggregate (map shape_of_aggregate aggs)
-aggregates_fit [] e = tt
-aggregates_fit (a ∷ aggs) e =
-    let h = both (is_supported (feature.kind a.kind)) (list_all (λ s. is_supported (feature.kind s.kind)) (map shape_of_aggregate aggs)) e in
-    (record { known = h.0; argument = argument_back a.kind a.col_type }, aggregates_fit aggs h.1)
+aggregates_fit : (aggs : List Aggregate) → AllByRecursion IsAggregate (map shape_of_aggregate aggs)
+aggregates_fit [] = tt
+aggregates_fit (a ∷ aggs) = (record { argument = argument_back a.kind a.col_type }, aggregates_fit aggs)
 
-pub body_fits : (job : JobSpec) (a : Answer) → IsJob job → is_body_supported a.body ≡ true → fits job.plan job.cut a ≡ true → IsBody (shape_of job.plan) a.body
-body_fits job a is known fit =
+pub body_fits : (job : JobSpec) (a : Answer) → IsJob job → fits job.plan job.cut a ≡ true → IsBody (shape_of job.plan) a.body
+body_fits job a is fit =
     let shaped = both (is_shaped job.plan a.body) _ (both (nat_lt a.k (length job.cut)) _ fit).1 in
-    of_body a.body known shaped.0 (both (are_keys_ascending a.body) _ shaped.1).1
+    of_body a.body shaped.0 (both (are_keys_ascending a.body) _ shaped.1).1
   where
     short : AllByRecursion (λ n. n ≤ max_rows) job.cut
     short = recursion_from_All (λ n. n ≤ max_rows) job.cut is.cut.short
 
-    of_body : (body : Body) → is_body_supported body ≡ true → is_shaped job.plan body ≡ true → are_numbers_possible job.plan (first_row job.cut a.k) (slice_index job.cut a.k) body ≡ true → IsBody (shape_of job.plan) body
-    of_body (Fault f) known shaped possible =
+    of_body : (body : Body) → is_shaped job.plan body ≡ true → are_numbers_possible job.plan (first_row job.cut a.k) (slice_index job.cut a.k) body ≡ true → IsBody (shape_of job.plan) body
+    of_body (Fault f) shaped possible =
         let rows = short_at job.cut a.k short in
         let first = few_rows_before job.cut a.k short in
         let few = is.cut.few in
-        let small = fault_fits (first_row job.cut a.k) (slice_index job.cut a.k) f (omega (arith, rows, first, few)) possible in
-        (known, small.0, small.1)
-    of_body (Groups gs) known shaped possible =
+        fault_fits (first_row job.cut a.k) (slice_index job.cut a.k) f (omega (arith, rows, first, few)) possible
+    of_body (Groups gs) shaped possible =
         let h = both (nat_le (sum (map (λ g. g.rows) gs)) (slice_index job.cut a.k)) (are_rows_possible (certain_keys job.plan.plain job.plan.keys) gs && list_all (is_group_possible job.plan) gs) possible in
         let k = both (are_rows_possible (certain_keys job.plan.plain job.plan.keys) gs) (list_all (is_group_possible job.plan) gs) h.1 in
         let within = leb-true _ _ h.0 in
@@ -180,30 +173,26 @@ job_fits job is =
       each = words job.cut (recursion_from_All (λ n. n ≤ max_rows) job.cut is.cut.short);
     }
 
--- a shape that this version knows has a spelling
-pub shape_fits : (job : JobSpec) → IsJob job → is_shape_known (shape_of job.plan) ≡ true → IsShape (shape_of job.plan)
-shape_fits job is known =
-    let features = known_shape (shape_of job.plan) known in
+-- a plan's shape has a spelling
+pub shape_fits : (job : JobSpec) → IsJob job → IsShape (shape_of job.plan)
+shape_fits job is =
     let keys = is.plan.keys in
     let aggregates = is.plan.aggregates in
     record {
       keys = omega (arith, keys, length-map job.plan.keys (λ k. k.col_type));
-      keys_known = features.keys;
       aggregates = omega (arith, aggregates, length-map job.plan.aggs shape_of_aggregate);
-      aggregates_known = features.aggregates;
-      each = aggregates_fit job.plan.aggs features.kinds;
+      each = aggregates_fit job.plan.aggs;
     }
 
 pub layout_fits : (job : JobSpec) (a : Answer) → IsJob job → Fits job a → IsLayout (layout_of job a)
 layout_fits job a is fit =
-    let known = both (is_shape_known (shape_of job.plan)) (is_body_supported a.body) fit.known in
-    let k = ltb-true a.k (length job.cut) (both (nat_lt a.k (length job.cut)) _ fit.fits).0 in
+    let k = ltb-true a.k (length job.cut) (both (nat_lt a.k (length job.cut)) _ fit).0 in
     let few = is.cut.few in
     record {
       job = job_fits job is;
       k = omega (arith, k, few);
-      shape = shape_fits job is known.0;
-      body = body_fits job a is known.1 fit.fits;
+      shape = shape_fits job is;
+      body = body_fits job a is fit;
     }
 
 held_again : (job : JobSpec) (a : Answer) → fits job.plan job.cut a ≡ true → held_against job (layout_of job a) ≡ Ok a
@@ -220,7 +209,7 @@ answer_again job a is fit =
     let front = layout_bytes (layout_of job a) in
     let seal = seal_of front in
     let sealed = seal_left front in
-    rw (layout_again (layout_of job a) seal (layout_fits job a is fit), sealed, seal_again front, held_again job a fit.fits) refl
+    rw (layout_again (layout_of job a) seal (layout_fits job a is fit), sealed, seal_again front, held_again job a fit) refl
 
 pub spelled_reads : (job : JobSpec) (bytes : List ℕ) (a : Answer) → IsJob job → Spells job bytes a → judged job bytes ≡ Ok a
 spelled_reads job bytes a is spells = ap (judged job) spells.spelled ∙ answer_again job a is spells.fits

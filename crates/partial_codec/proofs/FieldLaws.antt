@@ -6,19 +6,16 @@ use Rattle.meaning.specs.declared.value.ColType.{ColType}
 use Rattle.meaning.specs.declared.value.ColType.TheVariants as of_type
 use Rattle.meaning.specs.declared.plan.AggregateKind.{AggregateKind}
 use Rattle.meaning.specs.declared.plan.AggregateKind.TheVariants.{CountRows, Count, Sum, Min, Max, Avg}
-use Rattle.meaning.specs.declared.answer.Body.{Body}
+use Rattle.meaning.specs.Said.{Body}
 use Rattle.partial_codec.specs.declared.fault.DecodeFault.{DecodeFault}
-use Rattle.partial_codec.specs.declared.fault.DecodeFault.TheVariants as refusal
 use Rattle.partial_codec.specs.declared.shape.AggregateShape.{AggregateShape}
 use Rattle.wire.specs.Reading.{◌>>=◌, number_at, text_at, repeat_at, behind_magic}
 use Rattle.partial_codec.specs.Shape.{Shape, type_code, argument_code, kind_code}
-use Rattle.partial_codec.specs.Supported.{is_supported, if_supported}
-use Rattle.partial_codec.specs.Supported as feature
 use Rattle.partial_codec.specs.Spelling.{Layout, job_bytes, aggregate_bytes, shape_bytes, body_bytes, answer_magic, layout_bytes}
 use Rattle.wire.specs.Bytes.{number_bytes, text_bytes, IsText}
-use Rattle.partial_codec.specs.LayoutReading.{JobFields, type_of, type_at, kind_of, known_kind, argument_from, argument_at, aggregate_at, shape_at, job_at, body_at, layout_at, length_at}
+use Rattle.partial_codec.specs.LayoutReading.{JobFields, type_of, type_at, kind_of, argument_from, argument_at, aggregate_at, shape_at, job_at, body_at, layout_at, length_at}
 use Rattle.partial_codec.specs.Ranges.{IsBody}
-use Rattle.wire.proofs.Numbers.{bind_ok, test_passed, ok_is, Takes, Takes-then, number_takes, number_again}
+use Rattle.wire.proofs.Numbers.{bind_ok, ok_is, Takes, Takes-then, number_takes, number_again}
 use Rattle.wire.proofs.Parts.{IsSpelled, IsReadAgain, repeat_takes, repeat_again, text_takes, text_again}
 use Rattle.partial_codec.proofs.Groups.{body_takes, body_again}
 use Rattle.partial_codec.proofs.FromWire.{read_ok, wire_ok}
@@ -72,13 +69,6 @@ argument_is Min n o e = some_from n o e
 argument_is Max n o e = some_from n o e
 argument_is Avg n o e = some_from n o e
 
-pub known_from : (n : ℕ) (k : AggregateKind) → known_kind n ≡ Ok k → (kind_of n ≡ Ok k) × (is_supported (feature.kind k) ≡ true)
-known_from n k e =
-    let a = bind_ok (kind_of n) (λ kind. if_supported (feature.kind kind) (Ok kind)) k e in
-    let b = test_passed (is_supported (feature.kind a.0)) refusal.Shape (Ok a.0) k a.2 in
-    let same : a.0 ≡ k = ok_is a.0 k b.1 in
-    (a.1 ∙ ap Ok same, ap (λ (x : AggregateKind). is_supported (feature.kind x)) (sym same) ∙ b.0)
-
 -- ---- shapes
 
 type_takes : IsSpelled type_at (λ t. number_bytes 1 (type_code t))
@@ -101,19 +91,18 @@ types_again t rest fits = rw (number_again 1 (type_code t) rest (type_fits t), t
 aggregate_takes : IsSpelled aggregate_at aggregate_bytes
 unfolding aggregate_at argument_at
 aggregate_takes bytes p fits e =
-    let a = read_ok (number_at 1 bytes) (λ n. known_kind n.0 >>= λ kind. argument_at kind n.1) p e in
-    let b = bind_ok (known_kind a.0.0) (λ kind. argument_at kind a.0.1) p a.2 in
+    let a = read_ok (number_at 1 bytes) (λ n. kind_of n.0 >>= λ kind. argument_at kind n.1) p e in
+    let b = bind_ok (kind_of a.0.0) (λ kind. argument_at kind a.0.1) p a.2 in
     let d = read_ok (number_at 1 a.0.1) (λ n. argument_from b.0 n.0 >>= λ argument. Ok (record { kind = b.0; argument = argument }, n.1)) p b.2 in
     let f = bind_ok (argument_from b.0 d.0.0) (λ argument. Ok (record { kind = b.0; argument = argument }, d.0.1)) p d.2 in
     let kind = number_takes 1 bytes a.0.0 a.0.1 fits a.1 in
     let argument = number_takes 1 a.0.1 d.0.0 d.0.1 kind.0.rest_fits d.1 in
     let made : AggregateShape × List ℕ = (record { kind = b.0; argument = f.0 }, d.0.1) in
     subst (λ (q : AggregateShape × List ℕ). Takes bytes (aggregate_bytes q.0) q.1) (ok_is made p f.2)
-    (rw (kind_from a.0.0 b.0 (known_from a.0.0 b.0 b.1).0, argument_is b.0 d.0.0 f.0 f.1) (Takes-then bytes (number_bytes 1 a.0.0) a.0.1 (number_bytes 1 d.0.0) d.0.1 kind.0 argument.0))
+    (rw (kind_from a.0.0 b.0 b.1, argument_is b.0 d.0.0 f.0 f.1) (Takes-then bytes (number_bytes 1 a.0.0) a.0.1 (number_bytes 1 d.0.0) d.0.1 kind.0 argument.0))
 
 -- an aggregate that has a spelling
 pub record IsAggregate (a : AggregateShape) : Type 0 where
-  pub known : is_supported (feature.kind a.kind) ≡ true
   pub argument : argument_from a.kind (argument_code a.argument) ≡ Ok a.argument
 
 pub kind_fits : (k : AggregateKind) → kind_code k < 256
@@ -133,7 +122,7 @@ unfolding aggregate_at argument_at
 aggregate_again a rest fits =
     let argument = number_bytes 1 (argument_code a.argument) in
     ap aggregate_at (append_assoc (number_bytes 1 (kind_code a.kind)) argument rest)
-    ∙ rw (number_again 1 (kind_code a.kind) (argument ++ rest) (kind_fits a.kind), kind_again a.kind, fits.known, number_again 1 (argument_code a.argument) rest (argument_fits a.argument), fits.argument) refl
+    ∙ rw (number_again 1 (kind_code a.kind) (argument ++ rest) (kind_fits a.kind), kind_again a.kind, number_again 1 (argument_code a.argument) rest (argument_fits a.argument), fits.argument) refl
 
 abbrev type_bytes : ColType → List ℕ
 type_bytes t = number_bytes 1 (type_code t)
@@ -141,14 +130,14 @@ type_bytes t = number_bytes 1 (type_code t)
 pub shape_takes : IsSpelled shape_at shape_bytes
 unfolding shape_at shape_bytes
 shape_takes bytes p fits e =
-    let a = read_ok (number_at 2 bytes) (λ n. if_supported (feature.keys n.0) (repeat_at type_at n.0 n.1) >>= λ keys. from_wire (number_at 2 keys.1) >>= λ m. if_supported (feature.aggregates m.0) (repeat_at aggregate_at m.0 m.1) >>= λ aggregates. Ok (record { keys = keys.0; aggregates = aggregates.0 }, aggregates.1)) p e in
-    let b = bind_ok (if_supported (feature.keys a.0.0) (repeat_at type_at a.0.0 a.0.1)) (λ keys. from_wire (number_at 2 keys.1) >>= λ m. if_supported (feature.aggregates m.0) (repeat_at aggregate_at m.0 m.1) >>= λ aggregates. Ok (record { keys = keys.0; aggregates = aggregates.0 }, aggregates.1)) p a.2 in
-    let c = read_ok (number_at 2 b.0.1) (λ m. if_supported (feature.aggregates m.0) (repeat_at aggregate_at m.0 m.1) >>= λ aggregates. Ok (record { keys = b.0.0; aggregates = aggregates.0 }, aggregates.1)) p b.2 in
-    let d = bind_ok (if_supported (feature.aggregates c.0.0) (repeat_at aggregate_at c.0.0 c.0.1)) (λ aggregates. Ok (record { keys = b.0.0; aggregates = aggregates.0 }, aggregates.1)) p c.2 in
+    let a = read_ok (number_at 2 bytes) (λ n. repeat_at type_at n.0 n.1 >>= λ keys. from_wire (number_at 2 keys.1) >>= λ m. repeat_at aggregate_at m.0 m.1 >>= λ aggregates. Ok (record { keys = keys.0; aggregates = aggregates.0 }, aggregates.1)) p e in
+    let b = bind_ok (repeat_at type_at a.0.0 a.0.1) (λ keys. from_wire (number_at 2 keys.1) >>= λ m. repeat_at aggregate_at m.0 m.1 >>= λ aggregates. Ok (record { keys = keys.0; aggregates = aggregates.0 }, aggregates.1)) p a.2 in
+    let c = read_ok (number_at 2 b.0.1) (λ m. repeat_at aggregate_at m.0 m.1 >>= λ aggregates. Ok (record { keys = b.0.0; aggregates = aggregates.0 }, aggregates.1)) p b.2 in
+    let d = bind_ok (repeat_at aggregate_at c.0.0 c.0.1) (λ aggregates. Ok (record { keys = b.0.0; aggregates = aggregates.0 }, aggregates.1)) p c.2 in
     let n = number_takes 2 bytes a.0.0 a.0.1 fits a.1 in
-    let keys = repeat_takes type_at type_bytes type_takes a.0.0 a.0.1 b.0 n.0.rest_fits (test_passed (is_supported (feature.keys a.0.0)) refusal.Shape (repeat_at type_at a.0.0 a.0.1) b.0 b.1).1 in
+    let keys = repeat_takes type_at type_bytes type_takes a.0.0 a.0.1 b.0 n.0.rest_fits b.1 in
     let m = number_takes 2 b.0.1 c.0.0 c.0.1 keys.0.rest_fits c.1 in
-    let aggregates = repeat_takes aggregate_at aggregate_bytes aggregate_takes c.0.0 c.0.1 d.0 m.0.rest_fits (test_passed (is_supported (feature.aggregates c.0.0)) refusal.Shape (repeat_at aggregate_at c.0.0 c.0.1) d.0 d.1).1 in
+    let aggregates = repeat_takes aggregate_at aggregate_bytes aggregate_takes c.0.0 c.0.1 d.0 m.0.rest_fits d.1 in
     let counted : Takes bytes (number_bytes 2 (length b.0.0)) a.0.1 = subst (λ (x : ℕ). Takes bytes (number_bytes 2 x) a.0.1) (sym keys.1) n.0 in
     let counted2 : Takes b.0.1 (number_bytes 2 (length d.0.0)) c.0.1 = subst (λ (x : ℕ). Takes b.0.1 (number_bytes 2 x) c.0.1) (sym aggregates.1) m.0 in
     let one = Takes-then bytes (number_bytes 2 (length b.0.0)) a.0.1 (flat_map type_bytes b.0.0) b.0.1 counted keys.0 in
@@ -160,9 +149,7 @@ shape_takes bytes p fits e =
 -- a shape that has a spelling
 pub record IsShape (shape : Shape) : Type 0 where
   pub keys : length shape.keys < 2 ^ 16
-  pub keys_known : is_supported (feature.keys (length shape.keys)) ≡ true
   pub aggregates : length shape.aggregates < 2 ^ 16
-  pub aggregates_known : is_supported (feature.aggregates (length shape.aggregates)) ≡ true
   pub each : AllByRecursion IsAggregate shape.aggregates
 
 all_types : (ts : List ColType) → AllByRecursion (λ t. Unit {0}) ts
@@ -179,10 +166,8 @@ shape_again shape rest fits =
     ap shape_at (append_assoc (n ++ keys ++ m) aggregates rest ∙ append_assoc (n ++ keys) m (aggregates ++ rest) ∙ append_assoc n keys (m ++ (aggregates ++ rest)))
     ∙ rw (
       number_again 2 (length shape.keys) (keys ++ (m ++ (aggregates ++ rest))) fits.keys,
-      fits.keys_known,
       repeat_again type_at type_bytes (λ t. Unit {0}) types_again (length shape.keys) shape.keys (m ++ (aggregates ++ rest)) refl (all_types shape.keys),
       number_again 2 (length shape.aggregates) (aggregates ++ rest) fits.aggregates,
-      fits.aggregates_known,
       repeat_again aggregate_at aggregate_bytes IsAggregate aggregate_again (length shape.aggregates) shape.aggregates rest refl fits.each,
     ) refl
 

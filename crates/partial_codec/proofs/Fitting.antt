@@ -19,7 +19,7 @@ use Rattle.meaning.specs.declared.plan.Plan.{Plan}
 use Rattle.meaning.specs.declared.answer.RowFault.{RowFault}
 use Rattle.meaning.specs.declared.answer.Statistics.{Statistics}
 use Rattle.meaning.specs.declared.answer.Group.{Group}
-use Rattle.meaning.specs.declared.answer.Body.{Body}
+use Rattle.meaning.specs.Said.{Body}
 use Rattle.meaning.specs.declared.answer.Body.TheVariants.{Groups, Fault}
 use Rattle.meaning.specs.Order.{Row}
 use Rattle.meaning.specs.Operators.{fits_i64}
@@ -40,6 +40,10 @@ sum-cons n ns = sum_by-cons (λ x. x) n ns
 
 abbrev rows_of : List Group → List ℕ
 rows_of gs = map (λ g. g.rows) gs
+
+pub all_of : (a b : Bool) → a ≡ true → b ≡ true → (a && b) ≡ true
+all_of true b p q = q
+all_of false b p q = absurd cc
 
 pub both : (a b : Bool) → (a && b) ≡ true → (a ≡ true) × (b ≡ true)
 both true b e = (refl, e)

@@ -8,23 +8,20 @@ use Rattle.meaning.specs.declared.plan.AggregateKind.{AggregateKind}
 use Rattle.meaning.specs.declared.plan.AggregateKind.TheVariants.{CountRows, Count, Sum, Min, Max, Avg}
 use Rattle.meaning.specs.declared.answer.Statistics.{Statistics}
 use Rattle.meaning.specs.declared.answer.Group.{Group}
-use Rattle.meaning.specs.declared.answer.Body.{Body}
+use Rattle.meaning.specs.Said.{Body}
 use Rattle.meaning.specs.declared.answer.Body.TheVariants.{Groups, Fault}
 use Rattle.meaning.specs.Aggregate.{no_statistics}
 use Rattle.partial_codec.specs.declared.fault.DecodeFault.{DecodeFault}
-use Rattle.partial_codec.specs.declared.fault.DecodeFault.TheVariants as refusal
 use Rattle.partial_codec.specs.declared.shape.AggregateShape.{AggregateShape}
 use Rattle.wire.specs.Reading.{◌>>=◌, number_at, repeat_at, i128_at}
 use Rattle.partial_codec.specs.Shape.{Shape}
-use Rattle.partial_codec.specs.Supported.{is_supported, if_supported}
-use Rattle.partial_codec.specs.Supported as feature
 use Rattle.wire.specs.Bytes.{number_bytes, i128_bytes}
 use Rattle.partial_codec.specs.Spelling.{value_bytes, value_or_null, state_bytes, states_bytes, group_bytes, body_bytes}
 use Rattle.partial_codec.specs.LayoutReading.{value_at, unless_null, state_at, states_at, group_at, groups_at, fault_at, tagged_body_at, body_at}
 use Rattle.partial_codec.specs.Ranges.{IsValue, IsExtreme, IsState, AreStates, IsGroup, IsBody}
-use Rattle.wire.proofs.Numbers.{bind_ok, test_passed, ok_is, IsBytes, Takes, Takes-then, number_takes, number_again}
+use Rattle.wire.proofs.Numbers.{bind_ok, ok_is, IsBytes, Takes, Takes-then, number_takes, number_again}
 use Rattle.wire.proofs.Parts.{IsSpelled, IsReadAgain, repeat_takes, repeat_again, i128_takes, i128_again}
-use Rattle.partial_codec.proofs.Values.{value_takes, value_again}
+use Rattle.partial_codec.proofs.ValueLaws.{value_takes, value_again}
 use Rattle.partial_codec.proofs.FromWire.{read_ok}
 use Rattle.partial_codec.specs.Fault.{from_wire}
 
@@ -160,8 +157,7 @@ tagged_takes : (shape : Shape) (start : List ℕ) (tag : ℕ) (bytes : List ℕ)
     → Takes start (body_bytes shape p.0) p.1
 unfolding tagged_body_at fault_at groups_at body_bytes
 tagged_takes shape start zero bytes p fits first e =
-    let g = test_passed (is_supported feature.fault) refusal.Shape (fault_at bytes) p e in
-    let a = read_ok (number_at 8 bytes) (λ row. from_wire (number_at 1 row.1) >>= λ code. Ok (Fault (record { row = row.0; code = code.0 }), code.1)) p g.1 in
+    let a = read_ok (number_at 8 bytes) (λ row. from_wire (number_at 1 row.1) >>= λ code. Ok (Fault (record { row = row.0; code = code.0 }), code.1)) p e in
     let b = read_ok (number_at 1 a.0.1) (λ code. Ok (Fault (record { row = a.0.0; code = code.0 }), code.1)) p a.2 in
     let row = number_takes 8 bytes a.0.0 a.0.1 fits a.1 in
     let code = number_takes 1 a.0.1 b.0.0 b.0.1 row.0.rest_fits b.1 in
@@ -198,7 +194,7 @@ body_again shape (Fault f) rest fits =
     let row = number_bytes 8 f.row in
     let code = number_bytes 1 f.code in
     ap (body_at shape) (append_assoc (number_bytes 1 0 ++ row) code rest ∙ append_assoc (number_bytes 1 0) row (code ++ rest))
-    ∙ rw (number_again 1 0 (row ++ (code ++ rest)) (omega arith), fits.0, number_again 8 f.row (code ++ rest) fits.1, number_again 1 f.code rest fits.2) refl
+    ∙ rw (number_again 1 0 (row ++ (code ++ rest)) (omega arith), number_again 8 f.row (code ++ rest) fits.0, number_again 1 f.code rest fits.1) refl
 body_again shape (Groups gs) rest fits =
     let count = number_bytes 4 (length gs) in
     let groups = flat_map (group_bytes shape) gs in

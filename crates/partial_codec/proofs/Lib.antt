@@ -1,11 +1,20 @@
 -- The lemmas of this crate.
 pub mod FromWire
-pub mod Values
+pub mod ValueLaws
 pub mod Groups
 pub mod FieldLaws
 pub mod Fitting
-pub mod Known
 pub mod Steps
-pub mod Shaped
 pub mod Answers
+pub mod Types
+pub mod Words
+pub mod KeptParts
+pub mod Judging
+pub mod ReadGroups
+pub mod ReadFields
+pub mod KeptCells
+pub mod Shapes
 pub mod States
+pub mod Layouts
+pub mod WrittenStates
+pub mod StateLayouts

@@ -1,12 +1,11 @@
 -- The two laws of states: what is read is spelled so and fits, and what fits and is spelled is read.
-use Rattle.std.proofs.Common.{◌≡◌, ℕ, zero, suc, ◌+◌, ◌<◌, Bool, true, false, ◌&&◌, eqb, List, [], ◌∷◌, ◌++◌, length, get_or, Ok, refl, ap, subst, ◌∙◌, append_assoc, arith}
+use Rattle.std.proofs.Common.{◌≡◌, ℕ, zero, suc, ◌+◌, ◌<◌, true, false, ◌&&◌, eqb, List, [], ◌∷◌, ◌++◌, length, get_or, Ok, refl, ap, subst, ◌∙◌, append_assoc, arith}
 use Rattle.std.specs.Prelude.{nat_lt, slice_index}
 use Rattle.std.specs.List.{flat_map, AllByRecursion, list_all}
 use Rattle.std.specs.Cmp.Lexicographic.{bytes_decides}
 use Rattle.std.proofs.lemmas.Bool.{eqb-true, eq-eqb, lt-ltb, ne_eqb}
-use Rattle.meaning.specs.declared.plan.Plan.{Plan}
-use Rattle.meaning.specs.declared.answer.Body.{Body}
-use Rattle.meaning.specs.declared.answer.Cell.{Cell}
+use Rattle.meaning.specs.Said.{Body}
+use Rattle.meaning.specs.Said.{Cell}
 use Rattle.meaning.specs.declared.answer.Cell.TheVariants.{Nothing, One, Conflict}
 use Rattle.meaning.specs.Cut.{first_row}
 use Rattle.meaning.specs.Fitting.{is_shaped, are_keys_ascending, are_numbers_possible, fits}
@@ -18,16 +17,14 @@ use Rattle.wire.specs.Bytes.{number_bytes, seal_of}
 use Rattle.partial_codec.specs.Spelling.{body_bytes, shape_bytes}
 use Rattle.partial_codec.specs.LayoutReading.{JobFields, body_at, shape_at, job_at}
 use Rattle.partial_codec.specs.Ranges.{IsCell}
-use Rattle.partial_codec.specs.Answer.{is_body_supported, is_shape_known, Fits}
+use Rattle.partial_codec.specs.Answer.{Fits}
 use Rattle.partial_codec.specs.State.{StateLayout, FitsState, SpellsState, cell_bytes, state_magic, state_layout_bytes, state_layout_of, state_bytes, tagged_cell_at, cell_at, state_layout_at, is_cell_shaped, body_held, cell_held, cells_held, state_held_against, judged_state}
 use Rattle.wire.proofs.Numbers.{bind_ok, ok_is, IsBytes, Takes, Takes-then, bytes_take, number_takes, number_again, test_not}
 use Rattle.wire.proofs.Parts.{IsSpelled, IsReadAgain, repeat_takes, repeat_again, repeat_all}
 use Rattle.partial_codec.proofs.Groups.{body_takes, body_again}
 use Rattle.partial_codec.proofs.FieldLaws.{IsShape, AreJobFields, job_text, job_takes, job_again, shape_takes, shape_again}
 use Rattle.wire.proofs.Seals.{magic_takes, magic_again, seal_takes, seal_again, seal_left}
-use Rattle.partial_codec.proofs.Fitting.{both}
-use Rattle.partial_codec.proofs.Known.{IsKnownShape, all_of, known_test, shape_known, body_known}
-use Rattle.partial_codec.proofs.Shaped.{body_shaped}
+use Rattle.partial_codec.proofs.Fitting.{all_of, both}
 use Rattle.partial_codec.proofs.Answers.{shape_same, shape_itself, job_fits, shape_fits, body_fits}
 use Rattle.partial_codec.proofs.FromWire.{read_ok}
 use Rattle.partial_codec.specs.Fault.{from_wire}
@@ -68,12 +65,6 @@ cell_again shape (One body) rest fits =
     ∙ rw (number_again 1 1 (body_bytes shape body ++ rest) (omega arith), body_again shape body rest fits) refl
 cell_again shape Conflict rest fits = rw (number_again 1 2 rest (omega arith)) refl
 
--- an answer in the cell is of a form that this version knows
-abbrev is_cell_supported : Cell → Bool
-is_cell_supported Nothing = true
-is_cell_supported (One body) = is_body_supported body
-is_cell_supported Conflict = true
-
 -- what holds of nothing, of a conflict and of each body that is read holds of each cell that is read
 module _ (Holds : Cell → Type 0) (shape : Shape) (nothing : Holds Nothing) (conflict : Holds Conflict) (one : (bytes : List ℕ) (q : Body × List ℕ) → body_at shape bytes ≡ Ok q → Holds (One q.0)) where
   of_tagged : (tag : ℕ) (bytes : List ℕ) (p : Cell × List ℕ) → tagged_cell_at shape tag bytes ≡ Ok p → Holds p.0
@@ -96,13 +87,6 @@ module _ (Holds : Cell → Type 0) (shape : Shape) (nothing : Holds Nothing) (co
   of_cell bytes p e =
       let a = read_ok (number_at 1 bytes) (λ tag. tagged_cell_at shape tag.0 tag.1) p e in
       of_tagged a.0.0 a.0.1 p a.2
-
-cells_known : (shape : Shape) (n : ℕ) (bytes : List ℕ) (p : List Cell × List ℕ) → repeat_at (cell_at shape) n bytes ≡ Ok p → list_all is_cell_supported p.0 ≡ true
-cells_known shape n bytes p e = (repeat_all (cell_at shape) is_cell_supported (of_cell (λ c. is_cell_supported c ≡ true) shape refl refl (body_known shape)) n bytes p e).1
-
-cells_shaped : (plan : Plan) → IsKnownShape (shape_of plan) → (n : ℕ) (bytes : List ℕ) (p : List Cell × List ℕ) → repeat_at (cell_at (shape_of plan)) n bytes ≡ Ok p → list_all (is_cell_shaped plan) p.0 ≡ true
-cells_shaped plan known n bytes p e =
-    (repeat_all (cell_at (shape_of plan)) (is_cell_shaped plan) (of_cell (λ c. is_cell_shaped plan c ≡ true) (shape_of plan) refl refl (body_shaped plan known)) n bytes p e).1
 
 -- ---- all fields but the seal
 
@@ -145,31 +129,12 @@ layout_takes bytes p fits e =
     let two = Takes-then bytes (state_magic ++ job_text job) read.behind_job (shape_bytes l.shape) read.behind_shape one shape in
     Takes-then bytes (state_magic ++ job_text job ++ shape_bytes l.shape) read.behind_shape (flat_map (cell_bytes l.shape) l.cells) p.1 two cells.0
 
--- a cell for each fragment, and only what this version knows
-pub record IsKnownState (l : StateLayout) : Type 0 where
-  pub fragments : length l.cells ≡ length l.cut
-  shape : is_shape_known l.shape ≡ true
-  cells : list_all is_cell_supported l.cells ≡ true
-
-pub layout_known : (bytes : List ℕ) (p : StateLayout × List ℕ) → state_layout_at bytes ≡ Ok p → IsKnownState p.0
-layout_known bytes p e =
+-- a cell for each fragment
+pub layout_cells : (bytes : List ℕ) (p : StateLayout × List ℕ) → state_layout_at bytes ≡ Ok p → length p.0.cells ≡ length p.0.cut
+layout_cells bytes p e =
     let read = layout_read bytes p e in
     let l = p.0 in
-    let each = repeat_all (cell_at l.shape) (λ c. true) (λ bs q h. refl) (length l.cut) read.behind_shape (l.cells, p.1) read.cells in
-    record {
-      fragments = each.0;
-      shape = known_test l.shape (shape_known read.behind_job (l.shape, read.behind_shape) read.shape);
-      cells = cells_known l.shape (length l.cut) read.behind_shape (l.cells, p.1) read.cells;
-    }
-
-pub layout_shaped : (plan : Plan) (bytes : List ℕ) (p : StateLayout × List ℕ) → state_layout_at bytes ≡ Ok p → is_same_shape p.0.shape (shape_of plan) ≡ true → list_all (is_cell_shaped plan) p.0.cells ≡ true
-layout_shaped plan bytes p e same =
-    let read = layout_read bytes p e in
-    let l = p.0 in
-    let known = shape_known read.behind_job (l.shape, read.behind_shape) read.shape in
-    let shape = shape_same l.shape (shape_of plan) same in
-    cells_shaped plan (subst (λ (s : Shape). IsKnownShape s) shape known) (length l.cut) read.behind_shape (l.cells, p.1)
-    (subst (λ (s : Shape). repeat_at (cell_at s) (length l.cut) read.behind_shape ≡ Ok (l.cells, p.1)) shape read.cells)
+    (repeat_all (cell_at l.shape) (λ c. true) (λ bs q h. refl) (length l.cut) read.behind_shape (l.cells, p.1) read.cells).0
 
 -- a layout that has a spelling
 pub record IsStateLayout (l : StateLayout) : Type 0 where
@@ -200,50 +165,45 @@ layout_again l rest fits =
 
 -- an answer that was held against fragment k
 record IsHeldAnswer (job : JobSpec) (k : ℕ) (body : Body) : Type 0 where
-  known : is_body_supported body ≡ true
   shaped : is_shaped job.plan body ≡ true
   sorted : are_keys_ascending body ≡ true
   possible : are_numbers_possible job.plan (first_row job.cut k) (slice_index job.cut k) body ≡ true
 
-held_body : (job : JobSpec) (k : ℕ) (body : Body) → is_body_supported body ≡ true → is_shaped job.plan body ≡ true → body_held job.plan (first_row job.cut k) (slice_index job.cut k) body ≡ Ok tt → IsHeldAnswer job k body
+held_body : (job : JobSpec) (k : ℕ) (body : Body) → is_shaped job.plan body ≡ true → body_held job.plan (first_row job.cut k) (slice_index job.cut k) body ≡ Ok tt → IsHeldAnswer job k body
 unfolding body_held
-held_body job k body known shaped e =
+held_body job k body shaped e =
     let sorted = test_not (are_keys_ascending body) refusal.UnsortedGroups _ tt e in
     let possible = test_not (are_numbers_possible job.plan (first_row job.cut k) (slice_index job.cut k) body) refusal.Numbers _ tt sorted.1 in
-    record { known = known; shaped = shaped; sorted = sorted.0; possible = possible.0 }
+    record { shaped = shaped; sorted = sorted.0; possible = possible.0 }
 
-held_one : (job : JobSpec) (k : ℕ) (cell : Cell) (body : Body) → cell ≡ One body → is_cell_supported cell ≡ true → is_cell_shaped job.plan cell ≡ true → cell_held job.plan (first_row job.cut k) (slice_index job.cut k) cell ≡ Ok tt
+held_one : (job : JobSpec) (k : ℕ) (cell : Cell) (body : Body) → cell ≡ One body → is_cell_shaped job.plan cell ≡ true → cell_held job.plan (first_row job.cut k) (slice_index job.cut k) cell ≡ Ok tt
     → IsHeldAnswer job k body
-held_one job k cell body is known shaped held =
-    held_body job k body (subst (λ (c : Cell). is_cell_supported c ≡ true) is known) (subst (λ (c : Cell). is_cell_shaped job.plan c ≡ true) is shaped)
+held_one job k cell body is shaped held =
+    held_body job k body (subst (λ (c : Cell). is_cell_shaped job.plan c ≡ true) is shaped)
     (subst (λ (c : Cell). cell_held job.plan (first_row job.cut k) (slice_index job.cut k) c ≡ Ok tt) is held)
 
 no_answer : (body : Body) → Nothing ≡ One body → ⊥
 no_answer body e = absurd cc
 
 -- the answers in the cells of the fragments from j on
-held_each : (job : JobSpec) (cells : List Cell) (j k n : ℕ) (body : Body) → list_all is_cell_supported cells ≡ true → list_all (is_cell_shaped job.plan) cells ≡ true → cells_held job j cells ≡ Ok tt
+held_each : (job : JobSpec) (cells : List Cell) (j k n : ℕ) (body : Body) → list_all (is_cell_shaped job.plan) cells ≡ true → cells_held job j cells ≡ Ok tt
     → get_or cells k Nothing ≡ One body → n ≡ j + k → (k < length cells) × IsHeldAnswer job n body
 unfolding cells_held
-held_each job [] j zero n body known shaped held at is = absurd (no_answer body at)
-held_each job [] j (suc k) n body known shaped held at is = absurd (no_answer body at)
-held_each job (cell ∷ cells) j zero n body known shaped held at is =
+held_each job [] j zero n body shaped held at is = absurd (no_answer body at)
+held_each job [] j (suc k) n body shaped held at is = absurd (no_answer body at)
+held_each job (cell ∷ cells) j zero n body shaped held at is =
     let a = bind_ok (cell_held job.plan (first_row job.cut j) (slice_index job.cut j) cell) (λ held. cells_held job (suc j) cells) tt held in
-    let here = held_one job j cell body at (both (is_cell_supported cell) (list_all is_cell_supported cells) known).0 (both (is_cell_shaped job.plan cell) (list_all (is_cell_shaped job.plan) cells) shaped).0 a.1 in
+    let here = held_one job j cell body at (both (is_cell_shaped job.plan cell) (list_all (is_cell_shaped job.plan) cells) shaped).0 a.1 in
     let same : j ≡ n = omega (arith, is) in
     (omega arith, subst (λ (m : ℕ). IsHeldAnswer job m body) same here)
-held_each job (cell ∷ cells) j (suc k) n body known shaped held at is =
+held_each job (cell ∷ cells) j (suc k) n body shaped held at is =
     let a = bind_ok (cell_held job.plan (first_row job.cut j) (slice_index job.cut j) cell) (λ held. cells_held job (suc j) cells) tt held in
-    let others = held_each job cells (suc j) k n body (both (is_cell_supported cell) (list_all is_cell_supported cells) known).1 (both (is_cell_shaped job.plan cell) (list_all (is_cell_shaped job.plan) cells) shaped).1 a.2 at (omega (arith, is)) in
+    let others = held_each job cells (suc j) k n body (both (is_cell_shaped job.plan cell) (list_all (is_cell_shaped job.plan) cells) shaped).1 a.2 at (omega (arith, is)) in
     let lt = others.0 in
     (omega (arith, lt), others.1)
 
-held_fits : (job : JobSpec) (k : ℕ) (body : Body) → is_shape_known (shape_of job.plan) ≡ true → k < length job.cut → IsHeldAnswer job k body → Fits job (record { k = k; body = body })
-held_fits job k body known lt held =
-    record {
-      known = all_of _ _ known held.known;
-      fits = all_of _ _ (lt-ltb k (length job.cut) lt) (all_of _ _ held.shaped (all_of _ _ held.sorted held.possible));
-    }
+held_fits : (job : JobSpec) (k : ℕ) (body : Body) → k < length job.cut → IsHeldAnswer job k body → Fits job (record { k = k; body = body })
+held_fits job k body lt held = all_of _ _ (lt-ltb k (length job.cut) lt) (all_of _ _ held.shaped (all_of _ _ held.sorted held.possible))
 
 -- the fields that were held against the job
 record IsHeld (job : JobSpec) (l : StateLayout) (cells : List Cell) : Type 0 where
@@ -268,13 +228,13 @@ held_takes job l cells e =
     let held : IsHeld job l l.cells = record { layout = same_layout; shaped = shapes.1; held = each.1 } in
     subst (λ (cs : List Cell). IsHeld job l cs) (ok_is l.cells cells each.2) held
 
-state_fits : (job : JobSpec) (l : StateLayout) (cells : List Cell) → IsKnownState l → IsHeld job l cells → FitsState job cells
+state_fits : (job : JobSpec) (l : StateLayout) (cells : List Cell) → length l.cells ≡ length l.cut → IsHeld job l cells → FitsState job cells
 state_fits job l cells is held =
-    let known : IsKnownState (state_layout_of job cells) = subst (λ (m : StateLayout). IsKnownState m) held.layout is in
+    let fragments : length cells ≡ length job.cut = subst (λ (m : StateLayout). length m.cells ≡ length m.cut) held.layout is in
     let answers : (k : ℕ) (body : Body) → get_or cells k Nothing ≡ One body → Fits job (record { k = k; body = body }) = λ k body at.
-    let each = held_each job cells 0 k k body known.cells held.shaped held.held at (omega arith) in
-    held_fits job k body known.shape (let lt = each.0 in let same = known.fragments in omega (arith, lt, same)) each.1 in
-    record { known = known.shape; fragments = known.fragments; answers = answers }
+    let each = held_each job cells 0 k k body held.shaped held.held at (omega arith) in
+    held_fits job k body (let lt = each.0 in omega (arith, lt, fragments)) each.1 in
+    record { fragments = fragments; answers = answers }
 
 pub file_takes : (job : JobSpec) (bytes : List ℕ) (cells : List Cell) → IsBytes bytes → judged_state job bytes ≡ Ok cells → SpellsState job bytes cells
 unfolding judged_state
@@ -290,7 +250,7 @@ file_takes job bytes cells ok e =
     let sealed = seal_takes front two.0.0 two.0.1 three.0 seal.1 ended in
     let held = held_takes job one.0.0 cells three.2 in
     let whole : bytes ≡ state_bytes job cells = parts ∙ sealed ∙ ap (λ (l : StateLayout). state_layout_bytes l ++ seal_of (state_layout_bytes l)) held.layout in
-    record { fits = state_fits job one.0.0 cells (layout_known bytes one.0 one.1) held; spelled = whole }
+    record { fits = state_fits job one.0.0 cells (layout_cells bytes one.0 one.1) held; spelled = whole }
 
 -- ---- what fits and is spelled is read
 
@@ -308,7 +268,7 @@ cell_fits : (job : JobSpec) (j : ℕ) (cell : Cell) → IsJob job → ((body : B
 cell_fits job j Nothing is given = tt
 cell_fits job j (One body) is given =
     let fit = given body refl in
-    body_fits job (record { k = j; body = body }) is (both (is_shape_known (shape_of job.plan)) (is_body_supported body) fit.known).1 fit.fits
+    body_fits job (record { k = j; body = body }) is fit
 cell_fits job j Conflict is given = tt
 
 cells_fit : (job : JobSpec) (j : ℕ) (cells : List Cell) → IsJob job → EachFits job j cells → AllByRecursion (IsCell (shape_of job.plan)) cells
@@ -320,7 +280,7 @@ cell_held_again : (job : JobSpec) (j : ℕ) (cell : Cell) → ((body : Body) →
 unfolding body_held
 cell_held_again job j Nothing given = (refl, refl)
 cell_held_again job j (One body) given =
-    let k = both (nat_lt j (length job.cut)) _ (given body refl).fits in
+    let k = both (nat_lt j (length job.cut)) _ (given body refl) in
     let shaped = both (is_shaped job.plan body) _ k.1 in
     let sorted = both (are_keys_ascending body) _ shaped.1 in
     (shaped.0, rw (sorted.0, sorted.1) refl)
@@ -343,7 +303,7 @@ pub state_layout_fits : (job : JobSpec) (cells : List Cell) → IsJob job → Fi
 state_layout_fits job cells is fit =
     record {
       job = job_fits job is;
-      shape = shape_fits job is fit.known;
+      shape = shape_fits job is;
       fragments = fit.fragments;
       cells = cells_fit job 0 cells is (each_fits job cells fit);
     }

@@ -8,7 +8,7 @@ use Rattle.std.proofs.lemmas.List.{drop_all}
 use Rattle.std.proofs.lemmas.List.Elements.{recursion_from_All}
 use Rattle.std.proofs.lemmas.List.Sums.{sum_by-cons}
 use Rattle.meaning.specs.declared.answer.Group.{Group}
-use Rattle.meaning.specs.declared.answer.Cell.{Cell}
+use Rattle.meaning.specs.Said.{Cell}
 use Rattle.meaning.specs.declared.plan.Plan.{Plan}
 use Rattle.meaning.specs.Cut.{IsCut, first_row}
 use Rattle.meaning.specs.Order.{is_ascending, row_cmp}
@@ -16,7 +16,7 @@ use Rattle.meaning.specs.Limits.{max_rows}
 use Rattle.partial_codec.specs.declared.fault.DecodeFault.{DecodeFault}
 use Rattle.partial_codec.specs.Job.{JobSpec}
 use Rattle.wire.specs.Reading.{◌>>=◌}
-use Rattle.partial_codec.specs.State.{cell_held, cells_held}
+use Rattle.partial_codec.specs.Holding.{cell_held_by, cells_held_by}
 use Rattle.partial_codec.proofs.Fitting.{short_at, few_rows_before}
 
 abbrev pub is_before : Group → Group → Bool
@@ -68,27 +68,29 @@ rows_step gs i d lt = rw (drop-cons gs i d lt) (sum_by-cons (λ n. n) (get_or gs
 
 -- ---- cells
 
-pub cells_step : (job : JobSpec) (cells : List Cell) (k : ℕ) (d : Cell) → k < length cells
-    → cells_held job k (drop k cells) ≡ (cell_held job.plan (first_row job.cut k) (slice_index job.cut k) (get_or cells k d) >>= λ held. cells_held job (suc k) (drop (suc k) cells))
-unfolding cells_held
-cells_step job cells k d lt = rw (drop-cons cells k d lt) refl
+pub cells_step : (job : JobSpec) (cells : List Cell) (told : List Bool) (k : ℕ) (d : Cell) (e : Bool) → k < length cells → k < length told
+    → cells_held_by job k (drop k cells) (drop k told) ≡ (cell_held_by job.plan (first_row job.cut k) (slice_index job.cut k) (get_or cells k d) (get_or told k e) >>= λ held. cells_held_by job (suc k) (drop (suc k) cells) (drop (suc k) told))
+unfolding cells_held_by
+cells_step job cells told k d e lt flags = rw (drop-cons cells k d lt, drop-cons told k e flags) refl
 
 -- what the code holds against fragment k, whose outcome is `r`
-pub cells_after : (job : JobSpec) (cells : List Cell) (k : ℕ) (d : Cell) (plan : Plan) (first rows : ℕ) (cell : Cell) (r : Result (Unit {0}) DecodeFault) → k < length cells → plan ≡ job.plan → first ≡ first_row job.cut k → rows ≡ slice_index job.cut k
-    → cell ≡ get_or cells k d → cell_held plan first rows cell ≡ r → cells_held job k (drop k cells) ≡ (r >>= λ held. cells_held job (k + 1) (drop (k + 1) cells))
-cells_after job cells k d plan first rows cell r lt plans firsts lengths at held =
-    let same : cell_held job.plan (first_row job.cut k) (slice_index job.cut k) (get_or cells k d) ≡ r =
-    ap (λ (p : Plan). cell_held p (first_row job.cut k) (slice_index job.cut k) (get_or cells k d)) (sym plans)
-    ∙ ap (λ (n : ℕ). cell_held plan n (slice_index job.cut k) (get_or cells k d)) (sym firsts)
-    ∙ ap (λ (n : ℕ). cell_held plan first n (get_or cells k d)) (sym lengths)
-    ∙ ap (λ (c : Cell). cell_held plan first rows c) (sym at) ∙ held in
+pub cells_after : (job : JobSpec) (cells : List Cell) (told : List Bool) (k : ℕ) (d : Cell) (e : Bool) (plan : Plan) (first rows : ℕ) (cell : Cell) (possible : Bool) (r : Result (Unit {0}) DecodeFault) → k < length cells → k < length told
+    → plan ≡ job.plan → first ≡ first_row job.cut k → rows ≡ slice_index job.cut k → cell ≡ get_or cells k d → possible ≡ get_or told k e → cell_held_by plan first rows cell possible ≡ r
+    → cells_held_by job k (drop k cells) (drop k told) ≡ (r >>= λ held. cells_held_by job (k + 1) (drop (k + 1) cells) (drop (k + 1) told))
+cells_after job cells told k d e plan first rows cell possible r lt flags plans firsts lengths at flag held =
+    let same : cell_held_by job.plan (first_row job.cut k) (slice_index job.cut k) (get_or cells k d) (get_or told k e) ≡ r =
+    ap (λ (p : Plan). cell_held_by p (first_row job.cut k) (slice_index job.cut k) (get_or cells k d) (get_or told k e)) (sym plans)
+    ∙ ap (λ (n : ℕ). cell_held_by plan n (slice_index job.cut k) (get_or cells k d) (get_or told k e)) (sym firsts)
+    ∙ ap (λ (n : ℕ). cell_held_by plan first n (get_or cells k d) (get_or told k e)) (sym lengths)
+    ∙ ap (λ (c : Cell). cell_held_by plan first rows c (get_or told k e)) (sym at)
+    ∙ ap (λ (b : Bool). cell_held_by plan first rows cell b) (sym flag) ∙ held in
     let next : suc k ≡ k + 1 = omega arith in
-    cells_step job cells k d lt ∙ ap (λ (x : Result (Unit {0}) DecodeFault). x >>= λ held. cells_held job (suc k) (drop (suc k) cells)) same
-    ∙ ap (λ (n : ℕ). r >>= λ held. cells_held job n (drop n cells)) next
+    cells_step job cells told k d e lt flags ∙ ap (λ (x : Result (Unit {0}) DecodeFault). x >>= λ held. cells_held_by job (suc k) (drop (suc k) cells) (drop (suc k) told)) same
+    ∙ ap (λ (n : ℕ). r >>= λ held. cells_held_by job n (drop n cells) (drop n told)) next
 
-pub cells_end : (job : JobSpec) (cells : List Cell) (k : ℕ) → length cells ≤ k → cells_held job k (drop k cells) ≡ Ok tt
-unfolding cells_held
-cells_end job cells k le = rw (drop_all k cells le) refl
+pub cells_end : (job : JobSpec) (cells : List Cell) (told : List Bool) (k : ℕ) → length cells ≤ k → cells_held_by job k (drop k cells) (drop k told) ≡ Ok tt
+unfolding cells_held_by
+cells_end job cells told k le = rw (drop_all k cells le) refl
 
 first_step : (cut : List ℕ) (k : ℕ) → k < length cut → first_row cut (suc k) ≡ first_row cut k + slice_index cut k
 first_step [] k lt = absurd (omega arith)

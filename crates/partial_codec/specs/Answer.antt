@@ -1,9 +1,6 @@
 -- Which bytes are an answer for a job, and what is wrong first with others.
-use Rattle.std.specs.Prelude.{◌≡◌, ℕ, ◌==◌, nat_lt, Bool, true, ◌&&◌, not, if◌then◌else◌, List, length, slice_index, Option, Some, None, Result, Ok, Err}
-use Rattle.std.specs.List.{list_all}
-use Rattle.meaning.specs.declared.answer.Body.{Body}
-use Rattle.meaning.specs.declared.answer.Body.TheVariants.{Groups, Fault}
-use Rattle.meaning.specs.declared.answer.Answer.{Answer}
+use Rattle.std.specs.Prelude.{◌≡◌, ℕ, ◌==◌, nat_lt, true, ◌&&◌, not, if◌then◌else◌, List, length, slice_index, Option, Some, None, Result, Ok, Err}
+use Rattle.meaning.specs.Said.{Answer}
 use Rattle.meaning.specs.Cut.{first_row}
 use Rattle.meaning.specs.Fitting.{is_shaped, are_keys_ascending, are_numbers_possible, fits}
 use Rattle.partial_codec.specs.declared.fault.DecodeFault.{DecodeFault}
@@ -11,30 +8,15 @@ use Rattle.partial_codec.specs.declared.fault.DecodeFault.TheVariants.{OtherLoad
 use Rattle.wire.specs.Reading.{◌>>=◌, bytes_at, same_bytes, sealed_end}
 use Rattle.partial_codec.specs.Job.{JobSpec}
 use Rattle.partial_codec.specs.Shape as shapes
-use Rattle.partial_codec.specs.Supported.{is_supported, keys, aggregates, kind, fault}
 use Rattle.partial_codec.specs.Spelling.{Layout, answer_bytes}
 use Rattle.partial_codec.specs.LayoutReading.{layout_at}
 use Rattle.partial_codec.specs.Fault.{from_wire}
 
 -- ---- what is spelled
 
-abbrev pub is_body_supported : Body → Bool
-is_body_supported (Fault f) = is_supported fault
-is_body_supported (Groups gs) = true
-
--- this version knows the shape
-abbrev pub is_shape_known : shapes.Shape → Bool
-is_shape_known shape =
-    is_supported (keys (length shape.keys)) && (is_supported (aggregates (length shape.aggregates)) && list_all (λ a. is_supported (kind a.kind)) shape.aggregates)
-
--- this version knows the shape and the form of the body
-abbrev pub is_known : shapes.Shape → Body → Bool
-is_known shape body = is_shape_known shape && is_body_supported body
-
 -- an answer that fits the job: a fragment of its cut, with groups of the plan's shape, ascending, and with possible numbers
-pub record Fits (job : JobSpec) (a : Answer) : Type 0 where
-  pub known : is_known (shapes.shape_of job.plan) a.body ≡ true
-  pub fits : fits job.plan job.cut a ≡ true
+abbrev pub Fits : JobSpec → Answer → Type 0
+Fits job a = fits job.plan job.cut a ≡ true
 
 -- the bytes are the spelling of an answer that fits the job
 pub record Spells (job : JobSpec) (bytes : List ℕ) (a : Answer) : Type 0 where

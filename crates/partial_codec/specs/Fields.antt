@@ -1,36 +1,48 @@
 -- What the code's readers hold, as a layout.
-use Rattle.std.specs.Prelude.{List, [], ◌∷◌}
-use Rattle.meaning.specs.declared.answer.Answer.{Answer}
-use Rattle.meaning.specs.declared.answer.Cell.{Cell}
-use Rattle.meaning.specs.declared.answer.Body.TheVariants.{Groups}
-use Rattle.meaning.specs.declared.plan.Aggregate.{Aggregate}
-use Rattle.partial_codec.specs.declared.shape.AggregateShape.{AggregateShape}
+use Rattle.std.specs.Prelude.{◌≡◌, ◌*◌, ℕ, zero, suc, List, [], ◌∷◌, drop, length, map, Ok}
+use Rattle.meaning.specs.Said.{Body}
+use Rattle.byteorder.specs.Endian.{little_number}
+use Rattle.partial_codec.specs.declared.shape.Shape.{Shape as Held}
 use Rattle.partial_codec.specs.declared.fields.JobFields.{JobFields}
 use Rattle.partial_codec.specs.declared.fields.Layout.{Layout}
 use Rattle.partial_codec.specs.declared.state_fields.StateLayout.{StateLayout}
-use Rattle.partial_codec.specs.Shape.{Shape, shape_of_aggregate}
-use Rattle.partial_codec.specs.Job.{JobSpec}
+use Rattle.partial_codec.specs.Shape.{Shape}
+use Rattle.partial_codec.specs.Keeping.{kept_body, are_sums_possible, kept_cell, is_cell_possible}
 use Rattle.partial_codec.specs.Spelling as spec
 use Rattle.partial_codec.specs.LayoutReading as reading
 use Rattle.partial_codec.specs.State as state
 
--- the shape of one aggregate without keys
-abbrev pub one_aggregate : AggregateShape → Shape
-one_aggregate a = record { keys = []; aggregates = a ∷ [] }
+abbrev pub shape_in : Held → Shape
+shape_in shape = record { keys = shape.keys.items; aggregates = shape.aggregates.items }
 
-abbrev pub job_in : JobFields → reading.JobFields
-job_in job = record { load = job.load; text = job.text.now; cut = job.cut.items }
+-- so many numbers of four bytes
+abbrev pub words : ℕ → List ℕ → List ℕ
+words zero bytes = []
+words (suc n) bytes = little_number 4 bytes ∷ words n (drop 4 bytes)
 
-abbrev pub layout_in : Layout → spec.Layout
-layout_in l = record { load = l.job.load; text = l.job.text.now; cut = l.job.cut.items; k = l.k; shape = one_aggregate l.aggregate; body = Groups l.groups.items }
+-- a body that was read by the shape
+abbrev pub WasRead : Shape → Body → Type 0
+WasRead shape body = (bytes rest : List ℕ) × (reading.body_at shape bytes ≡ Ok (body, rest))
 
--- what the answer of a job with one aggregate is laid out from
-abbrev pub answer_layout : JobSpec → Aggregate → Answer → spec.Layout
-answer_layout job only a = record { load = job.load; text = job.plan.text; cut = job.cut; k = a.k; shape = one_aggregate (shape_of_aggregate only); body = a.body }
+-- the fields that tell the job: the cut's lengths stand in their bytes
+pub record AreJobFields (job : JobFields) (read : reading.JobFields) : Type 0 where
+  pub load : job.load ≡ read.load
+  pub text : job.text.now ≡ read.text
+  pub count : job.fragments ≡ length read.cut
+  pub bytes : length job.cut.now ≡ job.fragments * 4
+  pub cut : words job.fragments job.cut.now ≡ read.cut
 
-abbrev pub state_layout_in : StateLayout → state.StateLayout
-state_layout_in l = record { load = l.job.load; text = l.job.text.now; cut = l.job.cut.items; shape = one_aggregate l.aggregate; cells = l.cells.items }
+-- the fields of an answer, of whose sums the impossible ones are told
+pub record IsLayout (layout : Layout) (read : spec.Layout) : Type 0 where
+  pub job : AreJobFields layout.job (record { load = read.load; text = read.text; cut = read.cut })
+  pub k : layout.k ≡ read.k
+  pub shape : shape_in layout.shape ≡ read.shape
+  pub body : layout.body ≡ kept_body read.body
+  pub possible : layout.are_sums_possible ≡ are_sums_possible read.body
 
--- what the cells of a job with one aggregate are laid out from
-abbrev pub state_layout : JobSpec → Aggregate → List Cell → state.StateLayout
-state_layout job only cells = record { load = job.load; text = job.plan.text; cut = job.cut; shape = one_aggregate (shape_of_aggregate only); cells = cells }
+-- the fields of a state
+pub record IsStateLayout (layout : StateLayout) (read : state.StateLayout) : Type 0 where
+  pub job : AreJobFields layout.job (record { load = read.load; text = read.text; cut = read.cut })
+  pub shape : shape_in layout.shape ≡ read.shape
+  pub cells : layout.cells.items ≡ map kept_cell read.cells
+  pub possible : layout.are_possible.items ≡ map is_cell_possible read.cells

@@ -8,7 +8,7 @@ use Rattle.meaning.specs.declared.plan.AggregateKind.{AggregateKind}
 use Rattle.meaning.specs.declared.plan.AggregateKind.TheVariants.{CountRows, Count, Sum, Min, Max, Avg}
 use Rattle.meaning.specs.declared.answer.Statistics.{Statistics}
 use Rattle.meaning.specs.declared.answer.Group.{Group}
-use Rattle.meaning.specs.declared.answer.Body.{Body}
+use Rattle.meaning.specs.Said.{Body}
 use Rattle.meaning.specs.declared.answer.Body.TheVariants.{Groups, Fault}
 use Rattle.meaning.specs.Aggregate.{no_statistics}
 use Rattle.partial_codec.specs.declared.shape.AggregateShape.{AggregateShape}
@@ -17,8 +17,6 @@ use Rattle.partial_codec.specs.declared.fault.DecodeFault.TheVariants.{Magic}
 use Rattle.partial_codec.specs.declared.fault.DecodeFault.TheVariants as fault
 use Rattle.wire.specs.Reading.{◌>>=◌, Read, number_at, text_at, repeat_at, i64_at, i128_at, behind_magic}
 use Rattle.partial_codec.specs.Shape.{Shape}
-use Rattle.partial_codec.specs.Supported.{if_supported}
-use Rattle.partial_codec.specs.Supported as feature
 use Rattle.partial_codec.specs.Spelling.{Layout, answer_magic}
 use Rattle.partial_codec.specs.Fault.{from_wire}
 
@@ -100,7 +98,7 @@ fault_at bytes = do
 -- a fault behind a 0, groups behind a 1
 unfoldable pub tagged_body_at : Shape → ℕ → List ℕ → Read DecodeFault Body
 tagged_body_at shape tag bytes =
-    if tag == 0 then if_supported feature.fault (fault_at bytes)
+    if tag == 0 then fault_at bytes
     else if tag == 1 then groups_at shape bytes
     else Err fault.Shape
 
@@ -125,9 +123,6 @@ kind_of n =
     if n == 1 then Ok CountRows else if n == 2 then Ok Count else if n == 3 then Ok Sum
     else if n == 4 then Ok Min else if n == 5 then Ok Max else if n == 6 then Ok Avg else Err fault.Shape
 
-abbrev pub known_kind : ℕ → Result AggregateKind DecodeFault
-known_kind n = kind_of n >>= λ kind. if_supported (feature.kind kind) (Ok kind)
-
 -- 0 is the only type for COUNT(*), and for it alone
 abbrev pub argument_from : AggregateKind → ℕ → Result (Option ColType) DecodeFault
 argument_from CountRows n = if n == 0 then Ok None else Err fault.Shape
@@ -142,15 +137,15 @@ argument_at kind bytes = do
 unfoldable pub aggregate_at : List ℕ → Read DecodeFault AggregateShape
 aggregate_at bytes = do
   n ← from_wire (number_at 1 bytes)
-  kind ← known_kind n.0
+  kind ← kind_of n.0
   argument_at kind n.1
 
 unfoldable pub shape_at : List ℕ → Read DecodeFault Shape
 shape_at bytes = do
   n ← from_wire (number_at 2 bytes)
-  keys ← if_supported (feature.keys n.0) (repeat_at type_at n.0 n.1)
+  keys ← repeat_at type_at n.0 n.1
   m ← from_wire (number_at 2 keys.1)
-  aggregates ← if_supported (feature.aggregates m.0) (repeat_at aggregate_at m.0 m.1)
+  aggregates ← repeat_at aggregate_at m.0 m.1
   Ok (record { keys = keys.0; aggregates = aggregates.0 }, aggregates.1)
 
 -- ---- the whole

@@ -2,10 +2,11 @@
 pub mod Fault
 pub mod Job
 pub mod Shape
-pub mod Supported
 pub mod Spelling
 pub mod Ranges
 pub mod LayoutReading
 pub mod Answer
 pub mod State
+pub mod Keeping
 pub mod Fields
+pub mod Holding

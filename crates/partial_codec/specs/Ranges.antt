@@ -1,5 +1,5 @@
 -- What has a spelling: numbers and texts that their fields can hold.
-use Rattle.std.specs.Prelude.{◌≡◌, ◌<◌, ◌^◌, true, List, [], ◌∷◌, length, Option, Some, None, FitsSigned}
+use Rattle.std.specs.Prelude.{◌≡◌, ◌<◌, ◌^◌, List, [], ◌∷◌, length, Option, Some, None, FitsSigned}
 use Rattle.std.specs.List.{AllByRecursion}
 use Rattle.std.specs.Int.{w64, w128}
 use Rattle.meaning.specs.declared.value.Value.{Value}
@@ -7,14 +7,13 @@ use Rattle.meaning.specs.declared.value.Value.TheVariants.{Null, Int, Text}
 use Rattle.meaning.specs.declared.plan.AggregateKind.{AggregateKind}
 use Rattle.meaning.specs.declared.answer.Statistics.{Statistics}
 use Rattle.meaning.specs.declared.answer.Group.{Group}
-use Rattle.meaning.specs.declared.answer.Body.{Body}
+use Rattle.meaning.specs.Said.{Body}
 use Rattle.meaning.specs.declared.answer.Body.TheVariants.{Groups, Fault}
-use Rattle.meaning.specs.declared.answer.Cell.{Cell}
+use Rattle.meaning.specs.Said.{Cell}
 use Rattle.meaning.specs.declared.answer.Cell.TheVariants.{Nothing, One, Conflict}
 use Rattle.meaning.specs.Aggregate.{kept_by}
 use Rattle.partial_codec.specs.declared.shape.AggregateShape.{AggregateShape}
 use Rattle.partial_codec.specs.Shape.{Shape}
-use Rattle.partial_codec.specs.Supported.{is_supported, fault}
 use Rattle.wire.specs.Bytes.{IsText}
 
 abbrev pub IsValue : Value → Type 0
@@ -53,7 +52,7 @@ pub record IsGroup (shape : Shape) (g : Group) : Type 0 where
 
 -- a body of the shape
 abbrev pub IsBody : Shape → Body → Type 0
-IsBody shape (Fault f) = (is_supported fault ≡ true) × (f.row < 2 ^ 64) × (f.code < 256)
+IsBody shape (Fault f) = (f.row < 2 ^ 64) × (f.code < 256)
 IsBody shape (Groups gs) = (length gs < 2 ^ 32) × AllByRecursion (IsGroup shape) gs
 
 -- an answer in the cell has a body of the shape

@@ -1,8 +1,8 @@
 -- What a coordinator holds for a job as bytes: the spelling of its cells, how they are read, and what is wrong first with other bytes.
 use Rattle.std.specs.Prelude.{◌≡◌, ℕ, suc, ◌==◌, Bool, true, ◌&&◌, not, if◌then◌else◌, List, [], ◌∷◌, ◌++◌, length, get_or, slice_index, Option, Result, Ok, Err}
 use Rattle.std.specs.List.{flat_map, list_all}
-use Rattle.meaning.specs.declared.answer.Body.{Body}
-use Rattle.meaning.specs.declared.answer.Cell.{Cell}
+use Rattle.meaning.specs.Said.{Body}
+use Rattle.meaning.specs.Said.{Cell}
 use Rattle.meaning.specs.declared.answer.Cell.TheVariants.{Nothing, One, Conflict}
 use Rattle.meaning.specs.declared.plan.Plan.{Plan}
 use Rattle.meaning.specs.Cut.{first_row}
@@ -15,7 +15,7 @@ use Rattle.partial_codec.specs.Shape.{Shape, shape_of, is_same_shape}
 use Rattle.wire.specs.Bytes.{number_bytes, sealed}
 use Rattle.partial_codec.specs.Spelling.{body_bytes, job_bytes, shape_bytes}
 use Rattle.partial_codec.specs.LayoutReading.{body_at, shape_at, job_at}
-use Rattle.partial_codec.specs.Answer.{is_shape_known, Fits, fault_in}
+use Rattle.partial_codec.specs.Answer.{Fits, fault_in}
 use Rattle.partial_codec.specs.Fault.{from_wire}
 
 -- ---- what is spelled
@@ -50,9 +50,8 @@ state_layout_of job cells = record { load = job.load; text = job.plan.text; cut 
 abbrev pub state_bytes : JobSpec → List Cell → List ℕ
 state_bytes job cells = sealed (state_layout_bytes (state_layout_of job cells))
 
--- a cell for each fragment of the cut, each answer among them one that fits the job; this version knows the plan's shape
+-- a cell for each fragment of the cut, each answer among them one that fits the job
 pub record FitsState (job : JobSpec) (cells : List Cell) : Type 0 where
-  pub known : is_shape_known (shape_of job.plan) ≡ true
   pub fragments : length cells ≡ length job.cut
   pub answers : (k : ℕ) (body : Body) → get_or cells k Nothing ≡ One body → Fits job (record { k = k; body = body })
 

@@ -1,45 +1,179 @@
 //! What was read, held against the job.
-ghost use Rattle.std.specs.Prelude.{◌≡◌, ◌<◌, ◌^◌, ℕ, ℤ, pos, ◌*ℤ◌, int_le, ◌&&◌, ◌==◌, nat_le, length, map, sum, slice_index, true, not, nat_lt};
-ghost use Rattle.meaning.specs.Cut.{first_row};
-ghost use Rattle.wire.specs.Reading.{same_bytes, Reads};
-ghost use Rattle.std.specs.List.{list_all};
+ghost use Rattle.std.specs.Prelude.{◌≡◌, ◌<◌, ◌*◌, ◌&&◌, ◌==◌, ℕ, nat_le, nat_lt, length, map, sum, not, is_some, true};
 ghost use Rattle.std.specs.Cmp.Lexicographic.{pointwise};
+ghost use Rattle.std.specs.List.{list_all};
 ghost use Rattle.std.specs.Ordering.{is_lt};
-ghost use Rattle.meaning.specs.declared.answer.Body.TheVariants.{Groups};
-ghost use Rattle.meaning.specs.Order.{is_ascending, row_cmp};
+ghost use Rattle.accumulators.specs.Values.{entry, is_spelled};
 ghost use Rattle.meaning.specs.Fitting as fitting;
 ghost use Rattle.meaning.specs.Group.{certain_keys};
-ghost use Rattle.partial_codec.specs.Answer.{held_against};
-ghost use Rattle.partial_codec.specs.Fields.{layout_in, one_aggregate};
-ghost use Rattle.partial_codec.specs.Shape.{is_same_shape, shape_of};
+ghost use Rattle.meaning.specs.declared.answer.Body.TheVariants.{Groups};
+ghost use Rattle.meaning.specs.declared.value.Value.TheVariants.{Int, Text};
+ghost use Rattle.std.specs.Str.{is_utf8};
+ghost use Rattle.meaning.specs.Order.{is_ascending, row_cmp, value_in};
+ghost use Rattle.meaning.specs.Typing as typing;
+ghost use Rattle.partial_codec.specs.Fields.{words};
+ghost use Rattle.partial_codec.specs.Keeping as keeping;
+ghost use Rattle.partial_codec.specs.Shape.{type_code};
+ghost use Rattle.wire.specs.Reading.{same_bytes};
 
-use crate::fault::DecodeFault;
-use crate::fields::Layout;
+use crate::fields::JobFields;
 use crate::job::Job;
-use crate::shape::{AggregateShape, is_same_aggregate, shape_of_aggregate};
-use meaning::answer::{Answer, Body, Group, Statistics};
-use meaning::plan::{Aggregate, AggregateKind, Plan};
-use meaning::sequence::Sequence;
-use std::mem::drop;
+use accumulators::{Group, State};
+use byteorder::{ByteOrder, LittleEndian};
+use meaning::answer::{Body, RowFault};
+use meaning::limits::MAX_TEXT_BYTES;
+use meaning::plan::{Aggregate, AggregateKind, GroupingKey, Plan};
+use meaning::value::{ColType, Value, ValueRef};
 
-/// Whether the plan has no keys, and just this aggregate.
-fn has_shape(plan: &Plan, aggregate: AggregateShape) -> bool
-    ensures { result ≡ is_same_shape (one_aggregate aggregate) (shape_of plan.now) }
+// ---- the job
+
+pub fn is_query_of(job: &Job, text: &str) -> bool
+    ensures { result ≡ same_bytes text.now job.now.plan.text }
 {
-    match (plan.keys.as_slice(), plan.aggs.as_slice()) {
-        ([], [only]) => is_same_aggregate(aggregate, shape_of_aggregate(only)),
-        _ => false,
+    text == job.plan().text.as_str()
+}
+
+/// Whether these are the lengths, in four bytes each.
+fn are_words_of(lengths: &[u32], bytes: &[u8]) -> bool
+    requires { length bytes.now ≡ length lengths.now * 4 }
+    ensures { result ≡ same_bytes (words (length lengths.now) bytes.now) lengths.now }
+{
+    let mut rest = bytes;
+    for length in lengths {
+        let (word, behind) = rest.split_at(4);
+        if LittleEndian::read_u32(word) != *length {
+            return false;
+        }
+        rest = behind;
+    }
+    true
+}
+
+/// Whether these are the job's fragments, and their lengths.
+pub fn is_cut_of(job: &Job, fields: &JobFields<'_>) -> bool
+    requires { length fields.now.cut.now ≡ fields.now.fragments * 4 }
+    ensures { result ≡ same_bytes (words fields.now.fragments fields.now.cut.now) job.now.cut }
+{
+    let lengths = job.cut().lengths();
+    if fields.fragments as usize != lengths.len() {
+        return false;
+    }
+    are_words_of(lengths, fields.cut)
+}
+
+// ---- types
+
+fn is_integer_type(col_type: ColType) -> bool
+    ensures { result ≡ (type_code col_type == 1) }
+{
+    match col_type {
+        ColType::Int => true,
+        ColType::Text => false,
     }
 }
+
+fn is_integer_of(col_type: ColType, int: i64) -> bool
+    ensures { result ≡ typing.is_of_type col_type (Int int) }
+{
+    is_integer_type(col_type)
+}
+
+fn is_text_of(col_type: ColType, text: &[u8]) -> bool
+    requires { is_utf8 text.now ≡ true }
+    ensures { result ≡ typing.is_of_type col_type (Text text.now) }
+{
+    !is_integer_type(col_type) && text.len() <= MAX_TEXT_BYTES
+}
+
+fn is_of_type(col_type: ColType, value: &Value) -> bool
+    ensures { result ≡ typing.is_of_type col_type value.now }
+{
+    match value {
+        Value::Null => true,
+        Value::Int(int) => is_integer_of(col_type, *int),
+        Value::Text(text) => is_text_of(col_type, text.as_str().as_bytes()),
+    }
+}
+
+/// Whether a least or a greatest value has the type.
+fn is_extreme(col_type: ColType, value: ValueRef<'_>) -> bool
+    requires { is_spelled (value_in value) ≡ true }
+    ensures { result ≡ fitting.is_extreme col_type (entry (value_in value.entry)) }
+{
+    match value {
+        ValueRef::Null => true,
+        ValueRef::Int(int) => is_integer_of(col_type, int),
+        ValueRef::Text(text) => is_text_of(col_type, text),
+    }
+}
+
+fn is_typed_state(aggregate: &Aggregate, state: &State) -> bool
+    ensures { result ≡ keeping.is_typed_state aggregate.now state.now }
+{
+    is_extreme(aggregate.col_type, state.least())
+        && is_extreme(aggregate.col_type, state.greatest())
+}
+
+fn are_typed_states(aggregates: &[Aggregate], states: &[State]) -> bool
+    ensures { result ≡ pointwise keeping.is_typed_state aggregates.now states.now }
+{
+    if aggregates.len() != states.len() {
+        return false;
+    }
+    for i in 0..aggregates.len() {
+        if !is_typed_state(&aggregates[i], &states[i]) {
+            return false;
+        }
+    }
+    true
+}
+
+fn is_key_of(keys: &[GroupingKey], values: &[Value]) -> bool
+    ensures { result ≡ pointwise (λ k v. typing.is_of_type k.col_type v) keys.now values.now }
+{
+    if keys.len() != values.len() {
+        return false;
+    }
+    for i in 0..keys.len() {
+        if !is_of_type(keys[i].col_type, &values[i]) {
+            return false;
+        }
+    }
+    true
+}
+
+fn is_typed_group(plan: &Plan, group: &Group) -> bool
+    ensures { result ≡ keeping.is_typed_group plan.now group.now }
+{
+    is_key_of(plan.keys.as_slice(), group.key().as_slice())
+        && are_typed_states(plan.aggs.as_slice(), group.states())
+}
+
+fn are_groups_typed(plan: &Plan, groups: &[Group]) -> bool
+    ensures { result ≡ list_all (keeping.is_typed_group plan.now) groups.now }
+{
+    groups.iter().all(|group| is_typed_group(plan, group))
+}
+
+/// Whether the keys and the least and greatest values of groups have their types.
+pub fn is_typed(plan: &Plan, body: &Body<Group>) -> bool
+    ensures { result ≡ keeping.is_typed plan.now body.now }
+{
+    match body {
+        Body::Groups(groups) => are_groups_typed(plan, groups.as_slice()),
+        Body::Fault(_) => true,
+    }
+}
+
+// ---- order
 
 fn is_before(a: &Group, b: &Group) -> bool
     ensures { result ≡ is_lt (row_cmp a.now.key b.now.key) }
 {
-    a.key.as_slice().cmp(b.key.as_slice()).is_lt()
+    a.key().as_slice().cmp(b.key().as_slice()).is_lt()
 }
 
-/// Whether each key is less than the next.
-pub fn are_keys_ascending(groups: &[Group]) -> bool
+fn are_ascending(groups: &[Group]) -> bool
     ensures { result ≡ is_ascending row_cmp (map (λ g. g.key) groups.now) }
 {
     for i in 1..groups.len() {
@@ -50,27 +184,35 @@ pub fn are_keys_ascending(groups: &[Group]) -> bool
     true
 }
 
-/// Whether n integers of 64 bits can have this sum.
-fn is_sum_of(n: u64, sum: i128) -> bool
-    ensures { result ≡ fitting.is_sum_of n sum }
+/// Whether each key is less than the next.
+pub fn are_keys_ascending(body: &Body<Group>) -> bool
+    ensures { result ≡ fitting.are_keys_ascending body.now }
 {
-    let n = i128::from(n);
-    n * i128::from(i64::MIN) <= sum && sum <= n * i128::from(i64::MAX)
+    match body {
+        Body::Groups(groups) => are_ascending(groups.as_slice()),
+        Body::Fault(_) => true,
+    }
 }
 
+// ---- numbers
+
 /// Whether the aggregate can have this state in a group of so many rows.
-fn is_possible(kind: AggregateKind, rows: u64, state: &Statistics) -> bool
+fn is_possible(kind: AggregateKind, rows: u64, state: &State) -> bool
     ensures { result ≡ fitting.is_possible kind rows state.now }
 {
+    let count = state.count();
     match kind {
-        AggregateKind::CountRows => state.count == rows,
-        AggregateKind::Count => state.count <= rows,
-        AggregateKind::Sum | AggregateKind::Avg => {
-            state.count <= rows && is_sum_of(state.count, state.sum)
-        }
-        AggregateKind::Min => state.count <= rows && state.least.is_some() == (state.count > 0),
-        AggregateKind::Max => state.count <= rows && state.greatest.is_some() == (state.count > 0),
+        AggregateKind::CountRows => count == rows,
+        AggregateKind::Count | AggregateKind::Sum | AggregateKind::Avg => count <= rows,
+        AggregateKind::Min => count <= rows && is_there(state.least()) == (count > 0),
+        AggregateKind::Max => count <= rows && is_there(state.greatest()) == (count > 0),
     }
+}
+
+fn is_there(value: ValueRef<'_>) -> bool
+    ensures { result ≡ is_some (entry (value_in value.entry)) }
+{
+    !matches!(value, ValueRef::Null)
 }
 
 /// Whether the groups have no more rows together.
@@ -79,10 +221,10 @@ fn are_rows_within(groups: &[Group], limit: u64) -> bool
 {
     let mut total: u64 = 0;
     for group in groups {
-        if group.rows > limit - total {
+        if group.rows() > limit - total {
             return false;
         }
-        total += group.rows;
+        total += group.rows();
     }
     true
 }
@@ -97,7 +239,7 @@ fn has_certain_group(plan: &Plan) -> bool
 fn have_rows(groups: &[Group]) -> bool
     ensures { result ≡ list_all (λ g. nat_le 1 g.rows) groups.now }
 {
-    groups.iter().all(|group| group.rows >= 1)
+    groups.iter().all(|group| group.rows() >= 1)
 }
 
 /// Whether each group has a row, or there is the one group of a grouped query without keys.
@@ -111,16 +253,15 @@ fn are_rows_possible(plan: &Plan, groups: &[Group]) -> bool
     }
 }
 
-/// Whether each aggregate can have its state in the group.
-fn is_group_possible(aggregates: &[Aggregate], group: &Group) -> bool
-    ensures { result ≡ pointwise (λ a s. fitting.is_possible a.kind group.now.rows s) aggregates.now group.now.states }
+/// Whether each aggregate can have its state in a group of so many rows.
+fn are_states_possible(aggregates: &[Aggregate], rows: u64, states: &[State]) -> bool
+    ensures { result ≡ pointwise (λ a s. fitting.is_possible a.kind rows s) aggregates.now states.now }
 {
-    let states = group.states.as_slice();
     if aggregates.len() != states.len() {
         return false;
     }
     for i in 0..aggregates.len() {
-        if !is_possible(aggregates[i].kind, group.rows, &states[i]) {
+        if !is_possible(aggregates[i].kind, rows, &states[i]) {
             return false;
         }
     }
@@ -131,13 +272,11 @@ fn are_groups_possible(plan: &Plan, groups: &[Group]) -> bool
     ensures { result ≡ list_all (fitting.is_group_possible plan.now) groups.now }
 {
     let aggregates = plan.aggs.as_slice();
-    groups
-        .iter()
-        .all(|group| is_group_possible(aggregates, group))
+    groups.iter().all(|group| are_states_possible(aggregates, group.rows(), group.states()))
 }
 
 /// Whether so many rows can give the groups' numbers.
-pub fn are_numbers_possible(plan: &Plan, rows: u64, groups: &[Group]) -> bool
+fn can_rows_give(plan: &Plan, rows: u64, groups: &[Group]) -> bool
     ensures { (first : ℕ) → result ≡ fitting.are_numbers_possible plan.now first rows (Groups groups.now) }
 {
     if !are_rows_within(groups, rows) {
@@ -149,80 +288,19 @@ pub fn are_numbers_possible(plan: &Plan, rows: u64, groups: &[Group]) -> bool
     are_groups_possible(plan, groups)
 }
 
-/// Whether the groups' numbers are such as the fragment's rows can give.
-fn are_numbers_of_fragment(job: &Job, k: u32, groups: &[Group]) -> bool
-    requires { k < length job.now.cut }
-    ensures { result ≡ fitting.are_numbers_possible job.now.plan (first_row job.now.cut k) (slice_index job.now.cut k) (Groups groups.now) }
+/// Whether one of so many rows, numbered from `first`, can have the fault.
+fn is_fault_possible(first: u64, rows: u64, fault: RowFault) -> bool
+    ensures { result ≡ fitting.is_fault_possible first rows fault }
 {
-    let lengths = job.cut().lengths();
-    are_numbers_possible(job.plan(), u64::from(lengths[k as usize]), groups)
+    (fault.code == 1 || fault.code == 2) && first <= fault.row && fault.row - first < rows
 }
 
-pub fn is_query_of(job: &Job, text: &str) -> bool
-    ensures { result ≡ same_bytes text.now job.now.plan.text }
+/// Whether so many rows, numbered from `first`, can give the numbers.
+pub fn are_numbers_possible(plan: &Plan, first: u64, rows: u64, body: &Body<Group>) -> bool
+    ensures { result ≡ fitting.are_numbers_possible plan.now first rows body.now }
 {
-    text == job.plan().text.as_str()
-}
-
-/// Whether the cut is the job's, and has a fragment `k`.
-fn is_fragment_of(job: &Job, cut: &[u32], k: u32) -> bool
-    ensures { result ≡ (same_bytes cut.now job.now.cut && nat_lt k (length job.now.cut)) }
-{
-    let lengths = job.cut().lengths();
-    cut == lengths && (k as usize) < lengths.len()
-}
-
-pub fn is_shape_of(job: &Job, aggregate: AggregateShape) -> bool
-    ensures { result ≡ is_same_shape (one_aggregate aggregate) (shape_of job.now.plan) }
-{
-    has_shape(job.plan(), aggregate)
-}
-
-/// The first thing in which the fields are not those of an answer for the job.
-#[tactic(auto, unfolding(crate::specs::Answer::held_against))]
-fn check_layout(job: &Job, layout: &Layout<'_>) -> Result<(), DecodeFault>
-    // What was read by the plan's shape has its types.
-    requires { is_same_shape (one_aggregate layout.now.aggregate) (shape_of job.now.plan) ≡ true
-        → fitting.is_shaped job.now.plan (Groups layout.now.groups.items) ≡ true }
-    ensures { Reads (λ _. record { k = layout.now.k; body = Groups layout.now.groups.items }) result (held_against job.now (layout_in layout.now)) }
-{
-    if layout.job.load != job.load() {
-        return Err(DecodeFault::OtherLoad);
-    }
-    if !is_query_of(job, layout.job.text) {
-        return Err(DecodeFault::OtherQuery);
-    }
-    if !is_fragment_of(job, &layout.job.cut, layout.k) {
-        return Err(DecodeFault::OtherCut);
-    }
-    if !is_shape_of(job, layout.aggregate) {
-        return Err(DecodeFault::Shape);
-    }
-    if !are_keys_ascending(&layout.groups) {
-        return Err(DecodeFault::UnsortedGroups);
-    }
-    if !are_numbers_of_fragment(job, layout.k, &layout.groups) {
-        return Err(DecodeFault::Numbers);
-    }
-    Ok(())
-}
-
-/// The answer, where the fields are those of one for the job.
-pub fn hold_against(job: &Job, layout: Layout<'_>) -> Result<Answer, DecodeFault>
-    // What was read by the plan's shape has its types.
-    requires { is_same_shape (one_aggregate layout.aggregate) (shape_of job.now.plan) ≡ true
-        → fitting.is_shaped job.now.plan (Groups layout.groups.items) ≡ true }
-    ensures { Reads (λ a. a) result (held_against job.now (layout_in layout.entry)) }
-{
-    match check_layout(job, &layout) {
-        Ok(()) => {
-            let Layout { k, groups, .. } = layout;
-            let body = Body::Groups(Sequence::from_vec(groups));
-            Ok(Answer { k, body })
-        }
-        Err(fault) => {
-            drop(layout);
-            Err(fault)
-        }
+    match body {
+        Body::Groups(groups) => can_rows_give(plan, rows, groups.as_slice()),
+        Body::Fault(fault) => is_fault_possible(first, rows, *fault),
     }
 }

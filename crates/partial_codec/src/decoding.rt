@@ -1,20 +1,109 @@
 //! The bytes of an answer, read and judged.
-ghost use Rattle.std.specs.Prelude.{◌≡◌, ◌≢◌, ◌≤◌, length, IfOk, IfErr, Some, Ok};
-ghost use Rattle.meaning.specs.declared.answer.Answer.{Answer as AnAnswer};
-ghost use Rattle.partial_codec.specs.Job.{IsJob};
+ghost use Rattle.std.specs.Prelude.{◌≡◌, ◌≢◌, ◌<◌, ◌*◌, ◌&&◌, nat_lt, length, slice_index, IfOk, IfErr, Some, Ok, List, ℕ};
+ghost use Rattle.meaning.specs.Cut.{IsCut, first_row as row_before};
+ghost use Rattle.meaning.specs.Fitting as fitting;
+ghost use Rattle.meaning.specs.Said.{Answer as AnAnswer};
 ghost use Rattle.partial_codec.specs.Answer.{Spells, judged, obstacle};
-ghost use Rattle.wire.specs.Reading.{sealed_end, Reads, ReadsIfMemory};
+ghost use Rattle.partial_codec.specs.Fields.{words};
+ghost use Rattle.partial_codec.specs.Holding.{layout_held_by};
+ghost use Rattle.partial_codec.specs.Job.{IsJob};
+ghost use Rattle.wire.specs.Reading.{Reads, ReadsIfMemory, same_bytes};
 
-use crate::check::hold_against;
+use crate::check::{are_keys_ascending, are_numbers_possible, is_cut_of, is_query_of, is_typed};
 use crate::fault::DecodeFault;
-use crate::fields::take_layout;
+use crate::fields::{JobFields, Layout, take_layout};
 use crate::job::Job;
-use meaning::answer::Answer;
+use crate::shape::is_shape_of;
+use accumulators::Group;
+use meaning::answer::{Answer, Body};
 use std::alloc::Global;
+use std::mem::drop;
 use wire::{SEAL_BYTES, check_seal, take_bytes};
 
+/// The number of the first row of fragment `k`.
+fn first_row(lengths: &[u32], k: usize) -> u64
+    requires within { k < length lengths.now }
+    requires cut { IsCut lengths.now }
+    ensures { result ≡ row_before lengths.now k }
+{
+    let mut first: u64 = 0;
+    for i in 0..k {
+        first += u64::from(lengths[i]);
+    }
+    first
+}
+
+/// Whether the cut is the job's, and has a fragment `k`.
+fn is_fragment_of(job: &Job, fields: &JobFields<'_>, k: u32) -> bool
+    requires { length fields.now.cut.now ≡ fields.now.fragments * 4 }
+    ensures { result ≡ (same_bytes (words fields.now.fragments fields.now.cut.now) job.now.cut && nat_lt k (length job.now.cut)) }
+{
+    is_cut_of(job, fields) && (k as usize) < job.cut().lengths().len()
+}
+
+/// Whether the fragment's rows can give the numbers.
+fn are_numbers_of_fragment(job: &Job, k: u32, body: &Body<Group>) -> bool
+    requires { k < length job.now.cut }
+    ensures { result ≡ fitting.are_numbers_possible job.now.plan (row_before job.now.cut k) (slice_index job.now.cut k) body.now }
+{
+    let lengths = job.cut().lengths();
+    let place = k as usize;
+    let rows = u64::from(lengths[place]);
+    are_numbers_possible(job.plan(), first_row(lengths, place), rows, body)
+}
+
+/// The first thing in which the fields are not those of an answer for the job.
+#[tactic(auto, unfolding(crate::specs::Holding::layout_held_by))]
+fn check_layout(job: &Job, layout: &Layout<'_>) -> Result<(), DecodeFault>
+    requires { length layout.now.job.cut.now ≡ layout.now.job.fragments * 4 }
+    ensures { Reads (λ _. record { k = layout.now.k; body = layout.now.body }) result (layout_held_by job.now layout.now) }
+{
+    if layout.job.load != job.load() {
+        return Err(DecodeFault::OtherLoad);
+    }
+    if !is_query_of(job, layout.job.text) {
+        return Err(DecodeFault::OtherQuery);
+    }
+    if !is_fragment_of(job, &layout.job, layout.k) {
+        return Err(DecodeFault::OtherCut);
+    }
+    if !is_shape_of(job.plan(), &layout.shape) {
+        return Err(DecodeFault::Shape);
+    }
+    if !is_typed(job.plan(), &layout.body) {
+        return Err(DecodeFault::Shape);
+    }
+    if !are_keys_ascending(&layout.body) {
+        return Err(DecodeFault::UnsortedGroups);
+    }
+    if !layout.are_sums_possible {
+        return Err(DecodeFault::Numbers);
+    }
+    if !are_numbers_of_fragment(job, layout.k, &layout.body) {
+        return Err(DecodeFault::Numbers);
+    }
+    Ok(())
+}
+
+/// The answer, where the fields are those of one for the job.
+fn hold_against(job: &Job, layout: Layout<'_>) -> Result<Answer<Group>, DecodeFault>
+    requires { length layout.job.cut.now ≡ layout.job.fragments * 4 }
+    ensures { Reads (λ a. a) result (layout_held_by job.now layout.entry) }
+{
+    match check_layout(job, &layout) {
+        Ok(()) => {
+            let Layout { k, body, .. } = layout;
+            Ok(Answer { k, body })
+        }
+        Err(fault) => {
+            drop(layout);
+            Err(fault)
+        }
+    }
+}
+
 #[tactic(auto, unfolding(crate::specs::Answer::judged))]
-fn judge(alloc: Global, job: &Job, bytes: &[u8]) -> Result<Answer, DecodeFault>
+fn judge(alloc: Global, job: &Job, bytes: &[u8]) -> Result<Answer<Group>, DecodeFault>
     ensures exact { ReadsIfMemory DecodeFault.Memory (λ a. a) result (judged job.now bytes.now) }
     ensures within_limits { IsJob job.now }
 {
@@ -29,7 +118,7 @@ fn judge(alloc: Global, job: &Job, bytes: &[u8]) -> Result<Answer, DecodeFault>
 ///
 /// The bytes are read from front to back; then come the seal, the job, the shape, the order of the groups and the
 /// numbers. Memory is taken for what was read alone, whatever counts the bytes tell.
-pub fn decode(alloc: Global, job: &Job, bytes: &[u8]) -> Result<Answer, DecodeFault>
+pub fn decode(alloc: Global, job: &Job, bytes: &[u8]) -> Result<Answer<Group>, DecodeFault>
     // What is given is spelled so.
     ensures spelled { IfOk result (λ a. Spells job.now bytes.now a) }
     // What is spelled so is given, unless memory runs out.

@@ -1,21 +1,23 @@
 //! Answers as bytes, and the parts that states have too.
-ghost use Rattle.std.specs.Prelude.{◌≡◌, ◌<◌, ◌^◌, ◌++◌, [], ◌∷◌, ℕ, length, map, IfOk, OnOk, true, option_copied};
+ghost use Rattle.std.specs.Prelude.{◌≡◌, ◌<◌, ◌^◌, ◌++◌, length, map, IfOk, OnOk};
 ghost use Rattle.std.specs.List.{flat_map, AllByRecursion};
-ghost use Rattle.std.specs.Int.{w128, cast_unsigned};
+ghost use Rattle.accumulators.specs.Values.{entry, or_null};
 ghost use Rattle.meaning.specs.declared.answer.Body.TheVariants.{Groups};
+ghost use Rattle.meaning.specs.Order.{value_in};
 ghost use Rattle.partial_codec.specs.Answer.{Fits};
-ghost use Rattle.partial_codec.specs.Fields.{answer_layout, one_aggregate};
-ghost use Rattle.partial_codec.specs.Ranges.{IsBody, IsGroup, IsState};
+ghost use Rattle.partial_codec.specs.Ranges.{AreStates, IsBody, IsExtreme, IsGroup, IsState, IsValue};
 ghost use Rattle.partial_codec.specs.Shape as shapes;
 ghost use Rattle.partial_codec.specs.Spelling as spec;
-ghost use Rattle.partial_codec.specs.Supported.{is_supported};
-ghost use Rattle.partial_codec.specs.Supported as feature;
+ghost use Rattle.wire.specs.Bytes.{number_bytes};
 
 use crate::fields::ANSWER_MAGIC;
 use crate::job::Job;
-use crate::shape::{argument_code, kind_code, shape_of_aggregate};
-use meaning::answer::{Answer, Body, Group, Statistics};
-use meaning::plan::{Aggregate, AggregateKind, Plan};
+use crate::shape::{argument_code, kind_code, shape_of_aggregate, type_code};
+use crate::values::put_value;
+use accumulators::{Group, State};
+use meaning::answer::{Answer, Body};
+use meaning::plan::{Aggregate, AggregateKind, GroupingKey, Plan};
+use meaning::value::Value;
 use std::alloc::{AllocError, Global};
 use wire::{append_i128, append_seal, append_text, append_u8, append_u16, append_u32, append_u64};
 
@@ -35,67 +37,122 @@ pub fn put_job(out: &mut Vec<u8>, load: u64, text: &str, lengths: &[u32]) -> Res
     Ok(())
 }
 
-/// The shape of one aggregate without keys.
-#[tactic(auto, unfolding(crate::specs::Spelling::shape_bytes))]
-pub fn put_shape(out: &mut Vec<u8>, only: &Aggregate) -> Result<(), AllocError>
-    ensures { OnOk result (out.new.items
-        ≡ out.old.items ++ spec.shape_bytes (one_aggregate (shapes.shape_of_aggregate only.now))) }
+fn put_types(out: &mut Vec<u8>, keys: &[GroupingKey]) -> Result<(), AllocError>
+    ensures { OnOk result (out.new.items ≡ out.old.items
+        ++ flat_map (λ t. number_bytes 1 (shapes.type_code t)) (map (λ k. k.col_type) keys.now)) }
 {
-    let shape = shape_of_aggregate(only);
-    append_u16(out, 0)?;
-    append_u16(out, 1)?;
-    append_u8(out, kind_code(shape.kind))?;
-    append_u8(out, argument_code(shape.argument))
-}
-
-#[tactic(auto, unfolding(crate::specs::Spelling::state_bytes, crate::specs::Supported::is_supported))]
-fn put_state(out: &mut Vec<u8>, kind: AggregateKind, state: &Statistics) -> Result<(), AllocError>
-    requires known { is_supported (feature.kind kind) ≡ true }
-    requires count { state.now.count < 2 ^ 32 }
-    ensures { OnOk result (out.new.items ≡ out.old.items ++ spec.state_bytes kind state.now) }
-{
-    append_u32(out, state.count as u32)?;
-    match kind {
-        AggregateKind::Sum => append_i128(out, state.sum),
-        _ => Ok(()),
-    }
-}
-
-#[tactic(auto, unfolding(crate::specs::Spelling::group_bytes, crate::specs::Spelling::states_bytes))]
-fn put_group(out: &mut Vec<u8>, only: &Aggregate, group: &Group) -> Result<(), AllocError>
-    requires known { is_supported (feature.kind only.now.kind) ≡ true }
-    requires fits { IsGroup (one_aggregate (shapes.shape_of_aggregate only.now)) group.now }
-    ensures { OnOk result (out.new.items
-        ≡ out.old.items ++ spec.group_bytes (one_aggregate (shapes.shape_of_aggregate only.now)) group.now) }
-{
-    append_u32(out, group.rows as u32)?;
-    put_state(out, only.kind, &group.states.as_slice()[0])
-}
-
-#[tactic(auto, unfolding(crate::specs::Spelling::body_bytes))]
-fn put_groups(out: &mut Vec<u8>, only: &Aggregate, groups: &[Group]) -> Result<(), AllocError>
-    requires known { is_supported (feature.kind only.now.kind) ≡ true }
-    requires fits { IsBody (one_aggregate (shapes.shape_of_aggregate only.now)) (Groups groups.now) }
-    ensures { OnOk result (out.new.items
-        ≡ out.old.items ++ spec.body_bytes (one_aggregate (shapes.shape_of_aggregate only.now)) (Groups groups.now)) }
-{
-    append_u8(out, 1)?;
-    append_u32(out, groups.len() as u32)?;
-    for group in groups {
-        put_group(out, only, group)?;
+    for key in keys {
+        append_u8(out, type_code(key.col_type))?;
     }
     Ok(())
 }
 
+fn put_aggregate(out: &mut Vec<u8>, aggregate: &Aggregate) -> Result<(), AllocError>
+    ensures { OnOk result (out.new.items ≡ out.old.items ++ spec.aggregate_bytes (shapes.shape_of_aggregate aggregate.now)) }
+{
+    let shape = shape_of_aggregate(aggregate);
+    append_u8(out, kind_code(shape.kind))?;
+    append_u8(out, argument_code(shape.argument))
+}
+
+fn put_aggregates(out: &mut Vec<u8>, aggregates: &[Aggregate]) -> Result<(), AllocError>
+    ensures { OnOk result (out.new.items ≡ out.old.items
+        ++ flat_map spec.aggregate_bytes (map shapes.shape_of_aggregate aggregates.now)) }
+{
+    for aggregate in aggregates {
+        put_aggregate(out, aggregate)?;
+    }
+    Ok(())
+}
+
+/// The shape of the plan's groups.
+#[tactic(auto, unfolding(crate::specs::Spelling::shape_bytes))]
+pub fn put_shape(out: &mut Vec<u8>, plan: &Plan) -> Result<(), AllocError>
+    requires keys { length plan.now.keys < 2 ^ 16 }
+    requires aggregates { length plan.now.aggs < 2 ^ 16 }
+    ensures { OnOk result (out.new.items ≡ out.old.items ++ spec.shape_bytes (shapes.shape_of plan.now)) }
+{
+    append_u16(out, plan.keys.len() as u16)?;
+    put_types(out, plan.keys.as_slice())?;
+    append_u16(out, plan.aggs.len() as u16)?;
+    put_aggregates(out, plan.aggs.as_slice())
+}
+
+fn put_key(out: &mut Vec<u8>, values: &[Value]) -> Result<(), AllocError>
+    requires { AllByRecursion IsValue values.now }
+    ensures { OnOk result (out.new.items ≡ out.old.items ++ flat_map spec.value_bytes values.now) }
+{
+    for value in values {
+        put_value(out, value.as_value_ref())?;
+    }
+    Ok(())
+}
+
+/// What an aggregate of the kind keeps.
+#[tactic(auto, unfolding(crate::specs::Spelling::state_bytes))]
+fn put_state(out: &mut Vec<u8>, kind: AggregateKind, state: &State) -> Result<(), AllocError>
+    requires { IsState kind state.now }
+    ensures { OnOk result (out.new.items ≡ out.old.items ++ spec.state_bytes kind state.now) }
+{
+    append_u32(out, state.count() as u32)?;
+    match kind {
+        AggregateKind::CountRows => Ok(()),
+        AggregateKind::Count => Ok(()),
+        AggregateKind::Sum => append_i128(out, state.sum()),
+        AggregateKind::Avg => append_i128(out, state.sum()),
+        AggregateKind::Min => put_value(out, state.least()),
+        AggregateKind::Max => put_value(out, state.greatest()),
+    }
+}
+
+/// One state for each aggregate.
+fn put_states(
+    out: &mut Vec<u8>,
+    aggregates: &[Aggregate],
+    states: &[State],
+) -> Result<(), AllocError>
+    requires { AreStates (map shapes.shape_of_aggregate aggregates.now) states.now }
+    ensures { OnOk result (out.new.items ≡ out.old.items
+        ++ spec.states_bytes (map shapes.shape_of_aggregate aggregates.now) states.now) }
+{
+    for i in 0..aggregates.len() {
+        put_state(out, aggregates[i].kind, &states[i])?;
+    }
+    Ok(())
+}
+
+#[tactic(auto, unfolding(crate::specs::Spelling::group_bytes))]
+fn put_group(out: &mut Vec<u8>, plan: &Plan, group: &Group) -> Result<(), AllocError>
+    requires { IsGroup (shapes.shape_of plan.now) group.now }
+    ensures { OnOk result (out.new.items ≡ out.old.items ++ spec.group_bytes (shapes.shape_of plan.now) group.now) }
+{
+    put_key(out, group.key().as_slice())?;
+    append_u32(out, group.rows() as u32)?;
+    put_states(out, plan.aggs.as_slice(), group.states())
+}
+
+fn put_all_groups(out: &mut Vec<u8>, plan: &Plan, groups: &[Group]) -> Result<(), AllocError>
+    requires { AllByRecursion (IsGroup (shapes.shape_of plan.now)) groups.now }
+    ensures { OnOk result (out.new.items ≡ out.old.items ++ flat_map (spec.group_bytes (shapes.shape_of plan.now)) groups.now) }
+{
+    for group in groups {
+        put_group(out, plan, group)?;
+    }
+    Ok(())
+}
+
+/// Groups, or a fault.
 #[tactic(auto, unfolding(crate::specs::Spelling::body_bytes))]
-pub fn put_body(out: &mut Vec<u8>, only: &Aggregate, body: &Body) -> Result<(), AllocError>
-    requires known { is_supported (feature.kind only.now.kind) ≡ true }
-    requires fits { IsBody (one_aggregate (shapes.shape_of_aggregate only.now)) body.now }
-    ensures { OnOk result (out.new.items
-        ≡ out.old.items ++ spec.body_bytes (one_aggregate (shapes.shape_of_aggregate only.now)) body.now) }
+pub fn put_body(out: &mut Vec<u8>, plan: &Plan, body: &Body<Group>) -> Result<(), AllocError>
+    requires { IsBody (shapes.shape_of plan.now) body.now }
+    ensures { OnOk result (out.new.items ≡ out.old.items ++ spec.body_bytes (shapes.shape_of plan.now) body.now) }
 {
     match body {
-        Body::Groups(groups) => put_groups(out, only, groups.as_slice()),
+        Body::Groups(groups) => {
+            append_u8(out, 1)?;
+            append_u32(out, groups.len() as u32)?;
+            put_all_groups(out, plan, groups.as_slice())
+        }
         Body::Fault(fault) => {
             append_u8(out, 0)?;
             append_u64(out, fault.row)?;
@@ -106,43 +163,27 @@ pub fn put_body(out: &mut Vec<u8>, only: &Aggregate, body: &Body) -> Result<(), 
 
 /// All of an answer but its seal.
 #[tactic(auto, unfolding(crate::specs::Spelling::layout_bytes, crate::specs::Spelling::answer_magic))]
-fn put_layout(
-    out: &mut Vec<u8>,
-    job: &Job,
-    only: &Aggregate,
-    answer: &Answer,
-) -> Result<(), AllocError>
-    requires known { is_supported (feature.kind only.now.kind) ≡ true }
-    requires fits { IsBody (one_aggregate (shapes.shape_of_aggregate only.now)) answer.now.body }
-    ensures { OnOk result (out.new.items ≡ out.old.items
-        ++ spec.layout_bytes (answer_layout job.now only.now answer.now)) }
+fn put_layout(out: &mut Vec<u8>, job: &Job, answer: &Answer<Group>) -> Result<(), AllocError>
+    requires { IsBody (shapes.shape_of job.now.plan) answer.now.body }
+    ensures { OnOk result (out.new.items ≡ out.old.items ++ spec.layout_bytes (spec.layout_of job.now answer.now)) }
 {
     let text = job.plan().text.as_str();
     let lengths = job.cut().lengths();
     out.extend_from_slice(&ANSWER_MAGIC)?;
     put_job(out, job.load(), text, lengths)?;
     append_u32(out, answer.k)?;
-    put_shape(out, only)?;
-    put_body(out, only, &answer.body)
-}
-
-/// The only aggregate of a plan that this version knows.
-#[tactic(auto, unfolding(crate::specs::Supported::is_supported))]
-pub fn only_aggregate(plan: &Plan) -> &Aggregate
-    requires { is_supported (feature.aggregates (length plan.now.aggs)) ≡ true }
-    ensures { plan.now.aggs ≡ result.now ∷ [] }
-{
-    &plan.aggs.as_slice()[0]
+    put_shape(out, job.plan())?;
+    put_body(out, job.plan(), &answer.body)
 }
 
 /// The one spelling of an answer that fits the job.
-pub fn encode(alloc: Global, job: &Job, answer: &Answer) -> Result<Vec<u8>, AllocError>
+pub fn encode(alloc: Global, job: &Job, answer: &Answer<Group>) -> Result<Vec<u8>, AllocError>
     requires { Fits job.now answer.now }
     ensures { IfOk result (λ bytes. bytes.items ≡ spec.answer_bytes job.now answer.now) }
 {
-    let only = only_aggregate(job.plan());
+    let _plan = job.plan();
     let mut out = Vec::new(alloc);
-    put_layout(&mut out, job, only, answer)?;
+    put_layout(&mut out, job, answer)?;
     append_seal(&mut out)?;
     Ok(out)
 }

@@ -1,67 +1,95 @@
 //! The fields of an answer, read from front to back, and those that a state has too.
-ghost use Rattle.std.specs.Prelude.{◌≡◌, IfOk, true};
-ghost use Rattle.partial_codec.specs.Fields.{job_in, layout_in, one_aggregate};
-ghost use Rattle.partial_codec.specs.LayoutReading.{aggregate_at, argument_at, argument_from, known_kind, shape_at};
-ghost use Rattle.partial_codec.specs.LayoutReading.{job_at, layout_at, length_at};
-ghost use Rattle.wire.specs.Reading.{behind_magic, Reads, ReadsIfMemory, number_at, repeat_at};
-ghost use Rattle.partial_codec.specs.Supported.{is_supported};
-ghost use Rattle.partial_codec.specs.Supported as feature;
+ghost use Rattle.std.specs.Prelude.{◌≡◌, ◌*◌, IfOk, length};
+ghost use Rattle.partial_codec.specs.Fields.{AreJobFields, IsLayout, shape_in, words};
+ghost use Rattle.partial_codec.specs.Keeping.{Keeps};
+ghost use Rattle.partial_codec.specs.LayoutReading as reading;
+ghost use Rattle.wire.specs.Reading.{Reads, ReadsIfMemory, repeat_at};
 
 use crate::body::take_body;
 use crate::fault::DecodeFault;
-use crate::shape::AggregateShape;
-use meaning::answer::Group;
+use crate::shape::{AggregateShape, Shape};
+use accumulators::Group;
+use meaning::answer::Body;
 use meaning::plan::AggregateKind;
 use meaning::value::ColType;
 use std::alloc::Global;
-use wire::{skip_magic, take_text, take_u8, take_u16, take_u32, take_u64};
+use wire::{skip_magic, take_bytes, take_text, take_u8, take_u16, take_u32, take_u64};
 
 /// What an answer's bytes begin with.
 pub const ANSWER_MAGIC: [u8; 4] = *b"XGA1";
 
-/// The fields that tell the job.
+/// The fields that tell the job. The lengths of the cut's fragments stand in four bytes each.
 #[derive(Drop)]
 pub struct JobFields<'a> {
     pub load: u64,
     pub text: &'a str,
-    pub cut: Vec<u32>,
+    pub fragments: u32,
+    pub cut: &'a [u8],
 }
 
-/// All fields of an answer but its seal.
+/// All fields of an answer but its seal, and whether the sums of its groups are possible.
 #[derive(Drop)]
 pub struct Layout<'a> {
     pub job: JobFields<'a>,
     pub k: u32,
-    pub aggregate: AggregateShape,
-    pub groups: Vec<Group>,
+    pub shape: Shape,
+    pub body: Body<Group>,
+    pub are_sums_possible: bool,
 }
 
-#[tactic(auto, unfolding(crate::specs::Supported::is_supported))]
+fn type_of(code: u8) -> Result<ColType, DecodeFault>
+    ensures { Reads (λ t. t) result (reading.type_of code) }
+{
+    match code {
+        1 => Ok(ColType::Int),
+        2 => Ok(ColType::Text),
+        _ => Err(DecodeFault::Shape),
+    }
+}
+
 fn kind_of(code: u8) -> Result<AggregateKind, DecodeFault>
-    ensures { Reads (λ k. k) result (known_kind code) }
+    ensures { Reads (λ k. k) result (reading.kind_of code) }
 {
     match code {
         1 => Ok(AggregateKind::CountRows),
+        2 => Ok(AggregateKind::Count),
         3 => Ok(AggregateKind::Sum),
+        4 => Ok(AggregateKind::Min),
+        5 => Ok(AggregateKind::Max),
+        6 => Ok(AggregateKind::Avg),
+        _ => Err(DecodeFault::Shape),
+    }
+}
+
+fn no_argument(code: u8) -> Result<Option<ColType>, DecodeFault>
+    ensures { Reads (λ a. a) result (reading.argument_from AggregateKind.CountRows code) }
+{
+    match code {
+        0 => Ok(None),
         _ => Err(DecodeFault::Shape),
     }
 }
 
 fn argument_of(kind: AggregateKind, code: u8) -> Result<Option<ColType>, DecodeFault>
-    ensures { Reads (λ a. a) result (argument_from kind code) }
+    ensures { Reads (λ a. a) result (reading.argument_from kind code) }
 {
-    match (kind, code) {
-        (AggregateKind::CountRows, 0) => Ok(None),
-        (AggregateKind::CountRows, _) => Err(DecodeFault::Shape),
-        (_, 1) => Ok(Some(ColType::Int)),
-        (_, 2) => Ok(Some(ColType::Text)),
-        _ => Err(DecodeFault::Shape),
+    match kind {
+        AggregateKind::CountRows => no_argument(code),
+        _ => Ok(Some(type_of(code)?)),
     }
+}
+
+#[tactic(auto, unfolding(crate::specs::LayoutReading::type_at))]
+fn take_type(bytes: &[u8]) -> Result<(ColType, &[u8]), DecodeFault>
+    ensures { Reads (λ x. (x.0, x.1.now)) result (reading.type_at bytes.now) }
+{
+    let (code, rest) = take_u8(bytes)?;
+    Ok((type_of(code)?, rest))
 }
 
 #[tactic(auto, unfolding(crate::specs::LayoutReading::aggregate_at, crate::specs::LayoutReading::argument_at))]
 fn take_aggregate(bytes: &[u8]) -> Result<(AggregateShape, &[u8]), DecodeFault>
-    ensures { Reads (λ x. (x.0, x.1.now)) result (aggregate_at bytes.now) }
+    ensures { Reads (λ x. (x.0, x.1.now)) result (reading.aggregate_at bytes.now) }
 {
     let (code, rest) = take_u8(bytes)?;
     let kind = kind_of(code)?;
@@ -70,69 +98,98 @@ fn take_aggregate(bytes: &[u8]) -> Result<(AggregateShape, &[u8]), DecodeFault>
     Ok((AggregateShape { kind, argument }, rest))
 }
 
-#[tactic(auto, unfolding(crate::specs::LayoutReading::shape_at, wire::specs::Reading::repeat_at, crate::specs::Supported::is_supported))]
-pub fn take_shape(bytes: &[u8]) -> Result<(AggregateShape, &[u8]), DecodeFault>
-    ensures { Reads (λ x. (one_aggregate x.0, x.1.now)) result (shape_at bytes.now) }
-{
-    let (keys, rest) = take_u16(bytes)?;
-    if keys != 0 {
-        return Err(DecodeFault::Shape);
-    }
-    let (aggregates, rest) = take_u16(rest)?;
-    if aggregates != 1 {
-        return Err(DecodeFault::Shape);
-    }
-    take_aggregate(rest)
-}
-
-fn take_length(bytes: &[u8]) -> Result<(u32, &[u8]), DecodeFault>
-    ensures { Reads (λ x. (x.0, x.1.now)) result (length_at bytes.now) }
-{
-    let (length, rest) = take_u32(bytes)?;
-    Ok((length, rest))
-}
-
-fn take_lengths(alloc: Global, count: u32, bytes: &[u8]) -> Result<(Vec<u32>, &[u8]), DecodeFault>
+fn take_types(alloc: Global, count: u16, bytes: &[u8]) -> Result<(Vec<ColType>, &[u8]), DecodeFault>
     ensures { ReadsIfMemory DecodeFault.Memory (λ x. (x.0.items, x.1.now)) result
-        (repeat_at length_at count bytes.now) }
+        (repeat_at reading.type_at count bytes.now) }
 {
-    let mut lengths = Vec::new(alloc);
+    let mut types = Vec::new(alloc);
     let mut rest = bytes;
     for _ in 0..count {
-        let (length, after) = take_length(rest)?;
-        lengths.push(length)?;
-        rest = after;
+        let (col_type, behind) = take_type(rest)?;
+        types.push(col_type)?;
+        rest = behind;
     }
-    Ok((lengths, rest))
+    Ok((types, rest))
 }
 
+fn take_aggregates(
+    alloc: Global,
+    count: u16,
+    bytes: &[u8],
+) -> Result<(Vec<AggregateShape>, &[u8]), DecodeFault>
+    ensures { ReadsIfMemory DecodeFault.Memory (λ x. (x.0.items, x.1.now)) result
+        (repeat_at reading.aggregate_at count bytes.now) }
+{
+    let mut aggregates = Vec::new(alloc);
+    let mut rest = bytes;
+    for _ in 0..count {
+        let (aggregate, behind) = take_aggregate(rest)?;
+        aggregates.push(aggregate)?;
+        rest = behind;
+    }
+    Ok((aggregates, rest))
+}
+
+#[tactic(auto, unfolding(crate::specs::LayoutReading::shape_at))]
+pub fn take_shape(alloc: Global, bytes: &[u8]) -> Result<(Shape, &[u8]), DecodeFault>
+    ensures { ReadsIfMemory DecodeFault.Memory (λ x. (shape_in x.0, x.1.now)) result (reading.shape_at bytes.now) }
+{
+    let (count, rest) = take_u16(bytes)?;
+    let (keys, rest) = take_types(alloc, count, rest)?;
+    let (count, rest) = take_u16(rest)?;
+    let (aggregates, rest) = take_aggregates(alloc, count, rest)?;
+    Ok((Shape { keys, aggregates }, rest))
+}
+
+/// The bytes of so many lengths.
+fn take_lengths(count: u32, bytes: &[u8]) -> Result<(&[u8], &[u8]), DecodeFault>
+    ensures read { Reads (λ x. (words count x.0.now, x.1.now)) result (repeat_at reading.length_at count bytes.now) }
+    ensures long { IfOk result (λ x. length x.0.now ≡ count * 4) }
+{
+    let size = count as usize * 4;
+    if bytes.len() < size {
+        return Err(DecodeFault::Truncated);
+    }
+    Ok(bytes.split_at(size))
+}
+
+/// The fields that tell the job, and the bytes behind them.
 #[tactic(auto, unfolding(crate::specs::LayoutReading::job_at))]
-pub fn take_job(alloc: Global, bytes: &[u8]) -> Result<(JobFields<'_>, &[u8]), DecodeFault>
-    ensures { ReadsIfMemory DecodeFault.Memory (λ x. (job_in x.0, x.1.now)) result (job_at bytes.now) }
+pub fn take_job(bytes: &[u8]) -> Result<(JobFields<'_>, &[u8]), DecodeFault>
+    ensures { Keeps DecodeFault.Memory (λ x y. AreJobFields x.0 y.0 × (x.1.now ≡ y.1)) result (reading.job_at bytes.now) }
 {
     let (load, rest) = take_u64(bytes)?;
     let (text, rest) = take_text(rest)?;
-    let (count, rest) = take_u32(rest)?;
-    let (cut, rest) = take_lengths(alloc, count, rest)?;
-    Ok((JobFields { load, text, cut }, rest))
+    let (fragments, rest) = take_u32(rest)?;
+    let (cut, rest) = take_lengths(fragments, rest)?;
+    Ok((
+        JobFields {
+            load,
+            text,
+            fragments,
+            cut,
+        },
+        rest,
+    ))
 }
 
 /// All fields up to the seal, and the bytes from there.
 #[tactic(auto, unfolding(crate::specs::LayoutReading::layout_at, crate::specs::Spelling::answer_magic))]
 pub fn take_layout(alloc: Global, bytes: &[u8]) -> Result<(Layout<'_>, &[u8]), DecodeFault>
-    ensures { ReadsIfMemory DecodeFault.Memory (λ x. (layout_in x.0, x.1.now)) result (layout_at bytes.now) }
+    ensures { Keeps DecodeFault.Memory (λ x y. IsLayout x.0 y.0 × (x.1.now ≡ y.1)) result (reading.layout_at bytes.now) }
 {
     let rest = skip_magic(&ANSWER_MAGIC, bytes)?;
-    let (job, rest) = take_job(alloc, rest)?;
+    let (job, rest) = take_job(rest)?;
     let (k, rest) = take_u32(rest)?;
-    let (aggregate, rest) = take_shape(rest)?;
-    let (groups, rest) = take_body(alloc, aggregate, rest)?;
+    let (shape, rest) = take_shape(alloc, rest)?;
+    let (body, are_sums_possible, rest) = take_body(alloc, &shape, rest)?;
     Ok((
         Layout {
             job,
             k,
-            aggregate,
-            groups,
+            shape,
+            body,
+            are_sums_possible,
         },
         rest,
     ))

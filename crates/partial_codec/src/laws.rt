@@ -1,7 +1,7 @@
 //! The laws of the format. A body does nothing: the clause is a theorem on the definitions.
 ghost use Rattle.std.specs.Prelude.{◌≡◌, ℕ, List};
-ghost use Rattle.meaning.specs.declared.answer.Answer.{Answer};
-ghost use Rattle.meaning.specs.declared.answer.Cell.{Cell};
+ghost use Rattle.meaning.specs.Said.{Answer};
+ghost use Rattle.meaning.specs.Said.{Cell};
 ghost use Rattle.partial_codec.specs.Job.{JobSpec, IsJob};
 ghost use Rattle.partial_codec.specs.Spelling.{answer_bytes};
 ghost use Rattle.partial_codec.specs.Answer.{Fits, Spells, judged};

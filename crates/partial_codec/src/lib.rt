@@ -16,7 +16,9 @@ mod shape;
 mod state;
 mod state_check;
 mod state_fields;
+mod values;
 
+pub use accumulators::Group;
 pub use decoding::decode;
 pub use encoding::encode;
 pub use fault::DecodeFault;

@@ -1,8 +1,10 @@
 //! The shape of a query's groups.
 ghost use Rattle.std.specs.Prelude.{◌≡◌};
+ghost use Rattle.std.specs.Cmp.Lexicographic.{pointwise};
+ghost use Rattle.partial_codec.specs.Fields.{shape_in};
 ghost use Rattle.partial_codec.specs.Shape as spec;
 
-use meaning::plan::{Aggregate, AggregateKind};
+use meaning::plan::{Aggregate, AggregateKind, GroupingKey, Plan};
 use meaning::value::ColType;
 
 /// An aggregate as an answer's shape shows it. COUNT(*) has no argument.
@@ -10,6 +12,22 @@ use meaning::value::ColType;
 pub struct AggregateShape {
     pub kind: AggregateKind,
     pub argument: Option<ColType>,
+}
+
+/// The type of each key, and each aggregate.
+#[derive(Drop)]
+pub struct Shape {
+    pub keys: Vec<ColType>,
+    pub aggregates: Vec<AggregateShape>,
+}
+
+pub fn type_code(col_type: ColType) -> u8
+    ensures { result ≡ spec.type_code col_type }
+{
+    match col_type {
+        ColType::Int => 1,
+        ColType::Text => 2,
+    }
 }
 
 pub fn kind_code(kind: AggregateKind) -> u8
@@ -30,8 +48,7 @@ pub fn argument_code(argument: Option<ColType>) -> u8
 {
     match argument {
         None => 0,
-        Some(ColType::Int) => 1,
-        Some(ColType::Text) => 2,
+        Some(col_type) => type_code(col_type),
     }
 }
 
@@ -50,8 +67,46 @@ pub fn shape_of_aggregate(aggregate: &Aggregate) -> AggregateShape
     }
 }
 
-pub fn is_same_aggregate(a: AggregateShape, b: AggregateShape) -> bool
+fn is_same_aggregate(a: AggregateShape, b: AggregateShape) -> bool
     ensures { result ≡ spec.is_same_aggregate a b }
 {
     kind_code(a.kind) == kind_code(b.kind) && argument_code(a.argument) == argument_code(b.argument)
+}
+
+/// Whether these are the keys' types.
+fn are_types_of(keys: &[GroupingKey], types: &[ColType]) -> bool
+    ensures { result ≡ pointwise (λ t k. spec.is_same_type t k.col_type) types.now keys.now }
+{
+    if types.len() != keys.len() {
+        return false;
+    }
+    for i in 0..types.len() {
+        if type_code(types[i]) != type_code(keys[i].col_type) {
+            return false;
+        }
+    }
+    true
+}
+
+/// Whether the aggregates have these shapes.
+fn are_shapes_of(aggregates: &[Aggregate], shapes: &[AggregateShape]) -> bool
+    ensures { result ≡ pointwise (λ s a. spec.is_same_aggregate s (spec.shape_of_aggregate a)) shapes.now aggregates.now }
+{
+    if shapes.len() != aggregates.len() {
+        return false;
+    }
+    for i in 0..shapes.len() {
+        if !is_same_aggregate(shapes[i], shape_of_aggregate(&aggregates[i])) {
+            return false;
+        }
+    }
+    true
+}
+
+/// Whether the plan's groups have this shape.
+pub fn is_shape_of(plan: &Plan, shape: &Shape) -> bool
+    ensures { result ≡ spec.is_same_shape (shape_in shape.now) (spec.shape_of plan.now) }
+{
+    are_types_of(plan.keys.as_slice(), &shape.keys)
+        && are_shapes_of(plan.aggs.as_slice(), &shape.aggregates)
 }

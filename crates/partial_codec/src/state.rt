@@ -1,90 +1,77 @@
 //! The states of coordinators as bytes: written, read and judged.
-ghost use Rattle.std.specs.Prelude.{◌≡◌, ◌≢◌, ◌++◌, IfOk, IfErr, OnOk, List, Some, Ok, true};
+ghost use Rattle.std.specs.Prelude.{◌≡◌, ◌≢◌, ◌++◌, IfOk, IfErr, OnOk, List, Some, Ok};
 ghost use Rattle.std.specs.List.{flat_map, AllByRecursion};
-ghost use Rattle.meaning.specs.declared.answer.Cell.{Cell as ACell};
-ghost use Rattle.partial_codec.specs.Fields.{one_aggregate, state_layout};
+ghost use Rattle.meaning.specs.Said.{Cell as ACell};
 ghost use Rattle.partial_codec.specs.Job.{IsJob};
 ghost use Rattle.partial_codec.specs.Ranges.{IsCell};
+ghost use Rattle.partial_codec.specs.Shape.{shape_of};
+ghost use Rattle.partial_codec.specs.State.{FitsState, SpellsState, cell_bytes, judged_state, state_bytes, state_layout_bytes, state_layout_of, state_obstacle};
 ghost use Rattle.wire.specs.Reading.{ReadsIfMemory};
-ghost use Rattle.partial_codec.specs.Shape as shapes;
-ghost use Rattle.partial_codec.specs.State.{FitsState, SpellsState, cell_bytes, judged_state, state_bytes, state_layout_bytes, state_obstacle};
-ghost use Rattle.partial_codec.specs.Supported.{is_supported};
-ghost use Rattle.partial_codec.specs.Supported as feature;
 
-use crate::encoding::{only_aggregate, put_body, put_job, put_shape};
+use crate::encoding::{put_body, put_job, put_shape};
 use crate::fault::DecodeFault;
 use crate::job::Job;
 use crate::state_check::hold_state_against;
 use crate::state_fields::{STATE_MAGIC, take_state_layout};
+use accumulators::Group;
 use meaning::answer::Cell;
-use meaning::plan::Aggregate;
+use meaning::plan::Plan;
 use std::alloc::{AllocError, Global};
 use wire::{SEAL_BYTES, append_seal, append_u8, check_seal, take_bytes};
 
 #[tactic(auto, unfolding(crate::specs::State::cell_bytes))]
-fn put_cell(out: &mut Vec<u8>, only: &Aggregate, cell: &Cell) -> Result<(), AllocError>
-    requires known { is_supported (feature.kind only.now.kind) ≡ true }
-    requires fits { IsCell (one_aggregate (shapes.shape_of_aggregate only.now)) cell.now }
-    ensures { OnOk result (out.new.items
-        ≡ out.old.items ++ cell_bytes (one_aggregate (shapes.shape_of_aggregate only.now)) cell.now) }
+fn put_cell(out: &mut Vec<u8>, plan: &Plan, cell: &Cell<Group>) -> Result<(), AllocError>
+    requires { IsCell (shape_of plan.now) cell.now }
+    ensures { OnOk result (out.new.items ≡ out.old.items ++ cell_bytes (shape_of plan.now) cell.now) }
 {
     match cell {
         Cell::Nothing => append_u8(out, 0),
         Cell::One(body) => {
             append_u8(out, 1)?;
-            put_body(out, only, body)
+            put_body(out, plan, body)
         }
         Cell::Conflict => append_u8(out, 2),
     }
 }
 
-fn put_cells(out: &mut Vec<u8>, only: &Aggregate, cells: &[Cell]) -> Result<(), AllocError>
-    requires known { is_supported (feature.kind only.now.kind) ≡ true }
-    requires fits { AllByRecursion (IsCell (one_aggregate (shapes.shape_of_aggregate only.now))) cells.now }
-    ensures { OnOk result (out.new.items ≡ out.old.items
-        ++ flat_map (cell_bytes (one_aggregate (shapes.shape_of_aggregate only.now))) cells.now) }
+fn put_cells(out: &mut Vec<u8>, plan: &Plan, cells: &[Cell<Group>]) -> Result<(), AllocError>
+    requires { AllByRecursion (IsCell (shape_of plan.now)) cells.now }
+    ensures { OnOk result (out.new.items ≡ out.old.items ++ flat_map (cell_bytes (shape_of plan.now)) cells.now) }
 {
     for cell in cells {
-        put_cell(out, only, cell)?;
+        put_cell(out, plan, cell)?;
     }
     Ok(())
 }
 
 /// All of a state but its seal.
 #[tactic(auto, unfolding(crate::specs::State::state_layout_bytes, crate::specs::State::state_magic))]
-fn put_state_layout(
-    out: &mut Vec<u8>,
-    job: &Job,
-    only: &Aggregate,
-    cells: &[Cell],
-) -> Result<(), AllocError>
-    requires known { is_supported (feature.kind only.now.kind) ≡ true }
-    requires fits { AllByRecursion (IsCell (one_aggregate (shapes.shape_of_aggregate only.now))) cells.now }
-    ensures { OnOk result (out.new.items ≡ out.old.items
-        ++ state_layout_bytes (state_layout job.now only.now cells.now)) }
+fn put_state_layout(out: &mut Vec<u8>, job: &Job, cells: &[Cell<Group>]) -> Result<(), AllocError>
+    requires { AllByRecursion (IsCell (shape_of job.now.plan)) cells.now }
+    ensures { OnOk result (out.new.items ≡ out.old.items ++ state_layout_bytes (state_layout_of job.now cells.now)) }
 {
     let text = job.plan().text.as_str();
     let lengths = job.cut().lengths();
     out.extend_from_slice(&STATE_MAGIC)?;
     put_job(out, job.load(), text, lengths)?;
-    put_shape(out, only)?;
-    put_cells(out, only, cells)
+    put_shape(out, job.plan())?;
+    put_cells(out, job.plan(), cells)
 }
 
 /// The one spelling of the cells that a coordinator holds for the job, one for each fragment.
-pub fn encode_state(alloc: Global, job: &Job, cells: &[Cell]) -> Result<Vec<u8>, AllocError>
+pub fn encode_state(alloc: Global, job: &Job, cells: &[Cell<Group>]) -> Result<Vec<u8>, AllocError>
     requires { FitsState job.now cells.now }
     ensures { IfOk result (λ bytes. bytes.items ≡ state_bytes job.now cells.now) }
 {
-    let only = only_aggregate(job.plan());
+    let _plan = job.plan();
     let mut out = Vec::new(alloc);
-    put_state_layout(&mut out, job, only, cells)?;
+    put_state_layout(&mut out, job, cells)?;
     append_seal(&mut out)?;
     Ok(out)
 }
 
 #[tactic(auto, unfolding(crate::specs::State::judged_state))]
-fn judge_state(alloc: Global, job: &Job, bytes: &[u8]) -> Result<Vec<Cell>, DecodeFault>
+fn judge_state(alloc: Global, job: &Job, bytes: &[u8]) -> Result<Vec<Cell<Group>>, DecodeFault>
     ensures exact { ReadsIfMemory DecodeFault.Memory (λ cells. cells.items) result (judged_state job.now bytes.now) }
     ensures within_limits { IsJob job.now }
 {
@@ -100,7 +87,7 @@ fn judge_state(alloc: Global, job: &Job, bytes: &[u8]) -> Result<Vec<Cell>, Deco
 /// The bytes are read from front to back; then come the seal, the job, the shape and all types; and
 /// then, fragment by fragment, the order of the groups and the numbers. Memory is taken for what was
 /// read alone, whatever counts the bytes tell.
-pub fn decode_state(alloc: Global, job: &Job, bytes: &[u8]) -> Result<Vec<Cell>, DecodeFault>
+pub fn decode_state(alloc: Global, job: &Job, bytes: &[u8]) -> Result<Vec<Cell<Group>>, DecodeFault>
     // What is given is spelled so.
     ensures spelled { IfOk result (λ cells. SpellsState job.now bytes.now cells.items) }
     // What is spelled so is given, unless memory runs out.

@@ -1,71 +1,72 @@
 //! The fields of a state, read from front to back.
-ghost use Rattle.std.specs.Prelude.{◌≡◌, true, length};
-ghost use Rattle.partial_codec.specs.Fields.{one_aggregate, state_layout_in};
-ghost use Rattle.wire.specs.Reading.{ReadsIfMemory, repeat_at};
+ghost use Rattle.std.specs.Prelude.{◌≡◌, map, List};
+ghost use Rattle.meaning.specs.Said.{Cell as ACell};
+ghost use Rattle.partial_codec.specs.Fields.{IsStateLayout, shape_in};
+ghost use Rattle.partial_codec.specs.Keeping.{IsKept, Keeps, is_cell_possible, kept_cell};
 ghost use Rattle.partial_codec.specs.State.{cell_at, state_layout_at};
-ghost use Rattle.partial_codec.specs.Supported.{is_supported};
-ghost use Rattle.partial_codec.specs.Supported as feature;
+ghost use Rattle.wire.specs.Reading.{repeat_at};
 
 use crate::body::take_body;
 use crate::fault::DecodeFault;
 use crate::fields::{JobFields, take_job, take_shape};
-use crate::shape::AggregateShape;
-use meaning::answer::{Body, Cell};
-use meaning::sequence::Sequence;
+use crate::shape::Shape;
+use accumulators::Group;
+use meaning::answer::Cell;
 use std::alloc::Global;
 use wire::{skip_magic, take_u8};
 
 /// What a state's bytes begin with.
 pub const STATE_MAGIC: [u8; 4] = *b"XGS1";
 
-/// All fields of a state but its seal.
+/// All fields of a state but its seal, and whether the sums in each cell are possible.
 #[derive(Drop)]
 pub struct StateLayout<'a> {
     pub job: JobFields<'a>,
-    pub aggregate: AggregateShape,
-    pub cells: Vec<Cell>,
+    pub shape: Shape,
+    pub cells: Vec<Cell<Group>>,
+    pub are_possible: Vec<bool>,
 }
 
 #[tactic(auto, unfolding(crate::specs::State::cell_at, crate::specs::State::tagged_cell_at))]
-fn take_cell(
+fn take_cell<'a>(
     alloc: Global,
-    aggregate: AggregateShape,
-    bytes: &[u8],
-) -> Result<(Cell, &[u8]), DecodeFault>
-    requires { is_supported (feature.kind aggregate.kind) ≡ true }
-    ensures { ReadsIfMemory DecodeFault.Memory (λ x. (x.0, x.1.now)) result
-        (cell_at (one_aggregate aggregate) bytes.now) }
+    shape: &Shape,
+    bytes: &'a [u8],
+) -> Result<(Cell<Group>, bool, &'a [u8]), DecodeFault>
+    ensures { Keeps DecodeFault.Memory (λ x. IsKept kept_cell is_cell_possible x.0 x.1 x.2.now) result
+        (cell_at (shape_in shape.now) bytes.now) }
 {
     let (tag, rest) = take_u8(bytes)?;
     match tag {
-        0 => Ok((Cell::Nothing, rest)),
+        0 => Ok((Cell::Nothing, true, rest)),
         1 => {
-            let (groups, rest) = take_body(alloc, aggregate, rest)?;
-            Ok((Cell::One(Body::Groups(Sequence::from_vec(groups))), rest))
+            let (body, is_possible, rest) = take_body(alloc, shape, rest)?;
+            Ok((Cell::One(body), is_possible, rest))
         }
-        2 => Ok((Cell::Conflict, rest)),
+        2 => Ok((Cell::Conflict, true, rest)),
         _ => Err(DecodeFault::Shape),
     }
 }
 
-fn take_cells(
+fn take_cells<'a>(
     alloc: Global,
-    aggregate: AggregateShape,
-    count: usize,
-    bytes: &[u8],
-) -> Result<(Vec<Cell>, &[u8]), DecodeFault>
-    requires { is_supported (feature.kind aggregate.kind) ≡ true }
-    ensures { ReadsIfMemory DecodeFault.Memory (λ x. (x.0.items, x.1.now)) result
-        (repeat_at (cell_at (one_aggregate aggregate)) count bytes.now) }
+    shape: &Shape,
+    count: u32,
+    bytes: &'a [u8],
+) -> Result<(Vec<Cell<Group>>, Vec<bool>, &'a [u8]), DecodeFault>
+    ensures { Keeps DecodeFault.Memory (λ x y. (x.0.items ≡ map kept_cell y.0) × (x.1.items ≡ map is_cell_possible y.0) × (x.2.now ≡ y.1)) result
+        (repeat_at (cell_at (shape_in shape.now)) count bytes.now) }
 {
     let mut cells = Vec::new(alloc);
+    let mut are_possible = Vec::new(alloc);
     let mut rest = bytes;
     for _ in 0..count {
-        let (cell, after) = take_cell(alloc, aggregate, rest)?;
+        let (cell, is_possible, behind) = take_cell(alloc, shape, rest)?;
         cells.push(cell)?;
-        rest = after;
+        are_possible.push(is_possible)?;
+        rest = behind;
     }
-    Ok((cells, rest))
+    Ok((cells, are_possible, rest))
 }
 
 /// All fields up to the seal, and the bytes from there.
@@ -74,18 +75,18 @@ pub fn take_state_layout(
     alloc: Global,
     bytes: &[u8],
 ) -> Result<(StateLayout<'_>, &[u8]), DecodeFault>
-    ensures { ReadsIfMemory DecodeFault.Memory (λ x. (state_layout_in x.0, x.1.now)) result
-        (state_layout_at bytes.now) }
+    ensures { Keeps DecodeFault.Memory (λ x y. IsStateLayout x.0 y.0 × (x.1.now ≡ y.1)) result (state_layout_at bytes.now) }
 {
     let rest = skip_magic(&STATE_MAGIC, bytes)?;
-    let (job, rest) = take_job(alloc, rest)?;
-    let (aggregate, rest) = take_shape(rest)?;
-    let (cells, rest) = take_cells(alloc, aggregate, job.cut.len(), rest)?;
+    let (job, rest) = take_job(rest)?;
+    let (shape, rest) = take_shape(alloc, rest)?;
+    let (cells, are_possible, rest) = take_cells(alloc, &shape, job.fragments, rest)?;
     Ok((
         StateLayout {
             job,
-            aggregate,
+            shape,
             cells,
+            are_possible,
         },
         rest,
     ))

@@ -9,13 +9,13 @@ use Rattle.meaning.specs.declared.outcome.Outcome.TheVariants as gives
 use Rattle.meaning.specs.Operators.{case_of}
 use Rattle.meaning.specs.Typing.{Valued}
 use Rattle.vectors.specs.Selection.{Positions, is_among, without}
-use Rattle.primitives.specs.declared.given.Given.{Given}
-use Rattle.primitives.specs.declared.given.Given.TheVariants as given
-use Rattle.primitives.specs.Evaluated.{Held, IsBefore, IsWithin, Evaluates}
-use Rattle.primitives.specs.Given.{AreNarrowed, given_at, is_of_kind, is_true_lane}
-use Rattle.primitives.specs.Nodes.{ArePut, Decides, Gives, IsPassedOver, IsTaken, Passes}
-use Rattle.primitives.proofs.Among.{filter_stays, filter_stood}
-use Rattle.primitives.proofs.Composes.{before_old, lane_is, origin_then}
+use Rattle.vector_operators.specs.declared.given.Given.{Given}
+use Rattle.vector_operators.specs.declared.given.Given.TheVariants as given
+use Rattle.vector_operators.specs.Evaluated.{Held, IsBefore, IsWithin, Evaluates}
+use Rattle.vector_operators.specs.Given.{AreNarrowed, given_at, is_of_kind, is_true_lane, ArePut}
+use Rattle.primitives.specs.Nodes.{Decides, Gives, IsPassedOver, IsTaken, Passes}
+use Rattle.vector_operators.proofs.Among.{filter_stays, filter_stood}
+use Rattle.vector_operators.proofs.Composes.{before_old, lane_is, origin_then}
 
 bool_cases : (b : Bool) → (b ≡ true) ⊎ (b ≡ false)
 bool_cases true = inl refl

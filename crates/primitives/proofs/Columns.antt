@@ -21,10 +21,10 @@ use Rattle.vectors.specs.declared.batch.Place.{Place}
 use Rattle.vectors.specs.declared.batch.Place.TheVariants as place
 use Rattle.vectors.specs.declared.batch.BatchColumn.{BatchColumn}
 use Rattle.vectors.specs.Vector.{BatchSpec, IsColumnOf, outcomes_of, reference_of, same_place}
-use Rattle.primitives.specs.declared.given.Given.{Given}
-use Rattle.primitives.specs.Evaluated.{row_at}
-use Rattle.primitives.specs.Fitting.{AreTypedRows, has_column, is_typed_column, place_of, referenced_type, type_of_lanes}
-use Rattle.primitives.specs.Given.{given_at, given_of, is_of_kind}
+use Rattle.vector_operators.specs.declared.given.Given.{Given}
+use Rattle.primitives.specs.Meant.{row_at}
+use Rattle.primitives.specs.Fitting.{AreTypedRows, has_column, is_typed_column, place_of, referenced_type}
+use Rattle.vector_operators.specs.Given.{type_of_lanes, given_at, given_of, is_of_kind}
 
 same_nat : (a b : ℕ) → nat_eq a b ≡ true → a ≡ b
 same_nat a b e = eqb-true a b e

@@ -28,14 +28,15 @@ use Rattle.meaning.proofs.Tests.{first_of as first_test}
 use Rattle.meaning.proofs.Typed.{typed}
 use Rattle.vectors.specs.Selection.{Positions}
 use Rattle.vectors.specs.Vector.{BatchSpec, same_place}
-use Rattle.primitives.specs.declared.given.Given.{Given}
-use Rattle.primitives.specs.declared.given.Given.TheVariants as given
-use Rattle.primitives.specs.Evaluated.{Evaluates, Held, IsWithin, meant_at, row_at}
+use Rattle.vector_operators.specs.declared.given.Given.{Given}
+use Rattle.vector_operators.specs.declared.given.Given.TheVariants as given
+use Rattle.vector_operators.specs.Evaluated.{Evaluates, Held, IsWithin}
+use Rattle.primitives.specs.Meant.{meant_at, row_at}
 use Rattle.primitives.specs.Fitting.{AreTypedRows, Fits, has_column, place_of, referenced_type}
-use Rattle.primitives.specs.Given.{AreNegatedIf, IsSpelled, IsSpelledIn, given_at, given_of, is_of_kind}
+use Rattle.vector_operators.specs.Given.{AreNegatedIf, IsSpelled, IsSpelledIn, given_at, given_of, is_of_kind}
 use Rattle.primitives.specs.Nodes.{Decides, FitsArm, Gives, IsExact, IsNoLater, one_of_subject}
 use Rattle.primitives.proofs.Columns.{column_gives}
-use Rattle.primitives.proofs.Composes.{after, pointwise, restated}
+use Rattle.vector_operators.proofs.Composes.{after, pointwise, restated}
 use Rattle.primitives.proofs.Fitted.{fits_and, fits_arithmetic, fits_between, fits_case, fits_coalesce, fits_compare, fits_in, fits_is_null, fits_like, fits_minus, fits_not, fits_or}
 use Rattle.primitives.proofs.Lists.{one_of_subject_is}
 use Rattle.primitives.proofs.NodeGives.{ExprGives}

@@ -19,14 +19,15 @@ use Rattle.meaning.specs.Operators.{case_of, cases_of, coalesce_of, compare_of, 
 use Rattle.meaning.specs.Typing.{Valued, Boolean, RowTypes}
 use Rattle.vectors.specs.Selection.{Positions}
 use Rattle.vectors.specs.Vector.{BatchSpec}
-use Rattle.primitives.specs.declared.given.Given.{Given}
-use Rattle.primitives.specs.declared.given.Given.TheVariants as given
-use Rattle.primitives.specs.Evaluated.{Evaluates, Held, IsWithin, meant_at, row_at}
+use Rattle.vector_operators.specs.declared.given.Given.{Given}
+use Rattle.vector_operators.specs.declared.given.Given.TheVariants as given
+use Rattle.vector_operators.specs.Evaluated.{Evaluates, Held, IsWithin}
+use Rattle.primitives.specs.Meant.{meant_at, row_at}
 use Rattle.primitives.specs.Fitting.{AreTypedRows, Fits}
-use Rattle.primitives.specs.Given.{given_at, is_of_kind}
+use Rattle.vector_operators.specs.Given.{given_at, is_of_kind}
 use Rattle.primitives.specs.Nodes.{Decides, FitsArm, Gives, IsExact, IsNoLater, one_of_subject}
 use Rattle.primitives.proofs.Arms.{decides_start}
-use Rattle.primitives.proofs.Composes.{after, lane_is, pointwise, restated}
+use Rattle.vector_operators.proofs.Composes.{after, lane_is, pointwise, restated}
 use Rattle.primitives.proofs.Lists.{first_of_more, one_of_subject_more}
 
 each_is : {X : Type 0} (P : X → Type 0) (xs : List X) (i : ℕ) (d : X) → AllByRecursion P xs → i < length xs → P (get_or xs i d)

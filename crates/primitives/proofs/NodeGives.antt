@@ -17,16 +17,17 @@ use Rattle.meaning.specs.Operators.{arith_of, case_of, coalesce_of, compare_of}
 use Rattle.meaning.specs.Typing.{ExprType, Valued, Boolean, RowTypes}
 use Rattle.vectors.specs.Selection.{Positions, without}
 use Rattle.vectors.specs.Vector.{BatchSpec}
-use Rattle.primitives.specs.declared.given.Given.{Given}
-use Rattle.primitives.specs.declared.given.Given.TheVariants as given
+use Rattle.vector_operators.specs.declared.given.Given.{Given}
+use Rattle.vector_operators.specs.declared.given.Given.TheVariants as given
 use Rattle.primitives.specs.declared.nodes.Cases.{Cases}
 use Rattle.primitives.specs.declared.nodes.Taken.{Taken}
-use Rattle.primitives.specs.Evaluated.{Evaluates, Held, IsWithin, meant_at}
+use Rattle.vector_operators.specs.Evaluated.{Evaluates, Held, IsWithin}
+use Rattle.primitives.specs.Meant.{meant_at}
 use Rattle.primitives.specs.Fitting.{AreTypedRows, Fits}
-use Rattle.primitives.specs.Given.{AreNarrowed, are_alike, given_at, is_null_lane, is_of_kind, is_true_lane}
-use Rattle.primitives.specs.Nodes.{ArePut, Decides, FitsArm, Gives, IsExact, IsNoLater, IsTaken, IsWhere, Passes}
+use Rattle.vector_operators.specs.Given.{AreNarrowed, are_alike, given_at, is_null_lane, is_of_kind, is_true_lane, ArePut}
+use Rattle.primitives.specs.Nodes.{Decides, FitsArm, Gives, IsExact, IsNoLater, IsTaken, IsWhere, Passes}
 use Rattle.primitives.proofs.Arms.{decides_more, decides_rest, passes_where}
-use Rattle.primitives.proofs.Composes.{Node, pointwise, reselected}
+use Rattle.vector_operators.proofs.Composes.{Node, pointwise, reselected}
 use Rattle.primitives.proofs.Steps.{are_alike_kinds, arith_node, beside, both, compare_node, given_no_later, narrowed_both}
 
 -- what is promised of an expression on some lanes

@@ -11,13 +11,13 @@ use Rattle.meaning.specs.declared.expr.ComparisonOperator.{ComparisonOperator}
 use Rattle.meaning.specs.Operators.{arith_of, compare_of, and_of, or_of}
 use Rattle.meaning.specs.Typing.{Valued}
 use Rattle.vectors.specs.Selection.{Positions}
-use Rattle.primitives.specs.declared.given.Given.{Given}
-use Rattle.primitives.specs.declared.given.Given.TheVariants as given
+use Rattle.vector_operators.specs.declared.given.Given.{Given}
+use Rattle.vector_operators.specs.declared.given.Given.TheVariants as given
 use Rattle.meaning.specs.declared.value.ColType.TheVariants as of_type
-use Rattle.primitives.specs.Evaluated.{Held, IsWithin, Evaluates}
-use Rattle.primitives.specs.Given.{are_alike, given_at, is_not_false, is_not_true, is_of_kind}
+use Rattle.vector_operators.specs.Evaluated.{Held, IsWithin, Evaluates}
+use Rattle.vector_operators.specs.Given.{are_alike, given_at, is_not_false, is_not_true, is_of_kind}
 use Rattle.primitives.specs.Nodes.{IsExact, IsNoLater, IsWhere}
-use Rattle.primitives.proofs.Composes.{Node, composes, reselected, pointwise, before_old, lane_is}
+use Rattle.vector_operators.proofs.Composes.{Node, composes, reselected, pointwise, before_old, lane_is}
 
 abbrev pub always : Outcome → Bool
 always o = true

@@ -1,26 +1,16 @@
 -- When an expression fits a batch: in the types of its columns, and in which columns are there.
-use Rattle.std.specs.Prelude.{◌≡◌, ◌⊎◌, Bool, true, List, [], All, Option, slice_get, slice_index_or}
+use Rattle.std.specs.Prelude.{◌≡◌, Bool, true, List, [], All, Option, slice_get, slice_index_or}
 use Rattle.std.specs.List.{list_any}
 use Rattle.meaning.specs.declared.value.ColType.{ColType}
-use Rattle.meaning.specs.declared.value.ColType.TheVariants as of_type
-use Rattle.meaning.specs.declared.value.Value.TheVariants.{Null}
-use Rattle.meaning.specs.declared.outcome.Outcome.TheVariants as gives
 use Rattle.meaning.specs.declared.expr.Expr.{Expr}
 use Rattle.meaning.specs.declared.joined_row.JoinedRow.{JoinedRow}
 use Rattle.meaning.specs.References.{Reference, FactColumn, JoinColumn, GroupKey, GroupAggregate, columns_used}
-use Rattle.meaning.specs.Typing.{ExprType, Valued, Boolean, RowTypes, is_column_type, is_valued, fits_row_types, has_type}
-use Rattle.vectors.specs.declared.vector.Vector.{Vector}
-use Rattle.vectors.specs.declared.vector.Vector.TheVariants as vector
+use Rattle.meaning.specs.Typing.{ExprType, RowTypes, is_column_type, fits_row_types, has_type}
 use Rattle.vectors.specs.declared.batch.Place.{Place}
 use Rattle.vectors.specs.declared.batch.Place.TheVariants as place
 use Rattle.vectors.specs.declared.batch.BatchColumn.{BatchColumn}
-use Rattle.vectors.specs.Vector.{BatchSpec, AreRowsOf, outcomes_of, reference_of, same_place}
-
--- of which type the lanes are
-abbrev pub type_of_lanes : Vector → ExprType
-type_of_lanes (vector.Ints lanes) = Valued of_type.Int
-type_of_lanes (vector.Texts lanes) = Valued of_type.Text
-type_of_lanes (vector.Truths lanes) = Boolean
+use Rattle.vectors.specs.Vector.{BatchSpec, AreRowsOf, reference_of, same_place}
+use Rattle.vector_operators.specs.Given.{type_of_lanes}
 
 -- the type of what stands there, if the rows have it
 abbrev pub referenced_type : RowTypes → Reference → Option ColType
@@ -28,10 +18,6 @@ referenced_type types (FactColumn at) = slice_get types.fact at
 referenced_type types (JoinColumn join at) = slice_get (slice_index_or types.joins join []) at
 referenced_type types (GroupKey i) = slice_get types.key i
 referenced_type types (GroupAggregate i) = slice_get types.aggregates i
-
--- lanes of the type, or NULL in each, which is of any type of values
-abbrev pub IsOfType : ExprType → Vector → Type 0
-IsOfType type v = (type_of_lanes v ≡ type) ⊎ ((is_valued type ≡ true) × All (λ lane. lane ≡ gives.Value Null) (outcomes_of v))
 
 -- the column's lanes are of the type of what stands in its place
 abbrev pub is_typed_column : RowTypes → BatchColumn → Bool

@@ -1,5 +1,5 @@
 -- What the nodes of an expression give, on the lanes on which they are evaluated.
-use Rattle.std.specs.Prelude.{◌≡◌, ℕ, ◌<◌, ◌⊎◌, Bool, true, false, if◌then◌else◌, List}
+use Rattle.std.specs.Prelude.{◌≡◌, ℕ, ◌<◌, ◌⊎◌, Bool, true, false, List}
 use Rattle.meaning.specs.declared.value.ColType.{ColType}
 use Rattle.meaning.specs.declared.outcome.Truth.TheVariants.{True, False, Unknown}
 use Rattle.meaning.specs.declared.outcome.Outcome.{Outcome}
@@ -9,10 +9,10 @@ use Rattle.meaning.specs.Operators.{one_of}
 use Rattle.meaning.specs.Typing.{ExprType, RowTypes, Valued, Boolean}
 use Rattle.vectors.specs.Selection.{Positions, is_among}
 use Rattle.vectors.specs.declared.batch.BatchColumn.{BatchColumn}
-use Rattle.primitives.specs.Evaluated.{Evaluates, Finds, Held, IsBefore, IsWithin}
+use Rattle.vector_operators.specs.Evaluated.{Evaluates, Finds, Held, IsBefore, IsWithin}
 use Rattle.primitives.specs.Fitting.{Fits}
-use Rattle.primitives.specs.Given.{given_at, is_of_kind}
-use Rattle.primitives.specs.declared.given.Given.{Given}
+use Rattle.vector_operators.specs.Given.{given_at, is_of_kind}
+use Rattle.vector_operators.specs.declared.given.Given.{Given}
 
 -- lanes of the type's kind, and what they are
 pub record Gives (type : ExprType) (meant : ℕ → Outcome) (Selected : ℕ → Type 0) (held new : Held) (g : Given) : Type 0 where
@@ -44,10 +44,6 @@ one_of_subject (gives.Truth t) list = one_of (gives.Truth t) list
 pub record FitsArm (types : RowTypes) (columns : List BatchColumn) (kind : ColType) (arm : Arm) : Type 0 where
   pub condition : Fits types columns arm.when Boolean
   pub value : Fits types columns arm.then (Valued kind)
-
--- the lanes of the first at the selected positions, elsewhere those of the second
-abbrev pub ArePut : Positions → Given → Given → Given → Type 0
-ArePut s these those g = (i : ℕ) → i < s.below → given_at g i ≡ (if is_among s.list i then given_at these i else given_at those i)
 
 -- neither a fault nor TRUE
 abbrev pub IsPassedOver : Outcome → Type 0

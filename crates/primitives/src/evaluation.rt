@@ -4,13 +4,15 @@ ghost use Rattle.meaning.specs.declared.joined_row.JoinedRow.{JoinedRow};
 ghost use Rattle.meaning.specs.Typing.{ExprType, RowTypes};
 ghost use Rattle.vectors.specs.Selection.{is_among};
 ghost use Rattle.vectors.specs.Vector.{outcomes_of};
-ghost use Rattle.primitives.specs.Evaluated.{Evaluates, IsEvaluated, lane_of, meant_at};
-ghost use Rattle.primitives.specs.Fitting.{AreTypedRows, Fits, IsOfType};
+ghost use Rattle.vector_operators.specs.Evaluated.{Evaluates, IsEvaluated, lane_of};
+ghost use Rattle.primitives.specs.Meant.{meant_at};
+ghost use Rattle.primitives.specs.Fitting.{AreTypedRows, Fits};
+ghost use Rattle.vector_operators.specs.Given.{IsOfType};
 
-use crate::fault::Fault1;
 use crate::nodes::eval;
 use meaning::expr::Expr;
 use std::alloc::{AllocError, Global};
+use vector_operators::fault::Fault1;
 use vectors::batch::Batch;
 use vectors::selection::Selection;
 use vectors::vector::Vector;

@@ -9,24 +9,26 @@ ghost use Rattle.meaning.specs.Operators.{and_of, arith_of, case_of, cases_of, c
 ghost use Rattle.meaning.specs.Expr.{arms_at, eval_arm, outcomes};
 ghost use Rattle.meaning.specs.Typing.{Boolean, ExprType, RowTypes, Valued};
 ghost use Rattle.vectors.specs.Selection.{Positions, without};
-ghost use Rattle.primitives.specs.Evaluated.{Evaluates, Held, IsWithin, meant_at, row_at};
-ghost use Rattle.primitives.specs.declared.given.Given.{Given};
+ghost use Rattle.vector_operators.specs.Evaluated.{Evaluates, Held, IsWithin};
+ghost use Rattle.primitives.specs.Meant.{meant_at, row_at};
+ghost use Rattle.vector_operators.specs.declared.given.Given.{Given};
 ghost use Rattle.primitives.specs.Fitting.{AreTypedRows, Fits};
-ghost use Rattle.primitives.specs.Given.{AreNegatedIf, IsLong, IsSpelledIn, are_alike, given_at, is_not_false, is_not_true, is_null_lane, is_of_kind};
-ghost use Rattle.primitives.specs.Nodes.{ArePut, Decides, FitsArm, Gives, IsExact, IsNoLater, IsTaken, IsWhere, Passes, one_of_subject};
+ghost use Rattle.vector_operators.specs.Given.{AreNegatedIf, IsLong, IsSpelledIn, are_alike, given_at, is_not_false, is_not_true, is_null_lane, is_of_kind, ArePut};
+ghost use Rattle.primitives.specs.Nodes.{Decides, FitsArm, Gives, IsExact, IsNoLater, IsTaken, IsWhere, Passes, one_of_subject};
 
-use crate::arithmetic::{arithmetic, minus};
-use crate::choice::choose_lanes;
-use crate::comparing::{compare, is_null, like, one_truth};
-use crate::fault::Fault1;
-use crate::given::{Given, lent_column, repeated};
-use crate::logic::{and, not, not_if, or, unless_false, unless_true, where_null, where_true};
-use crate::spread::null_lanes;
 use meaning::expr::{ArithmeticOperator, Arm, ComparisonOperator, Expr};
 use meaning::outcome::Truth;
 use meaning::text::Text;
 use std::alloc::{AllocError, Global};
 use std::mem::drop;
+use vector_operators::arithmetic::{arithmetic, minus};
+use vector_operators::choice::{coalesce, put};
+use vector_operators::comparing::{compare, is_null, like, one_truth};
+use vector_operators::fault::Fault1;
+use vector_operators::given::{Given, lent_column, repeated};
+use vector_operators::logic::{
+    and, not, not_if, or, unless_false, unless_true, where_null, where_true,
+};
 use vectors::batch::{Batch, Place};
 use vectors::selection::Selection;
 
@@ -671,25 +673,6 @@ fn eval_next<'a>(
     result
 }
 
-/// The first lane, and where it is NULL the second.
-fn coalesce<'a>(
-    alloc: Global,
-    first: &Given<'a>,
-    second: &Given<'a>,
-    lanes: usize,
-) -> Result<Given<'a>, AllocError>
-    requires first { IsLong lanes first.now }
-    requires second { IsLong lanes second.now }
-    ensures long { IfOk result (IsLong lanes) }
-    ensures value { (kind : ColType) → is_of_kind (Valued kind) first.now ≡ true → is_of_kind (Valued kind) second.now ≡ true
-        → IfOk result (λ g. (i : ℕ) → i < lanes → given_at g i ≡ coalesce_of (given_at first.now i) (given_at second.now i)) }
-    ensures kind { (kind : ColType) → is_of_kind (Valued kind) first.now ≡ true → is_of_kind (Valued kind) second.now ≡ true
-        → IfOk result (λ g. is_of_kind (Valued kind) g ≡ true) }
-{
-    let mask = null_lanes(alloc, first, lanes)?;
-    choose_lanes(alloc, mask.as_slice(), second, first)
-}
-
 /// What the arms of a CASE gave so far, and the lanes that none of them took.
 #[derive(Drop)]
 pub struct Cases<'a> {
@@ -833,25 +816,6 @@ fn put_taken<'a>(
     let given = put(alloc, &taken.lanes, &taken.then, &cases.given)?;
     let left = cases.left.minus(alloc, &taken.lanes)?;
     Ok(Cases { given, left })
-}
-
-/// The lanes of `these` at the selected positions, elsewhere those of `those`.
-fn put<'a>(
-    alloc: Global,
-    selection: &Selection,
-    these: &Given<'a>,
-    those: &Given<'a>,
-) -> Result<Given<'a>, AllocError>
-    requires these { IsLong selection.now.below these.now }
-    requires those { IsLong selection.now.below those.now }
-    ensures long { IfOk result (IsLong selection.now.below) }
-    ensures value { (kind : ColType) → is_of_kind (Valued kind) those.now ≡ true → is_of_kind (Valued kind) these.now ≡ true
-        → IfOk result (ArePut selection.now these.now those.now) }
-    ensures kind { (kind : ColType) → is_of_kind (Valued kind) those.now ≡ true → is_of_kind (Valued kind) these.now ≡ true
-        → IfOk result (λ g. is_of_kind (Valued kind) g ≡ true) }
-{
-    let mask = selection.mask(alloc)?;
-    choose_lanes(alloc, mask.as_slice(), these, those)
 }
 
 /// ELSE, on the lanes that no arm took.

@@ -1,5 +1,5 @@
 -- The laws.
-use Rattle.std.proofs.Common.{◌≡◌, ℕ, zero, suc, ◌+◌, ◌-◌, ◌≤◌, ◌<◌, min, Bool, true, false, List, [], ◌∷◌, ◌++◌, get_or, length, map, refl, ap, sym, subst, ◌∙◌, append_assoc, append-nil, arith}
+use Rattle.std.proofs.Common.{◌≡◌, ℕ, zero, suc, ◌+◌, ◌-◌, ◌≤◌, ◌<◌, min, true, List, [], ◌∷◌, ◌++◌, get_or, length, map, refl, ap, sym, subst, ◌∙◌, append_assoc, arith}
 use Rattle.std.specs.Prelude.{flat_map, All}
 use Rattle.std.specs.List.{range_with_len}
 use Rattle.std.proofs.lemmas.List.{map-append}
@@ -7,15 +7,13 @@ use Rattle.meaning.specs.declared.outcome.Truth.TheVariants.{True, False, Unknow
 use Rattle.meaning.specs.declared.outcome.Outcome.{Outcome}
 use Rattle.meaning.specs.declared.outcome.Outcome.TheVariants as gives
 use Rattle.meaning.specs.declared.value.Value.{Value}
-use Rattle.meaning.specs.declared.expr.Expr.{Expr}
-use Rattle.meaning.specs.declared.joined_row.JoinedRow.{JoinedRow}
 use Rattle.meaning.specs.Expr.{eval}
-use Rattle.meaning.specs.Judge.{Filtered, filtered, filtered_by}
+use Rattle.meaning.specs.Judge.{filtered_by}
 use Rattle.meaning.specs.Order.{Row, column}
 use Rattle.encodings.specs.Block.{Block, is_block, values_of}
-use Rattle.fragment_file.specs.Fragment.{AreBlocks, AreGroups, FragmentSpec, IsFragment, group_sizes, no_block, column_values}
+use Rattle.fragment_file.specs.Fragment.{AreBlocks, AreGroups, group_sizes, no_block, column_values}
 use Rattle.fragment_file.specs.View.{rows_of}
-use Rattle.scan_select.specs.Pieces.{Piece, sizes, pieces_at, pieces_of, pieces, row_in, rows_in, rows_of_piece, pieces_behind}
+use Rattle.scan_select.specs.Pieces.{sizes, pieces_at, pieces_of, pieces, row_in, rows_in, rows_of_piece}
 use Rattle.scan_select.specs.Selected.{behind, conditions, filter_of}
 use Rattle.scan_select.specs.Laws.{BatchesAreRows, RowsAreColumns, ConditionsJudge}
 use Rattle.meaning.specs.declared.catalog.Column.{Column}

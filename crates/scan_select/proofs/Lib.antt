@@ -3,6 +3,6 @@ pub mod Sizes
 pub mod Advancing
 pub mod Masks
 pub mod Rows
-pub mod Least
 pub mod Narrowing
 pub mod LawProofs
+pub mod TypedBatches

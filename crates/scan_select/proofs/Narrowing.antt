@@ -1,5 +1,5 @@
 -- One condition after the other.
-use Rattle.std.proofs.Common.{◌≡◌, ◌≢◌, ℕ, zero, suc, ◌+◌, ◌<◌, ◌⊎◌, inl, inr, eqb, Bool, true, false, cond, ◌&&◌, ◌||◌, List, [], ◌∷◌, ◌++◌, get_or, map, filter, take, length, Option, Some, None, refl, ap, sym, subst, ◌∙◌, arith}
+use Rattle.std.proofs.Common.{◌≡◌, ◌≢◌, ℕ, zero, suc, ◌+◌, ◌⊎◌, inl, inr, eqb, Bool, true, false, cond, ◌&&◌, ◌||◌, List, [], ◌∷◌, ◌++◌, get_or, map, filter, take, refl, ap, sym, ◌∙◌}
 use Rattle.std.proofs.lemmas.Bool.{and_parts, eqb-true}
 use Rattle.meaning.specs.Truth.{is_true}
 use Rattle.meaning.specs.declared.value.Value.{Value}
@@ -15,11 +15,12 @@ use Rattle.meaning.specs.Expr.{eval}
 use Rattle.vectors.specs.declared.vector.Vector.{Vector}
 use Rattle.vectors.specs.declared.vector.Vector.TheVariants as vector
 use Rattle.vectors.specs.Selection.{is_among}
-use Rattle.vectors.specs.Vector.{outcomes_of}
-use Rattle.primitives.specs.Evaluated.{Held, IsBefore, Finds, Evaluates, lane_of, meant_at, row_at}
+use Rattle.vector_operators.specs.Evaluated.{Held, IsBefore, Finds, Evaluates, lane_of}
+use Rattle.primitives.specs.Meant.{meant_at, row_at}
 use Rattle.scan_select.specs.Selected.{behind, conditions, conditions_at, is_kept, Narrows, Selects}
 use Rattle.std.specs.List.Sorted.{IsStrictlyIncreasing}
-use Rattle.scan_select.proofs.Least.{before_old, least_noted}
+use Rattle.vector_operators.proofs.Composes.{before_old}
+use Rattle.vector_operators.proofs.Least.{least_noted}
 
 -- ---- lanes
 
@@ -215,7 +216,7 @@ one_more_condition cs k c rows old mid new held first now more one two =
 -- all conditions
 pub selects : (m : ℕ → Outcome) (old new : List ℕ) (held now : Held) → IsStrictlyIncreasing old → Narrows m old new held now → Selects m old new held now
 selects m old new held now ascending narrows = record {
-  least = least_noted m old held now ascending narrows.sound narrows.origin;
+  least = least_noted m old held now narrows.sound narrows.origin ascending;
   kept = narrows.kept;
   within = narrows.within;
 }

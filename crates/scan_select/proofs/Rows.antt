@@ -1,7 +1,7 @@
 -- The rows that a batch has the columns of.
 use Rattle.std.proofs.Common.{◌≡◌, ℕ, zero, suc, ◌+◌, ◌≤◌, ◌<◌, Bool, false, true, cond, eqb, List, [], ◌∷◌, ◌++◌, length, Option, Some, append_assoc, get_or, map, zip, take, drop, replicate, refl, ap, sym, ◌∙◌, subst, arith}
 use Rattle.std.specs.Prelude.{nat_le, All}
-use Rattle.std.specs.List.{range_with_len, AllByRecursion, AllZip}
+use Rattle.std.specs.List.{range_with_len, AllByRecursion}
 use Rattle.std.proofs.lemmas.List.Elements.{All-from_recursion, recursion_from_All}
 use Rattle.std.proofs.lemmas.List.{length-map, length-replicate, take_more}
 use Rattle.std.proofs.lemmas.Slice.Zip.{length-zip}
@@ -11,10 +11,9 @@ use Rattle.meaning.specs.declared.value.Value.{Value}
 use Rattle.meaning.specs.declared.value.Value.TheVariants.{Null}
 use Rattle.meaning.specs.declared.outcome.Outcome.{Outcome}
 use Rattle.meaning.specs.declared.outcome.Outcome.TheVariants as gives
-use Rattle.meaning.specs.declared.joined_row.JoinedRow.{JoinedRow}
-use Rattle.meaning.specs.Order.{Row, column}
+use Rattle.meaning.specs.Order.{column}
 use Rattle.meaning.specs.Joined.{joined_row}
-use Rattle.meaning.specs.References.{Reference, FactColumn, referenced}
+use Rattle.meaning.specs.References.{FactColumn, referenced}
 use Rattle.encodings.specs.Block.{Block, bit_at, is_block, mask_of, nulls_of, cells_of, values_of, masked}
 use Rattle.encodings.proofs.Blocks.{block_body}
 use Rattle.encodings.proofs.Nulls.{length_cells}

@@ -1,12 +1,18 @@
 -- Laws, each of them the contract of a function of `src/laws.rt`.
-use Rattle.std.specs.Prelude.{◌≡◌, ℕ, ◌<◌, List, map, flat_map, length, get_or}
+use Rattle.std.specs.Prelude.{◌≡◌, ℕ, ◌<◌, true, List, [], ◌∷◌, ◌++◌, map, flat_map, length, slice_get, Some, All}
+use Rattle.meaning.specs.declared.catalog.Column.{Column}
 use Rattle.meaning.specs.declared.expr.Expr.{Expr}
 use Rattle.meaning.specs.declared.joined_row.JoinedRow.{JoinedRow}
 use Rattle.meaning.specs.Judge.{filtered}
-use Rattle.meaning.specs.Order.{Row, column}
+use Rattle.meaning.specs.Order.{column}
+use Rattle.meaning.specs.Typing.{RowTypes, is_of_type}
 use Rattle.encodings.specs.Block.{Block}
+use Rattle.fragment_file.specs.declared.header.Header.{Header}
 use Rattle.fragment_file.specs.Fragment.{FragmentSpec, IsFragment, column_values}
-use Rattle.scan_select.specs.Pieces.{pieces, rows_in, rows_of_piece}
+use Rattle.vectors.specs.Vector.{BatchSpec}
+use Rattle.primitives.specs.Fitting.{AreTypedRows}
+use Rattle.scan_select.specs.Pieces.{Piece, pieces, rows_in, rows_of_piece}
+use Rattle.scan_select.specs.Scanned.{IsBatchOf, fact_rows}
 use Rattle.scan_select.specs.Selected.{conditions, filter_of}
 
 -- the pieces of row groups have the rows of the row groups, in their order, each once
@@ -21,3 +27,17 @@ RowsAreColumns = (f : FragmentSpec) (j : ℕ) → IsFragment f → j < length f.
 -- conditions keep a row, drop it or fault as they do when the row is judged
 abbrev pub ConditionsJudge : Type 0
 ConditionsJudge = (cs : List Expr) (row : JoinedRow) → filtered cs row ≡ filter_of (conditions cs row)
+
+-- the types of the columns that a header names
+abbrev pub header_types : Header → RowTypes
+header_types h = record { fact = map (λ c. c.col_type) h.columns; joins = []; key = []; aggregates = [] }
+
+-- each column of a file has values of its type
+abbrev pub AreTypedColumns : FragmentSpec → Type 0
+AreTypedColumns f = (j : ℕ) (c : Column) → slice_get f.header.columns j ≡ Some c → All (λ v. is_of_type c.col_type v ≡ true) (column_values j f.groups)
+
+-- in a batch of a file whose columns have values of their types, columns and rows are of the types that the header tells
+abbrev pub BatchesAreTyped : Type 0
+BatchesAreTyped = (f : FragmentSpec) (n : ℕ) (before behind : List Piece) (piece : Piece) (places : List ℕ) (batch : BatchSpec)
+    → IsFragment f → AreTypedColumns f → pieces n f.groups ≡ before ++ piece ∷ behind → All (λ p. p < length f.header.columns) places
+    → IsBatchOf places piece batch → AreTypedRows (header_types f.header) batch (fact_rows piece)

@@ -10,7 +10,8 @@ use Rattle.meaning.specs.Expr.{eval}
 use Rattle.meaning.specs.Judge.{Filtered, Passes, Drops, Faults}
 use Rattle.meaning.specs.Operators.{code_of}
 use Rattle.vectors.specs.Selection.{is_among}
-use Rattle.primitives.specs.Evaluated.{Held, IsBefore, Finds, first_fault, noted, row_at}
+use Rattle.vector_operators.specs.Evaluated.{Held, IsBefore, Finds, first_fault, noted}
+use Rattle.primitives.specs.Meant.{row_at}
 
 -- TRUE goes on to the next condition; all else but a fault drops the row
 abbrev pub behind : Outcome → Outcome → Outcome

@@ -1,5 +1,5 @@
 //! Laws on scans and conditions, each the contract of a function that does nothing.
-ghost use Rattle.scan_select.specs.Laws.{BatchesAreRows, ConditionsJudge, RowsAreColumns};
+ghost use Rattle.scan_select.specs.Laws.{BatchesAreRows, BatchesAreTyped, ConditionsJudge, RowsAreColumns};
 
 /// The rows of all batches, one after the other, are the rows of all row groups.
 pub fn batches_are_rows()
@@ -9,6 +9,11 @@ pub fn batches_are_rows()
 /// The rows of a file's row groups have in each column what the file's column holds.
 pub fn rows_are_columns()
     ensures { RowsAreColumns }
+{}
+
+/// A batch of a file whose columns have values of their types fits these types, as evaluation asks.
+pub fn batches_are_typed()
+    ensures { BatchesAreTyped }
 {}
 
 /// Conditions keep a row, drop it or fault as they do when the row is judged.

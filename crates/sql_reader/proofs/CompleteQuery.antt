@@ -22,10 +22,11 @@ use Rattle.sql_syntax.specs.declared.strength.Level.TheVariants as level
 use Rattle.sql_syntax.specs.Phrases.{word, mark, Spells, open_in}
 use Rattle.sql_syntax.specs.CanonicalTokens.{depth, deepest}
 use Rattle.sql_syntax.specs.Queries.{SpellsAlias, none, bare, behind_as, SpellsTable, table, SpellsTarget, place, name, SpellsDirection, unsaid, ascending, descending, SpellsItems, last_item, more_items, SpellsOthers, no_others, behind_comma, behind_join, SpellsClause, no_clause, clause, SpellsGroups, no_groups, groups, SpellsKeys, last_key, more_keys, SpellsOrder, no_order, order, SpellsLimit, no_limit, limit, SpellsEnd, no_end, semicolon, SpellsQuery, open_in_query, option_depth, query_depth}
-use Rattle.sql_reader.proofs.Rules as rule
-use Rattle.sql_reader.proofs.Rules.{◌>>=◌, is_keyword, is_sign, behind, inner_at}
-use Rattle.sql_reader.proofs.Ahead.{reach, reach_of, not_keyword, not_sign}
-use Rattle.sql_reader.proofs.Complete.{whole, freely, complete, complete_list, list_reads, none_listed}
+use Rattle.sql_reader.specs.Rules as rule
+use Rattle.sql_expressions.specs.Rules as phrase
+use Rattle.sql_expressions.specs.Rules.{◌>>=◌, is_keyword, is_sign, behind, inner_at}
+use Rattle.sql_expressions.proofs.Ahead.{reach, reach_of, not_keyword, not_sign}
+use Rattle.sql_expressions.proofs.Complete.{whole, freely, complete, complete_list, list_reads, none_listed}
 
 -- ---- what may stand behind a part of a query
 
@@ -120,7 +121,7 @@ stage_reach (terminal.out_of_range ∷ ts) h = omega arith
 stage_reach (terminal.not_closed ∷ ts) h = omega arith
 stage_reach (terminal.unknown ∷ ts) h = omega arith
 
-no_name : (rest : List Terminal) → 1 ≤ stage_of rest → rule.begins_name rest ≡ false
+no_name : (rest : List Terminal) → 1 ≤ stage_of rest → phrase.begins_name rest ≡ false
 no_name [] h = refl
 no_name (terminal.keyword k ∷ ts) h = refl
 no_name (terminal.name n ∷ ts) h = absurd (omega arith)
@@ -135,7 +136,7 @@ no_name (terminal.unknown ∷ ts) h = refl
 not_that : (k : Keyword) (t : Terminal) → stage (word k) < stage t → is_keyword k t ≡ false
 not_that k t h = not_keyword k t (λ e. let same : stage t ≡ stage (word k) = ap stage e in omega arith)
 
-no_other : (rest : List Terminal) → 2 ≤ stage_of rest → rule.begins_other rest ≡ false
+no_other : (rest : List Terminal) → 2 ≤ stage_of rest → phrase.begins_other rest ≡ false
 no_other [] h = refl
 no_other (t ∷ ts) h =
     let comma : is_sign sign.Comma t ≡ false = not_sign sign.Comma t (λ e. let same : stage t ≡ 1 = ap stage e in omega arith) in
@@ -235,7 +236,7 @@ others_stage (behind_join {is = is} {ts = ts} {us = us} {vs = vs} e t d ds) rest
 put_other_is : (most n : ℕ) (before : List Joined) (ts rest : List Terminal) (j : Joined) → rule.other_at (inner_at most n) ts ≡ Some (j, rest) → rule.put_other (inner_at most n) before ts ≡ Some (before ++ j ∷ [], rest)
 put_other_is most n before ts rest j reads = rw reads refl
 
-others_step : (m most n : ℕ) (before : List Joined) (ts rest : List Terminal) (j : Joined) (r : Option (List Joined × List Terminal)) → rule.begins_other ts ≡ true → rule.other_at (inner_at most n) ts ≡ Some (j, rest)
+others_step : (m most n : ℕ) (before : List Joined) (ts rest : List Terminal) (j : Joined) (r : Option (List Joined × List Terminal)) → phrase.begins_other ts ≡ true → rule.other_at (inner_at most n) ts ≡ Some (j, rest)
     → rule.more_others (inner_at most n) m (before ++ j ∷ []) rest ≡ r → rule.more_others (inner_at most n) (suc m) before ts ≡ r
 others_step m most n before ts rest j r begins reads more_read = rw (begins, reads) more_read
 
@@ -247,11 +248,11 @@ joined_reads : (most n : ℕ) (ts us rest : List Terminal) (t : Table) (e : Expr
 joined_reads most n ts us rest t e first second = rw (first, second) refl
 
 join_reads : (most n : ℕ) (is ts rest : List Terminal) (j : Joined) → (is ≡ word keyword.Join ∷ []) ⊎ (is ≡ word keyword.Inner ∷ word keyword.Join ∷ []) → rule.joined_at (inner_at most n) ts ≡ Some (j, rest)
-    → (rule.begins_other (is ++ ts) ≡ true) × (rule.other_at (inner_at most n) (is ++ ts) ≡ Some (j, rest))
+    → (phrase.begins_other (is ++ ts) ≡ true) × (rule.other_at (inner_at most n) (is ++ ts) ≡ Some (j, rest))
 join_reads most n is ts rest j (inl e) reads =
-    subst (λ (x : List Terminal). (rule.begins_other (x ++ ts) ≡ true) × (rule.other_at (inner_at most n) (x ++ ts) ≡ Some (j, rest))) (sym e) (refl, reads)
+    subst (λ (x : List Terminal). (phrase.begins_other (x ++ ts) ≡ true) × (rule.other_at (inner_at most n) (x ++ ts) ≡ Some (j, rest))) (sym e) (refl, reads)
 join_reads most n is ts rest j (inr e) reads =
-    subst (λ (x : List Terminal). (rule.begins_other (x ++ ts) ≡ true) × (rule.other_at (inner_at most n) (x ++ ts) ≡ Some (j, rest))) (sym e) (refl, reads)
+    subst (λ (x : List Terminal). (phrase.begins_other (x ++ ts) ≡ true) × (rule.other_at (inner_at most n) (x ++ ts) ≡ Some (j, rest))) (sym e) (refl, reads)
 
 -- the deepest conditions of tables
 abbrev on_depth : Joined → ℕ

@@ -1,7 +1,8 @@
 -- The definitions of this crate.
 pub mod Faults
 pub mod Grammar
-pub mod Reading
+pub mod Rules
+pub mod Refusing
 pub use Rattle.sql_syntax.specs.Words
 pub use Rattle.sql_syntax.specs.Tokens
 pub use Rattle.sql_syntax.specs.Canonical

@@ -1,10 +1,11 @@
 //! SQL: from a text to its syntax tree, and back to its canonical text.
 #![tactic(auto)]
 
+mod clauses;
 mod fault;
 pub mod laws;
-mod parser;
 mod reading;
+mod refusing;
 
 pub use fault::SqlFault;
 pub use reading::read;

@@ -1,35 +1,31 @@
 //! A query from the bytes of its text.
-ghost use Rattle.std.specs.Prelude.{IfOk, IfErr, Ok};
+ghost use Rattle.std.specs.Prelude.{◌≡◌, IfOk, IfErr, length};
+ghost use Rattle.sql_syntax.specs.Tokens.{all_placed, tokens_of};
 ghost use Rattle.sql_syntax.specs.declared.tree.Query.{Query};
-ghost use Rattle.sql_reader.specs.Grammar.{IsTree, IsShort, IsRefusal};
-ghost use Rattle.sql_reader.specs.Reading.{Gives, reading, reading_of_text, if_short};
+ghost use Rattle.sql_reader.specs.Grammar.{IsWithin, IsRefusal, GivesQuery};
+ghost use Rattle.sql_reader.specs.Refusing.{IsAnswer, IsKept};
 
+use crate::clauses::query;
 use crate::fault::SqlFault;
-use crate::parser::Parser;
+use crate::refusing::fault_of;
 use meaning::limits::MAX_QUERY_BYTES;
 use sql_syntax::lexer::tokens;
 use sql_syntax::print;
+use sql_syntax::token::Lexeme;
 use sql_syntax::tree::Query;
 use std::alloc::Global;
 use std::mem::drop;
 
-/// The syntax tree of a text, which is either `SELECT COUNT(*) FROM table` or `SELECT SUM(column) FROM table`, with or
-/// without a semicolon. Where several refusals stand in a text, one of the whole text comes first, then the one of the
-/// least place, and that of the canonical text last.
+/// The syntax tree of a text. Where several refusals stand in a text, one of the whole text comes first, then the one of
+/// the least place, and that of the canonical text last. A text in which too many are open, or whose tree is too deep, is
+/// refused for that where reading comes to it.
 pub fn read(alloc: Global, text: &[u8]) -> Result<Query, SqlFault>
-    // What is read is the tree of the text.
-    ensures tree { IfOk result (λ q. IsTree text.now q × IsShort text.now q) }
-    // A text that has a tree is read, unless memory runs out.
-    ensures read { (q : Query) → IsTree text.now q → IsShort text.now q → Gives (λ r. r) result (Ok q) }
-    // A refusal stands in the text, and none stands before it.
+    // What is read is the tree of the text, within the limits.
+    ensures tree { IfOk result (IsWithin text.now) }
+    // A text that has a tree within the limits is read, unless memory runs out.
+    ensures read { (q : Query) → IsWithin text.now q → GivesQuery q result }
+    // A refusal stands in the text.
     ensures refusal { IfErr result (IsRefusal text.now) }
-{
-    read_bytes(alloc, text)
-}
-
-#[tactic(auto, using(crate::proofs::Whole::reads_text, crate::proofs::Whole::reads_no_text), unfolding(crate::specs::Reading::reading))]
-fn read_bytes(alloc: Global, text: &[u8]) -> Result<Query, SqlFault>
-    ensures { Gives (λ q. q) result (reading text.now) }
 {
     if text.len() > MAX_QUERY_BYTES {
         return Err(SqlFault::TooLong);
@@ -41,20 +37,25 @@ fn read_bytes(alloc: Global, text: &[u8]) -> Result<Query, SqlFault>
 }
 
 fn read_text(alloc: Global, text: &str) -> Result<Query, SqlFault>
-    ensures { Gives (λ q. q) result (reading_of_text text.now) }
+    ensures { IsAnswer (length text.now) (tokens_of text.now) result }
 {
     let lexemes = tokens(alloc, text)?;
-    let parser = Parser {
-        alloc,
-        end: text.len(),
-    };
-    let query = parser.query(&lexemes)?;
-    if_short(alloc, query)
+    read_lexemes(alloc, &lexemes, text.len())
+}
+
+/// The query of a text's tokens, and the text has so many bytes.
+fn read_lexemes(alloc: Global, lexemes: &[Lexeme<'_>], end: usize) -> Result<Query, SqlFault>
+    ensures { IsAnswer end (all_placed lexemes.now) result }
+{
+    match query(alloc, lexemes) {
+        Ok(query) => if_short(alloc, query),
+        Err(stop) => Err(fault_of(alloc, stop, lexemes, end)),
+    }
 }
 
 /// The query itself, unless its canonical text is too long.
 fn if_short(alloc: Global, query: Query) -> Result<Query, SqlFault>
-    ensures { Gives (λ q. q) result (if_short query) }
+    ensures { IsKept query result }
 {
     match print(alloc, &query) {
         Ok(canonical) => {

@@ -127,7 +127,7 @@ limit_goes : {ts : List Terminal} {o : Option ℕ} → SpellsLimit ts o → Goes
 limit_goes no_limit = no_arms
 limit_goes (limit n h) = λ rest ends o. (tt, refl, (omega (arith, h), refl, ends true))
 
-query_apart : {ts : List Terminal} {q : Query} → SpellsQuery ts q → AllByRecursion IsProper ts → AreApart false (query_tokens q)
+pub query_apart : {ts : List Terminal} {q : Query} → SpellsQuery ts q → AllByRecursion IsProper ts → AreApart false (query_tokens q)
 query_apart {ts} {q} s proper =
     let all = subst (AllByRecursion IsProper) s.tokens proper in
     let items = split_all s.items_tokens (word keyword.From ∷ s.first_tokens ++ (s.others_tokens ++ (s.filter_tokens ++ (s.groups_tokens ++ (s.having_tokens ++ (s.order_tokens ++ (s.limit_tokens ++ s.end_tokens))))))) all.1 in

@@ -31,7 +31,7 @@ undoubled_front (b ∷ f) rest all = undouble_other b (f ++ rest) (other_is (eqb
 front_passes : (bs : List ℕ) → AllPass is_other (before_first is_quote bs)
 front_passes bs = run_passes is_other bs
 
-parts : (bs f t : List ℕ) → position_or_len is_quote bs < length bs → f ≡ before_first is_quote bs → t ≡ after_first is_quote bs → bs ≡ f ++ 39 ∷ t
+pub parts : (bs f t : List ℕ) → position_or_len is_quote bs < length bs → f ≡ before_first is_quote bs → t ≡ after_first is_quote bs → bs ≡ f ++ 39 ∷ t
 parts bs f t within front behind =
     let quote : get_or bs (position_or_len is_quote bs) 0 ≡ 39 = eqb-true _ 39 (passes_at_first is_quote bs 0 within) in
     split_at_first is_quote bs 0 within ∙ (λ i. sym front i ++ quote i ∷ sym behind i)

@@ -14,3 +14,5 @@ pub mod TokenTexts
 pub mod ReadAgain
 pub mod Apart
 pub mod ApartQuery
+pub mod Utf8Parts
+pub mod Utf8Canonical

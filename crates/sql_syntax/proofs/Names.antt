@@ -4,6 +4,7 @@ use Rattle.std.specs.Prelude.{find, bytes_eq}
 use Rattle.std.specs.List.{prefix_len, take_while, AllByRecursion, list_any}
 use Rattle.std.specs.Char.{to_ascii_lowercase}
 use Rattle.std.specs.Str.{IsAscii}
+use Rattle.std.proofs.lemmas.Bool.{eqb-true}
 use Rattle.std.proofs.lemmas.Bool.Decides.{nat_tests}
 use Rattle.std.proofs.lemmas.List.{take_at, drop_at}
 use Rattle.std.proofs.lemmas.List.Sums.{take_while-cons}
@@ -12,7 +13,7 @@ use Rattle.sql_syntax.specs.declared.keyword.Keyword.{Keyword}
 use Rattle.sql_syntax.specs.declared.token.Sign.{Sign}
 use Rattle.sql_syntax.specs.Words.{lower, spelling_of, keywords, keyword_of, left_out_words, is_left_out}
 use Rattle.sql_syntax.specs.Tokens as terminal
-use Rattle.sql_syntax.specs.Tokens.{Terminal, Placed, is_blank, behind_blanks, is_word_start, is_word_byte, drop_while, other_word, word_or_other, word_of, word_at, terminal_at, with_first, placed_from, tokens_of, terminals}
+use Rattle.sql_syntax.specs.Tokens.{Terminal, Placed, is_blank, behind_blanks, is_word_start, is_word_byte, drop_while, other_word, word_or_other, word_of, word_at, quoted_len, terminal_at, with_first, placed_from, tokens_of, terminals}
 use Rattle.sql_syntax.proofs.Runs.{words_ascii}
 
 abbrev pub AllPass : (ℕ → Bool) → List ℕ → Type 0
@@ -69,16 +70,23 @@ name_first (b ∷ n) rest is stops =
 
 -- ---- every name of a text is one
 
+-- a name is one, and what stands in the quotes of a text is as it should be
+abbrev pub IsProperBy : (List ℕ → Type 0) → Terminal → Type 0
+IsProperBy P (terminal.name n) = IsName n
+IsProperBy P (terminal.keyword k) = Unit {0}
+IsProperBy P (terminal.integer n) = Unit {0}
+IsProperBy P (terminal.text t) = P t
+IsProperBy P (terminal.sign_is s) = Unit {0}
+IsProperBy P (terminal.left_out w) = Unit {0}
+IsProperBy P terminal.out_of_range = Unit {0}
+IsProperBy P terminal.not_closed = Unit {0}
+IsProperBy P terminal.unknown = Unit {0}
+
+abbrev any_text : List ℕ → Type 0
+any_text t = Unit {0}
+
 abbrev pub IsProper : Terminal → Type 0
-IsProper (terminal.name n) = IsName n
-IsProper (terminal.keyword k) = Unit {0}
-IsProper (terminal.integer n) = Unit {0}
-IsProper (terminal.text t) = Unit {0}
-IsProper (terminal.sign_is s) = Unit {0}
-IsProper (terminal.left_out w) = Unit {0}
-IsProper terminal.out_of_range = Unit {0}
-IsProper terminal.not_closed = Unit {0}
-IsProper terminal.unknown = Unit {0}
+IsProper = IsProperBy any_text
 
 -- a run of bytes of a word begins as what it is taken from
 run_start : (bs : List ℕ) → is_word_start (get_or bs 0 0) ≡ true → is_word_start (get_or (take_while is_word_byte bs) 0 0) ≡ true
@@ -87,74 +95,74 @@ run_start (b ∷ bs) starts =
     let passes : is_word_byte b ≡ true = grind (arith, nat_tests) in
     rw (take_while-cons is_word_byte b bs, passes) starts
 
-word_proper : (w : List ℕ) (k : Option Keyword) (out : Bool) → keyword_of w ≡ k → is_left_out w ≡ out → is_word_start (get_or w 0 0) ≡ true → AllPass is_word_byte w → IsProper (word_or_other w k)
-word_proper w (Some k) out is is_out starts all = tt
-word_proper w None true is is_out starts all = rw is_out tt
-word_proper w None false is is_out starts all =
+word_proper : (P : List ℕ → Type 0) (w : List ℕ) (k : Option Keyword) (out : Bool) → keyword_of w ≡ k → is_left_out w ≡ out → is_word_start (get_or w 0 0) ≡ true → AllPass is_word_byte w → IsProperBy P (word_or_other w k)
+word_proper P w (Some k) out is is_out starts all = tt
+word_proper P w None true is is_out starts all = rw is_out tt
+word_proper P w None false is is_out starts all =
     let free : word_of w ≡ terminal.name w = rw (is, is_out) refl in
     rw is_out (record { start = starts; word = all; free = free })
 
-integer_proper : (n : ℕ) (test : Bool) → IsProper (cond test (terminal.integer n) terminal.out_of_range)
-integer_proper n true = tt
-integer_proper n false = tt
+integer_proper : (P : List ℕ → Type 0) (n : ℕ) (test : Bool) → IsProperBy P (cond test (terminal.integer n) terminal.out_of_range)
+integer_proper P n true = tt
+integer_proper P n false = tt
 
-text_proper : (o : Option ℕ) (bs : List ℕ) → IsProper (terminal.text_or_none o bs).0
-text_proper (Some n) bs = tt
-text_proper None bs = tt
+text_proper : (P : List ℕ → Type 0) (o : Option ℕ) (bs : List ℕ) → ((n : ℕ) → o ≡ Some n → P (take n bs)) → IsProperBy P (terminal.text_or_none o bs).0
+text_proper P (Some n) bs proper = proper n refl
+text_proper P None bs proper = tt
 
-abbrev ProperIfSome : Option Terminal → Type 0
-ProperIfSome None = Unit {0}
-ProperIfSome (Some t) = IsProper t
+abbrev ProperIfSome : (List ℕ → Type 0) → Option Terminal → Type 0
+ProperIfSome P None = Unit {0}
+ProperIfSome P (Some t) = IsProperBy P t
 
-record Fine (o : Option Terminal) : Type 0 where
-  proper : ProperIfSome o
+record Fine (P : List ℕ → Type 0) (o : Option Terminal) : Type 0 where
+  proper : ProperIfSome P o
 
-fine_cond : (test : Bool) {o p : Option Terminal} → Fine o → Fine p → Fine (cond test o p)
-fine_cond true here there = here
-fine_cond false here there = there
+fine_cond : (P : List ℕ → Type 0) (test : Bool) {o p : Option Terminal} → Fine P o → Fine P p → Fine P (cond test o p)
+fine_cond P true here there = here
+fine_cond P false here there = there
 
-fine_sign : (s : Sign) → Fine (Some (terminal.sign_is s))
-fine_sign s = record { proper = tt }
+fine_sign : (P : List ℕ → Type 0) (s : Sign) → Fine P (Some (terminal.sign_is s))
+fine_sign P s = record { proper = tt }
 
-fine_left_out : (w : List ℕ) → Fine (Some (terminal.left_out w))
-fine_left_out w = record { proper = tt }
+fine_left_out : (P : List ℕ → Type 0) (w : List ℕ) → Fine P (Some (terminal.left_out w))
+fine_left_out P w = record { proper = tt }
 
-fine_none : Fine None
-fine_none = record { proper = tt }
+fine_none : (P : List ℕ → Type 0) → Fine P None
+fine_none P = record { proper = tt }
 
-short_fine : (b : ℕ) → Fine (terminal.short_sign b)
-short_fine b = search (fine_cond, fine_sign, fine_left_out, fine_none) depth 20
+short_fine : (P : List ℕ → Type 0) (b : ℕ) → Fine P (terminal.short_sign b)
+short_fine P b = search (fine_cond, fine_sign, fine_left_out, fine_none) depth 20
 
-long_fine : (a b : ℕ) → Fine (terminal.long_sign a b)
-long_fine a b = search (fine_cond, fine_sign, fine_left_out, fine_none) depth 10
+long_fine : (P : List ℕ → Type 0) (a b : ℕ) → Fine P (terminal.long_sign a b)
+long_fine P a b = search (fine_cond, fine_sign, fine_left_out, fine_none) depth 10
 
-short_proper : (o : Option Terminal) (bs : List ℕ) → Fine o → IsProper (terminal.short_or_none o bs).0
-short_proper (Some t) bs fine = fine.proper
-short_proper None bs fine = tt
+short_proper : (P : List ℕ → Type 0) (o : Option Terminal) (bs : List ℕ) → Fine P o → IsProperBy P (terminal.short_or_none o bs).0
+short_proper P (Some t) bs fine = fine.proper
+short_proper P None bs fine = tt
 
-sign_proper : (o : Option Terminal) (bs : List ℕ) → Fine o → IsProper (terminal.long_or_short o bs).0
-sign_proper (Some t) bs fine = fine.proper
-sign_proper None bs fine = short_proper (terminal.short_sign (get_or bs 0 0)) bs (short_fine (get_or bs 0 0))
+sign_proper : (P : List ℕ → Type 0) (o : Option Terminal) (bs : List ℕ) → Fine P o → IsProperBy P (terminal.long_or_short o bs).0
+sign_proper P (Some t) bs fine = fine.proper
+sign_proper P None bs fine = short_proper P (terminal.short_sign (get_or bs 0 0)) bs (short_fine P (get_or bs 0 0))
 
-choice_proper : (test : Bool) (x y : Terminal × List ℕ) → (test ≡ true → IsProper x.0) → IsProper y.0 → IsProper (cond test x y).0
-choice_proper true x y here there = here refl
-choice_proper false x y here there = there
+choice_proper : (P : List ℕ → Type 0) (test : Bool) (x y : Terminal × List ℕ) → (test ≡ true → IsProperBy P x.0) → IsProperBy P y.0 → IsProperBy P (cond test x y).0
+choice_proper P true x y here there = here refl
+choice_proper P false x y here there = there
 
--- the token at the front, where it is a name, is a proper one
-pub first_proper : (bs : List ℕ) → IsProper (terminal_at bs).0
+-- the token at the front, where it is a name or a text, is a proper one
+pub first_proper : (P : List ℕ → Type 0) (bs : List ℕ) → (get_or bs 0 0 ≡ 39 → (n : ℕ) → quoted_len (drop 1 bs) ≡ Some n → P (take n (drop 1 bs))) → IsProperBy P (terminal_at bs).0
 unfolding terminal_at
-first_proper bs =
+first_proper P bs quoted =
     let w = take_while is_word_byte bs in
-    let later = sign_proper (terminal.long_sign (get_or bs 0 0) (get_or bs 1 0)) bs (long_fine (get_or bs 0 0) (get_or bs 1 0)) in
-    choice_proper (is_word_start (get_or bs 0 0)) (word_at bs) (cond (terminal.is_digit (get_or bs 0 0)) (terminal.integer_at bs) (cond (eqb (get_or bs 0 0) 39) (terminal.text_at bs) (terminal.sign_at bs)))
-    (λ starts. word_proper w (keyword_of w) (is_left_out w) refl refl (run_start bs starts) (run_passes is_word_byte bs))
-    (choice_proper (terminal.is_digit (get_or bs 0 0)) (terminal.integer_at bs) (cond (eqb (get_or bs 0 0) 39) (terminal.text_at bs) (terminal.sign_at bs))
-    (λ digit. integer_proper (terminal.number_of (take_while terminal.is_digit bs)) (leb (terminal.number_of (take_while terminal.is_digit bs)) 9223372036854775808))
-    (choice_proper (eqb (get_or bs 0 0) 39) (terminal.text_at bs) (terminal.sign_at bs) (λ quote. text_proper (terminal.quoted_len (drop 1 bs)) (drop 1 bs)) later))
+    let later = sign_proper P (terminal.long_sign (get_or bs 0 0) (get_or bs 1 0)) bs (long_fine P (get_or bs 0 0) (get_or bs 1 0)) in
+    choice_proper P (is_word_start (get_or bs 0 0)) (word_at bs) (cond (terminal.is_digit (get_or bs 0 0)) (terminal.integer_at bs) (cond (eqb (get_or bs 0 0) 39) (terminal.text_at bs) (terminal.sign_at bs)))
+    (λ starts. word_proper P w (keyword_of w) (is_left_out w) refl refl (run_start bs starts) (run_passes is_word_byte bs))
+    (choice_proper P (terminal.is_digit (get_or bs 0 0)) (terminal.integer_at bs) (cond (eqb (get_or bs 0 0) 39) (terminal.text_at bs) (terminal.sign_at bs))
+    (λ digit. integer_proper P (terminal.number_of (take_while terminal.is_digit bs)) (leb (terminal.number_of (take_while terminal.is_digit bs)) 9223372036854775808))
+    (choice_proper P (eqb (get_or bs 0 0) 39) (terminal.text_at bs) (terminal.sign_at bs) (λ quote. text_proper P (quoted_len (drop 1 bs)) (drop 1 bs) (quoted (eqb-true (get_or bs 0 0) 39 quote))) later))
 
 left_proper : (n text_len : ℕ) (bs : List ℕ) → ((left : List ℕ) → AllByRecursion IsProper (terminals (placed_from n text_len left))) → AllByRecursion IsProper (terminals (with_first text_len (placed_from n text_len) bs))
 left_proper n text_len [] more = tt
-left_proper n text_len (b ∷ bs) more = (first_proper (b ∷ bs), more (terminal_at (b ∷ bs)).1)
+left_proper n text_len (b ∷ bs) more = (first_proper any_text (b ∷ bs) (λ _ n _. tt), more (terminal_at (b ∷ bs)).1)
 
 -- and so are all names of a text
 pub all_proper : (n text_len : ℕ) (bs : List ℕ) → AllByRecursion IsProper (terminals (placed_from n text_len bs))

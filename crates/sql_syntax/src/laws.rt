@@ -1,6 +1,7 @@
 //! What holds of every tree of the grammar and its canonical text. The functions do nothing: their contracts are the laws.
 
 ghost use Rattle.std.specs.Prelude.{List, ℕ};
+ghost use Rattle.std.specs.Str.{IsUtf8};
 ghost use Rattle.sql_syntax.specs.Canonical.{canonical};
 ghost use Rattle.sql_syntax.specs.CanonicalTokens.{canonical_tokens};
 ghost use Rattle.sql_syntax.specs.Phrases.{Spells};
@@ -27,4 +28,9 @@ pub fn canonical_query_tokens_spell()
 #[tactic(auto, using(crate::proofs::ApartQuery::canonical_again))]
 pub fn canonical_text_spells_the_query()
     ensures { (bs : List ℕ) (q : Query) → SpellsQuery (terminals (tokens_of bs)) q → SpellsQuery (terminals (tokens_of (canonical q))) q }
+{}
+
+/// The canonical text of a query that a text of UTF-8 spells is UTF-8.
+pub fn canonical_text_is_utf8()
+    ensures { (bs : List ℕ) (q : Query) → IsUtf8 bs → SpellsQuery (terminals (tokens_of bs)) q → IsUtf8 (canonical q) }
 {}

@@ -7,11 +7,11 @@ use fragment_file::view::FragmentView;
 use meaning::boxed::Boxed;
 use meaning::expr::{ArithmeticOperator, ComparisonOperator, Expr};
 use meaning::value::{ColType, Value};
-use primitives::fault::Fault1;
 use scan_select::{FileGroups, Scan, ScanBatch, ScanFault, select};
 use std::alloc::{AllocError, Global};
 use std::fmt::Write;
 use std::test::Fail;
+use vector_operators::fault::Fault1;
 use vectors::batch::Place;
 use vectors::selection::Selection;
 

@@ -1,6 +1,6 @@
 //! Numbers and texts behind the bytes of a `Vec`. An error is that memory ran out.
 ghost use Rattle.std.specs.Prelude.{◌≡◌, ◌++◌, ◌<◌, ◌^◌, length, OnOk};
-ghost use Rattle.wire.specs.Bytes.{i128_bytes, number_bytes, text_bytes};
+ghost use Rattle.wire.specs.Bytes.{i64_bytes, i128_bytes, number_bytes, text_bytes};
 
 use byteorder::{ByteOrder, LittleEndian};
 use std::alloc::AllocError;
@@ -41,6 +41,15 @@ pub fn append_u64(out: &mut Vec<u8>, n: u64) -> Result<(), AllocError>
 }
 
 #[tactic(auto, unfolding(crate::specs::Bytes::number_bytes))]
+pub fn append_i64(out: &mut Vec<u8>, n: i64) -> Result<(), AllocError>
+    ensures { OnOk result (out.new.items ≡ out.old.items ++ i64_bytes n) }
+{
+    let mut word = [0; 8];
+    LittleEndian::write_i64(&mut word, n);
+    out.extend_from_slice(&word)
+}
+
+#[tactic(auto, unfolding(crate::specs::Bytes::number_bytes))]
 pub fn append_i128(out: &mut Vec<u8>, n: i128) -> Result<(), AllocError>
     ensures { OnOk result (out.new.items ≡ out.old.items ++ i128_bytes n) }
 {
@@ -57,4 +66,14 @@ pub fn append_text(out: &mut Vec<u8>, text: &str) -> Result<(), AllocError>
 {
     append_u32(out, text.len() as u32)?;
     out.extend_from_slice(text.as_bytes())
+}
+
+/// A text, of which the bytes are lent, behind its length in 16 bits.
+#[tactic(auto, unfolding(crate::specs::Bytes::text_bytes))]
+pub fn append_short_text(out: &mut Vec<u8>, text: &[u8]) -> Result<(), AllocError>
+    requires { length text.now < 2 ^ 16 }
+    ensures { OnOk result (out.new.items ≡ out.old.items ++ text_bytes 2 text.now) }
+{
+    append_u16(out, text.len() as u16)?;
+    out.extend_from_slice(text)
 }

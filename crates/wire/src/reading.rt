@@ -1,6 +1,6 @@
 //! Readers: each takes a part from the front of the bytes, and gives it with the bytes behind it.
 ghost use Rattle.std.specs.Prelude.{◌≡◌};
-ghost use Rattle.wire.specs.Reading.{Reads, behind_magic, bytes_at, i128_at, number_at, text_at, utf8_of};
+ghost use Rattle.wire.specs.Reading.{Reads, behind_magic, bytes_at, i64_at, i128_at, number_at, text_at, utf8_of};
 
 use crate::fault::WireFault;
 use byteorder::{ByteOrder, LittleEndian};
@@ -56,6 +56,16 @@ pub fn take_u64(bytes: &[u8]) -> Result<(u64, &[u8]), WireFault>
     Ok((LittleEndian::read_u64(bytes), &bytes[8..]))
 }
 
+#[tactic(auto, unfolding(crate::specs::Reading::i64_at, crate::specs::Reading::number_at))]
+pub fn take_i64(bytes: &[u8]) -> Result<(i64, &[u8]), WireFault>
+    ensures { Reads (λ x. (x.0, x.1.now)) result (i64_at bytes.now) }
+{
+    if bytes.len() < 8 {
+        return Err(WireFault::Truncated);
+    }
+    Ok((LittleEndian::read_i64(bytes), &bytes[8..]))
+}
+
 #[tactic(auto, unfolding(crate::specs::Reading::i128_at, crate::specs::Reading::number_at))]
 pub fn take_i128(bytes: &[u8]) -> Result<(i128, &[u8]), WireFault>
     ensures { Reads (λ x. (x.0, x.1.now)) result (i128_at bytes.now) }
@@ -83,6 +93,16 @@ pub fn take_text(bytes: &[u8]) -> Result<(&str, &[u8]), WireFault>
 {
     let (length, rest) = take_u32(bytes)?;
     let (text, rest) = take_bytes(rest, length as usize)?;
+    Ok((text_of(text)?, rest))
+}
+
+/// A text behind its length in 16 bits.
+#[tactic(auto, unfolding(crate::specs::Reading::text_at))]
+pub fn take_short_text(bytes: &[u8]) -> Result<(&str, &[u8]), WireFault>
+    ensures { Reads (λ x. (x.0.now, x.1.now)) result (text_at 2 bytes.now) }
+{
+    let (length, rest) = take_u16(bytes)?;
+    let (text, rest) = take_bytes(rest, usize::from(length))?;
     Ok((text_of(text)?, rest))
 }
 

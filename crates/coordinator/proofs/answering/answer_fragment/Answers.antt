@@ -1,6 +1,6 @@
 -- Proofs of the goals of `answer_fragment` (`answering`).
 use Rattle.std.proofs.Common.{sym, ap, ◌∙◌}
-use Rattle.meaning.specs.declared.answer.Body.{Body}
+use Rattle.meaning.specs.Said.{Body}
 use Rattle.coordinator.specs.OneGroup.{one_group}
 use Rattle.coordinator.proofs.OwnBody.{own_body-single}
 use Rattle.coordinator.proofs.OwnFits.{own_fits}

@@ -1,7 +1,7 @@
 -- Proofs of the goals of `tally_of_cells` (`combining`).
 use Rattle.std.proofs.Common.{◌≡◌, ℕ, zero, suc, ◌+◌, ◌*◌, ◌<◌, ◌≤◌, ap, sym, subst, arith}
 use Rattle.meaning.specs.Limits.{max_fragments, max_rows}
-use Rattle.meaning.specs.declared.answer.Cell.{Cell}
+use Rattle.meaning.specs.Said.{Cell}
 use Rattle.coordinator.specs.declared.tally.Tally.{Tally}
 use Rattle.coordinator.specs.Tally.{tally_of_cell, IsOfFragment}
 use Rattle.coordinator.proofs.Tallies.{at_next}

@@ -2,7 +2,7 @@
 use Rattle.std.proofs.Common.{sym, subst}
 use Rattle.std.proofs.lemmas.Result.{IfOk-weaker}
 use Rattle.meaning.specs.declared.plan.Plan.{Plan}
-use Rattle.meaning.specs.declared.answer.Answer.{Answer}
+use Rattle.meaning.specs.Said.{Answer}
 use Rattle.partial_codec.specs.Answer.{Spells}
 use Rattle.coordinator.specs.Fragment.{IsFragmentFor}
 use Rattle.coordinator.proofs.OwnAnswers.{own_answer_fits, own_answer_is}

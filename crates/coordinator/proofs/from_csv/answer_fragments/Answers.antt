@@ -2,7 +2,7 @@
 use Rattle.std.proofs.Common.{◌≡◌, ap, sym, subst, refl, ◌∙◌, [], ◌∷◌, ◌++◌, ℕ, ◌+◌, List, arith}
 use Rattle.std.specs.List.{range_with_len, enumerate_from}
 use Rattle.meaning.specs.declared.plan.Plan.{Plan}
-use Rattle.meaning.specs.declared.answer.Cell.{Cell}
+use Rattle.meaning.specs.Said.{Cell}
 use Rattle.meaning.specs.Order.{Row}
 use Rattle.meaning.specs.Cut.{Cut, first_row}
 use Rattle.meaning.specs.Answer.{own_body}

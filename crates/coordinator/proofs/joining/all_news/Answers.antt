@@ -1,7 +1,7 @@
 -- Proofs of the goals of `all_news` (`joining`).
 use Rattle.std.proofs.Common.{◌≡◌, suc, ◌+◌, List, [], ◌∷◌, ◌++◌, take, ap, sym, ◌∙◌, arith}
 use Rattle.std.proofs.lemmas.List.{take_all}
-use Rattle.meaning.specs.declared.answer.Cell.{Cell}
+use Rattle.meaning.specs.Said.{Cell}
 use Rattle.coordinator.specs.Joining.{news_of, all_news}
 use Rattle.coordinator.proofs.Joined.{news_next, length-news}
 use Rattle.coordinator.proofs.joining.all_news.Goals as goal

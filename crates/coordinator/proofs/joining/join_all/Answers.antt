@@ -1,7 +1,7 @@
 -- Proofs of the goals of `join_all` (`joining`).
 use Rattle.std.proofs.Common.{◌≡◌, suc, ◌<◌, List, [], ◌∷◌, ◌++◌, length, take, drop, slice_set, slice_index_or, append_assoc, ap, ◌∙◌, arith}
 use Rattle.std.proofs.lemmas.List.{length-append}
-use Rattle.meaning.specs.declared.answer.Cell.{Cell}
+use Rattle.meaning.specs.Said.{Cell}
 use Rattle.meaning.specs.declared.answer.Cell.TheVariants.{Nothing}
 use Rattle.meaning.specs.Gather.{join_cells}
 use Rattle.coordinator.specs.Gathering.{join_states}

@@ -1,6 +1,6 @@
 -- Loop invariants of `join_all` (`joining`).
 use Rattle.std.proofs.Common.{◌≡◌, ◌++◌, List, length, take, drop}
-use Rattle.meaning.specs.declared.answer.Cell.{Cell}
+use Rattle.meaning.specs.Said.{Cell}
 use Rattle.coordinator.specs.Gathering.{join_states}
 use Rattle.coordinator.proofs.joining.join_all.Given as goal
 

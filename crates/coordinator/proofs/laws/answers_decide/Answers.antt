@@ -1,6 +1,6 @@
 -- Proofs of the goals of `answers_decide` (`laws`).
 use Rattle.std.proofs.Common.{List, ap}
-use Rattle.meaning.specs.declared.answer.Cell.{Cell}
+use Rattle.meaning.specs.Said.{Cell}
 use Rattle.meaning.specs.Gather.{report}
 use Rattle.meaning.specs.Print.{report_text}
 use Rattle.meaning.proofs.Cells.{same_state}

@@ -1,10 +1,11 @@
 -- Loop invariants of `take_groups` (`body`).
-use Rattle.std.proofs.Common.{◌≡◌, ◌-◌}
-use Rattle.partial_codec.specs.Fields.{one_aggregate}
+use Rattle.std.proofs.Common.{◌-◌}
+use Rattle.partial_codec.specs.Fields.{shape_in}
+use Rattle.partial_codec.specs.Keeping.{kept_group, has_possible_sums}
 use Rattle.partial_codec.specs.LayoutReading.{group_at}
 use Rattle.wire.specs.Reading.{repeat_at}
-use Rattle.wire.proofs.Loops.{read_behind}
+use Rattle.partial_codec.proofs.KeptParts.{SoFar}
 use Rattle.partial_codec.proofs.body.take_groups.Given as goal
 
 abbrev pub invariant-loop : goal.invariant-loop
-invariant-loop l = read_behind (group_at (one_aggregate l.aggregate)) l.groups.items (l.count - l.counter) l.rest ≡ repeat_at (group_at (one_aggregate l.aggregate)) l.count l.bytes
+invariant-loop l = SoFar (group_at (shape_in l.shape)) kept_group has_possible_sums l.groups.items l.are_possible (l.count - l.counter) l.rest (repeat_at (group_at (shape_in l.shape)) l.count l.bytes)

@@ -1,7 +1,7 @@
 -- Proofs of the goals of `decode` (`decoding`).
 use Rattle.std.proofs.Common.{List, ℕ, Result, Ok, Err, sym, ◌∙◌}
 use Rattle.std.specs.Prelude.{IfOk}
-use Rattle.meaning.specs.declared.answer.Answer.{Answer}
+use Rattle.meaning.specs.Said.{Answer}
 use Rattle.partial_codec.specs.declared.fault.DecodeFault.{DecodeFault}
 use Rattle.partial_codec.specs.Answer.{Spells, judged}
 use Rattle.partial_codec.specs.Job.{JobSpec, IsJob}

@@ -1,7 +1,7 @@
 -- Proofs of the goals of `decode_state` (`state`).
 use Rattle.std.proofs.Common.{List, ℕ, Result, Ok, Err, sym, ◌∙◌}
 use Rattle.std.specs.Prelude.{IfOk}
-use Rattle.meaning.specs.declared.answer.Cell.{Cell}
+use Rattle.meaning.specs.Said.{Cell}
 use Rattle.partial_codec.specs.declared.fault.DecodeFault.{DecodeFault}
 use Rattle.partial_codec.specs.Job.{JobSpec, IsJob}
 use Rattle.wire.specs.Reading.{ReadsIfMemory}

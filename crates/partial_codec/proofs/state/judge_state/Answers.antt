@@ -1,21 +1,20 @@
 -- Proofs of the goals of `judge_state` (`state`).
-use Rattle.std.proofs.Common.{length, arith, ap, length-append}
-use Rattle.partial_codec.specs.Fields.{state_layout_in}
-use Rattle.partial_codec.specs.State.{state_layout_bytes}
-use Rattle.wire.proofs.Numbers.{bytes_take}
-use Rattle.partial_codec.proofs.States.{layout_takes, layout_known, layout_shaped}
+use Rattle.std.proofs.Common.{rules}
+use Rattle.partial_codec.specs.Holding.{state_held_by}
+use Rattle.partial_codec.specs.State.{judged_state}
+use Rattle.partial_codec.specs.declared.fault.DecodeFault.TheVariants.{Memory}
+use Rattle.partial_codec.proofs.Layouts.{if_memory}
+use Rattle.partial_codec.proofs.StateLayouts.{as_many, judged_state_told}
 use Rattle.partial_codec.proofs.state.judge_state.Goals as goal
 
-pub check_seal-requires : goal.check_seal-requires
-check_seal-requires c =
-    let front = layout_takes c.args.bytes.now (state_layout_in c.in_ok-layout.layout, c.in_ok-layout.rest.now) (λ i. (c.type_inv.bytes i).fits) c.in_ok-layout.ensures in
-    let seal = bytes_take 32 c.in_ok-layout.rest.now c.in_ok-seal.seal.now c.in_ok-seal.rest.now front.rest_fits c.in_ok-seal.ensures in
-    let bytes = ap length front.parts in
-    let rest = ap length seal.0.parts in
-    omega (arith, bytes, rest, seal.1, length-append (state_layout_bytes (state_layout_in c.in_ok-layout.layout)) c.in_ok-layout.rest.now, length-append c.in_ok-seal.seal.now c.in_ok-seal.rest.now)
+pub hold_state_against-requires-clause-cells : goal.hold_state_against-requires-clause-cells
+hold_state_against-requires-clause-cells c = (as_many c.args.bytes.now c.in_ok-layout.rest.now c.in_ok-layout.layout c.in_ok-layout.ensures).0
 
-pub hold_state_against-requires-clause-fragments : goal.hold_state_against-requires-clause-fragments
-hold_state_against-requires-clause-fragments c = (layout_known c.args.bytes.now (state_layout_in c.in_ok-layout.layout, c.in_ok-layout.rest.now) c.in_ok-layout.ensures).fragments
+pub hold_state_against-requires-clause-told : goal.hold_state_against-requires-clause-told
+hold_state_against-requires-clause-told c = (as_many c.args.bytes.now c.in_ok-layout.rest.now c.in_ok-layout.layout c.in_ok-layout.ensures).1
 
-pub hold_state_against-requires-clause-shaped : goal.hold_state_against-requires-clause-shaped
-hold_state_against-requires-clause-shaped c = layout_shaped c.args.job.now.plan c.args.bytes.now (state_layout_in c.in_ok-layout.layout, c.in_ok-layout.rest.now) c.in_ok-layout.ensures
+pub returns-clause-exact : goal.returns-clause-exact
+returns-clause-exact c =
+    if_memory Memory (λ cells. cells.items) c.hold_state_against.result (judged_state c.args.job.now c.args.bytes.now) (state_held_by c.args.job.now c.in_ok-layout.layout)
+    (judged_state_told c.args.job.now c.args.bytes.now c.in_ok-layout.rest.now c.in_ok-seal.seal.now c.in_ok-seal.rest.now c.in_ok-check_seal.field-0.now c.in_ok-layout.layout c.in_ok-layout.ensures (search rules) (search rules))
+    (search rules)

@@ -1,5 +1,5 @@
 -- Proofs of the goals of `check_cells` (`state_check`).
-use Rattle.std.proofs.Common.{◌≡◌, ℕ, ◌<◌, length, List, Ok, Err, get_or, ap, ◌∙◌, ◌^◌, ◌+◌, arith}
+use Rattle.std.proofs.Common.{◌≡◌, ℕ, ◌<◌, length, List, Ok, Err, get_or, ap, ◌∙◌, ◌^◌, ◌+◌, refl, arith}
 use Rattle.std.specs.Prelude.{slice_index}
 use Rattle.std.proofs.lemmas.Result.{err_from_is_err_and}
 use Rattle.meaning.specs.Cut.{first_row}
@@ -10,8 +10,12 @@ pub returns-in_err-check_cell : goal.returns-in_err-check_cell
 returns-in_err-check_cell c =
     let job = c.args.job.now in
     let k = c.loop-k.k in
+    let lt : k < length c.args.cells.now = c.loop-k-test.true in
+    let cells = c.requires.fragments in
+    let told = c.requires.told in
     let rows : c.from-rows.result ≡ slice_index job.cut k = c.from-rows.ensures ∙ ap (λ (xs : List ℕ). get_or xs k 0) (c.lengths-lengths.ensures.value ∙ c.cut.ensures) in
-    let after = cells_after job c.args.cells.now k _ c.plan.result.now c.loop-k.first c.from-rows.result c.index-cells-k.result (Err c.in_err-check_cell.field-0.0) c.loop-k-test.true c.plan.ensures.value c.loop-k.invariant.first rows c.index-cells-k.is c.in_err-check_cell.ensures in
+    let after = cells_after job c.args.cells.now c.args.are_possible.now k _ _ c.plan.result.now c.loop-k.first c.from-rows.result c.index-cells-k.result _ (Err c.in_err-check_cell.field-0.0) lt (omega (arith, lt, cells, told)) c.plan.ensures.value c.loop-k.invariant.first rows c.index-cells-k.is refl
+    c.in_err-check_cell.ensures in
     let p = err_from_is_err_and c.from_residual.result c.from_residual.ensures.1 in
     rw (p.1, p.2) (c.loop-k.invariant.rest ∙ after)
 
@@ -30,10 +34,13 @@ loop-k-preserved c =
     let k = c.loop-k.k in
     let rows : c.from-rows.result ≡ slice_index job.cut k = c.from-rows.ensures ∙ ap (λ (xs : List ℕ). get_or xs k 0) (c.lengths-lengths.ensures.value ∙ c.cut.ensures) in
     let lt : k < length c.args.cells.now = c.loop-k-test.true in
-    let next = next_first job.cut k (let same = c.requires in omega (arith, lt, same)) in
-    let after = cells_after job c.args.cells.now k _ c.plan.result.now c.loop-k.first c.from-rows.result c.index-cells-k.result (Ok tt) lt c.plan.ensures.value c.loop-k.invariant.first rows c.index-cells-k.is c.in_ok-check_cell.ensures in
+    let cells = c.requires.fragments in
+    let told = c.requires.told in
+    let next = next_first job.cut k (omega (arith, lt, cells)) in
+    let after = cells_after job c.args.cells.now c.args.are_possible.now k _ _ c.plan.result.now c.loop-k.first c.from-rows.result c.index-cells-k.result _ (Ok tt) lt (omega (arith, lt, cells, told)) c.plan.ensures.value c.loop-k.invariant.first rows c.index-cells-k.is refl
+    c.in_ok-check_cell.ensures in
     let firsts = c.loop-k.invariant.first in
     record { first = omega (arith, next, firsts, rows); rest = c.loop-k.invariant.rest ∙ after }
 
 pub returns : goal.returns
-returns c = c.loop-k.invariant.rest ∙ cells_end c.args.job.now c.args.cells.now c.loop-k.k c.loop-k-test.false
+returns c = c.loop-k.invariant.rest ∙ cells_end c.args.job.now c.args.cells.now c.args.are_possible.now c.loop-k.k c.loop-k-test.false

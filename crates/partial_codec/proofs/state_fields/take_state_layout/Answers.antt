@@ -1,13 +1,11 @@
 -- Proofs of the goals of `take_state_layout` (`state_fields`).
-use Rattle.std.proofs.Common.{true}
-use Rattle.partial_codec.specs.Fields.{one_aggregate}
-use Rattle.partial_codec.specs.Supported.{is_supported}
-use Rattle.partial_codec.specs.Supported as feature
-use Rattle.partial_codec.proofs.Fitting.{both}
-use Rattle.partial_codec.proofs.Known.{shape_known}
+use Rattle.std.proofs.Common.{rules}
+use Rattle.partial_codec.specs.State.{state_magic}
+use Rattle.partial_codec.proofs.ReadFields.{state_kept}
 use Rattle.partial_codec.proofs.state_fields.take_state_layout.Goals as goal
 
-pub take_cells-requires : goal.take_cells-requires
-take_cells-requires c =
-    let shape = shape_known c.in_ok-job.rest.now (one_aggregate c.in_ok-aggregate.aggregate, c.in_ok-aggregate.rest.now) c.in_ok-aggregate.ensures in
-    (both (is_supported (feature.kind c.in_ok-aggregate.aggregate.kind)) true shape.kinds).0
+pub returns : goal.returns
+unfolding state_magic
+returns c =
+    state_kept c.args.bytes.now c.in_ok-rest.rest.now c.in_ok-job.rest.now c.in_ok-shape.rest.now c.in_ok-cells.rest.now
+    (record { job = c.in_ok-job.job; shape = c.in_ok-shape.shape; cells = c.in_ok-cells.cells; are_possible = c.in_ok-cells.are_possible }) (search rules) (search rules) (search rules) (search rules)

@@ -3,7 +3,7 @@ use Rattle.std.proofs.Common.{rules, ◌∙◌, sym, ap, length}
 use Rattle.meaning.specs.declared.expr.Expr.TheVariants as node
 use Rattle.meaning.specs.declared.expr.ComparisonOperator.TheVariants as comparison
 use Rattle.meaning.specs.Operators.{and_of, or_of}
-use Rattle.primitives.specs.Given.{given_at, is_not_false, is_not_true}
+use Rattle.vector_operators.specs.Given.{given_at, is_not_false, is_not_true}
 use Rattle.primitives.proofs.Steps.{and_node as and_lanes, or_node as or_lanes}
 use Rattle.primitives.proofs.ExprNodes.{aggregate_node, and_node, arithmetic_node, as_lent, as_node, between_node, case_node, coalesce_node, column_node, compare_node, in_node, in_nothing, is_null_node, joined_node, key_node, like_node, literal_node, minus_node, not_node, or_node}
 use Rattle.primitives.proofs.Loops.{arms_all, arms_more, arms_start, first_all, first_more, first_start, found_all, found_more, found_start}

@@ -1,6 +1,6 @@
 -- Loop invariants of `+eval` (`nodes`).
 use Rattle.std.proofs.Common.{◌≡◌}
-use Rattle.primitives.specs.Given.{IsLong}
+use Rattle.vector_operators.specs.Given.{IsLong}
 use Rattle.primitives.proofs.Loops.{ArmsDecide, FirstGiven, Found}
 use Rattle.primitives.proofs.nodes.+eval.Given as goal
 

@@ -1,7 +1,5 @@
 -- Proofs of the goals of `add_columns` (`reading`).
-use Rattle.std.proofs.Common.{ap, sym, refl, length, get_or, ◌∙◌, ◌+◌, ◌<◌, ◌≤◌, ℕ, arith, List}
-use Rattle.encodings.specs.Block.{Block, values_of}
-use Rattle.fragment_file.specs.Fragment.{no_block}
+use Rattle.std.proofs.Common.{sym, length, get_or, ◌∙◌, ◌<◌, arith}
 use Rattle.vectors.specs.Vector.{outcomes_of}
 use Rattle.scan_select.proofs.Masks.{outcomes_long}
 use Rattle.vectors.specs.declared.batch.BatchColumn.{BatchColumn}

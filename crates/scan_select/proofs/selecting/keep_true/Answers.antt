@@ -1,8 +1,7 @@
 -- Proofs of the goals of `keep_true` (`selecting`).
 use Rattle.std.proofs.Common.{false, ap, sym, ◌∙◌, ℕ, List}
 use Rattle.vectors.specs.declared.vector.Vector.{Vector}
-use Rattle.vectors.specs.Selection.{Positions}
-use Rattle.primitives.specs.Evaluated.{lane_of}
+use Rattle.vector_operators.specs.Evaluated.{lane_of}
 use Rattle.scan_select.specs.Selected.{is_kept}
 use Rattle.scan_select.proofs.Narrowing.{filter_as, value_dropped}
 use Rattle.scan_select.proofs.selecting.keep_true.Goals as goal

@@ -2,7 +2,7 @@
 use Rattle.std.proofs.Common.{ap}
 use Rattle.meaning.specs.Typing.{Boolean}
 use Rattle.vectors.specs.Selection.{Positions}
-use Rattle.primitives.specs.Evaluated.{meant_at}
+use Rattle.primitives.specs.Meant.{meant_at}
 use Rattle.scan_select.proofs.Narrowing.{one_condition}
 use Rattle.scan_select.proofs.selecting.keep_where.Goals as goal
 

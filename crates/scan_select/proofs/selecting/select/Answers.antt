@@ -1,13 +1,12 @@
 -- Proofs of the goals of `select` (`selecting`).
-use Rattle.std.proofs.Common.{List, get_or, take, length, sym, ap, subst, ◌∙◌, ◌++◌, ◌∷◌, [], ◌+◌, arith}
-use Rattle.std.specs.Prelude.{All}
-use Rattle.std.proofs.lemmas.List.{get_or_default, take_all, take_more}
+use Rattle.std.proofs.Common.{List, take, sym, ap, subst, ◌∙◌, ◌++◌, ◌∷◌, []}
+use Rattle.std.proofs.lemmas.List.{take_all, take_more}
 use Rattle.std.proofs.lemmas.List.Elements.{recursion_from_All}
 use Rattle.meaning.specs.declared.expr.Expr.{Expr}
 use Rattle.meaning.specs.Typing.{Boolean}
 use Rattle.primitives.specs.Fitting.{Fits}
 use Rattle.scan_select.specs.Selected.{Narrows, conditions_at}
-use Rattle.scan_select.proofs.Narrowing.{none_yet, one_more_condition, selects}
+use Rattle.scan_select.proofs.Narrowing.{one_more_condition, selects}
 use Rattle.scan_select.proofs.Rows.{all_at}
 use Rattle.scan_select.proofs.selecting.select.Goals as goal
 

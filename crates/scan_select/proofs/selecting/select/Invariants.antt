@@ -1,5 +1,5 @@
 -- Loop invariants of `select` (`selecting`).
-use Rattle.std.proofs.Common.{◌≡◌, List, take, true}
+use Rattle.std.proofs.Common.{◌≡◌, List, take}
 use Rattle.std.specs.Prelude.{All}
 use Rattle.meaning.specs.declared.joined_row.JoinedRow.{JoinedRow}
 use Rattle.meaning.specs.Typing.{Boolean, RowTypes}

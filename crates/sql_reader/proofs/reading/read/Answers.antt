@@ -1,14 +1,12 @@
 -- Proofs of the goals of `read` (`reading`).
-use Rattle.std.proofs.Common.{subst}
-use Rattle.sql_reader.specs.Reading.{Gives}
-use Rattle.sql_reader.proofs.Whole.{gave_tree, gave_refusal, reading_again}
+use Rattle.sql_reader.proofs.Answering.{tree_given, refusal_given, query_given}
 use Rattle.sql_reader.proofs.reading.read.Goals as goal
 
-pub returns-clause-tree : goal.returns-clause-tree
-returns-clause-tree c = gave_tree c.args.text.now c.read_bytes.result c.read_bytes.ensures
+pub returns-in-Ok-clause-tree : goal.returns-in-Ok-clause-tree
+returns-in-Ok-clause-tree c = tree_given c.args.text.now c.in-Ok.text.now c.read_text.result c.in-Ok.ensures.cases.0 c.in-Ok.ensures.cases.1 c.if-text-gt-MAX_QUERY_BYTES.false c.read_text.ensures
 
-pub returns-clause-read : goal.returns-clause-read
-returns-clause-read c = λ q tree short. subst (Gives (λ r. r) c.read_bytes.result) (reading_again c.args.text.now q tree short) c.read_bytes.ensures
+pub returns-in-Ok-clause-read : goal.returns-in-Ok-clause-read
+returns-in-Ok-clause-read c = query_given c.args.text.now c.in-Ok.text.now c.read_text.result c.in-Ok.ensures.cases.0 c.read_text.ensures
 
-pub returns-clause-refusal : goal.returns-clause-refusal
-returns-clause-refusal c = gave_refusal c.args.text.now c.read_bytes.result c.read_bytes.ensures
+pub returns-in-Ok-clause-refusal : goal.returns-in-Ok-clause-refusal
+returns-in-Ok-clause-refusal c = refusal_given c.args.text.now c.in-Ok.text.now c.read_text.result c.in-Ok.ensures.cases.0 c.in-Ok.ensures.cases.1 c.if-text-gt-MAX_QUERY_BYTES.false c.read_text.ensures

@@ -1,6 +1,6 @@
 -- Proofs of the goals of `Gather::absorb` (`gather`).
 use Rattle.std.proofs.Common.{◌≡◌, ap, sym, ◌∙◌, subst, slice_index_or, slice_set, List, [], ◌∷◌, ◌++◌}
-use Rattle.meaning.specs.declared.answer.Answer.{Answer}
+use Rattle.meaning.specs.Said.{Answer}
 use Rattle.meaning.specs.declared.answer.Cell.TheVariants.{Nothing, One}
 use Rattle.meaning.specs.Gather.{join_cells, joined}
 use Rattle.partial_codec.specs.Answer.{Fits, Spells}

@@ -1,7 +1,7 @@
 -- Proofs of the goals of `Gather::join` (`gather`).
 use Rattle.std.proofs.Common.{◌≡◌, true, List, ◌++◌, length, ap, sym, ◌∙◌, subst}
-use Rattle.meaning.specs.declared.answer.Answer.{Answer}
-use Rattle.meaning.specs.declared.answer.Cell.{Cell}
+use Rattle.meaning.specs.Said.{Answer}
+use Rattle.meaning.specs.Said.{Cell}
 use Rattle.meaning.specs.Gather.{joined}
 use Rattle.meaning.proofs.Cells.{joined-append}
 use Rattle.coordinator.specs.Gathering.{GatherSpec, IsGather, join_states, joined_with}

@@ -1,5 +1,4 @@
 -- Proofs of the goals of `group` (`file_groups`).
-use Rattle.std.proofs.Common.{length}
 use Rattle.scan_select.proofs.Rows.{some_rows}
 use Rattle.scan_select.proofs.file_groups.FileGroupsRowGroups.group.Goals as goal
 

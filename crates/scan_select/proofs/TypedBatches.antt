@@ -1,0 +1,141 @@
+-- Batches of files whose columns have values of their types.
+use Rattle.std.proofs.Common.{◌≡◌, ℕ, zero, suc, ◌+◌, ◌<◌, Bool, true, List, [], ◌∷◌, ◌++◌, get_or, length, map, Some, refl, ap, sym, subst, ◌∙◌, arith}
+use Rattle.std.specs.Prelude.{◌&&◌, slice_get}
+use Rattle.std.specs.List.{AllByRecursion, range_with_len}
+use Rattle.std.proofs.lemmas.List.Elements.{All-from_recursion, recursion_from_All}
+use Rattle.meaning.specs.declared.catalog.Column.{Column}
+use Rattle.meaning.specs.declared.value.ColType.{ColType}
+use Rattle.meaning.specs.declared.value.ColType.TheVariants as of_type
+use Rattle.meaning.specs.declared.value.Value.TheVariants.{Null}
+use Rattle.meaning.specs.Joined.{joined_row}
+use Rattle.meaning.specs.Typing.{ExprType, Valued, are_of_types, fits_row_types, is_column_type, is_of_type}
+use Rattle.encodings.specs.Block.{Block, values_of}
+use Rattle.fragment_file.specs.Fragment.{AreBlocks, AreGroups, column_values, no_block}
+use Rattle.vectors.specs.declared.vector.Vector.{Vector}
+use Rattle.vectors.specs.declared.vector.Vector.TheVariants as vector
+use Rattle.vectors.specs.declared.batch.Place.{Place}
+use Rattle.vectors.specs.declared.batch.BatchColumn.{BatchColumn}
+use Rattle.vectors.specs.Vector.{reference_of}
+use Rattle.vector_operators.specs.Given.{type_of_lanes}
+use Rattle.primitives.specs.Fitting.{is_typed_column, referenced_type}
+use Rattle.scan_select.specs.Laws.{BatchesAreTyped, header_types}
+use Rattle.scan_select.specs.Pieces.{Piece, pieces, pieces_at, pieces_of, row_in}
+use Rattle.scan_select.specs.Scanned.{AreColumnsAt, IsColumnAt, IsOfType, fact_rows}
+
+-- ---- lists
+
+all_front : {X : Type 0} (P : X → Type 0) (xs ys : List X) → AllByRecursion P (xs ++ ys) → AllByRecursion P xs
+all_front P [] ys all = tt
+all_front P (x ∷ xs) ys all = (all.0, all_front P xs ys all.1)
+
+all_behind : {X : Type 0} (P : X → Type 0) (xs ys : List X) → AllByRecursion P (xs ++ ys) → AllByRecursion P ys
+all_behind P [] ys all = all
+all_behind P (x ∷ xs) ys all = all_behind P xs ys all.1
+
+all_both : {X : Type 0} (P : X → Type 0) (xs ys : List X) → AllByRecursion P xs → AllByRecursion P ys → AllByRecursion P (xs ++ ys)
+all_both P [] ys all more = more
+all_both P (x ∷ xs) ys all more = (all.0, all_both P xs ys all.1 more)
+
+all_or : {X : Type 0} (P : X → Type 0) (xs : List X) (i : ℕ) (d : X) → AllByRecursion P xs → P d → P (get_or xs i d)
+all_or P [] i d all blank = blank
+all_or P (x ∷ xs) zero d all blank = all.0
+all_or P (x ∷ xs) (suc i) d all blank = all_or P xs i d all.1 blank
+
+both : {a b : Bool} → a ≡ true → b ≡ true → (a && b) ≡ true
+both e f = rw (e, f) refl
+
+-- ---- row groups
+
+-- blocks of the columns, with values of their types
+abbrev AreTyped : List Column → List Block → Type 0
+AreTyped cs group = (j : ℕ) (c : Column) → slice_get cs j ≡ Some c → AllByRecursion (λ v. is_of_type c.col_type v ≡ true) (values_of (get_or group j no_block))
+
+record IsTyped (cs : List Column) (group : List Block) : Type 0 where
+  pub rows : ℕ
+  pub blocks : AreBlocks cs rows group
+  pub values : AreTyped cs group
+
+null_typed : (kind : ColType) → is_of_type kind Null ≡ true
+null_typed of_type.Int = refl
+null_typed of_type.Text = refl
+
+row_typed : (cs : List Column) (n : ℕ) (bs : List Block) (i : ℕ) → AreBlocks cs n bs → AreTyped cs bs → are_of_types (map (λ c. c.col_type) cs) (row_in bs i) ≡ true
+row_typed [] n [] i are typed = refl
+row_typed [] n (b ∷ bs) i are typed = absurd are
+row_typed (c ∷ cs) n [] i are typed = absurd are
+row_typed (c ∷ cs) n (b ∷ bs) i are typed =
+    both (all_or (λ v. is_of_type c.col_type v ≡ true) (values_of b) i Null (typed 0 c refl) (null_typed c.col_type)) (row_typed cs n bs i are.1 (λ j d at. typed (suc j) d at))
+
+fits : (cs : List Column) (n : ℕ) (bs : List Block) (i : ℕ) → AreBlocks cs n bs → AreTyped cs bs
+    → fits_row_types (record { fact = map (λ c. c.col_type) cs; joins = []; key = []; aggregates = [] }) (joined_row (row_in bs i) []) ≡ true
+fits cs n bs i are typed = both (row_typed cs n bs i are typed) refl
+
+rows_fit : (cs : List Column) (n : ℕ) (bs : List Block) (is : List ℕ) → AreBlocks cs n bs → AreTyped cs bs
+    → AllByRecursion (λ r. fits_row_types (record { fact = map (λ c. c.col_type) cs; joins = []; key = []; aggregates = [] }) r ≡ true) (map (λ row. joined_row row []) (map (row_in bs) is))
+rows_fit cs n bs [] are typed = tt
+rows_fit cs n bs (i ∷ is) are typed = (fits cs n bs i are typed, rows_fit cs n bs is are typed)
+
+-- ---- pieces
+
+pieces_at_typed : (cs : List Column) (group : List Block) (first : ℕ) (ns : List ℕ) → IsTyped cs group → AllByRecursion (λ (p : Piece). IsTyped cs p.group) (pieces_at group first ns)
+pieces_at_typed cs group first [] typed = tt
+pieces_at_typed cs group first (n ∷ ns) typed = (typed, pieces_at_typed cs group (first + n) ns typed)
+
+pieces_typed : (cs : List Column) (n : ℕ) (ns : List ℕ) (groups : List (List Block)) → AreGroups cs ns groups
+    → ((j : ℕ) (c : Column) → slice_get cs j ≡ Some c → AllByRecursion (λ v. is_of_type c.col_type v ≡ true) (column_values j groups))
+    → AllByRecursion (λ (p : Piece). IsTyped cs p.group) (pieces n groups)
+pieces_typed cs n [] [] are typed = tt
+pieces_typed cs n [] (g ∷ gs) are typed = absurd are
+pieces_typed cs n (m ∷ ms) [] are typed = absurd are
+pieces_typed cs n (m ∷ ms) (g ∷ gs) are typed =
+    let here : IsTyped cs g = record { rows = m; blocks = are.0; values = λ j c at. all_front (λ v. is_of_type c.col_type v ≡ true) (values_of (get_or g j no_block)) (column_values j gs) (typed j c at) } in
+    all_both (λ (p : Piece). IsTyped cs p.group) (pieces_of n g) (pieces n gs) (pieces_at_typed cs g 0 _ here)
+    (pieces_typed cs n ms gs are.1 (λ j c at. all_behind (λ v. is_of_type c.col_type v ≡ true) (values_of (get_or g j no_block)) (column_values j gs) (typed j c at)))
+
+-- ---- columns
+
+same_kind : (kind : ColType) → is_column_type (Some kind) (Valued kind) ≡ true
+same_kind of_type.Int = refl
+same_kind of_type.Text = refl
+
+lanes_type : (kind : ColType) (lanes : Vector) → IsOfType kind lanes → type_of_lanes lanes ≡ Valued kind
+lanes_type of_type.Int (vector.Ints lanes) is = refl
+lanes_type of_type.Text (vector.Texts lanes) is = refl
+lanes_type of_type.Int (vector.Texts lanes) is = absurd is
+lanes_type of_type.Int (vector.Truths lanes) is = absurd is
+lanes_type of_type.Text (vector.Ints lanes) is = absurd is
+lanes_type of_type.Text (vector.Truths lanes) is = absurd is
+
+block_type : (cs : List Column) (n : ℕ) (bs : List Block) (p : ℕ) → AreBlocks cs n bs → p < length cs → slice_get (map (λ c. c.col_type) cs) p ≡ Some (get_or bs p no_block).col_type
+block_type [] n bs p are below = absurd (omega (arith, below))
+block_type (c ∷ cs) n [] p are below = absurd are
+block_type (c ∷ cs) n (b ∷ bs) zero are below = ap Some (sym are.0.col_type)
+block_type (c ∷ cs) n (b ∷ bs) (suc p) are below = block_type cs n bs p are.1 (omega (arith, below))
+
+module _ (cs : List Column) (n : ℕ) (group : List Block) (first rows : ℕ) (are : AreBlocks cs n group) where
+  place_typed : (p : ℕ) (c : BatchColumn) → p < length cs → IsColumnAt group first rows p c
+      → is_typed_column (record { fact = map (λ c. c.col_type) cs; joins = []; key = []; aggregates = [] }) c ≡ true
+  place_typed p c below at =
+      let kind : ColType = (get_or group p no_block).col_type in
+      let there : referenced_type (record { fact = map (λ c. c.col_type) cs; joins = []; key = []; aggregates = [] }) (reference_of c.place) ≡ Some kind
+      = ap (λ (q : Place). referenced_type (record { fact = map (λ c. c.col_type) cs; joins = []; key = []; aggregates = [] }) (reference_of q)) at.place ∙ block_type cs n group p are below in
+      ap (λ t. is_column_type t (type_of_lanes c.lanes)) there ∙ ap (λ (t : ExprType). is_column_type (Some kind) t) (lanes_type kind c.lanes at.typed) ∙ same_kind kind
+
+  places_typed : (places : List ℕ) (columns : List BatchColumn) → AllByRecursion (λ p. p < length cs) places → AreColumnsAt group first rows places columns
+      → AllByRecursion (λ c. is_typed_column (record { fact = map (λ c. c.col_type) cs; joins = []; key = []; aggregates = [] }) c ≡ true) columns
+  places_typed [] [] below at = tt
+  places_typed [] (c ∷ cs) below at = absurd at
+  places_typed (p ∷ ps) [] below at = absurd at
+  places_typed (p ∷ ps) (c ∷ cs) below at = (place_typed p c below.0 at.0, places_typed ps cs below.1 at.1)
+
+pub batches_are_typed : BatchesAreTyped
+batches_are_typed f n before behind piece places batch is typed parts below of =
+    let all : AllByRecursion (λ (p : Piece). IsTyped f.header.columns p.group) (pieces n f.groups)
+    = pieces_typed f.header.columns n _ f.groups is.groups (λ j c at. recursion_from_All (λ v. is_of_type c.col_type v ≡ true) (column_values j f.groups) (typed j c at)) in
+    let here = (all_behind (λ (p : Piece). IsTyped f.header.columns p.group) before (piece ∷ behind) (subst (λ (ps : List Piece). AllByRecursion (λ (p : Piece). IsTyped f.header.columns p.group) ps) parts all)).0 in
+    record {
+      are_rows = of.rows;
+      values = All-from_recursion (λ r. fits_row_types (header_types f.header) r ≡ true) (fact_rows piece) (rows_fit f.header.columns here.rows piece.group (range_with_len piece.first piece.rows) here.blocks here.values);
+      columns = All-from_recursion (λ c. is_typed_column (header_types f.header) c ≡ true) batch.columns
+          (places_typed f.header.columns here.rows piece.group piece.first piece.rows here.blocks places batch.columns (recursion_from_All (λ p. p < length f.header.columns) places below) of.columns);
+    }

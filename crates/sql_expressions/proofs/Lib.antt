@@ -1,0 +1,6 @@
+-- The lemmas of this crate.
+pub mod Opened
+pub mod Chains
+pub mod Ahead
+pub mod Complete
+pub mod Sound

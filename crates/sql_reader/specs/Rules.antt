@@ -1,0 +1,191 @@
+-- Reading the tokens of a query from front to back: one definition a rule of the grammar.
+use Rattle.std.specs.Prelude.{ℕ, zero, suc, if◌then◌else◌, List, [], ◌∷◌, ◌++◌, length, Option, Some, None}
+use Rattle.sql_syntax.specs.declared.keyword.Keyword.{Keyword}
+use Rattle.sql_syntax.specs.declared.keyword.Keyword.TheVariants as keyword
+use Rattle.sql_syntax.specs.declared.token.Sign.TheVariants as sign
+use Rattle.sql_syntax.specs.declared.strength.Level.{Level}
+use Rattle.sql_syntax.specs.declared.strength.Level.TheVariants as level
+use Rattle.sql_syntax.specs.declared.tree.Expr.{Expr}
+use Rattle.sql_syntax.specs.declared.tree.Direction.{Direction}
+use Rattle.sql_syntax.specs.declared.tree.Direction.TheVariants as direction
+use Rattle.sql_syntax.specs.declared.tree.OrderTarget.{OrderTarget}
+use Rattle.sql_syntax.specs.declared.tree.OrderTarget.TheVariants as target
+use Rattle.sql_syntax.specs.declared.tree.OrderKey.{OrderKey}
+use Rattle.sql_syntax.specs.declared.tree.Item.{Item}
+use Rattle.sql_syntax.specs.declared.tree.Table.{Table}
+use Rattle.sql_syntax.specs.declared.tree.Joined.{Joined}
+use Rattle.sql_syntax.specs.declared.tree.Source.{Source}
+use Rattle.sql_syntax.specs.declared.tree.Query.{Query}
+use Rattle.sql_syntax.specs.Tokens.{Terminal}
+use Rattle.sql_expressions.specs.Rules.{◌>>=◌, Reader, Reads, begins_integer, begins_name, begins_other, behind, choose, inner_at, integer_at, is_keyword, is_sign, list_at, name_at}
+
+-- ---- the parts of a query
+
+-- an expression, by what reads one of each rule
+abbrev pub expr_at : (Level → Reader) → Reader
+expr_at inner = inner level.Disjunction
+
+-- a name behind AS, or alone, or none
+abbrev pub alias_at : List Terminal → Reads (Option (List ℕ))
+alias_at ts =
+    choose (behind (is_keyword keyword.As) ts) (λ us. name_at us >>= (λ n. Some (Some n.0, n.1)))
+    (if begins_name ts then name_at ts >>= (λ n. Some (Some n.0, n.1)) else Some (None, ts))
+
+abbrev pub item_at : (Level → Reader) → List Terminal → Reads Item
+item_at inner ts = expr_at inner ts >>= (λ e. alias_at e.1 >>= (λ a. Some (record { expr = e.0.expr; alias = a.0 }, a.1)))
+
+-- an item, put behind others
+abbrev pub put_item : (Level → Reader) → List Item → List Terminal → Reads (List Item)
+put_item inner before ts = item_at inner ts >>= (λ x. Some (before ++ x.0 ∷ [], x.1))
+
+-- items behind commas, fewer than n of them, put behind others
+abbrev pub more_items : (Level → Reader) → ℕ → List Item → List Terminal → Reads (List Item)
+more_items inner zero before ts = None
+more_items inner (suc n) before ts = choose (behind (is_sign sign.Comma) ts) (λ us. put_item inner before us >>= (λ x. more_items inner n x.0 x.1)) (Some (before, ts))
+
+-- items with commas between
+abbrev pub items_at : (Level → Reader) → List Item → List Terminal → Reads (List Item)
+items_at inner before ts = put_item inner before ts >>= (λ x. more_items inner (suc (length x.1)) x.0 x.1)
+
+abbrev pub table_at : List Terminal → Reads Table
+table_at ts = name_at ts >>= (λ n. alias_at n.1 >>= (λ a. Some (record { name = n.0; alias = a.0 }, a.1)))
+
+-- a keyword that has to stand, and an expression
+abbrev pub condition_at : (Level → Reader) → Keyword → List Terminal → Reads Expr
+condition_at inner k ts = behind (is_keyword k) ts >>= (λ us. expr_at inner us >>= (λ e. Some (e.0.expr, e.1)))
+
+-- the table behind a comma, and that behind JOIN, with its condition
+abbrev pub listed_at : List Terminal → Reads Joined
+listed_at ts = table_at ts >>= (λ t. Some (record { table = t.0; on = None }, t.1))
+
+abbrev pub joined_at : (Level → Reader) → List Terminal → Reads Joined
+joined_at inner ts = table_at ts >>= (λ t. condition_at inner keyword.On t.1 >>= (λ e. Some (record { table = t.0; on = Some e.0 }, e.1)))
+
+-- a further table: behind a comma, or behind JOIN
+abbrev pub other_at : (Level → Reader) → List Terminal → Reads Joined
+other_at inner ts =
+    choose (behind (is_sign sign.Comma) ts) listed_at
+    (choose (behind (is_keyword keyword.Inner) ts) (λ us. behind (is_keyword keyword.Join) us >>= joined_at inner)
+    (behind (is_keyword keyword.Join) ts >>= joined_at inner))
+
+-- such a table, put behind others
+abbrev pub put_other : (Level → Reader) → List Joined → List Terminal → Reads (List Joined)
+put_other inner before ts = other_at inner ts >>= (λ j. Some (before ++ j.0 ∷ [], j.1))
+
+-- such tables, fewer than n of them, put behind others
+abbrev pub more_others : (Level → Reader) → ℕ → List Joined → List Terminal → Reads (List Joined)
+more_others inner zero before ts = None
+more_others inner (suc n) before ts = if begins_other ts then put_other inner before ts >>= (λ x. more_others inner n x.0 x.1) else Some (before, ts)
+
+-- the first table, and the others, put behind others
+abbrev pub tables_at : (Level → Reader) → List Joined → List Terminal → Option ((Table × List Joined) × List Terminal)
+tables_at inner before ts = table_at ts >>= (λ t. more_others inner (suc (length t.1)) before t.1 >>= (λ o. Some ((t.0, o.0), o.1)))
+
+-- FROM and the tables
+abbrev pub source_at : (Level → Reader) → List Terminal → Reads Source
+source_at inner ts = behind (is_keyword keyword.From) ts >>= (λ us. tables_at inner [] us >>= (λ x. Some (record { first = x.0.0; others = x.0.1 }, x.1)))
+
+-- a keyword and an expression, or nothing
+abbrev pub clause_at : (Level → Reader) → Keyword → List Terminal → Reads (Option Expr)
+clause_at inner k ts = choose (behind (is_keyword k) ts) (λ us. expr_at inner us >>= (λ e. Some (Some e.0.expr, e.1))) (Some (None, ts))
+
+-- the expressions of GROUP BY, behind that word and others
+abbrev pub group_keys_at : (Level → Reader) → List Expr → List Terminal → Reads (List Expr)
+group_keys_at inner before ts =
+    behind (is_keyword keyword.By) ts >>= (λ us. list_at inner (record { exprs = before; deepest = 0 }) us >>= (λ es. Some (es.0.exprs, es.1)))
+
+-- the expressions of GROUP BY, or none
+abbrev pub groups_at : (Level → Reader) → List Terminal → Reads (List Expr)
+groups_at inner ts = choose (behind (is_keyword keyword.Group) ts) (group_keys_at inner []) (Some ([], ts))
+
+-- what ORDER BY names, and its direction
+abbrev pub target_at : List Terminal → Reads OrderTarget
+target_at ts = if begins_integer ts then integer_at ts >>= (λ n. Some (target.Place n.0, n.1)) else name_at ts >>= (λ n. Some (target.Name n.0, n.1))
+
+abbrev pub direction_at : List Terminal → Direction × List Terminal
+direction_at ts =
+    choose (behind (is_keyword keyword.Desc) ts) (λ us. (direction.Descending, us))
+    (choose (behind (is_keyword keyword.Asc) ts) (λ us. (direction.Ascending, us)) (direction.Ascending, ts))
+
+abbrev pub key_at : List Terminal → Reads OrderKey
+key_at ts = target_at ts >>= (λ t. Some (record { target = t.0; direction = (direction_at t.1).0 }, (direction_at t.1).1))
+
+-- a key, put behind others
+abbrev pub put_key : List OrderKey → List Terminal → Reads (List OrderKey)
+put_key before ts = key_at ts >>= (λ x. Some (before ++ x.0 ∷ [], x.1))
+
+-- keys behind commas, fewer than n of them, put behind others
+abbrev pub more_keys : ℕ → List OrderKey → List Terminal → Reads (List OrderKey)
+more_keys zero before ts = None
+more_keys (suc n) before ts = choose (behind (is_sign sign.Comma) ts) (λ us. put_key before us >>= (λ x. more_keys n x.0 x.1)) (Some (before, ts))
+
+-- keys with commas between
+abbrev pub keys_at : List OrderKey → List Terminal → Reads (List OrderKey)
+keys_at before ts = put_key before ts >>= (λ x. more_keys (suc (length x.1)) x.0 x.1)
+
+-- the keys of ORDER BY, or none
+abbrev pub order_at : List Terminal → Reads (List OrderKey)
+order_at ts = choose (behind (is_keyword keyword.Order) ts) (λ us. behind (is_keyword keyword.By) us >>= keys_at []) (Some ([], ts))
+
+abbrev pub limit_at : List Terminal → Reads (Option ℕ)
+limit_at ts = choose (behind (is_keyword keyword.Limit) ts) (λ us. integer_at us >>= (λ n. Some (Some n.0, n.1))) (Some (None, ts))
+
+-- no token is left
+abbrev pub ended : List Terminal → Option (Unit {0})
+ended [] = Some tt
+ended (t ∷ ts) = None
+
+-- nothing or a semicolon, and then the end
+abbrev pub ending_at : List Terminal → Option (Unit {0})
+ending_at ts = choose (behind (is_sign sign.Semicolon) ts) ended (ended ts)
+
+-- LIMIT, and the end
+abbrev pub ended_limit_at : List Terminal → Option (Option ℕ)
+ended_limit_at ts = limit_at ts >>= (λ l. ending_at l.1 >>= (λ _. Some l.0))
+
+-- ORDER BY and LIMIT, and the end
+abbrev pub Tail : Type 0
+Tail = List OrderKey × Option ℕ
+
+abbrev pub tail_at : List Terminal → Option Tail
+tail_at ts = order_at ts >>= (λ o. ended_limit_at o.1 >>= (λ l. Some (o.0, l)))
+
+-- HAVING, and all behind it
+abbrev pub having_at : (Level → Reader) → List Terminal → Option (Option Expr × Tail)
+having_at inner ts = clause_at inner keyword.Having ts >>= (λ h. tail_at h.1 >>= (λ t. Some (h.0, t)))
+
+-- GROUP BY, and all behind it
+abbrev pub grouping_at : (Level → Reader) → List Terminal → Option (List Expr × (Option Expr × Tail))
+grouping_at inner ts = groups_at inner ts >>= (λ g. having_at inner g.1 >>= (λ h. Some (g.0, h)))
+
+-- WHERE, and all behind it
+abbrev pub conditions_at : (Level → Reader) → List Terminal → Option (Option Expr × (List Expr × (Option Expr × Tail)))
+conditions_at inner ts = clause_at inner keyword.Where ts >>= (λ f. grouping_at inner f.1 >>= (λ g. Some (f.0, g)))
+
+-- FROM, and all behind it
+abbrev pub from_at : (Level → Reader) → List Terminal → Option (Source × (Option Expr × (List Expr × (Option Expr × Tail))))
+from_at inner ts = source_at inner ts >>= (λ s. conditions_at inner s.1 >>= (λ c. Some (s.0, c)))
+
+-- the query of its parts
+abbrev pub query_of_parts : List Item → Source × (Option Expr × (List Expr × (Option Expr × Tail))) → Query
+query_of_parts items from = record {
+  items = items;
+  source = from.0;
+  filter = from.1.0;
+  group_by = from.1.1.0;
+  having = from.1.1.1.0;
+  order_by = from.1.1.1.1.0;
+  limit = from.1.1.1.1.1;
+}
+
+-- items behind others, and all behind them
+abbrev pub selected_at : (Level → Reader) → List Item → List Terminal → Option (List Item × (Source × (Option Expr × (List Expr × (Option Expr × Tail)))))
+selected_at inner before ts = items_at inner before ts >>= (λ i. from_at inner i.1 >>= (λ f. Some (i.0, f)))
+
+-- a whole query
+abbrev pub query_at : (Level → Reader) → List Terminal → Option Query
+query_at inner ts = behind (is_keyword keyword.Select) ts >>= (λ us. selected_at inner [] us >>= (λ x. Some (query_of_parts x.0 x.1)))
+
+-- an expression of a rule, within the limits: its depth, and 256 that are opened within the outermost
+abbrev pub within : Level → Reader
+within = inner_at 128 257

@@ -1,0 +1,54 @@
+-- Lanes that are chosen by a mask.
+use Rattle.std.specs.Prelude.{◌≡◌, ℕ, ◌<◌, Bool, true, false, if◌then◌else◌, List, [], ◌∷◌, map, length, get_or}
+use Rattle.std.proofs.Common.{refl, sym, ◌∙◌, ap, subst, arith}
+use Rattle.std.proofs.lemmas.List.{get_or-map}
+use Rattle.meaning.specs.declared.value.Value.{Value}
+use Rattle.meaning.specs.declared.value.Value.TheVariants.{Null}
+use Rattle.meaning.specs.declared.outcome.Outcome.TheVariants as gives
+use Rattle.vectors.specs.Lanes.{lane_value, lane_values}
+use Rattle.vectors.proofs.Lanes.{lane_at, lanes_long}
+use Rattle.lane_loops.specs.Lanes.{AreChosen, AreLanes, null_at}
+use Rattle.vector_operators.specs.declared.given.Given.{Given}
+use Rattle.vector_operators.specs.Given.{AreGivenCells, AreChosenCells, chosen_at, given_at, is_null_lane}
+
+if_map : {X Y : Type 0} (f : X → Y) (b : Bool) (x y : X) → f (if b then x else y) ≡ (if b then f x else f y)
+if_map f true x y = refl
+if_map f false x y = refl
+
+pub chosen_map : {X Y : Type 0} (f : X → Y) (e : Y) (n : ℕ) (mask : List Bool) (these those out : List X) → AreChosen n mask these those out
+    → length these ≡ n → length those ≡ n
+    → (i : ℕ) → i < n → get_or (map f out) i e ≡ (if get_or mask i false then get_or (map f these) i e else get_or (map f those) i e)
+chosen_map f e n mask these those [] are tl ol i within = absurd (omega (arith, are.long, within))
+chosen_map f e n mask these those (x ∷ xs) are tl ol i within =
+    let inside : i < length (x ∷ xs) = subst (λ (k : ℕ). i < k) (sym are.long) within in
+    let of_these = get_or-map f these i x e (subst (λ (k : ℕ). i < k) (sym tl) within) in
+    let of_those = get_or-map f those i x e (subst (λ (k : ℕ). i < k) (sym ol) within) in
+    get_or-map f (x ∷ xs) i x e inside ∙ ap f (are.each i x within) ∙ if_map f (get_or mask i false) (get_or these i x) (get_or those i x)
+    ∙ (λ k. if get_or mask i false then sym of_these k else sym of_those k)
+
+module _ {X : Type 0} (value : X → Value) (blank : X) (mask : List Bool) (these those : Given) where
+  pub chosen_cells : (tc oc out : List X) → AreGivenCells value blank (length mask) these tc → AreGivenCells value blank (length mask) those oc
+      → ((i : ℕ) → i < length mask → get_or out i blank ≡ (if get_or mask i false then get_or tc i blank else get_or oc i blank))
+      → AreChosenCells value blank mask these those out
+  chosen_cells tc oc out of_these of_those out_is i within =
+      subst (λ (x : X). chosen_at mask these those i ≡ gives.Value (lane_value value (is_null_lane (chosen_at mask these those i), x))) (sym (out_is i within))
+      (elim (null_at mask i) as (λ b. (if b then given_at these i else given_at those i)
+      ≡ gives.Value (lane_value value (is_null_lane (if b then given_at these i else given_at those i), (if b then get_or tc i blank else get_or oc i blank)))) [
+        | true ↦ of_these i within
+        | false ↦ of_those i within
+      ])
+
+  pub chosen_lanes : (cells : List X) (nulls : List Bool) (lanes : List Value) → length cells ≡ length mask
+      → AreLanes false (length mask) (λ i. is_null_lane (chosen_at mask these those i)) nulls
+      → AreChosenCells value blank mask these those cells
+      → lanes ≡ lane_values value nulls cells
+      → (i : ℕ) → i < length mask → gives.Value (get_or lanes i Null) ≡ chosen_at mask these those i
+  chosen_lanes cells nulls lanes long nulls_are are is i within =
+      ap gives.Value (ap (λ (vs : List Value). get_or vs i Null) is ∙ lane_at value nulls cells i blank (nulls_are.long ∙ sym long) (subst (λ (k : ℕ). i < k) (sym long) within)
+      ∙ ap (λ (b : Bool). lane_value value (b, get_or cells i blank)) (nulls_are.each i within))
+      ∙ sym (are i within)
+
+  pub chosen_long : (cells : List X) (nulls : List Bool) (lanes : List Value) → length cells ≡ length mask
+      → AreLanes false (length mask) (λ i. is_null_lane (chosen_at mask these those i)) nulls
+      → lanes ≡ lane_values value nulls cells → length lanes ≡ length mask
+  chosen_long cells nulls lanes long nulls_are is = ap (λ (vs : List Value). length vs) is ∙ lanes_long value nulls cells (nulls_are.long ∙ sym long) ∙ long

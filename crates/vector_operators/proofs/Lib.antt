@@ -1,0 +1,10 @@
+-- Lemmas of this crate.
+pub mod Among
+pub mod Choosing
+pub mod Composes
+pub mod Flags
+pub mod Least
+pub mod Narrowed
+pub mod Parts
+pub mod Tested
+pub mod Typed

@@ -1,0 +1,6 @@
+-- The definitions of this crate.
+pub mod Evaluated
+pub mod Given
+pub mod Laws
+pub mod Spread
+pub mod Told

@@ -1,0 +1,116 @@
+//! Plans of queries.
+ghost use Rattle.std.specs.Prelude.{◌≡◌, IfOk, List, ℕ, Ok};
+ghost use Rattle.sql_syntax.specs.Canonical.{canonical};
+ghost use Rattle.planner_expressions.specs.Results.{Tells};
+ghost use Rattle.planner.specs.Planned.{plan_with, planned, planned_in};
+ghost use Rattle.planner.specs.PlanOf.{IsAPlanOf};
+
+use crate::checking::check;
+use crate::groups::groups_of;
+use crate::parts::{Grouped, Shown, Tables};
+use crate::tables::tables_of;
+use meaning::catalog::Catalog;
+use meaning::plan::Plan;
+use meaning::text::Text;
+use planner_expressions::fault::PlanFault;
+use planner_expressions::from::scope_of;
+use planner_expressions::scope::Scope;
+use sql_syntax::print;
+use sql_syntax::tree::Query;
+use std::alloc::{AllocError, Global};
+
+fn plan_from(
+    text: Result<Text, AllocError>,
+    query: &Query,
+    tables: Tables,
+    groups: Grouped,
+) -> Result<Plan, PlanFault>
+    requires { IfOk text (λ t. t ≡ canonical query.now) }
+    ensures { Tells result (Ok (plan_with query.now tables groups)) }
+{
+    let Tables {
+        fact,
+        joins,
+        conjuncts,
+    } = tables;
+    let Grouped {
+        keys,
+        aggs,
+        plain,
+        shown,
+    } = groups;
+    let Shown {
+        items,
+        having,
+        order,
+    } = shown;
+    match text {
+        Ok(text) => Ok(Plan {
+            text,
+            fact,
+            joins,
+            conjuncts,
+            keys,
+            aggs,
+            having,
+            items,
+            order,
+            limit: query.limit,
+            plain,
+        }),
+        Err(_) => {
+            drop(fact);
+            drop(joins);
+            drop(conjuncts);
+            drop(keys);
+            drop(aggs);
+            drop(items);
+            drop(having);
+            drop(order);
+            Err(PlanFault::Memory)
+        }
+    }
+}
+
+fn plan_in(alloc: Global, fact: &Text, scope: &Scope, query: &Query) -> Result<Plan, PlanFault>
+    ensures { Tells result (planned_in fact.now scope.now query.now) }
+{
+    match check(scope, query) {
+        Ok(()) => {}
+        Err(e) => return Err(e),
+    }
+    match tables_of(alloc, scope, query, fact) {
+        Ok(tables) => match groups_of(alloc, scope, query) {
+            Ok(groups) => plan_from(print(alloc, query), query, tables, groups),
+            Err(e) => {
+                drop(tables);
+                Err(e)
+            }
+        },
+        Err(e) => Err(e),
+    }
+}
+
+fn plan_told(alloc: Global, catalog: &Catalog, query: &Query) -> Result<Plan, PlanFault>
+    ensures { Tells result (planned catalog.now query.now) }
+{
+    match scope_of(alloc, catalog, &query.source) {
+        Ok(scope) => {
+            let found = plan_in(alloc, &catalog.fact.name, &scope, query);
+            drop(scope);
+            found
+        }
+        Err(e) => Err(e),
+    }
+}
+
+/// The plan of a query over the tables of a catalogue, or its first fault.
+#[tactic(auto, using(crate::proofs::PlansMean::means_told))]
+pub fn plan(alloc: Global, catalog: &Catalog, query: &Query) -> Result<Plan, PlanFault>
+    // It is the plan that is defined, or exactly the first fault, unless memory is wanting.
+    ensures told { Tells result (planned catalog.now query.now) }
+    // A plan is the query's.
+    ensures means { IfOk result (λ p. IsAPlanOf catalog.now query.now p) }
+{
+    plan_told(alloc, catalog, query)
+}

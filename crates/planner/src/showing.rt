@@ -1,0 +1,246 @@
+//! What a query shows of its groups, and in which order.
+ghost use Rattle.std.specs.Prelude.{◌≡◌, ◌++◌, ◌∷◌, [], ◌+◌, ◌<◌, IfOk, map, option_map, List, ℕ, ◌^◌, codes, decimal, position, filter, length};
+ghost use Rattle.std.specs.List.{enumerate_from};
+ghost use Rattle.meaning.specs.Results.{all_ok};
+ghost use Rattle.planner_expressions.specs.Results.{map_ok, Tells};
+ghost use Rattle.planner.specs.Shown.{item_name as named_by, header as headed, has_name as goes_by, one_named, item_meant, is_descending as descends, order_key, order_of as ordered, over_group as built, item_of, items_of, having_of as having_from, with_header};
+
+use meaning::sequence::Sequence;
+use meaning::text::Text;
+use meaning::{expr, plan};
+use planner_expressions::basis::Basis;
+use planner_expressions::fault::PlanFault;
+use planner_expressions::scope::Scope;
+use planner_expressions::translating::translate;
+use sql_syntax::tree::{Direction, Expr, Item, OrderKey, OrderTarget};
+use std::alloc::{AllocError, Global};
+
+/// The name by which ORDER BY may name an item.
+fn item_name(item: &Item) -> Option<&Text>
+    ensures { option_map (λ t. t.now) result ≡ named_by item.now }
+{
+    match &item.alias {
+        Some(alias) => Some(alias),
+        None => match &item.expr {
+            Expr::Column { name, .. } => Some(name),
+            _ => None,
+        },
+    }
+}
+
+fn numbered(alloc: Global, number: usize) -> Result<Text, AllocError>
+    ensures { IfOk result (λ t. t ≡ codes "c" ++ decimal number) }
+{
+    Ok(Text::from_string(format!(in alloc; "c{}", number)?))
+}
+
+fn header(alloc: Global, place: usize, item: &Item) -> Result<Text, AllocError>
+    requires { place + 1 < 2 ^ 64 }
+    ensures { IfOk result (λ t. t ≡ headed (place, item.now)) }
+{
+    match item_name(item) {
+        Some(name) => name.clone(),
+        None => numbered(alloc, place + 1),
+    }
+}
+
+/// An expression over groups.
+fn over_group(
+    alloc: Global,
+    scope: &Scope,
+    basis: &Basis,
+    expr: &Expr,
+) -> Result<expr::Expr, PlanFault>
+    ensures { Tells result (built scope.now basis.now expr.now) }
+{
+    match translate(alloc, scope, basis, expr) {
+        Ok(Some(found)) => Ok(found),
+        Ok(None) => Err(PlanFault::NotGrouped),
+        Err(_) => Err(PlanFault::Memory),
+    }
+}
+
+fn with_name(expr: expr::Expr, header: Result<Text, AllocError>) -> Result<plan::Item, PlanFault>
+    ensures { (name : List ℕ) → IfOk header (λ t. t ≡ name) → Tells result (Ok (with_header name expr)) }
+{
+    match header {
+        Ok(header) => Ok(plan::Item { header, expr }),
+        Err(_) => {
+            drop(expr);
+            Err(PlanFault::Memory)
+        }
+    }
+}
+
+fn item_at(
+    alloc: Global,
+    scope: &Scope,
+    basis: &Basis,
+    place: usize,
+    item: &Item,
+) -> Result<plan::Item, PlanFault>
+    requires { place + 1 < 2 ^ 64 }
+    ensures { Tells result (item_of scope.now basis.now (place, item.now)) }
+{
+    match over_group(alloc, scope, basis, &item.expr) {
+        Ok(found) => with_name(found, header(alloc, place, item)),
+        Err(e) => Err(e),
+    }
+}
+
+fn put_item(
+    item: Result<plan::Item, PlanFault>,
+    out: &mut Sequence<plan::Item>,
+) -> Result<(), PlanFault>
+    ensures { Tells (map_ok (λ _. out.new) result) (map_ok (λ i. out.old ++ i ∷ []) item) }
+{
+    match item {
+        Ok(item) => match out.push(item) {
+            Ok(()) => Ok(()),
+            Err(_) => Err(PlanFault::Memory),
+        },
+        Err(e) => Err(e),
+    }
+}
+
+/// Puts the items behind the others.
+pub fn push_items(
+    alloc: Global,
+    scope: &Scope,
+    basis: &Basis,
+    items: &[Item],
+    out: &mut Sequence<plan::Item>,
+) -> Result<(), PlanFault>
+    ensures { Tells (map_ok (λ _. out.new) result) (map_ok (λ is. out.old ++ is) (items_of scope.now basis.now items.now)) }
+{
+    for (place, item) in items.iter().enumerate() {
+        match put_item(item_at(alloc, scope, basis, place, item), out) {
+            Ok(()) => {}
+            Err(e) => return Err(e),
+        }
+    }
+    Ok(())
+}
+
+pub fn having_of(
+    alloc: Global,
+    scope: &Scope,
+    basis: &Basis,
+    having: &Option<Expr>,
+) -> Result<Option<expr::Expr>, PlanFault>
+    ensures { Tells result (having_from scope.now basis.now having.now) }
+{
+    match having {
+        Some(having) => match over_group(alloc, scope, basis, having) {
+            Ok(found) => Ok(Some(found)),
+            Err(e) => Err(e),
+        },
+        None => Ok(None),
+    }
+}
+
+fn has_name(item: &Item, name: &Text) -> bool
+    ensures { result ≡ goes_by name.now item.now }
+{
+    match item_name(item) {
+        Some(found) => name.as_str() == found.as_str(),
+        None => false,
+    }
+}
+
+fn first_named(items: &[Item], name: &Text) -> Option<usize>
+    ensures { result ≡ position (goes_by name.now) items.now }
+{
+    items.iter().position(|item| has_name(item, name))
+}
+
+fn count_named(items: &[Item], name: &Text) -> usize
+    ensures { result ≡ length (filter (goes_by name.now) items.now) }
+{
+    items.iter().filter(|item| has_name(item, name)).count()
+}
+
+fn item_named(items: &[Item], name: &Text) -> Result<usize, PlanFault>
+    ensures { result ≡ one_named (position (goes_by name.now) items.now) (length (filter (goes_by name.now) items.now)) }
+{
+    let count = count_named(items, name);
+    match first_named(items, name) {
+        Some(item) => {
+            if count == 1 {
+                Ok(item)
+            } else {
+                Err(PlanFault::Ambiguous)
+            }
+        }
+        None => Err(PlanFault::PlaceNotAllowed),
+    }
+}
+
+fn item_for(items: &[Item], target: &OrderTarget) -> Result<usize, PlanFault>
+    ensures { result ≡ item_meant items.now target.now }
+{
+    match target {
+        OrderTarget::Place(place) => {
+            let place = *place;
+            if place == 0 || place > items.len() as u64 {
+                Err(PlanFault::PlaceNotAllowed)
+            } else {
+                Ok((place - 1) as usize)
+            }
+        }
+        OrderTarget::Name(name) => item_named(items, name),
+    }
+}
+
+fn is_descending(direction: Direction) -> bool
+    ensures { result ≡ descends direction }
+{
+    match direction {
+        Direction::Ascending => false,
+        Direction::Descending => true,
+    }
+}
+
+fn key_for(items: &[Item], key: &OrderKey) -> Result<plan::OrderKey, PlanFault>
+    ensures { result ≡ order_key items.now key.now }
+{
+    match item_for(items, &key.target) {
+        Ok(item) => Ok(plan::OrderKey {
+            item,
+            descending: is_descending(key.direction),
+        }),
+        Err(e) => Err(e),
+    }
+}
+
+fn put_key(
+    key: Result<plan::OrderKey, PlanFault>,
+    out: &mut Sequence<plan::OrderKey>,
+) -> Result<(), PlanFault>
+    ensures { Tells (map_ok (λ _. out.new) result) (map_ok (λ i. out.old ++ i ∷ []) key) }
+{
+    match key {
+        Ok(key) => match out.push(key) {
+            Ok(()) => Ok(()),
+            Err(_) => Err(PlanFault::Memory),
+        },
+        Err(e) => Err(e),
+    }
+}
+
+/// Puts the keys of ORDER BY behind the others.
+pub fn push_order(
+    items: &[Item],
+    keys: &[OrderKey],
+    out: &mut Sequence<plan::OrderKey>,
+) -> Result<(), PlanFault>
+    ensures { Tells (map_ok (λ _. out.new) result) (map_ok (λ ks. out.old ++ ks) (ordered items.now keys.now)) }
+{
+    for key in keys {
+        match put_key(key_for(items, key), out) {
+            Ok(()) => {}
+            Err(e) => return Err(e),
+        }
+    }
+    Ok(())
+}

@@ -1,0 +1,12 @@
+pub mod Numbers
+pub mod Results
+pub mod Scope
+pub mod Trees
+pub mod Sorts
+pub mod Judged
+pub mod Spelled
+pub mod Translated
+pub mod Given
+pub mod From
+pub mod Uses
+pub mod Meant

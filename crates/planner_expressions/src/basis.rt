@@ -1,0 +1,107 @@
+//! What expressions are made of: columns of rows, or keys and aggregates of groups.
+ghost use Rattle.std.specs.Prelude.{◌≡◌, IfOk, Option, option_map};
+ghost use Rattle.meaning.specs.declared.expr.Expr as plan;
+ghost use Rattle.planner_expressions.specs.Given.{place_of, column_meant, group_given, given_in};
+ghost use Rattle.planner_expressions.specs.Spelled.{spelled};
+
+use crate::naming::look_up;
+use crate::scope::{Place, Scope};
+use crate::spelling::{find_same, spell};
+use meaning::expr::Expr;
+use meaning::sequence::Sequence;
+use sql_syntax::tree;
+use std::alloc::{AllocError, Global};
+
+/// What an expression of a plan may read.
+#[derive(Drop)]
+pub enum Basis {
+    /// The columns of a joined row.
+    Rows,
+    /// The keys and the aggregates of a group, each written out.
+    Groups {
+        keys: Sequence<Sequence<i64>>,
+        aggregates: Sequence<Sequence<i64>>,
+    },
+}
+
+fn expr_at(place: &Place) -> Expr
+    ensures { result ≡ place_of place.now }
+{
+    match place.join {
+        Some(join) => Expr::Joined {
+            join,
+            place: place.place,
+        },
+        None => Expr::Column(place.place),
+    }
+}
+
+/// The column that an expression stands for, where it is a name alone.
+pub fn column_of<'a>(scope: &'a Scope, expr: &tree::Expr) -> Option<&'a Place>
+    ensures { option_map (λ p. p.now) result ≡ column_meant scope.now expr.now }
+{
+    match expr {
+        tree::Expr::Column { table, name } => match look_up(scope, table, name) {
+            Ok(place) => Some(place),
+            Err(_) => None,
+        },
+        _ => None,
+    }
+}
+
+fn row_given(scope: &Scope, expr: &tree::Expr) -> Option<Expr>
+    ensures { result ≡ option_map place_of (column_meant scope.now expr.now) }
+{
+    match column_of(scope, expr) {
+        Some(place) => Some(expr_at(place)),
+        None => None,
+    }
+}
+
+fn found_in_group(
+    keys: &[Sequence<i64>],
+    aggregates: &[Sequence<i64>],
+    written: &Sequence<i64>,
+) -> Option<Expr>
+    ensures { result ≡ group_given keys.now aggregates.now written.now }
+{
+    match find_same(keys, written) {
+        Some(key) => Some(Expr::Key(key)),
+        None => match find_same(aggregates, written) {
+            Some(aggregate) => Some(Expr::Aggregate(aggregate)),
+            None => None,
+        },
+    }
+}
+
+/// The expression written out.
+pub fn written(alloc: Global, scope: &Scope, expr: &tree::Expr) -> Result<Sequence<i64>, AllocError>
+    ensures { IfOk result (λ x. x ≡ spelled scope.now expr.now) }
+{
+    let mut out = Sequence::new(alloc);
+    match spell(scope, expr, &mut out) {
+        Ok(()) => Ok(out),
+        Err(e) => {
+            drop(out);
+            Err(e)
+        }
+    }
+}
+
+/// What stands for the expression, if anything does.
+pub fn given(
+    alloc: Global,
+    scope: &Scope,
+    basis: &Basis,
+    expr: &tree::Expr,
+) -> Result<Option<Expr>, AllocError>
+    ensures { IfOk result (λ x. x ≡ given_in scope.now basis.now expr.now) }
+{
+    match basis {
+        Basis::Rows => Ok(row_given(scope, expr)),
+        Basis::Groups { keys, aggregates } => {
+            let written = written(alloc, scope, expr)?;
+            Ok(found_in_group(keys.as_slice(), aggregates.as_slice(), &written))
+        }
+    }
+}

@@ -1,0 +1,238 @@
+//! The tables of FROM.
+ghost use Rattle.std.specs.Prelude.{◌≡◌, ◌++◌, ◌∷◌, [], ℕ, List, OnOk, IfOk, bytes_eq, find, option_copied};
+ghost use Rattle.std.specs.List.{list_any};
+ghost use Rattle.planner_expressions.specs.From.{called, is_at as at_key, place_of_column, places, once_more, with_fact, with_dim, if_new, with_table, enter as entered, enter_all as all_entered, no_tables as nothing, whole, scope_of as scope_from, source_from, if_there};
+ghost use Rattle.planner_expressions.specs.Results.{map_ok, Tells};
+
+use crate::fault::PlanFault;
+use crate::scope::{Dim, Place, Scope, Times};
+use meaning::catalog::{Catalog, Column, Dimension, Table};
+use meaning::limits::MAX_JOINS;
+use meaning::sequence::Sequence;
+use meaning::text::Text;
+use sql_syntax::tree;
+use std::alloc::{AllocError, Global};
+
+/// The name that a table goes by.
+fn name_of(table: &tree::Table) -> &Text
+    ensures { result.now ≡ called table.now }
+{
+    match &table.alias {
+        Some(alias) => alias,
+        None => &table.name,
+    }
+}
+
+fn is_at(place: usize, key: Option<usize>) -> bool
+    ensures { result ≡ at_key place key }
+{
+    match key {
+        Some(key) => place == key,
+        None => false,
+    }
+}
+
+fn place_at(
+    owner: &Text,
+    join: Option<usize>,
+    key: Option<usize>,
+    place: usize,
+    column: &Column,
+) -> Result<Place, AllocError>
+    ensures { IfOk result (λ p. p ≡ place_of_column owner.now join key (place, column.now)) }
+{
+    let owner = owner.clone()?;
+    let name = column.name.clone()?;
+    Ok(Place {
+        owner,
+        join,
+        place,
+        is_key: is_at(place, key),
+        name,
+        col_type: column.col_type,
+    })
+}
+
+/// Puts the columns of a table behind the others.
+fn add_columns(
+    owner: &Text,
+    join: Option<usize>,
+    key: Option<usize>,
+    columns: &[Column],
+    out: &mut Sequence<Place>,
+) -> Result<(), AllocError>
+    ensures { OnOk result (out.new ≡ out.old ++ places owner.now join key columns.now) }
+{
+    for (place, column) in columns.iter().enumerate() {
+        out.push(place_at(owner, join, key, place, column)?)?;
+    }
+    Ok(())
+}
+
+fn one_more(times: Times) -> Times
+    ensures { result ≡ once_more times }
+{
+    match times {
+        Times::Never => Times::Once,
+        Times::Once => Times::Often,
+        Times::Often => Times::Often,
+    }
+}
+
+fn add_fact(scope: &mut Scope, name: &Text, table: &Table) -> Result<(), AllocError>
+    ensures { OnOk result (scope.new ≡ with_fact scope.old name.now table.now) }
+{
+    scope.names.push(name.clone()?)?;
+    scope.fact = one_more(scope.fact);
+    add_columns(
+        name,
+        None,
+        None,
+        table.columns.as_slice(),
+        &mut scope.columns,
+    )
+}
+
+fn dim_of(dimension: &Dimension) -> Result<Dim, AllocError>
+    ensures { IfOk result (λ d. d ≡ record { name = dimension.now.table.name; key = dimension.now.key }) }
+{
+    Ok(Dim {
+        name: dimension.table.name.clone()?,
+        key: dimension.key,
+    })
+}
+
+fn add_dim(scope: &mut Scope, name: &Text, dimension: &Dimension) -> Result<(), AllocError>
+    ensures { OnOk result (scope.new ≡ with_dim scope.old name.now dimension.now) }
+{
+    scope.names.push(name.clone()?)?;
+    let join = scope.dims.len();
+    scope.dims.push(dim_of(dimension)?)?;
+    add_columns(
+        name,
+        Some(join),
+        Some(dimension.key),
+        dimension.table.columns.as_slice(),
+        &mut scope.columns,
+    )
+}
+
+fn find_dim<'a>(catalog: &'a Catalog, name: &Text) -> Option<&'a Dimension>
+    ensures { option_copied result ≡ find (λ d. bytes_eq d.table.name name.now) catalog.now.dims }
+{
+    let dims = catalog.dims.as_slice();
+    dims.iter().find(|d| d.table.name.as_str() == name.as_str())
+}
+
+fn is_taken(scope: &Scope, name: &Text) -> bool
+    ensures { result ≡ list_any (bytes_eq name.now) scope.now.names }
+{
+    let names = scope.names.as_slice();
+    names.iter().any(|n| name.as_str() == n.as_str())
+}
+
+/// Puts the columns of a table behind the others, if the catalogue has it.
+fn add_table(scope: &mut Scope, catalog: &Catalog, table: &tree::Table) -> Result<bool, AllocError>
+    ensures { IfOk result (λ there. if_there there scope.new ≡ with_table catalog.now scope.old table.now) }
+{
+    if catalog.fact.name.as_str() == table.name.as_str() {
+        add_fact(scope, name_of(table), &catalog.fact)?;
+        return Ok(true);
+    }
+    match find_dim(catalog, &table.name) {
+        Some(dimension) => {
+            add_dim(scope, name_of(table), dimension)?;
+            Ok(true)
+        }
+        None => Ok(false),
+    }
+}
+
+fn enter(scope: &mut Scope, catalog: &Catalog, table: &tree::Table) -> Result<(), PlanFault>
+    ensures { Tells (map_ok (λ _. scope.new) result) (entered catalog.now scope.old table.now) }
+{
+    let taken = is_taken(scope, name_of(table));
+    match add_table(scope, catalog, table) {
+        Ok(there) => {
+            if !there {
+                return Err(PlanFault::TableUnknown);
+            }
+            if taken {
+                return Err(PlanFault::Ambiguous);
+            }
+            Ok(())
+        }
+        Err(_) => Err(PlanFault::Memory),
+    }
+}
+
+fn enter_all(scope: &mut Scope, catalog: &Catalog, others: &[tree::Joined]) -> Result<(), PlanFault>
+    ensures { Tells (map_ok (λ _. scope.new) result) (all_entered catalog.now scope.old others.now) }
+{
+    for joined in others {
+        match enter(scope, catalog, &joined.table) {
+            Ok(()) => {}
+            Err(e) => return Err(e),
+        }
+    }
+    Ok(())
+}
+
+fn no_tables(alloc: Global) -> Scope
+    ensures { result ≡ nothing }
+{
+    Scope {
+        names: Sequence::new(alloc),
+        fact: Times::Never,
+        dims: Sequence::new(alloc),
+        columns: Sequence::new(alloc),
+    }
+}
+
+/// FROM as a whole.
+fn check_whole(scope: &Scope) -> Result<(), PlanFault>
+    ensures { map_ok (λ _. scope.now) result ≡ whole scope.now scope.now.fact }
+{
+    match scope.fact {
+        Times::Never => Err(PlanFault::FactNotOnce),
+        Times::Often => Err(PlanFault::FactNotOnce),
+        Times::Once => {
+            if scope.dims.len() > MAX_JOINS {
+                Err(PlanFault::OverLimit)
+            } else {
+                Ok(())
+            }
+        }
+    }
+}
+
+fn enter_source(
+    scope: &mut Scope,
+    catalog: &Catalog,
+    source: &tree::Source,
+) -> Result<(), PlanFault>
+    ensures { Tells (map_ok (λ _. scope.new) result) (source_from catalog.now scope.old source.now) }
+{
+    match enter(scope, catalog, &source.first) {
+        Ok(()) => {}
+        Err(e) => return Err(e),
+    }
+    match enter_all(scope, catalog, source.others.as_slice()) {
+        Ok(()) => check_whole(scope),
+        Err(e) => Err(e),
+    }
+}
+
+/// The tables of FROM, or the first fault.
+pub fn scope_of(alloc: Global, catalog: &Catalog, source: &tree::Source) -> Result<Scope, PlanFault>
+    ensures { Tells result (scope_from catalog.now source.now) }
+{
+    let mut scope = no_tables(alloc);
+    match enter_source(&mut scope, catalog, source) {
+        Ok(()) => Ok(scope),
+        Err(e) => {
+            drop(scope);
+            Err(e)
+        }
+    }
+}

@@ -11,6 +11,18 @@ fn tell_unknown(alloc: Global, word: &str) -> Result<String, AllocError> {
     format!(in alloc; "(no record is of the kind {word})\n")
 }
 
+// The word behind the kind is the path of the catalogue.
+fn tell_plan(
+    alloc: Global,
+    words: &[&str],
+    body: &str,
+    files: &[StoredFile],
+) -> Result<String, AllocError> {
+    let path = words.first().copied().unwrap_or("");
+    let catalog = find(files, path).unwrap_or(&[]);
+    plan_cases::tell(alloc, catalog, body)
+}
+
 fn tell_kind(
     alloc: Global,
     kind: &str,
@@ -23,6 +35,7 @@ fn tell_kind(
         "sql" => sql::tell(alloc, words, body),
         "catalog" => catalog::tell(alloc, words, body),
         "cut" => cut::tell(alloc, words, body),
+        "plan" => tell_plan(alloc, words, body, files.as_slice()),
         "selection" => selection::tell(alloc, words, body),
         "lanes" => lane_cases::tell(alloc, words, body),
         "evaluate" => expression_cases::tell(alloc, words, body),

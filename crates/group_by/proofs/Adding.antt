@@ -9,7 +9,7 @@ use Rattle.meaning.specs.declared.value.Value.TheVariants.{Null, Int, Text}
 use Rattle.meaning.specs.declared.answer.Statistics.{Statistics}
 use Rattle.meaning.specs.declared.plan.AggregateKind.{AggregateKind}
 use Rattle.meaning.specs.Order.{Row, column}
-use Rattle.meaning.specs.Aggregate.{no_statistics, present, statistics}
+use Rattle.meaning.specs.Aggregate.{no_statistics, kept_by, present, statistics}
 use Rattle.vectors.specs.declared.vector.Vector.{Vector}
 use Rattle.accumulators.specs.Columns.{ColumnSpec}
 use Rattle.accumulators.specs.Entries.{state_of, at_place}
@@ -19,6 +19,7 @@ use Rattle.group_by.specs.Shape.{shape_with}
 use Rattle.group_by.specs.Groups.{with_rows}
 use Rattle.group_by.specs.Rows.{row_at, rows_at, kept_rows}
 use Rattle.group_by.specs.Places.{no_column, state_at, state_in, table_of, ArePlaces, AreAdded}
+use Rattle.group_by.proofs.Keeping.{keeps_merged, keeps_none, kept_twice}
 use Rattle.group_by.proofs.Batches.{rows_added, same_kinds, kinds_of, zip-long, at_place-times}
 
 present_few : (xs : List Value) → length (present xs) ≤ length xs
@@ -65,6 +66,18 @@ module _ (is_certain : Bool) (keys : List Row) (rows : List ℕ) (columns : List
             omega (arith, none))
       ]
 
+  kept_at : (c place : ℕ) → c < length new_columns → kept_by (get_or new_columns c no_column).kind (state_at new_columns c place) ≡ state_at new_columns c place
+  kept_at c place l =
+      let in_columns : c < length columns = subst (λ (m : ℕ). c < m) added.updated.0 l in
+      let updated = added.updated.1 c in_columns in
+      let kind = (get_or columns c no_column).kind in
+      let entries = at_place place (zip added.places (map (λ row. column row c) arguments)) in
+      ap (λ (k : AggregateKind). kept_by k (state_at new_columns c place)) updated.kind
+      ∙ elim (cases_lt place (length new_keys)) [
+        | inl here ↦ keeps_merged kind (state_at columns c place) (state_of kind entries) (state_at new_columns c place) (are.kept c place in_columns) (kept_twice kind (statistics entries)) (updated.states place here)
+        | inr past ↦ keeps_none kind (state_at new_columns c place) (get_or_past (get_or new_columns c no_column).states place no_statistics (subst (λ (m : ℕ). m ≤ place) (sym updated.height) past))
+      ]
+
   pub places_added : taken + n ≤ most_entries → ArePlaces is_certain new_keys new_rows new_columns (taken + n)
   places_added few = record {
     certain = λ e. let was = are.certain e in let kept = added.placed.kept 0 was.0 in (let k = kept.0 in omega (arith, k), kept.1 ∙ was.1);
@@ -73,6 +86,7 @@ module _ (is_certain : Bool) (keys : List Row) (rows : List ℕ) (columns : List
     total = let t = added.counted.total in let before = are.total in let long = added.placed.long ∙ long_found in omega (arith, t, before, long);
     few = few;
     within = count_at;
+    kept = kept_at;
   }
 
   pub table_added : (handed : ℕ) → table_of is_certain new_keys new_rows new_columns (taken + n) handed ≡ with_rows (table_of is_certain keys rows columns taken handed) (zip found arguments)

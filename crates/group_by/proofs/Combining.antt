@@ -199,7 +199,7 @@ combined_rows (g ∷ gs) =
 abbrev AllFit : ℕ → List Group → Type 0
 AllFit width gs = (j : ℕ) (d : Group) → j < length gs → IsFit width (get_or gs j d)
 
-merged_fit : (width : ℕ) (g h : Group) → IsFit width g → IsFit width h → IsFit width (merge_groups g h)
+pub merged_fit : (width : ℕ) (g h : Group) → IsFit width g → IsFit width h → IsFit width (merge_groups g h)
 merged_fit width g h fit_g fit_h = record {
   wide = zipped-length g.states h.states width fit_g.wide fit_h.wide;
   within = λ c. let count = zipped_count g.states h.states c in let a = fit_g.within c in let b = fit_h.within c in omega (arith, count, a, b);

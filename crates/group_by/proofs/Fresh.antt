@@ -12,7 +12,8 @@ use Rattle.meaning.specs.Aggregate.{no_statistics}
 use Rattle.accumulators.specs.Columns.{ColumnSpec}
 use Rattle.group_by.specs.Shape.{Shape, GroupsSpec, empty_key, shape_with}
 use Rattle.group_by.specs.Groups.{all_rows, fresh, group_of_rows, together, with_groups}
-use Rattle.group_by.specs.Places.{state_at, by_place, table_of, ArePlaces, AreFresh}
+use Rattle.group_by.specs.Places.{no_column, state_at, by_place, table_of, ArePlaces, AreFresh}
+use Rattle.group_by.proofs.Keeping.{keeps_none}
 use Rattle.group_by.proofs.Growing.{grows_with}
 use Rattle.group_by.proofs.Together.{merge_none, states-length, states_from}
 use Rattle.group_by.proofs.Batches.{kinds_of, states_in}
@@ -58,6 +59,7 @@ module _ (is_certain : Bool) (keys : List Row) (rows : List ℕ) (columns : List
     total = let zero : sum rows ≡ length keys * 0 = ap sum none ∙ sum_by-replicate (λ (n : ℕ). n) (length keys) 0 in omega (arith, zero);
     few = omega arith;
     within = λ c place. let zero : (state_at columns c place).count ≡ 0 = ap (λ (s : Statistics). s.count) (are.none c place) in omega (arith, zero);
+    kept = λ c place l. keeps_none (get_or columns c no_column).kind (state_at columns c place) (are.none c place);
   }
 
 -- ---- groups one after the other

@@ -56,7 +56,7 @@ no_place all rows columns = drop_all (length all) (by_place all rows columns) (l
 
 module _ (keys : List Row) (rows : List ℕ) (columns : List ColumnSpec) (counted : length rows ≡ length keys)
     (within : (c place : ℕ) → (state_at columns c place).count ≤ get_or rows place 0) where
-  rows_of : all_rows (by_place keys rows columns) ≡ sum rows
+  pub rows_of : all_rows (by_place keys rows columns) ≡ sum rows
   rows_of =
       let b = by_place keys rows columns in
       let f : Group → ℕ = λ (g : Group). g.rows in
@@ -67,7 +67,7 @@ module _ (keys : List Row) (rows : List ℕ) (columns : List ColumnSpec) (counte
       get_or-map f b j (group_at rows columns [] 0) 0 (subst (λ (n : ℕ). j < n) (sym (by_place-length keys rows columns)) here)
       ∙ ap f (by_place-at keys rows columns j (group_at rows columns [] 0) here)))
 
-  place_fit : (j : ℕ) (key : Row) → IsFit (length columns) (group_at rows columns key j)
+  pub place_fit : (j : ℕ) (key : Row) → IsFit (length columns) (group_at rows columns key j)
   place_fit j key = record {
     wide = length-map columns (λ (c : ColumnSpec). state_in c j);
     within = λ c. elim (cases_lt c (length columns)) [

@@ -1,3 +1,4 @@
+pub mod Keeping
 pub mod Shapes
 pub mod Growing
 pub mod Together
@@ -10,3 +11,4 @@ pub mod Merging
 pub mod Fresh
 pub mod Combining
 pub mod Handing
+pub mod Own

@@ -20,6 +20,7 @@ use Rattle.group_by.specs.Shape.{Shape, shape_with}
 use Rattle.group_by.specs.Groups.{all_rows, group_of_rows, together, with_groups}
 use Rattle.group_by.specs.Rows.{IsGroupOf}
 use Rattle.group_by.specs.Places.{no_column, state_in, state_at, group_at, by_place, table_of, ArePlaces, AreFresh, IsMerged, IsAbsorbed}
+use Rattle.group_by.proofs.Keeping.{keeps_merged, kept_twice}
 use Rattle.group_by.proofs.Growing.{grows_with}
 use Rattle.group_by.proofs.Together.{behind, placed, zipped-length, IsWide}
 use Rattle.group_by.proofs.Batches.{kinds_of, states_in, zipped-at, by_place-length, by_place-at, keys_added, keys_behind, none_added}
@@ -228,6 +229,20 @@ module _ (is_certain : Bool) (keys : List Row) (rows : List ℕ) (columns : List
             omega (arith, none))
       ]
 
+  kept_there : (c place : ℕ) → c < length new_columns → kept_by (get_or new_columns c no_column).kind (state_at new_columns c place) ≡ state_at new_columns c place
+  kept_there c place l =
+      let in_columns : c < length columns = subst (λ (m : ℕ). c < m) absorbed.merged.0 l in
+      let merged = absorbed.merged.1 c in_columns in
+      let kind = (get_or columns c no_column).kind in
+      let more = get_or g.states c no_statistics in
+      let is : state_at new_columns c absorbed.place ≡ merge (state_at columns c absorbed.place) (kept_by kind more) = merged.here in
+      ap (λ (k : AggregateKind). kept_by k (state_at new_columns c place)) merged.kind
+      ∙ elim (cases_eq place absorbed.place) [
+        | inl at ↦ keeps_merged kind (state_at columns c absorbed.place) (kept_by kind more) (state_at new_columns c place) (are.kept c absorbed.place in_columns) (kept_twice kind more)
+            (ap (λ (i : ℕ). state_at new_columns c i) at ∙ is)
+        | inr ne ↦ ap (kept_by kind) (merged.others place ne) ∙ are.kept c place in_columns ∙ sym (merged.others place ne)
+      ]
+
   pub places_absorbed : taken + g.rows ≤ most_entries → ArePlaces is_certain new_keys new_rows new_columns (taken + g.rows)
   places_absorbed few = record {
     certain = λ e. let was = are.certain e in let kept = absorbed.placed.kept 0 was.0 in (let k = kept.0 in omega (arith, k), kept.1 ∙ was.1);
@@ -236,4 +251,5 @@ module _ (is_certain : Bool) (keys : List Row) (rows : List ℕ) (columns : List
     total = let t = absorbed.counted.total in let before = are.total in omega (arith, t, before);
     few = few;
     within = count_at;
+    kept = kept_there;
   }

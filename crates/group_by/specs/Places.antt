@@ -43,14 +43,16 @@ table_of is_certain keys rows columns taken handed = record {
   handed = handed;
 }
 
--- a row count and a state of each aggregate at each key's place, at most 2^32 rows in all, and no more entries than rows
+-- a row count and a state of each aggregate at each key's place: each row counted once, at most 2^32 rows in all, no more
+-- entries than rows, and nothing in a state that its kind doesn't keep
 pub record ArePlaces (is_certain : Bool) (keys : List Row) (rows : List ℕ) (columns : List ColumnSpec) (taken : ℕ) : Type 0 where
   pub certain : is_certain ≡ true → (0 < length keys) × (get_or keys 0 [] ≡ [])
   pub counted : length rows ≡ length keys
   pub heights : (c : ℕ) → c < length columns → length (get_or columns c no_column).states ≡ length keys
-  pub total : sum rows ≤ taken
+  pub total : sum rows ≡ taken
   pub few : taken ≤ most_entries
   pub within : (c place : ℕ) → (state_at columns c place).count ≤ get_or rows place 0
+  pub kept : (c place : ℕ) → c < length columns → kept_by (get_or columns c no_column).kind (state_at columns c place) ≡ state_at columns c place
 
 -- ---- what a search finds
 

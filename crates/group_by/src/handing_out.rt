@@ -24,11 +24,11 @@ fn states_at(
     requires { All (λ c. place < length c.states) columns.now }
     ensures { IfOk result (λ states. states ≡ map (λ c. state_in c place) columns.now) }
 {
-    let mut states = Sequence::new(alloc);
+    let mut states = Vec::with_capacity(alloc, columns.len())?;
     for column in columns {
         states.push(column.state(alloc, place)?)?;
     }
-    Ok(states)
+    Ok(Sequence::from_vec(states))
 }
 
 /// The group at a place.

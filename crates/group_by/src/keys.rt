@@ -96,9 +96,9 @@ pub fn is_row(one: &Row, other: &Row) -> bool
 pub fn key_of_value(alloc: Global, value: Value) -> Result<Row, AllocError>
     ensures { IfOk result (λ key. key ≡ value ∷ []) }
 {
-    let mut key = Sequence::new(alloc);
+    let mut key = Vec::with_capacity(alloc, 1)?;
     key.push(value)?;
-    Ok(key)
+    Ok(Sequence::from_vec(key))
 }
 
 /// The value of a key of one column.
@@ -136,22 +136,22 @@ pub fn key_of(
     requires at { at < below }
     ensures { IfOk result (λ key. key ≡ row_at lanes.now at) }
 {
-    let mut key = Sequence::new(alloc);
+    let mut key = Vec::with_capacity(alloc, lanes.len())?;
     for k in 0..lanes.len() {
         key.push(owned(alloc, value_at(&lanes[k], at))?)?;
     }
-    Ok(key)
+    Ok(Sequence::from_vec(key))
 }
 
 /// A key in memory of its own.
 pub fn copy_key(alloc: Global, key: &Row) -> Result<Row, AllocError>
     ensures { IfOk result (λ copy. copy ≡ key.now) }
 {
-    let mut copy = Sequence::new(alloc);
+    let mut copy = Vec::with_capacity(alloc, key.len())?;
     for value in key.as_slice() {
         copy.push(value.clone()?)?;
     }
-    Ok(copy)
+    Ok(Sequence::from_vec(copy))
 }
 
 /// The order of two keys.

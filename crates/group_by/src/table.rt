@@ -265,7 +265,9 @@ impl GroupTable {
 
     /// The groups in the order of their keys.
     pub fn into_groups(self, alloc: Global) -> Result<Sequence<Group>, AllocError>
-        ensures { IfOk result (λ groups. groups ≡ self.groups) }
+        ensures value { IfOk result (λ groups. groups ≡ self.groups) }
+        ensures fit { IfOk result (λ groups. All (IsGroupOf self.shape) groups) }
+        ensures rows { IfOk result (λ groups. all_rows groups ≡ self.rows) }
     {
         let GroupTable {
             index,
@@ -280,7 +282,9 @@ impl GroupTable {
 
     /// The groups in the order of their keys.
     pub fn groups(&self, alloc: Global) -> Result<Sequence<Group>, AllocError>
-        ensures { IfOk result (λ groups. groups ≡ self.now.groups) }
+        ensures value { IfOk result (λ groups. groups ≡ self.now.groups) }
+        ensures fit { IfOk result (λ groups. All (IsGroupOf self.now.shape) groups) }
+        ensures rows { IfOk result (λ groups. all_rows groups ≡ self.now.rows) }
     {
         self.copy(alloc)?.into_groups(alloc)
     }

@@ -1,6 +1,7 @@
 //! Vectors of a few lanes.
 ghost use Rattle.std.specs.Prelude.{◌≡◌, length, true, All, IfOk};
 ghost use Rattle.accumulators.specs.Values.{is_spelled, values_of};
+ghost use Rattle.group_by.specs.Rows.{AreLanesOf};
 
 use std::alloc::{AllocError, Global};
 use vectors::ints::{IntCells, Ints};
@@ -10,10 +11,12 @@ use vectors::vector::Vector;
 
 pub const NULL: i64 = 404;
 
-fn cells_of(alloc: Global, list: &[i64]) -> Result<Vec<i64>, AllocError>
-    ensures { IfOk result (λ cells. length cells.items ≡ length list.now) }
+fn cells_of(alloc: Global, list: &[i64], lanes: usize) -> Result<Vec<i64>, AllocError>
+    ensures { IfOk result (λ cells. length cells.items ≡ lanes) }
 {
-    Vec::from_slice(alloc, list)
+    let mut cells = Vec::from_slice(alloc, list)?;
+    cells.resize(lanes, 0)?;
+    Ok(cells)
 }
 
 fn nulls_of(alloc: Global, list: &[i64]) -> Result<Vec<bool>, AllocError>
@@ -26,14 +29,46 @@ fn nulls_of(alloc: Global, list: &[i64]) -> Result<Vec<bool>, AllocError>
     Ok(nulls)
 }
 
-/// A vector of these integers; 404 stands for NULL.
-pub fn vector_of(alloc: Global, list: &[i64]) -> Result<Vector<'static>, AllocError>
-    ensures long { IfOk result (λ lanes. length (values_of lanes) ≡ length list.now) }
-    ensures spelled { IfOk result (λ lanes. All (λ v. is_spelled v ≡ true) (values_of lanes)) }
+/// A vector of so many lanes with these integers; 404 stands for NULL.
+pub fn vector_of(alloc: Global, list: &[i64], lanes: usize) -> Result<Vector<'static>, AllocError>
+    ensures { IfOk result (λ vector. (length (values_of vector) ≡ lanes) × All (λ v. is_spelled v ≡ true) (values_of vector)) }
 {
-    let cells = cells_of(alloc, list)?;
-    let nulls = nulls_of(alloc, list)?;
+    let cells = cells_of(alloc, list, lanes)?;
+    let nulls = nulls_of(alloc, cells.as_slice())?;
     Ok(Vector::Ints(Ints::new(IntCells::Owned(cells), Nulls::Owned(nulls))))
+}
+
+/// A vector of these integers, none of them NULL.
+pub fn plain(list: &[i64]) -> Vector<'_>
+    ensures { (length (values_of result) ≡ length list.now) × All (λ v. is_spelled v ≡ true) (values_of result) }
+{
+    Vector::Ints(Ints::new(IntCells::Lent(list), Nulls::None))
+}
+
+/// A vector of each of these lists.
+pub fn vectors_of(
+    alloc: Global,
+    lists: &[&[i64]],
+    lanes: usize,
+) -> Result<Vec<Vector<'static>>, AllocError>
+    ensures { IfOk result (λ vectors. AreLanesOf lanes vectors.items) }
+{
+    let mut vectors = Vec::new(alloc);
+    for list in lists {
+        vectors.push(vector_of(alloc, list, lanes)?)?;
+    }
+    Ok(vectors)
+}
+
+/// So many vectors of one list.
+pub fn alike(alloc: Global, list: &[i64], many: usize) -> Result<Vec<Vector<'static>>, AllocError>
+    ensures { IfOk result (λ vectors. AreLanesOf (length list.now) vectors.items) }
+{
+    let mut vectors = Vec::new(alloc);
+    for _ in 0..many {
+        vectors.push(vector_of(alloc, list, list.len())?)?;
+    }
+    Ok(vectors)
 }
 
 /// A vector of two lanes with this text.

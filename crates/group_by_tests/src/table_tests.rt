@@ -1,20 +1,33 @@
-//! Groups of few rows, by the order of their keys.
-ghost use Rattle.std.specs.Prelude.{◌≤◌, length};
+//! What tables hand out, by the order of their keys.
+ghost use Rattle.std.specs.Prelude.{◌≡◌, ◌≤◌, ◌+◌, ◌∷◌, [], length, map, IfOk};
+ghost use Rattle.meaning.specs.declared.plan.AggregateKind.TheVariants.{Sum};
 ghost use Rattle.group_by.specs.Rows.{AreLanesOf};
+ghost use Rattle.group_by.specs.Shape.{shape_of};
+ghost use Rattle.group_by_tests.specs.Tables.{HasTaken};
 
-use crate::rows::{NULL, twice, vector_of};
-use crate::tables::{table_of, told, with_rows};
+use crate::rows::{NULL, alike, plain, twice, vectors_of};
+use crate::tables::{sum_by, table_of, told, with_rows};
+use accumulators::Group;
+use group_by::GroupTable;
+use meaning::plan::Plan;
+use meaning::value::Value;
 use std::alloc::{AllocError, Global};
+use std::mem::drop;
 use std::process::Abort;
 use vectors::vector::Vector;
 
 /// What the table of these rows hands out.
-fn told_of(alloc: Global, keys: &[Vector<'_>], list: &[i64]) -> Result<String, AllocError>
+fn told_of(
+    alloc: Global,
+    plan: &Plan,
+    keys: &[Vector<'_>],
+    list: &[i64],
+) -> Result<String, AllocError>
+    requires sum { map (λ a. a.kind) plan.now.aggs ≡ Sum ∷ [] }
     requires few { length list.now ≤ 1000 }
     requires keys { AreLanesOf (length list.now) keys.now }
 {
-    let table = table_of(alloc, keys.len())?;
-    let table = with_rows(alloc, table, keys, list)?;
+    let table = table_of(alloc, plan, keys, list)?;
     let groups = table.into_groups(alloc)?;
     told(alloc, groups.as_slice())
 }
@@ -29,54 +42,267 @@ fn expect(
     requires few { length list.now ≤ 1000 }
     requires keys { AreLanesOf (length list.now) keys.now }
 {
-    let told = told_of(alloc, keys, list)?;
-    assert_eq!(rt; told.as_str(), want);
+    let plan = sum_by(alloc, keys.len())?;
+    let told = told_of(alloc, &plan, keys, list);
+    drop(plan);
+    assert_eq!(rt; told?.as_str(), want);
     Ok(())
 }
 
-#[test]
-fn no_keys_and_no_rows_give_one_group(rt: HostRuntime) -> Result<(), AllocError> {
-    expect(&rt, rt.alloc(), &[], &[], "0 0 0; ")
-}
+/// Keys by columns, each row's argument, and what is handed out.
+type Case = (&'static [&'static [i64]], &'static [i64], &'static str);
 
-#[test]
-fn rows_without_keys_are_one_group(rt: HostRuntime) -> Result<(), AllocError> {
-    expect(&rt, rt.alloc(), &[], &[5, NULL, 7], "3 2 12; ")
-}
-
-#[test]
-fn keys_and_no_rows_give_no_group(rt: HostRuntime) -> Result<(), AllocError> {
-    let alloc = rt.alloc();
-    let keys = [vector_of(alloc, &[])?];
-    expect(&rt, alloc, &keys, &[], "")
-}
-
-#[test]
-fn null_keys_are_one(rt: HostRuntime) -> Result<(), AllocError> {
-    let alloc = rt.alloc();
-    let keys = [vector_of(alloc, &[7, -3, NULL, 7, NULL])?];
-    let want = "NULL 2 1 5; -3 1 1 2; 7 2 2 5; ";
-    expect(&rt, alloc, &keys, &[1, 2, NULL, 4, 5], want)
-}
-
-#[test]
-fn two_keys_are_in_order(rt: HostRuntime) -> Result<(), AllocError> {
-    let alloc = rt.alloc();
-    let keys = [
-        vector_of(alloc, &[2, 1, 2, 1])?,
-        vector_of(alloc, &[1, 1, NULL, 1])?,
-    ];
-    expect(
-        &rt,
-        alloc,
-        &keys,
+const CASES: &[Case] = &[
+    // No keys: one group, of no rows too.
+    (&[], &[], "0 0 0; "),
+    (&[], &[5, NULL, 7], "3 2 12; "),
+    // No rows by a key: no group.
+    (&[&[]], &[], ""),
+    // One key of each row, and NULL as one key.
+    (&[&[8, 8, 8]], &[1, 2, 3], "8 3 3 6; "),
+    (
+        &[&[7, -3, NULL, 7, NULL]],
+        &[1, 2, NULL, 4, 5],
+        "NULL 2 1 5; -3 1 1 2; 7 2 2 5; ",
+    ),
+    (
+        &[&[2, 1, 2, 1], &[1, 1, NULL, 1]],
         &[1, 2, 3, 4],
         "1 1 2 2 6; 2 NULL 1 1 3; 2 1 1 1 1; ",
-    )
+    ),
+    // NULL and 1 have one hash.
+    (
+        &[&[1, NULL, 1, NULL]],
+        &[1, 2, 4, 8],
+        "NULL 2 2 10; 1 2 2 5; ",
+    ),
+    // So have these two pairs.
+    (
+        &[
+            &[1, 3, 1, 3],
+            &[2, 4_356_975_032_696_053_213, 2, 4_356_975_032_696_053_213],
+        ],
+        &[1, 2, 4, 8],
+        "1 2 2 2 5; 3 4356975032696053213 2 2 10; ",
+    ),
+    // These four begin in one slot.
+    (
+        &[&[
+            5_181_128_400_736_704_357,
+            2_728_991_068_347_534_261,
+            272_631_057_292_902_341,
+            2_170_970_973_533_629_461,
+            2_728_991_068_347_534_261,
+        ]],
+        &[1, 2, 4, 8, 16],
+        "272631057292902341 1 1 4; 2170970973533629461 1 1 8; 2728991068347534261 2 2 18; 5181128400736704357 1 1 1; ",
+    ),
+];
+
+fn expect_case(rt: &impl Abort, alloc: Global, case: &Case) -> Result<(), AllocError> {
+    let (keys, list, want) = *case;
+    if list.len() > 1000 {
+        return Err(AllocError);
+    }
+    let keys = vectors_of(alloc, keys, list.len())?;
+    expect(rt, alloc, keys.as_slice(), list, want)
+}
+
+#[test]
+fn rows_by_integers(rt: HostRuntime) -> Result<(), AllocError> {
+    for case in CASES {
+        expect_case(&rt, rt.alloc(), case)?;
+    }
+    Ok(())
 }
 
 #[test]
 fn text_keys_are_one_by_their_bytes(rt: HostRuntime) -> Result<(), AllocError> {
     let keys = [twice("a longer text")];
     expect(&rt, rt.alloc(), &keys, &[1, 2], "a longer text 2 2 3; ")
+}
+
+/// A key of 64 columns of one number, and behind it the text.
+fn long_key(alloc: Global, number: &str, behind: &str) -> Result<String, AllocError> {
+    let mut key = String::new(alloc);
+    for _ in 0..64 {
+        key.push_str(number)?;
+    }
+    key.push_str(behind)?;
+    Ok(key)
+}
+
+#[test]
+fn sixty_four_keys(rt: HostRuntime) -> Result<(), AllocError> {
+    let alloc = rt.alloc();
+    let keys = alike(alloc, &[1, NULL, 1], 64)?;
+    let mut want = long_key(alloc, "NULL ", "1 1 2; ")?;
+    let one = long_key(alloc, "1 ", "2 2 5; ")?;
+    want.push_str(one.as_str())?;
+    expect(&rt, alloc, keys.as_slice(), &[1, 2, 4], want.as_str())
+}
+
+/// Rows by one key.
+type Rows = (&'static [i64], &'static [i64]);
+
+const ONE: Rows = (&[7, NULL, 2], &[1, 2, 4]);
+
+const TWO: Rows = (&[2, 9], &[8, NULL]);
+
+const THREE: Rows = (&[NULL, 7, -5, 7], &[16, 32, 64, 128]);
+
+fn table_by(alloc: Global, plan: &Plan, rows: Rows) -> Result<GroupTable, AllocError>
+    requires { map (λ a. a.kind) plan.now.aggs ≡ Sum ∷ [] }
+    ensures { IfOk result (λ t. HasTaken (shape_of plan.now) t.rows 0 t × (t.rows ≤ 1000)) }
+{
+    let (keys, list) = rows;
+    if list.len() > 1000 {
+        return Err(AllocError);
+    }
+    let keys = vectors_of(alloc, &[keys], list.len())?;
+    table_of(alloc, plan, keys.as_slice(), list)
+}
+
+/// The table with the groups of these rows.
+fn with_groups_of(
+    alloc: Global,
+    plan: &Plan,
+    table: GroupTable,
+    rows: Rows,
+) -> Result<GroupTable, AllocError>
+    requires sum { map (λ a. a.kind) plan.now.aggs ≡ Sum ∷ [] }
+    requires shape { table.shape ≡ shape_of plan.now }
+    requires few { table.rows ≤ 100000 }
+    requires handed { table.handed ≤ 1000 }
+    ensures { IfOk result (λ t. (t.shape ≡ table.shape) × (t.rows ≤ table.rows + 1000) × (t.handed ≤ table.handed + 1000)) }
+{
+    let other = table_by(alloc, plan, rows)?;
+    let groups = other.into_groups(alloc)?;
+    if groups.len() > 1000 {
+        return Err(AllocError);
+    }
+    table.absorb_groups(alloc, groups.as_slice())
+}
+
+/// What is handed out of the first table, with the groups of the two others.
+fn told_merged(
+    alloc: Global,
+    plan: &Plan,
+    one: Rows,
+    two: Rows,
+    three: Rows,
+) -> Result<String, AllocError>
+    requires { map (λ a. a.kind) plan.now.aggs ≡ Sum ∷ [] }
+{
+    let table = table_by(alloc, plan, one)?;
+    let table = with_groups_of(alloc, plan, table, two)?;
+    let table = with_groups_of(alloc, plan, table, three)?;
+    let groups = table.into_groups(alloc)?;
+    told(alloc, groups.as_slice())
+}
+
+fn expect_merged(
+    rt: &impl Abort,
+    alloc: Global,
+    one: Rows,
+    two: Rows,
+    three: Rows,
+) -> Result<(), AllocError> {
+    let plan = sum_by(alloc, 1)?;
+    let told = told_merged(alloc, &plan, one, two, three);
+    drop(plan);
+    let want = "NULL 2 2 18; -5 1 1 64; 2 2 2 12; 7 3 3 161; 9 1 0 0; ";
+    assert_eq!(rt; told?.as_str(), want);
+    Ok(())
+}
+
+#[test]
+fn three_tables_are_merged_in_every_order(rt: HostRuntime) -> Result<(), AllocError> {
+    let alloc = rt.alloc();
+    expect_merged(&rt, alloc, ONE, TWO, THREE)?;
+    expect_merged(&rt, alloc, ONE, THREE, TWO)?;
+    expect_merged(&rt, alloc, TWO, ONE, THREE)?;
+    expect_merged(&rt, alloc, TWO, THREE, ONE)?;
+    expect_merged(&rt, alloc, THREE, ONE, TWO)?;
+    expect_merged(&rt, alloc, THREE, TWO, ONE)
+}
+
+/// What a copy hands out whose table takes groups, before and behind them.
+fn told_copied(alloc: Global, plan: &Plan) -> Result<String, AllocError>
+    requires { map (λ a. a.kind) plan.now.aggs ≡ Sum ∷ [] }
+{
+    let table = table_by(alloc, plan, ONE)?;
+    let copy = table.copy(alloc)?;
+    let table = with_groups_of(alloc, plan, table, TWO)?;
+    let old = copy.into_groups(alloc)?;
+    let mut said = told(alloc, old.as_slice())?;
+    said.push_str("and then ")?;
+    let new = table.groups(alloc)?;
+    said.push_str(told(alloc, new.as_slice())?.as_str())?;
+    Ok(said)
+}
+
+#[test]
+fn a_copy_stays_as_it_is(rt: HostRuntime) -> Result<(), AllocError> {
+    let alloc = rt.alloc();
+    let plan = sum_by(alloc, 1)?;
+    let told = told_copied(alloc, &plan);
+    drop(plan);
+    let want = "NULL 1 1 2; 2 1 1 4; 7 1 1 1; and then NULL 1 1 2; 2 2 2 12; 7 1 1 1; 9 1 0 0; ";
+    assert_eq!(rt; told?.as_str(), want);
+    Ok(())
+}
+
+/// Each integer below so many, in another order.
+fn different(alloc: Global, many: usize) -> Result<Vec<i64>, AllocError>
+    ensures { IfOk result (λ list. length list.items ≡ many) }
+{
+    let mut list = vec![in alloc; 0; many]?;
+    for k in 0..list.len() {
+        list[k] = i64::try_from(k.wrapping_mul(7919).checked_rem(many).unwrap_or(0)).unwrap_or(0);
+    }
+    Ok(list)
+}
+
+/// Whether a group is that of one row, whose key and argument are this number.
+fn is_of(group: &Group, number: i64) -> bool {
+    let key = group.key().as_slice();
+    let states = group.states();
+    if key.len() != 1 || states.len() != 1 {
+        return false;
+    }
+    key[0] == Value::Int(number) && group.rows() == 1 && states[0].sum() == i128::from(number)
+}
+
+/// How many groups stand at their places.
+fn in_place(groups: &[Group]) -> usize {
+    let mut many: usize = 0;
+    for k in 0..groups.len() {
+        if is_of(&groups[k], i64::try_from(k).unwrap_or(-1)) {
+            many = many.wrapping_add(1);
+        }
+    }
+    many
+}
+
+fn in_place_of(alloc: Global, plan: &Plan, list: &[i64]) -> Result<(usize, usize), AllocError>
+    requires sum { map (λ a. a.kind) plan.now.aggs ≡ Sum ∷ [] }
+    requires few { length list.now ≤ 100000 }
+{
+    let table = GroupTable::new(alloc, plan)?;
+    let vectors = [plain(list)];
+    let table = with_rows(alloc, table, &vectors, &vectors, list.len())?;
+    let groups = table.into_groups(alloc)?;
+    Ok((groups.len(), in_place(groups.as_slice())))
+}
+
+#[test]
+fn a_hundred_thousand_keys(rt: HostRuntime) -> Result<(), AllocError> {
+    let alloc = rt.alloc();
+    let list = different(alloc, 100_000)?;
+    let plan = sum_by(alloc, 1)?;
+    let found = in_place_of(alloc, &plan, list.as_slice());
+    drop(plan);
+    assert!(rt; found? == (100_000, 100_000));
+    Ok(())
 }

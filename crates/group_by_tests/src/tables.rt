@@ -1,8 +1,9 @@
 //! Tables with a sum for each group, and what they tell.
-ghost use Rattle.std.specs.Prelude.{◌≡◌, ◌≤◌, ◌∷◌, [], length, map, IfOk};
+ghost use Rattle.std.specs.Prelude.{◌≡◌, ◌≤◌, ◌+◌, ◌∷◌, [], length, map, IfOk};
 ghost use Rattle.meaning.specs.declared.plan.AggregateKind.TheVariants.{Sum};
 ghost use Rattle.group_by.specs.Rows.{AreLanesOf};
-ghost use Rattle.group_by_tests.specs.Tables.{HasSums};
+ghost use Rattle.group_by.specs.Shape.{shape_of};
+ghost use Rattle.group_by_tests.specs.Tables.{HasTaken};
 
 use crate::rows::vector_of;
 use accumulators::Group;
@@ -71,16 +72,15 @@ fn plan_of(
     }
 }
 
-/// The table of no row, with so many keys.
-pub fn table_of(alloc: Global, keys: usize) -> Result<GroupTable, AllocError>
-    ensures { IfOk result (HasSums 0) }
+/// One sum by so many keys.
+pub fn sum_by(alloc: Global, keys: usize) -> Result<Plan, AllocError>
+    ensures { IfOk result (λ plan. map (λ a. a.kind) plan.aggs ≡ Sum ∷ []) }
 {
     let aggregates = one_sum(alloc)?;
     let text = Text::new(alloc, "")?;
     let fact = fact(alloc)?;
     let keys = keys_of(alloc, keys)?;
-    let plan = plan_of(alloc, text, fact, keys, aggregates);
-    GroupTable::new(alloc, &plan)
+    Ok(plan_of(alloc, text, fact, keys, aggregates))
 }
 
 /// The table with rows more, by these keys.
@@ -88,15 +88,35 @@ pub fn with_rows(
     alloc: Global,
     table: GroupTable,
     keys: &[Vector<'_>],
+    arguments: &[Vector<'_>],
+    lanes: usize,
+) -> Result<GroupTable, AllocError>
+    requires kinds { length table.shape.kinds ≡ length arguments.now }
+    requires few { table.rows + lanes ≤ 1000000 }
+    requires keys { AreLanesOf lanes keys.now }
+    requires arguments { AreLanesOf lanes arguments.now }
+    ensures { IfOk result (λ t. HasTaken table.shape (table.rows + lanes) table.handed t) }
+{
+    let selection = Selection::all(alloc, lanes as u32)?;
+    let table = table.add(alloc, keys, arguments, &selection)?;
+    Ok(table)
+}
+
+/// The table of rows with a sum each.
+pub fn table_of(
+    alloc: Global,
+    plan: &Plan,
+    keys: &[Vector<'_>],
     list: &[i64],
 ) -> Result<GroupTable, AllocError>
-    requires table { HasSums 0 table }
+    requires sum { map (λ a. a.kind) plan.now.aggs ≡ Sum ∷ [] }
     requires few { length list.now ≤ 1000 }
     requires keys { AreLanesOf (length list.now) keys.now }
+    ensures { IfOk result (HasTaken (shape_of plan.now) (length list.now) 0) }
 {
-    let selection = Selection::all(alloc, list.len() as u32)?;
-    let arguments = [vector_of(alloc, list)?];
-    table.add(alloc, keys, &arguments, &selection)
+    let table = GroupTable::new(alloc, plan)?;
+    let arguments = [vector_of(alloc, list, list.len())?];
+    with_rows(alloc, table, keys, &arguments, list.len())
 }
 
 fn tell_key(told: &mut String, key: &Row) -> Result<(), AllocError> {

@@ -4,4 +4,4 @@ use Rattle.group_by.specs.Places.{state_in}
 use Rattle.group_by.proofs.handing_out.states_at.Given as goal
 
 abbrev pub invariant-loop-column : goal.invariant-loop-column
-invariant-loop-column l = l.states ≡ map (λ c. state_in c l.place) (take l.column-index l.columns)
+invariant-loop-column l = l.states.items ≡ map (λ c. state_in c l.place) (take l.column-index l.columns)

@@ -3,4 +3,4 @@ use Rattle.std.proofs.Common.{◌≡◌, take}
 use Rattle.group_by.proofs.keys.copy_key.Given as goal
 
 abbrev pub invariant-loop-value : goal.invariant-loop-value
-invariant-loop-value l = l.copy ≡ take l.value-index l.key
+invariant-loop-value l = l.copy.items ≡ take l.value-index l.key

@@ -9,6 +9,6 @@ use Rattle.group_by.proofs.keys.key_of.Goals as goal
 pub loop-k-preserved : goal.loop-k-preserved
 loop-k-preserved c =
     let lanes = c.index-lanes-k.result in
-    key_more c.args.lanes.now c.args.at c.loop-k.k lanes c.loop-k.key c.push.new.self c.in_ok-owned.field-0 c.loop-k-test.true
+    key_more c.args.lanes.now c.args.at c.loop-k.k lanes c.loop-k.key.items c.push.new.self.items c.in_ok-owned.field-0 c.loop-k-test.true
     (c.in_ok-owned.ensures ∙ c.value_at.ensures ∙ ap (λ (v : Vector). get_or (values_of v) c.args.at Null) c.index-lanes-k.is)
-    c.loop-k.invariant c.in_ok-push.ensures.ok
+    c.loop-k.invariant c.in_ok-push.ensures.items

@@ -4,4 +4,4 @@ use Rattle.group_by.specs.Rows.{row_at}
 use Rattle.group_by.proofs.keys.key_of.Given as goal
 
 abbrev pub invariant-loop-k : goal.invariant-loop-k
-invariant-loop-k l = l.key ≡ take l.k (row_at l.lanes l.at)
+invariant-loop-k l = l.key.items ≡ take l.k (row_at l.lanes l.at)

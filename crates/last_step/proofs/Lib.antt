@@ -1,0 +1,6 @@
+-- The lemmas of this crate.
+pub mod Judging
+pub mod Items
+pub mod Gathering
+pub mod Repeating
+pub mod Arranging

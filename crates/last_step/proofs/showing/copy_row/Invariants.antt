@@ -1,0 +1,6 @@
+-- Invariants of `copy_row` (`showing`).
+use Rattle.std.proofs.Common.{◌≡◌, take}
+use Rattle.last_step.proofs.showing.copy_row.Given as goal
+
+abbrev pub invariant-loop-value : goal.invariant-loop-value
+invariant-loop-value l = l.copy ≡ take l.value-index l.row

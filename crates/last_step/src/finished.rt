@@ -1,0 +1,11 @@
+//! What the last step gives.
+
+use meaning::sequence::Sequence;
+use meaning::value::Row;
+
+/// The rows in their order, or the number of the first fault over groups.
+#[derive(Drop)]
+pub enum Finished {
+    Rows(Sequence<Row>),
+    Fault(u8),
+}

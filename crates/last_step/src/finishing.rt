@@ -1,0 +1,50 @@
+//! The last step as a whole.
+ghost use Rattle.std.specs.Prelude.{◌≡◌, map, IfOk};
+ghost use Rattle.meaning.specs.Answer.{read_off};
+ghost use Rattle.meaning.specs.Finish as the;
+ghost use Rattle.meaning.specs.Finish.{limited, order_cmp};
+ghost use Rattle.meaning.specs.Order.{sorted};
+ghost use Rattle.last_step.specs.Given.{meant};
+ghost use Rattle.last_step.specs.Runs.{expanded};
+
+use crate::expanding::expand;
+use crate::finished::Finished;
+use crate::ordering::sort;
+use crate::run::Run;
+use crate::runs::runs_of;
+use crate::stop::Stop;
+use accumulators::Group;
+use meaning::plan::Plan;
+use meaning::sequence::Sequence;
+use meaning::value::Row;
+use std::alloc::{AllocError, Global};
+use std::mem::drop;
+
+/// The rows of the runs in the order of the answer, cut by LIMIT.
+fn rows_in_order(alloc: Global, plan: &Plan, runs: Vec<Run>) -> Result<Sequence<Row>, AllocError>
+    ensures { IfOk result (λ rows. rows ≡ limited plan.now.limit (sorted (order_cmp plan.now.order) (expanded runs.items))) }
+{
+    let mut runs = runs;
+    let rows = match sort(&mut runs, plan.order.as_slice()) {
+        Ok(()) => expand(alloc, runs.as_slice(), plan.limit),
+        Err(fault) => Err(fault),
+    };
+    drop(runs);
+    rows
+}
+
+/// From groups in the order of their keys to the rows of the answer, or to the first fault over groups: in each group
+/// that of its aggregates, then of HAVING, then of the items, whatever LIMIT says.
+///
+/// # Errors
+///
+/// Out of memory.
+pub fn finish(alloc: Global, plan: &Plan, groups: &[Group]) -> Result<Finished, AllocError>
+    ensures { IfOk result (λ f. meant f ≡ the.finish plan.now (map (read_off plan.now) groups.now)) }
+{
+    match runs_of(alloc, plan, groups) {
+        Ok(runs) => Ok(Finished::Rows(rows_in_order(alloc, plan, runs)?)),
+        Err(Stop::Fault(code)) => Ok(Finished::Fault(code)),
+        Err(Stop::Memory) => Err(AllocError),
+    }
+}

@@ -1,0 +1,10 @@
+//! A row with the number of its repeats.
+
+use meaning::value::Row;
+
+/// A row that stands so many times in the answer.
+#[derive(Drop)]
+pub struct Run {
+    pub row: Row,
+    pub times: u64,
+}

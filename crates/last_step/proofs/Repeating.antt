@@ -1,7 +1,7 @@
 -- Rows that stand several times, and how many of them LIMIT leaves.
-use Rattle.std.proofs.Common.{◌≡◌, ℕ, zero, suc, ◌+◌, ◌-◌, ◌<◌, List, [], ◌∷◌, ◌++◌, length, take, get_or, replicate, Some, None, refl, ap, ◌∙◌, sym, arith, add-one}
+use Rattle.std.proofs.Common.{◌≡◌, ℕ, zero, suc, ◌+◌, ◌-◌, List, [], ◌∷◌, ◌++◌, length, take, replicate, Some, None, refl, ap, ◌∙◌, sym, arith, add-one, append_assoc, append-nil, reverse}
 use Rattle.std.specs.Prelude.{Option, min}
-use Rattle.std.proofs.lemmas.List.{take_more}
+use Rattle.std.proofs.lemmas.List.{reverse-append}
 use Rattle.meaning.specs.Order.{Row}
 use Rattle.meaning.specs.Finish.{limited}
 use Rattle.last_step.specs.declared.run.Run.{Run}
@@ -32,15 +32,39 @@ module _ {X : Type 0} where
       let same : min t (n - length (take n ys)) ≡ min t (suc n - suc (length (take n ys))) = omega arith in
       ap (λ (zs : List X). y ∷ zs) (cut n t x ys) ∙ ap (λ k. y ∷ take n ys ++ replicate k x) same
 
-within : (limit : Option ℕ) (t : ℕ) (x : Row) (rows : List Row) → limited limit (rows ++ replicate t x) ≡ limited limit rows ++ replicate (room limit (length (limited limit rows)) t) x
+pub within : (limit : Option ℕ) (t : ℕ) (x : Row) (rows : List Row) → limited limit (rows ++ replicate t x) ≡ limited limit rows ++ replicate (room limit (length (limited limit rows)) t) x
 within None t x rows = refl
 within (Some n) t x rows = cut n t x rows
 
-pub limited_more : (limit : Option ℕ) (runs : List Run) (k : ℕ) (r : Run) → k < length runs → r ≡ get_or runs k r
-    → limited limit (expanded (take (k + 1) runs))
-    ≡ limited limit (expanded (take k runs)) ++ replicate (room limit (length (limited limit (expanded (take k runs)))) r.times) r.row
-limited_more limit runs k r below is =
-    let more : take (k + 1) runs ≡ take k runs ++ r ∷ [] = take_more runs k r below ∙ ap (λ (s : Run). take k runs ++ s ∷ []) (sym is) in
-    ap (λ rs. limited limit (expanded rs)) more
-    ∙ ap (limited limit) (pushed (take k runs) r)
-    ∙ within limit r.times r.row (expanded (take k runs))
+-- these rows are what LIMIT leaves of those that stand before what is left of the runs
+pub record AreLeft (limit : Option ℕ) (rows : List Row) (left all : List Run) : Type 0 where
+  pub before : List Row
+  pub shown : rows ≡ limited limit before
+  pub whole : before ++ expanded (reverse left) ≡ expanded (reverse all)
+
+pub left_start : (limit : Option ℕ) (rows : List Row) (all : List Run) → rows ≡ [] → limited limit [] ≡ [] → AreLeft limit rows all all
+left_start limit rows all none cut = record { before = []; shown = none ∙ sym cut; whole = refl }
+
+pub none_within : (limit : Option ℕ) → limited limit [] ≡ []
+none_within None = refl
+none_within (Some zero) = refl
+none_within (Some (suc n)) = refl
+
+pub left_more : (limit : Option ℕ) (rows more : List Row) (now new all : List Run) (row : Row) (times : ℕ) → now ≡ new ++ record { row = row; times = times } ∷ []
+    → more ≡ rows ++ replicate (room limit (length rows) times) row → AreLeft limit rows now all → AreLeft limit more new all
+left_more limit rows more now new all row times popped pushed left =
+    let next : reverse now ≡ record { row = row; times = times } ∷ reverse new = ap reverse popped ∙ reverse-append new (record { row = row; times = times } ∷ []) in
+    record {
+      before = left.before ++ replicate times row;
+      shown =
+          pushed ∙ (λ i. left.shown i ++ replicate (room limit (length (left.shown i)) times) row)
+          ∙ sym (within limit times row left.before);
+      whole =
+          append_assoc left.before (replicate times row) (expanded (reverse new))
+          ∙ ap (λ rs. left.before ++ expanded rs) (sym next)
+          ∙ left.whole;
+    }
+
+pub left_end : (limit : Option ℕ) (rows : List Row) (left all : List Run) → left ≡ [] → AreLeft limit rows left all → rows ≡ limited limit (expanded (reverse all))
+left_end limit rows left all none are =
+    are.shown ∙ ap (limited limit) (sym (append-nil are.before) ∙ ap (λ rs. are.before ++ expanded (reverse rs)) (sym none) ∙ are.whole)

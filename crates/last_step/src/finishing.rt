@@ -25,12 +25,16 @@ fn rows_in_order(alloc: Global, plan: &Plan, runs: Vec<Run>) -> Result<Sequence<
     ensures { IfOk result (λ rows. rows ≡ limited plan.now.limit (sorted (order_cmp plan.now.order) (expanded runs.items))) }
 {
     let mut runs = runs;
-    let rows = match sort(&mut runs, plan.order.as_slice()) {
-        Ok(()) => expand(alloc, runs.as_slice(), plan.limit),
-        Err(fault) => Err(fault),
-    };
-    drop(runs);
-    rows
+    match sort(&mut runs, plan.order.as_slice()) {
+        Ok(()) => {
+            runs.reverse();
+            expand(alloc, runs, plan.limit)
+        }
+        Err(fault) => {
+            drop(runs);
+            Err(fault)
+        }
+    }
 }
 
 /// From groups in the order of their keys to the rows of the answer, or to the first fault over groups: in each group

@@ -76,10 +76,10 @@ module _ (s : Scope) where
   abbrev bare : Expr-F Parting Arms → Expr-F Expr Arm
   bare = map-Expr Parting Arms Expr Arm (λ e. e.0) (λ a. a.0)
 
-  other_is : (x : Expr-F Expr Arm) → is_and_node x ≡ false → is_no_and (roll-Expr x) ≡ true
+  pub other_is : (x : Expr-F Expr Arm) → is_and_node x ≡ false → is_no_and (roll-Expr x) ≡ true
   other_is x is = search (rules, the_lemmas)
 
-  and_is : (x : Expr-F Expr Arm) → is_and_node x ≡ true → is_no_and (roll-Expr x) ≡ false
+  pub and_is : (x : Expr-F Expr Arm) → is_and_node x ≡ true → is_no_and (roll-Expr x) ≡ false
   and_is x is = search (rules, the_lemmas)
 
   abbrev judge_at : Expr-F Expr Arm → Told

@@ -150,11 +150,11 @@ module _ (s : Scope) where
   no_longer_parts l [] some none = some none
   no_longer_parts l (es ∷ rest) some none = no_longer_parts (with_aggregates s l es) rest (no_longer l es some) none
 
-  abbrev AllEmpty : List (List Expr) → Type 0
+  abbrev pub AllEmpty : List (List Expr) → Type 0
   AllEmpty [] = Unit {0}
   AllEmpty (es ∷ rest) = (es ≡ []) × AllEmpty rest
 
-  none_taken : (parts : List (List Expr)) → (with_parts s no_aggregates parts).list ≡ [] → AllEmpty parts
+  pub none_taken : (parts : List (List Expr)) → (with_parts s no_aggregates parts).list ≡ [] → AllEmpty parts
   none_taken [] none = tt
   none_taken ([] ∷ rest) none = (refl, none_taken rest none)
   none_taken ((e ∷ es) ∷ rest) none = absurd (no_longer_parts (with_aggregates s (with_aggregate s no_aggregates e) es) rest (no_longer (with_aggregate s no_aggregates e) es (λ h. cc)) none)
@@ -166,17 +166,17 @@ module _ (s : Scope) where
       let sort = goes_there (judged s i.expr false) (λ x. cond (is_value x) (Ok tt) (Err fault.TypeMismatch)) there.0 there.1 in
       ((sort.0, (unbarred s i.expr sort.0 sort.1).1 none.0), plain_fine items z there.2 none.1)
 
-  empty_is : {X : Type 0} (xs : List X) → is_empty xs ≡ true → xs ≡ []
+  pub empty_is : {X : Type 0} (xs : List X) → is_empty xs ≡ true → xs ≡ []
   empty_is [] is = refl
   empty_is (x ∷ xs) is = absurd cc
 
-  neither : (a b c : Bool) → (not a || (b || not c)) ≡ false → c ≡ true
+  pub neither : (a b c : Bool) → (not a || (b || not c)) ≡ false → c ≡ true
   neither true true c is = absurd cc
   neither true false true is = refl
   neither true false false is = absurd cc
   neither false b c is = absurd cc
 
-  parts_none : (l : Aggregates) (parts : List (List Expr)) → (with_parts s l parts).list ≡ [] → l.list ≡ []
+  pub parts_none : (l : Aggregates) (parts : List (List Expr)) → (with_parts s l parts).list ≡ [] → l.list ≡ []
   parts_none l parts none = by_list l.list refl
     where
       by_list : (xs : List Aggregate) → l.list ≡ xs → l.list ≡ []

@@ -39,8 +39,9 @@ use Rattle.planner.specs.Checked.{checked, conditions, conditions_checked, group
 use Rattle.planner.specs.Conjuncts.{row_expr}
 use Rattle.planner.specs.Groups.{is_grouped, key_of, key_trees, keys_of, no_keys, with_key, with_keys, limits_check}
 use Rattle.planner.specs.Planned.{conjuncts, no_conjuncts, joins_of, tables_of, tables_with, groups_of, groups_with, shown_of, shown_with, basis_of, plan_with, planned, planned_in}
-use Rattle.planner.specs.PlanOf.{Pairwise, IsPlanOf, IsAPlanOf, IsItemOf, IsHavingOf, PlansMean, PlansAgree, all_conjuncts, is_condition, key_spellings, aggregate_spellings}
+use Rattle.planner.specs.PlanOf.{Pairwise, IsPlanOf, IsAPlanOf, IsItemOf, IsHavingOf, IsHeaderOf, IsHeadedAs, PlansMean, PlansAgree, all_conjuncts, is_condition, key_spellings, aggregate_spellings}
 use Rattle.planner.specs.Shown.{header, if_built, item_of, items_of, having_of, order_of, over_group, with_header}
+use Rattle.planner.proofs.Headers.{headed}
 use Rattle.planner.proofs.Counted.{are_aggregates, keys_mean}
 use Rattle.planner.proofs.Conditions.{found_all, AreFine, both_fine, filtered_fine, all_parted, rows_mean_all}
 
@@ -106,6 +107,20 @@ module _ (s : Scope) (ks aggs : List Spelling) where
       subst (λ (ys : List plan_item.Item). Pairwise Item_means ys (item ∷ items)) (sym parts.1.3)
       (item_means i item parts.0 parts.1.1, items_mean (i + 1) items parts.1.0 parts.1.2)
 
+  item_headed : (i : ℕ) (item : Item) (x : plan_item.Item) → item_of s basis (i, item) ≡ Ok x → IsHeadedAs x (i + 1, item)
+  item_headed i item x is =
+      let there = goes_there (over_group s basis item.expr) (λ y. Ok (with_header (header (i, item)) y)) x is in
+      let same : with_header (header (i, item)) there.0 ≡ x = cc in
+      subst (λ (y : plan_item.Item). IsHeaderOf (i + 1) y.header item) same (headed i item)
+
+  items_headed : (i : ℕ) (items : List Item) (xs : List plan_item.Item) → all_ok (map (item_of s basis) (enumerate_from i items)) ≡ Ok xs
+      → Pairwise IsHeadedAs xs (enumerate_from (i + 1) items)
+  items_headed i [] xs is = let none : [] ≡ xs = cc in subst (λ (ys : List plan_item.Item). Pairwise IsHeadedAs ys []) none tt
+  items_headed i (item ∷ items) xs is =
+      let parts = front_there (item_of s basis (i, item)) (all_ok (map (item_of s basis) (enumerate_from (i + 1) items))) xs (is) in
+      subst (λ (ys : List plan_item.Item). Pairwise IsHeadedAs ys ((i + 1, item) ∷ enumerate_from (i + 1 + 1) items)) (sym parts.1.3)
+      (item_headed i item parts.0 parts.1.1, items_headed (i + 1) items parts.1.0 parts.1.2)
+
   having_means : (h : Option Expr) (x : Option plan.Expr) → having_of s basis h ≡ Ok x → Pairwise (SameOnGroups s ks aggs) (option_to_list x) (option_to_list h)
   having_means None x is = let none : None ≡ x = cc in subst (λ (y : Option plan.Expr). Pairwise (SameOnGroups s ks aggs) (option_to_list y) []) none tt
   having_means (Some e) x is =
@@ -141,6 +156,8 @@ module _ (catalog : Catalog) (q : Query) (p : Plan) (s : Scope) where
         aggregates = are_aggregates s q z p.aggs checks (sym (ap (λ (x : Plan). x.aggs) p_is) ∙ sym (ap (λ (x : Grouped). x.aggs) g_is));
         items = subst (λ (xs : List plan_item.Item). Pairwise (IsItemOf s q) xs q.items) (sym grouped)
             (items_mean s (key_spellings s q) (aggregate_spellings s q) 0 q.items items (sym (ap (λ (k : List Spelling). items_of s (Groups k (aggregate_spellings s q)) q.items) spellings) ∙ items_are));
+        headers = subst (λ (xs : List plan_item.Item). Pairwise IsHeadedAs xs (enumerate_from 1 q.items)) (sym grouped)
+            (items_headed s (keys_of s q).written (aggregate_spellings s q) 0 q.items items items_are);
         having = subst (λ (x : Option plan.Expr). Pairwise (IsHavingOf s q) (option_to_list x) (option_to_list q.having)) (sym had)
             (having_means s (key_spellings s q) (aggregate_spellings s q) q.having having (sym (ap (λ (k : List Spelling). having_of s (Groups k (aggregate_spellings s q)) q.having) spellings) ∙ having_is));
         order = order_is ∙ ap (λ (x : List plan_key.OrderKey). Ok x) (sym ordered);

@@ -5,3 +5,4 @@ pub mod Groups
 pub mod Shown
 pub mod Planned
 pub mod PlanOf
+pub mod Typed

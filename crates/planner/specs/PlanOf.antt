@@ -1,5 +1,6 @@
 -- What the plan of a query is: its lists are the query's, and each of its expressions gives what the query's tree gives.
-use Rattle.std.specs.Prelude.{◌≡◌, Bool, true, not, List, [], ◌∷◌, map, filter, flat_map, None, option_to_list, Ok}
+use Rattle.std.specs.Prelude.{◌≡◌, ◌≢◌, ℕ, Bool, true, not, List, [], ◌∷◌, ◌++◌, map, filter, flat_map, Option, Some, None, option_to_list, Ok, codes, decimal}
+use Rattle.std.specs.List.{enumerate_from}
 use Rattle.std.specs.Option.{is_none}
 use Rattle.meaning.specs.Cut.{Numbered}
 use Rattle.meaning.specs.Meaning.{meaning}
@@ -13,6 +14,7 @@ use Rattle.meaning.specs.declared.plan.Plan.{Plan}
 use Rattle.sql_syntax.specs.declared.tree.Expr.{Expr}
 use Rattle.sql_syntax.specs.declared.tree.Expr.TheOpen as node
 use Rattle.sql_syntax.specs.declared.tree.Expr.TheOpen.{Expr-F}
+use Rattle.sql_syntax.specs.declared.tree.Expr.TheVariants as tree
 use Rattle.sql_syntax.specs.declared.tree.Expr.TheViews.{out-Expr}
 use Rattle.sql_syntax.specs.declared.tree.Arm.{Arm}
 use Rattle.sql_syntax.specs.declared.tree.Item.{Item}
@@ -78,6 +80,15 @@ IsItemOf s q x i = SameOnGroups s (key_spellings s q) (aggregate_spellings s q) 
 abbrev pub IsHavingOf : Scope → Query → plan.Expr → Expr → Type 0
 IsHavingOf s q x e = SameOnGroups s (key_spellings s q) (aggregate_spellings s q) x e
 
+-- the header of the item at this place, counted from 1: the name of AS, else that of the column that the item is, else `c` and the place
+pub record IsHeaderOf (place : ℕ) (text : List ℕ) (i : Item) : Type 0 where
+  pub named : (alias : List ℕ) → i.alias ≡ Some alias → text ≡ alias
+  pub column : (table : Option (List ℕ)) (name : List ℕ) → i.alias ≡ None → i.expr ≡ tree.Column table name → text ≡ name
+  pub other : i.alias ≡ None → ((table : Option (List ℕ)) (name : List ℕ) → i.expr ≢ tree.Column table name) → text ≡ codes "c" ++ decimal place
+
+abbrev pub IsHeadedAs : plan_item.Item → ℕ × Item → Type 0
+IsHeadedAs x i = IsHeaderOf i.0 x.header i.1
+
 -- a key gives on every row what its tree gives, and is of its type
 pub record IsKeyOf (s : Scope) (k : GroupingKey) (e : Expr) : Type 0 where
   pub same : SameOnRows s k.expr e
@@ -107,6 +118,7 @@ pub record IsPlanOf (catalog : Catalog) (q : Query) (s : Scope) (p : Plan) : Typ
   pub keys : Pairwise (IsKeyOf s) p.keys (key_trees (is_grouped s q) q)
   pub aggregates : AreAggregates s q p.aggs
   pub items : Pairwise (IsItemOf s q) p.items q.items
+  pub headers : Pairwise IsHeadedAs p.items (enumerate_from 1 q.items)
   pub having : Pairwise (IsHavingOf s q) (option_to_list p.having) (option_to_list q.having)
   pub order : order_of q.items q.order_by ≡ Ok p.order
   pub limit : p.limit ≡ q.limit

@@ -1,9 +1,11 @@
 //! Plans of queries.
-ghost use Rattle.std.specs.Prelude.{◌≡◌, IfOk, List, ℕ, Ok};
+ghost use Rattle.std.specs.Prelude.{◌≡◌, IfOk, List, ℕ, Ok, true};
 ghost use Rattle.sql_syntax.specs.Canonical.{canonical};
+ghost use Rattle.sql_syntax.specs.Literals.{has_only_fitting_literals};
 ghost use Rattle.planner_expressions.specs.Results.{Tells};
 ghost use Rattle.planner.specs.Planned.{plan_with, planned, planned_in};
 ghost use Rattle.planner.specs.PlanOf.{IsAPlanOf};
+ghost use Rattle.planner.specs.Typed.{IsTypedOver};
 
 use crate::checking::check;
 use crate::groups::groups_of;
@@ -105,12 +107,14 @@ fn plan_told(alloc: Global, catalog: &Catalog, query: &Query) -> Result<Plan, Pl
 }
 
 /// The plan of a query over the tables of a catalogue, or its first fault.
-#[tactic(auto, using(crate::proofs::PlansMean::means_told))]
+#[tactic(auto, using(crate::proofs::PlansMean::means_told, crate::proofs::TypedPlans::typed_told))]
 pub fn plan(alloc: Global, catalog: &Catalog, query: &Query) -> Result<Plan, PlanFault>
     // It is the plan that is defined, or exactly the first fault, unless memory is wanting.
     ensures told { Tells result (planned catalog.now query.now) }
     // A plan is the query's.
     ensures means { IfOk result (λ p. IsAPlanOf catalog.now query.now p) }
+    // The plan of a query whose literals fit is typed.
+    ensures typed { IfOk result (λ p. has_only_fitting_literals query.now ≡ true → IsTypedOver catalog.now p) }
 {
     plan_told(alloc, catalog, query)
 }

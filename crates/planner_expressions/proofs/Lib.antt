@@ -6,3 +6,6 @@ pub mod Replaced
 pub mod Steps
 pub mod Meaning
 pub mod Accepted
+pub mod HasTypes
+pub mod TypedRows
+pub mod Tables

@@ -10,3 +10,4 @@ pub mod Given
 pub mod From
 pub mod Uses
 pub mod Meant
+pub mod Typed

@@ -1,5 +1,6 @@
 //! Theorems on the definitions: each is the contract of a function that does nothing.
 ghost use Rattle.planner_expressions.specs.Meant.{RowsMean, GroupsMean, RowsTranslate};
+ghost use Rattle.planner_expressions.specs.Typed.{RowsAreTyped, ScopesAreTables};
 
 /// Over rows the plan's expression gives what the tree gives, whose names are looked up.
 pub fn rows_mean()
@@ -14,4 +15,14 @@ pub fn groups_mean()
 /// What has no fault where no aggregate may stand has an expression over rows.
 pub fn rows_translate()
     ensures { RowsTranslate }
+{}
+
+/// What has no fault where no aggregate may stand, and has literals that fit, has an expression of its sort's type.
+pub fn rows_are_typed()
+    ensures { RowsAreTyped }
+{}
+
+/// The columns of FROM stand at their places in the catalogue's tables, with their types.
+pub fn scopes_are_tables()
+    ensures { ScopesAreTables }
 {}

@@ -7,4 +7,5 @@ pub mod Phrases
 pub mod CanonicalTokens
 pub mod Queries
 pub mod Quoting
+pub mod Literals
 pub mod Printing

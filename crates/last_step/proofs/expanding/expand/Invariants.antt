@@ -1,8 +1,10 @@
 -- Invariants of `expand` (`expanding`).
-use Rattle.std.proofs.Common.{◌≡◌, take}
-use Rattle.meaning.specs.Finish.{limited}
-use Rattle.last_step.specs.Runs.{expanded}
+use Rattle.std.proofs.Common.{length}
+use Rattle.last_step.proofs.Repeating.{AreLeft}
 use Rattle.last_step.proofs.expanding.expand.Given as goal
 
-abbrev pub invariant-loop-run : goal.invariant-loop-run
-invariant-loop-run l = l.rows ≡ limited l.limit (expanded (take l.run-index l.runs))
+abbrev pub invariant-loop-row : goal.invariant-loop-row
+invariant-loop-row l = AreLeft l.limit l.rows l.runs.items l.fn.runs.items
+
+abbrev pub decreases-loop-row : goal.decreases-loop-row
+decreases-loop-row l = length l.runs.items

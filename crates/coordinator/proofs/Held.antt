@@ -14,15 +14,14 @@ use Rattle.meaning.proofs.Absorb.{joined-push}
 use Rattle.meaning.proofs.Tests.{first_of}
 use Rattle.partial_codec.specs.Job.{JobSpec}
 use Rattle.partial_codec.specs.Answer.{Fits}
-use Rattle.coordinator.specs.Single.{IsSingle}
 use Rattle.coordinator.proofs.Fitting.{AreFitting-set, AreFitting-none, AreFitting-at, is_fitting-join}
-use Rattle.coordinator.specs.Gathering.{GatherSpec, IsGather, cell_at, with_answer}
+use Rattle.coordinator.specs.Gathering.{GatherSpec, IsGather, IsShown, cell_at, with_answer}
 
 -- ---- a coordinator that has taken nothing
 
-pub fresh_fits : (job : JobSpec) → IsSingle job.plan → IsGather (record { job = job; cells = replicate (length job.cut) Nothing })
-fresh_fits job single = record {
-  single = single;
+pub fresh_fits : (job : JobSpec) → IsShown job.plan → IsGather (record { job = job; cells = replicate (length job.cut) Nothing })
+fresh_fits job shown = record {
+  shown = shown;
   each = length-replicate (length job.cut) Nothing;
   fitting = AreFitting-none job.plan job.cut (length job.cut);
 }
@@ -54,7 +53,7 @@ same_at cells i d e h = same_Some _ _ (sym (slice_get-get_or cells i d h) ∙ sl
 
 pub kept : (g : GatherSpec) (a : Answer) → IsGather g → Fits g.job a → IsGather (with_answer g a)
 kept g a ok fits = record {
-  single = ok.single;
+  shown = ok.shown;
   each = length-set g.cells a.k (join_cells (cell_at g a.k) (One a.body)) ∙ ok.each;
   fitting = AreFitting-set g.job.plan g.job.cut g.cells a.k (join_cells (cell_at g a.k) (One a.body))
       (is_fitting-join g.job.plan g.job.cut a.k (cell_at g a.k) (One a.body) (AreFitting-at g.job.plan g.job.cut g.cells a.k Nothing (below g a ok fits) ok.fitting) fits)

@@ -7,8 +7,6 @@ pub mod ColumnTallies
 pub mod Fitting
 pub mod OwnFits
 pub mod Faults
-pub mod Combined
-pub mod LastStep
 pub mod Held
 pub mod Places
 pub mod CountedRows
@@ -18,10 +16,9 @@ pub mod FragmentColumns
 pub mod TwoForms
 pub mod Planned
 pub mod Files
-pub mod RecordTexts
-pub mod Loans
-pub mod ShownFields
 pub mod Told
 pub mod Runs
 pub mod Joined
 pub mod StateFiles
+pub mod Merging
+pub mod SingleShown

@@ -7,9 +7,8 @@ use Rattle.meaning.specs.declared.answer.Cell.TheVariants.{Nothing, One, Conflic
 use Rattle.partial_codec.specs.Answer.{Fits}
 use Rattle.partial_codec.specs.Job.{JobSpec}
 use Rattle.partial_codec.specs.State.{FitsState}
-use Rattle.coordinator.specs.Single.{IsSingle}
 use Rattle.coordinator.specs.Fitted.{is_fitting}
-use Rattle.coordinator.specs.Gathering.{GatherSpec, IsGather, joined_with}
+use Rattle.coordinator.specs.Gathering.{GatherSpec, IsGather, IsShown, joined_with}
 use Rattle.coordinator.proofs.Fitting.{AreFitting-at}
 use Rattle.coordinator.proofs.Joined.{AreFitting-from, AreFitting-join, length-join_states}
 
@@ -32,9 +31,9 @@ cell_fits job k (One body) fits = fits body refl
 cell_fits job k Conflict fits = refl
 
 -- what is spelled may be held
-pub held_state : (job : JobSpec) (cells : List Cell) → IsSingle job.plan → FitsState job cells → IsGather (record { job = job; cells = cells })
-held_state job cells single fits = record {
-  single = single;
+pub held_state : (job : JobSpec) (cells : List Cell) → IsShown job.plan → FitsState job cells → IsGather (record { job = job; cells = cells })
+held_state job cells shown fits = record {
+  shown = shown;
   each = fits.fragments;
   fitting = AreFitting-from job.plan job.cut cells (λ k below. cell_fits job k (get_or cells k Nothing) (fits.answers k));
 }
@@ -44,7 +43,7 @@ pub joined_fits : (g other : GatherSpec) → IsGather g → IsGather other → g
 joined_fits g other ok right same =
     let right_fits = subst (λ job. IsGather (record { job = job; cells = other.cells })) (sym same) right in
     record {
-      single = ok.single;
+      shown = ok.shown;
       each = length-join_states g.cells other.cells (ok.each ∙ sym right_fits.each) ∙ ok.each;
       fitting = AreFitting-join g.job.plan g.job.cut g.cells other.cells ok.fitting right_fits.fitting;
     }

@@ -1,10 +1,11 @@
 -- What a coordinator holds, and what an answer does to it.
-use Rattle.std.specs.Prelude.{◌≡◌, ◌≢◌, ℕ, if◌then◌else◌, List, length, map, zip, slice_set, slice_index_or, Some, ⊤}
+use Rattle.std.specs.Prelude.{◌≡◌, ◌≢◌, ℕ, true, if◌then◌else◌, List, [], length, map, zip, slice_set, slice_index_or, Some, ⊤}
 use Rattle.meaning.specs.Said.{Body}
 use Rattle.meaning.specs.Said.{Answer}
 use Rattle.meaning.specs.Said.{Cell}
 use Rattle.meaning.specs.declared.answer.Cell.TheVariants.{Nothing, One, Conflict}
 use Rattle.meaning.specs.Gather.{same_body, join_cells}
+use Rattle.meaning.specs.declared.plan.Plan.{Plan}
 use Rattle.partial_codec.specs.declared.fault.DecodeFault.{DecodeFault}
 use Rattle.partial_codec.specs.declared.fault.DecodeFault.TheVariants as refusal
 use Rattle.partial_codec.specs.Fault as codec
@@ -13,11 +14,10 @@ use Rattle.partial_codec.specs.Answer.{Spells, obstacle}
 use Rattle.partial_codec.specs.State.{state_obstacle}
 use Rattle.coordinator.specs.declared.gather.Absorbed.{Absorbed}
 use Rattle.coordinator.specs.declared.gather.Absorbed.TheVariants as absorbed
-use Rattle.coordinator.specs.declared.print_fault.PrintFault.{PrintFault}
-use Rattle.coordinator.specs.declared.print_fault.PrintFault.TheVariants as print
+use Rattle.last_step.specs.declared.print_fault.PrintFault.{PrintFault}
+use Rattle.last_step.specs.declared.print_fault.PrintFault.TheVariants as print
 use Rattle.coordinator.specs.declared.fault.GatherFault.{GatherFault}
 use Rattle.coordinator.specs.declared.fault.GatherFault.TheVariants as fault
-use Rattle.coordinator.specs.Single.{IsSingle}
 use Rattle.coordinator.specs.Fitted.{AreFitting}
 
 -- what answers are for, and what is held for each fragment
@@ -25,9 +25,14 @@ pub record GatherSpec : Type 0 where
   pub job : JobSpec
   pub cells : List Cell
 
+-- something is shown, and what a plain query shows are its keys
+pub record IsShown (plan : Plan) : Type 0 where
+  pub items : plan.items ≢ []
+  pub keys : plan.plain ≡ true → length plan.keys ≡ length plan.items
+
 -- a cell for each fragment of the cut, in which an answer fits the job
 pub record IsGather (g : GatherSpec) : Type 0 where
-  pub single : IsSingle g.job.plan
+  pub shown : IsShown g.job.plan
   pub each : length g.cells ≡ length g.job.cut
   pub fitting : AreFitting g.job.plan g.job.cut g.cells
 

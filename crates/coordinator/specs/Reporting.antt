@@ -16,10 +16,7 @@ use Rattle.coordinator.specs.declared.reporting.Lack.TheVariants.{OfAgreement, O
 use Rattle.meaning.specs.declared.plan.Plan.{Plan}
 use Rattle.coordinator.specs.declared.fault.GatherFault.{GatherFault}
 use Rattle.coordinator.specs.declared.fault.GatherFault.TheVariants as fault
-use Rattle.coordinator.specs.declared.finishing.Finished.{Finished}
-use Rattle.coordinator.specs.declared.finishing.Finished.TheVariants as finished
-use Rattle.coordinator.specs.Printing.{HasFields}
-use Rattle.coordinator.specs.Finished.{output_in}
+use Rattle.coordinator.specs.Output.{IsPrintable, output_in}
 
 -- the cells that lack it
 abbrev pub lacks : Lack → Cell → Bool
@@ -48,12 +45,7 @@ summary (gather.conflict ks) = report.Conflict ks
 summary (gather.missing ks) = report.Missing ks
 summary (gather.output o) = report_of_output (ended_as o)
 
--- the header and each row have a field
-abbrev pub IsPrintable : Plan → Finished → Type 0
-IsPrintable plan (finished.Rows rows) = HasFields plan rows
-IsPrintable plan (finished.FinalFault code) = ⊤
-IsPrintable plan (finished.RowFault fault) = ⊤
-
+-- what is found can be printed
 abbrev pub IsReportable : Plan → Finding → Type 0
 IsReportable plan (finding.Conflict ks) = ⊤
 IsReportable plan (finding.Missing ks) = ⊤

@@ -25,8 +25,8 @@ use Rattle.sql_reader.specs.Grammar.{IsTree, IsShort, IsWithin, IsRefusal}
 use Rattle.sql_reader.specs.declared.fault.SqlFault.TheVariants as sql
 use Rattle.meaning.specs.declared.catalog.CatalogFault.TheVariants as catalog_fault
 use Rattle.coordinator.specs.declared.planning.PlanFault.TheVariants as plan_fault
-use Rattle.coordinator.specs.declared.print_fault.PrintFault.{PrintFault}
-use Rattle.coordinator.specs.declared.print_fault.PrintFault.TheVariants as print_fault
+use Rattle.last_step.specs.declared.print_fault.PrintFault.{PrintFault}
+use Rattle.last_step.specs.declared.print_fault.PrintFault.TheVariants as print_fault
 use Rattle.columns.specs.Column.{ColumnSpec}
 use Rattle.loader.specs.declared.fault.LoadFault.{LoadFault}
 use Rattle.loader.specs.declared.fault.LoadFault.TheVariants as load_fault

@@ -1,63 +1,23 @@
-//! The tallies of all fragments as one.
-// What the answers in the cells say together.
-ghost use Rattle.std.specs.Prelude.{◌≡◌, ◌≤◌, map, filter_map, IfOk};
+//! What the answers in the cells say together: the fault of the least row, or all groups merged.
+ghost use Rattle.std.specs.Prelude.{◌≡◌, length, filter_map, IfOk};
+ghost use Rattle.std.specs.Ordering.{ord_min};
 ghost use Rattle.meaning.specs.Answer.{combined};
 ghost use Rattle.meaning.specs.Gather.{body_in};
-ghost use Rattle.coordinator.specs.Fitted.{AreFitting};
-ghost use Rattle.coordinator.specs.Faults.{fault_in, least_fault};
-ghost use Rattle.coordinator.specs.OneGroup.{IsFinishable};
 ghost use Rattle.meaning.specs.Judge.{fault_cmp};
 ghost use Rattle.meaning.specs.Order.{lesser};
-ghost use Rattle.std.specs.Ordering.{ord_min};
-ghost use Rattle.coordinator.specs.Single.{IsSingle};
-ghost use Rattle.coordinator.specs.Tally.{tally_of_cell, tally_of_states, together, AreOfFragments, IsPossible};
+ghost use Rattle.meaning.specs.Group.{merged_groups};
+ghost use Rattle.coordinator.specs.Faults.{fault_in, least_fault};
+ghost use Rattle.coordinator.specs.Fitted.{AreFitting};
+ghost use Rattle.coordinator.specs.Gathering.{IsShown};
+ghost use Rattle.coordinator.specs.Merging.{AreMergeable, all_groups, groups_in};
+ghost use Rattle.coordinator.specs.Output.{Shows};
 
-use crate::only_group::body_of_tally;
-use crate::tally::Tally;
 use accumulators::Group;
+use group_by::GroupTable;
 use meaning::answer::{Body, Cell, RowFault};
 use meaning::cut::Cut;
 use meaning::plan::Plan;
 use std::alloc::{AllocError, Global};
-
-fn tally_of_group(group: &Group) -> Tally
-    ensures { result ≡ tally_of_states group.now.rows group.now.states }
-{
-    match group.states().first() {
-        Some(state) => Tally {
-            rows: group.rows(),
-            count: state.count(),
-            sum: state.sum(),
-        },
-        None => Tally::new(),
-    }
-}
-
-/// The tally of the only group in a cell, if there is one.
-fn tally_of_cell(cell: &Cell<Group>) -> Tally
-    ensures { result ≡ tally_of_cell cell.now }
-{
-    let Cell::One(Body::Groups(groups)) = cell else {
-        return Tally::new();
-    };
-    match groups.get(0) {
-        Some(group) => tally_of_group(group),
-        None => Tally::new(),
-    }
-}
-
-fn tally_of_cells(cells: &[Cell<Group>]) -> Tally
-    requires { AreOfFragments cells.now }
-    ensures value { result ≡ together (map tally_of_cell cells.now) }
-    ensures few { result.count ≤ 4294967296 }
-    ensures possible { IsPossible result }
-{
-    let mut total = Tally::new();
-    for cell in cells {
-        total = total.plus(tally_of_cell(cell));
-    }
-    total
-}
 
 /// The fault that the answer in a cell is, if it is one.
 fn fault_in(cell: &Cell<Group>) -> Option<RowFault>
@@ -101,22 +61,44 @@ fn least_fault(cells: &[Cell<Group>]) -> Option<RowFault>
     least
 }
 
-/// What the answers say of all their fragments' rows together: the fault of the least row, or one group.
+/// The groups of the answer in a cell, if it is one.
+fn groups_in(cell: &Cell<Group>) -> &[Group]
+    ensures { result.now ≡ groups_in cell.now }
+{
+    match cell {
+        Cell::One(Body::Groups(groups)) => groups.as_slice(),
+        _ => &[],
+    }
+}
+
+/// The groups of all answers in one table, those of one key merged.
+fn merge_groups(alloc: Global, plan: &Plan, cells: &[Cell<Group>]) -> Result<GroupTable, AllocError>
+    requires { AreMergeable plan.now (all_groups cells.now) }
+    ensures { IfOk result (λ t. t.groups ≡ merged_groups plan.now (all_groups cells.now)) }
+{
+    let mut table = GroupTable::new(alloc, plan)?;
+    for cell in cells {
+        table = table.absorb_groups(alloc, groups_in(cell))?;
+    }
+    Ok(table)
+}
+
+/// What the answers say of all their fragments' rows together.
 pub fn combine(
     alloc: Global,
     plan: &Plan,
     cut: &Cut,
     cells: &[Cell<Group>],
 ) -> Result<Body<Group>, AllocError>
-    requires single { IsSingle plan.now }
+    requires each { length cells.now ≡ length cut.now }
     requires fitting { AreFitting plan.now cut.now cells.now }
     ensures value { IfOk result (λ b. b ≡ combined plan.now (filter_map body_in cells.now)) }
-    ensures finishable { IfOk result IsFinishable }
+    ensures shows { IsShown plan.now → IfOk result (Shows plan.now) }
 {
-    // The limits of a cut, by which no number overflows.
+    // The limits of a cut, by which no count overflows.
     let _lengths = cut.lengths();
     match least_fault(cells) {
         Some(fault) => Ok(Body::Fault(fault)),
-        None => body_of_tally(alloc, tally_of_cells(cells)),
+        None => Ok(Body::Groups(merge_groups(alloc, plan, cells)?.into_groups(alloc)?)),
     }
 }

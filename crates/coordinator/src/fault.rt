@@ -3,7 +3,7 @@ ghost use Rattle.std.specs.Prelude.{◌≡◌};
 ghost use Rattle.coordinator.specs.Gathering.{fault_of, of_print, number_of};
 ghost use Rattle.coordinator.specs.declared.fault.GatherFault.TheVariants as fault;
 
-use crate::print_fault::PrintFault;
+use last_step::PrintFault;
 use partial_codec::DecodeFault;
 use std::alloc::{AllocError, AllocFailed};
 use thiserror::Error;

@@ -79,6 +79,7 @@ fn answer_one(
     row_count: u32,
     k: u32,
 ) -> Result<(), WholeFault>
+    requires single { IsSingle gather.now.job.plan }
     requires place { k < length gather.now.job.cut }
     requires rows { slice_index gather.now.job.cut k ≡ row_count }
     requires few { row_count ≤ max_rows }
@@ -104,6 +105,7 @@ fn answer_fragments(
     lengths: &[u32],
     fragments: &[Sequence<Column>],
 ) -> Result<(), WholeFault>
+    requires single { IsSingle gather.now.job.plan }
     requires cut { gather.now.job.cut ≡ lengths.now }
     requires within_limits { IsCut lengths.now }
     requires fragments { (declared : List Declared) × (rows : List Row) × AreFragments gather.now.job.plan declared rows lengths.now fragments.now }

@@ -6,8 +6,7 @@ ghost use Rattle.meaning.specs.declared.answer.Cell.TheVariants.{Nothing};
 ghost use Rattle.meaning.specs.Gather.{joined};
 ghost use Rattle.partial_codec.specs.Answer.{Spells};
 ghost use Rattle.partial_codec.specs.State.{SpellsState, state_bytes};
-ghost use Rattle.coordinator.specs.Gathering.{Takes, Refuses, RefusesState, RefusesJoin, absorbed_as, joined_with};
-ghost use Rattle.coordinator.specs.Single.{IsSingle};
+ghost use Rattle.coordinator.specs.Gathering.{IsShown, Takes, Refuses, RefusesState, RefusesJoin, absorbed_as, joined_with};
 
 use crate::fault::GatherFault;
 use crate::joining::{all_news, is_same, join_all, with_answer};
@@ -87,7 +86,7 @@ impl Gather {
 
     /// A coordinator that has taken no answer.
     pub fn new(alloc: Global, job: Job) -> Result<Gather, AllocError>
-        requires { IsSingle job.plan }
+        requires { IsShown job.plan }
         ensures { IfOk result (λ g. g ≡ record { job = job; cells = joined job.cut [] }) }
     {
         match no_answers(alloc, job.cut().lengths().len()) {
@@ -163,7 +162,7 @@ impl Gather {
 
     /// A coordinator that holds what the bytes spell. Their refusals are those of `partial_codec::decode_state`.
     pub fn from_state(alloc: Global, job: Job, bytes: &[u8]) -> Result<Gather, GatherFault>
-        requires { IsSingle job.plan }
+        requires { IsShown job.plan }
         // What it holds is spelled so.
         ensures reads { IfOk result (λ g. (g.job ≡ job) × SpellsState job bytes.now g.cells) }
         // What is spelled so is read, unless memory runs out.

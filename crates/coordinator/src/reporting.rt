@@ -3,21 +3,21 @@
 ghost use Rattle.std.specs.Prelude.{◌≡◌, ◌≤◌, length, IfOk, IfErr, OnOk};
 ghost use Rattle.std.specs.Io.KnownBytes.{Appends};
 ghost use Rattle.meaning.specs.Limits.{max_fragments};
-ghost use Rattle.meaning.specs.Output.{Output};
+ghost use Rattle.meaning.specs.Output.{Output as AnOutput};
 ghost use Rattle.meaning.specs.Gather.{places, report, preview, output};
 ghost use Rattle.meaning.specs.Print.{output_text, report_text};
-ghost use Rattle.coordinator.specs.Finished.{output_in};
+ghost use Rattle.coordinator.specs.Output.{IsPrintable, output_in};
 ghost use Rattle.coordinator.specs.Fitted.{AreFitting};
-ghost use Rattle.coordinator.specs.Single.{IsSingle};
-ghost use Rattle.coordinator.specs.Reporting.{lacks, report_in, ended_as, summary, IsPrintable, IsReportable, IsPrintRefusal};
+ghost use Rattle.coordinator.specs.Gathering.{IsShown};
+ghost use Rattle.coordinator.specs.Reporting.{lacks, report_in, ended_as, summary, IsReportable, IsPrintRefusal};
 
 use crate::combining::combine;
 use crate::fault::GatherFault;
-use crate::finishing::{Finished, finish_body};
 use crate::gather::Gather;
-use crate::print_fault::PrintFault;
-use crate::printing::{print_fault, print_fragments, print_row_fault, print_rows};
+use crate::lines::{print_fault, print_fragments, print_row_fault};
+use crate::output::{Output, output_of};
 use accumulators::Group;
+use last_step::{Finished, PrintFault, print_rows};
 use meaning::answer::Cell;
 use meaning::cut::Cut;
 use meaning::plan::Plan;
@@ -51,7 +51,7 @@ pub enum Ended {
 pub enum Finding {
     Conflict(Sequence<u32>),
     Missing(Sequence<u32>),
-    Output(Finished),
+    Output(Output),
 }
 
 /// What keeps a coordinator from an output.
@@ -94,16 +94,17 @@ fn output_of_cells(
     plan: &Plan,
     cut: &Cut,
     cells: &[Cell<Group>],
-) -> Result<Finished, AllocError>
-    requires single { IsSingle plan.now }
+) -> Result<Output, AllocError>
+    requires shown { IsShown plan.now }
+    requires each { length cells.now ≡ length cut.now }
     requires fitting { AreFitting plan.now cut.now cells.now }
-    ensures value { IfOk result (λ f. output_in f ≡ preview plan.now cells.now) }
+    ensures value { IfOk result (λ o. output_in o ≡ preview plan.now cells.now) }
     ensures printable { IfOk result (IsPrintable plan.now) }
 {
     let body = combine(alloc, plan, cut, cells)?;
-    let finished = finish_body(alloc, plan, &body);
+    let output = output_of(alloc, plan, &body);
     drop(body);
-    finished
+    output
 }
 
 /// What is to be printed of the cells.
@@ -113,7 +114,8 @@ fn find_in_cells(
     cut: &Cut,
     cells: &[Cell<Group>],
 ) -> Result<Finding, AllocError>
-    requires single { IsSingle plan.now }
+    requires shown { IsShown plan.now }
+    requires each { length cells.now ≡ length cut.now }
     requires fitting { AreFitting plan.now cut.now cells.now }
     requires few { length cells.now ≤ max_fragments }
     ensures value { IfOk result (λ f. report_in f ≡ report plan.now cells.now) }
@@ -144,16 +146,16 @@ pub fn find(alloc: Global, gather: &Gather) -> Result<Finding, AllocError>
 fn print_output<W: Write>(
     alloc: Global,
     plan: &Plan,
-    output: &Finished,
+    output: &Output,
     out: &mut W,
 ) -> Result<(), PrintFault>
     requires { IsPrintable plan.now output.now }
     ensures { OnOk result (Appends (W.contents out.old) (W.contents out.new) (output_text plan.now (output_in output.now))) }
 {
     match output {
-        Finished::Rows(rows) => print_rows(alloc, plan, rows.as_slice(), out),
-        Finished::FinalFault(code) => print_fault(*code, out),
-        Finished::RowFault(fault) => print_row_fault(fault, out),
+        Output::Finished(Finished::Rows(rows)) => print_rows(alloc, plan, rows.as_slice(), out),
+        Output::Finished(Finished::Fault(code)) => print_fault(*code, out),
+        Output::RowFault(fault) => print_row_fault(fault, out),
     }
 }
 
@@ -174,12 +176,12 @@ pub fn print_finding<W: Write>(
     }
 }
 
-fn ended_as(output: &Finished) -> Ended
+fn ended_as(output: &Output) -> Ended
     ensures { result ≡ ended_as (output_in output.now) }
 {
     match output {
-        Finished::Rows(_) => Ended::Rows,
-        Finished::FinalFault(_) | Finished::RowFault(_) => Ended::Fault,
+        Output::Finished(Finished::Rows(_)) => Ended::Rows,
+        Output::Finished(Finished::Fault(_)) | Output::RowFault(_) => Ended::Fault,
     }
 }
 
@@ -199,7 +201,7 @@ fn summary(finding: Finding) -> Report
 
 /// How a query ended of which this is printed. A conflict or a missing fragment is no end.
 pub fn ended_of(finding: &Finding) -> Ended
-    ensures { (o : Output) → report_in finding.now ≡ output o → result ≡ ended_as o }
+    ensures { (o : AnOutput) → report_in finding.now ≡ output o → result ≡ ended_as o }
 {
     match finding {
         Finding::Output(output) => ended_as(output),

@@ -4,7 +4,7 @@ ghost use Rattle.coordinator.specs.Whole.{of_catalog, of_sql, of_plan, of_load, 
 ghost use Rattle.coordinator.specs.declared.whole_fault.WholeFault.TheVariants as fault;
 
 use crate::planning::PlanFault;
-use crate::print_fault::PrintFault;
+use last_step::PrintFault;
 use loader::LoadFault;
 use meaning::catalog::CatalogFault;
 use meaning::table::TableFault;

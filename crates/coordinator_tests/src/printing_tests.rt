@@ -1,8 +1,8 @@
 //! Printing to writers that fail.
 ghost use Rattle.std.specs.Prelude.{◌≡◌, ◌≢◌, [], IfOk};
 
-use coordinator::PrintFault;
-use coordinator::printing::{print_fault, print_fragments, print_row_fault, print_rows};
+use coordinator::lines::{print_fault, print_fragments, print_row_fault};
+use last_step::{PrintFault, print_rows};
 use meaning::answer::RowFault;
 use meaning::expr::Expr;
 use meaning::plan::{Item, Plan, TableUse};

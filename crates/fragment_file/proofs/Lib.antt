@@ -11,6 +11,7 @@ pub mod ReadFaults
 pub mod ShortPayloads
 pub mod Sizes
 pub mod TakenValues
+pub mod TypedValues
 pub mod Worked
 pub mod Written
 pub mod WrittenFiles

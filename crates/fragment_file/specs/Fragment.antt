@@ -2,7 +2,7 @@
 --
 -- A file is a header and row groups. A row group has a block for each column. One table slice may stand in many files,
 -- as a block may be of any kind that fits; bytes stand for at most one.
-use Rattle.std.specs.Prelude.{◌≡◌, ◌≢◌, ℕ, ◌/◌, ◌%◌, ◌==◌, ◌≤◌, ◌<◌, ◌^◌, true, false, if◌then◌else◌, List, [], ◌∷◌, ◌++◌, length, map, zip, get_or, replicate, flat_map, All, AllPairs}
+use Rattle.std.specs.Prelude.{◌≡◌, ◌≢◌, ℕ, ◌/◌, ◌%◌, ◌==◌, ◌≤◌, ◌<◌, ◌^◌, true, false, if◌then◌else◌, List, [], ◌∷◌, ◌++◌, length, map, zip, get_or, replicate, flat_map, slice_get, Some, All, AllPairs}
 use Rattle.std.specs.List.{range_with_len}
 use Rattle.wire.specs.Bytes.{number_bytes, sealed}
 use Rattle.meaning.specs.declared.value.ColType.{ColType}
@@ -12,6 +12,7 @@ use Rattle.meaning.specs.declared.catalog.Column.{Column}
 use Rattle.meaning.specs.declared.catalog.Table.{Table}
 use Rattle.meaning.specs.Catalog.{IsName}
 use Rattle.meaning.specs.Limits.{max_columns, max_rows, row_group_rows}
+use Rattle.meaning.specs.Typing.{is_of_type}
 use Rattle.columns.specs.Column.{ColumnSpec}
 use Rattle.encodings.specs.declared.kind.Kind.TheVariants as kind
 use Rattle.encodings.specs.Block.{Block, is_block, values_of}
@@ -93,6 +94,10 @@ column_in groups p = record { col_type = p.1.col_type; nullable = p.1.nullable; 
 
 abbrev pub columns_in : FragmentSpec → List ColumnSpec
 columns_in f = map (column_in f.groups) (zip (range_with_len 0 (length f.header.columns)) f.header.columns)
+
+-- each column of a file has values of its type
+abbrev pub AreTypedColumns : FragmentSpec → Type 0
+AreTypedColumns f = (j : ℕ) (c : Column) → slice_get f.header.columns j ≡ Some c → All (λ v. is_of_type c.col_type v ≡ true) (column_values j f.groups)
 
 -- ---- spelling
 

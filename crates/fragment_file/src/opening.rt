@@ -1,7 +1,7 @@
 //! The file of a fragment or of a dimension, read and judged.
 ghost use Rattle.std.specs.Prelude.{◌≡◌, IfErr, IfOk, Ok};
 ghost use Rattle.fragment_file.specs.Fault.{IsReadFault};
-ghost use Rattle.fragment_file.specs.Fragment.{FragmentSpec, IsFileOf};
+ghost use Rattle.fragment_file.specs.Fragment.{AreTypedColumns, FragmentSpec, IsFileOf};
 ghost use Rattle.fragment_file.specs.FragmentReading.{read_fragment};
 ghost use Rattle.wire.specs.Reading.{ReadsIfMemory};
 
@@ -39,6 +39,7 @@ pub fn open(alloc: Global, bytes: &[u8]) -> Result<FragmentView<'_>, FileFault>
     // What is spelled so is given, unless memory runs out.
     ensures complete { (f : FragmentSpec) → IsFileOf bytes.now f →
         ReadsIfMemory FileFault.Memory (λ v. v) result (Ok f) }
+    ensures typed { IfOk result (λ v. AreTypedColumns v) }
 {
     read(alloc, bytes)
 }

@@ -4,3 +4,6 @@ pub mod Items
 pub mod Gathering
 pub mod Repeating
 pub mod Arranging
+pub mod ShownFields
+pub mod RecordTexts
+pub mod Loans

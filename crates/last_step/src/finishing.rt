@@ -5,6 +5,7 @@ ghost use Rattle.meaning.specs.Finish as the;
 ghost use Rattle.meaning.specs.Finish.{limited, order_cmp};
 ghost use Rattle.meaning.specs.Order.{sorted};
 ghost use Rattle.last_step.specs.Given.{meant};
+ghost use Rattle.last_step.specs.Printing.{IsPrintable, ShowsSomething};
 ghost use Rattle.last_step.specs.Runs.{expanded};
 
 use crate::expanding::expand;
@@ -37,13 +38,8 @@ fn rows_in_order(alloc: Global, plan: &Plan, runs: Vec<Run>) -> Result<Sequence<
     }
 }
 
-/// From groups in the order of their keys to the rows of the answer, or to the first fault over groups: in each group
-/// that of its aggregates, then of HAVING, then of the items, whatever LIMIT says.
-///
-/// # Errors
-///
-/// Out of memory.
-pub fn finish(alloc: Global, plan: &Plan, groups: &[Group]) -> Result<Finished, AllocError>
+/// The rows, or the first fault.
+fn finish_groups(alloc: Global, plan: &Plan, groups: &[Group]) -> Result<Finished, AllocError>
     ensures { IfOk result (λ f. meant f ≡ the.finish plan.now (map (read_off plan.now) groups.now)) }
 {
     match runs_of(alloc, plan, groups) {
@@ -51,4 +47,18 @@ pub fn finish(alloc: Global, plan: &Plan, groups: &[Group]) -> Result<Finished, 
         Err(Stop::Fault(code)) => Ok(Finished::Fault(code)),
         Err(Stop::Memory) => Err(AllocError),
     }
+}
+
+/// From groups in the order of their keys to the rows of the answer, or to the first fault over groups: in each group
+/// that of its aggregates, then of HAVING, then of the items, whatever LIMIT says.
+///
+/// # Errors
+///
+/// Out of memory.
+pub fn finish(alloc: Global, plan: &Plan, groups: &[Group]) -> Result<Finished, AllocError>
+    ensures value { IfOk result (λ f. meant f ≡ the.finish plan.now (map (read_off plan.now) groups.now)) }
+    // The rows can be printed.
+    ensures printable { ShowsSomething plan.now groups.now → IfOk result (IsPrintable plan.now) }
+{
+    finish_groups(alloc, plan, groups)
 }

@@ -1,11 +1,14 @@
-//! The last step: from groups to the rows of the answer, in their order.
+//! The last step: from groups to the rows of the answer, in their order, and their bytes.
 #![tactic(auto)]
 
 mod aggregates;
 mod expanding;
 mod finished;
 mod finishing;
+mod lent;
 mod ordering;
+mod print_fault;
+mod printing;
 mod run;
 mod runs;
 mod showing;
@@ -13,3 +16,5 @@ mod stop;
 
 pub use finished::Finished;
 pub use finishing::finish;
+pub use print_fault::PrintFault;
+pub use printing::print_rows;

@@ -34,3 +34,4 @@ pub mod Running
 pub mod Laws
 pub mod ExpressionLaws
 pub mod TableLaws
+pub mod WellFormedPlan

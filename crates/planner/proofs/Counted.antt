@@ -1,6 +1,8 @@
 -- The keys and the aggregates of a query without faults.
-use Rattle.std.proofs.Common.{◌≡◌, ℕ, Bool, true, false, not, ◌||◌, List, [], ◌∷◌, ◌++◌, map, cond, Option, Some, None, option_to_list, Ok, Err, refl, ap, subst, sym, ◌∙◌}
+use Rattle.std.proofs.Common.{◌≡◌, ℕ, Bool, true, false, not, ◌||◌, List, [], ◌∷◌, ◌++◌, map, flat_map, cond, Option, Some, None, option_to_list, Ok, Err, refl, ap, subst, sym, ◌∙◌}
+use Rattle.std.specs.List.{AllByRecursion}
 use Rattle.std.specs.Option.{is_some}
+use Rattle.std.proofs.lemmas.List.Elements.{All-from_recursion}
 use Rattle.meaning.specs.Results.{and_then}
 use Rattle.meaning.specs.declared.plan.Aggregate.{Aggregate}
 use Rattle.meaning.specs.declared.plan.GroupingKey.{GroupingKey}
@@ -24,15 +26,17 @@ use Rattle.planner.specs.declared.aggregating.Aggregates.{Aggregates}
 use Rattle.planner.specs.Aggregates.{aggregate_node, aggregate_of, aggregates_in, with_new, with_aggregate, with_aggregates, with_parts}
 use Rattle.planner.specs.Checked.{checked, conditions_checked, groups_checked, condition_check, item_check, key_check}
 use Rattle.planner.specs.Groups.{no_aggregates, item_aggregates, all_aggregates, is_empty, is_grouped, key_of, key_trees}
-use Rattle.planner.specs.PlanOf.{Pairwise, IsKeyOf, IsAggregateOf, AreAggregates, is_aggregate_at, argument_of, is_counted}
+use Rattle.planner.specs.PlanOf.{Pairwise, IsKeyOf, IsAggregateOf, IsGivenAs, AreAggregates, own_aggregates, is_aggregate_at, argument_of, is_counted}
 use Rattle.planner.proofs.Conditions.{AreFine, row_means}
+use Rattle.planner.proofs.OwnAggregates.{HasPlace, aggregate_there, flat, parts_have, parts_still}
+use Rattle.planner.proofs.TypedTrees.{both_all}
 use Rattle.planner.proofs.Unbarred.{AreCounted, unbarred}
 
 module _ (s : Scope) where
   -- ---- aggregates one after the other
 
   -- the trees that were taken
-  abbrev Taken : Aggregates → Type 0
+  abbrev pub Taken : Aggregates → Type 0
   Taken l = (es : List Expr) × (l.written ≡ map (spelled s) es) × (l.list ≡ map (aggregate_of s) es) × AreCounted s es
 
   map_last : {X Y : Type 0} (f : X → Y) (xs : List X) (x : X) → map f xs ++ f x ∷ [] ≡ map f (xs ++ x ∷ [])
@@ -66,7 +70,8 @@ module _ (s : Scope) where
 
   aggregate_at : (x : Expr-F Expr Arm) → argument_of s x → is_aggregate_at s (aggregate_node s x) x
   aggregate_at (node.Aggregate kind a) fine = (refl, row_means s a fine, refl)
-  aggregate_at _ fine = refl
+  aggregate_at node.CountRows fine = refl
+  aggregate_at _ fine = absurd fine
 
   aggregates_mean : (es : List Expr) → AreCounted s es → Pairwise (IsAggregateOf s) (map (aggregate_of s) es) es
   aggregates_mean [] all = tt
@@ -109,11 +114,52 @@ module _ (s : Scope) where
       let keys = goes_there (each_ok (map (key_check s) q.group_by)) (λ x. each_ok (map (condition_check s false) (option_to_list q.having))) z both.2 in
       ((items.0, items.1), (keys.0, keys.1), (z, keys.2))
 
-  taken : (q : Query) (z : Unit {0}) → checked s q ≡ Ok z → Taken (all_aggregates s q)
+  pub taken : (q : Query) (z : Unit {0}) → checked s q ≡ Ok z → Taken (all_aggregates s q)
   taken q z is =
       let all = checks q z is in
       let first = take_parts no_aggregates (map (λ i. aggregates_in i.expr) q.items) ([], refl, refl, tt) (items_counted q.items all.0.0 all.0.1) in
       take_parts (item_aggregates s q) (map aggregates_in (option_to_list q.having)) first (having_counted (option_to_list q.having) all.2.0 all.2.1)
+
+  -- each of the query's aggregates is counted, and has its place
+  abbrev Own : Query → Expr → Type 0
+  Own q e = is_counted s e × HasPlace s (all_aggregates s q).written e
+
+  paired : (ws : List Spelling) (es : List Expr) → AreCounted s es → AllByRecursion (HasPlace s ws) es → AllByRecursion (λ e. is_counted s e × HasPlace s ws e) es
+  paired ws [] counted has = tt
+  paired ws (e ∷ es) counted has = ((counted.0, has.0), paired ws es counted.1 has.1)
+
+  all_paired : (ws : List Spelling) (parts : List (List Expr)) → AllCounted parts → AllByRecursion (λ es. AllByRecursion (HasPlace s ws) es) parts
+      → AllByRecursion (λ es. AllByRecursion (λ e. is_counted s e × HasPlace s ws e) es) parts
+  all_paired ws [] counted has = tt
+  all_paired ws (es ∷ parts) counted has = (paired ws es counted.0 has.0, all_paired ws parts counted.1 has.1)
+
+  all_own : (q : Query) (z : Unit {0}) → checked s q ≡ Ok z → AllByRecursion (Own q) (own_aggregates q)
+  all_own q z is =
+      let all = checks q z is in
+      let items = map (λ (i : Item). aggregates_in i.expr) q.items in
+      let having = map aggregates_in (option_to_list q.having) in
+      let of_items = parts_still s (item_aggregates s q) items having (parts_have s no_aggregates items) in
+      let of_having = parts_have s (item_aggregates s q) having in
+      let ws = (all_aggregates s q).written in
+      both_all (Own q) (flat_map (λ (i : Item). aggregates_in i.expr) q.items) (flat_map aggregates_in (option_to_list q.having))
+      (flat s (Own q) (λ (i : Item). aggregates_in i.expr) q.items (all_paired ws items (items_counted q.items all.0.0 all.0.1) of_items))
+      (flat s (Own q) aggregates_in (option_to_list q.having) (all_paired ws having (having_counted (option_to_list q.having) all.2.0 all.2.1) of_having))
+
+  each_given : (q : Query) (list : List Aggregate) (taken_is : Taken (all_aggregates s q)) (es : List Expr) → list ≡ (all_aggregates s q).list → AllByRecursion (Own q) es
+      → AllByRecursion (IsGivenAs s q list) es
+  each_given q list taken_is [] list_is own = tt
+  each_given q list taken_is (e ∷ es) list_is own = (
+    (
+      own.0.1.0,
+      own.0.1.1,
+      (
+        aggregate_of s e,
+        aggregate_there s taken_is.0 (all_aggregates s q).written list e own.0.1 taken_is.1 (list_is ∙ taken_is.2) own.0.0,
+        aggregate_at (out-Expr e) own.0.0,
+      ),
+    ),
+    each_given q list taken_is es list_is own.1,
+  )
 
   pub are_aggregates : (q : Query) (z : Unit {0}) (list : List Aggregate) → checked s q ≡ Ok z → list ≡ (all_aggregates s q).list → AreAggregates s q list
   are_aggregates q z list is list_is =
@@ -122,6 +168,7 @@ module _ (s : Scope) where
         trees = found.0;
         written = found.1;
         each = subst (λ (as_list : List Aggregate). Pairwise (IsAggregateOf s) as_list found.0) (sym (list_is ∙ found.2)) (aggregates_mean found.0 found.3);
+        own = All-from_recursion _ _ (each_given q list found (own_aggregates q) list_is (all_own q z is));
       }
 
   -- ---- keys

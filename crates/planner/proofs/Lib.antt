@@ -9,7 +9,18 @@ pub mod Headers
 pub mod PlansMean
 pub mod TypedTrees
 pub mod JoinedKeys
+pub mod NamedParts
+pub mod ReadColumns
+pub mod TypedAlike
+pub mod ListedJoins
+pub mod WellFormedPlans
 pub mod TypedPlans
 pub mod Unbarred
+pub mod OwnAggregates
 pub mod Counted
+pub mod FormsAgree
+pub mod LimitedPlans
+pub mod Lifted
+pub mod GroupTypes
+pub mod PlansAgree
 mod Worked

@@ -2,7 +2,6 @@
 use Rattle.std.proofs.Common.{◌≡◌, ℕ, ◌+◌, Bool, true, List, [], ◌∷◌, ◌++◌, map, filter, cond, Option, Some, None, option_to_list, Result, Ok, Err, IfOk, inl, inr, refl, ap, subst, sym, ◌∙◌, append_assoc}
 use Rattle.std.specs.List.{enumerate_from}
 use Rattle.std.proofs.lemmas.List.{append-nil}
-use Rattle.meaning.specs.Meaning.{meaning}
 use Rattle.meaning.specs.Results.{all_ok, and_then, with_result}
 use Rattle.meaning.specs.declared.catalog.Catalog.{Catalog}
 use Rattle.meaning.specs.declared.expr.Expr as plan
@@ -39,7 +38,7 @@ use Rattle.planner.specs.Checked.{checked, conditions, conditions_checked, group
 use Rattle.planner.specs.Conjuncts.{row_expr}
 use Rattle.planner.specs.Groups.{is_grouped, key_of, key_trees, keys_of, no_keys, with_key, with_keys, limits_check}
 use Rattle.planner.specs.Planned.{conjuncts, no_conjuncts, joins_of, tables_of, tables_with, groups_of, groups_with, shown_of, shown_with, basis_of, plan_with, planned, planned_in}
-use Rattle.planner.specs.PlanOf.{Pairwise, IsPlanOf, IsAPlanOf, IsItemOf, IsHavingOf, IsHeaderOf, IsHeadedAs, PlansMean, PlansAgree, all_conjuncts, is_condition, key_spellings, aggregate_spellings}
+use Rattle.planner.specs.PlanOf.{Pairwise, IsPlanOf, IsAPlanOf, IsItemOf, IsHavingOf, IsHeaderOf, IsHeadedAs, PlansMean, all_conjuncts, is_condition, key_spellings, aggregate_spellings}
 use Rattle.planner.specs.Shown.{header, if_built, item_of, items_of, having_of, order_of, over_group, with_header}
 use Rattle.planner.proofs.Headers.{headed}
 use Rattle.planner.proofs.Counted.{are_aggregates, keys_mean}
@@ -64,7 +63,7 @@ all_true s (e ∷ es) z is =
     let there = goes_there (condition_check s true e) (λ x. each_ok (map (condition_check s true) es)) z is in
     (as_true s true e there.0 there.1, all_true s es z there.2)
 
-conditions_fine : (s : Scope) (q : Query) (z : Unit {0}) → checked s q ≡ Ok z → AreFine s (conditions q)
+pub conditions_fine : (s : Scope) (q : Query) (z : Unit {0}) → checked s q ≡ Ok z → AreFine s (conditions q)
 conditions_fine s q z is =
     let items = goes_there (each_ok (map (item_check s) q.items)) (λ x. and_then (conditions_checked s q) (λ y. groups_checked s q)) z is in
     let both = goes_there (conditions_checked s q) (λ y. groups_checked s q) z items.2 in
@@ -190,11 +189,3 @@ pub means_told : (catalog : Catalog) (q : Query) (r : Result Plan PlanFault) →
 means_told catalog q (Ok p) (inl is) = plans_mean catalog q p (sym is)
 means_told catalog q (Ok p) (inr is) = absurd cc
 means_told catalog q (Err f) told = tt
-
-told_is : {X : Type 0} (p : X) (r : Result X PlanFault) → Tells (Ok p) r → r ≡ Ok p
-told_is p r (inl is) = sym is
-told_is p r (inr is) = absurd cc
-
-pub plans_agree : PlansAgree
-plans_agree catalog q p other dims rows first second =
-    ap (λ (x : Plan). meaning x dims rows) (ok_same p other PlanFault (sym (told_is p (planned catalog q) first) ∙ told_is other (planned catalog q) second))

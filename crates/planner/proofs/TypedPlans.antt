@@ -12,6 +12,7 @@ use Rattle.meaning.specs.declared.expr.Expr.TheVariants as expr
 use Rattle.meaning.specs.declared.plan.Aggregate.{Aggregate}
 use Rattle.meaning.specs.declared.plan.GroupingKey.{GroupingKey}
 use Rattle.meaning.specs.declared.plan.AggregateKind.TheVariants as kind
+use Rattle.meaning.specs.declared.plan.Item as plan_item
 use Rattle.meaning.specs.declared.plan.Join.{Join}
 use Rattle.meaning.specs.declared.plan.Plan.{Plan}
 use Rattle.meaning.specs.declared.value.ColType.TheVariants as of_type
@@ -49,13 +50,15 @@ use Rattle.planner.specs.declared.aggregating.Aggregates.{Aggregates}
 use Rattle.planner.specs.declared.conjuncts.Conjuncts.{Conjuncts}
 use Rattle.planner.specs.declared.grouping.Keys.{Keys}
 use Rattle.planner.specs.declared.parts.Grouped.{Grouped}
+use Rattle.planner.specs.declared.parts.Shown.{Shown}
 use Rattle.planner.specs.declared.parts.Tables.{Tables}
 use Rattle.planner.specs.Aggregates.{aggregates_in, aggregate_node, aggregate_of, count_rows, row_type, type_in, with_new, with_aggregate, with_aggregates, with_parts}
 use Rattle.planner.specs.Checked.{checked, conditions, conditions_checked, groups_checked, condition_check, item_check, key_check, on_trees}
 use Rattle.planner.specs.Conjuncts.{conjuncts_of, row_expr}
 use Rattle.planner.specs.Groups.{no_aggregates, item_aggregates, all_aggregates, is_empty, is_grouped, key_of, key_trees, no_keys, limits_check}
-use Rattle.planner.specs.PlanOf.{all_conjuncts, is_condition}
-use Rattle.planner.specs.Planned.{conjuncts, no_conjuncts, joins_of, tables_of, tables_with, groups_of, groups_with, shown_of, basis_of, plan_with, planned, planned_in}
+use Rattle.planner.specs.PlanOf.{all_conjuncts, equalities_among, is_condition}
+use Rattle.planner.specs.Planned.{conjuncts, no_conjuncts, joins_of, tables_of, tables_with, groups_of, groups_with, shown_of, shown_with, basis_of, plan_with, planned, planned_in, table_use}
+use Rattle.planner.specs.Shown.{items_of, having_of, order_of}
 use Rattle.planner.specs.Typed.{IsTypedOver, PlansAreTyped, PlansServe}
 use Rattle.planner.proofs.Conditions.{found_all}
 use Rattle.planner.proofs.Counted.{checks, AllEmpty, none_taken, parts_none, neither, empty_is}
@@ -256,7 +259,7 @@ module _ (s : Scope) (types : RowTypes) (columns : columns_have_types types s �
   abbrev having_fits : Query → Bool
   having_fits q = option_map_or has_fitting_literals q.having true
 
-  plan_typed : (q : Query) (p : Plan) (z : Unit {0}) → checked s q ≡ Ok z → has_only_fitting_literals q ≡ true
+  pub plan_typed : (q : Query) (p : Plan) (z : Unit {0}) → checked s q ≡ Ok z → has_only_fitting_literals q ≡ true
       → p.conjuncts ≡ map (row_expr s) (filter (is_condition s) (all_conjuncts q)) → p.keys ≡ map (key_of s) (key_trees (is_grouped s q) q) → p.aggs ≡ (all_aggregates s q).list
       → IsTypedPlan types p
   plan_typed q p z is fits conjuncts_are keys_as aggs_are =
@@ -290,8 +293,23 @@ ok_same x y E is = cc
 zero_plus : (n : ℕ) → n ≡ Rattle.std.proofs.Common.◌+◌ 0 n
 zero_plus n = grind Rattle.std.proofs.Common.arith
 
-pub plans_are_typed : PlansAreTyped
-plans_are_typed catalog q p is fits =
+-- what a plan is made of
+pub record AreParts (catalog : Catalog) (q : Query) (p : Plan) : Type 0 where
+  pub s : Scope
+  pub z : Unit {0}
+  pub scope : scope_of catalog q.source ≡ Ok s
+  pub checks : checked s q ≡ Ok z
+  pub fact : p.fact ≡ table_use s q None catalog.fact.name
+  pub joins : joins_of s q (equalities_among s (all_conjuncts q)) ≡ Ok p.joins
+  pub conjuncts_are : p.conjuncts ≡ map (row_expr s) (filter (is_condition s) (all_conjuncts q))
+  pub keys_as : p.keys ≡ map (key_of s) (key_trees (is_grouped s q) q)
+  pub aggs_are : p.aggs ≡ (all_aggregates s q).list
+  pub plain : p.plain ≡ not (is_grouped s q)
+  pub items : items_of s (basis_of s q) q.items ≡ Ok p.items
+  pub having : having_of s (basis_of s q) q.having ≡ Ok p.having
+
+pub parts_of_plan : (catalog : Catalog) (q : Query) (p : Plan) → planned catalog q ≡ Ok p → AreParts catalog q p
+parts_of_plan catalog q p is =
     let scoped = goes_there (scope_of catalog q.source) (λ s. planned_in catalog.fact.name s q) p is in
     let s = scoped.0 in
     let check = goes_there (checked s q) (λ _. and_then (tables_of catalog.fact.name s q) (λ tables. and_then (groups_of s q) (λ groups. Ok (plan_with q tables groups)))) p scoped.2 in
@@ -303,20 +321,39 @@ plans_are_typed catalog q p is fits =
     let t_is = ok_same (tables_with s q catalog.fact.name joins.0) tables.0 PlanFault joins.2 in
     let g_is = ok_same (groups_with s q shown.0) groups.0 PlanFault shown.2 in
     let p_is = ok_same (plan_with q tables.0 groups.0) p PlanFault groups.2 in
-    let known = scopes_are_tables catalog q.source s scoped.1 in
     let found = found_all s no_conjuncts (all_conjuncts q) in
-    let conjuncts_are : p.conjuncts ≡ map (row_expr s) (filter (is_condition s) (all_conjuncts q)) =
-    sym (ap (λ (x : Plan). x.conjuncts) p_is) ∙ sym (ap (λ (x : Tables). x.conjuncts) t_is) ∙ ap (λ (c : Conjuncts). c.plain) found in
-    let keys_as : p.keys ≡ map (key_of s) (key_trees (is_grouped s q) q) =
-    sym (ap (λ (x : Plan). x.keys) p_is) ∙ sym (ap (λ (x : Grouped). x.keys) g_is) ∙ ap (λ (k : Keys). k.list) (keys_are s no_keys (key_trees (is_grouped s q) q)) in
-    let aggs_are : p.aggs ≡ (all_aggregates s q).list = sym (ap (λ (x : Plan). x.aggs) p_is) ∙ sym (ap (λ (x : Grouped). x.aggs) g_is) in
+    let items = goes_there (items_of s (basis_of s q) q.items) (λ items. and_then (having_of s (basis_of s q) q.having) (λ having. and_then (order_of q.items q.order_by) (λ order. Ok (shown_with items having order)))) shown.0 shown.1 in
+    let having = goes_there (having_of s (basis_of s q) q.having) (λ having. and_then (order_of q.items q.order_by) (λ order. Ok (shown_with items.0 having order))) shown.0 items.2 in
+    let order = goes_there (order_of q.items q.order_by) (λ order. Ok (shown_with items.0 having.0 order)) shown.0 having.2 in
+    let s_is = ok_same (shown_with items.0 having.0 order.0) shown.0 PlanFault order.2 in
+    let items_as : p.items ≡ items.0 = sym (ap (λ (x : Plan). x.items) p_is) ∙ sym (ap (λ (x : Grouped). x.shown.items) g_is) ∙ sym (ap (λ (x : Shown). x.items) s_is) in
+    let having_as : p.having ≡ having.0 = sym (ap (λ (x : Plan). x.having) p_is) ∙ sym (ap (λ (x : Grouped). x.shown.having) g_is) ∙ sym (ap (λ (x : Shown). x.having) s_is) in
     let joins_as : p.joins ≡ joins.0 = sym (ap (λ (x : Plan). x.joins) p_is) ∙ sym (ap (λ (x : Tables). x.joins) t_is) in
-    let joins_are = sym (ap (λ (c : Conjuncts). joins_of s q c.equalities) found) ∙ joins.1 in
-    let keyed = joins_from s (map (λ d. d.key) s.dims) known.1.keyed q (all_conjuncts q) 0 s.dims joins.0
-    (λ i. ap (Rattle.std.proofs.Common.slice_get (map (λ d. d.key) s.dims)) (zero_plus i)) joins_are in (
+    record {
+      s = s;
+      z = check.0;
+      scope = scoped.1;
+      checks = check.1;
+      fact = sym (ap (λ (x : Plan). x.fact) p_is) ∙ sym (ap (λ (x : Tables). x.fact) t_is);
+      joins = sym (ap (λ (c : Conjuncts). joins_of s q c.equalities) found) ∙ joins.1 ∙ ap (λ (x : List Join). Ok x) (sym joins_as);
+      conjuncts_are = sym (ap (λ (x : Plan). x.conjuncts) p_is) ∙ sym (ap (λ (x : Tables). x.conjuncts) t_is) ∙ ap (λ (c : Conjuncts). c.plain) found;
+      keys_as = sym (ap (λ (x : Plan). x.keys) p_is) ∙ sym (ap (λ (x : Grouped). x.keys) g_is) ∙ ap (λ (k : Keys). k.list) (keys_are s no_keys (key_trees (is_grouped s q) q));
+      aggs_are = sym (ap (λ (x : Plan). x.aggs) p_is) ∙ sym (ap (λ (x : Grouped). x.aggs) g_is);
+      plain = sym (ap (λ (x : Plan). x.plain) p_is) ∙ sym (ap (λ (x : Grouped). x.plain) g_is);
+      items = items.1 ∙ ap (λ (x : List plan_item.Item). Ok x) (sym items_as);
+      having = having.1 ∙ ap (λ (x : Option plan.Expr). Ok x) (sym having_as);
+    }
+
+pub plans_are_typed : PlansAreTyped
+plans_are_typed catalog q p is fits =
+    let parts = parts_of_plan catalog q p is in
+    let s = parts.s in
+    let known = scopes_are_tables catalog q.source s parts.scope in
+    let keyed = joins_from s (map (λ d. d.key) s.dims) known.1.keyed q (all_conjuncts q) 0 s.dims p.joins
+    (λ i. ap (Rattle.std.proofs.Common.slice_get (map (λ d. d.key) s.dims)) (zero_plus i)) parts.joins in (
       known.0,
-      record { declared = known.1.declared; keys = known.1.keys ∙ keyed ∙ ap (λ (js : List Join). map (λ (j : Join). j.key) js) (sym joins_as) },
-      plan_typed s (joined_types catalog known.0) known.1.typed q p check.0 check.1 fits conjuncts_are keys_as aggs_are,
+      record { declared = known.1.declared; keys = known.1.keys ∙ keyed },
+      plan_typed s (joined_types catalog known.0) known.1.typed q p parts.z parts.checks fits parts.conjuncts_are parts.keys_as parts.aggs_are,
     )
 
 pub typed_told : (catalog : Catalog) (q : Query) (r : Result Plan PlanFault) → Tells r (planned catalog q) → IfOk r (λ p. has_only_fitting_literals q ≡ true → IsTypedOver catalog p)

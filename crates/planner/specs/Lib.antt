@@ -6,3 +6,6 @@ pub mod Shown
 pub mod Planned
 pub mod PlanOf
 pub mod Typed
+pub mod WellFormed
+pub mod Forms
+pub mod Limited

@@ -1,5 +1,5 @@
 -- What the plan of a query is: its lists are the query's, and each of its expressions gives what the query's tree gives.
-use Rattle.std.specs.Prelude.{◌≡◌, ◌≢◌, ℕ, Bool, true, not, List, [], ◌∷◌, ◌++◌, map, filter, flat_map, Option, Some, None, option_to_list, Ok, codes, decimal}
+use Rattle.std.specs.Prelude.{◌≡◌, ◌≢◌, ℕ, Bool, true, not, List, [], ◌∷◌, ◌++◌, map, filter, flat_map, Option, Some, None, option_to_list, slice_get, Ok, All, codes, decimal}
 use Rattle.std.specs.List.{enumerate_from}
 use Rattle.std.specs.Option.{is_none}
 use Rattle.meaning.specs.Cut.{Numbered}
@@ -25,10 +25,9 @@ use Rattle.planner_expressions.specs.declared.sort.Sort.{Sort}
 use Rattle.planner_expressions.specs.From.{scope_of}
 use Rattle.planner_expressions.specs.Judged.{judged}
 use Rattle.planner_expressions.specs.Meant.{SameOnRows, SameOnGroups}
-use Rattle.planner_expressions.specs.Results.{Tells}
-use Rattle.planner_expressions.specs.Spelled.{Spelling, spelled}
+use Rattle.planner_expressions.specs.Spelled.{Spelling, spelled, place_among}
 use Rattle.planner.specs.declared.conjuncts.Equality.{Equality}
-use Rattle.planner.specs.Aggregates.{count_rows, kind_of, row_type}
+use Rattle.planner.specs.Aggregates.{aggregates_in, count_rows, kind_of, row_type}
 use Rattle.planner.specs.Checked.{conditions}
 use Rattle.planner.specs.Conjuncts.{conjuncts_of, join_equality}
 use Rattle.planner.specs.Groups.{all_aggregates, is_grouped, key_trees}
@@ -65,10 +64,11 @@ aggregate_spellings s q = (all_aggregates s q).written
 abbrev pub IsFine : Scope → Expr → Type 0
 IsFine s e = (sort : Sort) × (judged s e true ≡ Ok sort)
 
--- an aggregate's argument has no fault
+-- an aggregate, whose argument has no fault
 abbrev pub argument_of : Scope → Expr-F Expr Arm → Type 0
 argument_of s (node.Aggregate kind a) = IsFine s a
-argument_of s _ = Unit {0}
+argument_of s node.CountRows = Unit {0}
+argument_of s _ = ⊥
 
 abbrev pub is_counted : Scope → Expr → Type 0
 is_counted s e = argument_of s (out-Expr e)
@@ -98,16 +98,26 @@ pub record IsKeyOf (s : Scope) (k : GroupingKey) (e : Expr) : Type 0 where
 -- COUNT(*) counts a literal
 abbrev pub is_aggregate_at : Scope → Aggregate → Expr-F Expr Arm → Type 0
 is_aggregate_at s a (node.Aggregate kind x) = (a.kind ≡ kind_of kind) × SameOnRows s a.argument x × (a.col_type ≡ row_type s x)
-is_aggregate_at s a _ = a ≡ count_rows
+is_aggregate_at s a node.CountRows = a ≡ count_rows
+is_aggregate_at s a _ = ⊥
 
 abbrev pub IsAggregateOf : Scope → Aggregate → Expr → Type 0
 IsAggregateOf s a e = is_aggregate_at s a (out-Expr e)
 
--- the plan's aggregates are those of trees, as which the parts of items are given
+-- the aggregates of the items and of HAVING
+abbrev pub own_aggregates : Query → List Expr
+own_aggregates q = flat_map (λ i. aggregates_in i.expr) q.items ++ flat_map aggregates_in (option_to_list q.having)
+
+-- the plan's aggregate as which the tree is given is the tree's own
+abbrev pub IsGivenAs : Scope → Query → List Aggregate → Expr → Type 0
+IsGivenAs s q list e = (i : ℕ) × (place_among (aggregate_spellings s q) (spelled s e) ≡ Some i) × ((a : Aggregate) × (slice_get list i ≡ Some a) × IsAggregateOf s a e)
+
+-- the plan's aggregates are those of trees, as which the parts of items are given, each as its own
 pub record AreAggregates (s : Scope) (q : Query) (list : List Aggregate) : Type 0 where
   pub trees : List Expr
   pub written : aggregate_spellings s q ≡ map (spelled s) trees
   pub each : Pairwise (IsAggregateOf s) list trees
+  pub own : All (IsGivenAs s q list) (own_aggregates q)
 
 pub record IsPlanOf (catalog : Catalog) (q : Query) (s : Scope) (p : Plan) : Type 0 where
   pub scope : scope_of catalog q.source ≡ Ok s
@@ -131,9 +141,9 @@ IsAPlanOf catalog q p = (s : Scope) × IsPlanOf catalog q s p
 abbrev pub PlansMean : Type 0
 PlansMean = (catalog : Catalog) (q : Query) (p : Plan) → planned catalog q ≡ Ok p → IsAPlanOf catalog q p
 
--- two plans that are given for one query mean the same over all tables
+-- whatever is a query's plan means the same over all tables
 abbrev pub PlansAgree : Type 0
 PlansAgree = (catalog : Catalog) (q : Query) (p other : Plan) (dims : List (List Row)) (rows : Numbered)
-    → Tells (Ok p) (planned catalog q)
-    → Tells (Ok other) (planned catalog q)
+    → IsAPlanOf catalog q p
+    → IsAPlanOf catalog q other
     → meaning p dims rows ≡ meaning other dims rows

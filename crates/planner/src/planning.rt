@@ -1,5 +1,6 @@
 //! Plans of queries.
-ghost use Rattle.std.specs.Prelude.{◌≡◌, IfOk, List, ℕ, Ok, true};
+ghost use Rattle.std.specs.Prelude.{◌≡◌, ◌≢◌, IfOk, List, [], ℕ, Ok, true};
+ghost use Rattle.meaning.specs.WellFormedPlan.{IsWellFormedPlan};
 ghost use Rattle.sql_syntax.specs.Canonical.{canonical};
 ghost use Rattle.sql_syntax.specs.Literals.{has_only_fitting_literals};
 ghost use Rattle.planner_expressions.specs.Results.{Tells};
@@ -19,16 +20,11 @@ use planner_expressions::from::scope_of;
 use planner_expressions::scope::Scope;
 use sql_syntax::print;
 use sql_syntax::tree::Query;
-use std::alloc::{AllocError, Global};
+use std::alloc::Global;
 
-fn plan_from(
-    text: Result<Text, AllocError>,
-    query: &Query,
-    tables: Tables,
-    groups: Grouped,
-) -> Result<Plan, PlanFault>
-    requires { IfOk text (λ t. t ≡ canonical query.now) }
-    ensures { Tells result (Ok (plan_with query.now tables groups)) }
+fn plan_from(text: Text, query: &Query, tables: Tables, groups: Grouped) -> Plan
+    requires { text ≡ canonical query.now }
+    ensures { result ≡ plan_with query.now tables groups }
 {
     let Tables {
         fact,
@@ -46,29 +42,34 @@ fn plan_from(
         having,
         order,
     } = shown;
-    match text {
-        Ok(text) => Ok(Plan {
-            text,
-            fact,
-            joins,
-            conjuncts,
-            keys,
-            aggs,
-            having,
-            items,
-            order,
-            limit: query.limit,
-            plain,
-        }),
+    Plan {
+        text,
+        fact,
+        joins,
+        conjuncts,
+        keys,
+        aggs,
+        having,
+        items,
+        order,
+        limit: query.limit,
+        plain,
+    }
+}
+
+fn plan_with_text(
+    alloc: Global,
+    query: &Query,
+    tables: Tables,
+    groups: Grouped,
+) -> Result<Plan, PlanFault>
+    ensures { Tells result (Ok (plan_with query.now tables groups)) }
+{
+    match print(alloc, query) {
+        Ok(text) => Ok(plan_from(text, query, tables, groups)),
         Err(_) => {
-            drop(fact);
-            drop(joins);
-            drop(conjuncts);
-            drop(keys);
-            drop(aggs);
-            drop(items);
-            drop(having);
-            drop(order);
+            drop(tables);
+            drop(groups);
             Err(PlanFault::Memory)
         }
     }
@@ -83,7 +84,7 @@ fn plan_in(alloc: Global, fact: &Text, scope: &Scope, query: &Query) -> Result<P
     }
     match tables_of(alloc, scope, query, fact) {
         Ok(tables) => match groups_of(alloc, scope, query) {
-            Ok(groups) => plan_from(print(alloc, query), query, tables, groups),
+            Ok(groups) => plan_with_text(alloc, query, tables, groups),
             Err(e) => {
                 drop(tables);
                 Err(e)
@@ -107,14 +108,18 @@ fn plan_told(alloc: Global, catalog: &Catalog, query: &Query) -> Result<Plan, Pl
 }
 
 /// The plan of a query over the tables of a catalogue, or its first fault.
-#[tactic(auto, using(crate::proofs::PlansMean::means_told, crate::proofs::TypedPlans::typed_told))]
+#[tactic(auto, using(crate::proofs::PlansMean::means_told, crate::proofs::TypedPlans::typed_told, crate::proofs::WellFormedPlans::planned_told))]
 pub fn plan(alloc: Global, catalog: &Catalog, query: &Query) -> Result<Plan, PlanFault>
     // It is the plan that is defined, or exactly the first fault, unless memory is wanting.
     ensures told { Tells result (planned catalog.now query.now) }
+    // A plan that is given is the defined one.
+    ensures defined { IfOk result (λ p. planned catalog.now query.now ≡ Ok p) }
     // A plan is the query's.
     ensures means { IfOk result (λ p. IsAPlanOf catalog.now query.now p) }
     // The plan of a query whose literals fit is typed.
     ensures typed { IfOk result (λ p. has_only_fitting_literals query.now ≡ true → IsTypedOver catalog.now p) }
+    // The plan of a query that shows something and whose literals fit lists each column that it names.
+    ensures formed { IfOk result (λ p. has_only_fitting_literals query.now ≡ true → query.now.items ≢ [] → IsWellFormedPlan p) }
 {
     plan_told(alloc, catalog, query)
 }

@@ -11,3 +11,4 @@ pub mod From
 pub mod Uses
 pub mod Meant
 pub mod Typed
+pub mod Alike

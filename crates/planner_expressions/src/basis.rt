@@ -52,10 +52,7 @@ pub fn column_of<'a>(scope: &'a Scope, expr: &tree::Expr) -> Option<&'a Place>
 fn row_given(scope: &Scope, expr: &tree::Expr) -> Option<Expr>
     ensures { result ≡ option_map place_of (column_meant scope.now expr.now) }
 {
-    match column_of(scope, expr) {
-        Some(place) => Some(expr_at(place)),
-        None => None,
-    }
+    column_of(scope, expr).map(expr_at)
 }
 
 fn found_in_group(

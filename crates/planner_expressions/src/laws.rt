@@ -1,4 +1,5 @@
 //! Theorems on the definitions: each is the contract of a function that does nothing.
+ghost use Rattle.planner_expressions.specs.Alike.{SpelledAlike, SpelledMean, SpelledTranslate, SpelledSorts};
 ghost use Rattle.planner_expressions.specs.Meant.{RowsMean, GroupsMean, RowsTranslate};
 ghost use Rattle.planner_expressions.specs.Typed.{RowsAreTyped, ScopesAreTables};
 
@@ -25,4 +26,24 @@ pub fn rows_are_typed()
 /// The columns of FROM stand at their places in the catalogue's tables, with their types.
 pub fn scopes_are_tables()
     ensures { ScopesAreTables }
+{}
+
+/// Trees that are spelled alike are equal once their names are looked up.
+pub fn spelled_trees_are_equal()
+    ensures { SpelledAlike }
+{}
+
+/// Trees that are spelled alike give the same on every row.
+pub fn spelled_trees_mean()
+    ensures { SpelledMean }
+{}
+
+/// Trees that are spelled alike have one expression over rows.
+pub fn spelled_trees_translate()
+    ensures { SpelledTranslate }
+{}
+
+/// Trees that are spelled alike are of one sort.
+pub fn spelled_trees_have_sorts()
+    ensures { SpelledSorts }
 {}

@@ -1,8 +1,11 @@
 -- The laws.
-use Rattle.std.proofs.Common.{◌≡◌, ℕ, zero, suc, ◌+◌, ◌-◌, ◌≤◌, ◌<◌, min, true, List, [], ◌∷◌, ◌++◌, get_or, length, map, refl, ap, sym, subst, ◌∙◌, append_assoc, arith}
-use Rattle.std.specs.Prelude.{flat_map, All}
+use Rattle.std.proofs.Common.{◌≡◌, ℕ, zero, suc, ◌+◌, ◌-◌, ◌≤◌, ◌<◌, min, true, false, List, [], ◌∷◌, ◌++◌, get_or, length, map, refl, ap, sym, subst, ◌∙◌, append_assoc, arith}
+use Rattle.std.specs.Prelude.{flat_map, sum, nat_lt, if◌then◌else◌, All}
+use Rattle.std.proofs.lemmas.Bool.{ltb-false}
+use Rattle.meaning.specs.Limits.{row_group_rows}
 use Rattle.std.specs.List.{range_with_len}
-use Rattle.std.proofs.lemmas.List.{map-append}
+use Rattle.std.proofs.lemmas.List.{length-append, length-map, map-append}
+use Rattle.std.proofs.lemmas.List.Sums.{sum_by-cons}
 use Rattle.meaning.specs.declared.outcome.Truth.TheVariants.{True, False, Unknown}
 use Rattle.meaning.specs.declared.outcome.Outcome.{Outcome}
 use Rattle.meaning.specs.declared.outcome.Outcome.TheVariants as gives
@@ -15,13 +18,14 @@ use Rattle.fragment_file.specs.Fragment.{AreBlocks, AreGroups, group_sizes, no_b
 use Rattle.fragment_file.specs.View.{rows_of}
 use Rattle.scan_select.specs.Pieces.{sizes, pieces_at, pieces_of, pieces, row_in, rows_in, rows_of_piece}
 use Rattle.scan_select.specs.Selected.{behind, conditions, filter_of}
-use Rattle.scan_select.specs.Laws.{BatchesAreRows, RowsAreColumns, ConditionsJudge}
+use Rattle.scan_select.specs.Laws.{BatchesAreRows, RowsAreColumns, RowsAreCounted, ConditionsJudge}
 use Rattle.meaning.specs.declared.catalog.Column.{Column}
 use Rattle.meaning.specs.declared.value.Value.TheVariants.{Null}
 use Rattle.std.proofs.lemmas.List.FromFn.{get_or-range_with_len, length-range_with_len}
 use Rattle.std.proofs.lemmas.Simd.{pick_l_whole}
 use Rattle.scan_select.proofs.Rows.{column_of_row, length-values}
 use Rattle.scan_select.proofs.Sizes.{sizes_end, sizes_step}
+use Rattle.fragment_file.proofs.Sizes.{first_size, sizes_end as group_sizes_end, sizes_step as group_sizes_step}
 
 pub conditions_judge : ConditionsJudge
 conditions_judge [] row = refl
@@ -110,6 +114,45 @@ groups_column cs (n ∷ ns) (g ∷ gs) j are below =
 
 pub rows_are_columns : RowsAreColumns
 rows_are_columns f j is below = groups_column f.header.columns (group_sizes f.header.rows) f.groups j is.groups below
+
+-- ---- how many rows
+
+first_size_within : (left : ℕ) → 0 < left → (0 < first_size left) × (first_size left ≤ left)
+first_size_within left some =
+    elim (nat_lt left row_group_rows) as (λ b. nat_lt left row_group_rows ≡ b → (0 < (if b then left else row_group_rows)) × ((if b then left else row_group_rows) ≤ left)) [
+      | true ↦ λ e. (some, omega arith)
+      | false ↦ λ e. (omega arith, ltb-false _ _ e)
+    ] refl
+
+group_sum : (fuel rows : ℕ) → rows ≤ fuel → sum (group_sizes rows) ≡ rows
+group_sum fuel zero enough = ap (λ (ns : List ℕ). sum ns) group_sizes_end
+group_sum zero (suc rows) enough = absurd (omega (arith, enough))
+group_sum (suc fuel) (suc rows) enough =
+    let size = first_size (suc rows) in
+    let bound = first_size_within (suc rows) (omega arith) in
+    let low = bound.0 in
+    let high = bound.1 in
+    let rest = group_sum fuel (suc rows - size) (omega (arith, enough, low)) in
+    let parts = sum_by-cons (λ (n : ℕ). n) size (group_sizes (suc rows - size)) in
+    ap (λ (ns : List ℕ). sum ns) (group_sizes_step (suc rows) (omega arith)) ∙ omega (arith, rest, parts, low, high)
+
+groups_counted : (cs : List Column) (sizes : List ℕ) (groups : List (List Block)) → AreGroups cs sizes groups → 0 < length cs → length (flat_map rows_in groups) ≡ sum sizes
+groups_counted cs [] [] are some = refl
+groups_counted cs [] (g ∷ gs) are some = absurd are
+groups_counted cs (n ∷ ns) [] are some = absurd are
+groups_counted cs (n ∷ ns) (g ∷ gs) are some =
+    let rest = groups_counted cs ns gs are.1 some in
+    let rows = rows_are cs n g are.0 some in
+    let here = length-map (range_with_len 0 (rows_of g)) (row_in g) in
+    let range = length-range_with_len 0 (rows_of g) in
+    let both = length-append (rows_in g) (flat_map rows_in gs) in
+    let parts = sum_by-cons (λ (n : ℕ). n) n ns in
+    omega (arith, rest, rows, here, range, both, parts)
+
+pub rows_are_counted : RowsAreCounted
+rows_are_counted f is =
+    let some = is.header.some in
+    groups_counted f.header.columns (group_sizes f.header.rows) f.groups is.groups (omega (arith, some)) ∙ group_sum f.header.rows f.header.rows (omega arith)
 
 -- ---- places
 

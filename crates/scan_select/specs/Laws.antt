@@ -8,7 +8,7 @@ use Rattle.meaning.specs.Order.{column}
 use Rattle.meaning.specs.Typing.{RowTypes, is_of_type}
 use Rattle.encodings.specs.Block.{Block}
 use Rattle.fragment_file.specs.declared.header.Header.{Header}
-use Rattle.fragment_file.specs.Fragment.{FragmentSpec, IsFragment, column_values}
+use Rattle.fragment_file.specs.Fragment.{AreTypedColumns, FragmentSpec, IsFragment, column_values}
 use Rattle.vectors.specs.Vector.{BatchSpec}
 use Rattle.primitives.specs.Fitting.{AreTypedRows}
 use Rattle.scan_select.specs.Pieces.{Piece, pieces, rows_in, rows_of_piece}
@@ -32,9 +32,9 @@ ConditionsJudge = (cs : List Expr) (row : JoinedRow) → filtered cs row ≡ fil
 abbrev pub header_types : Header → RowTypes
 header_types h = record { fact = map (λ c. c.col_type) h.columns; joins = []; key = []; aggregates = [] }
 
--- each column of a file has values of its type
-abbrev pub AreTypedColumns : FragmentSpec → Type 0
-AreTypedColumns f = (j : ℕ) (c : Column) → slice_get f.header.columns j ≡ Some c → All (λ v. is_of_type c.col_type v ≡ true) (column_values j f.groups)
+-- a file has as many rows as its header tells
+abbrev pub RowsAreCounted : Type 0
+RowsAreCounted = (f : FragmentSpec) → IsFragment f → length (flat_map rows_in f.groups) ≡ f.header.rows
 
 -- in a batch of a file whose columns have values of their types, columns and rows are of the types that the header tells
 abbrev pub BatchesAreTyped : Type 0

@@ -1,5 +1,5 @@
 //! Laws on scans and conditions, each the contract of a function that does nothing.
-ghost use Rattle.scan_select.specs.Laws.{BatchesAreRows, BatchesAreTyped, ConditionsJudge, RowsAreColumns};
+ghost use Rattle.scan_select.specs.Laws.{BatchesAreRows, BatchesAreTyped, ConditionsJudge, RowsAreColumns, RowsAreCounted};
 
 /// The rows of all batches, one after the other, are the rows of all row groups.
 pub fn batches_are_rows()
@@ -9,6 +9,11 @@ pub fn batches_are_rows()
 /// The rows of a file's row groups have in each column what the file's column holds.
 pub fn rows_are_columns()
     ensures { RowsAreColumns }
+{}
+
+/// A file has as many rows as its header tells.
+pub fn rows_are_counted()
+    ensures { RowsAreCounted }
 {}
 
 /// A batch of a file whose columns have values of their types fits these types, as evaluation asks.

@@ -3,3 +3,5 @@ pub mod Tables
 pub mod CompleteQuery
 pub mod SoundQuery
 pub mod Answering
+pub mod TextLengths
+pub mod FittingLiterals

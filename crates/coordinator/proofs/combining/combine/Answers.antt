@@ -1,15 +1,24 @@
 -- Proofs of the goals of `combine` (`combining`).
-use Rattle.std.proofs.Common.{◌≡◌, IfOk, sym, subst, ◌∙◌}
+use Rattle.std.proofs.Common.{◌≡◌, IfOk, sym, ap, subst, ◌∙◌}
 use Rattle.meaning.specs.Said.{Body}
-use Rattle.coordinator.proofs.Combined.{combined-single}
-use Rattle.coordinator.proofs.Fitting.{tallies_of_fragments}
+use Rattle.meaning.specs.declared.answer.Body.TheVariants.{Groups}
+use Rattle.meaning.specs.Group.{merged_groups}
+use Rattle.last_step.specs.Printing.{ShowsSomething}
+use Rattle.coordinator.specs.Merging.{all_groups}
+use Rattle.coordinator.proofs.Merging.{cells_mergeable, combined-groups, combined_shows}
 use Rattle.coordinator.proofs.combining.combine.Goals as goal
 
-pub tally_of_cells-requires : goal.tally_of_cells-requires
-tally_of_cells-requires c = tallies_of_fragments c.args.plan.now c.args.cut.now c.args.cells.now c.requires.single c.lengths-lengths.ensures.within_limits c.requires.fitting
+pub merge_groups-requires : goal.merge_groups-requires
+merge_groups-requires c = cells_mergeable c.args.plan.now c.args.cut.now c.args.cells.now c.lengths-lengths.ensures.within_limits c.requires.each c.requires.fitting
 
-pub returns-in-None-clause-value : goal.returns-in-None-clause-value
-returns-in-None-clause-value c =
-    let t = c.tally_of_cells.result in
-    let same = combined-single c.args.plan.now c.args.cut.now c.args.cells.now c.requires.single c.lengths-lengths.ensures.within_limits c.requires.fitting (sym c.least_fault.ensures ∙ c.in-None.is) t c.tally_of_cells.ensures.value in
-    subst (λ (whole : Body). IfOk c.body_of_tally.result (λ b. b ≡ whole)) (sym same) c.body_of_tally.ensures
+-- the groups that are handed out
+are : (c : goal.In_ok-into_groups-in-None) → c.in_ok-into_groups-in-None.field-0 ≡ merged_groups c.args.plan.now (all_groups c.args.cells.now)
+are c = c.in_ok-into_groups-in-None.ensures.value ∙ c.in_ok-merge_groups-in-None.ensures
+
+pub returns-in_ok-into_groups-in-None-clause-value : goal.returns-in_ok-into_groups-in-None-clause-value
+returns-in_ok-into_groups-in-None-clause-value c =
+    ap Groups (are c) ∙ sym (combined-groups c.args.plan.now c.args.cells.now (sym c.least_fault.ensures ∙ c.in-None.is))
+
+pub returns-in_ok-into_groups-in-None-clause-shows : goal.returns-in_ok-into_groups-in-None-clause-shows
+returns-in_ok-into_groups-in-None-clause-shows c = λ shown. subst (ShowsSomething c.args.plan.now) (sym (are c))
+    (combined_shows c.args.plan.now c.args.cut.now c.args.cells.now c.lengths-lengths.ensures.within_limits c.requires.fitting shown)

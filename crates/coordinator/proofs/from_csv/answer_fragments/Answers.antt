@@ -10,6 +10,7 @@ use Rattle.meaning.specs.Gather.{joined}
 use Rattle.meaning.specs.Laws.{own_answers}
 use Rattle.partial_codec.specs.Job.{JobSpec}
 use Rattle.coordinator.specs.Fragment.{AreFragments}
+use Rattle.coordinator.specs.Single.{IsSingle}
 use Rattle.coordinator.proofs.FragmentColumns.{rows_at, as_many, is_fragment}
 use Rattle.coordinator.proofs.Fragments.{own-own_rows}
 use Rattle.coordinator.proofs.Slices.{own_answers_to_next}
@@ -19,6 +20,9 @@ pub bounds-fragments-k : goal.bounds-fragments-k
 bounds-fragments-k c =
     let (declared, rows, are) = c.requires.fragments in
     omega (arith, c.loop-k-test.true, as_many c.args.gather.now.job.plan declared rows c.args.lengths.now c.args.fragments.now are)
+
+pub answer_one-requires-clause-single : goal.answer_one-requires-clause-single
+answer_one-requires-clause-single c = subst (λ (j : JobSpec). IsSingle j.plan) (sym c.loop-k.invariant.0) c.requires.single
 
 pub answer_one-requires-clause-fragment : goal.answer_one-requires-clause-fragment
 answer_one-requires-clause-fragment c =

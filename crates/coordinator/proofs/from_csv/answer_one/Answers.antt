@@ -5,7 +5,11 @@ use Rattle.meaning.specs.Answer.{own_body}
 use Rattle.partial_codec.specs.Job.{JobSpec}
 use Rattle.partial_codec.specs.Answer.{Spells}
 use Rattle.coordinator.specs.Fragment.{IsFragmentFor}
+use Rattle.coordinator.specs.Single.{IsSingle}
 use Rattle.coordinator.proofs.from_csv.answer_one.Goals as goal
+
+pub answer_bytes-requires-clause-single : goal.answer_bytes-requires-clause-single
+answer_bytes-requires-clause-single c = subst (λ (j : JobSpec). IsSingle j.plan) (sym c.job.ensures.value) c.requires.single
 
 pub returns-in-Ok-clause-taken : goal.returns-in-Ok-clause-taken
 returns-in-Ok-clause-taken c answers declared rows first is before =

@@ -3,11 +3,12 @@ use Rattle.std.proofs.Common.{List, ℕ, Result, Ok, Err, sym, ◌∙◌}
 use Rattle.std.specs.Prelude.{IfOk}
 use Rattle.fragment_file.specs.declared.fault.FileFault.{FileFault}
 use Rattle.fragment_file.specs.declared.fault.FileFault.TheVariants.{Memory}
-use Rattle.fragment_file.specs.Fragment.{FragmentSpec, IsFileOf}
+use Rattle.fragment_file.specs.Fragment.{AreTypedColumns, FragmentSpec, IsFileOf}
 use Rattle.fragment_file.specs.FragmentReading.{read_fragment}
 use Rattle.wire.specs.Reading.{ReadsIfMemory}
 use Rattle.wire.proofs.Numbers.{IsBytes}
 use Rattle.fragment_file.proofs.FileLaws.{file_takes, file_again}
+use Rattle.fragment_file.proofs.TypedValues.{file_typed}
 use Rattle.fragment_file.proofs.ReadFaults.{fragment_told, told_by}
 use Rattle.fragment_file.proofs.opening.open.Goals as goal
 
@@ -27,3 +28,10 @@ returns-clause-complete c = λ f is. is_given c.args.bytes.now f c.read.result i
 
 pub returns-clause-told : goal.returns-clause-told
 returns-clause-told c = told_by (λ v. v) c.read.result _ c.read.ensures (fragment_told c.args.bytes.now)
+
+is_typed : (bytes : List ℕ) (r : Result FragmentSpec FileFault) → IsBytes bytes → ReadsIfMemory Memory (λ v. v) r (read_fragment bytes) → IfOk r (λ v. AreTypedColumns v)
+is_typed bytes (Ok v) ok read = file_typed bytes v ok (file_takes bytes v ok read)
+is_typed bytes (Err e) ok read = tt
+
+pub returns-clause-typed : goal.returns-clause-typed
+returns-clause-typed c = is_typed c.args.bytes.now c.read.result (λ i. (c.type_inv.bytes i).fits) c.read.ensures

@@ -1,6 +1,0 @@
--- Loop invariants of `are_same_columns` (`same_job`).
-use Rattle.std.proofs.Common.{◌≡◌, take}
-use Rattle.coordinator.proofs.same_job.are_same_columns.Given as goal
-
-abbrev pub invariant-loop-i : goal.invariant-loop-i
-invariant-loop-i l = take l.i l.a ≡ take l.i l.b

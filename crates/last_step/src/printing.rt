@@ -1,0 +1,166 @@
+//! A header and rows as comma-separated values.
+ghost use Rattle.std.specs.Prelude.{◌≡◌, ◌≢◌, ◌++◌, ◌∷◌, [], map, OnOk};
+ghost use Rattle.std.specs.Io.KnownBytes.{Appends};
+ghost use Rattle.csv.specs.Records.{fields_of, partial_of};
+ghost use Rattle.csv.specs.Writing.{text_written};
+ghost use Rattle.meaning.specs.Print.{record_text, rows_text, value_text};
+ghost use Rattle.last_step.specs.Printing.{HasFields, IsBetween};
+
+use crate::lent::Lent;
+use crate::print_fault::PrintFault;
+use csv::{ByteRecord, Writer, WriterBuilder};
+use itoa::Buffer;
+use meaning::plan::{Item, Plan};
+use meaning::value::{Row, Value};
+use std::alloc::{AllocError, Global};
+use std::io::Write;
+use std::mem::drop;
+
+/// Prints the header and the rows as comma-separated values. NULL is `\N`.
+///
+/// # Errors
+///
+/// How much went out is open.
+pub fn print_rows<W: Write>(
+    alloc: Global,
+    plan: &Plan,
+    rows: &[Row],
+    out: &mut W,
+) -> Result<(), PrintFault>
+    requires { HasFields plan.now rows.now }
+    ensures { OnOk result (Appends (W.contents out.old) (W.contents out.new) (rows_text plan.now rows.now)) }
+{
+    let mut writer = WriterBuilder::new()
+        .flexible(true)
+        .from_writer(Lent { out });
+    match write_rows(alloc, &mut writer, plan, rows) {
+        Ok(()) => {}
+        Err(fault) => {
+            drop(writer);
+            return Err(fault);
+        }
+    }
+    match writer.into_inner() {
+        Ok(Lent { out }) => {
+            // No effect at run time. The proof reads what `out` holds from this use of it.
+            let _ = &*out;
+            Ok(())
+        }
+        Err(fault) => Err(PrintFault::from(fault.into_error())),
+    }
+}
+
+fn write_rows<W: Write + Drop>(
+    alloc: Global,
+    writer: &mut Writer<W>,
+    plan: &Plan,
+    rows: &[Row],
+) -> Result<(), PrintFault>
+    requires before { IsBetween writer.old }
+    requires shown { HasFields plan.now rows.now }
+    ensures { OnOk result (Appends (text_written W.contents writer.old) (text_written W.contents writer.new)
+        (rows_text plan.now rows.now)) }
+{
+    let mut fields = ByteRecord::new(alloc);
+    let written = write_records(writer, &mut fields, plan, rows);
+    drop(fields);
+    written
+}
+
+/// `fields` is room for the fields of one record.
+fn write_records<W: Write + Drop>(
+    writer: &mut Writer<W>,
+    fields: &mut ByteRecord,
+    plan: &Plan,
+    rows: &[Row],
+) -> Result<(), PrintFault>
+    requires before { IsBetween writer.old }
+    requires shown { HasFields plan.now rows.now }
+    ensures { OnOk result (Appends (text_written W.contents writer.old) (text_written W.contents writer.new)
+        (rows_text plan.now rows.now)) }
+{
+    write_header(writer, fields, plan.items.as_slice())?;
+    for row in rows {
+        write_row(writer, fields, row.as_slice())?;
+    }
+    Ok(())
+}
+
+/// `fields` is room for the fields of one record.
+fn write_header<W: Write + Drop>(
+    writer: &mut Writer<W>,
+    fields: &mut ByteRecord,
+    items: &[Item],
+) -> Result<(), PrintFault>
+    requires before { IsBetween writer.old }
+    requires shown { items.now ≢ [] }
+    ensures behind { OnOk result (IsBetween writer.new) }
+    ensures text { OnOk result (Appends (text_written W.contents writer.old) (text_written W.contents writer.new)
+        (record_text (map (λ i. i.header) items.now))) }
+{
+    fill_with_headers(fields, items)?;
+    write_record(writer, fields)?;
+    Ok(())
+}
+
+/// `fields` is room for the fields of one record.
+fn write_row<W: Write + Drop>(
+    writer: &mut Writer<W>,
+    fields: &mut ByteRecord,
+    row: &[Value],
+) -> Result<(), PrintFault>
+    requires before { IsBetween writer.old }
+    requires shown { row.now ≢ [] }
+    ensures behind { OnOk result (IsBetween writer.new) }
+    ensures text { OnOk result (Appends (text_written W.contents writer.old) (text_written W.contents writer.new)
+        (record_text (map value_text row.now))) }
+{
+    fill_with_values(fields, row)?;
+    write_record(writer, fields)?;
+    Ok(())
+}
+
+fn write_record<W: Write + Drop>(
+    writer: &mut Writer<W>,
+    fields: &ByteRecord,
+) -> Result<(), csv::Error>
+    requires before { IsBetween writer.old }
+    requires shown { fields_of fields.now ≢ [] }
+    ensures behind { OnOk result (IsBetween writer.new) }
+    ensures text { OnOk result (Appends (text_written W.contents writer.old) (text_written W.contents writer.new)
+        (record_text (fields_of fields.now))) }
+{
+    writer.write_byte_record(fields)
+}
+
+fn fill_with_headers(fields: &mut ByteRecord, items: &[Item]) -> Result<(), AllocError>
+    ensures { OnOk result (fields_of fields.new ≡ map (λ i. i.header) items.now) }
+{
+    fields.clear();
+    for item in items {
+        fields.push_field(item.header.as_bytes())?;
+    }
+    Ok(())
+}
+
+fn fill_with_values(fields: &mut ByteRecord, row: &[Value]) -> Result<(), AllocError>
+    ensures { OnOk result (fields_of fields.new ≡ map value_text row.now) }
+{
+    fields.clear();
+    for value in row {
+        push_value(fields, value)?;
+    }
+    Ok(())
+}
+
+fn push_value(fields: &mut ByteRecord, value: &Value) -> Result<(), AllocError>
+    requires { partial_of fields.old ≡ [] }
+    ensures fields { OnOk result (fields_of fields.new ≡ fields_of fields.old ++ value_text value.now ∷ []) }
+    ensures partial { OnOk result (partial_of fields.new ≡ []) }
+{
+    match value {
+        Value::Null => fields.push_field(b"\\N"),
+        Value::Int(n) => fields.push_field(Buffer::new().format(*n).as_bytes()),
+        Value::Text(text) => fields.push_field(text.as_bytes()),
+    }
+}

@@ -1,0 +1,6 @@
+-- Loop invariants of `are_same_aggregates` (`plans`).
+use Rattle.std.proofs.Common.{◌≡◌, take}
+use Rattle.plan_equality.proofs.plans.are_same_aggregates.Given as goal
+
+abbrev pub invariant-loop-i : goal.invariant-loop-i
+invariant-loop-i l = take l.i l.a ≡ take l.i l.b

@@ -1,0 +1,6 @@
+-- Loop invariants of `are_same_keys` (`plans`).
+use Rattle.std.proofs.Common.{◌≡◌, take}
+use Rattle.plan_equality.proofs.plans.are_same_keys.Given as goal
+
+abbrev pub invariant-loop-i : goal.invariant-loop-i
+invariant-loop-i l = take l.i l.a ≡ take l.i l.b

@@ -1,0 +1,259 @@
+-- A join equality compares two columns of FROM that the query names, of one type.
+use Rattle.std.proofs.Common.{rules, ◌≡◌, ℕ, zero, suc, ◌+◌, ◌<◌, ◌==◌, inl, Bool, true, false, ◌&&◌, List, [], ◌∷◌, map, filter, length, cond, Option, Some, None, option_to_list, slice_get, Result, Ok, Err, refl, ap, subst, sym, ◌∙◌, arith}
+use Rattle.std.specs.List.{list_all, enumerate_from, AllByRecursion}
+use Rattle.std.specs.Option.{is_none}
+use Rattle.meaning.specs.Results.{all_ok, and_then, with_result}
+use Rattle.meaning.specs.declared.plan.Join.{Join}
+use Rattle.meaning.specs.declared.plan.TableUse.{TableUse}
+use Rattle.meaning.specs.declared.value.ColType.{ColType}
+use Rattle.meaning.specs.declared.value.ColType.TheVariants as of_type
+use Rattle.meaning.proofs.Tests.{first_of as left_of, second_of as right_of}
+use Rattle.sql_syntax.specs.declared.tree.Arm.{Arm}
+use Rattle.sql_syntax.specs.declared.tree.Comparison.TheVariants as comparison
+use Rattle.sql_syntax.specs.declared.tree.Expr.{Expr}
+use Rattle.sql_syntax.specs.declared.tree.Expr.TheOpen as node
+use Rattle.sql_syntax.specs.declared.tree.Expr.TheOpen.{Expr-F}
+use Rattle.sql_syntax.specs.declared.tree.Expr.TheFolds.{the_lemmas, map-Expr}
+use Rattle.sql_syntax.specs.declared.tree.Expr.TheViews.{out-Expr}
+use Rattle.sql_syntax.specs.declared.tree.Query.{Query}
+use Rattle.planner_expressions.specs.declared.fault.PlanFault.{PlanFault}
+use Rattle.planner_expressions.specs.declared.scope.Dim.{Dim}
+use Rattle.planner_expressions.specs.declared.scope.Place.{Place}
+use Rattle.planner_expressions.specs.declared.scope.Scope.{Scope}
+use Rattle.planner_expressions.specs.declared.sort.Sort.{Sort}
+use Rattle.planner_expressions.specs.declared.sort.Sort.TheVariants.{Truth}
+use Rattle.planner_expressions.specs.Given.{column_meant, node_column}
+use Rattle.planner_expressions.specs.Judged.{Told, Judgement, judge_node, judged, judged_arm, typed}
+use Rattle.planner_expressions.specs.Scope.{meant, one_of, found}
+use Rattle.planner_expressions.specs.Sorts.{sort_of_type, same_sort, is_value, are_alike}
+use Rattle.planner_expressions.specs.Uses.{names, names_arm, names_node}
+use Rattle.planner_expressions.proofs.Accepted.{goes_there}
+use Rattle.planner_expressions.proofs.TypedRows.{both_sorts, typed_is, same_is}
+use Rattle.planner.specs.declared.conjuncts.Equality.{Equality}
+use Rattle.planner.specs.Conjuncts.{joined_by, keyed, first_there, equality_of, node_equality, join_equality, one_equality, joins_dim, equality_for}
+use Rattle.planner.specs.Planned.{join_of, is_read, table_use, use_of}
+use Rattle.planner.specs.PlanOf.{equalities_among}
+use Rattle.planner_expressions.proofs.Among.{Among, filter_among}
+use Rattle.planner.proofs.Conditions.{AreFine}
+use Rattle.planner.proofs.NamedParts.{Named, Covers, AllCovered, left, right}
+use Rattle.planner_expressions.proofs.Columns.{stands_among}
+use Rattle.planner.proofs.TypedTrees.{both_all}
+
+front : {X : Type 0} (r : Result X PlanFault) (rs : Result (List X) PlanFault) (zs : List X) → with_result r rs ≡ Ok zs
+    → (x : X) × ((xs : List X) × (r ≡ Ok x) × (rs ≡ Ok xs) × (zs ≡ x ∷ xs))
+front (Err e) rs zs is = absurd cc
+front (Ok x) (Err e) zs is = absurd cc
+front (Ok x) (Ok xs) zs is = (x, (xs, refl, refl, cc))
+
+same_number : (m n : ℕ) → (m == n) ≡ true → m ≡ n
+same_number m n is = grind arith
+
+-- ---- types
+
+type_is : (a b : ColType) → sort_of_type a ≡ sort_of_type b → a ≡ b
+type_is of_type.Int of_type.Int is = refl
+type_is of_type.Int of_type.Text is = absurd cc
+type_is of_type.Text of_type.Int is = absurd cc
+type_is of_type.Text of_type.Text is = refl
+
+module _ (s : Scope) (wanted : Place → Bool) where
+  -- the join equality is between a column of the fact and one of a dimension, both wanted and of one type
+  pub record IsBetween (e : Equality) : Type 0 where
+    pub x : Place
+    pub k : Place
+    pub x_there : Among s.columns x
+    pub k_there : Among s.columns k
+    pub x_wanted : wanted x ≡ true
+    pub k_wanted : wanted k ≡ true
+    pub x_join : x.join ≡ None
+    pub k_join : k.join ≡ Some e.join
+    pub same : x.col_type ≡ k.col_type
+    pub foreign : e.foreign ≡ x.place
+    pub key : e.key ≡ k.place
+
+  abbrev pub AreBetween : List Equality → Type 0
+  AreBetween = AllByRecursion IsBetween
+
+  abbrev OneBetween : Option Equality → Type 0
+  OneBetween o = AreBetween (option_to_list o)
+
+  abbrev IsThere : Place → Type 0
+  IsThere p = Among s.columns p × (wanted p ≡ true)
+
+  no_join : (o : Option ℕ) → is_none o ≡ true → o ≡ None
+  no_join None is = refl
+  no_join (Some j) is = absurd cc
+
+  by_test : (x k : Place) (j : ℕ) (b : Bool) → k.join ≡ Some j → IsThere x → IsThere k → x.col_type ≡ k.col_type → (k.is_key && is_none x.join) ≡ b
+      → OneBetween (cond b (Some (record { join = j; foreign = x.place; key = k.place })) None)
+  by_test x k j true joined x_is k_is same is = (
+    record {
+      x = x;
+      k = k;
+      x_there = x_is.0;
+      k_there = k_is.0;
+      x_wanted = x_is.1;
+      k_wanted = k_is.1;
+      x_join = no_join x.join (right_of k.is_key (is_none x.join) is);
+      k_join = joined;
+      same = same;
+      foreign = refl;
+      key = refl;
+    },
+    tt,
+  )
+  by_test x k j false joined x_is k_is same is = tt
+
+  by_join : (x k : Place) (join : Option ℕ) → k.join ≡ join → IsThere x → IsThere k → x.col_type ≡ k.col_type → OneBetween (joined_by (k.is_key && is_none x.join) x k join)
+  by_join x k None joined x_is k_is same = tt
+  by_join x k (Some j) joined x_is k_is same = by_test x k j (k.is_key && is_none x.join) joined x_is k_is same refl
+
+  either_between : (a b : Option Equality) → OneBetween a → OneBetween b → OneBetween (first_there a b)
+  either_between (Some x) b first second = first
+  either_between None b first second = second
+
+  abbrev Stands : Option Place → Type 0
+  Stands o = (p : Place) → o ≡ Some p → IsThere p
+
+  of_places : (a b : Option Place) → Stands a → Stands b → ((x k : Place) → a ≡ Some x → b ≡ Some k → x.col_type ≡ k.col_type) → AreBetween (option_to_list (equality_of a b))
+  of_places (Some x) (Some k) first second alike =
+      either_between (keyed x k) (keyed k x) (by_join x k k.join refl (first x refl) (second k refl) (alike x k refl refl))
+      (by_join k x x.join refl (second k refl) (first x refl) (sym (alike x k refl refl)))
+  of_places (Some x) None first second alike = tt
+  of_places None b first second alike = tt
+
+  -- ---- names
+
+  abbrev named_at : Expr-F Expr Arm → Place → Bool
+  named_at x p = names_node p (map-Expr Expr Arm Bool Bool (names p) (names_arm p) x)
+
+  names_out : (e : Expr) (p : Place) → names p e ≡ named_at (out-Expr e) p
+  names_out e p = search (rules, the_lemmas)
+
+  abbrev judge_at : Expr-F Expr Arm → Told
+  judge_at x = judge_node s (map-Expr Expr Arm Judgement (Judgement × Judgement) (judged s) (judged_arm s) x) true
+
+  judged_out : (e : Expr) → judged s e true ≡ judge_at (out-Expr e)
+  judged_out e = search (rules, the_lemmas)
+
+  node_stands : (x : Expr-F Expr Arm) → Named wanted (named_at x) → Stands (node_column s x)
+  node_stands (node.Column table name) named p is = let there = stands_among s table name p is in (there.0, named p there.1)
+  node_stands _ named p is = absurd cc
+
+  tree_stands : (e : Expr) → Covers wanted e → Stands (column_meant s e)
+  tree_stands e covered = node_stands (out-Expr e) (λ p h. covered p (names_out e p ∙ h))
+
+  one_sort : (ps : List Place) (p : Place) → found (one_of ps) ≡ Some p → and_then (one_of ps) (λ q. Ok (sort_of_type q.col_type)) ≡ Ok (sort_of_type p.col_type)
+  one_sort [] p is = absurd cc
+  one_sort (q ∷ []) p is = let same : q ≡ p = cc in ap (λ (r : Place). Ok (sort_of_type r.col_type)) same
+  one_sort (q ∷ r ∷ ps) p is = absurd cc
+
+  node_sort : (x : Expr-F Expr Arm) (p : Place) → node_column s x ≡ Some p → judge_at x ≡ Ok (sort_of_type p.col_type)
+  node_sort (node.Column table name) p is = one_sort (meant s table name) p is
+  node_sort _ p is = absurd cc
+
+  tree_sort : (e : Expr) (p : Place) → column_meant s e ≡ Some p → judged s e true ≡ Ok (sort_of_type p.col_type)
+  tree_sort e p is = judged_out e ∙ node_sort (out-Expr e) p is
+
+  same_ok : (a b : Sort) → ◌≡◌ {A = Told} (Ok a) (Ok b) → a ≡ b
+  same_ok a b is = cc
+
+  -- two names that are compared are of one type
+  alike_types : (a b : Expr) (x k : Place) (j l z : Sort) → judged s a true ≡ Ok j → judged s b true ≡ Ok l → typed (are_alike (j ∷ l ∷ [])) Truth ≡ Ok z
+      → column_meant s a ≡ Some x → column_meant s b ≡ Some k → x.col_type ≡ k.col_type
+  alike_types a b x k j l z a_is b_is is x_is k_is =
+      let first : j ≡ sort_of_type x.col_type = same_ok j (sort_of_type x.col_type) (sym a_is ∙ tree_sort a x x_is) in
+      let second : l ≡ sort_of_type k.col_type = same_ok l (sort_of_type k.col_type) (sym b_is ∙ tree_sort b k k_is) in
+      let alike = (typed_is (are_alike (j ∷ l ∷ [])) Truth z is).0 in
+      let rest : list_all (same_sort j) (l ∷ []) ≡ true = right_of (is_value j) (list_all (same_sort j) (l ∷ [])) alike in
+      let here : same_sort j l ≡ true = left_of (same_sort j l) true rest in
+      type_is x.col_type k.col_type (sym first ∙ same_is j l here ∙ second)
+
+  node_between : (x : Expr-F Expr Arm) (z : Sort) → judge_at x ≡ Ok z → Named wanted (named_at x) → AreBetween (option_to_list (node_equality s x))
+  node_between (node.Compare comparison.Equal a b) z is named =
+      let sorts = both_sorts (judged s a true) (judged s b true) (λ j l. typed (are_alike (j ∷ l ∷ [])) Truth) z is in
+      of_places (column_meant s a) (column_meant s b)
+      (tree_stands a (left wanted (λ p. names p a) (λ p. names p b) named))
+      (tree_stands b (right wanted (λ p. names p a) (λ p. names p b) named))
+      (λ x k. alike_types a b x k sorts.0 sorts.1.0 z sorts.1.1 sorts.1.2 sorts.1.3)
+  node_between _ z is named = tt
+
+  pub all_between : (es : List Expr) → AreFine s es → AllCovered wanted es → AreBetween (equalities_among s es)
+  all_between [] fine covered = tt
+  all_between (e ∷ es) fine covered =
+      both_all IsBetween (option_to_list (join_equality s e)) (equalities_among s es)
+      (node_between (out-Expr e) fine.0.0 (sym (judged_out e) ∙ fine.0.1) (λ p h. covered.0 p (names_out e p ∙ h)))
+      (all_between es fine.1 covered.1)
+
+-- ---- joins
+
+module _ (s : Scope) (q : Query) (equalities : List Equality) where
+  -- the join of the dimension of FROM at this place, by its equality
+  pub record IsJoinAt (n : ℕ) (j : Join) : Type 0 where
+    pub equality : Equality
+    pub there : Among equalities equality
+    pub of_it : equality.join ≡ n
+    pub foreign : j.foreign ≡ equality.foreign
+    pub key : j.key ≡ equality.key
+    pub columns : j.dim.columns ≡ map use_of (filter (is_read q (Some n)) s.columns)
+
+  one_is : (es : List Equality) (e : Equality) → one_equality es ≡ Ok e → Among es e
+  one_is [] e is = absurd cc
+  one_is (x ∷ []) e is = let same : x ≡ e = cc in inl same
+  one_is (x ∷ y ∷ es) e is = absurd cc
+
+  made_join : (n : ℕ) (d : Dim) (j : Join) → join_of s q equalities (n, d) ≡ Ok j → IsJoinAt n j
+  made_join n d j is =
+      let e = goes_there (equality_for equalities n) (λ e. Ok (record { dim = table_use s q (Some n) d.name; foreign = e.foreign; key = e.key })) j is in
+      let there = filter_among (joins_dim n) equalities e.0 (one_is (filter (joins_dim n) equalities) e.0 e.1) in
+      let same : record { dim = table_use s q (Some n) d.name; foreign = e.0.foreign; key = e.0.key } ≡ j = join_is (table_use s q (Some n) d.name) e.0 j e.2 in
+      record {
+        equality = e.0;
+        there = there.0;
+        of_it = same_number e.0.join n there.1;
+        foreign = sym (ap (λ (x : Join). x.foreign) same);
+        key = sym (ap (λ (x : Join). x.key) same);
+        columns = sym (ap (λ (x : Join). x.dim.columns) same);
+      }
+    where
+      join_is : (t : TableUse) (e : Equality) (j : Join) → ◌≡◌ {A = Result Join PlanFault} (Ok (record { dim = t; foreign = e.foreign; key = e.key })) (Ok j) → record { dim = t; foreign = e.foreign; key = e.key } ≡ j
+      join_is t e j is = cc
+
+  -- the joins are those of the dimensions from this place on
+  abbrev pub AreJoinsFrom : ℕ → List Dim → List Join → Type 0
+  AreJoinsFrom n [] [] = Unit {0}
+  AreJoinsFrom n [] (j ∷ js) = ⊥
+  AreJoinsFrom n (d ∷ ds) [] = ⊥
+  AreJoinsFrom n (d ∷ ds) (j ∷ js) = IsJoinAt n j × AreJoinsFrom (n + 1) ds js
+
+  pub made_joins : (n : ℕ) (ds : List Dim) (js : List Join) → all_ok (map (join_of s q equalities) (enumerate_from n ds)) ≡ Ok js → AreJoinsFrom n ds js
+  made_joins n [] js is = let none : [] ≡ js = cc in subst (AreJoinsFrom n []) none tt
+  made_joins n (d ∷ ds) js is =
+      let parts = front (join_of s q equalities (n, d)) (all_ok (map (join_of s q equalities) (enumerate_from (n + 1) ds))) js is in
+      subst (AreJoinsFrom n (d ∷ ds)) (sym parts.1.3) (made_join n d parts.0 parts.1.1, made_joins (n + 1) ds parts.1.0 parts.1.2)
+
+  less : (i n : ℕ) → suc i < suc n → i < n
+  less i n is = omega (arith, is)
+
+  none_less : (i : ℕ) → i < 0 → ⊥
+  none_less i is = omega (arith, is)
+
+  plus_zero : (n : ℕ) → n ≡ n + 0
+  plus_zero n = grind arith
+
+  plus_next : (n i : ℕ) → (n + 1) + i ≡ n + suc i
+  plus_next n i = grind arith
+
+  pub join_at : (n : ℕ) (ds : List Dim) (js : List Join) (i : ℕ) → AreJoinsFrom n ds js → i < length ds → (j : Join) × (slice_get js i ≡ Some j) × IsJoinAt (n + i) j
+  join_at n [] js i are below = absurd (none_less i below)
+  join_at n (d ∷ ds) [] i are below = absurd are
+  join_at n (d ∷ ds) (j ∷ js) zero are below = (j, refl, subst (λ (m : ℕ). IsJoinAt m j) (plus_zero n) are.0)
+  join_at n (d ∷ ds) (j ∷ js) (suc i) are below =
+      let rest = join_at (n + 1) ds js i are.1 (less i (length ds) below) in
+      (rest.0, rest.1, subst (λ (m : ℕ). IsJoinAt m rest.0) (plus_next n i) rest.2)
+
+  pub all_joins : (P : Join → Type 0) (n : ℕ) (ds : List Dim) (js : List Join) → ((m : ℕ) (j : Join) → IsJoinAt m j → P j) → AreJoinsFrom n ds js → AllByRecursion P js
+  all_joins P n [] [] made are = tt
+  all_joins P n [] (j ∷ js) made are = absurd are
+  all_joins P n (d ∷ ds) [] made are = absurd are
+  all_joins P n (d ∷ ds) (j ∷ js) made are = (made n j are.0, all_joins P (n + 1) ds js made are.1)

@@ -1,0 +1,44 @@
+-- Trees that are spelled alike are equal once their names are looked up, and so they give the same and are of one sort.
+use Rattle.std.specs.Prelude.{◌≡◌, Bool, [], Some, None, option_map, Ok}
+use Rattle.meaning.specs.declared.joined_row.JoinedRow.{JoinedRow}
+use Rattle.sql_syntax.specs.declared.tree.Expr.{Expr}
+use Rattle.sql_syntax.specs.declared.tree.Expr.TheOpen as node
+use Rattle.sql_syntax.specs.declared.tree.Expr.TheVariants as tree
+use Rattle.planner_expressions.specs.declared.basis.Basis.TheVariants.{Rows}
+use Rattle.planner_expressions.specs.declared.scope.Place.{Place}
+use Rattle.planner_expressions.specs.declared.scope.Scope.{Scope}
+use Rattle.planner_expressions.specs.declared.sort.Sort.{Sort}
+use Rattle.planner_expressions.specs.Given.{column_meant, given_in}
+use Rattle.planner_expressions.specs.Judged.{judged}
+use Rattle.planner_expressions.specs.Meant.{eval_named}
+use Rattle.planner_expressions.specs.Spelled.{spelled}
+use Rattle.planner_expressions.specs.Translated.{translated}
+use Rattle.planner_expressions.specs.Trees.{Node, tree_over, replaced}
+
+-- a column's name behind that of its table
+abbrev pub full_name : Place → Expr
+full_name p = tree.Column (Some p.owner) p.name
+
+-- a node from its parts; a name that stands for no column is left out
+abbrev pub with_parts : Node Expr → Expr
+with_parts (node.Column table name) = tree.Column None []
+with_parts n = tree_over (λ e. e) n
+
+-- the tree with the full name of the column that it stands for in place of each name
+abbrev pub with_full_names : Scope → Expr → Expr
+with_full_names s = replaced (λ e. option_map full_name (column_meant s e)) with_parts
+
+abbrev pub SpelledAlike : Type 0
+SpelledAlike = (s : Scope) (a b : Expr) → spelled s a ≡ spelled s b → with_full_names s a ≡ with_full_names s b
+
+-- on every row they give the same
+abbrev pub SpelledMean : Type 0
+SpelledMean = (s : Scope) (a b : Expr) → spelled s a ≡ spelled s b → (r : JoinedRow) → eval_named s a r ≡ eval_named s b r
+
+-- they have one expression over rows
+abbrev pub SpelledTranslate : Type 0
+SpelledTranslate = (s : Scope) (a b : Expr) → spelled s a ≡ spelled s b → translated (given_in s Rows) a ≡ translated (given_in s Rows) b
+
+-- where the one has no fault, the other has none and is of its sort
+abbrev pub SpelledSorts : Type 0
+SpelledSorts = (s : Scope) (a b : Expr) (barred : Bool) (sort : Sort) → spelled s a ≡ spelled s b → judged s a barred ≡ Ok sort → judged s b barred ≡ Ok sort

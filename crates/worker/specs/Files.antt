@@ -1,0 +1,36 @@
+-- Which files a job names, and what they hold.
+use Rattle.std.specs.Prelude.{◌≡◌, ℕ, ◌==◌, nat_lt, Bool, true, false, ◌&&◌, List, length, flat_map, slice_get, slice_index, Option, Some, None}
+use Rattle.std.specs.List.{list_all}
+use Rattle.meaning.specs.declared.catalog.Column.{Column}
+use Rattle.meaning.specs.declared.plan.ColumnUse.{ColumnUse}
+use Rattle.meaning.specs.declared.plan.TableUse.{TableUse}
+use Rattle.meaning.specs.Cut.{first_row}
+use Rattle.meaning.specs.Order.{Row}
+use Rattle.meaning.specs.Typing.{same_type}
+use Rattle.wire.specs.Reading.{same_bytes}
+use Rattle.fragment_file.specs.declared.header.Header.{Header}
+use Rattle.fragment_file.specs.Fragment.{FragmentSpec}
+use Rattle.scan_select.specs.Pieces.{rows_in}
+use Rattle.partial_codec.specs.Job.{JobSpec}
+
+-- the rows of a file, row group by row group
+abbrev pub rows_of_file : FragmentSpec → List Row
+rows_of_file f = flat_map rows_in f.groups
+
+-- the column at the place has the name and the type
+abbrev pub is_column : ColumnUse → Option Column → Bool
+is_column u None = false
+is_column u (Some c) = same_bytes c.name u.name && same_type c.col_type u.col_type
+
+-- each column that the plan uses of a table is in its place
+abbrev pub has_columns : TableUse → Header → Bool
+has_columns table h = list_all (λ u. is_column u (slice_get h.columns u.place)) table.columns
+
+abbrev pub HasColumns : TableUse → Header → Type 0
+HasColumns table h = has_columns table h ≡ true
+
+-- the header of the job's fragment k: its load, the fact table's name, and the rows that the cut has there
+abbrev pub is_fragment_of : JobSpec → ℕ → Header → Bool
+is_fragment_of job k h =
+    nat_lt k (length job.cut) && ((h.load == job.load) && (same_bytes h.table job.plan.fact.name && ((h.fragment == k)
+    && ((h.first_row == first_row job.cut k) && (h.rows == slice_index job.cut k)))))

@@ -1,0 +1,5 @@
+-- The definitions of this crate.
+pub mod Fault
+pub mod Evaluated
+pub mod Files
+pub mod Work

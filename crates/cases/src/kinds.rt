@@ -40,6 +40,7 @@ fn tell_kind(
         "lanes" => lane_cases::tell(alloc, words, body),
         "evaluate" => expression_cases::tell(alloc, words, body),
         "agree" => expression_cases::tell_agreement(alloc, words, body),
+        "join" => join_cases::tell(alloc, words, body),
         "answer" => answers::tell(alloc, false, words, body),
         "state" => answers::tell(alloc, true, words, body),
         "gather" => gathers::tell(alloc, words, body, files),

@@ -1,6 +1,6 @@
 -- One expression, evaluated at the selected positions.
-use Rattle.std.proofs.Common.{◌≡◌, ℕ, ◌<◌, Bool, true, List, [], ◌∷◌, get_or, map, length, Option, Some, None, inl, inr, refl, ap, sym, subst, ◌∙◌, arith}
-use Rattle.std.specs.Prelude.{All, Result, Ok, Err, IfOk, ◌&&◌, nat_le}
+use Rattle.std.proofs.Common.{◌≡◌, ℕ, ◌<◌, true, List, [], ◌∷◌, get_or, map, length, inl, inr, refl, ap, sym, subst, ◌∙◌, arith}
+use Rattle.std.specs.Prelude.{nat_le}
 use Rattle.std.specs.List.{AllByRecursion}
 use Rattle.std.specs.Str.{is_utf8}
 use Rattle.std.proofs.lemmas.Bool.{and_parts}
@@ -10,7 +10,6 @@ use Rattle.meaning.specs.declared.value.ColType.{ColType}
 use Rattle.meaning.specs.declared.value.ColType.TheVariants as of_type
 use Rattle.meaning.specs.declared.value.Value.{Value}
 use Rattle.meaning.specs.declared.value.Value.TheVariants.{Null, Int, Text}
-use Rattle.meaning.specs.declared.outcome.Truth.TheVariants.{True}
 use Rattle.meaning.specs.declared.outcome.Truth.{Truth}
 use Rattle.meaning.specs.declared.outcome.Outcome.{Outcome}
 use Rattle.meaning.specs.declared.outcome.Outcome.TheVariants as gives
@@ -27,7 +26,7 @@ use Rattle.vectors.specs.Vector.{BatchSpec, outcomes_of}
 use Rattle.vectors.specs.declared.vector.Vector.{Vector}
 use Rattle.vectors.specs.declared.vector.Vector.TheVariants as vector
 use Rattle.vector_operators.specs.Evaluated.{Held, IsBefore, Evaluates, lane_of}
-use Rattle.vector_operators.specs.Given.{IsOfType, type_of_lanes}
+use Rattle.vector_operators.specs.Given.{IsOfType}
 use Rattle.primitives.specs.Fitting.{AreTypedRows, Fits}
 use Rattle.primitives.specs.Meant.{meant_at, row_at}
 use Rattle.scan_select.proofs.Rows.{all_at}

@@ -1,42 +1,36 @@
 -- A plan over the columns of a file.
-use Rattle.std.proofs.Common.{◌≡◌, ℕ, zero, suc, ◌+◌, ◌<◌, Bool, true, false, ◌&&◌, ◌||◌, List, [], ◌∷◌, ◌++◌, get_or, map, filter, zip, length, Option, Some, None, refl, ap, sym, subst, ◌∙◌, arith}
-use Rattle.std.specs.Prelude.{All, Contains, flat_map, slice_get, nat_eq}
-use Rattle.std.specs.List.{AllByRecursion, AllZip, list_all, list_any, range_with_len}
+use Rattle.std.proofs.Common.{◌≡◌, ℕ, zero, suc, ◌<◌, Bool, true, false, ◌||◌, List, [], ◌∷◌, ◌++◌, get_or, map, length, Some, refl, ap, sym, subst, ◌∙◌, arith}
+use Rattle.std.specs.Prelude.{All, slice_get}
+use Rattle.std.specs.List.{AllByRecursion, list_all, list_any}
 use Rattle.std.proofs.lemmas.Bool.{and_parts, eq-eqb}
-use Rattle.std.proofs.lemmas.List.{get_or-map, length-map}
 use Rattle.std.proofs.lemmas.List.Elements.{All-from_recursion, recursion_from_All}
 use Rattle.meaning.specs.declared.catalog.Column.{Column}
 use Rattle.meaning.specs.declared.expr.Expr.{Expr}
-use Rattle.meaning.specs.declared.joined_row.JoinedRow.{JoinedRow}
 use Rattle.meaning.specs.declared.plan.Aggregate.{Aggregate}
 use Rattle.meaning.specs.declared.plan.ColumnUse.{ColumnUse}
 use Rattle.meaning.specs.declared.plan.GroupingKey.{GroupingKey}
-use Rattle.meaning.specs.declared.plan.Join.{Join}
 use Rattle.meaning.specs.declared.plan.Plan.{Plan}
 use Rattle.meaning.specs.declared.plan.TableUse.{TableUse}
 use Rattle.meaning.specs.declared.value.ColType.{ColType}
 use Rattle.meaning.specs.declared.value.ColType.TheVariants as of_type
-use Rattle.meaning.specs.Joined.{choices, combos, is_joined, joined_row}
+use Rattle.meaning.specs.Joined.{joined_row}
 use Rattle.meaning.specs.Order.{Row}
-use Rattle.meaning.specs.References.{Reference, FactColumn, JoinColumn, GroupKey, GroupAggregate, columns_of_plan, columns_used, columns_used_in_all}
-use Rattle.meaning.specs.TableLaws.{IsTypedPlan, IsTypedAggregate}
+use Rattle.meaning.specs.References.{Reference, columns_of_plan, columns_used, columns_used_in_all}
+use Rattle.meaning.specs.TableLaws.{IsTypedAggregate}
 use Rattle.meaning.specs.Typing.{Boolean, RowTypes, Valued, has_type, same_type}
-use Rattle.meaning.specs.WellFormedPlan.{HasListed, HasTypesOf, IsListed, IsWellFormedPlan, listed_places}
+use Rattle.meaning.specs.WellFormedPlan.{HasTypesOf, IsListed, IsWellFormedPlan, listed_places}
 use Rattle.encodings.specs.Block.{Block}
 use Rattle.wire.specs.Reading.{same_bytes}
 use Rattle.fragment_file.specs.declared.header.Header.{Header}
 use Rattle.vectors.specs.declared.batch.BatchColumn.{BatchColumn}
 use Rattle.vectors.specs.declared.batch.Place.{Place}
 use Rattle.vectors.specs.declared.batch.Place.TheVariants as place
-use Rattle.vectors.specs.Selection.{is_among}
 use Rattle.vectors.specs.Vector.{same_place}
-use Rattle.primitives.specs.Fitting.{Fits, has_column, place_of}
+use Rattle.primitives.specs.Fitting.{Fits, has_column}
 use Rattle.primitives.specs.Meant.{row_at}
-use Rattle.scan_select.specs.Laws.{header_types}
 use Rattle.scan_select.specs.Scanned.{AreColumnsAt}
-use Rattle.worker.specs.Evaluated.{AreJoinedRows, FitsColumns}
+use Rattle.worker.specs.Evaluated.{FitsColumns}
 use Rattle.worker.specs.Files.{HasColumns, is_column}
-use Rattle.worker.proofs.Positions.{among_range}
 
 -- ---- the columns that are named
 
@@ -46,19 +40,19 @@ type_is of_type.Int of_type.Text e = absurd cc
 type_is of_type.Text of_type.Int e = absurd cc
 type_is of_type.Text of_type.Text e = refl
 
-column_there : (u : ColumnUse) (cs : List Column) (i : ℕ) → is_column u (slice_get cs i) ≡ true → (i < length cs) × (slice_get (map (λ c. c.col_type) cs) i ≡ Some u.col_type)
+pub column_there : (u : ColumnUse) (cs : List Column) (i : ℕ) → is_column u (slice_get cs i) ≡ true → (i < length cs) × (slice_get (map (λ c. c.col_type) cs) i ≡ Some u.col_type)
 column_there u [] i e = absurd cc
 column_there u (c ∷ cs) zero e = (omega arith, ap Some (type_is c.col_type u.col_type (and_parts (same_bytes c.name u.name) (same_type c.col_type u.col_type) e).1))
 column_there u (c ∷ cs) (suc i) e = let rest = column_there u cs i e in let h = rest.0 in (omega (arith, h), rest.1)
 
 module _ (cs : List Column) where
-  uses_typed : (us : List ColumnUse) → list_all (λ u. is_column u (slice_get cs u.place)) us ≡ true → AllByRecursion (λ u. slice_get (map (λ c. c.col_type) cs) u.place ≡ Some u.col_type) us
+  pub uses_typed : (us : List ColumnUse) → list_all (λ u. is_column u (slice_get cs u.place)) us ≡ true → AllByRecursion (λ u. slice_get (map (λ c. c.col_type) cs) u.place ≡ Some u.col_type) us
   uses_typed [] e = tt
   uses_typed (u ∷ us) e =
       let h = and_parts (is_column u (slice_get cs u.place)) (list_all (λ u. is_column u (slice_get cs u.place)) us) e in
       ((column_there u cs u.place h.0).1, uses_typed us h.1)
 
-  uses_within : (us : List ColumnUse) → list_all (λ u. is_column u (slice_get cs u.place)) us ≡ true → AllByRecursion (λ p. p < length cs) (map (λ u. u.place) us)
+  pub uses_within : (us : List ColumnUse) → list_all (λ u. is_column u (slice_get cs u.place)) us ≡ true → AllByRecursion (λ p. p < length cs) (map (λ u. u.place) us)
   uses_within [] e = tt
   uses_within (u ∷ us) e =
       let h = and_parts (is_column u (slice_get cs u.place)) (list_all (λ u. is_column u (slice_get cs u.place)) us) e in
@@ -67,18 +61,12 @@ module _ (cs : List Column) where
 pub places_within : (table : TableUse) (h : Header) → HasColumns table h → All (λ p. p < length h.columns) (listed_places table)
 places_within table h has = All-from_recursion (λ p. p < length h.columns) (listed_places table) (uses_within h.columns table.columns has)
 
-pub types_of_header : (plan : Plan) (h : Header) → HasColumns plan.fact h → plan.joins ≡ [] → HasTypesOf plan (header_types h)
-types_of_header plan h has none = record {
-  fact = All-from_recursion (λ u. slice_get (map (λ c. c.col_type) h.columns) u.place ≡ Some u.col_type) plan.fact.columns (uses_typed h.columns plan.fact.columns has);
-  joins = subst (λ (js : List Join). AllZip (λ j of_dimension. HasListed j.dim of_dimension) js []) (sym none) tt;
-}
-
 -- ---- the columns of a batch
 
 same_column : (p : ℕ) → same_place (place.Fact p) (place.Fact p) ≡ true
 same_column p = eq-eqb p p refl
 
-listed_there : (group : List Block) (first rows : ℕ) (ps : List ℕ) (cs : List BatchColumn) (at k : ℕ) → AreColumnsAt group first rows ps cs → k < length ps → get_or ps k at ≡ at
+pub listed_there : (group : List Block) (first rows : ℕ) (ps : List ℕ) (cs : List BatchColumn) (at k : ℕ) → AreColumnsAt group first rows ps cs → k < length ps → get_or ps k at ≡ at
     → list_any (λ column. same_place column.place (place.Fact at)) cs ≡ true
 listed_there group first rows [] cs at k are lt is = absurd (omega (arith, lt))
 listed_there group first rows (p ∷ ps) [] at k are lt is = absurd are
@@ -92,13 +80,6 @@ listed_there group first rows (p ∷ ps) (c ∷ cs) at (suc k) are lt is =
     either true b e = refl
     either false b e = e
 
-reference_there : (plan : Plan) (group : List Block) (first rows : ℕ) (cs : List BatchColumn) → plan.joins ≡ [] → AreColumnsAt group first rows (listed_places plan.fact) cs
-    → (u : Reference) → IsListed plan u → has_column cs u ≡ true
-reference_there plan group first rows cs none are (FactColumn at) listed = listed_there group first rows (listed_places plan.fact) cs at listed.0 are listed.1 listed.2
-reference_there plan group first rows cs none are (JoinColumn join at) listed = absurd (let e : slice_get {X = Join} [] join ≡ Some listed.0 = ap (λ (js : List Join). slice_get js join) (sym none) ∙ listed.1 in cc)
-reference_there plan group first rows cs none are (GroupKey i) listed = absurd listed
-reference_there plan group first rows cs none are (GroupAggregate i) listed = absurd listed
-
 all_front : {X : Type 0} (P : X → Type 0) (xs ys : List X) → AllByRecursion P (xs ++ ys) → AllByRecursion P xs
 all_front P [] ys all = tt
 all_front P (x ∷ xs) ys all = (all.0, all_front P xs ys all.1)
@@ -111,7 +92,7 @@ imply : {X : Type 0} (P Q : X → Type 0) → ((x : X) → P x → Q x) → (xs 
 imply P Q to [] all = tt
 imply P Q to (x ∷ xs) all = (to x all.0, imply P Q to xs all.1)
 
-module _ (plan : Plan) (h : Header) (cs : List BatchColumn) (there : (u : Reference) → IsListed plan u → has_column cs u ≡ true) where
+module _ (plan : Plan) (cs : List BatchColumn) (there : (u : Reference) → IsListed plan u → has_column cs u ≡ true) where
   abbrev present : Expr → Type 0
   present e = All (λ u. has_column cs u ≡ true) (columns_used e)
 
@@ -130,13 +111,10 @@ map_itself : {X : Type 0} (xs : List X) → map (λ x. x) xs ≡ xs
 map_itself [] = refl
 map_itself {X} (x ∷ xs) = ap (λ (ys : List X). x ∷ ys) (map_itself xs)
 
--- a plan without joins over a batch of the columns that it names
-pub fits_columns : (plan : Plan) (h : Header) (group : List Block) (first rows : ℕ) (cs : List BatchColumn) → IsWellFormedPlan plan → plan.joins ≡ [] → HasColumns plan.fact h
-    → AreColumnsAt group first rows (listed_places plan.fact) cs → FitsColumns (header_types h) cs plan
-fits_columns plan h group first rows cs well none has are =
-    let types = header_types h in
-    let typed = well.typed types (types_of_header plan h has none) in
-    let there = reference_there plan group first rows cs none are in
+-- a plan over a batch of the columns that it names
+pub fits_columns : (plan : Plan) (types : RowTypes) (cs : List BatchColumn) → IsWellFormedPlan plan → HasTypesOf plan types → ((u : Reference) → IsListed plan u → has_column cs u ≡ true) → FitsColumns types cs plan
+fits_columns plan types cs well has there =
+    let typed = well.typed types has in
     let listed = recursion_from_All (IsListed plan) (columns_of_plan plan) well.listed in
     let of_conditions = columns_used_in_all plan.conjuncts in
     let of_keys = columns_used_in_all (map (λ k. k.expr) plan.keys) in
@@ -145,31 +123,20 @@ fits_columns plan h group first rows cs well none has are =
     let rest = all_behind (IsListed plan) of_conditions (of_keys ++ of_arguments) listed in
     record {
       conditions = All-from_recursion (λ c. Fits types cs c Boolean) plan.conjuncts
-          (each_fits plan h cs there (λ (c : Expr). c) (λ c. has_type types c Boolean ≡ true) (λ c. Fits types cs c Boolean) (λ c t p. record { typed = t; present = p }) plan.conjuncts
+          (each_fits plan cs there (λ (c : Expr). c) (λ c. has_type types c Boolean ≡ true) (λ c. Fits types cs c Boolean) (λ c t p. record { typed = t; present = p }) plan.conjuncts
           (recursion_from_All (λ c. has_type types c Boolean ≡ true) plan.conjuncts typed.conditions)
           (subst (λ (es : List Expr). AllByRecursion (IsListed plan) (columns_used_in_all es)) (sym (map_itself plan.conjuncts)) front));
       keys = All-from_recursion (λ k. Fits types cs k.expr (Valued k.col_type)) plan.keys
-          (each_fits plan h cs there (λ (k : GroupingKey). k.expr) (λ k. has_type types k.expr (Valued k.col_type) ≡ true) (λ k. Fits types cs k.expr (Valued k.col_type)) (λ k t p. record { typed = t; present = p }) plan.keys
+          (each_fits plan cs there (λ (k : GroupingKey). k.expr) (λ k. has_type types k.expr (Valued k.col_type) ≡ true) (λ k. Fits types cs k.expr (Valued k.col_type)) (λ k t p. record { typed = t; present = p }) plan.keys
           (recursion_from_All (λ k. has_type types k.expr (Valued k.col_type) ≡ true) plan.keys typed.keys) (all_front (IsListed plan) of_keys of_arguments rest));
       arguments = All-from_recursion (λ a. Fits types cs a.argument (Valued a.col_type)) plan.aggs
-          (each_fits plan h cs there (λ (a : Aggregate). a.argument) (IsTypedAggregate types) (λ a. Fits types cs a.argument (Valued a.col_type)) (λ a t p. record { typed = t.typed; present = p }) plan.aggs
+          (each_fits plan cs there (λ (a : Aggregate). a.argument) (IsTypedAggregate types) (λ a. Fits types cs a.argument (Valued a.col_type)) (λ a t p. record { typed = t.typed; present = p }) plan.aggs
           (recursion_from_All (IsTypedAggregate types) plan.aggs typed.aggregates) (all_behind (IsListed plan) of_keys of_arguments rest));
     }
 
--- ---- rows without joins
+-- ---- rows of the fact alone
 
-pub one_choice : (plan : Plan) (fact : Row) → plan.joins ≡ [] → combos plan [] fact ≡ joined_row fact [] ∷ []
-one_choice plan fact none = ap (λ (js : List Join). map (joined_row fact) (filter (λ chosen. list_all (is_joined fact) (zip js chosen)) (choices []))) none
-
-row_there : (facts : List Row) (i : ℕ) → i < length facts → row_at (map (λ row. joined_row row []) facts) i ≡ joined_row (get_or facts i []) []
+pub row_there : (facts : List Row) (i : ℕ) → i < length facts → row_at (map (λ row. joined_row row []) facts) i ≡ joined_row (get_or facts i []) []
 row_there [] i lt = absurd (omega (arith, lt))
 row_there (f ∷ facts) zero lt = refl
 row_there (f ∷ facts) (suc i) lt = row_there facts i (omega (arith, lt))
-
-pub alone : (plan : Plan) (facts : List Row) (n : ℕ) → plan.joins ≡ [] → n ≡ length facts → AreJoinedRows plan [] facts (range_with_len 0 n) (map (λ row. joined_row row []) facts)
-alone plan facts n none many = record {
-  counted = sym (length-map facts (λ row. joined_row row []));
-  each = λ i lt.
-      let among : is_among (range_with_len 0 n) i ≡ true = among_range 0 n i (omega arith) (omega (arith, many, lt)) in
-      one_choice plan (get_or facts i []) none ∙ ap (λ (r : JoinedRow). r ∷ []) (sym (row_there facts i lt)) ∙ rw among refl;
-}

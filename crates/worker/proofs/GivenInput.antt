@@ -1,6 +1,6 @@
 -- What is known of a fragment that is given.
-use Rattle.std.specs.Prelude.{◌≡◌, ℕ, ◌==◌, nat_lt, nat_le, Bool, true, false, ◌&&◌, if◌then◌else◌, List, length, Result, Ok, Err}
-use Rattle.std.proofs.Common.{refl, sym, ap, subst, ◌∙◌}
+use Rattle.std.specs.Prelude.{◌≡◌, ℕ, ◌==◌, nat_lt, nat_le, Bool, true, false, ◌&&◌, List, length, Result, Ok, Err}
+use Rattle.std.proofs.Common.{refl, ap, subst}
 use Rattle.std.proofs.lemmas.Bool.{eqb-true, leb-true, ltb-true}
 use Rattle.meaning.proofs.Tests.{first_of, second_of}
 use Rattle.meaning.specs.Limits.{max_vector_rows}
@@ -12,15 +12,18 @@ use Rattle.wire.specs.Reading.{◌>>=◌, same_bytes}
 use Rattle.worker.specs.declared.fault.WorkFault.{WorkFault}
 use Rattle.worker.specs.declared.fault.WorkFault.TheVariants.{OtherFile, OtherColumn, VectorLength}
 use Rattle.worker.specs.Files.{HasColumns, has_columns, is_fragment_of}
-use Rattle.worker.specs.Work.{IsInput, from_file, fragment_file_of, input_of, length_of, provided}
+use Rattle.worker.specs.Work.{InputSpec, IsInput, dimension_files_of, from_file, fragment_file_of, input_of, length_of, provided}
 
-goes_there : {X Y : Type 0} (r : Result X WorkFault) (k : X → Result Y WorkFault) (z : Y) → (r >>= k) ≡ Ok z → (x : X) × (r ≡ Ok x) × (k x ≡ Ok z)
+pub goes_there : {X Y : Type 0} (r : Result X WorkFault) (k : X → Result Y WorkFault) (z : Y) → (r >>= k) ≡ Ok z → (x : X) × (r ≡ Ok x) × (k x ≡ Ok z)
 goes_there (Err e) k z is = absurd cc
 goes_there (Ok x) k z is = (x, refl, is)
 
-is_provided : {X : Type 0} (b : Bool) (e : WorkFault) (x y : X) → provided b e x ≡ Ok y → (b ≡ true) × (x ≡ y)
+pub is_provided : {X : Type 0} (b : Bool) (e : WorkFault) (x y : X) → provided b e x ≡ Ok y → (b ≡ true) × (x ≡ y)
 is_provided true e x y is = (refl, cc)
 is_provided false e x y is = absurd cc
+
+pub ok_is : {X E : Type 0} (x y : X) → ◌≡◌ {A = Result X E} (Ok x) (Ok y) → x ≡ y
+ok_is x y e = cc
 
 -- the length of vectors
 pub length_is : (n m : ℕ) → length_of n ≡ Ok m → IsVectorLength n
@@ -51,10 +54,11 @@ fragment_is job k bytes f is =
     subst (IsInput job k) end (input_is job k h (subst (λ (x : FragmentSpec). is_fragment_of job k x.header ≡ true) same is_named) has)
 
 -- where nothing is wrong
-pub given : (job : JobSpec) (k n : ℕ) (bytes : List ℕ) (dims : List (List ℕ)) (f : FragmentSpec) → input_of job k n bytes dims ≡ Ok f → IsInput job k f × IsVectorLength n
+pub given : (job : JobSpec) (k n : ℕ) (bytes : List ℕ) (dims : List (List ℕ)) (input : InputSpec) → input_of job k n bytes dims ≡ Ok input → IsInput job k input.fragment × IsVectorLength n
 unfolding input_of
-given job k n bytes dims f is =
-    let (m, long, more) = goes_there (length_of n) (λ m. fragment_file_of job k bytes >>= λ f. provided (length dims == length job.plan.joins) OtherFile f) f is in
-    let (g, read, last) = goes_there (fragment_file_of job k bytes) (λ f. provided (length dims == length job.plan.joins) OtherFile f) f more in
-    let (many, same) = is_provided (length dims == length job.plan.joins) OtherFile g f last in
-    (subst (IsInput job k) same (fragment_is job k bytes g read), length_is n m long)
+given job k n bytes dims input is =
+    let (m, long, more) = goes_there (length_of n) (λ m. fragment_file_of job k bytes >>= λ f. dimension_files_of job dims >>= λ ds. Ok (record { fragment = f; dims = ds })) input is in
+    let (f, read, last) = goes_there (fragment_file_of job k bytes) (λ f. dimension_files_of job dims >>= λ ds. Ok (record { fragment = f; dims = ds })) input more in
+    let (ds, reads, end) = goes_there (dimension_files_of job dims) (λ ds. Ok (record { fragment = f; dims = ds })) input last in
+    let same : f ≡ input.fragment = ap (λ (i : InputSpec). i.fragment) (ok_is _ _ end) in
+    (subst (IsInput job k) same (fragment_is job k bytes f read), length_is n m long)

@@ -4,10 +4,17 @@ pub mod Chosen
 pub mod Evaluating
 pub mod FileColumns
 pub mod FileRows
+pub mod FilesRead
 pub mod FittingAnswers
+pub mod JoinedBatches
+pub mod JoinedSteps
 pub mod JudgedRows
+pub mod KeyedRows
 pub mod NumberedRows
+pub mod OpenedDimensions
 pub mod Positions
+pub mod TypedRows
+pub mod UsedColumns
 pub mod VectorLanes
 pub mod FirstRows
 pub mod GivenInput

@@ -3,3 +3,6 @@ pub mod Fault
 pub mod Evaluated
 pub mod Files
 pub mod Work
+pub mod Dimensions
+pub mod Joining
+pub mod Gathered

@@ -3,8 +3,12 @@
 
 mod answering;
 mod batches;
+mod decoding;
+mod dimensions;
 mod expressions;
 mod fault;
+mod inputs;
+mod joining;
 mod lanes;
 mod progress;
 mod refusals;

@@ -1,11 +1,11 @@
 //! Files that a job doesn't name.
-ghost use Rattle.std.specs.Prelude.{◌≡◌, ◌<◌, length, slice_get, IfOk};
+ghost use Rattle.std.specs.Prelude.{◌≡◌, ◌<◌, ◌==◌, length, slice_get, IfOk};
 ghost use Rattle.fragment_file.specs.Fragment.{AreTypedColumns, IsFragment};
 ghost use Rattle.meaning.specs.Cut.{IsCut, first_row as row_before};
 ghost use Rattle.meaning.specs.Typing.{same_type};
 ghost use Rattle.wire.specs.Reading.{ReadsIfMemory, same_bytes};
-ghost use Rattle.worker.specs.Files.{has_columns, is_column, is_fragment_of};
-ghost use Rattle.worker.specs.Work.{fragment_file_of};
+ghost use Rattle.worker.specs.Files.{HasColumns, has_columns, is_column, is_dimension_of, is_fragment_of};
+ghost use Rattle.worker.specs.Work.{fragment_file_of, table_file_of};
 
 use crate::fault::WorkFault;
 use fragment_file::header::Header;
@@ -70,6 +70,12 @@ fn has_all_columns(table: &TableUse, header: &Header) -> bool
     used.iter().all(|used| has_column(columns, used))
 }
 
+fn is_of_load(job: &Job, header: &Header) -> bool
+    ensures { result ≡ (header.now.load == job.now.load) }
+{
+    header.load == job.load()
+}
+
 /// Whether the file is that of the job's fragment `k`.
 fn is_fragment(job: &Job, k: u32, header: &Header) -> bool
     ensures { result ≡ is_fragment_of job.now k header.now }
@@ -79,7 +85,7 @@ fn is_fragment(job: &Job, k: u32, header: &Header) -> bool
     if place >= lengths.len() {
         return false;
     }
-    header.load == job.load()
+    is_of_load(job, header)
         && are_same(&header.table, &job.plan().fact.name)
         && header.fragment == k
         && header.first_row == first_row(lengths, place)
@@ -100,6 +106,7 @@ pub fn open_fragment<'a>(
 ) -> Result<FragmentView<'a>, WorkFault>
     ensures read { ReadsIfMemory WorkFault.Memory (λ v. v) result (fragment_file_of job.now k bytes.now) }
     ensures typed { IfOk result (λ v. AreTypedColumns v) }
+    ensures columns { IfOk result (λ v. HasColumns job.now.plan.fact v.header) }
 {
     let view = open(alloc, bytes)?;
     if !is_fragment(job, k, view.header()) {
@@ -107,6 +114,44 @@ pub fn open_fragment<'a>(
         return Err(WorkFault::OtherFile);
     }
     if !has_all_columns(&job.plan().fact, view.header()) {
+        drop(view);
+        return Err(WorkFault::OtherColumn);
+    }
+    Ok(view)
+}
+
+/// Whether the file is that of all rows of the job's dimension.
+fn is_dimension(job: &Job, dim: &TableUse, header: &Header) -> bool
+    ensures { result ≡ is_dimension_of job.now dim.now header.now }
+{
+    is_of_load(job, header)
+        && are_same(&header.table, &dim.name)
+        && header.fragment == 0
+        && header.first_row == 0
+}
+
+/// The file of a dimension.
+///
+/// # Errors
+///
+/// Out of memory; else the first of: a file fault; another file; a column that isn't in its place.
+#[tactic(auto, unfolding(crate::specs::Work::table_file_of))]
+pub fn open_table<'a>(
+    alloc: Global,
+    job: &Job,
+    dim: &TableUse,
+    bytes: &'a [u8],
+) -> Result<FragmentView<'a>, WorkFault>
+    ensures read { ReadsIfMemory WorkFault.Memory (λ v. v) result (table_file_of job.now dim.now bytes.now) }
+    ensures typed { IfOk result (λ v. AreTypedColumns v) }
+    ensures columns { IfOk result (λ v. HasColumns dim.now v.header) }
+{
+    let view = open(alloc, bytes)?;
+    if !is_dimension(job, dim, view.header()) {
+        drop(view);
+        return Err(WorkFault::OtherFile);
+    }
+    if !has_all_columns(dim, view.header()) {
         drop(view);
         return Err(WorkFault::OtherColumn);
     }

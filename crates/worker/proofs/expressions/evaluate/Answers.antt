@@ -1,14 +1,10 @@
 -- Proofs of the goals of `evaluate` (`expressions`).
-use Rattle.std.proofs.Common.{Result, Ok, Err, List, ◌≡◌}
-use Rattle.std.specs.Prelude.{IfOk, length}
-use Rattle.meaning.specs.declared.expr.Expr.{Expr}
-use Rattle.meaning.specs.declared.joined_row.JoinedRow.{JoinedRow}
-use Rattle.meaning.specs.declared.value.ColType.{ColType}
-use Rattle.meaning.specs.Typing.{RowTypes, Valued}
+use Rattle.std.proofs.Common.{Result, Ok, Err}
+use Rattle.std.specs.Prelude.{IfOk}
+use Rattle.meaning.specs.Typing.{Valued}
 use Rattle.accumulators.specs.Values.{values_of}
 use Rattle.vectors.specs.declared.vector.Vector.{Vector}
-use Rattle.primitives.specs.Fitting.{AreTypedRows, Fits}
-use Rattle.worker.specs.Evaluated.{IsOnly, IsVectorOf}
+use Rattle.worker.specs.Evaluated.{IsOnly}
 use Rattle.worker.proofs.Evaluating.{vector_of}
 use Rattle.worker.proofs.expressions.evaluate.Goals as goal
 

@@ -1,6 +1,5 @@
 -- Proofs of the goals of `evaluate_keys` (`expressions`).
-use Rattle.std.proofs.Common.{List, map, take, get_or, sym, ap, subst, ◌∙◌, ◌++◌, ◌∷◌, [], ◌≡◌, ◌+◌}
-use Rattle.std.specs.Prelude.{All}
+use Rattle.std.proofs.Common.{List, map, take, sym, ap, subst, ◌∙◌, ◌++◌, ◌∷◌, [], ◌≡◌, ◌+◌}
 use Rattle.std.proofs.lemmas.List.{map-append, take_all, take_more}
 use Rattle.std.proofs.lemmas.List.Elements.{recursion_from_All}
 use Rattle.meaning.specs.declared.expr.Expr.{Expr}

@@ -1,5 +1,5 @@
 -- Proofs of the goals of `only_selected` (`lanes`).
-use Rattle.std.proofs.Common.{List, subst, sym, ap, ◌∙◌, ◌≡◌, true}
+use Rattle.std.proofs.Common.{List, subst, sym, ap, ◌≡◌, true}
 use Rattle.std.specs.List.{AllByRecursion}
 use Rattle.meaning.specs.declared.value.Value.{Value}
 use Rattle.accumulators.specs.Values.{is_spelled, values_of}

@@ -1,5 +1,5 @@
 -- Proofs of the goals of `selected_texts` (`lanes`).
-use Rattle.std.proofs.Common.{refl, Result, Ok, Err, List, ℕ, ◌≡◌, ◌<◌, true, subst, sym, ap, ◌∙◌, length, arith}
+use Rattle.std.proofs.Common.{refl, Result, Ok, Err, List, ℕ, ◌≡◌, ◌<◌, true, subst, ap, ◌∙◌, length, arith}
 use Rattle.std.specs.Prelude.{IfOk}
 use Rattle.std.proofs.lemmas.List.Elements.{recursion_from_All}
 use Rattle.meaning.specs.declared.value.Value.{Value}

@@ -1,5 +1,5 @@
 -- Proofs of the goals of `texts_at` (`lanes`).
-use Rattle.std.proofs.Common.{List, ℕ, subst, sym, ◌≡◌}
+use Rattle.std.proofs.Common.{List, ℕ, subst, sym}
 use Rattle.std.proofs.lemmas.List.{take_all}
 use Rattle.meaning.specs.declared.value.Value.{Value}
 use Rattle.worker.specs.Evaluated.{AreOnly}

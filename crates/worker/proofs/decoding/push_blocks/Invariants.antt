@@ -1,0 +1,13 @@
+-- Loop invariants of `push_blocks` (`decoding`).
+use Rattle.std.proofs.Common.{◌≡◌, take, get_or}
+use Rattle.std.specs.List.{flat_map}
+use Rattle.encodings.specs.Block.{values_of}
+use Rattle.fragment_file.specs.Copying.{with_values}
+use Rattle.fragment_file.specs.Fragment.{no_block}
+use Rattle.worker.proofs.decoding.push_blocks.Given as goal
+
+abbrev pub invariant-loop-group : goal.invariant-loop-group
+invariant-loop-group l =
+    (l.column ≡ with_values l.fn.column (flat_map (λ g. values_of (get_or g l.place no_block)) (take l.group l.file.groups)))
+    × (l.buffer.room ≡ l.fn.buffer.room)
+    × (l.buffer.col_type ≡ l.fn.column.col_type)

@@ -1,6 +1,6 @@
 //! Cases about coordinators: what each event does and what is printed.
 ghost use Rattle.std.specs.Prelude.{◌≡◌, IfOk, IfSome, length};
-ghost use Rattle.coordinator.specs.Single.{IsSingle};
+ghost use Rattle.coordinator.specs.Gathering.{IsShown};
 
 use crate::jobs::{NO_JOB, job_of};
 use case_files::lines::tell_printed;
@@ -112,7 +112,7 @@ fn join(
 
 // A coordinator of a job: one that has taken nothing, or one that holds what a state spells.
 fn started(alloc: Global, job: Job, state: Option<&[u8]>) -> Result<Gather, GatherFault>
-    requires { IsSingle job.plan }
+    requires { IsShown job.plan }
 {
     match state {
         Some(bytes) => Gather::from_state(alloc, job, bytes),

@@ -1,9 +1,9 @@
 //! The job that the words of a case name.
 // Jobs that words tell: the number of a load, a cut, what is asked of each fragment, and the text of the query.
-ghost use Rattle.std.specs.Prelude.{◌≡◌, ◌≤◌, ◌∷◌, [], length, IfOk, IfSome};
+ghost use Rattle.std.specs.Prelude.{◌≡◌, ◌≢◌, ◌≤◌, [], false, length, IfOk, IfSome};
 ghost use Rattle.meaning.specs.Limits.{max_query_bytes};
 ghost use Rattle.partial_codec.specs.Job.{IsPlanOfJob};
-ghost use Rattle.coordinator.specs.Single.{IsSingle, aggregate_of, only_item, with_parts};
+ghost use Rattle.coordinator.specs.Gathering.{IsShown};
 
 use crate::shapes::shaped_plan;
 use meaning::cut::Cut;
@@ -39,9 +39,7 @@ pub fn cut_of(alloc: Global, word: &str) -> Result<Option<Cut>, AllocError> {
     }
 }
 
-fn aggregate_of(summed: Option<usize>) -> Aggregate
-    ensures { result ≡ aggregate_of summed }
-{
+fn aggregate_of(summed: Option<usize>) -> Aggregate {
     let (kind, argument) = match summed {
         Some(place) => (AggregateKind::Sum, Expr::Column(place)),
         None => (AggregateKind::CountRows, Expr::Literal(Value::Int(1))),
@@ -57,8 +55,8 @@ fn only_parts(
     alloc: Global,
     summed: Option<usize>,
 ) -> Result<(Sequence<Aggregate>, Sequence<Item>), AllocError>
-    ensures aggregate { IfOk result (λ parts. parts.0 ≡ aggregate_of summed ∷ []) }
-    ensures item { IfOk result (λ parts. parts.1 ≡ only_item ∷ []) }
+    ensures aggregate { IfOk result (λ parts. length parts.0 ≡ 1) }
+    ensures item { IfOk result (λ parts. parts.1 ≢ []) }
 {
     let header = Text::new(alloc, "c1")?;
     let mut items = Sequence::new(alloc);
@@ -78,7 +76,11 @@ fn with_parts(
     aggs: Sequence<Aggregate>,
     items: Sequence<Item>,
 ) -> Plan
-    ensures { result ≡ with_parts text (record { name = name; columns = [] }) aggs items }
+    ensures text { result.text ≡ text }
+    ensures keys { result.keys ≡ [] }
+    ensures aggregates { result.aggs ≡ aggs }
+    ensures items { result.items ≡ items }
+    ensures plain { result.plain ≡ false }
 {
     Plan {
         text,
@@ -100,7 +102,7 @@ fn with_parts(
 
 fn plan_of(alloc: Global, text: &str, summed: Option<usize>) -> Result<Plan, AllocError>
     requires { length text.now ≤ max_query_bytes }
-    ensures single { IfOk result IsSingle }
+    ensures shown { IfOk result IsShown }
     ensures job { IfOk result IsPlanOfJob }
 {
     let text = Text::new(alloc, text)?;
@@ -119,7 +121,7 @@ fn job_over(
     text: &str,
 ) -> Result<Job, AllocError>
     requires { length text.now ≤ max_query_bytes }
-    ensures { IfOk result (λ job. IsSingle job.plan) }
+    ensures { IfOk result (λ job. IsShown job.plan) }
 {
     match plan_of(alloc, text, summed) {
         Ok(plan) => Ok(Job::new(load, plan, cut)),
@@ -168,7 +170,7 @@ pub fn shaped_job_of(alloc: Global, words: &[&str]) -> Result<Option<Job>, Alloc
 
 /// The job that the words tell, as in `7 2,3 count "SELECT COUNT(*) FROM sales"`.
 pub fn job_of(alloc: Global, words: &[&str]) -> Result<Option<Job>, AllocError>
-    ensures { IfOk result (λ found. IfSome found (λ job. IsSingle job.plan)) }
+    ensures { IfOk result (λ found. IfSome found (λ job. IsShown job.plan)) }
 {
     let [load, cut, kind, text] = words else {
         return Ok(None);

@@ -64,7 +64,6 @@ fn refusal_line(alloc: Global, fault: &WholeFault) -> Result<String, AllocError>
         WholeFault::Memory => String::from_str(alloc, "refused for want of memory\n"),
         WholeFault::Catalog(fault) => format!(in alloc; "refused catalog {}\n", fault.number()),
         WholeFault::Sql(fault) => format!(in alloc; "refused sql {}\n", fault.number()),
-        WholeFault::Later => String::from_str(alloc, "refused, later\n"),
         WholeFault::Plan(fault) => format!(in alloc; "refused plan {}\n", fault.number()),
         WholeFault::MissingCsv(table) => {
             format!(in alloc; "refused, no CSV of {}\n", table.as_str())

@@ -1,7 +1,7 @@
 //! Cases about catalogues.
 use crate::refusals::refusal_line;
 use case_files::escapes::escaped_bytes;
-use cli::Refusal;
+use folders::Refusal;
 use meaning::catalog::{Catalog, Column, Dimension, Table};
 use meaning::read_catalog::read_catalog;
 use meaning::value::ColType;

@@ -1,6 +1,6 @@
 //! Cases about cuts.
 use crate::refusals::refusal_line;
-use cli::Refusal;
+use folders::Refusal;
 use meaning::cut::{Cut, CutFault};
 use std::alloc::{AllocError, Global};
 use std::fmt::Write;

@@ -1,5 +1,5 @@
 //! The line of a refusal.
-use cli::{Refusal, tell};
+use folders::{Refusal, tell};
 use std::alloc::{AllocError, Global};
 
 /// The line by which the program tells a refusal.

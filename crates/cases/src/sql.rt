@@ -2,7 +2,7 @@
 use crate::refusals::refusal_line;
 use case_files::escapes::escaped_bytes;
 use case_files::lines::tell_line;
-use cli::Refusal;
+use folders::Refusal;
 use sql_reader::tree::Query;
 use sql_reader::{print, read};
 use std::alloc::{AllocError, Global};

@@ -1,5 +1,3 @@
 -- The lemmas of this crate.
-mod Each
-mod Lines
 mod LoadedColumns
 mod WrittenFiles

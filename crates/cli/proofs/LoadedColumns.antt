@@ -21,9 +21,10 @@ use Rattle.loader.specs.Columns.{columns_of, column_of, fragments_of}
 use Rattle.loader.specs.Source.{csv_records}
 use Rattle.loader.proofs.RowRuns.{ok_parts, all_from}
 use Rattle.fragment_file.specs.Writing.{AreColumns}
-use Rattle.cli.proofs.Each.{each_so}
-use Rattle.cli.specs.Folder.{Holds}
-use Rattle.cli.specs.Loading.{AreDimensionColumns, AreEach, AreFragmentColumns, IsDimensionLoaded, IsFactLoaded, rows_in}
+use Rattle.folders.proofs.Each.{each_so}
+use Rattle.folders.specs.Folder.{Holds}
+use Rattle.folders.specs.Each.{AreEach}
+use Rattle.cli.specs.Loading.{AreDimensionColumns, AreFragmentColumns, IsDimensionLoaded, IsFactLoaded, rows_in}
 
 sum_cons : (n : ℕ) (ns : List ℕ) → sum (n ∷ ns) ≡ n + sum ns
 sum_cons n ns = sum_by-cons (λ x. x) n ns

@@ -10,10 +10,11 @@ use Rattle.meaning.specs.declared.catalog.Table.{Table}
 use Rattle.columns.specs.Column.{ColumnSpec}
 use Rattle.loader.proofs.FactSteps.{rows_few}
 use Rattle.fragment_file.specs.Fragment.{Stands}
-use Rattle.cli.specs.Folder.{File, Writes, WritesOne, fragment_path, dimension_path}
+use Rattle.folders.specs.Folder.{File, Writes, WritesOne, fragment_path, dimension_path}
 use Rattle.fragment_file.specs.Writing.{AreColumns}
-use Rattle.cli.specs.Loading.{AreDimensionColumns, AreEach, AreFragmentColumns, IsDimensionFile, IsFragmentFile, header_of, rows_in}
-use Rattle.cli.proofs.Each.{each_at, each_more, numbered_more, zipped_more}
+use Rattle.folders.specs.Each.{AreEach}
+use Rattle.cli.specs.Loading.{AreDimensionColumns, AreFragmentColumns, IsDimensionFile, IsFragmentFile, header_of, rows_in}
+use Rattle.folders.proofs.Each.{each_at, each_more, numbered_more, zipped_more}
 
 wrote_more : {A : Type 0} (IsFile : A → File → Type 0) (xs : List A) (x : A) (path : List ℕ) (AreSuch : List ℕ → Type 0) (before now after : Option (List File))
     → Writes (AreEach IsFile xs) before now → WritesOne path AreSuch now after → ((bytes : List ℕ) → AreSuch bytes → IsFile x (path, bytes)) → Writes (AreEach IsFile (xs ++ x ∷ [])) before after

@@ -1,7 +1,5 @@
 -- The definitions of this crate.
 pub mod Command
-pub mod Folder
 pub mod Loading
 pub mod Running
 pub mod Status
-pub mod Telling

@@ -16,14 +16,8 @@ use Rattle.wire.specs.Bytes.{sealed}
 use Rattle.fragment_file.specs.Writing.{AreColumns}
 use Rattle.fragment_file.specs.CutFile.{cut_bytes}
 use Rattle.fragment_file.specs.declared.header.Header.{Header}
-use Rattle.cli.specs.Folder.{Holds, File, AreHeld, Writes, catalog_path, csv_path, fragment_path, dimension_path, cut_path}
-
--- each of a list belongs to that of the other list at its place, and none is left over
-abbrev pub AreEach : {A B : Type 0} → (A → B → Type 0) → List A → List B → Type 0
-AreEach Fits [] [] = ⊤
-AreEach Fits [] (y ∷ ys) = ⊥
-AreEach Fits (x ∷ xs) [] = ⊥
-AreEach Fits (x ∷ xs) (y ∷ ys) = Fits x y × AreEach Fits xs ys
+use Rattle.folders.specs.Each.{AreEach}
+use Rattle.folders.specs.Folder.{Holds, File, AreHeld, Writes, catalog_path, csv_path, fragment_path, dimension_path, cut_path}
 
 -- ---- loading
 

@@ -7,11 +7,15 @@ use Rattle.loader.specs.Source.{csv_records}
 use Rattle.coordinator.specs.Gathering.{GatherSpec}
 use Rattle.coordinator.specs.Whole.{Files, Input, IsAnswered}
 use Rattle.coordinator.specs.declared.reporting.Ended.{Ended}
-use Rattle.cli.specs.Folder.{Holds, File, AreHeld, catalog_path, csv_path}
+use Rattle.folders.specs.Folder.{Holds, File, AreHeld, catalog_path, csv_path}
 use Rattle.cli.specs.Loading.{IsLoaded}
-use Rattle.cli.specs.Status.{end_status}
+use Rattle.jobs.specs.Gathering.{IsGathered}
+use Rattle.jobs.specs.Working.{IsWorked}
+use Rattle.jobs.specs.declared.commands.GatherCommand.{GatherCommand}
+use Rattle.coordinator.specs.declared.reporting.Report.{Report}
+use Rattle.cli.specs.Status.{end_status, report_status}
 use Rattle.cli.specs.declared.commands.Command.{Command}
-use Rattle.cli.specs.declared.commands.Command.TheVariants.{Whole, Load}
+use Rattle.cli.specs.declared.commands.Command.TheVariants.{Whole, Load, Work, Gather}
 use Rattle.cli.specs.declared.tables.CsvFile.{CsvFile}
 use Rattle.cli.specs.declared.tables.Tables.{Tables}
 
@@ -56,9 +60,19 @@ pub record IsDone (holds : Holds) (folder query : List ℕ) (rows vector : ℕ) 
   pub answered : IsAnswered (input_over text tables query vector) before after ended gather
   pub ends : status ≡ end_status ended
 
--- the command was done; a query writes no file
-abbrev pub IsDoneFor : Holds → Command → Option (List ℕ) → Option (List ℕ) → Option (List File) → Option (List File) → ℕ → Type 0
-IsDoneFor holds (Whole folder query rows vector) before after wrote_before wrote_after status =
-    IsDone holds folder query rows vector before after status × (wrote_after ≡ wrote_before)
-IsDoneFor holds (Load folder load rows) before after wrote_before wrote_after status =
-    (status ≡ 0) × IsLoaded holds folder load rows before after wrote_before wrote_after
+-- files were gathered, and the status is that of the report
+pub record IsReportedAs (holds : Holds) (command : GatherCommand) (before after err_before err_after : Option (List ℕ)) (wrote_before wrote_after : Option (List File)) (status : ℕ) : Type 0 where
+  pub report : Report
+  pub gathered : IsGathered holds command before after err_before err_after wrote_before wrote_after report
+  pub ends : status ≡ report_status report
+
+-- the command was done; `whole` writes no file, `work` prints nothing, and `gather` alone writes to standard error
+abbrev pub IsDoneFor : Holds → Command → Option (List ℕ) → Option (List ℕ) → Option (List ℕ) → Option (List ℕ) → Option (List File) → Option (List File) → ℕ → Type 0
+IsDoneFor holds (Whole folder query rows vector) before after err_before err_after wrote_before wrote_after status =
+    IsDone holds folder query rows vector before after status × (wrote_after ≡ wrote_before) × (err_after ≡ err_before)
+IsDoneFor holds (Load folder load rows) before after err_before err_after wrote_before wrote_after status =
+    (status ≡ 0) × IsLoaded holds folder load rows before after wrote_before wrote_after × (err_after ≡ err_before)
+IsDoneFor holds (Work command) before after err_before err_after wrote_before wrote_after status =
+    (status ≡ 0) × IsWorked holds command wrote_before wrote_after × (after ≡ before) × (err_after ≡ err_before)
+IsDoneFor holds (Gather command) before after err_before err_after wrote_before wrote_after status =
+    IsReportedAs holds command before after err_before err_after wrote_before wrote_after status

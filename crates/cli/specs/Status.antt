@@ -2,6 +2,8 @@
 use Rattle.std.specs.Prelude.{◌≡◌, ◌⊎◌, ℕ}
 use Rattle.coordinator.specs.declared.reporting.Ended.{Ended}
 use Rattle.coordinator.specs.declared.reporting.Ended.TheVariants.{Rows, Fault}
+use Rattle.coordinator.specs.declared.reporting.Report.{Report}
+use Rattle.coordinator.specs.declared.reporting.Report.TheVariants as report
 use Rattle.cli.specs.declared.usage_fault.UsageFault.{UsageFault}
 use Rattle.cli.specs.declared.usage_fault.UsageFault.TheVariants.{Memory, Encoding, Words}
 
@@ -16,6 +18,13 @@ abbrev pub end_status : Ended → ℕ
 end_status Rows = 0
 end_status Fault = 3
 
--- a command that runs ends with 0, 1 or 3
+-- so does one that is gathered; where answers are missing or in conflict it ends with 4
+abbrev pub report_status : Report → ℕ
+report_status report.Rows = 0
+report_status report.Fault = 3
+report_status (report.Missing ks) = 4
+report_status (report.Conflict ks) = 4
+
+-- a command that runs ends with 0, 1, 3 or 4
 abbrev pub IsRunStatus : ℕ → Type 0
-IsRunStatus status = (status ≡ 0) ⊎ (status ≡ 1) ⊎ (status ≡ 3)
+IsRunStatus status = (status ≡ 0) ⊎ (status ≡ 1) ⊎ (status ≡ 3) ⊎ (status ≡ 4)

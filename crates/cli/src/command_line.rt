@@ -1,12 +1,15 @@
 //! The words of the command line, read by `clap`.
-ghost use Rattle.std.specs.Prelude.{◌≤◌, IfOk, IfSome};
+ghost use Rattle.std.specs.Prelude.{◌≡◌, ◌≤◌, ◌<◌, IfOk, IfSome, length};
+ghost use Rattle.meaning.specs.Limits.{max_fragments};
 ghost use Rattle.cli.specs.Command.{IsInRange};
 
 use crate::commands::Command;
 use crate::usage_fault::UsageFault;
 use clap::error::ErrorKind;
 use clap::{Arg, ArgMatches};
-use meaning::limits::{MAX_ROWS, MAX_VECTOR_ROWS};
+use jobs::{GatherCommand, WorkCommand};
+use meaning::limits::{MAX_FRAGMENTS, MAX_ROWS, MAX_VECTOR_ROWS};
+use meaning::sequence::Sequence;
 use meaning::text::Text;
 use std::alloc::{AllocError, Global};
 use std::mem::drop;
@@ -55,8 +58,10 @@ fn parser<'a>(alloc: Global) -> Result<clap::Command<'a>, AllocError> {
     let parser = empty_parser(alloc)?
         .about("Queries over a star of tables that lies in a folder")
         .subcommand_required(true);
-    let parser = with_subcommand(parser, whole_parser(alloc))?;
-    with_subcommand(parser, load_parser(alloc))
+    let parser = with_subcommand(parser, load_parser(alloc))?;
+    let parser = with_subcommand(parser, work_parser(alloc))?;
+    let parser = with_subcommand(parser, gather_parser(alloc))?;
+    with_subcommand(parser, whole_parser(alloc))
 }
 
 fn with_subcommand<'a>(
@@ -114,6 +119,37 @@ fn load_arg<'a>(alloc: Global) -> Arg<'a> {
         .help("The number that the files carry")
 }
 
+fn fragment_arg<'a>(alloc: Global) -> Arg<'a> {
+    Arg::new(alloc, "fragment")
+        .long("fragment")
+        .value_name("K")
+        .required(true)
+        .value_parser(clap::value_parser!(u32).range(0..=MAX_FRAGMENTS as i64 - 1))
+        .help("The number of the fragment")
+}
+
+fn out_arg<'a>(alloc: Global) -> Arg<'a> {
+    Arg::new(alloc, "out")
+        .long("out")
+        .value_name("F")
+        .required(true)
+        .help("The file that the answer is written to")
+}
+
+fn save_arg<'a>(alloc: Global) -> Arg<'a> {
+    Arg::new(alloc, "save")
+        .long("save")
+        .value_name("F")
+        .help("The file that the state is written to")
+}
+
+fn files_arg<'a>(alloc: Global) -> Arg<'a> {
+    Arg::new(alloc, "FILES")
+        .required(true)
+        .num_args(1..)
+        .help("Files of answers and of states")
+}
+
 fn whole_parser<'a>(alloc: Global) -> Result<clap::Command<'a>, AllocError> {
     let parser = clap::Command::new(alloc, "whole").about(
         "Answers a query in memory and prints the report",
@@ -131,12 +167,35 @@ fn load_parser<'a>(alloc: Global) -> Result<clap::Command<'a>, AllocError> {
     parser.arg(rows_arg(alloc))
 }
 
+fn work_parser<'a>(alloc: Global) -> Result<clap::Command<'a>, AllocError> {
+    let parser = clap::Command::new(alloc, "work").about(
+        "Answers a query for one fragment of the loaded tables",
+    );
+    let parser = parser.arg(folder_arg(alloc))?;
+    let parser = parser.arg(query_arg(alloc))?;
+    let parser = parser.arg(fragment_arg(alloc))?;
+    let parser = parser.arg(out_arg(alloc))?;
+    parser.arg(vector_arg(alloc))
+}
+
+fn gather_parser<'a>(alloc: Global) -> Result<clap::Command<'a>, AllocError> {
+    let parser = clap::Command::new(alloc, "gather").about(
+        "Prints what the answers of the fragments say together",
+    );
+    let parser = parser.arg(folder_arg(alloc))?;
+    let parser = parser.arg(query_arg(alloc))?;
+    let parser = parser.arg(save_arg(alloc))?;
+    parser.arg(files_arg(alloc))
+}
+
 fn found(alloc: Global, matches: &ArgMatches<'_>) -> Result<Option<Command>, AllocError>
     ensures { IfOk result (λ o. IfSome o IsInRange) }
 {
     match matches.subcommand() {
         Some(("whole", matches)) => whole(alloc, matches),
         Some(("load", matches)) => load(alloc, matches),
+        Some(("work", matches)) => work(alloc, matches),
+        Some(("gather", matches)) => gather(alloc, matches),
         _ => Ok(None),
     }
 }
@@ -178,6 +237,69 @@ fn load(alloc: Global, matches: &ArgMatches<'_>) -> Result<Option<Command>, Allo
     }))
 }
 
+fn work(alloc: Global, matches: &ArgMatches<'_>) -> Result<Option<Command>, AllocError>
+    ensures { IfOk result (λ o. IfSome o IsInRange) }
+{
+    let (Some(folder), Some(query), Some(out)) = (
+        matches.get_str("DIR"),
+        matches.get_str("query"),
+        matches.get_str("out"),
+    ) else {
+        return Ok(None);
+    };
+    let (Some(fragment), Some(vector)) = (
+        fragment_number(matches),
+        number(matches, "vector", MAX_VECTOR_ROWS as u32),
+    ) else {
+        return Ok(None);
+    };
+    Ok(Some(Command::Work(WorkCommand {
+        folder: Text::new(alloc, folder)?,
+        query: Text::new(alloc, query)?,
+        fragment,
+        out: Text::new(alloc, out)?,
+        vector,
+    })))
+}
+
+fn gather(alloc: Global, matches: &ArgMatches<'_>) -> Result<Option<Command>, AllocError>
+    ensures { IfOk result (λ o. IfSome o IsInRange) }
+{
+    let (Some(folder), Some(query), Some(words)) = (
+        matches.get_str("DIR"),
+        matches.get_str("query"),
+        matches.get_strs("FILES"),
+    ) else {
+        return Ok(None);
+    };
+    if words.is_empty() {
+        return Ok(None);
+    }
+    Ok(Some(Command::Gather(GatherCommand {
+        folder: Text::new(alloc, folder)?,
+        query: Text::new(alloc, query)?,
+        save: save(alloc, matches)?,
+        files: texts(alloc, words)?,
+    })))
+}
+
+fn save(alloc: Global, matches: &ArgMatches<'_>) -> Result<Option<Text>, AllocError> {
+    match matches.get_str("save") {
+        Some(path) => Ok(Some(Text::new(alloc, path)?)),
+        None => Ok(None),
+    }
+}
+
+fn texts(alloc: Global, words: &[&str]) -> Result<Sequence<Text>, AllocError>
+    ensures { IfOk result (λ texts. length texts ≡ length words.now) }
+{
+    let mut texts = Sequence::new(alloc);
+    for word in words {
+        texts.push(Text::new(alloc, word)?)?;
+    }
+    Ok(texts)
+}
+
 // The value of an option, where it is digits alone.
 fn digits<'a>(matches: &ArgMatches<'a>, id: &str) -> Option<&'a str> {
     let text = matches.get_str(id)?;
@@ -185,6 +307,17 @@ fn digits<'a>(matches: &ArgMatches<'a>, id: &str) -> Option<&'a str> {
         return None;
     }
     Some(text)
+}
+
+// From 0 on.
+fn fragment_number(matches: &ArgMatches<'_>) -> Option<u32>
+    ensures { IfSome result (λ n. n < max_fragments) }
+{
+    let number = digits(matches, "fragment")?.parse::<u32>().ok()?;
+    if number as usize >= MAX_FRAGMENTS {
+        return None;
+    }
+    Some(number)
 }
 
 fn load_number(matches: &ArgMatches<'_>) -> Option<u64> {

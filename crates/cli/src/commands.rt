@@ -1,4 +1,5 @@
 //! The commands of the program.
+use jobs::{GatherCommand, WorkCommand};
 use meaning::text::Text;
 
 /// What the program is asked to do.
@@ -19,4 +20,8 @@ pub enum Command {
         load: u64,
         rows: u32,
     },
+    /// To answer a query for one fragment of the loaded tables.
+    Work(WorkCommand),
+    /// To gather answers and states of a query over the loaded tables.
+    Gather(GatherCommand),
 }

@@ -3,14 +3,15 @@
 ghost use Rattle.std.specs.Prelude.{◌≡◌, ◌≤◌, ◌<◌, Ok, IfOk, length, sum};
 ghost use Rattle.meaning.specs.Catalog.{IsWellFormed};
 ghost use Rattle.meaning.specs.Cut.{cut_of, even_lengths};
-ghost use Rattle.cli.specs.Folder.{AreHeld, csv_path};
-ghost use Rattle.cli.specs.Loading.{AreEach, IsDimensionLoaded, IsFactLoaded};
+ghost use Rattle.folders.specs.Folder.{AreHeld, csv_path};
+ghost use Rattle.folders.specs.Each.{AreEach};
+ghost use Rattle.cli.specs.Loading.{IsDimensionLoaded, IsFactLoaded};
 
-use crate::folder::Folder;
-use crate::paths::csv_path;
-use crate::refusal::{Refusal, load_refusal};
-use crate::tables::{counted_rows, try_read};
+use crate::tables::counted_rows;
 use columns::Column;
+use folders::files::read_file;
+use folders::paths::csv_path;
+use folders::{Folder, Refusal, load_refusal};
 use loader::{load_dimension, load_fact};
 use meaning::catalog::{Catalog, Dimension};
 use meaning::cut::Cut;
@@ -45,10 +46,7 @@ fn read_csv<F: Folder>(
     ensures { IfOk result (λ bytes. AreHeld (F.holds folder.now (csv_path directory.now table.now)) bytes.items) }
 {
     let path = csv_path(alloc, directory, table.as_str())?;
-    match try_read(alloc, folder, path.as_str())? {
-        Some(bytes) => Ok(bytes),
-        None => Err(Refusal::CannotRead(path)),
-    }
+    read_file(alloc, folder, &path)
 }
 
 fn even_cut(alloc: Global, counted: u64, rows: u32) -> Result<Cut, Refusal>

@@ -7,20 +7,20 @@ ghost use Rattle.meaning.specs.CatalogText.{catalog_of};
 ghost use Rattle.coordinator.specs.Gathering.{GatherSpec};
 ghost use Rattle.coordinator.specs.Whole.{IsAnswered};
 ghost use Rattle.cli.specs.Command.{IsInRange};
-ghost use Rattle.cli.specs.Folder.{AreHeld, Writes, catalog_path};
-ghost use Rattle.cli.specs.Loading.{AreDimensionColumns, AreEach, AreFiles, AreFragmentColumns, IsCatalogLoaded, IsLoaded, loaded_line};
-ghost use Rattle.cli.specs.Running.{AreTables, IsDone, IsDoneFor, input_over};
-ghost use Rattle.cli.specs.Status.{IsRunStatus, end_status};
+ghost use Rattle.folders.specs.Folder.{AreHeld, Writes, catalog_path};
+ghost use Rattle.folders.specs.Each.{AreEach};
+ghost use Rattle.cli.specs.Loading.{AreDimensionColumns, AreFiles, AreFragmentColumns, IsCatalogLoaded, IsLoaded, loaded_line};
+ghost use Rattle.cli.specs.Running.{AreTables, IsDone, IsDoneFor, IsReportedAs, input_over};
+ghost use Rattle.cli.specs.Status.{IsRunStatus, end_status, report_status};
 
 use crate::commands::Command;
-use crate::folder::Folder;
 use crate::loading::{Loaded, load_tables};
-use crate::paths::catalog_path;
-use crate::refusal::{Refusal, refusal_of};
 use crate::saving::save;
-use crate::tables::{Tables, lend_files, read_tables, try_read};
-use crate::telling::tell;
-use coordinator::{Ended, whole};
+use crate::tables::{Tables, lend_files, read_tables};
+use coordinator::{Ended, Report, whole};
+use folders::files::read_catalog_file;
+use folders::{Folder, Refusal, refusal_of, tell};
+use jobs::{GatherCommand, answer_fragment, gather_answers};
 use meaning::catalog::Catalog;
 use meaning::read_catalog::read_catalog;
 use std::alloc::Global;
@@ -37,17 +37,13 @@ fn status_of(ended: Ended) -> u8
     }
 }
 
-fn read_catalog_file<F: Folder>(
-    alloc: Global,
-    folder: &F,
-    directory: &str,
-) -> Result<Vec<u8>, Refusal>
-    ensures { IfOk result (λ bytes. AreHeld (F.holds folder.now (catalog_path directory.now)) bytes.items) }
+fn status_of_report(report: &Report) -> u8
+    ensures { result ≡ report_status report.now }
 {
-    let path = catalog_path(alloc, directory)?;
-    match try_read(alloc, folder, path.as_str())? {
-        Some(bytes) => Ok(bytes),
-        None => Err(Refusal::CannotRead(path)),
+    match report {
+        Report::Rows => 0,
+        Report::Fault => 3,
+        Report::Missing(_) | Report::Conflict(_) => 4,
     }
 }
 
@@ -182,15 +178,32 @@ fn load<F: Folder, O: Write>(
     loaded
 }
 
-fn status_by_command<F: Folder, O: Write>(
+fn gather<F: Folder, O: Write, E: Write>(
+    alloc: Global,
+    folder: &mut F,
+    command: &GatherCommand,
+    out: &mut O,
+    err: &mut E,
+) -> Result<u8, Refusal>
+    ensures status { IfOk result IsRunStatus }
+    ensures done { IfOk result (IsReportedAs (F.holds folder.old) command.now (O.contents out.old) (O.contents out.new)
+        (E.contents err.old) (E.contents err.new) (F.wrote folder.old) (F.wrote folder.new)) }
+{
+    let report = gather_answers(alloc, folder, command, out, err)?;
+    Ok(status_of_report(&report))
+}
+
+fn status_by_command<F: Folder, O: Write, E: Write>(
     alloc: Global,
     command: &Command,
     folder: &mut F,
     out: &mut O,
+    err: &mut E,
 ) -> Result<u8, Refusal>
     requires { IsInRange command.now }
     ensures status { IfOk result IsRunStatus }
-    ensures done { IfOk result (IsDoneFor (F.holds folder.old) command.now (O.contents out.old) (O.contents out.new) (F.wrote folder.old) (F.wrote folder.new)) }
+    ensures done { IfOk result (IsDoneFor (F.holds folder.old) command.now (O.contents out.old) (O.contents out.new)
+        (E.contents err.old) (E.contents err.new) (F.wrote folder.old) (F.wrote folder.new)) }
 {
     match command {
         Command::Whole {
@@ -210,12 +223,18 @@ fn status_by_command<F: Folder, O: Write>(
             load(alloc, folder, directory.as_str(), *number, *rows, out)?;
             Ok(0)
         }
+        Command::Work(command) => {
+            answer_fragment(alloc, folder, command)?;
+            Ok(0)
+        }
+        Command::Gather(command) => gather(alloc, folder, command, out, err),
     }
 }
 
-/// Does a command, and answers the program's exit status: 0 where a query gave rows or the tables were loaded, 3 where a
-/// query ended with a fault of arithmetic, 1 where the command was refused. A report goes to `out`, the line of a refusal
-/// to `err`.
+/// Does a command, and answers the program's exit status: 0 where a query gave rows, the tables were loaded or an answer
+/// was written, 3 where a query ended with a fault of arithmetic, 4 where answers are missing or in conflict, 1 where the
+/// command was refused. A report goes to `out`, the line of a refusal to `err`, and before it the lines of files that
+/// were passed over.
 pub fn run<F: Folder, O: Write, E: Write>(
     alloc: Global,
     command: &Command,
@@ -225,10 +244,10 @@ pub fn run<F: Folder, O: Write, E: Write>(
 ) -> u8
     requires { IsInRange command.now }
     ensures status { IsRunStatus result }
-    ensures done { result ≢ 1 → IsDoneFor (F.holds folder.old) command.now (O.contents out.old) (O.contents out.new) (F.wrote folder.old) (F.wrote folder.new) result }
-    ensures quiet { result ≢ 1 → E.contents err.new ≡ E.contents err.old }
+    ensures done { result ≢ 1 → IsDoneFor (F.holds folder.old) command.now (O.contents out.old) (O.contents out.new)
+        (E.contents err.old) (E.contents err.new) (F.wrote folder.old) (F.wrote folder.new) result }
 {
-    match status_by_command(alloc, command, folder, out) {
+    match status_by_command(alloc, command, folder, out, err) {
         Ok(status) => status,
         Err(refusal) => {
             // A closed standard error leaves nobody to tell.

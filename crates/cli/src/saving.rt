@@ -1,6 +1,6 @@
 //! Writes the files of `load`.
 // The files of loaded tables.
-ghost use Rattle.std.specs.Prelude.{◌≡◌, ◌≢◌, ◌≤◌, IfOk, OnOk, zip};
+ghost use Rattle.std.specs.Prelude.{◌≡◌, ◌≤◌, OnOk, zip};
 ghost use Rattle.std.specs.List.{enumerate_from};
 ghost use Rattle.meaning.specs.Limits.{max_rows};
 ghost use Rattle.meaning.specs.Catalog.{IsWellFormed, IsWellFormedTable};
@@ -9,64 +9,22 @@ ghost use Rattle.fragment_file.specs.Fragment.{IsHeader, Stands, table_header};
 ghost use Rattle.wire.specs.Bytes.{sealed};
 ghost use Rattle.fragment_file.specs.Writing.{AreColumns, AreColumnsOf};
 ghost use Rattle.fragment_file.specs.CutFile.{cut_bytes};
-ghost use Rattle.fragment_file.specs.declared.fault.FileFault.TheVariants as no_file;
-ghost use Rattle.cli.specs.declared.refusal.Refusal.TheVariants.{Memory, CannotWrite};
-ghost use Rattle.cli.specs.Folder.{Finishes, IsEmptyFile, Writes, WritesOne, fragment_path, dimension_path, cut_path};
-ghost use Rattle.cli.specs.Loading.{AreDimensionColumns, AreEach, AreFiles, AreFragmentColumns, IsDimensionFile, IsFragmentFile, header_of, rows_in};
+ghost use Rattle.folders.specs.Folder.{Writes, WritesOne, fragment_path, dimension_path, cut_path};
+ghost use Rattle.folders.specs.Each.{AreEach};
+ghost use Rattle.cli.specs.Loading.{AreDimensionColumns, AreFiles, AreFragmentColumns, IsDimensionFile, IsFragmentFile, header_of, rows_in};
 
-use crate::folder::Folder;
 use crate::loading::Loaded;
-use crate::paths::{cut_path, dimension_path, fragment_path};
-use crate::refusal::{Refusal, cannot_write};
 use columns::Column;
+use folders::files::{create_file, finish_file, refusal_of_file};
+use folders::paths::{cut_path, dimension_path, fragment_path};
+use folders::{Folder, Refusal};
 use fragment_file::header::{Header, Slice};
-use fragment_file::{FileFault, write, write_cut};
+use fragment_file::{write, write_cut};
 use meaning::catalog::{Catalog, Dimension, Table};
 use meaning::cut::Cut;
 use meaning::sequence::Sequence;
 use meaning::text::Text;
 use std::alloc::Global;
-use std::io;
-use std::io::ErrorKind;
-
-/// How it is told that the file of a path was not written.
-fn device_refusal(path: &Text, error: io::Error) -> Refusal
-    ensures { result ≢ Memory → result ≡ CannotWrite path.now }
-{
-    match error.kind() {
-        ErrorKind::OutOfMemory => Refusal::Memory,
-        _ => cannot_write(path),
-    }
-}
-
-fn file_refusal(path: &Text, fault: FileFault) -> Refusal
-    ensures memory { fault ≡ no_file.Memory → result ≡ Memory }
-    ensures told { result ≢ Memory → result ≡ CannotWrite path.now }
-{
-    match fault {
-        FileFault::Memory => Refusal::Memory,
-        _ => cannot_write(path),
-    }
-}
-
-fn create<F: Folder>(folder: &mut F, path: &Text) -> Result<F::Writer, Refusal>
-    ensures empty { IfOk result (λ file. IsEmptyFile (F.wrote folder.old) (F.Writer.contents file)) }
-    ensures same { F.wrote folder.new ≡ F.wrote folder.old }
-{
-    match folder.create(path.as_str()) {
-        Ok(file) => Ok(file),
-        Err(error) => Err(device_refusal(path, error)),
-    }
-}
-
-fn finish<F: Folder>(folder: &mut F, path: &Text, file: F::Writer) -> Result<(), Refusal>
-    ensures { OnOk result (Finishes (F.wrote folder.old) (F.wrote folder.new) path.now (F.Writer.contents file)) }
-{
-    match folder.finish(path.as_str(), file) {
-        Ok(()) => Ok(()),
-        Err(error) => Err(device_refusal(path, error)),
-    }
-}
 
 fn save_rows<F: Folder>(
     alloc: Global,
@@ -79,10 +37,10 @@ fn save_rows<F: Folder>(
     requires columns { AreColumnsOf header.now columns.now }
     ensures { OnOk result (WritesOne path.now (λ bytes. Stands bytes header.now columns.now) (F.wrote folder.old) (F.wrote folder.new)) }
 {
-    let mut file = create(folder, path)?;
+    let mut file = create_file(folder, path)?;
     match write(alloc, header, columns, &mut file) {
-        Ok(()) => finish(folder, path, file),
-        Err(fault) => Err(file_refusal(path, fault)),
+        Ok(()) => finish_file(folder, path, file),
+        Err(fault) => Err(refusal_of_file(path, fault)),
     }
 }
 
@@ -97,10 +55,10 @@ fn save_cut<F: Folder>(
         (F.wrote folder.old) (F.wrote folder.new)) }
 {
     let path = cut_path(alloc, directory)?;
-    let mut file = create(folder, &path)?;
+    let mut file = create_file(folder, &path)?;
     match write_cut(load, cut, &mut file) {
-        Ok(()) => finish(folder, &path, file),
-        Err(fault) => Err(file_refusal(&path, fault)),
+        Ok(()) => finish_file(folder, &path, file),
+        Err(fault) => Err(refusal_of_file(&path, fault)),
     }
 }
 

@@ -4,19 +4,17 @@ ghost use Rattle.std.specs.Prelude.{◌≡◌, ◌≤◌, ℕ, Ok, IfOk, IfSome,
 ghost use Rattle.meaning.specs.Cut.{cut_of, even_lengths};
 ghost use Rattle.loader.specs.Source.{csv_records};
 ghost use Rattle.coordinator.specs.Whole.{files_in};
-ghost use Rattle.cli.specs.Folder.{AreHeld};
+ghost use Rattle.folders.specs.Folder.{AreHeld};
 ghost use Rattle.cli.specs.Running.{AreTables, IsCsvOf, files_of, rows_behind};
 
-use crate::folder::Folder;
-use crate::paths::csv_path;
-use crate::refusal::{Refusal, load_refusal};
+use folders::files::try_read;
+use folders::paths::csv_path;
+use folders::{Folder, Refusal, load_refusal};
 use loader::count_rows;
 use meaning::catalog::Catalog;
 use meaning::cut::Cut;
 use meaning::text::Text;
 use std::alloc::{AllocError, Global};
-use std::io;
-use std::io::{ErrorKind, Read};
 
 /// The bytes of a table's CSV file.
 #[derive(Drop)]
@@ -31,32 +29,6 @@ pub struct Tables {
     pub fact: Option<CsvFile>,
     pub dims: Vec<CsvFile>,
     pub cut: Cut,
-}
-
-fn read_bytes<F: Folder>(alloc: Global, folder: &F, path: &str) -> io::Result<Vec<u8>>
-    ensures { IfOk result (λ bytes. AreHeld (F.holds folder.now path.now) bytes.items) }
-{
-    let mut file = folder.open(path)?;
-    let mut bytes = Vec::new(alloc);
-    file.read_to_end(&mut bytes)?;
-    Ok(bytes)
-}
-
-/// The bytes of a file, where it can be read.
-pub fn try_read<F: Folder>(
-    alloc: Global,
-    folder: &F,
-    path: &str,
-) -> Result<Option<Vec<u8>>, Refusal>
-    ensures { IfOk result (λ found. IfSome found (λ bytes. AreHeld (F.holds folder.now path.now) bytes.items)) }
-{
-    match read_bytes(alloc, folder, path) {
-        Ok(bytes) => Ok(Some(bytes)),
-        Err(error) => match error.kind() {
-            ErrorKind::OutOfMemory => Err(Refusal::Memory),
-            _ => Ok(None),
-        },
-    }
 }
 
 fn try_read_csv<F: Folder>(

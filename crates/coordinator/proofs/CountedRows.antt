@@ -6,10 +6,12 @@ use Rattle.std.proofs.lemmas.Bool.{cases_Bool, cases_lt, ltb-false, leb-false}
 use Rattle.std.proofs.lemmas.List.FromFn.{get_or-enumerate_from, length-enumerate_from}
 use Rattle.meaning.specs.declared.catalog.Catalog.{Catalog}
 use Rattle.meaning.specs.declared.catalog.Column.{Column}
+use Rattle.meaning.specs.declared.catalog.Dimension.{Dimension}
+use Rattle.meaning.specs.Limits.{max_rows}
 use Rattle.meaning.specs.declared.table.TableFault.{TableFault}
 use Rattle.meaning.specs.declared.table.TableFault.TheVariants as fault
 use Rattle.meaning.specs.Order.{Row, column}
-use Rattle.meaning.specs.Records.{Record, fact_of, file_order, is_header, is_repeated, key_of, judged_record, row_of, table_of, unless_few, unless_repeated}
+use Rattle.meaning.specs.Records.{Record, dimension_of, fact_of, file_order, is_header, is_repeated, key_of, judged_record, row_of, table_of, unless_few, unless_repeated}
 use Rattle.meaning.specs.Results.{all_ok, and_then, with_result}
 use Rattle.meaning.specs.Cut.{Cut}
 
@@ -19,7 +21,7 @@ went_on (Ok x) next y e = (x, refl, e)
 went_on (Err f) next y e = cc e
 
 -- all went well only if each did
-ok_parts : {X E : Type 0} (r : Result X E) (rs : Result (List X) E) (xs : List X) → with_result r rs ≡ Ok xs → (y : X) × (ys : List X) × (r ≡ Ok y) × (rs ≡ Ok ys) × (xs ≡ y ∷ ys)
+pub ok_parts : {X E : Type 0} (r : Result X E) (rs : Result (List X) E) (xs : List X) → with_result r rs ≡ Ok xs → (y : X) × (ys : List X) × (r ≡ Ok y) × (rs ≡ Ok ys) × (xs ≡ y ∷ ys)
 ok_parts (Err f) rs xs e = cc e
 ok_parts (Ok y) (Err f) xs e = cc e
 ok_parts (Ok y) (Ok ys) xs e = (y, ys, refl, refl, cc e)
@@ -101,3 +103,7 @@ pub counted_fact : (catalog : Catalog) (cut : Cut) (records : List Record) (rows
 counted_fact catalog cut records rows e =
     let count = counted_table catalog.fact.columns None (sum cut) (sum cut) records rows e in
     omega (arith, count.0, count.1)
+
+-- a dimension that is loaded has no more rows than a dimension may have
+pub counted_dimension : (d : Dimension) (records : List Record) (rows : List Row) → dimension_of d records ≡ Ok rows → length rows ≤ max_rows
+counted_dimension d records rows e = (counted_table d.table.columns (Some d.key) 0 max_rows records rows e).1

@@ -1,64 +1,128 @@
 -- The fact's fragments, from the files to the answer.
-use Rattle.std.specs.Prelude.{◌≡◌, ℕ, List, [], Option, Result, Ok, Err, IfOk, IfErr}
+use Rattle.std.specs.Prelude.{◌≡◌, ℕ, List, [], ◌∷◌, map, zip, sum, Option, None, Result, Ok, Err, IfOk, IfErr}
 use Rattle.std.specs.Borrow.{Bor}
-use Rattle.std.proofs.Common.{refl, sym, ap}
+use Rattle.std.proofs.Common.{refl, sym, ap, ◌∙◌}
 use Rattle.meaning.specs.declared.catalog.Column.{Column}
 use Rattle.meaning.specs.declared.catalog.Catalog.{Catalog}
+use Rattle.meaning.specs.declared.plan.Join.{Join}
 use Rattle.meaning.specs.declared.plan.Plan.{Plan}
+use Rattle.meaning.specs.declared.table.TableFault.{TableFault}
+use Rattle.meaning.specs.Results.{all_ok, and_then, with_result}
 use Rattle.meaning.specs.Order.{Row}
 use Rattle.meaning.specs.Cut.{Cut}
 use Rattle.meaning.specs.Records.{fact_of}
+use Rattle.meaning.specs.Catalog.{IsWellFormedTable}
 use Rattle.meaning.specs.CatalogText.{catalog_of}
+use Rattle.meaning.proofs.LoadedTables.{rows_typed}
 use Rattle.columns.specs.Column.{ColumnSpec}
 use Rattle.loader.specs.Columns.{fragments_of, fact_fragments}
 use Rattle.loader.specs.Source.{csv_records}
 use Rattle.coordinator.specs.declared.reporting.Ended.{Ended}
 use Rattle.coordinator.specs.declared.whole_fault.WholeFault.{WholeFault}
 use Rattle.coordinator.specs.declared.whole_fault.WholeFault.TheVariants as fault
-use Rattle.coordinator.specs.Fragment.{AreFragments}
+use Rattle.coordinator.specs.Fragment.{AreFragments, AreTableFiles}
 use Rattle.coordinator.specs.Gathering.{GatherSpec}
-use Rattle.coordinator.specs.Single.{IsSingle}
-use Rattle.coordinator.specs.Whole.{Files, files_in, input_of, csv_of, tables_of, IsLoaded, IsPrepared, IsAnsweredOver, IsAnswered, RunsOver, IsEndRefusal, IsRefused}
-use Rattle.coordinator.proofs.CountedRows.{went_on, counted_fact}
-use Rattle.coordinator.proofs.Planned.{summable_if_planned}
+use Rattle.coordinator.specs.Whole.{Files, files_in, input_of, csv_of, joined_csvs, joined_from, joined_table, table_from, tables_of, IsLoaded, IsPrepared, IsAnsweredOver, IsAnswered, RunsOver, IsEndRefusal, IsRefused}
+use Rattle.coordinator.proofs.CountedRows.{went_on, ok_parts, counted_fact}
 
-tables_alone : (catalog : Catalog) (files : Files) (cut : Cut) (plan : Plan) (csv : List ℕ) (rows : List Row) → plan.joins ≡ []
-    → csv_of files plan.fact.name ≡ Ok csv → fact_of catalog cut (csv_records csv) ≡ Ok rows → tables_of catalog files cut plan ≡ Ok (rows, [])
-tables_alone catalog files cut plan csv rows alone there found = rw (there, alone, found) refl
+-- ---- the joined tables
 
--- the fact's file gives its fragments
-pub loaded : (catalog : Catalog) (files : Files) (cut : Cut) (plan : Plan) (csv : List ℕ) (fragments : List (List ColumnSpec)) → IsSingle plan
-    → csv_of files plan.fact.name ≡ Ok csv → fact_fragments catalog cut (csv_records csv) ≡ Ok fragments → IsLoaded catalog files cut plan fragments
-loaded catalog files cut plan csv fragments single there e =
-    let (rows, found, made) = went_on (fact_of catalog cut (csv_records csv)) (λ rows. Ok (fragments_of catalog.fact.columns cut rows)) fragments e in
-    let alone : plan.joins ≡ [] = ap (λ (p : Plan). p.joins) single.form in
-    let same : fragments_of catalog.fact.columns cut rows ≡ fragments = cc made in
-    record {
-      rows = rows;
-      tables = tables_alone catalog files cut plan csv rows alone there found;
-      fragments_are = sym same;
-      whole = counted_fact catalog cut (csv_records csv) rows found;
+-- where each file is found, looking for it again beside loading it makes no difference
+pub found_again : (catalog : Catalog) (files : Files) (joins : List Join) (csvs : List (List ℕ)) → joined_csvs files joins ≡ Ok csvs
+    → all_ok (map (joined_table catalog) (zip joins csvs)) ≡ all_ok (map (joined_from catalog files) joins)
+found_again catalog files [] csvs found = refl
+found_again catalog files (j ∷ joins) csvs found =
+    let (csv, others, first, rest, all) = ok_parts (csv_of files j.dim.name) (joined_csvs files joins) csvs found in
+    let again : joined_from catalog files j ≡ joined_table catalog (j, csv) = ap (λ (r : Result (List ℕ) WholeFault). and_then r (λ csv. joined_table catalog (j, csv))) first in
+    ap (λ (cs : List (List ℕ)). all_ok (map (joined_table catalog) (zip (j ∷ joins) cs))) all
+    ∙ (λ i. with_result ((sym again) i) (found_again catalog files joins others rest i))
+
+-- ---- all tables
+
+module _ (catalog : Catalog) (files : Files) (cut : Cut) (plan : Plan) where
+  -- what is made of the tables, step by step
+  abbrev tables_behind : List ℕ → List (List ℕ) → Result (List Row × List (List Row)) WholeFault
+  tables_behind fact_csv csvs =
+      and_then (table_from (fact_of catalog cut (csv_records fact_csv))) (λ rows.
+      and_then (all_ok (map (joined_table catalog) (zip plan.joins csvs))) (λ dims.
+      Ok (rows, dims)))
+
+  -- where all files are found, the tables are loaded
+  tables_found : (csv : List ℕ) (csvs : List (List ℕ)) → csv_of files plan.fact.name ≡ Ok csv → joined_csvs files plan.joins ≡ Ok csvs → tables_of catalog files cut plan ≡ tables_behind csv csvs
+  tables_found csv csvs there found =
+      ap (λ (r : Result (List ℕ) WholeFault). and_then r (λ fact_csv. and_then (joined_csvs files plan.joins) (λ csvs. tables_behind fact_csv csvs))) there
+      ∙ ap (λ (r : Result (List (List ℕ)) WholeFault). and_then r (λ csvs. tables_behind csv csvs)) found
+
+  -- the fact isn't found, or a dimension
+  pub fact_missing : (e : WholeFault) → csv_of files plan.fact.name ≡ Err e → tables_of catalog files cut plan ≡ Err e
+  fact_missing e missing = ap (λ (r : Result (List ℕ) WholeFault). and_then r (λ fact_csv. and_then (joined_csvs files plan.joins) (λ csvs. tables_behind fact_csv csvs))) missing
+
+  pub dimension_missing : (csv : List ℕ) (e : WholeFault) → csv_of files plan.fact.name ≡ Ok csv → joined_csvs files plan.joins ≡ Err e → tables_of catalog files cut plan ≡ Err e
+  dimension_missing csv e there missing =
+      ap (λ (r : Result (List ℕ) WholeFault). and_then r (λ fact_csv. and_then (joined_csvs files plan.joins) (λ csvs. tables_behind fact_csv csvs))) there
+      ∙ ap (λ (r : Result (List (List ℕ)) WholeFault). and_then r (λ csvs. tables_behind csv csvs)) missing
+
+  -- the fact isn't loaded
+  pub fact_refused : (csv : List ℕ) (csvs : List (List ℕ)) (e : TableFault) → csv_of files plan.fact.name ≡ Ok csv → joined_csvs files plan.joins ≡ Ok csvs
+      → fact_fragments catalog cut (csv_records csv) ≡ Err e → tables_of catalog files cut plan ≡ Err (fault.Load e)
+  fact_refused csv csvs e there found refused =
+      let bad = stops_there (fact_of catalog cut (csv_records csv)) (λ rows. fragments_of catalog.fact.columns cut rows) e refused in
+      tables_found csv csvs there found
+      ∙ ap (λ (r : Result (List Row) TableFault). and_then (table_from r) (λ rows. and_then (all_ok (map (joined_table catalog) (zip plan.joins csvs))) (λ dims. Ok (rows, dims)))) bad
+    where
+      stops_there : {X Y E : Type 0} (r : Result X E) (f : X → Y) (e : E) → and_then r (λ x. Ok (f x)) ≡ Err e → r ≡ Err e
+      stops_there (Ok x) f e is = absurd cc
+      stops_there (Err g) f e is = cc is
+
+  module _ (csv : List ℕ) (csvs : List (List ℕ)) (fragments : List (List ColumnSpec)) (well : IsWellFormedTable catalog.fact) (there : csv_of files plan.fact.name ≡ Ok csv)
+      (found : joined_csvs files plan.joins ≡ Ok csvs) (made : fact_fragments catalog cut (csv_records csv) ≡ Ok fragments) where
+    parts : (rows : List Row) × (fact_of catalog cut (csv_records csv) ≡ Ok rows) × (fragments_of catalog.fact.columns cut rows ≡ fragments)
+    parts =
+        let (rows, loaded, gives) = went_on (fact_of catalog cut (csv_records csv)) (λ rows. Ok (fragments_of catalog.fact.columns cut rows)) fragments made in
+        (rows, loaded, cc gives)
+
+    joined_behind : (r : Result (List (List Row)) WholeFault) → all_ok (map (joined_from catalog files) plan.joins) ≡ r
+        → tables_of catalog files cut plan ≡ and_then r (λ dims. Ok (parts.0, dims))
+    joined_behind r is =
+        tables_found csv csvs there found
+        ∙ ap (λ (s : Result (List Row) TableFault). and_then (table_from s) (λ rows. and_then (all_ok (map (joined_table catalog) (zip plan.joins csvs))) (λ dims. Ok (rows, dims)))) parts.1
+        ∙ ap (λ (s : Result (List (List Row)) WholeFault). and_then s (λ dims. Ok (parts.0, dims))) (found_again catalog files plan.joins csvs found ∙ is)
+
+    -- a dimension isn't loaded
+    pub dimension_refused : (e : WholeFault) → all_ok (map (joined_from catalog files) plan.joins) ≡ Err e → tables_of catalog files cut plan ≡ Err e
+    dimension_refused e refused = joined_behind (Err e) refused
+
+    -- the fact's file gives its fragments, and each dimension's its rows
+    pub loaded : (dims : List (List Row)) (dim_files : List (List ℕ)) → all_ok (map (joined_from catalog files) plan.joins) ≡ Ok dims → AreTableFiles dims dim_files → IsLoaded catalog files cut plan fragments dim_files
+    loaded dims dim_files good are = record {
+      rows = parts.0;
+      dims = dims;
+      tables = joined_behind (Ok dims) good;
+      fragments_are = sym parts.2;
+      whole = counted_fact catalog cut (csv_records csv) parts.0 parts.1;
+      typed = rows_typed catalog.fact None (sum cut) (sum cut) (csv_records csv) parts.0 well parts.1;
+      dims_are = are;
     }
 
-module _ (catalog : Catalog) (csvs : List (Bor (List ℕ) × Bor (List ℕ))) (query : List ℕ) (cut : Cut) (vector_len : ℕ) (plan : Plan) (fragments : List (List ColumnSpec)) (prepared : IsPrepared catalog (files_in csvs) query cut vector_len plan fragments) where
-  pub are_fragments : AreFragments plan catalog.fact.columns prepared.loaded.rows cut fragments
+module _ (catalog : Catalog) (csvs : List (Bor (List ℕ) × Bor (List ℕ))) (query : List ℕ) (cut : Cut) (vector_len : ℕ) (plan : Plan) (fragments : List (List ColumnSpec)) (dim_files : List (List ℕ)) (prepared : IsPrepared catalog (files_in csvs) query cut vector_len plan fragments dim_files) where
+  pub are_fragments : AreFragments catalog.fact prepared.loaded.rows cut fragments
   are_fragments = record {
     fragments_are = prepared.loaded.fragments_are;
     whole = prepared.loaded.whole;
-    summable = summable_if_planned catalog query plan prepared.planned;
+    typed = prepared.loaded.typed;
   }
 
   -- an answer over the fragments is one over the input
   pub answered : (before after : Option (List ℕ)) (result : Result (Ended × GatherSpec) WholeFault)
-      → IfOk result (λ r. (declared : List Column) (rows : List Row) → AreFragments plan declared rows cut fragments → IsAnsweredOver plan rows cut before after r.0 r.1)
+      → IfOk result (λ r. (rows : List Row) (dims : List (List Row)) → AreFragments catalog.fact rows cut fragments → AreTableFiles dims dim_files → IsAnsweredOver plan rows dims cut before after r.0 r.1)
       → IfOk result (λ r. (bytes : List ℕ) → catalog_of bytes ≡ Ok catalog → IsAnswered (input_of bytes csvs query cut vector_len) before after r.0 r.1)
   answered before after (Err e) over = tt
   answered before after (Ok r) over = λ bytes declared.
-      let told = over catalog.fact.columns prepared.loaded.rows are_fragments in
+      let told = over prepared.loaded.rows prepared.loaded.dims are_fragments prepared.loaded.dims_are in
       record {
         plan = plan;
         rows = prepared.loaded.rows;
-        dims = [];
+        dims = prepared.loaded.dims;
         over = record { catalog = catalog; declared = declared; planned = prepared.planned; tables = prepared.loaded.tables; vectors = prepared.vectors };
         printed = told.printed;
         ends = told.ends;
@@ -66,15 +130,14 @@ module _ (catalog : Catalog) (csvs : List (Bor (List ℕ) × Bor (List ℕ))) (q
       }
 
   -- a refusal at the end stands behind all that is well
-  runs_over : (bytes : List ℕ) → catalog_of bytes ≡ Ok catalog → RunsOver (input_of bytes csvs query cut vector_len) plan prepared.loaded.rows []
+  runs_over : (bytes : List ℕ) → catalog_of bytes ≡ Ok catalog → RunsOver (input_of bytes csvs query cut vector_len) plan prepared.loaded.rows prepared.loaded.dims
   runs_over bytes declared = record { catalog = catalog; declared = declared; planned = prepared.planned; tables = prepared.loaded.tables; vectors = prepared.vectors }
 
   stands : (e : WholeFault) → IsEndRefusal e → (bytes : List ℕ) → catalog_of bytes ≡ Ok catalog → IsRefused (input_of bytes csvs query cut vector_len) e
   stands fault.Memory end bytes declared = tt
-  stands fault.Writer end bytes declared = (plan, prepared.loaded.rows, [], runs_over bytes declared)
+  stands fault.Writer end bytes declared = (plan, prepared.loaded.rows, prepared.loaded.dims, runs_over bytes declared)
   stands (fault.Catalog e) end bytes declared = absurd end
   stands (fault.Sql e) end bytes declared = absurd end
-  stands fault.Later end bytes declared = absurd end
   stands (fault.Plan e) end bytes declared = absurd end
   stands (fault.MissingCsv table) end bytes declared = absurd end
   stands (fault.Load e) end bytes declared = absurd end

@@ -14,6 +14,7 @@ use Rattle.meaning.specs.declared.table.TableFault.{TableFault}
 use Rattle.meaning.specs.Order.{Row}
 use Rattle.meaning.specs.Cut.{Cut, numbered}
 use Rattle.meaning.specs.Meaning.{meaning}
+use Rattle.meaning.specs.TableLaws.{are_rows_of}
 use Rattle.meaning.specs.Print.{output_text}
 use Rattle.meaning.specs.Gather.{joined}
 use Rattle.meaning.specs.Laws.{own_answers}
@@ -21,10 +22,9 @@ use Rattle.meaning.specs.Results.{all_ok, and_then}
 use Rattle.meaning.specs.Records.{Record, fact_of, dimension_of}
 use Rattle.meaning.specs.CatalogText.{catalog_of}
 use Rattle.sql_reader.specs.declared.fault.SqlFault.{SqlFault}
-use Rattle.sql_reader.specs.Grammar.{IsTree, IsShort, IsWithin, IsRefusal}
+use Rattle.sql_reader.specs.Grammar.{IsWithin, IsRefusal}
 use Rattle.sql_reader.specs.declared.fault.SqlFault.TheVariants as sql
 use Rattle.meaning.specs.declared.catalog.CatalogFault.TheVariants as catalog_fault
-use Rattle.coordinator.specs.declared.planning.PlanFault.TheVariants as plan_fault
 use Rattle.last_step.specs.declared.print_fault.PrintFault.{PrintFault}
 use Rattle.last_step.specs.declared.print_fault.PrintFault.TheVariants as print_fault
 use Rattle.columns.specs.Column.{ColumnSpec}
@@ -35,11 +35,13 @@ use Rattle.loader.specs.Source.{csv_records}
 use Rattle.coordinator.specs.declared.reporting.Ended.{Ended}
 use Rattle.coordinator.specs.Reporting.{ended_as}
 use Rattle.partial_codec.specs.Job.{IsPlanOfJob}
-use Rattle.coordinator.specs.Single.{IsSingle}
+use Rattle.coordinator.specs.Fragment.{AreTableFiles, IsTableFile}
 use Rattle.coordinator.specs.Gathering.{GatherSpec}
 use Rattle.sql_syntax.specs.declared.tree.Query.{Query}
-use Rattle.coordinator.specs.Planning.{Form, HasForm, tree_of, plan_of}
-use Rattle.coordinator.specs.declared.planning.PlanFault.{PlanFault}
+use Rattle.planner.specs.Planned.{planned}
+use Rattle.planner_expressions.specs.declared.fault.PlanFault.{PlanFault}
+use Rattle.planner_expressions.specs.declared.fault.PlanFault.TheVariants as plan_fault
+use Rattle.meaning.specs.WellFormedPlan.{IsWellFormedPlan}
 use Rattle.coordinator.specs.declared.whole_fault.WholeFault.{WholeFault}
 use Rattle.coordinator.specs.declared.whole_fault.WholeFault.TheVariants as fault
 
@@ -82,29 +84,22 @@ Gives view (Err e) meant = e ≢ fault.Memory → meant ≡ Err e
 
 -- ---- the plan
 
--- the query's text is one of the forms, and this is its plan
-pub record IsPlanned (catalog : Catalog) (query : List ℕ) (planned : Result Plan PlanFault) : Type 0 where
-  pub form : Form
-  pub tree : IsTree query (tree_of form)
-  pub short : IsShort query (tree_of form)
-  pub gives : plan_of catalog form ≡ planned
-
--- the query's text has a tree of the grammar that is none of the forms
-abbrev pub IsLater : List ℕ → Type 0
-IsLater query = (q : Query) × IsWithin query q × (HasForm q → ⊥)
+-- the query's text has a tree within the limits, of which this is the plan or the first fault
+pub record IsPlanned (catalog : Catalog) (query : List ℕ) (told : Result Plan PlanFault) : Type 0 where
+  pub tree : Query
+  pub within : IsWithin query tree
+  pub gives : planned catalog tree ≡ told
 
 -- why a tree has no plan
 abbrev pub IsTreeRefused : Catalog → Query → WholeFault → Type 0
 IsTreeRefused catalog q fault.Memory = ⊤
-IsTreeRefused catalog q fault.Later = HasForm q → ⊥
-IsTreeRefused catalog q (fault.Plan e) = (form : Form) × (q ≡ tree_of form) × (plan_of catalog form ≡ Err e)
+IsTreeRefused catalog q (fault.Plan e) = planned catalog q ≡ Err e
 IsTreeRefused catalog q _ = ⊥
 
 -- why the query has no plan
 abbrev pub IsPlanRefused : Catalog → List ℕ → WholeFault → Type 0
 IsPlanRefused catalog query fault.Memory = ⊤
 IsPlanRefused catalog query (fault.Sql e) = (e ≢ sql.Memory) × IsRefusal query e
-IsPlanRefused catalog query fault.Later = IsLater query
 IsPlanRefused catalog query (fault.Plan e) = IsPlanned catalog query (Err e)
 IsPlanRefused catalog query _ = ⊥
 
@@ -131,12 +126,16 @@ rows_of_dimension (Some d) records = table_from (dimension_of d records)
 abbrev pub joined_table : Catalog → Join × List ℕ → Result (List Row) WholeFault
 joined_table catalog p = rows_of_dimension (find (λ d. bytes_eq d.table.name p.0.dim.name) catalog.dims) (csv_records p.1)
 
+-- the files of the joins' dimensions
+abbrev pub joined_csvs : Files → List Join → Result (List (List ℕ)) WholeFault
+joined_csvs files joins = all_ok (map (λ j. csv_of files j.dim.name) joins)
+
 -- the fact's rows and those of each joined dimension: first each file is found, the fact's before the dimensions', then they are
 -- loaded in this order
 abbrev pub tables_of : Catalog → Files → Cut → Plan → Result (List Row × List (List Row)) WholeFault
 tables_of catalog files cut plan =
     and_then (csv_of files plan.fact.name) (λ fact_csv.
-    and_then (all_ok (map (λ j. csv_of files j.dim.name) plan.joins)) (λ csvs.
+    and_then (joined_csvs files plan.joins) (λ csvs.
     and_then (table_from (fact_of catalog cut (csv_records fact_csv))) (λ rows.
     and_then (all_ok (map (joined_table catalog) (zip plan.joins csvs))) (λ dims.
     Ok (rows, dims)))))
@@ -166,13 +165,12 @@ pub record RunsOver (input : Input) (plan : Plan) (rows : List Row) (dims : List
   pub tables : tables_of catalog input.files input.cut plan ≡ Ok (rows, dims)
   pub vectors : is_vector_length input.vector_len ≡ true
 
--- where each refusal stands in the input: the catalogue, the query, its form, its plan, the tables, the vectors' length, and last the writer,
+-- where each refusal stands in the input: the catalogue, the query, its plan, the tables, the vectors' length, and last the writer,
 -- each where all before it is well
 abbrev pub IsRefused : Input → WholeFault → Type 0
 IsRefused input fault.Memory = ⊤
 IsRefused input (fault.Catalog e) = catalog_of input.catalog ≡ Err e
 IsRefused input (fault.Sql e) = (catalog : Catalog) × (catalog_of input.catalog ≡ Ok catalog) × (e ≢ sql.Memory) × IsRefusal input.query e
-IsRefused input fault.Later = (catalog : Catalog) × (catalog_of input.catalog ≡ Ok catalog) × IsLater input.query
 IsRefused input (fault.Plan e) = (catalog : Catalog) × (catalog_of input.catalog ≡ Ok catalog) × IsPlanned catalog input.query (Err e)
 IsRefused input (fault.MissingCsv table) = (catalog : Catalog) × (plan : Plan) × (catalog_of input.catalog ≡ Ok catalog) × IsPlanned catalog input.query (Ok plan) × (tables_of catalog input.files input.cut plan ≡ Err (fault.MissingCsv table))
 IsRefused input (fault.Load e) = (catalog : Catalog) × (plan : Plan) × (catalog_of input.catalog ≡ Ok catalog) × IsPlanned catalog input.query (Ok plan) × (tables_of catalog input.files input.cut plan ≡ Err (fault.Load e))
@@ -188,37 +186,53 @@ IsTablesRefused catalog files cut plan vector_len (fault.Load e) = tables_of cat
 IsTablesRefused catalog files cut plan vector_len fault.VectorLength = (tables : List Row × List (List Row)) × (tables_of catalog files cut plan ≡ Ok tables) × (is_vector_length vector_len ≡ false)
 IsTablesRefused catalog files cut plan vector_len _ = ⊥
 
--- the fragments of the fact's rows, just as many as the cut has, where no table is joined
-pub record IsLoaded (catalog : Catalog) (files : Files) (cut : Cut) (plan : Plan) (fragments : List (List ColumnSpec)) : Type 0 where
+-- ---- steps
+
+-- the rows of a dimension's CSV file
+abbrev pub dimension_table : Dimension → List ℕ → Result (List Row) WholeFault
+dimension_table d csv = table_from (dimension_of d (csv_records csv))
+
+-- the rows of a join's dimension, where its file is looked for first
+abbrev pub joined_from : Catalog → Files → Join → Result (List Row) WholeFault
+joined_from catalog files j = and_then (csv_of files j.dim.name) (λ csv. joined_table catalog (j, csv))
+
+-- a file of the rows that are meant
+abbrev pub IsFileOf : Result (List Row) WholeFault → List ℕ → Type 0
+IsFileOf meant bytes = (rows : List Row) × (meant ≡ Ok rows) × IsTableFile rows bytes
+
+-- the fragments of the fact's rows, just as many as the cut has and each of its column's type, and a file of each join's dimension
+pub record IsLoaded (catalog : Catalog) (files : Files) (cut : Cut) (plan : Plan) (fragments : List (List ColumnSpec)) (dim_files : List (List ℕ)) : Type 0 where
   pub rows : List Row
-  pub tables : tables_of catalog files cut plan ≡ Ok (rows, [])
+  pub dims : List (List Row)
+  pub tables : tables_of catalog files cut plan ≡ Ok (rows, dims)
   pub fragments_are : fragments ≡ fragments_of catalog.fact.columns cut rows
   pub whole : length rows ≡ sum cut
+  pub typed : are_rows_of catalog.fact.columns rows ≡ true
+  pub dims_are : AreTableFiles dims dim_files
 
--- a query of one aggregate with its plan and the fact's fragments
-pub record IsPrepared (catalog : Catalog) (files : Files) (query : List ℕ) (cut : Cut) (vector_len : ℕ) (plan : Plan) (fragments : List (List ColumnSpec)) : Type 0 where
+-- a query with its plan and its tables
+pub record IsPrepared (catalog : Catalog) (files : Files) (query : List ℕ) (cut : Cut) (vector_len : ℕ) (plan : Plan) (fragments : List (List ColumnSpec)) (dim_files : List (List ℕ)) : Type 0 where
   pub planned : IsPlanned catalog query (Ok plan)
-  pub single : IsSingle plan
+  pub well_formed : IsWellFormedPlan plan
   pub job : IsPlanOfJob plan
-  pub loaded : IsLoaded catalog files cut plan fragments
+  pub loaded : IsLoaded catalog files cut plan fragments dim_files
   pub vectors : is_vector_length vector_len ≡ true
 
 -- the same, of a catalogue that was read
 abbrev pub IsPrepareRefused : Catalog → Files → List ℕ → Cut → ℕ → WholeFault → Type 0
 IsPrepareRefused catalog files query cut vector_len fault.Memory = ⊤
 IsPrepareRefused catalog files query cut vector_len (fault.Sql e) = (e ≢ sql.Memory) × IsRefusal query e
-IsPrepareRefused catalog files query cut vector_len fault.Later = IsLater query
 IsPrepareRefused catalog files query cut vector_len (fault.Plan e) = IsPlanned catalog query (Err e)
 IsPrepareRefused catalog files query cut vector_len (fault.MissingCsv table) = (plan : Plan) × IsPlanned catalog query (Ok plan) × (tables_of catalog files cut plan ≡ Err (fault.MissingCsv table))
 IsPrepareRefused catalog files query cut vector_len (fault.Load e) = (plan : Plan) × IsPlanned catalog query (Ok plan) × (tables_of catalog files cut plan ≡ Err (fault.Load e))
 IsPrepareRefused catalog files query cut vector_len fault.VectorLength = (plan : Plan) × (tables : List Row × List (List Row)) × IsPlanned catalog query (Ok plan) × (tables_of catalog files cut plan ≡ Ok tables) × (is_vector_length vector_len ≡ false)
 IsPrepareRefused catalog files query cut vector_len _ = ⊥
 
--- the answer over a fact's rows
-pub record IsAnsweredOver (plan : Plan) (rows : List Row) (cut : Cut) (before after : Option (List ℕ)) (ended : Ended) (gather : GatherSpec) : Type 0 where
-  pub printed : Appends before after (output_text plan (meaning plan [] (numbered rows)))
-  pub ends : ended ≡ ended_as (meaning plan [] (numbered rows))
-  pub state : gather ≡ record { job = record { load = 0; plan = plan; cut = cut }; cells = joined cut (own_answers plan [] cut rows (range_with_len 0 (length cut))) }
+-- the answer over a fact's rows and those of its dimensions
+pub record IsAnsweredOver (plan : Plan) (rows : List Row) (dims : List (List Row)) (cut : Cut) (before after : Option (List ℕ)) (ended : Ended) (gather : GatherSpec) : Type 0 where
+  pub printed : Appends before after (output_text plan (meaning plan dims (numbered rows)))
+  pub ends : ended ≡ ended_as (meaning plan dims (numbered rows))
+  pub state : gather ≡ record { job = record { load = 0; plan = plan; cut = cut }; cells = joined cut (own_answers plan dims cut rows (range_with_len 0 (length cut))) }
 
 -- what has been printed is what the query means over the tables; it says whether that is rows or a fault; and the state is that
 -- of just every fragment's own answer

@@ -1,5 +1,5 @@
 //! A whole query in memory, from CSV files to what is printed.
-ghost use Rattle.std.specs.Prelude.{◌≡◌, ◌<◌, ◌≤◌, [], ◌∷◌, ◌++◌, ℕ, List, length, slice_index, IfOk, IfErr, OnOk, Ok, true, false};
+ghost use Rattle.std.specs.Prelude.{◌≡◌, ◌<◌, ◌≤◌, [], ◌∷◌, ◌++◌, ℕ, List, length, map, slice_index, IfOk, IfErr, OnOk, Ok, true, false};
 ghost use Rattle.std.specs.List.{range_with_len, enumerate_from};
 ghost use Rattle.std.specs.Io.KnownBytes.{Appends};
 ghost use Rattle.meaning.specs.Limits.{max_rows};
@@ -13,20 +13,21 @@ ghost use Rattle.meaning.specs.CatalogText.{catalog_of};
 ghost use Rattle.meaning.specs.Cut.{IsCut};
 ghost use Rattle.partial_codec.specs.Answer.{Spells};
 ghost use Rattle.partial_codec.specs.Job.{IsPlanOfJob};
-ghost use Rattle.meaning.specs.declared.catalog.Column.{Column as Declared};
+ghost use Rattle.meaning.specs.Catalog.{IsWellFormed, IsWellFormedTable};
+ghost use Rattle.meaning.specs.WellFormedPlan.{IsWellFormedPlan};
 ghost use Rattle.meaning.specs.Order.{Row};
-ghost use Rattle.coordinator.specs.Fragment.{IsFragmentFor, AreFragments};
+ghost use Rattle.coordinator.specs.Fragment.{AreFragments, AreRowsOfJob, AreTableFiles, IsFileable};
 ghost use Rattle.coordinator.specs.Reporting.{ended_as};
-ghost use Rattle.coordinator.specs.Single.{IsSingle};
 ghost use Rattle.coordinator.specs.Whole.{IsAnswered, IsAnsweredOver, IsLoaded, IsPrepared, IsPrepareRefused, IsTablesRefused, IsRefused, IsEndRefusal, files_in, input_of, is_vector_length};
 
-use crate::answering::answer_fragment;
+use crate::files::{LOAD, Rows, file_of, lend_files};
 use crate::gather::Gather;
-use crate::inputs::{load_tables, plan_query};
+use crate::inputs::{Tables, load_tables, plan_query};
 use crate::reporting::{Ended, ended_of, find, print_finding};
 use crate::whole_fault::WholeFault;
 use columns::Column;
-use meaning::catalog::Catalog;
+use fragment_file::header::Slice;
+use meaning::catalog::{Catalog, Table};
 use meaning::cut::Cut;
 use meaning::limits::MAX_VECTOR_ROWS;
 use meaning::plan::Plan;
@@ -36,9 +37,7 @@ use partial_codec::{Job, encode};
 use std::alloc::{AllocError, Global};
 use std::io::Write;
 use std::mem::drop;
-
-/// The number of the load that is made here, and goes with the call.
-const LOAD: u64 = 0;
+use worker::work;
 
 fn copy_cut(alloc: Global, cut: &Cut) -> Result<Cut, WholeFault>
     ensures value { IfOk result (λ copy. copy ≡ cut.now) }
@@ -49,48 +48,44 @@ fn copy_cut(alloc: Global, cut: &Cut) -> Result<Cut, WholeFault>
     Cut::new(lengths).map_err(|_| WholeFault::Memory)
 }
 
-/// A fragment's own answer, spelled for the job.
+/// The rows' answer, which is a fragment's own, spelled for the job.
 fn answer_bytes(
     alloc: Global,
     job: &Job,
-    columns: &[Column],
-    row_count: u32,
-    k: u32,
+    rows: Rows<'_>,
+    dims: &[&[u8]],
+    vector_len: usize,
 ) -> Result<Vec<u8>, AllocError>
-    requires single { IsSingle job.now.plan }
-    requires place { k < length job.now.cut }
-    requires rows { slice_index job.now.cut k ≡ row_count }
-    requires few { row_count ≤ max_rows }
-    requires fragment { (declared : List Declared) × (rows : List Row) × IsFragmentFor job.now.plan declared rows row_count columns.now }
-    ensures { IfOk result (λ bytes. (declared : List Declared) (rows : List Row) (first : ℕ) → IsFragmentFor job.now.plan declared rows row_count columns.now
-        → Spells job.now bytes.items (record { k = k; body = own_body job.now.plan [] (enumerate_from first rows) })) }
+    requires plan { IsWellFormedPlan job.now.plan }
+    requires rows { IsFileable rows }
+    ensures { IfOk result (λ bytes. (all : List Row) (tables : List (List Row)) → AreRowsOfJob job.now rows.entry all → AreTableFiles tables (map (λ d. d.now) dims.now)
+        → Spells job.now bytes.items (record { k = rows.entry.slice.fragment; body = own_body job.now.plan tables (enumerate_from rows.entry.slice.first_row all) })) }
 {
-    let answer = answer_fragment(alloc, job.plan(), columns, row_count, k)?;
-    let bytes = encode(alloc, job, &answer);
-    drop(answer);
-    bytes
+    let file = file_of(alloc, rows)?;
+    match work(alloc, job, &file, dims, rows.slice.fragment, vector_len) {
+        Ok(answer) => encode(alloc, job, &answer),
+        // The files are those that the job names, so memory was wanting.
+        Err(_) => Err(AllocError),
+    }
 }
 
-/// Answers for a fragment of so many rows, and has the coordinator take the answer's bytes.
+/// Has the coordinator take the bytes of the rows' answer.
 fn answer_one(
     alloc: Global,
     gather: &mut Gather,
-    columns: &[Column],
-    row_count: u32,
-    k: u32,
+    rows: Rows<'_>,
+    dims: &[&[u8]],
+    vector_len: usize,
 ) -> Result<(), WholeFault>
-    requires single { IsSingle gather.now.job.plan }
-    requires place { k < length gather.now.job.cut }
-    requires rows { slice_index gather.now.job.cut k ≡ row_count }
-    requires few { row_count ≤ max_rows }
-    requires fragment { (declared : List Declared) × (rows : List Row) × IsFragmentFor gather.now.job.plan declared rows row_count columns.now }
+    requires plan { IsWellFormedPlan gather.now.job.plan }
+    requires rows { IsFileable rows }
     ensures same { OnOk result (gather.new.job ≡ gather.old.job) }
-    ensures taken { OnOk result ((answers : List AnAnswer) (declared : List Declared) (rows : List Row) (first : ℕ) → IsFragmentFor gather.old.job.plan declared rows row_count columns.now
+    ensures taken { OnOk result ((answers : List AnAnswer) (all : List Row) (tables : List (List Row)) → AreRowsOfJob gather.old.job rows.entry all → AreTableFiles tables (map (λ d. d.now) dims.now)
         → gather.old.cells ≡ joined gather.old.job.cut answers
-        → gather.new.cells ≡ joined gather.old.job.cut (answers ++ record { k = k; body = own_body gather.old.job.plan [] (enumerate_from first rows) } ∷ [])) }
+        → gather.new.cells ≡ joined gather.old.job.cut (answers ++ record { k = rows.entry.slice.fragment; body = own_body gather.old.job.plan tables (enumerate_from rows.entry.slice.first_row all) } ∷ [])) }
     ensures refused { IfErr result (λ e. e ≡ WholeFault.Memory) }
 {
-    let bytes = answer_bytes(alloc, gather.job(), columns, row_count, k)?;
+    let bytes = answer_bytes(alloc, gather.job(), rows, dims, vector_len)?;
     match gather.absorb(alloc, bytes.as_slice()) {
         Ok(_) => Ok(()),
         // An answer's own bytes are refused only when out of memory.
@@ -98,33 +93,50 @@ fn answer_one(
     }
 }
 
-/// Answers for each fragment in turn. The lengths are those of the job's cut.
-fn answer_fragments(
-    alloc: Global,
-    gather: &mut Gather,
-    lengths: &[u32],
-    fragments: &[Sequence<Column>],
-) -> Result<(), WholeFault>
-    requires single { IsSingle gather.now.job.plan }
-    requires cut { gather.now.job.cut ≡ lengths.now }
-    requires within_limits { IsCut lengths.now }
-    requires fragments { (declared : List Declared) × (rows : List Row) × AreFragments gather.now.job.plan declared rows lengths.now fragments.now }
-    requires nothing { gather.now.cells ≡ joined lengths.now [] }
+/// The fact's fragments, the files of the joined dimensions, and how many rows a vector has.
+#[derive(Clone, Copy)]
+struct Star<'a> {
+    fact: &'a Table,
+    cut: &'a Cut,
+    fragments: &'a [Sequence<Column>],
+    dims: &'a [&'a [u8]],
+    vector_len: usize,
+}
+
+/// Answers for each fragment in turn.
+fn answer_fragments(alloc: Global, gather: &mut Gather, star: Star<'_>) -> Result<(), WholeFault>
+    requires plan { IsWellFormedPlan gather.now.job.plan }
+    requires table { IsWellFormedTable star.fact.now }
+    requires cut { gather.now.job.cut ≡ star.cut.now }
+    requires fragments { (rows : List Row) × AreFragments star.fact.now rows star.cut.now star.fragments.now }
+    requires nothing { gather.now.cells ≡ joined star.cut.now [] }
     ensures same { OnOk result (gather.new.job ≡ gather.old.job) }
-    ensures taken { OnOk result ((declared : List Declared) (rows : List Row) → AreFragments gather.old.job.plan declared rows lengths.now fragments.now
-        → gather.new.cells ≡ joined lengths.now (own_answers gather.old.job.plan [] lengths.now rows (range_with_len 0 (length lengths.now)))) }
+    ensures taken { OnOk result ((rows : List Row) (tables : List (List Row)) → AreFragments star.entry.fact.now rows star.entry.cut.now star.entry.fragments.now
+        → AreTableFiles tables (map (λ d. d.now) star.entry.dims.now)
+        → gather.new.cells ≡ joined star.entry.cut.now (own_answers gather.old.job.plan tables star.entry.cut.now rows (range_with_len 0 (length star.entry.cut.now)))) }
     ensures refused { IfErr result (λ e. e ≡ WholeFault.Memory) }
 {
+    let lengths = star.cut.lengths();
+    let mut first_row = 0;
     for k in 0..lengths.len() {
-        let columns = fragments[k].as_slice();
-        answer_one(alloc, gather, columns, lengths[k], k as u32)?;
+        let rows = Rows {
+            table: star.fact,
+            columns: star.fragments[k].as_slice(),
+            slice: Slice {
+                fragment: k as u32,
+                first_row,
+                rows: lengths[k],
+            },
+        };
+        answer_one(alloc, gather, rows, star.dims, star.vector_len)?;
+        first_row += u64::from(lengths[k]);
     }
     Ok(())
 }
 
 /// A coordinator that has taken no answer.
 fn start(alloc: Global, plan: Plan, cut: &Cut) -> Result<Gather, WholeFault>
-    requires single { IsSingle plan }
+    requires plan { IsWellFormedPlan plan }
     requires job { IsPlanOfJob plan }
     ensures value { IfOk result (λ g. g ≡ record { job = record { load = 0; plan = plan; cut = cut.now }; cells = joined cut.now [] }) }
     ensures refused { IfErr result (λ e. e ≡ WholeFault.Memory) }
@@ -139,21 +151,18 @@ fn start(alloc: Global, plan: Plan, cut: &Cut) -> Result<Gather, WholeFault>
 }
 
 /// A coordinator that has taken just every fragment's own answer.
-fn answer_all(
-    alloc: Global,
-    plan: Plan,
-    cut: &Cut,
-    fragments: &[Sequence<Column>],
-) -> Result<Gather, WholeFault>
-    requires single { IsSingle plan }
+fn answer_all(alloc: Global, plan: Plan, star: Star<'_>) -> Result<Gather, WholeFault>
+    requires plan { IsWellFormedPlan plan }
     requires job { IsPlanOfJob plan }
-    requires fragments { (declared : List Declared) × (rows : List Row) × AreFragments plan declared rows cut.now fragments.now }
-    ensures state { IfOk result (λ g. (declared : List Declared) (rows : List Row) → AreFragments plan declared rows cut.now fragments.now
-        → g ≡ record { job = record { load = 0; plan = plan; cut = cut.now }; cells = joined cut.now (own_answers plan [] cut.now rows (range_with_len 0 (length cut.now))) }) }
+    requires table { IsWellFormedTable star.fact.now }
+    requires fragments { (rows : List Row) × AreFragments star.fact.now rows star.cut.now star.fragments.now }
+    ensures state { IfOk result (λ g. (rows : List Row) (tables : List (List Row)) → AreFragments star.entry.fact.now rows star.entry.cut.now star.entry.fragments.now
+        → AreTableFiles tables (map (λ d. d.now) star.entry.dims.now)
+        → g ≡ record { job = record { load = 0; plan = plan; cut = star.entry.cut.now }; cells = joined star.entry.cut.now (own_answers plan tables star.entry.cut.now rows (range_with_len 0 (length star.entry.cut.now))) }) }
     ensures refused { IfErr result (λ e. e ≡ WholeFault.Memory) }
 {
-    let mut gather = start(alloc, plan, cut)?;
-    match answer_fragments(alloc, &mut gather, cut.lengths(), fragments) {
+    let mut gather = start(alloc, plan, star.cut)?;
+    match answer_fragments(alloc, &mut gather, star) {
         Ok(()) => Ok(gather),
         Err(e) => {
             drop(gather);
@@ -186,14 +195,14 @@ fn check_vector_len(vector_len: usize) -> Result<(), WholeFault>
     Ok(())
 }
 
-/// A plan and the fact's fragments.
+/// A plan and its tables.
 #[derive(Drop)]
 struct Run {
     plan: Plan,
-    fragments: Vec<Sequence<Column>>,
+    tables: Tables,
 }
 
-/// The fact's fragments, and the vectors' length behind them.
+/// The tables, and the vectors' length behind them.
 fn checked_tables(
     alloc: Global,
     catalog: &Catalog,
@@ -201,17 +210,17 @@ fn checked_tables(
     cut: &Cut,
     plan: &Plan,
     vector_len: usize,
-) -> Result<Vec<Sequence<Column>>, WholeFault>
-    requires { IsSingle plan.now }
-    ensures loaded { IfOk result (λ fragments. IsLoaded catalog.now (files_in csvs.now) cut.now plan.now fragments.items) }
+) -> Result<Tables, WholeFault>
+    requires catalog { IsWellFormed catalog.now }
+    ensures loaded { IfOk result (λ tables. IsLoaded catalog.now (files_in csvs.now) cut.now plan.now tables.fragments.items tables.dims.items) }
     ensures vectors { OnOk result (is_vector_length vector_len ≡ true) }
     ensures refused { IfErr result (IsTablesRefused catalog.now (files_in csvs.now) cut.now plan.now vector_len) }
 {
-    let fragments = load_tables(alloc, catalog, csvs, cut, plan)?;
+    let tables = load_tables(alloc, catalog, csvs, cut, plan)?;
     match check_vector_len(vector_len) {
-        Ok(()) => Ok(fragments),
+        Ok(()) => Ok(tables),
         Err(e) => {
-            drop(fragments);
+            drop(tables);
             Err(e)
         }
     }
@@ -226,12 +235,13 @@ fn prepare(
     cut: &Cut,
     vector_len: usize,
 ) -> Result<Run, WholeFault>
-    ensures prepared { IfOk result (λ run. IsPrepared catalog.now (files_in csvs.now) query.now cut.now vector_len run.plan run.fragments.items) }
+    requires { IsWellFormed catalog.now }
+    ensures prepared { IfOk result (λ run. IsPrepared catalog.now (files_in csvs.now) query.now cut.now vector_len run.plan run.tables.fragments.items run.tables.dims.items) }
     ensures refused { IfErr result (IsPrepareRefused catalog.now (files_in csvs.now) query.now cut.now vector_len) }
 {
     let plan = plan_query(alloc, catalog, query)?;
     match checked_tables(alloc, catalog, csvs, cut, &plan, vector_len) {
-        Ok(fragments) => Ok(Run { plan, fragments }),
+        Ok(tables) => Ok(Run { plan, tables }),
         Err(e) => {
             drop(plan);
             Err(e)
@@ -259,23 +269,62 @@ fn print_gathered<W: Write>(
     }
 }
 
+/// A coordinator that has taken the answers of all fragments of the plan's tables.
+fn answer_tables(
+    alloc: Global,
+    plan: Plan,
+    fact: &Table,
+    cut: &Cut,
+    tables: &Tables,
+    vector_len: usize,
+) -> Result<Gather, WholeFault>
+    requires plan { IsWellFormedPlan plan }
+    requires job { IsPlanOfJob plan }
+    requires fact { IsWellFormedTable fact.now }
+    requires fragments { (rows : List Row) × AreFragments fact.now rows cut.now tables.now.fragments.items }
+    ensures state { IfOk result (λ g. (rows : List Row) (dims : List (List Row)) → AreFragments fact.now rows cut.now tables.now.fragments.items
+        → AreTableFiles dims tables.now.dims.items
+        → g ≡ record { job = record { load = 0; plan = plan; cut = cut.now }; cells = joined cut.now (own_answers plan dims cut.now rows (range_with_len 0 (length cut.now))) }) }
+    ensures refused { IfErr result (λ e. e ≡ WholeFault.Memory) }
+{
+    match lend_files(alloc, &tables.dims) {
+        Ok(dims) => {
+            let star = Star {
+                fact,
+                cut,
+                fragments: &tables.fragments,
+                dims: &dims,
+                vector_len,
+            };
+            answer_all(alloc, plan, star)
+        }
+        Err(_) => {
+            drop(plan);
+            Err(WholeFault::Memory)
+        }
+    }
+}
+
 /// Answers for each fragment, gathers the answers and prints what they say together.
 fn answer_run<W: Write>(
     alloc: Global,
     run: Run,
+    fact: &Table,
     cut: &Cut,
+    vector_len: usize,
     out: &mut W,
 ) -> Result<(Ended, Gather), WholeFault>
-    requires single { IsSingle run.plan }
+    requires plan { IsWellFormedPlan run.plan }
     requires job { IsPlanOfJob run.plan }
-    requires fragments { (declared : List Declared) × (rows : List Row) × AreFragments run.plan declared rows cut.now run.fragments.items }
-    ensures answered { IfOk result (λ r. (declared : List Declared) (rows : List Row) → AreFragments run.plan declared rows cut.now run.fragments.items
-        → IsAnsweredOver run.plan rows cut.now (W.contents out.old) (W.contents out.new) r.0 r.1) }
+    requires fact { IsWellFormedTable fact.now }
+    requires fragments { (rows : List Row) × AreFragments fact.now rows cut.now run.tables.fragments.items }
+    ensures answered { IfOk result (λ r. (rows : List Row) (dims : List (List Row)) → AreFragments fact.now rows cut.now run.tables.fragments.items
+        → AreTableFiles dims run.tables.dims.items → IsAnsweredOver run.plan rows dims cut.now (W.contents out.old) (W.contents out.new) r.0 r.1) }
     ensures refused { IfErr result IsEndRefusal }
 {
-    let Run { plan, fragments } = run;
-    let gathered = answer_all(alloc, plan, cut, &fragments);
-    drop(fragments);
+    let Run { plan, tables } = run;
+    let gathered = answer_tables(alloc, plan, fact, cut, &tables, vector_len);
+    drop(tables);
     print_gathered(alloc, gathered?, out)
 }
 
@@ -289,13 +338,14 @@ fn answer_query<W: Write>(
     vector_len: usize,
     out: &mut W,
 ) -> Result<(Ended, Gather), WholeFault>
+    requires { IsWellFormed catalog.now }
     ensures answered { IfOk result (λ r. (bytes : List ℕ) → catalog_of bytes ≡ Ok catalog.now
         → IsAnswered (input_of bytes csvs.now query.now cut.now vector_len) (W.contents out.old) (W.contents out.new) r.0 r.1) }
     ensures refused { IfErr result (λ e. (bytes : List ℕ) → catalog_of bytes ≡ Ok catalog.now
         → IsRefused (input_of bytes csvs.now query.now cut.now vector_len) e) }
 {
     let run = prepare(alloc, catalog, csvs, query, cut, vector_len)?;
-    answer_run(alloc, run, cut, out)
+    answer_run(alloc, run, &catalog.fact, cut, vector_len, out)
 }
 
 /// Answers a query over CSV files, fragment by fragment, and prints the answer.

@@ -152,6 +152,20 @@ impl Gather {
         Ok(())
     }
 
+    /// Takes all that a state's bytes spell, as `from_state` reads them and `join` takes them. Their refusals are those of
+    /// `partial_codec::decode_state`. On error nothing changes.
+    pub fn absorb_state(&mut self, alloc: Global, bytes: &[u8]) -> Result<(), GatherFault>
+        // Each cell is joined with that which is spelled.
+        ensures joins { OnOk result ((cells : List ACell) × SpellsState self.old.job bytes.now cells
+            × (self.new ≡ joined_with self.old (record { job = self.old.job; cells = cells }))) }
+        ensures refused { IfErr result (RefusesState self.old.job bytes.now) }
+        ensures unchanged { OnErr result (self.new ≡ self.old) }
+    {
+        let cells = decode_state(alloc, &self.job, bytes)?;
+        join_all(&mut self.cells, cells);
+        Ok(())
+    }
+
     /// The one spelling of what is held.
     pub fn state_bytes(&self, alloc: Global) -> Result<Vec<u8>, GatherFault>
         ensures spelled { IfOk result (λ bytes. bytes.items ≡ state_bytes self.now.job self.now.cells) }

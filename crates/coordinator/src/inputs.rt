@@ -1,15 +1,15 @@
 //! The plan and the tables that a whole query runs over.
 // From the bytes that a call is given to a plan and the fact's fragments.
-ghost use Rattle.std.specs.Prelude.{◌≡◌, ◌≢◌, find, option_map, IfOk, IfErr, Ok, Err};
-ghost use Rattle.std.specs.Str.{bytes_eq};
+ghost use Rattle.std.specs.Prelude.{◌≡◌, ◌≢◌, IfOk, IfErr, Ok, Err};
+ghost use Rattle.meaning.specs.Catalog.{IsWellFormed};
+ghost use Rattle.meaning.specs.WellFormedPlan.{IsWellFormedPlan};
 ghost use Rattle.partial_codec.specs.Job.{IsPlanOfJob};
-ghost use Rattle.coordinator.specs.Planning.{Form, tree_of, plan_of};
-ghost use Rattle.coordinator.specs.Single.{IsSingle};
-ghost use Rattle.coordinator.specs.Whole.{IsPlanned, IsTreeRefused, IsPlanRefused, Gives, IsLoaded, files_in, csv_of, tables_of};
+ghost use Rattle.planner.specs.Planned.{planned};
+ghost use Rattle.coordinator.specs.Whole.{IsPlanned, IsTreeRefused, IsPlanRefused, IsLoaded, files_in, tables_of};
 ghost use Rattle.coordinator.specs.declared.whole_fault.WholeFault.TheVariants as fault;
 
-use crate::forms::has_form;
-use crate::planning::make_plan;
+use crate::csvs::{check_csvs, csv_of};
+use crate::files::joined_files;
 use crate::whole_fault::WholeFault;
 use columns::Column;
 use loader::load_fact;
@@ -17,27 +17,28 @@ use meaning::catalog::Catalog;
 use meaning::cut::Cut;
 use meaning::plan::Plan;
 use meaning::sequence::Sequence;
-use meaning::text::Text;
+use planner::plan;
 use sql_reader::read;
 use sql_reader::tree::Query;
 use std::alloc::Global;
 use std::mem::drop;
 
-/// The plan of a query's tree, where it is one of the two forms.
+/// The plan of a query's tree.
 fn plan_tree(alloc: Global, catalog: &Catalog, query: &Query) -> Result<Plan, WholeFault>
-    ensures planned { IfOk result (λ plan. (form : Form) × (query.now ≡ tree_of form) × (plan_of catalog.now form ≡ Ok plan)) }
+    ensures planned { IfOk result (λ plan. planned catalog.now query.now ≡ Ok plan) }
     ensures refused { IfErr result (IsTreeRefused catalog.now query.now) }
 {
-    if !has_form(query) {
-        return Err(WholeFault::Later);
-    }
-    Ok(make_plan(alloc, catalog, query)?)
+    Ok(plan(alloc, catalog, query)?)
 }
 
-/// The plan of a query's text.
+/// The plan of a query's text over a catalogue's tables.
+///
+/// # Errors
+///
+/// Out of memory, the text's first fault (`WholeFault::Sql`), or its plan's (`WholeFault::Plan`).
 pub fn plan_query(alloc: Global, catalog: &Catalog, query: &[u8]) -> Result<Plan, WholeFault>
     ensures planned { IfOk result (λ plan. IsPlanned catalog.now query.now (Ok plan)) }
-    ensures single { IfOk result IsSingle }
+    ensures well_formed { IfOk result IsWellFormedPlan }
     ensures job { IfOk result IsPlanOfJob }
     ensures refused { IfErr result (IsPlanRefused catalog.now query.now) }
 {
@@ -47,36 +48,34 @@ pub fn plan_query(alloc: Global, catalog: &Catalog, query: &[u8]) -> Result<Plan
     planned
 }
 
-fn find_csv<'a>(csvs: &[(&'a str, &'a [u8])], table: &str) -> Option<&'a [u8]>
-    ensures { option_map (λ csv. csv.now) result
-        ≡ option_map (λ file. file.1.now) (find (λ file. bytes_eq file.0.now table.now) csvs.now) }
-{
-    let (_, csv) = csvs.iter().find(|(name, _)| *name == table)?;
-    Some(csv)
+/// The fact's fragments, and the file of each joined dimension, in the order of the joins.
+#[derive(Drop)]
+pub struct Tables {
+    pub fragments: Vec<Sequence<Column>>,
+    pub dims: Vec<Sequence<u8>>,
 }
 
-/// The CSV file of a table.
-fn csv_of<'a>(csvs: &[(&'a str, &'a [u8])], table: &Text) -> Result<&'a [u8], WholeFault>
-    ensures { Gives (λ csv. csv.now) result (csv_of (files_in csvs.now) table.now) }
-{
-    match find_csv(csvs, table.as_str()) {
-        Some(csv) => Ok(csv),
-        None => Err(WholeFault::MissingCsv(table.clone()?)),
-    }
-}
-
-/// The fragments of the only table that the plan names, the fact.
+/// The tables that the plan names: first each CSV file is found, the fact's before the dimensions', then they are loaded in this
+/// order.
 pub fn load_tables(
     alloc: Global,
     catalog: &Catalog,
     csvs: &[(&str, &[u8])],
     cut: &Cut,
     plan: &Plan,
-) -> Result<Vec<Sequence<Column>>, WholeFault>
-    requires { IsSingle plan.now }
-    ensures loaded { IfOk result (λ fragments. IsLoaded catalog.now (files_in csvs.now) cut.now plan.now fragments.items) }
+) -> Result<Tables, WholeFault>
+    requires catalog { IsWellFormed catalog.now }
+    ensures loaded { IfOk result (λ tables. IsLoaded catalog.now (files_in csvs.now) cut.now plan.now tables.fragments.items tables.dims.items) }
     ensures refused { IfErr result (λ e. e ≢ fault.Memory → tables_of catalog.now (files_in csvs.now) cut.now plan.now ≡ Err e) }
 {
     let csv = csv_of(csvs, &plan.fact.name)?;
-    Ok(load_fact(alloc, catalog, csv, cut)?)
+    check_csvs(csvs, plan.joins.as_slice())?;
+    let fragments = load_fact(alloc, catalog, csv, cut)?;
+    match joined_files(alloc, catalog, csvs, plan.joins.as_slice()) {
+        Ok(dims) => Ok(Tables { fragments, dims }),
+        Err(e) => {
+            drop(fragments);
+            Err(e)
+        }
+    }
 }

@@ -230,4 +230,25 @@ impl Gather {
         drop(finding);
         Ok(printed?)
     }
+
+    /// Prints as `print_report` does, and says which report it was.
+    pub fn print_and_report<W: Write>(
+        &self,
+        alloc: Global,
+        out: &mut W,
+    ) -> Result<Report, GatherFault>
+        ensures printed { OnOk result (Appends (W.contents out.old) (W.contents out.new)
+            (report_text self.now.job.plan (report self.now.job.plan self.now.cells))) }
+        ensures value { IfOk result (λ r. r ≡ summary (report self.now.job.plan self.now.cells)) }
+        ensures refused { IfErr result IsPrintRefusal }
+    {
+        let finding = find(alloc, self)?;
+        match print_finding(alloc, self.job().plan(), &finding, out) {
+            Ok(()) => Ok(summary(finding)),
+            Err(fault) => {
+                drop(finding);
+                Err(GatherFault::from(fault))
+            }
+        }
+    }
 }

@@ -3,14 +3,14 @@ ghost use Rattle.std.specs.Prelude.{◌≡◌};
 ghost use Rattle.coordinator.specs.Whole.{of_catalog, of_sql, of_plan, of_load, of_print};
 ghost use Rattle.coordinator.specs.declared.whole_fault.WholeFault.TheVariants as fault;
 
-use crate::planning::PlanFault;
 use last_step::PrintFault;
 use loader::LoadFault;
 use meaning::catalog::CatalogFault;
 use meaning::table::TableFault;
 use meaning::text::Text;
+use planner_expressions::fault::PlanFault;
 use sql_reader::SqlFault;
-use std::alloc::AllocError;
+use std::alloc::{AllocError, AllocFailed};
 use thiserror::Error;
 
 /// Why a query was not answered: a layer's refusal, or one of the call's own.
@@ -22,9 +22,6 @@ pub enum WholeFault {
     Catalog(CatalogFault),
     #[error("the query is refused")]
     Sql(SqlFault),
-    /// The query is of the grammar, but none of the two forms that are answered so far.
-    #[error("such queries are not answered yet")]
-    Later,
     #[error("the query has no plan")]
     Plan(PlanFault),
     /// There is no CSV file of this table.
@@ -42,6 +39,14 @@ impl From<AllocError> for WholeFault {
     ghost from_gives = { λ _ given. given ≡ fault.Memory };
 
     fn from(_: AllocError) -> WholeFault {
+        WholeFault::Memory
+    }
+}
+
+impl<T: Drop> From<AllocFailed<T>> for WholeFault {
+    ghost from_gives = { λ _ given. given ≡ fault.Memory };
+
+    fn from(_: AllocFailed<T>) -> WholeFault {
         WholeFault::Memory
     }
 }

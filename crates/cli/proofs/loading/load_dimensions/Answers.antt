@@ -1,6 +1,6 @@
 -- Proofs of the goals of `load_dimensions` (`loading`).
 use Rattle.cli.specs.Loading.{IsDimensionLoaded}
-use Rattle.cli.proofs.Each.{each_next}
+use Rattle.folders.proofs.Each.{each_next}
 use Rattle.cli.proofs.loading.load_dimensions.Goals as goal
 
 pub loop-dim-preserved : goal.loop-dim-preserved

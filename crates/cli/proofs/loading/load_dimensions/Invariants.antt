@@ -1,6 +1,7 @@
 -- Loop invariants of `load_dimensions` (`loading`).
 use Rattle.std.proofs.Common.{take}
-use Rattle.cli.specs.Loading.{AreEach, IsDimensionLoaded}
+use Rattle.folders.specs.Each.{AreEach}
+use Rattle.cli.specs.Loading.{IsDimensionLoaded}
 use Rattle.cli.proofs.loading.load_dimensions.Given as goal
 
 abbrev pub invariant-loop-dim : goal.invariant-loop-dim

@@ -4,7 +4,7 @@ use Rattle.cli.proofs.running.answer.Goals as goal
 pub returns : goal.returns
 returns g c = record {
   text = c.as_slice-catalog.result.now;
-  held = rw c.as_slice-catalog.ensures.value c.in_ok-catalog.ensures;
+  held = rw c.as_slice-catalog.ensures.value c.in_ok-catalog.ensures.held;
   catalog = c.in_ok-tables.ensures.0;
   declared = c.in_ok-tables.ensures.1;
   tables = c.in_ok-tables.tables;

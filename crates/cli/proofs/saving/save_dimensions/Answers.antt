@@ -2,7 +2,7 @@
 use Rattle.std.proofs.Common.{◌≡◌, ◌<◌, List, length, get_or, sym, subst, ap, arith}
 use Rattle.columns.specs.Column.{ColumnSpec}
 use Rattle.cli.specs.Loading.{AreDimensionColumns, IsDimensionFile}
-use Rattle.cli.proofs.Each.{each_length}
+use Rattle.folders.proofs.Each.{each_length}
 use Rattle.cli.proofs.WrittenFiles.{dimension_at, dimension_more, dimensions_end}
 use Rattle.cli.proofs.saving.save_dimensions.Goals as goal
 

@@ -1,8 +1,9 @@
 -- Loop invariants of `save_dimensions` (`saving`).
 use Rattle.std.proofs.Common.{take}
 use Rattle.std.specs.Prelude.{zip}
-use Rattle.cli.specs.Folder.{Writes}
-use Rattle.cli.specs.Loading.{AreEach, IsDimensionFile}
+use Rattle.folders.specs.Folder.{Writes}
+use Rattle.folders.specs.Each.{AreEach}
+use Rattle.cli.specs.Loading.{IsDimensionFile}
 use Rattle.cli.proofs.saving.save_dimensions.Given as goal
 
 abbrev pub invariant-loop-i : goal.invariant-loop-i

@@ -2,7 +2,7 @@
 use Rattle.std.proofs.Common.{◌≡◌, ◌≤◌, ◌<◌, List, length, get_or, sym, subst, ap, arith}
 use Rattle.columns.specs.Column.{ColumnSpec}
 use Rattle.cli.specs.Loading.{AreFragmentColumns, IsFragmentFile}
-use Rattle.cli.proofs.Each.{each_length}
+use Rattle.folders.proofs.Each.{each_length}
 use Rattle.cli.proofs.WrittenFiles.{fragment_at, fragment_more, fragments_end, next_fits}
 use Rattle.cli.proofs.saving.save_fragments.Goals as goal
 

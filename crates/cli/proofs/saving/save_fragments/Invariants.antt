@@ -2,8 +2,9 @@
 use Rattle.std.proofs.Common.{◌≡◌, take}
 use Rattle.std.specs.List.{enumerate_from}
 use Rattle.meaning.specs.Cut.{first_row}
-use Rattle.cli.specs.Folder.{Writes}
-use Rattle.cli.specs.Loading.{AreEach, IsFragmentFile}
+use Rattle.folders.specs.Folder.{Writes}
+use Rattle.folders.specs.Each.{AreEach}
+use Rattle.cli.specs.Loading.{IsFragmentFile}
 use Rattle.cli.proofs.saving.save_fragments.Given as goal
 
 abbrev pub invariant-loop-k : goal.invariant-loop-k

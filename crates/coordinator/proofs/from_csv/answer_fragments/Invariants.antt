@@ -1,15 +1,17 @@
 -- Loop invariants of `answer_fragments` (`from_csv`).
-use Rattle.std.proofs.Common.{◌≡◌, [], List}
+use Rattle.std.proofs.Common.{◌≡◌, List, map}
 use Rattle.std.specs.List.{range_with_len}
-use Rattle.meaning.specs.declared.catalog.Column.{Column}
+use Rattle.meaning.specs.Cut.{first_row}
 use Rattle.meaning.specs.Order.{Row}
 use Rattle.meaning.specs.Gather.{joined}
 use Rattle.meaning.specs.Laws.{own_answers}
-use Rattle.coordinator.specs.Fragment.{AreFragments}
+use Rattle.coordinator.specs.Fragment.{AreFragments, AreTableFiles}
 use Rattle.coordinator.proofs.from_csv.answer_fragments.Given as goal
 
 abbrev pub invariant-loop-k : goal.invariant-loop-k
-invariant-loop-k l =
-    (l.gather.job ≡ l.fn.gather.job)
-    × ((declared : List Column) (rows : List Row) → AreFragments l.fn.gather.job.plan declared rows l.lengths l.fragments
-    → l.gather.cells ≡ joined l.lengths (own_answers l.fn.gather.job.plan [] l.lengths rows (range_with_len 0 l.k)))
+invariant-loop-k l = record {
+  same : l.gather.job ≡ l.fn.gather.job;
+  first : l.first_row ≡ first_row l.star.cut.now l.k;
+  taken : (rows : List Row) (tables : List (List Row)) → AreFragments l.star.fact.now rows l.star.cut.now l.star.fragments.now → AreTableFiles tables (map (λ d. d.now) l.star.dims.now)
+      → l.gather.cells ≡ joined l.star.cut.now (own_answers l.fn.gather.job.plan tables l.star.cut.now rows (range_with_len 0 l.k));
+}

@@ -6,19 +6,18 @@ pub answer_run-requires-clause-fragments : goal.answer_run-requires-clause-fragm
 answer_run-requires-clause-fragments g c =
     let run = c.in_ok-run.run' in
     let prepared = c.in_ok-run.ensures.prepared in (
-      c.args.catalog.now.fact.columns,
       prepared.loaded.rows,
-      are_fragments c.args.catalog.now c.args.csvs.now c.args.query.now c.args.cut.now c.args.vector_len run.plan run.fragments.items prepared,
+      are_fragments c.args.catalog.now c.args.csvs.now c.args.query.now c.args.cut.now c.args.vector_len run.plan run.tables.fragments.items run.tables.dims.items prepared,
     )
 
 pub returns-clause-answered : goal.returns-clause-answered
 returns-clause-answered g c =
     let run = c.in_ok-run.run' in
-    answered c.args.catalog.now c.args.csvs.now c.args.query.now c.args.cut.now c.args.vector_len run.plan run.fragments.items c.in_ok-run.ensures.prepared
+    answered c.args.catalog.now c.args.csvs.now c.args.query.now c.args.cut.now c.args.vector_len run.plan run.tables.fragments.items run.tables.dims.items c.in_ok-run.ensures.prepared
     (g.W.Write.contents c.args.out.now) (g.W.Write.contents c.answer_run.new.out) c.answer_run.result c.answer_run.ensures.answered
 
 pub returns-clause-refused : goal.returns-clause-refused
 returns-clause-refused g c =
     let run = c.in_ok-run.run' in
-    refused_at_end c.args.catalog.now c.args.csvs.now c.args.query.now c.args.cut.now c.args.vector_len run.plan run.fragments.items c.in_ok-run.ensures.prepared
+    refused_at_end c.args.catalog.now c.args.csvs.now c.args.query.now c.args.cut.now c.args.vector_len run.plan run.tables.fragments.items run.tables.dims.items c.in_ok-run.ensures.prepared
     c.answer_run.result c.answer_run.ensures.refused

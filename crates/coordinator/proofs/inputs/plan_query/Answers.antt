@@ -1,12 +1,12 @@
 -- Proofs of the goals of `plan_query` (`inputs`).
-use Rattle.coordinator.proofs.Planned.{planned_of_text, refused_of_text, single_as_planned, job_as_planned}
+use Rattle.coordinator.proofs.Planned.{planned_of_text, refused_of_text, well_formed_as_planned, job_as_planned}
 use Rattle.coordinator.proofs.inputs.plan_query.Goals as goal
 
 pub returns-clause-planned : goal.returns-clause-planned
 returns-clause-planned c = planned_of_text c.args.catalog.now c.args.query.now c.in_ok-tree.tree c.in_ok-tree.ensures.tree c.plan_tree-planned.result c.plan_tree-planned.ensures.planned
 
-pub returns-clause-single : goal.returns-clause-single
-returns-clause-single c = single_as_planned c.args.catalog.now c.args.query.now c.plan_tree-planned.result (returns-clause-planned c)
+pub returns-clause-well_formed : goal.returns-clause-well_formed
+returns-clause-well_formed c = well_formed_as_planned c.args.catalog.now c.args.query.now c.plan_tree-planned.result (returns-clause-planned c)
 
 pub returns-clause-job : goal.returns-clause-job
 returns-clause-job c = job_as_planned c.args.catalog.now c.args.query.now c.plan_tree-planned.result (returns-clause-planned c)

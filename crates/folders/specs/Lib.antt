@@ -1,0 +1,5 @@
+-- The definitions of this crate.
+pub mod Each
+pub mod Folder
+pub mod Refused
+pub mod Telling

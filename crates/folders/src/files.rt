@@ -1,0 +1,131 @@
+//! The files of a folder, read and written whole.
+ghost use Rattle.std.specs.Prelude.{◌≡◌, ◌≢◌, IfErr, IfOk, IfSome, OnOk};
+ghost use Rattle.fragment_file.specs.declared.fault.FileFault.TheVariants as no_file;
+ghost use Rattle.folders.specs.Folder.{AreHeld, Finishes, IsEmptyFile, WritesOne, catalog_path};
+ghost use Rattle.folders.specs.Refused.{IsUnread, IsUnwritten};
+ghost use Rattle.folders.specs.declared.refusal.Refusal.TheVariants.{Memory};
+
+use crate::folder::Folder;
+use crate::paths::catalog_path;
+use crate::refusal::{Refusal, cannot_read, cannot_write};
+use fragment_file::FileFault;
+use meaning::text::Text;
+use std::alloc::Global;
+use std::io;
+use std::io::{ErrorKind, Read, Write};
+
+// ---- reading
+
+fn read_bytes<F: Folder>(alloc: Global, folder: &F, path: &str) -> io::Result<Vec<u8>>
+    ensures { IfOk result (λ bytes. AreHeld (F.holds folder.now path.now) bytes.items) }
+{
+    let mut file = folder.open(path)?;
+    let mut bytes = Vec::new(alloc);
+    file.read_to_end(&mut bytes)?;
+    Ok(bytes)
+}
+
+/// The bytes of a file, where it can be read.
+pub fn try_read<F: Folder>(
+    alloc: Global,
+    folder: &F,
+    path: &str,
+) -> Result<Option<Vec<u8>>, Refusal>
+    ensures held { IfOk result (λ found. IfSome found (λ bytes. AreHeld (F.holds folder.now path.now) bytes.items)) }
+    ensures refused { IfErr result (λ e. e ≡ Memory) }
+{
+    match read_bytes(alloc, folder, path) {
+        Ok(bytes) => Ok(Some(bytes)),
+        Err(error) => match error.kind() {
+            ErrorKind::OutOfMemory => Err(Refusal::Memory),
+            _ => Ok(None),
+        },
+    }
+}
+
+/// The bytes of a file.
+pub fn read_file<F: Folder>(alloc: Global, folder: &F, path: &Text) -> Result<Vec<u8>, Refusal>
+    ensures held { IfOk result (λ bytes. AreHeld (F.holds folder.now path.now) bytes.items) }
+    ensures refused { IfErr result (IsUnread path.now) }
+{
+    match try_read(alloc, folder, path.as_str())? {
+        Some(bytes) => Ok(bytes),
+        None => Err(cannot_read(path)),
+    }
+}
+
+/// The bytes of a folder's catalogue.
+pub fn read_catalog_file<F: Folder>(
+    alloc: Global,
+    folder: &F,
+    directory: &str,
+) -> Result<Vec<u8>, Refusal>
+    ensures held { IfOk result (λ bytes. AreHeld (F.holds folder.now (catalog_path directory.now)) bytes.items) }
+    ensures refused { IfErr result (IsUnread (catalog_path directory.now)) }
+{
+    let path = catalog_path(alloc, directory)?;
+    read_file(alloc, folder, &path)
+}
+
+// ---- writing
+
+/// How it is told that the file of a path was not written.
+fn refusal_of_device(path: &Text, error: io::Error) -> Refusal
+    ensures { IsUnwritten path.now result }
+{
+    match error.kind() {
+        ErrorKind::OutOfMemory => Refusal::Memory,
+        _ => cannot_write(path),
+    }
+}
+
+/// How it is told that a file of columns or of a cut was not written under a path.
+pub fn refusal_of_file(path: &Text, fault: FileFault) -> Refusal
+    ensures memory { fault ≡ no_file.Memory → result ≡ Memory }
+    ensures told { IsUnwritten path.now result }
+{
+    match fault {
+        FileFault::Memory => Refusal::Memory,
+        _ => cannot_write(path),
+    }
+}
+
+/// An empty file that is to stand under the path.
+pub fn create_file<F: Folder>(folder: &mut F, path: &Text) -> Result<F::Writer, Refusal>
+    ensures empty { IfOk result (λ file. IsEmptyFile (F.wrote folder.old) (F.Writer.contents file)) }
+    ensures same { F.wrote folder.new ≡ F.wrote folder.old }
+    ensures refused { IfErr result (IsUnwritten path.now) }
+{
+    match folder.create(path.as_str()) {
+        Ok(file) => Ok(file),
+        Err(error) => Err(refusal_of_device(path, error)),
+    }
+}
+
+/// Puts a file under its path.
+pub fn finish_file<F: Folder>(folder: &mut F, path: &Text, file: F::Writer) -> Result<(), Refusal>
+    ensures finished { OnOk result (Finishes (F.wrote folder.old) (F.wrote folder.new) path.now (F.Writer.contents file)) }
+    ensures refused { IfErr result (IsUnwritten path.now) }
+{
+    match folder.finish(path.as_str(), file) {
+        Ok(()) => Ok(()),
+        Err(error) => Err(refusal_of_device(path, error)),
+    }
+}
+
+/// Writes a file of these bytes.
+///
+/// # Errors
+///
+/// Out of memory, or the file cannot be written. The beginning of it may then lie under the name
+/// that the folder gives a file until it is whole.
+pub fn write_file<F: Folder>(folder: &mut F, path: &Text, bytes: &[u8]) -> Result<(), Refusal>
+    ensures written { OnOk result (WritesOne path.now (λ given. given ≡ bytes.now) (F.wrote folder.old) (F.wrote folder.new)) }
+    ensures refused { IfErr result (IsUnwritten path.now) }
+{
+    let mut file = create_file(folder, path)?;
+    match file.write_all(bytes) {
+        Ok(()) => finish_file(folder, path, file),
+        Err(error) => Err(refusal_of_device(path, error)),
+    }
+}

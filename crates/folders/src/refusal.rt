@@ -1,0 +1,158 @@
+//! Why a command was refused.
+ghost use Rattle.std.specs.Prelude.{◌≡◌};
+ghost use Rattle.folders.specs.Folder.{csv_path};
+ghost use Rattle.folders.specs.Refused.{IsToldAs, IsUnread, IsUnwritten, load_refusal, of_catalog, of_cut, of_file, of_work, refusal_of};
+ghost use Rattle.folders.specs.declared.refusal.Refusal.TheVariants as refusal;
+
+use crate::paths::csv_path;
+use coordinator::WholeFault;
+use fragment_file::FileFault;
+use loader::LoadFault;
+use meaning::catalog::CatalogFault;
+use meaning::cut::CutFault;
+use meaning::table::TableFault;
+use meaning::text::Text;
+use planner_expressions::fault::PlanFault;
+use sql_reader::SqlFault;
+use std::alloc::{AllocError, AllocFailed, Global};
+use worker::WorkFault;
+
+/// Why a command was not done.
+#[derive(Drop)]
+pub enum Refusal {
+    Memory,
+    /// The file of this path.
+    CannotRead(Text),
+    /// The file of this path.
+    CannotWrite(Text),
+    /// Standard output failed.
+    CannotPrint,
+    /// Standard error failed, on which a file that is passed over is named.
+    CannotTell,
+    Catalog(CatalogFault),
+    Cut(CutFault),
+    /// The file of the cut.
+    File(FileFault),
+    Sql(SqlFault),
+    Plan(PlanFault),
+    Load(TableFault),
+    Work(WorkFault),
+}
+
+impl From<AllocError> for Refusal {
+    ghost from_gives = { λ _ given. given ≡ refusal.Memory };
+
+    fn from(_: AllocError) -> Refusal {
+        Refusal::Memory
+    }
+}
+
+impl<T: Drop> From<AllocFailed<T>> for Refusal {
+    ghost from_gives = { λ _ given. given ≡ refusal.Memory };
+
+    fn from(_: AllocFailed<T>) -> Refusal {
+        Refusal::Memory
+    }
+}
+
+impl From<CatalogFault> for Refusal {
+    ghost from_gives = { λ e given. given ≡ of_catalog e };
+
+    fn from(fault: CatalogFault) -> Refusal {
+        match fault {
+            CatalogFault::Memory => Refusal::Memory,
+            fault => Refusal::Catalog(fault),
+        }
+    }
+}
+
+impl From<CutFault> for Refusal {
+    ghost from_gives = { λ e given. given ≡ of_cut e };
+
+    fn from(fault: CutFault) -> Refusal {
+        match fault {
+            CutFault::Memory => Refusal::Memory,
+            fault => Refusal::Cut(fault),
+        }
+    }
+}
+
+/// Of the file of the cut.
+impl From<FileFault> for Refusal {
+    ghost from_gives = { λ e given. given ≡ of_file e };
+
+    fn from(fault: FileFault) -> Refusal {
+        match fault {
+            FileFault::Memory => Refusal::Memory,
+            fault => Refusal::File(fault),
+        }
+    }
+}
+
+impl From<WorkFault> for Refusal {
+    ghost from_gives = { λ e given. given ≡ of_work e };
+
+    fn from(fault: WorkFault) -> Refusal {
+        match fault {
+            WorkFault::Memory => Refusal::Memory,
+            fault => Refusal::Work(fault),
+        }
+    }
+}
+
+/// A table's CSV file cannot be read.
+fn cannot_read_csv(alloc: Global, folder: &str, table: &str) -> Refusal
+    ensures { IsUnread (csv_path folder.now table.now) result }
+{
+    match csv_path(alloc, folder, table) {
+        Ok(path) => Refusal::CannotRead(path),
+        Err(AllocError) => Refusal::Memory,
+    }
+}
+
+/// A file cannot be read.
+pub fn cannot_read(path: &Text) -> Refusal
+    ensures { IsUnread path.now result }
+{
+    match path.clone() {
+        Ok(path) => Refusal::CannotRead(path),
+        Err(_) => Refusal::Memory,
+    }
+}
+
+/// A file cannot be written.
+pub fn cannot_write(path: &Text) -> Refusal
+    ensures { IsUnwritten path.now result }
+{
+    match path.clone() {
+        Ok(path) => Refusal::CannotWrite(path),
+        Err(_) => Refusal::Memory,
+    }
+}
+
+/// How it is told that a table of a folder was not loaded.
+pub fn load_refusal(alloc: Global, folder: &str, table: &str, fault: LoadFault) -> Refusal
+    ensures { IsToldAs (load_refusal folder.now table.now fault) result }
+{
+    match fault {
+        LoadFault::Memory => Refusal::Memory,
+        LoadFault::Table(fault) => Refusal::Load(fault),
+        LoadFault::Device => cannot_read_csv(alloc, folder, table),
+    }
+}
+
+/// How it is told that a query over the files of a folder was not answered.
+pub fn refusal_of(alloc: Global, folder: &str, fault: WholeFault) -> Refusal
+    ensures { IsToldAs (refusal_of folder.now fault) result }
+{
+    match fault {
+        WholeFault::Memory => Refusal::Memory,
+        WholeFault::Catalog(fault) => Refusal::Catalog(fault),
+        WholeFault::Sql(fault) => Refusal::Sql(fault),
+        WholeFault::Plan(fault) => Refusal::Plan(fault),
+        WholeFault::MissingCsv(table) => cannot_read_csv(alloc, folder, table.as_str()),
+        WholeFault::Load(fault) => Refusal::Load(fault),
+        WholeFault::VectorLength => Refusal::Work(WorkFault::VectorLength),
+        WholeFault::Writer => Refusal::CannotPrint,
+    }
+}

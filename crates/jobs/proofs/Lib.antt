@@ -1,0 +1,6 @@
+-- The lemmas of this crate.
+mod Together
+mod SameFiles
+mod OwnFiles
+mod TakenFiles
+mod Refusals

@@ -1,0 +1,137 @@
+-- One file more is taken, or named and passed over.
+use Rattle.std.proofs.Common.{◌≡◌, ℕ, ◌+◌, ◌<◌, true, false, List, [], ◌∷◌, ◌++◌, map, length, take, get_or, slice_set, slice_index_or, All, OnOk, refl, sym, ap, ◌∙◌, subst, append_assoc, append-nil, arith}
+use Rattle.std.specs.Prelude.{Option, None, Some, Result, Ok, Err, flat_map}
+use Rattle.std.specs.Io.KnownBytes.{Appends}
+use Rattle.std.proofs.lemmas.Grind.{flat_map-append}
+use Rattle.std.proofs.lemmas.List.{map-append, take_all, take_more}
+use Rattle.std.proofs.lemmas.List.Elements.{All-nil, All-push}
+use Rattle.std.specs.Prelude.{◌≤◌}
+use Rattle.meaning.specs.Gather.{join_cells}
+use Rattle.meaning.specs.Said.{Cell}
+use Rattle.meaning.specs.declared.answer.Cell.TheVariants.{Nothing, One}
+use Rattle.partial_codec.specs.Fault.{number_of}
+use Rattle.partial_codec.specs.Job.{JobSpec}
+use Rattle.partial_codec.specs.State.{SpellsState}
+use Rattle.partial_codec.specs.declared.fault.DecodeFault.{DecodeFault}
+use Rattle.coordinator.specs.Gathering.{GatherSpec, Takes, join_states, joined_with}
+use Rattle.coordinator.specs.declared.gather.Absorbed.{Absorbed}
+use Rattle.folders.specs.Folder.{Holds}
+use Rattle.folders.specs.Telling.{passed_over_line}
+use Rattle.jobs.specs.Gathering.{AreTaken, IsTaken, IsTaking, Taken, Taking, answer, gathered, is_state, line_of, obstacle_of, passed, state, takings_of}
+use Rattle.jobs.specs.Taking.{Adds, TakesBytes, TakesFile, TakesOrNames, TookFiles}
+use Rattle.jobs.proofs.Together.{answer_more, below_cut, passed_more, state_more}
+
+pub appends_nothing : (o : Option (List ℕ)) → Appends o o []
+appends_nothing None = tt
+appends_nothing (Some xs) = sym (append-nil xs)
+
+pub appends_more : (a b c : Option (List ℕ)) (xs ys : List ℕ) → Appends a b xs → Appends b c ys → Appends a c (xs ++ ys)
+appends_more None b c xs ys one two = tt
+appends_more (Some old) None c xs ys one two = absurd one
+appends_more (Some old) (Some now) None xs ys one two = absurd two
+appends_more (Some old) (Some now) (Some new) xs ys one two = two ∙ ap (λ l. l ++ ys) one ∙ append_assoc old xs ys
+
+pub on_ok : {T E : Type 0} (r : Result T E) (P Q : Type 0) → (P → Q) → OnOk r P → OnOk r Q
+on_ok (Ok x) P Q so is = so is
+on_ok (Err e) P Q so is = tt
+
+pub taken_answer : (old new : GatherSpec) (bytes : List ℕ) (told : Absorbed) → is_state bytes ≡ false → Takes old new bytes told → TakesBytes old new bytes
+taken_answer old new bytes told begins takes = record {
+  taking = answer takes.answer;
+  is = (begins, takes.spelled);
+  adds = record {
+    job = ap (λ (g : GatherSpec). g.job) takes.state;
+    state = λ takings before.
+        ap (λ (g : GatherSpec). g.cells) takes.state
+        ∙ ap (λ (cells : List Cell). slice_set cells takes.answer.k (join_cells (slice_index_or cells takes.answer.k Nothing) (One takes.answer.body))) before
+        ∙ answer_more old.job.cut takings takes.answer (below_cut old.job takes.answer takes.spelled.fits);
+  };
+  unnamed = λ path. refl;
+}
+
+pub taken_state : (old new : GatherSpec) (bytes : List ℕ) → is_state bytes ≡ true
+    → ((cells : List Cell) × SpellsState old.job bytes cells × (new ≡ joined_with old (record { job = old.job; cells = cells }))) → TakesBytes old new bytes
+taken_state old new bytes begins (cells, spelled, same) = record {
+  taking = state cells;
+  is = (begins, spelled);
+  adds = record {
+    job = ap (λ (g : GatherSpec). g.job) same;
+    state = λ takings before.
+        ap (λ (g : GatherSpec). g.cells) same
+        ∙ ap (λ (held : List Cell). join_states held cells) before
+        ∙ state_more old.job.cut takings cells spelled.fits.fragments;
+  };
+  unnamed = λ path. refl;
+}
+
+pub taken_quietly : (old new : GatherSpec) (path bytes : List ℕ) (err : Option (List ℕ)) → TakesBytes old new bytes → TakesOrNames old new path bytes err err
+taken_quietly old new path bytes err takes = record {
+  taking = takes.taking;
+  is = takes.is;
+  adds = takes.adds;
+  named = subst (Appends err err) (sym (takes.unnamed path)) (appends_nothing err);
+}
+
+pub passed_over : (old new : GatherSpec) (path bytes : List ℕ) (fault : DecodeFault) (before after : Option (List ℕ)) → obstacle_of old.job bytes ≡ Some fault → new ≡ old
+    → Appends before after (passed_over_line (number_of fault) path) → TakesOrNames old new path bytes before after
+passed_over old new path bytes fault before after obstacle same named = record {
+  taking = passed fault;
+  is = obstacle;
+  adds = record {
+    job = ap (λ (g : GatherSpec). g.job) same;
+    state = λ takings known. ap (λ (g : GatherSpec). g.cells) same ∙ known ∙ passed_more old.job.cut takings fault;
+  };
+  named = named;
+}
+
+-- ---- one file after the other
+
+pub took_none : (holds : Holds) (g : GatherSpec) (err : Option (List ℕ)) → g.cells ≡ gathered g.job.cut [] → TookFiles holds g g [] err err
+took_none holds g err nothing = record {
+  files = [];
+  taken = record { paths_are = refl; each = All-nil (IsTaken holds g.job); named = appends_nothing err };
+  job = refl;
+  state = nothing;
+}
+
+pub took_more : (holds : Holds) (start now after : GatherSpec) (paths : List (List ℕ)) (k : ℕ) (path : List ℕ) (before then_ last : Option (List ℕ)) → k < length paths → path ≡ get_or paths k path
+    → TookFiles holds start now (take k paths) before then_ → TakesFile holds now after path then_ last → TookFiles holds start after (take (k + 1) paths) before last
+took_more holds start now after paths k path before then_ last below at took takes = record {
+  files = all;
+  taken = record { paths_are = paths_are; each = each; named = named };
+  job = takes.takes.adds.job ∙ took.job;
+  state = reached;
+}
+  where
+    file : Taken
+    file = record { path = path; bytes = takes.bytes; taking = takes.takes.taking }
+
+    all : List Taken
+    all = took.files ++ file ∷ []
+
+    paths_are : map (λ (f : Taken). f.path) all ≡ take (k + 1) paths
+    paths_are =
+        map-append (λ (f : Taken). f.path) took.files (file ∷ [])
+        ∙ ap (λ (l : List (List ℕ)). l ++ path ∷ []) took.taken.paths_are
+        ∙ ap (λ (p : List ℕ). take k paths ++ p ∷ []) at
+        ∙ sym (take_more paths k path below)
+
+    each : All (IsTaken holds start.job) all
+    each = All-push (IsTaken holds start.job) took.files file took.taken.each
+        (record { held = takes.held; taking = subst (λ (job : JobSpec). IsTaking job takes.bytes takes.takes.taking) took.job takes.takes.is })
+
+    lines : flat_map line_of took.files ++ line_of file ≡ flat_map line_of all
+    lines = ap (λ l. flat_map line_of took.files ++ l) (sym (append-nil (line_of file))) ∙ sym (flat_map-append line_of took.files (file ∷ []))
+
+    named : Appends before last (flat_map line_of all)
+    named = subst (Appends before last) lines (appends_more before then_ last (flat_map line_of took.files) (line_of file) took.taken.named takes.takes.named)
+
+    reached : after.cells ≡ gathered start.job.cut (takings_of all)
+    reached =
+        takes.takes.adds.state (takings_of took.files) (took.state ∙ ap (λ (job : JobSpec). gathered job.cut (takings_of took.files)) (sym took.job))
+        ∙ ap (λ (job : JobSpec). gathered job.cut (takings_of took.files ++ file.taking ∷ [])) took.job
+        ∙ ap (gathered start.job.cut) (sym (map-append (λ (f : Taken). f.taking) took.files (file ∷ [])))
+
+pub took_all : (holds : Holds) (start now : GatherSpec) (paths : List (List ℕ)) (k : ℕ) (before after : Option (List ℕ)) → length paths ≤ k
+    → TookFiles holds start now (take k paths) before after → TookFiles holds start now paths before after
+took_all holds start now paths k before after none took = subst (λ (l : List (List ℕ)). TookFiles holds start now l before after) (take_all k paths none) took

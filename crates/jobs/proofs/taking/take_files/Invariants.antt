@@ -1,0 +1,7 @@
+-- Loop invariants of `take_files` (`taking`).
+use Rattle.std.proofs.Common.{take}
+use Rattle.jobs.specs.Taking.{TookFiles}
+use Rattle.jobs.proofs.taking.take_files.Given as goal
+
+abbrev pub invariant-loop-path : goal.invariant-loop-path
+invariant-loop-path g l = TookFiles (g.F.Folder.holds l.folder) l.fn.gather l.gather (take l.path-index l.paths) (g.E.Write.contents l.fn.err) (g.E.Write.contents l.err)

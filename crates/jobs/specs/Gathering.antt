@@ -1,0 +1,155 @@
+-- What becomes of files of answers and states, and what they say together.
+use Rattle.std.specs.Prelude.{◌≡◌, ◌⊎◌, ℕ, ◌==◌, nat_eq, Bool, true, false, if◌then◌else◌, List, [], ◌∷◌, map, flat_map, length, codes, slice_index_or, All, Contains, Option, Some, None, ⊤}
+use Rattle.std.specs.List.{range_with_len, starts_with}
+use Rattle.std.specs.Io.KnownBytes.{Appends}
+use Rattle.meaning.specs.Cut.{Cut}
+use Rattle.meaning.specs.Gather.{join_cells, report}
+use Rattle.meaning.specs.Print.{report_text}
+use Rattle.meaning.specs.Said.{Answer}
+use Rattle.meaning.specs.Said.{Cell}
+use Rattle.meaning.specs.declared.answer.Cell.TheVariants.{Nothing, One}
+use Rattle.partial_codec.specs.Answer.{Spells, obstacle}
+use Rattle.partial_codec.specs.Fault.{number_of}
+use Rattle.partial_codec.specs.Job.{JobSpec}
+use Rattle.partial_codec.specs.State.{SpellsState, state_bytes, state_obstacle}
+use Rattle.partial_codec.specs.declared.fault.DecodeFault.{DecodeFault}
+use Rattle.coordinator.specs.Gathering.{GatherSpec}
+use Rattle.coordinator.specs.Reporting.{summary}
+use Rattle.coordinator.specs.declared.reporting.Report.{Report}
+use Rattle.folders.specs.Folder.{AreHeld, File, Holds, WritesOne}
+use Rattle.folders.specs.Refused.{IsUnread, IsUnwritten}
+use Rattle.folders.specs.Telling.{passed_over_line}
+use Rattle.folders.specs.declared.refusal.Refusal.{Refusal}
+use Rattle.folders.specs.declared.refusal.Refusal.TheVariants as refusal
+use Rattle.jobs.specs.Job.{IsJobOf, IsJobRefused}
+use Rattle.jobs.specs.declared.commands.GatherCommand.{GatherCommand}
+
+-- ---- a file
+
+-- what becomes of a file's bytes: they are an answer, the cells of a state, or passed over
+pub data Taking : Type 0 where
+  answer : Answer → Taking
+  state : List Cell → Taking
+  passed : DecodeFault → Taking
+
+-- bytes that begin with `XGS1` are a state's
+abbrev pub is_state : List ℕ → Bool
+is_state bytes = starts_with nat_eq bytes (codes "XGS1")
+
+-- the first obstacle to the bytes' being a state, where they begin as one, or else an answer
+abbrev pub obstacle_of : JobSpec → List ℕ → Option DecodeFault
+obstacle_of job bytes = if is_state bytes then state_obstacle job bytes else obstacle job bytes
+
+-- an answer or a state is taken where the bytes spell it; they are passed over for the first obstacle
+abbrev pub IsTaking : JobSpec → List ℕ → Taking → Type 0
+IsTaking job bytes (answer a) = (is_state bytes ≡ false) × Spells job bytes a
+IsTaking job bytes (state cells) = (is_state bytes ≡ true) × SpellsState job bytes cells
+IsTaking job bytes (passed fault) = obstacle_of job bytes ≡ Some fault
+
+-- a file, and what becomes of it
+pub record Taken : Type 0 where
+  pub path : List ℕ
+  pub bytes : List ℕ
+  pub taking : Taking
+
+-- the bytes are those of the path's file, and this becomes of them
+pub record IsTaken (holds : Holds) (job : JobSpec) (file : Taken) : Type 0 where
+  pub held : AreHeld (holds file.path) file.bytes
+  pub taking : IsTaking job file.bytes file.taking
+
+-- the line that names a file that was passed over
+abbrev pub line_of_taking : List ℕ → Taking → List ℕ
+line_of_taking path (answer a) = []
+line_of_taking path (state cells) = []
+line_of_taking path (passed fault) = passed_over_line (number_of fault) path
+
+abbrev pub line_of : Taken → List ℕ
+line_of file = line_of_taking file.path file.taking
+
+-- ---- what they say together
+
+-- what is said of a fragment
+abbrev pub cell_in : ℕ → Taking → Cell
+cell_in k (answer a) = if a.k == k then One a.body else Nothing
+cell_in k (state cells) = slice_index_or cells k Nothing
+cell_in k (passed fault) = Nothing
+
+-- the cell of a fragment, joined of all that is said of it
+abbrev pub cell_among : ℕ → List Taking → Cell
+cell_among k [] = Nothing
+cell_among k (t ∷ ts) = join_cells (cell_in k t) (cell_among k ts)
+
+-- the cell of each fragment
+abbrev pub gathered : Cut → List Taking → List Cell
+gathered cut takings = map (λ k. cell_among k takings) (range_with_len 0 (length cut))
+
+abbrev pub takings_of : List Taken → List Taking
+takings_of files = map (λ file. file.taking) files
+
+-- ---- the command
+
+-- these files were taken, and those that were passed over are named on standard error
+pub record AreTaken (holds : Holds) (job : JobSpec) (paths : List (List ℕ)) (err_before err_after : Option (List ℕ)) (files : List Taken) : Type 0 where
+  pub paths_are : map (λ file. file.path) files ≡ paths
+  pub each : All (IsTaken holds job) files
+  pub named : Appends err_before err_after (flat_map line_of files)
+
+-- a coordinator of the query's job that holds what the files say together
+pub record IsGatheredOf (holds : Holds) (command : GatherCommand) (err_before err_after : Option (List ℕ)) (g : GatherSpec) : Type 0 where
+  pub is_job : IsJobOf holds command.folder command.query g.job
+  pub files : List Taken
+  pub taken : AreTaken holds g.job command.files err_before err_after files
+  pub state : g.cells ≡ gathered g.job.cut (takings_of files)
+
+-- the state was written under its path, if it has one
+abbrev pub IsSaved : Option (List ℕ) → List ℕ → Option (List File) → Option (List File) → Type 0
+IsSaved None spelled before after = after ≡ before
+IsSaved (Some path) spelled before after = WritesOne path (λ bytes. bytes ≡ spelled) before after
+
+-- the state was saved, and its report printed and told
+pub record IsReported (g : GatherSpec) (save : Option (List ℕ)) (before after : Option (List ℕ)) (wrote_before wrote_after : Option (List File)) (given : Report) : Type 0 where
+  pub saved : IsSaved save (state_bytes g.job g.cells) wrote_before wrote_after
+  pub printed : Appends before after (report_text g.job.plan (report g.job.plan g.cells))
+  pub told : given ≡ summary (report g.job.plan g.cells)
+
+-- what the files say together was gathered, saved and reported
+pub record IsGathered (holds : Holds) (command : GatherCommand) (before after err_before err_after : Option (List ℕ)) (wrote_before wrote_after : Option (List File)) (given : Report) : Type 0 where
+  pub gather : GatherSpec
+  pub files : IsGatheredOf holds command err_before err_after gather
+  pub reported : IsReported gather command.save before after wrote_before wrote_after given
+
+-- ---- refused
+
+-- a file can't be named, or memory ran out
+abbrev pub IsUntold : Refusal → Type 0
+IsUntold e = (e ≡ refusal.Memory) ⊎ (e ≡ refusal.CannotTell)
+
+-- the path's file can't be read or named
+abbrev pub IsFileRefused : List ℕ → Refusal → Type 0
+IsFileRefused path e = IsUntold e ⊎ IsUnread path e
+
+-- one of the files can't be read or named
+abbrev pub IsTakingRefused : List (List ℕ) → Refusal → Type 0
+IsTakingRefused paths e = IsUntold e ⊎ ((path : List ℕ) × Contains paths path × IsUnread path e)
+
+-- printing failed, or memory ran out
+abbrev pub IsUnprinted : Refusal → Type 0
+IsUnprinted e = (e ≡ refusal.Memory) ⊎ (e ≡ refusal.CannotPrint)
+
+-- the state can't be written
+abbrev pub IsSaveRefused : Option (List ℕ) → Refusal → Type 0
+IsSaveRefused None e = ⊥
+IsSaveRefused (Some path) e = IsUnwritten path e
+
+-- the state can't be written, or the report can't be printed
+abbrev pub IsReportRefused : Option (List ℕ) → Refusal → Type 0
+IsReportRefused save e = IsSaveRefused save e ⊎ IsUnprinted e
+
+-- the folder and the query give no job, or a file of the job is refused
+abbrev pub IsTogetherRefused : Holds → GatherCommand → Refusal → Type 0
+IsTogetherRefused holds command e = IsJobRefused holds command.folder command.query e
+    ⊎ ((job : JobSpec) × IsJobOf holds command.folder command.query job × IsTakingRefused command.files e)
+
+-- the files don't come to a state, or what comes behind them is refused
+abbrev pub IsGatherRefused : Holds → GatherCommand → Refusal → Type 0
+IsGatherRefused holds command e = IsTogetherRefused holds command e ⊎ ((job : JobSpec) × IsJobOf holds command.folder command.query job × IsReportRefused command.save e)

@@ -1,0 +1,74 @@
+-- What is written for one fragment, and why nothing is.
+use Rattle.std.specs.Prelude.{◌≡◌, ◌⊎◌, ℕ, List, Option, Ok, Err, Contains}
+use Rattle.meaning.specs.Said.{Answer}
+use Rattle.meaning.specs.declared.plan.Join.{Join}
+use Rattle.partial_codec.specs.Answer.{Spells}
+use Rattle.partial_codec.specs.Job.{JobSpec}
+use Rattle.worker.specs.Work.{answered}
+use Rattle.worker.specs.declared.fault.WorkFault.{WorkFault}
+use Rattle.folders.specs.Each.{AreEach}
+use Rattle.folders.specs.Folder.{AreHeld, File, Holds, WritesOne, dimension_path, fragment_path}
+use Rattle.folders.specs.Refused.{IsUnread, IsUnwritten, of_work}
+use Rattle.folders.specs.declared.refusal.Refusal.{Refusal}
+use Rattle.folders.specs.declared.refusal.Refusal.TheVariants as refusal
+use Rattle.jobs.specs.declared.commands.WorkCommand.{WorkCommand}
+use Rattle.jobs.specs.Job.{IsJobOf, IsJobRefused}
+
+-- ---- answered
+
+-- the bytes are those of the dimension that is joined
+abbrev pub IsDimensionOf : Holds → List ℕ → Join → List ℕ → Type 0
+IsDimensionOf holds folder join bytes = AreHeld (holds (dimension_path folder join.dim.name)) bytes
+
+-- the spelling of what the worker answers for the files
+pub record IsFileAnswer (job : JobSpec) (k vector : ℕ) (fragment : List ℕ) (dims : List (List ℕ)) (bytes : List ℕ) : Type 0 where
+  pub answer : Answer
+  pub meant : answered job k vector fragment dims ≡ Ok answer
+  pub spelled : Spells job bytes answer
+
+-- the files that the job's fragment is answered over: its own, and of each join the dimension's, in the order of the joins
+pub record AreFilesOf (holds : Holds) (command : WorkCommand) (job : JobSpec) (fragment : List ℕ) (dims : List (List ℕ)) : Type 0 where
+  pub fragment_held : AreHeld (holds (fragment_path command.folder job.plan.fact.name command.fragment)) fragment
+  pub dims_held : AreEach (IsDimensionOf holds command.folder) job.plan.joins dims
+
+pub record IsAnswer (holds : Holds) (command : WorkCommand) (job : JobSpec) (bytes : List ℕ) : Type 0 where
+  pub fragment : List ℕ
+  pub dims : List (List ℕ)
+  pub files : AreFilesOf holds command job fragment dims
+  pub answered : IsFileAnswer job command.fragment command.vector fragment dims bytes
+
+-- the spelling of the answer for the query's job
+pub record IsSpelled (holds : Holds) (command : WorkCommand) (bytes : List ℕ) : Type 0 where
+  pub job : JobSpec
+  pub is_job : IsJobOf holds command.folder command.query job
+  pub answer : IsAnswer holds command job bytes
+
+-- just that spelling was written, under the path that was asked for
+abbrev pub IsWorked : Holds → WorkCommand → Option (List File) → Option (List File) → Type 0
+IsWorked holds command before after = WritesOne command.out (IsSpelled holds command) before after
+
+-- ---- refused
+
+-- the worker refuses the files
+abbrev pub IsFileRefused : JobSpec → ℕ → ℕ → List ℕ → List (List ℕ) → Refusal → Type 0
+IsFileRefused job k vector fragment dims e = (e ≡ refusal.Memory)
+    ⊎ ((fault : WorkFault) × (answered job k vector fragment dims ≡ Err fault) × (e ≡ refusal.Work fault))
+
+-- a joined dimension's file can't be read
+abbrev pub AreDimensionsUnread : List ℕ → List Join → Refusal → Type 0
+AreDimensionsUnread folder joins e = (e ≡ refusal.Memory) ⊎ ((join : Join) × Contains joins join × IsUnread (dimension_path folder join.dim.name) e)
+
+-- a file of the job can't be read, or the worker refuses the files once all are read
+abbrev pub IsAnswerRefused : Holds → WorkCommand → JobSpec → Refusal → Type 0
+IsAnswerRefused holds command job e = IsUnread (fragment_path command.folder job.plan.fact.name command.fragment) e
+    ⊎ AreDimensionsUnread command.folder job.plan.joins e
+    ⊎ ((fragment : List ℕ) × (dims : List (List ℕ)) × AreFilesOf holds command job fragment dims × IsFileRefused job command.fragment command.vector fragment dims e)
+
+abbrev pub IsSpelledRefused : Holds → WorkCommand → Refusal → Type 0
+IsSpelledRefused holds command e = IsJobRefused holds command.folder command.query e
+    ⊎ ((job : JobSpec) × IsJobOf holds command.folder command.query job × IsAnswerRefused holds command job e)
+
+-- the folder and the query give no job, the job's fragment no answer, or the answer can't be written
+abbrev pub IsWorkRefused : Holds → WorkCommand → Refusal → Type 0
+IsWorkRefused holds command e = IsSpelledRefused holds command e
+    ⊎ ((bytes : List ℕ) × IsSpelled holds command bytes × IsUnwritten command.out e)

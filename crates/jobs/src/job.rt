@@ -1,0 +1,93 @@
+//! The job of a query over the tables that a folder was loaded with.
+ghost use Rattle.std.specs.Prelude.{◌≡◌, IfErr, IfOk};
+ghost use Rattle.meaning.specs.Catalog.{IsWellFormed};
+ghost use Rattle.meaning.specs.WellFormedPlan.{IsWellFormedPlan};
+ghost use Rattle.partial_codec.specs.Job.{IsPlanOfJob};
+ghost use Rattle.coordinator.specs.Whole.{IsPlanned};
+ghost use Rattle.jobs.specs.Job.{IsCatalogRefused, IsCatalogThere, IsCutRefused, IsCutThere, IsJobOf, IsJobOver, IsJobRefused, IsQueryRefused, IsRefusedOver};
+
+use coordinator::plan_query;
+use folders::files::{read_catalog_file, read_file};
+use folders::paths::cut_path;
+use folders::{Folder, Refusal, refusal_of};
+use fragment_file::read_cut;
+use meaning::catalog::Catalog;
+use meaning::cut::Cut;
+use meaning::plan::Plan;
+use meaning::read_catalog::read_catalog;
+use partial_codec::Job;
+use std::alloc::Global;
+use std::mem::drop;
+
+fn read_tables<F: Folder>(alloc: Global, folder: &F, directory: &str) -> Result<Catalog, Refusal>
+    ensures there { IfOk result (IsCatalogThere (F.holds folder.now) directory.now) }
+    ensures refused { IfErr result (IsCatalogRefused (F.holds folder.now) directory.now) }
+{
+    let bytes = read_catalog_file(alloc, folder, directory)?;
+    Ok(read_catalog(alloc, bytes.as_slice())?)
+}
+
+/// The number of the load, and the cut.
+fn read_load<F: Folder>(alloc: Global, folder: &F, directory: &str) -> Result<(u64, Cut), Refusal>
+    ensures there { IfOk result (λ x. IsCutThere (F.holds folder.now) directory.now x.0 x.1) }
+    ensures refused { IfErr result (IsCutRefused (F.holds folder.now) directory.now) }
+{
+    let path = cut_path(alloc, directory)?;
+    let bytes = read_file(alloc, folder, &path)?;
+    Ok(read_cut(alloc, bytes.as_slice())?)
+}
+
+fn plan(alloc: Global, directory: &str, catalog: &Catalog, query: &str) -> Result<Plan, Refusal>
+    ensures planned { IfOk result (λ plan. IsPlanned catalog.now query.now (Ok plan)) }
+    ensures well_formed { IfOk result IsWellFormedPlan }
+    ensures job { IfOk result IsPlanOfJob }
+    ensures refused { IfErr result (IsQueryRefused catalog.now query.now) }
+{
+    match plan_query(alloc, catalog, query.as_bytes()) {
+        Ok(plan) => Ok(plan),
+        Err(fault) => Err(refusal_of(alloc, directory, fault)),
+    }
+}
+
+/// The job of a query over declared tables.
+fn job_over<F: Folder>(
+    alloc: Global,
+    folder: &F,
+    directory: &str,
+    catalog: &Catalog,
+    query: &str,
+) -> Result<Job, Refusal>
+    ensures over { IfOk result (IsJobOver (F.holds folder.now) directory.now catalog.now query.now) }
+    ensures well_formed { IfOk result (λ job. IsWellFormedPlan job.plan) }
+    ensures refused { IfErr result (IsRefusedOver (F.holds folder.now) directory.now catalog.now query.now) }
+{
+    let (load, cut) = read_load(alloc, folder, directory)?;
+    match plan(alloc, directory, catalog, query) {
+        Ok(plan) => Ok(Job::new(load, plan, cut)),
+        Err(refusal) => {
+            drop(cut);
+            Err(refusal)
+        }
+    }
+}
+
+/// The job of a query: its plan over the folder's catalogue, and the load and the cut of the folder's file of the cut.
+///
+/// # Errors
+///
+/// Out of memory, or the first of these: the catalogue's, of the file of the cut, of the query's text, of its plan.
+pub fn read_job<F: Folder>(
+    alloc: Global,
+    folder: &F,
+    directory: &str,
+    query: &str,
+) -> Result<Job, Refusal>
+    ensures job { IfOk result (IsJobOf (F.holds folder.now) directory.now query.now) }
+    ensures well_formed { IfOk result (λ job. IsWellFormedPlan job.plan) }
+    ensures refused { IfErr result (IsJobRefused (F.holds folder.now) directory.now query.now) }
+{
+    let catalog = read_tables(alloc, folder, directory)?;
+    let job = job_over(alloc, folder, directory, &catalog, query);
+    drop(catalog);
+    job
+}

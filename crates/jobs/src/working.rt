@@ -1,0 +1,159 @@
+//! A fragment's answer, from the folder's files to the answer's.
+ghost use Rattle.std.specs.Prelude.{◌≡◌, IfErr, IfOk, OnOk, Ok, map};
+ghost use Rattle.meaning.specs.WellFormedPlan.{IsWellFormedPlan};
+ghost use Rattle.meaning.specs.Said.{Answer as AnAnswer};
+ghost use Rattle.folders.specs.Folder.{AreHeld, dimension_path, fragment_path};
+ghost use Rattle.folders.specs.Each.{AreEach};
+ghost use Rattle.folders.specs.Refused.{IsUnread};
+ghost use Rattle.partial_codec.specs.Answer.{Spells};
+ghost use Rattle.worker.specs.Work.{answered};
+ghost use Rattle.jobs.specs.Working.{AreDimensionsUnread, IsAnswer, IsAnswerRefused, IsDimensionOf, IsFileAnswer, IsFileRefused, IsSpelled, IsSpelledRefused, IsWorkRefused, IsWorked};
+
+use crate::commands::WorkCommand;
+use crate::job::read_job;
+use folders::files::{read_file, write_file};
+use folders::paths::{dimension_path, fragment_path};
+use folders::{Folder, Refusal};
+use meaning::plan::Join;
+use partial_codec::{Job, encode};
+use std::alloc::{AllocError, Global};
+use std::mem::drop;
+use worker::work;
+
+fn read_fragment<F: Folder>(
+    alloc: Global,
+    folder: &F,
+    directory: &str,
+    table: &str,
+    fragment: u32,
+) -> Result<Vec<u8>, Refusal>
+    ensures held { IfOk result (λ bytes. AreHeld (F.holds folder.now (fragment_path directory.now table.now fragment)) bytes.items) }
+    ensures refused { IfErr result (IsUnread (fragment_path directory.now table.now fragment)) }
+{
+    let path = fragment_path(alloc, directory, table, fragment)?;
+    read_file(alloc, folder, &path)
+}
+
+fn read_dimension<F: Folder>(
+    alloc: Global,
+    folder: &F,
+    directory: &str,
+    join: &Join,
+) -> Result<Vec<u8>, Refusal>
+    ensures held { IfOk result (λ bytes. IsDimensionOf (F.holds folder.now) directory.now join.now bytes.items) }
+    ensures refused { IfErr result (IsUnread (dimension_path directory.now join.now.dim.name)) }
+{
+    let path = dimension_path(alloc, directory, join.dim.name.as_str())?;
+    read_file(alloc, folder, &path)
+}
+
+/// The files of the dimensions that are joined, in the order of the joins.
+fn read_dimensions<F: Folder>(
+    alloc: Global,
+    folder: &F,
+    directory: &str,
+    joins: &[Join],
+) -> Result<Vec<Vec<u8>>, Refusal>
+    ensures held { IfOk result (λ dims. AreEach (IsDimensionOf (F.holds folder.now) directory.now) joins.now (map (λ bytes. bytes.items) dims.items)) }
+    ensures refused { IfErr result (AreDimensionsUnread directory.now joins.now) }
+{
+    let mut dims = Vec::new(alloc);
+    for join in joins {
+        dims.push(read_dimension(alloc, folder, directory, join)?)?;
+    }
+    Ok(dims)
+}
+
+fn lend_files<'a>(alloc: Global, files: &'a [Vec<u8>]) -> Result<Vec<&'a [u8]>, AllocError>
+    ensures { IfOk result (λ lent. map (λ file. file.now) lent.items ≡ map (λ bytes. bytes.items) files.now) }
+{
+    let mut lent = Vec::new(alloc);
+    for file in files {
+        lent.push(file.as_slice())?;
+    }
+    Ok(lent)
+}
+
+/// What the worker answers for the files, as bytes.
+fn answer_files(
+    alloc: Global,
+    job: &Job,
+    fragment: &[u8],
+    dims: &[Vec<u8>],
+    k: u32,
+    vector: u32,
+) -> Result<Vec<u8>, Refusal>
+    requires { IsWellFormedPlan job.now.plan }
+    ensures spelled { IfOk result (λ bytes. IsFileAnswer job.now k vector fragment.now (map (λ file. file.items) dims.now) bytes.items) }
+    ensures refused { IfErr result (IsFileRefused job.now k vector fragment.now (map (λ file. file.items) dims.now)) }
+{
+    let lent = lend_files(alloc, dims)?;
+    match work(alloc, job, fragment, lent.as_slice(), k, vector as usize) {
+        Ok(answer) => {
+            let bytes = encode(alloc, job, &answer);
+            drop(answer);
+            Ok(bytes?)
+        }
+        Err(fault) => Err(Refusal::from(fault)),
+    }
+}
+
+/// The answer of the job's fragment, as bytes.
+fn answer_job<F: Folder>(
+    alloc: Global,
+    folder: &F,
+    job: &Job,
+    command: &WorkCommand,
+) -> Result<Vec<u8>, Refusal>
+    requires { IsWellFormedPlan job.now.plan }
+    ensures spelled { IfOk result (λ bytes. IsAnswer (F.holds folder.now) command.now job.now bytes.items) }
+    ensures refused { IfErr result (IsAnswerRefused (F.holds folder.now) command.now job.now) }
+{
+    let (directory, k) = (command.folder.as_str(), command.fragment);
+    let plan = job.plan();
+    let fragment = read_fragment(alloc, folder, directory, plan.fact.name.as_str(), k)?;
+    let dims = read_dimensions(alloc, folder, directory, plan.joins.as_slice())?;
+    let (fragment, dims) = (fragment.as_slice(), dims.as_slice());
+    answer_files(alloc, job, fragment, dims, k, command.vector)
+}
+
+/// The answer, as bytes.
+fn spelled_answer<F: Folder>(
+    alloc: Global,
+    folder: &F,
+    command: &WorkCommand,
+) -> Result<Vec<u8>, Refusal>
+    ensures spelled { IfOk result (λ bytes. IsSpelled (F.holds folder.now) command.now bytes.items) }
+    ensures refused { IfErr result (IsSpelledRefused (F.holds folder.now) command.now) }
+{
+    let job = read_job(
+        alloc,
+        folder,
+        command.folder.as_str(),
+        command.query.as_str(),
+    )?;
+    let bytes = answer_job(alloc, folder, &job, command);
+    drop(job);
+    bytes
+}
+
+/// Answers a query for one fragment of the tables that a folder was loaded with, and writes the answer under the path
+/// `out`. The files of the dimensions that the query joins are given to the worker in the order of the joins; each
+/// file is read before one is judged.
+///
+/// # Errors
+///
+/// Out of memory, or the first of these: what keeps the folder and the query from a job (the catalogue, the file of the cut,
+/// the query's text, its plan), a file that cannot be read (the fragment's, then the dimensions'), what the worker refuses,
+/// and last that the answer cannot be written.
+pub fn answer_fragment<F: Folder>(
+    alloc: Global,
+    folder: &mut F,
+    command: &WorkCommand,
+) -> Result<(), Refusal>
+    ensures worked { OnOk result (IsWorked (F.holds folder.old) command.now (F.wrote folder.old) (F.wrote folder.new)) }
+    ensures refused { IfErr result (IsWorkRefused (F.holds folder.old) command.now) }
+{
+    let bytes = spelled_answer(alloc, folder, command)?;
+    write_file(folder, &command.out, bytes.as_slice())
+}

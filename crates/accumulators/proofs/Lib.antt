@@ -4,5 +4,6 @@ pub mod Growing
 pub mod Means
 pub mod Spelled
 pub mod Plain
+pub mod PlainInts
 pub mod AtPlaces
 pub mod Placing

@@ -1,16 +1,17 @@
 //! How many entries there are, and which of them comes first from an end of the whole order.
-ghost use Rattle.std.specs.Prelude.{◌≡◌, ◌≤◌, ◌+◌, ◌∷◌, [], length, map, sum, true, All, OnOk, OnErr, IfOk};
-ghost use Rattle.meaning.specs.declared.value.Value.TheVariants.{Null};
+ghost use Rattle.std.specs.Prelude.{◌≡◌, ◌≤◌, ◌+◌, ◌∷◌, [], length, map, sum, true, All, OnOk, OnErr, IfOk, Some};
+ghost use Rattle.std.specs.Ordering.{is_lt, ord_min};
+ghost use Rattle.meaning.specs.declared.value.Value.TheVariants.{Int, Null};
 ghost use Rattle.accumulators.specs.declared.end.End.{End};
-ghost use Rattle.meaning.specs.Aggregate.{kept_by, merge, no_statistics};
-ghost use Rattle.meaning.specs.Order.{value_in};
+ghost use Rattle.meaning.specs.Aggregate.{down_cmp, kept_by, merge, no_statistics};
+ghost use Rattle.meaning.specs.Order.{least, value_cmp, value_in};
 ghost use Rattle.accumulators.specs.Entries.{state_of, together};
-ghost use Rattle.accumulators.specs.Kinds.{end_state, kind_from, IsExtreme};
+ghost use Rattle.accumulators.specs.Kinds.{cmp_from, end_state, kind_from, IsExtreme};
 ghost use Rattle.accumulators.specs.State.{most_entries};
 ghost use Rattle.accumulators.specs.Values.{is_spelled, selected, values_of};
 
 use crate::end::{End, beats, is_null};
-use crate::lanes::{owned, selected_value};
+use crate::lanes::{owned, plain_ints, selected_value};
 use crate::state::{State, unless_null};
 use meaning::answer::Statistics;
 use meaning::value::{Value, ValueRef};
@@ -87,6 +88,72 @@ impl<'a> Found<'a> {
     }
 }
 
+#[inline(always)]
+fn is_less(int: &i64, other: &i64) -> bool
+    ensures { result ≡ is_lt (value_cmp (Int int.now) (Int other.now)) }
+{
+    *int < *other
+}
+
+#[inline(always)]
+fn lesser_of(best: &i64, int: &i64) -> i64
+    ensures { Int result ≡ ord_min value_cmp (Int best.now) (Int int.now) }
+{
+    if is_less(int, best) { *int } else { *best }
+}
+
+#[inline(always)]
+fn greater_of(best: &i64, int: &i64) -> i64
+    ensures { Int result ≡ ord_min down_cmp (Int best.now) (Int int.now) }
+{
+    if is_less(best, int) { *int } else { *best }
+}
+
+fn least_of(first: &i64, ints: &[i64]) -> i64
+    ensures { Some (Int result) ≡ least value_cmp (Int first.now ∷ map Int ints.now) }
+{
+    let mut best = *first;
+    for k in 0..ints.len() {
+        best = lesser_of(&best, &ints[k]);
+    }
+    best
+}
+
+fn greatest_of(first: &i64, ints: &[i64]) -> i64
+    ensures { Some (Int result) ≡ least down_cmp (Int first.now ∷ map Int ints.now) }
+{
+    let mut best = *first;
+    for k in 0..ints.len() {
+        best = greater_of(&best, &ints[k]);
+    }
+    best
+}
+
+fn best_of(end: End, first: &i64, ints: &[i64]) -> i64
+    ensures { Some (Int result) ≡ least (cmp_from end) (Int first.now ∷ map Int ints.now) }
+{
+    match end {
+        End::Least => least_of(first, ints),
+        End::Greatest => greatest_of(first, ints),
+    }
+}
+
+/// Of integers.
+fn found_in_ints<'a>(end: End, ints: &[i64]) -> Found<'a>
+    requires { length ints.now ≤ most_entries }
+    ensures value { end_state end result.count (value_in result.best) ≡ merge no_statistics (state_of (kind_from end) (map Int ints.now)) }
+    ensures few { result.count ≤ length ints.now }
+    ensures spelled { is_spelled (value_in result.best) ≡ true }
+{
+    let Some((first, rest)) = ints.split_first() else {
+        return Found::new();
+    };
+    Found {
+        count: ints.len() as u64,
+        best: ValueRef::Int(best_of(end, first, rest)),
+    }
+}
+
 /// Of the selected values.
 pub fn found_selected<'a>(end: End, lanes: &Vector<'a>, selection: &Selection) -> Found<'a>
     requires lanes { length (values_of lanes.now) ≡ selection.now.below }
@@ -96,6 +163,9 @@ pub fn found_selected<'a>(end: End, lanes: &Vector<'a>, selection: &Selection) -
     ensures few { result.count ≤ length selection.now.list }
     ensures spelled { is_spelled (value_in result.best) ≡ true }
 {
+    if let Some(ints) = plain_ints(lanes, selection) {
+        return found_in_ints(end, ints);
+    }
     let mut found = Found::new();
     for k in 0..selection.len() {
         found = found.plus(end, Found::of_value(selected_value(lanes, selection, k)));

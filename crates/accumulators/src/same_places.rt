@@ -18,6 +18,10 @@ pub fn one_place(places: &[u32]) -> Option<u32>
     ensures some { IfSome result (λ place. 0 < length places.now) }
 {
     let place = *places.first()?;
+    // Two rows tell most that have several.
+    if *places.last()? != place {
+        return None;
+    }
     if are_all(places, place) {
         return Some(place);
     }

@@ -73,9 +73,7 @@ impl SumAcc {
         requires { self.old.count + length ints.now ≤ most_entries }
         ensures { self.new ≡ merge self.old (state_of Sum (map Int ints.now)) }
     {
-        for k in 0..ints.len() {
-            self.add_int(ints, k);
-        }
+        self.tally = self.tally.plus(Tally::of_ints(ints));
     }
 
     /// Selected values more.

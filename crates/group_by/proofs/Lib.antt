@@ -5,6 +5,7 @@ pub mod Together
 pub mod Rows
 pub mod Batches
 pub mod Finding
+pub mod CloseInts
 pub mod Updating
 pub mod Adding
 pub mod Merging

@@ -1,6 +1,7 @@
 -- Keys as they are kept.
-use Rattle.std.specs.Prelude.{List, [], ◌∷◌, map}
+use Rattle.std.specs.Prelude.{◌≡◌, ◌≢◌, ℕ, ℤ, ◌-◌, ◌^◌, ◌<◌, ◌+ℤ◌, pos, List, [], ◌∷◌, length, map, get_or}
 use Rattle.meaning.specs.declared.value.Value.{Value}
+use Rattle.meaning.specs.declared.value.Value.TheVariants.{Int}
 use Rattle.meaning.specs.Order.{Row}
 use Rattle.group_by.specs.declared.key_list.Held.{Held}
 use Rattle.group_by.specs.declared.key_list.Held.TheVariants as held
@@ -12,3 +13,14 @@ alone values = map (λ v. v ∷ []) values
 abbrev pub rows_in : Held → List Row
 rows_in (held.Values v) = alone v.items
 rows_in (held.Rows r) = r.items
+
+-- each entry of a table that is the place of a key is that of the integer that is as far above the least as the entry is
+-- behind the first
+abbrev pub LeadsTo : ℤ → List ℕ → List Row → Type 0
+LeadsTo least entries keys = (at : ℕ) → at < length entries → get_or entries at 0 ≢ 2 ^ 32 - 1
+    → (get_or entries at 0 < length keys) × (get_or keys (get_or entries at 0) [] ≡ Int (least +ℤ pos at) ∷ [])
+
+-- a place that was found for the k-th integer, unless it is none, is that of its key
+abbrev pub IsTold : List Row → List ℤ → List ℕ → ℕ → Type 0
+IsTold keys ints places k = get_or places k 0 ≢ 2 ^ 32 - 1
+    → (get_or places k 0 < length keys) × (get_or keys (get_or places k 0) [] ≡ Int (get_or ints k (pos 0)) ∷ [])

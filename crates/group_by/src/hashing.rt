@@ -1,5 +1,5 @@
 //! Hashes of keys. What a table holds doesn't depend on them.
-ghost use Rattle.std.specs.Prelude.{◌<◌, length, All};
+ghost use Rattle.std.specs.Prelude.{◌<◌, ◌≤◌, ◌+◌, length, All};
 ghost use Rattle.accumulators.specs.Values.{values_of};
 
 use accumulators::value_at;
@@ -15,16 +15,48 @@ fn mixed(hash: u64, word: u64) -> u64 {
     product ^ (product >> 32)
 }
 
+/// Four bytes from one position on, and four from another.
+#[inline(always)]
+fn two_fours(bytes: &[u8], one: usize, other: usize) -> u64
+    requires one { one + 4 ≤ length bytes.now }
+    requires other { other + 4 ≤ length bytes.now }
+{
+    u64::from_le_bytes([
+        bytes[one],
+        bytes[one + 1],
+        bytes[one + 2],
+        bytes[one + 3],
+        bytes[other],
+        bytes[other + 1],
+        bytes[other + 2],
+        bytes[other + 3],
+    ])
+}
+
+/// The last eight bytes, or all of fewer, some of them twice.
+#[inline(always)]
+fn last_word(bytes: &[u8]) -> u64 {
+    let many = bytes.len();
+    if many >= 8 {
+        return two_fours(bytes, many - 8, many - 4);
+    }
+    if many >= 4 {
+        return two_fours(bytes, 0, many - 4);
+    }
+    if many == 0 {
+        return 0;
+    }
+    u64::from_le_bytes([bytes[0], bytes[many / 2], bytes[many - 1], 0, 0, 0, 0, 0])
+}
+
+/// A word at a time, and what is left over with bytes that were taken before, so that short texts need no loop.
 fn hash_bytes(hash: u64, bytes: &[u8]) -> u64 {
-    let (words, rest) = bytes.as_chunks::<8>();
+    let (words, _) = bytes.as_chunks::<8>();
     let mut hash = mixed(hash, bytes.len() as u64);
     for word in words {
         hash = mixed(hash, u64::from_le_bytes(*word));
     }
-    for byte in rest {
-        hash = mixed(hash, u64::from(*byte));
-    }
-    hash
+    mixed(hash, last_word(bytes))
 }
 
 #[inline(always)]

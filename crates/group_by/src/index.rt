@@ -3,13 +3,14 @@
 //! The hash table is a hint: a place that it names is taken only after its key was compared, and a key that it leads to no
 //! place of gets a place more. So no contract rests on hashes. The groups of a key with two places are made one when they
 //! are handed out.
-ghost use Rattle.std.specs.Prelude.{◌≡◌, ◌<◌, ◌≤◌, ◌∷◌, ◌++◌, [], length, get_or, All, true, IfOk, IfSome, OnOk};
+ghost use Rattle.std.specs.Prelude.{◌≡◌, ◌≢◌, ◌<◌, ◌≤◌, ◌∷◌, ◌++◌, [], length, get_or, All, true, IfOk, IfSome, OnOk};
 ghost use Rattle.meaning.specs.declared.value.Value.TheVariants.{Int};
 ghost use Rattle.accumulators.specs.Values.{values_of};
 ghost use Rattle.group_by.specs.Places.{AreFound, IsFound};
 ghost use Rattle.group_by.specs.Shape.{empty_key};
 ghost use Rattle.group_by.specs.Rows.{int_keys, row_at, rows_at, AreLanesOf};
 
+use crate::close_ints::NOWHERE;
 use crate::hashing::{hash_int, hash_lanes, hash_row};
 use crate::key_list::KeyList;
 use crate::keys::{copy_key, key_of, plain_key};
@@ -31,11 +32,19 @@ const EMPTY: u32 = u32::MAX;
 
 const LEAST_SLOTS: usize = 16;
 
+/// A key's hash, and its place.
+#[derive(Clone, Copy)]
+struct Hashed {
+    hash: u64,
+    place: u32,
+}
+
 /// Keys in the order in which they came.
 #[derive(Drop)]
 pub struct KeyIndex {
     pub keys: KeyList,
-    hashes: Vec<u64>,
+    // Those that the hash table leads to.
+    hashed: Vec<Hashed>,
     // A power of two of them, at least half of them empty.
     slots: Vec<Slot>,
 }
@@ -88,11 +97,9 @@ fn enter(slots: &mut [Slot], hash: u64, place: u32) {
     }
 }
 
-fn enter_all(slots: &mut [Slot], hashes: &[u64]) {
-    for place in 0..hashes.len() {
-        if let Ok(number) = u32::try_from(place) {
-            enter(slots, hashes[place], number);
-        }
+fn enter_all(slots: &mut [Slot], hashed: &[Hashed]) {
+    for key in hashed {
+        enter(slots, key.hash, key.place);
     }
 }
 
@@ -103,7 +110,7 @@ impl KeyIndex {
     {
         KeyIndex {
             keys: KeyList::new(alloc),
-            hashes: Vec::new(alloc),
+            hashed: Vec::new(alloc),
             slots: Vec::new(alloc),
         }
     }
@@ -148,7 +155,7 @@ impl KeyIndex {
     fn make_room(&mut self, alloc: Global) -> Result<(), AllocError>
         ensures { self.new.keys ≡ self.old.keys }
     {
-        if self.keys.len() < self.slots.len() / 2 {
+        if self.hashed.len() < self.slots.len() / 2 {
             return Ok(());
         }
         let many = self.slots.len().saturating_mul(2).max(LEAST_SLOTS);
@@ -156,8 +163,18 @@ impl KeyIndex {
             tag: 0,
             place: EMPTY
         }; many]?;
-        enter_all(slots.as_mut_slice(), self.hashes.as_slice());
+        enter_all(slots.as_mut_slice(), self.hashed.as_slice());
         self.slots = slots;
+        Ok(())
+    }
+
+    /// Has the hash table lead to a place.
+    fn lead(&mut self, alloc: Global, hash: u64, place: u32) -> Result<(), AllocError>
+        ensures { self.new.keys ≡ self.old.keys }
+    {
+        self.make_room(alloc)?;
+        self.hashed.push(Hashed { hash, place })?;
+        enter(self.slots.as_mut_slice(), hash, place);
         Ok(())
     }
 
@@ -169,10 +186,8 @@ impl KeyIndex {
         let Ok(place) = u32::try_from(self.keys.len()) else {
             return Err(AllocError);
         };
-        self.make_room(alloc)?;
-        self.hashes.push(hash)?;
+        self.lead(alloc, hash, place)?;
         self.keys.push(alloc, key)?;
-        enter(self.slots.as_mut_slice(), hash, place);
         Ok(place)
     }
 
@@ -254,10 +269,11 @@ impl KeyIndex {
         let Ok(place) = u32::try_from(self.keys.len()) else {
             return Err(AllocError);
         };
-        self.make_room(alloc)?;
-        self.hashes.push(hash)?;
         self.keys.push_int(alloc, int)?;
-        enter(self.slots.as_mut_slice(), hash, place);
+        if self.keys.close_place(int) != NOWHERE {
+            return Ok(place);
+        }
+        self.lead(alloc, hash, place)?;
         Ok(place)
     }
 
@@ -266,6 +282,10 @@ impl KeyIndex {
     fn place_of_int(&mut self, alloc: Global, int: &i64) -> Result<u32, AllocError>
         ensures { IfOk result (λ place. IsFound (Int int.now ∷ []) self.old.keys place self.new.keys) }
     {
+        let place = self.keys.close_place(int);
+        if place != NOWHERE {
+            return Ok(place);
+        }
         let hash = hash_int(int);
         if let Some(place) = self.find_int(hash, int) {
             return Ok(place);
@@ -273,13 +293,26 @@ impl KeyIndex {
         self.push_int(alloc, hash, int)
     }
 
+    /// The same where a first look found the place or `NOWHERE`.
+    #[inline(always)]
+    fn settle(&mut self, alloc: Global, place: u32, int: &i64) -> Result<u32, AllocError>
+        requires { place ≢ NOWHERE → (place < length self.old.keys) × (get_or self.old.keys place [] ≡ Int int.now ∷ []) }
+        ensures { IfOk result (λ place. IsFound (Int int.now ∷ []) self.old.keys place self.new.keys) }
+    {
+        if place != NOWHERE {
+            return Ok(place);
+        }
+        self.place_of_int(alloc, int)
+    }
+
     /// The place of each integer's key. On an error the keys are open.
     fn find_ints(&mut self, alloc: Global, ints: &[i64]) -> Result<Vec<u32>, AllocError>
         ensures { IfOk result (λ places. AreFound (int_keys ints.now) self.old.keys places.items self.new.keys) }
     {
-        let mut places = Vec::with_capacity(alloc, ints.len())?;
+        self.keys.expect_ints(alloc, ints)?;
+        let mut places = self.keys.close_places(alloc, ints)?;
         for k in 0..ints.len() {
-            places.push(self.place_of_int(alloc, &ints[k])?)?;
+            places[k] = self.settle(alloc, places[k], &ints[k])?;
         }
         Ok(places)
     }
@@ -334,11 +367,11 @@ impl KeyIndex {
         ensures { IfOk result (λ index. index.keys ≡ self.now.keys) }
     {
         let keys = self.keys.copy(alloc)?;
-        let hashes = Vec::from_slice(alloc, self.hashes.as_slice())?;
+        let hashed = Vec::from_slice(alloc, self.hashed.as_slice())?;
         let slots = Vec::from_slice(alloc, self.slots.as_slice())?;
         Ok(KeyIndex {
             keys,
-            hashes,
+            hashed,
             slots,
         })
     }

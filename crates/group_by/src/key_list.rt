@@ -1,10 +1,11 @@
 //! Keys in the order of their places. Keys of one column stand as values, so that they need no memory of their own.
-ghost use Rattle.std.specs.Prelude.{◌≡◌, ◌<◌, ◌∷◌, ◌++◌, [], length, map, get_or, All, true, IfOk, IfSome, OnOk};
+ghost use Rattle.std.specs.Prelude.{◌≡◌, ◌≢◌, ℕ, ◌<◌, ◌∷◌, ◌++◌, [], length, pos, map, get_or, All, true, IfOk, IfSome, OnOk};
 ghost use Rattle.meaning.specs.declared.value.Value.TheVariants.{Int};
 ghost use Rattle.accumulators.specs.Values.{values_of};
-ghost use Rattle.group_by.specs.Keys.{alone, rows_in};
+ghost use Rattle.group_by.specs.Keys.{alone, rows_in, IsTold};
 ghost use Rattle.group_by.specs.Rows.{row_at, AreLanesOf};
 
+use crate::close_ints::{NOWHERE, close_place, enter, window_of};
 use crate::keys::{
     copy_key, is_int, is_int_value, is_key, is_lane_value, is_row, is_row_value, key_of_value,
     only_value,
@@ -25,16 +26,21 @@ enum Held {
 #[derive(Drop)]
 pub struct KeyList {
     held: Held,
+    // The places of keys that are integers close to each other, by how far they are above a least one.
+    least: i64,
+    close: Vec<u32>,
 }
 
 impl Model for KeyList {
     ghost use Rattle.std.specs.Prelude.{List};
     ghost use Rattle.meaning.specs.Order.{Row as ARow};
-    ghost use Rattle.group_by.specs.Keys.{rows_in};
+    ghost use Rattle.group_by.specs.Keys.{rows_in, LeadsTo};
 
     ghost Value = { List ARow };
 
     ghost view = { λ k. rows_in k.held };
+
+    ghost invariant = { λ k. LeadsTo k.least k.close.items (rows_in k.held) };
 }
 
 #[inline(always)]
@@ -120,6 +126,8 @@ impl KeyList {
     {
         KeyList {
             held: Held::Values(Vec::new(alloc)),
+            least: 0,
+            close: Vec::new(alloc),
         }
     }
 
@@ -184,11 +192,63 @@ impl KeyList {
         }
     }
 
+    /// Makes a table for integers about these, where no key is known yet and they are close to each other.
+    pub fn expect_ints(&mut self, alloc: Global, ints: &[i64]) -> Result<(), AllocError>
+        ensures { self.new ≡ self.old }
+    {
+        if self.len() != 0 {
+            return Ok(());
+        }
+        let Some(window) = window_of(ints) else {
+            return Ok(());
+        };
+        let close = vec![in alloc; NOWHERE; window.entries]?;
+        self.least = window.least;
+        self.close = close;
+        Ok(())
+    }
+
+    /// The place of the key of this integer alone, where the table of such integers leads to one, else `NOWHERE`.
+    #[inline(always)]
+    pub fn close_place(&self, int: &i64) -> u32
+        ensures { result ≢ NOWHERE → (result < length self.now) × (get_or self.now result [] ≡ Int int.now ∷ []) }
+    {
+        close_place(self.close.as_slice(), &self.least, int)
+    }
+
+    /// The same of each integer. No branch depends on one, so that the processor looks several up at once.
+    pub fn close_places(&self, alloc: Global, ints: &[i64]) -> Result<Vec<u32>, AllocError>
+        ensures long { IfOk result (λ places. length places.items ≡ length ints.now) }
+        ensures found { IfOk result (λ places. (k : ℕ) → k < length ints.now → IsTold self.now ints.now places.items k) }
+    {
+        let mut places = vec![in alloc; NOWHERE; ints.len()]?;
+        for k in 0..ints.len() {
+            places[k] = self.close_place(&ints[k]);
+        }
+        Ok(places)
+    }
+
+    /// A key of one value more. On an error the keys are open, and no entry leads to one.
+    fn push_one(&mut self, alloc: Global, value: Value) -> Result<(), AllocError>
+        ensures { OnOk result (self.new ≡ self.old ++ (value ∷ []) ∷ []) }
+    {
+        match push_value(&mut self.held, alloc, value) {
+            Ok(()) => Ok(()),
+            Err(fault) => {
+                self.close.clear();
+                Err(fault)
+            }
+        }
+    }
+
     /// An integer more. On an error the keys are open.
     pub fn push_int(&mut self, alloc: Global, int: &i64) -> Result<(), AllocError>
         ensures { OnOk result (self.new ≡ self.old ++ (Int int.now ∷ []) ∷ []) }
     {
-        push_value(&mut self.held, alloc, Value::Int(*int))
+        let place = self.len();
+        self.push_one(alloc, Value::Int(*int))?;
+        enter(self.close.as_mut_slice(), &self.least, int, place);
+        Ok(())
     }
 
     /// A key more. On an error the keys are open.
@@ -196,8 +256,9 @@ impl KeyList {
         ensures { OnOk result (self.new ≡ self.old ++ key ∷ []) }
     {
         if key.len() == 1 {
-            return push_value(&mut self.held, alloc, only_value(key));
+            return self.push_one(alloc, only_value(key));
         }
+        self.close.clear();
         let held = replace(&mut self.held, Held::Rows(Vec::new(alloc)));
         self.held = push_row(alloc, held, key)?;
         Ok(())
@@ -207,7 +268,7 @@ impl KeyList {
     pub fn into_rows(self, alloc: Global) -> Result<Vec<Row>, AllocError>
         ensures { IfOk result (λ rows. rows.items ≡ self) }
     {
-        let KeyList { held } = self;
+        let KeyList { held, .. } = self;
         held_as_rows(alloc, held)
     }
 
@@ -215,8 +276,11 @@ impl KeyList {
     pub fn copy(&self, alloc: Global) -> Result<KeyList, AllocError>
         ensures { IfOk result (λ copy. copy ≡ self.now) }
     {
+        let close = Vec::from_slice(alloc, self.close.as_slice())?;
         Ok(KeyList {
             held: copy_held(alloc, &self.held)?,
+            least: self.least,
+            close,
         })
     }
 }

@@ -1,6 +1,7 @@
 //! Groups: the set of the keys, with the states of each one's rows.
 #![tactic(auto)]
 
+mod close_ints;
 mod columns;
 mod counts;
 mod handing_out;

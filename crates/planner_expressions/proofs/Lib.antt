@@ -13,3 +13,4 @@ pub mod Among
 pub mod Columns
 pub mod SpelledAlike
 pub mod AlikeTrees
+pub mod Beginnings

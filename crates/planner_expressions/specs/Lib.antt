@@ -5,6 +5,7 @@ pub mod Trees
 pub mod Sorts
 pub mod Judged
 pub mod Spelled
+pub mod Kinds
 pub mod Translated
 pub mod Given
 pub mod From

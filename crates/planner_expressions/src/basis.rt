@@ -4,6 +4,7 @@ ghost use Rattle.meaning.specs.declared.expr.Expr as plan;
 ghost use Rattle.planner_expressions.specs.Given.{place_of, column_meant, group_given, given_in};
 ghost use Rattle.planner_expressions.specs.Spelled.{spelled};
 
+use crate::kinds::may_be_among;
 use crate::naming::look_up;
 use crate::scope::{Place, Scope};
 use crate::spelling::{find_same, spell};
@@ -85,7 +86,7 @@ pub fn written(alloc: Global, scope: &Scope, expr: &tree::Expr) -> Result<Sequen
     }
 }
 
-/// What stands for the expression, if anything does.
+/// What stands for the expression, if anything does. It is written out only where a key or an aggregate begins as it does.
 pub fn given(
     alloc: Global,
     scope: &Scope,
@@ -97,6 +98,9 @@ pub fn given(
     match basis {
         Basis::Rows => Ok(row_given(scope, expr)),
         Basis::Groups { keys, aggregates } => {
+            if !may_be_among(keys.as_slice(), aggregates.as_slice(), expr) {
+                return Ok(None);
+            }
             let written = written(alloc, scope, expr)?;
             Ok(found_in_group(keys.as_slice(), aggregates.as_slice(), &written))
         }

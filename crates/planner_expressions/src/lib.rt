@@ -8,6 +8,7 @@ mod collecting;
 pub mod fault;
 pub mod from;
 pub mod judging;
+mod kinds;
 pub mod laws;
 mod naming;
 pub mod scope;

@@ -14,6 +14,18 @@ use meaning::text::Text;
 use std::alloc::{AllocError, Global};
 use std::mem::drop;
 
+// What the help of each command ends with.
+const LOAD_EXAMPLE: &str = "Example:\n  xcols load examples/sales --load 7 --rows 2";
+
+const WORK_EXAMPLE: &str =
+    "Example:\n  xcols work examples/sales --query \"SELECT COUNT(*) FROM sales\" --fragment 0 --out a0";
+
+const GATHER_EXAMPLE: &str =
+    "Example:\n  xcols gather examples/sales --query \"SELECT COUNT(*) FROM sales\" --save s a0 a2";
+
+const WHOLE_EXAMPLE: &str =
+    "Example:\n  xcols whole examples/sales --query \"SELECT COUNT(*) FROM sales\" --rows 2";
+
 /// The command that the words behind the program's name ask for.
 pub fn command(alloc: Global, words: &[&str]) -> Result<Command, UsageFault>
     ensures { IfOk result IsInRange }
@@ -151,9 +163,9 @@ fn files_arg<'a>(alloc: Global) -> Arg<'a> {
 }
 
 fn whole_parser<'a>(alloc: Global) -> Result<clap::Command<'a>, AllocError> {
-    let parser = clap::Command::new(alloc, "whole").about(
-        "Answers a query in memory and prints the report",
-    );
+    let parser = clap::Command::new(alloc, "whole")
+        .about("Answers a query in memory and prints the report")
+        .after_help(WHOLE_EXAMPLE);
     let parser = parser.arg(folder_arg(alloc))?;
     let parser = parser.arg(query_arg(alloc))?;
     let parser = parser.arg(rows_arg(alloc))?;
@@ -161,16 +173,18 @@ fn whole_parser<'a>(alloc: Global) -> Result<clap::Command<'a>, AllocError> {
 }
 
 fn load_parser<'a>(alloc: Global) -> Result<clap::Command<'a>, AllocError> {
-    let parser = clap::Command::new(alloc, "load").about("Writes the tables into files of columns");
+    let parser = clap::Command::new(alloc, "load")
+        .about("Writes the tables into files of columns")
+        .after_help(LOAD_EXAMPLE);
     let parser = parser.arg(folder_arg(alloc))?;
     let parser = parser.arg(load_arg(alloc))?;
     parser.arg(rows_arg(alloc))
 }
 
 fn work_parser<'a>(alloc: Global) -> Result<clap::Command<'a>, AllocError> {
-    let parser = clap::Command::new(alloc, "work").about(
-        "Answers a query for one fragment of the loaded tables",
-    );
+    let parser = clap::Command::new(alloc, "work")
+        .about("Answers a query for one fragment of the loaded tables")
+        .after_help(WORK_EXAMPLE);
     let parser = parser.arg(folder_arg(alloc))?;
     let parser = parser.arg(query_arg(alloc))?;
     let parser = parser.arg(fragment_arg(alloc))?;
@@ -179,9 +193,9 @@ fn work_parser<'a>(alloc: Global) -> Result<clap::Command<'a>, AllocError> {
 }
 
 fn gather_parser<'a>(alloc: Global) -> Result<clap::Command<'a>, AllocError> {
-    let parser = clap::Command::new(alloc, "gather").about(
-        "Prints what the answers of the fragments say together",
-    );
+    let parser = clap::Command::new(alloc, "gather")
+        .about("Prints what the answers of the fragments say together")
+        .after_help(GATHER_EXAMPLE);
     let parser = parser.arg(folder_arg(alloc))?;
     let parser = parser.arg(query_arg(alloc))?;
     let parser = parser.arg(save_arg(alloc))?;

@@ -5,6 +5,7 @@ ghost use Rattle.std.specs.Prelude.{IfOk};
 ghost use Rattle.cli.specs.Command.{IsInRange};
 
 mod host_folder;
+mod part_file;
 
 use crate::host_folder::HostFolder;
 use cli::{Command, UsageFault, command, run};

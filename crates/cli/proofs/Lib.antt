@@ -1,3 +1,4 @@
 -- The lemmas of this crate.
 mod LoadedColumns
+mod Refusals
 mod WrittenFiles

@@ -4,8 +4,16 @@ use Rattle.coordinator.specs.declared.reporting.Ended.{Ended}
 use Rattle.coordinator.specs.declared.reporting.Ended.TheVariants.{Rows, Fault}
 use Rattle.coordinator.specs.declared.reporting.Report.{Report}
 use Rattle.coordinator.specs.declared.reporting.Report.TheVariants as report
+use Rattle.clap.specs.declared.error.Error.{Error}
+use Rattle.clap.specs.declared.error.kind.ErrorKind.{ErrorKind}
+use Rattle.clap.specs.declared.error.kind.ErrorKind.TheVariants.{OutOfMemory}
 use Rattle.cli.specs.declared.usage_fault.UsageFault.{UsageFault}
 use Rattle.cli.specs.declared.usage_fault.UsageFault.TheVariants.{Memory, Encoding, Words}
+
+-- clap's error, which may be that memory ran out
+abbrev pub of_clap : Error → ErrorKind → UsageFault
+of_clap e OutOfMemory = Memory
+of_clap e _ = Words e
 
 -- words that are no command end with 2, out of memory with 1
 abbrev pub status_of : UsageFault → ℕ
@@ -24,6 +32,10 @@ report_status report.Rows = 0
 report_status report.Fault = 3
 report_status (report.Missing ks) = 4
 report_status (report.Conflict ks) = 4
+
+-- a command that is done ends with 0, 3 or 4
+abbrev pub IsEndStatus : ℕ → Type 0
+IsEndStatus status = (status ≡ 0) ⊎ (status ≡ 3) ⊎ (status ≡ 4)
 
 -- a command that runs ends with 0, 1, 3 or 4
 abbrev pub IsRunStatus : ℕ → Type 0

@@ -12,5 +12,5 @@ mod usage_fault;
 pub use command_line::command;
 pub use commands::Command;
 pub use folders::Folder;
-pub use running::run;
+pub use running::{outcome, run};
 pub use usage_fault::UsageFault;

@@ -1,13 +1,17 @@
 //! Reads the tables of `load` from their CSV files.
 // The columns of a folder's tables.
-ghost use Rattle.std.specs.Prelude.{◌≡◌, ◌≤◌, ◌<◌, Ok, IfOk, length, sum};
+ghost use Rattle.std.specs.Prelude.{◌≡◌, ◌≤◌, ◌<◌, Ok, IfErr, IfOk, drop, length, sum};
 ghost use Rattle.meaning.specs.Catalog.{IsWellFormed};
 ghost use Rattle.meaning.specs.Cut.{cut_of, even_lengths};
+ghost use Rattle.loader.specs.Columns.{fact_fragments};
+ghost use Rattle.loader.specs.Source.{csv_records};
 ghost use Rattle.folders.specs.Folder.{AreHeld, csv_path};
 ghost use Rattle.folders.specs.Each.{AreEach};
+ghost use Rattle.folders.specs.Refused.{IsUnread};
 ghost use Rattle.cli.specs.Loading.{IsDimensionLoaded, IsFactLoaded};
+ghost use Rattle.cli.specs.Refusing.{AreDimensionsRefused, AreTablesRefused, IsDimensionRefused, IsFactFileRefused, IsFactRefused};
 
-use crate::tables::counted_rows;
+use crate::tables::{counted_rows, even_cut};
 use columns::Column;
 use folders::files::read_file;
 use folders::paths::csv_path;
@@ -43,18 +47,38 @@ fn read_csv<F: Folder>(
     directory: &str,
     table: &Text,
 ) -> Result<Vec<u8>, Refusal>
-    ensures { IfOk result (λ bytes. AreHeld (F.holds folder.now (csv_path directory.now table.now)) bytes.items) }
+    ensures held { IfOk result (λ bytes. AreHeld (F.holds folder.now (csv_path directory.now table.now)) bytes.items) }
+    ensures refused { IfErr result (IsUnread (csv_path directory.now table.now)) }
 {
     let path = csv_path(alloc, directory, table.as_str())?;
     read_file(alloc, folder, &path)
 }
 
-fn even_cut(alloc: Global, counted: u64, rows: u32) -> Result<Cut, Refusal>
+/// The fact of a file's bytes.
+fn load_fact_bytes(
+    alloc: Global,
+    directory: &str,
+    catalog: &Catalog,
+    csv: &[u8],
+    rows: u32,
+) -> Result<Fact, Refusal>
     requires { 1 ≤ rows }
-    ensures evenly { IfOk result (λ cut. cut_of (even_lengths counted rows) ≡ Ok cut) }
-    ensures whole { IfOk result (λ cut. sum cut ≡ counted) }
+    ensures cut { IfOk result (λ fact. cut_of (even_lengths (length (drop 1 (csv_records csv.now))) rows) ≡ Ok fact.cut) }
+    ensures loaded { IfOk result (λ fact. fact_fragments catalog.now fact.cut (csv_records csv.now) ≡ Ok fact.fragments.items) }
+    ensures counted { IfOk result (λ fact. fact.rows ≡ sum fact.cut) }
+    ensures refused { IfErr result (IsFactFileRefused (csv_path directory.now catalog.now.fact.name) catalog.now csv.now rows) }
 {
-    Ok(Cut::even(alloc, counted, rows)?)
+    let name = &catalog.fact.name;
+    let counted = counted_rows(alloc, directory, name, csv)?;
+    let cut = even_cut(alloc, counted, rows)?;
+    match load_fact(alloc, catalog, csv, &cut) {
+        Ok(fragments) => Ok(Fact {
+            rows: counted,
+            cut,
+            fragments,
+        }),
+        Err(fault) => Err(load_refusal(alloc, directory, name.as_str(), fault)),
+    }
 }
 
 fn load_fact_table<F: Folder>(
@@ -67,19 +91,10 @@ fn load_fact_table<F: Folder>(
     requires { 1 ≤ rows }
     ensures loaded { IfOk result (λ fact. IsFactLoaded (F.holds folder.now) directory.now catalog.now rows fact.cut fact.fragments.items) }
     ensures counted { IfOk result (λ fact. fact.rows ≡ sum fact.cut) }
+    ensures refused { IfErr result (IsFactRefused (F.holds folder.now) directory.now catalog.now rows) }
 {
-    let name = &catalog.fact.name;
-    let csv = read_csv(alloc, folder, directory, name)?;
-    let counted = counted_rows(alloc, directory, name, csv.as_slice())?;
-    let cut = even_cut(alloc, counted, rows)?;
-    match load_fact(alloc, catalog, csv.as_slice(), &cut) {
-        Ok(fragments) => Ok(Fact {
-            rows: counted,
-            cut,
-            fragments,
-        }),
-        Err(fault) => Err(load_refusal(alloc, directory, name.as_str(), fault)),
-    }
+    let csv = read_csv(alloc, folder, directory, &catalog.fact.name)?;
+    load_fact_bytes(alloc, directory, catalog, csv.as_slice(), rows)
 }
 
 fn load_dimension_table<F: Folder>(
@@ -89,7 +104,8 @@ fn load_dimension_table<F: Folder>(
     dim: &Dimension,
 ) -> Result<Sequence<Column>, Refusal>
     requires { dim.now.key < length dim.now.table.columns }
-    ensures { IfOk result (λ columns. IsDimensionLoaded (F.holds folder.now) directory.now dim.now columns) }
+    ensures loaded { IfOk result (λ columns. IsDimensionLoaded (F.holds folder.now) directory.now dim.now columns) }
+    ensures refused { IfErr result (IsDimensionRefused (F.holds folder.now) directory.now dim.now) }
 {
     let name = &dim.table.name;
     let csv = read_csv(alloc, folder, directory, name)?;
@@ -106,7 +122,8 @@ fn load_dimensions<F: Folder>(
     catalog: &Catalog,
 ) -> Result<Vec<Sequence<Column>>, Refusal>
     requires { IsWellFormed catalog.now }
-    ensures { IfOk result (λ dims. AreEach (IsDimensionLoaded (F.holds folder.now) directory.now) catalog.now.dims dims.items) }
+    ensures loaded { IfOk result (λ dims. AreEach (IsDimensionLoaded (F.holds folder.now) directory.now) catalog.now.dims dims.items) }
+    ensures refused { IfErr result (AreDimensionsRefused (F.holds folder.now) directory.now catalog.now.dims) }
 {
     let mut dims = Vec::new(alloc);
     for dim in catalog.dims.as_slice() {
@@ -135,6 +152,7 @@ pub fn load_tables<F: Folder>(
     ensures fact { IfOk result (λ loaded. IsFactLoaded (F.holds folder.now) directory.now catalog.now rows loaded.fact.cut loaded.fact.fragments.items) }
     ensures counted { IfOk result (λ loaded. loaded.fact.rows ≡ sum loaded.fact.cut) }
     ensures dims { IfOk result (λ loaded. AreEach (IsDimensionLoaded (F.holds folder.now) directory.now) catalog.now.dims loaded.dims.items) }
+    ensures refused { IfErr result (AreTablesRefused (F.holds folder.now) directory.now catalog.now rows) }
 {
     let fact = load_fact_table(alloc, folder, directory, catalog, rows)?;
     let dims = load_dimensions(alloc, folder, directory, catalog)?;

@@ -1,5 +1,5 @@
 //! Runs a command and gives its exit status.
-ghost use Rattle.std.specs.Prelude.{◌≡◌, ◌≢◌, ◌≤◌, IfOk, OnOk, Ok, length};
+ghost use Rattle.std.specs.Prelude.{◌≡◌, ◌≢◌, ◌≤◌, IfErr, IfOk, OnErr, OnOk, Ok, length};
 ghost use Rattle.std.specs.Io.KnownBytes.{Appends};
 ghost use Rattle.meaning.specs.declared.catalog.Catalog.{Catalog as Declared};
 ghost use Rattle.meaning.specs.Catalog.{IsWellFormed};
@@ -10,8 +10,12 @@ ghost use Rattle.cli.specs.Command.{IsInRange};
 ghost use Rattle.folders.specs.Folder.{AreHeld, Writes, catalog_path};
 ghost use Rattle.folders.specs.Each.{AreEach};
 ghost use Rattle.cli.specs.Loading.{AreDimensionColumns, AreFiles, AreFragmentColumns, IsCatalogLoaded, IsLoaded, loaded_line};
+ghost use Rattle.cli.specs.Refusing.{AreDeclaredTablesRefused, IsCatalogLoadRefused, IsInputRefused, IsLoadRefused, IsQuiet, IsRefusedSo, IsSilent, IsUnsaved, IsWholeRefused, LeavesFiles};
 ghost use Rattle.cli.specs.Running.{AreTables, IsDone, IsDoneFor, IsReportedAs, input_over};
-ghost use Rattle.cli.specs.Status.{IsRunStatus, end_status, report_status};
+ghost use Rattle.cli.specs.Status.{IsEndStatus, IsRunStatus, end_status, report_status};
+ghost use Rattle.folders.specs.declared.refusal.Refusal.{Refusal as ARefusal};
+ghost use Rattle.jobs.specs.Gathering.{IsGatherRefused};
+ghost use Rattle.jobs.specs.Working.{IsWorked, IsWorkRefused};
 
 use crate::commands::Command;
 use crate::loading::{Loaded, load_tables};
@@ -20,7 +24,7 @@ use crate::tables::{Tables, lend_files, read_tables};
 use coordinator::{Ended, Report, whole};
 use folders::files::read_catalog_file;
 use folders::{Folder, Refusal, refusal_of, tell};
-use jobs::{GatherCommand, answer_fragment, gather_answers};
+use jobs::{GatherCommand, WorkCommand, answer_fragment, gather_answers};
 use meaning::catalog::Catalog;
 use meaning::read_catalog::read_catalog;
 use std::alloc::Global;
@@ -56,8 +60,10 @@ fn answer_over<O: Write>(
     vector: u32,
     out: &mut O,
 ) -> Result<Ended, Refusal>
-    ensures { IfOk result (λ ended. (gather : GatherSpec)
+    ensures answered { IfOk result (λ ended. (gather : GatherSpec)
         × IsAnswered (input_over catalog.now tables.now query.now vector) (O.contents out.old) (O.contents out.new) ended gather) }
+    ensures refused { IfErr result (IsInputRefused directory.now (input_over catalog.now tables.now query.now vector)) }
+    ensures quiet { IfErr result (λ e. IsQuiet e (O.contents out.old) (O.contents out.new)) }
 {
     let csvs = lend_files(alloc, tables)?;
     let (csvs, query) = (csvs.as_slice(), query.as_bytes());
@@ -86,11 +92,14 @@ fn declared_tables<F: Folder>(
     rows: u32,
 ) -> Result<Tables, Refusal>
     requires { 1 ≤ rows }
-    ensures { IfOk result (λ tables. (declared : Declared) × (catalog_of catalog.now ≡ Ok declared)
+    ensures tables { IfOk result (λ tables. (declared : Declared) × (catalog_of catalog.now ≡ Ok declared)
         × AreTables (F.holds folder.now) directory.now declared.fact.name rows tables) }
+    ensures refused { IfErr result (AreDeclaredTablesRefused (F.holds folder.now) directory.now catalog.now rows) }
 {
     let catalog = read_catalog(alloc, catalog)?;
-    read_tables(alloc, folder, directory, &catalog, rows)
+    let tables = read_tables(alloc, folder, directory, &catalog, rows);
+    drop(catalog);
+    tables
 }
 
 fn answer<F: Folder, O: Write>(
@@ -103,7 +112,9 @@ fn answer<F: Folder, O: Write>(
     out: &mut O,
 ) -> Result<u8, Refusal>
     requires { 1 ≤ rows }
-    ensures { IfOk result (IsDone (F.holds folder.now) directory.now query.now rows vector (O.contents out.old) (O.contents out.new)) }
+    ensures done { IfOk result (IsDone (F.holds folder.now) directory.now query.now rows vector (O.contents out.old) (O.contents out.new)) }
+    ensures refused { IfErr result (IsWholeRefused (F.holds folder.now) directory.now query.now rows vector) }
+    ensures quiet { IfErr result (λ e. IsQuiet e (O.contents out.old) (O.contents out.new)) }
 {
     let catalog = read_catalog_file(alloc, folder, directory)?;
     let catalog = catalog.as_slice();
@@ -133,6 +144,8 @@ fn save_and_tell<F: Folder, O: Write>(
     ensures written { OnOk result (Writes (AreFiles directory.now load catalog.now loaded.now.fact.cut loaded.now.fact.fragments.items loaded.now.dims.items)
         (F.wrote folder.old) (F.wrote folder.new)) }
     ensures printed { OnOk result (Appends (O.contents out.old) (O.contents out.new) (loaded_line loaded.now.fact.rows (length loaded.now.fact.cut))) }
+    ensures refused { IfErr result (IsUnsaved directory.now catalog.now loaded.now.fact.cut) }
+    ensures quiet { IfErr result (λ e. IsQuiet e (O.contents out.old) (O.contents out.new)) }
 {
     save(alloc, folder, directory, load, catalog, loaded)?;
     match print_loaded(loaded.fact.rows, loaded.fact.cut.lengths().len(), out) {
@@ -152,7 +165,10 @@ fn load_declared<F: Folder, O: Write>(
 ) -> Result<(), Refusal>
     requires rows { 1 ≤ rows }
     requires well_formed { IsWellFormed catalog.now }
-    ensures { OnOk result (IsCatalogLoaded (F.holds folder.old) directory.now load rows catalog.now (O.contents out.old) (O.contents out.new) (F.wrote folder.old) (F.wrote folder.new)) }
+    ensures loaded { OnOk result (IsCatalogLoaded (F.holds folder.old) directory.now load rows catalog.now (O.contents out.old) (O.contents out.new) (F.wrote folder.old) (F.wrote folder.new)) }
+    ensures refused { IfErr result (IsCatalogLoadRefused (F.holds folder.old) directory.now catalog.now rows) }
+    ensures quiet { IfErr result (λ e. IsQuiet e (O.contents out.old) (O.contents out.new)) }
+    ensures left { IfErr result (λ e. LeavesFiles e (F.wrote folder.old) (F.wrote folder.new)) }
 {
     let loaded = load_tables(alloc, folder, directory, catalog, rows)?;
     let told = save_and_tell(alloc, folder, directory, load, catalog, &loaded, out);
@@ -169,7 +185,10 @@ fn load<F: Folder, O: Write>(
     out: &mut O,
 ) -> Result<(), Refusal>
     requires { 1 ≤ rows }
-    ensures { OnOk result (IsLoaded (F.holds folder.old) directory.now load rows (O.contents out.old) (O.contents out.new) (F.wrote folder.old) (F.wrote folder.new)) }
+    ensures loaded { OnOk result (IsLoaded (F.holds folder.old) directory.now load rows (O.contents out.old) (O.contents out.new) (F.wrote folder.old) (F.wrote folder.new)) }
+    ensures refused { IfErr result (IsLoadRefused (F.holds folder.old) directory.now rows) }
+    ensures quiet { IfErr result (λ e. IsQuiet e (O.contents out.old) (O.contents out.new)) }
+    ensures left { IfErr result (λ e. LeavesFiles e (F.wrote folder.old) (F.wrote folder.new)) }
 {
     let bytes = read_catalog_file(alloc, folder, directory)?;
     let catalog = read_catalog(alloc, bytes.as_slice())?;
@@ -185,15 +204,34 @@ fn gather<F: Folder, O: Write, E: Write>(
     out: &mut O,
     err: &mut E,
 ) -> Result<u8, Refusal>
-    ensures status { IfOk result IsRunStatus }
+    ensures status { IfOk result IsEndStatus }
     ensures done { IfOk result (IsReportedAs (F.holds folder.old) command.now (O.contents out.old) (O.contents out.new)
         (E.contents err.old) (E.contents err.new) (F.wrote folder.old) (F.wrote folder.new)) }
+    ensures refused { IfErr result (IsGatherRefused (F.holds folder.old) command.now) }
+    ensures quiet { IfErr result (λ e. IsQuiet e (O.contents out.old) (O.contents out.new)) }
+    ensures left { IfErr result (λ e. LeavesFiles e (F.wrote folder.old) (F.wrote folder.new)) }
 {
     let report = gather_answers(alloc, folder, command, out, err)?;
     Ok(status_of_report(&report))
 }
 
-fn status_by_command<F: Folder, O: Write, E: Write>(
+fn work<F: Folder>(alloc: Global, folder: &mut F, command: &WorkCommand) -> Result<(), Refusal>
+    ensures worked { OnOk result (IsWorked (F.holds folder.old) command.now (F.wrote folder.old) (F.wrote folder.new)) }
+    ensures refused { IfErr result (IsWorkRefused (F.holds folder.old) command.now) }
+    ensures left { IfErr result (λ e. LeavesFiles e (F.wrote folder.old) (F.wrote folder.new)) }
+{
+    answer_fragment(alloc, folder, command)
+}
+
+/// Does a command, and answers the program's exit status or why the command is refused: 0 where a query gave rows, the
+/// tables were loaded or an answer was written, 3 where a query ended with a fault of arithmetic, 4 where answers are
+/// missing or in conflict. A report goes to `out`, and the lines of files that were passed over to `err`.
+///
+/// # Errors
+///
+/// Out of memory, or the first thing that is wrong in the folder's bytes, in the command's order. Nothing was printed then
+/// and no file was written, unless it is that printing or writing failed.
+pub fn outcome<F: Folder, O: Write, E: Write>(
     alloc: Global,
     command: &Command,
     folder: &mut F,
@@ -201,9 +239,12 @@ fn status_by_command<F: Folder, O: Write, E: Write>(
     err: &mut E,
 ) -> Result<u8, Refusal>
     requires { IsInRange command.now }
-    ensures status { IfOk result IsRunStatus }
+    ensures status { IfOk result IsEndStatus }
     ensures done { IfOk result (IsDoneFor (F.holds folder.old) command.now (O.contents out.old) (O.contents out.new)
         (E.contents err.old) (E.contents err.new) (F.wrote folder.old) (F.wrote folder.new)) }
+    ensures refused { IfErr result (IsRefusedSo (F.holds folder.old) command.now (O.contents out.old) (O.contents out.new)
+        (F.wrote folder.old) (F.wrote folder.new)) }
+    ensures silent { OnErr result (IsSilent command.now (E.contents err.old) (E.contents err.new)) }
 {
     match command {
         Command::Whole {
@@ -224,17 +265,15 @@ fn status_by_command<F: Folder, O: Write, E: Write>(
             Ok(0)
         }
         Command::Work(command) => {
-            answer_fragment(alloc, folder, command)?;
+            work(alloc, folder, command)?;
             Ok(0)
         }
         Command::Gather(command) => gather(alloc, folder, command, out, err),
     }
 }
 
-/// Does a command, and answers the program's exit status: 0 where a query gave rows, the tables were loaded or an answer
-/// was written, 3 where a query ended with a fault of arithmetic, 4 where answers are missing or in conflict, 1 where the
-/// command was refused. A report goes to `out`, the line of a refusal to `err`, and before it the lines of files that
-/// were passed over.
+/// Does a command, and answers the program's exit status: that of its `outcome`, or 1 where it was refused. The line of a
+/// refusal goes to `err`.
 pub fn run<F: Folder, O: Write, E: Write>(
     alloc: Global,
     command: &Command,
@@ -246,8 +285,10 @@ pub fn run<F: Folder, O: Write, E: Write>(
     ensures status { IsRunStatus result }
     ensures done { result ≢ 1 → IsDoneFor (F.holds folder.old) command.now (O.contents out.old) (O.contents out.new)
         (E.contents err.old) (E.contents err.new) (F.wrote folder.old) (F.wrote folder.new) result }
+    ensures refused { result ≡ 1 → (e : ARefusal) × IsRefusedSo (F.holds folder.old) command.now (O.contents out.old) (O.contents out.new)
+        (F.wrote folder.old) (F.wrote folder.new) e }
 {
-    match status_by_command(alloc, command, folder, out, err) {
+    match outcome(alloc, command, folder, out, err) {
         Ok(status) => status,
         Err(refusal) => {
             // A closed standard error leaves nobody to tell.

@@ -1,6 +1,6 @@
 //! Writes the files of `load`.
 // The files of loaded tables.
-ghost use Rattle.std.specs.Prelude.{◌≡◌, ◌≤◌, OnOk, zip};
+ghost use Rattle.std.specs.Prelude.{◌≡◌, ◌≤◌, IfErr, OnOk, length, zip};
 ghost use Rattle.std.specs.List.{enumerate_from};
 ghost use Rattle.meaning.specs.Limits.{max_rows};
 ghost use Rattle.meaning.specs.Catalog.{IsWellFormed, IsWellFormedTable};
@@ -10,7 +10,9 @@ ghost use Rattle.wire.specs.Bytes.{sealed};
 ghost use Rattle.fragment_file.specs.Writing.{AreColumns, AreColumnsOf};
 ghost use Rattle.fragment_file.specs.CutFile.{cut_bytes};
 ghost use Rattle.folders.specs.Folder.{Writes, WritesOne, fragment_path, dimension_path, cut_path};
+ghost use Rattle.folders.specs.Refused.{IsUnwritten};
 ghost use Rattle.folders.specs.Each.{AreEach};
+ghost use Rattle.cli.specs.Refusing.{AreDimensionsUnwritten, AreFilesUnwritten, AreFragmentsUnwritten};
 ghost use Rattle.cli.specs.Loading.{AreDimensionColumns, AreFiles, AreFragmentColumns, IsDimensionFile, IsFragmentFile, header_of, rows_in};
 
 use crate::loading::Loaded;
@@ -35,7 +37,8 @@ fn save_rows<F: Folder>(
 ) -> Result<(), Refusal>
     requires header { IsHeader header.now }
     requires columns { AreColumnsOf header.now columns.now }
-    ensures { OnOk result (WritesOne path.now (λ bytes. Stands bytes header.now columns.now) (F.wrote folder.old) (F.wrote folder.new)) }
+    ensures written { OnOk result (WritesOne path.now (λ bytes. Stands bytes header.now columns.now) (F.wrote folder.old) (F.wrote folder.new)) }
+    ensures refused { IfErr result (IsUnwritten path.now) }
 {
     let mut file = create_file(folder, path)?;
     match write(alloc, header, columns, &mut file) {
@@ -51,8 +54,9 @@ fn save_cut<F: Folder>(
     load: u64,
     cut: &Cut,
 ) -> Result<(), Refusal>
-    ensures { OnOk result (WritesOne (cut_path directory.now) (λ bytes. bytes ≡ sealed (cut_bytes (record { load = load; cut = cut.now })))
+    ensures written { OnOk result (WritesOne (cut_path directory.now) (λ bytes. bytes ≡ sealed (cut_bytes (record { load = load; cut = cut.now })))
         (F.wrote folder.old) (F.wrote folder.new)) }
+    ensures refused { IfErr result (IsUnwritten (cut_path directory.now)) }
 {
     let path = cut_path(alloc, directory)?;
     let mut file = create_file(folder, &path)?;
@@ -74,9 +78,10 @@ fn save_fragment<F: Folder>(
     requires table { IsWellFormedTable table.now }
     requires few { slice.rows ≤ max_rows }
     requires columns { AreColumns table.now.columns slice.rows columns.now }
-    ensures { OnOk result (WritesOne (fragment_path directory.now table.now.name slice.fragment)
+    ensures written { OnOk result (WritesOne (fragment_path directory.now table.now.name slice.fragment)
         (λ bytes. Stands bytes (table_header load table.now slice) columns.now)
         (F.wrote folder.old) (F.wrote folder.new)) }
+    ensures refused { IfErr result (IsUnwritten (fragment_path directory.now table.now.name slice.fragment)) }
 {
     let path = fragment_path(alloc, directory, table.name.as_str(), slice.fragment)?;
     let header = Header::of_table(alloc, load, table, slice)?;
@@ -94,8 +99,9 @@ fn save_fragments<F: Folder>(
 ) -> Result<(), Refusal>
     requires table { IsWellFormedTable table.now }
     requires columns { AreEach (AreFragmentColumns table.now) cut.now fragments.now }
-    ensures { OnOk result (Writes (AreEach (IsFragmentFile directory.now load table.now cut.now) (enumerate_from 0 fragments.now))
+    ensures written { OnOk result (Writes (AreEach (IsFragmentFile directory.now load table.now cut.now) (enumerate_from 0 fragments.now))
         (F.wrote folder.old) (F.wrote folder.new)) }
+    ensures refused { IfErr result (AreFragmentsUnwritten directory.now table.now.name (length cut.now)) }
 {
     let lengths = cut.lengths();
     let mut first_row = 0;
@@ -139,9 +145,10 @@ fn save_dimension<F: Folder>(
 ) -> Result<(), Refusal>
     requires table { IsWellFormedTable dim.now.table }
     requires columns { AreDimensionColumns dim.now columns.now }
-    ensures { OnOk result (WritesOne (dimension_path directory.now dim.now.table.name)
+    ensures written { OnOk result (WritesOne (dimension_path directory.now dim.now.table.name)
         (λ bytes. Stands bytes (header_of load dim.now.table 0 0 (rows_in columns.now)) columns.now)
         (F.wrote folder.old) (F.wrote folder.new)) }
+    ensures refused { IfErr result (IsUnwritten (dimension_path directory.now dim.now.table.name)) }
 {
     let path = dimension_path(alloc, directory, dim.table.name.as_str())?;
     let slice = Slice {
@@ -163,8 +170,9 @@ fn save_dimensions<F: Folder>(
 ) -> Result<(), Refusal>
     requires well_formed { IsWellFormed catalog.now }
     requires columns { AreEach AreDimensionColumns catalog.now.dims dims.now }
-    ensures { OnOk result (Writes (AreEach (IsDimensionFile directory.now load) (zip catalog.now.dims dims.now))
+    ensures written { OnOk result (Writes (AreEach (IsDimensionFile directory.now load) (zip catalog.now.dims dims.now))
         (F.wrote folder.old) (F.wrote folder.new)) }
+    ensures refused { IfErr result (AreDimensionsUnwritten directory.now catalog.now.dims) }
 {
     let declared = catalog.dims.as_slice();
     for i in 0..declared.len() {
@@ -198,8 +206,9 @@ pub fn save<F: Folder>(
     requires well_formed { IsWellFormed catalog.now }
     requires fragments { AreEach (AreFragmentColumns catalog.now.fact) loaded.now.fact.cut loaded.now.fact.fragments.items }
     requires dims { AreEach AreDimensionColumns catalog.now.dims loaded.now.dims.items }
-    ensures { OnOk result (Writes (AreFiles directory.now load catalog.now loaded.now.fact.cut loaded.now.fact.fragments.items loaded.now.dims.items)
+    ensures written { OnOk result (Writes (AreFiles directory.now load catalog.now loaded.now.fact.cut loaded.now.fact.fragments.items loaded.now.dims.items)
         (F.wrote folder.old) (F.wrote folder.new)) }
+    ensures refused { IfErr result (AreFilesUnwritten directory.now catalog.now loaded.now.fact.cut) }
 {
     let (cut, fragments) = (&loaded.fact.cut, loaded.fact.fragments.as_slice());
     save_fragments(

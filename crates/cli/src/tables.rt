@@ -1,10 +1,12 @@
 //! The CSV files of a catalogue's tables.
 // The files of a folder that a query is answered over.
-ghost use Rattle.std.specs.Prelude.{◌≡◌, ◌≤◌, ℕ, Ok, IfOk, IfSome, All, length, drop};
+ghost use Rattle.std.specs.Prelude.{◌≡◌, ◌≤◌, ℕ, Ok, Some, IfErr, IfOk, IfSome, All, length, drop, sum};
 ghost use Rattle.meaning.specs.Cut.{cut_of, even_lengths};
 ghost use Rattle.loader.specs.Source.{csv_records};
 ghost use Rattle.coordinator.specs.Whole.{files_in};
-ghost use Rattle.folders.specs.Folder.{AreHeld};
+ghost use Rattle.folders.specs.Folder.{AreHeld, csv_path};
+ghost use Rattle.folders.specs.declared.refusal.Refusal.TheVariants.{Memory};
+ghost use Rattle.cli.specs.Refusing.{AreTablesUncut, IsFactUncut, IsFileUncut, IsUncounted, IsUneven};
 ghost use Rattle.cli.specs.Running.{AreTables, IsCsvOf, files_of, rows_behind};
 
 use folders::files::try_read;
@@ -37,7 +39,8 @@ fn try_read_csv<F: Folder>(
     directory: &str,
     table: &Text,
 ) -> Result<Option<CsvFile>, Refusal>
-    ensures { IfOk result (λ found. IfSome found (λ file. IsCsvOf (F.holds folder.now) directory.now file × (file.table ≡ table.now))) }
+    ensures held { IfOk result (λ found. IfSome found (λ file. IsCsvOf (F.holds folder.now) directory.now file × (file.table ≡ table.now))) }
+    ensures refused { IfErr result (λ e. e ≡ Memory) }
 {
     let path = csv_path(alloc, directory, table.as_str())?;
     let Some(bytes) = try_read(alloc, folder, path.as_str())? else {
@@ -54,12 +57,36 @@ pub fn counted_rows(
     table: &Text,
     csv: &[u8],
 ) -> Result<u64, Refusal>
-    ensures { IfOk result (λ n. n ≡ length (drop 1 (csv_records csv.now))) }
+    ensures counted { IfOk result (λ n. n ≡ length (drop 1 (csv_records csv.now))) }
+    ensures refused { IfErr result (IsUncounted (csv_path directory.now table.now) csv.now) }
 {
     match count_rows(alloc, csv) {
         Ok(rows) => Ok(rows),
         Err(fault) => Err(load_refusal(alloc, directory, table.as_str(), fault)),
     }
+}
+
+/// The even cut of so many rows into fragments of `rows` rows.
+pub fn even_cut(alloc: Global, counted: u64, rows: u32) -> Result<Cut, Refusal>
+    requires { 1 ≤ rows }
+    ensures evenly { IfOk result (λ cut. cut_of (even_lengths counted rows) ≡ Ok cut) }
+    ensures whole { IfOk result (λ cut. sum cut ≡ counted) }
+    ensures refused { IfErr result (IsUneven counted rows) }
+{
+    match Cut::even(alloc, counted, rows) {
+        Ok(cut) => Ok(cut),
+        Err(fault) => Err(Refusal::from(fault)),
+    }
+}
+
+/// The even cut of the rows of the fact's file.
+fn cut_file(alloc: Global, directory: &str, fact: &CsvFile, rows: u32) -> Result<Cut, Refusal>
+    requires { 1 ≤ rows }
+    ensures evenly { IfOk result (λ cut. cut_of (even_lengths (rows_behind (Some fact.now)) rows) ≡ Ok cut) }
+    ensures refused { IfErr result (IsFileUncut (csv_path directory.now fact.now.table) fact.now.bytes.items rows) }
+{
+    let counted = counted_rows(alloc, directory, &fact.table, fact.bytes.as_slice())?;
+    even_cut(alloc, counted, rows)
 }
 
 /// The even cut of a file's rows. Where there is no file, there are no rows.
@@ -70,13 +97,13 @@ fn cut_evenly(
     rows: u32,
 ) -> Result<Cut, Refusal>
     requires { 1 ≤ rows }
-    ensures { IfOk result (λ cut. cut_of (even_lengths (rows_behind fact.now) rows) ≡ Ok cut) }
+    ensures evenly { IfOk result (λ cut. cut_of (even_lengths (rows_behind fact.now) rows) ≡ Ok cut) }
+    ensures refused { IfErr result (IsFactUncut directory.now fact.now rows) }
 {
-    let counted = match fact {
-        Some(file) => counted_rows(alloc, directory, &file.table, file.bytes.as_slice())?,
-        None => 0,
-    };
-    Ok(Cut::even(alloc, counted, rows)?)
+    match fact {
+        Some(file) => cut_file(alloc, directory, file, rows),
+        None => even_cut(alloc, 0, rows),
+    }
 }
 
 /// The files of the dimensions that can be read.
@@ -86,7 +113,8 @@ fn read_dims<F: Folder>(
     directory: &str,
     catalog: &Catalog,
 ) -> Result<Vec<CsvFile>, Refusal>
-    ensures { IfOk result (λ files. All (IsCsvOf (F.holds folder.now) directory.now) files.items) }
+    ensures held { IfOk result (λ files. All (IsCsvOf (F.holds folder.now) directory.now) files.items) }
+    ensures refused { IfErr result (λ e. e ≡ Memory) }
 {
     let mut files = Vec::new(alloc);
     for dim in catalog.dims.as_slice() {
@@ -106,7 +134,8 @@ pub fn read_tables<F: Folder>(
     rows: u32,
 ) -> Result<Tables, Refusal>
     requires { 1 ≤ rows }
-    ensures { IfOk result (AreTables (F.holds folder.now) directory.now catalog.now.fact.name rows) }
+    ensures tables { IfOk result (AreTables (F.holds folder.now) directory.now catalog.now.fact.name rows) }
+    ensures refused { IfErr result (AreTablesUncut (F.holds folder.now) directory.now catalog.now.fact.name rows) }
 {
     let fact = try_read_csv(alloc, folder, directory, &catalog.fact.name)?;
     let cut = cut_evenly(alloc, directory, &fact, rows)?;

@@ -1,6 +1,8 @@
 //! Why words are no command.
 ghost use Rattle.std.specs.Prelude.{◌≡◌};
-ghost use Rattle.cli.specs.Status.{status_of};
+ghost use Rattle.clap.specs.Words.{kind_of};
+ghost use Rattle.cli.specs.Status.{of_clap, status_of};
+ghost use Rattle.cli.specs.declared.usage_fault.UsageFault.TheVariants.{Memory};
 
 use clap::error::ErrorKind;
 use std::alloc::{AllocError, AllocFailed};
@@ -32,6 +34,8 @@ impl UsageFault {
 }
 
 impl From<clap::Error> for UsageFault {
+    ghost from_gives = { λ error given. given ≡ of_clap error (kind_of error) };
+
     fn from(error: clap::Error) -> UsageFault {
         match error.kind() {
             ErrorKind::OutOfMemory => UsageFault::Memory,
@@ -51,12 +55,16 @@ impl From<io::Error> for UsageFault {
 }
 
 impl From<AllocError> for UsageFault {
+    ghost from_gives = { λ _ given. given ≡ Memory };
+
     fn from(_: AllocError) -> UsageFault {
         UsageFault::Memory
     }
 }
 
 impl<T: Drop> From<AllocFailed<T>> for UsageFault {
+    ghost from_gives = { λ _ given. given ≡ Memory };
+
     fn from(_: AllocFailed<T>) -> UsageFault {
         UsageFault::Memory
     }

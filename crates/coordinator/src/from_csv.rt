@@ -1,5 +1,5 @@
 //! A whole query in memory, from CSV files to what is printed.
-ghost use Rattle.std.specs.Prelude.{◌≡◌, ◌<◌, ◌≤◌, [], ◌∷◌, ◌++◌, ℕ, List, length, map, slice_index, IfOk, IfErr, OnOk, Ok, true, false};
+ghost use Rattle.std.specs.Prelude.{◌≡◌, ◌⊎◌, ◌<◌, ◌≤◌, [], ◌∷◌, ◌++◌, ℕ, List, length, map, slice_index, IfOk, IfErr, OnOk, Ok, true, false};
 ghost use Rattle.std.specs.List.{range_with_len, enumerate_from};
 ghost use Rattle.std.specs.Io.KnownBytes.{Appends};
 ghost use Rattle.meaning.specs.Limits.{max_rows};
@@ -343,6 +343,7 @@ fn answer_query<W: Write>(
         → IsAnswered (input_of bytes csvs.now query.now cut.now vector_len) (W.contents out.old) (W.contents out.new) r.0 r.1) }
     ensures refused { IfErr result (λ e. (bytes : List ℕ) → catalog_of bytes ≡ Ok catalog.now
         → IsRefused (input_of bytes csvs.now query.now cut.now vector_len) e) }
+    ensures quiet { IfErr result (λ e. IsEndRefusal e ⊎ (W.contents out.new ≡ W.contents out.old)) }
 {
     let run = prepare(alloc, catalog, csvs, query, cut, vector_len)?;
     answer_run(alloc, run, &catalog.fact, cut, vector_len, out)
@@ -369,6 +370,8 @@ pub fn whole<W: Write>(
     ensures answered { IfOk result (λ r. IsAnswered (input_of catalog.now csvs.now query.now cut.now vector_len) (W.contents out.old) (W.contents out.new) r.0 r.1) }
     // A refusal stands in the input.
     ensures refused { IfErr result (IsRefused (input_of catalog.now csvs.now query.now cut.now vector_len)) }
+    // Nothing is printed before all is well.
+    ensures quiet { IfErr result (λ e. IsEndRefusal e ⊎ (W.contents out.new ≡ W.contents out.old)) }
 {
     let declared = read_catalog(alloc, catalog)?;
     let answered = answer_query(alloc, &declared, csvs, query, cut, vector_len, out);

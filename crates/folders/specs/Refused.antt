@@ -1,5 +1,5 @@
 -- What a layer's refusal is as one of a command's, and how it is known that a file was not read or written.
-use Rattle.std.specs.Prelude.{◌≡◌, ◌⊎◌, ℕ, List}
+use Rattle.std.specs.Prelude.{◌≡◌, ◌⊎◌, ℕ, List, ⊤}
 use Rattle.meaning.specs.declared.catalog.CatalogFault.{CatalogFault}
 use Rattle.meaning.specs.declared.catalog.CatalogFault.TheVariants as catalog_fault
 use Rattle.meaning.specs.declared.cut.CutFault.{CutFault}
@@ -60,8 +60,18 @@ refusal_of folder (whole_fault.Load e) = refusal.Load e
 refusal_of folder whole_fault.VectorLength = refusal.Work work_fault.VectorLength
 refusal_of folder whole_fault.Writer = refusal.CannotPrint
 
+-- telling it copies no path
+abbrev pub IsPathless : WholeFault → Type 0
+IsPathless (whole_fault.MissingCsv table) = ⊥
+IsPathless _ = ⊤
+
 -- how the program tells that a table of a folder was not loaded
 abbrev pub load_refusal : List ℕ → List ℕ → LoadFault → Refusal
 load_refusal folder table load_fault.Memory = refusal.Memory
 load_refusal folder table (load_fault.Table e) = refusal.Load e
 load_refusal folder table load_fault.Device = refusal.CannotRead (csv_path folder table)
+
+-- telling it copies no path
+abbrev pub IsLoadPathless : LoadFault → Type 0
+IsLoadPathless load_fault.Device = ⊥
+IsLoadPathless _ = ⊤

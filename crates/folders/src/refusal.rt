@@ -1,7 +1,7 @@
 //! Why a command was refused.
 ghost use Rattle.std.specs.Prelude.{◌≡◌};
 ghost use Rattle.folders.specs.Folder.{csv_path};
-ghost use Rattle.folders.specs.Refused.{IsToldAs, IsUnread, IsUnwritten, load_refusal, of_catalog, of_cut, of_file, of_work, refusal_of};
+ghost use Rattle.folders.specs.Refused.{IsLoadPathless, IsPathless, IsToldAs, IsUnread, IsUnwritten, load_refusal, of_catalog, of_cut, of_file, of_work, refusal_of};
 ghost use Rattle.folders.specs.declared.refusal.Refusal.TheVariants as refusal;
 
 use crate::paths::csv_path;
@@ -132,7 +132,8 @@ pub fn cannot_write(path: &Text) -> Refusal
 
 /// How it is told that a table of a folder was not loaded.
 pub fn load_refusal(alloc: Global, folder: &str, table: &str, fault: LoadFault) -> Refusal
-    ensures { IsToldAs (load_refusal folder.now table.now fault) result }
+    ensures told { IsToldAs (load_refusal folder.now table.now fault) result }
+    ensures exact { IsLoadPathless fault → result ≡ load_refusal folder.now table.now fault }
 {
     match fault {
         LoadFault::Memory => Refusal::Memory,
@@ -143,7 +144,8 @@ pub fn load_refusal(alloc: Global, folder: &str, table: &str, fault: LoadFault) 
 
 /// How it is told that a query over the files of a folder was not answered.
 pub fn refusal_of(alloc: Global, folder: &str, fault: WholeFault) -> Refusal
-    ensures { IsToldAs (refusal_of folder.now fault) result }
+    ensures told { IsToldAs (refusal_of folder.now fault) result }
+    ensures exact { IsPathless fault → result ≡ refusal_of folder.now fault }
 {
     match fault {
         WholeFault::Memory => Refusal::Memory,

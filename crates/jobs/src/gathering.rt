@@ -1,6 +1,6 @@
 //! What answers and states say together, from their files to the report.
 ghost use Rattle.std.specs.Prelude.{◌≡◌, ◌⊎◌, IfErr, IfOk};
-ghost use Rattle.jobs.specs.Gathering.{IsGathered, IsGatheredOf, IsGatherRefused, IsTogetherRefused, IsUnprinted};
+ghost use Rattle.jobs.specs.Gathering.{IsGathered, IsGatheredOf, IsGatherRefused, IsReportRefused, IsTogetherRefused, IsUnprinted};
 
 use crate::commands::GatherCommand;
 use crate::job::read_job;
@@ -60,6 +60,8 @@ pub fn gather_answers<F: Folder, O: Write, E: Write>(
     ensures refused { IfErr result (IsGatherRefused (F.holds folder.old) command.now) }
     // Nothing is printed before the state is saved.
     ensures quiet { IfErr result (λ e. IsUnprinted e ⊎ (O.contents out.new ≡ O.contents out.old)) }
+    // No file was written before all are taken.
+    ensures left { IfErr result (λ e. IsReportRefused command.now.save e ⊎ (F.wrote folder.new ≡ F.wrote folder.old)) }
 {
     let gather = gather_files(alloc, folder, command, err)?;
     let report = save_and_report(alloc, folder, &gather, &command.save, out);

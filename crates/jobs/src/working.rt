@@ -1,10 +1,10 @@
 //! A fragment's answer, from the folder's files to the answer's.
-ghost use Rattle.std.specs.Prelude.{◌≡◌, IfErr, IfOk, OnOk, Ok, map};
+ghost use Rattle.std.specs.Prelude.{◌≡◌, ◌⊎◌, IfErr, IfOk, OnOk, Ok, map};
 ghost use Rattle.meaning.specs.WellFormedPlan.{IsWellFormedPlan};
 ghost use Rattle.meaning.specs.Said.{Answer as AnAnswer};
 ghost use Rattle.folders.specs.Folder.{AreHeld, dimension_path, fragment_path};
 ghost use Rattle.folders.specs.Each.{AreEach};
-ghost use Rattle.folders.specs.Refused.{IsUnread};
+ghost use Rattle.folders.specs.Refused.{IsUnread, IsUnwritten};
 ghost use Rattle.partial_codec.specs.Answer.{Spells};
 ghost use Rattle.worker.specs.Work.{answered};
 ghost use Rattle.jobs.specs.Working.{AreDimensionsUnread, IsAnswer, IsAnswerRefused, IsDimensionOf, IsFileAnswer, IsFileRefused, IsSpelled, IsSpelledRefused, IsWorkRefused, IsWorked};
@@ -153,6 +153,8 @@ pub fn answer_fragment<F: Folder>(
 ) -> Result<(), Refusal>
     ensures worked { OnOk result (IsWorked (F.holds folder.old) command.now (F.wrote folder.old) (F.wrote folder.new)) }
     ensures refused { IfErr result (IsWorkRefused (F.holds folder.old) command.now) }
+    // No file was written, unless writing it failed.
+    ensures left { IfErr result (λ e. IsUnwritten command.now.out e ⊎ (F.wrote folder.new ≡ F.wrote folder.old)) }
 {
     let bytes = spelled_answer(alloc, folder, command)?;
     write_file(folder, &command.out, bytes.as_slice())

@@ -3,6 +3,8 @@ use Rattle.std.proofs.Common.{◌≡◌, ◌<◌, List, length, get_or, sym, sub
 use Rattle.columns.specs.Column.{ColumnSpec}
 use Rattle.cli.specs.Loading.{AreDimensionColumns, IsDimensionFile}
 use Rattle.folders.proofs.Each.{each_length}
+use Rattle.std.proofs.lemmas.Result.{err_from_is_err_and}
+use Rattle.cli.proofs.Refusals.{contained}
 use Rattle.cli.proofs.WrittenFiles.{dimension_at, dimension_more, dimensions_end}
 use Rattle.cli.proofs.saving.save_dimensions.Goals as goal
 
@@ -27,10 +29,20 @@ loop-i-preserved g c =
     let at = subst (λ (x : List ColumnSpec). x ≡ get_or dims c.loop-i.i x) (sym c.as_slice.ensures) c.index-dims-i.is in
     dimension_more c.args.directory.now c.args.load c.as_slice-declared.result.now dims c.index-declared-i.result c.as_slice.result.now c.loop-i.i
     (g.F.Folder.wrote c.args.folder.now) (g.F.Folder.wrote c.loop-i.folder) (g.F.Folder.wrote c.save_dimension.new.folder)
-    c.loop-i-test.true within c.index-declared-i.is at c.loop-i.invariant c.in_ok-save_dimension.ensures
+    c.loop-i-test.true within c.index-declared-i.is at c.loop-i.invariant c.in_ok-save_dimension.ensures.written
 
-pub returns : goal.returns
-returns g c =
+pub returns-clause-written : goal.returns-clause-written
+returns-clause-written g c =
     let alike = each_length AreDimensionColumns c.args.catalog.now.dims c.args.dims.now c.requires.columns in
     dimensions_end (IsDimensionFile c.args.directory.now c.args.load) c.args.catalog.now.dims c.as_slice-declared.result.now c.args.dims.now c.loop-i.i
     (g.F.Folder.wrote c.args.folder.now) (g.F.Folder.wrote c.loop-i.folder) c.as_slice-declared.ensures c.loop-i-test.false alike c.loop-i.invariant
+
+pub returns-in_err-save_dimension-clause-refused : goal.returns-in_err-save_dimension-clause-refused
+returns-in_err-save_dimension-clause-refused g c =
+    let d = c.index-declared-i.result in
+    let p = err_from_is_err_and c.from_residual.result c.from_residual.ensures.1 in
+    rw (p.1, p.2) (
+      d,
+      contained c.args.catalog.now.dims c.as_slice-declared.result.now c.loop-i.i d c.as_slice-declared.ensures c.loop-i-test.true c.index-declared-i.is,
+      c.in_err-save_dimension.ensures.refused,
+    )

@@ -1,0 +1,119 @@
+-- Why a command is refused, from what its steps are refused for.
+use Rattle.std.proofs.Common.{◌≡◌, ℕ, suc, ◌<◌, List, ◌∷◌, ◌++◌, length, drop, take, get_or, Contains, Option, Some, None, Result, Ok, Err, refl, sym, ap, subst, ◌∙◌, inl, inr}
+use Rattle.std.specs.Prelude.{◌⊎◌, IfErr}
+use Rattle.std.specs.Borrow.{Bor}
+use Rattle.std.proofs.Math.Seq.{split_at}
+use Rattle.std.proofs.lemmas.List.Elements.{Contains-get_or}
+use Rattle.meaning.specs.declared.catalog.Dimension.{Dimension}
+use Rattle.columns.specs.Column.{ColumnSpec}
+use Rattle.loader.specs.Fault as loads
+use Rattle.loader.specs.Source.{csv_records}
+use Rattle.loader.specs.declared.fault.LoadFault.{LoadFault}
+use Rattle.loader.specs.declared.fault.LoadFault.TheVariants as load_fault
+use Rattle.coordinator.specs.Whole.{Files, Input, IsRefused, files_in, input_of}
+use Rattle.coordinator.specs.declared.whole_fault.WholeFault.{WholeFault}
+use Rattle.folders.specs.Each.{AreEach}
+use Rattle.folders.specs.Folder.{AreHeld, File, Holds, catalog_path, csv_path}
+use Rattle.folders.specs.Refused.{IsToldAs, load_refusal, refusal_of}
+use Rattle.folders.specs.declared.refusal.Refusal.{Refusal}
+use Rattle.folders.specs.declared.refusal.Refusal.TheVariants as refusal
+use Rattle.jobs.specs.Gathering.{IsReportRefused}
+use Rattle.jobs.specs.Working.{IsWorkRefused}
+use Rattle.jobs.specs.declared.commands.WorkCommand.{WorkCommand}
+use Rattle.cli.specs.Loading.{IsDimensionLoaded}
+use Rattle.cli.specs.Refusing.{AreDeclaredTablesRefused, IsDimensionRefused, IsFirstRefused, IsInputRefused, IsLoadRefused, IsOfOutput, IsQuiet, IsRefusedSo, IsUncounted, IsWholeRefused, LeavesFiles}
+use Rattle.cli.specs.Running.{files_of, input_over}
+use Rattle.cli.specs.declared.commands.Command.{Command}
+use Rattle.cli.specs.declared.commands.Command.TheVariants.{Whole, Load, Work}
+use Rattle.cli.specs.declared.tables.Tables.{Tables}
+
+-- ---- a query over files
+
+-- what is lent is what the tables are
+pub over : (catalog : List ℕ) (csvs : List (Bor (List ℕ) × Bor (List ℕ))) (tables : Tables) (query bytes : List ℕ) (vector : ℕ) (fault : WholeFault)
+    → files_in csvs ≡ files_of tables → bytes ≡ query → IsRefused (input_of catalog csvs bytes tables.cut vector) fault → IsRefused (input_over catalog tables query vector) fault
+over catalog csvs tables query bytes vector fault files same stands =
+    subst (λ (fs : Files). IsRefused (record { catalog = catalog; files = fs; query = query; cut = tables.cut; vector_len = vector }) fault) files
+    (subst (λ (q : List ℕ). IsRefused (record { catalog = catalog; files = files_in csvs; query = q; cut = tables.cut; vector_len = vector }) fault) same stands)
+
+pub input_refused : (folder : List ℕ) (input : Input) (fault : WholeFault) (e : Refusal) → IsRefused input fault → IsToldAs (refusal_of folder fault) e → IsInputRefused folder input e
+input_refused folder input fault e stands (inl memory) = inl memory
+input_refused folder input fault e stands (inr told) = inr (fault, stands, told)
+
+-- the catalogue's bytes are held, and they or the fact are refused
+pub tables_refused : (holds : Holds) (folder text query : List ℕ) (rows vector : ℕ) (e : Refusal) → AreHeld (holds (catalog_path folder)) text
+    → AreDeclaredTablesRefused holds folder text rows e → IsWholeRefused holds folder query rows vector e
+tables_refused holds folder text query rows vector e held (inl stands) = inl (inr (text, stands.0, held, stands.1, stands.2))
+tables_refused holds folder text query rows vector e held (inr (inl memory)) = inl (inl (inl memory))
+tables_refused holds folder text query rows vector e held (inr (inr uncut)) = inr (text, uncut.0, held, uncut.1, inl uncut.2)
+
+-- ---- the fact
+
+pub uncounted : (folder table csv : List ℕ) (fault : LoadFault) (e : Refusal) → loads.IsUncounted (length (csv_records csv)) fault → IsToldAs (load_refusal folder table fault) e → IsUncounted (csv_path folder table) csv e
+uncounted folder table csv load_fault.Memory e stands (inl memory) = inl (inl memory)
+uncounted folder table csv load_fault.Memory e stands (inr told) = inl (inl told)
+uncounted folder table csv load_fault.Device e stands (inl memory) = inl (inl memory)
+uncounted folder table csv load_fault.Device e stands (inr told) = inl (inr told)
+uncounted folder table csv (load_fault.Table f) e stands (inl memory) = inl (inl memory)
+uncounted folder table csv (load_fault.Table f) e stands (inr told) = inr (stands.1, told ∙ ap refusal.Load stands.0)
+
+-- ---- dimensions
+
+-- the dimension at a place is refused, and those before it are loaded
+pub first_refused : (holds : Holds) (folder : List ℕ) (dims items : List Dimension) (k : ℕ) (d : Dimension) (columns : List (List ColumnSpec)) (e : Refusal)
+    → items ≡ dims → k < length items → d ≡ get_or items k d → AreEach (IsDimensionLoaded holds folder) (take k items) columns → IsDimensionRefused holds folder d e → IsFirstRefused holds folder dims e
+first_refused holds folder dims items k d columns e same below is loaded refused = record {
+  before = take k items;
+  dim = d;
+  behind = drop (suc k) items;
+  dims_are = sym same ∙ (split_at items k d below ∙ ap (λ x. take k items ++ x ∷ drop (suc k) items) (sym is));
+  columns = columns;
+  loaded = loaded;
+  refused = refused;
+}
+
+-- it is one of them
+pub contained : (dims items : List Dimension) (k : ℕ) (d : Dimension) → items ≡ dims → k < length items → d ≡ get_or items k d → Contains dims d
+contained dims items k d same below is = subst (λ xs. Contains xs d) same (subst (λ x. Contains items x) (sym is) (Contains-get_or items k d below))
+
+-- ---- the commands
+
+report_is_output : (save : Option (List ℕ)) (e : Refusal) → IsReportRefused save e → IsOfOutput e
+report_is_output None e (inl unsaved) = absurd unsaved
+report_is_output None e (inr unprinted) = inl unprinted
+report_is_output (Some path) e (inl unwritten) = inr (path, unwritten)
+report_is_output (Some path) e (inr unprinted) = inl unprinted
+
+-- saving and printing alone leave something
+pub gather_leaves : (save : Option (List ℕ)) (e : Refusal) (before after : Option (List File)) → IsReportRefused save e ⊎ (after ≡ before) → LeavesFiles e before after
+gather_leaves save e before after (inl refused) = inl (report_is_output save e refused)
+gather_leaves save e before after (inr same) = inr same
+
+-- `load` is refused, of which the folder was lent
+pub load_refused : (holds : Holds) (command : Command) (folder lent : List ℕ) (load rows : ℕ) (e : Refusal) (before after : Option (List ℕ)) (wrote_before wrote_after : Option (List File))
+    → command ≡ Load folder load rows → lent ≡ folder → IsLoadRefused holds lent rows e → IsQuiet e before after → LeavesFiles e wrote_before wrote_after
+    → IsRefusedSo holds command before after wrote_before wrote_after e
+load_refused holds command folder lent load rows e before after wrote_before wrote_after is same stands quiet left =
+    subst (λ (x : Command). IsRefusedSo holds x before after wrote_before wrote_after e) (sym is) (record {
+      stands = subst (λ f. IsLoadRefused holds f rows e) same stands;
+      quiet = quiet;
+      left = left;
+    })
+
+-- `work` is refused
+pub work_refused : (holds : Holds) (command : Command) (asked : WorkCommand) (e : Refusal) (before : Option (List ℕ)) (wrote_before wrote_after : Option (List File))
+    → command ≡ Work asked → IsWorkRefused holds asked e → LeavesFiles e wrote_before wrote_after → IsRefusedSo holds command before before wrote_before wrote_after e
+work_refused holds command asked e before wrote_before wrote_after is stands left =
+    subst (λ (x : Command). IsRefusedSo holds x before before wrote_before wrote_after e) (sym is) (record { stands = stands; quiet = inr refl; left = left })
+
+-- so is `whole`, of which the folder and the query were lent
+pub whole_refused : (holds : Holds) (command : Command) (folder lent query text : List ℕ) (rows vector : ℕ) (result : Result ℕ Refusal) (before after : Option (List ℕ)) (wrote : Option (List File))
+    → command ≡ Whole folder query rows vector → lent ≡ folder → text ≡ query → IfErr result (IsWholeRefused holds lent text rows vector) → IfErr result (λ e. IsQuiet e before after)
+    → IfErr result (IsRefusedSo holds command before after wrote wrote)
+whole_refused holds command folder lent query text rows vector (Ok status) before after wrote is here same stands quiet = tt
+whole_refused holds command folder lent query text rows vector (Err e) before after wrote is here same stands quiet =
+    subst (λ (x : Command). IsRefusedSo holds x before after wrote wrote e) (sym is) (record {
+      stands = subst (λ f. IsWholeRefused holds f query rows vector e) here (subst (λ q. IsWholeRefused holds lent q rows vector e) same stands);
+      quiet = quiet;
+      left = inr refl;
+    })

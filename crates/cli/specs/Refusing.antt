@@ -1,0 +1,185 @@
+-- Why a command is refused: the first thing that is wrong in the folder's bytes, in the command's order.
+use Rattle.std.specs.Prelude.{◌≡◌, ◌⊎◌, ℕ, ◌<◌, ◌≤◌, List, ◌∷◌, ◌++◌, drop, length, Contains, Option, None, Some, IfSome, Ok, Err, ⊤}
+use Rattle.meaning.specs.declared.catalog.Catalog.{Catalog}
+use Rattle.meaning.specs.declared.catalog.CatalogFault.{CatalogFault}
+use Rattle.meaning.specs.declared.catalog.Dimension.{Dimension}
+use Rattle.meaning.specs.declared.cut.CutFault.{CutFault}
+use Rattle.meaning.specs.declared.table.TableFault.{TableFault}
+use Rattle.meaning.specs.declared.table.TableFault.TheVariants as table_fault
+use Rattle.meaning.specs.CatalogText.{catalog_of}
+use Rattle.meaning.specs.Cut.{Cut, cut_of, even_lengths}
+use Rattle.columns.specs.Column.{ColumnSpec}
+use Rattle.loader.specs.Columns.{fact_fragments, dimension_columns}
+use Rattle.loader.specs.Fault.{max_counted}
+use Rattle.loader.specs.Source.{csv_records}
+use Rattle.coordinator.specs.Whole.{Input, IsRefused}
+use Rattle.coordinator.specs.declared.whole_fault.WholeFault.{WholeFault}
+use Rattle.folders.specs.Each.{AreEach}
+use Rattle.folders.specs.Folder.{File, Holds, AreHeld, catalog_path, csv_path, cut_path, dimension_path, fragment_path}
+use Rattle.folders.specs.Refused.{IsUnread, IsUnwritten, refusal_of}
+use Rattle.folders.specs.declared.refusal.Refusal.{Refusal}
+use Rattle.folders.specs.declared.refusal.Refusal.TheVariants as refusal
+use Rattle.jobs.specs.Gathering.{IsGatherRefused, IsUnprinted}
+use Rattle.jobs.specs.Job.{IsCatalogRefused, IsCatalogThere}
+use Rattle.jobs.specs.Working.{IsWorkRefused}
+use Rattle.cli.specs.Loading.{IsDimensionLoaded, IsFactLoaded}
+use Rattle.cli.specs.Running.{AreTables, IsCsvOf, input_over}
+use Rattle.cli.specs.declared.commands.Command.{Command}
+use Rattle.cli.specs.declared.commands.Command.TheVariants.{Whole, Load, Work, Gather}
+use Rattle.cli.specs.declared.tables.CsvFile.{CsvFile}
+use Rattle.cli.specs.declared.tables.Tables.{Tables}
+
+-- ---- the fact's rows, counted and cut
+
+-- the records of the file at the path can't be counted: the file can't be read to its end, memory ran out, or there are too many
+abbrev pub IsUncounted : List ℕ → List ℕ → Refusal → Type 0
+IsUncounted path csv e = IsUnread path e ⊎ ((max_counted ≤ length (csv_records csv)) × (e ≡ refusal.Load table_fault.TooManyRows))
+
+-- memory ran out, or so many rows can't be cut evenly into fragments of `rows`
+abbrev pub IsUneven : ℕ → ℕ → Refusal → Type 0
+IsUneven counted rows e = (e ≡ refusal.Memory)
+    ⊎ ((fault : CutFault) × (cut_of (even_lengths counted rows) ≡ Err fault) × (e ≡ refusal.Cut fault))
+
+-- the rows of the file at the path can't be counted, or they can't be cut
+abbrev pub IsFileUncut : List ℕ → List ℕ → ℕ → Refusal → Type 0
+IsFileUncut path csv rows e = IsUncounted path csv e ⊎ IsUneven (length (drop 1 (csv_records csv))) rows e
+
+-- the same of the fact's file, where it could be read; where not, there are no rows
+abbrev pub IsFactUncut : List ℕ → Option CsvFile → ℕ → Refusal → Type 0
+IsFactUncut folder None rows e = IsUneven 0 rows e
+IsFactUncut folder (Some file) rows e = IsFileUncut (csv_path folder file.table) file.bytes.items rows e
+
+-- ---- tables that aren't loaded
+
+-- the fact's file is held; its rows can't be counted or cut, or the table that it stands for has a fault
+abbrev pub IsFactFileRefused : List ℕ → Catalog → List ℕ → ℕ → Refusal → Type 0
+IsFactFileRefused path catalog csv rows e = IsFileUncut path csv rows e
+    ⊎ ((cut : Cut) × (fault : TableFault) × (cut_of (even_lengths (length (drop 1 (csv_records csv))) rows) ≡ Ok cut)
+    × (fact_fragments catalog cut (csv_records csv) ≡ Err fault) × (e ≡ refusal.Load fault))
+
+-- the fact's file can't be read, or what it holds is refused
+abbrev pub IsFactRefused : Holds → List ℕ → Catalog → ℕ → Refusal → Type 0
+IsFactRefused holds folder catalog rows e = IsUnread (csv_path folder catalog.fact.name) e
+    ⊎ ((csv : List ℕ) × AreHeld (holds (csv_path folder catalog.fact.name)) csv × IsFactFileRefused (csv_path folder catalog.fact.name) catalog csv rows e)
+
+-- a dimension's file can't be read, or the table that it stands for has a fault
+abbrev pub IsDimensionRefused : Holds → List ℕ → Dimension → Refusal → Type 0
+IsDimensionRefused holds folder d e = IsUnread (csv_path folder d.table.name) e
+    ⊎ ((csv : List ℕ) × (fault : TableFault) × AreHeld (holds (csv_path folder d.table.name)) csv
+    × (dimension_columns d (csv_records csv) ≡ Err fault) × (e ≡ refusal.Load fault))
+
+-- a dimension is refused, and those before it are loaded
+pub record IsFirstRefused (holds : Holds) (folder : List ℕ) (dims : List Dimension) (e : Refusal) : Type 0 where
+  pub before : List Dimension
+  pub dim : Dimension
+  pub behind : List Dimension
+  pub dims_are : dims ≡ before ++ dim ∷ behind
+  pub columns : List (List ColumnSpec)
+  pub loaded : AreEach (IsDimensionLoaded holds folder) before columns
+  pub refused : IsDimensionRefused holds folder dim e
+
+-- memory ran out, or one of the dimensions is refused
+abbrev pub AreDimensionsRefused : Holds → List ℕ → List Dimension → Refusal → Type 0
+AreDimensionsRefused holds folder dims e = (e ≡ refusal.Memory) ⊎ IsFirstRefused holds folder dims e
+
+-- the fact is refused, or it is loaded and a dimension is refused
+abbrev pub AreTablesRefused : Holds → List ℕ → Catalog → ℕ → Refusal → Type 0
+AreTablesRefused holds folder catalog rows e = IsFactRefused holds folder catalog rows e
+    ⊎ ((cut : Cut) × (fragments : List (List ColumnSpec)) × IsFactLoaded holds folder catalog rows cut fragments
+    × AreDimensionsRefused holds folder catalog.dims e)
+
+-- ---- files that aren't written
+
+abbrev pub AreFragmentsUnwritten : List ℕ → List ℕ → ℕ → Refusal → Type 0
+AreFragmentsUnwritten folder table fragments e = (k : ℕ) × (k < fragments) × IsUnwritten (fragment_path folder table k) e
+
+abbrev pub AreDimensionsUnwritten : List ℕ → List Dimension → Refusal → Type 0
+AreDimensionsUnwritten folder dims e = (d : Dimension) × Contains dims d × IsUnwritten (dimension_path folder d.table.name) e
+
+-- a fragment's file, a dimension's or that of the cut can't be written
+abbrev pub AreFilesUnwritten : List ℕ → Catalog → Cut → Refusal → Type 0
+AreFilesUnwritten folder catalog cut e = AreFragmentsUnwritten folder catalog.fact.name (length cut) e
+    ⊎ AreDimensionsUnwritten folder catalog.dims e
+    ⊎ IsUnwritten (cut_path folder) e
+
+-- a file can't be written or the line can't be printed
+abbrev pub IsUnsaved : List ℕ → Catalog → Cut → Refusal → Type 0
+IsUnsaved folder catalog cut e = AreFilesUnwritten folder catalog cut e ⊎ (e ≡ refusal.CannotPrint)
+
+-- all tables are loaded, and a file can't be written or the line can't be printed
+pub record IsSavingRefused (holds : Holds) (folder : List ℕ) (catalog : Catalog) (rows : ℕ) (e : Refusal) : Type 0 where
+  pub cut : Cut
+  pub fragments : List (List ColumnSpec)
+  pub fact : IsFactLoaded holds folder catalog rows cut fragments
+  pub dims : List (List ColumnSpec)
+  pub each : AreEach (IsDimensionLoaded holds folder) catalog.dims dims
+  pub refused : IsUnsaved folder catalog cut e
+
+-- ---- the commands
+
+-- the tables of a catalogue are refused, or what comes behind their loading
+abbrev pub IsCatalogLoadRefused : Holds → List ℕ → Catalog → ℕ → Refusal → Type 0
+IsCatalogLoadRefused holds folder catalog rows e = AreTablesRefused holds folder catalog rows e ⊎ IsSavingRefused holds folder catalog rows e
+
+-- the catalogue is refused, or its tables
+abbrev pub IsLoadRefused : Holds → List ℕ → ℕ → Refusal → Type 0
+IsLoadRefused holds folder rows e = IsCatalogRefused holds folder e
+    ⊎ ((catalog : Catalog) × IsCatalogThere holds folder catalog × IsCatalogLoadRefused holds folder catalog rows e)
+
+-- memory ran out, or the fact isn't cut
+abbrev pub AreTablesUncut : Holds → List ℕ → List ℕ → ℕ → Refusal → Type 0
+AreTablesUncut holds folder name rows e = (e ≡ refusal.Memory)
+    ⊎ ((fact : Option CsvFile) × IfSome fact (λ file. IsCsvOf holds folder file × (file.table ≡ name)) × IsFactUncut folder fact rows e)
+
+-- the bytes declare no tables, or the fact isn't cut
+abbrev pub AreDeclaredTablesRefused : Holds → List ℕ → List ℕ → ℕ → Refusal → Type 0
+AreDeclaredTablesRefused holds folder text rows e =
+    ((fault : CatalogFault) × (catalog_of text ≡ Err fault) × (e ≡ refusal.Catalog fault))
+    ⊎ ((e ≡ refusal.Memory)
+    ⊎ ((catalog : Catalog) × (catalog_of text ≡ Ok catalog) × AreTablesUncut holds folder catalog.fact.name rows e))
+
+-- memory ran out, or a query over files is refused for what stands in them
+abbrev pub IsInputRefused : List ℕ → Input → Refusal → Type 0
+IsInputRefused folder input e = (e ≡ refusal.Memory) ⊎ ((fault : WholeFault) × IsRefused input fault × (e ≡ refusal_of folder fault))
+
+-- the fact isn't cut, or the query is refused over the files that could be read
+abbrev pub IsQueryRefused : Holds → List ℕ → List ℕ → Catalog → List ℕ → ℕ → ℕ → Refusal → Type 0
+IsQueryRefused holds folder text catalog query rows vector e = AreTablesUncut holds folder catalog.fact.name rows e
+    ⊎ ((tables : Tables) × AreTables holds folder catalog.fact.name rows tables × IsInputRefused folder (input_over text tables query vector) e)
+
+-- the catalogue is refused, or the query
+abbrev pub IsWholeRefused : Holds → List ℕ → List ℕ → ℕ → ℕ → Refusal → Type 0
+IsWholeRefused holds folder query rows vector e = IsCatalogRefused holds folder e
+    ⊎ ((text : List ℕ) × (catalog : Catalog) × AreHeld (holds (catalog_path folder)) text × (catalog_of text ≡ Ok catalog)
+    × IsQueryRefused holds folder text catalog query rows vector e)
+
+abbrev pub IsRefusedFor : Holds → Command → Refusal → Type 0
+IsRefusedFor holds (Whole folder query rows vector) e = IsWholeRefused holds folder query rows vector e
+IsRefusedFor holds (Load folder load rows) e = IsLoadRefused holds folder rows e
+IsRefusedFor holds (Work command) e = IsWorkRefused holds command e
+IsRefusedFor holds (Gather command) e = IsGatherRefused holds command e
+
+-- ---- what a refusal leaves
+
+-- memory ran out, or a file or the report can't be written
+abbrev pub IsOfOutput : Refusal → Type 0
+IsOfOutput e = IsUnprinted e ⊎ ((path : List ℕ) × IsUnwritten path e)
+
+-- nothing was printed, unless the refusal is of printing
+abbrev pub IsQuiet : Refusal → Option (List ℕ) → Option (List ℕ) → Type 0
+IsQuiet e before after = IsUnprinted e ⊎ (after ≡ before)
+
+-- no file was written, unless the refusal is of writing
+abbrev pub LeavesFiles : Refusal → Option (List File) → Option (List File) → Type 0
+LeavesFiles e before after = IsOfOutput e ⊎ (after ≡ before)
+
+-- nothing went to standard error but from `gather`, which names the files that it passes over
+abbrev pub IsSilent : Command → Option (List ℕ) → Option (List ℕ) → Type 0
+IsSilent (Gather command) before after = ⊤
+IsSilent _ before after = after ≡ before
+
+-- a command is refused for this, and what it printed and wrote by then
+pub record IsRefusedSo (holds : Holds) (command : Command) (before after : Option (List ℕ)) (wrote_before wrote_after : Option (List File)) (e : Refusal) : Type 0 where
+  pub stands : IsRefusedFor holds command e
+  pub quiet : IsQuiet e before after
+  pub left : LeavesFiles e wrote_before wrote_after

@@ -1,5 +1,5 @@
 //! Cases that run the program over a folder in memory.
-ghost use Rattle.cli.specs.Command.{IsInRange};
+ghost use Rattle.command_line.specs.Command.{IsInRange};
 
 use crate::stored_folder::StoredFolder;
 use case_files::lines::{tell_lines, tell_printed};

@@ -19,12 +19,12 @@ use Rattle.folders.specs.declared.refusal.Refusal.{Refusal}
 use Rattle.folders.specs.declared.refusal.Refusal.TheVariants as refusal
 use Rattle.jobs.specs.Gathering.{IsReportRefused}
 use Rattle.jobs.specs.Working.{IsWorkRefused}
-use Rattle.jobs.specs.declared.commands.WorkCommand.{WorkCommand}
+use Rattle.command_line.specs.declared.commands.WorkCommand.{WorkCommand}
 use Rattle.cli.specs.Loading.{IsDimensionLoaded}
 use Rattle.cli.specs.Refusing.{AreDeclaredTablesRefused, IsDimensionRefused, IsFirstRefused, IsInputRefused, IsLoadRefused, IsOfOutput, IsQuiet, IsRefusedSo, IsUncounted, IsWholeRefused, LeavesFiles}
 use Rattle.cli.specs.Running.{files_of, input_over}
-use Rattle.cli.specs.declared.commands.Command.{Command}
-use Rattle.cli.specs.declared.commands.Command.TheVariants.{Whole, Load, Work}
+use Rattle.command_line.specs.declared.commands.Command.{Command}
+use Rattle.command_line.specs.declared.commands.Command.TheVariants.{Whole, Load, Work}
 use Rattle.cli.specs.declared.tables.Tables.{Tables}
 
 -- ---- a query over files

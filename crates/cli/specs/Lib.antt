@@ -1,5 +1,4 @@
 -- The definitions of this crate.
-pub mod Command
 pub mod Loading
 pub mod Refusing
 pub mod Running

@@ -24,8 +24,8 @@ use Rattle.jobs.specs.Job.{IsCatalogRefused, IsCatalogThere}
 use Rattle.jobs.specs.Working.{IsWorkRefused}
 use Rattle.cli.specs.Loading.{IsDimensionLoaded, IsFactLoaded}
 use Rattle.cli.specs.Running.{AreTables, IsCsvOf, input_over}
-use Rattle.cli.specs.declared.commands.Command.{Command}
-use Rattle.cli.specs.declared.commands.Command.TheVariants.{Whole, Load, Work, Gather}
+use Rattle.command_line.specs.declared.commands.Command.{Command}
+use Rattle.command_line.specs.declared.commands.Command.TheVariants.{Whole, Load, Work, Gather}
 use Rattle.cli.specs.declared.tables.CsvFile.{CsvFile}
 use Rattle.cli.specs.declared.tables.Tables.{Tables}
 

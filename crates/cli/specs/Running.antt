@@ -11,11 +11,11 @@ use Rattle.folders.specs.Folder.{Holds, File, AreHeld, catalog_path, csv_path}
 use Rattle.cli.specs.Loading.{IsLoaded}
 use Rattle.jobs.specs.Gathering.{IsGathered}
 use Rattle.jobs.specs.Working.{IsWorked}
-use Rattle.jobs.specs.declared.commands.GatherCommand.{GatherCommand}
+use Rattle.command_line.specs.declared.commands.GatherCommand.{GatherCommand}
 use Rattle.coordinator.specs.declared.reporting.Report.{Report}
 use Rattle.cli.specs.Status.{end_status, report_status}
-use Rattle.cli.specs.declared.commands.Command.{Command}
-use Rattle.cli.specs.declared.commands.Command.TheVariants.{Whole, Load, Work, Gather}
+use Rattle.command_line.specs.declared.commands.Command.{Command}
+use Rattle.command_line.specs.declared.commands.Command.TheVariants.{Whole, Load, Work, Gather}
 use Rattle.cli.specs.declared.tables.CsvFile.{CsvFile}
 use Rattle.cli.specs.declared.tables.Tables.{Tables}
 

@@ -4,22 +4,6 @@ use Rattle.coordinator.specs.declared.reporting.Ended.{Ended}
 use Rattle.coordinator.specs.declared.reporting.Ended.TheVariants.{Rows, Fault}
 use Rattle.coordinator.specs.declared.reporting.Report.{Report}
 use Rattle.coordinator.specs.declared.reporting.Report.TheVariants as report
-use Rattle.clap.specs.declared.error.Error.{Error}
-use Rattle.clap.specs.declared.error.kind.ErrorKind.{ErrorKind}
-use Rattle.clap.specs.declared.error.kind.ErrorKind.TheVariants.{OutOfMemory}
-use Rattle.cli.specs.declared.usage_fault.UsageFault.{UsageFault}
-use Rattle.cli.specs.declared.usage_fault.UsageFault.TheVariants.{Memory, Encoding, Words}
-
--- clap's error, which may be that memory ran out
-abbrev pub of_clap : Error → ErrorKind → UsageFault
-of_clap e OutOfMemory = Memory
-of_clap e _ = Words e
-
--- words that are no command end with 2, out of memory with 1
-abbrev pub status_of : UsageFault → ℕ
-status_of Memory = 1
-status_of Encoding = 2
-status_of (Words e) = 2
 
 -- a query that ends with a fault of arithmetic ends with 3
 abbrev pub end_status : Ended → ℕ

@@ -11,8 +11,8 @@ use Rattle.partial_codec.specs.Job.{JobSpec}
 use Rattle.jobs.specs.Gathering.{IsGatherRefused, IsReportRefused, IsTakingRefused, IsTogetherRefused}
 use Rattle.jobs.specs.Job.{IsJobOf, IsJobRefused, IsQueryRefused}
 use Rattle.jobs.specs.Working.{IsSpelled, IsSpelledRefused, IsWorkRefused}
-use Rattle.jobs.specs.declared.commands.GatherCommand.{GatherCommand}
-use Rattle.jobs.specs.declared.commands.WorkCommand.{WorkCommand}
+use Rattle.command_line.specs.declared.commands.GatherCommand.{GatherCommand}
+use Rattle.command_line.specs.declared.commands.WorkCommand.{WorkCommand}
 
 meant : (catalog : Catalog) (folder query : List ℕ) (fault : WholeFault) → IsPlanRefused catalog query fault → IsQueryRefused catalog query (refusal_of folder fault)
 meant catalog folder query whole_fault.Memory refused = inl refl

@@ -22,7 +22,7 @@ use Rattle.folders.specs.Telling.{passed_over_line}
 use Rattle.folders.specs.declared.refusal.Refusal.{Refusal}
 use Rattle.folders.specs.declared.refusal.Refusal.TheVariants as refusal
 use Rattle.jobs.specs.Job.{IsJobOf, IsJobRefused}
-use Rattle.jobs.specs.declared.commands.GatherCommand.{GatherCommand}
+use Rattle.command_line.specs.declared.commands.GatherCommand.{GatherCommand}
 
 -- ---- a file
 

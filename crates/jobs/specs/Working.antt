@@ -11,7 +11,7 @@ use Rattle.folders.specs.Folder.{AreHeld, File, Holds, WritesOne, dimension_path
 use Rattle.folders.specs.Refused.{IsUnread, IsUnwritten, of_work}
 use Rattle.folders.specs.declared.refusal.Refusal.{Refusal}
 use Rattle.folders.specs.declared.refusal.Refusal.TheVariants as refusal
-use Rattle.jobs.specs.declared.commands.WorkCommand.{WorkCommand}
+use Rattle.command_line.specs.declared.commands.WorkCommand.{WorkCommand}
 use Rattle.jobs.specs.Job.{IsJobOf, IsJobRefused}
 
 -- ---- answered

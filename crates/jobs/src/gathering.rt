@@ -2,7 +2,7 @@
 ghost use Rattle.std.specs.Prelude.{◌≡◌, ◌⊎◌, IfErr, IfOk};
 ghost use Rattle.jobs.specs.Gathering.{IsGathered, IsGatheredOf, IsGatherRefused, IsReportRefused, IsTogetherRefused, IsUnprinted};
 
-use crate::commands::GatherCommand;
+use command_line::GatherCommand;
 use crate::job::read_job;
 use crate::saving::save_and_report;
 use crate::taking::take_files;

@@ -1,7 +1,6 @@
 //! One fragment's answer, and answers gathered, over the folder of files that tables were loaded into.
 #![tactic(auto)]
 
-mod commands;
 mod gathering;
 mod job;
 mod laws;
@@ -9,7 +8,6 @@ mod saving;
 mod taking;
 mod working;
 
-pub use commands::{GatherCommand, WorkCommand};
 pub use gathering::gather_answers;
 pub use laws::{answers_are_joined, own_answers_mean};
 pub use working::answer_fragment;

@@ -2,7 +2,7 @@
 #![tactic(auto)]
 
 ghost use Rattle.std.specs.Prelude.{IfOk};
-ghost use Rattle.cli.specs.Command.{IsInRange};
+ghost use Rattle.command_line.specs.Command.{IsInRange};
 
 mod host_folder;
 mod part_file;

@@ -1,8 +1,8 @@
 -- The commands that the program takes.
 use Rattle.std.specs.Prelude.{◌≤◌, ◌<◌, length}
 use Rattle.meaning.specs.Limits.{max_fragments, max_rows, max_vector_rows}
-use Rattle.cli.specs.declared.commands.Command.{Command}
-use Rattle.cli.specs.declared.commands.Command.TheVariants.{Whole, Load, Work, Gather}
+use Rattle.command_line.specs.declared.commands.Command.{Command}
+use Rattle.command_line.specs.declared.commands.Command.TheVariants.{Whole, Load, Work, Gather}
 
 -- each number of a command is one that it may have
 abbrev pub IsInRange : Command → Type 0

@@ -1,5 +1,5 @@
 //! The commands of the program.
-use jobs::{GatherCommand, WorkCommand};
+use meaning::sequence::Sequence;
 use meaning::text::Text;
 
 /// What the program is asked to do.
@@ -24,4 +24,28 @@ pub enum Command {
     Work(WorkCommand),
     /// To gather answers and states of a query over the loaded tables.
     Gather(GatherCommand),
+}
+
+/// To answer a query for one fragment of a folder's loaded tables.
+#[derive(Drop)]
+pub struct WorkCommand {
+    pub folder: Text,
+    pub query: Text,
+    /// At most 4,095.
+    pub fragment: u32,
+    /// The path under which the answer is written.
+    pub out: Text,
+    /// How many rows a vector has, from 1 to 4,096.
+    pub vector: u32,
+}
+
+/// To gather what answers to a query over a folder's loaded tables say together.
+#[derive(Drop)]
+pub struct GatherCommand {
+    pub folder: Text,
+    pub query: Text,
+    /// The path under which the state is written, where it is to be saved.
+    pub save: Option<Text>,
+    /// The paths of answers and of states, in the order in which they are taken.
+    pub files: Sequence<Text>,
 }

@@ -1,8 +1,8 @@
 //! Why words are no command.
 ghost use Rattle.std.specs.Prelude.{◌≡◌};
 ghost use Rattle.clap.specs.Words.{kind_of};
-ghost use Rattle.cli.specs.Status.{of_clap, status_of};
-ghost use Rattle.cli.specs.declared.usage_fault.UsageFault.TheVariants.{Memory};
+ghost use Rattle.command_line.specs.Usage.{of_clap, status_of};
+ghost use Rattle.command_line.specs.declared.usage_fault.UsageFault.TheVariants.{Memory};
 
 use clap::error::ErrorKind;
 use std::alloc::{AllocError, AllocFailed};

@@ -1,0 +1,4 @@
+-- The lemmas of this crate.
+mod Among
+mod Steps
+mod Values

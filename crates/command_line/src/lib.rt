@@ -1,0 +1,14 @@
+//! The command that the words of a command line ask for.
+#![tactic(auto)]
+
+mod commands;
+mod found;
+mod parser;
+mod parsing;
+mod parts;
+mod reading;
+mod usage_fault;
+
+pub use commands::{Command, GatherCommand, WorkCommand};
+pub use parsing::command;
+pub use usage_fault::UsageFault;

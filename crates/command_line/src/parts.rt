@@ -1,0 +1,156 @@
+//! The words behind a command's name: options with their values, and plain words.
+ghost use Rattle.std.specs.Prelude.{◌≡◌, ◌≤◌, ◌++◌, IfOk, IfSome, [], ◌∷◌, nat_eq, option_map};
+ghost use Rattle.std.specs.Cmp.Lexicographic.{pointwise};
+ghost use Rattle.std.specs.List.{list_all, list_any};
+ghost use Rattle.std.specs.Vec.{vec_items};
+ghost use Rattle.meaning.specs.Limits.{max_vector_rows};
+ghost use Rattle.command_line.specs.Found.{IsFound};
+ghost use Rattle.command_line.specs.Said.{HasNumber, HasText, HasTextOrNone, HasVector};
+ghost use Rattle.command_line.specs.Steps.{given_of, plain_of};
+ghost use Rattle.command_line.specs.Words.{IsNumber, values};
+
+use crate::found::Found;
+use meaning::limits::MAX_VECTOR_ROWS;
+use std::alloc::{AllocError, Global};
+
+const DEFAULT_VECTOR_ROWS: u32 = 1024;
+
+/// An option with its value.
+#[derive(Drop)]
+pub struct Given<'a> {
+    pub name: &'a str,
+    pub value: &'a str,
+}
+
+/// Options with their values, and plain words.
+#[derive(Drop)]
+pub struct Parts<'a> {
+    given: Vec<Given<'a>>,
+    plain: Vec<&'a str>,
+}
+
+impl<'a> Parts<'a> {
+    pub fn new(alloc: Global) -> Parts<'a>
+        ensures { (vec_items result.given ≡ []) × (vec_items result.plain ≡ []) }
+    {
+        Parts {
+            given: Vec::new(alloc),
+            plain: Vec::new(alloc),
+        }
+    }
+
+    pub fn add(&mut self, name: &'a str, value: &'a str) -> Result<(), AllocError>
+        ensures { IfOk result (λ _. (given_of self.new ≡ given_of self.old ++ ((name.now, value.now) ∷ [])) × (plain_of self.new ≡ plain_of self.old)) }
+    {
+        self.given.push(Given { name, value })?;
+        Ok(())
+    }
+
+    pub fn add_plain(&mut self, word: &'a str) -> Result<(), AllocError>
+        ensures { IfOk result (λ _. (given_of self.new ≡ given_of self.old) × (plain_of self.new ≡ plain_of self.old ++ (word.now ∷ []))) }
+    {
+        self.plain.push(word)?;
+        Ok(())
+    }
+
+    fn find(&self, name: &str) -> Found<'a>
+        ensures { IsFound (values name.now (given_of self.now)) result }
+    {
+        let mut found = Found::Nothing;
+        for given in self.given.as_slice() {
+            found = found.after(given, name);
+        }
+        found
+    }
+
+    /// The plain words.
+    pub fn plain_words(&self) -> &[&'a str]
+        ensures { result.now ≡ vec_items self.now.plain }
+    {
+        self.plain.as_slice()
+    }
+
+    /// The plain word, where there is one alone.
+    pub fn only_word(&self) -> Option<&'a str>
+        ensures { IfSome result (λ w. plain_of self.now ≡ w.now ∷ []) }
+    {
+        match self.plain.as_slice() {
+            [word] => Some(word),
+            _ => None,
+        }
+    }
+
+    /// Whether each option is one of these.
+    pub fn has_only(&self, names: &[&str]) -> bool
+        ensures { result ≡ list_all (λ g. list_any (λ n. pointwise nat_eq g.name.now n.now) names.now) (vec_items self.now.given) }
+    {
+        self.given.iter().all(|given| is_among(given.name, names))
+    }
+
+    /// The value of an option that stands there once.
+    pub fn text(&self, name: &str) -> Option<&'a str>
+        ensures { IfSome result (λ t. HasText name.now (given_of self.now) t.now) }
+    {
+        match self.find(name) {
+            Found::Once(value) => Some(value),
+            Found::Nothing => None,
+            Found::Often => None,
+        }
+    }
+
+    /// The value of an option that stands there once, or that it doesn't; else nothing.
+    pub fn text_if_any(&self, name: &str) -> Option<Option<&'a str>>
+        ensures { IfSome result (λ o. HasTextOrNone name.now (given_of self.now) (option_map (λ s. s.now) o)) }
+    {
+        match self.find(name) {
+            Found::Nothing => Some(None),
+            Found::Once(value) => Some(Some(value)),
+            Found::Often => None,
+        }
+    }
+
+    /// The number that an option's digits say.
+    pub fn number(&self, name: &str) -> Option<u64>
+        ensures { IfSome result (HasNumber name.now (given_of self.now)) }
+    {
+        number_of(self.text(name)?)
+    }
+
+    /// The number that an option's digits say, in this range.
+    pub fn number_within(&self, name: &str, least: u32, most: u32) -> Option<u32>
+        ensures { IfSome result (λ n. HasNumber name.now (given_of self.now) n × (least ≤ n) × (n ≤ most)) }
+    {
+        let number = self.number(name)?;
+        if number < u64::from(least) || number > u64::from(most) {
+            return None;
+        }
+        Some(number as u32)
+    }
+
+    /// How many rows a vector has: 1,024 where no word says it.
+    pub fn vector(&self) -> Option<u32>
+        ensures { IfSome result (λ n. HasVector (given_of self.now) n × (1 ≤ n) × (n ≤ max_vector_rows)) }
+    {
+        match self.find("vector") {
+            Found::Nothing => Some(DEFAULT_VECTOR_ROWS),
+            Found::Once(_) => self.number_within("vector", 1, MAX_VECTOR_ROWS as u32),
+            Found::Often => None,
+        }
+    }
+}
+
+fn is_among(name: &str, names: &[&str]) -> bool
+    ensures { result ≡ list_any (λ n. pointwise nat_eq name.now n.now) names.now }
+{
+    names.iter().any(|one| name == *one)
+}
+
+// The number that digits say.
+fn number_of(text: &str) -> Option<u64>
+    ensures { IfSome result (IsNumber text.now) }
+{
+    if !text.bytes().all(|byte| byte.is_ascii_digit()) {
+        return None;
+    }
+    text.parse::<u64>().ok()
+}

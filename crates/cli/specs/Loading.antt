@@ -83,7 +83,7 @@ pub record IsCatalogLoaded (holds : Holds) (folder : List ℕ) (load rows : ℕ)
   pub written : Writes (AreFiles folder load catalog cut fragments dims) wrote_before wrote_after
 
 -- a folder's tables were loaded, by the catalogue that lies there
-pub record IsLoaded (holds : Holds) (folder : List ℕ) (load rows : ℕ) (before after : Option (List ℕ)) (wrote_before wrote_after : Option (List File)) : Type 0 where
+pub record IsLoadDone (holds : Holds) (folder : List ℕ) (load rows : ℕ) (before after : Option (List ℕ)) (wrote_before wrote_after : Option (List File)) : Type 0 where
   pub catalog_bytes : List ℕ
   pub held : AreHeld (holds (catalog_path folder)) catalog_bytes
   pub catalog : Catalog

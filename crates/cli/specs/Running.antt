@@ -8,7 +8,7 @@ use Rattle.coordinator.specs.Gathering.{GatherSpec}
 use Rattle.coordinator.specs.Whole.{Files, Input, IsAnswered}
 use Rattle.coordinator.specs.declared.reporting.Ended.{Ended}
 use Rattle.folders.specs.Folder.{Holds, File, AreHeld, catalog_path, csv_path}
-use Rattle.cli.specs.Loading.{IsLoaded}
+use Rattle.cli.specs.Loading.{IsLoadDone}
 use Rattle.jobs.specs.Gathering.{IsGathered}
 use Rattle.jobs.specs.Working.{IsWorked}
 use Rattle.command_line.specs.declared.commands.GatherCommand.{GatherCommand}
@@ -48,7 +48,7 @@ abbrev pub input_over : List ℕ → Tables → List ℕ → ℕ → Input
 input_over catalog tables query vector = record { catalog = catalog; files = files_of tables; query = query; cut = tables.cut; vector_len = vector }
 
 -- a query was answered over a folder's files: what was printed is what it means over them, and the status is that of its end
-pub record IsDone (holds : Holds) (folder query : List ℕ) (rows vector : ℕ) (before after : Option (List ℕ)) (status : ℕ) : Type 0 where
+pub record IsWholeDone (holds : Holds) (folder query : List ℕ) (rows vector : ℕ) (before after : Option (List ℕ)) (status : ℕ) : Type 0 where
   pub text : List ℕ
   pub held : AreHeld (holds (catalog_path folder)) text
   pub catalog : Catalog
@@ -67,12 +67,12 @@ pub record IsReportedAs (holds : Holds) (command : GatherCommand) (before after 
   pub ends : status ≡ report_status report
 
 -- the command was done; `whole` writes no file, `work` prints nothing, and `gather` alone writes to standard error
-abbrev pub IsDoneFor : Holds → Command → Option (List ℕ) → Option (List ℕ) → Option (List ℕ) → Option (List ℕ) → Option (List File) → Option (List File) → ℕ → Type 0
-IsDoneFor holds (Whole folder query rows vector) before after err_before err_after wrote_before wrote_after status =
-    IsDone holds folder query rows vector before after status × (wrote_after ≡ wrote_before) × (err_after ≡ err_before)
-IsDoneFor holds (Load folder load rows) before after err_before err_after wrote_before wrote_after status =
-    (status ≡ 0) × IsLoaded holds folder load rows before after wrote_before wrote_after × (err_after ≡ err_before)
-IsDoneFor holds (Work command) before after err_before err_after wrote_before wrote_after status =
+abbrev pub IsCommandDone : Holds → Command → Option (List ℕ) → Option (List ℕ) → Option (List ℕ) → Option (List ℕ) → Option (List File) → Option (List File) → ℕ → Type 0
+IsCommandDone holds (Whole folder query rows vector) before after err_before err_after wrote_before wrote_after status =
+    IsWholeDone holds folder query rows vector before after status × (wrote_after ≡ wrote_before) × (err_after ≡ err_before)
+IsCommandDone holds (Load folder load rows) before after err_before err_after wrote_before wrote_after status =
+    (status ≡ 0) × IsLoadDone holds folder load rows before after wrote_before wrote_after × (err_after ≡ err_before)
+IsCommandDone holds (Work command) before after err_before err_after wrote_before wrote_after status =
     (status ≡ 0) × IsWorked holds command wrote_before wrote_after × (after ≡ before) × (err_after ≡ err_before)
-IsDoneFor holds (Gather command) before after err_before err_after wrote_before wrote_after status =
+IsCommandDone holds (Gather command) before after err_before err_after wrote_before wrote_after status =
     IsReportedAs holds command before after err_before err_after wrote_before wrote_after status

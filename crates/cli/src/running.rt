@@ -9,9 +9,9 @@ ghost use Rattle.coordinator.specs.Whole.{IsAnswered};
 ghost use Rattle.command_line.specs.Command.{IsInRange};
 ghost use Rattle.folders.specs.Folder.{AreHeld, Writes, catalog_path};
 ghost use Rattle.folders.specs.Each.{AreEach};
-ghost use Rattle.cli.specs.Loading.{AreDimensionColumns, AreFiles, AreFragmentColumns, IsCatalogLoaded, IsLoaded, loaded_line};
+ghost use Rattle.cli.specs.Loading.{AreDimensionColumns, AreFiles, AreFragmentColumns, IsCatalogLoaded, IsLoadDone, loaded_line};
 ghost use Rattle.cli.specs.Refusing.{AreDeclaredTablesRefused, IsCatalogLoadRefused, IsInputRefused, IsLoadRefused, IsQuiet, IsRefusedSo, IsSilent, IsUnsaved, IsWholeRefused, LeavesFiles};
-ghost use Rattle.cli.specs.Running.{AreTables, IsDone, IsDoneFor, IsReportedAs, input_over};
+ghost use Rattle.cli.specs.Running.{AreTables, IsWholeDone, IsCommandDone, IsReportedAs, input_over};
 ghost use Rattle.cli.specs.Status.{IsEndStatus, IsRunStatus, end_status, report_status};
 ghost use Rattle.folders.specs.declared.refusal.Refusal.{Refusal as ARefusal};
 ghost use Rattle.jobs.specs.Gathering.{IsGatherRefused};
@@ -112,7 +112,7 @@ fn answer<F: Folder, O: Write>(
     out: &mut O,
 ) -> Result<u8, Refusal>
     requires { 1 ≤ rows }
-    ensures done { IfOk result (IsDone (F.holds folder.now) directory.now query.now rows vector (O.contents out.old) (O.contents out.new)) }
+    ensures done { IfOk result (IsWholeDone (F.holds folder.now) directory.now query.now rows vector (O.contents out.old) (O.contents out.new)) }
     ensures refused { IfErr result (IsWholeRefused (F.holds folder.now) directory.now query.now rows vector) }
     ensures quiet { IfErr result (λ e. IsQuiet e (O.contents out.old) (O.contents out.new)) }
 {
@@ -185,7 +185,7 @@ fn load<F: Folder, O: Write>(
     out: &mut O,
 ) -> Result<(), Refusal>
     requires { 1 ≤ rows }
-    ensures loaded { OnOk result (IsLoaded (F.holds folder.old) directory.now load rows (O.contents out.old) (O.contents out.new) (F.wrote folder.old) (F.wrote folder.new)) }
+    ensures loaded { OnOk result (IsLoadDone (F.holds folder.old) directory.now load rows (O.contents out.old) (O.contents out.new) (F.wrote folder.old) (F.wrote folder.new)) }
     ensures refused { IfErr result (IsLoadRefused (F.holds folder.old) directory.now rows) }
     ensures quiet { IfErr result (λ e. IsQuiet e (O.contents out.old) (O.contents out.new)) }
     ensures left { IfErr result (λ e. LeavesFiles e (F.wrote folder.old) (F.wrote folder.new)) }
@@ -240,7 +240,7 @@ pub fn outcome<F: Folder, O: Write, E: Write>(
 ) -> Result<u8, Refusal>
     requires { IsInRange command.now }
     ensures status { IfOk result IsEndStatus }
-    ensures done { IfOk result (IsDoneFor (F.holds folder.old) command.now (O.contents out.old) (O.contents out.new)
+    ensures done { IfOk result (IsCommandDone (F.holds folder.old) command.now (O.contents out.old) (O.contents out.new)
         (E.contents err.old) (E.contents err.new) (F.wrote folder.old) (F.wrote folder.new)) }
     ensures refused { IfErr result (IsRefusedSo (F.holds folder.old) command.now (O.contents out.old) (O.contents out.new)
         (F.wrote folder.old) (F.wrote folder.new)) }
@@ -283,7 +283,7 @@ pub fn run<F: Folder, O: Write, E: Write>(
 ) -> u8
     requires { IsInRange command.now }
     ensures status { IsRunStatus result }
-    ensures done { result ≢ 1 → IsDoneFor (F.holds folder.old) command.now (O.contents out.old) (O.contents out.new)
+    ensures done { result ≢ 1 → IsCommandDone (F.holds folder.old) command.now (O.contents out.old) (O.contents out.new)
         (E.contents err.old) (E.contents err.new) (F.wrote folder.old) (F.wrote folder.new) result }
     ensures refused { result ≡ 1 → (e : ARefusal) × IsRefusedSo (F.holds folder.old) command.now (O.contents out.old) (O.contents out.new)
         (F.wrote folder.old) (F.wrote folder.new) e }

@@ -5,7 +5,7 @@ ghost use Rattle.group_by.specs.Rows.{AreLanesOf};
 ghost use Rattle.group_by.specs.Shape.{shape_of};
 ghost use Rattle.group_by_tests.specs.Tables.{HasTaken};
 
-use crate::rows::{NULL, alike, plain, twice, vectors_of};
+use crate::rows::{NULL, alike, plain, twice, vector_of, vectors_of};
 use crate::tables::{sum_by, table_of, told, with_rows};
 use accumulators::Group;
 use group_by::GroupTable;
@@ -116,6 +116,136 @@ fn rows_by_integers(rt: HostRuntime) -> Result<(), AllocError> {
     Ok(())
 }
 
+/// What the table of these rows hands out, and of those behind them.
+fn told_of_both(
+    alloc: Global,
+    plan: &Plan,
+    keys: &[Vector<'_>],
+    list: &[i64],
+    more_keys: &[Vector<'_>],
+    more: &[i64],
+) -> Result<String, AllocError>
+    requires sum { map (λ a. a.kind) plan.now.aggs ≡ Sum ∷ [] }
+    requires few { length list.now ≤ 1000 }
+    requires few_more { length more.now ≤ 1000 }
+    requires keys { AreLanesOf (length list.now) keys.now }
+    requires more_keys { AreLanesOf (length more.now) more_keys.now }
+{
+    let table = table_of(alloc, plan, keys, list)?;
+    let arguments = [vector_of(alloc, more, more.len())?];
+    let table = with_rows(alloc, table, more_keys, &arguments, more.len())?;
+    let groups = table.into_groups(alloc)?;
+    told(alloc, groups.as_slice())
+}
+
+fn expect_both(
+    rt: &impl Abort,
+    alloc: Global,
+    keys: &[Vector<'_>],
+    list: &[i64],
+    more_keys: &[Vector<'_>],
+    more: &[i64],
+    want: &str,
+) -> Result<(), AllocError>
+    requires few { length list.now ≤ 1000 }
+    requires few_more { length more.now ≤ 1000 }
+    requires keys { AreLanesOf (length list.now) keys.now }
+    requires more_keys { AreLanesOf (length more.now) more_keys.now }
+{
+    let plan = sum_by(alloc, 1)?;
+    let told = told_of_both(alloc, &plan, keys, list, more_keys, more);
+    drop(plan);
+    assert_eq!(rt; told?.as_str(), want);
+    Ok(())
+}
+
+/// Rows by one key.
+type Rows = (&'static [i64], &'static [i64]);
+
+/// Rows of a vector without a mask, rows of one with a mask, and what is handed out.
+type Both = (Rows, Rows, &'static str);
+
+const BOTH: &[Both] = &[
+    // The first are close to each other, so they have places in a table of their own; those with a mask are hashed.
+    (
+        (&[5, 6, 5], &[1, 2, 4]),
+        (&[6, NULL, 7, 6], &[8, 16, 32, 64]),
+        "NULL 1 1 16; 5 2 2 5; 6 3 3 74; 7 1 1 32; ",
+    ),
+    // Such a table ends with the integers of 64 bits, and others lie beyond it.
+    (
+        (
+            &[9_223_372_036_854_775_807, 9_223_372_036_854_775_806],
+            &[1, 2],
+        ),
+        (
+            &[-9_223_372_036_854_775_808, 9_223_372_036_854_775_807, 0],
+            &[4, 8, 16],
+        ),
+        "-9223372036854775808 1 1 4; 0 1 1 16; 9223372036854775806 1 1 2; 9223372036854775807 2 2 9; ",
+    ),
+    (
+        (
+            &[-9_223_372_036_854_775_808, -9_223_372_036_854_775_807],
+            &[1, 2],
+        ),
+        (
+            &[9_223_372_036_854_775_807, -9_223_372_036_854_775_808],
+            &[4, 8],
+        ),
+        "-9223372036854775808 2 2 9; -9223372036854775807 1 1 2; 9223372036854775807 1 1 4; ",
+    ),
+    // Their distance is beyond 63 bits.
+    (
+        (
+            &[
+                -9_223_372_036_854_775_808,
+                9_223_372_036_854_775_807,
+                -9_223_372_036_854_775_808,
+            ],
+            &[1, 2, 4],
+        ),
+        (&[9_223_372_036_854_775_807], &[8]),
+        "-9223372036854775808 2 2 5; 9223372036854775807 2 2 10; ",
+    ),
+    // These four begin in one slot.
+    (
+        (
+            &[
+                5_181_128_400_736_704_357,
+                2_728_991_068_347_534_261,
+                272_631_057_292_902_341,
+                2_170_970_973_533_629_461,
+            ],
+            &[1, 2, 4, 8],
+        ),
+        (
+            &[2_170_970_973_533_629_461, 2_728_991_068_347_534_261],
+            &[16, 32],
+        ),
+        "272631057292902341 1 1 4; 2170970973533629461 2 2 24; 2728991068347534261 2 2 34; 5181128400736704357 1 1 1; ",
+    ),
+];
+
+fn expect_both_ways(rt: &impl Abort, alloc: Global, case: &Both) -> Result<(), AllocError> {
+    let ((keys, list), (more_keys, more), want) = *case;
+    if keys.len() != list.len() || list.len() > 1000 || more.len() > 1000 {
+        return Err(AllocError);
+    }
+    let bare = [plain(keys)];
+    let masked = [vector_of(alloc, more_keys, more.len())?];
+    expect_both(rt, alloc, &bare, list, &masked, more, want)?;
+    expect_both(rt, alloc, &masked, more, &bare, list, want)
+}
+
+#[test]
+fn rows_with_and_without_a_mask(rt: HostRuntime) -> Result<(), AllocError> {
+    for case in BOTH {
+        expect_both_ways(&rt, rt.alloc(), case)?;
+    }
+    Ok(())
+}
+
 #[test]
 fn text_keys_are_one_by_their_bytes(rt: HostRuntime) -> Result<(), AllocError> {
     let keys = [twice("a longer text")];
@@ -141,9 +271,6 @@ fn sixty_four_keys(rt: HostRuntime) -> Result<(), AllocError> {
     want.push_str(one.as_str())?;
     expect(&rt, alloc, keys.as_slice(), &[1, 2, 4], want.as_str())
 }
-
-/// Rows by one key.
-type Rows = (&'static [i64], &'static [i64]);
 
 const ONE: Rows = (&[7, NULL, 2], &[1, 2, 4]);
 
@@ -253,13 +380,14 @@ fn a_copy_stays_as_it_is(rt: HostRuntime) -> Result<(), AllocError> {
     Ok(())
 }
 
-/// Each integer below so many, in another order.
-fn different(alloc: Global, many: usize) -> Result<Vec<i64>, AllocError>
+/// So many integers, each so far above the one before, in another order.
+fn different(alloc: Global, many: usize, apart: i64) -> Result<Vec<i64>, AllocError>
     ensures { IfOk result (λ list. length list.items ≡ many) }
 {
     let mut list = vec![in alloc; 0; many]?;
     for k in 0..list.len() {
-        list[k] = i64::try_from(k.wrapping_mul(7919).checked_rem(many).unwrap_or(0)).unwrap_or(0);
+        let number = k.wrapping_mul(7919).checked_rem(many).unwrap_or(0);
+        list[k] = i64::try_from(number).unwrap_or(0).wrapping_mul(apart);
     }
     Ok(list)
 }
@@ -275,34 +403,54 @@ fn is_of(group: &Group, number: i64) -> bool {
 }
 
 /// How many groups stand at their places.
-fn in_place(groups: &[Group]) -> usize {
+fn in_place(groups: &[Group], apart: i64) -> usize {
     let mut many: usize = 0;
     for k in 0..groups.len() {
-        if is_of(&groups[k], i64::try_from(k).unwrap_or(-1)) {
+        if is_of(
+            &groups[k],
+            i64::try_from(k).unwrap_or(-1).wrapping_mul(apart),
+        ) {
             many = many.wrapping_add(1);
         }
     }
     many
 }
 
-fn in_place_of(alloc: Global, plan: &Plan, list: &[i64]) -> Result<(usize, usize), AllocError>
+fn in_place_of(
+    alloc: Global,
+    plan: &Plan,
+    list: &[i64],
+    apart: i64,
+) -> Result<(usize, usize), AllocError>
     requires sum { map (λ a. a.kind) plan.now.aggs ≡ Sum ∷ [] }
-    requires few { length list.now ≤ 100000 }
+    requires few { length list.now ≤ 1000000 }
 {
     let table = GroupTable::new(alloc, plan)?;
     let vectors = [plain(list)];
     let table = with_rows(alloc, table, &vectors, &vectors, list.len())?;
     let groups = table.into_groups(alloc)?;
-    Ok((groups.len(), in_place(groups.as_slice())))
+    Ok((groups.len(), in_place(groups.as_slice(), apart)))
 }
 
-#[test]
-fn a_hundred_thousand_keys(rt: HostRuntime) -> Result<(), AllocError> {
-    let alloc = rt.alloc();
-    let list = different(alloc, 100_000)?;
+fn expect_in_place(
+    rt: &impl Abort,
+    alloc: Global,
+    many: usize,
+    apart: i64,
+) -> Result<(), AllocError>
+    requires { many ≤ 1000000 }
+{
+    let list = different(alloc, many, apart)?;
     let plan = sum_by(alloc, 1)?;
-    let found = in_place_of(alloc, &plan, list.as_slice());
+    let found = in_place_of(alloc, &plan, list.as_slice(), apart);
     drop(plan);
-    assert!(rt; found? == (100_000, 100_000));
+    assert!(rt; found? == (many, many));
     Ok(())
+}
+
+/// Keys that have their places in a table of their own, and keys that are hashed.
+#[test]
+fn a_million_keys(rt: HostRuntime) -> Result<(), AllocError> {
+    expect_in_place(&rt, rt.alloc(), 1_000_000, 1)?;
+    expect_in_place(&rt, rt.alloc(), 100_000, 90_000_000_000_000)
 }

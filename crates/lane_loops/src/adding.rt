@@ -15,7 +15,7 @@ fn sum_overflow(left: &[i64], right: &[i64], lane: usize) -> u8
 }
 
 #[inline(always)]
-fn wrapped_sum(left: i64, right: i64) -> i64
+pub fn wrapped_sum(left: i64, right: i64) -> i64
     ensures { result ≡ int_wrap w64 (left +ℤ right) }
 {
     left.wrapping_add(right)
@@ -58,7 +58,7 @@ fn difference_overflow(left: &[i64], right: &[i64], lane: usize) -> u8
 }
 
 #[inline(always)]
-fn wrapped_difference(left: i64, right: i64) -> i64
+pub fn wrapped_difference(left: i64, right: i64) -> i64
     ensures { result ≡ int_wrap w64 (left -ℤ right) }
 {
     left.wrapping_sub(right)
@@ -125,11 +125,12 @@ fn mul_any(left: &[i64], right: &[i64], out: &mut [i64], over: &mut [u8])
     }
 }
 
+// Two comparisons, of which the compiler makes one.
 #[inline(always)]
-fn is_wide(int: i64) -> bool
+pub fn is_wide(int: i64) -> bool
     ensures { result ≡ is_wide int }
 {
-    2_147_483_648 <= int.unsigned_abs()
+    (int < -2_147_483_647) | (2_147_483_647 < int)
 }
 
 fn has_wide(ints: &[i64]) -> bool

@@ -18,7 +18,8 @@ use Rattle.lane_loops.specs.Outcomes.{told_outcome}
 use Rattle.vector_operators.specs.Evaluated.{Held, IsBefore, IsWithin, Evaluates, noted}
 use Rattle.lane_loops.proofs.Told.{lanes_told}
 use Rattle.vector_operators.specs.Spread.{AreEither, AreParts}
-use Rattle.vector_operators.specs.Told.{arith_code, arith_int, coded, fault_of_code, Noted}
+use Rattle.lane_loops.specs.Near.{arith_code, arith_int}
+use Rattle.vector_operators.specs.Told.{coded, fault_of_code, Noted}
 use Rattle.vector_operators.proofs.Among.{find_passes, none_passes, before_fails, within_among}
 use Rattle.vector_operators.proofs.Composes.{noted_cases}
 

@@ -5,6 +5,7 @@ pub mod Composes
 pub mod Flags
 pub mod Least
 pub mod Narrowed
+pub mod NearTold
 pub mod Parts
 pub mod Tested
 pub mod Typed

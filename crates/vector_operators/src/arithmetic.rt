@@ -1,5 +1,5 @@
 //! Arithmetic on lanes, with the least fault.
-ghost use Rattle.std.specs.Prelude.{◌≡◌, ◌<◌, ℕ, pos, neg_ℤ, length, get_or, true, find, IfOk};
+ghost use Rattle.std.specs.Prelude.{◌≡◌, ◌<◌, ℕ, pos, neg_ℤ, length, get_or, true, find, IfOk, IfSome};
 ghost use Rattle.meaning.specs.declared.value.Value.TheVariants.{Null};
 ghost use Rattle.meaning.specs.declared.outcome.Outcome.TheVariants as gives;
 ghost use Rattle.meaning.specs.declared.value.ColType.TheVariants as of_type;
@@ -11,7 +11,8 @@ ghost use Rattle.lane_loops.specs.Lanes.{AreLanes, cleared_flag, int_at, is_flag
 ghost use Rattle.lane_loops.specs.Outcomes.{told_outcome};
 ghost use Rattle.vector_operators.specs.Evaluated.{Evaluates, IsWithin, noted};
 ghost use Rattle.vector_operators.specs.Given.{IsLong, given_at, is_of_kind};
-ghost use Rattle.vector_operators.specs.Told.{arith_code, arith_int, coded, fault_of_code, Noted};
+ghost use Rattle.lane_loops.specs.Near.{AreResults, arith_code, arith_int};
+ghost use Rattle.vector_operators.specs.Told.{coded, fault_of_code, Noted};
 
 use crate::fault::{Fault1, Faulted};
 use crate::given::Given;
@@ -19,6 +20,7 @@ use crate::spread::{either_null, int_parts, same_nulls, spread_ints};
 use lane_loops::adding::{add_ints, mul_ints, sub_ints};
 use lane_loops::dividing::{div_ints, neg_ints};
 use lane_loops::flags::{clear_flags, first_flagged, has_flag};
+use lane_loops::near::{operate_near, operate_near_from, operate_near_to};
 use meaning::expr::ArithmeticOperator;
 use meaning::outcome::Fault;
 use std::alloc::{AllocError, Global};
@@ -156,6 +158,125 @@ fn told(
     Given::Ints(Ints::new(IntCells::Owned(ints), nulls))
 }
 
+/// The results, where none is beyond 64 bits.
+fn near_of_two(
+    alloc: Global,
+    op: ArithmeticOperator,
+    left: &[i64],
+    right: &[i64],
+) -> Result<Option<Vec<i64>>, AllocError>
+    requires { length right.now ≡ length left.now }
+    ensures { IfOk result (λ near. IfSome near (λ ints. AreResults op (length left.now) (length left.now) (int_at left.now) (int_at right.now) ints.items)) }
+{
+    let mut ints = vec![in alloc; 0i64; left.len()]?;
+    if operate_near(op, left, right, ints.as_mut_slice()) {
+        return Ok(None);
+    }
+    Ok(Some(ints))
+}
+
+fn near_to_one(
+    alloc: Global,
+    op: ArithmeticOperator,
+    left: &[i64],
+    right: &i64,
+) -> Result<Option<Vec<i64>>, AllocError>
+    ensures { IfOk result (λ near. IfSome near (λ ints. AreResults op (length left.now) (length left.now) (int_at left.now) (λ _. right.now) ints.items)) }
+{
+    let mut ints = vec![in alloc; 0i64; left.len()]?;
+    if operate_near_to(op, left, right, ints.as_mut_slice()) {
+        return Ok(None);
+    }
+    Ok(Some(ints))
+}
+
+fn near_from_one(
+    alloc: Global,
+    op: ArithmeticOperator,
+    left: &i64,
+    right: &[i64],
+) -> Result<Option<Vec<i64>>, AllocError>
+    ensures { IfOk result (λ near. IfSome near (λ ints. AreResults op (length right.now) (length right.now) (λ _. left.now) (int_at right.now) ints.items)) }
+{
+    let mut ints = vec![in alloc; 0i64; right.len()]?;
+    if operate_near_from(op, left, right, ints.as_mut_slice()) {
+        return Ok(None);
+    }
+    Ok(Some(ints))
+}
+
+/// The same of cells of either kind on the left.
+fn near_of_cells(
+    alloc: Global,
+    op: ArithmeticOperator,
+    left: &IntCells<'_>,
+    right: &[i64],
+) -> Result<Option<Vec<i64>>, AllocError>
+    requires { length right.now ≡ length (ints_of left.now) }
+    ensures { IfOk result (λ near. IfSome near (λ ints. AreResults op (length (ints_of left.now)) (length (ints_of left.now)) (int_at (ints_of left.now)) (int_at right.now) ints.items)) }
+{
+    match left {
+        IntCells::Repeated { cell, .. } => near_from_one(alloc, op, cell, right),
+        IntCells::Lent(left) => near_of_two(alloc, op, left, right),
+        IntCells::Owned(left) => near_of_two(alloc, op, left.as_slice(), right),
+    }
+}
+
+fn near_cells_to_one(
+    alloc: Global,
+    op: ArithmeticOperator,
+    left: &IntCells<'_>,
+    right: &i64,
+) -> Result<Option<Vec<i64>>, AllocError>
+    ensures { IfOk result (λ near. IfSome near (λ ints. AreResults op (length (ints_of left.now)) (length (ints_of left.now)) (int_at (ints_of left.now)) (λ _. right.now) ints.items)) }
+{
+    let left = spread_ints(alloc, left)?;
+    near_to_one(alloc, op, left.as_slice(), right)
+}
+
+/// The same of cells of either kind: one integer beside many isn't spread.
+fn near_cells(
+    alloc: Global,
+    op: ArithmeticOperator,
+    left: &IntCells<'_>,
+    right: &IntCells<'_>,
+) -> Result<Option<Vec<i64>>, AllocError>
+    requires { length (ints_of right.now) ≡ length (ints_of left.now) }
+    ensures { IfOk result (λ near. IfSome near (λ ints. AreResults op (length (ints_of left.now)) (length (ints_of left.now)) (int_at (ints_of left.now)) (int_at (ints_of right.now)) ints.items)) }
+{
+    match right {
+        IntCells::Repeated { cell, .. } => near_cells_to_one(alloc, op, left, cell),
+        IntCells::Lent(right) => near_of_cells(alloc, op, left, right),
+        IntCells::Owned(right) => near_of_cells(alloc, op, left, right.as_slice()),
+    }
+}
+
+/// The same but for quotients, whose faults are looked for lane by lane.
+fn near_results(
+    alloc: Global,
+    op: ArithmeticOperator,
+    left: &IntCells<'_>,
+    right: &IntCells<'_>,
+) -> Result<Option<Vec<i64>>, AllocError>
+    requires { length (ints_of right.now) ≡ length (ints_of left.now) }
+    ensures { IfOk result (λ near. IfSome near (λ ints. AreResults op (length (ints_of left.now)) (length (ints_of left.now)) (int_at (ints_of left.now)) (int_at (ints_of right.now)) ints.items)) }
+{
+    match op {
+        ArithmeticOperator::Divide => Ok(None),
+        _ => near_cells(alloc, op, left, right),
+    }
+}
+
+/// The integers, NULL where it is told.
+fn without_fault(ints: Vec<i64>, nulls: Nulls<'static>) -> Given<'static>
+    requires { length (nulls_of (length ints.items) nulls) ≡ length ints.items }
+    ensures value { (i : ℕ) → i < length ints.items → given_at result i ≡ told_outcome (null_at (nulls_of (length ints.items) nulls.entry) i) 0 (int_at ints.items i) }
+    ensures long { IsLong (length ints.items) result }
+    ensures kind { is_of_kind (Valued of_type.Int) result ≡ true }
+{
+    Given::Ints(Ints::new(IntCells::Owned(ints), nulls))
+}
+
 fn of_ints(
     alloc: Global,
     op: ArithmeticOperator,
@@ -173,6 +294,9 @@ fn of_ints(
     let (left_cells, left_nulls) = int_parts(left);
     let (right_cells, right_nulls) = int_parts(right);
     let nulls = either_null(alloc, left_nulls, right_nulls, selection.below())?;
+    if let Some(ints) = near_results(alloc, op, left_cells, right_cells)? {
+        return Ok(without_fault(ints, nulls));
+    }
     let operated = operated_cells(alloc, op, left_cells, right_cells)?;
     Ok(told(operated, nulls, selection, fault))
 }

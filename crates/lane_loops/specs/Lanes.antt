@@ -113,6 +113,10 @@ null_at nulls i = get_or nulls i false
 abbrev pub cleared_flag : List Bool → List ℕ → ℕ → ℕ
 cleared_flag nulls flags i = if null_at nulls i then 0 else get_or flags i 0
 
+-- the lane's flag, or 0 where the mask doesn't mark the lane
+abbrev pub kept_flag : List Bool → List ℕ → ℕ → ℕ
+kept_flag mask flags i = if get_or mask i false then get_or flags i 0 else 0
+
 -- ---- choices
 
 abbrev pub chosen_lane : {X : Type 0} → X → List Bool → List X → List X → ℕ → X

@@ -1,7 +1,7 @@
 //! Flags of faults: whether a lane has one, and the least that is selected.
 ghost use Rattle.std.specs.Prelude.{◌≡◌, ◌<◌, length, find, All};
 ghost use Rattle.std.specs.List.{list_any, range_with_len};
-ghost use Rattle.lane_loops.specs.Lanes.{AreLanes, cleared_flag, is_flag, is_flagged};
+ghost use Rattle.lane_loops.specs.Lanes.{AreLanes, cleared_flag, is_flag, is_flagged, kept_flag};
 
 use vectors::selection::Selection;
 
@@ -37,7 +37,28 @@ pub fn clear_flags(nulls: &[bool], flags: &mut [u8])
     }
 }
 
-fn first_of_all(flags: &[u8]) -> Option<usize>
+#[inline(always)]
+fn flag_if_marked(mask: &[bool], flags: &[u8], lane: usize) -> u8
+    requires mask { lane < length mask.now }
+    requires flags { lane < length flags.now }
+    ensures { result ≡ kept_flag mask.now flags.now lane }
+{
+    let flag = flags[lane];
+    if mask[lane] { flag } else { 0 }
+}
+
+/// Takes the flag off each lane that the mask doesn't mark.
+pub fn keep_flags(mask: &[bool], flags: &mut [u8])
+    requires { length mask.now ≡ length flags.old }
+    ensures { AreLanes 0 (length flags.old) (kept_flag mask.now flags.old) flags.new }
+{
+    for i in 0..flags.len() {
+        flags[i] = flag_if_marked(mask, flags, i);
+    }
+}
+
+/// The least position whose flag isn't 0.
+pub fn first_of_all(flags: &[u8]) -> Option<usize>
     ensures { result ≡ find (is_flagged flags.now) (range_with_len 0 (length flags.now)) }
 {
     for i in 0..flags.len() {

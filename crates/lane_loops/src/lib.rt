@@ -8,6 +8,7 @@ pub mod dividing;
 pub mod flags;
 pub mod laws;
 pub mod like;
+pub mod masks;
 pub mod near;
 pub mod nulls;
 pub mod places;

@@ -153,18 +153,20 @@ pub fn operate_near_to(op: ArithmeticOperator, left: &[i64], right: &i64, out: &
     ensures long { length out.new ≡ length out.old }
     ensures near { result ≡ false → AreResults op (length out.old) (length out.old) (int_at left.now) (λ _. right.now) out.new }
 {
+    // A copy that no write to `out` can touch.
+    let right = *right;
     match op {
-        ArithmeticOperator::Add => operate_to_by(ArithmeticOperator::Add, left, right, out),
+        ArithmeticOperator::Add => operate_to_by(ArithmeticOperator::Add, left, &right, out),
         ArithmeticOperator::Subtract => operate_to_by(
             ArithmeticOperator::Subtract,
             left,
-            right,
+            &right,
             out,
         ),
         ArithmeticOperator::Multiply => operate_to_by(
             ArithmeticOperator::Multiply,
             left,
-            right,
+            &right,
             out,
         ),
         ArithmeticOperator::Divide => true,
@@ -207,17 +209,18 @@ pub fn operate_near_from(op: ArithmeticOperator, left: &i64, right: &[i64], out:
     ensures long { length out.new ≡ length out.old }
     ensures near { result ≡ false → AreResults op (length out.old) (length out.old) (λ _. left.now) (int_at right.now) out.new }
 {
+    let left = *left;
     match op {
-        ArithmeticOperator::Add => operate_from_by(ArithmeticOperator::Add, left, right, out),
+        ArithmeticOperator::Add => operate_from_by(ArithmeticOperator::Add, &left, right, out),
         ArithmeticOperator::Subtract => operate_from_by(
             ArithmeticOperator::Subtract,
-            left,
+            &left,
             right,
             out,
         ),
         ArithmeticOperator::Multiply => operate_from_by(
             ArithmeticOperator::Multiply,
-            left,
+            &left,
             right,
             out,
         ),

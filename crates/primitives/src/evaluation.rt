@@ -13,6 +13,7 @@ use crate::nodes::eval;
 use meaning::expr::Expr;
 use std::alloc::{AllocError, Global};
 use vector_operators::fault::Fault1;
+use vector_operators::lane_set::LaneSet;
 use vectors::batch::Batch;
 use vectors::selection::Selection;
 use vectors::vector::Vector;
@@ -43,6 +44,7 @@ pub fn eval_vec<'a>(
 {
     // That positions ascend below the number of rows.
     let _ = selection.len();
-    let given = eval(alloc, expr, batch, selection, fault)?;
+    let lanes = LaneSet::of(alloc, selection)?;
+    let given = eval(alloc, expr, batch, &lanes, fault)?;
     given.into_vector(alloc, batch.rows())
 }

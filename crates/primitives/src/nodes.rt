@@ -26,11 +26,11 @@ use vector_operators::choice::{coalesce, put};
 use vector_operators::comparing::{compare, is_null, like, one_truth};
 use vector_operators::fault::Fault1;
 use vector_operators::given::{Given, lent_column, repeated};
+use vector_operators::lane_set::LaneSet;
 use vector_operators::logic::{
     and, not, not_if, or, unless_false, unless_true, where_null, where_true,
 };
 use vectors::batch::{Batch, Place};
-use vectors::selection::Selection;
 
 /// What the expression gives, node by node.
 #[cycle(eval)]
@@ -38,7 +38,7 @@ pub fn eval<'a>(
     alloc: Global,
     expr: &'a Expr,
     batch: &'a Batch<'_>,
-    selection: &Selection,
+    selection: &LaneSet,
     fault: &mut Fault1,
 ) -> Result<Given<'a>, AllocError>
     requires { selection.now.below ≡ batch.now.rows }
@@ -172,7 +172,7 @@ fn not_if_known<'a>(
 fn of_minus<'a>(
     alloc: Global,
     a: Given<'a>,
-    selection: &Selection,
+    selection: &LaneSet,
     fault: &mut Fault1,
 ) -> Result<Given<'a>, AllocError>
     requires { IsLong selection.now.below a }
@@ -236,7 +236,7 @@ fn eval_arithmetic<'a>(
     left: &Given<'_>,
     right: &'a Expr,
     batch: &'a Batch<'_>,
-    selection: &Selection,
+    selection: &LaneSet,
     fault: &mut Fault1,
 ) -> Result<Given<'a>, AllocError>
     requires below { selection.now.below ≡ batch.now.rows }
@@ -262,7 +262,7 @@ fn eval_compare<'a>(
     left: &Given<'_>,
     right: &'a Expr,
     batch: &'a Batch<'_>,
-    selection: &Selection,
+    selection: &LaneSet,
     fault: &mut Fault1,
 ) -> Result<Given<'a>, AllocError>
     requires below { selection.now.below ≡ batch.now.rows }
@@ -287,7 +287,7 @@ fn eval_unless_false<'a>(
     before: &Given<'_>,
     expr: &'a Expr,
     batch: &'a Batch<'_>,
-    selection: &Selection,
+    selection: &LaneSet,
     fault: &mut Fault1,
 ) -> Result<Given<'a>, AllocError>
     requires below { selection.now.below ≡ batch.now.rows }
@@ -310,7 +310,7 @@ fn eval_unless_true<'a>(
     before: &Given<'_>,
     expr: &'a Expr,
     batch: &'a Batch<'_>,
-    selection: &Selection,
+    selection: &LaneSet,
     fault: &mut Fault1,
 ) -> Result<Given<'a>, AllocError>
     requires below { selection.now.below ≡ batch.now.rows }
@@ -333,7 +333,7 @@ fn eval_where_null<'a>(
     before: &Given<'_>,
     expr: &'a Expr,
     batch: &'a Batch<'_>,
-    selection: &Selection,
+    selection: &LaneSet,
     fault: &mut Fault1,
 ) -> Result<Given<'a>, AllocError>
     requires below { selection.now.below ≡ batch.now.rows }
@@ -356,7 +356,7 @@ fn eval_and<'a>(
     left: &Given<'_>,
     right: &'a Expr,
     batch: &'a Batch<'_>,
-    selection: &Selection,
+    selection: &LaneSet,
     fault: &mut Fault1,
 ) -> Result<Given<'a>, AllocError>
     requires below { selection.now.below ≡ batch.now.rows }
@@ -380,7 +380,7 @@ fn eval_or<'a>(
     left: &Given<'_>,
     right: &'a Expr,
     batch: &'a Batch<'_>,
-    selection: &Selection,
+    selection: &LaneSet,
     fault: &mut Fault1,
 ) -> Result<Given<'a>, AllocError>
     requires below { selection.now.below ≡ batch.now.rows }
@@ -405,7 +405,7 @@ fn eval_high<'a>(
     above: &Given<'_>,
     high: &'a Expr,
     batch: &'a Batch<'_>,
-    selection: &Selection,
+    selection: &LaneSet,
     fault: &mut Fault1,
 ) -> Result<Given<'a>, AllocError>
     requires below { selection.now.below ≡ batch.now.rows }
@@ -433,7 +433,7 @@ fn eval_above<'a>(
     above: Result<Given<'a>, AllocError>,
     high: &'a Expr,
     batch: &'a Batch<'_>,
-    selection: &Selection,
+    selection: &LaneSet,
     fault: &mut Fault1,
 ) -> Result<Given<'a>, AllocError>
     requires below { selection.now.below ≡ batch.now.rows }
@@ -461,7 +461,7 @@ fn eval_at_most<'a>(
     before: &Given<'_>,
     high: &'a Expr,
     batch: &'a Batch<'_>,
-    selection: &Selection,
+    selection: &LaneSet,
     fault: &mut Fault1,
 ) -> Result<Given<'a>, AllocError>
     requires below { selection.now.below ≡ batch.now.rows }
@@ -493,7 +493,7 @@ fn find_in<'a>(
     subject: &Given<'_>,
     list: &'a [Expr],
     batch: &'a Batch<'_>,
-    selection: &Selection,
+    selection: &LaneSet,
     fault: &mut Fault1,
 ) -> Result<Given<'static>, AllocError>
     requires below { selection.now.below ≡ batch.now.rows }
@@ -520,7 +520,7 @@ fn find_item<'a>(
     found: &mut Given<'static>,
     item: &'a Expr,
     batch: &'a Batch<'_>,
-    selection: &Selection,
+    selection: &LaneSet,
     fault: &mut Fault1,
 ) -> Result<(), AllocError>
     requires below { selection.now.below ≡ batch.now.rows }
@@ -548,7 +548,7 @@ fn find_next<'a>(
     found: &Given<'_>,
     item: &'a Expr,
     batch: &'a Batch<'_>,
-    selection: &Selection,
+    selection: &LaneSet,
     fault: &mut Fault1,
 ) -> Result<Given<'static>, AllocError>
     requires below { selection.now.below ≡ batch.now.rows }
@@ -577,7 +577,7 @@ fn eval_equal<'a>(
     before: &Given<'_>,
     item: &'a Expr,
     batch: &'a Batch<'_>,
-    selection: &Selection,
+    selection: &LaneSet,
     fault: &mut Fault1,
 ) -> Result<Given<'a>, AllocError>
     requires below { selection.now.below ≡ batch.now.rows }
@@ -608,7 +608,7 @@ fn eval_coalesce<'a>(
     alloc: Global,
     list: &'a [Expr],
     batch: &'a Batch<'_>,
-    selection: &Selection,
+    selection: &LaneSet,
     fault: &mut Fault1,
 ) -> Result<Given<'a>, AllocError>
     requires below { selection.now.below ≡ batch.now.rows }
@@ -631,7 +631,7 @@ fn eval_item<'a>(
     so_far: &mut Given<'a>,
     item: &'a Expr,
     batch: &'a Batch<'_>,
-    selection: &Selection,
+    selection: &LaneSet,
     fault: &mut Fault1,
 ) -> Result<(), AllocError>
     requires below { selection.now.below ≡ batch.now.rows }
@@ -655,7 +655,7 @@ fn eval_next<'a>(
     so_far: &Given<'a>,
     item: &'a Expr,
     batch: &'a Batch<'_>,
-    selection: &Selection,
+    selection: &LaneSet,
     fault: &mut Fault1,
 ) -> Result<Given<'a>, AllocError>
     requires below { selection.now.below ≡ batch.now.rows }
@@ -677,14 +677,14 @@ fn eval_next<'a>(
 #[derive(Drop)]
 pub struct Cases<'a> {
     given: Given<'a>,
-    left: Selection,
+    left: LaneSet,
 }
 
 /// The lanes that an arm takes, and what it gives on them.
 #[derive(Drop)]
 pub struct Taken<'a> {
     then: Given<'a>,
-    lanes: Selection,
+    lanes: LaneSet,
 }
 
 /// The arms of CASE: each condition is evaluated on the lanes that no arm before it took, each value where it is chosen.
@@ -693,7 +693,7 @@ fn eval_arms<'a>(
     alloc: Global,
     arms: &'a [Arm],
     batch: &'a Batch<'_>,
-    selection: &Selection,
+    selection: &LaneSet,
     fault: &mut Fault1,
 ) -> Result<Cases<'a>, AllocError>
     requires below { selection.now.below ≡ batch.now.rows }
@@ -763,7 +763,7 @@ fn eval_taken<'a>(
     alloc: Global,
     arm: &'a Arm,
     batch: &'a Batch<'_>,
-    left: &Selection,
+    left: &LaneSet,
     fault: &mut Fault1,
 ) -> Result<Taken<'a>, AllocError>
     requires { left.now.below ≡ batch.now.rows }
@@ -783,9 +783,9 @@ fn eval_when<'a>(
     alloc: Global,
     when: &'a Expr,
     batch: &'a Batch<'_>,
-    left: &Selection,
+    left: &LaneSet,
     fault: &mut Fault1,
-) -> Result<Selection, AllocError>
+) -> Result<LaneSet, AllocError>
     requires { left.now.below ≡ batch.now.rows }
     ensures below { IfOk result (λ lanes. lanes.below ≡ batch.now.rows) }
     ensures gives { IfOk result (λ lanes. (types : RowTypes) (rows : List JoinedRow)

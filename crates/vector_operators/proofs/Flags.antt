@@ -43,7 +43,7 @@ a_flag false code n e = elim (code == 0) as (λ b. code == 0 ≡ b → told_outc
 ] refl
 
 module _ (s : Positions) (is : IsSelection s) (n : ℕ) (below : s.below ≡ n) (nulls : List Bool) (code : ℕ → ℕ) (int : ℕ → ℤ)
-    (cleared : List ℕ) (flags_are : (i : ℕ) → i < n → get_or cleared i 0 ≡ (if null_at nulls i then 0 else code i))
+    (cleared : List ℕ) (flags_are : (i : ℕ) → IsWithin s i → get_or cleared i 0 ≡ (if null_at nulls i then 0 else code i))
     (lanes : ℕ → Outcome) (lanes_are : (i : ℕ) → i < n → lanes i ≡ gives.Value (lane_value Int (null_at nulls i, int i))) where
   abbrev told : ℕ → Outcome
   told i = told_outcome (null_at nulls i) (code i) (int i)
@@ -55,12 +55,12 @@ module _ (s : Positions) (is : IsSelection s) (n : ℕ) (below : s.below ≡ n) 
   inside i w = subst (λ (k : ℕ). i < k) below w.0
 
   value_at : (i : ℕ) → IsWithin s i → test i ≡ false → lanes i ≡ told i
-  value_at i w fails = lanes_are i (inside i w) ∙ no_flag (null_at nulls i) (code i) (int i) (sym (ap (λ (k : ℕ). is_flag k) (flags_are i (inside i w))) ∙ fails)
+  value_at i w fails = lanes_are i (inside i w) ∙ no_flag (null_at nulls i) (code i) (int i) (sym (ap (λ (k : ℕ). is_flag k) (flags_are i w)) ∙ fails)
 
   fault_there : (p : ℕ) → IsWithin s p → test p ≡ true → told p ≡ gives.Fault (fault_of_code (get_or cleared p 0))
   fault_there p w passes =
-      a_flag (null_at nulls p) (code p) (int p) (sym (ap (λ (k : ℕ). is_flag k) (flags_are p (inside p w))) ∙ passes)
-      ∙ ap (λ (k : ℕ). gives.Fault (fault_of_code k)) (sym (flags_are p (inside p w)))
+      a_flag (null_at nulls p) (code p) (int p) (sym (ap (λ (k : ℕ). is_flag k) (flags_are p w)) ∙ passes)
+      ∙ ap (λ (k : ℕ). gives.Fault (fault_of_code k)) (sym (flags_are p w))
 
   by_found : (h : Held) (found : Option ℕ) → find test s.list ≡ found → Evaluates told (IsWithin s) h (noted h (coded cleared found)) lanes
   by_found h None e = record { exact = λ i w b. value_at i w (none_passes test s.list e i w.1); origin = inl refl }
@@ -103,9 +103,9 @@ module _ (s : Positions) (codes slice : List ℕ) (ints : List ℤ) (nulls : Nul
   pub told_long : length lanes ≡ s.below
   told_long = ap (λ (vs : List Value). length vs) lanes_same ∙ lanes_long Int told_nulls ints (nulls_are_long ∙ sym ints_long) ∙ ints_long
 
-  flags_there : (i : ℕ) → i < s.below → get_or noted_is.cleared i 0 ≡ (if null_at told_nulls i then 0 else get_or codes i 0)
+  flags_there : (i : ℕ) → IsWithin s i → get_or noted_is.cleared i 0 ≡ (if null_at told_nulls i then 0 else get_or codes i 0)
   flags_there i within =
-      noted_is.flags i (subst (λ (k : ℕ). i < k) (sym slice_long) within)
+      noted_is.flags i within
       ∙ ap (λ (k : ℕ). if null_at (nulls_of k nulls) i then 0 else get_or slice i 0) slice_long
       ∙ ap (λ (xs : List ℕ). if null_at told_nulls i then 0 else get_or xs i 0) same
 

@@ -4,6 +4,7 @@ pub mod Choosing
 pub mod Composes
 pub mod Flags
 pub mod Least
+pub mod MarkedLanes
 pub mod Narrowed
 pub mod NearTold
 pub mod Parts

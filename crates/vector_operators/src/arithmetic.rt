@@ -6,6 +6,7 @@ ghost use Rattle.meaning.specs.declared.value.ColType.TheVariants as of_type;
 ghost use Rattle.meaning.specs.Operators.{arith_of, arith_values, minus_of, minus_value};
 ghost use Rattle.meaning.specs.Typing.{Valued};
 ghost use Rattle.std.specs.Int.{int_wrap, w64};
+ghost use Rattle.std.specs.List.{range_with_len};
 ghost use Rattle.vectors.specs.Lanes.{ints_of, nulls_of};
 ghost use Rattle.lane_loops.specs.Lanes.{AreLanes, cleared_flag, int_at, is_flagged, null_at, overflow_bit};
 ghost use Rattle.lane_loops.specs.Outcomes.{told_outcome};
@@ -16,17 +17,17 @@ ghost use Rattle.vector_operators.specs.Told.{coded, fault_of_code, Noted};
 
 use crate::fault::{Fault1, Faulted};
 use crate::given::Given;
+use crate::lane_set::LaneSet;
 use crate::spread::{either_null, int_parts, same_nulls, spread_ints};
 use lane_loops::adding::{add_ints, mul_ints, sub_ints};
 use lane_loops::dividing::{div_ints, neg_ints};
-use lane_loops::flags::{clear_flags, first_flagged, has_flag};
+use lane_loops::flags::{clear_flags, first_of_all, has_flag};
 use lane_loops::near::{operate_near, operate_near_from, operate_near_to};
 use meaning::expr::ArithmeticOperator;
 use meaning::outcome::Fault;
 use std::alloc::{AllocError, Global};
 use vectors::ints::{IntCells, Ints};
 use vectors::nulls::Nulls;
-use vectors::selection::Selection;
 
 fn fault_of(code: u8) -> Fault
     ensures { result ≡ fault_of_code code }
@@ -49,12 +50,11 @@ fn clear_null_lanes(nulls: &Nulls<'_>, codes: &mut [u8])
     }
 }
 
-/// Notes the fault of the least selected lane that has one.
-fn note_first(codes: &[u8], selection: &Selection, fault: &mut Fault1)
-    requires { selection.now.below ≡ length codes.now }
-    ensures { fault.new.held ≡ noted fault.old.held (coded codes.now (find (is_flagged codes.now) selection.now.list)) }
+/// Notes the fault of the least lane that has one.
+fn note_first(codes: &[u8], fault: &mut Fault1)
+    ensures { fault.new.held ≡ noted fault.old.held (coded codes.now (find (is_flagged codes.now) (range_with_len 0 (length codes.now)))) }
 {
-    if let Some(position) = first_flagged(codes, selection) {
+    if let Some(position) = first_of_all(codes) {
         fault.note(Faulted {
             position,
             fault: fault_of(codes[position]),
@@ -63,12 +63,11 @@ fn note_first(codes: &[u8], selection: &Selection, fault: &mut Fault1)
 }
 
 /// The same, where most often no lane has a fault.
-fn note_any(codes: &[u8], selection: &Selection, fault: &mut Fault1)
-    requires { selection.now.below ≡ length codes.now }
-    ensures { fault.new.held ≡ noted fault.old.held (coded codes.now (find (is_flagged codes.now) selection.now.list)) }
+fn note_any(codes: &[u8], fault: &mut Fault1)
+    ensures { fault.new.held ≡ noted fault.old.held (coded codes.now (find (is_flagged codes.now) (range_with_len 0 (length codes.now)))) }
 {
     if has_flag(codes) {
-        note_first(codes, selection, fault);
+        note_first(codes, fault);
     }
 }
 
@@ -88,16 +87,17 @@ fn operate(op: ArithmeticOperator, left: &[i64], right: &[i64], out: &mut [i64],
     }
 }
 
-/// Notes the least fault of these codes, but for lanes that are NULL.
-fn note_codes(codes: &mut [u8], nulls: &Nulls<'_>, selection: &Selection, fault: &mut Fault1)
+/// Notes the least fault of these codes, but for lanes that are NULL or not selected.
+fn note_codes(codes: &mut [u8], nulls: &Nulls<'_>, selection: &LaneSet, fault: &mut Fault1)
     requires nulls { length (nulls_of (length codes.old) nulls.now) ≡ length codes.old }
     requires below { selection.now.below ≡ length codes.old }
     ensures { Noted (nulls_of (length codes.old) nulls.now) codes.old selection.now fault.old.held fault.new.held }
 {
     // That positions ascend below the length.
-    let _ = selection.len();
+    let _ = selection.below();
     clear_null_lanes(nulls, codes);
-    note_any(codes, selection, fault);
+    selection.keep_flags(codes);
+    note_any(codes, fault);
 }
 
 /// Integers, and the code of the fault in each lane, or 0.
@@ -142,7 +142,7 @@ fn operated_cells(
 fn told(
     operated: IntResults,
     nulls: Nulls<'static>,
-    selection: &Selection,
+    selection: &LaneSet,
     fault: &mut Fault1,
 ) -> Given<'static>
     requires ints { length operated.ints.items ≡ selection.now.below }
@@ -282,7 +282,7 @@ fn of_ints(
     op: ArithmeticOperator,
     left: &Ints<'_>,
     right: &Ints<'_>,
-    selection: &Selection,
+    selection: &LaneSet,
     fault: &mut Fault1,
 ) -> Result<Given<'static>, AllocError>
     requires left { length left.now ≡ selection.now.below }
@@ -306,7 +306,7 @@ fn of_ints_and(
     op: ArithmeticOperator,
     left: &Ints<'_>,
     right: &Given<'_>,
-    selection: &Selection,
+    selection: &LaneSet,
     fault: &mut Fault1,
 ) -> Result<Given<'static>, AllocError>
     requires left { length left.now ≡ selection.now.below }
@@ -329,7 +329,7 @@ pub fn arithmetic(
     op: ArithmeticOperator,
     left: &Given<'_>,
     right: &Given<'_>,
-    selection: &Selection,
+    selection: &LaneSet,
     fault: &mut Fault1,
 ) -> Result<Given<'static>, AllocError>
     requires left { IsLong selection.now.below left.now }
@@ -361,7 +361,7 @@ fn negated(alloc: Global, cells: &IntCells<'_>) -> Result<IntResults, AllocError
 fn minus_ints(
     alloc: Global,
     ints: &Ints<'_>,
-    selection: &Selection,
+    selection: &LaneSet,
     fault: &mut Fault1,
 ) -> Result<Given<'static>, AllocError>
     requires { length ints.now ≡ selection.now.below }
@@ -379,7 +379,7 @@ fn minus_ints(
 pub fn minus(
     alloc: Global,
     given: &Given<'_>,
-    selection: &Selection,
+    selection: &LaneSet,
     fault: &mut Fault1,
 ) -> Result<Given<'static>, AllocError>
     requires { IsLong selection.now.below given.now }

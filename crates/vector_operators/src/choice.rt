@@ -12,12 +12,12 @@ ghost use Rattle.vector_operators.specs.Given.{AreCellsOf, AreChosenCells, AreCh
 ghost use Rattle.vector_operators.specs.Spread.{spread_cells};
 
 use crate::given::Given;
+use crate::lane_set::LaneSet;
 use crate::spread::{Spread, int_parts, null_lanes, spread_ints, spread_texts, text_parts};
 use lane_loops::choosing::choose;
 use std::alloc::{AllocError, Global};
 use vectors::ints::{IntCells, Ints};
 use vectors::nulls::Nulls;
-use vectors::selection::Selection;
 use vectors::texts::{TextCells, Texts};
 
 fn blank_ints<'a>(alloc: Global, lanes: usize) -> Result<Spread<'a, i64>, AllocError>
@@ -260,7 +260,7 @@ pub fn coalesce<'a>(
 /// The lanes of `these` at the selected positions, elsewhere those of `those`.
 pub fn put<'a>(
     alloc: Global,
-    selection: &Selection,
+    selection: &LaneSet,
     these: &Given<'a>,
     those: &Given<'a>,
 ) -> Result<Given<'a>, AllocError>

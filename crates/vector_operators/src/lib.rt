@@ -6,6 +6,7 @@ pub mod choice;
 pub mod comparing;
 pub mod fault;
 pub mod given;
+pub mod lane_set;
 pub mod laws;
 pub mod logic;
 pub mod spread;

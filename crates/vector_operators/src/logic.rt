@@ -7,13 +7,13 @@ ghost use Rattle.lane_loops.specs.Lanes.{null_at};
 ghost use Rattle.vector_operators.specs.Given.{AreNarrowed, IsLong, given_at, is_not_false, is_not_true, is_null_lane, is_of_kind, is_true_lane};
 
 use crate::given::Given;
+use crate::lane_set::LaneSet;
 use crate::spread::{null_lanes, spread_truths};
 use lane_loops::choosing::{not_false_lanes, not_true_lanes, true_lanes};
 use lane_loops::truths::{and_truths, not_truths, or_truths};
 use meaning::outcome::Truth;
 use std::alloc::{AllocError, Global};
 use std::mem::drop;
-use vectors::selection::Selection;
 use vectors::truths::{TruthCells, Truths};
 
 /// AND of each two lanes.
@@ -89,69 +89,61 @@ pub fn not_if<'a>(
     result
 }
 
-fn kept(alloc: Global, selection: &Selection, mask: &[bool]) -> Result<Selection, AllocError>
-    requires { length mask.now ≡ selection.now.below }
-    ensures { IfOk result (AreNarrowed (λ i. null_at mask.now i) selection.now) }
-{
-    let mut kept = selection.copy(alloc)?;
-    kept.keep_marked(mask);
-    Ok(kept)
-}
-
 /// The selected lanes that aren't FALSE, on which AND has its right side evaluated.
 pub fn unless_false(
     alloc: Global,
     given: &Given<'_>,
-    selection: &Selection,
-) -> Result<Selection, AllocError>
+    selection: &LaneSet,
+) -> Result<LaneSet, AllocError>
     requires { IsLong selection.now.below given.now }
     ensures { IfOk result (AreNarrowed (λ i. is_not_false (given_at given.now i)) selection.now) }
 {
     let truths = spread_truths(alloc, given, selection.below())?;
     let mut mask = vec![in alloc; false; selection.below()]?;
     not_false_lanes(truths.as_slice(), mask.as_mut_slice());
-    kept(alloc, selection, mask.as_slice())
+    selection.narrowed(alloc, mask)
 }
 
 /// The selected lanes that aren't TRUE, on which OR has its right side evaluated.
 pub fn unless_true(
     alloc: Global,
     given: &Given<'_>,
-    selection: &Selection,
-) -> Result<Selection, AllocError>
+    selection: &LaneSet,
+) -> Result<LaneSet, AllocError>
     requires { IsLong selection.now.below given.now }
     ensures { IfOk result (AreNarrowed (λ i. is_not_true (given_at given.now i)) selection.now) }
 {
     let truths = spread_truths(alloc, given, selection.below())?;
     let mut mask = vec![in alloc; false; selection.below()]?;
     not_true_lanes(truths.as_slice(), mask.as_mut_slice());
-    kept(alloc, selection, mask.as_slice())
+    selection.narrowed(alloc, mask)
 }
 
 /// The selected lanes that are TRUE, which take the value behind a WHEN.
 pub fn where_true(
     alloc: Global,
     given: &Given<'_>,
-    selection: &Selection,
-) -> Result<Selection, AllocError>
+    selection: &LaneSet,
+) -> Result<LaneSet, AllocError>
     requires { IsLong selection.now.below given.now }
     ensures { IfOk result (AreNarrowed (λ i. is_true_lane (given_at given.now i)) selection.now) }
 {
     let truths = spread_truths(alloc, given, selection.below())?;
     let mut chosen = vec![in alloc; false; selection.below()]?;
     true_lanes(truths.as_slice(), chosen.as_mut_slice());
-    kept(alloc, selection, chosen.as_slice())
+    selection.narrowed(alloc, chosen)
 }
 
 /// The selected lanes that are NULL, on which COALESCE goes on.
 pub fn where_null(
     alloc: Global,
     given: &Given<'_>,
-    selection: &Selection,
-) -> Result<Selection, AllocError>
+    selection: &LaneSet,
+) -> Result<LaneSet, AllocError>
     requires { IsLong selection.now.below given.now }
     ensures { IfOk result (AreNarrowed (λ i. is_null_lane (given_at given.now i)) selection.now) }
 {
     let nulls = null_lanes(alloc, given, selection.below())?;
-    kept(alloc, selection, nulls.as_slice())
+    let mask = Vec::from_slice(alloc, nulls.as_slice())?;
+    selection.narrowed(alloc, mask)
 }

@@ -10,7 +10,7 @@ pub returns-clause-exact : goal.returns-clause-exact
 returns-clause-exact c =
     let n = c.args.selection.now.below in
     let given = c.int_parts.result.1.now in
-    let same = subst (λ (k : ℕ). nulls_of k c.in_ok-nulls.nulls ≡ nulls_of k given) c.below.ensures c.in_ok-nulls.ensures in
+    let same = subst (λ (k : ℕ). nulls_of k c.in_ok-nulls.nulls ≡ nulls_of k given) c.below.ensures.value c.in_ok-nulls.ensures in
     restated _ _ (IsWithin c.args.selection.now) _ _ _
     (λ i w. minus_tells n c.args.ints.now (ints_of c.int_parts.result.0.now)
     c.in_ok-operated.operated.ints.items c.in_ok-operated.operated.codes.items given c.in_ok-nulls.nulls c.int_parts.ensures

@@ -17,7 +17,7 @@ returns-clause-exact c =
     let n = c.args.selection.now.below in
     let ln = c.int_parts.result.1.now in
     let rn = c.int_parts-2.result.1.now in
-    let either = subst (λ (k : ℕ). AreEither (nulls_of k ln) (nulls_of k rn) k c.in_ok-nulls.nulls) c.below.ensures c.in_ok-nulls.ensures in
+    let either = subst (λ (k : ℕ). AreEither (nulls_of k ln) (nulls_of k rn) k c.in_ok-nulls.nulls) c.below.ensures.value c.in_ok-nulls.ensures in
     restated _ _ (IsWithin c.args.selection.now) _ _ _
     (λ i w. arith_tells c.args.op n c.args.left.now c.args.right.now (ints_of c.int_parts.result.0.now) (ints_of c.int_parts-2.result.0.now)
     c.in_ok-operated.operated.ints.items c.in_ok-operated.operated.codes.items ln rn c.in_ok-nulls.nulls c.int_parts.ensures c.int_parts-2.ensures
@@ -35,7 +35,7 @@ returns-in-Some-clause-exact c =
     let results : AreResults c.args.op (length lc) (length lc) (int_at lc) (int_at rc) ints =
     subst (λ near. IfSome near (λ v. AreResults c.args.op (length lc) (length lc) (int_at lc) (int_at rc) v.items)) c.in-Some.is c.in_ok-ints.ensures in
     let long : length ints ≡ n = results.long ∙ c.int_parts.ensures.long ∙ c.requires.left in
-    let either = subst (λ (k : ℕ). AreEither (nulls_of k ln) (nulls_of k rn) k nulls) c.below.ensures c.in_ok-nulls.ensures in
+    let either = subst (λ (k : ℕ). AreEither (nulls_of k ln) (nulls_of k rn) k nulls) c.below.ensures.value c.in_ok-nulls.ensures in
     let value : (i : ℕ) → i < n → given_at c.without_fault.result i ≡ told_outcome (null_at (nulls_of n nulls) i) 0 (int_at ints i) =
     subst (λ (k : ℕ). (i : ℕ) → i < k → given_at c.without_fault.result i ≡ told_outcome (null_at (nulls_of k nulls) i) 0 (int_at ints i)) long c.without_fault.ensures.value in
     no_fault c.args.selection.now _ (given_at c.without_fault.result) c.args.fault.now.held

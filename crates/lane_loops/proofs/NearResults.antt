@@ -1,13 +1,13 @@
 -- Results of integers near zero.
-use Rattle.std.specs.Prelude.{◌≡◌, ℕ, ◌+◌, ◌<◌, ℤ, pos, negsuc, ◌+ℤ◌, ◌-ℤ◌, ◌≤ℤ◌, ◌||◌, Bool, true, false, not, nat_lt, eqb, List, length, get_or, set}
-use Rattle.std.specs.Int.{from_bool}
+use Rattle.std.specs.Prelude.{◌≡◌, ℕ, ◌+◌, ◌<◌, ℤ, pos, negsuc, ◌+ℤ◌, ◌-ℤ◌, ◌*ℤ◌, ◌≤ℤ◌, ◌||◌, Bool, true, false, not, nat_lt, eqb, List, length, get_or, set}
+use Rattle.std.specs.Int.{from_bool, int_wrap, w64}
 use Rattle.std.proofs.Common.{refl, sym, ap, arith, subst, ◌∙◌}
 use Rattle.std.proofs.lemmas.Int.{ints}
 use Rattle.std.proofs.lemmas.Bool.{lt-ltb, eqb-true, eqb-false}
 use Rattle.meaning.specs.declared.expr.ArithmeticOperator.{ArithmeticOperator}
 use Rattle.meaning.specs.declared.expr.ArithmeticOperator.TheVariants.{Add, Subtract, Multiply, Divide}
 use Rattle.meaning.specs.Operators.{fits_i64}
-use Rattle.lane_loops.specs.Lanes.{AreFilled, overflow_bit}
+use Rattle.lane_loops.specs.Lanes.{AreFilled, AreLanes, is_wide, overflow_bit}
 use Rattle.lane_loops.specs.Near.{AreNear, AreResults, IsNear, arith_code, arith_int}
 use Rattle.lane_loops.proofs.Filling.{filled_more}
 use Rattle.lane_loops.proofs.Narrow.{product_bit}
@@ -74,3 +74,12 @@ module _ (op : ArithmeticOperator) (n : ℕ) (left right : ℕ → ℤ) where
 
   pub none_yet : (out : List ℤ) → length out ≡ n → AreResults op n 0 left right out
   none_yet out long = record { long = long; each = λ j below. absurd (omega (arith, below)); held = λ j below. absurd (omega (arith, below)) }
+
+-- products of integers of 32 bits
+pub products_are : (n : ℕ) (left right : ℕ → ℤ) (out : List ℤ) → AreLanes (pos 0) n (λ i. int_wrap w64 (left i *ℤ right i)) out
+    → ((i : ℕ) → i < n → is_wide (left i) ≡ false) → ((i : ℕ) → i < n → is_wide (right i) ≡ false) → AreResults Multiply n n left right out
+products_are n left right out are narrow_left narrow_right = record {
+  long = are.long;
+  each = λ j below. are.each j below;
+  held = λ j below. product_bit (left j) (right j) (narrow_left j below) (narrow_right j below);
+}

@@ -133,7 +133,7 @@ pub fn is_wide(int: i64) -> bool
     (int < -2_147_483_647) | (2_147_483_647 < int)
 }
 
-fn has_wide(ints: &[i64]) -> bool
+pub fn has_wide(ints: &[i64]) -> bool
     ensures { result ≡ list_any is_wide ints.now }
 {
     let mut is_any = false;
@@ -166,7 +166,7 @@ fn put_narrow(left: &[i64], right: &[i64], lane: usize, out: &mut [i64])
 }
 
 /// The products of integers of 32 bits, which 64 bits hold.
-fn mul_narrow(left: &[i64], right: &[i64], out: &mut [i64])
+pub fn mul_narrow(left: &[i64], right: &[i64], out: &mut [i64])
     requires left { length left.now ≡ length out.old }
     requires right { length right.now ≡ length out.old }
     requires narrow_left { list_any is_wide left.now ≡ false }
@@ -175,6 +175,29 @@ fn mul_narrow(left: &[i64], right: &[i64], out: &mut [i64])
 {
     for i in 0..out.len() {
         put_narrow(left, right, i, out);
+    }
+}
+
+#[inline(always)]
+fn put_narrow_beside(left: &[i64], lane: usize, right: &i64, out: &mut [i64])
+    requires left { lane < length left.now }
+    requires out { lane < length out.old }
+    requires narrow_left { is_wide (int_at left.now lane) ≡ false }
+    requires narrow_right { is_wide right.now ≡ false }
+    ensures { out.new ≡ set out.old lane (int_wrap w64 (int_at left.now lane *ℤ right.now)) }
+{
+    out[lane] = narrow_product(left[lane], *right);
+}
+
+/// The same with one integer on the right.
+pub fn mul_narrow_to(left: &[i64], right: &i64, out: &mut [i64])
+    requires left { length left.now ≡ length out.old }
+    requires narrow_left { list_any is_wide left.now ≡ false }
+    requires narrow_right { is_wide right.now ≡ false }
+    ensures { AreLanes (pos 0) (length out.old) (λ i. int_wrap w64 (int_at left.now i *ℤ right.now)) out.new }
+{
+    for i in 0..out.len() {
+        put_narrow_beside(left, i, right, out);
     }
 }
 

@@ -4,7 +4,9 @@ ghost use Rattle.meaning.specs.declared.expr.ArithmeticOperator.TheVariants.{Mul
 ghost use Rattle.lane_loops.specs.Lanes.{int_at, is_wide};
 ghost use Rattle.lane_loops.specs.Near.{AreNear, AreResults, IsNear, arith_int};
 
-use crate::adding::{is_wide, wrapped_difference, wrapped_sum};
+use crate::adding::{
+    has_wide, is_wide, mul_narrow, mul_narrow_to, wrapped_difference, wrapped_sum,
+};
 use meaning::expr::ArithmeticOperator;
 
 // Two comparisons, which the compiler makes one test of the sign of.
@@ -100,6 +102,23 @@ fn operate_by(op: ArithmeticOperator, left: &[i64], right: &[i64], out: &mut [i6
     is_any_far
 }
 
+// The factors are looked at first, so that the loop of products has nothing to choose.
+fn multiply_near(left: &[i64], right: &[i64], out: &mut [i64]) -> bool
+    requires left { length left.now ≡ length out.old }
+    requires right { length right.now ≡ length out.old }
+    ensures long { length out.new ≡ length out.old }
+    ensures near { result ≡ false → AreResults Multiply (length out.old) (length out.old) (int_at left.now) (int_at right.now) out.new }
+{
+    if has_wide(left) {
+        return true;
+    }
+    if has_wide(right) {
+        return true;
+    }
+    mul_narrow(left, right, out);
+    false
+}
+
 /// The results of an operator lane by lane, where none is beyond 64 bits. True where that isn't clear; `out` is open then. Of
 /// division it never is.
 pub fn operate_near(op: ArithmeticOperator, left: &[i64], right: &[i64], out: &mut [i64]) -> bool
@@ -112,9 +131,31 @@ pub fn operate_near(op: ArithmeticOperator, left: &[i64], right: &[i64], out: &m
     match op {
         ArithmeticOperator::Add => operate_by(ArithmeticOperator::Add, left, right, out),
         ArithmeticOperator::Subtract => operate_by(ArithmeticOperator::Subtract, left, right, out),
-        ArithmeticOperator::Multiply => operate_by(ArithmeticOperator::Multiply, left, right, out),
+        ArithmeticOperator::Multiply => multiply_near(left, right, out),
         ArithmeticOperator::Divide => true,
     }
+}
+
+#[inline(always)]
+fn is_wide_behind(int: &i64) -> bool
+    ensures { result ≡ is_wide int.now }
+{
+    is_wide(*int)
+}
+
+fn multiply_near_to(left: &[i64], right: &i64, out: &mut [i64]) -> bool
+    requires { length left.now ≡ length out.old }
+    ensures long { length out.new ≡ length out.old }
+    ensures near { result ≡ false → AreResults Multiply (length out.old) (length out.old) (int_at left.now) (λ _. right.now) out.new }
+{
+    if has_wide(left) {
+        return true;
+    }
+    if is_wide_behind(right) {
+        return true;
+    }
+    mul_narrow_to(left, right, out);
+    false
 }
 
 #[inline(always)]
@@ -163,12 +204,7 @@ pub fn operate_near_to(op: ArithmeticOperator, left: &[i64], right: &i64, out: &
             &right,
             out,
         ),
-        ArithmeticOperator::Multiply => operate_to_by(
-            ArithmeticOperator::Multiply,
-            left,
-            &right,
-            out,
-        ),
+        ArithmeticOperator::Multiply => multiply_near_to(left, &right, out),
         ArithmeticOperator::Divide => true,
     }
 }

@@ -1,6 +1,10 @@
 //! The job that the words of a case name.
 // Jobs that words tell: the number of a load, a cut, what is asked of each fragment, and the text of the query.
-ghost use Rattle.std.specs.Prelude.{◌≡◌, ◌≢◌, ◌≤◌, [], false, length, IfOk, IfSome};
+ghost use Rattle.std.specs.Prelude.{◌≡◌, ◌≢◌, ◌≤◌, [], ◌∷◌, None, false, length, map, IfOk, IfSome};
+ghost use Rattle.meaning.specs.declared.expr.Expr.TheVariants as the_expr;
+ghost use Rattle.meaning.specs.declared.plan.Aggregate.{Aggregate as AnAggregate};
+ghost use Rattle.meaning.specs.declared.value.ColType.TheVariants as of_type;
+ghost use Rattle.meaning.specs.Typing.{result_type};
 ghost use Rattle.meaning.specs.Limits.{max_query_bytes};
 ghost use Rattle.partial_codec.specs.Job.{IsPlanOfJob};
 ghost use Rattle.coordinator.specs.Gathering.{IsShown};
@@ -39,7 +43,9 @@ pub fn cut_of(alloc: Global, word: &str) -> Result<Option<Cut>, AllocError> {
     }
 }
 
-fn aggregate_of(summed: Option<usize>) -> Aggregate {
+fn aggregate_of(summed: Option<usize>) -> Aggregate
+    ensures { result_type result.kind result.col_type ≡ of_type.Int }
+{
     let (kind, argument) = match summed {
         Some(place) => (AggregateKind::Sum, Expr::Column(place)),
         None => (AggregateKind::CountRows, Expr::Literal(Value::Int(1))),
@@ -57,6 +63,8 @@ fn only_parts(
 ) -> Result<(Sequence<Aggregate>, Sequence<Item>), AllocError>
     ensures aggregate { IfOk result (λ parts. length parts.0 ≡ 1) }
     ensures item { IfOk result (λ parts. parts.1 ≢ []) }
+    ensures integer { IfOk result (λ parts. (a : AnAggregate) × (parts.0 ≡ a ∷ []) × (result_type a.kind a.col_type ≡ of_type.Int)) }
+    ensures shown { IfOk result (λ parts. map (λ i. i.expr) parts.1 ≡ the_expr.Aggregate 0 ∷ []) }
 {
     let header = Text::new(alloc, "c1")?;
     let mut items = Sequence::new(alloc);
@@ -80,6 +88,7 @@ fn with_parts(
     ensures keys { result.keys ≡ [] }
     ensures aggregates { result.aggs ≡ aggs }
     ensures items { result.items ≡ items }
+    ensures having { result.having ≡ None }
     ensures plain { result.plain ≡ false }
 {
     Plan {

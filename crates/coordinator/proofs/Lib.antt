@@ -17,4 +17,5 @@ pub mod Runs
 pub mod Joined
 pub mod StateFiles
 pub mod Merging
+pub mod ShapedGroups
 pub mod FileRows

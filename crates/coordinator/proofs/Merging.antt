@@ -240,7 +240,7 @@ all_placed P x (y ∷ ys) here rest = elim (row_cmp x y) as (λ o. AllByRecursio
   | Greater ↦ (rest.0, all_placed P x ys here rest.1)
 ]
 
-all_in_set : (P : Row → Type 0) (xs : List Row) → AllByRecursion P xs → AllByRecursion P (ascending_set row_cmp xs)
+pub all_in_set : (P : Row → Type 0) (xs : List Row) → AllByRecursion P xs → AllByRecursion P (ascending_set row_cmp xs)
 all_in_set P [] all = tt
 all_in_set P (x ∷ xs) all = all_placed P x (ascending_set row_cmp xs) all.0 (all_in_set P xs all.1)
 
@@ -248,7 +248,7 @@ merged_key : (plan : Plan) (key : Row) (gs : List Group) → (merged plan key gs
 merged_key plan key [] = refl
 merged_key plan key (g ∷ gs) = merged_key plan key gs
 
-keys_of : (P : Row → Type 0) (gs : List Group) → AllByRecursion (λ g. P g.key) gs → AllByRecursion P (map (λ (p : Row × Group). p.0) (map (λ (g : Group). (g.key, g)) gs))
+pub keys_of : (P : Row → Type 0) (gs : List Group) → AllByRecursion (λ g. P g.key) gs → AllByRecursion P (map (λ (p : Row × Group). p.0) (map (λ (g : Group). (g.key, g)) gs))
 keys_of P [] all = tt
 keys_of P (g ∷ gs) all = (all.0, keys_of P gs all.1)
 

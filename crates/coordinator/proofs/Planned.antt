@@ -13,6 +13,10 @@ use Rattle.planner_expressions.specs.declared.fault.PlanFault.{PlanFault}
 use Rattle.planner_expressions.specs.declared.fault.PlanFault.TheVariants as fault
 use Rattle.planner_expressions.specs.Results.{Tells}
 use Rattle.planner.specs.Planned.{planned}
+use Rattle.planner.specs.Typed as planner
+use Rattle.planner.proofs.GroupTypes.{groups_are_typed}
+use Rattle.last_step.specs.Fitting.{IsOfGroup, IsTypedOverGroups}
+use Rattle.meaning.specs.References.{Reference, FactColumn, JoinColumn, GroupKey, GroupAggregate}
 use Rattle.planner.proofs.LimitedPlans.{plans_are_limited}
 use Rattle.planner.proofs.WellFormedPlans.{plans_are_well_formed}
 use Rattle.coordinator.specs.declared.whole_fault.WholeFault.{WholeFault}
@@ -79,6 +83,19 @@ pub well_formed_if_planned : (catalog : Catalog) (bytes : List ℕ) (plan : Plan
 well_formed_if_planned catalog bytes plan is =
     plans_are_well_formed catalog is.tree plan is.gives (literals_fit bytes is.tree is.within.tree is.within.short.text) (items_there bytes is.tree is.within.tree)
 
+-- the two words for a key or an aggregate of the plan are the same
+of_group : (p : Plan) (u : Reference) → planner.IsOfGroup p u → IsOfGroup p u
+of_group p (GroupKey i) named = named
+of_group p (GroupAggregate i) named = named
+of_group p (FactColumn at) named = absurd named
+of_group p (JoinColumn join at) named = absurd named
+
+typed_as : (p : Plan) → planner.IsTypedOverGroups p → IsTypedOverGroups p
+typed_as p is = record { items = is.items; having = is.having; named = λ k d below. of_group p _ (is.named k d below) }
+
+pub typed_if_planned : (catalog : Catalog) (bytes : List ℕ) (plan : Plan) → IsPlanned catalog bytes (Ok plan) → IsTypedOverGroups plan
+typed_if_planned catalog bytes plan is = typed_as plan (groups_are_typed catalog is.tree plan is.gives (literals_fit bytes is.tree is.within.tree is.within.short.text))
+
 pub job_if_planned : (catalog : Catalog) (bytes : List ℕ) (plan : Plan) → IsPlanned catalog bytes (Ok plan) → IsPlanOfJob plan
 job_if_planned catalog bytes plan is =
     let limited = plans_are_limited catalog is.tree plan is.gives in
@@ -95,3 +112,7 @@ well_formed_as_planned catalog bytes (Err e) is = tt
 pub job_as_planned : (catalog : Catalog) (bytes : List ℕ) (r : Result Plan WholeFault) → IfOk r (λ plan. IsPlanned catalog bytes (Ok plan)) → IfOk r IsPlanOfJob
 job_as_planned catalog bytes (Ok plan) is = job_if_planned catalog bytes plan is
 job_as_planned catalog bytes (Err e) is = tt
+
+pub typed_as_planned : (catalog : Catalog) (bytes : List ℕ) (r : Result Plan WholeFault) → IfOk r (λ plan. IsPlanned catalog bytes (Ok plan)) → IfOk r IsTypedOverGroups
+typed_as_planned catalog bytes (Ok plan) is = typed_if_planned catalog bytes plan is
+typed_as_planned catalog bytes (Err e) is = tt

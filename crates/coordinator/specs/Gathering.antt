@@ -14,6 +14,7 @@ use Rattle.partial_codec.specs.Answer.{Spells, obstacle}
 use Rattle.partial_codec.specs.State.{state_obstacle}
 use Rattle.coordinator.specs.declared.gather.Absorbed.{Absorbed}
 use Rattle.coordinator.specs.declared.gather.Absorbed.TheVariants as absorbed
+use Rattle.last_step.specs.Fitting.{IsTypedOverGroups}
 use Rattle.last_step.specs.declared.print_fault.PrintFault.{PrintFault}
 use Rattle.last_step.specs.declared.print_fault.PrintFault.TheVariants as print
 use Rattle.coordinator.specs.declared.fault.GatherFault.{GatherFault}
@@ -25,10 +26,11 @@ pub record GatherSpec : Type 0 where
   pub job : JobSpec
   pub cells : List Cell
 
--- something is shown, and what a plain query shows are its keys
+-- something is shown, what a plain query shows are its keys, and items and HAVING have types over groups
 pub record IsShown (plan : Plan) : Type 0 where
   pub items : plan.items ≢ []
   pub keys : plan.plain ≡ true → length plan.keys ≡ length plan.items
+  pub typed : IsTypedOverGroups plan
 
 -- a cell for each fragment of the cut, in which an answer fits the job
 pub record IsGather (g : GatherSpec) : Type 0 where

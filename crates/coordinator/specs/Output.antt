@@ -5,6 +5,7 @@ use Rattle.meaning.specs.declared.plan.Plan.{Plan}
 use Rattle.meaning.specs.Output.{output_behind}
 use Rattle.meaning.specs.Output as the
 use Rattle.meaning.specs.Said.{Body}
+use Rattle.last_step.specs.Fitting.{AreGroupsOf}
 use Rattle.last_step.specs.Given.{meant}
 use Rattle.last_step.specs.Printing as last
 use Rattle.last_step.specs.Printing.{ShowsSomething}
@@ -20,6 +21,11 @@ output_in (output.RowFault fault) = the.row_fault fault
 abbrev pub Shows : Plan → Body → Type 0
 Shows plan (Groups gs) = ShowsSomething plan gs
 Shows plan (Fault f) = ⊤
+
+-- the body's groups are such as the last step takes
+abbrev pub IsFinishable : Plan → Body → Type 0
+IsFinishable plan (Groups gs) = AreGroupsOf plan gs
+IsFinishable plan (Fault f) = ⊤
 
 -- the header and each row have a field
 abbrev pub IsPrintable : Plan → Output → Type 0

@@ -34,6 +34,7 @@ use Rattle.loader.specs.Columns.{fragments_of}
 use Rattle.loader.specs.Source.{csv_records}
 use Rattle.coordinator.specs.declared.reporting.Ended.{Ended}
 use Rattle.coordinator.specs.Reporting.{ended_as}
+use Rattle.last_step.specs.Fitting.{IsTypedOverGroups}
 use Rattle.partial_codec.specs.Job.{IsPlanOfJob}
 use Rattle.coordinator.specs.Fragment.{AreTableFiles, IsTableFile}
 use Rattle.coordinator.specs.Gathering.{GatherSpec}
@@ -214,6 +215,7 @@ pub record IsLoaded (catalog : Catalog) (files : Files) (cut : Cut) (plan : Plan
 pub record IsPrepared (catalog : Catalog) (files : Files) (query : List ℕ) (cut : Cut) (vector_len : ℕ) (plan : Plan) (fragments : List (List ColumnSpec)) (dim_files : List (List ℕ)) : Type 0 where
   pub planned : IsPlanned catalog query (Ok plan)
   pub well_formed : IsWellFormedPlan plan
+  pub typed : IsTypedOverGroups plan
   pub job : IsPlanOfJob plan
   pub loaded : IsLoaded catalog files cut plan fragments dim_files
   pub vectors : is_vector_length vector_len ≡ true

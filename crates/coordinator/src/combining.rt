@@ -10,7 +10,7 @@ ghost use Rattle.coordinator.specs.Faults.{fault_in, least_fault};
 ghost use Rattle.coordinator.specs.Fitted.{AreFitting};
 ghost use Rattle.coordinator.specs.Gathering.{IsShown};
 ghost use Rattle.coordinator.specs.Merging.{AreMergeable, all_groups, groups_in};
-ghost use Rattle.coordinator.specs.Output.{Shows};
+ghost use Rattle.coordinator.specs.Output.{IsFinishable, Shows};
 
 use accumulators::Group;
 use group_by::GroupTable;
@@ -94,6 +94,7 @@ pub fn combine(
     requires fitting { AreFitting plan.now cut.now cells.now }
     ensures value { IfOk result (λ b. b ≡ combined plan.now (filter_map body_in cells.now)) }
     ensures shows { IsShown plan.now → IfOk result (Shows plan.now) }
+    ensures finishable { IsShown plan.now → IfOk result (IsFinishable plan.now) }
 {
     // The limits of a cut, by which no count overflows.
     let _lengths = cut.lengths();

@@ -11,6 +11,7 @@ ghost use Rattle.meaning.specs.Laws.{own_answers};
 ghost use Rattle.meaning.specs.Print.{report_text};
 ghost use Rattle.meaning.specs.CatalogText.{catalog_of};
 ghost use Rattle.meaning.specs.Cut.{IsCut};
+ghost use Rattle.last_step.specs.Fitting.{IsTypedOverGroups};
 ghost use Rattle.partial_codec.specs.Answer.{Spells};
 ghost use Rattle.partial_codec.specs.Job.{IsPlanOfJob};
 ghost use Rattle.meaning.specs.Catalog.{IsWellFormed, IsWellFormedTable};
@@ -137,6 +138,7 @@ fn answer_fragments(alloc: Global, gather: &mut Gather, star: Star<'_>) -> Resul
 /// A coordinator that has taken no answer.
 fn start(alloc: Global, plan: Plan, cut: &Cut) -> Result<Gather, WholeFault>
     requires plan { IsWellFormedPlan plan }
+    requires typed { IsTypedOverGroups plan }
     requires job { IsPlanOfJob plan }
     ensures value { IfOk result (λ g. g ≡ record { job = record { load = 0; plan = plan; cut = cut.now }; cells = joined cut.now [] }) }
     ensures refused { IfErr result (λ e. e ≡ WholeFault.Memory) }
@@ -153,6 +155,7 @@ fn start(alloc: Global, plan: Plan, cut: &Cut) -> Result<Gather, WholeFault>
 /// A coordinator that has taken just every fragment's own answer.
 fn answer_all(alloc: Global, plan: Plan, star: Star<'_>) -> Result<Gather, WholeFault>
     requires plan { IsWellFormedPlan plan }
+    requires typed { IsTypedOverGroups plan }
     requires job { IsPlanOfJob plan }
     requires table { IsWellFormedTable star.fact.now }
     requires fragments { (rows : List Row) × AreFragments star.fact.now rows star.cut.now star.fragments.now }
@@ -279,6 +282,7 @@ fn answer_tables(
     vector_len: usize,
 ) -> Result<Gather, WholeFault>
     requires plan { IsWellFormedPlan plan }
+    requires typed { IsTypedOverGroups plan }
     requires job { IsPlanOfJob plan }
     requires fact { IsWellFormedTable fact.now }
     requires fragments { (rows : List Row) × AreFragments fact.now rows cut.now tables.now.fragments.items }
@@ -315,6 +319,7 @@ fn answer_run<W: Write>(
     out: &mut W,
 ) -> Result<(Ended, Gather), WholeFault>
     requires plan { IsWellFormedPlan run.plan }
+    requires typed { IsTypedOverGroups run.plan }
     requires job { IsPlanOfJob run.plan }
     requires fact { IsWellFormedTable fact.now }
     requires fragments { (rows : List Row) × AreFragments fact.now rows cut.now run.tables.fragments.items }

@@ -3,6 +3,7 @@
 ghost use Rattle.std.specs.Prelude.{◌≡◌, ◌≢◌, IfOk, IfErr, Ok, Err};
 ghost use Rattle.meaning.specs.Catalog.{IsWellFormed};
 ghost use Rattle.meaning.specs.WellFormedPlan.{IsWellFormedPlan};
+ghost use Rattle.last_step.specs.Fitting.{IsTypedOverGroups};
 ghost use Rattle.partial_codec.specs.Job.{IsPlanOfJob};
 ghost use Rattle.planner.specs.Planned.{planned};
 ghost use Rattle.coordinator.specs.Whole.{IsPlanned, IsTreeRefused, IsPlanRefused, IsLoaded, files_in, tables_of};
@@ -39,6 +40,7 @@ fn plan_tree(alloc: Global, catalog: &Catalog, query: &Query) -> Result<Plan, Wh
 pub fn plan_query(alloc: Global, catalog: &Catalog, query: &[u8]) -> Result<Plan, WholeFault>
     ensures planned { IfOk result (λ plan. IsPlanned catalog.now query.now (Ok plan)) }
     ensures well_formed { IfOk result IsWellFormedPlan }
+    ensures typed { IfOk result IsTypedOverGroups }
     ensures job { IfOk result IsPlanOfJob }
     ensures refused { IfErr result (IsPlanRefused catalog.now query.now) }
 {

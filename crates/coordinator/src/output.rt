@@ -1,7 +1,7 @@
 //! What all answers together give.
 ghost use Rattle.std.specs.Prelude.{◌≡◌, IfOk};
 ghost use Rattle.meaning.specs.Answer.{output_of};
-ghost use Rattle.coordinator.specs.Output.{IsPrintable, Shows, output_in};
+ghost use Rattle.coordinator.specs.Output.{IsFinishable, IsPrintable, Shows, output_in};
 
 use accumulators::Group;
 use last_step::{Finished, finish};
@@ -18,6 +18,7 @@ pub enum Output {
 
 /// The output that a body stands for.
 pub fn output_of(alloc: Global, plan: &Plan, body: &Body<Group>) -> Result<Output, AllocError>
+    requires { IsFinishable plan.now body.now }
     ensures value { IfOk result (λ o. output_in o ≡ output_of plan.now body.now) }
     ensures printable { Shows plan.now body.now → IfOk result (IsPrintable plan.now) }
 {

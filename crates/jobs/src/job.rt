@@ -2,6 +2,7 @@
 ghost use Rattle.std.specs.Prelude.{◌≡◌, IfErr, IfOk};
 ghost use Rattle.meaning.specs.Catalog.{IsWellFormed};
 ghost use Rattle.meaning.specs.WellFormedPlan.{IsWellFormedPlan};
+ghost use Rattle.last_step.specs.Fitting.{IsTypedOverGroups};
 ghost use Rattle.partial_codec.specs.Job.{IsPlanOfJob};
 ghost use Rattle.coordinator.specs.Whole.{IsPlanned};
 ghost use Rattle.jobs.specs.Job.{IsCatalogRefused, IsCatalogThere, IsCutRefused, IsCutThere, IsJobOf, IsJobOver, IsJobRefused, IsQueryRefused, IsRefusedOver};
@@ -40,6 +41,7 @@ fn read_load<F: Folder>(alloc: Global, folder: &F, directory: &str) -> Result<(u
 fn plan(alloc: Global, directory: &str, catalog: &Catalog, query: &str) -> Result<Plan, Refusal>
     ensures planned { IfOk result (λ plan. IsPlanned catalog.now query.now (Ok plan)) }
     ensures well_formed { IfOk result IsWellFormedPlan }
+    ensures typed { IfOk result IsTypedOverGroups }
     ensures job { IfOk result IsPlanOfJob }
     ensures refused { IfErr result (IsQueryRefused catalog.now query.now) }
 {
@@ -59,6 +61,7 @@ fn job_over<F: Folder>(
 ) -> Result<Job, Refusal>
     ensures over { IfOk result (IsJobOver (F.holds folder.now) directory.now catalog.now query.now) }
     ensures well_formed { IfOk result (λ job. IsWellFormedPlan job.plan) }
+    ensures typed { IfOk result (λ job. IsTypedOverGroups job.plan) }
     ensures refused { IfErr result (IsRefusedOver (F.holds folder.now) directory.now catalog.now query.now) }
 {
     let (load, cut) = read_load(alloc, folder, directory)?;
@@ -84,6 +87,7 @@ pub fn read_job<F: Folder>(
 ) -> Result<Job, Refusal>
     ensures job { IfOk result (IsJobOf (F.holds folder.now) directory.now query.now) }
     ensures well_formed { IfOk result (λ job. IsWellFormedPlan job.plan) }
+    ensures typed { IfOk result (λ job. IsTypedOverGroups job.plan) }
     ensures refused { IfErr result (IsJobRefused (F.holds folder.now) directory.now query.now) }
 {
     let catalog = read_tables(alloc, folder, directory)?;

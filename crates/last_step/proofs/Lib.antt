@@ -1,6 +1,11 @@
 -- The lemmas of this crate.
 pub mod Judging
-pub mod Items
+pub mod Rest
+pub mod Checked
+pub mod GroupRows
+pub mod GroupColumns
+pub mod KeptGroups
+pub mod ShownRows
 pub mod Gathering
 pub mod Repeating
 pub mod Arranging

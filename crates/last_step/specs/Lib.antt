@@ -1,5 +1,7 @@
 -- The definitions of this crate.
 pub mod Given
 pub mod Runs
+pub mod Fitting
+pub mod Batches
 pub mod Lent
 pub mod Printing

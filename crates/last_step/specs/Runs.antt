@@ -1,6 +1,8 @@
 -- Rows with the number of their repeats.
 use Rattle.std.specs.Prelude.{ℕ, ◌-◌, min, List, [], ◌∷◌, ◌++◌, map, replicate, Option, Some, None, Result, Ok}
 use Rattle.meaning.specs.declared.plan.Plan.{Plan}
+use Rattle.meaning.specs.declared.answer.Group.{Group}
+use Rattle.meaning.specs.Answer.{read_off}
 use Rattle.meaning.specs.Order.{Row}
 use Rattle.meaning.specs.Results.{all_ok, and_then}
 use Rattle.meaning.specs.Finish.{Evaluated, all_rows, rows_of}
@@ -23,6 +25,15 @@ expanded (r ∷ rs) = repeats r ++ expanded rs
 -- the rows of groups in the order of the groups, or the first fault
 abbrev pub rows_behind_groups : Plan → List Evaluated → Result (List Row) ℕ
 rows_behind_groups plan groups = and_then (all_ok (map (rows_of plan) groups)) (λ parts. Ok (all_rows parts))
+
+-- the rows of groups behind others, or the groups' first fault
+abbrev pub rows_after : Plan → List Row → List Group → Result (List Row) ℕ
+rows_after plan before groups = and_then (all_ok (map (rows_of plan) (map (read_off plan) groups))) (λ parts. Ok (before ++ all_rows parts))
+
+-- the keys of groups, each as often as the group has rows
+abbrev pub plain_rows : List Group → List Row
+plain_rows [] = []
+plain_rows (g ∷ gs) = replicate g.rows g.key ++ plain_rows gs
 
 -- how many of so many rows LIMIT leaves behind those that are shown
 abbrev pub room : Option ℕ → ℕ → ℕ → ℕ

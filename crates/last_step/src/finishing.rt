@@ -4,6 +4,7 @@ ghost use Rattle.meaning.specs.Answer.{read_off};
 ghost use Rattle.meaning.specs.Finish as the;
 ghost use Rattle.meaning.specs.Finish.{limited, order_cmp};
 ghost use Rattle.meaning.specs.Order.{sorted};
+ghost use Rattle.last_step.specs.Fitting.{AreGroupsOf};
 ghost use Rattle.last_step.specs.Given.{meant};
 ghost use Rattle.last_step.specs.Printing.{IsPrintable, ShowsSomething};
 ghost use Rattle.last_step.specs.Runs.{expanded};
@@ -40,6 +41,7 @@ fn rows_in_order(alloc: Global, plan: &Plan, runs: Vec<Run>) -> Result<Sequence<
 
 /// The rows, or the first fault.
 fn finish_groups(alloc: Global, plan: &Plan, groups: &[Group]) -> Result<Finished, AllocError>
+    requires { AreGroupsOf plan.now groups.now }
     ensures { IfOk result (λ f. meant f ≡ the.finish plan.now (map (read_off plan.now) groups.now)) }
 {
     match runs_of(alloc, plan, groups) {
@@ -56,6 +58,8 @@ fn finish_groups(alloc: Global, plan: &Plan, groups: &[Group]) -> Result<Finishe
 ///
 /// Out of memory.
 pub fn finish(alloc: Global, plan: &Plan, groups: &[Group]) -> Result<Finished, AllocError>
+    // The plan has types over groups, and the groups are of its shape.
+    requires { AreGroupsOf plan.now groups.now }
     ensures value { IfOk result (λ f. meant f ≡ the.finish plan.now (map (read_off plan.now) groups.now)) }
     // The rows can be printed.
     ensures printable { ShowsSomething plan.now groups.now → IfOk result (IsPrintable plan.now) }

@@ -2,6 +2,8 @@
 #![tactic(auto)]
 
 mod aggregates;
+mod columns;
+mod evaluating;
 mod expanding;
 mod finished;
 mod finishing;

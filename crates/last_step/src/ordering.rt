@@ -11,7 +11,7 @@ use std::alloc::AllocError;
 use std::cmp::Ordering;
 
 /// The value in a column, and NULL past the end.
-fn value_at(row: &Row, place: usize) -> ValueRef<'_>
+pub fn value_at(row: &Row, place: usize) -> ValueRef<'_>
     ensures { value_in result ≡ column row.now place }
 {
     match row.as_slice().get(place) {

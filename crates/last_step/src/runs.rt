@@ -1,35 +1,33 @@
 //! The rows of all groups.
-ghost use Rattle.std.specs.Prelude.{◌≡◌, ◌++◌, map, OnOk};
+ghost use Rattle.std.specs.Prelude.{map};
 ghost use Rattle.meaning.specs.Answer.{read_off};
+ghost use Rattle.last_step.specs.Fitting.{AreGroupsOf};
 ghost use Rattle.last_step.specs.Given.{GivesView};
-ghost use Rattle.last_step.specs.Runs.{expanded, rows_behind_groups, rows_in};
+ghost use Rattle.last_step.specs.Runs.{expanded, rows_after, rows_behind_groups};
 
 use crate::run::Run;
-use crate::showing::run_of;
+use crate::showing::{push_grouped, push_plain};
 use crate::stop::Stop;
 use accumulators::Group;
 use meaning::plan::Plan;
-use std::alloc::{AllocError, Global};
+use std::alloc::Global;
 
-fn push_run(runs: &mut Vec<Run>, run: Option<Run>) -> Result<(), AllocError>
-    ensures { OnOk result (expanded runs.new.items ≡ expanded runs.old.items ++ rows_in run) }
+fn push_all(alloc: Global, plan: &Plan, groups: &[Group], runs: &mut Vec<Run>) -> Result<(), Stop>
+    requires { AreGroupsOf plan.now groups.now }
+    ensures { GivesView (λ _. expanded runs.new.items) result (rows_after plan.now (expanded runs.old.items) groups.now) }
 {
-    match run {
-        Some(run) => {
-            runs.push(run)?;
-            Ok(())
-        }
-        None => Ok(()),
+    if plan.plain {
+        return Ok(push_plain(alloc, groups, runs)?);
     }
+    push_grouped(alloc, plan, groups, runs)
 }
 
 /// The rows of the groups as runs, or the first fault from group to group.
 pub fn runs_of(alloc: Global, plan: &Plan, groups: &[Group]) -> Result<Vec<Run>, Stop>
+    requires { AreGroupsOf plan.now groups.now }
     ensures { GivesView (λ runs. expanded runs.items) result (rows_behind_groups plan.now (map (read_off plan.now) groups.now)) }
 {
     let mut runs = Vec::new(alloc);
-    for group in groups {
-        push_run(&mut runs, run_of(alloc, plan, group)?)?;
-    }
+    push_all(alloc, plan, groups, &mut runs)?;
     Ok(runs)
 }

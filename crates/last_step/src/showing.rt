@@ -1,25 +1,31 @@
-//! The rows of one group.
-ghost use Rattle.std.specs.Prelude.{◌≡◌, map, IfOk};
-ghost use Rattle.meaning.specs.Answer.{read_off};
-ghost use Rattle.meaning.specs.Expr.{eval, values};
-ghost use Rattle.meaning.specs.Finish.{rows_of, shown};
-ghost use Rattle.meaning.specs.Joined.{group_row};
-ghost use Rattle.last_step.specs.Given.{Gives, GivesView, grouped_rows, kept, kept_by, value_given};
-ghost use Rattle.last_step.specs.Runs.{rows_in};
+//! The rows of groups.
+ghost use Rattle.std.specs.Prelude.{◌≡◌, ◌++◌, ◌<◌, ◌≤◌, ◌^◌, true, false, get_or, List, map, length, All, IfOk, OnOk};
+ghost use Rattle.meaning.specs.declared.joined_row.JoinedRow.{JoinedRow};
+ghost use Rattle.meaning.specs.declared.value.Value.TheVariants.{Null};
+ghost use Rattle.meaning.specs.Order.{Row as ARow};
+ghost use Rattle.accumulators.specs.Values.{is_spelled, values_of};
+ghost use Rattle.last_step.specs.Batches.{AreReadable, HasValues, IsBatchOf, ended, lane_row, shown_after};
+ghost use Rattle.last_step.specs.Fitting.{AreGroupsOf};
+ghost use Rattle.last_step.specs.Given.{GivesView};
+ghost use Rattle.last_step.specs.Runs.{expanded, plain_rows, rows_after};
 
-use crate::aggregates::aggregate_values;
+use crate::aggregates::front_of;
+use crate::columns::batch_of;
+use crate::evaluating::evaluate;
 use crate::run::Run;
 use crate::stop::Stop;
-use accumulators::Group;
-use meaning::eval::eval_row;
-use meaning::expr::Expr;
-use meaning::joined_row::JoinedRow;
-use meaning::outcome::{Outcome, Truth};
-use meaning::plan::{Item, Plan};
+use accumulators::{Group, owned, position, value_at};
+use meaning::plan::Plan;
 use meaning::sequence::Sequence;
 use meaning::value::{Row, Value};
 use std::alloc::{AllocError, Global};
 use std::mem::drop;
+use vectors::batch::Batch;
+use vectors::selection::Selection;
+use vectors::vector::Vector;
+
+/// How many groups are evaluated at once.
+const BATCH_GROUPS: usize = 1024;
 
 /// A row in memory of its own.
 pub fn copy_row(alloc: Global, row: &Row) -> Result<Row, AllocError>
@@ -32,100 +38,131 @@ pub fn copy_row(alloc: Global, row: &Row) -> Result<Row, AllocError>
     Ok(copy)
 }
 
-/// What an expression gives as a value.
-fn value_of(alloc: Global, expr: &Expr, row: &JoinedRow) -> Result<Value, Stop>
-    ensures { Gives result (value_given (eval expr.now row.now)) }
+/// The value of a lane, in memory of its own.
+fn lane_value(alloc: Global, item: &Vector<'_>, lane: usize) -> Result<Value, AllocError>
+    requires within { lane < length (values_of item.now) }
+    requires spelled { is_spelled (get_or (values_of item.now) lane Null) ≡ true }
+    ensures { IfOk result (λ v. v ≡ get_or (values_of item.now) lane Null) }
 {
-    match eval_row(alloc, expr, row)? {
-        Outcome::Value(value) => Ok(value),
-        Outcome::Truth(_) => Ok(Value::Null),
-        Outcome::Fault(fault) => Err(Stop::Fault(fault.code())),
-    }
+    owned(alloc, value_at(item, lane))
 }
 
-/// The values of the items, or the first fault.
-fn item_values(alloc: Global, items: &[Item], row: &JoinedRow) -> Result<Row, Stop>
-    ensures { Gives result (values (map (λ i. i.expr) items.now) row.now) }
+/// The row of a lane.
+fn row_at(alloc: Global, items: &[Vector<'_>], lane: usize) -> Result<Row, AllocError>
+    requires within { All (λ v. lane < length (values_of v)) items.now }
+    requires spelled { All (λ v. is_spelled v ≡ true) (lane_row items.now lane) }
+    ensures { IfOk result (λ row. row ≡ lane_row items.now lane) }
 {
-    let mut found = Sequence::new(alloc);
+    let mut row = Vec::with_capacity(alloc, items.len())?;
     for item in items {
-        found.push(value_of(alloc, &item.expr, row)?)?;
+        row.push(lane_value(alloc, item, lane)?)?;
     }
-    Ok(found)
+    Ok(Sequence::from_vec(row))
 }
 
-fn is_true(outcome: Outcome) -> Result<bool, Stop>
-    ensures { Gives result (kept_by outcome) }
+/// A row for each position that is kept.
+fn push_kept(
+    alloc: Global,
+    items: &[Vector<'_>],
+    kept: &Selection,
+    runs: &mut Vec<Run>,
+) -> Result<(), AllocError>
+    requires { AreReadable items.now kept.now.below kept.now.list }
+    ensures { OnOk result (expanded runs.new.items ≡ expanded runs.old.items ++ map (lane_row items.now) kept.now.list) }
 {
-    match outcome {
-        Outcome::Truth(Truth::True) => Ok(true),
-        Outcome::Truth(Truth::Unknown) => Ok(false),
-        Outcome::Truth(Truth::False) => Ok(false),
-        Outcome::Value(_) => Ok(false),
-        Outcome::Fault(fault) => Err(Stop::Fault(fault.code())),
+    // That positions lie below the length.
+    let _positions = kept.len();
+    for k in 0..kept.len() {
+        let row = row_at(alloc, items, position(kept, k))?;
+        runs.push(Run { row, times: 1 })?;
+    }
+    Ok(())
+}
+
+/// What a batch of groups shows, or the first fault of HAVING and the items.
+fn push_shown(
+    alloc: Global,
+    plan: &Plan,
+    batch: &Batch<'_>,
+    runs: &mut Vec<Run>,
+) -> Result<(), Stop>
+    requires small { batch.now.rows < 2 ^ 32 }
+    requires rows { (rows : List JoinedRow) × IsBatchOf plan.now rows batch.now }
+    ensures { (rows : List JoinedRow) → IsBatchOf plan.now rows batch.now
+        → GivesView (λ _. expanded runs.new.items) result (shown_after plan.now (expanded runs.old.items) rows) }
+{
+    let shown = evaluate(alloc, plan, batch)?;
+    match shown.fault.held {
+        Some(faulted) => Err(Stop::Fault(faulted.fault.code())),
+        None => Ok(push_kept(alloc, shown.items.as_slice(), &shown.kept, runs)?),
     }
 }
 
-/// Whether HAVING lets the group pass.
-fn is_kept(alloc: Global, having: &Option<Expr>, row: &JoinedRow) -> Result<bool, Stop>
-    ensures { Gives result (kept having.now row.now) }
+/// What groups show none of whose aggregates has a fault.
+fn push_sound(alloc: Global, plan: &Plan, groups: &[Group], runs: &mut Vec<Run>) -> Result<(), Stop>
+    requires grouped { plan.now.plain ≡ false }
+    requires groups { AreGroupsOf plan.now groups.now }
+    requires few { length groups.now < 2 ^ 32 }
+    requires values { All (HasValues plan.now) groups.now }
+    ensures { GivesView (λ _. expanded runs.new.items) result (rows_after plan.now (expanded runs.old.items) groups.now) }
 {
-    match having {
-        None => Ok(true),
-        Some(condition) => is_true(eval_row(alloc, condition, row)?),
+    let batch = batch_of(alloc, plan, groups)?;
+    let pushed = push_shown(alloc, plan, &batch, runs);
+    drop(batch);
+    pushed
+}
+
+fn end_of(fault: Option<u8>) -> Result<(), Stop>
+    ensures { (rows : List ARow) → GivesView (λ _. rows) result (ended fault rows) }
+{
+    match fault {
+        Some(code) => Err(Stop::Fault(code)),
+        None => Ok(()),
     }
 }
 
-/// What a group shows, unless HAVING drops it.
-fn shown_run(alloc: Global, plan: &Plan, row: &JoinedRow) -> Result<Option<Run>, Stop>
-    ensures { GivesView rows_in result (shown plan.now row.now) }
+/// What so many groups show as one batch holds.
+fn push_batch(alloc: Global, plan: &Plan, groups: &[Group], runs: &mut Vec<Run>) -> Result<(), Stop>
+    requires grouped { plan.now.plain ≡ false }
+    requires groups { AreGroupsOf plan.now groups.now }
+    requires few { length groups.now < 2 ^ 32 }
+    ensures { GivesView (λ _. expanded runs.new.items) result (rows_after plan.now (expanded runs.old.items) groups.now) }
 {
-    if !is_kept(alloc, &plan.having, row)? {
-        return Ok(None);
+    let front = front_of(alloc, plan, groups)?;
+    push_sound(alloc, plan, &groups[..front.count], runs)?;
+    end_of(front.fault)
+}
+
+/// What the groups show, batch by batch.
+pub fn push_grouped(
+    alloc: Global,
+    plan: &Plan,
+    groups: &[Group],
+    runs: &mut Vec<Run>,
+) -> Result<(), Stop>
+    requires grouped { plan.now.plain ≡ false }
+    requires groups { AreGroupsOf plan.now groups.now }
+    ensures { GivesView (λ _. expanded runs.new.items) result (rows_after plan.now (expanded runs.old.items) groups.now) }
+{
+    let mut rest = groups;
+    while !rest.is_empty() {
+        let (batch, behind) = rest.split_at(rest.len().min(BATCH_GROUPS));
+        push_batch(alloc, plan, batch, runs)?;
+        rest = behind;
     }
-    let row = item_values(alloc, plan.items.as_slice(), row)?;
-    Ok(Some(Run { row, times: 1 }))
+    Ok(())
 }
 
-fn row_of_group(alloc: Global, key: &Row, aggregates: Row) -> Result<JoinedRow, AllocError>
-    ensures { IfOk result (λ row. row ≡ group_row key.now aggregates) }
+/// The keys of a plain query, each as often as it has rows.
+pub fn push_plain(alloc: Global, groups: &[Group], runs: &mut Vec<Run>) -> Result<(), AllocError>
+    ensures { OnOk result (expanded runs.new.items ≡ expanded runs.old.items ++ plain_rows groups.now) }
 {
-    let key = match copy_row(alloc, key) {
-        Ok(key) => key,
-        Err(fault) => {
-            drop(aggregates);
-            return Err(fault);
-        }
-    };
-    Ok(JoinedRow {
-        fact: Sequence::new(alloc),
-        joins: Sequence::new(alloc),
-        key,
-        aggregates,
-    })
-}
-
-/// What a group shows, behind its aggregates.
-fn grouped_run(alloc: Global, plan: &Plan, group: &Group) -> Result<Option<Run>, Stop>
-    ensures { GivesView rows_in result (grouped_rows plan.now (read_off plan.now group.now)) }
-{
-    let aggregates = aggregate_values(alloc, plan.aggs.as_slice(), group.states())?;
-    let row = row_of_group(alloc, group.key(), aggregates)?;
-    let shown = shown_run(alloc, plan, &row);
-    drop(row);
-    shown
-}
-
-/// The rows of a group as one run. A plain query shows each key as often as it has rows.
-pub fn run_of(alloc: Global, plan: &Plan, group: &Group) -> Result<Option<Run>, Stop>
-    ensures { GivesView rows_in result (rows_of plan.now (read_off plan.now group.now)) }
-{
-    if !plan.plain {
-        return grouped_run(alloc, plan, group);
+    for group in groups {
+        let row = copy_row(alloc, group.key())?;
+        runs.push(Run {
+            row,
+            times: group.rows(),
+        })?;
     }
-    let row = copy_row(alloc, group.key())?;
-    Ok(Some(Run {
-        row,
-        times: group.rows(),
-    }))
+    Ok(())
 }

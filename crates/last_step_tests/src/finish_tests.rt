@@ -40,6 +40,7 @@ fn told(alloc: Global, finished: &Finished) -> Result<String, AllocError> {
     Ok(told)
 }
 
+#[tactic(auto, using(crate::proofs::SumPlans::groups_fit))]
 fn finished(alloc: Global, query: Query, list: &[(i64, u64, i64)]) -> Result<Finished, AllocError> {
     let groups = groups_of(alloc, list)?;
     let plan = plan_of(alloc, query)?;

@@ -1,12 +1,19 @@
 //! Queries over the groups: their key and their sum are shown.
+ghost use Rattle.std.specs.Prelude.{◌≡◌, [], ◌∷◌, pos, map, IfOk};
+ghost use Rattle.meaning.specs.declared.expr.ArithmeticOperator.TheVariants as arithmetic;
+ghost use Rattle.meaning.specs.declared.expr.ComparisonOperator.TheVariants as comparison;
+ghost use Rattle.meaning.specs.declared.expr.Expr.TheVariants as the_expr;
+ghost use Rattle.meaning.specs.declared.value.Value.TheVariants.{Int};
+ghost use Rattle.last_step_tests.specs.Shapes.{AreKeys, AreSums, IsHaving, IsSumPlan};
 
 use meaning::boxed::Boxed;
 use meaning::expr::{ArithmeticOperator, ComparisonOperator, Expr};
-use meaning::plan::{Aggregate, AggregateKind, Item, OrderKey, Plan, TableUse};
+use meaning::plan::{Aggregate, AggregateKind, GroupingKey, Item, OrderKey, Plan, TableUse};
 use meaning::sequence::Sequence;
 use meaning::text::Text;
 use meaning::value::{ColType, Value};
 use std::alloc::{AllocError, Global};
+use std::mem::drop;
 
 /// What HAVING asks.
 #[derive(Clone, Copy)]
@@ -25,19 +32,26 @@ pub struct Query {
     pub plain: bool,
 }
 
-fn above_two(alloc: Global, left: Expr) -> Result<Expr, AllocError> {
+fn above_two(alloc: Global, left: Expr) -> Result<Expr, AllocError>
+    ensures { IfOk result (λ e. e ≡ the_expr.Compare comparison.Greater left (the_expr.Literal (Int (pos 2)))) }
+{
     let left = Boxed::new(alloc, left)?;
     let right = Boxed::new(alloc, Expr::Literal(Value::Int(2)))?;
     Ok(Expr::Compare(ComparisonOperator::Greater, left, right))
 }
 
-fn hundred_by_sum(alloc: Global) -> Result<Expr, AllocError> {
+fn hundred_by_sum(alloc: Global) -> Result<Expr, AllocError>
+    ensures { IfOk result (λ e. e ≡ the_expr.Arithmetic arithmetic.Divide (the_expr.Literal (Int (pos 100))) (the_expr.Aggregate 0)) }
+{
     let left = Boxed::new(alloc, Expr::Literal(Value::Int(100)))?;
     let right = Boxed::new(alloc, Expr::Aggregate(0))?;
     Ok(Expr::Arithmetic(ArithmeticOperator::Divide, left, right))
 }
 
-fn having_of(alloc: Global, having: Having) -> Result<Option<Expr>, AllocError> {
+#[tactic(auto, using(crate::proofs::SumPlans::nothing_asked, crate::proofs::SumPlans::sum_asked, crate::proofs::SumPlans::hundred_asked))]
+fn having_of(alloc: Global, having: Having) -> Result<Option<Expr>, AllocError>
+    ensures { IfOk result IsHaving }
+{
     match having {
         Having::Nothing => Ok(None),
         Having::SumAboveTwo => Ok(Some(above_two(alloc, Expr::Aggregate(0))?)),
@@ -45,19 +59,36 @@ fn having_of(alloc: Global, having: Having) -> Result<Option<Expr>, AllocError> 
     }
 }
 
-fn item(alloc: Global, expr: Expr) -> Result<Item, AllocError> {
+fn item(alloc: Global, expr: Expr) -> Result<Item, AllocError>
+    ensures { IfOk result (λ i. i.expr ≡ expr) }
+{
     let header = Text::new(alloc, "c")?;
     Ok(Item { header, expr })
 }
 
-fn items(alloc: Global) -> Result<Sequence<Item>, AllocError> {
+fn items(alloc: Global) -> Result<Sequence<Item>, AllocError>
+    ensures { IfOk result (λ is. map (λ i. i.expr) is ≡ the_expr.Key 0 ∷ the_expr.Aggregate 0 ∷ []) }
+{
     let mut items = Sequence::new(alloc);
     items.push(item(alloc, Expr::Key(0))?)?;
     items.push(item(alloc, Expr::Aggregate(0))?)?;
     Ok(items)
 }
 
-fn sums(alloc: Global) -> Result<Sequence<Aggregate>, AllocError> {
+fn keys(alloc: Global) -> Result<Sequence<GroupingKey>, AllocError>
+    ensures { IfOk result AreKeys }
+{
+    let mut keys = Sequence::new(alloc);
+    keys.push(GroupingKey {
+        expr: Expr::Literal(Value::Null),
+        col_type: ColType::Int,
+    })?;
+    Ok(keys)
+}
+
+fn sums(alloc: Global) -> Result<Sequence<Aggregate>, AllocError>
+    ensures { IfOk result AreSums }
+{
     let mut aggregates = Sequence::new(alloc);
     aggregates.push(Aggregate {
         kind: AggregateKind::Sum,
@@ -78,36 +109,69 @@ fn order_of(alloc: Global, descending: Option<bool>) -> Result<Sequence<OrderKey
     Ok(order)
 }
 
-fn shown(
-    alloc: Global,
-    query: Query,
+/// The lists of a plan.
+#[derive(Drop)]
+struct Lists {
+    keys: Sequence<GroupingKey>,
+    aggs: Sequence<Aggregate>,
+    items: Sequence<Item>,
     order: Sequence<OrderKey>,
-    having: Option<Expr>,
-) -> Result<Plan, AllocError> {
+}
+
+fn lists_of(alloc: Global, descending: Option<bool>) -> Result<Lists, AllocError>
+    ensures keys { IfOk result (λ lists. AreKeys lists.keys) }
+    ensures sums { IfOk result (λ lists. AreSums lists.aggs) }
+    ensures items { IfOk result (λ lists. map (λ i. i.expr) lists.items ≡ the_expr.Key 0 ∷ the_expr.Aggregate 0 ∷ []) }
+{
+    let keys = keys(alloc)?;
     let aggs = sums(alloc)?;
+    let order = order_of(alloc, descending)?;
     let items = items(alloc)?;
-    let name = Text::new(alloc, "t")?;
-    Ok(Plan {
-        text: Text::new(alloc, "")?,
+    Ok(Lists {
+        keys,
+        aggs,
+        items,
+        order,
+    })
+}
+
+fn shown(alloc: Global, query: Query, name: Text, lists: Lists, having: Option<Expr>) -> Plan
+    requires keys { AreKeys lists.keys }
+    requires sums { AreSums lists.aggs }
+    requires items { map (λ i. i.expr) lists.items ≡ the_expr.Key 0 ∷ the_expr.Aggregate 0 ∷ [] }
+    requires having { IsHaving having }
+    ensures { IsSumPlan result }
+{
+    Plan {
+        text: Text::from_string(String::new(alloc)),
         fact: TableUse {
             name,
             columns: Sequence::new(alloc),
         },
         joins: Sequence::new(alloc),
         conjuncts: Sequence::new(alloc),
-        keys: Sequence::new(alloc),
-        aggs,
+        keys: lists.keys,
+        aggs: lists.aggs,
         having,
-        items,
-        order,
+        items: lists.items,
+        order: lists.order,
         limit: query.limit,
         plain: query.plain,
-    })
+    }
 }
 
 /// The query's plan, as far as the last step reads it.
-pub fn plan_of(alloc: Global, query: Query) -> Result<Plan, AllocError> {
-    let order = order_of(alloc, query.descending)?;
-    let having = having_of(alloc, query.having)?;
-    shown(alloc, query, order, having)
+pub fn plan_of(alloc: Global, query: Query) -> Result<Plan, AllocError>
+    ensures { IfOk result IsSumPlan }
+{
+    let name = Text::new(alloc, "t")?;
+    let lists = lists_of(alloc, query.descending)?;
+    match having_of(alloc, query.having) {
+        Ok(having) => Ok(shown(alloc, query, name, lists, having)),
+        Err(fault) => {
+            drop(lists);
+            drop(name);
+            Err(fault)
+        }
+    }
 }

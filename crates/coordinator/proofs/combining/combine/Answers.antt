@@ -6,6 +6,8 @@ use Rattle.meaning.specs.Group.{merged_groups}
 use Rattle.last_step.specs.Printing.{ShowsSomething}
 use Rattle.coordinator.specs.Merging.{all_groups}
 use Rattle.coordinator.proofs.Merging.{cells_mergeable, combined-groups, combined_shows}
+use Rattle.coordinator.proofs.ShapedGroups.{combined_shaped}
+use Rattle.last_step.specs.Fitting.{AreGroupsOf}
 use Rattle.coordinator.proofs.combining.combine.Goals as goal
 
 pub merge_groups-requires : goal.merge_groups-requires
@@ -22,3 +24,6 @@ returns-in_ok-into_groups-in-None-clause-value c =
 pub returns-in_ok-into_groups-in-None-clause-shows : goal.returns-in_ok-into_groups-in-None-clause-shows
 returns-in_ok-into_groups-in-None-clause-shows c = λ shown. subst (ShowsSomething c.args.plan.now) (sym (are c))
     (combined_shows c.args.plan.now c.args.cut.now c.args.cells.now c.lengths-lengths.ensures.within_limits c.requires.fitting shown)
+
+pub returns-in_ok-into_groups-in-None-clause-finishable : goal.returns-in_ok-into_groups-in-None-clause-finishable
+returns-in_ok-into_groups-in-None-clause-finishable c = λ shown. subst (AreGroupsOf c.args.plan.now) (sym (are c)) (combined_shaped c.args.plan.now c.args.cut.now c.args.cells.now c.requires.fitting shown)

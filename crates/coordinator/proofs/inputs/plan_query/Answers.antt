@@ -1,5 +1,5 @@
 -- Proofs of the goals of `plan_query` (`inputs`).
-use Rattle.coordinator.proofs.Planned.{planned_of_text, refused_of_text, well_formed_as_planned, job_as_planned}
+use Rattle.coordinator.proofs.Planned.{planned_of_text, refused_of_text, typed_as_planned, well_formed_as_planned, job_as_planned}
 use Rattle.coordinator.proofs.inputs.plan_query.Goals as goal
 
 pub returns-clause-planned : goal.returns-clause-planned
@@ -13,3 +13,6 @@ returns-clause-job c = job_as_planned c.args.catalog.now c.args.query.now c.plan
 
 pub returns-clause-refused : goal.returns-clause-refused
 returns-clause-refused c = refused_of_text c.args.catalog.now c.args.query.now c.in_ok-tree.tree c.in_ok-tree.ensures.tree c.plan_tree-planned.result c.plan_tree-planned.ensures.refused
+
+pub returns-clause-typed : goal.returns-clause-typed
+returns-clause-typed c = typed_as_planned c.args.catalog.now c.args.query.now c.plan_tree-planned.result (returns-clause-planned c)

@@ -1,0 +1,163 @@
+-- The rows of groups behind others.
+use Rattle.std.proofs.Common.{◌≡◌, ℕ, zero, suc, ◌+◌, ◌<◌, ◌≤◌, true, false, cond, List, [], ◌∷◌, ◌++◌, map, take, drop, length, get_or, replicate, Ok, Err, None, Some, refl, sym, ap, ◌∙◌, subst, append_assoc, append-nil}
+use Rattle.std.specs.Prelude.{Option, Result, All}
+use Rattle.std.specs.List.{AllByRecursion}
+use Rattle.std.proofs.lemmas.List.{take-append-drop, take_all, take_more}
+use Rattle.std.proofs.lemmas.List.Elements.{All-from_recursion, recursion_from_All}
+use Rattle.meaning.specs.declared.answer.Group.{Group}
+use Rattle.meaning.specs.declared.joined_row.JoinedRow.{JoinedRow}
+use Rattle.meaning.specs.declared.plan.Plan.{Plan}
+use Rattle.meaning.specs.declared.value.Value.{Value}
+use Rattle.meaning.specs.Answer.{read_off}
+use Rattle.meaning.specs.Finish.{Evaluated, all_rows, rows_of, shown}
+use Rattle.meaning.specs.Joined.{group_row}
+use Rattle.meaning.specs.Order.{Row}
+use Rattle.meaning.specs.Results.{all_ok, and_then, with_result}
+use Rattle.last_step.specs.declared.run.Run.{Run}
+use Rattle.last_step.specs.declared.stop.Stop.{Stop}
+use Rattle.last_step.specs.declared.stop.Stop.TheVariants as stop
+use Rattle.last_step.specs.Batches.{HasValues, IsFront, IsJudged, ended, row_in, row_of, shown_after}
+use Rattle.last_step.specs.Fitting.{AreGroupsOf}
+use Rattle.last_step.specs.Given.{GivesView}
+use Rattle.meaning.specs.Fitting.{is_group_of}
+use Rattle.last_step.specs.Runs.{expanded, plain_rows, rows_after, rows_behind_groups}
+
+module _ (plan : Plan) where
+  moved : (before : List Row) (r : Result (List Row) ℕ) (parts : Result (List (List Row)) ℕ)
+      → and_then (with_result r parts) (λ ps. Ok (before ++ all_rows ps)) ≡ and_then r (λ rows. and_then parts (λ ps. Ok ((before ++ rows) ++ all_rows ps)))
+  moved before (Err c) parts = refl
+  moved before (Ok rows) (Err c) = refl
+  moved before (Ok rows) (Ok ps) = ap Ok (sym (append_assoc before rows (all_rows ps)))
+
+  -- one group, then the others
+  pub one_after : (before : List Row) (g : Group) (gs : List Group) → rows_after plan before (g ∷ gs) ≡ and_then (rows_of plan (read_off plan g)) (λ rows. rows_after plan (before ++ rows) gs)
+  one_after before g gs = moved before (rows_of plan (read_off plan g)) (all_ok (map (rows_of plan) (map (read_off plan) gs)))
+
+  pub and_then_as : {X Y : Type 0} (r : Result X ℕ) (f h : X → Result Y ℕ) → ((x : X) → f x ≡ h x) → and_then r f ≡ and_then r h
+  and_then_as (Ok x) f h same = same x
+  and_then_as (Err c) f h same = refl
+
+  in_turn : {X Y Z : Type 0} (r : Result X ℕ) (f : X → Result Y ℕ) (h : Y → Result Z ℕ) → and_then r (λ x. and_then (f x) h) ≡ and_then (and_then r f) h
+  in_turn (Ok x) f h = refl
+  in_turn (Err c) f h = refl
+
+  -- some groups, then the others
+  pub both_after : (before : List Row) (xs ys : List Group) → rows_after plan before (xs ++ ys) ≡ and_then (rows_after plan before xs) (λ rows. rows_after plan rows ys)
+  both_after before [] ys = ap (λ rows. rows_after plan rows ys) (sym (append-nil before))
+  both_after before (x ∷ xs) ys =
+      one_after before x (xs ++ ys)
+      ∙ and_then_as (rows_of plan (read_off plan x)) (λ rows. rows_after plan (before ++ rows) (xs ++ ys)) (λ rows. and_then (rows_after plan (before ++ rows) xs) (λ all. rows_after plan all ys)) (λ rows. both_after (before ++ rows) xs ys)
+      ∙ in_turn (rows_of plan (read_off plan x)) (λ rows. rows_after plan (before ++ rows) xs) (λ all. rows_after plan all ys)
+      ∙ ap (λ r. and_then r (λ all. rows_after plan all ys)) (sym (one_after before x xs))
+
+  ending : (r : Result (List Row) ℕ) → r ≡ and_then r (ended None)
+  ending (Ok rows) = refl
+  ending (Err c) = refl
+
+  -- ---- aggregates
+
+  grouped : (g : Group) → plan.plain ≡ false → rows_of plan (read_off plan g) ≡ and_then (all_ok (read_off plan g).aggregates) (λ values. shown plan (group_row g.key values))
+  grouped g not_plain = ap (λ b. cond b (Ok (replicate g.rows g.key)) (and_then (all_ok (read_off plan g).aggregates) (λ values. shown plan (group_row g.key values)))) not_plain
+
+  pub one_more_sound : (gs : List Group) (k : ℕ) (g : Group) → k < length gs → g ≡ get_or gs k g → IsJudged (read_off plan g).aggregates (Ok tt) → AllByRecursion (HasValues plan) (take k gs)
+      → AllByRecursion (HasValues plan) (take (k + 1) gs)
+  one_more_sound gs k g below at judged all =
+      subst (AllByRecursion (HasValues plan)) (sym (take_more gs k g below)) (push (take k gs) (get_or gs k g) all (subst (HasValues plan) at (record { row = judged.0; are = judged.1; fit = judged.2 })))
+    where
+      push : (xs : List Group) (x : Group) → AllByRecursion (HasValues plan) xs → HasValues plan x → AllByRecursion (HasValues plan) (xs ++ x ∷ [])
+      push [] x all is = (is, tt)
+      push (y ∷ ys) x all is = (all.0, push ys x all.1 is)
+
+  -- all groups have values
+  pub front_all : (gs : List Group) (n : ℕ) → length gs ≤ n → n ≤ length gs → AllByRecursion (HasValues plan) (take n gs) → IsFront plan gs n None
+  front_all gs n high low all = record {
+    within = low;
+    sound = All-from_recursion (HasValues plan) (take n gs) all;
+    behind = λ before. ap (rows_after plan before) (sym (take_all n gs high)) ∙ ending (rows_after plan before (take n gs));
+  }
+
+  -- a group has a fault
+  pub front_until : (gs : List Group) (k : ℕ) (g : Group) (rest : List Group) (code : ℕ) → plan.plain ≡ false → k ≤ length gs → drop k gs ≡ g ∷ rest
+      → all_ok (read_off plan g).aggregates ≡ Err code → AllByRecursion (HasValues plan) (take k gs) → IsFront plan gs k (Some code)
+  front_until gs k g rest code not_plain low here bad all = record {
+    within = low;
+    sound = All-from_recursion (HasValues plan) (take k gs) all;
+    behind = λ before.
+        ap (rows_after plan before) (sym (take-append-drop k gs))
+        ∙ both_after before (take k gs) (drop k gs)
+        ∙ and_then_as (rows_after plan before (take k gs)) (λ rows. rows_after plan rows (drop k gs)) (ended (Some code))
+        (λ rows. ap (rows_after plan rows) here ∙ one_after rows g rest ∙ ap (λ r. and_then r (λ more. rows_after plan (rows ++ more) rest))
+        (grouped g not_plain ∙ ap (λ r. and_then r (λ values. shown plan (group_row g.key values))) bad));
+  }
+
+  shown_each : (gs : List Group) → plan.plain ≡ false → AllByRecursion (HasValues plan) gs → map (rows_of plan) (map (read_off plan) gs) ≡ map (shown plan) (map (row_in plan) gs)
+  shown_each [] not_plain all = refl
+  shown_each (g ∷ gs) not_plain all =
+      let is = all.0.are in
+      let one : rows_of plan (read_off plan g) ≡ shown plan (row_in plan g) =
+      grouped g not_plain ∙ ap (λ r. and_then r (λ values. shown plan (group_row g.key values))) is
+      ∙ ap (λ r. shown plan (group_row g.key (row_of r))) (sym is) in
+      λ i. one i ∷ shown_each gs not_plain all.1 i
+
+  -- where each aggregate has a value, HAVING and the items tell the rows
+  pub sound_after : (before : List Row) (gs : List Group) → plan.plain ≡ false → AllByRecursion (HasValues plan) gs → rows_after plan before gs ≡ shown_after plan before (map (row_in plan) gs)
+  sound_after before gs not_plain all = ap (λ rs. and_then (all_ok rs) (λ parts. Ok (before ++ all_rows parts))) (shown_each gs not_plain all)
+
+  -- ---- plain queries
+
+  pub plain_after : (before : List Row) (gs : List Group) → plan.plain ≡ true → rows_after plan before gs ≡ Ok (before ++ plain_rows gs)
+  plain_after before [] plain = refl
+  plain_after before (g ∷ gs) plain =
+      let one : rows_of plan (read_off plan g) ≡ Ok (replicate g.rows g.key) =
+      ap (λ b. cond b (Ok (replicate g.rows g.key)) (and_then (all_ok (read_off plan g).aggregates) (λ values. shown plan (group_row g.key values)))) plain in
+      one_after before g gs
+      ∙ ap (λ r. and_then r (λ rows. rows_after plan (before ++ rows) gs)) one
+      ∙ plain_after (before ++ replicate g.rows g.key) gs plain
+      ∙ ap Ok (append_assoc before (replicate g.rows g.key) (plain_rows gs))
+
+  -- ---- batch by batch
+
+  pub next_batch : (gs : List Group) (n : ℕ) (before middle : List Row) (all : Result (List Row) ℕ) → rows_after plan before (take n gs) ≡ Ok middle → rows_after plan before gs ≡ all
+      → rows_after plan middle (drop n gs) ≡ all
+  next_batch gs n before middle all is so_far =
+      sym (ap (λ r. and_then r (λ rows. rows_after plan rows (drop n gs))) is) ∙ sym (both_after before (take n gs) (drop n gs)) ∙ ap (rows_after plan before) (take-append-drop n gs) ∙ so_far
+
+  pub stop_batch : {X Y : Type 0} (seen : X → List Row) (view : Y → List Row) (gs : List Group) (n : ℕ) (before : List Row) (e : Stop) (all : Result (List Row) ℕ) → GivesView seen (Err e) (rows_after plan before (take n gs)) → rows_after plan before gs ≡ all
+      → GivesView view (Err e) all
+  stop_batch seen view gs n before stop.Memory all bad so_far = tt
+  stop_batch seen view gs n before (stop.Fault c) all bad so_far =
+      sym so_far ∙ ap (rows_after plan before) (sym (take-append-drop n gs)) ∙ both_after before (take n gs) (drop n gs) ∙ ap (λ r. and_then r (λ rows. rows_after plan rows (drop n gs))) bad
+
+  -- nothing stands before
+  pub none_before : {X Y : Type 0} (seen : X → List Row) (view : Y → List Row) (runs : List Run) (gs : List Group) (e : Stop) → runs ≡ [] → GivesView seen (Err e) (rows_after plan (expanded runs) gs)
+      → GivesView view (Err e) (rows_behind_groups plan (map (read_off plan) gs))
+  none_before seen view runs gs stop.Memory none bad = tt
+  none_before seen view runs gs (stop.Fault c) none bad = ap (λ (rs : List Run). rows_after plan (expanded rs) gs) (sym none) ∙ bad
+
+  taken : {X : Type 0} (P : X → Type 0) (n : ℕ) (xs : List X) → AllByRecursion P xs → AllByRecursion P (take n xs)
+  taken P zero xs all = tt
+  taken P (suc n) [] all = tt
+  taken P (suc n) (x ∷ xs) all = (all.0, taken P n xs all.1)
+
+  dropped : {X : Type 0} (P : X → Type 0) (n : ℕ) (xs : List X) → AllByRecursion P xs → AllByRecursion P (drop n xs)
+  dropped P zero xs all = all
+  dropped P (suc n) [] all = tt
+  dropped P (suc n) (x ∷ xs) all = dropped P n xs all.1
+
+  pub front_groups : (n : ℕ) (gs : List Group) → AreGroupsOf plan gs → AreGroupsOf plan (take n gs)
+  front_groups n gs groups = record { typed = groups.typed; shaped = All-from_recursion (λ g. is_group_of plan g ≡ true) (take n gs) (taken (λ g. is_group_of plan g ≡ true) n gs (recursion_from_All (λ g. is_group_of plan g ≡ true) gs groups.shaped)) }
+
+  pub rest_groups : (n : ℕ) (gs : List Group) → AreGroupsOf plan gs → AreGroupsOf plan (drop n gs)
+  rest_groups n gs groups = record { typed = groups.typed; shaped = All-from_recursion (λ g. is_group_of plan g ≡ true) (drop n gs) (dropped (λ g. is_group_of plan g ≡ true) n gs (recursion_from_All (λ g. is_group_of plan g ≡ true) gs groups.shaped)) }
+
+  -- what a batch gives, behind its front
+  pub front_then : {X : Type 0} (gs : List Group) (n : ℕ) (fault : Option ℕ) (before middle : List Row) (r : Result X Stop) → IsFront plan gs n fault → rows_after plan before (take n gs) ≡ Ok middle
+      → GivesView (λ _. middle) r (ended fault middle) → GivesView (λ _. middle) r (rows_after plan before gs)
+  front_then gs n fault before middle (Ok x) is front ends = is.behind before ∙ ap (λ r. and_then r (ended fault)) front ∙ ends
+  front_then gs n fault before middle (Err stop.Memory) is front ends = tt
+  front_then gs n fault before middle (Err (stop.Fault c)) is front ends = is.behind before ∙ ap (λ r. and_then r (ended fault)) front ∙ ends
+
+  pub front_stops : {X Y : Type 0} (seen : X → List Row) (view : Y → List Row) (gs : List Group) (n : ℕ) (fault : Option ℕ) (before : List Row) (e : Stop) → IsFront plan gs n fault
+      → GivesView seen (Err e) (rows_after plan before (take n gs)) → GivesView view (Err e) (rows_after plan before gs)
+  front_stops seen view gs n fault before stop.Memory is bad = tt
+  front_stops seen view gs n fault before (stop.Fault c) is bad = is.behind before ∙ ap (λ r. and_then r (ended fault)) bad

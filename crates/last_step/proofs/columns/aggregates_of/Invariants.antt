@@ -1,0 +1,10 @@
+-- Invariants of `aggregates_of` (`columns`).
+use Rattle.std.proofs.Common.{◌≡◌, map, take}
+use Rattle.std.specs.Prelude.{All}
+use Rattle.meaning.specs.declared.plan.Plan.{Plan}
+use Rattle.meaning.specs.Order.{value_in}
+use Rattle.last_step.specs.Batches.{HasAt, aggregate_in}
+use Rattle.last_step.proofs.columns.aggregates_of.Given as goal
+
+abbrev pub invariant-loop-group : goal.invariant-loop-group
+invariant-loop-group l = (plan : Plan) → All (HasAt plan l.kind l.aggregate) l.groups → map value_in l.values.items ≡ map (aggregate_in plan l.aggregate) (take l.group-index l.groups)

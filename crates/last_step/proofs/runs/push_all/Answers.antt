@@ -1,0 +1,8 @@
+-- Proofs of the goals of `push_all` (`runs`).
+use Rattle.std.proofs.Common.{Ok, ap, sym, ◌∙◌}
+use Rattle.last_step.specs.Runs.{expanded}
+use Rattle.last_step.proofs.Rest.{plain_after}
+use Rattle.last_step.proofs.runs.push_all.Goals as goal
+
+pub returns-then-plan : goal.returns-then-plan
+returns-then-plan c = plain_after c.args.plan.now (expanded c.args.runs.now.items) c.args.groups.now c.if-plan.true ∙ ap Ok (sym c.in_ok-push_plain.ensures)

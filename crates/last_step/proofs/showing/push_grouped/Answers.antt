@@ -1,0 +1,33 @@
+-- Proofs of the goals of `push_grouped` (`showing`).
+use Rattle.std.proofs.Common.{List, Err, ap, sym, subst, ◌∙◌}
+use Rattle.std.proofs.lemmas.Result.{err_from_is_err_and}
+use Rattle.meaning.specs.declared.answer.Group.{Group}
+use Rattle.meaning.specs.Order.{Row}
+use Rattle.last_step.specs.Fitting.{AreGroupsOf}
+use Rattle.last_step.specs.Given.{GivesView}
+use Rattle.last_step.specs.Runs.{expanded, rows_after}
+use Rattle.last_step.proofs.Rest.{next_batch, rest_groups, stop_batch}
+use Rattle.last_step.proofs.showing.push_grouped.Goals as goal
+
+pub loop-rest-preserved : goal.loop-rest-preserved
+loop-rest-preserved c =
+    let plan = c.args.plan.now in
+    let rest = c.loop-rest.rest.now in
+    let before = expanded c.loop-rest.runs.items in
+    let now = expanded c.push_batch.new.runs.items in
+    let all = rows_after plan (expanded c.args.runs.now.items) c.args.groups.now in (
+      subst (AreGroupsOf plan) (sym c.split_at.ensures.back) (rest_groups plan c.min.result rest c.loop-rest.invariant.0),
+      ap (rows_after plan now) c.split_at.ensures.back
+          ∙ next_batch plan rest c.min.result before now all (ap (rows_after plan before) (sym c.split_at.ensures.front) ∙ c.in_ok-push_batch.ensures) c.loop-rest.invariant.1,
+    )
+
+pub returns-in_err-push_batch : goal.returns-in_err-push_batch
+returns-in_err-push_batch c =
+    let plan = c.args.plan.now in
+    let rest = c.loop-rest.rest.now in
+    let before = expanded c.loop-rest.runs.items in
+    let seen : Unit {0} → List Row = λ _. expanded c.push_batch.new.runs.items in
+    let e = c.in_err-push_batch.field-0.0 in
+    let p = err_from_is_err_and c.from_residual.result c.from_residual.ensures.1 in
+    rw (p.1, p.2) (stop_batch plan seen seen rest c.min.result before e _
+    (subst (λ (gs : List Group). GivesView seen (Err e) (rows_after plan before gs)) c.split_at.ensures.front c.in_err-push_batch.ensures) c.loop-rest.invariant.1)

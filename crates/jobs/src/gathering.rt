@@ -2,10 +2,10 @@
 ghost use Rattle.std.specs.Prelude.{◌≡◌, ◌⊎◌, IfErr, IfOk};
 ghost use Rattle.jobs.specs.Gathering.{IsGathered, IsGatheredOf, IsGatherRefused, IsReportRefused, IsTogetherRefused, IsUnprinted};
 
-use command_line::GatherCommand;
 use crate::job::read_job;
 use crate::saving::save_and_report;
 use crate::taking::take_files;
+use command_line::GatherCommand;
 use coordinator::{Gather, Report};
 use folders::{Folder, Refusal};
 use std::alloc::Global;

@@ -9,8 +9,8 @@ ghost use Rattle.partial_codec.specs.Answer.{Spells};
 ghost use Rattle.worker.specs.Work.{answered};
 ghost use Rattle.jobs.specs.Working.{AreDimensionsUnread, IsAnswer, IsAnswerRefused, IsDimensionOf, IsFileAnswer, IsFileRefused, IsSpelled, IsSpelledRefused, IsWorkRefused, IsWorked};
 
-use command_line::WorkCommand;
 use crate::job::read_job;
+use command_line::WorkCommand;
 use folders::files::{read_file, write_file};
 use folders::paths::{dimension_path, fragment_path};
 use folders::{Folder, Refusal};

@@ -2,7 +2,7 @@
 ghost use Rattle.std.specs.Prelude.{◌≡◌, ◌<◌, ◌≤◌, ◌+◌, [], ◌∷◌, ◌++◌, length, map, sum, zip, get_or, true, All, IsOk, OnOk, OnErr, IfOk};
 ghost use Rattle.meaning.specs.Aggregate.{kept_by, no_statistics};
 ghost use Rattle.accumulators.specs.Columns.{kind_of_cells, merged_at, of_states, states_in};
-ghost use Rattle.accumulators.specs.Entries.{with_entries, with_states};
+ghost use Rattle.accumulators.specs.Entries.{state_of, with_entries, with_states};
 ghost use Rattle.accumulators.specs.Kinds.{has_one_size, keeps_sums};
 ghost use Rattle.accumulators.specs.State.{most_entries};
 ghost use Rattle.accumulators.specs.Values.{is_spelled, selected, values_of};
@@ -178,6 +178,27 @@ impl StateColumn {
             return update_sums(&mut self.cells, alloc, places, lanes, selection);
         }
         update_each(&mut self.cells, alloc, places, lanes, selection)
+    }
+
+    /// Merges into the state at a place that of all selected values. On an error the states are open. What keeps no value of
+    /// its own takes no memory.
+    pub fn update_at(
+        &mut self,
+        alloc: Global,
+        place: usize,
+        lanes: &Vector<'_>,
+        selection: &Selection,
+    ) -> Result<(), AllocError>
+        requires place { place < length self.old.states }
+        requires lanes { length (values_of lanes.now) ≡ selection.now.below }
+        requires spelled { All (λ v. is_spelled v ≡ true) (values_of lanes.now) }
+        requires few { (get_or self.old.states place no_statistics).count + length selection.now.list ≤ most_entries }
+        ensures kind { self.new.kind ≡ self.old.kind }
+        ensures height { length self.new.states ≡ length self.old.states }
+        ensures ok { OnOk result (self.new ≡ of_states self.old (merged_at self.old.states place (state_of self.old.kind (selected (values_of lanes.now) selection.now.list)))) }
+        ensures roomy { has_one_size self.old.kind ≡ true → IsOk result }
+    {
+        self.cells.update_at(alloc, place, lanes, selection)
     }
 
     /// Merges into each state those at its place. On an error the states are open. What keeps no value of its own takes no

@@ -1,6 +1,6 @@
 -- What is known of a plan from the query's text.
 use Rattle.std.specs.Prelude.{◌≡◌, ℕ, ◌≤◌, List, [], length, Result, Ok, Err, IfOk, IfErr}
-use Rattle.std.proofs.Common.{sym, subst, inl, inr}
+use Rattle.std.proofs.Common.{sym, subst}
 use Rattle.meaning.specs.Limits.{max_query_bytes}
 use Rattle.meaning.specs.WellFormedPlan.{IsWellFormedPlan}
 use Rattle.meaning.specs.declared.catalog.Catalog.{Catalog}
@@ -26,33 +26,21 @@ use Rattle.coordinator.specs.Whole.{IsPlanned, IsTreeRefused, IsPlanRefused, of_
 -- ---- a tree
 
 pub plan_is : (catalog : Catalog) (q : Query) (plan : Plan) → Tells (Ok plan) (planned catalog q) → planned catalog q ≡ Ok plan
-plan_is catalog q plan (inl is) = sym is
-plan_is catalog q plan (inr is) = absurd cc
+plan_is catalog q plan told = told
 
 pub tree_refused : (catalog : Catalog) (q : Query) (e : PlanFault) → Tells (Err e) (planned catalog q) → IsTreeRefused catalog q (of_plan e)
 tree_refused catalog q fault.Memory told = tt
-tree_refused catalog q fault.TableUnknown (inl is) = sym is
-tree_refused catalog q fault.TableUnknown (inr is) = absurd cc
-tree_refused catalog q fault.ColumnUnknown (inl is) = sym is
-tree_refused catalog q fault.ColumnUnknown (inr is) = absurd cc
-tree_refused catalog q fault.Ambiguous (inl is) = sym is
-tree_refused catalog q fault.Ambiguous (inr is) = absurd cc
-tree_refused catalog q fault.TypeMismatch (inl is) = sym is
-tree_refused catalog q fault.TypeMismatch (inr is) = absurd cc
-tree_refused catalog q fault.NoEquality (inl is) = sym is
-tree_refused catalog q fault.NoEquality (inr is) = absurd cc
-tree_refused catalog q fault.TwoEqualities (inl is) = sym is
-tree_refused catalog q fault.TwoEqualities (inr is) = absurd cc
-tree_refused catalog q fault.FactNotOnce (inl is) = sym is
-tree_refused catalog q fault.FactNotOnce (inr is) = absurd cc
-tree_refused catalog q fault.NotGrouped (inl is) = sym is
-tree_refused catalog q fault.NotGrouped (inr is) = absurd cc
-tree_refused catalog q fault.MisplacedAggregate (inl is) = sym is
-tree_refused catalog q fault.MisplacedAggregate (inr is) = absurd cc
-tree_refused catalog q fault.PlaceNotAllowed (inl is) = sym is
-tree_refused catalog q fault.PlaceNotAllowed (inr is) = absurd cc
-tree_refused catalog q fault.OverLimit (inl is) = sym is
-tree_refused catalog q fault.OverLimit (inr is) = absurd cc
+tree_refused catalog q fault.TableUnknown told = told (λ is. cc)
+tree_refused catalog q fault.ColumnUnknown told = told (λ is. cc)
+tree_refused catalog q fault.Ambiguous told = told (λ is. cc)
+tree_refused catalog q fault.TypeMismatch told = told (λ is. cc)
+tree_refused catalog q fault.NoEquality told = told (λ is. cc)
+tree_refused catalog q fault.TwoEqualities told = told (λ is. cc)
+tree_refused catalog q fault.FactNotOnce told = told (λ is. cc)
+tree_refused catalog q fault.NotGrouped told = told (λ is. cc)
+tree_refused catalog q fault.MisplacedAggregate told = told (λ is. cc)
+tree_refused catalog q fault.PlaceNotAllowed told = told (λ is. cc)
+tree_refused catalog q fault.OverLimit told = told (λ is. cc)
 
 -- ---- a text
 

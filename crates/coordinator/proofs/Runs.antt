@@ -1,7 +1,7 @@
 -- The fact's fragments, from the files to the answer.
 use Rattle.std.specs.Prelude.{◌≡◌, ℕ, List, [], ◌∷◌, map, zip, sum, Option, None, Result, Ok, Err, IfOk, IfErr}
 use Rattle.std.specs.Borrow.{Bor}
-use Rattle.std.proofs.Common.{refl, sym, ap, ◌∙◌}
+use Rattle.std.proofs.Common.{refl, sym, ap, inr, ◌∙◌}
 use Rattle.meaning.specs.declared.catalog.Column.{Column}
 use Rattle.meaning.specs.declared.catalog.Catalog.{Catalog}
 use Rattle.meaning.specs.declared.plan.Join.{Join}
@@ -22,7 +22,7 @@ use Rattle.coordinator.specs.declared.whole_fault.WholeFault.{WholeFault}
 use Rattle.coordinator.specs.declared.whole_fault.WholeFault.TheVariants as fault
 use Rattle.coordinator.specs.Fragment.{AreFragments, AreTableFiles}
 use Rattle.coordinator.specs.Gathering.{GatherSpec}
-use Rattle.coordinator.specs.Whole.{Files, files_in, input_of, csv_of, joined_csvs, joined_from, joined_table, table_from, tables_of, IsLoaded, IsPrepared, IsAnsweredOver, IsAnswered, RunsOver, IsEndRefusal, IsRefused}
+use Rattle.coordinator.specs.Whole.{Files, files_in, input_of, csv_of, joined_csvs, joined_from, joined_table, table_from, tables_of, AreTablesLoaded, IsPrepared, IsAnsweredOver, IsAnswered, RunsOver, IsEndRefusal, IsRefused}
 use Rattle.coordinator.proofs.CountedRows.{went_on, ok_parts, counted_fact}
 
 -- ---- the joined tables
@@ -93,7 +93,7 @@ module _ (catalog : Catalog) (files : Files) (cut : Cut) (plan : Plan) where
     dimension_refused e refused = joined_behind (Err e) refused
 
     -- the fact's file gives its fragments, and each dimension's its rows
-    pub loaded : (dims : List (List Row)) (dim_files : List (List ℕ)) → all_ok (map (joined_from catalog files) plan.joins) ≡ Ok dims → AreTableFiles dims dim_files → IsLoaded catalog files cut plan fragments dim_files
+    pub loaded : (dims : List (List Row)) (dim_files : List (List ℕ)) → all_ok (map (joined_from catalog files) plan.joins) ≡ Ok dims → AreTableFiles dims dim_files → AreTablesLoaded catalog files cut plan fragments dim_files
     loaded dims dim_files good are = record {
       rows = parts.0;
       dims = dims;
@@ -134,14 +134,7 @@ module _ (catalog : Catalog) (csvs : List (Bor (List ℕ) × Bor (List ℕ))) (q
   runs_over bytes declared = record { catalog = catalog; declared = declared; planned = prepared.planned; tables = prepared.loaded.tables; vectors = prepared.vectors }
 
   stands : (e : WholeFault) → IsEndRefusal e → (bytes : List ℕ) → catalog_of bytes ≡ Ok catalog → IsRefused (input_of bytes csvs query cut vector_len) e
-  stands fault.Memory end bytes declared = tt
-  stands fault.Writer end bytes declared = (plan, prepared.loaded.rows, prepared.loaded.dims, runs_over bytes declared)
-  stands (fault.Catalog e) end bytes declared = absurd end
-  stands (fault.Sql e) end bytes declared = absurd end
-  stands (fault.Plan e) end bytes declared = absurd end
-  stands (fault.MissingCsv table) end bytes declared = absurd end
-  stands (fault.Load e) end bytes declared = absurd end
-  stands fault.VectorLength end bytes declared = absurd end
+  stands e end bytes declared = inr (inr (end, (plan, prepared.loaded.rows, prepared.loaded.dims, runs_over bytes declared)))
 
   pub refused_at_end : (result : Result (Ended × GatherSpec) WholeFault) → IfErr result IsEndRefusal
       → IfErr result (λ e. (bytes : List ℕ) → catalog_of bytes ≡ Ok catalog → IsRefused (input_of bytes csvs query cut vector_len) e)

@@ -1,5 +1,5 @@
 -- A query from CSV files to print: what it runs over, and why it is refused.
-use Rattle.std.specs.Prelude.{◌≡◌, ℕ, nat_le, Bool, true, false, ◌&&◌, List, [], map, zip, find, Option, Some, None, Result, Ok, Err, ⊤, ◌≢◌, length, sum}
+use Rattle.std.specs.Prelude.{◌≡◌, ◌⊎◌, ℕ, nat_le, Bool, true, false, ◌&&◌, List, [], map, zip, find, Option, Some, None, Result, Ok, Err, ⊤, ◌≢◌, length, sum}
 use Rattle.std.specs.Borrow.{Bor}
 use Rattle.std.specs.List.{range_with_len}
 use Rattle.std.specs.Str.{bytes_eq}
@@ -77,11 +77,6 @@ of_load load_fault.Device = fault.Memory
 abbrev pub of_print : PrintFault → WholeFault
 of_print print_fault.Memory = fault.Memory
 of_print print_fault.Writer = fault.Writer
-
--- what a call gave, seen by `view`, is what is meant, unless memory runs out
-abbrev pub Gives : {X Y : Type 0} → (X → Y) → Result X WholeFault → Result Y WholeFault → Type 0
-Gives view (Ok x) meant = meant ≡ Ok (view x)
-Gives view (Err e) meant = e ≢ fault.Memory → meant ≡ Err e
 
 -- ---- the plan
 
@@ -166,19 +161,6 @@ pub record RunsOver (input : Input) (plan : Plan) (rows : List Row) (dims : List
   pub tables : tables_of catalog input.files input.cut plan ≡ Ok (rows, dims)
   pub vectors : is_vector_length input.vector_len ≡ true
 
--- where each refusal stands in the input: the catalogue, the query, its plan, the tables, the vectors' length, and last the writer,
--- each where all before it is well
-abbrev pub IsRefused : Input → WholeFault → Type 0
-IsRefused input fault.Memory = ⊤
-IsRefused input (fault.Catalog e) = catalog_of input.catalog ≡ Err e
-IsRefused input (fault.Sql e) = (catalog : Catalog) × (catalog_of input.catalog ≡ Ok catalog) × (e ≢ sql.Memory) × IsRefusal input.query e
-IsRefused input (fault.Plan e) = (catalog : Catalog) × (catalog_of input.catalog ≡ Ok catalog) × IsPlanned catalog input.query (Err e)
-IsRefused input (fault.MissingCsv table) = (catalog : Catalog) × (plan : Plan) × (catalog_of input.catalog ≡ Ok catalog) × IsPlanned catalog input.query (Ok plan) × (tables_of catalog input.files input.cut plan ≡ Err (fault.MissingCsv table))
-IsRefused input (fault.Load e) = (catalog : Catalog) × (plan : Plan) × (catalog_of input.catalog ≡ Ok catalog) × IsPlanned catalog input.query (Ok plan) × (tables_of catalog input.files input.cut plan ≡ Err (fault.Load e))
-IsRefused input fault.VectorLength = (catalog : Catalog) × (plan : Plan) × (tables : List Row × List (List Row)) × (catalog_of input.catalog ≡ Ok catalog) × IsPlanned catalog input.query (Ok plan)
-    × (tables_of catalog input.files input.cut plan ≡ Ok tables) × (is_vector_length input.vector_len ≡ false)
-IsRefused input fault.Writer = (plan : Plan) × (rows : List Row) × (dims : List (List Row)) × RunsOver input plan rows dims
-
 -- why the tables or the vectors are refused
 abbrev pub IsTablesRefused : Catalog → Files → Cut → Plan → ℕ → WholeFault → Type 0
 IsTablesRefused catalog files cut plan vector_len fault.Memory = ⊤
@@ -186,6 +168,35 @@ IsTablesRefused catalog files cut plan vector_len (fault.MissingCsv table) = tab
 IsTablesRefused catalog files cut plan vector_len (fault.Load e) = tables_of catalog files cut plan ≡ Err (fault.Load e)
 IsTablesRefused catalog files cut plan vector_len fault.VectorLength = (tables : List Row × List (List Row)) × (tables_of catalog files cut plan ≡ Ok tables) × (is_vector_length vector_len ≡ false)
 IsTablesRefused catalog files cut plan vector_len _ = ⊥
+
+-- why a query over declared tables doesn't get to run: it has no plan, or else its tables or the vectors are refused
+abbrev pub IsPrepareRefused : Catalog → Files → List ℕ → Cut → ℕ → WholeFault → Type 0
+IsPrepareRefused catalog files query cut vector_len e =
+    IsPlanRefused catalog query e
+    ⊎ ((plan : Plan) × IsPlanned catalog query (Ok plan) × IsTablesRefused catalog files cut plan vector_len e)
+
+-- why the catalogue's bytes declare no tables
+abbrev pub IsUndeclared : List ℕ → WholeFault → Type 0
+IsUndeclared bytes fault.Memory = ⊤
+IsUndeclared bytes (fault.Catalog e) = catalog_of bytes ≡ Err e
+IsUndeclared bytes _ = ⊥
+
+-- a refusal at the end: out of memory, or the writer failed
+abbrev pub IsEndRefusal : WholeFault → Type 0
+IsEndRefusal fault.Memory = ⊤
+IsEndRefusal fault.Writer = ⊤
+IsEndRefusal _ = ⊥
+
+-- it comes when all is well
+abbrev pub IsRefusedAtEnd : Input → WholeFault → Type 0
+IsRefusedAtEnd input e = IsEndRefusal e × ((plan : Plan) × (rows : List Row) × (dims : List (List Row)) × RunsOver input plan rows dims)
+
+-- where each refusal stands in the input: the catalogue, then what keeps the query from running, and last the writer
+abbrev pub IsRefused : Input → WholeFault → Type 0
+IsRefused input e =
+    IsUndeclared input.catalog e
+    ⊎ (((catalog : Catalog) × (catalog_of input.catalog ≡ Ok catalog) × IsPrepareRefused catalog input.files input.query input.cut input.vector_len e)
+    ⊎ IsRefusedAtEnd input e)
 
 -- ---- steps
 
@@ -202,7 +213,7 @@ abbrev pub IsFileOf : Result (List Row) WholeFault → List ℕ → Type 0
 IsFileOf meant bytes = (rows : List Row) × (meant ≡ Ok rows) × IsTableFile rows bytes
 
 -- the fragments of the fact's rows, just as many as the cut has and each of its column's type, and a file of each join's dimension
-pub record IsLoaded (catalog : Catalog) (files : Files) (cut : Cut) (plan : Plan) (fragments : List (List ColumnSpec)) (dim_files : List (List ℕ)) : Type 0 where
+pub record AreTablesLoaded (catalog : Catalog) (files : Files) (cut : Cut) (plan : Plan) (fragments : List (List ColumnSpec)) (dim_files : List (List ℕ)) : Type 0 where
   pub rows : List Row
   pub dims : List (List Row)
   pub tables : tables_of catalog files cut plan ≡ Ok (rows, dims)
@@ -217,18 +228,8 @@ pub record IsPrepared (catalog : Catalog) (files : Files) (query : List ℕ) (cu
   pub well_formed : IsWellFormedPlan plan
   pub typed : IsTypedOverGroups plan
   pub job : IsPlanOfJob plan
-  pub loaded : IsLoaded catalog files cut plan fragments dim_files
+  pub loaded : AreTablesLoaded catalog files cut plan fragments dim_files
   pub vectors : is_vector_length vector_len ≡ true
-
--- the same, of a catalogue that was read
-abbrev pub IsPrepareRefused : Catalog → Files → List ℕ → Cut → ℕ → WholeFault → Type 0
-IsPrepareRefused catalog files query cut vector_len fault.Memory = ⊤
-IsPrepareRefused catalog files query cut vector_len (fault.Sql e) = (e ≢ sql.Memory) × IsRefusal query e
-IsPrepareRefused catalog files query cut vector_len (fault.Plan e) = IsPlanned catalog query (Err e)
-IsPrepareRefused catalog files query cut vector_len (fault.MissingCsv table) = (plan : Plan) × IsPlanned catalog query (Ok plan) × (tables_of catalog files cut plan ≡ Err (fault.MissingCsv table))
-IsPrepareRefused catalog files query cut vector_len (fault.Load e) = (plan : Plan) × IsPlanned catalog query (Ok plan) × (tables_of catalog files cut plan ≡ Err (fault.Load e))
-IsPrepareRefused catalog files query cut vector_len fault.VectorLength = (plan : Plan) × (tables : List Row × List (List Row)) × IsPlanned catalog query (Ok plan) × (tables_of catalog files cut plan ≡ Ok tables) × (is_vector_length vector_len ≡ false)
-IsPrepareRefused catalog files query cut vector_len _ = ⊥
 
 -- the answer over a fact's rows and those of its dimensions
 pub record IsAnsweredOver (plan : Plan) (rows : List Row) (dims : List (List Row)) (cut : Cut) (before after : Option (List ℕ)) (ended : Ended) (gather : GatherSpec) : Type 0 where
@@ -246,9 +247,3 @@ pub record IsAnswered (input : Input) (before after : Option (List ℕ)) (ended 
   pub printed : Appends before after (output_text plan (meaning plan dims (numbered rows)))
   pub ends : ended ≡ ended_as (meaning plan dims (numbered rows))
   pub state : gather ≡ record { job = record { load = 0; plan = plan; cut = input.cut }; cells = joined input.cut (own_answers plan dims input.cut rows (range_with_len 0 (length input.cut))) }
-
--- a refusal at the end: out of memory, or the writer failed
-abbrev pub IsEndRefusal : WholeFault → Type 0
-IsEndRefusal fault.Memory = ⊤
-IsEndRefusal fault.Writer = ⊤
-IsEndRefusal _ = ⊥

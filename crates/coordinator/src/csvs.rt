@@ -2,7 +2,8 @@
 ghost use Rattle.std.specs.Prelude.{◌≡◌, ◌≢◌, ℕ, List, map, find, option_map, Ok, Err, OnOk, IfErr};
 ghost use Rattle.std.specs.Str.{bytes_eq};
 ghost use Rattle.meaning.specs.Results.{all_ok};
-ghost use Rattle.coordinator.specs.Whole.{Gives, csv_of, files_in, joined_csvs};
+ghost use Rattle.meaning.specs.Wanting.{GivesIfMemory};
+ghost use Rattle.coordinator.specs.Whole.{csv_of, files_in, joined_csvs};
 ghost use Rattle.coordinator.specs.declared.whole_fault.WholeFault.TheVariants as fault;
 
 use crate::whole_fault::WholeFault;
@@ -19,7 +20,7 @@ fn find_csv<'a>(csvs: &[(&'a str, &'a [u8])], table: &str) -> Option<&'a [u8]>
 
 /// The CSV file of a table.
 pub fn csv_of<'a>(csvs: &[(&'a str, &'a [u8])], table: &Text) -> Result<&'a [u8], WholeFault>
-    ensures { Gives (λ csv. csv.now) result (csv_of (files_in csvs.now) table.now) }
+    ensures { GivesIfMemory fault.Memory (λ csv. csv.now) result (csv_of (files_in csvs.now) table.now) }
 {
     match find_csv(csvs, table.as_str()) {
         Some(csv) => Ok(csv),

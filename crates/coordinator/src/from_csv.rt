@@ -19,7 +19,7 @@ ghost use Rattle.meaning.specs.WellFormedPlan.{IsWellFormedPlan};
 ghost use Rattle.meaning.specs.Order.{Row};
 ghost use Rattle.coordinator.specs.Fragment.{AreFragments, AreRowsOfJob, AreTableFiles, IsFileable};
 ghost use Rattle.coordinator.specs.Reporting.{ended_as};
-ghost use Rattle.coordinator.specs.Whole.{IsAnswered, IsAnsweredOver, IsLoaded, IsPrepared, IsPrepareRefused, IsTablesRefused, IsRefused, IsEndRefusal, files_in, input_of, is_vector_length};
+ghost use Rattle.coordinator.specs.Whole.{IsAnswered, IsAnsweredOver, AreTablesLoaded, IsPrepared, IsPrepareRefused, IsTablesRefused, IsRefused, IsEndRefusal, files_in, input_of, is_vector_length};
 
 use crate::files::{LOAD, Rows, file_of, lend_files};
 use crate::gather::Gather;
@@ -215,7 +215,7 @@ fn checked_tables(
     vector_len: usize,
 ) -> Result<Tables, WholeFault>
     requires catalog { IsWellFormed catalog.now }
-    ensures loaded { IfOk result (λ tables. IsLoaded catalog.now (files_in csvs.now) cut.now plan.now tables.fragments.items tables.dims.items) }
+    ensures loaded { IfOk result (λ tables. AreTablesLoaded catalog.now (files_in csvs.now) cut.now plan.now tables.fragments.items tables.dims.items) }
     ensures vectors { OnOk result (is_vector_length vector_len ≡ true) }
     ensures refused { IfErr result (IsTablesRefused catalog.now (files_in csvs.now) cut.now plan.now vector_len) }
 {

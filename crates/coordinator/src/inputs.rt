@@ -6,7 +6,7 @@ ghost use Rattle.meaning.specs.WellFormedPlan.{IsWellFormedPlan};
 ghost use Rattle.last_step.specs.Fitting.{IsTypedOverGroups};
 ghost use Rattle.partial_codec.specs.Job.{IsPlanOfJob};
 ghost use Rattle.planner.specs.Planned.{planned};
-ghost use Rattle.coordinator.specs.Whole.{IsPlanned, IsTreeRefused, IsPlanRefused, IsLoaded, files_in, tables_of};
+ghost use Rattle.coordinator.specs.Whole.{IsPlanned, IsTreeRefused, IsPlanRefused, AreTablesLoaded, files_in, tables_of};
 ghost use Rattle.coordinator.specs.declared.whole_fault.WholeFault.TheVariants as fault;
 
 use crate::csvs::{check_csvs, csv_of};
@@ -67,7 +67,7 @@ pub fn load_tables(
     plan: &Plan,
 ) -> Result<Tables, WholeFault>
     requires catalog { IsWellFormed catalog.now }
-    ensures loaded { IfOk result (λ tables. IsLoaded catalog.now (files_in csvs.now) cut.now plan.now tables.fragments.items tables.dims.items) }
+    ensures loaded { IfOk result (λ tables. AreTablesLoaded catalog.now (files_in csvs.now) cut.now plan.now tables.fragments.items tables.dims.items) }
     ensures refused { IfErr result (λ e. e ≢ fault.Memory → tables_of catalog.now (files_in csvs.now) cut.now plan.now ≡ Err e) }
 {
     let csv = csv_of(csvs, &plan.fact.name)?;

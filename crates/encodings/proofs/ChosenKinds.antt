@@ -17,8 +17,7 @@ use Rattle.encodings.specs.declared.kind.Kind.{Kind}
 use Rattle.encodings.specs.declared.kind.Kind.TheVariants as kind
 use Rattle.encodings.specs.Block.{mask_length}
 use Rattle.encodings.specs.Tight.{body_size, form_size, cells_for, is_chosen}
-use Rattle.encodings.specs.Written.{AreRuns, AreEntries, at_places}
-use Rattle.encodings.proofs.EncodedBodies.{runs_heads}
+use Rattle.encodings.specs.Written.{AreEntries, at_places}
 use Rattle.encodings.proofs.EncodedDictionaries.{entries_set}
 use Rattle.encodings.specs.Choice.{IsLeastOfFour, IsLeastOfThree, IsDictionarySize}
 
@@ -107,13 +106,6 @@ least_text_dictionary (v ∷ cells) h =
     four : (vs : List Value) → 1 ≤ length vs → 4 ≤ sum_by (λ u. 4 + length (bytes u)) vs
     four [] h = absurd (omega arith)
     four (v ∷ vs) h = let e = sum_by-cons (λ u. 4 + length (bytes u)) v vs in omega (arith, e)
-
-pub runs_size : (col_type : ColType) (cells : List Value) (starts lengths : List ℕ) (n form : ℕ) → AreRuns cells starts lengths → n ≡ length starts → form ≡ form_size col_type (at_places cells starts) → 4 + 2 * n + form ≡ body_size kind.Runs col_type cells
-runs_size col_type cells starts lengths n form r p q =
-    let heads = at_places cells starts in
-    let long : length heads ≡ length starts = length-map starts (λ place. get_or cells place Null) in
-    let size : 4 + 2 * n + form ≡ 4 + 2 * length heads + form_size col_type heads = rw (p, q, long) refl in
-    size ∙ ap (λ hs. 4 + 2 * length hs + form_size col_type hs) (sym (runs_heads cells starts lengths r))
 
 pub dictionary_size : (col_type : ColType) (cells : List Value) (places codes : List ℕ) (form rows : ℕ) → AreEntries cells places codes → form ≡ form_size col_type (at_places cells places) → rows ≡ length cells → 4 + form + 2 * rows ≡ body_size kind.Dict col_type cells
 dictionary_size col_type cells places codes form rows d p q =

@@ -330,13 +330,5 @@ runs_few cells starts lengths r =
     let same : length lengths ≡ length starts = r.a_length_each in
     omega arith
 
--- the heads of the runs are the cells where they begin
-pub runs_heads : (cells : List Value) (starts lengths : List ℕ) → AreRuns cells starts lengths → run_heads cells ≡ at_places cells starts
-runs_heads cells starts lengths r =
-    let heads = at_places cells starts in
-    let heads_long : length heads ≡ length starts = length-map starts (λ place. get_or cells place Null) in
-    let pairs : length lengths ≡ length heads = r.a_length_each ∙ sym heads_long in
-    ap run_heads (sym r.cells_are) ∙ run_heads-repeated heads lengths pairs r.not_empty r.apart
-
 pub plain_text_size : (ts : List (List ℕ)) → body_size kind.Plain of_type.Text (map Text ts) ≡ 4 * length ts + length (concat ts)
 plain_text_size ts = text_size ts

@@ -1,5 +1,5 @@
 -- Frames: the flags that one pass over the offsets gathers, and the integers that the offsets give.
-use Rattle.std.proofs.Common.{◌≡◌, ℕ, ◌+◌, ◌-◌, ◌*◌, ◌/◌, ◌^◌, ◌<◌, ◌≤◌, ℤ, pos, negsuc, ◌+ℤ◌, ◌≤ℤ◌, Bool, true, false, ◌&&◌, ◌||◌, ◌==◌, nat_le, nat_lt, List, [], ◌∷◌, ⊎_elim, length, get_or, take, map, refl, sym, ap, ◌∙◌, arith}
+use Rattle.std.proofs.Common.{◌≡◌, ℕ, ◌+◌, ◌-◌, ◌*◌, ◌/◌, ◌^◌, ◌<◌, ◌≤◌, ℤ, pos, negsuc, ◌+ℤ◌, ◌≤ℤ◌, Bool, true, ◌&&◌, ◌||◌, ◌==◌, nat_le, nat_lt, List, ⊎_elim, length, get_or, take, map, sym, ap, ◌∙◌, arith}
 use Rattle.std.specs.List.{list_any, list_all, range_with_len}
 use Rattle.std.proofs.lemmas.Bool.Decides.{same_from_decides, Decides-ltb, Decides-eqb, leb_tells}
 use Rattle.std.proofs.lemmas.Bool.{false≢true}
@@ -9,7 +9,7 @@ use mir.Val.{to_z, of_z}
 use Rattle.std.specs.Int.RustNames.{FitsSigned}
 use Rattle.std.proofs.lemmas.Int.{ints, to_z-of_z}
 use Rattle.std.proofs.lemmas.List.{get_or-map, length-map}
-use Rattle.std.proofs.lemmas.List.Folds.{list_any_more, list_all_more}
+use Rattle.std.proofs.lemmas.List.Folds.{list_all_more}
 use Rattle.std.proofs.lemmas.List.FromFn.{get_or-map-range_with_len, length-range_with_len}
 use Rattle.meaning.specs.Operators.{fits_i64}
 use Rattle.encodings.specs.Block.{bytes_of_bits, offset_at, offsets_of, frame_integers, is_frame, base_of, width_of, packed_of}
@@ -17,35 +17,19 @@ use Rattle.encodings.specs.Bytes.{number_of}
 use Rattle.encodings.proofs.RowCells.{all_at}
 use Rattle.encodings.proofs.Steps.{both_true}
 
-Decides-leb : (a b : ℕ) → Decides (nat_le a b) (a ≤ b)
+pub Decides-leb : (a b : ℕ) → Decides (nat_le a b) (a ≤ b)
 Decides-leb a b =
     ⊎_elim (λ t. (λ _. t.1, λ _. t.0)) (λ f. (λ e. absurd (false≢true (sym f.0 ∙ e)), λ h. (let k : b < a = f.1 in absurd (omega arith)))) (leb_tells a b)
-
-pub list_all_same : (p q : ℕ → Bool) → ((x : ℕ) → p x ≡ q x) → (xs : List ℕ) → list_all p xs ≡ list_all q xs
-list_all_same p q same [] = refl
-list_all_same p q same (x ∷ xs) = ap (λ b. b && list_all p xs) (same x) ∙ ap (λ b. q x && b) (list_all_same p q same xs)
-
-pub any_more : (p : ℕ → Bool) (xs : List ℕ) (i x : ℕ) (r b : Bool) → i < length xs → x ≡ get_or xs i 0 → r ≡ list_any p (take i xs) → b ≡ p x → (r || b) ≡ list_any p (take (i + 1) xs)
-any_more p xs i x r b h read known test =
-    ap (λ k. k || b) known ∙ ap (λ k. list_any p (take i xs) || k) (test ∙ ap p read) ∙ sym (list_any_more p xs i 0 h)
 
 pub all_more : (p : ℕ → Bool) (xs : List ℕ) (i x : ℕ) (r b : Bool) → i < length xs → x ≡ get_or xs i 0 → r ≡ list_all p (take i xs) → b ≡ p x → (r && b) ≡ list_all p (take (i + 1) xs)
 all_more p xs i x r b h read known test =
     ap (λ k. k && b) known ∙ ap (λ k. list_all p (take i xs) && k) (test ∙ ap p read) ∙ sym (list_all_more p xs i 0 h)
 
-and_grouped : (a b c : Bool) → ((a && b) && c) ≡ (a && (b && c))
-and_grouped true b c = refl
-and_grouped false b c = refl
-
-pub flags_joined : (z w h n a b c : Bool) → z ≡ a → h ≡ b → n ≡ c → ((z && (w || h)) && n) ≡ (a && ((w || b) && c))
-flags_joined z w h n a b c e f g =
-    and_grouped z (w || h) n ∙ ap (λ k. k && ((w || h) && n)) e ∙ ap (λ k. a && ((w || k) && n)) f ∙ ap (λ k. a && ((w || b) && k)) g
-
 pub fits_bounds : (z : ℤ) → fits_i64 z ≡ true → (negsuc 9223372036854775807 ≤ℤ z) × (z ≤ℤ pos 9223372036854775807)
 fits_bounds (pos n) e = let h : n < 9223372036854775808 = (Decides-ltb n 9223372036854775808).0 e in (omega (arith, ints), omega (arith, ints))
 fits_bounds (negsuc n) e = let h : n < 9223372036854775808 = (Decides-ltb n 9223372036854775808).0 e in (omega (arith, ints), omega (arith, ints))
 
-fits_below : (z : ℤ) → negsuc 9223372036854775807 ≤ℤ z → Decides (fits_i64 z) (z ≤ℤ pos 9223372036854775807)
+pub fits_below : (z : ℤ) → negsuc 9223372036854775807 ≤ℤ z → Decides (fits_i64 z) (z ≤ℤ pos 9223372036854775807)
 fits_below (pos n) low = (λ e. (fits_bounds (pos n) e).1, λ h. (Decides-ltb n 9223372036854775808).1 (omega (arith, ints)))
 fits_below (negsuc n) low = (λ e. (fits_bounds (negsuc n) e).1, λ h. (Decides-ltb n 9223372036854775808).1 (omega (arith, ints)))
 

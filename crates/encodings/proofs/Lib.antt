@@ -14,9 +14,12 @@ pub mod EncodedRuns
 pub mod Ends
 pub mod Frames
 pub mod LaneGroups
+pub mod Marks
+pub mod MaskWords
 pub mod NullRuns
 pub mod Nulls
 pub mod NumberEntries
+pub mod OffsetPieces
 pub mod PassedRuns
 pub mod ReadBodies
 pub mod ReadLists
@@ -25,6 +28,8 @@ pub mod ReadVectors
 pub mod RowCells
 pub mod RowCodes
 pub mod RowNumbers
+pub mod RunSizes
 pub mod Steps
+pub mod TextCuts
 pub mod UnpackNumbers
 pub mod Worked

@@ -1,5 +1,5 @@
 -- Rows that get numbers one after the other.
-use Rattle.std.proofs.Common.{◌≡◌, ℕ, ◌+◌, ◌<◌, ◌≤◌, Bool, true, false, cond, List, [], ◌∷◌, ◌++◌, length, get_or, nat_lt, Option, Some, refl, sym, ap, ◌∙◌, arith}
+use Rattle.std.proofs.Common.{◌≡◌, ℕ, ◌+◌, ◌<◌, ◌≤◌, true, List, [], ◌∷◌, ◌++◌, length, get_or, nat_lt, refl, sym, ap, ◌∙◌, arith}
 use Rattle.std.specs.List.{list_all}
 use Rattle.std.specs.Cmp.{Equal-is}
 use Rattle.std.proofs.lemmas.Bool.{lt-ltb, ltb-true}
@@ -9,7 +9,7 @@ use Rattle.meaning.specs.declared.value.Value.TheVariants.{Null}
 use Rattle.meaning.specs.Order.{same_value, value_cmp}
 use Rattle.meaning.proofs.Orders.{value_exact}
 use Rattle.meaning.proofs.Tests.{all_append, all_imply, all_first, all_rest, both}
-use Rattle.encodings.specs.Entries.{AreNumbers, Knows}
+use Rattle.encodings.specs.Entries.{AreNumbers}
 use Rattle.encodings.specs.Written.{at_places}
 
 pub same_is : (v w : Value) → same_value v w ≡ true → v ≡ w
@@ -68,16 +68,3 @@ number_known cells firsts of_rows row number h l below same =
           ∙ (ap (λ vs. vs ++ get_or cells row Null ∷ []) h.cells_are
           ∙ sym (take_more cells row Null l)));
     }
-
-pub knows_more : {K : Type 0} (eq : K → K → Bool) (before after : K → Option ℕ) (value : K → Value) (cells : List Value) (firsts : List ℕ) (row number : ℕ) (cell : K) → Knows before value cells firsts → ((q : K) → after q ≡ cond (eq cell q) (Some number) (before q)) → ((q : K) → eq cell q ≡ true → value cell ≡ value q) → get_or cells row Null ≡ value cell → number ≡ length firsts → Knows after value cells (firsts ++ row ∷ [])
-knows_more {K} eq before after value cells firsts row number cell knows updates same here e k n found =
-    let longer = length_push firsts row in
-    elim (eq cell k) as (λ b. eq cell k ≡ b → cond b (Some number) (before k) ≡ Some n → (n < length (firsts ++ row ∷ [])) × (get_or cells (get_or (firsts ++ row ∷ []) n 0) Null ≡ value k)) [
-      | true ↦ λ is put.
-          let n_is : number ≡ n = cc in
-          (omega arith, ap (λ p. get_or cells p Null) (get_or_push firsts row 0 n (sym e ∙ n_is)) ∙ (here ∙ same k is))
-      | false ↦ λ is kept.
-          let old = knows k n kept in
-          let low = old.0 in
-          (omega arith, ap (λ p. get_or cells p Null) (get_or_append_left firsts (row ∷ []) 0 n low) ∙ old.1)
-    ] refl (sym (updates k) ∙ found)

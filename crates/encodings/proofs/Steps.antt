@@ -1,8 +1,8 @@
 -- Loops that leave where a test fails, against a test of all elements.
-use Rattle.std.proofs.Common.{◌≡◌, ℕ, suc, ◌+◌, ◌-◌, ◌<◌, ◌≤◌, Bool, true, false, ◌&&◌, List, length, get_or, drop, refl, sym, ap, ◌∙◌, arith}
+use Rattle.std.proofs.Common.{◌≡◌, ℕ, zero, suc, ◌+◌, ◌-◌, ◌<◌, ◌≤◌, Bool, true, false, ◌&&◌, List, ⊎_elim, length, get_or, drop, refl, sym, ap, ◌∙◌, arith}
 use Rattle.std.specs.List.{list_all, range_with_len}
 use Rattle.std.proofs.lemmas.List.{at_drop_more, at_drop_all}
-use Rattle.std.proofs.lemmas.Bool.{false≢true}
+use Rattle.std.proofs.lemmas.Bool.{false≢true, cases_lt}
 
 pub and_true : (a b r : Bool) → (a && b) ≡ r → a ≡ true → b ≡ r
 and_true true b r e h = e
@@ -25,6 +25,18 @@ module _ {X : Type 0} (p : X → Bool) (xs : List X) (d : X) (r : Bool) where
 
   pub all_ends : (i : ℕ) → length xs ≤ i → list_all p (drop i xs) ≡ r → true ≡ r
   all_ends i h e = sym (at_drop_all (list_all p) xs i h) ∙ e
+
+-- elements that are passed over
+pub all_skips : {X : Type 0} (p : X → Bool) (xs : List X) (d : X) (r : Bool) (n i : ℕ) → ((j : ℕ) → i ≤ j → j < i + n → j < length xs → p (get_or xs j d) ≡ true) → list_all p (drop i xs) ≡ r → list_all p (drop (i + n) xs) ≡ r
+all_skips p xs d r zero i pass e =
+    let same : i ≡ i + 0 = omega arith in
+    ap (λ k. list_all p (drop k xs)) (sym same) ∙ e
+all_skips p xs d r (suc n) i pass e =
+    let same : i + suc n ≡ i + 1 + n = omega arith in
+    let next : list_all p (drop (i + 1) xs) ≡ r =
+    ⊎_elim (λ h. all_keeps p xs d r i h e (pass i (omega arith) (omega arith) h))
+    (λ h. at_drop_all (list_all p) xs (i + 1) (omega arith) ∙ sym (at_drop_all (list_all p) xs i h) ∙ e) (cases_lt i (length xs)) in
+    ap (λ k. list_all p (drop k xs)) same ∙ all_skips p xs d r n (i + 1) (λ j a b l. pass j (omega arith) (omega arith) l) next
 
 pub both_true : (a b : Bool) → (a && b) ≡ true → (a ≡ true) × (b ≡ true)
 both_true true b e = (refl, e)

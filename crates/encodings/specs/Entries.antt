@@ -1,6 +1,6 @@
 -- How a dictionary is made of cells: rows get numbers, the numbers are put in the order of their cells, and each gets
 -- the place of its cell among the entries.
-use Rattle.std.specs.Prelude.{◌≡◌, ℕ, ◌+◌, ◌-◌, ◌<◌, ◌≤◌, nat_lt, true, false, List, [], ◌∷◌, ◌++◌, length, take, get_or, Option, Some, All, Contains}
+use Rattle.std.specs.Prelude.{◌≡◌, ℕ, ◌+◌, ◌-◌, ◌<◌, ◌≤◌, nat_lt, true, false, List, [], ◌∷◌, ◌++◌, length, take, get_or, All, Contains}
 use Rattle.std.specs.List.{list_all}
 use Rattle.std.specs.Ordering.{is_lt}
 use Rattle.meaning.specs.declared.value.Value.{Value}
@@ -14,11 +14,6 @@ pub record AreNumbers (cells : List Value) (firsts of_rows : List ℕ) (rows : �
   pub few : length firsts ≤ rows
   pub known : list_all (λ number. nat_lt number (length firsts)) of_rows ≡ true
   pub cells_are : at_places (at_places cells firsts) of_rows ≡ take rows cells
-
--- a number that is looked up by a cell has this cell in its first row
-abbrev pub Knows : {K : Type 0} → (K → Option ℕ) → (K → Value) → List Value → List ℕ → Type 0
-Knows {K} lookup value cells firsts =
-    (k : K) (number : ℕ) → lookup k ≡ Some number → (number < length firsts) × (get_or cells (get_or firsts number 0) Null ≡ value k)
 
 -- each of the first `count` cells stands beside its place, and no other
 pub record AreNumbered {K : Type 0} (value : K → Value) (cells : List Value) (numbered : List (K × ℕ)) (count : ℕ) : Type 0 where

@@ -4,6 +4,7 @@ pub mod Bytes
 pub mod CellOrder
 pub mod Choice
 pub mod Entries
+pub mod Homes
 pub mod Lent
 pub mod Packing
 pub mod Reading

@@ -1,17 +1,17 @@
 //! What stands in the cell of each row, NULL or not.
-ghost use Rattle.std.specs.Prelude.{◌≡◌, ◌/◌, ◌<◌, ◌≤◌, ◌||◌, true, false, not, if◌then◌else◌, replicate, length, get_or, map, zip};
+ghost use Rattle.std.specs.Prelude.{◌≡◌, ◌+◌, ◌*◌, ◌/◌, ◌<◌, ◌≤◌, ◌&&◌, ◌||◌, true, false, not, if◌then◌else◌, replicate, length, get_or, map, zip};
 ghost use Rattle.std.specs.List.{list_all, range_with_len};
 ghost use Rattle.meaning.specs.Limits.{row_group_rows};
 ghost use Rattle.meaning.specs.Order.{value_in};
 ghost use Rattle.meaning.specs.declared.value.Value.TheVariants.{Null};
 ghost use Rattle.encodings.specs.Block.{bit_at, bytes_of_bits, mask_length, body_cells, is_body, is_blank};
+ghost use Rattle.encodings.specs.Reading.{are_blank_from};
 
 use crate::checking::{are_runs, is_dictionary};
 use crate::dictionary::dictionary_cell;
-use crate::frame::{frame_cell, is_frame};
+use crate::frame::{frame_cell, is_frame, window_at};
 use crate::kind::Kind;
 use crate::null_runs::are_null_runs_blank;
-use crate::numbers::has_bit;
 use crate::runs::run_cell;
 use crate::values::{is_blank, is_values_form, value_at};
 use meaning::value::{ColType, ValueRef};
@@ -45,25 +45,38 @@ pub fn cell_at(kind: Kind, col_type: ColType, rows: usize, body: &[u8], row: usi
     }
 }
 
-/// Whether a row has a value, or the blank of its type in its cell.
-fn is_blank_if_null(
+/// Whether the blank of the type stands in the cells of the 64 rows of a word of the mask, which begins at a byte of it,
+/// as far as their bits are set.
+fn are_marked_blank(
     kind: Kind,
     col_type: ColType,
     rows: usize,
     mask: &[u8],
     body: &[u8],
-    row: usize,
+    place: usize,
 ) -> bool
     requires form { is_body kind col_type rows body.now ≡ true }
-    requires within { row < rows }
     requires few { rows ≤ row_group_rows }
-    requires covered { row / 8 < length mask.now }
-    ensures { result ≡ (not (bit_at mask.now row) || is_blank (get_or (body_cells kind col_type rows body.now) row Null)) }
+    requires within { place ≤ length mask.now }
+    requires covered { length mask.now ≡ bytes_of_bits rows }
+    ensures { let cells = body_cells kind col_type rows body.now in
+        (result && are_blank_from (8 * place + 64) rows mask.now cells) ≡ are_blank_from (8 * place) rows mask.now cells }
 {
-    if !has_bit(mask, row) {
-        return true;
+    let mut marks = window_at(mask, place);
+    let mut row = 8 * place;
+    while marks != 0 {
+        let clear = marks.trailing_zeros();
+        row += clear as usize;
+        if rows <= row {
+            return true;
+        }
+        if !is_blank(cell_at(kind, col_type, rows, body, row)) {
+            return false;
+        }
+        row += 1;
+        marks = marks >> clear >> 1;
     }
-    is_blank(cell_at(kind, col_type, rows, body, row))
+    true
 }
 
 // Whether the blank of the type stands in the cell of each row whose bit is set.
@@ -77,10 +90,10 @@ fn are_null_cells_blank(
     requires form { is_body kind col_type rows body.now ≡ true }
     requires few { rows ≤ row_group_rows }
     requires covered { length mask.now ≡ bytes_of_bits rows }
-    ensures { result ≡ list_all (λ p. not p.0 || is_blank p.1) (zip (map (bit_at mask.now) (range_with_len 0 rows)) (body_cells kind col_type rows body.now)) }
+    ensures { result ≡ are_blank_from 0 rows mask.now (body_cells kind col_type rows body.now) }
 {
-    for row in 0..rows {
-        if !is_blank_if_null(kind, col_type, rows, mask, body, row) {
+    for k in 0..(rows + 63) / 64 {
+        if !are_marked_blank(kind, col_type, rows, mask, body, 8 * k) {
             return false;
         }
     }

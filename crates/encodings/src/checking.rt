@@ -1,8 +1,8 @@
 //! Whether bytes are the mask or the body of a block.
-ghost use Rattle.std.specs.Prelude.{◌≡◌, ◌+◌, ◌*◌, ◌/◌, ◌<◌, ◌≤◌, ◌==◌, ◌&&◌, true, false, not, length, nat_le, nat_lt, sum, zip, get_or, map};
-ghost use Rattle.std.specs.List.{list_all, range_with_len};
+ghost use Rattle.std.specs.Prelude.{◌≡◌, ◌+◌, ◌*◌, ◌/◌, ◌<◌, ◌≤◌, ◌==◌, ◌&&◌, true, false, length, nat_le, nat_lt, sum};
+ghost use Rattle.std.specs.List.{list_all};
 ghost use Rattle.meaning.specs.Limits.{row_group_rows};
-ghost use Rattle.encodings.specs.Block.{mask_length, is_mask, is_dictionary, are_runs, bit_at};
+ghost use Rattle.encodings.specs.Block.{mask_length, is_mask, is_dictionary, are_runs};
 ghost use Rattle.encodings.specs.Bytes.{shorts};
 
 use crate::dictionary::{code_bytes, entry_bytes};
@@ -33,17 +33,16 @@ pub fn is_mask(rows: usize, mask: &[u8]) -> bool
     true
 }
 
-/// Whether `rows` codes are below the number of entries.
-fn are_codes(rows: usize, bytes: &[u8], count: usize) -> bool
+/// Whether `rows` codes are below the number of entries. All are looked at, eight at a time as it is compiled.
+fn are_codes(rows: usize, bytes: &[u8], count: u16) -> bool
     requires { rows ≤ length bytes.now / 2 }
     ensures { result ≡ list_all (λ code. nat_lt code count) (shorts rows bytes.now) }
 {
+    let mut all = true;
     for i in 0..rows {
-        if short_at(bytes, i) as usize >= count {
-            return false;
-        }
+        all &= short_at(bytes, i) < count;
     }
-    true
+    all
 }
 
 /// Whether `count` lengths of runs are at least 1, and `rows` together.
@@ -82,7 +81,7 @@ pub fn is_dictionary(col_type: ColType, rows: usize, body: &[u8]) -> bool
     if !is_ascending(col_type, count, entries) {
         return false;
     }
-    are_codes(rows, code_bytes(rows, body), count)
+    are_codes(rows, code_bytes(rows, body), count as u16)
 }
 
 /// Whether bytes are runs over `rows` rows, and no more.

@@ -2,7 +2,7 @@
 ghost use Rattle.std.specs.Prelude.{◌≡◌, ◌+◌, ◌-◌, ◌*◌, ◌/◌, ◌<◌, ◌≤◌, true, length, drop, get_or};
 ghost use Rattle.meaning.specs.Order.{value_in};
 ghost use Rattle.meaning.specs.declared.value.Value.TheVariants.{Null};
-ghost use Rattle.encodings.specs.Block.{is_dictionary, dictionary_cells, entry_bytes, entries_of, codes_of};
+ghost use Rattle.encodings.specs.Block.{is_dictionary, dictionary_cells, entry_bytes};
 ghost use Rattle.encodings.specs.Lent.{dictionary_of};
 
 use crate::numbers::{leading_count, short_at};

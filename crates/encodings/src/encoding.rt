@@ -1,10 +1,10 @@
 //! Rows of a column as the payload of a block.
-ghost use Rattle.std.specs.Prelude.{◌≡◌, ◌≢◌, ◌≤◌, ◌<◌, ◌-◌, [], ◌++◌, false, true, length, map, take, drop, IfOk, IfErr, OnOk};
+ghost use Rattle.std.specs.Prelude.{◌≡◌, ◌≤◌, ◌<◌, ◌-◌, false, true, length, map, take, drop, IfOk, IfErr, OnOk};
 ghost use Rattle.std.specs.List.{list_all};
 ghost use Rattle.meaning.specs.Limits.{row_group_rows};
 ghost use Rattle.meaning.specs.declared.value.ColType.TheVariants as of_type;
 ghost use Rattle.meaning.specs.declared.value.Value.TheVariants.{Int, Text};
-ghost use Rattle.columns.specs.Column.{is_of, IsColumn};
+ghost use Rattle.columns.specs.Column.{is_of};
 ghost use Rattle.encodings.specs.Block.{is_block, values_of};
 ghost use Rattle.encodings.specs.Tight.{between, cells_for, is_tight, payload_size};
 ghost use Rattle.encodings.specs.Written.{PutsBody, PutsMask, FaultOf, block_of};

@@ -1,5 +1,5 @@
 //! Numbers of a fixed width in bits, packed without gaps, the first in the lowest bits.
-ghost use Rattle.std.specs.Prelude.{◌≡◌, ◌≤◌, ◌<◌, ◌+◌, ◌*◌, ◌^◌, ◌++◌, List, ℕ, length, map, IfOk, OnOk, true};
+ghost use Rattle.std.specs.Prelude.{◌≡◌, ◌≤◌, ◌<◌, ◌+◌, ◌*◌, ◌^◌, List, ℕ, length, map, IfOk, OnOk, true};
 ghost use Rattle.std.specs.Prelude.{◌-ℤ◌, nat_lt, unsigned_abs};
 ghost use Rattle.std.specs.List.{list_all};
 ghost use Rattle.encodings.specs.Packing.{Packs, ArePacked, packed, bit_of};

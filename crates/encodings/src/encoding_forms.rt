@@ -1,5 +1,5 @@
 //! Cells one by one: integers, or where each text ends and then the texts.
-ghost use Rattle.std.specs.Prelude.{◌≡◌, ◌≤◌, ◌<◌, nat_lt, ◌+◌, ◌-◌, ◌++◌, [], length, map, take, drop, pos, get_or, true, OnOk};
+ghost use Rattle.std.specs.Prelude.{◌≡◌, ◌≤◌, ◌<◌, nat_lt, ◌+◌, ◌-◌, ◌++◌, [], length, take, drop, get_or, true, OnOk};
 ghost use Rattle.std.specs.List.{concat, flat_map, list_all};
 ghost use Rattle.meaning.specs.Limits.{row_group_rows};
 ghost use Rattle.columns.specs.Column.{is_text};

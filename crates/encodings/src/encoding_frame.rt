@@ -1,5 +1,5 @@
 //! A frame of reference: the least integer, and how far each integer is above it.
-ghost use Rattle.std.specs.Prelude.{◌≡◌, ◌≤◌, ◌<◌, ◌-◌, ◌-ℤ◌, ◌∷◌, false, true, length, map, take, drop, unsigned_abs, OnOk};
+ghost use Rattle.std.specs.Prelude.{◌≡◌, ◌≤◌, ◌<◌, ◌-◌, false, true, length, map, OnOk};
 ghost use Rattle.std.specs.List.{list_all};
 ghost use Rattle.std.specs.Ordering.{int_cmp, ord_min, ord_max};
 ghost use Rattle.meaning.specs.Limits.{row_group_rows};

@@ -1,11 +1,10 @@
 //! A frame of reference: a base, a width in bits, and an offset of that width for each row.
-ghost use Rattle.std.specs.Prelude.{◌≡◌, ℤ, pos, ◌+ℤ◌, ◌+◌, ◌*◌, ◌/◌, ◌%◌, ◌^◌, ◌-◌, ◌<◌, ◌≤◌, ◌==◌, ◌&&◌, ◌||◌, true, length, take, drop, get_or, map, nat_le, nat_lt};
-ghost use Rattle.std.specs.List.{list_any, list_all, range_with_len};
+ghost use Rattle.std.specs.Prelude.{◌≡◌, pos, ◌+◌, ◌*◌, ◌/◌, ◌%◌, ◌^◌, ◌-◌, ◌<◌, ◌≤◌, ◌==◌, true, length, take, drop, get_or, nat_lt};
 ghost use Rattle.meaning.specs.Limits.{row_group_rows};
 ghost use Rattle.encodings.specs.Block.{offset_at, is_frame, frame_integers};
-ghost use Rattle.meaning.specs.Operators.{fits_i64};
 ghost use Rattle.encodings.specs.Bytes.{number_of};
 
+use crate::frame_offsets::are_offsets;
 use crate::numbers::integer_at;
 
 /// Up to 8 bytes as one number.
@@ -78,46 +77,6 @@ fn are_unused_clear(bits: usize, packed: &[u8]) -> bool
     u64::from(packed[last]) < 1 << (bits - 8 * last)
 }
 
-/// The least number that takes a width in bits.
-fn least_of_width(width: usize) -> u64
-    requires { width ≤ 64 }
-    ensures { result ≡ 2 ^ (width - 1) }
-{
-    if width == 0 {
-        return 1;
-    }
-    1 << (width - 1)
-}
-
-/// How far it is from a base up to the greatest integer.
-fn room_above(base: i64) -> u64
-    ensures { base +ℤ pos result ≡ pos 9223372036854775807 }
-{
-    (i128::from(i64::MAX) - i128::from(base)) as u64
-}
-
-/// Whether some offset is 0, one takes the whole width, and each is within the integers.
-fn are_offsets(width: usize, packed: &[u8], rows: usize, base: i64) -> bool
-    requires narrow { width ≤ 64 }
-    requires few { rows ≤ row_group_rows }
-    requires within { width * rows ≤ 8 * length packed.now }
-    ensures { let offsets = map (offset_at width packed.now) (range_with_len 0 rows) in
-        result ≡ (list_any (λ offset. offset == 0) offsets && ((width == 0 || list_any (λ offset. nat_le (2 ^ (width - 1)) offset) offsets) && list_all fits_i64 (map (λ offset. base +ℤ pos offset) offsets))) }
-{
-    let least = least_of_width(width);
-    let room = room_above(base);
-    let mut zero = false;
-    let mut high = false;
-    let mut within = true;
-    for i in 0..rows {
-        let offset = offset_at(width, packed, i);
-        zero |= offset == 0;
-        high |= least <= offset;
-        within &= offset <= room;
-    }
-    zero & ((width == 0) | high) & within
-}
-
 /// Whether bytes are a frame of `rows` offsets, and no more.
 pub fn is_frame(rows: usize, body: &[u8]) -> bool
     requires { rows ≤ row_group_rows }
@@ -137,7 +96,7 @@ pub fn is_frame(rows: usize, body: &[u8]) -> bool
     if !are_unused_clear(rows * width, packed) {
         return false;
     }
-    are_offsets(width, packed, rows, integer_at(body, 0))
+    are_offsets(body[8], packed, rows, integer_at(body, 0))
 }
 
 /// What stands in the cell of a row.

@@ -1,16 +1,20 @@
 //! A number for each row, the same only for rows with equal cells.
-ghost use Rattle.std.specs.Prelude.{◌≡◌, ◌<◌, ◌≤◌, ◌+◌, [], ◌∷◌, ◌++◌, true, length, map, get_or, Some, OnOk, IfOk, IfSome};
-ghost use Rattle.std.specs.HashMap.{get, Updates};
+ghost use Rattle.std.specs.Prelude.{◌≡◌, ◌<◌, ◌≤◌, ◌+◌, [], ◌∷◌, ◌++◌, nat_lt, true, length, map, get_or, OnOk, IfOk, IfErr};
+ghost use Rattle.std.specs.List.{list_all};
 ghost use Rattle.meaning.specs.Limits.{row_group_rows};
-ghost use Rattle.encodings.specs.Entries.{AreNumbers, Knows};
+ghost use Rattle.meaning.specs.declared.value.Value.TheVariants.{Null};
+ghost use Rattle.encodings.specs.Entries.{AreNumbers};
 
 use crate::cell::Cell;
 use std::alloc::{AllocError, Global};
-use std::collections::HashMap;
 use std::mem::drop;
 
-/// How many different cells are numbered by a map at most. More of them are put in order sooner than looked up.
-const FEW: usize = 1024;
+/// How many slots there are, twice as many as there may be numbers.
+const SLOTS: usize = 16_384;
+
+/// In how many slots from its home on a cell is looked for. A cell that isn't found gets a number more than it needs, which
+/// is put together with its first when the numbers are put in order.
+const REACH: usize = 8;
 
 /// A number for each row, and for each number the first row that has it.
 #[derive(Drop)]
@@ -19,17 +23,25 @@ pub struct Numbers {
     pub of_rows: Vec<u16>,
 }
 
-fn number_of<K: Cell>(known: &HashMap<K, u16>, cell: &K) -> Option<u16>
-    ensures { result ≡ get K.eq known.now cell.now }
+/// The number of a cell, or a slot for one.
+fn look<K: Cell>(cells: &[K], firsts: &[usize], slots: &[u16], cell: K) -> Result<u16, usize>
+    requires slots { length slots.now ≡ 16384 }
+    requires rows { list_all (λ row. nat_lt row (length cells.now)) firsts.now ≡ true }
+    ensures number { IfOk result (λ n. (n < length firsts.now) × (get_or (map K.value cells.now) (get_or firsts.now n 0) Null ≡ K.value cell)) }
+    ensures slot { IfErr result (λ slot. slot < 16384) }
 {
-    known.get(cell).copied()
-}
-
-fn remember<K: Cell>(known: &mut HashMap<K, u16>, cell: K, number: u16) -> Result<(), AllocError>
-    ensures { OnOk result (Updates K.eq known.old known.new cell (Some number)) }
-{
-    known.insert(cell, number)?;
-    Ok(())
+    let home = cell.home() / 2;
+    for step in 0..REACH {
+        let slot = (home + step) % SLOTS;
+        let number = slots[slot];
+        if firsts.len() <= usize::from(number) {
+            return Err(slot);
+        }
+        if cells[firsts[usize::from(number)]] == cell {
+            return Ok(number);
+        }
+    }
+    Err(home)
 }
 
 impl Numbers {
@@ -57,93 +69,54 @@ impl Numbers {
         Ok(number)
     }
 
-    /// Gives each row a number of its own.
-    fn add_each<K: Cell>(&mut self, cells: &[K]) -> Result<(), AllocError>
+    /// Gives a row the number of a row with its cell, or a new one.
+    fn add_cell<K: Cell>(
+        &mut self,
+        slots: &mut [u16],
+        cells: &[K],
+        row: usize,
+    ) -> Result<(), AllocError>
         requires few { length cells.now ≤ row_group_rows }
-        requires none { AreNumbers (map K.value cells.now) self.old.firsts.items self.old.of_rows.items 0 }
-        ensures { OnOk result (AreNumbers (map K.value cells.now) self.new.firsts.items self.new.of_rows.items (length cells.now)) }
+        requires within { row < length cells.now }
+        requires slots { length slots.old ≡ 16384 }
+        requires numbers { AreNumbers (map K.value cells.now) self.old.firsts.items self.old.of_rows.items row }
+        ensures numbers { OnOk result (AreNumbers (map K.value cells.now) self.new.firsts.items self.new.of_rows.items (row + 1)) }
+        ensures slots { length slots.new ≡ 16384 }
     {
-        for row in 0..cells.len() {
-            self.add(row)?;
+        match look(cells, self.firsts.as_slice(), slots, cells[row]) {
+            Ok(number) => self.of_rows.push(number)?,
+            Err(slot) => {
+                slots[slot] = self.add(row)?;
+            }
         }
         Ok(())
     }
 
-    /// Gives a row the number of the rows with its cell, unless too many cells are different.
-    fn add_cell<K: Cell>(
-        &mut self,
-        known: &mut HashMap<K, u16>,
-        cells: &[K],
-        row: usize,
-    ) -> Result<bool, AllocError>
+    /// Numbers the cells in the order in which they come.
+    fn add_cells<K: Cell>(&mut self, slots: &mut [u16], cells: &[K]) -> Result<(), AllocError>
         requires few { length cells.now ≤ row_group_rows }
-        requires within { row < length cells.now }
-        requires numbers { AreNumbers (map K.value cells.now) self.old.firsts.items self.old.of_rows.items row }
-        requires known { Knows (get K.eq known.old) K.value (map K.value cells.now) self.old.firsts.items }
-        ensures numbers { IfOk result (λ added. added ≡ true → AreNumbers (map K.value cells.now) self.new.firsts.items self.new.of_rows.items (row + 1)) }
-        ensures known { IfOk result (λ added. added ≡ true → Knows (get K.eq known.new) K.value (map K.value cells.now) self.new.firsts.items) }
-    {
-        let cell = cells[row];
-        if let Some(number) = number_of(known, &cell) {
-            self.of_rows.push(number)?;
-            return Ok(true);
-        }
-        if self.firsts.len() == FEW {
-            return Ok(false);
-        }
-        let number = self.add(row)?;
-        remember(known, cell, number)?;
-        Ok(true)
-    }
-
-    /// Numbers the cells in the order in which they come, unless too many are different.
-    fn add_few<K: Cell>(
-        &mut self,
-        known: &mut HashMap<K, u16>,
-        cells: &[K],
-    ) -> Result<bool, AllocError>
-        requires few { length cells.now ≤ row_group_rows }
+        requires slots { length slots.old ≡ 16384 }
         requires none { AreNumbers (map K.value cells.now) self.old.firsts.items self.old.of_rows.items 0 }
-        requires known { Knows (get K.eq known.old) K.value (map K.value cells.now) self.old.firsts.items }
-        ensures { IfOk result (λ added. added ≡ true → AreNumbers (map K.value cells.now) self.new.firsts.items self.new.of_rows.items (length cells.now)) }
+        ensures { OnOk result (AreNumbers (map K.value cells.now) self.new.firsts.items self.new.of_rows.items (length cells.now)) }
     {
         for row in 0..cells.len() {
-            if !self.add_cell(known, cells, row)? {
-                return Ok(false);
-            }
+            self.add_cell(slots, cells, row)?;
         }
-        Ok(true)
+        Ok(())
     }
 }
 
-/// The numbers of a few different cells.
-fn numbers_of_few<K: Cell>(alloc: Global, cells: &[K]) -> Result<Option<Numbers>, AllocError>
-    requires { length cells.now ≤ row_group_rows }
-    ensures { IfOk result (λ found. IfSome found (λ n. AreNumbers (map K.value cells.now) n.firsts.items n.of_rows.items (length cells.now))) }
-{
-    let mut numbers = Numbers::new(alloc, cells.len())?;
-    let mut known = HashMap::new(alloc);
-    let added = numbers.add_few(&mut known, cells);
-    drop(known);
-    match added {
-        Ok(true) => Ok(Some(numbers)),
-        Ok(false) => {
-            drop(numbers);
-            Ok(None)
-        }
-        Err(fault) => {
-            drop(numbers);
-            Err(fault)
-        }
-    }
-}
-
-fn numbers_of_each<K: Cell>(alloc: Global, cells: &[K]) -> Result<Numbers, AllocError>
-    requires { length cells.now ≤ row_group_rows }
+fn numbers_by_slots<K: Cell>(
+    alloc: Global,
+    slots: &mut [u16],
+    cells: &[K],
+) -> Result<Numbers, AllocError>
+    requires few { length cells.now ≤ row_group_rows }
+    requires slots { length slots.old ≡ 16384 }
     ensures { IfOk result (λ n. AreNumbers (map K.value cells.now) n.firsts.items n.of_rows.items (length cells.now)) }
 {
     let mut numbers = Numbers::new(alloc, cells.len())?;
-    match numbers.add_each(cells) {
+    match numbers.add_cells(slots, cells) {
         Ok(()) => Ok(numbers),
         Err(fault) => {
             drop(numbers);
@@ -156,8 +129,6 @@ pub fn numbers_of<K: Cell>(alloc: Global, cells: &[K]) -> Result<Numbers, AllocE
     requires { length cells.now ≤ row_group_rows }
     ensures { IfOk result (λ n. AreNumbers (map K.value cells.now) n.firsts.items n.of_rows.items (length cells.now)) }
 {
-    match numbers_of_few(alloc, cells)? {
-        Some(numbers) => Ok(numbers),
-        None => numbers_of_each(alloc, cells),
-    }
+    let mut slots = vec![in alloc; u16::MAX; SLOTS]?;
+    numbers_by_slots(alloc, slots.as_mut_slice(), cells)
 }

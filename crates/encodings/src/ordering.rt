@@ -1,12 +1,12 @@
 //! Numbers in the order of their cells, and the place of each among the different cells.
-ghost use Rattle.std.specs.Prelude.{ℕ, List, ◌≡◌, ◌<◌, ◌≤◌, ◌+◌, ◌-◌, [], ◌∷◌, ◌++◌, nat_lt, true, false, length, map, take, get_or, OnOk, IfOk};
+ghost use Rattle.std.specs.Prelude.{ℕ, List, ◌≡◌, ◌<◌, ◌≤◌, ◌+◌, ◌-◌, [], ◌++◌, nat_lt, true, false, length, map, get_or, OnOk, IfOk};
 ghost use Rattle.std.specs.List.{list_all};
 ghost use Rattle.std.specs.Ordering.{is_lt};
 ghost use Rattle.meaning.specs.Limits.{row_group_rows};
 ghost use Rattle.meaning.specs.Order.{value_cmp};
 ghost use Rattle.meaning.specs.declared.value.Value.{Value};
 ghost use Rattle.meaning.specs.declared.value.Value.TheVariants.{Null};
-ghost use Rattle.encodings.specs.Entries.{AreNumbered, AreNumberEntries, AreFirstCodes, AreFirstEntries, DoNotFall};
+ghost use Rattle.encodings.specs.Entries.{AreNumbered, AreNumberEntries, AreFirstEntries, DoNotFall};
 ghost use Rattle.encodings.specs.Written.{at_places};
 
 use crate::cell::Cell;

@@ -3,8 +3,8 @@ ghost use Rattle.std.specs.Prelude.{◌≡◌, ◌+◌, ◌≤◌, length, map, 
 ghost use Rattle.meaning.specs.Limits.{row_group_rows};
 ghost use Rattle.meaning.specs.declared.value.ColType.TheVariants as of_type;
 ghost use Rattle.meaning.specs.declared.value.Value.TheVariants.{Int, Text};
-ghost use Rattle.encodings.specs.Block.{Block, body_cells, is_block, is_body, mask_length, values_of};
-ghost use Rattle.encodings.specs.Vector.{Vector, cells_in};
+ghost use Rattle.encodings.specs.Block.{body_cells, is_block, is_body, mask_length, values_of};
+ghost use Rattle.encodings.specs.Vector.{cells_in};
 
 use crate::kind::Kind;
 use crate::reading_dict::{read_coded_integers, read_coded_texts};

@@ -1,5 +1,5 @@
 //! Which rows are NULL.
-ghost use Rattle.std.specs.Prelude.{◌≡◌, if◌then◌else◌, replicate, true, false, ◌+◌, ◌*◌, ◌/◌, ◌%◌, ◌^◌, ◌==◌, ◌≤◌, ◌<◌, length, map, take, [], ◌∷◌, ◌++◌, get_or};
+ghost use Rattle.std.specs.Prelude.{◌≡◌, if◌then◌else◌, replicate, true, false, ◌+◌, ◌*◌, ◌/◌, ◌%◌, ◌==◌, ◌≤◌, ◌<◌, length, map, take, [], ◌∷◌, ◌++◌};
 ghost use Rattle.std.specs.List.{range_with_len};
 ghost use Rattle.meaning.specs.Limits.{row_group_rows};
 ghost use Rattle.encodings.specs.Block.{bit_at};

@@ -1,6 +1,5 @@
 //! The parts of a body: numbers of some bytes each, and texts by their ends.
-ghost use Rattle.std.specs.Prelude.{◌≡◌, ◌+◌, ◌-◌, ◌*◌, ◌<◌, ◌≤◌, length, get_or, map, true, [], ◌∷◌, drop, take};
-ghost use Rattle.std.specs.Int.{w32};
+ghost use Rattle.std.specs.Prelude.{◌≡◌, ◌+◌, ◌-◌, ◌*◌, ◌<◌, ◌≤◌, length, get_or, true, [], ◌∷◌, drop, take};
 ghost use Rattle.std.specs.Simd.{first_chunks};
 ghost use Rattle.encodings.specs.Block.{count_of};
 ghost use Rattle.encodings.specs.Reading.{ends_in, texts_in, are_texts};

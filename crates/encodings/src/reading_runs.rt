@@ -1,5 +1,5 @@
 //! Values with the lengths of their runs.
-ghost use Rattle.std.specs.Prelude.{◌≡◌, ◌+◌, ◌*◌, ◌++◌, ◌≤◌, ◌<◌, length, map, take, drop, zip, sum, replicate, true, get_or};
+ghost use Rattle.std.specs.Prelude.{◌≡◌, ◌+◌, ◌*◌, ◌++◌, ◌≤◌, ◌<◌, length, map, take, drop, sum, replicate, true, get_or};
 ghost use Rattle.encodings.specs.Bytes.{integer_of};
 ghost use Rattle.std.specs.Simd.{first_chunks};
 ghost use Rattle.meaning.specs.Limits.{row_group_rows};

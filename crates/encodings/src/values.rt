@@ -1,8 +1,10 @@
 //! Values that stand one by one: integers of 64 bits, or the ends of texts and then the texts.
-ghost use Rattle.std.specs.Prelude.{◌≡◌, ◌*◌, ◌<◌, ◌≤◌, [], ◌∷◌, true, length, get_or};
+ghost use Rattle.std.specs.Prelude.{◌≡◌, ◌*◌, ◌-◌, ◌<◌, ◌≤◌, [], ◌∷◌, true, length, get_or};
 ghost use Rattle.std.specs.List.{list_all};
+ghost use Rattle.std.specs.Bool.{Decides};
+ghost use Rattle.std.specs.Str.{IsCharBoundary};
 ghost use Rattle.std.specs.Ordering.{is_lt};
-ghost use Rattle.meaning.specs.Limits.{row_group_rows};
+ghost use Rattle.meaning.specs.Limits.{row_group_rows, max_text_bytes};
 ghost use Rattle.meaning.specs.Order.{value_cmp, is_ascending, value_in};
 ghost use Rattle.meaning.specs.Order.{rank as value_rank};
 ghost use Rattle.meaning.specs.declared.value.Value.TheVariants.{Null};
@@ -14,12 +16,6 @@ use crate::numbers::{integer_at, word_at};
 use meaning::limits::MAX_TEXT_BYTES;
 use meaning::value::{ColType, ValueRef};
 use std::cmp::Ordering;
-
-fn is_text(text: &[u8]) -> bool
-    ensures { result ≡ is_text text.now }
-{
-    text.len() <= MAX_TEXT_BYTES && str::from_utf8(text).is_ok()
-}
 
 fn are_ends(count: usize, bytes: &[u8], total: usize) -> bool
     requires { 4 * count ≤ length bytes.now }
@@ -36,15 +32,35 @@ fn are_ends(count: usize, bytes: &[u8], total: usize) -> bool
     start == total
 }
 
+/// Whether a text from one place up to another isn't too long and ends between characters.
+#[inline(always)]
+fn is_cut(joined: &[u8], start: usize, end: usize) -> bool
+    requires ordered { start ≤ end }
+    requires within { end ≤ length joined.now }
+    ensures { Decides result ((end - start ≤ max_text_bytes) × IsCharBoundary joined.now end) }
+{
+    if MAX_TEXT_BYTES < end - start {
+        return false;
+    }
+    if end == joined.len() {
+        return true;
+    }
+    joined[end] < 128 || 192 <= joined[end]
+}
+
+/// Whether all are texts: the joined bytes as a whole, cut between characters.
 fn are_texts(count: usize, bytes: &[u8], joined: &[u8]) -> bool
     requires front { 4 * count ≤ length bytes.now }
     requires ends { are_ends 0 (words count bytes.now) (length joined.now) ≡ true }
     ensures { result ≡ list_all is_text (texts_from 0 (words count bytes.now) joined.now) }
 {
+    if str::from_utf8(joined).is_err() {
+        return false;
+    }
     let mut start = 0;
     for i in 0..count {
         let end = word_at(bytes, i) as usize;
-        if !is_text(&joined[start..end]) {
+        if !is_cut(joined, start, end) {
             return false;
         }
         start = end;

@@ -1,8 +1,8 @@
 //! A block in bytes that stand elsewhere.
-ghost use Rattle.std.specs.Prelude.{◌≡◌, ◌<◌, true, false, length, get_or, take, drop, sum, MatchOption, IfSome};
+ghost use Rattle.std.specs.Prelude.{◌≡◌, ◌<◌, true, false, get_or, take, drop, sum, MatchOption, IfSome};
 ghost use Rattle.meaning.specs.Order.{value_in, value_cmp, is_ascending};
 ghost use Rattle.meaning.specs.declared.value.Value.TheVariants.{Null};
-ghost use Rattle.encodings.specs.Block.{Block, is_block, mask_of, body_of, nulls_of, cells_of, values_of};
+ghost use Rattle.encodings.specs.Block.{Block, is_block, mask_of, body_of, nulls_of, values_of};
 ghost use Rattle.encodings.specs.Lent.{dictionary_in, runs_in, StandsFor, coded_cells, run_cells};
 
 use crate::cells::{are_nulls_blank, cell_at, is_body};

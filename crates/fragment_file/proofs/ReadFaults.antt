@@ -7,7 +7,8 @@ use Rattle.meaning.specs.Limits.{max_columns, max_fragments, max_name_bytes, max
 use Rattle.encodings.specs.Block.{Block}
 use Rattle.wire.specs.declared.fault.WireFault.{WireFault}
 use Rattle.wire.specs.declared.fault.WireFault.TheVariants as of_wire
-use Rattle.wire.specs.Reading.{◌>>=◌, Read, ReadsIfMemory, bytes_at, number_at, repeat_at, behind_magic, sealed_end}
+use Rattle.meaning.specs.Wanting.{GivesIfMemory}
+use Rattle.wire.specs.Reading.{◌>>=◌, Read, bytes_at, number_at, repeat_at, behind_magic, sealed_end}
 use Rattle.fragment_file.specs.declared.fault.FileFault.{FileFault}
 use Rattle.fragment_file.specs.declared.fault.FileFault.TheVariants as refusal
 use Rattle.fragment_file.specs.Fault.{IsReadFault, from_wire}
@@ -137,7 +138,7 @@ device_or_memory : refusal.Device ≡ refusal.Memory → ⊥
 device_or_memory e = cc
 
 -- what a call gave that reads so, unless memory ran out
-pub told_by : {X Y : Type 0} (view : X → Y) (r : Result X FileFault) (read : Result Y FileFault) → ReadsIfMemory refusal.Memory view r read → Told read → IfErr r IsReadFault
+pub told_by : {X Y : Type 0} (view : X → Y) (r : Result X FileFault) (read : Result Y FileFault) → GivesIfMemory refusal.Memory view r read → Told read → IfErr r IsReadFault
 told_by view (Ok x) read is told = tt
 told_by view (Err refusal.Memory) read is told = tt
 told_by view (Err refusal.Magic) read is told = tt

@@ -3,7 +3,8 @@ ghost use Rattle.std.specs.Prelude.{◌≡◌, IfErr, IfOk, Ok};
 ghost use Rattle.meaning.specs.Cut.{IsCut};
 ghost use Rattle.fragment_file.specs.Fault.{IsReadFault};
 ghost use Rattle.fragment_file.specs.CutFile.{CutFileSpec, IsCutFileOf, cut_file, length_at, read_cut_file};
-ghost use Rattle.wire.specs.Reading.{Reads, ReadsIfMemory, repeat_at};
+ghost use Rattle.meaning.specs.Wanting.{GivesIfMemory};
+ghost use Rattle.wire.specs.Reading.{Reads, repeat_at};
 
 use crate::fault::FileFault;
 use crate::limits::is_1_to;
@@ -28,7 +29,7 @@ fn take_length(bytes: &[u8]) -> Result<(u32, &[u8]), FileFault>
 }
 
 fn take_lengths(alloc: Global, count: u32, bytes: &[u8]) -> Result<(Vec<u32>, &[u8]), FileFault>
-    ensures { ReadsIfMemory FileFault.Memory (λ x. (x.0.items, x.1.now)) result (repeat_at length_at count bytes.now) }
+    ensures { GivesIfMemory FileFault.Memory (λ x. (x.0.items, x.1.now)) result (repeat_at length_at count bytes.now) }
 {
     let mut lengths = Vec::new(alloc);
     let mut rest = bytes;
@@ -53,7 +54,7 @@ fn cut_of(lengths: Vec<u32>) -> Result<Cut, FileFault>
 
 #[tactic(auto, unfolding(crate::specs::CutFile::read_cut_file, crate::specs::CutFile::cut_magic))]
 fn read(alloc: Global, bytes: &[u8]) -> Result<(u64, Cut), FileFault>
-    ensures { ReadsIfMemory FileFault.Memory cut_file result (read_cut_file bytes.now) }
+    ensures { GivesIfMemory FileFault.Memory cut_file result (read_cut_file bytes.now) }
 {
     let rest = skip_magic(&CUT_MAGIC, bytes)?;
     let (load, rest) = take_u64(rest)?;
@@ -69,13 +70,13 @@ fn read(alloc: Global, bytes: &[u8]) -> Result<(u64, Cut), FileFault>
 
 /// The load and the cut that the bytes are a file of, or the first obstacle.
 pub fn read_cut(alloc: Global, bytes: &[u8]) -> Result<(u64, Cut), FileFault>
-    ensures exact { ReadsIfMemory FileFault.Memory cut_file result (read_cut_file bytes.now) }
+    ensures exact { GivesIfMemory FileFault.Memory cut_file result (read_cut_file bytes.now) }
     ensures told { IfErr result IsReadFault }
     // What is given is spelled so.
     ensures spelled { IfOk result (λ x. IsCutFileOf bytes.now (cut_file x)) }
     // What is spelled so is given, unless memory runs out.
     ensures complete { (f : CutFileSpec) → IsCutFileOf bytes.now f →
-        ReadsIfMemory FileFault.Memory cut_file result (Ok f) }
+        GivesIfMemory FileFault.Memory cut_file result (Ok f) }
 {
     read(alloc, bytes)
 }

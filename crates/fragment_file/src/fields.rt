@@ -1,6 +1,7 @@
 //! The fields of a header, read from front to back.
 ghost use Rattle.std.specs.Prelude.{◌≡◌, []};
-ghost use Rattle.wire.specs.Reading.{behind_magic, Reads, ReadsIfMemory};
+ghost use Rattle.meaning.specs.Wanting.{GivesIfMemory};
+ghost use Rattle.wire.specs.Reading.{behind_magic, Reads};
 ghost use Rattle.fragment_file.specs.FragmentReading.{column_at, columns_at, flag_of, header_at, is_named, type_of};
 
 use crate::fault::FileFault;
@@ -48,7 +49,7 @@ fn take_column<'a>(
     earlier: &[Column],
     bytes: &'a [u8],
 ) -> Result<(Column, &'a [u8]), FileFault>
-    ensures { ReadsIfMemory FileFault.Memory (λ x. (x.0, x.1.now)) result (column_at earlier.now bytes.now) }
+    ensures { GivesIfMemory FileFault.Memory (λ x. (x.0, x.1.now)) result (column_at earlier.now bytes.now) }
 {
     let (name, rest) = take_name(bytes)?;
     if is_named(name, earlier) {
@@ -68,7 +69,7 @@ fn take_column<'a>(
 }
 
 fn take_columns(alloc: Global, count: u16, bytes: &[u8]) -> Result<(Vec<Column>, &[u8]), FileFault>
-    ensures { ReadsIfMemory FileFault.Memory (λ x. (x.0.items, x.1.now)) result (columns_at count [] bytes.now) }
+    ensures { GivesIfMemory FileFault.Memory (λ x. (x.0.items, x.1.now)) result (columns_at count [] bytes.now) }
 {
     let mut columns = Vec::new(alloc);
     let mut rest = bytes;
@@ -83,7 +84,7 @@ fn take_columns(alloc: Global, count: u16, bytes: &[u8]) -> Result<(Vec<Column>,
 /// What stands in front of the row groups, and the bytes from there.
 #[tactic(auto, unfolding(crate::specs::FragmentReading::header_at))]
 pub fn take_header(alloc: Global, bytes: &[u8]) -> Result<(Header, &[u8]), FileFault>
-    ensures { ReadsIfMemory FileFault.Memory (λ x. (x.0, x.1.now)) result (header_at bytes.now) }
+    ensures { GivesIfMemory FileFault.Memory (λ x. (x.0, x.1.now)) result (header_at bytes.now) }
 {
     let (load, rest) = take_u64(bytes)?;
     let (table, rest) = take_name(rest)?;

@@ -4,7 +4,8 @@ ghost use Rattle.fragment_file.specs.View.{AreGroupsTaken, AreTaken, IsEnd, IsWi
 ghost use Rattle.meaning.specs.Limits.{row_group_rows};
 ghost use Rattle.fragment_file.specs.Fragment.{group_sizes};
 ghost use Rattle.fragment_file.specs.FragmentReading.{block_at, block_of, blocks_at, group_at, groups_at, kind_of, sound};
-ghost use Rattle.wire.specs.Reading.{Reads, ReadsIfMemory};
+ghost use Rattle.meaning.specs.Wanting.{GivesIfMemory};
+ghost use Rattle.wire.specs.Reading.{Reads};
 
 use crate::fault::FileFault;
 use crate::view::BlockPlace;
@@ -71,7 +72,7 @@ fn take_blocks<'a>(
     rest: &'a [u8],
 ) -> Result<(Vec<BlockPlace>, &'a [u8]), FileFault>
     requires { IsEnd bytes.now rest.now }
-    ensures read { ReadsIfMemory FileFault.Memory (λ x. (map (block_in bytes.now) x.0.items, x.1.now)) result
+    ensures read { GivesIfMemory FileFault.Memory (λ x. (map (block_in bytes.now) x.0.items, x.1.now)) result
         (blocks_at group 0 columns.now rows rest.now) }
     ensures taken { IfOk result (λ x. AreTaken bytes.now x.0.items x.1.now) }
 {
@@ -95,7 +96,7 @@ fn take_group<'a>(
     rest: &'a [u8],
 ) -> Result<(Sequence<BlockPlace>, &'a [u8]), FileFault>
     requires { IsEnd bytes.now rest.now }
-    ensures read { ReadsIfMemory FileFault.Memory (λ x. (map (block_in bytes.now) x.0, x.1.now)) result
+    ensures read { GivesIfMemory FileFault.Memory (λ x. (map (block_in bytes.now) x.0, x.1.now)) result
         (group_at group columns.now rows rest.now) }
     ensures taken { IfOk result (λ x. AreTaken bytes.now x.0 x.1.now) }
 {
@@ -125,7 +126,7 @@ pub fn take_groups<'a>(
     rest: &'a [u8],
 ) -> Result<(Sequence<Sequence<BlockPlace>>, &'a [u8]), FileFault>
     requires { IsEnd bytes.now rest.now }
-    ensures read { ReadsIfMemory FileFault.Memory (λ x. (map (map (block_in bytes.now)) x.0, x.1.now)) result
+    ensures read { GivesIfMemory FileFault.Memory (λ x. (map (map (block_in bytes.now)) x.0, x.1.now)) result
         (groups_at 0 columns.now (group_sizes rows) rest.now) }
     ensures taken { IfOk result (λ x. AreGroupsTaken bytes.now x.0 x.1.now) }
 {

@@ -2,7 +2,8 @@
 ghost use Rattle.std.specs.Prelude.{◌≡◌, true, Ok, IfOk};
 ghost use Rattle.meaning.specs.Catalog.{is_name};
 ghost use Rattle.fragment_file.specs.FragmentReading.{name_at};
-ghost use Rattle.wire.specs.Reading.{Reads, ReadsIfMemory};
+ghost use Rattle.meaning.specs.Wanting.{GivesIfMemory};
+ghost use Rattle.wire.specs.Reading.{Reads};
 
 use crate::fault::FileFault;
 use crate::limits::is_1_to;
@@ -15,7 +16,7 @@ use wire::{take_bytes, take_u16};
 /// A name's text, which is ASCII.
 pub fn text_of(alloc: Global, word: &[u8]) -> Result<Text, FileFault>
     requires { is_name word.now ≡ true }
-    ensures { ReadsIfMemory FileFault.Memory (λ name. name) result (Ok word.now) }
+    ensures { GivesIfMemory FileFault.Memory (λ name. name) result (Ok word.now) }
 {
     let Ok(name) = std::str::from_utf8(word) else {
         return Err(FileFault::Header);

@@ -3,7 +3,7 @@ ghost use Rattle.std.specs.Prelude.{◌≡◌, IfErr, IfOk, Ok};
 ghost use Rattle.fragment_file.specs.Fault.{IsReadFault};
 ghost use Rattle.fragment_file.specs.Fragment.{AreTypedColumns, FragmentSpec, IsFileOf};
 ghost use Rattle.fragment_file.specs.FragmentReading.{read_fragment};
-ghost use Rattle.wire.specs.Reading.{ReadsIfMemory};
+ghost use Rattle.meaning.specs.Wanting.{GivesIfMemory};
 
 use crate::fault::FileFault;
 use crate::fields::take_header;
@@ -17,7 +17,7 @@ pub const FRAGMENT_MAGIC: [u8; 4] = *b"XCF1";
 
 #[tactic(auto, unfolding(crate::specs::FragmentReading::read_fragment, crate::specs::Fragment::fragment_magic))]
 fn read(alloc: Global, bytes: &[u8]) -> Result<FragmentView<'_>, FileFault>
-    ensures { ReadsIfMemory FileFault.Memory (λ v. v) result (read_fragment bytes.now) }
+    ensures { GivesIfMemory FileFault.Memory (λ v. v) result (read_fragment bytes.now) }
 {
     let rest = skip_magic(&FRAGMENT_MAGIC, bytes)?;
     let (header, rest) = take_header(alloc, rest)?;
@@ -32,13 +32,13 @@ fn read(alloc: Global, bytes: &[u8]) -> Result<FragmentView<'_>, FileFault>
 /// The bytes are judged from front to back, then come bytes behind the end, and then the seal. Memory is taken for what
 /// was read alone, whatever lengths the bytes tell.
 pub fn open(alloc: Global, bytes: &[u8]) -> Result<FragmentView<'_>, FileFault>
-    ensures exact { ReadsIfMemory FileFault.Memory (λ v. v) result (read_fragment bytes.now) }
+    ensures exact { GivesIfMemory FileFault.Memory (λ v. v) result (read_fragment bytes.now) }
     ensures told { IfErr result IsReadFault }
     // What is given is spelled so.
     ensures spelled { IfOk result (λ v. IsFileOf bytes.now v) }
     // What is spelled so is given, unless memory runs out.
     ensures complete { (f : FragmentSpec) → IsFileOf bytes.now f →
-        ReadsIfMemory FileFault.Memory (λ v. v) result (Ok f) }
+        GivesIfMemory FileFault.Memory (λ v. v) result (Ok f) }
     ensures typed { IfOk result (λ v. AreTypedColumns v) }
 {
     read(alloc, bytes)

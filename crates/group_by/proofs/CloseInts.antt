@@ -1,6 +1,6 @@
 -- Integers that are close to each other, by how far they are above a least one.
 use Rattle.std.specs.Prelude.{◌≡◌, ◌≢◌, ℕ, ℤ, ◌+◌, ◌-◌, ◌^◌, ◌<◌, ◌≤◌, ◌-ℤ◌, ◌+ℤ◌, ◌≤ℤ◌, pos, unsigned_abs, List, [], ◌∷◌, ◌++◌, length, take, drop, replicate, get_or, slice_set}
-use Rattle.std.proofs.Common.{sym, ap, subst, ◌∙◌, arith, inl, inr, length-set, append-nil, get_or-set_same, get_or-set_other}
+use Rattle.std.proofs.Common.{refl, sym, ap, subst, ◌∙◌, arith, inl, inr, length-set, append-nil, get_or-set_same, get_or-set_other}
 use Rattle.std.proofs.lemmas.Bool.{cases_eq, cases_lt}
 use Rattle.std.proofs.lemmas.Int.{ints}
 use Rattle.std.proofs.lemmas.List.{get_or_append_left, get_or_default, get_or_past, get_or-replicate, length-replicate, length_push, drop_all, get_or_push, take_all, take_more_set}
@@ -103,3 +103,19 @@ pub all_settled : (ints : List ℤ) (old : List Row) (k : ℕ) (places : List �
 all_settled ints old k places now past so_far =
     subst (λ (ps : List ℕ). AreFound (int_keys ints) old ps now) (take_all k places (subst (λ (m : ℕ). m ≤ k) (sym so_far.long) past))
     (subst (λ (keys : List Row). AreFound keys old (take k places) now) (take_all k (int_keys ints) (subst (λ (m : ℕ). m ≤ k) (sym (int_keys_long ints)) past)) so_far.found)
+
+-- no key is new where all places were told
+pub all_known : (ints : List ℤ) (keys now : List Row) (places : List ℕ) → now ≡ keys → length places ≡ length ints → ((k : ℕ) → k < length ints → IsTold keys ints places k)
+    → ((k : ℕ) → k < length places → get_or places k 0 ≢ 2 ^ 32 - 1) → AreFound (int_keys ints) keys places now
+all_known ints keys now places same long told known = subst (λ (ks : List Row). AreFound (int_keys ints) keys places ks) (sym same) (record {
+  long = long ∙ sym (int_keys_long ints);
+  within = λ k l. (here k l).0;
+  are = λ k l. let below : k < length ints = subst (λ (n : ℕ). k < n) (int_keys_long ints) l in (here k l).1 ∙ int_key_at ints k (pos 0) below;
+  kept = λ j l. (l, refl);
+  added = λ j past below. absurd (omega (arith, past, below));
+})
+  where
+    here : (k : ℕ) → k < length (int_keys ints) → (get_or places k 0 < length keys) × (get_or keys (get_or places k 0) [] ≡ Int (get_or ints k (pos 0)) ∷ [])
+    here k l =
+        let below : k < length ints = subst (λ (n : ℕ). k < n) (int_keys_long ints) l in
+        told k below (known k (subst (λ (n : ℕ). k < n) (sym long) below))

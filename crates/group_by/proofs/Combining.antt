@@ -78,7 +78,7 @@ rises_from (g ∷ h ∷ gs) up =
       rises_from (h ∷ gs) (λ k d low high. ap (λ n. is_lt (row_cmp (get_or (g ∷ h ∷ gs) n d).key (get_or (h ∷ gs) k d).key)) (sym (later k)) ∙ up (suc k) d (omega arith) (omega (arith, high))),
     )
 
-tie : (r : Ordering) → (not (is_lt r) && not (is_lt (ordering_reverse r))) ≡ is_eq r
+pub tie : (r : Ordering) → (not (is_lt r) && not (is_lt (ordering_reverse r))) ≡ is_eq r
 tie Less = refl
 tie Equal = refl
 tie Greater = refl

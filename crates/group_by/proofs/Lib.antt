@@ -5,6 +5,7 @@ pub mod Together
 pub mod Rows
 pub mod Batches
 pub mod Finding
+pub mod OnePlace
 pub mod CloseInts
 pub mod Updating
 pub mod Adding
@@ -12,4 +13,5 @@ pub mod Merging
 pub mod Fresh
 pub mod Combining
 pub mod Handing
+pub mod SortedInts
 pub mod Own

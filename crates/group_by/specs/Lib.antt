@@ -5,3 +5,5 @@ pub mod Rows
 pub mod Places
 pub mod Combined
 pub mod Keys
+pub mod RowPlaces
+pub mod IntPlaces

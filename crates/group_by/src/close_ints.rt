@@ -1,5 +1,5 @@
 //! Where the keys of integers that are close to each other have their places: by how far they are above a least one.
-ghost use Rattle.std.specs.Prelude.{◌≡◌, ◌≢◌, ◌<◌, ◌∷◌, [], List, length, get_or};
+ghost use Rattle.std.specs.Prelude.{◌≡◌, ◌≢◌, ◌<◌, ◌∷◌, [], List, length, get_or, true, All};
 ghost use Rattle.meaning.specs.declared.value.Value.TheVariants.{Int};
 ghost use Rattle.meaning.specs.Order.{Row};
 ghost use Rattle.group_by.specs.Keys.{LeadsTo};
@@ -64,6 +64,17 @@ pub fn close_place(entries: &[u32], least: &i64, int: &i64) -> u32
         return NOWHERE;
     }
     entry_at(entries, int.abs_diff(*least))
+}
+
+/// Whether all of these places are known. Compares all of them, so that the loop has no branch.
+pub fn are_known(places: &[u32]) -> bool
+    ensures { result ≡ true → All (λ place. place ≢ NOWHERE) places.now }
+{
+    let mut known = true;
+    for k in 0..places.len() {
+        known &= places[k] != NOWHERE;
+    }
+    known
 }
 
 /// Puts in the place of a key, where the table has an entry for it.

@@ -1,11 +1,15 @@
 //! A column of states for each aggregate.
 ghost use Rattle.std.specs.Prelude.{◌≡◌, ℕ, ◌<◌, ◌≤◌, ◌+◌, length, map, zip, get_or, true, All, IfOk, OnOk};
 ghost use Rattle.meaning.specs.Aggregate.{no_statistics};
+ghost use Rattle.accumulators.specs.Columns.{of_states};
+ghost use Rattle.accumulators.specs.Entries.{with_entries};
 ghost use Rattle.accumulators.specs.State.{most_entries};
 ghost use Rattle.accumulators.specs.Values.{is_spelled, selected, values_of};
 ghost use Rattle.group_by.specs.Places.{no_column, state_at, state_in, AreFresh, AreMerged, AreUpdated, IsMerged, IsUpdated};
+ghost use Rattle.group_by.specs.RowPlaces.{listed};
 ghost use Rattle.group_by.specs.Rows.{rows_at, AreLanesOf};
 
+use crate::row_places::RowPlaces;
 use accumulators::{State, StateColumn};
 use meaning::plan::{Aggregate, AggregateKind};
 use std::alloc::{AllocError, Global};
@@ -25,25 +29,46 @@ fn fill(column: &mut StateColumn, height: usize) -> Result<(), AllocError>
     Ok(())
 }
 
+/// The selected values go to the states at their places, each of which has one.
+fn update_filled(
+    column: &mut StateColumn,
+    alloc: Global,
+    places: &RowPlaces,
+    lanes: &Vector<'_>,
+    selection: &Selection,
+) -> Result<(), AllocError>
+    requires places { length (listed places.now) ≡ length selection.now.list }
+    requires within { All (λ place. place < length column.old.states) (listed places.now) }
+    requires lanes { length (values_of lanes.now) ≡ selection.now.below }
+    requires spelled { All (λ v. is_spelled v ≡ true) (values_of lanes.now) }
+    requires few { (place : ℕ) → (state_in column.old place).count + length selection.now.list ≤ most_entries }
+    ensures { OnOk result (column.new ≡ of_states column.old (with_entries column.old.kind column.old.states (zip (listed places.now) (selected (values_of lanes.now) selection.now.list)))) }
+{
+    match places {
+        RowPlaces::One { place, .. } => column.update_at(alloc, *place as usize, lanes, selection),
+        RowPlaces::Each(places) => column.update(alloc, places.as_slice(), lanes, selection),
+    }
+}
+
 /// The selected values go to the states at their places.
 fn update(
     column: &mut StateColumn,
     alloc: Global,
     height: usize,
-    places: &[u32],
+    places: &RowPlaces,
     lanes: &Vector<'_>,
     selection: &Selection,
 ) -> Result<(), AllocError>
     requires longer { length column.old.states ≤ height }
-    requires places { length places.now ≡ length selection.now.list }
-    requires within { All (λ place. place < height) places.now }
+    requires places { length (listed places.now) ≡ length selection.now.list }
+    requires within { All (λ place. place < height) (listed places.now) }
     requires lanes { length (values_of lanes.now) ≡ selection.now.below }
     requires spelled { All (λ v. is_spelled v ≡ true) (values_of lanes.now) }
     requires few { (place : ℕ) → (state_in column.old place).count + length selection.now.list ≤ most_entries }
-    ensures { OnOk result (IsUpdated height (zip places.now (selected (values_of lanes.now) selection.now.list)) column.old column.new) }
+    ensures { OnOk result (IsUpdated height (zip (listed places.now) (selected (values_of lanes.now) selection.now.list)) column.old column.new) }
 {
     fill(column, height)?;
-    column.update(alloc, places, lanes, selection)?;
+    update_filled(column, alloc, places, lanes, selection)?;
     Ok(())
 }
 
@@ -52,17 +77,17 @@ pub fn update_all(
     columns: &mut [StateColumn],
     alloc: Global,
     height: usize,
-    places: &[u32],
+    places: &RowPlaces,
     arguments: &[Vector<'_>],
     selection: &Selection,
 ) -> Result<(), AllocError>
     requires longer { (c : ℕ) → length (get_or columns.old c no_column).states ≤ height }
     requires widths { length arguments.now ≡ length columns.old }
-    requires places { length places.now ≡ length selection.now.list }
-    requires within { All (λ place. place < height) places.now }
+    requires places { length (listed places.now) ≡ length selection.now.list }
+    requires within { All (λ place. place < height) (listed places.now) }
     requires arguments { AreLanesOf selection.now.below arguments.now }
     requires few { (c place : ℕ) → (state_at columns.old c place).count + length selection.now.list ≤ most_entries }
-    ensures { OnOk result (AreUpdated height places.now (rows_at arguments.now selection.now.list) columns.old columns.new) }
+    ensures { OnOk result (AreUpdated height (listed places.now) (rows_at arguments.now selection.now.list) columns.old columns.new) }
 {
     for k in 0..columns.len() {
         update(

@@ -1,16 +1,19 @@
 //! The groups of a table in the order of their keys, those of one key as one.
-ghost use Rattle.std.specs.Prelude.{◌≡◌, ℕ, ◌<◌, ◌≤◌, ◌+◌, ◌∷◌, length, map, reverse, get_or, sum, All, IfOk, OnOk, IsPermutation};
+ghost use Rattle.std.specs.Prelude.{◌≡◌, ℕ, ◌<◌, ◌≤◌, ◌+◌, ◌∷◌, length, map, reverse, get_or, sum, All, IfOk, IfSome, OnOk, IsPermutation};
 ghost use Rattle.meaning.specs.Aggregate.{no_statistics};
 ghost use Rattle.meaning.specs.Group.{merge_groups};
 ghost use Rattle.meaning.specs.Order.{row_cmp};
 ghost use Rattle.accumulators.specs.State.{most_entries};
 ghost use Rattle.group_by.specs.Combined.{combined, put_before, zipped, AreFit, AreMergeable, IsInOrder, MergesWithFirst, Rises, SameBeside};
+ghost use Rattle.group_by.specs.Keys.{alone};
 ghost use Rattle.group_by.specs.Places.{by_place, group_at, state_at, state_in};
 
+use crate::int_places::{are_apart, int_places, placed_groups, sort_ints};
+use crate::key_list::KeyList;
 use crate::keys::{are_equal, compare_keys, copy_key};
 use accumulators::{Group, State, StateColumn};
 use meaning::sequence::Sequence;
-use meaning::value::Row;
+use meaning::value::{Row, Value};
 use std::alloc::{AllocError, Global};
 use std::cmp::Ordering;
 use std::mem::drop;
@@ -32,7 +35,7 @@ fn states_at(
 }
 
 /// The group at a place.
-fn group_of(
+pub fn group_of(
     alloc: Global,
     key: Row,
     rows: &[u64],
@@ -48,7 +51,7 @@ fn group_of(
 }
 
 /// The groups by their places, the last first.
-pub fn by_places(
+fn by_places(
     alloc: Global,
     keys: Vec<Row>,
     rows: &[u64],
@@ -159,7 +162,7 @@ fn combine(alloc: Global, groups: Vec<Group>, width: usize) -> Result<Vec<Group>
 }
 
 /// The groups of the places in the order of their keys, those of one key as one.
-pub fn in_order(
+fn rows_in_order(
     alloc: Global,
     keys: Vec<Row>,
     rows: &[u64],
@@ -179,4 +182,47 @@ pub fn in_order(
             Err(fault)
         }
     }
+}
+
+/// The groups of integers in order, where each of them is one key.
+fn ints_in_order(
+    alloc: Global,
+    values: &[Value],
+    rows: &[u64],
+    columns: &[StateColumn],
+) -> Result<Option<Vec<Group>>, AllocError>
+    requires rows { length rows.now ≡ length values.now }
+    requires columns { All (λ c. length c.states ≡ length values.now) columns.now }
+    ensures { IfOk result (λ found. IfSome found (λ groups. IsInOrder (alone values.now) rows.now columns.now groups.items)) }
+{
+    let Some(mut placed) = int_places(alloc, values)? else {
+        return Ok(None);
+    };
+    placed.reverse();
+    sort_ints(&mut placed)?;
+    if !are_apart(placed.as_slice()) {
+        return Ok(None);
+    }
+    Ok(Some(placed_groups(alloc, placed.as_slice(), rows, columns)?))
+}
+
+/// The groups of the places in the order of their keys, those of one key as one.
+pub fn in_order(
+    alloc: Global,
+    keys: KeyList,
+    rows: &[u64],
+    columns: &[StateColumn],
+) -> Result<Vec<Group>, AllocError>
+    requires rows { length rows.now ≡ length keys }
+    requires columns { All (λ c. length c.states ≡ length keys) columns.now }
+    requires few { sum rows.now ≤ most_entries }
+    requires within { (c place : ℕ) → (state_at columns.now c place).count ≤ get_or rows.now place 0 }
+    ensures { IfOk result (λ groups. IsInOrder keys rows.now columns.now groups.items) }
+{
+    if let Some(values) = keys.values() {
+        if let Some(groups) = ints_in_order(alloc, values, rows, columns)? {
+            return Ok(groups);
+        }
+    }
+    rows_in_order(alloc, keys.into_rows(alloc)?, rows, columns)
 }

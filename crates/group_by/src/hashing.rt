@@ -9,9 +9,11 @@ use vectors::vector::Vector;
 // The odd number nearest to 2^64 divided by the golden ratio: Knuth's multiplicative hashing.
 const MULTIPLIER: u64 = 0x9E37_79B9_7F4A_7C15;
 
+// The high half is folded into the low one before the product, so that bytes at the end of a word choose the slot too.
 #[inline(always)]
 fn mixed(hash: u64, word: u64) -> u64 {
-    let product = (hash ^ word).wrapping_mul(MULTIPLIER);
+    let both = hash ^ word;
+    let product = (both ^ (both >> 32)).wrapping_mul(MULTIPLIER);
     product ^ (product >> 32)
 }
 
@@ -49,12 +51,21 @@ fn last_word(bytes: &[u8]) -> u64 {
     u64::from_le_bytes([bytes[0], bytes[many / 2], bytes[many - 1], 0, 0, 0, 0, 0])
 }
 
-/// A word at a time, and what is left over with bytes that were taken before, so that short texts need no loop.
-fn hash_bytes(hash: u64, bytes: &[u8]) -> u64 {
+fn hash_words(hash: u64, bytes: &[u8]) -> u64 {
     let (words, _) = bytes.as_chunks::<8>();
-    let mut hash = mixed(hash, bytes.len() as u64);
+    let mut hash = hash;
     for word in words {
         hash = mixed(hash, u64::from_le_bytes(*word));
+    }
+    hash
+}
+
+/// A word at a time, and what is left over with bytes that were taken before, so that short texts need no loop.
+#[inline(always)]
+fn hash_bytes(hash: u64, bytes: &[u8]) -> u64 {
+    let mut hash = mixed(hash, bytes.len() as u64);
+    if bytes.len() > 8 {
+        hash = hash_words(hash, bytes);
     }
     mixed(hash, last_word(bytes))
 }

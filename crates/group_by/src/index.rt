@@ -3,17 +3,20 @@
 //! The hash table is a hint: a place that it names is taken only after its key was compared, and a key that it leads to no
 //! place of gets a place more. So no contract rests on hashes. The groups of a key with two places are made one when they
 //! are handed out.
-ghost use Rattle.std.specs.Prelude.{◌≡◌, ◌≢◌, ◌<◌, ◌≤◌, ◌∷◌, ◌++◌, [], length, get_or, All, true, IfOk, IfSome, OnOk};
+ghost use Rattle.std.specs.Prelude.{◌≡◌, ◌≢◌, ℕ, ◌<◌, ◌≤◌, ◌∷◌, ◌++◌, [], length, get_or, All, true, IfOk, IfSome, OnOk};
 ghost use Rattle.meaning.specs.declared.value.Value.TheVariants.{Int};
 ghost use Rattle.accumulators.specs.Values.{values_of};
+ghost use Rattle.group_by.specs.Keys.{IsTold};
 ghost use Rattle.group_by.specs.Places.{AreFound, IsFound};
 ghost use Rattle.group_by.specs.Shape.{empty_key};
+ghost use Rattle.group_by.specs.RowPlaces.{listed};
 ghost use Rattle.group_by.specs.Rows.{int_keys, row_at, rows_at, AreLanesOf};
 
-use crate::close_ints::NOWHERE;
+use crate::close_ints::{NOWHERE, are_known};
 use crate::hashing::{hash_int, hash_lanes, hash_row};
 use crate::key_list::KeyList;
 use crate::keys::{copy_key, key_of, plain_key};
+use crate::row_places::{RowPlaces, row_places};
 use accumulators::position;
 use meaning::sequence::Sequence;
 use meaning::value::Row;
@@ -30,7 +33,8 @@ struct Slot {
 
 const EMPTY: u32 = u32::MAX;
 
-const LEAST_SLOTS: usize = 16;
+// So many that few keys seldom share a home.
+const LEAST_SLOTS: usize = 1024;
 
 /// A key's hash, and its place.
 #[derive(Clone, Copy)]
@@ -191,6 +195,26 @@ impl KeyIndex {
         Ok(place)
     }
 
+    /// A place for the key at a position.
+    #[cold]
+    #[inline(never)]
+    fn push_lanes(
+        &mut self,
+        alloc: Global,
+        hash: u64,
+        lanes: &[Vector<'_>],
+        at: usize,
+        below: usize,
+    ) -> Result<u32, AllocError>
+        requires lanes { AreLanesOf below lanes.now }
+        requires at { at < below }
+        ensures place { IfOk result (λ place. place ≡ length self.old.keys) }
+        ensures keys { IfOk result (λ place. self.new.keys ≡ self.old.keys ++ row_at lanes.now at ∷ []) }
+    {
+        let key = key_of(alloc, lanes, at, below)?;
+        self.push(alloc, hash, key)
+    }
+
     /// The place of the key at a position, which gets one where it has none. On an error the keys are open.
     #[inline(always)]
     fn place_of_lanes(
@@ -208,8 +232,7 @@ impl KeyIndex {
         if let Some(place) = self.find_lanes(hash, lanes, at) {
             return Ok(place);
         }
-        let key = key_of(alloc, lanes, at, below)?;
-        self.push(alloc, hash, key)
+        self.push_lanes(alloc, hash, lanes, at, below)
     }
 
     /// The place of a key, which gets one where it has none. On an error the keys are open.
@@ -229,16 +252,18 @@ impl KeyIndex {
         &mut self,
         alloc: Global,
         selection: &Selection,
-    ) -> Result<Vec<u32>, AllocError>
-        ensures { IfOk result (λ places. AreFound (rows_at [] selection.now.list) self.old.keys places.items self.new.keys) }
+    ) -> Result<RowPlaces, AllocError>
+        ensures { IfOk result (λ places. AreFound (rows_at [] selection.now.list) self.old.keys (listed places) self.new.keys) }
     {
         if selection.len() == 0 {
-            return Ok(Vec::new(alloc));
+            return Ok(RowPlaces::Each(Vec::new(alloc)));
         }
         let key = Sequence::new(alloc);
         let place = self.place_of_row(alloc, &key)?;
-        let places = vec![in alloc; place; selection.len()]?;
-        Ok(places)
+        Ok(RowPlaces::One {
+            place,
+            behind: selection.len() - 1,
+        })
     }
 
     /// The place of the key of this integer alone, where the hash table leads to one.
@@ -305,14 +330,53 @@ impl KeyIndex {
         self.place_of_int(alloc, int)
     }
 
+    /// The places of integers' keys, of which some were told or are `NOWHERE`. On an error the keys are open.
+    fn settle_all(
+        &mut self,
+        alloc: Global,
+        told: Vec<u32>,
+        ints: &[i64],
+    ) -> Result<Vec<u32>, AllocError>
+        requires long { length told.items ≡ length ints.now }
+        requires told { (k : ℕ) → k < length ints.now → IsTold self.old.keys ints.now told.items k }
+        ensures { IfOk result (λ places. AreFound (int_keys ints.now) self.old.keys places.items self.new.keys) }
+    {
+        let mut places = told;
+        for k in 0..ints.len() {
+            places[k] = self.settle(alloc, places[k], &ints[k])?;
+        }
+        Ok(places)
+    }
+
     /// The place of each integer's key. On an error the keys are open.
     fn find_ints(&mut self, alloc: Global, ints: &[i64]) -> Result<Vec<u32>, AllocError>
         ensures { IfOk result (λ places. AreFound (int_keys ints.now) self.old.keys places.items self.new.keys) }
     {
         self.keys.expect_ints(alloc, ints)?;
-        let mut places = self.keys.close_places(alloc, ints)?;
-        for k in 0..ints.len() {
-            places[k] = self.settle(alloc, places[k], &ints[k])?;
+        let places = self.keys.close_places(alloc, ints)?;
+        if are_known(places.as_slice()) {
+            return Ok(places);
+        }
+        self.settle_all(alloc, places, ints)
+    }
+
+    /// The place of each selected row's key, of one column or more. On an error the keys are open.
+    fn find_each(
+        &mut self,
+        alloc: Global,
+        lanes: &[Vector<'_>],
+        selection: &Selection,
+    ) -> Result<Vec<u32>, AllocError>
+        requires { AreLanesOf selection.now.below lanes.now }
+        ensures { IfOk result (λ places. AreFound (rows_at lanes.now selection.now.list) self.old.keys places.items self.new.keys) }
+    {
+        if let Some(ints) = plain_key(lanes, selection) {
+            return self.find_ints(alloc, ints);
+        }
+        let mut places = Vec::with_capacity(alloc, selection.len())?;
+        for k in 0..selection.len() {
+            let at = position(selection, k);
+            places.push(self.place_of_lanes(alloc, lanes, at, selection.below())?)?;
         }
         Ok(places)
     }
@@ -323,22 +387,14 @@ impl KeyIndex {
         alloc: Global,
         lanes: &[Vector<'_>],
         selection: &Selection,
-    ) -> Result<Vec<u32>, AllocError>
+    ) -> Result<RowPlaces, AllocError>
         requires { AreLanesOf selection.now.below lanes.now }
-        ensures { IfOk result (λ places. AreFound (rows_at lanes.now selection.now.list) self.old.keys places.items self.new.keys) }
+        ensures { IfOk result (λ places. AreFound (rows_at lanes.now selection.now.list) self.old.keys (listed places) self.new.keys) }
     {
         if lanes.is_empty() {
             return self.places_without_keys(alloc, selection);
         }
-        if let Some(ints) = plain_key(lanes, selection) {
-            return self.find_ints(alloc, ints);
-        }
-        let mut places = Vec::with_capacity(alloc, selection.len())?;
-        for k in 0..selection.len() {
-            let at = position(selection, k);
-            places.push(self.place_of_lanes(alloc, lanes, at, selection.below())?)?;
-        }
-        Ok(places)
+        Ok(row_places(self.find_each(alloc, lanes, selection)?))
     }
 
     /// The empty key alone, or no key.

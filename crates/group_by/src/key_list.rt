@@ -264,6 +264,16 @@ impl KeyList {
         Ok(())
     }
 
+    /// The values that are keys alone, where all keys are.
+    pub fn values(&self) -> Option<&[Value]>
+        ensures { IfSome result (λ values. alone values.now ≡ self.now) }
+    {
+        match &self.held {
+            Held::Values(values) => Some(values.as_slice()),
+            Held::Rows(_) => None,
+        }
+    }
+
     /// The keys as rows.
     pub fn into_rows(self, alloc: Global) -> Result<Vec<Row>, AllocError>
         ensures { IfOk result (λ rows. rows.items ≡ self) }

@@ -1,24 +1,68 @@
 //! Keys: values of some columns, compared and copied.
 ghost use Rattle.std.specs.Prelude.{◌≡◌, ◌<◌, ◌∷◌, [], length, get_or, All, true, IfOk, IfSome};
 ghost use Rattle.std.specs.Ordering.{eq_by_cmp};
-ghost use Rattle.meaning.specs.declared.value.Value.TheVariants.{Int};
+ghost use Rattle.meaning.specs.declared.value.Value.TheVariants.{Int, Null, Text};
 ghost use Rattle.meaning.specs.Order.{row_cmp, value_in};
 ghost use Rattle.accumulators.specs.Values.{is_spelled, values_of};
 ghost use Rattle.group_by.specs.Rows.{int_keys, row_at, rows_at, AreLanesOf};
 
 use accumulators::{owned, plain_ints, value_at};
 use meaning::sequence::Sequence;
-use meaning::value::{Row, Value, ValueRef, compare_lent};
+use meaning::value::{Row, Value, ValueRef};
 use std::alloc::{AllocError, Global};
 use std::cmp::Ordering;
 use vectors::selection::Selection;
 use vectors::vector::Vector;
 
 #[inline(always)]
+fn are_same_bytes(one: &[u8], other: &[u8]) -> bool
+    ensures { result ≡ true → one.now ≡ other.now }
+{
+    one == other
+}
+
+#[inline(always)]
+fn is_text(text: &[u8], other: ValueRef<'_>) -> bool
+    ensures { result ≡ true → Text text.now ≡ value_in other.entry }
+{
+    match other {
+        ValueRef::Null => false,
+        ValueRef::Int(_) => false,
+        ValueRef::Text(bytes) => are_same_bytes(text, bytes),
+    }
+}
+
+#[inline(always)]
+fn is_number(int: &i64, other: ValueRef<'_>) -> bool
+    ensures { result ≡ true → Int int.now ≡ value_in other.entry }
+{
+    match other {
+        ValueRef::Null => false,
+        ValueRef::Int(number) => *int == number,
+        ValueRef::Text(_) => false,
+    }
+}
+
+#[inline(always)]
+fn is_null(other: ValueRef<'_>) -> bool
+    ensures { result ≡ true → Null ≡ value_in other.entry }
+{
+    match other {
+        ValueRef::Null => true,
+        ValueRef::Int(_) => false,
+        ValueRef::Text(_) => false,
+    }
+}
+
+#[inline(always)]
 fn is_value(value: &Value, other: ValueRef<'_>) -> bool
     ensures { result ≡ true → value.now ≡ value_in other.entry }
 {
-    compare_lent(value.as_value_ref(), other).is_eq()
+    match value {
+        Value::Null => is_null(other),
+        Value::Int(int) => is_number(int, other),
+        Value::Text(text) => is_text(text.as_bytes(), other),
+    }
 }
 
 /// Whether a key is the one that these vectors have at a position.

@@ -7,9 +7,11 @@ mod counts;
 mod handing_out;
 mod hashing;
 mod index;
+mod int_places;
 mod key_list;
 mod keys;
 mod laws;
+mod row_places;
 mod table;
 
 pub use laws::{says_as, tables_grow};

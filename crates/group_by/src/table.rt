@@ -66,12 +66,12 @@ fn add_rows(
 {
     let places = index.find_places(alloc, keys, selection)?;
     let height = index.keys.len();
-    count_rows(rows, height, places.as_slice())?;
+    count_rows(rows, height, &places)?;
     update_all(
         columns.as_mut_slice(),
         alloc,
         height,
-        places.as_slice(),
+        &places,
         arguments,
         selection,
     )?;
@@ -275,8 +275,12 @@ impl GroupTable {
             columns,
             ..
         } = self;
-        let keys = index.into_keys().into_rows(alloc)?;
-        let groups = in_order(alloc, keys, rows.as_slice(), columns.as_slice())?;
+        let groups = in_order(
+            alloc,
+            index.into_keys(),
+            rows.as_slice(),
+            columns.as_slice(),
+        )?;
         Ok(Sequence::from_vec(groups))
     }
 

@@ -18,7 +18,7 @@ narrow_fits z e = let h = narrow_abs z e in fits_signed_from_abs w32 z (omega (a
 pub product_fits : (a b : ℤ) → is_wide a ≡ false → is_wide b ≡ false → FitsSigned w64 (a *ℤ b)
 product_fits a b e f = fits_signed_mul w64 a b 2147483647 2147483647 (narrow_abs a e) (narrow_abs b f) (omega arith)
 
-fits_bits : (z : ℤ) → FitsSigned w64 z → fits_i64 z ≡ true
+pub fits_bits : (z : ℤ) → FitsSigned w64 z → fits_i64 z ≡ true
 fits_bits (pos n) fits = lt-ltb n 9223372036854775808 fits.sfits
 fits_bits (negsuc n) fits = lt-ltb n 9223372036854775808 fits.sfits
 

@@ -1,16 +1,17 @@
 -- Results of integers near zero.
-use Rattle.std.specs.Prelude.{◌≡◌, ℕ, ◌+◌, ◌<◌, ℤ, pos, negsuc, ◌+ℤ◌, ◌-ℤ◌, ◌*ℤ◌, ◌≤ℤ◌, ◌||◌, Bool, true, false, not, nat_lt, eqb, List, length, get_or, set}
-use Rattle.std.specs.Int.{from_bool, int_wrap, w64}
-use Rattle.std.proofs.Common.{refl, sym, ap, arith, subst, ◌∙◌}
-use Rattle.std.proofs.lemmas.Int.{ints}
+use Rattle.std.specs.Prelude.{◌≡◌, ℕ, ◌+◌, ◌<◌, ℤ, pos, negsuc, ◌+ℤ◌, ◌-ℤ◌, ◌*ℤ◌, ◌≤ℤ◌, ◌≤◌, Bool, true, false, bit_or, not, eqb, unsigned_abs, List, length, get_or, set}
+use Rattle.std.specs.Int.{from_bool, w64}
+use Rattle.std.proofs.Common.{refl, sym, ap, arith, subst}
+use Rattle.std.proofs.lemmas.Int.{fits_signed_mul, ints}
+use Rattle.std.proofs.lemmas.Nat.{le_or_l, le_or_r}
 use Rattle.std.proofs.lemmas.Bool.{lt-ltb, eqb-true, eqb-false}
 use Rattle.meaning.specs.declared.expr.ArithmeticOperator.{ArithmeticOperator}
 use Rattle.meaning.specs.declared.expr.ArithmeticOperator.TheVariants.{Add, Subtract, Multiply, Divide}
 use Rattle.meaning.specs.Operators.{fits_i64}
-use Rattle.lane_loops.specs.Lanes.{AreFilled, AreLanes, is_wide, overflow_bit}
-use Rattle.lane_loops.specs.Near.{AreNear, AreResults, IsNear, arith_code, arith_int}
+use Rattle.lane_loops.specs.Lanes.{AreFilled, overflow_bit}
+use Rattle.lane_loops.specs.Near.{AreNear, AreResults, IsNear, IsShort, arith_code, arith_int, limit_of}
 use Rattle.lane_loops.proofs.Filling.{filled_more}
-use Rattle.lane_loops.proofs.Narrow.{product_bit}
+use Rattle.lane_loops.proofs.Narrow.{fits_bits}
 
 fits_within : (z : ℤ) → negsuc 9223372036854775807 ≤ℤ z → z ≤ℤ pos 9223372036854775807 → fits_i64 z ≡ true
 fits_within (pos n) low high = let h : n < 9223372036854775808 = omega (arith, ints, high) in lt-ltb n 9223372036854775808 h
@@ -31,20 +32,29 @@ difference_bit m n a b =
     let high : (m -ℤ n) ≤ℤ pos 9223372036854775807 = omega (arith, ints, a.0, a.1, b.0, b.1) in
     bit_within (m -ℤ n) low high
 
+short_abs : (z : ℤ) → IsShort z → unsigned_abs z ≤ 2147483648
+short_abs (pos n) near = let h = near.1 in omega (arith, ints, h)
+short_abs (negsuc n) near = let h = near.0 in omega (arith, ints, h)
+
+short_bit : (m n : ℤ) → IsShort m → IsShort n → overflow_bit (m *ℤ n) ≡ 0
+short_bit m n a b = ap (λ (x : Bool). from_bool (not x)) (fits_bits (m *ℤ n) (fits_signed_mul w64 m n 2147483648 2147483648 (short_abs m a) (short_abs n b) (omega arith)))
+
 -- no fault is told of such operands
 near_code : (op : ArithmeticOperator) (m n : ℤ) → AreNear op m n → arith_code op m n ≡ 0
 near_code Add m n near = sum_bit m n near.0 near.1
 near_code Subtract m n near = difference_bit m n near.0 near.1
-near_code Multiply m n near = product_bit m n near.0 near.1
+near_code Multiply m n near = short_bit m n near.0 near.1
 near_code Divide m n near = absurd near
 
-or_left : (a b : Bool) → (a || b) ≡ false → a ≡ false
-or_left true b h = h
-or_left false b h = refl
+-- the bits of two are below what neither reaches
+below_left : (a b limit : ℕ) → bit_or a b < limit → a < limit
+below_left a b limit h = let l = le_or_l a b in omega (arith, h, l)
 
-or_right : (a b : Bool) → (a || b) ≡ false → b ≡ false
-or_right true b h = absurd cc
-or_right false b h = h
+below_right : (a b limit : ℕ) → bit_or a b < limit → b < limit
+below_right a b limit h = let r = le_or_r a b in omega (arith, h, r)
+
+pub both_below : {A B : Type 0} (a b limit : ℕ) → (a < limit → A) → (b < limit → B) → bit_or a b < limit → A × B
+both_below a b limit f g h = (f (below_left a b limit h), g (below_right a b limit h))
 
 module _ (op : ArithmeticOperator) (n : ℕ) (left right : ℕ → ℤ) where
   results_more : (out : List ℤ) (i : ℕ) → AreResults op n i left right out → i < n → AreNear op (left i) (right i)
@@ -63,23 +73,14 @@ module _ (op : ArithmeticOperator) (n : ℕ) (left right : ℕ → ℤ) where
     ] refl
 
   -- one lane more, unless one was far
-  pub goes_on : (old new : List ℤ) (i : ℕ) (was is : Bool) → i < n
-      → (was ≡ false → AreResults op n i left right old)
-      → (is ≡ false → AreNear op (left i) (right i))
+  pub goes_on : (old new : List ℤ) (i was is : ℕ) → i < n
+      → (was < limit_of op → AreResults op n i left right old)
+      → (is < limit_of op → AreNear op (left i) (right i))
       → (AreNear op (left i) (right i) → new ≡ set old i (arith_int op (left i) (right i)))
-      → (was || is) ≡ false → AreResults op n (i + 1) left right new
-  goes_on old new i was is within so_far near put none =
-      let here = near (or_right was is none) in
-      subst (AreResults op n (i + 1) left right) (sym (put here)) (results_more old i (so_far (or_left was is none)) within here)
+      → bit_or was is < limit_of op → AreResults op n (i + 1) left right new
+  goes_on old new i was is within so_far near put below =
+      let here = near (below_right was is (limit_of op) below) in
+      subst (AreResults op n (i + 1) left right) (sym (put here)) (results_more old i (so_far (below_left was is (limit_of op) below)) within here)
 
   pub none_yet : (out : List ℤ) → length out ≡ n → AreResults op n 0 left right out
   none_yet out long = record { long = long; each = λ j below. absurd (omega (arith, below)); held = λ j below. absurd (omega (arith, below)) }
-
--- products of integers of 32 bits
-pub products_are : (n : ℕ) (left right : ℕ → ℤ) (out : List ℤ) → AreLanes (pos 0) n (λ i. int_wrap w64 (left i *ℤ right i)) out
-    → ((i : ℕ) → i < n → is_wide (left i) ≡ false) → ((i : ℕ) → i < n → is_wide (right i) ≡ false) → AreResults Multiply n n left right out
-products_are n left right out are narrow_left narrow_right = record {
-  long = are.long;
-  each = λ j below. are.each j below;
-  held = λ j below. product_bit (left j) (right j) (narrow_left j below) (narrow_right j below);
-}

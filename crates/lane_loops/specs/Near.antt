@@ -1,10 +1,10 @@
 -- Arithmetic lane by lane: what an operator leaves in a lane, its code, and operands of which 64 bits hold the result.
-use Rattle.std.specs.Prelude.{◌≡◌, ℕ, ◌<◌, ℤ, pos, negsuc, ◌+ℤ◌, ◌-ℤ◌, ◌*ℤ◌, ◌≤ℤ◌, false, List, length, get_or}
+use Rattle.std.specs.Prelude.{◌≡◌, ℕ, ◌<◌, ℤ, pos, negsuc, ◌+ℤ◌, ◌-ℤ◌, ◌*ℤ◌, ◌≤ℤ◌, List, length, get_or}
 use Rattle.std.specs.Int.{int_wrap, w64}
 use Rattle.meaning.specs.declared.expr.ArithmeticOperator.{ArithmeticOperator}
 use Rattle.meaning.specs.declared.expr.ArithmeticOperator.TheVariants.{Add, Subtract, Multiply, Divide}
 use Rattle.meaning.specs.Operators.{of_integers}
-use Rattle.lane_loops.specs.Lanes.{fault_code, is_wide, overflow_bit, quotient}
+use Rattle.lane_loops.specs.Lanes.{fault_code, overflow_bit, quotient}
 
 -- the code of the fault, or 0
 abbrev pub arith_code : ArithmeticOperator → ℤ → ℤ → ℕ
@@ -24,12 +24,23 @@ arith_int Divide m n = quotient m n
 abbrev pub IsNear : ℤ → Type 0
 IsNear n = (negsuc 4611686018427387903 ≤ℤ n) × (n ≤ℤ pos 4611686018427387903)
 
+-- 32 bits hold it
+abbrev pub IsShort : ℤ → Type 0
+IsShort n = (negsuc 2147483647 ≤ℤ n) × (n ≤ℤ pos 2147483647)
+
 -- so near to zero that 64 bits hold the result. Of quotients it isn't told
 abbrev pub AreNear : ArithmeticOperator → ℤ → ℤ → Type 0
 AreNear Add m n = IsNear m × IsNear n
 AreNear Subtract m n = IsNear m × IsNear n
-AreNear Multiply m n = (is_wide m ≡ false) × (is_wide n ≡ false)
+AreNear Multiply m n = IsShort m × IsShort n
 AreNear Divide m n = ⊥
+
+-- the bits of how far such operands are stay below it
+abbrev pub limit_of : ArithmeticOperator → ℕ
+limit_of Add = 9223372036854775808
+limit_of Subtract = 9223372036854775808
+limit_of Multiply = 4294967296
+limit_of Divide = 0
 
 -- the first `i` of so many lanes are the operator's results, none of which is a fault
 pub record AreResults (op : ArithmeticOperator) (n i : ℕ) (left right : ℕ → ℤ) (lanes : List ℤ) : Type 0 where

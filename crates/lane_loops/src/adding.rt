@@ -101,6 +101,13 @@ fn product_overflow(left: &[i64], right: &[i64], lane: usize) -> u8
 }
 
 #[inline(always)]
+pub fn wrapped_product(left: i64, right: i64) -> i64
+    ensures { result ≡ int_wrap w64 (left *ℤ right) }
+{
+    left.wrapping_mul(right)
+}
+
+#[inline(always)]
 fn put_product(left: &[i64], right: &[i64], lane: usize, out: &mut [i64], over: &mut [u8])
     requires left { lane < length left.now }
     requires right { lane < length right.now }
@@ -110,7 +117,7 @@ fn put_product(left: &[i64], right: &[i64], lane: usize, out: &mut [i64], over: 
     ensures over { over.new ≡ set over.old lane (overflow_bit (int_at left.now lane *ℤ int_at right.now lane)) }
 {
     over[lane] = product_overflow(left, right, lane);
-    out[lane] = left[lane].wrapping_mul(right[lane]);
+    out[lane] = wrapped_product(left[lane], right[lane]);
 }
 
 fn mul_any(left: &[i64], right: &[i64], out: &mut [i64], over: &mut [u8])
@@ -127,13 +134,13 @@ fn mul_any(left: &[i64], right: &[i64], out: &mut [i64], over: &mut [u8])
 
 // Two comparisons, of which the compiler makes one.
 #[inline(always)]
-pub fn is_wide(int: i64) -> bool
+fn is_wide(int: i64) -> bool
     ensures { result ≡ is_wide int }
 {
     (int < -2_147_483_647) | (2_147_483_647 < int)
 }
 
-pub fn has_wide(ints: &[i64]) -> bool
+fn has_wide(ints: &[i64]) -> bool
     ensures { result ≡ list_any is_wide ints.now }
 {
     let mut is_any = false;
@@ -166,7 +173,7 @@ fn put_narrow(left: &[i64], right: &[i64], lane: usize, out: &mut [i64])
 }
 
 /// The products of integers of 32 bits, which 64 bits hold.
-pub fn mul_narrow(left: &[i64], right: &[i64], out: &mut [i64])
+fn mul_narrow(left: &[i64], right: &[i64], out: &mut [i64])
     requires left { length left.now ≡ length out.old }
     requires right { length right.now ≡ length out.old }
     requires narrow_left { list_any is_wide left.now ≡ false }
@@ -175,29 +182,6 @@ pub fn mul_narrow(left: &[i64], right: &[i64], out: &mut [i64])
 {
     for i in 0..out.len() {
         put_narrow(left, right, i, out);
-    }
-}
-
-#[inline(always)]
-fn put_narrow_beside(left: &[i64], lane: usize, right: &i64, out: &mut [i64])
-    requires left { lane < length left.now }
-    requires out { lane < length out.old }
-    requires narrow_left { is_wide (int_at left.now lane) ≡ false }
-    requires narrow_right { is_wide right.now ≡ false }
-    ensures { out.new ≡ set out.old lane (int_wrap w64 (int_at left.now lane *ℤ right.now)) }
-{
-    out[lane] = narrow_product(left[lane], *right);
-}
-
-/// The same with one integer on the right.
-pub fn mul_narrow_to(left: &[i64], right: &i64, out: &mut [i64])
-    requires left { length left.now ≡ length out.old }
-    requires narrow_left { list_any is_wide left.now ≡ false }
-    requires narrow_right { is_wide right.now ≡ false }
-    ensures { AreLanes (pos 0) (length out.old) (λ i. int_wrap w64 (int_at left.now i *ℤ right.now)) out.new }
-{
-    for i in 0..out.len() {
-        put_narrow_beside(left, i, right, out);
     }
 }
 

@@ -1,49 +1,52 @@
 //! Arithmetic on integers near zero, of which no result is beyond 64 bits: no flag is kept of a lane.
 ghost use Rattle.std.specs.Prelude.{◌≡◌, ◌<◌, true, false, length, set};
-ghost use Rattle.meaning.specs.declared.expr.ArithmeticOperator.TheVariants.{Multiply};
-ghost use Rattle.lane_loops.specs.Lanes.{int_at, is_wide};
-ghost use Rattle.lane_loops.specs.Near.{AreNear, AreResults, IsNear, arith_int};
+ghost use Rattle.lane_loops.specs.Lanes.{int_at};
+ghost use Rattle.lane_loops.specs.Near.{AreNear, AreResults, IsNear, IsShort, arith_int, limit_of};
 
-use crate::adding::{
-    has_wide, is_wide, mul_narrow, mul_narrow_to, wrapped_difference, wrapped_sum,
-};
+use crate::adding::{wrapped_difference, wrapped_product, wrapped_sum};
 use meaning::expr::ArithmeticOperator;
 
-// Two comparisons, which the compiler makes one test of the sign of.
+/// How far the integer is above -2^62. Where it isn't within 2^62 of zero, that is 2^63 or more.
 #[inline(always)]
-fn is_far(int: i64) -> bool
-    ensures { result ≡ false → IsNear int }
+fn far(int: &i64) -> u64
+    ensures { result < 9223372036854775808 → IsNear int.now }
 {
-    (int < -4_611_686_018_427_387_904) | (4_611_686_018_427_387_903 < int)
+    int.abs_diff(i64::MIN)
+        .wrapping_sub(4_611_686_018_427_387_904)
 }
 
-/// Whether it isn't clear that 64 bits hold the result.
+/// How far it is above -2^31. Where 32 bits don't hold it, that is 2^32 or more.
 #[inline(always)]
-fn are_far(op: ArithmeticOperator, left: i64, right: i64) -> bool
-    ensures { result ≡ false → AreNear op left right }
+fn far_from_short(int: &i64) -> u64
+    ensures { result < 4294967296 → IsShort int.now }
+{
+    int.abs_diff(i64::MIN)
+        .wrapping_sub(9_223_372_034_707_292_160)
+}
+
+/// The bits of how far both operands are: below the limit 64 bits hold the result.
+#[inline(always)]
+fn far_bits(op: ArithmeticOperator, left: &i64, right: &i64) -> u64
+    ensures { result < limit_of op → AreNear op left.now right.now }
 {
     match op {
-        ArithmeticOperator::Add => is_far(left) | is_far(right),
-        ArithmeticOperator::Subtract => is_far(left) | is_far(right),
-        ArithmeticOperator::Multiply => is_wide(left) | is_wide(right),
-        ArithmeticOperator::Divide => true,
+        ArithmeticOperator::Add => far(left) | far(right),
+        ArithmeticOperator::Subtract => far(left) | far(right),
+        ArithmeticOperator::Multiply => far_from_short(left) | far_from_short(right),
+        ArithmeticOperator::Divide => 0,
     }
 }
 
-/// The integer, or 0 where 32 bits don't hold it.
 #[inline(always)]
-fn short(int: i64) -> i32
-    ensures { is_wide int ≡ false → result ≡ int }
+fn limit(op: ArithmeticOperator) -> u64
+    ensures { result ≡ limit_of op }
 {
-    if is_wide(int) { 0 } else { int as i32 }
-}
-
-// That it is of 32 bits by 32 the compiler sees by the casts.
-#[inline(always)]
-fn short_product(left: i64, right: i64) -> i64
-    ensures { AreNear Multiply left right → result ≡ arith_int Multiply left right }
-{
-    i64::from(short(left)).wrapping_mul(i64::from(short(right)))
+    match op {
+        ArithmeticOperator::Add => 9_223_372_036_854_775_808,
+        ArithmeticOperator::Subtract => 9_223_372_036_854_775_808,
+        ArithmeticOperator::Multiply => 4_294_967_296,
+        ArithmeticOperator::Divide => 0,
+    }
 }
 
 #[inline(always)]
@@ -53,21 +56,23 @@ fn near_result(op: ArithmeticOperator, left: i64, right: i64) -> i64
     match op {
         ArithmeticOperator::Add => wrapped_sum(left, right),
         ArithmeticOperator::Subtract => wrapped_difference(left, right),
-        ArithmeticOperator::Multiply => short_product(left, right),
+        ArithmeticOperator::Multiply => wrapped_product(left, right),
         ArithmeticOperator::Divide => left,
     }
 }
 
-/// Puts the result into its lane, and tells whether it may be another one.
+/// Puts the result into its lane. It may be another one where the bits are at the limit or above.
 #[inline(always)]
-fn put_result(op: ArithmeticOperator, left: &i64, right: &i64, lane: usize, out: &mut [i64]) -> bool
+fn put_result(op: ArithmeticOperator, left: &i64, right: &i64, lane: usize, out: &mut [i64]) -> u64
     requires { lane < length out.old }
     ensures long { length out.new ≡ length out.old }
-    ensures near { result ≡ false → AreNear op left.now right.now }
+    ensures near { result < limit_of op → AreNear op left.now right.now }
     ensures put { AreNear op left.now right.now → out.new ≡ set out.old lane (arith_int op left.now right.now) }
 {
+    // Before the write, so that no operand is read again behind it.
+    let bits = far_bits(op, left, right);
     out[lane] = near_result(op, *left, *right);
-    are_far(op, *left, *right)
+    bits
 }
 
 #[inline(always)]
@@ -77,12 +82,12 @@ fn put_of_two(
     right: &[i64],
     lane: usize,
     out: &mut [i64],
-) -> bool
+) -> u64
     requires left { lane < length left.now }
     requires right { lane < length right.now }
     requires out { lane < length out.old }
     ensures long { length out.new ≡ length out.old }
-    ensures near { result ≡ false → AreNear op (int_at left.now lane) (int_at right.now lane) }
+    ensures near { result < limit_of op → AreNear op (int_at left.now lane) (int_at right.now lane) }
     ensures put { AreNear op (int_at left.now lane) (int_at right.now lane) → out.new ≡ set out.old lane (arith_int op (int_at left.now lane) (int_at right.now lane)) }
 {
     put_result(op, &left[lane], &right[lane], lane, out)
@@ -95,28 +100,11 @@ fn operate_by(op: ArithmeticOperator, left: &[i64], right: &[i64], out: &mut [i6
     ensures long { length out.new ≡ length out.old }
     ensures near { result ≡ false → AreResults op (length out.old) (length out.old) (int_at left.now) (int_at right.now) out.new }
 {
-    let mut is_any_far = false;
+    let mut bits = 0;
     for i in 0..out.len() {
-        is_any_far |= put_of_two(op, left, right, i, out);
+        bits |= put_of_two(op, left, right, i, out);
     }
-    is_any_far
-}
-
-// The factors are looked at first, so that the loop of products has nothing to choose.
-fn multiply_near(left: &[i64], right: &[i64], out: &mut [i64]) -> bool
-    requires left { length left.now ≡ length out.old }
-    requires right { length right.now ≡ length out.old }
-    ensures long { length out.new ≡ length out.old }
-    ensures near { result ≡ false → AreResults Multiply (length out.old) (length out.old) (int_at left.now) (int_at right.now) out.new }
-{
-    if has_wide(left) {
-        return true;
-    }
-    if has_wide(right) {
-        return true;
-    }
-    mul_narrow(left, right, out);
-    false
+    bits >= limit(op)
 }
 
 /// The results of an operator lane by lane, where none is beyond 64 bits. True where that isn't clear; `out` is open then. Of
@@ -131,31 +119,9 @@ pub fn operate_near(op: ArithmeticOperator, left: &[i64], right: &[i64], out: &m
     match op {
         ArithmeticOperator::Add => operate_by(ArithmeticOperator::Add, left, right, out),
         ArithmeticOperator::Subtract => operate_by(ArithmeticOperator::Subtract, left, right, out),
-        ArithmeticOperator::Multiply => multiply_near(left, right, out),
+        ArithmeticOperator::Multiply => operate_by(ArithmeticOperator::Multiply, left, right, out),
         ArithmeticOperator::Divide => true,
     }
-}
-
-#[inline(always)]
-fn is_wide_behind(int: &i64) -> bool
-    ensures { result ≡ is_wide int.now }
-{
-    is_wide(*int)
-}
-
-fn multiply_near_to(left: &[i64], right: &i64, out: &mut [i64]) -> bool
-    requires { length left.now ≡ length out.old }
-    ensures long { length out.new ≡ length out.old }
-    ensures near { result ≡ false → AreResults Multiply (length out.old) (length out.old) (int_at left.now) (λ _. right.now) out.new }
-{
-    if has_wide(left) {
-        return true;
-    }
-    if is_wide_behind(right) {
-        return true;
-    }
-    mul_narrow_to(left, right, out);
-    false
 }
 
 #[inline(always)]
@@ -165,11 +131,11 @@ fn put_beside(
     lane: usize,
     right: &i64,
     out: &mut [i64],
-) -> bool
+) -> u64
     requires left { lane < length left.now }
     requires out { lane < length out.old }
     ensures long { length out.new ≡ length out.old }
-    ensures near { result ≡ false → AreNear op (int_at left.now lane) right.now }
+    ensures near { result < limit_of op → AreNear op (int_at left.now lane) right.now }
     ensures put { AreNear op (int_at left.now lane) right.now → out.new ≡ set out.old lane (arith_int op (int_at left.now lane) right.now) }
 {
     put_result(op, &left[lane], right, lane, out)
@@ -181,11 +147,11 @@ fn operate_to_by(op: ArithmeticOperator, left: &[i64], right: &i64, out: &mut [i
     ensures long { length out.new ≡ length out.old }
     ensures near { result ≡ false → AreResults op (length out.old) (length out.old) (int_at left.now) (λ _. right.now) out.new }
 {
-    let mut is_any_far = false;
+    let mut bits = 0;
     for i in 0..out.len() {
-        is_any_far |= put_beside(op, left, i, right, out);
+        bits |= put_beside(op, left, i, right, out);
     }
-    is_any_far
+    bits >= limit(op)
 }
 
 /// The same with one integer on the right.
@@ -204,7 +170,12 @@ pub fn operate_near_to(op: ArithmeticOperator, left: &[i64], right: &i64, out: &
             &right,
             out,
         ),
-        ArithmeticOperator::Multiply => multiply_near_to(left, &right, out),
+        ArithmeticOperator::Multiply => operate_to_by(
+            ArithmeticOperator::Multiply,
+            left,
+            &right,
+            out,
+        ),
         ArithmeticOperator::Divide => true,
     }
 }
@@ -216,11 +187,11 @@ fn put_behind(
     right: &[i64],
     lane: usize,
     out: &mut [i64],
-) -> bool
+) -> u64
     requires right { lane < length right.now }
     requires out { lane < length out.old }
     ensures long { length out.new ≡ length out.old }
-    ensures near { result ≡ false → AreNear op left.now (int_at right.now lane) }
+    ensures near { result < limit_of op → AreNear op left.now (int_at right.now lane) }
     ensures put { AreNear op left.now (int_at right.now lane) → out.new ≡ set out.old lane (arith_int op left.now (int_at right.now lane)) }
 {
     put_result(op, left, &right[lane], lane, out)
@@ -232,11 +203,11 @@ fn operate_from_by(op: ArithmeticOperator, left: &i64, right: &[i64], out: &mut 
     ensures long { length out.new ≡ length out.old }
     ensures near { result ≡ false → AreResults op (length out.old) (length out.old) (λ _. left.now) (int_at right.now) out.new }
 {
-    let mut is_any_far = false;
+    let mut bits = 0;
     for i in 0..out.len() {
-        is_any_far |= put_behind(op, left, right, i, out);
+        bits |= put_behind(op, left, right, i, out);
     }
-    is_any_far
+    bits >= limit(op)
 }
 
 /// The same with one integer on the left.

@@ -13,7 +13,8 @@ use Rattle.meaning.proofs.Tests.{all_append, both}
 use Rattle.last_step.specs.declared.stop.Stop.{Stop}
 use Rattle.last_step.specs.declared.stop.Stop.TheVariants.{Memory, Fault}
 use Rattle.last_step.specs.Batches.{IsJudged, fits}
-use Rattle.last_step.specs.Given.{Gives, GivesView}
+use Rattle.meaning.specs.Wanting.{TellsIfMemory}
+use Rattle.last_step.specs.Given.{fault_told}
 use Rattle.last_step.proofs.Judging.{judged_behind, starts, goes_on, stops, ends}
 
 abbrev pub judge : Aggregate × Statistics → Result Value ℕ
@@ -37,7 +38,7 @@ module _ (aggs : List Aggregate) (states : List Statistics) (k : ℕ) (a : Aggre
     so_far = goes_on judge judged.before _ _ (a, s) (value_in v) _ here is judged.so_far;
   }
 
-  pub judged_stops : (e : Stop) → GivesView value_in (Err e) (value a.kind s) → IsJudged (map judge (zip aggs states)) (Err e)
+  pub judged_stops : (e : Stop) → TellsIfMemory fault_told value_in (Err e) (value a.kind s) → IsJudged (map judge (zip aggs states)) (Err e)
   judged_stops Memory bad = tt
   judged_stops (Fault c) bad = stops judge judged.before _ _ (a, s) (Fault c) _ here bad judged.so_far
 

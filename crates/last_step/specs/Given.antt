@@ -1,7 +1,7 @@
 -- What a call gives beside what is meant.
---     Gives, GivesView    what is meant, or its fault, unless memory runs out
---     meant               the last step's outcome
-use Rattle.std.specs.Prelude.{◌≡◌, ℕ, Bool, true, false, ⊤, List, Option, Some, None, Result, Ok, Err}
+--     fault_told    the fault that a call's error tells
+--     meant         the last step's outcome
+use Rattle.std.specs.Prelude.{◌≡◌, ℕ, Bool, true, false, List, Option, Some, None, Result, Ok, Err}
 use Rattle.meaning.specs.declared.value.Value.{Value}
 use Rattle.meaning.specs.declared.value.Value.TheVariants.{Null}
 use Rattle.meaning.specs.declared.outcome.Truth.TheVariants.{False, Unknown, True}
@@ -22,17 +22,10 @@ use Rattle.last_step.specs.declared.stop.Stop.TheVariants.{Memory, Fault}
 use Rattle.last_step.specs.declared.finished.Finished.{Finished}
 use Rattle.last_step.specs.declared.finished.Finished.TheVariants as finished
 
--- what a call gave, seen by `view`, is what is meant, and its fault is the one that is meant, unless memory runs out
-abbrev pub GivesView : {X Y : Type 0} → (X → Y) → Result X Stop → Result Y ℕ → Type 0
-GivesView view (Ok x) meaning = meaning ≡ Ok (view x)
-GivesView view (Err (Fault code)) meaning = meaning ≡ Err code
-GivesView view (Err Memory) meaning = ⊤
-
--- the same of what is seen as it is
-abbrev pub Gives : {X : Type 0} → Result X Stop → Result X ℕ → Type 0
-Gives (Ok x) meaning = meaning ≡ Ok x
-Gives (Err (Fault code)) meaning = meaning ≡ Err code
-Gives (Err Memory) meaning = ⊤
+-- the fault that a stop tells, if it isn't that memory was wanting
+abbrev pub fault_told : Stop → Option ℕ
+fault_told Memory = None
+fault_told (Fault code) = Some code
 
 -- what the last step gave
 abbrev pub meant : Finished → last.Finished

@@ -4,7 +4,8 @@ ghost use Rattle.meaning.specs.declared.plan.AggregateKind.TheVariants as the_ki
 ghost use Rattle.meaning.specs.Aggregate.{value};
 ghost use Rattle.meaning.specs.Order.{value_in};
 ghost use Rattle.last_step.specs.Batches.{IsFront, IsJudged, fits};
-ghost use Rattle.last_step.specs.Given.{GivesView};
+ghost use Rattle.meaning.specs.Wanting.{TellsIfMemory};
+ghost use Rattle.last_step.specs.Given.{fault_told};
 
 use crate::stop::Stop;
 use accumulators::{AggFault, Group, State};
@@ -19,7 +20,7 @@ const SUM_OUT_OF_RANGE: u8 = 3;
 fn integer_of(alloc: Global, kind: AggregateKind, state: &State) -> Result<ValueRef<'_>, Stop>
     requires least { kind ≢ the_kind.Min }
     requires greatest { kind ≢ the_kind.Max }
-    ensures value { GivesView value_in result (value kind state.now) }
+    ensures value { TellsIfMemory fault_told value_in result (value kind state.now) }
     ensures fits { IfOk result (λ v. fits (value_in v) ≡ true) }
 {
     match state.evaluate(alloc, kind) {
@@ -47,7 +48,7 @@ fn greatest_of(state: &State) -> ValueRef<'_>
 
 /// The value of an aggregate, lent where the state has it.
 pub fn value_of(alloc: Global, kind: AggregateKind, state: &State) -> Result<ValueRef<'_>, Stop>
-    ensures value { GivesView value_in result (value kind state.now) }
+    ensures value { TellsIfMemory fault_told value_in result (value kind state.now) }
     ensures fits { IfOk result (λ v. fits (value_in v) ≡ true) }
 {
     match kind {

@@ -2,7 +2,8 @@
 ghost use Rattle.std.specs.Prelude.{map};
 ghost use Rattle.meaning.specs.Answer.{read_off};
 ghost use Rattle.last_step.specs.Fitting.{AreGroupsOf};
-ghost use Rattle.last_step.specs.Given.{GivesView};
+ghost use Rattle.meaning.specs.Wanting.{TellsIfMemory};
+ghost use Rattle.last_step.specs.Given.{fault_told};
 ghost use Rattle.last_step.specs.Runs.{expanded, rows_after, rows_behind_groups};
 
 use crate::run::Run;
@@ -14,7 +15,7 @@ use std::alloc::Global;
 
 fn push_all(alloc: Global, plan: &Plan, groups: &[Group], runs: &mut Vec<Run>) -> Result<(), Stop>
     requires { AreGroupsOf plan.now groups.now }
-    ensures { GivesView (λ _. expanded runs.new.items) result (rows_after plan.now (expanded runs.old.items) groups.now) }
+    ensures { TellsIfMemory fault_told (λ _. expanded runs.new.items) result (rows_after plan.now (expanded runs.old.items) groups.now) }
 {
     if plan.plain {
         return Ok(push_plain(alloc, groups, runs)?);
@@ -25,7 +26,7 @@ fn push_all(alloc: Global, plan: &Plan, groups: &[Group], runs: &mut Vec<Run>) -
 /// The rows of the groups as runs, or the first fault from group to group.
 pub fn runs_of(alloc: Global, plan: &Plan, groups: &[Group]) -> Result<Vec<Run>, Stop>
     requires { AreGroupsOf plan.now groups.now }
-    ensures { GivesView (λ runs. expanded runs.items) result (rows_behind_groups plan.now (map (read_off plan.now) groups.now)) }
+    ensures { TellsIfMemory fault_told (λ runs. expanded runs.items) result (rows_behind_groups plan.now (map (read_off plan.now) groups.now)) }
 {
     let mut runs = Vec::new(alloc);
     push_all(alloc, plan, groups, &mut runs)?;

@@ -6,7 +6,8 @@ ghost use Rattle.meaning.specs.Order.{Row as ARow};
 ghost use Rattle.accumulators.specs.Values.{is_spelled, values_of};
 ghost use Rattle.last_step.specs.Batches.{AreReadable, HasValues, IsBatchOf, ended, lane_row, shown_after};
 ghost use Rattle.last_step.specs.Fitting.{AreGroupsOf};
-ghost use Rattle.last_step.specs.Given.{GivesView};
+ghost use Rattle.meaning.specs.Wanting.{TellsIfMemory};
+ghost use Rattle.last_step.specs.Given.{fault_told};
 ghost use Rattle.last_step.specs.Runs.{expanded, plain_rows, rows_after};
 
 use crate::aggregates::front_of;
@@ -89,7 +90,7 @@ fn push_shown(
     requires small { batch.now.rows < 2 ^ 32 }
     requires rows { (rows : List JoinedRow) × IsBatchOf plan.now rows batch.now }
     ensures { (rows : List JoinedRow) → IsBatchOf plan.now rows batch.now
-        → GivesView (λ _. expanded runs.new.items) result (shown_after plan.now (expanded runs.old.items) rows) }
+        → TellsIfMemory fault_told (λ _. expanded runs.new.items) result (shown_after plan.now (expanded runs.old.items) rows) }
 {
     let shown = evaluate(alloc, plan, batch)?;
     match shown.fault.held {
@@ -104,7 +105,7 @@ fn push_sound(alloc: Global, plan: &Plan, groups: &[Group], runs: &mut Vec<Run>)
     requires groups { AreGroupsOf plan.now groups.now }
     requires few { length groups.now < 2 ^ 32 }
     requires values { All (HasValues plan.now) groups.now }
-    ensures { GivesView (λ _. expanded runs.new.items) result (rows_after plan.now (expanded runs.old.items) groups.now) }
+    ensures { TellsIfMemory fault_told (λ _. expanded runs.new.items) result (rows_after plan.now (expanded runs.old.items) groups.now) }
 {
     let batch = batch_of(alloc, plan, groups)?;
     let pushed = push_shown(alloc, plan, &batch, runs);
@@ -113,7 +114,7 @@ fn push_sound(alloc: Global, plan: &Plan, groups: &[Group], runs: &mut Vec<Run>)
 }
 
 fn end_of(fault: Option<u8>) -> Result<(), Stop>
-    ensures { (rows : List ARow) → GivesView (λ _. rows) result (ended fault rows) }
+    ensures { (rows : List ARow) → TellsIfMemory fault_told (λ _. rows) result (ended fault rows) }
 {
     match fault {
         Some(code) => Err(Stop::Fault(code)),
@@ -126,7 +127,7 @@ fn push_batch(alloc: Global, plan: &Plan, groups: &[Group], runs: &mut Vec<Run>)
     requires grouped { plan.now.plain ≡ false }
     requires groups { AreGroupsOf plan.now groups.now }
     requires few { length groups.now < 2 ^ 32 }
-    ensures { GivesView (λ _. expanded runs.new.items) result (rows_after plan.now (expanded runs.old.items) groups.now) }
+    ensures { TellsIfMemory fault_told (λ _. expanded runs.new.items) result (rows_after plan.now (expanded runs.old.items) groups.now) }
 {
     let front = front_of(alloc, plan, groups)?;
     push_sound(alloc, plan, &groups[..front.count], runs)?;
@@ -142,7 +143,7 @@ pub fn push_grouped(
 ) -> Result<(), Stop>
     requires grouped { plan.now.plain ≡ false }
     requires groups { AreGroupsOf plan.now groups.now }
-    ensures { GivesView (λ _. expanded runs.new.items) result (rows_after plan.now (expanded runs.old.items) groups.now) }
+    ensures { TellsIfMemory fault_told (λ _. expanded runs.new.items) result (rows_after plan.now (expanded runs.old.items) groups.now) }
 {
     let mut rest = groups;
     while !rest.is_empty() {

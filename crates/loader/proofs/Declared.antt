@@ -1,15 +1,14 @@
 -- Columns that are declared, and the values that they take.
 use Rattle.std.proofs.Common.{◌≡◌, ◌<◌, ◌≤◌, ◌+◌, ◌∙◌, ℕ, zero, suc, Bool, true, false, ◌&&◌, ◌||◌, not, List, [], ◌∷◌, ◌++◌, length, map, take, drop, get_or, Some, None, Ok, Err, ◌==◌, unwrap_or, zero-add, refl, sym, ap, arith}
 use Rattle.std.specs.Prelude.{Option, Result, OnOk, nat_le, if◌then◌else◌, is_none, is_some, slice_get, slice_index_or}
-use Rattle.std.specs.List.{enumerate_from, list_all, position, range_with_len}
-use Rattle.std.specs.Cmp.Lexicographic.{pointwise}
+use Rattle.std.specs.List.{enumerate_from, position, range_with_len}
 use Rattle.std.specs.Str.{is_utf8}
 use Rattle.std.proofs.lemmas.Bool.{and_parts, eqb-true}
 use Rattle.std.proofs.lemmas.List.FromFn.{length-range_with_len, get_or-range_with_len}
 use Rattle.std.proofs.lemmas.List.Quantifiers.{position-Some}
 use Rattle.std.proofs.lemmas.List.Sums.{AllPass-from_list_all}
 use Rattle.std.proofs.lemmas.Option.{slice_get-get_or}
-use Rattle.std.proofs.lemmas.List.{get_or-map, length-map, length-take, map-append, take-append-drop}
+use Rattle.std.proofs.lemmas.List.{get_or-map, length-append, length-map, length-take, map-append, take-append-drop}
 use Rattle.meaning.specs.declared.value.ColType.{ColType}
 use Rattle.meaning.specs.declared.value.ColType.TheVariants as of_type
 use Rattle.meaning.specs.declared.value.Value.{Value}
@@ -23,10 +22,9 @@ use Rattle.meaning.proofs.LoadedRows.{taken, front_ok}
 use Rattle.meaning.proofs.Tests.{both}
 use Rattle.columns.specs.Column.{ColumnSpec, refusal}
 use Rattle.columns.specs.declared.fault.ColumnFault.TheVariants as fault
-use Rattle.loader.specs.Columns.{AreDeclared, Kind, kind_of, declared_kind, column_of, columns_of, take_row, takes, with_row}
+use Rattle.loader.specs.Columns.{AreDeclared, Kind, kind_of, declared_kind, column_of, columns_of, row_counts, take_row, takes, with_row}
 use Rattle.loader.specs.Steps.{IsOrderOf, TakesRow, field_places, has_each}
 use Rattle.loader.specs.declared.fault.LoadFault.{LoadFault}
-use Rattle.loader.specs.declared.fault.LoadFault.TheVariants.{Memory, Table, Device}
 use Rattle.loader.proofs.Fragments.{long_row, places_length}
 
 -- ---- one value
@@ -158,6 +156,40 @@ declared_kept declared order row fields cs after (Ok _) is are (r, judged, e) =
     let many = declared_length declared cs are in
     ap (map kind_of) e ∙ same_kinds cs r (omega (arith, long, wide, many)) ∙ are
 
+-- each column has a row more
+pub rows_longer : (declared : List Column) (order : List ℕ) (row : ℕ) (fields : Record) (cs after : List ColumnSpec) (r : Result (Unit {0}) LoadFault) → IsOrderOf declared order
+    → AreDeclared declared cs → TakesRow (row_of declared order row fields) cs after r → OnOk r (row_counts after ≡ map (λ n. n + 1) (row_counts cs))
+rows_longer declared order row fields cs after (Err f) is are told = tt
+rows_longer declared order row fields cs after (Ok _) is are (r, judged, e) =
+    let long = long_row declared order row fields r judged in
+    let wide = is.long in
+    let many = declared_length declared cs are in
+    ap row_counts e ∙ one_longer cs r (omega (arith, long, wide, many))
+  where
+    one_longer : (cs : List ColumnSpec) (r : Row) → length cs ≤ length r → row_counts (with_row cs r) ≡ map (λ n. n + 1) (row_counts cs)
+    one_longer [] r le = refl
+    one_longer (c ∷ cs) [] le = absurd (omega arith)
+    one_longer (c ∷ cs) (v ∷ r) le =
+        let here : length (c.values ++ v ∷ []) ≡ length c.values + 1 = length-append c.values (v ∷ []) in
+        let others = one_longer cs r (omega arith) in
+        rw (here, others) refl
+
+-- so many rows more, and one
+pub longer_still : (counts now after : List ℕ) (i : ℕ) → now ≡ map (λ n. n + i) counts → after ≡ map (λ n. n + 1) now → after ≡ map (λ n. n + (i + 1)) counts
+longer_still counts now after i so one = one ∙ ap (map (λ n. n + 1)) so ∙ added counts i
+  where
+    added : (counts : List ℕ) (i : ℕ) → map (λ n. n + 1) (map (λ n. n + i) counts) ≡ map (λ n. n + (i + 1)) counts
+    added [] i = refl
+    added (n ∷ counts) i =
+        let here : n + i + 1 ≡ n + (i + 1) = omega arith in
+        rw (here, added counts i) refl
+
+pub none_longer : (counts : List ℕ) → counts ≡ map (λ n. n + 0) counts
+none_longer [] = refl
+none_longer (n ∷ counts) =
+    let here : n + 0 ≡ n = omega arith in
+    rw (here, sym (none_longer counts)) refl
+
 -- the columns, of which the front has a value more, at a place
 pub front_kind : (cs : List ColumnSpec) (values : Row) (i : ℕ) (c : ColumnSpec) → i ≤ length values → i < length cs
     → kind_of (get_or (with_row (take i cs) values ++ drop i cs) i c) ≡ kind_of (get_or cs i c)
@@ -177,3 +209,14 @@ fresh_declared declared = from_place declared 0
     from_place : (ds : List Column) (n : ℕ) → map kind_of (map (column_of []) (enumerate_from n ds)) ≡ map declared_kind ds
     from_place [] n = refl
     from_place (d ∷ ds) n = ap (λ (ks : List Kind). declared_kind d ∷ ks) (from_place ds (n + 1))
+
+-- columns that had no rows have those that were put there
+pub fresh_rows : (declared : List Column) (before after : List ColumnSpec) (n : ℕ) → before ≡ columns_of declared [] → row_counts after ≡ map (λ k. k + n) (row_counts before) → row_counts after ≡ map (λ _. n) declared
+fresh_rows declared before after n fresh longer = longer ∙ ap (λ (cs : List ColumnSpec). map (λ k. k + n) (row_counts cs)) fresh ∙ from_place declared 0 n
+  where
+    from_place : (ds : List Column) (i n : ℕ) → map (λ k. k + n) (row_counts (map (column_of []) (enumerate_from i ds))) ≡ map (λ _. n) ds
+    from_place [] i n = refl
+    from_place (d ∷ ds) i n =
+        let here : 0 + n ≡ n = omega arith in
+        let others = from_place ds (i + 1) n in
+        rw (here, others) refl

@@ -1,8 +1,7 @@
 -- From the header and the fragments behind it to the fact table.
-use Rattle.std.proofs.Common.{◌≡◌, ◌≤◌, ◌<◌, ◌^◌, ℕ, suc, ◌*◌, Bool, true, false, List, [], ◌∷◌, length, map, drop, get_or, Ok, Err, None, Option, refl, sym, ap, ◌∙◌, arith}
+use Rattle.std.proofs.Common.{◌≡◌, ◌≤◌, ◌<◌, ◌^◌, ℕ, suc, ◌*◌, Bool, true, false, List, [], ◌∷◌, length, map, get_or, Ok, Err, None, sym, ap, ◌∙◌, arith}
 use Rattle.std.specs.Prelude.{Result, sum, if◌then◌else◌}
 use Rattle.std.specs.List.{enumerate_from}
-use Rattle.csv.specs.declared.reader.Reader.{Reader}
 use Rattle.meaning.specs.Limits.{max_rows}
 use Rattle.meaning.specs.declared.catalog.Catalog.{Catalog}
 use Rattle.meaning.specs.declared.catalog.Column.{Column}
@@ -11,27 +10,18 @@ use Rattle.meaning.specs.declared.table.TableFault.TheVariants as fault
 use Rattle.meaning.specs.Cut.{IsCut, Cut}
 use Rattle.meaning.specs.Records.{Record, is_header, file_order, unless_few, judged_record}
 use Rattle.meaning.specs.Results.{all_ok, and_then}
-use Rattle.columns.specs.Column.{ColumnSpec}
-use Rattle.loader.specs.declared.fault.LoadFault.{LoadFault}
-use Rattle.loader.specs.declared.fault.LoadFault.TheVariants.{Memory, Table, Device}
 use Rattle.loader.specs.Columns.{fact_fragments, fragments_of}
-use Rattle.loader.specs.Fault.{LoadsView}
-use Rattle.loader.specs.Source.{IsLeft}
-use Rattle.loader.specs.Steps.{order_of, is_more, unless_more, whole_fragments, TakesFragments}
+use Rattle.loader.specs.Steps.{order_of, fragments_left}
 use Rattle.loader.proofs.WholeTable.{cut_from, sum_cons}
 
 -- the order of the columns, where the first record is a header
 abbrev pub ordered : Bool → List ℕ → Result (List ℕ) TableFault
 ordered b order = if b then Ok order else Err fault.Header
 
--- fragments, and whether a record is left over
-abbrev pub ended : Bool → List (List ColumnSpec) → Result (List (List ColumnSpec)) TableFault
-ended found fragments = if found then Err fault.TooManyRows else Ok fragments
-
 -- a table behind its header
 by_header : (declared : List Column) (cut : Cut) (header : Record) (others : List Record) (order : List ℕ) (b : Bool) → ordered b (file_order declared header) ≡ Ok order
     → and_then (if b then and_then (all_ok (map (judged_record declared None (sum cut) (file_order declared header) others) (enumerate_from 0 others))) (unless_few (sum cut)) else Err fault.Header) (λ rows. Ok (fragments_of declared cut rows))
-    ≡ whole_fragments declared order cut others
+    ≡ fragments_left declared order 0 cut others
 by_header declared cut header others order true e =
     let same : file_order declared header ≡ order = cc e in
     ap (λ (o : List ℕ). and_then (and_then (all_ok (map (judged_record declared None (sum cut) o others) (enumerate_from 0 others))) (unless_few (sum cut))) (λ rows. Ok (fragments_of declared cut rows))) same
@@ -39,31 +29,14 @@ by_header declared cut header others order true e =
 by_header declared cut header others order false e = cc e
 
 pub fact_is : (catalog : Catalog) (cut : Cut) (header : Record) (others : List Record) (order : List ℕ) → order_of catalog.fact.columns header ≡ Ok order
-    → fact_fragments catalog cut (header ∷ others) ≡ whole_fragments catalog.fact.columns order cut others
+    → fact_fragments catalog cut (header ∷ others) ≡ fragments_left catalog.fact.columns order 0 cut others
 fact_is catalog cut header others order e = by_header catalog.fact.columns cut header others order (is_header catalog.fact.columns header) e
-
-module _ {R X : Type 0} (view : X → List (List ColumnSpec)) (known : R → Option (List ℕ)) (reader : Reader R) (cut : Cut) (declared : List Column) (lengths : List ℕ) (others : List Record) (order : List ℕ) (parts : lengths ≡ cut) where
-  pub rows_refused : (e : LoadFault) → TakesFragments view known declared order lengths others reader (Err e) → LoadsView view (Err e) (whole_fragments declared order cut others)
-  rows_refused (Table f) taken = rw parts at (ap (λ fs. and_then fs (unless_more (drop (sum lengths) others))) taken)
-  rows_refused Memory taken = tt
-  rows_refused Device taken = tt
-
-  by_more : (fragments : List (List ColumnSpec)) (rest : List Record) (found : Bool) → found ≡ is_more rest → unless_more rest fragments ≡ ended found fragments
-  by_more fragments [] true e = cc e
-  by_more fragments [] false e = refl
-  by_more fragments (r ∷ rest) true e = refl
-  by_more fragments (r ∷ rest) false e = cc e
-
-  pub rows_loaded : (x : X) (found : Bool) → TakesFragments view known declared order lengths others reader (Ok x)
-      → ((rest : List Record) → IsLeft known reader rest → found ≡ is_more rest) → whole_fragments declared order cut others ≡ ended found (view x)
-  rows_loaded x found (taken, left) more =
-      rw parts at (ap (λ fs. and_then fs (unless_more (drop (sum lengths) others))) taken ∙ by_more (view x) (drop (sum lengths) others) found (more (drop (sum lengths) others) left))
 
 -- the table of a file whose header was read
 pub opened_fact : (catalog : Catalog) (cut : Cut) (declared : List Column) (records : List Record) (header : Record) (others : List Record) (order : List ℕ) → declared ≡ catalog.fact.columns → records ≡ header ∷ others
-    → order_of declared header ≡ Ok order → fact_fragments catalog cut records ≡ whole_fragments declared order cut others
+    → order_of declared header ≡ Ok order → fact_fragments catalog cut records ≡ fragments_left declared order 0 cut others
 opened_fact catalog cut declared records header others order same all ordered_so =
-    ap (fact_fragments catalog cut) all ∙ fact_is catalog cut header others order (rw same at ordered_so) ∙ ap (λ (d : List Column). whole_fragments d order cut others) (sym same)
+    ap (fact_fragments catalog cut) all ∙ fact_is catalog cut header others order (rw same at ordered_so) ∙ ap (λ (d : List Column). fragments_left d order 0 cut others) (sym same)
 
 -- ---- the rows of a cut
 

@@ -5,6 +5,7 @@ pub mod DimensionSteps
 pub mod FactSteps
 pub mod Fields
 pub mod Fragments
+pub mod Handing
 pub mod InOrder
 pub mod Integers
 pub mod Judging

@@ -29,7 +29,7 @@ ok_parts (Ok y) (Ok ys) xs e = (y, ys, refl, refl, cc e)
 abbrev pub behind : {X E : Type 0} → List X → Result (List X) E → Result (List X) E
 behind before all = and_then all (λ more. Ok (before ++ more))
 
-behind_none : {X E : Type 0} (all : Result (List X) E) → all ≡ behind [] all
+pub behind_none : {X E : Type 0} (all : Result (List X) E) → all ≡ behind [] all
 behind_none (Ok xs) = refl
 behind_none (Err e) = refl
 

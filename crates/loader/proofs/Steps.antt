@@ -7,7 +7,8 @@ use Rattle.meaning.specs.Records.{Record, row_of}
 use Rattle.columns.specs.Column.{ColumnSpec}
 use Rattle.loader.specs.declared.fault.LoadFault.{LoadFault}
 use Rattle.loader.specs.declared.fault.LoadFault.TheVariants.{Memory, Table, Device}
-use Rattle.loader.specs.Fault.{LoadsView}
+use Rattle.meaning.specs.Wanting.{TellsIfMemory}
+use Rattle.loader.specs.Fault.{fault_told}
 use Rattle.loader.specs.Source.{IsLeft, TakesNext}
 use Rattle.loader.specs.Steps.{IsFaultOf, Opens, TakesRow, TakesNextRow, is_more, order_of}
 use Rattle.meaning.specs.Order.{Row}
@@ -46,7 +47,7 @@ fault_taken judged before now Device told = tt
 
 -- what the first record says of the columns is what opening gives
 pub opened : {R X : Type 0} (known : R → Option (List ℕ)) (after : Reader R) (declared : List Column) (order : X → List ℕ) (rest others : List Record) (header : Record)
-    → rest ≡ header ∷ others → IsLeft known after others → (result : Result X LoadFault) → LoadsView order result (order_of declared header)
+    → rest ≡ header ∷ others → IsLeft known after others → (result : Result X LoadFault) → TellsIfMemory fault_told order result (order_of declared header)
     → Opens order (λ _. after) known declared rest result
 opened known after declared order rest others header first left (Ok x) told = (header, others, first, told, left)
 opened known after declared order rest others header first left (Err (Table fault)) told = rw first told

@@ -17,7 +17,8 @@ use Rattle.meaning.specs.declared.value.Value.{Value}
 use Rattle.meaning.specs.declared.value.Value.TheVariants.{Null, Text}
 use Rattle.meaning.specs.Records.{Record, field_value, not_null_value, present_value, spells_null, file_order, file_values, is_header, names, value_at}
 use Rattle.meaning.specs.Results.{with_result}
-use Rattle.loader.specs.Fault.{LoadsView}
+use Rattle.meaning.specs.Wanting.{TellsIfMemory}
+use Rattle.loader.specs.Fault.{fault_told}
 use Rattle.loader.specs.declared.fault.LoadFault.{LoadFault}
 use Rattle.loader.specs.declared.header.FileOrder.{FileOrder}
 use Rattle.loader.specs.Steps.{IsOrderOf, order_of}
@@ -96,11 +97,11 @@ order_is columns header order e =
       | false ↦ λ t wrong. cc wrong
     ] refl e
 
-pub judged_texts : (values : List Value) (columns : List Column) (order : List ℕ) (row : ℕ) (fields : Record) (r : Result (Unit {0}) LoadFault) → IsOrderOf columns order → length fields ≡ length columns → LoadsView (λ _. values) r (file_values columns order row fields) → OnOk r (AllText fields)
+pub judged_texts : (values : List Value) (columns : List Column) (order : List ℕ) (row : ℕ) (fields : Record) (r : Result (Unit {0}) LoadFault) → IsOrderOf columns order → length fields ≡ length columns → TellsIfMemory fault_told (λ _. values) r (file_values columns order row fields) → OnOk r (AllText fields)
 judged_texts values columns order row fields (Ok x) is long told = valued_fields columns order row fields values is.within (is.long ∙ sym long) told
 judged_texts values columns order row fields (Err f) is long told = tt
 
-pub order_told : (columns : List Column) (header : Record) (r : Result FileOrder LoadFault) → LoadsView (λ (o : FileOrder). o.columns.items) r (order_of columns header) → IfOk r (λ o. IsOrderOf columns o.columns.items)
+pub order_told : (columns : List Column) (header : Record) (r : Result FileOrder LoadFault) → TellsIfMemory fault_told (λ (o : FileOrder). o.columns.items) r (order_of columns header) → IfOk r (λ o. IsOrderOf columns o.columns.items)
 order_told columns header (Ok o) told = order_is columns header o.columns.items told
 order_told columns header (Err f) told = tt
 

@@ -33,6 +33,14 @@ declared_kind d = (d.col_type, d.nullable)
 abbrev pub AreDeclared : List Column → List ColumnSpec → Type 0
 AreDeclared declared columns = map kind_of columns ≡ map declared_kind declared
 
+-- how many rows each column has
+abbrev pub row_counts : List ColumnSpec → List ℕ
+row_counts columns = map (λ c. length c.values) columns
+
+-- the columns are of the declared kinds, and each has so many rows
+abbrev pub AreRowsOf : List Column → ℕ → List ColumnSpec → Type 0
+AreRowsOf declared n columns = AreDeclared declared columns × (row_counts columns ≡ map (λ _. n) declared)
+
 -- a value may stand in the column, and each value of a row in its own
 abbrev pub takes : ColumnSpec → Value → Bool
 takes c v = is_none (refusal c.col_type c.nullable v)

@@ -1,5 +1,5 @@
 -- The numbers of refusals, and what a call gives beside what is meant.
-use Rattle.std.specs.Prelude.{◌≡◌, ◌≤◌, ℕ, ⊤, Result, Ok, Err}
+use Rattle.std.specs.Prelude.{◌≡◌, ◌≤◌, ℕ, ⊤, Option, None, Some}
 use Rattle.meaning.specs.declared.table.TableFault.{TableFault}
 use Rattle.meaning.specs.declared.table.TableFault.TheVariants.{TooManyRows}
 use Rattle.meaning.specs.Records as records
@@ -33,9 +33,8 @@ IsOfCounting Memory = ⊤
 IsOfCounting Device = ⊤
 IsOfCounting (Table fault) = fault ≡ TooManyRows
 
--- what a call gave, seen by `view`, is what is meant, unless memory runs out or the reader failed
-abbrev pub LoadsView : {X Y : Type 0} → (X → Y) → Result X LoadFault → Result Y TableFault → Type 0
-LoadsView view (Ok x) meant = meant ≡ Ok (view x)
-LoadsView view (Err (Table fault)) meant = meant ≡ Err fault
-LoadsView view (Err Memory) meant = ⊤
-LoadsView view (Err Device) meant = ⊤
+-- the fault that is told, where it is neither that memory was wanting nor that the reader failed
+abbrev pub fault_told : LoadFault → Option TableFault
+fault_told Memory = None
+fault_told (Table fault) = Some fault
+fault_told Device = None

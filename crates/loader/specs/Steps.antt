@@ -139,17 +139,10 @@ abbrev pub unless_more : List Record → List (List ColumnSpec) → Result (List
 unless_more [] fragments = Ok fragments
 unless_more (r ∷ rs) fragments = Err fault.TooManyRows
 
-abbrev pub whole_fragments : List Column → List ℕ → List ℕ → List Record → Result (List (List ColumnSpec)) TableFault
-whole_fragments declared order lengths records =
-    and_then (fragments_at declared order 0 lengths records) (unless_more (drop (sum lengths) records))
-
--- fragments of the next records were made, or the first fault is told
-abbrev pub TakesFragments : {R X : Type 0} → (X → List (List ColumnSpec)) → (R → Option (List ℕ)) → List Column → List ℕ → List ℕ → List Record → Reader R → Result X LoadFault → Type 0
-TakesFragments view known declared order lengths rest reader (Ok fragments) =
-    (fragments_at declared order 0 lengths rest ≡ Ok (view fragments)) × IsLeft known reader (drop (sum lengths) rest)
-TakesFragments view known declared order lengths rest reader (Err (Table fault)) = fragments_at declared order 0 lengths rest ≡ Err fault
-TakesFragments view known declared order lengths rest reader (Err Memory) = ⊤
-TakesFragments view known declared order lengths rest reader (Err Device) = ⊤
+-- each fragment's columns, of records whose numbers begin with `first`, where no record is left over
+abbrev pub fragments_left : List Column → List ℕ → ℕ → List ℕ → List Record → Result (List (List ColumnSpec)) TableFault
+fragments_left declared order first lengths records =
+    and_then (fragments_at declared order first lengths records) (unless_more (drop (sum lengths) records))
 
 -- the records behind the header are to come, or the header is missing or another one
 abbrev pub Opens : {R X : Type 0} → (X → List ℕ) → (X → Reader R) → (R → Option (List ℕ)) → List Column → List Record → Result X LoadFault → Type 0

@@ -2,7 +2,8 @@
 ghost use Rattle.std.specs.Prelude.{◌≡◌, ◌<◌, ℕ, List, length, Some, Decides, option_copied};
 ghost use Rattle.meaning.specs.declared.catalog.Dimension.{Dimension as ADimension};
 ghost use Rattle.loader.specs.Columns.{HasDimension, dimension_columns, dimension_named};
-ghost use Rattle.loader.specs.Fault.{LoadsView};
+ghost use Rattle.meaning.specs.Wanting.{TellsIfMemory};
+ghost use Rattle.loader.specs.Fault.{fault_told};
 ghost use Rattle.loader.specs.Source.{csv_records};
 
 use crate::fault::LoadFault;
@@ -24,7 +25,7 @@ pub fn load_dimension<R: Read + Drop>(
 ) -> Result<Sequence<Column>, LoadFault>
     requires { dimension.now.key < length dimension.now.table.columns }
     ensures { (bytes : List ℕ) → R.remaining reader ≡ Some bytes
-        → LoadsView (λ columns. columns) result (dimension_columns dimension.now (csv_records bytes)) }
+        → TellsIfMemory fault_told (λ columns. columns) result (dimension_columns dimension.now (csv_records bytes)) }
 {
     let mut rows = open_rows(alloc, dimension.table.columns.as_slice(), reader)?;
     let columns = rows.keyed_columns(alloc, dimension.key, u64::from(MAX_ROWS));
@@ -58,7 +59,7 @@ pub fn load_dim<R: Read + Drop>(
 ) -> Result<Sequence<Column>, LoadFault>
     requires { HasDimension catalog.now name.now }
     ensures { (d : ADimension) (bytes : List ℕ) → dimension_named catalog.now name.now ≡ Some d → R.remaining reader ≡ Some bytes
-        → LoadsView (λ columns. columns) result (dimension_columns d (csv_records bytes)) }
+        → TellsIfMemory fault_told (λ columns. columns) result (dimension_columns d (csv_records bytes)) }
 {
     let Some(dimension) = dimension_named(catalog, name) else {
         unreachable!()

@@ -3,7 +3,8 @@ ghost use Rattle.std.specs.Prelude.{◌≡◌, ◌==◌, true, map, count_by, po
 ghost use Rattle.std.specs.List.{list_all};
 ghost use Rattle.csv.specs.Records.{fields_of};
 ghost use Rattle.meaning.specs.Records as declared;
-ghost use Rattle.loader.specs.Fault.{LoadsView};
+ghost use Rattle.meaning.specs.Wanting.{TellsIfMemory};
+ghost use Rattle.loader.specs.Fault.{fault_told};
 ghost use Rattle.loader.specs.Steps.{field_places, has_each, is_in_order, order_of};
 
 use crate::fault::LoadFault;
@@ -142,7 +143,7 @@ fn with_places(alloc: Global, columns: Vec<usize>) -> Result<FileOrder, AllocErr
 
 /// The order of the columns that the fields of a header name.
 fn order_by(alloc: Global, columns: &[Column], header: &[&[u8]]) -> Result<FileOrder, LoadFault>
-    ensures { LoadsView (λ order. order.columns.items) result (order_of columns.now (map (λ field. field.now) header.now)) }
+    ensures { TellsIfMemory fault_told (λ order. order.columns.items) result (order_of columns.now (map (λ field. field.now) header.now)) }
 {
     if !is_header(columns, header) {
         return Err(LoadFault::Table(TableFault::Header));
@@ -156,7 +157,7 @@ pub fn order_of(
     columns: &[Column],
     header: &ByteRecord,
 ) -> Result<FileOrder, LoadFault>
-    ensures { LoadsView (λ order. order.columns.items) result (order_of columns.now (fields_of header.now)) }
+    ensures { TellsIfMemory fault_told (λ order. order.columns.items) result (order_of columns.now (fields_of header.now)) }
 {
     let header = fields_in(alloc, header)?;
     let order = order_by(alloc, columns, header.as_slice());

@@ -1,6 +1,7 @@
 //! Tables from CSV: the records that `csv` reads, judged and put into columns.
 #![tactic(auto)]
 
+mod ahead;
 mod counting;
 mod dimension;
 mod fact;
@@ -16,5 +17,5 @@ mod table;
 
 pub use counting::count_rows;
 pub use dimension::{has_dim, load_dim, load_dimension};
-pub use fact::load_fact;
+pub use fact::{FactReader, load_fact, open_fact};
 pub use fault::LoadFault;

@@ -3,7 +3,8 @@ ghost use Rattle.std.specs.Prelude.{◌≡◌, true, slice_get, map, zip, Result
 ghost use Rattle.std.specs.Str.{is_utf8};
 ghost use Rattle.csv.specs.Records.{AllText, fields_of};
 ghost use Rattle.meaning.specs.Records as declared;
-ghost use Rattle.loader.specs.Fault.{LoadsView};
+ghost use Rattle.meaning.specs.Wanting.{TellsIfMemory};
+ghost use Rattle.loader.specs.Fault.{fault_told};
 ghost use Rattle.loader.specs.Steps.{ReadsField, values_of};
 
 use crate::fault::LoadFault;
@@ -47,7 +48,7 @@ pub fn judge_texts(
     parsed: &mut Vec<Parsed>,
 ) -> Result<(), LoadFault>
     requires { AllText (fields_of fields.now) }
-    ensures { LoadsView (λ _. values_of parsed.new.items (fields_of fields.now)) result (declared.file_values columns.now order.now row (fields_of fields.now)) }
+    ensures { TellsIfMemory fault_told (λ _. values_of parsed.new.items (fields_of fields.now)) result (declared.file_values columns.now order.now row (fields_of fields.now)) }
 {
     parsed.clear();
     for (i, place) in order.iter().enumerate() {
@@ -67,7 +68,7 @@ pub fn judge_fields(
     fields: &ByteRecord,
     parsed: &mut Vec<Parsed>,
 ) -> Result<(), LoadFault>
-    ensures { LoadsView (λ _. values_of parsed.new.items (fields_of fields.now)) result (declared.file_values columns.now order.now row (fields_of fields.now)) }
+    ensures { TellsIfMemory fault_told (λ _. values_of parsed.new.items (fields_of fields.now)) result (declared.file_values columns.now order.now row (fields_of fields.now)) }
 {
     parsed.clear();
     for (i, place) in order.iter().enumerate() {

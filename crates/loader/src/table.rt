@@ -7,11 +7,11 @@ ghost use Rattle.meaning.specs.declared.value.Value.TheVariants as of_value;
 ghost use Rattle.meaning.specs.Order.{value_in};
 ghost use Rattle.meaning.specs.Records.{Record};
 ghost use Rattle.meaning.specs.Records as records;
-ghost use Rattle.loader.specs.Columns.{AreDeclared, columns_of, no_rows};
+ghost use Rattle.loader.specs.Columns.{AreDeclared, AreRowsOf, columns_of, no_rows, row_counts};
 ghost use Rattle.loader.specs.Fault.{IsOutside};
 ghost use Rattle.loader.specs.Keys.{HoldsKeys};
 ghost use Rattle.loader.specs.Source.{IsLeft, csv_records};
-ghost use Rattle.loader.specs.Steps.{Opens, IsFaultOf, IsOrderOf, TakesAll, TakesTable, is_more, keyed_rows, TakesFragment, TakesFragments, TakesNextRow, TakesRow, TakesRows};
+ghost use Rattle.loader.specs.Steps.{Opens, IsFaultOf, IsOrderOf, TakesAll, TakesTable, is_more, keyed_rows, TakesFragment, TakesNextRow, TakesRow, TakesRows};
 
 use crate::fault::LoadFault;
 use crate::field::{Parsed, text_of};
@@ -209,6 +209,7 @@ impl<R: Read> Rows<'_, R> {
         requires { AreDeclared self.old.declared.now columns.old }
         ensures declared { self.new.declared.now ≡ self.old.declared.now }
         ensures kept { OnOk result (AreDeclared self.old.declared.now columns.new) }
+        ensures longer { OnOk result (row_counts columns.new ≡ map (λ n. n + 1) (row_counts columns.old)) }
         ensures order { self.new.order ≡ self.old.order }
         ensures reader { self.new.reader ≡ self.old.reader }
         ensures taken { TakesRow (records.row_of self.old.declared.now self.old.order.columns.items row (fields_of self.old.fields)) columns.old columns.new result }
@@ -235,6 +236,7 @@ impl<R: Read> Rows<'_, R> {
         requires { AreDeclared self.old.declared.now columns.old }
         ensures declared { self.new.declared.now ≡ self.old.declared.now }
         ensures kept { OnOk result (AreDeclared self.old.declared.now columns.new) }
+        ensures longer { IfOk result (λ found. found ≡ true → row_counts columns.new ≡ map (λ n. n + 1) (row_counts columns.old)) }
         ensures order { self.new.order ≡ self.old.order }
         ensures taken { (rest : List Record) → IsLeft R.remaining self.old.reader rest
             → TakesNextRow R.remaining self.old.declared.now self.old.order.columns.items row rest columns.old columns.new self.new.reader result }
@@ -252,6 +254,8 @@ impl<R: Read> Rows<'_, R> {
         requires numbers { first + count < 2 ^ 64 }
         ensures declared { self.new.declared.now ≡ self.old.declared.now }
         ensures order { self.new.order ≡ self.old.order }
+        ensures kept { OnOk result (AreDeclared self.old.declared.now columns.new) }
+        ensures longer { OnOk result (row_counts columns.new ≡ map (λ n. n + count) (row_counts columns.old)) }
         ensures taken { (rest : List Record) → IsLeft R.remaining self.old.reader rest
             → TakesRows R.remaining self.old.declared.now self.old.order.columns.items first count rest columns.old columns.new self.new.reader result }
     {
@@ -263,17 +267,17 @@ impl<R: Read> Rows<'_, R> {
         Ok(())
     }
 
-    /// The columns of a fragment, made of the next records.
-    fn fragment(
+    /// The columns of a fragment, made of the next records. Rows count from `first`.
+    pub fn fragment(
         &mut self,
         alloc: Global,
         first: u64,
         count: u32,
     ) -> Result<Sequence<Column>, LoadFault>
-        requires columns { length self.old.declared.now ≡ length self.old.order.columns.items }
         requires numbers { first + count < 2 ^ 64 }
         ensures declared { self.new.declared.now ≡ self.old.declared.now }
         ensures order { self.new.order ≡ self.old.order }
+        ensures rows { IfOk result (AreRowsOf self.old.declared.now count) }
         ensures taken { (rest : List Record) → IsLeft R.remaining self.old.reader rest
             → TakesFragment R.remaining self.old.declared.now self.old.order.columns.items first count rest self.new.reader result }
     {
@@ -282,54 +286,9 @@ impl<R: Read> Rows<'_, R> {
         Ok(Sequence::from_vec(columns))
     }
 
-    /// Puts the columns of each fragment behind no others, made of the next records.
-    fn add_fragments(
-        &mut self,
-        alloc: Global,
-        lengths: &[u32],
-        fragments: &mut Vec<Sequence<Column>>,
-    ) -> Result<(), LoadFault>
-        requires columns { length self.old.declared.now ≡ length self.old.order.columns.items }
-        requires few { sum lengths.now < 2 ^ 64 }
-        requires none { fragments.old.items ≡ [] }
-        ensures declared { self.new.declared.now ≡ self.old.declared.now }
-        ensures order { self.new.order ≡ self.old.order }
-        ensures taken { (rest : List Record) → IsLeft R.remaining self.old.reader rest
-            → TakesFragments (λ _. fragments.new.items) R.remaining self.old.declared.now self.old.order.columns.items lengths.now rest self.new.reader result }
-    {
-        let mut first = 0;
-        for length in lengths {
-            fragments.push(self.fragment(alloc, first, *length)?)?;
-            first += u64::from(*length);
-        }
-        Ok(())
-    }
-
-    /// The columns of each fragment, made of the next records. Rows count from 0.
-    pub fn fragments(
-        &mut self,
-        alloc: Global,
-        lengths: &[u32],
-    ) -> Result<Vec<Sequence<Column>>, LoadFault>
-        requires columns { length self.old.declared.now ≡ length self.old.order.columns.items }
-        requires few { sum lengths.now < 2 ^ 64 }
-        ensures declared { self.new.declared.now ≡ self.old.declared.now }
-        ensures order { self.new.order ≡ self.old.order }
-        ensures taken { (rest : List Record) → IsLeft R.remaining self.old.reader rest
-            → TakesFragments (λ fragments. fragments.items) R.remaining self.old.declared.now self.old.order.columns.items lengths.now rest self.new.reader result }
-    {
-        let mut fragments = Vec::with_capacity(alloc, lengths.len())?;
-        match self.add_fragments(alloc, lengths, &mut fragments) {
-            Ok(()) => Ok(fragments),
-            Err(fault) => {
-                drop(fragments);
-                Err(fault)
-            }
-        }
-    }
-
     /// Whether there is a record more, which is then passed over.
     pub fn has_more(&mut self) -> Result<bool, LoadFault>
+        ensures declared { self.new.declared.now ≡ self.old.declared.now }
         ensures found { IfOk result (λ found. (rest : List Record) → IsLeft R.remaining self.old.reader rest → found ≡ is_more rest) }
         ensures refused { IfErr result IsOutside }
     {

@@ -2,6 +2,7 @@
 pub mod formers
 pub mod Order
 pub mod Results
+pub mod Wanting
 pub mod Limits
 pub mod Cut
 pub mod Reserved

@@ -5,7 +5,8 @@ use Rattle.meaning.specs.Cut.{first_row}
 use Rattle.meaning.specs.Fitting.{is_shaped, are_keys_ascending, are_numbers_possible}
 use Rattle.meaning.specs.Said.{Body, Answer}
 use Rattle.meaning.specs.declared.plan.Plan.{Plan}
-use Rattle.wire.specs.Reading.{◌>>=◌, Reads, ReadsIfMemory, number_at, bytes_at, behind_magic, same_bytes, sealed_end}
+use Rattle.meaning.specs.Wanting.{GivesIfMemory}
+use Rattle.wire.specs.Reading.{◌>>=◌, Reads, number_at, bytes_at, behind_magic, same_bytes, sealed_end}
 use Rattle.wire.proofs.Numbers.{bind_ok, ok_is}
 use Rattle.partial_codec.specs.declared.fault.DecodeFault.{DecodeFault}
 use Rattle.partial_codec.specs.declared.fault.DecodeFault.TheVariants as fault
@@ -111,6 +112,6 @@ judged_told job bytes rest seal behind end l (y, read, is) sealed ended =
     let here : bytes_at 32 y.1 ≡ Ok (seal, behind) = ap (bytes_at 32) (sym is.1) ∙ sealed in
     rw (read, here, ended) (layout_told job l y.0 is.0 (layout_was_read bytes y read))
 
-pub if_memory : {E X Y : Type 0} (memory : E) (view : X → Y) (r : Result X E) (read told : Result Y E) → read ≡ told → Reads view r told → ReadsIfMemory memory view r read
+pub if_memory : {E X Y : Type 0} (memory : E) (view : X → Y) (r : Result X E) (read told : Result Y E) → read ≡ told → Reads view r told → GivesIfMemory memory view r read
 if_memory memory view (Ok x) read told same reads = same ∙ reads
 if_memory memory view (Err e) read told same reads = λ not_memory. same ∙ reads

@@ -72,11 +72,6 @@ is_cell_typed plan Conflict = true
 
 -- ---- what a call gave
 
--- what a call gave is what is kept of what reading gives, unless memory ran out
-abbrev pub Keeps : {E X Y : Type 0} → E → (X → Y → Type 0) → Result X E → Result Y E → Type 0
-Keeps {E} {X} {Y} memory is (Ok x) read = (y : Y) × (read ≡ Ok y) × is x y
-Keeps memory is (Err e) read = e ≢ memory → read ≡ Err e
-
 -- parts that were kept, whether their sums are possible, and the bytes behind them
 pub record AreKept {X : Type 0} (kept : X → X) (possible : X → Bool) (given : List X) (told : Bool) (rest : List ℕ) (read : List X × List ℕ) : Type 0 where
   pub parts : given ≡ map kept read.0

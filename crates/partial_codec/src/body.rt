@@ -5,9 +5,10 @@ ghost use Rattle.accumulators.specs.Values.{is_spelled};
 ghost use Rattle.meaning.specs.declared.answer.Body.TheVariants.{Fault};
 ghost use Rattle.meaning.specs.Fitting as fitting;
 ghost use Rattle.partial_codec.specs.Fields.{shape_in};
-ghost use Rattle.partial_codec.specs.Keeping.{AreKept, IsKept, IsKeepable, Keeps, are_sums_possible, has_possible_sum, has_possible_sums, kept_body, kept_group, kept_state};
+ghost use Rattle.meaning.specs.Wanting.{GivesIfMemory, KeepsIfMemory};
+ghost use Rattle.partial_codec.specs.Keeping.{AreKept, IsKept, IsKeepable, are_sums_possible, has_possible_sum, has_possible_sums, kept_body, kept_group, kept_state};
 ghost use Rattle.partial_codec.specs.LayoutReading as reading;
-ghost use Rattle.wire.specs.Reading.{Reads, ReadsIfMemory, repeat_at};
+ghost use Rattle.wire.specs.Reading.{Reads, repeat_at};
 
 use crate::fault::DecodeFault;
 use crate::shape::{AggregateShape, Shape};
@@ -99,7 +100,7 @@ fn take_sum(bytes: &[u8]) -> Result<(Statistics, &[u8]), DecodeFault>
 
 #[tactic(auto, unfolding(crate::specs::LayoutReading::state_at))]
 fn take_least(alloc: Global, bytes: &[u8]) -> Result<(Statistics, &[u8]), DecodeFault>
-    ensures read { ReadsIfMemory DecodeFault.Memory (λ x. (x.0, x.1.now)) result (reading.state_at AggregateKind.Min bytes.now) }
+    ensures read { GivesIfMemory DecodeFault.Memory (λ x. (x.0, x.1.now)) result (reading.state_at AggregateKind.Min bytes.now) }
     ensures keepable { IfOk result (λ x. IsKeepable x.0) }
 {
     let (count, rest) = take_u32(bytes)?;
@@ -117,7 +118,7 @@ fn take_least(alloc: Global, bytes: &[u8]) -> Result<(Statistics, &[u8]), Decode
 
 #[tactic(auto, unfolding(crate::specs::LayoutReading::state_at))]
 fn take_greatest(alloc: Global, bytes: &[u8]) -> Result<(Statistics, &[u8]), DecodeFault>
-    ensures read { ReadsIfMemory DecodeFault.Memory (λ x. (x.0, x.1.now)) result (reading.state_at AggregateKind.Max bytes.now) }
+    ensures read { GivesIfMemory DecodeFault.Memory (λ x. (x.0, x.1.now)) result (reading.state_at AggregateKind.Max bytes.now) }
     ensures keepable { IfOk result (λ x. IsKeepable x.0) }
 {
     let (count, rest) = take_u32(bytes)?;
@@ -140,7 +141,7 @@ fn take_statistics(
     kind: AggregateKind,
     bytes: &[u8],
 ) -> Result<(Statistics, &[u8]), DecodeFault>
-    ensures read { ReadsIfMemory DecodeFault.Memory (λ x. (x.0, x.1.now)) result (reading.state_at kind bytes.now) }
+    ensures read { GivesIfMemory DecodeFault.Memory (λ x. (x.0, x.1.now)) result (reading.state_at kind bytes.now) }
     ensures keepable { IfOk result (λ x. IsKeepable x.0) }
 {
     match kind {
@@ -158,7 +159,7 @@ fn take_state(
     kind: AggregateKind,
     bytes: &[u8],
 ) -> Result<(State, bool, &[u8]), DecodeFault>
-    ensures { Keeps DecodeFault.Memory (λ x. IsKept kept_state has_possible_sum x.0 x.1 x.2.now) result (reading.state_at kind bytes.now) }
+    ensures { KeepsIfMemory DecodeFault.Memory (λ x. IsKept kept_state has_possible_sum x.0 x.1 x.2.now) result (reading.state_at kind bytes.now) }
 {
     let (statistics, rest) = take_statistics(alloc, kind, bytes)?;
     let (state, is_possible) = keep(statistics);
@@ -171,7 +172,7 @@ fn take_states<'a>(
     aggregates: &[AggregateShape],
     bytes: &'a [u8],
 ) -> Result<(Sequence<State>, bool, &'a [u8]), DecodeFault>
-    ensures { Keeps DecodeFault.Memory (λ x. AreKept kept_state has_possible_sum x.0 x.1 x.2.now) result
+    ensures { KeepsIfMemory DecodeFault.Memory (λ x. AreKept kept_state has_possible_sum x.0 x.1 x.2.now) result
         (reading.states_at aggregates.now bytes.now) }
 {
     let mut states = Vec::with_capacity(alloc, aggregates.len().min(bytes.len() / 4))?;
@@ -188,7 +189,7 @@ fn take_states<'a>(
 
 /// The values of a key. Memory is taken for no more values than the bytes can hold.
 fn take_key(alloc: Global, count: usize, bytes: &[u8]) -> Result<(Row, &[u8]), DecodeFault>
-    ensures { ReadsIfMemory DecodeFault.Memory (λ x. (x.0, x.1.now)) result (repeat_at reading.value_at count bytes.now) }
+    ensures { GivesIfMemory DecodeFault.Memory (λ x. (x.0, x.1.now)) result (repeat_at reading.value_at count bytes.now) }
 {
     let mut values = Vec::with_capacity(alloc, count.min(bytes.len()))?;
     let mut rest = bytes;
@@ -206,7 +207,7 @@ fn take_group<'a>(
     shape: &Shape,
     bytes: &'a [u8],
 ) -> Result<(Group, bool, &'a [u8]), DecodeFault>
-    ensures { Keeps DecodeFault.Memory (λ x. IsKept kept_group has_possible_sums x.0 x.1 x.2.now) result
+    ensures { KeepsIfMemory DecodeFault.Memory (λ x. IsKept kept_group has_possible_sums x.0 x.1 x.2.now) result
         (reading.group_at (shape_in shape.now) bytes.now) }
 {
     let (key, rest) = take_key(alloc, shape.keys.len(), bytes)?;
@@ -222,7 +223,7 @@ fn take_groups<'a>(
     count: u32,
     bytes: &'a [u8],
 ) -> Result<(Vec<Group>, bool, &'a [u8]), DecodeFault>
-    ensures { Keeps DecodeFault.Memory (λ x. AreKept kept_group has_possible_sums x.0.items x.1 x.2.now) result
+    ensures { KeepsIfMemory DecodeFault.Memory (λ x. AreKept kept_group has_possible_sums x.0.items x.1 x.2.now) result
         (repeat_at (reading.group_at (shape_in shape.now)) count bytes.now) }
 {
     let mut groups = Vec::with_capacity(alloc, (count as usize).min(bytes.len() / 4))?;
@@ -253,7 +254,7 @@ pub fn take_body<'a>(
     shape: &Shape,
     bytes: &'a [u8],
 ) -> Result<(Body<Group>, bool, &'a [u8]), DecodeFault>
-    ensures { Keeps DecodeFault.Memory (λ x. IsKept kept_body are_sums_possible x.0 x.1 x.2.now) result
+    ensures { KeepsIfMemory DecodeFault.Memory (λ x. IsKept kept_body are_sums_possible x.0 x.1 x.2.now) result
         (reading.body_at (shape_in shape.now) bytes.now) }
 {
     let (tag, rest) = take_u8(bytes)?;

@@ -7,7 +7,8 @@ ghost use Rattle.partial_codec.specs.Answer.{Spells, judged, obstacle};
 ghost use Rattle.partial_codec.specs.Fields.{words};
 ghost use Rattle.partial_codec.specs.Holding.{layout_held_by};
 ghost use Rattle.partial_codec.specs.Job.{IsJob};
-ghost use Rattle.wire.specs.Reading.{Reads, ReadsIfMemory, same_bytes};
+ghost use Rattle.meaning.specs.Wanting.{GivesIfMemory};
+ghost use Rattle.wire.specs.Reading.{Reads, same_bytes};
 
 use crate::check::{are_keys_ascending, are_numbers_possible, is_cut_of, is_query_of, is_typed};
 use crate::fault::DecodeFault;
@@ -104,7 +105,7 @@ fn hold_against(job: &Job, layout: Layout<'_>) -> Result<Answer<Group>, DecodeFa
 
 #[tactic(auto, unfolding(crate::specs::Answer::judged))]
 fn judge(alloc: Global, job: &Job, bytes: &[u8]) -> Result<Answer<Group>, DecodeFault>
-    ensures exact { ReadsIfMemory DecodeFault.Memory (λ a. a) result (judged job.now bytes.now) }
+    ensures exact { GivesIfMemory DecodeFault.Memory (λ a. a) result (judged job.now bytes.now) }
     ensures within_limits { IsJob job.now }
 {
     let _plan = job.plan();
@@ -123,7 +124,7 @@ pub fn decode(alloc: Global, job: &Job, bytes: &[u8]) -> Result<Answer<Group>, D
     ensures spelled { IfOk result (λ a. Spells job.now bytes.now a) }
     // What is spelled so is given, unless memory runs out.
     ensures complete { (a : AnAnswer) → Spells job.now bytes.now a →
-        ReadsIfMemory DecodeFault.Memory (λ b. b) result (Ok a) }
+        GivesIfMemory DecodeFault.Memory (λ b. b) result (Ok a) }
     // Which obstacle it is.
     ensures obstacle { IfErr result (λ e. e ≢ DecodeFault.Memory → obstacle job.now bytes.now ≡ Some e) }
 {

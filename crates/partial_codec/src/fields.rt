@@ -1,9 +1,9 @@
 //! The fields of an answer, read from front to back, and those that a state has too.
 ghost use Rattle.std.specs.Prelude.{◌≡◌, ◌*◌, IfOk, length};
 ghost use Rattle.partial_codec.specs.Fields.{AreJobFields, IsLayout, shape_in, words};
-ghost use Rattle.partial_codec.specs.Keeping.{Keeps};
+ghost use Rattle.meaning.specs.Wanting.{GivesIfMemory, KeepsIfMemory};
 ghost use Rattle.partial_codec.specs.LayoutReading as reading;
-ghost use Rattle.wire.specs.Reading.{Reads, ReadsIfMemory, repeat_at};
+ghost use Rattle.wire.specs.Reading.{Reads, repeat_at};
 
 use crate::body::take_body;
 use crate::fault::DecodeFault;
@@ -99,7 +99,7 @@ fn take_aggregate(bytes: &[u8]) -> Result<(AggregateShape, &[u8]), DecodeFault>
 }
 
 fn take_types(alloc: Global, count: u16, bytes: &[u8]) -> Result<(Vec<ColType>, &[u8]), DecodeFault>
-    ensures { ReadsIfMemory DecodeFault.Memory (λ x. (x.0.items, x.1.now)) result
+    ensures { GivesIfMemory DecodeFault.Memory (λ x. (x.0.items, x.1.now)) result
         (repeat_at reading.type_at count bytes.now) }
 {
     let mut types = Vec::new(alloc);
@@ -117,7 +117,7 @@ fn take_aggregates(
     count: u16,
     bytes: &[u8],
 ) -> Result<(Vec<AggregateShape>, &[u8]), DecodeFault>
-    ensures { ReadsIfMemory DecodeFault.Memory (λ x. (x.0.items, x.1.now)) result
+    ensures { GivesIfMemory DecodeFault.Memory (λ x. (x.0.items, x.1.now)) result
         (repeat_at reading.aggregate_at count bytes.now) }
 {
     let mut aggregates = Vec::new(alloc);
@@ -132,7 +132,7 @@ fn take_aggregates(
 
 #[tactic(auto, unfolding(crate::specs::LayoutReading::shape_at))]
 pub fn take_shape(alloc: Global, bytes: &[u8]) -> Result<(Shape, &[u8]), DecodeFault>
-    ensures { ReadsIfMemory DecodeFault.Memory (λ x. (shape_in x.0, x.1.now)) result (reading.shape_at bytes.now) }
+    ensures { GivesIfMemory DecodeFault.Memory (λ x. (shape_in x.0, x.1.now)) result (reading.shape_at bytes.now) }
 {
     let (count, rest) = take_u16(bytes)?;
     let (keys, rest) = take_types(alloc, count, rest)?;
@@ -156,7 +156,7 @@ fn take_lengths(count: u32, bytes: &[u8]) -> Result<(&[u8], &[u8]), DecodeFault>
 /// The fields that tell the job, and the bytes behind them.
 #[tactic(auto, unfolding(crate::specs::LayoutReading::job_at))]
 pub fn take_job(bytes: &[u8]) -> Result<(JobFields<'_>, &[u8]), DecodeFault>
-    ensures { Keeps DecodeFault.Memory (λ x y. AreJobFields x.0 y.0 × (x.1.now ≡ y.1)) result (reading.job_at bytes.now) }
+    ensures { KeepsIfMemory DecodeFault.Memory (λ x y. AreJobFields x.0 y.0 × (x.1.now ≡ y.1)) result (reading.job_at bytes.now) }
 {
     let (load, rest) = take_u64(bytes)?;
     let (text, rest) = take_text(rest)?;
@@ -176,7 +176,7 @@ pub fn take_job(bytes: &[u8]) -> Result<(JobFields<'_>, &[u8]), DecodeFault>
 /// All fields up to the seal, and the bytes from there.
 #[tactic(auto, unfolding(crate::specs::LayoutReading::layout_at, crate::specs::Spelling::answer_magic))]
 pub fn take_layout(alloc: Global, bytes: &[u8]) -> Result<(Layout<'_>, &[u8]), DecodeFault>
-    ensures { Keeps DecodeFault.Memory (λ x y. IsLayout x.0 y.0 × (x.1.now ≡ y.1)) result (reading.layout_at bytes.now) }
+    ensures { KeepsIfMemory DecodeFault.Memory (λ x y. IsLayout x.0 y.0 × (x.1.now ≡ y.1)) result (reading.layout_at bytes.now) }
 {
     let rest = skip_magic(&ANSWER_MAGIC, bytes)?;
     let (job, rest) = take_job(rest)?;

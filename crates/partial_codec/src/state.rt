@@ -6,7 +6,7 @@ ghost use Rattle.partial_codec.specs.Job.{IsJob};
 ghost use Rattle.partial_codec.specs.Ranges.{IsCell};
 ghost use Rattle.partial_codec.specs.Shape.{shape_of};
 ghost use Rattle.partial_codec.specs.State.{FitsState, SpellsState, cell_bytes, judged_state, state_bytes, state_layout_bytes, state_layout_of, state_obstacle};
-ghost use Rattle.wire.specs.Reading.{ReadsIfMemory};
+ghost use Rattle.meaning.specs.Wanting.{GivesIfMemory};
 
 use crate::encoding::{put_body, put_job, put_shape};
 use crate::fault::DecodeFault;
@@ -72,7 +72,7 @@ pub fn encode_state(alloc: Global, job: &Job, cells: &[Cell<Group>]) -> Result<V
 
 #[tactic(auto, unfolding(crate::specs::State::judged_state))]
 fn judge_state(alloc: Global, job: &Job, bytes: &[u8]) -> Result<Vec<Cell<Group>>, DecodeFault>
-    ensures exact { ReadsIfMemory DecodeFault.Memory (λ cells. cells.items) result (judged_state job.now bytes.now) }
+    ensures exact { GivesIfMemory DecodeFault.Memory (λ cells. cells.items) result (judged_state job.now bytes.now) }
     ensures within_limits { IsJob job.now }
 {
     let _plan = job.plan();
@@ -92,7 +92,7 @@ pub fn decode_state(alloc: Global, job: &Job, bytes: &[u8]) -> Result<Vec<Cell<G
     ensures spelled { IfOk result (λ cells. SpellsState job.now bytes.now cells.items) }
     // What is spelled so is given, unless memory runs out.
     ensures complete { (cells : List ACell) → SpellsState job.now bytes.now cells →
-        ReadsIfMemory DecodeFault.Memory (λ given. given.items) result (Ok cells) }
+        GivesIfMemory DecodeFault.Memory (λ given. given.items) result (Ok cells) }
     // Which obstacle it is.
     ensures obstacle { IfErr result (λ e. e ≢ DecodeFault.Memory → state_obstacle job.now bytes.now ≡ Some e) }
 {

@@ -2,7 +2,8 @@
 ghost use Rattle.std.specs.Prelude.{◌≡◌, map, List};
 ghost use Rattle.meaning.specs.Said.{Cell as ACell};
 ghost use Rattle.partial_codec.specs.Fields.{IsStateLayout, shape_in};
-ghost use Rattle.partial_codec.specs.Keeping.{IsKept, Keeps, is_cell_possible, kept_cell};
+ghost use Rattle.meaning.specs.Wanting.{KeepsIfMemory};
+ghost use Rattle.partial_codec.specs.Keeping.{IsKept, is_cell_possible, kept_cell};
 ghost use Rattle.partial_codec.specs.State.{cell_at, state_layout_at};
 ghost use Rattle.wire.specs.Reading.{repeat_at};
 
@@ -33,7 +34,7 @@ fn take_cell<'a>(
     shape: &Shape,
     bytes: &'a [u8],
 ) -> Result<(Cell<Group>, bool, &'a [u8]), DecodeFault>
-    ensures { Keeps DecodeFault.Memory (λ x. IsKept kept_cell is_cell_possible x.0 x.1 x.2.now) result
+    ensures { KeepsIfMemory DecodeFault.Memory (λ x. IsKept kept_cell is_cell_possible x.0 x.1 x.2.now) result
         (cell_at (shape_in shape.now) bytes.now) }
 {
     let (tag, rest) = take_u8(bytes)?;
@@ -54,7 +55,7 @@ fn take_cells<'a>(
     count: u32,
     bytes: &'a [u8],
 ) -> Result<(Vec<Cell<Group>>, Vec<bool>, &'a [u8]), DecodeFault>
-    ensures { Keeps DecodeFault.Memory (λ x y. (x.0.items ≡ map kept_cell y.0) × (x.1.items ≡ map is_cell_possible y.0) × (x.2.now ≡ y.1)) result
+    ensures { KeepsIfMemory DecodeFault.Memory (λ x y. (x.0.items ≡ map kept_cell y.0) × (x.1.items ≡ map is_cell_possible y.0) × (x.2.now ≡ y.1)) result
         (repeat_at (cell_at (shape_in shape.now)) count bytes.now) }
 {
     let mut cells = Vec::new(alloc);
@@ -75,7 +76,7 @@ pub fn take_state_layout(
     alloc: Global,
     bytes: &[u8],
 ) -> Result<(StateLayout<'_>, &[u8]), DecodeFault>
-    ensures { Keeps DecodeFault.Memory (λ x y. IsStateLayout x.0 y.0 × (x.1.now ≡ y.1)) result (state_layout_at bytes.now) }
+    ensures { KeepsIfMemory DecodeFault.Memory (λ x y. IsStateLayout x.0 y.0 × (x.1.now ≡ y.1)) result (state_layout_at bytes.now) }
 {
     let rest = skip_magic(&STATE_MAGIC, bytes)?;
     let (job, rest) = take_job(rest)?;

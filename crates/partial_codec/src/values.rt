@@ -6,7 +6,7 @@ ghost use Rattle.meaning.specs.Order.{value_in};
 ghost use Rattle.partial_codec.specs.LayoutReading.{value_at};
 ghost use Rattle.partial_codec.specs.Ranges.{IsValue};
 ghost use Rattle.partial_codec.specs.Spelling.{value_bytes};
-ghost use Rattle.wire.specs.Reading.{ReadsIfMemory};
+ghost use Rattle.meaning.specs.Wanting.{GivesIfMemory};
 
 use crate::fault::DecodeFault;
 use meaning::text::Text;
@@ -25,7 +25,7 @@ fn text_value(alloc: Global, text: &str) -> Result<Value, AllocError>
 /// A value: NULL, an integer or a text.
 #[tactic(auto, unfolding(crate::specs::LayoutReading::value_at, crate::specs::LayoutReading::tagged_value_at))]
 pub fn take_value(alloc: Global, bytes: &[u8]) -> Result<(Value, &[u8]), DecodeFault>
-    ensures read { ReadsIfMemory DecodeFault.Memory (λ x. (x.0, x.1.now)) result (value_at bytes.now) }
+    ensures read { GivesIfMemory DecodeFault.Memory (λ x. (x.0, x.1.now)) result (value_at bytes.now) }
     ensures spelled { IfOk result (λ x. is_spelled x.0 ≡ true) }
 {
     let (tag, rest) = take_u8(bytes)?;

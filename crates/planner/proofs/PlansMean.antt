@@ -1,5 +1,5 @@
 -- The plan that is defined is the query's.
-use Rattle.std.proofs.Common.{◌≡◌, ℕ, ◌+◌, Bool, true, List, [], ◌∷◌, ◌++◌, map, filter, cond, Option, Some, None, option_to_list, Result, Ok, Err, IfOk, inl, inr, refl, ap, subst, sym, ◌∙◌, append_assoc}
+use Rattle.std.proofs.Common.{◌≡◌, ℕ, ◌+◌, Bool, true, List, [], ◌∷◌, ◌++◌, map, filter, cond, Option, Some, None, option_to_list, Result, Ok, Err, IfOk, refl, ap, subst, sym, ◌∙◌, append_assoc}
 use Rattle.std.specs.List.{enumerate_from}
 use Rattle.std.proofs.lemmas.List.{append-nil}
 use Rattle.meaning.specs.Results.{all_ok, and_then, with_result}
@@ -186,6 +186,5 @@ plans_mean catalog q p is =
     )
 
 pub means_told : (catalog : Catalog) (q : Query) (r : Result Plan PlanFault) → Tells r (planned catalog q) → IfOk r (λ p. IsAPlanOf catalog q p)
-means_told catalog q (Ok p) (inl is) = plans_mean catalog q p (sym is)
-means_told catalog q (Ok p) (inr is) = absurd cc
+means_told catalog q (Ok p) is = plans_mean catalog q p is
 means_told catalog q (Err f) told = tt

@@ -1,5 +1,5 @@
 -- The plan of a query whose literals fit is typed.
-use Rattle.std.proofs.Common.{rules, ◌≡◌, ℕ, pos, Bool, true, false, ◌&&◌, not, List, [], ◌∷◌, ◌++◌, map, filter, flat_map, cond, Option, Some, None, option_to_list, unwrap_or, Result, Ok, Err, IfOk, inl, inr, refl, ap, subst, sym, ◌∙◌}
+use Rattle.std.proofs.Common.{rules, ◌≡◌, ℕ, pos, Bool, true, false, ◌&&◌, not, List, [], ◌∷◌, ◌++◌, map, filter, flat_map, cond, Option, Some, None, option_to_list, unwrap_or, Result, Ok, Err, IfOk, refl, ap, subst, sym, ◌∙◌}
 use Rattle.std.specs.List.{list_all, AllByRecursion}
 use Rattle.std.specs.Option.{option_map_or}
 use Rattle.std.proofs.lemmas.List.Elements.{All-from_recursion}
@@ -357,8 +357,7 @@ plans_are_typed catalog q p is fits =
     )
 
 pub typed_told : (catalog : Catalog) (q : Query) (r : Result Plan PlanFault) → Tells r (planned catalog q) → IfOk r (λ p. has_only_fitting_literals q ≡ true → IsTypedOver catalog p)
-typed_told catalog q (Ok p) (inl is) = plans_are_typed catalog q p (sym is)
-typed_told catalog q (Ok p) (inr is) = absurd cc
+typed_told catalog q (Ok p) is = plans_are_typed catalog q p is
 typed_told catalog q (Err f) told = tt
 
 pub plans_serve : PlansServe

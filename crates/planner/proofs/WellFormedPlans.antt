@@ -1,5 +1,5 @@
 -- The plan of a query that shows something and whose literals fit is well-formed.
-use Rattle.std.proofs.Common.{◌≡◌, ◌≢◌, ℕ, zero, suc, ◌+◌, ◌<◌, ◌==◌, Bool, true, false, ◌||◌, not, List, [], ◌∷◌, map, filter, flat_map, length, rules, pos, Option, Some, None, option_to_list, slice_get, slice_index_or, Result, Ok, Err, IfOk, inl, inr, refl, ap, subst, sym, ◌∙◌, arith}
+use Rattle.std.proofs.Common.{◌≡◌, ◌≢◌, ℕ, zero, suc, ◌+◌, ◌<◌, ◌==◌, Bool, true, false, ◌||◌, not, List, [], ◌∷◌, map, filter, flat_map, length, rules, pos, Option, Some, None, option_to_list, slice_get, slice_index_or, Result, Ok, Err, IfOk, refl, ap, subst, sym, ◌∙◌, arith}
 use Rattle.std.specs.Prelude.{All}
 use Rattle.std.specs.List.{list_any, AllByRecursion, AllZip}
 use Rattle.std.proofs.lemmas.List.{length-map}
@@ -399,11 +399,9 @@ plans_are_well_formed catalog q p is fits some =
     well_formed catalog q p (parts_of_plan catalog q p is) fits some (loosened (IsItemOf mean.0 q) p.items q.items mean.1.items)
 
 pub planned_told : (catalog : Catalog) (q : Query) (r : Result Plan PlanFault) → Tells r (planned catalog q) → IfOk r (λ p. planned catalog q ≡ Ok p)
-planned_told catalog q (Ok p) (inl is) = sym is
-planned_told catalog q (Ok p) (inr is) = absurd cc
+planned_told catalog q (Ok p) is = is
 planned_told catalog q (Err f) told = tt
 
 pub formed_told : (catalog : Catalog) (q : Query) (r : Result Plan PlanFault) → Tells r (planned catalog q) → IfOk r (λ p. has_only_fitting_literals q ≡ true → q.items ≢ [] → IsWellFormedPlan p)
-formed_told catalog q (Ok p) (inl is) = plans_are_well_formed catalog q p (sym is)
-formed_told catalog q (Ok p) (inr is) = absurd cc
+formed_told catalog q (Ok p) is = plans_are_well_formed catalog q p is
 formed_told catalog q (Err f) told = tt

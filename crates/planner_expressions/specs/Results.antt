@@ -1,6 +1,7 @@
 -- Results that go on from one another.
-use Rattle.std.specs.Prelude.{◌≡◌, ◌⊎◌, List, [], ◌∷◌, Result, Ok, Err}
+use Rattle.std.specs.Prelude.{List, [], ◌∷◌, Result, Ok, Err}
 use Rattle.meaning.specs.Results.{and_then}
+use Rattle.meaning.specs.Wanting.{GivesIfMemory}
 use Rattle.planner_expressions.specs.declared.fault.PlanFault.{PlanFault}
 use Rattle.planner_expressions.specs.declared.fault.PlanFault.TheVariants as fault
 
@@ -16,4 +17,4 @@ each_ok (r ∷ rs) = and_then r (λ x. each_ok rs)
 
 -- what a call tells, unless memory is wanting
 abbrev pub Tells : {X : Type 0} → Result X PlanFault → Result X PlanFault → Type 0
-Tells r told = (r ≡ told) ⊎ (r ≡ Err fault.Memory)
+Tells r told = GivesIfMemory fault.Memory (λ x. x) r told

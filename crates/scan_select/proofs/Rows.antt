@@ -27,8 +27,10 @@ use Rattle.vectors.specs.declared.batch.BatchColumn.{BatchColumn}
 use Rattle.vectors.specs.declared.vector.Vector.{Vector}
 use Rattle.vectors.specs.Vector.{BatchSpec, AreRowsOf, IsColumnOf, outcomes_of, reference_of}
 use Rattle.scan_select.specs.Pieces.{Piece, piece_now, row_in, rows_of_piece}
-use Rattle.scan_select.specs.Scanned.{ScanSpec, IsPosition, IsColumnAt, AreColumnsAt, AddsColumns, IsBatchOf, IsOfType, GivesBatch, fact_rows}
+use Rattle.scan_select.specs.Scanned.{ScanSpec, IsColumnAt, AreColumnsAt, AddsColumns, IsBatchOf, IsOfType, GivesBatch, fact_rows}
 use Rattle.scan_select.specs.declared.scan.ScanBatch.{ScanBatch}
+use Rattle.scan_select.specs.declared.buffers.ColumnBuffer.{ColumnBuffer}
+use Rattle.scan_select.specs.Buffers.{IsPosition, places_of}
 use Rattle.scan_select.specs.Groups.{current_rows}
 
 -- a block has a value for each of its rows
@@ -119,42 +121,13 @@ some_rows (c ∷ cs) n (b ∷ bs) are some =
     let same = are.0.rows in
     omega (arith, rows, same)
 
--- ---- columns behind columns
-
-columns_at_end : (group : List Block) (first rows : ℕ) (places : List ℕ) (p : ℕ) (columns : List BatchColumn) (c : BatchColumn) → AreColumnsAt group first rows places columns → IsColumnAt group first rows p c
-    → AreColumnsAt group first rows (places ++ p ∷ []) (columns ++ c ∷ [])
-columns_at_end group first rows [] p [] c are at = (at, tt)
-columns_at_end group first rows [] p (d ∷ ds) c are at = absurd are
-columns_at_end group first rows (q ∷ qs) p [] c are at = absurd are
-columns_at_end group first rows (q ∷ qs) p (d ∷ ds) c are at = (are.0, columns_at_end group first rows qs p ds c are.1 at)
-
-pub column_at : (group : List Block) (first rows p read : ℕ) (b : Block) (lanes : Vector) → b ≡ get_or group p no_block → read ≡ rows → outcomes_of lanes ≡ map gives.Value (take read (drop first (values_of b))) → IsOfType b.col_type lanes
-    → IsColumnAt group first rows p (record { place = place.Fact p; lanes = lanes })
-column_at group first rows p read b lanes is count values typed = record {
-  place = refl;
-  values = values ∙ ap (λ (n : ℕ). map gives.Value (take n (drop first (values_of b)))) count ∙ ap (λ (x : Block). map gives.Value (take rows (drop first (values_of x)))) is;
-  typed = subst (λ (x : Block). IsOfType x.col_type lanes) is typed;
-}
-
--- one column more
-pub one_more : (group : List Block) (first : ℕ) (places : List ℕ) (i p : ℕ) (old now new : BatchSpec) (c : BatchColumn) → i < length places → p ≡ get_or places i p
-    → AddsColumns group first (take i places) old now → new ≡ record { rows = now.rows; columns = now.columns ++ c ∷ [] } → IsColumnAt group first old.rows p c
-    → AddsColumns group first (take (i + 1) places) old new
-one_more group first places i p old now new c below is adds pushed at = record {
-  rows = ap (λ (b : BatchSpec). b.rows) pushed ∙ adds.rows;
-  more = adds.more ++ c ∷ [];
-  columns = ap (λ (b : BatchSpec). b.columns) pushed ∙ ap (λ (cs : List BatchColumn). cs ++ c ∷ []) adds.columns ∙ append_assoc old.columns adds.more (c ∷ []);
-  are =
-      let next : take (i + 1) places ≡ take i places ++ p ∷ [] = take_more places i p below ∙ ap (λ (q : ℕ). take i places ++ q ∷ []) (sym is) in
-      subst (λ (ps : List ℕ). AreColumnsAt group first old.rows ps (adds.more ++ c ∷ [])) (sym next) (columns_at_end group first old.rows (take i places) p adds.more c adds.are at);
-}
-
 -- the batch of the rows that stand
-pub batch_gives : (scan : ScanSpec) (current : Option (List Block)) (n columns group_rows first rows : ℕ) (places : List ℕ) (b : ScanBatch) (old : BatchSpec) → current ≡ Some b.group
-    → scan.at ≡ piece_now current first rows → scan.places ≡ places → IsPosition n columns places current group_rows first rows → length b.group ≡ columns → IsGroup b.group → eqb rows 0 ≡ false
-    → b.first_row ≡ first → old ≡ record { rows = rows; columns = [] } → AddsColumns b.group first places old b.batch → GivesBatch scan (Some b)
-batch_gives scan current n columns group_rows first rows places b old stands at same position count sound some first_is fresh adds =
+pub batch_gives : (scan : ScanSpec) (cs : List Column) (current : Option (List Block)) (most group_rows first rows : ℕ) (buffers : List ColumnBuffer) (b : ScanBatch) (old : BatchSpec) → current ≡ Some b.group
+    → scan.at ≡ piece_now current first rows → scan.places ≡ places_of buffers → IsPosition cs most current group_rows first rows buffers → length b.group ≡ length cs → IsGroup b.group → eqb rows 0 ≡ false
+    → b.first_row ≡ first → old ≡ record { rows = rows; columns = [] } → AddsColumns b.group first (places_of buffers) old b.batch → GivesBatch scan (Some b)
+batch_gives scan cs current most group_rows first rows buffers b old stands at same position count sound some first_is fresh adds =
     let piece : Piece = record { group = b.group; first = first; rows = rows } in
+    let places : List ℕ = places_of buffers in
     let now : scan.at ≡ Some piece = at ∙ rw (stands, some) refl in
     let places_within : All (λ p. p < length b.group) places = subst (λ (k : ℕ). All (λ p. p < k) places) (sym count) position.places_within in
     let rows_are : group_rows ≡ rows_of b.group = position.group_rows_are ∙ ap current_rows stands in
@@ -172,10 +145,3 @@ batch_gives scan current n columns group_rows first rows places b old stands at 
             (record { rows = batch_has_rows b.group first rows places adds.more sound places_within within are; columns = are }));
       },
     )
-
--- a column's block has as many rows as its row group
-pub within_block : (group : List Block) (first rows p : ℕ) (b : Block) → IsGroup group → b ≡ get_or group p no_block → p < length group → first + rows ≤ rows_of group → first + rows ≤ b.rows
-within_block group first rows p b sound is below within =
-    let equal = all_at (λ x. x.rows ≡ rows_of group) group p no_block (recursion_from_All (λ x. x.rows ≡ rows_of group) group sound.equal) below in
-    let same = ap (λ (x : Block). x.rows) is in
-    omega (arith, same, equal, within)

@@ -3,5 +3,6 @@ pub mod FileGroups
 pub mod Groups
 pub mod Pieces
 pub mod Scanned
+pub mod Buffers
 pub mod Selected
 pub mod Laws

@@ -3,15 +3,11 @@ use Rattle.std.specs.Prelude.{◌≡◌, ℕ, ◌+◌, ◌≤◌, ◌<◌, Bool,
 use Rattle.std.specs.List.{AllZip}
 use Rattle.meaning.specs.declared.value.ColType.{ColType}
 use Rattle.meaning.specs.declared.value.ColType.TheVariants as of_type
-use Rattle.meaning.specs.declared.value.Value.{Value}
-use Rattle.meaning.specs.declared.value.Value.TheVariants.{Int, Text}
 use Rattle.meaning.specs.declared.outcome.Outcome.TheVariants as gives
 use Rattle.meaning.specs.declared.joined_row.JoinedRow.{JoinedRow}
 use Rattle.meaning.specs.Joined.{joined_row}
 use Rattle.meaning.specs.Limits.{max_vector_rows}
 use Rattle.encodings.specs.Block.{Block, values_of}
-use Rattle.encodings.specs.declared.vector_buf.Lanes.{Lanes}
-use Rattle.encodings.specs.declared.vector_buf.Lanes.TheVariants as lanes
 use Rattle.fragment_file.specs.declared.header.Header.{Header}
 use Rattle.fragment_file.specs.Fragment.{no_block}
 use Rattle.vectors.specs.declared.vector.Vector.{Vector}
@@ -44,13 +40,6 @@ pub record IsVectorLength (n : ℕ) : Type 0 where
   pub some : 1 ≤ n
   pub few : n ≤ max_vector_rows
 
--- where a scan stands in a row group
-pub record IsPosition (n columns : ℕ) (places : List ℕ) (current : Option (List Block)) (group_rows first rows : ℕ) : Type 0 where
-  pub length : IsVectorLength n
-  pub places_within : All (λ p. p < columns) places
-  pub group_rows_are : group_rows ≡ current_rows current
-  pub within : first + rows ≤ group_rows
-
 -- the first of the pieces that were to come stands now, or none was to come
 abbrev pub Advances : Bool → List Piece → Option Piece → Option (List Piece) → Type 0
 Advances true pieces at left = (piece : Piece) × (rest : List Piece) × (pieces ≡ piece ∷ rest) × (at ≡ Some piece) × (left ≡ Some rest)
@@ -71,15 +60,6 @@ pub record IsFresh (scan : ScanSpec) (header : Header) (places : List ℕ) (most
 -- where a column isn't nullable, no lane is NULL
 abbrev pub IsMask : Bool → List Bool → Type 0
 IsMask nullable mask = nullable ≡ false → mask ≡ replicate (length mask) false
-
--- what stands in the lanes, without regard to NULL
-abbrev pub cells_of : Lanes → List Value
-cells_of (lanes.Ints ints) = map Int ints.items
-cells_of (lanes.Texts texts) = map (λ t. Text t.now) texts.items
-
-abbrev pub type_of : Lanes → ColType
-type_of (lanes.Ints ints) = of_type.Int
-type_of (lanes.Texts texts) = of_type.Text
 
 -- ---- batches
 

@@ -65,7 +65,10 @@ impl<'v> RowGroups for FileGroups<'v> {
         Ok(false)
     }
 
-    fn group(&self) -> Option<GroupView<'_>> {
+    fn group<'g>(&self) -> Option<GroupView<'g>>
+    where
+        Self: 'g,
+    {
         let place = self.at?;
         // That the file has a column, so that a row group has a row.
         let _header = self.view.header();

@@ -1,10 +1,10 @@
 //! Scans: the rows of a file, vector by vector.
 #![tactic(auto)]
 
+mod buffers;
 mod fault;
 pub mod file_groups;
 pub mod laws;
-mod reading;
 pub mod row_groups;
 pub mod scan;
 pub mod selecting;

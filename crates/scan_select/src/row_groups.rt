@@ -9,7 +9,7 @@ ghost use Rattle.scan_select.specs.Groups.{GroupsGoOn};
 use fragment_file::header::Header;
 use fragment_file::view::GroupView;
 
-/// The row groups of a file, from the first to the last.
+/// The row groups of a file, from the first to the last. Their bytes stand for `'v`.
 pub trait RowGroups {
     /// Why the next row group can't be had.
     type Fault: Drop;
@@ -34,7 +34,9 @@ pub trait RowGroups {
         ensures refused { OnErr result (current self.new ≡ None) };
 
     /// The row group that came last.
-    fn group(&self) -> Option<GroupView<'_>>
+    fn group<'v>(&self) -> Option<GroupView<'v>>
+    where
+        Self: 'v,
         ensures value { option_map (λ group. group) result ≡ current self.now }
         ensures count { IfSome result (λ group. length group ≡ length (header_of self.now).columns) }
         ensures blocks { IfSome result (λ group. AreBlocks (header_of self.now).columns (rows_of group) group) }

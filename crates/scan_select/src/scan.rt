@@ -1,14 +1,15 @@
 //! The rows of a file, vector by vector.
-ghost use Rattle.std.specs.Prelude.{◌≡◌, ◌≤◌, ◌<◌, List, None, Some, length, All, OnErr, IfErr, IfOk, IfSome, MatchResult};
+ghost use Rattle.std.specs.Prelude.{◌≡◌, ◌≤◌, ◌<◌, ℕ, List, None, Some, length, All, OnErr, IfErr, IfOk, IfSome};
 ghost use Rattle.std.specs.List.{range_with_len};
 ghost use Rattle.scan_select.specs.declared.fault.ScanFault.TheVariants.{VectorLength};
+ghost use Rattle.scan_select.specs.Buffers.{IsBufferOf, filled_now};
 ghost use Rattle.scan_select.specs.Groups.{current_rows};
 ghost use Rattle.scan_select.specs.Pieces.{Piece};
 ghost use Rattle.scan_select.specs.Scanned.{Advances, GivesBatch, IsFresh, IsStanding, IsVectorLength};
 
+use crate::buffers::{ColumnBuffer, fill_all, lend_all, make_buffers};
 use crate::fault::ScanFault;
 use crate::file_groups::FileGroups;
-use crate::reading::add_columns;
 use crate::row_groups::RowGroups;
 use fragment_file::view::{FragmentView, GroupView};
 use meaning::limits::MAX_VECTOR_ROWS;
@@ -26,13 +27,14 @@ pub struct ScanBatch<'s> {
     pub first_row: usize,
 }
 
-/// The rows of a file in vectors. A vector never crosses from one row group to the next. After MonetDB/X100, where a scan
-/// gives vectors of the columns that a query uses, and of no others.
+/// The rows of a file in vectors. A vector never crosses from one row group to the next. The room for a vector of each column is
+/// taken once, and filled anew by each. After MonetDB/X100, where a scan gives vectors of the columns that a query uses, and of
+/// no others.
 #[derive(Drop)]
-pub struct Scan<G: RowGroups + Drop> {
+pub struct Scan<'v, G: RowGroups + Drop + 'v> {
     groups: G,
-    // The places in the header of the columns that are read.
-    places: Vec<usize>,
+    // The columns that are read.
+    buffers: Vec<ColumnBuffer<'v>>,
     // The most rows of a vector.
     most: usize,
     // The rows of the row group that came last; the vector's first among them, and how many the vector has.
@@ -41,22 +43,23 @@ pub struct Scan<G: RowGroups + Drop> {
     rows: usize,
 }
 
-impl<G: RowGroups + Drop> Model for Scan<G> {
-    ghost use Rattle.std.specs.Prelude.{◌+◌, length};
+impl<'v, G: RowGroups + Drop + 'v> Model for Scan<'v, G> {
+    ghost use Rattle.std.specs.Prelude.{◌+◌};
+    ghost use Rattle.scan_select.specs.Buffers.{IsPosition, places_of};
     ghost use Rattle.scan_select.specs.Pieces.{piece_now, pieces_left};
-    ghost use Rattle.scan_select.specs.Scanned.{IsPosition, ScanSpec};
+    ghost use Rattle.scan_select.specs.Scanned.{ScanSpec};
 
     ghost Value = { ScanSpec };
 
     ghost view = { λ s. record {
       header = G.header_of s.groups;
-      places = s.places.items;
+      places = places_of s.buffers.items;
       most = s.most;
       at = piece_now (G.current s.groups) s.first s.rows;
       left = pieces_left s.most (G.current s.groups) (s.first + s.rows) (G.coming s.groups);
     } };
 
-    ghost invariant = { λ s. IsPosition s.most (length (G.header_of s.groups).columns) s.places.items (G.current s.groups) s.group_rows s.first s.rows };
+    ghost invariant = { λ s. IsPosition (G.header_of s.groups).columns s.most (G.current s.groups) s.group_rows s.first s.rows s.buffers.items };
 }
 
 /// The places below a number.
@@ -71,7 +74,7 @@ fn all_places(alloc: Global, n: usize) -> Result<Vec<usize>, AllocError>
 }
 
 /// How many rows the row group has that came last.
-fn rows_now<G: RowGroups>(groups: &G) -> usize
+fn rows_now<'v, G: RowGroups + 'v>(groups: &G) -> usize
     ensures value { result ≡ current_rows (G.current groups.now) }
     ensures some { IfSome (G.current groups.now) (λ _. 1 ≤ result) }
 {
@@ -81,24 +84,42 @@ fn rows_now<G: RowGroups>(groups: &G) -> usize
     }
 }
 
-impl<G: RowGroups + Drop> Scan<G> {
+/// Fills the buffers from the row group that came last, if there is one, from row `first` on.
+fn fill_now<'v, G: RowGroups + 'v>(groups: &G, buffers: &mut Vec<ColumnBuffer<'v>>, first: usize)
+    requires { (most : ℕ) × All (IsBufferOf (G.header_of groups.now).columns most) buffers.old.items }
+    ensures { buffers.new.items ≡ filled_now (G.current groups.now) first buffers.old.items }
+{
+    if let Some(group) = groups.group() {
+        fill_all(buffers.as_mut_slice(), &group, first);
+    }
+}
+
+impl<'v, G: RowGroups + Drop + 'v> Scan<'v, G> {
     /// Before the first of the row groups, none of which has come yet. Reads the columns at these places in the header, in
     /// vectors of at most so many rows.
     ///
     /// # Errors
     ///
-    /// Vectors of no row, or of more than 4,096.
-    pub fn over(groups: G, most: usize, places: Vec<usize>) -> Result<Scan<G>, ScanFault>
-        requires places { All (λ p. p < length (G.header_of groups).columns) places.items }
+    /// Vectors of no row, or of more than 4,096; out of memory.
+    pub fn over(
+        alloc: Global,
+        groups: G,
+        most: usize,
+        places: &[usize],
+    ) -> Result<Scan<'v, G>, ScanFault>
+        requires places { All (λ p. p < length (G.header_of groups).columns) places.now }
         requires before { G.current groups ≡ None }
-        ensures { MatchResult result (λ scan. IsFresh scan (G.header_of groups) places.items most (G.coming groups)) (λ f. (f ≡ VectorLength) × (IsVectorLength most → ⊥)) }
+        ensures ok { IfOk result (λ scan. IsFresh scan (G.header_of groups) places.now most (G.coming groups)) }
+        ensures err { IfErr result (λ f. f ≡ VectorLength → IsVectorLength most → ⊥) }
     {
         if most < 1 || MAX_VECTOR_ROWS < most {
             return Err(ScanFault::VectorLength);
         }
+        let columns = groups.header().columns.as_slice();
+        let buffers = make_buffers(alloc, columns, places, most)?;
         Ok(Scan {
             groups,
-            places,
+            buffers,
             most,
             group_rows: 0,
             first: 0,
@@ -119,10 +140,12 @@ impl<G: RowGroups + Drop> Scan<G> {
         ensures stands { IfOk result (λ more. IsStanding more self.new.at) }
         ensures refused { OnErr result (self.new.at ≡ None) }
     {
+        let group_rows = self.group_rows;
         let behind = self.first + self.rows;
-        if behind < self.group_rows {
+        if behind < group_rows {
             self.first = behind;
-            self.rows = self.most.min(self.group_rows - behind);
+            self.rows = self.most.min(group_rows - behind);
+            fill_now(&self.groups, &mut self.buffers, behind);
             return Ok(true);
         }
         self.first = 0;
@@ -131,10 +154,11 @@ impl<G: RowGroups + Drop> Scan<G> {
         let more = self.groups.next_group()?;
         self.group_rows = rows_now(&self.groups);
         self.rows = self.most.min(self.group_rows);
+        fill_now(&self.groups, &mut self.buffers, 0);
         Ok(more)
     }
 
-    /// The vector that stands now, if any. Texts are lent from the bytes of the row group.
+    /// The vector that stands now, if any. Its columns are lent from the scan's buffers, texts from the bytes of the row group.
     pub fn batch(&self, alloc: Global) -> Result<Option<ScanBatch<'_>>, AllocError>
         ensures { IfOk result (λ batch. GivesBatch self.now batch) }
     {
@@ -147,8 +171,7 @@ impl<G: RowGroups + Drop> Scan<G> {
         // That all blocks have as many rows.
         let _rows = group.rows();
         let mut batch = Batch::new(alloc, self.rows);
-        let places = self.places.as_slice();
-        add_columns(alloc, &mut batch, &group, places, self.first)?;
+        lend_all(&mut batch, self.buffers.as_slice())?;
         Ok(Some(ScanBatch {
             batch,
             group,
@@ -157,38 +180,40 @@ impl<G: RowGroups + Drop> Scan<G> {
     }
 }
 
-impl<'v> Scan<FileGroups<'v>> {
+impl<'v> Scan<'v, FileGroups<'v>> {
     /// Before the first row of an opened file. Reads the columns at these places in its header, in vectors of at most so many
     /// rows.
     ///
     /// # Errors
     ///
-    /// Vectors of no row, or of more than 4,096.
+    /// Vectors of no row, or of more than 4,096; out of memory.
     pub fn of_columns(
+        alloc: Global,
         view: &'v FragmentView<'v>,
         most: usize,
-        places: Vec<usize>,
-    ) -> Result<Scan<FileGroups<'v>>, ScanFault>
-        requires { All (λ p. p < length view.now.header.columns) places.items }
-        ensures { MatchResult result (λ scan. IsFresh scan view.now.header places.items most (Some view.now.groups)) (λ f. (f ≡ VectorLength) × (IsVectorLength most → ⊥)) }
+        places: &[usize],
+    ) -> Result<Scan<'v, FileGroups<'v>>, ScanFault>
+        requires { All (λ p. p < length view.now.header.columns) places.now }
+        ensures ok { IfOk result (λ scan. IsFresh scan view.now.header places.now most (Some view.now.groups)) }
+        ensures err { IfErr result (λ f. f ≡ VectorLength → IsVectorLength most → ⊥) }
     {
-        Scan::over(FileGroups::new(view), most, places)
+        Scan::over(alloc, FileGroups::new(view), most, places)
     }
 
     /// The same, of all columns.
     ///
     /// # Errors
     ///
-    /// Out of memory; vectors of no row, or of more than 4,096.
+    /// As of [`Scan::of_columns`].
     pub fn new(
         alloc: Global,
         view: &'v FragmentView<'v>,
         most: usize,
-    ) -> Result<Scan<FileGroups<'v>>, ScanFault>
+    ) -> Result<Scan<'v, FileGroups<'v>>, ScanFault>
         ensures ok { IfOk result (λ scan. IsFresh scan view.now.header (range_with_len 0 (length view.now.header.columns)) most (Some view.now.groups)) }
         ensures err { IfErr result (λ f. f ≡ VectorLength → IsVectorLength most → ⊥) }
     {
         let places = all_places(alloc, view.header().columns.len())?;
-        Scan::of_columns(view, most, places)
+        Scan::of_columns(alloc, view, most, places.as_slice())
     }
 }

@@ -30,9 +30,9 @@ fn rows_of(scanned: &ScanBatch<'_>, column: &Column, from: usize, most: usize) -
 }
 
 /// Whether the scan gives the column's rows, each once, and then ends.
-fn gives_all(
+fn gives_all<'v>(
     alloc: Global,
-    scan: &mut Scan<FileGroups<'_>>,
+    scan: &mut Scan<'v, FileGroups<'v>>,
     column: &Column,
     most: usize,
 ) -> Result<bool, AllocError> {

@@ -1,5 +1,5 @@
 -- How parts of bytes are read: a part is what it holds and the bytes behind it, or the first thing that is wrong.
-use Rattle.std.specs.Prelude.{◌≡◌, ◌≢◌, ℕ, zero, suc, ℤ, ◌-◌, ◌==◌, nat_lt, nat_eq, Bool, not, if◌then◌else◌, List, [], ◌∷◌, length, take, drop, Result, Ok, Err}
+use Rattle.std.specs.Prelude.{◌≡◌, ℕ, zero, suc, ℤ, ◌-◌, ◌==◌, nat_lt, nat_eq, Bool, not, if◌then◌else◌, List, [], ◌∷◌, length, take, drop, Result, Ok, Err}
 use Rattle.std.specs.Int.{w64, w128, cast_signed}
 use Rattle.std.specs.Str.{is_utf8}
 use Rattle.std.specs.Cmp.Lexicographic.{pointwise}
@@ -23,11 +23,6 @@ Read E X = Result (X × List ℕ) E
 abbrev pub Reads : {E X Y : Type 0} → (X → Y) → Result X E → Result Y E → Type 0
 Reads view (Ok x) read = read ≡ Ok (view x)
 Reads view (Err e) read = read ≡ Err e
-
--- the same, unless the call's error is this one, which says that memory ran out
-abbrev pub ReadsIfMemory : {E X Y : Type 0} → E → (X → Y) → Result X E → Result Y E → Type 0
-ReadsIfMemory memory view (Ok x) read = read ≡ Ok (view x)
-ReadsIfMemory memory view (Err e) read = e ≢ memory → read ≡ Err e
 
 -- ---- parts
 

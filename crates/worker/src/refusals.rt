@@ -3,7 +3,8 @@ ghost use Rattle.std.specs.Prelude.{◌≡◌, ◌<◌, ◌==◌, length, slice_
 ghost use Rattle.fragment_file.specs.Fragment.{AreTypedColumns, IsFragment};
 ghost use Rattle.meaning.specs.Cut.{IsCut, first_row as row_before};
 ghost use Rattle.meaning.specs.Typing.{same_type};
-ghost use Rattle.wire.specs.Reading.{ReadsIfMemory, same_bytes};
+ghost use Rattle.meaning.specs.Wanting.{GivesIfMemory};
+ghost use Rattle.wire.specs.Reading.{same_bytes};
 ghost use Rattle.worker.specs.Files.{HasColumns, has_columns, is_column, is_dimension_of, is_fragment_of};
 ghost use Rattle.worker.specs.Work.{fragment_file_of, table_file_of};
 
@@ -104,7 +105,7 @@ pub fn open_fragment<'a>(
     k: u32,
     bytes: &'a [u8],
 ) -> Result<FragmentView<'a>, WorkFault>
-    ensures read { ReadsIfMemory WorkFault.Memory (λ v. v) result (fragment_file_of job.now k bytes.now) }
+    ensures read { GivesIfMemory WorkFault.Memory (λ v. v) result (fragment_file_of job.now k bytes.now) }
     ensures typed { IfOk result (λ v. AreTypedColumns v) }
     ensures columns { IfOk result (λ v. HasColumns job.now.plan.fact v.header) }
 {
@@ -142,7 +143,7 @@ pub fn open_table<'a>(
     dim: &TableUse,
     bytes: &'a [u8],
 ) -> Result<FragmentView<'a>, WorkFault>
-    ensures read { ReadsIfMemory WorkFault.Memory (λ v. v) result (table_file_of job.now dim.now bytes.now) }
+    ensures read { GivesIfMemory WorkFault.Memory (λ v. v) result (table_file_of job.now dim.now bytes.now) }
     ensures typed { IfOk result (λ v. AreTypedColumns v) }
     ensures columns { IfOk result (λ v. HasColumns dim.now v.header) }
 {

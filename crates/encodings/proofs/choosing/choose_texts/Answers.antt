@@ -19,9 +19,9 @@ returns c = λ nullable values cells.
     let long = rows_of c.args.texts.now c.args.from c.args.to c.requires.within in
     let count : length ts ≡ c.args.to - c.args.from = omega (arith, long, length-map ts (λ t. Text t)) in
     let joined : length c.joined.result.now ≡ length (concat ts) = ap length c.joined.ensures.value in
-    chosen_of_three nullable values c.least_of_three.result (4 * (c.args.to - c.args.from) + length c.joined.result.now) c.in_ok-dict.dict c.in_ok-runs.runs c.min-best.result
+    chosen_of_three nullable values c.least_of_three.result (4 * (c.args.to - c.args.from) + length c.joined.result.now) c.in_ok-dict.dict c.runs_size_of_texts-runs.result c.min-best.result
     (ap (body_size kind.Plain of_type.Text) cells ∙ (plain_text_size ts ∙ (ap (λ n. 4 * n + length (concat ts)) count ∙ ap (λ n. 4 * (c.args.to - c.args.from) + n) (sym joined))))
     (subst (λ (vs : List Value). IsDictionarySize c.in_ok-dict.dict c.min-best.result (body_size kind.Dict of_type.Text vs)) (sym cells) c.in_ok-dict.ensures)
-    (ap (body_size kind.Runs of_type.Text) cells ∙ sym c.in_ok-runs.ensures)
+    (ap (body_size kind.Runs of_type.Text) cells ∙ sym c.runs_size_of_texts-runs.ensures)
     (λ a b. omega (arith, a, b, c.min-best.ensures))
     c.least_of_three.ensures

@@ -6,11 +6,11 @@ use Rattle.meaning.specs.declared.value.Value.TheVariants.{Int}
 use Rattle.encodings.proofs.ChosenKinds.{dictionary_size, ints_form, exact_size, great_size, least_dictionary}
 use Rattle.encodings.proofs.choosing.dictionary_size_of_ints.Goals as goal
 
-pub returns-then-best-least : goal.returns-then-best-least
-returns-then-best-least c =
+pub returns-then-best-beside : goal.returns-then-best-beside
+returns-then-best-beside c =
     let long = length-map c.args.ints.now (λ n. Int n) in
     let least = least_dictionary (map Int c.args.ints.now) (omega arith) in
-    great_size (12 + 2 * length c.args.ints.now) c.args.best _ (omega (arith, least, long)) (omega arith)
+    great_size (4 + 2 * length c.args.ints.now + 8) c.args.best _ (omega (arith, least, long)) (omega arith)
 
 pub returns : goal.returns
 returns c =

@@ -8,11 +8,11 @@ use Rattle.encodings.proofs.ChosenKinds.{dictionary_size, exact_size, great_size
 use Rattle.encodings.proofs.EncodedRuns.{rows_of}
 use Rattle.encodings.proofs.choosing.dictionary_size_of_texts.Goals as goal
 
-pub returns-then-best-least : goal.returns-then-best-least
-returns-then-best-least c =
+pub returns-then-best-beside : goal.returns-then-best-beside
+returns-then-best-beside c =
     let long = rows_of c.args.texts.now c.args.from c.args.to c.requires.within in
     let least = least_text_dictionary (map Text (take (c.args.to - c.args.from) (drop c.args.from c.args.texts.now))) (omega arith) in
-    great_size (8 + 2 * (c.args.to - c.args.from)) c.args.best _ (omega (arith, least, long)) (omega arith)
+    great_size (4 + 2 * (c.args.to - c.args.from) + 4) c.args.best _ (omega (arith, least, long)) (omega arith)
 
 pub returns : goal.returns
 returns c =

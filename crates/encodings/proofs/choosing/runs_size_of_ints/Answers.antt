@@ -1,12 +1,23 @@
 -- Proofs of the goals of `runs_size_of_ints` (`choosing`).
-use Rattle.std.proofs.Common.{◌≡◌, ◌*◌, ◌∙◌, ap, length, arith, map}
+use Rattle.std.proofs.Common.{◌≡◌, ◌+◌, ◌-◌, map, drop, refl, ap, ◌∙◌, arith}
+use Rattle.std.proofs.lemmas.List.{length-map}
 use Rattle.meaning.specs.declared.value.ColType.TheVariants as of_type
 use Rattle.meaning.specs.declared.value.Value.TheVariants.{Int}
-use Rattle.encodings.proofs.ChosenKinds.{runs_size, ints_form}
+use Rattle.encodings.specs.Tight.{run_heads}
+use Rattle.encodings.proofs.RunSizes.{runs_size, run_ends, last_run}
 use Rattle.encodings.proofs.choosing.runs_size_of_ints.Goals as goal
+
+pub loop-row-preserved : goal.loop-row-preserved
+loop-row-preserved c =
+    let cells = map Int c.args.ints.now in
+    let long = length-map c.args.ints.now Int in
+    let next : c.loop-row.row + 1 - 1 ≡ c.loop-row.row = omega arith in
+    let counted = run_ends of_type.Int cells c.loop-row.row c.loop-row.size c.size_of_ended_int-size.result (runs_size of_type.Int (run_heads cells)) c.loop-row.invariant.some (omega arith) c.size_of_ended_int-size.ensures.value c.loop-row.invariant.counted in
+    record { some = omega arith; within = omega arith; counted = ap (λ k. c.loop-row.size + c.size_of_ended_int-size.result + runs_size of_type.Int (run_heads (drop k cells))) next ∙ counted; few = omega arith }
 
 pub returns : goal.returns
 returns c =
-    let starts = c.in_ok-runs.runs.starts.items in
-    let count : c.len-count.result ≡ length starts = omega (arith, c.len-count.ensures, c.in_ok-runs.runs.starts.ok.0) in
-    runs_size of_type.Int (map Int c.args.ints.now) starts c.in_ok-runs.runs.lengths.items c.len-count.result (8 * c.len-count.result) c.in_ok-runs.ensures count (ap (λ n. 8 * n) count ∙ ints_form c.args.ints.now starts)
+    let cells = map Int c.args.ints.now in
+    let long = length-map c.args.ints.now Int in
+    let all = last_run of_type.Int cells c.loop-row.row c.loop-row.size 10 (runs_size of_type.Int (run_heads cells)) c.loop-row.invariant.some (omega arith) refl c.loop-row.invariant.counted in
+    omega arith

@@ -1,35 +1,31 @@
 -- Proofs of the goals of `runs_size_of_texts` (`choosing`).
-use Rattle.std.proofs.Common.{◌≡◌, ◌≤◌, ◌*◌, ◌-◌, ◌∙◌, ap, length, map, take, drop, arith, rules}
-use Rattle.meaning.specs.Limits.{row_group_rows}
+use Rattle.std.proofs.Common.{◌≡◌, ◌+◌, ◌-◌, [], length, map, take, drop, get_or, sym, ap, ◌∙◌, arith}
+use Rattle.std.proofs.lemmas.List.{length-map, get_or-map}
 use Rattle.meaning.specs.declared.value.ColType.TheVariants as of_type
-use Rattle.meaning.specs.declared.value.Value.TheVariants.{Text}
-use Rattle.encodings.specs.Tight.{form_size}
-use Rattle.encodings.specs.Written.{at_places}
-use Rattle.encodings.proofs.ChosenKinds.{runs_size}
-use Rattle.encodings.proofs.EncodedBodies.{runs_few}
+use Rattle.meaning.specs.declared.value.Value.TheVariants.{Null, Text}
+use Rattle.meaning.specs.Order.{bytes}
+use Rattle.encodings.specs.Tight.{run_heads}
 use Rattle.encodings.proofs.EncodedRuns.{rows_of}
+use Rattle.encodings.proofs.RunSizes.{runs_size, run_ends, last_run}
 use Rattle.encodings.proofs.choosing.runs_size_of_texts.Goals as goal
 
-pub text_size_at-requires-clause-few : goal.text_size_at-requires-clause-few
-text_size_at-requires-clause-few c =
-    let long = rows_of c.args.texts.now c.args.from c.args.to c.requires.within in
-    let some = runs_few (map Text (take (c.args.to - c.args.from) (drop c.args.from c.args.texts.now))) _ _ c.in_ok-runs.ensures in
-    let same = ap length c.as_slice.ensures.value in
-    omega arith
-
-pub overflow_add-result-2 : goal.overflow_add-result-2
-overflow_add-result-2 c =
-    let long = rows_of c.args.texts.now c.args.from c.args.to c.requires.within in
-    let some = runs_few (map Text (take (c.args.to - c.args.from) (drop c.args.from c.args.texts.now))) _ _ c.in_ok-runs.ensures in
-    let same = ap length c.as_slice.ensures.value in
-    let count : c.len.result ≡ length c.in_ok-runs.runs.starts.items = omega (arith, c.len.ensures, c.in_ok-runs.runs.starts.ok.0) in
-    let bound = c.text_size_at.ensures.bound in
-    let small : c.text_size_at.result ≤ 65539 * row_group_rows = omega arith in
-    let few : c.len.result ≤ row_group_rows = omega arith in
-    search rules
+pub loop-row-preserved : goal.loop-row-preserved
+loop-row-preserved c =
+    let cells = map Text (take (c.args.to - c.args.from) (drop c.args.from c.args.texts.now)) in
+    let rows = rows_of c.args.texts.now c.args.from c.args.to c.requires.within in
+    let next : c.loop-row.row + 1 - 1 ≡ c.loop-row.row = omega arith in
+    let counted = run_ends of_type.Text cells c.loop-row.row c.loop-row.size c.size_of_ended_text-size.result (runs_size of_type.Text (run_heads cells)) c.loop-row.invariant.some (omega arith) c.size_of_ended_text-size.ensures.value c.loop-row.invariant.counted in
+    let bound = c.size_of_ended_text-size.ensures.bound in
+    record { some = omega arith; within = omega arith; counted = ap (λ k. c.loop-row.size + c.size_of_ended_text-size.result + runs_size of_type.Text (run_heads (drop k cells))) next ∙ counted; few = omega arith }
 
 pub returns : goal.returns
 returns c =
-    let starts = c.in_ok-runs.runs.starts.items in
-    let count : c.len.result ≡ length starts = omega (arith, c.len.ensures, c.in_ok-runs.runs.starts.ok.0) in
-    runs_size of_type.Text (map Text (take (c.args.to - c.args.from) (drop c.args.from c.args.texts.now))) starts c.in_ok-runs.runs.lengths.items c.len.result c.text_size_at.result c.in_ok-runs.ensures count (c.text_size_at.ensures.value ∙ ap (λ xs. form_size of_type.Text (at_places (map Text (take (c.args.to - c.args.from) (drop c.args.from c.args.texts.now))) xs)) c.as_slice.ensures.value)
+    let ts = take (c.args.to - c.args.from) (drop c.args.from c.args.texts.now) in
+    let cells = map Text ts in
+    let rows = rows_of c.args.texts.now c.args.from c.args.to c.requires.within in
+    let long = length-map ts Text in
+    let row : c.loop-row.row ≡ c.args.to - c.args.from = omega arith in
+    let last : Text c.text_at.result.now ≡ get_or cells (c.loop-row.row - 1) Null = ap Text (c.text_at.ensures.value ∙ ap (λ k. get_or ts (k - 1) []) (sym row)) ∙ sym (get_or-map Text ts (c.loop-row.row - 1) [] Null (omega arith)) in
+    let size : 2 + (4 + length c.text_at.result.now) ≡ 2 + (4 + length (bytes (get_or cells (c.loop-row.row - 1) Null))) = ap (λ v. 2 + (4 + length (bytes v))) last in
+    let all = last_run of_type.Text cells c.loop-row.row c.loop-row.size (2 + (4 + length c.text_at.result.now)) (runs_size of_type.Text (run_heads cells)) c.loop-row.invariant.some (omega arith) size c.loop-row.invariant.counted in
+    omega arith

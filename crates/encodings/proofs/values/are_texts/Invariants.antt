@@ -1,6 +1,7 @@
 -- Loop invariants of `are_texts` (`values`).
 use Rattle.std.proofs.Common.{◌≡◌, drop, length, true}
 use Rattle.std.specs.List.{list_all}
+use Rattle.std.specs.Str.{IsCharBoundary}
 use Rattle.columns.specs.Column.{is_text}
 use Rattle.encodings.specs.Block.{are_ends}
 use Rattle.encodings.specs.Bytes.{words, texts_from}
@@ -11,4 +12,5 @@ invariant-loop-i l =
     let ends = words l.count l.bytes in record {
       texts : list_all is_text (texts_from l.start (drop l.i ends) l.joined) ≡ list_all is_text (texts_from 0 ends l.joined);
       ends : are_ends l.start (drop l.i ends) (length l.joined) ≡ true;
+      cut : IsCharBoundary l.joined l.start;
     }

@@ -9,7 +9,7 @@ loop-i-init c = (refl, λ _. none_yet c.args.op (length c.args.out.now) (int_at 
 
 pub loop-i-preserved : goal.loop-i-preserved
 loop-i-preserved c = (
-  c.put_of_two-is_any_far.ensures.long ∙ c.loop-i.invariant.0,
-  goes_on c.args.op (length c.args.out.now) (int_at c.args.left.now) (int_at c.args.right.now) c.loop-i.out c.put_of_two-is_any_far.new.out c.loop-i.i c.loop-i.is_any_far c.put_of_two-is_any_far.result
-      c.loop-i-test.true c.loop-i.invariant.1 c.put_of_two-is_any_far.ensures.near c.put_of_two-is_any_far.ensures.put,
+  c.put_of_two-bits.ensures.long ∙ c.loop-i.invariant.0,
+  goes_on c.args.op (length c.args.out.now) (int_at c.args.left.now) (int_at c.args.right.now) c.loop-i.out c.put_of_two-bits.new.out c.loop-i.i c.loop-i.bits c.put_of_two-bits.result
+      c.loop-i-test.true c.loop-i.invariant.1 c.put_of_two-bits.ensures.near c.put_of_two-bits.ensures.put,
 )

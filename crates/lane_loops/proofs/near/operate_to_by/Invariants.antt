@@ -1,10 +1,10 @@
 -- Loop invariants of `operate_to_by` (`near`).
-use Rattle.std.proofs.Common.{◌≡◌, false, length}
+use Rattle.std.proofs.Common.{◌≡◌, ◌<◌, length}
 use Rattle.lane_loops.specs.Lanes.{int_at}
-use Rattle.lane_loops.specs.Near.{AreResults}
+use Rattle.lane_loops.specs.Near.{AreResults, limit_of}
 use Rattle.lane_loops.proofs.near.operate_to_by.Given as goal
 
 abbrev pub invariant-loop-i : goal.invariant-loop-i
 invariant-loop-i l =
     (length l.out ≡ length l.fn.out)
-    × (l.is_any_far ≡ false → AreResults l.op (length l.fn.out) l.i (int_at l.left) (λ _. l.right) l.out)
+    × (l.bits < limit_of l.op → AreResults l.op (length l.fn.out) l.i (int_at l.left) (λ _. l.right) l.out)

@@ -5,7 +5,7 @@ use Rattle.meaning.specs.declared.value.Value.TheVariants.{Null}
 use Rattle.csv.specs.Records.{fields_of}
 use Rattle.meaning.specs.Records.{catalog_row}
 use Rattle.columns.specs.Column.{ColumnSpec, refusal}
-use Rattle.loader.specs.Columns.{Kind, kind_of, with_row}
+use Rattle.loader.specs.Columns.{kind_of, with_row}
 use Rattle.loader.specs.Steps.{value_of, values_of}
 use Rattle.loader.proofs.Declared.{front_kind, taken_at}
 use Rattle.loader.proofs.Values.{set_next, all_set, row_value, row_length}

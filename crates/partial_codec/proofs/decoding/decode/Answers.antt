@@ -5,17 +5,17 @@ use Rattle.meaning.specs.Said.{Answer}
 use Rattle.partial_codec.specs.declared.fault.DecodeFault.{DecodeFault}
 use Rattle.partial_codec.specs.Answer.{Spells, judged}
 use Rattle.partial_codec.specs.Job.{JobSpec, IsJob}
-use Rattle.wire.specs.Reading.{ReadsIfMemory}
+use Rattle.meaning.specs.Wanting.{GivesIfMemory}
 use Rattle.wire.proofs.Numbers.{IsBytes}
 use Rattle.partial_codec.specs.declared.fault.DecodeFault.TheVariants.{Memory}
 use Rattle.partial_codec.proofs.Answers.{answer_takes, spelled_reads}
 use Rattle.partial_codec.proofs.decoding.decode.Goals as goal
 
-is_spelled : (job : JobSpec) (bytes : List ℕ) (r : Result Answer DecodeFault) → IsBytes bytes → ReadsIfMemory Memory (λ a. a) r (judged job bytes) → IfOk r (λ a. Spells job bytes a)
+is_spelled : (job : JobSpec) (bytes : List ℕ) (r : Result Answer DecodeFault) → IsBytes bytes → GivesIfMemory Memory (λ a. a) r (judged job bytes) → IfOk r (λ a. Spells job bytes a)
 is_spelled job bytes (Ok a) ok read = answer_takes job bytes a ok read
 is_spelled job bytes (Err e) ok read = tt
 
-is_given : (job : JobSpec) (bytes : List ℕ) (a : Answer) (r : Result Answer DecodeFault) → IsJob job → Spells job bytes a → ReadsIfMemory Memory (λ b. b) r (judged job bytes) → ReadsIfMemory Memory (λ b. b) r (Ok a)
+is_given : (job : JobSpec) (bytes : List ℕ) (a : Answer) (r : Result Answer DecodeFault) → IsJob job → Spells job bytes a → GivesIfMemory Memory (λ b. b) r (judged job bytes) → GivesIfMemory Memory (λ b. b) r (Ok a)
 is_given job bytes a (Ok b) is spells read = sym (spelled_reads job bytes a is spells) ∙ read
 is_given job bytes a (Err e) is spells read = λ not_memory. sym (spelled_reads job bytes a is spells) ∙ read not_memory
 

@@ -4,7 +4,7 @@ use Rattle.std.specs.Prelude.{IfOk}
 use Rattle.meaning.specs.Said.{Cell}
 use Rattle.partial_codec.specs.declared.fault.DecodeFault.{DecodeFault}
 use Rattle.partial_codec.specs.Job.{JobSpec, IsJob}
-use Rattle.wire.specs.Reading.{ReadsIfMemory}
+use Rattle.meaning.specs.Wanting.{GivesIfMemory}
 use Rattle.partial_codec.specs.State.{SpellsState, judged_state}
 use Rattle.wire.proofs.Numbers.{IsBytes}
 use Rattle.partial_codec.specs.declared.fault.DecodeFault.TheVariants.{Memory}
@@ -13,11 +13,11 @@ use Rattle.partial_codec.proofs.state.decode_state.Goals as goal
 
 -- the same for a `Vec`, of which `items` gives the elements
 module _ {V : Type 0} (items : V → List Cell) where
-  is_spelled : (job : JobSpec) (bytes : List ℕ) (r : Result V DecodeFault) → IsBytes bytes → ReadsIfMemory Memory items r (judged_state job bytes) → IfOk r (λ v. SpellsState job bytes (items v))
+  is_spelled : (job : JobSpec) (bytes : List ℕ) (r : Result V DecodeFault) → IsBytes bytes → GivesIfMemory Memory items r (judged_state job bytes) → IfOk r (λ v. SpellsState job bytes (items v))
   is_spelled job bytes (Ok v) ok read = file_takes job bytes (items v) ok read
   is_spelled job bytes (Err e) ok read = tt
 
-  is_given : (job : JobSpec) (bytes : List ℕ) (cells : List Cell) (r : Result V DecodeFault) → IsJob job → SpellsState job bytes cells → ReadsIfMemory Memory items r (judged_state job bytes) → ReadsIfMemory Memory items r (Ok cells)
+  is_given : (job : JobSpec) (bytes : List ℕ) (cells : List Cell) (r : Result V DecodeFault) → IsJob job → SpellsState job bytes cells → GivesIfMemory Memory items r (judged_state job bytes) → GivesIfMemory Memory items r (Ok cells)
   is_given job bytes cells (Ok v) is spells read = sym (spelled_state_reads job bytes cells is spells) ∙ read
   is_given job bytes cells (Err e) is spells read = λ not_memory. sym (spelled_state_reads job bytes cells is spells) ∙ read not_memory
 

@@ -19,8 +19,8 @@ in_its_order {groups = groups} order same_keys same_rows same_columns = subst (�
 pub in_order-requires-clause-columns : goal.in_order-requires-clause-columns
 in_order-requires-clause-columns c =
     let t = c.self.inside in
-    subst (λ (cs : List ColumnSpec). All (λ (col : ColumnSpec). length col.states ≡ length c.in_ok-keys.keys.items) cs) (sym c.as_slice-2.ensures.value)
-    (subst (λ (ks : List Row). All (λ (col : ColumnSpec). length col.states ≡ length ks) t.columns.items) (sym (c.in_ok-keys.ensures ∙ c.into_keys.ensures))
+    subst (λ (cs : List ColumnSpec). All (λ (col : ColumnSpec). length col.states ≡ length c.into_keys.result) cs) (sym c.as_slice-2.ensures.value)
+    (subst (λ (ks : List Row). All (λ (col : ColumnSpec). length col.states ≡ length ks) t.columns.items) (sym c.into_keys.ensures)
     (all_heights t.columns.items (length t.index.keys) c.self.invariant.heights))
 
 pub returns-clause-value : goal.returns-clause-value
@@ -28,7 +28,7 @@ returns-clause-value c =
     let t = c.self.inside in
     c.from_vec.ensures
     ∙ handed_out t.is_certain t.index.keys t.rows.items t.columns.items t.taken c.in_ok-groups.groups.items c.self.invariant
-    (in_its_order c.in_ok-groups.ensures (c.in_ok-keys.ensures ∙ c.into_keys.ensures) c.as_slice.ensures.value c.as_slice-2.ensures.value)
+    (in_its_order c.in_ok-groups.ensures c.into_keys.ensures c.as_slice.ensures.value c.as_slice-2.ensures.value)
     ∙ ap (λ (s : GroupsSpec). s.groups) c.self.view_is
 
 pub returns-clause-fit : goal.returns-clause-fit
@@ -37,12 +37,12 @@ returns-clause-fit c =
     subst (λ (s : Shape). All (IsGroupOf s) c.from_vec.result) (ap (λ (s : GroupsSpec). s.shape) c.self.view_is)
     (subst (λ (gs : List Group). All (IsGroupOf (shape_with t.is_certain (kinds_of t.columns.items))) gs) (sym c.from_vec.ensures)
     (own_groups t.is_certain t.index.keys t.rows.items t.columns.items t.taken c.in_ok-groups.groups.items c.self.invariant
-    (in_its_order c.in_ok-groups.ensures (c.in_ok-keys.ensures ∙ c.into_keys.ensures) c.as_slice.ensures.value c.as_slice-2.ensures.value)))
+    (in_its_order c.in_ok-groups.ensures c.into_keys.ensures c.as_slice.ensures.value c.as_slice-2.ensures.value)))
 
 pub returns-clause-rows : goal.returns-clause-rows
 returns-clause-rows c =
     let t = c.self.inside in
     ap all_rows c.from_vec.ensures
     ∙ own_rows t.is_certain t.index.keys t.rows.items t.columns.items t.taken c.in_ok-groups.groups.items c.self.invariant
-    (in_its_order c.in_ok-groups.ensures (c.in_ok-keys.ensures ∙ c.into_keys.ensures) c.as_slice.ensures.value c.as_slice-2.ensures.value)
+    (in_its_order c.in_ok-groups.ensures c.into_keys.ensures c.as_slice.ensures.value c.as_slice-2.ensures.value)
     ∙ ap (λ (s : GroupsSpec). s.rows) c.self.view_is

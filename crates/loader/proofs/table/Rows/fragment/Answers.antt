@@ -1,8 +1,8 @@
 -- Proofs of the goals of `Rows::fragment` (`table`).
-use Rattle.std.proofs.Common.{◌≡◌, ◌∙◌, sym, ap, length, map, []}
+use Rattle.std.proofs.Common.{◌≡◌, ◌∙◌, sym, subst, ap, length, map, []}
 use Rattle.std.proofs.lemmas.Result.{err_from_is_err_and}
-use Rattle.loader.specs.Columns.{kind_of}
-use Rattle.loader.proofs.Declared.{fresh_declared}
+use Rattle.loader.specs.Columns.{AreRowsOf, kind_of}
+use Rattle.loader.proofs.Declared.{declared_length, fresh_declared, fresh_rows}
 use Rattle.loader.proofs.Fragments.{columns_length, fragment_columns, put_back}
 use Rattle.loader.proofs.RowRuns.{fragment_refused}
 use Rattle.loader.proofs.table.Rows.fragment.Goals as goal
@@ -22,6 +22,16 @@ returns-clause-taken g c rest left =
     let declared = c.args.self.now.declared.now in
     let order = c.args.self.now.order.columns.items in
     let fresh = c.deref_mut.ensures.value ∙ c.in_ok-columns.ensures in
-    let loaded = columns ∙ fragment_columns declared order c.args.first c.args.count rest c.deref_mut.result.now rows c.requires.columns enough fresh in
+    let loaded = columns ∙ fragment_columns declared order c.args.first c.args.count rest c.deref_mut.result.now rows (sym c.args.self.now.order_is.long) enough fresh in
     let wide : length c.next_rows.new.columns ≡ length c.in_ok-columns.columns.items = ap length loaded ∙ columns_length declared rows ∙ sym (ap length c.in_ok-columns.ensures ∙ columns_length declared []) in
     (rows, enough, c.from_vec.ensures ∙ put_back c.in_ok-columns.columns.len c.next_rows.new.columns c.in_ok-columns.columns.items (sym c.in_ok-columns.columns.ok.0) (wide ∙ sym c.in_ok-columns.columns.ok.0) ∙ loaded, on)
+
+pub returns-clause-rows : goal.returns-clause-rows
+returns-clause-rows g c =
+    let declared = c.args.self.now.declared.now in
+    let fresh = c.deref_mut.ensures.value ∙ c.in_ok-columns.ensures in
+    let wide : length c.next_rows.new.columns ≡ length c.in_ok-columns.columns.items =
+    declared_length declared c.next_rows.new.columns c.in_ok-next_rows.ensures.kept ∙ sym (ap length c.in_ok-columns.ensures ∙ columns_length declared []) in
+    let put : c.from_vec.result ≡ c.next_rows.new.columns =
+    c.from_vec.ensures ∙ put_back c.in_ok-columns.columns.len c.next_rows.new.columns c.in_ok-columns.columns.items (sym c.in_ok-columns.columns.ok.0) (wide ∙ sym c.in_ok-columns.columns.ok.0) in
+    subst (AreRowsOf declared c.args.count) (sym put) (c.in_ok-next_rows.ensures.kept, fresh_rows declared c.deref_mut.result.now c.next_rows.new.columns c.args.count fresh c.in_ok-next_rows.ensures.longer)

@@ -1,16 +1,44 @@
 -- Proofs of the goals of `batch` (`scan`).
-use Rattle.std.proofs.Common.{ℕ, List, ap, sym, subst, refl, ◌∙◌}
-use Rattle.std.specs.Prelude.{option_map}
+use Rattle.std.proofs.Common.{◌≡◌, ℕ, ◌+◌, ◌-◌, ◌≤◌, min, List, Some, ap, sym, subst, refl, ◌∙◌, arith}
+use Rattle.std.specs.Prelude.{All, Option, option_map, IfSome}
 use Rattle.std.proofs.lemmas.Bool.{ne_eqb}
-use Rattle.scan_select.specs.Scanned.{AddsColumns, ScanSpec}
+use Rattle.encodings.specs.Block.{Block}
+use Rattle.fragment_file.specs.View.{rows_of}
+use Rattle.scan_select.specs.declared.buffers.ColumnBuffer.{ColumnBuffer}
+use Rattle.scan_select.specs.Buffers.{AddsLent, IsFilled, IsLendable}
+use Rattle.scan_select.specs.Groups.{current_rows}
+use Rattle.scan_select.specs.Scanned.{ScanSpec}
+use Rattle.scan_select.proofs.Filling.{adds_columns, are_lendable}
 use Rattle.scan_select.proofs.Rows.{batch_gives}
 use Rattle.scan_select.proofs.scan.Scan.batch.Goals as goal
 
+pub lend_all-requires : goal.lend_all-requires
+lend_all-requires g c =
+    let columns = (g.G.RowGroups.header_of c.self.inside.groups).columns in
+    let group = c.in-Some.group in
+    let at = c.self.invariant in
+    let stands = sym c.group.ensures.value ∙ ap (option_map (λ x. x)) c.in-Some.is in
+    let filled = subst (λ (current : Option (List Block)). IfSome current (λ g. All (IsFilled g c.self.inside.first) c.self.inside.buffers.items)) stands at.filled in
+    let rows_are = at.group_rows_are ∙ ap current_rows stands in
+    let full = at.full ∙ ap (λ (k : ℕ). min c.self.inside.most (k - c.self.inside.first)) rows_are in
+    let below = at.within in
+    let rows : c.new-batch.result.rows ≡ c.self.inside.rows = ap (λ b. b.rows) c.new-batch.ensures in
+    subst (λ (bs : List ColumnBuffer). All (IsLendable c.new-batch.result.rows) bs) (sym c.as_slice.ensures.value)
+    (subst (λ (k : ℕ). All (IsLendable k) c.self.inside.buffers.items) (sym rows)
+    (are_lendable columns (rows_of group) c.self.inside.most group c.self.inside.first c.self.inside.rows c.in-Some.ensures.blocks full (omega (arith, below, rows_are)) c.self.inside.buffers.items at.of_columns filled))
+
 pub returns : goal.returns
 returns g c =
-    let at = sym (ap (λ (s : ScanSpec). s.at) c.self.view_is) in
-    let places = sym (ap (λ (s : ScanSpec). s.places) c.self.view_is) in
+    let columns = (g.G.RowGroups.header_of c.self.inside.groups).columns in
+    let group = c.in-Some.group in
+    let at = c.self.invariant in
     let stands = sym c.group.ensures.value ∙ ap (option_map (λ x. x)) c.in-Some.is in
-    let adds = subst (λ (ps : List ℕ). AddsColumns c.in-Some.group c.self.inside.first ps c.new-batch.result c.add_columns.new.batch) c.as_slice-places.ensures.value c.in_ok-add_columns.ensures in
-    batch_gives c.args.self.now _ c.self.inside.most _ c.self.inside.group_rows c.self.inside.first c.self.inside.rows c.self.inside.places.items _ c.new-batch.result stands at places c.self.invariant c.in-Some.ensures.count c.rows-rows.ensures.equal
-    (ne_eqb _ _ c.if-self-eq0.false) refl c.new-batch.ensures adds
+    let filled = subst (λ (current : Option (List Block)). IfSome current (λ g. All (IsFilled g c.self.inside.first) c.self.inside.buffers.items)) stands at.filled in
+    let rows_are = at.group_rows_are ∙ ap current_rows stands in
+    let full = at.full ∙ ap (λ (k : ℕ). min c.self.inside.most (k - c.self.inside.first)) rows_are in
+    let below = at.within in
+    let lent = subst (λ (bs : List ColumnBuffer). AddsLent bs c.new-batch.result c.lend_all.new.batch) c.as_slice.ensures.value c.in_ok-lend_all.ensures in
+    let adds = adds_columns columns (rows_of group) c.self.inside.most group c.self.inside.first c.self.inside.rows c.in-Some.ensures.blocks full (omega (arith, below, rows_are)) c.self.inside.buffers.items c.new-batch.result c.lend_all.new.batch
+    (ap (λ b. b.rows) c.new-batch.ensures) at.of_columns filled lent in
+    batch_gives c.args.self.now columns _ c.self.inside.most c.self.inside.group_rows c.self.inside.first c.self.inside.rows c.self.inside.buffers.items _ c.new-batch.result stands (sym (ap (λ (s : ScanSpec). s.at) c.self.view_is))
+    (sym (ap (λ (s : ScanSpec). s.places) c.self.view_is)) at c.in-Some.ensures.count c.rows-rows.ensures.equal (ne_eqb _ _ c.if-self-eq0.false) refl c.new-batch.ensures adds

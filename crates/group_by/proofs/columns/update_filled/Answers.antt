@@ -1,0 +1,23 @@
+-- Proofs of the goals of `update_filled` (`columns`).
+use Rattle.std.specs.List.{zip}
+use Rattle.std.proofs.Common.{◌≡◌, List, OnOk, length, subst, sym, ◌∙◌}
+use Rattle.meaning.specs.declared.answer.Statistics.{Statistics}
+use Rattle.accumulators.specs.Columns.{of_states}
+use Rattle.accumulators.specs.Entries.{with_entries}
+use Rattle.accumulators.specs.Values.{selected, values_of}
+use Rattle.accumulators.proofs.Placing.{selected_long}
+use Rattle.group_by.specs.declared.row_places.RowPlaces.{RowPlaces}
+use Rattle.group_by.specs.RowPlaces.{listed}
+use Rattle.group_by.proofs.OnePlace.{entries_once}
+use Rattle.group_by.proofs.columns.update_filled.Goals as goal
+
+pub returns-in-One : goal.returns-in-One
+returns-in-One c =
+    let column = c.args.column.now in
+    let list = c.args.selection.now.list in
+    let values = selected (values_of c.args.lanes.now) list in
+    let long = subst (λ (places : RowPlaces). length (listed places) ≡ length list) c.in-One.is c.requires.places ∙ sym (selected_long (values_of c.args.lanes.now) list) in
+    subst (λ (ss : List Statistics). OnOk c.update_at.result (c.update_at.new.self ≡ of_states column ss))
+    (entries_once column.kind c.in-One.place c.in-One.behind values column.states long
+    ∙ (λ i. with_entries column.kind column.states (zip (listed (sym c.in-One.is i)) values)))
+    c.update_at.ensures.ok

@@ -1,0 +1,21 @@
+-- Proofs of the goals of `int_places` (`int_places`).
+use Rattle.std.proofs.Common.{refl, ◌+◌, ◌≡◌, ◌<◌, ℕ, List, length, get_or, ap, subst, sym, ◌∙◌, ◌∷◌, []}
+use Rattle.std.proofs.lemmas.List.{length-map, get_or-map}
+use Rattle.meaning.specs.declared.value.Value.{Value}
+use Rattle.meaning.specs.Order.{Row}
+use Rattle.group_by.specs.declared.int_places.IntPlace.{IntPlace}
+use Rattle.group_by.specs.IntPlaces.{ArePlaced}
+use Rattle.group_by.specs.Keys.{alone}
+use Rattle.group_by.proofs.SortedInts.{one_placed}
+use Rattle.group_by.proofs.int_places.int_places.Goals as goal
+
+pub loop-k-preserved : goal.loop-k-preserved
+loop-k-preserved c =
+    let values = c.args.values.now in
+    let k = c.loop-k.k in
+    let p = c.int_place-one.result in
+    let one : Value → Row = λ (v : Value). v ∷ [] in
+    let here : k < length (alone values) = subst (λ (n : ℕ). k < n) (sym (length-map values one)) c.loop-k-test.true in
+    let is_key = c.int_place-one.ensures.key ∙ sym (get_or-map one values k c.index-values-k.result [] c.loop-k-test.true ∙ ap one (sym c.index-values-k.is ∙ c.in-Int.is)) in
+    subst (λ (ps : List IntPlace). ArePlaced (alone values) (k + 1) ps) (sym c.in_ok-push.ensures.items)
+    (one_placed (alone values) k here p c.int_place-one.ensures.place is_key c.loop-k.placed.items c.loop-k.invariant)

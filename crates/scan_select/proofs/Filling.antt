@@ -1,0 +1,206 @@
+-- What buffers hold that were filled from a row group, and the columns of a batch that they are lent as.
+use Rattle.std.proofs.Common.{◌≡◌, ℕ, zero, suc, ◌+◌, ◌-◌, ◌≤◌, ◌<◌, min, Bool, false, true, List, [], ◌∷◌, ◌++◌, append_assoc, length, map, get_or, take, drop, slice_index_or, slice_set, Option, Some, None, refl, ap, sym, subst, ◌∙◌, arith}
+use Rattle.std.specs.Prelude.{slice_get, All, unwrap_or}
+use Rattle.std.specs.List.{list_all, AllByRecursion, AllZip}
+use Rattle.std.proofs.lemmas.List.Elements.{All-from_recursion, recursion_from_All}
+use Rattle.std.proofs.lemmas.List.{length-drop, take_more}
+use Rattle.meaning.specs.declared.catalog.Column.{Column}
+use Rattle.meaning.specs.declared.value.ColType.{ColType}
+use Rattle.meaning.specs.declared.value.Value.{Value}
+use Rattle.meaning.specs.declared.outcome.Outcome.{Outcome}
+use Rattle.meaning.specs.declared.outcome.Outcome.TheVariants as gives
+use Rattle.encodings.specs.Block.{Block, is_block, values_of}
+use Rattle.fragment_file.specs.Copying.{is_taken}
+use Rattle.fragment_file.specs.Fragment.{AreBlocks, IsBlockOf, no_block}
+use Rattle.vectors.specs.declared.batch.BatchColumn.{BatchColumn}
+use Rattle.vectors.specs.Vector.{BatchSpec, outcomes_of}
+use Rattle.scan_select.specs.declared.buffers.ColumnBuffer.{ColumnBuffer}
+use Rattle.scan_select.specs.Buffers.{AddsLent, FitsGroup, IsBufferOf, IsPosition, IsFilled, IsLendable, IsLentOf, filled, filled_now, places_of, window_of}
+use Rattle.scan_select.specs.Groups.{current_rows}
+use Rattle.scan_select.specs.Scanned.{AddsColumns, AreColumnsAt, IsColumnAt, IsOfType, IsVectorLength}
+use Rattle.scan_select.proofs.Masks.{length-window, window_taken}
+use Rattle.scan_select.proofs.Rows.{length-values}
+
+from_some : {X : Type 0} (x y : X) → Some x ≡ Some y → x ≡ y
+from_some x y is = ap (λ o. unwrap_or o x) is
+
+-- ---- the block of a column
+
+pub block_at : (cs : List Column) (n : ℕ) (bs : List Block) (p : ℕ) (c : Column) → AreBlocks cs n bs → slice_get cs p ≡ Some c → IsBlockOf c n (get_or bs p no_block) × (p < length bs)
+block_at [] n bs p c are there = absurd cc
+block_at (d ∷ ds) n [] p c are there = absurd are
+block_at (d ∷ ds) n (b ∷ bs) zero c are there = (subst (λ (x : Column). IsBlockOf x n b) (from_some d c there) are.0, omega arith)
+block_at (d ∷ ds) n (b ∷ bs) (suc p) c are there =
+    let rest = block_at ds n bs p c are.1 there in
+    let below = rest.1 in
+    (rest.0, omega (arith, below))
+
+fits_group : (cs : List Column) (n most : ℕ) (group : List Block) (b : ColumnBuffer) → AreBlocks cs n group → IsBufferOf cs most b → FitsGroup group b
+fits_group cs n most group b are is =
+    let at = block_at cs n group b.place is.column are is.there in
+    record { there = at.1; col_type = is.col_type ∙ sym at.0.col_type }
+
+all_fit : (cs : List Column) (n most : ℕ) (group : List Block) (bs : List ColumnBuffer) → AreBlocks cs n group → AllByRecursion (IsBufferOf cs most) bs → AllByRecursion (FitsGroup group) bs
+all_fit cs n most group [] are all = tt
+all_fit cs n most group (b ∷ bs) are all = (fits_group cs n most group b are all.0, all_fit cs n most group bs are all.1)
+
+pub all_fit_group : (cs : List Column) (n most : ℕ) (group : List Block) (bs : List ColumnBuffer) → AreBlocks cs n group → All (IsBufferOf cs most) bs → All (FitsGroup group) bs
+all_fit_group cs n most group bs are all = All-from_recursion (FitsGroup group) bs (all_fit cs n most group bs are (recursion_from_All (IsBufferOf cs most) bs all))
+
+-- ---- filling
+
+all_filled : (group : List Block) (first : ℕ) (bs : List ColumnBuffer) → AllByRecursion (IsFilled group first) (map (filled group first) bs)
+all_filled group first [] = tt
+all_filled group first (b ∷ bs) = (refl, all_filled group first bs)
+
+still_of : (cs : List Column) (most : ℕ) (group : List Block) (first : ℕ) (bs : List ColumnBuffer) → AllByRecursion (IsBufferOf cs most) bs → AllByRecursion (IsBufferOf cs most) (map (filled group first) bs)
+still_of cs most group first [] all = tt
+still_of cs most group first (b ∷ bs) all =
+    (record { column = all.0.column; there = all.0.there; col_type = all.0.col_type; nullable = all.0.nullable; room = all.0.room }, still_of cs most group first bs all.1)
+
+same_places : (group : List Block) (first : ℕ) (bs : List ColumnBuffer) → places_of (map (filled group first) bs) ≡ places_of bs
+same_places group first [] = refl
+same_places group first (b ∷ bs) = ap (λ (ps : List ℕ). b.place ∷ ps) (same_places group first bs)
+
+pub now_places : (current : Option (List Block)) (first : ℕ) (bs : List ColumnBuffer) → places_of (filled_now current first bs) ≡ places_of bs
+now_places None first bs = refl
+now_places (Some group) first bs = same_places group first bs
+
+-- where a scan stands when the buffers were filled anew
+pub stands_again : (cs : List Column) (most : ℕ) (current : Option (List Block)) (group_rows first rows : ℕ) (bs new : List ColumnBuffer) → All (λ p. p < length cs) (places_of bs) → IsVectorLength most → group_rows ≡ current_rows current
+    → first ≤ group_rows → rows ≡ min most (group_rows - first) → All (IsBufferOf cs most) bs → new ≡ filled_now current first bs → IsPosition cs most current group_rows first rows new
+stands_again cs most None group_rows first rows bs new places vectors are within full of_columns filled =
+    let same : new ≡ bs = filled in
+    record {
+      places_within = subst (λ (xs : List ColumnBuffer). All (λ p. p < length cs) (places_of xs)) (sym same) places;
+      vectors = vectors;
+      group_rows_are = are;
+      within = omega (arith, within, full);
+      full = full;
+      of_columns = subst (λ (xs : List ColumnBuffer). All (IsBufferOf cs most) xs) (sym same) of_columns;
+      filled = tt;
+    }
+stands_again cs most (Some group) group_rows first rows bs new places vectors are within full of_columns filling =
+    record {
+      places_within = subst (λ (ps : List ℕ). All (λ p. p < length cs) ps) (sym (ap places_of filling ∙ same_places group first bs)) places;
+      vectors = vectors;
+      group_rows_are = are;
+      within = omega (arith, within, full);
+      full = full;
+      of_columns = subst (λ (xs : List ColumnBuffer). All (IsBufferOf cs most) xs) (sym filling) (All-from_recursion (IsBufferOf cs most) (map (filled group first) bs) (still_of cs most group first bs (recursion_from_All (IsBufferOf cs most) bs of_columns)));
+      filled = subst (λ (xs : List ColumnBuffer). All (IsFilled group first) xs) (sym filling) (All-from_recursion (IsFilled group first) (map (filled group first) bs) (all_filled group first bs));
+    }
+
+-- one buffer more is filled
+fills_next : {X : Type 0} (f : X → X) (old : List X) (i : ℕ) (d : X) → i < length old
+    → slice_set (map f (take i old) ++ drop i old) i (f (slice_index_or (map f (take i old) ++ drop i old) i d)) ≡ map f (take (suc i) old) ++ drop (suc i) old
+fills_next f [] i d below = absurd (omega arith)
+fills_next f (x ∷ xs) zero d below = refl
+fills_next f (x ∷ xs) (suc i) d below = ap (λ ys. f x ∷ ys) (fills_next f xs i d (omega (arith, below)))
+
+pub fills_one_more : {X : Type 0} (f : X → X) (old : List X) (i : ℕ) (d : X) → i < length old
+    → slice_set (map f (take i old) ++ drop i old) i (f (slice_index_or (map f (take i old) ++ drop i old) i d)) ≡ map f (take (i + 1) old) ++ drop (i + 1) old
+fills_one_more f old i d below =
+    let next : suc i ≡ i + 1 = omega arith in
+    fills_next f old i d below ∙ ap (λ (k : ℕ). map f (take k old) ++ drop k old) next
+
+-- a list that was lent and filled comes back
+back : {X : Type 0} (f : X → X) (xs : List X) → take (length xs) (map f xs ++ drop (length (map f xs)) xs) ≡ map f xs
+back f [] = refl
+back f (x ∷ xs) = ap (λ ys. f x ∷ ys) (back f xs)
+
+pub put_back : {X : Type 0} (f : X → X) (xs lent new : List X) (len : ℕ) → lent ≡ xs → length lent ≡ len → new ≡ map f lent → take len (new ++ drop (length new) xs) ≡ map f xs
+put_back f xs lent new len are long filling =
+    let there : new ≡ map f xs = filling ∙ ap (map f) are in
+    let count : len ≡ length xs = sym long ∙ ap length are in
+    ap (λ (k : ℕ). take k (new ++ drop (length new) xs)) count ∙ ap (λ ys. take (length xs) (ys ++ drop (length ys) xs)) there ∙ back f xs
+
+-- ---- lending
+
+-- as many values as are asked for, or as are there
+shorter : (most rows : ℕ) (vs : List Value) → rows ≡ min most (length vs) → take most vs ≡ take rows vs
+shorter zero rows vs is =
+    let none : rows ≡ 0 = omega (arith, is) in
+    rw none refl
+shorter (suc most) rows [] is =
+    let none : rows ≡ 0 = omega (arith, is) in
+    rw none refl
+shorter (suc most) zero (v ∷ vs) is = absurd (omega (arith, is))
+shorter (suc most) (suc rows) (v ∷ vs) is = ap (λ (ws : List Value). v ∷ ws) (shorter most rows vs (omega (arith, is)))
+
+module _ (cs : List Column) (n most : ℕ) (group : List Block) (first rows : ℕ) (are : AreBlocks cs n group) (full : rows ≡ min most (n - first)) (within : first + rows ≤ n) where
+  -- the values that a filled buffer holds
+  holds : (b : ColumnBuffer) → IsBufferOf cs most b → IsFilled group first b → b.values.values ≡ take rows (drop first (values_of (get_or group b.place no_block)))
+  holds b is filled =
+      let at = block_at cs n group b.place is.column are is.there in
+      let vs : List Value = drop first (values_of (get_or group b.place no_block)) in
+      let count = length-values (get_or group b.place no_block) at.0.sound in
+      let behind = length-drop first (values_of (get_or group b.place no_block)) in
+      let same = at.0.rows in
+      filled ∙ ap (λ (k : ℕ). take k vs) is.room ∙ shorter most rows vs (omega (arith, full, count, behind, same))
+
+  lendable : (b : ColumnBuffer) → IsBufferOf cs most b → IsFilled group first b → IsLendable rows b
+  lendable b is filled =
+      let at = block_at cs n group b.place is.column are is.there in
+      let block : Block = get_or group b.place no_block in
+      let values = holds b is filled in
+      let type : block.col_type ≡ b.values.col_type = at.0.col_type ∙ sym is.col_type in
+      let nullable : block.nullable ≡ b.nullable = at.0.nullable ∙ sym is.nullable in
+      let same = at.0.rows in
+      record {
+        taken = subst (λ (vs : List Value). list_all (is_taken b.values.col_type b.nullable) vs ≡ true) (sym values)
+            (subst (λ (k : Bool). list_all (is_taken b.values.col_type k) (take rows (drop first (values_of block))) ≡ true) nullable
+            (subst (λ (t : ColType). list_all (is_taken t block.nullable) (take rows (drop first (values_of block))) ≡ true) type (window_taken block first rows at.0.sound)));
+        long = ap length values ∙ length-window block first rows at.0.sound (omega (arith, same, within));
+      }
+
+  all_lendable : (bs : List ColumnBuffer) → AllByRecursion (IsBufferOf cs most) bs → AllByRecursion (IsFilled group first) bs → AllByRecursion (IsLendable rows) bs
+  all_lendable [] all filled = tt
+  all_lendable (b ∷ bs) all filled = (lendable b all.0 filled.0, all_lendable bs all.1 filled.1)
+
+  pub are_lendable : (bs : List ColumnBuffer) → All (IsBufferOf cs most) bs → All (IsFilled group first) bs → All (IsLendable rows) bs
+  are_lendable bs all filled = All-from_recursion (IsLendable rows) bs (all_lendable bs (recursion_from_All (IsBufferOf cs most) bs all) (recursion_from_All (IsFilled group first) bs filled))
+
+  -- what is lent is the column of the row group
+  lent_at : (b : ColumnBuffer) (c : BatchColumn) → IsBufferOf cs most b → IsFilled group first b → IsLentOf b c → IsColumnAt group first rows b.place c
+  lent_at b c is filled lent =
+      let at = block_at cs n group b.place is.column are is.there in
+      record {
+        place = lent.place;
+        values = lent.values ∙ ap (map gives.Value) (holds b is filled);
+        typed = subst (λ (t : ColType). IsOfType t c.lanes) (is.col_type ∙ sym at.0.col_type) lent.typed;
+      }
+
+  all_at_places : (bs : List ColumnBuffer) (columns : List BatchColumn) → AllByRecursion (IsBufferOf cs most) bs → AllByRecursion (IsFilled group first) bs → AllZip IsLentOf bs columns → AreColumnsAt group first rows (places_of bs) columns
+  all_at_places [] [] all filled lent = tt
+  all_at_places [] (c ∷ columns) all filled lent = absurd lent
+  all_at_places (b ∷ bs) [] all filled lent = absurd lent
+  all_at_places (b ∷ bs) (c ∷ columns) all filled lent = (lent_at b c all.0 filled.0 lent.0, all_at_places bs columns all.1 filled.1 lent.1)
+
+  pub adds_columns : (bs : List ColumnBuffer) (old new : BatchSpec) → old.rows ≡ rows → All (IsBufferOf cs most) bs → All (IsFilled group first) bs → AddsLent bs old new → AddsColumns group first (places_of bs) old new
+  adds_columns bs old new count all filled adds = record {
+    rows = adds.rows;
+    more = adds.more;
+    columns = adds.columns;
+    are = subst (λ (k : ℕ). AreColumnsAt group first k (places_of bs) adds.more) (sym count)
+        (all_at_places bs adds.more (recursion_from_All (IsBufferOf cs most) bs all) (recursion_from_All (IsFilled group first) bs filled) adds.are);
+  }
+
+-- ---- one column behind the others
+
+at_end : {X Y : Type 0} (R : X → Y → Type 0) (xs : List X) (x : X) (ys : List Y) (y : Y) → AllZip R xs ys → R x y → AllZip R (xs ++ x ∷ []) (ys ++ y ∷ [])
+at_end R [] x [] y all at = (at, tt)
+at_end R [] x (z ∷ ys) y all at = absurd all
+at_end R (w ∷ xs) x [] y all at = absurd all
+at_end R (w ∷ xs) x (z ∷ ys) y all at = (all.0, at_end R xs x ys y all.1 at)
+
+pub lends_one_more : (bs : List ColumnBuffer) (i : ℕ) (b : ColumnBuffer) (old now new : BatchSpec) (c : BatchColumn) → i < length bs → b ≡ get_or bs i b
+    → AddsLent (take i bs) old now → new ≡ record { rows = now.rows; columns = now.columns ++ c ∷ [] } → IsLentOf b c → AddsLent (take (i + 1) bs) old new
+lends_one_more bs i b old now new c below is adds pushed lent = record {
+  rows = ap (λ (x : BatchSpec). x.rows) pushed ∙ adds.rows;
+  more = adds.more ++ c ∷ [];
+  columns = ap (λ (x : BatchSpec). x.columns) pushed ∙ ap (λ (cs : List BatchColumn). cs ++ c ∷ []) adds.columns ∙ append_assoc old.columns adds.more (c ∷ []);
+  are =
+      let next : take (i + 1) bs ≡ take i bs ++ b ∷ [] = take_more bs i b below ∙ ap (λ (x : ColumnBuffer). take i bs ++ x ∷ []) (sym is) in
+      subst (λ (xs : List ColumnBuffer). AllZip IsLentOf xs (adds.more ++ c ∷ [])) (sym next) (at_end IsLentOf (take i bs) b adds.more c adds.are lent);
+}

@@ -1,0 +1,80 @@
+-- The columns that a scan reads, and what their buffers hold.
+use Rattle.std.specs.Prelude.{◌≡◌, ◌<◌, ◌≤◌, ◌+◌, ◌-◌, min, ◌++◌, ℕ, List, map, length, take, drop, get_or, slice_get, Option, Some, None, All, IfSome, true}
+use Rattle.std.specs.List.{list_all, AllZip}
+use Rattle.meaning.specs.declared.catalog.Column.{Column}
+use Rattle.meaning.specs.declared.value.Value.{Value}
+use Rattle.meaning.specs.declared.outcome.Outcome.TheVariants as gives
+use Rattle.encodings.specs.Block.{Block, values_of}
+use Rattle.fragment_file.specs.Copying.{is_taken}
+use Rattle.fragment_file.specs.Fragment.{no_block}
+use Rattle.vectors.specs.declared.batch.BatchColumn.{BatchColumn}
+use Rattle.vectors.specs.declared.batch.Place.TheVariants as place
+use Rattle.vectors.specs.Vector.{BatchSpec, outcomes_of}
+use Rattle.scan_select.specs.declared.buffers.ColumnBuffer.{ColumnBuffer}
+use Rattle.scan_select.specs.Groups.{current_rows}
+use Rattle.scan_select.specs.Scanned.{IsOfType, IsVectorLength}
+
+-- a buffer of one of these columns, with room for so many values
+pub record IsBufferOf (columns : List Column) (most : ℕ) (b : ColumnBuffer) : Type 0 where
+  pub column : Column
+  pub there : slice_get columns b.place ≡ Some column
+  pub col_type : b.values.col_type ≡ column.col_type
+  pub nullable : b.nullable ≡ column.nullable
+  pub room : b.values.room ≡ most
+
+-- the places of the columns
+abbrev pub places_of : List ColumnBuffer → List ℕ
+places_of buffers = map (λ b. b.place) buffers
+
+-- ---- filling
+
+-- the buffer's column stands in the row group, and is of its type
+pub record FitsGroup (group : List Block) (b : ColumnBuffer) : Type 0 where
+  pub there : b.place < length group
+  pub col_type : b.values.col_type ≡ (get_or group b.place no_block).col_type
+
+-- the column's values from a row on, as many as there is room for
+abbrev pub window_of : List Block → ℕ → ColumnBuffer → List Value
+window_of group first b = take b.values.room (drop first (values_of (get_or group b.place no_block)))
+
+-- the buffer filled with them
+abbrev pub filled : List Block → ℕ → ColumnBuffer → ColumnBuffer
+filled group first b = record { place = b.place; nullable = b.nullable; values = record { room = b.values.room; col_type = b.values.col_type; values = window_of group first b } }
+
+-- buffers filled from the row group that stands, if one does
+abbrev pub filled_now : Option (List Block) → ℕ → List ColumnBuffer → List ColumnBuffer
+filled_now None first buffers = buffers
+filled_now (Some group) first buffers = map (filled group first) buffers
+
+abbrev pub IsFilled : List Block → ℕ → ColumnBuffer → Type 0
+IsFilled group first b = b.values.values ≡ window_of group first b
+
+-- where a scan stands in a row group: its rows are as many as a vector may have, or as are left, and the buffers hold them
+pub record IsPosition (columns : List Column) (most : ℕ) (current : Option (List Block)) (group_rows first rows : ℕ) (buffers : List ColumnBuffer) : Type 0 where
+  pub places_within : All (λ p. p < length columns) (places_of buffers)
+  pub vectors : IsVectorLength most
+  pub group_rows_are : group_rows ≡ current_rows current
+  pub within : first + rows ≤ group_rows
+  pub full : rows ≡ min most (group_rows - first)
+  pub of_columns : All (IsBufferOf columns most) buffers
+  pub filled : IfSome current (λ group. All (IsFilled group first) buffers)
+
+-- ---- lending
+
+-- so many values of the column's type, of which none is NULL where the column isn't nullable
+pub record IsLendable (rows : ℕ) (b : ColumnBuffer) : Type 0 where
+  pub taken : list_all (is_taken b.values.col_type b.nullable) b.values.values ≡ true
+  pub long : length b.values.values ≡ rows
+
+-- the column of a batch that the buffer's values are
+pub record IsLentOf (b : ColumnBuffer) (column : BatchColumn) : Type 0 where
+  pub place : column.place ≡ place.Fact b.place
+  pub values : outcomes_of column.lanes ≡ map gives.Value b.values.values
+  pub typed : IsOfType b.values.col_type column.lanes
+
+-- the columns stand behind those that were there
+pub record AddsLent (buffers : List ColumnBuffer) (old new : BatchSpec) : Type 0 where
+  pub rows : new.rows ≡ old.rows
+  pub more : List BatchColumn
+  pub columns : new.columns ≡ old.columns ++ more
+  pub are : AllZip IsLentOf buffers more

@@ -1,6 +1,6 @@
 -- The kind of fewest bytes, and of equals the first.
-use Rattle.std.proofs.Common.{◌≡◌, ℕ, ◌+◌, ◌*◌, ◌<◌, ◌≤◌, ℤ, Bool, true, List, [], ◌∷◌, ◌++◌, length, map, take, get_or, refl, sym, ap, ◌∙◌, arith}
-use Rattle.std.specs.Prelude.{nat_lt, nat_le}
+use Rattle.std.proofs.Common.{◌≡◌, ℕ, ◌+◌, ◌-◌, ◌*◌, ◌<◌, ◌≤◌, ℤ, Bool, true, List, [], ◌∷◌, ◌++◌, length, map, take, get_or, refl, sym, ap, ◌∙◌, subst, arith}
+use Rattle.std.specs.Prelude.{None, Some, min, nat_lt, nat_le}
 use Rattle.std.specs.List.{sum_by}
 use Rattle.std.specs.Ordering.{match_ordering}
 use Rattle.std.specs.declared.cmp.Ordering.TheVariants.{Less, Equal, Greater}
@@ -13,13 +13,29 @@ use Rattle.meaning.specs.declared.value.Value.{Value}
 use Rattle.meaning.specs.declared.value.Value.TheVariants.{Null, Int}
 use Rattle.meaning.specs.Order.{bytes, value_cmp, placed_once, ascending_set}
 use Rattle.meaning.proofs.Tests.{both}
+use Rattle.encodings.specs.declared.chosen.Choice.{Choice}
 use Rattle.encodings.specs.declared.kind.Kind.{Kind}
 use Rattle.encodings.specs.declared.kind.Kind.TheVariants as kind
 use Rattle.encodings.specs.Block.{mask_length}
 use Rattle.encodings.specs.Tight.{body_size, form_size, cells_for, is_chosen}
+use Rattle.encodings.specs.declared.ordering.Dictionary.{Dictionary}
 use Rattle.encodings.specs.Written.{AreEntries, at_places}
 use Rattle.encodings.proofs.EncodedDictionaries.{entries_set}
-use Rattle.encodings.specs.Choice.{IsLeastOfFour, IsLeastOfThree, IsDictionarySize}
+use Rattle.encodings.specs.Choice.{IsLeastOfOthers, IsLeastOfTwo, IsDictionaryWithin, IsMadeOf, IsBestOf}
+
+-- the first of the kinds whose size is least, of the sizes of Plain, Dict, Runs and Frame
+abbrev IsLeastOfFour : Kind → ℕ → ℕ → ℕ → ℕ → Type 0
+IsLeastOfFour kind.Plain p d r f = (p ≤ d) × (p ≤ r) × (p ≤ f)
+IsLeastOfFour kind.Dict p d r f = (d < p) × (d ≤ r) × (d ≤ f)
+IsLeastOfFour kind.Runs p d r f = (r < p) × (r < d) × (r ≤ f)
+IsLeastOfFour kind.Frame p d r f = (f < p) × (f < d) × (f < r)
+
+-- the same, where there is no Frame
+abbrev IsLeastOfThree : Kind → ℕ → ℕ → ℕ → Type 0
+IsLeastOfThree kind.Plain p d r = (p ≤ d) × (p ≤ r)
+IsLeastOfThree kind.Dict p d r = (d < p) × (d ≤ r)
+IsLeastOfThree kind.Runs p d r = (r < p) × (r < d)
+IsLeastOfThree kind.Frame p d r = ⊥
 
 le_sum : (m a b x y : ℕ) → x ≡ a → y ≡ b → a ≤ b → nat_le (m + x) (m + y) ≡ true
 le_sum m a b x y p q h = le-leb (m + x) (m + y) (omega arith)
@@ -30,55 +46,93 @@ lt_sum m a b x y p q h = lt-ltb (m + x) (m + y) (omega arith)
 le_self : (m x : ℕ) → nat_le (m + x) (m + x) ≡ true
 le_self m x = le-leb (m + x) (m + x) (omega arith)
 
-no_more : (a d e : ℕ) → a ≤ d → d ≤ e → a ≤ e
-no_more a d e h l = omega arith
-
-less_than : (a d e : ℕ) → a < d → d ≤ e → a < e
-less_than a d e h l = omega arith
-
 -- ---- integers
 
-pub chosen_of_four : (nullable : Bool) (values : List Value) (k : Kind) (p d r f best : ℕ) → body_size kind.Plain of_type.Int (cells_for of_type.Int values) ≡ p → IsDictionarySize d best (body_size kind.Dict of_type.Int (cells_for of_type.Int values)) → body_size kind.Runs of_type.Int (cells_for of_type.Int values) ≡ r → body_size kind.Frame of_type.Int (cells_for of_type.Int values) ≡ f → (d < p → d ≤ r → d ≤ f → d ≤ best) → IsLeastOfFour k p d r f → is_chosen of_type.Int nullable values k ≡ true
-chosen_of_four nullable values kind.Plain p d r f best ep ed er ef b l =
+chosen_of_four : (nullable : Bool) (values : List Value) (k : Kind) (p d r f : ℕ) → body_size kind.Plain of_type.Int (cells_for of_type.Int values) ≡ p → body_size kind.Dict of_type.Int (cells_for of_type.Int values) ≡ d → body_size kind.Runs of_type.Int (cells_for of_type.Int values) ≡ r → body_size kind.Frame of_type.Int (cells_for of_type.Int values) ≡ f → IsLeastOfFour k p d r f → is_chosen of_type.Int nullable values k ≡ true
+chosen_of_four nullable values kind.Plain p d r f ep ed er ef l =
     let m = mask_length nullable (length values) in
-    let D = body_size kind.Dict of_type.Int (cells_for of_type.Int values) in
-    let x = ed.at_most in
-    both _ _ (le_self m _) (both _ _ (le_sum m p D _ _ ep refl (no_more p d D l.0 x)) (both _ _ (le_sum m p r _ _ ep er l.1) (both _ _ (le_sum m p f _ _ ep ef l.2) refl)))
-chosen_of_four nullable values kind.Dict p d r f best ep ed er ef b l =
+    both _ _ (le_self m _) (both _ _ (le_sum m p d _ _ ep ed l.0) (both _ _ (le_sum m p r _ _ ep er l.1) (both _ _ (le_sum m p f _ _ ep ef l.2) refl)))
+chosen_of_four nullable values kind.Dict p d r f ep ed er ef l =
     let m = mask_length nullable (length values) in
-    let D = body_size kind.Dict of_type.Int (cells_for of_type.Int values) in
-    let x : d ≡ D = ed.exact (b l.0 l.1 l.2) in
-    both _ _ (lt_sum m d p _ _ (sym x) ep l.0) (both _ _ (le_self m D) (both _ _ (le_sum m d r _ _ (sym x) er l.1) (both _ _ (le_sum m d f _ _ (sym x) ef l.2) refl)))
-chosen_of_four nullable values kind.Runs p d r f best ep ed er ef b l =
+    both _ _ (lt_sum m d p _ _ ed ep l.0) (both _ _ (le_self m _) (both _ _ (le_sum m d r _ _ ed er l.1) (both _ _ (le_sum m d f _ _ ed ef l.2) refl)))
+chosen_of_four nullable values kind.Runs p d r f ep ed er ef l =
     let m = mask_length nullable (length values) in
-    let D = body_size kind.Dict of_type.Int (cells_for of_type.Int values) in
-    let x = ed.at_most in
-    both _ _ (lt_sum m r p _ _ er ep l.0) (both _ _ (lt_sum m r D _ _ er refl (less_than r d D l.1 x)) (both _ _ (le_self m _) (both _ _ (le_sum m r f _ _ er ef l.2) refl)))
-chosen_of_four nullable values kind.Frame p d r f best ep ed er ef b l =
+    both _ _ (lt_sum m r p _ _ er ep l.0) (both _ _ (lt_sum m r d _ _ er ed l.1) (both _ _ (le_self m _) (both _ _ (le_sum m r f _ _ er ef l.2) refl)))
+chosen_of_four nullable values kind.Frame p d r f ep ed er ef l =
     let m = mask_length nullable (length values) in
-    let D = body_size kind.Dict of_type.Int (cells_for of_type.Int values) in
-    let x = ed.at_most in
-    both _ _ (lt_sum m f p _ _ ef ep l.0) (both _ _ (lt_sum m f D _ _ ef refl (less_than f d D l.1 x)) (both _ _ (lt_sum m f r _ _ ef er l.2) (both _ _ (le_self m _) refl)))
+    both _ _ (lt_sum m f p _ _ ef ep l.0) (both _ _ (lt_sum m f d _ _ ef ed l.1) (both _ _ (lt_sum m f r _ _ ef er l.2) (both _ _ (le_self m _) refl)))
+
+best_of_four : (cells : List Value) (choice : Choice) (k : Kind) (p r f : ℕ) → choice.kind ≡ k → body_size kind.Plain of_type.Int cells ≡ p → body_size kind.Runs of_type.Int cells ≡ r → body_size kind.Frame of_type.Int cells ≡ f → IsLeastOfFour k p (body_size kind.Dict of_type.Int cells) r f → IsMadeOf cells choice.kind choice.dictionary → IsBestOf of_type.Int cells choice
+best_of_four cells choice k p r f ek ep er ef l made =
+    record {
+      best = λ nullable values e.
+          subst (λ (known : Kind). is_chosen of_type.Int nullable values known ≡ true) (sym ek)
+          (chosen_of_four nullable values k p _ r f (ap (body_size kind.Plain of_type.Int) e ∙ ep) (ap (body_size kind.Dict of_type.Int) e) (ap (body_size kind.Runs of_type.Int) e ∙ er) (ap (body_size kind.Frame of_type.Int) e ∙ ef) l);
+      made = made;
+    }
+
+made_ahead : (cells : List Value) (choice : Choice) (d : Dictionary) → choice.kind ≡ kind.Dict → choice.dictionary ≡ Some d → AreEntries cells d.places.items d.codes.items → IsMadeOf cells choice.kind choice.dictionary
+made_ahead cells choice d k e entries = subst (IsMadeOf cells choice.kind) (sym e) (k, entries)
+
+nothing_ahead : (cells : List Value) (choice : Choice) → choice.dictionary ≡ None → IsMadeOf cells choice.kind choice.dictionary
+nothing_ahead cells choice e = subst (IsMadeOf cells choice.kind) (sym e) tt
+
+-- a dictionary that takes no more than the best of the other kinds
+pub best_int_dictionary : (cells : List Value) (choice : Choice) (d : Dictionary) (p r f most : ℕ) → body_size kind.Plain of_type.Int cells ≡ p → body_size kind.Runs of_type.Int cells ≡ r → body_size kind.Frame of_type.Int cells ≡ f → 0 < p → most ≡ min (min (p - 1) r) f → IsDictionaryWithin cells (body_size kind.Dict of_type.Int cells) most (Some d) → choice.kind ≡ kind.Dict → choice.dictionary ≡ Some d → IsBestOf of_type.Int cells choice
+best_int_dictionary cells choice d p r f most ep er ef some m w k e =
+    let size = body_size kind.Dict of_type.Int cells in
+    let within : size ≤ most = w.0 in
+    best_of_four cells choice kind.Dict p r f k ep er ef (omega arith, omega arith, omega arith) (made_ahead cells choice d k e w.1)
+
+-- the best of the other kinds, where each dictionary takes more
+pub best_int_kind : (cells : List Value) (choice : Choice) (k : Kind) (p r f most : ℕ) → body_size kind.Plain of_type.Int cells ≡ p → body_size kind.Runs of_type.Int cells ≡ r → body_size kind.Frame of_type.Int cells ≡ f → 0 < p → most ≡ min (min (p - 1) r) f → IsDictionaryWithin cells (body_size kind.Dict of_type.Int cells) most None → IsLeastOfOthers k p r f → choice.kind ≡ k → choice.dictionary ≡ None → IsBestOf of_type.Int cells choice
+best_int_kind cells choice k p r f most ep er ef some m w l ek e =
+    best_of_four cells choice k p r f ek ep er ef (least k p (body_size kind.Dict of_type.Int cells) r f most some m w l) (nothing_ahead cells choice e)
+  where
+    least : (k : Kind) (p d r f most : ℕ) → 0 < p → most ≡ min (min (p - 1) r) f → most < d → IsLeastOfOthers k p r f → IsLeastOfFour k p d r f
+    least kind.Plain p d r f most some m w l = (let a = l.0 in let b = l.1 in omega arith, l.0, l.1)
+    least kind.Dict p d r f most some m w l = absurd l
+    least kind.Runs p d r f most some m w l = (l.0, let a = l.0 in let b = l.1 in omega arith, l.1)
+    least kind.Frame p d r f most some m w l = (l.0, let a = l.0 in let b = l.1 in omega arith, l.1)
 
 -- ---- texts
 
-pub chosen_of_three : (nullable : Bool) (values : List Value) (k : Kind) (p d r best : ℕ) → body_size kind.Plain of_type.Text (cells_for of_type.Text values) ≡ p → IsDictionarySize d best (body_size kind.Dict of_type.Text (cells_for of_type.Text values)) → body_size kind.Runs of_type.Text (cells_for of_type.Text values) ≡ r → (d < p → d ≤ r → d ≤ best) → IsLeastOfThree k p d r → is_chosen of_type.Text nullable values k ≡ true
-chosen_of_three nullable values kind.Plain p d r best ep ed er b l =
+chosen_of_three : (nullable : Bool) (values : List Value) (k : Kind) (p d r : ℕ) → body_size kind.Plain of_type.Text (cells_for of_type.Text values) ≡ p → body_size kind.Dict of_type.Text (cells_for of_type.Text values) ≡ d → body_size kind.Runs of_type.Text (cells_for of_type.Text values) ≡ r → IsLeastOfThree k p d r → is_chosen of_type.Text nullable values k ≡ true
+chosen_of_three nullable values kind.Plain p d r ep ed er l =
     let m = mask_length nullable (length values) in
-    let D = body_size kind.Dict of_type.Text (cells_for of_type.Text values) in
-    let x = ed.at_most in
-    both _ _ (le_self m _) (both _ _ (le_sum m p D _ _ ep refl (no_more p d D l.0 x)) (both _ _ (le_sum m p r _ _ ep er l.1) refl))
-chosen_of_three nullable values kind.Dict p d r best ep ed er b l =
+    both _ _ (le_self m _) (both _ _ (le_sum m p d _ _ ep ed l.0) (both _ _ (le_sum m p r _ _ ep er l.1) refl))
+chosen_of_three nullable values kind.Dict p d r ep ed er l =
     let m = mask_length nullable (length values) in
-    let D = body_size kind.Dict of_type.Text (cells_for of_type.Text values) in
-    let x : d ≡ D = ed.exact (b l.0 l.1) in
-    both _ _ (lt_sum m d p _ _ (sym x) ep l.0) (both _ _ (le_self m D) (both _ _ (le_sum m d r _ _ (sym x) er l.1) refl))
-chosen_of_three nullable values kind.Runs p d r best ep ed er b l =
+    both _ _ (lt_sum m d p _ _ ed ep l.0) (both _ _ (le_self m _) (both _ _ (le_sum m d r _ _ ed er l.1) refl))
+chosen_of_three nullable values kind.Runs p d r ep ed er l =
     let m = mask_length nullable (length values) in
-    let D = body_size kind.Dict of_type.Text (cells_for of_type.Text values) in
-    let x = ed.at_most in
-    both _ _ (lt_sum m r p _ _ er ep l.0) (both _ _ (lt_sum m r D _ _ er refl (less_than r d D l.1 x)) (both _ _ (le_self m _) refl))
-chosen_of_three nullable values kind.Frame p d r best ep ed er b l = absurd l
+    both _ _ (lt_sum m r p _ _ er ep l.0) (both _ _ (lt_sum m r d _ _ er ed l.1) (both _ _ (le_self m _) refl))
+chosen_of_three nullable values kind.Frame p d r ep ed er l = absurd l
+
+best_of_three : (cells : List Value) (choice : Choice) (k : Kind) (p r : ℕ) → choice.kind ≡ k → body_size kind.Plain of_type.Text cells ≡ p → body_size kind.Runs of_type.Text cells ≡ r → IsLeastOfThree k p (body_size kind.Dict of_type.Text cells) r → IsMadeOf cells choice.kind choice.dictionary → IsBestOf of_type.Text cells choice
+best_of_three cells choice k p r ek ep er l made =
+    record {
+      best = λ nullable values e.
+          subst (λ (known : Kind). is_chosen of_type.Text nullable values known ≡ true) (sym ek)
+          (chosen_of_three nullable values k p _ r (ap (body_size kind.Plain of_type.Text) e ∙ ep) (ap (body_size kind.Dict of_type.Text) e) (ap (body_size kind.Runs of_type.Text) e ∙ er) l);
+      made = made;
+    }
+
+pub best_text_dictionary : (cells : List Value) (choice : Choice) (d : Dictionary) (p r most : ℕ) → body_size kind.Plain of_type.Text cells ≡ p → body_size kind.Runs of_type.Text cells ≡ r → 0 < p → most ≡ min (p - 1) r → IsDictionaryWithin cells (body_size kind.Dict of_type.Text cells) most (Some d) → choice.kind ≡ kind.Dict → choice.dictionary ≡ Some d → IsBestOf of_type.Text cells choice
+best_text_dictionary cells choice d p r most ep er some m w k e =
+    let size = body_size kind.Dict of_type.Text cells in
+    let within : size ≤ most = w.0 in
+    best_of_three cells choice kind.Dict p r k ep er (omega arith, omega arith) (made_ahead cells choice d k e w.1)
+
+pub best_text_kind : (cells : List Value) (choice : Choice) (k : Kind) (p r most : ℕ) → body_size kind.Plain of_type.Text cells ≡ p → body_size kind.Runs of_type.Text cells ≡ r → 0 < p → most ≡ min (p - 1) r → IsDictionaryWithin cells (body_size kind.Dict of_type.Text cells) most None → IsLeastOfTwo k p r → choice.kind ≡ k → choice.dictionary ≡ None → IsBestOf of_type.Text cells choice
+best_text_kind cells choice k p r most ep er some m w l ek e =
+    best_of_three cells choice k p r ek ep er (least k p (body_size kind.Dict of_type.Text cells) r most some m w l) (nothing_ahead cells choice e)
+  where
+    least : (k : Kind) (p d r most : ℕ) → 0 < p → most ≡ min (p - 1) r → most < d → IsLeastOfTwo k p r → IsLeastOfThree k p d r
+    least kind.Plain p d r most some m w l = (omega arith, l)
+    least kind.Dict p d r most some m w l = absurd l
+    least kind.Runs p d r most some m w l = (l, omega arith)
+    least kind.Frame p d r most some m w l = absurd l
 
 -- ---- sizes
 
@@ -110,12 +164,6 @@ least_text_dictionary (v ∷ cells) h =
 pub dictionary_size : (col_type : ColType) (cells : List Value) (places codes : List ℕ) (form rows : ℕ) → AreEntries cells places codes → form ≡ form_size col_type (at_places cells places) → rows ≡ length cells → 4 + form + 2 * rows ≡ body_size kind.Dict col_type cells
 dictionary_size col_type cells places codes form rows d p q =
     rw (p, q) (ap (λ es. 4 + form_size col_type es + 2 * length cells) (sym (entries_set cells places codes d)))
-
-pub exact_size : (d best size : ℕ) → d ≡ size → IsDictionarySize d best size
-exact_size d best size e = record { at_most = omega arith; exact = λ _. e }
-
-pub great_size : (d best size : ℕ) → d ≤ size → best < d → IsDictionarySize d best size
-great_size d best size h l = record { at_most = h; exact = λ m. absurd (omega arith) }
 
 -- the size of the texts at some places, one place further
 pub text_size_more : (cells : List Value) (places : List ℕ) (i total : ℕ) (t : List ℕ) → i < length places → bytes (get_or cells (get_or places i 0) Null) ≡ t → total ≡ form_size of_type.Text (at_places cells (take i places)) → total + (4 + length t) ≡ form_size of_type.Text (at_places cells (take (i + 1) places))

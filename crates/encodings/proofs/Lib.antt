@@ -2,6 +2,7 @@
 pub mod Ascending
 pub mod Blocks
 pub mod ChosenKinds
+pub mod ChosenRows
 pub mod Chunks
 pub mod Digits
 pub mod EncodedBits

@@ -1,18 +1,18 @@
-//! The kind of fewest bytes, without writing any.
 ghost use Rattle.std.specs.Prelude.{◌≡◌, ◌≤◌, ◌<◌, ◌+◌, ◌*◌, ◌-◌, true, if◌then◌else◌, length, map, take, drop, get_or, IfOk, IfErr};
-ghost use Rattle.std.specs.Prelude.{Bool, List, nat_lt};
+ghost use Rattle.std.specs.Prelude.{List, nat_lt};
 ghost use Rattle.std.specs.List.{list_all};
 ghost use Rattle.meaning.specs.Limits.{row_group_rows};
-ghost use Rattle.encodings.specs.Written.{at_places};
+ghost use Rattle.encodings.specs.Written.{AreEntries, at_places};
 ghost use Rattle.meaning.specs.declared.value.ColType.TheVariants as of_type;
 ghost use Rattle.meaning.specs.declared.value.Value.{Value};
 ghost use Rattle.meaning.specs.declared.value.Value.TheVariants.{Null, Int, Text};
 ghost use Rattle.meaning.specs.Order.{same_value, bytes};
-ghost use Rattle.encodings.specs.Tight.{body_size, form_size, cells_for, is_chosen, between};
+ghost use Rattle.encodings.specs.Tight.{body_size, form_size, is_chosen, between};
 ghost use Rattle.encodings.specs.declared.fault.EncodeFault.TheVariants.{Memory};
-ghost use Rattle.encodings.specs.Choice.{IsLeastOfFour, IsLeastOfThree, IsDictionarySize};
+ghost use Rattle.encodings.specs.Choice.{IsBestOf, IsBestOfRows, IsDictionaryWithin, IsLeastOfOthers, IsLeastOfTwo};
 ghost use Rattle.encodings.specs.declared.kind.Kind.TheVariants as kind;
 
+use crate::chosen::Choice;
 use crate::different::{least_size_of_ints, least_size_of_texts};
 use crate::encoding_dictionary::{dictionary_of_ints, dictionary_of_texts};
 use crate::encoding_forms::text_at;
@@ -20,35 +20,44 @@ use crate::encoding_frame::{bounds_of, width_of};
 use crate::encoding_runs::{is_same_int, is_same_text};
 use crate::fault::EncodeFault;
 use crate::kind::Kind;
+use crate::ordering::Dictionary;
 use columns::{Column, LentCells, TextList};
 use std::alloc::{AllocError, Global};
+use std::mem::drop;
 
-#[tactic(auto, using(crate::proofs::ChosenKinds::least_dictionary))]
-fn least_of_four(plain: usize, dict: usize, runs: usize, frame: usize) -> Kind
-    ensures { IsLeastOfFour result plain dict runs frame }
+/// The kind of fewest bytes besides a dictionary.
+fn least_of_others(plain: usize, runs: usize, frame: usize) -> Kind
+    ensures { IsLeastOfOthers result plain runs frame }
 {
-    if plain <= dict && plain <= runs && plain <= frame {
+    if plain <= runs && plain <= frame {
         return Kind::Plain;
     }
-    if dict < plain && dict <= runs && dict <= frame {
-        return Kind::Dict;
-    }
-    if runs < dict && runs < plain && runs <= frame {
+    if runs < plain && runs <= frame {
         return Kind::Runs;
     }
     Kind::Frame
 }
 
-fn least_of_three(plain: usize, dict: usize, runs: usize) -> Kind
-    ensures { IsLeastOfThree result plain dict runs }
+/// The same, where there is no frame.
+fn least_of_two(plain: usize, runs: usize) -> Kind
+    ensures { IsLeastOfTwo result plain runs }
 {
-    if plain <= dict && plain <= runs {
+    if plain <= runs {
         return Kind::Plain;
     }
-    if dict < plain && dict <= runs {
-        return Kind::Dict;
-    }
     Kind::Runs
+}
+
+/// A dictionary, if its size is at most a number.
+fn kept(dictionary: Dictionary, size: usize, most: usize) -> Option<Dictionary>
+    ensures { (cells : List Value) → AreEntries cells dictionary.places.items dictionary.codes.items
+        → IsDictionaryWithin cells size most result }
+{
+    if most < size {
+        drop(dictionary);
+        return None;
+    }
+    Some(dictionary)
 }
 
 // ---- integers
@@ -90,36 +99,42 @@ fn frame_size(ints: &[i64]) -> usize
     9 + (ints.len() * width + 7) / 8
 }
 
-/// The size of a dictionary, or of one of as few entries as there may be where that is more than the best of the other
-/// kinds.
-fn dictionary_size_of_ints(alloc: Global, ints: &[i64], best: usize) -> Result<usize, AllocError>
+/// The dictionary, if it takes no more than so many bytes. It isn't made where as few entries as there may be take more.
+fn dictionary_of_ints_within(
+    alloc: Global,
+    ints: &[i64],
+    most: usize,
+) -> Result<Option<Dictionary>, AllocError>
     requires some { 1 ≤ length ints.now }
     requires few { length ints.now ≤ row_group_rows }
-    ensures { IfOk result (λ d. IsDictionarySize d best (body_size kind.Dict of_type.Int (map Int ints.now))) }
+    ensures { IfOk result (IsDictionaryWithin (map Int ints.now) (body_size kind.Dict of_type.Int (map Int ints.now)) most) }
 {
     let beside = 4 + 2 * ints.len();
-    if best < beside + 8 {
-        return Ok(beside + 8);
+    if most < beside + 8 {
+        return Ok(None);
     }
-    let entries = least_size_of_ints(alloc, ints, best - beside)?;
-    if best < beside + entries {
-        return Ok(beside + entries);
+    let entries = least_size_of_ints(alloc, ints, most - beside)?;
+    if most < beside + entries {
+        return Ok(None);
     }
     let dictionary = dictionary_of_ints(alloc, ints)?;
-    Ok(4 + 8 * dictionary.places.len() + 2 * ints.len())
+    let size = 4 + 8 * dictionary.places.len() + 2 * ints.len();
+    Ok(kept(dictionary, size, most))
 }
 
-fn choose_ints(alloc: Global, ints: &[i64]) -> Result<Kind, AllocError>
+fn choose_ints(alloc: Global, ints: &[i64]) -> Result<Choice, AllocError>
     requires some { 1 ≤ length ints.now }
     requires few { length ints.now ≤ row_group_rows }
-    ensures { IfOk result (λ k. (nullable : Bool) (values : List Value) → cells_for of_type.Int values ≡ map Int ints.now → is_chosen of_type.Int nullable values k ≡ true) }
+    ensures { IfOk result (IsBestOf of_type.Int (map Int ints.now)) }
 {
     let plain = 8 * ints.len();
     let runs = runs_size_of_ints(ints);
     let frame = frame_size(ints);
-    let best = plain.min(runs).min(frame);
-    let dict = dictionary_size_of_ints(alloc, ints, best)?;
-    Ok(least_of_four(plain, dict, runs, frame))
+    let most = (plain - 1).min(runs).min(frame);
+    match dictionary_of_ints_within(alloc, ints, most)? {
+        Some(dictionary) => Ok(Choice::of_dictionary(dictionary)),
+        None => Ok(Choice::of_kind(least_of_others(plain, runs, frame))),
+    }
 }
 
 // ---- texts
@@ -167,43 +182,69 @@ fn runs_size_of_texts(texts: &TextList, from: usize, to: usize) -> usize
     4 + size + 6 + text_at(texts, from, to, to - from - 1).len()
 }
 
-/// The size of a dictionary, or of one of as few entries as there may be where that is more than the best of the other
-/// kinds.
-fn dictionary_size_of_texts(
+/// The dictionary, if it takes no more than so many bytes. It isn't made where as few entries as there may be take more.
+fn dictionary_of_texts_within(
     alloc: Global,
     texts: &TextList,
     from: usize,
     to: usize,
-    best: usize,
-) -> Result<usize, AllocError>
+    most: usize,
+) -> Result<Option<Dictionary>, AllocError>
     requires some { from < to }
     requires within { to ≤ length texts.now }
     requires few { to - from ≤ row_group_rows }
-    ensures { IfOk result (λ d. IsDictionarySize d best (body_size kind.Dict of_type.Text (map Text (take (to - from) (drop from texts.now))))) }
+    ensures { let cells = map Text (take (to - from) (drop from texts.now)) in
+        IfOk result (IsDictionaryWithin cells (body_size kind.Dict of_type.Text cells) most) }
 {
     let beside = 4 + 2 * (to - from);
-    if best < beside + 4 {
-        return Ok(beside + 4);
+    if most < beside + 4 {
+        return Ok(None);
     }
-    let entries = least_size_of_texts(alloc, texts, from, to, best - beside)?;
-    if best < beside + entries {
-        return Ok(beside + entries);
+    let entries = least_size_of_texts(alloc, texts, from, to, most - beside)?;
+    if most < beside + entries {
+        return Ok(None);
     }
     let dictionary = dictionary_of_texts(alloc, texts, from, to)?;
-    Ok(4 + text_size_at(texts, from, to, dictionary.places.as_slice()) + 2 * (to - from))
+    let size = 4 + text_size_at(texts, from, to, dictionary.places.as_slice()) + 2 * (to - from);
+    Ok(kept(dictionary, size, most))
 }
 
-fn choose_texts(alloc: Global, texts: &TextList, from: usize, to: usize) -> Result<Kind, AllocError>
+fn choose_texts(
+    alloc: Global,
+    texts: &TextList,
+    from: usize,
+    to: usize,
+) -> Result<Choice, AllocError>
     requires some { from < to }
     requires within { to ≤ length texts.now }
     requires few { to - from ≤ row_group_rows }
-    ensures { IfOk result (λ k. (nullable : Bool) (values : List Value) → cells_for of_type.Text values ≡ map Text (take (to - from) (drop from texts.now)) → is_chosen of_type.Text nullable values k ≡ true) }
+    ensures { IfOk result (IsBestOf of_type.Text (map Text (take (to - from) (drop from texts.now)))) }
 {
     let plain = 4 * (to - from) + texts.joined(from, to).len();
     let runs = runs_size_of_texts(texts, from, to);
-    let best = plain.min(runs);
-    let dict = dictionary_size_of_texts(alloc, texts, from, to, best)?;
-    Ok(least_of_three(plain, dict, runs))
+    let most = (plain - 1).min(runs);
+    match dictionary_of_texts_within(alloc, texts, from, to, most)? {
+        Some(dictionary) => Ok(Choice::of_dictionary(dictionary)),
+        None => Ok(Choice::of_kind(least_of_two(plain, runs))),
+    }
+}
+
+/// The kind in which some rows take the fewest bytes, with their dictionary where it is one.
+pub fn choice_of(
+    alloc: Global,
+    column: &Column,
+    from: usize,
+    to: usize,
+) -> Result<Choice, AllocError>
+    requires some { from < to }
+    requires within { to ≤ length column.now.values }
+    requires few { to - from ≤ row_group_rows }
+    ensures { IfOk result (IsBestOfRows column.now from to) }
+{
+    match column.cells() {
+        LentCells::Ints(ints) => choose_ints(alloc, &ints[from..to]),
+        LentCells::Texts(texts) => choose_texts(alloc, texts, from, to),
+    }
 }
 
 /// The kind in which some rows, 1 to 8,192 of them, take the fewest bytes; of equals the first in the order of the
@@ -215,8 +256,8 @@ pub fn choose(alloc: Global, column: &Column, from: usize, to: usize) -> Result<
     ensures ok { IfOk result (λ k. is_chosen column.now.col_type column.now.nullable (between from to column.now) k ≡ true) }
     ensures err { IfErr result (λ f. f ≡ Memory) }
 {
-    match column.cells() {
-        LentCells::Ints(ints) => Ok(choose_ints(alloc, &ints[from..to])?),
-        LentCells::Texts(texts) => Ok(choose_texts(alloc, texts, from, to)?),
-    }
+    let choice = choice_of(alloc, column, from, to)?;
+    let kind = choice.kind;
+    drop(choice);
+    Ok(kind)
 }

@@ -109,7 +109,7 @@ pub fn put_runs_of_texts(
     put
 }
 
-fn put_int_dictionary(
+pub fn put_int_dictionary(
     out: &mut Vec<u8>,
     ints: &[i64],
     dictionary: &Dictionary,
@@ -147,7 +147,7 @@ pub fn put_dictionary_of_ints(
     put
 }
 
-fn put_text_dictionary(
+pub fn put_text_dictionary(
     out: &mut Vec<u8>,
     texts: &TextList,
     from: usize,

@@ -5,6 +5,7 @@ mod cell;
 mod cells;
 mod checking;
 mod choosing;
+mod chosen;
 pub mod dictionary;
 mod different;
 mod encoding;
@@ -39,5 +40,5 @@ pub mod vector_buf;
 pub mod view;
 
 pub use choosing::choose;
-pub use encoding::encode_as;
+pub use encoding::{Encoded, encode, encode_as};
 pub use fault::EncodeFault;

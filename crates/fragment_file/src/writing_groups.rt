@@ -1,7 +1,7 @@
 //! The row groups of a file: for each column a block of the kind of fewest bytes.
 ghost use Rattle.std.specs.Prelude.{◌≡◌, ◌≤◌, ◌<◌, ◌-◌, ◌*◌, ◌^◌, ◌++◌, length, replicate, true, All, OnOk, IfOk, IfErr};
 ghost use Rattle.meaning.specs.Limits.{max_rows, row_group_rows};
-ghost use Rattle.encodings.specs.Tight.{between, is_chosen, place_of};
+ghost use Rattle.encodings.specs.Tight.{place_of};
 ghost use Rattle.encodings.specs.Written.{block_of};
 ghost use Rattle.fragment_file.specs.Fragment.{group_sizes};
 ghost use Rattle.wire.specs.Bytes.{number_bytes};
@@ -11,45 +11,26 @@ ghost use Rattle.fragment_file.specs.declared.fault.FileFault.TheVariants.{Memor
 use crate::fault::FileFault;
 use columns::Column;
 use encodings::kind::Kind;
-use encodings::{choose, encode_as};
+use encodings::{Encoded, encode};
 use meaning::limits::ROW_GROUP_ROWS;
 use sha2::Sha256;
 use std::alloc::{AllocError, Global};
 use std::io::Write;
 use wire::{append_u8, append_u32, put};
 
-fn chosen_kind(alloc: Global, column: &Column, from: usize, to: usize) -> Result<Kind, FileFault>
+/// A block of the kind of fewest bytes. Fewer than 2 ^ 32 bytes: no more than at most 8,192 texts of 65,535 bytes each, one
+/// by one.
+fn encoded(alloc: Global, column: &Column, from: usize, to: usize) -> Result<Encoded, FileFault>
     requires some { from < to }
     requires within { to ≤ length column.now.values }
     requires few { to - from ≤ row_group_rows }
-    ensures ok { IfOk result (λ k. is_chosen column.now.col_type column.now.nullable (between from to column.now) k ≡ true) }
-    ensures err { IfErr result (λ f. f ≡ Memory) }
-{
-    match choose(alloc, column, from, to) {
-        Ok(kind) => Ok(kind),
-        Err(_) => Err(FileFault::Memory),
-    }
-}
-
-/// Fewer than 2 ^ 32 bytes: no more than at most 8,192 texts of 65,535 bytes each, one by one.
-fn payload_of(
-    alloc: Global,
-    kind: Kind,
-    column: &Column,
-    from: usize,
-    to: usize,
-) -> Result<Vec<u8>, FileFault>
-    requires some { from < to }
-    requires within { to ≤ length column.now.values }
-    requires few { to - from ≤ row_group_rows }
-    requires chosen { is_chosen column.now.col_type column.now.nullable (between from to column.now) kind ≡ true }
-    ensures ok { IfOk result (λ bytes. IsRowsOf column.now from (to - from) (block_of kind column.now from to bytes.items)) }
+    ensures ok { IfOk result (λ e. IsRowsOf column.now from (to - from) (block_of e.kind column.now from to e.payload.items)) }
     ensures err { IfErr result (λ f. f ≡ Memory) }
 {
     // No effect at run time. The proof reads from this call that each value fits the column.
     let _rows = column.len();
-    match encode_as(alloc, kind, column, from, to) {
-        Ok(payload) => Ok(payload),
+    match encode(alloc, column, from, to) {
+        Ok(encoded) => Ok(encoded),
         Err(_) => Err(FileFault::Memory),
     }
 }
@@ -79,9 +60,8 @@ fn append_block(
     ensures ok { OnOk result (PutsBlock out.old.items out.new.items column.now from (to - from)) }
     ensures err { IfErr result (λ f. f ≡ Memory) }
 {
-    let kind = chosen_kind(alloc, column, from, to)?;
-    let payload = payload_of(alloc, kind, column, from, to)?;
-    append_payload(out, kind, payload.as_slice())?;
+    let block = encoded(alloc, column, from, to)?;
+    append_payload(out, block.kind, block.payload.as_slice())?;
     Ok(())
 }
 

@@ -6,9 +6,10 @@ use Rattle.std.proofs.lemmas.Slice.Zip.{get_or-zip, length-zip}
 use Rattle.meaning.specs.Limits.{row_group_rows}
 use Rattle.meaning.specs.declared.value.Value.{Value}
 use Rattle.meaning.specs.declared.value.Value.TheVariants.{Null}
-use Rattle.encodings.specs.Block.{Block, bit_at, mask_length, mask_of, body_of, nulls_of, cells_of, values_of, masked, is_mask, is_body, is_blank, is_block}
+use Rattle.bit_packing.specs.Bits.{bit_at, is_mask}
+use Rattle.encodings.specs.Block.{Block, mask_length, mask_of, body_of, nulls_of, cells_of, values_of, masked, is_body, is_blank, is_block}
 use Rattle.encodings.proofs.Nulls.{bits_of, length_bits, bit_is, length_cells}
-use Rattle.encodings.proofs.Steps.{both_true}
+use Rattle.bit_packing.proofs.Steps.{both_true}
 
 length_masked : (nullable : Bool) (rows : ℕ) (mask : List ℕ) → length (if nullable then bits_of rows mask else replicate rows false) ≡ rows
 length_masked true rows mask = length_bits rows mask

@@ -18,10 +18,11 @@ use Rattle.meaning.proofs.Tests.{all_first, all_rest, both}
 use Rattle.columns.specs.Column.{ColumnSpec, IsColumn, is_of, is_text}
 use Rattle.encodings.specs.declared.kind.Kind.{Kind}
 use Rattle.encodings.specs.declared.kind.Kind.TheVariants as kind
-use Rattle.encodings.specs.Bytes.{number_of}
-use Rattle.encodings.specs.Block.{bit_at, bytes_of_bits, mask_length, masked, blank, is_blank, is_mask, is_block, values_of, is_body, body_cells, entries_of, run_values}
+use Rattle.bit_packing.specs.Bytes.{number_of}
+use Rattle.bit_packing.specs.Bits.{bit_at, bytes_of_bits, is_mask}
+use Rattle.encodings.specs.Block.{mask_length, masked, blank, is_blank, is_block, values_of, is_body, body_cells, entries_of, run_values}
 use Rattle.encodings.specs.Tight.{between, cell_of, cells_for, is_tight, payload_size, are_unequal_neighbours}
-use Rattle.encodings.specs.Packing.{packed, bit_of, ArePacked}
+use Rattle.bit_packing.specs.Packing.{packed, bit_of, ArePacked}
 use Rattle.encodings.specs.Written.{IsBodyOf, IsMaskOf, PutsBody, PutsMask}
 
 -- ---- bits

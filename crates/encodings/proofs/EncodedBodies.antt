@@ -1,6 +1,6 @@
 -- What is written of cells is a body of them.
 use Rattle.std.proofs.Common.{◌≡◌, ℕ, ◌+◌, ◌-◌, ◌*◌, ◌^◌, ◌<◌, ◌≤◌, ℤ, pos, Bool, true, false, List, [], ◌∷◌, ◌++◌, length, map, take, drop, get_or, refl, sym, ap, ◌∙◌, suc, zero, arith, append_assoc, length-append, zero-add}
-use Rattle.std.specs.Prelude.{nat_lt, nat_le, zip, replicate, sum, ◌==◌}
+use Rattle.std.specs.Prelude.{nat_lt, nat_le, zip, replicate, sum, ◌==◌, not}
 use Rattle.std.specs.List.{concat, list_all, flat_map, sum_by}
 use Rattle.std.specs.Int.{w32, from_le_bytes}
 use Rattle.std.proofs.lemmas.Bool.{lt-ltb, ltb-true, leb-true, le-leb, eq-eqb}
@@ -16,7 +16,6 @@ use Rattle.meaning.proofs.Tests.{all_first, all_rest, both, first_of, second_of,
 use Rattle.meaning.proofs.Orders.{value_total, value_exact}
 use Rattle.std.specs.Cmp.{Equal-is}
 use Rattle.std.specs.Ordering.{is_eq}
-use Rattle.std.specs.Prelude.{not}
 use Rattle.std.proofs.lemmas.Cmp.{tied_itself}
 use Rattle.meaning.specs.Limits.{max_text_bytes, row_group_rows}
 use Rattle.columns.specs.Column.{is_of, is_text}
@@ -24,7 +23,8 @@ use Rattle.columns.specs.Texts.{ends_from}
 use Rattle.columns.specs.Texts as laid
 use Rattle.columns.proofs.Joined.{texts_read}
 use Rattle.encodings.specs.declared.kind.Kind.TheVariants as kind
-use Rattle.encodings.specs.Bytes.{texts_from, words, shorts, integers}
+use Rattle.bit_packing.specs.Bytes.{words, shorts, integers}
+use Rattle.encodings.specs.Bytes.{texts_from}
 use Rattle.encodings.specs.Block.{values_form, is_values_form, are_ends, count_of, repeated}
 use Rattle.encodings.specs.Tight.{body_size, form_size, run_heads, are_unequal_neighbours}
 use Rattle.encodings.specs.Written.{form_of, integer_bytes, word_bytes, short_bytes, IsBodyOf, AreRuns, runs_body, at_places, ints_at, texts_at, PutsBody}

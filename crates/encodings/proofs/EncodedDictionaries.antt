@@ -17,7 +17,7 @@ use Rattle.meaning.proofs.Sets.{same_ascending_set, ascending_set_itself}
 use Rattle.meaning.proofs.Tests.{all_first, all_rest, all_imply, both, or_second}
 use Rattle.columns.specs.Column.{is_of}
 use Rattle.encodings.specs.declared.kind.Kind.TheVariants as kind
-use Rattle.encodings.specs.Bytes.{shorts}
+use Rattle.bit_packing.specs.Bytes.{shorts}
 use Rattle.encodings.specs.Block.{values_form, is_values_form, count_of}
 use Rattle.encodings.specs.Tight.{form_size}
 use Rattle.encodings.specs.Written.{IsBodyOf, PutsBody, AreEntries, at_places, form_of, word_bytes, short_bytes, dictionary_body}

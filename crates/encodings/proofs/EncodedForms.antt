@@ -18,7 +18,7 @@ use Rattle.meaning.specs.Limits.{max_text_bytes}
 use mir.Val.{SFits}
 use Rattle.meaning.specs.Operators.{fits_i64}
 use Rattle.meaning.proofs.Tests.{all_first, all_rest, second_of}
-use Rattle.encodings.specs.Bytes.{shorts, words, integers, integer_of}
+use Rattle.bit_packing.specs.Bytes.{shorts, words, integers, integer_of}
 use Rattle.encodings.specs.Written.{short_bytes, word_bytes, integer_bytes}
 
 -- what is written with a fixed length is cut again

@@ -1,22 +1,22 @@
 -- A base and offsets are a frame of the integers.
-use Rattle.std.proofs.Common.{◌≡◌, ℕ, ◌+◌, ◌-◌, ◌*◌, ◌/◌, ◌%◌, ◌^◌, ◌<◌, ◌≤◌, ℤ, pos, negsuc, ◌+ℤ◌, ◌-ℤ◌, ◌≤ℤ◌, unsigned_abs, Bool, true, false, cond, List, [], ◌∷◌, ◌++◌, length, map, take, drop, get_or, refl, sym, ap, subst, ◌∙◌, suc, zero, arith, append_assoc, length-append, lit<, Some, zero-add, inl, inr, Less, Greater, Equal}
-use Rattle.std.specs.Prelude.{nat_lt, nat_le, ◌||◌, ◌==◌, unwrap_or, ◌⊎◌, not}
-use Rattle.std.specs.List.{list_all, list_any, range_with_len, find}
-use Rattle.std.specs.Int.Count.{count_leading_zeros}
+use Rattle.std.proofs.Common.{◌≡◌, ℕ, ◌+◌, ◌-◌, ◌*◌, ◌/◌, ◌%◌, ◌^◌, ◌<◌, ◌≤◌, ℤ, pos, negsuc, ◌+ℤ◌, ◌-ℤ◌, ◌≤ℤ◌, unsigned_abs, Bool, true, false, cond, List, [], ◌∷◌, ◌++◌, length, map, take, drop, get_or, refl, sym, ap, subst, ◌∙◌, suc, zero, arith, append_assoc, length-append, zero-add, inl, inr, Less, Greater, Equal}
+use Rattle.std.specs.Prelude.{nat_lt, nat_le, ◌||◌, ◌==◌, ◌⊎◌, not}
+use Rattle.std.specs.List.{list_all, list_any, range_with_len}
 use Rattle.std.specs.Ordering.{int_cmp, ord_min, ord_max, is_lt}
 use Rattle.std.specs.Int.Signed.{lt_z}
-use Rattle.std.proofs.lemmas.Bool.{lt-ltb, ltb-true, le-leb, le-ltb, eq-eqb}
+use Rattle.std.proofs.lemmas.Bool.{lt-ltb, ltb-true, le-leb, eq-eqb}
 use Rattle.std.proofs.lemmas.Int.{ints}
 use Rattle.std.proofs.lemmas.List.{take_at, drop_at, length-map, get_or_at, drop-drop}
-use Rattle.std.proofs.lemmas.Nat.{leading_length, pow-add, pow_pos, mul-add-lt}
-use Rattle.std.proofs.Math.Nat.{pow-le-pow_right}
+use Rattle.std.proofs.lemmas.Nat.{pow-add, pow_pos, mul-add-lt}
 use Rattle.meaning.proofs.Tests.{both, or_second, all_first, all_rest, all_map}
-use Rattle.encodings.specs.Tight.{body_size, least_of, greatest_of, natural, spread, width_for}
-use Rattle.encodings.specs.Written.{least_in, greatest_in, IsWidth, IsBodyOf, PutsBody, integer_bytes}
+use Rattle.bit_packing.specs.Widths.{width_for, IsWidth}
+use Rattle.encodings.specs.Tight.{body_size, least_of, greatest_of, natural, spread}
+use Rattle.encodings.specs.Written.{least_in, greatest_in, IsBodyOf, PutsBody, integer_bytes}
 use Rattle.encodings.specs.declared.kind.Kind.TheVariants as kind
-use Rattle.encodings.specs.Bytes.{number_of, integer_of}
-use Rattle.encodings.specs.Block.{bytes_of_bits, offset_at}
-use Rattle.encodings.specs.Packing.{packed, ArePacked}
+use Rattle.bit_packing.specs.Bytes.{number_of, integer_of}
+use Rattle.bit_packing.specs.Bits.{bytes_of_bits}
+use Rattle.bit_packing.specs.Offsets.{offset_at}
+use Rattle.bit_packing.specs.Packing.{packed, ArePacked}
 use Rattle.encodings.proofs.EncodedForms.{length-integer_bytes, integer_read, map_twice, all_map_same}
 use Rattle.encodings.proofs.EncodedBlocks.{digit_of, map_range}
 use Rattle.meaning.specs.declared.value.ColType.TheVariants as of_type
@@ -83,35 +83,6 @@ natural_is n b h = natural_of (n -ℤ b) (omega (arith, ints))
 
 pub offset_le : (n b g : ℤ) → b ≤ℤ n → n ≤ℤ g → unsigned_abs (n -ℤ b) ≤ unsigned_abs (g -ℤ b)
 offset_le n b g h k = omega (arith, ints)
-
--- ---- the width
-
-find_first : (p : ℕ → Bool) (a k m : ℕ) → m < k → p (a + m) ≡ true → ((j : ℕ) → j < m → p (a + j) ≡ false) → find p (range_with_len a k) ≡ Some (a + m)
-find_first p a zero m l t f = absurd (omega arith)
-find_first p a (suc k) zero l t f = let e : a + 0 ≡ a = omega arith in let q : p a ≡ true = ap p (sym e) ∙ t in rw (q, e) refl
-find_first p a (suc k) (suc m) l t f =
-    let e : a + 0 ≡ a = omega arith in
-    let q : p a ≡ false = ap p (sym e) ∙ f 0 (omega arith) in
-    let g : (a + 1) + m ≡ a + suc m = omega arith in
-    rw q (find_first p (a + 1) k m (omega arith) (ap p g ∙ t) (λ j h. let i : (a + 1) + j ≡ a + suc j = omega arith in ap p i ∙ f (suc j) (omega arith)) ∙ ap Some g)
-
-below_width : (n m j : ℕ) → 2 ^ m ≤ 2 * n + 1 → j < m → nat_lt n (2 ^ j) ≡ false
-below_width n m j h l =
-    let next : j + 1 ≤ m = omega arith in
-    let grows : 2 ^ (j + 1) ≤ 2 ^ m = pow-le-pow_right (lit< tt) next in
-    let double : 2 ^ (j + 1) ≡ 2 ^ j * 2 = pow-add 2 j 1 in
-    le-ltb n (2 ^ j) (omega arith)
-
-pub width_is : (n : ℕ) → n < 2 ^ 64 → IsWidth n (64 - count_leading_zeros 64 n)
-width_is n h =
-    let l = leading_length 64 n h in
-    let m = l.0 in
-    let few : m ≤ 64 = omega (arith, l.1) in
-    let e : 64 - count_leading_zeros 64 n ≡ m = let c = l.1 in omega arith in
-    let found : find (λ width. nat_lt n (2 ^ width)) (range_with_len 0 65) ≡ Some (0 + m) =
-    find_first (λ width. nat_lt n (2 ^ width)) 0 65 m (omega arith) (lt-ltb n (2 ^ (0 + m)) (rw zero-add l.2)) (λ j k. rw zero-add (below_width n m j l.3 k)) in
-    let facts : IsWidth n m = record { holds = l.2; needed = l.3; least = sym (ap (λ o. unwrap_or o 64) found ∙ zero-add m); bound = few } in
-    subst (λ (w : ℕ). IsWidth n w) (sym e) facts
 
 -- ---- members
 

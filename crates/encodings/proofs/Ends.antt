@@ -9,9 +9,10 @@ use Rattle.meaning.specs.declared.value.ColType.TheVariants as of_type
 use Rattle.meaning.specs.declared.value.Value.TheVariants.{Null, Int, Text}
 use Rattle.columns.specs.Column.{is_text}
 use Rattle.encodings.specs.Block.{are_ends, ends_of, joined_of, values_form, is_values_form}
-use Rattle.encodings.specs.Bytes.{words, integer_of, integers, texts_from}
-use Rattle.encodings.proofs.Chunks.{get_or-words, get_or-integers, length-words, length-integers}
-use Rattle.encodings.proofs.Steps.{both_true}
+use Rattle.bit_packing.specs.Bytes.{words, integer_of, integers}
+use Rattle.encodings.specs.Bytes.{texts_from}
+use Rattle.bit_packing.proofs.Chunks.{get_or-words, get_or-integers, length-words, length-integers}
+use Rattle.bit_packing.proofs.Steps.{both_true}
 
 abbrev word : ℕ → List ℕ → ℕ
 word i bytes = from_le_bytes w32 (take 4 (drop (4 * i) bytes))

@@ -1,44 +1,26 @@
 -- Frames: the flags that one pass over the offsets gathers, and the integers that the offsets give.
-use Rattle.std.proofs.Common.{◌≡◌, ℕ, ◌+◌, ◌-◌, ◌*◌, ◌/◌, ◌^◌, ◌<◌, ◌≤◌, ℤ, pos, negsuc, ◌+ℤ◌, ◌≤ℤ◌, Bool, true, ◌&&◌, ◌||◌, ◌==◌, nat_le, nat_lt, List, ⊎_elim, length, get_or, take, map, sym, ap, ◌∙◌, arith}
+use Rattle.std.proofs.Common.{◌≡◌, ℕ, ◌+◌, ◌-◌, ◌*◌, ◌/◌, ◌^◌, ◌<◌, ◌≤◌, ℤ, pos, negsuc, ◌+ℤ◌, Bool, true, ◌&&◌, ◌||◌, ◌==◌, nat_le, nat_lt, List, length, get_or, take, map, sym, ap, ◌∙◌, arith}
 use Rattle.std.specs.List.{list_any, list_all, range_with_len}
-use Rattle.std.proofs.lemmas.Bool.Decides.{same_from_decides, Decides-ltb, Decides-eqb, leb_tells}
-use Rattle.std.proofs.lemmas.Bool.{false≢true}
-use Rattle.std.specs.Bool.{Decides}
+use Rattle.std.proofs.lemmas.Bool.Decides.{Decides-ltb, Decides-eqb}
 use mir.Syntax.{w64, w128}
 use mir.Val.{to_z, of_z}
 use Rattle.std.specs.Int.RustNames.{FitsSigned}
-use Rattle.std.proofs.lemmas.Int.{ints, to_z-of_z}
+use Rattle.std.proofs.lemmas.Int.{to_z-of_z}
 use Rattle.std.proofs.lemmas.List.{get_or-map, length-map}
 use Rattle.std.proofs.lemmas.List.Folds.{list_all_more}
 use Rattle.std.proofs.lemmas.List.FromFn.{get_or-map-range_with_len, length-range_with_len}
 use Rattle.meaning.specs.Operators.{fits_i64}
-use Rattle.encodings.specs.Block.{bytes_of_bits, offset_at, offsets_of, frame_integers, is_frame, base_of, width_of, packed_of}
-use Rattle.encodings.specs.Bytes.{number_of}
+use Rattle.bit_packing.specs.Bits.{bytes_of_bits}
+use Rattle.bit_packing.specs.Offsets.{offset_at}
+use Rattle.encodings.specs.Block.{offsets_of, frame_integers, is_frame, base_of, width_of, packed_of}
+use Rattle.bit_packing.specs.Bytes.{number_of}
 use Rattle.encodings.proofs.RowCells.{all_at}
-use Rattle.encodings.proofs.Steps.{both_true}
-
-pub Decides-leb : (a b : ℕ) → Decides (nat_le a b) (a ≤ b)
-Decides-leb a b =
-    ⊎_elim (λ t. (λ _. t.1, λ _. t.0)) (λ f. (λ e. absurd (false≢true (sym f.0 ∙ e)), λ h. (let k : b < a = f.1 in absurd (omega arith)))) (leb_tells a b)
+use Rattle.bit_packing.proofs.Steps.{both_true}
+use Rattle.bit_packing.proofs.Fits.{Decides-leb}
 
 pub all_more : (p : ℕ → Bool) (xs : List ℕ) (i x : ℕ) (r b : Bool) → i < length xs → x ≡ get_or xs i 0 → r ≡ list_all p (take i xs) → b ≡ p x → (r && b) ≡ list_all p (take (i + 1) xs)
 all_more p xs i x r b h read known test =
     ap (λ k. k && b) known ∙ ap (λ k. list_all p (take i xs) && k) (test ∙ ap p read) ∙ sym (list_all_more p xs i 0 h)
-
-pub fits_bounds : (z : ℤ) → fits_i64 z ≡ true → (negsuc 9223372036854775807 ≤ℤ z) × (z ≤ℤ pos 9223372036854775807)
-fits_bounds (pos n) e = let h : n < 9223372036854775808 = (Decides-ltb n 9223372036854775808).0 e in (omega (arith, ints), omega (arith, ints))
-fits_bounds (negsuc n) e = let h : n < 9223372036854775808 = (Decides-ltb n 9223372036854775808).0 e in (omega (arith, ints), omega (arith, ints))
-
-pub fits_below : (z : ℤ) → negsuc 9223372036854775807 ≤ℤ z → Decides (fits_i64 z) (z ≤ℤ pos 9223372036854775807)
-fits_below (pos n) low = (λ e. (fits_bounds (pos n) e).1, λ h. (Decides-ltb n 9223372036854775808).1 (omega (arith, ints)))
-fits_below (negsuc n) low = (λ e. (fits_bounds (negsuc n) e).1, λ h. (Decides-ltb n 9223372036854775808).1 (omega (arith, ints)))
-
-pub fits_by_room : (base : ℤ) (offset room : ℕ) → negsuc 9223372036854775807 ≤ℤ base → base +ℤ pos room ≡ pos 9223372036854775807 → nat_le offset room ≡ fits_i64 (base +ℤ pos offset)
-fits_by_room base offset room low top =
-    let less : negsuc 9223372036854775807 ≤ℤ (base +ℤ pos offset) = omega (arith, ints) in
-    let by_room : Decides (nat_le offset room) ((base +ℤ pos offset) ≤ℤ pos 9223372036854775807) =
-    (λ e. (let h : offset ≤ room = (Decides-leb offset room).0 e in omega (arith, ints)), λ h. (Decides-leb offset room).1 (omega (arith, ints))) in
-    same_from_decides (nat_le offset room) (fits_i64 (base +ℤ pos offset)) by_room (fits_below (base +ℤ pos offset) less)
 
 -- ---- a frame as its definition tests it
 

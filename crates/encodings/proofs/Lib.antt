@@ -3,9 +3,6 @@ pub mod Ascending
 pub mod Blocks
 pub mod ChosenKinds
 pub mod ChosenRows
-pub mod Chunks
-pub mod Digits
-pub mod EncodedBits
 pub mod EncodedBlocks
 pub mod EncodedBodies
 pub mod EncodedDictionaries
@@ -14,13 +11,11 @@ pub mod EncodedFrames
 pub mod EncodedRuns
 pub mod Ends
 pub mod Frames
-pub mod LaneGroups
 pub mod Marks
 pub mod MaskWords
 pub mod NullRuns
 pub mod Nulls
 pub mod NumberEntries
-pub mod OffsetPieces
 pub mod PassedRuns
 pub mod ReadBodies
 pub mod ReadLists
@@ -30,7 +25,6 @@ pub mod RowCells
 pub mod RowCodes
 pub mod RowNumbers
 pub mod RunSizes
-pub mod Steps
 pub mod TextCuts
 pub mod UnpackNumbers
 pub mod Worked

@@ -10,12 +10,13 @@ use Rattle.meaning.specs.declared.value.ColType.{ColType}
 use Rattle.meaning.specs.declared.value.Value.{Value}
 use Rattle.meaning.specs.declared.value.Value.TheVariants.{Null}
 use Rattle.encodings.specs.declared.kind.Kind.{Kind}
-use Rattle.encodings.specs.Block.{bit_at, body_cells, is_body, is_blank}
-use Rattle.encodings.specs.Bytes.{number_of}
+use Rattle.bit_packing.specs.Bits.{bit_at}
+use Rattle.encodings.specs.Block.{body_cells, is_body, is_blank}
+use Rattle.bit_packing.specs.Bytes.{number_of}
 use Rattle.encodings.specs.Reading.{are_blank_from}
 use Rattle.encodings.proofs.Nulls.{bits_of, length_pairs, pair_is}
-use Rattle.encodings.proofs.Steps.{all_skips, all_keeps, all_stops}
-use Rattle.encodings.proofs.UnpackNumbers.{AreBytes, number-front_below, digit-take, offset_at-drop}
+use Rattle.bit_packing.proofs.Steps.{all_skips, all_keeps, all_stops}
+use Rattle.bit_packing.proofs.UnpackNumbers.{AreBytes, number-front_below, digit-take, offset_at-drop}
 
 abbrev pub bit_of : List ℕ → ℕ → ℕ
 bit_of mask j = get_or mask (j / 8) 0 / 2 ^ (j % 8) % 2

@@ -11,10 +11,12 @@ use Rattle.meaning.specs.declared.value.Value.{Value}
 use Rattle.meaning.specs.declared.value.Value.TheVariants.{Null, Int}
 use Rattle.encodings.specs.declared.kind.Kind.{Kind}
 use Rattle.encodings.specs.declared.kind.Kind.TheVariants as kind
-use Rattle.encodings.specs.Block.{bit_at, body_cells, is_body, is_blank, is_values_form, repeated, run_cells, run_values, run_lengths, run_value_bytes, count_of, are_runs, entries_of, codes_of, frame_integers, offsets_of, offset_at, width_of, packed_of, base_of}
-use Rattle.encodings.proofs.Chunks.{length-shorts}
+use Rattle.bit_packing.specs.Bits.{bit_at}
+use Rattle.bit_packing.specs.Offsets.{offset_at}
+use Rattle.encodings.specs.Block.{body_cells, is_body, is_blank, is_values_form, repeated, run_cells, run_values, run_lengths, run_value_bytes, count_of, are_runs, entries_of, codes_of, frame_integers, offsets_of, width_of, packed_of, base_of}
+use Rattle.bit_packing.proofs.Chunks.{length-shorts}
 use Rattle.encodings.proofs.Ends.{length-values_form}
-use Rattle.encodings.proofs.Steps.{both_true}
+use Rattle.bit_packing.proofs.Steps.{both_true}
 
 length_repeated : (vs : List Value) (ns : List ℕ) → length vs ≡ length ns → length (repeated (zip vs ns)) ≡ sum ns
 length_repeated [] [] e = refl

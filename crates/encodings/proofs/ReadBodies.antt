@@ -10,10 +10,12 @@ use Rattle.meaning.specs.declared.value.Value.TheVariants.{Null}
 use Rattle.meaning.specs.declared.value.ColType.{ColType}
 use Rattle.meaning.specs.Operators.{fits_i64}
 use Rattle.meaning.specs.Order.{value_cmp, is_ascending}
-use Rattle.encodings.specs.Bytes.{number_of}
-use Rattle.encodings.specs.Block.{bytes_of_bits, codes_of, count_of, entries_of, entry_bytes, frame_integers, is_dictionary, is_frame, is_values_form, offset_at, offsets_of, packed_of, width_of}
-use Rattle.encodings.specs.Reading.{repeats, raised_offsets}
-use Rattle.encodings.proofs.ReadLists.{both_left, both_right}
+use Rattle.bit_packing.specs.Bytes.{number_of}
+use Rattle.bit_packing.specs.Bits.{bytes_of_bits}
+use Rattle.bit_packing.specs.Offsets.{offset_at, raised_offsets}
+use Rattle.encodings.specs.Block.{codes_of, count_of, entries_of, entry_bytes, frame_integers, is_dictionary, is_frame, is_values_form, offsets_of, packed_of, width_of}
+use Rattle.encodings.specs.Reading.{repeats}
+use Rattle.bit_packing.proofs.Ranges.{both_left, both_right}
 
 pub part-map : {X Y : Type 0} (f : X → Y) (n k : ℕ) (xs : List X) → map f (take n (drop k xs)) ≡ take n (drop k (map f xs))
 part-map f n k xs = sym (take-map f n (drop k xs)) ∙ ap (take n) (sym (drop-map f k xs))

@@ -12,10 +12,11 @@ use Rattle.meaning.specs.declared.value.ColType.TheVariants as of_type
 use Rattle.meaning.specs.declared.value.Value.{Value}
 use Rattle.meaning.specs.declared.value.Value.TheVariants.{Null, Int, Text}
 use Rattle.meaning.specs.Order.{is_null, number, bytes}
-use Rattle.encodings.specs.Block.{Block, bit_at, cells_of, is_blank, is_block, is_body, is_mask, mask_length, body_of, mask_of, masked, nulls_of, values_of}
+use Rattle.bit_packing.specs.Bits.{bit_at, is_mask}
+use Rattle.encodings.specs.Block.{Block, cells_of, is_blank, is_block, is_body, mask_length, body_of, mask_of, masked, nulls_of, values_of}
 use Rattle.encodings.specs.Vector.{AreBlank, AreRoom, AreCells, cells_in, masked_cells, Vector, vector_of}
 use Rattle.encodings.proofs.ReadBodies.{all-part, part-map, range-part}
-use Rattle.encodings.proofs.ReadLists.{both_left, both_right}
+use Rattle.bit_packing.proofs.Ranges.{both_left, both_right}
 
 -- ---- one value
 length-zip_le : {X Y : Type 0} (xs : List X) (ys : List Y) → length (zip xs ys) ≤ length xs

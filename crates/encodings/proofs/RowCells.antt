@@ -10,11 +10,11 @@ use Rattle.meaning.specs.declared.value.Value.{Value}
 use Rattle.meaning.specs.declared.value.Value.TheVariants.{Null}
 use Rattle.meaning.specs.Order.{value_cmp, is_ascending}
 use Rattle.encodings.specs.Block.{values_form, is_values_form, count_of, entry_bytes, entries_of, codes_of, is_dictionary, dictionary_cells, repeated, run_cells, run_value_bytes}
-use Rattle.encodings.specs.Bytes.{shorts}
+use Rattle.bit_packing.specs.Bytes.{shorts}
 use Rattle.encodings.specs.Lent.{IsDictionaryOf}
-use Rattle.encodings.proofs.Chunks.{get_or-shorts, length-shorts}
+use Rattle.bit_packing.proofs.Chunks.{get_or-shorts, length-shorts}
 use Rattle.encodings.proofs.Ends.{length-values_form}
-use Rattle.encodings.proofs.Steps.{both_true}
+use Rattle.bit_packing.proofs.Steps.{both_true}
 
 pub all_at : {X : Type 0} (p : X → Bool) (xs : List X) (i : ℕ) (d : X) → i < length xs → list_all p xs ≡ true → p (get_or xs i d) ≡ true
 all_at p [] i d h e = absurd (omega arith)

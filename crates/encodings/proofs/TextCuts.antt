@@ -10,7 +10,7 @@ use Rattle.meaning.specs.Limits.{max_text_bytes}
 use Rattle.columns.specs.Column.{is_text}
 use Rattle.encodings.specs.Block.{are_ends}
 use Rattle.encodings.specs.Bytes.{texts_from}
-use Rattle.encodings.proofs.Steps.{both_true}
+use Rattle.bit_packing.proofs.Steps.{both_true}
 
 text_parts : (text : List ℕ) → is_text text ≡ true → IsUtf8 text × (length text ≤ max_text_bytes)
 text_parts text e =

@@ -2,7 +2,7 @@
 --
 -- A block stands for 1 to 8,192 values of one column. Its payload is the mask, in a nullable column, and a body of one
 -- of four kinds. The body alone gives a cell for each row; where the mask has a 1, the value is NULL.
-use Rattle.std.specs.Prelude.{ℕ, ◌+◌, ◌-◌, ◌*◌, ◌/◌, ◌%◌, ◌^◌, ◌==◌, nat_lt, nat_le, ℤ, pos, negsuc, ◌+ℤ◌, Bool, false, ◌&&◌, ◌||◌, not, if◌then◌else◌, List, [], ◌∷◌, length, map, take, drop, sum, zip, get_or, replicate, flat_map}
+use Rattle.std.specs.Prelude.{ℕ, ◌+◌, ◌-◌, ◌*◌, ◌^◌, ◌==◌, nat_lt, nat_le, ℤ, pos, negsuc, ◌+ℤ◌, Bool, false, ◌&&◌, ◌||◌, not, if◌then◌else◌, List, [], ◌∷◌, length, map, take, drop, sum, zip, get_or, replicate, flat_map}
 use Rattle.std.specs.List.{list_all, list_any, range_with_len}
 use Rattle.std.specs.Int.{w32, from_le_bytes}
 use Rattle.meaning.specs.Limits.{row_group_rows}
@@ -15,7 +15,11 @@ use Rattle.meaning.specs.Order.{value_cmp, is_ascending}
 use Rattle.columns.specs.Column.{is_text}
 use Rattle.encodings.specs.declared.kind.Kind.{Kind}
 use Rattle.encodings.specs.declared.kind.Kind.TheVariants as kind
-use Rattle.encodings.specs.Bytes.{number_of, shorts, words, integer_of, integers, texts_from}
+use Rattle.bit_packing.specs.Bytes.{number_of, shorts, words, integer_of, integers}
+use Rattle.encodings.specs.Bytes.{texts_from}
+use Rattle.bit_packing.specs.Bits.{is_mask}
+use Rattle.bit_packing.specs.Offsets.{offset_at}
+pub use Rattle.bit_packing.specs.Bits.{bytes_of_bits, bit_at}
 
 -- a payload, and what is known of it from elsewhere: the block's kind, its column's type and whether that is nullable,
 -- and how many rows it has
@@ -25,16 +29,6 @@ pub record Block : Type 0 where
   pub nullable : Bool
   pub rows : ℕ
   pub payload : List ℕ
-
--- ---- the mask
-
--- how many bytes hold a number of bits
-abbrev pub bytes_of_bits : ℕ → ℕ
-bytes_of_bits bits = (bits + 7) / 8
-
--- bit j of a stream: bit (j mod 8) of byte (j / 8), counted from the least significant
-abbrev pub bit_at : List ℕ → ℕ → Bool
-bit_at bytes j = (get_or bytes (j / 8) 0 / 2 ^ (j % 8)) % 2 == 1
 
 abbrev pub mask_length : Bool → ℕ → ℕ
 mask_length nullable rows = if nullable then bytes_of_bits rows else 0
@@ -48,10 +42,6 @@ body_of b = drop (mask_length b.nullable b.rows) b.payload
 -- which rows are NULL
 abbrev pub nulls_of : Block → List Bool
 nulls_of b = if b.nullable then map (bit_at (mask_of b)) (range_with_len 0 b.rows) else replicate b.rows false
-
--- the bits behind the last row are 0
-abbrev pub is_mask : ℕ → List ℕ → Bool
-is_mask rows mask = list_all (λ j. not (bit_at mask j)) (range_with_len rows (8 * length mask - rows))
 
 -- ---- the values form, in which values stand one by one
 
@@ -144,10 +134,6 @@ width_of body = get_or body 8 0
 
 abbrev pub packed_of : List ℕ → List ℕ
 packed_of body = drop 9 body
-
--- offsets are the digits, of `width` bits each, of the number that the packed bytes are
-abbrev pub offset_at : ℕ → List ℕ → ℕ → ℕ
-offset_at width packed i = (number_of packed / 2 ^ (width * i)) % 2 ^ width
 
 abbrev pub offsets_of : ℕ → List ℕ → List ℕ
 offsets_of rows body = map (offset_at (width_of body) (packed_of body)) (range_with_len 0 rows)

@@ -6,7 +6,7 @@ use Rattle.meaning.specs.declared.value.ColType.TheVariants as of_type
 use Rattle.meaning.specs.declared.value.Value.{Value}
 use Rattle.meaning.specs.declared.value.Value.TheVariants.{Null, Int, Text}
 use Rattle.meaning.specs.Order.{bytes}
-use Rattle.encodings.specs.Bytes.{number_of}
+use Rattle.bit_packing.specs.Bytes.{number_of}
 
 -- the highest 15 bits of a product of 64
 unfoldable pub home_of : ℕ → ℕ

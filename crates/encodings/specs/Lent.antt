@@ -5,7 +5,7 @@ use Rattle.meaning.specs.declared.value.ColType.{ColType}
 use Rattle.meaning.specs.declared.value.Value.{Value}
 use Rattle.meaning.specs.declared.value.Value.TheVariants.{Null}
 use Rattle.encodings.specs.Block.{Block, body_of, is_values_form, entries_of, codes_of, run_values, run_lengths, values_of, nulls_of, masked, repeated}
-use Rattle.encodings.specs.Bytes.{shorts}
+use Rattle.bit_packing.specs.Bytes.{shorts}
 
 -- the entries in ascending order, and for each row the place of its entry
 pub record DictionarySpec : Type 0 where

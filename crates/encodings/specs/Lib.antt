@@ -6,7 +6,6 @@ pub mod Choice
 pub mod Entries
 pub mod Homes
 pub mod Lent
-pub mod Packing
 pub mod Reading
 pub mod Tight
 pub mod Vector

@@ -1,6 +1,6 @@
 -- What an encoder promises beyond a block: no entry without a use, the longest runs, and how many bytes it writes.
-use Rattle.std.specs.Prelude.{ℕ, ◌+◌, ◌-◌, ◌*◌, ◌^◌, ◌==◌, nat_lt, nat_le, ℤ, pos, negsuc, ◌-ℤ◌, Bool, true, ◌&&◌, not, if◌then◌else◌, List, [], ◌∷◌, length, map, take, drop, unwrap_or}
-use Rattle.std.specs.List.{list_all, list_any, range_with_len, sum_by, find}
+use Rattle.std.specs.Prelude.{ℕ, ◌+◌, ◌-◌, ◌*◌, ◌==◌, nat_lt, nat_le, ℤ, pos, negsuc, ◌-ℤ◌, Bool, true, ◌&&◌, not, if◌then◌else◌, List, [], ◌∷◌, length, map, take, drop}
+use Rattle.std.specs.List.{list_all, list_any, sum_by}
 use Rattle.std.specs.Ordering.{int_cmp, ord_min, ord_max}
 use Rattle.meaning.specs.declared.value.ColType.{ColType}
 use Rattle.meaning.specs.declared.value.ColType.TheVariants as of_type
@@ -9,7 +9,9 @@ use Rattle.meaning.specs.Order.{value_cmp, ascending_set, is_null, number, bytes
 use Rattle.columns.specs.Column.{ColumnSpec}
 use Rattle.encodings.specs.declared.kind.Kind.{Kind}
 use Rattle.encodings.specs.declared.kind.Kind.TheVariants as kind
-use Rattle.encodings.specs.Block.{Block, blank, bytes_of_bits, mask_length, body_of, cells_of, entries_of, run_values}
+use Rattle.bit_packing.specs.Bits.{bytes_of_bits}
+use Rattle.encodings.specs.Block.{Block, blank, mask_length, body_of, cells_of, entries_of, run_values}
+use Rattle.bit_packing.specs.Widths.{width_for}
 
 -- the values of the rows from one on and up to another
 abbrev pub between : ℕ → ℕ → ColumnSpec → List Value
@@ -52,10 +54,6 @@ natural (negsuc n) = 0
 abbrev pub spread : List ℤ → ℕ
 spread [] = 0
 spread (n ∷ ns) = natural (greatest_of n ns -ℤ least_of n ns)
-
--- the least width in bits that holds a number below 2 ^ 64
-abbrev pub width_for : ℕ → ℕ
-width_for n = unwrap_or (find (λ width. nat_lt n (2 ^ width)) (range_with_len 0 65)) 64
 
 abbrev pub body_size : Kind → ColType → List Value → ℕ
 body_size kind.Plain col_type cells = form_size col_type cells

@@ -1,5 +1,5 @@
 -- What the encoders write: numbers and values as bytes, and what a body is to its cells.
-use Rattle.std.specs.Prelude.{◌≡◌, ℕ, ◌+◌, ◌-◌, ◌*◌, ◌^◌, ◌<◌, ◌≤◌, nat_le, nat_lt, ℤ, pos, Bool, true, List, [], ◌∷◌, ◌++◌, length, map, zip, get_or, flat_map}
+use Rattle.std.specs.Prelude.{◌≡◌, ℕ, ◌-◌, ◌≤◌, nat_le, nat_lt, ℤ, pos, Bool, true, List, [], ◌∷◌, ◌++◌, length, map, zip, get_or, flat_map}
 use Rattle.std.specs.List.{concat, list_all, list_any, range_with_len}
 use Rattle.std.specs.Int.{w16, w32, w64, to_le_bytes, cast_unsigned}
 use Rattle.meaning.specs.declared.value.ColType.{ColType}
@@ -13,8 +13,9 @@ use Rattle.encodings.specs.declared.kind.Kind.{Kind}
 use Rattle.encodings.specs.declared.kind.Kind.TheVariants as kind
 use Rattle.encodings.specs.declared.fault.EncodeFault.{EncodeFault}
 use Rattle.encodings.specs.declared.fault.EncodeFault.TheVariants as fault
-use Rattle.encodings.specs.Block.{Block, bit_at, mask_length, is_mask, is_body, body_cells, entries_of, run_values, repeated}
-use Rattle.encodings.specs.Tight.{body_size, are_unequal_neighbours, least_of, greatest_of, width_for}
+use Rattle.bit_packing.specs.Bits.{bit_at, is_mask}
+use Rattle.encodings.specs.Block.{Block, mask_length, is_body, body_cells, entries_of, run_values, repeated}
+use Rattle.encodings.specs.Tight.{body_size, are_unequal_neighbours, least_of, greatest_of}
 
 -- numbers of 16, 32 and 64 bits, the lowest byte first
 unfoldable pub short_bytes : ℕ → List ℕ
@@ -100,13 +101,6 @@ least_in (n ∷ ns) = least_of n ns
 abbrev pub greatest_in : List ℤ → ℤ
 greatest_in [] = pos 0
 greatest_in (n ∷ ns) = greatest_of n ns
-
--- the least width in bits that holds a number, and what follows of it
-pub record IsWidth (n width : ℕ) : Type 0 where
-  pub holds : n < 2 ^ width
-  pub needed : 2 ^ width ≤ 2 * n + 1
-  pub least : width ≡ width_for n
-  pub bound : width ≤ 64
 
 -- a mask was put behind other bytes
 abbrev pub PutsMask : List ℕ → List ℕ → Bool → List Value → Type 0

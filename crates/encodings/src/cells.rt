@@ -4,16 +4,18 @@ ghost use Rattle.std.specs.List.{list_all, range_with_len};
 ghost use Rattle.meaning.specs.Limits.{row_group_rows};
 ghost use Rattle.meaning.specs.Order.{value_in};
 ghost use Rattle.meaning.specs.declared.value.Value.TheVariants.{Null};
-ghost use Rattle.encodings.specs.Block.{bit_at, bytes_of_bits, mask_length, body_cells, is_body, is_blank};
+ghost use Rattle.bit_packing.specs.Bits.{bit_at, bytes_of_bits};
+ghost use Rattle.encodings.specs.Block.{mask_length, body_cells, is_body, is_blank};
 ghost use Rattle.encodings.specs.Reading.{are_blank_from};
 
 use crate::checking::{are_runs, is_dictionary};
 use crate::dictionary::dictionary_cell;
-use crate::frame::{frame_cell, is_frame, window_at};
+use crate::frame::{frame_cell, is_frame};
 use crate::kind::Kind;
 use crate::null_runs::are_null_runs_blank;
 use crate::runs::run_cell;
 use crate::values::{is_blank, is_values_form, value_at};
+use bit_packing::windows::window_at;
 use meaning::value::{ColType, ValueRef};
 
 /// Whether bytes are a body of a kind, with a cell for each of `rows` rows.

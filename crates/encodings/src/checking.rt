@@ -2,13 +2,14 @@
 ghost use Rattle.std.specs.Prelude.{◌≡◌, ◌+◌, ◌*◌, ◌/◌, ◌<◌, ◌≤◌, ◌==◌, ◌&&◌, true, false, length, nat_le, nat_lt, sum};
 ghost use Rattle.std.specs.List.{list_all};
 ghost use Rattle.meaning.specs.Limits.{row_group_rows};
-ghost use Rattle.encodings.specs.Block.{mask_length, is_mask, is_dictionary, are_runs};
-ghost use Rattle.encodings.specs.Bytes.{shorts};
+ghost use Rattle.encodings.specs.Block.{mask_length, is_dictionary, are_runs};
+ghost use Rattle.bit_packing.specs.Bytes.{shorts};
 
 use crate::dictionary::{code_bytes, entry_bytes};
-use crate::numbers::{has_bit, leading_count, short_at};
+use crate::numbers::leading_count;
 use crate::runs::{length_bytes, run_value_bytes};
 use crate::values::{is_ascending, is_values_form};
+use bit_packing::numbers::short_at;
 use meaning::value::ColType;
 
 /// How many bytes the mask takes.
@@ -17,20 +18,6 @@ pub fn mask_length(nullable: bool, rows: usize) -> usize
     ensures { result ≡ mask_length nullable rows }
 {
     if nullable { (rows + 7) / 8 } else { 0 }
-}
-
-/// Whether the bits behind the last row are 0.
-pub fn is_mask(rows: usize, mask: &[u8]) -> bool
-    requires { length mask.now ≤ 1024 }
-    ensures { result ≡ is_mask rows mask.now }
-{
-    let bits = 8 * mask.len();
-    for i in rows..bits {
-        if has_bit(mask, i) {
-            return false;
-        }
-    }
-    true
 }
 
 /// Whether `rows` codes are below the number of entries. All are looked at, eight at a time as it is compiled.

@@ -1,12 +1,13 @@
 //! The dictionary that a block lends.
-ghost use Rattle.std.specs.Prelude.{◌≡◌, ◌+◌, ◌-◌, ◌*◌, ◌/◌, ◌<◌, ◌≤◌, true, length, drop, get_or};
+ghost use Rattle.std.specs.Prelude.{◌≡◌, ◌+◌, ◌-◌, ◌*◌, ◌<◌, ◌≤◌, true, length, drop, get_or};
 ghost use Rattle.meaning.specs.Order.{value_in};
 ghost use Rattle.meaning.specs.declared.value.Value.TheVariants.{Null};
 ghost use Rattle.encodings.specs.Block.{is_dictionary, dictionary_cells, entry_bytes};
 ghost use Rattle.encodings.specs.Lent.{dictionary_of};
 
-use crate::numbers::{leading_count, short_at};
+use crate::numbers::leading_count;
 use crate::values::value_at;
+use bit_packing::numbers::short_at;
 use meaning::value::{ColType, ValueRef};
 use std::marker::Model;
 
@@ -22,7 +23,7 @@ pub struct Dictionary<'a> {
 
 impl<'a> Model for Dictionary<'a> {
     ghost use Rattle.encodings.specs.Block.{values_form};
-    ghost use Rattle.encodings.specs.Bytes.{shorts};
+    ghost use Rattle.bit_packing.specs.Bytes.{shorts};
     ghost use Rattle.encodings.specs.Lent.{DictionarySpec, IsDictionaryOf};
 
     ghost Value = { DictionarySpec };

@@ -13,7 +13,6 @@ ghost use Rattle.encodings.specs.declared.fault.EncodeFault.TheVariants.{Memory}
 
 use crate::choosing::choice_of;
 use crate::chosen::Choice;
-use crate::encoding_bits::put_mask;
 use crate::encoding_bodies::{
     put_dictionary_of_ints, put_dictionary_of_texts, put_int_dictionary, put_plain_ints,
     put_plain_texts, put_runs_of_ints, put_runs_of_texts, put_text_dictionary,
@@ -21,6 +20,7 @@ use crate::encoding_bodies::{
 use crate::encoding_frame::put_frame;
 use crate::fault::EncodeFault;
 use crate::kind::Kind;
+use bit_packing::packing::put_mask;
 use columns::{Column, LentCells, TextList};
 use std::alloc::{AllocError, Global};
 use std::mem::drop;

@@ -10,9 +10,10 @@ ghost use Rattle.encodings.specs.declared.kind.Kind.TheVariants as kind;
 
 use crate::encoding_dictionary::{dictionary_of_ints, dictionary_of_texts};
 use crate::encoding_forms::{put_integers, put_integers_at, put_texts, put_texts_at};
-use crate::encoding_numbers::{make_room, put_shorts, put_word};
+use crate::encoding_numbers::{put_shorts, put_word};
 use crate::encoding_runs::{Runs, runs_of_ints, runs_of_texts};
 use crate::ordering::Dictionary;
+use bit_packing::packing::make_room;
 use columns::TextList;
 use std::alloc::{AllocError, Global};
 use std::mem::drop;

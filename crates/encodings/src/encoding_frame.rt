@@ -6,11 +6,12 @@ ghost use Rattle.meaning.specs.Limits.{row_group_rows};
 ghost use Rattle.meaning.specs.declared.value.ColType.TheVariants as of_type;
 ghost use Rattle.meaning.specs.declared.value.Value.TheVariants.{Int};
 ghost use Rattle.columns.specs.Column.{is_of};
-ghost use Rattle.encodings.specs.Written.{PutsBody, IsWidth, least_in, greatest_in};
+ghost use Rattle.encodings.specs.Written.{PutsBody, least_in, greatest_in};
 ghost use Rattle.encodings.specs.declared.kind.Kind.TheVariants as kind;
 
-use crate::encoding_bits::put_offsets;
-use crate::encoding_numbers::{make_room, put_integer};
+use crate::encoding_numbers::put_integer;
+use bit_packing::packing::{make_room, put_offsets};
+use bit_packing::widths::width_of;
 use std::alloc::AllocError;
 
 /// The least and the greatest of some integers.
@@ -45,13 +46,6 @@ pub fn bounds_of(ints: &[i64]) -> Bounds
         bounds = bounds.with(ints[row]);
     }
     bounds
-}
-
-/// The least width in bits that holds a number.
-pub fn width_of(number: u64) -> u32
-    ensures { IsWidth number result }
-{
-    64 - number.leading_zeros()
 }
 
 pub fn put_frame(out: &mut Vec<u8>, ints: &[i64]) -> Result<(), AllocError>

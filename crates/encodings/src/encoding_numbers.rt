@@ -5,13 +5,6 @@ ghost use Rattle.encodings.specs.Written.{short_bytes, word_bytes, integer_bytes
 
 use std::alloc::AllocError;
 
-/// Room for `n` bytes more.
-pub fn make_room(out: &mut Vec<u8>, n: usize) -> Result<(), AllocError>
-    ensures { out.new.items ≡ out.old.items }
-{
-    out.reserve(n)
-}
-
 #[tactic(auto, unfolding(crate::specs::Written::short_bytes))]
 pub fn put_short(out: &mut Vec<u8>, n: u16) -> Result<(), AllocError>
     ensures { OnOk result (out.new.items ≡ out.old.items ++ short_bytes n) }

@@ -3,8 +3,8 @@ ghost use Rattle.std.specs.Prelude.{◌≡◌, ◌<◌};
 ghost use Rattle.meaning.specs.declared.value.Value.TheVariants.{Int, Text};
 ghost use Rattle.encodings.specs.Homes.{home_of, mixed, word_of, value_home};
 
-use crate::frame::window_at;
-use crate::numbers::word_at;
+use bit_packing::numbers::word_at;
+use bit_packing::windows::window_at;
 
 /// How many homes there are.
 pub const HOMES: usize = 32_768;

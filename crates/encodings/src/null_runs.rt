@@ -3,25 +3,15 @@ ghost use Rattle.std.specs.Prelude.{◌≡◌, ◌+◌, ◌-◌, ◌<◌, ◌≤
 ghost use Rattle.std.specs.List.{list_all, range_with_len};
 ghost use Rattle.meaning.specs.Limits.{row_group_rows};
 ghost use Rattle.meaning.specs.declared.value.Value.TheVariants.{Null};
-ghost use Rattle.encodings.specs.Block.{bit_at, bytes_of_bits, values_form, is_values_form, are_runs, run_cells, is_blank};
+ghost use Rattle.bit_packing.specs.Bits.{bit_at, bytes_of_bits};
+ghost use Rattle.encodings.specs.Block.{values_form, is_values_form, are_runs, run_cells, is_blank};
 
-use crate::numbers::{has_bit, leading_count, short_at};
+use crate::numbers::leading_count;
 use crate::runs::{length_bytes, run_value_bytes};
 use crate::values::{is_blank, value_at};
+use bit_packing::masks::are_bits_clear;
+use bit_packing::numbers::short_at;
 use meaning::value::ColType;
-
-/// Whether no bit from one place on and up to another is set.
-fn are_bits_clear(mask: &[u8], start: usize, end: usize) -> bool
-    requires { end ≤ 8 * length mask.now }
-    ensures { result ≡ list_all (λ j. not (bit_at mask.now j)) (range_with_len start (end - start)) }
-{
-    for i in start..end {
-        if has_bit(mask, i) {
-            return false;
-        }
-    }
-    true
-}
 
 /// Whether a run's value is blank, or none of its rows is NULL.
 fn is_run_blank_if_null(

@@ -6,22 +6,15 @@ ghost use Rattle.meaning.specs.declared.value.Value.TheVariants.{Int, Text};
 ghost use Rattle.encodings.specs.Block.{body_cells, is_block, is_body, mask_length, values_of};
 ghost use Rattle.encodings.specs.Vector.{cells_in};
 
+use crate::checking::mask_length;
 use crate::kind::Kind;
 use crate::reading_dict::{read_coded_integers, read_coded_texts};
 use crate::reading_frame::read_frame;
-use crate::reading_nulls::read_nulls;
 use crate::reading_plain::{read_plain_integers, read_plain_texts};
 use crate::reading_runs::{read_integer_runs, read_text_runs};
 use crate::vector_buf::VectorBuf;
+use bit_packing::masks::read_nulls;
 use meaning::value::ColType;
-
-/// How many bytes the mask takes.
-fn mask_len(nullable: bool, rows: usize) -> usize
-    requires { rows ≤ row_group_rows }
-    ensures { result ≡ mask_length nullable rows }
-{
-    if nullable { rows.div_ceil(8) } else { 0 }
-}
 
 fn read_integers(kind: Kind, rows: usize, body: &[u8], from: usize, out: &mut [i64])
     requires body { is_body kind of_type.Int rows body.now ≡ true }
@@ -111,7 +104,7 @@ pub fn read_rows<'a>(
     } }
 {
     let count = out.nulls.len().min(rows.saturating_sub(from));
-    let (mask, body) = payload.split_at(mask_len(nullable, rows));
+    let (mask, body) = payload.split_at(mask_length(nullable, rows));
     let start = from.min(rows);
     read_nulls(nullable, mask, start, count, out.nulls.as_mut_slice());
     let part = Rows {

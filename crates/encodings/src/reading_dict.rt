@@ -5,10 +5,11 @@ ghost use Rattle.meaning.specs.declared.value.ColType.TheVariants as of_type;
 ghost use Rattle.meaning.specs.declared.value.Value.TheVariants.{Int, Text};
 ghost use Rattle.encodings.specs.Block.{entry_bytes, dictionary_cells, is_dictionary};
 ghost use Rattle.std.specs.List.{list_all};
-ghost use Rattle.encodings.specs.Bytes.{integer_of};
+ghost use Rattle.bit_packing.specs.Bytes.{integer_of};
 ghost use Rattle.encodings.specs.Reading.{codes_in, texts_in, are_texts};
 
-use crate::reading_parts::{Texts, chunks, count_at, text_at, texts_form};
+use crate::numbers::leading_count;
+use crate::reading_parts::{Texts, chunks, text_at, texts_form};
 
 fn code_at(codes: &[[u8; 2]], i: usize) -> usize
     requires { i < length codes.now }
@@ -66,7 +67,7 @@ pub fn read_coded_integers(rows: usize, body: &[u8], from: usize, out: &mut [i64
     ensures { map Int out.new ≡ take (length out.old) (drop from (dictionary_cells of_type.Int rows body.now)) }
 {
     let (bytes, codes) = dictionary_parts(rows, body);
-    fill_coded_integers(chunks::<8>(bytes, count_at(body)), codes, from, out);
+    fill_coded_integers(chunks::<8>(bytes, leading_count(body)), codes, from, out);
 }
 
 /// The texts from row `from` on.
@@ -77,5 +78,5 @@ pub fn read_coded_texts<'a>(rows: usize, body: &'a [u8], from: usize, out: &mut 
         ≡ take (length out.old) (drop from (dictionary_cells of_type.Text rows body.now)) }
 {
     let (bytes, codes) = dictionary_parts(rows, body);
-    fill_coded_texts(texts_form(bytes, count_at(body)), codes, from, out);
+    fill_coded_texts(texts_form(bytes, leading_count(body)), codes, from, out);
 }

@@ -1,7 +1,6 @@
 //! The parts of a body: numbers of some bytes each, and texts by their ends.
 ghost use Rattle.std.specs.Prelude.{◌≡◌, ◌+◌, ◌-◌, ◌*◌, ◌<◌, ◌≤◌, length, get_or, true, [], ◌∷◌, drop, take};
 ghost use Rattle.std.specs.Simd.{first_chunks};
-ghost use Rattle.encodings.specs.Block.{count_of};
 ghost use Rattle.encodings.specs.Reading.{ends_in, texts_in, are_texts};
 
 /// The first `count` chunks of `N` bytes.
@@ -13,14 +12,6 @@ pub fn chunks<const N: usize>(bytes: &[u8], count: usize) -> &[[u8; N]]
 {
     let (chunks, _) = bytes.as_chunks::<N>();
     &chunks[..count]
-}
-
-/// The number in 32 bits that a dictionary or runs begin with.
-pub fn count_at(body: &[u8]) -> usize
-    requires { 4 ≤ length body.now }
-    ensures { result ≡ count_of body.now }
-{
-    u32::from_le_bytes(chunks::<4>(body, 1)[0]) as usize
 }
 
 /// Texts that are joined, and where each ends.

@@ -3,7 +3,7 @@ ghost use Rattle.std.specs.Prelude.{◌≡◌, ◌+◌, ◌≤◌, length, map, 
 ghost use Rattle.meaning.specs.declared.value.ColType.TheVariants as of_type;
 ghost use Rattle.meaning.specs.declared.value.Value.TheVariants.{Int, Text};
 ghost use Rattle.encodings.specs.Block.{values_form, is_values_form};
-ghost use Rattle.encodings.specs.Bytes.{integer_of};
+ghost use Rattle.bit_packing.specs.Bytes.{integer_of};
 ghost use Rattle.encodings.specs.Reading.{texts_in, are_texts};
 
 use crate::reading_parts::{Texts, chunks, text_at, texts_form};

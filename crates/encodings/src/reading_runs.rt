@@ -1,6 +1,6 @@
 //! Values with the lengths of their runs.
 ghost use Rattle.std.specs.Prelude.{◌≡◌, ◌+◌, ◌*◌, ◌++◌, ◌≤◌, ◌<◌, length, map, take, drop, sum, replicate, true, get_or};
-ghost use Rattle.encodings.specs.Bytes.{integer_of};
+ghost use Rattle.bit_packing.specs.Bytes.{integer_of};
 ghost use Rattle.std.specs.Simd.{first_chunks};
 ghost use Rattle.meaning.specs.Limits.{row_group_rows};
 ghost use Rattle.meaning.specs.declared.value.ColType.TheVariants as of_type;
@@ -8,7 +8,8 @@ ghost use Rattle.meaning.specs.declared.value.Value.TheVariants.{Int, Text};
 ghost use Rattle.encodings.specs.Block.{are_runs, count_of, run_cells, run_value_bytes};
 ghost use Rattle.encodings.specs.Reading.{codes_in, texts_in, are_texts, repeats};
 
-use crate::reading_parts::{Texts, chunks, count_at, text_at, texts_form};
+use crate::numbers::leading_count;
+use crate::reading_parts::{Texts, chunks, text_at, texts_form};
 
 /// Puts a text into `n` cells from `at` on.
 fn put_texts<'a>(out: &mut [&'a [u8]], at: usize, n: usize, text: &'a [u8])
@@ -245,7 +246,7 @@ fn run_parts(body: &[u8]) -> (&[[u8; 2]], &[u8])
     ensures values { result.1.now ≡ run_value_bytes body.now }
     ensures len { length result.0.now ≡ count_of body.now }
 {
-    let count = count_at(body);
+    let count = leading_count(body);
     (chunks::<2>(&body[4..], count), &body[4 + 2 * count..])
 }
 

@@ -4,11 +4,12 @@ ghost use Rattle.meaning.specs.Order.{value_in};
 ghost use Rattle.meaning.specs.declared.value.Value.{Value};
 ghost use Rattle.meaning.specs.declared.value.Value.TheVariants.{Null};
 ghost use Rattle.encodings.specs.Block.{are_runs, run_cells, run_value_bytes, count_of, repeated};
-ghost use Rattle.encodings.specs.Bytes.{shorts};
+ghost use Rattle.bit_packing.specs.Bytes.{shorts};
 ghost use Rattle.encodings.specs.Lent.{runs_of};
 
-use crate::numbers::{leading_count, short_at};
+use crate::numbers::leading_count;
 use crate::values::value_at;
+use bit_packing::numbers::short_at;
 use meaning::value::{ColType, ValueRef};
 use std::marker::Model;
 
@@ -23,7 +24,7 @@ pub struct RunsView<'a> {
 
 impl<'a> Model for RunsView<'a> {
     ghost use Rattle.encodings.specs.Block.{values_form};
-    ghost use Rattle.encodings.specs.Bytes.{shorts};
+    ghost use Rattle.bit_packing.specs.Bytes.{shorts};
     ghost use Rattle.encodings.specs.Lent.{RunsSpec, IsRunsOf};
 
     ghost Value = { RunsSpec };

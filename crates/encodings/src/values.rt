@@ -6,13 +6,14 @@ ghost use Rattle.std.specs.Str.{IsCharBoundary};
 ghost use Rattle.std.specs.Ordering.{is_lt};
 ghost use Rattle.meaning.specs.Limits.{row_group_rows, max_text_bytes};
 ghost use Rattle.meaning.specs.Order.{value_cmp, is_ascending, value_in};
-ghost use Rattle.meaning.specs.Order.{rank as value_rank};
 ghost use Rattle.meaning.specs.declared.value.Value.TheVariants.{Null};
 ghost use Rattle.columns.specs.Column.{is_text};
 ghost use Rattle.encodings.specs.Block.{values_form, is_values_form, are_ends, ends_of, joined_of, is_blank};
-ghost use Rattle.encodings.specs.Bytes.{words, texts_from};
+ghost use Rattle.meaning.specs.Order.{rank as value_rank};
+ghost use Rattle.bit_packing.specs.Bytes.{words};
+ghost use Rattle.encodings.specs.Bytes.{texts_from};
 
-use crate::numbers::{integer_at, word_at};
+use bit_packing::numbers::{integer_at, word_at};
 use meaning::limits::MAX_TEXT_BYTES;
 use meaning::value::{ColType, ValueRef};
 use std::cmp::Ordering;

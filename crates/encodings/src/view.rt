@@ -6,13 +6,14 @@ ghost use Rattle.encodings.specs.Block.{Block, is_block, mask_of, body_of, nulls
 ghost use Rattle.encodings.specs.Lent.{dictionary_in, runs_in, StandsFor, coded_cells, run_cells};
 
 use crate::cells::{are_nulls_blank, cell_at, is_body};
-use crate::checking::{is_mask, mask_length};
+use crate::checking::mask_length;
 use crate::dictionary::{Dictionary, lend_dictionary};
 use crate::kind::Kind;
-use crate::numbers::has_bit;
 use crate::reading::read_rows;
 use crate::runs::{RunsView, lend_runs};
 use crate::vector_buf::VectorBuf;
+use bit_packing::masks::is_mask;
+use bit_packing::numbers::has_bit;
 use meaning::limits::ROW_GROUP_ROWS;
 use meaning::value::{ColType, ValueRef};
 use std::marker::Model;

@@ -2,7 +2,8 @@
 use Rattle.std.proofs.Common.{◌||◌, Bool, false, not, zip, replicate, map, if◌then◌else◌, sym, ap, ◌∙◌}
 use Rattle.std.specs.List.{list_all, range_with_len}
 use Rattle.meaning.specs.declared.value.Value.{Value}
-use Rattle.encodings.specs.Block.{bit_at, body_cells, is_blank}
+use Rattle.bit_packing.specs.Bits.{bit_at}
+use Rattle.encodings.specs.Block.{body_cells, is_blank}
 use Rattle.encodings.proofs.Nulls.{none_masked}
 use Rattle.encodings.proofs.cells.are_nulls_blank.Goals as goal
 

@@ -1,7 +1,7 @@
 -- Loop invariants of `are_codes` (`checking`).
 use Rattle.std.proofs.Common.{◌≡◌, take, nat_lt}
 use Rattle.std.specs.List.{list_all}
-use Rattle.encodings.specs.Bytes.{shorts}
+use Rattle.bit_packing.specs.Bytes.{shorts}
 use Rattle.encodings.proofs.checking.are_codes.Given as goal
 
 abbrev pub invariant-loop-i : goal.invariant-loop-i

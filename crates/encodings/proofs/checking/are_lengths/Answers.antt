@@ -3,9 +3,9 @@ use Rattle.std.proofs.Common.{◌≡◌, ◌+◌, ◌&&◌, ◌==◌, get_or, dr
 use Rattle.std.proofs.lemmas.Bool.Decides.{nat_tests}
 use Rattle.std.proofs.lemmas.List.{at_drop_all}
 use Rattle.std.proofs.lemmas.List.Sums.{sum_by-drop_more}
-use Rattle.encodings.specs.Bytes.{shorts}
-use Rattle.encodings.proofs.Chunks.{get_or-shorts, length-shorts}
-use Rattle.encodings.proofs.Steps.{all_keeps, all_stops, all_ends}
+use Rattle.bit_packing.specs.Bytes.{shorts}
+use Rattle.bit_packing.proofs.Chunks.{get_or-shorts, length-shorts}
+use Rattle.bit_packing.proofs.Steps.{all_keeps, all_stops, all_ends}
 use Rattle.encodings.proofs.checking.are_lengths.Goals as goal
 
 pub returns-then-run-eq0 : goal.returns-then-run-eq0

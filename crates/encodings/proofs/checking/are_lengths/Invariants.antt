@@ -1,7 +1,7 @@
 -- Loop invariants of `are_lengths` (`checking`).
 use Rattle.std.proofs.Common.{◌≡◌, ◌+◌, ◌*◌, ◌≤◌, drop, nat_le, sum}
 use Rattle.std.specs.List.{list_all}
-use Rattle.encodings.specs.Bytes.{shorts}
+use Rattle.bit_packing.specs.Bytes.{shorts}
 use Rattle.encodings.proofs.checking.are_lengths.Given as goal
 
 abbrev pub invariant-loop-i : goal.invariant-loop-i

@@ -1,7 +1,8 @@
 -- Proofs of the goals of `frame_size` (`choosing`).
 use Rattle.std.proofs.Common.{◌≡◌, rules, ◌∙◌, ◌-ℤ◌, unsigned_abs, w64, to_z, of_z, FitsSigned}
 use Rattle.std.proofs.lemmas.Int.{to_z-of_z}
-use Rattle.encodings.specs.Written.{IsWidth, least_in, greatest_in}
+use Rattle.bit_packing.specs.Widths.{IsWidth}
+use Rattle.encodings.specs.Written.{least_in, greatest_in}
 use Rattle.encodings.proofs.EncodedFrames.{frame_size, same_width}
 use Rattle.encodings.proofs.choosing.frame_size.Goals as goal
 

@@ -5,7 +5,7 @@ use Rattle.meaning.specs.declared.value.ColType.TheVariants as of_type
 use Rattle.meaning.specs.declared.value.Value.TheVariants.{Null, Int}
 use Rattle.encodings.specs.Homes.{value_home}
 use Rattle.encodings.proofs.Marks.{row_before, set_drop}
-use Rattle.encodings.proofs.ReadLists.{stored}
+use Rattle.bit_packing.proofs.Ranges.{stored}
 use Rattle.encodings.proofs.different.size_of_different_ints.Goals as goal
 
 pub returns-then-is_settled-clause-least : goal.returns-then-is_settled-clause-least

@@ -3,8 +3,9 @@ use Rattle.std.proofs.Common.{◌≡◌, ◌^◌, ◌*◌, rules, length, ℤ, �
 use Rattle.std.specs.Prelude.{nat_lt}
 use Rattle.std.specs.List.{list_all}
 use Rattle.std.proofs.lemmas.Int.{to_z-of_z}
-use Rattle.encodings.specs.Packing.{ArePacked, packed}
-use Rattle.encodings.specs.Written.{IsWidth, least_in, greatest_in, integer_bytes}
+use Rattle.bit_packing.specs.Packing.{ArePacked, packed}
+use Rattle.bit_packing.specs.Widths.{IsWidth}
+use Rattle.encodings.specs.Written.{least_in, greatest_in, integer_bytes}
 use Rattle.encodings.proofs.EncodedFrames.{puts_frame, offsets_fit, same_width}
 use Rattle.encodings.proofs.encoding_frame.put_frame.Goals as goal
 

@@ -1,11 +1,12 @@
 -- Proofs of the goals of `frame_cell` (`frame`).
-use Rattle.std.proofs.Common.{◌≡◌, ℤ, pos, ◌+ℤ◌, ◌-◌, length, take, drop, sym, ap, ◌∙◌, subst, rules}
+use Rattle.std.proofs.Common.{◌≡◌, ℤ, pos, ◌+ℤ◌, sym, ap, ◌∙◌, subst, rules}
 use Rattle.std.specs.Int.{w64, w128}
 use Rattle.std.specs.Int.RustNames.{FitsSigned}
 use mir.Val.{to_z, of_z}
 use Rattle.std.proofs.lemmas.Int.{to_z-of_z}
 use Rattle.std.proofs.lemmas.List.{take_rest}
-use Rattle.encodings.specs.Block.{offset_at, base_of, width_of, packed_of}
+use Rattle.bit_packing.specs.Offsets.{offset_at}
+use Rattle.encodings.specs.Block.{base_of, width_of, packed_of}
 use Rattle.encodings.proofs.Frames.{frame_value, frame_fits, fits_64, wide_sum}
 use Rattle.encodings.proofs.frame.frame_cell.Goals as goal
 
@@ -16,7 +17,7 @@ overflow_cast-result c =
     let wide : FitsSigned w128 c.from.result = search rules in
     let wider : FitsSigned w128 c.from-2.result = search rules in
     let base : c.from.result ≡ base_of body = c.from.ensures ∙ to_z-of_z w64 c.integer_at.result fits ∙ c.integer_at.ensures in
-    let offset : c.offset_at-offset.result ≡ offset_at (width_of body) (packed_of body) c.args.row = c.offset_at-offset.ensures ∙ ap (λ k. offset_at k (take (length body - 9) (drop 9 body)) c.args.row) c.from-width.ensures ∙ ap (λ k. offset_at (width_of body) k c.args.row) (take_rest body 9) in
+    let offset : c.near_offset-offset.result ≡ offset_at (width_of body) (packed_of body) c.args.row = c.near_offset-offset.ensures ∙ ap (λ k. offset_at (width_of body) k c.args.row) (take_rest body 9) in
     let sum : c.from.result +ℤ c.from-2.result ≡ base_of body +ℤ pos (offset_at (width_of body) (packed_of body) c.args.row) = ap (λ k. k +ℤ c.from-2.result) base ∙ ap (λ k. base_of body +ℤ k) (c.from-2.ensures ∙ ap pos offset) in
     let known = frame_fits c.args.rows c.args.row body c.requires.form c.requires.within in
     let total = wide_sum c.from.result c.from-2.result (base_of body +ℤ pos (offset_at (width_of body) (packed_of body) c.args.row)) wide wider sum known in
@@ -29,7 +30,7 @@ returns c =
     let wide : FitsSigned w128 c.from.result = search rules in
     let wider : FitsSigned w128 c.from-2.result = search rules in
     let base : c.from.result ≡ base_of body = c.from.ensures ∙ to_z-of_z w64 c.integer_at.result fits ∙ c.integer_at.ensures in
-    let offset : c.offset_at-offset.result ≡ offset_at (width_of body) (packed_of body) c.args.row = c.offset_at-offset.ensures ∙ ap (λ k. offset_at k (take (length body - 9) (drop 9 body)) c.args.row) c.from-width.ensures ∙ ap (λ k. offset_at (width_of body) k c.args.row) (take_rest body 9) in
+    let offset : c.near_offset-offset.result ≡ offset_at (width_of body) (packed_of body) c.args.row = c.near_offset-offset.ensures ∙ ap (λ k. offset_at (width_of body) k c.args.row) (take_rest body 9) in
     let sum : c.from.result +ℤ c.from-2.result ≡ base_of body +ℤ pos (offset_at (width_of body) (packed_of body) c.args.row) = ap (λ k. k +ℤ c.from-2.result) base ∙ ap (λ k. base_of body +ℤ k) (c.from-2.ensures ∙ ap pos offset) in
     let known = frame_fits c.args.rows c.args.row body c.requires.form c.requires.within in
     let total = wide_sum c.from.result c.from-2.result (base_of body +ℤ pos (offset_at (width_of body) (packed_of body) c.args.row)) wide wider sum known in

@@ -3,7 +3,7 @@ use Rattle.std.proofs.Common.{◌≡◌, ◌-◌, ◌/◌, true, false, nat_le, 
 use Rattle.std.specs.Int.{w32, from_le_bytes}
 use Rattle.std.proofs.lemmas.Bool.Decides.{nat_tests}
 use Rattle.std.proofs.lemmas.List.{take_rest}
-use Rattle.encodings.specs.Bytes.{number_of}
+use Rattle.bit_packing.specs.Bytes.{number_of}
 use Rattle.encodings.specs.Homes.{eight_at, mixed}
 use Rattle.encodings.proofs.homes.word_of.Goals as goal
 

@@ -5,11 +5,12 @@ use Rattle.std.specs.Int.{w16, from_le_bytes}
 use Rattle.std.proofs.lemmas.List.{at_drop_all}
 use Rattle.std.proofs.lemmas.List.Sums.{sum_by-drop_more}
 use Rattle.meaning.specs.declared.value.Value.TheVariants.{Null}
-use Rattle.encodings.specs.Block.{bit_at, count_of, is_blank, repeated, values_form, run_lengths, run_values, run_value_bytes}
-use Rattle.encodings.proofs.Chunks.{get_or-shorts, length-shorts}
+use Rattle.bit_packing.specs.Bits.{bit_at}
+use Rattle.encodings.specs.Block.{count_of, is_blank, repeated, values_form, run_lengths, run_values, run_value_bytes}
+use Rattle.bit_packing.proofs.Chunks.{get_or-shorts, length-shorts}
 use Rattle.encodings.proofs.Ends.{length-values_form}
 use Rattle.encodings.proofs.NullRuns.{is_unmasked_or_blank, null_run_step}
-use Rattle.encodings.proofs.Steps.{and_true, and_false}
+use Rattle.bit_packing.proofs.Steps.{and_true, and_false}
 use Rattle.encodings.proofs.null_runs.are_null_runs_blank.Goals as goal
 
 pub is_run_blank_if_null-requires-clause-covered : goal.is_run_blank_if_null-requires-clause-covered

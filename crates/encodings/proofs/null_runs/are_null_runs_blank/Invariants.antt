@@ -1,7 +1,8 @@
 -- Loop invariants of `are_null_runs_blank` (`null_runs`).
 use Rattle.std.proofs.Common.{◌≡◌, ◌+◌, ◌-◌, drop, map, zip, sum}
 use Rattle.std.specs.List.{list_all, range_with_len}
-use Rattle.encodings.specs.Block.{bit_at, repeated, run_cells, run_lengths, run_values}
+use Rattle.bit_packing.specs.Bits.{bit_at}
+use Rattle.encodings.specs.Block.{repeated, run_cells, run_lengths, run_values}
 use Rattle.encodings.proofs.NullRuns.{is_unmasked_or_blank}
 use Rattle.encodings.proofs.null_runs.are_null_runs_blank.Given as goal
 

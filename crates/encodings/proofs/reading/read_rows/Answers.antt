@@ -4,7 +4,8 @@ use Rattle.std.specs.Prelude.{if◌then◌else◌}
 use Rattle.std.specs.List.{range_with_len}
 use Rattle.std.specs.Vec.{with_items}
 use Rattle.std.proofs.lemmas.List.{with_items_is, length-map}
-use Rattle.encodings.specs.Block.{Block, bit_at, body_cells, body_of, cells_of, mask_of, nulls_of}
+use Rattle.bit_packing.specs.Bits.{bit_at}
+use Rattle.encodings.specs.Block.{Block, body_cells, body_of, cells_of, mask_of, nulls_of}
 use Rattle.encodings.specs.Vector.{AreCells, AreRoom, cells_in, vector_of}
 use Rattle.encodings.proofs.ReadVectors.{cells_ready, room_kept, nulls_read, vector_read}
 use Rattle.encodings.proofs.reading.read_rows.Goals as goal
@@ -29,8 +30,8 @@ invariant_of-out c =
     let hn : n ≡ min f.nulls.len (c.args.rows - c.args.from)
     = c.min-count.ensures ∙ ap (λ (j : ℕ). min j c.saturating_sub.result) c.len.ensures ∙ ap (min f.nulls.len) c.saturating_sub.ensures in
     let hk : k ≡ min c.args.from c.args.rows = c.min-start.ensures in
-    let mask : c.split_at.result.0.now ≡ mask_of b = c.split_at.ensures.front ∙ ap (λ (j : ℕ). take j c.args.payload.now) c.mask_len.ensures in
-    let body : c.split_at.result.1.now ≡ body_of b = c.split_at.ensures.back ∙ ap (λ (j : ℕ). drop j c.args.payload.now) c.mask_len.ensures in
+    let mask : c.split_at.result.0.now ≡ mask_of b = c.split_at.ensures.front ∙ ap (λ (j : ℕ). take j c.args.payload.now) c.mask_length.ensures in
+    let body : c.split_at.result.1.now ≡ body_of b = c.split_at.ensures.back ∙ ap (λ (j : ℕ). drop j c.args.payload.now) c.mask_length.ensures in
     let e : take n nulls ≡ take n (drop k (nulls_of b))
     = c.read_nulls.ensures
     ∙ ap (λ ms. if c.args.nullable then map (bit_at ms) (range_with_len k n) else replicate n false) mask
@@ -72,8 +73,8 @@ returns c =
     let hn : n ≡ min f.nulls.len (c.args.rows - c.args.from)
     = c.min-count.ensures ∙ ap (λ (j : ℕ). min j c.saturating_sub.result) c.len.ensures ∙ ap (min f.nulls.len) c.saturating_sub.ensures in
     let hk : k ≡ min c.args.from c.args.rows = c.min-start.ensures in
-    let mask : c.split_at.result.0.now ≡ mask_of b = c.split_at.ensures.front ∙ ap (λ (j : ℕ). take j c.args.payload.now) c.mask_len.ensures in
-    let body : c.split_at.result.1.now ≡ body_of b = c.split_at.ensures.back ∙ ap (λ (j : ℕ). drop j c.args.payload.now) c.mask_len.ensures in
+    let mask : c.split_at.result.0.now ≡ mask_of b = c.split_at.ensures.front ∙ ap (λ (j : ℕ). take j c.args.payload.now) c.mask_length.ensures in
+    let body : c.split_at.result.1.now ≡ body_of b = c.split_at.ensures.back ∙ ap (λ (j : ℕ). drop j c.args.payload.now) c.mask_length.ensures in
     let e : take n nulls ≡ take n (drop k (nulls_of b))
     = c.read_nulls.ensures
     ∙ ap (λ ms. if c.args.nullable then map (bit_at ms) (range_with_len k n) else replicate n false) mask

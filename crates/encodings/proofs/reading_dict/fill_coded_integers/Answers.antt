@@ -4,9 +4,10 @@ use Rattle.std.proofs.lemmas.List.{length-map, length-drop, get_or-drop, get_or-
 use borrow.Author.Tests.{ltb-true}
 use Rattle.std.specs.Prelude.{nat_lt}
 use Rattle.std.specs.Int.{from_le_bytes, w16}
-use Rattle.encodings.specs.Bytes.{integer_of}
+use Rattle.bit_packing.specs.Bytes.{integer_of}
 use Rattle.encodings.specs.Reading.{codes_in}
-use Rattle.encodings.proofs.ReadLists.{stored, step-list, all-at}
+use Rattle.bit_packing.proofs.Ranges.{stored, all-at}
+use Rattle.encodings.proofs.ReadLists.{step-list}
 use Rattle.encodings.proofs.reading_dict.fill_coded_integers.Goals as goal
 
 pub loop-i-preserved : goal.loop-i-preserved

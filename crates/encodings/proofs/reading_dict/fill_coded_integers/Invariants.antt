@@ -1,7 +1,7 @@
 -- Loop invariants of `fill_coded_integers` (`reading_dict`).
 use Rattle.std.proofs.Common.{◌≡◌, take, drop, map, get_or, pos}
 use Rattle.encodings.specs.Reading.{codes_in}
-use Rattle.encodings.specs.Bytes.{integer_of}
+use Rattle.bit_packing.specs.Bytes.{integer_of}
 use Rattle.encodings.proofs.reading_dict.fill_coded_integers.Given as goal
 
 abbrev pub invariant-loop-i : goal.invariant-loop-i

@@ -6,7 +6,7 @@ use Rattle.std.specs.Simd.{first_chunks}
 use Rattle.std.proofs.lemmas.List.{length-map}
 use Rattle.meaning.specs.declared.value.ColType.TheVariants as of_type
 use Rattle.meaning.specs.declared.value.Value.TheVariants.{Int}
-use Rattle.encodings.specs.Bytes.{integer_of, integers}
+use Rattle.bit_packing.specs.Bytes.{integer_of, integers}
 use Rattle.encodings.specs.Block.{codes_of, count_of, entry_bytes}
 use Rattle.encodings.specs.Reading.{codes_in}
 use Rattle.encodings.proofs.ReadBodies.{codes_valid, entries_read}
@@ -27,7 +27,7 @@ returns c =
     let ints : List ℤ = integers count bytes in
     let l : length ints ≡ count = length-map (first_chunks 8 count bytes) integer_of ∙ length-first_chunks 8 count bytes in
     let e : c.chunks.result.now ≡ first_chunks 8 count bytes
-    = c.chunks.ensures.value ∙ ap (λ (k : ℕ). first_chunks 8 k c.dictionary_parts.result.0.now) c.count_at.ensures
+    = c.chunks.ensures.value ∙ ap (λ (k : ℕ). first_chunks 8 k c.dictionary_parts.result.0.now) c.leading_count.ensures
     ∙ ap (first_chunks 8 count) c.dictionary_parts.ensures.entries in
     ap (map Int) (c.fill_coded_integers.ensures
     ∙ ap (λ cells. take n (drop from (map (λ code. get_or (map integer_of cells) code (pos 0)) (codes_in c.dictionary_parts.result.1.now)))) e

@@ -32,10 +32,10 @@ returns c =
     ∙ length-map (first_chunks 4 count bytes) (from_le_bytes w32) ∙ length-first_chunks 4 count bytes in
     let form = c.texts_form.result in
     let e : form.ends.now ≡ first_chunks 4 count bytes
-    = c.texts_form.ensures.ends ∙ ap (λ (k : ℕ). first_chunks 4 k c.dictionary_parts.result.0.now) c.count_at.ensures
+    = c.texts_form.ensures.ends ∙ ap (λ (k : ℕ). first_chunks 4 k c.dictionary_parts.result.0.now) c.leading_count.ensures
     ∙ ap (first_chunks 4 count) c.dictionary_parts.ensures.entries in
     let j : form.joined.now ≡ joined_of count bytes
-    = c.texts_form.ensures.joined ∙ ap (λ (k : ℕ). drop (4 * k) c.dictionary_parts.result.0.now) c.count_at.ensures
+    = c.texts_form.ensures.joined ∙ ap (λ (k : ℕ). drop (4 * k) c.dictionary_parts.result.0.now) c.leading_count.ensures
     ∙ ap (drop (4 * count)) c.dictionary_parts.ensures.entries in
     ap (map Text) (c.fill_coded_texts.ensures
     ∙ ap (λ ends. take n (drop from (map (λ code. get_or (texts_in ends form.joined.now) code []) (codes_in c.dictionary_parts.result.1.now)))) e

@@ -4,9 +4,9 @@ use Rattle.std.specs.List.{list_all}
 use Rattle.std.proofs.lemmas.List.{take_rest}
 use Rattle.meaning.specs.Operators.{fits_i64}
 use Rattle.encodings.specs.Block.{base_of, frame_integers, packed_of, width_of}
-use Rattle.encodings.specs.Reading.{raised_offsets}
+use Rattle.bit_packing.specs.Offsets.{raised_offsets}
 use Rattle.encodings.proofs.ReadBodies.{frame_fits, all-part, frame_read}
-use Rattle.encodings.proofs.ReadLists.{stored}
+use Rattle.bit_packing.proofs.Ranges.{stored}
 use Rattle.encodings.proofs.reading_frame.read_frame.Goals as goal
 
 pub fill_raised-requires-clause-fits : goal.fill_raised-requires-clause-fits

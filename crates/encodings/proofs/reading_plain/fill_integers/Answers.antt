@@ -1,8 +1,9 @@
 -- Proofs of the goals of `fill_integers` (`reading_plain`).
 use Rattle.std.proofs.Common.{◌≡◌, ℕ, ◌+◌, ◌<◌, List, [], length, drop, map, sym, ◌∙◌, arith, ℤ, pos}
 use Rattle.std.proofs.lemmas.List.{length-map, length-drop, get_or-drop, get_or-map}
-use Rattle.encodings.specs.Bytes.{integer_of}
-use Rattle.encodings.proofs.ReadLists.{stored, step-list}
+use Rattle.bit_packing.specs.Bytes.{integer_of}
+use Rattle.bit_packing.proofs.Ranges.{stored}
+use Rattle.encodings.proofs.ReadLists.{step-list}
 use Rattle.encodings.proofs.reading_plain.fill_integers.Goals as goal
 
 pub loop-i-preserved : goal.loop-i-preserved

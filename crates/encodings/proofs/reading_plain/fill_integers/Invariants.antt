@@ -1,6 +1,6 @@
 -- Loop invariants of `fill_integers` (`reading_plain`).
 use Rattle.std.proofs.Common.{◌≡◌, take, drop, map}
-use Rattle.encodings.specs.Bytes.{integer_of}
+use Rattle.bit_packing.specs.Bytes.{integer_of}
 use Rattle.encodings.proofs.reading_plain.fill_integers.Given as goal
 
 abbrev pub invariant-loop-i : goal.invariant-loop-i

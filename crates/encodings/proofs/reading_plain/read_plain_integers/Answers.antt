@@ -1,7 +1,7 @@
 -- Proofs of the goals of `read_plain_integers` (`reading_plain`).
 use Rattle.std.proofs.Common.{ℕ, length, take, drop, map, ap, ◌∙◌}
 use Rattle.meaning.specs.declared.value.Value.TheVariants.{Int}
-use Rattle.encodings.specs.Bytes.{integer_of}
+use Rattle.bit_packing.specs.Bytes.{integer_of}
 use Rattle.encodings.proofs.ReadBodies.{part-map}
 use Rattle.encodings.proofs.reading_plain.read_plain_integers.Goals as goal
 

@@ -2,9 +2,10 @@
 use Rattle.std.proofs.Common.{◌≡◌, ℕ, ◌+◌, ◌<◌, ◌≤◌, List, [], length, take, map, get_or, sym, ◌∙◌, arith, ℤ, pos, w64, to_z, of_z}
 use Rattle.std.specs.Int.{from_le_bytes, w16}
 use Rattle.std.proofs.lemmas.List.{length-map, get_or-map}
-use Rattle.encodings.specs.Bytes.{integer_of}
+use Rattle.bit_packing.specs.Bytes.{integer_of}
 use Rattle.encodings.specs.Reading.{codes_in, repeats}
-use Rattle.encodings.proofs.ReadLists.{stored, lined_filled}
+use Rattle.bit_packing.proofs.Ranges.{stored}
+use Rattle.encodings.proofs.ReadLists.{lined_filled}
 use Rattle.encodings.proofs.reading_runs.fill_front.Goals as goal
 
 pub loop-run-preserved : goal.loop-run-preserved

@@ -2,9 +2,9 @@
 use Rattle.std.proofs.Common.{◌≡◌, ℕ, ◌+◌, ◌-◌, ◌<◌, ◌≤◌, List, [], length, take, drop, map, sum, get_or, replicate, sym, ap, ◌∙◌, arith, ℤ, pos, w64, to_z, of_z}
 use Rattle.std.specs.Int.{from_le_bytes, w16}
 use Rattle.std.proofs.lemmas.List.{length-map, get_or-map}
-use Rattle.encodings.specs.Bytes.{integer_of}
+use Rattle.bit_packing.specs.Bytes.{integer_of}
 use Rattle.encodings.specs.Reading.{codes_in, repeats}
-use Rattle.encodings.proofs.ReadLists.{stored}
+use Rattle.bit_packing.proofs.Ranges.{stored}
 use Rattle.encodings.proofs.PassedRuns.{map-behind, sum_around, first_and_rest}
 use Rattle.encodings.proofs.reading_runs.fill_integer_runs.Goals as goal
 

@@ -1,6 +1,6 @@
 -- Loop invariants of `fill_rest` (`reading_runs`).
 use Rattle.std.proofs.Common.{◌≤◌, length, take, map}
-use Rattle.encodings.specs.Bytes.{integer_of}
+use Rattle.bit_packing.specs.Bytes.{integer_of}
 use Rattle.encodings.specs.Reading.{codes_in, repeats}
 use Rattle.encodings.proofs.ReadLists.{AreLined}
 use Rattle.encodings.proofs.reading_runs.fill_rest.Given as goal

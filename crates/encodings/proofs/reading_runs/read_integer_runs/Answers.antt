@@ -2,7 +2,7 @@
 use Rattle.std.proofs.Common.{◌≡◌, ℕ, length, take, drop, map, ap, ◌∙◌}
 use Rattle.std.specs.Simd.{first_chunks}
 use Rattle.meaning.specs.declared.value.Value.TheVariants.{Int}
-use Rattle.encodings.specs.Bytes.{integer_of, integers}
+use Rattle.bit_packing.specs.Bytes.{integer_of, integers}
 use Rattle.encodings.specs.Block.{count_of, run_lengths, run_value_bytes}
 use Rattle.encodings.specs.Reading.{codes_in, repeats}
 use Rattle.encodings.proofs.ReadBodies.{runs_read}

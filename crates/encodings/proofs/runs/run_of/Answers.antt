@@ -4,9 +4,9 @@ use Rattle.std.proofs.lemmas.List.{at_drop_all}
 use Rattle.std.proofs.lemmas.List.Sums.{sum_by-drop_more}
 use Rattle.meaning.specs.declared.value.Value.TheVariants.{Null}
 use Rattle.encodings.specs.Block.{repeated}
-use Rattle.encodings.specs.Bytes.{shorts}
+use Rattle.bit_packing.specs.Bytes.{shorts}
 use Rattle.encodings.proofs.RowCells.{in_run, past_run}
-use Rattle.encodings.proofs.Chunks.{get_or-shorts, length-shorts}
+use Rattle.bit_packing.proofs.Chunks.{get_or-shorts, length-shorts}
 use Rattle.encodings.proofs.runs.run_of.Goals as goal
 
 pub returns-then-rest-run-clause-place : goal.returns-then-rest-run-clause-place

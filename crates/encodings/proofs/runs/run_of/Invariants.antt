@@ -3,7 +3,7 @@ use Rattle.std.proofs.Common.{◌≡◌, ◌<◌, length, drop, get_or, zip, sum
 use Rattle.meaning.specs.declared.value.Value.{Value}
 use Rattle.meaning.specs.declared.value.Value.TheVariants.{Null}
 use Rattle.encodings.specs.Block.{repeated}
-use Rattle.encodings.specs.Bytes.{shorts}
+use Rattle.bit_packing.specs.Bytes.{shorts}
 use Rattle.encodings.proofs.runs.run_of.Given as goal
 
 abbrev pub invariant-loop-i : goal.invariant-loop-i

@@ -2,7 +2,7 @@
 use Rattle.std.proofs.Common.{◌≡◌, true, false, nat_le, arith}
 use Rattle.std.proofs.lemmas.Bool.Decides.{nat_tests}
 use Rattle.encodings.proofs.Ends.{ends_step, ends_end}
-use Rattle.encodings.proofs.Steps.{and_true, and_false}
+use Rattle.bit_packing.proofs.Steps.{and_true, and_false}
 use Rattle.encodings.proofs.values.are_ends.Goals as goal
 
 pub returns-then-end-start : goal.returns-then-end-start

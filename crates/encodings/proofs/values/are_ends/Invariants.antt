@@ -1,7 +1,7 @@
 -- Loop invariants of `are_ends` (`values`).
 use Rattle.std.proofs.Common.{◌≡◌, drop}
 use Rattle.encodings.specs.Block.{are_ends}
-use Rattle.encodings.specs.Bytes.{words}
+use Rattle.bit_packing.specs.Bytes.{words}
 use Rattle.encodings.proofs.values.are_ends.Given as goal
 
 abbrev pub invariant-loop-i : goal.invariant-loop-i

@@ -3,9 +3,9 @@ use Rattle.std.proofs.Common.{◌+◌, length, drop, refl, sym, ◌∙◌}
 use Rattle.std.specs.Str.{IsUtf8}
 use Rattle.std.proofs.lemmas.Bool.{false≢true}
 use Rattle.std.proofs.lemmas.Str.{IsCharBoundary-start}
-use Rattle.encodings.specs.Bytes.{words}
+use Rattle.bit_packing.specs.Bytes.{words}
 use Rattle.encodings.proofs.Ends.{ends_within, texts_step, texts_end}
-use Rattle.encodings.proofs.Steps.{and_true}
+use Rattle.bit_packing.proofs.Steps.{and_true}
 use Rattle.encodings.proofs.TextCuts.{utf8_behind, cut_if_texts, text_if_cut, false_unless, utf8_if_ok, not_utf8_if_err}
 use Rattle.encodings.proofs.values.are_texts.Goals as goal
 

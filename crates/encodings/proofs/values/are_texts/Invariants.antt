@@ -4,7 +4,8 @@ use Rattle.std.specs.List.{list_all}
 use Rattle.std.specs.Str.{IsCharBoundary}
 use Rattle.columns.specs.Column.{is_text}
 use Rattle.encodings.specs.Block.{are_ends}
-use Rattle.encodings.specs.Bytes.{words, texts_from}
+use Rattle.bit_packing.specs.Bytes.{words}
+use Rattle.encodings.specs.Bytes.{texts_from}
 use Rattle.encodings.proofs.values.are_texts.Given as goal
 
 abbrev pub invariant-loop-i : goal.invariant-loop-i

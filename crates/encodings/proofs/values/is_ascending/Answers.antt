@@ -7,7 +7,7 @@ use Rattle.meaning.specs.Order.{value_cmp}
 use Rattle.encodings.specs.Block.{values_form}
 use Rattle.encodings.proofs.Ascending.{ascending_step, ascending_end}
 use Rattle.encodings.proofs.Ends.{length-values_form}
-use Rattle.encodings.proofs.Steps.{and_true, and_false}
+use Rattle.bit_packing.proofs.Steps.{and_true, and_false}
 use Rattle.encodings.proofs.values.is_ascending.Goals as goal
 
 same_test : {x y x' y' : Value} → x ≡ x' → y ≡ y' → is_lt (value_cmp x' y') ≡ is_lt (value_cmp x y)

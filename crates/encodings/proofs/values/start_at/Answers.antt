@@ -1,7 +1,7 @@
 -- Proofs of the goals of `start_at` (`values`).
 use Rattle.std.proofs.Common.{◌-◌, sym, ◌∙◌, arith}
-use Rattle.encodings.specs.Bytes.{words}
-use Rattle.encodings.proofs.Chunks.{get_or-words}
+use Rattle.bit_packing.specs.Bytes.{words}
+use Rattle.bit_packing.proofs.Chunks.{get_or-words}
 use Rattle.encodings.proofs.Ends.{behind_first}
 use Rattle.encodings.proofs.values.start_at.Goals as goal
 

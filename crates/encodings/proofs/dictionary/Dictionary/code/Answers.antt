@@ -1,9 +1,9 @@
 -- Proofs of the goals of `Dictionary::code` (`dictionary`).
 use Rattle.std.proofs.Common.{◌≡◌, ◌<◌, ◌≤◌, ◌/◌, length, get_or, nat_lt, true, sym, ap, ◌∙◌, arith}
 use Rattle.std.proofs.lemmas.Bool.Decides.{nat_tests}
-use Rattle.encodings.specs.Bytes.{shorts}
+use Rattle.bit_packing.specs.Bytes.{shorts}
 use Rattle.encodings.specs.Lent.{DictionarySpec}
-use Rattle.encodings.proofs.Chunks.{get_or-shorts, length-shorts}
+use Rattle.bit_packing.proofs.Chunks.{get_or-shorts, length-shorts}
 use Rattle.encodings.proofs.Ends.{length-values_form}
 use Rattle.encodings.proofs.RowCells.{all_at}
 use Rattle.encodings.proofs.dictionary.Dictionary.code.Goals as goal

@@ -1,7 +1,7 @@
 -- Proofs of the goals of `RunsView::len` (`runs`).
 use Rattle.std.proofs.Common.{length, sym, ap, ◌∙◌}
 use Rattle.encodings.specs.Lent.{RunsSpec}
-use Rattle.encodings.proofs.Chunks.{length-shorts}
+use Rattle.bit_packing.proofs.Chunks.{length-shorts}
 use Rattle.encodings.proofs.Ends.{length-values_form}
 use Rattle.encodings.proofs.runs.RunsView.len.Goals as goal
 

@@ -1,7 +1,7 @@
 -- Proofs of the goals of `RunsView::length` (`runs`).
 use Rattle.std.proofs.Common.{◌≡◌, ◌<◌, ◌≤◌, ◌/◌, length, get_or, sym, ap, ◌∙◌, arith}
 use Rattle.encodings.specs.Lent.{RunsSpec}
-use Rattle.encodings.proofs.Chunks.{get_or-shorts, length-shorts}
+use Rattle.bit_packing.proofs.Chunks.{get_or-shorts, length-shorts}
 use Rattle.encodings.proofs.runs.RunsView.length.Goals as goal
 
 pub short_at-requires : goal.short_at-requires

@@ -5,7 +5,7 @@ use Rattle.meaning.specs.declared.value.ColType.{ColType}
 use Rattle.meaning.specs.declared.value.ColType.TheVariants as of_type
 use Rattle.meaning.specs.declared.value.Value.TheVariants.{Null, Int, Text}
 use Rattle.encodings.specs.Vector.{AreCells, Vector, vector_of}
-use Rattle.encodings.proofs.ReadLists.{stored}
+use Rattle.bit_packing.proofs.Ranges.{stored}
 use Rattle.encodings.proofs.ReadVectors.{int-at, null-at, text-at, text_room}
 use denote.Bor.{Bor}
 use Rattle.encodings.proofs.vector_buf.VectorBuf.get.Goals as goal

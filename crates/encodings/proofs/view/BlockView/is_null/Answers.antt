@@ -1,6 +1,7 @@
 -- Proofs of the goals of `BlockView::is_null` (`view`).
 use Rattle.std.proofs.Common.{ap, ◌∙◌, rules}
-use Rattle.encodings.specs.Block.{bit_at, mask_of}
+use Rattle.bit_packing.specs.Bits.{bit_at}
+use Rattle.encodings.specs.Block.{mask_of}
 use Rattle.encodings.proofs.Blocks.{null_is}
 use Rattle.encodings.proofs.view.BlockView.is_null.Goals as goal
 

@@ -1,9 +1,0 @@
--- Loop invariants of `are_bits_clear` (`null_runs`).
-use Rattle.std.proofs.Common.{◌≡◌, ◌-◌, not}
-use Rattle.std.specs.List.{list_all, range_with_len}
-use Rattle.encodings.specs.Block.{bit_at}
-use Rattle.encodings.proofs.null_runs.are_bits_clear.Given as goal
-
-abbrev pub invariant-loop-i : goal.invariant-loop-i
-invariant-loop-i l =
-    list_all (λ j. not (bit_at l.mask j)) (range_with_len l.i (l.end - l.i)) ≡ list_all (λ j. not (bit_at l.mask j)) (range_with_len l.start (l.end - l.start))

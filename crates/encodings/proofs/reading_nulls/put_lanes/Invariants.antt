@@ -1,6 +1,0 @@
--- Loop invariants of `put_lanes` (`reading_nulls`).
-use Rattle.std.proofs.Common.{◌≡◌, ◌+◌, ◌++◌, take}
-use Rattle.encodings.proofs.reading_nulls.put_lanes.Given as goal
-
-abbrev pub invariant-loop-lane : goal.invariant-loop-lane
-invariant-loop-lane l = take (l.at + l.lane) l.out ≡ take l.at l.initial.out ++ take l.lane l.lanes

@@ -1,4 +1,4 @@
--- Frames: the flags that one pass over the offsets gathers, and the integers that the offsets give.
+-- Which offsets lead from a base to an integer of 64 bits.
 use Rattle.std.proofs.Common.{◌≡◌, ℕ, ◌<◌, ◌≤◌, ℤ, pos, negsuc, ◌+ℤ◌, ◌≤ℤ◌, true, nat_le, ⊎_elim, sym, ◌∙◌, arith}
 use Rattle.std.proofs.lemmas.Bool.Decides.{same_from_decides, Decides-ltb, leb_tells}
 use Rattle.std.proofs.lemmas.Bool.{false≢true}

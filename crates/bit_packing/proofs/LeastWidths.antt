@@ -1,4 +1,4 @@
--- A base and offsets are a frame of the integers.
+-- The least width that holds a number.
 use Rattle.std.proofs.Common.{◌≡◌, ℕ, ◌+◌, ◌-◌, ◌*◌, ◌^◌, ◌<◌, ◌≤◌, Bool, true, false, refl, sym, ap, subst, ◌∙◌, suc, zero, arith, lit<, Some, zero-add}
 use Rattle.std.specs.Prelude.{nat_lt, unwrap_or}
 use Rattle.std.specs.List.{range_with_len, find}
@@ -7,8 +7,6 @@ use Rattle.std.proofs.lemmas.Bool.{lt-ltb, le-ltb}
 use Rattle.std.proofs.lemmas.Nat.{leading_length, pow-add}
 use Rattle.std.proofs.Math.Nat.{pow-le-pow_right}
 use Rattle.bit_packing.specs.Widths.{IsWidth}
-
--- ---- the width
 
 find_first : (p : ℕ → Bool) (a k m : ℕ) → m < k → p (a + m) ≡ true → ((j : ℕ) → j < m → p (a + j) ≡ false) → find p (range_with_len a k) ≡ Some (a + m)
 find_first p a zero m l t f = absurd (omega arith)

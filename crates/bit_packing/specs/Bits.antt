@@ -2,8 +2,6 @@
 use Rattle.std.specs.Prelude.{ℕ, ◌+◌, ◌-◌, ◌*◌, ◌/◌, ◌%◌, ◌^◌, ◌==◌, Bool, not, List, length, get_or}
 use Rattle.std.specs.List.{list_all, range_with_len}
 
--- ---- the mask
-
 -- how many bytes hold a number of bits
 abbrev pub bytes_of_bits : ℕ → ℕ
 bytes_of_bits bits = (bits + 7) / 8

@@ -5,8 +5,7 @@ ghost use Rattle.std.specs.Ordering.{int_eq};
 ghost use Rattle.std.specs.Int.Signed.{le_z};
 ghost use Rattle.meaning.specs.Limits.{row_group_rows};
 ghost use Rattle.meaning.specs.Operators.{fits_i64};
-ghost use Rattle.bit_packing.specs.Offsets.{offset_at};
-ghost use Rattle.bit_packing.specs.Offsets.{lifted};
+ghost use Rattle.bit_packing.specs.Offsets.{offset_at, lifted};
 
 use crate::groups::raised;
 use crate::raising::fill_raised;

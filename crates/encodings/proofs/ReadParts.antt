@@ -1,4 +1,4 @@
--- Where texts stand that are joined, and bits of a mask.
+-- Where texts stand that are joined.
 use Rattle.std.proofs.Common.{◌≡◌, ℕ, zero, suc, ◌-◌, ◌<◌, ◌≤◌, List, [], ◌∷◌, length, take, drop, get_or, refl, ap, arith, true}
 use borrow.Author.Tests.{leb-true, eqb-true}
 use Rattle.encodings.specs.Bytes.{texts_from}

@@ -30,6 +30,8 @@ pub record Block : Type 0 where
   pub rows : ℕ
   pub payload : List ℕ
 
+-- ---- the mask
+
 abbrev pub mask_length : Bool → ℕ → ℕ
 mask_length nullable rows = if nullable then bytes_of_bits rows else 0
 

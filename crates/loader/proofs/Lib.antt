@@ -1,7 +1,9 @@
 -- The lemmas of this crate.
+pub mod CountedRecords
 pub mod CsvRecords
 pub mod Declared
 pub mod DimensionSteps
+pub mod EndedRecords
 pub mod FactSteps
 pub mod Fields
 pub mod Fragments
@@ -11,6 +13,7 @@ pub mod Integers
 pub mod Judging
 pub mod KeySets
 pub mod KeyedRows
+pub mod Marks
 pub mod RowRuns
 pub mod Steps
 pub mod Tables

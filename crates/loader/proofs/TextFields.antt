@@ -1,11 +1,11 @@
 -- Records of texts alone, and orders of columns that name no other.
-use Rattle.std.proofs.Common.{◌≡◌, ◌<◌, ℕ, zero, suc, Bool, true, false, not, cond, nat_lt, List, [], ◌∷◌, length, drop, get_or, Some, None, Ok, Err, refl, sym, ap, ◌∙◌, arith, position, unwrap_or}
+use Rattle.std.proofs.Common.{◌≡◌, ◌<◌, ℕ, zero, suc, Bool, true, false, not, cond, nat_lt, List, [], ◌∷◌, length, drop, take, ◌+◌, add-one, subst, get_or, Some, None, Ok, Err, refl, sym, ap, ◌∙◌, arith, position, unwrap_or}
 use Rattle.std.specs.Prelude.{Result, slice_get, if◌then◌else◌, OnOk, IfOk}
 use Rattle.std.specs.List.{list_all, position_or_len}
 use Rattle.std.specs.Str.{IsAscii, is_utf8}
 use Rattle.std.proofs.lemmas.Bool.{and_parts, eqb-true, lt-ltb, ltb-true}
 use Rattle.std.proofs.lemmas.List.{length-map}
-use Rattle.std.proofs.lemmas.Str.{IsUtf8-from_ascii, IsUtf8-from_is_utf8, IsAscii-take, IsAscii-drop}
+use Rattle.std.proofs.lemmas.Str.{IsUtf8-from_ascii, IsUtf8-from_is_utf8, is_utf8-from_IsUtf8, IsAscii-take, IsAscii-drop}
 use Rattle.csv.specs.Records.{AllText, cut_from}
 use Rattle.std.proofs.lemmas.List.Sums.{AllPass-from_list_all}
 use Rattle.meaning.specs.declared.catalog.Column.{Column}
@@ -114,3 +114,21 @@ text_of_type of_type.Text nullable t e = (and_parts _ _ e).0
 pub column_text : (c : ColumnSpec) (i : ℕ) (t : List ℕ) → IsColumn c → i < length c.values → get_or c.values i Null ≡ Text t → is_utf8 t ≡ true
 column_text c i t all within e =
     text_of_type c.col_type c.nullable t (ap (is_of c.col_type c.nullable) (sym e) ∙ AllPass-from_list_all (is_of c.col_type c.nullable) c.values all i Null within)
+
+-- one text more
+text_more_suc : (fields : Record) (i : ℕ) (field : List ℕ) → AllText (take i fields) → slice_get fields i ≡ Some field → is_utf8 field ≡ true → AllText (take (suc i) fields)
+unfolding AllText
+text_more_suc [] i field front there text = cc there
+text_more_suc (f ∷ fields) zero field front there text = let same : field ≡ f = cc there in (IsUtf8-from_is_utf8 f (ap is_utf8 (sym same) ∙ text), tt)
+text_more_suc (f ∷ fields) (suc i) field front there text = (front.0, text_more_suc fields i field front.1 there text)
+
+-- the empty field is text
+pub blank_text : is_utf8 [] ≡ true
+blank_text = is_utf8-from_IsUtf8 [] (IsUtf8-from_ascii [] (λ i. omega arith))
+
+pub no_text : AllText []
+unfolding AllText
+no_text = tt
+
+pub text_more : (fields : Record) (i : ℕ) (field : List ℕ) → AllText (take i fields) → slice_get fields i ≡ Some field → is_utf8 field ≡ true → AllText (take (i + 1) fields)
+text_more fields i field front there text = subst (λ k. AllText (take k fields)) (sym (add-one i)) (text_more_suc fields i field front there text)

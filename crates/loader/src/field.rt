@@ -79,24 +79,35 @@ fn short_value(kind: ColType, text: &[u8]) -> Option<i64>
     }
 }
 
-#[cold]
-#[inline(never)]
-fn integer_of(text: &str) -> Option<i64>
+fn integer_in(text: &str) -> Option<i64>
     ensures { result ≡ declared.integer_of text.now }
 {
     text.parse::<i64>().ok()
 }
 
+#[cold]
+#[inline(never)]
+fn integer_of(field: &[u8]) -> Option<i64>
+    requires { is_utf8 field.now ≡ true }
+    ensures { result ≡ declared.integer_of field.now }
+{
+    let Some(text) = text_of(field) else {
+        unreachable!()
+    };
+    integer_in(text)
+}
+
 #[inline(always)]
-fn present_value(kind: ColType, row: u64, column: u64, text: &str) -> Result<Parsed, TableFault>
-    ensures { ReadsField text.now result (declared.present_value kind row column text.now) }
+fn present_value(kind: ColType, row: u64, column: u64, field: &[u8]) -> Result<Parsed, TableFault>
+    requires { is_utf8 field.now ≡ true }
+    ensures { ReadsField field.now result (declared.present_value kind row column field.now) }
 {
     match kind {
-        ColType::Int => match integer_of(text) {
+        ColType::Int => match integer_of(field) {
             Some(number) => Ok(Parsed::Int(number)),
             None => Err(TableFault::NotAnInteger { row, column }),
         },
-        ColType::Text if text.len() > MAX_TEXT_BYTES => {
+        ColType::Text if field.len() > MAX_TEXT_BYTES => {
             Err(TableFault::TextTooLong { row, column })
         }
         ColType::Text => Ok(Parsed::Text),
@@ -104,8 +115,8 @@ fn present_value(kind: ColType, row: u64, column: u64, text: &str) -> Result<Par
 }
 
 #[inline(always)]
-fn not_null_value(kind: ColType, row: u64, column: u64, text: &str) -> Result<Parsed, TableFault>
-    ensures { ReadsField text.now result (declared.not_null_value kind row column text.now) }
+fn not_null_value(kind: ColType, row: u64, column: u64, field: &[u8]) -> Result<Parsed, TableFault>
+    ensures { ReadsField field.now result (declared.not_null_value kind row column field.now) }
 {
     match kind {
         ColType::Int => Err(TableFault::NullNotAllowed { row, column }),
@@ -116,20 +127,20 @@ fn not_null_value(kind: ColType, row: u64, column: u64, text: &str) -> Result<Pa
 /// What a field that is UTF-8 stands for in a column. Rows and columns count from 0, a column by its
 /// place in the catalogue.
 #[inline(always)]
-pub fn judge_text(row: u64, place: u64, column: &Column, text: &str) -> Result<Parsed, TableFault>
-    requires { is_utf8 text.now ≡ true }
-    ensures { ReadsField text.now result (declared.field_value row place column.now text.now) }
+pub fn judge_text(row: u64, place: u64, column: &Column, field: &[u8]) -> Result<Parsed, TableFault>
+    requires { is_utf8 field.now ≡ true }
+    ensures { ReadsField field.now result (declared.field_value row place column.now field.now) }
 {
-    if let Some(number) = short_value(column.col_type, text.as_bytes()) {
+    if let Some(number) = short_value(column.col_type, field) {
         return Ok(Parsed::Int(number));
     }
-    if !spells_null(text.as_bytes()) {
-        return present_value(column.col_type, row, place, text);
+    if !spells_null(field) {
+        return present_value(column.col_type, row, place, field);
     }
     if column.nullable {
         return Ok(Parsed::Null);
     }
-    not_null_value(column.col_type, row, place, text)
+    not_null_value(column.col_type, row, place, field)
 }
 
 /// The same of a field that may be no text.
@@ -141,8 +152,8 @@ pub fn judge_field(
 ) -> Result<Parsed, TableFault>
     ensures { ReadsField field.now result (declared.field_value row place column.now field.now) }
 {
-    let Some(text) = text_of(field) else {
+    if text_of(field).is_none() {
         return Err(TableFault::NotUtf8 { row, column: place });
-    };
-    judge_text(row, place, column, text)
+    }
+    judge_text(row, place, column, field)
 }

@@ -8,7 +8,7 @@ ghost use Rattle.loader.specs.Fault.{fault_told};
 ghost use Rattle.loader.specs.Steps.{field_places, has_each, is_in_order, order_of};
 
 use crate::fault::LoadFault;
-use csv::{ByteRecord, StringRecord};
+use csv::ByteRecord;
 use meaning::catalog::Column;
 use meaning::table::TableFault;
 use std::alloc::{AllocError, Global};
@@ -34,14 +34,9 @@ fn names(field: &[u8], column: &Column) -> bool
     field.eq_ignore_ascii_case(column.name.as_bytes())
 }
 
+/// The field at a place.
 pub fn field_at(row: &ByteRecord, i: usize) -> Option<&[u8]>
     ensures { option_map (λ field. field.now) result ≡ slice_get (fields_of row.now) i }
-{
-    row.get(i)
-}
-
-pub fn text_at(row: &StringRecord, i: usize) -> Option<&str>
-    ensures { option_map (λ text. text.now) result ≡ slice_get (fields_of row.now) i }
 {
     row.get(i)
 }

@@ -9,10 +9,10 @@ ghost use Rattle.loader.specs.Steps.{TakesField, TakesRow};
 
 use crate::fault::LoadFault;
 use crate::field::judge_text;
-use crate::header::text_at;
+use crate::header::field_at;
 use crate::rows::push_field;
 use columns::Column;
-use csv::StringRecord;
+use csv::ByteRecord;
 use meaning::catalog::Column as Declared;
 
 /// Judges a field, and puts its value behind the last of its column.
@@ -21,22 +21,22 @@ fn take_field(
     declared: &Declared,
     row: u64,
     place: u64,
-    text: &str,
+    field: &[u8],
     column: &mut Column,
 ) -> Result<(), LoadFault>
-    requires text { is_utf8 text.now ≡ true }
+    requires text { is_utf8 field.now ≡ true }
     requires declared { (column.old.col_type ≡ declared.now.col_type) × (column.old.nullable ≡ declared.now.nullable) }
-    ensures { TakesField (records.field_value row place declared.now text.now) column.old column.new result }
+    ensures { TakesField (records.field_value row place declared.now field.now) column.old column.new result }
 {
-    let parsed = judge_text(row, place, declared, text)?;
-    push_field(column, parsed, text)
+    let parsed = judge_text(row, place, declared, field)?;
+    push_field(column, parsed, field)
 }
 
 /// Judges the fields of a record one after the other, and puts its row behind the last rows.
 pub fn take_fields(
     declared: &[Declared],
     row: u64,
-    fields: &StringRecord,
+    fields: &ByteRecord,
     columns: &mut [Column],
 ) -> Result<(), LoadFault>
     requires declared { AreDeclared declared.now columns.old }
@@ -45,10 +45,10 @@ pub fn take_fields(
     ensures { TakesRow (records.row_of declared.now (range_with_len 0 (length declared.now)) row (fields_of fields.now)) columns.old columns.new result }
 {
     for i in 0..columns.len() {
-        let Some(text) = text_at(fields, i) else {
+        let Some(field) = field_at(fields, i) else {
             unreachable!()
         };
-        take_field(&declared[i], row, i as u64, text, &mut columns[i])?;
+        take_field(&declared[i], row, i as u64, field, &mut columns[i])?;
     }
     Ok(())
 }

@@ -2,6 +2,8 @@
 #![tactic(auto)]
 
 mod ahead;
+mod blocks;
+mod counted;
 mod counting;
 mod dimension;
 mod fact;
@@ -10,6 +12,7 @@ mod field;
 mod header;
 mod in_order;
 mod keys;
+mod place;
 mod record;
 mod rows;
 mod source;

@@ -9,8 +9,8 @@ ghost use Rattle.loader.specs.Steps.{ReadsField, values_of};
 
 use crate::fault::LoadFault;
 use crate::field::{Parsed, judge_field, judge_text};
-use crate::header::{field_at, text_at};
-use csv::{ByteRecord, StringRecord};
+use crate::header::field_at;
+use csv::ByteRecord;
 use meaning::catalog::Column;
 use meaning::table::TableFault;
 
@@ -27,13 +27,13 @@ fn judge_text_at(
     row: u64,
     place: usize,
     columns: &[Column],
-    text: &str,
+    field: &[u8],
 ) -> Result<Parsed, TableFault>
-    requires { is_utf8 text.now ≡ true }
-    ensures { ReadsField text.now result (declared.value_at row place (slice_get columns.now place) text.now) }
+    requires { is_utf8 field.now ≡ true }
+    ensures { ReadsField field.now result (declared.value_at row place (slice_get columns.now place) field.now) }
 {
     match columns.get(place) {
-        Some(column) => judge_text(row, place as u64, column, text),
+        Some(column) => judge_text(row, place as u64, column, field),
         None => Ok(Parsed::Null),
     }
 }
@@ -44,7 +44,7 @@ pub fn judge_texts(
     columns: &[Column],
     order: &[usize],
     row: u64,
-    fields: &StringRecord,
+    fields: &ByteRecord,
     parsed: &mut Vec<Parsed>,
 ) -> Result<(), LoadFault>
     requires { AllText (fields_of fields.now) }
@@ -52,10 +52,10 @@ pub fn judge_texts(
 {
     parsed.clear();
     for (i, place) in order.iter().enumerate() {
-        let Some(text) = text_at(fields, i) else {
+        let Some(field) = field_at(fields, i) else {
             break;
         };
-        parsed.push(judge_text_at(row, *place, columns, text)?)?;
+        parsed.push(judge_text_at(row, *place, columns, field)?)?;
     }
     Ok(())
 }

@@ -1,6 +1,7 @@
 //! Rows behind the last rows of columns.
 ghost use Rattle.std.specs.Prelude.{◌≡◌, ◌≢◌, length, slice_index_or, Some, None, true, OnOk, IfErr};
-ghost use Rattle.csv.specs.Records.{fields_of};
+ghost use Rattle.std.specs.Str.{is_utf8};
+ghost use Rattle.csv.specs.Records.{AllText, fields_of};
 ghost use Rattle.meaning.specs.declared.value.Value.TheVariants.{Null};
 ghost use Rattle.meaning.specs.Records as declared;
 ghost use Rattle.columns.specs.Column.{with_value, refusal};
@@ -12,30 +13,32 @@ ghost use Rattle.loader.specs.Steps.{value_of, values_of};
 
 use crate::fault::LoadFault;
 use crate::field::Parsed;
-use crate::header::{FileOrder, text_at};
+use crate::header::{FileOrder, field_at};
 use columns::{Column, ColumnFault};
-use csv::StringRecord;
+use csv::ByteRecord;
 
 #[inline(always)]
-fn push_parsed(column: &mut Column, parsed: Parsed, text: &str) -> Result<(), ColumnFault>
-    ensures ok { OnOk result (column.new ≡ with_value column.old (value_of (parsed, text.now))) }
-    ensures told { IfErr result (λ f. f ≢ refused.Memory → refusal column.old.col_type column.old.nullable (value_of (parsed, text.now)) ≡ Some f) }
+fn push_parsed(column: &mut Column, parsed: Parsed, field: &[u8]) -> Result<(), ColumnFault>
+    requires { is_utf8 field.now ≡ true }
+    ensures ok { OnOk result (column.new ≡ with_value column.old (value_of (parsed, field.now))) }
+    ensures told { IfErr result (λ f. f ≢ refused.Memory → refusal column.old.col_type column.old.nullable (value_of (parsed, field.now)) ≡ Some f) }
 {
     match parsed {
         Parsed::Null => column.push_null(),
         Parsed::Int(number) => column.push_int(number),
-        Parsed::Text => column.push_text(text),
+        Parsed::Text => column.push_utf8(field),
     }
 }
 
 /// What a judged field stands for, behind the last value of its column.
 #[inline(always)]
-pub fn push_field(column: &mut Column, parsed: Parsed, text: &str) -> Result<(), LoadFault>
-    requires { refusal column.old.col_type column.old.nullable (value_of (parsed, text.now)) ≡ None }
-    ensures ok { OnOk result (column.new ≡ with_value column.old (value_of (parsed, text.now))) }
+pub fn push_field(column: &mut Column, parsed: Parsed, field: &[u8]) -> Result<(), LoadFault>
+    requires text { is_utf8 field.now ≡ true }
+    requires taken { refusal column.old.col_type column.old.nullable (value_of (parsed, field.now)) ≡ None }
+    ensures ok { OnOk result (column.new ≡ with_value column.old (value_of (parsed, field.now))) }
     ensures memory { IfErr result (λ f. f ≡ Memory) }
 {
-    match push_parsed(column, parsed, text) {
+    match push_parsed(column, parsed, field) {
         Ok(()) => Ok(()),
         Err(ColumnFault::Memory) => Err(LoadFault::Memory),
         Err(_) => unreachable!(),
@@ -43,16 +46,18 @@ pub fn push_field(column: &mut Column, parsed: Parsed, text: &str) -> Result<(),
 }
 
 /// What the field at a place stands for, and the field; NULL where there is none.
-fn judged_at<'a>(place: usize, parsed: &[Parsed], fields: &'a StringRecord) -> (Parsed, &'a str)
-    ensures { value_of (result.0, result.1.now) ≡ slice_index_or (values_of parsed.now (fields_of fields.now)) place Null }
+fn judged_at<'a>(place: usize, parsed: &[Parsed], fields: &'a ByteRecord) -> (Parsed, &'a [u8])
+    requires { AllText (fields_of fields.now) }
+    ensures text { is_utf8 result.1.now ≡ true }
+    ensures value { value_of (result.0, result.1.now) ≡ slice_index_or (values_of parsed.now (fields_of fields.now)) place Null }
 {
     let Some(judged) = parsed.get(place) else {
-        return (Parsed::Null, "");
+        return (Parsed::Null, b"".as_slice());
     };
-    let Some(text) = text_at(fields, place) else {
-        return (Parsed::Null, "");
+    let Some(field) = field_at(fields, place) else {
+        return (Parsed::Null, b"".as_slice());
     };
-    (*judged, text)
+    (*judged, field)
 }
 
 /// The row of a record whose fields were judged, behind the last rows.
@@ -60,16 +65,17 @@ pub fn push_row(
     columns: &mut [Column],
     order: &FileOrder,
     parsed: &[Parsed],
-    fields: &StringRecord,
+    fields: &ByteRecord,
 ) -> Result<(), LoadFault>
+    requires texts { AllText (fields_of fields.now) }
     requires columns { length columns.old ≡ length order.now.fields.items }
     requires taken { take_row columns.old (declared.catalog_row order.now.columns.items (values_of parsed.now (fields_of fields.now))) ≡ true }
     ensures ok { OnOk result (columns.new ≡ with_row columns.old (declared.catalog_row order.now.columns.items (values_of parsed.now (fields_of fields.now)))) }
     ensures refused { IfErr result IsOutside }
 {
     for i in 0..columns.len() {
-        let (judged, text) = judged_at(order.fields[i], parsed, fields);
-        push_field(&mut columns[i], judged, text)?;
+        let (judged, field) = judged_at(order.fields[i], parsed, fields);
+        push_field(&mut columns[i], judged, field)?;
     }
     Ok(())
 }

@@ -15,14 +15,14 @@ ghost use Rattle.loader.specs.Steps.{Opens, IsFaultOf, IsOrderOf, TakesAll, Take
 
 use crate::fault::LoadFault;
 use crate::field::{Parsed, text_of};
-use crate::header::{FileOrder, order_of};
+use crate::header::{FileOrder, field_at, order_of};
 use crate::in_order::take_fields;
 use crate::keys::Keys;
 use crate::record::{judge_fields, judge_texts};
 use crate::rows::push_row;
 use crate::source::{csv_reader, next_record};
 use columns::Column;
-use csv::{ByteRecord, Reader, StringRecord};
+use csv::{ByteRecord, Reader};
 use meaning::catalog::Column as Declared;
 use meaning::sequence::Sequence;
 use meaning::table::TableFault;
@@ -30,7 +30,7 @@ use meaning::text::Text;
 use meaning::value::{Value, ValueRef};
 use std::alloc::{AllocError, Global};
 use std::io::Read;
-use std::mem::{self, drop};
+use std::mem::drop;
 
 /// The most rows that a column has room for at its beginning.
 const MOST_ROOM: usize = 262_144;
@@ -95,7 +95,7 @@ pub fn load_record(
     declared: &[Declared],
     order: &FileOrder,
     row: u64,
-    fields: &StringRecord,
+    fields: &ByteRecord,
     parsed: &mut Vec<Parsed>,
     columns: &mut [Column],
 ) -> Result<(), LoadFault>
@@ -121,6 +121,20 @@ fn is_ascii(fields: &ByteRecord) -> bool
     fields.as_slice().is_ascii()
 }
 
+fn is_each_text(fields: &ByteRecord) -> bool
+    ensures { result ≡ true → AllText (fields_of fields.now) }
+{
+    for i in 0..fields.len() {
+        let Some(field) = field_at(fields, i) else {
+            unreachable!()
+        };
+        if text_of(field).is_none() {
+            return false;
+        }
+    }
+    true
+}
+
 /// Refuses a record of which some field is no text, by its first fault. Most records are of ASCII
 /// alone, so that their fields need no look one by one.
 fn check_texts(
@@ -134,7 +148,7 @@ fn check_texts(
     ensures texts { OnOk result (AllText (fields_of fields.now)) }
     ensures refused { IfErr result (IsFaultOf (records.row_of declared.now order.now.columns.items row (fields_of fields.now))) }
 {
-    if is_ascii(fields) {
+    if is_ascii(fields) || is_each_text(fields) {
         return Ok(());
     }
     if fields.len() != declared.len() {
@@ -203,8 +217,7 @@ pub fn open_rows<R: Read + Drop>(
 }
 
 impl<R: Read> Rows<'_, R> {
-    /// Puts the row of the record that was read behind the last rows. The record's buffers come back
-    /// unless it is refused.
+    /// Puts the row of the record that was read behind the last rows.
     fn take_record(&mut self, row: u64, columns: &mut [Column]) -> Result<(), LoadFault>
         requires { AreDeclared self.old.declared.now columns.old }
         ensures declared { self.new.declared.now ≡ self.old.declared.now }
@@ -221,14 +234,14 @@ impl<R: Read> Rows<'_, R> {
             &self.fields,
             &mut self.parsed,
         )?;
-        let fields = mem::replace(&mut self.fields, ByteRecord::new(self.alloc));
-        let Ok(texts) = StringRecord::from_byte_record(fields) else {
-            unreachable!()
-        };
-        let (declared, order, parsed) = (self.declared, &self.order, &mut self.parsed);
-        let taken = load_record(declared, order, row, &texts, parsed, columns);
-        self.fields = texts.into_byte_record();
-        taken
+        load_record(
+            self.declared,
+            &self.order,
+            row,
+            &self.fields,
+            &mut self.parsed,
+            columns,
+        )
     }
 
     /// Puts the next record's row behind the last rows, if there is a next record.

@@ -1,23 +1,17 @@
 -- Proofs of the goals of `count_records` (`counting`).
-use Rattle.std.proofs.Common.{◌≡◌, suc, refl, ap, arith, length}
-use Rattle.csv.specs.Records.{fields_of}
-use Rattle.loader.proofs.Steps.{none_taken, one_taken}
+use Rattle.std.proofs.Common.{ℕ, length, subst, sym}
+use Rattle.csv.specs.Reading.{strip_bom}
+use Rattle.loader.specs.Counting.{GoesOn}
+use Rattle.loader.specs.Source.{csv_records}
+use Rattle.loader.proofs.CountedRecords.{all_counted}
 use Rattle.loader.proofs.counting.count_records.Goals as goal
 
-pub returns-then-not-branch-clause-counted : goal.returns-then-not-branch-clause-counted
-returns-then-not-branch-clause-counted g c rest left =
-    let (later, on, counted) = c.loop-count.invariant rest left in
-    let none : length later ≡ 0 = ap length (none_taken g.R.Read.remaining c.next_record.new.reader later (fields_of c.next_record.new.row) c.in_ok-next_record.field-0 c.if-not-branch.true (c.in_ok-next_record.ensures.taken later on)) in
-    omega (arith, counted, none)
-
-pub loop-count-preserved : goal.loop-count-preserved
-loop-count-preserved g c rest left =
-    let (later, on, counted) = c.loop-count.invariant rest left in
-    let (others, first, go_on) = one_taken g.R.Read.remaining c.next_record.new.reader later (fields_of c.next_record.new.row) c.in_ok-next_record.field-0 c.if-not-branch.false (c.in_ok-next_record.ensures.taken later on) in
-    let more : length later ≡ suc (length others) = ap length first in
-    (others, go_on, omega (arith, counted, more))
+pub returns-clause-counted : goal.returns-clause-counted
+returns-clause-counted g c bytes known =
+    let goes = subst (λ (n : ℕ). GoesOn g.R.Read.remaining c.count_front.new.reader n c.in_ok-counted.counted) (sym (all_counted (strip_bom bytes))) (c.in_ok-counted.ensures.counted bytes known) in
+    c.count_from.ensures.counted (length (csv_records bytes)) goes
 
 pub returns-clause-refused : goal.returns-clause-refused
-returns-clause-refused g c rest left =
-    let (later, on, counted) = c.loop-count.invariant rest left in
-    (refl, omega (arith, counted, c.loop-count-test.false))
+returns-clause-refused g c bytes known =
+    let goes = subst (λ (n : ℕ). GoesOn g.R.Read.remaining c.count_front.new.reader n c.in_ok-counted.counted) (sym (all_counted (strip_bom bytes))) (c.in_ok-counted.ensures.counted bytes known) in
+    c.count_from.ensures.refused (length (csv_records bytes)) goes

@@ -12,7 +12,7 @@ use Rattle.loader.proofs.InOrder.{all_fields, field_fails, next_field}
 use Rattle.loader.proofs.in_order.take_fields.Goals as goal
 
 pub take_field-requires-clause-text : goal.take_field-requires-clause-text
-take_field-requires-clause-text c = text_there (fields_of c.args.fields.now) c.loop-i.i c.in-Some.text.now c.requires.texts (sym c.in-Some.ensures)
+take_field-requires-clause-text c = text_there (fields_of c.args.fields.now) c.loop-i.i c.in-Some.field.now c.requires.texts (sym c.in-Some.ensures)
 
 pub take_field-requires-clause-declared : goal.take_field-requires-clause-declared
 take_field-requires-clause-declared c =
@@ -33,7 +33,7 @@ returns-in_err-take_field c =
     let many = declared_length c.args.declared.now c.args.columns.now c.requires.declared in
     let there : slice_get c.args.declared.now i ≡ Some d = slice_get-get_or c.args.declared.now i d (omega (arith, many)) ∙ ap Some (cc) in
     rw (p.1, p.2)
-    (field_fails c.args.declared.now c.args.row (fields_of c.args.fields.now) c.args.columns.now i d c.in-Some.text.now c.loop-i.columns c.index-columns-i.result c.take_field.new.column c.in_err-take_field.field-0.0
+    (field_fails c.args.declared.now c.args.row (fields_of c.args.fields.now) c.args.columns.now i d c.in-Some.field.now c.loop-i.columns c.index-columns-i.result c.take_field.new.column c.in_err-take_field.field-0.0
     c.requires.fields (omega (arith, many)) (sym c.in-Some.ensures) there c.in_err-take_field.ensures c.loop-i.invariant (slice_set c.loop-i.columns i c.take_field.new.column))
 
 pub loop-i-preserved : goal.loop-i-preserved
@@ -41,7 +41,7 @@ loop-i-preserved c =
     let d = c.index-declared-i.result in
     let many = declared_length c.args.declared.now c.args.columns.now c.requires.declared in
     let there : slice_get c.args.declared.now c.loop-i.i ≡ Some d = slice_get-get_or c.args.declared.now c.loop-i.i d (omega (arith, many)) ∙ ap Some (cc) in
-    next_field c.args.declared.now c.args.row (fields_of c.args.fields.now) c.args.columns.now c.loop-i.i d c.in-Some.text.now c.loop-i.columns c.index-columns-i.result c.take_field.new.column
+    next_field c.args.declared.now c.args.row (fields_of c.args.fields.now) c.args.columns.now c.loop-i.i d c.in-Some.field.now c.loop-i.columns c.index-columns-i.result c.take_field.new.column
     many c.loop-i-test.true (sym c.in-Some.ensures) there c.in_ok-take_field.ensures c.loop-i.invariant
 
 pub returns : goal.returns

@@ -19,9 +19,9 @@ returns-in_err-judge_text_at c =
     let judge : ℕ × List ℕ → Result Value TableFault = λ p. declared.value_at c.args.row p.0 (slice_get c.args.columns.now p.0) p.1 in
     let fields = fields_of c.args.fields.now in
     let i = c.loop-i.i in
-    let here = zipped c.args.order.now fields i (get_or c.args.order.now i 0) c.in-Some.text.now (slice_get-get_or c.args.order.now i 0 c.loop-i-test.true) (sym c.in-Some.ensures) in
+    let here = zipped c.args.order.now fields i (get_or c.args.order.now i 0) c.in-Some.field.now (slice_get-get_or c.args.order.now i 0 c.loop-i-test.true) (sym c.in-Some.ensures) in
     let p = err_from_is_err_and c.from_residual.result c.from_residual.ensures.1 in
-    rw (p.1, p.2) (fails judge (values_of c.loop-i.parsed.items fields) (zip c.args.order.now fields) i (get_or c.args.order.now i 0, c.in-Some.text.now) c.in_err-judge_text_at.field-0.0 (declared.file_values c.args.columns.now c.args.order.now c.args.row fields) here c.in_err-judge_text_at.ensures c.loop-i.invariant.1)
+    rw (p.1, p.2) (fails judge (values_of c.loop-i.parsed.items fields) (zip c.args.order.now fields) i (get_or c.args.order.now i 0, c.in-Some.field.now) c.in_err-judge_text_at.field-0.0 (declared.file_values c.args.columns.now c.args.order.now c.args.row fields) here c.in_err-judge_text_at.ensures c.loop-i.invariant.1)
 
 pub loop-i-preserved : goal.loop-i-preserved
 loop-i-preserved c =
@@ -30,12 +30,12 @@ loop-i-preserved c =
     let i = c.loop-i.i in
     let judged = c.loop-i.parsed.items in
     let parsed = c.in_ok-judge_text_at.field-0 in
-    let there : slice_get fields (length judged) ≡ Some c.in-Some.text.now = ap (slice_get fields) c.loop-i.invariant.0 ∙ sym c.in-Some.ensures in
-    let here = zipped c.args.order.now fields i (get_or c.args.order.now i 0) c.in-Some.text.now (slice_get-get_or c.args.order.now i 0 c.loop-i-test.true) (sym c.in-Some.ensures) in
+    let there : slice_get fields (length judged) ≡ Some c.in-Some.field.now = ap (slice_get fields) c.loop-i.invariant.0 ∙ sym c.in-Some.ensures in
+    let here = zipped c.args.order.now fields i (get_or c.args.order.now i 0) c.in-Some.field.now (slice_get-get_or c.args.order.now i 0 c.loop-i-test.true) (sym c.in-Some.ensures) in
     rw c.in_ok-push.ensures.items (
       omega (arith, length-append judged (parsed ∷ []), c.loop-i.invariant.0),
-      rw (values_more judged fields parsed c.in-Some.text.now there)
-          (goes_on judge (values_of judged fields) (zip c.args.order.now fields) i (get_or c.args.order.now i 0, c.in-Some.text.now) (value_of (parsed, c.in-Some.text.now)) (declared.file_values c.args.columns.now c.args.order.now c.args.row fields) here c.in_ok-judge_text_at.ensures c.loop-i.invariant.1),
+      rw (values_more judged fields parsed c.in-Some.field.now there)
+          (goes_on judge (values_of judged fields) (zip c.args.order.now fields) i (get_or c.args.order.now i 0, c.in-Some.field.now) (value_of (parsed, c.in-Some.field.now)) (declared.file_values c.args.columns.now c.args.order.now c.args.row fields) here c.in_ok-judge_text_at.ensures c.loop-i.invariant.1),
     )
 
 pub returns-after-loop-i : goal.returns-after-loop-i
@@ -54,4 +54,4 @@ returns-in_default c =
     finishes judge (values_of c.loop-i.parsed.items fields) (zip c.args.order.now fields) i (declared.file_values c.args.columns.now c.args.order.now c.args.row fields) (omega (arith, right, none_there fields i (sym c.in_default.ensures))) c.loop-i.invariant.1
 
 pub judge_text_at-requires : goal.judge_text_at-requires
-judge_text_at-requires c = text_there (fields_of c.args.fields.now) c.loop-i.i c.in-Some.text.now c.requires (sym c.in-Some.ensures)
+judge_text_at-requires c = text_there (fields_of c.args.fields.now) c.loop-i.i c.in-Some.field.now c.requires (sym c.in-Some.ensures)

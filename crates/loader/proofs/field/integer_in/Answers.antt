@@ -1,6 +1,6 @@
--- Proofs of the goals of `integer_of` (`field`).
+-- Proofs of the goals of `integer_in` (`field`).
 use Rattle.loader.proofs.Integers.{parsed_integer}
-use Rattle.loader.proofs.field.integer_of.Goals as goal
+use Rattle.loader.proofs.field.integer_in.Goals as goal
 
 pub returns : goal.returns
 returns c = rw c.ok.ensures.value (parsed_integer c.args.text.now c.parse.result c.parse.ensures.value.0)

@@ -1,0 +1,86 @@
+//! The records that end in a block of bytes.
+ghost use Rattle.std.specs.Prelude.{◌≡◌, ◌<◌, ◌^◌, true, false, length};
+ghost use Rattle.std.specs.List.{list_any};
+ghost use Rattle.loader.specs.Counting.{ended_in, is_quote, is_unquoted, state_at, state_behind};
+
+use crate::place::{Place, behind_plain, is_line_end};
+
+/// How many records end in a block, and what the place behind it is.
+#[derive(Clone, Copy)]
+pub struct Ended {
+    pub records: u32,
+    pub place: Place,
+}
+
+/// Whether a quote is among the bytes. All are looked at, so that many are at once.
+fn has_quote(block: &[u8]) -> bool
+    ensures { result ≡ list_any is_quote block.now }
+{
+    let mut found = false;
+    for byte in block {
+        found |= *byte == b'"';
+    }
+    found
+}
+
+/// How many records end in a block without quotes: as many as there are line ends behind another byte.
+fn count_plain(place: Place, block: &[u8]) -> u32
+    requires few { length block.now < 2 ^ 32 }
+    requires plain { list_any is_quote block.now ≡ false }
+    requires unquoted { is_unquoted (state_at place) ≡ true }
+    ensures { result ≡ ended_in (state_at place) block.now }
+{
+    let mut within = place.is_open();
+    let mut records = 0u32;
+    for byte in block {
+        let ends = is_line_end(*byte);
+        records += u32::from(ends & within);
+        within = !ends;
+    }
+    records
+}
+
+/// The place behind a block without quotes.
+fn behind_block(place: Place, block: &[u8]) -> Place
+    requires plain { list_any is_quote block.now ≡ false }
+    requires unquoted { is_unquoted (state_at place) ≡ true }
+    ensures { state_at result ≡ state_behind (state_at place) block.now }
+{
+    match block.last() {
+        Some(byte) => behind_plain(*byte),
+        None => place,
+    }
+}
+
+/// The same of any block, byte by byte.
+fn count_each(place: Place, block: &[u8]) -> Ended
+    requires { length block.now < 2 ^ 32 }
+    ensures records { result.records ≡ ended_in (state_at place) block.now }
+    ensures place { state_at result.place ≡ state_behind (state_at place) block.now }
+{
+    let mut here = place;
+    let mut records = 0u32;
+    for byte in block {
+        records += u32::from(here.ends_record(*byte));
+        here = here.behind(*byte);
+    }
+    Ended {
+        records,
+        place: here,
+    }
+}
+
+/// How many records end in a block that begins at a place.
+pub fn count_block(place: Place, block: &[u8]) -> Ended
+    requires { length block.now < 2 ^ 32 }
+    ensures records { result.records ≡ ended_in (state_at place) block.now }
+    ensures place { state_at result.place ≡ state_behind (state_at place) block.now }
+{
+    if !place.is_unquoted() || has_quote(block) {
+        return count_each(place, block);
+    }
+    Ended {
+        records: count_plain(place, block),
+        place: behind_block(place, block),
+    }
+}

@@ -1,0 +1,60 @@
+//! How many records a text has, as far as it was gone through.
+ghost use Rattle.std.specs.Prelude.{◌≡◌, ◌<◌, ◌^◌, ◌++◌, [], ℕ, List, length, IfOk, IfErr};
+ghost use Rattle.csv.specs.declared.parser.State.TheVariants as st;
+ghost use Rattle.loader.specs.Counting.{counted_with, records_left};
+ghost use Rattle.loader.specs.Fault.{IsOfCounting, IsUncounted};
+
+use crate::blocks::count_block;
+use crate::fault::LoadFault;
+use crate::place::Place;
+use meaning::table::TableFault;
+
+/// How many records ended so far, and what the place behind them is.
+#[derive(Clone, Copy)]
+pub struct Counted {
+    pub records: u64,
+    pub place: Place,
+}
+
+impl Counted {
+    /// The first bytes of a text.
+    pub fn of_front(front: &[u8]) -> Counted
+        requires { length front.now < 2 ^ 32 }
+        ensures { (rest : List ℕ) → counted_with result rest ≡ records_left st.StartRecord (front.now ++ rest) }
+    {
+        let ended = count_block(Place::Between, front);
+        Counted {
+            records: u64::from(ended.records),
+            place: ended.place,
+        }
+    }
+
+    /// With the records that end in a block.
+    pub fn with_block(self, block: &[u8]) -> Result<Counted, LoadFault>
+        requires { length block.now < 2 ^ 32 }
+        ensures counted { IfOk result (λ after. (rest : List ℕ) → counted_with after rest ≡ counted_with self (block.now ++ rest)) }
+        ensures told { IfErr result IsOfCounting }
+        ensures refused { (rest : List ℕ) → IfErr result (IsUncounted (counted_with self (block.now ++ rest))) }
+    {
+        let ended = count_block(self.place, block);
+        match self.records.checked_add(u64::from(ended.records)) {
+            Some(records) => Ok(Counted {
+                records,
+                place: ended.place,
+            }),
+            None => Err(LoadFault::Table(TableFault::TooManyRows)),
+        }
+    }
+
+    /// All records, with the one that the end of the text ends.
+    pub fn at_end(self) -> Result<u64, LoadFault>
+        ensures counted { IfOk result (λ n. n ≡ counted_with self []) }
+        ensures told { IfErr result IsOfCounting }
+        ensures refused { IfErr result (IsUncounted (counted_with self [])) }
+    {
+        match self.records.checked_add(u64::from(self.place.is_open())) {
+            Some(records) => Ok(records),
+            None => Err(LoadFault::Table(TableFault::TooManyRows)),
+        }
+    }
+}

@@ -28,6 +28,13 @@ fn tell_written(told: &mut String, written: &[StoredFile]) -> Result<(), AllocEr
     Ok(())
 }
 
+fn tell_removed(told: &mut String, removed: &[String]) -> Result<(), AllocError> {
+    for path in removed {
+        writeln!(told, "removed {}", path.as_str())?;
+    }
+    Ok(())
+}
+
 // Of a usage fault its first line, since the rest is the words of a library.
 fn put_usage(told: &mut String, text: &str) -> Result<(), AllocError> {
     let shown = if text.starts_with("error") {
@@ -65,14 +72,27 @@ fn run_over(alloc: Global, command: &Command, folder: &mut StoredFolder<'_>) -> 
 fn tell_outcome(
     alloc: Global,
     outcome: &Outcome,
-    written: &[StoredFile],
+    folder: &StoredFolder<'_>,
 ) -> Result<String, AllocError> {
     let mut told = String::new(alloc);
     tell_printed(alloc, &mut told, "out", outcome.out.as_slice())?;
     tell_printed(alloc, &mut told, "err", outcome.err.as_slice())?;
     tell_status(&mut told, outcome.status)?;
-    tell_written(&mut told, written)?;
+    tell_written(&mut told, folder.written.as_slice())?;
+    tell_removed(&mut told, folder.removed.as_slice())?;
     Ok(told)
+}
+
+/// Takes files away from those that stand, and puts those that were written behind them.
+fn change(
+    files: &mut Vec<StoredFile>,
+    removed: Vec<String>,
+    written: Vec<StoredFile>,
+) -> Result<(), AllocError> {
+    for path in removed {
+        files.retain(|file| file.path.as_str() != path.as_str());
+    }
+    put_all(files, written)
 }
 
 fn tell_command(
@@ -84,10 +104,14 @@ fn tell_command(
 {
     let mut folder = StoredFolder::new(alloc, files.as_slice());
     let outcome = run_over(alloc, command, &mut folder);
-    let written = folder.written;
-    let told = tell_outcome(alloc, &outcome, written.as_slice());
+    let told = tell_outcome(alloc, &outcome, &folder);
     drop(outcome);
-    match put_all(files, written) {
+    let StoredFolder {
+        removed,
+        written,
+        ..
+    } = folder;
+    match change(files, removed, written) {
         Ok(()) => told,
         Err(error) => {
             drop(told);

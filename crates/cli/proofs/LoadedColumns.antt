@@ -1,30 +1,27 @@
 -- Columns of loaded tables are such as files are written of.
-use Rattle.std.proofs.Common.{◌≡◌, ◌≤◌, ◌<◌, ℕ, ◌+◌, Bool, true, false, List, [], ◌∷◌, length, map, take, drop, Ok, Err, refl, sym, subst, arith}
-use Rattle.std.specs.Prelude.{Result, Option, None, Some, nat_lt, nat_le, sum, if◌then◌else◌}
+use Rattle.std.proofs.Common.{◌≡◌, ◌≤◌, ◌<◌, ℕ, ◌+◌, Bool, true, false, List, [], ◌∷◌, length, map, take, Ok, Err, refl, sym, subst, arith}
+use Rattle.std.specs.Prelude.{Result, Option, Some, nat_lt, nat_le, sum, if◌then◌else◌}
 use Rattle.std.specs.List.{enumerate_from}
 use Rattle.std.proofs.lemmas.Bool.{ltb-false, leb-false}
-use Rattle.std.proofs.lemmas.List.{length-map, length-take-le, length-drop}
+use Rattle.std.proofs.lemmas.List.{length-map}
 use Rattle.std.proofs.lemmas.List.Sums.{sum_by-cons}
 use Rattle.meaning.specs.Limits.{max_rows}
 use Rattle.meaning.specs.declared.catalog.Column.{Column}
-use Rattle.meaning.specs.declared.catalog.Table.{Table}
-use Rattle.meaning.specs.declared.catalog.Catalog.{Catalog}
 use Rattle.meaning.specs.declared.catalog.Dimension.{Dimension}
 use Rattle.meaning.specs.declared.table.TableFault.{TableFault}
 use Rattle.meaning.specs.declared.table.TableFault.TheVariants as fault
 use Rattle.meaning.specs.Order.{Row}
-use Rattle.meaning.specs.Records.{Record, fact_of, dimension_of, file_order, is_header, judged_record, unless_few, row_of, unless_repeated}
+use Rattle.meaning.specs.Records.{Record, dimension_of, file_order, is_header, judged_record, unless_few, row_of, unless_repeated}
 use Rattle.meaning.specs.Results.{and_then}
-use Rattle.meaning.specs.Cut.{Cut}
 use Rattle.columns.specs.Column.{ColumnSpec}
-use Rattle.loader.specs.Columns.{columns_of, column_of, fragments_of}
+use Rattle.loader.specs.Columns.{columns_of, column_of}
 use Rattle.loader.specs.Source.{csv_records}
 use Rattle.loader.proofs.RowRuns.{ok_parts, all_from}
 use Rattle.fragment_file.specs.Writing.{AreColumns}
 use Rattle.folders.proofs.Each.{each_so}
 use Rattle.folders.specs.Folder.{Holds}
 use Rattle.folders.specs.Each.{AreEach}
-use Rattle.cli.specs.Loading.{AreDimensionColumns, AreFragmentColumns, IsDimensionLoaded, IsFactLoaded, rows_in}
+use Rattle.cli.specs.Loading.{AreDimensionColumns, IsDimensionLoaded, rows_in}
 
 sum_cons : (n : ℕ) (ns : List ℕ) → sum (n ∷ ns) ≡ n + sum ns
 sum_cons n ns = sum_by-cons (λ x. x) n ns
@@ -42,16 +39,6 @@ ok_same x y r one other = cc
 columns_from : (rows : List Row) (i : ℕ) (declared : List Column) → AreColumns declared (length rows) (map (column_of rows) (enumerate_from i declared))
 columns_from rows i [] = tt
 columns_from rows i (c ∷ declared) = (record { col_type = refl; nullable = refl; rows = length-map rows _ }, columns_from rows (i + 1) declared)
-
-fragments_fit : (table : Table) (cut : Cut) (rows : List Row) → sum cut ≤ length rows → AreEach (AreFragmentColumns table) cut (fragments_of table.columns cut rows)
-fragments_fit table [] rows enough = tt
-fragments_fit table (n ∷ cut) rows enough =
-    let all = sum_cons n cut in
-    let within : n ≤ length rows = omega arith in
-    let left = length-drop n rows in (
-      subst (λ m. AreColumns table.columns m (columns_of table.columns (take n rows))) (length-take-le n rows within) (columns_from (take n rows) 0 table.columns),
-      fragments_fit table cut (drop n rows) (omega arith),
-    )
 
 own_rows : (declared : List Column) (rows : ℕ) (columns : List ColumnSpec) → AreColumns declared rows columns → AreColumns declared (rows_in columns) columns
 own_rows [] rows [] all = tt
@@ -78,14 +65,6 @@ under_header : (b : Bool) (r : Result (List Row) TableFault) (fewest : ℕ) (row
     → and_then r (unless_few fewest) ≡ Ok rows
 under_header true r fewest rows well = well
 under_header false r fewest rows well = cc well
-
-fact_rows : (catalog : Catalog) (cut : Cut) (records : List Record) (rows : List Row) → fact_of catalog cut records ≡ Ok rows → sum cut ≤ length rows
-fact_rows catalog cut [] rows well = cc well
-fact_rows catalog cut (header ∷ others) rows well =
-    let judged = all_from (judged_record catalog.fact.columns None (sum cut) (file_order catalog.fact.columns header) others) 0 others in
-    let (all, made, kept) = well_before judged (unless_few (sum cut)) rows (under_header (is_header catalog.fact.columns header) judged (sum cut) rows well) in
-    let few = not_few (sum cut) all rows kept in
-    subst (λ (l : List Row). sum cut ≤ length l) few.0 few.1
 
 limit_tested : (b : Bool) (most i : ℕ) (r : Result Row TableFault) (row : Row) → nat_le most i ≡ b → (if b then Err fault.TooManyRows else r) ≡ Ok row → i < most
 limit_tested true most i r row test well = cc well
@@ -117,15 +96,6 @@ dimension_rows d (header ∷ others) rows well =
     subst (λ (l : List Row). length l ≤ max_rows) few.0 (omega (arith, most))
 
 -- ---- loaded tables
-
--- the fragments of a loaded fact have the rows of the cut
-pub fact_fits : (holds : Holds) (folder : List ℕ) (catalog : Catalog) (rows : ℕ) (cut : Cut) (fragments : List (List ColumnSpec)) → IsFactLoaded holds folder catalog rows cut fragments
-    → AreEach (AreFragmentColumns catalog.fact) cut fragments
-fact_fits holds folder catalog rows cut fragments is =
-    let records = csv_records is.fact in
-    let (all, made, well) = well_before (fact_of catalog cut records) (λ all. Ok (fragments_of catalog.fact.columns cut all)) fragments is.loaded in
-    subst (AreEach (AreFragmentColumns catalog.fact) cut) (ok_same (fragments_of catalog.fact.columns cut all) fragments (Ok (fragments_of catalog.fact.columns cut all)) refl well)
-    (fragments_fit catalog.fact cut all (fact_rows catalog cut records all made))
 
 dimension_fits : (d : Dimension) (all : List Row) (columns : List ColumnSpec) → length all ≤ max_rows → columns_of d.table.columns all ≡ columns → AreDimensionColumns d columns
 dimension_fits d all columns few same =

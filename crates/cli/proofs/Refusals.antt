@@ -13,7 +13,7 @@ use Rattle.loader.specs.declared.fault.LoadFault.TheVariants as load_fault
 use Rattle.coordinator.specs.Whole.{Files, Input, IsRefused, files_in, input_of}
 use Rattle.coordinator.specs.declared.whole_fault.WholeFault.{WholeFault}
 use Rattle.folders.specs.Each.{AreEach}
-use Rattle.folders.specs.Folder.{AreHeld, File, Holds, catalog_path, csv_path}
+use Rattle.folders.specs.Folder.{AreHeld, Change, Holds, catalog_path, csv_path}
 use Rattle.folders.specs.Refused.{IsToldAs, load_refusal, refusal_of}
 use Rattle.folders.specs.declared.refusal.Refusal.{Refusal}
 use Rattle.folders.specs.declared.refusal.Refusal.TheVariants as refusal
@@ -85,12 +85,12 @@ report_is_output (Some path) e (inl unwritten) = inr (path, unwritten)
 report_is_output (Some path) e (inr unprinted) = inl unprinted
 
 -- saving and printing alone leave something
-pub gather_leaves : (save : Option (List ℕ)) (e : Refusal) (before after : Option (List File)) → IsReportRefused save e ⊎ (after ≡ before) → LeavesFiles e before after
+pub gather_leaves : (save : Option (List ℕ)) (e : Refusal) (before after : Option (List Change)) → IsReportRefused save e ⊎ (after ≡ before) → LeavesFiles e before after
 gather_leaves save e before after (inl refused) = inl (report_is_output save e refused)
 gather_leaves save e before after (inr same) = inr same
 
 -- `load` is refused, of which the folder was lent
-pub load_refused : (holds : Holds) (command : Command) (folder lent : List ℕ) (load rows : ℕ) (e : Refusal) (before after : Option (List ℕ)) (wrote_before wrote_after : Option (List File))
+pub load_refused : (holds : Holds) (command : Command) (folder lent : List ℕ) (load rows : ℕ) (e : Refusal) (before after : Option (List ℕ)) (wrote_before wrote_after : Option (List Change))
     → command ≡ Load folder load rows → lent ≡ folder → IsLoadRefused holds lent rows e → IsQuiet e before after → LeavesFiles e wrote_before wrote_after
     → IsRefusedSo holds command before after wrote_before wrote_after e
 load_refused holds command folder lent load rows e before after wrote_before wrote_after is same stands quiet left =
@@ -101,13 +101,13 @@ load_refused holds command folder lent load rows e before after wrote_before wro
     })
 
 -- `work` is refused
-pub work_refused : (holds : Holds) (command : Command) (asked : WorkCommand) (e : Refusal) (before : Option (List ℕ)) (wrote_before wrote_after : Option (List File))
+pub work_refused : (holds : Holds) (command : Command) (asked : WorkCommand) (e : Refusal) (before : Option (List ℕ)) (wrote_before wrote_after : Option (List Change))
     → command ≡ Work asked → IsWorkRefused holds asked e → LeavesFiles e wrote_before wrote_after → IsRefusedSo holds command before before wrote_before wrote_after e
 work_refused holds command asked e before wrote_before wrote_after is stands left =
     subst (λ (x : Command). IsRefusedSo holds x before before wrote_before wrote_after e) (sym is) (record { stands = stands; quiet = inr refl; left = left })
 
 -- so is `whole`, of which the folder and the query were lent
-pub whole_refused : (holds : Holds) (command : Command) (folder lent query text : List ℕ) (rows vector : ℕ) (result : Result ℕ Refusal) (before after : Option (List ℕ)) (wrote : Option (List File))
+pub whole_refused : (holds : Holds) (command : Command) (folder lent query text : List ℕ) (rows vector : ℕ) (result : Result ℕ Refusal) (before after : Option (List ℕ)) (wrote : Option (List Change))
     → command ≡ Whole folder query rows vector → lent ≡ folder → text ≡ query → IfErr result (IsWholeRefused holds lent text rows vector) → IfErr result (λ e. IsQuiet e before after)
     → IfErr result (IsRefusedSo holds command before after wrote wrote)
 whole_refused holds command folder lent query text rows vector (Ok status) before after wrote is here same stands quiet = tt

@@ -1,53 +1,33 @@
--- Files that are written one behind the other.
-use Rattle.std.proofs.Common.{◌≡◌, ◌≤◌, ◌<◌, ◌^◌, ℕ, zero, suc, ◌+◌, List, [], ◌∷◌, ◌++◌, length, take, get_or, refl, sym, subst, ap, ◌∙◌, append_assoc, arith, add-one}
-use Rattle.std.specs.Prelude.{Option, Some, sum, slice_index, zip}
-use Rattle.std.specs.List.{enumerate_from}
-use Rattle.std.proofs.lemmas.List.{take_all}
-use Rattle.std.proofs.lemmas.List.Sums.{sum_by-cons}
+-- Files that are written and taken away one behind the other.
+use Rattle.std.proofs.Common.{◌≡◌, ◌≤◌, ◌<◌, ◌^◌, ℕ, zero, suc, ◌+◌, ◌-◌, List, [], ◌∷◌, ◌++◌, length, map, take, drop, get_or, refl, sym, subst, ap, ◌∙◌, append_assoc, arith, add-one}
+use Rattle.std.specs.Prelude.{Option, None, Some, slice_index, zip}
+use Rattle.std.specs.List.{enumerate_from, range_with_len}
+use Rattle.std.proofs.lemmas.List.{map-append, take_all}
 use Rattle.meaning.specs.Cut.{IsCut, Cut, first_row}
+use Rattle.meaning.specs.declared.catalog.Catalog.{Catalog}
 use Rattle.meaning.specs.declared.catalog.Dimension.{Dimension}
 use Rattle.meaning.specs.declared.catalog.Table.{Table}
 use Rattle.columns.specs.Column.{ColumnSpec}
 use Rattle.loader.proofs.FactSteps.{rows_few}
+use Rattle.coordinator.proofs.Slices.{range_to_next, sum_to_next, sum_to_place}
+use Rattle.wire.specs.Bytes.{sealed}
+use Rattle.fragment_file.specs.CutFile.{cut_bytes}
 use Rattle.fragment_file.specs.Fragment.{Stands}
-use Rattle.folders.specs.Folder.{File, Writes, WritesOne, fragment_path, dimension_path}
-use Rattle.fragment_file.specs.Writing.{AreColumns}
+use Rattle.folders.specs.Folder.{Change, Encloses, Finishes, Removes, Writes, WritesOne, cut_path, fragment_path, dimension_path}
 use Rattle.folders.specs.Each.{AreEach}
-use Rattle.cli.specs.Loading.{AreDimensionColumns, AreFragmentColumns, IsDimensionFile, IsFragmentFile, header_of, rows_in}
-use Rattle.folders.proofs.Each.{each_at, each_more, numbered_more, zipped_more}
+use Rattle.cli.specs.Loading.{AreDimensionColumns, AreFiles, AreFragmentsClosed, IsDimensionFile, IsFragmentClosed, IsFragmentFile, StandsForFragment, cut_file_of, header_of, removals, rows_in}
+use Rattle.folders.proofs.Each.{each_at, each_length, each_more, numbered_more, zipped_more}
 
-wrote_more : {A : Type 0} (IsFile : A → File → Type 0) (xs : List A) (x : A) (path : List ℕ) (AreSuch : List ℕ → Type 0) (before now after : Option (List File))
-    → Writes (AreEach IsFile xs) before now → WritesOne path AreSuch now after → ((bytes : List ℕ) → AreSuch bytes → IsFile x (path, bytes)) → Writes (AreEach IsFile (xs ++ x ∷ [])) before after
+wrote_more : {A : Type 0} (IsFile : A → Change → Type 0) (xs : List A) (x : A) (path : List ℕ) (AreSuch : List ℕ → Type 0) (before now after : Option (List Change))
+    → Writes (AreEach IsFile xs) before now → WritesOne path AreSuch now after → ((bytes : List ℕ) → AreSuch bytes → IsFile x (path, Some bytes)) → Writes (AreEach IsFile (xs ++ x ∷ [])) before after
 wrote_more IsFile xs x path AreSuch before now after all one is old known =
     let (new, reached, are) = all old known in
     let (bytes, then, such) = one (old ++ new) reached in
-    (new ++ (path, bytes) ∷ [], then ∙ ap Some (append_assoc old new ((path, bytes) ∷ [])), each_more IsFile xs new x (path, bytes) are (is bytes such))
-
-sum_cons : (n : ℕ) (ns : List ℕ) → sum (n ∷ ns) ≡ n + sum ns
-sum_cons n ns = sum_by-cons (λ x. x) n ns
-
-next_suc : (cut : Cut) (k : ℕ) → k < length cut → sum (take (suc k) cut) ≡ sum (take k cut) + slice_index cut k
-next_suc [] k below = absurd (omega arith)
-next_suc (n ∷ ns) zero below = refl
-next_suc (n ∷ ns) (suc k) below =
-    let here = sum_cons n (take (suc k) ns) in
-    let there = sum_cons n (take k ns) in
-    let rest = next_suc ns k (omega arith) in
-    grind (arith, here, there, rest)
-
-sum_to_place : (cut : Cut) (k : ℕ) → sum (take k cut) ≤ sum cut
-sum_to_place [] zero = omega arith
-sum_to_place [] (suc k) = omega arith
-sum_to_place (n ∷ ns) zero = omega arith
-sum_to_place (n ∷ ns) (suc k) =
-    let here = sum_cons n (take k ns) in
-    let there = sum_cons n ns in
-    let rest = sum_to_place ns k in
-    grind (arith, here, there, rest)
+    (new ++ (path, Some bytes) ∷ [], then ∙ ap Some (append_assoc old new ((path, Some bytes) ∷ [])), each_more IsFile xs new x (path, Some bytes) are (is bytes such))
 
 -- the next fragment begins where this one ends
 pub next_first : (cut : Cut) (k : ℕ) → k < length cut → first_row cut (k + 1) ≡ first_row cut k + slice_index cut k
-next_first cut k below = rw add-one (next_suc cut k below)
+next_first cut k below = rw add-one (sum_to_next cut k below)
 
 -- rows of a cut are numbered in 64 bits
 pub first_fits : (cut : Cut) (k : ℕ) → IsCut cut → first_row cut k < 2 ^ 64
@@ -63,15 +43,6 @@ next_fits cut lengths k first n is same below begins long =
     let fits = first_fits cut (k + 1) is in
     (omega (arith, begins, here, next, fits), omega (arith, begins, here, next))
 
--- the columns at a place have that fragment's rows
-pub fragment_at : (table : Table) (cut lengths : List ℕ) (fragments : List (List ColumnSpec)) (k : ℕ) (columns : List ColumnSpec) → lengths ≡ cut → k < length lengths
-    → columns ≡ get_or fragments k columns → AreEach (AreFragmentColumns table) cut fragments → AreColumns table.columns (get_or lengths k 0) columns
-fragment_at table cut lengths fragments k columns same below is all =
-    let count = ap length same in
-    let within : k < length cut = omega (arith, count) in
-    subst (λ (l : List ℕ). AreColumns table.columns (get_or l k 0) columns) (sym same)
-    (subst (λ (c : List ColumnSpec). AreColumns table.columns (get_or cut k 0) c) (sym is) (each_at (AreFragmentColumns table) cut fragments k 0 columns within all))
-
 -- the columns at a place are those of the dimension there
 pub dimension_at : (ds declared : List Dimension) (dims : List (List ColumnSpec)) (k : ℕ) (d : Dimension) (columns : List ColumnSpec) → declared ≡ ds → k < length declared
     → d ≡ get_or declared k d → columns ≡ get_or dims k columns → AreEach AreDimensionColumns ds dims → AreDimensionColumns d columns
@@ -82,28 +53,119 @@ dimension_at ds declared dims k d columns same below d_is is all =
     subst (λ (e : Dimension). AreDimensionColumns e columns) (sym here)
     (subst (λ (c : List ColumnSpec). AreDimensionColumns (get_or ds k d) c) (sym is) (each_at AreDimensionColumns ds dims k d columns within all))
 
--- one fragment more
-pub fragment_more : (folder : List ℕ) (load : ℕ) (table : Table) (cut : Cut) (fragments : List (List ColumnSpec)) (columns : List ColumnSpec) (k first rows : ℕ) (before now after : Option (List File))
-    → k < length fragments → first ≡ first_row cut k → rows ≡ slice_index cut k → columns ≡ get_or fragments k columns
-    → Writes (AreEach (IsFragmentFile folder load table cut) (enumerate_from 0 (take k fragments))) before now
-    → WritesOne (fragment_path folder table.name k) (λ bytes. Stands bytes (header_of load table k first rows) columns) now after
-    → Writes (AreEach (IsFragmentFile folder load table cut) (enumerate_from 0 (take (k + 1) fragments))) before after
-fragment_more folder load table cut fragments columns k first rows before now after below begins long is all one =
+-- ---- fragments
+
+closed_from : {P : Type 0} (Is : ℕ × List ColumnSpec → P → Type 0) (s n m : ℕ) (fragments : List (List ColumnSpec)) (files : List P) (file : P) (rest : List P)
+    → m ≡ s + n → AreEach Is (enumerate_from s fragments) files → drop n files ≡ file ∷ rest
+    → (columns : List ColumnSpec) × (n < length fragments) × (columns ≡ get_or fragments n columns) × Is (m, columns) file
+closed_from Is s zero m [] [] file rest numbered all at = cc at
+closed_from Is s (suc n) m [] [] file rest numbered all at = cc at
+closed_from Is s n m [] (f ∷ files) file rest numbered all at = absurd all
+closed_from Is s n m (c ∷ fragments) [] file rest numbered all at = absurd all
+closed_from {P = P} Is s zero m (c ∷ fragments) (f ∷ files) file rest numbered all at =
+    let here : s ≡ m = omega (arith, numbered) in
+    let same : f ≡ file = cc at in
+    (c, omega arith, refl, subst (λ (x : P). Is (m, c) x) same (subst (λ k. Is (k, c) f) here all.0))
+closed_from Is s (suc n) m (c ∷ fragments) (f ∷ files) file rest numbered all at =
+    let next : m ≡ s + 1 + n = omega (arith, numbered) in
+    let (columns, below, is, closed) = closed_from Is (s + 1) n m fragments files file rest next all.1 at in
+    (columns, omega (arith, below), is, closed)
+
+-- the file that is next is that of the fragment at its place
+pub closed_at : {P : Type 0} (enclosed : P → Option (List ℕ)) (wrote : Option (List Change)) (load : ℕ) (table : Table) (cut : Cut) (fragments : List (List ColumnSpec)) (files : List P) (n : ℕ) (file : P) (rest : List P)
+    → AreFragmentsClosed enclosed wrote load table cut fragments files → drop n files ≡ file ∷ rest
+    → (columns : List ColumnSpec) × (n < length fragments) × (columns ≡ get_or fragments n columns) × Encloses (StandsForFragment load table cut (n, columns)) wrote (enclosed file)
+closed_at enclosed wrote load table cut fragments files n file rest all at = closed_from (IsFragmentClosed enclosed wrote load table cut) 0 n n fragments files file rest (omega arith) all at
+
+-- one fragment's file more is put under its path
+pub put_more : {P : Type 0} (enclosed : P → Option (List ℕ)) (folder : List ℕ) (load : ℕ) (table : Table) (cut : Cut) (fragments : List (List ColumnSpec)) (files : List P) (n : ℕ) (file : P) (rest : List P) (before now after : Option (List Change))
+    → AreFragmentsClosed enclosed before load table cut fragments files → drop n files ≡ file ∷ rest
+    → Writes (AreEach (IsFragmentFile folder load table cut) (enumerate_from 0 (take n fragments))) before now
+    → Finishes now after (fragment_path folder table.name n) (enclosed file)
+    → Writes (AreEach (IsFragmentFile folder load table cut) (enumerate_from 0 (take (n + 1) fragments))) before after
+put_more enclosed folder load table cut fragments files n file rest before now after all at wrote put = λ old known.
     let IsFile = IsFragmentFile folder load table cut in
-    let path = fragment_path folder table.name k in
-    let AreSuch = λ (bytes : List ℕ). Stands bytes (header_of load table k first rows) columns in
-    let x : ℕ × List ColumnSpec = (k, get_or fragments k columns) in
-    subst (λ (l : List (ℕ × List ColumnSpec)). Writes (AreEach IsFile l) before after) (sym (numbered_more fragments k columns below))
-    (wrote_more IsFile (enumerate_from 0 (take k fragments)) x path AreSuch before now after all one
-    (λ bytes such. (
-      refl,
-      subst (λ (c : List ColumnSpec). Stands bytes (header_of load table k (first_row cut k) (slice_index cut k)) c) is
-          (subst (λ (n : ℕ). Stands bytes (header_of load table k (first_row cut k) n) columns) long
-          (subst (λ (f : ℕ). Stands bytes (header_of load table k f rows) columns) begins such)),
-    )))
+    let path = fragment_path folder table.name n in
+    let (columns, below, is, closed) = closed_at enclosed before load table cut fragments files n file rest all at in
+    let (new, reached, are) = wrote old known in
+    let (bytes, has, stands) = closed old known in
+    let here : IsFile (n, get_or fragments n columns) (path, Some bytes) = (bytes, refl, subst (λ (c : List ColumnSpec). StandsForFragment load table cut (n, c) bytes) is stands) in (
+      new ++ (path, Some bytes) ∷ [],
+      put (old ++ new) bytes reached has ∙ ap Some (append_assoc old new ((path, Some bytes) ∷ [])),
+      subst (λ (l : List (ℕ × List ColumnSpec)). AreEach IsFile l (new ++ (path, Some bytes) ∷ [])) (sym (numbered_more fragments n columns below))
+          (each_more IsFile (enumerate_from 0 (take n fragments)) new (n, get_or fragments n columns) (path, Some bytes) are here),
+    )
+
+-- numbering leaves the length
+pub numbered_length : (s : ℕ) (l : List (List ColumnSpec)) → length (enumerate_from s l) ≡ length l
+numbered_length s [] = refl
+numbered_length s (x ∷ l) = ap (λ n. suc n) (numbered_length (s + 1) l)
+
+-- no file is left, so that all were put
+pub all_put : {P : Type 0} (enclosed : P → Option (List ℕ)) (folder : List ℕ) (load : ℕ) (table : Table) (cut : Cut) (fragments : List (List ColumnSpec)) (files : List P) (n : ℕ) (before after : Option (List Change))
+    → AreFragmentsClosed enclosed before load table cut fragments files → length files ≤ n
+    → Writes (AreEach (IsFragmentFile folder load table cut) (enumerate_from 0 (take n fragments))) before after
+    → Writes (AreEach (IsFragmentFile folder load table cut) (enumerate_from 0 fragments)) before after
+all_put enclosed folder load table cut fragments files n before after all none wrote =
+    let alike = each_length (IsFragmentClosed enclosed before load table cut) (enumerate_from 0 fragments) files all in
+    let few : length fragments ≤ n = omega (arith, numbered_length 0 fragments, alike, none) in
+    subst (λ (l : List (List ColumnSpec)). Writes (AreEach (IsFragmentFile folder load table cut) (enumerate_from 0 l)) before after) (take_all n fragments few) wrote where
+      numbered_length : (s : ℕ) (l : List (List ColumnSpec)) → length (enumerate_from s l) ≡ length l
+      numbered_length s [] = refl
+      numbered_length s (x ∷ l) = ap (λ n. suc n) (numbered_length (s + 1) l)
+
+-- ---- files that are taken away
+
+-- a file that is taken away
+abbrev taken : (ℕ → List ℕ) → ℕ → Change
+taken path k = (path k, None)
+
+taken_more : (path : ℕ → List ℕ) (first k : ℕ) → first ≤ k → map (taken path) (range_with_len first (k + 1 - first)) ≡ map (taken path) (range_with_len first (k - first)) ++ taken path k ∷ []
+taken_more path first k le =
+    let count : k + 1 - first ≡ suc (k - first) = omega (arith, le) in
+    let last : first + (k - first) ≡ k = omega (arith, le) in
+    ap (λ n. map (taken path) (range_with_len first n)) count ∙ ap (map (taken path)) (range_to_next first (k - first))
+    ∙ map-append (taken path) (range_with_len first (k - first)) ((first + (k - first)) ∷ []) ∙ ap (λ n. map (taken path) (range_with_len first (k - first)) ++ taken path n ∷ []) last
+
+-- one more is taken away
+pub removed_more : (path : ℕ → List ℕ) (first k : ℕ) (before now after : Option (List Change)) → first ≤ k → Writes (λ changes. changes ≡ map (λ n. (path n, None)) (range_with_len first (k - first))) before now
+    → Removes now after (path k) → Writes (λ changes. changes ≡ map (λ n. (path n, None)) (range_with_len first (k + 1 - first))) before after
+removed_more path first k before now after le wrote removed = λ old known.
+    let (new, reached, are) = wrote old known in (
+      new ++ taken path k ∷ [],
+      removed (old ++ new) reached ∙ ap Some (append_assoc old new (taken path k ∷ [])),
+      ap (λ l. l ++ taken path k ∷ []) are ∙ sym (taken_more path first k le),
+    )
+
+-- ---- all files
+
+-- what each step writes is what the files of a load are
+pub all_files : (folder : List ℕ) (load : ℕ) (catalog : Catalog) (cut : Cut) (fragments dims : List (List ColumnSpec)) (before first second third after : Option (List Change))
+    → Writes (AreEach (IsFragmentFile folder load catalog.fact cut) (enumerate_from 0 fragments)) before first
+    → Writes (AreEach (IsDimensionFile folder load) (zip catalog.dims dims)) first second
+    → Writes (λ changes. changes ≡ removals folder catalog.fact cut) second third
+    → WritesOne (cut_path folder) (λ bytes. bytes ≡ sealed (cut_bytes (record { load = load; cut = cut }))) third after
+    → Writes (AreFiles folder load catalog cut fragments dims) before after
+all_files folder load catalog cut fragments dims before first second third after put saved removed last = λ old known.
+    let (a, there, are_fragments) = put old known in
+    let (b, then, are_dims) = saved (old ++ a) there in
+    let (c, behind, are_removed) = removed ((old ++ a) ++ b) then in
+    let (bytes, ends, spelled) = last (((old ++ a) ++ b) ++ c) behind in
+    let cut_file : (cut_path folder, Some bytes) ≡ cut_file_of folder load cut = ap (λ bs. (cut_path folder, Some bs)) spelled in (
+      ((a ++ b) ++ c) ++ (cut_path folder, Some bytes) ∷ [],
+      ends ∙ ap Some (ap (λ l. (l ++ c) ++ (cut_path folder, Some bytes) ∷ []) (append_assoc old a b) ∙ ap (λ l. l ++ (cut_path folder, Some bytes) ∷ []) (append_assoc old (a ++ b) c)
+          ∙ append_assoc old ((a ++ b) ++ c) ((cut_path folder, Some bytes) ∷ [])),
+      record {
+        of_fragments = a;
+        fragments_are = are_fragments;
+        of_dims = b;
+        dims_are = are_dims;
+        whole = ap (λ l. ((a ++ b) ++ l) ++ (cut_path folder, Some bytes) ∷ []) are_removed ∙ ap (λ f. ((a ++ b) ++ removals folder catalog.fact cut) ++ f ∷ []) cut_file;
+      },
+    )
 
 -- one dimension more
-pub dimension_more : (folder : List ℕ) (load : ℕ) (ds : List Dimension) (dims : List (List ColumnSpec)) (d : Dimension) (columns : List ColumnSpec) (k : ℕ) (before now after : Option (List File))
+pub dimension_more : (folder : List ℕ) (load : ℕ) (ds : List Dimension) (dims : List (List ColumnSpec)) (d : Dimension) (columns : List ColumnSpec) (k : ℕ) (before now after : Option (List Change))
     → k < length ds → k < length dims → d ≡ get_or ds k d → columns ≡ get_or dims k columns
     → Writes (AreEach (IsDimensionFile folder load) (zip (take k ds) (take k dims))) before now
     → WritesOne (dimension_path folder d.table.name) (λ bytes. Stands bytes (header_of load d.table 0 0 (rows_in columns)) columns) now after
@@ -114,14 +176,9 @@ dimension_more folder load ds dims d columns k before now after left right d_is 
     let AreSuch = λ (bytes : List ℕ). Stands bytes (header_of load d.table 0 0 (rows_in columns)) columns in
     let last : (d, columns) ≡ (get_or ds k d, get_or dims k columns) = cc in
     subst (λ (l : List (Dimension × List ColumnSpec)). Writes (AreEach IsFile l) before after) (ap (λ p. zip (take k ds) (take k dims) ++ p ∷ []) last ∙ sym (zipped_more ds dims k d columns left right))
-    (wrote_more IsFile (zip (take k ds) (take k dims)) (d, columns) path AreSuch before now after all one (λ bytes such. (refl, such)))
+    (wrote_more IsFile (zip (take k ds) (take k dims)) (d, columns) path AreSuch before now after all one (λ bytes such. (bytes, refl, such)))
 
-pub fragments_end : (IsFile : ℕ × List ColumnSpec → File → Type 0) (fragments : List (List ColumnSpec)) (k : ℕ) (before after : Option (List File)) → length fragments ≤ k
-    → Writes (AreEach IsFile (enumerate_from 0 (take k fragments))) before after → Writes (AreEach IsFile (enumerate_from 0 fragments)) before after
-fragments_end IsFile fragments k before after none all =
-    subst (λ (l : List (List ColumnSpec)). Writes (AreEach IsFile (enumerate_from 0 l)) before after) (take_all k fragments none) all
-
-pub dimensions_end : (IsFile : Dimension × List ColumnSpec → File → Type 0) (ds declared : List Dimension) (dims : List (List ColumnSpec)) (k : ℕ) (before after : Option (List File))
+pub dimensions_end : (IsFile : Dimension × List ColumnSpec → Change → Type 0) (ds declared : List Dimension) (dims : List (List ColumnSpec)) (k : ℕ) (before after : Option (List Change))
     → declared ≡ ds → length declared ≤ k → length ds ≡ length dims
     → Writes (AreEach IsFile (zip (take k declared) (take k dims))) before after → Writes (AreEach IsFile (zip ds dims)) before after
 dimensions_end IsFile ds declared dims k before after same none alike all =

@@ -1,8 +1,8 @@
--- What loading a folder's tables gives, and which files it writes.
-use Rattle.std.specs.Prelude.{◌≡◌, ℕ, ◌≤◌, ⊤, List, [], ◌∷◌, ◌++◌, length, drop, sum, slice_index, zip, codes, decimal, Option, Ok}
-use Rattle.std.specs.List.{enumerate_from}
+-- What loading a folder's tables gives, and which files it writes and takes away.
+use Rattle.std.specs.Prelude.{◌≡◌, ℕ, ◌≤◌, ◌-◌, List, [], ◌∷◌, ◌++◌, length, map, drop, sum, slice_index, zip, codes, decimal, Option, None, Some, Ok}
+use Rattle.std.specs.List.{enumerate_from, range_with_len}
 use Rattle.std.specs.Io.KnownBytes.{Appends}
-use Rattle.meaning.specs.Limits.{max_rows}
+use Rattle.meaning.specs.Limits.{max_fragments, max_rows}
 use Rattle.meaning.specs.CatalogText.{catalog_of}
 use Rattle.meaning.specs.Cut.{cut_of, even_lengths, Cut, first_row}
 use Rattle.meaning.specs.declared.catalog.Table.{Table}
@@ -16,8 +16,24 @@ use Rattle.wire.specs.Bytes.{sealed}
 use Rattle.fragment_file.specs.Writing.{AreColumns}
 use Rattle.fragment_file.specs.CutFile.{cut_bytes}
 use Rattle.fragment_file.specs.declared.header.Header.{Header}
+use Rattle.fragment_file.specs.declared.header.Slice.{Slice}
 use Rattle.folders.specs.Each.{AreEach}
-use Rattle.folders.specs.Folder.{Holds, File, AreHeld, Writes, catalog_path, csv_path, fragment_path, dimension_path, cut_path}
+use Rattle.folders.specs.Folder.{Holds, Change, AreHeld, Encloses, Writes, catalog_path, csv_path, fragment_path, dimension_path, cut_path}
+
+-- ---- what a file may be written of
+
+-- how many rows columns have
+abbrev pub rows_in : List ColumnSpec → ℕ
+rows_in [] = 0
+rows_in (c ∷ cs) = length c.values
+
+-- columns of so many rows of the fact
+abbrev pub AreFragmentColumns : Table → ℕ → List ColumnSpec → Type 0
+AreFragmentColumns table rows columns = AreColumns table.columns rows columns
+
+-- columns of a dimension, of no more rows than it may have
+abbrev pub AreDimensionColumns : Dimension → List ColumnSpec → Type 0
+AreDimensionColumns d columns = AreColumns d.table.columns (rows_in columns) columns × (rows_in columns ≤ max_rows)
 
 -- ---- loading
 
@@ -27,12 +43,18 @@ pub record IsDimensionLoaded (holds : Holds) (folder : List ℕ) (d : Dimension)
   pub held : AreHeld (holds (csv_path folder d.table.name)) bytes
   pub loaded : dimension_columns d (csv_records bytes) ≡ Ok columns
 
--- the fragments are those of the fact's CSV file, cut into fragments of so many rows
+-- so many records stand behind the first of the fact's CSV file, where its bytes are known
+abbrev pub IsFactCounted : Holds → List ℕ → Catalog → ℕ → Type 0
+IsFactCounted holds folder catalog counted = (csv : List ℕ) → holds (csv_path folder catalog.fact.name) ≡ Some csv → counted ≡ length (drop 1 (csv_records csv))
+
+-- the fragments of a fact that was cut evenly into fragments of so many rows. They are those of its CSV file where its
+-- bytes are known: it is read twice, so that else nothing says that both times had the same bytes.
 pub record IsFactLoaded (holds : Holds) (folder : List ℕ) (catalog : Catalog) (rows : ℕ) (cut : Cut) (fragments : List (List ColumnSpec)) : Type 0 where
-  pub fact : List ℕ
-  pub held : AreHeld (holds (csv_path folder catalog.fact.name)) fact
-  pub evenly : cut_of (even_lengths (length (drop 1 (csv_records fact))) rows) ≡ Ok cut
-  pub loaded : fact_fragments catalog cut (csv_records fact) ≡ Ok fragments
+  pub counted : ℕ
+  pub all : IsFactCounted holds folder catalog counted
+  pub evenly : cut_of (even_lengths counted rows) ≡ Ok cut
+  pub each : AreEach (AreFragmentColumns catalog.fact) cut fragments
+  pub loaded : (csv : List ℕ) → holds (csv_path folder catalog.fact.name) ≡ Some csv → fact_fragments catalog cut (csv_records csv) ≡ Ok fragments
 
 -- ---- files
 
@@ -40,31 +62,48 @@ pub record IsFactLoaded (holds : Holds) (folder : List ℕ) (catalog : Catalog) 
 abbrev pub header_of : ℕ → Table → ℕ → ℕ → ℕ → Header
 header_of load table fragment first_row rows = table_header load table (record { fragment = fragment; first_row = first_row; rows = rows })
 
--- how many rows columns have
-abbrev pub rows_in : List ColumnSpec → ℕ
-rows_in [] = 0
-rows_in (c ∷ cs) = length c.values
+-- bytes stand for the header and the columns of a fragment, of which its number and columns are given
+abbrev pub StandsForFragment : ℕ → Table → Cut → ℕ × List ColumnSpec → List ℕ → Type 0
+StandsForFragment load table cut p bytes = Stands bytes (header_of load table p.0 (first_row cut p.0) (slice_index cut p.0)) p.1
 
--- the file of a fragment, of which its number and columns are given
-abbrev pub IsFragmentFile : List ℕ → ℕ → Table → Cut → ℕ × List ColumnSpec → File → Type 0
-IsFragmentFile folder load table cut p file = (file.0 ≡ fragment_path folder table.name p.0)
-    × Stands file.1 (header_of load table p.0 (first_row cut p.0) (slice_index cut p.0)) p.1
+-- the file of a fragment
+abbrev pub IsFragmentFile : List ℕ → ℕ → Table → Cut → ℕ × List ColumnSpec → Change → Type 0
+IsFragmentFile folder load table cut p change = (bytes : List ℕ) × (change ≡ (fragment_path folder table.name p.0, Some bytes)) × StandsForFragment load table cut p bytes
 
 -- the file of a dimension, of which its declaration and columns are given
-abbrev pub IsDimensionFile : List ℕ → ℕ → Dimension × List ColumnSpec → File → Type 0
-IsDimensionFile folder load p file = (file.0 ≡ dimension_path folder p.0.table.name) × Stands file.1 (header_of load p.0.table 0 0 (rows_in p.1)) p.1
+abbrev pub IsDimensionFile : List ℕ → ℕ → Dimension × List ColumnSpec → Change → Type 0
+IsDimensionFile folder load p change = (bytes : List ℕ) × (change ≡ (dimension_path folder p.0.table.name, Some bytes)) × Stands bytes (header_of load p.0.table 0 0 (rows_in p.1)) p.1
+
+-- the files of fragments that the cut doesn't have are taken away
+abbrev pub removals : List ℕ → Table → Cut → List Change
+removals folder table cut = map (λ k. (fragment_path folder table.name k, None)) (range_with_len (length cut) (max_fragments - length cut))
 
 -- the file of the cut
-abbrev pub cut_file_of : List ℕ → ℕ → Cut → File
-cut_file_of folder load cut = (cut_path folder, sealed (cut_bytes (record { load = load; cut = cut })))
+abbrev pub cut_file_of : List ℕ → ℕ → Cut → Change
+cut_file_of folder load cut = (cut_path folder, Some (sealed (cut_bytes (record { load = load; cut = cut }))))
 
--- the files of the fragments, of the dimensions and of the cut, in this order
-pub record AreFiles (folder : List ℕ) (load : ℕ) (catalog : Catalog) (cut : Cut) (fragments dims : List (List ColumnSpec)) (files : List File) : Type 0 where
-  pub of_fragments : List File
+-- the files of the fragments and of the dimensions are written, those of other fragments taken away, and the file of the
+-- cut is written, in this order
+pub record AreFiles (folder : List ℕ) (load : ℕ) (catalog : Catalog) (cut : Cut) (fragments dims : List (List ColumnSpec)) (changes : List Change) : Type 0 where
+  pub of_fragments : List Change
   pub fragments_are : AreEach (IsFragmentFile folder load catalog.fact cut) (enumerate_from 0 fragments) of_fragments
-  pub of_dims : List File
+  pub of_dims : List Change
   pub dims_are : AreEach (IsDimensionFile folder load) (zip catalog.dims dims) of_dims
-  pub whole : files ≡ (of_fragments ++ of_dims) ++ cut_file_of folder load cut ∷ []
+  pub whole : changes ≡ ((of_fragments ++ of_dims) ++ removals folder catalog.fact cut) ++ cut_file_of folder load cut ∷ []
+
+-- ---- files that stand under no path yet
+
+-- the rows behind those of these fragments
+abbrev pub IsNextSlice : Cut → List (List ColumnSpec) → Slice → Type 0
+IsNextSlice cut fragments slice = (slice.fragment ≡ length fragments) × (slice.first_row ≡ first_row cut (length fragments)) × (slice.rows ≡ slice_index cut (length fragments))
+
+-- a fragment's file is closed; its number and columns are given
+abbrev pub IsFragmentClosed : {P : Type 0} → (P → Option (List ℕ)) → Option (List Change) → ℕ → Table → Cut → ℕ × List ColumnSpec → P → Type 0
+IsFragmentClosed enclosed wrote load table cut p file = Encloses (StandsForFragment load table cut p) wrote (enclosed file)
+
+-- the files of fragments are closed, in their order
+abbrev pub AreFragmentsClosed : {P : Type 0} → (P → Option (List ℕ)) → Option (List Change) → ℕ → Table → Cut → List (List ColumnSpec) → List P → Type 0
+AreFragmentsClosed enclosed wrote load table cut fragments files = AreEach (IsFragmentClosed enclosed wrote load table cut) (enumerate_from 0 fragments) files
 
 -- ---- the command
 
@@ -73,7 +112,7 @@ abbrev pub loaded_line : ℕ → ℕ → List ℕ
 loaded_line rows fragments = codes "loaded " ++ decimal rows ++ codes " rows in " ++ decimal fragments ++ codes " fragments" ++ 10 ∷ []
 
 -- the tables of a catalogue were loaded: what was printed and which files were written is what the folder's files mean
-pub record IsCatalogLoaded (holds : Holds) (folder : List ℕ) (load rows : ℕ) (catalog : Catalog) (before after : Option (List ℕ)) (wrote_before wrote_after : Option (List File)) : Type 0 where
+pub record IsCatalogLoaded (holds : Holds) (folder : List ℕ) (load rows : ℕ) (catalog : Catalog) (before after : Option (List ℕ)) (wrote_before wrote_after : Option (List Change)) : Type 0 where
   pub cut : Cut
   pub fragments : List (List ColumnSpec)
   pub fact : IsFactLoaded holds folder catalog rows cut fragments
@@ -83,19 +122,9 @@ pub record IsCatalogLoaded (holds : Holds) (folder : List ℕ) (load rows : ℕ)
   pub written : Writes (AreFiles folder load catalog cut fragments dims) wrote_before wrote_after
 
 -- a folder's tables were loaded, by the catalogue that lies there
-pub record IsLoadDone (holds : Holds) (folder : List ℕ) (load rows : ℕ) (before after : Option (List ℕ)) (wrote_before wrote_after : Option (List File)) : Type 0 where
+pub record IsLoadDone (holds : Holds) (folder : List ℕ) (load rows : ℕ) (before after : Option (List ℕ)) (wrote_before wrote_after : Option (List Change)) : Type 0 where
   pub catalog_bytes : List ℕ
   pub held : AreHeld (holds (catalog_path folder)) catalog_bytes
   pub catalog : Catalog
   pub declared : catalog_of catalog_bytes ≡ Ok catalog
   pub loaded : IsCatalogLoaded holds folder load rows catalog before after wrote_before wrote_after
-
--- ---- what a file may be written of
-
--- columns of so many rows of the fact
-abbrev pub AreFragmentColumns : Table → ℕ → List ColumnSpec → Type 0
-AreFragmentColumns table rows columns = AreColumns table.columns rows columns
-
--- columns of a dimension, of no more rows than it may have
-abbrev pub AreDimensionColumns : Dimension → List ColumnSpec → Type 0
-AreDimensionColumns d columns = AreColumns d.table.columns (rows_in columns) columns × (rows_in columns ≤ max_rows)

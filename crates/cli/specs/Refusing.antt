@@ -7,6 +7,7 @@ use Rattle.meaning.specs.declared.cut.CutFault.{CutFault}
 use Rattle.meaning.specs.declared.table.TableFault.{TableFault}
 use Rattle.meaning.specs.declared.table.TableFault.TheVariants as table_fault
 use Rattle.meaning.specs.CatalogText.{catalog_of}
+use Rattle.meaning.specs.Limits.{max_fragments}
 use Rattle.meaning.specs.Cut.{Cut, cut_of, even_lengths}
 use Rattle.columns.specs.Column.{ColumnSpec}
 use Rattle.loader.specs.Columns.{fact_fragments, dimension_columns}
@@ -15,14 +16,14 @@ use Rattle.loader.specs.Source.{csv_records}
 use Rattle.coordinator.specs.Whole.{Input, IsRefused}
 use Rattle.coordinator.specs.declared.whole_fault.WholeFault.{WholeFault}
 use Rattle.folders.specs.Each.{AreEach}
-use Rattle.folders.specs.Folder.{File, Holds, AreHeld, catalog_path, csv_path, cut_path, dimension_path, fragment_path}
+use Rattle.folders.specs.Folder.{Change, Holds, AreHeld, catalog_path, csv_path, cut_path, dimension_path, fragment_path}
 use Rattle.folders.specs.Refused.{IsUnread, IsUnwritten, refusal_of}
 use Rattle.folders.specs.declared.refusal.Refusal.{Refusal}
 use Rattle.folders.specs.declared.refusal.Refusal.TheVariants as refusal
 use Rattle.jobs.specs.Gathering.{IsGatherRefused, IsUnprinted}
 use Rattle.jobs.specs.Job.{IsCatalogRefused, IsCatalogThere}
 use Rattle.jobs.specs.Working.{IsWorkRefused}
-use Rattle.cli.specs.Loading.{IsDimensionLoaded, IsFactLoaded}
+use Rattle.cli.specs.Loading.{IsDimensionLoaded, IsFactCounted, IsFactLoaded}
 use Rattle.cli.specs.Running.{AreTables, IsCsvOf, input_over}
 use Rattle.command_line.specs.declared.commands.Command.{Command}
 use Rattle.command_line.specs.declared.commands.Command.TheVariants.{Whole, Load, Work, Gather}
@@ -51,16 +52,23 @@ IsFactUncut folder (Some file) rows e = IsFileUncut (csv_path folder file.table)
 
 -- ---- tables that aren't loaded
 
--- the fact's file is held; its rows can't be counted or cut, or the table that it stands for has a fault
-abbrev pub IsFactFileRefused : List ℕ → Catalog → List ℕ → ℕ → Refusal → Type 0
-IsFactFileRefused path catalog csv rows e = IsFileUncut path csv rows e
-    ⊎ ((cut : Cut) × (fault : TableFault) × (cut_of (even_lengths (length (drop 1 (csv_records csv))) rows) ≡ Ok cut)
-    × (fact_fragments catalog cut (csv_records csv) ≡ Err fault) × (e ≡ refusal.Load fault))
+-- the fact's file can't be read to its end, or its records can't be counted
+abbrev pub IsFactUncounted : Holds → List ℕ → Catalog → Refusal → Type 0
+IsFactUncounted holds folder catalog e = IsUnread (csv_path folder catalog.fact.name) e
+    ⊎ ((e ≡ refusal.Load table_fault.TooManyRows)
+    × ((csv : List ℕ) → holds (csv_path folder catalog.fact.name) ≡ Some csv → max_counted ≤ length (csv_records csv)))
 
--- the fact's file can't be read, or what it holds is refused
+-- the fact's file can't be read to its end, or the table that it stands for has a fault under this cut
+abbrev pub IsFactUnloaded : Holds → List ℕ → Catalog → Cut → Refusal → Type 0
+IsFactUnloaded holds folder catalog cut e = IsUnread (csv_path folder catalog.fact.name) e
+    ⊎ ((fault : TableFault) × (e ≡ refusal.Load fault)
+    × ((csv : List ℕ) → holds (csv_path folder catalog.fact.name) ≡ Some csv → fact_fragments catalog cut (csv_records csv) ≡ Err fault))
+
+-- the fact isn't counted, or it isn't cut, or it isn't loaded. What is said of its file is said where its bytes are known.
 abbrev pub IsFactRefused : Holds → List ℕ → Catalog → ℕ → Refusal → Type 0
-IsFactRefused holds folder catalog rows e = IsUnread (csv_path folder catalog.fact.name) e
-    ⊎ ((csv : List ℕ) × AreHeld (holds (csv_path folder catalog.fact.name)) csv × IsFactFileRefused (csv_path folder catalog.fact.name) catalog csv rows e)
+IsFactRefused holds folder catalog rows e = IsFactUncounted holds folder catalog e
+    ⊎ ((counted : ℕ) × IsFactCounted holds folder catalog counted
+    × (IsUneven counted rows e ⊎ ((cut : Cut) × (cut_of (even_lengths counted rows) ≡ Ok cut) × IsFactUnloaded holds folder catalog cut e)))
 
 -- a dimension's file can't be read, or the table that it stands for has a fault
 abbrev pub IsDimensionRefused : Holds → List ℕ → Dimension → Refusal → Type 0
@@ -82,12 +90,6 @@ pub record IsFirstRefused (holds : Holds) (folder : List ℕ) (dims : List Dimen
 abbrev pub AreDimensionsRefused : Holds → List ℕ → List Dimension → Refusal → Type 0
 AreDimensionsRefused holds folder dims e = (e ≡ refusal.Memory) ⊎ IsFirstRefused holds folder dims e
 
--- the fact is refused, or it is loaded and a dimension is refused
-abbrev pub AreTablesRefused : Holds → List ℕ → Catalog → ℕ → Refusal → Type 0
-AreTablesRefused holds folder catalog rows e = IsFactRefused holds folder catalog rows e
-    ⊎ ((cut : Cut) × (fragments : List (List ColumnSpec)) × IsFactLoaded holds folder catalog rows cut fragments
-    × AreDimensionsRefused holds folder catalog.dims e)
-
 -- ---- files that aren't written
 
 abbrev pub AreFragmentsUnwritten : List ℕ → List ℕ → ℕ → Refusal → Type 0
@@ -96,30 +98,32 @@ AreFragmentsUnwritten folder table fragments e = (k : ℕ) × (k < fragments) ×
 abbrev pub AreDimensionsUnwritten : List ℕ → List Dimension → Refusal → Type 0
 AreDimensionsUnwritten folder dims e = (d : Dimension) × Contains dims d × IsUnwritten (dimension_path folder d.table.name) e
 
--- a fragment's file, a dimension's or that of the cut can't be written
+-- the file of a fragment that the cut doesn't have can't be taken away
+abbrev pub IsFragmentLeft : List ℕ → List ℕ → Cut → Refusal → Type 0
+IsFragmentLeft folder table cut e = (k : ℕ) × (length cut ≤ k) × (k < max_fragments) × IsUnwritten (fragment_path folder table k) e
+
+-- a fragment's file, a dimension's or that of the cut can't be written, or that of another fragment can't be taken away
 abbrev pub AreFilesUnwritten : List ℕ → Catalog → Cut → Refusal → Type 0
 AreFilesUnwritten folder catalog cut e = AreFragmentsUnwritten folder catalog.fact.name (length cut) e
     ⊎ AreDimensionsUnwritten folder catalog.dims e
+    ⊎ IsFragmentLeft folder catalog.fact.name cut e
     ⊎ IsUnwritten (cut_path folder) e
 
 -- a file can't be written or the line can't be printed
 abbrev pub IsUnsaved : List ℕ → Catalog → Cut → Refusal → Type 0
 IsUnsaved folder catalog cut e = AreFilesUnwritten folder catalog cut e ⊎ (e ≡ refusal.CannotPrint)
 
--- all tables are loaded, and a file can't be written or the line can't be printed
-pub record IsSavingRefused (holds : Holds) (folder : List ℕ) (catalog : Catalog) (rows : ℕ) (e : Refusal) : Type 0 where
-  pub cut : Cut
-  pub fragments : List (List ColumnSpec)
-  pub fact : IsFactLoaded holds folder catalog rows cut fragments
-  pub dims : List (List ColumnSpec)
-  pub each : AreEach (IsDimensionLoaded holds folder) catalog.dims dims
-  pub refused : IsUnsaved folder catalog cut e
+-- a dimension is refused; or all are loaded, and a file can't be written or the line can't be printed
+abbrev pub IsUnfinished : Holds → List ℕ → Catalog → Cut → Refusal → Type 0
+IsUnfinished holds folder catalog cut e = AreDimensionsRefused holds folder catalog.dims e
+    ⊎ ((dims : List (List ColumnSpec)) × AreEach (IsDimensionLoaded holds folder) catalog.dims dims × IsUnsaved folder catalog cut e)
 
 -- ---- the commands
 
--- the tables of a catalogue are refused, or what comes behind their loading
+-- the fact is refused; or it is loaded, and what comes behind isn't done
 abbrev pub IsCatalogLoadRefused : Holds → List ℕ → Catalog → ℕ → Refusal → Type 0
-IsCatalogLoadRefused holds folder catalog rows e = AreTablesRefused holds folder catalog rows e ⊎ IsSavingRefused holds folder catalog rows e
+IsCatalogLoadRefused holds folder catalog rows e = IsFactRefused holds folder catalog rows e
+    ⊎ ((cut : Cut) × (fragments : List (List ColumnSpec)) × IsFactLoaded holds folder catalog rows cut fragments × IsUnfinished holds folder catalog cut e)
 
 -- the catalogue is refused, or its tables
 abbrev pub IsLoadRefused : Holds → List ℕ → ℕ → Refusal → Type 0
@@ -170,7 +174,7 @@ abbrev pub IsQuiet : Refusal → Option (List ℕ) → Option (List ℕ) → Typ
 IsQuiet e before after = IsUnprinted e ⊎ (after ≡ before)
 
 -- no file was written, unless the refusal is of writing
-abbrev pub LeavesFiles : Refusal → Option (List File) → Option (List File) → Type 0
+abbrev pub LeavesFiles : Refusal → Option (List Change) → Option (List Change) → Type 0
 LeavesFiles e before after = IsOfOutput e ⊎ (after ≡ before)
 
 -- nothing went to standard error but from `gather`, which names the files that it passes over
@@ -179,7 +183,7 @@ IsSilent (Gather command) before after = ⊤
 IsSilent _ before after = after ≡ before
 
 -- a command is refused for this, and what it printed and wrote by then
-pub record IsRefusedSo (holds : Holds) (command : Command) (before after : Option (List ℕ)) (wrote_before wrote_after : Option (List File)) (e : Refusal) : Type 0 where
+pub record IsRefusedSo (holds : Holds) (command : Command) (before after : Option (List ℕ)) (wrote_before wrote_after : Option (List Change)) (e : Refusal) : Type 0 where
   pub stands : IsRefusedFor holds command e
   pub quiet : IsQuiet e before after
   pub left : LeavesFiles e wrote_before wrote_after

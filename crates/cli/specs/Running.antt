@@ -7,7 +7,7 @@ use Rattle.loader.specs.Source.{csv_records}
 use Rattle.coordinator.specs.Gathering.{GatherSpec}
 use Rattle.coordinator.specs.Whole.{Files, Input, IsAnswered}
 use Rattle.coordinator.specs.declared.reporting.Ended.{Ended}
-use Rattle.folders.specs.Folder.{Holds, File, AreHeld, catalog_path, csv_path}
+use Rattle.folders.specs.Folder.{Holds, Change, AreHeld, catalog_path, csv_path}
 use Rattle.cli.specs.Loading.{IsLoadDone}
 use Rattle.jobs.specs.Gathering.{IsGathered}
 use Rattle.jobs.specs.Working.{IsWorked}
@@ -61,13 +61,13 @@ pub record IsWholeDone (holds : Holds) (folder query : List ℕ) (rows vector : 
   pub ends : status ≡ end_status ended
 
 -- files were gathered, and the status is that of the report
-pub record IsReportedAs (holds : Holds) (command : GatherCommand) (before after err_before err_after : Option (List ℕ)) (wrote_before wrote_after : Option (List File)) (status : ℕ) : Type 0 where
+pub record IsReportedAs (holds : Holds) (command : GatherCommand) (before after err_before err_after : Option (List ℕ)) (wrote_before wrote_after : Option (List Change)) (status : ℕ) : Type 0 where
   pub report : Report
   pub gathered : IsGathered holds command before after err_before err_after wrote_before wrote_after report
   pub ends : status ≡ report_status report
 
 -- the command was done; `whole` writes no file, `work` prints nothing, and `gather` alone writes to standard error
-abbrev pub IsCommandDone : Holds → Command → Option (List ℕ) → Option (List ℕ) → Option (List ℕ) → Option (List ℕ) → Option (List File) → Option (List File) → ℕ → Type 0
+abbrev pub IsCommandDone : Holds → Command → Option (List ℕ) → Option (List ℕ) → Option (List ℕ) → Option (List ℕ) → Option (List Change) → Option (List Change) → ℕ → Type 0
 IsCommandDone holds (Whole folder query rows vector) before after err_before err_after wrote_before wrote_after status =
     IsWholeDone holds folder query rows vector before after status × (wrote_after ≡ wrote_before) × (err_after ≡ err_before)
 IsCommandDone holds (Load folder load rows) before after err_before err_after wrote_before wrote_after status =

@@ -1,25 +1,28 @@
 //! Runs a command and gives its exit status.
-ghost use Rattle.std.specs.Prelude.{◌≡◌, ◌≢◌, ◌≤◌, IfErr, IfOk, OnErr, OnOk, Ok, length};
+ghost use Rattle.std.specs.Prelude.{◌≡◌, ◌≢◌, ◌≤◌, List, IfErr, IfOk, OnErr, OnOk, Ok, length, sum};
 ghost use Rattle.std.specs.Io.KnownBytes.{Appends};
 ghost use Rattle.meaning.specs.declared.catalog.Catalog.{Catalog as Declared};
 ghost use Rattle.meaning.specs.Catalog.{IsWellFormed};
 ghost use Rattle.meaning.specs.CatalogText.{catalog_of};
+ghost use Rattle.columns.specs.Column.{ColumnSpec};
 ghost use Rattle.coordinator.specs.Gathering.{GatherSpec};
 ghost use Rattle.coordinator.specs.Whole.{IsAnswered};
 ghost use Rattle.command_line.specs.Command.{IsInRange};
 ghost use Rattle.folders.specs.Folder.{AreHeld, Writes, catalog_path};
 ghost use Rattle.folders.specs.Each.{AreEach};
-ghost use Rattle.cli.specs.Loading.{AreDimensionColumns, AreFiles, AreFragmentColumns, IsCatalogLoaded, IsLoadDone, loaded_line};
-ghost use Rattle.cli.specs.Refusing.{AreDeclaredTablesRefused, IsCatalogLoadRefused, IsInputRefused, IsLoadRefused, IsQuiet, IsRefusedSo, IsSilent, IsUnsaved, IsWholeRefused, LeavesFiles};
+ghost use Rattle.cli.specs.Loading.{AreFiles, AreFragmentsClosed, IsCatalogLoaded, IsDimensionLoaded, IsLoadDone, loaded_line};
+ghost use Rattle.cli.specs.Refusing.{AreDeclaredTablesRefused, AreFragmentsUnwritten, IsCatalogLoadRefused, IsInputRefused, IsLoadRefused, IsQuiet, IsRefusedSo, IsSilent, IsUnfinished, IsWholeRefused, LeavesFiles};
 ghost use Rattle.cli.specs.Running.{AreTables, IsWholeDone, IsCommandDone, IsReportedAs, input_over};
 ghost use Rattle.cli.specs.Status.{IsEndStatus, IsRunStatus, end_status, report_status};
 ghost use Rattle.folders.specs.declared.refusal.Refusal.{Refusal as ARefusal};
 ghost use Rattle.jobs.specs.Gathering.{IsGatherRefused};
 ghost use Rattle.jobs.specs.Working.{IsWorked, IsWorkRefused};
 
-use crate::loading::{Loaded, load_tables};
+use crate::fragments::{Fact, load_fact};
+use crate::loading::load_dimensions;
 use crate::saving::save;
 use crate::tables::{Tables, lend_files, read_tables};
+use crate::target::Target;
 use command_line::{Command, GatherCommand, WorkCommand};
 use coordinator::{Ended, Report, whole};
 use folders::files::read_catalog_file;
@@ -129,26 +132,32 @@ fn print_loaded<O: Write>(rows: u64, fragments: usize, out: &mut O) -> io::Resul
     writeln!(out, "loaded {rows} rows in {fragments} fragments")
 }
 
-fn save_and_tell<F: Folder, O: Write>(
+/// Loads the dimensions behind the fact, and only then puts files under their paths.
+fn finish_load<F: Folder, O: Write>(
     alloc: Global,
     folder: &mut F,
-    directory: &str,
-    load: u64,
-    catalog: &Catalog,
-    loaded: &Loaded,
+    target: &Target<'_>,
+    fact: Fact<F::Closed>,
     out: &mut O,
 ) -> Result<(), Refusal>
-    requires well_formed { IsWellFormed catalog.now }
-    requires fragments { AreEach (AreFragmentColumns catalog.now.fact) loaded.now.fact.cut loaded.now.fact.fragments.items }
-    requires dims { AreEach AreDimensionColumns catalog.now.dims loaded.now.dims.items }
-    ensures written { OnOk result (Writes (AreFiles directory.now load catalog.now loaded.now.fact.cut loaded.now.fact.fragments.items loaded.now.dims.items)
-        (F.wrote folder.old) (F.wrote folder.new)) }
-    ensures printed { OnOk result (Appends (O.contents out.old) (O.contents out.new) (loaded_line loaded.now.fact.rows (length loaded.now.fact.cut))) }
-    ensures refused { IfErr result (IsUnsaved directory.now catalog.now loaded.now.fact.cut) }
+    requires well_formed { IsWellFormed target.now.catalog.now }
+    requires counted { fact.rows ≡ sum fact.cut }
+    requires closed { IfOk fact.files (λ files. length files.items ≡ length fact.cut) }
+    requires unwritten { IfErr fact.files (AreFragmentsUnwritten target.now.directory.now target.now.catalog.now.fact.name (length fact.cut)) }
+    ensures finished { OnOk result ((fragments : List (List ColumnSpec))
+        → IfOk fact.files (λ files. AreFragmentsClosed F.enclosed (F.wrote folder.old) target.now.load target.now.catalog.now.fact fact.cut fragments files.items)
+        → (dims : List (List ColumnSpec)) × AreEach (IsDimensionLoaded (F.holds folder.old) target.now.directory.now) target.now.catalog.now.dims dims
+        × Appends (O.contents out.old) (O.contents out.new) (loaded_line (sum fact.cut) (length fact.cut))
+        × Writes (AreFiles target.now.directory.now target.now.load target.now.catalog.now fact.cut fragments dims) (F.wrote folder.old) (F.wrote folder.new)) }
+    ensures refused { IfErr result (IsUnfinished (F.holds folder.old) target.now.directory.now target.now.catalog.now fact.cut) }
     ensures quiet { IfErr result (λ e. IsQuiet e (O.contents out.old) (O.contents out.new)) }
+    ensures left { IfErr result (λ e. LeavesFiles e (F.wrote folder.old) (F.wrote folder.new)) }
 {
-    save(alloc, folder, directory, load, catalog, loaded)?;
-    match print_loaded(loaded.fact.rows, loaded.fact.cut.lengths().len(), out) {
+    let Fact { rows, cut, files } = fact;
+    let dims = load_dimensions(alloc, folder, target.directory, target.catalog)?;
+    let files = files?;
+    save(alloc, folder, target, &cut, files, dims.as_slice())?;
+    match print_loaded(rows, cut.lengths().len(), out) {
         Ok(()) => Ok(()),
         Err(_) => Err(Refusal::CannotPrint),
     }
@@ -157,23 +166,20 @@ fn save_and_tell<F: Folder, O: Write>(
 fn load_declared<F: Folder, O: Write>(
     alloc: Global,
     folder: &mut F,
-    directory: &str,
-    load: u64,
-    catalog: &Catalog,
+    target: &Target<'_>,
     rows: u32,
     out: &mut O,
 ) -> Result<(), Refusal>
     requires rows { 1 ≤ rows }
-    requires well_formed { IsWellFormed catalog.now }
-    ensures loaded { OnOk result (IsCatalogLoaded (F.holds folder.old) directory.now load rows catalog.now (O.contents out.old) (O.contents out.new) (F.wrote folder.old) (F.wrote folder.new)) }
-    ensures refused { IfErr result (IsCatalogLoadRefused (F.holds folder.old) directory.now catalog.now rows) }
+    requires well_formed { IsWellFormed target.now.catalog.now }
+    ensures loaded { OnOk result (IsCatalogLoaded (F.holds folder.old) target.now.directory.now target.now.load rows target.now.catalog.now
+        (O.contents out.old) (O.contents out.new) (F.wrote folder.old) (F.wrote folder.new)) }
+    ensures refused { IfErr result (IsCatalogLoadRefused (F.holds folder.old) target.now.directory.now target.now.catalog.now rows) }
     ensures quiet { IfErr result (λ e. IsQuiet e (O.contents out.old) (O.contents out.new)) }
     ensures left { IfErr result (λ e. LeavesFiles e (F.wrote folder.old) (F.wrote folder.new)) }
 {
-    let loaded = load_tables(alloc, folder, directory, catalog, rows)?;
-    let told = save_and_tell(alloc, folder, directory, load, catalog, &loaded, out);
-    drop(loaded);
-    told
+    let fact = load_fact(alloc, folder, target, rows)?;
+    finish_load(alloc, folder, target, fact, out)
 }
 
 fn load<F: Folder, O: Write>(
@@ -192,7 +198,12 @@ fn load<F: Folder, O: Write>(
 {
     let bytes = read_catalog_file(alloc, folder, directory)?;
     let catalog = read_catalog(alloc, bytes.as_slice())?;
-    let loaded = load_declared(alloc, folder, directory, load, &catalog, rows, out);
+    let target = Target {
+        directory,
+        load,
+        catalog: &catalog,
+    };
+    let loaded = load_declared(alloc, folder, &target, rows, out);
     drop(catalog);
     loaded
 }

@@ -14,7 +14,8 @@ use Rattle.meaning.specs.Laws.{own_answers}
 pub sum_cons : (n : ℕ) (ns : List ℕ) → sum (n ∷ ns) ≡ n + sum ns
 sum_cons n ns = sum_by-cons (λ x. x) n ns
 
-sum_to_next : (cut : Cut) (k : ℕ) → k < length cut → sum (take (suc k) cut) ≡ sum (take k cut) + slice_index cut k
+-- the next fragment begins where this one ends
+pub sum_to_next : (cut : Cut) (k : ℕ) → k < length cut → sum (take (suc k) cut) ≡ sum (take k cut) + slice_index cut k
 sum_to_next [] k below = absurd (omega arith)
 sum_to_next (n ∷ ns) zero below = refl
 sum_to_next (n ∷ ns) (suc k) below =
@@ -23,7 +24,8 @@ sum_to_next (n ∷ ns) (suc k) below =
     let rest = sum_to_next ns k (omega arith) in
     grind (arith, here, there, rest)
 
-sum_to_place : (cut : Cut) (k : ℕ) → sum (take k cut) ≤ sum cut
+-- a front has no more rows than all
+pub sum_to_place : (cut : Cut) (k : ℕ) → sum (take k cut) ≤ sum cut
 sum_to_place [] zero = omega arith
 sum_to_place [] (suc k) = omega arith
 sum_to_place (n ∷ ns) zero = omega arith
@@ -41,7 +43,8 @@ room cut k rows below whole =
     let left = length-drop (first_row cut k) rows in
     grind (arith, next, most, left, whole)
 
-range_to_next : (start n : ℕ) → range_with_len start (suc n) ≡ range_with_len start n ++ (start + n) ∷ []
+-- a range of one number more
+pub range_to_next : (start n : ℕ) → range_with_len start (suc n) ≡ range_with_len start n ++ (start + n) ∷ []
 range_to_next start zero = ap (λ k. k ∷ []) (grind arith)
 range_to_next start (suc n) =
     let same : (start + 1) + n ≡ start + suc n = omega arith in

@@ -37,7 +37,8 @@ each_so Fits Suits so [] (y ∷ ys) all = absurd all
 each_so Fits Suits so (x ∷ xs) [] all = absurd all
 each_so Fits Suits so (x ∷ xs) (y ∷ ys) all = (so x y all.0, each_so Fits Suits so xs ys all.1)
 
-numbered_append : {A : Type 0} (n : ℕ) (xs : List A) (x : A) → enumerate_from n (xs ++ x ∷ []) ≡ enumerate_from n xs ++ (n + length xs, x) ∷ []
+-- one element more behind all, with its number
+pub numbered_append : {A : Type 0} (n : ℕ) (xs : List A) (x : A) → enumerate_from n (xs ++ x ∷ []) ≡ enumerate_from n xs ++ (n + length xs, x) ∷ []
 numbered_append n [] x = ap (λ k. (k, x) ∷ []) (omega arith)
 numbered_append n (y ∷ xs) x =
     let same : n + 1 + length xs ≡ n + suc (length xs) = omega arith in

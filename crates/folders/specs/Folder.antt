@@ -1,20 +1,24 @@
--- What is known of the files that a program reads and writes.
-use Rattle.std.specs.Prelude.{◌≡◌, ℕ, List, [], ◌∷◌, ◌++◌, if◌then◌else◌, codes, decimal, Option, Some, Result, IfOk, IfSome, nat_eq}
+-- What is known of the files that a program reads, writes and takes away.
+use Rattle.std.specs.Prelude.{◌≡◌, ℕ, List, [], ◌∷◌, ◌++◌, if◌then◌else◌, codes, decimal, Option, None, Some, Result, IfOk, IfSome, nat_eq}
 use Rattle.std.specs.List.{ends_with}
 
 -- the bytes of each path, where they are known
 abbrev pub Holds : Type 0
 Holds = List ℕ → Option (List ℕ)
 
--- a file's path and bytes
-abbrev pub File : Type 0
-File = List ℕ × List ℕ
+-- a path, and the bytes that stand under it from then on; none where its file was taken away
+abbrev pub Change : Type 0
+Change = List ℕ × Option (List ℕ)
 
 -- ---- reading
 
 -- an opened file has the bytes that are held under its path, where those are known
 abbrev pub Opens : {R E : Type 0} → (R → Option (List ℕ)) → Option (List ℕ) → Result R E → Type 0
 Opens remaining held result = IfOk result (λ file. IfSome held (λ bytes. remaining file ≡ Some bytes))
+
+-- the same, of any bytes that are known to be held
+abbrev pub HasHeld : Option (List ℕ) → Option (List ℕ) → Type 0
+HasHeld held remaining = (bytes : List ℕ) → held ≡ Some bytes → remaining ≡ Some bytes
 
 -- these bytes are those held, where those are known
 abbrev pub AreHeld : Option (List ℕ) → List ℕ → Type 0
@@ -23,20 +27,28 @@ AreHeld held bytes = IfSome held (λ known. bytes ≡ known)
 -- ---- writing
 
 -- a file that was made has no bytes yet, where what is written is known
-abbrev pub IsEmptyFile : Option (List File) → Option (List ℕ) → Type 0
-IsEmptyFile wrote contents = (old : List File) → wrote ≡ Some old → contents ≡ Some []
+abbrev pub IsEmptyFile : Option (List Change) → Option (List ℕ) → Type 0
+IsEmptyFile wrote contents = (old : List Change) → wrote ≡ Some old → contents ≡ Some []
 
--- a file of these bytes stands under its path behind those before, where they are known
-abbrev pub Finishes : Option (List File) → Option (List File) → List ℕ → Option (List ℕ) → Type 0
-Finishes before after path contents = (old : List File) (bytes : List ℕ) → before ≡ Some old → contents ≡ Some bytes → after ≡ Some (old ++ (path, bytes) ∷ [])
+-- a file that is closed, and stands under no path yet, has such bytes, where what is written is known
+abbrev pub Encloses : (List ℕ → Type 0) → Option (List Change) → Option (List ℕ) → Type 0
+Encloses AreSuch wrote contents = (old : List Change) → wrote ≡ Some old → (bytes : List ℕ) × (contents ≡ Some bytes) × AreSuch bytes
 
--- such files stand behind those before, where they are known
-abbrev pub Writes : (List File → Type 0) → Option (List File) → Option (List File) → Type 0
-Writes AreSuch before after = (old : List File) → before ≡ Some old → (new : List File) × (after ≡ Some (old ++ new)) × AreSuch new
+-- a file of these bytes stands under its path behind the changes before, where they are known
+abbrev pub Finishes : Option (List Change) → Option (List Change) → List ℕ → Option (List ℕ) → Type 0
+Finishes before after path contents = (old : List Change) (bytes : List ℕ) → before ≡ Some old → contents ≡ Some bytes → after ≡ Some (old ++ (path, Some bytes) ∷ [])
 
--- a file of such bytes stands under the path behind those before, where they are known
-abbrev pub WritesOne : List ℕ → (List ℕ → Type 0) → Option (List File) → Option (List File) → Type 0
-WritesOne path AreSuch before after = (old : List File) → before ≡ Some old → (bytes : List ℕ) × (after ≡ Some (old ++ (path, bytes) ∷ [])) × AreSuch bytes
+-- no file stands under the path behind the changes before, where they are known
+abbrev pub Removes : Option (List Change) → Option (List Change) → List ℕ → Type 0
+Removes before after path = (old : List Change) → before ≡ Some old → after ≡ Some (old ++ (path, None) ∷ [])
+
+-- such changes were made behind those before, where they are known
+abbrev pub Writes : (List Change → Type 0) → Option (List Change) → Option (List Change) → Type 0
+Writes AreSuch before after = (old : List Change) → before ≡ Some old → (new : List Change) × (after ≡ Some (old ++ new)) × AreSuch new
+
+-- a file of such bytes stands under the path behind the changes before, where they are known
+abbrev pub WritesOne : List ℕ → (List ℕ → Type 0) → Option (List Change) → Option (List Change) → Type 0
+WritesOne path AreSuch before after = (old : List Change) → before ≡ Some old → (bytes : List ℕ) × (after ≡ Some (old ++ (path, Some bytes) ∷ [])) × AreSuch bytes
 
 -- ---- paths
 

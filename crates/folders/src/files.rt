@@ -1,7 +1,7 @@
 //! The files of a folder, read and written whole.
 ghost use Rattle.std.specs.Prelude.{◌≡◌, ◌≢◌, IfErr, IfOk, IfSome, OnOk};
 ghost use Rattle.fragment_file.specs.declared.fault.FileFault.TheVariants as no_file;
-ghost use Rattle.folders.specs.Folder.{AreHeld, Finishes, IsEmptyFile, WritesOne, catalog_path};
+ghost use Rattle.folders.specs.Folder.{AreHeld, Finishes, HasHeld, IsEmptyFile, Removes, WritesOne, catalog_path};
 ghost use Rattle.folders.specs.Refused.{IsUnread, IsUnwritten};
 ghost use Rattle.folders.specs.declared.refusal.Refusal.TheVariants.{Memory};
 
@@ -54,6 +54,20 @@ pub fn read_file<F: Folder>(alloc: Global, folder: &F, path: &Text) -> Result<Ve
     }
 }
 
+/// A reader of a file's bytes from their beginning.
+pub fn open_file<F: Folder>(folder: &F, path: &Text) -> Result<F::Reader, Refusal>
+    ensures opened { IfOk result (λ file. HasHeld (F.holds folder.now path.now) (F.Reader.remaining file)) }
+    ensures refused { IfErr result (IsUnread path.now) }
+{
+    match folder.open(path.as_str()) {
+        Ok(file) => Ok(file),
+        Err(error) => match error.kind() {
+            ErrorKind::OutOfMemory => Err(Refusal::Memory),
+            _ => Err(cannot_read(path)),
+        },
+    }
+}
+
 /// The bytes of a folder's catalogue.
 pub fn read_catalog_file<F: Folder>(
     alloc: Global,
@@ -94,6 +108,7 @@ pub fn refusal_of_file(path: &Text, fault: FileFault) -> Refusal
 pub fn create_file<F: Folder>(folder: &mut F, path: &Text) -> Result<F::Writer, Refusal>
     ensures empty { IfOk result (λ file. IsEmptyFile (F.wrote folder.old) (F.Writer.contents file)) }
     ensures same { F.wrote folder.new ≡ F.wrote folder.old }
+    ensures held { F.holds folder.new ≡ F.holds folder.old }
     ensures refused { IfErr result (IsUnwritten path.now) }
 {
     match folder.create(path.as_str()) {
@@ -102,12 +117,49 @@ pub fn create_file<F: Folder>(folder: &mut F, path: &Text) -> Result<F::Writer, 
     }
 }
 
-/// Puts a file under its path.
+/// Closes a file that has all its bytes, and is to stand under the path.
+pub fn close_file<F: Folder>(
+    folder: &mut F,
+    path: &Text,
+    file: F::Writer,
+) -> Result<F::Closed, Refusal>
+    ensures closed { IfOk result (λ closed. F.enclosed closed ≡ F.Writer.contents file) }
+    ensures same { F.wrote folder.new ≡ F.wrote folder.old }
+    ensures held { F.holds folder.new ≡ F.holds folder.old }
+    ensures refused { IfErr result (IsUnwritten path.now) }
+{
+    match folder.close(file) {
+        Ok(file) => Ok(file),
+        Err(error) => Err(refusal_of_device(path, error)),
+    }
+}
+
+/// Puts a closed file under its path.
+pub fn put_file<F: Folder>(folder: &mut F, path: &Text, file: F::Closed) -> Result<(), Refusal>
+    ensures finished { OnOk result (Finishes (F.wrote folder.old) (F.wrote folder.new) path.now (F.enclosed file)) }
+    ensures refused { IfErr result (IsUnwritten path.now) }
+{
+    match folder.finish(path.as_str(), file) {
+        Ok(()) => Ok(()),
+        Err(error) => Err(refusal_of_device(path, error)),
+    }
+}
+
+/// Closes a file that has all its bytes, and puts it under its path.
 pub fn finish_file<F: Folder>(folder: &mut F, path: &Text, file: F::Writer) -> Result<(), Refusal>
     ensures finished { OnOk result (Finishes (F.wrote folder.old) (F.wrote folder.new) path.now (F.Writer.contents file)) }
     ensures refused { IfErr result (IsUnwritten path.now) }
 {
-    match folder.finish(path.as_str(), file) {
+    let file = close_file(folder, path, file)?;
+    put_file(folder, path, file)
+}
+
+/// Takes the file of a path away, where there is one.
+pub fn remove_file<F: Folder>(folder: &mut F, path: &Text) -> Result<(), Refusal>
+    ensures removed { OnOk result (Removes (F.wrote folder.old) (F.wrote folder.new) path.now) }
+    ensures refused { IfErr result (IsUnwritten path.now) }
+{
+    match folder.remove(path.as_str()) {
         Ok(()) => Ok(()),
         Err(error) => Err(refusal_of_device(path, error)),
     }

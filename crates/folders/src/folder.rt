@@ -1,6 +1,6 @@
 //! The trait of folders that commands read from and write to.
 ghost use Rattle.std.specs.Prelude.{◌≡◌, ℕ, List, Option, None, IfOk, OnOk};
-ghost use Rattle.folders.specs.Folder.{File, Finishes, IsEmptyFile, Opens};
+ghost use Rattle.folders.specs.Folder.{Change, Finishes, IsEmptyFile, Opens, Removes};
 
 use std::io;
 use std::io::{Read, Write};
@@ -12,11 +12,17 @@ pub trait Folder {
     /// What takes the bytes of a file.
     type Writer: Write + Drop;
 
+    /// A file that has all its bytes and stands under no path yet. It is given up where it is let go.
+    type Closed: Drop;
+
     // The bytes of a path's file, where they are known.
     ghost holds: { Self → List ℕ → Option (List ℕ) } = { λ _ _. None };
 
-    // The files finished so far, where they are known.
-    ghost wrote: { Self → Option (List File) } = { λ _. None };
+    // The files finished and taken away so far, where they are known.
+    ghost wrote: { Self → Option (List Change) } = { λ _. None };
+
+    // The bytes of a closed file, where they are known.
+    ghost enclosed: { Self.Closed → Option (List ℕ) } = { λ _. None };
 
     /// A reader of a file's bytes from their beginning.
     fn open(&self, path: &str) -> io::Result<Self::Reader>
@@ -25,9 +31,20 @@ pub trait Folder {
     /// An empty file, which stands under its path once it is finished.
     fn create(&mut self, path: &str) -> io::Result<Self::Writer>
         ensures empty { IfOk result (λ file. IsEmptyFile (wrote self.old) (Self.Writer.contents file)) }
-        ensures same { wrote self.new ≡ wrote self.old };
+        ensures same { wrote self.new ≡ wrote self.old }
+        ensures held { holds self.new ≡ holds self.old };
+
+    /// Closes a file that has all its bytes. They are kept, whatever happens to the machine.
+    fn close(&mut self, file: Self::Writer) -> io::Result<Self::Closed>
+        ensures closed { IfOk result (λ closed. enclosed closed ≡ Self.Writer.contents file) }
+        ensures same { wrote self.new ≡ wrote self.old }
+        ensures held { holds self.new ≡ holds self.old };
 
     /// Puts a file that was created for this path under it.
-    fn finish(&mut self, path: &str, file: Self::Writer) -> io::Result<()>
-        ensures { OnOk result (Finishes (wrote self.old) (wrote self.new) path.now (Self.Writer.contents file)) };
+    fn finish(&mut self, path: &str, file: Self::Closed) -> io::Result<()>
+        ensures { OnOk result (Finishes (wrote self.old) (wrote self.new) path.now (enclosed file)) };
+
+    /// Takes the file of a path away, where there is one.
+    fn remove(&mut self, path: &str) -> io::Result<()>
+        ensures { OnOk result (Removes (wrote self.old) (wrote self.new) path.now) };
 }

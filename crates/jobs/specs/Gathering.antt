@@ -16,7 +16,7 @@ use Rattle.partial_codec.specs.declared.fault.DecodeFault.{DecodeFault}
 use Rattle.coordinator.specs.Gathering.{GatherSpec}
 use Rattle.coordinator.specs.Reporting.{summary}
 use Rattle.coordinator.specs.declared.reporting.Report.{Report}
-use Rattle.folders.specs.Folder.{AreHeld, File, Holds, WritesOne}
+use Rattle.folders.specs.Folder.{AreHeld, Change, Holds, WritesOne}
 use Rattle.folders.specs.Refused.{IsUnread, IsUnwritten}
 use Rattle.folders.specs.Telling.{passed_over_line}
 use Rattle.folders.specs.declared.refusal.Refusal.{Refusal}
@@ -102,18 +102,18 @@ pub record IsGatheredOf (holds : Holds) (command : GatherCommand) (err_before er
   pub state : g.cells ≡ gathered g.job.cut (takings_of files)
 
 -- the state was written under its path, if it has one
-abbrev pub IsSaved : Option (List ℕ) → List ℕ → Option (List File) → Option (List File) → Type 0
+abbrev pub IsSaved : Option (List ℕ) → List ℕ → Option (List Change) → Option (List Change) → Type 0
 IsSaved None spelled before after = after ≡ before
 IsSaved (Some path) spelled before after = WritesOne path (λ bytes. bytes ≡ spelled) before after
 
 -- the state was saved, and its report printed and told
-pub record IsReported (g : GatherSpec) (save : Option (List ℕ)) (before after : Option (List ℕ)) (wrote_before wrote_after : Option (List File)) (given : Report) : Type 0 where
+pub record IsReported (g : GatherSpec) (save : Option (List ℕ)) (before after : Option (List ℕ)) (wrote_before wrote_after : Option (List Change)) (given : Report) : Type 0 where
   pub saved : IsSaved save (state_bytes g.job g.cells) wrote_before wrote_after
   pub printed : Appends before after (report_text g.job.plan (report g.job.plan g.cells))
   pub told : given ≡ summary (report g.job.plan g.cells)
 
 -- what the files say together was gathered, saved and reported
-pub record IsGathered (holds : Holds) (command : GatherCommand) (before after err_before err_after : Option (List ℕ)) (wrote_before wrote_after : Option (List File)) (given : Report) : Type 0 where
+pub record IsGathered (holds : Holds) (command : GatherCommand) (before after err_before err_after : Option (List ℕ)) (wrote_before wrote_after : Option (List Change)) (given : Report) : Type 0 where
   pub gather : GatherSpec
   pub files : IsGatheredOf holds command err_before err_after gather
   pub reported : IsReported gather command.save before after wrote_before wrote_after given

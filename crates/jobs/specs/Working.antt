@@ -7,7 +7,7 @@ use Rattle.partial_codec.specs.Job.{JobSpec}
 use Rattle.worker.specs.Work.{answered}
 use Rattle.worker.specs.declared.fault.WorkFault.{WorkFault}
 use Rattle.folders.specs.Each.{AreEach}
-use Rattle.folders.specs.Folder.{AreHeld, File, Holds, WritesOne, dimension_path, fragment_path}
+use Rattle.folders.specs.Folder.{AreHeld, Change, Holds, WritesOne, dimension_path, fragment_path}
 use Rattle.folders.specs.Refused.{IsUnread, IsUnwritten, of_work}
 use Rattle.folders.specs.declared.refusal.Refusal.{Refusal}
 use Rattle.folders.specs.declared.refusal.Refusal.TheVariants as refusal
@@ -44,7 +44,7 @@ pub record IsSpelled (holds : Holds) (command : WorkCommand) (bytes : List ℕ) 
   pub answer : IsAnswer holds command job bytes
 
 -- just that spelling was written, under the path that was asked for
-abbrev pub IsWorked : Holds → WorkCommand → Option (List File) → Option (List File) → Type 0
+abbrev pub IsWorked : Holds → WorkCommand → Option (List Change) → Option (List Change) → Type 0
 IsWorked holds command before after = WritesOne command.out (IsSpelled holds command) before after
 
 -- ---- refused

@@ -23,7 +23,9 @@ fn outcome(alloc: Global, folder: &mut MemoryFolder<'_>, words: &[&str]) -> Resu
     Ok(format!(in alloc; "{status} [{out}] [{err}]")?)
 }
 
-/// Loads a folder in which so many files may be created and finished.
+const LOAD: &[&str] = &["load", "sales", "--load", "7", "--rows", "2"];
+
+/// Loads a folder in which so many files may be created, closed, finished and taken away.
 fn expect_steps(
     rt: &impl Abort,
     alloc: Global,
@@ -32,21 +34,32 @@ fn expect_steps(
     written: usize,
 ) -> Result<(), Fail> {
     let mut folder = MemoryFolder::new(alloc, FILES, steps);
-    let words = ["load", "sales", "--load", "7", "--rows", "2"];
-    let outcome = outcome(alloc, &mut folder, &words)?;
+    let outcome = outcome(alloc, &mut folder, LOAD)?;
     assert_eq!(rt; outcome.as_str(), want);
-    assert_eq!(rt; folder.written.len(), written, "at {steps}");
+    assert_eq!(rt; folder.written(), written, "at {steps}");
     Ok(())
 }
 
+// Three fragments are created and closed, then finished; the dimension is created, closed and finished; the files of
+// 4,093 fragments are taken away; and the cut is created, closed and finished.
 const STEPS: &[(u32, &str, usize)] = &[
     (0, "1 [] [xcols: cannot write sales/sales.0.xcf\n]", 0),
     (1, "1 [] [xcols: cannot write sales/sales.0.xcf\n]", 0),
-    (2, "1 [] [xcols: cannot write sales/sales.1.xcf\n]", 1),
-    (7, "1 [] [xcols: cannot write sales/store.xcf\n]", 3),
-    (8, "1 [] [xcols: cannot write sales/cut.xcl\n]", 4),
-    (9, "1 [] [xcols: cannot write sales/cut.xcl\n]", 4),
-    (10, "0 [loaded 5 rows in 3 fragments\n] []", 5),
+    (2, "1 [] [xcols: cannot write sales/sales.1.xcf\n]", 0),
+    (5, "1 [] [xcols: cannot write sales/sales.2.xcf\n]", 0),
+    (6, "1 [] [xcols: cannot write sales/sales.0.xcf\n]", 0),
+    (8, "1 [] [xcols: cannot write sales/sales.2.xcf\n]", 2),
+    (9, "1 [] [xcols: cannot write sales/store.xcf\n]", 3),
+    (11, "1 [] [xcols: cannot write sales/store.xcf\n]", 3),
+    (12, "1 [] [xcols: cannot write sales/sales.3.xcf\n]", 4),
+    (
+        4_104,
+        "1 [] [xcols: cannot write sales/sales.4095.xcf\n]",
+        4,
+    ),
+    (4_105, "1 [] [xcols: cannot write sales/cut.xcl\n]", 4),
+    (4_107, "1 [] [xcols: cannot write sales/cut.xcl\n]", 4),
+    (4_108, "0 [loaded 5 rows in 3 fragments\n] []", 5),
 ];
 
 #[test]
@@ -54,6 +67,25 @@ fn a_file_may_not_be_written(rt: HostRuntime) -> Result<(), Fail> {
     for (steps, want, written) in STEPS {
         expect_steps(&rt, rt.alloc(), *steps, want, *written)?;
     }
+    Ok(())
+}
+
+const KEY_TWICE: &[(&str, &[u8])] = &[
+    (
+        "sales/catalog.txt",
+        b"fact sales\ncol id int\ndim store key k\ncol k int\n",
+    ),
+    ("sales/sales.csv", b"id\n1\n2\n3\n4\n5\n"),
+    ("sales/store.csv", b"k\n10\n10\n"),
+];
+
+/// A table's fault is told before that of a file that can't be written.
+#[test]
+fn tables_are_judged_first(rt: HostRuntime) -> Result<(), Fail> {
+    let mut folder = MemoryFolder::new(rt.alloc(), KEY_TWICE, 3);
+    let outcome = outcome(rt.alloc(), &mut folder, LOAD)?;
+    assert_eq!(rt; outcome.as_str(), "1 [] [xcols: load 7 1\n]");
+    assert_eq!(rt; folder.written(), 0);
     Ok(())
 }
 

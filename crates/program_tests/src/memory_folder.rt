@@ -6,20 +6,21 @@ use cli::Folder;
 use std::alloc::Global;
 use std::io;
 
-/// A file that was written.
+/// A file that was written or taken away.
 #[derive(Drop)]
-pub struct Written {
+pub struct Change {
     pub path: String,
-    pub bytes: Vec<u8>,
+    /// None where the file was taken away.
+    pub bytes: Option<Vec<u8>>,
 }
 
-/// Files in memory, of which so many more may be created and finished.
+/// Files in memory, of which so many more may be created, closed, finished and taken away.
 #[derive(Drop)]
 pub struct MemoryFolder<'a> {
     alloc: Global,
     files: &'a [(&'a str, &'a [u8])],
-    /// In the order in which they were finished.
-    pub written: Vec<Written>,
+    /// In the order in which they were made.
+    pub changes: Vec<Change>,
     steps_left: u32,
 }
 
@@ -32,7 +33,7 @@ impl<'a> MemoryFolder<'a> {
         MemoryFolder {
             alloc,
             files,
-            written: Vec::new(alloc),
+            changes: Vec::new(alloc),
             steps_left,
         }
     }
@@ -44,8 +45,17 @@ impl<'a> MemoryFolder<'a> {
         Some(file.1)
     }
 
+    /// How many files were written.
+    pub fn written(&self) -> usize {
+        self.changes
+            .iter()
+            .filter(|change| change.bytes.is_some())
+            .count()
+    }
+
     fn step(&mut self) -> io::Result<()>
-        ensures { self.new.written ≡ self.old.written }
+        ensures changes { self.new.changes ≡ self.old.changes }
+        ensures files { self.new.files ≡ self.old.files }
     {
         if self.steps_left == 0 {
             return Err(io::Error::from(io::ErrorKind::PermissionDenied));
@@ -64,9 +74,13 @@ impl<'a> Folder for MemoryFolder<'a> {
 
     type Writer = Vec<u8>;
 
+    type Closed = Vec<u8>;
+
     ghost holds = { λ f path. option_map (λ file. file.1.now) (find (λ file. bytes_eq file.0.now path) f.files.now) };
 
-    ghost wrote = { λ f. Some (map (λ file. (string_bytes file.path, file.bytes.items)) f.written.items) };
+    ghost wrote = { λ f. Some (map (λ change. (string_bytes change.path, option_map (λ bytes. bytes.items) change.bytes)) f.changes.items) };
+
+    ghost enclosed = { λ bytes. Some bytes.items };
 
     fn open(&self, path: &str) -> io::Result<&'a [u8]> {
         match self.file(path) {
@@ -80,10 +94,23 @@ impl<'a> Folder for MemoryFolder<'a> {
         Ok(Vec::new(self.alloc))
     }
 
+    fn close(&mut self, bytes: Vec<u8>) -> io::Result<Vec<u8>> {
+        self.step()?;
+        Ok(bytes)
+    }
+
     fn finish(&mut self, path: &str, bytes: Vec<u8>) -> io::Result<()> {
         self.step()?;
         let path = String::from_str(self.alloc, path)?;
-        self.written.push(Written { path, bytes })?;
+        let bytes = Some(bytes);
+        self.changes.push(Change { path, bytes })?;
+        Ok(())
+    }
+
+    fn remove(&mut self, path: &str) -> io::Result<()> {
+        self.step()?;
+        let path = String::from_str(self.alloc, path)?;
+        self.changes.push(Change { path, bytes: None })?;
         Ok(())
     }
 }

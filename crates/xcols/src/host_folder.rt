@@ -1,7 +1,8 @@
 //! The files of the host.
-use crate::part_file::PartFile;
+use crate::part_file::{Part, PartFile};
 use cli::Folder;
 use std::alloc::Global;
+use std::io::ErrorKind;
 use std::rt::Files;
 use std::{fs, io};
 
@@ -26,6 +27,8 @@ impl<'a, R: Files> Folder for HostFolder<'a, R> {
 
     type Writer = PartFile<'a, R>;
 
+    type Closed = Part<'a, R>;
+
     fn open(&self, path: &str) -> io::Result<R::File> {
         fs::open(self.files, path)
     }
@@ -34,7 +37,21 @@ impl<'a, R: Files> Folder for HostFolder<'a, R> {
         PartFile::new(self.alloc, self.files, path)
     }
 
-    fn finish(&mut self, path: &str, file: PartFile<'a, R>) -> io::Result<()> {
+    fn close(&mut self, file: PartFile<'a, R>) -> io::Result<Part<'a, R>> {
+        file.close()
+    }
+
+    fn finish(&mut self, path: &str, file: Part<'a, R>) -> io::Result<()> {
         file.finish(path)
+    }
+
+    fn remove(&mut self, path: &str) -> io::Result<()> {
+        match fs::remove_file(self.files, path) {
+            Ok(()) => Ok(()),
+            Err(error) => match error.kind() {
+                ErrorKind::NotFound => Ok(()),
+                _ => Err(error),
+            },
+        }
     }
 }

@@ -9,45 +9,57 @@ use std::{fs, io};
 /// How many names are tried for a file.
 const MOST_PARTS: u32 = 1_000;
 
-/// A file until it is whole. It lies beside the path that it is for, under a name that no other run writes, and is
-/// removed where it is let go before it is whole.
-pub struct PartFile<'a, R: Files> {
+/// A name beside the path that a file is for, which no other run writes. The file under it is removed where the name is
+/// let go before the file stands under its path.
+pub struct Part<'a, R: Files> {
     files: &'a R,
-    part: String,
-    file: BufWriter<R::File>,
+    name: String,
 }
 
-impl<R: Files> Drop for PartFile<'_, R> {
+impl<R: Files> Drop for Part<'_, R> {
     fn drop(self) {
-        let PartFile { files, part, file } = self;
-        drop(file);
-        remove(files, part.as_str());
+        let Part { files, name } = self;
+        remove(files, name.as_str());
     }
+}
+
+impl<R: Files> Part<'_, R> {
+    /// Renames the file to its path.
+    pub fn finish(self, path: &str) -> io::Result<()> {
+        let Part { files, name } = self;
+        match fs::rename(files, name.as_str(), path) {
+            Ok(()) => Ok(()),
+            Err(error) => {
+                remove(files, name.as_str());
+                Err(error)
+            }
+        }
+    }
+}
+
+/// A file until it is whole.
+#[derive(Drop)]
+pub struct PartFile<'a, R: Files> {
+    // Closed before its name is let go.
+    file: BufWriter<R::File>,
+    part: Part<'a, R>,
 }
 
 impl<'a, R: Files> PartFile<'a, R> {
     /// An empty file that is for a path.
     pub fn new(alloc: Global, files: &'a R, path: &str) -> io::Result<PartFile<'a, R>> {
         let (part, file) = create(alloc, files, path)?;
-        match BufWriter::new(alloc, file) {
-            Ok(file) => Ok(PartFile { files, part, file }),
-            Err(error) => {
-                remove(files, part.as_str());
-                Err(error)
-            }
-        }
+        let file = BufWriter::new(alloc, file)?;
+        Ok(PartFile { file, part })
     }
 
-    /// Renames the file to its path once its bytes are on the disk.
-    pub fn finish(self, path: &str) -> io::Result<()> {
-        let PartFile { files, part, file } = self;
-        match rename(files, part.as_str(), path, file) {
-            Ok(()) => Ok(()),
-            Err(error) => {
-                remove(files, part.as_str());
-                Err(error)
-            }
-        }
+    /// Closes the file once its bytes are on the disk.
+    pub fn close(self) -> io::Result<Part<'a, R>> {
+        let PartFile { file, part } = self;
+        let file = file.into_inner()?;
+        file.sync_all()?;
+        drop(file);
+        Ok(part)
     }
 }
 
@@ -62,17 +74,17 @@ impl<R: Files> Write for PartFile<'_, R> {
 }
 
 // What can't be removed stays.
-fn remove<R: Files>(files: &R, part: &str) {
-    let _ = fs::remove_file(files, part);
+fn remove<R: Files>(files: &R, name: &str) {
+    let _ = fs::remove_file(files, name);
 }
 
-fn part_path(alloc: Global, path: &str, number: u32) -> Result<String, AllocError> {
+fn part_name(alloc: Global, path: &str, number: u32) -> Result<String, AllocError> {
     format!(in alloc; "{path}.{number}.part")
 }
 
 /// A new file, or `None` where the name is taken.
-fn try_create<R: Files>(files: &R, part: &str) -> io::Result<Option<R::File>> {
-    match File::create_new(files, part) {
+fn try_create<R: Files>(files: &R, name: &str) -> io::Result<Option<R::File>> {
+    match File::create_new(files, name) {
         Ok(file) => Ok(Some(file)),
         Err(error) => match error.kind() {
             ErrorKind::AlreadyExists => Ok(None),
@@ -82,19 +94,16 @@ fn try_create<R: Files>(files: &R, part: &str) -> io::Result<Option<R::File>> {
 }
 
 /// A new file under the first name that is free.
-fn create<R: Files>(alloc: Global, files: &R, path: &str) -> io::Result<(String, R::File)> {
+fn create<'a, R: Files>(
+    alloc: Global,
+    files: &'a R,
+    path: &str,
+) -> io::Result<(Part<'a, R>, R::File)> {
     for number in 0..MOST_PARTS {
-        let part = part_path(alloc, path, number)?;
-        if let Some(file) = try_create(files, part.as_str())? {
-            return Ok((part, file));
+        let name = part_name(alloc, path, number)?;
+        if let Some(file) = try_create(files, name.as_str())? {
+            return Ok((Part { files, name }, file));
         }
     }
     Err(io::Error::from(ErrorKind::AlreadyExists))
-}
-
-fn rename<R: Files>(files: &R, part: &str, path: &str, file: BufWriter<R::File>) -> io::Result<()> {
-    let file = file.into_inner()?;
-    file.sync_all()?;
-    drop(file);
-    fs::rename(files, part, path)
 }

@@ -11,30 +11,30 @@ use Rattle.cli.proofs.saving.save_dimensions.Goals as goal
 pub bounds-dims-i : goal.bounds-dims-i
 bounds-dims-i g c =
     let count = ap length c.as_slice-declared.ensures in
-    let alike = each_length AreDimensionColumns c.args.catalog.now.dims c.args.dims.now c.requires.columns in
+    let alike = each_length AreDimensionColumns c.args.target.now.catalog.now.dims c.args.dims.now c.requires.columns in
     omega (arith, count, alike)
 
 pub save_dimension-requires-clause-columns : goal.save_dimension-requires-clause-columns
 save_dimension-requires-clause-columns g c =
     let at = subst (λ (x : List ColumnSpec). x ≡ get_or c.args.dims.now c.loop-i.i x) (sym c.as_slice.ensures) c.index-dims-i.is in
-    dimension_at c.args.catalog.now.dims c.as_slice-declared.result.now c.args.dims.now c.loop-i.i c.index-declared-i.result c.as_slice.result.now
+    dimension_at c.args.target.now.catalog.now.dims c.as_slice-declared.result.now c.args.dims.now c.loop-i.i c.index-declared-i.result c.as_slice.result.now
     c.as_slice-declared.ensures c.loop-i-test.true c.index-declared-i.is at c.requires.columns
 
 pub loop-i-preserved : goal.loop-i-preserved
 loop-i-preserved g c =
     let dims = c.args.dims.now in
     let count = ap length c.as_slice-declared.ensures in
-    let alike = each_length AreDimensionColumns c.args.catalog.now.dims dims c.requires.columns in
+    let alike = each_length AreDimensionColumns c.args.target.now.catalog.now.dims dims c.requires.columns in
     let within : c.loop-i.i < length dims = omega (arith, count, alike) in
     let at = subst (λ (x : List ColumnSpec). x ≡ get_or dims c.loop-i.i x) (sym c.as_slice.ensures) c.index-dims-i.is in
-    dimension_more c.args.directory.now c.args.load c.as_slice-declared.result.now dims c.index-declared-i.result c.as_slice.result.now c.loop-i.i
+    dimension_more c.args.target.now.directory.now c.args.target.now.load c.as_slice-declared.result.now dims c.index-declared-i.result c.as_slice.result.now c.loop-i.i
     (g.F.Folder.wrote c.args.folder.now) (g.F.Folder.wrote c.loop-i.folder) (g.F.Folder.wrote c.save_dimension.new.folder)
     c.loop-i-test.true within c.index-declared-i.is at c.loop-i.invariant c.in_ok-save_dimension.ensures.written
 
 pub returns-clause-written : goal.returns-clause-written
 returns-clause-written g c =
-    let alike = each_length AreDimensionColumns c.args.catalog.now.dims c.args.dims.now c.requires.columns in
-    dimensions_end (IsDimensionFile c.args.directory.now c.args.load) c.args.catalog.now.dims c.as_slice-declared.result.now c.args.dims.now c.loop-i.i
+    let alike = each_length AreDimensionColumns c.args.target.now.catalog.now.dims c.args.dims.now c.requires.columns in
+    dimensions_end (IsDimensionFile c.args.target.now.directory.now c.args.target.now.load) c.args.target.now.catalog.now.dims c.as_slice-declared.result.now c.args.dims.now c.loop-i.i
     (g.F.Folder.wrote c.args.folder.now) (g.F.Folder.wrote c.loop-i.folder) c.as_slice-declared.ensures c.loop-i-test.false alike c.loop-i.invariant
 
 pub returns-in_err-save_dimension-clause-refused : goal.returns-in_err-save_dimension-clause-refused
@@ -43,6 +43,6 @@ returns-in_err-save_dimension-clause-refused g c =
     let p = err_from_is_err_and c.from_residual.result c.from_residual.ensures.1 in
     rw (p.1, p.2) (
       d,
-      contained c.args.catalog.now.dims c.as_slice-declared.result.now c.loop-i.i d c.as_slice-declared.ensures c.loop-i-test.true c.index-declared-i.is,
+      contained c.args.target.now.catalog.now.dims c.as_slice-declared.result.now c.loop-i.i d c.as_slice-declared.ensures c.loop-i-test.true c.index-declared-i.is,
       c.in_err-save_dimension.ensures.refused,
     )

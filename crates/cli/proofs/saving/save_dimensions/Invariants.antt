@@ -8,4 +8,4 @@ use Rattle.cli.proofs.saving.save_dimensions.Given as goal
 
 abbrev pub invariant-loop-i : goal.invariant-loop-i
 invariant-loop-i g l =
-    Writes (AreEach (IsDimensionFile l.directory l.load) (zip (take l.i l.declared) (take l.i l.dims))) (g.F.Folder.wrote l.fn.folder) (g.F.Folder.wrote l.folder)
+    Writes (AreEach (IsDimensionFile l.target.directory.now l.target.load) (zip (take l.i l.declared) (take l.i l.dims))) (g.F.Folder.wrote l.fn.folder) (g.F.Folder.wrote l.folder)

@@ -1,0 +1,43 @@
+-- A load that was finished behind its fact.
+use Rattle.std.proofs.Common.{◌≡◌, ℕ, List, length, Ok, Err, Result, Option, subst, sym, ◌∙◌, inr}
+use Rattle.std.specs.Prelude.{IfErr, sum}
+use Rattle.std.specs.List.{enumerate_from}
+use Rattle.std.specs.Io.KnownBytes.{Appends}
+use Rattle.meaning.specs.Cut.{Cut}
+use Rattle.meaning.specs.declared.catalog.Catalog.{Catalog}
+use Rattle.meaning.specs.declared.catalog.Table.{Table}
+use Rattle.columns.specs.Column.{ColumnSpec}
+use Rattle.folders.specs.Each.{AreEach}
+use Rattle.folders.specs.Folder.{Change, Holds, Writes}
+use Rattle.folders.specs.declared.refusal.Refusal.{Refusal}
+use Rattle.folders.proofs.Each.{each_length}
+use Rattle.cli.specs.Loading.{AreFiles, AreFragmentColumns, AreFragmentsClosed, IsCatalogLoaded, IsDimensionLoaded, IsFactLoaded, IsFragmentClosed, loaded_line}
+use Rattle.cli.specs.Refusing.{IsCatalogLoadRefused, IsUnfinished}
+use Rattle.cli.proofs.WrittenFiles.{numbered_length}
+
+-- there is a file for each fragment
+pub closed_count : {P : Type 0} (enclosed : P → Option (List ℕ)) (wrote : Option (List Change)) (load : ℕ) (table : Table) (cut : Cut) (fragments : List (List ColumnSpec)) (files : List P)
+    → AreEach (AreFragmentColumns table) cut fragments → AreFragmentsClosed enclosed wrote load table cut fragments files → length files ≡ length cut
+closed_count enclosed wrote load table cut fragments files each closed =
+    sym (each_length (AreFragmentColumns table) cut fragments each ∙ sym (numbered_length 0 fragments) ∙ each_length (IsFragmentClosed enclosed wrote load table cut) (enumerate_from 0 fragments) files closed)
+
+-- what was done behind the fact, over a folder that holds and has written what it did before
+pub catalog_loaded : (holds now : Holds) (folder : List ℕ) (load rows : ℕ) (catalog : Catalog) (cut : Cut) (fragments : List (List ColumnSpec)) (before after : Option (List ℕ)) (wrote reached wrote_after : Option (List Change))
+    → now ≡ holds → reached ≡ wrote → IsFactLoaded holds folder catalog rows cut fragments
+    → (dims : List (List ColumnSpec)) × AreEach (IsDimensionLoaded now folder) catalog.dims dims × Appends before after (loaded_line (sum cut) (length cut)) × Writes (AreFiles folder load catalog cut fragments dims) reached wrote_after
+    → IsCatalogLoaded holds folder load rows catalog before after wrote wrote_after
+catalog_loaded holds now folder load rows catalog cut fragments before after wrote reached wrote_after same kept fact (dims, each, printed, written) = record {
+  cut = cut;
+  fragments = fragments;
+  fact = fact;
+  dims = dims;
+  each = subst (λ (h : Holds). AreEach (IsDimensionLoaded h folder) catalog.dims dims) same each;
+  printed = printed;
+  written = subst (λ (w : Option (List Change)). Writes (AreFiles folder load catalog cut fragments dims) w wrote_after) kept written;
+}
+
+-- what was refused behind it
+pub refused_behind : {X : Type 0} (holds now : Holds) (folder : List ℕ) (catalog : Catalog) (rows : ℕ) (cut : Cut) (fragments : List (List ColumnSpec)) (r : Result X Refusal) → now ≡ holds → IsFactLoaded holds folder catalog rows cut fragments
+    → IfErr r (IsUnfinished now folder catalog cut) → IfErr r (IsCatalogLoadRefused holds folder catalog rows)
+refused_behind holds now folder catalog rows cut fragments (Ok x) same fact refused = tt
+refused_behind holds now folder catalog rows cut fragments (Err e) same fact refused = inr (cut, fragments, fact, subst (λ (h : Holds). IsUnfinished h folder catalog cut e) same refused)

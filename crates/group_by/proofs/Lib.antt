@@ -7,6 +7,9 @@ pub mod Batches
 pub mod Finding
 pub mod OnePlace
 pub mod CloseInts
+pub mod Texts
+pub mod Ends
+pub mod SelectedInts
 pub mod Updating
 pub mod Adding
 pub mod Merging

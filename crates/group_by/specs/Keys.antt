@@ -24,3 +24,8 @@ LeadsTo least entries keys = (at : ℕ) → at < length entries → get_or entri
 abbrev pub IsTold : List Row → List ℤ → List ℕ → ℕ → Type 0
 IsTold keys ints places k = get_or places k 0 ≢ 2 ^ 32 - 1
     → (get_or places k 0 < length keys) × (get_or keys (get_or places k 0) [] ≡ Int (get_or ints k (pos 0)) ∷ [])
+
+-- the same for the k-th of some keys
+abbrev pub IsLed : List Row → List Row → List ℕ → ℕ → Type 0
+IsLed keys found places k = get_or places k 0 ≢ 2 ^ 32 - 1
+    → (get_or places k 0 < length keys) × (get_or keys (get_or places k 0) [] ≡ get_or found k [])

@@ -1,6 +1,7 @@
 -- The rows that vectors have at some positions, and what the caller of a table answers for.
 use Rattle.std.specs.Prelude.{◌≡◌, ℕ, ℤ, ◌≤◌, true, List, [], ◌∷◌, map, zip, length, All, get_or}
-use Rattle.meaning.specs.declared.value.Value.TheVariants.{Null, Int}
+use Rattle.meaning.specs.declared.value.Value.TheVariants.{Null, Int, Text}
+use Rattle.std.specs.Borrow.{Bor}
 use Rattle.meaning.specs.declared.answer.Group.{Group}
 use Rattle.meaning.specs.Order.{Row}
 use Rattle.meaning.specs.Aggregate.{kept_by}
@@ -19,6 +20,10 @@ rows_at columns selection = map (row_at columns) selection
 -- the keys of these integers alone
 abbrev pub int_keys : List ℤ → List Row
 int_keys ints = map (λ z. Int z ∷ []) ints
+
+-- the keys of these texts alone
+abbrev pub text_keys : List (Bor (List ℕ)) → List Row
+text_keys texts = map (λ t. Text t.now ∷ []) texts
 
 -- each selected row's keys with its arguments
 abbrev pub kept_rows : List Vector → List Vector → List ℕ → List (Row × Row)

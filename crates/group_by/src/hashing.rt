@@ -1,9 +1,13 @@
 //! Hashes of keys. What a table holds doesn't depend on them.
-ghost use Rattle.std.specs.Prelude.{◌<◌, ◌≤◌, ◌+◌, length, All};
+ghost use Rattle.std.specs.Prelude.{◌≡◌, ◌≤◌, ◌+◌, length, IfOk};
 ghost use Rattle.accumulators.specs.Values.{values_of};
+ghost use Rattle.group_by.specs.Rows.{AreLanesOf};
 
-use accumulators::value_at;
+use crate::plain_texts::plain_texts;
+use accumulators::{plain_ints, position, value_at};
 use meaning::value::{Row, ValueRef};
+use std::alloc::{AllocError, Global};
+use vectors::selection::Selection;
 use vectors::vector::Vector;
 
 // The odd number nearest to 2^64 divided by the golden ratio: Knuth's multiplicative hashing.
@@ -85,16 +89,65 @@ pub fn hash_int(int: &i64) -> u64 {
     hash_value(MULTIPLIER, ValueRef::Int(*int))
 }
 
-/// Of the key that these vectors have at a position.
-#[inline(always)]
-pub fn hash_lanes(lanes: &[Vector<'_>], at: usize) -> u64
-    requires { All (λ column. at < length (values_of column)) lanes.now }
+fn hash_texts(hashes: &mut [u64], texts: &[&[u8]])
+    requires { length hashes.old ≡ length texts.now }
+    ensures { length hashes.new ≡ length hashes.old }
 {
-    let mut hash = MULTIPLIER;
-    for k in 0..lanes.len() {
-        hash = hash_value(hash, value_at(&lanes[k], at));
+    for k in 0..hashes.len() {
+        hashes[k] = hash_bytes(hashes[k], texts[k]);
     }
-    hash
+}
+
+fn hash_ints(hashes: &mut [u64], ints: &[i64])
+    requires { length hashes.old ≡ length ints.now }
+    ensures { length hashes.new ≡ length hashes.old }
+{
+    for k in 0..hashes.len() {
+        hashes[k] = hash_value(hashes[k], ValueRef::Int(ints[k]));
+    }
+}
+
+fn hash_selected(hashes: &mut [u64], lanes: &Vector<'_>, selection: &Selection)
+    requires long { length hashes.old ≡ length selection.now.list }
+    requires lanes { length (values_of lanes.now) ≡ selection.now.below }
+    ensures { length hashes.new ≡ length hashes.old }
+{
+    for k in 0..hashes.len() {
+        let value = value_at(lanes, position(selection, k));
+        hashes[k] = hash_value(hashes[k], value);
+    }
+}
+
+/// Each selected value of a column goes into the hash of its row.
+fn hash_column(hashes: &mut [u64], lanes: &Vector<'_>, selection: &Selection)
+    requires long { length hashes.old ≡ length selection.now.list }
+    requires lanes { length (values_of lanes.now) ≡ selection.now.below }
+    ensures { length hashes.new ≡ length hashes.old }
+{
+    if let Some(texts) = plain_texts(lanes, selection) {
+        return hash_texts(hashes, texts);
+    }
+    if let Some(ints) = plain_ints(lanes, selection) {
+        return hash_ints(hashes, ints);
+    }
+    hash_selected(hashes, lanes, selection);
+}
+
+/// Of the keys that these vectors have at the selected positions. Column by column, so that no column's kind is looked at for
+/// each row.
+pub fn hash_rows(
+    alloc: Global,
+    lanes: &[Vector<'_>],
+    selection: &Selection,
+) -> Result<Vec<u64>, AllocError>
+    requires { AreLanesOf selection.now.below lanes.now }
+    ensures { IfOk result (λ hashes. length hashes.items ≡ length selection.now.list) }
+{
+    let mut hashes = vec![in alloc; MULTIPLIER; selection.len()]?;
+    for k in 0..lanes.len() {
+        hash_column(hashes.as_mut_slice(), &lanes[k], selection);
+    }
+    Ok(hashes)
 }
 
 /// Of a key.

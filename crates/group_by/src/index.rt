@@ -4,19 +4,22 @@
 //! place of gets a place more. So no contract rests on hashes. The groups of a key with two places are made one when they
 //! are handed out.
 ghost use Rattle.std.specs.Prelude.{◌≡◌, ◌≢◌, ℕ, ◌<◌, ◌≤◌, ◌∷◌, ◌++◌, [], length, get_or, All, true, IfOk, IfSome, OnOk};
-ghost use Rattle.meaning.specs.declared.value.Value.TheVariants.{Int};
+ghost use Rattle.std.specs.Str.{is_utf8};
+ghost use Rattle.meaning.specs.declared.value.Value.TheVariants.{Int, Text};
 ghost use Rattle.accumulators.specs.Values.{values_of};
-ghost use Rattle.group_by.specs.Keys.{IsTold};
+ghost use Rattle.group_by.specs.Keys.{IsLed, IsTold};
 ghost use Rattle.group_by.specs.Places.{AreFound, IsFound};
 ghost use Rattle.group_by.specs.Shape.{empty_key};
 ghost use Rattle.group_by.specs.RowPlaces.{listed};
-ghost use Rattle.group_by.specs.Rows.{int_keys, row_at, rows_at, AreLanesOf};
+ghost use Rattle.group_by.specs.Rows.{int_keys, row_at, rows_at, text_keys, AreLanesOf};
 
 use crate::close_ints::{NOWHERE, are_known};
-use crate::hashing::{hash_int, hash_lanes, hash_row};
+use crate::hashing::{hash_int, hash_row, hash_rows};
 use crate::key_list::KeyList;
-use crate::keys::{copy_key, key_of, plain_key};
+use crate::keys::{copy_key, key_of, key_of_text, plain_key};
+use crate::plain_texts::plain_text_key;
 use crate::row_places::{RowPlaces, row_places};
+use crate::selected_ints::selected_key;
 use accumulators::position;
 use meaning::sequence::Sequence;
 use meaning::value::Row;
@@ -85,6 +88,16 @@ fn leads_to_row(slot: Slot, hash: u64, keys: &KeyList, row: &Row) -> bool
         return false;
     }
     keys.is_row(slot.place, row)
+}
+
+#[inline(always)]
+fn leads_to_text(slot: Slot, hash: u64, keys: &KeyList, text: &[u8]) -> bool
+    ensures { result ≡ true → (slot.place < length keys.now) × (get_or keys.now slot.place [] ≡ Text text.now ∷ []) }
+{
+    if slot.tag != tag_of(hash) {
+        return false;
+    }
+    keys.is_text(slot.place, text)
 }
 
 /// Puts a place into the first empty slot for its hash.
@@ -220,6 +233,7 @@ impl KeyIndex {
     fn place_of_lanes(
         &mut self,
         alloc: Global,
+        hash: u64,
         lanes: &[Vector<'_>],
         at: usize,
         below: usize,
@@ -228,7 +242,6 @@ impl KeyIndex {
         requires at { at < below }
         ensures { IfOk result (λ place. IsFound (row_at lanes.now at) self.old.keys place self.new.keys) }
     {
-        let hash = hash_lanes(lanes, at);
         if let Some(place) = self.find_lanes(hash, lanes, at) {
             return Ok(place);
         }
@@ -360,7 +373,165 @@ impl KeyIndex {
         self.settle_all(alloc, places, ints)
     }
 
+    /// The place at a text's home, where the key there is the text alone, else `NOWHERE`.
+    #[inline(always)]
+    fn home_of(&self, hash: u64, text: &[u8]) -> u32
+        ensures { result ≢ NOWHERE → (result < length self.now.keys) × (get_or self.now.keys result [] ≡ Text text.now ∷ []) }
+    {
+        let slots = self.slots.as_slice();
+        let Some(slot) = slots.get(slot_number(hash, 0, slots.len())) else {
+            return NOWHERE;
+        };
+        if leads_to_text(*slot, hash, &self.keys, text) {
+            return slot.place;
+        }
+        NOWHERE
+    }
+
+    #[inline(always)]
+    fn home_at(&self, hashes: &[u64], texts: &[&[u8]], k: usize) -> u32
+        requires hashes { k < length hashes.now }
+        requires texts { k < length texts.now }
+        ensures { result ≢ NOWHERE → (result < length self.now.keys) × (get_or self.now.keys result [] ≡ get_or (text_keys texts.now) k []) }
+    {
+        self.home_of(hashes[k], texts[k])
+    }
+
+    /// What stands at each text's home. No text's place depends on another's, so that the processor looks several up at once.
+    fn homes(&self, alloc: Global, hashes: &[u64], texts: &[&[u8]]) -> Result<Vec<u32>, AllocError>
+        requires { length hashes.now ≡ length texts.now }
+        ensures long { IfOk result (λ places. length places.items ≡ length texts.now) }
+        ensures led { IfOk result (λ places. (k : ℕ) → k < length texts.now → IsLed self.now.keys (text_keys texts.now) places.items k) }
+    {
+        let mut places = vec![in alloc; NOWHERE; texts.len()]?;
+        for k in 0..texts.len() {
+            places[k] = self.home_at(hashes, texts, k);
+        }
+        Ok(places)
+    }
+
+    /// The place of the key of this text alone, where the hash table leads to one.
+    fn find_text(&self, hash: u64, text: &[u8]) -> Option<u32>
+        ensures { IfSome result (λ place. (place < length self.now.keys) × (get_or self.now.keys place [] ≡ Text text.now ∷ [])) }
+    {
+        let slots = self.slots.as_slice();
+        for step in 0..slots.len() {
+            let slot = *slots.get(slot_number(hash, step, slots.len()))?;
+            if slot.place == EMPTY {
+                return None;
+            }
+            if leads_to_text(slot, hash, &self.keys, text) {
+                return Some(slot.place);
+            }
+        }
+        None
+    }
+
+    /// A place for the key of this text alone.
+    #[cold]
+    #[inline(never)]
+    fn push_text(&mut self, alloc: Global, hash: u64, text: &[u8]) -> Result<u32, AllocError>
+        requires { is_utf8 text.now ≡ true }
+        ensures place { IfOk result (λ place. place ≡ length self.old.keys) }
+        ensures keys { IfOk result (λ place. self.new.keys ≡ self.old.keys ++ (Text text.now ∷ []) ∷ []) }
+    {
+        let key = key_of_text(alloc, text)?;
+        self.push(alloc, hash, key)
+    }
+
+    /// The place of the key of this text alone, which gets one where it has none. On an error the keys are open.
+    fn place_of_text(&mut self, alloc: Global, hash: u64, text: &[u8]) -> Result<u32, AllocError>
+        requires { is_utf8 text.now ≡ true }
+        ensures { IfOk result (λ place. IsFound (Text text.now ∷ []) self.old.keys place self.new.keys) }
+    {
+        if let Some(place) = self.find_text(hash, text) {
+            return Ok(place);
+        }
+        self.push_text(alloc, hash, text)
+    }
+
+    /// The same of the k-th text, where a first look found the place or `NOWHERE`.
+    #[inline(always)]
+    fn settle_text(
+        &mut self,
+        alloc: Global,
+        place: u32,
+        hashes: &[u64],
+        texts: &[&[u8]],
+        k: usize,
+    ) -> Result<u32, AllocError>
+        requires hashes { k < length hashes.now }
+        requires texts { k < length texts.now }
+        requires spelled { All (λ t. is_utf8 t.now ≡ true) texts.now }
+        requires led { place ≢ NOWHERE → (place < length self.old.keys) × (get_or self.old.keys place [] ≡ get_or (text_keys texts.now) k []) }
+        ensures { IfOk result (λ place. IsFound (get_or (text_keys texts.now) k []) self.old.keys place self.new.keys) }
+    {
+        if place != NOWHERE {
+            return Ok(place);
+        }
+        self.place_of_text(alloc, hashes[k], texts[k])
+    }
+
+    /// The places of texts' keys, of which some were told or are `NOWHERE`. On an error the keys are open.
+    fn settle_texts(
+        &mut self,
+        alloc: Global,
+        told: Vec<u32>,
+        hashes: &[u64],
+        texts: &[&[u8]],
+    ) -> Result<Vec<u32>, AllocError>
+        requires hashes { length hashes.now ≡ length texts.now }
+        requires spelled { All (λ t. is_utf8 t.now ≡ true) texts.now }
+        requires long { length told.items ≡ length texts.now }
+        requires led { (k : ℕ) → k < length texts.now → IsLed self.old.keys (text_keys texts.now) told.items k }
+        ensures { IfOk result (λ places. AreFound (text_keys texts.now) self.old.keys places.items self.new.keys) }
+    {
+        let mut places = told;
+        for k in 0..texts.len() {
+            places[k] = self.settle_text(alloc, places[k], hashes, texts, k)?;
+        }
+        Ok(places)
+    }
+
+    /// The place of each text's key. On an error the keys are open.
+    fn find_texts(
+        &mut self,
+        alloc: Global,
+        hashes: &[u64],
+        texts: &[&[u8]],
+    ) -> Result<Vec<u32>, AllocError>
+        requires hashes { length hashes.now ≡ length texts.now }
+        requires spelled { All (λ t. is_utf8 t.now ≡ true) texts.now }
+        ensures { IfOk result (λ places. AreFound (text_keys texts.now) self.old.keys places.items self.new.keys) }
+    {
+        let places = self.homes(alloc, hashes, texts)?;
+        if are_known(places.as_slice()) {
+            return Ok(places);
+        }
+        self.settle_texts(alloc, places, hashes, texts)
+    }
+
     /// The place of each selected row's key, of one column or more. On an error the keys are open.
+    fn find_rows(
+        &mut self,
+        alloc: Global,
+        hashes: &[u64],
+        lanes: &[Vector<'_>],
+        selection: &Selection,
+    ) -> Result<Vec<u32>, AllocError>
+        requires lanes { AreLanesOf selection.now.below lanes.now }
+        requires hashes { length hashes.now ≡ length selection.now.list }
+        ensures { IfOk result (λ places. AreFound (rows_at lanes.now selection.now.list) self.old.keys places.items self.new.keys) }
+    {
+        let mut places = Vec::with_capacity(alloc, selection.len())?;
+        for k in 0..selection.len() {
+            let at = position(selection, k);
+            places.push(self.place_of_lanes(alloc, hashes[k], lanes, at, selection.below())?)?;
+        }
+        Ok(places)
+    }
+
+    /// The same by the loop that fits the columns. On an error the keys are open.
     fn find_each(
         &mut self,
         alloc: Global,
@@ -373,12 +544,14 @@ impl KeyIndex {
         if let Some(ints) = plain_key(lanes, selection) {
             return self.find_ints(alloc, ints);
         }
-        let mut places = Vec::with_capacity(alloc, selection.len())?;
-        for k in 0..selection.len() {
-            let at = position(selection, k);
-            places.push(self.place_of_lanes(alloc, lanes, at, selection.below())?)?;
+        if let Some(ints) = selected_key(alloc, lanes, selection)? {
+            return self.find_ints(alloc, ints.as_slice());
         }
-        Ok(places)
+        let hashes = hash_rows(alloc, lanes, selection)?;
+        if let Some(texts) = plain_text_key(lanes, selection) {
+            return self.find_texts(alloc, hashes.as_slice(), texts);
+        }
+        self.find_rows(alloc, hashes.as_slice(), lanes, selection)
     }
 
     /// The place of each selected row's key. Keys that have none get one. On an error the keys are open.

@@ -1,14 +1,14 @@
 //! Keys in the order of their places. Keys of one column stand as values, so that they need no memory of their own.
 ghost use Rattle.std.specs.Prelude.{◌≡◌, ◌≢◌, ℕ, ◌<◌, ◌∷◌, ◌++◌, [], length, pos, map, get_or, All, true, IfOk, IfSome, OnOk};
-ghost use Rattle.meaning.specs.declared.value.Value.TheVariants.{Int};
+ghost use Rattle.meaning.specs.declared.value.Value.TheVariants.{Int, Text};
 ghost use Rattle.accumulators.specs.Values.{values_of};
 ghost use Rattle.group_by.specs.Keys.{alone, rows_in, IsTold};
 ghost use Rattle.group_by.specs.Rows.{row_at, AreLanesOf};
 
 use crate::close_ints::{NOWHERE, close_place, enter, window_of};
 use crate::keys::{
-    copy_key, is_int, is_int_value, is_key, is_lane_value, is_row, is_row_value, key_of_value,
-    only_value,
+    copy_key, is_int, is_int_value, is_key, is_lane_value, is_row, is_row_value, is_text_key,
+    is_text_value, key_of_value, only_value,
 };
 use meaning::value::{Row, Value};
 use std::alloc::{AllocError, Global};
@@ -187,6 +187,23 @@ impl KeyList {
             },
             Held::Rows(rows) => match row_of(rows.as_slice(), place) {
                 Some(row) => is_int(row, int),
+                None => false,
+            },
+        }
+    }
+
+    /// Whether the key at a place is this text alone.
+    #[inline(always)]
+    pub fn is_text(&self, place: u32, text: &[u8]) -> bool
+        ensures { result ≡ true → (place < length self.now) × (get_or self.now place [] ≡ Text text.now ∷ []) }
+    {
+        match &self.held {
+            Held::Values(values) => match value_of(values.as_slice(), place) {
+                Some(value) => is_text_value(value, text),
+                None => false,
+            },
+            Held::Rows(rows) => match row_of(rows.as_slice(), place) {
+                Some(row) => is_text_key(row, text),
                 None => false,
             },
         }

@@ -1,11 +1,13 @@
 //! Keys: values of some columns, compared and copied.
 ghost use Rattle.std.specs.Prelude.{◌≡◌, ◌<◌, ◌∷◌, [], length, get_or, All, true, IfOk, IfSome};
 ghost use Rattle.std.specs.Ordering.{eq_by_cmp};
+ghost use Rattle.std.specs.Str.{is_utf8};
 ghost use Rattle.meaning.specs.declared.value.Value.TheVariants.{Int, Null, Text};
 ghost use Rattle.meaning.specs.Order.{row_cmp, value_in};
 ghost use Rattle.accumulators.specs.Values.{is_spelled, values_of};
 ghost use Rattle.group_by.specs.Rows.{int_keys, row_at, rows_at, AreLanesOf};
 
+use crate::same_bytes::are_same_bytes;
 use accumulators::{owned, plain_ints, value_at};
 use meaning::sequence::Sequence;
 use meaning::value::{Row, Value, ValueRef};
@@ -13,13 +15,6 @@ use std::alloc::{AllocError, Global};
 use std::cmp::Ordering;
 use vectors::selection::Selection;
 use vectors::vector::Vector;
-
-#[inline(always)]
-fn are_same_bytes(one: &[u8], other: &[u8]) -> bool
-    ensures { result ≡ true → one.now ≡ other.now }
-{
-    one == other
-}
 
 #[inline(always)]
 fn is_text(text: &[u8], other: ValueRef<'_>) -> bool
@@ -106,6 +101,29 @@ pub fn is_int(key: &Row, int: &i64) -> bool
     is_int_value(&key[0], int)
 }
 
+#[inline(always)]
+pub fn is_text_value(value: &Value, text: &[u8]) -> bool
+    ensures { result ≡ true → value.now ≡ Text text.now }
+{
+    match value {
+        Value::Null => false,
+        Value::Int(_) => false,
+        Value::Text(own) => are_same_bytes(own.as_bytes(), text),
+    }
+}
+
+/// Whether a key is this text alone.
+#[inline(always)]
+pub fn is_text_key(key: &Row, text: &[u8]) -> bool
+    ensures { result ≡ true → key.now ≡ Text text.now ∷ [] }
+{
+    let key = key.as_slice();
+    if key.len() != 1 {
+        return false;
+    }
+    is_text_value(&key[0], text)
+}
+
 /// Whether these vectors have this value alone at a position.
 #[inline(always)]
 pub fn is_lane_value(value: &Value, lanes: &[Vector<'_>], at: usize) -> bool
@@ -143,6 +161,15 @@ pub fn key_of_value(alloc: Global, value: Value) -> Result<Row, AllocError>
     let mut key = Vec::with_capacity(alloc, 1)?;
     key.push(value)?;
     Ok(Sequence::from_vec(key))
+}
+
+/// The key of this text alone.
+pub fn key_of_text(alloc: Global, text: &[u8]) -> Result<Row, AllocError>
+    requires { is_utf8 text.now ≡ true }
+    ensures { IfOk result (λ key. key ≡ Text text.now ∷ []) }
+{
+    let value = owned(alloc, ValueRef::Text(text))?;
+    key_of_value(alloc, value)
 }
 
 /// The value of a key of one column.

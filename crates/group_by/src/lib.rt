@@ -11,7 +11,10 @@ mod int_places;
 mod key_list;
 mod keys;
 mod laws;
+mod plain_texts;
 mod row_places;
+mod same_bytes;
+mod selected_ints;
 mod table;
 
 pub use laws::{says_as, tables_grow};

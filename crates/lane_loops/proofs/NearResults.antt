@@ -1,9 +1,11 @@
 -- Results of integers near zero.
-use Rattle.std.specs.Prelude.{◌≡◌, ℕ, ◌+◌, ◌<◌, ℤ, pos, negsuc, ◌+ℤ◌, ◌-ℤ◌, ◌*ℤ◌, ◌≤ℤ◌, ◌≤◌, Bool, true, false, bit_or, not, eqb, unsigned_abs, List, length, get_or, set}
-use Rattle.std.specs.Int.{from_bool, w64}
-use Rattle.std.proofs.Common.{refl, sym, ap, arith, subst}
-use Rattle.std.proofs.lemmas.Int.{fits_signed_mul, ints}
-use Rattle.std.proofs.lemmas.Nat.{le_or_l, le_or_r}
+use Rattle.std.specs.Prelude.{◌≡◌, ℕ, ◌+◌, ◌<◌, ℤ, pos, negsuc, ◌+ℤ◌, ◌-ℤ◌, ◌*ℤ◌, ◌≤ℤ◌, ◌≤◌, Bool, true, false, bit_or, not, eqb, unsigned_abs, ◌*◌, List, length, set}
+use Rattle.std.specs.Int.{from_bool, int_wrap, w64}
+use Rattle.std.specs.Int.Signed.{shr_z}
+use Rattle.std.proofs.Common.{refl, sym, ap, arith, subst, ◌∙◌, FitsSigned}
+use Rattle.std.proofs.lemmas.Int.{fits_signed_mul, int_wrap_fits, ints}
+use Rattle.std.proofs.lemmas.Nat.{div-mul-add, le_or_l, le_or_r}
+use Rattle.std.proofs.Math.Nat.{mul-div_cancel}
 use Rattle.std.proofs.lemmas.Bool.{lt-ltb, eqb-true, eqb-false}
 use Rattle.meaning.specs.declared.expr.ArithmeticOperator.{ArithmeticOperator}
 use Rattle.meaning.specs.declared.expr.ArithmeticOperator.TheVariants.{Add, Subtract, Multiply, Divide}
@@ -35,6 +37,21 @@ difference_bit m n a b =
 short_abs : (z : ℤ) → IsShort z → unsigned_abs z ≤ 2147483648
 short_abs (pos n) near = let h = near.1 in omega (arith, ints, h)
 short_abs (negsuc n) near = let h = near.0 in omega (arith, ints, h)
+
+-- a short integer comes back from a shift by 32 bits and back
+shift_is : (a : ℕ) → (negsuc a *ℤ pos 4294967296) ≡ negsuc (a * 4294967296 + 4294967295)
+shift_is a = omega (arith, ints)
+
+shift_fits : (z : ℤ) → IsShort z → FitsSigned w64 (z *ℤ pos 4294967296)
+shift_fits (pos a) near = let h = near.1 in record { sfits = omega (arith, ints, h) }
+shift_fits (negsuc a) near = let h = near.0 in subst (FitsSigned w64) (sym (shift_is a)) (record { sfits = omega (arith, ints, h) })
+
+shift_back : (z : ℤ) → shr_z (z *ℤ pos 4294967296) 4294967296 ≡ z
+shift_back (pos a) = ap pos (mul-div_cancel a (omega arith))
+shift_back (negsuc a) = ap (λ (y : ℤ). shr_z y 4294967296) (shift_is a) ∙ ap negsuc (div-mul-add a 4294967296 4294967295 (omega arith))
+
+pub shortened_is : (z : ℤ) → IsShort z → shr_z (int_wrap w64 (z *ℤ pos 4294967296)) 4294967296 ≡ z
+shortened_is z near = ap (λ (y : ℤ). shr_z y 4294967296) (int_wrap_fits w64 (z *ℤ pos 4294967296) (shift_fits z near)) ∙ shift_back z
 
 short_bit : (m n : ℤ) → IsShort m → IsShort n → overflow_bit (m *ℤ n) ≡ 0
 short_bit m n a b = ap (λ (x : Bool). from_bool (not x)) (fits_bits (m *ℤ n) (fits_signed_mul w64 m n 2147483648 2147483648 (short_abs m a) (short_abs n b) (omega arith)))

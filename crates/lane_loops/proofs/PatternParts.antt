@@ -1,7 +1,8 @@
 -- The parts of a pattern, and where a part stands in a text.
-use Rattle.std.specs.Prelude.{◌-◌, ◌<◌, nat_eq, Bool, false, ◌≡◌, ℕ, ◌+◌, ◌≤◌, true, List, [], ◌∷◌, ◌++◌, length, take, drop, Option, Some, None, is_some}
+use Rattle.std.specs.Prelude.{◌-◌, ◌<◌, nat_eq, Bool, false, ◌≡◌, ℕ, ◌+◌, ◌≤◌, true, List, [], ◌∷◌, ◌++◌, length, take, drop, get_or, ◌||◌, Option, Some, None, is_some}
 use Rattle.std.proofs.Common.{refl, sym, ap, subst, arith, ◌∙◌}
-use Rattle.std.specs.List.{starts_with, ends_with}
+use Rattle.std.specs.List.{list_any, starts_with, ends_with}
+use Rattle.std.proofs.lemmas.Bool.{eq-eqb, eqb-true}
 use Rattle.std.proofs.lemmas.Bool.Decides.{Decides-eqb}
 use Rattle.std.proofs.lemmas.Slice.Eq.{starts_is, ends_is}
 use Rattle.std.specs.Str.{chars, IsUtf8, is_utf8}
@@ -73,3 +74,31 @@ pub short_ends : (text part : List ℕ) → length text < length part → false 
 short_ends text part short = isnt (ends_with nat_eq text part) (λ e.
     let whole = (ends_is Decides-eqb text part (ends_with nat_eq text part) refl).0 e in
     omega (arith, short, ap length whole, length-append (take (length text - length part) text) part))
+
+-- ---- a part of one byte
+
+-- the byte is among those of the text
+pub byte_to : (byte : ℕ) (text : List ℕ) → list_any (λ b. nat_eq b byte) text ≡ true → HasSubslice text (byte ∷ [])
+byte_to byte [] e = absurd cc
+byte_to byte (b ∷ text) e = elim (nat_eq b byte) as (λ t. nat_eq b byte ≡ t → HasSubslice (b ∷ text) (byte ∷ [])) [
+  | true ↦ λ is. ([], text, ap (λ (x : ℕ). x ∷ text) (eqb-true b byte is))
+  | false ↦ λ is. (
+      let later : list_any (λ x. nat_eq x byte) text ≡ true = ap (λ (t : Bool). t || list_any (λ x. nat_eq x byte) text) (sym is) ∙ e in
+      let found = byte_to byte text later in
+      (b ∷ found.0, found.1, ap (λ (xs : List ℕ). b ∷ xs) found.2))
+] refl
+
+any_behind : (byte : ℕ) (front rest : List ℕ) → list_any (λ b. nat_eq b byte) (front ++ (byte ∷ rest)) ≡ true
+any_behind byte [] rest = ap (λ (t : Bool). t || list_any (λ b. nat_eq b byte) rest) (eq-eqb byte byte refl)
+any_behind byte (b ∷ front) rest = elim (nat_eq b byte) as (λ t. (t || list_any (λ x. nat_eq x byte) (front ++ (byte ∷ rest))) ≡ true) [
+  | true ↦ refl
+  | false ↦ any_behind byte front rest
+]
+
+pub byte_from : (byte : ℕ) (text : List ℕ) → HasSubslice text (byte ∷ []) → list_any (λ b. nat_eq b byte) text ≡ true
+byte_from byte text (front, rest, e) = ap (list_any (λ b. nat_eq b byte)) e ∙ any_behind byte front rest
+
+pub only_byte : (part : List ℕ) (d : ℕ) → length part ≡ 1 → part ≡ get_or part 0 d ∷ []
+only_byte [] d one = absurd (omega (arith, one))
+only_byte (b ∷ []) d one = refl
+only_byte (b ∷ c ∷ part) d one = absurd (omega (arith, one))

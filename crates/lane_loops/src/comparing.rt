@@ -105,7 +105,7 @@ pub fn compare_ints_to(op: ComparisonOperator, left: &[i64], right: i64, out: &m
 }
 
 /// Whether a comparison holds of two texts, byte by byte.
-#[inline]
+#[inline(always)]
 fn holds_of_texts(op: ComparisonOperator, left: &[u8], right: &[u8]) -> bool
     ensures { result ≡ test op (slice_cmp nat_cmp left.now right.now) }
 {
@@ -147,13 +147,53 @@ fn text_bit_beside(op: ComparisonOperator, left: &[&[u8]], lane: usize, right: &
     u8::from(holds_of_texts(op, left[lane], right))
 }
 
-/// 1 in each lane where the comparison of the bytes with those of the text holds, else 0.
-pub fn compare_texts_to(op: ComparisonOperator, left: &[&[u8]], right: &[u8], out: &mut [u8])
+#[inline(always)]
+fn compare_texts_to_by(op: ComparisonOperator, left: &[&[u8]], right: &[u8], out: &mut [u8])
     requires { length left.now ≡ length out.old }
     ensures { AreLanes 0 (length out.old) (compared_text_to_bit op left.now right.now) out.new }
 {
     for i in 0..out.len() {
         out[i] = text_bit_beside(op, left, i, right);
+    }
+}
+
+/// 1 in each lane where the comparison of the bytes with those of the text holds, else 0.
+pub fn compare_texts_to(op: ComparisonOperator, left: &[&[u8]], right: &[u8], out: &mut [u8])
+    requires { length left.now ≡ length out.old }
+    ensures { AreLanes 0 (length out.old) (compared_text_to_bit op left.now right.now) out.new }
+{
+    match op {
+        ComparisonOperator::Equal => compare_texts_to_by(
+            ComparisonOperator::Equal,
+            left,
+            right,
+            out,
+        ),
+        ComparisonOperator::NotEqual => compare_texts_to_by(
+            ComparisonOperator::NotEqual,
+            left,
+            right,
+            out,
+        ),
+        ComparisonOperator::Less => compare_texts_to_by(ComparisonOperator::Less, left, right, out),
+        ComparisonOperator::LessOrEqual => compare_texts_to_by(
+            ComparisonOperator::LessOrEqual,
+            left,
+            right,
+            out,
+        ),
+        ComparisonOperator::Greater => compare_texts_to_by(
+            ComparisonOperator::Greater,
+            left,
+            right,
+            out,
+        ),
+        ComparisonOperator::GreaterOrEqual => compare_texts_to_by(
+            ComparisonOperator::GreaterOrEqual,
+            left,
+            right,
+            out,
+        ),
     }
 }
 

@@ -1,6 +1,6 @@
 //! LIKE, lane by lane: a pattern is looked at once, and texts are then searched by the cheapest way that it allows.
-ghost use Rattle.std.specs.Prelude.{◌≡◌, ◌<◌, [], ◌∷◌, ◌++◌, nat_eq, true, length, All, IfSome};
-ghost use Rattle.std.specs.List.{ends_with, starts_with};
+ghost use Rattle.std.specs.Prelude.{◌≡◌, ◌<◌, [], ◌∷◌, ◌++◌, nat_eq, true, length, get_or, All, IfSome};
+ghost use Rattle.std.specs.List.{ends_with, list_any, starts_with};
 ghost use Rattle.std.specs.Str.{is_utf8};
 ghost use Rattle.meaning.specs.ExpressionLaws.{is_plain};
 ghost use Rattle.meaning.specs.Like.{is_like};
@@ -148,11 +148,52 @@ fn is_suffix(part: &[u8], text: &[u8]) -> bool
     ends_with(text, part)
 }
 
-fn is_within(part: &Finder<'_>, text: &[u8]) -> bool
+// Goes over all bytes, so that the loop has no branch, where a search would stop at the first.
+#[inline(always)]
+fn has_byte(text: &[u8], byte: &u8) -> bool
+    ensures { result ≡ list_any (λ b. nat_eq b byte.now) text.now }
+{
+    let mut is_any = false;
+    for b in text {
+        is_any |= *b == *byte;
+    }
+    is_any
+}
+
+#[inline(always)]
+fn has_first(text: &[u8], part: &[u8]) -> bool
+    requires { 0 < length part.now }
+    ensures { result ≡ list_any (λ b. nat_eq b (get_or part.now 0 0)) text.now }
+{
+    has_byte(text, &part[0])
+}
+
+#[inline(always)]
+fn is_byte_within(part: &[u8], text: &[u8]) -> bool
+    requires one { length part.now ≡ 1 }
+    requires part { IsPart part.now }
+    ensures { is_utf8 text.now ≡ true → result ≡ is_like (37 ∷ (part.now ++ 37 ∷ [])) text.now }
+{
+    has_first(text, part)
+}
+
+fn is_found(part: &Finder<'_>, text: &[u8]) -> bool
     requires { IsPart part.now }
     ensures { is_utf8 text.now ≡ true → result ≡ is_like (37 ∷ (part.now ++ 37 ∷ [])) text.now }
 {
     part.find(text).is_some()
+}
+
+#[inline(always)]
+fn is_within(part: &Finder<'_>, text: &[u8]) -> bool
+    requires { IsPart part.now }
+    ensures { is_utf8 text.now ≡ true → result ≡ is_like (37 ∷ (part.now ++ 37 ∷ [])) text.now }
+{
+    let bytes = part.needle();
+    if bytes.len() == 1 {
+        return is_byte_within(bytes, text);
+    }
+    is_found(part, text)
 }
 
 fn fits_wildcards(pattern: &str, text: &[u8]) -> bool

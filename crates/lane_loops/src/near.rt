@@ -1,5 +1,6 @@
 //! Arithmetic on integers near zero, of which no result is beyond 64 bits: no flag is kept of a lane.
-ghost use Rattle.std.specs.Prelude.{◌≡◌, ◌<◌, true, false, length, set};
+ghost use Rattle.std.specs.Prelude.{◌≡◌, ◌<◌, ◌*ℤ◌, true, false, length, set};
+ghost use Rattle.std.specs.Int.{int_wrap, w64};
 ghost use Rattle.lane_loops.specs.Lanes.{int_at};
 ghost use Rattle.lane_loops.specs.Near.{AreNear, AreResults, IsNear, IsShort, arith_int, limit_of};
 
@@ -49,6 +50,22 @@ fn limit(op: ArithmeticOperator) -> u64
     }
 }
 
+/// The integer, where 32 bits hold it: what its lowest 32 bits say. So the compiler sees that a product of two such is one of
+/// 32 bits by 32, for which the processor has an instruction.
+#[inline(always)]
+fn shortened(int: i64) -> i64
+    ensures { IsShort int → result ≡ int }
+{
+    wrapped_product(int, 4_294_967_296) >> 32
+}
+
+#[inline(always)]
+fn short_product(left: i64, right: i64) -> i64
+    ensures { IsShort left → IsShort right → result ≡ int_wrap w64 (left *ℤ right) }
+{
+    wrapped_product(shortened(left), shortened(right))
+}
+
 #[inline(always)]
 fn near_result(op: ArithmeticOperator, left: i64, right: i64) -> i64
     ensures { AreNear op left right → result ≡ arith_int op left right }
@@ -56,7 +73,7 @@ fn near_result(op: ArithmeticOperator, left: i64, right: i64) -> i64
     match op {
         ArithmeticOperator::Add => wrapped_sum(left, right),
         ArithmeticOperator::Subtract => wrapped_difference(left, right),
-        ArithmeticOperator::Multiply => wrapped_product(left, right),
+        ArithmeticOperator::Multiply => short_product(left, right),
         ArithmeticOperator::Divide => left,
     }
 }

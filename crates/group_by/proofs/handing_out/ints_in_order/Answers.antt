@@ -1,5 +1,5 @@
 -- Proofs of the goals of `ints_in_order` (`handing_out`).
-use Rattle.std.proofs.Common.{◌≡◌, ◌<◌, ℕ, rules, List, length, map, All, IsPermutation, reverse, sym, subst, ap, ◌∙◌, ◌∷◌, [], true}
+use Rattle.std.proofs.Common.{◌≡◌, ◌<◌, ℕ, rules, List, length, map, All, sym, subst, ap, ◌∙◌, ◌∷◌, []}
 use Rattle.std.proofs.lemmas.List.{length-map}
 use Rattle.meaning.specs.declared.value.Value.{Value}
 use Rattle.group_by.specs.declared.int_places.IntPlace.{IntPlace}

@@ -1,5 +1,5 @@
 -- Proofs of the goals of `int_places` (`int_places`).
-use Rattle.std.proofs.Common.{refl, ◌+◌, ◌≡◌, ◌<◌, ℕ, List, length, get_or, ap, subst, sym, ◌∙◌, ◌∷◌, []}
+use Rattle.std.proofs.Common.{◌+◌, ◌<◌, ℕ, List, length, ap, subst, sym, ◌∙◌, ◌∷◌, []}
 use Rattle.std.proofs.lemmas.List.{length-map, get_or-map}
 use Rattle.meaning.specs.declared.value.Value.{Value}
 use Rattle.meaning.specs.Order.{Row}

@@ -1,5 +1,5 @@
 -- Proofs of the goals of `far_bits` (`near`).
-use Rattle.std.proofs.Common.{◌<◌, bit_or, sym, subst}
+use Rattle.std.proofs.Common.{◌<◌, sym, subst}
 use Rattle.meaning.specs.declared.expr.ArithmeticOperator.{ArithmeticOperator}
 use Rattle.lane_loops.specs.Near.{AreNear, IsNear, IsShort, limit_of}
 use Rattle.lane_loops.proofs.NearResults.{both_below}

@@ -1,8 +1,8 @@
--- Proofs of the goals of `compare_texts_to` (`comparing`).
+-- Proofs of the goals of `compare_texts_to_by` (`comparing`).
 use Rattle.std.proofs.Common.{length}
 use Rattle.lane_loops.specs.Lanes.{compared_text_to_bit}
 use Rattle.lane_loops.proofs.Filling.{filled_more}
-use Rattle.lane_loops.proofs.comparing.compare_texts_to.Goals as goal
+use Rattle.lane_loops.proofs.comparing.compare_texts_to_by.Goals as goal
 
 pub loop-i-preserved : goal.loop-i-preserved
 loop-i-preserved c =

@@ -1,11 +1,11 @@
--- Proofs of the goals of `is_within` (`like`).
+-- Proofs of the goals of `is_found` (`like`).
 use Rattle.std.proofs.Common.{[], ◌∷◌, ◌++◌, ◌∙◌}
 use Rattle.std.specs.Prelude.{is_some}
 use Rattle.meaning.specs.Like.{is_like}
 use Rattle.meaning.proofs.LikeBytes.{like_bytes}
 use Rattle.lane_loops.proofs.Likes.{same_test}
 use Rattle.lane_loops.proofs.PatternParts.{found_to, found_from}
-use Rattle.lane_loops.proofs.like.is_within.Goals as goal
+use Rattle.lane_loops.proofs.like.is_found.Goals as goal
 
 pub returns : goal.returns
 returns c = λ utf8.

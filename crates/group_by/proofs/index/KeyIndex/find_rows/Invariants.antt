@@ -1,8 +1,8 @@
--- Invariants of `find_each` (`index`).
+-- Invariants of `find_rows` (`index`).
 use Rattle.std.proofs.Common.{take}
 use Rattle.group_by.specs.Places.{AreFound}
 use Rattle.group_by.specs.Rows.{rows_at}
-use Rattle.group_by.proofs.index.KeyIndex.find_each.Given as goal
+use Rattle.group_by.proofs.index.KeyIndex.find_rows.Given as goal
 
 -- the keys up to the k-th have their places
 abbrev pub invariant-loop-k : goal.invariant-loop-k

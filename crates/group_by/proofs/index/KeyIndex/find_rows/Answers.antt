@@ -1,10 +1,10 @@
--- Proofs of the goals of `find_each` (`index`).
+-- Proofs of the goals of `find_rows` (`index`).
 use Rattle.std.proofs.Common.{ℕ, ◌+◌, ◌<◌, take, List, length, subst, sym}
 use Rattle.meaning.specs.Order.{Row}
 use Rattle.group_by.specs.Places.{AreFound, IsFound}
 use Rattle.group_by.specs.Rows.{rows_at}
 use Rattle.group_by.proofs.Finding.{found_more, row_of, rows_long}
-use Rattle.group_by.proofs.index.KeyIndex.find_each.Goals as goal
+use Rattle.group_by.proofs.index.KeyIndex.find_rows.Goals as goal
 
 pub loop-k-preserved : goal.loop-k-preserved
 loop-k-preserved c =

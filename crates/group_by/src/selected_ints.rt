@@ -1,0 +1,72 @@
+//! Integers that are keys alone, where some rows are selected.
+ghost use Rattle.std.specs.Prelude.{◌≡◌, ◌<◌, length, map, get_or, pos, All, IfOk, IfSome};
+ghost use Rattle.meaning.specs.declared.value.Value.TheVariants.{Int, Null};
+ghost use Rattle.group_by.specs.Rows.{int_keys, rows_at, AreLanesOf};
+
+use std::alloc::{AllocError, Global};
+use vectors::ints::{IntCells, Ints};
+use vectors::selection::Selection;
+use vectors::vector::Vector;
+
+/// The integers of all lanes, where none is NULL.
+fn plain_cells<'v>(ints: &'v Ints<'_>) -> Option<&'v [i64]>
+    ensures { IfSome result (λ cells. map Int cells.now ≡ ints.now) }
+{
+    let (cells, nulls) = ints.parts();
+    let None = nulls.mask() else {
+        return None;
+    };
+    match cells {
+        IntCells::Lent(cells) => Some(*cells),
+        IntCells::Owned(cells) => Some(cells.as_slice()),
+        IntCells::Repeated { .. } => None,
+    }
+}
+
+/// The integers at these places.
+fn gathered(alloc: Global, cells: &[i64], places: &[u32]) -> Result<Vec<i64>, AllocError>
+    requires { All (λ place. place < length cells.now) places.now }
+    ensures { IfOk result (λ ints. ints.items ≡ map (λ place. get_or cells.now place (pos 0)) places.now) }
+{
+    let mut ints = Vec::with_capacity(alloc, places.len())?;
+    for place in places {
+        ints.push(cells[*place as usize])?;
+    }
+    Ok(ints)
+}
+
+fn selected_cells(
+    alloc: Global,
+    ints: &Ints<'_>,
+    selection: &Selection,
+) -> Result<Option<Vec<i64>>, AllocError>
+    requires { length ints.now ≡ selection.now.below }
+    ensures { IfOk result (λ found. IfSome found (λ own. map Int own.items ≡ map (λ at. get_or ints.now at Null) selection.now.list)) }
+{
+    let Some(places) = selection.places() else {
+        return Ok(None);
+    };
+    let Some(cells) = plain_cells(ints) else {
+        return Ok(None);
+    };
+    Ok(Some(gathered(alloc, cells, places)?))
+}
+
+/// The integers of one key at the selected rows, where not all are selected and none is NULL.
+pub fn selected_key(
+    alloc: Global,
+    lanes: &[Vector<'_>],
+    selection: &Selection,
+) -> Result<Option<Vec<i64>>, AllocError>
+    requires { AreLanesOf selection.now.below lanes.now }
+    ensures { IfOk result (λ found. IfSome found (λ ints. int_keys ints.items ≡ rows_at lanes.now selection.now.list)) }
+{
+    if lanes.len() != 1 {
+        return Ok(None);
+    }
+    let Vector::Ints(ints) = &lanes[0] else {
+        return Ok(None);
+    };
+    let found = selected_cells(alloc, ints, selection)?;
+    Ok(found)
+}

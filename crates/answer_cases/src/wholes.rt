@@ -2,11 +2,12 @@
 use crate::jobs::cut_of;
 use case_files::lines::tell_printed;
 use case_files::stored::{StoredFile, find};
-use coordinator::{Ended, Gather, WholeFault, whole};
+use coordinator::{Ended, Gather};
 use meaning::cut::Cut;
 use std::alloc::{AllocError, Global};
 use std::fmt::Write;
 use std::mem::drop;
+use whole_query::{Sources, WholeFault, whole};
 
 // What a query asks of the tables of a folder.
 #[derive(Clone, Copy)]
@@ -105,17 +106,13 @@ fn tell_over(
 ) -> Result<String, AllocError> {
     let catalog = catalog_of(alloc, asked.folder, files)?;
     let csvs = csvs_of(alloc, asked.folder, files)?;
-    let query = asked.query.as_bytes();
-    let mut out = Vec::new(alloc);
-    match whole(
-        alloc,
-        catalog,
-        csvs.as_slice(),
-        query,
+    let sources = Sources {
+        csvs: csvs.as_slice(),
         cut,
-        asked.vector_len,
-        &mut out,
-    ) {
+        vector_len: asked.vector_len,
+    };
+    let mut out = Vec::new(alloc);
+    match whole(alloc, catalog, asked.query.as_bytes(), sources, &mut out) {
         Ok((ended, gather)) => {
             let told = tell_ended(alloc, out.as_slice(), ended, &gather);
             drop(gather);

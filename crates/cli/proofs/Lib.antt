@@ -2,6 +2,7 @@
 mod Finished
 mod HandedOn
 mod LoadedColumns
+mod Questions
 mod Refusals
 mod Unloaded
 mod WrittenFiles

@@ -10,18 +10,22 @@ use Rattle.loader.specs.Fault as loads
 use Rattle.loader.specs.Source.{csv_records}
 use Rattle.loader.specs.declared.fault.LoadFault.{LoadFault}
 use Rattle.loader.specs.declared.fault.LoadFault.TheVariants as load_fault
-use Rattle.coordinator.specs.Whole.{Files, Input, IsRefused, files_in, input_of}
-use Rattle.coordinator.specs.declared.whole_fault.WholeFault.{WholeFault}
+use Rattle.meaning.specs.declared.catalog.Catalog.{Catalog}
+use Rattle.meaning.specs.CatalogText.{catalog_of}
+use Rattle.whole_query.specs.Whole.{Files, Input, IsRefused, files_in}
+use Rattle.whole_query.specs.declared.fault.WholeFault.{WholeFault}
+use Rattle.whole_query.specs.declared.fault.WholeFault.TheVariants as whole_fault
 use Rattle.folders.specs.Each.{AreEach}
-use Rattle.folders.specs.Folder.{AreHeld, Change, Holds, catalog_path, csv_path}
+use Rattle.folders.specs.Folder.{Change, Holds, csv_path}
 use Rattle.folders.specs.Refused.{IsToldAs, load_refusal, refusal_of}
 use Rattle.folders.specs.declared.refusal.Refusal.{Refusal}
 use Rattle.folders.specs.declared.refusal.Refusal.TheVariants as refusal
 use Rattle.jobs.specs.Gathering.{IsReportRefused}
+use Rattle.jobs.specs.Job.{IsQueryRefused as IsUnplanned}
 use Rattle.jobs.specs.Working.{IsWorkRefused}
 use Rattle.command_line.specs.declared.commands.WorkCommand.{WorkCommand}
 use Rattle.cli.specs.Loading.{IsDimensionLoaded}
-use Rattle.cli.specs.Refusing.{AreDeclaredTablesRefused, IsDimensionRefused, IsFirstRefused, IsInputRefused, IsLoadRefused, IsOfOutput, IsQuiet, IsRefusedSo, IsUncounted, IsWholeRefused, LeavesFiles}
+use Rattle.cli.specs.Refusing.{IsDimensionRefused, IsFirstRefused, IsInputRefused, IsLoadRefused, IsOfOutput, IsQuiet, IsRefusedSo, IsUncounted, IsWholeRefused, LeavesFiles}
 use Rattle.cli.specs.Running.{files_of, input_over}
 use Rattle.command_line.specs.declared.commands.Command.{Command}
 use Rattle.command_line.specs.declared.commands.Command.TheVariants.{Whole, Load, Work}
@@ -30,22 +34,21 @@ use Rattle.cli.specs.declared.tables.Tables.{Tables}
 -- ---- a query over files
 
 -- what is lent is what the tables are
-pub over : (catalog : List ℕ) (csvs : List (Bor (List ℕ) × Bor (List ℕ))) (tables : Tables) (query bytes : List ℕ) (vector : ℕ) (fault : WholeFault)
-    → files_in csvs ≡ files_of tables → bytes ≡ query → IsRefused (input_of catalog csvs bytes tables.cut vector) fault → IsRefused (input_over catalog tables query vector) fault
-over catalog csvs tables query bytes vector fault files same stands =
-    subst (λ (fs : Files). IsRefused (record { catalog = catalog; files = fs; query = query; cut = tables.cut; vector_len = vector }) fault) files
-    (subst (λ (q : List ℕ). IsRefused (record { catalog = catalog; files = files_in csvs; query = q; cut = tables.cut; vector_len = vector }) fault) same stands)
+pub over : (P : Input → Type 0) (text : List ℕ) (csvs : List (Bor (List ℕ) × Bor (List ℕ))) (tables : Tables) (query : List ℕ) (vector : ℕ)
+    → files_in csvs ≡ files_of tables → P (record { catalog = text; files = files_in csvs; query = query; cut = tables.cut; vector_len = vector }) → P (input_over text tables query vector)
+over P text csvs tables query vector files stands = subst (λ (fs : Files). P (record { catalog = text; files = fs; query = query; cut = tables.cut; vector_len = vector })) files stands
 
 pub input_refused : (folder : List ℕ) (input : Input) (fault : WholeFault) (e : Refusal) → IsRefused input fault → IsToldAs (refusal_of folder fault) e → IsInputRefused folder input e
 input_refused folder input fault e stands (inl memory) = inl memory
 input_refused folder input fault e stands (inr told) = inr (fault, stands, told)
 
--- the catalogue's bytes are held, and they or the fact are refused
-pub tables_refused : (holds : Holds) (folder text query : List ℕ) (rows vector : ℕ) (e : Refusal) → AreHeld (holds (catalog_path folder)) text
-    → AreDeclaredTablesRefused holds folder text rows e → IsWholeRefused holds folder query rows vector e
-tables_refused holds folder text query rows vector e held (inl stands) = inl (inr (text, stands.0, held, stands.1, stands.2))
-tables_refused holds folder text query rows vector e held (inr (inl memory)) = inl (inl (inl memory))
-tables_refused holds folder text query rows vector e held (inr (inr uncut)) = inr (text, uncut.0, held, uncut.1, inl uncut.2)
+-- a query that isn't planned is refused over any files
+pub unplanned : (folder text : List ℕ) (catalog : Catalog) (input : Input) (e : Refusal) → catalog_of text ≡ Ok catalog → text ≡ input.catalog → IsUnplanned catalog input.query e → IsInputRefused folder input e
+unplanned folder text catalog input e declared same (inl memory) = inl memory
+unplanned folder text catalog input e declared same (inr (inl sql)) =
+    inr (whole_fault.Sql sql.0, inr (inl (catalog, subst (λ bs. catalog_of bs ≡ Ok catalog) same declared, inl (sql.1, sql.2))), sql.3)
+unplanned folder text catalog input e declared same (inr (inr plan)) =
+    inr (whole_fault.Plan plan.0, inr (inl (catalog, subst (λ bs. catalog_of bs ≡ Ok catalog) same declared, inl plan.1)), plan.2)
 
 -- ---- the fact
 

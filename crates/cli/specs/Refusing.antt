@@ -1,7 +1,6 @@
 -- Why a command is refused: the first thing that is wrong in the folder's bytes, in the command's order.
 use Rattle.std.specs.Prelude.{◌≡◌, ◌⊎◌, ℕ, ◌<◌, ◌≤◌, List, ◌∷◌, ◌++◌, drop, length, Contains, Option, None, Some, IfSome, Ok, Err, ⊤}
 use Rattle.meaning.specs.declared.catalog.Catalog.{Catalog}
-use Rattle.meaning.specs.declared.catalog.CatalogFault.{CatalogFault}
 use Rattle.meaning.specs.declared.catalog.Dimension.{Dimension}
 use Rattle.meaning.specs.declared.cut.CutFault.{CutFault}
 use Rattle.meaning.specs.declared.table.TableFault.{TableFault}
@@ -13,8 +12,8 @@ use Rattle.columns.specs.Column.{ColumnSpec}
 use Rattle.loader.specs.Columns.{fact_fragments, dimension_columns}
 use Rattle.loader.specs.Fault.{max_counted}
 use Rattle.loader.specs.Source.{csv_records}
-use Rattle.coordinator.specs.Whole.{Input, IsRefused}
-use Rattle.coordinator.specs.declared.whole_fault.WholeFault.{WholeFault}
+use Rattle.whole_query.specs.Whole.{Input, IsRefused}
+use Rattle.whole_query.specs.declared.fault.WholeFault.{WholeFault}
 use Rattle.folders.specs.Each.{AreEach}
 use Rattle.folders.specs.Folder.{Change, Holds, AreHeld, catalog_path, csv_path, cut_path, dimension_path, fragment_path}
 use Rattle.folders.specs.Refused.{IsUnread, IsUnwritten, refusal_of}
@@ -135,21 +134,19 @@ abbrev pub AreTablesUncut : Holds → List ℕ → List ℕ → ℕ → Refusal 
 AreTablesUncut holds folder name rows e = (e ≡ refusal.Memory)
     ⊎ ((fact : Option CsvFile) × IfSome fact (λ file. IsCsvOf holds folder file × (file.table ≡ name)) × IsFactUncut folder fact rows e)
 
--- the bytes declare no tables, or the fact isn't cut
-abbrev pub AreDeclaredTablesRefused : Holds → List ℕ → List ℕ → ℕ → Refusal → Type 0
-AreDeclaredTablesRefused holds folder text rows e =
-    ((fault : CatalogFault) × (catalog_of text ≡ Err fault) × (e ≡ refusal.Catalog fault))
-    ⊎ ((e ≡ refusal.Memory)
-    ⊎ ((catalog : Catalog) × (catalog_of text ≡ Ok catalog) × AreTablesUncut holds folder catalog.fact.name rows e))
-
 -- memory ran out, or a query over files is refused for what stands in them
 abbrev pub IsInputRefused : List ℕ → Input → Refusal → Type 0
 IsInputRefused folder input e = (e ≡ refusal.Memory) ⊎ ((fault : WholeFault) × IsRefused input fault × (e ≡ refusal_of folder fault))
 
+-- the query is refused over files that could be read
+abbrev pub IsRefusedOver : Holds → List ℕ → List ℕ → Catalog → List ℕ → ℕ → ℕ → Refusal → Type 0
+IsRefusedOver holds folder text catalog query rows vector e =
+    (tables : Tables) × AreTables holds folder catalog.fact.name rows tables × IsInputRefused folder (input_over text tables query vector) e
+
 -- the fact isn't cut, or the query is refused over the files that could be read
 abbrev pub IsQueryRefused : Holds → List ℕ → List ℕ → Catalog → List ℕ → ℕ → ℕ → Refusal → Type 0
 IsQueryRefused holds folder text catalog query rows vector e = AreTablesUncut holds folder catalog.fact.name rows e
-    ⊎ ((tables : Tables) × AreTables holds folder catalog.fact.name rows tables × IsInputRefused folder (input_over text tables query vector) e)
+    ⊎ IsRefusedOver holds folder text catalog query rows vector e
 
 -- the catalogue is refused, or the query
 abbrev pub IsWholeRefused : Holds → List ℕ → List ℕ → ℕ → ℕ → Refusal → Type 0

@@ -5,7 +5,7 @@ use Rattle.meaning.specs.CatalogText.{catalog_of}
 use Rattle.meaning.specs.Cut.{cut_of, even_lengths}
 use Rattle.loader.specs.Source.{csv_records}
 use Rattle.coordinator.specs.Gathering.{GatherSpec}
-use Rattle.coordinator.specs.Whole.{Files, Input, IsAnswered}
+use Rattle.whole_query.specs.Whole.{Files, Input, IsAnswered}
 use Rattle.coordinator.specs.declared.reporting.Ended.{Ended}
 use Rattle.folders.specs.Folder.{Holds, Change, AreHeld, catalog_path, csv_path}
 use Rattle.cli.specs.Loading.{IsLoadDone}
@@ -46,6 +46,14 @@ pub record AreTables (holds : Holds) (folder name : List ℕ) (rows : ℕ) (tabl
 -- what a query over them runs over
 abbrev pub input_over : List ℕ → Tables → List ℕ → ℕ → Input
 input_over catalog tables query vector = record { catalog = catalog; files = files_of tables; query = query; cut = tables.cut; vector_len = vector }
+
+-- a query was answered over tables of the folder's files, of a catalogue that the text declares: what was printed is what it
+-- means over them
+pub record IsAnsweredSo (holds : Holds) (folder text : List ℕ) (catalog : Catalog) (query : List ℕ) (rows vector : ℕ) (before after : Option (List ℕ)) (end : Ended) : Type 0 where
+  pub tables : Tables
+  pub loaded : AreTables holds folder catalog.fact.name rows tables
+  pub gather : GatherSpec
+  pub answered : IsAnswered (input_over text tables query vector) before after end gather
 
 -- a query was answered over a folder's files: what was printed is what it means over them, and the status is that of its end
 pub record IsWholeDone (holds : Holds) (folder query : List ℕ) (rows vector : ℕ) (before after : Option (List ℕ)) (status : ℕ) : Type 0 where

@@ -3,6 +3,7 @@
 
 mod fragments;
 mod loading;
+mod question;
 mod running;
 mod saving;
 mod tables;

@@ -1,18 +1,20 @@
 //! Runs a command and gives its exit status.
-ghost use Rattle.std.specs.Prelude.{◌≡◌, ◌≢◌, ◌≤◌, List, IfErr, IfOk, OnErr, OnOk, Ok, length, sum};
+ghost use Rattle.std.specs.Prelude.{◌≡◌, ◌≢◌, ◌≤◌, ℕ, List, IfErr, IfOk, OnErr, OnOk, Ok, length, sum};
 ghost use Rattle.std.specs.Io.KnownBytes.{Appends};
-ghost use Rattle.meaning.specs.declared.catalog.Catalog.{Catalog as Declared};
 ghost use Rattle.meaning.specs.Catalog.{IsWellFormed};
 ghost use Rattle.meaning.specs.CatalogText.{catalog_of};
+ghost use Rattle.meaning.specs.WellFormedPlan.{IsWellFormedPlan};
+ghost use Rattle.last_step.specs.Fitting.{IsTypedOverGroups};
+ghost use Rattle.partial_codec.specs.Job.{IsPlanOfJob};
 ghost use Rattle.columns.specs.Column.{ColumnSpec};
 ghost use Rattle.coordinator.specs.Gathering.{GatherSpec};
-ghost use Rattle.coordinator.specs.Whole.{IsAnswered};
+ghost use Rattle.whole_query.specs.Whole.{IsAnswered, IsPlanned};
 ghost use Rattle.command_line.specs.Command.{IsInRange};
-ghost use Rattle.folders.specs.Folder.{AreHeld, Writes, catalog_path};
+ghost use Rattle.folders.specs.Folder.{Writes};
 ghost use Rattle.folders.specs.Each.{AreEach};
 ghost use Rattle.cli.specs.Loading.{AreFiles, AreFragmentsClosed, IsCatalogLoaded, IsDimensionLoaded, IsLoadDone, loaded_line};
-ghost use Rattle.cli.specs.Refusing.{AreDeclaredTablesRefused, AreFragmentsUnwritten, IsCatalogLoadRefused, IsInputRefused, IsLoadRefused, IsQuiet, IsRefusedSo, IsSilent, IsUnfinished, IsWholeRefused, LeavesFiles};
-ghost use Rattle.cli.specs.Running.{AreTables, IsWholeDone, IsCommandDone, IsReportedAs, input_over};
+ghost use Rattle.cli.specs.Refusing.{AreFragmentsUnwritten, IsCatalogLoadRefused, IsInputRefused, IsLoadRefused, IsQueryRefused, IsQuiet, IsRefusedOver, IsRefusedSo, IsSilent, IsUnfinished, IsWholeRefused, LeavesFiles};
+ghost use Rattle.cli.specs.Running.{AreTables, IsAnsweredSo, IsWholeDone, IsCommandDone, IsReportedAs, input_over};
 ghost use Rattle.cli.specs.Status.{IsEndStatus, IsRunStatus, end_status, report_status};
 ghost use Rattle.folders.specs.declared.refusal.Refusal.{Refusal as ARefusal};
 ghost use Rattle.jobs.specs.Gathering.{IsGatherRefused};
@@ -20,20 +22,22 @@ ghost use Rattle.jobs.specs.Working.{IsWorked, IsWorkRefused};
 
 use crate::fragments::{Fact, load_fact};
 use crate::loading::load_dimensions;
+use crate::question::Question;
 use crate::saving::save;
-use crate::tables::{Tables, lend_files, read_tables};
+use crate::tables::{Tables, lend_files, read_dims, read_fact};
 use crate::target::Target;
 use command_line::{Command, GatherCommand, WorkCommand};
-use coordinator::{Ended, Report, whole};
+use coordinator::{Ended, Report};
 use folders::files::read_catalog_file;
 use folders::{Folder, Refusal, refusal_of, tell};
-use jobs::{answer_fragment, gather_answers};
-use meaning::catalog::Catalog;
+use jobs::{answer_fragment, gather_answers, plan_of};
+use meaning::plan::Plan;
 use meaning::read_catalog::read_catalog;
 use std::alloc::Global;
 use std::io;
 use std::io::Write;
 use std::mem::drop;
+use whole_query::{Sources, answer_plan};
 
 fn status_of(ended: Ended) -> u8
     ensures { result ≡ end_status ended }
@@ -54,55 +58,107 @@ fn status_of_report(report: &Report) -> u8
     }
 }
 
+/// Answers a plan's query over tables that were read.
 fn answer_over<O: Write>(
     alloc: Global,
-    directory: &str,
-    catalog: &[u8],
+    question: &Question<'_>,
+    plan: Plan,
     tables: &Tables,
-    query: &str,
-    vector: u32,
     out: &mut O,
 ) -> Result<Ended, Refusal>
-    ensures answered { IfOk result (λ ended. (gather : GatherSpec)
-        × IsAnswered (input_over catalog.now tables.now query.now vector) (O.contents out.old) (O.contents out.new) ended gather) }
-    ensures refused { IfErr result (IsInputRefused directory.now (input_over catalog.now tables.now query.now vector)) }
+    requires catalog { IsWellFormed question.now.catalog.now }
+    requires plan { IsWellFormedPlan plan }
+    requires typed { IsTypedOverGroups plan }
+    requires job { IsPlanOfJob plan }
+    ensures answered { IfOk result (λ ended. (text : List ℕ) → catalog_of text ≡ Ok question.now.catalog.now → IsPlanned question.now.catalog.now question.now.query.now (Ok plan)
+        → (gather : GatherSpec) × IsAnswered (input_over text tables.now question.now.query.now question.now.vector) (O.contents out.old) (O.contents out.new) ended gather) }
+    ensures refused { IfErr result (λ e. (text : List ℕ) → catalog_of text ≡ Ok question.now.catalog.now → IsPlanned question.now.catalog.now question.now.query.now (Ok plan)
+        → IsInputRefused question.now.directory.now (input_over text tables.now question.now.query.now question.now.vector) e) }
     ensures quiet { IfErr result (λ e. IsQuiet e (O.contents out.old) (O.contents out.new)) }
 {
-    let csvs = lend_files(alloc, tables)?;
-    let (csvs, query) = (csvs.as_slice(), query.as_bytes());
-    match whole(
-        alloc,
-        catalog,
-        csvs,
-        query,
-        &tables.cut,
-        vector as usize,
-        out,
-    ) {
+    let csvs = match lend_files(alloc, tables) {
+        Ok(csvs) => csvs,
+        Err(_) => {
+            drop(plan);
+            return Err(Refusal::Memory);
+        }
+    };
+    let sources = Sources {
+        csvs: csvs.as_slice(),
+        cut: &tables.cut,
+        vector_len: question.vector as usize,
+    };
+    match answer_plan(alloc, question.catalog, plan, sources, out) {
         Ok((ended, gather)) => {
             drop(gather);
             Ok(ended)
         }
-        Err(fault) => Err(refusal_of(alloc, directory, fault)),
+        Err(fault) => Err(refusal_of(alloc, question.directory, fault)),
     }
 }
 
-fn declared_tables<F: Folder>(
+/// Reads the files of the dimensions that the plan joins beside the fact's, and answers the plan's query.
+fn answer_planned<F: Folder, O: Write>(
     alloc: Global,
     folder: &F,
-    directory: &str,
-    catalog: &[u8],
-    rows: u32,
-) -> Result<Tables, Refusal>
-    requires { 1 ≤ rows }
-    ensures tables { IfOk result (λ tables. (declared : Declared) × (catalog_of catalog.now ≡ Ok declared)
-        × AreTables (F.holds folder.now) directory.now declared.fact.name rows tables) }
-    ensures refused { IfErr result (AreDeclaredTablesRefused (F.holds folder.now) directory.now catalog.now rows) }
+    question: &Question<'_>,
+    plan: Plan,
+    fact: Tables,
+    out: &mut O,
+) -> Result<Ended, Refusal>
+    requires catalog { IsWellFormed question.now.catalog.now }
+    requires plan { IsWellFormedPlan plan }
+    requires typed { IsTypedOverGroups plan }
+    requires job { IsPlanOfJob plan }
+    requires fact { AreTables (F.holds folder.now) question.now.directory.now question.now.catalog.now.fact.name question.now.rows fact }
+    ensures answered { IfOk result (λ ended. (text : List ℕ) → catalog_of text ≡ Ok question.now.catalog.now → IsPlanned question.now.catalog.now question.now.query.now (Ok plan)
+        → IsAnsweredSo (F.holds folder.now) question.now.directory.now text question.now.catalog.now question.now.query.now question.now.rows question.now.vector (O.contents out.old) (O.contents out.new) ended) }
+    ensures refused { IfErr result (λ e. (text : List ℕ) → catalog_of text ≡ Ok question.now.catalog.now → IsPlanned question.now.catalog.now question.now.query.now (Ok plan)
+        → IsRefusedOver (F.holds folder.now) question.now.directory.now text question.now.catalog.now question.now.query.now question.now.rows question.now.vector e) }
+    ensures quiet { IfErr result (λ e. IsQuiet e (O.contents out.old) (O.contents out.new)) }
 {
-    let catalog = read_catalog(alloc, catalog)?;
-    let tables = read_tables(alloc, folder, directory, &catalog, rows);
-    drop(catalog);
-    tables
+    match read_dims(alloc, folder, question.directory, plan.joins.as_slice()) {
+        Ok(dims) => {
+            let Tables { fact, cut, .. } = fact;
+            let tables = Tables { fact, dims, cut };
+            answer_over(alloc, question, plan, &tables, out)
+        }
+        Err(refusal) => {
+            drop(plan);
+            Err(refusal)
+        }
+    }
+}
+
+/// Answers a query over tables that the catalogue declares: the fact's file is read and cut, then the query is planned, and
+/// then the dimensions' files are read.
+fn answer_declared<F: Folder, O: Write>(
+    alloc: Global,
+    folder: &F,
+    question: &Question<'_>,
+    out: &mut O,
+) -> Result<Ended, Refusal>
+    requires rows { 1 ≤ question.now.rows }
+    requires catalog { IsWellFormed question.now.catalog.now }
+    ensures answered { IfOk result (λ ended. (text : List ℕ) → catalog_of text ≡ Ok question.now.catalog.now
+        → IsAnsweredSo (F.holds folder.now) question.now.directory.now text question.now.catalog.now question.now.query.now question.now.rows question.now.vector (O.contents out.old) (O.contents out.new) ended) }
+    ensures refused { IfErr result (λ e. (text : List ℕ) → catalog_of text ≡ Ok question.now.catalog.now
+        → IsQueryRefused (F.holds folder.now) question.now.directory.now text question.now.catalog.now question.now.query.now question.now.rows question.now.vector e) }
+    ensures quiet { IfErr result (λ e. IsQuiet e (O.contents out.old) (O.contents out.new)) }
+{
+    let Question {
+        directory,
+        catalog,
+        ..
+    } = *question;
+    let fact = read_fact(alloc, folder, directory, &catalog.fact.name, question.rows)?;
+    match plan_of(alloc, directory, catalog, question.query) {
+        Ok(plan) => answer_planned(alloc, folder, question, plan, fact, out),
+        Err(refusal) => {
+            drop(fact);
+            Err(refusal)
+        }
+    }
 }
 
 fn answer<F: Folder, O: Write>(
@@ -119,11 +175,18 @@ fn answer<F: Folder, O: Write>(
     ensures refused { IfErr result (IsWholeRefused (F.holds folder.now) directory.now query.now rows vector) }
     ensures quiet { IfErr result (λ e. IsQuiet e (O.contents out.old) (O.contents out.new)) }
 {
-    let catalog = read_catalog_file(alloc, folder, directory)?;
-    let catalog = catalog.as_slice();
-    let tables = declared_tables(alloc, folder, directory, catalog, rows)?;
-    let ended = answer_over(alloc, directory, catalog, &tables, query, vector, out)?;
-    Ok(status_of(ended))
+    let bytes = read_catalog_file(alloc, folder, directory)?;
+    let catalog = read_catalog(alloc, bytes.as_slice())?;
+    let question = Question {
+        directory,
+        catalog: &catalog,
+        query,
+        rows,
+        vector,
+    };
+    let ended = answer_declared(alloc, folder, &question, out);
+    drop(catalog);
+    Ok(status_of(ended?))
 }
 
 fn print_loaded<O: Write>(rows: u64, fragments: usize, out: &mut O) -> io::Result<()>

@@ -1,9 +1,9 @@
 //! The CSV files of a catalogue's tables.
 // The files of a folder that a query is answered over.
-ghost use Rattle.std.specs.Prelude.{◌≡◌, ◌≤◌, ℕ, Ok, Some, IfErr, IfOk, IfSome, All, length, drop, sum};
+ghost use Rattle.std.specs.Prelude.{◌≡◌, ◌≤◌, ℕ, Ok, Some, IfErr, IfOk, IfSome, OnOk, All, length, drop, sum};
 ghost use Rattle.meaning.specs.Cut.{cut_of, even_lengths};
 ghost use Rattle.loader.specs.Source.{csv_records};
-ghost use Rattle.coordinator.specs.Whole.{files_in};
+ghost use Rattle.whole_query.specs.Whole.{files_in};
 ghost use Rattle.folders.specs.Folder.{AreHeld, csv_path};
 ghost use Rattle.folders.specs.declared.refusal.Refusal.TheVariants.{Memory};
 ghost use Rattle.cli.specs.Refusing.{AreTablesUncut, IsFactUncut, IsFileUncut, IsUncounted, IsUneven};
@@ -13,8 +13,8 @@ use folders::files::try_read;
 use folders::paths::csv_path;
 use folders::{Folder, Refusal, load_refusal};
 use loader::count_rows;
-use meaning::catalog::Catalog;
 use meaning::cut::Cut;
+use meaning::plan::Join;
 use meaning::text::Text;
 use std::alloc::{AllocError, Global};
 
@@ -106,41 +106,64 @@ fn cut_evenly(
     }
 }
 
-/// The files of the dimensions that can be read.
-fn read_dims<F: Folder>(
+/// The fact's CSV file, if it can be read, and its even cut into fragments of `rows` rows. No dimension is read.
+pub fn read_fact<F: Folder>(
     alloc: Global,
     folder: &F,
     directory: &str,
-    catalog: &Catalog,
+    name: &Text,
+    rows: u32,
+) -> Result<Tables, Refusal>
+    requires { 1 ≤ rows }
+    ensures tables { IfOk result (AreTables (F.holds folder.now) directory.now name.now rows) }
+    ensures refused { IfErr result (AreTablesUncut (F.holds folder.now) directory.now name.now rows) }
+{
+    let fact = try_read_csv(alloc, folder, directory, name)?;
+    let cut = cut_evenly(alloc, directory, &fact, rows)?;
+    let dims = Vec::new(alloc);
+    Ok(Tables { fact, dims, cut })
+}
+
+/// Whether the table's file is among these.
+fn is_read(files: &[CsvFile], table: &str) -> bool {
+    files.iter().any(|file| file.table.as_str() == table)
+}
+
+/// The file of a table beside those that were read, unless it is one of them or can't be read.
+fn read_once<F: Folder>(
+    alloc: Global,
+    folder: &F,
+    directory: &str,
+    table: &Text,
+    files: &mut Vec<CsvFile>,
+) -> Result<(), Refusal>
+    ensures held { OnOk result (All (IsCsvOf (F.holds folder.now) directory.now) files.old.items → All (IsCsvOf (F.holds folder.now) directory.now) files.new.items) }
+    ensures refused { IfErr result (λ e. e ≡ Memory) }
+{
+    if is_read(files, table.as_str()) {
+        return Ok(());
+    }
+    if let Some(file) = try_read_csv(alloc, folder, directory, table)? {
+        files.push(file)?;
+    }
+    Ok(())
+}
+
+/// The CSV files of the dimensions that a plan joins, each once, as far as they can be read.
+pub fn read_dims<F: Folder>(
+    alloc: Global,
+    folder: &F,
+    directory: &str,
+    joins: &[Join],
 ) -> Result<Vec<CsvFile>, Refusal>
     ensures held { IfOk result (λ files. All (IsCsvOf (F.holds folder.now) directory.now) files.items) }
     ensures refused { IfErr result (λ e. e ≡ Memory) }
 {
     let mut files = Vec::new(alloc);
-    for dim in catalog.dims.as_slice() {
-        if let Some(file) = try_read_csv(alloc, folder, directory, &dim.table.name)? {
-            files.push(file)?;
-        }
+    for join in joins {
+        read_once(alloc, folder, directory, &join.dim.name, &mut files)?;
     }
     Ok(files)
-}
-
-/// The CSV files of a catalogue's tables, as far as they can be read, and the even cut of the fact into fragments of `rows` rows.
-pub fn read_tables<F: Folder>(
-    alloc: Global,
-    folder: &F,
-    directory: &str,
-    catalog: &Catalog,
-    rows: u32,
-) -> Result<Tables, Refusal>
-    requires { 1 ≤ rows }
-    ensures tables { IfOk result (AreTables (F.holds folder.now) directory.now catalog.now.fact.name rows) }
-    ensures refused { IfErr result (AreTablesUncut (F.holds folder.now) directory.now catalog.now.fact.name rows) }
-{
-    let fact = try_read_csv(alloc, folder, directory, &catalog.fact.name)?;
-    let cut = cut_evenly(alloc, directory, &fact, rows)?;
-    let dims = read_dims(alloc, folder, directory, catalog)?;
-    Ok(Tables { fact, dims, cut })
 }
 
 /// The files' bytes by the names of their tables.

@@ -1,26 +1,14 @@
 -- Cells whose answers fit their fragments.
-use Rattle.std.specs.Prelude.{◌≡◌, ℕ, zero, suc, ◌+◌, ◌<◌, ◌≤◌, nat_lt, nat_le, ℤ, pos, ◌*ℤ◌, ◌≤ℤ◌, int_le, true, false, cond, ◌&&◌, List, [], ◌∷◌, length, map, replicate, sum, slice_index, slice_index_or, slice_set, Option, Some, None}
+use Rattle.std.specs.Prelude.{◌≡◌, ℕ, zero, suc, ◌+◌, ◌<◌, true, false, cond, List, [], ◌∷◌, length, replicate, slice_index_or, slice_set}
 use Rattle.std.specs.List.{list_all, enumerate_from}
-use Rattle.std.proofs.Common.{refl, sym, ap, subst, arith, add-zero}
-use Rattle.std.proofs.lemmas.Bool.{false≢true, ltb-true, leb-true, eqb-true}
-use Rattle.std.proofs.lemmas.Int.{ints}
-use Rattle.meaning.specs.Limits.{max_fragments}
-use Rattle.meaning.specs.declared.plan.TableUse.{TableUse}
+use Rattle.std.proofs.Common.{refl, sym, subst, arith, add-zero}
 use Rattle.meaning.specs.declared.plan.Plan.{Plan}
-use Rattle.meaning.specs.declared.answer.Statistics.{Statistics}
-use Rattle.meaning.specs.declared.answer.Group.{Group}
-use Rattle.meaning.specs.Said.{Body}
-use Rattle.meaning.specs.declared.answer.Body.TheVariants.{Groups, Fault}
 use Rattle.meaning.specs.Said.{Cell}
 use Rattle.meaning.specs.declared.answer.Cell.TheVariants.{Nothing, One, Conflict}
-use Rattle.meaning.specs.Order.{Row}
-use Rattle.meaning.specs.Cut.{IsCut, Cut, first_row}
-use Rattle.meaning.specs.Aggregate.{kept_by}
+use Rattle.meaning.specs.Cut.{Cut}
 use Rattle.meaning.specs.Gather.{same_body, join_cells}
-use Rattle.meaning.specs.Fitting.{is_group_of, is_state_of, is_possible, is_sum_of, is_group_possible, are_numbers_possible, least_integer, greatest_integer}
-use Rattle.meaning.proofs.Same.{statistics_exact}
 use Rattle.meaning.proofs.Tests.{first_of, second_of, both}
-use Rattle.coordinator.specs.Fitted.{is_fitting_body, is_fitting, AreFitting}
+use Rattle.coordinator.specs.Fitted.{is_fitting, AreFitting}
 
 -- ---- one cell changes
 

@@ -1,21 +1,9 @@
 -- The lemmas of this crate.
-pub mod Fragments
 pub mod Fitting
 pub mod Faults
 pub mod Held
 pub mod Places
-pub mod CountedRows
-pub mod Slices
-pub mod FragmentColumns
-pub mod Planned
-pub mod FoundFiles
-pub mod InTurn
-pub mod TableFaults
-pub mod TableFiles
-pub mod Told
-pub mod Runs
 pub mod Joined
 pub mod StateFiles
 pub mod Merging
 pub mod ShapedGroups
-pub mod FileRows

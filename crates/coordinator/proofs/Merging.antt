@@ -1,18 +1,16 @@
 -- The groups of fitting answers: one table takes them all, and holds what the answers say together.
-use Rattle.std.specs.Prelude.{◌≡◌, ◌≢◌, ℕ, zero, suc, ◌+◌, ◌*◌, ◌<◌, ◌≤◌, nat_lt, nat_le, Bool, true, false, ◌&&◌, List, [], ◌∷◌, ◌++◌, length, map, zip, sum, take, get_or, slice_index, flat_map, filter_map, Option, Some, None, All}
-use Rattle.std.specs.List.{AllByRecursion, list_all, enumerate_from, sum_by}
+use Rattle.std.specs.Prelude.{◌≡◌, ◌≢◌, ℕ, zero, suc, ◌+◌, ◌*◌, ◌<◌, ◌≤◌, Bool, true, ◌&&◌, List, [], ◌∷◌, ◌++◌, length, map, zip, sum, take, get_or, slice_index, flat_map, filter_map, Option, None, All}
+use Rattle.std.specs.List.{AllByRecursion, list_all, enumerate_from}
 use Rattle.std.specs.Cmp.Lexicographic.{pointwise}
 use Rattle.std.specs.Ordering.{match_ordering}
-use Rattle.std.specs.declared.cmp.Ordering.{Ordering}
 use Rattle.std.specs.declared.cmp.Ordering.TheVariants.{Less, Equal, Greater}
 use Rattle.std.proofs.Common.{refl, sym, ap, subst, ◌∙◌, arith, length-append, append_assoc, append-nil}
-use Rattle.std.proofs.Math.Seq.{take-length}
 use Rattle.std.proofs.lemmas.Bool.{eqb-true, leb-true}
 use Rattle.std.proofs.lemmas.Grind.{flat_map-append}
 use Rattle.std.proofs.lemmas.List.{take_more}
 use Rattle.std.proofs.lemmas.List.Elements.{All-from_recursion, recursion_from_All}
 use Rattle.std.proofs.lemmas.List.Sums.{sum_by-append, sum_by-cons}
-use Rattle.meaning.specs.Limits.{max_fragments, max_rows}
+use Rattle.meaning.specs.Limits.{max_rows}
 use Rattle.meaning.specs.declared.plan.Aggregate.{Aggregate}
 use Rattle.meaning.specs.declared.plan.AggregateKind.{AggregateKind}
 use Rattle.meaning.specs.declared.plan.AggregateKind.TheVariants.{CountRows, Count, Sum, Min, Max, Avg}
@@ -22,20 +20,20 @@ use Rattle.meaning.specs.declared.plan.Plan.{Plan}
 use Rattle.meaning.specs.declared.answer.Statistics.{Statistics}
 use Rattle.meaning.specs.declared.answer.Group.{Group}
 use Rattle.meaning.specs.declared.answer.RowFault.{RowFault}
-use Rattle.meaning.specs.Said.{Body, Cell}
+use Rattle.meaning.specs.Said.{Cell}
 use Rattle.meaning.specs.declared.answer.Body.TheVariants.{Groups, Fault}
 use Rattle.meaning.specs.declared.answer.Cell.TheVariants.{Nothing, One, Conflict}
 use Rattle.meaning.specs.Order.{Row, row_cmp, placed_once, ascending_set}
-use Rattle.meaning.specs.Cut.{Cut, IsCut, first_row}
+use Rattle.meaning.specs.Cut.{Cut, IsCut}
 use Rattle.meaning.specs.Aggregate.{kept_by}
 use Rattle.meaning.specs.Group.{beside, certain_keys, merged, merged_groups}
 use Rattle.meaning.specs.Typing.{is_of_type}
-use Rattle.meaning.specs.Fitting.{is_group_of, is_key_of, is_state_of, is_possible, is_group_possible, are_numbers_possible, are_rows_possible}
-use Rattle.meaning.specs.Answer.{body_of, fault_of, groups_of, combined}
+use Rattle.meaning.specs.Fitting.{is_group_of, is_key_of, is_state_of, is_possible, is_group_possible}
+use Rattle.meaning.specs.Answer.{body_of, groups_of, combined}
 use Rattle.meaning.specs.Gather.{body_in}
 use Rattle.meaning.proofs.Tests.{first_of, second_of}
 use Rattle.accumulators.specs.State.{most_entries}
-use Rattle.group_by.specs.Groups.{all_rows, together, with_groups, under, SaysAs, TablesGrow}
+use Rattle.group_by.specs.Groups.{all_rows, with_groups, under, SaysAs, TablesGrow}
 use Rattle.group_by.specs.Rows.{IsGroupOf}
 use Rattle.group_by.specs.Shape.{GroupsSpec, shape_of}
 use Rattle.last_step.specs.Printing.{ShowsSomething}

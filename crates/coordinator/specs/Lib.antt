@@ -1,11 +1,9 @@
 -- The definitions of this crate.
 pub mod Output
 pub mod Fitted
-pub mod Fragment
 pub mod Gathering
 pub mod Joining
 pub mod Laws
 pub mod Faults
 pub mod Reporting
-pub mod Whole
 pub mod Merging

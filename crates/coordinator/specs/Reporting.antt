@@ -1,33 +1,33 @@
--- What a coordinator finds in its cells, and what is told of it.
+-- What stands in the cells of a coordinator, and what is told of it.
 use Rattle.std.specs.Prelude.{Bool, ⊤}
 use Rattle.meaning.specs.Said.{Cell}
 use Rattle.meaning.specs.Output.{Output}
 use Rattle.meaning.specs.Output as output
 use Rattle.meaning.specs.Gather.{is_conflict, is_nothing}
 use Rattle.meaning.specs.Gather as gather
-use Rattle.coordinator.specs.declared.reporting.Finding.{Finding}
-use Rattle.coordinator.specs.declared.reporting.Finding.TheVariants as finding
+use Rattle.coordinator.specs.declared.reporting.FullReport.{FullReport}
+use Rattle.coordinator.specs.declared.reporting.FullReport.TheVariants as full
 use Rattle.coordinator.specs.declared.reporting.Report.{Report}
 use Rattle.coordinator.specs.declared.reporting.Report.TheVariants as report
 use Rattle.coordinator.specs.declared.reporting.Ended.{Ended}
 use Rattle.coordinator.specs.declared.reporting.Ended.TheVariants as ended
-use Rattle.coordinator.specs.declared.reporting.Lack.{Lack}
-use Rattle.coordinator.specs.declared.reporting.Lack.TheVariants.{OfAgreement, OfAnswer}
+use Rattle.coordinator.specs.declared.reporting.Obstacle.{Obstacle}
+use Rattle.coordinator.specs.declared.reporting.Obstacle.TheVariants as obstacle
 use Rattle.meaning.specs.declared.plan.Plan.{Plan}
 use Rattle.coordinator.specs.declared.fault.GatherFault.{GatherFault}
 use Rattle.coordinator.specs.declared.fault.GatherFault.TheVariants as fault
 use Rattle.coordinator.specs.Output.{IsPrintable, output_in}
 
--- the cells that lack it
-abbrev pub lacks : Lack → Cell → Bool
-lacks OfAgreement = is_conflict
-lacks OfAnswer = is_nothing
+-- the cells that have it
+abbrev pub has_obstacle : Obstacle → Cell → Bool
+has_obstacle obstacle.Conflict = is_conflict
+has_obstacle obstacle.NoAnswer = is_nothing
 
 -- the report that is meant
-abbrev pub report_in : Finding → gather.Report
-report_in (finding.Conflict ks) = gather.conflict ks
-report_in (finding.Missing ks) = gather.missing ks
-report_in (finding.Output o) = gather.output (output_in o)
+abbrev pub report_in : FullReport → gather.Report
+report_in (full.Conflict ks) = gather.conflict ks
+report_in (full.Missing ks) = gather.missing ks
+report_in (full.Output o) = gather.output (output_in o)
 
 -- whether an output is rows or a fault
 abbrev pub ended_as : Output → Ended
@@ -45,11 +45,11 @@ summary (gather.conflict ks) = report.Conflict ks
 summary (gather.missing ks) = report.Missing ks
 summary (gather.output o) = report_of_output (ended_as o)
 
--- what is found can be printed
-abbrev pub IsReportable : Plan → Finding → Type 0
-IsReportable plan (finding.Conflict ks) = ⊤
-IsReportable plan (finding.Missing ks) = ⊤
-IsReportable plan (finding.Output o) = IsPrintable plan o
+-- it can be printed
+abbrev pub IsReportable : Plan → FullReport → Type 0
+IsReportable plan (full.Conflict ks) = ⊤
+IsReportable plan (full.Missing ks) = ⊤
+IsReportable plan (full.Output o) = IsPrintable plan o
 
 -- out of memory, or the writer failed
 abbrev pub IsPrintRefusal : GatherFault → Type 0

@@ -3,13 +3,12 @@
 ghost use Rattle.std.specs.Prelude.{◌≡◌, ◌≤◌, length, IfOk, IfErr, OnOk};
 ghost use Rattle.std.specs.Io.KnownBytes.{Appends};
 ghost use Rattle.meaning.specs.Limits.{max_fragments};
-ghost use Rattle.meaning.specs.Output.{Output as AnOutput};
-ghost use Rattle.meaning.specs.Gather.{places, report, preview, output};
+ghost use Rattle.meaning.specs.Gather.{places, report, preview};
 ghost use Rattle.meaning.specs.Print.{output_text, report_text};
 ghost use Rattle.coordinator.specs.Output.{IsPrintable, output_in};
 ghost use Rattle.coordinator.specs.Fitted.{AreFitting};
 ghost use Rattle.coordinator.specs.Gathering.{IsShown};
-ghost use Rattle.coordinator.specs.Reporting.{lacks, report_in, ended_as, summary, IsReportable, IsPrintRefusal};
+ghost use Rattle.coordinator.specs.Reporting.{has_obstacle, report_in, ended_as, summary, IsReportable, IsPrintRefusal};
 
 use crate::combining::combine;
 use crate::fault::GatherFault;
@@ -46,9 +45,9 @@ pub enum Ended {
     Fault,
 }
 
-/// What is printed.
+/// What is printed: a report with its output.
 #[derive(Drop)]
-pub enum Finding {
+enum FullReport {
     Conflict(Sequence<u32>),
     Missing(Sequence<u32>),
     Output(Output),
@@ -56,32 +55,32 @@ pub enum Finding {
 
 /// What keeps a coordinator from an output.
 #[derive(Clone, Copy)]
-enum Lack {
-    OfAgreement,
-    OfAnswer,
+enum Obstacle {
+    Conflict,
+    NoAnswer,
 }
 
-fn lacks(lack: Lack, cell: &Cell<Group>) -> bool
-    ensures { result ≡ lacks lack cell.now }
+fn has_obstacle(obstacle: Obstacle, cell: &Cell<Group>) -> bool
+    ensures { result ≡ has_obstacle obstacle cell.now }
 {
-    match (lack, cell) {
-        (Lack::OfAgreement, Cell::Conflict) | (Lack::OfAnswer, Cell::Nothing) => true,
+    match (obstacle, cell) {
+        (Obstacle::Conflict, Cell::Conflict) | (Obstacle::NoAnswer, Cell::Nothing) => true,
         _ => false,
     }
 }
 
-/// The fragments that lack it, ascending.
-fn fragments_that_lack(
+/// The fragments whose cells have the obstacle, ascending.
+fn fragments_with(
     alloc: Global,
-    lack: Lack,
+    obstacle: Obstacle,
     cells: &[Cell<Group>],
 ) -> Result<Sequence<u32>, AllocError>
     requires { length cells.now ≤ max_fragments }
-    ensures { IfOk result (λ ks. ks ≡ places (lacks lack) cells.now) }
+    ensures { IfOk result (λ ks. ks ≡ places (has_obstacle obstacle) cells.now) }
 {
     let mut fragments = Sequence::new(alloc);
     for k in 0..cells.len() {
-        if lacks(lack, &cells[k]) {
+        if has_obstacle(obstacle, &cells[k]) {
             fragments.push(k as u32)?;
         }
     }
@@ -108,12 +107,12 @@ fn output_of_cells(
 }
 
 /// What is to be printed of the cells.
-fn find_in_cells(
+fn full_report_of_cells(
     alloc: Global,
     plan: &Plan,
     cut: &Cut,
     cells: &[Cell<Group>],
-) -> Result<Finding, AllocError>
+) -> Result<FullReport, AllocError>
     requires shown { IsShown plan.now }
     requires each { length cells.now ≡ length cut.now }
     requires fitting { AreFitting plan.now cut.now cells.now }
@@ -121,26 +120,26 @@ fn find_in_cells(
     ensures value { IfOk result (λ f. report_in f ≡ report plan.now cells.now) }
     ensures printable { IfOk result (IsReportable plan.now) }
 {
-    let conflicts = fragments_that_lack(alloc, Lack::OfAgreement, cells)?;
+    let conflicts = fragments_with(alloc, Obstacle::Conflict, cells)?;
     if conflicts.len() > 0 {
-        return Ok(Finding::Conflict(conflicts));
+        return Ok(FullReport::Conflict(conflicts));
     }
-    let missing = fragments_that_lack(alloc, Lack::OfAnswer, cells)?;
+    let missing = fragments_with(alloc, Obstacle::NoAnswer, cells)?;
     if missing.len() > 0 {
-        return Ok(Finding::Missing(missing));
+        return Ok(FullReport::Missing(missing));
     }
-    Ok(Finding::Output(output_of_cells(alloc, plan, cut, cells)?))
+    Ok(FullReport::Output(output_of_cells(alloc, plan, cut, cells)?))
 }
 
 /// What is to be printed.
-pub fn find(alloc: Global, gather: &Gather) -> Result<Finding, AllocError>
+fn full_report(alloc: Global, gather: &Gather) -> Result<FullReport, AllocError>
     ensures value { IfOk result (λ f. report_in f ≡ report gather.now.job.plan gather.now.cells) }
     ensures printable { IfOk result (IsReportable gather.now.job.plan) }
 {
     let cells = gather.cells();
     let cut = gather.job().cut();
     let _lengths = cut.lengths();
-    find_in_cells(alloc, gather.job().plan(), cut, cells)
+    full_report_of_cells(alloc, gather.job().plan(), cut, cells)
 }
 
 fn print_output<W: Write>(
@@ -160,19 +159,19 @@ fn print_output<W: Write>(
 }
 
 /// Prints it.
-pub fn print_finding<W: Write>(
+fn print_full_report<W: Write>(
     alloc: Global,
     plan: &Plan,
-    finding: &Finding,
+    full: &FullReport,
     out: &mut W,
 ) -> Result<(), PrintFault>
-    requires { IsReportable plan.now finding.now }
-    ensures { OnOk result (Appends (W.contents out.old) (W.contents out.new) (report_text plan.now (report_in finding.now))) }
+    requires { IsReportable plan.now full.now }
+    ensures { OnOk result (Appends (W.contents out.old) (W.contents out.new) (report_text plan.now (report_in full.now))) }
 {
-    match finding {
-        Finding::Conflict(fragments) => print_fragments("conflict", fragments.as_slice(), out),
-        Finding::Missing(fragments) => print_fragments("missing", fragments.as_slice(), out),
-        Finding::Output(output) => print_output(alloc, plan, output, out),
+    match full {
+        FullReport::Conflict(fragments) => print_fragments("conflict", fragments.as_slice(), out),
+        FullReport::Missing(fragments) => print_fragments("missing", fragments.as_slice(), out),
+        FullReport::Output(output) => print_output(alloc, plan, output, out),
     }
 }
 
@@ -186,26 +185,16 @@ fn ended_as(output: &Output) -> Ended
 }
 
 /// Which report it is.
-fn summary(finding: Finding) -> Report
-    ensures { result ≡ summary (report_in finding) }
+fn summary(full: FullReport) -> Report
+    ensures { result ≡ summary (report_in full) }
 {
-    match finding {
-        Finding::Conflict(fragments) => Report::Conflict(fragments),
-        Finding::Missing(fragments) => Report::Missing(fragments),
-        Finding::Output(output) => match ended_as(&output) {
+    match full {
+        FullReport::Conflict(fragments) => Report::Conflict(fragments),
+        FullReport::Missing(fragments) => Report::Missing(fragments),
+        FullReport::Output(output) => match ended_as(&output) {
             Ended::Rows => Report::Rows,
             Ended::Fault => Report::Fault,
         },
-    }
-}
-
-/// How a query ended of which this is printed. A conflict or a missing fragment is no end.
-pub fn ended_of(finding: &Finding) -> Ended
-    ensures { (o : AnOutput) → report_in finding.now ≡ output o → result ≡ ended_as o }
-{
-    match finding {
-        Finding::Output(output) => ended_as(output),
-        _ => Ended::Fault,
     }
 }
 
@@ -215,7 +204,7 @@ impl Gather {
         ensures value { IfOk result (λ r. r ≡ summary (report self.now.job.plan self.now.cells)) }
         ensures refused { IfErr result (λ e. e ≡ GatherFault.Memory) }
     {
-        Ok(summary(find(alloc, self)?))
+        Ok(summary(full_report(alloc, self)?))
     }
 
     /// Prints the conflicts, if there are any; else the missing fragments; else what the answers say together. What a
@@ -225,9 +214,9 @@ impl Gather {
             (report_text self.now.job.plan (report self.now.job.plan self.now.cells))) }
         ensures refused { IfErr result IsPrintRefusal }
     {
-        let finding = find(alloc, self)?;
-        let printed = print_finding(alloc, self.job().plan(), &finding, out);
-        drop(finding);
+        let full = full_report(alloc, self)?;
+        let printed = print_full_report(alloc, self.job().plan(), &full, out);
+        drop(full);
         Ok(printed?)
     }
 
@@ -242,11 +231,11 @@ impl Gather {
         ensures value { IfOk result (λ r. r ≡ summary (report self.now.job.plan self.now.cells)) }
         ensures refused { IfErr result IsPrintRefusal }
     {
-        let finding = find(alloc, self)?;
-        match print_finding(alloc, self.job().plan(), &finding, out) {
-            Ok(()) => Ok(summary(finding)),
+        let full = full_report(alloc, self)?;
+        match print_full_report(alloc, self.job().plan(), &full, out) {
+            Ok(()) => Ok(summary(full)),
             Err(fault) => {
-                drop(finding);
+                drop(full);
                 Err(GatherFault::from(fault))
             }
         }

@@ -1,16 +1,22 @@
 //! Whole queries and reports on writers that fail.
-use coordinator::{Ended, Gather, WholeFault, whole};
+use coordinator::{Ended, Gather};
 use meaning::cut::Cut;
 use std::alloc::Global;
 use std::io::Write;
 use std::mem::drop;
 use std::test::Fail;
+use whole_query::{Sources, WholeFault, whole};
 
 /// Counts the rows of a table, and prints the count to this writer.
 fn count<W: Write>(alloc: Global, cut: &Cut, out: &mut W) -> Result<(Ended, Gather), WholeFault> {
     let csvs = [("n", b"v\n1\n2\n".as_slice())];
     let query = b"SELECT COUNT(*) FROM n";
-    whole(alloc, b"fact n\ncol v int\n", &csvs, query, cut, 1, out)
+    let sources = Sources {
+        csvs: &csvs,
+        cut,
+        vector_len: 1,
+    };
+    whole(alloc, b"fact n\ncol v int\n", query, sources, out)
 }
 
 fn count_to_full(alloc: Global, cut: &Cut) -> Result<(Ended, Gather), WholeFault> {

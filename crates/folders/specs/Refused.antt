@@ -10,8 +10,8 @@ use Rattle.fragment_file.specs.declared.fault.FileFault.{FileFault}
 use Rattle.fragment_file.specs.declared.fault.FileFault.TheVariants as file_fault
 use Rattle.worker.specs.declared.fault.WorkFault.{WorkFault}
 use Rattle.worker.specs.declared.fault.WorkFault.TheVariants as work_fault
-use Rattle.coordinator.specs.declared.whole_fault.WholeFault.{WholeFault}
-use Rattle.coordinator.specs.declared.whole_fault.WholeFault.TheVariants as whole_fault
+use Rattle.whole_query.specs.declared.fault.WholeFault.{WholeFault}
+use Rattle.whole_query.specs.declared.fault.WholeFault.TheVariants as whole_fault
 use Rattle.folders.specs.Folder.{csv_path}
 use Rattle.folders.specs.declared.refusal.Refusal.{Refusal}
 use Rattle.folders.specs.declared.refusal.Refusal.TheVariants as refusal

@@ -5,7 +5,6 @@ ghost use Rattle.folders.specs.Refused.{IsLoadPathless, IsPathless, IsToldAs, Is
 ghost use Rattle.folders.specs.declared.refusal.Refusal.TheVariants as refusal;
 
 use crate::paths::csv_path;
-use coordinator::WholeFault;
 use fragment_file::FileFault;
 use loader::LoadFault;
 use meaning::catalog::CatalogFault;
@@ -15,6 +14,7 @@ use meaning::text::Text;
 use planner_expressions::fault::PlanFault;
 use sql_reader::SqlFault;
 use std::alloc::{AllocError, AllocFailed, Global};
+use whole_query::WholeFault;
 use worker::WorkFault;
 
 /// Why a command was not done.

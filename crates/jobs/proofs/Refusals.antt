@@ -1,18 +1,13 @@
 -- A layer's refusal as one of a command's.
-use Rattle.std.proofs.Common.{◌≡◌, ℕ, List, Err, refl, sym, ap, ◌∙◌, subst, inl, inr}
+use Rattle.std.proofs.Common.{◌≡◌, ℕ, List, refl, sym, subst, inl, inr}
 use Rattle.meaning.specs.declared.catalog.Catalog.{Catalog}
-use Rattle.coordinator.specs.Whole.{IsPlanRefused}
-use Rattle.coordinator.specs.declared.whole_fault.WholeFault.{WholeFault}
-use Rattle.coordinator.specs.declared.whole_fault.WholeFault.TheVariants as whole_fault
+use Rattle.whole_query.specs.Whole.{IsPlanRefused}
+use Rattle.whole_query.specs.declared.fault.WholeFault.{WholeFault}
+use Rattle.whole_query.specs.declared.fault.WholeFault.TheVariants as whole_fault
 use Rattle.folders.specs.Folder.{Holds}
 use Rattle.folders.specs.Refused.{IsToldAs, refusal_of}
 use Rattle.folders.specs.declared.refusal.Refusal.{Refusal}
-use Rattle.partial_codec.specs.Job.{JobSpec}
-use Rattle.jobs.specs.Gathering.{IsGatherRefused, IsReportRefused, IsTakingRefused, IsTogetherRefused}
-use Rattle.jobs.specs.Job.{IsJobOf, IsJobRefused, IsQueryRefused}
-use Rattle.jobs.specs.Working.{IsSpelled, IsSpelledRefused, IsWorkRefused}
-use Rattle.command_line.specs.declared.commands.GatherCommand.{GatherCommand}
-use Rattle.command_line.specs.declared.commands.WorkCommand.{WorkCommand}
+use Rattle.jobs.specs.Job.{IsJobRefused, IsQueryRefused}
 
 meant : (catalog : Catalog) (folder query : List ℕ) (fault : WholeFault) → IsPlanRefused catalog query fault → IsQueryRefused catalog query (refusal_of folder fault)
 meant catalog folder query whole_fault.Memory refused = inl refl

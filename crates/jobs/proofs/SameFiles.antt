@@ -1,6 +1,6 @@
 -- Files with the same members say the same.
-use Rattle.std.proofs.Common.{◌≡◌, ℕ, zero, suc, ◌<◌, List, [], ◌∷◌, length, get_or, refl, sym, ap, ◌∙◌, subst, arith}
-use Rattle.std.specs.Prelude.{Contains, slice_index_or}
+use Rattle.std.proofs.Common.{◌≡◌, ℕ, zero, suc, List, [], ◌∷◌, refl, sym, ap, ◌∙◌, arith}
+use Rattle.std.specs.Prelude.{Contains}
 use Rattle.meaning.specs.Cut.{Cut}
 use Rattle.meaning.specs.Gather.{join_cells, report}
 use Rattle.meaning.specs.Print.{report_text}

@@ -1,5 +1,5 @@
 -- One file more is taken, or named and passed over.
-use Rattle.std.proofs.Common.{◌≡◌, ℕ, ◌+◌, ◌<◌, true, false, List, [], ◌∷◌, ◌++◌, map, length, take, get_or, slice_set, slice_index_or, All, OnOk, refl, sym, ap, ◌∙◌, subst, append_assoc, append-nil, arith}
+use Rattle.std.proofs.Common.{◌≡◌, ℕ, ◌+◌, ◌<◌, true, false, List, [], ◌∷◌, ◌++◌, map, length, take, get_or, slice_set, slice_index_or, All, OnOk, refl, sym, ap, ◌∙◌, subst, append_assoc, append-nil}
 use Rattle.std.specs.Prelude.{Option, None, Some, Result, Ok, Err, flat_map}
 use Rattle.std.specs.Io.KnownBytes.{Appends}
 use Rattle.std.proofs.lemmas.Grind.{flat_map-append}
@@ -17,8 +17,8 @@ use Rattle.coordinator.specs.Gathering.{GatherSpec, Takes, join_states, joined_w
 use Rattle.coordinator.specs.declared.gather.Absorbed.{Absorbed}
 use Rattle.folders.specs.Folder.{Holds}
 use Rattle.folders.specs.Telling.{passed_over_line}
-use Rattle.jobs.specs.Gathering.{AreTaken, IsTaken, IsTaking, Taken, Taking, answer, gathered, is_state, line_of, obstacle_of, passed, state, takings_of}
-use Rattle.jobs.specs.Taking.{Adds, TakesBytes, TakesFile, TakesOrNames, TookFiles}
+use Rattle.jobs.specs.Gathering.{IsTaken, IsTaking, Taken, answer, gathered, is_state, line_of, obstacle_of, passed, state, takings_of}
+use Rattle.jobs.specs.Taking.{TakesBytes, TakesFile, TakesOrNames, TookFiles}
 use Rattle.jobs.proofs.Together.{answer_more, below_cut, passed_more, state_more}
 
 pub appends_nothing : (o : Option (List ℕ)) → Appends o o []

@@ -1,5 +1,5 @@
 -- What becomes of files of answers and states, and what they say together.
-use Rattle.std.specs.Prelude.{◌≡◌, ◌⊎◌, ℕ, ◌==◌, nat_eq, Bool, true, false, if◌then◌else◌, List, [], ◌∷◌, map, flat_map, length, codes, slice_index_or, All, Contains, Option, Some, None, ⊤}
+use Rattle.std.specs.Prelude.{◌≡◌, ◌⊎◌, ℕ, ◌==◌, nat_eq, Bool, true, false, if◌then◌else◌, List, [], ◌∷◌, map, flat_map, length, codes, slice_index_or, All, Contains, Option, Some, None}
 use Rattle.std.specs.List.{range_with_len, starts_with}
 use Rattle.std.specs.Io.KnownBytes.{Appends}
 use Rattle.meaning.specs.Cut.{Cut}

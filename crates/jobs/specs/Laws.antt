@@ -1,7 +1,7 @@
 -- What gathered files say, whatever their order, each the contract of a function of `src/laws.rt`.
 use Rattle.std.specs.Prelude.{◌≡◌, ◌↔◌, ℕ, ◌<◌, List, [], length, sum, Contains}
 use Rattle.meaning.specs.Answer.{own}
-use Rattle.meaning.specs.Cut.{Cut, numbered}
+use Rattle.meaning.specs.Cut.{numbered}
 use Rattle.meaning.specs.Gather.{is_conflict, places, report}
 use Rattle.meaning.specs.Meaning.{meaning}
 use Rattle.meaning.specs.Order.{Row}

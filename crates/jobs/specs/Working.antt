@@ -8,7 +8,7 @@ use Rattle.worker.specs.Work.{answered}
 use Rattle.worker.specs.declared.fault.WorkFault.{WorkFault}
 use Rattle.folders.specs.Each.{AreEach}
 use Rattle.folders.specs.Folder.{AreHeld, Change, Holds, WritesOne, dimension_path, fragment_path}
-use Rattle.folders.specs.Refused.{IsUnread, IsUnwritten, of_work}
+use Rattle.folders.specs.Refused.{IsUnread, IsUnwritten}
 use Rattle.folders.specs.declared.refusal.Refusal.{Refusal}
 use Rattle.folders.specs.declared.refusal.Refusal.TheVariants as refusal
 use Rattle.command_line.specs.declared.commands.WorkCommand.{WorkCommand}

@@ -4,10 +4,9 @@ ghost use Rattle.meaning.specs.Catalog.{IsWellFormed};
 ghost use Rattle.meaning.specs.WellFormedPlan.{IsWellFormedPlan};
 ghost use Rattle.last_step.specs.Fitting.{IsTypedOverGroups};
 ghost use Rattle.partial_codec.specs.Job.{IsPlanOfJob};
-ghost use Rattle.coordinator.specs.Whole.{IsPlanned};
+ghost use Rattle.whole_query.specs.Whole.{IsPlanned};
 ghost use Rattle.jobs.specs.Job.{IsCatalogRefused, IsCatalogThere, IsCutRefused, IsCutThere, IsJobOf, IsJobOver, IsJobRefused, IsQueryRefused, IsRefusedOver};
 
-use coordinator::plan_query;
 use folders::files::{read_catalog_file, read_file};
 use folders::paths::cut_path;
 use folders::{Folder, Refusal, refusal_of};
@@ -19,6 +18,7 @@ use meaning::read_catalog::read_catalog;
 use partial_codec::Job;
 use std::alloc::Global;
 use std::mem::drop;
+use whole_query::plan_query;
 
 fn read_tables<F: Folder>(alloc: Global, folder: &F, directory: &str) -> Result<Catalog, Refusal>
     ensures there { IfOk result (IsCatalogThere (F.holds folder.now) directory.now) }
@@ -38,7 +38,17 @@ fn read_load<F: Folder>(alloc: Global, folder: &F, directory: &str) -> Result<(u
     Ok(read_cut(alloc, bytes.as_slice())?)
 }
 
-fn plan(alloc: Global, directory: &str, catalog: &Catalog, query: &str) -> Result<Plan, Refusal>
+/// The plan of a query over declared tables.
+///
+/// # Errors
+///
+/// Out of memory, the text's first fault, or its plan's.
+pub fn plan_of(
+    alloc: Global,
+    directory: &str,
+    catalog: &Catalog,
+    query: &str,
+) -> Result<Plan, Refusal>
     ensures planned { IfOk result (λ plan. IsPlanned catalog.now query.now (Ok plan)) }
     ensures well_formed { IfOk result IsWellFormedPlan }
     ensures typed { IfOk result IsTypedOverGroups }
@@ -65,7 +75,7 @@ fn job_over<F: Folder>(
     ensures refused { IfErr result (IsRefusedOver (F.holds folder.now) directory.now catalog.now query.now) }
 {
     let (load, cut) = read_load(alloc, folder, directory)?;
-    match plan(alloc, directory, catalog, query) {
+    match plan_of(alloc, directory, catalog, query) {
         Ok(plan) => Ok(Job::new(load, plan, cut)),
         Err(refusal) => {
             drop(cut);

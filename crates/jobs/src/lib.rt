@@ -9,5 +9,6 @@ mod taking;
 mod working;
 
 pub use gathering::gather_answers;
+pub use job::plan_of;
 pub use laws::{answers_are_joined, own_answers_mean};
 pub use working::answer_fragment;

@@ -1,6 +1,5 @@
 -- Proofs of the goals of `combine` (`combining`).
-use Rattle.std.proofs.Common.{◌≡◌, IfOk, sym, ap, subst, ◌∙◌}
-use Rattle.meaning.specs.Said.{Body}
+use Rattle.std.proofs.Common.{◌≡◌, sym, ap, subst, ◌∙◌}
 use Rattle.meaning.specs.declared.answer.Body.TheVariants.{Groups}
 use Rattle.meaning.specs.Group.{merged_groups}
 use Rattle.last_step.specs.Printing.{ShowsSomething}

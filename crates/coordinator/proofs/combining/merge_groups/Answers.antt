@@ -1,5 +1,5 @@
 -- Proofs of the goals of `merge_groups` (`combining`).
-use Rattle.std.proofs.Common.{◌≡◌, sym, ap, subst, ◌∙◌, take_all}
+use Rattle.std.proofs.Common.{ap, ◌∙◌, take_all}
 use Rattle.group_by.specs.Groups.{with_groups}
 use Rattle.group_by.proofs.Growing.{grow}
 use Rattle.group_by.proofs.Shapes.{says}

@@ -1,7 +1,7 @@
 -- Proofs of the goals of `gather_files` (`gathering`).
-use Rattle.std.proofs.Common.{IfErr, ◌≡◌, subst, inl, inr}
+use Rattle.std.proofs.Common.{subst, inl, inr}
 use Rattle.std.proofs.lemmas.Result.{err_from_is_err_and}
-use Rattle.jobs.specs.Gathering.{IsTakingRefused, IsTogetherRefused}
+use Rattle.jobs.specs.Gathering.{IsTakingRefused}
 use Rattle.jobs.specs.Job.{IsJobOf}
 use Rattle.jobs.proofs.Refusals.{no_job}
 use Rattle.jobs.proofs.gathering.gather_files.Goals as goal

@@ -1,6 +1,4 @@
 -- Proofs of the goals of `take_state` (`taking`).
-use Rattle.std.proofs.Common.{List}
-use Rattle.meaning.specs.Said.{Cell}
 use Rattle.jobs.proofs.TakenFiles.{on_ok, taken_state}
 use Rattle.jobs.proofs.taking.take_state.Goals as goal
 

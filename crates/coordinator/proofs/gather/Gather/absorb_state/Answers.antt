@@ -1,9 +1,9 @@
 -- Proofs of the goals of `Gather::absorb_state` (`gather`).
-use Rattle.std.proofs.Common.{◌≡◌, List, refl, length, ap, sym, ◌∙◌, subst}
+use Rattle.std.proofs.Common.{◌≡◌, List, refl, ap, sym, subst}
 use Rattle.meaning.specs.Said.{Cell}
 use Rattle.partial_codec.specs.State.{SpellsState}
-use Rattle.coordinator.specs.Gathering.{GatherSpec, IsGather, join_states, joined_with}
-use Rattle.coordinator.proofs.StateFiles.{held_state, joined_fits, same_lengths}
+use Rattle.coordinator.specs.Gathering.{GatherSpec, IsGather, joined_with}
+use Rattle.coordinator.proofs.StateFiles.{held_state, joined_fits}
 use Rattle.coordinator.proofs.gather.Gather.absorb_state.Goals as goal
 
 -- the state before

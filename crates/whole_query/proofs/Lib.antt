@@ -1,0 +1,14 @@
+-- The lemmas of this crate.
+pub mod OwnRows
+pub mod CountedRows
+pub mod Slices
+pub mod FragmentColumns
+pub mod FileRows
+pub mod Planned
+pub mod FoundFiles
+pub mod InTurn
+pub mod TableFaults
+pub mod TableFiles
+pub mod Told
+pub mod Runs
+pub mod Ends

@@ -1,0 +1,1 @@
+-- Proofs of the goals of `answer_tables` (`fragments`).

@@ -1,0 +1,16 @@
+//! A whole query in memory: from a catalogue, CSV files and a query's text to what is printed.
+#![tactic(auto)]
+
+mod answering;
+mod csvs;
+mod fault;
+mod fragments;
+mod planning;
+mod sources;
+mod table_files;
+mod tables;
+
+pub use answering::{answer_plan, whole};
+pub use fault::WholeFault;
+pub use planning::plan_query;
+pub use sources::Sources;

@@ -97,7 +97,16 @@ fn append_groups<'a>(
     Ok(())
 }
 
-fn read_column(alloc: Global, view: &FragmentView<'_>, place: usize) -> Result<Column, FileFault>
+/// The column of the file at a place, in memory of its own: each block is read whole, and its texts are copied as bytes.
+///
+/// # Errors
+///
+/// Out of memory.
+pub fn read_column(
+    alloc: Global,
+    view: &FragmentView<'_>,
+    place: usize,
+) -> Result<Column, FileFault>
     requires place { place < length view.now.header.columns }
     ensures ok { IfOk result (λ c. (d : ADeclared) →
         c ≡ column_in view.now.groups (place, get_or view.now.header.columns place d)) }
@@ -115,7 +124,7 @@ fn read_column(alloc: Global, view: &FragmentView<'_>, place: usize) -> Result<C
     }
 }
 
-/// The columns of the file, in the order of the header: each block is read whole, and its texts are copied as bytes.
+/// The columns of the file, in the order of the header.
 ///
 /// # Errors
 ///

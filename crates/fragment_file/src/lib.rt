@@ -17,7 +17,7 @@ mod writing;
 mod writing_groups;
 mod writing_header;
 
-pub use copying::read_columns;
+pub use copying::{read_column, read_columns};
 pub use cut_reading::read_cut;
 pub use cut_writing::write_cut;
 pub use fault::FileFault;

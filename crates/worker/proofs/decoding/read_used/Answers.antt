@@ -8,8 +8,8 @@ use Rattle.worker.specs.Dimensions.{IsColumnIn}
 use Rattle.worker.proofs.UsedColumns.{AreThere, one_used, place_at}
 use Rattle.worker.proofs.decoding.read_used.Goals as goal
 
-pub read_column-requires : goal.read_column-requires
-read_column-requires c =
+pub column_of-requires : goal.column_of-requires
+column_of-requires c =
     let has = subst (AreThere c.args.file.now.header.columns) (sym c.as_slice-used.ensures) c.requires in
     record { place = place_at c.as_slice-used.result.now c.args.file.now.header.columns c.loop-used.used-index c.used-item.result has c.loop-used-test.true c.used-item.is }
 

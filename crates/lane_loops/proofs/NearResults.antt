@@ -93,11 +93,11 @@ module _ (op : ArithmeticOperator) (n : ℕ) (left right : ℕ → ℤ) where
   pub goes_on : (old new : List ℤ) (i was is : ℕ) → i < n
       → (was < limit_of op → AreResults op n i left right old)
       → (is < limit_of op → AreNear op (left i) (right i))
-      → (AreNear op (left i) (right i) → new ≡ set old i (arith_int op (left i) (right i)))
+      → (is < limit_of op → new ≡ set old i (arith_int op (left i) (right i)))
       → bit_or was is < limit_of op → AreResults op n (i + 1) left right new
   goes_on old new i was is within so_far near put below =
-      let here = near (below_right was is (limit_of op) below) in
-      subst (AreResults op n (i + 1) left right) (sym (put here)) (results_more old i (so_far (below_left was is (limit_of op) below)) within here)
+      let here = below_right was is (limit_of op) below in
+      subst (AreResults op n (i + 1) left right) (sym (put here)) (results_more old i (so_far (below_left was is (limit_of op) below)) within (near here))
 
   pub none_yet : (out : List ℤ) → length out ≡ n → AreResults op n 0 left right out
   none_yet out long = record { long = long; each = λ j below. absurd (omega (arith, below)); held = λ j below. absurd (omega (arith, below)) }

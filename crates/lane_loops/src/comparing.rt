@@ -1,9 +1,9 @@
 //! Comparisons lane by lane.
-ghost use Rattle.std.specs.Prelude.{◌≡◌, ◌<◌, length, All};
+ghost use Rattle.std.specs.Prelude.{◌≡◌, ◌<◌, ◌≤◌, ◌+◌, length, All};
 ghost use Rattle.std.specs.Ordering.{int_cmp, nat_cmp};
 ghost use Rattle.std.specs.Cmp.Lexicographic.{slice_cmp};
 ghost use Rattle.meaning.specs.Operators.{test};
-ghost use Rattle.lane_loops.specs.Lanes.{AreLanes, AreLanesAt, compared_bit, compared_text_bit, compared_text_to_bit, compared_to_bit};
+ghost use Rattle.lane_loops.specs.Lanes.{AreFilled, AreLanes, AreLanesAt, compared_bit, compared_text_bit, compared_text_to_bit, compared_to_bit};
 
 use meaning::expr::ComparisonOperator;
 
@@ -31,15 +31,40 @@ fn bit_at(op: ComparisonOperator, left: &[i64], right: &[i64], lane: usize) -> u
     u8::from(holds(op, left[lane], right[lane]))
 }
 
+/// The bits of so many lanes more.
+#[inline(always)]
+fn fill_of_two(
+    op: ComparisonOperator,
+    left: &[i64],
+    right: &[i64],
+    start: usize,
+    count: usize,
+    out: &mut [u8],
+)
+    requires left { length left.now ≡ length out.old }
+    requires right { length right.now ≡ length out.old }
+    requires within { start + count ≤ length out.old }
+    requires filled { AreFilled 0 (length out.old) start (compared_bit op left.now right.now) out.old }
+    ensures { AreFilled 0 (length out.old) (start + count) (compared_bit op left.now right.now) out.new }
+{
+    for k in 0..count {
+        out[start + k] = bit_at(op, left, right, start + k);
+    }
+}
+
 #[inline(always)]
 fn compare_by(op: ComparisonOperator, left: &[i64], right: &[i64], out: &mut [u8])
     requires left { length left.now ≡ length out.old }
     requires right { length right.now ≡ length out.old }
     ensures { AreLanes 0 (length out.old) (compared_bit op left.now right.now) out.new }
 {
-    for i in 0..out.len() {
-        out[i] = bit_at(op, left, right, i);
+    // Eight at a time: in a loop over single lanes the compiler packs the bits of two at a time.
+    let eights = out.len() / 8;
+    for eight in 0..eights {
+        fill_of_two(op, left, right, 8 * eight, 8, out);
     }
+    let start = 8 * eights;
+    fill_of_two(op, left, right, start, out.len() - start, out);
 }
 
 /// 1 in each lane where the comparison holds, else 0.
@@ -71,14 +96,38 @@ fn bit_beside(op: ComparisonOperator, left: &[i64], lane: usize, right: &i64) ->
     u8::from(holds(op, left[lane], *right))
 }
 
+/// The bits of so many lanes more.
+#[inline(always)]
+fn fill_to(
+    op: ComparisonOperator,
+    left: &[i64],
+    right: &i64,
+    start: usize,
+    count: usize,
+    out: &mut [u8],
+)
+    requires long { length left.now ≡ length out.old }
+    requires within { start + count ≤ length out.old }
+    requires filled { AreFilled 0 (length out.old) start (compared_to_bit op left.now right.now) out.old }
+    ensures { AreFilled 0 (length out.old) (start + count) (compared_to_bit op left.now right.now) out.new }
+{
+    for k in 0..count {
+        out[start + k] = bit_beside(op, left, start + k, right);
+    }
+}
+
 #[inline(always)]
 fn compare_to_by(op: ComparisonOperator, left: &[i64], right: &i64, out: &mut [u8])
     requires { length left.now ≡ length out.old }
     ensures { AreLanes 0 (length out.old) (compared_to_bit op left.now right.now) out.new }
 {
-    for i in 0..out.len() {
-        out[i] = bit_beside(op, left, i, right);
+    // Eight at a time, as above.
+    let eights = out.len() / 8;
+    for eight in 0..eights {
+        fill_to(op, left, right, 8 * eight, 8, out);
     }
+    let start = 8 * eights;
+    fill_to(op, left, right, start, out.len() - start, out);
 }
 
 /// 1 in each lane where the comparison with the integer holds, else 0.

@@ -78,13 +78,25 @@ fn near_result(op: ArithmeticOperator, left: i64, right: i64) -> i64
     }
 }
 
+/// The integer, where the bits are below the limit. An integer that is one for all lanes would be shortened before the loop, and
+/// in the loop the compiler would no longer see that 32 bits hold it; what depends on the lane's bits it shortens there.
+#[inline(always)]
+fn kept(op: ArithmeticOperator, int: i64, bits: u64) -> i64
+    ensures { bits < limit_of op → result ≡ int }
+{
+    match op {
+        ArithmeticOperator::Multiply => int.wrapping_add_unsigned(bits >> 32),
+        _ => int,
+    }
+}
+
 /// Puts the result into its lane. It may be another one where the bits are at the limit or above.
 #[inline(always)]
 fn put_result(op: ArithmeticOperator, left: &i64, right: &i64, lane: usize, out: &mut [i64]) -> u64
     requires { lane < length out.old }
     ensures long { length out.new ≡ length out.old }
     ensures near { result < limit_of op → AreNear op left.now right.now }
-    ensures put { AreNear op left.now right.now → out.new ≡ set out.old lane (arith_int op left.now right.now) }
+    ensures put { result < limit_of op → out.new ≡ set out.old lane (arith_int op left.now right.now) }
 {
     // Before the write, so that no operand is read again behind it.
     let bits = far_bits(op, left, right);
@@ -105,7 +117,7 @@ fn put_of_two(
     requires out { lane < length out.old }
     ensures long { length out.new ≡ length out.old }
     ensures near { result < limit_of op → AreNear op (int_at left.now lane) (int_at right.now lane) }
-    ensures put { AreNear op (int_at left.now lane) (int_at right.now lane) → out.new ≡ set out.old lane (arith_int op (int_at left.now lane) (int_at right.now lane)) }
+    ensures put { result < limit_of op → out.new ≡ set out.old lane (arith_int op (int_at left.now lane) (int_at right.now lane)) }
 {
     put_result(op, &left[lane], &right[lane], lane, out)
 }
@@ -153,9 +165,11 @@ fn put_beside(
     requires out { lane < length out.old }
     ensures long { length out.new ≡ length out.old }
     ensures near { result < limit_of op → AreNear op (int_at left.now lane) right.now }
-    ensures put { AreNear op (int_at left.now lane) right.now → out.new ≡ set out.old lane (arith_int op (int_at left.now lane) right.now) }
+    ensures put { result < limit_of op → out.new ≡ set out.old lane (arith_int op (int_at left.now lane) right.now) }
 {
-    put_result(op, &left[lane], right, lane, out)
+    let bits = far_bits(op, &left[lane], right);
+    out[lane] = near_result(op, left[lane], kept(op, *right, bits));
+    bits
 }
 
 #[inline(always)]
@@ -209,9 +223,11 @@ fn put_behind(
     requires out { lane < length out.old }
     ensures long { length out.new ≡ length out.old }
     ensures near { result < limit_of op → AreNear op left.now (int_at right.now lane) }
-    ensures put { AreNear op left.now (int_at right.now lane) → out.new ≡ set out.old lane (arith_int op left.now (int_at right.now lane)) }
+    ensures put { result < limit_of op → out.new ≡ set out.old lane (arith_int op left.now (int_at right.now lane)) }
 {
-    put_result(op, left, &right[lane], lane, out)
+    let bits = far_bits(op, left, &right[lane]);
+    out[lane] = near_result(op, kept(op, *left, bits), right[lane]);
+    bits
 }
 
 #[inline(always)]

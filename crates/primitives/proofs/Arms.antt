@@ -65,16 +65,17 @@ decides_start kind m s h = record {
   origin = inl refl;
 }
 
-put_outside : (s : Positions) (these those g : Given) → ArePut s these those g → (i : ℕ) → i < s.below → is_among s.list i ≡ false → given_at g i ≡ given_at those i
+pub put_outside : (s : Positions) (these those g : Given) → ArePut s these those g → (i : ℕ) → i < s.below → is_among s.list i ≡ false → given_at g i ≡ given_at those i
 put_outside s these those g are i below e = are i below ∙ ap (λ (b : Bool). if b then given_at these i else given_at those i) e
 
-put_inside : (s : Positions) (these those g : Given) → ArePut s these those g → (i : ℕ) → i < s.below → is_among s.list i ≡ true → given_at g i ≡ given_at these i
+pub put_inside : (s : Positions) (these those g : Given) → ArePut s these those g → (i : ℕ) → i < s.below → is_among s.list i ≡ true → given_at g i ≡ given_at these i
 put_inside s these those g are i below e = are i below ∙ ap (λ (b : Bool). if b then given_at these i else given_at those i) e
 
 module _ (kind : ColType) (meant c v rest : ℕ → Outcome) (s left lanes : Positions) (h0 h h2 : Held) (g then_given g2 : Given)
     (so_far : Decides kind meant (λ i. case_of (c i) (v i) (rest i)) (IsWithin s) left h0 h g)
     (taken : IsTaken kind c v left lanes h h2 then_given) (same : lanes.below ≡ left.below)
-    (put : ArePut lanes then_given g g2) (kind2 : is_of_kind (Valued kind) g2 ≡ true) where
+    (inside : (i : ℕ) → IsWithin lanes i → given_at g2 i ≡ given_at then_given i)
+    (outside : (i : ℕ) → IsWithin s i → is_among left.list i ≡ false → is_among lanes.list i ≡ false → given_at g2 i ≡ given_at g i) (kind2 : is_of_kind (Valued kind) g2 ≡ true) where
   abbrev left2 : Positions
   left2 = record { below = left.below; list = without left.list lanes.list }
 
@@ -107,12 +108,12 @@ module _ (kind : ColType) (meant c v rest : ℕ → Outcome) (s left lanes : Pos
   decided_now i w b gone = elim (bool_cases (is_among left.list i)) [
     | inr out ↦ elim (bool_cases (is_among lanes.list i)) [
       | inl among ↦ (let there : is_among left.list i ≡ true = (taken.passes.stood i (below_lanes i (so_far.below i w), among)).1 in absurd cc)
-      | inr apart ↦ put_outside lanes then_given g g2 put i (below_lanes i (so_far.below i w)) apart ∙ so_far.decided i w (to_h i b) out
+      | inr apart ↦ outside i w out apart ∙ so_far.decided i w (to_h i b) out
     ]
     | inl in_left ↦ elim (bool_cases (is_among lanes.list i)) [
       | inl among ↦
           (let there : IsWithin lanes i = (below_lanes i (so_far.below i w), among) in
-          put_inside lanes then_given g g2 put i there.0 among ∙ taken.gives.evaluates.exact i there b
+          inside i there ∙ taken.gives.evaluates.exact i there b
           ∙ sym (so_far.undecided i (so_far.below i w, in_left) (to_h i b) ∙ ap (λ (o : Outcome). case_of o (v i) (rest i)) (taken.passes.true_there i there (to_between i b))))
       | inr apart ↦
           (let stays : is_among left2.list i ≡ true = filter_stays (λ p. not (is_among lanes.list p)) left.list i in_left (ap not apart) in absurd cc)

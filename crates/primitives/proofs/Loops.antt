@@ -26,7 +26,6 @@ use Rattle.primitives.specs.Meant.{meant_at, row_at}
 use Rattle.primitives.specs.Fitting.{AreTypedRows, Fits}
 use Rattle.vector_operators.specs.Given.{given_at, is_of_kind}
 use Rattle.primitives.specs.Nodes.{Decides, FitsArm, Gives, IsExact, IsNoLater, one_of_subject}
-use Rattle.primitives.proofs.Arms.{decides_start}
 use Rattle.vector_operators.proofs.Composes.{after, lane_is, pointwise, restated}
 use Rattle.primitives.proofs.Lists.{first_of_more, one_of_subject_more}
 
@@ -159,13 +158,30 @@ ArmsDecide batch s arms k h1 now left g = (types : RowTypes) (rows : List Joined
     → AreTypedRows types batch rows → All (FitsArm types batch.columns kind) arms
     → Decides kind (λ i. cases_of (arms_at (row_at rows i) (map eval_arm arms)) (rest i)) (λ i. cases_of (arms_at (row_at rows i) (map eval_arm (drop k arms))) (rest i)) (IsWithin s) left h1 now g
 
-pub arms_start : (batch : BatchSpec) (s left : Positions) (arms : List Arm) (h : Held) → left ≡ s → ArmsDecide batch s arms 0 h h left given.Null
-arms_start batch s left arms h is types rows kind rest are fit =
-    let meant : ℕ → Outcome = λ i. cases_of (arms_at (row_at rows i) (map eval_arm arms)) (rest i) in
-    subst (λ (l : Positions). Decides kind meant meant (IsWithin s) l h h given.Null) (sym is) (decides_start kind meant s h)
-
 eval_arm-parts : (a b : Expr) → eval_arm (record { when = a; then = b }) ≡ (eval a, eval b)
 eval_arm-parts a b = search (rules, the_lemmas)
+
+-- behind the first arm
+pub arms_first : (batch : BatchSpec) (s left : Positions) (arms : List Arm) (first : Arm) (others : List Arm) (h1 h2 : Held) (g : Given) → arms ≡ first ∷ others
+    → ((types : RowTypes) (rows : List JoinedRow) (kind : ColType) (rest : ℕ → Outcome)
+    → AreTypedRows types batch rows → FitsArm types batch.columns kind first
+    → Decides kind (λ i. case_of (meant_at first.when rows i) (meant_at first.then rows i) (rest i)) rest (IsWithin s) left h1 h2 g)
+    → ArmsDecide batch s arms 1 h1 h2 left g
+arms_first batch s left arms first others h1 h2 g is on = subst (λ (all : List Arm). ArmsDecide batch s all 1 h1 h2 left g) (sym is) (λ types rows kind rest are fit.
+    (let later : List (Meaning × Meaning) = map eval_arm others in
+    subst (λ (p : Meaning × Meaning). Decides kind (λ i. cases_of (arms_at (row_at rows i) (p ∷ later)) (rest i)) (λ i. cases_of (arms_at (row_at rows i) later) (rest i)) (IsWithin s) left h1 h2 g)
+    (sym (eval_arm-parts first.when first.then))
+    (on types rows kind (λ i. cases_of (arms_at (row_at rows i) later) (rest i)) are (at_place (FitsArm types batch.columns kind) (first ∷ others) 0 first fit (omega arith) refl))))
+
+-- an arm behind the first
+pub behind_first : (arms : List Arm) (first : Arm) (others : List Arm) (k : ℕ) (x : Arm) → arms ≡ first ∷ others → k < length others → x ≡ get_or others k x
+    → (k + 1 < length arms) × (x ≡ get_or arms (k + 1) x)
+behind_first arms first others k x is below at = subst (λ (all : List Arm). (k + 1 < length all) × (x ≡ get_or all (k + 1) x)) (sym is)
+    (let next : k + 1 ≡ suc k = omega arith in (omega (arith, below), subst (λ (m : ℕ). x ≡ get_or (first ∷ others) m x) (sym next) at))
+
+-- none is left behind the first
+pub gone_through : (arms : List Arm) (first : Arm) (others : List Arm) (k : ℕ) → arms ≡ first ∷ others → length others ≤ k → length arms ≤ k + 1
+gone_through arms first others k is done = subst (λ (all : List Arm). length all ≤ k + 1) (sym is) (omega (arith, done))
 
 pub arms_more : (batch : BatchSpec) (s : Positions) (arms : List Arm) (k : ℕ) (arm : Arm) (h1 h2 h3 : Held) (left left2 : Positions) (g next : Given)
     → k < length arms → arm ≡ get_or arms k arm

@@ -1,6 +1,6 @@
 -- What a function of the recursion gives, from what its calls give.
-use Rattle.std.specs.Prelude.{◌≡◌, ℕ, ◌<◌, true, false, Bool, List, get_or, Result, Ok, Err, IfOk}
-use Rattle.std.proofs.Common.{refl, sym, ◌∙◌, subst}
+use Rattle.std.specs.Prelude.{◌≡◌, ℕ, ◌<◌, true, false, Bool, List, [], ◌∷◌, map, length, All, get_or, Result, Ok, Err, IfOk}
+use Rattle.std.proofs.Common.{refl, sym, ◌∙◌, ap, subst, arith}
 use Rattle.meaning.specs.declared.value.Value.{Value}
 use Rattle.meaning.specs.declared.value.Value.TheVariants.{Null, Int, Text}
 use Rattle.meaning.specs.declared.value.ColType.{ColType}
@@ -13,7 +13,8 @@ use Rattle.meaning.specs.declared.expr.ComparisonOperator.{ComparisonOperator}
 use Rattle.meaning.specs.declared.expr.Expr.{Expr}
 use Rattle.meaning.specs.declared.expr.Arm.{Arm}
 use Rattle.meaning.specs.declared.joined_row.JoinedRow.{JoinedRow}
-use Rattle.meaning.specs.Operators.{arith_of, case_of, coalesce_of, compare_of}
+use Rattle.meaning.specs.Expr.{arms_at, eval_arm}
+use Rattle.meaning.specs.Operators.{arith_of, case_of, cases_of, coalesce_of, compare_of}
 use Rattle.meaning.specs.Typing.{ExprType, Valued, Boolean, RowTypes}
 use Rattle.vectors.specs.Selection.{Positions, without}
 use Rattle.vectors.specs.Vector.{BatchSpec}
@@ -22,11 +23,11 @@ use Rattle.vector_operators.specs.declared.given.Given.TheVariants as given
 use Rattle.primitives.specs.declared.nodes.Cases.{Cases}
 use Rattle.primitives.specs.declared.nodes.Taken.{Taken}
 use Rattle.vector_operators.specs.Evaluated.{Evaluates, Held, IsWithin}
-use Rattle.primitives.specs.Meant.{meant_at}
+use Rattle.primitives.specs.Meant.{meant_at, row_at}
 use Rattle.primitives.specs.Fitting.{AreTypedRows, Fits}
 use Rattle.vector_operators.specs.Given.{AreNarrowed, are_alike, given_at, is_null_lane, is_of_kind, is_true_lane, ArePut}
 use Rattle.primitives.specs.Nodes.{Decides, FitsArm, Gives, IsExact, IsNoLater, IsTaken, IsWhere, Passes}
-use Rattle.primitives.proofs.Arms.{decides_more, decides_rest, passes_where}
+use Rattle.primitives.proofs.Arms.{decides_more, decides_rest, decides_start, passes_where, put_inside, put_outside}
 use Rattle.vector_operators.proofs.Composes.{Node, pointwise, reselected}
 use Rattle.primitives.proofs.Steps.{are_alike_kinds, arith_node, beside, both, compare_node, given_no_later, narrowed_both}
 
@@ -283,4 +284,37 @@ arm_gives batch arm cases taken h h2 (Ok c) on same left put kind = λ types row
     (let there = on types rows k typed fits in
     subst (λ (l : Positions). Decides k meant rest (IsWithin s) l held h2 c.given) (sym left)
     (decides_more k meant (meant_at arm.when rows) (meant_at arm.then rows) rest s cases.left taken.lanes held h h2 cases.given taken.then c.given so_far there same
-    (put k so_far.kind_is there.gives.kind) (kind k so_far.kind_is there.gives.kind)))
+    (λ i w. put_inside taken.lanes taken.then cases.given c.given (put k so_far.kind_is there.gives.kind) i w.0 w.1)
+    (λ i w out apart. put_outside taken.lanes taken.then cases.given c.given (put k so_far.kind_is there.gives.kind) i (subst (λ (m : ℕ). i < m) (sym same) (so_far.below i w)) apart)
+    (kind k so_far.kind_is there.gives.kind)))
+
+pub first_gives : {E : Type 0} (batch : BatchSpec) (arm : Arm) (s : Positions) (taken : Taken) (h h2 : Held) (r : Result Cases E)
+    → ((types : RowTypes) (rows : List JoinedRow) (kind : ColType) → AreTypedRows types batch rows → FitsArm types batch.columns kind arm
+    → IsTaken kind (meant_at arm.when rows) (meant_at arm.then rows) s taken.lanes h h2 taken.then)
+    → taken.lanes.below ≡ s.below
+    → IfOk r (λ c. c.given ≡ taken.then)
+    → IfOk r (λ c. c.left ≡ record { below = s.below; list = without s.list taken.lanes.list })
+    → IfOk r (λ c. (types : RowTypes) (rows : List JoinedRow) (kind : ColType) (rest : ℕ → Outcome)
+    → AreTypedRows types batch rows → FitsArm types batch.columns kind arm
+    → Decides kind (λ i. case_of (meant_at arm.when rows i) (meant_at arm.then rows i) (rest i)) rest (IsWithin s) c.left h h2 c.given)
+first_gives batch arm s taken h h2 (Err x) on same given left = tt
+first_gives batch arm s taken h h2 (Ok c) on same is left = λ types rows k rest typed fits.
+    (let there = on types rows k typed fits in
+    let meant : ℕ → Outcome = λ i. case_of (meant_at arm.when rows i) (meant_at arm.then rows i) (rest i) in
+    subst (λ (l : Positions). Decides k meant rest (IsWithin s) l h h2 c.given) (sym left)
+    (decides_more k meant (meant_at arm.when rows) (meant_at arm.then rows) rest s s taken.lanes h h h2 given.Null taken.then c.given (decides_start k meant s h) there same
+    (λ i w. ap (λ (g : Given). given_at g i) is)
+    (λ i w out apart. absurd (let among = w.1 in cc))
+    (subst (λ (g : Given). is_of_kind (Valued k) g ≡ true) (sym is) there.gives.kind)))
+
+-- where there is no arm, all is left to the rest
+pub none_gives : {E : Type 0} (batch : BatchSpec) (arms : List Arm) (s : Positions) (h : Held) (r : Result Cases E) → length arms ≡ 0
+    → IfOk r (λ c. c.given ≡ given.Null) → IfOk r (λ c. c.left ≡ s)
+    → IfOk r (λ c. (types : RowTypes) (rows : List JoinedRow) (kind : ColType) (rest : ℕ → Outcome)
+    → AreTypedRows types batch rows → All (FitsArm types batch.columns kind) arms
+    → Decides kind (λ i. cases_of (arms_at (row_at rows i) (map eval_arm arms)) (rest i)) rest (IsWithin s) c.left h h c.given)
+none_gives batch arms s h (Err x) none is left = tt
+none_gives batch [] s h (Ok c) none is left = λ types rows k rest typed fits.
+    subst (λ (g : Given). Decides k rest rest (IsWithin s) c.left h h g) (sym is)
+    (subst (λ (l : Positions). Decides k rest rest (IsWithin s) l h h given.Null) (sym left) (decides_start k rest s h))
+none_gives batch (a ∷ more) s h (Ok c) none is left = absurd (omega (arith, none))

@@ -12,6 +12,7 @@ ghost use Rattle.vectors.specs.Selection.{Positions, without};
 ghost use Rattle.vector_operators.specs.Evaluated.{Evaluates, Held, IsWithin};
 ghost use Rattle.primitives.specs.Meant.{meant_at, row_at};
 ghost use Rattle.vector_operators.specs.declared.given.Given.{Given};
+ghost use Rattle.vector_operators.specs.declared.given.Given.TheVariants as given;
 ghost use Rattle.primitives.specs.Fitting.{AreTypedRows, Fits};
 ghost use Rattle.vector_operators.specs.Given.{AreNegatedIf, IsLong, IsSpelledIn, are_alike, given_at, is_not_false, is_not_true, is_null_lane, is_of_kind, ArePut};
 ghost use Rattle.primitives.specs.Nodes.{Decides, FitsArm, Gives, IsExact, IsNoLater, IsTaken, IsWhere, Passes, one_of_subject};
@@ -702,14 +703,66 @@ fn eval_arms<'a>(
         → AreTypedRows types batch.now rows → All (FitsArm types batch.now.columns kind) arms.now
         → Decides kind (λ i. cases_of (arms_at (row_at rows i) (map eval_arm arms.now)) (rest i)) rest (IsWithin selection.now) c.left fault.old.held fault.new.held c.given) }
 {
-    let mut cases = Cases {
-        given: Given::Null,
-        left: selection.copy(alloc)?,
+    let Some((first, others)) = arms.split_first() else {
+        return none_taken(alloc, selection);
     };
-    for arm in arms {
+    let mut cases = eval_first(alloc, first, batch, selection, fault)?;
+    for arm in others {
         eval_arm(alloc, &mut cases, arm, batch, fault)?;
     }
     Ok(cases)
+}
+
+/// No arm took a lane.
+fn none_taken<'a>(alloc: Global, selection: &LaneSet) -> Result<Cases<'a>, AllocError>
+    ensures given { IfOk result (λ c. c.given ≡ given.Null) }
+    ensures left { IfOk result (λ c. c.left ≡ selection.now) }
+{
+    let left = selection.copy(alloc)?;
+    Ok(Cases {
+        given: Given::Null,
+        left,
+    })
+}
+
+/// The first arm: before it nothing is decided, so its lanes are taken as they are.
+#[cycle(eval)]
+fn eval_first<'a>(
+    alloc: Global,
+    arm: &'a Arm,
+    batch: &'a Batch<'_>,
+    selection: &LaneSet,
+    fault: &mut Fault1,
+) -> Result<Cases<'a>, AllocError>
+    requires { selection.now.below ≡ batch.now.rows }
+    ensures long { IfOk result (λ c. IsLong batch.now.rows c.given × (c.left.below ≡ batch.now.rows)) }
+    ensures gives { IfOk result (λ c. (types : RowTypes) (rows : List JoinedRow) (kind : ColType) (rest : ℕ → Outcome)
+        → AreTypedRows types batch.now rows → FitsArm types batch.now.columns kind arm.now
+        → Decides kind (λ i. case_of (meant_at arm.now.when rows i) (meant_at arm.now.then rows i) (rest i)) rest (IsWithin selection.now) c.left fault.old.held fault.new.held c.given) }
+{
+    let taken = eval_taken(alloc, arm, batch, selection, fault)?;
+    first_taken(alloc, selection, taken)
+}
+
+fn first_taken<'a>(
+    alloc: Global,
+    selection: &LaneSet,
+    taken: Taken<'a>,
+) -> Result<Cases<'a>, AllocError>
+    requires { taken.lanes.below ≡ selection.now.below }
+    ensures given { IfOk result (λ c. c.given ≡ taken.entry.then) }
+    ensures left { IfOk result (λ c. c.left ≡ record { below = selection.now.below; list = without selection.now.list taken.entry.lanes.list }) }
+{
+    let Taken { then, lanes } = taken;
+    let left = selection.minus(alloc, &lanes);
+    drop(lanes);
+    match left {
+        Ok(left) => Ok(Cases { given: then, left }),
+        Err(error) => {
+            drop(then);
+            Err(error)
+        }
+    }
 }
 
 /// One arm more.

@@ -13,9 +13,10 @@ use Rattle.meaning.specs.Truth.{is_true}
 use Rattle.meaning.specs.Typing.{ExprType, Valued, Boolean, is_valued}
 use Rattle.vectors.specs.declared.vector.Vector.{Vector}
 use Rattle.vectors.specs.declared.vector.Vector.TheVariants as vector
-use Rattle.vectors.specs.Lanes.{lane_value}
+use Rattle.vectors.specs.declared.nulls.Nulls.{Nulls}
+use Rattle.vectors.specs.Lanes.{lane_value, nulls_of}
 use Rattle.vectors.specs.Selection.{Positions, is_among}
-use Rattle.lane_loops.specs.Lanes.{null_at}
+use Rattle.lane_loops.specs.Lanes.{AreLanes, null_at}
 use Rattle.vectors.specs.Vector.{outcomes_of}
 use Rattle.vector_operators.specs.Evaluated.{IsWithin}
 use Rattle.vector_operators.specs.declared.given.Given.{Given}
@@ -157,3 +158,7 @@ AreChosenCells value blank mask these those cells = (i : ℕ) → i < length mas
 
 abbrev pub AreChosenLanes : List Bool → Given → Given → (ℕ → Outcome) → Type 0
 AreChosenLanes mask these those lanes = (i : ℕ) → i < length mask → lanes i ≡ chosen_at mask these those i
+
+-- so many are told, each NULL where the lane chosen is
+abbrev pub AreChosenNulls : List Bool → Given → Given → Nulls → Type 0
+AreChosenNulls mask these those nulls = AreLanes false (length mask) (λ i. is_null_lane (chosen_at mask these those i)) (nulls_of (length mask) nulls)

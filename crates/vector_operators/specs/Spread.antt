@@ -1,5 +1,5 @@
 -- Cells one by one, and which lanes of two operands are NULL.
-use Rattle.std.specs.Prelude.{◌≡◌, ℕ, ◌<◌, ◌||◌, Bool, List, [], length, get_or}
+use Rattle.std.specs.Prelude.{◌≡◌, ℕ, ◌<◌, ◌||◌, Bool, false, List, [], length, get_or}
 use Rattle.std.specs.Int.{from_bool}
 use Rattle.std.specs.Ordering.{nat_cmp}
 use Rattle.std.specs.Cmp.Lexicographic.{slice_cmp}
@@ -31,3 +31,7 @@ pub record AreEither (left right : List Bool) (lanes : ℕ) (nulls : Nulls) : Ty
 -- 1 where the comparison of the bytes holds, else 0
 abbrev pub text_bit : ComparisonOperator → List (List ℕ) → List (List ℕ) → ℕ → ℕ
 text_bit op left right i = from_bool (test op (slice_cmp nat_cmp (get_or left i []) (get_or right i [])))
+
+-- no lane is, however many there are
+abbrev pub IsNeverNull : Nulls → Type 0
+IsNeverNull nulls = (lanes i : ℕ) → i < lanes → null_at (nulls_of lanes nulls) i ≡ false

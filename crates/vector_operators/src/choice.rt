@@ -8,8 +8,9 @@ ghost use Rattle.meaning.specs.Operators.{coalesce_of};
 ghost use Rattle.meaning.specs.Typing.{Valued};
 ghost use Rattle.lane_loops.specs.Lanes.{AreChosen, AreLanes};
 ghost use Rattle.vector_operators.specs.declared.given.Given.TheVariants as given;
-ghost use Rattle.vector_operators.specs.Given.{AreCellsOf, AreChosenCells, AreChosenLanes, AreGivenCells, ArePut, IsLong, chosen_at, given_at, is_null_lane, is_of_kind};
-ghost use Rattle.vector_operators.specs.Spread.{spread_cells};
+ghost use Rattle.vector_operators.specs.Given.{AreCellsOf, AreChosenCells, AreChosenLanes, AreChosenNulls, AreGivenCells, ArePut, IsLong, chosen_at, given_at, is_null_lane, is_of_kind};
+ghost use Rattle.meaning.specs.Order.{is_null};
+ghost use Rattle.vector_operators.specs.Spread.{IsNeverNull, spread_cells};
 
 use crate::given::Given;
 use crate::lane_set::LaneSet;
@@ -112,7 +113,44 @@ fn chosen_texts<'t>(
     Ok(out)
 }
 
-fn chosen_nulls(
+fn has_no_mask(nulls: &Nulls<'_>) -> bool
+    ensures { result ≡ true → IsNeverNull nulls.now }
+{
+    match nulls {
+        Nulls::None => true,
+        Nulls::Lent(_) => false,
+        Nulls::Owned(_) => false,
+    }
+}
+
+fn are_ints(ints: &Ints<'_>) -> bool
+    ensures { result ≡ true → (i : ℕ) → i < length ints.now → is_null (get_or ints.now i Null) ≡ false }
+{
+    let (_, nulls) = int_parts(ints);
+    has_no_mask(nulls)
+}
+
+fn are_texts(texts: &Texts<'_>) -> bool
+    ensures { result ≡ true → (i : ℕ) → i < length texts.now → is_null (get_or texts.now i Null) ≡ false }
+{
+    let (_, nulls) = text_parts(texts);
+    has_no_mask(nulls)
+}
+
+/// Whether it is clear that no lane is NULL.
+fn are_present(given: &Given<'_>, lanes: usize) -> bool
+    requires { IsLong lanes given.now }
+    ensures { result ≡ true → (i : ℕ) → i < lanes → is_null_lane (given_at given.now i) ≡ false }
+{
+    match given {
+        Given::Ints(ints) => are_ints(ints),
+        Given::Texts(texts) => are_texts(texts),
+        Given::Null => false,
+        Given::Truths(_) => false,
+    }
+}
+
+fn chosen_mask(
     alloc: Global,
     mask: &[bool],
     these: &Given<'_>,
@@ -127,6 +165,26 @@ fn chosen_nulls(
     let mut out = vec![in alloc; false; mask.len()]?;
     choose(mask, these.as_slice(), those.as_slice(), out.as_mut_slice());
     Ok(out)
+}
+
+/// Which of the lanes chosen are NULL: none where that is clear of both operands.
+fn chosen_nulls(
+    alloc: Global,
+    mask: &[bool],
+    these: &Given<'_>,
+    those: &Given<'_>,
+) -> Result<Nulls<'static>, AllocError>
+    requires these { IsLong (length mask.now) these.now }
+    requires those { IsLong (length mask.now) those.now }
+    ensures { IfOk result (AreChosenNulls mask.now these.now those.now) }
+{
+    if !are_present(these, mask.len()) {
+        return Ok(Nulls::Owned(chosen_mask(alloc, mask, these, those)?));
+    }
+    if !are_present(those, mask.len()) {
+        return Ok(Nulls::Owned(chosen_mask(alloc, mask, these, those)?));
+    }
+    Ok(Nulls::None)
 }
 
 fn int_cells_chosen(
@@ -160,7 +218,7 @@ fn choose_ints(
 {
     let cells = int_cells_chosen(alloc, mask, these, those)?;
     let nulls = chosen_nulls(alloc, mask, these, those)?;
-    Ok(Ints::new(IntCells::Owned(cells), Nulls::Owned(nulls)))
+    Ok(Ints::new(IntCells::Owned(cells), nulls))
 }
 
 fn text_cells_chosen<'t>(
@@ -194,7 +252,7 @@ fn choose_texts<'t>(
 {
     let cells = text_cells_chosen(alloc, mask, these, those)?;
     let nulls = chosen_nulls(alloc, mask, these, those)?;
-    Ok(Texts::new(TextCells::Owned(cells), Nulls::Owned(nulls)))
+    Ok(Texts::new(TextCells::Owned(cells), nulls))
 }
 
 /// The lanes of `those`, NULL where the mask tells so.

@@ -6,8 +6,8 @@ use Rattle.meaning.specs.Operators.{and_of, or_of}
 use Rattle.vector_operators.specs.Given.{given_at, is_not_false, is_not_true}
 use Rattle.primitives.proofs.Steps.{and_node as and_lanes, or_node as or_lanes}
 use Rattle.primitives.proofs.ExprNodes.{aggregate_node, and_node, arithmetic_node, as_lent, as_node, between_node, case_node, coalesce_node, column_node, compare_node, in_node, in_nothing, is_null_node, joined_node, key_node, like_node, literal_node, minus_node, not_node, or_node}
-use Rattle.primitives.proofs.Loops.{arms_all, arms_more, arms_start, first_all, first_more, first_start, found_all, found_more, found_start}
-use Rattle.primitives.proofs.NodeGives.{arithmetic_gives, arm_gives, behind_gives, coalesce_gives, compare_gives, narrowed_gives, operator_gives, rest_gives, second_alone, second_gives, test_gives, when_passes}
+use Rattle.primitives.proofs.Loops.{arms_all, arms_first, arms_more, behind_first, gone_through, first_all, first_more, first_start, found_all, found_more, found_start}
+use Rattle.primitives.proofs.NodeGives.{arithmetic_gives, arm_gives, behind_gives, coalesce_gives, compare_gives, first_gives, narrowed_gives, none_gives, operator_gives, rest_gives, second_alone, second_gives, test_gives, when_passes}
 use Rattle.primitives.proofs.nodes.+eval.Goals as goal
 
 pub eval_arithmetic-returns-clause-gives : goal.eval_arithmetic-returns-clause-gives
@@ -103,22 +103,31 @@ eval_next_arm-returns-clause-gives t c =
 pub eval_rest-returns-clause-gives : goal.eval_rest-returns-clause-gives
 eval_rest-returns-clause-gives t c = rest_gives _ _ _ _ _ _ _ _ c.in_ok-otherwise.ensures.gives c.put-result.ensures.value c.put-result.ensures.kind
 
+pub eval_first-returns-clause-gives : goal.eval_first-returns-clause-gives
+eval_first-returns-clause-gives t c =
+    first_gives _ _ _ _ _ _ _ c.in_ok-taken.ensures.gives (c.in_ok-taken.ensures.long.1 ∙ sym c.requires) c.first_taken.ensures.given c.first_taken.ensures.left
+
+pub eval_arms-returns-in_default-clause-gives : goal.eval_arms-returns-in_default-clause-gives
+eval_arms-returns-in_default-clause-gives t c = none_gives _ _ _ _ _ c.in_default.ensures.cases c.none_taken.ensures.given c.none_taken.ensures.left
+
 pub eval_arms-loop-arm-init : goal.eval_arms-loop-arm-init
 eval_arms-loop-arm-init t c = record {
-  long = tt;
-  below = ap (λ s. s.below) c.in_ok-copy.ensures ∙ c.requires.below;
-  decide = arms_start _ _ _ _ _ c.in_ok-copy.ensures;
+  long = c.in_ok-cases.ensures.long.0;
+  below = c.in_ok-cases.ensures.long.1;
+  decide = arms_first _ _ _ _ _ _ _ _ _ c.in-Some.ensures.cases.0 c.in_ok-cases.ensures.gives;
 }
 
 pub eval_arms-loop-arm-preserved : goal.eval_arms-loop-arm-preserved
-eval_arms-loop-arm-preserved t c = record {
-  long = c.eval_arm.ensures.long.0;
-  below = c.eval_arm.ensures.long.1;
-  decide = arms_more _ _ _ _ _ _ _ _ _ _ _ _ c.loop-arm-test.true c.arm-item.is c.in_ok-eval_arm.ensures.gives c.loop-arm.invariant.decide;
-}
+eval_arms-loop-arm-preserved t c =
+    let there = behind_first _ _ _ _ _ c.in-Some.ensures.cases.0 c.loop-arm-test.true c.arm-item.is in
+    record {
+      long = c.eval_arm.ensures.long.0;
+      below = c.eval_arm.ensures.long.1;
+      decide = arms_more _ _ _ _ _ _ _ _ _ _ _ _ there.0 there.1 c.in_ok-eval_arm.ensures.gives c.loop-arm.invariant.decide;
+    }
 
 pub eval_arms-returns-clause-gives : goal.eval_arms-returns-clause-gives
-eval_arms-returns-clause-gives t c = arms_all _ _ _ _ _ _ _ _ c.loop-arm-test.false c.loop-arm.invariant.decide
+eval_arms-returns-clause-gives t c = arms_all _ _ _ _ _ _ _ _ (gone_through _ _ _ _ c.in-Some.ensures.cases.0 c.loop-arm-test.false) c.loop-arm.invariant.decide
 
 pub eval-returns-in-Column-clause-gives : goal.eval-returns-in-Column-clause-gives
 eval-returns-in-Column-clause-gives t c = as_lent _ _ _ _ _ _ (node.Column c.in-Column.column) c.in-Column.is (column_node _ _ _ _ _ c.requires c.lent_column.ensures.value)

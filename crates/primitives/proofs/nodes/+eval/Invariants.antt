@@ -1,5 +1,5 @@
 -- Loop invariants of `+eval` (`nodes`).
-use Rattle.std.proofs.Common.{◌≡◌}
+use Rattle.std.proofs.Common.{◌≡◌, ◌+◌}
 use Rattle.vector_operators.specs.Given.{IsLong}
 use Rattle.primitives.proofs.Loops.{ArmsDecide, FirstGiven, Found}
 use Rattle.primitives.proofs.nodes.+eval.Given as goal
@@ -8,7 +8,7 @@ abbrev pub invariant-eval_arms-loop-arm : goal.invariant-eval_arms-loop-arm
 invariant-eval_arms-loop-arm l = record {
   long : IsLong l.batch.rows l.cases.given;
   below : l.cases.left.below ≡ l.batch.rows;
-  decide : ArmsDecide l.batch l.selection l.arms l.arm-index l.fn.fault.held l.fault.held l.cases.left l.cases.given;
+  decide : ArmsDecide l.batch l.selection l.arms (l.arm-index + 1) l.fn.fault.held l.fault.held l.cases.left l.cases.given;
 }
 
 abbrev pub invariant-eval_coalesce-loop-item : goal.invariant-eval_coalesce-loop-item

@@ -48,6 +48,29 @@ pub fn eval<'a>(
         → AreTypedRows types batch.now rows → Fits types batch.now.columns expr.now type
         → Gives type (meant_at expr.now rows) (IsWithin selection.now) fault.old.held fault.new.held g) }
 {
+    // A function clears room for all its locals when it begins, so columns and literals don't begin that of the other nodes.
+    match expr {
+        Expr::Column(column) => Ok(lent_column(batch, Place::Fact { column: *column })),
+        Expr::Literal(value) => Ok(repeated(value, batch.rows())),
+        _ => eval_node(alloc, expr, batch, selection, fault),
+    }
+}
+
+/// The same of any node.
+#[cycle(eval)]
+fn eval_node<'a>(
+    alloc: Global,
+    expr: &'a Expr,
+    batch: &'a Batch<'_>,
+    selection: &LaneSet,
+    fault: &mut Fault1,
+) -> Result<Given<'a>, AllocError>
+    requires { selection.now.below ≡ batch.now.rows }
+    ensures long { IfOk result (IsLong batch.now.rows) }
+    ensures gives { IfOk result (λ g. (types : RowTypes) (type : ExprType) (rows : List JoinedRow)
+        → AreTypedRows types batch.now rows → Fits types batch.now.columns expr.now type
+        → Gives type (meant_at expr.now rows) (IsWithin selection.now) fault.old.held fault.new.held g) }
+{
     match expr {
         Expr::Column(column) => Ok(lent_column(batch, Place::Fact { column: *column })),
         Expr::Joined { join, place } => Ok(lent_column(

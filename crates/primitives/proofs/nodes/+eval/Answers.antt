@@ -129,62 +129,62 @@ eval_arms-loop-arm-preserved t c =
 pub eval_arms-returns-clause-gives : goal.eval_arms-returns-clause-gives
 eval_arms-returns-clause-gives t c = arms_all _ _ _ _ _ _ _ _ (gone_through _ _ _ _ c.in-Some.ensures.cases.0 c.loop-arm-test.false) c.loop-arm.invariant.decide
 
-pub eval-returns-in-Column-clause-gives : goal.eval-returns-in-Column-clause-gives
-eval-returns-in-Column-clause-gives t c = as_lent _ _ _ _ _ _ (node.Column c.in-Column.column) c.in-Column.is (column_node _ _ _ _ _ c.requires c.lent_column.ensures.value)
+pub eval_node-returns-in-Column-clause-gives : goal.eval_node-returns-in-Column-clause-gives
+eval_node-returns-in-Column-clause-gives t c = as_lent _ _ _ _ _ _ (node.Column c.in-Column.column) c.in-Column.is (column_node _ _ _ _ _ c.requires c.lent_column.ensures.value)
 
-pub eval-returns-in-Joined-clause-gives : goal.eval-returns-in-Joined-clause-gives
-eval-returns-in-Joined-clause-gives t c = as_lent _ _ _ _ _ _ (node.Joined c.in-Joined.join c.in-Joined.place) c.in-Joined.is (joined_node _ _ _ _ _ _ c.requires c.lent_column-in-Joined.ensures.value)
+pub eval_node-returns-in-Joined-clause-gives : goal.eval_node-returns-in-Joined-clause-gives
+eval_node-returns-in-Joined-clause-gives t c = as_lent _ _ _ _ _ _ (node.Joined c.in-Joined.join c.in-Joined.place) c.in-Joined.is (joined_node _ _ _ _ _ _ c.requires c.lent_column-in-Joined.ensures.value)
 
-pub eval-returns-in-Key-clause-gives : goal.eval-returns-in-Key-clause-gives
-eval-returns-in-Key-clause-gives t c = as_lent _ _ _ _ _ _ (node.Key c.in-Key.key) c.in-Key.is (key_node _ _ _ _ _ c.requires c.lent_column-in-Key.ensures.value)
+pub eval_node-returns-in-Key-clause-gives : goal.eval_node-returns-in-Key-clause-gives
+eval_node-returns-in-Key-clause-gives t c = as_lent _ _ _ _ _ _ (node.Key c.in-Key.key) c.in-Key.is (key_node _ _ _ _ _ c.requires c.lent_column-in-Key.ensures.value)
 
-pub eval-returns-in-Aggregate-clause-gives : goal.eval-returns-in-Aggregate-clause-gives
-eval-returns-in-Aggregate-clause-gives t c = as_lent _ _ _ _ _ _ (node.Aggregate c.in-Aggregate.aggregate) c.in-Aggregate.is (aggregate_node _ _ _ _ _ c.requires c.lent_column-in-Aggregate.ensures.value)
+pub eval_node-returns-in-Aggregate-clause-gives : goal.eval_node-returns-in-Aggregate-clause-gives
+eval_node-returns-in-Aggregate-clause-gives t c = as_lent _ _ _ _ _ _ (node.Aggregate c.in-Aggregate.aggregate) c.in-Aggregate.is (aggregate_node _ _ _ _ _ c.requires c.lent_column-in-Aggregate.ensures.value)
 
-pub eval-returns-in-Literal-clause-gives : goal.eval-returns-in-Literal-clause-gives
-eval-returns-in-Literal-clause-gives t c =
+pub eval_node-returns-in-Literal-clause-gives : goal.eval_node-returns-in-Literal-clause-gives
+eval_node-returns-in-Literal-clause-gives t c =
     as_lent _ _ _ _ _ _ (node.Literal c.in-Literal.value) c.in-Literal.is (literal_node _ _ _ _ _ _ (c.requires ∙ sym c.rows.ensures) c.repeated.ensures.value c.repeated.ensures.kind)
 
-pub eval-returns-in_ok-a-in-Minus-clause-gives : goal.eval-returns-in_ok-a-in-Minus-clause-gives
-eval-returns-in_ok-a-in-Minus-clause-gives t c =
+pub eval_node-returns-in_ok-a-in-Minus-clause-gives : goal.eval_node-returns-in_ok-a-in-Minus-clause-gives
+eval_node-returns-in_ok-a-in-Minus-clause-gives t c =
     as_node _ _ _ _ _ _ (node.Minus _) (c.in-Minus.is ∙ ap node.Minus (sym c.get.ensures)) (minus_node _ _ _ _ _ _ _ _ c.in_ok-a-in-Minus.ensures.gives c.of_minus.ensures.exact c.of_minus.ensures.kind)
 
-pub eval-returns-in_ok-a-in-Not-clause-gives : goal.eval-returns-in_ok-a-in-Not-clause-gives
-eval-returns-in_ok-a-in-Not-clause-gives t c =
+pub eval_node-returns-in_ok-a-in-Not-clause-gives : goal.eval_node-returns-in_ok-a-in-Not-clause-gives
+eval_node-returns-in_ok-a-in-Not-clause-gives t c =
     as_node _ _ _ _ _ _ (node.Not _) (c.in-Not.is ∙ ap node.Not (sym c.get-in-Not.ensures))
     (not_node _ _ _ _ _ _ _ _ (c.requires ∙ sym c.rows-in-Not.ensures) c.in_ok-a-in-Not.ensures.gives c.of_not.ensures.value c.of_not.ensures.kind)
 
-pub eval-returns-in_ok-left-in-Arithmetic-clause-gives : goal.eval-returns-in_ok-left-in-Arithmetic-clause-gives
-eval-returns-in_ok-left-in-Arithmetic-clause-gives t c =
+pub eval_node-returns-in_ok-left-in-Arithmetic-clause-gives : goal.eval_node-returns-in_ok-left-in-Arithmetic-clause-gives
+eval_node-returns-in_ok-left-in-Arithmetic-clause-gives t c =
     as_node _ _ _ _ _ _ (node.Arithmetic c.in-Arithmetic.op c.get-in-Arithmetic.result.now c.get-in-Arithmetic-2.result.now)
     (c.in-Arithmetic.is ∙ ap (λ e. node.Arithmetic c.in-Arithmetic.op e c.in-Arithmetic.b) (sym c.get-in-Arithmetic.ensures) ∙ ap (node.Arithmetic c.in-Arithmetic.op c.get-in-Arithmetic.result.now) (sym c.get-in-Arithmetic-2.ensures))
     (arithmetic_node _ _ _ _ _ _ _ _ _ _ c.in_ok-left-in-Arithmetic.ensures.gives c.eval_arithmetic-result.ensures.gives)
 
-pub eval-returns-in_ok-left-in-Compare-clause-gives : goal.eval-returns-in_ok-left-in-Compare-clause-gives
-eval-returns-in_ok-left-in-Compare-clause-gives t c =
+pub eval_node-returns-in_ok-left-in-Compare-clause-gives : goal.eval_node-returns-in_ok-left-in-Compare-clause-gives
+eval_node-returns-in_ok-left-in-Compare-clause-gives t c =
     as_node _ _ _ _ _ _ (node.Compare c.in-Compare.op c.get-in-Compare.result.now c.get-in-Compare-2.result.now)
     (c.in-Compare.is ∙ ap (λ e. node.Compare c.in-Compare.op e c.in-Compare.b) (sym c.get-in-Compare.ensures) ∙ ap (node.Compare c.in-Compare.op c.get-in-Compare.result.now) (sym c.get-in-Compare-2.ensures))
     (compare_node _ _ _ _ _ _ _ _ _ _ c.in_ok-left-in-Compare.ensures.gives c.eval_compare-result.ensures.gives)
 
-pub eval-returns-in_ok-left-in-And-clause-gives : goal.eval-returns-in_ok-left-in-And-clause-gives
-eval-returns-in_ok-left-in-And-clause-gives t c =
+pub eval_node-returns-in_ok-left-in-And-clause-gives : goal.eval_node-returns-in_ok-left-in-And-clause-gives
+eval_node-returns-in_ok-left-in-And-clause-gives t c =
     as_node _ _ _ _ _ _ (node.And c.get-in-And.result.now c.get-in-And-2.result.now)
     (c.in-And.is ∙ ap (λ e. node.And e c.in-And.b) (sym c.get-in-And.ensures) ∙ ap (node.And c.get-in-And.result.now) (sym c.get-in-And-2.ensures))
     (and_node _ _ _ _ _ _ _ _ _ c.in_ok-left-in-And.ensures.gives c.eval_and-result.ensures.gives)
 
-pub eval-returns-in_ok-left-in-Or-clause-gives : goal.eval-returns-in_ok-left-in-Or-clause-gives
-eval-returns-in_ok-left-in-Or-clause-gives t c =
+pub eval_node-returns-in_ok-left-in-Or-clause-gives : goal.eval_node-returns-in_ok-left-in-Or-clause-gives
+eval_node-returns-in_ok-left-in-Or-clause-gives t c =
     as_node _ _ _ _ _ _ (node.Or c.get-in-Or.result.now c.get-in-Or-2.result.now)
     (c.in-Or.is ∙ ap (λ e. node.Or e c.in-Or.b) (sym c.get-in-Or.ensures) ∙ ap (node.Or c.get-in-Or.result.now) (sym c.get-in-Or-2.ensures))
     (or_node _ _ _ _ _ _ _ _ _ c.in_ok-left-in-Or.ensures.gives c.eval_or-result.ensures.gives)
 
-pub eval-returns-in_ok-subject-in-IsNull-clause-gives : goal.eval-returns-in_ok-subject-in-IsNull-clause-gives
-eval-returns-in_ok-subject-in-IsNull-clause-gives t c =
+pub eval_node-returns-in_ok-subject-in-IsNull-clause-gives : goal.eval_node-returns-in_ok-subject-in-IsNull-clause-gives
+eval_node-returns-in_ok-subject-in-IsNull-clause-gives t c =
     as_node _ _ _ _ _ _ (node.IsNull c.in-IsNull.negated c.get-in-IsNull.result.now) (c.in-IsNull.is ∙ ap (node.IsNull c.in-IsNull.negated) (sym c.get-in-IsNull.ensures))
     (is_null_node _ _ _ _ _ _ _ _ _ (c.requires ∙ sym c.rows-in-IsNull.ensures) c.in_ok-subject-in-IsNull.ensures.gives c.of_is_null.ensures.value c.of_is_null.ensures.kind)
 
-pub eval-returns-in_ok-subject-in-Between-clause-gives : goal.eval-returns-in_ok-subject-in-Between-clause-gives
-eval-returns-in_ok-subject-in-Between-clause-gives t c =
+pub eval_node-returns-in_ok-subject-in-Between-clause-gives : goal.eval_node-returns-in_ok-subject-in-Between-clause-gives
+eval_node-returns-in_ok-subject-in-Between-clause-gives t c =
     let n = c.in-Between.negated in
     let x = c.get-in-Between.result.now in
     let low = c.get-in-Between-2.result.now in
@@ -196,32 +196,39 @@ eval-returns-in_ok-subject-in-Between-clause-gives t c =
     (between_node _ _ _ _ _ _ _ _ _ _ _ _ _ _ _ (c.requires ∙ sym c.rows-in-Between.ensures) c.in_ok-subject-in-Between.ensures.gives
     c.eval_compare-above.ensures.gives c.eval_above-within.ensures.gives c.not_if_known.ensures.value c.not_if_known.ensures.kind)
 
-pub eval-returns-then-len-eq0-clause-gives : goal.eval-returns-then-len-eq0-clause-gives
-eval-returns-then-len-eq0-clause-gives t c =
+pub eval_node-returns-then-len-eq0-clause-gives : goal.eval_node-returns-then-len-eq0-clause-gives
+eval_node-returns-then-len-eq0-clause-gives t c =
     as_node _ _ _ _ _ _ (node.In c.in-In.negated c.in-In.subject c.in-In.list) c.in-In.is
     (in_nothing _ _ _ _ _ _ _ _ _ (c.requires ∙ sym c.rows-then-len-eq0-2.ensures) (sym c.len.ensures ∙ c.if-len-eq0.true)
     (λ i w. c.one_truth.ensures.value i (search (rules, w, c.rows-then-len-eq0.ensures, c.rows-then-len-eq0-2.ensures))) c.one_truth.ensures.kind c.not_if.ensures.value c.not_if.ensures.kind)
 
-pub eval-returns-in_ok-subject-in-In-clause-gives : goal.eval-returns-in_ok-subject-in-In-clause-gives
-eval-returns-in_ok-subject-in-In-clause-gives t c =
+pub eval_node-returns-in_ok-subject-in-In-clause-gives : goal.eval_node-returns-in_ok-subject-in-In-clause-gives
+eval_node-returns-in_ok-subject-in-In-clause-gives t c =
     as_node _ _ _ _ _ _ (node.In c.in-In.negated c.get-in-In.result.now c.as_slice.result.now)
     (c.in-In.is ∙ ap (λ e. node.In c.in-In.negated e c.in-In.list) (sym c.get-in-In.ensures) ∙ ap (node.In c.in-In.negated c.get-in-In.result.now) (sym c.as_slice.ensures))
     (in_node _ _ _ _ _ _ _ _ _ _ _ _ (c.requires ∙ sym c.rows-in-In.ensures) (λ none. c.if-len-eq0.false (c.len.ensures ∙ ap (λ es. length es) (sym c.as_slice.ensures) ∙ none))
     c.in_ok-subject-in-In.ensures.gives c.find_in-found.ensures.gives c.not_if_known-in-In.ensures.value c.not_if_known-in-In.ensures.kind)
 
-pub eval-returns-in_ok-subject-in-Like-clause-gives : goal.eval-returns-in_ok-subject-in-Like-clause-gives
-eval-returns-in_ok-subject-in-Like-clause-gives t c =
+pub eval_node-returns-in_ok-subject-in-Like-clause-gives : goal.eval_node-returns-in_ok-subject-in-Like-clause-gives
+eval_node-returns-in_ok-subject-in-Like-clause-gives t c =
     as_node _ _ _ _ _ _ (node.Like c.in-Like.negated c.get-in-Like.result.now c.in-Like.pattern) (c.in-Like.is ∙ ap (λ e. node.Like c.in-Like.negated e c.in-Like.pattern) (sym c.get-in-Like.ensures))
     (like_node _ _ _ _ _ _ _ _ _ _ _ _ (c.requires ∙ sym c.rows-in-Like.ensures) (c.requires ∙ sym c.rows-in-Like-2.ensures) c.requires c.in_ok-subject-in-Like.ensures.gives
     c.of_like-found.ensures.value c.of_like-found.ensures.kind c.not_if_known-in-Like.ensures.value c.not_if_known-in-Like.ensures.kind)
 
-pub eval-returns-in-Coalesce-clause-gives : goal.eval-returns-in-Coalesce-clause-gives
-eval-returns-in-Coalesce-clause-gives t c =
+pub eval_node-returns-in-Coalesce-clause-gives : goal.eval_node-returns-in-Coalesce-clause-gives
+eval_node-returns-in-Coalesce-clause-gives t c =
     as_node _ _ _ _ _ _ (node.Coalesce c.as_slice-in-Coalesce.result.now) (c.in-Coalesce.is ∙ ap node.Coalesce (sym c.as_slice-in-Coalesce.ensures))
     (coalesce_node _ _ _ _ _ _ c.eval_coalesce.ensures.gives)
 
-pub eval-returns-in_ok-cases-in-Case-clause-gives : goal.eval-returns-in_ok-cases-in-Case-clause-gives
-eval-returns-in_ok-cases-in-Case-clause-gives t c =
+pub eval_node-returns-in_ok-cases-in-Case-clause-gives : goal.eval_node-returns-in_ok-cases-in-Case-clause-gives
+eval_node-returns-in_ok-cases-in-Case-clause-gives t c =
     as_node _ _ _ _ _ _ (node.Case c.as_slice-in-Case.result.now c.get-in-Case.result.now)
     (c.in-Case.is ∙ ap (λ arms. node.Case arms c.in-Case.otherwise) (sym c.as_slice-in-Case.ensures) ∙ ap (node.Case c.as_slice-in-Case.result.now) (sym c.get-in-Case.ensures))
     (case_node _ _ _ _ _ _ _ _ _ _ c.in_ok-cases-in-Case.ensures.gives c.eval_otherwise.ensures.gives)
+
+pub eval-returns-in-Column-clause-gives : goal.eval-returns-in-Column-clause-gives
+eval-returns-in-Column-clause-gives t c = as_lent _ _ _ _ _ _ (node.Column c.in-Column.column) c.in-Column.is (column_node _ _ _ _ _ c.requires c.lent_column.ensures.value)
+
+pub eval-returns-in-Literal-clause-gives : goal.eval-returns-in-Literal-clause-gives
+eval-returns-in-Literal-clause-gives t c =
+    as_lent _ _ _ _ _ _ (node.Literal c.in-Literal.value) c.in-Literal.is (literal_node _ _ _ _ _ _ (c.requires ∙ sym c.rows.ensures) c.repeated.ensures.value c.repeated.ensures.kind)

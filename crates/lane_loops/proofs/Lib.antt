@@ -1,5 +1,6 @@
 -- The lemmas of this crate.
 pub mod Chosen
+pub mod Eights
 pub mod Filling
 pub mod FillingAt
 pub mod FirstFlag

@@ -1,5 +1,5 @@
 //! LIKE, lane by lane: a pattern is looked at once, and texts are then searched by the cheapest way that it allows.
-ghost use Rattle.std.specs.Prelude.{◌≡◌, ◌<◌, [], ◌∷◌, ◌++◌, nat_eq, true, length, get_or, All, IfSome};
+ghost use Rattle.std.specs.Prelude.{◌≡◌, ◌<◌, ◌≤◌, ◌+◌, [], ◌∷◌, ◌++◌, nat_eq, true, length, get_or, take, drop, All, IfSome};
 ghost use Rattle.std.specs.List.{ends_with, list_any, starts_with};
 ghost use Rattle.std.specs.Str.{is_utf8};
 ghost use Rattle.meaning.specs.ExpressionLaws.{is_plain};
@@ -150,12 +150,35 @@ fn is_suffix(part: &[u8], text: &[u8]) -> bool
 
 // Goes over all bytes, so that the loop has no branch, where a search would stop at the first.
 #[inline(always)]
+fn any_is(bytes: &[u8], byte: &u8) -> bool
+    ensures { result ≡ list_any (λ b. nat_eq b byte.now) bytes.now }
+{
+    let mut is_any = false;
+    for b in bytes {
+        is_any |= *b == *byte;
+    }
+    is_any
+}
+
+#[inline(always)]
+fn any_of_eight(text: &[u8], start: usize, byte: &u8) -> bool
+    requires { start + 8 ≤ length text.now }
+    ensures { result ≡ list_any (λ b. nat_eq b byte.now) (take 8 (drop start text.now)) }
+{
+    any_is(&text[start..start + 8], byte)
+}
+
+/// Eight at a time, the last eight first, so that only short texts are gone over byte by byte.
+#[inline(always)]
 fn has_byte(text: &[u8], byte: &u8) -> bool
     ensures { result ≡ list_any (λ b. nat_eq b byte.now) text.now }
 {
-    let mut is_any = false;
-    for b in text {
-        is_any |= *b == *byte;
+    if text.len() < 8 {
+        return any_is(text, byte);
+    }
+    let mut is_any = any_of_eight(text, text.len() - 8, byte);
+    for eight in 0..text.len() / 8 {
+        is_any |= any_of_eight(text, 8 * eight, byte);
     }
     is_any
 }

@@ -138,13 +138,18 @@ eval-Literal v r = search (rules, the_lemmas)
 has-Literal : (types : RowTypes) (v : Value) (type : ExprType) → has_type types (node.Literal v) type ≡ is_literal_type v type
 has-Literal types v type = search (rules, the_lemmas)
 
+pub literal_where : (batch : BatchSpec) (S : ℕ → Type 0) (h : Held) (v : Value) (n : ℕ) (g : Given) → ((i : ℕ) → S i → i < n)
+    → ((i : ℕ) → i < n → given_at g i ≡ gives.Value v) → ((type : ExprType) → is_literal_type v type ≡ true → is_of_kind type g ≡ true)
+    → ExprGives batch (node.Literal v) S h h g
+literal_where batch S h v n g below value kind types type rows are fits = record {
+  evaluates = pointwise (meant_at (node.Literal v) rows) S h (given_at g) (λ i at. value i (below i at) ∙ sym (eval-Literal v (row_at rows i)));
+  kind = kind type (sym (has-Literal types v type) ∙ fits.typed);
+}
+
 pub literal_node : (batch : BatchSpec) (s : Positions) (h : Held) (v : Value) (n : ℕ) (g : Given) → s.below ≡ n
     → ((i : ℕ) → i < n → given_at g i ≡ gives.Value v) → ((type : ExprType) → is_literal_type v type ≡ true → is_of_kind type g ≡ true)
     → ExprGives batch (node.Literal v) (IsWithin s) h h g
-literal_node batch s h v n g long value kind types type rows are fits = record {
-  evaluates = pointwise (meant_at (node.Literal v) rows) (IsWithin s) h (given_at g) (λ i at. value i (subst (λ (k : ℕ). i < k) long at.0) ∙ sym (eval-Literal v (row_at rows i)));
-  kind = kind type (sym (has-Literal types v type) ∙ fits.typed);
-}
+literal_node batch s h v n g long = literal_where batch (IsWithin s) h v n g (λ i at. subst (λ (k : ℕ). i < k) long at.0)
 
 -- ---- one operand
 
@@ -411,6 +416,10 @@ pub as_node : {E : Type 0} (batch : BatchSpec) (s : Positions) (h h2 : Held) (r 
     → IfOk r (ExprGives batch e' (IsWithin s) h h2) → IfOk r (ExprGives batch e (IsWithin s) h h2)
 as_node batch s h h2 r e e' is on = subst (λ (x : Expr). IfOk r (ExprGives batch x (IsWithin s) h h2)) (sym is) on
 
+pub as_lent_where : (batch : BatchSpec) (S : ℕ → Type 0) (h h2 : Held) (g : Given) (e e' : Expr) → e ≡ e'
+    → ExprGives batch e' S h h2 g → ExprGives batch e S h h2 g
+as_lent_where batch S h h2 g e e' is on = subst (λ (x : Expr). ExprGives batch x S h h2 g) (sym is) on
+
 pub as_lent : (batch : BatchSpec) (s : Positions) (h h2 : Held) (g : Given) (e e' : Expr) → e ≡ e'
     → ExprGives batch e' (IsWithin s) h h2 g → ExprGives batch e (IsWithin s) h h2 g
-as_lent batch s h h2 g e e' is on = subst (λ (x : Expr). ExprGives batch x (IsWithin s) h h2 g) (sym is) on
+as_lent batch s = as_lent_where batch (IsWithin s)

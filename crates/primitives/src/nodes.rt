@@ -344,6 +344,10 @@ fn eval_unless_true<'a>(
         → AreTypedRows types batch.now rows → Fits types batch.now.columns expr.now type
         → Gives type (meant_at expr.now rows) (IsWhere (λ i. is_not_true (given_at before.now i)) selection.now) fault.old.held fault.new.held g) }
 {
+    // No lane of a literal faults.
+    if let Expr::Literal(value) = expr {
+        return Ok(repeated(value, batch.rows()));
+    }
     let narrowed = unless_true(alloc, before, selection)?;
     let result = eval(alloc, expr, batch, &narrowed, fault);
     drop(narrowed);
@@ -367,6 +371,10 @@ fn eval_where_null<'a>(
         → AreTypedRows types batch.now rows → Fits types batch.now.columns expr.now type
         → Gives type (meant_at expr.now rows) (IsWhere (λ i. is_null_lane (given_at before.now i)) selection.now) fault.old.held fault.new.held g) }
 {
+    // No lane of a literal faults.
+    if let Expr::Literal(value) = expr {
+        return Ok(repeated(value, batch.rows()));
+    }
     let narrowed = where_null(alloc, before, selection)?;
     let result = eval(alloc, expr, batch, &narrowed, fault);
     drop(narrowed);
@@ -692,9 +700,7 @@ fn eval_next<'a>(
         → Gives (Valued kind) (λ i. coalesce_of (a i) (meant_at item.now rows i)) (IsWithin selection.now) held fault.new.held g) }
 {
     let item = eval_where_null(alloc, so_far, item, batch, selection, fault)?;
-    let result = coalesce(alloc, so_far, &item, batch.rows());
-    drop(item);
-    result
+    coalesce(alloc, so_far, item, batch.rows())
 }
 
 /// What the arms of a CASE gave so far, and the lanes that none of them took.

@@ -17,6 +17,7 @@ use crate::lane_set::LaneSet;
 use crate::spread::{Spread, int_parts, null_lanes, spread_ints, spread_texts, text_parts};
 use lane_loops::choosing::choose;
 use std::alloc::{AllocError, Global};
+use std::mem::drop;
 use vectors::ints::{IntCells, Ints};
 use vectors::nulls::Nulls;
 use vectors::texts::{TextCells, Texts};
@@ -296,8 +297,7 @@ pub fn choose_lanes<'t>(
     }
 }
 
-/// The first lane, and where it is NULL the second.
-pub fn coalesce<'a>(
+fn chosen_unless_null<'a>(
     alloc: Global,
     first: &Given<'a>,
     second: &Given<'a>,
@@ -313,6 +313,31 @@ pub fn coalesce<'a>(
 {
     let mask = null_lanes(alloc, first, lanes)?;
     choose_lanes(alloc, mask.as_slice(), second, first)
+}
+
+/// The first lane, and where it is NULL the second.
+pub fn coalesce<'a>(
+    alloc: Global,
+    first: &Given<'a>,
+    second: Given<'a>,
+    lanes: usize,
+) -> Result<Given<'a>, AllocError>
+    requires first { IsLong lanes first.now }
+    requires second { IsLong lanes second }
+    ensures long { IfOk result (IsLong lanes) }
+    ensures value { (kind : ColType) → is_of_kind (Valued kind) first.now ≡ true → is_of_kind (Valued kind) second.entry ≡ true
+        → IfOk result (λ g. (i : ℕ) → i < lanes → given_at g i ≡ coalesce_of (given_at first.now i) (given_at second.entry i)) }
+    ensures kind { (kind : ColType) → is_of_kind (Valued kind) first.now ≡ true → is_of_kind (Valued kind) second.entry ≡ true
+        → IfOk result (λ g. is_of_kind (Valued kind) g ≡ true) }
+{
+    match first {
+        Given::Null => Ok(second),
+        _ => {
+            let result = chosen_unless_null(alloc, first, &second, lanes);
+            drop(second);
+            result
+        }
+    }
 }
 
 /// The lanes of `these` at the selected positions, elsewhere those of `those`.

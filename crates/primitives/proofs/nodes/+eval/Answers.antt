@@ -1,11 +1,11 @@
 -- Proofs of the goals of `+eval` (`nodes`).
-use Rattle.std.proofs.Common.{rules, ◌∙◌, sym, ap, length}
+use Rattle.std.proofs.Common.{rules, ℕ, ◌<◌, ◌∙◌, sym, ap, subst, length}
 use Rattle.meaning.specs.declared.expr.Expr.TheVariants as node
 use Rattle.meaning.specs.declared.expr.ComparisonOperator.TheVariants as comparison
 use Rattle.meaning.specs.Operators.{and_of, or_of}
 use Rattle.vector_operators.specs.Given.{given_at, is_not_false, is_not_true}
 use Rattle.primitives.proofs.Steps.{and_node as and_lanes, or_node as or_lanes}
-use Rattle.primitives.proofs.ExprNodes.{aggregate_node, and_node, arithmetic_node, as_lent, as_node, between_node, case_node, coalesce_node, column_node, compare_node, in_node, in_nothing, is_null_node, joined_node, key_node, like_node, literal_node, minus_node, not_node, or_node}
+use Rattle.primitives.proofs.ExprNodes.{aggregate_node, and_node, arithmetic_node, as_lent, as_lent_where, as_node, between_node, case_node, coalesce_node, column_node, compare_node, in_node, in_nothing, is_null_node, joined_node, key_node, like_node, literal_node, literal_where, minus_node, not_node, or_node}
 use Rattle.primitives.proofs.Loops.{arms_all, arms_first, arms_more, behind_first, gone_through, first_all, first_more, first_start, found_all, found_more, found_start}
 use Rattle.primitives.proofs.NodeGives.{arithmetic_gives, arm_gives, behind_gives, coalesce_gives, compare_gives, first_gives, narrowed_gives, none_gives, operator_gives, rest_gives, second_alone, second_gives, test_gives, when_passes}
 use Rattle.primitives.proofs.nodes.+eval.Goals as goal
@@ -20,8 +20,18 @@ eval_compare-returns-clause-gives t c =
 pub eval_unless_false-returns-clause-gives : goal.eval_unless_false-returns-clause-gives
 eval_unless_false-returns-clause-gives t c = narrowed_gives _ _ _ _ _ _ _ _ c.in_ok-narrowed.ensures c.eval-result.ensures.gives
 
+pub eval_unless_true-returns-in-Literal-clause-gives : goal.eval_unless_true-returns-in-Literal-clause-gives
+eval_unless_true-returns-in-Literal-clause-gives t c =
+    as_lent_where _ _ _ _ _ _ (node.Literal c.in-Literal.value) c.in-Literal.is
+    (literal_where _ _ _ _ _ _ (λ i w. subst (λ (k : ℕ). i < k) (c.requires.below ∙ sym c.rows.ensures) w.0.0) c.repeated.ensures.value c.repeated.ensures.kind)
+
 pub eval_unless_true-returns-clause-gives : goal.eval_unless_true-returns-clause-gives
 eval_unless_true-returns-clause-gives t c = narrowed_gives _ _ _ _ _ _ _ _ c.in_ok-narrowed.ensures c.eval-result.ensures.gives
+
+pub eval_where_null-returns-in-Literal-clause-gives : goal.eval_where_null-returns-in-Literal-clause-gives
+eval_where_null-returns-in-Literal-clause-gives t c =
+    as_lent_where _ _ _ _ _ _ (node.Literal c.in-Literal.value) c.in-Literal.is
+    (literal_where _ _ _ _ _ _ (λ i w. subst (λ (k : ℕ). i < k) (c.requires.below ∙ sym c.rows.ensures) w.0.0) c.repeated.ensures.value c.repeated.ensures.kind)
 
 pub eval_where_null-returns-clause-gives : goal.eval_where_null-returns-clause-gives
 eval_where_null-returns-clause-gives t c = narrowed_gives _ _ _ _ _ _ _ _ c.in_ok-narrowed.ensures c.eval-result.ensures.gives
@@ -71,7 +81,7 @@ find_in-returns-clause-gives t c = found_all _ _ _ _ _ _ _ _ c.loop-item-test.fa
 
 pub eval_next-returns-clause-gives : goal.eval_next-returns-clause-gives
 eval_next-returns-clause-gives t c =
-    coalesce_gives _ _ _ _ _ _ _ _ _ (c.requires.below ∙ sym c.rows.ensures) c.in_ok-item.ensures.gives c.coalesce-result.ensures.value c.coalesce-result.ensures.kind
+    coalesce_gives _ _ _ _ _ _ _ _ _ (c.requires.below ∙ sym c.rows.ensures) c.in_ok-item.ensures.gives c.coalesce.ensures.value c.coalesce.ensures.kind
 
 pub eval_coalesce-loop-item-init : goal.eval_coalesce-loop-item-init
 eval_coalesce-loop-item-init t c = record { long = tt; first = first_start _ _ _ _ }

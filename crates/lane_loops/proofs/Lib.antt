@@ -8,5 +8,4 @@ pub mod GatheredPlaces
 pub mod Likes
 pub mod PatternParts
 pub mod Told
-pub mod Narrow
 pub mod NearResults

@@ -13,7 +13,6 @@ use Rattle.meaning.specs.Operators.{fits_i64}
 use Rattle.lane_loops.specs.Lanes.{AreFilled, overflow_bit}
 use Rattle.lane_loops.specs.Near.{AreNear, AreResults, IsNear, IsShort, arith_code, arith_int, limit_of}
 use Rattle.lane_loops.proofs.Filling.{filled_more}
-use Rattle.lane_loops.proofs.Narrow.{fits_bits}
 
 fits_within : (z : ℤ) → negsuc 9223372036854775807 ≤ℤ z → z ≤ℤ pos 9223372036854775807 → fits_i64 z ≡ true
 fits_within (pos n) low high = let h : n < 9223372036854775808 = omega (arith, ints, high) in lt-ltb n 9223372036854775808 h
@@ -52,6 +51,10 @@ shift_back (negsuc a) = ap (λ (y : ℤ). shr_z y 4294967296) (shift_is a) ∙ a
 
 pub shortened_is : (z : ℤ) → IsShort z → shr_z (int_wrap w64 (z *ℤ pos 4294967296)) 4294967296 ≡ z
 shortened_is z near = ap (λ (y : ℤ). shr_z y 4294967296) (int_wrap_fits w64 (z *ℤ pos 4294967296) (shift_fits z near)) ∙ shift_back z
+
+fits_bits : (z : ℤ) → FitsSigned w64 z → fits_i64 z ≡ true
+fits_bits (pos n) fits = lt-ltb n 9223372036854775808 fits.sfits
+fits_bits (negsuc n) fits = lt-ltb n 9223372036854775808 fits.sfits
 
 short_bit : (m n : ℤ) → IsShort m → IsShort n → overflow_bit (m *ℤ n) ≡ 0
 short_bit m n a b = ap (λ (x : Bool). from_bool (not x)) (fits_bits (m *ℤ n) (fits_signed_mul w64 m n 2147483648 2147483648 (short_abs m a) (short_abs n b) (omega arith)))

@@ -1,5 +1,5 @@
 -- What loops over lanes compute, lane by lane.
-use Rattle.std.specs.Prelude.{◌≡◌, ℕ, ◌<◌, ◌==◌, ℤ, pos, nat_le, unsigned_abs, int_div, Bool, false, not, if◌then◌else◌, List, [], map, length, get_or}
+use Rattle.std.specs.Prelude.{◌≡◌, ℕ, ◌<◌, ◌==◌, ℤ, pos, int_div, Bool, false, not, if◌then◌else◌, List, [], map, length, get_or}
 use Rattle.std.specs.Borrow.{Bor}
 use Rattle.std.specs.Int.{from_bool}
 use Rattle.std.specs.Ordering.{int_cmp, nat_cmp}
@@ -64,10 +64,6 @@ compared_to_bit op left right i = from_bool (test op (int_cmp (int_at left i) ri
 -- 1 where 64 bits don't hold the integer, else 0
 abbrev pub overflow_bit : ℤ → ℕ
 overflow_bit n = from_bool (not (fits_i64 n))
-
--- 31 bits don't hold it without its sign
-abbrev pub is_wide : ℤ → Bool
-is_wide n = nat_le 2147483648 (unsigned_abs n)
 
 -- ---- texts
 

@@ -1,7 +1,7 @@
 -- Lanes that are chosen by a mask.
-use Rattle.std.specs.Prelude.{◌≡◌, ℕ, ◌<◌, Bool, true, false, if◌then◌else◌, List, [], ◌∷◌, map, length, replicate, get_or}
+use Rattle.std.specs.Prelude.{◌≡◌, ℕ, ◌<◌, Bool, true, false, if◌then◌else◌, List, [], ◌∷◌, map, length, get_or}
 use Rattle.std.proofs.Common.{refl, sym, ◌∙◌, ap, subst, arith}
-use Rattle.std.proofs.lemmas.List.{get_or-map, get_or-replicate, length-replicate}
+use Rattle.std.proofs.lemmas.List.{get_or-map}
 use Rattle.meaning.specs.declared.value.Value.{Value}
 use Rattle.meaning.specs.declared.value.Value.TheVariants.{Null}
 use Rattle.meaning.specs.declared.outcome.Outcome.TheVariants as gives
@@ -26,18 +26,6 @@ chosen_map f e n mask these those (x ∷ xs) are tl ol i within =
     let of_those = get_or-map f those i x e (subst (λ (k : ℕ). i < k) (sym ol) within) in
     get_or-map f (x ∷ xs) i x e inside ∙ ap f (are.each i x within) ∙ if_map f (get_or mask i false) (get_or these i x) (get_or those i x)
     ∙ (λ k. if get_or mask i false then sym of_these k else sym of_those k)
-
--- no lane that is chosen is NULL
-pub none_chosen : (mask : List Bool) (these those : Given) → ((i : ℕ) → i < length mask → is_null_lane (given_at these i) ≡ false)
-    → ((i : ℕ) → i < length mask → is_null_lane (given_at those i) ≡ false)
-    → AreLanes false (length mask) (λ i. is_null_lane (chosen_at mask these those i)) (replicate (length mask) false)
-none_chosen mask these those of_these of_those = record {
-  long = length-replicate (length mask) false;
-  each = λ i within. get_or-replicate (length mask) i false false within ∙ sym (elim (null_at mask i) as (λ b. is_null_lane (if b then given_at these i else given_at those i) ≡ false) [
-    | true ↦ of_these i within
-    | false ↦ of_those i within
-  ]);
-}
 
 module _ {X : Type 0} (value : X → Value) (blank : X) (mask : List Bool) (these those : Given) where
   pub chosen_cells : (tc oc out : List X) → AreGivenCells value blank (length mask) these tc → AreGivenCells value blank (length mask) those oc

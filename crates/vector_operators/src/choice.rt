@@ -84,27 +84,12 @@ fn text_cells<'a, 't>(
     blank_texts(alloc, lanes)
 }
 
-fn chosen_ints(
+fn chosen<T: Copy>(
     alloc: Global,
     mask: &[bool],
-    these: &[i64],
-    those: &[i64],
-) -> Result<Vec<i64>, AllocError>
-    requires these { length these.now ≡ length mask.now }
-    requires those { length those.now ≡ length mask.now }
-    ensures { IfOk result (λ out. AreChosen (length mask.now) mask.now these.now those.now out.items) }
-{
-    let mut out = vec![in alloc; 0i64; mask.len()]?;
-    choose(mask, these, those, out.as_mut_slice());
-    Ok(out)
-}
-
-fn chosen_texts<'t>(
-    alloc: Global,
-    mask: &[bool],
-    these: &[&'t [u8]],
-    those: &[&'t [u8]],
-) -> Result<Vec<&'t [u8]>, AllocError>
+    these: &[T],
+    those: &[T],
+) -> Result<Vec<T>, AllocError>
     requires these { length these.now ≡ length mask.now }
     requires those { length those.now ≡ length mask.now }
     ensures { IfOk result (λ out. AreChosen (length mask.now) mask.now these.now those.now out.items) }
@@ -163,9 +148,7 @@ fn chosen_mask(
 {
     let these = null_lanes(alloc, these, mask.len())?;
     let those = null_lanes(alloc, those, mask.len())?;
-    let mut out = vec![in alloc; false; mask.len()]?;
-    choose(mask, these.as_slice(), those.as_slice(), out.as_mut_slice());
-    Ok(out)
+    chosen(alloc, mask, these.as_slice(), those.as_slice())
 }
 
 /// Which of the lanes chosen are NULL: none where that is clear of both operands.
@@ -202,7 +185,7 @@ fn int_cells_chosen(
 {
     let these = int_cells(alloc, these, mask.len())?;
     let those = int_cells(alloc, those, mask.len())?;
-    chosen_ints(alloc, mask, these.as_slice(), those.as_slice())
+    chosen(alloc, mask, these.as_slice(), those.as_slice())
 }
 
 fn choose_ints(
@@ -236,7 +219,7 @@ fn text_cells_chosen<'t>(
 {
     let these = text_cells(alloc, these, mask.len())?;
     let those = text_cells(alloc, those, mask.len())?;
-    chosen_texts(alloc, mask, these.as_slice(), those.as_slice())
+    chosen(alloc, mask, these.as_slice(), those.as_slice())
 }
 
 fn choose_texts<'t>(

@@ -1,7 +1,7 @@
 -- Proofs of the goals of `choose_ints` (`choice`).
 use Rattle.std.proofs.Common.{pos}
 use Rattle.meaning.specs.declared.value.Value.TheVariants.{Int}
-use Rattle.vector_operators.proofs.Choosing.{chosen_fit, chosen_lanes, chosen_long}
+use Rattle.vector_operators.proofs.Choosing.{chosen_lanes, chosen_long}
 use Rattle.vector_operators.proofs.choice.choose_ints.Goals as goal
 
 pub returns-clause-long : goal.returns-clause-long

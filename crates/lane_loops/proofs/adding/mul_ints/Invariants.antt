@@ -1,9 +1,9 @@
--- Loop invariants of `mul_any` (`adding`).
+-- Loop invariants of `mul_ints` (`adding`).
 use Rattle.std.proofs.Common.{pos, length, ◌*ℤ◌}
 use Rattle.std.specs.Int.{int_wrap}
 use Rattle.std.proofs.Common.{w64}
 use Rattle.lane_loops.specs.Lanes.{AreFilled, int_at, overflow_bit}
-use Rattle.lane_loops.proofs.adding.mul_any.Given as goal
+use Rattle.lane_loops.proofs.adding.mul_ints.Given as goal
 
 abbrev pub invariant-loop-i : goal.invariant-loop-i
 invariant-loop-i l =

@@ -1,9 +1,9 @@
--- Proofs of the goals of `mul_any` (`adding`).
+-- Proofs of the goals of `mul_ints` (`adding`).
 use Rattle.std.proofs.Common.{refl, pos, length, w64, subst, sym, ◌*ℤ◌}
 use Rattle.std.specs.Int.{int_wrap}
 use Rattle.lane_loops.specs.Lanes.{AreFilled, int_at, overflow_bit}
 use Rattle.lane_loops.proofs.Filling.{filled_more}
-use Rattle.lane_loops.proofs.adding.mul_any.Goals as goal
+use Rattle.lane_loops.proofs.adding.mul_ints.Goals as goal
 
 pub loop-i-preserved : goal.loop-i-preserved
 loop-i-preserved c =

@@ -7,7 +7,8 @@ use Rattle.meaning.specs.Limits.{row_group_rows}
 use Rattle.meaning.specs.declared.value.Value.{Value}
 use Rattle.meaning.specs.declared.value.Value.TheVariants.{Null}
 use Rattle.bit_packing.specs.Bits.{bit_at, is_mask}
-use Rattle.encodings.specs.Block.{Block, mask_length, mask_of, body_of, nulls_of, cells_of, values_of, masked, is_body, is_blank, is_block}
+use Rattle.encodings.specs.Block.{Block, mask_length, mask_of, body_of, nulls_of, cells_of, values_of, is_body, is_blank, is_block}
+use Rattle.columns.specs.Cells.{masked}
 use Rattle.encodings.proofs.Nulls.{bits_of, length_bits, bit_is, length_cells}
 use Rattle.bit_packing.proofs.Steps.{both_true}
 

@@ -13,15 +13,18 @@ use Rattle.meaning.specs.declared.value.Value.{Value}
 use Rattle.meaning.specs.declared.value.Value.TheVariants.{Null, Int}
 use Rattle.meaning.specs.Order.{bytes, value_cmp, placed_once, ascending_set}
 use Rattle.meaning.proofs.Tests.{both}
-use Rattle.encodings.specs.declared.chosen.Choice.{Choice}
+use Rattle.encodings.specs.declared.choice.Choice.{Choice}
 use Rattle.encodings.specs.declared.kind.Kind.{Kind}
 use Rattle.encodings.specs.declared.kind.Kind.TheVariants as kind
 use Rattle.encodings.specs.Block.{mask_length}
-use Rattle.encodings.specs.Tight.{body_size, form_size, cells_for, is_chosen}
-use Rattle.encodings.specs.declared.ordering.Dictionary.{Dictionary}
-use Rattle.encodings.specs.Written.{AreEntries, at_places}
+use Rattle.encodings.specs.Choosing.{body_size, cells_for, is_chosen}
+use Rattle.encodings.specs.Plain.{form_size}
+use Rattle.encodings.specs.declared.dictionary.of_cells.Dictionary.{Dictionary}
+use Rattle.encodings.specs.Dictionary.{AreEntries}
+use Rattle.encodings.specs.Plain.{at_places}
 use Rattle.encodings.proofs.EncodedDictionaries.{entries_set}
-use Rattle.encodings.specs.Choice.{IsLeastOfOthers, IsLeastOfTwo, IsDictionaryWithin, IsMadeOf, IsBestOf}
+use Rattle.encodings.specs.Choosing.{IsLeastOfOthers, IsLeastOfTwo}
+use Rattle.encodings.specs.Choice.{IsDictionaryWithin, IsMadeOf, IsBestOf}
 
 -- the first of the kinds whose size is least, of the sizes of Plain, Dict, Runs and Frame
 abbrev IsLeastOfFour : Kind → ℕ → ℕ → ℕ → ℕ → Type 0

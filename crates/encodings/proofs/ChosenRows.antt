@@ -4,8 +4,8 @@ use Rattle.std.proofs.lemmas.Result.{IfOk-weaker}
 use Rattle.meaning.specs.declared.value.ColType.{ColType}
 use Rattle.meaning.specs.declared.value.Value.{Value}
 use Rattle.columns.specs.Column.{ColumnSpec}
-use Rattle.encodings.specs.declared.chosen.Choice.{Choice}
-use Rattle.encodings.specs.Tight.{between, cells_for, is_chosen}
+use Rattle.encodings.specs.declared.choice.Choice.{Choice}
+use Rattle.encodings.specs.Choosing.{between, cells_for, is_chosen}
 use Rattle.encodings.specs.Choice.{IsMadeOf, IsBestOf, IsBestOfRows}
 
 -- what was made of cells was made of them whatever they are called

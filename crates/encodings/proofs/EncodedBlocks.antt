@@ -20,10 +20,16 @@ use Rattle.encodings.specs.declared.kind.Kind.{Kind}
 use Rattle.encodings.specs.declared.kind.Kind.TheVariants as kind
 use Rattle.bit_packing.specs.Bytes.{number_of}
 use Rattle.bit_packing.specs.Bits.{bit_at, bytes_of_bits, is_mask}
-use Rattle.encodings.specs.Block.{mask_length, masked, blank, is_blank, is_block, values_of, is_body, body_cells, entries_of, run_values}
-use Rattle.encodings.specs.Tight.{between, cell_of, cells_for, is_tight, payload_size, are_unequal_neighbours}
+use Rattle.encodings.specs.Block.{mask_length, is_blank, is_block, values_of, is_body, body_cells}
+use Rattle.columns.specs.Cells.{masked, blank}
+use Rattle.encodings.specs.Dictionary.{entries_of}
+use Rattle.encodings.specs.Runs.{run_values}
+use Rattle.encodings.specs.Choosing.{between, cells_for, payload_size}
+use Rattle.columns.specs.Cells.{cell_of}
+use Rattle.encodings.specs.Encoded.{is_tight}
+use Rattle.encodings.specs.Runs.{are_unequal_neighbours}
 use Rattle.bit_packing.specs.Packing.{packed, bit_of, ArePacked}
-use Rattle.encodings.specs.Written.{IsBodyOf, IsMaskOf, PutsBody, PutsMask}
+use Rattle.encodings.specs.Encoded.{IsBodyOf, IsMaskOf, PutsBody, PutsMask}
 
 -- ---- bits
 

@@ -24,10 +24,17 @@ use Rattle.columns.specs.Texts as laid
 use Rattle.columns.proofs.Joined.{texts_read}
 use Rattle.encodings.specs.declared.kind.Kind.TheVariants as kind
 use Rattle.bit_packing.specs.Bytes.{words, shorts, integers}
-use Rattle.encodings.specs.Bytes.{texts_from}
-use Rattle.encodings.specs.Block.{values_form, is_values_form, are_ends, count_of, repeated}
-use Rattle.encodings.specs.Tight.{body_size, form_size, run_heads, are_unequal_neighbours}
-use Rattle.encodings.specs.Written.{form_of, integer_bytes, word_bytes, short_bytes, IsBodyOf, AreRuns, runs_body, at_places, ints_at, texts_at, PutsBody}
+use Rattle.columns.specs.Texts.{texts_from}
+use Rattle.encodings.specs.Plain.{values_form, is_values_form, are_ends}
+use Rattle.encodings.specs.Numbers.{count_of}
+use Rattle.encodings.specs.Runs.{repeated}
+use Rattle.encodings.specs.Choosing.{body_size}
+use Rattle.encodings.specs.Plain.{form_size}
+use Rattle.encodings.specs.Runs.{run_heads, are_unequal_neighbours}
+use Rattle.encodings.specs.Plain.{form_of, at_places, ints_at, texts_at}
+use Rattle.encodings.specs.Numbers.{integer_bytes, word_bytes, short_bytes}
+use Rattle.encodings.specs.Encoded.{IsBodyOf, PutsBody}
+use Rattle.encodings.specs.Runs.{AreRuns, runs_body}
 use Rattle.encodings.proofs.EncodedForms.{words_read, shorts_read, integers_read, length-short_bytes, chunks_behind, length-chunks, length-word_bytes, length-integer_bytes, text_short, word_read}
 
 -- ---- integers and texts of cells

@@ -18,9 +18,13 @@ use Rattle.meaning.proofs.Tests.{all_first, all_rest, all_imply, both, or_second
 use Rattle.columns.specs.Column.{is_of}
 use Rattle.encodings.specs.declared.kind.Kind.TheVariants as kind
 use Rattle.bit_packing.specs.Bytes.{shorts}
-use Rattle.encodings.specs.Block.{values_form, is_values_form, count_of}
-use Rattle.encodings.specs.Tight.{form_size}
-use Rattle.encodings.specs.Written.{IsBodyOf, PutsBody, AreEntries, at_places, form_of, word_bytes, short_bytes, dictionary_body}
+use Rattle.encodings.specs.Plain.{values_form, is_values_form}
+use Rattle.encodings.specs.Numbers.{count_of}
+use Rattle.encodings.specs.Plain.{form_size}
+use Rattle.encodings.specs.Encoded.{IsBodyOf, PutsBody}
+use Rattle.encodings.specs.Dictionary.{AreEntries, dictionary_body}
+use Rattle.encodings.specs.Plain.{at_places, form_of}
+use Rattle.encodings.specs.Numbers.{word_bytes, short_bytes}
 use Rattle.encodings.proofs.EncodedForms.{shorts_read, length-word_bytes, length-short_bytes, length-chunks}
 use Rattle.encodings.proofs.EncodedBodies.{form_is, all_at, count_back}
 

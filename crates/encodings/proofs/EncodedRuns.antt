@@ -14,9 +14,10 @@ use Rattle.meaning.specs.declared.value.Value.TheVariants.{Null, Text}
 use Rattle.meaning.specs.Order.{same_value, value_cmp}
 use Rattle.meaning.proofs.Orders.{value_total, value_exact}
 use Rattle.meaning.proofs.Tests.{all_append, both, first_of, second_of}
-use Rattle.encodings.specs.Block.{repeated}
-use Rattle.encodings.specs.Tight.{are_unequal_neighbours}
-use Rattle.encodings.specs.Written.{AreRuns, at_places}
+use Rattle.encodings.specs.Runs.{repeated}
+use Rattle.encodings.specs.Runs.{are_unequal_neighbours}
+use Rattle.encodings.specs.Runs.{AreRuns}
+use Rattle.encodings.specs.Plain.{at_places}
 
 -- the closed runs, and one that began at `start` and is still open in front of `row`
 pub record RunsSoFar (cells : List Value) (starts lengths : List ℕ) (start row : ℕ) : Type 0 where

@@ -8,9 +8,9 @@ use Rattle.meaning.specs.declared.value.ColType.{ColType}
 use Rattle.meaning.specs.declared.value.ColType.TheVariants as of_type
 use Rattle.meaning.specs.declared.value.Value.TheVariants.{Null, Int, Text}
 use Rattle.columns.specs.Column.{is_text}
-use Rattle.encodings.specs.Block.{are_ends, ends_of, joined_of, values_form, is_values_form}
+use Rattle.encodings.specs.Plain.{are_ends, ends_of, joined_of, values_form, is_values_form}
 use Rattle.bit_packing.specs.Bytes.{words, integer_of, integers}
-use Rattle.encodings.specs.Bytes.{texts_from}
+use Rattle.columns.specs.Texts.{texts_from}
 use Rattle.bit_packing.proofs.Chunks.{get_or-words, get_or-integers, length-words, length-integers}
 use Rattle.bit_packing.proofs.Steps.{both_true}
 

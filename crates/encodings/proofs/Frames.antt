@@ -12,7 +12,7 @@ use Rattle.std.proofs.lemmas.List.FromFn.{get_or-map-range_with_len, length-rang
 use Rattle.meaning.specs.Operators.{fits_i64}
 use Rattle.bit_packing.specs.Bits.{bytes_of_bits}
 use Rattle.bit_packing.specs.Offsets.{offset_at}
-use Rattle.encodings.specs.Block.{offsets_of, frame_integers, is_frame, base_of, width_of, packed_of}
+use Rattle.encodings.specs.Frame.{offsets_of, frame_integers, is_frame, base_of, width_of, packed_of}
 use Rattle.bit_packing.specs.Bytes.{number_of}
 use Rattle.encodings.proofs.RowCells.{all_at}
 use Rattle.bit_packing.proofs.Steps.{both_true}

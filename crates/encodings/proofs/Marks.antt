@@ -15,7 +15,7 @@ use Rattle.meaning.specs.Order.{bytes, value_cmp, same_value, placed_once, ascen
 use Rattle.meaning.proofs.Orders.{value_total, value_exact}
 use Rattle.meaning.proofs.Sets.{any-ascending_set}
 use Rattle.encodings.specs.Homes.{value_home, value_size}
-use Rattle.encodings.specs.Tight.{form_size}
+use Rattle.encodings.specs.Plain.{form_size}
 
 -- ---- the size of a set, one element more
 

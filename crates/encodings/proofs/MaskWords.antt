@@ -13,7 +13,7 @@ use Rattle.encodings.specs.declared.kind.Kind.{Kind}
 use Rattle.bit_packing.specs.Bits.{bit_at}
 use Rattle.encodings.specs.Block.{body_cells, is_body, is_blank}
 use Rattle.bit_packing.specs.Bytes.{number_of}
-use Rattle.encodings.specs.Reading.{are_blank_from}
+use Rattle.encodings.specs.Block.{are_blank_from}
 use Rattle.encodings.proofs.Nulls.{bits_of, length_pairs, pair_is}
 use Rattle.bit_packing.proofs.Steps.{all_skips, all_keeps, all_stops}
 use Rattle.bit_packing.proofs.UnpackNumbers.{AreBytes, number-front_below, digit-take, offset_at-drop}

@@ -5,7 +5,8 @@ use Rattle.std.proofs.lemmas.List.{drop_more}
 use Rattle.std.proofs.lemmas.Slice.Zip.{get_or-zip, length-zip}
 use Rattle.meaning.specs.declared.value.Value.{Value}
 use Rattle.meaning.specs.declared.value.Value.TheVariants.{Null}
-use Rattle.encodings.specs.Block.{is_blank, repeated}
+use Rattle.encodings.specs.Block.{is_blank}
+use Rattle.encodings.specs.Runs.{repeated}
 
 abbrev pub is_unmasked_or_blank : Bool × Value → Bool
 is_unmasked_or_blank p = not p.0 || is_blank p.1

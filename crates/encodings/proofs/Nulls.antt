@@ -13,7 +13,12 @@ use Rattle.encodings.specs.declared.kind.Kind.{Kind}
 use Rattle.encodings.specs.declared.kind.Kind.TheVariants as kind
 use Rattle.bit_packing.specs.Bits.{bit_at}
 use Rattle.bit_packing.specs.Offsets.{offset_at}
-use Rattle.encodings.specs.Block.{body_cells, is_body, is_blank, is_values_form, repeated, run_cells, run_values, run_lengths, run_value_bytes, count_of, are_runs, entries_of, codes_of, frame_integers, offsets_of, width_of, packed_of, base_of}
+use Rattle.encodings.specs.Block.{body_cells, is_body, is_blank}
+use Rattle.encodings.specs.Plain.{is_values_form}
+use Rattle.encodings.specs.Runs.{repeated, run_cells, run_values, run_lengths, run_value_bytes, are_runs}
+use Rattle.encodings.specs.Numbers.{count_of}
+use Rattle.encodings.specs.Dictionary.{entries_of, codes_of}
+use Rattle.encodings.specs.Frame.{frame_integers, offsets_of, width_of, packed_of, base_of}
 use Rattle.bit_packing.proofs.Chunks.{length-shorts}
 use Rattle.encodings.proofs.Ends.{length-values_form}
 use Rattle.bit_packing.proofs.Steps.{both_true}

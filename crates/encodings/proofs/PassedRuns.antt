@@ -4,7 +4,7 @@ use Rattle.std.proofs.lemmas.Bool.{cases_lt}
 use Rattle.std.proofs.lemmas.List.{take-map, drop-map, map-append, take_all, take-append-drop, take-append-le, take-replicate, append-nil, length-drop, length-replicate}
 use Rattle.std.proofs.Math.Seq.{take-add}
 use Rattle.std.proofs.lemmas.List.Sums.{sum_by-append, sum_by-cons, sum_by_more}
-use Rattle.encodings.specs.Reading.{repeats}
+use Rattle.encodings.specs.Runs.{repeats}
 use Rattle.encodings.proofs.ReadLists.{run_skipped, lined_entered, take-past}
 
 pub passed_over : {X : Type 0} (s : ℕ) (values : List X) (lengths : List ℕ) (skip from : ℕ) → s ≤ length values → s ≤ length lengths

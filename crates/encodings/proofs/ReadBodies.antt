@@ -13,8 +13,11 @@ use Rattle.meaning.specs.Order.{value_cmp, is_ascending}
 use Rattle.bit_packing.specs.Bytes.{number_of}
 use Rattle.bit_packing.specs.Bits.{bytes_of_bits}
 use Rattle.bit_packing.specs.Offsets.{offset_at, raised_offsets}
-use Rattle.encodings.specs.Block.{codes_of, count_of, entries_of, entry_bytes, frame_integers, is_dictionary, is_frame, is_values_form, offsets_of, packed_of, width_of}
-use Rattle.encodings.specs.Reading.{repeats}
+use Rattle.encodings.specs.Dictionary.{codes_of, entries_of, entry_bytes, is_dictionary}
+use Rattle.encodings.specs.Numbers.{count_of}
+use Rattle.encodings.specs.Frame.{frame_integers, is_frame, offsets_of, packed_of, width_of}
+use Rattle.encodings.specs.Plain.{is_values_form}
+use Rattle.encodings.specs.Runs.{repeats}
 use Rattle.bit_packing.proofs.Ranges.{both_left, both_right}
 
 pub part-map : {X Y : Type 0} (f : X → Y) (n k : ℕ) (xs : List X) → map f (take n (drop k xs)) ≡ take n (drop k (map f xs))

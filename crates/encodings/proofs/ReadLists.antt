@@ -1,7 +1,7 @@
 -- Steps of loops that fill a list from the front.
 use Rattle.std.proofs.Common.{◌≡◌, ℕ, zero, suc, ◌+◌, ◌<◌, ◌≤◌, List, [], ◌∷◌, ◌++◌, length, take, drop, set, get_or, refl, sym, ap, ◌∙◌, arith, replicate, ◌-◌, sum}
 use Rattle.std.specs.Simd.{first_chunks}
-use Rattle.encodings.specs.Reading.{repeats}
+use Rattle.encodings.specs.Runs.{repeats}
 use Rattle.std.proofs.lemmas.List.Sums.{sum_by-cons}
 use borrow.Rule.Slice.PartMut.{put_mid}
 use Rattle.std.proofs.lemmas.Slice.{take-put_mid}

@@ -1,8 +1,8 @@
 -- Where texts stand that are joined.
 use Rattle.std.proofs.Common.{◌≡◌, ℕ, zero, suc, ◌-◌, ◌<◌, ◌≤◌, List, [], ◌∷◌, length, take, drop, get_or, refl, ap, arith, true}
 use borrow.Author.Tests.{leb-true, eqb-true}
-use Rattle.encodings.specs.Bytes.{texts_from}
-use Rattle.encodings.specs.Block.{are_ends}
+use Rattle.columns.specs.Texts.{texts_from}
+use Rattle.encodings.specs.Plain.{are_ends}
 use Rattle.bit_packing.proofs.Ranges.{both_left, both_right}
 
 pub length-texts_from : (start : ℕ) (ends joined : List ℕ) → length (texts_from start ends joined) ≡ length ends

@@ -13,8 +13,9 @@ use Rattle.meaning.specs.declared.value.Value.{Value}
 use Rattle.meaning.specs.declared.value.Value.TheVariants.{Null, Int, Text}
 use Rattle.meaning.specs.Order.{is_null, number, bytes}
 use Rattle.bit_packing.specs.Bits.{bit_at, is_mask}
-use Rattle.encodings.specs.Block.{Block, cells_of, is_blank, is_block, is_body, mask_length, body_of, mask_of, masked, nulls_of, values_of}
-use Rattle.encodings.specs.Vector.{AreBlank, AreRoom, AreCells, cells_in, masked_cells, Vector, vector_of}
+use Rattle.encodings.specs.Block.{Block, cells_of, is_blank, is_block, is_body, mask_length, body_of, mask_of, nulls_of, values_of}
+use Rattle.columns.specs.Cells.{masked}
+use Rattle.encodings.specs.VectorBuf.{AreBlank, AreRoom, AreCells, cells_in, masked_cells, Vector, vector_of}
 use Rattle.encodings.proofs.ReadBodies.{all-part, part-map, range-part}
 use Rattle.bit_packing.proofs.Ranges.{both_left, both_right}
 

@@ -9,9 +9,12 @@ use Rattle.meaning.specs.declared.value.ColType.{ColType}
 use Rattle.meaning.specs.declared.value.Value.{Value}
 use Rattle.meaning.specs.declared.value.Value.TheVariants.{Null}
 use Rattle.meaning.specs.Order.{value_cmp, is_ascending}
-use Rattle.encodings.specs.Block.{values_form, is_values_form, count_of, entry_bytes, entries_of, codes_of, is_dictionary, dictionary_cells, repeated, run_cells, run_value_bytes}
+use Rattle.encodings.specs.Plain.{values_form, is_values_form}
+use Rattle.encodings.specs.Numbers.{count_of}
+use Rattle.encodings.specs.Dictionary.{entry_bytes, entries_of, codes_of, is_dictionary, dictionary_cells}
+use Rattle.encodings.specs.Runs.{repeated, run_cells, run_value_bytes}
 use Rattle.bit_packing.specs.Bytes.{shorts}
-use Rattle.encodings.specs.Lent.{IsDictionaryOf}
+use Rattle.encodings.specs.DictionaryView.{IsDictionaryOf}
 use Rattle.bit_packing.proofs.Chunks.{get_or-shorts, length-shorts}
 use Rattle.encodings.proofs.Ends.{length-values_form}
 use Rattle.bit_packing.proofs.Steps.{both_true}

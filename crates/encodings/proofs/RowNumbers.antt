@@ -10,7 +10,7 @@ use Rattle.meaning.specs.Order.{same_value, value_cmp}
 use Rattle.meaning.proofs.Orders.{value_exact}
 use Rattle.meaning.proofs.Tests.{all_append, all_imply, all_first, all_rest, both}
 use Rattle.encodings.specs.Entries.{AreNumbers}
-use Rattle.encodings.specs.Written.{at_places}
+use Rattle.encodings.specs.Plain.{at_places}
 
 pub same_is : (v w : Value) → same_value v w ≡ true → v ≡ w
 same_is v w e = value_exact v w ((Equal-is (value_cmp v w)).0 e)

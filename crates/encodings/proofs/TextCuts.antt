@@ -8,8 +8,8 @@ use Rattle.std.proofs.lemmas.List.{take-append-drop, get_or-drop, length-drop, l
 use Rattle.std.proofs.lemmas.Str.{IsUtf8-from_is_utf8, is_utf8-from_IsUtf8, IsUtf8-append, IsUtf8-nil, IsUtf8-between, IsCharBoundary-start}
 use Rattle.meaning.specs.Limits.{max_text_bytes}
 use Rattle.columns.specs.Column.{is_text}
-use Rattle.encodings.specs.Block.{are_ends}
-use Rattle.encodings.specs.Bytes.{texts_from}
+use Rattle.encodings.specs.Plain.{are_ends}
+use Rattle.columns.specs.Texts.{texts_from}
 use Rattle.bit_packing.proofs.Steps.{both_true}
 
 text_parts : (text : List ℕ) → is_text text ≡ true → IsUtf8 text × (length text ≤ max_text_bytes)

@@ -6,7 +6,7 @@ use Rattle.meaning.specs.declared.value.Value.{Value}
 use Rattle.meaning.specs.declared.value.Value.TheVariants.{Null, Int, Text}
 use Rattle.encodings.specs.declared.kind.Kind.TheVariants as kind
 use Rattle.encodings.specs.Block.{Block, is_block, values_of}
-use Rattle.encodings.specs.Tight.{payload_size, is_chosen}
+use Rattle.encodings.specs.Choosing.{payload_size, is_chosen}
 
 -- 2, NULL, 0, 4, 1
 abbrev pub q : List Value

@@ -1,12 +1,18 @@
 -- The definitions of this crate.
 pub mod Block
-pub mod Bytes
-pub mod CellOrder
+pub mod Cell
 pub mod Choice
+pub mod Choosing
+pub mod Dictionary
+pub mod DictionaryView
+pub mod Encoded
 pub mod Entries
+pub mod Fault
+pub mod Frame
 pub mod Homes
-pub mod Lent
-pub mod Reading
-pub mod Tight
-pub mod Vector
-pub mod Written
+pub mod Kind
+pub mod Numbers
+pub mod Plain
+pub mod Runs
+pub mod RunsView
+pub mod VectorBuf

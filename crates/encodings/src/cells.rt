@@ -1,22 +1,32 @@
-//! What stands in the cell of each row, NULL or not.
-ghost use Rattle.std.specs.Prelude.{◌≡◌, ◌+◌, ◌*◌, ◌/◌, ◌<◌, ◌≤◌, ◌&&◌, ◌||◌, true, false, not, if◌then◌else◌, replicate, length, get_or, map, zip};
+//! What stands in the cell of each row, NULL or not, and whether the blank stands where a row is NULL.
+ghost use Rattle.std.specs.Prelude.{◌≡◌, ◌+◌, ◌*◌, ◌<◌, ◌≤◌, ◌&&◌, true, false, length, ◌||◌, not, if◌then◌else◌, replicate, get_or, map, zip};
 ghost use Rattle.std.specs.List.{list_all, range_with_len};
 ghost use Rattle.meaning.specs.Limits.{row_group_rows};
+ghost use Rattle.encodings.specs.Block.{mask_length, body_cells, is_body, is_blank};
 ghost use Rattle.meaning.specs.Order.{value_in};
 ghost use Rattle.meaning.specs.declared.value.Value.TheVariants.{Null};
 ghost use Rattle.bit_packing.specs.Bits.{bit_at, bytes_of_bits};
-ghost use Rattle.encodings.specs.Block.{mask_length, body_cells, is_body, is_blank};
-ghost use Rattle.encodings.specs.Reading.{are_blank_from};
+ghost use Rattle.encodings.specs.Block.{are_blank_from};
 
-use crate::checking::{are_runs, is_dictionary};
-use crate::dictionary::dictionary_cell;
-use crate::frame::{frame_cell, is_frame};
+use crate::dictionary::check::is_dictionary;
+use crate::dictionary::view::dictionary_cell;
+use crate::frame::check::is_frame;
+use crate::frame::read::frame_cell;
 use crate::kind::Kind;
-use crate::null_runs::are_null_runs_blank;
-use crate::runs::run_cell;
-use crate::values::{is_blank, is_values_form, value_at};
+use crate::plain::check::is_values_form;
+use crate::plain::values::value_at;
+use crate::runs::check::{are_null_runs_blank, are_runs};
+use crate::runs::view::run_cell;
 use bit_packing::windows::window_at;
 use meaning::value::{ColType, ValueRef};
+
+/// How many bytes the mask takes.
+pub fn mask_length(nullable: bool, rows: usize) -> usize
+    requires { rows ≤ row_group_rows }
+    ensures { result ≡ mask_length nullable rows }
+{
+    if nullable { (rows + 7) / 8 } else { 0 }
+}
 
 /// Whether bytes are a body of a kind, with a cell for each of `rows` rows.
 pub fn is_body(kind: Kind, col_type: ColType, rows: usize, body: &[u8]) -> bool
@@ -44,6 +54,17 @@ pub fn cell_at(kind: Kind, col_type: ColType, rows: usize, body: &[u8], row: usi
         Kind::Dict => dictionary_cell(col_type, rows, body, row),
         Kind::Runs => run_cell(col_type, rows, body, row),
         Kind::Frame => ValueRef::Int(frame_cell(rows, body, row)),
+    }
+}
+
+/// Whether the value is what stands in the cell of a NULL row.
+pub fn is_blank(value: ValueRef<'_>) -> bool
+    ensures { result ≡ is_blank (value_in value.entry) }
+{
+    match value {
+        ValueRef::Null => false,
+        ValueRef::Int(n) => n == 0,
+        ValueRef::Text(text) => text.is_empty(),
     }
 }
 

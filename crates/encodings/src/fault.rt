@@ -1,7 +1,7 @@
 //! Why a block is not written.
 ghost use Rattle.std.specs.Prelude.{◌≡◌};
 ghost use Rattle.encodings.specs.declared.fault.EncodeFault.TheVariants.{Memory};
-ghost use Rattle.encodings.specs.Written.{number_of_fault};
+ghost use Rattle.encodings.specs.Fault.{number_of_fault};
 
 use std::alloc::{AllocError, AllocFailed};
 use thiserror::Error;

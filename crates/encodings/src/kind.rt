@@ -1,6 +1,6 @@
 //! The four kinds of block.
 ghost use Rattle.std.specs.Prelude.{◌≡◌, ◌<◌, MatchOption};
-ghost use Rattle.encodings.specs.Tight.{place_of};
+ghost use Rattle.encodings.specs.Kind.{place_of};
 
 /// How a block's bytes stand for its values.
 #[derive(Clone, Copy, Debug, PartialEq, Eq)]

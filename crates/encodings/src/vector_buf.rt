@@ -1,9 +1,9 @@
 //! A buffer for values that are read out of a block.
 ghost use Rattle.std.specs.Prelude.{pos, ◌≡◌, ◌==◌, ◌<◌, ◌↔◌, [], map, length, get_or, IfOk, IsSome, IfSome};
-ghost use Rattle.meaning.specs.declared.value.ColType.TheVariants as of_type;
 ghost use Rattle.meaning.specs.declared.value.Value.TheVariants.{Null};
 ghost use Rattle.meaning.specs.Order.{value_in, is_null, number, bytes};
-ghost use Rattle.encodings.specs.Vector.{Vector, AreParts};
+ghost use Rattle.encodings.specs.VectorBuf.{Vector, AreParts};
+ghost use Rattle.meaning.specs.declared.value.ColType.TheVariants as of_type;
 
 use meaning::value::{ColType, ValueRef};
 use std::alloc::{AllocError, Global};
@@ -30,7 +30,7 @@ pub struct VectorBuf<'a> {
 
 impl<'a> Model for VectorBuf<'a> {
     ghost use Rattle.std.specs.Prelude.{map};
-    ghost use Rattle.encodings.specs.Vector.{Vector, vector_of, AreCells};
+    ghost use Rattle.encodings.specs.VectorBuf.{Vector, vector_of, AreCells};
 
     ghost Value = { Vector };
 

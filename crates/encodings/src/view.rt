@@ -3,14 +3,15 @@ ghost use Rattle.std.specs.Prelude.{◌≡◌, ◌<◌, true, false, get_or, tak
 ghost use Rattle.meaning.specs.Order.{value_in, value_cmp, is_ascending};
 ghost use Rattle.meaning.specs.declared.value.Value.TheVariants.{Null};
 ghost use Rattle.encodings.specs.Block.{Block, is_block, mask_of, body_of, nulls_of, values_of};
-ghost use Rattle.encodings.specs.Lent.{dictionary_in, runs_in, StandsFor, coded_cells, run_cells};
+ghost use Rattle.encodings.specs.DictionaryView.{dictionary_in, coded_cells};
+ghost use Rattle.encodings.specs.RunsView.{runs_in, run_cells};
+ghost use Rattle.encodings.specs.Block.{StandsFor};
 
-use crate::cells::{are_nulls_blank, cell_at, is_body};
-use crate::checking::mask_length;
-use crate::dictionary::{Dictionary, lend_dictionary};
+use crate::block_rows::read_rows;
+use crate::cells::{are_nulls_blank, cell_at, is_body, mask_length};
+use crate::dictionary::view::{DictionaryView, lend_dictionary};
 use crate::kind::Kind;
-use crate::reading::read_rows;
-use crate::runs::{RunsView, lend_runs};
+use crate::runs::view::{RunsView, lend_runs};
 use crate::vector_buf::VectorBuf;
 use bit_packing::masks::is_mask;
 use bit_packing::numbers::has_bit;
@@ -204,7 +205,7 @@ impl<'a> BlockView<'a> {
     }
 
     /// The entries and the codes, where the block is a dictionary. A row that isn't NULL has the entry at its code.
-    pub fn dictionary(&self) -> Option<Dictionary<'a>>
+    pub fn dictionary(&self) -> Option<DictionaryView<'a>>
         ensures lent { MatchOption result (¬ (self.now.kind ≡ Kind.Dict)) (λ dictionary. (self.now.kind ≡ Kind.Dict) × (dictionary ≡ dictionary_in self.now)) }
         ensures values { IfSome result (λ dictionary. StandsFor self.now (coded_cells dictionary)) }
         ensures ascending { IfSome result (λ dictionary. is_ascending value_cmp dictionary.entries ≡ true) }

@@ -8,7 +8,7 @@ use Rattle.meaning.specs.Limits.{row_group_rows}
 use Rattle.encodings.specs.declared.kind.Kind.{Kind}
 use Rattle.encodings.specs.declared.kind.Kind.TheVariants as kind
 use Rattle.encodings.specs.Block.{Block, is_block}
-use Rattle.encodings.specs.Tight.{place_of}
+use Rattle.encodings.specs.Kind.{place_of}
 use Rattle.fragment_file.specs.declared.fault.FileFault.TheVariants as refusal
 use Rattle.wire.specs.Reading.{◌>>=◌, bytes_at, number_at}
 use Rattle.fragment_file.specs.Fragment.{IsBlockOf, AreBlocks, AreGroups, group_sizes, block_bytes, group_bytes}

@@ -17,7 +17,8 @@ use Rattle.columns.specs.Column.{ColumnSpec, IsColumn, is_of, is_text}
 use Rattle.encodings.specs.declared.kind.Kind.{Kind}
 use Rattle.encodings.specs.declared.kind.Kind.TheVariants as kind
 use Rattle.encodings.specs.Block.{mask_length}
-use Rattle.encodings.specs.Tight.{between, cell_of, cells_for, form_size, is_chosen, is_no_worse, payload_size}
+use Rattle.encodings.specs.Choosing.{between, cell_of, cells_for, is_chosen, is_no_worse, payload_size}
+use Rattle.encodings.specs.Plain.{form_size}
 use Rattle.encodings.proofs.ReadBodies.{all-take, all-drop}
 
 both : (a b : Bool) → (a && b) ≡ true → (a ≡ true) × (b ≡ true)

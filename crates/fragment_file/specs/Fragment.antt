@@ -16,7 +16,7 @@ use Rattle.meaning.specs.Typing.{is_of_type}
 use Rattle.columns.specs.Column.{ColumnSpec}
 use Rattle.encodings.specs.declared.kind.Kind.TheVariants as kind
 use Rattle.encodings.specs.Block.{Block, is_block, values_of}
-use Rattle.encodings.specs.Tight.{place_of}
+use Rattle.encodings.specs.Kind.{place_of}
 use Rattle.fragment_file.specs.declared.header.Header.{Header}
 use Rattle.fragment_file.specs.declared.header.Slice.{Slice}
 

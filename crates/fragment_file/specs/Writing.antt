@@ -6,7 +6,8 @@ use Rattle.wire.specs.Writing.{Puts}
 use Rattle.meaning.specs.declared.catalog.Column.{Column}
 use Rattle.columns.specs.Column.{ColumnSpec}
 use Rattle.encodings.specs.Block.{Block, is_block, values_of}
-use Rattle.encodings.specs.Tight.{is_chosen, is_tight}
+use Rattle.encodings.specs.Choosing.{is_chosen}
+use Rattle.encodings.specs.Encoded.{is_tight}
 use Rattle.fragment_file.specs.declared.fault.FileFault.{FileFault}
 use Rattle.fragment_file.specs.declared.fault.FileFault.TheVariants as fault
 use Rattle.fragment_file.specs.declared.header.Header.{Header}

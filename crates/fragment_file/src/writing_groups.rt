@@ -1,8 +1,8 @@
 //! The row groups of a file: for each column a block of the kind of fewest bytes.
 ghost use Rattle.std.specs.Prelude.{◌≡◌, ◌≤◌, ◌<◌, ◌-◌, ◌*◌, ◌^◌, ◌++◌, length, replicate, true, All, OnOk, IfOk, IfErr};
 ghost use Rattle.meaning.specs.Limits.{max_rows, row_group_rows};
-ghost use Rattle.encodings.specs.Tight.{place_of};
-ghost use Rattle.encodings.specs.Written.{block_of};
+ghost use Rattle.encodings.specs.Kind.{place_of};
+ghost use Rattle.encodings.specs.Encoded.{block_of};
 ghost use Rattle.fragment_file.specs.Fragment.{group_sizes};
 ghost use Rattle.wire.specs.Bytes.{number_bytes};
 ghost use Rattle.fragment_file.specs.Writing.{IsRowsOf, IsWriteFault, PutsBlock, PutsBlocks, PutsGroup, WritesGroup, WritesGroups};

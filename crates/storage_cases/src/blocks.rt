@@ -4,7 +4,7 @@ ghost use Rattle.std.specs.Prelude.{◌≡◌};
 use crate::values::{column_of, tell_value, type_of};
 use case_files::byte_lines::bytes_of;
 use columns::Column;
-use encodings::dictionary::Dictionary;
+use encodings::dictionary::DictionaryView;
 use encodings::kind::Kind;
 use encodings::runs::RunsView;
 use encodings::unpacking::unpack;
@@ -82,7 +82,7 @@ pub fn tell_block_values(told: &mut String, view: &BlockView<'_>) -> Result<(), 
     told.push_str("\n")
 }
 
-fn tell_entries(told: &mut String, dictionary: &Dictionary<'_>) -> Result<(), AllocError> {
+fn tell_entries(told: &mut String, dictionary: &DictionaryView<'_>) -> Result<(), AllocError> {
     told.push_str("entries")?;
     for place in 0..dictionary.len() {
         tell_value(told, dictionary.entry(place))?;

@@ -2,7 +2,7 @@
 use Rattle.std.proofs.Common.{◌≡◌, ◌+◌, ◌-◌, ◌*◌, sym, ap, ◌∙◌, arith}
 use Rattle.std.specs.Int.{w64, trailing_zeros}
 use Rattle.encodings.specs.Block.{body_cells, is_blank}
-use Rattle.encodings.specs.Reading.{are_blank_from}
+use Rattle.encodings.specs.Block.{are_blank_from}
 use Rattle.encodings.proofs.MaskWords.{next_mark, no_mark, shifted_more, clear_rows, set_row, full_row}
 use Rattle.bit_packing.proofs.UnpackNumbers.{are_bytes}
 use Rattle.encodings.proofs.cells.are_marked_blank.Goals as goal

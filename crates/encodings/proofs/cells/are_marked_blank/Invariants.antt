@@ -1,7 +1,7 @@
 -- Loop invariants of `are_marked_blank` (`cells`).
 use Rattle.std.proofs.Common.{◌≡◌, ◌+◌, ◌-◌, ◌*◌, ◌/◌, ◌^◌, ◌≤◌}
 use Rattle.encodings.specs.Block.{body_cells}
-use Rattle.encodings.specs.Reading.{are_blank_from}
+use Rattle.encodings.specs.Block.{are_blank_from}
 use Rattle.encodings.proofs.MaskWords.{window}
 use Rattle.encodings.proofs.cells.are_marked_blank.Given as goal
 

@@ -1,7 +1,7 @@
 -- Loop invariants of `are_null_cells_blank` (`cells`).
 use Rattle.std.proofs.Common.{◌≡◌, ◌*◌}
 use Rattle.encodings.specs.Block.{body_cells}
-use Rattle.encodings.specs.Reading.{are_blank_from}
+use Rattle.encodings.specs.Block.{are_blank_from}
 use Rattle.encodings.proofs.cells.are_null_cells_blank.Given as goal
 
 abbrev pub invariant-loop-k : goal.invariant-loop-k

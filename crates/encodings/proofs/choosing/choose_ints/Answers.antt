@@ -6,7 +6,7 @@ use Rattle.meaning.specs.declared.value.ColType.TheVariants as of_type
 use Rattle.meaning.specs.declared.value.Value.TheVariants.{Int}
 use Rattle.encodings.specs.declared.kind.Kind.TheVariants as kind
 use Rattle.encodings.specs.Choice.{IsDictionaryWithin}
-use Rattle.encodings.specs.Tight.{body_size}
+use Rattle.encodings.specs.Choosing.{body_size}
 use Rattle.encodings.proofs.ChosenKinds.{best_int_dictionary, best_int_kind}
 use Rattle.encodings.proofs.choosing.choose_ints.Goals as goal
 

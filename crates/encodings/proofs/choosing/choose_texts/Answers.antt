@@ -6,7 +6,7 @@ use Rattle.meaning.specs.declared.value.ColType.TheVariants as of_type
 use Rattle.meaning.specs.declared.value.Value.TheVariants.{Text}
 use Rattle.encodings.specs.declared.kind.Kind.TheVariants as kind
 use Rattle.encodings.specs.Choice.{IsDictionaryWithin}
-use Rattle.encodings.specs.Tight.{body_size}
+use Rattle.encodings.specs.Choosing.{body_size}
 use Rattle.encodings.proofs.ChosenKinds.{best_text_dictionary, best_text_kind}
 use Rattle.encodings.proofs.EncodedBodies.{plain_text_size}
 use Rattle.encodings.proofs.EncodedRuns.{rows_of}

@@ -4,7 +4,7 @@ use Rattle.std.specs.Prelude.{Bool}
 use Rattle.std.specs.List.{list_all}
 use Rattle.meaning.specs.declared.value.ColType.{ColType}
 use Rattle.meaning.specs.declared.value.Value.{Value}
-use Rattle.encodings.specs.Vector.{Vector}
+use Rattle.encodings.specs.VectorBuf.{Vector}
 use Rattle.encodings.specs.Block.{values_of}
 use Rattle.fragment_file.specs.Copying.{is_taken, with_values}
 use Rattle.fragment_file.proofs.Written.{on_ok}

@@ -1,7 +1,7 @@
 -- Proofs of the goals of `encoded` (`writing_groups`).
 use Rattle.std.proofs.Common.{◌≡◌, List, true, refl, sym, subst, length}
 use Rattle.meaning.specs.declared.value.Value.{Value}
-use Rattle.encodings.specs.Tight.{is_chosen}
+use Rattle.encodings.specs.Choosing.{is_chosen}
 use Rattle.fragment_file.proofs.ShortPayloads.{short_payload}
 use Rattle.fragment_file.proofs.writing_groups.encoded.Goals as goal
 

@@ -4,7 +4,7 @@ use Rattle.std.proofs.lemmas.List.{length-map, get_or-map}
 use Rattle.meaning.specs.declared.value.ColType.{ColType}
 use Rattle.meaning.specs.declared.value.ColType.TheVariants as of_type
 use Rattle.meaning.specs.declared.value.Value.TheVariants.{Null, Int, Text}
-use Rattle.encodings.specs.Vector.{AreCells, Vector, vector_of}
+use Rattle.encodings.specs.VectorBuf.{AreCells, Vector, vector_of}
 use Rattle.bit_packing.proofs.Ranges.{stored}
 use Rattle.encodings.proofs.ReadVectors.{int-at, null-at, text-at, text_room}
 use denote.Bor.{Bor}

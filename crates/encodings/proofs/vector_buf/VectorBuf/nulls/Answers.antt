@@ -2,7 +2,7 @@
 use Rattle.std.proofs.Common.{◌≡◌, ℕ, List, take, map, ap, ◌∙◌}
 use Rattle.meaning.specs.declared.value.ColType.{ColType}
 use Rattle.meaning.specs.Order.{is_null}
-use Rattle.encodings.specs.Vector.{AreCells, Vector, vector_of}
+use Rattle.encodings.specs.VectorBuf.{AreCells, Vector, vector_of}
 use Rattle.encodings.proofs.ReadVectors.{nulls-of}
 use denote.Bor.{Bor}
 use Rattle.encodings.proofs.vector_buf.VectorBuf.nulls.Goals as goal

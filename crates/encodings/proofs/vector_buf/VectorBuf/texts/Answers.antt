@@ -4,7 +4,7 @@ use Rattle.std.proofs.lemmas.List.{take-map}
 use Rattle.meaning.specs.declared.value.ColType.{ColType}
 use Rattle.meaning.specs.declared.value.ColType.TheVariants as of_type
 use Rattle.meaning.specs.Order.{bytes}
-use Rattle.encodings.specs.Vector.{AreCells, Vector, vector_of}
+use Rattle.encodings.specs.VectorBuf.{AreCells, Vector, vector_of}
 use Rattle.encodings.proofs.ReadVectors.{texts-of}
 use denote.Bor.{Bor}
 use Rattle.encodings.proofs.vector_buf.VectorBuf.texts.Goals as goal

@@ -1,0 +1,9 @@
+-- Loop invariants of `put_integers_at` (`plain::encode`).
+use Rattle.std.proofs.Common.{◌≡◌, ◌++◌, take}
+use Rattle.std.specs.List.{flat_map}
+use Rattle.encodings.specs.Numbers.{integer_bytes}
+use Rattle.encodings.specs.Plain.{ints_at}
+use Rattle.encodings.proofs.plain.encode.put_integers_at.Given as goal
+
+abbrev pub invariant-loop-place : goal.invariant-loop-place
+invariant-loop-place l = l.out.items ≡ l.initial.out.items ++ flat_map integer_bytes (ints_at l.ints (take l.place-index l.places))

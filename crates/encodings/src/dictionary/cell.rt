@@ -1,0 +1,51 @@
+//! What stands in a row's cell while a dictionary is made of it: an integer, or the bytes of a text.
+ghost use Rattle.std.specs.Prelude.{◌≡◌, ◌<◌};
+ghost use Rattle.meaning.specs.declared.value.Value.{Value};
+ghost use Rattle.meaning.specs.declared.value.Value.TheVariants.{Int, Text};
+ghost use Rattle.meaning.specs.Order.{value_cmp, same_value};
+ghost use Rattle.encodings.specs.Cell.{int_order, int_same, text_order, text_same};
+
+use crate::dictionary::homes::{home_of_int, home_of_text};
+
+/// Where a cell is looked for first.
+pub trait Home {
+    fn home(&self) -> usize
+        ensures { result < 32768 };
+}
+
+/// A cell with the order of its value.
+pub trait Cell: Copy + Drop + Home + Ord {
+    ghost value: { Self → Value };
+
+    ghost order: { (a b : Self) → Self.cmp a b ≡ value_cmp (value a) (value b) };
+
+    ghost same: { (a b : Self) → Self.eq a b ≡ same_value (value a) (value b) };
+}
+
+impl Home for i64 {
+    fn home(&self) -> usize {
+        home_of_int(*self)
+    }
+}
+
+impl Cell for i64 {
+    ghost value = { Int };
+
+    ghost order = { int_order };
+
+    ghost same = { int_same };
+}
+
+impl Home for &[u8] {
+    fn home(&self) -> usize {
+        home_of_text(self)
+    }
+}
+
+impl Cell for &[u8] {
+    ghost value = { λ text. Text text.now };
+
+    ghost order = { λ a b. text_order a.now b.now };
+
+    ghost same = { λ a b. text_same a.now b.now };
+}

@@ -1,12 +1,17 @@
 -- Packed numbers, step by step.
-use Rattle.std.proofs.Common.{◌≡◌, ℕ, zero, suc, ◌+◌, ◌*◌, ◌/◌, ◌%◌, ◌^◌, ◌<◌, ◌≤◌, Bool, true, false, List, [], ◌∷◌, ◌++◌, length, take, drop, get_or, map, refl, sym, ap, ◌∙◌, arith, append_assoc, length-append, lit<}
+use Rattle.std.proofs.Common.{◌≡◌, ℕ, zero, suc, ◌+◌, ◌-◌, ◌*◌, ◌/◌, ◌%◌, ◌^◌, ◌<◌, ◌≤◌, Bool, true, false, List, [], ◌∷◌, ◌++◌, length, take, drop, get_or, map, refl, sym, ap, ◌∙◌, arith, append_assoc, length-append, length-drop, lit<}
+use Rattle.std.specs.Prelude.{nat_lt}
+use Rattle.std.specs.List.{list_all}
+use Rattle.std.proofs.Math.Seq.{take-add}
+use Rattle.std.proofs.lemmas.Bool.Decides.{nat_tests}
+use Rattle.meaning.proofs.Tests.{all_first, all_rest, all_map, both}
 use Rattle.std.specs.Int.{w64, to_le_bytes, sum_through, byte_worth}
 use Rattle.std.specs.Prelude.{slice_index}
-use Rattle.std.proofs.lemmas.List.{take_all, drop_at, length-take-le, take_more, length-map, map-append, append-nil}
+use Rattle.std.proofs.lemmas.List.{take_all, drop_all, drop_at, drop_more, length-take-le, length-map, map-append, append-nil}
 use Rattle.std.proofs.Math.Seq.{drop-length}
 use mir.Val.{bool_byte}
 use Rattle.std.proofs.lemmas.Nat.{mul-le, pow-add, shl_whole, shr_below, from_le_bytes-to_le_bytes_8}
-use Rattle.std.proofs.Math.Nat.{pow-le-pow_right}
+use Rattle.std.proofs.Math.Nat.{pow-le-pow_right, div-mul-le_self}
 use Rattle.bit_packing.specs.Bytes.{number_of}
 use Rattle.bit_packing.specs.Packing.{Packs, ArePacked, packed, bit_of}
 
@@ -128,28 +133,44 @@ packs_finished before out new word h c k n m p l f w e =
       long = rw (rest, length-append behind last, long) (omega (arith, p.long));
     }
 
-push_step : (m a b p q r n : ℕ) → a ≡ b + q * n → r ≡ p * q → m + p * a ≡ (m + p * b) + r * n
-push_step m a b p q r n e f = rw (e, f) (omega arith)
+append_packed_step : (m a b p q r n : ℕ) → a ≡ b + q * n → r ≡ p * q → m + p * a ≡ (m + p * b) + r * n
+append_packed_step m a b p q r n e f = rw (e, f) (omega arith)
 
-pub packed-push : (w : ℕ) (ns : List ℕ) (n : ℕ) → packed w (ns ++ n ∷ []) ≡ packed w ns + 2 ^ (w * length ns) * n
-packed-push w [] n = let e : w * 0 ≡ 0 = omega arith in rw e (omega arith)
-packed-push w (m ∷ ns) n =
+-- the numbers of two parts
+pub packed-append : (w : ℕ) (ns ms : List ℕ) → packed w (ns ++ ms) ≡ packed w ns + 2 ^ (w * length ns) * packed w ms
+packed-append w [] ms = let e : w * 0 ≡ 0 = omega arith in rw e (omega arith)
+packed-append w (n ∷ ns) ms =
     let e : w * suc (length ns) ≡ w + w * length ns = omega arith in
-    push_step m (packed w (ns ++ n ∷ [])) (packed w ns) (2 ^ w) (2 ^ (w * length ns)) (2 ^ (w * suc (length ns))) n (packed-push w ns n) (ap (λ (j : ℕ). 2 ^ j) e ∙ pow-add 2 w (w * length ns))
+    append_packed_step n (packed w (ns ++ ms)) (packed w ns) (2 ^ w) (2 ^ (w * length ns)) (2 ^ (w * suc (length ns))) (packed w ms) (packed-append w ns ms) (ap (λ (j : ℕ). 2 ^ j) e ∙ pow-add 2 w (w * length ns))
+
+turned : (a b p q : ℕ) → a + b * p < q → a + p * b < q
+turned a b p q h = omega arith
+
+-- numbers of w bits are together as many bits as they have
+pub packed-below : (w : ℕ) (ns : List ℕ) → list_all (λ n. nat_lt n (2 ^ w)) ns ≡ true → packed w ns < 2 ^ (w * length ns)
+packed-below w [] h = let e : w * 0 ≡ 0 = omega arith in rw e (lit< tt)
+packed-below w (n ∷ ns) h =
+    let e : w * suc (length ns) ≡ w + w * length ns = omega arith in
+    let below : n < 2 ^ w = let t = all_first (λ (m : ℕ). nat_lt m (2 ^ w)) n ns h in grind (arith, nat_tests) in
+    let rest : packed w ns < 2 ^ (w * length ns) = packed-below w ns (all_rest (λ (m : ℕ). nat_lt m (2 ^ w)) n ns h) in
+    let all : n + packed w ns * 2 ^ w < 2 ^ (w + w * length ns) = low_bound n (packed w ns) (2 ^ w) (2 ^ (w * length ns)) (2 ^ (w + w * length ns)) below (mul-le (packed w ns + 1) (2 ^ w) (2 ^ (w * length ns)) (2 ^ w) (omega arith) (omega arith)) (pow-add 2 w (w * length ns)) in
+    rw e (turned n (packed w ns) (2 ^ w) (2 ^ (w + w * length ns)) all)
 
 module _ {X : Type 0} (f : X → ℕ) (w : ℕ) where
-  packed_more : (xs : List X) (i : ℕ) (x : X) → i < length xs → get_or xs i x ≡ x → packed w (map f (take (i + 1) xs)) ≡ packed w (map f (take i xs)) + 2 ^ (w * i) * f x
-  packed_more xs i x h e =
-      let more : take (i + 1) xs ≡ take i xs ++ x ∷ [] = take_more xs i x h ∙ ap (λ y. take i xs ++ y ∷ []) e in
+  packed_more : (xs group : List X) (i n : ℕ) → i + n ≤ length xs → group ≡ take n (drop i xs) → packed w (map f (take (i + n) xs)) ≡ packed w (map f (take i xs)) + 2 ^ (w * i) * packed w (map f group)
+  packed_more xs group i n h e =
+      let more : take (i + n) xs ≡ take i xs ++ group = take-add i n xs ∙ ap (λ ys. take i xs ++ ys) (sym e) in
       let long : length (map f (take i xs)) ≡ i = length-map (take i xs) f ∙ length-take-le i xs (omega arith) in
-      ap (λ ys. packed w (map f ys)) more ∙ (ap (packed w) (map-append f (take i xs) (x ∷ [])) ∙ (packed-push w (map f (take i xs)) (f x) ∙ ap (λ (j : ℕ). packed w (map f (take i xs)) + 2 ^ (w * j) * f x) long))
+      ap (λ ys. packed w (map f ys)) more ∙ (ap (packed w) (map-append f (take i xs) group) ∙ (packed-append w (map f (take i xs)) (map f group) ∙ ap (λ (j : ℕ). packed w (map f (take i xs)) + 2 ^ (w * j) * packed w (map f group)) long))
 
-  -- a number more
-  pub packs_more : (before out : List ℕ) (h c : ℕ) (xs : List X) (i : ℕ) (x : X) (number : ℕ) → i < length xs → get_or xs i x ≡ x → number ≡ f x → Packs before out h c (w * i + w) (packed w (map f (take i xs)) + 2 ^ (w * i) * number) → Packs before out h c (w * (i + 1)) (packed w (map f (take (i + 1) xs)))
-  packs_more before out h c xs i x number l e n p =
-      let bits : w * i + w ≡ w * (i + 1) = omega arith in
-      let sum : packed w (map f (take i xs)) + 2 ^ (w * i) * number ≡ packed w (map f (take (i + 1) xs)) = ap (λ (j : ℕ). packed w (map f (take i xs)) + 2 ^ (w * i) * j) n ∙ sym (packed_more xs i x l e) in
-      rw (← bits, ← sum) p
+  -- a group of numbers more
+  pub packs_more : (before out : List ℕ) (h c : ℕ) (xs group : List X) (i at n m j bits : ℕ) → i + n ≤ length xs → j ≡ i + n → at ≡ i → m ≡ n → group ≡ take m (drop at xs) → bits ≡ w * length group → Packs before out h c (w * i + bits) (packed w (map f (take i xs)) + 2 ^ (w * i) * packed w (map f group)) → Packs before out h c (w * j) (packed w (map f (take j xs)))
+  packs_more before out h c xs group i at n m j bits l k a r e b p =
+      let same : group ≡ take n (drop i xs) = e ∙ (ap (λ (q : ℕ). take q (drop at xs)) r ∙ ap (λ (q : ℕ). take n (drop q xs)) a) in
+      let long : length group ≡ n = ap length same ∙ length-take-le n (drop i xs) (rw (length-drop i xs) (omega arith)) in
+      let all : w * i + bits ≡ w * j = rw (b, long, k) (omega arith) in
+      let sum : packed w (map f (take i xs)) + 2 ^ (w * i) * packed w (map f group) ≡ packed w (map f (take j xs)) = sym (packed_more xs group i n l same) ∙ ap (λ (q : ℕ). packed w (map f (take q xs))) (sym k) in
+      rw (← all, ← sum) p
 
   -- all numbers
   pub packed_all : (before out : List ℕ) (xs : List X) (i bits : ℕ) → length xs ≤ i → i ≤ length xs → bits ≡ w * length xs → ArePacked before out (w * i) (packed w (map f (take i xs))) → ArePacked before out bits (packed w (map f xs))
@@ -157,6 +178,13 @@ module _ {X : Type 0} (f : X → ℕ) (w : ℕ) where
       let e : i ≡ length xs = omega arith in
       let all : packed w (map f (take i xs)) ≡ packed w (map f xs) = ap (λ ys. packed w (map f ys)) (take_all i xs l) in
       rw (b, ← all, ← e) p
+
+  -- a number below those of the places behind it
+  pub packed_below : (xs : List X) (i at j number value : ℕ) (d : X) → i < length xs → at ≡ i → j ≡ i + 1 → number ≡ packed w (map f (drop j xs)) → value ≡ f (get_or xs at d) → value + 2 ^ w * number ≡ packed w (map f (drop i xs))
+  packed_below xs i at j number value d l a k e v =
+      let behind : number ≡ packed w (map f (drop (i + 1) xs)) = e ∙ ap (λ (m : ℕ). packed w (map f (drop m xs))) k in
+      let own : value ≡ f (get_or xs i d) = v ∙ ap (λ (m : ℕ). f (get_or xs m d)) a in
+      rw (own, behind) (sym (ap (λ ys. packed w (map f ys)) (drop_more xs i d l)))
 
 pub nothing_packed : (before : List ℕ) (w : ℕ) → Packs before before 0 0 (w * 0) 0
 nothing_packed before w =
@@ -169,6 +197,91 @@ nothing_packed before w =
       low = lit< tt;
     }
 
+bits_below : (bs : List Bool) → list_all (λ n. nat_lt n (2 ^ 1)) (map bit_of bs) ≡ true
+bits_below [] = refl
+bits_below (true ∷ bs) = bits_below bs
+bits_below (false ∷ bs) = bits_below bs
+
 pub bit_is : (b : Bool) → bool_byte b ≡ bit_of b
 bit_is true = refl
 bit_is false = refl
+
+-- no mark is packed yet
+pub no_marks : (bs : List Bool) → 0 ≡ packed 1 (map bit_of (drop (length bs - 0) bs))
+no_marks bs = sym (ap (λ xs. packed 1 (map bit_of xs)) (drop_all (length bs - 0) bs (omega arith)))
+
+-- one mark more, below the others
+pub marks_more : (bs : List Bool) (k number bit : ℕ) → k < length bs → number ≡ packed 1 (map bit_of (drop (length bs - k) bs)) → bit ≡ bool_byte (get_or bs (length bs - 1 - k) false) → bit + 2 ^ 1 * number ≡ packed 1 (map bit_of (drop (length bs - (k + 1)) bs))
+marks_more bs k number bit l e b = packed_below bit_of 1 bs (length bs - (k + 1)) (length bs - 1 - k) (length bs - k) number bit false (omega arith) (omega arith) (omega arith) e (b ∙ bit_is _)
+
+-- so many marks have 64 bits
+pub marks_below : (bs : List Bool) (i number : ℕ) → length bs ≤ 64 → number ≡ packed 1 (map bit_of (drop i bs)) → number < 2 ^ 64
+marks_below bs i number l e =
+    let low = packed-below 1 (map bit_of (drop i bs)) (bits_below (drop i bs)) in
+    let long : length (map bit_of (drop i bs)) ≤ 64 = rw (length-map (drop i bs) bit_of, length-drop i bs) (omega arith) in
+    let few : 1 * length (map bit_of (drop i bs)) ≤ 64 = omega arith in
+    let most : 2 ^ (1 * length (map bit_of (drop i bs))) ≤ 2 ^ 64 = pow-le-pow_right (lit< tt) few in
+    rw e (omega arith)
+
+pub marks_low : (bs : List Bool) (number : ℕ) → number ≡ packed 1 (map bit_of bs) → number < 2 ^ length bs
+marks_low bs number e =
+    let low = packed-below 1 (map bit_of bs) (bits_below bs) in
+    let long : 1 * length (map bit_of bs) ≡ length bs = rw (length-map bs bit_of) (omega arith) in
+    let power : 2 ^ (1 * length (map bit_of bs)) ≡ 2 ^ length bs = ap (λ (j : ℕ). 2 ^ j) long in
+    rw e (omega arith)
+
+-- ---- offsets of some integers
+
+pub all_behind : {X : Type 0} (p : X → Bool) (i : ℕ) (xs : List X) → list_all p xs ≡ true → list_all p (drop i xs) ≡ true
+all_behind p zero xs h = h
+all_behind p (suc i) [] h = refl
+all_behind p (suc i) (x ∷ xs) h = all_behind p i xs (all_rest p x xs h)
+
+all_before : {X : Type 0} (p : X → Bool) (i : ℕ) (xs : List X) → list_all p xs ≡ true → list_all p (take i xs) ≡ true
+all_before p zero xs h = refl
+all_before p (suc i) [] h = refl
+all_before p (suc i) (x ∷ xs) h = both _ _ (all_first p x xs h) (all_before p i xs (all_rest p x xs h))
+
+-- what holds of all holds of a part
+pub all_within : {X : Type 0} (p : X → Bool) (m i : ℕ) (xs : List X) → list_all p xs ≡ true → list_all p (take m (drop i xs)) ≡ true
+all_within p m i xs h = all_before p m (drop i xs) (all_behind p i xs h)
+
+module _ {X : Type 0} (f : X → ℕ) (w : ℕ) where
+  -- numbers of w bits each have together as many bits as there are
+  pub numbers_low : (xs : List X) (number : ℕ) → list_all (λ x. nat_lt (f x) (2 ^ w)) xs ≡ true → number ≡ packed w (map f xs) → number < 2 ^ (w * length xs)
+  numbers_low xs number h e =
+      let low = packed-below w (map f xs) (all_map (λ (n : ℕ). nat_lt n (2 ^ w)) f xs h) in
+      let power : 2 ^ (w * length (map f xs)) ≡ 2 ^ (w * length xs) = ap (λ (j : ℕ). 2 ^ (w * j)) (length-map xs f) in
+      rw e (omega arith)
+
+  few_left : (a b c : ℕ) → a ≤ b → c * b ≤ 64 → c * a ≤ 64
+  few_left a b c l h = omega (arith, mul-le c a c b (omega arith) l)
+
+  pub numbers_below : (xs : List X) (i number : ℕ) → w * length xs ≤ 64 → list_all (λ x. nat_lt (f x) (2 ^ w)) xs ≡ true → number ≡ packed w (map f (drop i xs)) → number < 2 ^ 64
+  numbers_below xs i number l h e =
+      let low = numbers_low (drop i xs) number (all_behind (λ x. nat_lt (f x) (2 ^ w)) i xs h) e in
+      let shorter : length (drop i xs) ≤ length xs = rw (length-drop i xs) (omega arith) in
+      let few : w * length (drop i xs) ≤ 64 = few_left (length (drop i xs)) (length xs) w shorter l in
+      let most : 2 ^ (w * length (drop i xs)) ≤ 2 ^ 64 = pow-le-pow_right (lit< tt) few in
+      omega arith
+
+  -- one number more, below the others
+  pub numbers_more : (xs : List X) (k number value : ℕ) (d : X) → k < length xs → number ≡ packed w (map f (drop (length xs - k) xs)) → value ≡ f (get_or xs (length xs - 1 - k) d) → value + 2 ^ w * number ≡ packed w (map f (drop (length xs - (k + 1)) xs))
+  numbers_more xs k number value d l e v = packed_below f w xs (length xs - (k + 1)) (length xs - 1 - k) (length xs - k) number value d (omega arith) (omega arith) (omega arith) e v
+
+  pub no_numbers : (xs : List X) → 0 ≡ packed w (map f (drop (length xs - 0) xs))
+  no_numbers xs = sym (ap (λ ys. packed w (map f ys)) (drop_all (length xs - 0) xs (omega arith)))
+
+-- ---- groups of n from the front
+
+pub groups_within : (n k len : ℕ) → k < len / n → n * k + n ≤ len
+groups_within n k len h =
+    let all : (k + 1) * n ≤ len / n * n = mul-le (k + 1) n (len / n) n (omega arith) (omega arith) in
+    let most : len / n * n ≤ len = div-mul-le_self len n in
+    omega arith
+
+pub groups_end : (n k q : ℕ) → k ≡ q → q * n ≡ n * k
+groups_end n k q e = rw e (omega arith)
+
+pub groups_fit : (n k len : ℕ) → k ≡ len / n → n * k ≤ len
+groups_fit n k len e = rw e (let most : len / n * n ≤ len = div-mul-le_self len n in omega arith)

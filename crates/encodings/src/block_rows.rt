@@ -84,33 +84,37 @@ fn read_cells<'a>(part: Rows<'a>, ints: &mut [i64], texts: &mut [&'a [u8]])
     }
 }
 
+/// The bytes of a block, and what is known of it from elsewhere.
+#[derive(Clone, Copy)]
+pub struct Parts<'a> {
+    pub kind: Kind,
+    pub col_type: ColType,
+    pub nullable: bool,
+    pub rows: usize,
+    pub payload: &'a [u8],
+}
+
 /// The values of a block from row `from` on, as many as there is room for. What was in the buffer is gone.
-pub fn read_rows<'a>(
-    kind: Kind,
-    col_type: ColType,
-    nullable: bool,
-    rows: usize,
-    payload: &'a [u8],
-    from: usize,
-    out: &mut VectorBuf<'a>,
-)
-    requires block { is_block (record { kind = kind; col_type = col_type; nullable = nullable; rows = rows; payload = payload.now }) ≡ true }
-    requires typed { out.old.col_type ≡ col_type }
+pub fn read_rows<'a>(block: Parts<'a>, from: usize, out: &mut VectorBuf<'a>)
+    requires block { is_block (record { kind = block.kind; col_type = block.col_type; nullable = block.nullable; rows = block.rows; payload = block.payload.now }) ≡ true }
+    requires typed { out.old.col_type ≡ block.col_type }
     ensures { out.new ≡ record {
       room = out.old.room;
-      col_type = col_type;
+      col_type = block.entry.col_type;
       values = take out.old.room (drop from
-          (values_of (record { kind = kind; col_type = col_type; nullable = nullable; rows = rows; payload = payload.now })));
+          (values_of (record { kind = block.entry.kind; col_type = block.entry.col_type; nullable = block.entry.nullable; rows = block.entry.rows; payload = block.entry.payload.now })));
     } }
 {
-    let count = out.nulls.len().min(rows.saturating_sub(from));
-    let (mask, body) = payload.split_at(mask_length(nullable, rows));
-    let start = from.min(rows);
-    read_nulls(nullable, mask, start, count, out.nulls.as_mut_slice());
+    let count = out.nulls.len().min(block.rows.saturating_sub(from));
+    let (mask, body) = block
+        .payload
+        .split_at(mask_length(block.nullable, block.rows));
+    let start = from.min(block.rows);
+    read_nulls(block.nullable, mask, start, count, out.nulls.as_mut_slice());
     let part = Rows {
-        kind,
-        col_type,
-        rows,
+        kind: block.kind,
+        col_type: block.col_type,
+        rows: block.rows,
         body,
         from: start,
         count,

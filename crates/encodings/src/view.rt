@@ -7,7 +7,7 @@ ghost use Rattle.encodings.specs.DictionaryView.{dictionary_in, coded_cells};
 ghost use Rattle.encodings.specs.RunsView.{runs_in, run_cells};
 ghost use Rattle.encodings.specs.Block.{StandsFor};
 
-use crate::block_rows::read_rows;
+use crate::block_rows::{Parts, read_rows};
 use crate::cells::{are_nulls_blank, cell_at, is_body, mask_length};
 use crate::dictionary::view::{DictionaryView, lend_dictionary};
 use crate::kind::Kind;
@@ -156,15 +156,14 @@ impl<'a> BlockView<'a> {
         requires { out.old.col_type ≡ self.now.col_type }
         ensures { out.new ≡ record { room = out.old.room; col_type = self.now.col_type; values = take out.old.room (drop from (values_of self.now)) } }
     {
-        read_rows(
-            self.kind,
-            self.col_type,
-            self.nullable,
-            self.rows,
-            self.payload,
-            from,
-            out,
-        );
+        let block = Parts {
+            kind: self.kind,
+            col_type: self.col_type,
+            nullable: self.nullable,
+            rows: self.rows,
+            payload: self.payload,
+        };
+        read_rows(block, from, out);
     }
 
     fn mask(&self) -> &'a [u8]

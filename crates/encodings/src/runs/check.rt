@@ -3,7 +3,6 @@ ghost use Rattle.std.specs.Prelude.{◌≡◌, ◌*◌, ◌/◌, ◌<◌, ◌≤
 ghost use Rattle.std.specs.List.{list_all, range_with_len};
 ghost use Rattle.meaning.specs.Limits.{row_group_rows};
 ghost use Rattle.encodings.specs.Runs.{are_runs, run_cells};
-ghost use Rattle.encodings.specs.Plain.{values_form, is_values_form};
 ghost use Rattle.encodings.specs.Block.{is_blank};
 ghost use Rattle.bit_packing.specs.Bytes.{shorts};
 ghost use Rattle.meaning.specs.declared.value.Value.TheVariants.{Null};
@@ -12,8 +11,7 @@ ghost use Rattle.bit_packing.specs.Bits.{bit_at, bytes_of_bits};
 use crate::cells::is_blank;
 use crate::numbers::leading_count;
 use crate::plain::check::is_values_form;
-use crate::plain::values::value_at;
-use crate::runs::view::{length_bytes, run_value_bytes};
+use crate::runs::view::{RunsView, lend_runs, length_bytes, run_value_bytes};
 use bit_packing::masks::are_bits_clear;
 use bit_packing::numbers::short_at;
 use meaning::value::ColType;
@@ -55,20 +53,17 @@ pub fn are_runs(col_type: ColType, rows: usize, body: &[u8]) -> bool
 
 /// Whether a run's value is blank, or none of its rows is NULL.
 fn is_run_blank_if_null(
-    col_type: ColType,
-    count: usize,
-    values: &[u8],
+    runs: &RunsView<'_>,
     run: usize,
     mask: &[u8],
     start: usize,
     end: usize,
 ) -> bool
-    requires form { is_values_form col_type count values.now ≡ true }
-    requires within { run < count }
+    requires within { run < length runs.now.values }
     requires covered { end ≤ 8 * length mask.now }
-    ensures { result ≡ (is_blank (get_or (values_form col_type count values.now) run Null) || list_all (λ j. not (bit_at mask.now j)) (range_with_len start (end - start))) }
+    ensures { result ≡ (is_blank (get_or runs.now.values run Null) || list_all (λ j. not (bit_at mask.now j)) (range_with_len start (end - start))) }
 {
-    if is_blank(value_at(col_type, count, values, run)) {
+    if is_blank(runs.value(run)) {
         return true;
     }
     are_bits_clear(mask, start, end)
@@ -81,13 +76,11 @@ pub fn are_null_runs_blank(col_type: ColType, rows: usize, mask: &[u8], body: &[
     requires covered { length mask.now ≡ bytes_of_bits rows }
     ensures { result ≡ list_all (λ p. not p.0 || is_blank p.1) (zip (map (bit_at mask.now) (range_with_len 0 rows)) (run_cells col_type body.now)) }
 {
-    let count = leading_count(body);
-    let lengths = length_bytes(body);
-    let values = run_value_bytes(body, count);
+    let runs = lend_runs(col_type, rows, body);
     let mut start = 0;
-    for run in 0..count {
-        let end = start + short_at(lengths, run) as usize;
-        if !is_run_blank_if_null(col_type, count, values, run, mask, start, end) {
+    for run in 0..runs.len() {
+        let end = start + runs.length(run) as usize;
+        if !is_run_blank_if_null(&runs, run, mask, start, end) {
             return false;
         }
         start = end;

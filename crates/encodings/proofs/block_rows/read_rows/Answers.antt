@@ -13,7 +13,7 @@ use denote.Bor.{Bor}
 
 pub invariant_of-out : goal.invariant_of-out
 invariant_of-out c =
-    let b : Block = record { kind = c.args.kind; col_type = c.args.col_type; nullable = c.args.nullable; rows = c.args.rows; payload = c.args.payload.now } in
+    let b : Block = record { kind = c.args.block.kind; col_type = c.args.block.col_type; nullable = c.args.block.nullable; rows = c.args.block.rows; payload = c.args.block.payload.now } in
     let now : Bor (List ℕ) → List ℕ = λ t. t.now in
     let n : ℕ = c.min-count.result in
     let k : ℕ = c.min-start.result in
@@ -27,36 +27,36 @@ invariant_of-out c =
     let ns : (with_items f.nulls nulls).items ≡ nulls = with_items_is f.nulls nulls nl in
     let is : (with_items f.ints ints).items ≡ ints = with_items_is f.ints ints il in
     let ts : map now (with_items f.texts c.read_cells.new.texts).items ≡ texts = ap (map now) (with_items_is f.texts c.read_cells.new.texts tl) in
-    let hn : n ≡ min f.nulls.len (c.args.rows - c.args.from)
+    let hn : n ≡ min f.nulls.len (c.args.block.rows - c.args.from)
     = c.min-count.ensures ∙ ap (λ (j : ℕ). min j c.saturating_sub.result) c.len.ensures ∙ ap (min f.nulls.len) c.saturating_sub.ensures in
-    let hk : k ≡ min c.args.from c.args.rows = c.min-start.ensures in
-    let mask : c.split_at.result.0.now ≡ mask_of b = c.split_at.ensures.front ∙ ap (λ (j : ℕ). take j c.args.payload.now) c.mask_length.ensures in
-    let body : c.split_at.result.1.now ≡ body_of b = c.split_at.ensures.back ∙ ap (λ (j : ℕ). drop j c.args.payload.now) c.mask_length.ensures in
+    let hk : k ≡ min c.args.from c.args.block.rows = c.min-start.ensures in
+    let mask : c.split_at.result.0.now ≡ mask_of b = c.split_at.ensures.front ∙ ap (λ (j : ℕ). take j c.args.block.payload.now) c.mask_length.ensures in
+    let body : c.split_at.result.1.now ≡ body_of b = c.split_at.ensures.back ∙ ap (λ (j : ℕ). drop j c.args.block.payload.now) c.mask_length.ensures in
     let e : take n nulls ≡ take n (drop k (nulls_of b))
     = c.read_nulls.ensures
-    ∙ ap (λ ms. if c.args.nullable then map (bit_at ms) (range_with_len k n) else replicate n false) mask
-    ∙ nulls_read c.args.nullable (mask_of b) k n c.args.rows (omega (arith, hn, hk)) in
-    let g : cells_in c.args.col_type (take n ints) (take n texts) ≡ take n (drop k (cells_of b))
-    = c.read_cells.ensures ∙ ap (λ ys. take n (drop k (body_cells c.args.kind c.args.col_type c.args.rows ys))) body in
+    ∙ ap (λ ms. if c.args.block.nullable then map (bit_at ms) (range_with_len k n) else replicate n false) mask
+    ∙ nulls_read c.args.block.nullable (mask_of b) k n c.args.block.rows (omega (arith, hn, hk)) in
+    let g : cells_in c.args.block.col_type (take n ints) (take n texts) ≡ take n (drop k (cells_of b))
+    = c.read_cells.ensures ∙ ap (λ ys. take n (drop k (body_cells c.args.block.kind c.args.block.col_type c.args.block.rows ys))) body in
     let nv : length f.nulls.items ≡ f.nulls.len = ap length (sym c.as_mut_slice.ensures.value) ∙ c.as_mut_slice.ensures.len in
     let iv : length f.ints.items ≡ f.ints.len = ap length (sym c.as_mut_slice-2.ensures.value) ∙ c.as_mut_slice-2.ensures.len in
     let tv : length f.texts.items ≡ f.texts.len = ap length (sym c.as_mut_slice-3.ensures.value) ∙ c.as_mut_slice-3.ensures.len in
     let tm : length (map now f.texts.items) ≡ length f.texts.items = length-map f.texts.items now in
     let tn : length texts ≡ length c.read_cells.new.texts = length-map c.read_cells.new.texts now in
-    let typed : f.col_type ≡ c.args.col_type = ap (λ v. v.col_type) c.out.view_is ∙ c.requires.typed in
-    let own : AreRoom c.args.col_type f.nulls.items f.ints.items (map now f.texts.items) =
+    let typed : f.col_type ≡ c.args.block.col_type = ap (λ v. v.col_type) c.out.view_is ∙ c.requires.typed in
+    let own : AreRoom c.args.block.col_type f.nulls.items f.ints.items (map now f.texts.items) =
     subst (λ t. AreRoom t f.nulls.items f.ints.items (map now f.texts.items)) typed c.out.invariant.room in
-    let ready : AreCells c.args.col_type n nulls ints texts
-    = cells_ready b c.args.col_type n k nulls ints texts c.requires.block e g
-    (room_kept c.args.col_type f.nulls.items nulls f.ints.items ints (map now f.texts.items) texts own (nl ∙ sym nv) (il ∙ sym iv) (tn ∙ (tl ∙ (sym tv ∙ sym tm)))) (omega (arith, hn, nl)) in
+    let ready : AreCells c.args.block.col_type n nulls ints texts
+    = cells_ready b c.args.block.col_type n k nulls ints texts c.requires.block e g
+    (room_kept c.args.block.col_type f.nulls.items nulls f.ints.items ints (map now f.texts.items) texts own (nl ∙ sym nv) (il ∙ sym iv) (tn ∙ (tl ∙ (sym tv ∙ sym tm)))) (omega (arith, hn, nl)) in
     subst (λ t. AreCells t n (with_items f.nulls nulls).items (with_items f.ints ints).items (map now (with_items f.texts c.read_cells.new.texts).items)) (sym typed)
-    (subst (λ cs. AreCells c.args.col_type n cs (with_items f.ints ints).items (map now (with_items f.texts c.read_cells.new.texts).items)) (sym ns)
-    (subst (λ cs. AreCells c.args.col_type n nulls cs (map now (with_items f.texts c.read_cells.new.texts).items)) (sym is)
-    (subst (AreCells c.args.col_type n nulls ints) (sym ts) ready)))
+    (subst (λ cs. AreCells c.args.block.col_type n cs (with_items f.ints ints).items (map now (with_items f.texts c.read_cells.new.texts).items)) (sym ns)
+    (subst (λ cs. AreCells c.args.block.col_type n nulls cs (map now (with_items f.texts c.read_cells.new.texts).items)) (sym is)
+    (subst (AreCells c.args.block.col_type n nulls ints) (sym ts) ready)))
 
 pub returns : goal.returns
 returns c =
-    let b : Block = record { kind = c.args.kind; col_type = c.args.col_type; nullable = c.args.nullable; rows = c.args.rows; payload = c.args.payload.now } in
+    let b : Block = record { kind = c.args.block.kind; col_type = c.args.block.col_type; nullable = c.args.block.nullable; rows = c.args.block.rows; payload = c.args.block.payload.now } in
     let now : Bor (List ℕ) → List ℕ = λ t. t.now in
     let n : ℕ = c.min-count.result in
     let k : ℕ = c.min-start.result in
@@ -70,24 +70,24 @@ returns c =
     let ns : (with_items f.nulls nulls).items ≡ nulls = with_items_is f.nulls nulls nl in
     let is : (with_items f.ints ints).items ≡ ints = with_items_is f.ints ints il in
     let ts : map now (with_items f.texts c.read_cells.new.texts).items ≡ texts = ap (map now) (with_items_is f.texts c.read_cells.new.texts tl) in
-    let hn : n ≡ min f.nulls.len (c.args.rows - c.args.from)
+    let hn : n ≡ min f.nulls.len (c.args.block.rows - c.args.from)
     = c.min-count.ensures ∙ ap (λ (j : ℕ). min j c.saturating_sub.result) c.len.ensures ∙ ap (min f.nulls.len) c.saturating_sub.ensures in
-    let hk : k ≡ min c.args.from c.args.rows = c.min-start.ensures in
-    let mask : c.split_at.result.0.now ≡ mask_of b = c.split_at.ensures.front ∙ ap (λ (j : ℕ). take j c.args.payload.now) c.mask_length.ensures in
-    let body : c.split_at.result.1.now ≡ body_of b = c.split_at.ensures.back ∙ ap (λ (j : ℕ). drop j c.args.payload.now) c.mask_length.ensures in
+    let hk : k ≡ min c.args.from c.args.block.rows = c.min-start.ensures in
+    let mask : c.split_at.result.0.now ≡ mask_of b = c.split_at.ensures.front ∙ ap (λ (j : ℕ). take j c.args.block.payload.now) c.mask_length.ensures in
+    let body : c.split_at.result.1.now ≡ body_of b = c.split_at.ensures.back ∙ ap (λ (j : ℕ). drop j c.args.block.payload.now) c.mask_length.ensures in
     let e : take n nulls ≡ take n (drop k (nulls_of b))
     = c.read_nulls.ensures
-    ∙ ap (λ ms. if c.args.nullable then map (bit_at ms) (range_with_len k n) else replicate n false) mask
-    ∙ nulls_read c.args.nullable (mask_of b) k n c.args.rows (omega (arith, hn, hk)) in
-    let g : cells_in c.args.col_type (take n ints) (take n texts) ≡ take n (drop k (cells_of b))
-    = c.read_cells.ensures ∙ ap (λ ys. take n (drop k (body_cells c.args.kind c.args.col_type c.args.rows ys))) body in
-    let typed : f.col_type ≡ c.args.col_type = ap (λ v. v.col_type) c.out.view_is ∙ c.requires.typed in
+    ∙ ap (λ ms. if c.args.block.nullable then map (bit_at ms) (range_with_len k n) else replicate n false) mask
+    ∙ nulls_read c.args.block.nullable (mask_of b) k n c.args.block.rows (omega (arith, hn, hk)) in
+    let g : cells_in c.args.block.col_type (take n ints) (take n texts) ≡ take n (drop k (cells_of b))
+    = c.read_cells.ensures ∙ ap (λ ys. take n (drop k (body_cells c.args.block.kind c.args.block.col_type c.args.block.rows ys))) body in
+    let typed : f.col_type ≡ c.args.block.col_type = ap (λ v. v.col_type) c.out.view_is ∙ c.requires.typed in
     let room : length f.nulls.items ≡ c.args.out.now.room = ap (λ v. v.room) c.out.view_is in
     let nv : length f.nulls.items ≡ f.nulls.len = ap length (sym c.as_mut_slice.ensures.value) ∙ c.as_mut_slice.ensures.len in
     let r : f.nulls.len ≡ c.args.out.now.room = sym nv ∙ room in
     ap (λ t. vector_of t n (with_items f.nulls nulls).items (with_items f.ints ints).items (map now (with_items f.texts c.read_cells.new.texts).items)) typed
-    ∙ ap (λ cs. vector_of c.args.col_type n cs (with_items f.ints ints).items (map now (with_items f.texts c.read_cells.new.texts).items)) ns
-    ∙ ap (λ cs. vector_of c.args.col_type n nulls cs (map now (with_items f.texts c.read_cells.new.texts).items)) is
-    ∙ ap (vector_of c.args.col_type n nulls ints) ts
-    ∙ vector_read b c.args.col_type c.args.out.now.room c.args.from n k nulls ints texts
-    (hn ∙ ap (λ (j : ℕ). min j (c.args.rows - c.args.from)) r) hk (nl ∙ r) e g
+    ∙ ap (λ cs. vector_of c.args.block.col_type n cs (with_items f.ints ints).items (map now (with_items f.texts c.read_cells.new.texts).items)) ns
+    ∙ ap (λ cs. vector_of c.args.block.col_type n nulls cs (map now (with_items f.texts c.read_cells.new.texts).items)) is
+    ∙ ap (vector_of c.args.block.col_type n nulls ints) ts
+    ∙ vector_read b c.args.block.col_type c.args.out.now.room c.args.from n k nulls ints texts
+    (hn ∙ ap (λ (j : ℕ). min j (c.args.block.rows - c.args.from)) r) hk (nl ∙ r) e g

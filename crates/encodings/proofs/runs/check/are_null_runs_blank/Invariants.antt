@@ -9,5 +9,5 @@ use Rattle.encodings.proofs.runs.check.are_null_runs_blank.Given as goal
 abbrev pub invariant-loop-run : goal.invariant-loop-run
 invariant-loop-run l = record {
   rows : l.start + sum (drop l.run (run_lengths l.body)) ≡ l.rows;
-  blank : list_all is_unmasked_or_blank (zip (map (bit_at l.mask) (range_with_len l.start (l.rows - l.start))) (repeated (drop l.run (zip (run_values l.col_type l.body) (run_lengths l.body))))) ≡ list_all is_unmasked_or_blank (zip (map (bit_at l.mask) (range_with_len 0 l.rows)) (run_cells l.col_type l.body));
+  blank : list_all is_unmasked_or_blank (zip (map (bit_at l.mask) (range_with_len l.start (l.rows - l.start))) (repeated (drop l.run (zip (run_values l.fn.col_type l.body) (run_lengths l.body))))) ≡ list_all is_unmasked_or_blank (zip (map (bit_at l.mask) (range_with_len 0 l.rows)) (run_cells l.fn.col_type l.body));
 }

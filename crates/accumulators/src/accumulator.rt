@@ -24,7 +24,8 @@ pub trait Accumulator {
 
     ghost held: { Self → Statistics };
 
-    /// Takes the selected values. On an error nothing changes. What keeps no value of its own takes no memory.
+    /// Takes the selected values. On an error nothing changes. What keeps no value of its own takes
+    /// no memory.
     fn update_batch(
         &mut self,
         alloc: Global,
@@ -35,16 +36,19 @@ pub trait Accumulator {
         requires spelled { All (λ v. is_spelled v ≡ true) (values_of lanes.now) }
         requires few { (held self.old).count + length selection.now.list ≤ most_entries }
         ensures kind { kind self.new ≡ kind self.old }
-        ensures ok { OnOk result (held self.new ≡ merge (held self.old) (state_of (kind self.old) (selected (values_of lanes.now) selection.now.list))) }
+        ensures ok { OnOk result
+            (held self.new ≡ merge (held self.old)
+            (state_of (kind self.old) (selected (values_of lanes.now) selection.now.list))) }
         ensures err { OnErr result (held self.new ≡ held self.old) }
         ensures roomy { has_one_size (kind self.old) ≡ true → IsOk result };
 
-    /// Takes what an aggregate of this kind keeps of these states. On an error nothing changes. What keeps no value of its
-    /// own takes no memory.
+    /// Takes what an aggregate of this kind keeps of these states. On an error nothing changes.
+    /// What keeps no value of its own takes no memory.
     fn merge_batch(&mut self, alloc: Global, states: &[State]) -> Result<(), AllocError>
         requires few { (held self.old).count + sum (map (λ s. s.count) states.now) ≤ most_entries }
         ensures kind { kind self.new ≡ kind self.old }
-        ensures ok { OnOk result (held self.new ≡ merge (held self.old) (together (kind self.old) states.now)) }
+        ensures ok { OnOk result
+            (held self.new ≡ merge (held self.old) (together (kind self.old) states.now)) }
         ensures err { OnErr result (held self.new ≡ held self.old) }
         ensures roomy { has_one_size (kind self.old) ≡ true → IsOk result };
 
@@ -59,7 +63,8 @@ pub trait Accumulator {
     /// A sum outside 64 bits, or out of memory.
     fn evaluate(&self, alloc: Global) -> Result<Value, AggFault>
         ensures ok { IfOk result (λ v. value (kind self.now) (held self.now) ≡ Ok v) }
-        ensures err { IfErr result (λ f. f ≡ SumOutOfRange → value (kind self.now) (held self.now) ≡ Err sum_out_of_range) };
+        ensures err { IfErr result (λ f. f ≡ SumOutOfRange
+            → value (kind self.now) (held self.now) ≡ Err sum_out_of_range) };
 
     ghost merges: { (x : Self) → StatesMerge (kind x) };
 }

@@ -1,5 +1,5 @@
 //! The states of one kind, by their places.
-ghost use Rattle.std.specs.Prelude.{◌≡◌, ◌<◌, ◌≤◌, ◌+◌, [], ◌∷◌, ◌++◌, length, map, zip, get_or, pos, true, All, IsOk, OnOk, OnErr, IfOk};
+ghost use Rattle.std.specs.Prelude.{◌≡◌, ◌<◌, ◌≤◌, ◌+◌, [], ◌∷◌, ◌++◌, length, map, zip, slice_index_or, pos, true, All, IsOk, OnOk, OnErr, IfOk};
 ghost use Rattle.meaning.specs.declared.plan.AggregateKind.TheVariants as kind;
 ghost use Rattle.meaning.specs.Aggregate.{kept_by, no_statistics};
 ghost use Rattle.meaning.specs.Order.{value_in};
@@ -36,8 +36,9 @@ pub enum Cells {
 #[inline(always)]
 fn add_to_count(cells: &mut [CountAcc], place: usize, value: ValueRef<'_>)
     requires place { place < length cells.old }
-    requires few { (get_or cells.old place no_statistics).count < most_entries }
-    ensures { cells.new ≡ merged_at cells.old place (state_of kind.Count (value_in value.entry ∷ [])) }
+    requires few { (slice_index_or cells.old place no_statistics).count < most_entries }
+    ensures { cells.new ≡ merged_at cells.old place
+        (state_of kind.Count (value_in value.entry ∷ [])) }
 {
     let cell = &mut cells[place];
     cell.add(value);
@@ -45,7 +46,8 @@ fn add_to_count(cells: &mut [CountAcc], place: usize, value: ValueRef<'_>)
 
 fn add_state_to_count(cells: &mut [CountAcc], place: usize, state: &State)
     requires place { place < length cells.old }
-    requires few { (get_or cells.old place no_statistics).count + state.now.count ≤ most_entries }
+    requires few { (slice_index_or cells.old place no_statistics).count + state.now.count
+        ≤ most_entries }
     ensures { cells.new ≡ merged_at cells.old place (kept_by kind.Count state.now) }
 {
     let cell = &mut cells[place];
@@ -55,7 +57,7 @@ fn add_state_to_count(cells: &mut [CountAcc], place: usize, state: &State)
 #[inline(always)]
 fn add_to_sum(cells: &mut [SumAcc], place: usize, value: ValueRef<'_>)
     requires place { place < length cells.old }
-    requires few { (get_or cells.old place no_statistics).count < most_entries }
+    requires few { (slice_index_or cells.old place no_statistics).count < most_entries }
     ensures { cells.new ≡ merged_at cells.old place (state_of kind.Sum (value_in value.entry ∷ [])) }
 {
     let cell = &mut cells[place];
@@ -66,8 +68,9 @@ fn add_to_sum(cells: &mut [SumAcc], place: usize, value: ValueRef<'_>)
 fn add_int_to_sum(cells: &mut [SumAcc], place: usize, ints: &[i64], k: usize)
     requires place { place < length cells.old }
     requires within { k < length ints.now }
-    requires few { (get_or cells.old place no_statistics).count < most_entries }
-    ensures { cells.new ≡ merged_at cells.old place (state_of kind.Sum (of_value.Int (get_or ints.now k (pos 0)) ∷ [])) }
+    requires few { (slice_index_or cells.old place no_statistics).count < most_entries }
+    ensures { cells.new ≡ merged_at cells.old place
+        (state_of kind.Sum (of_value.Int (slice_index_or ints.now k (pos 0)) ∷ [])) }
 {
     let cell = &mut cells[place];
     cell.add_int(ints, k);
@@ -78,7 +81,8 @@ fn add_ints_to_sums(cells: &mut [SumAcc], places: &[u32], ints: &[i64])
     requires places { length places.now ≡ length ints.now }
     requires within { All (λ place. place < length cells.old) places.now }
     requires few { All (λ s. s.count + length ints.now ≤ most_entries) cells.old }
-    ensures { cells.new ≡ with_entries kind.Sum cells.old (zip places.now (map of_value.Int ints.now)) }
+    ensures { cells.new ≡ with_entries kind.Sum cells.old
+        (zip places.now (map of_value.Int ints.now)) }
 {
     for k in 0..ints.len() {
         add_int_to_sum(cells, places[k] as usize, ints, k);
@@ -87,7 +91,8 @@ fn add_ints_to_sums(cells: &mut [SumAcc], places: &[u32], ints: &[i64])
 
 fn add_state_to_sum(cells: &mut [SumAcc], place: usize, state: &State)
     requires place { place < length cells.old }
-    requires few { (get_or cells.old place no_statistics).count + state.now.count ≤ most_entries }
+    requires few { (slice_index_or cells.old place no_statistics).count + state.now.count
+        ≤ most_entries }
     ensures { cells.new ≡ merged_at cells.old place (kept_by kind.Sum state.now) }
 {
     let cell = &mut cells[place];
@@ -101,9 +106,10 @@ fn add_to_min(
     value: ValueRef<'_>,
 ) -> Result<(), AllocError>
     requires place { place < length cells.old }
-    requires few { (get_or cells.old place no_statistics).count < most_entries }
+    requires few { (slice_index_or cells.old place no_statistics).count < most_entries }
     requires spelled { is_spelled (value_in value) ≡ true }
-    ensures ok { OnOk result (cells.new ≡ merged_at cells.old place (state_of kind.Min (value_in value.entry ∷ []))) }
+    ensures ok { OnOk result
+        (cells.new ≡ merged_at cells.old place (state_of kind.Min (value_in value.entry ∷ []))) }
     ensures err { OnErr result (cells.new ≡ cells.old) }
 {
     let cell = &mut cells[place];
@@ -117,7 +123,8 @@ fn add_state_to_min(
     state: &State,
 ) -> Result<(), AllocError>
     requires place { place < length cells.old }
-    requires few { (get_or cells.old place no_statistics).count + state.now.count ≤ most_entries }
+    requires few { (slice_index_or cells.old place no_statistics).count + state.now.count
+        ≤ most_entries }
     ensures ok { OnOk result (cells.new ≡ merged_at cells.old place (kept_by kind.Min state.now)) }
     ensures err { OnErr result (cells.new ≡ cells.old) }
 {
@@ -132,9 +139,10 @@ fn add_to_max(
     value: ValueRef<'_>,
 ) -> Result<(), AllocError>
     requires place { place < length cells.old }
-    requires few { (get_or cells.old place no_statistics).count < most_entries }
+    requires few { (slice_index_or cells.old place no_statistics).count < most_entries }
     requires spelled { is_spelled (value_in value) ≡ true }
-    ensures ok { OnOk result (cells.new ≡ merged_at cells.old place (state_of kind.Max (value_in value.entry ∷ []))) }
+    ensures ok { OnOk result
+        (cells.new ≡ merged_at cells.old place (state_of kind.Max (value_in value.entry ∷ []))) }
     ensures err { OnErr result (cells.new ≡ cells.old) }
 {
     let cell = &mut cells[place];
@@ -148,7 +156,8 @@ fn add_state_to_max(
     state: &State,
 ) -> Result<(), AllocError>
     requires place { place < length cells.old }
-    requires few { (get_or cells.old place no_statistics).count + state.now.count ≤ most_entries }
+    requires few { (slice_index_or cells.old place no_statistics).count + state.now.count
+        ≤ most_entries }
     ensures ok { OnOk result (cells.new ≡ merged_at cells.old place (kept_by kind.Max state.now)) }
     ensures err { OnErr result (cells.new ≡ cells.old) }
 {
@@ -167,8 +176,11 @@ fn update_count(
     requires place { place < length cells.old }
     requires lanes { length (values_of lanes.now) ≡ selection.now.below }
     requires spelled { All (λ v. is_spelled v ≡ true) (values_of lanes.now) }
-    requires few { (get_or cells.old place no_statistics).count + length selection.now.list ≤ most_entries }
-    ensures ok { OnOk result (cells.new ≡ merged_at cells.old place (state_of kind.Count (selected (values_of lanes.now) selection.now.list))) }
+    requires few { (slice_index_or cells.old place no_statistics).count + length selection.now.list
+        ≤ most_entries }
+    ensures ok { OnOk result
+        (cells.new ≡ merged_at cells.old place
+        (state_of kind.Count (selected (values_of lanes.now) selection.now.list))) }
     ensures roomy { IsOk result }
 {
     let cell = &mut cells[place];
@@ -185,8 +197,11 @@ fn update_sum(
     requires place { place < length cells.old }
     requires lanes { length (values_of lanes.now) ≡ selection.now.below }
     requires spelled { All (λ v. is_spelled v ≡ true) (values_of lanes.now) }
-    requires few { (get_or cells.old place no_statistics).count + length selection.now.list ≤ most_entries }
-    ensures ok { OnOk result (cells.new ≡ merged_at cells.old place (state_of kind.Sum (selected (values_of lanes.now) selection.now.list))) }
+    requires few { (slice_index_or cells.old place no_statistics).count + length selection.now.list
+        ≤ most_entries }
+    ensures ok { OnOk result
+        (cells.new ≡ merged_at cells.old place
+        (state_of kind.Sum (selected (values_of lanes.now) selection.now.list))) }
     ensures roomy { IsOk result }
 {
     let cell = &mut cells[place];
@@ -203,8 +218,11 @@ fn update_min(
     requires place { place < length cells.old }
     requires lanes { length (values_of lanes.now) ≡ selection.now.below }
     requires spelled { All (λ v. is_spelled v ≡ true) (values_of lanes.now) }
-    requires few { (get_or cells.old place no_statistics).count + length selection.now.list ≤ most_entries }
-    ensures ok { OnOk result (cells.new ≡ merged_at cells.old place (state_of kind.Min (selected (values_of lanes.now) selection.now.list))) }
+    requires few { (slice_index_or cells.old place no_statistics).count + length selection.now.list
+        ≤ most_entries }
+    ensures ok { OnOk result
+        (cells.new ≡ merged_at cells.old place
+        (state_of kind.Min (selected (values_of lanes.now) selection.now.list))) }
 {
     let cell = &mut cells[place];
     cell.update_batch(alloc, lanes, selection)
@@ -220,8 +238,11 @@ fn update_max(
     requires place { place < length cells.old }
     requires lanes { length (values_of lanes.now) ≡ selection.now.below }
     requires spelled { All (λ v. is_spelled v ≡ true) (values_of lanes.now) }
-    requires few { (get_or cells.old place no_statistics).count + length selection.now.list ≤ most_entries }
-    ensures ok { OnOk result (cells.new ≡ merged_at cells.old place (state_of kind.Max (selected (values_of lanes.now) selection.now.list))) }
+    requires few { (slice_index_or cells.old place no_statistics).count + length selection.now.list
+        ≤ most_entries }
+    ensures ok { OnOk result
+        (cells.new ≡ merged_at cells.old place
+        (state_of kind.Max (selected (values_of lanes.now) selection.now.list))) }
 {
     let cell = &mut cells[place];
     cell.update_batch(alloc, lanes, selection)
@@ -329,10 +350,13 @@ impl Cells {
         value: ValueRef<'_>,
     ) -> Result<(), AllocError>
         requires place { place < length (states_in self.old) }
-        requires few { (get_or (states_in self.old) place no_statistics).count < most_entries }
+        requires few { (slice_index_or (states_in self.old) place no_statistics).count
+            < most_entries }
         requires spelled { is_spelled (value_in value) ≡ true }
         ensures kind { kind_of_cells self.new ≡ kind_of_cells self.old }
-        ensures ok { OnOk result (states_in self.new ≡ merged_at (states_in self.old) place (state_of (kind_of_cells self.old) (value_in value.entry ∷ []))) }
+        ensures ok { OnOk result
+            (states_in self.new ≡ merged_at (states_in self.old) place
+            (state_of (kind_of_cells self.old) (value_in value.entry ∷ []))) }
         ensures err { OnErr result (states_in self.new ≡ states_in self.old) }
         ensures roomy { has_one_size (kind_of_cells self.old) ≡ true → IsOk result }
     {
@@ -369,10 +393,13 @@ impl Cells {
         requires place { place < length (states_in self.old) }
         requires lanes { length (values_of lanes.now) ≡ selection.now.below }
         requires spelled { All (λ v. is_spelled v ≡ true) (values_of lanes.now) }
-        requires few { (get_or (states_in self.old) place no_statistics).count + length selection.now.list ≤ most_entries }
+        requires few { (slice_index_or (states_in self.old) place no_statistics).count + length
+            selection.now.list ≤ most_entries }
         ensures kind { kind_of_cells self.new ≡ kind_of_cells self.old }
         ensures height { length (states_in self.new) ≡ length (states_in self.old) }
-        ensures ok { OnOk result (states_in self.new ≡ merged_at (states_in self.old) place (state_of (kind_of_cells self.old) (selected (values_of lanes.now) selection.now.list))) }
+        ensures ok { OnOk result
+            (states_in self.new ≡ merged_at (states_in self.old) place
+            (state_of (kind_of_cells self.old) (selected (values_of lanes.now) selection.now.list))) }
         ensures roomy { has_one_size (kind_of_cells self.old) ≡ true → IsOk result }
     {
         match self {
@@ -416,7 +443,9 @@ impl Cells {
         requires few { All (λ s. s.count + length ints.now ≤ most_entries) (states_in self.old) }
         ensures kind { kind_of_cells self.new ≡ kind_of_cells self.old }
         ensures height { length (states_in self.new) ≡ length (states_in self.old) }
-        ensures value { states_in self.new ≡ with_entries (kind_of_cells self.old) (states_in self.old) (zip places.now (map of_value.Int ints.now)) }
+        ensures value { states_in self.new
+            ≡ with_entries (kind_of_cells self.old) (states_in self.old)
+            (zip places.now (map of_value.Int ints.now)) }
     {
         match self {
             Cells::Sum(cells) => add_ints_to_sums(cells.as_mut_slice(), places, ints),
@@ -433,9 +462,12 @@ impl Cells {
         state: &State,
     ) -> Result<(), AllocError>
         requires place { place < length (states_in self.old) }
-        requires few { (get_or (states_in self.old) place no_statistics).count + state.now.count ≤ most_entries }
+        requires few { (slice_index_or (states_in self.old) place no_statistics).count +
+            state.now.count ≤ most_entries }
         ensures kind { kind_of_cells self.new ≡ kind_of_cells self.old }
-        ensures ok { OnOk result (states_in self.new ≡ merged_at (states_in self.old) place (kept_by (kind_of_cells self.old) state.now)) }
+        ensures ok { OnOk result
+            (states_in self.new ≡ merged_at (states_in self.old) place
+            (kept_by (kind_of_cells self.old) state.now)) }
         ensures err { OnErr result (states_in self.new ≡ states_in self.old) }
         ensures roomy { has_one_size (kind_of_cells self.old) ≡ true → IsOk result }
     {
@@ -464,7 +496,7 @@ impl Cells {
     /// The state at a place.
     pub fn state(&self, alloc: Global, place: usize) -> Result<State, AllocError>
         requires { place < length (states_in self.now) }
-        ensures { IfOk result (λ s. s ≡ get_or (states_in self.now) place no_statistics) }
+        ensures { IfOk result (λ s. s ≡ slice_index_or (states_in self.now) place no_statistics) }
     {
         match self {
             Cells::CountRows(cells) => cells[place].state(alloc),

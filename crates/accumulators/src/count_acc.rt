@@ -81,7 +81,8 @@ impl CountAcc {
         requires lanes { length (values_of lanes.now) ≡ selection.now.below }
         requires spelled { All (λ v. is_spelled v ≡ true) (values_of lanes.now) }
         requires few { self.old.count + length selection.now.list ≤ most_entries }
-        ensures { self.new ≡ merge self.old (state_of Count (selected (values_of lanes.now) selection.now.list)) }
+        ensures { self.new ≡ merge self.old
+            (state_of Count (selected (values_of lanes.now) selection.now.list)) }
     {
         for k in 0..selection.len() {
             self.add(selected_value(lanes, selection, k));

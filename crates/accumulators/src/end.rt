@@ -38,8 +38,12 @@ pub fn comes_first(end: End, value: ValueRef<'_>, other: ValueRef<'_>) -> bool
 
 /// Whether a value comes before the best so far, from this end. NULL is no value here.
 pub fn beats(end: End, value: ValueRef<'_>, best: ValueRef<'_>) -> bool
-    ensures yes { result ≡ true → lesser (cmp_from end) (entry (value_in best.entry)) (entry (value_in value.entry)) ≡ entry (value_in value.entry) }
-    ensures no { result ≡ false → lesser (cmp_from end) (entry (value_in best.entry)) (entry (value_in value.entry)) ≡ entry (value_in best.entry) }
+    ensures yes { result ≡ true
+        → lesser (cmp_from end) (entry (value_in best.entry)) (entry (value_in value.entry))
+        ≡ entry (value_in value.entry) }
+    ensures no { result ≡ false
+        → lesser (cmp_from end) (entry (value_in best.entry)) (entry (value_in value.entry))
+        ≡ entry (value_in best.entry) }
 {
     if is_null(value) {
         return false;

@@ -39,9 +39,12 @@ impl<'a> Found<'a> {
 
     /// One value.
     pub fn of_value(value: ValueRef<'a>) -> Found<'a>
-        ensures value { (end : End) → end_state end result.count (value_in result.best) ≡ state_of (kind_from end) (value_in value.entry ∷ []) }
+        ensures value { (end : End)
+            → end_state end result.count (value_in result.best)
+            ≡ state_of (kind_from end) (value_in value.entry ∷ []) }
         ensures one { result.count ≤ 1 }
-        ensures spelled { is_spelled (value_in value.entry) ≡ true → is_spelled (value_in result.best) ≡ true }
+        ensures spelled { is_spelled (value_in value.entry) ≡ true
+            → is_spelled (value_in result.best) ≡ true }
     {
         Found {
             count: u64::from(!is_null(value)),
@@ -51,7 +54,8 @@ impl<'a> Found<'a> {
 
     /// What a state keeps.
     pub fn of_state(end: End, state: &'a State) -> Found<'a>
-        ensures value { end_state end result.count (value_in result.best) ≡ kept_by (kind_from end) state.now }
+        ensures value { end_state end result.count (value_in result.best)
+            ≡ kept_by (kind_from end) state.now }
         ensures count { result.count ≡ state.now.count }
         ensures spelled { is_spelled (value_in result.best) ≡ true }
     {
@@ -70,9 +74,13 @@ impl<'a> Found<'a> {
     /// Both together.
     fn plus(self, end: End, other: Found<'a>) -> Found<'a>
         requires { self.count + other.count ≤ most_entries }
-        ensures value { end_state end result.count (value_in result.best) ≡ merge (end_state end self.entry.count (value_in self.entry.best)) (end_state end other.entry.count (value_in other.entry.best)) }
+        ensures value { end_state end result.count (value_in result.best)
+            ≡ merge (end_state end self.entry.count (value_in self.entry.best))
+            (end_state end other.entry.count (value_in other.entry.best)) }
         ensures count { result.count ≡ self.entry.count + other.entry.count }
-        ensures spelled { is_spelled (value_in self.entry.best) ≡ true → is_spelled (value_in other.entry.best) ≡ true → is_spelled (value_in result.best) ≡ true }
+        ensures spelled { is_spelled (value_in self.entry.best) ≡ true
+            → is_spelled (value_in other.entry.best) ≡ true
+            → is_spelled (value_in result.best) ≡ true }
     {
         let count = self.count + other.count;
         if beats(end, other.best, self.best) {
@@ -141,7 +149,8 @@ fn best_of(end: End, first: &i64, ints: &[i64]) -> i64
 /// Of integers.
 fn found_in_ints<'a>(end: End, ints: &[i64]) -> Found<'a>
     requires { length ints.now ≤ most_entries }
-    ensures value { end_state end result.count (value_in result.best) ≡ merge no_statistics (state_of (kind_from end) (map Int ints.now)) }
+    ensures value { end_state end result.count (value_in result.best)
+        ≡ merge no_statistics (state_of (kind_from end) (map Int ints.now)) }
     ensures few { result.count ≤ length ints.now }
     ensures spelled { is_spelled (value_in result.best) ≡ true }
 {
@@ -159,7 +168,9 @@ pub fn found_selected<'a>(end: End, lanes: &Vector<'a>, selection: &Selection) -
     requires lanes { length (values_of lanes.now) ≡ selection.now.below }
     requires spelled { All (λ v. is_spelled v ≡ true) (values_of lanes.now) }
     requires few { length selection.now.list ≤ most_entries }
-    ensures value { end_state end result.count (value_in result.best) ≡ merge no_statistics (state_of (kind_from end) (selected (values_of lanes.now) selection.now.list)) }
+    ensures value { end_state end result.count (value_in result.best)
+        ≡ merge no_statistics (state_of (kind_from end)
+        (selected (values_of lanes.now) selection.now.list)) }
     ensures few { result.count ≤ length selection.now.list }
     ensures spelled { is_spelled (value_in result.best) ≡ true }
 {
@@ -176,7 +187,8 @@ pub fn found_selected<'a>(end: End, lanes: &Vector<'a>, selection: &Selection) -
 /// Of what these states keep.
 pub fn found_in_states<'a>(end: End, states: &'a [State]) -> Found<'a>
     requires { sum (map (λ s. s.count) states.now) ≤ most_entries }
-    ensures value { end_state end result.count (value_in result.best) ≡ merge no_statistics (together (kind_from end) states.now) }
+    ensures value { end_state end result.count (value_in result.best)
+        ≡ merge no_statistics (together (kind_from end) states.now) }
     ensures few { result.count ≤ sum (map (λ s. s.count) states.now) }
     ensures spelled { is_spelled (value_in result.best) ≡ true }
 {
@@ -221,7 +233,9 @@ impl Extreme {
         requires few { self.old.count + found.count ≤ most_entries }
         requires is { IsExtreme self.old.count self.old.best }
         requires spelled { is_spelled (value_in found.best) ≡ true }
-        ensures ok { OnOk result (end_state end self.new.count self.new.best ≡ merge (end_state end self.old.count self.old.best) (end_state end found.entry.count (value_in found.entry.best))) }
+        ensures ok { OnOk result (end_state end self.new.count self.new.best
+            ≡ merge (end_state end self.old.count self.old.best)
+            (end_state end found.entry.count (value_in found.entry.best))) }
         ensures err { OnErr result (self.new ≡ self.old) }
         ensures is { IsExtreme self.new.count self.new.best }
     {

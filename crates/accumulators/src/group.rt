@@ -6,7 +6,8 @@ use meaning::sequence::Sequence;
 use meaning::value::Row;
 use std::marker::Model;
 
-/// A group: its key, how many rows it has, and the state of each aggregate. Contracts see the group as it is defined.
+/// A group: its key, how many rows it has, and the state of each aggregate. Contracts see the group
+/// as it is defined.
 #[derive(PartialEq, Eq, Drop)]
 pub struct Group {
     key: Row,

@@ -1,4 +1,5 @@
-//! Aggregates as running states: what is known of a list of entries, how it grows, and how it merges.
+//! Aggregates as running states: what is known of a list of entries, how it grows, and how it
+//! merges.
 #![tactic(auto)]
 
 mod accumulator;

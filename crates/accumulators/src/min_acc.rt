@@ -51,7 +51,8 @@ impl MinAcc {
     pub fn add(&mut self, alloc: Global, value: ValueRef<'_>) -> Result<(), AllocError>
         requires few { self.old.count < most_entries }
         requires spelled { is_spelled (value_in value) ≡ true }
-        ensures ok { OnOk result (self.new ≡ merge self.old (state_of Min (value_in value.entry ∷ []))) }
+        ensures ok { OnOk result
+            (self.new ≡ merge self.old (state_of Min (value_in value.entry ∷ []))) }
         ensures err { OnErr result (self.new ≡ self.old) }
     {
         self.found.add(alloc, End::Least, Found::of_value(value))

@@ -21,8 +21,8 @@ use meaning::value::{Value, ValueRef};
 use std::alloc::{AllocError, Global};
 use std::marker::Model;
 
-/// What is known of a list of values that are not NULL. What an aggregate does not keep is 0 or `None`. Contracts see the
-/// statistics.
+/// What is known of a list of values that are not NULL. What an aggregate does not keep is 0 or
+/// `None`. Contracts see the statistics.
 #[derive(PartialEq, Eq, Drop)]
 pub struct State {
     statistics: Statistics,
@@ -218,7 +218,8 @@ impl State {
     /// A sum outside 64 bits, or out of memory.
     pub fn evaluate(&self, alloc: Global, kind: AggregateKind) -> Result<Value, AggFault>
         ensures ok { IfOk result (λ v. value kind self.now ≡ Ok v) }
-        ensures err { IfErr result (λ f. f ≡ SumOutOfRange → value kind self.now ≡ Err sum_out_of_range) }
+        ensures err { IfErr result (λ f. f ≡ SumOutOfRange
+            → value kind self.now ≡ Err sum_out_of_range) }
     {
         match kind {
             AggregateKind::CountRows => Ok(count_value(self.statistics.count)),

@@ -1,5 +1,5 @@
 //! The states of one aggregate in all groups, by their places.
-ghost use Rattle.std.specs.Prelude.{◌≡◌, ◌<◌, ◌≤◌, ◌+◌, [], ◌∷◌, ◌++◌, length, map, sum, zip, get_or, true, All, IsOk, OnOk, OnErr, IfOk};
+ghost use Rattle.std.specs.Prelude.{◌≡◌, ◌<◌, ◌≤◌, ◌+◌, [], ◌∷◌, ◌++◌, length, map, sum, zip, slice_index_or, true, All, IsOk, OnOk, OnErr, IfOk};
 ghost use Rattle.meaning.specs.Aggregate.{kept_by, no_statistics};
 ghost use Rattle.accumulators.specs.Columns.{kind_of_cells, merged_at, of_states, states_in};
 ghost use Rattle.accumulators.specs.Entries.{state_of, with_entries, with_states};
@@ -29,10 +29,13 @@ fn update_each(
     requires within { All (λ place. place < length (states_in cells.old)) places.now }
     requires lanes { length (values_of lanes.now) ≡ selection.now.below }
     requires spelled { All (λ v. is_spelled v ≡ true) (values_of lanes.now) }
-    requires few { All (λ s. s.count + length selection.now.list ≤ most_entries) (states_in cells.old) }
+    requires few { All (λ s. s.count + length selection.now.list ≤ most_entries)
+        (states_in cells.old) }
     ensures kind { kind_of_cells cells.new ≡ kind_of_cells cells.old }
     ensures height { length (states_in cells.new) ≡ length (states_in cells.old) }
-    ensures ok { OnOk result (states_in cells.new ≡ with_entries (kind_of_cells cells.old) (states_in cells.old) (zip places.now (selected (values_of lanes.now) selection.now.list))) }
+    ensures ok { OnOk result
+        (states_in cells.new ≡ with_entries (kind_of_cells cells.old) (states_in cells.old)
+        (zip places.now (selected (values_of lanes.now) selection.now.list))) }
     ensures roomy { has_one_size (kind_of_cells cells.old) ≡ true → IsOk result }
 {
     for k in 0..selection.len() {
@@ -55,10 +58,13 @@ fn update_sums(
     requires within { All (λ place. place < length (states_in cells.old)) places.now }
     requires lanes { length (values_of lanes.now) ≡ selection.now.below }
     requires spelled { All (λ v. is_spelled v ≡ true) (values_of lanes.now) }
-    requires few { All (λ s. s.count + length selection.now.list ≤ most_entries) (states_in cells.old) }
+    requires few { All (λ s. s.count + length selection.now.list ≤ most_entries)
+        (states_in cells.old) }
     ensures kind { kind_of_cells cells.new ≡ kind_of_cells cells.old }
     ensures height { length (states_in cells.new) ≡ length (states_in cells.old) }
-    ensures ok { OnOk result (states_in cells.new ≡ with_entries (kind_of_cells cells.old) (states_in cells.old) (zip places.now (selected (values_of lanes.now) selection.now.list))) }
+    ensures ok { OnOk result
+        (states_in cells.new ≡ with_entries (kind_of_cells cells.old) (states_in cells.old)
+        (zip places.now (selected (values_of lanes.now) selection.now.list))) }
     ensures roomy { has_one_size (kind_of_cells cells.old) ≡ true → IsOk result }
 {
     let Some(ints) = plain_ints(lanes, selection) else {
@@ -83,10 +89,13 @@ fn update_one(
     requires within { All (λ place. place < length (states_in cells.old)) places.now }
     requires lanes { length (values_of lanes.now) ≡ selection.now.below }
     requires spelled { All (λ v. is_spelled v ≡ true) (values_of lanes.now) }
-    requires few { All (λ s. s.count + length selection.now.list ≤ most_entries) (states_in cells.old) }
+    requires few { All (λ s. s.count + length selection.now.list ≤ most_entries)
+        (states_in cells.old) }
     ensures kind { kind_of_cells cells.new ≡ kind_of_cells cells.old }
     ensures height { length (states_in cells.new) ≡ length (states_in cells.old) }
-    ensures ok { OnOk result (states_in cells.new ≡ with_entries (kind_of_cells cells.old) (states_in cells.old) (zip places.now (selected (values_of lanes.now) selection.now.list))) }
+    ensures ok { OnOk result
+        (states_in cells.new ≡ with_entries (kind_of_cells cells.old) (states_in cells.old)
+        (zip places.now (selected (values_of lanes.now) selection.now.list))) }
     ensures roomy { has_one_size (kind_of_cells cells.old) ≡ true → IsOk result }
 {
     cells.update_at(alloc, place as usize, lanes, selection)
@@ -101,10 +110,13 @@ fn merge_each(
 ) -> Result<(), AllocError>
     requires places { length places.now ≡ length states.now }
     requires within { All (λ place. place < length (states_in cells.old)) places.now }
-    requires few { All (λ s. s.count + sum (map (λ t. t.count) states.now) ≤ most_entries) (states_in cells.old) }
+    requires few { All (λ s. s.count + sum (map (λ t. t.count) states.now) ≤ most_entries)
+        (states_in cells.old) }
     ensures kind { kind_of_cells cells.new ≡ kind_of_cells cells.old }
     ensures height { length (states_in cells.new) ≡ length (states_in cells.old) }
-    ensures ok { OnOk result (states_in cells.new ≡ with_states (kind_of_cells cells.old) (states_in cells.old) (zip places.now states.now)) }
+    ensures ok { OnOk result
+        (states_in cells.new ≡ with_states (kind_of_cells cells.old) (states_in cells.old)
+        (zip places.now states.now)) }
     ensures roomy { has_one_size (kind_of_cells cells.old) ≡ true → IsOk result }
 {
     for k in 0..states.len() {
@@ -146,14 +158,16 @@ impl StateColumn {
 
     /// A group more, of no entry. On an error nothing changes.
     pub fn push(&mut self) -> Result<(), AllocError>
-        ensures ok { OnOk result (self.new ≡ of_states self.old (self.old.states ++ no_statistics ∷ [])) }
+        ensures ok { OnOk result
+            (self.new ≡ of_states self.old (self.old.states ++ no_statistics ∷ [])) }
         ensures err { OnErr result (self.new ≡ self.old) }
     {
         self.cells.push()
     }
 
-    /// Merges into each state that of the selected values at its place: the k-th selected value goes to the k-th place.
-    /// On an error the states are open. What keeps no value of its own takes no memory.
+    /// Merges into each state that of the selected values at its place: the k-th selected value
+    /// goes to the k-th place. On an error the states are open. What keeps no value of its own
+    /// takes no memory.
     pub fn update(
         &mut self,
         alloc: Global,
@@ -168,7 +182,10 @@ impl StateColumn {
         requires few { All (λ s. s.count + length selection.now.list ≤ most_entries) self.old.states }
         ensures kind { self.new.kind ≡ self.old.kind }
         ensures height { length self.new.states ≡ length self.old.states }
-        ensures ok { OnOk result (self.new ≡ of_states self.old (with_entries self.old.kind self.old.states (zip places.now (selected (values_of lanes.now) selection.now.list)))) }
+        ensures ok { OnOk result
+            (self.new ≡ of_states self.old
+            (with_entries self.old.kind self.old.states
+            (zip places.now (selected (values_of lanes.now) selection.now.list)))) }
         ensures roomy { has_one_size self.old.kind ≡ true → IsOk result }
     {
         if let Some(place) = one_place(places) {
@@ -180,8 +197,8 @@ impl StateColumn {
         update_each(&mut self.cells, alloc, places, lanes, selection)
     }
 
-    /// Merges into the state at a place that of all selected values. On an error the states are open. What keeps no value of
-    /// its own takes no memory.
+    /// Merges into the state at a place that of all selected values. On an error the states are
+    /// open. What keeps no value of its own takes no memory.
     pub fn update_at(
         &mut self,
         alloc: Global,
@@ -192,17 +209,21 @@ impl StateColumn {
         requires place { place < length self.old.states }
         requires lanes { length (values_of lanes.now) ≡ selection.now.below }
         requires spelled { All (λ v. is_spelled v ≡ true) (values_of lanes.now) }
-        requires few { (get_or self.old.states place no_statistics).count + length selection.now.list ≤ most_entries }
+        requires few { (slice_index_or self.old.states place no_statistics).count + length
+            selection.now.list ≤ most_entries }
         ensures kind { self.new.kind ≡ self.old.kind }
         ensures height { length self.new.states ≡ length self.old.states }
-        ensures ok { OnOk result (self.new ≡ of_states self.old (merged_at self.old.states place (state_of self.old.kind (selected (values_of lanes.now) selection.now.list)))) }
+        ensures ok { OnOk result
+            (self.new ≡ of_states self.old
+            (merged_at self.old.states place
+            (state_of self.old.kind (selected (values_of lanes.now) selection.now.list)))) }
         ensures roomy { has_one_size self.old.kind ≡ true → IsOk result }
     {
         self.cells.update_at(alloc, place, lanes, selection)
     }
 
-    /// Merges into each state those at its place. On an error the states are open. What keeps no value of its own takes no
-    /// memory.
+    /// Merges into each state those at its place. On an error the states are open. What keeps no
+    /// value of its own takes no memory.
     pub fn merge(
         &mut self,
         alloc: Global,
@@ -211,21 +232,28 @@ impl StateColumn {
     ) -> Result<(), AllocError>
         requires places { length places.now ≡ length states.now }
         requires within { All (λ place. place < length self.old.states) places.now }
-        requires few { All (λ s. s.count + sum (map (λ t. t.count) states.now) ≤ most_entries) self.old.states }
+        requires few { All (λ s. s.count + sum (map (λ t. t.count) states.now) ≤ most_entries)
+            self.old.states }
         ensures kind { self.new.kind ≡ self.old.kind }
         ensures height { length self.new.states ≡ length self.old.states }
-        ensures ok { OnOk result (self.new ≡ of_states self.old (with_states self.old.kind self.old.states (zip places.now states.now))) }
+        ensures ok { OnOk result
+            (self.new ≡ of_states self.old
+            (with_states self.old.kind self.old.states (zip places.now states.now))) }
         ensures roomy { has_one_size self.old.kind ≡ true → IsOk result }
     {
         merge_each(&mut self.cells, alloc, places, states)
     }
 
-    /// Merges a state into the one at a place. On an error nothing changes. What keeps no value of its own takes no memory.
+    /// Merges a state into the one at a place. On an error nothing changes. What keeps no value of
+    /// its own takes no memory.
     pub fn merge_at(&mut self, alloc: Global, place: usize, state: &State) -> Result<(), AllocError>
         requires place { place < length self.old.states }
-        requires few { (get_or self.old.states place no_statistics).count + state.now.count ≤ most_entries }
+        requires few { (slice_index_or self.old.states place no_statistics).count + state.now.count
+            ≤ most_entries }
         ensures kind { self.new.kind ≡ self.old.kind }
-        ensures ok { OnOk result (self.new ≡ of_states self.old (merged_at self.old.states place (kept_by self.old.kind state.now))) }
+        ensures ok { OnOk result
+            (self.new ≡ of_states self.old
+            (merged_at self.old.states place (kept_by self.old.kind state.now))) }
         ensures err { OnErr result (self.new ≡ self.old) }
         ensures roomy { has_one_size self.old.kind ≡ true → IsOk result }
     {
@@ -244,7 +272,7 @@ impl StateColumn {
     /// The state of a group.
     pub fn state(&self, alloc: Global, place: usize) -> Result<State, AllocError>
         requires { place < length self.now.states }
-        ensures { IfOk result (λ s. s ≡ get_or self.now.states place no_statistics) }
+        ensures { IfOk result (λ s. s ≡ slice_index_or self.now.states place no_statistics) }
     {
         self.cells.state(alloc, place)
     }

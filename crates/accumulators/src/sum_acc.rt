@@ -1,5 +1,5 @@
 //! The exact sum of a list.
-ghost use Rattle.std.specs.Prelude.{◌≡◌, ◌<◌, ◌≤◌, ◌+◌, ◌∷◌, [], length, map, get_or, pos, true, All};
+ghost use Rattle.std.specs.Prelude.{◌≡◌, ◌<◌, ◌≤◌, ◌+◌, ◌∷◌, [], length, map, slice_index_or, pos, true, All};
 ghost use Rattle.meaning.specs.declared.plan.AggregateKind.TheVariants.{Sum};
 ghost use Rattle.meaning.specs.declared.value.Value.TheVariants.{Int};
 ghost use Rattle.meaning.specs.Aggregate.{kept_by, merge, no_statistics};
@@ -63,7 +63,8 @@ impl SumAcc {
     pub fn add_int(&mut self, ints: &[i64], k: usize)
         requires within { k < length ints.now }
         requires few { self.old.count < most_entries }
-        ensures { self.new ≡ merge self.old (state_of Sum (Int (get_or ints.now k (pos 0)) ∷ [])) }
+        ensures { self.new ≡ merge self.old
+            (state_of Sum (Int (slice_index_or ints.now k (pos 0)) ∷ [])) }
     {
         self.tally = self.tally.plus(Tally::of_int(ints[k]));
     }
@@ -81,7 +82,8 @@ impl SumAcc {
         requires lanes { length (values_of lanes.now) ≡ selection.now.below }
         requires spelled { All (λ v. is_spelled v ≡ true) (values_of lanes.now) }
         requires few { self.old.count + length selection.now.list ≤ most_entries }
-        ensures { self.new ≡ merge self.old (state_of Sum (selected (values_of lanes.now) selection.now.list)) }
+        ensures { self.new ≡ merge self.old
+            (state_of Sum (selected (values_of lanes.now) selection.now.list)) }
     {
         for k in 0..selection.len() {
             self.add(selected_value(lanes, selection, k));

@@ -11,8 +11,8 @@ ghost use Rattle.accumulators.specs.State.{most_entries};
 use crate::state::State;
 use meaning::value::ValueRef;
 
-/// The sums of the high and of the low halves of integers, each of them 2^63 more than it is. Neither leaves 64 bits, so that
-/// the processor adds several at once.
+/// The sums of the high and of the low halves of integers, each of them 2^63 more than it is.
+/// Neither leaves 64 bits, so that the processor adds several at once.
 #[derive(Clone, Copy)]
 struct Halves {
     high: u64,
@@ -31,7 +31,8 @@ impl Halves {
     fn plus(self, number: u64) -> Halves
         requires high { self.high ≤ 18446744069414584320 }
         requires low { self.low ≤ 18446744069414584320 }
-        ensures whole { result.high * 4294967296 + result.low ≡ self.high * 4294967296 + self.low + number }
+        ensures whole { result.high * 4294967296 + result.low
+            ≡ self.high * 4294967296 + self.low + number }
         ensures high { result.high ≤ self.high + 4294967295 }
         ensures low { result.low ≤ self.low + 4294967295 }
     {
@@ -47,7 +48,8 @@ impl Halves {
         requires high { self.high ≤ count * 4294967295 }
         requires low { self.low ≤ count * 4294967295 }
         ensures count { result.count ≡ count }
-        ensures sum { result.sum +ℤ pos (count * 9223372036854775808) ≡ pos (self.high * 4294967296 + self.low) }
+        ensures sum { result.sum +ℤ pos (count * 9223372036854775808)
+            ≡ pos (self.high * 4294967296 + self.low) }
         ensures possible { IsSum result.count result.sum }
     {
         let raised = i128::from(self.high) * 4294967296 + i128::from(self.low);
@@ -111,7 +113,8 @@ impl Tally {
     /// Of one value.
     #[inline(always)]
     pub fn of_value(value: ValueRef<'_>) -> Tally
-        ensures value { sum_state result.count result.sum ≡ state_of Sum (value_in value.entry ∷ []) }
+        ensures value { sum_state result.count result.sum
+            ≡ state_of Sum (value_in value.entry ∷ []) }
         ensures possible { IsSum result.count result.sum }
         ensures one { result.count ≤ 1 }
     {

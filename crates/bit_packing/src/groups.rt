@@ -8,8 +8,8 @@ ghost use Rattle.bit_packing.specs.Offsets.{AreInGroups, raised_offsets};
 
 use crate::windows::{low_bits, window_at};
 
-/// From which byte of a group on eight are read for the bits from `bit` on: those that lie within the group, where it
-/// has so many.
+/// From which byte of a group on eight are read for the bits from `bit` on: those that lie within
+/// the group, where it has so many.
 #[inline(always)]
 fn window_place(width: usize, bit: usize) -> usize
     requires width { width ≤ 64 }
@@ -87,7 +87,8 @@ fn raised_group(base: i64, width: usize, group: &[u8]) -> [i64; 8]
     ]
 }
 
-/// Writes a group into the cells from `at` on. Cell by cell: a copy of the whole goes through memory.
+/// Writes a group into the cells from `at` on. Cell by cell: a copy of the whole goes through
+/// memory.
 #[inline(always)]
 fn put_group(group: [i64; 8], at: usize, out: &mut [i64])
     requires { at + 8 ≤ length out.old }
@@ -104,7 +105,8 @@ fn fill_each(base: i64, width: usize, packed: &[u8], first: usize, out: &mut [i6
     requires width { width ≤ 64 }
     requires few { 8 * first + length out.old ≤ row_group_rows }
     requires within { (8 * first + length out.old) * width ≤ 8 * length packed.now }
-    requires fits { list_all fits_i64 (raised_offsets base width packed.now (8 * first) (length out.old)) ≡ true }
+    requires fits { list_all fits_i64
+        (raised_offsets base width packed.now (8 * first) (length out.old)) ≡ true }
     ensures { take (8 * (length out.old / 8)) out.new
         ≡ raised_offsets base width packed.now (8 * first) (8 * (length out.old / 8)) }
 {
@@ -115,8 +117,8 @@ fn fill_each(base: i64, width: usize, packed: &[u8], first: usize, out: &mut [i6
     }
 }
 
-/// The same for a width that is known where it is called, eight times one constant and a second more, so that all
-/// places and shifts are constants.
+/// The same for a width that is known where it is called, eight times one constant and a second
+/// more, so that all places and shifts are constants.
 fn fill_known<const EIGHTS: usize, const MORE: usize>(
     base: i64,
     width: usize,
@@ -163,7 +165,8 @@ pub fn fill_groups(base: i64, width: usize, packed: &[u8], first: usize, out: &m
     requires width { width ≤ 64 }
     requires few { 8 * first + length out.old ≤ row_group_rows }
     requires within { (8 * first + length out.old) * width ≤ 8 * length packed.now }
-    requires fits { list_all fits_i64 (raised_offsets base width packed.now (8 * first) (length out.old)) ≡ true }
+    requires fits { list_all fits_i64
+        (raised_offsets base width packed.now (8 * first) (length out.old)) ≡ true }
     ensures { take (8 * (length out.old / 8)) out.new
         ≡ raised_offsets base width packed.now (8 * first) (8 * (length out.old / 8)) }
 {

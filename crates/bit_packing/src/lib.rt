@@ -1,4 +1,5 @@
-//! Bits and numbers in bytes: masks of NULL rows, and offsets of a fixed width that are packed without gaps.
+//! Bits and numbers in bytes: masks of NULL rows, and offsets of a fixed width that are packed
+//! without gaps.
 #![tactic(auto)]
 
 mod groups;

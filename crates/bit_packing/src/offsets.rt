@@ -1,4 +1,5 @@
-//! What a frame says of its offsets: some is 0, some takes the whole width, and each leads to an integer of 64 bits.
+//! What a frame says of its offsets: some is 0, some takes the whole width, and each leads to an
+//! integer of 64 bits.
 ghost use Rattle.std.specs.Prelude.{◌≡◌, pos, negsuc, ◌+ℤ◌, ◌+◌, ◌-◌, ◌*◌, ◌^◌, ◌<◌, ◌≤◌, ◌==◌, ◌&&◌, ◌||◌, length, map, nat_le};
 ghost use Rattle.std.specs.List.{list_any, list_all, range_with_len};
 ghost use Rattle.std.specs.Ordering.{int_eq};
@@ -13,12 +14,14 @@ use crate::raising::fill_raised;
 /// How many offsets are unpacked at a time.
 const LANES: usize = 256;
 
-/// The offsets from place `from` on, each above the least integer, so that any is an integer of 64 bits.
+/// The offsets from place `from` on, each above the least integer, so that any is an integer of 64
+/// bits.
 fn fill_lifted(width: u8, packed: &[u8], from: usize, out: &mut [i64])
     requires width { width ≤ 64 }
     requires within { (from + length out.old) * width ≤ 8 * length packed.now }
     requires few { from + length out.old ≤ row_group_rows }
-    ensures { out.new ≡ map (λ i. lifted (offset_at width packed.now i)) (range_with_len from (length out.old)) }
+    ensures { out.new ≡ map (λ i. lifted (offset_at width packed.now i))
+        (range_with_len from (length out.old)) }
 {
     fill_raised(i64::MIN, width, packed, from, out);
 }
@@ -75,7 +78,8 @@ fn has_zero(width: u8, packed: &[u8], rows: usize) -> bool
     requires narrow { width ≤ 64 }
     requires few { rows ≤ row_group_rows }
     requires within { rows * width ≤ 8 * length packed.now }
-    ensures { result ≡ list_any (λ offset. offset == 0) (map (offset_at width packed.now) (range_with_len 0 rows)) }
+    ensures { result ≡ list_any (λ offset. offset == 0)
+        (map (offset_at width packed.now) (range_with_len 0 rows)) }
 {
     let mut lanes = [0; LANES];
     for k in 0..(rows + LANES - 1) / LANES {
@@ -94,7 +98,8 @@ fn has_offset_from(width: u8, packed: &[u8], rows: usize, least: u64) -> bool
     requires narrow { width ≤ 64 }
     requires few { rows ≤ row_group_rows }
     requires within { rows * width ≤ 8 * length packed.now }
-    ensures { result ≡ list_any (nat_le least) (map (offset_at width packed.now) (range_with_len 0 rows)) }
+    ensures { result ≡ list_any (nat_le least)
+        (map (offset_at width packed.now) (range_with_len 0 rows)) }
 {
     let lifted_least = raised(i64::MIN, least);
     let mut lanes = [0; LANES];
@@ -141,7 +146,9 @@ fn are_within(width: u8, packed: &[u8], rows: usize, base: i64) -> bool
     requires narrow { width ≤ 64 }
     requires few { rows ≤ row_group_rows }
     requires within { rows * width ≤ 8 * length packed.now }
-    ensures { result ≡ list_all fits_i64 (map (λ offset. base +ℤ pos offset) (map (offset_at width packed.now) (range_with_len 0 rows))) }
+    ensures { result ≡ list_all fits_i64
+        (map (λ offset. base +ℤ pos offset)
+        (map (offset_at width packed.now) (range_with_len 0 rows))) }
 {
     let room = room_above(base);
     if greatest_of_width(width) <= room {
@@ -155,7 +162,8 @@ fn is_tight(width: u8, packed: &[u8], rows: usize) -> bool
     requires narrow { width ≤ 64 }
     requires few { rows ≤ row_group_rows }
     requires within { rows * width ≤ 8 * length packed.now }
-    ensures { result ≡ (width == 0 || list_any (nat_le (2 ^ (width - 1))) (map (offset_at width packed.now) (range_with_len 0 rows))) }
+    ensures { result ≡ (width == 0 || list_any (nat_le (2 ^ (width - 1)))
+        (map (offset_at width packed.now) (range_with_len 0 rows))) }
 {
     width == 0 || has_offset_from(width, packed, rows, least_of_width(width))
 }
@@ -166,7 +174,9 @@ pub fn are_offsets(width: u8, packed: &[u8], rows: usize, base: i64) -> bool
     requires few { rows ≤ row_group_rows }
     requires within { rows * width ≤ 8 * length packed.now }
     ensures { let offsets = map (offset_at width packed.now) (range_with_len 0 rows) in
-        result ≡ (list_any (λ offset. offset == 0) offsets && ((width == 0 || list_any (nat_le (2 ^ (width - 1))) offsets) && list_all fits_i64 (map (λ offset. base +ℤ pos offset) offsets))) }
+        result ≡ (list_any (λ offset. offset == 0) offsets
+        && ((width == 0 || list_any (nat_le (2 ^ (width - 1))) offsets)
+        && list_all fits_i64 (map (λ offset. base +ℤ pos offset) offsets))) }
 {
     if !has_zero(width, packed, rows) {
         return false;

@@ -27,7 +27,8 @@ fn put_bits(out: &mut Vec<u8>, bits: Bits, number: u64, width: u32) -> Result<Bi
     requires width { width ≤ 64 }
     requires fits { number < 2 ^ width }
     ensures few { IfOk result (λ b. b.count < 64) }
-    ensures packs { IfOk result (λ b. (before : List ℕ) (k n : ℕ) → Packs before out.old.items bits.held bits.count k n
+    ensures packs { IfOk result (λ b. (before : List ℕ) (k n : ℕ)
+        → Packs before out.old.items bits.held bits.count k n
         → Packs before out.new.items b.held b.count (k + width) (n + 2 ^ k * number)) }
 {
     let held = bits.held + (u128::from(number) << bits.count);
@@ -47,7 +48,8 @@ fn put_bits(out: &mut Vec<u8>, bits: Bits, number: u64, width: u32) -> Result<Bi
 fn finish(out: &mut Vec<u8>, bits: Bits) -> Result<(), AllocError>
     requires few { bits.count < 64 }
     requires low { bits.held < 2 ^ bits.count }
-    ensures { OnOk result ((before : List ℕ) (k n : ℕ) → Packs before out.old.items bits.held bits.count k n
+    ensures { OnOk result ((before : List ℕ) (k n : ℕ)
+        → Packs before out.old.items bits.held bits.count k n
         → ArePacked before out.new.items k n) }
 {
     let word = (bits.held % 0x1_0000_0000_0000_0000) as u64;
@@ -94,12 +96,14 @@ fn offset_of(int: &i64, base: &i64) -> u64
     int.abs_diff(*base)
 }
 
-/// How far some integers are above the base, as one number: so many bits for each, the first in the lowest.
+/// How far some integers are above the base, as one number: so many bits for each, the first in the
+/// lowest.
 #[inline(always)]
 fn packed_offsets(ints: &[i64], base: &i64, width: u32) -> u64
     requires narrow { width ≤ 64 }
     requires few { width * length ints.now ≤ 64 }
-    requires fit { list_all (λ n. nat_lt (unsigned_abs (n -ℤ base.now)) (2 ^ width)) ints.now ≡ true }
+    requires fit { list_all (λ n. nat_lt (unsigned_abs (n -ℤ base.now)) (2 ^ width)) ints.now
+        ≡ true }
     ensures value { result ≡ packed width (map (λ n. unsigned_abs (n -ℤ base.now)) ints.now) }
     ensures low { result < 2 ^ (width * length ints.now) }
 {
@@ -117,8 +121,10 @@ fn put_marks(out: &mut Vec<u8>, bits: Bits, nulls: &[bool]) -> Result<Bits, Allo
     requires low { bits.held < 2 ^ bits.count }
     requires short { length nulls.now ≤ 64 }
     ensures few { IfOk result (λ b. b.count < 64) }
-    ensures packs { IfOk result (λ b. (before : List ℕ) (k n : ℕ) → Packs before out.old.items bits.held bits.count k n
-        → Packs before out.new.items b.held b.count (k + length nulls.now) (n + 2 ^ k * packed 1 (map bit_of nulls.now))) }
+    ensures packs { IfOk result (λ b. (before : List ℕ) (k n : ℕ)
+        → Packs before out.old.items bits.held bits.count k n
+        → Packs before out.new.items b.held b.count (k + length nulls.now)
+        (n + 2 ^ k * packed 1 (map bit_of nulls.now))) }
 {
     put_bits(out, bits, packed_marks(nulls), nulls.len() as u32)
 }
@@ -137,10 +143,13 @@ fn put_some_offsets(
     requires narrow { width ≤ 64 }
     requires short { width * length ints.now ≤ 64 }
     requires several { length ints.now ≤ 4 }
-    requires fit { list_all (λ n. nat_lt (unsigned_abs (n -ℤ base.now)) (2 ^ width)) ints.now ≡ true }
+    requires fit { list_all (λ n. nat_lt (unsigned_abs (n -ℤ base.now)) (2 ^ width)) ints.now
+        ≡ true }
     ensures few { IfOk result (λ b. b.count < 64) }
-    ensures packs { IfOk result (λ b. (before : List ℕ) (k n : ℕ) → Packs before out.old.items bits.held bits.count k n
-        → Packs before out.new.items b.held b.count (k + width * length ints.now) (n + 2 ^ k * packed width (map (λ m. unsigned_abs (m -ℤ base.now)) ints.now))) }
+    ensures packs { IfOk result (λ b. (before : List ℕ) (k n : ℕ)
+        → Packs before out.old.items bits.held bits.count k n
+        → Packs before out.new.items b.held b.count (k + width * length ints.now)
+        (n + 2 ^ k * packed width (map (λ m. unsigned_abs (m -ℤ base.now)) ints.now))) }
 {
     put_bits(
         out,
@@ -152,7 +161,8 @@ fn put_some_offsets(
 
 /// A bit for each row, 1 where it is NULL.
 pub fn put_mask(out: &mut Vec<u8>, nulls: &[bool]) -> Result<(), AllocError>
-    ensures { OnOk result (ArePacked out.old.items out.new.items (length nulls.now) (packed 1 (map bit_of nulls.now))) }
+    ensures { OnOk result (ArePacked out.old.items out.new.items (length nulls.now)
+        (packed 1 (map bit_of nulls.now))) }
 {
     make_room(out, nulls.len() / 8 + 1)?;
     let mut bits = Bits { held: 0, count: 0 };
@@ -164,7 +174,8 @@ pub fn put_mask(out: &mut Vec<u8>, nulls: &[bool]) -> Result<(), AllocError>
     Ok(())
 }
 
-/// The same as `put_offsets`, by groups of so many integers that their offsets are at most 64 bits together.
+/// The same as `put_offsets`, by groups of so many integers that their offsets are at most 64 bits
+/// together.
 #[inline(always)]
 fn put_groups<const N: usize>(
     out: &mut Vec<u8>,
@@ -176,7 +187,8 @@ fn put_groups<const N: usize>(
     requires narrow { width ≤ 64 }
     requires few { N * width ≤ 64 }
     requires several { N ≤ 4 }
-    requires fit { list_all (λ n. nat_lt (unsigned_abs (n -ℤ base.now)) (2 ^ width)) ints.now ≡ true }
+    requires fit { list_all (λ n. nat_lt (unsigned_abs (n -ℤ base.now)) (2 ^ width)) ints.now
+        ≡ true }
     ensures { OnOk result (ArePacked out.old.items out.new.items (width * length ints.now)
         (packed width (map (λ n. unsigned_abs (n -ℤ base.now)) ints.now))) }
 {

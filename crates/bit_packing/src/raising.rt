@@ -13,7 +13,8 @@ fn fill_lanes(base: i64, width: u8, packed: &[u8], from: usize, start: usize, ou
     requires width { width ≤ 64 }
     requires within { (from + length out.old) * width ≤ 8 * length packed.now }
     requires few { from + length out.old ≤ row_group_rows }
-    requires fits { list_all fits_i64 (raised_offsets base width packed.now from (length out.old)) ≡ true }
+    requires fits { list_all fits_i64 (raised_offsets base width packed.now from (length out.old))
+        ≡ true }
     requires start { start ≤ length out.old }
     requires front { take start out.old ≡ raised_offsets base width packed.now from start }
     ensures { out.new ≡ raised_offsets base width packed.now from (length out.old) }
@@ -28,7 +29,8 @@ pub fn fill_raised(base: i64, width: u8, packed: &[u8], from: usize, out: &mut [
     requires width { width ≤ 64 }
     requires within { (from + length out.old) * width ≤ 8 * length packed.now }
     requires few { from + length out.old ≤ row_group_rows }
-    requires fits { list_all fits_i64 (raised_offsets base width packed.now from (length out.old)) ≡ true }
+    requires fits { list_all fits_i64 (raised_offsets base width packed.now from (length out.old))
+        ≡ true }
     ensures { out.new ≡ raised_offsets base width packed.now from (length out.old) }
 {
     if from % 8 == 0 {

@@ -104,9 +104,10 @@ fn put_line(alloc: Global, bytes: &mut Vec<u8>, line: &str) -> Result<bool, Allo
     Ok(true)
 }
 
-/// The bytes that lines spell, or `None` where a word spells none. A word is hexadecimal digits, a number behind its type
-/// as in `u32:5` (in little endian), a text in double quotes, or `seal`, which is the SHA-256 of all bytes before it. A
-/// line that begins with a word like `*8192` stands so often.
+/// The bytes that lines spell, or `None` where a word spells none. A word is hexadecimal digits, a
+/// number behind its type as in `u32:5` (in little endian), a text in double quotes, or `seal`,
+/// which is the SHA-256 of all bytes before it. A line that begins with a word like `*8192` stands
+/// so often.
 pub fn bytes_of(alloc: Global, body: &str) -> Result<Option<Vec<u8>>, AllocError> {
     let mut bytes = Vec::new(alloc);
     for line in body.lines() {

@@ -41,7 +41,8 @@ fn push_line(text: &mut String, line: &str) -> Result<(), AllocError> {
     text.push_str("\n")
 }
 
-// Puts a line into the record that isn't ended, or begins one with it. Tells whether a record isn't ended behind it.
+// Puts a line into the record that isn't ended, or begins one with it. Tells whether a record isn't
+// ended behind it.
 fn take_line<'a>(
     alloc: Global,
     records: &mut Vec<Record<'a>>,
@@ -65,7 +66,8 @@ fn take_line<'a>(
     Ok(true)
 }
 
-/// The records of a case file, in its order. A line that begins with `#` outside of them is a comment.
+/// The records of a case file, in its order. A line that begins with `#` outside of them is a
+/// comment.
 pub fn records<'a>(alloc: Global, text: &'a str) -> Result<Vec<Record<'a>>, AllocError> {
     let mut records = Vec::new(alloc);
     let mut is_open = false;

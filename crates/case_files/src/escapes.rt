@@ -60,8 +60,8 @@ fn take(bytes: &mut Vec<u8>, escape: Escape, byte: u8) -> Result<Escape, AllocEr
     }
 }
 
-/// Appends the bytes of a text in which `\n`, `\r`, `\t`, `\\`, `\"` and `\x` with two hexadecimal digits stand for one
-/// byte each. Another backslash is a byte like any other.
+/// Appends the bytes of a text in which `\n`, `\r`, `\t`, `\\`, `\"` and `\x` with two hexadecimal
+/// digits stand for one byte each. Another backslash is a byte like any other.
 pub fn unescape(text: &str, bytes: &mut Vec<u8>) -> Result<(), AllocError> {
     let mut escape = Escape::None;
     for byte in text.bytes() {
@@ -84,7 +84,8 @@ fn repeated(line: &str) -> (usize, &str) {
     }
 }
 
-/// The bytes of escaped lines, of which one that begins with `*` and a number stands so often. No line end is a byte.
+/// The bytes of escaped lines, of which one that begins with `*` and a number stands so often. No
+/// line end is a byte.
 pub fn escaped_bytes(alloc: Global, lines: &str) -> Result<Vec<u8>, AllocError> {
     let mut bytes = Vec::new(alloc);
     for line in lines.lines() {

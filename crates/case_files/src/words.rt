@@ -73,7 +73,8 @@ fn unquoted(alloc: Global, raw: &str) -> Result<String, AllocError> {
     String::from_utf8_lossy(alloc, bytes.as_slice())
 }
 
-/// The words of a line. They stand apart by blanks; one in double quotes may have blanks and escapes in it.
+/// The words of a line. They stand apart by blanks; one in double quotes may have blanks and
+/// escapes in it.
 pub fn words(alloc: Global, line: &str) -> Result<Vec<Word>, AllocError> {
     let mut splitter = Splitter {
         alloc,

@@ -35,7 +35,8 @@ pub struct Fact<P> {
     /// How many rows all fragments have.
     pub rows: u64,
     pub cut: Cut,
-    /// Each fragment's file, which stands under no path yet; or why the first that can't be written isn't.
+    /// Each fragment's file, which stands under no path yet; or why the first that can't be written
+    /// isn't.
     pub files: Result<VecDeque<P>, Refusal>,
 }
 
@@ -43,8 +44,10 @@ pub struct Fact<P> {
 
 /// How many rows stand behind the header of the fact's CSV file.
 fn count_fact<F: Folder>(alloc: Global, folder: &F, target: &Target<'_>) -> Result<u64, Refusal>
-    ensures counted { IfOk result (IsFactCounted (F.holds folder.now) target.now.directory.now target.now.catalog.now) }
-    ensures refused { IfErr result (IsFactUncounted (F.holds folder.now) target.now.directory.now target.now.catalog.now) }
+    ensures counted { IfOk result
+        (IsFactCounted (F.holds folder.now) target.now.directory.now target.now.catalog.now) }
+    ensures refused { IfErr result
+        (IsFactUncounted (F.holds folder.now) target.now.directory.now target.now.catalog.now) }
 {
     let name = target.catalog.fact.name.as_str();
     let path = csv_path(alloc, target.directory, name)?;
@@ -69,13 +72,19 @@ fn with_fragment<F: Folder>(
     requires table { IsWellFormedTable target.now.catalog.now.fact }
     requires few { slice.rows ≤ max_rows }
     requires columns { AreColumns target.now.catalog.now.fact.columns slice.rows columns.now }
-    ensures closed { (cut : List ℕ) (fragments : List (List ColumnSpec)) → IsNextSlice cut fragments slice
-        → IfOk files (λ before. AreFragmentsClosed F.enclosed (F.wrote folder.old) target.now.load target.now.catalog.now.fact cut fragments before.items)
-        → IfOk result (λ after. AreFragmentsClosed F.enclosed (F.wrote folder.old) target.now.load target.now.catalog.now.fact cut (fragments ++ columns.now ∷ []) after.items) }
+    ensures closed { (cut : List ℕ) (fragments : List (List ColumnSpec))
+        → IsNextSlice cut fragments slice
+        → IfOk files (λ before. AreFragmentsClosed F.enclosed (F.wrote folder.old) target.now.load
+        target.now.catalog.now.fact cut fragments before.items)
+        → IfOk result (λ after. AreFragmentsClosed F.enclosed (F.wrote folder.old) target.now.load
+        target.now.catalog.now.fact cut (fragments ++ columns.now ∷ []) after.items) }
     ensures same { F.wrote folder.new ≡ F.wrote folder.old }
     ensures held { F.holds folder.new ≡ F.holds folder.old }
-    ensures refused { (most : ℕ) → slice.fragment < most → IfErr files (AreFragmentsUnwritten target.now.directory.now target.now.catalog.now.fact.name most)
-        → IfErr result (AreFragmentsUnwritten target.now.directory.now target.now.catalog.now.fact.name most) }
+    ensures refused { (most : ℕ) → slice.fragment < most
+        → IfErr files (AreFragmentsUnwritten target.now.directory.now
+        target.now.catalog.now.fact.name most)
+        → IfErr result (AreFragmentsUnwritten target.now.directory.now
+        target.now.catalog.now.fact.name most) }
 {
     let mut files = files?;
     let file = write_fragment(alloc, folder, target, slice, columns)?;
@@ -83,7 +92,8 @@ fn with_fragment<F: Folder>(
     Ok(files)
 }
 
-/// Loads the fragments that are to come, and writes and closes the file of each before the next is loaded.
+/// Loads the fragments that are to come, and writes and closes the file of each before the next is
+/// loaded.
 fn write_fragments<F: Folder>(
     alloc: Global,
     folder: &mut F,
@@ -94,13 +104,18 @@ fn write_fragments<F: Folder>(
     requires table { IsWellFormedTable target.now.catalog.now.fact }
     requires declared { declared_in reader.old ≡ target.now.catalog.now.fact.columns }
     requires lengths { lengths_ahead reader.old ≡ cut.now }
-    ensures loaded { IfOk result (λ files. (fragments : List (List ColumnSpec)) × AreEach (AreFragmentColumns target.now.catalog.now.fact) cut.now fragments
-        × ((meant : Result (List (List ColumnSpec)) Fault) → IsToCome F.Reader.remaining reader.old meant → meant ≡ Ok fragments)
-        × IfOk files (λ closed. AreFragmentsClosed F.enclosed (F.wrote folder.old) target.now.load target.now.catalog.now.fact cut.now fragments closed.items)
-        × IfErr files (AreFragmentsUnwritten target.now.directory.now target.now.catalog.now.fact.name (length cut.now))) }
+    ensures loaded { IfOk result (λ files. (fragments : List (List ColumnSpec))
+        × AreEach (AreFragmentColumns target.now.catalog.now.fact) cut.now fragments
+        × ((meant : Result (List (List ColumnSpec)) Fault)
+        → IsToCome F.Reader.remaining reader.old meant → meant ≡ Ok fragments)
+        × IfOk files (λ closed. AreFragmentsClosed F.enclosed (F.wrote folder.old) target.now.load
+        target.now.catalog.now.fact cut.now fragments closed.items)
+        × IfErr files (AreFragmentsUnwritten target.now.directory.now
+        target.now.catalog.now.fact.name (length cut.now))) }
     ensures same { F.wrote folder.new ≡ F.wrote folder.old }
     ensures held { F.holds folder.new ≡ F.holds folder.old }
-    ensures refused { IfErr result (λ e. (meant : Result (List (List ColumnSpec)) Fault) → IsToCome F.Reader.remaining reader.old meant
+    ensures refused { IfErr result (λ e. (meant : Result (List (List ColumnSpec)) Fault)
+        → IsToCome F.Reader.remaining reader.old meant
         → IfSome (fault_told e) (λ f. meant ≡ Err f)) }
 {
     let lengths = cut.lengths();
@@ -130,14 +145,19 @@ fn write_read<F: Folder>(
     file: F::Reader,
 ) -> Result<Result<VecDeque<F::Closed>, Refusal>, LoadFault>
     requires table { IsWellFormedTable target.now.catalog.now.fact }
-    ensures loaded { IfOk result (λ files. (fragments : List (List ColumnSpec)) × AreEach (AreFragmentColumns target.now.catalog.now.fact) cut.now fragments
-        × ((bytes : List ℕ) → F.Reader.remaining file ≡ Some bytes → fact_fragments target.now.catalog.now cut.now (csv_records bytes) ≡ Ok fragments)
-        × IfOk files (λ closed. AreFragmentsClosed F.enclosed (F.wrote folder.old) target.now.load target.now.catalog.now.fact cut.now fragments closed.items)
-        × IfErr files (AreFragmentsUnwritten target.now.directory.now target.now.catalog.now.fact.name (length cut.now))) }
+    ensures loaded { IfOk result (λ files. (fragments : List (List ColumnSpec))
+        × AreEach (AreFragmentColumns target.now.catalog.now.fact) cut.now fragments
+        × ((bytes : List ℕ) → F.Reader.remaining file ≡ Some bytes
+        → fact_fragments target.now.catalog.now cut.now (csv_records bytes) ≡ Ok fragments)
+        × IfOk files (λ closed. AreFragmentsClosed F.enclosed (F.wrote folder.old) target.now.load
+        target.now.catalog.now.fact cut.now fragments closed.items)
+        × IfErr files (AreFragmentsUnwritten target.now.directory.now
+        target.now.catalog.now.fact.name (length cut.now))) }
     ensures same { F.wrote folder.new ≡ F.wrote folder.old }
     ensures held { F.holds folder.new ≡ F.holds folder.old }
     ensures refused { IfErr result (λ e. (bytes : List ℕ) → F.Reader.remaining file ≡ Some bytes
-        → IfSome (fault_told e) (λ f. fact_fragments target.now.catalog.now cut.now (csv_records bytes) ≡ Err f)) }
+        → IfSome (fault_told e) (λ f. fact_fragments target.now.catalog.now cut.now
+        (csv_records bytes) ≡ Err f)) }
 {
     let mut reader = open_fact(alloc, target.catalog, file, cut)?;
     let files = write_fragments(alloc, folder, target, cut, &mut reader);
@@ -153,14 +173,20 @@ fn write_fact<F: Folder>(
     cut: &Cut,
 ) -> Result<Result<VecDeque<F::Closed>, Refusal>, Refusal>
     requires table { IsWellFormedTable target.now.catalog.now.fact }
-    ensures loaded { IfOk result (λ files. (fragments : List (List ColumnSpec)) × AreEach (AreFragmentColumns target.now.catalog.now.fact) cut.now fragments
-        × ((csv : List ℕ) → F.holds folder.old (csv_path target.now.directory.now target.now.catalog.now.fact.name) ≡ Some csv
+    ensures loaded { IfOk result (λ files. (fragments : List (List ColumnSpec))
+        × AreEach (AreFragmentColumns target.now.catalog.now.fact) cut.now fragments
+        × ((csv : List ℕ) → F.holds folder.old
+        (csv_path target.now.directory.now target.now.catalog.now.fact.name) ≡ Some csv
         → fact_fragments target.now.catalog.now cut.now (csv_records csv) ≡ Ok fragments)
-        × IfOk files (λ closed. AreFragmentsClosed F.enclosed (F.wrote folder.old) target.now.load target.now.catalog.now.fact cut.now fragments closed.items)
-        × IfErr files (AreFragmentsUnwritten target.now.directory.now target.now.catalog.now.fact.name (length cut.now))) }
+        × IfOk files (λ closed. AreFragmentsClosed F.enclosed (F.wrote folder.old) target.now.load
+        target.now.catalog.now.fact cut.now fragments closed.items)
+        × IfErr files (AreFragmentsUnwritten target.now.directory.now
+        target.now.catalog.now.fact.name (length cut.now))) }
     ensures same { F.wrote folder.new ≡ F.wrote folder.old }
     ensures held { F.holds folder.new ≡ F.holds folder.old }
-    ensures refused { IfErr result (IsFactUnloaded (F.holds folder.old) target.now.directory.now target.now.catalog.now cut.now) }
+    ensures refused { IfErr result
+        (IsFactUnloaded (F.holds folder.old) target.now.directory.now target.now.catalog.now
+        cut.now) }
 {
     let name = target.catalog.fact.name.as_str();
     let path = csv_path(alloc, target.directory, name)?;
@@ -171,13 +197,15 @@ fn write_fact<F: Folder>(
     }
 }
 
-/// The fact table, cut into fragments of `rows` rows, each of whose files is written and closed and stands under no path
-/// yet. One fragment's columns at a time are in memory. The CSV file is read twice, once to count its rows.
+/// The fact table, cut into fragments of `rows` rows, each of whose files is written and closed and
+/// stands under no path yet. One fragment's columns at a time are in memory. The CSV file is read
+/// twice, once to count its rows.
 ///
 /// # Errors
 ///
-/// Out of memory, a file that cannot be read, a cut over its limits, and the table's first fault, whichever comes first.
-/// A file that cannot be written is none of them: it is told once all tables are known to be well.
+/// Out of memory, a file that cannot be read, a cut over its limits, and the table's first fault,
+/// whichever comes first. A file that cannot be written is none of them: it is told once all tables
+/// are known to be well.
 pub fn load_fact<F: Folder>(
     alloc: Global,
     folder: &mut F,
@@ -186,13 +214,18 @@ pub fn load_fact<F: Folder>(
 ) -> Result<Fact<F::Closed>, Refusal>
     requires rows { 1 ≤ rows }
     requires table { IsWellFormedTable target.now.catalog.now.fact }
-    ensures loaded { IfOk result (λ fact. (fragments : List (List ColumnSpec)) × IsFactLoaded (F.holds folder.old) target.now.directory.now target.now.catalog.now rows fact.cut fragments
-        × IfOk fact.files (λ closed. AreFragmentsClosed F.enclosed (F.wrote folder.old) target.now.load target.now.catalog.now.fact fact.cut fragments closed.items)
-        × IfErr fact.files (AreFragmentsUnwritten target.now.directory.now target.now.catalog.now.fact.name (length fact.cut))) }
+    ensures loaded { IfOk result (λ fact. (fragments : List (List ColumnSpec))
+        × IsFactLoaded (F.holds folder.old) target.now.directory.now target.now.catalog.now rows
+        fact.cut fragments
+        × IfOk fact.files (λ closed. AreFragmentsClosed F.enclosed (F.wrote folder.old)
+        target.now.load target.now.catalog.now.fact fact.cut fragments closed.items)
+        × IfErr fact.files (AreFragmentsUnwritten target.now.directory.now
+        target.now.catalog.now.fact.name (length fact.cut))) }
     ensures counted { IfOk result (λ fact. fact.rows ≡ sum fact.cut) }
     ensures same { F.wrote folder.new ≡ F.wrote folder.old }
     ensures held { F.holds folder.new ≡ F.holds folder.old }
-    ensures refused { IfErr result (IsFactRefused (F.holds folder.old) target.now.directory.now target.now.catalog.now rows) }
+    ensures refused { IfErr result
+        (IsFactRefused (F.holds folder.old) target.now.directory.now target.now.catalog.now rows) }
 {
     let counted = count_fact(alloc, folder, target)?;
     let cut = even_cut(alloc, counted, rows)?;

@@ -24,7 +24,8 @@ fn read_csv<F: Folder>(
     directory: &str,
     table: &Text,
 ) -> Result<Vec<u8>, Refusal>
-    ensures held { IfOk result (λ bytes. AreHeld (F.holds folder.now (csv_path directory.now table.now)) bytes.items) }
+    ensures held { IfOk result
+        (λ bytes. AreHeld (F.holds folder.now (csv_path directory.now table.now)) bytes.items) }
     ensures refused { IfErr result (IsUnread (csv_path directory.now table.now)) }
 {
     let path = csv_path(alloc, directory, table.as_str())?;
@@ -38,7 +39,8 @@ fn load_dimension_table<F: Folder>(
     dim: &Dimension,
 ) -> Result<Sequence<Column>, Refusal>
     requires { dim.now.key < length dim.now.table.columns }
-    ensures loaded { IfOk result (λ columns. IsDimensionLoaded (F.holds folder.now) directory.now dim.now columns) }
+    ensures loaded { IfOk result
+        (λ columns. IsDimensionLoaded (F.holds folder.now) directory.now dim.now columns) }
     ensures refused { IfErr result (IsDimensionRefused (F.holds folder.now) directory.now dim.now) }
 {
     let name = &dim.table.name;
@@ -49,8 +51,8 @@ fn load_dimension_table<F: Folder>(
     }
 }
 
-/// The columns of a catalogue's dimensions, each from its CSV file, in the catalogue's order. One file's bytes at a time
-/// are in memory.
+/// The columns of a catalogue's dimensions, each from its CSV file, in the catalogue's order. One
+/// file's bytes at a time are in memory.
 ///
 /// # Errors
 ///
@@ -62,8 +64,11 @@ pub fn load_dimensions<F: Folder>(
     catalog: &Catalog,
 ) -> Result<Vec<Sequence<Column>>, Refusal>
     requires { IsWellFormed catalog.now }
-    ensures loaded { IfOk result (λ dims. AreEach (IsDimensionLoaded (F.holds folder.now) directory.now) catalog.now.dims dims.items) }
-    ensures refused { IfErr result (AreDimensionsRefused (F.holds folder.now) directory.now catalog.now.dims) }
+    ensures loaded { IfOk result
+        (λ dims. AreEach (IsDimensionLoaded (F.holds folder.now) directory.now) catalog.now.dims
+        dims.items) }
+    ensures refused { IfErr result
+        (AreDimensionsRefused (F.holds folder.now) directory.now catalog.now.dims) }
 {
     let mut dims = Vec::new(alloc);
     for dim in catalog.dims.as_slice() {

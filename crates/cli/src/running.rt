@@ -70,10 +70,17 @@ fn answer_over<O: Write>(
     requires plan { IsWellFormedPlan plan }
     requires typed { IsTypedOverGroups plan }
     requires job { IsPlanOfJob plan }
-    ensures answered { IfOk result (λ ended. (text : List ℕ) → catalog_of text ≡ Ok question.now.catalog.now → IsPlanned question.now.catalog.now question.now.query.now (Ok plan)
-        → (gather : GatherSpec) × IsAnswered (input_over text tables.now question.now.query.now question.now.vector) (O.contents out.old) (O.contents out.new) ended gather) }
-    ensures refused { IfErr result (λ e. (text : List ℕ) → catalog_of text ≡ Ok question.now.catalog.now → IsPlanned question.now.catalog.now question.now.query.now (Ok plan)
-        → IsInputRefused question.now.directory.now (input_over text tables.now question.now.query.now question.now.vector) e) }
+    ensures answered { IfOk result (λ ended. (text : List ℕ)
+        → catalog_of text ≡ Ok question.now.catalog.now
+        → IsPlanned question.now.catalog.now question.now.query.now (Ok plan)
+        → (gather : GatherSpec) × IsAnswered
+        (input_over text tables.now question.now.query.now question.now.vector) (O.contents out.old)
+        (O.contents out.new) ended gather) }
+    ensures refused { IfErr result (λ e. (text : List ℕ)
+        → catalog_of text ≡ Ok question.now.catalog.now
+        → IsPlanned question.now.catalog.now question.now.query.now (Ok plan)
+        → IsInputRefused question.now.directory.now
+        (input_over text tables.now question.now.query.now question.now.vector) e) }
     ensures quiet { IfErr result (λ e. IsQuiet e (O.contents out.old) (O.contents out.new)) }
 {
     let csvs = match lend_files(alloc, tables) {
@@ -97,7 +104,8 @@ fn answer_over<O: Write>(
     }
 }
 
-/// Reads the files of the dimensions that the plan joins beside the fact's, and answers the plan's query.
+/// Reads the files of the dimensions that the plan joins beside the fact's, and answers the plan's
+/// query.
 fn answer_planned<F: Folder, O: Write>(
     alloc: Global,
     folder: &F,
@@ -110,11 +118,19 @@ fn answer_planned<F: Folder, O: Write>(
     requires plan { IsWellFormedPlan plan }
     requires typed { IsTypedOverGroups plan }
     requires job { IsPlanOfJob plan }
-    requires fact { AreTables (F.holds folder.now) question.now.directory.now question.now.catalog.now.fact.name question.now.rows fact }
-    ensures answered { IfOk result (λ ended. (text : List ℕ) → catalog_of text ≡ Ok question.now.catalog.now → IsPlanned question.now.catalog.now question.now.query.now (Ok plan)
-        → IsAnsweredSo (F.holds folder.now) question.now.directory.now text question.now.catalog.now question.now.query.now question.now.rows question.now.vector (O.contents out.old) (O.contents out.new) ended) }
-    ensures refused { IfErr result (λ e. (text : List ℕ) → catalog_of text ≡ Ok question.now.catalog.now → IsPlanned question.now.catalog.now question.now.query.now (Ok plan)
-        → IsRefusedOver (F.holds folder.now) question.now.directory.now text question.now.catalog.now question.now.query.now question.now.rows question.now.vector e) }
+    requires fact { AreTables (F.holds folder.now) question.now.directory.now
+        question.now.catalog.now.fact.name question.now.rows fact }
+    ensures answered { IfOk result (λ ended. (text : List ℕ)
+        → catalog_of text ≡ Ok question.now.catalog.now
+        → IsPlanned question.now.catalog.now question.now.query.now (Ok plan)
+        → IsAnsweredSo (F.holds folder.now) question.now.directory.now text question.now.catalog.now
+        question.now.query.now question.now.rows question.now.vector (O.contents out.old)
+        (O.contents out.new) ended) }
+    ensures refused { IfErr result (λ e. (text : List ℕ)
+        → catalog_of text ≡ Ok question.now.catalog.now
+        → IsPlanned question.now.catalog.now question.now.query.now (Ok plan)
+        → IsRefusedOver (F.holds folder.now) question.now.directory.now text
+        question.now.catalog.now question.now.query.now question.now.rows question.now.vector e) }
     ensures quiet { IfErr result (λ e. IsQuiet e (O.contents out.old) (O.contents out.new)) }
 {
     match read_dims(alloc, folder, question.directory, plan.joins.as_slice()) {
@@ -130,8 +146,8 @@ fn answer_planned<F: Folder, O: Write>(
     }
 }
 
-/// Answers a query over tables that the catalogue declares: the fact's file is read and cut, then the query is planned, and
-/// then the dimensions' files are read.
+/// Answers a query over tables that the catalogue declares: the fact's file is read and cut, then
+/// the query is planned, and then the dimensions' files are read.
 fn answer_declared<F: Folder, O: Write>(
     alloc: Global,
     folder: &F,
@@ -140,10 +156,15 @@ fn answer_declared<F: Folder, O: Write>(
 ) -> Result<Ended, Refusal>
     requires rows { 1 ≤ question.now.rows }
     requires catalog { IsWellFormed question.now.catalog.now }
-    ensures answered { IfOk result (λ ended. (text : List ℕ) → catalog_of text ≡ Ok question.now.catalog.now
-        → IsAnsweredSo (F.holds folder.now) question.now.directory.now text question.now.catalog.now question.now.query.now question.now.rows question.now.vector (O.contents out.old) (O.contents out.new) ended) }
-    ensures refused { IfErr result (λ e. (text : List ℕ) → catalog_of text ≡ Ok question.now.catalog.now
-        → IsQueryRefused (F.holds folder.now) question.now.directory.now text question.now.catalog.now question.now.query.now question.now.rows question.now.vector e) }
+    ensures answered { IfOk result (λ ended. (text : List ℕ)
+        → catalog_of text ≡ Ok question.now.catalog.now
+        → IsAnsweredSo (F.holds folder.now) question.now.directory.now text question.now.catalog.now
+        question.now.query.now question.now.rows question.now.vector (O.contents out.old)
+        (O.contents out.new) ended) }
+    ensures refused { IfErr result (λ e. (text : List ℕ)
+        → catalog_of text ≡ Ok question.now.catalog.now
+        → IsQueryRefused (F.holds folder.now) question.now.directory.now text
+        question.now.catalog.now question.now.query.now question.now.rows question.now.vector e) }
     ensures quiet { IfErr result (λ e. IsQuiet e (O.contents out.old) (O.contents out.new)) }
 {
     let Question {
@@ -171,8 +192,11 @@ fn answer<F: Folder, O: Write>(
     out: &mut O,
 ) -> Result<u8, Refusal>
     requires { 1 ≤ rows }
-    ensures done { IfOk result (IsWholeDone (F.holds folder.now) directory.now query.now rows vector (O.contents out.old) (O.contents out.new)) }
-    ensures refused { IfErr result (IsWholeRefused (F.holds folder.now) directory.now query.now rows vector) }
+    ensures done { IfOk result
+        (IsWholeDone (F.holds folder.now) directory.now query.now rows vector (O.contents out.old)
+        (O.contents out.new)) }
+    ensures refused { IfErr result
+        (IsWholeRefused (F.holds folder.now) directory.now query.now rows vector) }
     ensures quiet { IfErr result (λ e. IsQuiet e (O.contents out.old) (O.contents out.new)) }
 {
     let bytes = read_catalog_file(alloc, folder, directory)?;
@@ -190,7 +214,8 @@ fn answer<F: Folder, O: Write>(
 }
 
 fn print_loaded<O: Write>(rows: u64, fragments: usize, out: &mut O) -> io::Result<()>
-    ensures { OnOk result (Appends (O.contents out.old) (O.contents out.new) (loaded_line rows fragments)) }
+    ensures { OnOk result (Appends (O.contents out.old) (O.contents out.new)
+        (loaded_line rows fragments)) }
 {
     writeln!(out, "loaded {rows} rows in {fragments} fragments")
 }
@@ -206,13 +231,21 @@ fn finish_load<F: Folder, O: Write>(
     requires well_formed { IsWellFormed target.now.catalog.now }
     requires counted { fact.rows ≡ sum fact.cut }
     requires closed { IfOk fact.files (λ files. length files.items ≡ length fact.cut) }
-    requires unwritten { IfErr fact.files (AreFragmentsUnwritten target.now.directory.now target.now.catalog.now.fact.name (length fact.cut)) }
+    requires unwritten { IfErr fact.files
+        (AreFragmentsUnwritten target.now.directory.now target.now.catalog.now.fact.name
+        (length fact.cut)) }
     ensures finished { OnOk result ((fragments : List (List ColumnSpec))
-        → IfOk fact.files (λ files. AreFragmentsClosed F.enclosed (F.wrote folder.old) target.now.load target.now.catalog.now.fact fact.cut fragments files.items)
-        → (dims : List (List ColumnSpec)) × AreEach (IsDimensionLoaded (F.holds folder.old) target.now.directory.now) target.now.catalog.now.dims dims
-        × Appends (O.contents out.old) (O.contents out.new) (loaded_line (sum fact.cut) (length fact.cut))
-        × Writes (AreFiles target.now.directory.now target.now.load target.now.catalog.now fact.cut fragments dims) (F.wrote folder.old) (F.wrote folder.new)) }
-    ensures refused { IfErr result (IsUnfinished (F.holds folder.old) target.now.directory.now target.now.catalog.now fact.cut) }
+        → IfOk fact.files (λ files. AreFragmentsClosed F.enclosed (F.wrote folder.old)
+        target.now.load target.now.catalog.now.fact fact.cut fragments files.items)
+        → (dims : List (List ColumnSpec))
+        × AreEach (IsDimensionLoaded (F.holds folder.old) target.now.directory.now)
+        target.now.catalog.now.dims dims
+        × Appends (O.contents out.old) (O.contents out.new)
+        (loaded_line (sum fact.cut) (length fact.cut))
+        × Writes (AreFiles target.now.directory.now target.now.load target.now.catalog.now fact.cut
+        fragments dims) (F.wrote folder.old) (F.wrote folder.new)) }
+    ensures refused { IfErr result
+        (IsUnfinished (F.holds folder.old) target.now.directory.now target.now.catalog.now fact.cut) }
     ensures quiet { IfErr result (λ e. IsQuiet e (O.contents out.old) (O.contents out.new)) }
     ensures left { IfErr result (λ e. LeavesFiles e (F.wrote folder.old) (F.wrote folder.new)) }
 {
@@ -235,9 +268,13 @@ fn load_declared<F: Folder, O: Write>(
 ) -> Result<(), Refusal>
     requires rows { 1 ≤ rows }
     requires well_formed { IsWellFormed target.now.catalog.now }
-    ensures loaded { OnOk result (IsCatalogLoaded (F.holds folder.old) target.now.directory.now target.now.load rows target.now.catalog.now
+    ensures loaded { OnOk result
+        (IsCatalogLoaded (F.holds folder.old) target.now.directory.now target.now.load rows
+        target.now.catalog.now
         (O.contents out.old) (O.contents out.new) (F.wrote folder.old) (F.wrote folder.new)) }
-    ensures refused { IfErr result (IsCatalogLoadRefused (F.holds folder.old) target.now.directory.now target.now.catalog.now rows) }
+    ensures refused { IfErr result
+        (IsCatalogLoadRefused (F.holds folder.old) target.now.directory.now target.now.catalog.now
+        rows) }
     ensures quiet { IfErr result (λ e. IsQuiet e (O.contents out.old) (O.contents out.new)) }
     ensures left { IfErr result (λ e. LeavesFiles e (F.wrote folder.old) (F.wrote folder.new)) }
 {
@@ -254,7 +291,9 @@ fn load<F: Folder, O: Write>(
     out: &mut O,
 ) -> Result<(), Refusal>
     requires { 1 ≤ rows }
-    ensures loaded { OnOk result (IsLoadDone (F.holds folder.old) directory.now load rows (O.contents out.old) (O.contents out.new) (F.wrote folder.old) (F.wrote folder.new)) }
+    ensures loaded { OnOk result
+        (IsLoadDone (F.holds folder.old) directory.now load rows (O.contents out.old)
+        (O.contents out.new) (F.wrote folder.old) (F.wrote folder.new)) }
     ensures refused { IfErr result (IsLoadRefused (F.holds folder.old) directory.now rows) }
     ensures quiet { IfErr result (λ e. IsQuiet e (O.contents out.old) (O.contents out.new)) }
     ensures left { IfErr result (λ e. LeavesFiles e (F.wrote folder.old) (F.wrote folder.new)) }
@@ -279,7 +318,8 @@ fn gather<F: Folder, O: Write, E: Write>(
     err: &mut E,
 ) -> Result<u8, Refusal>
     ensures status { IfOk result IsEndStatus }
-    ensures done { IfOk result (IsReportedAs (F.holds folder.old) command.now (O.contents out.old) (O.contents out.new)
+    ensures done { IfOk result
+        (IsReportedAs (F.holds folder.old) command.now (O.contents out.old) (O.contents out.new)
         (E.contents err.old) (E.contents err.new) (F.wrote folder.old) (F.wrote folder.new)) }
     ensures refused { IfErr result (IsGatherRefused (F.holds folder.old) command.now) }
     ensures quiet { IfErr result (λ e. IsQuiet e (O.contents out.old) (O.contents out.new)) }
@@ -290,21 +330,23 @@ fn gather<F: Folder, O: Write, E: Write>(
 }
 
 fn work<F: Folder>(alloc: Global, folder: &mut F, command: &WorkCommand) -> Result<(), Refusal>
-    ensures worked { OnOk result (IsWorked (F.holds folder.old) command.now (F.wrote folder.old) (F.wrote folder.new)) }
+    ensures worked { OnOk result
+        (IsWorked (F.holds folder.old) command.now (F.wrote folder.old) (F.wrote folder.new)) }
     ensures refused { IfErr result (IsWorkRefused (F.holds folder.old) command.now) }
     ensures left { IfErr result (λ e. LeavesFiles e (F.wrote folder.old) (F.wrote folder.new)) }
 {
     answer_fragment(alloc, folder, command)
 }
 
-/// Does a command, and answers the program's exit status or why the command is refused: 0 where a query gave rows, the
-/// tables were loaded or an answer was written, 3 where a query ended with a fault of arithmetic, 4 where answers are
-/// missing or in conflict. A report goes to `out`, and the lines of files that were passed over to `err`.
+/// Does a command, and answers the program's exit status or why the command is refused: 0 where a
+/// query gave rows, the tables were loaded or an answer was written, 3 where a query ended with a
+/// fault of arithmetic, 4 where answers are missing or in conflict. A report goes to `out`, and the
+/// lines of files that were passed over to `err`.
 ///
 /// # Errors
 ///
-/// Out of memory, or the first thing that is wrong in the folder's bytes, in the command's order. Nothing was printed then
-/// and no file was written, unless it is that printing or writing failed.
+/// Out of memory, or the first thing that is wrong in the folder's bytes, in the command's order.
+/// Nothing was printed then and no file was written, unless it is that printing or writing failed.
 pub fn outcome<F: Folder, O: Write, E: Write>(
     alloc: Global,
     command: &Command,
@@ -314,9 +356,11 @@ pub fn outcome<F: Folder, O: Write, E: Write>(
 ) -> Result<u8, Refusal>
     requires { IsInRange command.now }
     ensures status { IfOk result IsEndStatus }
-    ensures done { IfOk result (IsCommandDone (F.holds folder.old) command.now (O.contents out.old) (O.contents out.new)
+    ensures done { IfOk result
+        (IsCommandDone (F.holds folder.old) command.now (O.contents out.old) (O.contents out.new)
         (E.contents err.old) (E.contents err.new) (F.wrote folder.old) (F.wrote folder.new)) }
-    ensures refused { IfErr result (IsRefusedSo (F.holds folder.old) command.now (O.contents out.old) (O.contents out.new)
+    ensures refused { IfErr result
+        (IsRefusedSo (F.holds folder.old) command.now (O.contents out.old) (O.contents out.new)
         (F.wrote folder.old) (F.wrote folder.new)) }
     ensures silent { OnErr result (IsSilent command.now (E.contents err.old) (E.contents err.new)) }
 {
@@ -346,8 +390,8 @@ pub fn outcome<F: Folder, O: Write, E: Write>(
     }
 }
 
-/// Does a command, and answers the program's exit status: that of its `outcome`, or 1 where it was refused. The line of a
-/// refusal goes to `err`.
+/// Does a command, and answers the program's exit status: that of its `outcome`, or 1 where it was
+/// refused. The line of a refusal goes to `err`.
 pub fn run<F: Folder, O: Write, E: Write>(
     alloc: Global,
     command: &Command,
@@ -357,9 +401,11 @@ pub fn run<F: Folder, O: Write, E: Write>(
 ) -> u8
     requires { IsInRange command.now }
     ensures status { IsRunStatus result }
-    ensures done { result ≢ 1 → IsCommandDone (F.holds folder.old) command.now (O.contents out.old) (O.contents out.new)
+    ensures done { result ≢ 1
+        → IsCommandDone (F.holds folder.old) command.now (O.contents out.old) (O.contents out.new)
         (E.contents err.old) (E.contents err.new) (F.wrote folder.old) (F.wrote folder.new) result }
-    ensures refused { result ≡ 1 → (e : ARefusal) × IsRefusedSo (F.holds folder.old) command.now (O.contents out.old) (O.contents out.new)
+    ensures refused { result ≡ 1 → (e : ARefusal)
+        × IsRefusedSo (F.holds folder.old) command.now (O.contents out.old) (O.contents out.new)
         (F.wrote folder.old) (F.wrote folder.new) e }
 {
     match outcome(alloc, command, folder, out, err) {

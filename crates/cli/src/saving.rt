@@ -42,7 +42,9 @@ fn write_rows<F: Folder>(
 ) -> Result<F::Closed, Refusal>
     requires header { IsHeader header.now }
     requires columns { AreColumnsOf header.now columns.now }
-    ensures written { IfOk result (λ file. Encloses (λ bytes. Stands bytes header.now columns.now) (F.wrote folder.old) (F.enclosed file)) }
+    ensures written { IfOk result
+        (λ file. Encloses (λ bytes. Stands bytes header.now columns.now) (F.wrote folder.old)
+        (F.enclosed file)) }
     ensures same { F.wrote folder.new ≡ F.wrote folder.old }
     ensures held { F.holds folder.new ≡ F.holds folder.old }
     ensures refused { IfErr result (IsUnwritten path.now) }
@@ -71,11 +73,15 @@ pub fn write_fragment<F: Folder>(
     requires table { IsWellFormedTable target.now.catalog.now.fact }
     requires few { slice.rows ≤ max_rows }
     requires columns { AreColumns target.now.catalog.now.fact.columns slice.rows columns.now }
-    ensures written { IfOk result (λ file. Encloses (λ bytes. Stands bytes (table_header target.now.load target.now.catalog.now.fact slice) columns.now)
+    ensures written { IfOk result
+        (λ file. Encloses (λ bytes. Stands bytes
+        (table_header target.now.load target.now.catalog.now.fact slice) columns.now)
         (F.wrote folder.old) (F.enclosed file)) }
     ensures same { F.wrote folder.new ≡ F.wrote folder.old }
     ensures held { F.holds folder.new ≡ F.holds folder.old }
-    ensures refused { IfErr result (IsUnwritten (fragment_path target.now.directory.now target.now.catalog.now.fact.name slice.fragment)) }
+    ensures refused { IfErr result
+        (IsUnwritten (fragment_path target.now.directory.now target.now.catalog.now.fact.name
+        slice.fragment)) }
 {
     let table = &target.catalog.fact;
     let path = fragment_path(alloc, target.directory, table.name.as_str(), slice.fragment)?;
@@ -92,8 +98,11 @@ fn put_fragment<F: Folder>(
     file: F::Closed,
 ) -> Result<(), Refusal>
     ensures put { OnOk result (Finishes (F.wrote folder.old) (F.wrote folder.new)
-        (fragment_path target.now.directory.now target.now.catalog.now.fact.name fragment) (F.enclosed file)) }
-    ensures refused { IfErr result (IsUnwritten (fragment_path target.now.directory.now target.now.catalog.now.fact.name fragment)) }
+        (fragment_path target.now.directory.now target.now.catalog.now.fact.name fragment)
+        (F.enclosed file)) }
+    ensures refused { IfErr result
+        (IsUnwritten (fragment_path target.now.directory.now target.now.catalog.now.fact.name
+        fragment)) }
 {
     let name = target.catalog.fact.name.as_str();
     let path = fragment_path(alloc, target.directory, name, fragment)?;
@@ -109,10 +118,14 @@ fn put_fragments<F: Folder>(
 ) -> Result<(), Refusal>
     requires { length files.items ≤ max_fragments }
     ensures put { OnOk result ((cut : List ℕ) (fragments : List (List ColumnSpec))
-        → AreFragmentsClosed F.enclosed (F.wrote folder.old) target.now.load target.now.catalog.now.fact cut fragments files.items
-        → Writes (AreEach (IsFragmentFile target.now.directory.now target.now.load target.now.catalog.now.fact cut) (enumerate_from 0 fragments))
+        → AreFragmentsClosed F.enclosed (F.wrote folder.old) target.now.load
+        target.now.catalog.now.fact cut fragments files.items
+        → Writes (AreEach (IsFragmentFile target.now.directory.now target.now.load
+        target.now.catalog.now.fact cut) (enumerate_from 0 fragments))
         (F.wrote folder.old) (F.wrote folder.new)) }
-    ensures refused { IfErr result (AreFragmentsUnwritten target.now.directory.now target.now.catalog.now.fact.name (length files.items)) }
+    ensures refused { IfErr result
+        (AreFragmentsUnwritten target.now.directory.now target.now.catalog.now.fact.name
+        (length files.items)) }
 {
     let mut files = files;
     let mut fragment = 0;
@@ -132,23 +145,29 @@ fn remove_fragment<F: Folder>(
 ) -> Result<(), Refusal>
     ensures removed { OnOk result (Removes (F.wrote folder.old) (F.wrote folder.new)
         (fragment_path target.now.directory.now target.now.catalog.now.fact.name fragment)) }
-    ensures refused { IfErr result (IsUnwritten (fragment_path target.now.directory.now target.now.catalog.now.fact.name fragment)) }
+    ensures refused { IfErr result
+        (IsUnwritten (fragment_path target.now.directory.now target.now.catalog.now.fact.name
+        fragment)) }
 {
     let name = target.catalog.fact.name.as_str();
     let path = fragment_path(alloc, target.directory, name, fragment)?;
     remove_file(folder, &path)
 }
 
-/// Takes away the files of fragments that the cut doesn't have, which an earlier load may have left.
+/// Takes away the files of fragments that the cut doesn't have, which an earlier load may have
+/// left.
 fn remove_fragments<F: Folder>(
     alloc: Global,
     folder: &mut F,
     target: &Target<'_>,
     cut: &Cut,
 ) -> Result<(), Refusal>
-    ensures removed { OnOk result (Writes (λ changes. changes ≡ removals target.now.directory.now target.now.catalog.now.fact cut.now)
+    ensures removed { OnOk result
+        (Writes (λ changes. changes
+        ≡ removals target.now.directory.now target.now.catalog.now.fact cut.now)
         (F.wrote folder.old) (F.wrote folder.new)) }
-    ensures refused { IfErr result (IsFragmentLeft target.now.directory.now target.now.catalog.now.fact.name cut.now) }
+    ensures refused { IfErr result
+        (IsFragmentLeft target.now.directory.now target.now.catalog.now.fact.name cut.now) }
 {
     for fragment in cut.lengths().len()..MAX_FRAGMENTS {
         remove_fragment(alloc, folder, target, fragment as u32)?;
@@ -177,7 +196,9 @@ fn save_rows<F: Folder>(
 ) -> Result<(), Refusal>
     requires header { IsHeader header.now }
     requires columns { AreColumnsOf header.now columns.now }
-    ensures written { OnOk result (WritesOne path.now (λ bytes. Stands bytes header.now columns.now) (F.wrote folder.old) (F.wrote folder.new)) }
+    ensures written { OnOk result
+        (WritesOne path.now (λ bytes. Stands bytes header.now columns.now) (F.wrote folder.old)
+        (F.wrote folder.new)) }
     ensures refused { IfErr result (IsUnwritten path.now) }
 {
     let file = write_rows(alloc, folder, path, header, columns)?;
@@ -193,10 +214,13 @@ fn save_dimension<F: Folder>(
 ) -> Result<(), Refusal>
     requires table { IsWellFormedTable dim.now.table }
     requires columns { AreDimensionColumns dim.now columns.now }
-    ensures written { OnOk result (WritesOne (dimension_path target.now.directory.now dim.now.table.name)
-        (λ bytes. Stands bytes (header_of target.now.load dim.now.table 0 0 (rows_in columns.now)) columns.now)
+    ensures written { OnOk result
+        (WritesOne (dimension_path target.now.directory.now dim.now.table.name)
+        (λ bytes. Stands bytes (header_of target.now.load dim.now.table 0 0 (rows_in columns.now))
+        columns.now)
         (F.wrote folder.old) (F.wrote folder.new)) }
-    ensures refused { IfErr result (IsUnwritten (dimension_path target.now.directory.now dim.now.table.name)) }
+    ensures refused { IfErr result
+        (IsUnwritten (dimension_path target.now.directory.now dim.now.table.name)) }
 {
     let path = dimension_path(alloc, target.directory, dim.table.name.as_str())?;
     let slice = Slice {
@@ -216,9 +240,12 @@ fn save_dimensions<F: Folder>(
 ) -> Result<(), Refusal>
     requires well_formed { IsWellFormed target.now.catalog.now }
     requires columns { AreEach AreDimensionColumns target.now.catalog.now.dims dims.now }
-    ensures written { OnOk result (Writes (AreEach (IsDimensionFile target.now.directory.now target.now.load) (zip target.now.catalog.now.dims dims.now))
+    ensures written { OnOk result
+        (Writes (AreEach (IsDimensionFile target.now.directory.now target.now.load)
+        (zip target.now.catalog.now.dims dims.now))
         (F.wrote folder.old) (F.wrote folder.new)) }
-    ensures refused { IfErr result (AreDimensionsUnwritten target.now.directory.now target.now.catalog.now.dims) }
+    ensures refused { IfErr result
+        (AreDimensionsUnwritten target.now.directory.now target.now.catalog.now.dims) }
 {
     let declared = target.catalog.dims.as_slice();
     for i in 0..declared.len() {
@@ -248,8 +275,8 @@ fn save_cut<F: Folder>(
     }
 }
 
-/// Puts the fragments' files under their paths, and writes those of the dimensions; then takes away the files of
-/// fragments that the cut doesn't have, and writes that of the cut.
+/// Puts the fragments' files under their paths, and writes those of the dimensions; then takes away
+/// the files of fragments that the cut doesn't have, and writes that of the cut.
 ///
 /// # Errors
 ///
@@ -266,10 +293,14 @@ pub fn save<F: Folder>(
     requires files { length files.items ≡ length cut.now }
     requires dims { AreEach AreDimensionColumns target.now.catalog.now.dims dims.now }
     ensures written { OnOk result ((fragments : List (List ColumnSpec))
-        → AreFragmentsClosed F.enclosed (F.wrote folder.old) target.now.load target.now.catalog.now.fact cut.now fragments files.items
-        → Writes (AreFiles target.now.directory.now target.now.load target.now.catalog.now cut.now fragments dims.now) (F.wrote folder.old) (F.wrote folder.new)) }
-    ensures refused { IfErr result (AreFilesUnwritten target.now.directory.now target.now.catalog.now cut.now) }
+        → AreFragmentsClosed F.enclosed (F.wrote folder.old) target.now.load
+        target.now.catalog.now.fact cut.now fragments files.items
+        → Writes (AreFiles target.now.directory.now target.now.load target.now.catalog.now cut.now
+        fragments dims.now) (F.wrote folder.old) (F.wrote folder.new)) }
+    ensures refused { IfErr result
+        (AreFilesUnwritten target.now.directory.now target.now.catalog.now cut.now) }
 {
+    // No effect at run time. The proof reads from this call the limits of a cut.
     let _lengths = cut.lengths();
     put_fragments(alloc, folder, target, files)?;
     save_dimensions(alloc, folder, target, dims)?;

@@ -39,7 +39,9 @@ fn try_read_csv<F: Folder>(
     directory: &str,
     table: &Text,
 ) -> Result<Option<CsvFile>, Refusal>
-    ensures held { IfOk result (λ found. IfSome found (λ file. IsCsvOf (F.holds folder.now) directory.now file × (file.table ≡ table.now))) }
+    ensures held { IfOk result
+        (λ found. IfSome found (λ file. IsCsvOf (F.holds folder.now) directory.now file
+        × (file.table ≡ table.now))) }
     ensures refused { IfErr result (λ e. e ≡ Memory) }
 {
     let path = csv_path(alloc, directory, table.as_str())?;
@@ -82,8 +84,10 @@ pub fn even_cut(alloc: Global, counted: u64, rows: u32) -> Result<Cut, Refusal>
 /// The even cut of the rows of the fact's file.
 fn cut_file(alloc: Global, directory: &str, fact: &CsvFile, rows: u32) -> Result<Cut, Refusal>
     requires { 1 ≤ rows }
-    ensures evenly { IfOk result (λ cut. cut_of (even_lengths (rows_behind (Some fact.now)) rows) ≡ Ok cut) }
-    ensures refused { IfErr result (IsFileUncut (csv_path directory.now fact.now.table) fact.now.bytes.items rows) }
+    ensures evenly { IfOk result (λ cut. cut_of (even_lengths (rows_behind (Some fact.now)) rows)
+        ≡ Ok cut) }
+    ensures refused { IfErr result
+        (IsFileUncut (csv_path directory.now fact.now.table) fact.now.bytes.items rows) }
 {
     let counted = counted_rows(alloc, directory, &fact.table, fact.bytes.as_slice())?;
     even_cut(alloc, counted, rows)
@@ -106,7 +110,8 @@ fn cut_evenly(
     }
 }
 
-/// The fact's CSV file, if it can be read, and its even cut into fragments of `rows` rows. No dimension is read.
+/// The fact's CSV file, if it can be read, and its even cut into fragments of `rows` rows. No
+/// dimension is read.
 pub fn read_fact<F: Folder>(
     alloc: Global,
     folder: &F,
@@ -137,7 +142,8 @@ fn read_once<F: Folder>(
     table: &Text,
     files: &mut Vec<CsvFile>,
 ) -> Result<(), Refusal>
-    ensures held { OnOk result (All (IsCsvOf (F.holds folder.now) directory.now) files.old.items → All (IsCsvOf (F.holds folder.now) directory.now) files.new.items) }
+    ensures held { OnOk result (All (IsCsvOf (F.holds folder.now) directory.now) files.old.items
+        → All (IsCsvOf (F.holds folder.now) directory.now) files.new.items) }
     ensures refused { IfErr result (λ e. e ≡ Memory) }
 {
     if is_read(files, table.as_str()) {
@@ -156,7 +162,8 @@ pub fn read_dims<F: Folder>(
     directory: &str,
     joins: &[Join],
 ) -> Result<Vec<CsvFile>, Refusal>
-    ensures held { IfOk result (λ files. All (IsCsvOf (F.holds folder.now) directory.now) files.items) }
+    ensures held { IfOk result
+        (λ files. All (IsCsvOf (F.holds folder.now) directory.now) files.items) }
     ensures refused { IfErr result (λ e. e ≡ Memory) }
 {
     let mut files = Vec::new(alloc);

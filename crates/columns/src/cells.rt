@@ -1,5 +1,5 @@
 //! A cell for each row of a column. A NULL row's cell is 0 or the empty text.
-ghost use Rattle.std.specs.Prelude.{◌≡◌, ◌≢◌, ◌<◌, [], ◌∷◌, ◌++◌, length, get_or, pos, Some, None, true, IfOk, OnOk, OnErr, IfErr};
+ghost use Rattle.std.specs.Prelude.{◌≡◌, ◌≢◌, ◌<◌, [], ◌∷◌, ◌++◌, length, slice_index_or, pos, Some, None, true, IfOk, OnOk, OnErr, IfErr};
 ghost use Rattle.std.specs.Str.{is_utf8};
 ghost use Rattle.meaning.specs.declared.value.Value.TheVariants.{Null, Int, Text};
 ghost use Rattle.meaning.specs.Order.{value_in};
@@ -60,7 +60,7 @@ impl Cells {
 
     pub fn get(&self, place: usize) -> ValueRef<'_>
         requires { place < length (cells_in self.now) }
-        ensures { value_in result ≡ get_or (cells_in self.now) place Null }
+        ensures { value_in result ≡ slice_index_or (cells_in self.now) place Null }
     {
         match self {
             Cells::Ints(ints) => ValueRef::Int(ints[place]),
@@ -73,7 +73,8 @@ impl Cells {
         ensures ok { OnOk result (cells_in self.new ≡ cells_in self.old ++ Int n ∷ []) }
         ensures taken { OnOk result (refusal (type_of self.old) true (Int n) ≡ None) }
         ensures err { OnErr result (cells_in self.new ≡ cells_in self.old) }
-        ensures told { IfErr result (λ f. f ≢ Memory → refusal (type_of self.old) true (Int n) ≡ Some f) }
+        ensures told { IfErr result (λ f. f ≢ Memory
+            → refusal (type_of self.old) true (Int n) ≡ Some f) }
     {
         match self {
             Cells::Ints(ints) => {
@@ -91,7 +92,8 @@ impl Cells {
         ensures ok { OnOk result (cells_in self.new ≡ cells_in self.old ++ Text text.now ∷ []) }
         ensures taken { OnOk result (refusal (type_of self.old) true (Text text.now) ≡ None) }
         ensures err { OnErr result (cells_in self.new ≡ cells_in self.old) }
-        ensures told { IfErr result (λ f. f ≢ Memory → refusal (type_of self.old) true (Text text.now) ≡ Some f) }
+        ensures told { IfErr result (λ f. f ≢ Memory
+            → refusal (type_of self.old) true (Text text.now) ≡ Some f) }
     {
         match self {
             Cells::Ints(_) => Err(ColumnFault::WrongType),
@@ -108,7 +110,8 @@ impl Cells {
     /// Puts the cell of a NULL row behind the last.
     pub fn push_blank(&mut self) -> Result<(), AllocError>
         ensures col_type { type_of self.new ≡ type_of self.old }
-        ensures ok { OnOk result (cells_in self.new ≡ cells_in self.old ++ blank (type_of self.old) ∷ []) }
+        ensures ok { OnOk result (cells_in self.new ≡ cells_in self.old ++ blank (type_of self.old)
+            ∷ []) }
         ensures err { OnErr result (cells_in self.new ≡ cells_in self.old) }
     {
         match self {

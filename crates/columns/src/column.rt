@@ -1,5 +1,5 @@
 //! A column: values of one type, row by row.
-ghost use Rattle.std.specs.Prelude.{◌≡◌, ◌≢◌, ◌<◌, [], ◌∷◌, ◌++◌, length, map, get_or, vec_len, if◌then◌else◌, true, Some, None, IfOk, OnOk, OnErr, IfErr, IfSome, IsSome, ◌↔◌};
+ghost use Rattle.std.specs.Prelude.{◌≡◌, ◌≢◌, ◌<◌, [], ◌∷◌, ◌++◌, length, map, slice_index_or, vec_len, if◌then◌else◌, true, Some, None, IfOk, OnOk, OnErr, IfErr, IfSome, IsSome, ◌↔◌};
 ghost use Rattle.std.specs.Str.{is_utf8};
 ghost use Rattle.std.specs.Vec.{vec_capacity};
 ghost use Rattle.meaning.specs.declared.value.ColType.TheVariants as of_type;
@@ -16,7 +16,8 @@ use meaning::value::{ColType, Value, ValueRef};
 use std::alloc::{AllocError, Global};
 use std::marker::Model;
 
-/// Values of one type, row by row. Contracts see its type, whether NULL may stand in it, and the list of its values.
+/// Values of one type, row by row. Contracts see its type, whether NULL may stand in it, and the
+/// list of its values.
 #[derive(Drop)]
 pub struct Column {
     cells: Cells,
@@ -38,9 +39,14 @@ impl Model for Column {
 
     ghost Value = { ColumnSpec };
 
-    ghost view = { λ c. record { col_type = type_of c.cells; nullable = c.nullable; values = values_in c.nullable c.nulls.items (cells_in c.cells) } };
+    ghost view = { λ c. record {
+      col_type = type_of c.cells;
+      nullable = c.nullable;
+      values = values_in c.nullable c.nulls.items (cells_in c.cells);
+    } };
 
-    ghost invariant = { λ c. AreCells (type_of c.cells) c.nullable c.nulls.items (cells_in c.cells) (values_in c.nullable c.nulls.items (cells_in c.cells)) };
+    ghost invariant = { λ c. AreCells (type_of c.cells) c.nullable c.nulls.items (cells_in c.cells)
+        (values_in c.nullable c.nulls.items (cells_in c.cells)) };
 }
 
 impl Column {
@@ -55,14 +61,16 @@ impl Column {
         }
     }
 
-    /// A column of no row, with room for so many rows. The bytes of texts take their room as they come.
+    /// A column of no row, with room for so many rows. The bytes of texts take their room as they
+    /// come.
     pub fn with_capacity(
         alloc: Global,
         col_type: ColType,
         nullable: bool,
         rows: usize,
     ) -> Result<Column, AllocError>
-        ensures { IfOk result (λ column. column ≡ record { col_type = col_type; nullable = nullable; values = [] }) }
+        ensures { IfOk result (λ column. column
+            ≡ record { col_type = col_type; nullable = nullable; values = [] }) }
     {
         Ok(Column {
             cells: Cells::with_capacity(alloc, col_type, rows)?,
@@ -94,7 +102,7 @@ impl Column {
     /// Whether a row is NULL.
     pub fn is_null(&self, row: usize) -> bool
         requires { row < length self.now.values }
-        ensures { result ≡ is_null (get_or self.now.values row Null) }
+        ensures { result ≡ is_null (slice_index_or self.now.values row Null) }
     {
         self.nullable && self.nulls[row]
     }
@@ -102,7 +110,7 @@ impl Column {
     /// The value of a row, lent.
     pub fn get(&self, row: usize) -> ValueRef<'_>
         requires { row < length self.now.values }
-        ensures { value_in result ≡ get_or self.now.values row Null }
+        ensures { value_in result ≡ slice_index_or self.now.values row Null }
     {
         if self.is_null(row) {
             return ValueRef::Null;
@@ -162,7 +170,8 @@ impl Column {
         ensures ok { OnOk result (self.new ≡ with_value self.old (Int n)) }
         ensures taken { OnOk result (refusal self.old.col_type self.old.nullable (Int n) ≡ None) }
         ensures err { OnErr result (self.new ≡ self.old) }
-        ensures told { IfErr result (λ f. f ≢ Memory → refusal self.old.col_type self.old.nullable (Int n) ≡ Some f) }
+        ensures told { IfErr result (λ f. f ≢ Memory
+            → refusal self.old.col_type self.old.nullable (Int n) ≡ Some f) }
     {
         make_room(&mut self.nulls, self.nullable)?;
         self.cells.push_int(n)?;
@@ -173,9 +182,11 @@ impl Column {
     /// Puts a text behind the last row. On an error nothing changes.
     pub fn push_text(&mut self, text: &str) -> Result<(), ColumnFault>
         ensures ok { OnOk result (self.new ≡ with_value self.old (Text text.now)) }
-        ensures taken { OnOk result (refusal self.old.col_type self.old.nullable (Text text.now) ≡ None) }
+        ensures taken { OnOk result (refusal self.old.col_type self.old.nullable (Text text.now)
+            ≡ None) }
         ensures err { OnErr result (self.new ≡ self.old) }
-        ensures told { IfErr result (λ f. f ≢ Memory → refusal self.old.col_type self.old.nullable (Text text.now) ≡ Some f) }
+        ensures told { IfErr result (λ f. f ≢ Memory
+            → refusal self.old.col_type self.old.nullable (Text text.now) ≡ Some f) }
     {
         self.push_utf8(text.as_bytes())
     }
@@ -184,9 +195,11 @@ impl Column {
     pub fn push_utf8(&mut self, text: &[u8]) -> Result<(), ColumnFault>
         requires { is_utf8 text.now ≡ true }
         ensures ok { OnOk result (self.new ≡ with_value self.old (Text text.now)) }
-        ensures taken { OnOk result (refusal self.old.col_type self.old.nullable (Text text.now) ≡ None) }
+        ensures taken { OnOk result (refusal self.old.col_type self.old.nullable (Text text.now)
+            ≡ None) }
         ensures err { OnErr result (self.new ≡ self.old) }
-        ensures told { IfErr result (λ f. f ≢ Memory → refusal self.old.col_type self.old.nullable (Text text.now) ≡ Some f) }
+        ensures told { IfErr result (λ f. f ≢ Memory
+            → refusal self.old.col_type self.old.nullable (Text text.now) ≡ Some f) }
     {
         make_room(&mut self.nulls, self.nullable)?;
         self.cells.push_text(text)?;
@@ -199,7 +212,8 @@ impl Column {
         ensures ok { OnOk result (self.new ≡ with_value self.old Null) }
         ensures taken { OnOk result (refusal self.old.col_type self.old.nullable Null ≡ None) }
         ensures err { OnErr result (self.new ≡ self.old) }
-        ensures told { IfErr result (λ f. f ≢ Memory → refusal self.old.col_type self.old.nullable Null ≡ Some f) }
+        ensures told { IfErr result (λ f. f ≢ Memory
+            → refusal self.old.col_type self.old.nullable Null ≡ Some f) }
     {
         if !self.nullable {
             return Err(ColumnFault::NullNotAllowed);
@@ -215,7 +229,8 @@ impl Column {
         ensures ok { OnOk result (self.new ≡ with_value self.old value) }
         ensures taken { OnOk result (refusal self.old.col_type self.old.nullable value ≡ None) }
         ensures err { OnErr result (self.new ≡ self.old) }
-        ensures told { IfErr result (λ f. f ≢ Memory → refusal self.old.col_type self.old.nullable value ≡ Some f) }
+        ensures told { IfErr result (λ f. f ≢ Memory
+            → refusal self.old.col_type self.old.nullable value ≡ Some f) }
     {
         match value {
             Value::Null => self.push_null(),

@@ -1,5 +1,5 @@
 //! Texts, one behind the other, and where each ends.
-ghost use Rattle.std.specs.Prelude.{◌≡◌, ◌<◌, ◌≤◌, ◌-◌, [], ◌∷◌, ◌++◌, length, take, drop, get_or, true, IfOk, OnOk, OnErr};
+ghost use Rattle.std.specs.Prelude.{◌≡◌, ◌<◌, ◌≤◌, ◌-◌, [], ◌∷◌, ◌++◌, length, take, drop, slice_index_or, true, IfOk, OnOk, OnErr};
 ghost use Rattle.std.specs.List.{concat, list_all};
 ghost use Rattle.columns.specs.Column.{is_text};
 
@@ -21,7 +21,8 @@ impl Model for TextList {
 
     ghost view = { λ t. texts_from 0 t.ends.items t.joined.items };
 
-    ghost invariant = { λ t. AreTexts t.ends.items t.joined.items (texts_from 0 t.ends.items t.joined.items) };
+    ghost invariant = { λ t. AreTexts t.ends.items t.joined.items
+        (texts_from 0 t.ends.items t.joined.items) };
 }
 
 impl TextList {
@@ -76,7 +77,7 @@ impl TextList {
     /// The bytes of a text.
     pub fn get(&self, place: usize) -> &[u8]
         requires { place < length self.now }
-        ensures value { result.now ≡ get_or self.now place [] }
+        ensures value { result.now ≡ slice_index_or self.now place [] }
         ensures text { is_text result.now ≡ true }
     {
         &self.joined[self.start(place)..self.ends[place]]

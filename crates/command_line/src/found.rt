@@ -16,7 +16,8 @@ pub enum Found<'a> {
 impl<'a> Found<'a> {
     /// What stands for the option when one more word was read.
     pub fn after(self, given: &Given<'a>, name: &str) -> Found<'a>
-        ensures { (vs : List (List ℕ)) → IsFound vs self.entry → IsFound (vs ++ values name.now (named_of given.now ∷ [])) result }
+        ensures { (vs : List (List ℕ)) → IsFound vs self.entry
+            → IsFound (vs ++ values name.now (named_of given.now ∷ [])) result }
     {
         if given.name != name {
             return self;

@@ -66,7 +66,8 @@ fn said(alloc: Global, words: &[&str]) -> Result<Option<Command>, AllocError>
 }
 
 fn of_name(alloc: Global, name: &str, parts: &Parts<'_>) -> Result<Option<Command>, AllocError>
-    ensures said { IfOk result (λ o. IfSome o (IsOf name.now (given_of parts.now) (plain_of parts.now))) }
+    ensures said { IfOk result
+        (λ o. IfSome o (IsOf name.now (given_of parts.now) (plain_of parts.now))) }
     ensures range { IfOk result (λ o. IfSome o IsInRange) }
 {
     match name {
@@ -79,7 +80,8 @@ fn of_name(alloc: Global, name: &str, parts: &Parts<'_>) -> Result<Option<Comman
 }
 
 fn whole(alloc: Global, parts: &Parts<'_>) -> Result<Option<Command>, AllocError>
-    ensures said { IfOk result (λ o. IfSome o (IsOf (codes "whole") (given_of parts.now) (plain_of parts.now))) }
+    ensures said { IfOk result
+        (λ o. IfSome o (IsOf (codes "whole") (given_of parts.now) (plain_of parts.now))) }
     ensures range { IfOk result (λ o. IfSome o IsInRange) }
 {
     if !parts.has_only(&["query", "rows", "vector"]) {
@@ -102,7 +104,8 @@ fn whole(alloc: Global, parts: &Parts<'_>) -> Result<Option<Command>, AllocError
 }
 
 fn load(alloc: Global, parts: &Parts<'_>) -> Result<Option<Command>, AllocError>
-    ensures said { IfOk result (λ o. IfSome o (IsOf (codes "load") (given_of parts.now) (plain_of parts.now))) }
+    ensures said { IfOk result
+        (λ o. IfSome o (IsOf (codes "load") (given_of parts.now) (plain_of parts.now))) }
     ensures range { IfOk result (λ o. IfSome o IsInRange) }
 {
     if !parts.has_only(&["load", "rows"]) {
@@ -123,7 +126,8 @@ fn load(alloc: Global, parts: &Parts<'_>) -> Result<Option<Command>, AllocError>
 }
 
 fn work(alloc: Global, parts: &Parts<'_>) -> Result<Option<Command>, AllocError>
-    ensures said { IfOk result (λ o. IfSome o (IsOf (codes "work") (given_of parts.now) (plain_of parts.now))) }
+    ensures said { IfOk result
+        (λ o. IfSome o (IsOf (codes "work") (given_of parts.now) (plain_of parts.now))) }
     ensures range { IfOk result (λ o. IfSome o IsInRange) }
 {
     if !parts.has_only(&["query", "fragment", "out", "vector"]) {
@@ -152,7 +156,8 @@ fn work(alloc: Global, parts: &Parts<'_>) -> Result<Option<Command>, AllocError>
 }
 
 fn gather(alloc: Global, parts: &Parts<'_>) -> Result<Option<Command>, AllocError>
-    ensures said { IfOk result (λ o. IfSome o (IsOf (codes "gather") (given_of parts.now) (plain_of parts.now))) }
+    ensures said { IfOk result
+        (λ o. IfSome o (IsOf (codes "gather") (given_of parts.now) (plain_of parts.now))) }
     ensures range { IfOk result (λ o. IfSome o IsInRange) }
 {
     if !parts.has_only(&["query", "save"]) {

@@ -40,14 +40,16 @@ impl<'a> Parts<'a> {
     }
 
     pub fn add(&mut self, name: &'a str, value: &'a str) -> Result<(), AllocError>
-        ensures { IfOk result (λ _. (given_of self.new ≡ given_of self.old ++ ((name.now, value.now) ∷ [])) × (plain_of self.new ≡ plain_of self.old)) }
+        ensures { IfOk result (λ _. (given_of self.new ≡ given_of self.old
+            ++ ((name.now, value.now) ∷ [])) × (plain_of self.new ≡ plain_of self.old)) }
     {
         self.given.push(Given { name, value })?;
         Ok(())
     }
 
     pub fn add_plain(&mut self, word: &'a str) -> Result<(), AllocError>
-        ensures { IfOk result (λ _. (given_of self.new ≡ given_of self.old) × (plain_of self.new ≡ plain_of self.old ++ (word.now ∷ []))) }
+        ensures { IfOk result (λ _. (given_of self.new ≡ given_of self.old)
+            × (plain_of self.new ≡ plain_of self.old ++ (word.now ∷ []))) }
     {
         self.plain.push(word)?;
         Ok(())
@@ -82,7 +84,9 @@ impl<'a> Parts<'a> {
 
     /// Whether each option is one of these.
     pub fn has_only(&self, names: &[&str]) -> bool
-        ensures { result ≡ list_all (λ g. list_any (λ n. pointwise nat_eq g.name.now n.now) names.now) (vec_items self.now.given) }
+        ensures { result ≡ list_all
+            (λ g. list_any (λ n. pointwise nat_eq g.name.now n.now) names.now)
+            (vec_items self.now.given) }
     {
         self.given.iter().all(|given| is_among(given.name, names))
     }
@@ -100,7 +104,8 @@ impl<'a> Parts<'a> {
 
     /// The value of an option that stands there once, or that it doesn't; else nothing.
     pub fn text_if_any(&self, name: &str) -> Option<Option<&'a str>>
-        ensures { IfSome result (λ o. HasTextOrNone name.now (given_of self.now) (option_map (λ s. s.now) o)) }
+        ensures { IfSome result (λ o. HasTextOrNone name.now (given_of self.now)
+            (option_map (λ s. s.now) o)) }
     {
         match self.find(name) {
             Found::Nothing => Some(None),
@@ -118,7 +123,8 @@ impl<'a> Parts<'a> {
 
     /// The number that an option's digits say, in this range.
     pub fn number_within(&self, name: &str, least: u32, most: u32) -> Option<u32>
-        ensures { IfSome result (λ n. HasNumber name.now (given_of self.now) n × (least ≤ n) × (n ≤ most)) }
+        ensures { IfSome result (λ n. HasNumber name.now (given_of self.now) n × (least ≤ n)
+            × (n ≤ most)) }
     {
         let number = self.number(name)?;
         if number < u64::from(least) || number > u64::from(most) {
@@ -129,7 +135,8 @@ impl<'a> Parts<'a> {
 
     /// How many rows a vector has: 1,024 where no word says it.
     pub fn vector(&self) -> Option<u32>
-        ensures { IfSome result (λ n. HasVector (given_of self.now) n × (1 ≤ n) × (n ≤ max_vector_rows)) }
+        ensures { IfSome result (λ n. HasVector (given_of self.now) n × (1 ≤ n)
+            × (n ≤ max_vector_rows)) }
     {
         match self.find("vector") {
             Found::Nothing => Some(DEFAULT_VECTOR_ROWS),

@@ -17,7 +17,8 @@ enum Next<'a> {
 
 /// The parts of the words behind a command's name, unless a name has no value.
 pub fn read<'a>(alloc: Global, words: &[&'a str]) -> Result<Option<Parts<'a>>, AllocError>
-    ensures { IfOk result (λ o. IfSome o (λ p. AreParts (map (λ w. w.now) words.now) (given_of p) (plain_of p))) }
+    ensures { IfOk result (λ o. IfSome o
+        (λ p. AreParts (map (λ w. w.now) words.now) (given_of p) (plain_of p))) }
 {
     let mut parts = Parts::new(alloc);
     let mut next = Next::Any;

@@ -19,7 +19,8 @@ use std::marker::Model;
 use std::mem;
 use std::mem::drop;
 
-/// What a coordinator holds of a job: for each fragment of the cut nothing, one answer, or a conflict.
+/// What a coordinator holds of a job: for each fragment of the cut nothing, one answer, or a
+/// conflict.
 #[derive(Drop)]
 pub struct Gather {
     job: Job,
@@ -46,7 +47,8 @@ impl Model for Gather {
 
     ghost Value = { GatherSpec };
 
-    ghost coded = { Prim.hlevel (codes, a_plan.the_row.coded, (a_cell.the_row a_group.the_row).coded) };
+    ghost coded = { Prim.hlevel
+        (codes, a_plan.the_row.coded, (a_cell.the_row a_group.the_row).coded) };
 
     ghost view = { λ g. record { job = g.job; cells = g.cells.items } };
 
@@ -114,14 +116,16 @@ impl Gather {
         &self.cells
     }
 
-    /// Takes the answer that the bytes spell. The bytes' refusals are those of `partial_codec::decode`. On error nothing
-    /// changes.
+    /// Takes the answer that the bytes spell. The bytes' refusals are those of
+    /// `partial_codec::decode`. On error nothing changes.
     pub fn absorb(&mut self, alloc: Global, bytes: &[u8]) -> Result<Absorbed, GatherFault>
         // The answer's cell is joined with it.
         ensures takes { IfOk result (Takes self.old self.new bytes.now) }
         // The state of a set of answers becomes that of the set with this one.
-        ensures joins { IfOk result (λ _. (answers : List AnAnswer) (a : AnAnswer) → Spells self.old.job bytes.now a
-            → self.old.cells ≡ joined self.old.job.cut answers → self.new.cells ≡ joined self.old.job.cut (answers ++ a ∷ [])) }
+        ensures joins { IfOk result (λ _. (answers : List AnAnswer) (a : AnAnswer)
+            → Spells self.old.job bytes.now a
+            → self.old.cells ≡ joined self.old.job.cut answers
+            → self.new.cells ≡ joined self.old.job.cut (answers ++ a ∷ [])) }
         ensures refused { IfErr result (Refuses self.old.job bytes.now) }
         ensures unchanged { OnErr result (self.new ≡ self.old) }
     {
@@ -133,14 +137,17 @@ impl Gather {
         Ok(absorbed)
     }
 
-    /// Takes all that another coordinator holds. Another load, plan or cut is refused. On error nothing
-    /// changes.
+    /// Takes all that another coordinator holds. Another load, plan or cut is refused. On error
+    /// nothing changes.
     pub fn join(&mut self, alloc: Global, other: &Gather) -> Result<(), GatherFault>
         // Each cell is joined with the other's.
-        ensures joins { OnOk result ((self.old.job ≡ other.now.job) × (self.new ≡ joined_with self.old other.now)) }
+        ensures joins { OnOk result ((self.old.job ≡ other.now.job)
+            × (self.new ≡ joined_with self.old other.now)) }
         // The states of two sets of answers become that of both together.
-        ensures together { OnOk result ((own others : List AnAnswer) → self.old.cells ≡ joined self.old.job.cut own
-            → other.now.cells ≡ joined self.old.job.cut others → self.new.cells ≡ joined self.old.job.cut (own ++ others)) }
+        ensures together { OnOk result ((own others : List AnAnswer)
+            → self.old.cells ≡ joined self.old.job.cut own
+            → other.now.cells ≡ joined self.old.job.cut others
+            → self.new.cells ≡ joined self.old.job.cut (own ++ others)) }
         ensures refused { IfErr result (RefusesJoin self.old.job other.now.job) }
         ensures unchanged { OnErr result (self.new ≡ self.old) }
     {
@@ -152,8 +159,8 @@ impl Gather {
         Ok(())
     }
 
-    /// Takes all that a state's bytes spell, as `from_state` reads them and `join` takes them. Their refusals are those of
-    /// `partial_codec::decode_state`. On error nothing changes.
+    /// Takes all that a state's bytes spell, as `from_state` reads them and `join` takes them.
+    /// Their refusals are those of `partial_codec::decode_state`. On error nothing changes.
     pub fn absorb_state(&mut self, alloc: Global, bytes: &[u8]) -> Result<(), GatherFault>
         // Each cell is joined with that which is spelled.
         ensures joins { OnOk result ((cells : List ACell) × SpellsState self.old.job bytes.now cells
@@ -168,19 +175,22 @@ impl Gather {
 
     /// The one spelling of what is held.
     pub fn state_bytes(&self, alloc: Global) -> Result<Vec<u8>, GatherFault>
-        ensures spelled { IfOk result (λ bytes. bytes.items ≡ state_bytes self.now.job self.now.cells) }
+        ensures spelled { IfOk result
+            (λ bytes. bytes.items ≡ state_bytes self.now.job self.now.cells) }
         ensures refused { IfErr result (λ e. e ≡ GatherFault.Memory) }
     {
         Ok(encode_state(alloc, &self.job, &self.cells)?)
     }
 
-    /// A coordinator that holds what the bytes spell. Their refusals are those of `partial_codec::decode_state`.
+    /// A coordinator that holds what the bytes spell. Their refusals are those of
+    /// `partial_codec::decode_state`.
     pub fn from_state(alloc: Global, job: Job, bytes: &[u8]) -> Result<Gather, GatherFault>
         requires { IsShown job.plan }
         // What it holds is spelled so.
         ensures reads { IfOk result (λ g. (g.job ≡ job) × SpellsState job bytes.now g.cells) }
         // What is spelled so is read, unless memory runs out.
-        ensures complete { (cells : List ACell) → SpellsState job bytes.now cells → IfErr result (λ e. e ≡ GatherFault.Memory) }
+        ensures complete { (cells : List ACell) → SpellsState job bytes.now cells
+            → IfErr result (λ e. e ≡ GatherFault.Memory) }
         ensures refused { IfErr result (RefusesState job bytes.now) }
     {
         match decode_state(alloc, &job, bytes) {

@@ -36,7 +36,8 @@ pub fn with_answer(cell: Cell<Group>, body: Body<Group>) -> Cell<Group>
     }
 }
 
-/// The least that a cell is to be joined with, to become what it is with the other's: nothing where it stays.
+/// The least that a cell is to be joined with, to become what it is with the other's: nothing where
+/// it stays.
 fn news_of(alloc: Global, own: &Cell<Group>, other: &Cell<Group>) -> Result<Cell<Group>, AllocError>
     ensures { IfOk result (λ news. news ≡ news_of own.now other.now) }
 {
@@ -89,7 +90,8 @@ fn joined(own: Cell<Group>, other: Cell<Group>) -> Cell<Group>
 /// Joins the cell at a place with its news.
 fn join_at(cells: &mut Vec<Cell<Group>>, k: usize, news: Cell<Group>)
     requires { k < length cells.old.items }
-    ensures { cells.new.items ≡ slice_set cells.old.items k (join_cells (slice_index_or cells.old.items k Nothing) news) }
+    ensures { cells.new.items
+        ≡ slice_set cells.old.items k (join_cells (slice_index_or cells.old.items k Nothing) news) }
 {
     let cell = &mut cells[k];
     let held = mem::replace(cell, Cell::Nothing);

@@ -1,8 +1,10 @@
 //! Laws of coordinators, each the contract of an empty function.
-// What coordinators side by side can rely on. A body does nothing: the clause is a theorem on the definitions.
+// What coordinators side by side can rely on. A body does nothing: the clause is a theorem on the
+// definitions.
 ghost use Rattle.coordinator.specs.Laws.{AnswersDecide, StatesJoin};
 
-/// The same answers, in any order and however often, make equal states, equal bytes and equal prints.
+/// The same answers, in any order and however often, make equal states, equal bytes and equal
+/// prints.
 pub fn answers_decide()
     ensures { AnswersDecide }
 {}

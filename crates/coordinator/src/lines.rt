@@ -10,7 +10,8 @@ use std::io::Write;
 /// Prints the line of a fault over groups: 1 is an overflow, 2 a division by zero, and another code
 /// a sum that is out of range.
 pub fn print_fault<W: Write>(code: u8, out: &mut W) -> Result<(), PrintFault>
-    ensures { OnOk result (Appends (W.contents out.old) (W.contents out.new) (fault_text code ++ 10 ∷ [])) }
+    ensures { OnOk result (Appends (W.contents out.old) (W.contents out.new)
+        (fault_text code ++ 10 ∷ [])) }
 {
     writeln!(out, "{}", fault_words(code))?;
     Ok(())
@@ -43,7 +44,8 @@ pub fn print_fragments<W: Write>(
     fragments: &[u32],
     out: &mut W,
 ) -> Result<(), PrintFault>
-    ensures { OnOk result (Appends (W.contents out.old) (W.contents out.new) (fragments_text word.now fragments.now)) }
+    ensures { OnOk result (Appends (W.contents out.old) (W.contents out.new)
+        (fragments_text word.now fragments.now)) }
 {
     write!(out, "{word}:")?;
     for k in fragments {

@@ -138,6 +138,7 @@ fn full_report(alloc: Global, gather: &Gather) -> Result<FullReport, AllocError>
 {
     let cells = gather.cells();
     let cut = gather.job().cut();
+    // No effect at run time. The proof reads from this call the limits of a cut.
     let _lengths = cut.lengths();
     full_report_of_cells(alloc, gather.job().plan(), cut, cells)
 }
@@ -149,7 +150,8 @@ fn print_output<W: Write>(
     out: &mut W,
 ) -> Result<(), PrintFault>
     requires { IsPrintable plan.now output.now }
-    ensures { OnOk result (Appends (W.contents out.old) (W.contents out.new) (output_text plan.now (output_in output.now))) }
+    ensures { OnOk result (Appends (W.contents out.old) (W.contents out.new)
+        (output_text plan.now (output_in output.now))) }
 {
     match output {
         Output::Finished(Finished::Rows(rows)) => print_rows(alloc, plan, rows.as_slice(), out),
@@ -166,7 +168,8 @@ fn print_full_report<W: Write>(
     out: &mut W,
 ) -> Result<(), PrintFault>
     requires { IsReportable plan.now full.now }
-    ensures { OnOk result (Appends (W.contents out.old) (W.contents out.new) (report_text plan.now (report_in full.now))) }
+    ensures { OnOk result (Appends (W.contents out.old) (W.contents out.new)
+        (report_text plan.now (report_in full.now))) }
 {
     match full {
         FullReport::Conflict(fragments) => print_fragments("conflict", fragments.as_slice(), out),
@@ -207,8 +210,8 @@ impl Gather {
         Ok(summary(full_report(alloc, self)?))
     }
 
-    /// Prints the conflicts, if there are any; else the missing fragments; else what the answers say together. What a
-    /// failed writer let out is open.
+    /// Prints the conflicts, if there are any; else the missing fragments; else what the answers
+    /// say together. What a failed writer let out is open.
     pub fn print_report<W: Write>(&self, alloc: Global, out: &mut W) -> Result<(), GatherFault>
         ensures printed { OnOk result (Appends (W.contents out.old) (W.contents out.new)
             (report_text self.now.job.plan (report self.now.job.plan self.now.cells))) }

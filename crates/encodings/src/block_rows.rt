@@ -20,7 +20,8 @@ fn read_integers(kind: Kind, rows: usize, body: &[u8], from: usize, out: &mut [i
     requires body { is_body kind of_type.Int rows body.now ≡ true }
     requires few { rows ≤ row_group_rows }
     requires within { from + length out.old ≤ rows }
-    ensures { map Int out.new ≡ take (length out.old) (drop from (body_cells kind of_type.Int rows body.now)) }
+    ensures { map Int out.new
+        ≡ take (length out.old) (drop from (body_cells kind of_type.Int rows body.now)) }
 {
     match kind {
         Kind::Plain => read_plain_integers(rows, body, from, out),
@@ -62,7 +63,8 @@ fn read_cells<'a>(part: Rows<'a>, ints: &mut [i64], texts: &mut [&'a [u8]])
     requires within { part.from + part.count ≤ part.rows }
     requires ints_room { part.col_type ≡ of_type.Int → part.count ≤ length ints.old }
     requires texts_room { part.col_type ≡ of_type.Text → part.count ≤ length texts.old }
-    ensures { cells_in part.entry.col_type (take part.entry.count ints.new) (take part.entry.count (map (λ t. t.now) texts.new))
+    ensures { cells_in part.entry.col_type (take part.entry.count ints.new)
+        (take part.entry.count (map (λ t. t.now) texts.new))
         ≡ take part.entry.count (drop part.entry.from
         (body_cells part.entry.kind part.entry.col_type part.entry.rows part.entry.body.now)) }
 {
@@ -94,15 +96,29 @@ pub struct Parts<'a> {
     pub payload: &'a [u8],
 }
 
-/// The values of a block from row `from` on, as many as there is room for. What was in the buffer is gone.
+/// The values of a block from row `from` on, as many as there is room for. What was in the buffer
+/// is gone.
 pub fn read_rows<'a>(block: Parts<'a>, from: usize, out: &mut VectorBuf<'a>)
-    requires block { is_block (record { kind = block.kind; col_type = block.col_type; nullable = block.nullable; rows = block.rows; payload = block.payload.now }) ≡ true }
+    requires block { is_block
+        (record {
+          kind = block.kind;
+          col_type = block.col_type;
+          nullable = block.nullable;
+          rows = block.rows;
+          payload = block.payload.now;
+        }) ≡ true }
     requires typed { out.old.col_type ≡ block.col_type }
     ensures { out.new ≡ record {
       room = out.old.room;
       col_type = block.entry.col_type;
       values = take out.old.room (drop from
-          (values_of (record { kind = block.entry.kind; col_type = block.entry.col_type; nullable = block.entry.nullable; rows = block.entry.rows; payload = block.entry.payload.now })));
+          (values_of (record {
+            kind = block.entry.kind;
+            col_type = block.entry.col_type;
+            nullable = block.entry.nullable;
+            rows = block.entry.rows;
+            payload = block.entry.payload.now;
+          })));
     } }
 {
     let count = out.nulls.len().min(block.rows.saturating_sub(from));

@@ -1,5 +1,6 @@
-//! What stands in the cell of each row, NULL or not, and whether the blank stands where a row is NULL.
-ghost use Rattle.std.specs.Prelude.{◌≡◌, ◌+◌, ◌*◌, ◌<◌, ◌≤◌, ◌&&◌, true, false, length, ◌||◌, not, if◌then◌else◌, replicate, get_or, map, zip};
+//! What stands in the cell of each row, NULL or not, and whether the blank stands where a row is
+//! NULL.
+ghost use Rattle.std.specs.Prelude.{◌≡◌, ◌+◌, ◌*◌, ◌<◌, ◌≤◌, ◌&&◌, true, false, length, ◌||◌, not, if◌then◌else◌, replicate, slice_index_or, map, zip};
 ghost use Rattle.std.specs.List.{list_all, range_with_len};
 ghost use Rattle.meaning.specs.Limits.{row_group_rows};
 ghost use Rattle.encodings.specs.Block.{mask_length, body_cells, is_body, is_blank};
@@ -47,7 +48,7 @@ pub fn cell_at(kind: Kind, col_type: ColType, rows: usize, body: &[u8], row: usi
     requires form { is_body kind col_type rows body.now ≡ true }
     requires within { row < rows }
     requires few { rows ≤ row_group_rows }
-    ensures { value_in result ≡ get_or (body_cells kind col_type rows body.now) row Null }
+    ensures { value_in result ≡ slice_index_or (body_cells kind col_type rows body.now) row Null }
 {
     match kind {
         Kind::Plain => value_at(col_type, rows, body, row),
@@ -68,8 +69,8 @@ pub fn is_blank(value: ValueRef<'_>) -> bool
     }
 }
 
-/// Whether the blank of the type stands in the cells of the 64 rows of a word of the mask, which begins at a byte of it,
-/// as far as their bits are set.
+/// Whether the blank of the type stands in the cells of the 64 rows of a word of the mask, which
+/// begins at a byte of it, as far as their bits are set.
 fn are_marked_blank(
     kind: Kind,
     col_type: ColType,
@@ -83,7 +84,8 @@ fn are_marked_blank(
     requires within { place ≤ length mask.now }
     requires covered { length mask.now ≡ bytes_of_bits rows }
     ensures { let cells = body_cells kind col_type rows body.now in
-        (result && are_blank_from (8 * place + 64) rows mask.now cells) ≡ are_blank_from (8 * place) rows mask.now cells }
+        (result && are_blank_from (8 * place + 64) rows mask.now cells)
+        ≡ are_blank_from (8 * place) rows mask.now cells }
 {
     let mut marks = window_at(mask, place);
     let mut row = 8 * place;
@@ -123,7 +125,8 @@ fn are_null_cells_blank(
     true
 }
 
-/// Whether the blank of the type stands in the cell of each NULL row, of which only a nullable column has any.
+/// Whether the blank of the type stands in the cell of each NULL row, of which only a nullable
+/// column has any.
 pub fn are_nulls_blank(
     kind: Kind,
     col_type: ColType,
@@ -135,7 +138,9 @@ pub fn are_nulls_blank(
     requires form { is_body kind col_type rows body.now ≡ true }
     requires few { rows ≤ row_group_rows }
     requires covered { length mask.now ≡ mask_length nullable rows }
-    ensures { result ≡ list_all (λ p. not p.0 || is_blank p.1) (zip (if nullable then map (bit_at mask.now) (range_with_len 0 rows) else replicate rows false) (body_cells kind col_type rows body.now)) }
+    ensures { result ≡ list_all (λ p. not p.0 || is_blank p.1)
+        (zip (if nullable then map (bit_at mask.now) (range_with_len 0 rows) else replicate rows
+        false) (body_cells kind col_type rows body.now)) }
 {
     if !nullable {
         return true;

@@ -65,7 +65,8 @@ fn choose_texts(
     requires some { from < to }
     requires within { to ≤ length texts.now }
     requires few { to - from ≤ row_group_rows }
-    ensures { IfOk result (IsBestOf of_type.Text (map Text (take (to - from) (drop from texts.now)))) }
+    ensures { IfOk result (IsBestOf of_type.Text
+        (map Text (take (to - from) (drop from texts.now)))) }
 {
     let plain = 4 * (to - from) + texts.joined(from, to).len();
     let runs = runs_size_of_texts(texts, from, to);
@@ -94,13 +95,15 @@ pub fn choice_of(
     }
 }
 
-/// The kind in which some rows, 1 to 8,192 of them, take the fewest bytes; of equals the first in the order of the
-/// kinds. The only error is out of memory.
+/// The kind in which some rows, 1 to 8,192 of them, take the fewest bytes; of equals the first in
+/// the order of the kinds. The only error is out of memory.
 pub fn choose(alloc: Global, column: &Column, from: usize, to: usize) -> Result<Kind, EncodeFault>
     requires some { from < to }
     requires within { to ≤ length column.now.values }
     requires few { to - from ≤ row_group_rows }
-    ensures ok { IfOk result (λ k. is_chosen column.now.col_type column.now.nullable (between from to column.now) k ≡ true) }
+    ensures ok { IfOk result
+        (λ k. is_chosen column.now.col_type column.now.nullable (between from to column.now) k
+        ≡ true) }
     ensures err { IfErr result (λ f. f ≡ Memory) }
 {
     let choice = choice_of(alloc, column, from, to)?;

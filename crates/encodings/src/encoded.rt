@@ -45,7 +45,8 @@ fn put_ints(
     requires some { 1 ≤ length ints.now }
     requires few { length ints.now ≤ row_group_rows }
     requires made { IsMadeOf (map Int ints.now) choice.now.kind choice.now.dictionary }
-    ensures ok { OnOk result (PutsBody out.old.items out.new.items choice.now.kind of_type.Int (map Int ints.now)) }
+    ensures ok { OnOk result
+        (PutsBody out.old.items out.new.items choice.now.kind of_type.Int (map Int ints.now)) }
     ensures err { IfErr result (FaultOf choice.now.kind of_type.Int) }
 {
     if let Some(dictionary) = &choice.dictionary {
@@ -67,12 +68,16 @@ fn put_texts(
     from: usize,
     to: usize,
 ) -> Result<(), EncodeFault>
-    requires fit { list_all (is_of of_type.Text false) (map Text (take (to - from) (drop from texts.now))) ≡ true }
+    requires fit { list_all (is_of of_type.Text false)
+        (map Text (take (to - from) (drop from texts.now))) ≡ true }
     requires some { from < to }
     requires within { to ≤ length texts.now }
     requires few { to - from ≤ row_group_rows }
-    requires made { IsMadeOf (map Text (take (to - from) (drop from texts.now))) choice.now.kind choice.now.dictionary }
-    ensures ok { OnOk result (PutsBody out.old.items out.new.items choice.now.kind of_type.Text (map Text (take (to - from) (drop from texts.now)))) }
+    requires made { IsMadeOf (map Text (take (to - from) (drop from texts.now))) choice.now.kind
+        choice.now.dictionary }
+    ensures ok { OnOk result
+        (PutsBody out.old.items out.new.items choice.now.kind of_type.Text
+        (map Text (take (to - from) (drop from texts.now)))) }
     ensures err { IfErr result (FaultOf choice.now.kind of_type.Text) }
 {
     if let Some(dictionary) = &choice.dictionary {
@@ -90,7 +95,8 @@ fn put_texts(
 fn put_nulls(out: &mut Vec<u8>, column: &Column, from: usize, to: usize) -> Result<(), AllocError>
     requires some { from < to }
     requires within { to ≤ length column.now.values }
-    ensures { OnOk result (PutsMask out.old.items out.new.items column.now.nullable (between from to column.now)) }
+    ensures { OnOk result (PutsMask out.old.items out.new.items column.now.nullable
+        (between from to column.now)) }
 {
     if let Some(nulls) = column.nulls() {
         put_mask(out, &nulls[from..to])?;
@@ -110,8 +116,11 @@ fn put_cells(
     requires some { from < to }
     requires within { to ≤ length column.now.values }
     requires few { to - from ≤ row_group_rows }
-    requires made { IsMadeOf (cells_for column.now.col_type (between from to column.now)) choice.now.kind choice.now.dictionary }
-    ensures ok { OnOk result (PutsBody out.old.items out.new.items choice.now.kind column.now.col_type (cells_for column.now.col_type (between from to column.now))) }
+    requires made { IsMadeOf (cells_for column.now.col_type (between from to column.now))
+        choice.now.kind choice.now.dictionary }
+    ensures ok { OnOk result
+        (PutsBody out.old.items out.new.items choice.now.kind column.now.col_type
+        (cells_for column.now.col_type (between from to column.now))) }
     ensures err { IfErr result (FaultOf choice.now.kind column.now.col_type) }
 {
     match column.cells() {
@@ -131,22 +140,30 @@ fn payload_of(
     requires some { from < to }
     requires within { to ≤ length column.now.values }
     requires few { to - from ≤ row_group_rows }
-    requires made { IsMadeOf (cells_for column.now.col_type (between from to column.now)) choice.now.kind choice.now.dictionary }
-    ensures block { IfOk result (λ bytes. is_block (block_of choice.now.kind column.now from to bytes.items) ≡ true) }
-    ensures values { IfOk result (λ bytes. values_of (block_of choice.now.kind column.now from to bytes.items) ≡ between from to column.now) }
-    ensures tight { IfOk result (λ bytes. is_tight (block_of choice.now.kind column.now from to bytes.items) ≡ true) }
-    ensures size { IfOk result (λ bytes. length bytes.items ≡ payload_size choice.now.kind column.now.col_type column.now.nullable (between from to column.now)) }
+    requires made { IsMadeOf (cells_for column.now.col_type (between from to column.now))
+        choice.now.kind choice.now.dictionary }
+    ensures block { IfOk result
+        (λ bytes. is_block (block_of choice.now.kind column.now from to bytes.items) ≡ true) }
+    ensures values { IfOk result
+        (λ bytes. values_of (block_of choice.now.kind column.now from to bytes.items)
+        ≡ between from to column.now) }
+    ensures tight { IfOk result
+        (λ bytes. is_tight (block_of choice.now.kind column.now from to bytes.items) ≡ true) }
+    ensures size { IfOk result (λ bytes. length bytes.items
+        ≡ payload_size choice.now.kind column.now.col_type column.now.nullable
+        (between from to column.now)) }
     ensures fault { IfErr result (FaultOf choice.now.kind column.now.col_type) }
 {
     let mut out = Vec::new(alloc);
+    // No effect at run time. The proof reads from this call that each value fits the column.
     let _rows = column.len();
     put_nulls(&mut out, column, from, to)?;
     put_cells(alloc, &mut out, choice, column, from, to)?;
     Ok(out)
 }
 
-/// The rows from one on and up to another, 1 to 8,192 of them, as the payload of a block of a kind. A frame of
-/// reference is refused on a text column; the only other error is out of memory.
+/// The rows from one on and up to another, 1 to 8,192 of them, as the payload of a block of a kind.
+/// A frame of reference is refused on a text column; the only other error is out of memory.
 pub fn encode_as(
     alloc: Global,
     kind: Kind,
@@ -157,17 +174,22 @@ pub fn encode_as(
     requires some { from < to }
     requires within { to ≤ length column.now.values }
     requires few { to - from ≤ row_group_rows }
-    ensures block { IfOk result (λ bytes. is_block (block_of kind column.now from to bytes.items) ≡ true) }
-    ensures values { IfOk result (λ bytes. values_of (block_of kind column.now from to bytes.items) ≡ between from to column.now) }
-    ensures tight { IfOk result (λ bytes. is_tight (block_of kind column.now from to bytes.items) ≡ true) }
-    ensures size { IfOk result (λ bytes. length bytes.items ≡ payload_size kind column.now.col_type column.now.nullable (between from to column.now)) }
+    ensures block { IfOk result (λ bytes. is_block (block_of kind column.now from to bytes.items)
+        ≡ true) }
+    ensures values { IfOk result (λ bytes. values_of (block_of kind column.now from to bytes.items)
+        ≡ between from to column.now) }
+    ensures tight { IfOk result (λ bytes. is_tight (block_of kind column.now from to bytes.items)
+        ≡ true) }
+    ensures size { IfOk result (λ bytes. length bytes.items
+        ≡ payload_size kind column.now.col_type column.now.nullable (between from to column.now)) }
     ensures fault { IfErr result (FaultOf kind column.now.col_type) }
 {
     payload_of(alloc, &Choice::of_kind(kind), column, from, to)
 }
 
-/// The rows from one on and up to another, 1 to 8,192 of them, as the payload of a block of the kind in which they take the
-/// fewest bytes; of equals the first in the order of the kinds. The only error is out of memory.
+/// The rows from one on and up to another, 1 to 8,192 of them, as the payload of a block of the
+/// kind in which they take the fewest bytes; of equals the first in the order of the kinds. The
+/// only error is out of memory.
 pub fn encode(
     alloc: Global,
     column: &Column,
@@ -177,11 +199,18 @@ pub fn encode(
     requires some { from < to }
     requires within { to ≤ length column.now.values }
     requires few { to - from ≤ row_group_rows }
-    ensures chosen { IfOk result (λ e. is_chosen column.now.col_type column.now.nullable (between from to column.now) e.kind ≡ true) }
-    ensures block { IfOk result (λ e. is_block (block_of e.kind column.now from to e.payload.items) ≡ true) }
-    ensures values { IfOk result (λ e. values_of (block_of e.kind column.now from to e.payload.items) ≡ between from to column.now) }
-    ensures tight { IfOk result (λ e. is_tight (block_of e.kind column.now from to e.payload.items) ≡ true) }
-    ensures size { IfOk result (λ e. length e.payload.items ≡ payload_size e.kind column.now.col_type column.now.nullable (between from to column.now)) }
+    ensures chosen { IfOk result
+        (λ e. is_chosen column.now.col_type column.now.nullable (between from to column.now) e.kind
+        ≡ true) }
+    ensures block { IfOk result (λ e. is_block (block_of e.kind column.now from to e.payload.items)
+        ≡ true) }
+    ensures values { IfOk result
+        (λ e. values_of (block_of e.kind column.now from to e.payload.items)
+        ≡ between from to column.now) }
+    ensures tight { IfOk result (λ e. is_tight (block_of e.kind column.now from to e.payload.items)
+        ≡ true) }
+    ensures size { IfOk result (λ e. length e.payload.items
+        ≡ payload_size e.kind column.now.col_type column.now.nullable (between from to column.now)) }
     ensures fault { IfErr result (λ f. f ≡ Memory) }
 {
     let choice = choice_of(alloc, column, from, to)?;

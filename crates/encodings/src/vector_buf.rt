@@ -1,5 +1,5 @@
 //! A buffer for values that are read out of a block.
-ghost use Rattle.std.specs.Prelude.{pos, ◌≡◌, ◌==◌, ◌<◌, ◌↔◌, [], map, length, get_or, IfOk, IsSome, IfSome};
+ghost use Rattle.std.specs.Prelude.{pos, ◌≡◌, ◌==◌, ◌<◌, ◌↔◌, [], map, length, slice_index_or, IfOk, IsSome, IfSome};
 ghost use Rattle.meaning.specs.declared.value.Value.TheVariants.{Null};
 ghost use Rattle.meaning.specs.Order.{value_in, is_null, number, bytes};
 ghost use Rattle.encodings.specs.VectorBuf.{Vector, AreParts};
@@ -34,14 +34,16 @@ impl<'a> Model for VectorBuf<'a> {
 
     ghost Value = { Vector };
 
-    ghost view = { λ v. vector_of v.col_type v.len v.nulls.items v.ints.items (map (λ t. t.now) v.texts.items) };
+    ghost view = { λ v. vector_of v.col_type v.len v.nulls.items v.ints.items
+        (map (λ t. t.now) v.texts.items) };
 
-    ghost invariant = { λ v. AreCells v.col_type v.len v.nulls.items v.ints.items (map (λ t. t.now) v.texts.items) };
+    ghost invariant = { λ v. AreCells v.col_type v.len v.nulls.items v.ints.items
+        (map (λ t. t.now) v.texts.items) };
 }
 
 fn integer_at(ints: &[i64], i: usize) -> i64
     requires { i < length ints.now }
-    ensures { result ≡ get_or ints.now i (pos 0) }
+    ensures { result ≡ slice_index_or ints.now i (pos 0) }
 {
     ints[i]
 }
@@ -89,7 +91,7 @@ impl<'a> VectorBuf<'a> {
     /// Value `i`.
     pub fn get(&self, i: usize) -> ValueRef<'a>
         requires { i < length self.now.values }
-        ensures { value_in result ≡ get_or self.now.values i Null }
+        ensures { value_in result ≡ slice_index_or self.now.values i Null }
     {
         if self.nulls.as_slice()[i] {
             return ValueRef::Null;
@@ -121,7 +123,8 @@ impl<'a> VectorBuf<'a> {
     /// The bytes of the texts, with none in the place of NULL. None for integers.
     pub fn texts(&self) -> Option<&[&'a [u8]]>
         ensures variant { IsSome result ↔ (self.now.col_type ≡ of_type.Text) }
-        ensures value { IfSome result (λ texts. map (λ t. t.now) texts.now ≡ map bytes self.now.values) }
+        ensures value { IfSome result (λ texts. map (λ t. t.now) texts.now
+            ≡ map bytes self.now.values) }
     {
         match self.col_type {
             ColType::Text => Some(&self.texts.as_slice()[..self.len]),
@@ -129,8 +132,8 @@ impl<'a> VectorBuf<'a> {
         }
     }
 
-    /// The values that were read, and which of them are NULL: 0 or the empty text stands in the place of such. Nothing
-    /// is copied.
+    /// The values that were read, and which of them are NULL: 0 or the empty text stands in the
+    /// place of such. Nothing is copied.
     pub fn into_parts(self) -> (Lanes<'a>, Vec<bool>)
         ensures { AreParts result.0 result.1.items self.entry }
     {

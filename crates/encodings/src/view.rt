@@ -1,5 +1,5 @@
 //! A block in bytes that stand elsewhere.
-ghost use Rattle.std.specs.Prelude.{◌≡◌, ◌<◌, true, false, get_or, take, drop, sum, MatchOption, IfSome};
+ghost use Rattle.std.specs.Prelude.{◌≡◌, ◌<◌, true, false, slice_index_or, take, drop, sum, MatchOption, IfSome};
 ghost use Rattle.meaning.specs.Order.{value_in, value_cmp, is_ascending};
 ghost use Rattle.meaning.specs.declared.value.Value.TheVariants.{Null};
 ghost use Rattle.encodings.specs.Block.{Block, is_block, mask_of, body_of, nulls_of, values_of};
@@ -19,7 +19,8 @@ use meaning::limits::ROW_GROUP_ROWS;
 use meaning::value::{ColType, ValueRef};
 use std::marker::Model;
 
-/// A block whose bytes were found to be well formed. The bytes stand elsewhere. Contracts see the block.
+/// A block whose bytes were found to be well formed. The bytes stand elsewhere. Contracts see the
+/// block.
 #[derive(Drop)]
 pub struct BlockView<'a> {
     kind: Kind,
@@ -35,13 +36,33 @@ impl<'a> Model for BlockView<'a> {
 
     ghost Value = { Block };
 
-    ghost view = { λ b. record { kind = b.kind; col_type = b.col_type; nullable = b.nullable; rows = b.rows; payload = b.payload.now } };
+    ghost view = { λ b. record {
+      kind = b.kind;
+      col_type = b.col_type;
+      nullable = b.nullable;
+      rows = b.rows;
+      payload = b.payload.now;
+    } };
 
-    ghost invariant = { λ b. is_block (record { kind = b.kind; col_type = b.col_type; nullable = b.nullable; rows = b.rows; payload = b.payload.now }) ≡ true };
+    ghost invariant = { λ b. is_block
+        (record {
+          kind = b.kind;
+          col_type = b.col_type;
+          nullable = b.nullable;
+          rows = b.rows;
+          payload = b.payload.now;
+        }) ≡ true };
 }
 
 fn is_block(kind: Kind, col_type: ColType, nullable: bool, rows: usize, payload: &[u8]) -> bool
-    ensures { result ≡ is_block (record { kind = kind; col_type = col_type; nullable = nullable; rows = rows; payload = payload.now }) }
+    ensures { result ≡ is_block
+        (record {
+          kind = kind;
+          col_type = col_type;
+          nullable = nullable;
+          rows = rows;
+          payload = payload.now;
+        }) }
 {
     if rows < 1 {
         return false;
@@ -64,7 +85,8 @@ fn is_block(kind: Kind, col_type: ColType, nullable: bool, rows: usize, payload:
 }
 
 impl<'a> BlockView<'a> {
-    /// The view of a payload, where its bytes are a block of that kind, type and number of rows. Takes no memory.
+    /// The view of a payload, where its bytes are a block of that kind, type and number of rows.
+    /// Takes no memory.
     pub fn new(
         kind: Kind,
         col_type: ColType,
@@ -72,7 +94,13 @@ impl<'a> BlockView<'a> {
         rows: usize,
         payload: &'a [u8],
     ) -> Option<BlockView<'a>>
-        ensures { let b : Block = record { kind = kind; col_type = col_type; nullable = nullable; rows = rows; payload = payload.entry.now } in
+        ensures { let b : Block = record {
+          kind = kind;
+          col_type = col_type;
+          nullable = nullable;
+          rows = rows;
+          payload = payload.entry.now;
+        } in
             MatchOption result (is_block b ≡ false) (λ view. (view ≡ b) × (is_block b ≡ true)) }
     {
         if !is_block(kind, col_type, nullable, rows, payload) {
@@ -81,7 +109,8 @@ impl<'a> BlockView<'a> {
         Some(BlockView::new_unchecked(kind, col_type, nullable, rows, payload))
     }
 
-    /// The same for bytes that are known to be a block, such as those of a file that was opened. Looks at none of them.
+    /// The same for bytes that are known to be a block, such as those of a file that was opened.
+    /// Looks at none of them.
     pub fn new_unchecked(
         kind: Kind,
         col_type: ColType,
@@ -89,8 +118,20 @@ impl<'a> BlockView<'a> {
         rows: usize,
         payload: &'a [u8],
     ) -> BlockView<'a>
-        requires { is_block (record { kind = kind; col_type = col_type; nullable = nullable; rows = rows; payload = payload.now }) ≡ true }
-        ensures { result ≡ record { kind = kind; col_type = col_type; nullable = nullable; rows = rows; payload = payload.entry.now } }
+        requires { is_block (record {
+          kind = kind;
+          col_type = col_type;
+          nullable = nullable;
+          rows = rows;
+          payload = payload.now;
+        }) ≡ true }
+        ensures { result ≡ record {
+          kind = kind;
+          col_type = col_type;
+          nullable = nullable;
+          rows = rows;
+          payload = payload.entry.now;
+        } }
     {
         BlockView {
             kind,
@@ -150,11 +191,15 @@ impl<'a> BlockView<'a> {
         self.payload
     }
 
-    /// Fills the buffer, which is for values of this type, anew with those from row `from` on, as many as it has room
-    /// for or as are left. Takes no memory.
+    /// Fills the buffer, which is for values of this type, anew with those from row `from` on, as
+    /// many as it has room for or as are left. Takes no memory.
     pub fn read_into(&self, from: usize, out: &mut VectorBuf<'a>)
         requires { out.old.col_type ≡ self.now.col_type }
-        ensures { out.new ≡ record { room = out.old.room; col_type = self.now.col_type; values = take out.old.room (drop from (values_of self.now)) } }
+        ensures { out.new ≡ record {
+          room = out.old.room;
+          col_type = self.now.col_type;
+          values = take out.old.room (drop from (values_of self.now));
+        } }
     {
         let block = Parts {
             kind: self.kind,
@@ -183,7 +228,7 @@ impl<'a> BlockView<'a> {
     /// Whether the value of a row is NULL.
     pub fn is_null(&self, row: usize) -> bool
         requires { row < self.now.rows }
-        ensures value { result ≡ get_or (nulls_of self.now) row false }
+        ensures value { result ≡ slice_index_or (nulls_of self.now) row false }
         ensures sound { is_block self.now ≡ true }
     {
         if !self.nullable {
@@ -195,7 +240,7 @@ impl<'a> BlockView<'a> {
     /// The value of a row. A text is lent from the payload. Takes no memory.
     pub fn get(&self, row: usize) -> ValueRef<'a>
         requires { row < self.now.rows }
-        ensures { value_in result ≡ get_or (values_of self.now) row Null }
+        ensures { value_in result ≡ slice_index_or (values_of self.now) row Null }
     {
         if self.is_null(row) {
             return ValueRef::Null;
@@ -203,11 +248,14 @@ impl<'a> BlockView<'a> {
         cell_at(self.kind, self.col_type, self.rows, self.body(), row)
     }
 
-    /// The entries and the codes, where the block is a dictionary. A row that isn't NULL has the entry at its code.
+    /// The entries and the codes, where the block is a dictionary. A row that isn't NULL has the
+    /// entry at its code.
     pub fn dictionary(&self) -> Option<DictionaryView<'a>>
-        ensures lent { MatchOption result (¬ (self.now.kind ≡ Kind.Dict)) (λ dictionary. (self.now.kind ≡ Kind.Dict) × (dictionary ≡ dictionary_in self.now)) }
+        ensures lent { MatchOption result (¬ (self.now.kind ≡ Kind.Dict))
+            (λ dictionary. (self.now.kind ≡ Kind.Dict) × (dictionary ≡ dictionary_in self.now)) }
         ensures values { IfSome result (λ dictionary. StandsFor self.now (coded_cells dictionary)) }
-        ensures ascending { IfSome result (λ dictionary. is_ascending value_cmp dictionary.entries ≡ true) }
+        ensures ascending { IfSome result (λ dictionary. is_ascending value_cmp dictionary.entries
+            ≡ true) }
     {
         match self.kind {
             Kind::Dict => Some(lend_dictionary(self.col_type, self.rows, self.body())),
@@ -217,7 +265,8 @@ impl<'a> BlockView<'a> {
 
     /// The runs, where the block is made of such. A row that isn't NULL has the value of its run.
     pub fn runs(&self) -> Option<RunsView<'a>>
-        ensures lent { MatchOption result (¬ (self.now.kind ≡ Kind.Runs)) (λ runs. (self.now.kind ≡ Kind.Runs) × (runs ≡ runs_in self.now)) }
+        ensures lent { MatchOption result (¬ (self.now.kind ≡ Kind.Runs))
+            (λ runs. (self.now.kind ≡ Kind.Runs) × (runs ≡ runs_in self.now)) }
         ensures values { IfSome result (λ runs. StandsFor self.now (run_cells runs)) }
         ensures all_rows { IfSome result (λ runs. sum runs.lengths ≡ self.now.rows) }
     {

@@ -31,7 +31,8 @@ pub fn try_read<F: Folder>(
     folder: &F,
     path: &str,
 ) -> Result<Option<Vec<u8>>, Refusal>
-    ensures held { IfOk result (λ found. IfSome found (λ bytes. AreHeld (F.holds folder.now path.now) bytes.items)) }
+    ensures held { IfOk result
+        (λ found. IfSome found (λ bytes. AreHeld (F.holds folder.now path.now) bytes.items)) }
     ensures refused { IfErr result (λ e. e ≡ Memory) }
 {
     match read_bytes(alloc, folder, path) {
@@ -56,7 +57,8 @@ pub fn read_file<F: Folder>(alloc: Global, folder: &F, path: &Text) -> Result<Ve
 
 /// A reader of a file's bytes from their beginning.
 pub fn open_file<F: Folder>(folder: &F, path: &Text) -> Result<F::Reader, Refusal>
-    ensures opened { IfOk result (λ file. HasHeld (F.holds folder.now path.now) (F.Reader.remaining file)) }
+    ensures opened { IfOk result
+        (λ file. HasHeld (F.holds folder.now path.now) (F.Reader.remaining file)) }
     ensures refused { IfErr result (IsUnread path.now) }
 {
     match folder.open(path.as_str()) {
@@ -74,7 +76,8 @@ pub fn read_catalog_file<F: Folder>(
     folder: &F,
     directory: &str,
 ) -> Result<Vec<u8>, Refusal>
-    ensures held { IfOk result (λ bytes. AreHeld (F.holds folder.now (catalog_path directory.now)) bytes.items) }
+    ensures held { IfOk result
+        (λ bytes. AreHeld (F.holds folder.now (catalog_path directory.now)) bytes.items) }
     ensures refused { IfErr result (IsUnread (catalog_path directory.now)) }
 {
     let path = catalog_path(alloc, directory)?;
@@ -136,7 +139,8 @@ pub fn close_file<F: Folder>(
 
 /// Puts a closed file under its path.
 pub fn put_file<F: Folder>(folder: &mut F, path: &Text, file: F::Closed) -> Result<(), Refusal>
-    ensures finished { OnOk result (Finishes (F.wrote folder.old) (F.wrote folder.new) path.now (F.enclosed file)) }
+    ensures finished { OnOk result
+        (Finishes (F.wrote folder.old) (F.wrote folder.new) path.now (F.enclosed file)) }
     ensures refused { IfErr result (IsUnwritten path.now) }
 {
     match folder.finish(path.as_str(), file) {
@@ -147,7 +151,8 @@ pub fn put_file<F: Folder>(folder: &mut F, path: &Text, file: F::Closed) -> Resu
 
 /// Closes a file that has all its bytes, and puts it under its path.
 pub fn finish_file<F: Folder>(folder: &mut F, path: &Text, file: F::Writer) -> Result<(), Refusal>
-    ensures finished { OnOk result (Finishes (F.wrote folder.old) (F.wrote folder.new) path.now (F.Writer.contents file)) }
+    ensures finished { OnOk result
+        (Finishes (F.wrote folder.old) (F.wrote folder.new) path.now (F.Writer.contents file)) }
     ensures refused { IfErr result (IsUnwritten path.now) }
 {
     let file = close_file(folder, path, file)?;
@@ -172,7 +177,8 @@ pub fn remove_file<F: Folder>(folder: &mut F, path: &Text) -> Result<(), Refusal
 /// Out of memory, or the file cannot be written. The beginning of it may then lie under the name
 /// that the folder gives a file until it is whole.
 pub fn write_file<F: Folder>(folder: &mut F, path: &Text, bytes: &[u8]) -> Result<(), Refusal>
-    ensures written { OnOk result (WritesOne path.now (λ given. given ≡ bytes.now) (F.wrote folder.old) (F.wrote folder.new)) }
+    ensures written { OnOk result
+        (WritesOne path.now (λ given. given ≡ bytes.now) (F.wrote folder.old) (F.wrote folder.new)) }
     ensures refused { IfErr result (IsUnwritten path.now) }
 {
     let mut file = create_file(folder, path)?;

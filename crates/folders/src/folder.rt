@@ -12,7 +12,8 @@ pub trait Folder {
     /// What takes the bytes of a file.
     type Writer: Write + Drop;
 
-    /// A file that has all its bytes and stands under no path yet. It is given up where it is let go.
+    /// A file that has all its bytes and stands under no path yet. It is given up where it is let
+    /// go.
     type Closed: Drop;
 
     // The bytes of a path's file, where they are known.
@@ -30,7 +31,8 @@ pub trait Folder {
 
     /// An empty file, which stands under its path once it is finished.
     fn create(&mut self, path: &str) -> io::Result<Self::Writer>
-        ensures empty { IfOk result (λ file. IsEmptyFile (wrote self.old) (Self.Writer.contents file)) }
+        ensures empty { IfOk result
+            (λ file. IsEmptyFile (wrote self.old) (Self.Writer.contents file)) }
         ensures same { wrote self.new ≡ wrote self.old }
         ensures held { holds self.new ≡ holds self.old };
 

@@ -16,19 +16,22 @@ use std::io::Write;
 use worker::WorkFault;
 
 fn tell_number<E: Write>(word: &str, number: u8, err: &mut E) -> io::Result<()>
-    ensures { OnOk result (Appends (E.contents err.old) (E.contents err.new) (numbered_line word.now number [])) }
+    ensures { OnOk result (Appends (E.contents err.old) (E.contents err.new)
+        (numbered_line word.now number [])) }
 {
     writeln!(err, "xcols: {word} {number}")
 }
 
 fn tell_detail<E: Write>(word: &str, number: u8, detail: u64, err: &mut E) -> io::Result<()>
-    ensures { OnOk result (Appends (E.contents err.old) (E.contents err.new) (numbered_line word.now number (decimal detail ∷ []))) }
+    ensures { OnOk result (Appends (E.contents err.old) (E.contents err.new)
+        (numbered_line word.now number (decimal detail ∷ []))) }
 {
     writeln!(err, "xcols: {word} {number} {detail}")
 }
 
 fn tell_word<E: Write>(word: &str, number: u8, detail: &str, err: &mut E) -> io::Result<()>
-    ensures { OnOk result (Appends (E.contents err.old) (E.contents err.new) (numbered_line word.now number (detail.now ∷ []))) }
+    ensures { OnOk result (Appends (E.contents err.old) (E.contents err.new)
+        (numbered_line word.now number (detail.now ∷ []))) }
 {
     writeln!(err, "xcols: {word} {number} {detail}")
 }
@@ -40,7 +43,8 @@ fn tell_field<E: Write>(
     column: u64,
     err: &mut E,
 ) -> io::Result<()>
-    ensures { OnOk result (Appends (E.contents err.old) (E.contents err.new) (numbered_line word.now number (decimal row ∷ decimal column ∷ []))) }
+    ensures { OnOk result (Appends (E.contents err.old) (E.contents err.new)
+        (numbered_line word.now number (decimal row ∷ decimal column ∷ []))) }
 {
     writeln!(err, "xcols: {word} {number} {row} {column}")
 }
@@ -52,13 +56,15 @@ fn tell_place_and_word<E: Write>(
     left_out: &str,
     err: &mut E,
 ) -> io::Result<()>
-    ensures { OnOk result (Appends (E.contents err.old) (E.contents err.new) (numbered_line word.now number (decimal place ∷ left_out.now ∷ []))) }
+    ensures { OnOk result (Appends (E.contents err.old) (E.contents err.new)
+        (numbered_line word.now number (decimal place ∷ left_out.now ∷ []))) }
 {
     writeln!(err, "xcols: {word} {number} {place} {left_out}")
 }
 
 fn tell_catalog<E: Write>(fault: &CatalogFault, err: &mut E) -> io::Result<()>
-    ensures { OnOk result (Appends (E.contents err.old) (E.contents err.new) (catalog_line fault.now)) }
+    ensures { OnOk result (Appends (E.contents err.old) (E.contents err.new)
+        (catalog_line fault.now)) }
 {
     let number = fault.number();
     match fault {
@@ -110,7 +116,8 @@ fn tell_plan<E: Write>(fault: &PlanFault, err: &mut E) -> io::Result<()>
 }
 
 fn tell_cut_file<E: Write>(fault: &FileFault, err: &mut E) -> io::Result<()>
-    ensures { OnOk result (Appends (E.contents err.old) (E.contents err.new) (cut_file_line fault.now)) }
+    ensures { OnOk result (Appends (E.contents err.old) (E.contents err.new)
+        (cut_file_line fault.now)) }
 {
     let number = fault.number();
     match fault {
@@ -135,7 +142,8 @@ fn tell_block<E: Write>(
 
 /// Of a table's file, which a worker refuses.
 fn tell_work_file<E: Write>(fault: &FileFault, err: &mut E) -> io::Result<()>
-    ensures { OnOk result (Appends (E.contents err.old) (E.contents err.new) (work_line (File fault.now))) }
+    ensures { OnOk result (Appends (E.contents err.old) (E.contents err.new)
+        (work_line (File fault.now))) }
 {
     let number = fault.number();
     match fault {
@@ -154,7 +162,8 @@ fn tell_work<E: Write>(fault: &WorkFault, err: &mut E) -> io::Result<()>
 }
 
 fn tell_file<E: Write>(lacks: &str, path: &Text, err: &mut E) -> io::Result<()>
-    ensures { OnOk result (Appends (E.contents err.old) (E.contents err.new) (file_line lacks.now path.now)) }
+    ensures { OnOk result (Appends (E.contents err.old) (E.contents err.new)
+        (file_line lacks.now path.now)) }
 {
     writeln!(err, "xcols: {lacks} {}", path.as_str())
 }
@@ -187,7 +196,8 @@ pub fn tell<E: Write>(refusal: &Refusal, err: &mut E) -> io::Result<()>
 
 /// Writes the line that tells which file was passed over, with the error code of its bytes.
 pub fn tell_passed_over<E: Write>(number: u8, path: &str, err: &mut E) -> io::Result<()>
-    ensures { OnOk result (Appends (E.contents err.old) (E.contents err.new) (passed_over_line number path.now)) }
+    ensures { OnOk result (Appends (E.contents err.old) (E.contents err.new)
+        (passed_over_line number path.now)) }
 {
     tell_word("gather", number, path, err)
 }

@@ -1,5 +1,5 @@
 //! The columns of an opened file, in memory of their own.
-ghost use Rattle.std.specs.Prelude.{◌≡◌, ◌<◌, ◌≤◌, length, get_or, true, IfOk, IfErr, OnOk};
+ghost use Rattle.std.specs.Prelude.{◌≡◌, ◌<◌, ◌≤◌, length, slice_index_or, true, IfOk, IfErr, OnOk};
 ghost use Rattle.std.specs.List.{list_all};
 ghost use Rattle.meaning.specs.Limits.{row_group_rows};
 ghost use Rattle.meaning.specs.Order.{value_in};
@@ -44,7 +44,8 @@ fn append_value(column: &mut Column, value: ValueRef<'_>) -> Result<(), FileFaul
 }
 
 fn append_values(column: &mut Column, values: &VectorBuf<'_>) -> Result<(), FileFault>
-    requires { list_all (is_taken column.old.col_type column.old.nullable) values.now.values ≡ true }
+    requires { list_all (is_taken column.old.col_type column.old.nullable) values.now.values
+        ≡ true }
     ensures ok { OnOk result (column.new ≡ with_values column.old values.now.values) }
     ensures err { IfErr result (λ f. f ≡ FileFault.Memory) }
 {
@@ -69,6 +70,7 @@ fn append_block<'a>(
     ensures room { buffer.new.room ≡ buffer.old.room }
     ensures same { buffer.new.col_type ≡ buffer.old.col_type }
 {
+    // No effect at run time. The proof reads from this call that the view is of a block.
     let _rows = block.len();
     block.read_into(0, buffer);
     append_values(column, buffer)
@@ -82,13 +84,17 @@ fn append_groups<'a>(
     buffer: &mut VectorBuf<'a>,
 ) -> Result<(), FileFault>
     requires place { place < length view.now.header.columns }
-    requires col_type { (d : ADeclared) → column.old.col_type ≡ (get_or view.now.header.columns place d).col_type }
-    requires nullable { (d : ADeclared) → column.old.nullable ≡ (get_or view.now.header.columns place d).nullable }
+    requires col_type { (d : ADeclared)
+        → column.old.col_type ≡ (slice_index_or view.now.header.columns place d).col_type }
+    requires nullable { (d : ADeclared)
+        → column.old.nullable ≡ (slice_index_or view.now.header.columns place d).nullable }
     requires room { row_group_rows ≤ buffer.old.room }
     requires kind { buffer.old.col_type ≡ column.old.col_type }
-    ensures ok { OnOk result (column.new ≡ with_values column.old (column_values place view.now.groups)) }
+    ensures ok { OnOk result
+        (column.new ≡ with_values column.old (column_values place view.now.groups)) }
     ensures err { IfErr result (λ f. f ≡ FileFault.Memory) }
 {
+    // No effect at run time. The proof reads from this call that the header is well-formed.
     let _header = view.header();
     for group in 0..view.group_count() {
         let block = view.group(group).column(place);
@@ -97,7 +103,8 @@ fn append_groups<'a>(
     Ok(())
 }
 
-/// The column of the file at a place, in memory of its own: each block is read whole, and its texts are copied as bytes.
+/// The column of the file at a place, in memory of its own: each block is read whole, and its texts
+/// are copied as bytes.
 ///
 /// # Errors
 ///
@@ -109,7 +116,7 @@ pub fn read_column(
 ) -> Result<Column, FileFault>
     requires place { place < length view.now.header.columns }
     ensures ok { IfOk result (λ c. (d : ADeclared) →
-        c ≡ column_in view.now.groups (place, get_or view.now.header.columns place d)) }
+        c ≡ column_in view.now.groups (place, slice_index_or view.now.header.columns place d)) }
     ensures err { IfErr result (λ f. f ≡ FileFault.Memory) }
 {
     let declared = &view.header().columns.as_slice()[place];

@@ -29,7 +29,8 @@ fn take_length(bytes: &[u8]) -> Result<(u32, &[u8]), FileFault>
 }
 
 fn take_lengths(alloc: Global, count: u32, bytes: &[u8]) -> Result<(Vec<u32>, &[u8]), FileFault>
-    ensures { GivesIfMemory FileFault.Memory (λ x. (x.0.items, x.1.now)) result (repeat_at length_at count bytes.now) }
+    ensures { GivesIfMemory FileFault.Memory (λ x. (x.0.items, x.1.now)) result
+        (repeat_at length_at count bytes.now) }
 {
     let mut lengths = Vec::new(alloc);
     let mut rest = bytes;

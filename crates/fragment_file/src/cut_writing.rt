@@ -40,8 +40,8 @@ fn put_cut<W: Write>(load: u64, cut: &Cut, out: &mut W) -> Result<(), DeviceFaul
     put_seal(out, hasher)
 }
 
-/// Writes the file of a cut: the number of the load that made the files, and how many rows each fragment has. Takes no
-/// memory.
+/// Writes the file of a cut: the number of the load that made the files, and how many rows each
+/// fragment has. Takes no memory.
 ///
 /// # Errors
 ///

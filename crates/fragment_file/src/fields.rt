@@ -49,7 +49,8 @@ fn take_column<'a>(
     earlier: &[Column],
     bytes: &'a [u8],
 ) -> Result<(Column, &'a [u8]), FileFault>
-    ensures { GivesIfMemory FileFault.Memory (λ x. (x.0, x.1.now)) result (column_at earlier.now bytes.now) }
+    ensures { GivesIfMemory FileFault.Memory (λ x. (x.0, x.1.now)) result
+        (column_at earlier.now bytes.now) }
 {
     let (name, rest) = take_name(bytes)?;
     if is_named(name, earlier) {
@@ -69,7 +70,8 @@ fn take_column<'a>(
 }
 
 fn take_columns(alloc: Global, count: u16, bytes: &[u8]) -> Result<(Vec<Column>, &[u8]), FileFault>
-    ensures { GivesIfMemory FileFault.Memory (λ x. (x.0.items, x.1.now)) result (columns_at count [] bytes.now) }
+    ensures { GivesIfMemory FileFault.Memory (λ x. (x.0.items, x.1.now)) result
+        (columns_at count [] bytes.now) }
 {
     let mut columns = Vec::new(alloc);
     let mut rest = bytes;

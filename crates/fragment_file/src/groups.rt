@@ -51,7 +51,8 @@ fn take_block<'a>(
     rest: &'a [u8],
 ) -> Result<(BlockView<'a>, &'a [u8]), FileFault>
     ensures read { Reads (λ x. (x.0, x.1.now)) result (block_at group column of.now rows rest.now) }
-    ensures behind { (bytes : List ℕ) → IsEnd bytes rest.now → IfOk result (λ x. IsEnd bytes (x.0.payload ++ x.1.now)) }
+    ensures behind { (bytes : List ℕ) → IsEnd bytes rest.now
+        → IfOk result (λ x. IsEnd bytes (x.0.payload ++ x.1.now)) }
 {
     let (code, rest) = take_u8(rest)?;
     let (length, rest) = take_u32(rest)?;
@@ -62,7 +63,8 @@ fn take_block<'a>(
     Ok((block, rest))
 }
 
-/// The places of the blocks of a row group, which stand at the front of `rest`, the end of the bytes.
+/// The places of the blocks of a row group, which stand at the front of `rest`, the end of the
+/// bytes.
 fn take_blocks<'a>(
     alloc: Global,
     group: u64,
@@ -72,7 +74,8 @@ fn take_blocks<'a>(
     rest: &'a [u8],
 ) -> Result<(Vec<BlockPlace>, &'a [u8]), FileFault>
     requires { IsEnd bytes.now rest.now }
-    ensures read { GivesIfMemory FileFault.Memory (λ x. (map (block_in bytes.now) x.0.items, x.1.now)) result
+    ensures read { GivesIfMemory FileFault.Memory
+        (λ x. (map (block_in bytes.now) x.0.items, x.1.now)) result
         (blocks_at group 0 columns.now rows rest.now) }
     ensures taken { IfOk result (λ x. AreTaken bytes.now x.0.items x.1.now) }
 {
@@ -96,7 +99,8 @@ fn take_group<'a>(
     rest: &'a [u8],
 ) -> Result<(Sequence<BlockPlace>, &'a [u8]), FileFault>
     requires { IsEnd bytes.now rest.now }
-    ensures read { GivesIfMemory FileFault.Memory (λ x. (map (block_in bytes.now) x.0, x.1.now)) result
+    ensures read { GivesIfMemory FileFault.Memory (λ x. (map (block_in bytes.now) x.0, x.1.now))
+        result
         (group_at group columns.now rows rest.now) }
     ensures taken { IfOk result (λ x. AreTaken bytes.now x.0 x.1.now) }
 {
@@ -116,8 +120,8 @@ fn next_rows(left: u32) -> u32
     if left < full { left } else { full }
 }
 
-/// The places of the blocks of so many rows, row group by row group, and the bytes behind them. The row groups stand at
-/// the front of `rest`, the end of the bytes.
+/// The places of the blocks of so many rows, row group by row group, and the bytes behind them. The
+/// row groups stand at the front of `rest`, the end of the bytes.
 pub fn take_groups<'a>(
     alloc: Global,
     columns: &[Column],
@@ -126,7 +130,8 @@ pub fn take_groups<'a>(
     rest: &'a [u8],
 ) -> Result<(Sequence<Sequence<BlockPlace>>, &'a [u8]), FileFault>
     requires { IsEnd bytes.now rest.now }
-    ensures read { GivesIfMemory FileFault.Memory (λ x. (map (map (block_in bytes.now)) x.0, x.1.now)) result
+    ensures read { GivesIfMemory FileFault.Memory
+        (λ x. (map (map (block_in bytes.now)) x.0, x.1.now)) result
         (groups_at 0 columns.now (group_sizes rows) rest.now) }
     ensures taken { IfOk result (λ x. AreGroupsTaken bytes.now x.0 x.1.now) }
 {

@@ -12,10 +12,12 @@ pub fn one_file()
 
 /// Bytes stand for one header with one list of columns at most.
 pub fn one_table_slice()
-    ensures { (bytes : List ℕ) (h k : AHeader) (cs ds : List ColumnSpec) → Stands bytes h cs → Stands bytes k ds → (h ≡ k) × (cs ≡ ds) }
+    ensures { (bytes : List ℕ) (h k : AHeader) (cs ds : List ColumnSpec) → Stands bytes h cs
+        → Stands bytes k ds → (h ≡ k) × (cs ≡ ds) }
 {}
 
 /// Bytes are the file of one cut of one load at most.
 pub fn one_cut()
-    ensures { (bytes : List ℕ) (f g : CutFileSpec) → IsCutFileOf bytes f → IsCutFileOf bytes g → f ≡ g }
+    ensures { (bytes : List ℕ) (f g : CutFileSpec) → IsCutFileOf bytes f → IsCutFileOf bytes g
+        → f ≡ g }
 {}

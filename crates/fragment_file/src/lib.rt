@@ -1,4 +1,5 @@
-//! Fragment, dimension and cut files: columns in row groups of blocks, behind a header and before a seal.
+//! Fragment, dimension and cut files: columns in row groups of blocks, behind a header and before a
+//! seal.
 #![tactic(auto)]
 
 mod copying;

@@ -1,5 +1,5 @@
 //! What an opened file lends.
-ghost use Rattle.std.specs.Prelude.{◌≡◌, ◌<◌, [], length, map, get_or, true};
+ghost use Rattle.std.specs.Prelude.{◌≡◌, ◌<◌, [], length, map, slice_index_or, true};
 ghost use Rattle.encodings.specs.Block.{is_block};
 ghost use Rattle.fragment_file.specs.Fragment.{AreBlocks, IsFragment, no_block};
 ghost use Rattle.fragment_file.specs.View.{IsGroup, IsGroupAt, IsWithin, block_in, rows_of};
@@ -35,8 +35,8 @@ fn lend_block(bytes: &[u8], at: BlockPlace) -> BlockView<'_>
     BlockView::new_unchecked(at.kind, at.col_type, at.nullable, at.rows, payload)
 }
 
-/// A row group: the places of its blocks, one for each column, and the bytes in which they stand. It owns nothing.
-/// Contracts see the list of blocks.
+/// A row group: the places of its blocks, one for each column, and the bytes in which they stand.
+/// It owns nothing. Contracts see the list of blocks.
 #[derive(Drop)]
 pub struct GroupView<'a> {
     places: &'a [BlockPlace],
@@ -56,7 +56,8 @@ impl<'a> Model for GroupView<'a> {
 }
 
 impl<'a> GroupView<'a> {
-    /// The row group whose blocks are known to stand at these places. Looks at none of the bytes, and takes no memory.
+    /// The row group whose blocks are known to stand at these places. Looks at none of the bytes,
+    /// and takes no memory.
     pub fn new_unchecked(places: &'a [BlockPlace], bytes: &'a [u8]) -> GroupView<'a>
         requires { IsGroupAt bytes.now places.now }
         ensures { result ≡ map (block_in bytes.entry.now) places.entry.now }
@@ -71,10 +72,11 @@ impl<'a> GroupView<'a> {
         self.places.len()
     }
 
-    /// The block of the column at a place in the header, from 0. Looks at none of its bytes, and takes no memory.
+    /// The block of the column at a place in the header, from 0. Looks at none of its bytes, and
+    /// takes no memory.
     pub fn column(&self, place: usize) -> BlockView<'a>
         requires { place < length self.now }
-        ensures { result ≡ get_or self.now place no_block }
+        ensures { result ≡ slice_index_or self.now place no_block }
     {
         let places = self.places;
         lend_block(self.bytes, places[place])
@@ -144,10 +146,11 @@ impl<'a> FragmentView<'a> {
         self.groups.len()
     }
 
-    /// The row group at a place, from 0: 8,192 rows each, and in the last the rest. Takes no memory.
+    /// The row group at a place, from 0: 8,192 rows each, and in the last the rest. Takes no
+    /// memory.
     pub fn group(&self, place: usize) -> GroupView<'_>
         requires { place < length self.now.groups }
-        ensures value { result ≡ get_or self.now.groups place [] }
+        ensures value { result ≡ slice_index_or self.now.groups place [] }
         ensures count { length result ≡ length self.now.header.columns }
         // A block of each column, of its type, and all of as many rows.
         ensures blocks { AreBlocks self.now.header.columns (rows_of result) result }

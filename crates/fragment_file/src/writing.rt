@@ -32,9 +32,9 @@ fn put_header<W: Write>(
     Ok(())
 }
 
-/// Writes the file of a fragment or a dimension: the header, row groups of 8,192 rows and one of the rest, and the seal.
-/// Each block is of the kind of fewest bytes. The columns are those that the header names, in their order. One row group
-/// at a time is in memory.
+/// Writes the file of a fragment or a dimension: the header, row groups of 8,192 rows and one of
+/// the rest, and the seal. Each block is of the kind of fewest bytes. The columns are those that
+/// the header names, in their order. One row group at a time is in memory.
 ///
 /// # Errors
 ///
@@ -47,7 +47,8 @@ pub fn write<W: Write>(
 ) -> Result<(), FileFault>
     requires header { IsHeader header.now }
     requires columns { AreColumnsOf header.now columns.now }
-    ensures ok { OnOk result (WritesFile (W.contents out.old) (W.contents out.new) header.now columns.now) }
+    ensures ok { OnOk result
+        (WritesFile (W.contents out.old) (W.contents out.new) header.now columns.now) }
     ensures best { OnOk result (WritesBest (W.contents out.old) (W.contents out.new)) }
     ensures err { IfErr result IsWriteFault }
 {

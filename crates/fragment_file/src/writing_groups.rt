@@ -18,13 +18,15 @@ use std::alloc::{AllocError, Global};
 use std::io::Write;
 use wire::{append_u8, append_u32, put};
 
-/// A block of the kind of fewest bytes. Fewer than 2 ^ 32 bytes: no more than at most 8,192 texts of 65,535 bytes each, one
-/// by one.
+/// A block of the kind of fewest bytes. Fewer than 2 ^ 32 bytes: no more than at most 8,192 texts
+/// of 65,535 bytes each, one by one.
 fn encoded(alloc: Global, column: &Column, from: usize, to: usize) -> Result<Encoded, FileFault>
     requires some { from < to }
     requires within { to ≤ length column.now.values }
     requires few { to - from ≤ row_group_rows }
-    ensures ok { IfOk result (λ e. IsRowsOf column.now from (to - from) (block_of e.kind column.now from to e.payload.items)) }
+    ensures ok { IfOk result
+        (λ e. IsRowsOf column.now from (to - from)
+        (block_of e.kind column.now from to e.payload.items)) }
     ensures err { IfErr result (λ f. f ≡ Memory) }
 {
     // No effect at run time. The proof reads from this call that each value fits the column.
@@ -39,7 +41,8 @@ fn encoded(alloc: Global, column: &Column, from: usize, to: usize) -> Result<Enc
 fn append_payload(out: &mut Vec<u8>, kind: Kind, payload: &[u8]) -> Result<(), AllocError>
     requires { length payload.now < 2 ^ 32 }
     ensures { OnOk result (out.new.items
-        ≡ out.old.items ++ (number_bytes 1 (place_of kind) ++ number_bytes 4 (length payload.now) ++ payload.now)) }
+        ≡ out.old.items ++ (number_bytes 1 (place_of kind) ++ number_bytes 4 (length payload.now)
+        ++ payload.now)) }
 {
     append_u8(out, kind.byte())?;
     append_u32(out, payload.len() as u32)?;
@@ -113,7 +116,9 @@ fn put_group<W: Write>(
     requires some { from < to }
     requires within { All (λ c. to ≤ length c.values) columns.now }
     requires few { to - from ≤ row_group_rows }
-    ensures ok { OnOk result (WritesGroup (W.contents out.old) (W.contents out.new) hasher.old hasher.new columns.now from (to - from)) }
+    ensures ok { OnOk result
+        (WritesGroup (W.contents out.old) (W.contents out.new) hasher.old hasher.new columns.now
+        from (to - from)) }
     ensures err { IfErr result IsWriteFault }
 {
     let mut bytes = Vec::new(alloc);
@@ -132,7 +137,8 @@ fn put_full_groups<W: Write>(
 ) -> Result<(), FileFault>
     requires few { groups ≤ 128 }
     requires within { All (λ c. groups * row_group_rows ≤ length c.values) columns.now }
-    ensures ok { OnOk result (WritesGroups (W.contents out.old) (W.contents out.new) hasher.old hasher.new
+    ensures ok { OnOk result
+        (WritesGroups (W.contents out.old) (W.contents out.new) hasher.old hasher.new
         columns.now (replicate groups row_group_rows)) }
     ensures err { IfErr result IsWriteFault }
 {
@@ -153,7 +159,9 @@ pub fn put_groups<W: Write>(
 ) -> Result<(), FileFault>
     requires few { rows ≤ max_rows }
     requires within { All (λ c. rows ≤ length c.values) columns.now }
-    ensures ok { OnOk result (WritesGroups (W.contents out.old) (W.contents out.new) hasher.old hasher.new columns.now (group_sizes rows)) }
+    ensures ok { OnOk result
+        (WritesGroups (W.contents out.old) (W.contents out.new) hasher.old hasher.new columns.now
+        (group_sizes rows)) }
     ensures err { IfErr result IsWriteFault }
 {
     let full = rows / ROW_GROUP_ROWS;

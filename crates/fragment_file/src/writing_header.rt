@@ -58,7 +58,8 @@ fn append_columns(out: &mut Vec<u8>, columns: &[Column]) -> Result<(), AllocErro
 #[tactic(auto, unfolding(crate::specs::Fragment::header_bytes, crate::specs::Fragment::fragment_magic))]
 pub fn append_header(out: &mut Vec<u8>, header: &Header) -> Result<(), AllocError>
     requires { IsHeader header.now }
-    ensures { OnOk result (out.new.items ≡ out.old.items ++ (fragment_magic ++ header_bytes header.now)) }
+    ensures { OnOk result (out.new.items ≡ out.old.items
+        ++ (fragment_magic ++ header_bytes header.now)) }
 {
     let columns = header.columns.as_slice();
     out.extend_from_slice(&FRAGMENT_MAGIC)?;

@@ -1,5 +1,6 @@
-//! Where the keys of integers that are close to each other have their places: by how far they are above a least one.
-ghost use Rattle.std.specs.Prelude.{◌≡◌, ◌≢◌, ◌<◌, ◌∷◌, [], List, length, get_or, true, All};
+//! Where the keys of integers that are close to each other have their places: by how far they are
+//! above a least one.
+ghost use Rattle.std.specs.Prelude.{◌≡◌, ◌≢◌, ◌<◌, ◌∷◌, [], List, length, slice_index_or, true, All};
 ghost use Rattle.meaning.specs.declared.value.Value.TheVariants.{Int};
 ghost use Rattle.meaning.specs.Order.{Row};
 ghost use Rattle.group_by.specs.Keys.{LeadsTo};
@@ -50,7 +51,7 @@ pub fn window_of(ints: &[i64]) -> Option<Window> {
 
 #[inline(always)]
 fn entry_at(entries: &[u32], at: u64) -> u32
-    ensures { result ≡ get_or entries.now at NOWHERE }
+    ensures { result ≡ slice_index_or entries.now at NOWHERE }
 {
     entries.get(at as usize).copied().unwrap_or(NOWHERE)
 }
@@ -58,7 +59,8 @@ fn entry_at(entries: &[u32], at: u64) -> u32
 /// The place to which a table leads for an integer, or `NOWHERE`.
 #[inline(always)]
 pub fn close_place(entries: &[u32], least: &i64, int: &i64) -> u32
-    ensures { (keys : List Row) → LeadsTo least.now entries.now keys → result ≢ NOWHERE → (result < length keys) × (get_or keys result [] ≡ Int int.now ∷ []) }
+    ensures { (keys : List Row) → LeadsTo least.now entries.now keys → result ≢ NOWHERE
+        → (result < length keys) × (slice_index_or keys result [] ≡ Int int.now ∷ []) }
 {
     if *int < *least {
         return NOWHERE;
@@ -79,7 +81,8 @@ pub fn are_known(places: &[u32]) -> bool
 
 /// Puts in the place of a key, where the table has an entry for it.
 pub fn enter(entries: &mut [u32], least: &i64, int: &i64, place: usize)
-    ensures { (keys : List Row) → LeadsTo least.now entries.old keys → place < length keys → get_or keys place [] ≡ Int int.now ∷ [] → LeadsTo least.now entries.new keys }
+    ensures { (keys : List Row) → LeadsTo least.now entries.old keys → place < length keys
+        → slice_index_or keys place [] ≡ Int int.now ∷ [] → LeadsTo least.now entries.new keys }
 {
     if *int < *least {
         return;

@@ -1,5 +1,5 @@
 //! A column of states for each aggregate.
-ghost use Rattle.std.specs.Prelude.{◌≡◌, ℕ, ◌<◌, ◌≤◌, ◌+◌, length, map, zip, get_or, true, All, IfOk, OnOk};
+ghost use Rattle.std.specs.Prelude.{◌≡◌, ℕ, ◌<◌, ◌≤◌, ◌+◌, length, map, zip, slice_index_or, true, All, IfOk, OnOk};
 ghost use Rattle.meaning.specs.Aggregate.{no_statistics};
 ghost use Rattle.accumulators.specs.Columns.{of_states};
 ghost use Rattle.accumulators.specs.Entries.{with_entries};
@@ -21,7 +21,8 @@ fn fill(column: &mut StateColumn, height: usize) -> Result<(), AllocError>
     requires { length column.old.states ≤ height }
     ensures kind { column.new.kind ≡ column.old.kind }
     ensures height { OnOk result (length column.new.states ≡ height) }
-    ensures states { OnOk result ((place : ℕ) → state_in column.new place ≡ state_in column.old place) }
+    ensures states { OnOk result ((place : ℕ)
+        → state_in column.new place ≡ state_in column.old place) }
 {
     for _ in column.len()..height {
         column.push()?;
@@ -41,8 +42,11 @@ fn update_filled(
     requires within { All (λ place. place < length column.old.states) (listed places.now) }
     requires lanes { length (values_of lanes.now) ≡ selection.now.below }
     requires spelled { All (λ v. is_spelled v ≡ true) (values_of lanes.now) }
-    requires few { (place : ℕ) → (state_in column.old place).count + length selection.now.list ≤ most_entries }
-    ensures { OnOk result (column.new ≡ of_states column.old (with_entries column.old.kind column.old.states (zip (listed places.now) (selected (values_of lanes.now) selection.now.list)))) }
+    requires few { (place : ℕ)
+        → (state_in column.old place).count + length selection.now.list ≤ most_entries }
+    ensures { OnOk result (column.new
+        ≡ of_states column.old (with_entries column.old.kind column.old.states
+        (zip (listed places.now) (selected (values_of lanes.now) selection.now.list)))) }
 {
     match places {
         RowPlaces::One { place, .. } => column.update_at(alloc, *place as usize, lanes, selection),
@@ -64,15 +68,19 @@ fn update(
     requires within { All (λ place. place < height) (listed places.now) }
     requires lanes { length (values_of lanes.now) ≡ selection.now.below }
     requires spelled { All (λ v. is_spelled v ≡ true) (values_of lanes.now) }
-    requires few { (place : ℕ) → (state_in column.old place).count + length selection.now.list ≤ most_entries }
-    ensures { OnOk result (IsUpdated height (zip (listed places.now) (selected (values_of lanes.now) selection.now.list)) column.old column.new) }
+    requires few { (place : ℕ)
+        → (state_in column.old place).count + length selection.now.list ≤ most_entries }
+    ensures { OnOk result (IsUpdated height
+        (zip (listed places.now) (selected (values_of lanes.now) selection.now.list)) column.old
+        column.new) }
 {
     fill(column, height)?;
     update_filled(column, alloc, places, lanes, selection)?;
     Ok(())
 }
 
-/// Each aggregate's selected arguments go to the states at their places. On an error the states are open.
+/// Each aggregate's selected arguments go to the states at their places. On an error the states are
+/// open.
 pub fn update_all(
     columns: &mut [StateColumn],
     alloc: Global,
@@ -81,13 +89,15 @@ pub fn update_all(
     arguments: &[Vector<'_>],
     selection: &Selection,
 ) -> Result<(), AllocError>
-    requires longer { (c : ℕ) → length (get_or columns.old c no_column).states ≤ height }
+    requires longer { (c : ℕ) → length (slice_index_or columns.old c no_column).states ≤ height }
     requires widths { length arguments.now ≡ length columns.old }
     requires places { length (listed places.now) ≡ length selection.now.list }
     requires within { All (λ place. place < height) (listed places.now) }
     requires arguments { AreLanesOf selection.now.below arguments.now }
-    requires few { (c place : ℕ) → (state_at columns.old c place).count + length selection.now.list ≤ most_entries }
-    ensures { OnOk result (AreUpdated height (listed places.now) (rows_at arguments.now selection.now.list) columns.old columns.new) }
+    requires few { (c place : ℕ)
+        → (state_at columns.old c place).count + length selection.now.list ≤ most_entries }
+    ensures { OnOk result (AreUpdated height (listed places.now)
+        (rows_at arguments.now selection.now.list) columns.old columns.new) }
 {
     for k in 0..columns.len() {
         update(
@@ -128,10 +138,12 @@ pub fn merge_all(
     place: usize,
     states: &[State],
 ) -> Result<(), AllocError>
-    requires longer { (c : ℕ) → length (get_or columns.old c no_column).states ≤ height }
+    requires longer { (c : ℕ) → length (slice_index_or columns.old c no_column).states ≤ height }
     requires widths { length states.now ≡ length columns.old }
     requires within { place < height }
-    requires few { (c : ℕ) → c < length columns.old → (state_at columns.old c place).count + (get_or states.now c no_statistics).count ≤ most_entries }
+    requires few { (c : ℕ) → c < length columns.old
+        → (state_at columns.old c place).count + (slice_index_or states.now c no_statistics).count
+        ≤ most_entries }
     ensures { OnOk result (AreMerged height place states.now columns.old columns.new) }
 {
     for k in 0..columns.len() {
@@ -146,7 +158,8 @@ pub fn fresh_columns(
     aggregates: &[Aggregate],
     height: usize,
 ) -> Result<Vec<StateColumn>, AllocError>
-    ensures { IfOk result (λ columns. AreFresh height (map (λ a. a.kind) aggregates.now) columns.items) }
+    ensures { IfOk result (λ columns. AreFresh height (map (λ a. a.kind) aggregates.now)
+        columns.items) }
 {
     let mut columns = Vec::with_capacity(alloc, aggregates.len())?;
     for aggregate in aggregates {
@@ -160,7 +173,8 @@ fn fresh_column(
     kind: AggregateKind,
     height: usize,
 ) -> Result<StateColumn, AllocError>
-    ensures { IfOk result (λ c. (c.kind ≡ kind) × (length c.states ≡ height) × ((place : ℕ) → state_in c place ≡ no_statistics)) }
+    ensures { IfOk result (λ c. (c.kind ≡ kind) × (length c.states ≡ height)
+        × ((place : ℕ) → state_in c place ≡ no_statistics)) }
 {
     let mut column = StateColumn::new(alloc, kind);
     fill(&mut column, height)?;

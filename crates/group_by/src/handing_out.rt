@@ -1,5 +1,5 @@
 //! The groups of a table in the order of their keys, those of one key as one.
-ghost use Rattle.std.specs.Prelude.{◌≡◌, ℕ, ◌<◌, ◌≤◌, ◌+◌, ◌∷◌, length, map, reverse, get_or, sum, All, IfOk, IfSome, OnOk, IsPermutation};
+ghost use Rattle.std.specs.Prelude.{◌≡◌, ℕ, ◌<◌, ◌≤◌, ◌+◌, ◌∷◌, length, map, reverse, slice_index_or, slice_index, sum, All, IfOk, IfSome, OnOk, IsPermutation};
 ghost use Rattle.meaning.specs.Aggregate.{no_statistics};
 ghost use Rattle.meaning.specs.Group.{merge_groups};
 ghost use Rattle.meaning.specs.Order.{row_cmp};
@@ -59,7 +59,8 @@ fn by_places(
 ) -> Result<Vec<Group>, AllocError>
     requires rows { length rows.now ≡ length keys.items }
     requires columns { All (λ c. length c.states ≡ length keys.items) columns.now }
-    ensures { IfOk result (λ groups. groups.items ≡ reverse (by_place keys.items rows.now columns.now)) }
+    ensures { IfOk result (λ groups. groups.items
+        ≡ reverse (by_place keys.items rows.now columns.now)) }
 {
     let mut keys = keys;
     let mut groups = Vec::with_capacity(alloc, keys.len())?;
@@ -92,7 +93,8 @@ fn merged_states(
     others: &[State],
 ) -> Result<Sequence<State>, AllocError>
     requires widths { length states.now ≡ length others.now }
-    requires few { (c : ℕ) → (get_or states.now c no_statistics).count + (get_or others.now c no_statistics).count ≤ most_entries }
+    requires few { (c : ℕ) → (slice_index_or states.now c no_statistics).count +
+        (slice_index_or others.now c no_statistics).count ≤ most_entries }
     ensures { IfOk result (λ merged. merged ≡ zipped states.now others.now) }
 {
     let mut merged = Sequence::new(alloc);
@@ -122,7 +124,8 @@ fn put_behind(
     group: Group,
 ) -> Result<(), AllocError>
     requires { AreMergeable group last }
-    ensures { OnOk result (reverse groups.new.items ≡ put_before group (last ∷ reverse groups.old.items)) }
+    ensures { OnOk result (reverse groups.new.items
+        ≡ put_before group (last ∷ reverse groups.old.items)) }
 {
     if are_equal(group.key(), last.key()) {
         groups.push(merged(alloc, &group, &last)?)?;
@@ -171,7 +174,8 @@ fn rows_in_order(
     requires rows { length rows.now ≡ length keys.items }
     requires columns { All (λ c. length c.states ≡ length keys.items) columns.now }
     requires few { sum rows.now ≤ most_entries }
-    requires within { (c place : ℕ) → (state_at columns.now c place).count ≤ get_or rows.now place 0 }
+    requires within { (c place : ℕ)
+        → (state_at columns.now c place).count ≤ slice_index rows.now place }
     ensures { IfOk result (λ groups. IsInOrder keys.items rows.now columns.now groups.items) }
 {
     let mut groups = by_places(alloc, keys, rows, columns)?;
@@ -193,7 +197,8 @@ fn ints_in_order(
 ) -> Result<Option<Vec<Group>>, AllocError>
     requires rows { length rows.now ≡ length values.now }
     requires columns { All (λ c. length c.states ≡ length values.now) columns.now }
-    ensures { IfOk result (λ found. IfSome found (λ groups. IsInOrder (alone values.now) rows.now columns.now groups.items)) }
+    ensures { IfOk result (λ found. IfSome found
+        (λ groups. IsInOrder (alone values.now) rows.now columns.now groups.items)) }
 {
     let Some(mut placed) = int_places(alloc, values)? else {
         return Ok(None);
@@ -216,7 +221,8 @@ pub fn in_order(
     requires rows { length rows.now ≡ length keys }
     requires columns { All (λ c. length c.states ≡ length keys) columns.now }
     requires few { sum rows.now ≤ most_entries }
-    requires within { (c place : ℕ) → (state_at columns.now c place).count ≤ get_or rows.now place 0 }
+    requires within { (c place : ℕ)
+        → (state_at columns.now c place).count ≤ slice_index rows.now place }
     ensures { IfOk result (λ groups. IsInOrder keys rows.now columns.now groups.items) }
 {
     if let Some(values) = keys.values() {

@@ -13,7 +13,8 @@ use vectors::vector::Vector;
 // The odd number nearest to 2^64 divided by the golden ratio: Knuth's multiplicative hashing.
 const MULTIPLIER: u64 = 0x9E37_79B9_7F4A_7C15;
 
-// The high half is folded into the low one before the product, so that bytes at the end of a word choose the slot too.
+// The high half is folded into the low one before the product, so that bytes at the end of a word
+// choose the slot too.
 #[inline(always)]
 fn mixed(hash: u64, word: u64) -> u64 {
     let both = hash ^ word;
@@ -64,7 +65,8 @@ fn hash_words(hash: u64, bytes: &[u8]) -> u64 {
     hash
 }
 
-/// A word at a time, and what is left over with bytes that were taken before, so that short texts need no loop.
+/// A word at a time, and what is left over with bytes that were taken before, so that short texts
+/// need no loop.
 #[inline(always)]
 fn hash_bytes(hash: u64, bytes: &[u8]) -> u64 {
     let mut hash = mixed(hash, bytes.len() as u64);
@@ -133,8 +135,8 @@ fn hash_column(hashes: &mut [u64], lanes: &Vector<'_>, selection: &Selection)
     hash_selected(hashes, lanes, selection);
 }
 
-/// Of the keys that these vectors have at the selected positions. Column by column, so that no column's kind is looked at for
-/// each row.
+/// Of the keys that these vectors have at the selected positions. Column by column, so that no
+/// column's kind is looked at for each row.
 pub fn hash_rows(
     alloc: Global,
     lanes: &[Vector<'_>],

@@ -1,9 +1,9 @@
 //! Keys by their places, and a hash table that leads to them.
 //!
-//! The hash table is a hint: a place that it names is taken only after its key was compared, and a key that it leads to no
-//! place of gets a place more. So no contract rests on hashes. The groups of a key with two places are made one when they
-//! are handed out.
-ghost use Rattle.std.specs.Prelude.{◌≡◌, ◌≢◌, ℕ, ◌<◌, ◌≤◌, ◌∷◌, ◌++◌, [], length, get_or, All, true, IfOk, IfSome, OnOk};
+//! The hash table is a hint: a place that it names is taken only after its key was compared, and a
+//! key that it leads to no place of gets a place more. So no contract rests on hashes. The groups
+//! of a key with two places are made one when they are handed out.
+ghost use Rattle.std.specs.Prelude.{◌≡◌, ◌≢◌, ℕ, ◌<◌, ◌≤◌, ◌∷◌, ◌++◌, [], length, slice_index_or, All, true, IfOk, IfSome, OnOk};
 ghost use Rattle.std.specs.Str.{is_utf8};
 ghost use Rattle.meaning.specs.declared.value.Value.TheVariants.{Int, Text};
 ghost use Rattle.accumulators.specs.Values.{values_of};
@@ -27,7 +27,8 @@ use std::alloc::{AllocError, Global};
 use vectors::selection::Selection;
 use vectors::vector::Vector;
 
-/// An entry of the hash table: a place, and the part of its key's hash that doesn't choose the slot.
+/// An entry of the hash table: a place, and the part of its key's hash that doesn't choose the
+/// slot.
 #[derive(Clone, Copy)]
 struct Slot {
     tag: u32,
@@ -72,7 +73,8 @@ fn slot_number(hash: u64, step: usize, slots: usize) -> usize {
 #[inline(always)]
 fn leads_to_lanes(slot: Slot, hash: u64, keys: &KeyList, lanes: &[Vector<'_>], at: usize) -> bool
     requires { All (λ column. at < length (values_of column)) lanes.now }
-    ensures { result ≡ true → (slot.place < length keys.now) × (get_or keys.now slot.place [] ≡ row_at lanes.now at) }
+    ensures { result ≡ true → (slot.place < length keys.now)
+        × (slice_index_or keys.now slot.place [] ≡ row_at lanes.now at) }
 {
     if slot.tag != tag_of(hash) {
         return false;
@@ -82,7 +84,8 @@ fn leads_to_lanes(slot: Slot, hash: u64, keys: &KeyList, lanes: &[Vector<'_>], a
 
 #[inline(always)]
 fn leads_to_row(slot: Slot, hash: u64, keys: &KeyList, row: &Row) -> bool
-    ensures { result ≡ true → (slot.place < length keys.now) × (get_or keys.now slot.place [] ≡ row.now) }
+    ensures { result ≡ true → (slot.place < length keys.now)
+        × (slice_index_or keys.now slot.place [] ≡ row.now) }
 {
     if slot.tag != tag_of(hash) {
         return false;
@@ -92,7 +95,8 @@ fn leads_to_row(slot: Slot, hash: u64, keys: &KeyList, row: &Row) -> bool
 
 #[inline(always)]
 fn leads_to_text(slot: Slot, hash: u64, keys: &KeyList, text: &[u8]) -> bool
-    ensures { result ≡ true → (slot.place < length keys.now) × (get_or keys.now slot.place [] ≡ Text text.now ∷ []) }
+    ensures { result ≡ true → (slot.place < length keys.now)
+        × (slice_index_or keys.now slot.place [] ≡ Text text.now ∷ []) }
 {
     if slot.tag != tag_of(hash) {
         return false;
@@ -136,7 +140,8 @@ impl KeyIndex {
     #[inline(always)]
     fn find_lanes(&self, hash: u64, lanes: &[Vector<'_>], at: usize) -> Option<u32>
         requires { All (λ column. at < length (values_of column)) lanes.now }
-        ensures { IfSome result (λ place. (place < length self.now.keys) × (get_or self.now.keys place [] ≡ row_at lanes.now at)) }
+        ensures { IfSome result (λ place. (place < length self.now.keys)
+            × (slice_index_or self.now.keys place [] ≡ row_at lanes.now at)) }
     {
         let slots = self.slots.as_slice();
         for step in 0..slots.len() {
@@ -153,7 +158,8 @@ impl KeyIndex {
 
     /// The place of a key, where the hash table leads to one.
     fn find_row(&self, hash: u64, row: &Row) -> Option<u32>
-        ensures { IfSome result (λ place. (place < length self.now.keys) × (get_or self.now.keys place [] ≡ row.now)) }
+        ensures { IfSome result (λ place. (place < length self.now.keys)
+            × (slice_index_or self.now.keys place [] ≡ row.now)) }
     {
         let slots = self.slots.as_slice();
         for step in 0..slots.len() {
@@ -222,13 +228,15 @@ impl KeyIndex {
         requires lanes { AreLanesOf below lanes.now }
         requires at { at < below }
         ensures place { IfOk result (λ place. place ≡ length self.old.keys) }
-        ensures keys { IfOk result (λ place. self.new.keys ≡ self.old.keys ++ row_at lanes.now at ∷ []) }
+        ensures keys { IfOk result (λ place. self.new.keys ≡ self.old.keys ++ row_at lanes.now at
+            ∷ []) }
     {
         let key = key_of(alloc, lanes, at, below)?;
         self.push(alloc, hash, key)
     }
 
-    /// The place of the key at a position, which gets one where it has none. On an error the keys are open.
+    /// The place of the key at a position, which gets one where it has none. On an error the keys
+    /// are open.
     #[inline(always)]
     fn place_of_lanes(
         &mut self,
@@ -240,7 +248,8 @@ impl KeyIndex {
     ) -> Result<u32, AllocError>
         requires lanes { AreLanesOf below lanes.now }
         requires at { at < below }
-        ensures { IfOk result (λ place. IsFound (row_at lanes.now at) self.old.keys place self.new.keys) }
+        ensures { IfOk result (λ place. IsFound (row_at lanes.now at) self.old.keys place
+            self.new.keys) }
     {
         if let Some(place) = self.find_lanes(hash, lanes, at) {
             return Ok(place);
@@ -266,7 +275,8 @@ impl KeyIndex {
         alloc: Global,
         selection: &Selection,
     ) -> Result<RowPlaces, AllocError>
-        ensures { IfOk result (λ places. AreFound (rows_at [] selection.now.list) self.old.keys (listed places) self.new.keys) }
+        ensures { IfOk result (λ places. AreFound (rows_at [] selection.now.list) self.old.keys
+            (listed places) self.new.keys) }
     {
         if selection.len() == 0 {
             return Ok(RowPlaces::Each(Vec::new(alloc)));
@@ -282,7 +292,8 @@ impl KeyIndex {
     /// The place of the key of this integer alone, where the hash table leads to one.
     #[inline(always)]
     fn find_int(&self, hash: u64, int: &i64) -> Option<u32>
-        ensures { IfSome result (λ place. (place < length self.now.keys) × (get_or self.now.keys place [] ≡ Int int.now ∷ [])) }
+        ensures { IfSome result (λ place. (place < length self.now.keys)
+            × (slice_index_or self.now.keys place [] ≡ Int int.now ∷ [])) }
     {
         let slots = self.slots.as_slice();
         for step in 0..slots.len() {
@@ -302,7 +313,8 @@ impl KeyIndex {
     #[inline(never)]
     fn push_int(&mut self, alloc: Global, hash: u64, int: &i64) -> Result<u32, AllocError>
         ensures place { IfOk result (λ place. place ≡ length self.old.keys) }
-        ensures keys { IfOk result (λ place. self.new.keys ≡ self.old.keys ++ (Int int.now ∷ []) ∷ []) }
+        ensures keys { IfOk result (λ place. self.new.keys ≡ self.old.keys ++ (Int int.now ∷ [])
+            ∷ []) }
     {
         let Ok(place) = u32::try_from(self.keys.len()) else {
             return Err(AllocError);
@@ -315,10 +327,12 @@ impl KeyIndex {
         Ok(place)
     }
 
-    /// The place of the key of this integer alone, which gets one where it has none. On an error the keys are open.
+    /// The place of the key of this integer alone, which gets one where it has none. On an error
+    /// the keys are open.
     #[inline(always)]
     fn place_of_int(&mut self, alloc: Global, int: &i64) -> Result<u32, AllocError>
-        ensures { IfOk result (λ place. IsFound (Int int.now ∷ []) self.old.keys place self.new.keys) }
+        ensures { IfOk result (λ place. IsFound (Int int.now ∷ []) self.old.keys place
+            self.new.keys) }
     {
         let place = self.keys.close_place(int);
         if place != NOWHERE {
@@ -334,8 +348,10 @@ impl KeyIndex {
     /// The same where a first look found the place or `NOWHERE`.
     #[inline(always)]
     fn settle(&mut self, alloc: Global, place: u32, int: &i64) -> Result<u32, AllocError>
-        requires { place ≢ NOWHERE → (place < length self.old.keys) × (get_or self.old.keys place [] ≡ Int int.now ∷ []) }
-        ensures { IfOk result (λ place. IsFound (Int int.now ∷ []) self.old.keys place self.new.keys) }
+        requires { place ≢ NOWHERE → (place < length self.old.keys)
+            × (slice_index_or self.old.keys place [] ≡ Int int.now ∷ []) }
+        ensures { IfOk result (λ place. IsFound (Int int.now ∷ []) self.old.keys place
+            self.new.keys) }
     {
         if place != NOWHERE {
             return Ok(place);
@@ -343,7 +359,8 @@ impl KeyIndex {
         self.place_of_int(alloc, int)
     }
 
-    /// The places of integers' keys, of which some were told or are `NOWHERE`. On an error the keys are open.
+    /// The places of integers' keys, of which some were told or are `NOWHERE`. On an error the keys
+    /// are open.
     fn settle_all(
         &mut self,
         alloc: Global,
@@ -352,7 +369,8 @@ impl KeyIndex {
     ) -> Result<Vec<u32>, AllocError>
         requires long { length told.items ≡ length ints.now }
         requires told { (k : ℕ) → k < length ints.now → IsTold self.old.keys ints.now told.items k }
-        ensures { IfOk result (λ places. AreFound (int_keys ints.now) self.old.keys places.items self.new.keys) }
+        ensures { IfOk result (λ places. AreFound (int_keys ints.now) self.old.keys places.items
+            self.new.keys) }
     {
         let mut places = told;
         for k in 0..ints.len() {
@@ -363,7 +381,8 @@ impl KeyIndex {
 
     /// The place of each integer's key. On an error the keys are open.
     fn find_ints(&mut self, alloc: Global, ints: &[i64]) -> Result<Vec<u32>, AllocError>
-        ensures { IfOk result (λ places. AreFound (int_keys ints.now) self.old.keys places.items self.new.keys) }
+        ensures { IfOk result (λ places. AreFound (int_keys ints.now) self.old.keys places.items
+            self.new.keys) }
     {
         self.keys.expect_ints(alloc, ints)?;
         let places = self.keys.close_places(alloc, ints)?;
@@ -376,7 +395,8 @@ impl KeyIndex {
     /// The place at a text's home, where the key there is the text alone, else `NOWHERE`.
     #[inline(always)]
     fn home_of(&self, hash: u64, text: &[u8]) -> u32
-        ensures { result ≢ NOWHERE → (result < length self.now.keys) × (get_or self.now.keys result [] ≡ Text text.now ∷ []) }
+        ensures { result ≢ NOWHERE → (result < length self.now.keys)
+            × (slice_index_or self.now.keys result [] ≡ Text text.now ∷ []) }
     {
         let slots = self.slots.as_slice();
         let Some(slot) = slots.get(slot_number(hash, 0, slots.len())) else {
@@ -392,16 +412,19 @@ impl KeyIndex {
     fn home_at(&self, hashes: &[u64], texts: &[&[u8]], k: usize) -> u32
         requires hashes { k < length hashes.now }
         requires texts { k < length texts.now }
-        ensures { result ≢ NOWHERE → (result < length self.now.keys) × (get_or self.now.keys result [] ≡ get_or (text_keys texts.now) k []) }
+        ensures { result ≢ NOWHERE → (result < length self.now.keys)
+            × (slice_index_or self.now.keys result [] ≡ slice_index_or (text_keys texts.now) k []) }
     {
         self.home_of(hashes[k], texts[k])
     }
 
-    /// What stands at each text's home. No text's place depends on another's, so that the processor looks several up at once.
+    /// What stands at each text's home. No text's place depends on another's, so that the processor
+    /// looks several up at once.
     fn homes(&self, alloc: Global, hashes: &[u64], texts: &[&[u8]]) -> Result<Vec<u32>, AllocError>
         requires { length hashes.now ≡ length texts.now }
         ensures long { IfOk result (λ places. length places.items ≡ length texts.now) }
-        ensures led { IfOk result (λ places. (k : ℕ) → k < length texts.now → IsLed self.now.keys (text_keys texts.now) places.items k) }
+        ensures led { IfOk result (λ places. (k : ℕ) → k < length texts.now
+            → IsLed self.now.keys (text_keys texts.now) places.items k) }
     {
         let mut places = vec![in alloc; NOWHERE; texts.len()]?;
         for k in 0..texts.len() {
@@ -412,7 +435,8 @@ impl KeyIndex {
 
     /// The place of the key of this text alone, where the hash table leads to one.
     fn find_text(&self, hash: u64, text: &[u8]) -> Option<u32>
-        ensures { IfSome result (λ place. (place < length self.now.keys) × (get_or self.now.keys place [] ≡ Text text.now ∷ [])) }
+        ensures { IfSome result (λ place. (place < length self.now.keys)
+            × (slice_index_or self.now.keys place [] ≡ Text text.now ∷ [])) }
     {
         let slots = self.slots.as_slice();
         for step in 0..slots.len() {
@@ -433,16 +457,19 @@ impl KeyIndex {
     fn push_text(&mut self, alloc: Global, hash: u64, text: &[u8]) -> Result<u32, AllocError>
         requires { is_utf8 text.now ≡ true }
         ensures place { IfOk result (λ place. place ≡ length self.old.keys) }
-        ensures keys { IfOk result (λ place. self.new.keys ≡ self.old.keys ++ (Text text.now ∷ []) ∷ []) }
+        ensures keys { IfOk result (λ place. self.new.keys ≡ self.old.keys ++ (Text text.now ∷ [])
+            ∷ []) }
     {
         let key = key_of_text(alloc, text)?;
         self.push(alloc, hash, key)
     }
 
-    /// The place of the key of this text alone, which gets one where it has none. On an error the keys are open.
+    /// The place of the key of this text alone, which gets one where it has none. On an error the
+    /// keys are open.
     fn place_of_text(&mut self, alloc: Global, hash: u64, text: &[u8]) -> Result<u32, AllocError>
         requires { is_utf8 text.now ≡ true }
-        ensures { IfOk result (λ place. IsFound (Text text.now ∷ []) self.old.keys place self.new.keys) }
+        ensures { IfOk result (λ place. IsFound (Text text.now ∷ []) self.old.keys place
+            self.new.keys) }
     {
         if let Some(place) = self.find_text(hash, text) {
             return Ok(place);
@@ -463,8 +490,10 @@ impl KeyIndex {
         requires hashes { k < length hashes.now }
         requires texts { k < length texts.now }
         requires spelled { All (λ t. is_utf8 t.now ≡ true) texts.now }
-        requires led { place ≢ NOWHERE → (place < length self.old.keys) × (get_or self.old.keys place [] ≡ get_or (text_keys texts.now) k []) }
-        ensures { IfOk result (λ place. IsFound (get_or (text_keys texts.now) k []) self.old.keys place self.new.keys) }
+        requires led { place ≢ NOWHERE → (place < length self.old.keys)
+            × (slice_index_or self.old.keys place [] ≡ slice_index_or (text_keys texts.now) k []) }
+        ensures { IfOk result (λ place. IsFound (slice_index_or (text_keys texts.now) k [])
+            self.old.keys place self.new.keys) }
     {
         if place != NOWHERE {
             return Ok(place);
@@ -472,7 +501,8 @@ impl KeyIndex {
         self.place_of_text(alloc, hashes[k], texts[k])
     }
 
-    /// The places of texts' keys, of which some were told or are `NOWHERE`. On an error the keys are open.
+    /// The places of texts' keys, of which some were told or are `NOWHERE`. On an error the keys
+    /// are open.
     fn settle_texts(
         &mut self,
         alloc: Global,
@@ -483,8 +513,10 @@ impl KeyIndex {
         requires hashes { length hashes.now ≡ length texts.now }
         requires spelled { All (λ t. is_utf8 t.now ≡ true) texts.now }
         requires long { length told.items ≡ length texts.now }
-        requires led { (k : ℕ) → k < length texts.now → IsLed self.old.keys (text_keys texts.now) told.items k }
-        ensures { IfOk result (λ places. AreFound (text_keys texts.now) self.old.keys places.items self.new.keys) }
+        requires led { (k : ℕ) → k < length texts.now
+            → IsLed self.old.keys (text_keys texts.now) told.items k }
+        ensures { IfOk result (λ places. AreFound (text_keys texts.now) self.old.keys places.items
+            self.new.keys) }
     {
         let mut places = told;
         for k in 0..texts.len() {
@@ -502,7 +534,8 @@ impl KeyIndex {
     ) -> Result<Vec<u32>, AllocError>
         requires hashes { length hashes.now ≡ length texts.now }
         requires spelled { All (λ t. is_utf8 t.now ≡ true) texts.now }
-        ensures { IfOk result (λ places. AreFound (text_keys texts.now) self.old.keys places.items self.new.keys) }
+        ensures { IfOk result (λ places. AreFound (text_keys texts.now) self.old.keys places.items
+            self.new.keys) }
     {
         let places = self.homes(alloc, hashes, texts)?;
         if are_known(places.as_slice()) {
@@ -521,7 +554,8 @@ impl KeyIndex {
     ) -> Result<Vec<u32>, AllocError>
         requires lanes { AreLanesOf selection.now.below lanes.now }
         requires hashes { length hashes.now ≡ length selection.now.list }
-        ensures { IfOk result (λ places. AreFound (rows_at lanes.now selection.now.list) self.old.keys places.items self.new.keys) }
+        ensures { IfOk result (λ places. AreFound (rows_at lanes.now selection.now.list)
+            self.old.keys places.items self.new.keys) }
     {
         let mut places = Vec::with_capacity(alloc, selection.len())?;
         for k in 0..selection.len() {
@@ -539,7 +573,8 @@ impl KeyIndex {
         selection: &Selection,
     ) -> Result<Vec<u32>, AllocError>
         requires { AreLanesOf selection.now.below lanes.now }
-        ensures { IfOk result (λ places. AreFound (rows_at lanes.now selection.now.list) self.old.keys places.items self.new.keys) }
+        ensures { IfOk result (λ places. AreFound (rows_at lanes.now selection.now.list)
+            self.old.keys places.items self.new.keys) }
     {
         if let Some(ints) = plain_key(lanes, selection) {
             return self.find_ints(alloc, ints);
@@ -554,7 +589,8 @@ impl KeyIndex {
         self.find_rows(alloc, hashes.as_slice(), lanes, selection)
     }
 
-    /// The place of each selected row's key. Keys that have none get one. On an error the keys are open.
+    /// The place of each selected row's key. Keys that have none get one. On an error the keys are
+    /// open.
     pub fn find_places(
         &mut self,
         alloc: Global,
@@ -562,7 +598,8 @@ impl KeyIndex {
         selection: &Selection,
     ) -> Result<RowPlaces, AllocError>
         requires { AreLanesOf selection.now.below lanes.now }
-        ensures { IfOk result (λ places. AreFound (rows_at lanes.now selection.now.list) self.old.keys (listed places) self.new.keys) }
+        ensures { IfOk result (λ places. AreFound (rows_at lanes.now selection.now.list)
+            self.old.keys (listed places) self.new.keys) }
     {
         if lanes.is_empty() {
             return self.places_without_keys(alloc, selection);

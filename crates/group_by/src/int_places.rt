@@ -1,5 +1,6 @@
-//! Integers that are keys alone with their places. They are sorted before any group is made, so that no group is moved.
-ghost use Rattle.std.specs.Prelude.{◌≡◌, ℕ, ◌+◌, ◌<◌, ◌∷◌, [], List, length, get_or, take, map, reverse, true, All, IsPermutation, IfOk, IfSome, OnOk};
+//! Integers that are keys alone with their places. They are sorted before any group is made, so
+//! that no group is moved.
+ghost use Rattle.std.specs.Prelude.{◌≡◌, ℕ, ◌+◌, ◌<◌, ◌∷◌, [], List, length, slice_index_or, take, map, reverse, true, All, IsPermutation, IfOk, IfSome, OnOk};
 ghost use Rattle.std.specs.Ordering.{is_lt};
 ghost use Rattle.meaning.specs.declared.answer.Group.{Group};
 ghost use Rattle.meaning.specs.declared.value.Value.TheVariants.{Int};
@@ -32,7 +33,8 @@ fn int_place(int: &i64, place: usize) -> IntPlace
 
 /// The integers of keys by their places, where each key is one.
 pub fn int_places(alloc: Global, values: &[Value]) -> Result<Option<Vec<IntPlace>>, AllocError>
-    ensures { IfOk result (λ found. IfSome found (λ placed. ArePlaced (alone values.now) (length values.now) placed.items)) }
+    ensures { IfOk result (λ found. IfSome found
+        (λ placed. ArePlaced (alone values.now) (length values.now) placed.items)) }
 {
     let mut placed = Vec::with_capacity(alloc, values.len())?;
     for k in 0..values.len() {
@@ -53,7 +55,9 @@ fn compare(one: &IntPlace, other: &IntPlace) -> Ordering
 
 /// Puts integers in order, those of one key in the order in which they stand.
 pub fn sort_ints(placed: &mut Vec<IntPlace>) -> Result<(), AllocError>
-    ensures beside { OnOk result ((rows : List ℕ) → (columns : List ColumnSpec) → SameBeside (map (placed_group rows columns) placed.old.items) (map (placed_group rows columns) placed.new.items)) }
+    ensures beside { OnOk result ((rows : List ℕ) → (columns : List ColumnSpec)
+        → SameBeside (map (placed_group rows columns) placed.old.items)
+        (map (placed_group rows columns) placed.new.items)) }
     ensures permutation { OnOk result (IsPermutation placed.old.items placed.new.items) }
 {
     placed.sort_by(|one, other| compare(one, other))?;
@@ -62,7 +66,9 @@ pub fn sort_ints(placed: &mut Vec<IntPlace>) -> Result<(), AllocError>
 
 fn comes_before(placed: &[IntPlace], k: usize) -> bool
     requires { k + 1 < length placed.now }
-    ensures { (d : IntPlace) → result ≡ true → is_lt (row_cmp (key_in (get_or placed.now k d)) (key_in (get_or placed.now (k + 1) d))) ≡ true }
+    ensures { (d : IntPlace) → result ≡ true
+        → is_lt (row_cmp (key_in (slice_index_or placed.now k d))
+        (key_in (slice_index_or placed.now (k + 1) d))) ≡ true }
 {
     compare(&placed[k], &placed[k + 1]).is_lt()
 }
@@ -102,7 +108,8 @@ pub fn placed_groups(
 ) -> Result<Vec<Group>, AllocError>
     requires rows { All (λ p. p.place < length rows.now) placed.now }
     requires columns { All (λ c. length c.states ≡ length rows.now) columns.now }
-    ensures { IfOk result (λ groups. groups.items ≡ map (placed_group rows.now columns.now) placed.now) }
+    ensures { IfOk result (λ groups. groups.items
+        ≡ map (placed_group rows.now columns.now) placed.now) }
 {
     let mut groups = Vec::with_capacity(alloc, placed.len())?;
     for k in 0..placed.len() {

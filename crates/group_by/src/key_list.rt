@@ -1,5 +1,6 @@
-//! Keys in the order of their places. Keys of one column stand as values, so that they need no memory of their own.
-ghost use Rattle.std.specs.Prelude.{◌≡◌, ◌≢◌, ℕ, ◌<◌, ◌∷◌, ◌++◌, [], length, pos, map, get_or, All, true, IfOk, IfSome, OnOk};
+//! Keys in the order of their places. Keys of one column stand as values, so that they need no
+//! memory of their own.
+ghost use Rattle.std.specs.Prelude.{◌≡◌, ◌≢◌, ℕ, ◌<◌, ◌∷◌, ◌++◌, [], length, pos, map, slice_index_or, All, true, IfOk, IfSome, OnOk};
 ghost use Rattle.meaning.specs.declared.value.Value.TheVariants.{Int, Text};
 ghost use Rattle.accumulators.specs.Values.{values_of};
 ghost use Rattle.group_by.specs.Keys.{alone, rows_in, IsTold};
@@ -26,7 +27,8 @@ enum Held {
 #[derive(Drop)]
 pub struct KeyList {
     held: Held,
-    // The places of keys that are integers close to each other, by how far they are above a least one.
+    // The places of keys that are integers close to each other, by how far they are above a least
+    // one.
     least: i64,
     close: Vec<u32>,
 }
@@ -45,14 +47,16 @@ impl Model for KeyList {
 
 #[inline(always)]
 fn value_of(values: &[Value], place: u32) -> Option<&Value>
-    ensures { IfSome result (λ v. (place < length (alone values.now)) × (get_or (alone values.now) place [] ≡ v.now ∷ [])) }
+    ensures { IfSome result (λ v. (place < length (alone values.now))
+        × (slice_index_or (alone values.now) place [] ≡ v.now ∷ [])) }
 {
     values.get(place as usize)
 }
 
 #[inline(always)]
 fn row_of(rows: &[Row], place: u32) -> Option<&Row>
-    ensures { IfSome result (λ row. (place < length rows.now) × (get_or rows.now place [] ≡ row.now)) }
+    ensures { IfSome result (λ row. (place < length rows.now)
+        × (slice_index_or rows.now place [] ≡ row.now)) }
 {
     rows.get(place as usize)
 }
@@ -145,7 +149,8 @@ impl KeyList {
     #[inline(always)]
     pub fn is_key(&self, place: u32, lanes: &[Vector<'_>], at: usize) -> bool
         requires { All (λ column. at < length (values_of column)) lanes.now }
-        ensures { result ≡ true → (place < length self.now) × (get_or self.now place [] ≡ row_at lanes.now at) }
+        ensures { result ≡ true → (place < length self.now)
+            × (slice_index_or self.now place [] ≡ row_at lanes.now at) }
     {
         match &self.held {
             Held::Values(values) => match value_of(values.as_slice(), place) {
@@ -161,7 +166,8 @@ impl KeyList {
 
     /// Whether the key at a place is this one.
     pub fn is_row(&self, place: u32, key: &Row) -> bool
-        ensures { result ≡ true → (place < length self.now) × (get_or self.now place [] ≡ key.now) }
+        ensures { result ≡ true → (place < length self.now)
+            × (slice_index_or self.now place [] ≡ key.now) }
     {
         match &self.held {
             Held::Values(values) => match value_of(values.as_slice(), place) {
@@ -178,7 +184,8 @@ impl KeyList {
     /// Whether the key at a place is this integer alone.
     #[inline(always)]
     pub fn is_int(&self, place: u32, int: &i64) -> bool
-        ensures { result ≡ true → (place < length self.now) × (get_or self.now place [] ≡ Int int.now ∷ []) }
+        ensures { result ≡ true → (place < length self.now)
+            × (slice_index_or self.now place [] ≡ Int int.now ∷ []) }
     {
         match &self.held {
             Held::Values(values) => match value_of(values.as_slice(), place) {
@@ -195,7 +202,8 @@ impl KeyList {
     /// Whether the key at a place is this text alone.
     #[inline(always)]
     pub fn is_text(&self, place: u32, text: &[u8]) -> bool
-        ensures { result ≡ true → (place < length self.now) × (get_or self.now place [] ≡ Text text.now ∷ []) }
+        ensures { result ≡ true → (place < length self.now)
+            × (slice_index_or self.now place [] ≡ Text text.now ∷ []) }
     {
         match &self.held {
             Held::Values(values) => match value_of(values.as_slice(), place) {
@@ -209,7 +217,8 @@ impl KeyList {
         }
     }
 
-    /// Makes a table for integers about these, where no key is known yet and they are close to each other.
+    /// Makes a table for integers about these, where no key is known yet and they are close to each
+    /// other.
     pub fn expect_ints(&mut self, alloc: Global, ints: &[i64]) -> Result<(), AllocError>
         ensures { self.new ≡ self.old }
     {
@@ -225,18 +234,22 @@ impl KeyList {
         Ok(())
     }
 
-    /// The place of the key of this integer alone, where the table of such integers leads to one, else `NOWHERE`.
+    /// The place of the key of this integer alone, where the table of such integers leads to one,
+    /// else `NOWHERE`.
     #[inline(always)]
     pub fn close_place(&self, int: &i64) -> u32
-        ensures { result ≢ NOWHERE → (result < length self.now) × (get_or self.now result [] ≡ Int int.now ∷ []) }
+        ensures { result ≢ NOWHERE → (result < length self.now)
+            × (slice_index_or self.now result [] ≡ Int int.now ∷ []) }
     {
         close_place(self.close.as_slice(), &self.least, int)
     }
 
-    /// The same of each integer. No branch depends on one, so that the processor looks several up at once.
+    /// The same of each integer. No branch depends on one, so that the processor looks several up
+    /// at once.
     pub fn close_places(&self, alloc: Global, ints: &[i64]) -> Result<Vec<u32>, AllocError>
         ensures long { IfOk result (λ places. length places.items ≡ length ints.now) }
-        ensures found { IfOk result (λ places. (k : ℕ) → k < length ints.now → IsTold self.now ints.now places.items k) }
+        ensures found { IfOk result (λ places. (k : ℕ) → k < length ints.now
+            → IsTold self.now ints.now places.items k) }
     {
         let mut places = vec![in alloc; NOWHERE; ints.len()]?;
         for k in 0..ints.len() {

@@ -1,5 +1,5 @@
 //! Keys: values of some columns, compared and copied.
-ghost use Rattle.std.specs.Prelude.{◌≡◌, ◌<◌, ◌∷◌, [], length, get_or, All, true, IfOk, IfSome};
+ghost use Rattle.std.specs.Prelude.{◌≡◌, ◌<◌, ◌∷◌, [], length, All, true, IfOk, IfSome};
 ghost use Rattle.std.specs.Ordering.{eq_by_cmp};
 ghost use Rattle.std.specs.Str.{is_utf8};
 ghost use Rattle.meaning.specs.declared.value.Value.TheVariants.{Int, Null, Text};

@@ -26,8 +26,10 @@ fn plain_cells<'v, 'a>(texts: &'v Texts<'a>) -> Option<&'v [&'a [u8]]>
 /// The texts of all lanes, where all are selected and none is NULL.
 pub fn plain_texts<'v, 'a>(lanes: &'v Vector<'a>, selection: &Selection) -> Option<&'v [&'a [u8]]>
     requires { length (values_of lanes.now) ≡ selection.now.below }
-    ensures value { IfSome result (λ texts. map Text (map (λ t. t.now) texts.now) ≡ selected (values_of lanes.now) selection.now.list) }
-    ensures whole { IfSome result (λ texts. map Text (map (λ t. t.now) texts.now) ≡ values_of lanes.now) }
+    ensures value { IfSome result (λ texts. map Text (map (λ t. t.now) texts.now)
+        ≡ selected (values_of lanes.now) selection.now.list) }
+    ensures whole { IfSome result (λ texts. map Text (map (λ t. t.now) texts.now)
+        ≡ values_of lanes.now) }
     ensures long { IfSome result (λ texts. length texts.now ≡ length selection.now.list) }
 {
     let None = selection.places() else {
@@ -46,7 +48,8 @@ pub fn plain_text_key<'v, 'a>(
     selection: &Selection,
 ) -> Option<&'v [&'a [u8]]>
     requires { AreLanesOf selection.now.below lanes.now }
-    ensures value { IfSome result (λ texts. text_keys texts.now ≡ rows_at lanes.now selection.now.list) }
+    ensures value { IfSome result (λ texts. text_keys texts.now
+        ≡ rows_at lanes.now selection.now.list) }
     ensures long { IfSome result (λ texts. length texts.now ≡ length selection.now.list) }
     ensures spelled { IfSome result (λ texts. All (λ t. is_utf8 t.now ≡ true) texts.now) }
 {

@@ -8,7 +8,8 @@ fn are_same_arrays<const N: usize>(one: &[u8; N], other: &[u8; N]) -> bool
     one == other
 }
 
-/// Whether texts of one length have the same first `N` bytes and the same last `N`, of which they have at most twice as many.
+/// Whether texts of one length have the same first `N` bytes and the same last `N`, of which they
+/// have at most twice as many.
 #[inline(always)]
 fn have_same_ends<const N: usize>(one: &[u8], other: &[u8]) -> bool
     requires few { N ≤ 8 }
@@ -34,7 +35,8 @@ fn have_same_ends<const N: usize>(one: &[u8], other: &[u8]) -> bool
     are_same_arrays(last, other_last)
 }
 
-/// Whether two texts are one. Short ones are compared by their ends, so that no loop goes over their bytes.
+/// Whether two texts are one. Short ones are compared by their ends, so that no loop goes over
+/// their bytes.
 #[inline(always)]
 pub fn are_same_bytes(one: &[u8], other: &[u8]) -> bool
     ensures { result ≡ true → one.now ≡ other.now }

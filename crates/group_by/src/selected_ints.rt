@@ -1,5 +1,5 @@
 //! Integers that are keys alone, where some rows are selected.
-ghost use Rattle.std.specs.Prelude.{◌≡◌, ◌<◌, length, map, get_or, pos, All, IfOk, IfSome};
+ghost use Rattle.std.specs.Prelude.{◌≡◌, ◌<◌, length, map, slice_index_or, pos, All, IfOk, IfSome};
 ghost use Rattle.meaning.specs.declared.value.Value.TheVariants.{Int, Null};
 ghost use Rattle.group_by.specs.Rows.{int_keys, rows_at, AreLanesOf};
 
@@ -26,7 +26,8 @@ fn plain_cells<'v>(ints: &'v Ints<'_>) -> Option<&'v [i64]>
 /// The integers at these places.
 fn gathered(alloc: Global, cells: &[i64], places: &[u32]) -> Result<Vec<i64>, AllocError>
     requires { All (λ place. place < length cells.now) places.now }
-    ensures { IfOk result (λ ints. ints.items ≡ map (λ place. get_or cells.now place (pos 0)) places.now) }
+    ensures { IfOk result (λ ints. ints.items
+        ≡ map (λ place. slice_index_or cells.now place (pos 0)) places.now) }
 {
     let mut ints = Vec::with_capacity(alloc, places.len())?;
     for place in places {
@@ -41,7 +42,8 @@ fn selected_cells(
     selection: &Selection,
 ) -> Result<Option<Vec<i64>>, AllocError>
     requires { length ints.now ≡ selection.now.below }
-    ensures { IfOk result (λ found. IfSome found (λ own. map Int own.items ≡ map (λ at. get_or ints.now at Null) selection.now.list)) }
+    ensures { IfOk result (λ found. IfSome found (λ own. map Int own.items
+        ≡ map (λ at. slice_index_or ints.now at Null) selection.now.list)) }
 {
     let Some(places) = selection.places() else {
         return Ok(None);
@@ -59,7 +61,8 @@ pub fn selected_key(
     selection: &Selection,
 ) -> Result<Option<Vec<i64>>, AllocError>
     requires { AreLanesOf selection.now.below lanes.now }
-    ensures { IfOk result (λ found. IfSome found (λ ints. int_keys ints.items ≡ rows_at lanes.now selection.now.list)) }
+    ensures { IfOk result (λ found. IfSome found (λ ints. int_keys ints.items
+        ≡ rows_at lanes.now selection.now.list)) }
 {
     if lanes.len() != 1 {
         return Ok(None);

@@ -1,5 +1,5 @@
 //! A table of groups that grows by rows and by groups.
-ghost use Rattle.std.specs.Prelude.{◌≡◌, ℕ, ◌<◌, ◌≤◌, ◌+◌, [], ◌∷◌, length, map, get_or, sum, replicate, All, IfOk, OnOk};
+ghost use Rattle.std.specs.Prelude.{◌≡◌, ℕ, ◌<◌, ◌≤◌, ◌+◌, [], ◌∷◌, length, map, slice_index_or, sum, replicate, All, IfOk, OnOk};
 ghost use Rattle.meaning.specs.Aggregate.{no_statistics};
 ghost use Rattle.meaning.specs.Group.{certain_keys};
 ghost use Rattle.accumulators.specs.State.{most_entries};
@@ -20,8 +20,9 @@ use std::marker::Model;
 use vectors::selection::Selection;
 use vectors::vector::Vector;
 
-/// A table of groups. Contracts see the groups in the order of their keys, whatever the order in which rows came, how many
-/// rows were taken in all, and how many groups were handed to `absorb_groups`.
+/// A table of groups. Contracts see the groups in the order of their keys, whatever the order in
+/// which rows came, how many rows were taken in all, and how many groups were handed to
+/// `absorb_groups`.
 #[derive(Drop)]
 pub struct GroupTable {
     // Whether the empty key has a group in any case.
@@ -40,12 +41,15 @@ impl Model for GroupTable {
 
     ghost Value = { GroupsSpec };
 
-    ghost view = { λ t. table_of t.is_certain t.index.keys t.rows.items t.columns.items t.taken t.handed };
+    ghost view = { λ t. table_of t.is_certain t.index.keys t.rows.items t.columns.items t.taken
+        t.handed };
 
-    ghost invariant = { λ t. ArePlaces t.is_certain t.index.keys t.rows.items t.columns.items t.taken };
+    ghost invariant = { λ t. ArePlaces t.is_certain t.index.keys t.rows.items t.columns.items
+        t.taken };
 }
 
-/// Finds the places of the selected rows, and counts them and their arguments there. On an error all of it is open.
+/// Finds the places of the selected rows, and counts them and their arguments there. On an error
+/// all of it is open.
 fn add_rows(
     alloc: Global,
     index: &mut KeyIndex,
@@ -59,10 +63,14 @@ fn add_rows(
     requires arguments { AreLanesOf selection.now.below arguments.now }
     requires widths { length arguments.now ≡ length columns.old.items }
     requires counted { length rows.old.items ≡ length index.old.keys }
-    requires heights { (c : ℕ) → length (get_or columns.old.items c no_column).states ≤ length index.old.keys }
+    requires heights { (c : ℕ)
+        → length (slice_index_or columns.old.items c no_column).states ≤ length index.old.keys }
     requires few { sum rows.old.items + length selection.now.list ≤ most_entries }
-    requires states { (c place : ℕ) → (state_at columns.old.items c place).count + length selection.now.list ≤ most_entries }
-    ensures { OnOk result (AreAdded (rows_at keys.now selection.now.list) (rows_at arguments.now selection.now.list) index.old.keys rows.old.items columns.old.items index.new.keys rows.new.items columns.new.items) }
+    requires states { (c place : ℕ)
+        → (state_at columns.old.items c place).count + length selection.now.list ≤ most_entries }
+    ensures { OnOk result (AreAdded (rows_at keys.now selection.now.list)
+        (rows_at arguments.now selection.now.list) index.old.keys rows.old.items columns.old.items
+        index.new.keys rows.new.items columns.new.items) }
 {
     let places = index.find_places(alloc, keys, selection)?;
     let height = index.keys.len();
@@ -85,7 +93,8 @@ fn fresh_parts(
     height: usize,
 ) -> Result<(Vec<u64>, Vec<StateColumn>), AllocError>
     ensures rows { IfOk result (λ parts. parts.0.items ≡ replicate height 0) }
-    ensures columns { IfOk result (λ parts. AreFresh height (map (λ a. a.kind) aggregates.now) parts.1.items) }
+    ensures columns { IfOk result
+        (λ parts. AreFresh height (map (λ a. a.kind) aggregates.now) parts.1.items) }
 {
     let rows = vec![in alloc; 0; height]?;
     let columns = fresh_columns(alloc, aggregates, height)?;
@@ -125,10 +134,14 @@ fn add_group(
 ) -> Result<(), AllocError>
     requires widths { length group.now.states ≡ length columns.old.items }
     requires counted { length rows.old.items ≡ length index.old.keys }
-    requires heights { (c : ℕ) → length (get_or columns.old.items c no_column).states ≤ length index.old.keys }
+    requires heights { (c : ℕ)
+        → length (slice_index_or columns.old.items c no_column).states ≤ length index.old.keys }
     requires few { sum rows.old.items + group.now.rows ≤ most_entries }
-    requires states { (c place : ℕ) → c < length columns.old.items → (state_at columns.old.items c place).count + (get_or group.now.states c no_statistics).count ≤ most_entries }
-    ensures { OnOk result (IsAbsorbed group.now index.old.keys rows.old.items columns.old.items index.new.keys rows.new.items columns.new.items) }
+    requires states { (c place : ℕ) → c < length columns.old.items
+        → (state_at columns.old.items c place).count +
+        (slice_index_or group.now.states c no_statistics).count ≤ most_entries }
+    ensures { OnOk result (IsAbsorbed group.now index.old.keys rows.old.items columns.old.items
+        index.new.keys rows.new.items columns.new.items) }
 {
     let place = index.place_of_row(alloc, group.key())? as usize;
     let height = index.keys.len();
@@ -219,7 +232,8 @@ impl GroupTable {
         }
     }
 
-    /// Takes the selected rows, each with its key and an argument of each aggregate. A refusal gives the table up.
+    /// Takes the selected rows, each with its key and an argument of each aggregate. A refusal
+    /// gives the table up.
     pub fn add(
         self,
         alloc: Global,
@@ -231,7 +245,8 @@ impl GroupTable {
         requires arguments { AreLanesOf selection.now.below arguments.now }
         requires widths { length arguments.now ≡ length self.shape.kinds }
         requires few { self.rows + length selection.now.list ≤ most_entries }
-        ensures { IfOk result (λ t. t ≡ with_rows self (kept_rows keys.now arguments.now selection.now.list)) }
+        ensures { IfOk result (λ t. t
+            ≡ with_rows self (kept_rows keys.now arguments.now selection.now.list)) }
     {
         let GroupTable {
             is_certain,

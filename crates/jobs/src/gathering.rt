@@ -19,7 +19,8 @@ fn gather_files<F: Folder, E: Write>(
     command: &GatherCommand,
     err: &mut E,
 ) -> Result<Gather, Refusal>
-    ensures gathered { IfOk result (IsGatheredOf (F.holds folder.now) command.now (E.contents err.old) (E.contents err.new)) }
+    ensures gathered { IfOk result
+        (IsGatheredOf (F.holds folder.now) command.now (E.contents err.old) (E.contents err.new)) }
     ensures refused { IfErr result (IsTogetherRefused (F.holds folder.now) command.now) }
 {
     let job = read_job(
@@ -38,16 +39,16 @@ fn gather_files<F: Folder, E: Write>(
     }
 }
 
-/// Gathers the answers and states of a query over the tables that a folder was loaded with, in the order of the files;
-/// then writes the state under the path `save`, if there is one, and prints the report, and says which it was. A file
-/// that spells neither an answer nor a state for the query's job is named on standard error, with the error code of
-/// its bytes, and passed over.
+/// Gathers the answers and states of a query over the tables that a folder was loaded with, in the
+/// order of the files; then writes the state under the path `save`, if there is one, and prints the
+/// report, and says which it was. A file that spells neither an answer nor a state for the query's
+/// job is named on standard error, with the error code of its bytes, and passed over.
 ///
 /// # Errors
 ///
-/// Out of memory, or the first of these: what keeps the folder and the query from a job (the catalogue, the file of the cut,
-/// the query's text, its plan), a file that cannot be read or named, a state that cannot be written, a report that cannot
-/// be printed.
+/// Out of memory, or the first of these: what keeps the folder and the query from a job (the
+/// catalogue, the file of the cut, the query's text, its plan), a file that cannot be read or
+/// named, a state that cannot be written, a report that cannot be printed.
 pub fn gather_answers<F: Folder, O: Write, E: Write>(
     alloc: Global,
     folder: &mut F,
@@ -55,13 +56,15 @@ pub fn gather_answers<F: Folder, O: Write, E: Write>(
     out: &mut O,
     err: &mut E,
 ) -> Result<Report, Refusal>
-    ensures gathered { IfOk result (IsGathered (F.holds folder.old) command.now (O.contents out.old) (O.contents out.new)
+    ensures gathered { IfOk result
+        (IsGathered (F.holds folder.old) command.now (O.contents out.old) (O.contents out.new)
         (E.contents err.old) (E.contents err.new) (F.wrote folder.old) (F.wrote folder.new)) }
     ensures refused { IfErr result (IsGatherRefused (F.holds folder.old) command.now) }
     // Nothing is printed before the state is saved.
     ensures quiet { IfErr result (λ e. IsUnprinted e ⊎ (O.contents out.new ≡ O.contents out.old)) }
     // No file was written before all are taken.
-    ensures left { IfErr result (λ e. IsReportRefused command.now.save e ⊎ (F.wrote folder.new ≡ F.wrote folder.old)) }
+    ensures left { IfErr result (λ e. IsReportRefused command.now.save e
+        ⊎ (F.wrote folder.new ≡ F.wrote folder.old)) }
 {
     let gather = gather_files(alloc, folder, command, err)?;
     let report = save_and_report(alloc, folder, &gather, &command.save, out);

@@ -72,7 +72,8 @@ fn job_over<F: Folder>(
     ensures over { IfOk result (IsJobOver (F.holds folder.now) directory.now catalog.now query.now) }
     ensures well_formed { IfOk result (λ job. IsWellFormedPlan job.plan) }
     ensures typed { IfOk result (λ job. IsTypedOverGroups job.plan) }
-    ensures refused { IfErr result (IsRefusedOver (F.holds folder.now) directory.now catalog.now query.now) }
+    ensures refused { IfErr result
+        (IsRefusedOver (F.holds folder.now) directory.now catalog.now query.now) }
 {
     let (load, cut) = read_load(alloc, folder, directory)?;
     match plan_of(alloc, directory, catalog, query) {
@@ -84,11 +85,13 @@ fn job_over<F: Folder>(
     }
 }
 
-/// The job of a query: its plan over the folder's catalogue, and the load and the cut of the folder's file of the cut.
+/// The job of a query: its plan over the folder's catalogue, and the load and the cut of the
+/// folder's file of the cut.
 ///
 /// # Errors
 ///
-/// Out of memory, or the first of these: the catalogue's, of the file of the cut, of the query's text, of its plan.
+/// Out of memory, or the first of these: the catalogue's, of the file of the cut, of the query's
+/// text, of its plan.
 pub fn read_job<F: Folder>(
     alloc: Global,
     folder: &F,

@@ -6,8 +6,8 @@ pub fn answers_are_joined()
     ensures { AnswersAreJoined }
 {}
 
-/// Once every fragment's own answer is among the files and none conflicts, what is printed is the query's meaning over
-/// the whole table.
+/// Once every fragment's own answer is among the files and none conflicts, what is printed is the
+/// query's meaning over the whole table.
 pub fn own_answers_mean()
     ensures { OwnAnswersMean }
 {}

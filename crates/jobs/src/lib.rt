@@ -1,4 +1,5 @@
-//! One fragment's answer, and answers gathered, over the folder of files that tables were loaded into.
+//! One fragment's answer, and answers gathered, over the folder of files that tables were loaded
+//! into.
 #![tactic(auto)]
 
 mod gathering;

@@ -22,7 +22,9 @@ fn write_state<F: Folder>(
     gather: &Gather,
     path: &Text,
 ) -> Result<(), Refusal>
-    ensures written { OnOk result (WritesOne path.now (λ bytes. bytes ≡ state_bytes gather.now.job gather.now.cells) (F.wrote folder.old) (F.wrote folder.new)) }
+    ensures written { OnOk result
+        (WritesOne path.now (λ bytes. bytes ≡ state_bytes gather.now.job gather.now.cells)
+        (F.wrote folder.old) (F.wrote folder.new)) }
     ensures refused { IfErr result (IsUnwritten path.now) }
 {
     match gather.state_bytes(alloc) {
@@ -38,7 +40,9 @@ fn save_state<F: Folder>(
     gather: &Gather,
     save: &Option<Text>,
 ) -> Result<(), Refusal>
-    ensures saved { OnOk result (IsSaved save.now (state_bytes gather.now.job gather.now.cells) (F.wrote folder.old) (F.wrote folder.new)) }
+    ensures saved { OnOk result
+        (IsSaved save.now (state_bytes gather.now.job gather.now.cells) (F.wrote folder.old)
+        (F.wrote folder.new)) }
     ensures refused { IfErr result (IsSaveRefused save.now) }
 {
     match save {
@@ -69,7 +73,9 @@ pub fn save_and_report<F: Folder, O: Write>(
     save: &Option<Text>,
     out: &mut O,
 ) -> Result<Report, Refusal>
-    ensures reported { IfOk result (IsReported gather.now save.now (O.contents out.old) (O.contents out.new) (F.wrote folder.old) (F.wrote folder.new)) }
+    ensures reported { IfOk result
+        (IsReported gather.now save.now (O.contents out.old) (O.contents out.new)
+        (F.wrote folder.old) (F.wrote folder.new)) }
     ensures refused { IfErr result (IsReportRefused save.now) }
     // Nothing is printed before the state is saved.
     ensures quiet { IfErr result (λ e. IsUnprinted e ⊎ (O.contents out.new ≡ O.contents out.old)) }

@@ -61,7 +61,9 @@ fn take_or_name<E: Write>(
     bytes: &[u8],
     err: &mut E,
 ) -> Result<(), Refusal>
-    ensures takes { OnOk result (TakesOrNames gather.old gather.new path.now bytes.now (E.contents err.old) (E.contents err.new)) }
+    ensures takes { OnOk result
+        (TakesOrNames gather.old gather.new path.now bytes.now (E.contents err.old)
+        (E.contents err.new)) }
     ensures refused { IfErr result IsUntold }
 {
     match take_bytes(alloc, gather, bytes) {
@@ -84,15 +86,17 @@ fn take_file<F: Folder, E: Write>(
     path: &Text,
     err: &mut E,
 ) -> Result<(), Refusal>
-    ensures takes { OnOk result (TakesFile (F.holds folder.now) gather.old gather.new path.now (E.contents err.old) (E.contents err.new)) }
+    ensures takes { OnOk result
+        (TakesFile (F.holds folder.now) gather.old gather.new path.now (E.contents err.old)
+        (E.contents err.new)) }
     ensures refused { IfErr result (IsFileRefused path.now) }
 {
     let bytes = read_file(alloc, folder, path)?;
     take_or_name(alloc, gather, path, bytes.as_slice(), err)
 }
 
-/// Takes the files one after the other. One that is neither an answer nor a state for the job is named on standard
-/// error and passed over.
+/// Takes the files one after the other. One that is neither an answer nor a state for the job is
+/// named on standard error and passed over.
 pub fn take_files<F: Folder, E: Write>(
     alloc: Global,
     folder: &F,
@@ -101,7 +105,9 @@ pub fn take_files<F: Folder, E: Write>(
     err: &mut E,
 ) -> Result<(), Refusal>
     requires nothing { gather.now.cells ≡ gathered gather.now.job.cut [] }
-    ensures took { OnOk result (TookFiles (F.holds folder.now) gather.old gather.new paths.now (E.contents err.old) (E.contents err.new)) }
+    ensures took { OnOk result
+        (TookFiles (F.holds folder.now) gather.old gather.new paths.now (E.contents err.old)
+        (E.contents err.new)) }
     ensures refused { IfErr result (IsTakingRefused paths.now) }
 {
     for path in paths {

@@ -27,7 +27,9 @@ fn read_fragment<F: Folder>(
     table: &str,
     fragment: u32,
 ) -> Result<Vec<u8>, Refusal>
-    ensures held { IfOk result (λ bytes. AreHeld (F.holds folder.now (fragment_path directory.now table.now fragment)) bytes.items) }
+    ensures held { IfOk result
+        (λ bytes. AreHeld (F.holds folder.now (fragment_path directory.now table.now fragment))
+        bytes.items) }
     ensures refused { IfErr result (IsUnread (fragment_path directory.now table.now fragment)) }
 {
     let path = fragment_path(alloc, directory, table, fragment)?;
@@ -40,7 +42,8 @@ fn read_dimension<F: Folder>(
     directory: &str,
     join: &Join,
 ) -> Result<Vec<u8>, Refusal>
-    ensures held { IfOk result (λ bytes. IsDimensionOf (F.holds folder.now) directory.now join.now bytes.items) }
+    ensures held { IfOk result
+        (λ bytes. IsDimensionOf (F.holds folder.now) directory.now join.now bytes.items) }
     ensures refused { IfErr result (IsUnread (dimension_path directory.now join.now.dim.name)) }
 {
     let path = dimension_path(alloc, directory, join.dim.name.as_str())?;
@@ -54,7 +57,9 @@ fn read_dimensions<F: Folder>(
     directory: &str,
     joins: &[Join],
 ) -> Result<Vec<Vec<u8>>, Refusal>
-    ensures held { IfOk result (λ dims. AreEach (IsDimensionOf (F.holds folder.now) directory.now) joins.now (map (λ bytes. bytes.items) dims.items)) }
+    ensures held { IfOk result
+        (λ dims. AreEach (IsDimensionOf (F.holds folder.now) directory.now) joins.now
+        (map (λ bytes. bytes.items) dims.items)) }
     ensures refused { IfErr result (AreDimensionsUnread directory.now joins.now) }
 {
     let mut dims = Vec::new(alloc);
@@ -65,7 +70,8 @@ fn read_dimensions<F: Folder>(
 }
 
 fn lend_files<'a>(alloc: Global, files: &'a [Vec<u8>]) -> Result<Vec<&'a [u8]>, AllocError>
-    ensures { IfOk result (λ lent. map (λ file. file.now) lent.items ≡ map (λ bytes. bytes.items) files.now) }
+    ensures { IfOk result (λ lent. map (λ file. file.now) lent.items
+        ≡ map (λ bytes. bytes.items) files.now) }
 {
     let mut lent = Vec::new(alloc);
     for file in files {
@@ -84,8 +90,11 @@ fn answer_files(
     vector: u32,
 ) -> Result<Vec<u8>, Refusal>
     requires { IsWellFormedPlan job.now.plan }
-    ensures spelled { IfOk result (λ bytes. IsFileAnswer job.now k vector fragment.now (map (λ file. file.items) dims.now) bytes.items) }
-    ensures refused { IfErr result (IsFileRefused job.now k vector fragment.now (map (λ file. file.items) dims.now)) }
+    ensures spelled { IfOk result
+        (λ bytes. IsFileAnswer job.now k vector fragment.now (map (λ file. file.items) dims.now)
+        bytes.items) }
+    ensures refused { IfErr result
+        (IsFileRefused job.now k vector fragment.now (map (λ file. file.items) dims.now)) }
 {
     let lent = lend_files(alloc, dims)?;
     match work(alloc, job, fragment, lent.as_slice(), k, vector as usize) {
@@ -106,7 +115,8 @@ fn answer_job<F: Folder>(
     command: &WorkCommand,
 ) -> Result<Vec<u8>, Refusal>
     requires { IsWellFormedPlan job.now.plan }
-    ensures spelled { IfOk result (λ bytes. IsAnswer (F.holds folder.now) command.now job.now bytes.items) }
+    ensures spelled { IfOk result
+        (λ bytes. IsAnswer (F.holds folder.now) command.now job.now bytes.items) }
     ensures refused { IfErr result (IsAnswerRefused (F.holds folder.now) command.now job.now) }
 {
     let (directory, k) = (command.folder.as_str(), command.fragment);
@@ -137,24 +147,27 @@ fn spelled_answer<F: Folder>(
     bytes
 }
 
-/// Answers a query for one fragment of the tables that a folder was loaded with, and writes the answer under the path
-/// `out`. The files of the dimensions that the query joins are given to the worker in the order of the joins; each
-/// file is read before one is judged.
+/// Answers a query for one fragment of the tables that a folder was loaded with, and writes the
+/// answer under the path `out`. The files of the dimensions that the query joins are given to the
+/// worker in the order of the joins; each file is read before one is judged.
 ///
 /// # Errors
 ///
-/// Out of memory, or the first of these: what keeps the folder and the query from a job (the catalogue, the file of the cut,
-/// the query's text, its plan), a file that cannot be read (the fragment's, then the dimensions'), what the worker refuses,
-/// and last that the answer cannot be written.
+/// Out of memory, or the first of these: what keeps the folder and the query from a job (the
+/// catalogue, the file of the cut, the query's text, its plan), a file that cannot be read (the
+/// fragment's, then the dimensions'), what the worker refuses, and last that the answer cannot be
+/// written.
 pub fn answer_fragment<F: Folder>(
     alloc: Global,
     folder: &mut F,
     command: &WorkCommand,
 ) -> Result<(), Refusal>
-    ensures worked { OnOk result (IsWorked (F.holds folder.old) command.now (F.wrote folder.old) (F.wrote folder.new)) }
+    ensures worked { OnOk result
+        (IsWorked (F.holds folder.old) command.now (F.wrote folder.old) (F.wrote folder.new)) }
     ensures refused { IfErr result (IsWorkRefused (F.holds folder.old) command.now) }
     // No file was written, unless writing it failed.
-    ensures left { IfErr result (λ e. IsUnwritten command.now.out e ⊎ (F.wrote folder.new ≡ F.wrote folder.old)) }
+    ensures left { IfErr result (λ e. IsUnwritten command.now.out e
+        ⊎ (F.wrote folder.new ≡ F.wrote folder.old)) }
 {
     let bytes = spelled_answer(alloc, folder, command)?;
     write_file(folder, &command.out, bytes.as_slice())

@@ -26,8 +26,10 @@ fn put_sum(left: &[i64], right: &[i64], lane: usize, out: &mut [i64], over: &mut
     requires right { lane < length right.now }
     requires out { lane < length out.old }
     requires over { lane < length over.old }
-    ensures wrapped { out.new ≡ set out.old lane (int_wrap w64 (int_at left.now lane +ℤ int_at right.now lane)) }
-    ensures over { over.new ≡ set over.old lane (overflow_bit (int_at left.now lane +ℤ int_at right.now lane)) }
+    ensures wrapped { out.new
+        ≡ set out.old lane (int_wrap w64 (int_at left.now lane +ℤ int_at right.now lane)) }
+    ensures over { over.new ≡ set over.old lane
+        (overflow_bit (int_at left.now lane +ℤ int_at right.now lane)) }
 {
     over[lane] = sum_overflow(left, right, lane);
     out[lane] = wrapped_sum(left[lane], right[lane]);
@@ -38,8 +40,10 @@ pub fn add_ints(left: &[i64], right: &[i64], out: &mut [i64], over: &mut [u8])
     requires left { length left.now ≡ length out.old }
     requires right { length right.now ≡ length out.old }
     requires over { length over.old ≡ length out.old }
-    ensures wrapped { AreLanes (pos 0) (length out.old) (λ i. int_wrap w64 (int_at left.now i +ℤ int_at right.now i)) out.new }
-    ensures over { AreLanes 0 (length out.old) (λ i. overflow_bit (int_at left.now i +ℤ int_at right.now i)) over.new }
+    ensures wrapped { AreLanes (pos 0) (length out.old)
+        (λ i. int_wrap w64 (int_at left.now i +ℤ int_at right.now i)) out.new }
+    ensures over { AreLanes 0 (length out.old)
+        (λ i. overflow_bit (int_at left.now i +ℤ int_at right.now i)) over.new }
 {
     for i in 0..out.len() {
         put_sum(left, right, i, out, over);
@@ -69,20 +73,25 @@ fn put_difference(left: &[i64], right: &[i64], lane: usize, out: &mut [i64], ove
     requires right { lane < length right.now }
     requires out { lane < length out.old }
     requires over { lane < length over.old }
-    ensures wrapped { out.new ≡ set out.old lane (int_wrap w64 (int_at left.now lane -ℤ int_at right.now lane)) }
-    ensures over { over.new ≡ set over.old lane (overflow_bit (int_at left.now lane -ℤ int_at right.now lane)) }
+    ensures wrapped { out.new
+        ≡ set out.old lane (int_wrap w64 (int_at left.now lane -ℤ int_at right.now lane)) }
+    ensures over { over.new ≡ set over.old lane
+        (overflow_bit (int_at left.now lane -ℤ int_at right.now lane)) }
 {
     over[lane] = difference_overflow(left, right, lane);
     out[lane] = wrapped_difference(left[lane], right[lane]);
 }
 
-/// The differences, wrapped to 64 bits, and 1 in `over` where the exact one isn't held by these, else 0.
+/// The differences, wrapped to 64 bits, and 1 in `over` where the exact one isn't held by these,
+/// else 0.
 pub fn sub_ints(left: &[i64], right: &[i64], out: &mut [i64], over: &mut [u8])
     requires left { length left.now ≡ length out.old }
     requires right { length right.now ≡ length out.old }
     requires over { length over.old ≡ length out.old }
-    ensures wrapped { AreLanes (pos 0) (length out.old) (λ i. int_wrap w64 (int_at left.now i -ℤ int_at right.now i)) out.new }
-    ensures over { AreLanes 0 (length out.old) (λ i. overflow_bit (int_at left.now i -ℤ int_at right.now i)) over.new }
+    ensures wrapped { AreLanes (pos 0) (length out.old)
+        (λ i. int_wrap w64 (int_at left.now i -ℤ int_at right.now i)) out.new }
+    ensures over { AreLanes 0 (length out.old)
+        (λ i. overflow_bit (int_at left.now i -ℤ int_at right.now i)) over.new }
 {
     for i in 0..out.len() {
         put_difference(left, right, i, out, over);
@@ -112,20 +121,25 @@ fn put_product(left: &[i64], right: &[i64], lane: usize, out: &mut [i64], over: 
     requires right { lane < length right.now }
     requires out { lane < length out.old }
     requires over { lane < length over.old }
-    ensures wrapped { out.new ≡ set out.old lane (int_wrap w64 (int_at left.now lane *ℤ int_at right.now lane)) }
-    ensures over { over.new ≡ set over.old lane (overflow_bit (int_at left.now lane *ℤ int_at right.now lane)) }
+    ensures wrapped { out.new
+        ≡ set out.old lane (int_wrap w64 (int_at left.now lane *ℤ int_at right.now lane)) }
+    ensures over { over.new ≡ set over.old lane
+        (overflow_bit (int_at left.now lane *ℤ int_at right.now lane)) }
 {
     over[lane] = product_overflow(left, right, lane);
     out[lane] = wrapped_product(left[lane], right[lane]);
 }
 
-/// The products, wrapped to 64 bits, and 1 in `over` where the exact one isn't held by these, else 0.
+/// The products, wrapped to 64 bits, and 1 in `over` where the exact one isn't held by these, else
+/// 0.
 pub fn mul_ints(left: &[i64], right: &[i64], out: &mut [i64], over: &mut [u8])
     requires left { length left.now ≡ length out.old }
     requires right { length right.now ≡ length out.old }
     requires over { length over.old ≡ length out.old }
-    ensures wrapped { AreLanes (pos 0) (length out.old) (λ i. int_wrap w64 (int_at left.now i *ℤ int_at right.now i)) out.new }
-    ensures over { AreLanes 0 (length out.old) (λ i. overflow_bit (int_at left.now i *ℤ int_at right.now i)) over.new }
+    ensures wrapped { AreLanes (pos 0) (length out.old)
+        (λ i. int_wrap w64 (int_at left.now i *ℤ int_at right.now i)) out.new }
+    ensures over { AreLanes 0 (length out.old)
+        (λ i. overflow_bit (int_at left.now i *ℤ int_at right.now i)) over.new }
 {
     for i in 0..out.len() {
         put_product(left, right, i, out, over);

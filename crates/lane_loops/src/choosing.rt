@@ -18,8 +18,8 @@ fn chosen_at<T: Copy>(mask: &[bool], yes: &[T], no: &[T], lane: usize) -> T
     if mask[lane] { this } else { that }
 }
 
-/// The lane of `yes` where the mask tells so, else that of `no`. CASE chooses by which lanes are TRUE (`true_lanes`), COALESCE
-/// by which are NULL; both choose cells and NULLs alike.
+/// The lane of `yes` where the mask tells so, else that of `no`. CASE chooses by which lanes are
+/// TRUE (`true_lanes`), COALESCE by which are NULL; both choose cells and NULLs alike.
 pub fn choose<T: Copy>(mask: &[bool], yes: &[T], no: &[T], out: &mut [T])
     requires mask { length mask.now ≡ length out.old }
     requires yes { length yes.now ≡ length out.old }

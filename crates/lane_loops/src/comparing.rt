@@ -44,8 +44,10 @@ fn fill_of_two(
     requires left { length left.now ≡ length out.old }
     requires right { length right.now ≡ length out.old }
     requires within { start + count ≤ length out.old }
-    requires filled { AreFilled 0 (length out.old) start (compared_bit op left.now right.now) out.old }
-    ensures { AreFilled 0 (length out.old) (start + count) (compared_bit op left.now right.now) out.new }
+    requires filled { AreFilled 0 (length out.old) start (compared_bit op left.now right.now)
+        out.old }
+    ensures { AreFilled 0 (length out.old) (start + count) (compared_bit op left.now right.now)
+        out.new }
 {
     for k in 0..count {
         out[start + k] = bit_at(op, left, right, start + k);
@@ -108,8 +110,10 @@ fn fill_to(
 )
     requires long { length left.now ≡ length out.old }
     requires within { start + count ≤ length out.old }
-    requires filled { AreFilled 0 (length out.old) start (compared_to_bit op left.now right.now) out.old }
-    ensures { AreFilled 0 (length out.old) (start + count) (compared_to_bit op left.now right.now) out.new }
+    requires filled { AreFilled 0 (length out.old) start (compared_to_bit op left.now right.now)
+        out.old }
+    ensures { AreFilled 0 (length out.old) (start + count) (compared_to_bit op left.now right.now)
+        out.new }
 {
     for k in 0..count {
         out[start + k] = bit_beside(op, left, start + k, right);

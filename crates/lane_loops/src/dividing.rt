@@ -31,21 +31,27 @@ fn put_quotient(left: &[i64], right: &[i64], lane: usize, out: &mut [i64], codes
     requires right { lane < length right.now }
     requires out { lane < length out.old }
     requires codes { lane < length codes.old }
-    ensures value { out.new ≡ set out.old lane (quotient (int_at left.now lane) (int_at right.now lane)) }
-    ensures code { codes.new ≡ set codes.old lane (fault_code (of_integers Divide (int_at left.now lane) (int_at right.now lane))) }
+    ensures value { out.new ≡ set out.old lane
+        (quotient (int_at left.now lane) (int_at right.now lane)) }
+    ensures code { codes.new
+        ≡ set codes.old lane (fault_code
+        (of_integers Divide (int_at left.now lane) (int_at right.now lane))) }
 {
     codes[lane] = division_code(left[lane], right[lane]);
     out[lane] = quotient_or_dividend(left[lane], right[lane]);
 }
 
-/// The quotients, rounded towards zero, and 0 in `codes`. Where there is none the dividend stands in its place, and the fault's
-/// code in `codes`: 1 where 64 bits don't hold the quotient, 2 where the divisor is 0.
+/// The quotients, rounded towards zero, and 0 in `codes`. Where there is none the dividend stands
+/// in its place, and the fault's code in `codes`: 1 where 64 bits don't hold the quotient, 2 where
+/// the divisor is 0.
 pub fn div_ints(left: &[i64], right: &[i64], out: &mut [i64], codes: &mut [u8])
     requires left { length left.now ≡ length out.old }
     requires right { length right.now ≡ length out.old }
     requires codes { length codes.old ≡ length out.old }
-    ensures value { AreLanes (pos 0) (length out.old) (λ i. quotient (int_at left.now i) (int_at right.now i)) out.new }
-    ensures code { AreLanes 0 (length out.old) (λ i. fault_code (of_integers Divide (int_at left.now i) (int_at right.now i))) codes.new }
+    ensures value { AreLanes (pos 0) (length out.old)
+        (λ i. quotient (int_at left.now i) (int_at right.now i)) out.new }
+    ensures code { AreLanes 0 (length out.old)
+        (λ i. fault_code (of_integers Divide (int_at left.now i) (int_at right.now i))) codes.new }
 {
     for i in 0..out.len() {
         put_quotient(left, right, i, out, codes);
@@ -58,8 +64,10 @@ pub fn div_ints_at(left: &[i64], right: &[i64], places: &[u32], out: &mut [i64],
     requires right { length right.now ≡ length out.old }
     requires codes { length codes.old ≡ length out.old }
     requires within { All (λ p. p < length out.old) places.now }
-    ensures value { AreLanesAt (pos 0) places.now (λ i. quotient (int_at left.now i) (int_at right.now i)) out.new }
-    ensures code { AreLanesAt 0 places.now (λ i. fault_code (of_integers Divide (int_at left.now i) (int_at right.now i))) codes.new }
+    ensures value { AreLanesAt (pos 0) places.now
+        (λ i. quotient (int_at left.now i) (int_at right.now i)) out.new }
+    ensures code { AreLanesAt 0 places.now
+        (λ i. fault_code (of_integers Divide (int_at left.now i) (int_at right.now i))) codes.new }
 {
     for place in places {
         put_quotient(left, right, *place as usize, out, codes);
@@ -94,12 +102,15 @@ fn put_negation(ints: &[i64], lane: usize, out: &mut [i64], over: &mut [u8])
     out[lane] = wrapped_negation(ints[lane]);
 }
 
-/// Each integer negated and wrapped to 64 bits, and 1 in `over` where the exact one isn't held by these, else 0.
+/// Each integer negated and wrapped to 64 bits, and 1 in `over` where the exact one isn't held by
+/// these, else 0.
 pub fn neg_ints(ints: &[i64], out: &mut [i64], over: &mut [u8])
     requires ints { length ints.now ≡ length out.old }
     requires over { length over.old ≡ length out.old }
-    ensures wrapped { AreLanes (pos 0) (length out.old) (λ i. int_wrap w64 (neg_ℤ (int_at ints.now i))) out.new }
-    ensures over { AreLanes 0 (length out.old) (λ i. overflow_bit (neg_ℤ (int_at ints.now i))) over.new }
+    ensures wrapped { AreLanes (pos 0) (length out.old)
+        (λ i. int_wrap w64 (neg_ℤ (int_at ints.now i))) out.new }
+    ensures over { AreLanes 0 (length out.old) (λ i. overflow_bit (neg_ℤ (int_at ints.now i)))
+        over.new }
 {
     for i in 0..out.len() {
         put_negation(ints, i, out, over);

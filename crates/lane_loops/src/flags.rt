@@ -27,7 +27,8 @@ fn flag_unless_null(nulls: &[bool], flags: &[u8], lane: usize) -> u8
     if nulls[lane] { 0 } else { flag }
 }
 
-/// Takes the flag off each lane that is NULL: arithmetic on NULL is NULL, whatever stands in its lane, and no fault.
+/// Takes the flag off each lane that is NULL: arithmetic on NULL is NULL, whatever stands in its
+/// lane, and no fault.
 pub fn clear_flags(nulls: &[bool], flags: &mut [u8])
     requires { length nulls.now ≡ length flags.old }
     ensures { AreLanes 0 (length flags.old) (cleared_flag nulls.now flags.old) flags.new }

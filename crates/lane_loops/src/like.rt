@@ -1,5 +1,6 @@
-//! LIKE, lane by lane: a pattern is looked at once, and texts are then searched by the cheapest way that it allows.
-ghost use Rattle.std.specs.Prelude.{◌≡◌, ◌<◌, ◌≤◌, ◌+◌, [], ◌∷◌, ◌++◌, nat_eq, true, length, get_or, take, drop, All, IfSome};
+//! LIKE, lane by lane: a pattern is looked at once, and texts are then searched by the cheapest way
+//! that it allows.
+ghost use Rattle.std.specs.Prelude.{◌≡◌, ◌<◌, ◌≤◌, ◌+◌, [], ◌∷◌, ◌++◌, nat_eq, true, length, slice_index, take, drop, All, IfSome};
 ghost use Rattle.std.specs.List.{ends_with, list_any, starts_with};
 ghost use Rattle.std.specs.Str.{is_utf8};
 ghost use Rattle.meaning.specs.ExpressionLaws.{is_plain};
@@ -67,7 +68,8 @@ fn behind_sign(bytes: &[u8]) -> Option<&[u8]>
 /// What stands before a `%` at the end.
 fn before_sign(bytes: &[u8]) -> Option<&[u8]>
     requires { is_utf8 bytes.now ≡ true }
-    ensures { IfSome result (λ front. (bytes.now ≡ front.now ++ 37 ∷ []) × (is_utf8 front.now ≡ true)) }
+    ensures { IfSome result (λ front. (bytes.now ≡ front.now ++ 37 ∷ [])
+        × (is_utf8 front.now ≡ true)) }
 {
     let (last, front) = bytes.split_last()?;
     if *last != b'%' {
@@ -186,7 +188,7 @@ fn has_byte(text: &[u8], byte: &u8) -> bool
 #[inline(always)]
 fn has_first(text: &[u8], part: &[u8]) -> bool
     requires { 0 < length part.now }
-    ensures { result ≡ list_any (λ b. nat_eq b (get_or part.now 0 0)) text.now }
+    ensures { result ≡ list_any (λ b. nat_eq b (slice_index part.now 0)) text.now }
 {
     has_byte(text, &part[0])
 }
@@ -258,15 +260,18 @@ impl<'p> LikePattern<'p> {
 #[inline(always)]
 fn bit_at(pattern: &LikePattern<'_>, texts: &[&[u8]], lane: usize) -> u8
     requires { lane < length texts.now }
-    ensures { is_utf8 (text_at texts.now lane) ≡ true → result ≡ like_bit pattern.now texts.now lane }
+    ensures { is_utf8 (text_at texts.now lane) ≡ true
+        → result ≡ like_bit pattern.now texts.now lane }
 {
     u8::from(pattern.is_like(texts[lane]))
 }
 
-/// 1 in each lane whose text is like the pattern, else 0. What stands in the lane of bytes that aren't UTF-8 is open.
+/// 1 in each lane whose text is like the pattern, else 0. What stands in the lane of bytes that
+/// aren't UTF-8 is open.
 pub fn like_texts(pattern: &LikePattern<'_>, texts: &[&[u8]], out: &mut [u8])
     requires { length texts.now ≡ length out.old }
-    ensures { AreLanesWhere 0 (length out.old) (λ i. is_utf8 (text_at texts.now i) ≡ true) (like_bit pattern.now texts.now) out.new }
+    ensures { AreLanesWhere 0 (length out.old) (λ i. is_utf8 (text_at texts.now i) ≡ true)
+        (like_bit pattern.now texts.now) out.new }
 {
     for i in 0..out.len() {
         out[i] = bit_at(pattern, texts, i);
@@ -277,7 +282,8 @@ pub fn like_texts(pattern: &LikePattern<'_>, texts: &[&[u8]], out: &mut [u8])
 pub fn like_texts_at(pattern: &LikePattern<'_>, texts: &[&[u8]], places: &[u32], out: &mut [u8])
     requires long { length texts.now ≡ length out.old }
     requires within { All (λ p. p < length out.old) places.now }
-    ensures { AreLanesAtWhere 0 places.now (λ i. is_utf8 (text_at texts.now i) ≡ true) (like_bit pattern.now texts.now) out.new }
+    ensures { AreLanesAtWhere 0 places.now (λ i. is_utf8 (text_at texts.now i) ≡ true)
+        (like_bit pattern.now texts.now) out.new }
 {
     for place in places {
         let place = *place as usize;

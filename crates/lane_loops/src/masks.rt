@@ -15,7 +15,8 @@ fn in_both(left: &[bool], right: &[bool], lane: usize) -> bool
 pub fn mark_both(left: &[bool], right: &[bool], out: &mut [bool])
     requires left { length left.now ≡ length out.old }
     requires right { length right.now ≡ length out.old }
-    ensures { AreLanes false (length out.old) (λ i. null_at left.now i && null_at right.now i) out.new }
+    ensures { AreLanes false (length out.old) (λ i. null_at left.now i && null_at right.now i)
+        out.new }
 {
     for i in 0..out.len() {
         out[i] = in_both(left, right, i);
@@ -35,7 +36,8 @@ fn in_first(left: &[bool], right: &[bool], lane: usize) -> bool
 pub fn mark_first_alone(left: &[bool], right: &[bool], out: &mut [bool])
     requires left { length left.now ≡ length out.old }
     requires right { length right.now ≡ length out.old }
-    ensures { AreLanes false (length out.old) (λ i. null_at left.now i && not (null_at right.now i)) out.new }
+    ensures { AreLanes false (length out.old) (λ i. null_at left.now i && not (null_at right.now i))
+        out.new }
 {
     for i in 0..out.len() {
         out[i] = in_first(left, right, i);

@@ -1,4 +1,5 @@
-//! Arithmetic on integers near zero, of which no result is beyond 64 bits: no flag is kept of a lane.
+//! Arithmetic on integers near zero, of which no result is beyond 64 bits: no flag is kept of a
+//! lane.
 ghost use Rattle.std.specs.Prelude.{◌≡◌, ◌<◌, ◌*ℤ◌, true, false, length, set};
 ghost use Rattle.std.specs.Int.{int_wrap, w64};
 ghost use Rattle.lane_loops.specs.Lanes.{int_at};
@@ -50,8 +51,8 @@ fn limit(op: ArithmeticOperator) -> u64
     }
 }
 
-/// The integer, where 32 bits hold it: what its lowest 32 bits say. So the compiler sees that a product of two such is one of
-/// 32 bits by 32, for which the processor has an instruction.
+/// The integer, where 32 bits hold it: what its lowest 32 bits say. So the compiler sees that a
+/// product of two such is one of 32 bits by 32, for which the processor has an instruction.
 #[inline(always)]
 fn shortened(int: i64) -> i64
     ensures { IsShort int → result ≡ int }
@@ -78,8 +79,9 @@ fn near_result(op: ArithmeticOperator, left: i64, right: i64) -> i64
     }
 }
 
-/// The integer, where the bits are below the limit. An integer that is one for all lanes would be shortened before the loop, and
-/// in the loop the compiler would no longer see that 32 bits hold it; what depends on the lane's bits it shortens there.
+/// The integer, where the bits are below the limit. An integer that is one for all lanes would be
+/// shortened before the loop, and in the loop the compiler would no longer see that 32 bits hold
+/// it; what depends on the lane's bits it shortens there.
 #[inline(always)]
 fn kept(op: ArithmeticOperator, int: i64, bits: u64) -> i64
     ensures { bits < limit_of op → result ≡ int }
@@ -96,7 +98,8 @@ fn put_result(op: ArithmeticOperator, left: &i64, right: &i64, lane: usize, out:
     requires { lane < length out.old }
     ensures long { length out.new ≡ length out.old }
     ensures near { result < limit_of op → AreNear op left.now right.now }
-    ensures put { result < limit_of op → out.new ≡ set out.old lane (arith_int op left.now right.now) }
+    ensures put { result < limit_of op
+        → out.new ≡ set out.old lane (arith_int op left.now right.now) }
 {
     // Before the write, so that no operand is read again behind it.
     let bits = far_bits(op, left, right);
@@ -116,8 +119,10 @@ fn put_of_two(
     requires right { lane < length right.now }
     requires out { lane < length out.old }
     ensures long { length out.new ≡ length out.old }
-    ensures near { result < limit_of op → AreNear op (int_at left.now lane) (int_at right.now lane) }
-    ensures put { result < limit_of op → out.new ≡ set out.old lane (arith_int op (int_at left.now lane) (int_at right.now lane)) }
+    ensures near { result < limit_of op
+        → AreNear op (int_at left.now lane) (int_at right.now lane) }
+    ensures put { result < limit_of op
+        → out.new ≡ set out.old lane (arith_int op (int_at left.now lane) (int_at right.now lane)) }
 {
     put_result(op, &left[lane], &right[lane], lane, out)
 }
@@ -127,7 +132,9 @@ fn operate_by(op: ArithmeticOperator, left: &[i64], right: &[i64], out: &mut [i6
     requires left { length left.now ≡ length out.old }
     requires right { length right.now ≡ length out.old }
     ensures long { length out.new ≡ length out.old }
-    ensures near { result ≡ false → AreResults op (length out.old) (length out.old) (int_at left.now) (int_at right.now) out.new }
+    ensures near { result ≡ false
+        → AreResults op (length out.old) (length out.old) (int_at left.now) (int_at right.now)
+        out.new }
 {
     let mut bits = 0;
     for i in 0..out.len() {
@@ -136,13 +143,15 @@ fn operate_by(op: ArithmeticOperator, left: &[i64], right: &[i64], out: &mut [i6
     bits >= limit(op)
 }
 
-/// The results of an operator lane by lane, where none is beyond 64 bits. True where that isn't clear; `out` is open then. Of
-/// division it never is.
+/// The results of an operator lane by lane, where none is beyond 64 bits. True where that isn't
+/// clear; `out` is open then. Of division it never is.
 pub fn operate_near(op: ArithmeticOperator, left: &[i64], right: &[i64], out: &mut [i64]) -> bool
     requires left { length left.now ≡ length out.old }
     requires right { length right.now ≡ length out.old }
     ensures long { length out.new ≡ length out.old }
-    ensures near { result ≡ false → AreResults op (length out.old) (length out.old) (int_at left.now) (int_at right.now) out.new }
+    ensures near { result ≡ false
+        → AreResults op (length out.old) (length out.old) (int_at left.now) (int_at right.now)
+        out.new }
 {
     // A loop for each operator, so that none is looked at in each lane.
     match op {
@@ -165,7 +174,8 @@ fn put_beside(
     requires out { lane < length out.old }
     ensures long { length out.new ≡ length out.old }
     ensures near { result < limit_of op → AreNear op (int_at left.now lane) right.now }
-    ensures put { result < limit_of op → out.new ≡ set out.old lane (arith_int op (int_at left.now lane) right.now) }
+    ensures put { result < limit_of op
+        → out.new ≡ set out.old lane (arith_int op (int_at left.now lane) right.now) }
 {
     let bits = far_bits(op, &left[lane], right);
     out[lane] = near_result(op, left[lane], kept(op, *right, bits));
@@ -176,7 +186,8 @@ fn put_beside(
 fn operate_to_by(op: ArithmeticOperator, left: &[i64], right: &i64, out: &mut [i64]) -> bool
     requires { length left.now ≡ length out.old }
     ensures long { length out.new ≡ length out.old }
-    ensures near { result ≡ false → AreResults op (length out.old) (length out.old) (int_at left.now) (λ _. right.now) out.new }
+    ensures near { result ≡ false
+        → AreResults op (length out.old) (length out.old) (int_at left.now) (λ _. right.now) out.new }
 {
     let mut bits = 0;
     for i in 0..out.len() {
@@ -189,7 +200,8 @@ fn operate_to_by(op: ArithmeticOperator, left: &[i64], right: &i64, out: &mut [i
 pub fn operate_near_to(op: ArithmeticOperator, left: &[i64], right: &i64, out: &mut [i64]) -> bool
     requires { length left.now ≡ length out.old }
     ensures long { length out.new ≡ length out.old }
-    ensures near { result ≡ false → AreResults op (length out.old) (length out.old) (int_at left.now) (λ _. right.now) out.new }
+    ensures near { result ≡ false
+        → AreResults op (length out.old) (length out.old) (int_at left.now) (λ _. right.now) out.new }
 {
     // A copy that no write to `out` can touch.
     let right = *right;
@@ -223,7 +235,8 @@ fn put_behind(
     requires out { lane < length out.old }
     ensures long { length out.new ≡ length out.old }
     ensures near { result < limit_of op → AreNear op left.now (int_at right.now lane) }
-    ensures put { result < limit_of op → out.new ≡ set out.old lane (arith_int op left.now (int_at right.now lane)) }
+    ensures put { result < limit_of op
+        → out.new ≡ set out.old lane (arith_int op left.now (int_at right.now lane)) }
 {
     let bits = far_bits(op, left, &right[lane]);
     out[lane] = near_result(op, kept(op, *left, bits), right[lane]);
@@ -234,7 +247,8 @@ fn put_behind(
 fn operate_from_by(op: ArithmeticOperator, left: &i64, right: &[i64], out: &mut [i64]) -> bool
     requires { length right.now ≡ length out.old }
     ensures long { length out.new ≡ length out.old }
-    ensures near { result ≡ false → AreResults op (length out.old) (length out.old) (λ _. left.now) (int_at right.now) out.new }
+    ensures near { result ≡ false
+        → AreResults op (length out.old) (length out.old) (λ _. left.now) (int_at right.now) out.new }
 {
     let mut bits = 0;
     for i in 0..out.len() {
@@ -247,7 +261,8 @@ fn operate_from_by(op: ArithmeticOperator, left: &i64, right: &[i64], out: &mut 
 pub fn operate_near_from(op: ArithmeticOperator, left: &i64, right: &[i64], out: &mut [i64]) -> bool
     requires { length right.now ≡ length out.old }
     ensures long { length out.new ≡ length out.old }
-    ensures near { result ≡ false → AreResults op (length out.old) (length out.old) (λ _. left.now) (int_at right.now) out.new }
+    ensures near { result ≡ false
+        → AreResults op (length out.old) (length out.old) (λ _. left.now) (int_at right.now) out.new }
 {
     let left = *left;
     match op {

@@ -1,5 +1,5 @@
 //! NULLs of lanes.
-ghost use Rattle.std.specs.Prelude.{◌≡◌, ◌<◌, ◌||◌, false, not, length, get_or};
+ghost use Rattle.std.specs.Prelude.{◌≡◌, ◌<◌, ◌||◌, false, not, length};
 ghost use Rattle.meaning.specs.declared.outcome.Truth.TheVariants.{Unknown};
 ghost use Rattle.meaning.specs.Truth.{known};
 ghost use Rattle.lane_loops.specs.Lanes.{AreLanes, null_at};
@@ -19,7 +19,8 @@ fn either_at(left: &[bool], right: &[bool], lane: usize) -> bool
 pub fn or_nulls(left: &[bool], right: &[bool], out: &mut [bool])
     requires left { length left.now ≡ length out.old }
     requires right { length right.now ≡ length out.old }
-    ensures { AreLanes false (length out.old) (λ i. null_at left.now i || null_at right.now i) out.new }
+    ensures { AreLanes false (length out.old) (λ i. null_at left.now i || null_at right.now i)
+        out.new }
 {
     for i in 0..out.len() {
         out[i] = either_at(left, right, i);

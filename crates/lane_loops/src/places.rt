@@ -1,12 +1,13 @@
 //! Places from masks.
-ghost use Rattle.std.specs.Prelude.{◌≡◌, ◌<◌, ◌≤◌, ◌^◌, ◌==◌, not, length, filter, get_or, take};
+ghost use Rattle.std.specs.Prelude.{◌≡◌, ◌<◌, ◌≤◌, ◌^◌, ◌==◌, not, length, filter, slice_index, take};
 ghost use Rattle.std.specs.List.{range_with_len};
 
 /// Puts in front the places of the bytes that aren't 0, ascending, and tells how many these are.
 pub fn mask_to_places(mask: &[u8], places: &mut [u32]) -> usize
     requires room { length mask.now ≡ length places.old }
     requires few { length mask.now < 2 ^ 32 }
-    ensures places { take result places.new ≡ filter (λ i. not (get_or mask.now i 0 == 0)) (range_with_len 0 (length mask.now)) }
+    ensures places { take result places.new
+        ≡ filter (λ i. not (slice_index mask.now i == 0)) (range_with_len 0 (length mask.now)) }
     ensures within { result ≤ length places.new }
 {
     let mut count = 0;

@@ -46,7 +46,8 @@ fn and_at(left: &[Truth], right: &[Truth], lane: usize) -> Truth
 pub fn and_truths(left: &[Truth], right: &[Truth], out: &mut [Truth])
     requires left { length left.now ≡ length out.old }
     requires right { length right.now ≡ length out.old }
-    ensures { AreLanes Unknown (length out.old) (λ i. and3 (truth_at left.now i) (truth_at right.now i)) out.new }
+    ensures { AreLanes Unknown (length out.old)
+        (λ i. and3 (truth_at left.now i) (truth_at right.now i)) out.new }
 {
     for i in 0..out.len() {
         out[i] = and_at(left, right, i);
@@ -66,7 +67,8 @@ fn or_at(left: &[Truth], right: &[Truth], lane: usize) -> Truth
 pub fn or_truths(left: &[Truth], right: &[Truth], out: &mut [Truth])
     requires left { length left.now ≡ length out.old }
     requires right { length right.now ≡ length out.old }
-    ensures { AreLanes Unknown (length out.old) (λ i. or3 (truth_at left.now i) (truth_at right.now i)) out.new }
+    ensures { AreLanes Unknown (length out.old)
+        (λ i. or3 (truth_at left.now i) (truth_at right.now i)) out.new }
 {
     for i in 0..out.len() {
         out[i] = or_at(left, right, i);

@@ -1,4 +1,5 @@
-//! LIKE by a matcher that goes over pattern and text once for each `%`, without memory or recursion.
+//! LIKE by a matcher that goes over pattern and text once for each `%`, without memory or
+//! recursion.
 ghost use Rattle.std.specs.Prelude.{◌≡◌, ◌<◌, [], ◌∷◌, length, MatchOption};
 ghost use Rattle.std.specs.Str.{chars};
 ghost use Rattle.meaning.specs.Like.{after_any_run, characters_fit, fits_one, is_like};
@@ -17,7 +18,8 @@ pub enum Tried<'a> {
 
 #[inline(always)]
 fn next_char(text: &str) -> Option<(char, &str)>
-    ensures { MatchOption result (chars text.now ≡ []) (λ r. (chars text.now ≡ r.0 ∷ chars r.1.now) × (length r.1.now < length text.now)) }
+    ensures { MatchOption result (chars text.now ≡ []) (λ r. (chars text.now ≡ r.0 ∷ chars r.1.now)
+        × (length r.1.now < length text.now)) }
 {
     let mut chars = text.chars();
     let c = chars.next()?;
@@ -69,7 +71,8 @@ fn try_front<'a>(pattern: &'a str, text: &'a str) -> Tried<'a>
 
 /// Tries the pattern at each rest of the text, the longest first.
 fn try_rests<'a>(pattern: &'a str, text: &'a str) -> Tried<'a>
-    ensures value { Tells (after_any_run (characters_fit (chars pattern.now)) (chars text.now)) result }
+    ensures value { Tells (after_any_run (characters_fit (chars pattern.now)) (chars text.now))
+        result }
     ensures shorter { IsShorter (length pattern.now) result }
 {
     if pattern.is_empty() {
@@ -91,8 +94,8 @@ fn try_rests<'a>(pattern: &'a str, text: &'a str) -> Tried<'a>
 
 /// Whether the pattern fits some rest of the text.
 ///
-/// Where the characters up to a `%` fit first, nothing is lost by going on from there: what fits behind a later place also fits
-/// behind the first.
+/// Where the characters up to a `%` fit first, nothing is lost by going on from there: what fits
+/// behind a later place also fits behind the first.
 fn fits_some_rest(pattern: &str, text: &str) -> bool
     ensures { result ≡ after_any_run (characters_fit (chars pattern.now)) (chars text.now) }
 {

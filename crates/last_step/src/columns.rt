@@ -62,7 +62,8 @@ fn int_cells(alloc: Global, values: &[ValueRef<'_>]) -> Result<Vec<i64>, AllocEr
 }
 
 fn text_cells<'a>(alloc: Global, values: &[ValueRef<'a>]) -> Result<Vec<&'a [u8]>, AllocError>
-    ensures { IfOk result (λ cells. map (λ t. t.now) cells.items ≡ map (λ v. bytes (value_in v)) values.now) }
+    ensures { IfOk result (λ cells. map (λ t. t.now) cells.items
+        ≡ map (λ v. bytes (value_in v)) values.now) }
 {
     let mut cells = Vec::with_capacity(alloc, values.len())?;
     for value in values {
@@ -110,7 +111,8 @@ fn keys_of<'a>(
     groups: &'a [Group],
     key: usize,
 ) -> Result<Vec<ValueRef<'a>>, AllocError>
-    ensures { IfOk result (λ values. map value_in values.items ≡ map (λ g. column g.key key) groups.now) }
+    ensures { IfOk result (λ values. map value_in values.items
+        ≡ map (λ g. column g.key key) groups.now) }
 {
     let mut values = Vec::with_capacity(alloc, groups.len())?;
     for group in groups {
@@ -143,7 +145,8 @@ fn aggregate_at(
     aggregate: usize,
 ) -> Result<ValueRef<'_>, AllocError>
     requires { (plan : APlan) × HasAt plan kind aggregate group.now }
-    ensures { IfOk result (λ v. (plan : APlan) → HasAt plan kind aggregate group.now → value_in v ≡ aggregate_in plan aggregate group.now) }
+    ensures { IfOk result (λ v. (plan : APlan) → HasAt plan kind aggregate group.now
+        → value_in v ≡ aggregate_in plan aggregate group.now) }
 {
     sound_value(alloc, kind, &group.states()[aggregate])
 }
@@ -243,7 +246,8 @@ fn push_aggregates<'a>(
     requires groups { AreGroupsOf plan.now groups.now }
     requires values { All (HasValues plan.now) groups.now }
     requires batch { IsPartOf plan.now groups.now (length plan.now.keys) 0 batch.old }
-    ensures { OnOk result (IsPartOf plan.now groups.now (length plan.now.keys) (length plan.now.aggs) batch.new) }
+    ensures { OnOk result (IsPartOf plan.now groups.now (length plan.now.keys)
+        (length plan.now.aggs) batch.new) }
 {
     for aggregate in 0..plan.aggs.len() {
         batch.push(aggregate_column(alloc, plan, groups, aggregate)?)?;

@@ -37,8 +37,12 @@ fn is_true_at(lanes: &Vector<'_>, lane: usize) -> bool
 /// Keeps the positions whose lanes are TRUE.
 fn keep_true(selection: &mut Selection, lanes: &Vector<'_>)
     requires { length (outcomes_of lanes.now) ≡ selection.old.below }
-    ensures { selection.new ≡ record { below = selection.old.below; list = filter (λ p. is_true_lane (lane_of lanes.now p)) selection.old.list } }
+    ensures { selection.new ≡ record {
+      below = selection.old.below;
+      list = filter (λ p. is_true_lane (lane_of lanes.now p)) selection.old.list;
+    } }
 {
+    // No effect at run time. The proof reads from this call that positions ascend below the length.
     let _positions = selection.len();
     selection.narrow(|place| is_true_at(lanes, place as usize));
 }
@@ -55,7 +59,8 @@ fn kept_where(
     ensures below { IfOk result (λ kept. kept.below ≡ selection.below) }
     ensures kept { IfOk result (λ kept. (types : RowTypes) (rows : List JoinedRow)
         → AreTypedRows types batch.now rows → Fits types batch.now.columns condition.now Boolean
-        → Keeps (meant_at condition.now rows) selection.list kept.list fault.old.held fault.new.held) }
+        → Keeps (meant_at condition.now rows) selection.list kept.list fault.old.held
+        fault.new.held) }
 {
     let mut kept = selection;
     let lanes = eval_vec(alloc, condition, batch, &kept, fault)?;
@@ -74,7 +79,8 @@ fn kept_by_having(
     requires small { batch.now.rows < 2 ^ 32 }
     requires none { fault.old.held ≡ None }
     ensures below { IfOk result (λ kept. kept.below ≡ batch.now.rows) }
-    ensures shows { IfOk result (λ kept. (rows : List JoinedRow) → IsBatchOf plan.now rows batch.now → Shows plan.now rows 0 kept.list fault.new.held []) }
+    ensures shows { IfOk result (λ kept. (rows : List JoinedRow) → IsBatchOf plan.now rows batch.now
+        → Shows plan.now rows 0 kept.list fault.new.held []) }
 {
     let all = Selection::all(alloc, batch.rows() as u32)?;
     match &plan.having {
@@ -92,9 +98,13 @@ fn item_vectors<'a>(
     fault: &mut Fault1,
 ) -> Result<Vec<Vector<'a>>, AllocError>
     requires { kept.now.below ≡ batch.now.rows }
-    ensures shows { IfOk result (λ vectors. (rows : List JoinedRow) → IsBatchOf plan.now rows batch.now
-        → Shows plan.now rows 0 kept.now.list fault.old.held [] → Shows plan.now rows (length plan.now.items) kept.now.list fault.new.held vectors.items) }
-    ensures long { IfOk result (λ vectors. (rows : List JoinedRow) → IsBatchOf plan.now rows batch.now → All (λ v. length (values_of v) ≡ batch.now.rows) vectors.items) }
+    ensures shows { IfOk result (λ vectors. (rows : List JoinedRow)
+        → IsBatchOf plan.now rows batch.now
+        → Shows plan.now rows 0 kept.now.list fault.old.held []
+        → Shows plan.now rows (length plan.now.items) kept.now.list fault.new.held vectors.items) }
+    ensures long { IfOk result (λ vectors. (rows : List JoinedRow)
+        → IsBatchOf plan.now rows batch.now
+        → All (λ v. length (values_of v) ≡ batch.now.rows) vectors.items) }
 {
     // That positions lie below the number of rows.
     let _positions = kept.len();
@@ -106,8 +116,8 @@ fn item_vectors<'a>(
     Ok(vectors)
 }
 
-/// What a batch of groups shows: the groups that HAVING keeps, a vector for each item, and the first fault. Lanes from the
-/// fault on are open.
+/// What a batch of groups shows: the groups that HAVING keeps, a vector for each item, and the
+/// first fault. Lanes from the fault on are open.
 #[derive(Drop)]
 pub struct Shown<'a> {
     pub kept: Selection,
@@ -126,10 +136,12 @@ pub fn evaluate<'a>(
     ensures sound { IfOk result (λ s. IsSelection s.kept) }
     ensures shows { IfOk result (λ s. (rows : List JoinedRow) → IsBatchOf plan.now rows batch.now
         → Shows plan.now rows (length plan.now.items) s.kept.list s.fault.held s.items.items) }
-    ensures long { IfOk result (λ s. (rows : List JoinedRow) → IsBatchOf plan.now rows batch.now → All (λ v. length (values_of v) ≡ batch.now.rows) s.items.items) }
+    ensures long { IfOk result (λ s. (rows : List JoinedRow) → IsBatchOf plan.now rows batch.now
+        → All (λ v. length (values_of v) ≡ batch.now.rows) s.items.items) }
 {
     let mut fault = Fault1::new();
     let kept = kept_by_having(alloc, plan, batch, &mut fault)?;
+    // No effect at run time. The proof reads from this call that positions ascend below the length.
     let _positions = kept.len();
     let items = item_vectors(alloc, plan, batch, &kept, &mut fault)?;
     Ok(Shown { kept, items, fault })

@@ -24,7 +24,8 @@ use std::mem::drop;
 
 /// The rows of the runs in the order of the answer, cut by LIMIT.
 fn rows_in_order(alloc: Global, plan: &Plan, runs: Vec<Run>) -> Result<Sequence<Row>, AllocError>
-    ensures { IfOk result (λ rows. rows ≡ limited plan.now.limit (sorted (order_cmp plan.now.order) (expanded runs.items))) }
+    ensures { IfOk result (λ rows. rows
+        ≡ limited plan.now.limit (sorted (order_cmp plan.now.order) (expanded runs.items))) }
 {
     let mut runs = runs;
     match sort(&mut runs, plan.order.as_slice()) {
@@ -51,8 +52,9 @@ fn finish_groups(alloc: Global, plan: &Plan, groups: &[Group]) -> Result<Finishe
     }
 }
 
-/// From groups in the order of their keys to the rows of the answer, or to the first fault over groups: in each group
-/// that of its aggregates, then of HAVING, then of the items, whatever LIMIT says.
+/// From groups in the order of their keys to the rows of the answer, or to the first fault over
+/// groups: in each group that of its aggregates, then of HAVING, then of the items, whatever LIMIT
+/// says.
 ///
 /// # Errors
 ///
@@ -60,7 +62,8 @@ fn finish_groups(alloc: Global, plan: &Plan, groups: &[Group]) -> Result<Finishe
 pub fn finish(alloc: Global, plan: &Plan, groups: &[Group]) -> Result<Finished, AllocError>
     // The plan has types over groups, and the groups are of its shape.
     requires { AreGroupsOf plan.now groups.now }
-    ensures value { IfOk result (λ f. meant f ≡ the.finish plan.now (map (read_off plan.now) groups.now)) }
+    ensures value { IfOk result
+        (λ f. meant f ≡ the.finish plan.now (map (read_off plan.now) groups.now)) }
     // The rows can be printed.
     ensures printable { ShowsSomething plan.now groups.now → IfOk result (IsPrintable plan.now) }
 {

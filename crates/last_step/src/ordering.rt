@@ -59,7 +59,8 @@ fn compare_runs(order: &[OrderKey], one: &Run, other: &Run) -> Ordering
 
 /// Puts runs in the order of the answer.
 pub fn sort(runs: &mut Vec<Run>, order: &[OrderKey]) -> Result<(), AllocError>
-    ensures { OnOk result (expanded runs.new.items ≡ sorted (order_cmp order.now) (expanded runs.old.items)) }
+    ensures { OnOk result (expanded runs.new.items
+        ≡ sorted (order_cmp order.now) (expanded runs.old.items)) }
 {
     runs.sort_by(|one, other| compare_runs(order, one, other))?;
     Ok(())

@@ -33,7 +33,8 @@ impl From<io::Error> for PrintFault {
 }
 
 impl From<csv::Error> for PrintFault {
-    ghost from_gives = { λ error given. given ≡ (if is_io (error_kind error) then Writer else Memory) };
+    ghost from_gives = { λ error given. given
+        ≡ (if is_io (error_kind error) then Writer else Memory) };
 
     fn from(error: csv::Error) -> PrintFault {
         if error.is_io_error() {

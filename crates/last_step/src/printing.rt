@@ -28,7 +28,8 @@ pub fn print_rows<W: Write>(
     out: &mut W,
 ) -> Result<(), PrintFault>
     requires { HasFields plan.now rows.now }
-    ensures { OnOk result (Appends (W.contents out.old) (W.contents out.new) (rows_text plan.now rows.now)) }
+    ensures { OnOk result (Appends (W.contents out.old) (W.contents out.new)
+        (rows_text plan.now rows.now)) }
 {
     let mut writer = WriterBuilder::new()
         .flexible(true)
@@ -58,7 +59,8 @@ fn write_rows<W: Write + Drop>(
 ) -> Result<(), PrintFault>
     requires before { IsBetween writer.old }
     requires shown { HasFields plan.now rows.now }
-    ensures { OnOk result (Appends (text_written W.contents writer.old) (text_written W.contents writer.new)
+    ensures { OnOk result (Appends (text_written W.contents writer.old)
+        (text_written W.contents writer.new)
         (rows_text plan.now rows.now)) }
 {
     let mut fields = ByteRecord::new(alloc);
@@ -76,7 +78,8 @@ fn write_records<W: Write + Drop>(
 ) -> Result<(), PrintFault>
     requires before { IsBetween writer.old }
     requires shown { HasFields plan.now rows.now }
-    ensures { OnOk result (Appends (text_written W.contents writer.old) (text_written W.contents writer.new)
+    ensures { OnOk result (Appends (text_written W.contents writer.old)
+        (text_written W.contents writer.new)
         (rows_text plan.now rows.now)) }
 {
     write_header(writer, fields, plan.items.as_slice())?;
@@ -95,7 +98,8 @@ fn write_header<W: Write + Drop>(
     requires before { IsBetween writer.old }
     requires shown { items.now ≢ [] }
     ensures behind { OnOk result (IsBetween writer.new) }
-    ensures text { OnOk result (Appends (text_written W.contents writer.old) (text_written W.contents writer.new)
+    ensures text { OnOk result
+        (Appends (text_written W.contents writer.old) (text_written W.contents writer.new)
         (record_text (map (λ i. i.header) items.now))) }
 {
     fill_with_headers(fields, items)?;
@@ -112,7 +116,8 @@ fn write_row<W: Write + Drop>(
     requires before { IsBetween writer.old }
     requires shown { row.now ≢ [] }
     ensures behind { OnOk result (IsBetween writer.new) }
-    ensures text { OnOk result (Appends (text_written W.contents writer.old) (text_written W.contents writer.new)
+    ensures text { OnOk result
+        (Appends (text_written W.contents writer.old) (text_written W.contents writer.new)
         (record_text (map value_text row.now))) }
 {
     fill_with_values(fields, row)?;
@@ -127,7 +132,8 @@ fn write_record<W: Write + Drop>(
     requires before { IsBetween writer.old }
     requires shown { fields_of fields.now ≢ [] }
     ensures behind { OnOk result (IsBetween writer.new) }
-    ensures text { OnOk result (Appends (text_written W.contents writer.old) (text_written W.contents writer.new)
+    ensures text { OnOk result
+        (Appends (text_written W.contents writer.old) (text_written W.contents writer.new)
         (record_text (fields_of fields.now))) }
 {
     writer.write_byte_record(fields)
@@ -155,7 +161,8 @@ fn fill_with_values(fields: &mut ByteRecord, row: &[Value]) -> Result<(), AllocE
 
 fn push_value(fields: &mut ByteRecord, value: &Value) -> Result<(), AllocError>
     requires { partial_of fields.old ≡ [] }
-    ensures fields { OnOk result (fields_of fields.new ≡ fields_of fields.old ++ value_text value.now ∷ []) }
+    ensures fields { OnOk result (fields_of fields.new ≡ fields_of fields.old
+        ++ value_text value.now ∷ []) }
     ensures partial { OnOk result (partial_of fields.new ≡ []) }
 {
     match value {

@@ -15,7 +15,8 @@ use std::alloc::Global;
 
 fn push_all(alloc: Global, plan: &Plan, groups: &[Group], runs: &mut Vec<Run>) -> Result<(), Stop>
     requires { AreGroupsOf plan.now groups.now }
-    ensures { TellsIfMemory fault_told (λ _. expanded runs.new.items) result (rows_after plan.now (expanded runs.old.items) groups.now) }
+    ensures { TellsIfMemory fault_told (λ _. expanded runs.new.items) result
+        (rows_after plan.now (expanded runs.old.items) groups.now) }
 {
     if plan.plain {
         return Ok(push_plain(alloc, groups, runs)?);
@@ -26,7 +27,8 @@ fn push_all(alloc: Global, plan: &Plan, groups: &[Group], runs: &mut Vec<Run>) -
 /// The rows of the groups as runs, or the first fault from group to group.
 pub fn runs_of(alloc: Global, plan: &Plan, groups: &[Group]) -> Result<Vec<Run>, Stop>
     requires { AreGroupsOf plan.now groups.now }
-    ensures { TellsIfMemory fault_told (λ runs. expanded runs.items) result (rows_behind_groups plan.now (map (read_off plan.now) groups.now)) }
+    ensures { TellsIfMemory fault_told (λ runs. expanded runs.items) result
+        (rows_behind_groups plan.now (map (read_off plan.now) groups.now)) }
 {
     let mut runs = Vec::new(alloc);
     push_all(alloc, plan, groups, &mut runs)?;

@@ -1,5 +1,5 @@
 //! The rows of groups.
-ghost use Rattle.std.specs.Prelude.{◌≡◌, ◌++◌, ◌<◌, ◌≤◌, ◌^◌, true, false, get_or, List, map, length, All, IfOk, OnOk};
+ghost use Rattle.std.specs.Prelude.{◌≡◌, ◌++◌, ◌<◌, ◌≤◌, ◌^◌, true, false, slice_index_or, List, map, length, All, IfOk, OnOk};
 ghost use Rattle.meaning.specs.declared.joined_row.JoinedRow.{JoinedRow};
 ghost use Rattle.meaning.specs.declared.value.Value.TheVariants.{Null};
 ghost use Rattle.meaning.specs.Order.{Row as ARow};
@@ -42,8 +42,8 @@ pub fn copy_row(alloc: Global, row: &Row) -> Result<Row, AllocError>
 /// The value of a lane, in memory of its own.
 fn lane_value(alloc: Global, item: &Vector<'_>, lane: usize) -> Result<Value, AllocError>
     requires within { lane < length (values_of item.now) }
-    requires spelled { is_spelled (get_or (values_of item.now) lane Null) ≡ true }
-    ensures { IfOk result (λ v. v ≡ get_or (values_of item.now) lane Null) }
+    requires spelled { is_spelled (slice_index_or (values_of item.now) lane Null) ≡ true }
+    ensures { IfOk result (λ v. v ≡ slice_index_or (values_of item.now) lane Null) }
 {
     owned(alloc, value_at(item, lane))
 }
@@ -69,7 +69,8 @@ fn push_kept(
     runs: &mut Vec<Run>,
 ) -> Result<(), AllocError>
     requires { AreReadable items.now kept.now.below kept.now.list }
-    ensures { OnOk result (expanded runs.new.items ≡ expanded runs.old.items ++ map (lane_row items.now) kept.now.list) }
+    ensures { OnOk result (expanded runs.new.items ≡ expanded runs.old.items
+        ++ map (lane_row items.now) kept.now.list) }
 {
     // That positions lie below the length.
     let _positions = kept.len();
@@ -90,7 +91,8 @@ fn push_shown(
     requires small { batch.now.rows < 2 ^ 32 }
     requires rows { (rows : List JoinedRow) × IsBatchOf plan.now rows batch.now }
     ensures { (rows : List JoinedRow) → IsBatchOf plan.now rows batch.now
-        → TellsIfMemory fault_told (λ _. expanded runs.new.items) result (shown_after plan.now (expanded runs.old.items) rows) }
+        → TellsIfMemory fault_told (λ _. expanded runs.new.items) result
+        (shown_after plan.now (expanded runs.old.items) rows) }
 {
     let shown = evaluate(alloc, plan, batch)?;
     match shown.fault.held {
@@ -105,7 +107,8 @@ fn push_sound(alloc: Global, plan: &Plan, groups: &[Group], runs: &mut Vec<Run>)
     requires groups { AreGroupsOf plan.now groups.now }
     requires few { length groups.now < 2 ^ 32 }
     requires values { All (HasValues plan.now) groups.now }
-    ensures { TellsIfMemory fault_told (λ _. expanded runs.new.items) result (rows_after plan.now (expanded runs.old.items) groups.now) }
+    ensures { TellsIfMemory fault_told (λ _. expanded runs.new.items) result
+        (rows_after plan.now (expanded runs.old.items) groups.now) }
 {
     let batch = batch_of(alloc, plan, groups)?;
     let pushed = push_shown(alloc, plan, &batch, runs);
@@ -127,7 +130,8 @@ fn push_batch(alloc: Global, plan: &Plan, groups: &[Group], runs: &mut Vec<Run>)
     requires grouped { plan.now.plain ≡ false }
     requires groups { AreGroupsOf plan.now groups.now }
     requires few { length groups.now < 2 ^ 32 }
-    ensures { TellsIfMemory fault_told (λ _. expanded runs.new.items) result (rows_after plan.now (expanded runs.old.items) groups.now) }
+    ensures { TellsIfMemory fault_told (λ _. expanded runs.new.items) result
+        (rows_after plan.now (expanded runs.old.items) groups.now) }
 {
     let front = front_of(alloc, plan, groups)?;
     push_sound(alloc, plan, &groups[..front.count], runs)?;
@@ -143,7 +147,8 @@ pub fn push_grouped(
 ) -> Result<(), Stop>
     requires grouped { plan.now.plain ≡ false }
     requires groups { AreGroupsOf plan.now groups.now }
-    ensures { TellsIfMemory fault_told (λ _. expanded runs.new.items) result (rows_after plan.now (expanded runs.old.items) groups.now) }
+    ensures { TellsIfMemory fault_told (λ _. expanded runs.new.items) result
+        (rows_after plan.now (expanded runs.old.items) groups.now) }
 {
     let mut rest = groups;
     while !rest.is_empty() {
@@ -156,7 +161,8 @@ pub fn push_grouped(
 
 /// The keys of a plain query, each as often as it has rows.
 pub fn push_plain(alloc: Global, groups: &[Group], runs: &mut Vec<Run>) -> Result<(), AllocError>
-    ensures { OnOk result (expanded runs.new.items ≡ expanded runs.old.items ++ plain_rows groups.now) }
+    ensures { OnOk result (expanded runs.new.items ≡ expanded runs.old.items
+        ++ plain_rows groups.now) }
 {
     for group in groups {
         let row = copy_row(alloc, group.key())?;

@@ -23,7 +23,8 @@ fn has_quote(block: &[u8]) -> bool
     found
 }
 
-/// How many records end in a block without quotes: as many as there are line ends behind another byte.
+/// How many records end in a block without quotes: as many as there are line ends behind another
+/// byte.
 fn count_plain(place: Place, block: &[u8]) -> u32
     requires few { length block.now < 2 ^ 32 }
     requires plain { list_any is_quote block.now ≡ false }

@@ -20,7 +20,8 @@ impl Counted {
     /// The first bytes of a text.
     pub fn of_front(front: &[u8]) -> Counted
         requires { length front.now < 2 ^ 32 }
-        ensures { (rest : List ℕ) → counted_with result rest ≡ records_left st.StartRecord (front.now ++ rest) }
+        ensures { (rest : List ℕ)
+            → counted_with result rest ≡ records_left st.StartRecord (front.now ++ rest) }
     {
         let ended = count_block(Place::Between, front);
         Counted {
@@ -32,9 +33,11 @@ impl Counted {
     /// With the records that end in a block.
     pub fn with_block(self, block: &[u8]) -> Result<Counted, LoadFault>
         requires { length block.now < 2 ^ 32 }
-        ensures counted { IfOk result (λ after. (rest : List ℕ) → counted_with after rest ≡ counted_with self (block.now ++ rest)) }
+        ensures counted { IfOk result (λ after. (rest : List ℕ)
+            → counted_with after rest ≡ counted_with self (block.now ++ rest)) }
         ensures told { IfErr result IsOfCounting }
-        ensures refused { (rest : List ℕ) → IfErr result (IsUncounted (counted_with self (block.now ++ rest))) }
+        ensures refused { (rest : List ℕ)
+            → IfErr result (IsUncounted (counted_with self (block.now ++ rest))) }
     {
         let ended = count_block(self.place, block);
         match self.records.checked_add(u64::from(ended.records)) {

@@ -21,7 +21,8 @@ fn read_block<R: Read>(reader: &mut R, block: &mut [u8]) -> Result<usize, LoadFa
     requires { 0 < length block.old }
     ensures length { length block.new ≡ length block.old }
     ensures within { IfOk result (λ n. n ≤ length block.new) }
-    ensures read { IfOk result (λ n. (bytes : List ℕ) → R.remaining reader.old ≡ Some bytes → Reads (R.remaining reader.new) bytes (take n block.new)) }
+    ensures read { IfOk result (λ n. (bytes : List ℕ) → R.remaining reader.old ≡ Some bytes
+        → Reads (R.remaining reader.new) bytes (take n block.new)) }
     ensures told { IfErr result (λ f. f ≡ Device) }
 {
     match reader.read(block) {
@@ -33,7 +34,8 @@ fn read_block<R: Read>(reader: &mut R, block: &mut [u8]) -> Result<usize, LoadFa
 /// The next byte, if there is one.
 fn next_byte<R: Read>(reader: &mut R) -> Result<Option<u8>, LoadFault>
     ensures read { IfOk result (λ found. (bytes : List ℕ) → R.remaining reader.old ≡ Some bytes
-        → MatchOption found (Reads (R.remaining reader.new) bytes []) (λ byte. Reads (R.remaining reader.new) bytes (byte ∷ []))) }
+        → MatchOption found (Reads (R.remaining reader.new) bytes [])
+        (λ byte. Reads (R.remaining reader.new) bytes (byte ∷ []))) }
     ensures told { IfErr result (λ f. f ≡ Device) }
 {
     let mut one = [0u8];
@@ -46,7 +48,8 @@ fn next_byte<R: Read>(reader: &mut R) -> Result<Option<u8>, LoadFault>
 /// Behind the first two bytes of a byte order mark.
 fn count_third<R: Read>(reader: &mut R) -> Result<Counted, LoadFault>
     ensures counted { IfOk result (λ counted. (bytes : List ℕ) → R.remaining reader.old ≡ Some bytes
-        → GoesOn R.remaining reader.new (records_left st.StartRecord (strip_bom (0xEF ∷ 0xBB ∷ bytes))) counted) }
+        → GoesOn R.remaining reader.new
+        (records_left st.StartRecord (strip_bom (0xEF ∷ 0xBB ∷ bytes))) counted) }
     ensures told { IfErr result (λ f. f ≡ Device) }
 {
     let Some(third) = next_byte(reader)? else {
@@ -61,7 +64,8 @@ fn count_third<R: Read>(reader: &mut R) -> Result<Counted, LoadFault>
 /// Behind the first byte of a byte order mark.
 fn count_second<R: Read>(reader: &mut R) -> Result<Counted, LoadFault>
     ensures counted { IfOk result (λ counted. (bytes : List ℕ) → R.remaining reader.old ≡ Some bytes
-        → GoesOn R.remaining reader.new (records_left st.StartRecord (strip_bom (0xEF ∷ bytes))) counted) }
+        → GoesOn R.remaining reader.new (records_left st.StartRecord (strip_bom (0xEF ∷ bytes)))
+        counted) }
     ensures told { IfErr result (λ f. f ≡ Device) }
 {
     let Some(second) = next_byte(reader)? else {
@@ -88,13 +92,16 @@ fn count_front<R: Read>(reader: &mut R) -> Result<Counted, LoadFault>
     count_second(reader)
 }
 
-/// The records that were counted and those that are still to come. Bytes are read into `block`, one block over another.
+/// The records that were counted and those that are still to come. Bytes are read into `block`, one
+/// block over another.
 fn count_from<R: Read>(reader: &mut R, block: &mut [u8], start: Counted) -> Result<u64, LoadFault>
     requires room { 0 < length block.old }
     requires few { length block.old < 2 ^ 32 }
-    ensures counted { (all : ℕ) → GoesOn R.remaining reader.old all start → IfOk result (λ n. n ≡ all) }
+    ensures counted { (all : ℕ) → GoesOn R.remaining reader.old all start
+        → IfOk result (λ n. n ≡ all) }
     ensures told { IfErr result IsOfCounting }
-    ensures refused { (all : ℕ) → GoesOn R.remaining reader.old all start → IfErr result (IsUncounted all) }
+    ensures refused { (all : ℕ) → GoesOn R.remaining reader.old all start
+        → IfErr result (IsUncounted all) }
 {
     let mut counted = start;
     for _ in 0..u64::MAX {
@@ -111,18 +118,22 @@ fn count_from<R: Read>(reader: &mut R, block: &mut [u8], start: Counted) -> Resu
 fn count_records<R: Read>(reader: &mut R, block: &mut [u8]) -> Result<u64, LoadFault>
     requires room { 0 < length block.old }
     requires few { length block.old < 2 ^ 32 }
-    ensures counted { (bytes : List ℕ) → R.remaining reader.old ≡ Some bytes → IfOk result (λ n. n ≡ length (csv_records bytes)) }
+    ensures counted { (bytes : List ℕ) → R.remaining reader.old ≡ Some bytes
+        → IfOk result (λ n. n ≡ length (csv_records bytes)) }
     ensures told { IfErr result IsOfCounting }
-    ensures refused { (bytes : List ℕ) → R.remaining reader.old ≡ Some bytes → IfErr result (IsUncounted (length (csv_records bytes))) }
+    ensures refused { (bytes : List ℕ) → R.remaining reader.old ≡ Some bytes
+        → IfErr result (IsUncounted (length (csv_records bytes))) }
 {
     let counted = count_front(reader)?;
     count_from(reader, block, counted)
 }
 
 fn count_in_blocks<R: Read>(alloc: Global, reader: &mut R) -> Result<u64, LoadFault>
-    ensures counted { (bytes : List ℕ) → R.remaining reader.old ≡ Some bytes → IfOk result (λ n. n ≡ length (csv_records bytes)) }
+    ensures counted { (bytes : List ℕ) → R.remaining reader.old ≡ Some bytes
+        → IfOk result (λ n. n ≡ length (csv_records bytes)) }
     ensures told { IfErr result IsOfCounting }
-    ensures refused { (bytes : List ℕ) → R.remaining reader.old ≡ Some bytes → IfErr result (IsUncounted (length (csv_records bytes))) }
+    ensures refused { (bytes : List ℕ) → R.remaining reader.old ≡ Some bytes
+        → IfErr result (IsUncounted (length (csv_records bytes))) }
 {
     let mut block = vec![in alloc; 0u8; BLOCK]?;
     let records = count_records(reader, &mut block);
@@ -136,9 +147,11 @@ fn count_in_blocks<R: Read>(alloc: Global, reader: &mut R) -> Result<u64, LoadFa
 ///
 /// Out of memory, the reader's own, or too many rows where 64 bits don't count the records.
 pub fn count_rows<R: Read + Drop>(alloc: Global, mut reader: R) -> Result<u64, LoadFault>
-    ensures counted { (bytes : List ℕ) → R.remaining reader ≡ Some bytes → IfOk result (λ n. n ≡ length (drop 1 (csv_records bytes))) }
+    ensures counted { (bytes : List ℕ) → R.remaining reader ≡ Some bytes
+        → IfOk result (λ n. n ≡ length (drop 1 (csv_records bytes))) }
     ensures told { IfErr result IsOfCounting }
-    ensures refused { (bytes : List ℕ) → R.remaining reader ≡ Some bytes → IfErr result (IsUncounted (length (csv_records bytes))) }
+    ensures refused { (bytes : List ℕ) → R.remaining reader ≡ Some bytes
+        → IfErr result (IsUncounted (length (csv_records bytes))) }
 {
     let records = count_in_blocks(alloc, &mut reader);
     drop(reader);

@@ -1,5 +1,5 @@
 //! A dimension.
-ghost use Rattle.std.specs.Prelude.{◌≡◌, ◌<◌, ℕ, List, length, Some, Decides, option_copied};
+ghost use Rattle.std.specs.Prelude.{◌≡◌, ◌<◌, ℕ, List, length, Some, option_copied, ◌↔◌, IsTrue};
 ghost use Rattle.meaning.specs.declared.catalog.Dimension.{Dimension as ADimension};
 ghost use Rattle.loader.specs.Columns.{HasDimension, dimension_columns, dimension_named};
 ghost use Rattle.meaning.specs.Wanting.{TellsIfMemory};
@@ -25,7 +25,8 @@ pub fn load_dimension<R: Read + Drop>(
 ) -> Result<Sequence<Column>, LoadFault>
     requires { dimension.now.key < length dimension.now.table.columns }
     ensures { (bytes : List ℕ) → R.remaining reader ≡ Some bytes
-        → TellsIfMemory fault_told (λ columns. columns) result (dimension_columns dimension.now (csv_records bytes)) }
+        → TellsIfMemory fault_told (λ columns. columns) result
+        (dimension_columns dimension.now (csv_records bytes)) }
 {
     let mut rows = open_rows(alloc, dimension.table.columns.as_slice(), reader)?;
     let columns = rows.keyed_columns(alloc, dimension.key, u64::from(MAX_ROWS));
@@ -42,7 +43,7 @@ fn dimension_named<'a>(catalog: &'a Catalog, name: &str) -> Option<&'a Dimension
 
 /// Whether the catalogue has a dimension of this name, whose key is one of its columns.
 pub fn has_dim(catalog: &Catalog, name: &str) -> bool
-    ensures { Decides result (HasDimension catalog.now name.now) }
+    ensures { IsTrue result ↔ (HasDimension catalog.now name.now) }
 {
     match dimension_named(catalog, name) {
         Some(dimension) => dimension.key < dimension.table.columns.len(),
@@ -50,7 +51,8 @@ pub fn has_dim(catalog: &Catalog, name: &str) -> bool
     }
 }
 
-/// The columns of the dimension of a name. The catalogue has one, and its key is one of its columns.
+/// The columns of the dimension of a name. The catalogue has one, and its key is one of its
+/// columns.
 pub fn load_dim<R: Read + Drop>(
     alloc: Global,
     catalog: &Catalog,
@@ -58,8 +60,10 @@ pub fn load_dim<R: Read + Drop>(
     reader: R,
 ) -> Result<Sequence<Column>, LoadFault>
     requires { HasDimension catalog.now name.now }
-    ensures { (d : ADimension) (bytes : List ℕ) → dimension_named catalog.now name.now ≡ Some d → R.remaining reader ≡ Some bytes
-        → TellsIfMemory fault_told (λ columns. columns) result (dimension_columns d (csv_records bytes)) }
+    ensures { (d : ADimension) (bytes : List ℕ) → dimension_named catalog.now name.now ≡ Some d
+        → R.remaining reader ≡ Some bytes
+        → TellsIfMemory fault_told (λ columns. columns) result
+        (dimension_columns d (csv_records bytes)) }
 {
     let Some(dimension) = dimension_named(catalog, name) else {
         unreachable!()

@@ -38,7 +38,8 @@ pub fn open_fact<'c, R: Read + Drop>(
     reader: R,
     cut: &'c Cut,
 ) -> Result<FactReader<'c, R>, LoadFault>
-    ensures ahead { IfOk result (λ reader. (declared_in reader ≡ catalog.now.fact.columns) × (lengths_ahead reader ≡ cut.now)) }
+    ensures ahead { IfOk result (λ reader. (declared_in reader ≡ catalog.now.fact.columns)
+        × (lengths_ahead reader ≡ cut.now)) }
     ensures opened { (bytes : List ℕ) → R.remaining reader ≡ Some bytes
         → OpensFact R.remaining (fact_fragments catalog.now cut.now (csv_records bytes)) result }
 {
@@ -50,17 +51,19 @@ pub fn open_fact<'c, R: Read + Drop>(
 }
 
 impl<R: Read> FactReader<'_, R> {
-    /// The next fragment's columns, in the order of the catalogue. None once each fragment of the cut was handed on,
-    /// and no row is left over.
+    /// The next fragment's columns, in the order of the catalogue. None once each fragment of the
+    /// cut was handed on, and no row is left over.
     ///
     /// # Errors
     ///
-    /// Out of memory, the reader's own, or the first fault from record to record. Nothing is promised of what is read
-    /// behind it.
+    /// Out of memory, the reader's own, or the first fault from record to record. Nothing is
+    /// promised of what is read behind it.
     pub fn next_fragment(&mut self, alloc: Global) -> Result<Option<Sequence<Column>>, LoadFault>
         ensures declared { declared_in self.new ≡ declared_in self.old }
-        ensures next { IfOk result (IsNextOf (declared_in self.old) (lengths_ahead self.old) (lengths_ahead self.new)) }
-        ensures taken { (meant : Result (List (List ColumnSpec)) Fault) → IsToCome R.remaining self.old meant
+        ensures next { IfOk result
+            (IsNextOf (declared_in self.old) (lengths_ahead self.old) (lengths_ahead self.new)) }
+        ensures taken { (meant : Result (List (List ColumnSpec)) Fault)
+            → IsToCome R.remaining self.old meant
             → HandsOn R.remaining meant self.new result }
     {
         let ahead = self.ahead;
@@ -80,7 +83,8 @@ impl<R: Read> FactReader<'_, R> {
         requires { lengths_ahead self.old ≡ [] }
         ensures declared { declared_in self.new ≡ declared_in self.old }
         ensures next { IfOk result (λ found. found ≡ None) }
-        ensures taken { (meant : Result (List (List ColumnSpec)) Fault) → IsToCome R.remaining self.old meant
+        ensures taken { (meant : Result (List (List ColumnSpec)) Fault)
+            → IsToCome R.remaining self.old meant
             → HandsOn R.remaining meant self.new result }
     {
         if self.rows.has_more()? {
@@ -97,7 +101,8 @@ fn add_fragments<R: Read>(
     fragments: &mut Vec<Sequence<Column>>,
 ) -> Result<(), LoadFault>
     requires { fragments.old.items ≡ [] }
-    ensures { (meant : Result (List (List ColumnSpec)) Fault) → IsToCome R.remaining reader.old meant
+    ensures { (meant : Result (List (List ColumnSpec)) Fault)
+        → IsToCome R.remaining reader.old meant
         → TellsIfMemory fault_told (λ _. fragments.new.items) result meant }
 {
     while let Some(fragment) = reader.next_fragment(alloc)? {
@@ -111,7 +116,8 @@ fn all_fragments<R: Read>(
     reader: &mut FactReader<'_, R>,
     cut: &Cut,
 ) -> Result<Vec<Sequence<Column>>, LoadFault>
-    ensures { (meant : Result (List (List ColumnSpec)) Fault) → IsToCome R.remaining reader.old meant
+    ensures { (meant : Result (List (List ColumnSpec)) Fault)
+        → IsToCome R.remaining reader.old meant
         → TellsIfMemory fault_told (λ fragments. fragments.items) result meant }
 {
     let mut fragments = Vec::with_capacity(alloc, cut.lengths().len())?;
@@ -124,8 +130,8 @@ fn all_fragments<R: Read>(
     }
 }
 
-/// Each fragment's columns, in the order of the catalogue, from the fact table's CSV file. There are
-/// just as many rows as the cut has. Else the first fault from record to record.
+/// Each fragment's columns, in the order of the catalogue, from the fact table's CSV file. There
+/// are just as many rows as the cut has. Else the first fault from record to record.
 pub fn load_fact<R: Read + Drop>(
     alloc: Global,
     catalog: &Catalog,
@@ -133,7 +139,8 @@ pub fn load_fact<R: Read + Drop>(
     cut: &Cut,
 ) -> Result<Vec<Sequence<Column>>, LoadFault>
     ensures { (bytes : List ℕ) → R.remaining reader ≡ Some bytes
-        → TellsIfMemory fault_told (λ fragments. fragments.items) result (fact_fragments catalog.now cut.now (csv_records bytes)) }
+        → TellsIfMemory fault_told (λ fragments. fragments.items) result
+        (fact_fragments catalog.now cut.now (csv_records bytes)) }
 {
     let mut reader = open_fact(alloc, catalog, reader, cut)?;
     let fragments = all_fragments(alloc, &mut reader, cut);

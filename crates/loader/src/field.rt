@@ -23,7 +23,8 @@ pub enum Parsed {
 
 /// The field as a text, if it is UTF-8.
 pub fn text_of(field: &[u8]) -> Option<&str>
-    ensures { MatchOption result (is_utf8 field.now ≡ false) (λ text. (is_utf8 field.now ≡ true) × (text.now ≡ field.now)) }
+    ensures { MatchOption result (is_utf8 field.now ≡ false) (λ text. (is_utf8 field.now ≡ true)
+        × (text.now ≡ field.now)) }
 {
     match std::str::from_utf8(field) {
         Ok(text) => Some(text),
@@ -124,8 +125,8 @@ fn not_null_value(kind: ColType, row: u64, column: u64, field: &[u8]) -> Result<
     }
 }
 
-/// What a field that is UTF-8 stands for in a column. Rows and columns count from 0, a column by its
-/// place in the catalogue.
+/// What a field that is UTF-8 stands for in a column. Rows and columns count from 0, a column by
+/// its place in the catalogue.
 #[inline(always)]
 pub fn judge_text(row: u64, place: u64, column: &Column, field: &[u8]) -> Result<Parsed, TableFault>
     requires { is_utf8 field.now ≡ true }

@@ -55,13 +55,16 @@ fn fields_in(alloc: Global, row: &ByteRecord) -> Result<Vec<&[u8]>, AllocError>
 }
 
 fn is_named_once(column: &Column, header: &[&[u8]]) -> bool
-    ensures { result ≡ (count_by (λ field. declared.names field column.now) (map (λ field. field.now) header.now) == 1) }
+    ensures { result ≡ (count_by (λ field. declared.names field column.now)
+        (map (λ field. field.now) header.now) == 1) }
 {
     header.iter().filter(|field| names(field, column)).count() == 1
 }
 
 fn are_named_once(columns: &[Column], header: &[&[u8]]) -> bool
-    ensures { result ≡ list_all (λ c. count_by (λ field. declared.names field c) (map (λ field. field.now) header.now) == 1) columns.now }
+    ensures { result ≡ list_all
+        (λ c. count_by (λ field. declared.names field c) (map (λ field. field.now) header.now) == 1)
+        columns.now }
 {
     columns.iter().all(|column| is_named_once(column, header))
 }
@@ -79,7 +82,8 @@ fn column_named(columns: &[Column], field: &[u8]) -> Option<usize>
 }
 
 fn file_order(alloc: Global, columns: &[Column], header: &[&[u8]]) -> Result<Vec<usize>, AllocError>
-    ensures { IfOk result (λ order. order.items ≡ declared.file_order columns.now (map (λ field. field.now) header.now)) }
+    ensures { IfOk result (λ order. order.items
+        ≡ declared.file_order columns.now (map (λ field. field.now) header.now)) }
 {
     header
         .iter()
@@ -138,7 +142,8 @@ fn with_places(alloc: Global, columns: Vec<usize>) -> Result<FileOrder, AllocErr
 
 /// The order of the columns that the fields of a header name.
 fn order_by(alloc: Global, columns: &[Column], header: &[&[u8]]) -> Result<FileOrder, LoadFault>
-    ensures { TellsIfMemory fault_told (λ order. order.columns.items) result (order_of columns.now (map (λ field. field.now) header.now)) }
+    ensures { TellsIfMemory fault_told (λ order. order.columns.items) result
+        (order_of columns.now (map (λ field. field.now) header.now)) }
 {
     if !is_header(columns, header) {
         return Err(LoadFault::Table(TableFault::Header));
@@ -152,7 +157,8 @@ pub fn order_of(
     columns: &[Column],
     header: &ByteRecord,
 ) -> Result<FileOrder, LoadFault>
-    ensures { TellsIfMemory fault_told (λ order. order.columns.items) result (order_of columns.now (fields_of header.now)) }
+    ensures { TellsIfMemory fault_told (λ order. order.columns.items) result
+        (order_of columns.now (fields_of header.now)) }
 {
     let header = fields_in(alloc, header)?;
     let order = order_by(alloc, columns, header.as_slice());

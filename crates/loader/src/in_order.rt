@@ -1,4 +1,5 @@
-//! A record whose fields have the order of the catalogue: each is judged and goes into its column at once.
+//! A record whose fields have the order of the catalogue: each is judged and goes into its column
+//! at once.
 ghost use Rattle.std.specs.Prelude.{◌≡◌, length, true};
 ghost use Rattle.std.specs.List.{range_with_len};
 ghost use Rattle.std.specs.Str.{is_utf8};
@@ -25,8 +26,10 @@ fn take_field(
     column: &mut Column,
 ) -> Result<(), LoadFault>
     requires text { is_utf8 field.now ≡ true }
-    requires declared { (column.old.col_type ≡ declared.now.col_type) × (column.old.nullable ≡ declared.now.nullable) }
-    ensures { TakesField (records.field_value row place declared.now field.now) column.old column.new result }
+    requires declared { (column.old.col_type ≡ declared.now.col_type)
+        × (column.old.nullable ≡ declared.now.nullable) }
+    ensures { TakesField (records.field_value row place declared.now field.now) column.old
+        column.new result }
 {
     let parsed = judge_text(row, place, declared, field)?;
     push_field(column, parsed, field)
@@ -42,7 +45,8 @@ pub fn take_fields(
     requires declared { AreDeclared declared.now columns.old }
     requires fields { length (fields_of fields.now) ≡ length declared.now }
     requires texts { AllText (fields_of fields.now) }
-    ensures { TakesRow (records.row_of declared.now (range_with_len 0 (length declared.now)) row (fields_of fields.now)) columns.old columns.new result }
+    ensures { TakesRow (records.row_of declared.now (range_with_len 0 (length declared.now)) row
+        (fields_of fields.now)) columns.old columns.new result }
 {
     for i in 0..columns.len() {
         let Some(field) = field_at(fields, i) else {

@@ -36,7 +36,8 @@ impl Keys {
     /// Takes a key, and answers whether it is new. Any number of keys may be NULL.
     pub fn insert(&mut self, key: Value) -> Result<bool, AllocError>
         ensures { (seen : List AValue) → HoldsKeys self.old.present seen
-            → IfOk result (λ added. (added ≡ not (is_repeated key seen)) × HoldsKeys self.new.present (seen ++ key ∷ [])) }
+            → IfOk result (λ added. (added ≡ not (is_repeated key seen))
+            × HoldsKeys self.new.present (seen ++ key ∷ [])) }
     {
         if is_null(&key) {
             return Ok(true);

@@ -15,7 +15,8 @@ use meaning::catalog::Column;
 use meaning::table::TableFault;
 
 fn judge_at(row: u64, place: usize, columns: &[Column], field: &[u8]) -> Result<Parsed, TableFault>
-    ensures { ReadsField field.now result (declared.value_at row place (slice_get columns.now place) field.now) }
+    ensures { ReadsField field.now result
+        (declared.value_at row place (slice_get columns.now place) field.now) }
 {
     match columns.get(place) {
         Some(column) => judge_field(row, place as u64, column, field),
@@ -30,7 +31,8 @@ fn judge_text_at(
     field: &[u8],
 ) -> Result<Parsed, TableFault>
     requires { is_utf8 field.now ≡ true }
-    ensures { ReadsField field.now result (declared.value_at row place (slice_get columns.now place) field.now) }
+    ensures { ReadsField field.now result
+        (declared.value_at row place (slice_get columns.now place) field.now) }
 {
     match columns.get(place) {
         Some(column) => judge_text(row, place as u64, column, field),
@@ -48,7 +50,8 @@ pub fn judge_texts(
     parsed: &mut Vec<Parsed>,
 ) -> Result<(), LoadFault>
     requires { AllText (fields_of fields.now) }
-    ensures { TellsIfMemory fault_told (λ _. values_of parsed.new.items (fields_of fields.now)) result (declared.file_values columns.now order.now row (fields_of fields.now)) }
+    ensures { TellsIfMemory fault_told (λ _. values_of parsed.new.items (fields_of fields.now))
+        result (declared.file_values columns.now order.now row (fields_of fields.now)) }
 {
     parsed.clear();
     for (i, place) in order.iter().enumerate() {
@@ -68,7 +71,8 @@ pub fn judge_fields(
     fields: &ByteRecord,
     parsed: &mut Vec<Parsed>,
 ) -> Result<(), LoadFault>
-    ensures { TellsIfMemory fault_told (λ _. values_of parsed.new.items (fields_of fields.now)) result (declared.file_values columns.now order.now row (fields_of fields.now)) }
+    ensures { TellsIfMemory fault_told (λ _. values_of parsed.new.items (fields_of fields.now))
+        result (declared.file_values columns.now order.now row (fields_of fields.now)) }
 {
     parsed.clear();
     for (i, place) in order.iter().enumerate() {

@@ -21,7 +21,8 @@ use csv::ByteRecord;
 fn push_parsed(column: &mut Column, parsed: Parsed, field: &[u8]) -> Result<(), ColumnFault>
     requires { is_utf8 field.now ≡ true }
     ensures ok { OnOk result (column.new ≡ with_value column.old (value_of (parsed, field.now))) }
-    ensures told { IfErr result (λ f. f ≢ refused.Memory → refusal column.old.col_type column.old.nullable (value_of (parsed, field.now)) ≡ Some f) }
+    ensures told { IfErr result (λ f. f ≢ refused.Memory
+        → refusal column.old.col_type column.old.nullable (value_of (parsed, field.now)) ≡ Some f) }
 {
     match parsed {
         Parsed::Null => column.push_null(),
@@ -34,7 +35,8 @@ fn push_parsed(column: &mut Column, parsed: Parsed, field: &[u8]) -> Result<(), 
 #[inline(always)]
 pub fn push_field(column: &mut Column, parsed: Parsed, field: &[u8]) -> Result<(), LoadFault>
     requires text { is_utf8 field.now ≡ true }
-    requires taken { refusal column.old.col_type column.old.nullable (value_of (parsed, field.now)) ≡ None }
+    requires taken { refusal column.old.col_type column.old.nullable (value_of (parsed, field.now))
+        ≡ None }
     ensures ok { OnOk result (column.new ≡ with_value column.old (value_of (parsed, field.now))) }
     ensures memory { IfErr result (λ f. f ≡ Memory) }
 {
@@ -49,7 +51,8 @@ pub fn push_field(column: &mut Column, parsed: Parsed, field: &[u8]) -> Result<(
 fn judged_at<'a>(place: usize, parsed: &[Parsed], fields: &'a ByteRecord) -> (Parsed, &'a [u8])
     requires { AllText (fields_of fields.now) }
     ensures text { is_utf8 result.1.now ≡ true }
-    ensures value { value_of (result.0, result.1.now) ≡ slice_index_or (values_of parsed.now (fields_of fields.now)) place Null }
+    ensures value { value_of (result.0, result.1.now)
+        ≡ slice_index_or (values_of parsed.now (fields_of fields.now)) place Null }
 {
     let Some(judged) = parsed.get(place) else {
         return (Parsed::Null, b"".as_slice());
@@ -69,8 +72,13 @@ pub fn push_row(
 ) -> Result<(), LoadFault>
     requires texts { AllText (fields_of fields.now) }
     requires columns { length columns.old ≡ length order.now.fields.items }
-    requires taken { take_row columns.old (declared.catalog_row order.now.columns.items (values_of parsed.now (fields_of fields.now))) ≡ true }
-    ensures ok { OnOk result (columns.new ≡ with_row columns.old (declared.catalog_row order.now.columns.items (values_of parsed.now (fields_of fields.now)))) }
+    requires taken { take_row columns.old
+        (declared.catalog_row order.now.columns.items (values_of parsed.now (fields_of fields.now)))
+        ≡ true }
+    ensures ok { OnOk result
+        (columns.new ≡ with_row columns.old
+        (declared.catalog_row order.now.columns.items
+        (values_of parsed.now (fields_of fields.now)))) }
     ensures refused { IfErr result IsOutside }
 {
     for i in 0..columns.len() {

@@ -13,7 +13,8 @@ use std::io::Read;
 /// A reader of the records of a CSV file. One byte order mark in front is passed over, and records
 /// may be of different lengths.
 pub fn csv_reader<R: Read>(alloc: Global, reader: R) -> Reader<R>
-    ensures { (bytes : List ℕ) → R.remaining reader ≡ Some bytes → IsLeft R.remaining result (csv_records bytes) }
+    ensures { (bytes : List ℕ) → R.remaining reader ≡ Some bytes
+        → IsLeft R.remaining result (csv_records bytes) }
 {
     ReaderBuilder::new()
         .has_headers(false)
@@ -33,7 +34,8 @@ fn fault_of(error: Error) -> LoadFault
 
 /// The next record into `row`, whose buffers are used again, and whether there was one.
 pub fn next_record<R: Read>(reader: &mut Reader<R>, row: &mut ByteRecord) -> Result<bool, LoadFault>
-    ensures taken { IfOk result (λ found. (rest : List Record) → IsLeft R.remaining reader.old rest → TakesNext R.remaining reader.new rest found (fields_of row.new)) }
+    ensures taken { IfOk result (λ found. (rest : List Record) → IsLeft R.remaining reader.old rest
+        → TakesNext R.remaining reader.new rest found (fields_of row.new)) }
     ensures refused { IfErr result IsOutside }
 {
     match reader.read_byte_record(row) {

@@ -1,5 +1,5 @@
 //! Records judged one after the other and put into columns.
-ghost use Rattle.std.specs.Prelude.{◌≡◌, ◌-◌, get_or, ◌++◌, [], ◌∷◌, ◌+◌, ◌<◌, ◌^◌, List, length, map, sum, ℕ, Some, Ok, Err, IfOk, IfErr, OnOk, true};
+ghost use Rattle.std.specs.Prelude.{◌≡◌, ◌-◌, slice_index_or, ◌++◌, [], ◌∷◌, ◌+◌, ◌<◌, ◌^◌, List, length, map, sum, ℕ, Some, Ok, Err, IfOk, IfErr, OnOk, true};
 ghost use Rattle.csv.specs.Records.{AllText, fields_of};
 ghost use Rattle.std.specs.Str.{is_utf8};
 ghost use Rattle.meaning.specs.declared.value.Value.TheVariants.{Null};
@@ -81,7 +81,8 @@ fn owned(alloc: Global, value: ValueRef<'_>) -> Result<Value, AllocError>
 
 /// The value of the last row, and NULL where there is none.
 fn last_value(alloc: Global, column: &Column) -> Result<Value, AllocError>
-    ensures { IfOk result (λ v. v ≡ get_or column.now.values (length column.now.values - 1) Null) }
+    ensures { IfOk result (λ v. v
+        ≡ slice_index_or column.now.values (length column.now.values - 1) Null) }
 {
     if column.len() == 0 {
         return Ok(Value::Null);
@@ -102,7 +103,8 @@ pub fn load_record(
     requires columns { AreDeclared declared.now columns.old }
     requires order { IsOrderOf declared.now order.now.columns.items }
     requires texts { AllText (fields_of fields.now) }
-    ensures { TakesRow (records.row_of declared.now order.now.columns.items row (fields_of fields.now)) columns.old columns.new result }
+    ensures { TakesRow (records.row_of declared.now order.now.columns.items row
+        (fields_of fields.now)) columns.old columns.new result }
 {
     if fields.len() != declared.len() {
         return Err(LoadFault::Table(TableFault::FieldCount { row }));
@@ -146,7 +148,8 @@ fn check_texts(
 ) -> Result<(), LoadFault>
     requires { IsOrderOf declared.now order.now.columns.items }
     ensures texts { OnOk result (AllText (fields_of fields.now)) }
-    ensures refused { IfErr result (IsFaultOf (records.row_of declared.now order.now.columns.items row (fields_of fields.now))) }
+    ensures refused { IfErr result
+        (IsFaultOf (records.row_of declared.now order.now.columns.items row (fields_of fields.now))) }
 {
     if is_ascii(fields) || is_each_text(fields) {
         return Ok(());
@@ -179,7 +182,8 @@ fn read_header<R: Read>(
 ) -> Result<FileOrder, LoadFault>
     ensures declared { IfOk result (λ order. IsOrderOf declared.now order.columns.items) }
     ensures opened { (rest : List Record) → IsLeft R.remaining reader.old rest
-        → Opens (λ order. order.columns.items) (λ _. reader.new) R.remaining declared.now rest result }
+        → Opens (λ order. order.columns.items) (λ _. reader.new) R.remaining declared.now rest
+        result }
 {
     if !next_record(reader, fields)? {
         return Err(LoadFault::Table(TableFault::Header));
@@ -193,9 +197,11 @@ pub fn open_rows<R: Read + Drop>(
     declared: &[Declared],
     reader: R,
 ) -> Result<Rows<'_, R>, LoadFault>
-    ensures declared { IfOk result (λ rows. (rows.declared.now ≡ declared.now) × (length declared.now ≡ length rows.order.columns.items)) }
+    ensures declared { IfOk result (λ rows. (rows.declared.now ≡ declared.now)
+        × (length declared.now ≡ length rows.order.columns.items)) }
     ensures opened { (bytes : List ℕ) → R.remaining reader ≡ Some bytes
-        → Opens (λ rows. rows.order.columns.items) (λ rows. rows.reader) R.remaining declared.now (csv_records bytes) result }
+        → Opens (λ rows. rows.order.columns.items) (λ rows. rows.reader) R.remaining declared.now
+        (csv_records bytes) result }
 {
     let mut reader = csv_reader(alloc, reader);
     let mut fields = ByteRecord::new(alloc);
@@ -222,10 +228,13 @@ impl<R: Read> Rows<'_, R> {
         requires { AreDeclared self.old.declared.now columns.old }
         ensures declared { self.new.declared.now ≡ self.old.declared.now }
         ensures kept { OnOk result (AreDeclared self.old.declared.now columns.new) }
-        ensures longer { OnOk result (row_counts columns.new ≡ map (λ n. n + 1) (row_counts columns.old)) }
+        ensures longer { OnOk result
+            (row_counts columns.new ≡ map (λ n. n + 1) (row_counts columns.old)) }
         ensures order { self.new.order ≡ self.old.order }
         ensures reader { self.new.reader ≡ self.old.reader }
-        ensures taken { TakesRow (records.row_of self.old.declared.now self.old.order.columns.items row (fields_of self.old.fields)) columns.old columns.new result }
+        ensures taken { TakesRow
+            (records.row_of self.old.declared.now self.old.order.columns.items row
+            (fields_of self.old.fields)) columns.old columns.new result }
     {
         check_texts(
             self.declared,
@@ -249,10 +258,12 @@ impl<R: Read> Rows<'_, R> {
         requires { AreDeclared self.old.declared.now columns.old }
         ensures declared { self.new.declared.now ≡ self.old.declared.now }
         ensures kept { OnOk result (AreDeclared self.old.declared.now columns.new) }
-        ensures longer { IfOk result (λ found. found ≡ true → row_counts columns.new ≡ map (λ n. n + 1) (row_counts columns.old)) }
+        ensures longer { IfOk result (λ found. found ≡ true
+            → row_counts columns.new ≡ map (λ n. n + 1) (row_counts columns.old)) }
         ensures order { self.new.order ≡ self.old.order }
         ensures taken { (rest : List Record) → IsLeft R.remaining self.old.reader rest
-            → TakesNextRow R.remaining self.old.declared.now self.old.order.columns.items row rest columns.old columns.new self.new.reader result }
+            → TakesNextRow R.remaining self.old.declared.now self.old.order.columns.items row rest
+            columns.old columns.new self.new.reader result }
     {
         if !next_record(&mut self.reader, &mut self.fields)? {
             return Ok(false);
@@ -268,9 +279,11 @@ impl<R: Read> Rows<'_, R> {
         ensures declared { self.new.declared.now ≡ self.old.declared.now }
         ensures order { self.new.order ≡ self.old.order }
         ensures kept { OnOk result (AreDeclared self.old.declared.now columns.new) }
-        ensures longer { OnOk result (row_counts columns.new ≡ map (λ n. n + count) (row_counts columns.old)) }
+        ensures longer { OnOk result
+            (row_counts columns.new ≡ map (λ n. n + count) (row_counts columns.old)) }
         ensures taken { (rest : List Record) → IsLeft R.remaining self.old.reader rest
-            → TakesRows R.remaining self.old.declared.now self.old.order.columns.items first count rest columns.old columns.new self.new.reader result }
+            → TakesRows R.remaining self.old.declared.now self.old.order.columns.items first count
+            rest columns.old columns.new self.new.reader result }
     {
         for i in 0..count {
             if !self.next_row(first + u64::from(i), columns)? {
@@ -292,7 +305,8 @@ impl<R: Read> Rows<'_, R> {
         ensures order { self.new.order ≡ self.old.order }
         ensures rows { IfOk result (AreRowsOf self.old.declared.now count) }
         ensures taken { (rest : List Record) → IsLeft R.remaining self.old.reader rest
-            → TakesFragment R.remaining self.old.declared.now self.old.order.columns.items first count rest self.new.reader result }
+            → TakesFragment R.remaining self.old.declared.now self.old.order.columns.items first
+            count rest self.new.reader result }
     {
         let mut columns = new_columns(alloc, self.declared, count as usize)?;
         self.next_rows(first, count, &mut columns)?;
@@ -302,7 +316,8 @@ impl<R: Read> Rows<'_, R> {
     /// Whether there is a record more, which is then passed over.
     pub fn has_more(&mut self) -> Result<bool, LoadFault>
         ensures declared { self.new.declared.now ≡ self.old.declared.now }
-        ensures found { IfOk result (λ found. (rest : List Record) → IsLeft R.remaining self.old.reader rest → found ≡ is_more rest) }
+        ensures found { IfOk result (λ found. (rest : List Record)
+            → IsLeft R.remaining self.old.reader rest → found ≡ is_more rest) }
         ensures refused { IfErr result IsOutside }
     {
         next_record(&mut self.reader, &mut self.fields)
@@ -321,7 +336,8 @@ impl<R: Read> Rows<'_, R> {
         requires key { key < length columns.old }
         requires none { HoldsKeys keys.old.present [] }
         ensures taken { (rest : List Record) → IsLeft R.remaining self.old.reader rest
-            → TakesAll self.old.declared.now self.old.order.columns.items key most rest columns.old columns.new result }
+            → TakesAll self.old.declared.now self.old.order.columns.items key most rest columns.old
+            columns.new result }
     {
         for row in 0..most {
             if !self.next_row(row, columns)? {
@@ -349,7 +365,8 @@ impl<R: Read> Rows<'_, R> {
         requires columns { AreDeclared self.old.declared.now columns.old }
         requires key { key < length columns.old }
         ensures taken { (rest : List Record) → IsLeft R.remaining self.old.reader rest
-            → TakesAll self.old.declared.now self.old.order.columns.items key most rest columns.old columns.new result }
+            → TakesAll self.old.declared.now self.old.order.columns.items key most rest columns.old
+            columns.new result }
     {
         let mut keys = Keys::new(alloc);
         let added = self.add_keyed_rows(alloc, key, most, &mut keys, columns);
@@ -368,7 +385,8 @@ impl<R: Read> Rows<'_, R> {
         requires columns { length self.old.declared.now ≡ length self.old.order.columns.items }
         requires key { key < length self.old.declared.now }
         ensures taken { (rest : List Record) → IsLeft R.remaining self.old.reader rest
-            → TakesTable self.old.declared.now (keyed_rows self.old.declared.now self.old.order.columns.items key most rest) result }
+            → TakesTable self.old.declared.now
+            (keyed_rows self.old.declared.now self.old.order.columns.items key most rest) result }
     {
         let mut columns = new_columns(alloc, self.declared, 0)?;
         self.keyed_rows(alloc, key, most, &mut columns)?;

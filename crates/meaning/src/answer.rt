@@ -10,7 +10,8 @@ pub struct RowFault {
     pub code: u8,
 }
 
-/// What is known of a list of values that are not NULL. What an aggregate does not keep is 0 or `None`.
+/// What is known of a list of values that are not NULL. What an aggregate does not keep is 0 or
+/// `None`.
 #[derive(PartialEq, Eq, Drop)]
 pub struct Statistics {
     pub count: u64,
@@ -27,7 +28,8 @@ pub struct Group {
     pub states: Sequence<Statistics>,
 }
 
-/// What is known of some rows: the groups in the order of their keys, or the fault of the least row.
+/// What is known of some rows: the groups in the order of their keys, or the fault of the least
+/// row.
 #[derive(PartialEq, Eq, Drop)]
 pub enum Body<G> {
     Groups(Sequence<G>),

@@ -108,7 +108,8 @@ fn declare_line(
 
 /// The tables that lines in lower case declare, where no line has a fault.
 pub fn declared_tables(alloc: Global, lines: &[&str]) -> Result<Vec<Declared>, CatalogFault>
-    ensures ok { OnOk result (first_line_fault [] (map line_of (map (λ line. line.now) lines.now)) ≡ None) }
+    ensures ok { OnOk result (first_line_fault [] (map line_of (map (λ line. line.now) lines.now))
+        ≡ None) }
     ensures tables { IfOk result (λ tables.
         tables.items ≡ tables_of (statements (map line_of (map (λ line. line.now) lines.now)))) }
     ensures err { IfErr result (λ fault. fault ≢ CatalogFault.Memory →

@@ -92,7 +92,8 @@ pub fn eval_row(alloc: Global, expr: &Expr, row: &JoinedRow) -> Result<Outcome, 
 #[cycle(eval)]
 fn eval_arms(alloc: Global, arms: &[Arm], row: &JoinedRow) -> Result<Option<Outcome>, AllocError>
     ensures { IfOk result (λ found. (otherwise : Outcome) →
-        unwrap_or found otherwise ≡ spec.cases_of (arms_at row.now (map eval_arm arms.now)) otherwise) }
+        unwrap_or found otherwise
+        ≡ spec.cases_of (arms_at row.now (map eval_arm arms.now)) otherwise) }
 {
     for arm in arms {
         match eval_row(alloc, &arm.when, row)? {
@@ -155,7 +156,8 @@ fn like_if_known(
     pattern: &Text,
     subject: Result<Outcome, AllocError>,
 ) -> Result<Outcome, AllocError>
-    ensures { (a : Outcome) → IfOk subject (λ o. o ≡ a) → IfOk result (λ o. o ≡ spec.like_of pattern.now a) }
+    ensures { (a : Outcome) → IfOk subject (λ o. o ≡ a)
+        → IfOk result (λ o. o ≡ spec.like_of pattern.now a) }
 {
     like(alloc, pattern, subject?)
 }

@@ -23,8 +23,8 @@ pub enum ComparisonOperator {
     GreaterOrEqual,
 }
 
-/// An expression whose names are looked up: they are places, from 0. Where a node is `negated`, NOT is written within
-/// it, as in `x NOT IN (..)`.
+/// An expression whose names are looked up: they are places, from 0. Where a node is `negated`, NOT
+/// is written within it, as in `x NOT IN (..)`.
 #[cycle(expr)]
 #[derive(Drop)]
 pub enum Expr {

@@ -8,7 +8,8 @@ use crate::sequence::Sequence;
 use crate::value::{Row, Value};
 use std::alloc::AllocError;
 
-/// What an expression reads: a row of the fact with a row of each joined dimension, or a group's key and aggregates.
+/// What an expression reads: a row of the fact with a row of each joined dimension, or a group's
+/// key and aggregates.
 #[derive(Drop)]
 pub struct JoinedRow {
     pub fact: Row,

@@ -1,4 +1,5 @@
-//! The laws that other crates rest on. A body does nothing: the clause is a theorem on the definitions.
+//! The laws that other crates rest on. A body does nothing: the clause is a theorem on the
+//! definitions.
 
 ghost use Rattle.std.specs.Prelude.{Bool, List};
 ghost use Rattle.meaning.specs.Said.{Cell};
@@ -93,14 +94,14 @@ pub fn joins_are_lookups()
     ensures { JoinsAreLookups }
 {}
 
-/// Once every fragment's own answer is in and none conflicts, what is printed is the query's meaning over the whole
-/// table.
+/// Once every fragment's own answer is in and none conflicts, what is printed is the query's
+/// meaning over the whole table.
 pub fn headline()
     ensures { Headline }
 {}
 
-/// Evaluation reads only the columns that the expression names, and judging a row only those that the plan's
-/// expressions name.
+/// Evaluation reads only the columns that the expression names, and judging a row only those that
+/// the plan's expressions name.
 pub fn reads_columns_used()
     ensures evaluated { ReadsColumnsUsed }
     ensures judged { JudgesColumnsUsed }
@@ -121,7 +122,8 @@ pub fn kept_groups_merge()
     ensures { (plan : Plan) → KeptGroupsMerge plan }
 {}
 
-/// A preview is the query's meaning over the rows of the fragments that hold one answer, if these are their own.
+/// A preview is the query's meaning over the rows of the fragments that hold one answer, if these
+/// are their own.
 pub fn previews_of_own_answers()
     ensures { PreviewsOfOwnAnswers }
 {}

@@ -1,7 +1,8 @@
-//! What a query over a star of tables means, what each fragment of the fact table answers, and how answers combine.
+//! What a query over a star of tables means, what each fragment of the fact table answers, and how
+//! answers combine.
 //!
-//! The types are plain data. Contracts see a `Text` as its bytes, a `Sequence` as its list and a `Boxed` as its part.
-//! `specs/` has the definitions, `laws` the theorems on them.
+//! The types are plain data. Contracts see a `Text` as its bytes, a `Sequence` as its list and a
+//! `Boxed` as its part. `specs/` has the definitions, `laws` the theorems on them.
 #![tactic(auto)]
 
 pub mod answer;

@@ -1,4 +1,5 @@
-//! The limits of names, tables, cuts and queries. `specs/Limits.antt` has the same numbers for contracts.
+//! The limits of names, tables, cuts and queries. `specs/Limits.antt` has the same numbers for
+//! contracts.
 
 /// The most bytes of a name; a name has at least one.
 pub const MAX_NAME_BYTES: usize = 64;

@@ -20,7 +20,8 @@ pub struct TableUse {
     pub columns: Sequence<ColumnUse>,
 }
 
-/// A dimension joined to the fact table: the fact's column `foreign` equals the dimension's column `key`.
+/// A dimension joined to the fact table: the fact's column `foreign` equals the dimension's column
+/// `key`.
 #[derive(Drop)]
 pub struct Join {
     pub dim: TableUse,
@@ -46,7 +47,8 @@ pub enum AggregateKind {
     Avg,
 }
 
-/// An aggregate. The argument of `CountRows` is a literal that is not NULL. An answer's shape shows the type.
+/// An aggregate. The argument of `CountRows` is a literal that is not NULL. An answer's shape shows
+/// the type.
 #[derive(Drop)]
 pub struct Aggregate {
     pub kind: AggregateKind,

@@ -69,7 +69,8 @@ fn sort_out(
     found_dims: &mut Vec<Dimension>,
 ) -> Result<(), CatalogFault>
     ensures err { OnErr result (result ≡ Err CatalogFault.Memory) }
-    ensures facts { OnOk result (found_facts.new.items ≡ found_facts.old.items ++ facts (declared ∷ [])) }
+    ensures facts { OnOk result (found_facts.new.items ≡ found_facts.old.items
+        ++ facts (declared ∷ [])) }
     ensures dims { OnOk result (found_dims.new.items ≡ found_dims.old.items ++ dims (declared ∷ [])) }
 {
     let Declared { table, key } = declared;

@@ -15,7 +15,8 @@ pub enum ColType {
     Text,
 }
 
-/// What stands in one column of one row. The order is the whole order: NULL, integers by number, texts by their bytes.
+/// What stands in one column of one row. The order is the whole order: NULL, integers by number,
+/// texts by their bytes.
 #[derive(Clone, Eq, PartialOrd, Ord, Drop)]
 pub enum Value {
     Null,
@@ -23,7 +24,8 @@ pub enum Value {
     Text(Text),
 }
 
-/// A value that is lent: a text is a slice of bytes in UTF-8 that stand elsewhere. The order is that of the values.
+/// A value that is lent: a text is a slice of bytes in UTF-8 that stand elsewhere. The order is
+/// that of the values.
 #[derive(Clone, Copy, PartialEq, Eq, PartialOrd, Ord)]
 pub enum ValueRef<'a> {
     Null,

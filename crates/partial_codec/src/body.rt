@@ -29,7 +29,8 @@ fn is_sum_of(n: u64, sum: i128) -> bool
     n * i128::from(i64::MIN) <= sum && sum <= n * i128::from(i64::MAX)
 }
 
-/// The statistics as a state, and whether so many integers can have their sum. A sum that they can't have is kept as 0.
+/// The statistics as a state, and whether so many integers can have their sum. A sum that they
+/// can't have is kept as 0.
 fn keep(statistics: Statistics) -> (State, bool)
     requires { IsKeepable statistics }
     ensures state { result.0 ≡ kept_state statistics }
@@ -65,7 +66,8 @@ fn unless_null(value: Value) -> Option<Value>
 
 #[tactic(auto, unfolding(crate::specs::LayoutReading::state_at))]
 fn take_count(bytes: &[u8]) -> Result<(Statistics, &[u8]), DecodeFault>
-    ensures read { Reads (λ x. (x.0, x.1.now)) result (reading.state_at AggregateKind.Count bytes.now) }
+    ensures read { Reads (λ x. (x.0, x.1.now)) result
+        (reading.state_at AggregateKind.Count bytes.now) }
     ensures keepable { IfOk result (λ x. IsKeepable x.0) }
 {
     let (count, rest) = take_u32(bytes)?;
@@ -100,7 +102,8 @@ fn take_sum(bytes: &[u8]) -> Result<(Statistics, &[u8]), DecodeFault>
 
 #[tactic(auto, unfolding(crate::specs::LayoutReading::state_at))]
 fn take_least(alloc: Global, bytes: &[u8]) -> Result<(Statistics, &[u8]), DecodeFault>
-    ensures read { GivesIfMemory DecodeFault.Memory (λ x. (x.0, x.1.now)) result (reading.state_at AggregateKind.Min bytes.now) }
+    ensures read { GivesIfMemory DecodeFault.Memory (λ x. (x.0, x.1.now)) result
+        (reading.state_at AggregateKind.Min bytes.now) }
     ensures keepable { IfOk result (λ x. IsKeepable x.0) }
 {
     let (count, rest) = take_u32(bytes)?;
@@ -118,7 +121,8 @@ fn take_least(alloc: Global, bytes: &[u8]) -> Result<(Statistics, &[u8]), Decode
 
 #[tactic(auto, unfolding(crate::specs::LayoutReading::state_at))]
 fn take_greatest(alloc: Global, bytes: &[u8]) -> Result<(Statistics, &[u8]), DecodeFault>
-    ensures read { GivesIfMemory DecodeFault.Memory (λ x. (x.0, x.1.now)) result (reading.state_at AggregateKind.Max bytes.now) }
+    ensures read { GivesIfMemory DecodeFault.Memory (λ x. (x.0, x.1.now)) result
+        (reading.state_at AggregateKind.Max bytes.now) }
     ensures keepable { IfOk result (λ x. IsKeepable x.0) }
 {
     let (count, rest) = take_u32(bytes)?;
@@ -141,7 +145,8 @@ fn take_statistics(
     kind: AggregateKind,
     bytes: &[u8],
 ) -> Result<(Statistics, &[u8]), DecodeFault>
-    ensures read { GivesIfMemory DecodeFault.Memory (λ x. (x.0, x.1.now)) result (reading.state_at kind bytes.now) }
+    ensures read { GivesIfMemory DecodeFault.Memory (λ x. (x.0, x.1.now)) result
+        (reading.state_at kind bytes.now) }
     ensures keepable { IfOk result (λ x. IsKeepable x.0) }
 {
     match kind {
@@ -159,7 +164,9 @@ fn take_state(
     kind: AggregateKind,
     bytes: &[u8],
 ) -> Result<(State, bool, &[u8]), DecodeFault>
-    ensures { KeepsIfMemory DecodeFault.Memory (λ x. IsKept kept_state has_possible_sum x.0 x.1 x.2.now) result (reading.state_at kind bytes.now) }
+    ensures { KeepsIfMemory DecodeFault.Memory
+        (λ x. IsKept kept_state has_possible_sum x.0 x.1 x.2.now) result
+        (reading.state_at kind bytes.now) }
 {
     let (statistics, rest) = take_statistics(alloc, kind, bytes)?;
     let (state, is_possible) = keep(statistics);
@@ -172,7 +179,8 @@ fn take_states<'a>(
     aggregates: &[AggregateShape],
     bytes: &'a [u8],
 ) -> Result<(Sequence<State>, bool, &'a [u8]), DecodeFault>
-    ensures { KeepsIfMemory DecodeFault.Memory (λ x. AreKept kept_state has_possible_sum x.0 x.1 x.2.now) result
+    ensures { KeepsIfMemory DecodeFault.Memory
+        (λ x. AreKept kept_state has_possible_sum x.0 x.1 x.2.now) result
         (reading.states_at aggregates.now bytes.now) }
 {
     let mut states = Vec::with_capacity(alloc, aggregates.len().min(bytes.len() / 4))?;
@@ -189,7 +197,8 @@ fn take_states<'a>(
 
 /// The values of a key. Memory is taken for no more values than the bytes can hold.
 fn take_key(alloc: Global, count: usize, bytes: &[u8]) -> Result<(Row, &[u8]), DecodeFault>
-    ensures { GivesIfMemory DecodeFault.Memory (λ x. (x.0, x.1.now)) result (repeat_at reading.value_at count bytes.now) }
+    ensures { GivesIfMemory DecodeFault.Memory (λ x. (x.0, x.1.now)) result
+        (repeat_at reading.value_at count bytes.now) }
 {
     let mut values = Vec::with_capacity(alloc, count.min(bytes.len()))?;
     let mut rest = bytes;
@@ -207,7 +216,8 @@ fn take_group<'a>(
     shape: &Shape,
     bytes: &'a [u8],
 ) -> Result<(Group, bool, &'a [u8]), DecodeFault>
-    ensures { KeepsIfMemory DecodeFault.Memory (λ x. IsKept kept_group has_possible_sums x.0 x.1 x.2.now) result
+    ensures { KeepsIfMemory DecodeFault.Memory
+        (λ x. IsKept kept_group has_possible_sums x.0 x.1 x.2.now) result
         (reading.group_at (shape_in shape.now) bytes.now) }
 {
     let (key, rest) = take_key(alloc, shape.keys.len(), bytes)?;
@@ -223,7 +233,8 @@ fn take_groups<'a>(
     count: u32,
     bytes: &'a [u8],
 ) -> Result<(Vec<Group>, bool, &'a [u8]), DecodeFault>
-    ensures { KeepsIfMemory DecodeFault.Memory (λ x. AreKept kept_group has_possible_sums x.0.items x.1 x.2.now) result
+    ensures { KeepsIfMemory DecodeFault.Memory
+        (λ x. AreKept kept_group has_possible_sums x.0.items x.1 x.2.now) result
         (repeat_at (reading.group_at (shape_in shape.now)) count bytes.now) }
 {
     let mut groups = Vec::with_capacity(alloc, (count as usize).min(bytes.len() / 4))?;
@@ -247,14 +258,16 @@ fn take_fault(bytes: &[u8]) -> Result<(RowFault, &[u8]), DecodeFault>
     Ok((RowFault { row, code }, rest))
 }
 
-/// Groups by the shape, or a fault; whether the groups' sums are possible; and the bytes behind them.
+/// Groups by the shape, or a fault; whether the groups' sums are possible; and the bytes behind
+/// them.
 #[tactic(auto, unfolding(crate::specs::LayoutReading::body_at, crate::specs::LayoutReading::tagged_body_at, crate::specs::LayoutReading::groups_at))]
 pub fn take_body<'a>(
     alloc: Global,
     shape: &Shape,
     bytes: &'a [u8],
 ) -> Result<(Body<Group>, bool, &'a [u8]), DecodeFault>
-    ensures { KeepsIfMemory DecodeFault.Memory (λ x. IsKept kept_body are_sums_possible x.0 x.1 x.2.now) result
+    ensures { KeepsIfMemory DecodeFault.Memory
+        (λ x. IsKept kept_body are_sums_possible x.0 x.1 x.2.now) result
         (reading.body_at (shape_in shape.now) bytes.now) }
 {
     let (tag, rest) = take_u8(bytes)?;

@@ -244,7 +244,8 @@ fn have_rows(groups: &[Group]) -> bool
 
 /// Whether each group has a row, or there is the one group of a grouped query without keys.
 fn are_rows_possible(plan: &Plan, groups: &[Group]) -> bool
-    ensures { result ≡ fitting.are_rows_possible (certain_keys plan.now.plain plan.now.keys) groups.now }
+    ensures { result ≡ fitting.are_rows_possible (certain_keys plan.now.plain plan.now.keys)
+        groups.now }
 {
     if has_certain_group(plan) {
         groups.len() == 1
@@ -255,7 +256,8 @@ fn are_rows_possible(plan: &Plan, groups: &[Group]) -> bool
 
 /// Whether each aggregate can have its state in a group of so many rows.
 fn are_states_possible(aggregates: &[Aggregate], rows: u64, states: &[State]) -> bool
-    ensures { result ≡ pointwise (λ a s. fitting.is_possible a.kind rows s) aggregates.now states.now }
+    ensures { result ≡ pointwise (λ a s. fitting.is_possible a.kind rows s) aggregates.now
+        states.now }
 {
     if aggregates.len() != states.len() {
         return false;
@@ -277,7 +279,8 @@ fn are_groups_possible(plan: &Plan, groups: &[Group]) -> bool
 
 /// Whether so many rows can give the groups' numbers.
 fn can_rows_give(plan: &Plan, rows: u64, groups: &[Group]) -> bool
-    ensures { (first : ℕ) → result ≡ fitting.are_numbers_possible plan.now first rows (Groups groups.now) }
+    ensures { (first : ℕ) → result
+        ≡ fitting.are_numbers_possible plan.now first rows (Groups groups.now) }
 {
     if !are_rows_within(groups, rows) {
         return false;

@@ -37,7 +37,8 @@ fn first_row(lengths: &[u32], k: usize) -> u64
 /// Whether the cut is the job's, and has a fragment `k`.
 fn is_fragment_of(job: &Job, fields: &JobFields<'_>, k: u32) -> bool
     requires { length fields.now.cut.now ≡ fields.now.fragments * 4 }
-    ensures { result ≡ (same_bytes (words fields.now.fragments fields.now.cut.now) job.now.cut && nat_lt k (length job.now.cut)) }
+    ensures { result ≡ (same_bytes (words fields.now.fragments fields.now.cut.now) job.now.cut
+        && nat_lt k (length job.now.cut)) }
 {
     is_cut_of(job, fields) && (k as usize) < job.cut().lengths().len()
 }
@@ -45,7 +46,8 @@ fn is_fragment_of(job: &Job, fields: &JobFields<'_>, k: u32) -> bool
 /// Whether the fragment's rows can give the numbers.
 fn are_numbers_of_fragment(job: &Job, k: u32, body: &Body<Group>) -> bool
     requires { k < length job.now.cut }
-    ensures { result ≡ fitting.are_numbers_possible job.now.plan (row_before job.now.cut k) (slice_index job.now.cut k) body.now }
+    ensures { result ≡ fitting.are_numbers_possible job.now.plan (row_before job.now.cut k)
+        (slice_index job.now.cut k) body.now }
 {
     let lengths = job.cut().lengths();
     let place = k as usize;
@@ -57,7 +59,8 @@ fn are_numbers_of_fragment(job: &Job, k: u32, body: &Body<Group>) -> bool
 #[tactic(auto, unfolding(crate::specs::Holding::layout_held_by))]
 fn check_layout(job: &Job, layout: &Layout<'_>) -> Result<(), DecodeFault>
     requires { length layout.now.job.cut.now ≡ layout.now.job.fragments * 4 }
-    ensures { Reads (λ _. record { k = layout.now.k; body = layout.now.body }) result (layout_held_by job.now layout.now) }
+    ensures { Reads (λ _. record { k = layout.now.k; body = layout.now.body }) result
+        (layout_held_by job.now layout.now) }
 {
     if layout.job.load != job.load() {
         return Err(DecodeFault::OtherLoad);
@@ -108,6 +111,8 @@ fn judge(alloc: Global, job: &Job, bytes: &[u8]) -> Result<Answer<Group>, Decode
     ensures exact { GivesIfMemory DecodeFault.Memory (λ a. a) result (judged job.now bytes.now) }
     ensures within_limits { IsJob job.now }
 {
+    // No effect at run time. The proof reads from this call that the job's text and cut are within
+    // their limits.
     let _plan = job.plan();
     let (layout, rest) = take_layout(alloc, bytes)?;
     let (seal, rest) = take_bytes(rest, SEAL_BYTES)?;
@@ -117,8 +122,8 @@ fn judge(alloc: Global, job: &Job, bytes: &[u8]) -> Result<Answer<Group>, Decode
 
 /// The answer that the bytes spell for the job, or the first obstacle.
 ///
-/// The bytes are read from front to back; then come the seal, the job, the shape, the order of the groups and the
-/// numbers. Memory is taken for what was read alone, whatever counts the bytes tell.
+/// The bytes are read from front to back; then come the seal, the job, the shape, the order of the
+/// groups and the numbers. Memory is taken for what was read alone, whatever counts the bytes tell.
 pub fn decode(alloc: Global, job: &Job, bytes: &[u8]) -> Result<Answer<Group>, DecodeFault>
     // What is given is spelled so.
     ensures spelled { IfOk result (λ a. Spells job.now bytes.now a) }
@@ -126,7 +131,8 @@ pub fn decode(alloc: Global, job: &Job, bytes: &[u8]) -> Result<Answer<Group>, D
     ensures complete { (a : AnAnswer) → Spells job.now bytes.now a →
         GivesIfMemory DecodeFault.Memory (λ b. b) result (Ok a) }
     // Which obstacle it is.
-    ensures obstacle { IfErr result (λ e. e ≢ DecodeFault.Memory → obstacle job.now bytes.now ≡ Some e) }
+    ensures obstacle { IfErr result (λ e. e ≢ DecodeFault.Memory
+        → obstacle job.now bytes.now ≡ Some e) }
 {
     judge(alloc, job, bytes)
 }

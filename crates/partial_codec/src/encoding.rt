@@ -26,7 +26,8 @@ use wire::{append_i128, append_seal, append_text, append_u8, append_u16, append_
 pub fn put_job(out: &mut Vec<u8>, load: u64, text: &str, lengths: &[u32]) -> Result<(), AllocError>
     requires text { length text.now < 2 ^ 32 }
     requires fragments { length lengths.now < 2 ^ 32 }
-    ensures { OnOk result (out.new.items ≡ out.old.items ++ spec.job_bytes load text.now lengths.now) }
+    ensures { OnOk result (out.new.items ≡ out.old.items
+        ++ spec.job_bytes load text.now lengths.now) }
 {
     append_u64(out, load)?;
     append_text(out, text)?;
@@ -48,7 +49,8 @@ fn put_types(out: &mut Vec<u8>, keys: &[GroupingKey]) -> Result<(), AllocError>
 }
 
 fn put_aggregate(out: &mut Vec<u8>, aggregate: &Aggregate) -> Result<(), AllocError>
-    ensures { OnOk result (out.new.items ≡ out.old.items ++ spec.aggregate_bytes (shapes.shape_of_aggregate aggregate.now)) }
+    ensures { OnOk result (out.new.items ≡ out.old.items
+        ++ spec.aggregate_bytes (shapes.shape_of_aggregate aggregate.now)) }
 {
     let shape = shape_of_aggregate(aggregate);
     append_u8(out, kind_code(shape.kind))?;
@@ -70,7 +72,8 @@ fn put_aggregates(out: &mut Vec<u8>, aggregates: &[Aggregate]) -> Result<(), All
 pub fn put_shape(out: &mut Vec<u8>, plan: &Plan) -> Result<(), AllocError>
     requires keys { length plan.now.keys < 2 ^ 16 }
     requires aggregates { length plan.now.aggs < 2 ^ 16 }
-    ensures { OnOk result (out.new.items ≡ out.old.items ++ spec.shape_bytes (shapes.shape_of plan.now)) }
+    ensures { OnOk result (out.new.items ≡ out.old.items
+        ++ spec.shape_bytes (shapes.shape_of plan.now)) }
 {
     append_u16(out, plan.keys.len() as u16)?;
     put_types(out, plan.keys.as_slice())?;
@@ -124,7 +127,8 @@ fn put_states(
 #[tactic(auto, unfolding(crate::specs::Spelling::group_bytes))]
 fn put_group(out: &mut Vec<u8>, plan: &Plan, group: &Group) -> Result<(), AllocError>
     requires { IsGroup (shapes.shape_of plan.now) group.now }
-    ensures { OnOk result (out.new.items ≡ out.old.items ++ spec.group_bytes (shapes.shape_of plan.now) group.now) }
+    ensures { OnOk result (out.new.items ≡ out.old.items
+        ++ spec.group_bytes (shapes.shape_of plan.now) group.now) }
 {
     put_key(out, group.key().as_slice())?;
     append_u32(out, group.rows() as u32)?;
@@ -133,7 +137,8 @@ fn put_group(out: &mut Vec<u8>, plan: &Plan, group: &Group) -> Result<(), AllocE
 
 fn put_all_groups(out: &mut Vec<u8>, plan: &Plan, groups: &[Group]) -> Result<(), AllocError>
     requires { AllByRecursion (IsGroup (shapes.shape_of plan.now)) groups.now }
-    ensures { OnOk result (out.new.items ≡ out.old.items ++ flat_map (spec.group_bytes (shapes.shape_of plan.now)) groups.now) }
+    ensures { OnOk result (out.new.items ≡ out.old.items
+        ++ flat_map (spec.group_bytes (shapes.shape_of plan.now)) groups.now) }
 {
     for group in groups {
         put_group(out, plan, group)?;
@@ -145,7 +150,8 @@ fn put_all_groups(out: &mut Vec<u8>, plan: &Plan, groups: &[Group]) -> Result<()
 #[tactic(auto, unfolding(crate::specs::Spelling::body_bytes))]
 pub fn put_body(out: &mut Vec<u8>, plan: &Plan, body: &Body<Group>) -> Result<(), AllocError>
     requires { IsBody (shapes.shape_of plan.now) body.now }
-    ensures { OnOk result (out.new.items ≡ out.old.items ++ spec.body_bytes (shapes.shape_of plan.now) body.now) }
+    ensures { OnOk result (out.new.items ≡ out.old.items
+        ++ spec.body_bytes (shapes.shape_of plan.now) body.now) }
 {
     match body {
         Body::Groups(groups) => {
@@ -165,7 +171,8 @@ pub fn put_body(out: &mut Vec<u8>, plan: &Plan, body: &Body<Group>) -> Result<()
 #[tactic(auto, unfolding(crate::specs::Spelling::layout_bytes, crate::specs::Spelling::answer_magic))]
 fn put_layout(out: &mut Vec<u8>, job: &Job, answer: &Answer<Group>) -> Result<(), AllocError>
     requires { IsBody (shapes.shape_of job.now.plan) answer.now.body }
-    ensures { OnOk result (out.new.items ≡ out.old.items ++ spec.layout_bytes (spec.layout_of job.now answer.now)) }
+    ensures { OnOk result (out.new.items ≡ out.old.items
+        ++ spec.layout_bytes (spec.layout_of job.now answer.now)) }
 {
     let text = job.plan().text.as_str();
     let lengths = job.cut().lengths();
@@ -181,6 +188,8 @@ pub fn encode(alloc: Global, job: &Job, answer: &Answer<Group>) -> Result<Vec<u8
     requires { Fits job.now answer.now }
     ensures { IfOk result (λ bytes. bytes.items ≡ spec.answer_bytes job.now answer.now) }
 {
+    // No effect at run time. The proof reads from this call that the job's text and cut are within
+    // their limits.
     let _plan = job.plan();
     let mut out = Vec::new(alloc);
     put_layout(&mut out, job, answer)?;

@@ -132,7 +132,8 @@ fn take_aggregates(
 
 #[tactic(auto, unfolding(crate::specs::LayoutReading::shape_at))]
 pub fn take_shape(alloc: Global, bytes: &[u8]) -> Result<(Shape, &[u8]), DecodeFault>
-    ensures { GivesIfMemory DecodeFault.Memory (λ x. (shape_in x.0, x.1.now)) result (reading.shape_at bytes.now) }
+    ensures { GivesIfMemory DecodeFault.Memory (λ x. (shape_in x.0, x.1.now)) result
+        (reading.shape_at bytes.now) }
 {
     let (count, rest) = take_u16(bytes)?;
     let (keys, rest) = take_types(alloc, count, rest)?;
@@ -143,7 +144,8 @@ pub fn take_shape(alloc: Global, bytes: &[u8]) -> Result<(Shape, &[u8]), DecodeF
 
 /// The bytes of so many lengths.
 fn take_lengths(count: u32, bytes: &[u8]) -> Result<(&[u8], &[u8]), DecodeFault>
-    ensures read { Reads (λ x. (words count x.0.now, x.1.now)) result (repeat_at reading.length_at count bytes.now) }
+    ensures read { Reads (λ x. (words count x.0.now, x.1.now)) result
+        (repeat_at reading.length_at count bytes.now) }
     ensures long { IfOk result (λ x. length x.0.now ≡ count * 4) }
 {
     let size = count as usize * 4;
@@ -156,7 +158,8 @@ fn take_lengths(count: u32, bytes: &[u8]) -> Result<(&[u8], &[u8]), DecodeFault>
 /// The fields that tell the job, and the bytes behind them.
 #[tactic(auto, unfolding(crate::specs::LayoutReading::job_at))]
 pub fn take_job(bytes: &[u8]) -> Result<(JobFields<'_>, &[u8]), DecodeFault>
-    ensures { KeepsIfMemory DecodeFault.Memory (λ x y. AreJobFields x.0 y.0 × (x.1.now ≡ y.1)) result (reading.job_at bytes.now) }
+    ensures { KeepsIfMemory DecodeFault.Memory (λ x y. AreJobFields x.0 y.0
+        × (x.1.now ≡ y.1)) result (reading.job_at bytes.now) }
 {
     let (load, rest) = take_u64(bytes)?;
     let (text, rest) = take_text(rest)?;
@@ -176,7 +179,8 @@ pub fn take_job(bytes: &[u8]) -> Result<(JobFields<'_>, &[u8]), DecodeFault>
 /// All fields up to the seal, and the bytes from there.
 #[tactic(auto, unfolding(crate::specs::LayoutReading::layout_at, crate::specs::Spelling::answer_magic))]
 pub fn take_layout(alloc: Global, bytes: &[u8]) -> Result<(Layout<'_>, &[u8]), DecodeFault>
-    ensures { KeepsIfMemory DecodeFault.Memory (λ x y. IsLayout x.0 y.0 × (x.1.now ≡ y.1)) result (reading.layout_at bytes.now) }
+    ensures { KeepsIfMemory DecodeFault.Memory (λ x y. IsLayout x.0 y.0
+        × (x.1.now ≡ y.1)) result (reading.layout_at bytes.now) }
 {
     let rest = skip_magic(&ANSWER_MAGIC, bytes)?;
     let (job, rest) = take_job(rest)?;

@@ -6,7 +6,8 @@ use meaning::cut::Cut;
 use meaning::plan::Plan;
 use std::marker::Model;
 
-/// What a query's answers are for: the load of the tables, the query's plan, and the cut of the fact table.
+/// What a query's answers are for: the load of the tables, the query's plan, and the cut of the
+/// fact table.
 #[derive(Drop)]
 pub struct Job {
     load: u64,
@@ -36,7 +37,9 @@ impl Job {
         requires { IsPlanOfJob plan }
         ensures { result ≡ record { load = load; plan = plan; cut = cut } }
     {
+        // No effect at run time. The proof reads from this call that the text is UTF-8.
         let _text = plan.text.as_str();
+        // No effect at run time. The proof reads from this call the limits of a cut.
         let _lengths = cut.lengths();
         Job { load, plan, cut }
     }

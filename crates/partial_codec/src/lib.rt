@@ -1,7 +1,8 @@
 //! Jobs, and as bytes the answers of fragments and the states of coordinators.
 //!
-//! An answer or a state has one spelling for a job, and each refusal of bytes tells the first thing from front to back
-//! that is wrong with them. `specs/` has the formats; `docs/FORMATS.md` tells them in words.
+//! An answer or a state has one spelling for a job, and each refusal of bytes tells the first thing
+//! from front to back that is wrong with them. `specs/` has the formats; `docs/FORMATS.md` tells
+//! them in words.
 #![tactic(auto)]
 
 mod body;

@@ -90,7 +90,8 @@ fn are_types_of(keys: &[GroupingKey], types: &[ColType]) -> bool
 
 /// Whether the aggregates have these shapes.
 fn are_shapes_of(aggregates: &[Aggregate], shapes: &[AggregateShape]) -> bool
-    ensures { result ≡ pointwise (λ s a. spec.is_same_aggregate s (spec.shape_of_aggregate a)) shapes.now aggregates.now }
+    ensures { result ≡ pointwise (λ s a. spec.is_same_aggregate s (spec.shape_of_aggregate a))
+        shapes.now aggregates.now }
 {
     if shapes.len() != aggregates.len() {
         return false;

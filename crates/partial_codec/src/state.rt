@@ -36,7 +36,8 @@ fn put_cell(out: &mut Vec<u8>, plan: &Plan, cell: &Cell<Group>) -> Result<(), Al
 
 fn put_cells(out: &mut Vec<u8>, plan: &Plan, cells: &[Cell<Group>]) -> Result<(), AllocError>
     requires { AllByRecursion (IsCell (shape_of plan.now)) cells.now }
-    ensures { OnOk result (out.new.items ≡ out.old.items ++ flat_map (cell_bytes (shape_of plan.now)) cells.now) }
+    ensures { OnOk result (out.new.items ≡ out.old.items
+        ++ flat_map (cell_bytes (shape_of plan.now)) cells.now) }
 {
     for cell in cells {
         put_cell(out, plan, cell)?;
@@ -48,7 +49,8 @@ fn put_cells(out: &mut Vec<u8>, plan: &Plan, cells: &[Cell<Group>]) -> Result<()
 #[tactic(auto, unfolding(crate::specs::State::state_layout_bytes, crate::specs::State::state_magic))]
 fn put_state_layout(out: &mut Vec<u8>, job: &Job, cells: &[Cell<Group>]) -> Result<(), AllocError>
     requires { AllByRecursion (IsCell (shape_of job.now.plan)) cells.now }
-    ensures { OnOk result (out.new.items ≡ out.old.items ++ state_layout_bytes (state_layout_of job.now cells.now)) }
+    ensures { OnOk result (out.new.items ≡ out.old.items
+        ++ state_layout_bytes (state_layout_of job.now cells.now)) }
 {
     let text = job.plan().text.as_str();
     let lengths = job.cut().lengths();
@@ -63,6 +65,8 @@ pub fn encode_state(alloc: Global, job: &Job, cells: &[Cell<Group>]) -> Result<V
     requires { FitsState job.now cells.now }
     ensures { IfOk result (λ bytes. bytes.items ≡ state_bytes job.now cells.now) }
 {
+    // No effect at run time. The proof reads from this call that the job's text and cut are within
+    // their limits.
     let _plan = job.plan();
     let mut out = Vec::new(alloc);
     put_state_layout(&mut out, job, cells)?;
@@ -72,9 +76,12 @@ pub fn encode_state(alloc: Global, job: &Job, cells: &[Cell<Group>]) -> Result<V
 
 #[tactic(auto, unfolding(crate::specs::State::judged_state))]
 fn judge_state(alloc: Global, job: &Job, bytes: &[u8]) -> Result<Vec<Cell<Group>>, DecodeFault>
-    ensures exact { GivesIfMemory DecodeFault.Memory (λ cells. cells.items) result (judged_state job.now bytes.now) }
+    ensures exact { GivesIfMemory DecodeFault.Memory (λ cells. cells.items) result
+        (judged_state job.now bytes.now) }
     ensures within_limits { IsJob job.now }
 {
+    // No effect at run time. The proof reads from this call that the job's text and cut are within
+    // their limits.
     let _plan = job.plan();
     let (layout, rest) = take_state_layout(alloc, bytes)?;
     let (seal, rest) = take_bytes(rest, SEAL_BYTES)?;
@@ -85,8 +92,8 @@ fn judge_state(alloc: Global, job: &Job, bytes: &[u8]) -> Result<Vec<Cell<Group>
 /// The cells that the bytes spell for the job, one for each fragment, or the first obstacle.
 ///
 /// The bytes are read from front to back; then come the seal, the job, the shape and all types; and
-/// then, fragment by fragment, the order of the groups and the numbers. Memory is taken for what was
-/// read alone, whatever counts the bytes tell.
+/// then, fragment by fragment, the order of the groups and the numbers. Memory is taken for what
+/// was read alone, whatever counts the bytes tell.
 pub fn decode_state(alloc: Global, job: &Job, bytes: &[u8]) -> Result<Vec<Cell<Group>>, DecodeFault>
     // What is given is spelled so.
     ensures spelled { IfOk result (λ cells. SpellsState job.now bytes.now cells.items) }
@@ -94,7 +101,8 @@ pub fn decode_state(alloc: Global, job: &Job, bytes: &[u8]) -> Result<Vec<Cell<G
     ensures complete { (cells : List ACell) → SpellsState job.now bytes.now cells →
         GivesIfMemory DecodeFault.Memory (λ given. given.items) result (Ok cells) }
     // Which obstacle it is.
-    ensures obstacle { IfErr result (λ e. e ≢ DecodeFault.Memory → state_obstacle job.now bytes.now ≡ Some e) }
+    ensures obstacle { IfErr result (λ e. e ≢ DecodeFault.Memory
+        → state_obstacle job.now bytes.now ≡ Some e) }
 {
     judge_state(alloc, job, bytes)
 }

@@ -38,7 +38,8 @@ fn check_body(
     body: &Body<Group>,
     are_sums_possible: bool,
 ) -> Result<(), DecodeFault>
-    ensures { Reads (λ done. done) result (holding.body_held_by plan.now first rows body.now are_sums_possible) }
+    ensures { Reads (λ done. done) result
+        (holding.body_held_by plan.now first rows body.now are_sums_possible) }
 {
     if !are_keys_ascending(body) {
         return Err(DecodeFault::UnsortedGroups);
@@ -59,7 +60,8 @@ fn check_cell(
     cell: &Cell<Group>,
     is_possible: bool,
 ) -> Result<(), DecodeFault>
-    ensures { Reads (λ done. done) result (holding.cell_held_by plan.now first rows cell.now is_possible) }
+    ensures { Reads (λ done. done) result
+        (holding.cell_held_by plan.now first rows cell.now is_possible) }
 {
     match cell {
         Cell::One(body) => check_body(plan, first, rows, body, is_possible),
@@ -71,7 +73,8 @@ fn check_cell(
 fn check_cells(job: &Job, cells: &[Cell<Group>], are_possible: &[bool]) -> Result<(), DecodeFault>
     requires fragments { length cells.now ≡ length job.now.cut }
     requires told { length are_possible.now ≡ length job.now.cut }
-    ensures { Reads (λ done. done) result (holding.cells_held_by job.now 0 cells.now are_possible.now) }
+    ensures { Reads (λ done. done) result
+        (holding.cells_held_by job.now 0 cells.now are_possible.now) }
 {
     let lengths = job.cut().lengths();
     let mut first: u64 = 0;

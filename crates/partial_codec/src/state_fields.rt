@@ -34,7 +34,8 @@ fn take_cell<'a>(
     shape: &Shape,
     bytes: &'a [u8],
 ) -> Result<(Cell<Group>, bool, &'a [u8]), DecodeFault>
-    ensures { KeepsIfMemory DecodeFault.Memory (λ x. IsKept kept_cell is_cell_possible x.0 x.1 x.2.now) result
+    ensures { KeepsIfMemory DecodeFault.Memory
+        (λ x. IsKept kept_cell is_cell_possible x.0 x.1 x.2.now) result
         (cell_at (shape_in shape.now) bytes.now) }
 {
     let (tag, rest) = take_u8(bytes)?;
@@ -55,7 +56,8 @@ fn take_cells<'a>(
     count: u32,
     bytes: &'a [u8],
 ) -> Result<(Vec<Cell<Group>>, Vec<bool>, &'a [u8]), DecodeFault>
-    ensures { KeepsIfMemory DecodeFault.Memory (λ x y. (x.0.items ≡ map kept_cell y.0) × (x.1.items ≡ map is_cell_possible y.0) × (x.2.now ≡ y.1)) result
+    ensures { KeepsIfMemory DecodeFault.Memory (λ x y. (x.0.items ≡ map kept_cell y.0)
+        × (x.1.items ≡ map is_cell_possible y.0) × (x.2.now ≡ y.1)) result
         (repeat_at (cell_at (shape_in shape.now)) count bytes.now) }
 {
     let mut cells = Vec::new(alloc);
@@ -76,7 +78,8 @@ pub fn take_state_layout(
     alloc: Global,
     bytes: &[u8],
 ) -> Result<(StateLayout<'_>, &[u8]), DecodeFault>
-    ensures { KeepsIfMemory DecodeFault.Memory (λ x y. IsStateLayout x.0 y.0 × (x.1.now ≡ y.1)) result (state_layout_at bytes.now) }
+    ensures { KeepsIfMemory DecodeFault.Memory (λ x y. IsStateLayout x.0 y.0
+        × (x.1.now ≡ y.1)) result (state_layout_at bytes.now) }
 {
     let rest = skip_magic(&STATE_MAGIC, bytes)?;
     let (job, rest) = take_job(rest)?;

@@ -18,6 +18,7 @@ fn text_value(alloc: Global, text: &str) -> Result<Value, AllocError>
     ensures value { IfOk result (λ v. v ≡ Value.Text text.now) }
     ensures spelled { IfOk result (λ v. is_spelled v ≡ true) }
 {
+    // No effect at run time. The proof reads from this call that the text is UTF-8.
     let _spelled = text.as_bytes();
     Ok(Value::Text(Text::new(alloc, text)?))
 }
@@ -25,7 +26,8 @@ fn text_value(alloc: Global, text: &str) -> Result<Value, AllocError>
 /// A value: NULL, an integer or a text.
 #[tactic(auto, unfolding(crate::specs::LayoutReading::value_at, crate::specs::LayoutReading::tagged_value_at))]
 pub fn take_value(alloc: Global, bytes: &[u8]) -> Result<(Value, &[u8]), DecodeFault>
-    ensures read { GivesIfMemory DecodeFault.Memory (λ x. (x.0, x.1.now)) result (value_at bytes.now) }
+    ensures read { GivesIfMemory DecodeFault.Memory (λ x. (x.0, x.1.now)) result
+        (value_at bytes.now) }
     ensures spelled { IfOk result (λ x. is_spelled x.0 ≡ true) }
 {
     let (tag, rest) = take_u8(bytes)?;

@@ -1,12 +1,11 @@
 //! Whether two expressions are equal.
-ghost use Rattle.std.specs.Prelude.{◌≡◌};
-ghost use Rattle.std.specs.Bool.{Decides};
+ghost use Rattle.std.specs.Prelude.{◌≡◌, ◌↔◌, IsTrue};
 
 use meaning::expr::{ArithmeticOperator, Arm, ComparisonOperator, Expr};
 use meaning::value::Value;
 
 fn is_same_arithmetic(a: ArithmeticOperator, b: ArithmeticOperator) -> bool
-    ensures { Decides result (a ≡ b) }
+    ensures { IsTrue result ↔ (a ≡ b) }
 {
     match (a, b) {
         (ArithmeticOperator::Add, ArithmeticOperator::Add)
@@ -18,7 +17,7 @@ fn is_same_arithmetic(a: ArithmeticOperator, b: ArithmeticOperator) -> bool
 }
 
 fn is_same_comparison(a: ComparisonOperator, b: ComparisonOperator) -> bool
-    ensures { Decides result (a ≡ b) }
+    ensures { IsTrue result ↔ (a ≡ b) }
 {
     match (a, b) {
         (ComparisonOperator::Equal, ComparisonOperator::Equal)
@@ -32,7 +31,7 @@ fn is_same_comparison(a: ComparisonOperator, b: ComparisonOperator) -> bool
 }
 
 fn is_same_value(a: &Value, b: &Value) -> bool
-    ensures { Decides result (a.now ≡ b.now) }
+    ensures { IsTrue result ↔ (a.now ≡ b.now) }
 {
     a == b
 }
@@ -40,7 +39,7 @@ fn is_same_value(a: &Value, b: &Value) -> bool
 /// Whether two expressions are equal, node by node.
 #[cycle(same)]
 pub fn is_same_expr(a: &Expr, b: &Expr) -> bool
-    ensures { Decides result (a.now ≡ b.now) }
+    ensures { IsTrue result ↔ (a.now ≡ b.now) }
 {
     match (a, b) {
         (Expr::Column(a), Expr::Column(b)) => a == b,
@@ -143,7 +142,7 @@ pub fn is_same_expr(a: &Expr, b: &Expr) -> bool
 /// Whether two lists of expressions are equal.
 #[cycle(same)]
 pub fn are_same_exprs(a: &[Expr], b: &[Expr]) -> bool
-    ensures { Decides result (a.now ≡ b.now) }
+    ensures { IsTrue result ↔ (a.now ≡ b.now) }
 {
     if a.len() != b.len() {
         return false;
@@ -158,14 +157,14 @@ pub fn are_same_exprs(a: &[Expr], b: &[Expr]) -> bool
 
 #[cycle(same)]
 fn is_same_arm(a: &Arm, b: &Arm) -> bool
-    ensures { Decides result (a.now ≡ b.now) }
+    ensures { IsTrue result ↔ (a.now ≡ b.now) }
 {
     is_same_expr(&a.when, &b.when) && is_same_expr(&a.then, &b.then)
 }
 
 #[cycle(same)]
 fn are_same_arms(a: &[Arm], b: &[Arm]) -> bool
-    ensures { Decides result (a.now ≡ b.now) }
+    ensures { IsTrue result ↔ (a.now ≡ b.now) }
 {
     if a.len() != b.len() {
         return false;

@@ -1,19 +1,18 @@
 //! Whether two plans are equal.
-ghost use Rattle.std.specs.Prelude.{◌≡◌};
-ghost use Rattle.std.specs.Bool.{Decides};
+ghost use Rattle.std.specs.Prelude.{◌≡◌, ◌↔◌, IsTrue};
 
 use crate::expressions::{are_same_exprs, is_same_expr};
 use meaning::expr::Expr;
 use meaning::plan::{Aggregate, ColumnUse, GroupingKey, Item, Join, OrderKey, Plan, TableUse};
 
 fn is_same_column(a: &ColumnUse, b: &ColumnUse) -> bool
-    ensures { Decides result (a.now ≡ b.now) }
+    ensures { IsTrue result ↔ (a.now ≡ b.now) }
 {
     a.place == b.place && a.name == b.name && a.col_type == b.col_type
 }
 
 fn are_same_columns(a: &[ColumnUse], b: &[ColumnUse]) -> bool
-    ensures { Decides result (a.now ≡ b.now) }
+    ensures { IsTrue result ↔ (a.now ≡ b.now) }
 {
     if a.len() != b.len() {
         return false;
@@ -27,19 +26,19 @@ fn are_same_columns(a: &[ColumnUse], b: &[ColumnUse]) -> bool
 }
 
 fn is_same_table(a: &TableUse, b: &TableUse) -> bool
-    ensures { Decides result (a.now ≡ b.now) }
+    ensures { IsTrue result ↔ (a.now ≡ b.now) }
 {
     a.name == b.name && are_same_columns(a.columns.as_slice(), b.columns.as_slice())
 }
 
 fn is_same_join(a: &Join, b: &Join) -> bool
-    ensures { Decides result (a.now ≡ b.now) }
+    ensures { IsTrue result ↔ (a.now ≡ b.now) }
 {
     a.foreign == b.foreign && a.key == b.key && is_same_table(&a.dim, &b.dim)
 }
 
 fn are_same_joins(a: &[Join], b: &[Join]) -> bool
-    ensures { Decides result (a.now ≡ b.now) }
+    ensures { IsTrue result ↔ (a.now ≡ b.now) }
 {
     if a.len() != b.len() {
         return false;
@@ -53,13 +52,13 @@ fn are_same_joins(a: &[Join], b: &[Join]) -> bool
 }
 
 fn is_same_key(a: &GroupingKey, b: &GroupingKey) -> bool
-    ensures { Decides result (a.now ≡ b.now) }
+    ensures { IsTrue result ↔ (a.now ≡ b.now) }
 {
     a.col_type == b.col_type && is_same_expr(&a.expr, &b.expr)
 }
 
 fn are_same_keys(a: &[GroupingKey], b: &[GroupingKey]) -> bool
-    ensures { Decides result (a.now ≡ b.now) }
+    ensures { IsTrue result ↔ (a.now ≡ b.now) }
 {
     if a.len() != b.len() {
         return false;
@@ -73,13 +72,13 @@ fn are_same_keys(a: &[GroupingKey], b: &[GroupingKey]) -> bool
 }
 
 fn is_same_aggregate(a: &Aggregate, b: &Aggregate) -> bool
-    ensures { Decides result (a.now ≡ b.now) }
+    ensures { IsTrue result ↔ (a.now ≡ b.now) }
 {
     a.kind == b.kind && a.col_type == b.col_type && is_same_expr(&a.argument, &b.argument)
 }
 
 fn are_same_aggregates(a: &[Aggregate], b: &[Aggregate]) -> bool
-    ensures { Decides result (a.now ≡ b.now) }
+    ensures { IsTrue result ↔ (a.now ≡ b.now) }
 {
     if a.len() != b.len() {
         return false;
@@ -93,13 +92,13 @@ fn are_same_aggregates(a: &[Aggregate], b: &[Aggregate]) -> bool
 }
 
 fn is_same_item(a: &Item, b: &Item) -> bool
-    ensures { Decides result (a.now ≡ b.now) }
+    ensures { IsTrue result ↔ (a.now ≡ b.now) }
 {
     a.header == b.header && is_same_expr(&a.expr, &b.expr)
 }
 
 fn are_same_items(a: &[Item], b: &[Item]) -> bool
-    ensures { Decides result (a.now ≡ b.now) }
+    ensures { IsTrue result ↔ (a.now ≡ b.now) }
 {
     if a.len() != b.len() {
         return false;
@@ -113,7 +112,7 @@ fn are_same_items(a: &[Item], b: &[Item]) -> bool
 }
 
 fn is_same_having(a: &Option<Expr>, b: &Option<Expr>) -> bool
-    ensures { Decides result (a.now ≡ b.now) }
+    ensures { IsTrue result ↔ (a.now ≡ b.now) }
 {
     match (a, b) {
         (None, None) => true,
@@ -123,13 +122,13 @@ fn is_same_having(a: &Option<Expr>, b: &Option<Expr>) -> bool
 }
 
 fn is_same_order_key(a: &OrderKey, b: &OrderKey) -> bool
-    ensures { Decides result (a.now ≡ b.now) }
+    ensures { IsTrue result ↔ (a.now ≡ b.now) }
 {
     a.item == b.item && a.descending == b.descending
 }
 
 fn are_same_order(a: &[OrderKey], b: &[OrderKey]) -> bool
-    ensures { Decides result (a.now ≡ b.now) }
+    ensures { IsTrue result ↔ (a.now ≡ b.now) }
 {
     if a.len() != b.len() {
         return false;
@@ -144,7 +143,9 @@ fn are_same_order(a: &[OrderKey], b: &[OrderKey]) -> bool
 
 /// Whether rows are taken alike: the tables, the conditions, the keys and the aggregates.
 fn is_same_front(a: &Plan, b: &Plan) -> bool
-    ensures { Decides result ((a.now.fact ≡ b.now.fact) × (a.now.joins ≡ b.now.joins) × (a.now.conjuncts ≡ b.now.conjuncts) × (a.now.keys ≡ b.now.keys) × (a.now.aggs ≡ b.now.aggs)) }
+    ensures { IsTrue result ↔ ((a.now.fact ≡ b.now.fact) × (a.now.joins ≡ b.now.joins)
+        × (a.now.conjuncts ≡ b.now.conjuncts) × (a.now.keys ≡ b.now.keys)
+        × (a.now.aggs ≡ b.now.aggs)) }
 {
     is_same_table(&a.fact, &b.fact)
         && are_same_joins(a.joins.as_slice(), b.joins.as_slice())
@@ -155,7 +156,8 @@ fn is_same_front(a: &Plan, b: &Plan) -> bool
 
 /// Whether groups are shown alike: HAVING, the items, their order and LIMIT.
 fn is_same_end(a: &Plan, b: &Plan) -> bool
-    ensures { Decides result ((a.now.having ≡ b.now.having) × (a.now.items ≡ b.now.items) × (a.now.order ≡ b.now.order) × (a.now.limit ≡ b.now.limit) × (a.now.plain ≡ b.now.plain)) }
+    ensures { IsTrue result ↔ ((a.now.having ≡ b.now.having) × (a.now.items ≡ b.now.items)
+        × (a.now.order ≡ b.now.order) × (a.now.limit ≡ b.now.limit) × (a.now.plain ≡ b.now.plain)) }
 {
     is_same_having(&a.having, &b.having)
         && are_same_items(a.items.as_slice(), b.items.as_slice())
@@ -166,7 +168,7 @@ fn is_same_end(a: &Plan, b: &Plan) -> bool
 
 /// Whether two plans are equal, their texts too.
 pub fn is_same_plan(a: &Plan, b: &Plan) -> bool
-    ensures { Decides result (a.now ≡ b.now) }
+    ensures { IsTrue result ↔ (a.now ≡ b.now) }
 {
     a.text == b.text && is_same_front(a, b) && is_same_end(a, b)
 }

@@ -73,7 +73,12 @@ fn over(
     kind: Aggregate,
     argument: &Expr,
 ) -> Result<plan::Aggregate, AllocError>
-    ensures { IfOk result (λ a. a ≡ record { kind = plan_kind kind; argument = expr_of scope.now argument.now; col_type = type_of_row scope.now argument.now }) }
+    ensures { IfOk result (λ a. a
+        ≡ record {
+          kind = plan_kind kind;
+          argument = expr_of scope.now argument.now;
+          col_type = type_of_row scope.now argument.now;
+        }) }
 {
     let kind = kind_of(kind);
     let col_type = row_type(scope, argument);
@@ -101,7 +106,11 @@ fn push(
     written: Sequence<i64>,
     out: &mut Aggregates,
 ) -> Result<(), AllocError>
-    ensures { OnOk result (out.new ≡ record { written = out.old.written ++ written ∷ []; list = out.old.list ++ aggregate_of scope.now expr.now ∷ [] }) }
+    ensures { OnOk result (out.new
+        ≡ record {
+          written = out.old.written ++ written ∷ [];
+          list = out.old.list ++ aggregate_of scope.now expr.now ∷ [];
+        }) }
 {
     out.written.push(written)?;
     let aggregate = plan_aggregate(alloc, scope, expr)?;
@@ -206,7 +215,8 @@ fn gather_arms(
     arms: &[Arm],
     out: &mut Aggregates,
 ) -> Result<(), AllocError>
-    ensures { OnOk result (out.new ≡ with_parts scope.now out.old (arm_parts (map arm_aggregates arms.now))) }
+    ensures { OnOk result (out.new
+        ≡ with_parts scope.now out.old (arm_parts (map arm_aggregates arms.now))) }
 {
     for arm in arms {
         gather(alloc, scope, &arm.condition, out)?;
@@ -222,7 +232,8 @@ fn gather_else(
     otherwise: &Option<Boxed<Expr>>,
     out: &mut Aggregates,
 ) -> Result<(), AllocError>
-    ensures { OnOk result (out.new ≡ with_parts scope.now out.old (option_to_list (option_map aggregates_in otherwise.now))) }
+    ensures { OnOk result (out.new
+        ≡ with_parts scope.now out.old (option_to_list (option_map aggregates_in otherwise.now))) }
 {
     match otherwise {
         Some(otherwise) => gather(alloc, scope, otherwise.get(), out),

@@ -64,7 +64,8 @@ fn check_keys(scope: &Scope, keys: &[Expr]) -> Result<(), PlanFault>
 }
 
 fn check_condition(scope: &Scope, barred: bool, condition: &Option<Expr>) -> Result<(), PlanFault>
-    ensures { result ≡ each_ok (map (condition_check scope.now barred) (option_to_list condition.now)) }
+    ensures { result ≡ each_ok
+        (map (condition_check scope.now barred) (option_to_list condition.now)) }
 {
     match condition {
         Some(condition) => truth(judge(scope, condition, barred)),

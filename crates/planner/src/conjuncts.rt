@@ -61,7 +61,8 @@ fn either(x: &Place, k: &Place) -> Option<Equality>
 }
 
 fn equal_columns(scope: &Scope, left: &Expr, right: &Expr) -> Option<Equality>
-    ensures { result ≡ equality_of (column_meant scope.now left.now) (column_meant scope.now right.now) }
+    ensures { result ≡ equality_of (column_meant scope.now left.now)
+        (column_meant scope.now right.now) }
 {
     match column_of(scope, left) {
         Some(left) => match column_of(scope, right) {
@@ -146,7 +147,8 @@ fn add_condition(
     condition: &Option<Expr>,
     out: &mut Conjuncts,
 ) -> Result<(), AllocError>
-    ensures { OnOk result (out.new ≡ with_conjuncts scope.now out.old (flat_map conjuncts_of (option_to_list condition.now))) }
+    ensures { OnOk result (out.new
+        ≡ with_conjuncts scope.now out.old (flat_map conjuncts_of (option_to_list condition.now))) }
 {
     match condition {
         Some(condition) => add_conjuncts(alloc, scope, condition, out),
@@ -160,7 +162,8 @@ fn add_ons(
     others: &[Joined],
     out: &mut Conjuncts,
 ) -> Result<(), AllocError>
-    ensures { OnOk result (out.new ≡ with_conjuncts scope.now out.old (flat_map conjuncts_of (on_trees others.now))) }
+    ensures { OnOk result (out.new
+        ≡ with_conjuncts scope.now out.old (flat_map conjuncts_of (on_trees others.now))) }
 {
     for joined in others {
         add_condition(alloc, scope, &joined.on, out)?;
@@ -175,7 +178,8 @@ pub fn add_all(
     query: &Query,
     out: &mut Conjuncts,
 ) -> Result<(), AllocError>
-    ensures { OnOk result (out.new ≡ with_conjuncts scope.now out.old (flat_map conjuncts_of (conditions query.now))) }
+    ensures { OnOk result (out.new
+        ≡ with_conjuncts scope.now out.old (flat_map conjuncts_of (conditions query.now))) }
 {
     add_ons(alloc, scope, query.source.others.as_slice(), out)?;
     add_condition(alloc, scope, &query.filter, out)

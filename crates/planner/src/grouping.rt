@@ -39,7 +39,8 @@ pub fn gather_items(
     items: &[Item],
     out: &mut Aggregates,
 ) -> Result<(), AllocError>
-    ensures { OnOk result (out.new ≡ with_parts scope.now out.old (map (λ i. aggregates_in i.expr) items.now)) }
+    ensures { OnOk result (out.new
+        ≡ with_parts scope.now out.old (map (λ i. aggregates_in i.expr) items.now)) }
 {
     for item in items {
         gather(alloc, scope, &item.expr, out)?;
@@ -54,7 +55,8 @@ pub fn gather_having(
     having: &Option<Expr>,
     out: &mut Aggregates,
 ) -> Result<(), AllocError>
-    ensures { OnOk result (out.new ≡ with_parts scope.now out.old (map aggregates_in (option_to_list having.now))) }
+    ensures { OnOk result (out.new
+        ≡ with_parts scope.now out.old (map aggregates_in (option_to_list having.now))) }
 {
     match having {
         Some(having) => gather(alloc, scope, having, out),

@@ -93,7 +93,8 @@ fn gather_all(
     out: &mut Aggregates,
 ) -> Result<(), PlanFault>
     requires { out.old ≡ none_gathered }
-    ensures { Tells (map_ok (λ _. out.new) result) (and_then (limits_check scope.now query.now) (λ _. Ok (all_aggregates scope.now query.now))) }
+    ensures { Tells (map_ok (λ _. out.new) result)
+        (and_then (limits_check scope.now query.now) (λ _. Ok (all_aggregates scope.now query.now))) }
 {
     match gather_items(alloc, scope, query.items.as_slice(), out) {
         Ok(()) => {}
@@ -114,7 +115,8 @@ fn gather_all(
 }
 
 fn aggregates(alloc: Global, scope: &Scope, query: &Query) -> Result<Aggregates, PlanFault>
-    ensures { Tells result (and_then (limits_check scope.now query.now) (λ _. Ok (all_aggregates scope.now query.now))) }
+    ensures { Tells result (and_then (limits_check scope.now query.now)
+        (λ _. Ok (all_aggregates scope.now query.now))) }
 {
     let mut out = no_aggregates(alloc);
     match gather_all(alloc, scope, query, &mut out) {
@@ -147,8 +149,14 @@ fn groups_from(
     keys: Keys,
     aggregates: Aggregates,
 ) -> Result<Grouped, PlanFault>
-    ensures { Tells result (and_then (shown_in scope.now query.now (Groups keys.written aggregates.written))
-        (λ shown. Ok (record { keys = keys.list; aggs = aggregates.list; plain = plain; shown = shown }))) }
+    ensures { Tells result (and_then
+        (shown_in scope.now query.now (Groups keys.written aggregates.written))
+        (λ shown. Ok (record {
+          keys = keys.list;
+          aggs = aggregates.list;
+          plain = plain;
+          shown = shown;
+        }))) }
 {
     let Keys {
         written: key_texts,
@@ -186,7 +194,8 @@ fn groups_given(
     aggregates: Aggregates,
 ) -> Result<Grouped, PlanFault>
     requires { aggregates ≡ all_aggregates scope.now query.now }
-    ensures { Tells result (and_then (shown_in scope.now query.now (basis_of scope.now query.now)) (λ shown. Ok (groups_with scope.now query.now shown))) }
+    ensures { Tells result (and_then (shown_in scope.now query.now (basis_of scope.now query.now))
+        (λ shown. Ok (groups_with scope.now query.now shown))) }
 {
     let grouped = is_grouped(query, &aggregates);
     match keys(alloc, scope, query, grouped) {

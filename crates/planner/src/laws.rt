@@ -30,7 +30,8 @@ pub fn plans_are_well_formed()
     ensures { PlansAreWellFormed }
 {}
 
-/// Queries that differ at most in which conditions stand behind ON have one plan but for its text, or one fault.
+/// Queries that differ at most in which conditions stand behind ON have one plan but for its text,
+/// or one fault.
 pub fn forms_agree()
     ensures { FormsAgree }
 {}

@@ -117,9 +117,12 @@ pub fn plan(alloc: Global, catalog: &Catalog, query: &Query) -> Result<Plan, Pla
     // A plan is the query's.
     ensures means { IfOk result (λ p. IsAPlanOf catalog.now query.now p) }
     // The plan of a query whose literals fit is typed.
-    ensures typed { IfOk result (λ p. has_only_fitting_literals query.now ≡ true → IsTypedOver catalog.now p) }
-    // The plan of a query that shows something and whose literals fit lists each column that it names.
-    ensures formed { IfOk result (λ p. has_only_fitting_literals query.now ≡ true → query.now.items ≢ [] → IsWellFormedPlan p) }
+    ensures typed { IfOk result (λ p. has_only_fitting_literals query.now ≡ true
+        → IsTypedOver catalog.now p) }
+    // The plan of a query that shows something and whose literals fit lists each column that it
+    // names.
+    ensures formed { IfOk result (λ p. has_only_fitting_literals query.now ≡ true
+        → query.now.items ≢ [] → IsWellFormedPlan p) }
 {
     plan_told(alloc, catalog, query)
 }

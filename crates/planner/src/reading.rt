@@ -55,7 +55,8 @@ fn in_conditions(place: &Place, query: &Query) -> bool
 }
 
 fn in_groups(place: &Place, query: &Query) -> bool
-    ensures { result ≡ (list_any (names_it place.now) query.now.group_by || list_any (names_it place.now) (option_to_list query.now.having)) }
+    ensures { result ≡ (list_any (names_it place.now) query.now.group_by || list_any
+        (names_it place.now) (option_to_list query.now.having)) }
 {
     in_trees(place, query.group_by.as_slice()) || in_condition(place, &query.having)
 }
@@ -103,7 +104,8 @@ fn push_use(
     place: &Place,
     out: &mut Sequence<ColumnUse>,
 ) -> Result<(), AllocError>
-    ensures { OnOk result (out.new ≡ out.old ++ map use_of (filter (read_in query.now join) (place.now ∷ []))) }
+    ensures { OnOk result (out.new ≡ out.old
+        ++ map use_of (filter (read_in query.now join) (place.now ∷ []))) }
 {
     if is_read(query, join, place) {
         let column = column_use(place)?;
@@ -118,7 +120,8 @@ fn push_uses(
     columns: &[Place],
     out: &mut Sequence<ColumnUse>,
 ) -> Result<(), AllocError>
-    ensures { OnOk result (out.new ≡ out.old ++ map use_of (filter (read_in query.now join) columns.now)) }
+    ensures { OnOk result (out.new ≡ out.old
+        ++ map use_of (filter (read_in query.now join) columns.now)) }
 {
     for place in columns {
         push_use(query, join, place, out)?;
@@ -208,7 +211,8 @@ pub fn push_joins(
     equalities: &[Equality],
     out: &mut Sequence<Join>,
 ) -> Result<(), PlanFault>
-    ensures { Tells (map_ok (λ _. out.new) result) (map_ok (λ js. out.old ++ js) (joins_of scope.now query.now equalities.now)) }
+    ensures { Tells (map_ok (λ _. out.new) result)
+        (map_ok (λ js. out.old ++ js) (joins_of scope.now query.now equalities.now)) }
 {
     for (place, dim) in scope.dims.as_slice().iter().enumerate() {
         match put_join(join_at(alloc, scope, query, equalities, place, dim), out) {

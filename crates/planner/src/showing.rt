@@ -61,7 +61,8 @@ fn over_group(
 }
 
 fn with_name(expr: expr::Expr, header: Result<Text, AllocError>) -> Result<plan::Item, PlanFault>
-    ensures { (name : List ℕ) → IfOk header (λ t. t ≡ name) → Tells result (Ok (with_header name expr)) }
+    ensures { (name : List ℕ) → IfOk header (λ t. t ≡ name)
+        → Tells result (Ok (with_header name expr)) }
 {
     match header {
         Ok(header) => Ok(plan::Item { header, expr }),
@@ -111,7 +112,8 @@ pub fn push_items(
     items: &[Item],
     out: &mut Sequence<plan::Item>,
 ) -> Result<(), PlanFault>
-    ensures { Tells (map_ok (λ _. out.new) result) (map_ok (λ is. out.old ++ is) (items_of scope.now basis.now items.now)) }
+    ensures { Tells (map_ok (λ _. out.new) result)
+        (map_ok (λ is. out.old ++ is) (items_of scope.now basis.now items.now)) }
 {
     for (place, item) in items.iter().enumerate() {
         match put_item(item_at(alloc, scope, basis, place, item), out) {
@@ -161,7 +163,8 @@ fn count_named(items: &[Item], name: &Text) -> usize
 }
 
 fn item_named(items: &[Item], name: &Text) -> Result<usize, PlanFault>
-    ensures { result ≡ one_named (position (goes_by name.now) items.now) (length (filter (goes_by name.now) items.now)) }
+    ensures { result ≡ one_named (position (goes_by name.now) items.now)
+        (length (filter (goes_by name.now) items.now)) }
 {
     let count = count_named(items, name);
     match first_named(items, name) {
@@ -234,7 +237,8 @@ pub fn push_order(
     keys: &[OrderKey],
     out: &mut Sequence<plan::OrderKey>,
 ) -> Result<(), PlanFault>
-    ensures { Tells (map_ok (λ _. out.new) result) (map_ok (λ ks. out.old ++ ks) (ordered items.now keys.now)) }
+    ensures { Tells (map_ok (λ _. out.new) result)
+        (map_ok (λ ks. out.old ++ ks) (ordered items.now keys.now)) }
 {
     for key in keys {
         match put_key(key_for(items, key), out) {

@@ -54,7 +54,8 @@ fn tables_from(
     joins: Sequence<Join>,
     conjuncts: Conjuncts,
 ) -> Result<Tables, PlanFault>
-    ensures { (t : plan_table.TableUse) → IfOk fact (λ f. f ≡ t) → Tells result (Ok (record { fact = t; joins = joins; conjuncts = conjuncts.plain })) }
+    ensures { (t : plan_table.TableUse) → IfOk fact (λ f. f ≡ t)
+        → Tells result (Ok (record { fact = t; joins = joins; conjuncts = conjuncts.plain })) }
 {
     let Conjuncts { equalities, plain } = conjuncts;
     drop(equalities);

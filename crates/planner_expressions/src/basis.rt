@@ -86,7 +86,8 @@ pub fn written(alloc: Global, scope: &Scope, expr: &tree::Expr) -> Result<Sequen
     }
 }
 
-/// What stands for the expression, if anything does. It is written out only where a key or an aggregate begins as it does.
+/// What stands for the expression, if anything does. It is written out only where a key or an
+/// aggregate begins as it does.
 pub fn given(
     alloc: Global,
     scope: &Scope,

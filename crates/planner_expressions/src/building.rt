@@ -75,7 +75,8 @@ fn two(
     left: Result<Option<Expr>, AllocError>,
     right: Result<Option<Expr>, AllocError>,
 ) -> Result<Option<(Boxed<Expr>, Boxed<Expr>)>, AllocError>
-    ensures { (a b : Option plan.Expr) → IfOk left (λ x. x ≡ a) → IfOk right (λ x. x ≡ b) → IfOk result (λ x. x ≡ pair_some a b) }
+    ensures { (a b : Option plan.Expr) → IfOk left (λ x. x ≡ a) → IfOk right (λ x. x ≡ b)
+        → IfOk result (λ x. x ≡ pair_some a b) }
 {
     match left {
         Ok(Some(left)) => match right {
@@ -107,7 +108,8 @@ pub fn minus(
     alloc: Global,
     part: Result<Option<Expr>, AllocError>,
 ) -> Result<Option<Expr>, AllocError>
-    ensures { (a : Option plan.Expr) → IfOk part (λ x. x ≡ a) → IfOk result (λ x. x ≡ option_map (λ y. expr.Minus y) a) }
+    ensures { (a : Option plan.Expr) → IfOk part (λ x. x ≡ a)
+        → IfOk result (λ x. x ≡ option_map (λ y. expr.Minus y) a) }
 {
     match one(alloc, part) {
         Ok(Some(part)) => Ok(Some(Expr::Minus(part))),
@@ -120,7 +122,8 @@ pub fn not(
     alloc: Global,
     part: Result<Option<Expr>, AllocError>,
 ) -> Result<Option<Expr>, AllocError>
-    ensures { (a : Option plan.Expr) → IfOk part (λ x. x ≡ a) → IfOk result (λ x. x ≡ option_map (λ y. expr.Not y) a) }
+    ensures { (a : Option plan.Expr) → IfOk part (λ x. x ≡ a)
+        → IfOk result (λ x. x ≡ option_map (λ y. expr.Not y) a) }
 {
     match one(alloc, part) {
         Ok(Some(part)) => Ok(Some(Expr::Not(part))),
@@ -134,7 +137,8 @@ pub fn is_null(
     negated: bool,
     part: Result<Option<Expr>, AllocError>,
 ) -> Result<Option<Expr>, AllocError>
-    ensures { (a : Option plan.Expr) → IfOk part (λ x. x ≡ a) → IfOk result (λ x. x ≡ option_map (λ y. expr.IsNull negated y) a) }
+    ensures { (a : Option plan.Expr) → IfOk part (λ x. x ≡ a)
+        → IfOk result (λ x. x ≡ option_map (λ y. expr.IsNull negated y) a) }
 {
     match one(alloc, part) {
         Ok(Some(part)) => Ok(Some(Expr::IsNull {
@@ -152,7 +156,8 @@ pub fn like(
     part: Result<Option<Expr>, AllocError>,
     pattern: &Text,
 ) -> Result<Option<Expr>, AllocError>
-    ensures { (a : Option plan.Expr) → IfOk part (λ x. x ≡ a) → IfOk result (λ x. x ≡ option_map (λ y. expr.Like negated y pattern.now) a) }
+    ensures { (a : Option plan.Expr) → IfOk part (λ x. x ≡ a)
+        → IfOk result (λ x. x ≡ option_map (λ y. expr.Like negated y pattern.now) a) }
 {
     match one(alloc, part) {
         Ok(Some(part)) => match pattern.clone() {
@@ -252,7 +257,8 @@ pub fn between(
     low: Result<Option<Expr>, AllocError>,
     high: Result<Option<Expr>, AllocError>,
 ) -> Result<Option<Expr>, AllocError>
-    ensures { (a b c : Option plan.Expr) → IfOk subject (λ x. x ≡ a) → IfOk low (λ x. x ≡ b) → IfOk high (λ x. x ≡ c) →
+    ensures { (a b c : Option plan.Expr) → IfOk subject (λ x. x ≡ a) → IfOk low (λ x. x ≡ b)
+        → IfOk high (λ x. x ≡ c) →
         IfOk result (λ x. x ≡ three_some (λ u v w. expr.Between negated u v w) a b c) }
 {
     let bounds = two(alloc, low, high);
@@ -294,7 +300,8 @@ pub fn listed(
     subject: Result<Option<Expr>, AllocError>,
     entries: Result<Option<Sequence<Expr>>, AllocError>,
 ) -> Result<Option<Expr>, AllocError>
-    ensures { (a : Option plan.Expr) (b : Option (List plan.Expr)) → IfOk subject (λ x. x ≡ a) → IfOk entries (λ x. x ≡ b) →
+    ensures { (a : Option plan.Expr) (b : Option (List plan.Expr)) → IfOk subject (λ x. x ≡ a)
+        → IfOk entries (λ x. x ≡ b) →
         IfOk result (λ x. x ≡ two_some (λ y z. expr.In negated y z) a b) }
 {
     match one(alloc, subject) {
@@ -330,7 +337,8 @@ pub fn listed(
 pub fn coalesce(
     entries: Result<Option<Sequence<Expr>>, AllocError>,
 ) -> Result<Option<Expr>, AllocError>
-    ensures { (a : Option (List plan.Expr)) → IfOk entries (λ x. x ≡ a) → IfOk result (λ x. x ≡ option_map (λ y. expr.Coalesce y) a) }
+    ensures { (a : Option (List plan.Expr)) → IfOk entries (λ x. x ≡ a)
+        → IfOk result (λ x. x ≡ option_map (λ y. expr.Coalesce y) a) }
 {
     match entries {
         Ok(Some(entries)) => Ok(Some(Expr::Coalesce(entries))),
@@ -345,7 +353,8 @@ pub fn case(
     arms: Result<Option<Sequence<Arm>>, AllocError>,
     otherwise: Result<Option<Expr>, AllocError>,
 ) -> Result<Option<Expr>, AllocError>
-    ensures { (a : Option (List Arm)) (b : Option plan.Expr) → IfOk arms (λ x. x ≡ a) → IfOk otherwise (λ x. x ≡ b) →
+    ensures { (a : Option (List Arm)) (b : Option plan.Expr) → IfOk arms (λ x. x ≡ a)
+        → IfOk otherwise (λ x. x ≡ b) →
         IfOk result (λ x. x ≡ two_some (λ y z. expr.Case y z) a b) }
 {
     match arms {
@@ -379,7 +388,8 @@ pub fn arm(
     when: Result<Option<Expr>, AllocError>,
     value: Result<Option<Expr>, AllocError>,
 ) -> Result<Option<Arm>, AllocError>
-    ensures { (a b : Option plan.Expr) → IfOk when (λ x. x ≡ a) → IfOk value (λ x. x ≡ b) → IfOk result (λ x. x ≡ arm_of (a, b)) }
+    ensures { (a b : Option plan.Expr) → IfOk when (λ x. x ≡ a) → IfOk value (λ x. x ≡ b)
+        → IfOk result (λ x. x ≡ arm_of (a, b)) }
 {
     match when {
         Ok(Some(when)) => match value {

@@ -13,7 +13,8 @@ pub fn put(
     part: Result<Option<Expr>, AllocError>,
     out: &mut Sequence<Expr>,
 ) -> Result<bool, AllocError>
-    ensures { (a : Option plan.Expr) → IfOk part (λ x. x ≡ a) → IfOk result (λ there. if_all there out.new ≡ option_map (λ y. out.old ++ y ∷ []) a) }
+    ensures { (a : Option plan.Expr) → IfOk part (λ x. x ≡ a)
+        → IfOk result (λ there. if_all there out.new ≡ option_map (λ y. out.old ++ y ∷ []) a) }
 {
     match part {
         Ok(Some(part)) => {
@@ -30,7 +31,8 @@ pub fn put_arm(
     part: Result<Option<Arm>, AllocError>,
     out: &mut Sequence<Arm>,
 ) -> Result<bool, AllocError>
-    ensures { (a : Option plan_arm.Arm) → IfOk part (λ x. x ≡ a) → IfOk result (λ there. if_all there out.new ≡ option_map (λ y. out.old ++ y ∷ []) a) }
+    ensures { (a : Option plan_arm.Arm) → IfOk part (λ x. x ≡ a)
+        → IfOk result (λ there. if_all there out.new ≡ option_map (λ y. out.old ++ y ∷ []) a) }
 {
     match part {
         Ok(Some(part)) => {

@@ -94,7 +94,8 @@ fn add_fact(scope: &mut Scope, name: &Text, table: &Table) -> Result<(), AllocEr
 }
 
 fn dim_of(dimension: &Dimension) -> Result<Dim, AllocError>
-    ensures { IfOk result (λ d. d ≡ record { name = dimension.now.table.name; key = dimension.now.key }) }
+    ensures { IfOk result (λ d. d
+        ≡ record { name = dimension.now.table.name; key = dimension.now.key }) }
 {
     Ok(Dim {
         name: dimension.table.name.clone()?,
@@ -133,7 +134,8 @@ fn is_taken(scope: &Scope, name: &Text) -> bool
 
 /// Puts the columns of a table behind the others, if the catalogue has it.
 fn add_table(scope: &mut Scope, catalog: &Catalog, table: &tree::Table) -> Result<bool, AllocError>
-    ensures { IfOk result (λ there. if_there there scope.new ≡ with_table catalog.now scope.old table.now) }
+    ensures { IfOk result (λ there. if_there there scope.new
+        ≡ with_table catalog.now scope.old table.now) }
 {
     if catalog.fact.name.as_str() == table.name.as_str() {
         add_fact(scope, name_of(table), &catalog.fact)?;

@@ -15,7 +15,8 @@ use crate::sort_rules::{
 };
 use sql_syntax::tree::{Arm, Expr};
 
-/// The sort of the expression, or its first fault; where aggregates are barred none may stand in it.
+/// The sort of the expression, or its first fault; where aggregates are barred none may stand in
+/// it.
 #[cycle(judge)]
 pub fn judge(scope: &Scope, expr: &Expr, barred: bool) -> Result<Sort, PlanFault>
     ensures { result ≡ judged scope.now expr.now barred }
@@ -113,7 +114,8 @@ fn judge_entries(
     barred: bool,
     known: Likeness,
 ) -> Result<Likeness, PlanFault>
-    ensures { result ≡ map_ok (behind known) (all_ok (each barred (map (judged scope.now) entries.now))) }
+    ensures { result ≡ map_ok (behind known)
+        (all_ok (each barred (map (judged scope.now) entries.now))) }
 {
     let mut known = known;
     for entry in entries {
@@ -125,7 +127,8 @@ fn judge_entries(
 /// What is known of the arms.
 #[cycle(judge)]
 fn judge_arms(scope: &Scope, arms: &[Arm], barred: bool) -> Result<ArmSorts, PlanFault>
-    ensures { result ≡ map_ok (with_arms (record { truths = true; values = fresh })) (all_ok (each_arm barred (map (judged_arm scope.now) arms.now))) }
+    ensures { result ≡ map_ok (with_arms (record { truths = true; values = fresh }))
+        (all_ok (each_arm barred (map (judged_arm scope.now) arms.now))) }
 {
     let mut known = ArmSorts {
         truths: true,

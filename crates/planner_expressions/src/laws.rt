@@ -8,7 +8,8 @@ pub fn rows_mean()
     ensures { RowsMean }
 {}
 
-/// Over groups the plan's expression gives what the tree gives, where parts that are keys or aggregates have their values.
+/// Over groups the plan's expression gives what the tree gives, where parts that are keys or
+/// aggregates have their values.
 pub fn groups_mean()
     ensures { GroupsMean }
 {}
@@ -18,7 +19,8 @@ pub fn rows_translate()
     ensures { RowsTranslate }
 {}
 
-/// What has no fault where no aggregate may stand, and has literals that fit, has an expression of its sort's type.
+/// What has no fault where no aggregate may stand, and has literals that fit, has an expression of
+/// its sort's type.
 pub fn rows_are_typed()
     ensures { RowsAreTyped }
 {}

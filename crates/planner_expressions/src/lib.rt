@@ -1,5 +1,5 @@
-//! The expressions of a query with their names looked up: which tables and columns FROM has, of which sort an expression
-//! is, which expressions are the same, and what each becomes in a plan.
+//! The expressions of a query with their names looked up: which tables and columns FROM has, of
+//! which sort an expression is, which expressions are the same, and what each becomes in a plan.
 #![tactic(auto)]
 
 pub mod basis;

@@ -33,8 +33,8 @@ pub enum Times {
     Often,
 }
 
-/// The tables of FROM: the names that they go by, how often the fact is named, the dimensions, and all columns of all
-/// tables.
+/// The tables of FROM: the names that they go by, how often the fact is named, the dimensions, and
+/// all columns of all tables.
 #[derive(Drop)]
 pub struct Scope {
     pub names: Sequence<Text>,

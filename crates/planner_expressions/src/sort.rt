@@ -100,7 +100,8 @@ impl Likeness {
     }
 }
 
-/// What is known of the arms of a CASE: whether all conditions are truths, and what their values are.
+/// What is known of the arms of a CASE: whether all conditions are truths, and what their values
+/// are.
 #[derive(Clone, Copy)]
 pub struct ArmSorts {
     pub truths: bool,

@@ -102,7 +102,8 @@ pub fn both(
     right: Result<Sort, PlanFault>,
     gives: Sort,
 ) -> Result<Sort, PlanFault>
-    ensures { result ≡ two left right (λ x y. typed (same_sort wanted x && same_sort wanted y) gives) }
+    ensures { result ≡ two left right
+        (λ x y. typed (same_sort wanted x && same_sort wanted y) gives) }
 {
     match left {
         Ok(left) => match right {
@@ -134,7 +135,8 @@ pub fn between(
     low: Result<Sort, PlanFault>,
     high: Result<Sort, PlanFault>,
 ) -> Result<Sort, PlanFault>
-    ensures { result ≡ and_then subject (λ x. two low high (λ y z. typed (are_alike (x ∷ y ∷ z ∷ [])) sort.Truth)) }
+    ensures { result ≡ and_then subject
+        (λ x. two low high (λ y z. typed (are_alike (x ∷ y ∷ z ∷ [])) sort.Truth)) }
 {
     match subject {
         Ok(subject) => match low {
@@ -180,7 +182,9 @@ pub fn without_else(arms: ArmSorts) -> Result<Sort, PlanFault>
 
 /// CASE with ELSE
 pub fn with_else(arms: ArmSorts, otherwise: Result<Sort, PlanFault>) -> Result<Sort, PlanFault>
-    ensures { result ≡ and_then otherwise (λ s. typed (arms.truths && (added arms.values s).alike) (first_known (added arms.values s).first)) }
+    ensures { result ≡ and_then otherwise
+        (λ s. typed (arms.truths && (added arms.values s).alike)
+        (first_known (added arms.values s).first)) }
 {
     match otherwise {
         Ok(sort) => without_else(ArmSorts {

@@ -35,7 +35,8 @@ fn put_column(
     name: &Text,
     out: &mut Sequence<i64>,
 ) -> Result<(), AllocError>
-    ensures { OnOk result (out.new ≡ out.old ++ column_code (stands_for scope.now table.now name.now)) }
+    ensures { OnOk result (out.new ≡ out.old
+        ++ column_code (stands_for scope.now table.now name.now)) }
 {
     match look_up(scope, table, name) {
         Ok(place) => put_place(place, out),
@@ -219,7 +220,8 @@ fn spell_else(
     otherwise: &Option<Boxed<Expr>>,
     out: &mut Sequence<i64>,
 ) -> Result<(), AllocError>
-    ensures { OnOk result (out.new ≡ out.old ++ else_code (option_map (spelled scope.now) otherwise.now)) }
+    ensures { OnOk result (out.new ≡ out.old
+        ++ else_code (option_map (spelled scope.now) otherwise.now)) }
 {
     match otherwise {
         Some(otherwise) => {

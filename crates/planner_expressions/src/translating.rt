@@ -143,7 +143,8 @@ fn translate_else(
     basis: &Basis,
     otherwise: &Option<Boxed<Expr>>,
 ) -> Result<Option<expr::Expr>, AllocError>
-    ensures { IfOk result (λ x. x ≡ else_of (option_map (translated (given_in scope.now basis.now)) otherwise.now)) }
+    ensures { IfOk result (λ x. x
+        ≡ else_of (option_map (translated (given_in scope.now basis.now)) otherwise.now)) }
 {
     match otherwise {
         Some(otherwise) => translate(alloc, scope, basis, otherwise.get()),
@@ -158,7 +159,8 @@ fn translate_entries(
     basis: &Basis,
     entries: &[Expr],
 ) -> Result<Option<Sequence<expr::Expr>>, AllocError>
-    ensures { IfOk result (λ x. x ≡ all_some (map (translated (given_in scope.now basis.now)) entries.now)) }
+    ensures { IfOk result (λ x. x
+        ≡ all_some (map (translated (given_in scope.now basis.now)) entries.now)) }
 {
     let mut list = Sequence::new(alloc);
     let all = push_entries(alloc, scope, basis, entries, &mut list);
@@ -174,7 +176,9 @@ fn push_entries(
     entries: &[Expr],
     out: &mut Sequence<expr::Expr>,
 ) -> Result<bool, AllocError>
-    ensures { IfOk result (λ all. if_all all out.new ≡ option_map (λ xs. out.old ++ xs) (all_some (map (translated (given_in scope.now basis.now)) entries.now))) }
+    ensures { IfOk result (λ all. if_all all out.new
+        ≡ option_map (λ xs. out.old ++ xs)
+        (all_some (map (translated (given_in scope.now basis.now)) entries.now))) }
 {
     for entry in entries {
         if !put(translate(alloc, scope, basis, entry), out)? {
@@ -191,7 +195,8 @@ fn translate_arms(
     basis: &Basis,
     arms: &[Arm],
 ) -> Result<Option<Sequence<expr::Arm>>, AllocError>
-    ensures { IfOk result (λ x. x ≡ all_some (map arm_of (map (translated_arm (given_in scope.now basis.now)) arms.now))) }
+    ensures { IfOk result (λ x. x
+        ≡ all_some (map arm_of (map (translated_arm (given_in scope.now basis.now)) arms.now))) }
 {
     let mut list = Sequence::new(alloc);
     let all = push_arms(alloc, scope, basis, arms, &mut list);
@@ -207,7 +212,9 @@ fn push_arms(
     arms: &[Arm],
     out: &mut Sequence<expr::Arm>,
 ) -> Result<bool, AllocError>
-    ensures { IfOk result (λ all. if_all all out.new ≡ option_map (λ xs. out.old ++ xs) (all_some (map arm_of (map (translated_arm (given_in scope.now basis.now)) arms.now)))) }
+    ensures { IfOk result (λ all. if_all all out.new
+        ≡ option_map (λ xs. out.old ++ xs)
+        (all_some (map arm_of (map (translated_arm (given_in scope.now basis.now)) arms.now)))) }
 {
     for arm_here in arms {
         let when = translate(alloc, scope, basis, &arm_here.condition);

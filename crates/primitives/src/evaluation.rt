@@ -20,9 +20,10 @@ use vectors::vector::Vector;
 
 /// What the expression gives on each selected row of the batch, as one vector.
 ///
-/// The fault of the least selected position that has one goes to `fault`, unless one at that position or before is held there.
-/// Each selected lane before the fault that is then held is what evaluation gives on its row; the others are open. Types fit
-/// where the expression has a type over the batch's columns, and these are there.
+/// The fault of the least selected position that has one goes to `fault`, unless one at that
+/// position or before is held there. Each selected lane before the fault that is then held is what
+/// evaluation gives on its row; the others are open. Types fit where the expression has a type over
+/// the batch's columns, and these are there.
 pub fn eval_vec<'a>(
     alloc: Global,
     expr: &'a Expr,
@@ -31,12 +32,16 @@ pub fn eval_vec<'a>(
     fault: &mut Fault1,
 ) -> Result<Vector<'a>, AllocError>
     requires { selection.now.below ≡ batch.now.rows }
-    ensures evaluated { IfOk result (λ v. (types : RowTypes) (type : ExprType) (rows : List JoinedRow)
+    ensures evaluated { IfOk result
+        (λ v. (types : RowTypes) (type : ExprType) (rows : List JoinedRow)
         → AreTypedRows types batch.now rows → Fits types batch.now.columns expr.now type
-        → IsEvaluated (meant_at expr.now rows) selection.now.list fault.old.held fault.new.held (lane_of v)) }
-    ensures composes { IfOk result (λ v. (types : RowTypes) (type : ExprType) (rows : List JoinedRow)
+        → IsEvaluated (meant_at expr.now rows) selection.now.list fault.old.held fault.new.held
+        (lane_of v)) }
+    ensures composes { IfOk result
+        (λ v. (types : RowTypes) (type : ExprType) (rows : List JoinedRow)
         → AreTypedRows types batch.now rows → Fits types batch.now.columns expr.now type
-        → Evaluates (meant_at expr.now rows) (λ i. is_among selection.now.list i ≡ true) fault.old.held fault.new.held (lane_of v)) }
+        → Evaluates (meant_at expr.now rows) (λ i. is_among selection.now.list i ≡ true)
+        fault.old.held fault.new.held (lane_of v)) }
     ensures typed { IfOk result (λ v. (types : RowTypes) (type : ExprType) (rows : List JoinedRow)
         → AreTypedRows types batch.now rows → Fits types batch.now.columns expr.now type
         → IsOfType type v) }

@@ -1,4 +1,5 @@
-//! The nodes of an expression: each part is evaluated on the lanes on which what stands before it leaves it needed.
+//! The nodes of an expression: each part is evaluated on the lanes on which what stands before it
+//! leaves it needed.
 ghost use Rattle.std.specs.Prelude.{◌≡◌, ◌<◌, ℕ, true, List, map, All, Ok, IfOk};
 ghost use Rattle.meaning.specs.declared.joined_row.JoinedRow.{JoinedRow};
 ghost use Rattle.meaning.specs.declared.outcome.Outcome.{Outcome};
@@ -46,9 +47,11 @@ pub fn eval<'a>(
     ensures long { IfOk result (IsLong batch.now.rows) }
     ensures gives { IfOk result (λ g. (types : RowTypes) (type : ExprType) (rows : List JoinedRow)
         → AreTypedRows types batch.now rows → Fits types batch.now.columns expr.now type
-        → Gives type (meant_at expr.now rows) (IsWithin selection.now) fault.old.held fault.new.held g) }
+        → Gives type (meant_at expr.now rows) (IsWithin selection.now) fault.old.held fault.new.held
+        g) }
 {
-    // A function clears room for all its locals when it begins, so columns and literals don't begin that of the other nodes.
+    // A function clears room for all its locals when it begins, so columns and literals don't begin
+    // that of the other nodes.
     match expr {
         Expr::Column(column) => Ok(lent_column(batch, Place::Fact { column: *column })),
         Expr::Literal(value) => Ok(repeated(value, batch.rows())),
@@ -69,7 +72,8 @@ fn eval_node<'a>(
     ensures long { IfOk result (IsLong batch.now.rows) }
     ensures gives { IfOk result (λ g. (types : RowTypes) (type : ExprType) (rows : List JoinedRow)
         → AreTypedRows types batch.now rows → Fits types batch.now.columns expr.now type
-        → Gives type (meant_at expr.now rows) (IsWithin selection.now) fault.old.held fault.new.held g) }
+        → Gives type (meant_at expr.now rows) (IsWithin selection.now) fault.old.held fault.new.held
+        g) }
 {
     match expr {
         Expr::Column(column) => Ok(lent_column(batch, Place::Fact { column: *column })),
@@ -188,7 +192,8 @@ fn not_if_known<'a>(
     requires { IfOk given (IsLong lanes) }
     ensures long { IfOk result (IsLong lanes) }
     ensures value { IfOk result (AreNegatedIf negated lanes given.entry) }
-    ensures kind { IfOk given.entry (λ a. is_of_kind Boolean a ≡ true) → IfOk result (λ g. is_of_kind Boolean g ≡ true) }
+    ensures kind { IfOk given.entry (λ a. is_of_kind Boolean a ≡ true)
+        → IfOk result (λ g. is_of_kind Boolean g ≡ true) }
 {
     not_if(alloc, negated, given?, lanes)
 }
@@ -201,7 +206,9 @@ fn of_minus<'a>(
 ) -> Result<Given<'a>, AllocError>
     requires { IsLong selection.now.below a }
     ensures long { IfOk result (IsLong selection.now.below) }
-    ensures exact { is_of_kind (Valued of_type.Int) a.entry ≡ true → IfOk result (λ g. Evaluates (λ i. minus_of (given_at a.entry i)) (IsWithin selection.now) fault.old.held fault.new.held (given_at g)) }
+    ensures exact { is_of_kind (Valued of_type.Int) a.entry ≡ true
+        → IfOk result (λ g. Evaluates (λ i. minus_of (given_at a.entry i)) (IsWithin selection.now)
+        fault.old.held fault.new.held (given_at g)) }
     ensures kind { IfOk result (λ g. is_of_kind (Valued of_type.Int) g ≡ true) }
 {
     let result = minus(alloc, &a, selection, fault);
@@ -212,7 +219,8 @@ fn of_minus<'a>(
 fn of_not<'a>(alloc: Global, a: Given<'a>, lanes: usize) -> Result<Given<'a>, AllocError>
     requires { IsLong lanes a }
     ensures long { IfOk result (IsLong lanes) }
-    ensures value { IfOk result (λ g. (i : ℕ) → i < lanes → given_at g i ≡ not_of (given_at a.entry i)) }
+    ensures value { IfOk result (λ g. (i : ℕ) → i < lanes
+        → given_at g i ≡ not_of (given_at a.entry i)) }
     ensures kind { IfOk result (λ g. is_of_kind Boolean g ≡ true) }
 {
     let result = not(alloc, &a, lanes);
@@ -228,7 +236,8 @@ fn of_is_null<'a>(
 ) -> Result<Given<'a>, AllocError>
     requires { IsLong lanes a }
     ensures long { IfOk result (IsLong lanes) }
-    ensures value { IfOk result (λ g. (i : ℕ) → i < lanes → given_at g i ≡ not_if negated (is_null_of (given_at a.entry i))) }
+    ensures value { IfOk result (λ g. (i : ℕ) → i < lanes
+        → given_at g i ≡ not_if negated (is_null_of (given_at a.entry i))) }
     ensures kind { IfOk result (λ g. is_of_kind Boolean g ≡ true) }
 {
     let result = is_null(alloc, negated, &a, lanes);
@@ -244,7 +253,9 @@ fn of_like<'a>(
 ) -> Result<Given<'a>, AllocError>
     requires { IsLong lanes a }
     ensures long { IfOk result (IsLong lanes) }
-    ensures value { is_of_kind (Valued of_type.Text) a.entry ≡ true → IfOk result (λ g. (i : ℕ) → i < lanes → IsSpelledIn a.entry i → given_at g i ≡ like_of pattern.now (given_at a.entry i)) }
+    ensures value { is_of_kind (Valued of_type.Text) a.entry ≡ true
+        → IfOk result (λ g. (i : ℕ) → i < lanes → IsSpelledIn a.entry i
+        → given_at g i ≡ like_of pattern.now (given_at a.entry i)) }
     ensures kind { IfOk result (λ g. is_of_kind Boolean g ≡ true) }
 {
     let result = like(alloc, pattern, &a, lanes);
@@ -266,11 +277,14 @@ fn eval_arithmetic<'a>(
     requires below { selection.now.below ≡ batch.now.rows }
     requires left { IsLong batch.now.rows left.now }
     ensures long { IfOk result (IsLong batch.now.rows) }
-    ensures gives { IfOk result (λ g. (types : RowTypes) (rows : List JoinedRow) (a : ℕ → Outcome) (held : Held)
-        → AreTypedRows types batch.now rows → Fits types batch.now.columns right.now (Valued of_type.Int)
+    ensures gives { IfOk result (λ g. (types : RowTypes) (rows : List JoinedRow) (a : ℕ
+        → Outcome) (held : Held)
+        → AreTypedRows types batch.now rows
+        → Fits types batch.now.columns right.now (Valued of_type.Int)
         → is_of_kind (Valued of_type.Int) left.now ≡ true
         → Evaluates a (IsWithin selection.now) held fault.old.held (given_at left.now)
-        → Gives (Valued of_type.Int) (λ i. arith_of op (a i) (meant_at right.now rows i)) (IsWithin selection.now) held fault.new.held g) }
+        → Gives (Valued of_type.Int) (λ i. arith_of op (a i) (meant_at right.now rows i))
+        (IsWithin selection.now) held fault.new.held g) }
 {
     let right = eval(alloc, right, batch, selection, fault)?;
     let result = arithmetic(alloc, op, left, &right, selection, fault);
@@ -292,11 +306,14 @@ fn eval_compare<'a>(
     requires below { selection.now.below ≡ batch.now.rows }
     requires left { IsLong batch.now.rows left.now }
     ensures long { IfOk result (IsLong batch.now.rows) }
-    ensures gives { IfOk result (λ g. (types : RowTypes) (rows : List JoinedRow) (kind : ColType) (a : ℕ → Outcome) (held : Held)
+    ensures gives { IfOk result
+        (λ g. (types : RowTypes) (rows : List JoinedRow) (kind : ColType) (a : ℕ
+        → Outcome) (held : Held)
         → AreTypedRows types batch.now rows → Fits types batch.now.columns right.now (Valued kind)
         → is_of_kind (Valued kind) left.now ≡ true
         → Evaluates a (IsWithin selection.now) held fault.old.held (given_at left.now)
-        → Gives Boolean (λ i. compare_of op (a i) (meant_at right.now rows i)) (IsWithin selection.now) held fault.new.held g × IsNoLater fault.old.held fault.new.held) }
+        → Gives Boolean (λ i. compare_of op (a i) (meant_at right.now rows i))
+        (IsWithin selection.now) held fault.new.held g × IsNoLater fault.old.held fault.new.held) }
 {
     let right = eval(alloc, right, batch, selection, fault)?;
     let result = compare(alloc, op, left, &right, batch.rows());
@@ -319,7 +336,9 @@ fn eval_unless_false<'a>(
     ensures long { IfOk result (IsLong batch.now.rows) }
     ensures gives { IfOk result (λ g. (types : RowTypes) (type : ExprType) (rows : List JoinedRow)
         → AreTypedRows types batch.now rows → Fits types batch.now.columns expr.now type
-        → Gives type (meant_at expr.now rows) (IsWhere (λ i. is_not_false (given_at before.now i)) selection.now) fault.old.held fault.new.held g) }
+        → Gives type (meant_at expr.now rows)
+        (IsWhere (λ i. is_not_false (given_at before.now i)) selection.now) fault.old.held
+        fault.new.held g) }
 {
     let narrowed = unless_false(alloc, before, selection)?;
     let result = eval(alloc, expr, batch, &narrowed, fault);
@@ -342,7 +361,9 @@ fn eval_unless_true<'a>(
     ensures long { IfOk result (IsLong batch.now.rows) }
     ensures gives { IfOk result (λ g. (types : RowTypes) (type : ExprType) (rows : List JoinedRow)
         → AreTypedRows types batch.now rows → Fits types batch.now.columns expr.now type
-        → Gives type (meant_at expr.now rows) (IsWhere (λ i. is_not_true (given_at before.now i)) selection.now) fault.old.held fault.new.held g) }
+        → Gives type (meant_at expr.now rows)
+        (IsWhere (λ i. is_not_true (given_at before.now i)) selection.now) fault.old.held
+        fault.new.held g) }
 {
     // No lane of a literal faults.
     if let Expr::Literal(value) = expr {
@@ -369,7 +390,9 @@ fn eval_where_null<'a>(
     ensures long { IfOk result (IsLong batch.now.rows) }
     ensures gives { IfOk result (λ g. (types : RowTypes) (type : ExprType) (rows : List JoinedRow)
         → AreTypedRows types batch.now rows → Fits types batch.now.columns expr.now type
-        → Gives type (meant_at expr.now rows) (IsWhere (λ i. is_null_lane (given_at before.now i)) selection.now) fault.old.held fault.new.held g) }
+        → Gives type (meant_at expr.now rows)
+        (IsWhere (λ i. is_null_lane (given_at before.now i)) selection.now) fault.old.held
+        fault.new.held g) }
 {
     // No lane of a literal faults.
     if let Expr::Literal(value) = expr {
@@ -394,10 +417,12 @@ fn eval_and<'a>(
     requires below { selection.now.below ≡ batch.now.rows }
     requires left { IsLong batch.now.rows left.now }
     ensures long { IfOk result (IsLong batch.now.rows) }
-    ensures gives { IfOk result (λ g. (types : RowTypes) (rows : List JoinedRow) (a : ℕ → Outcome) (held : Held)
+    ensures gives { IfOk result (λ g. (types : RowTypes) (rows : List JoinedRow) (a : ℕ
+        → Outcome) (held : Held)
         → AreTypedRows types batch.now rows → Fits types batch.now.columns right.now Boolean
         → Evaluates a (IsWithin selection.now) held fault.old.held (given_at left.now)
-        → Gives Boolean (λ i. and_of (a i) (meant_at right.now rows i)) (IsWithin selection.now) held fault.new.held g) }
+        → Gives Boolean (λ i. and_of (a i) (meant_at right.now rows i)) (IsWithin selection.now)
+        held fault.new.held g) }
 {
     let right = eval_unless_false(alloc, left, right, batch, selection, fault)?;
     let result = and(alloc, left, &right, batch.rows());
@@ -418,10 +443,12 @@ fn eval_or<'a>(
     requires below { selection.now.below ≡ batch.now.rows }
     requires left { IsLong batch.now.rows left.now }
     ensures long { IfOk result (IsLong batch.now.rows) }
-    ensures gives { IfOk result (λ g. (types : RowTypes) (rows : List JoinedRow) (a : ℕ → Outcome) (held : Held)
+    ensures gives { IfOk result (λ g. (types : RowTypes) (rows : List JoinedRow) (a : ℕ
+        → Outcome) (held : Held)
         → AreTypedRows types batch.now rows → Fits types batch.now.columns right.now Boolean
         → Evaluates a (IsWithin selection.now) held fault.old.held (given_at left.now)
-        → Gives Boolean (λ i. or_of (a i) (meant_at right.now rows i)) (IsWithin selection.now) held fault.new.held g) }
+        → Gives Boolean (λ i. or_of (a i) (meant_at right.now rows i)) (IsWithin selection.now) held
+        fault.new.held g) }
 {
     let right = eval_unless_true(alloc, left, right, batch, selection, fault)?;
     let result = or(alloc, left, &right, batch.rows());
@@ -429,7 +456,8 @@ fn eval_or<'a>(
     result
 }
 
-/// The upper half of BETWEEN: the upper bound is evaluated on the lanes where the lower half isn't FALSE.
+/// The upper half of BETWEEN: the upper bound is evaluated on the lanes where the lower half isn't
+/// FALSE.
 #[cycle(eval)]
 fn eval_high<'a>(
     alloc: Global,
@@ -444,12 +472,16 @@ fn eval_high<'a>(
     requires subject { IsLong batch.now.rows subject.now }
     requires above { IsLong batch.now.rows above.now }
     ensures long { IfOk result (IsLong batch.now.rows) }
-    ensures gives { IfOk result (λ g. (types : RowTypes) (rows : List JoinedRow) (kind : ColType) (x a : ℕ → Outcome) (held : Held)
+    ensures gives { IfOk result
+        (λ g. (types : RowTypes) (rows : List JoinedRow) (kind : ColType) (x a : ℕ
+        → Outcome) (held : Held)
         → AreTypedRows types batch.now rows → Fits types batch.now.columns high.now (Valued kind)
         → is_of_kind (Valued kind) subject.now ≡ true
         → IsExact x (IsWithin selection.now) fault.old.held (given_at subject.now)
         → Evaluates a (IsWithin selection.now) held fault.old.held (given_at above.now)
-        → Gives Boolean (λ i. and_of (a i) (compare_of comparison.LessOrEqual (x i) (meant_at high.now rows i))) (IsWithin selection.now) held fault.new.held g) }
+        → Gives Boolean (λ i. and_of (a i)
+        (compare_of comparison.LessOrEqual (x i) (meant_at high.now rows i)))
+        (IsWithin selection.now) held fault.new.held g) }
 {
     let below = eval_at_most(alloc, subject, above, high, batch, selection, fault)?;
     let result = and(alloc, above, &below, batch.rows());
@@ -472,12 +504,17 @@ fn eval_above<'a>(
     requires subject { IsLong batch.now.rows subject.now }
     requires above { IfOk above (IsLong batch.now.rows) }
     ensures long { IfOk result (IsLong batch.now.rows) }
-    ensures gives { IfOk result (λ g. (types : RowTypes) (rows : List JoinedRow) (kind : ColType) (x a : ℕ → Outcome) (held : Held)
+    ensures gives { IfOk result
+        (λ g. (types : RowTypes) (rows : List JoinedRow) (kind : ColType) (x a : ℕ
+        → Outcome) (held : Held)
         → AreTypedRows types batch.now rows → Fits types batch.now.columns high.now (Valued kind)
         → is_of_kind (Valued kind) subject.now ≡ true
-        → IfOk above.entry (λ b. IsExact x (IsWithin selection.now) fault.old.held (given_at subject.now)
+        → IfOk above.entry (λ b. IsExact x (IsWithin selection.now) fault.old.held
+        (given_at subject.now)
         × Evaluates a (IsWithin selection.now) held fault.old.held (given_at b))
-        → Gives Boolean (λ i. and_of (a i) (compare_of comparison.LessOrEqual (x i) (meant_at high.now rows i))) (IsWithin selection.now) held fault.new.held g) }
+        → Gives Boolean (λ i. and_of (a i)
+        (compare_of comparison.LessOrEqual (x i) (meant_at high.now rows i)))
+        (IsWithin selection.now) held fault.new.held g) }
 {
     let above = above?;
     let result = eval_high(alloc, subject, &above, high, batch, selection, fault);
@@ -500,11 +537,14 @@ fn eval_at_most<'a>(
     requires subject { IsLong batch.now.rows subject.now }
     requires before { IsLong batch.now.rows before.now }
     ensures long { IfOk result (IsLong batch.now.rows) }
-    ensures gives { IfOk result (λ g. (types : RowTypes) (rows : List JoinedRow) (kind : ColType) (x : ℕ → Outcome)
+    ensures gives { IfOk result
+        (λ g. (types : RowTypes) (rows : List JoinedRow) (kind : ColType) (x : ℕ → Outcome)
         → AreTypedRows types batch.now rows → Fits types batch.now.columns high.now (Valued kind)
         → is_of_kind (Valued kind) subject.now ≡ true
         → IsExact x (IsWithin selection.now) fault.old.held (given_at subject.now)
-        → Gives Boolean (λ i. compare_of comparison.LessOrEqual (x i) (meant_at high.now rows i)) (IsWhere (λ i. is_not_false (given_at before.now i)) selection.now) fault.old.held fault.new.held g) }
+        → Gives Boolean (λ i. compare_of comparison.LessOrEqual (x i) (meant_at high.now rows i))
+        (IsWhere (λ i. is_not_false (given_at before.now i)) selection.now) fault.old.held
+        fault.new.held g) }
 {
     let high = eval_unless_false(alloc, before, high, batch, selection, fault)?;
     let result = compare(
@@ -518,7 +558,8 @@ fn eval_at_most<'a>(
     result
 }
 
-/// IN a list that isn't empty: the subject was evaluated once, and each item is on the lanes where none before it was equal.
+/// IN a list that isn't empty: the subject was evaluated once, and each item is on the lanes where
+/// none before it was equal.
 #[cycle(eval)]
 fn find_in<'a>(
     alloc: Global,
@@ -531,11 +572,15 @@ fn find_in<'a>(
     requires below { selection.now.below ≡ batch.now.rows }
     requires subject { IsLong batch.now.rows subject.now }
     ensures long { IfOk result (IsLong batch.now.rows) }
-    ensures gives { IfOk result (λ g. (types : RowTypes) (rows : List JoinedRow) (kind : ColType) (x : ℕ → Outcome) (held : Held)
-        → AreTypedRows types batch.now rows → All (λ e. Fits types batch.now.columns e (Valued kind)) list.now
+    ensures gives { IfOk result
+        (λ g. (types : RowTypes) (rows : List JoinedRow) (kind : ColType) (x : ℕ
+        → Outcome) (held : Held)
+        → AreTypedRows types batch.now rows
+        → All (λ e. Fits types batch.now.columns e (Valued kind)) list.now
         → is_of_kind (Valued kind) subject.now ≡ true
         → Evaluates x (IsWithin selection.now) held fault.old.held (given_at subject.now)
-        → Gives Boolean (λ i. one_of_subject (x i) (outcomes list.now (row_at rows i))) (IsWithin selection.now) held fault.new.held g) }
+        → Gives Boolean (λ i. one_of_subject (x i) (outcomes list.now (row_at rows i)))
+        (IsWithin selection.now) held fault.new.held g) }
 {
     let mut found = one_truth(Truth::False, batch.rows());
     for item in list {
@@ -559,12 +604,16 @@ fn find_item<'a>(
     requires subject { IsLong batch.now.rows subject.now }
     requires found { IsLong batch.now.rows found.old }
     ensures long { IsLong batch.now.rows found.new }
-    ensures gives { IfOk result (λ _. (types : RowTypes) (rows : List JoinedRow) (kind : ColType) (x a : ℕ → Outcome) (held : Held)
+    ensures gives { IfOk result
+        (λ _. (types : RowTypes) (rows : List JoinedRow) (kind : ColType) (x a : ℕ
+        → Outcome) (held : Held)
         → AreTypedRows types batch.now rows → Fits types batch.now.columns item.now (Valued kind)
         → is_of_kind (Valued kind) subject.now ≡ true
         → IsExact x (IsWithin selection.now) fault.old.held (given_at subject.now)
         → Evaluates a (IsWithin selection.now) held fault.old.held (given_at found.old)
-        → Gives Boolean (λ i. or_of (a i) (compare_of comparison.Equal (x i) (meant_at item.now rows i))) (IsWithin selection.now) held fault.new.held found.new
+        → Gives Boolean (λ i. or_of (a i)
+        (compare_of comparison.Equal (x i) (meant_at item.now rows i))) (IsWithin selection.now)
+        held fault.new.held found.new
         × IsNoLater fault.old.held fault.new.held) }
 {
     let next = find_next(alloc, subject, found, item, batch, selection, fault)?;
@@ -587,12 +636,16 @@ fn find_next<'a>(
     requires subject { IsLong batch.now.rows subject.now }
     requires found { IsLong batch.now.rows found.now }
     ensures long { IfOk result (IsLong batch.now.rows) }
-    ensures gives { IfOk result (λ g. (types : RowTypes) (rows : List JoinedRow) (kind : ColType) (x a : ℕ → Outcome) (held : Held)
+    ensures gives { IfOk result
+        (λ g. (types : RowTypes) (rows : List JoinedRow) (kind : ColType) (x a : ℕ
+        → Outcome) (held : Held)
         → AreTypedRows types batch.now rows → Fits types batch.now.columns item.now (Valued kind)
         → is_of_kind (Valued kind) subject.now ≡ true
         → IsExact x (IsWithin selection.now) fault.old.held (given_at subject.now)
         → Evaluates a (IsWithin selection.now) held fault.old.held (given_at found.now)
-        → Gives Boolean (λ i. or_of (a i) (compare_of comparison.Equal (x i) (meant_at item.now rows i))) (IsWithin selection.now) held fault.new.held g
+        → Gives Boolean (λ i. or_of (a i)
+        (compare_of comparison.Equal (x i) (meant_at item.now rows i))) (IsWithin selection.now)
+        held fault.new.held g
         × IsNoLater fault.old.held fault.new.held) }
 {
     let equal = eval_equal(alloc, subject, found, item, batch, selection, fault)?;
@@ -616,11 +669,14 @@ fn eval_equal<'a>(
     requires subject { IsLong batch.now.rows subject.now }
     requires before { IsLong batch.now.rows before.now }
     ensures long { IfOk result (IsLong batch.now.rows) }
-    ensures gives { IfOk result (λ g. (types : RowTypes) (rows : List JoinedRow) (kind : ColType) (x : ℕ → Outcome)
+    ensures gives { IfOk result
+        (λ g. (types : RowTypes) (rows : List JoinedRow) (kind : ColType) (x : ℕ → Outcome)
         → AreTypedRows types batch.now rows → Fits types batch.now.columns item.now (Valued kind)
         → is_of_kind (Valued kind) subject.now ≡ true
         → IsExact x (IsWithin selection.now) fault.old.held (given_at subject.now)
-        → Gives Boolean (λ i. compare_of comparison.Equal (x i) (meant_at item.now rows i)) (IsWhere (λ i. is_not_true (given_at before.now i)) selection.now) fault.old.held fault.new.held g) }
+        → Gives Boolean (λ i. compare_of comparison.Equal (x i) (meant_at item.now rows i))
+        (IsWhere (λ i. is_not_true (given_at before.now i)) selection.now) fault.old.held
+        fault.new.held g) }
 {
     let item = eval_unless_true(alloc, before, item, batch, selection, fault)?;
     let result = compare(
@@ -646,8 +702,10 @@ fn eval_coalesce<'a>(
     requires below { selection.now.below ≡ batch.now.rows }
     ensures long { IfOk result (IsLong batch.now.rows) }
     ensures gives { IfOk result (λ g. (types : RowTypes) (rows : List JoinedRow) (kind : ColType)
-        → AreTypedRows types batch.now rows → All (λ e. Fits types batch.now.columns e (Valued kind)) list.now
-        → Gives (Valued kind) (λ i. first_of (outcomes list.now (row_at rows i))) (IsWithin selection.now) fault.old.held fault.new.held g) }
+        → AreTypedRows types batch.now rows
+        → All (λ e. Fits types batch.now.columns e (Valued kind)) list.now
+        → Gives (Valued kind) (λ i. first_of (outcomes list.now (row_at rows i)))
+        (IsWithin selection.now) fault.old.held fault.new.held g) }
 {
     let mut so_far = Given::Null;
     for item in list {
@@ -669,11 +727,14 @@ fn eval_item<'a>(
     requires below { selection.now.below ≡ batch.now.rows }
     requires so_far { IsLong batch.now.rows so_far.old }
     ensures long { IsLong batch.now.rows so_far.new }
-    ensures gives { IfOk result (λ _. (types : RowTypes) (rows : List JoinedRow) (kind : ColType) (a : ℕ → Outcome) (held : Held)
+    ensures gives { IfOk result
+        (λ _. (types : RowTypes) (rows : List JoinedRow) (kind : ColType) (a : ℕ
+        → Outcome) (held : Held)
         → AreTypedRows types batch.now rows → Fits types batch.now.columns item.now (Valued kind)
         → is_of_kind (Valued kind) so_far.old ≡ true
         → Evaluates a (IsWithin selection.now) held fault.old.held (given_at so_far.old)
-        → Gives (Valued kind) (λ i. coalesce_of (a i) (meant_at item.now rows i)) (IsWithin selection.now) held fault.new.held so_far.new) }
+        → Gives (Valued kind) (λ i. coalesce_of (a i) (meant_at item.now rows i))
+        (IsWithin selection.now) held fault.new.held so_far.new) }
 {
     let next = eval_next(alloc, so_far, item, batch, selection, fault)?;
     *so_far = next;
@@ -693,11 +754,14 @@ fn eval_next<'a>(
     requires below { selection.now.below ≡ batch.now.rows }
     requires so_far { IsLong batch.now.rows so_far.now }
     ensures long { IfOk result (IsLong batch.now.rows) }
-    ensures gives { IfOk result (λ g. (types : RowTypes) (rows : List JoinedRow) (kind : ColType) (a : ℕ → Outcome) (held : Held)
+    ensures gives { IfOk result
+        (λ g. (types : RowTypes) (rows : List JoinedRow) (kind : ColType) (a : ℕ
+        → Outcome) (held : Held)
         → AreTypedRows types batch.now rows → Fits types batch.now.columns item.now (Valued kind)
         → is_of_kind (Valued kind) so_far.now ≡ true
         → Evaluates a (IsWithin selection.now) held fault.old.held (given_at so_far.now)
-        → Gives (Valued kind) (λ i. coalesce_of (a i) (meant_at item.now rows i)) (IsWithin selection.now) held fault.new.held g) }
+        → Gives (Valued kind) (λ i. coalesce_of (a i) (meant_at item.now rows i))
+        (IsWithin selection.now) held fault.new.held g) }
 {
     let item = eval_where_null(alloc, so_far, item, batch, selection, fault)?;
     coalesce(alloc, so_far, item, batch.rows())
@@ -717,7 +781,8 @@ pub struct Taken<'a> {
     lanes: LaneSet,
 }
 
-/// The arms of CASE: each condition is evaluated on the lanes that no arm before it took, each value where it is chosen.
+/// The arms of CASE: each condition is evaluated on the lanes that no arm before it took, each
+/// value where it is chosen.
 #[cycle(eval)]
 fn eval_arms<'a>(
     alloc: Global,
@@ -727,10 +792,13 @@ fn eval_arms<'a>(
     fault: &mut Fault1,
 ) -> Result<Cases<'a>, AllocError>
     requires below { selection.now.below ≡ batch.now.rows }
-    ensures long { IfOk result (λ c. IsLong batch.now.rows c.given × (c.left.below ≡ batch.now.rows)) }
-    ensures gives { IfOk result (λ c. (types : RowTypes) (rows : List JoinedRow) (kind : ColType) (rest : ℕ → Outcome)
+    ensures long { IfOk result (λ c. IsLong batch.now.rows c.given
+        × (c.left.below ≡ batch.now.rows)) }
+    ensures gives { IfOk result
+        (λ c. (types : RowTypes) (rows : List JoinedRow) (kind : ColType) (rest : ℕ → Outcome)
         → AreTypedRows types batch.now rows → All (FitsArm types batch.now.columns kind) arms.now
-        → Decides kind (λ i. cases_of (arms_at (row_at rows i) (map eval_arm arms.now)) (rest i)) rest (IsWithin selection.now) c.left fault.old.held fault.new.held c.given) }
+        → Decides kind (λ i. cases_of (arms_at (row_at rows i) (map eval_arm arms.now)) (rest i))
+        rest (IsWithin selection.now) c.left fault.old.held fault.new.held c.given) }
 {
     let Some((first, others)) = arms.split_first() else {
         return none_taken(alloc, selection);
@@ -764,10 +832,13 @@ fn eval_first<'a>(
     fault: &mut Fault1,
 ) -> Result<Cases<'a>, AllocError>
     requires { selection.now.below ≡ batch.now.rows }
-    ensures long { IfOk result (λ c. IsLong batch.now.rows c.given × (c.left.below ≡ batch.now.rows)) }
-    ensures gives { IfOk result (λ c. (types : RowTypes) (rows : List JoinedRow) (kind : ColType) (rest : ℕ → Outcome)
+    ensures long { IfOk result (λ c. IsLong batch.now.rows c.given
+        × (c.left.below ≡ batch.now.rows)) }
+    ensures gives { IfOk result
+        (λ c. (types : RowTypes) (rows : List JoinedRow) (kind : ColType) (rest : ℕ → Outcome)
         → AreTypedRows types batch.now rows → FitsArm types batch.now.columns kind arm.now
-        → Decides kind (λ i. case_of (meant_at arm.now.when rows i) (meant_at arm.now.then rows i) (rest i)) rest (IsWithin selection.now) c.left fault.old.held fault.new.held c.given) }
+        → Decides kind (λ i. case_of (meant_at arm.now.when rows i) (meant_at arm.now.then rows i)
+        (rest i)) rest (IsWithin selection.now) c.left fault.old.held fault.new.held c.given) }
 {
     let taken = eval_taken(alloc, arm, batch, selection, fault)?;
     first_taken(alloc, selection, taken)
@@ -780,7 +851,11 @@ fn first_taken<'a>(
 ) -> Result<Cases<'a>, AllocError>
     requires { taken.lanes.below ≡ selection.now.below }
     ensures given { IfOk result (λ c. c.given ≡ taken.entry.then) }
-    ensures left { IfOk result (λ c. c.left ≡ record { below = selection.now.below; list = without selection.now.list taken.entry.lanes.list }) }
+    ensures left { IfOk result
+        (λ c. c.left ≡ record {
+          below = selection.now.below;
+          list = without selection.now.list taken.entry.lanes.list;
+        }) }
 {
     let Taken { then, lanes } = taken;
     let left = selection.minus(alloc, &lanes);
@@ -806,9 +881,13 @@ fn eval_arm<'a>(
     requires given { IsLong batch.now.rows cases.old.given }
     requires left { cases.old.left.below ≡ batch.now.rows }
     ensures long { IsLong batch.now.rows cases.new.given × (cases.new.left.below ≡ batch.now.rows) }
-    ensures gives { IfOk result (λ _. (types : RowTypes) (rows : List JoinedRow) (kind : ColType) (meant rest : ℕ → Outcome) (s : Positions) (held : Held)
+    ensures gives { IfOk result
+        (λ _. (types : RowTypes) (rows : List JoinedRow) (kind : ColType) (meant rest : ℕ
+        → Outcome) (s : Positions) (held : Held)
         → AreTypedRows types batch.now rows → FitsArm types batch.now.columns kind arm.now
-        → Decides kind meant (λ i. case_of (meant_at arm.now.when rows i) (meant_at arm.now.then rows i) (rest i)) (IsWithin s) cases.old.left held fault.old.held cases.old.given
+        → Decides kind meant (λ i. case_of (meant_at arm.now.when rows i)
+        (meant_at arm.now.then rows i) (rest i)) (IsWithin s) cases.old.left held fault.old.held
+        cases.old.given
         → Decides kind meant rest (IsWithin s) cases.new.left held fault.new.held cases.new.given) }
 {
     let next = eval_next_arm(alloc, cases, arm, batch, fault)?;
@@ -827,10 +906,15 @@ fn eval_next_arm<'a>(
 ) -> Result<Cases<'a>, AllocError>
     requires given { IsLong batch.now.rows cases.now.given }
     requires left { cases.now.left.below ≡ batch.now.rows }
-    ensures long { IfOk result (λ c. IsLong batch.now.rows c.given × (c.left.below ≡ batch.now.rows)) }
-    ensures gives { IfOk result (λ c. (types : RowTypes) (rows : List JoinedRow) (kind : ColType) (meant rest : ℕ → Outcome) (s : Positions) (held : Held)
+    ensures long { IfOk result (λ c. IsLong batch.now.rows c.given
+        × (c.left.below ≡ batch.now.rows)) }
+    ensures gives { IfOk result
+        (λ c. (types : RowTypes) (rows : List JoinedRow) (kind : ColType) (meant rest : ℕ
+        → Outcome) (s : Positions) (held : Held)
         → AreTypedRows types batch.now rows → FitsArm types batch.now.columns kind arm.now
-        → Decides kind meant (λ i. case_of (meant_at arm.now.when rows i) (meant_at arm.now.then rows i) (rest i)) (IsWithin s) cases.now.left held fault.old.held cases.now.given
+        → Decides kind meant (λ i. case_of (meant_at arm.now.when rows i)
+        (meant_at arm.now.then rows i) (rest i)) (IsWithin s) cases.now.left held fault.old.held
+        cases.now.given
         → Decides kind meant rest (IsWithin s) c.left held fault.new.held c.given) }
 {
     let taken = eval_taken(alloc, arm, batch, &cases.left, fault)?;
@@ -849,10 +933,12 @@ fn eval_taken<'a>(
     fault: &mut Fault1,
 ) -> Result<Taken<'a>, AllocError>
     requires { left.now.below ≡ batch.now.rows }
-    ensures long { IfOk result (λ t. IsLong batch.now.rows t.then × (t.lanes.below ≡ batch.now.rows)) }
+    ensures long { IfOk result (λ t. IsLong batch.now.rows t.then
+        × (t.lanes.below ≡ batch.now.rows)) }
     ensures gives { IfOk result (λ t. (types : RowTypes) (rows : List JoinedRow) (kind : ColType)
         → AreTypedRows types batch.now rows → FitsArm types batch.now.columns kind arm.now
-        → IsTaken kind (meant_at arm.now.when rows) (meant_at arm.now.then rows) left.now t.lanes fault.old.held fault.new.held t.then) }
+        → IsTaken kind (meant_at arm.now.when rows) (meant_at arm.now.then rows) left.now t.lanes
+        fault.old.held fault.new.held t.then) }
 {
     let lanes = eval_when(alloc, &arm.when, batch, left, fault)?;
     let then = eval(alloc, &arm.then, batch, &lanes, fault)?;
@@ -888,11 +974,18 @@ fn put_taken<'a>(
     requires given { IsLong cases.now.left.below cases.now.given }
     requires then { IsLong cases.now.left.below taken.now.then }
     requires lanes { taken.now.lanes.below ≡ cases.now.left.below }
-    ensures long { IfOk result (λ c. IsLong cases.now.left.below c.given × (c.left.below ≡ cases.now.left.below)) }
-    ensures left { IfOk result (λ c. c.left ≡ record { below = cases.now.left.below; list = without cases.now.left.list taken.now.lanes.list }) }
-    ensures value { (kind : ColType) → is_of_kind (Valued kind) cases.now.given ≡ true → is_of_kind (Valued kind) taken.now.then ≡ true
+    ensures long { IfOk result (λ c. IsLong cases.now.left.below c.given
+        × (c.left.below ≡ cases.now.left.below)) }
+    ensures left { IfOk result
+        (λ c. c.left ≡ record {
+          below = cases.now.left.below;
+          list = without cases.now.left.list taken.now.lanes.list;
+        }) }
+    ensures value { (kind : ColType) → is_of_kind (Valued kind) cases.now.given ≡ true
+        → is_of_kind (Valued kind) taken.now.then ≡ true
         → IfOk result (λ c. ArePut taken.now.lanes taken.now.then cases.now.given c.given) }
-    ensures kind { (kind : ColType) → is_of_kind (Valued kind) cases.now.given ≡ true → is_of_kind (Valued kind) taken.now.then ≡ true
+    ensures kind { (kind : ColType) → is_of_kind (Valued kind) cases.now.given ≡ true
+        → is_of_kind (Valued kind) taken.now.then ≡ true
         → IfOk result (λ c. is_of_kind (Valued kind) c.given ≡ true) }
 {
     let given = put(alloc, &taken.lanes, &taken.then, &cases.given)?;
@@ -912,9 +1005,13 @@ fn eval_otherwise<'a>(
     requires given { IsLong batch.now.rows cases.given }
     requires left { cases.left.below ≡ batch.now.rows }
     ensures long { IfOk result (IsLong batch.now.rows) }
-    ensures gives { IfOk result (λ g. (types : RowTypes) (rows : List JoinedRow) (kind : ColType) (meant : ℕ → Outcome) (s : Positions) (held : Held)
-        → AreTypedRows types batch.now rows → Fits types batch.now.columns otherwise.now (Valued kind)
-        → Decides kind meant (meant_at otherwise.now rows) (IsWithin s) cases.entry.left held fault.old.held cases.entry.given
+    ensures gives { IfOk result
+        (λ g. (types : RowTypes) (rows : List JoinedRow) (kind : ColType) (meant : ℕ
+        → Outcome) (s : Positions) (held : Held)
+        → AreTypedRows types batch.now rows
+        → Fits types batch.now.columns otherwise.now (Valued kind)
+        → Decides kind meant (meant_at otherwise.now rows) (IsWithin s) cases.entry.left held
+        fault.old.held cases.entry.given
         → Gives (Valued kind) meant (IsWithin s) held fault.new.held g) }
 {
     let result = eval_rest(alloc, &cases, otherwise, batch, fault);
@@ -934,9 +1031,13 @@ fn eval_rest<'a>(
     requires given { IsLong batch.now.rows cases.now.given }
     requires left { cases.now.left.below ≡ batch.now.rows }
     ensures long { IfOk result (IsLong batch.now.rows) }
-    ensures gives { IfOk result (λ g. (types : RowTypes) (rows : List JoinedRow) (kind : ColType) (meant : ℕ → Outcome) (s : Positions) (held : Held)
-        → AreTypedRows types batch.now rows → Fits types batch.now.columns otherwise.now (Valued kind)
-        → Decides kind meant (meant_at otherwise.now rows) (IsWithin s) cases.now.left held fault.old.held cases.now.given
+    ensures gives { IfOk result
+        (λ g. (types : RowTypes) (rows : List JoinedRow) (kind : ColType) (meant : ℕ
+        → Outcome) (s : Positions) (held : Held)
+        → AreTypedRows types batch.now rows
+        → Fits types batch.now.columns otherwise.now (Valued kind)
+        → Decides kind meant (meant_at otherwise.now rows) (IsWithin s) cases.now.left held
+        fault.old.held cases.now.given
         → Gives (Valued kind) meant (IsWithin s) held fault.new.held g) }
 {
     let otherwise = eval(alloc, otherwise, batch, &cases.left, fault)?;

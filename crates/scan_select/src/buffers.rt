@@ -57,7 +57,8 @@ impl<'v> ColumnBuffer<'v> {
         })
     }
 
-    /// Fills the buffer anew with the column's values in a row group, from row `first` on. Takes no memory.
+    /// Fills the buffer anew with the column's values in a row group, from row `first` on. Takes no
+    /// memory.
     fn fill(&mut self, group: &GroupView<'v>, first: usize)
         requires { FitsGroup group.now self.old }
         ensures { self.new ≡ filled group.now first self.old }

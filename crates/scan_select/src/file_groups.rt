@@ -19,12 +19,16 @@ pub struct FileGroups<'v> {
 }
 
 impl<'v> Model for FileGroups<'v> {
-    ghost use Rattle.std.specs.Prelude.{◌<◌, ◌≤◌, length, IfSome, drop, get_or, option_map, []};
+    ghost use Rattle.std.specs.Prelude.{◌<◌, ◌≤◌, length, IfSome, drop, slice_index_or, option_map, []};
     ghost use Rattle.scan_select.specs.FileGroups.{FileGroupsSpec, IsAt};
 
     ghost Value = { FileGroupsSpec };
 
-    ghost view = { λ g. record { file = g.view.now; coming = drop g.next g.view.now.groups; current = option_map (λ k. get_or g.view.now.groups k []) g.at } };
+    ghost view = { λ g. record {
+      file = g.view.now;
+      coming = drop g.next g.view.now.groups;
+      current = option_map (λ k. slice_index_or g.view.now.groups k []) g.at;
+    } };
 
     ghost invariant = { λ g. IsAt g.view.now.groups g.at };
 }
@@ -32,7 +36,11 @@ impl<'v> Model for FileGroups<'v> {
 impl<'v> FileGroups<'v> {
     /// Before the first row group.
     pub fn new(view: &'v FragmentView<'v>) -> FileGroups<'v>
-        ensures { result ≡ record { file = view.entry.now; coming = view.entry.now.groups; current = None } }
+        ensures { result ≡ record {
+          file = view.entry.now;
+          coming = view.entry.now.groups;
+          current = None;
+        } }
     {
         FileGroups {
             view,

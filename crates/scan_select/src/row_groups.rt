@@ -20,7 +20,8 @@ pub trait RowGroups {
     // The row groups that are still to come, where they are known.
     ghost coming: { Self → Option (List (List Block)) };
 
-    // The row group that came last. There is none before the first, behind the last, and where one couldn't be had.
+    // The row group that came last. There is none before the first, behind the last, and where one
+    // couldn't be had.
     ghost current: { Self → Option (List Block) };
 
     /// What stands in front of the row groups.
@@ -30,7 +31,8 @@ pub trait RowGroups {
     /// Goes on to the next row group, and says whether there is one.
     fn next_group(&mut self) -> Result<bool, Self::Fault>
         ensures same { header_of self.new ≡ header_of self.old }
-        ensures told { IfOk result (λ more. GroupsGoOn more (coming self.old) (coming self.new) (current self.new)) }
+        ensures told { IfOk result
+            (λ more. GroupsGoOn more (coming self.old) (coming self.new) (current self.new)) }
         ensures refused { OnErr result (current self.new ≡ None) };
 
     /// The row group that came last.
@@ -39,6 +41,7 @@ pub trait RowGroups {
         Self: 'v,
         ensures value { option_map (λ group. group) result ≡ current self.now }
         ensures count { IfSome result (λ group. length group ≡ length (header_of self.now).columns) }
-        ensures blocks { IfSome result (λ group. AreBlocks (header_of self.now).columns (rows_of group) group) }
+        ensures blocks { IfSome result
+            (λ group. AreBlocks (header_of self.now).columns (rows_of group) group) }
         ensures some { IfSome result (λ group. 1 ≤ rows_of group) };
 }

@@ -27,9 +27,9 @@ pub struct ScanBatch<'s> {
     pub first_row: usize,
 }
 
-/// The rows of a file in vectors. A vector never crosses from one row group to the next. The room for a vector of each column is
-/// taken once, and filled anew by each. After MonetDB/X100, where a scan gives vectors of the columns that a query uses, and of
-/// no others.
+/// The rows of a file in vectors. A vector never crosses from one row group to the next. The room
+/// for a vector of each column is taken once, and filled anew by each. After MonetDB/X100, where a
+/// scan gives vectors of the columns that a query uses, and of no others.
 #[derive(Drop)]
 pub struct Scan<'v, G: RowGroups + Drop + 'v> {
     groups: G,
@@ -37,7 +37,8 @@ pub struct Scan<'v, G: RowGroups + Drop + 'v> {
     buffers: Vec<ColumnBuffer<'v>>,
     // The most rows of a vector.
     most: usize,
-    // The rows of the row group that came last; the vector's first among them, and how many the vector has.
+    // The rows of the row group that came last; the vector's first among them, and how many the
+    // vector has.
     group_rows: usize,
     first: usize,
     rows: usize,
@@ -59,7 +60,8 @@ impl<'v, G: RowGroups + Drop + 'v> Model for Scan<'v, G> {
       left = pieces_left s.most (G.current s.groups) (s.first + s.rows) (G.coming s.groups);
     } };
 
-    ghost invariant = { λ s. IsPosition (G.header_of s.groups).columns s.most (G.current s.groups) s.group_rows s.first s.rows s.buffers.items };
+    ghost invariant = { λ s. IsPosition (G.header_of s.groups).columns s.most (G.current s.groups)
+        s.group_rows s.first s.rows s.buffers.items };
 }
 
 /// The places below a number.
@@ -95,8 +97,8 @@ fn fill_now<'v, G: RowGroups + 'v>(groups: &G, buffers: &mut Vec<ColumnBuffer<'v
 }
 
 impl<'v, G: RowGroups + Drop + 'v> Scan<'v, G> {
-    /// Before the first of the row groups, none of which has come yet. Reads the columns at these places in the header, in
-    /// vectors of at most so many rows.
+    /// Before the first of the row groups, none of which has come yet. Reads the columns at these
+    /// places in the header, in vectors of at most so many rows.
     ///
     /// # Errors
     ///
@@ -109,7 +111,8 @@ impl<'v, G: RowGroups + Drop + 'v> Scan<'v, G> {
     ) -> Result<Scan<'v, G>, ScanFault>
         requires places { All (λ p. p < length (G.header_of groups).columns) places.now }
         requires before { G.current groups ≡ None }
-        ensures ok { IfOk result (λ scan. IsFresh scan (G.header_of groups) places.now most (G.coming groups)) }
+        ensures ok { IfOk result
+            (λ scan. IsFresh scan (G.header_of groups) places.now most (G.coming groups)) }
         ensures err { IfErr result (λ f. f ≡ VectorLength → IsVectorLength most → ⊥) }
     {
         if most < 1 || MAX_VECTOR_ROWS < most {
@@ -136,7 +139,8 @@ impl<'v, G: RowGroups + Drop + 'v> Scan<'v, G> {
         ensures header { self.new.header ≡ self.old.header }
         ensures places { self.new.places ≡ self.old.places }
         ensures most { self.new.most ≡ self.old.most }
-        ensures told { IfOk result (λ more. (left : List Piece) → self.old.left ≡ Some left → Advances more left self.new.at self.new.left) }
+        ensures told { IfOk result (λ more. (left : List Piece) → self.old.left ≡ Some left
+            → Advances more left self.new.at self.new.left) }
         ensures stands { IfOk result (λ more. IsStanding more self.new.at) }
         ensures refused { OnErr result (self.new.at ≡ None) }
     {
@@ -158,7 +162,8 @@ impl<'v, G: RowGroups + Drop + 'v> Scan<'v, G> {
         Ok(more)
     }
 
-    /// The vector that stands now, if any. Its columns are lent from the scan's buffers, texts from the bytes of the row group.
+    /// The vector that stands now, if any. Its columns are lent from the scan's buffers, texts from
+    /// the bytes of the row group.
     pub fn batch(&self, alloc: Global) -> Result<Option<ScanBatch<'_>>, AllocError>
         ensures { IfOk result (λ batch. GivesBatch self.now batch) }
     {
@@ -181,8 +186,8 @@ impl<'v, G: RowGroups + Drop + 'v> Scan<'v, G> {
 }
 
 impl<'v> Scan<'v, FileGroups<'v>> {
-    /// Before the first row of an opened file. Reads the columns at these places in its header, in vectors of at most so many
-    /// rows.
+    /// Before the first row of an opened file. Reads the columns at these places in its header, in
+    /// vectors of at most so many rows.
     ///
     /// # Errors
     ///
@@ -194,7 +199,8 @@ impl<'v> Scan<'v, FileGroups<'v>> {
         places: &[usize],
     ) -> Result<Scan<'v, FileGroups<'v>>, ScanFault>
         requires { All (λ p. p < length view.now.header.columns) places.now }
-        ensures ok { IfOk result (λ scan. IsFresh scan view.now.header places.now most (Some view.now.groups)) }
+        ensures ok { IfOk result
+            (λ scan. IsFresh scan view.now.header places.now most (Some view.now.groups)) }
         ensures err { IfErr result (λ f. f ≡ VectorLength → IsVectorLength most → ⊥) }
     {
         Scan::over(alloc, FileGroups::new(view), most, places)
@@ -210,7 +216,9 @@ impl<'v> Scan<'v, FileGroups<'v>> {
         view: &'v FragmentView<'v>,
         most: usize,
     ) -> Result<Scan<'v, FileGroups<'v>>, ScanFault>
-        ensures ok { IfOk result (λ scan. IsFresh scan view.now.header (range_with_len 0 (length view.now.header.columns)) most (Some view.now.groups)) }
+        ensures ok { IfOk result
+            (λ scan. IsFresh scan view.now.header
+            (range_with_len 0 (length view.now.header.columns)) most (Some view.now.groups)) }
         ensures err { IfErr result (λ f. f ≡ VectorLength → IsVectorLength most → ⊥) }
     {
         let places = all_places(alloc, view.header().columns.len())?;

@@ -1,7 +1,7 @@
 //! Expressions: one function a rule of the grammar.
 //!
-//! `left` says how many may still be opened: brackets, CASE, NOT and minus. It bounds how deep these functions call one
-//! another, as `MAX_DEPTH` bounds how deep a tree they build.
+//! `left` says how many may still be opened: brackets, CASE, NOT and minus. It bounds how deep
+//! these functions call one another, as `MAX_DEPTH` bounds how deep a tree they build.
 ghost use Rattle.sql_expressions.specs.Rules.{Cases, Gives, Listed, aggregate_at, arm_at, arm_of, arms_at, before_of, behind_star, bounds_of, bracketed_list, case_of, chain_of, closed_list_of, column_at, column_of, else_of, entry_of, factor_of, high_of, inner_at, is_of, is_sign, like_test, list_at, literal_at, minus_of, named_test, negation_of, null_of, pattern_at, predicate_of, primary_of, rows_of, rule_at, terms, test_of, then_of};
 ghost use Rattle.sql_syntax.specs.Strength.{rank};
 ghost use Rattle.sql_syntax.specs.declared.token.Sign.TheVariants as sign;
@@ -33,7 +33,8 @@ pub fn inner<'a, 'b>(
     lexemes: &'a [Lexeme<'b>],
     left: u16,
 ) -> Result<(Parsed, &'a [Lexeme<'b>]), Stop>
-    ensures reads { Gives (λ x. (x.0, terms x.1.now)) result (inner_at 128 left level (terms lexemes.now)) }
+    ensures reads { Gives (λ x. (x.0, terms x.1.now)) result
+        (inner_at 128 left level (terms lexemes.now)) }
     ensures shorter { IfOk result (λ x. length x.1.now < length lexemes.now) }
 {
     if left == 0 {
@@ -50,7 +51,8 @@ fn rule<'a, 'b>(
     lexemes: &'a [Lexeme<'b>],
     left: u16,
 ) -> Result<(Parsed, &'a [Lexeme<'b>]), Stop>
-    ensures reads { Gives (λ x. (x.0, terms x.1.now)) result (rule_at 128 left level (terms lexemes.now)) }
+    ensures reads { Gives (λ x. (x.0, terms x.1.now)) result
+        (rule_at 128 left level (terms lexemes.now)) }
     ensures shorter { IfOk result (λ x. length x.1.now < length lexemes.now) }
 {
     match level {
@@ -76,7 +78,8 @@ fn chain<'a, 'b>(
 ) -> Result<(Parsed, &'a [Lexeme<'b>]), Stop>
     requires stronger { rank level < rank operand }
     requires known { rank operand ≤ 7 }
-    ensures reads { Gives (λ x. (x.0, terms x.1.now)) result (chain_of 128 level (rule_at 128 left operand) (terms lexemes.now)) }
+    ensures reads { Gives (λ x. (x.0, terms x.1.now)) result
+        (chain_of 128 level (rule_at 128 left operand) (terms lexemes.now)) }
     ensures shorter { IfOk result (λ x. length x.1.now < length lexemes.now) }
 {
     let (mut parsed, mut rest) = rule(alloc, operand, lexemes, left)?;
@@ -104,7 +107,8 @@ fn negation<'a, 'b>(
     lexemes: &'a [Lexeme<'b>],
     left: u16,
 ) -> Result<(Parsed, &'a [Lexeme<'b>]), Stop>
-    ensures reads { Gives (λ x. (x.0, terms x.1.now)) result (negation_of 128 left (inner_at 128 left) (terms lexemes.now)) }
+    ensures reads { Gives (λ x. (x.0, terms x.1.now)) result
+        (negation_of 128 left (inner_at 128 left) (terms lexemes.now)) }
     ensures shorter { IfOk result (λ x. length x.1.now < length lexemes.now) }
 {
     match if_keyword(lexemes, Keyword::Not) {
@@ -122,7 +126,8 @@ fn predicate<'a, 'b>(
     lexemes: &'a [Lexeme<'b>],
     left: u16,
 ) -> Result<(Parsed, &'a [Lexeme<'b>]), Stop>
-    ensures reads { Gives (λ x. (x.0, terms x.1.now)) result (predicate_of 128 left (inner_at 128 left) (terms lexemes.now)) }
+    ensures reads { Gives (λ x. (x.0, terms x.1.now)) result
+        (predicate_of 128 left (inner_at 128 left) (terms lexemes.now)) }
     ensures shorter { IfOk result (λ x. length x.1.now < length lexemes.now) }
 {
     let (subject, rest) = rule(alloc, Level::Sum, lexemes, left)?;
@@ -137,7 +142,8 @@ fn test<'a, 'b>(
     lexemes: &'a [Lexeme<'b>],
     left: u16,
 ) -> Result<(Parsed, &'a [Lexeme<'b>]), Stop>
-    ensures reads { Gives (λ x. (x.0, terms x.1.now)) result (test_of 128 left (inner_at 128 left) subject (terms lexemes.now)) }
+    ensures reads { Gives (λ x. (x.0, terms x.1.now)) result
+        (test_of 128 left (inner_at 128 left) subject (terms lexemes.now)) }
     ensures shorter { IfOk result (λ x. length x.1.now ≤ length lexemes.now) }
 {
     if let Some((operator, rest)) = if_comparison(lexemes) {
@@ -170,7 +176,8 @@ fn named_test<'a, 'b>(
     lexemes: &'a [Lexeme<'b>],
     left: u16,
 ) -> Result<(Parsed, &'a [Lexeme<'b>]), Stop>
-    ensures reads { Gives (λ x. (x.0, terms x.1.now)) result (named_test 128 left (inner_at 128 left) subject negated (terms lexemes.now)) }
+    ensures reads { Gives (λ x. (x.0, terms x.1.now)) result
+        (named_test 128 left (inner_at 128 left) subject negated (terms lexemes.now)) }
     ensures shorter { IfOk result (λ x. length x.1.now < length lexemes.now) }
 {
     if let Some(rest) = if_keyword(lexemes, Keyword::Between) {
@@ -203,7 +210,8 @@ fn bounds<'a, 'b>(
     lexemes: &'a [Lexeme<'b>],
     left: u16,
 ) -> Result<(Parsed, Parsed, &'a [Lexeme<'b>]), Stop>
-    ensures reads { Gives (λ x. ((x.0, x.1), terms x.2.now)) result (bounds_of 128 left (inner_at 128 left) (terms lexemes.now)) }
+    ensures reads { Gives (λ x. ((x.0, x.1), terms x.2.now)) result
+        (bounds_of 128 left (inner_at 128 left) (terms lexemes.now)) }
     ensures shorter { IfOk result (λ x. length x.2.now < length lexemes.now) }
 {
     let (low, rest) = rule(alloc, Level::Sum, lexemes, left)?;
@@ -222,7 +230,8 @@ fn high_bound<'a, 'b>(
     lexemes: &'a [Lexeme<'b>],
     left: u16,
 ) -> Result<(Parsed, &'a [Lexeme<'b>]), Stop>
-    ensures reads { Gives (λ x. (x.0, terms x.1.now)) result (high_of 128 left (inner_at 128 left) (terms lexemes.now)) }
+    ensures reads { Gives (λ x. (x.0, terms x.1.now)) result
+        (high_of 128 left (inner_at 128 left) (terms lexemes.now)) }
     ensures shorter { IfOk result (λ x. length x.1.now < length lexemes.now) }
 {
     let rest = past_keyword(lexemes, Keyword::And)?;
@@ -235,7 +244,8 @@ fn like_test<'a, 'b>(
     subject: Parsed,
     lexemes: &'a [Lexeme<'b>],
 ) -> Result<(Parsed, &'a [Lexeme<'b>]), Stop>
-    ensures reads { Gives (λ x. (x.0, terms x.1.now)) result (like_test 128 subject negated (terms lexemes.now)) }
+    ensures reads { Gives (λ x. (x.0, terms x.1.now)) result
+        (like_test 128 subject negated (terms lexemes.now)) }
     ensures shorter { IfOk result (λ x. length x.1.now < length lexemes.now) }
 {
     match pattern(alloc, lexemes) {
@@ -280,7 +290,8 @@ fn null<'a, 'b>(
     subject: Parsed,
     lexemes: &'a [Lexeme<'b>],
 ) -> Result<(Parsed, &'a [Lexeme<'b>]), Stop>
-    ensures reads { Gives (λ x. (x.0, terms x.1.now)) result (null_of 128 subject negated (terms lexemes.now)) }
+    ensures reads { Gives (λ x. (x.0, terms x.1.now)) result
+        (null_of 128 subject negated (terms lexemes.now)) }
     ensures shorter { IfOk result (λ x. length x.1.now < length lexemes.now) }
 {
     match past_keyword(lexemes, Keyword::Null) {
@@ -298,7 +309,8 @@ fn factor<'a, 'b>(
     lexemes: &'a [Lexeme<'b>],
     left: u16,
 ) -> Result<(Parsed, &'a [Lexeme<'b>]), Stop>
-    ensures reads { Gives (λ x. (x.0, terms x.1.now)) result (factor_of 128 left (inner_at 128 left) (terms lexemes.now)) }
+    ensures reads { Gives (λ x. (x.0, terms x.1.now)) result
+        (factor_of 128 left (inner_at 128 left) (terms lexemes.now)) }
     ensures shorter { IfOk result (λ x. length x.1.now < length lexemes.now) }
 {
     let Some((first, rest)) = lexemes.split_first() else {
@@ -321,7 +333,8 @@ fn behind_minus<'a, 'b>(
     lexemes: &'a [Lexeme<'b>],
     left: u16,
 ) -> Result<(Parsed, &'a [Lexeme<'b>]), Stop>
-    ensures reads { Gives (λ x. (x.0, terms x.1.now)) result (minus_of 128 left (inner_at 128 left) (terms lexemes.now)) }
+    ensures reads { Gives (λ x. (x.0, terms x.1.now)) result
+        (minus_of 128 left (inner_at 128 left) (terms lexemes.now)) }
     ensures shorter { IfOk result (λ x. length x.1.now < length lexemes.now) }
 {
     if let Some((digits, rest)) = if_integer(lexemes) {
@@ -340,7 +353,8 @@ fn primary<'a, 'b>(
     lexemes: &'a [Lexeme<'b>],
     left: u16,
 ) -> Result<(Parsed, &'a [Lexeme<'b>]), Stop>
-    ensures reads { Gives (λ x. (x.0, terms x.1.now)) result (primary_of 128 left (inner_at 128 left) (terms lexemes.now)) }
+    ensures reads { Gives (λ x. (x.0, terms x.1.now)) result
+        (primary_of 128 left (inner_at 128 left) (terms lexemes.now)) }
     ensures shorter { IfOk result (λ x. length x.1.now < length lexemes.now) }
 {
     let Some((first, rest)) = lexemes.split_first() else {
@@ -420,7 +434,8 @@ fn closed<'a, 'b>(
     lexemes: &'a [Lexeme<'b>],
     left: u16,
 ) -> Result<(Parsed, &'a [Lexeme<'b>]), Stop>
-    ensures reads { Gives (λ x. (x.0, terms x.1.now)) result (before_of (is_sign sign.Close) (inner_at 128 left) (terms lexemes.now)) }
+    ensures reads { Gives (λ x. (x.0, terms x.1.now)) result
+        (before_of (is_sign sign.Close) (inner_at 128 left) (terms lexemes.now)) }
     ensures shorter { IfOk result (λ x. length x.1.now < length lexemes.now) }
 {
     let (parsed, rest) = inner(alloc, Level::Disjunction, lexemes, left)?;
@@ -441,7 +456,8 @@ fn aggregate_behind<'a, 'b>(
     lexemes: &'a [Lexeme<'b>],
     left: u16,
 ) -> Result<(Parsed, &'a [Lexeme<'b>]), Stop>
-    ensures reads { Gives (λ x. (x.0, terms x.1.now)) result (aggregate_at 128 left (inner_at 128 left) kind (terms lexemes.now)) }
+    ensures reads { Gives (λ x. (x.0, terms x.1.now)) result
+        (aggregate_at 128 left (inner_at 128 left) kind (terms lexemes.now)) }
     ensures shorter { IfOk result (λ x. length x.1.now < length lexemes.now) }
 {
     let rest = past_sign(lexemes, Sign::Open)?;
@@ -483,7 +499,8 @@ fn bracketed_list<'a, 'b>(
     lexemes: &'a [Lexeme<'b>],
     left: u16,
 ) -> Result<(Sequence<Expr>, u8, &'a [Lexeme<'b>]), Stop>
-    ensures reads { Gives (λ x. (record { exprs = x.0; deepest = x.1 }, terms x.2.now)) result (bracketed_list (inner_at 128 left) (terms lexemes.now)) }
+    ensures reads { Gives (λ x. (record { exprs = x.0; deepest = x.1 }, terms x.2.now)) result
+        (bracketed_list (inner_at 128 left) (terms lexemes.now)) }
     ensures shorter { IfOk result (λ x. length x.2.now < length lexemes.now) }
 {
     let rest = past_sign(lexemes, Sign::Open)?;
@@ -504,7 +521,9 @@ fn closed_entries<'a, 'b>(
     left: u16,
     entries: &mut Sequence<Expr>,
 ) -> Result<(u8, &'a [Lexeme<'b>]), Stop>
-    ensures reads { Gives (λ x. (record { exprs = entries.new; deepest = x.0 }, terms x.1.now)) result (closed_list_of (inner_at 128 left) (record { exprs = entries.old; deepest = 0 }) (terms lexemes.now)) }
+    ensures reads { Gives (λ x. (record { exprs = entries.new; deepest = x.0 }, terms x.1.now))
+        result (closed_list_of (inner_at 128 left) (record { exprs = entries.old; deepest = 0 })
+        (terms lexemes.now)) }
     ensures shorter { IfOk result (λ x. length x.1.now < length lexemes.now) }
 {
     let (deepest, rest) = push_entries(alloc, lexemes, left, entries)?;
@@ -520,7 +539,9 @@ pub fn push_entries<'a, 'b>(
     left: u16,
     entries: &mut Sequence<Expr>,
 ) -> Result<(u8, &'a [Lexeme<'b>]), Stop>
-    ensures reads { Gives (λ x. (record { exprs = entries.new; deepest = x.0 }, terms x.1.now)) result (list_at (inner_at 128 left) (record { exprs = entries.old; deepest = 0 }) (terms lexemes.now)) }
+    ensures reads { Gives (λ x. (record { exprs = entries.new; deepest = x.0 }, terms x.1.now))
+        result (list_at (inner_at 128 left) (record { exprs = entries.old; deepest = 0 })
+        (terms lexemes.now)) }
     ensures shorter { IfOk result (λ x. length x.1.now < length lexemes.now) }
 {
     let (mut deepest, mut rest) = push_entry(alloc, lexemes, left, 0, entries)?;
@@ -539,7 +560,9 @@ fn push_entry<'a, 'b>(
     deepest: u8,
     entries: &mut Sequence<Expr>,
 ) -> Result<(u8, &'a [Lexeme<'b>]), Stop>
-    ensures reads { Gives (λ x. (record { exprs = entries.new; deepest = x.0 }, terms x.1.now)) result (entry_of (inner_at 128 left) (record { exprs = entries.old; deepest = deepest }) (terms lexemes.now)) }
+    ensures reads { Gives (λ x. (record { exprs = entries.new; deepest = x.0 }, terms x.1.now))
+        result (entry_of (inner_at 128 left) (record { exprs = entries.old; deepest = deepest })
+        (terms lexemes.now)) }
     ensures shorter { IfOk result (λ x. length x.1.now < length lexemes.now) }
 {
     let (parsed, rest) = inner(alloc, Level::Disjunction, lexemes, left)?;
@@ -555,7 +578,8 @@ fn case_behind<'a, 'b>(
     lexemes: &'a [Lexeme<'b>],
     left: u16,
 ) -> Result<(Parsed, &'a [Lexeme<'b>]), Stop>
-    ensures reads { Gives (λ x. (x.0, terms x.1.now)) result (case_of 128 left (inner_at 128 left) (terms lexemes.now)) }
+    ensures reads { Gives (λ x. (x.0, terms x.1.now)) result
+        (case_of 128 left (inner_at 128 left) (terms lexemes.now)) }
     ensures shorter { IfOk result (λ x. length x.1.now < length lexemes.now) }
 {
     let rest = past_keyword(lexemes, Keyword::When)?;
@@ -583,7 +607,8 @@ fn push_arms<'a, 'b>(
     left: u16,
     arms: &mut Sequence<Arm>,
 ) -> Result<(u8, &'a [Lexeme<'b>]), Stop>
-    ensures reads { Gives (λ x. (record { arms = arms.new; deepest = x.0 }, terms x.1.now)) result (arms_at (inner_at 128 left) (record { arms = arms.old; deepest = 0 }) (terms lexemes.now)) }
+    ensures reads { Gives (λ x. (record { arms = arms.new; deepest = x.0 }, terms x.1.now)) result
+        (arms_at (inner_at 128 left) (record { arms = arms.old; deepest = 0 }) (terms lexemes.now)) }
     ensures shorter { IfOk result (λ x. length x.1.now < length lexemes.now) }
 {
     let (mut deepest, mut rest) = push_arm(alloc, lexemes, left, 0, arms)?;
@@ -602,7 +627,9 @@ fn push_arm<'a, 'b>(
     deepest: u8,
     arms: &mut Sequence<Arm>,
 ) -> Result<(u8, &'a [Lexeme<'b>]), Stop>
-    ensures reads { Gives (λ x. (record { arms = arms.new; deepest = x.0 }, terms x.1.now)) result (arm_at (inner_at 128 left) (record { arms = arms.old; deepest = deepest }) (terms lexemes.now)) }
+    ensures reads { Gives (λ x. (record { arms = arms.new; deepest = x.0 }, terms x.1.now)) result
+        (arm_at (inner_at 128 left) (record { arms = arms.old; deepest = deepest })
+        (terms lexemes.now)) }
     ensures shorter { IfOk result (λ x. length x.1.now < length lexemes.now) }
 {
     let (arm, depth, rest) = arm(alloc, lexemes, left)?;
@@ -617,7 +644,8 @@ fn arm<'a, 'b>(
     lexemes: &'a [Lexeme<'b>],
     left: u16,
 ) -> Result<(Arm, u8, &'a [Lexeme<'b>]), Stop>
-    ensures reads { Gives (λ x. ((x.0, x.1), terms x.2.now)) result (arm_of (inner_at 128 left) (terms lexemes.now)) }
+    ensures reads { Gives (λ x. ((x.0, x.1), terms x.2.now)) result
+        (arm_of (inner_at 128 left) (terms lexemes.now)) }
     ensures shorter { IfOk result (λ x. length x.2.now < length lexemes.now) }
 {
     let (condition, rest) = inner(alloc, Level::Disjunction, lexemes, left)?;
@@ -643,7 +671,8 @@ fn then_value<'a, 'b>(
     lexemes: &'a [Lexeme<'b>],
     left: u16,
 ) -> Result<(Parsed, &'a [Lexeme<'b>]), Stop>
-    ensures reads { Gives (λ x. (x.0, terms x.1.now)) result (then_of (inner_at 128 left) (terms lexemes.now)) }
+    ensures reads { Gives (λ x. (x.0, terms x.1.now)) result
+        (then_of (inner_at 128 left) (terms lexemes.now)) }
     ensures shorter { IfOk result (λ x. length x.1.now < length lexemes.now) }
 {
     let rest = past_keyword(lexemes, Keyword::Then)?;
@@ -657,7 +686,8 @@ fn otherwise<'a, 'b>(
     lexemes: &'a [Lexeme<'b>],
     left: u16,
 ) -> Result<(Option<Parsed>, &'a [Lexeme<'b>]), Stop>
-    ensures reads { Gives (λ x. (x.0, terms x.1.now)) result (else_of (inner_at 128 left) (terms lexemes.now)) }
+    ensures reads { Gives (λ x. (x.0, terms x.1.now)) result
+        (else_of (inner_at 128 left) (terms lexemes.now)) }
     ensures shorter { IfOk result (λ x. length x.1.now < length lexemes.now) }
 {
     let Some(rest) = if_keyword(lexemes, Keyword::Else) else {

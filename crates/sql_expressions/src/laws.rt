@@ -9,5 +9,6 @@ ghost use Rattle.sql_syntax.specs.declared.tree.Expr.{Expr};
 /// A list of tokens spells at most one expression of the whole grammar by a rule.
 #[tactic(auto, using(crate::proofs::Complete::unique))]
 pub fn expressions_are_unique()
-    ensures { (l : Level) (ts : List Terminal) (a b : Expr) → Spells l ts a → Spells l ts b → a ≡ b }
+    ensures { (l : Level) (ts : List Terminal) (a b : Expr) → Spells l ts a → Spells l ts b
+        → a ≡ b }
 {}

@@ -16,7 +16,8 @@ use std::mem::drop;
 /// How deep a tree may be.
 const MAX_DEPTH: u8 = 128;
 
-/// An expression. A literal, a column and COUNT(*) have depth 1, any other is one deeper than its deepest part.
+/// An expression. A literal, a column and COUNT(*) have depth 1, any other is one deeper than its
+/// deepest part.
 #[derive(Drop)]
 pub struct Parsed {
     pub expr: Expr,
@@ -123,7 +124,8 @@ pub fn joined(
     left: Parsed,
     right: Parsed,
 ) -> Result<Parsed, Stop>
-    ensures { Gives (λ p. p) result (node 128 (max left.depth right.depth) (node_of operator left.expr right.expr)) }
+    ensures { Gives (λ p. p) result
+        (node 128 (max left.depth right.depth) (node_of operator left.expr right.expr)) }
 {
     let depth = left.depth.max(right.depth);
     let (left, right) = boxed_pair(alloc, left.expr, right.expr)?;
@@ -136,7 +138,8 @@ pub fn compare(
     left: Parsed,
     right: Parsed,
 ) -> Result<Parsed, Stop>
-    ensures { Gives (λ p. p) result (node 128 (max left.depth right.depth) (expr.Compare operator left.expr right.expr)) }
+    ensures { Gives (λ p. p) result
+        (node 128 (max left.depth right.depth) (expr.Compare operator left.expr right.expr)) }
 {
     let depth = left.depth.max(right.depth);
     let (left, right) = boxed_pair(alloc, left.expr, right.expr)?;
@@ -157,7 +160,9 @@ pub fn between(
     low: Parsed,
     high: Parsed,
 ) -> Result<Parsed, Stop>
-    ensures { Gives (λ p. p) result (node 128 (max subject.depth (max low.depth high.depth)) (expr.Between negated subject.expr low.expr high.expr)) }
+    ensures { Gives (λ p. p) result
+        (node 128 (max subject.depth (max low.depth high.depth))
+        (expr.Between negated subject.expr low.expr high.expr)) }
 {
     let depth = subject.depth.max(low.depth.max(high.depth));
     let bounds = boxed_pair(alloc, low.expr, high.expr);
@@ -192,7 +197,8 @@ pub fn among(
     entries: Sequence<Expr>,
     deepest: u8,
 ) -> Result<Parsed, Stop>
-    ensures { Gives (λ p. p) result (node 128 (max subject.depth deepest) (expr.In negated subject.expr entries)) }
+    ensures { Gives (λ p. p) result
+        (node 128 (max subject.depth deepest) (expr.In negated subject.expr entries)) }
 {
     let depth = subject.depth.max(deepest);
     match Boxed::new(alloc, subject.expr) {
@@ -212,7 +218,8 @@ pub fn among(
 }
 
 pub fn like(alloc: Global, negated: bool, subject: Parsed, pattern: Text) -> Result<Parsed, Stop>
-    ensures { Gives (λ p. p) result (node 128 subject.depth (expr.Like negated subject.expr pattern)) }
+    ensures { Gives (λ p. p) result
+        (node 128 subject.depth (expr.Like negated subject.expr pattern)) }
 {
     let depth = subject.depth;
     let subject = Boxed::new(alloc, subject.expr)?;
@@ -247,7 +254,8 @@ pub fn case(
     deepest: u8,
     otherwise: Option<Parsed>,
 ) -> Result<Parsed, Stop>
-    ensures { Gives (λ p. p) result (case_node 128 (record { arms = arms; deepest = deepest }) otherwise) }
+    ensures { Gives (λ p. p) result
+        (case_node 128 (record { arms = arms; deepest = deepest }) otherwise) }
 {
     let Some(value) = otherwise else {
         return node(

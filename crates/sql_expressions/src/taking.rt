@@ -39,7 +39,8 @@ fn is_sign(token: Token<'_>, sign: Sign) -> bool
 
 /// What stands behind a keyword, where it is at the front.
 pub fn if_keyword<'a, 'b>(lexemes: &'a [Lexeme<'b>], keyword: Keyword) -> Option<&'a [Lexeme<'b>]>
-    ensures reads { option_map (λ x. terms x.now) result ≡ behind (is_keyword keyword) (terms lexemes.now) }
+    ensures reads { option_map (λ x. terms x.now) result
+        ≡ behind (is_keyword keyword) (terms lexemes.now) }
     ensures shorter { IfSome result (λ x. length x.now < length lexemes.now) }
 {
     match lexemes.split_first() {
@@ -50,7 +51,8 @@ pub fn if_keyword<'a, 'b>(lexemes: &'a [Lexeme<'b>], keyword: Keyword) -> Option
 
 /// What stands behind a sign, where it is at the front.
 pub fn if_sign<'a, 'b>(lexemes: &'a [Lexeme<'b>], sign: Sign) -> Option<&'a [Lexeme<'b>]>
-    ensures reads { option_map (λ x. terms x.now) result ≡ behind (is_sign sign) (terms lexemes.now) }
+    ensures reads { option_map (λ x. terms x.now) result
+        ≡ behind (is_sign sign) (terms lexemes.now) }
     ensures shorter { IfSome result (λ x. length x.now < length lexemes.now) }
 {
     match lexemes.split_first() {
@@ -64,7 +66,8 @@ pub fn past_keyword<'a, 'b>(
     lexemes: &'a [Lexeme<'b>],
     keyword: Keyword,
 ) -> Result<&'a [Lexeme<'b>], Stop>
-    ensures reads { Gives (λ x. terms x.now) result (behind (is_keyword keyword) (terms lexemes.now)) }
+    ensures reads { Gives (λ x. terms x.now) result
+        (behind (is_keyword keyword) (terms lexemes.now)) }
     ensures shorter { IfOk result (λ x. length x.now < length lexemes.now) }
 {
     match if_keyword(lexemes, keyword) {
@@ -165,7 +168,8 @@ pub fn if_operator<'a, 'b>(
     level: Level,
     lexemes: &'a [Lexeme<'b>],
 ) -> Option<(Operator, &'a [Lexeme<'b>])>
-    ensures reads { option_map (λ x. (x.0, terms x.1.now)) result ≡ first_is (operator_of level) (terms lexemes.now) }
+    ensures reads { option_map (λ x. (x.0, terms x.1.now)) result
+        ≡ first_is (operator_of level) (terms lexemes.now) }
     ensures shorter { IfSome result (λ x. length x.1.now < length lexemes.now) }
 {
     let (first, rest) = lexemes.split_first()?;
@@ -189,7 +193,8 @@ fn comparison_of(token: Token<'_>) -> Option<Comparison>
 
 /// The comparison at the front, and what stands behind it.
 pub fn if_comparison<'a, 'b>(lexemes: &'a [Lexeme<'b>]) -> Option<(Comparison, &'a [Lexeme<'b>])>
-    ensures reads { option_map (λ x. (x.0, terms x.1.now)) result ≡ first_is comparison_of (terms lexemes.now) }
+    ensures reads { option_map (λ x. (x.0, terms x.1.now)) result
+        ≡ first_is comparison_of (terms lexemes.now) }
     ensures shorter { IfSome result (λ x. length x.1.now < length lexemes.now) }
 {
     let (first, rest) = lexemes.split_first()?;
@@ -222,7 +227,8 @@ fn digits_of(token: Token<'_>) -> Option<u64>
 
 /// The number that the digits at the front make, and what stands behind them.
 pub fn if_integer<'a, 'b>(lexemes: &'a [Lexeme<'b>]) -> Option<(u64, &'a [Lexeme<'b>])>
-    ensures reads { option_map (λ x. (x.0, terms x.1.now)) result ≡ first_is digits_of (terms lexemes.now) }
+    ensures reads { option_map (λ x. (x.0, terms x.1.now)) result
+        ≡ first_is digits_of (terms lexemes.now) }
     ensures shorter { IfSome result (λ x. length x.1.now < length lexemes.now) }
 {
     let (first, rest) = lexemes.split_first()?;

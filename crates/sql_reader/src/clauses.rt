@@ -79,7 +79,8 @@ fn push_items<'a, 'b>(
     lexemes: &'a [Lexeme<'b>],
     items: &mut Sequence<Item>,
 ) -> Result<&'a [Lexeme<'b>], Stop>
-    ensures reads { Gives (λ x. (items.new, terms x.now)) result (items_at within items.old (terms lexemes.now)) }
+    ensures reads { Gives (λ x. (items.new, terms x.now)) result
+        (items_at within items.old (terms lexemes.now)) }
     ensures shorter { IfOk result (λ x. length x.now < length lexemes.now) }
 {
     let mut rest = push_item(alloc, lexemes, items)?;
@@ -94,7 +95,8 @@ fn push_item<'a, 'b>(
     lexemes: &'a [Lexeme<'b>],
     items: &mut Sequence<Item>,
 ) -> Result<&'a [Lexeme<'b>], Stop>
-    ensures reads { Gives (λ x. (items.new, terms x.now)) result (put_item within items.old (terms lexemes.now)) }
+    ensures reads { Gives (λ x. (items.new, terms x.now)) result
+        (put_item within items.old (terms lexemes.now)) }
     ensures shorter { IfOk result (λ x. length x.now < length lexemes.now) }
 {
     let (item, rest) = item(alloc, lexemes)?;
@@ -120,7 +122,8 @@ fn condition<'a, 'b>(
     keyword: Keyword,
     lexemes: &'a [Lexeme<'b>],
 ) -> Result<(Expr, &'a [Lexeme<'b>]), Stop>
-    ensures reads { Gives (λ x. (x.0, terms x.1.now)) result (condition_at within keyword (terms lexemes.now)) }
+    ensures reads { Gives (λ x. (x.0, terms x.1.now)) result
+        (condition_at within keyword (terms lexemes.now)) }
     ensures shorter { IfOk result (λ x. length x.1.now < length lexemes.now) }
 {
     let rest = past_keyword(lexemes, keyword)?;
@@ -185,7 +188,8 @@ fn push_other<'a, 'b>(
     lexemes: &'a [Lexeme<'b>],
     others: &mut Sequence<Joined>,
 ) -> Result<&'a [Lexeme<'b>], Stop>
-    ensures reads { Gives (λ x. (others.new, terms x.now)) result (put_other within others.old (terms lexemes.now)) }
+    ensures reads { Gives (λ x. (others.new, terms x.now)) result
+        (put_other within others.old (terms lexemes.now)) }
     ensures shorter { IfOk result (λ x. length x.now < length lexemes.now) }
 {
     let (joined, rest) = other(alloc, lexemes)?;
@@ -199,7 +203,8 @@ fn tables<'a, 'b>(
     lexemes: &'a [Lexeme<'b>],
     others: &mut Sequence<Joined>,
 ) -> Result<(Table, &'a [Lexeme<'b>]), Stop>
-    ensures reads { Gives (λ x. ((x.0, others.new), terms x.1.now)) result (tables_at within others.old (terms lexemes.now)) }
+    ensures reads { Gives (λ x. ((x.0, others.new), terms x.1.now)) result
+        (tables_at within others.old (terms lexemes.now)) }
     ensures shorter { IfOk result (λ x. length x.1.now < length lexemes.now) }
 {
     let (first, mut rest) = table(alloc, lexemes)?;
@@ -240,7 +245,8 @@ fn clause<'a, 'b>(
     keyword: Keyword,
     lexemes: &'a [Lexeme<'b>],
 ) -> Result<(Option<Expr>, &'a [Lexeme<'b>]), Stop>
-    ensures reads { Gives (λ x. (x.0, terms x.1.now)) result (clause_at within keyword (terms lexemes.now)) }
+    ensures reads { Gives (λ x. (x.0, terms x.1.now)) result
+        (clause_at within keyword (terms lexemes.now)) }
     ensures shorter { IfOk result (λ x. length x.1.now ≤ length lexemes.now) }
 {
     match if_keyword(lexemes, keyword) {
@@ -278,7 +284,8 @@ fn push_groups<'a, 'b>(
     lexemes: &'a [Lexeme<'b>],
     keys: &mut Sequence<Expr>,
 ) -> Result<&'a [Lexeme<'b>], Stop>
-    ensures reads { Gives (λ x. (keys.new, terms x.now)) result (group_keys_at within keys.old (terms lexemes.now)) }
+    ensures reads { Gives (λ x. (keys.new, terms x.now)) result
+        (group_keys_at within keys.old (terms lexemes.now)) }
     ensures shorter { IfOk result (λ x. length x.now < length lexemes.now) }
 {
     let rest = past_keyword(lexemes, Keyword::By)?;
@@ -333,7 +340,8 @@ fn push_keys<'a, 'b>(
     lexemes: &'a [Lexeme<'b>],
     keys: &mut Sequence<OrderKey>,
 ) -> Result<&'a [Lexeme<'b>], Stop>
-    ensures reads { Gives (λ x. (keys.new, terms x.now)) result (keys_at keys.old (terms lexemes.now)) }
+    ensures reads { Gives (λ x. (keys.new, terms x.now)) result
+        (keys_at keys.old (terms lexemes.now)) }
     ensures shorter { IfOk result (λ x. length x.now < length lexemes.now) }
 {
     let mut rest = push_key(alloc, lexemes, keys)?;
@@ -348,7 +356,8 @@ fn push_key<'a, 'b>(
     lexemes: &'a [Lexeme<'b>],
     keys: &mut Sequence<OrderKey>,
 ) -> Result<&'a [Lexeme<'b>], Stop>
-    ensures reads { Gives (λ x. (keys.new, terms x.now)) result (put_key keys.old (terms lexemes.now)) }
+    ensures reads { Gives (λ x. (keys.new, terms x.now)) result
+        (put_key keys.old (terms lexemes.now)) }
     ensures shorter { IfOk result (λ x. length x.now < length lexemes.now) }
 {
     let (key, rest) = key(alloc, lexemes)?;

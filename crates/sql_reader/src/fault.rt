@@ -7,7 +7,8 @@ use meaning::text::Text;
 use std::alloc::AllocError;
 use thiserror::Error;
 
-/// Why a text isn't a query. Places are bytes of the text, counted from 0; at the end of the text, its length.
+/// Why a text isn't a query. Places are bytes of the text, counted from 0; at the end of the text,
+/// its length.
 #[derive(Debug, Drop, Error)]
 pub enum SqlFault {
     #[error("out of memory")]

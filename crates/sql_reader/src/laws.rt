@@ -26,7 +26,8 @@ pub fn queries_are_unique()
 
 /// The literals of the tree of a text that is not too long are values that a table may hold.
 pub fn literals_fit()
-    ensures { (bs : List ℕ) (q : Query) → IsTree bs q → length bs ≤ max_query_bytes → has_only_fitting_literals q ≡ true }
+    ensures { (bs : List ℕ) (q : Query) → IsTree bs q → length bs ≤ max_query_bytes
+        → has_only_fitting_literals q ≡ true }
 {}
 
 /// The tree of a text has an item.

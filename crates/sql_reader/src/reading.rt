@@ -16,9 +16,9 @@ use sql_syntax::tree::Query;
 use std::alloc::Global;
 use std::mem::drop;
 
-/// The syntax tree of a text. Where several refusals stand in a text, one of the whole text comes first, then the one of
-/// the least place, and that of the canonical text last. A text in which too many are open, or whose tree is too deep, is
-/// refused for that where reading comes to it.
+/// The syntax tree of a text. Where several refusals stand in a text, one of the whole text comes
+/// first, then the one of the least place, and that of the canonical text last. A text in which too
+/// many are open, or whose tree is too deep, is refused for that where reading comes to it.
 pub fn read(alloc: Global, text: &[u8]) -> Result<Query, SqlFault>
     // What is read is the tree of the text, within the limits.
     ensures tree { IfOk result (IsWithin text.now) }

@@ -1,4 +1,5 @@
-//! What holds of every tree of the grammar and its canonical text. The functions do nothing: their contracts are the laws.
+//! What holds of every tree of the grammar and its canonical text. The functions do nothing: their
+//! contracts are the laws.
 
 ghost use Rattle.std.specs.Prelude.{List, ℕ};
 ghost use Rattle.std.specs.Str.{IsUtf8};
@@ -15,7 +16,8 @@ ghost use Rattle.sql_syntax.specs.declared.tree.Query.{Query};
 /// The canonical tokens of an expression spell the same expression.
 #[tactic(auto, using(crate::proofs::Canonical::canonical_spells))]
 pub fn canonical_tokens_spell()
-    ensures { (l : Level) (ts : List Terminal) (e : Expr) → Spells l ts e → Spells Disjunction (canonical_tokens e) e }
+    ensures { (l : Level) (ts : List Terminal) (e : Expr) → Spells l ts e
+        → Spells Disjunction (canonical_tokens e) e }
 {}
 
 /// The canonical tokens of a query spell the same query.
@@ -27,10 +29,12 @@ pub fn canonical_query_tokens_spell()
 /// The canonical text of a query spells the same query.
 #[tactic(auto, using(crate::proofs::ApartQuery::canonical_again))]
 pub fn canonical_text_spells_the_query()
-    ensures { (bs : List ℕ) (q : Query) → SpellsQuery (terminals (tokens_of bs)) q → SpellsQuery (terminals (tokens_of (canonical q))) q }
+    ensures { (bs : List ℕ) (q : Query) → SpellsQuery (terminals (tokens_of bs)) q
+        → SpellsQuery (terminals (tokens_of (canonical q))) q }
 {}
 
 /// The canonical text of a query that a text of UTF-8 spells is UTF-8.
 pub fn canonical_text_is_utf8()
-    ensures { (bs : List ℕ) (q : Query) → IsUtf8 bs → SpellsQuery (terminals (tokens_of bs)) q → IsUtf8 (canonical q) }
+    ensures { (bs : List ℕ) (q : Query) → IsUtf8 bs → SpellsQuery (terminals (tokens_of bs)) q
+        → IsUtf8 (canonical q) }
 {}

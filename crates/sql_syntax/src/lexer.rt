@@ -58,7 +58,8 @@ fn blank_length(bytes: &[u8]) -> usize
 
 fn begins_comment(bytes: &[u8], at: usize) -> bool
     requires { at < length bytes.now }
-    ensures { IsTrue result ↔ ((slice_index bytes.now at ≡ 45) × (slice_index bytes.now (at + 1) ≡ 45)) }
+    ensures { IsTrue result ↔ ((slice_index bytes.now at ≡ 45)
+        × (slice_index bytes.now (at + 1) ≡ 45)) }
 {
     bytes[at] == b'-' && at + 1 < bytes.len() && bytes[at + 1] == b'-'
 }
@@ -153,7 +154,8 @@ fn digits_length(bytes: &[u8]) -> usize
 
 /// The number that digits make, unless it is over `GREATEST`.
 fn number(digits: &[u8]) -> Option<u64>
-    ensures { result ≡ (if nat_le (number_of digits.now) GREATEST then Some (number_of digits.now) else None) }
+    ensures { result ≡ (if nat_le (number_of digits.now) GREATEST then Some (number_of digits.now)
+        else None) }
 {
     let mut number: u64 = 0;
     let mut fits = true;

@@ -1,6 +1,7 @@
 //! The syntax of SQL: its tokens, the tree of a query, and a tree's canonical text.
 //!
-//! `specs/` has the grammar, as a relation between lists of tokens and trees; `laws` the theorems on it.
+//! `specs/` has the grammar, as a relation between lists of tokens and trees; `laws` the theorems
+//! on it.
 #![tactic(auto)]
 
 pub mod keyword;

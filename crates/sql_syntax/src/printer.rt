@@ -14,7 +14,8 @@ use crate::token::{Sign, Token};
 use meaning::text::Text;
 use std::alloc::{AllocError, Global};
 
-/// The text so far, whether its last token may end an operand, and whether no blank may stand behind it.
+/// The text so far, whether its last token may end an operand, and whether no blank may stand
+/// behind it.
 #[derive(Drop)]
 pub struct Printer {
     pub out: String,
@@ -35,7 +36,8 @@ impl Printer {
 
     /// Writes a token, and a blank before it where one belongs there.
     pub fn put(&mut self, token: Token<'_>) -> Result<(), AllocError>
-        ensures { OnOk result (written self.new ≡ with_token (written self.old) (terminal_of token.entry)) }
+        ensures { OnOk result (written self.new
+            ≡ with_token (written self.old) (terminal_of token.entry)) }
     {
         put_blank(&mut self.out, self.hugs || hugs_left(token))?;
         put_token(&mut self.out, token)?;
@@ -46,7 +48,8 @@ impl Printer {
 
     /// Writes a text with its quotes doubled.
     pub fn put_text(&mut self, content: &str) -> Result<(), AllocError>
-        ensures { OnOk result (written self.new ≡ with_token (written self.old) (text (doubled content.now))) }
+        ensures { OnOk result (written self.new
+            ≡ with_token (written self.old) (text (doubled content.now))) }
     {
         put_blank(&mut self.out, self.hugs)?;
         put_quoted(&mut self.out, content)?;
@@ -57,7 +60,8 @@ impl Printer {
 
     /// An integer, where a negative one is a minus and digits.
     pub fn put_integer(&mut self, integer: i64) -> Result<(), AllocError>
-        ensures { OnOk result (written self.new ≡ with_tokens (written self.old) (integer_tokens integer)) }
+        ensures { OnOk result (written self.new
+            ≡ with_tokens (written self.old) (integer_tokens integer)) }
     {
         if integer < 0 {
             self.put_negative(integer.unsigned_abs())
@@ -67,14 +71,16 @@ impl Printer {
     }
 
     fn put_negative(&mut self, digits: u64) -> Result<(), AllocError>
-        ensures { OnOk result (written self.new ≡ with_tokens (written self.old) (sign_is Minus ∷ integer digits ∷ [])) }
+        ensures { OnOk result (written self.new
+            ≡ with_tokens (written self.old) (sign_is Minus ∷ integer digits ∷ [])) }
     {
         self.put(Token::Sign(Sign::Minus))?;
         self.put(Token::Integer(digits))
     }
 
     pub fn put_column(&mut self, table: &Option<Text>, name: &Text) -> Result<(), AllocError>
-        ensures { OnOk result (written self.new ≡ with_tokens (written self.old) (column_tokens table.now name.now)) }
+        ensures { OnOk result (written self.new
+            ≡ with_tokens (written self.old) (column_tokens table.now name.now)) }
     {
         match table {
             Some(table) => self.put_column_of(table, name),
@@ -83,7 +89,8 @@ impl Printer {
     }
 
     fn put_column_of(&mut self, table: &Text, name: &Text) -> Result<(), AllocError>
-        ensures { OnOk result (written self.new ≡ with_tokens (written self.old) (column_tokens (Some table.now) name.now)) }
+        ensures { OnOk result (written self.new
+            ≡ with_tokens (written self.old) (column_tokens (Some table.now) name.now)) }
     {
         self.put(Token::Name(table.as_str()))?;
         self.put(Token::Sign(Sign::Dot))?;
@@ -108,7 +115,8 @@ fn put_blank(out: &mut String, hugs: bool) -> Result<(), AllocError>
 }
 
 fn put_quoted(out: &mut String, content: &str) -> Result<(), AllocError>
-    ensures { OnOk result (string_bytes out.new ≡ string_bytes out.old ++ token_text (text (doubled content.now))) }
+    ensures { OnOk result (string_bytes out.new ≡ string_bytes out.old
+        ++ token_text (text (doubled content.now))) }
 {
     out.push_str("'")?;
     push_doubled(out, content)?;
@@ -116,7 +124,8 @@ fn put_quoted(out: &mut String, content: &str) -> Result<(), AllocError>
 }
 
 fn put_token(out: &mut String, token: Token<'_>) -> Result<(), AllocError>
-    ensures { OnOk result (string_bytes out.new ≡ string_bytes out.old ++ token_text (terminal_of token.entry)) }
+    ensures { OnOk result (string_bytes out.new ≡ string_bytes out.old
+        ++ token_text (terminal_of token.entry)) }
 {
     match token {
         Token::Keyword(keyword) => out.push_str(keyword.spelling()),
@@ -132,7 +141,8 @@ fn put_token(out: &mut String, token: Token<'_>) -> Result<(), AllocError>
 }
 
 fn put_between_quotes(out: &mut String, content: &str) -> Result<(), AllocError>
-    ensures { OnOk result (string_bytes out.new ≡ string_bytes out.old ++ token_text (text content.now)) }
+    ensures { OnOk result (string_bytes out.new ≡ string_bytes out.old
+        ++ token_text (text content.now)) }
 {
     out.push_str("'")?;
     out.push_str(content)?;

@@ -23,8 +23,8 @@ use meaning::boxed::Boxed;
 use meaning::text::Text;
 use std::alloc::{AllocError, Global};
 
-/// The canonical text of a query: keywords in capitals, names in lower case, brackets only where the grammar needs them,
-/// and no blank that isn't needed.
+/// The canonical text of a query: keywords in capitals, names in lower case, brackets only where
+/// the grammar needs them, and no blank that isn't needed.
 #[tactic(auto, using(crate::proofs::Writing::writes), unfolding(crate::specs::Canonical::canonical))]
 pub fn print(alloc: Global, query: &Query) -> Result<Text, AllocError>
     ensures { IfOk result (λ printed. printed ≡ canonical query.now) }
@@ -57,7 +57,8 @@ pub fn strength(expr: &Expr) -> Level
 impl Printer {
     #[tactic(auto, using(crate::proofs::Writing::with_append))]
     fn put_query(&mut self, query: &Query) -> Result<(), AllocError>
-        ensures { OnOk result (written self.new ≡ with_tokens (written self.old) (query_tokens query.now)) }
+        ensures { OnOk result (written self.new
+            ≡ with_tokens (written self.old) (query_tokens query.now)) }
     {
         self.put(Token::Keyword(Keyword::Select))?;
         self.put_items(query.items.as_slice())?;
@@ -66,7 +67,8 @@ impl Printer {
 
     #[tactic(auto, using(crate::proofs::Writing::with_append))]
     fn put_source(&mut self, query: &Query) -> Result<(), AllocError>
-        ensures { OnOk result (written self.new ≡ with_tokens (written self.old) (source_tokens query.now)) }
+        ensures { OnOk result (written self.new
+            ≡ with_tokens (written self.old) (source_tokens query.now)) }
     {
         self.put(Token::Keyword(Keyword::From))?;
         self.put_table(&query.source.first)?;
@@ -76,7 +78,8 @@ impl Printer {
 
     #[tactic(auto, using(crate::proofs::Writing::with_append))]
     fn put_conditions(&mut self, query: &Query) -> Result<(), AllocError>
-        ensures { OnOk result (written self.new ≡ with_tokens (written self.old) (condition_tokens query.now)) }
+        ensures { OnOk result (written self.new
+            ≡ with_tokens (written self.old) (condition_tokens query.now)) }
     {
         self.put_clause(Keyword::Where, &query.filter)?;
         self.put_groups(query.group_by.as_slice())?;
@@ -86,7 +89,8 @@ impl Printer {
 
     #[tactic(auto, using(crate::proofs::Writing::with_append))]
     fn put_end(&mut self, query: &Query) -> Result<(), AllocError>
-        ensures { OnOk result (written self.new ≡ with_tokens (written self.old) (end_tokens query.now)) }
+        ensures { OnOk result (written self.new
+            ≡ with_tokens (written self.old) (end_tokens query.now)) }
     {
         self.put_order(query.order_by.as_slice())?;
         self.put_limit(query.limit)
@@ -94,7 +98,8 @@ impl Printer {
 
     #[tactic(auto, using(crate::proofs::Writing::items_first))]
     fn put_items(&mut self, items: &[Item]) -> Result<(), AllocError>
-        ensures { OnOk result (written self.new ≡ with_tokens (written self.old) (with_commas (map item_tokens items.now))) }
+        ensures { OnOk result (written self.new
+            ≡ with_tokens (written self.old) (with_commas (map item_tokens items.now))) }
     {
         let Some((first, rest)) = items.split_first() else {
             return Ok(());
@@ -105,7 +110,8 @@ impl Printer {
 
     #[tactic(auto, using(crate::proofs::Writing::items_step))]
     fn put_more_items(&mut self, items: &[Item]) -> Result<(), AllocError>
-        ensures { OnOk result (written self.new ≡ with_tokens (written self.old) (more_items items.now)) }
+        ensures { OnOk result (written self.new
+            ≡ with_tokens (written self.old) (more_items items.now)) }
     {
         for item in items {
             self.put(Token::Sign(Sign::Comma))?;
@@ -116,14 +122,16 @@ impl Printer {
 
     #[tactic(auto, using(crate::proofs::Writing::with_append))]
     fn put_item(&mut self, item: &Item) -> Result<(), AllocError>
-        ensures { OnOk result (written self.new ≡ with_tokens (written self.old) (item_tokens item.now)) }
+        ensures { OnOk result (written self.new
+            ≡ with_tokens (written self.old) (item_tokens item.now)) }
     {
         self.put_at(Level::Disjunction, &item.expr)?;
         self.put_alias(&item.alias)
     }
 
     fn put_alias(&mut self, alias: &Option<Text>) -> Result<(), AllocError>
-        ensures { OnOk result (written self.new ≡ with_tokens (written self.old) (alias_tokens alias.now)) }
+        ensures { OnOk result (written self.new
+            ≡ with_tokens (written self.old) (alias_tokens alias.now)) }
     {
         match alias {
             Some(name) => {
@@ -135,7 +143,8 @@ impl Printer {
     }
 
     fn put_table(&mut self, table: &Table) -> Result<(), AllocError>
-        ensures { OnOk result (written self.new ≡ with_tokens (written self.old) (table_tokens table.now)) }
+        ensures { OnOk result (written self.new
+            ≡ with_tokens (written self.old) (table_tokens table.now)) }
     {
         self.put(Token::Name(table.name.as_str()))?;
         self.put_alias(&table.alias)
@@ -143,7 +152,8 @@ impl Printer {
 
     #[tactic(auto, using(crate::proofs::Writing::others_step))]
     fn put_others(&mut self, others: &[Joined]) -> Result<(), AllocError>
-        ensures { OnOk result (written self.new ≡ with_tokens (written self.old) (others_tokens_of others.now)) }
+        ensures { OnOk result (written self.new
+            ≡ with_tokens (written self.old) (others_tokens_of others.now)) }
     {
         for joined in others {
             self.put_joined(joined)?;
@@ -153,7 +163,8 @@ impl Printer {
 
     #[tactic(auto, using(crate::proofs::Writing::with_append))]
     fn put_joined(&mut self, joined: &Joined) -> Result<(), AllocError>
-        ensures { OnOk result (written self.new ≡ with_tokens (written self.old) (joined_tokens joined.now)) }
+        ensures { OnOk result (written self.new
+            ≡ with_tokens (written self.old) (joined_tokens joined.now)) }
     {
         match &joined.on {
             Some(on) => {
@@ -169,7 +180,8 @@ impl Printer {
     }
 
     fn put_clause(&mut self, keyword: Keyword, condition: &Option<Expr>) -> Result<(), AllocError>
-        ensures { OnOk result (written self.new ≡ with_tokens (written self.old) (clause_tokens keyword condition.now)) }
+        ensures { OnOk result (written self.new
+            ≡ with_tokens (written self.old) (clause_tokens keyword condition.now)) }
     {
         match condition {
             Some(condition) => {
@@ -181,7 +193,8 @@ impl Printer {
 
     #[tactic(auto, using(crate::proofs::Writing::with_append))]
     fn put_groups(&mut self, groups: &[Expr]) -> Result<(), AllocError>
-        ensures { OnOk result (written self.new ≡ with_tokens (written self.old) (groups_tokens_of groups.now)) }
+        ensures { OnOk result (written self.new
+            ≡ with_tokens (written self.old) (groups_tokens_of groups.now)) }
     {
         if groups.is_empty() {
             return Ok(());
@@ -192,7 +205,8 @@ impl Printer {
     }
 
     fn put_order(&mut self, keys: &[OrderKey]) -> Result<(), AllocError>
-        ensures { OnOk result (written self.new ≡ with_tokens (written self.old) (order_tokens_of keys.now)) }
+        ensures { OnOk result (written self.new
+            ≡ with_tokens (written self.old) (order_tokens_of keys.now)) }
     {
         let Some((first, rest)) = keys.split_first() else {
             return Ok(());
@@ -204,7 +218,8 @@ impl Printer {
 
     #[tactic(auto, using(crate::proofs::Writing::keys_first))]
     fn put_keys(&mut self, first: &OrderKey, rest: &[OrderKey]) -> Result<(), AllocError>
-        ensures { OnOk result (written self.new ≡ with_tokens (written self.old) (with_commas (map key_tokens (first.now ∷ rest.now)))) }
+        ensures { OnOk result (written self.new
+            ≡ with_tokens (written self.old) (with_commas (map key_tokens (first.now ∷ rest.now)))) }
     {
         self.put_key(first)?;
         self.put_more_keys(rest)
@@ -212,7 +227,8 @@ impl Printer {
 
     #[tactic(auto, using(crate::proofs::Writing::keys_step))]
     fn put_more_keys(&mut self, keys: &[OrderKey]) -> Result<(), AllocError>
-        ensures { OnOk result (written self.new ≡ with_tokens (written self.old) (more_keys keys.now)) }
+        ensures { OnOk result (written self.new
+            ≡ with_tokens (written self.old) (more_keys keys.now)) }
     {
         for key in keys {
             self.put(Token::Sign(Sign::Comma))?;
@@ -222,7 +238,8 @@ impl Printer {
     }
 
     fn put_key(&mut self, key: &OrderKey) -> Result<(), AllocError>
-        ensures { OnOk result (written self.new ≡ with_tokens (written self.old) (key_tokens key.now)) }
+        ensures { OnOk result (written self.new
+            ≡ with_tokens (written self.old) (key_tokens key.now)) }
     {
         self.put(target_token(&key.target))?;
         match key.direction {
@@ -232,7 +249,8 @@ impl Printer {
     }
 
     fn put_limit(&mut self, limit: Option<u64>) -> Result<(), AllocError>
-        ensures { OnOk result (written self.new ≡ with_tokens (written self.old) (limit_tokens_of limit)) }
+        ensures { OnOk result (written self.new
+            ≡ with_tokens (written self.old) (limit_tokens_of limit)) }
     {
         match limit {
             Some(number) => {
@@ -247,7 +265,8 @@ impl Printer {
     #[cycle(printing)]
     #[tactic(auto, using(crate::proofs::Writing::with_append))]
     fn put_at(&mut self, level: Level, expr: &Expr) -> Result<(), AllocError>
-        ensures { OnOk result (written self.new ≡ with_tokens (written self.old) (place level (printed expr.now))) }
+        ensures { OnOk result (written self.new
+            ≡ with_tokens (written self.old) (place level (printed expr.now))) }
     {
         if level.rank() <= strength(expr).rank() {
             self.put_expr(expr)
@@ -261,7 +280,9 @@ impl Printer {
     /// An expression behind a token.
     #[cycle(printing)]
     fn put_behind(&mut self, token: Token<'_>, level: Level, expr: &Expr) -> Result<(), AllocError>
-        ensures { OnOk result (written self.new ≡ with_tokens (written self.old) (terminal_of token.entry ∷ place level (printed expr.now))) }
+        ensures { OnOk result (written self.new
+            ≡ with_tokens (written self.old) (terminal_of token.entry
+            ∷ place level (printed expr.now))) }
     {
         self.put(token)?;
         self.put_at(level, expr)
@@ -270,7 +291,8 @@ impl Printer {
     #[cycle(printing)]
     #[tactic(auto, using(crate::proofs::Writing::aggregate_step, crate::proofs::Writing::reckon_step, crate::proofs::Writing::compare_step, crate::proofs::Writing::and_step, crate::proofs::Writing::or_step, crate::proofs::Writing::null_step, crate::proofs::Writing::between_step, crate::proofs::Writing::in_step, crate::proofs::Writing::like_step, crate::proofs::Writing::case_step))]
     fn put_expr(&mut self, expr: &Expr) -> Result<(), AllocError>
-        ensures { OnOk result (written self.new ≡ with_tokens (written self.old) (printed expr.now).tokens) }
+        ensures { OnOk result (written self.new
+            ≡ with_tokens (written self.old) (printed expr.now).tokens) }
     {
         match expr {
             Expr::Column { table, name } => self.put_column(table, name),
@@ -363,14 +385,17 @@ impl Printer {
     /// An operator of arithmetic and what stands behind it.
     #[cycle(printing)]
     fn put_right(&mut self, operator: Arithmetic, right: &Expr) -> Result<(), AllocError>
-        ensures { OnOk result (written self.new ≡ with_tokens (written self.old) (token_of (Reckon operator) ∷ place (next (level_of (Reckon operator))) (printed right.now))) }
+        ensures { OnOk result (written self.new
+            ≡ with_tokens (written self.old) (token_of (Reckon operator)
+            ∷ place (next (level_of (Reckon operator))) (printed right.now))) }
     {
         self.put_behind(Token::Sign(operator.sign()), operator.level().next(), right)
     }
 
     #[tactic(auto, using(crate::proofs::Writing::with_append))]
     fn put_count_rows(&mut self) -> Result<(), AllocError>
-        ensures { OnOk result (written self.new ≡ with_tokens (written self.old) (keyword Count ∷ bracketed (mark Star ∷ []))) }
+        ensures { OnOk result (written self.new
+            ≡ with_tokens (written self.old) (keyword Count ∷ bracketed (mark Star ∷ []))) }
     {
         self.put(Token::Keyword(Keyword::Count))?;
         self.put(Token::Sign(Sign::Open))?;
@@ -380,7 +405,8 @@ impl Printer {
 
     #[tactic(auto, using(crate::proofs::Writing::with_append))]
     fn put_is_null(&mut self, negated: bool) -> Result<(), AllocError>
-        ensures { OnOk result (written self.new ≡ with_tokens (written self.old) (keyword Is ∷ not_if negated ++ keyword Null ∷ [])) }
+        ensures { OnOk result (written self.new
+            ≡ with_tokens (written self.old) (keyword Is ∷ not_if negated ++ keyword Null ∷ [])) }
     {
         self.put(Token::Keyword(Keyword::Is))?;
         self.put_not_if(negated)?;
@@ -389,7 +415,9 @@ impl Printer {
 
     #[tactic(auto, using(crate::proofs::Writing::with_append))]
     fn put_like(&mut self, negated: bool, pattern: &Text) -> Result<(), AllocError>
-        ensures { OnOk result (written self.new ≡ with_tokens (written self.old) (not_if negated ++ keyword Like ∷ text (doubled pattern.now) ∷ [])) }
+        ensures { OnOk result (written self.new
+            ≡ with_tokens (written self.old) (not_if negated ++ keyword Like
+            ∷ text (doubled pattern.now) ∷ [])) }
     {
         self.put_not_if(negated)?;
         self.put(Token::Keyword(Keyword::Like))?;
@@ -399,7 +427,8 @@ impl Printer {
     #[cycle(printing)]
     #[tactic(auto, using(crate::proofs::Writing::with_append))]
     fn put_in_brackets(&mut self, entries: &[Expr]) -> Result<(), AllocError>
-        ensures { OnOk result (written self.new ≡ with_tokens (written self.old) (bracketed (list_tokens (map printed entries.now)))) }
+        ensures { OnOk result (written self.new
+            ≡ with_tokens (written self.old) (bracketed (list_tokens (map printed entries.now)))) }
     {
         self.put(Token::Sign(Sign::Open))?;
         self.put_list(entries)?;
@@ -410,7 +439,8 @@ impl Printer {
     #[cycle(printing)]
     #[tactic(auto, using(crate::proofs::Writing::list_step, crate::proofs::Writing::more_step))]
     fn put_list(&mut self, entries: &[Expr]) -> Result<(), AllocError>
-        ensures { OnOk result (written self.new ≡ with_tokens (written self.old) (list_tokens (map printed entries.now))) }
+        ensures { OnOk result (written self.new
+            ≡ with_tokens (written self.old) (list_tokens (map printed entries.now))) }
     {
         let Some((first, rest)) = entries.split_first() else {
             return Ok(());
@@ -425,7 +455,8 @@ impl Printer {
     #[cycle(printing)]
     #[tactic(auto, using(crate::proofs::Writing::arms_step))]
     fn put_arms(&mut self, arms: &[Arm]) -> Result<(), AllocError>
-        ensures { OnOk result (written self.new ≡ with_tokens (written self.old) (arms_tokens (map printed_arm arms.now))) }
+        ensures { OnOk result (written self.new
+            ≡ with_tokens (written self.old) (arms_tokens (map printed_arm arms.now))) }
     {
         for arm in arms {
             self.put_behind(
@@ -445,7 +476,8 @@ impl Printer {
     /// No ELSE is the same as ELSE NULL.
     #[cycle(printing)]
     fn put_else(&mut self, otherwise: &Option<Boxed<Expr>>) -> Result<(), AllocError>
-        ensures { OnOk result (written self.new ≡ with_tokens (written self.old) (else_tokens (option_map printed otherwise.now))) }
+        ensures { OnOk result (written self.new
+            ≡ with_tokens (written self.old) (else_tokens (option_map printed otherwise.now))) }
     {
         match otherwise {
             Some(value) => self.put_behind(

@@ -35,7 +35,8 @@ pub struct Table {
     pub alias: Option<Text>,
 }
 
-/// A further table of FROM. One behind a comma has no condition, one behind JOIN has the one of its ON.
+/// A further table of FROM. One behind a comma has no condition, one behind JOIN has the one of its
+/// ON.
 #[derive(Drop)]
 pub struct Joined {
     pub table: Table,
@@ -88,8 +89,8 @@ pub enum Aggregate {
     Average,
 }
 
-/// An expression over names. Brackets leave no trace. Where a node has a `negated`, NOT is written within it, as in
-/// `x NOT IN (..)`.
+/// An expression over names. Brackets leave no trace. Where a node has a `negated`, NOT is written
+/// within it, as in `x NOT IN (..)`.
 #[cycle(expr)]
 #[derive(Drop)]
 pub enum Expr {

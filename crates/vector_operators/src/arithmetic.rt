@@ -1,5 +1,5 @@
 //! Arithmetic on lanes, with the least fault.
-ghost use Rattle.std.specs.Prelude.{◌≡◌, ◌<◌, ℕ, pos, neg_ℤ, length, get_or, true, find, IfOk, IfSome};
+ghost use Rattle.std.specs.Prelude.{◌≡◌, ◌<◌, ℕ, pos, neg_ℤ, length, slice_index_or, slice_index, true, find, IfOk, IfSome};
 ghost use Rattle.meaning.specs.declared.value.Value.TheVariants.{Null};
 ghost use Rattle.meaning.specs.declared.outcome.Outcome.TheVariants as gives;
 ghost use Rattle.meaning.specs.declared.value.ColType.TheVariants as of_type;
@@ -42,7 +42,8 @@ fn fault_of(code: u8) -> Fault
 /// Takes the flags off the lanes that are NULL: arithmetic on NULL is NULL.
 fn clear_null_lanes(nulls: &Nulls<'_>, codes: &mut [u8])
     requires { length (nulls_of (length codes.old) nulls.now) ≡ length codes.old }
-    ensures { AreLanes 0 (length codes.old) (cleared_flag (nulls_of (length codes.old) nulls.now) codes.old) codes.new }
+    ensures { AreLanes 0 (length codes.old)
+        (cleared_flag (nulls_of (length codes.old) nulls.now) codes.old) codes.new }
 {
     match nulls.mask() {
         None => {}
@@ -52,7 +53,9 @@ fn clear_null_lanes(nulls: &Nulls<'_>, codes: &mut [u8])
 
 /// Notes the fault of the least lane that has one.
 fn note_first(codes: &[u8], fault: &mut Fault1)
-    ensures { fault.new.held ≡ noted fault.old.held (coded codes.now (find (is_flagged codes.now) (range_with_len 0 (length codes.now)))) }
+    ensures { fault.new.held
+        ≡ noted fault.old.held (coded codes.now
+        (find (is_flagged codes.now) (range_with_len 0 (length codes.now)))) }
 {
     if let Some(position) = first_of_all(codes) {
         fault.note(Faulted {
@@ -64,7 +67,9 @@ fn note_first(codes: &[u8], fault: &mut Fault1)
 
 /// The same, where most often no lane has a fault.
 fn note_any(codes: &[u8], fault: &mut Fault1)
-    ensures { fault.new.held ≡ noted fault.old.held (coded codes.now (find (is_flagged codes.now) (range_with_len 0 (length codes.now)))) }
+    ensures { fault.new.held
+        ≡ noted fault.old.held (coded codes.now
+        (find (is_flagged codes.now) (range_with_len 0 (length codes.now)))) }
 {
     if has_flag(codes) {
         note_first(codes, fault);
@@ -76,8 +81,10 @@ fn operate(op: ArithmeticOperator, left: &[i64], right: &[i64], out: &mut [i64],
     requires left { length left.now ≡ length out.old }
     requires right { length right.now ≡ length out.old }
     requires codes { length codes.old ≡ length out.old }
-    ensures value { AreLanes (pos 0) (length out.old) (λ i. arith_int op (int_at left.now i) (int_at right.now i)) out.new }
-    ensures code { AreLanes 0 (length out.old) (λ i. arith_code op (int_at left.now i) (int_at right.now i)) codes.new }
+    ensures value { AreLanes (pos 0) (length out.old)
+        (λ i. arith_int op (int_at left.now i) (int_at right.now i)) out.new }
+    ensures code { AreLanes 0 (length out.old)
+        (λ i. arith_code op (int_at left.now i) (int_at right.now i)) codes.new }
 {
     match op {
         ArithmeticOperator::Add => add_ints(left, right, out, codes),
@@ -91,7 +98,8 @@ fn operate(op: ArithmeticOperator, left: &[i64], right: &[i64], out: &mut [i64],
 fn note_codes(codes: &mut [u8], nulls: &Nulls<'_>, selection: &LaneSet, fault: &mut Fault1)
     requires nulls { length (nulls_of (length codes.old) nulls.now) ≡ length codes.old }
     requires below { selection.now.below ≡ length codes.old }
-    ensures { Noted (nulls_of (length codes.old) nulls.now) codes.old selection.now fault.old.held fault.new.held }
+    ensures { Noted (nulls_of (length codes.old) nulls.now) codes.old selection.now fault.old.held
+        fault.new.held }
 {
     // That positions ascend below the length.
     let _ = selection.below();
@@ -114,8 +122,12 @@ fn operated(
     right: &[i64],
 ) -> Result<IntResults, AllocError>
     requires { length right.now ≡ length left.now }
-    ensures value { IfOk result (λ o. AreLanes (pos 0) (length left.now) (λ i. arith_int op (int_at left.now i) (int_at right.now i)) o.ints.items) }
-    ensures code { IfOk result (λ o. AreLanes 0 (length left.now) (λ i. arith_code op (int_at left.now i) (int_at right.now i)) o.codes.items) }
+    ensures value { IfOk result
+        (λ o. AreLanes (pos 0) (length left.now)
+        (λ i. arith_int op (int_at left.now i) (int_at right.now i)) o.ints.items) }
+    ensures code { IfOk result
+        (λ o. AreLanes 0 (length left.now)
+        (λ i. arith_code op (int_at left.now i) (int_at right.now i)) o.codes.items) }
 {
     let mut ints = vec![in alloc; 0i64; left.len()]?;
     let mut codes = vec![in alloc; 0u8; left.len()]?;
@@ -130,15 +142,22 @@ fn operated_cells(
     right: &IntCells<'_>,
 ) -> Result<IntResults, AllocError>
     requires { length (ints_of right.now) ≡ length (ints_of left.now) }
-    ensures value { IfOk result (λ o. AreLanes (pos 0) (length (ints_of left.now)) (λ i. arith_int op (int_at (ints_of left.now) i) (int_at (ints_of right.now) i)) o.ints.items) }
-    ensures code { IfOk result (λ o. AreLanes 0 (length (ints_of left.now)) (λ i. arith_code op (int_at (ints_of left.now) i) (int_at (ints_of right.now) i)) o.codes.items) }
+    ensures value { IfOk result
+        (λ o. AreLanes (pos 0) (length (ints_of left.now))
+        (λ i. arith_int op (int_at (ints_of left.now) i) (int_at (ints_of right.now) i))
+        o.ints.items) }
+    ensures code { IfOk result
+        (λ o. AreLanes 0 (length (ints_of left.now))
+        (λ i. arith_code op (int_at (ints_of left.now) i) (int_at (ints_of right.now) i))
+        o.codes.items) }
 {
     let left = spread_ints(alloc, left)?;
     let right = spread_ints(alloc, right)?;
     operated(alloc, op, left.as_slice(), right.as_slice())
 }
 
-/// The integers, NULL where it is told; the least fault of a selected lane that isn't NULL is noted.
+/// The integers, NULL where it is told; the least fault of a selected lane that isn't NULL is
+/// noted.
 fn told(
     operated: IntResults,
     nulls: Nulls<'static>,
@@ -148,7 +167,9 @@ fn told(
     requires ints { length operated.ints.items ≡ selection.now.below }
     requires codes { length operated.codes.items ≡ selection.now.below }
     requires nulls { length (nulls_of selection.now.below nulls) ≡ selection.now.below }
-    ensures exact { Evaluates (λ i. told_outcome (null_at (nulls_of selection.now.below nulls.entry) i) (get_or operated.codes.items i 0) (int_at operated.ints.items i))
+    ensures exact { Evaluates
+        (λ i. told_outcome (null_at (nulls_of selection.now.below nulls.entry) i)
+        (slice_index operated.codes.items i) (int_at operated.ints.items i))
         (IsWithin selection.now) fault.old.held fault.new.held (given_at result) }
     ensures long { IsLong selection.now.below result }
     ensures kind { is_of_kind (Valued of_type.Int) result ≡ true }
@@ -166,7 +187,9 @@ fn near_of_two(
     right: &[i64],
 ) -> Result<Option<Vec<i64>>, AllocError>
     requires { length right.now ≡ length left.now }
-    ensures { IfOk result (λ near. IfSome near (λ ints. AreResults op (length left.now) (length left.now) (int_at left.now) (int_at right.now) ints.items)) }
+    ensures { IfOk result (λ near. IfSome near
+        (λ ints. AreResults op (length left.now) (length left.now) (int_at left.now)
+        (int_at right.now) ints.items)) }
 {
     let mut ints = vec![in alloc; 0i64; left.len()]?;
     if operate_near(op, left, right, ints.as_mut_slice()) {
@@ -181,7 +204,9 @@ fn near_to_one(
     left: &[i64],
     right: &i64,
 ) -> Result<Option<Vec<i64>>, AllocError>
-    ensures { IfOk result (λ near. IfSome near (λ ints. AreResults op (length left.now) (length left.now) (int_at left.now) (λ _. right.now) ints.items)) }
+    ensures { IfOk result (λ near. IfSome near
+        (λ ints. AreResults op (length left.now) (length left.now) (int_at left.now)
+        (λ _. right.now) ints.items)) }
 {
     let mut ints = vec![in alloc; 0i64; left.len()]?;
     if operate_near_to(op, left, right, ints.as_mut_slice()) {
@@ -196,7 +221,9 @@ fn near_from_one(
     left: &i64,
     right: &[i64],
 ) -> Result<Option<Vec<i64>>, AllocError>
-    ensures { IfOk result (λ near. IfSome near (λ ints. AreResults op (length right.now) (length right.now) (λ _. left.now) (int_at right.now) ints.items)) }
+    ensures { IfOk result (λ near. IfSome near
+        (λ ints. AreResults op (length right.now) (length right.now) (λ _. left.now)
+        (int_at right.now) ints.items)) }
 {
     let mut ints = vec![in alloc; 0i64; right.len()]?;
     if operate_near_from(op, left, right, ints.as_mut_slice()) {
@@ -213,7 +240,9 @@ fn near_of_cells(
     right: &[i64],
 ) -> Result<Option<Vec<i64>>, AllocError>
     requires { length right.now ≡ length (ints_of left.now) }
-    ensures { IfOk result (λ near. IfSome near (λ ints. AreResults op (length (ints_of left.now)) (length (ints_of left.now)) (int_at (ints_of left.now)) (int_at right.now) ints.items)) }
+    ensures { IfOk result (λ near. IfSome near
+        (λ ints. AreResults op (length (ints_of left.now)) (length (ints_of left.now))
+        (int_at (ints_of left.now)) (int_at right.now) ints.items)) }
 {
     match left {
         IntCells::Repeated { cell, .. } => near_from_one(alloc, op, cell, right),
@@ -228,7 +257,9 @@ fn near_cells_to_one(
     left: &IntCells<'_>,
     right: &i64,
 ) -> Result<Option<Vec<i64>>, AllocError>
-    ensures { IfOk result (λ near. IfSome near (λ ints. AreResults op (length (ints_of left.now)) (length (ints_of left.now)) (int_at (ints_of left.now)) (λ _. right.now) ints.items)) }
+    ensures { IfOk result (λ near. IfSome near
+        (λ ints. AreResults op (length (ints_of left.now)) (length (ints_of left.now))
+        (int_at (ints_of left.now)) (λ _. right.now) ints.items)) }
 {
     let left = spread_ints(alloc, left)?;
     near_to_one(alloc, op, left.as_slice(), right)
@@ -242,7 +273,9 @@ fn near_cells(
     right: &IntCells<'_>,
 ) -> Result<Option<Vec<i64>>, AllocError>
     requires { length (ints_of right.now) ≡ length (ints_of left.now) }
-    ensures { IfOk result (λ near. IfSome near (λ ints. AreResults op (length (ints_of left.now)) (length (ints_of left.now)) (int_at (ints_of left.now)) (int_at (ints_of right.now)) ints.items)) }
+    ensures { IfOk result (λ near. IfSome near
+        (λ ints. AreResults op (length (ints_of left.now)) (length (ints_of left.now))
+        (int_at (ints_of left.now)) (int_at (ints_of right.now)) ints.items)) }
 {
     match right {
         IntCells::Repeated { cell, .. } => near_cells_to_one(alloc, op, left, cell),
@@ -259,7 +292,9 @@ fn near_results(
     right: &IntCells<'_>,
 ) -> Result<Option<Vec<i64>>, AllocError>
     requires { length (ints_of right.now) ≡ length (ints_of left.now) }
-    ensures { IfOk result (λ near. IfSome near (λ ints. AreResults op (length (ints_of left.now)) (length (ints_of left.now)) (int_at (ints_of left.now)) (int_at (ints_of right.now)) ints.items)) }
+    ensures { IfOk result (λ near. IfSome near
+        (λ ints. AreResults op (length (ints_of left.now)) (length (ints_of left.now))
+        (int_at (ints_of left.now)) (int_at (ints_of right.now)) ints.items)) }
 {
     match op {
         ArithmeticOperator::Divide => Ok(None),
@@ -270,7 +305,9 @@ fn near_results(
 /// The integers, NULL where it is told.
 fn without_fault(ints: Vec<i64>, nulls: Nulls<'static>) -> Given<'static>
     requires { length (nulls_of (length ints.items) nulls) ≡ length ints.items }
-    ensures value { (i : ℕ) → i < length ints.items → given_at result i ≡ told_outcome (null_at (nulls_of (length ints.items) nulls.entry) i) 0 (int_at ints.items i) }
+    ensures value { (i : ℕ) → i < length ints.items
+        → given_at result i ≡ told_outcome (null_at (nulls_of (length ints.items) nulls.entry) i) 0
+        (int_at ints.items i) }
     ensures long { IsLong (length ints.items) result }
     ensures kind { is_of_kind (Valued of_type.Int) result ≡ true }
 {
@@ -287,7 +324,10 @@ fn of_ints(
 ) -> Result<Given<'static>, AllocError>
     requires left { length left.now ≡ selection.now.below }
     requires right { length right.now ≡ selection.now.below }
-    ensures exact { IfOk result (λ g. Evaluates (λ i. arith_values op (get_or left.now i Null) (get_or right.now i Null)) (IsWithin selection.now) fault.old.held fault.new.held (given_at g)) }
+    ensures exact { IfOk result
+        (λ g. Evaluates (λ i. arith_values op (slice_index_or left.now i Null)
+        (slice_index_or right.now i Null)) (IsWithin selection.now) fault.old.held fault.new.held
+        (given_at g)) }
     ensures long { IfOk result (IsLong selection.now.below) }
     ensures kind { IfOk result (λ g. is_of_kind (Valued of_type.Int) g ≡ true) }
 {
@@ -311,7 +351,10 @@ fn of_ints_and(
 ) -> Result<Given<'static>, AllocError>
     requires left { length left.now ≡ selection.now.below }
     requires right { IsLong selection.now.below right.now }
-    ensures exact { is_of_kind (Valued of_type.Int) right.now ≡ true → IfOk result (λ g. Evaluates (λ i. arith_of op (gives.Value (get_or left.now i Null)) (given_at right.now i)) (IsWithin selection.now) fault.old.held fault.new.held (given_at g)) }
+    ensures exact { is_of_kind (Valued of_type.Int) right.now ≡ true
+        → IfOk result (λ g. Evaluates
+        (λ i. arith_of op (gives.Value (slice_index_or left.now i Null)) (given_at right.now i))
+        (IsWithin selection.now) fault.old.held fault.new.held (given_at g)) }
     ensures long { IfOk result (IsLong selection.now.below) }
     ensures kind { IfOk result (λ g. is_of_kind (Valued of_type.Int) g ≡ true) }
 {
@@ -334,8 +377,11 @@ pub fn arithmetic(
 ) -> Result<Given<'static>, AllocError>
     requires left { IsLong selection.now.below left.now }
     requires right { IsLong selection.now.below right.now }
-    ensures exact { is_of_kind (Valued of_type.Int) left.now ≡ true → is_of_kind (Valued of_type.Int) right.now ≡ true
-        → IfOk result (λ g. Evaluates (λ i. arith_of op (given_at left.now i) (given_at right.now i)) (IsWithin selection.now) fault.old.held fault.new.held (given_at g)) }
+    ensures exact { is_of_kind (Valued of_type.Int) left.now ≡ true
+        → is_of_kind (Valued of_type.Int) right.now ≡ true
+        → IfOk result (λ g. Evaluates
+        (λ i. arith_of op (given_at left.now i) (given_at right.now i)) (IsWithin selection.now)
+        fault.old.held fault.new.held (given_at g)) }
     ensures long { IfOk result (IsLong selection.now.below) }
     ensures kind { IfOk result (λ g. is_of_kind (Valued of_type.Int) g ≡ true) }
 {
@@ -348,8 +394,12 @@ pub fn arithmetic(
 }
 
 fn negated(alloc: Global, cells: &IntCells<'_>) -> Result<IntResults, AllocError>
-    ensures value { IfOk result (λ o. AreLanes (pos 0) (length (ints_of cells.now)) (λ i. int_wrap w64 (neg_ℤ (int_at (ints_of cells.now) i))) o.ints.items) }
-    ensures code { IfOk result (λ o. AreLanes 0 (length (ints_of cells.now)) (λ i. overflow_bit (neg_ℤ (int_at (ints_of cells.now) i))) o.codes.items) }
+    ensures value { IfOk result
+        (λ o. AreLanes (pos 0) (length (ints_of cells.now))
+        (λ i. int_wrap w64 (neg_ℤ (int_at (ints_of cells.now) i))) o.ints.items) }
+    ensures code { IfOk result
+        (λ o. AreLanes 0 (length (ints_of cells.now))
+        (λ i. overflow_bit (neg_ℤ (int_at (ints_of cells.now) i))) o.codes.items) }
 {
     let cells = spread_ints(alloc, cells)?;
     let mut ints = vec![in alloc; 0i64; cells.as_slice().len()]?;
@@ -365,7 +415,9 @@ fn minus_ints(
     fault: &mut Fault1,
 ) -> Result<Given<'static>, AllocError>
     requires { length ints.now ≡ selection.now.below }
-    ensures exact { IfOk result (λ g. Evaluates (λ i. minus_value (get_or ints.now i Null)) (IsWithin selection.now) fault.old.held fault.new.held (given_at g)) }
+    ensures exact { IfOk result
+        (λ g. Evaluates (λ i. minus_value (slice_index_or ints.now i Null)) (IsWithin selection.now)
+        fault.old.held fault.new.held (given_at g)) }
     ensures long { IfOk result (IsLong selection.now.below) }
     ensures kind { IfOk result (λ g. is_of_kind (Valued of_type.Int) g ≡ true) }
 {
@@ -383,7 +435,9 @@ pub fn minus(
     fault: &mut Fault1,
 ) -> Result<Given<'static>, AllocError>
     requires { IsLong selection.now.below given.now }
-    ensures exact { is_of_kind (Valued of_type.Int) given.now ≡ true → IfOk result (λ g. Evaluates (λ i. minus_of (given_at given.now i)) (IsWithin selection.now) fault.old.held fault.new.held (given_at g)) }
+    ensures exact { is_of_kind (Valued of_type.Int) given.now ≡ true
+        → IfOk result (λ g. Evaluates (λ i. minus_of (given_at given.now i))
+        (IsWithin selection.now) fault.old.held fault.new.held (given_at g)) }
     ensures long { IfOk result (IsLong selection.now.below) }
     ensures kind { IfOk result (λ g. is_of_kind (Valued of_type.Int) g ≡ true) }
 {

@@ -1,5 +1,5 @@
 //! Choice between lanes, for CASE and COALESCE.
-ghost use Rattle.std.specs.Prelude.{◌≡◌, ◌<◌, ℕ, [], pos, true, false, length, map, replicate, get_or, IfOk};
+ghost use Rattle.std.specs.Prelude.{◌≡◌, ◌<◌, ℕ, [], pos, true, false, length, map, replicate, slice_index_or, IfOk};
 ghost use Rattle.meaning.specs.declared.value.ColType.{ColType};
 ghost use Rattle.meaning.specs.declared.value.ColType.TheVariants as of_type;
 ghost use Rattle.meaning.specs.declared.value.Value.TheVariants.{Int, Null, Text};
@@ -43,7 +43,8 @@ fn int_cells<'a>(
 ) -> Result<Spread<'a, i64>, AllocError>
     requires { IsLong lanes given.now }
     ensures long { IfOk result (λ s. length (spread_cells s) ≡ lanes) }
-    ensures value { is_of_kind (Valued of_type.Int) given.now ≡ true → IfOk result (λ s. AreGivenCells Int (pos 0) lanes given.now (spread_cells s)) }
+    ensures value { is_of_kind (Valued of_type.Int) given.now ≡ true
+        → IfOk result (λ s. AreGivenCells Int (pos 0) lanes given.now (spread_cells s)) }
 {
     match given {
         Given::Ints(ints) => cells_of_ints(alloc, ints),
@@ -76,7 +77,9 @@ fn text_cells<'a, 't>(
 ) -> Result<Spread<'a, &'t [u8]>, AllocError>
     requires { IsLong lanes given.now }
     ensures long { IfOk result (λ s. length (spread_cells s) ≡ lanes) }
-    ensures value { is_of_kind (Valued of_type.Text) given.now ≡ true → IfOk result (λ s. AreGivenCells Text [] lanes given.now (map (λ t. t.now) (spread_cells s))) }
+    ensures value { is_of_kind (Valued of_type.Text) given.now ≡ true
+        → IfOk result (λ s. AreGivenCells Text [] lanes given.now
+        (map (λ t. t.now) (spread_cells s))) }
 {
     if let Given::Texts(texts) = given {
         return cells_of_texts(alloc, texts);
@@ -92,7 +95,8 @@ fn chosen<T: Copy>(
 ) -> Result<Vec<T>, AllocError>
     requires these { length these.now ≡ length mask.now }
     requires those { length those.now ≡ length mask.now }
-    ensures { IfOk result (λ out. AreChosen (length mask.now) mask.now these.now those.now out.items) }
+    ensures { IfOk result (λ out. AreChosen (length mask.now) mask.now these.now those.now
+        out.items) }
 {
     let mut out = Vec::from_slice(alloc, those)?;
     choose(mask, these, those, out.as_mut_slice());
@@ -110,14 +114,16 @@ fn has_no_mask(nulls: &Nulls<'_>) -> bool
 }
 
 fn are_ints(ints: &Ints<'_>) -> bool
-    ensures { result ≡ true → (i : ℕ) → i < length ints.now → is_null (get_or ints.now i Null) ≡ false }
+    ensures { result ≡ true → (i : ℕ) → i < length ints.now
+        → is_null (slice_index_or ints.now i Null) ≡ false }
 {
     let (_, nulls) = int_parts(ints);
     has_no_mask(nulls)
 }
 
 fn are_texts(texts: &Texts<'_>) -> bool
-    ensures { result ≡ true → (i : ℕ) → i < length texts.now → is_null (get_or texts.now i Null) ≡ false }
+    ensures { result ≡ true → (i : ℕ) → i < length texts.now
+        → is_null (slice_index_or texts.now i Null) ≡ false }
 {
     let (_, nulls) = text_parts(texts);
     has_no_mask(nulls)
@@ -144,7 +150,8 @@ fn chosen_mask(
 ) -> Result<Vec<bool>, AllocError>
     requires these { IsLong (length mask.now) these.now }
     requires those { IsLong (length mask.now) those.now }
-    ensures { IfOk result (λ out. AreLanes false (length mask.now) (λ i. is_null_lane (chosen_at mask.now these.now those.now i)) out.items) }
+    ensures { IfOk result (λ out. AreLanes false (length mask.now)
+        (λ i. is_null_lane (chosen_at mask.now these.now those.now i)) out.items) }
 {
     let these = null_lanes(alloc, these, mask.len())?;
     let those = null_lanes(alloc, those, mask.len())?;
@@ -180,7 +187,8 @@ fn int_cells_chosen(
     requires these { IsLong (length mask.now) these.now }
     requires those { IsLong (length mask.now) those.now }
     ensures long { IfOk result (λ out. length out.items ≡ length mask.now) }
-    ensures value { is_of_kind (Valued of_type.Int) these.now ≡ true → is_of_kind (Valued of_type.Int) those.now ≡ true
+    ensures value { is_of_kind (Valued of_type.Int) these.now ≡ true
+        → is_of_kind (Valued of_type.Int) those.now ≡ true
         → IfOk result (λ out. AreChosenCells Int (pos 0) mask.now these.now those.now out.items) }
 {
     let these = int_cells(alloc, these, mask.len())?;
@@ -197,8 +205,10 @@ fn choose_ints(
     requires these { IsLong (length mask.now) these.now }
     requires those { IsLong (length mask.now) those.now }
     ensures long { IfOk result (λ ints. length ints ≡ length mask.now) }
-    ensures value { is_of_kind (Valued of_type.Int) these.now ≡ true → is_of_kind (Valued of_type.Int) those.now ≡ true
-        → IfOk result (λ ints. AreChosenLanes mask.now these.now those.now (λ i. gives.Value (get_or ints i Null))) }
+    ensures value { is_of_kind (Valued of_type.Int) these.now ≡ true
+        → is_of_kind (Valued of_type.Int) those.now ≡ true
+        → IfOk result (λ ints. AreChosenLanes mask.now these.now those.now
+        (λ i. gives.Value (slice_index_or ints i Null))) }
 {
     let cells = int_cells_chosen(alloc, mask, these, those)?;
     let nulls = chosen_nulls(alloc, mask, these, those)?;
@@ -214,8 +224,10 @@ fn text_cells_chosen<'t>(
     requires these { IsLong (length mask.now) these.now }
     requires those { IsLong (length mask.now) those.now }
     ensures long { IfOk result (λ out. length out.items ≡ length mask.now) }
-    ensures value { is_of_kind (Valued of_type.Text) these.now ≡ true → is_of_kind (Valued of_type.Text) those.now ≡ true
-        → IfOk result (λ out. AreChosenCells Text [] mask.now these.now those.now (map (λ t. t.now) out.items)) }
+    ensures value { is_of_kind (Valued of_type.Text) these.now ≡ true
+        → is_of_kind (Valued of_type.Text) those.now ≡ true
+        → IfOk result (λ out. AreChosenCells Text [] mask.now these.now those.now
+        (map (λ t. t.now) out.items)) }
 {
     let these = text_cells(alloc, these, mask.len())?;
     let those = text_cells(alloc, those, mask.len())?;
@@ -231,8 +243,10 @@ fn choose_texts<'t>(
     requires these { IsLong (length mask.now) these.now }
     requires those { IsLong (length mask.now) those.now }
     ensures long { IfOk result (λ texts. length texts ≡ length mask.now) }
-    ensures value { is_of_kind (Valued of_type.Text) these.now ≡ true → is_of_kind (Valued of_type.Text) those.now ≡ true
-        → IfOk result (λ texts. AreChosenLanes mask.now these.now those.now (λ i. gives.Value (get_or texts i Null))) }
+    ensures value { is_of_kind (Valued of_type.Text) these.now ≡ true
+        → is_of_kind (Valued of_type.Text) those.now ≡ true
+        → IfOk result (λ texts. AreChosenLanes mask.now these.now those.now
+        (λ i. gives.Value (slice_index_or texts i Null))) }
 {
     let cells = text_cells_chosen(alloc, mask, these, those)?;
     let nulls = chosen_nulls(alloc, mask, these, those)?;
@@ -267,9 +281,11 @@ pub fn choose_lanes<'t>(
     requires these { IsLong (length mask.now) these.now }
     requires those { IsLong (length mask.now) those.now }
     ensures long { IfOk result (IsLong (length mask.now)) }
-    ensures value { (kind : ColType) → is_of_kind (Valued kind) these.now ≡ true → is_of_kind (Valued kind) those.now ≡ true
+    ensures value { (kind : ColType) → is_of_kind (Valued kind) these.now ≡ true
+        → is_of_kind (Valued kind) those.now ≡ true
         → IfOk result (λ g. AreChosenLanes mask.now these.now those.now (given_at g)) }
-    ensures kind { (kind : ColType) → is_of_kind (Valued kind) these.now ≡ true → is_of_kind (Valued kind) those.now ≡ true
+    ensures kind { (kind : ColType) → is_of_kind (Valued kind) these.now ≡ true
+        → is_of_kind (Valued kind) those.now ≡ true
         → IfOk result (λ g. is_of_kind (Valued kind) g ≡ true) }
 {
     match these {
@@ -289,9 +305,12 @@ fn chosen_unless_null<'a>(
     requires first { IsLong lanes first.now }
     requires second { IsLong lanes second.now }
     ensures long { IfOk result (IsLong lanes) }
-    ensures value { (kind : ColType) → is_of_kind (Valued kind) first.now ≡ true → is_of_kind (Valued kind) second.now ≡ true
-        → IfOk result (λ g. (i : ℕ) → i < lanes → given_at g i ≡ coalesce_of (given_at first.now i) (given_at second.now i)) }
-    ensures kind { (kind : ColType) → is_of_kind (Valued kind) first.now ≡ true → is_of_kind (Valued kind) second.now ≡ true
+    ensures value { (kind : ColType) → is_of_kind (Valued kind) first.now ≡ true
+        → is_of_kind (Valued kind) second.now ≡ true
+        → IfOk result (λ g. (i : ℕ) → i < lanes
+        → given_at g i ≡ coalesce_of (given_at first.now i) (given_at second.now i)) }
+    ensures kind { (kind : ColType) → is_of_kind (Valued kind) first.now ≡ true
+        → is_of_kind (Valued kind) second.now ≡ true
         → IfOk result (λ g. is_of_kind (Valued kind) g ≡ true) }
 {
     let mask = null_lanes(alloc, first, lanes)?;
@@ -308,9 +327,12 @@ pub fn coalesce<'a>(
     requires first { IsLong lanes first.now }
     requires second { IsLong lanes second }
     ensures long { IfOk result (IsLong lanes) }
-    ensures value { (kind : ColType) → is_of_kind (Valued kind) first.now ≡ true → is_of_kind (Valued kind) second.entry ≡ true
-        → IfOk result (λ g. (i : ℕ) → i < lanes → given_at g i ≡ coalesce_of (given_at first.now i) (given_at second.entry i)) }
-    ensures kind { (kind : ColType) → is_of_kind (Valued kind) first.now ≡ true → is_of_kind (Valued kind) second.entry ≡ true
+    ensures value { (kind : ColType) → is_of_kind (Valued kind) first.now ≡ true
+        → is_of_kind (Valued kind) second.entry ≡ true
+        → IfOk result (λ g. (i : ℕ) → i < lanes
+        → given_at g i ≡ coalesce_of (given_at first.now i) (given_at second.entry i)) }
+    ensures kind { (kind : ColType) → is_of_kind (Valued kind) first.now ≡ true
+        → is_of_kind (Valued kind) second.entry ≡ true
         → IfOk result (λ g. is_of_kind (Valued kind) g ≡ true) }
 {
     match first {
@@ -333,9 +355,11 @@ pub fn put<'a>(
     requires these { IsLong selection.now.below these.now }
     requires those { IsLong selection.now.below those.now }
     ensures long { IfOk result (IsLong selection.now.below) }
-    ensures value { (kind : ColType) → is_of_kind (Valued kind) those.now ≡ true → is_of_kind (Valued kind) these.now ≡ true
+    ensures value { (kind : ColType) → is_of_kind (Valued kind) those.now ≡ true
+        → is_of_kind (Valued kind) these.now ≡ true
         → IfOk result (ArePut selection.now these.now those.now) }
-    ensures kind { (kind : ColType) → is_of_kind (Valued kind) those.now ≡ true → is_of_kind (Valued kind) these.now ≡ true
+    ensures kind { (kind : ColType) → is_of_kind (Valued kind) those.now ≡ true
+        → is_of_kind (Valued kind) these.now ≡ true
         → IfOk result (λ g. is_of_kind (Valued kind) g ≡ true) }
 {
     let mask = selection.mask(alloc)?;

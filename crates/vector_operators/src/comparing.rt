@@ -1,5 +1,5 @@
 //! Tests of lanes: comparisons, LIKE and IS NULL.
-ghost use Rattle.std.specs.Prelude.{◌≡◌, ◌<◌, ℕ, length, map, get_or, not, true, if◌then◌else◌, IfOk};
+ghost use Rattle.std.specs.Prelude.{◌≡◌, ◌<◌, ℕ, length, map, slice_index_or, slice_index, not, true, if◌then◌else◌, IfOk};
 ghost use Rattle.std.specs.Str.{is_utf8};
 ghost use Rattle.meaning.specs.declared.value.ColType.TheVariants as of_type;
 ghost use Rattle.meaning.specs.declared.value.Value.TheVariants.{Null};
@@ -42,7 +42,9 @@ pub fn one_truth(truth: Truth, lanes: usize) -> Given<'static>
 fn put_truths(nulls: &Nulls<'_>, bits: &[u8], out: &mut [Truth])
     requires nulls { length (nulls_of (length out.old) nulls.now) ≡ length out.old }
     requires bits { length bits.now ≡ length out.old }
-    ensures { AreLanes Unknown (length out.old) (λ i. told_truth (null_at (nulls_of (length out.old) nulls.now) i) (get_or bits.now i 0)) out.new }
+    ensures { AreLanes Unknown (length out.old)
+        (λ i. told_truth (null_at (nulls_of (length out.old) nulls.now) i) (slice_index bits.now i))
+        out.new }
 {
     match nulls.mask() {
         None => truths_of_bits(bits, out),
@@ -53,7 +55,10 @@ fn put_truths(nulls: &Nulls<'_>, bits: &[u8], out: &mut [Truth])
 /// The truths of bits, UNKNOWN where a lane is NULL.
 fn truths_from(alloc: Global, nulls: &Nulls<'_>, bits: &[u8]) -> Result<Truths, AllocError>
     requires { length (nulls_of (length bits.now) nulls.now) ≡ length bits.now }
-    ensures value { IfOk result (AreLanes Unknown (length bits.now) (λ i. told_truth (null_at (nulls_of (length bits.now) nulls.now) i) (get_or bits.now i 0))) }
+    ensures value { IfOk result
+        (AreLanes Unknown (length bits.now)
+        (λ i. told_truth (null_at (nulls_of (length bits.now) nulls.now) i)
+        (slice_index bits.now i))) }
 {
     let mut out = vec![in alloc; Truth::Unknown; bits.len()]?;
     put_truths(nulls, bits, out.as_mut_slice());
@@ -67,7 +72,8 @@ fn bits_of_two(
     right: &IntCells<'_>,
 ) -> Result<Vec<u8>, AllocError>
     requires { length (ints_of right.now) ≡ length left.now }
-    ensures { IfOk result (λ bits. AreLanes 0 (length left.now) (compared_bit op left.now (ints_of right.now)) bits.items) }
+    ensures { IfOk result (λ bits. AreLanes 0 (length left.now)
+        (compared_bit op left.now (ints_of right.now)) bits.items) }
 {
     let right = spread_ints(alloc, right)?;
     let mut bits = vec![in alloc; 0u8; left.len()]?;
@@ -81,7 +87,8 @@ fn bits_to_one(
     left: &[i64],
     right: i64,
 ) -> Result<Vec<u8>, AllocError>
-    ensures { IfOk result (λ bits. AreLanes 0 (length left.now) (compared_to_bit op left.now right) bits.items) }
+    ensures { IfOk result (λ bits. AreLanes 0 (length left.now) (compared_to_bit op left.now right)
+        bits.items) }
 {
     let mut bits = vec![in alloc; 0u8; left.len()]?;
     compare_ints_to(op, left, right, bits.as_mut_slice());
@@ -96,7 +103,8 @@ fn int_bits(
     right: &IntCells<'_>,
 ) -> Result<Vec<u8>, AllocError>
     requires { length (ints_of right.now) ≡ length left.now }
-    ensures { IfOk result (λ bits. AreLanes 0 (length left.now) (compared_bit op left.now (ints_of right.now)) bits.items) }
+    ensures { IfOk result (λ bits. AreLanes 0 (length left.now)
+        (compared_bit op left.now (ints_of right.now)) bits.items) }
 {
     match right {
         IntCells::Repeated { cell, .. } => bits_to_one(alloc, op, left, *cell),
@@ -111,7 +119,8 @@ fn compare_of_ints(
     right: &Ints<'_>,
 ) -> Result<Truths, AllocError>
     requires { length right.now ≡ length left.now }
-    ensures { IfOk result (AreLanes Unknown (length left.now) (λ i. compared op (get_or left.now i Null) (get_or right.now i Null))) }
+    ensures { IfOk result (AreLanes Unknown (length left.now)
+        (λ i. compared op (slice_index_or left.now i Null) (slice_index_or right.now i Null))) }
 {
     let (left_cells, left_nulls) = int_parts(left);
     let (right_cells, right_nulls) = int_parts(right);
@@ -128,7 +137,8 @@ fn text_bits_of_two(
     right: &TextCells<'_>,
 ) -> Result<Vec<u8>, AllocError>
     requires { length (texts_of right.now) ≡ length left.now }
-    ensures { IfOk result (λ bits. AreLanes 0 (length left.now) (text_bit op (map (λ t. t.now) left.now) (texts_of right.now)) bits.items) }
+    ensures { IfOk result (λ bits. AreLanes 0 (length left.now)
+        (text_bit op (map (λ t. t.now) left.now) (texts_of right.now)) bits.items) }
 {
     let right = spread_texts(alloc, right)?;
     let mut bits = vec![in alloc; 0u8; left.len()]?;
@@ -142,7 +152,8 @@ fn text_bits_to_one(
     left: &[&[u8]],
     right: &[u8],
 ) -> Result<Vec<u8>, AllocError>
-    ensures { IfOk result (λ bits. AreLanes 0 (length left.now) (compared_text_to_bit op left.now right.now) bits.items) }
+    ensures { IfOk result (λ bits. AreLanes 0 (length left.now)
+        (compared_text_to_bit op left.now right.now) bits.items) }
 {
     let mut bits = vec![in alloc; 0u8; left.len()]?;
     compare_texts_to(op, left, right, bits.as_mut_slice());
@@ -157,7 +168,8 @@ fn text_bits(
     right: &TextCells<'_>,
 ) -> Result<Vec<u8>, AllocError>
     requires { length (texts_of right.now) ≡ length left.now }
-    ensures { IfOk result (λ bits. AreLanes 0 (length left.now) (text_bit op (map (λ t. t.now) left.now) (texts_of right.now)) bits.items) }
+    ensures { IfOk result (λ bits. AreLanes 0 (length left.now)
+        (text_bit op (map (λ t. t.now) left.now) (texts_of right.now)) bits.items) }
 {
     match right {
         TextCells::Repeated { cell, .. } => text_bits_to_one(alloc, op, left, cell),
@@ -172,7 +184,8 @@ fn compare_of_texts(
     right: &Texts<'_>,
 ) -> Result<Truths, AllocError>
     requires { length right.now ≡ length left.now }
-    ensures { IfOk result (AreLanes Unknown (length left.now) (λ i. compared op (get_or left.now i Null) (get_or right.now i Null))) }
+    ensures { IfOk result (AreLanes Unknown (length left.now)
+        (λ i. compared op (slice_index_or left.now i Null) (slice_index_or right.now i Null))) }
 {
     let (left_cells, left_nulls) = text_parts(left);
     let (right_cells, right_nulls) = text_parts(right);
@@ -191,7 +204,10 @@ fn compare_ints_and(
 ) -> Result<Given<'static>, AllocError>
     requires left { length left.now ≡ lanes }
     requires right { IsLong lanes right.now }
-    ensures value { are_alike (given.Ints left.now) right.now ≡ true → IfOk result (λ g. (i : ℕ) → i < lanes → given_at g i ≡ compare_of op (gives.Value (get_or left.now i Null)) (given_at right.now i)) }
+    ensures value { are_alike (given.Ints left.now) right.now ≡ true
+        → IfOk result (λ g. (i : ℕ) → i < lanes
+        → given_at g i ≡ compare_of op (gives.Value (slice_index_or left.now i Null))
+        (given_at right.now i)) }
     ensures long { IfOk result (IsLong lanes) }
     ensures kind { IfOk result (λ g. is_of_kind Boolean g ≡ true) }
 {
@@ -212,7 +228,10 @@ fn compare_texts_and(
 ) -> Result<Given<'static>, AllocError>
     requires left { length left.now ≡ lanes }
     requires right { IsLong lanes right.now }
-    ensures value { are_alike (given.Texts left.now) right.now ≡ true → IfOk result (λ g. (i : ℕ) → i < lanes → given_at g i ≡ compare_of op (gives.Value (get_or left.now i Null)) (given_at right.now i)) }
+    ensures value { are_alike (given.Texts left.now) right.now ≡ true
+        → IfOk result (λ g. (i : ℕ) → i < lanes
+        → given_at g i ≡ compare_of op (gives.Value (slice_index_or left.now i Null))
+        (given_at right.now i)) }
     ensures long { IfOk result (IsLong lanes) }
     ensures kind { IfOk result (λ g. is_of_kind Boolean g ≡ true) }
 {
@@ -224,7 +243,8 @@ fn compare_texts_and(
     }
 }
 
-/// A comparison of two operands of one type; UNKNOWN where either is NULL. Of different types all lanes are UNKNOWN.
+/// A comparison of two operands of one type; UNKNOWN where either is NULL. Of different types all
+/// lanes are UNKNOWN.
 pub fn compare(
     alloc: Global,
     op: ComparisonOperator,
@@ -234,7 +254,9 @@ pub fn compare(
 ) -> Result<Given<'static>, AllocError>
     requires left { IsLong lanes left.now }
     requires right { IsLong lanes right.now }
-    ensures value { are_alike left.now right.now ≡ true → IfOk result (λ g. (i : ℕ) → i < lanes → given_at g i ≡ compare_of op (given_at left.now i) (given_at right.now i)) }
+    ensures value { are_alike left.now right.now ≡ true
+        → IfOk result (λ g. (i : ℕ) → i < lanes
+        → given_at g i ≡ compare_of op (given_at left.now i) (given_at right.now i)) }
     ensures long { IfOk result (IsLong lanes) }
     ensures kind { IfOk result (λ g. is_of_kind Boolean g ≡ true) }
 {
@@ -247,7 +269,8 @@ pub fn compare(
 }
 
 fn like_bits(alloc: Global, pattern: &str, texts: &[&[u8]]) -> Result<Vec<u8>, AllocError>
-    ensures { IfOk result (λ bits. AreLanesWhere 0 (length texts.now) (λ i. is_utf8 (text_at texts.now i) ≡ true) (like_bit pattern.now texts.now) bits.items) }
+    ensures { IfOk result (λ bits. AreLanesWhere 0 (length texts.now)
+        (λ i. is_utf8 (text_at texts.now i) ≡ true) (like_bit pattern.now texts.now) bits.items) }
 {
     let mut bits = vec![in alloc; 0u8; texts.len()]?;
     let pattern = LikePattern::new(pattern);
@@ -256,7 +279,9 @@ fn like_bits(alloc: Global, pattern: &str, texts: &[&[u8]]) -> Result<Vec<u8>, A
 }
 
 fn like_of_texts(alloc: Global, pattern: &Text, texts: &Texts<'_>) -> Result<Truths, AllocError>
-    ensures { IfOk result (λ truths. AreLanesWhere Unknown (length texts.now) (λ i. IsSpelled (get_or texts.now i Null)) (λ i. truth_of (like_value pattern.now (get_or texts.now i Null))) truths) }
+    ensures { IfOk result (λ truths. AreLanesWhere Unknown (length texts.now)
+        (λ i. IsSpelled (slice_index_or texts.now i Null))
+        (λ i. truth_of (like_value pattern.now (slice_index_or texts.now i Null))) truths) }
 {
     let (cells, nulls) = text_parts(texts);
     let cells = spread_texts(alloc, cells)?;
@@ -272,7 +297,9 @@ pub fn like(
     lanes: usize,
 ) -> Result<Given<'static>, AllocError>
     requires { IsLong lanes given.now }
-    ensures value { is_of_kind (Valued of_type.Text) given.now ≡ true → IfOk result (λ g. (i : ℕ) → i < lanes → IsSpelledIn given.now i → given_at g i ≡ like_of pattern.now (given_at given.now i)) }
+    ensures value { is_of_kind (Valued of_type.Text) given.now ≡ true
+        → IfOk result (λ g. (i : ℕ) → i < lanes → IsSpelledIn given.now i
+        → given_at g i ≡ like_of pattern.now (given_at given.now i)) }
     ensures long { IfOk result (IsLong lanes) }
     ensures kind { IfOk result (λ g. is_of_kind Boolean g ≡ true) }
 {
@@ -285,7 +312,8 @@ pub fn like(
 }
 
 fn null_truths(alloc: Global, negated: bool, nulls: &[bool]) -> Result<Truths, AllocError>
-    ensures { IfOk result (AreLanes Unknown (length nulls.now) (λ i. if negated then known (not (null_at nulls.now i)) else known (null_at nulls.now i))) }
+    ensures { IfOk result (AreLanes Unknown (length nulls.now)
+        (λ i. if negated then known (not (null_at nulls.now i)) else known (null_at nulls.now i))) }
 {
     let mut out = vec![in alloc; Truth::Unknown; nulls.len()]?;
     if negated {
@@ -304,7 +332,8 @@ pub fn is_null(
     lanes: usize,
 ) -> Result<Given<'static>, AllocError>
     requires { IsLong lanes given.now }
-    ensures value { IfOk result (λ g. (i : ℕ) → i < lanes → given_at g i ≡ not_if negated (is_null_of (given_at given.now i))) }
+    ensures value { IfOk result (λ g. (i : ℕ) → i < lanes
+        → given_at g i ≡ not_if negated (is_null_of (given_at given.now i))) }
     ensures long { IfOk result (IsLong lanes) }
     ensures kind { IfOk result (λ g. is_of_kind Boolean g ≡ true) }
 {

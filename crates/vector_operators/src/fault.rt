@@ -25,7 +25,8 @@ impl Fault1 {
         Fault1 { held: None }
     }
 
-    /// A fault more: it takes the place of the one that is held only at a strictly smaller position.
+    /// A fault more: it takes the place of the one that is held only at a strictly smaller
+    /// position.
     pub fn note(&mut self, found: Faulted)
         ensures { self.new.held ≡ noted self.old.held (Some found) }
     {

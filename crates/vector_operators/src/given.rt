@@ -17,7 +17,8 @@ use vectors::texts::{TextCells, Texts};
 use vectors::truths::Truths;
 use vectors::vector::Vector;
 
-/// What a part of an expression gives: NULL in each lane, which is of any type, or lanes of one kind.
+/// What a part of an expression gives: NULL in each lane, which is of any type, or lanes of one
+/// kind.
 #[derive(Drop)]
 pub enum Given<'a> {
     Null,
@@ -78,7 +79,9 @@ fn lent_texts<'a>(texts: &'a Texts<'_>) -> Texts<'a>
 
 /// The lanes of the column at this place, lent. There is none where types don't fit.
 pub fn lent_column<'a>(batch: &'a Batch<'_>, place: Place) -> Given<'a>
-    ensures value { result ≡ given_of (option_map (λ column. column.lanes) (find (λ column. same_place column.place place) batch.now.columns)) }
+    ensures value { result ≡ given_of
+        (option_map (λ column. column.lanes)
+        (find (λ column. same_place column.place place) batch.now.columns)) }
     ensures long { IsLong batch.now.rows result }
 {
     match batch.column(place) {
@@ -105,7 +108,8 @@ fn one_text<'a>(cell: &'a [u8], lanes: usize) -> Texts<'a>
 pub fn repeated(value: &Value, lanes: usize) -> Given<'_>
     ensures value { (i : ℕ) → i < lanes → given_at result i ≡ gives.Value value.now }
     ensures long { IsLong lanes result }
-    ensures kind { (type : ExprType) → is_literal_type value.now type ≡ true → is_of_kind type result ≡ true }
+    ensures kind { (type : ExprType) → is_literal_type value.now type ≡ true
+        → is_of_kind type result ≡ true }
 {
     match value {
         Value::Null => Given::Null,
@@ -127,8 +131,10 @@ impl<'a> Given<'a> {
     /// The lanes as a vector. NULL in each is one of integers.
     pub fn into_vector(self, alloc: Global, lanes: usize) -> Result<Vector<'a>, AllocError>
         requires { IsLong lanes self }
-        ensures value { IfOk result (λ v. (i : ℕ) → i < lanes → lane_of v i ≡ given_at self.entry i) }
-        ensures typed { (type : ExprType) → is_of_kind type self.entry ≡ true → IfOk result (IsOfType type) }
+        ensures value { IfOk result (λ v. (i : ℕ) → i < lanes
+            → lane_of v i ≡ given_at self.entry i) }
+        ensures typed { (type : ExprType) → is_of_kind type self.entry ≡ true
+            → IfOk result (IsOfType type) }
         ensures long { IfOk result (λ v. length (outcomes_of v) ≡ lanes) }
     {
         match self {

@@ -1,6 +1,6 @@
-//! The lanes on which a part of an expression is evaluated. Unlike a selection they are never listed, so narrowing is one loop
-//! over masks.
-ghost use Rattle.std.specs.Prelude.{◌≡◌, ◌<◌, ◌&&◌, false, get_or, not, Some, length, if◌then◌else◌, IfOk};
+//! The lanes on which a part of an expression is evaluated. Unlike a selection they are never
+//! listed, so narrowing is one loop over masks.
+ghost use Rattle.std.specs.Prelude.{◌≡◌, ◌<◌, ◌&&◌, false, slice_index, not, Some, length, if◌then◌else◌, IfOk};
 ghost use Rattle.vectors.specs.Selection.{IsMask, IsSelection, is_among, without};
 ghost use Rattle.lane_loops.specs.Lanes.{AreLanes, null_at};
 ghost use Rattle.vector_operators.specs.Given.{AreNarrowed};
@@ -22,7 +22,8 @@ pub enum Marks {
 }
 
 fn marks_of(alloc: Global, selection: &Selection) -> Result<Marks, AllocError>
-    ensures { IfOk result (λ marks. MarkWhere selection.now.below (is_among selection.now.list) (mask_in marks)) }
+    ensures { IfOk result (λ marks. MarkWhere selection.now.below (is_among selection.now.list)
+        (mask_in marks)) }
 {
     match selection.places() {
         None => Ok(Marks::All),
@@ -41,7 +42,8 @@ fn copied(alloc: Global, marks: &Marks) -> Result<Marks, AllocError>
 
 fn spread<'a>(alloc: Global, marks: &'a Marks, lanes: usize) -> Result<Spread<'a, bool>, AllocError>
     requires { AreMarks lanes (mask_in marks.now) }
-    ensures { IfOk result (λ mask. AreLanes false lanes (marked (mask_in marks.now)) (spread_cells mask)) }
+    ensures { IfOk result (λ mask. AreLanes false lanes (marked (mask_in marks.now))
+        (spread_cells mask)) }
 {
     match marks {
         Marks::All => Ok(Spread::Owned(vec![in alloc; true; lanes]?)),
@@ -51,7 +53,8 @@ fn spread<'a>(alloc: Global, marks: &'a Marks, lanes: usize) -> Result<Spread<'a
 
 fn in_both(alloc: Global, left: &[bool], right: &[bool]) -> Result<Vec<bool>, AllocError>
     requires { length right.now ≡ length left.now }
-    ensures { IfOk result (λ out. AreLanes false (length left.now) (λ i. null_at left.now i && null_at right.now i) out.items) }
+    ensures { IfOk result (λ out. AreLanes false (length left.now) (λ i. null_at left.now i
+        && null_at right.now i) out.items) }
 {
     let mut out = vec![in alloc; false; left.len()]?;
     mark_both(left, right, out.as_mut_slice());
@@ -60,7 +63,8 @@ fn in_both(alloc: Global, left: &[bool], right: &[bool]) -> Result<Vec<bool>, Al
 
 fn in_first_alone(alloc: Global, left: &[bool], right: &[bool]) -> Result<Vec<bool>, AllocError>
     requires { length right.now ≡ length left.now }
-    ensures { IfOk result (λ out. AreLanes false (length left.now) (λ i. null_at left.now i && not (null_at right.now i)) out.items) }
+    ensures { IfOk result (λ out. AreLanes false (length left.now) (λ i. null_at left.now i
+        && not (null_at right.now i)) out.items) }
 {
     let mut out = vec![in alloc; false; left.len()]?;
     mark_first_alone(left, right, out.as_mut_slice());
@@ -70,7 +74,8 @@ fn in_first_alone(alloc: Global, left: &[bool], right: &[bool]) -> Result<Vec<bo
 /// The marks that the mask has too.
 fn narrowed(alloc: Global, marks: &Marks, mask: Vec<bool>) -> Result<Vec<bool>, AllocError>
     requires { AreMarks (length mask.items) (mask_in marks.now) }
-    ensures { IfOk result (λ out. AreLanes false (length mask.items) (λ i. marked (mask_in marks.now) i && null_at mask.items i) out.items) }
+    ensures { IfOk result (λ out. AreLanes false (length mask.items)
+        (λ i. marked (mask_in marks.now) i && null_at mask.items i) out.items) }
 {
     match marks {
         Marks::All => Ok(mask),
@@ -139,7 +144,8 @@ impl LaneSet {
     /// Takes the flag off each lane that isn't one of these.
     pub fn keep_flags(&self, flags: &mut [u8])
         requires { length flags.old ≡ self.now.below }
-        ensures { AreLanes 0 (length flags.old) (λ i. if is_among self.now.list i then get_or flags.old i 0 else 0) flags.new }
+        ensures { AreLanes 0 (length flags.old)
+            (λ i. if is_among self.now.list i then slice_index flags.old i else 0) flags.new }
     {
         let _ = self.lanes;
         match &self.marks {
@@ -164,7 +170,8 @@ impl LaneSet {
     /// Those of the lanes that aren't in `other`.
     pub fn minus(&self, alloc: Global, other: &LaneSet) -> Result<LaneSet, AllocError>
         requires { other.now.below ≡ self.now.below }
-        ensures { IfOk result (λ s. s ≡ record { below = self.now.below; list = without self.now.list other.now.list }) }
+        ensures { IfOk result (λ s. s
+            ≡ record { below = self.now.below; list = without self.now.list other.now.list }) }
     {
         let lanes = self.lanes;
         let these = self.mask(alloc)?;

@@ -25,7 +25,8 @@ pub fn and(
 ) -> Result<Given<'static>, AllocError>
     requires left { IsLong lanes left.now }
     requires right { IsLong lanes right.now }
-    ensures value { IfOk result (λ g. (i : ℕ) → i < lanes → given_at g i ≡ and_of (given_at left.now i) (given_at right.now i)) }
+    ensures value { IfOk result (λ g. (i : ℕ) → i < lanes
+        → given_at g i ≡ and_of (given_at left.now i) (given_at right.now i)) }
     ensures long { IfOk result (IsLong lanes) }
     ensures kind { IfOk result (λ g. is_of_kind Boolean g ≡ true) }
 {
@@ -45,7 +46,8 @@ pub fn or(
 ) -> Result<Given<'static>, AllocError>
     requires left { IsLong lanes left.now }
     requires right { IsLong lanes right.now }
-    ensures value { IfOk result (λ g. (i : ℕ) → i < lanes → given_at g i ≡ or_of (given_at left.now i) (given_at right.now i)) }
+    ensures value { IfOk result (λ g. (i : ℕ) → i < lanes
+        → given_at g i ≡ or_of (given_at left.now i) (given_at right.now i)) }
     ensures long { IfOk result (IsLong lanes) }
     ensures kind { IfOk result (λ g. is_of_kind Boolean g ≡ true) }
 {
@@ -59,7 +61,8 @@ pub fn or(
 /// NOT of each lane.
 pub fn not(alloc: Global, given: &Given<'_>, lanes: usize) -> Result<Given<'static>, AllocError>
     requires { IsLong lanes given.now }
-    ensures value { IfOk result (λ g. (i : ℕ) → i < lanes → given_at g i ≡ not_of (given_at given.now i)) }
+    ensures value { IfOk result (λ g. (i : ℕ) → i < lanes
+        → given_at g i ≡ not_of (given_at given.now i)) }
     ensures long { IfOk result (IsLong lanes) }
     ensures kind { IfOk result (λ g. is_of_kind Boolean g ≡ true) }
 {
@@ -77,9 +80,11 @@ pub fn not_if<'a>(
     lanes: usize,
 ) -> Result<Given<'a>, AllocError>
     requires { IsLong lanes given }
-    ensures value { IfOk result (λ g. (i : ℕ) → i < lanes → given_at g i ≡ not_if negated (given_at given.entry i)) }
+    ensures value { IfOk result (λ g. (i : ℕ) → i < lanes
+        → given_at g i ≡ not_if negated (given_at given.entry i)) }
     ensures long { IfOk result (IsLong lanes) }
-    ensures kind { is_of_kind Boolean given.entry ≡ true → IfOk result (λ g. is_of_kind Boolean g ≡ true) }
+    ensures kind { is_of_kind Boolean given.entry ≡ true
+        → IfOk result (λ g. is_of_kind Boolean g ≡ true) }
 {
     if !negated {
         return Ok(given);

@@ -1,5 +1,5 @@
 //! Cells one by one, as loops take them.
-ghost use Rattle.std.specs.Prelude.{◌≡◌, ◌<◌, ℕ, [], pos, true, false, length, map, replicate, get_or, IfOk};
+ghost use Rattle.std.specs.Prelude.{◌≡◌, ◌<◌, ℕ, [], pos, true, false, length, map, replicate, slice_index_or, IfOk};
 ghost use Rattle.meaning.specs.declared.outcome.Truth.TheVariants.{Unknown};
 ghost use Rattle.meaning.specs.declared.value.Value.TheVariants.{Int, Null, Text};
 ghost use Rattle.meaning.specs.Operators.{truth_of};
@@ -101,7 +101,8 @@ pub fn spread_truths<'a>(
     lanes: usize,
 ) -> Result<Spread<'a, Truth>, AllocError>
     requires { IsLong lanes given.now }
-    ensures { IfOk result (λ s. AreLanes Unknown lanes (λ i. truth_of (given_at given.now i)) (spread_cells s)) }
+    ensures { IfOk result (λ s. AreLanes Unknown lanes (λ i. truth_of (given_at given.now i))
+        (spread_cells s)) }
 {
     match given {
         Given::Truths(truths) => spread_truth_cells(alloc, truths),
@@ -173,14 +174,16 @@ pub fn text_parts<'s, 'a>(texts: &'s Texts<'a>) -> (&'s TextCells<'a>, &'s Nulls
 }
 
 fn int_nulls<'a>(alloc: Global, ints: &'a Ints<'_>) -> Result<Spread<'a, bool>, AllocError>
-    ensures { IfOk result (λ s. AreLanes false (length ints.now) (λ i. is_null (get_or ints.now i Null)) (spread_cells s)) }
+    ensures { IfOk result (λ s. AreLanes false (length ints.now)
+        (λ i. is_null (slice_index_or ints.now i Null)) (spread_cells s)) }
 {
     let (_, nulls) = ints.parts();
     spread_nulls(alloc, nulls, ints.len())
 }
 
 fn text_nulls<'a>(alloc: Global, texts: &'a Texts<'_>) -> Result<Spread<'a, bool>, AllocError>
-    ensures { IfOk result (λ s. AreLanes false (length texts.now) (λ i. is_null (get_or texts.now i Null)) (spread_cells s)) }
+    ensures { IfOk result (λ s. AreLanes false (length texts.now)
+        (λ i. is_null (slice_index_or texts.now i Null)) (spread_cells s)) }
 {
     let (_, nulls) = texts.parts();
     spread_nulls(alloc, nulls, texts.len())
@@ -199,7 +202,8 @@ pub fn null_lanes<'a>(
     lanes: usize,
 ) -> Result<Spread<'a, bool>, AllocError>
     requires { IsLong lanes given.now }
-    ensures { IfOk result (λ s. AreLanes false lanes (λ i. is_null_lane (given_at given.now i)) (spread_cells s)) }
+    ensures { IfOk result (λ s. AreLanes false lanes (λ i. is_null_lane (given_at given.now i))
+        (spread_cells s)) }
 {
     match given {
         Given::Ints(ints) => int_nulls(alloc, ints),

@@ -22,8 +22,8 @@ pub struct BatchColumn<'a> {
     pub lanes: Vector<'a>,
 }
 
-/// The columns of some rows, of which there need be no more than expressions name. Contracts see how many rows there are, and
-/// the columns in the order in which they were put.
+/// The columns of some rows, of which there need be no more than expressions name. Contracts see
+/// how many rows there are, and the columns in the order in which they were put.
 #[derive(Drop)]
 pub struct Batch<'a> {
     rows: usize,
@@ -38,7 +38,8 @@ impl<'a> Model for Batch<'a> {
 
     ghost view = { λ b. record { rows = b.rows; columns = b.columns.items } };
 
-    ghost invariant = { λ b. All (λ column. length (outcomes_of column.lanes) ≡ b.rows) b.columns.items };
+    ghost invariant = { λ b. All (λ column. length (outcomes_of column.lanes) ≡ b.rows)
+        b.columns.items };
 }
 
 impl<'a> Batch<'a> {
@@ -62,7 +63,11 @@ impl<'a> Batch<'a> {
     /// Puts a column behind the last. On an error nothing changes.
     pub fn push(&mut self, column: BatchColumn<'a>) -> Result<(), AllocError>
         requires { length (outcomes_of column.lanes) ≡ self.old.rows }
-        ensures ok { OnOk result (self.new ≡ record { rows = self.old.rows; columns = self.old.columns ++ column.entry ∷ [] }) }
+        ensures ok { OnOk result
+            (self.new ≡ record {
+              rows = self.old.rows;
+              columns = self.old.columns ++ column.entry ∷ [];
+            }) }
         ensures err { OnErr result (self.new ≡ self.old) }
     {
         self.columns.push(column)?;
@@ -72,7 +77,8 @@ impl<'a> Batch<'a> {
     /// The lanes of the first column of this place.
     pub fn column(&self, place: Place) -> Option<&Vector<'a>>
         ensures value { option_map (λ lanes. lanes.now) result
-            ≡ option_map (λ column. column.lanes) (find (λ column. same_place column.place place) self.now.columns) }
+            ≡ option_map (λ column. column.lanes)
+            (find (λ column. same_place column.place place) self.now.columns) }
         ensures long { IfSome result (λ lanes. length (outcomes_of lanes.now) ≡ self.now.rows) }
     {
         let column = self.columns.iter().find(|column| column.place == place)?;

@@ -1,5 +1,5 @@
 //! Integers, lane by lane, some of them NULL.
-ghost use Rattle.std.specs.Prelude.{◌≡◌, ◌<◌, pos, length, get_or};
+ghost use Rattle.std.specs.Prelude.{◌≡◌, ◌<◌, pos, length, slice_index_or};
 ghost use Rattle.meaning.specs.declared.value.Value.TheVariants.{Int, Null};
 ghost use Rattle.vectors.specs.Lanes.{AreLanes, int_lanes, ints_of, or_null};
 
@@ -16,7 +16,7 @@ pub enum IntCells<'a> {
 
 fn int_at(cells: &[i64], lane: usize) -> i64
     requires { lane < length cells.now }
-    ensures { result ≡ get_or cells.now lane (pos 0) }
+    ensures { result ≡ slice_index_or cells.now lane (pos 0) }
 {
     cells[lane]
 }
@@ -34,7 +34,7 @@ impl<'a> IntCells<'a> {
 
     fn cell(&self, lane: usize) -> i64
         requires { lane < length (ints_of self.now) }
-        ensures { result ≡ get_or (ints_of self.now) lane (pos 0) }
+        ensures { result ≡ slice_index_or (ints_of self.now) lane (pos 0) }
     {
         match self {
             IntCells::Lent(cells) => int_at(cells, lane),
@@ -45,7 +45,7 @@ impl<'a> IntCells<'a> {
 
     fn present(&self, lane: usize) -> Option<i64>
         requires { lane < length (ints_of self.now) }
-        ensures { or_null Int result ≡ Int (get_or (ints_of self.now) lane (pos 0)) }
+        ensures { or_null Int result ≡ Int (slice_index_or (ints_of self.now) lane (pos 0)) }
     {
         Some(self.cell(lane))
     }
@@ -71,7 +71,8 @@ impl<'a> Model for Ints<'a> {
 }
 
 impl<'a> Ints<'a> {
-    /// Lanes of these cells, NULL where it is told. What stands in the cell of a NULL lane is of no account.
+    /// Lanes of these cells, NULL where it is told. What stands in the cell of a NULL lane is of no
+    /// account.
     pub fn new(cells: IntCells<'a>, nulls: Nulls<'a>) -> Ints<'a>
         requires { AreLanes (ints_of cells) nulls }
         ensures { result ≡ int_lanes cells.entry nulls.entry }
@@ -89,7 +90,7 @@ impl<'a> Ints<'a> {
     /// The integer of a lane, unless it is NULL.
     pub fn get(&self, lane: usize) -> Option<i64>
         requires { lane < length self.now }
-        ensures { or_null Int result ≡ get_or self.now lane Null }
+        ensures { or_null Int result ≡ slice_index_or self.now lane Null }
     {
         if self.nulls.is_null(lane) {
             return None;

@@ -1,5 +1,5 @@
 //! Which lanes of a vector are NULL.
-ghost use Rattle.std.specs.Prelude.{◌≡◌, ◌<◌, ◌+◌, ℕ, false, get_or, length};
+ghost use Rattle.std.specs.Prelude.{◌≡◌, ◌<◌, ◌+◌, ℕ, false, slice_index_or, length};
 ghost use Rattle.vectors.specs.Lanes.{lent_mask, mask_of, nulls_of};
 
 /// Which lanes are NULL: none of them, or those that a mask marks.
@@ -25,7 +25,8 @@ impl<'a> Nulls<'a> {
     /// Whether a lane is NULL.
     pub fn is_null(&self, lane: usize) -> bool
         requires { lane < length (nulls_of (lane + 1) self.now) }
-        ensures { (lanes : ℕ) → lane < lanes → result ≡ get_or (nulls_of lanes self.now) lane false }
+        ensures { (lanes : ℕ) → lane < lanes
+            → result ≡ slice_index_or (nulls_of lanes self.now) lane false }
     {
         match self {
             Nulls::None => false,

@@ -1,5 +1,5 @@
 //! Selections: ascending positions below a length, which a select narrows without copying a value.
-ghost use Rattle.std.specs.Prelude.{◌≡◌, ◌<◌, ◌≤◌, ◌^◌, ◌==◌, ℕ, length, replicate, filter, get_or, take, All, true, false, IfOk, IfSome, IsNone};
+ghost use Rattle.std.specs.Prelude.{◌≡◌, ◌<◌, ◌≤◌, ◌^◌, ◌==◌, ℕ, length, replicate, filter, slice_index_or, take, All, true, false, IfOk, IfSome, IsNone};
 ghost use Rattle.std.specs.List.{range_with_len};
 ghost use Rattle.vectors.specs.Selection.{IsHeld, IsMask, IsSelection, Keeps, Positions, all_below, positions_of, without};
 
@@ -28,11 +28,13 @@ impl Model for Selection {
     ghost invariant = { λ s. IsHeld s.is_all s.count s.places.items };
 }
 
-/// Puts in front the positions below the length at which `keep` answers true, and tells how many these are.
+/// Puts in front the positions below the length at which `keep` answers true, and tells how many
+/// these are.
 fn keep_of_all<F: Fn(u32) -> bool>(places: &mut [u32], keep: &F) -> usize
     requires few { length places.old < 2 ^ 32 }
     requires askable { (p : ℕ) → p < length places.old → F.pre keep.now p }
-    ensures kept { Keeps (F.post keep.now) (range_with_len 0 (length places.old)) (take result places.new) }
+    ensures kept { Keeps (F.post keep.now) (range_with_len 0 (length places.old))
+        (take result places.new) }
     ensures within { result ≤ length places.new }
 {
     let mut count = 0;
@@ -61,7 +63,8 @@ fn keep_of_front<F: Fn(u32) -> bool>(places: &mut [u32], n: usize, keep: &F) -> 
     count
 }
 
-/// Puts in front those that `keep` leaves of all positions or of the first `count`, and tells how many these are.
+/// Puts in front those that `keep` leaves of all positions or of the first `count`, and tells how
+/// many these are.
 fn keep_places<F: Fn(u32) -> bool>(
     places: &mut [u32],
     is_all: bool,
@@ -71,7 +74,8 @@ fn keep_places<F: Fn(u32) -> bool>(
     requires held { IsHeld is_all count places.old }
     requires askable { (p : ℕ) → p < length places.old → F.pre keep.now p }
     ensures held { IsHeld false result places.new }
-    ensures kept { Keeps (F.post keep.now) (positions_of is_all count places.old).list (positions_of false result places.new).list }
+    ensures kept { Keeps (F.post keep.now) (positions_of is_all count places.old).list
+        (positions_of false result places.new).list }
 {
     if is_all {
         return keep_of_all(places, keep);
@@ -169,8 +173,8 @@ impl Selection {
         Some(&self.places.as_slice()[..self.count])
     }
 
-    /// Keeps the positions at which `keep` answers true. `keep` may be asked at each position below the length. Takes no
-    /// memory.
+    /// Keeps the positions at which `keep` answers true. `keep` may be asked at each position below
+    /// the length. Takes no memory.
     pub fn narrow<F: Fn(u32) -> bool>(&mut self, keep: F)
         requires askable { (p : ℕ) → p < self.old.below → F.pre keep p }
         ensures kept { Keeps (F.post keep) self.old.list self.new.list }
@@ -184,7 +188,10 @@ impl Selection {
     /// Keeps the positions that the mask marks. Takes no memory.
     pub fn keep_marked(&mut self, mask: &[bool])
         requires { length mask.now ≡ self.old.below }
-        ensures { self.new ≡ record { below = self.old.below; list = filter (λ p. get_or mask.now p false) self.old.list } }
+        ensures { self.new ≡ record {
+          below = self.old.below;
+          list = filter (λ p. slice_index_or mask.now p false) self.old.list;
+        } }
     {
         // That each position lies below the length.
         let _ = &self.places;
@@ -213,7 +220,8 @@ impl Selection {
     /// The selected positions that aren't in `other`.
     pub fn minus(&self, alloc: Global, other: &Selection) -> Result<Selection, AllocError>
         requires { other.now.below ≡ self.now.below }
-        ensures { IfOk result (λ s. s ≡ record { below = self.now.below; list = without self.now.list other.now.list }) }
+        ensures { IfOk result (λ s. s
+            ≡ record { below = self.now.below; list = without self.now.list other.now.list }) }
     {
         // That each position lies below the length.
         let _ = &self.places;

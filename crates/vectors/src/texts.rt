@@ -1,5 +1,5 @@
 //! Texts, lane by lane, some of them NULL.
-ghost use Rattle.std.specs.Prelude.{◌≡◌, ◌<◌, [], length, map, get_or};
+ghost use Rattle.std.specs.Prelude.{◌≡◌, ◌<◌, [], length, map, slice_index_or};
 ghost use Rattle.meaning.specs.declared.value.Value.TheVariants.{Null, Text};
 ghost use Rattle.vectors.specs.Lanes.{AreLanes, or_null, text_lanes, texts_of};
 
@@ -16,7 +16,7 @@ pub enum TextCells<'a> {
 
 fn text_at<'a>(cells: &[&'a [u8]], lane: usize) -> &'a [u8]
     requires { lane < length cells.now }
-    ensures { result.now ≡ get_or (map (λ t. t.now) cells.now) lane [] }
+    ensures { result.now ≡ slice_index_or (map (λ t. t.now) cells.now) lane [] }
 {
     cells[lane]
 }
@@ -34,7 +34,7 @@ impl<'a> TextCells<'a> {
 
     fn cell(&self, lane: usize) -> &'a [u8]
         requires { lane < length (texts_of self.now) }
-        ensures { result.now ≡ get_or (texts_of self.now) lane [] }
+        ensures { result.now ≡ slice_index_or (texts_of self.now) lane [] }
     {
         match self {
             TextCells::Lent(cells) => text_at(cells, lane),
@@ -64,7 +64,8 @@ impl<'a> Model for Texts<'a> {
 }
 
 impl<'a> Texts<'a> {
-    /// Lanes of these cells, NULL where it is told. What stands in the cell of a NULL lane is of no account.
+    /// Lanes of these cells, NULL where it is told. What stands in the cell of a NULL lane is of no
+    /// account.
     pub fn new(cells: TextCells<'a>, nulls: Nulls<'a>) -> Texts<'a>
         requires { AreLanes (texts_of cells) nulls }
         ensures { result ≡ text_lanes cells.entry nulls.entry }
@@ -82,7 +83,7 @@ impl<'a> Texts<'a> {
     /// The bytes of a lane's text, unless it is NULL.
     pub fn get(&self, lane: usize) -> Option<&'a [u8]>
         requires { lane < length self.now }
-        ensures { or_null (λ t. Text t.now) result ≡ get_or self.now lane Null }
+        ensures { or_null (λ t. Text t.now) result ≡ slice_index_or self.now lane Null }
     {
         if self.nulls.is_null(lane) {
             return None;

@@ -1,5 +1,5 @@
 //! Truths, lane by lane. UNKNOWN is one of them.
-ghost use Rattle.std.specs.Prelude.{◌≡◌, ◌<◌, length, get_or};
+ghost use Rattle.std.specs.Prelude.{◌≡◌, ◌<◌, length, slice_index_or};
 ghost use Rattle.meaning.specs.declared.outcome.Truth.TheVariants.{Unknown};
 ghost use Rattle.vectors.specs.Lanes.{truths_of};
 
@@ -49,7 +49,7 @@ impl Truths {
     /// The truth of a lane.
     pub fn get(&self, lane: usize) -> Truth
         requires { lane < length self.now }
-        ensures { result ≡ get_or self.now lane Unknown }
+        ensures { result ≡ slice_index_or self.now lane Unknown }
     {
         match &self.cells {
             TruthCells::Owned(cells) => cells.as_slice()[lane],

@@ -6,7 +6,8 @@ use crate::ints::Ints;
 use crate::texts::Texts;
 use crate::truths::Truths;
 
-/// Lanes of one kind. After MonetDB/X100, a vector is what operators pass on: small enough for the cache.
+/// Lanes of one kind. After MonetDB/X100, a vector is what operators pass on: small enough for the
+/// cache.
 #[derive(Drop)]
 pub enum Vector<'a> {
     Ints(Ints<'a>),

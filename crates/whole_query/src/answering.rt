@@ -39,8 +39,11 @@ fn ended_in(report: &Report) -> Ended
 
 /// Prints what the answers say together.
 fn print_answer<W: Write>(alloc: Global, gather: &Gather, out: &mut W) -> Result<Ended, WholeFault>
-    ensures printed { OnOk result (Appends (W.contents out.old) (W.contents out.new) (report_text gather.now.job.plan (report gather.now.job.plan gather.now.cells))) }
-    ensures ended { IfOk result (λ e. (o : Output) → report gather.now.job.plan gather.now.cells ≡ output o → e ≡ ended_as o) }
+    ensures printed { OnOk result
+        (Appends (W.contents out.old) (W.contents out.new)
+        (report_text gather.now.job.plan (report gather.now.job.plan gather.now.cells))) }
+    ensures ended { IfOk result (λ e. (o : Output)
+        → report gather.now.job.plan gather.now.cells ≡ output o → e ≡ ended_as o) }
     ensures refused { IfErr result IsEndRefusal }
 {
     match gather.print_and_report(alloc, out) {
@@ -56,8 +59,11 @@ fn print_gathered<W: Write>(
     gather: Gather,
     out: &mut W,
 ) -> Result<(Ended, Gather), WholeFault>
-    ensures printed { OnOk result (Appends (W.contents out.old) (W.contents out.new) (report_text gather.job.plan (report gather.job.plan gather.cells))) }
-    ensures ended { IfOk result (λ r. (o : Output) → report gather.job.plan gather.cells ≡ output o → r.0 ≡ ended_as o) }
+    ensures printed { OnOk result
+        (Appends (W.contents out.old) (W.contents out.new)
+        (report_text gather.job.plan (report gather.job.plan gather.cells))) }
+    ensures ended { IfOk result (λ r. (o : Output) → report gather.job.plan gather.cells ≡ output o
+        → r.0 ≡ ended_as o) }
     ensures same { IfOk result (λ r. r.1 ≡ gather) }
     ensures refused { IfErr result IsEndRefusal }
 {
@@ -89,9 +95,13 @@ fn answer_run<W: Write>(
     requires typed { IsTypedOverGroups run.plan }
     requires job { IsPlanOfJob run.plan }
     requires fact { IsWellFormedTable fact.now }
-    requires fragments { (rows : List Row) × AreFragments fact.now rows sources.cut.now run.tables.fragments.items }
-    ensures answered { IfOk result (λ r. (rows : List Row) (dims : List (List Row)) → AreFragments fact.now rows sources.entry.cut.now run.tables.fragments.items
-        → AreTableFiles dims run.tables.dims.items → IsAnsweredOver run.plan rows dims sources.entry.cut.now (W.contents out.old) (W.contents out.new) r.0 r.1) }
+    requires fragments { (rows : List Row)
+        × AreFragments fact.now rows sources.cut.now run.tables.fragments.items }
+    ensures answered { IfOk result (λ r. (rows : List Row) (dims : List (List Row))
+        → AreFragments fact.now rows sources.entry.cut.now run.tables.fragments.items
+        → AreTableFiles dims run.tables.dims.items
+        → IsAnsweredOver run.plan rows dims sources.entry.cut.now (W.contents out.old)
+        (W.contents out.new) r.0 r.1) }
     ensures refused { IfErr result IsEndRefusal }
 {
     let Run { plan, tables } = run;
@@ -100,12 +110,13 @@ fn answer_run<W: Write>(
     print_gathered(alloc, gathered?, out)
 }
 
-/// Answers a plan's query over tables that the catalogue declares, and prints the answer. What a failed writer let out is
-/// open.
+/// Answers a plan's query over tables that the catalogue declares, and prints the answer. What a
+/// failed writer let out is open.
 ///
 /// # Errors
 ///
-/// Out of memory, or the first of these: a missing file, the tables' fault, the vectors' length, and last the writer's.
+/// Out of memory, or the first of these: a missing file, the tables' fault, the vectors' length,
+/// and last the writer's.
 pub fn answer_plan<W: Write>(
     alloc: Global,
     catalog: &Catalog,
@@ -117,10 +128,14 @@ pub fn answer_plan<W: Write>(
     requires plan { IsWellFormedPlan plan }
     requires typed { IsTypedOverGroups plan }
     requires job { IsPlanOfJob plan }
-    // Whichever bytes declare the catalogue and whichever text has the plan: what is printed is the query's meaning.
-    ensures answered { IfOk result (λ r. (bytes query : List ℕ) → catalog_of bytes ≡ Ok catalog.now → IsPlanned catalog.now query (Ok plan)
-        → IsAnswered (input_of bytes query sources.entry) (W.contents out.old) (W.contents out.new) r.0 r.1) }
-    ensures refused { IfErr result (λ e. (bytes query : List ℕ) → catalog_of bytes ≡ Ok catalog.now → IsPlanned catalog.now query (Ok plan)
+    // Whichever bytes declare the catalogue and whichever text has the plan: what is printed is the
+    // query's meaning.
+    ensures answered { IfOk result (λ r. (bytes query : List ℕ) → catalog_of bytes ≡ Ok catalog.now
+        → IsPlanned catalog.now query (Ok plan)
+        → IsAnswered (input_of bytes query sources.entry) (W.contents out.old) (W.contents out.new)
+        r.0 r.1) }
+    ensures refused { IfErr result (λ e. (bytes query : List ℕ) → catalog_of bytes ≡ Ok catalog.now
+        → IsPlanned catalog.now query (Ok plan)
         → IsRefused (input_of bytes query sources.entry) e) }
     // Nothing is printed before all is well.
     ensures quiet { IfErr result (λ e. IsEndRefusal e ⊎ (W.contents out.new ≡ W.contents out.old)) }
@@ -144,7 +159,8 @@ fn answer_query<W: Write>(
 ) -> Result<(Ended, Gather), WholeFault>
     requires { IsWellFormed catalog.now }
     ensures answered { IfOk result (λ r. (bytes : List ℕ) → catalog_of bytes ≡ Ok catalog.now
-        → IsAnswered (input_of bytes query.now sources.entry) (W.contents out.old) (W.contents out.new) r.0 r.1) }
+        → IsAnswered (input_of bytes query.now sources.entry) (W.contents out.old)
+        (W.contents out.new) r.0 r.1) }
     ensures refused { IfErr result (λ e. (bytes : List ℕ) → catalog_of bytes ≡ Ok catalog.now
         → IsRefused (input_of bytes query.now sources.entry) e) }
     ensures quiet { IfErr result (λ e. IsEndRefusal e ⊎ (W.contents out.new ≡ W.contents out.old)) }
@@ -153,13 +169,13 @@ fn answer_query<W: Write>(
     answer_plan(alloc, catalog, plan, sources, out)
 }
 
-/// Answers a query over CSV files, fragment by fragment, and prints the answer. The load has the number 0. What a failed
-/// writer let out is open.
+/// Answers a query over CSV files, fragment by fragment, and prints the answer. The load has the
+/// number 0. What a failed writer let out is open.
 ///
 /// # Errors
 ///
-/// Out of memory, or the first of these: the catalogue's fault, the query's, its plan's, a missing file, the tables' fault,
-/// the vectors' length, and last the writer's.
+/// Out of memory, or the first of these: the catalogue's fault, the query's, its plan's, a missing
+/// file, the tables' fault, the vectors' length, and last the writer's.
 pub fn whole<W: Write>(
     alloc: Global,
     catalog: &[u8],
@@ -167,9 +183,11 @@ pub fn whole<W: Write>(
     sources: Sources<'_>,
     out: &mut W,
 ) -> Result<(Ended, Gather), WholeFault>
-    // What is printed is the query's meaning over the tables that the files are, and the state is that of just every
-    // fragment's own answer.
-    ensures answered { IfOk result (λ r. IsAnswered (input_of catalog.now query.now sources.entry) (W.contents out.old) (W.contents out.new) r.0 r.1) }
+    // What is printed is the query's meaning over the tables that the files are, and the state is
+    // that of just every fragment's own answer.
+    ensures answered { IfOk result
+        (λ r. IsAnswered (input_of catalog.now query.now sources.entry) (W.contents out.old)
+        (W.contents out.new) r.0 r.1) }
     // A refusal stands in the input.
     ensures refused { IfErr result (IsRefused (input_of catalog.now query.now sources.entry)) }
     // Nothing is printed before all is well.

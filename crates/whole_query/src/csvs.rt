@@ -20,7 +20,8 @@ fn find_csv<'a>(csvs: &[(&'a str, &'a [u8])], table: &str) -> Option<&'a [u8]>
 
 /// The CSV file of a table.
 pub fn csv_of<'a>(csvs: &[(&'a str, &'a [u8])], table: &Text) -> Result<&'a [u8], WholeFault>
-    ensures { GivesIfMemory fault.Memory (λ csv. csv.now) result (csv_of (files_in csvs.now) table.now) }
+    ensures { GivesIfMemory fault.Memory (λ csv. csv.now) result
+        (csv_of (files_in csvs.now) table.now) }
 {
     match find_csv(csvs, table.as_str()) {
         Some(csv) => Ok(csv),
@@ -30,8 +31,10 @@ pub fn csv_of<'a>(csvs: &[(&'a str, &'a [u8])], table: &Text) -> Result<&'a [u8]
 
 /// Finds the CSV file of each join's dimension.
 pub fn check_csvs<'a>(csvs: &[(&'a str, &'a [u8])], joins: &[Join]) -> Result<(), WholeFault>
-    ensures found { OnOk result ((found : List (List ℕ)) × (joined_csvs (files_in csvs.now) joins.now ≡ Ok found)) }
-    ensures refused { IfErr result (λ e. e ≢ fault.Memory → joined_csvs (files_in csvs.now) joins.now ≡ Err e) }
+    ensures found { OnOk result ((found : List (List ℕ))
+        × (joined_csvs (files_in csvs.now) joins.now ≡ Ok found)) }
+    ensures refused { IfErr result (λ e. e ≢ fault.Memory
+        → joined_csvs (files_in csvs.now) joins.now ≡ Err e) }
 {
     for join in joins {
         csv_of(csvs, &join.dim.name)?;

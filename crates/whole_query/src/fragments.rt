@@ -50,8 +50,13 @@ fn answer_bytes(
 ) -> Result<Vec<u8>, AllocError>
     requires plan { IsWellFormedPlan job.now.plan }
     requires rows { IsFileable rows }
-    ensures { IfOk result (λ bytes. (all : List Row) (tables : List (List Row)) → AreRowsOfJob job.now rows.entry all → AreTableFiles tables (map (λ d. d.now) dims.now)
-        → Spells job.now bytes.items (record { k = rows.entry.slice.fragment; body = own_body job.now.plan tables (enumerate_from rows.entry.slice.first_row all) })) }
+    ensures { IfOk result (λ bytes. (all : List Row) (tables : List (List Row))
+        → AreRowsOfJob job.now rows.entry all → AreTableFiles tables (map (λ d. d.now) dims.now)
+        → Spells job.now bytes.items
+        (record {
+          k = rows.entry.slice.fragment;
+          body = own_body job.now.plan tables (enumerate_from rows.entry.slice.first_row all);
+        })) }
 {
     let file = file_of(alloc, rows)?;
     match work(alloc, job, &file, dims, rows.slice.fragment, vector_len) {
@@ -72,9 +77,17 @@ fn answer_one(
     requires plan { IsWellFormedPlan gather.now.job.plan }
     requires rows { IsFileable rows }
     ensures same { OnOk result (gather.new.job ≡ gather.old.job) }
-    ensures taken { OnOk result ((answers : List AnAnswer) (all : List Row) (tables : List (List Row)) → AreRowsOfJob gather.old.job rows.entry all → AreTableFiles tables (map (λ d. d.now) dims.now)
+    ensures taken { OnOk result
+        ((answers : List AnAnswer) (all : List Row) (tables : List (List Row))
+        → AreRowsOfJob gather.old.job rows.entry all
+        → AreTableFiles tables (map (λ d. d.now) dims.now)
         → gather.old.cells ≡ joined gather.old.job.cut answers
-        → gather.new.cells ≡ joined gather.old.job.cut (answers ++ record { k = rows.entry.slice.fragment; body = own_body gather.old.job.plan tables (enumerate_from rows.entry.slice.first_row all) } ∷ [])) }
+        → gather.new.cells ≡ joined gather.old.job.cut
+        (answers ++ record {
+          k = rows.entry.slice.fragment;
+          body = own_body gather.old.job.plan tables (enumerate_from rows.entry.slice.first_row all);
+        }
+        ∷ [])) }
     ensures refused { IfErr result (λ e. e ≡ WholeFault.Memory) }
 {
     let bytes = answer_bytes(alloc, gather.job(), rows, dims, vector_len)?;
@@ -100,12 +113,16 @@ fn answer_fragments(alloc: Global, gather: &mut Gather, star: Star<'_>) -> Resul
     requires plan { IsWellFormedPlan gather.now.job.plan }
     requires table { IsWellFormedTable star.fact.now }
     requires cut { gather.now.job.cut ≡ star.cut.now }
-    requires fragments { (rows : List Row) × AreFragments star.fact.now rows star.cut.now star.fragments.now }
+    requires fragments { (rows : List Row)
+        × AreFragments star.fact.now rows star.cut.now star.fragments.now }
     requires nothing { gather.now.cells ≡ joined star.cut.now [] }
     ensures same { OnOk result (gather.new.job ≡ gather.old.job) }
-    ensures taken { OnOk result ((rows : List Row) (tables : List (List Row)) → AreFragments star.entry.fact.now rows star.entry.cut.now star.entry.fragments.now
+    ensures taken { OnOk result ((rows : List Row) (tables : List (List Row))
+        → AreFragments star.entry.fact.now rows star.entry.cut.now star.entry.fragments.now
         → AreTableFiles tables (map (λ d. d.now) star.entry.dims.now)
-        → gather.new.cells ≡ joined star.entry.cut.now (own_answers gather.old.job.plan tables star.entry.cut.now rows (range_with_len 0 (length star.entry.cut.now)))) }
+        → gather.new.cells ≡ joined star.entry.cut.now
+        (own_answers gather.old.job.plan tables star.entry.cut.now rows
+        (range_with_len 0 (length star.entry.cut.now)))) }
     ensures refused { IfErr result (λ e. e ≡ WholeFault.Memory) }
 {
     let lengths = star.cut.lengths();
@@ -131,7 +148,11 @@ fn start(alloc: Global, plan: Plan, cut: &Cut) -> Result<Gather, WholeFault>
     requires plan { IsWellFormedPlan plan }
     requires typed { IsTypedOverGroups plan }
     requires job { IsPlanOfJob plan }
-    ensures value { IfOk result (λ g. g ≡ record { job = record { load = 0; plan = plan; cut = cut.now }; cells = joined cut.now [] }) }
+    ensures value { IfOk result
+        (λ g. g ≡ record {
+          job = record { load = 0; plan = plan; cut = cut.now };
+          cells = joined cut.now [];
+        }) }
     ensures refused { IfErr result (λ e. e ≡ WholeFault.Memory) }
 {
     match copy_cut(alloc, cut) {
@@ -149,10 +170,17 @@ fn answer_all(alloc: Global, plan: Plan, star: Star<'_>) -> Result<Gather, Whole
     requires typed { IsTypedOverGroups plan }
     requires job { IsPlanOfJob plan }
     requires table { IsWellFormedTable star.fact.now }
-    requires fragments { (rows : List Row) × AreFragments star.fact.now rows star.cut.now star.fragments.now }
-    ensures state { IfOk result (λ g. (rows : List Row) (tables : List (List Row)) → AreFragments star.entry.fact.now rows star.entry.cut.now star.entry.fragments.now
+    requires fragments { (rows : List Row)
+        × AreFragments star.fact.now rows star.cut.now star.fragments.now }
+    ensures state { IfOk result (λ g. (rows : List Row) (tables : List (List Row))
+        → AreFragments star.entry.fact.now rows star.entry.cut.now star.entry.fragments.now
         → AreTableFiles tables (map (λ d. d.now) star.entry.dims.now)
-        → g ≡ record { job = record { load = 0; plan = plan; cut = star.entry.cut.now }; cells = joined star.entry.cut.now (own_answers plan tables star.entry.cut.now rows (range_with_len 0 (length star.entry.cut.now))) }) }
+        → g ≡ record {
+          job = record { load = 0; plan = plan; cut = star.entry.cut.now };
+          cells = joined star.entry.cut.now
+              (own_answers plan tables star.entry.cut.now rows
+              (range_with_len 0 (length star.entry.cut.now)));
+        }) }
     ensures refused { IfErr result (λ e. e ≡ WholeFault.Memory) }
 {
     let mut gather = start(alloc, plan, star.cut)?;
@@ -177,10 +205,17 @@ pub fn answer_tables(
     requires typed { IsTypedOverGroups plan }
     requires job { IsPlanOfJob plan }
     requires fact { IsWellFormedTable fact.now }
-    requires fragments { (rows : List Row) × AreFragments fact.now rows sources.cut.now tables.now.fragments.items }
-    ensures state { IfOk result (λ g. (rows : List Row) (dims : List (List Row)) → AreFragments fact.now rows sources.entry.cut.now tables.now.fragments.items
+    requires fragments { (rows : List Row)
+        × AreFragments fact.now rows sources.cut.now tables.now.fragments.items }
+    ensures state { IfOk result (λ g. (rows : List Row) (dims : List (List Row))
+        → AreFragments fact.now rows sources.entry.cut.now tables.now.fragments.items
         → AreTableFiles dims tables.now.dims.items
-        → g ≡ record { job = record { load = 0; plan = plan; cut = sources.entry.cut.now }; cells = joined sources.entry.cut.now (own_answers plan dims sources.entry.cut.now rows (range_with_len 0 (length sources.entry.cut.now))) }) }
+        → g ≡ record {
+          job = record { load = 0; plan = plan; cut = sources.entry.cut.now };
+          cells = joined sources.entry.cut.now
+              (own_answers plan dims sources.entry.cut.now rows
+              (range_with_len 0 (length sources.entry.cut.now)));
+        }) }
     ensures refused { IfErr result (λ e. e ≡ WholeFault.Memory) }
 {
     match lend_files(alloc, &tables.dims) {

@@ -36,7 +36,8 @@ pub struct Rows<'a> {
 /// The file of some rows, in memory.
 pub fn file_of(alloc: Global, rows: Rows<'_>) -> Result<Vec<u8>, AllocError>
     requires { IsFileable rows }
-    ensures { IfOk result (λ bytes. Stands bytes.items (table_header 0 rows.entry.table.now rows.entry.slice) rows.entry.columns.now) }
+    ensures { IfOk result (λ bytes. Stands bytes.items
+        (table_header 0 rows.entry.table.now rows.entry.slice) rows.entry.columns.now) }
 {
     let header = Header::of_table(alloc, LOAD, rows.table, rows.slice)?;
     let mut bytes = Vec::new(alloc);
@@ -60,7 +61,8 @@ fn count_rows(columns: &[Column]) -> usize
 /// The file of all rows of a table, in memory.
 fn table_file(alloc: Global, table: &Table, columns: &[Column]) -> Result<Vec<u8>, AllocError>
     requires { (rows : List Row) × AreAllRows table.now rows columns.now }
-    ensures { IfOk result (λ bytes. (rows : List Row) → AreAllRows table.now rows columns.now → IsTableFile rows bytes.items) }
+    ensures { IfOk result (λ bytes. (rows : List Row) → AreAllRows table.now rows columns.now
+        → IsTableFile rows bytes.items) }
 {
     let slice = Slice {
         fragment: 0,
@@ -84,7 +86,8 @@ fn dimension_file(
     requires table { IsWellFormedTable dimension.now.table }
     requires key { dimension.now.key < length dimension.now.table.columns }
     ensures file { IfOk result (IsFileOf (dimension_table dimension.now csv.now)) }
-    ensures refused { IfErr result (λ e. e ≢ fault.Memory → dimension_table dimension.now csv.now ≡ Err e) }
+    ensures refused { IfErr result (λ e. e ≢ fault.Memory
+        → dimension_table dimension.now csv.now ≡ Err e) }
 {
     let columns = load_dimension(alloc, dimension, csv)?;
     let file = table_file(alloc, &dimension.table, columns.as_slice());
@@ -108,7 +111,8 @@ fn joined_file<'a>(
 ) -> Result<Sequence<u8>, WholeFault>
     requires { IsWellFormed catalog.now }
     ensures file { IfOk result (IsFileOf (joined_from catalog.now (files_in csvs.now) join.now)) }
-    ensures refused { IfErr result (λ e. e ≢ fault.Memory → joined_from catalog.now (files_in csvs.now) join.now ≡ Err e) }
+    ensures refused { IfErr result (λ e. e ≢ fault.Memory
+        → joined_from catalog.now (files_in csvs.now) join.now ≡ Err e) }
 {
     let csv = csv_of(csvs, &join.dim.name)?;
     match dimension_named(catalog, join.dim.name.as_str()) {
@@ -126,8 +130,11 @@ pub fn joined_files<'a>(
     joins: &[Join],
 ) -> Result<Vec<Sequence<u8>>, WholeFault>
     requires { IsWellFormed catalog.now }
-    ensures files { IfOk result (λ files. (dims : List (List Row)) × (all_ok (map (joined_from catalog.now (files_in csvs.now)) joins.now) ≡ Ok dims) × AreTableFiles dims files.items) }
-    ensures refused { IfErr result (λ e. e ≢ fault.Memory → all_ok (map (joined_from catalog.now (files_in csvs.now)) joins.now) ≡ Err e) }
+    ensures files { IfOk result (λ files. (dims : List (List Row))
+        × (all_ok (map (joined_from catalog.now (files_in csvs.now)) joins.now) ≡ Ok dims)
+        × AreTableFiles dims files.items) }
+    ensures refused { IfErr result (λ e. e ≢ fault.Memory
+        → all_ok (map (joined_from catalog.now (files_in csvs.now)) joins.now) ≡ Err e) }
 {
     let mut files = Vec::new(alloc);
     for join in joins {

@@ -24,8 +24,8 @@ pub struct Tables {
     pub dims: Vec<Sequence<u8>>,
 }
 
-/// The tables that the plan names: first each CSV file is found, the fact's before the dimensions', then they are loaded in this
-/// order.
+/// The tables that the plan names: first each CSV file is found, the fact's before the dimensions',
+/// then they are loaded in this order.
 fn load_tables(
     alloc: Global,
     catalog: &Catalog,
@@ -33,8 +33,12 @@ fn load_tables(
     plan: &Plan,
 ) -> Result<Tables, WholeFault>
     requires catalog { IsWellFormed catalog.now }
-    ensures loaded { IfOk result (λ tables. AreTablesLoaded catalog.now (files_in sources.entry.csvs.now) sources.entry.cut.now plan.now tables.fragments.items tables.dims.items) }
-    ensures refused { IfErr result (λ e. e ≢ fault.Memory → tables_of catalog.now (files_in sources.entry.csvs.now) sources.entry.cut.now plan.now ≡ Err e) }
+    ensures loaded { IfOk result
+        (λ tables. AreTablesLoaded catalog.now (files_in sources.entry.csvs.now)
+        sources.entry.cut.now plan.now tables.fragments.items tables.dims.items) }
+    ensures refused { IfErr result (λ e. e ≢ fault.Memory
+        → tables_of catalog.now (files_in sources.entry.csvs.now) sources.entry.cut.now plan.now
+        ≡ Err e) }
 {
     let csv = csv_of(sources.csvs, &plan.fact.name)?;
     check_csvs(sources.csvs, plan.joins.as_slice())?;
@@ -50,7 +54,8 @@ fn load_tables(
 
 fn check_vector_len(vector_len: usize) -> Result<(), WholeFault>
     ensures ok { OnOk result (is_vector_length vector_len ≡ true) }
-    ensures refused { IfErr result (λ e. (e ≡ WholeFault.VectorLength) × (is_vector_length vector_len ≡ false)) }
+    ensures refused { IfErr result (λ e. (e ≡ WholeFault.VectorLength)
+        × (is_vector_length vector_len ≡ false)) }
 {
     if vector_len == 0 || vector_len > MAX_VECTOR_ROWS {
         return Err(WholeFault::VectorLength);
@@ -66,9 +71,13 @@ pub fn checked_tables(
     plan: &Plan,
 ) -> Result<Tables, WholeFault>
     requires catalog { IsWellFormed catalog.now }
-    ensures loaded { IfOk result (λ tables. AreTablesLoaded catalog.now (files_in sources.entry.csvs.now) sources.entry.cut.now plan.now tables.fragments.items tables.dims.items) }
+    ensures loaded { IfOk result
+        (λ tables. AreTablesLoaded catalog.now (files_in sources.entry.csvs.now)
+        sources.entry.cut.now plan.now tables.fragments.items tables.dims.items) }
     ensures vectors { OnOk result (is_vector_length sources.entry.vector_len ≡ true) }
-    ensures refused { IfErr result (IsTablesRefused catalog.now (files_in sources.entry.csvs.now) sources.entry.cut.now plan.now sources.entry.vector_len) }
+    ensures refused { IfErr result
+        (IsTablesRefused catalog.now (files_in sources.entry.csvs.now) sources.entry.cut.now
+        plan.now sources.entry.vector_len) }
 {
     let tables = load_tables(alloc, catalog, sources, plan)?;
     match check_vector_len(sources.vector_len) {

@@ -1,7 +1,8 @@
-//! What the binary formats share: numbers and texts as bytes, readers from the front of bytes, and the seal.
+//! What the binary formats share: numbers and texts as bytes, readers from the front of bytes, and
+//! the seal.
 //!
-//! Numbers stand with their lowest byte first. `specs/` has the words of the contracts; `proofs/` has the laws of them
-//! that the formats' own laws are made of.
+//! Numbers stand with their lowest byte first. `specs/` has the words of the contracts; `proofs/`
+//! has the laws of them that the formats' own laws are made of.
 #![tactic(auto)]
 
 mod appending;

@@ -51,7 +51,8 @@ fn write_bytes<W: Write>(out: &mut W, bytes: &[u8]) -> Result<(), DeviceFault>
 /// Bytes for the writer, and for the hasher of all that it was given.
 #[tactic(auto, unfolding(crate::specs::Writing::Hashes))]
 pub fn put<W: Write>(out: &mut W, hasher: &mut Sha256, bytes: &[u8]) -> Result<(), DeviceFault>
-    ensures { OnOk result (Puts (W.contents out.old) (W.contents out.new) hasher.old hasher.new bytes.now) }
+    ensures { OnOk result (Puts (W.contents out.old) (W.contents out.new) hasher.old hasher.new
+        bytes.now) }
 {
     hasher.update(bytes);
     write_bytes(out, bytes)
@@ -59,7 +60,8 @@ pub fn put<W: Write>(out: &mut W, hasher: &mut Sha256, bytes: &[u8]) -> Result<(
 
 #[tactic(auto, unfolding(crate::specs::Bytes::number_bytes))]
 pub fn put_u32<W: Write>(out: &mut W, hasher: &mut Sha256, n: u32) -> Result<(), DeviceFault>
-    ensures { OnOk result (Puts (W.contents out.old) (W.contents out.new) hasher.old hasher.new (number_bytes 4 n)) }
+    ensures { OnOk result (Puts (W.contents out.old) (W.contents out.new) hasher.old hasher.new
+        (number_bytes 4 n)) }
 {
     let mut word = [0; 4];
     LittleEndian::write_u32(&mut word, n);
@@ -68,7 +70,8 @@ pub fn put_u32<W: Write>(out: &mut W, hasher: &mut Sha256, n: u32) -> Result<(),
 
 #[tactic(auto, unfolding(crate::specs::Bytes::number_bytes))]
 pub fn put_u64<W: Write>(out: &mut W, hasher: &mut Sha256, n: u64) -> Result<(), DeviceFault>
-    ensures { OnOk result (Puts (W.contents out.old) (W.contents out.new) hasher.old hasher.new (number_bytes 8 n)) }
+    ensures { OnOk result (Puts (W.contents out.old) (W.contents out.new) hasher.old hasher.new
+        (number_bytes 8 n)) }
 {
     let mut word = [0; 8];
     LittleEndian::write_u64(&mut word, n);

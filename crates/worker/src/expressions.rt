@@ -45,8 +45,10 @@ pub fn evaluate_keys<'a>(
 ) -> Result<Vec<Vector<'a>>, AllocError>
     requires { selection.now.below ≡ batch.now.rows }
     ensures { IfOk result (λ vectors. (types : RowTypes) (rows : List JoinedRow)
-        → AreTypedRows types batch.now rows → All (λ k. Fits types batch.now.columns k.expr (Valued k.col_type)) keys.now
-        → AreVectorsOf (map (λ k. k.expr) keys.now) rows selection.now fault.old.held fault.new.held vectors.items) }
+        → AreTypedRows types batch.now rows
+        → All (λ k. Fits types batch.now.columns k.expr (Valued k.col_type)) keys.now
+        → AreVectorsOf (map (λ k. k.expr) keys.now) rows selection.now fault.old.held fault.new.held
+        vectors.items) }
 {
     let mut vectors = Vec::with_capacity(alloc, keys.len())?;
     for key in keys {
@@ -65,8 +67,10 @@ pub fn evaluate_arguments<'a>(
 ) -> Result<Vec<Vector<'a>>, AllocError>
     requires { selection.now.below ≡ batch.now.rows }
     ensures { IfOk result (λ vectors. (types : RowTypes) (rows : List JoinedRow)
-        → AreTypedRows types batch.now rows → All (λ a. Fits types batch.now.columns a.argument (Valued a.col_type)) aggregates.now
-        → AreVectorsOf (map (λ a. a.argument) aggregates.now) rows selection.now fault.old.held fault.new.held vectors.items) }
+        → AreTypedRows types batch.now rows
+        → All (λ a. Fits types batch.now.columns a.argument (Valued a.col_type)) aggregates.now
+        → AreVectorsOf (map (λ a. a.argument) aggregates.now) rows selection.now fault.old.held
+        fault.new.held vectors.items) }
 {
     let mut vectors = Vec::with_capacity(alloc, aggregates.len())?;
     for aggregate in aggregates {

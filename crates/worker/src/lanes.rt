@@ -1,5 +1,5 @@
 //! Vectors that have texts at the selected positions alone.
-ghost use Rattle.std.specs.Prelude.{◌≡◌, ◌<◌, ℕ, length, get_or, All, IfOk, if◌then◌else◌};
+ghost use Rattle.std.specs.Prelude.{◌≡◌, ◌<◌, ℕ, length, All, IfOk, if◌then◌else◌};
 ghost use Rattle.accumulators.specs.Values.{values_of};
 ghost use Rattle.meaning.specs.declared.value.Value.TheVariants.{Null};
 ghost use Rattle.vectors.specs.Selection.{is_among};
@@ -45,15 +45,16 @@ fn selected_texts<'a>(
     }
 }
 
-/// A vector with the same values at the selected positions. What texts stand in other lanes is open, and may be bytes that no
-/// column has: there is NULL then.
+/// A vector with the same values at the selected positions. What texts stand in other lanes is
+/// open, and may be bytes that no column has: there is NULL then.
 pub fn only_selected<'a>(
     alloc: Global,
     lanes: Vector<'a>,
     selection: &Selection,
 ) -> Result<Vector<'a>, AllocError>
     requires { length (outcomes_of lanes) ≡ selection.now.below }
-    ensures { IfOk result (λ only. IsOnly selection.now.list (values_of lanes.entry) (values_of only)) }
+    ensures { IfOk result (λ only. IsOnly selection.now.list (values_of lanes.entry)
+        (values_of only)) }
 {
     match lanes {
         Vector::Texts(texts) => Ok(Vector::Texts(selected_texts(alloc, texts, selection)?)),

@@ -105,7 +105,8 @@ pub fn open_fragment<'a>(
     k: u32,
     bytes: &'a [u8],
 ) -> Result<FragmentView<'a>, WorkFault>
-    ensures read { GivesIfMemory WorkFault.Memory (λ v. v) result (fragment_file_of job.now k bytes.now) }
+    ensures read { GivesIfMemory WorkFault.Memory (λ v. v) result
+        (fragment_file_of job.now k bytes.now) }
     ensures typed { IfOk result (λ v. AreTypedColumns v) }
     ensures columns { IfOk result (λ v. HasColumns job.now.plan.fact v.header) }
 {
@@ -143,7 +144,8 @@ pub fn open_table<'a>(
     dim: &TableUse,
     bytes: &'a [u8],
 ) -> Result<FragmentView<'a>, WorkFault>
-    ensures read { GivesIfMemory WorkFault.Memory (λ v. v) result (table_file_of job.now dim.now bytes.now) }
+    ensures read { GivesIfMemory WorkFault.Memory (λ v. v) result
+        (table_file_of job.now dim.now bytes.now) }
     ensures typed { IfOk result (λ v. AreTypedColumns v) }
     ensures columns { IfOk result (λ v. HasColumns dim.now v.header) }
 {

@@ -1,4 +1,5 @@
-//! What stands in a row's cell while a dictionary is made of it: an integer, or the bytes of a text.
+//! What stands in a row's cell while a dictionary is made of it: an integer, or the bytes of a
+//! text.
 ghost use Rattle.std.specs.Prelude.{◌≡◌, ◌<◌};
 ghost use Rattle.meaning.specs.declared.value.Value.{Value};
 ghost use Rattle.meaning.specs.declared.value.Value.TheVariants.{Int, Text};

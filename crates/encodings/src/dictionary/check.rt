@@ -15,7 +15,8 @@ use crate::plain::values::value_at;
 use bit_packing::numbers::short_at;
 use meaning::value::{ColType, ValueRef};
 
-/// Whether `rows` codes are below the number of entries. All are looked at, eight at a time as it is compiled.
+/// Whether `rows` codes are below the number of entries. All are looked at, eight at a time as it
+/// is compiled.
 fn are_codes(rows: usize, bytes: &[u8], count: u16) -> bool
     requires { rows ≤ length bytes.now / 2 }
     ensures { result ≡ list_all (λ code. nat_lt code count) (shorts rows bytes.now) }

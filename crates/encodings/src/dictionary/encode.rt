@@ -25,8 +25,10 @@ pub fn put_int_dictionary(
     requires fit { list_all (is_of of_type.Int false) (map Int ints.now) ≡ true }
     requires some { 1 ≤ length ints.now }
     requires few { length ints.now ≤ row_group_rows }
-    requires entries { AreEntries (map Int ints.now) dictionary.now.places.items dictionary.now.codes.items }
-    ensures { OnOk result (PutsBody out.old.items out.new.items kind.Dict of_type.Int (map Int ints.now)) }
+    requires entries { AreEntries (map Int ints.now) dictionary.now.places.items
+        dictionary.now.codes.items }
+    ensures { OnOk result (PutsBody out.old.items out.new.items kind.Dict of_type.Int
+        (map Int ints.now)) }
 {
     let entries = dictionary.places.len();
     make_room(
@@ -47,7 +49,8 @@ pub fn put_dictionary_of_ints(
     requires fit { list_all (is_of of_type.Int false) (map Int ints.now) ≡ true }
     requires some { 1 ≤ length ints.now }
     requires few { length ints.now ≤ row_group_rows }
-    ensures { OnOk result (PutsBody out.old.items out.new.items kind.Dict of_type.Int (map Int ints.now)) }
+    ensures { OnOk result (PutsBody out.old.items out.new.items kind.Dict of_type.Int
+        (map Int ints.now)) }
 {
     let dictionary = dictionary_of_ints(alloc, ints)?;
     let put = put_int_dictionary(out, ints, &dictionary);
@@ -62,12 +65,15 @@ pub fn put_text_dictionary(
     to: usize,
     dictionary: &Dictionary,
 ) -> Result<(), AllocError>
-    requires fit { list_all (is_of of_type.Text false) (map Text (take (to - from) (drop from texts.now))) ≡ true }
+    requires fit { list_all (is_of of_type.Text false)
+        (map Text (take (to - from) (drop from texts.now))) ≡ true }
     requires some { from < to }
     requires within { to ≤ length texts.now }
     requires few { to - from ≤ row_group_rows }
-    requires entries { AreEntries (map Text (take (to - from) (drop from texts.now))) dictionary.now.places.items dictionary.now.codes.items }
-    ensures { OnOk result (PutsBody out.old.items out.new.items kind.Dict of_type.Text (map Text (take (to - from) (drop from texts.now)))) }
+    requires entries { AreEntries (map Text (take (to - from) (drop from texts.now)))
+        dictionary.now.places.items dictionary.now.codes.items }
+    ensures { OnOk result (PutsBody out.old.items out.new.items kind.Dict of_type.Text
+        (map Text (take (to - from) (drop from texts.now)))) }
 {
     put_word(out, dictionary.places.len() as u32)?;
     put_texts_at(out, texts, from, to, dictionary.places.as_slice())?;
@@ -82,11 +88,13 @@ pub fn put_dictionary_of_texts(
     from: usize,
     to: usize,
 ) -> Result<(), AllocError>
-    requires fit { list_all (is_of of_type.Text false) (map Text (take (to - from) (drop from texts.now))) ≡ true }
+    requires fit { list_all (is_of of_type.Text false)
+        (map Text (take (to - from) (drop from texts.now))) ≡ true }
     requires some { from < to }
     requires within { to ≤ length texts.now }
     requires few { to - from ≤ row_group_rows }
-    ensures { OnOk result (PutsBody out.old.items out.new.items kind.Dict of_type.Text (map Text (take (to - from) (drop from texts.now)))) }
+    ensures { OnOk result (PutsBody out.old.items out.new.items kind.Dict of_type.Text
+        (map Text (take (to - from) (drop from texts.now)))) }
 {
     let dictionary = dictionary_of_texts(alloc, texts, from, to)?;
     let put = put_text_dictionary(out, texts, from, to, &dictionary);

@@ -1,5 +1,5 @@
 //! Numbers in the order of their cells, and the place of each among the different cells.
-ghost use Rattle.std.specs.Prelude.{ℕ, List, ◌≡◌, ◌<◌, ◌≤◌, ◌+◌, ◌-◌, [], ◌++◌, nat_lt, true, false, length, map, get_or, OnOk, IfOk};
+ghost use Rattle.std.specs.Prelude.{ℕ, List, ◌≡◌, ◌<◌, ◌≤◌, ◌+◌, ◌-◌, [], ◌++◌, nat_lt, true, false, length, map, slice_index_or, OnOk, IfOk};
 ghost use Rattle.std.specs.List.{list_all};
 ghost use Rattle.std.specs.Ordering.{is_lt};
 ghost use Rattle.meaning.specs.Limits.{row_group_rows};
@@ -22,7 +22,8 @@ fn put_numbered<K: Cell>(
 ) -> Result<(), AllocError>
     requires none { numbered.old.items ≡ [] }
     requires within { list_all (λ row. nat_lt row (length cells.now)) firsts.now ≡ true }
-    ensures { OnOk result (AreNumbered K.value (at_places (map K.value cells.now) firsts.now) numbered.new.items (length firsts.now)) }
+    ensures { OnOk result (AreNumbered K.value (at_places (map K.value cells.now) firsts.now)
+        numbered.new.items (length firsts.now)) }
 {
     for number in 0..firsts.len() {
         numbered.push((cells[firsts[number]], number))?;
@@ -33,7 +34,8 @@ fn put_numbered<K: Cell>(
 /// Puts the numbers in the order of their cells.
 fn sort<K: Cell>(numbered: &mut Vec<(K, usize)>)
     ensures { (cells : List Value) (count : ℕ) → AreNumbered K.value cells numbered.old.items count
-        → AreNumbered K.value cells numbered.new.items count × DoNotFall (map (λ p. K.value p.0) numbered.new.items) }
+        → AreNumbered K.value cells numbered.new.items count
+        × DoNotFall (map (λ p. K.value p.0) numbered.new.items) }
 {
     numbered.sort_unstable();
 }
@@ -45,7 +47,9 @@ fn sorted<K: Cell>(
     firsts: &[usize],
 ) -> Result<Vec<(K, usize)>, AllocError>
     requires within { list_all (λ row. nat_lt row (length cells.now)) firsts.now ≡ true }
-    ensures numbered { IfOk result (λ numbered. AreNumbered K.value (at_places (map K.value cells.now) firsts.now) numbered.items (length firsts.now)) }
+    ensures numbered { IfOk result
+        (λ numbered. AreNumbered K.value (at_places (map K.value cells.now) firsts.now)
+        numbered.items (length firsts.now)) }
     ensures sorted { IfOk result (λ numbered. DoNotFall (map (λ p. K.value p.0) numbered.items)) }
 {
     let mut numbered = Vec::with_capacity(alloc, firsts.len())?;
@@ -66,14 +70,17 @@ fn begins_entry<K: Cell>(sorted: &[(K, usize)], place: usize) -> bool
     requires within { place < length sorted.now }
     requires sorted { DoNotFall (map (λ p. K.value p.0) sorted.now) }
     ensures begins { result ≡ true → 0 < place
-        → is_lt (value_cmp (get_or (map (λ p. K.value p.0) sorted.now) (place - 1) Null) (get_or (map (λ p. K.value p.0) sorted.now) place Null)) ≡ true }
+        → is_lt (value_cmp (slice_index_or (map (λ p. K.value p.0) sorted.now) (place - 1) Null)
+        (slice_index_or (map (λ p. K.value p.0) sorted.now) place Null)) ≡ true }
     ensures stays { result ≡ false → (0 < place)
-        × (get_or (map (λ p. K.value p.0) sorted.now) (place - 1) Null ≡ get_or (map (λ p. K.value p.0) sorted.now) place Null) }
+        × (slice_index_or (map (λ p. K.value p.0) sorted.now) (place - 1) Null
+        ≡ slice_index_or (map (λ p. K.value p.0) sorted.now) place Null) }
 {
     place == 0 || sorted[place - 1].0 != sorted[place].0
 }
 
-/// Puts the first row of a number behind `places` where its cell begins an entry, and gives the code of the cell.
+/// Puts the first row of a number behind `places` where its cell begins an entry, and gives the
+/// code of the cell.
 fn enter<K: Cell>(
     cells: &[K],
     sorted: &[(K, usize)],
@@ -84,13 +91,18 @@ fn enter<K: Cell>(
     requires few { length firsts.now ≤ row_group_rows }
     requires rows { list_all (λ row. nat_lt row (length cells.now)) firsts.now ≡ true }
     requires within { place < length sorted.now }
-    requires numbered { AreNumbered K.value (at_places (map K.value cells.now) firsts.now) sorted.now (length firsts.now) }
+    requires numbered { AreNumbered K.value (at_places (map K.value cells.now) firsts.now)
+        sorted.now (length firsts.now) }
     requires sorted { DoNotFall (map (λ p. K.value p.0) sorted.now) }
-    requires before { AreFirstEntries (map K.value cells.now) (map (λ p. K.value p.0) sorted.now) place places.old.items }
-    ensures entries { OnOk result (AreFirstEntries (map K.value cells.now) (map (λ p. K.value p.0) sorted.now) (place + 1) places.new.items) }
+    requires before { AreFirstEntries (map K.value cells.now) (map (λ p. K.value p.0) sorted.now)
+        place places.old.items }
+    ensures entries { OnOk result
+        (AreFirstEntries (map K.value cells.now) (map (λ p. K.value p.0) sorted.now) (place + 1)
+        places.new.items) }
     ensures kept { OnOk result ((more : List ℕ) × (places.new.items ≡ places.old.items ++ more)) }
     ensures code { IfOk result (λ code. (code < length places.new.items)
-        × (get_or (at_places (map K.value cells.now) places.new.items) code Null ≡ get_or (map (λ p. K.value p.0) sorted.now) place Null)) }
+        × (slice_index_or (at_places (map K.value cells.now) places.new.items) code Null
+        ≡ slice_index_or (map (λ p. K.value p.0) sorted.now) place Null)) }
 {
     if begins_entry(sorted, place) {
         places.push(firsts[sorted[place].1])?;
@@ -98,7 +110,8 @@ fn enter<K: Cell>(
     Ok((places.len() - 1) as u16)
 }
 
-/// Puts the first row of each entry into `places`, and for each number the place of its entry into `codes`.
+/// Puts the first row of each entry into `places`, and for each number the place of its entry into
+/// `codes`.
 fn put_entries<K: Cell>(
     cells: &[K],
     sorted: &[(K, usize)],
@@ -108,11 +121,13 @@ fn put_entries<K: Cell>(
 ) -> Result<(), AllocError>
     requires few { length firsts.now ≤ row_group_rows }
     requires rows { list_all (λ row. nat_lt row (length cells.now)) firsts.now ≡ true }
-    requires numbered { AreNumbered K.value (at_places (map K.value cells.now) firsts.now) sorted.now (length firsts.now) }
+    requires numbered { AreNumbered K.value (at_places (map K.value cells.now) firsts.now)
+        sorted.now (length firsts.now) }
     requires sorted { DoNotFall (map (λ p. K.value p.0) sorted.now) }
     requires none { places.old.items ≡ [] }
     requires room { length codes.old ≡ length firsts.now }
-    ensures { OnOk result (AreNumberEntries (map K.value cells.now) firsts.now places.new.items codes.new) }
+    ensures { OnOk result (AreNumberEntries (map K.value cells.now) firsts.now places.new.items
+        codes.new) }
 {
     for place in 0..sorted.len() {
         let code = enter(cells, sorted, firsts, place, places)?;
@@ -121,7 +136,8 @@ fn put_entries<K: Cell>(
     Ok(())
 }
 
-/// A dictionary of the numbers: a first row for each entry, and for each number the place of its entry.
+/// A dictionary of the numbers: a first row for each entry, and for each number the place of its
+/// entry.
 fn entries_of<K: Cell>(
     alloc: Global,
     cells: &[K],
@@ -130,9 +146,11 @@ fn entries_of<K: Cell>(
 ) -> Result<Dictionary, AllocError>
     requires few { length firsts.now ≤ row_group_rows }
     requires rows { list_all (λ row. nat_lt row (length cells.now)) firsts.now ≡ true }
-    requires numbered { AreNumbered K.value (at_places (map K.value cells.now) firsts.now) sorted.now (length firsts.now) }
+    requires numbered { AreNumbered K.value (at_places (map K.value cells.now) firsts.now)
+        sorted.now (length firsts.now) }
     requires sorted { DoNotFall (map (λ p. K.value p.0) sorted.now) }
-    ensures { IfOk result (λ d. AreNumberEntries (map K.value cells.now) firsts.now d.places.items d.codes.items) }
+    ensures { IfOk result (λ d. AreNumberEntries (map K.value cells.now) firsts.now d.places.items
+        d.codes.items) }
 {
     let mut codes = vec![in alloc; 0; firsts.len()]?;
     let mut places = Vec::new(alloc);
@@ -154,7 +172,8 @@ pub fn numbers_in_order<K: Cell>(
 ) -> Result<Dictionary, AllocError>
     requires few { length firsts.now ≤ row_group_rows }
     requires rows { list_all (λ row. nat_lt row (length cells.now)) firsts.now ≡ true }
-    ensures { IfOk result (λ d. AreNumberEntries (map K.value cells.now) firsts.now d.places.items d.codes.items) }
+    ensures { IfOk result (λ d. AreNumberEntries (map K.value cells.now) firsts.now d.places.items
+        d.codes.items) }
 {
     let sorted = sorted(alloc, cells, firsts)?;
     let entries = entries_of(alloc, cells, sorted.as_slice(), firsts);

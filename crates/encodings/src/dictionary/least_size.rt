@@ -1,5 +1,6 @@
-//! How many bytes the different ones of some cells take at least: cells whose homes are different are different.
-ghost use Rattle.std.specs.Prelude.{◌≡◌, ◌-◌, ◌*◌, ◌<◌, ◌≤◌, false, true, if◌then◌else◌, length, map, take, drop, set, get_or, IfOk};
+//! How many bytes the different ones of some cells take at least: cells whose homes are different
+//! are different.
+ghost use Rattle.std.specs.Prelude.{◌≡◌, ◌-◌, ◌*◌, ◌<◌, ◌≤◌, false, true, if◌then◌else◌, length, map, take, drop, set, slice_index_or, IfOk};
 ghost use Rattle.meaning.specs.Limits.{row_group_rows};
 ghost use Rattle.meaning.specs.Order.{value_cmp, ascending_set};
 ghost use Rattle.meaning.specs.declared.value.Value.TheVariants.{Int, Text};
@@ -19,19 +20,21 @@ const STEP: usize = 512;
 fn mark(marks: &mut [bool], home: usize, size: usize) -> usize
     requires { home < length marks.old }
     ensures marks { marks.new ≡ set marks.old home true }
-    ensures size { result ≡ (if get_or marks.old home false then 0 else size) }
+    ensures size { result ≡ (if slice_index_or marks.old home false then 0 else size) }
 {
     let more = if marks[home] { 0 } else { size };
     marks[home] = true;
     more
 }
 
-/// Whether a size is reached, or hardly will be: after `done` of the rows there is less than half of what they would share.
+/// Whether a size is reached, or hardly will be: after `done` of the rows there is less than half
+/// of what they would share.
 fn is_settled(size: usize, wanted: usize, done: usize, rows: usize) -> bool {
     wanted < size || size.saturating_mul(rows).saturating_mul(2) < wanted.saturating_mul(done)
 }
 
-/// How many bytes the different ones of some integers take at least. It is looked for no more than is wanted.
+/// How many bytes the different ones of some integers take at least. It is looked for no more than
+/// is wanted.
 fn size_of_different_ints(ints: &[i64], wanted: usize, marks: &mut [bool]) -> usize
     requires homes { length marks.old ≡ 32768 }
     requires few { length ints.now ≤ row_group_rows }
@@ -60,7 +63,8 @@ fn size_of_different_texts(
     requires ordered { from ≤ to }
     requires within { to ≤ length texts.now }
     requires few { to - from ≤ row_group_rows }
-    ensures least { result ≤ form_size of_type.Text (ascending_set value_cmp (map Text (take (to - from) (drop from texts.now)))) }
+    ensures least { result ≤ form_size of_type.Text
+        (ascending_set value_cmp (map Text (take (to - from) (drop from texts.now)))) }
     ensures bound { result ≤ 65539 * row_group_rows }
 {
     let mut size = 0;
@@ -74,11 +78,13 @@ fn size_of_different_texts(
     size
 }
 
-/// How many bytes the different ones of some integers take at least, as far as it is more than is wanted.
+/// How many bytes the different ones of some integers take at least, as far as it is more than is
+/// wanted.
 pub fn least_size_of_ints(alloc: Global, ints: &[i64], wanted: usize) -> Result<usize, AllocError>
     requires few { length ints.now ≤ row_group_rows }
     ensures bound { IfOk result (λ size. size ≤ 65539 * row_group_rows) }
-    ensures least { IfOk result (λ size. size ≤ form_size of_type.Int (ascending_set value_cmp (map Int ints.now))) }
+    ensures least { IfOk result
+        (λ size. size ≤ form_size of_type.Int (ascending_set value_cmp (map Int ints.now))) }
 {
     let mut marks = vec![in alloc; false; HOMES]?;
     Ok(size_of_different_ints(ints, wanted, marks.as_mut_slice()))
@@ -96,7 +102,9 @@ pub fn least_size_of_texts(
     requires within { to ≤ length texts.now }
     requires few { to - from ≤ row_group_rows }
     ensures bound { IfOk result (λ size. size ≤ 65539 * row_group_rows) }
-    ensures least { IfOk result (λ size. size ≤ form_size of_type.Text (ascending_set value_cmp (map Text (take (to - from) (drop from texts.now))))) }
+    ensures least { IfOk result
+        (λ size. size ≤ form_size of_type.Text
+        (ascending_set value_cmp (map Text (take (to - from) (drop from texts.now))))) }
 {
     let mut marks = vec![in alloc; false; HOMES]?;
     Ok(size_of_different_texts(texts, from, to, wanted, marks.as_mut_slice()))

@@ -1,5 +1,5 @@
 //! A number for each row, the same only for rows with equal cells.
-ghost use Rattle.std.specs.Prelude.{◌≡◌, ◌<◌, ◌≤◌, ◌+◌, [], ◌∷◌, ◌++◌, nat_lt, true, length, map, get_or, OnOk, IfOk, IfErr};
+ghost use Rattle.std.specs.Prelude.{◌≡◌, ◌<◌, ◌≤◌, ◌+◌, [], ◌∷◌, ◌++◌, nat_lt, true, length, map, slice_index_or, slice_index, OnOk, IfOk, IfErr};
 ghost use Rattle.std.specs.List.{list_all};
 ghost use Rattle.meaning.specs.Limits.{row_group_rows};
 ghost use Rattle.meaning.specs.declared.value.Value.TheVariants.{Null};
@@ -12,8 +12,8 @@ use std::mem::drop;
 /// How many slots there are, twice as many as there may be numbers.
 const SLOTS: usize = 16_384;
 
-/// In how many slots from its home on a cell is looked for. A cell that isn't found gets a number more than it needs, which
-/// is put together with its first when the numbers are put in order.
+/// In how many slots from its home on a cell is looked for. A cell that isn't found gets a number
+/// more than it needs, which is put together with its first when the numbers are put in order.
 const REACH: usize = 8;
 
 /// A number for each row, and for each number the first row that has it.
@@ -27,7 +27,8 @@ pub struct Numbers {
 fn look<K: Cell>(cells: &[K], firsts: &[usize], slots: &[u16], cell: K) -> Result<u16, usize>
     requires slots { length slots.now ≡ 16384 }
     requires rows { list_all (λ row. nat_lt row (length cells.now)) firsts.now ≡ true }
-    ensures number { IfOk result (λ n. (n < length firsts.now) × (get_or (map K.value cells.now) (get_or firsts.now n 0) Null ≡ K.value cell)) }
+    ensures number { IfOk result (λ n. (n < length firsts.now)
+        × (slice_index_or (map K.value cells.now) (slice_index firsts.now n) Null ≡ K.value cell)) }
     ensures slot { IfErr result (λ slot. slot < 16384) }
 {
     let home = cell.home() / 2;
@@ -60,7 +61,8 @@ impl Numbers {
     fn add(&mut self, row: usize) -> Result<u16, AllocError>
         requires { length self.old.firsts.items < row_group_rows }
         ensures firsts { OnOk result (self.new.firsts.items ≡ self.old.firsts.items ++ row ∷ []) }
-        ensures of_rows { IfOk result (λ number. self.new.of_rows.items ≡ self.old.of_rows.items ++ number ∷ []) }
+        ensures of_rows { IfOk result (λ number. self.new.of_rows.items ≡ self.old.of_rows.items
+            ++ number ∷ []) }
         ensures number { IfOk result (λ number. number ≡ length self.old.firsts.items) }
     {
         let number = self.firsts.len() as u16;
@@ -79,8 +81,11 @@ impl Numbers {
         requires few { length cells.now ≤ row_group_rows }
         requires within { row < length cells.now }
         requires slots { length slots.old ≡ 16384 }
-        requires numbers { AreNumbers (map K.value cells.now) self.old.firsts.items self.old.of_rows.items row }
-        ensures numbers { OnOk result (AreNumbers (map K.value cells.now) self.new.firsts.items self.new.of_rows.items (row + 1)) }
+        requires numbers { AreNumbers (map K.value cells.now) self.old.firsts.items
+            self.old.of_rows.items row }
+        ensures numbers { OnOk result
+            (AreNumbers (map K.value cells.now) self.new.firsts.items self.new.of_rows.items
+            (row + 1)) }
         ensures slots { length slots.new ≡ 16384 }
     {
         match look(cells, self.firsts.as_slice(), slots, cells[row]) {
@@ -96,8 +101,10 @@ impl Numbers {
     fn add_cells<K: Cell>(&mut self, slots: &mut [u16], cells: &[K]) -> Result<(), AllocError>
         requires few { length cells.now ≤ row_group_rows }
         requires slots { length slots.old ≡ 16384 }
-        requires none { AreNumbers (map K.value cells.now) self.old.firsts.items self.old.of_rows.items 0 }
-        ensures { OnOk result (AreNumbers (map K.value cells.now) self.new.firsts.items self.new.of_rows.items (length cells.now)) }
+        requires none { AreNumbers (map K.value cells.now) self.old.firsts.items
+            self.old.of_rows.items 0 }
+        ensures { OnOk result (AreNumbers (map K.value cells.now) self.new.firsts.items
+            self.new.of_rows.items (length cells.now)) }
     {
         for row in 0..cells.len() {
             self.add_cell(slots, cells, row)?;
@@ -113,7 +120,8 @@ fn numbers_by_slots<K: Cell>(
 ) -> Result<Numbers, AllocError>
     requires few { length cells.now ≤ row_group_rows }
     requires slots { length slots.old ≡ 16384 }
-    ensures { IfOk result (λ n. AreNumbers (map K.value cells.now) n.firsts.items n.of_rows.items (length cells.now)) }
+    ensures { IfOk result (λ n. AreNumbers (map K.value cells.now) n.firsts.items n.of_rows.items
+        (length cells.now)) }
 {
     let mut numbers = Numbers::new(alloc, cells.len())?;
     match numbers.add_cells(slots, cells) {
@@ -127,7 +135,8 @@ fn numbers_by_slots<K: Cell>(
 
 pub fn numbers_of<K: Cell>(alloc: Global, cells: &[K]) -> Result<Numbers, AllocError>
     requires { length cells.now ≤ row_group_rows }
-    ensures { IfOk result (λ n. AreNumbers (map K.value cells.now) n.firsts.items n.of_rows.items (length cells.now)) }
+    ensures { IfOk result (λ n. AreNumbers (map K.value cells.now) n.firsts.items n.of_rows.items
+        (length cells.now)) }
 {
     let mut slots = vec![in alloc; u16::MAX; SLOTS]?;
     numbers_by_slots(alloc, slots.as_mut_slice(), cells)

@@ -1,5 +1,5 @@
 //! The dictionary of some cells, as it is made to be written.
-ghost use Rattle.std.specs.Prelude.{List, ◌≡◌, ◌<◌, ◌≤◌, ◌-◌, length, map, get_or, IfOk, take, drop};
+ghost use Rattle.std.specs.Prelude.{List, ◌≡◌, ◌<◌, ◌≤◌, ◌-◌, length, map, slice_index, IfOk, take, drop};
 ghost use Rattle.meaning.specs.Limits.{row_group_rows};
 ghost use Rattle.meaning.specs.declared.value.Value.{Value};
 ghost use Rattle.encodings.specs.Entries.{AreNumberEntries, AreNumbers};
@@ -21,14 +21,14 @@ pub struct Dictionary {
 }
 
 fn code_of(codes: &[u16], number: u16) -> u16
-    ensures { result ≡ get_or codes.now number 0 }
+    ensures { result ≡ slice_index codes.now number }
 {
     codes.get(usize::from(number)).copied().unwrap_or(0)
 }
 
 /// Puts the code of each number in place of the number.
 fn recode(of_rows: &mut [u16], codes: &[u16])
-    ensures { of_rows.new ≡ map (λ number. get_or codes.now number 0) of_rows.old }
+    ensures { of_rows.new ≡ map (λ number. slice_index codes.now number) of_rows.old }
 {
     for number in of_rows {
         *number = code_of(codes, *number);
@@ -37,7 +37,8 @@ fn recode(of_rows: &mut [u16], codes: &[u16])
 
 /// The dictionary of the rows, by that of their numbers.
 fn recoded(numbers: Numbers, entries: Dictionary) -> Dictionary
-    ensures { (cells : List Value) → AreNumbers cells numbers.firsts.items numbers.of_rows.items (length cells)
+    ensures { (cells : List Value)
+        → AreNumbers cells numbers.firsts.items numbers.of_rows.items (length cells)
         → AreNumberEntries cells numbers.firsts.items entries.places.items entries.codes.items
         → AreEntries cells result.places.items result.codes.items }
 {
@@ -79,7 +80,8 @@ fn texts_between(
 ) -> Result<Vec<&[u8]>, AllocError>
     requires ordered { from ≤ to }
     requires within { to ≤ length texts.now }
-    ensures { IfOk result (λ cells. map (λ text. text.now) cells.items ≡ take (to - from) (drop from texts.now)) }
+    ensures { IfOk result (λ cells. map (λ text. text.now) cells.items
+        ≡ take (to - from) (drop from texts.now)) }
 {
     let mut cells = Vec::with_capacity(alloc, to - from)?;
     for row in from..to {
@@ -97,7 +99,8 @@ pub fn dictionary_of_texts(
     requires some { from < to }
     requires within { to ≤ length texts.now }
     requires few { to - from ≤ row_group_rows }
-    ensures { IfOk result (λ d. AreEntries (map Text (take (to - from) (drop from texts.now))) d.places.items d.codes.items) }
+    ensures { IfOk result (λ d. AreEntries (map Text (take (to - from) (drop from texts.now)))
+        d.places.items d.codes.items) }
 {
     let cells = texts_between(alloc, texts, from, to)?;
     let dictionary = dictionary_of(alloc, cells.as_slice());

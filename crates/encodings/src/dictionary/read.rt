@@ -1,5 +1,5 @@
 //! A code for each row, and the entries that codes name, into a buffer.
-ghost use Rattle.std.specs.Prelude.{◌≡◌, ◌≤◌, ◌<◌, ◌+◌, ◌-◌, ◌*◌, nat_lt, length, map, take, drop, true, get_or, pos, []};
+ghost use Rattle.std.specs.Prelude.{◌≡◌, ◌≤◌, ◌<◌, ◌+◌, ◌-◌, ◌*◌, nat_lt, length, map, take, drop, true, slice_index_or, pos, []};
 ghost use Rattle.std.specs.Simd.{first_chunks};
 ghost use Rattle.meaning.specs.declared.value.Value.TheVariants.{Int, Text};
 ghost use Rattle.encodings.specs.Dictionary.{entry_bytes, dictionary_cells, is_dictionary};
@@ -14,7 +14,7 @@ use crate::plain::texts::{Texts, text_at, texts_form};
 
 fn code_at(codes: &[[u8; 2]], i: usize) -> usize
     requires { i < length codes.now }
-    ensures { result ≡ get_or (codes_in codes.now) i 0 }
+    ensures { result ≡ slice_index_or (codes_in codes.now) i 0 }
 {
     u16::from_le_bytes(codes[i]) as usize
 }
@@ -22,9 +22,11 @@ fn code_at(codes: &[[u8; 2]], i: usize) -> usize
 /// The entries that the codes from `from` on name.
 pub fn fill_coded_integers(entries: &[[u8; 8]], codes: &[[u8; 2]], from: usize, out: &mut [i64])
     requires within { from + length out.old ≤ length codes.now }
-    requires valid { list_all (λ code. nat_lt code (length entries.now)) (codes_in codes.now) ≡ true }
+    requires valid { list_all (λ code. nat_lt code (length entries.now)) (codes_in codes.now)
+        ≡ true }
     ensures { out.new ≡ take (length out.old)
-        (drop from (map (λ code. get_or (map integer_of entries.now) code (pos 0)) (codes_in codes.now))) }
+        (drop from (map (λ code. slice_index_or (map integer_of entries.now) code (pos 0))
+        (codes_in codes.now))) }
 {
     for (i, cell) in out.iter_mut().enumerate() {
         *cell = i64::from_le_bytes(entries[code_at(codes, from + i)]);
@@ -39,10 +41,12 @@ pub fn fill_coded_texts<'a>(
     out: &mut [&'a [u8]],
 )
     requires within { from + length out.old ≤ length codes.now }
-    requires valid { list_all (λ code. nat_lt code (length entries.ends.now)) (codes_in codes.now) ≡ true }
+    requires valid { list_all (λ code. nat_lt code (length entries.ends.now)) (codes_in codes.now)
+        ≡ true }
     requires entries { are_texts entries.ends.now entries.joined.now ≡ true }
     ensures { map (λ t. t.now) out.new ≡ take (length out.old)
-        (drop from (map (λ code. get_or (texts_in entries.entry.ends.now entries.entry.joined.now) code [])
+        (drop from (map (λ code. slice_index_or
+        (texts_in entries.entry.ends.now entries.entry.joined.now) code [])
         (codes_in codes.now))) }
 {
     for (i, cell) in out.iter_mut().enumerate() {
@@ -54,7 +58,8 @@ pub fn fill_coded_texts<'a>(
 fn dictionary_parts(rows: usize, body: &[u8]) -> (&[u8], &[[u8; 2]])
     requires { 4 + 2 * rows ≤ length body.now }
     ensures entries { result.0.now ≡ entry_bytes rows body.now }
-    ensures codes { result.1.now ≡ first_chunks 2 rows (drop (length body.now - 2 * rows) body.now) }
+    ensures codes { result.1.now
+        ≡ first_chunks 2 rows (drop (length body.now - 2 * rows) body.now) }
     ensures len { length result.1.now ≡ rows }
 {
     let (front, codes) = body.split_at(body.len() - 2 * rows);
@@ -65,7 +70,8 @@ fn dictionary_parts(rows: usize, body: &[u8]) -> (&[u8], &[[u8; 2]])
 pub fn read_coded_integers(rows: usize, body: &[u8], from: usize, out: &mut [i64])
     requires form { is_dictionary of_type.Int rows body.now ≡ true }
     requires within { from + length out.old ≤ rows }
-    ensures { map Int out.new ≡ take (length out.old) (drop from (dictionary_cells of_type.Int rows body.now)) }
+    ensures { map Int out.new
+        ≡ take (length out.old) (drop from (dictionary_cells of_type.Int rows body.now)) }
 {
     let (bytes, codes) = dictionary_parts(rows, body);
     fill_coded_integers(chunks::<8>(bytes, leading_count(body)), codes, from, out);

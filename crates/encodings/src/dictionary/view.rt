@@ -1,5 +1,5 @@
 //! The dictionary that a block lends.
-ghost use Rattle.std.specs.Prelude.{◌≡◌, ◌+◌, ◌-◌, ◌*◌, ◌<◌, ◌≤◌, true, length, drop, get_or};
+ghost use Rattle.std.specs.Prelude.{◌≡◌, ◌+◌, ◌-◌, ◌*◌, ◌<◌, ◌≤◌, true, length, drop, slice_index_or, slice_index};
 ghost use Rattle.meaning.specs.Order.{value_in};
 ghost use Rattle.meaning.specs.declared.value.Value.TheVariants.{Null};
 ghost use Rattle.encodings.specs.Dictionary.{is_dictionary, dictionary_cells, entry_bytes};
@@ -11,7 +11,8 @@ use bit_packing::numbers::short_at;
 use meaning::value::{ColType, ValueRef};
 use std::marker::Model;
 
-/// The entries of a dictionary, and the code of each row: its entry's place. Contracts see both lists.
+/// The entries of a dictionary, and the code of each row: its entry's place. Contracts see both
+/// lists.
 #[derive(Drop)]
 pub struct DictionaryView<'a> {
     col_type: ColType,
@@ -28,7 +29,10 @@ impl<'a> Model for DictionaryView<'a> {
 
     ghost Value = { DictionarySpec };
 
-    ghost view = { λ d. record { entries = values_form d.col_type d.count d.entries.now; codes = shorts d.rows d.codes.now } };
+    ghost view = { λ d. record {
+      entries = values_form d.col_type d.count d.entries.now;
+      codes = shorts d.rows d.codes.now;
+    } };
 
     ghost invariant = { λ d. IsDictionaryOf d.col_type d.count d.entries.now d.rows d.codes.now };
 }
@@ -54,7 +58,7 @@ pub fn code_bytes(rows: usize, body: &[u8]) -> &[u8]
 pub fn dictionary_cell(col_type: ColType, rows: usize, body: &[u8], row: usize) -> ValueRef<'_>
     requires form { is_dictionary col_type rows body.now ≡ true }
     requires within { row < rows }
-    ensures { value_in result ≡ get_or (dictionary_cells col_type rows body.now) row Null }
+    ensures { value_in result ≡ slice_index_or (dictionary_cells col_type rows body.now) row Null }
 {
     let code = short_at(code_bytes(rows, body), row) as usize;
     value_at(col_type, leading_count(body), entry_bytes(rows, body), code)
@@ -85,7 +89,7 @@ impl<'a> DictionaryView<'a> {
     /// An entry. The entries ascend.
     pub fn entry(&self, place: usize) -> ValueRef<'a>
         requires { place < length self.now.entries }
-        ensures { value_in result ≡ get_or self.now.entries place Null }
+        ensures { value_in result ≡ slice_index_or self.now.entries place Null }
     {
         value_at(self.col_type, self.count, self.entries, place)
     }
@@ -93,7 +97,7 @@ impl<'a> DictionaryView<'a> {
     /// The place of a row's entry.
     pub fn code(&self, row: usize) -> u16
         requires { row < length self.now.codes }
-        ensures value { result ≡ get_or self.now.codes row 0 }
+        ensures value { result ≡ slice_index self.now.codes row }
         ensures known { result < length self.now.entries }
     {
         short_at(self.codes, row)

@@ -31,7 +31,8 @@ fn kept(dictionary: Dictionary, size: usize, most: usize) -> Option<Dictionary>
     Some(dictionary)
 }
 
-/// The dictionary, if it takes no more than so many bytes. It isn't made where as few entries as there may be take more.
+/// The dictionary, if it takes no more than so many bytes. It isn't made where as few entries as
+/// there may be take more.
 pub fn dictionary_of_ints_within(
     alloc: Global,
     ints: &[i64],
@@ -39,7 +40,8 @@ pub fn dictionary_of_ints_within(
 ) -> Result<Option<Dictionary>, AllocError>
     requires some { 1 ≤ length ints.now }
     requires few { length ints.now ≤ row_group_rows }
-    ensures { IfOk result (IsDictionaryWithin (map Int ints.now) (body_size kind.Dict of_type.Int (map Int ints.now)) most) }
+    ensures { IfOk result (IsDictionaryWithin (map Int ints.now)
+        (body_size kind.Dict of_type.Int (map Int ints.now)) most) }
 {
     let beside = 4 + 2 * ints.len();
     if most < beside + 8 {
@@ -59,7 +61,8 @@ fn text_size_at(texts: &TextList, from: usize, to: usize, places: &[usize]) -> u
     requires within { to ≤ length texts.now }
     requires places { list_all (λ place. nat_lt place (to - from)) places.now ≡ true }
     requires few { length places.now ≤ row_group_rows }
-    ensures value { result ≡ form_size of_type.Text (at_places (map Text (take (to - from) (drop from texts.now))) places.now) }
+    ensures value { result ≡ form_size of_type.Text
+        (at_places (map Text (take (to - from) (drop from texts.now))) places.now) }
     ensures bound { result ≤ 65539 * length places.now }
 {
     let mut total = 0;
@@ -69,7 +72,8 @@ fn text_size_at(texts: &TextList, from: usize, to: usize, places: &[usize]) -> u
     total
 }
 
-/// The dictionary, if it takes no more than so many bytes. It isn't made where as few entries as there may be take more.
+/// The dictionary, if it takes no more than so many bytes. It isn't made where as few entries as
+/// there may be take more.
 pub fn dictionary_of_texts_within(
     alloc: Global,
     texts: &TextList,

@@ -1,4 +1,5 @@
-//! Whether bytes are a frame of reference: a base, a width in bits, and an offset of that width for each row.
+//! Whether bytes are a frame of reference: a base, a width in bits, and an offset of that width for
+//! each row.
 ghost use Rattle.std.specs.Prelude.{◌≡◌, ◌≤◌};
 ghost use Rattle.meaning.specs.Limits.{row_group_rows};
 ghost use Rattle.encodings.specs.Frame.{is_frame};

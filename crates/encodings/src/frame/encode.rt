@@ -29,7 +29,8 @@ pub fn put_frame(out: &mut Vec<u8>, ints: &[i64]) -> Result<(), AllocError>
     requires fit { list_all (is_of of_type.Int false) (map Int ints.now) ≡ true }
     requires some { 1 ≤ length ints.now }
     requires few { length ints.now ≤ row_group_rows }
-    ensures { OnOk result (PutsBody out.old.items out.new.items kind.Frame of_type.Int (map Int ints.now)) }
+    ensures { OnOk result (PutsBody out.old.items out.new.items kind.Frame of_type.Int
+        (map Int ints.now)) }
 {
     let bounds = bounds_of(ints);
     let width = width_of(bounds.greatest.abs_diff(bounds.least));

@@ -1,5 +1,5 @@
 //! A base, and an offset of some bits for each row, into a buffer.
-ghost use Rattle.std.specs.Prelude.{◌≡◌, pos, ◌+◌, ◌<◌, ◌≤◌, true, get_or, length, take, drop};
+ghost use Rattle.std.specs.Prelude.{◌≡◌, pos, ◌+◌, ◌<◌, ◌≤◌, true, slice_index_or, length, take, drop};
 ghost use Rattle.meaning.specs.Limits.{row_group_rows};
 ghost use Rattle.encodings.specs.Frame.{is_frame, frame_integers, base_of};
 
@@ -13,7 +13,7 @@ pub fn frame_cell(rows: usize, body: &[u8], row: usize) -> i64
     requires form { is_frame rows body.now ≡ true }
     requires within { row < rows }
     requires few { rows ≤ row_group_rows }
-    ensures { result ≡ get_or (frame_integers rows body.now) row (pos 0) }
+    ensures { result ≡ slice_index_or (frame_integers rows body.now) row (pos 0) }
 {
     let offset = near_offset(&body[9..], body[8], row);
     (i128::from(integer_at(body, 0)) + i128::from(offset)) as i64

@@ -1,7 +1,7 @@
-//! Whether bytes are values that stand one by one: integers of 64 bits, or the ends of texts and then the texts.
-ghost use Rattle.std.specs.Prelude.{◌≡◌, ◌*◌, ◌-◌, ◌≤◌, true, length};
+//! Whether bytes are values that stand one by one: integers of 64 bits, or the ends of texts and
+//! then the texts.
+ghost use Rattle.std.specs.Prelude.{◌≡◌, ◌*◌, ◌-◌, ◌≤◌, true, length, ◌↔◌, IsTrue};
 ghost use Rattle.std.specs.List.{list_all};
-ghost use Rattle.std.specs.Bool.{Decides};
 ghost use Rattle.std.specs.Str.{IsCharBoundary};
 ghost use Rattle.meaning.specs.Limits.{row_group_rows, max_text_bytes};
 ghost use Rattle.columns.specs.Column.{is_text};
@@ -33,7 +33,7 @@ fn are_ends(count: usize, bytes: &[u8], total: usize) -> bool
 fn is_cut(joined: &[u8], start: usize, end: usize) -> bool
     requires ordered { start ≤ end }
     requires within { end ≤ length joined.now }
-    ensures { Decides result ((end - start ≤ max_text_bytes) × IsCharBoundary joined.now end) }
+    ensures { IsTrue result ↔ ((end - start ≤ max_text_bytes) × IsCharBoundary joined.now end) }
 {
     if MAX_TEXT_BYTES < end - start {
         return false;

@@ -1,5 +1,5 @@
 //! Values one by one: integers, or where each text ends and then the texts.
-ghost use Rattle.std.specs.Prelude.{◌≡◌, ◌≤◌, ◌<◌, nat_lt, ◌+◌, ◌-◌, ◌++◌, [], length, take, drop, get_or, true, OnOk, false, map};
+ghost use Rattle.std.specs.Prelude.{◌≡◌, ◌≤◌, ◌<◌, nat_lt, ◌+◌, ◌-◌, ◌++◌, [], length, take, drop, slice_index_or, true, OnOk, false, map};
 ghost use Rattle.std.specs.List.{concat, flat_map, list_all};
 ghost use Rattle.meaning.specs.Limits.{row_group_rows};
 ghost use Rattle.columns.specs.Column.{is_text, is_of};
@@ -42,7 +42,8 @@ fn put_ends(out: &mut Vec<u8>, texts: &TextList, from: usize, to: usize) -> Resu
     requires within { to ≤ length texts.now }
     requires few { to - from ≤ row_group_rows }
     ensures { OnOk result (out.new.items
-        ≡ out.old.items ++ flat_map word_bytes (ends_from 0 (take (to - from) (drop from texts.now)))) }
+        ≡ out.old.items ++ flat_map word_bytes
+        (ends_from 0 (take (to - from) (drop from texts.now)))) }
 {
     let mut end = 0;
     for row in from..to {
@@ -63,7 +64,8 @@ pub fn put_texts(
     requires within { to ≤ length texts.now }
     requires few { to - from ≤ row_group_rows }
     ensures { OnOk result (out.new.items
-        ≡ out.old.items ++ (flat_map word_bytes (ends_from 0 (take (to - from) (drop from texts.now)))
+        ≡ out.old.items ++ (flat_map word_bytes
+        (ends_from 0 (take (to - from) (drop from texts.now)))
         ++ concat (take (to - from) (drop from texts.now)))) }
 {
     put_ends(out, texts, from, to)?;
@@ -74,7 +76,7 @@ pub fn put_texts(
 pub fn text_at(texts: &TextList, from: usize, to: usize, place: usize) -> &[u8]
     requires within { to ≤ length texts.now }
     requires place { place < to - from }
-    ensures value { result.now ≡ get_or (take (to - from) (drop from texts.now)) place [] }
+    ensures value { result.now ≡ slice_index_or (take (to - from) (drop from texts.now)) place [] }
     ensures text { is_text result.now ≡ true }
 {
     texts.get(from + place)
@@ -91,7 +93,8 @@ fn put_ends_at(
     requires places { list_all (λ place. nat_lt place (to - from)) places.now ≡ true }
     requires few { length places.now ≤ row_group_rows }
     ensures { OnOk result (out.new.items
-        ≡ out.old.items ++ flat_map word_bytes (ends_from 0 (texts_at (take (to - from) (drop from texts.now)) places.now))) }
+        ≡ out.old.items ++ flat_map word_bytes
+        (ends_from 0 (texts_at (take (to - from) (drop from texts.now)) places.now))) }
 {
     let mut end = 0;
     for place in places {
@@ -131,7 +134,8 @@ pub fn put_texts_at(
     requires places { list_all (λ place. nat_lt place (to - from)) places.now ≡ true }
     requires few { length places.now ≤ row_group_rows }
     ensures { OnOk result (out.new.items
-        ≡ out.old.items ++ (flat_map word_bytes (ends_from 0 (texts_at (take (to - from) (drop from texts.now)) places.now))
+        ≡ out.old.items ++ (flat_map word_bytes
+        (ends_from 0 (texts_at (take (to - from) (drop from texts.now)) places.now))
         ++ concat (texts_at (take (to - from) (drop from texts.now)) places.now))) }
 {
     put_ends_at(out, texts, from, to, places)?;
@@ -142,7 +146,8 @@ pub fn put_texts_at(
 pub fn put_plain_ints(out: &mut Vec<u8>, ints: &[i64]) -> Result<(), AllocError>
     requires fit { list_all (is_of of_type.Int false) (map Int ints.now) ≡ true }
     requires few { length ints.now ≤ row_group_rows }
-    ensures { OnOk result (PutsBody out.old.items out.new.items kind.Plain of_type.Int (map Int ints.now)) }
+    ensures { OnOk result (PutsBody out.old.items out.new.items kind.Plain of_type.Int
+        (map Int ints.now)) }
 {
     make_room(out, 8 * ints.len())?;
     put_integers(out, ints)?;
@@ -155,11 +160,13 @@ pub fn put_plain_texts(
     from: usize,
     to: usize,
 ) -> Result<(), AllocError>
-    requires fit { list_all (is_of of_type.Text false) (map Text (take (to - from) (drop from texts.now))) ≡ true }
+    requires fit { list_all (is_of of_type.Text false)
+        (map Text (take (to - from) (drop from texts.now))) ≡ true }
     requires some { from < to }
     requires within { to ≤ length texts.now }
     requires few { to - from ≤ row_group_rows }
-    ensures { OnOk result (PutsBody out.old.items out.new.items kind.Plain of_type.Text (map Text (take (to - from) (drop from texts.now)))) }
+    ensures { OnOk result (PutsBody out.old.items out.new.items kind.Plain of_type.Text
+        (map Text (take (to - from) (drop from texts.now)))) }
 {
     make_room(out, 4 * (to - from) + texts.joined(from, to).len())?;
     put_texts(out, texts, from, to)?;

@@ -35,7 +35,8 @@ pub fn fill_texts<'a>(texts: Texts<'a>, from: usize, out: &mut [&'a [u8]])
 pub fn read_plain_integers(rows: usize, body: &[u8], from: usize, out: &mut [i64])
     requires form { is_values_form of_type.Int rows body.now ≡ true }
     requires within { from + length out.old ≤ rows }
-    ensures { map Int out.new ≡ take (length out.old) (drop from (values_form of_type.Int rows body.now)) }
+    ensures { map Int out.new
+        ≡ take (length out.old) (drop from (values_form of_type.Int rows body.now)) }
 {
     fill_integers(chunks::<8>(body, rows), from, out);
 }

@@ -1,5 +1,5 @@
 //! Texts that are joined, and where each ends.
-ghost use Rattle.std.specs.Prelude.{◌≡◌, ◌-◌, ◌*◌, ◌<◌, ◌≤◌, length, get_or, true, [], ◌∷◌, drop, take};
+ghost use Rattle.std.specs.Prelude.{◌≡◌, ◌-◌, ◌*◌, ◌<◌, ◌≤◌, length, slice_index_or, true, [], ◌∷◌, drop, take};
 ghost use Rattle.std.specs.Simd.{first_chunks};
 ghost use Rattle.encodings.specs.Plain.{ends_in, texts_in, are_texts};
 
@@ -28,7 +28,7 @@ pub fn texts_form<'a>(bytes: &'a [u8], count: usize) -> Texts<'a>
 /// Where text `i` begins, and where the one before ends.
 fn place_at(ends: &[[u8; 4]], i: usize) -> usize
     requires { i ≤ length ends.now }
-    ensures { result ≡ get_or (0 ∷ ends_in ends.now) i 0 }
+    ensures { result ≡ slice_index_or (0 ∷ ends_in ends.now) i 0 }
 {
     if i == 0 {
         return 0;
@@ -41,7 +41,7 @@ fn place_of(texts: Texts<'_>, i: usize) -> (usize, usize)
     requires within { i < length texts.ends.now }
     requires valid { are_texts texts.ends.now texts.joined.now ≡ true }
     ensures text { take (result.1 - result.0) (drop result.0 texts.entry.joined.now)
-        ≡ get_or (texts_in texts.entry.ends.now texts.entry.joined.now) i [] }
+        ≡ slice_index_or (texts_in texts.entry.ends.now texts.entry.joined.now) i [] }
     ensures ordered { result.0 ≤ result.1 }
     ensures within { result.1 ≤ length texts.entry.joined.now }
 {
@@ -52,7 +52,8 @@ fn place_of(texts: Texts<'_>, i: usize) -> (usize, usize)
 pub fn text_at<'a>(texts: Texts<'a>, i: usize) -> &'a [u8]
     requires within { i < length texts.ends.now }
     requires valid { are_texts texts.ends.now texts.joined.now ≡ true }
-    ensures { result.now ≡ get_or (texts_in texts.entry.ends.now texts.entry.joined.now) i [] }
+    ensures { result.now ≡ slice_index_or (texts_in texts.entry.ends.now texts.entry.joined.now) i
+        [] }
 {
     let (start, end) = place_of(texts, i);
     &texts.joined[start..end]

@@ -1,5 +1,5 @@
 //! A value of those that stand one by one.
-ghost use Rattle.std.specs.Prelude.{◌≡◌, ◌*◌, ◌<◌, ◌≤◌, [], ◌∷◌, true, length, get_or};
+ghost use Rattle.std.specs.Prelude.{◌≡◌, ◌*◌, ◌<◌, ◌≤◌, [], ◌∷◌, true, length, slice_index_or};
 ghost use Rattle.meaning.specs.Order.{value_in};
 ghost use Rattle.meaning.specs.declared.value.Value.TheVariants.{Null};
 ghost use Rattle.encodings.specs.Plain.{values_form, is_values_form, ends_of, joined_of};
@@ -13,7 +13,7 @@ use meaning::value::{ColType, ValueRef};
 fn start_at(count: usize, bytes: &[u8], i: usize) -> usize
     requires front { 4 * count ≤ length bytes.now }
     requires within { i < count }
-    ensures { result ≡ get_or (0 ∷ words count bytes.now) i 0 }
+    ensures { result ≡ slice_index_or (0 ∷ words count bytes.now) i 0 }
 {
     if i == 0 {
         return 0;
@@ -24,7 +24,8 @@ fn start_at(count: usize, bytes: &[u8], i: usize) -> usize
 fn text_at(count: usize, bytes: &[u8], i: usize) -> &[u8]
     requires form { is_values_form ColType.Text count bytes.now ≡ true }
     requires within { i < count }
-    ensures { result.now ≡ get_or (texts_from 0 (ends_of count bytes.now) (joined_of count bytes.now)) i [] }
+    ensures { result.now ≡ slice_index_or
+        (texts_from 0 (ends_of count bytes.now) (joined_of count bytes.now)) i [] }
 {
     let joined = &bytes[4 * count..];
     let start = start_at(count, bytes, i);
@@ -36,7 +37,7 @@ fn text_at(count: usize, bytes: &[u8], i: usize) -> &[u8]
 pub fn value_at(col_type: ColType, count: usize, bytes: &[u8], i: usize) -> ValueRef<'_>
     requires form { is_values_form col_type count bytes.now ≡ true }
     requires within { i < count }
-    ensures { value_in result ≡ get_or (values_form col_type count bytes.now) i Null }
+    ensures { value_in result ≡ slice_index_or (values_form col_type count bytes.now) i Null }
 {
     match col_type {
         ColType::Int => ValueRef::Int(integer_at(bytes, i)),

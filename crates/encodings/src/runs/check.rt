@@ -1,5 +1,6 @@
-//! Whether bytes are values with the lengths of their runs, and whether the blank stands in each run that has a NULL row.
-ghost use Rattle.std.specs.Prelude.{◌≡◌, ◌*◌, ◌/◌, ◌<◌, ◌≤◌, ◌==◌, ◌&&◌, true, length, nat_le, sum, ◌-◌, ◌||◌, not, get_or, map, zip};
+//! Whether bytes are values with the lengths of their runs, and whether the blank stands in each
+//! run that has a NULL row.
+ghost use Rattle.std.specs.Prelude.{◌≡◌, ◌*◌, ◌/◌, ◌<◌, ◌≤◌, ◌==◌, ◌&&◌, true, length, nat_le, sum, ◌-◌, ◌||◌, not, slice_index_or, map, zip};
 ghost use Rattle.std.specs.List.{list_all, range_with_len};
 ghost use Rattle.meaning.specs.Limits.{row_group_rows};
 ghost use Rattle.encodings.specs.Runs.{are_runs, run_cells};
@@ -20,7 +21,8 @@ use meaning::value::ColType;
 fn are_lengths(count: usize, bytes: &[u8], rows: usize) -> bool
     requires within { count ≤ length bytes.now / 2 }
     requires few { count ≤ row_group_rows }
-    ensures { result ≡ (list_all (λ n. nat_le 1 n) (shorts count bytes.now) && sum (shorts count bytes.now) == rows) }
+    ensures { result ≡ (list_all (λ n. nat_le 1 n) (shorts count bytes.now)
+        && sum (shorts count bytes.now) == rows) }
 {
     let mut total = 0;
     for i in 0..count {
@@ -61,7 +63,8 @@ fn is_run_blank_if_null(
 ) -> bool
     requires within { run < length runs.now.values }
     requires covered { end ≤ 8 * length mask.now }
-    ensures { result ≡ (is_blank (get_or runs.now.values run Null) || list_all (λ j. not (bit_at mask.now j)) (range_with_len start (end - start))) }
+    ensures { result ≡ (is_blank (slice_index_or runs.now.values run Null) || list_all
+        (λ j. not (bit_at mask.now j)) (range_with_len start (end - start))) }
 {
     if is_blank(runs.value(run)) {
         return true;
@@ -74,7 +77,8 @@ pub fn are_null_runs_blank(col_type: ColType, rows: usize, mask: &[u8], body: &[
     requires form { are_runs col_type rows body.now ≡ true }
     requires few { rows ≤ row_group_rows }
     requires covered { length mask.now ≡ bytes_of_bits rows }
-    ensures { result ≡ list_all (λ p. not p.0 || is_blank p.1) (zip (map (bit_at mask.now) (range_with_len 0 rows)) (run_cells col_type body.now)) }
+    ensures { result ≡ list_all (λ p. not p.0 || is_blank p.1)
+        (zip (map (bit_at mask.now) (range_with_len 0 rows)) (run_cells col_type body.now)) }
 {
     let runs = lend_runs(col_type, rows, body);
     let mut start = 0;

@@ -22,7 +22,8 @@ fn put_int_runs(out: &mut Vec<u8>, ints: &[i64], runs: &Runs) -> Result<(), Allo
     requires some { 1 ≤ length ints.now }
     requires few { length ints.now ≤ row_group_rows }
     requires runs { AreRuns (map Int ints.now) runs.now.starts.items runs.now.lengths.items }
-    ensures { OnOk result (PutsBody out.old.items out.new.items kind.Runs of_type.Int (map Int ints.now)) }
+    ensures { OnOk result (PutsBody out.old.items out.new.items kind.Runs of_type.Int
+        (map Int ints.now)) }
 {
     make_room(out, runs.starts.len().saturating_mul(10).saturating_add(4))?;
     put_word(out, runs.starts.len() as u32)?;
@@ -35,7 +36,8 @@ pub fn put_runs_of_ints(alloc: Global, out: &mut Vec<u8>, ints: &[i64]) -> Resul
     requires fit { list_all (is_of of_type.Int false) (map Int ints.now) ≡ true }
     requires some { 1 ≤ length ints.now }
     requires few { length ints.now ≤ row_group_rows }
-    ensures { OnOk result (PutsBody out.old.items out.new.items kind.Runs of_type.Int (map Int ints.now)) }
+    ensures { OnOk result (PutsBody out.old.items out.new.items kind.Runs of_type.Int
+        (map Int ints.now)) }
 {
     let runs = runs_of_ints(alloc, ints)?;
     let put = put_int_runs(out, ints, &runs);
@@ -50,12 +52,15 @@ fn put_text_runs(
     to: usize,
     runs: &Runs,
 ) -> Result<(), AllocError>
-    requires fit { list_all (is_of of_type.Text false) (map Text (take (to - from) (drop from texts.now))) ≡ true }
+    requires fit { list_all (is_of of_type.Text false)
+        (map Text (take (to - from) (drop from texts.now))) ≡ true }
     requires some { from < to }
     requires within { to ≤ length texts.now }
     requires few { to - from ≤ row_group_rows }
-    requires runs { AreRuns (map Text (take (to - from) (drop from texts.now))) runs.now.starts.items runs.now.lengths.items }
-    ensures { OnOk result (PutsBody out.old.items out.new.items kind.Runs of_type.Text (map Text (take (to - from) (drop from texts.now)))) }
+    requires runs { AreRuns (map Text (take (to - from) (drop from texts.now)))
+        runs.now.starts.items runs.now.lengths.items }
+    ensures { OnOk result (PutsBody out.old.items out.new.items kind.Runs of_type.Text
+        (map Text (take (to - from) (drop from texts.now)))) }
 {
     put_word(out, runs.starts.len() as u32)?;
     put_shorts(out, runs.lengths.as_slice())?;
@@ -70,11 +75,13 @@ pub fn put_runs_of_texts(
     from: usize,
     to: usize,
 ) -> Result<(), AllocError>
-    requires fit { list_all (is_of of_type.Text false) (map Text (take (to - from) (drop from texts.now))) ≡ true }
+    requires fit { list_all (is_of of_type.Text false)
+        (map Text (take (to - from) (drop from texts.now))) ≡ true }
     requires some { from < to }
     requires within { to ≤ length texts.now }
     requires few { to - from ≤ row_group_rows }
-    ensures { OnOk result (PutsBody out.old.items out.new.items kind.Runs of_type.Text (map Text (take (to - from) (drop from texts.now)))) }
+    ensures { OnOk result (PutsBody out.old.items out.new.items kind.Runs of_type.Text
+        (map Text (take (to - from) (drop from texts.now)))) }
 {
     let runs = runs_of_texts(alloc, texts, from, to)?;
     let put = put_text_runs(out, texts, from, to, &runs);

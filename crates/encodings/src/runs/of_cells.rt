@@ -1,5 +1,5 @@
 //! The longest runs of equal cells.
-ghost use Rattle.std.specs.Prelude.{◌≡◌, ◌≤◌, ◌<◌, ◌-◌, ◌++◌, ◌∷◌, [], length, map, take, drop, get_or, ◌+◌, IfOk, OnOk};
+ghost use Rattle.std.specs.Prelude.{◌≡◌, ◌≤◌, ◌<◌, ◌-◌, ◌++◌, ◌∷◌, [], length, map, take, drop, slice_index_or, ◌+◌, IfOk, OnOk};
 ghost use Rattle.meaning.specs.Limits.{row_group_rows};
 ghost use Rattle.meaning.specs.declared.value.Value.TheVariants.{Null, Int, Text};
 ghost use Rattle.meaning.specs.Order.{same_value};
@@ -20,7 +20,8 @@ impl Runs {
         requires ordered { start < end }
         requires few { end ≤ row_group_rows }
         ensures starts { OnOk result (self.new.starts.items ≡ self.old.starts.items ++ start ∷ []) }
-        ensures lengths { OnOk result (self.new.lengths.items ≡ self.old.lengths.items ++ (end - start) ∷ []) }
+        ensures lengths { OnOk result (self.new.lengths.items ≡ self.old.lengths.items
+            ++ (end - start) ∷ []) }
     {
         self.starts.push(start)?;
         self.lengths.push((end - start) as u16)?;
@@ -32,7 +33,8 @@ impl Runs {
 pub fn is_same_int(ints: &[i64], row: usize, other: usize) -> bool
     requires row { row < length ints.now }
     requires other { other < length ints.now }
-    ensures { result ≡ same_value (get_or (map Int ints.now) row Null) (get_or (map Int ints.now) other Null) }
+    ensures { result ≡ same_value (slice_index_or (map Int ints.now) row Null)
+        (slice_index_or (map Int ints.now) other Null) }
 {
     ints[row] == ints[other]
 }
@@ -41,7 +43,8 @@ pub fn is_same_int(ints: &[i64], row: usize, other: usize) -> bool
 pub fn is_same_text(texts: &TextList, row: usize, other: usize) -> bool
     requires row { row < length texts.now }
     requires other { other < length texts.now }
-    ensures { result ≡ same_value (Text (get_or texts.now row [])) (Text (get_or texts.now other [])) }
+    ensures { result ≡ same_value (Text (slice_index_or texts.now row []))
+        (Text (slice_index_or texts.now other [])) }
 {
     texts.get(row) == texts.get(other)
 }
@@ -75,7 +78,8 @@ pub fn runs_of_texts(
     requires some { from < to }
     requires within { to ≤ length texts.now }
     requires few { to - from ≤ row_group_rows }
-    ensures { IfOk result (λ r. AreRuns (map Text (take (to - from) (drop from texts.now))) r.starts.items r.lengths.items) }
+    ensures { IfOk result (λ r. AreRuns (map Text (take (to - from) (drop from texts.now)))
+        r.starts.items r.lengths.items) }
 {
     let mut runs = Runs {
         starts: Vec::new(alloc),

@@ -1,5 +1,5 @@
 //! In which run a row is.
-ghost use Rattle.std.specs.Prelude.{◌≡◌, ◌+◌, ◌≤◌, ◌<◌, length, take, sum, get_or};
+ghost use Rattle.std.specs.Prelude.{◌≡◌, ◌+◌, ◌≤◌, ◌<◌, length, take, sum, slice_index_or};
 ghost use Rattle.meaning.specs.Limits.{row_group_rows};
 ghost use Rattle.encodings.specs.Dictionary.{codes_in};
 
@@ -36,7 +36,8 @@ fn rows_of_few(lengths: &[[u8; 2]]) -> usize
     rows_of(lengths)
 }
 
-/// How many runs are passed over before row `from`, 32 at a time, and how many rows are left to pass over.
+/// How many runs are passed over before row `from`, 32 at a time, and how many rows are left to
+/// pass over.
 pub fn pass_over(lengths: &[[u8; 2]], from: usize) -> (usize, usize)
     ensures within { result.0 ≤ length lengths.now }
     ensures rows { result.1 + sum (take result.0 (codes_in lengths.now)) ≡ from }
@@ -56,7 +57,8 @@ pub fn pass_over(lengths: &[[u8; 2]], from: usize) -> (usize, usize)
 pub fn run_at(lengths: &[[u8; 2]], from: usize) -> (usize, usize)
     ensures within { result.0 ≤ length lengths.now }
     ensures rows { result.1 + sum (take result.0 (codes_in lengths.now)) ≡ from }
-    ensures inside { result.0 < length lengths.now → result.1 < get_or (codes_in lengths.now) result.0 0 }
+    ensures inside { result.0 < length lengths.now
+        → result.1 < slice_index_or (codes_in lengths.now) result.0 0 }
 {
     let (start, left) = pass_over(lengths, from);
     let mut skip = left;

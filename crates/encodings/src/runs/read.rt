@@ -17,14 +17,16 @@ use crate::runs::places::{pass_over, run_at};
 /// Puts a text into `n` cells from `at` on.
 fn put_texts<'a>(out: &mut [&'a [u8]], at: usize, n: usize, text: &'a [u8])
     requires { at + n ≤ length out.old }
-    ensures { take (at + n) (map (λ t. t.now) out.new) ≡ take at (map (λ t. t.now) out.old) ++ replicate n text.now }
+    ensures { take (at + n) (map (λ t. t.now) out.new) ≡ take at (map (λ t. t.now) out.old)
+        ++ replicate n text.now }
 {
     for i in at..at + n {
         out[i] = text;
     }
 }
 
-/// Puts an integer into `n` cells from `at` on. Apart from the loop over short runs, which then keeps to registers.
+/// Puts an integer into `n` cells from `at` on. Apart from the loop over short runs, which then
+/// keeps to registers.
 #[inline(never)]
 fn put_many(out: &mut [i64], at: usize, n: usize, value: i64)
     requires { at + n ≤ length out.old }
@@ -33,7 +35,8 @@ fn put_many(out: &mut [i64], at: usize, n: usize, value: i64)
     out[at..at + n].fill(value);
 }
 
-/// Puts an integer into `n` cells from `at` on, where there are eight. What lies behind them may change too.
+/// Puts an integer into `n` cells from `at` on, where there are eight. What lies behind them may
+/// change too.
 #[inline(always)]
 fn put_few(out: &mut [i64], at: usize, n: usize, value: i64)
     requires few { n ≤ 8 }
@@ -70,15 +73,16 @@ fn is_room(cells: usize, done: usize, rows: usize) -> bool
     done <= cells - 8 && rows <= cells - done
 }
 
-/// Whole runs from the first on, as long as there are cells for each, and for eight rows: how many runs, and how many
-/// cells.
+/// Whole runs from the first on, as long as there are cells for each, and for eight rows: how many
+/// runs, and how many cells.
 #[inline(always)]
 fn fill_front(lengths: &[[u8; 2]], values: &[[u8; 8]], out: &mut [i64]) -> (usize, usize)
     requires each { length lengths.now ≡ length values.now }
     ensures runs { result.0 ≤ length lengths.now }
     ensures cells { result.1 ≤ length out.old }
     ensures lined { take result.1 out.new
-        ++ repeats (drop result.0 (map integer_of values.now)) (drop result.0 (codes_in lengths.now))
+        ++ repeats (drop result.0 (map integer_of values.now))
+        (drop result.0 (codes_in lengths.now))
         ≡ repeats (map integer_of values.now) (codes_in lengths.now) }
 {
     if out.len() < 8 {
@@ -105,7 +109,8 @@ fn fill_rest(lengths: &[[u8; 2]], values: &[[u8; 8]], first: usize, filled: usiz
     requires lined { take filled out.old
         ++ repeats (drop first (map integer_of values.now)) (drop first (codes_in lengths.now))
         ≡ repeats (map integer_of values.now) (codes_in lengths.now) }
-    ensures { out.new ≡ take (length out.old) (repeats (map integer_of values.now) (codes_in lengths.now)) }
+    ensures { out.new ≡ take (length out.old)
+        (repeats (map integer_of values.now) (codes_in lengths.now)) }
 {
     let mut done = filled;
     for run in first..lengths.len() {
@@ -123,7 +128,8 @@ fn fill_rest(lengths: &[[u8; 2]], values: &[[u8; 8]], first: usize, filled: usiz
 fn fill_runs(lengths: &[[u8; 2]], values: &[[u8; 8]], out: &mut [i64])
     requires each { length lengths.now ≡ length values.now }
     requires within { length out.old ≤ sum (codes_in lengths.now) }
-    ensures { out.new ≡ take (length out.old) (repeats (map integer_of values.now) (codes_in lengths.now)) }
+    ensures { out.new ≡ take (length out.old)
+        (repeats (map integer_of values.now) (codes_in lengths.now)) }
 {
     let (runs, cells) = fill_front(lengths, values, out);
     fill_rest(lengths, values, runs, cells, out);
@@ -153,7 +159,8 @@ pub fn fill_text_runs<'a>(lengths: &[[u8; 2]], values: Texts<'a>, from: usize, o
     requires valid { are_texts values.ends.now values.joined.now ≡ true }
     requires within { from + length out.old ≤ sum (codes_in lengths.now) }
     ensures { map (λ t. t.now) out.new ≡ take (length out.old)
-        (drop from (repeats (texts_in values.entry.ends.now values.entry.joined.now) (codes_in lengths.now))) }
+        (drop from (repeats (texts_in values.entry.ends.now values.entry.joined.now)
+        (codes_in lengths.now))) }
 {
     let (start, left) = pass_over(lengths, from);
     let mut skip = left;

@@ -1,5 +1,5 @@
 //! How many bytes runs take.
-ghost use Rattle.std.specs.Prelude.{◌≡◌, ◌≤◌, ◌<◌, ◌+◌, ◌-◌, if◌then◌else◌, length, map, take, drop, get_or};
+ghost use Rattle.std.specs.Prelude.{◌≡◌, ◌≤◌, ◌<◌, ◌+◌, ◌-◌, if◌then◌else◌, length, map, take, drop, slice_index_or};
 ghost use Rattle.meaning.specs.Limits.{row_group_rows};
 ghost use Rattle.meaning.specs.declared.value.Value.TheVariants.{Null, Int, Text};
 ghost use Rattle.meaning.specs.Order.{same_value, bytes};
@@ -16,7 +16,8 @@ use columns::TextList;
 fn size_of_ended_int(ints: &[i64], row: usize) -> usize
     requires some { 0 < row }
     requires within { row < length ints.now }
-    ensures value { result ≡ (if same_value (get_or (map Int ints.now) (row - 1) Null) (get_or (map Int ints.now) row Null) then 0 else 10) }
+    ensures value { result ≡ (if same_value (slice_index_or (map Int ints.now) (row - 1) Null)
+        (slice_index_or (map Int ints.now) row Null) then 0 else 10) }
     ensures bound { result ≤ 10 }
 {
     if is_same_int(ints, row - 1, row) {
@@ -44,7 +45,9 @@ fn size_of_ended_text(texts: &TextList, from: usize, to: usize, row: usize) -> u
     requires within { to ≤ length texts.now }
     requires row { row < to - from }
     ensures value { let cells = map Text (take (to - from) (drop from texts.now)) in
-        result ≡ (if same_value (get_or cells (row - 1) Null) (get_or cells row Null) then 0 else 2 + (4 + length (bytes (get_or cells (row - 1) Null)))) }
+        result ≡ (if same_value (slice_index_or cells (row - 1) Null)
+        (slice_index_or cells row Null) then 0 else 2 +
+        (4 + length (bytes (slice_index_or cells (row - 1) Null)))) }
     ensures bound { result ≤ 65541 }
 {
     if is_same_text(texts, from + row - 1, from + row) {
@@ -57,7 +60,8 @@ pub fn runs_size_of_texts(texts: &TextList, from: usize, to: usize) -> usize
     requires some { from < to }
     requires within { to ≤ length texts.now }
     requires few { to - from ≤ row_group_rows }
-    ensures { result ≡ body_size kind.Runs of_type.Text (map Text (take (to - from) (drop from texts.now))) }
+    ensures { result ≡ body_size kind.Runs of_type.Text
+        (map Text (take (to - from) (drop from texts.now))) }
 {
     let mut size = 0;
     for row in 1..to - from {

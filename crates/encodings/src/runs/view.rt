@@ -1,5 +1,5 @@
 //! The runs that a block lends.
-ghost use Rattle.std.specs.Prelude.{◌≡◌, ◌+◌, ◌*◌, ◌/◌, ◌<◌, ◌≤◌, List, true, length, drop, get_or, zip, sum};
+ghost use Rattle.std.specs.Prelude.{◌≡◌, ◌+◌, ◌*◌, ◌/◌, ◌<◌, ◌≤◌, List, true, length, drop, slice_index_or, slice_index, zip, sum};
 ghost use Rattle.meaning.specs.Order.{value_in};
 ghost use Rattle.meaning.specs.declared.value.Value.{Value};
 ghost use Rattle.meaning.specs.declared.value.Value.TheVariants.{Null};
@@ -30,7 +30,10 @@ impl<'a> Model for RunsView<'a> {
 
     ghost Value = { RunsSpec };
 
-    ghost view = { λ r. record { values = values_form r.col_type r.count r.values.now; lengths = shorts r.count r.lengths.now } };
+    ghost view = { λ r. record {
+      values = values_form r.col_type r.count r.values.now;
+      lengths = shorts r.count r.lengths.now;
+    } };
 
     ghost invariant = { λ r. IsRunsOf r.col_type r.count r.values.now r.lengths.now };
 }
@@ -57,7 +60,9 @@ fn run_of(count: usize, lengths: &[u8], row: usize) -> usize
     requires room { count ≤ length lengths.now / 2 }
     requires within { row < sum (shorts count lengths.now) }
     ensures below { result < count }
-    ensures place { (values : List Value) → length values ≡ count → get_or (repeated (zip values (shorts count lengths.now))) row Null ≡ get_or values result Null }
+    ensures place { (values : List Value) → length values ≡ count
+        → slice_index_or (repeated (zip values (shorts count lengths.now))) row Null
+        ≡ slice_index_or values result Null }
 {
     let mut rest = row;
     for i in 0..count {
@@ -74,7 +79,7 @@ fn run_of(count: usize, lengths: &[u8], row: usize) -> usize
 pub fn run_cell(col_type: ColType, rows: usize, body: &[u8], row: usize) -> ValueRef<'_>
     requires form { are_runs col_type rows body.now ≡ true }
     requires within { row < rows }
-    ensures { value_in result ≡ get_or (run_cells col_type body.now) row Null }
+    ensures { value_in result ≡ slice_index_or (run_cells col_type body.now) row Null }
 {
     let count = leading_count(body);
     let run = run_of(count, length_bytes(body), row);
@@ -107,7 +112,7 @@ impl<'a> RunsView<'a> {
     /// The value of a run.
     pub fn value(&self, run: usize) -> ValueRef<'a>
         requires { run < length self.now.values }
-        ensures { value_in result ≡ get_or self.now.values run Null }
+        ensures { value_in result ≡ slice_index_or self.now.values run Null }
     {
         value_at(self.col_type, self.count, self.values, run)
     }
@@ -115,7 +120,7 @@ impl<'a> RunsView<'a> {
     /// The number of rows of a run.
     pub fn length(&self, run: usize) -> u16
         requires { run < length self.now.lengths }
-        ensures { result ≡ get_or self.now.lengths run 0 }
+        ensures { result ≡ slice_index self.now.lengths run }
     {
         short_at(self.lengths, run)
     }

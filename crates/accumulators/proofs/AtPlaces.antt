@@ -12,20 +12,20 @@ use Rattle.accumulators.specs.Entries.{at_place}
 use Rattle.accumulators.specs.State.{most_entries}
 use Rattle.accumulators.proofs.Growing.{first_left}
 
-same : (p n : ℕ) → p ≡ n → (p == n) ≡ true
+pub same : (p n : ℕ) → p ≡ n → (p == n) ≡ true
 same p n e = grind (arith, nat_tests)
 
-other : (p n : ℕ) → p < n → (p == n) ≡ false
+pub other : (p n : ℕ) → p < n → (p == n) ≡ false
 other p n l = grind (arith, nat_tests)
 
-other_above : (p n : ℕ) → n < p → (p == n) ≡ false
+pub other_above : (p n : ℕ) → n < p → (p == n) ≡ false
 other_above p n l = grind (arith, nat_tests)
 
 module _ {X : Type 0} where
-  at_place-here : (p n : ℕ) (x : X) (xs : List (ℕ × X)) → p ≡ n → at_place n ((p, x) ∷ xs) ≡ x ∷ at_place n xs
+  pub at_place-here : (p n : ℕ) (x : X) (xs : List (ℕ × X)) → p ≡ n → at_place n ((p, x) ∷ xs) ≡ x ∷ at_place n xs
   at_place-here p n x xs e = rw (same p n e) refl
 
-  at_place-other : (p n : ℕ) (x : X) (xs : List (ℕ × X)) → (p == n) ≡ false → at_place n ((p, x) ∷ xs) ≡ at_place n xs
+  pub at_place-other : (p n : ℕ) (x : X) (xs : List (ℕ × X)) → (p == n) ≡ false → at_place n ((p, x) ∷ xs) ≡ at_place n xs
   at_place-other p n x xs e = rw e refl
 
 -- what is known of some things, and of one

@@ -1,26 +1,13 @@
--- Lanes without NULL.
-use Rattle.std.specs.Prelude.{◌≡◌, ℕ, ℤ, suc, ◌<◌, false, List, [], ◌∷◌, length, map, replicate, get_or, None}
+-- What is selected where all lanes are.
+use Rattle.std.specs.Prelude.{◌≡◌, ℕ, suc, ◌<◌, List, [], ◌∷◌, length, map, get_or}
 use Rattle.std.specs.List.{range_with_len}
-use Rattle.std.proofs.Common.{rules, refl, sym, ap, arith, subst, ◌∙◌}
+use Rattle.std.proofs.Common.{refl, sym, ap, arith, subst, ◌∙◌}
 use Rattle.std.proofs.lemmas.List.{length-map}
 use Rattle.std.proofs.lemmas.List.FromFn.{length-range_with_len, length-map-range_with_len, get_or-map-range_with_len}
 use Rattle.meaning.specs.declared.value.Value.{Value}
-use Rattle.meaning.specs.declared.value.Value.TheVariants.{Null, Int}
-use Rattle.vectors.specs.declared.nulls.Nulls.{Nulls}
-use Rattle.vectors.specs.declared.nulls.Nulls.TheVariants as null
-use Rattle.vectors.specs.Lanes.{int_lanes, ints_of, lane_values, mask_of, nulls_of}
-use Rattle.vectors.specs.declared.ints.IntCells.{IntCells}
+use Rattle.meaning.specs.declared.value.Value.TheVariants.{Null}
 use Rattle.vectors.specs.Selection.{Positions, all_below}
 use Rattle.accumulators.specs.Values.{selected}
-
-none_null : {X : Type 0} (value : X → Value) (cells : List X) → map value cells ≡ lane_values value (replicate (length cells) false) cells
-none_null value [] = refl
-none_null value (x ∷ cells) = λ i. value x ∷ none_null value cells i
-
-pub without_mask : {X : Type 0} (value : X → Value) (cells : List X) (nulls : Nulls) → mask_of nulls ≡ None → map value cells ≡ lane_values value (nulls_of (length cells) nulls) cells
-without_mask value cells null.None e = none_null value cells
-without_mask value cells (null.Lent mask) e = absurd (search rules)
-without_mask value cells (null.Owned mask) e = absurd (search rules)
 
 same_each : (d : Value) (xs ys : List Value) → length xs ≡ length ys → ((i : ℕ) → i < length xs → get_or xs i d ≡ get_or ys i d) → xs ≡ ys
 same_each d [] [] long same = refl
@@ -45,7 +32,3 @@ plain_selected value cells values s is all long = is ∙ sym (all_selected value
 
 pub plain_long : {X : Type 0} (value : X → Value) (cells : List X) (values : List Value) (s : Positions) → map value cells ≡ values → s ≡ all_below s.below → length values ≡ s.below → length cells ≡ length s.list
 plain_long value cells values s is all long = sym (length-map cells value) ∙ ap (λ (vs : List Value). length vs) is ∙ all_long values s all long
-
--- what a vector of integers is made of, where no lane is NULL
-pub plain_is : (cells : IntCells) (nulls : Nulls) (ints : List ℤ) (lanes : List Value) → lanes ≡ int_lanes cells nulls → ints_of cells ≡ ints → None ≡ mask_of nulls → map Int ints ≡ lanes
-plain_is cells nulls ints lanes is same none = ap (map Int) (sym same) ∙ without_mask Int (ints_of cells) nulls (sym none) ∙ sym is

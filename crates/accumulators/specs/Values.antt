@@ -3,8 +3,6 @@ use Rattle.std.specs.Prelude.{ℕ, Bool, true, List, [], map, get_or, Option, So
 use Rattle.std.specs.Str.{is_utf8}
 use Rattle.meaning.specs.declared.value.Value.{Value}
 use Rattle.meaning.specs.declared.value.Value.TheVariants.{Null, Int, Text}
-use Rattle.vectors.specs.declared.vector.Vector.{Vector}
-use Rattle.vectors.specs.declared.vector.Vector.TheVariants as vector
 
 -- a text is UTF-8
 abbrev pub is_spelled : Value → Bool
@@ -22,12 +20,6 @@ entry (Text t) = Some (Text t)
 abbrev pub or_null : Option Value → Value
 or_null None = Null
 or_null (Some v) = v
-
--- the values of a vector's lanes; truths are none
-abbrev pub values_of : Vector → List Value
-values_of (vector.Ints lanes) = lanes
-values_of (vector.Texts lanes) = lanes
-values_of (vector.Truths lanes) = []
 
 -- the values at some positions
 abbrev pub selected : List Value → List ℕ → List Value

@@ -9,7 +9,8 @@ ghost use Rattle.accumulators.specs.Entries.{state_of, together};
 ghost use Rattle.accumulators.specs.Kinds.{has_one_size};
 ghost use Rattle.accumulators.specs.Laws.{StatesMerge};
 ghost use Rattle.accumulators.specs.State.{most_entries};
-ghost use Rattle.accumulators.specs.Values.{is_spelled, selected, values_of};
+ghost use Rattle.accumulators.specs.Values.{is_spelled, selected};
+ghost use Rattle.vectors.specs.Vector.{values_of};
 
 use crate::fault::AggFault;
 use crate::state::State;

@@ -8,7 +8,8 @@ ghost use Rattle.meaning.specs.declared.value.Value.TheVariants as of_value;
 ghost use Rattle.accumulators.specs.Entries.{state_of, with_entries};
 ghost use Rattle.accumulators.specs.Kinds.{has_one_size, keeps_sums};
 ghost use Rattle.accumulators.specs.State.{most_entries};
-ghost use Rattle.accumulators.specs.Values.{is_spelled, selected, values_of};
+ghost use Rattle.accumulators.specs.Values.{is_spelled, selected};
+ghost use Rattle.vectors.specs.Vector.{values_of};
 
 use crate::accumulator::Accumulator;
 use crate::count_acc::CountAcc;
@@ -58,7 +59,8 @@ fn add_state_to_count(cells: &mut [CountAcc], place: usize, state: &State)
 fn add_to_sum(cells: &mut [SumAcc], place: usize, value: ValueRef<'_>)
     requires place { place < length cells.old }
     requires few { (slice_index_or cells.old place no_statistics).count < most_entries }
-    ensures { cells.new ≡ merged_at cells.old place (state_of kind.Sum (value_in value.entry ∷ [])) }
+    ensures { cells.new ≡ merged_at cells.old place (state_of kind.Sum
+        (value_in value.entry ∷ [])) }
 {
     let cell = &mut cells[place];
     cell.add(value);
@@ -248,35 +250,11 @@ fn update_max(
     cell.update_batch(alloc, lanes, selection)
 }
 
-fn push_count(cells: &mut Vec<CountAcc>) -> Result<(), AllocError>
-    ensures ok { OnOk result (cells.new.items ≡ cells.old.items ++ no_statistics ∷ []) }
+fn push_cell<A: Drop>(cells: &mut Vec<A>, cell: A) -> Result<(), AllocError>
+    ensures ok { OnOk result (cells.new.items ≡ cells.old.items ++ cell ∷ []) }
     ensures err { OnErr result (cells.new.items ≡ cells.old.items) }
 {
-    cells.push(CountAcc::new())?;
-    Ok(())
-}
-
-fn push_sum(cells: &mut Vec<SumAcc>) -> Result<(), AllocError>
-    ensures ok { OnOk result (cells.new.items ≡ cells.old.items ++ no_statistics ∷ []) }
-    ensures err { OnErr result (cells.new.items ≡ cells.old.items) }
-{
-    cells.push(SumAcc::new())?;
-    Ok(())
-}
-
-fn push_min(cells: &mut Vec<MinAcc>) -> Result<(), AllocError>
-    ensures ok { OnOk result (cells.new.items ≡ cells.old.items ++ no_statistics ∷ []) }
-    ensures err { OnErr result (cells.new.items ≡ cells.old.items) }
-{
-    cells.push(MinAcc::new())?;
-    Ok(())
-}
-
-fn push_max(cells: &mut Vec<MaxAcc>) -> Result<(), AllocError>
-    ensures ok { OnOk result (cells.new.items ≡ cells.old.items ++ no_statistics ∷ []) }
-    ensures err { OnErr result (cells.new.items ≡ cells.old.items) }
-{
-    cells.push(MaxAcc::new())?;
+    cells.push(cell)?;
     Ok(())
 }
 
@@ -332,12 +310,12 @@ impl Cells {
         ensures err { OnErr result (states_in self.new ≡ states_in self.old) }
     {
         match self {
-            Cells::CountRows(cells) => push_count(cells),
-            Cells::Count(cells) => push_count(cells),
-            Cells::Sum(cells) => push_sum(cells),
-            Cells::Min(cells) => push_min(cells),
-            Cells::Max(cells) => push_max(cells),
-            Cells::Avg(cells) => push_sum(cells),
+            Cells::CountRows(cells) => push_cell(cells, CountAcc::new()),
+            Cells::Count(cells) => push_cell(cells, CountAcc::new()),
+            Cells::Sum(cells) => push_cell(cells, SumAcc::new()),
+            Cells::Min(cells) => push_cell(cells, MinAcc::new()),
+            Cells::Max(cells) => push_cell(cells, MaxAcc::new()),
+            Cells::Avg(cells) => push_cell(cells, SumAcc::new()),
         }
     }
 
@@ -399,7 +377,8 @@ impl Cells {
         ensures height { length (states_in self.new) ≡ length (states_in self.old) }
         ensures ok { OnOk result
             (states_in self.new ≡ merged_at (states_in self.old) place
-            (state_of (kind_of_cells self.old) (selected (values_of lanes.now) selection.now.list))) }
+            (state_of (kind_of_cells self.old) (selected (values_of lanes.now)
+            selection.now.list))) }
         ensures roomy { has_one_size (kind_of_cells self.old) ≡ true → IsOk result }
     {
         match self {

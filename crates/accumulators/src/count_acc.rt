@@ -7,7 +7,8 @@ ghost use Rattle.meaning.specs.Order.{value_in};
 ghost use Rattle.accumulators.specs.Entries.{state_of};
 ghost use Rattle.accumulators.specs.Kinds.{count_state};
 ghost use Rattle.accumulators.specs.State.{most_entries};
-ghost use Rattle.accumulators.specs.Values.{is_spelled, selected, values_of};
+ghost use Rattle.accumulators.specs.Values.{is_spelled, selected};
+ghost use Rattle.vectors.specs.Vector.{values_of};
 
 use crate::accumulator::Accumulator;
 use crate::end::is_null;

@@ -8,7 +8,8 @@ ghost use Rattle.meaning.specs.Order.{least, value_cmp, value_in};
 ghost use Rattle.accumulators.specs.Entries.{state_of, together};
 ghost use Rattle.accumulators.specs.Kinds.{cmp_from, end_state, kind_from, IsExtreme};
 ghost use Rattle.accumulators.specs.State.{most_entries};
-ghost use Rattle.accumulators.specs.Values.{is_spelled, selected, values_of};
+ghost use Rattle.accumulators.specs.Values.{is_spelled, selected};
+ghost use Rattle.vectors.specs.Vector.{values_of};
 
 use crate::end::{End, beats, is_null};
 use crate::lanes::{owned, plain_ints, selected_value};

@@ -5,7 +5,8 @@ ghost use Rattle.accumulators.specs.Columns.{kind_of_cells, merged_at, of_states
 ghost use Rattle.accumulators.specs.Entries.{state_of, with_entries, with_states};
 ghost use Rattle.accumulators.specs.Kinds.{has_one_size, keeps_sums};
 ghost use Rattle.accumulators.specs.State.{most_entries};
-ghost use Rattle.accumulators.specs.Values.{is_spelled, selected, values_of};
+ghost use Rattle.accumulators.specs.Values.{is_spelled, selected};
+ghost use Rattle.vectors.specs.Vector.{values_of};
 
 use crate::cells::Cells;
 use crate::lanes::{plain_ints, selected_value};
@@ -179,7 +180,8 @@ impl StateColumn {
         requires within { All (λ place. place < length self.old.states) places.now }
         requires lanes { length (values_of lanes.now) ≡ selection.now.below }
         requires spelled { All (λ v. is_spelled v ≡ true) (values_of lanes.now) }
-        requires few { All (λ s. s.count + length selection.now.list ≤ most_entries) self.old.states }
+        requires few { All (λ s. s.count + length selection.now.list ≤ most_entries)
+            self.old.states }
         ensures kind { self.new.kind ≡ self.old.kind }
         ensures height { length self.new.states ≡ length self.old.states }
         ensures ok { OnOk result

@@ -1,7 +1,8 @@
 //! Each kind over two lists, one merged into the other.
 ghost use Rattle.std.specs.Prelude.{◌≡◌, ◌≤◌, length, true, All, IfOk};
 ghost use Rattle.accumulators.specs.AnyAcc.{held_by};
-ghost use Rattle.accumulators.specs.Values.{is_spelled, values_of};
+ghost use Rattle.accumulators.specs.Values.{is_spelled};
+ghost use Rattle.vectors.specs.Vector.{values_of};
 
 use accumulators::{Accumulator, AggFault, AnyAcc, State};
 use meaning::plan::AggregateKind;

@@ -10,7 +10,11 @@ use std::process::Abort;
 use vectors::selection::Selection;
 
 fn two_groups(alloc: Global, kind: AggregateKind) -> Result<StateColumn, AllocError>
-    ensures { IfOk result (λ c. c ≡ record { kind = kind; states = no_statistics ∷ no_statistics ∷ [] }) }
+    ensures { IfOk result (λ c. c ≡ record {
+      kind = kind;
+      states = no_statistics ∷ no_statistics ∷
+          [];
+    }) }
 {
     let mut column = StateColumn::new(alloc, kind);
     column.push()?;

@@ -1,6 +1,7 @@
 //! The least and the greatest of texts, which are copied.
 ghost use Rattle.std.specs.Prelude.{◌≡◌, length, true, All};
-ghost use Rattle.accumulators.specs.Values.{is_spelled, values_of};
+ghost use Rattle.accumulators.specs.Values.{is_spelled};
+ghost use Rattle.vectors.specs.Vector.{values_of};
 
 use accumulators::{Accumulator, AggFault, MaxAcc, MinAcc};
 use meaning::value::Value;

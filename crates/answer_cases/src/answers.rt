@@ -137,8 +137,8 @@ fn tell_state(alloc: Global, job: &Job, bytes: &[u8]) -> Result<String, AllocErr
     }
 }
 
-/// What the bytes of the lines say as an answer for the job that the words tell, or as a state of a coordinator, and
-/// how many bytes they are; or the number of the refusal.
+/// What the bytes of the lines say as an answer for the job that the words tell, or as a state of a
+/// coordinator, and how many bytes they are; or the number of the refusal.
 pub fn tell(
     alloc: Global,
     is_state: bool,

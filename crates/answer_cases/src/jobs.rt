@@ -1,5 +1,6 @@
 //! The job that the words of a case name.
-// Jobs that words tell: the number of a load, a cut, what is asked of each fragment, and the text of the query.
+// Jobs that words tell: the number of a load, a cut, what is asked of each fragment, and the text
+// of the query.
 ghost use Rattle.std.specs.Prelude.{◌≡◌, ◌≢◌, ◌≤◌, [], ◌∷◌, None, false, length, map, IfOk, IfSome};
 ghost use Rattle.meaning.specs.declared.expr.Expr.TheVariants as the_expr;
 ghost use Rattle.meaning.specs.declared.plan.Aggregate.{Aggregate as AnAggregate};
@@ -63,7 +64,8 @@ fn only_parts(
 ) -> Result<(Sequence<Aggregate>, Sequence<Item>), AllocError>
     ensures aggregate { IfOk result (λ parts. length parts.0 ≡ 1) }
     ensures item { IfOk result (λ parts. parts.1 ≢ []) }
-    ensures integer { IfOk result (λ parts. (a : AnAggregate) × (parts.0 ≡ a ∷ []) × (result_type a.kind a.col_type ≡ of_type.Int)) }
+    ensures integer { IfOk result (λ parts. (a : AnAggregate) × (parts.0 ≡ a ∷ [])
+        × (result_type a.kind a.col_type ≡ of_type.Int)) }
     ensures shown { IfOk result (λ parts. map (λ i. i.expr) parts.1 ≡ the_expr.Aggregate 0 ∷ []) }
 {
     let header = Text::new(alloc, "c1")?;
@@ -150,7 +152,8 @@ fn summed_by(word: &str) -> Option<Option<usize>> {
     }
 }
 
-/// The job that the words tell, where the third may be a shape, as in `7 2,3 int/rows,min:text "SELECT ..."`.
+/// The job that the words tell, where the third may be a shape, as in `7 2,3 int/rows,min:text
+/// "SELECT ..."`.
 pub fn shaped_job_of(alloc: Global, words: &[&str]) -> Result<Option<Job>, AllocError> {
     let [load, cut, shape, text] = words else {
         return Ok(None);

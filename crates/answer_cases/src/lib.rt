@@ -1,4 +1,5 @@
-//! Kinds of cases: answers and states as bytes, coordinators that take them, and queries over any cut.
+//! Kinds of cases: answers and states as bytes, coordinators that take them, and queries over any
+//! cut.
 #![tactic(auto)]
 
 pub mod answers;

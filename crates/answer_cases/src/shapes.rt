@@ -1,5 +1,6 @@
-//! Plans of the shape that a word tells, as in `int,text/rows,min:text`: keys, and behind a stroke aggregates, of which
-//! COUNT(*) is `rows`. `-` stands for none, and a word with `plain:` before it is of a query without groups.
+//! Plans of the shape that a word tells, as in `int,text/rows,min:text`: keys, and behind a stroke
+//! aggregates, of which COUNT(*) is `rows`. `-` stands for none, and a word with `plain:` before it
+//! is of a query without groups.
 ghost use Rattle.std.specs.Prelude.{◌≡◌, IfOk, IfSome};
 ghost use Rattle.partial_codec.specs.Job.{IsPlanOfJob};
 

@@ -4,7 +4,9 @@ pub mod Digits
 pub mod Fits
 pub mod LaneGroups
 pub mod LeastWidths
+pub mod MarkedRows
 pub mod MaskBytes
+pub mod MaskWindows
 pub mod OffsetPieces
 pub mod PackedBits
 pub mod Ranges

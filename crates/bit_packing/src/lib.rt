@@ -3,6 +3,7 @@
 #![tactic(auto)]
 
 mod groups;
+pub mod marked;
 pub mod masks;
 pub mod numbers;
 pub mod offsets;

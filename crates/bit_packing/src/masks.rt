@@ -9,7 +9,8 @@ use crate::numbers::has_bit;
 /// Whether no bit from one place on and up to another is set.
 pub fn are_bits_clear(mask: &[u8], start: usize, end: usize) -> bool
     requires { end ≤ 8 * length mask.now }
-    ensures { result ≡ list_all (λ j. not (bit_at mask.now j)) (range_with_len start (end - start)) }
+    ensures { result ≡ list_all (λ j. not (bit_at mask.now j)) (range_with_len start
+        (end - start)) }
 {
     for i in start..end {
         if has_bit(mask, i) {

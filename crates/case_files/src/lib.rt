@@ -4,6 +4,7 @@
 pub mod byte_lines;
 pub mod case_file;
 pub mod escapes;
+pub mod lanes;
 pub mod lines;
 pub mod stored;
 pub mod words;

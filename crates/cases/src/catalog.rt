@@ -1,9 +1,9 @@
 //! Cases about catalogues.
 use crate::refusals::refusal_line;
 use case_files::escapes::escaped_bytes;
+use catalog_reader::read_catalog::read_catalog;
 use folders::Refusal;
 use meaning::catalog::{Catalog, Column, Dimension, Table};
-use meaning::read_catalog::read_catalog;
 use meaning::value::ColType;
 use std::alloc::{AllocError, Global};
 use std::fmt::Write;
@@ -61,7 +61,8 @@ fn tell_bytes(alloc: Global, text: &[u8]) -> Result<String, AllocError> {
     }
 }
 
-/// The same of a record: its lines are the catalogue's, or escaped bytes where the word behind the kind says so.
+/// The same of a record: its lines are the catalogue's, or escaped bytes where the word behind the
+/// kind says so.
 pub fn tell(alloc: Global, words: &[&str], body: &str) -> Result<String, AllocError> {
     if words.first() == Some(&"escaped") {
         let text = escaped_bytes(alloc, body)?;

@@ -73,8 +73,9 @@ fn tell_given(alloc: Global, lines: &str) -> Result<String, AllocError> {
     }
 }
 
-/// The cut into fragments of the numbers of rows that the lines say, or the even cut by the two numbers behind `even`:
-/// its numbers of rows, or the line of its refusal. A line `*3 5` is the number 5 three times.
+/// The cut into fragments of the numbers of rows that the lines say, or the even cut by the two
+/// numbers behind `even`: its numbers of rows, or the line of its refusal. A line `*3 5` is the
+/// number 5 three times.
 pub fn tell(alloc: Global, words: &[&str], body: &str) -> Result<String, AllocError> {
     match words {
         ["even", rows, length] => tell_even(alloc, rows, length),

@@ -130,7 +130,8 @@ fn count_cases(
     Ok(tally)
 }
 
-/// Runs the cases of the file of this name and text, prints each that did not pass, and how many did.
+/// Runs the cases of the file of this name and text, prints each that did not pass, and how many
+/// did.
 pub fn run_cases(rt: &impl Print, alloc: Global, name: &str, text: &str) -> io::Result<Tally> {
     let records = records(alloc, text)?;
     let mut files = Vec::new(alloc);

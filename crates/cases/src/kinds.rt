@@ -60,8 +60,8 @@ fn tell_kind(
     }
 }
 
-/// What a record's input tells, as lines. Where the words behind the kind begin with `of PATH`, the bytes of that file
-/// are its body, in hexadecimal digits.
+/// What a record's input tells, as lines. Where the words behind the kind begin with `of PATH`, the
+/// bytes of that file are its body, in hexadecimal digits.
 pub fn tell(
     alloc: Global,
     head: &[&str],

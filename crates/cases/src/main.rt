@@ -1,5 +1,5 @@
-//! Runs the case files that its words name: each case's input goes through public calls, and what they tell is held
-//! against what the case wants. `docs/TESTING.md` has the format.
+//! Runs the case files that its words name: each case's input goes through public calls, and what
+//! they tell is held against what the case wants. `docs/TESTING.md` has the format.
 #![tactic(auto)]
 
 mod catalog;

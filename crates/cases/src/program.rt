@@ -120,8 +120,8 @@ fn tell_command(
     }
 }
 
-/// What the program prints and writes where it is asked by these words, over the files so far. What it writes stands
-/// among them afterwards.
+/// What the program prints and writes where it is asked by these words, over the files so far. What
+/// it writes stands among them afterwards.
 pub fn tell(
     alloc: Global,
     words: &[&str],

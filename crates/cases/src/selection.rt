@@ -76,7 +76,8 @@ fn tell_steps(alloc: Global, told: &mut String, length: u32, body: &str) -> Resu
     Ok(())
 }
 
-/// What a selection of so many positions is behind each line: `keep` and `minus` with places, and `reset`.
+/// What a selection of so many positions is behind each line: `keep` and `minus` with places, and
+/// `reset`.
 pub fn tell(alloc: Global, words: &[&str], body: &str) -> Result<String, AllocError> {
     let length = match words {
         [length] => length.parse::<u32>().unwrap_or(0),

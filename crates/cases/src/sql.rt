@@ -27,7 +27,8 @@ fn query_line(alloc: Global, words: &[&str], query: &Query) -> Result<String, Al
     }
 }
 
-/// The canonical text of the query that the escaped lines spell, or its length, or the line of its refusal.
+/// The canonical text of the query that the escaped lines spell, or its length, or the line of its
+/// refusal.
 pub fn tell(alloc: Global, words: &[&str], body: &str) -> Result<String, AllocError> {
     let text = escaped_bytes(alloc, body)?;
     match read(alloc, text.as_slice()) {

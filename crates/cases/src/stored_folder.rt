@@ -4,7 +4,8 @@ use cli::Folder;
 use std::alloc::Global;
 use std::io;
 
-/// The files of a case file as a command finds them, those that it writes, and those that it takes away.
+/// The files of a case file as a command finds them, those that it writes, and those that it takes
+/// away.
 #[derive(Drop)]
 pub struct StoredFolder<'a> {
     alloc: Global,

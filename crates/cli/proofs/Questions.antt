@@ -3,7 +3,7 @@ use Rattle.std.proofs.Common.{◌≡◌, List, ℕ, Option, Result, Ok, Err, inr
 use Rattle.std.specs.Prelude.{IfErr, IfOk}
 use Rattle.meaning.specs.declared.catalog.Catalog.{Catalog}
 use Rattle.meaning.specs.declared.plan.Plan.{Plan}
-use Rattle.meaning.specs.CatalogText.{catalog_of}
+use Rattle.catalog_reader.specs.CatalogText.{catalog_of}
 use Rattle.coordinator.specs.Gathering.{GatherSpec}
 use Rattle.coordinator.specs.declared.reporting.Ended.{Ended}
 use Rattle.whole_query.specs.Whole.{IsAnswered, IsPlanned}

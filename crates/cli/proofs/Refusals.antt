@@ -11,7 +11,7 @@ use Rattle.loader.specs.Source.{csv_records}
 use Rattle.loader.specs.declared.fault.LoadFault.{LoadFault}
 use Rattle.loader.specs.declared.fault.LoadFault.TheVariants as load_fault
 use Rattle.meaning.specs.declared.catalog.Catalog.{Catalog}
-use Rattle.meaning.specs.CatalogText.{catalog_of}
+use Rattle.catalog_reader.specs.CatalogText.{catalog_of}
 use Rattle.whole_query.specs.Whole.{Files, Input, IsRefused, files_in}
 use Rattle.whole_query.specs.declared.fault.WholeFault.{WholeFault}
 use Rattle.whole_query.specs.declared.fault.WholeFault.TheVariants as whole_fault

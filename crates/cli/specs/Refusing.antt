@@ -5,7 +5,7 @@ use Rattle.meaning.specs.declared.catalog.Dimension.{Dimension}
 use Rattle.meaning.specs.declared.cut.CutFault.{CutFault}
 use Rattle.meaning.specs.declared.table.TableFault.{TableFault}
 use Rattle.meaning.specs.declared.table.TableFault.TheVariants as table_fault
-use Rattle.meaning.specs.CatalogText.{catalog_of}
+use Rattle.catalog_reader.specs.CatalogText.{catalog_of}
 use Rattle.meaning.specs.Limits.{max_fragments}
 use Rattle.meaning.specs.Cut.{Cut, cut_of, even_lengths}
 use Rattle.columns.specs.Column.{ColumnSpec}

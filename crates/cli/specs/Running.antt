@@ -1,7 +1,7 @@
 -- What a command does.
 use Rattle.std.specs.Prelude.{◌≡◌, ℕ, List, ◌∷◌, map, drop, length, Option, None, Some, IfSome, Ok, All}
 use Rattle.meaning.specs.declared.catalog.Catalog.{Catalog}
-use Rattle.meaning.specs.CatalogText.{catalog_of}
+use Rattle.catalog_reader.specs.CatalogText.{catalog_of}
 use Rattle.meaning.specs.Cut.{cut_of, even_lengths}
 use Rattle.loader.specs.Source.{csv_records}
 use Rattle.coordinator.specs.Gathering.{GatherSpec}

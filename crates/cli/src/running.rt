@@ -2,7 +2,7 @@
 ghost use Rattle.std.specs.Prelude.{◌≡◌, ◌≢◌, ◌≤◌, ℕ, List, IfErr, IfOk, OnErr, OnOk, Ok, length, sum};
 ghost use Rattle.std.specs.Io.KnownBytes.{Appends};
 ghost use Rattle.meaning.specs.Catalog.{IsWellFormed};
-ghost use Rattle.meaning.specs.CatalogText.{catalog_of};
+ghost use Rattle.catalog_reader.specs.CatalogText.{catalog_of};
 ghost use Rattle.meaning.specs.WellFormedPlan.{IsWellFormedPlan};
 ghost use Rattle.last_step.specs.Fitting.{IsTypedOverGroups};
 ghost use Rattle.partial_codec.specs.Job.{IsPlanOfJob};
@@ -22,17 +22,17 @@ ghost use Rattle.jobs.specs.Working.{IsWorked, IsWorkRefused};
 
 use crate::fragments::{Fact, load_fact};
 use crate::loading::load_dimensions;
-use crate::question::Question;
+use crate::question::{Question, Request};
 use crate::saving::save;
 use crate::tables::{Tables, lend_files, read_dims, read_fact};
 use crate::target::Target;
+use catalog_reader::read_catalog::read_catalog;
 use command_line::{Command, GatherCommand, WorkCommand};
 use coordinator::{Ended, Report};
 use folders::files::read_catalog_file;
 use folders::{Folder, Refusal, refusal_of, tell};
 use jobs::{answer_fragment, gather_answers, plan_of};
 use meaning::plan::Plan;
-use meaning::read_catalog::read_catalog;
 use std::alloc::Global;
 use std::io;
 use std::io::Write;
@@ -185,28 +185,26 @@ fn answer_declared<F: Folder, O: Write>(
 fn answer<F: Folder, O: Write>(
     alloc: Global,
     folder: &F,
-    directory: &str,
-    query: &str,
-    rows: u32,
-    vector: u32,
+    request: &Request<'_>,
     out: &mut O,
 ) -> Result<u8, Refusal>
-    requires { 1 ≤ rows }
+    requires { 1 ≤ request.now.rows }
     ensures done { IfOk result
-        (IsWholeDone (F.holds folder.now) directory.now query.now rows vector (O.contents out.old)
-        (O.contents out.new)) }
+        (IsWholeDone (F.holds folder.now) request.now.directory.now request.now.query.now
+        request.now.rows request.now.vector (O.contents out.old) (O.contents out.new)) }
     ensures refused { IfErr result
-        (IsWholeRefused (F.holds folder.now) directory.now query.now rows vector) }
+        (IsWholeRefused (F.holds folder.now) request.now.directory.now request.now.query.now
+        request.now.rows request.now.vector) }
     ensures quiet { IfErr result (λ e. IsQuiet e (O.contents out.old) (O.contents out.new)) }
 {
-    let bytes = read_catalog_file(alloc, folder, directory)?;
+    let bytes = read_catalog_file(alloc, folder, request.directory)?;
     let catalog = read_catalog(alloc, bytes.as_slice())?;
     let question = Question {
-        directory,
+        directory: request.directory,
         catalog: &catalog,
-        query,
-        rows,
-        vector,
+        query: request.query,
+        rows: request.rows,
+        vector: request.vector,
     };
     let ended = answer_declared(alloc, folder, &question, out);
     drop(catalog);
@@ -245,7 +243,8 @@ fn finish_load<F: Folder, O: Write>(
         × Writes (AreFiles target.now.directory.now target.now.load target.now.catalog.now fact.cut
         fragments dims) (F.wrote folder.old) (F.wrote folder.new)) }
     ensures refused { IfErr result
-        (IsUnfinished (F.holds folder.old) target.now.directory.now target.now.catalog.now fact.cut) }
+        (IsUnfinished (F.holds folder.old) target.now.directory.now target.now.catalog.now
+        fact.cut) }
     ensures quiet { IfErr result (λ e. IsQuiet e (O.contents out.old) (O.contents out.new)) }
     ensures left { IfErr result (λ e. LeavesFiles e (F.wrote folder.old) (F.wrote folder.new)) }
 {
@@ -372,7 +371,13 @@ pub fn outcome<F: Folder, O: Write, E: Write>(
             vector,
         } => {
             let (directory, query) = (directory.as_str(), query.as_str());
-            answer(alloc, folder, directory, query, *rows, *vector, out)
+            let request = Request {
+                directory,
+                query,
+                rows: *rows,
+                vector: *vector,
+            };
+            answer(alloc, folder, &request, out)
         }
         Command::Load {
             folder: directory,

@@ -101,7 +101,8 @@ fn cut_evenly(
     rows: u32,
 ) -> Result<Cut, Refusal>
     requires { 1 ≤ rows }
-    ensures evenly { IfOk result (λ cut. cut_of (even_lengths (rows_behind fact.now) rows) ≡ Ok cut) }
+    ensures evenly { IfOk result (λ cut. cut_of (even_lengths (rows_behind fact.now) rows)
+        ≡ Ok cut) }
     ensures refused { IfErr result (IsFactUncut directory.now fact.now rows) }
 {
     match fact {
@@ -121,7 +122,8 @@ pub fn read_fact<F: Folder>(
 ) -> Result<Tables, Refusal>
     requires { 1 ≤ rows }
     ensures tables { IfOk result (AreTables (F.holds folder.now) directory.now name.now rows) }
-    ensures refused { IfErr result (AreTablesUncut (F.holds folder.now) directory.now name.now rows) }
+    ensures refused { IfErr result (AreTablesUncut (F.holds folder.now) directory.now name.now
+        rows) }
 {
     let fact = try_read_csv(alloc, folder, directory, name)?;
     let cut = cut_evenly(alloc, directory, &fact, rows)?;

@@ -10,7 +10,7 @@ use Rattle.meaning.specs.Said.{Cell}
 use Rattle.meaning.specs.declared.answer.Cell.TheVariants.{Nothing, One}
 use Rattle.meaning.specs.Cut.{Cut}
 use Rattle.meaning.specs.Gather.{join_cells, joined}
-use Rattle.meaning.proofs.Absorb.{joined-push}
+use Rattle.meaning_laws.proofs.Absorb.{joined-push}
 use Rattle.meaning.proofs.Tests.{first_of}
 use Rattle.partial_codec.specs.Job.{JobSpec}
 use Rattle.partial_codec.specs.Answer.{Fits}

@@ -7,7 +7,7 @@ use Rattle.meaning.specs.Said.{Cell}
 use Rattle.meaning.specs.declared.answer.Cell.TheVariants.{Nothing, One, Conflict}
 use Rattle.meaning.specs.Cut.{Cut}
 use Rattle.meaning.specs.Gather.{same_body, join_cells}
-use Rattle.meaning.proofs.Cells.{join_cells-comm, join_cells-assoc, join_cells_same}
+use Rattle.meaning_laws.proofs.Cells.{join_cells-comm, join_cells-assoc, join_cells_same}
 use Rattle.meaning.proofs.Tests.{first_of, second_of, both}
 use Rattle.coordinator.specs.Fitted.{is_fitting, AreFitting}
 use Rattle.coordinator.specs.Gathering.{join_states}

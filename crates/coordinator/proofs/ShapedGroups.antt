@@ -19,8 +19,8 @@ use Rattle.meaning.specs.Aggregate.{kept_by, statistics}
 use Rattle.meaning.specs.Typing.{is_of_type}
 use Rattle.meaning.specs.Group.{beside, certain_keys, group_of, merged, merged_groups}
 use Rattle.meaning.specs.Fitting.{is_group_of, is_key_of, is_state_of}
-use Rattle.meaning.proofs.FittingGroups.{groups_shaped}
-use Rattle.meaning.proofs.StatisticsFit.{state_of_type}
+use Rattle.meaning_laws.proofs.FittingGroups.{groups_shaped}
+use Rattle.meaning_laws.proofs.StatisticsFit.{state_of_type}
 use Rattle.meaning.proofs.Tests.{first_of, second_of, both, all_first, all_rest}
 use Rattle.last_step.specs.Fitting.{AreGroupsOf}
 use Rattle.coordinator.specs.Fitted.{is_fitting, AreFitting}

@@ -3,7 +3,7 @@ use Rattle.std.specs.Prelude.{◌≡◌, List}
 use Rattle.meaning.specs.Said.{Answer}
 use Rattle.meaning.specs.Said.{Cell}
 use Rattle.meaning.specs.Gather.{joined, report}
-use Rattle.meaning.specs.Laws.{SameAnswers}
+use Rattle.meaning_laws.specs.Laws.{SameAnswers}
 use Rattle.meaning.specs.Print.{report_text}
 use Rattle.partial_codec.specs.Job.{JobSpec}
 use Rattle.partial_codec.specs.State.{state_bytes}

@@ -81,7 +81,8 @@ fn expect_lengths(rt: &impl Abort, alloc: Global, job: &Job) -> Result<(), Alloc
 fn want_under_seal(place: usize) -> Option<u8> {
     match place {
         0..=3 => Some(1),
-        // The text, the cut or the groups are then longer than the bytes; or without an aggregate its bytes count groups.
+        // The text, the cut or the groups are then longer than the bytes; or without an aggregate
+        // its bytes count groups.
         12..=15 | 43..=45 | 60 | 66..=68 => Some(2),
         // A fault, or no group: the seal ends three or eight bytes earlier.
         64 | 65 => Some(3),

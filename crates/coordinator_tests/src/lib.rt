@@ -1,5 +1,5 @@
-//! Tests of `partial_codec` and `coordinator` that case files can't say: damage at every byte, writers that fail, and
-//! fields of texts.
+//! Tests of `partial_codec` and `coordinator` that case files can't say: damage at every byte,
+//! writers that fail, and fields of texts.
 #![tactic(auto)]
 
 #[cfg(test)]

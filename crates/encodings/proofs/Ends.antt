@@ -3,12 +3,12 @@ use Rattle.std.proofs.Common.{◌≡◌, ℕ, zero, suc, ◌+◌, ◌-◌, ◌*�
 use Rattle.std.specs.List.{list_all}
 use Rattle.std.specs.Int.{w32, from_le_bytes}
 use Rattle.std.proofs.lemmas.Bool.Decides.{nat_tests}
-use Rattle.std.proofs.lemmas.List.{at_drop_more, at_drop_all, get_or-map, length-map, length-drop, take_rest}
+use Rattle.std.proofs.lemmas.List.{at_drop_more, at_drop_all, get_or-map, length-map}
 use Rattle.meaning.specs.declared.value.ColType.{ColType}
 use Rattle.meaning.specs.declared.value.ColType.TheVariants as of_type
 use Rattle.meaning.specs.declared.value.Value.TheVariants.{Null, Int, Text}
 use Rattle.columns.specs.Column.{is_text}
-use Rattle.encodings.specs.Plain.{are_ends, ends_of, joined_of, values_form, is_values_form}
+use Rattle.encodings.specs.Plain.{are_ends, ends_of, joined_of, values_form}
 use Rattle.bit_packing.specs.Bytes.{words, integer_of, integers}
 use Rattle.columns.specs.Texts.{texts_from}
 use Rattle.bit_packing.proofs.Chunks.{get_or-words, get_or-integers, length-words, length-integers}
@@ -58,57 +58,11 @@ texts_end m bytes joined start i r h known =
     let long = length-words m bytes in
     sym (at_drop_all (λ es. list_all is_text (texts_from start es joined)) (words m bytes) i (omega arith)) ∙ known
 
--- ---- one text, between the end before it and its own
-
-pub ends_at : (start : ℕ) (es : List ℕ) (total i : ℕ) → are_ends start es total ≡ true → i < length es → (get_or (start ∷ es) i 0 ≤ get_or es i 0) × (get_or es i 0 ≤ total)
-ends_at start [] total i e h = absurd (omega arith)
-ends_at start (x ∷ es) total zero e h =
-    let p = both_true (nat_le start x) (are_ends x es total) e in
-    let t = p.0 in
-    (grind (arith, nat_tests), ends_bound x es total p.1)
-ends_at start (x ∷ es) total (suc i) e h =
-    let p = both_true (nat_le start x) (are_ends x es total) e in
-    ends_at x es total i p.1 (omega arith)
-
-pub get_or-texts_from : (start : ℕ) (es joined : List ℕ) (i : ℕ) → i < length es → get_or (texts_from start es joined) i [] ≡ take (get_or es i 0 - get_or (start ∷ es) i 0) (drop (get_or (start ∷ es) i 0) joined)
-get_or-texts_from start [] joined i h = absurd (omega arith)
-get_or-texts_from start (x ∷ es) joined zero h = refl
-get_or-texts_from start (x ∷ es) joined (suc i) h = get_or-texts_from x es joined i (omega arith)
-
 pub length-texts_from : (start : ℕ) (es joined : List ℕ) → length (texts_from start es joined) ≡ length es
 length-texts_from start [] joined = refl
 length-texts_from start (x ∷ es) joined = ap suc (length-texts_from x es joined)
 
-pub behind_first : (x : ℕ) (xs : List ℕ) (i : ℕ) → 0 < i → get_or (x ∷ xs) i 0 ≡ get_or xs (i - 1) 0
-behind_first x xs zero h = absurd (omega arith)
-behind_first x xs (suc i) h =
-    let less : i ≡ suc i - 1 = omega arith in
-    ap (λ k. get_or xs k 0) less
-
 -- ---- the values form
-
-pub texts_form : (m : ℕ) (bytes : List ℕ) → is_values_form of_type.Text m bytes ≡ true → (4 * m ≤ length bytes) × (are_ends 0 (words m bytes) (length (drop (4 * m) bytes)) ≡ true)
-texts_form m bytes e =
-    let p = both_true (nat_le (4 * m) (length bytes)) (are_ends 0 (words m bytes) (length (drop (4 * m) bytes)) && list_all is_text (texts_from 0 (words m bytes) (drop (4 * m) bytes))) e in
-    let q = both_true (are_ends 0 (words m bytes) (length (drop (4 * m) bytes))) (list_all is_text (texts_from 0 (words m bytes) (drop (4 * m) bytes))) p.1 in
-    let t = p.0 in
-    (grind (arith, nat_tests), q.0)
-
-pub text_within : (m i : ℕ) (bytes : List ℕ) (start end : ℕ) → is_values_form of_type.Text m bytes ≡ true → i < m → start ≡ get_or (0 ∷ words m bytes) i 0 → end ≡ word i bytes → (start ≤ end) × (end ≤ length bytes - 4 * m)
-text_within m i bytes start end e h s w =
-    let p = texts_form m bytes e in
-    let long = length-words m bytes in
-    let q = ends_at 0 (words m bytes) (length (drop (4 * m) bytes)) i p.1 (omega arith) in
-    let same : end ≡ get_or (words m bytes) i 0 = w ∙ sym (get_or-words m i bytes h) in
-    let rest = length-drop (4 * m) bytes in
-    (omega arith, omega arith)
-
-pub text_is : (m i : ℕ) (bytes : List ℕ) (start end : ℕ) → i < m → start ≡ get_or (0 ∷ words m bytes) i 0 → end ≡ word i bytes → take (end - start) (drop start (take (length bytes - 4 * m) (drop (4 * m) bytes))) ≡ get_or (texts_from 0 (ends_of m bytes) (joined_of m bytes)) i []
-text_is m i bytes start end h s w =
-    let long = length-words m bytes in
-    let same : end ≡ get_or (words m bytes) i 0 = w ∙ sym (get_or-words m i bytes h) in
-    let there = get_or-texts_from 0 (words m bytes) (drop (4 * m) bytes) i (omega arith) in
-    ap (λ xs. take (end - start) (drop start xs)) (take_rest bytes (4 * m)) ∙ ap (λ k. take (k - start) (drop start (drop (4 * m) bytes))) same ∙ ap (λ k. take (get_or (words m bytes) i 0 - k) (drop k (drop (4 * m) bytes))) s ∙ sym there
 
 pub length-values_form : (col_type : ColType) (m : ℕ) (bytes : List ℕ) → length (values_form col_type m bytes) ≡ m
 length-values_form of_type.Int m bytes = length-map (integers m bytes) Int ∙ length-integers m bytes

@@ -11,6 +11,7 @@ pub mod EncodedFrames
 pub mod EncodedRuns
 pub mod Ends
 pub mod Frames
+pub mod FrameNulls
 pub mod Marks
 pub mod MaskWords
 pub mod NullRuns

@@ -1,5 +1,5 @@
 -- The bits of the mask by words, from which the lower bits are shifted out.
-use Rattle.std.proofs.Common.{◌≡◌, ℕ, ◌+◌, ◌-◌, ◌*◌, ◌/◌, ◌%◌, ◌^◌, ◌<◌, ◌≤◌, Bool, true, false, not, ◌||◌, ◌==◌, List, [], ◌∷◌, ⊎_elim, get_or, take, drop, zip, refl, sym, ap, ◌∙◌, arith}
+use Rattle.std.proofs.Common.{◌≡◌, ℕ, ◌+◌, ◌-◌, ◌*◌, ◌/◌, ◌%◌, ◌^◌, ◌<◌, ◌≤◌, Bool, true, false, not, ◌||◌, ◌==◌, List, ⊎_elim, get_or, drop, zip, sym, ap, ◌∙◌, arith}
 use Rattle.std.specs.List.{list_all}
 use Rattle.std.specs.Int.{w64, trailing_zeros}
 use Rattle.std.proofs.lemmas.Nat.{shr-shr}
@@ -12,34 +12,11 @@ use Rattle.meaning.specs.declared.value.Value.TheVariants.{Null}
 use Rattle.encodings.specs.declared.kind.Kind.{Kind}
 use Rattle.bit_packing.specs.Bits.{bit_at}
 use Rattle.encodings.specs.Block.{body_cells, is_body, is_blank}
-use Rattle.bit_packing.specs.Bytes.{number_of}
 use Rattle.encodings.specs.Block.{are_blank_from}
 use Rattle.encodings.proofs.Nulls.{bits_of, length_pairs, pair_is}
 use Rattle.bit_packing.proofs.Steps.{all_skips, all_keeps, all_stops}
-use Rattle.bit_packing.proofs.UnpackNumbers.{AreBytes, number-front_below, digit-take, offset_at-drop}
-
-abbrev pub bit_of : List ℕ → ℕ → ℕ
-bit_of mask j = get_or mask (j / 8) 0 / 2 ^ (j % 8) % 2
-
-abbrev pub window : ℕ → List ℕ → ℕ
-window place mask = number_of (take 8 (drop place mask))
-
-first_byte : (xs : List ℕ) → number_of (take 1 xs) ≡ get_or xs 0 0
-first_byte [] = refl
-first_byte (x ∷ xs) = omega arith
-
-window_bit : (mask : List ℕ) (place i : ℕ) → AreBytes mask → i < 64 → window place mask / 2 ^ i % 2 ≡ bit_of mask (8 * place + i)
-window_bit mask place i small h =
-    let j = 8 * place + i in
-    let q = j / 8 in
-    let s = j % 8 in
-    let behind : AreBytes (drop place mask) = λ k. rw get_or-drop (small (place + k)) in
-    let rest : AreBytes (drop q mask) = λ k. rw get_or-drop (small (q + k)) in
-    sym (digit-take 8 1 i (drop place mask) behind (omega arith))
-    ∙ sym (offset_at-drop 1 place i j mask small (omega arith))
-    ∙ offset_at-drop 1 q s j mask small (omega arith)
-    ∙ digit-take 1 1 s (drop q mask) rest (omega arith)
-    ∙ ap (λ n. n / 2 ^ s % 2) (first_byte (drop q mask) ∙ get_or-drop q mask 0 0 ∙ ap (λ k. get_or mask k 0) (omega arith))
+use Rattle.bit_packing.proofs.MaskWindows.{bit_of, window, window_bit}
+use Rattle.bit_packing.proofs.UnpackNumbers.{AreBytes, number-front_below}
 
 module _ (mask : List ℕ) (place row marks : ℕ) (small : AreBytes mask) (low : 8 * place ≤ row) (known : marks ≡ window place mask / 2 ^ (row - 8 * place)) where
   mark_is : (i : ℕ) → row - 8 * place + i < 64 → marks / 2 ^ i % 2 ≡ bit_of mask (row + i)

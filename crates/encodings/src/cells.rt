@@ -11,7 +11,7 @@ ghost use Rattle.encodings.specs.Block.{are_blank_from};
 
 use crate::dictionary::check::is_dictionary;
 use crate::dictionary::view::dictionary_cell;
-use crate::frame::check::is_frame;
+use crate::frame::check::{are_null_offsets_blank, is_frame};
 use crate::frame::read::frame_cell;
 use crate::kind::Kind;
 use crate::plain::check::is_values_form;
@@ -71,6 +71,7 @@ pub fn is_blank(value: ValueRef<'_>) -> bool
 
 /// Whether the blank of the type stands in the cells of the 64 rows of a word of the mask, which
 /// begins at a byte of it, as far as their bits are set.
+#[inline(always)]
 fn are_marked_blank(
     kind: Kind,
     col_type: ColType,
@@ -105,6 +106,7 @@ fn are_marked_blank(
 }
 
 // Whether the blank of the type stands in the cell of each row whose bit is set.
+#[inline(always)]
 fn are_null_cells_blank(
     kind: Kind,
     col_type: ColType,
@@ -147,6 +149,9 @@ pub fn are_nulls_blank(
     }
     match kind {
         Kind::Runs => are_null_runs_blank(col_type, rows, mask, body),
-        _ => are_null_cells_blank(kind, col_type, rows, mask, body),
+        Kind::Frame => are_null_offsets_blank(rows, mask, body),
+        // By its name, so that each loop over rows is for one kind.
+        Kind::Plain => are_null_cells_blank(Kind::Plain, col_type, rows, mask, body),
+        Kind::Dict => are_null_cells_blank(Kind::Dict, col_type, rows, mask, body),
     }
 }

@@ -210,7 +210,8 @@ pub fn encode(
     ensures tight { IfOk result (λ e. is_tight (block_of e.kind column.now from to e.payload.items)
         ≡ true) }
     ensures size { IfOk result (λ e. length e.payload.items
-        ≡ payload_size e.kind column.now.col_type column.now.nullable (between from to column.now)) }
+        ≡ payload_size e.kind column.now.col_type column.now.nullable
+        (between from to column.now)) }
     ensures fault { IfErr result (λ f. f ≡ Memory) }
 {
     let choice = choice_of(alloc, column, from, to)?;

@@ -2,11 +2,11 @@
 use crate::columns::{Column, batch_of};
 use crate::postfix::expression;
 use crate::rows::{COMBINATIONS, columns_from, joined_row};
-use meaning::eval::eval_row;
 use meaning::expr::Expr;
 use meaning::outcome::{Fault, Outcome, Truth};
 use meaning::value::Value;
 use primitives::evaluation::eval_vec;
+use row_evaluation::eval::eval_row;
 use std::alloc::{AllocError, Global};
 use std::fmt::Write;
 use std::mem::drop;
@@ -265,8 +265,8 @@ fn tell_line(
     result
 }
 
-/// For each expression on how many combinations it faults, and in vectors of which of these lengths it gives something else
-/// than evaluation does.
+/// For each expression on how many combinations it faults, and in vectors of which of these lengths
+/// it gives something else than evaluation does.
 pub fn tell(alloc: Global, words: &[&str], body: &str) -> Result<String, AllocError> {
     let mut told = String::new(alloc);
     for line in body.lines() {

@@ -112,7 +112,8 @@ fn select(selection: &mut Selection, places: &str) {
     });
 }
 
-/// `fresh` forgets the fault, `at PLACES` selects places, `at all` all of them, and other lines are expressions.
+/// `fresh` forgets the fault, `at PLACES` selects places, `at all` all of them, and other lines are
+/// expressions.
 fn take_line(
     alloc: Global,
     told: &mut String,

@@ -1,4 +1,5 @@
-//! Cases of expressions over vectors: what they give on rows of a case, and whether they give what evaluation gives.
+//! Cases of expressions over vectors: what they give on rows of a case, and whether they give what
+//! evaluation gives.
 #![tactic(auto)]
 
 mod agreeing;
@@ -9,12 +10,14 @@ mod rows;
 
 use std::alloc::{AllocError, Global};
 
-/// What the expressions of the lines behind a case's rows give on these. The words are the places of its columns.
+/// What the expressions of the lines behind a case's rows give on these. The words are the places
+/// of its columns.
 pub fn tell(alloc: Global, words: &[&str], body: &str) -> Result<String, AllocError> {
     evaluating::tell(alloc, words, body)
 }
 
-/// Whether each line's expression gives, in vectors of these lengths, what evaluation gives on each row.
+/// Whether each line's expression gives, in vectors of these lengths, what evaluation gives on each
+/// row.
 pub fn tell_agreement(alloc: Global, words: &[&str], body: &str) -> Result<String, AllocError> {
     agreeing::tell(alloc, words, body)
 }

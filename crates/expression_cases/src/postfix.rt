@@ -263,7 +263,8 @@ fn node(alloc: Global, stack: &mut Vec<Expr>, word: &str) -> Built {
     }
 }
 
-/// The expression that the words spell. A word takes its operands off those before it, and an operand that isn't there is NULL.
+/// The expression that the words spell. A word takes its operands off those before it, and an
+/// operand that isn't there is NULL.
 pub fn expression(alloc: Global, line: &str) -> Built {
     let mut stack = Vec::new(alloc);
     for word in line.split(' ') {

@@ -26,7 +26,8 @@ const fn drawn_from(place: Place, is_text: bool, digit: u32) -> Source {
     }
 }
 
-// The fact has three columns of integers and two of texts, the joins one column and two, the group two keys and an aggregate.
+// The fact has three columns of integers and two of texts, the joins one column and two, the group
+// two keys and an aggregate.
 fn sources() -> [Source; 10] {
     [
         drawn_from(Place::Fact { column: 0 }, false, 0),

@@ -109,7 +109,8 @@ pub fn refusal_of_file(path: &Text, fault: FileFault) -> Refusal
 
 /// An empty file that is to stand under the path.
 pub fn create_file<F: Folder>(folder: &mut F, path: &Text) -> Result<F::Writer, Refusal>
-    ensures empty { IfOk result (λ file. IsEmptyFile (F.wrote folder.old) (F.Writer.contents file)) }
+    ensures empty { IfOk result (λ file. IsEmptyFile (F.wrote folder.old)
+        (F.Writer.contents file)) }
     ensures same { F.wrote folder.new ≡ F.wrote folder.old }
     ensures held { F.holds folder.new ≡ F.holds folder.old }
     ensures refused { IfErr result (IsUnwritten path.now) }
@@ -178,7 +179,8 @@ pub fn remove_file<F: Folder>(folder: &mut F, path: &Text) -> Result<(), Refusal
 /// that the folder gives a file until it is whole.
 pub fn write_file<F: Folder>(folder: &mut F, path: &Text, bytes: &[u8]) -> Result<(), Refusal>
     ensures written { OnOk result
-        (WritesOne path.now (λ given. given ≡ bytes.now) (F.wrote folder.old) (F.wrote folder.new)) }
+        (WritesOne path.now (λ given. given ≡ bytes.now) (F.wrote folder.old)
+        (F.wrote folder.new)) }
     ensures refused { IfErr result (IsUnwritten path.now) }
 {
     let mut file = create_file(folder, path)?;

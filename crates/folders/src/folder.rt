@@ -44,7 +44,8 @@ pub trait Folder {
 
     /// Puts a file that was created for this path under it.
     fn finish(&mut self, path: &str, file: Self::Closed) -> io::Result<()>
-        ensures { OnOk result (Finishes (wrote self.old) (wrote self.new) path.now (enclosed file)) };
+        ensures { OnOk result (Finishes (wrote self.old) (wrote self.new) path.now
+            (enclosed file)) };
 
     /// Takes the file of a path away, where there is one.
     fn remove(&mut self, path: &str) -> io::Result<()>

@@ -92,7 +92,8 @@ fn tell_sql<E: Write>(fault: &SqlFault, err: &mut E) -> io::Result<()>
 }
 
 fn tell_table<E: Write>(fault: &TableFault, err: &mut E) -> io::Result<()>
-    ensures { OnOk result (Appends (E.contents err.old) (E.contents err.new) (table_line fault.now)) }
+    ensures { OnOk result (Appends (E.contents err.old) (E.contents err.new)
+        (table_line fault.now)) }
 {
     let number = fault.number();
     match fault {
@@ -110,7 +111,8 @@ fn tell_table<E: Write>(fault: &TableFault, err: &mut E) -> io::Result<()>
 }
 
 fn tell_plan<E: Write>(fault: &PlanFault, err: &mut E) -> io::Result<()>
-    ensures { OnOk result (Appends (E.contents err.old) (E.contents err.new) (plan_line fault.now)) }
+    ensures { OnOk result (Appends (E.contents err.old) (E.contents err.new)
+        (plan_line fault.now)) }
 {
     tell_number("plan", fault.number(), err)
 }
@@ -153,7 +155,8 @@ fn tell_work_file<E: Write>(fault: &FileFault, err: &mut E) -> io::Result<()>
 }
 
 fn tell_work<E: Write>(fault: &WorkFault, err: &mut E) -> io::Result<()>
-    ensures { OnOk result (Appends (E.contents err.old) (E.contents err.new) (work_line fault.now)) }
+    ensures { OnOk result (Appends (E.contents err.old) (E.contents err.new)
+        (work_line fault.now)) }
 {
     match fault {
         WorkFault::File(fault) => tell_work_file(fault, err),
@@ -169,14 +172,16 @@ fn tell_file<E: Write>(lacks: &str, path: &Text, err: &mut E) -> io::Result<()>
 }
 
 fn tell_plain<E: Write>(words: &str, err: &mut E) -> io::Result<()>
-    ensures { OnOk result (Appends (E.contents err.old) (E.contents err.new) (plain_line words.now)) }
+    ensures { OnOk result (Appends (E.contents err.old) (E.contents err.new)
+        (plain_line words.now)) }
 {
     writeln!(err, "xcols: {words}")
 }
 
 /// Writes the line that tells why a command was not done.
 pub fn tell<E: Write>(refusal: &Refusal, err: &mut E) -> io::Result<()>
-    ensures { OnOk result (Appends (E.contents err.old) (E.contents err.new) (line_of refusal.now)) }
+    ensures { OnOk result (Appends (E.contents err.old) (E.contents err.new)
+        (line_of refusal.now)) }
 {
     match refusal {
         Refusal::Memory => tell_plain("memory", err),

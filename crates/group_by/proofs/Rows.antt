@@ -1,33 +1,17 @@
 -- Rows that go to the groups at their places.
-use Rattle.std.specs.Prelude.{◌≡◌, ℕ, zero, suc, ◌+◌, ◌<◌, ◌==◌, true, false, List, [], ◌∷◌, ◌++◌, length, map, get_or, slice_set}
+use Rattle.std.specs.Prelude.{◌≡◌, ℕ, zero, suc, ◌+◌, ◌<◌, List, [], ◌∷◌, ◌++◌, length, map, get_or, slice_set}
 use Rattle.std.specs.List.{zip, enumerate_from}
 use Rattle.std.proofs.Common.{refl, sym, ap, subst, ◌∙◌, arith, append_assoc, append-nil, length-set, get_or-set_same, get_or-set_other, inl, inr}
 use Rattle.std.proofs.lemmas.Bool.{cases_eq}
-use Rattle.std.proofs.lemmas.Bool.Decides.{nat_tests}
 use Rattle.meaning.specs.declared.answer.Group.{Group}
 use Rattle.meaning.specs.Order.{Row}
 use Rattle.meaning.specs.Group.{merge_groups}
 use Rattle.accumulators.specs.Entries.{at_place}
+use Rattle.accumulators.proofs.AtPlaces.{at_place-here, at_place-other, other, other_above}
 use Rattle.group_by.specs.Shape.{Shape}
 use Rattle.group_by.specs.Groups.{group_of_rows, together}
 use Rattle.group_by.proofs.Growing.{Grows}
 use Rattle.group_by.proofs.Together.{before, IsWide, merge_groups-assoc, merge_none, of_rows-append, single, placed, states-length, zipped-length}
-
-same : (p n : ℕ) → p ≡ n → (p == n) ≡ true
-same p n e = grind (arith, nat_tests)
-
-other : (p n : ℕ) → p < n → (p == n) ≡ false
-other p n l = grind (arith, nat_tests)
-
-other_above : (p n : ℕ) → n < p → (p == n) ≡ false
-other_above p n l = grind (arith, nat_tests)
-
-module _ {X : Type 0} where
-  at_place-here : (p n : ℕ) (x : X) (xs : List (ℕ × X)) → p ≡ n → at_place n ((p, x) ∷ xs) ≡ x ∷ at_place n xs
-  at_place-here p n x xs e = rw (same p n e) refl
-
-  at_place-other : (p n : ℕ) (x : X) (xs : List (ℕ × X)) → (p == n) ≡ false → at_place n ((p, x) ∷ xs) ≡ at_place n xs
-  at_place-other p n x xs e = rw e refl
 
 module _ (shape : Shape) where
   -- a group with the rows that go to its place

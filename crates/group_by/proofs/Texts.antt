@@ -11,8 +11,9 @@ use Rattle.vectors.specs.declared.nulls.Nulls.{Nulls}
 use Rattle.vectors.specs.declared.texts.TextCells.{TextCells}
 use Rattle.vectors.specs.declared.vector.Vector.{Vector}
 use Rattle.vectors.specs.Lanes.{mask_of, text_lanes, texts_of}
-use Rattle.accumulators.specs.Values.{is_spelled, selected, values_of}
-use Rattle.accumulators.proofs.Plain.{without_mask}
+use Rattle.accumulators.specs.Values.{is_spelled, selected}
+use Rattle.vectors.specs.Vector.{values_of}
+use Rattle.vectors.proofs.PlainLanes.{without_mask}
 use Rattle.group_by.specs.Keys.{IsLed}
 use Rattle.group_by.specs.Places.{AreFound, IsFound}
 use Rattle.group_by.specs.Rows.{rows_at, text_keys}

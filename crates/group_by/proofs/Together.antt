@@ -11,9 +11,9 @@ use Rattle.meaning.specs.declared.answer.Group.{Group}
 use Rattle.meaning.specs.Order.{Row, column, row_cmp, ascending_set}
 use Rattle.meaning.specs.Group.{beside, merge_groups}
 use Rattle.meaning.proofs.Orders.{row_total, row_exact}
-use Rattle.meaning.proofs.Merge.{merge-comm, merge-assoc}
 use Rattle.meaning.proofs.Sets.{same_ascending_set}
 use Rattle.meaning.proofs.Groups.{list_any-append}
+use Rattle.meaning.proofs.LiveTable.{zipped-assoc, zipped-comm}
 use Rattle.accumulators.specs.Entries.{state_of}
 use Rattle.accumulators.specs.StateLaws.{state_of-append}
 use Rattle.accumulators.proofs.Growing.{merge-no_entry}
@@ -23,18 +23,6 @@ use Rattle.group_by.specs.Groups.{states_of, group_of_rows, groups_of_rows, as_o
 use Rattle.group_by.proofs.Growing.{Grows}
 
 -- ---- two groups as one
-
-zipped-comm : (ss ts : List Statistics) → zipped ss ts ≡ zipped ts ss
-zipped-comm [] [] = refl
-zipped-comm [] (t ∷ ts) = refl
-zipped-comm (s ∷ ss) [] = refl
-zipped-comm (s ∷ ss) (t ∷ ts) = λ i. merge-comm s t i ∷ zipped-comm ss ts i
-
-zipped-assoc : (ss ts us : List Statistics) → zipped (zipped ss ts) us ≡ zipped ss (zipped ts us)
-zipped-assoc [] ts us = refl
-zipped-assoc (s ∷ ss) [] us = refl
-zipped-assoc (s ∷ ss) (t ∷ ts) [] = refl
-zipped-assoc (s ∷ ss) (t ∷ ts) (u ∷ us) = λ i. merge-assoc s t u i ∷ zipped-assoc ss ts us i
 
 pub zipped-length : (ss ts : List Statistics) (n : ℕ) → length ss ≡ n → length ts ≡ n → length (zipped ss ts) ≡ n
 zipped-length [] ts n e f = e

@@ -12,7 +12,8 @@ use Rattle.meaning.specs.Aggregate.{no_statistics, merge}
 use Rattle.vectors.specs.declared.vector.Vector.{Vector}
 use Rattle.accumulators.specs.Columns.{ColumnSpec, of_states}
 use Rattle.accumulators.specs.Entries.{state_of, at_place, with_entries}
-use Rattle.accumulators.specs.Values.{selected, values_of}
+use Rattle.accumulators.specs.Values.{selected}
+use Rattle.vectors.specs.Vector.{values_of}
 use Rattle.group_by.specs.Rows.{rows_at}
 use Rattle.group_by.specs.Places.{no_column, state_in, IsUpdated, AreUpdated}
 use Rattle.group_by.proofs.Finding.{lane_of}

@@ -6,7 +6,8 @@ use Rattle.meaning.specs.declared.answer.Group.{Group}
 use Rattle.meaning.specs.Order.{Row}
 use Rattle.meaning.specs.Aggregate.{kept_by}
 use Rattle.vectors.specs.declared.vector.Vector.{Vector}
-use Rattle.accumulators.specs.Values.{is_spelled, values_of}
+use Rattle.accumulators.specs.Values.{is_spelled}
+use Rattle.vectors.specs.Vector.{values_of}
 use Rattle.group_by.specs.Shape.{Shape}
 
 -- the row at a position, a value from each vector

@@ -1,6 +1,6 @@
 //! Hashes of keys. What a table holds doesn't depend on them.
 ghost use Rattle.std.specs.Prelude.{◌≡◌, ◌≤◌, ◌+◌, length, IfOk};
-ghost use Rattle.accumulators.specs.Values.{values_of};
+ghost use Rattle.vectors.specs.Vector.{values_of};
 ghost use Rattle.group_by.specs.Rows.{AreLanesOf};
 
 use crate::plain_texts::plain_texts;

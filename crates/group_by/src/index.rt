@@ -6,7 +6,7 @@
 ghost use Rattle.std.specs.Prelude.{◌≡◌, ◌≢◌, ℕ, ◌<◌, ◌≤◌, ◌∷◌, ◌++◌, [], length, slice_index_or, All, true, IfOk, IfSome, OnOk};
 ghost use Rattle.std.specs.Str.{is_utf8};
 ghost use Rattle.meaning.specs.declared.value.Value.TheVariants.{Int, Text};
-ghost use Rattle.accumulators.specs.Values.{values_of};
+ghost use Rattle.vectors.specs.Vector.{values_of};
 ghost use Rattle.group_by.specs.Keys.{IsLed, IsTold};
 ghost use Rattle.group_by.specs.Places.{AreFound, IsFound};
 ghost use Rattle.group_by.specs.Shape.{empty_key};

@@ -2,7 +2,7 @@
 //! memory of their own.
 ghost use Rattle.std.specs.Prelude.{◌≡◌, ◌≢◌, ℕ, ◌<◌, ◌∷◌, ◌++◌, [], length, pos, map, slice_index_or, All, true, IfOk, IfSome, OnOk};
 ghost use Rattle.meaning.specs.declared.value.Value.TheVariants.{Int, Text};
-ghost use Rattle.accumulators.specs.Values.{values_of};
+ghost use Rattle.vectors.specs.Vector.{values_of};
 ghost use Rattle.group_by.specs.Keys.{alone, rows_in, IsTold};
 ghost use Rattle.group_by.specs.Rows.{row_at, AreLanesOf};
 

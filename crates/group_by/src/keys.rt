@@ -4,7 +4,8 @@ ghost use Rattle.std.specs.Ordering.{eq_by_cmp};
 ghost use Rattle.std.specs.Str.{is_utf8};
 ghost use Rattle.meaning.specs.declared.value.Value.TheVariants.{Int, Null, Text};
 ghost use Rattle.meaning.specs.Order.{row_cmp, value_in};
-ghost use Rattle.accumulators.specs.Values.{is_spelled, values_of};
+ghost use Rattle.accumulators.specs.Values.{is_spelled};
+ghost use Rattle.vectors.specs.Vector.{values_of};
 ghost use Rattle.group_by.specs.Rows.{int_keys, row_at, rows_at, AreLanesOf};
 
 use crate::same_bytes::are_same_bytes;

@@ -2,7 +2,8 @@
 ghost use Rattle.std.specs.Prelude.{◌≡◌, length, map, true, All, IfSome};
 ghost use Rattle.std.specs.Str.{is_utf8};
 ghost use Rattle.meaning.specs.declared.value.Value.TheVariants.{Text};
-ghost use Rattle.accumulators.specs.Values.{selected, values_of};
+ghost use Rattle.accumulators.specs.Values.{selected};
+ghost use Rattle.vectors.specs.Vector.{values_of};
 ghost use Rattle.group_by.specs.Rows.{rows_at, text_keys, AreLanesOf};
 
 use vectors::selection::Selection;

@@ -8,21 +8,6 @@ use vectors::ints::{IntCells, Ints};
 use vectors::selection::Selection;
 use vectors::vector::Vector;
 
-/// The integers of all lanes, where none is NULL.
-fn plain_cells<'v>(ints: &'v Ints<'_>) -> Option<&'v [i64]>
-    ensures { IfSome result (λ cells. map Int cells.now ≡ ints.now) }
-{
-    let (cells, nulls) = ints.parts();
-    let None = nulls.mask() else {
-        return None;
-    };
-    match cells {
-        IntCells::Lent(cells) => Some(*cells),
-        IntCells::Owned(cells) => Some(cells.as_slice()),
-        IntCells::Repeated { .. } => None,
-    }
-}
-
 /// The integers at these places.
 fn gathered(alloc: Global, cells: &[i64], places: &[u32]) -> Result<Vec<i64>, AllocError>
     requires { All (λ place. place < length cells.now) places.now }
@@ -48,7 +33,7 @@ fn selected_cells(
     let Some(places) = selection.places() else {
         return Ok(None);
     };
-    let Some(cells) = plain_cells(ints) else {
+    let Some(cells) = ints.plain() else {
         return Ok(None);
     };
     Ok(Some(gathered(alloc, cells, places)?))

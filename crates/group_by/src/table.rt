@@ -48,6 +48,14 @@ impl Model for GroupTable {
         t.taken };
 }
 
+/// Rows that are selected of vectors: a key of each, and an argument of each aggregate.
+#[derive(Clone, Copy)]
+struct SelectedRows<'a> {
+    keys: &'a [Vector<'a>],
+    arguments: &'a [Vector<'a>],
+    selection: &'a Selection,
+}
+
 /// Finds the places of the selected rows, and counts them and their arguments there. On an error
 /// all of it is open.
 fn add_rows(
@@ -55,24 +63,24 @@ fn add_rows(
     index: &mut KeyIndex,
     rows: &mut Vec<u64>,
     columns: &mut Vec<StateColumn>,
-    keys: &[Vector<'_>],
-    arguments: &[Vector<'_>],
-    selection: &Selection,
+    selected: &SelectedRows<'_>,
 ) -> Result<(), AllocError>
-    requires keys { AreLanesOf selection.now.below keys.now }
-    requires arguments { AreLanesOf selection.now.below arguments.now }
-    requires widths { length arguments.now ≡ length columns.old.items }
+    requires keys { AreLanesOf selected.now.selection.now.below selected.now.keys.now }
+    requires arguments { AreLanesOf selected.now.selection.now.below selected.now.arguments.now }
+    requires widths { length selected.now.arguments.now ≡ length columns.old.items }
     requires counted { length rows.old.items ≡ length index.old.keys }
     requires heights { (c : ℕ)
         → length (slice_index_or columns.old.items c no_column).states ≤ length index.old.keys }
-    requires few { sum rows.old.items + length selection.now.list ≤ most_entries }
+    requires few { sum rows.old.items + length selected.now.selection.now.list ≤ most_entries }
     requires states { (c place : ℕ)
-        → (state_at columns.old.items c place).count + length selection.now.list ≤ most_entries }
-    ensures { OnOk result (AreAdded (rows_at keys.now selection.now.list)
-        (rows_at arguments.now selection.now.list) index.old.keys rows.old.items columns.old.items
-        index.new.keys rows.new.items columns.new.items) }
+        → (state_at columns.old.items c place).count + length selected.now.selection.now.list
+        ≤ most_entries }
+    ensures { OnOk result
+        (AreAdded (rows_at selected.now.keys.now selected.now.selection.now.list)
+        (rows_at selected.now.arguments.now selected.now.selection.now.list) index.old.keys
+        rows.old.items columns.old.items index.new.keys rows.new.items columns.new.items) }
 {
-    let places = index.find_places(alloc, keys, selection)?;
+    let places = index.find_places(alloc, selected.keys, selected.selection)?;
     let height = index.keys.len();
     count_rows(rows, height, &places)?;
     update_all(
@@ -80,8 +88,8 @@ fn add_rows(
         alloc,
         height,
         &places,
-        arguments,
-        selection,
+        selected.arguments,
+        selected.selection,
     )?;
     Ok(())
 }
@@ -257,15 +265,12 @@ impl GroupTable {
             handed,
         } = self;
         let many = selection.len() as u64;
-        match add_rows(
-            alloc,
-            &mut index,
-            &mut rows,
-            &mut columns,
+        let selected = SelectedRows {
             keys,
             arguments,
             selection,
-        ) {
+        };
+        match add_rows(alloc, &mut index, &mut rows, &mut columns, &selected) {
             Ok(()) => Ok(GroupTable {
                 is_certain,
                 index,

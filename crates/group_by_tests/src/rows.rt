@@ -1,6 +1,7 @@
 //! Vectors of a few lanes.
 ghost use Rattle.std.specs.Prelude.{◌≡◌, length, true, All, IfOk};
-ghost use Rattle.accumulators.specs.Values.{is_spelled, values_of};
+ghost use Rattle.accumulators.specs.Values.{is_spelled};
+ghost use Rattle.vectors.specs.Vector.{values_of};
 ghost use Rattle.group_by.specs.Rows.{AreLanesOf};
 
 use std::alloc::{AllocError, Global};
@@ -31,7 +32,8 @@ fn nulls_of(alloc: Global, list: &[i64]) -> Result<Vec<bool>, AllocError>
 
 /// A vector of so many lanes with these integers; 404 stands for NULL.
 pub fn vector_of(alloc: Global, list: &[i64], lanes: usize) -> Result<Vector<'static>, AllocError>
-    ensures { IfOk result (λ vector. (length (values_of vector) ≡ lanes) × All (λ v. is_spelled v ≡ true) (values_of vector)) }
+    ensures { IfOk result (λ vector. (length (values_of vector) ≡ lanes) × All (λ v. is_spelled v
+        ≡ true) (values_of vector)) }
 {
     let cells = cells_of(alloc, list, lanes)?;
     let nulls = nulls_of(alloc, cells.as_slice())?;
@@ -40,7 +42,8 @@ pub fn vector_of(alloc: Global, list: &[i64], lanes: usize) -> Result<Vector<'st
 
 /// A vector of these integers, none of them NULL.
 pub fn plain(list: &[i64]) -> Vector<'_>
-    ensures { (length (values_of result) ≡ length list.now) × All (λ v. is_spelled v ≡ true) (values_of result) }
+    ensures { (length (values_of result) ≡ length list.now) × All (λ v. is_spelled v
+        ≡ true) (values_of result) }
 {
     Vector::Ints(Ints::new(IntCells::Lent(list), Nulls::None))
 }

@@ -116,24 +116,29 @@ fn rows_by_integers(rt: HostRuntime) -> Result<(), AllocError> {
     Ok(())
 }
 
+/// Rows by keys, with what is summed.
+#[derive(Clone, Copy)]
+struct Part<'a> {
+    keys: &'a [Vector<'a>],
+    list: &'a [i64],
+}
+
 /// What the table of these rows hands out, and of those behind them.
 fn told_of_both(
     alloc: Global,
     plan: &Plan,
-    keys: &[Vector<'_>],
-    list: &[i64],
-    more_keys: &[Vector<'_>],
-    more: &[i64],
+    first: &Part<'_>,
+    more: &Part<'_>,
 ) -> Result<String, AllocError>
     requires sum { map (λ a. a.kind) plan.now.aggs ≡ Sum ∷ [] }
-    requires few { length list.now ≤ 1000 }
-    requires few_more { length more.now ≤ 1000 }
-    requires keys { AreLanesOf (length list.now) keys.now }
-    requires more_keys { AreLanesOf (length more.now) more_keys.now }
+    requires few { length first.now.list.now ≤ 1000 }
+    requires few_more { length more.now.list.now ≤ 1000 }
+    requires keys { AreLanesOf (length first.now.list.now) first.now.keys.now }
+    requires more_keys { AreLanesOf (length more.now.list.now) more.now.keys.now }
 {
-    let table = table_of(alloc, plan, keys, list)?;
-    let arguments = [vector_of(alloc, more, more.len())?];
-    let table = with_rows(alloc, table, more_keys, &arguments, more.len())?;
+    let table = table_of(alloc, plan, first.keys, first.list)?;
+    let arguments = [vector_of(alloc, more.list, more.list.len())?];
+    let table = with_rows(alloc, table, more.keys, &arguments, more.list.len())?;
     let groups = table.into_groups(alloc)?;
     told(alloc, groups.as_slice())
 }
@@ -141,19 +146,17 @@ fn told_of_both(
 fn expect_both(
     rt: &impl Abort,
     alloc: Global,
-    keys: &[Vector<'_>],
-    list: &[i64],
-    more_keys: &[Vector<'_>],
-    more: &[i64],
+    first: &Part<'_>,
+    more: &Part<'_>,
     want: &str,
 ) -> Result<(), AllocError>
-    requires few { length list.now ≤ 1000 }
-    requires few_more { length more.now ≤ 1000 }
-    requires keys { AreLanesOf (length list.now) keys.now }
-    requires more_keys { AreLanesOf (length more.now) more_keys.now }
+    requires few { length first.now.list.now ≤ 1000 }
+    requires few_more { length more.now.list.now ≤ 1000 }
+    requires keys { AreLanesOf (length first.now.list.now) first.now.keys.now }
+    requires more_keys { AreLanesOf (length more.now.list.now) more.now.keys.now }
 {
     let plan = sum_by(alloc, 1)?;
-    let told = told_of_both(alloc, &plan, keys, list, more_keys, more);
+    let told = told_of_both(alloc, &plan, first, more);
     drop(plan);
     assert_eq!(rt; told?.as_str(), want);
     Ok(())
@@ -166,7 +169,8 @@ type Rows = (&'static [i64], &'static [i64]);
 type Both = (Rows, Rows, &'static str);
 
 const BOTH: &[Both] = &[
-    // The first are close to each other, so they have places in a table of their own; those with a mask are hashed.
+    // The first are close to each other, so they have places in a table of their own; those with a
+    // mask are hashed.
     (
         (&[5, 6, 5], &[1, 2, 4]),
         (&[6, NULL, 7, 6], &[8, 16, 32, 64]),
@@ -234,8 +238,13 @@ fn expect_both_ways(rt: &impl Abort, alloc: Global, case: &Both) -> Result<(), A
     }
     let bare = [plain(keys)];
     let masked = [vector_of(alloc, more_keys, more.len())?];
-    expect_both(rt, alloc, &bare, list, &masked, more, want)?;
-    expect_both(rt, alloc, &masked, more, &bare, list, want)
+    let bare = Part { keys: &bare, list };
+    let masked = Part {
+        keys: &masked,
+        list: more,
+    };
+    expect_both(rt, alloc, &bare, &masked, want)?;
+    expect_both(rt, alloc, &masked, &bare, want)
 }
 
 #[test]
@@ -301,7 +310,8 @@ fn with_groups_of(
     requires shape { table.shape ≡ shape_of plan.now }
     requires few { table.rows ≤ 100000 }
     requires handed { table.handed ≤ 1000 }
-    ensures { IfOk result (λ t. (t.shape ≡ table.shape) × (t.rows ≤ table.rows + 1000) × (t.handed ≤ table.handed + 1000)) }
+    ensures { IfOk result (λ t. (t.shape ≡ table.shape) × (t.rows ≤ table.rows + 1000)
+        × (t.handed ≤ table.handed + 1000)) }
 {
     let other = table_by(alloc, plan, rows)?;
     let groups = other.into_groups(alloc)?;

@@ -13,8 +13,8 @@ use Rattle.meaning.specs.Said.{Body}
 use Rattle.meaning.specs.Said.{Cell}
 use Rattle.meaning.specs.declared.answer.Cell.TheVariants.{Nothing, One, Conflict}
 use Rattle.meaning.specs.declared.plan.Plan.{Plan}
-use Rattle.meaning.proofs.Cuts.{part-all}
-use Rattle.meaning.proofs.Headline.{report-own}
+use Rattle.meaning_laws.proofs.Cuts.{part-all}
+use Rattle.meaning_laws.proofs.Headline.{report-own}
 use Rattle.jobs.specs.Gathering.{Taking, answer, cell_among, cell_in, gathered}
 use Rattle.jobs.proofs.SameFiles.{said_already}
 

@@ -5,7 +5,7 @@ use Rattle.meaning.specs.Cut.{Cut}
 use Rattle.meaning.specs.Gather.{join_cells, report}
 use Rattle.meaning.specs.Print.{report_text}
 use Rattle.meaning.specs.Said.{Cell}
-use Rattle.meaning.proofs.Cells.{join_cells-assoc, join_cells-comm, join_cells_same}
+use Rattle.meaning_laws.proofs.Cells.{join_cells-assoc, join_cells-comm, join_cells_same}
 use Rattle.partial_codec.specs.Job.{JobSpec}
 use Rattle.partial_codec.specs.State.{state_bytes}
 use Rattle.jobs.specs.Gathering.{Taking, cell_among, cell_in, gathered}

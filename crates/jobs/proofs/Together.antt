@@ -9,7 +9,7 @@ use Rattle.meaning.specs.Gather.{join_cells}
 use Rattle.meaning.specs.Said.{Answer}
 use Rattle.meaning.specs.Said.{Cell}
 use Rattle.meaning.specs.declared.answer.Cell.TheVariants.{Nothing, One, Conflict}
-use Rattle.meaning.proofs.Cells.{join_cells-assoc}
+use Rattle.meaning_laws.proofs.Cells.{join_cells-assoc}
 use Rattle.meaning.proofs.Tests.{first_of}
 use Rattle.partial_codec.specs.Answer.{Fits}
 use Rattle.partial_codec.specs.Job.{JobSpec}

@@ -1,6 +1,6 @@
 -- The job of a query over what lies in a folder, and why there is none.
 use Rattle.std.specs.Prelude.{◌≡◌, ◌≢◌, ◌⊎◌, ℕ, List, Ok, Err}
-use Rattle.meaning.specs.CatalogText.{catalog_of}
+use Rattle.catalog_reader.specs.CatalogText.{catalog_of}
 use Rattle.meaning.specs.Cut.{Cut}
 use Rattle.meaning.specs.declared.catalog.Catalog.{Catalog}
 use Rattle.meaning.specs.declared.catalog.CatalogFault.{CatalogFault}

@@ -7,6 +7,7 @@ ghost use Rattle.partial_codec.specs.Job.{IsPlanOfJob};
 ghost use Rattle.whole_query.specs.Whole.{IsPlanned};
 ghost use Rattle.jobs.specs.Job.{IsCatalogRefused, IsCatalogThere, IsCutRefused, IsCutThere, IsJobOf, IsJobOver, IsJobRefused, IsQueryRefused, IsRefusedOver};
 
+use catalog_reader::read_catalog::read_catalog;
 use folders::files::{read_catalog_file, read_file};
 use folders::paths::cut_path;
 use folders::{Folder, Refusal, refusal_of};
@@ -14,7 +15,6 @@ use fragment_file::read_cut;
 use meaning::catalog::Catalog;
 use meaning::cut::Cut;
 use meaning::plan::Plan;
-use meaning::read_catalog::read_catalog;
 use partial_codec::Job;
 use std::alloc::Global;
 use std::mem::drop;

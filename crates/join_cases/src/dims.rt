@@ -1,4 +1,5 @@
-//! A dimension that the lines of a case spell: its keys at place 4, and where they are spelled integers at 2 and texts at 7.
+//! A dimension that the lines of a case spell: its keys at place 4, and where they are spelled
+//! integers at 2 and texts at 7.
 ghost use Rattle.std.specs.Prelude.{◌≡◌, length, true, All, option_map};
 ghost use Rattle.hash_join.specs.Dim.{IsDim, column_at};
 

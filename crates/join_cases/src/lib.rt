@@ -8,7 +8,8 @@ mod words;
 
 use std::alloc::{AllocError, Global};
 
-/// What comes of a dimension whose keys have the type that the words name, and of the lookups in it.
+/// What comes of a dimension whose keys have the type that the words name, and of the lookups in
+/// it.
 pub fn tell(alloc: Global, words: &[&str], body: &str) -> Result<String, AllocError> {
     let is_text = match words {
         [name] => *name == "text",

@@ -1,6 +1,7 @@
 //! Lookups in a dimension.
 use crate::lanes::{Cells, repeated, truths};
 use crate::words::{Steps, steps_of};
+use case_files::lanes::{tell_int, tell_text};
 use hash_join::DimTable;
 use std::alloc::{AllocError, Global};
 use std::fmt::Write;
@@ -86,20 +87,6 @@ fn tell_lane(told: &mut String, lanes: &Vector<'_>, lane: usize) -> Result<(), A
         Vector::Ints(ints) if lane < ints.len() => tell_int(told, ints.get(lane)),
         Vector::Texts(texts) if lane < texts.len() => tell_text(told, texts.get(lane)),
         _ => told.push_str(" (no lane)"),
-    }
-}
-
-fn tell_int(told: &mut String, int: Option<i64>) -> Result<(), AllocError> {
-    match int {
-        None => told.push_str(" \\N"),
-        Some(int) => write!(told, " {int}"),
-    }
-}
-
-fn tell_text(told: &mut String, text: Option<&[u8]>) -> Result<(), AllocError> {
-    match text {
-        None => told.push_str(" \\N"),
-        Some(text) => write!(told, " '{}'", std::str::from_utf8(text).unwrap_or("?")),
     }
 }
 

@@ -1,4 +1,5 @@
-//! Arithmetic, with NULL lanes and faults; and the three-valued operators, whose words stand in the same place.
+//! Arithmetic, with NULL lanes and faults; and the three-valued operators, whose words stand in the
+//! same place.
 ghost use Rattle.std.specs.Prelude.{◌≡◌, IfOk};
 
 use crate::lines::{Lines, first_word, int_of, is_null, lines_of, second_word};
@@ -93,7 +94,8 @@ fn tell_first(
     }
 }
 
-/// The results of an operator, NULL where an operand is, or its fault; then the first lane that has one.
+/// The results of an operator, NULL where an operand is, or its fault; then the first lane that has
+/// one.
 pub fn tell(
     alloc: Global,
     told: &mut String,

@@ -2,6 +2,7 @@
 use crate::lines::{Lines, lines_of};
 use crate::tests::{first_ints, first_nulls};
 use crate::texts::second_texts;
+use case_files::lanes::{tell_int, tell_text};
 use std::alloc::{AllocError, Global};
 use std::fmt::Write;
 use std::mem::drop;
@@ -10,20 +11,6 @@ use vectors::ints::{IntCells, Ints};
 use vectors::nulls::Nulls;
 use vectors::texts::{TextCells, Texts};
 use vectors::vector::Vector;
-
-fn tell_int(told: &mut String, int: Option<i64>) -> Result<(), AllocError> {
-    match int {
-        None => told.push_str(" \\N"),
-        Some(int) => write!(told, " {int}"),
-    }
-}
-
-fn tell_text(told: &mut String, text: Option<&[u8]>) -> Result<(), AllocError> {
-    match text {
-        None => told.push_str(" \\N"),
-        Some(text) => write!(told, " '{}'", std::str::from_utf8(text).unwrap_or("?")),
-    }
-}
 
 fn tell_column(told: &mut String, batch: &Batch<'_>, place: Place) -> Result<(), AllocError> {
     match batch.column(place) {
@@ -73,7 +60,8 @@ fn tell_batch(told: &mut String, batch: &Batch<'_>) -> Result<(), AllocError> {
     tell_column(told, batch, Place::Key { key: 0 })
 }
 
-/// The fact's columns 0, of integers, and 3, of texts, in all eight lanes; then a column that isn't there.
+/// The fact's columns 0, of integers, and 3, of texts, in all eight lanes; then a column that isn't
+/// there.
 pub fn tell(alloc: Global, told: &mut String, body: &str) -> Result<(), AllocError> {
     let Lines { lines, .. } = lines_of(body);
     let ints = first_ints(&lines);

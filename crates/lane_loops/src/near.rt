@@ -187,7 +187,8 @@ fn operate_to_by(op: ArithmeticOperator, left: &[i64], right: &i64, out: &mut [i
     requires { length left.now ≡ length out.old }
     ensures long { length out.new ≡ length out.old }
     ensures near { result ≡ false
-        → AreResults op (length out.old) (length out.old) (int_at left.now) (λ _. right.now) out.new }
+        → AreResults op (length out.old) (length out.old) (int_at left.now)
+        (λ _. right.now) out.new }
 {
     let mut bits = 0;
     for i in 0..out.len() {
@@ -201,7 +202,8 @@ pub fn operate_near_to(op: ArithmeticOperator, left: &[i64], right: &i64, out: &
     requires { length left.now ≡ length out.old }
     ensures long { length out.new ≡ length out.old }
     ensures near { result ≡ false
-        → AreResults op (length out.old) (length out.old) (int_at left.now) (λ _. right.now) out.new }
+        → AreResults op (length out.old) (length out.old) (int_at left.now)
+        (λ _. right.now) out.new }
 {
     // A copy that no write to `out` can touch.
     let right = *right;
@@ -248,7 +250,8 @@ fn operate_from_by(op: ArithmeticOperator, left: &i64, right: &[i64], out: &mut 
     requires { length right.now ≡ length out.old }
     ensures long { length out.new ≡ length out.old }
     ensures near { result ≡ false
-        → AreResults op (length out.old) (length out.old) (λ _. left.now) (int_at right.now) out.new }
+        → AreResults op (length out.old) (length out.old) (λ _. left.now)
+        (int_at right.now) out.new }
 {
     let mut bits = 0;
     for i in 0..out.len() {
@@ -262,7 +265,8 @@ pub fn operate_near_from(op: ArithmeticOperator, left: &i64, right: &[i64], out:
     requires { length right.now ≡ length out.old }
     ensures long { length out.new ≡ length out.old }
     ensures near { result ≡ false
-        → AreResults op (length out.old) (length out.old) (λ _. left.now) (int_at right.now) out.new }
+        → AreResults op (length out.old) (length out.old) (λ _. left.now)
+        (int_at right.now) out.new }
 {
     let left = *left;
     match op {

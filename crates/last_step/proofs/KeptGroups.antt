@@ -1,9 +1,9 @@
 -- HAVING and the items over vectors.
-use Rattle.std.proofs.Common.{◌≡◌, ◌≢◌, ℕ, zero, suc, ◌+◌, ◌<◌, ◌≤◌, ◌⊎◌, inl, inr, eqb, Bool, true, false, cond, ◌&&◌, ◌||◌, List, [], ◌∷◌, ◌++◌, get_or, map, filter, take, drop, length, None, Some, Ok, Err, refl, ap, sym, subst, ◌∙◌, arith}
+use Rattle.std.proofs.Common.{◌≡◌, ◌≢◌, ℕ, zero, suc, ◌+◌, ◌<◌, inl, inr, eqb, Bool, true, false, ◌&&◌, ◌||◌, List, [], ◌∷◌, ◌++◌, get_or, map, filter, take, drop, length, None, Some, Ok, Err, refl, ap, sym, subst, ◌∙◌, arith}
 use Rattle.std.specs.Prelude.{All, Option, Result, IfSome, option_to_list}
 use Rattle.std.specs.List.{AllByRecursion, range_with_len}
-use Rattle.std.proofs.lemmas.Bool.{eqb-true, eqb-false, false≢true}
-use Rattle.std.proofs.lemmas.List.{length-map, map-append, map_push, take-append-drop, take_more, drop_more}
+use Rattle.std.proofs.lemmas.Bool.{eqb-true, false≢true}
+use Rattle.std.proofs.lemmas.List.{map-append, map_push, take-append-drop, take_more, drop_more}
 use Rattle.std.proofs.lemmas.List.Elements.{All-from_recursion, recursion_from_All}
 use Rattle.meaning.specs.declared.expr.Expr.{Expr}
 use Rattle.meaning.specs.declared.joined_row.JoinedRow.{JoinedRow}
@@ -19,54 +19,25 @@ use Rattle.meaning.specs.declared.value.Value.{Value}
 use Rattle.meaning.specs.declared.value.Value.TheVariants.{Null}
 use Rattle.meaning.specs.Expr.{eval, values, with_value}
 use Rattle.meaning.specs.Finish.{behind_having, rows_behind, shown}
-use Rattle.meaning.specs.Operators.{code_of, truth_of, value_of}
+use Rattle.meaning.specs.Operators.{code_of, value_of}
 use Rattle.meaning.specs.Order.{Row}
 use Rattle.meaning.specs.Results.{and_then}
 use Rattle.meaning.specs.Truth.{is_true}
 use Rattle.meaning.specs.Typing.{ExprType, RowTypes, Valued, Boolean, group_types}
-use Rattle.accumulators.specs.Values.{values_of}
 use Rattle.vectors.specs.Selection.{IsSelection, Positions, all_below, is_among}
-use Rattle.vectors.specs.Vector.{BatchSpec, outcomes_of}
+use Rattle.vectors.specs.Vector.{BatchSpec, outcomes_of, values_of}
 use Rattle.vectors.specs.declared.vector.Vector.{Vector}
 use Rattle.vectors.specs.declared.vector.Vector.TheVariants as vector
-use Rattle.vector_operators.specs.Evaluated.{Evaluates, Finds, Held, IsBefore, lane_of}
-use Rattle.vector_operators.specs.Given.{IsOfType, is_true_lane, type_of_lanes}
+use Rattle.vectors.proofs.Ascending.{among_filter, among_range}
+use Rattle.vector_operators.specs.Evaluated.{Evaluates, Held, IsBefore, lane_of}
+use Rattle.vector_operators.specs.Given.{IsOfType, is_true_lane}
 use Rattle.vector_operators.proofs.Composes.{before_old}
+use Rattle.vector_operators.proofs.LaneValues.{lane_sound, lane_value, values_long}
 use Rattle.primitives.specs.Fitting.{AreTypedRows, Fits}
 use Rattle.primitives.specs.Meant.{meant_at, row_at}
 use Rattle.last_step.specs.Batches.{IsBatchOf, Keeps, Shows, lane_row}
 
 -- ---- lanes
-
-value_there : (vs : List Value) (i : ℕ) → value_of (get_or (map {A = Value} {B = Outcome} gives.Value vs) i (gives.Value Null)) ≡ get_or vs i Null
-value_there [] i = refl
-value_there (v ∷ vs) zero = refl
-value_there (v ∷ vs) (suc i) = value_there vs i
-
-no_value_there : (ts : List Truth) (i : ℕ) → value_of (get_or (map {A = Truth} {B = Outcome} gives.Truth ts) i (gives.Value Null)) ≡ Null
-no_value_there [] i = refl
-no_value_there (t ∷ ts) zero = refl
-no_value_there (t ∷ ts) (suc i) = no_value_there ts i
-
-pub lane_value : (v : Vector) (i : ℕ) → value_of (lane_of v i) ≡ get_or (values_of v) i Null
-lane_value (vector.Ints lanes) i = value_there lanes i
-lane_value (vector.Texts lanes) i = value_there lanes i
-lane_value (vector.Truths lanes) i = no_value_there lanes i
-
-value_sound : (vs : List Value) (p : ℕ) (f : Fault) → get_or (map {A = Value} {B = Outcome} gives.Value vs) p (gives.Value Null) ≢ gives.Fault f
-value_sound [] p f e = cc
-value_sound (v ∷ vs) zero f e = cc
-value_sound (v ∷ vs) (suc p) f e = value_sound vs p f e
-
-truth_sound : (ts : List Truth) (p : ℕ) (f : Fault) → get_or (map {A = Truth} {B = Outcome} gives.Truth ts) p (gives.Value Null) ≢ gives.Fault f
-truth_sound [] p f e = cc
-truth_sound (t ∷ ts) zero f e = cc
-truth_sound (t ∷ ts) (suc p) f e = truth_sound ts p f e
-
-pub lane_sound : (v : Vector) (p : ℕ) (f : Fault) → lane_of v p ≢ gives.Fault f
-lane_sound (vector.Ints lanes) p f e = value_sound lanes p f e
-lane_sound (vector.Texts lanes) p f e = value_sound lanes p f e
-lane_sound (vector.Truths lanes) p f e = truth_sound lanes p f e
 
 pub value_not_true : (vs : List Value) (p : ℕ) → is_true_lane (get_or (map {A = Value} {B = Outcome} gives.Value vs) p (gives.Value Null)) ≡ false
 value_not_true [] p = refl
@@ -78,34 +49,7 @@ truth_true [] p = refl
 truth_true (t ∷ ts) zero = refl
 truth_true (t ∷ ts) (suc p) = truth_true ts p
 
--- the lanes of values are as many as the lanes
-pub values_long : (kind : ColType) (v : Vector) → IsOfType (Valued kind) v → length (values_of v) ≡ length (outcomes_of v)
-values_long kind (vector.Ints lanes) is = sym (length-map lanes gives.Value)
-values_long kind (vector.Texts lanes) is = sym (length-map lanes gives.Value)
-values_long kind (vector.Truths lanes) is = elim is [
-  | inl e ↦ absurd cc
-  | inr all ↦ none lanes (recursion_from_All (λ lane. lane ≡ gives.Value Null) (map gives.Truth lanes) all.1)
-]
-  where
-    none : (ts : List Truth) → AllByRecursion (λ lane. lane ≡ gives.Value Null) (map gives.Truth ts) → 0 ≡ length (map {A = Truth} {B = Outcome} gives.Truth ts)
-    none [] all = refl
-    none (t ∷ ts) all = absurd (let e = all.0 in cc)
-
 -- ---- a condition
-
-among_filter : (f : ℕ → Bool) (xs : List ℕ) (i : ℕ) → is_among (filter f xs) i ≡ (is_among xs i && f i)
-among_filter f [] i = refl
-among_filter f (x ∷ xs) i = of_head (f x) refl (eqb x i) refl (among_filter f xs i)
-  where
-    and_false : (a : Bool) → (a && false) ≡ false
-    and_false true = refl
-    and_false false = refl
-
-    of_head : (k : Bool) → f x ≡ k → (b : Bool) → eqb x i ≡ b → is_among (filter f xs) i ≡ (is_among xs i && f i) → is_among (cond (f x) (x ∷ filter f xs) (filter f xs)) i ≡ ((eqb x i || is_among xs i) && f i)
-    of_head true k true b rest = let here : f i ≡ true = ap f (sym (eqb-true x i b)) ∙ k in rw (k, b, here) refl
-    of_head true k false b rest = rw (k, b) rest
-    of_head false k true b rest = let here : f i ≡ false = ap f (sym (eqb-true x i b)) ∙ k in rw (k, b) (rest ∙ ap (λ (c : Bool). is_among xs i && c) here ∙ and_false (is_among xs i) ∙ sym here)
-    of_head false k false b rest = rw (k, b) rest
 
 left_true : (a b : Bool) → (a && b) ≡ true → a ≡ true
 left_true true b e = refl
@@ -150,14 +94,6 @@ drops (gives.Truth True) rest e sound = absurd cc
 drops (gives.Truth Unknown) rest e sound = refl
 drops (gives.Truth False) rest e sound = refl
 drops (gives.Value v) rest e sound = refl
-
-among_range : (a n i : ℕ) → a ≤ i → i < a + n → is_among (range_with_len a n) i ≡ true
-among_range a zero i low high = absurd (omega (arith, low, high))
-among_range a (suc n) i low high =
-    elim (eqb a i) as (λ b. eqb a i ≡ b → (b || is_among (range_with_len (a + 1) n) i) ≡ true) [
-      | true ↦ λ e. refl
-      | false ↦ λ e. let apart = eqb-false a i e in among_range (a + 1) n i (omega (arith, low, apart)) (omega (arith, high))
-    ] refl
 
 among_within : (a n i : ℕ) → is_among (range_with_len a n) i ≡ true → i < a + n
 among_within a zero i among = absurd cc

@@ -1,13 +1,10 @@
 -- The rows that a batch shows, read off vectors.
-use Rattle.std.proofs.Common.{◌≡◌, ℕ, zero, suc, ◌+◌, ◌<◌, ◌≤◌, eqb, Bool, true, false, cond, ◌||◌, List, [], ◌∷◌, ◌++◌, get_or, map, filter, take, length, None, Some, Ok, Err, refl, ap, sym, subst, ◌∙◌, arith, append-nil}
-use Rattle.std.specs.Prelude.{All, IfSome, Option, Result, if◌then◌else◌}
-use Rattle.std.specs.List.{AllByRecursion, range_with_len}
-use Rattle.std.specs.List.Sorted.{IsStrictlyIncreasing}
-use Rattle.std.specs.Str.{is_utf8}
-use Rattle.std.proofs.lemmas.Bool.{eqb-true, eqb-false, and_parts, eq-eqb, ne_eqb}
+use Rattle.std.proofs.Common.{◌≡◌, ℕ, zero, suc, ◌+◌, ◌<◌, eqb, Bool, true, false, ◌||◌, List, [], ◌∷◌, ◌++◌, get_or, map, length, None, Some, Ok, Err, refl, ap, sym, subst, ◌∙◌, arith}
+use Rattle.std.specs.Prelude.{All, IfSome, Result, if◌then◌else◌}
+use Rattle.std.specs.List.{AllByRecursion}
+use Rattle.std.proofs.lemmas.Bool.{eqb-true, eqb-false, eq-eqb, ne_eqb}
 use Rattle.std.proofs.lemmas.List.{take_all}
 use Rattle.std.proofs.lemmas.List.Elements.{All-from_recursion, recursion_from_All}
-use Rattle.meaning.specs.declared.expr.Expr.{Expr}
 use Rattle.meaning.specs.declared.joined_row.JoinedRow.{JoinedRow}
 use Rattle.meaning.specs.declared.outcome.Fault.{Fault}
 use Rattle.meaning.specs.declared.outcome.Outcome.{Outcome}
@@ -15,21 +12,21 @@ use Rattle.meaning.specs.declared.outcome.Outcome.TheVariants as gives
 use Rattle.meaning.specs.declared.plan.Item.{Item}
 use Rattle.meaning.specs.declared.plan.Plan.{Plan}
 use Rattle.meaning.specs.declared.value.ColType.{ColType}
-use Rattle.meaning.specs.declared.value.ColType.TheVariants as of_type
 use Rattle.meaning.specs.declared.value.Value.{Value}
-use Rattle.meaning.specs.declared.value.Value.TheVariants.{Null, Int, Text}
+use Rattle.meaning.specs.declared.value.Value.TheVariants.{Null}
 use Rattle.meaning.specs.Expr.{eval, values, with_value}
 use Rattle.meaning.specs.Finish.{all_rows, shown}
-use Rattle.meaning.specs.Limits.{max_text_bytes}
 use Rattle.meaning.specs.Operators.{code_of}
 use Rattle.meaning.specs.Order.{Row}
 use Rattle.meaning.specs.Results.{all_ok, and_then, with_result}
-use Rattle.meaning.specs.Typing.{RowTypes, Valued, fits_row_types, gives_expr_type, group_types, has_type, is_of_type}
+use Rattle.meaning.specs.Typing.{RowTypes, Valued, fits_row_types, gives_expr_type, group_types, has_type}
 use Rattle.meaning.proofs.Typed.{typed}
-use Rattle.accumulators.specs.Values.{is_spelled, values_of}
+use Rattle.accumulators.specs.Values.{is_spelled}
+use Rattle.accumulators.proofs.Spelled.{spelled_of_type}
 use Rattle.vectors.specs.Selection.{IsSelection, Positions, is_among}
-use Rattle.vectors.specs.Vector.{BatchSpec}
+use Rattle.vectors.specs.Vector.{BatchSpec, values_of}
 use Rattle.vectors.specs.declared.vector.Vector.{Vector}
+use Rattle.vectors.proofs.Ascending.{Ascends, among_below, ascends, moved}
 use Rattle.vector_operators.specs.Evaluated.{Held, IsBefore}
 use Rattle.vector_operators.specs.declared.fault.Faulted.{Faulted}
 use Rattle.primitives.specs.Fitting.{Fits}
@@ -38,12 +35,6 @@ use Rattle.last_step.proofs.KeptGroups.{selected_below}
 use Rattle.last_step.specs.Batches.{AreReadable, IsBatchOf, Shows, lane_row, shown_after}
 
 -- ---- texts are UTF-8
-
-spelled_of_type : (kind : ColType) (v : Value) → is_of_type kind v ≡ true → is_spelled v ≡ true
-spelled_of_type kind Null e = refl
-spelled_of_type kind (Int n) e = refl
-spelled_of_type of_type.Int (Text t) e = absurd cc
-spelled_of_type of_type.Text (Text t) e = (and_parts (is_utf8 t) _ e).0
 
 spelled_values : (types : RowTypes) (s : JoinedRow) → fits_row_types types s ≡ true → (items : List Item) (row : Row) → AllByRecursion (λ i. (kind : ColType) × (has_type types i.expr (Valued kind) ≡ true)) items
     → values (map (λ i. i.expr) items) s ≡ Ok row → AllByRecursion (λ v. is_spelled v ≡ true) row
@@ -69,27 +60,6 @@ typed_items : (plan : Plan) (rows : List JoinedRow) (b : BatchSpec) → (items :
     → AllByRecursion (λ i. (kind : ColType) × (has_type (group_types plan) i.expr (Valued kind) ≡ true)) items
 typed_items plan rows b [] all = tt
 typed_items plan rows b (i ∷ items) all = ((all.0.0, all.0.1.typed), typed_items plan rows b items all.1)
-
--- ---- positions
-
-abbrev Ascends : ℕ → List ℕ → Type 0
-Ascends a [] = Unit {0}
-Ascends a (p ∷ ps) = (a ≤ p) × Ascends (suc p) ps
-
-ascends_from : (a p : ℕ) (ps : List ℕ) → IsStrictlyIncreasing (p ∷ ps) → a ≤ p → Ascends a (p ∷ ps)
-ascends_from a p [] ascending low = (low, tt)
-ascends_from a p (q ∷ ps) ascending low = (low, ascends_from (suc p) q ps (λ k lt. let e : suc k + 1 ≡ suc (k + 1) = omega arith in rw e at (ascending (suc k) (omega (arith, lt)))) (let h : p < q = ascending 0 (omega arith) in omega (arith, h)))
-
-ascends : (ps : List ℕ) → IsStrictlyIncreasing ps → Ascends 0 ps
-ascends [] ascending = tt
-ascends (p ∷ ps) ascending = ascends_from 0 p ps ascending (omega arith)
-
-among_below : (a : ℕ) (ps : List ℕ) (i : ℕ) → Ascends a ps → i < a → is_among ps i ≡ false
-among_below a [] i up below = refl
-among_below a (p ∷ ps) i up below =
-    let low = up.0 in
-    let apart : eqb p i ≡ false = ne_eqb p i (λ e. omega (arith, e, low, below)) in
-    rw apart (among_below (suc p) ps i up.1 (omega (arith, low, below)))
 
 -- ---- what all rows show
 
@@ -138,10 +108,6 @@ module _ (plan : Plan) (lanes : ℕ → Row) where
             let here : shown plan r ≡ Ok [] = are.0 ∙ ap (λ (b : Bool). Ok (if b then lanes a ∷ [] else [])) none in
             one (shown plan r) (judged rows) [] (map lanes (p ∷ ps)) here (gathered (a + 1) (p ∷ ps) rows up' (moved a (length rows) (p ∷ ps) within) are.1)
       ] refl
-    where
-      moved : (a n : ℕ) (qs : List ℕ) → AllByRecursion (λ p. p < a + suc n) qs → AllByRecursion (λ p. p < a + 1 + n) qs
-      moved a n [] all = tt
-      moved a n (q ∷ qs) all = (let h = all.0 in omega (arith, h), moved a n qs all.1)
 
   -- pointwise
   from_each : (a : ℕ) (ps : List ℕ) (rows all : List JoinedRow) → ((i : ℕ) → i < length rows → row_at all (a + i) ≡ row_at rows i)

@@ -1,11 +1,8 @@
 -- Groups batch by batch: their aggregates, and what HAVING and the items give over vectors.
-use Rattle.std.specs.Prelude.{◌≡◌, ◌≢◌, ◌⊎◌, ℕ, ◌<◌, ◌≤◌, Bool, true, false, List, [], ◌∷◌, ◌++◌, map, length, take, get_or, option_to_list, Option, Some, None, Result, Ok, Err, All, IfSome, ⊤}
+use Rattle.std.specs.Prelude.{◌≡◌, ◌≢◌, ◌⊎◌, ℕ, ◌<◌, ◌≤◌, Bool, true, false, List, [], ◌++◌, map, length, take, get_or, option_to_list, Option, Some, None, Result, Ok, Err, All, IfSome, ⊤}
 use Rattle.std.specs.List.{list_all}
 use Rattle.meaning.specs.declared.answer.Group.{Group}
-use Rattle.meaning.specs.declared.expr.Expr.{Expr}
 use Rattle.meaning.specs.declared.joined_row.JoinedRow.{JoinedRow}
-use Rattle.meaning.specs.declared.plan.Aggregate.{Aggregate}
-use Rattle.meaning.specs.declared.plan.Item.{Item}
 use Rattle.meaning.specs.declared.plan.Plan.{Plan}
 use Rattle.meaning.specs.declared.value.ColType.{ColType}
 use Rattle.meaning.specs.declared.value.Value.{Value}
@@ -25,9 +22,9 @@ use Rattle.meaning.specs.Operators.{code_of, fits_i64}
 use Rattle.meaning.specs.Order.{Row, column}
 use Rattle.meaning.specs.Results.{all_ok, and_then}
 use Rattle.meaning.specs.Typing.{Valued, Boolean, group_types}
-use Rattle.accumulators.specs.Values.{is_spelled, values_of}
-use Rattle.vectors.specs.Selection.{Positions, is_among}
-use Rattle.vectors.specs.Vector.{BatchSpec, IsColumnOf, outcomes_of}
+use Rattle.accumulators.specs.Values.{is_spelled}
+use Rattle.vectors.specs.Selection.{is_among}
+use Rattle.vectors.specs.Vector.{BatchSpec, IsColumnOf, outcomes_of, values_of}
 use Rattle.vectors.specs.declared.batch.BatchColumn.{BatchColumn}
 use Rattle.vectors.specs.declared.batch.Place.{Place}
 use Rattle.vectors.specs.declared.vector.Vector.{Vector}

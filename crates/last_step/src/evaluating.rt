@@ -2,8 +2,7 @@
 ghost use Rattle.std.specs.Prelude.{◌≡◌, ◌<◌, ◌^◌, [], None, List, length, filter, All, IfOk, OnOk};
 ghost use Rattle.meaning.specs.declared.joined_row.JoinedRow.{JoinedRow};
 ghost use Rattle.meaning.specs.Typing.{Boolean, RowTypes};
-ghost use Rattle.accumulators.specs.Values.{values_of};
-ghost use Rattle.vectors.specs.Vector.{outcomes_of};
+ghost use Rattle.vectors.specs.Vector.{outcomes_of, values_of};
 ghost use Rattle.vectors.specs.Selection.{IsSelection};
 ghost use Rattle.vector_operators.specs.Evaluated.{lane_of};
 ghost use Rattle.vector_operators.specs.Given.{is_true_lane};

@@ -43,7 +43,8 @@ fn rows_in_order(alloc: Global, plan: &Plan, runs: Vec<Run>) -> Result<Sequence<
 /// The rows, or the first fault.
 fn finish_groups(alloc: Global, plan: &Plan, groups: &[Group]) -> Result<Finished, AllocError>
     requires { AreGroupsOf plan.now groups.now }
-    ensures { IfOk result (λ f. meant f ≡ the.finish plan.now (map (read_off plan.now) groups.now)) }
+    ensures { IfOk result (λ f. meant f ≡ the.finish plan.now (map
+        (read_off plan.now) groups.now)) }
 {
     match runs_of(alloc, plan, groups) {
         Ok(runs) => Ok(Finished::Rows(rows_in_order(alloc, plan, runs)?)),

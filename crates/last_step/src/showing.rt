@@ -3,7 +3,8 @@ ghost use Rattle.std.specs.Prelude.{◌≡◌, ◌++◌, ◌<◌, ◌≤◌, ◌
 ghost use Rattle.meaning.specs.declared.joined_row.JoinedRow.{JoinedRow};
 ghost use Rattle.meaning.specs.declared.value.Value.TheVariants.{Null};
 ghost use Rattle.meaning.specs.Order.{Row as ARow};
-ghost use Rattle.accumulators.specs.Values.{is_spelled, values_of};
+ghost use Rattle.accumulators.specs.Values.{is_spelled};
+ghost use Rattle.vectors.specs.Vector.{values_of};
 ghost use Rattle.last_step.specs.Batches.{AreReadable, HasValues, IsBatchOf, ended, lane_row, shown_after};
 ghost use Rattle.last_step.specs.Fitting.{AreGroupsOf};
 ghost use Rattle.meaning.specs.Wanting.{TellsIfMemory};

@@ -33,7 +33,8 @@ pub struct Query {
 }
 
 fn above_two(alloc: Global, left: Expr) -> Result<Expr, AllocError>
-    ensures { IfOk result (λ e. e ≡ the_expr.Compare comparison.Greater left (the_expr.Literal (Int (pos 2)))) }
+    ensures { IfOk result (λ e. e ≡ the_expr.Compare comparison.Greater left (the_expr.Literal
+        (Int (pos 2)))) }
 {
     let left = Boxed::new(alloc, left)?;
     let right = Boxed::new(alloc, Expr::Literal(Value::Int(2)))?;
@@ -41,7 +42,8 @@ fn above_two(alloc: Global, left: Expr) -> Result<Expr, AllocError>
 }
 
 fn hundred_by_sum(alloc: Global) -> Result<Expr, AllocError>
-    ensures { IfOk result (λ e. e ≡ the_expr.Arithmetic arithmetic.Divide (the_expr.Literal (Int (pos 100))) (the_expr.Aggregate 0)) }
+    ensures { IfOk result (λ e. e ≡ the_expr.Arithmetic arithmetic.Divide (the_expr.Literal (Int
+        (pos 100))) (the_expr.Aggregate 0)) }
 {
     let left = Boxed::new(alloc, Expr::Literal(Value::Int(100)))?;
     let right = Boxed::new(alloc, Expr::Aggregate(0))?;
@@ -121,7 +123,8 @@ struct Lists {
 fn lists_of(alloc: Global, descending: Option<bool>) -> Result<Lists, AllocError>
     ensures keys { IfOk result (λ lists. AreKeys lists.keys) }
     ensures sums { IfOk result (λ lists. AreSums lists.aggs) }
-    ensures items { IfOk result (λ lists. map (λ i. i.expr) lists.items ≡ the_expr.Key 0 ∷ the_expr.Aggregate 0 ∷ []) }
+    ensures items { IfOk result (λ lists. map (λ i. i.expr) lists.items
+        ≡ the_expr.Key 0 ∷ the_expr.Aggregate 0 ∷ []) }
 {
     let keys = keys(alloc)?;
     let aggs = sums(alloc)?;

@@ -18,7 +18,7 @@ use Rattle.meaning.specs.Limits.{max_text_bytes}
 use Rattle.meaning.specs.Order.{Row, is_null}
 use Rattle.meaning.specs.Records.{Record, catalog_row, field_value, file_values, row_of, value_at}
 use Rattle.meaning.specs.Typing.{is_of_type}
-use Rattle.meaning.proofs.LoadedRows.{taken, front_ok}
+use Rattle.meaning_laws.proofs.LoadedRows.{taken, front_ok}
 use Rattle.meaning.proofs.Tests.{both}
 use Rattle.columns.specs.Column.{ColumnSpec, refusal}
 use Rattle.columns.specs.declared.fault.ColumnFault.TheVariants as fault

@@ -1,5 +1,5 @@
 //! One field: what it stands for in its column.
-ghost use Rattle.std.specs.Prelude.{◌≡◌, true, false, MatchOption, IfSome, Some, slice_get};
+ghost use Rattle.std.specs.Prelude.{◌≡◌, true, IfSome, Some};
 ghost use Rattle.std.specs.Str.{is_utf8};
 ghost use Rattle.meaning.specs.declared.value.ColType.TheVariants as of_type;
 ghost use Rattle.meaning.specs.Records as declared;
@@ -8,6 +8,7 @@ ghost use Rattle.loader.specs.Steps.{IsShortNumber, ReadsField};
 use meaning::catalog::Column;
 use meaning::limits::MAX_TEXT_BYTES;
 use meaning::table::TableFault;
+use meaning::text::text_of;
 use meaning::value::ColType;
 
 /// The most digits that surely stay within 64 bits.
@@ -19,17 +20,6 @@ pub enum Parsed {
     Null,
     Int(i64),
     Text,
-}
-
-/// The field as a text, if it is UTF-8.
-pub fn text_of(field: &[u8]) -> Option<&str>
-    ensures { MatchOption result (is_utf8 field.now ≡ false) (λ text. (is_utf8 field.now ≡ true)
-        × (text.now ≡ field.now)) }
-{
-    match std::str::from_utf8(field) {
-        Ok(text) => Some(text),
-        Err(_) => None,
-    }
 }
 
 #[inline(always)]

@@ -1,10 +1,8 @@
 //! Records judged one after the other and put into columns.
-ghost use Rattle.std.specs.Prelude.{◌≡◌, ◌-◌, slice_index_or, ◌++◌, [], ◌∷◌, ◌+◌, ◌<◌, ◌^◌, List, length, map, sum, ℕ, Some, Ok, Err, IfOk, IfErr, OnOk, true};
+ghost use Rattle.std.specs.Prelude.{◌≡◌, ◌-◌, slice_index_or, [], ◌+◌, ◌<◌, ◌^◌, List, length, map, ℕ, Some, Ok, Err, IfOk, IfErr, OnOk, true};
 ghost use Rattle.csv.specs.Records.{AllText, fields_of};
-ghost use Rattle.std.specs.Str.{is_utf8};
 ghost use Rattle.meaning.specs.declared.value.Value.TheVariants.{Null};
 ghost use Rattle.meaning.specs.declared.value.Value.TheVariants as of_value;
-ghost use Rattle.meaning.specs.Order.{value_in};
 ghost use Rattle.meaning.specs.Records.{Record};
 ghost use Rattle.meaning.specs.Records as records;
 ghost use Rattle.loader.specs.Columns.{AreDeclared, AreRowsOf, columns_of, no_rows, row_counts};
@@ -14,7 +12,7 @@ ghost use Rattle.loader.specs.Source.{IsLeft, csv_records};
 ghost use Rattle.loader.specs.Steps.{Opens, IsFaultOf, IsOrderOf, TakesAll, TakesTable, is_more, keyed_rows, TakesFragment, TakesNextRow, TakesRow, TakesRows};
 
 use crate::fault::LoadFault;
-use crate::field::{Parsed, text_of};
+use crate::field::Parsed;
 use crate::header::{FileOrder, field_at, order_of};
 use crate::in_order::take_fields;
 use crate::keys::Keys;
@@ -26,8 +24,8 @@ use csv::{ByteRecord, Reader};
 use meaning::catalog::Column as Declared;
 use meaning::sequence::Sequence;
 use meaning::table::TableFault;
-use meaning::text::Text;
-use meaning::value::{Value, ValueRef};
+use meaning::text::text_of;
+use meaning::value::Value;
 use std::alloc::{AllocError, Global};
 use std::io::Read;
 use std::mem::drop;
@@ -63,22 +61,6 @@ pub fn new_columns(
     no_columns(alloc, declared, rows.min(MOST_ROOM))
 }
 
-fn owned(alloc: Global, value: ValueRef<'_>) -> Result<Value, AllocError>
-    requires { (text : List ℕ) → value_in value ≡ of_value.Text text → is_utf8 text ≡ true }
-    ensures { IfOk result (λ v. v ≡ value_in value.entry) }
-{
-    match value {
-        ValueRef::Null => Ok(Value::Null),
-        ValueRef::Int(number) => Ok(Value::Int(number)),
-        ValueRef::Text(bytes) => {
-            let Some(text) = text_of(bytes) else {
-                unreachable!()
-            };
-            Ok(Value::Text(Text::new(alloc, text)?))
-        }
-    }
-}
-
 /// The value of the last row, and NULL where there is none.
 fn last_value(alloc: Global, column: &Column) -> Result<Value, AllocError>
     ensures { IfOk result (λ v. v
@@ -87,7 +69,7 @@ fn last_value(alloc: Global, column: &Column) -> Result<Value, AllocError>
     if column.len() == 0 {
         return Ok(Value::Null);
     }
-    owned(alloc, column.get(column.len() - 1))
+    column.get(column.len() - 1).to_value(alloc)
 }
 
 /// Judges a record of texts, and puts its row behind the last rows. `parsed` is room that is used
@@ -149,7 +131,8 @@ fn check_texts(
     requires { IsOrderOf declared.now order.now.columns.items }
     ensures texts { OnOk result (AllText (fields_of fields.now)) }
     ensures refused { IfErr result
-        (IsFaultOf (records.row_of declared.now order.now.columns.items row (fields_of fields.now))) }
+        (IsFaultOf (records.row_of declared.now order.now.columns.items row
+        (fields_of fields.now))) }
 {
     if is_ascii(fields) || is_each_text(fields) {
         return Ok(());

@@ -1,4 +1,4 @@
--- Laws on expressions and on conditions, each of them the contract of a function of `src/laws.rt`.
+-- Laws on expressions and on conditions, each of them the contract of a function of the crate `meaning_laws`.
 use Rattle.std.specs.Prelude.{◌≡◌, ◌↔◌, ℕ, ◌==◌, nat_eq, Bool, true, ◌||◌, not, List, [], ◌∷◌, ◌++◌, map, All, bytes_eq}
 use Rattle.std.specs.List.{list_all, starts_with, ends_with}
 use Rattle.std.specs.Str.{is_utf8}

@@ -7,9 +7,6 @@ pub mod Limits
 pub mod Cut
 pub mod Reserved
 pub mod Catalog
-pub mod CatalogLine
-pub mod CatalogTables
-pub mod CatalogText
 pub mod Joined
 pub mod Truth
 pub mod Like
@@ -30,9 +27,6 @@ pub mod Fitting
 pub mod Typing
 pub mod Dimensions
 pub mod Records
-pub mod Heard
-pub mod Running
-pub mod Laws
 pub mod ExpressionLaws
 pub mod TableLaws
 pub mod WellFormedPlan

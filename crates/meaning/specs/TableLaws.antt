@@ -1,4 +1,4 @@
--- Laws on tables that load, each of them the contract of a function of `src/laws.rt`.
+-- Laws on tables that load, each of them the contract of a function of the crate `meaning_laws`.
 use Rattle.std.specs.Prelude.{◌≡◌, ℕ, ◌<◌, Bool, true, false, ◌&&◌, ◌||◌, not, List, [], map, length, sum, zip, Option, Some, Ok, All, Contains}
 use Rattle.std.specs.List.{list_all}
 use Rattle.std.specs.Cmp.Lexicographic.{pointwise}

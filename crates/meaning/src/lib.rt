@@ -2,26 +2,20 @@
 //! answers combine.
 //!
 //! The types are plain data. Contracts see a `Text` as its bytes, a `Sequence` as its list and a
-//! `Boxed` as its part. `specs/` has the definitions, `laws` the theorems on them.
+//! `Boxed` as its part. `specs/` has the definitions, and `proofs/` lemmas on them that the crates
+//! above share. The theorems are the crate `meaning_laws`.
 #![tactic(auto)]
 
 pub mod answer;
 pub mod boxed;
 pub mod catalog;
-pub mod catalog_line;
-pub mod catalog_tables;
 pub mod cut;
-pub mod eval;
 pub mod expr;
 pub mod joined_row;
-pub mod laws;
-mod like;
 pub mod limits;
 pub mod name;
-mod operators;
 pub mod outcome;
 pub mod plan;
-pub mod read_catalog;
 pub mod reserved;
 pub mod sequence;
 pub mod table;

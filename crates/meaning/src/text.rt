@@ -1,6 +1,7 @@
 //! A `String` that contracts see as its bytes.
 
-ghost use Rattle.std.specs.Prelude.{◌≡◌, IfOk, string_bytes};
+ghost use Rattle.std.specs.Prelude.{◌≡◌, true, false, IfOk, MatchOption, string_bytes};
+ghost use Rattle.std.specs.Str.{is_utf8};
 
 use std::alloc::{AllocError, Global};
 use std::cmp::Ordering;
@@ -107,5 +108,16 @@ impl Ord for Text {
 
     fn cmp(&self, other: &Text) -> Ordering {
         self.as_str().cmp(other.as_str())
+    }
+}
+
+/// The bytes as a text, if they are UTF-8.
+pub fn text_of(bytes: &[u8]) -> Option<&str>
+    ensures { MatchOption result (is_utf8 bytes.now ≡ false) (λ text. (is_utf8 bytes.now ≡ true)
+        × (text.now ≡ bytes.now)) }
+{
+    match std::str::from_utf8(bytes) {
+        Ok(text) => Some(text),
+        Err(_) => None,
     }
 }

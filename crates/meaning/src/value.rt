@@ -1,10 +1,12 @@
 //! Values, their types, and their whole order.
 
-ghost use Rattle.std.specs.Prelude.{◌≡◌, IfOk};
+ghost use Rattle.std.specs.Prelude.{◌≡◌, ℕ, List, true, IfOk};
+ghost use Rattle.std.specs.Str.{is_utf8};
 ghost use Rattle.meaning.specs.Order.{value_cmp, value_in};
+ghost use Rattle.meaning.specs.declared.value.Value.TheVariants as of_value;
 
 use crate::sequence::Sequence;
-use crate::text::Text;
+use crate::text::{Text, text_of};
 use std::alloc::{AllocError, Global};
 use std::cmp::Ordering;
 
@@ -42,6 +44,25 @@ impl Value {
             Value::Null => ValueRef::Null,
             Value::Int(n) => ValueRef::Int(*n),
             Value::Text(text) => ValueRef::Text(text.as_bytes()),
+        }
+    }
+}
+
+impl<'a> ValueRef<'a> {
+    /// The same value, in memory of its own.
+    pub fn to_value(self, alloc: Global) -> Result<Value, AllocError>
+        requires { (text : List ℕ) → value_in self ≡ of_value.Text text → is_utf8 text ≡ true }
+        ensures { IfOk result (λ v. v ≡ value_in self.entry) }
+    {
+        match self {
+            ValueRef::Null => Ok(Value::Null),
+            ValueRef::Int(number) => Ok(Value::Int(number)),
+            ValueRef::Text(bytes) => {
+                let Some(text) = text_of(bytes) else {
+                    unreachable!()
+                };
+                Ok(Value::Text(Text::new(alloc, text)?))
+            }
         }
     }
 }

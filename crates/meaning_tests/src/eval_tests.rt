@@ -1,12 +1,12 @@
 //! Each node over NULL, faults and values.
 use meaning::boxed::Boxed;
-use meaning::eval::eval_row;
 use meaning::expr::{ArithmeticOperator, Arm, ComparisonOperator, Expr};
 use meaning::joined_row::JoinedRow;
 use meaning::outcome::{Outcome, Truth};
 use meaning::sequence::Sequence;
 use meaning::text::Text;
 use meaning::value::{Row, Value};
+use row_evaluation::eval::eval_row;
 use std::alloc::{AllocError, Global};
 use std::mem::drop;
 use std::process::Abort;

@@ -84,7 +84,8 @@ fn take_count(bytes: &[u8]) -> Result<(Statistics, &[u8]), DecodeFault>
 
 #[tactic(auto, unfolding(crate::specs::LayoutReading::state_at))]
 fn take_sum(bytes: &[u8]) -> Result<(Statistics, &[u8]), DecodeFault>
-    ensures read { Reads (λ x. (x.0, x.1.now)) result (reading.state_at AggregateKind.Sum bytes.now) }
+    ensures read { Reads (λ x. (x.0, x.1.now)) result (reading.state_at AggregateKind.Sum
+        bytes.now) }
     ensures keepable { IfOk result (λ x. IsKeepable x.0) }
 {
     let (count, rest) = take_u32(bytes)?;

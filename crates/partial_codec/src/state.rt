@@ -22,7 +22,8 @@ use wire::{SEAL_BYTES, append_seal, append_u8, check_seal, take_bytes};
 #[tactic(auto, unfolding(crate::specs::State::cell_bytes))]
 fn put_cell(out: &mut Vec<u8>, plan: &Plan, cell: &Cell<Group>) -> Result<(), AllocError>
     requires { IsCell (shape_of plan.now) cell.now }
-    ensures { OnOk result (out.new.items ≡ out.old.items ++ cell_bytes (shape_of plan.now) cell.now) }
+    ensures { OnOk result (out.new.items ≡ out.old.items ++ cell_bytes
+        (shape_of plan.now) cell.now) }
 {
     match cell {
         Cell::Nothing => append_u8(out, 0),

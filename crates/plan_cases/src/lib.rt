@@ -1,9 +1,9 @@
 //! Cases about plans.
 #![tactic(auto)]
 
+use catalog_reader::read_catalog::read_catalog;
 use meaning::catalog::Catalog;
 use meaning::plan::Plan;
-use meaning::read_catalog::read_catalog;
 use planner::plan;
 use sql_reader::read;
 use sql_reader::tree::Query;
@@ -41,8 +41,8 @@ fn query_line(alloc: Global, catalog: &Catalog, text: &str) -> Result<String, Al
     }
 }
 
-/// How many joins, other conditions, keys and aggregates the plan has of the query that the text is, over the catalogue
-/// that the bytes declare; or the number of the plan's refusal.
+/// How many joins, other conditions, keys and aggregates the plan has of the query that the text
+/// is, over the catalogue that the bytes declare; or the number of the plan's refusal.
 pub fn tell(alloc: Global, catalog: &[u8], text: &str) -> Result<String, AllocError> {
     match read_catalog(alloc, catalog) {
         Ok(catalog) => {

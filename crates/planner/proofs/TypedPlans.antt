@@ -17,7 +17,7 @@ use Rattle.meaning.specs.declared.plan.Join.{Join}
 use Rattle.meaning.specs.declared.plan.Plan.{Plan}
 use Rattle.meaning.specs.declared.value.ColType.TheVariants as of_type
 use Rattle.meaning.specs.declared.value.Value.TheVariants as value
-use Rattle.meaning.proofs.LoadedQueries.{loaded_tables}
+use Rattle.meaning_laws.proofs.LoadedQueries.{loaded_tables}
 use Rattle.meaning.proofs.Tests.{first_of as left_of, second_of as right_of, all_first, all_rest, all_append}
 use Rattle.sql_syntax.specs.Literals.{has_fitting_literals, has_only_fitting_literals}
 use Rattle.sql_syntax.specs.declared.tree.Aggregate as written

@@ -94,7 +94,8 @@ fn gather_all(
 ) -> Result<(), PlanFault>
     requires { out.old ≡ none_gathered }
     ensures { Tells (map_ok (λ _. out.new) result)
-        (and_then (limits_check scope.now query.now) (λ _. Ok (all_aggregates scope.now query.now))) }
+        (and_then (limits_check scope.now query.now) (λ _. Ok
+        (all_aggregates scope.now query.now))) }
 {
     match gather_items(alloc, scope, query.items.as_slice(), out) {
         Ok(()) => {}

@@ -9,7 +9,7 @@ ghost use Rattle.primitives.specs.Meant.{meant_at};
 ghost use Rattle.primitives.specs.Fitting.{AreTypedRows, Fits};
 ghost use Rattle.vector_operators.specs.Given.{IsOfType};
 
-use crate::nodes::eval;
+use crate::nodes::{Evaluation, eval};
 use meaning::expr::Expr;
 use std::alloc::{AllocError, Global};
 use vector_operators::fault::Fault1;
@@ -50,6 +50,7 @@ pub fn eval_vec<'a>(
     // That positions ascend below the number of rows.
     let _ = selection.len();
     let lanes = LaneSet::of(alloc, selection)?;
-    let given = eval(alloc, expr, batch, &lanes, fault)?;
+    let on = Evaluation { alloc, batch };
+    let given = eval(&on, expr, &lanes, fault)?;
     given.into_vector(alloc, batch.rows())
 }

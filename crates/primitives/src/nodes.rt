@@ -34,99 +34,106 @@ use vector_operators::logic::{
 };
 use vectors::batch::{Batch, Place};
 
+/// Where an expression is evaluated: over the rows of a batch, with memory for what it gives.
+#[derive(Clone, Copy)]
+pub struct Evaluation<'a> {
+    pub alloc: Global,
+    pub batch: &'a Batch<'a>,
+}
+
 /// What the expression gives, node by node.
 #[cycle(eval)]
 pub fn eval<'a>(
-    alloc: Global,
+    on: &Evaluation<'a>,
     expr: &'a Expr,
-    batch: &'a Batch<'_>,
     selection: &LaneSet,
     fault: &mut Fault1,
 ) -> Result<Given<'a>, AllocError>
-    requires { selection.now.below ≡ batch.now.rows }
-    ensures long { IfOk result (IsLong batch.now.rows) }
+    requires { selection.now.below ≡ on.now.batch.now.rows }
+    ensures long { IfOk result (IsLong on.now.batch.now.rows) }
     ensures gives { IfOk result (λ g. (types : RowTypes) (type : ExprType) (rows : List JoinedRow)
-        → AreTypedRows types batch.now rows → Fits types batch.now.columns expr.now type
+        → AreTypedRows types on.now.batch.now rows
+        → Fits types on.now.batch.now.columns expr.now type
         → Gives type (meant_at expr.now rows) (IsWithin selection.now) fault.old.held fault.new.held
         g) }
 {
     // A function clears room for all its locals when it begins, so columns and literals don't begin
     // that of the other nodes.
     match expr {
-        Expr::Column(column) => Ok(lent_column(batch, Place::Fact { column: *column })),
-        Expr::Literal(value) => Ok(repeated(value, batch.rows())),
-        _ => eval_node(alloc, expr, batch, selection, fault),
+        Expr::Column(column) => Ok(lent_column(on.batch, Place::Fact { column: *column })),
+        Expr::Literal(value) => Ok(repeated(value, on.batch.rows())),
+        _ => eval_node(on, expr, selection, fault),
     }
 }
 
 /// The same of any node.
 #[cycle(eval)]
 fn eval_node<'a>(
-    alloc: Global,
+    on: &Evaluation<'a>,
     expr: &'a Expr,
-    batch: &'a Batch<'_>,
     selection: &LaneSet,
     fault: &mut Fault1,
 ) -> Result<Given<'a>, AllocError>
-    requires { selection.now.below ≡ batch.now.rows }
-    ensures long { IfOk result (IsLong batch.now.rows) }
+    requires { selection.now.below ≡ on.now.batch.now.rows }
+    ensures long { IfOk result (IsLong on.now.batch.now.rows) }
     ensures gives { IfOk result (λ g. (types : RowTypes) (type : ExprType) (rows : List JoinedRow)
-        → AreTypedRows types batch.now rows → Fits types batch.now.columns expr.now type
+        → AreTypedRows types on.now.batch.now rows
+        → Fits types on.now.batch.now.columns expr.now type
         → Gives type (meant_at expr.now rows) (IsWithin selection.now) fault.old.held fault.new.held
         g) }
 {
     match expr {
-        Expr::Column(column) => Ok(lent_column(batch, Place::Fact { column: *column })),
+        Expr::Column(column) => Ok(lent_column(on.batch, Place::Fact { column: *column })),
         Expr::Joined { join, place } => Ok(lent_column(
-            batch,
+            on.batch,
             Place::Join {
                 join: *join,
                 column: *place,
             },
         )),
-        Expr::Key(key) => Ok(lent_column(batch, Place::Key { key: *key })),
+        Expr::Key(key) => Ok(lent_column(on.batch, Place::Key { key: *key })),
         Expr::Aggregate(aggregate) => Ok(lent_column(
-            batch,
+            on.batch,
             Place::Aggregate {
                 aggregate: *aggregate,
             },
         )),
-        Expr::Literal(value) => Ok(repeated(value, batch.rows())),
+        Expr::Literal(value) => Ok(repeated(value, on.batch.rows())),
         Expr::Minus(a) => {
-            let a = eval(alloc, a.get(), batch, selection, fault)?;
-            of_minus(alloc, a, selection, fault)
+            let a = eval(on, a.get(), selection, fault)?;
+            of_minus(on.alloc, a, selection, fault)
         }
         Expr::Arithmetic(op, a, b) => {
-            let left = eval(alloc, a.get(), batch, selection, fault)?;
-            let result = eval_arithmetic(alloc, *op, &left, b.get(), batch, selection, fault);
+            let left = eval(on, a.get(), selection, fault)?;
+            let result = eval_arithmetic(on, *op, &left, b.get(), selection, fault);
             drop(left);
             result
         }
         Expr::Compare(op, a, b) => {
-            let left = eval(alloc, a.get(), batch, selection, fault)?;
-            let result = eval_compare(alloc, *op, &left, b.get(), batch, selection, fault);
+            let left = eval(on, a.get(), selection, fault)?;
+            let result = eval_compare(on, *op, &left, b.get(), selection, fault);
             drop(left);
             result
         }
         Expr::Not(a) => {
-            let a = eval(alloc, a.get(), batch, selection, fault)?;
-            of_not(alloc, a, batch.rows())
+            let a = eval(on, a.get(), selection, fault)?;
+            of_not(on.alloc, a, on.batch.rows())
         }
         Expr::And(a, b) => {
-            let left = eval(alloc, a.get(), batch, selection, fault)?;
-            let result = eval_and(alloc, &left, b.get(), batch, selection, fault);
+            let left = eval(on, a.get(), selection, fault)?;
+            let result = eval_and(on, &left, b.get(), selection, fault);
             drop(left);
             result
         }
         Expr::Or(a, b) => {
-            let left = eval(alloc, a.get(), batch, selection, fault)?;
-            let result = eval_or(alloc, &left, b.get(), batch, selection, fault);
+            let left = eval(on, a.get(), selection, fault)?;
+            let result = eval_or(on, &left, b.get(), selection, fault);
             drop(left);
             result
         }
         Expr::IsNull { negated, subject } => {
-            let subject = eval(alloc, subject.get(), batch, selection, fault)?;
-            of_is_null(alloc, *negated, subject, batch.rows())
+            let subject = eval(on, subject.get(), selection, fault)?;
+            of_is_null(on.alloc, *negated, subject, on.batch.rows())
         }
         Expr::Between {
             negated,
@@ -134,19 +141,18 @@ fn eval_node<'a>(
             low,
             high,
         } => {
-            let subject = eval(alloc, subject.get(), batch, selection, fault)?;
+            let subject = eval(on, subject.get(), selection, fault)?;
             let above = eval_compare(
-                alloc,
+                on,
                 ComparisonOperator::GreaterOrEqual,
                 &subject,
                 low.get(),
-                batch,
                 selection,
                 fault,
             );
-            let within = eval_above(alloc, &subject, above, high.get(), batch, selection, fault);
+            let within = eval_above(on, &subject, above, high.get(), selection, fault);
             drop(subject);
-            not_if_known(alloc, *negated, within, batch.rows())
+            not_if_known(on.alloc, *negated, within, on.batch.rows())
         }
         Expr::In {
             negated,
@@ -155,30 +161,30 @@ fn eval_node<'a>(
         } => {
             if list.len() == 0 {
                 return not_if(
-                    alloc,
+                    on.alloc,
                     *negated,
-                    one_truth(Truth::False, batch.rows()),
-                    batch.rows(),
+                    one_truth(Truth::False, on.batch.rows()),
+                    on.batch.rows(),
                 );
             }
-            let subject = eval(alloc, subject.get(), batch, selection, fault)?;
-            let found = find_in(alloc, &subject, list.as_slice(), batch, selection, fault);
+            let subject = eval(on, subject.get(), selection, fault)?;
+            let found = find_in(on, &subject, list.as_slice(), selection, fault);
             drop(subject);
-            not_if_known(alloc, *negated, found, batch.rows())
+            not_if_known(on.alloc, *negated, found, on.batch.rows())
         }
         Expr::Like {
             negated,
             subject,
             pattern,
         } => {
-            let subject = eval(alloc, subject.get(), batch, selection, fault)?;
-            let found = of_like(alloc, pattern, subject, batch.rows());
-            not_if_known(alloc, *negated, found, batch.rows())
+            let subject = eval(on, subject.get(), selection, fault)?;
+            let found = of_like(on.alloc, pattern, subject, on.batch.rows());
+            not_if_known(on.alloc, *negated, found, on.batch.rows())
         }
-        Expr::Coalesce(list) => eval_coalesce(alloc, list.as_slice(), batch, selection, fault),
+        Expr::Coalesce(list) => eval_coalesce(on, list.as_slice(), selection, fault),
         Expr::Case { arms, otherwise } => {
-            let cases = eval_arms(alloc, arms.as_slice(), batch, selection, fault)?;
-            eval_otherwise(alloc, cases, otherwise.get(), batch, fault)
+            let cases = eval_arms(on, arms.as_slice(), selection, fault)?;
+            eval_otherwise(on, cases, otherwise.get(), fault)
         }
     }
 }
@@ -266,28 +272,27 @@ fn of_like<'a>(
 /// Arithmetic: both sides are evaluated on each lane.
 #[cycle(eval)]
 fn eval_arithmetic<'a>(
-    alloc: Global,
+    on: &Evaluation<'a>,
     op: ArithmeticOperator,
     left: &Given<'_>,
     right: &'a Expr,
-    batch: &'a Batch<'_>,
     selection: &LaneSet,
     fault: &mut Fault1,
 ) -> Result<Given<'a>, AllocError>
-    requires below { selection.now.below ≡ batch.now.rows }
-    requires left { IsLong batch.now.rows left.now }
-    ensures long { IfOk result (IsLong batch.now.rows) }
+    requires below { selection.now.below ≡ on.now.batch.now.rows }
+    requires left { IsLong on.now.batch.now.rows left.now }
+    ensures long { IfOk result (IsLong on.now.batch.now.rows) }
     ensures gives { IfOk result (λ g. (types : RowTypes) (rows : List JoinedRow) (a : ℕ
         → Outcome) (held : Held)
-        → AreTypedRows types batch.now rows
-        → Fits types batch.now.columns right.now (Valued of_type.Int)
+        → AreTypedRows types on.now.batch.now rows
+        → Fits types on.now.batch.now.columns right.now (Valued of_type.Int)
         → is_of_kind (Valued of_type.Int) left.now ≡ true
         → Evaluates a (IsWithin selection.now) held fault.old.held (given_at left.now)
         → Gives (Valued of_type.Int) (λ i. arith_of op (a i) (meant_at right.now rows i))
         (IsWithin selection.now) held fault.new.held g) }
 {
-    let right = eval(alloc, right, batch, selection, fault)?;
-    let result = arithmetic(alloc, op, left, &right, selection, fault);
+    let right = eval(on, right, selection, fault)?;
+    let result = arithmetic(on.alloc, op, left, &right, selection, fault);
     drop(right);
     result
 }
@@ -295,28 +300,28 @@ fn eval_arithmetic<'a>(
 /// A comparison: both sides are evaluated on each lane.
 #[cycle(eval)]
 fn eval_compare<'a>(
-    alloc: Global,
+    on: &Evaluation<'a>,
     op: ComparisonOperator,
     left: &Given<'_>,
     right: &'a Expr,
-    batch: &'a Batch<'_>,
     selection: &LaneSet,
     fault: &mut Fault1,
 ) -> Result<Given<'a>, AllocError>
-    requires below { selection.now.below ≡ batch.now.rows }
-    requires left { IsLong batch.now.rows left.now }
-    ensures long { IfOk result (IsLong batch.now.rows) }
+    requires below { selection.now.below ≡ on.now.batch.now.rows }
+    requires left { IsLong on.now.batch.now.rows left.now }
+    ensures long { IfOk result (IsLong on.now.batch.now.rows) }
     ensures gives { IfOk result
         (λ g. (types : RowTypes) (rows : List JoinedRow) (kind : ColType) (a : ℕ
         → Outcome) (held : Held)
-        → AreTypedRows types batch.now rows → Fits types batch.now.columns right.now (Valued kind)
+        → AreTypedRows types on.now.batch.now rows
+        → Fits types on.now.batch.now.columns right.now (Valued kind)
         → is_of_kind (Valued kind) left.now ≡ true
         → Evaluates a (IsWithin selection.now) held fault.old.held (given_at left.now)
         → Gives Boolean (λ i. compare_of op (a i) (meant_at right.now rows i))
         (IsWithin selection.now) held fault.new.held g × IsNoLater fault.old.held fault.new.held) }
 {
-    let right = eval(alloc, right, batch, selection, fault)?;
-    let result = compare(alloc, op, left, &right, batch.rows());
+    let right = eval(on, right, selection, fault)?;
+    let result = compare(on.alloc, op, left, &right, on.batch.rows());
     drop(right);
     result
 }
@@ -324,24 +329,24 @@ fn eval_compare<'a>(
 /// The expression on the selected lanes that aren't FALSE.
 #[cycle(eval)]
 fn eval_unless_false<'a>(
-    alloc: Global,
+    on: &Evaluation<'a>,
     before: &Given<'_>,
     expr: &'a Expr,
-    batch: &'a Batch<'_>,
     selection: &LaneSet,
     fault: &mut Fault1,
 ) -> Result<Given<'a>, AllocError>
-    requires below { selection.now.below ≡ batch.now.rows }
-    requires before { IsLong batch.now.rows before.now }
-    ensures long { IfOk result (IsLong batch.now.rows) }
+    requires below { selection.now.below ≡ on.now.batch.now.rows }
+    requires before { IsLong on.now.batch.now.rows before.now }
+    ensures long { IfOk result (IsLong on.now.batch.now.rows) }
     ensures gives { IfOk result (λ g. (types : RowTypes) (type : ExprType) (rows : List JoinedRow)
-        → AreTypedRows types batch.now rows → Fits types batch.now.columns expr.now type
+        → AreTypedRows types on.now.batch.now rows
+        → Fits types on.now.batch.now.columns expr.now type
         → Gives type (meant_at expr.now rows)
         (IsWhere (λ i. is_not_false (given_at before.now i)) selection.now) fault.old.held
         fault.new.held g) }
 {
-    let narrowed = unless_false(alloc, before, selection)?;
-    let result = eval(alloc, expr, batch, &narrowed, fault);
+    let narrowed = unless_false(on.alloc, before, selection)?;
+    let result = eval(on, expr, &narrowed, fault);
     drop(narrowed);
     result
 }
@@ -349,28 +354,28 @@ fn eval_unless_false<'a>(
 /// The expression on the selected lanes that aren't TRUE.
 #[cycle(eval)]
 fn eval_unless_true<'a>(
-    alloc: Global,
+    on: &Evaluation<'a>,
     before: &Given<'_>,
     expr: &'a Expr,
-    batch: &'a Batch<'_>,
     selection: &LaneSet,
     fault: &mut Fault1,
 ) -> Result<Given<'a>, AllocError>
-    requires below { selection.now.below ≡ batch.now.rows }
-    requires before { IsLong batch.now.rows before.now }
-    ensures long { IfOk result (IsLong batch.now.rows) }
+    requires below { selection.now.below ≡ on.now.batch.now.rows }
+    requires before { IsLong on.now.batch.now.rows before.now }
+    ensures long { IfOk result (IsLong on.now.batch.now.rows) }
     ensures gives { IfOk result (λ g. (types : RowTypes) (type : ExprType) (rows : List JoinedRow)
-        → AreTypedRows types batch.now rows → Fits types batch.now.columns expr.now type
+        → AreTypedRows types on.now.batch.now rows
+        → Fits types on.now.batch.now.columns expr.now type
         → Gives type (meant_at expr.now rows)
         (IsWhere (λ i. is_not_true (given_at before.now i)) selection.now) fault.old.held
         fault.new.held g) }
 {
     // No lane of a literal faults.
     if let Expr::Literal(value) = expr {
-        return Ok(repeated(value, batch.rows()));
+        return Ok(repeated(value, on.batch.rows()));
     }
-    let narrowed = unless_true(alloc, before, selection)?;
-    let result = eval(alloc, expr, batch, &narrowed, fault);
+    let narrowed = unless_true(on.alloc, before, selection)?;
+    let result = eval(on, expr, &narrowed, fault);
     drop(narrowed);
     result
 }
@@ -378,28 +383,28 @@ fn eval_unless_true<'a>(
 /// The expression on the selected lanes that are NULL.
 #[cycle(eval)]
 fn eval_where_null<'a>(
-    alloc: Global,
+    on: &Evaluation<'a>,
     before: &Given<'_>,
     expr: &'a Expr,
-    batch: &'a Batch<'_>,
     selection: &LaneSet,
     fault: &mut Fault1,
 ) -> Result<Given<'a>, AllocError>
-    requires below { selection.now.below ≡ batch.now.rows }
-    requires before { IsLong batch.now.rows before.now }
-    ensures long { IfOk result (IsLong batch.now.rows) }
+    requires below { selection.now.below ≡ on.now.batch.now.rows }
+    requires before { IsLong on.now.batch.now.rows before.now }
+    ensures long { IfOk result (IsLong on.now.batch.now.rows) }
     ensures gives { IfOk result (λ g. (types : RowTypes) (type : ExprType) (rows : List JoinedRow)
-        → AreTypedRows types batch.now rows → Fits types batch.now.columns expr.now type
+        → AreTypedRows types on.now.batch.now rows
+        → Fits types on.now.batch.now.columns expr.now type
         → Gives type (meant_at expr.now rows)
         (IsWhere (λ i. is_null_lane (given_at before.now i)) selection.now) fault.old.held
         fault.new.held g) }
 {
     // No lane of a literal faults.
     if let Expr::Literal(value) = expr {
-        return Ok(repeated(value, batch.rows()));
+        return Ok(repeated(value, on.batch.rows()));
     }
-    let narrowed = where_null(alloc, before, selection)?;
-    let result = eval(alloc, expr, batch, &narrowed, fault);
+    let narrowed = where_null(on.alloc, before, selection)?;
+    let result = eval(on, expr, &narrowed, fault);
     drop(narrowed);
     result
 }
@@ -407,25 +412,25 @@ fn eval_where_null<'a>(
 /// AND: the right side is evaluated on the lanes where the left one isn't FALSE.
 #[cycle(eval)]
 fn eval_and<'a>(
-    alloc: Global,
+    on: &Evaluation<'a>,
     left: &Given<'_>,
     right: &'a Expr,
-    batch: &'a Batch<'_>,
     selection: &LaneSet,
     fault: &mut Fault1,
 ) -> Result<Given<'a>, AllocError>
-    requires below { selection.now.below ≡ batch.now.rows }
-    requires left { IsLong batch.now.rows left.now }
-    ensures long { IfOk result (IsLong batch.now.rows) }
+    requires below { selection.now.below ≡ on.now.batch.now.rows }
+    requires left { IsLong on.now.batch.now.rows left.now }
+    ensures long { IfOk result (IsLong on.now.batch.now.rows) }
     ensures gives { IfOk result (λ g. (types : RowTypes) (rows : List JoinedRow) (a : ℕ
         → Outcome) (held : Held)
-        → AreTypedRows types batch.now rows → Fits types batch.now.columns right.now Boolean
+        → AreTypedRows types on.now.batch.now rows
+        → Fits types on.now.batch.now.columns right.now Boolean
         → Evaluates a (IsWithin selection.now) held fault.old.held (given_at left.now)
         → Gives Boolean (λ i. and_of (a i) (meant_at right.now rows i)) (IsWithin selection.now)
         held fault.new.held g) }
 {
-    let right = eval_unless_false(alloc, left, right, batch, selection, fault)?;
-    let result = and(alloc, left, &right, batch.rows());
+    let right = eval_unless_false(on, left, right, selection, fault)?;
+    let result = and(on.alloc, left, &right, on.batch.rows());
     drop(right);
     result
 }
@@ -433,25 +438,25 @@ fn eval_and<'a>(
 /// OR: the right side is evaluated on the lanes where the left one isn't TRUE.
 #[cycle(eval)]
 fn eval_or<'a>(
-    alloc: Global,
+    on: &Evaluation<'a>,
     left: &Given<'_>,
     right: &'a Expr,
-    batch: &'a Batch<'_>,
     selection: &LaneSet,
     fault: &mut Fault1,
 ) -> Result<Given<'a>, AllocError>
-    requires below { selection.now.below ≡ batch.now.rows }
-    requires left { IsLong batch.now.rows left.now }
-    ensures long { IfOk result (IsLong batch.now.rows) }
+    requires below { selection.now.below ≡ on.now.batch.now.rows }
+    requires left { IsLong on.now.batch.now.rows left.now }
+    ensures long { IfOk result (IsLong on.now.batch.now.rows) }
     ensures gives { IfOk result (λ g. (types : RowTypes) (rows : List JoinedRow) (a : ℕ
         → Outcome) (held : Held)
-        → AreTypedRows types batch.now rows → Fits types batch.now.columns right.now Boolean
+        → AreTypedRows types on.now.batch.now rows
+        → Fits types on.now.batch.now.columns right.now Boolean
         → Evaluates a (IsWithin selection.now) held fault.old.held (given_at left.now)
         → Gives Boolean (λ i. or_of (a i) (meant_at right.now rows i)) (IsWithin selection.now) held
         fault.new.held g) }
 {
-    let right = eval_unless_true(alloc, left, right, batch, selection, fault)?;
-    let result = or(alloc, left, &right, batch.rows());
+    let right = eval_unless_true(on, left, right, selection, fault)?;
+    let result = or(on.alloc, left, &right, on.batch.rows());
     drop(right);
     result
 }
@@ -460,22 +465,22 @@ fn eval_or<'a>(
 /// FALSE.
 #[cycle(eval)]
 fn eval_high<'a>(
-    alloc: Global,
+    on: &Evaluation<'a>,
     subject: &Given<'_>,
     above: &Given<'_>,
     high: &'a Expr,
-    batch: &'a Batch<'_>,
     selection: &LaneSet,
     fault: &mut Fault1,
 ) -> Result<Given<'a>, AllocError>
-    requires below { selection.now.below ≡ batch.now.rows }
-    requires subject { IsLong batch.now.rows subject.now }
-    requires above { IsLong batch.now.rows above.now }
-    ensures long { IfOk result (IsLong batch.now.rows) }
+    requires below { selection.now.below ≡ on.now.batch.now.rows }
+    requires subject { IsLong on.now.batch.now.rows subject.now }
+    requires above { IsLong on.now.batch.now.rows above.now }
+    ensures long { IfOk result (IsLong on.now.batch.now.rows) }
     ensures gives { IfOk result
         (λ g. (types : RowTypes) (rows : List JoinedRow) (kind : ColType) (x a : ℕ
         → Outcome) (held : Held)
-        → AreTypedRows types batch.now rows → Fits types batch.now.columns high.now (Valued kind)
+        → AreTypedRows types on.now.batch.now rows
+        → Fits types on.now.batch.now.columns high.now (Valued kind)
         → is_of_kind (Valued kind) subject.now ≡ true
         → IsExact x (IsWithin selection.now) fault.old.held (given_at subject.now)
         → Evaluates a (IsWithin selection.now) held fault.old.held (given_at above.now)
@@ -483,8 +488,8 @@ fn eval_high<'a>(
         (compare_of comparison.LessOrEqual (x i) (meant_at high.now rows i)))
         (IsWithin selection.now) held fault.new.held g) }
 {
-    let below = eval_at_most(alloc, subject, above, high, batch, selection, fault)?;
-    let result = and(alloc, above, &below, batch.rows());
+    let below = eval_at_most(on, subject, above, high, selection, fault)?;
+    let result = and(on.alloc, above, &below, on.batch.rows());
     drop(below);
     result
 }
@@ -492,22 +497,22 @@ fn eval_high<'a>(
 /// The same behind what the lower half gave.
 #[cycle(eval)]
 fn eval_above<'a>(
-    alloc: Global,
+    on: &Evaluation<'a>,
     subject: &Given<'_>,
     above: Result<Given<'a>, AllocError>,
     high: &'a Expr,
-    batch: &'a Batch<'_>,
     selection: &LaneSet,
     fault: &mut Fault1,
 ) -> Result<Given<'a>, AllocError>
-    requires below { selection.now.below ≡ batch.now.rows }
-    requires subject { IsLong batch.now.rows subject.now }
-    requires above { IfOk above (IsLong batch.now.rows) }
-    ensures long { IfOk result (IsLong batch.now.rows) }
+    requires below { selection.now.below ≡ on.now.batch.now.rows }
+    requires subject { IsLong on.now.batch.now.rows subject.now }
+    requires above { IfOk above (IsLong on.now.batch.now.rows) }
+    ensures long { IfOk result (IsLong on.now.batch.now.rows) }
     ensures gives { IfOk result
         (λ g. (types : RowTypes) (rows : List JoinedRow) (kind : ColType) (x a : ℕ
         → Outcome) (held : Held)
-        → AreTypedRows types batch.now rows → Fits types batch.now.columns high.now (Valued kind)
+        → AreTypedRows types on.now.batch.now rows
+        → Fits types on.now.batch.now.columns high.now (Valued kind)
         → is_of_kind (Valued kind) subject.now ≡ true
         → IfOk above.entry (λ b. IsExact x (IsWithin selection.now) fault.old.held
         (given_at subject.now)
@@ -517,7 +522,7 @@ fn eval_above<'a>(
         (IsWithin selection.now) held fault.new.held g) }
 {
     let above = above?;
-    let result = eval_high(alloc, subject, &above, high, batch, selection, fault);
+    let result = eval_high(on, subject, &above, high, selection, fault);
     drop(above);
     result
 }
@@ -525,34 +530,34 @@ fn eval_above<'a>(
 /// `subject <= high` on the lanes where what stands before isn't FALSE.
 #[cycle(eval)]
 fn eval_at_most<'a>(
-    alloc: Global,
+    on: &Evaluation<'a>,
     subject: &Given<'_>,
     before: &Given<'_>,
     high: &'a Expr,
-    batch: &'a Batch<'_>,
     selection: &LaneSet,
     fault: &mut Fault1,
 ) -> Result<Given<'a>, AllocError>
-    requires below { selection.now.below ≡ batch.now.rows }
-    requires subject { IsLong batch.now.rows subject.now }
-    requires before { IsLong batch.now.rows before.now }
-    ensures long { IfOk result (IsLong batch.now.rows) }
+    requires below { selection.now.below ≡ on.now.batch.now.rows }
+    requires subject { IsLong on.now.batch.now.rows subject.now }
+    requires before { IsLong on.now.batch.now.rows before.now }
+    ensures long { IfOk result (IsLong on.now.batch.now.rows) }
     ensures gives { IfOk result
         (λ g. (types : RowTypes) (rows : List JoinedRow) (kind : ColType) (x : ℕ → Outcome)
-        → AreTypedRows types batch.now rows → Fits types batch.now.columns high.now (Valued kind)
+        → AreTypedRows types on.now.batch.now rows
+        → Fits types on.now.batch.now.columns high.now (Valued kind)
         → is_of_kind (Valued kind) subject.now ≡ true
         → IsExact x (IsWithin selection.now) fault.old.held (given_at subject.now)
         → Gives Boolean (λ i. compare_of comparison.LessOrEqual (x i) (meant_at high.now rows i))
         (IsWhere (λ i. is_not_false (given_at before.now i)) selection.now) fault.old.held
         fault.new.held g) }
 {
-    let high = eval_unless_false(alloc, before, high, batch, selection, fault)?;
+    let high = eval_unless_false(on, before, high, selection, fault)?;
     let result = compare(
-        alloc,
+        on.alloc,
         ComparisonOperator::LessOrEqual,
         subject,
         &high,
-        batch.rows(),
+        on.batch.rows(),
     );
     drop(high);
     result
@@ -562,29 +567,28 @@ fn eval_at_most<'a>(
 /// none before it was equal.
 #[cycle(eval)]
 fn find_in<'a>(
-    alloc: Global,
+    on: &Evaluation<'a>,
     subject: &Given<'_>,
     list: &'a [Expr],
-    batch: &'a Batch<'_>,
     selection: &LaneSet,
     fault: &mut Fault1,
 ) -> Result<Given<'static>, AllocError>
-    requires below { selection.now.below ≡ batch.now.rows }
-    requires subject { IsLong batch.now.rows subject.now }
-    ensures long { IfOk result (IsLong batch.now.rows) }
+    requires below { selection.now.below ≡ on.now.batch.now.rows }
+    requires subject { IsLong on.now.batch.now.rows subject.now }
+    ensures long { IfOk result (IsLong on.now.batch.now.rows) }
     ensures gives { IfOk result
         (λ g. (types : RowTypes) (rows : List JoinedRow) (kind : ColType) (x : ℕ
         → Outcome) (held : Held)
-        → AreTypedRows types batch.now rows
-        → All (λ e. Fits types batch.now.columns e (Valued kind)) list.now
+        → AreTypedRows types on.now.batch.now rows
+        → All (λ e. Fits types on.now.batch.now.columns e (Valued kind)) list.now
         → is_of_kind (Valued kind) subject.now ≡ true
         → Evaluates x (IsWithin selection.now) held fault.old.held (given_at subject.now)
         → Gives Boolean (λ i. one_of_subject (x i) (outcomes list.now (row_at rows i)))
         (IsWithin selection.now) held fault.new.held g) }
 {
-    let mut found = one_truth(Truth::False, batch.rows());
+    let mut found = one_truth(Truth::False, on.batch.rows());
     for item in list {
-        find_item(alloc, subject, &mut found, item, batch, selection, fault)?;
+        find_item(on, subject, &mut found, item, selection, fault)?;
     }
     Ok(found)
 }
@@ -592,22 +596,22 @@ fn find_in<'a>(
 /// What was found, or whether the subject equals one item more.
 #[cycle(eval)]
 fn find_item<'a>(
-    alloc: Global,
+    on: &Evaluation<'a>,
     subject: &Given<'_>,
     found: &mut Given<'static>,
     item: &'a Expr,
-    batch: &'a Batch<'_>,
     selection: &LaneSet,
     fault: &mut Fault1,
 ) -> Result<(), AllocError>
-    requires below { selection.now.below ≡ batch.now.rows }
-    requires subject { IsLong batch.now.rows subject.now }
-    requires found { IsLong batch.now.rows found.old }
-    ensures long { IsLong batch.now.rows found.new }
+    requires below { selection.now.below ≡ on.now.batch.now.rows }
+    requires subject { IsLong on.now.batch.now.rows subject.now }
+    requires found { IsLong on.now.batch.now.rows found.old }
+    ensures long { IsLong on.now.batch.now.rows found.new }
     ensures gives { IfOk result
         (λ _. (types : RowTypes) (rows : List JoinedRow) (kind : ColType) (x a : ℕ
         → Outcome) (held : Held)
-        → AreTypedRows types batch.now rows → Fits types batch.now.columns item.now (Valued kind)
+        → AreTypedRows types on.now.batch.now rows
+        → Fits types on.now.batch.now.columns item.now (Valued kind)
         → is_of_kind (Valued kind) subject.now ≡ true
         → IsExact x (IsWithin selection.now) fault.old.held (given_at subject.now)
         → Evaluates a (IsWithin selection.now) held fault.old.held (given_at found.old)
@@ -616,7 +620,7 @@ fn find_item<'a>(
         held fault.new.held found.new
         × IsNoLater fault.old.held fault.new.held) }
 {
-    let next = find_next(alloc, subject, found, item, batch, selection, fault)?;
+    let next = find_next(on, subject, found, item, selection, fault)?;
     *found = next;
     Ok(())
 }
@@ -624,22 +628,22 @@ fn find_item<'a>(
 /// The same, of what is lent.
 #[cycle(eval)]
 fn find_next<'a>(
-    alloc: Global,
+    on: &Evaluation<'a>,
     subject: &Given<'_>,
     found: &Given<'_>,
     item: &'a Expr,
-    batch: &'a Batch<'_>,
     selection: &LaneSet,
     fault: &mut Fault1,
 ) -> Result<Given<'static>, AllocError>
-    requires below { selection.now.below ≡ batch.now.rows }
-    requires subject { IsLong batch.now.rows subject.now }
-    requires found { IsLong batch.now.rows found.now }
-    ensures long { IfOk result (IsLong batch.now.rows) }
+    requires below { selection.now.below ≡ on.now.batch.now.rows }
+    requires subject { IsLong on.now.batch.now.rows subject.now }
+    requires found { IsLong on.now.batch.now.rows found.now }
+    ensures long { IfOk result (IsLong on.now.batch.now.rows) }
     ensures gives { IfOk result
         (λ g. (types : RowTypes) (rows : List JoinedRow) (kind : ColType) (x a : ℕ
         → Outcome) (held : Held)
-        → AreTypedRows types batch.now rows → Fits types batch.now.columns item.now (Valued kind)
+        → AreTypedRows types on.now.batch.now rows
+        → Fits types on.now.batch.now.columns item.now (Valued kind)
         → is_of_kind (Valued kind) subject.now ≡ true
         → IsExact x (IsWithin selection.now) fault.old.held (given_at subject.now)
         → Evaluates a (IsWithin selection.now) held fault.old.held (given_at found.now)
@@ -648,8 +652,8 @@ fn find_next<'a>(
         held fault.new.held g
         × IsNoLater fault.old.held fault.new.held) }
 {
-    let equal = eval_equal(alloc, subject, found, item, batch, selection, fault)?;
-    let result = or(alloc, found, &equal, batch.rows());
+    let equal = eval_equal(on, subject, found, item, selection, fault)?;
+    let result = or(on.alloc, found, &equal, on.batch.rows());
     drop(equal);
     result
 }
@@ -657,34 +661,34 @@ fn find_next<'a>(
 /// `subject = item` on the lanes where what stands before isn't TRUE.
 #[cycle(eval)]
 fn eval_equal<'a>(
-    alloc: Global,
+    on: &Evaluation<'a>,
     subject: &Given<'_>,
     before: &Given<'_>,
     item: &'a Expr,
-    batch: &'a Batch<'_>,
     selection: &LaneSet,
     fault: &mut Fault1,
 ) -> Result<Given<'a>, AllocError>
-    requires below { selection.now.below ≡ batch.now.rows }
-    requires subject { IsLong batch.now.rows subject.now }
-    requires before { IsLong batch.now.rows before.now }
-    ensures long { IfOk result (IsLong batch.now.rows) }
+    requires below { selection.now.below ≡ on.now.batch.now.rows }
+    requires subject { IsLong on.now.batch.now.rows subject.now }
+    requires before { IsLong on.now.batch.now.rows before.now }
+    ensures long { IfOk result (IsLong on.now.batch.now.rows) }
     ensures gives { IfOk result
         (λ g. (types : RowTypes) (rows : List JoinedRow) (kind : ColType) (x : ℕ → Outcome)
-        → AreTypedRows types batch.now rows → Fits types batch.now.columns item.now (Valued kind)
+        → AreTypedRows types on.now.batch.now rows
+        → Fits types on.now.batch.now.columns item.now (Valued kind)
         → is_of_kind (Valued kind) subject.now ≡ true
         → IsExact x (IsWithin selection.now) fault.old.held (given_at subject.now)
         → Gives Boolean (λ i. compare_of comparison.Equal (x i) (meant_at item.now rows i))
         (IsWhere (λ i. is_not_true (given_at before.now i)) selection.now) fault.old.held
         fault.new.held g) }
 {
-    let item = eval_unless_true(alloc, before, item, batch, selection, fault)?;
+    let item = eval_unless_true(on, before, item, selection, fault)?;
     let result = compare(
-        alloc,
+        on.alloc,
         ComparisonOperator::Equal,
         subject,
         &item,
-        batch.rows(),
+        on.batch.rows(),
     );
     drop(item);
     result
@@ -693,23 +697,22 @@ fn eval_equal<'a>(
 /// COALESCE: each item is evaluated on the lanes where all before it are NULL.
 #[cycle(eval)]
 fn eval_coalesce<'a>(
-    alloc: Global,
+    on: &Evaluation<'a>,
     list: &'a [Expr],
-    batch: &'a Batch<'_>,
     selection: &LaneSet,
     fault: &mut Fault1,
 ) -> Result<Given<'a>, AllocError>
-    requires below { selection.now.below ≡ batch.now.rows }
-    ensures long { IfOk result (IsLong batch.now.rows) }
+    requires below { selection.now.below ≡ on.now.batch.now.rows }
+    ensures long { IfOk result (IsLong on.now.batch.now.rows) }
     ensures gives { IfOk result (λ g. (types : RowTypes) (rows : List JoinedRow) (kind : ColType)
-        → AreTypedRows types batch.now rows
-        → All (λ e. Fits types batch.now.columns e (Valued kind)) list.now
+        → AreTypedRows types on.now.batch.now rows
+        → All (λ e. Fits types on.now.batch.now.columns e (Valued kind)) list.now
         → Gives (Valued kind) (λ i. first_of (outcomes list.now (row_at rows i)))
         (IsWithin selection.now) fault.old.held fault.new.held g) }
 {
     let mut so_far = Given::Null;
     for item in list {
-        eval_item(alloc, &mut so_far, item, batch, selection, fault)?;
+        eval_item(on, &mut so_far, item, selection, fault)?;
     }
     Ok(so_far)
 }
@@ -717,26 +720,26 @@ fn eval_coalesce<'a>(
 /// What there is so far, and where that is NULL one item more.
 #[cycle(eval)]
 fn eval_item<'a>(
-    alloc: Global,
+    on: &Evaluation<'a>,
     so_far: &mut Given<'a>,
     item: &'a Expr,
-    batch: &'a Batch<'_>,
     selection: &LaneSet,
     fault: &mut Fault1,
 ) -> Result<(), AllocError>
-    requires below { selection.now.below ≡ batch.now.rows }
-    requires so_far { IsLong batch.now.rows so_far.old }
-    ensures long { IsLong batch.now.rows so_far.new }
+    requires below { selection.now.below ≡ on.now.batch.now.rows }
+    requires so_far { IsLong on.now.batch.now.rows so_far.old }
+    ensures long { IsLong on.now.batch.now.rows so_far.new }
     ensures gives { IfOk result
         (λ _. (types : RowTypes) (rows : List JoinedRow) (kind : ColType) (a : ℕ
         → Outcome) (held : Held)
-        → AreTypedRows types batch.now rows → Fits types batch.now.columns item.now (Valued kind)
+        → AreTypedRows types on.now.batch.now rows
+        → Fits types on.now.batch.now.columns item.now (Valued kind)
         → is_of_kind (Valued kind) so_far.old ≡ true
         → Evaluates a (IsWithin selection.now) held fault.old.held (given_at so_far.old)
         → Gives (Valued kind) (λ i. coalesce_of (a i) (meant_at item.now rows i))
         (IsWithin selection.now) held fault.new.held so_far.new) }
 {
-    let next = eval_next(alloc, so_far, item, batch, selection, fault)?;
+    let next = eval_next(on, so_far, item, selection, fault)?;
     *so_far = next;
     Ok(())
 }
@@ -744,27 +747,27 @@ fn eval_item<'a>(
 /// The same, of what is lent.
 #[cycle(eval)]
 fn eval_next<'a>(
-    alloc: Global,
+    on: &Evaluation<'a>,
     so_far: &Given<'a>,
     item: &'a Expr,
-    batch: &'a Batch<'_>,
     selection: &LaneSet,
     fault: &mut Fault1,
 ) -> Result<Given<'a>, AllocError>
-    requires below { selection.now.below ≡ batch.now.rows }
-    requires so_far { IsLong batch.now.rows so_far.now }
-    ensures long { IfOk result (IsLong batch.now.rows) }
+    requires below { selection.now.below ≡ on.now.batch.now.rows }
+    requires so_far { IsLong on.now.batch.now.rows so_far.now }
+    ensures long { IfOk result (IsLong on.now.batch.now.rows) }
     ensures gives { IfOk result
         (λ g. (types : RowTypes) (rows : List JoinedRow) (kind : ColType) (a : ℕ
         → Outcome) (held : Held)
-        → AreTypedRows types batch.now rows → Fits types batch.now.columns item.now (Valued kind)
+        → AreTypedRows types on.now.batch.now rows
+        → Fits types on.now.batch.now.columns item.now (Valued kind)
         → is_of_kind (Valued kind) so_far.now ≡ true
         → Evaluates a (IsWithin selection.now) held fault.old.held (given_at so_far.now)
         → Gives (Valued kind) (λ i. coalesce_of (a i) (meant_at item.now rows i))
         (IsWithin selection.now) held fault.new.held g) }
 {
-    let item = eval_where_null(alloc, so_far, item, batch, selection, fault)?;
-    coalesce(alloc, so_far, item, batch.rows())
+    let item = eval_where_null(on, so_far, item, selection, fault)?;
+    coalesce(on.alloc, so_far, item, on.batch.rows())
 }
 
 /// What the arms of a CASE gave so far, and the lanes that none of them took.
@@ -785,27 +788,27 @@ pub struct Taken<'a> {
 /// value where it is chosen.
 #[cycle(eval)]
 fn eval_arms<'a>(
-    alloc: Global,
+    on: &Evaluation<'a>,
     arms: &'a [Arm],
-    batch: &'a Batch<'_>,
     selection: &LaneSet,
     fault: &mut Fault1,
 ) -> Result<Cases<'a>, AllocError>
-    requires below { selection.now.below ≡ batch.now.rows }
-    ensures long { IfOk result (λ c. IsLong batch.now.rows c.given
-        × (c.left.below ≡ batch.now.rows)) }
+    requires below { selection.now.below ≡ on.now.batch.now.rows }
+    ensures long { IfOk result (λ c. IsLong on.now.batch.now.rows c.given
+        × (c.left.below ≡ on.now.batch.now.rows)) }
     ensures gives { IfOk result
         (λ c. (types : RowTypes) (rows : List JoinedRow) (kind : ColType) (rest : ℕ → Outcome)
-        → AreTypedRows types batch.now rows → All (FitsArm types batch.now.columns kind) arms.now
+        → AreTypedRows types on.now.batch.now rows
+        → All (FitsArm types on.now.batch.now.columns kind) arms.now
         → Decides kind (λ i. cases_of (arms_at (row_at rows i) (map eval_arm arms.now)) (rest i))
         rest (IsWithin selection.now) c.left fault.old.held fault.new.held c.given) }
 {
     let Some((first, others)) = arms.split_first() else {
-        return none_taken(alloc, selection);
+        return none_taken(on.alloc, selection);
     };
-    let mut cases = eval_first(alloc, first, batch, selection, fault)?;
+    let mut cases = eval_first(on, first, selection, fault)?;
     for arm in others {
-        eval_arm(alloc, &mut cases, arm, batch, fault)?;
+        eval_arm(on, &mut cases, arm, fault)?;
     }
     Ok(cases)
 }
@@ -825,23 +828,23 @@ fn none_taken<'a>(alloc: Global, selection: &LaneSet) -> Result<Cases<'a>, Alloc
 /// The first arm: before it nothing is decided, so its lanes are taken as they are.
 #[cycle(eval)]
 fn eval_first<'a>(
-    alloc: Global,
+    on: &Evaluation<'a>,
     arm: &'a Arm,
-    batch: &'a Batch<'_>,
     selection: &LaneSet,
     fault: &mut Fault1,
 ) -> Result<Cases<'a>, AllocError>
-    requires { selection.now.below ≡ batch.now.rows }
-    ensures long { IfOk result (λ c. IsLong batch.now.rows c.given
-        × (c.left.below ≡ batch.now.rows)) }
+    requires { selection.now.below ≡ on.now.batch.now.rows }
+    ensures long { IfOk result (λ c. IsLong on.now.batch.now.rows c.given
+        × (c.left.below ≡ on.now.batch.now.rows)) }
     ensures gives { IfOk result
         (λ c. (types : RowTypes) (rows : List JoinedRow) (kind : ColType) (rest : ℕ → Outcome)
-        → AreTypedRows types batch.now rows → FitsArm types batch.now.columns kind arm.now
+        → AreTypedRows types on.now.batch.now rows
+        → FitsArm types on.now.batch.now.columns kind arm.now
         → Decides kind (λ i. case_of (meant_at arm.now.when rows i) (meant_at arm.now.then rows i)
         (rest i)) rest (IsWithin selection.now) c.left fault.old.held fault.new.held c.given) }
 {
-    let taken = eval_taken(alloc, arm, batch, selection, fault)?;
-    first_taken(alloc, selection, taken)
+    let taken = eval_taken(on, arm, selection, fault)?;
+    first_taken(on.alloc, selection, taken)
 }
 
 fn first_taken<'a>(
@@ -872,25 +875,26 @@ fn first_taken<'a>(
 /// One arm more.
 #[cycle(eval)]
 fn eval_arm<'a>(
-    alloc: Global,
+    on: &Evaluation<'a>,
     cases: &mut Cases<'a>,
     arm: &'a Arm,
-    batch: &'a Batch<'_>,
     fault: &mut Fault1,
 ) -> Result<(), AllocError>
-    requires given { IsLong batch.now.rows cases.old.given }
-    requires left { cases.old.left.below ≡ batch.now.rows }
-    ensures long { IsLong batch.now.rows cases.new.given × (cases.new.left.below ≡ batch.now.rows) }
+    requires given { IsLong on.now.batch.now.rows cases.old.given }
+    requires left { cases.old.left.below ≡ on.now.batch.now.rows }
+    ensures long { IsLong on.now.batch.now.rows cases.new.given
+        × (cases.new.left.below ≡ on.now.batch.now.rows) }
     ensures gives { IfOk result
         (λ _. (types : RowTypes) (rows : List JoinedRow) (kind : ColType) (meant rest : ℕ
         → Outcome) (s : Positions) (held : Held)
-        → AreTypedRows types batch.now rows → FitsArm types batch.now.columns kind arm.now
+        → AreTypedRows types on.now.batch.now rows
+        → FitsArm types on.now.batch.now.columns kind arm.now
         → Decides kind meant (λ i. case_of (meant_at arm.now.when rows i)
         (meant_at arm.now.then rows i) (rest i)) (IsWithin s) cases.old.left held fault.old.held
         cases.old.given
         → Decides kind meant rest (IsWithin s) cases.new.left held fault.new.held cases.new.given) }
 {
-    let next = eval_next_arm(alloc, cases, arm, batch, fault)?;
+    let next = eval_next_arm(on, cases, arm, fault)?;
     *cases = next;
     Ok(())
 }
@@ -898,27 +902,27 @@ fn eval_arm<'a>(
 /// The same, of what is lent.
 #[cycle(eval)]
 fn eval_next_arm<'a>(
-    alloc: Global,
+    on: &Evaluation<'a>,
     cases: &Cases<'a>,
     arm: &'a Arm,
-    batch: &'a Batch<'_>,
     fault: &mut Fault1,
 ) -> Result<Cases<'a>, AllocError>
-    requires given { IsLong batch.now.rows cases.now.given }
-    requires left { cases.now.left.below ≡ batch.now.rows }
-    ensures long { IfOk result (λ c. IsLong batch.now.rows c.given
-        × (c.left.below ≡ batch.now.rows)) }
+    requires given { IsLong on.now.batch.now.rows cases.now.given }
+    requires left { cases.now.left.below ≡ on.now.batch.now.rows }
+    ensures long { IfOk result (λ c. IsLong on.now.batch.now.rows c.given
+        × (c.left.below ≡ on.now.batch.now.rows)) }
     ensures gives { IfOk result
         (λ c. (types : RowTypes) (rows : List JoinedRow) (kind : ColType) (meant rest : ℕ
         → Outcome) (s : Positions) (held : Held)
-        → AreTypedRows types batch.now rows → FitsArm types batch.now.columns kind arm.now
+        → AreTypedRows types on.now.batch.now rows
+        → FitsArm types on.now.batch.now.columns kind arm.now
         → Decides kind meant (λ i. case_of (meant_at arm.now.when rows i)
         (meant_at arm.now.then rows i) (rest i)) (IsWithin s) cases.now.left held fault.old.held
         cases.now.given
         → Decides kind meant rest (IsWithin s) c.left held fault.new.held c.given) }
 {
-    let taken = eval_taken(alloc, arm, batch, &cases.left, fault)?;
-    let result = put_taken(alloc, cases, &taken);
+    let taken = eval_taken(on, arm, &cases.left, fault)?;
+    let result = put_taken(on.alloc, cases, &taken);
     drop(taken);
     result
 }
@@ -926,42 +930,42 @@ fn eval_next_arm<'a>(
 /// The lanes among these that the arm takes, and what it gives on them.
 #[cycle(eval)]
 fn eval_taken<'a>(
-    alloc: Global,
+    on: &Evaluation<'a>,
     arm: &'a Arm,
-    batch: &'a Batch<'_>,
     left: &LaneSet,
     fault: &mut Fault1,
 ) -> Result<Taken<'a>, AllocError>
-    requires { left.now.below ≡ batch.now.rows }
-    ensures long { IfOk result (λ t. IsLong batch.now.rows t.then
-        × (t.lanes.below ≡ batch.now.rows)) }
+    requires { left.now.below ≡ on.now.batch.now.rows }
+    ensures long { IfOk result (λ t. IsLong on.now.batch.now.rows t.then
+        × (t.lanes.below ≡ on.now.batch.now.rows)) }
     ensures gives { IfOk result (λ t. (types : RowTypes) (rows : List JoinedRow) (kind : ColType)
-        → AreTypedRows types batch.now rows → FitsArm types batch.now.columns kind arm.now
+        → AreTypedRows types on.now.batch.now rows
+        → FitsArm types on.now.batch.now.columns kind arm.now
         → IsTaken kind (meant_at arm.now.when rows) (meant_at arm.now.then rows) left.now t.lanes
         fault.old.held fault.new.held t.then) }
 {
-    let lanes = eval_when(alloc, &arm.when, batch, left, fault)?;
-    let then = eval(alloc, &arm.then, batch, &lanes, fault)?;
+    let lanes = eval_when(on, &arm.when, left, fault)?;
+    let then = eval(on, &arm.then, &lanes, fault)?;
     Ok(Taken { then, lanes })
 }
 
 /// The lanes among these on which the condition is TRUE.
 #[cycle(eval)]
 fn eval_when<'a>(
-    alloc: Global,
+    on: &Evaluation<'a>,
     when: &'a Expr,
-    batch: &'a Batch<'_>,
     left: &LaneSet,
     fault: &mut Fault1,
 ) -> Result<LaneSet, AllocError>
-    requires { left.now.below ≡ batch.now.rows }
-    ensures below { IfOk result (λ lanes. lanes.below ≡ batch.now.rows) }
+    requires { left.now.below ≡ on.now.batch.now.rows }
+    ensures below { IfOk result (λ lanes. lanes.below ≡ on.now.batch.now.rows) }
     ensures gives { IfOk result (λ lanes. (types : RowTypes) (rows : List JoinedRow)
-        → AreTypedRows types batch.now rows → Fits types batch.now.columns when.now Boolean
+        → AreTypedRows types on.now.batch.now rows
+        → Fits types on.now.batch.now.columns when.now Boolean
         → Passes (meant_at when.now rows) left.now lanes fault.old.held fault.new.held) }
 {
-    let when = eval(alloc, when, batch, left, fault)?;
-    let lanes = where_true(alloc, &when, left);
+    let when = eval(on, when, left, fault)?;
+    let lanes = where_true(on.alloc, &when, left);
     drop(when);
     lanes
 }
@@ -996,25 +1000,24 @@ fn put_taken<'a>(
 /// ELSE, on the lanes that no arm took.
 #[cycle(eval)]
 fn eval_otherwise<'a>(
-    alloc: Global,
+    on: &Evaluation<'a>,
     cases: Cases<'a>,
     otherwise: &'a Expr,
-    batch: &'a Batch<'_>,
     fault: &mut Fault1,
 ) -> Result<Given<'a>, AllocError>
-    requires given { IsLong batch.now.rows cases.given }
-    requires left { cases.left.below ≡ batch.now.rows }
-    ensures long { IfOk result (IsLong batch.now.rows) }
+    requires given { IsLong on.now.batch.now.rows cases.given }
+    requires left { cases.left.below ≡ on.now.batch.now.rows }
+    ensures long { IfOk result (IsLong on.now.batch.now.rows) }
     ensures gives { IfOk result
         (λ g. (types : RowTypes) (rows : List JoinedRow) (kind : ColType) (meant : ℕ
         → Outcome) (s : Positions) (held : Held)
-        → AreTypedRows types batch.now rows
-        → Fits types batch.now.columns otherwise.now (Valued kind)
+        → AreTypedRows types on.now.batch.now rows
+        → Fits types on.now.batch.now.columns otherwise.now (Valued kind)
         → Decides kind meant (meant_at otherwise.now rows) (IsWithin s) cases.entry.left held
         fault.old.held cases.entry.given
         → Gives (Valued kind) meant (IsWithin s) held fault.new.held g) }
 {
-    let result = eval_rest(alloc, &cases, otherwise, batch, fault);
+    let result = eval_rest(on, &cases, otherwise, fault);
     drop(cases);
     result
 }
@@ -1022,26 +1025,25 @@ fn eval_otherwise<'a>(
 /// The same, of what is lent.
 #[cycle(eval)]
 fn eval_rest<'a>(
-    alloc: Global,
+    on: &Evaluation<'a>,
     cases: &Cases<'a>,
     otherwise: &'a Expr,
-    batch: &'a Batch<'_>,
     fault: &mut Fault1,
 ) -> Result<Given<'a>, AllocError>
-    requires given { IsLong batch.now.rows cases.now.given }
-    requires left { cases.now.left.below ≡ batch.now.rows }
-    ensures long { IfOk result (IsLong batch.now.rows) }
+    requires given { IsLong on.now.batch.now.rows cases.now.given }
+    requires left { cases.now.left.below ≡ on.now.batch.now.rows }
+    ensures long { IfOk result (IsLong on.now.batch.now.rows) }
     ensures gives { IfOk result
         (λ g. (types : RowTypes) (rows : List JoinedRow) (kind : ColType) (meant : ℕ
         → Outcome) (s : Positions) (held : Held)
-        → AreTypedRows types batch.now rows
-        → Fits types batch.now.columns otherwise.now (Valued kind)
+        → AreTypedRows types on.now.batch.now rows
+        → Fits types on.now.batch.now.columns otherwise.now (Valued kind)
         → Decides kind meant (meant_at otherwise.now rows) (IsWithin s) cases.now.left held
         fault.old.held cases.now.given
         → Gives (Valued kind) meant (IsWithin s) held fault.new.held g) }
 {
-    let otherwise = eval(alloc, otherwise, batch, &cases.left, fault)?;
-    let result = put(alloc, &cases.left, &otherwise, &cases.given);
+    let otherwise = eval(on, otherwise, &cases.left, fault)?;
+    let result = put(on.alloc, &cases.left, &otherwise, &cases.given);
     drop(otherwise);
     result
 }

@@ -40,8 +40,9 @@ fn expect_steps(
     Ok(())
 }
 
-// Three fragments are created and closed, then finished; the dimension is created, closed and finished; the files of
-// 4,093 fragments are taken away; and the cut is created, closed and finished.
+// Three fragments are created and closed, then finished; the dimension is created, closed and
+// finished; the files of 4,093 fragments are taken away; and the cut is created, closed and
+// finished.
 const STEPS: &[(u32, &str, usize)] = &[
     (0, "1 [] [xcols: cannot write sales/sales.0.xcf\n]", 0),
     (1, "1 [] [xcols: cannot write sales/sales.0.xcf\n]", 0),

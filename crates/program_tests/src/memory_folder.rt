@@ -39,7 +39,9 @@ impl<'a> MemoryFolder<'a> {
     }
 
     fn file(&self, path: &str) -> Option<&'a [u8]>
-        ensures { option_map (λ bytes. bytes.now) result ≡ option_map (λ file. file.1.now) (find (λ file. bytes_eq file.0.now path.now) self.now.files.now) }
+        ensures { option_map (λ bytes. bytes.now) result
+            ≡ option_map (λ file. file.1.now) (find (λ file. bytes_eq file.0.now path.now)
+            self.now.files.now) }
     {
         let file = self.files.iter().find(|file| file.0 == path)?;
         Some(file.1)
@@ -65,7 +67,8 @@ impl<'a> MemoryFolder<'a> {
     }
 }
 
-// What is held and written is known, so that the contracts of the commands are met at a type that says so.
+// What is held and written is known, so that the contracts of the commands are met at a type that
+// says so.
 impl<'a> Folder for MemoryFolder<'a> {
     ghost use Rattle.std.specs.Prelude.{Some, find, map, option_map, string_bytes};
     ghost use Rattle.std.specs.Str.{bytes_eq};
@@ -76,9 +79,14 @@ impl<'a> Folder for MemoryFolder<'a> {
 
     type Closed = Vec<u8>;
 
-    ghost holds = { λ f path. option_map (λ file. file.1.now) (find (λ file. bytes_eq file.0.now path) f.files.now) };
+    ghost holds = { λ f path. option_map (λ file. file.1.now) (find
+        (λ file. bytes_eq file.0.now path) f.files.now) };
 
-    ghost wrote = { λ f. Some (map (λ change. (string_bytes change.path, option_map (λ bytes. bytes.items) change.bytes)) f.changes.items) };
+    ghost wrote = { λ f. Some (map (λ change. (
+      string_bytes change.path,
+      option_map
+          (λ bytes. bytes.items) change.bytes,
+    )) f.changes.items) };
 
     ghost enclosed = { λ bytes. Some bytes.items };
 

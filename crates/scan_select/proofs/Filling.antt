@@ -1,5 +1,5 @@
 -- What buffers hold that were filled from a row group, and the columns of a batch that they are lent as.
-use Rattle.std.proofs.Common.{◌≡◌, ℕ, zero, suc, ◌+◌, ◌-◌, ◌≤◌, ◌<◌, min, Bool, false, true, List, [], ◌∷◌, ◌++◌, append_assoc, length, map, get_or, take, drop, slice_index_or, slice_set, Option, Some, None, refl, ap, sym, subst, ◌∙◌, arith}
+use Rattle.std.proofs.Common.{◌≡◌, ℕ, zero, suc, ◌+◌, ◌-◌, ◌≤◌, ◌<◌, min, Bool, true, List, [], ◌∷◌, ◌++◌, append_assoc, length, map, get_or, take, drop, slice_index_or, slice_set, Option, Some, None, refl, ap, sym, subst, ◌∙◌, arith}
 use Rattle.std.specs.Prelude.{slice_get, All, unwrap_or}
 use Rattle.std.specs.List.{list_all, AllByRecursion, AllZip}
 use Rattle.std.proofs.lemmas.List.Elements.{All-from_recursion, recursion_from_All}
@@ -7,17 +7,16 @@ use Rattle.std.proofs.lemmas.List.{length-drop, take_more}
 use Rattle.meaning.specs.declared.catalog.Column.{Column}
 use Rattle.meaning.specs.declared.value.ColType.{ColType}
 use Rattle.meaning.specs.declared.value.Value.{Value}
-use Rattle.meaning.specs.declared.outcome.Outcome.{Outcome}
 use Rattle.meaning.specs.declared.outcome.Outcome.TheVariants as gives
-use Rattle.encodings.specs.Block.{Block, is_block, values_of}
+use Rattle.encodings.specs.Block.{Block, values_of}
 use Rattle.fragment_file.specs.Copying.{is_taken}
 use Rattle.fragment_file.specs.Fragment.{AreBlocks, IsBlockOf, no_block}
 use Rattle.vectors.specs.declared.batch.BatchColumn.{BatchColumn}
-use Rattle.vectors.specs.Vector.{BatchSpec, outcomes_of}
+use Rattle.vectors.specs.Vector.{BatchSpec, HasLanesOf}
 use Rattle.scan_select.specs.declared.buffers.ColumnBuffer.{ColumnBuffer}
-use Rattle.scan_select.specs.Buffers.{AddsLent, FitsGroup, IsBufferOf, IsPosition, IsFilled, IsLendable, IsLentOf, filled, filled_now, places_of, window_of}
+use Rattle.scan_select.specs.Buffers.{AddsLent, FitsGroup, IsBufferOf, IsPosition, IsFilled, IsLendable, IsLentOf, filled, filled_now, places_of}
 use Rattle.scan_select.specs.Groups.{current_rows}
-use Rattle.scan_select.specs.Scanned.{AddsColumns, AreColumnsAt, IsColumnAt, IsOfType, IsVectorLength}
+use Rattle.scan_select.specs.Scanned.{AddsColumns, AreColumnsAt, IsColumnAt, IsVectorLength}
 use Rattle.scan_select.proofs.Masks.{length-window, window_taken}
 use Rattle.scan_select.proofs.Rows.{length-values}
 
@@ -168,7 +167,7 @@ module _ (cs : List Column) (n most : ℕ) (group : List Block) (first rows : �
       record {
         place = lent.place;
         values = lent.values ∙ ap (map gives.Value) (holds b is filled);
-        typed = subst (λ (t : ColType). IsOfType t c.lanes) (is.col_type ∙ sym at.0.col_type) lent.typed;
+        typed = subst (λ (t : ColType). HasLanesOf t c.lanes) (is.col_type ∙ sym at.0.col_type) lent.typed;
       }
 
   all_at_places : (bs : List ColumnBuffer) (columns : List BatchColumn) → AllByRecursion (IsBufferOf cs most) bs → AllByRecursion (IsFilled group first) bs → AllZip IsLentOf bs columns → AreColumnsAt group first rows (places_of bs) columns

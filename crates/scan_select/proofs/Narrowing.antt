@@ -1,6 +1,6 @@
 -- One condition after the other.
-use Rattle.std.proofs.Common.{◌≡◌, ◌≢◌, ℕ, zero, suc, ◌+◌, ◌⊎◌, inl, inr, eqb, Bool, true, false, cond, ◌&&◌, ◌||◌, List, [], ◌∷◌, ◌++◌, get_or, map, filter, take, refl, ap, sym, ◌∙◌}
-use Rattle.std.proofs.lemmas.Bool.{and_parts, eqb-true}
+use Rattle.std.proofs.Common.{◌≡◌, ℕ, zero, suc, ◌+◌, ◌⊎◌, inl, inr, Bool, true, false, cond, ◌&&◌, List, [], ◌∷◌, ◌++◌, get_or, map, filter, take, refl, ap, sym, ◌∙◌}
+use Rattle.std.proofs.lemmas.Bool.{and_parts}
 use Rattle.meaning.specs.Truth.{is_true}
 use Rattle.meaning.specs.declared.value.Value.{Value}
 use Rattle.meaning.specs.declared.value.Value.TheVariants.{Null}
@@ -19,7 +19,9 @@ use Rattle.vector_operators.specs.Evaluated.{Held, IsBefore, Finds, Evaluates, l
 use Rattle.primitives.specs.Meant.{meant_at, row_at}
 use Rattle.scan_select.specs.Selected.{behind, conditions, conditions_at, is_kept, Narrows, Selects}
 use Rattle.std.specs.List.Sorted.{IsStrictlyIncreasing}
+use Rattle.vectors.proofs.Ascending.{among_filter}
 use Rattle.vector_operators.proofs.Composes.{before_old}
+use Rattle.vector_operators.proofs.LaneValues.{lane_sound}
 use Rattle.vector_operators.proofs.Least.{least_noted}
 
 -- ---- lanes
@@ -41,41 +43,11 @@ filter_as f g [] same = refl
 filter_as f g (x ∷ xs) same =
     ap (λ b. cond b (x ∷ filter f xs) (filter f xs)) (same x) ∙ ap (λ (rest : List ℕ). cond (g x) (x ∷ rest) rest) (filter_as f g xs same)
 
-value_sound : (vs : List Value) (p : ℕ) (f : Fault) → get_or (map {A = Value} {B = Outcome} gives.Value vs) p (gives.Value Null) ≢ gives.Fault f
-value_sound [] p f e = cc
-value_sound (v ∷ vs) zero f e = cc
-value_sound (v ∷ vs) (suc p) f e = value_sound vs p f e
-
-truth_sound : (ts : List Truth) (p : ℕ) (f : Fault) → get_or (map {A = Truth} {B = Outcome} gives.Truth ts) p (gives.Value Null) ≢ gives.Fault f
-truth_sound [] p f e = cc
-truth_sound (t ∷ ts) zero f e = cc
-truth_sound (t ∷ ts) (suc p) f e = truth_sound ts p f e
-
--- a lane is no fault
-lane_sound : (v : Vector) (p : ℕ) (f : Fault) → lane_of v p ≢ gives.Fault f
-lane_sound (vector.Ints lanes) p f e = value_sound lanes p f e
-lane_sound (vector.Texts lanes) p f e = value_sound lanes p f e
-lane_sound (vector.Truths lanes) p f e = truth_sound lanes p f e
-
 -- ---- positions
-
-and_false : (a : Bool) → (a && false) ≡ false
-and_false true = refl
-and_false false = refl
 
 in_order : (a b c : Bool) → ((a && b) && c) ≡ (a && (b && c))
 in_order true b c = refl
 in_order false b c = refl
-
-among_filter : (f : ℕ → Bool) (xs : List ℕ) (i : ℕ) → is_among (filter f xs) i ≡ (is_among xs i && f i)
-among_filter f [] i = refl
-among_filter f (x ∷ xs) i = of_head (f x) refl (eqb x i) refl (among_filter f xs i)
-  where
-    of_head : (k : Bool) → f x ≡ k → (b : Bool) → eqb x i ≡ b → is_among (filter f xs) i ≡ (is_among xs i && f i) → is_among (cond (f x) (x ∷ filter f xs) (filter f xs)) i ≡ ((eqb x i || is_among xs i) && f i)
-    of_head true k true b rest = let here : f i ≡ true = ap f (sym (eqb-true x i b)) ∙ k in rw (k, b, here) refl
-    of_head true k false b rest = rw (k, b) rest
-    of_head false k true b rest = let here : f i ≡ false = ap f (sym (eqb-true x i b)) ∙ k in rw (k, b) (rest ∙ ap (λ (c : Bool). is_among xs i && c) here ∙ and_false (is_among xs i) ∙ sym here)
-    of_head false k false b rest = rw (k, b) rest
 
 -- ---- one condition
 

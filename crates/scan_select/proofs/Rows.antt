@@ -1,9 +1,9 @@
 -- The rows that a batch has the columns of.
-use Rattle.std.proofs.Common.{◌≡◌, ℕ, zero, suc, ◌+◌, ◌≤◌, ◌<◌, Bool, false, true, cond, eqb, List, [], ◌∷◌, ◌++◌, length, Option, Some, append_assoc, get_or, map, zip, take, drop, replicate, refl, ap, sym, ◌∙◌, subst, arith}
+use Rattle.std.proofs.Common.{◌≡◌, ℕ, zero, suc, ◌+◌, ◌≤◌, ◌<◌, Bool, false, true, cond, eqb, List, [], ◌∷◌, ◌++◌, length, Option, Some, get_or, map, zip, take, drop, replicate, refl, ap, sym, ◌∙◌, subst, arith}
 use Rattle.std.specs.Prelude.{nat_le, All}
 use Rattle.std.specs.List.{range_with_len, AllByRecursion}
 use Rattle.std.proofs.lemmas.List.Elements.{All-from_recursion, recursion_from_All}
-use Rattle.std.proofs.lemmas.List.{length-map, length-replicate, take_more}
+use Rattle.std.proofs.lemmas.List.{length-map, length-replicate}
 use Rattle.std.proofs.lemmas.Slice.Zip.{length-zip}
 use Rattle.std.proofs.lemmas.List.FromFn.{length-range_with_len}
 use Rattle.std.proofs.lemmas.Simd.{pick_l-range_with_len}
@@ -22,12 +22,10 @@ use Rattle.std.proofs.lemmas.Bool.{and_parts, leb-true}
 use Rattle.fragment_file.specs.Fragment.{AreBlocks, no_block}
 use Rattle.fragment_file.specs.View.{rows_of, IsGroup}
 use Rattle.vectors.specs.declared.batch.Place.{Place}
-use Rattle.vectors.specs.declared.batch.Place.TheVariants as place
 use Rattle.vectors.specs.declared.batch.BatchColumn.{BatchColumn}
-use Rattle.vectors.specs.declared.vector.Vector.{Vector}
 use Rattle.vectors.specs.Vector.{BatchSpec, AreRowsOf, IsColumnOf, outcomes_of, reference_of}
 use Rattle.scan_select.specs.Pieces.{Piece, piece_now, row_in, rows_of_piece}
-use Rattle.scan_select.specs.Scanned.{ScanSpec, IsColumnAt, AreColumnsAt, AddsColumns, IsBatchOf, IsOfType, GivesBatch, fact_rows}
+use Rattle.scan_select.specs.Scanned.{ScanSpec, IsColumnAt, AreColumnsAt, AddsColumns, IsBatchOf, GivesBatch, fact_rows}
 use Rattle.scan_select.specs.declared.scan.ScanBatch.{ScanBatch}
 use Rattle.scan_select.specs.declared.buffers.ColumnBuffer.{ColumnBuffer}
 use Rattle.scan_select.specs.Buffers.{IsPosition, places_of}

@@ -8,19 +8,18 @@ use Rattle.meaning.specs.declared.value.ColType.{ColType}
 use Rattle.meaning.specs.declared.value.ColType.TheVariants as of_type
 use Rattle.meaning.specs.declared.value.Value.TheVariants.{Null}
 use Rattle.meaning.specs.Joined.{joined_row}
-use Rattle.meaning.specs.Typing.{ExprType, Valued, are_of_types, fits_row_types, is_column_type, is_of_type}
+use Rattle.meaning.specs.Typing.{ExprType, are_of_types, fits_row_types, is_column_type, is_of_type}
 use Rattle.encodings.specs.Block.{Block, values_of}
 use Rattle.fragment_file.specs.Fragment.{AreBlocks, AreGroups, column_values, no_block}
-use Rattle.vectors.specs.declared.vector.Vector.{Vector}
-use Rattle.vectors.specs.declared.vector.Vector.TheVariants as vector
 use Rattle.vectors.specs.declared.batch.Place.{Place}
 use Rattle.vectors.specs.declared.batch.BatchColumn.{BatchColumn}
 use Rattle.vectors.specs.Vector.{reference_of}
 use Rattle.vector_operators.specs.Given.{type_of_lanes}
 use Rattle.primitives.specs.Fitting.{is_typed_column, referenced_type}
+use Rattle.vector_operators.proofs.LaneValues.{lanes_type, same_kind}
 use Rattle.scan_select.specs.Laws.{BatchesAreTyped, header_types}
 use Rattle.scan_select.specs.Pieces.{Piece, pieces, pieces_at, pieces_of, row_in}
-use Rattle.scan_select.specs.Scanned.{AreColumnsAt, IsColumnAt, IsOfType, fact_rows}
+use Rattle.scan_select.specs.Scanned.{AreColumnsAt, IsColumnAt, fact_rows}
 
 -- ---- lists
 
@@ -93,18 +92,6 @@ pieces_typed cs n (m ∷ ms) (g ∷ gs) are typed =
     (pieces_typed cs n ms gs are.1 (λ j c at. all_behind (λ v. is_of_type c.col_type v ≡ true) (values_of (get_or g j no_block)) (column_values j gs) (typed j c at)))
 
 -- ---- columns
-
-same_kind : (kind : ColType) → is_column_type (Some kind) (Valued kind) ≡ true
-same_kind of_type.Int = refl
-same_kind of_type.Text = refl
-
-lanes_type : (kind : ColType) (lanes : Vector) → IsOfType kind lanes → type_of_lanes lanes ≡ Valued kind
-lanes_type of_type.Int (vector.Ints lanes) is = refl
-lanes_type of_type.Text (vector.Texts lanes) is = refl
-lanes_type of_type.Int (vector.Texts lanes) is = absurd is
-lanes_type of_type.Int (vector.Truths lanes) is = absurd is
-lanes_type of_type.Text (vector.Ints lanes) is = absurd is
-lanes_type of_type.Text (vector.Truths lanes) is = absurd is
 
 block_type : (cs : List Column) (n : ℕ) (bs : List Block) (p : ℕ) → AreBlocks cs n bs → p < length cs → slice_get (map (λ c. c.col_type) cs) p ≡ Some (get_or bs p no_block).col_type
 block_type [] n bs p are below = absurd (omega (arith, below))

@@ -9,10 +9,10 @@ use Rattle.fragment_file.specs.Copying.{is_taken}
 use Rattle.fragment_file.specs.Fragment.{no_block}
 use Rattle.vectors.specs.declared.batch.BatchColumn.{BatchColumn}
 use Rattle.vectors.specs.declared.batch.Place.TheVariants as place
-use Rattle.vectors.specs.Vector.{BatchSpec, outcomes_of}
+use Rattle.vectors.specs.Vector.{BatchSpec, outcomes_of, HasLanesOf}
 use Rattle.scan_select.specs.declared.buffers.ColumnBuffer.{ColumnBuffer}
 use Rattle.scan_select.specs.Groups.{current_rows}
-use Rattle.scan_select.specs.Scanned.{IsOfType, IsVectorLength}
+use Rattle.scan_select.specs.Scanned.{IsVectorLength}
 
 -- a buffer of one of these columns, with room for so many values
 pub record IsBufferOf (columns : List Column) (most : ℕ) (b : ColumnBuffer) : Type 0 where
@@ -70,7 +70,7 @@ pub record IsLendable (rows : ℕ) (b : ColumnBuffer) : Type 0 where
 pub record IsLentOf (b : ColumnBuffer) (column : BatchColumn) : Type 0 where
   pub place : column.place ≡ place.Fact b.place
   pub values : outcomes_of column.lanes ≡ map gives.Value b.values.values
-  pub typed : IsOfType b.values.col_type column.lanes
+  pub typed : HasLanesOf b.values.col_type column.lanes
 
 -- the columns stand behind those that were there
 pub record AddsLent (buffers : List ColumnBuffer) (old new : BatchSpec) : Type 0 where

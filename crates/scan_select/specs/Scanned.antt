@@ -1,8 +1,6 @@
 -- What a scan has read, and what it is still to read.
-use Rattle.std.specs.Prelude.{◌≡◌, ℕ, ◌+◌, ◌≤◌, ◌<◌, Bool, true, false, List, [], ◌∷◌, ◌++◌, map, length, replicate, get_or, take, drop, Option, Some, None, option_map, All}
+use Rattle.std.specs.Prelude.{◌≡◌, ℕ, ◌+◌, ◌≤◌, Bool, true, false, List, [], ◌∷◌, ◌++◌, map, length, replicate, get_or, take, drop, Option, Some, None, option_map}
 use Rattle.std.specs.List.{AllZip}
-use Rattle.meaning.specs.declared.value.ColType.{ColType}
-use Rattle.meaning.specs.declared.value.ColType.TheVariants as of_type
 use Rattle.meaning.specs.declared.outcome.Outcome.TheVariants as gives
 use Rattle.meaning.specs.declared.joined_row.JoinedRow.{JoinedRow}
 use Rattle.meaning.specs.Joined.{joined_row}
@@ -10,15 +8,12 @@ use Rattle.meaning.specs.Limits.{max_vector_rows}
 use Rattle.encodings.specs.Block.{Block, values_of}
 use Rattle.fragment_file.specs.declared.header.Header.{Header}
 use Rattle.fragment_file.specs.Fragment.{no_block}
-use Rattle.vectors.specs.declared.vector.Vector.{Vector}
-use Rattle.vectors.specs.declared.vector.Vector.TheVariants as vector
 use Rattle.vectors.specs.declared.batch.Place.TheVariants as place
 use Rattle.vectors.specs.declared.batch.BatchColumn.{BatchColumn}
-use Rattle.vectors.specs.Vector.{BatchSpec, AreRowsOf, outcomes_of}
+use Rattle.vectors.specs.Vector.{BatchSpec, AreRowsOf, outcomes_of, HasLanesOf}
 use Rattle.scan_select.specs.declared.fault.ScanFault.{ScanFault}
 use Rattle.scan_select.specs.declared.fault.ScanFault.TheVariants.{Memory, VectorLength}
 use Rattle.scan_select.specs.declared.scan.ScanBatch.{ScanBatch}
-use Rattle.scan_select.specs.Groups.{current_rows}
 use Rattle.scan_select.specs.Pieces.{Piece, pieces, rows_of_piece}
 
 -- the error code
@@ -63,17 +58,11 @@ IsMask nullable mask = nullable ≡ false → mask ≡ replicate (length mask) f
 
 -- ---- batches
 
--- lanes of a type
-abbrev pub IsOfType : ColType → Vector → Type 0
-IsOfType of_type.Int (vector.Ints lanes) = Unit {0}
-IsOfType of_type.Text (vector.Texts lanes) = Unit {0}
-IsOfType _ _ = ⊥
-
 -- a column of a row group: so many of its values from the first on
 pub record IsColumnAt (group : List Block) (first rows : ℕ) (p : ℕ) (column : BatchColumn) : Type 0 where
   pub place : column.place ≡ place.Fact p
   pub values : outcomes_of column.lanes ≡ map gives.Value (take rows (drop first (values_of (get_or group p no_block))))
-  pub typed : IsOfType (get_or group p no_block).col_type column.lanes
+  pub typed : HasLanesOf (get_or group p no_block).col_type column.lanes
 
 abbrev pub AreColumnsAt : List Block → ℕ → ℕ → List ℕ → List BatchColumn → Type 0
 AreColumnsAt group first rows places columns = AllZip (IsColumnAt group first rows) places columns

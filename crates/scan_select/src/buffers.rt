@@ -2,9 +2,9 @@
 ghost use Rattle.std.specs.Prelude.{◌≡◌, ◌<◌, ℕ, List, length, map, All, OnOk, IfOk};
 ghost use Rattle.meaning.specs.declared.outcome.Outcome.TheVariants as gives;
 ghost use Rattle.scan_select.specs.Buffers.{AddsLent, FitsGroup, IsBufferOf, IsLendable, IsLentOf, filled, places_of};
-ghost use Rattle.scan_select.specs.Scanned.{IsMask, IsOfType};
+ghost use Rattle.scan_select.specs.Scanned.{IsMask};
 ghost use Rattle.vectors.specs.Lanes.{nulls_of};
-ghost use Rattle.vectors.specs.Vector.{outcomes_of};
+ghost use Rattle.vectors.specs.Vector.{outcomes_of, HasLanesOf};
 
 use encodings::vector_buf::VectorBuf;
 use fragment_file::view::GroupView;
@@ -71,7 +71,7 @@ impl<'v> ColumnBuffer<'v> {
     fn lanes(&self) -> Vector<'_>
         requires { (rows : ℕ) × IsLendable rows self.now }
         ensures values { outcomes_of result ≡ map gives.Value self.now.values.values }
-        ensures typed { IsOfType self.now.values.col_type result }
+        ensures typed { HasLanesOf self.now.values.col_type result }
     {
         let nulls = lent_nulls(self.nullable, self.values.nulls());
         if let Some(ints) = self.values.ints() {

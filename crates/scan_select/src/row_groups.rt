@@ -40,7 +40,8 @@ pub trait RowGroups {
     where
         Self: 'v,
         ensures value { option_map (λ group. group) result ≡ current self.now }
-        ensures count { IfSome result (λ group. length group ≡ length (header_of self.now).columns) }
+        ensures count { IfSome result (λ group. length group
+            ≡ length (header_of self.now).columns) }
         ensures blocks { IfSome result
             (λ group. AreBlocks (header_of self.now).columns (rows_of group) group) }
         ensures some { IfSome result (λ group. 1 ≤ rows_of group) };

@@ -88,7 +88,8 @@ fn rows_now<'v, G: RowGroups + 'v>(groups: &G) -> usize
 
 /// Fills the buffers from the row group that came last, if there is one, from row `first` on.
 fn fill_now<'v, G: RowGroups + 'v>(groups: &G, buffers: &mut Vec<ColumnBuffer<'v>>, first: usize)
-    requires { (most : ℕ) × All (IsBufferOf (G.header_of groups.now).columns most) buffers.old.items }
+    requires { (most : ℕ) × All (IsBufferOf (G.header_of groups.now).columns most)
+        buffers.old.items }
     ensures { buffers.new.items ≡ filled_now (G.current groups.now) first buffers.old.items }
 {
     if let Some(group) = groups.group() {

@@ -275,7 +275,8 @@ fn null_test<'a, 'b>(
     subject: Parsed,
     lexemes: &'a [Lexeme<'b>],
 ) -> Result<(Parsed, &'a [Lexeme<'b>]), Stop>
-    ensures reads { Gives (λ x. (x.0, terms x.1.now)) result (is_of 128 subject (terms lexemes.now)) }
+    ensures reads { Gives (λ x. (x.0, terms x.1.now)) result (is_of 128 subject
+        (terms lexemes.now)) }
     ensures shorter { IfOk result (λ x. length x.1.now < length lexemes.now) }
 {
     match if_keyword(lexemes, Keyword::Not) {
@@ -608,7 +609,8 @@ fn push_arms<'a, 'b>(
     arms: &mut Sequence<Arm>,
 ) -> Result<(u8, &'a [Lexeme<'b>]), Stop>
     ensures reads { Gives (λ x. (record { arms = arms.new; deepest = x.0 }, terms x.1.now)) result
-        (arms_at (inner_at 128 left) (record { arms = arms.old; deepest = 0 }) (terms lexemes.now)) }
+        (arms_at (inner_at 128 left) (record { arms = arms.old; deepest = 0 })
+        (terms lexemes.now)) }
     ensures shorter { IfOk result (λ x. length x.1.now < length lexemes.now) }
 {
     let (mut deepest, mut rest) = push_arm(alloc, lexemes, left, 0, arms)?;

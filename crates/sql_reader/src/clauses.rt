@@ -148,7 +148,8 @@ fn joined<'a, 'b>(
     alloc: Global,
     lexemes: &'a [Lexeme<'b>],
 ) -> Result<(Joined, &'a [Lexeme<'b>]), Stop>
-    ensures reads { Gives (λ x. (x.0, terms x.1.now)) result (joined_at within (terms lexemes.now)) }
+    ensures reads { Gives (λ x. (x.0, terms x.1.now)) result (joined_at within
+        (terms lexemes.now)) }
     ensures shorter { IfOk result (λ x. length x.1.now < length lexemes.now) }
 {
     let (table, rest) = table(alloc, lexemes)?;
@@ -225,7 +226,8 @@ fn source<'a, 'b>(
     alloc: Global,
     lexemes: &'a [Lexeme<'b>],
 ) -> Result<(Source, &'a [Lexeme<'b>]), Stop>
-    ensures reads { Gives (λ x. (x.0, terms x.1.now)) result (source_at within (terms lexemes.now)) }
+    ensures reads { Gives (λ x. (x.0, terms x.1.now)) result (source_at within
+        (terms lexemes.now)) }
     ensures shorter { IfOk result (λ x. length x.1.now < length lexemes.now) }
 {
     let rest = past_keyword(lexemes, Keyword::From)?;
@@ -263,7 +265,8 @@ fn groups<'a, 'b>(
     alloc: Global,
     lexemes: &'a [Lexeme<'b>],
 ) -> Result<(Sequence<Expr>, &'a [Lexeme<'b>]), Stop>
-    ensures reads { Gives (λ x. (x.0, terms x.1.now)) result (groups_at within (terms lexemes.now)) }
+    ensures reads { Gives (λ x. (x.0, terms x.1.now)) result (groups_at within
+        (terms lexemes.now)) }
     ensures shorter { IfOk result (λ x. length x.1.now ≤ length lexemes.now) }
 {
     let mut keys = Sequence::new(alloc);
@@ -536,7 +539,8 @@ pub fn query(alloc: Global, lexemes: &[Lexeme<'_>]) -> Result<Query, Stop>
 
 /// The items, put behind others, and FROM and all behind it.
 fn selected(alloc: Global, lexemes: &[Lexeme<'_>], items: &mut Sequence<Item>) -> Result<From, Stop>
-    ensures { Gives (λ x. (items.new, x)) result (selected_at within items.old (terms lexemes.now)) }
+    ensures { Gives (λ x. (items.new, x)) result (selected_at within items.old
+        (terms lexemes.now)) }
 {
     let rest = push_items(alloc, lexemes, items)?;
     from(alloc, rest)

@@ -3,6 +3,7 @@ pub mod Blanks
 pub mod Runs
 pub mod Quotes
 pub mod AllTokens
+pub mod LeftBehind
 pub mod Names
 pub mod WorkedTokens
 pub mod Canonical

@@ -1,5 +1,5 @@
 -- What stands in the quotes of a text of UTF-8 is UTF-8, also with its quotes doubled or not.
-use Rattle.std.proofs.Common.{◌≡◌, ℕ, zero, suc, ◌+◌, ◌≤◌, ◌<◌, Bool, true, false, cond, eqb, List, [], ◌∷◌, ◌++◌, length, get_or, take, drop, Option, Some, None, not, refl, sym, subst, arith, append_assoc, inl, inr}
+use Rattle.std.proofs.Common.{◌≡◌, ℕ, zero, suc, ◌+◌, ◌≤◌, ◌<◌, Bool, true, false, cond, eqb, List, [], ◌∷◌, ◌++◌, length, get_or, take, drop, Some, not, refl, sym, subst, arith, append_assoc, inl, inr}
 use Rattle.std.specs.List.{AllByRecursion, position_or_len, before_first, after_first}
 use Rattle.std.specs.Str.{IsUtf8}
 use Rattle.std.proofs.lemmas.Bool.{cases_lt, eqb-true}
@@ -7,12 +7,12 @@ use Rattle.std.proofs.lemmas.List.{take_at, drop_at, get_or_at, length-append}
 use Rattle.std.proofs.lemmas.List.Sums.{prefix_len-le-length}
 use Rattle.std.proofs.lemmas.Str.{IsUtf8-append, IsUtf8-nil, IsUtf8-take, IsUtf8-drop, IsUtf8-from_ascii, IsCharBoundary-after_ascii, IsCharBoundary-before_ascii}
 use Rattle.std.proofs.lemmas.Str.Ascii.{IsAscii-cons, IsAscii-nil}
-use Rattle.sql_syntax.specs.Tokens as terminal
-use Rattle.sql_syntax.specs.Tokens.{Terminal, is_blank, behind_blanks, behind_line, quoted_len, terminal_at, with_first, placed_from, tokens_of, terminals}
+use Rattle.sql_syntax.specs.Tokens.{quoted_len, tokens_of, terminals}
 use Rattle.sql_syntax.specs.Phrases.{undoubled}
 use Rattle.sql_syntax.specs.CanonicalTokens.{doubled}
 use Rattle.sql_syntax.specs.Quoting.{without_quote}
-use Rattle.sql_syntax.proofs.Names.{IsProperBy, first_proper}
+use Rattle.sql_syntax.proofs.LeftBehind.{tokens_proper}
+use Rattle.sql_syntax.proofs.Names.{IsProperBy}
 use Rattle.sql_syntax.proofs.Quotes.{quote_stands}
 use Rattle.sql_syntax.proofs.Doubling.{parts, doubled_cut, undoubled_cut, shorter_cut, doubled_same, undoubled_same}
 
@@ -117,49 +117,6 @@ IsTail bs = (front : List ℕ) × IsUtf8 (front ++ bs)
 next_tail : (b : ℕ) (bs : List ℕ) → IsTail (b ∷ bs) → IsTail bs
 next_tail b bs tail = (tail.0 ++ b ∷ [], subst IsUtf8 (sym (append_assoc tail.0 (b ∷ []) bs)) tail.1)
 
-drop_tail : (n : ℕ) (bs : List ℕ) → IsTail bs → IsTail (drop n bs)
-drop_tail zero bs tail = tail
-drop_tail (suc n) [] tail = tail
-drop_tail (suc n) (b ∷ bs) tail = drop_tail n bs (next_tail b bs tail)
-
-cond_tail : (test : Bool) (xs ys : List ℕ) → IsTail xs → IsTail ys → IsTail (cond test xs ys)
-cond_tail true xs ys x y = x
-cond_tail false xs ys x y = y
-
-mutual
-  blanks_tail : (bs : List ℕ) → IsTail bs → IsTail (behind_blanks bs)
-  blanks_tail [] tail = tail
-  blanks_tail (b ∷ bs) tail =
-      cond_tail (is_blank b) (behind_blanks bs) _ (blanks_tail bs (next_tail b bs tail)) (cond_tail _ (behind_line bs) (b ∷ bs) (line_tail bs (next_tail b bs tail)) tail)
-
-  line_tail : (bs : List ℕ) → IsTail bs → IsTail (behind_line bs)
-  line_tail [] tail = tail
-  line_tail (b ∷ bs) tail = cond_tail (eqb b 10) (behind_blanks bs) (behind_line bs) (blanks_tail bs (next_tail b bs tail)) (line_tail bs (next_tail b bs tail))
-
-pair_tail : (test : Bool) (x y : Terminal × List ℕ) → IsTail x.1 → IsTail y.1 → IsTail (cond test x y).1
-pair_tail true x y here there = here
-pair_tail false x y here there = there
-
-text_tail : (o : Option ℕ) (bs : List ℕ) → IsTail bs → IsTail (terminal.text_or_none o bs).1
-text_tail (Some n) bs tail = drop_tail (n + 1) bs tail
-text_tail None bs tail = ([], IsUtf8-nil)
-
-short_tail : (o : Option Terminal) (bs : List ℕ) → IsTail bs → IsTail (terminal.short_or_none o bs).1
-short_tail (Some t) bs tail = drop_tail 1 bs tail
-short_tail None bs tail = ([], IsUtf8-nil)
-
-sign_tail : (o : Option Terminal) (bs : List ℕ) → IsTail bs → IsTail (terminal.long_or_short o bs).1
-sign_tail (Some t) bs tail = drop_tail 2 bs tail
-sign_tail None bs tail = short_tail (terminal.short_sign (get_or bs 0 0)) bs tail
-
-first_tail : (bs : List ℕ) → IsTail bs → IsTail (terminal_at bs).1
-unfolding terminal_at
-first_tail bs tail =
-    pair_tail (terminal.is_word_start (get_or bs 0 0)) (terminal.word_at bs) _ (drop_tail _ bs tail)
-    (pair_tail (terminal.is_digit (get_or bs 0 0)) (terminal.integer_at bs) _ (drop_tail _ bs tail)
-    (pair_tail (eqb (get_or bs 0 0) 39) (terminal.text_at bs) (terminal.sign_at bs) (text_tail (quoted_len (drop 1 bs)) (drop 1 bs) (drop_tail 1 bs tail))
-    (sign_tail (terminal.long_sign (get_or bs 0 0) (get_or bs 1 0)) bs tail)))
-
 -- ---- what stands in quotes
 
 in_quotes : (bs : List ℕ) (n : ℕ) → IsTail bs → get_or bs 0 0 ≡ 39 → quoted_len (drop 1 bs) ≡ Some n → IsUtf8 (take n (drop 1 bs))
@@ -169,15 +126,5 @@ in_quotes (b ∷ bs) n tail quote closed =
     let utf8 = behind_ascii tail.0 b bs (omega arith) tail.1 in
     IsUtf8-take bs n utf8 (IsCharBoundary-before_ascii bs n stands.0 (omega (arith, stands.1)))
 
-left_utf8 : (n text_len : ℕ) (bs : List ℕ) → IsTail bs → ((left : List ℕ) → IsTail left → AllByRecursion (IsProperBy IsUtf8) (terminals (placed_from n text_len left)))
-    → AllByRecursion (IsProperBy IsUtf8) (terminals (with_first text_len (placed_from n text_len) bs))
-left_utf8 n text_len [] tail more = tt
-left_utf8 n text_len (b ∷ bs) tail more = (first_proper IsUtf8 (b ∷ bs) (λ quote k closed. in_quotes (b ∷ bs) k tail quote closed), more (terminal_at (b ∷ bs)).1 (first_tail (b ∷ bs) tail))
-
-all_utf8 : (n text_len : ℕ) (bs : List ℕ) → IsTail bs → AllByRecursion (IsProperBy IsUtf8) (terminals (placed_from n text_len bs))
-all_utf8 zero text_len bs tail = tt
-all_utf8 (suc n) text_len bs tail = left_utf8 n text_len (behind_blanks bs) (blanks_tail bs tail) (all_utf8 n text_len)
-
 pub tokens_utf8 : (bs : List ℕ) → IsUtf8 bs → AllByRecursion (IsProperBy IsUtf8) (terminals (tokens_of bs))
-unfolding tokens_of
-tokens_utf8 bs utf8 = all_utf8 (length bs) (length bs) bs ([], utf8)
+tokens_utf8 bs utf8 = tokens_proper IsTail IsUtf8 ([], IsUtf8-nil) next_tail in_quotes bs ([], utf8)

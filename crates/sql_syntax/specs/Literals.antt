@@ -1,5 +1,5 @@
 -- Trees whose literals are values that a table may hold.
-use Rattle.std.specs.Prelude.{Bool, true, ◌&&◌, List, Option, Some, None, option_to_list}
+use Rattle.std.specs.Prelude.{Bool, true, ◌&&◌, List}
 use Rattle.std.specs.List.{list_all}
 use Rattle.std.specs.Option.{option_map_or}
 use Rattle.meaning.specs.declared.value.ColType.TheVariants as of_type

@@ -219,7 +219,8 @@ impl Printer {
     #[tactic(auto, using(crate::proofs::Writing::keys_first))]
     fn put_keys(&mut self, first: &OrderKey, rest: &[OrderKey]) -> Result<(), AllocError>
         ensures { OnOk result (written self.new
-            ≡ with_tokens (written self.old) (with_commas (map key_tokens (first.now ∷ rest.now)))) }
+            ≡ with_tokens (written self.old) (with_commas (map key_tokens
+            (first.now ∷ rest.now)))) }
     {
         self.put_key(first)?;
         self.put_more_keys(rest)

@@ -40,7 +40,8 @@ pub fn kind_word(kind: Kind) -> &'static str {
 
 // ---- what a block's bytes stand for
 
-/// A block as a record's words describe it, and for how many rows the vectors have room by which it is read.
+/// A block as a record's words describe it, and for how many rows the vectors have room by which it
+/// is read.
 #[derive(Clone, Copy)]
 struct Asked {
     kind: Kind,

@@ -22,7 +22,8 @@ fn push_long(alloc: Global, column: &mut Column, count: &str) -> Result<(), Colu
     pushed
 }
 
-// A line pushes `null`, `int 5`, `text word` or `long 65536`, a text of so many bytes; behind `value`, as a value.
+// A line pushes `null`, `int 5`, `text word` or `long 65536`, a text of so many bytes; behind
+// `value`, as a value.
 fn push_line(alloc: Global, column: &mut Column, line: &str) -> Result<(), ColumnFault> {
     match line.split_once(' ') {
         Some(("int", digits)) => column.push_int(digits.parse().unwrap_or(0)),

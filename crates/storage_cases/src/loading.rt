@@ -3,11 +3,11 @@ use crate::files::lengths_of;
 use crate::values::tell_values;
 use case_files::escapes::escaped_bytes;
 use case_files::stored::{StoredFile, find};
+use catalog_reader::read_catalog::read_catalog;
 use columns::Column;
 use loader::{LoadFault, count_rows, has_dim, load_dim, load_fact};
 use meaning::catalog::{Catalog, Column as Declared};
 use meaning::cut::Cut;
-use meaning::read_catalog::read_catalog;
 use meaning::sequence::Sequence;
 use meaning::table::TableFault;
 use std::alloc::{AllocError, Global};
@@ -161,8 +161,8 @@ fn tell_loaded(
     }
 }
 
-/// The columns of a table that the escaped lines are, or the refusal. The words are the catalogue's path, and then
-/// `fact` and the cut's lengths, or `dim` and a name.
+/// The columns of a table that the escaped lines are, or the refusal. The words are the catalogue's
+/// path, and then `fact` and the cut's lengths, or `dim` and a name.
 pub fn tell_load(
     alloc: Global,
     told: &mut String,

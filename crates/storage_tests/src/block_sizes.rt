@@ -322,7 +322,8 @@ fn nulls_come_back(rt: HostRuntime) -> Result<(), Fail> {
     Ok(())
 }
 
-/// Whether so many different texts come back, and their dictionary has as many entries. Each is a text of five bytes.
+/// Whether so many different texts come back, and their dictionary has as many entries. Each is a
+/// text of five bytes.
 fn dictionary_comes_back(alloc: Global, rows: usize) -> Result<bool, ColumnFault> {
     let column = falling_texts(alloc, false, rows)?;
     let size = encoded(alloc, Kind::Dict, &column).map_or(0, |payload| payload.len());

@@ -341,7 +341,8 @@ impl Write for Failing {
     }
 }
 
-/// By which number writing is refused where the device takes so many writes; `None` where it is not.
+/// By which number writing is refused where the device takes so many writes; `None` where it is
+/// not.
 fn refusal_after(alloc: Global, writes: u32) -> Result<Option<u8>, ColumnFault> {
     let mut out = Failing { left: writes };
     match write_one(alloc, integers(alloc, Shape::Small, false, ROWS)?, &mut out) {
@@ -350,8 +351,8 @@ fn refusal_after(alloc: Global, writes: u32) -> Result<Option<u8>, ColumnFault> 
     }
 }
 
-/// The first number of writes after which another refusal is told than should be. The header, three row groups and the
-/// seal are five writes.
+/// The first number of writes after which another refusal is told than should be. The header, three
+/// row groups and the seal are five writes.
 fn writes_missed(alloc: Global) -> Result<Option<u32>, ColumnFault> {
     for writes in 0..7 {
         let want = if writes < 5 { Some(8) } else { None };

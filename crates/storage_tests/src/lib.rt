@@ -1,5 +1,5 @@
-//! Tests of columns, blocks, files and loading that data can't say: large tables, every byte damaged, and readers and
-//! writers that give little at a time or fail.
+//! Tests of columns, blocks, files and loading that data can't say: large tables, every byte
+//! damaged, and readers and writers that give little at a time or fail.
 #![tactic(auto)]
 
 #[cfg(test)]

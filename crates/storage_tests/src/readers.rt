@@ -1,10 +1,10 @@
 //! CSV readers that give pieces or fail.
 // Readers that give what they have in pieces, that fail, and that make a large dimension.
 use crate::block_sizes::passes;
+use catalog_reader::read_catalog::read_catalog;
 use columns::Column;
 use loader::{LoadFault, count_rows, has_dim, load_dim, load_fact};
 use meaning::cut::Cut;
-use meaning::read_catalog::read_catalog;
 use meaning::value::ValueRef;
 use std::alloc::{AllocError, Global};
 use std::fmt::Write;
@@ -190,8 +190,8 @@ fn count_after(alloc: Global, calls: u32) -> Option<u8> {
     }
 }
 
-/// The first number of calls after which another refusal is told than should be. Nine calls give the 26 bytes, and one
-/// more tells their end.
+/// The first number of calls after which another refusal is told than should be. Nine calls give
+/// the 26 bytes, and one more tells their end.
 fn calls_missed(alloc: Global) -> Result<Option<u32>, Fail> {
     for calls in [0, 1, 2, 3, 4, 5, 6, 7, 8, 9, 20] {
         let want = if calls < 10 { Some(10) } else { None };

@@ -1,4 +1,5 @@
-//! Files scanned in vectors of several lengths, against their columns; and conditions over what is scanned.
+//! Files scanned in vectors of several lengths, against their columns; and conditions over what is
+//! scanned.
 use crate::batches::are_rows;
 use crate::files::{Shape, file_of, integers, texts};
 use columns::Column;
@@ -15,8 +16,8 @@ use vector_operators::fault::Fault1;
 use vectors::batch::Place;
 use vectors::selection::Selection;
 
-/// The rows of a batch, where they are the column's from one on, the batch is no longer than it may be, and says where in its
-/// row group it begins.
+/// The rows of a batch, where they are the column's from one on, the batch is no longer than it may
+/// be, and says where in its row group it begins.
 fn rows_of(scanned: &ScanBatch<'_>, column: &Column, from: usize, most: usize) -> Option<usize> {
     let rows = scanned.batch.rows();
     let lanes = scanned.batch.column(Place::Fact { column: 0 })?;

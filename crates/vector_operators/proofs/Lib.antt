@@ -3,6 +3,7 @@ pub mod Among
 pub mod Choosing
 pub mod Composes
 pub mod Flags
+pub mod LaneValues
 pub mod Least
 pub mod MarkedLanes
 pub mod Narrowed

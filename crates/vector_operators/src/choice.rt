@@ -254,18 +254,23 @@ fn choose_texts<'t>(
 }
 
 /// The lanes of `those`, NULL where the mask tells so.
-fn null_or<'t>(alloc: Global, mask: &[bool], those: &Given<'t>) -> Result<Given<'t>, AllocError>
-    requires { IsLong (length mask.now) those.now }
+fn null_or<'t>(
+    alloc: Global,
+    mask: &[bool],
+    nulls: &Given<'t>,
+    those: &Given<'t>,
+) -> Result<Given<'t>, AllocError>
+    requires nulls { nulls.now ≡ given.Null }
+    requires long { IsLong (length mask.now) those.now }
     ensures long { IfOk result (IsLong (length mask.now)) }
     ensures value { (kind : ColType) → is_of_kind (Valued kind) those.now ≡ true
         → IfOk result (λ g. AreChosenLanes mask.now given.Null those.now (given_at g)) }
     ensures kind { (kind : ColType) → is_of_kind (Valued kind) those.now ≡ true
         → IfOk result (λ g. is_of_kind (Valued kind) g ≡ true) }
 {
-    let these = Given::Null;
     match those {
-        Given::Ints(_) => Ok(Given::Ints(choose_ints(alloc, mask, &these, those)?)),
-        Given::Texts(_) => Ok(Given::Texts(choose_texts(alloc, mask, &these, those)?)),
+        Given::Ints(_) => Ok(Given::Ints(choose_ints(alloc, mask, nulls, those)?)),
+        Given::Texts(_) => Ok(Given::Texts(choose_texts(alloc, mask, nulls, those)?)),
         Given::Null => Ok(Given::Null),
         Given::Truths(_) => Ok(Given::Null),
     }
@@ -291,7 +296,7 @@ pub fn choose_lanes<'t>(
     match these {
         Given::Ints(_) => Ok(Given::Ints(choose_ints(alloc, mask, these, those)?)),
         Given::Texts(_) => Ok(Given::Texts(choose_texts(alloc, mask, these, those)?)),
-        Given::Null => null_or(alloc, mask, those),
+        Given::Null => null_or(alloc, mask, these, those),
         Given::Truths(_) => Ok(Given::Null),
     }
 }

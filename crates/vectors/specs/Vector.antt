@@ -1,8 +1,11 @@
 -- Vectors of any kind, and batches of them.
-use Rattle.std.specs.Prelude.{◌≡◌, ℕ, Bool, false, ◌&&◌, nat_eq, List, map, length, All}
+use Rattle.std.specs.Prelude.{◌≡◌, ℕ, Bool, false, ◌&&◌, nat_eq, List, [], map, length, All}
 use Rattle.meaning.specs.declared.outcome.Outcome.{Outcome}
 use Rattle.meaning.specs.declared.outcome.Outcome.TheVariants as gives
 use Rattle.meaning.specs.declared.joined_row.JoinedRow.{JoinedRow}
+use Rattle.meaning.specs.declared.value.ColType.{ColType}
+use Rattle.meaning.specs.declared.value.ColType.TheVariants as of_type
+use Rattle.meaning.specs.declared.value.Value.{Value}
 use Rattle.meaning.specs.References.{Reference, FactColumn, JoinColumn, GroupKey, GroupAggregate, referenced}
 use Rattle.vectors.specs.declared.vector.Vector.{Vector}
 use Rattle.vectors.specs.declared.vector.Vector.TheVariants as vector
@@ -15,6 +18,18 @@ abbrev pub outcomes_of : Vector → List Outcome
 outcomes_of (vector.Ints lanes) = map gives.Value lanes
 outcomes_of (vector.Texts lanes) = map gives.Value lanes
 outcomes_of (vector.Truths lanes) = map gives.Truth lanes
+
+-- the values of a vector's lanes; truths are none
+abbrev pub values_of : Vector → List Value
+values_of (vector.Ints lanes) = lanes
+values_of (vector.Texts lanes) = lanes
+values_of (vector.Truths lanes) = []
+
+-- lanes of a column of this type
+abbrev pub HasLanesOf : ColType → Vector → Type 0
+HasLanesOf of_type.Int (vector.Ints lanes) = Unit {0}
+HasLanesOf of_type.Text (vector.Texts lanes) = Unit {0}
+HasLanesOf _ _ = ⊥
 
 -- ---- batches
 

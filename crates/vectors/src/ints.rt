@@ -1,5 +1,5 @@
 //! Integers, lane by lane, some of them NULL.
-ghost use Rattle.std.specs.Prelude.{◌≡◌, ◌<◌, pos, length, slice_index_or};
+ghost use Rattle.std.specs.Prelude.{◌≡◌, ◌<◌, pos, length, map, slice_index_or, IfSome};
 ghost use Rattle.meaning.specs.declared.value.Value.TheVariants.{Int, Null};
 ghost use Rattle.vectors.specs.Lanes.{AreLanes, int_lanes, ints_of, or_null};
 
@@ -96,6 +96,21 @@ impl<'a> Ints<'a> {
             return None;
         }
         self.cells.present(lane)
+    }
+
+    /// The integers of the lanes, where they stand one by one and none is NULL.
+    pub fn plain(&self) -> Option<&[i64]>
+        ensures { IfSome result (λ cells. map Int cells.now ≡ self.now) }
+    {
+        let (cells, nulls) = self.parts();
+        let None = nulls.mask() else {
+            return None;
+        };
+        match cells {
+            IntCells::Lent(cells) => Some(*cells),
+            IntCells::Owned(cells) => Some(cells.as_slice()),
+            IntCells::Repeated { .. } => None,
+        }
     }
 
     /// The cells and NULLs of the lanes.

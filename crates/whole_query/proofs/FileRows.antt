@@ -1,6 +1,6 @@
 -- The rows of a file are those whose columns were written.
-use Rattle.std.specs.Prelude.{◌≡◌, ℕ, zero, suc, ◌+◌, ◌<◌, Bool, true, List, [], ◌∷◌, ◌++◌, length, map, flat_map, get_or, zip, ◌==◌, false, Result, Ok, Err}
-use Rattle.std.specs.List.{AllByRecursion, enumerate_from, range_with_len}
+use Rattle.std.specs.Prelude.{◌≡◌, ℕ, zero, suc, ◌+◌, ◌<◌, true, List, [], ◌∷◌, ◌++◌, length, map, flat_map, get_or, zip, Ok}
+use Rattle.std.specs.List.{AllByRecursion, AllZip, enumerate_from, range_with_len}
 use Rattle.std.specs.Cmp.Lexicographic.{pointwise}
 use Rattle.std.proofs.Common.{refl, sym, ap, subst, ◌∙◌, arith}
 use Rattle.std.proofs.lemmas.List.{length-map}
@@ -17,7 +17,6 @@ use Rattle.fragment_file.specs.Fragment.{FragmentSpec, IsFragment, AreBlocks, Ar
 use Rattle.scan_select.specs.Pieces.{row_in, rows_in}
 use Rattle.scan_select.specs.Laws.{RowsAreColumns, RowsAreCounted}
 use Rattle.scan_select.proofs.LawProofs.{rows_are_columns, rows_are_counted}
-use Rattle.fragment_file.specs.declared.fault.FileFault.{FileFault}
 use Rattle.fragment_file.specs.declared.header.Header.{Header}
 use Rattle.fragment_file.specs.Fragment.{Stands, table_header}
 use Rattle.fragment_file.specs.FragmentReading.{read_fragment}
@@ -26,22 +25,14 @@ use Rattle.meaning.specs.Answer.{own_body}
 use Rattle.meaning.specs.Cut.{first_row}
 use Rattle.meaning.specs.Said.{Answer}
 use Rattle.partial_codec.specs.Job.{JobSpec}
-use Rattle.wire.specs.Reading.{◌>>=◌}
-use Rattle.worker.specs.declared.fault.WorkFault.{WorkFault}
-use Rattle.worker.specs.declared.fault.WorkFault.TheVariants.{OtherFile, OtherColumn}
-use Rattle.worker.specs.Files.{has_columns, is_fragment_of, rows_of_file}
-use Rattle.worker.specs.Work.{answer_of, answered, fragment_file_of, from_file, input_of, length_of, provided}
-use Rattle.meaning.specs.declared.plan.Join.{Join}
-use Rattle.meaning.specs.declared.plan.TableUse.{TableUse}
-use Rattle.meaning.specs.Results.{all_ok}
-use Rattle.std.proofs.lemmas.Bool.{eqb-true}
+use Rattle.worker.specs.Files.{rows_of_file}
+use Rattle.worker.specs.Work.{answer_of, answered, input_of}
 use Rattle.fragment_file.specs.declared.header.Slice.{Slice}
-use Rattle.worker.specs.declared.fault.WorkFault.TheVariants as of_work
-use Rattle.worker.specs.Files.{are_unique, is_dimension_of, keys_in}
-use Rattle.worker.specs.Work.{InputSpec, dimension_file_of, dimension_files_of, dimension_rows, keyed, table_file_of}
+use Rattle.worker.specs.Work.{dimension_rows}
+use Rattle.worker.proofs.FilesRead.{files_read}
+use Rattle.worker.proofs.GivenInput.{goes_there, ok_is}
 use Rattle.whole_query.specs.declared.table_files.Rows.{Rows}
 use Rattle.whole_query.specs.Fragment.{AreRowsOfJob, AreTableFiles}
-use Rattle.whole_query.proofs.CountedRows.{ok_parts}
 
 -- ---- rows by their columns
 
@@ -146,60 +137,6 @@ file_rows f rows by_columns counted is columns count typed =
 
 -- ---- the answer of a file
 
-goes_there : {X Y : Type 0} (r : Result X WorkFault) (k : X → Result Y WorkFault) (z : Y) → (r >>= k) ≡ Ok z → (x : X) × (r ≡ Ok x) × (k x ≡ Ok z)
-goes_there (Err e) k z is = absurd cc
-goes_there (Ok x) k z is = (x, refl, is)
-
-provided_is : {X : Type 0} (b : Bool) (e : WorkFault) (x y : X) → provided b e x ≡ Ok y → x ≡ y
-provided_is true e x y is = cc
-provided_is false e x y is = absurd cc
-
-ok_is : {X E : Type 0} (x y : X) → ◌≡◌ {A = Result X E} (Ok x) (Ok y) → x ≡ y
-ok_is x y e = cc
-
-read_is : (r : Result FragmentSpec FileFault) (f : FragmentSpec) → from_file r ≡ Ok f → r ≡ Ok f
-read_is (Ok x) f is = ap (λ (g : FragmentSpec). Ok g) (ok_is x f is)
-read_is (Err e) f is = absurd cc
-
-fragment_read : (job : JobSpec) (k : ℕ) (bytes : List ℕ) (f : FragmentSpec) → fragment_file_of job k bytes ≡ Ok f → read_fragment bytes ≡ Ok f
-unfolding fragment_file_of
-fragment_read job k bytes f is =
-    let (g, read, more) = goes_there (from_file (read_fragment bytes)) (λ f. provided (is_fragment_of job k f.header) OtherFile f >>= λ f. provided (has_columns job.plan.fact f.header) OtherColumn f) f is in
-    let (h, named, last) = goes_there (provided (is_fragment_of job k g.header) OtherFile g) (λ f. provided (has_columns job.plan.fact f.header) OtherColumn f) f more in
-    read_is (read_fragment bytes) g read
-    ∙ ap (λ (x : FragmentSpec). Ok x) (provided_is (is_fragment_of job k g.header) OtherFile g h named ∙ provided_is (has_columns job.plan.fact h.header) OtherColumn h f last)
-
-passes : {X : Type 0} (b : Bool) (e : WorkFault) (x y : X) → provided b e x ≡ Ok y → b ≡ true
-passes true e x y is = refl
-passes false e x y is = absurd cc
-
-table_read : (job : JobSpec) (dim : TableUse) (bytes : List ℕ) (f : FragmentSpec) → table_file_of job dim bytes ≡ Ok f → read_fragment bytes ≡ Ok f
-unfolding table_file_of
-table_read job dim bytes f is =
-    let (g, read, more) = goes_there (from_file (read_fragment bytes)) (λ f. provided (is_dimension_of job dim f.header) OtherFile f >>= λ f. provided (has_columns dim f.header) OtherColumn f) f is in
-    let (h, named, last) = goes_there (provided (is_dimension_of job dim g.header) OtherFile g) (λ f. provided (has_columns dim f.header) OtherColumn f) f more in
-    read_is (read_fragment bytes) g read
-    ∙ ap (λ (x : FragmentSpec). Ok x) (provided_is (is_dimension_of job dim g.header) OtherFile g h named ∙ provided_is (has_columns dim h.header) OtherColumn h f last)
-
-dimension_read : (job : JobSpec) (given : Join × List ℕ) (f : FragmentSpec) → dimension_file_of job given ≡ Ok f → read_fragment given.1 ≡ Ok f
-unfolding dimension_file_of
-dimension_read job given f is =
-    let (g, read, last) = goes_there (table_file_of job given.0.dim given.1) (λ f. keyed given.0 f) f is in
-    table_read job given.0.dim given.1 g read ∙ ap (λ (x : FragmentSpec). Ok x) (provided_is (are_unique (keys_in given.0 g)) of_work.KeyTwice g f last)
-
--- the files of an input that is well were read
-input_read : (job : JobSpec) (k n : ℕ) (bytes : List ℕ) (dims : List (List ℕ)) (input : InputSpec) → input_of job k n bytes dims ≡ Ok input
-    → (read_fragment bytes ≡ Ok input.fragment) × (dimension_files_of job dims ≡ Ok input.dims)
-unfolding input_of
-input_read job k n bytes dims input is =
-    let (m, long, more) = goes_there (length_of n) (λ m. fragment_file_of job k bytes >>= λ f. dimension_files_of job dims >>= λ ds. Ok (record { fragment = f; dims = ds })) input is in
-    let (f, read, rest) = goes_there (fragment_file_of job k bytes) (λ f. dimension_files_of job dims >>= λ ds. Ok (record { fragment = f; dims = ds })) input more in
-    let (ds, joined, last) = goes_there (dimension_files_of job dims) (λ ds. Ok (record { fragment = f; dims = ds })) input rest in
-    let same : ◌≡◌ {A = InputSpec} (record { fragment = f; dims = ds }) input = ok_is _ input last in (
-      fragment_read job k bytes f read ∙ ap (λ (i : InputSpec). Ok i.fragment) same,
-      joined ∙ ap (λ (i : InputSpec). Ok i.dims) same,
-    )
-
 -- the rows of a file that stands for the columns of rows
 held_rows : (bytes : List ℕ) (table : Table) (slice : Slice) (columns : List ColumnSpec) (rows : List Row) (stands : Stands bytes (table_header 0 table slice) columns)
     → columns ≡ columns_of table.columns rows → length rows ≡ slice.rows → are_rows_of table.columns rows ≡ true
@@ -214,26 +151,17 @@ held_rows bytes table slice columns rows stands are counted typed g read =
     ap rows_of_file (sym same) ∙ file_rows f rows rows_are_columns rows_are_counted stands.spelled.sound held count fitting
 
 -- the files of tables have their rows
-files_have_rows : (job : JobSpec) (joins : List Join) (tables : List (List Row)) (files : List (List ℕ)) (found : List FragmentSpec) → AreTableFiles tables files → length files ≡ length joins
-    → all_ok (map (dimension_file_of job) (zip joins files)) ≡ Ok found → map rows_of_file found ≡ tables
-files_have_rows job [] [] [] found are count ok = let none : [] ≡ found = cc ok in ap (map rows_of_file) (sym none)
-files_have_rows job (j ∷ joins) [] [] found are count ok = absurd (omega (arith, count))
-files_have_rows job joins [] (bytes ∷ files) found are count ok = absurd are
-files_have_rows job joins (rows ∷ tables) [] found are count ok = absurd are
-files_have_rows job [] (rows ∷ tables) (bytes ∷ files) found are count ok = absurd (omega (arith, count))
-files_have_rows job (j ∷ joins) (rows ∷ tables) (bytes ∷ files) found are count ok =
-    let (f, others, first, rest, all) = ok_parts (dimension_file_of job (j, bytes)) (all_ok (map (dimension_file_of job) (zip joins files))) found ok in
-    let here = held_rows bytes are.0.table (record { fragment = 0; first_row = 0; rows = length rows }) (columns_of are.0.table.columns rows) rows are.0.stands refl refl are.0.typed f (dimension_read job (j, bytes) f first) in
-    let behind = files_have_rows job joins tables files others are.1 (omega (arith, count)) rest in
-    ap (map rows_of_file) all ∙ (λ i. here i ∷ behind i)
-
-dims_have_rows : (job : JobSpec) (tables : List (List Row)) (dims : List (List ℕ)) (found : List FragmentSpec) → AreTableFiles tables dims → dimension_files_of job dims ≡ Ok found → map rows_of_file found ≡ tables
-unfolding dimension_files_of
-dims_have_rows job tables dims found are is =
-    let (given, counted, read) = goes_there (provided (length dims == length job.plan.joins) OtherFile dims) (λ dims. all_ok (map (dimension_file_of job) (zip job.plan.joins dims))) found is in
-    let same : dims ≡ given = provided_is (length dims == length job.plan.joins) OtherFile dims given counted in
-    let count : length dims ≡ length job.plan.joins = eqb-true (length dims) (length job.plan.joins) (passes (length dims == length job.plan.joins) OtherFile dims given counted) in
-    files_have_rows job job.plan.joins tables dims found are count (ap (λ (ds : List (List ℕ)). all_ok (map (dimension_file_of job) (zip job.plan.joins ds))) same ∙ read)
+files_have_rows : (tables : List (List Row)) (files : List (List ℕ)) (found : List FragmentSpec) → AreTableFiles tables files → AllZip (λ bytes f. read_fragment bytes ≡ Ok f) files found
+    → map rows_of_file found ≡ tables
+files_have_rows [] [] [] are read = refl
+files_have_rows [] [] (f ∷ found) are read = absurd read
+files_have_rows [] (bytes ∷ files) found are read = absurd are
+files_have_rows (rows ∷ tables) [] found are read = absurd are
+files_have_rows (rows ∷ tables) (bytes ∷ files) [] are read = absurd read
+files_have_rows (rows ∷ tables) (bytes ∷ files) (f ∷ found) are read =
+    let here = held_rows bytes are.0.table (record { fragment = 0; first_row = 0; rows = length rows }) (columns_of are.0.table.columns rows) rows are.0.stands refl refl are.0.typed f read.0 in
+    let behind = files_have_rows tables files found are.1 read.1 in
+    λ i. here i ∷ behind i
 
 -- what a file of some rows answers over the files of the joined tables is their answer
 pub own_answer : (job : JobSpec) (rows : Rows) (n : ℕ) (bytes : List ℕ) (dims : List (List ℕ)) (a : Answer) (all : List Row) (tables : List (List Row)) → Stands bytes (table_header 0 rows.table.now rows.slice) rows.columns.now
@@ -242,9 +170,9 @@ pub own_answer : (job : JobSpec) (rows : Rows) (n : ℕ) (bytes : List ℕ) (dim
 own_answer job rows n bytes dims a all tables stands told are joined =
     let k = rows.slice.fragment in
     let (input, well, gives) = goes_there (input_of job k n bytes dims) (λ i. Ok (answer_of job k i)) a told in
-    let read = input_read job k n bytes dims input well in
+    let read = files_read job k n bytes dims input well in
     let facts : rows_of_file input.fragment ≡ all = held_rows bytes rows.table.now rows.slice rows.columns.now all stands are.columns are.counted are.typed input.fragment read.0 in
-    let others : dimension_rows input ≡ tables = dims_have_rows job tables dims input.dims joined read.1 in
+    let others : dimension_rows input ≡ tables = files_have_rows tables dims input.dims joined read.1 in
     sym (ok_is (answer_of job k input) a gives)
     ∙ (λ i. record { k = k; body = own_body job.plan (others i) (enumerate_from (first_row job.cut k) (facts i)) })
     ∙ ap (λ (m : ℕ). record { k = k; body = own_body job.plan tables (enumerate_from m all) }) (sym are.first)

@@ -15,7 +15,8 @@ use Rattle.columns.specs.Column.{ColumnSpec}
 use Rattle.loader.specs.Columns.{column_of, columns_of, fragments_of}
 use Rattle.fragment_file.specs.Writing.{AreColumns}
 use Rattle.whole_query.specs.Fragment.{AreFragments}
-use Rattle.whole_query.proofs.Slices.{sum_cons, room}
+use Rattle.meaning_laws.proofs.Cuts.{sum_cons}
+use Rattle.whole_query.proofs.Slices.{room}
 
 -- the rows of a fragment
 abbrev pub rows_at : Cut → ℕ → List Row → List Row

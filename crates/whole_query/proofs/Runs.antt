@@ -10,8 +10,8 @@ use Rattle.meaning.specs.Order.{Row}
 use Rattle.meaning.specs.Cut.{Cut}
 use Rattle.meaning.specs.Records.{fact_of}
 use Rattle.meaning.specs.Catalog.{IsWellFormedTable}
-use Rattle.meaning.specs.CatalogText.{catalog_of}
-use Rattle.meaning.proofs.LoadedTables.{rows_typed}
+use Rattle.catalog_reader.specs.CatalogText.{catalog_of}
+use Rattle.meaning_laws.proofs.LoadedTables.{rows_typed}
 use Rattle.columns.specs.Column.{ColumnSpec}
 use Rattle.loader.specs.Columns.{fragments_of, fact_fragments}
 use Rattle.loader.specs.Source.{csv_records}

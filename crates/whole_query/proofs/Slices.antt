@@ -1,28 +1,15 @@
 -- The rows of one fragment after another, from the front of a table.
 use Rattle.std.specs.Prelude.{◌≡◌, ℕ, zero, suc, ◌+◌, ◌<◌, ◌≤◌, List, [], ◌∷◌, ◌++◌, length, take, drop, sum, slice_index}
 use Rattle.std.specs.List.{range_with_len}
-use Rattle.std.proofs.Common.{refl, sym, ap, ◌∙◌, arith}
+use Rattle.std.proofs.Common.{sym, ap, ◌∙◌, arith}
 use Rattle.std.proofs.Math.Numerals.{suc-eq-add-one}
 use Rattle.std.proofs.lemmas.List.{length-drop, map-append}
-use Rattle.std.proofs.lemmas.List.Sums.{sum_by-cons}
 use Rattle.meaning.specs.declared.plan.Plan.{Plan}
 use Rattle.meaning.specs.Order.{Row}
 use Rattle.meaning.specs.Cut.{Cut, first_row}
 use Rattle.meaning.specs.Answer.{own}
-use Rattle.meaning.specs.Laws.{own_answers}
-
-pub sum_cons : (n : ℕ) (ns : List ℕ) → sum (n ∷ ns) ≡ n + sum ns
-sum_cons n ns = sum_by-cons (λ x. x) n ns
-
--- the next fragment begins where this one ends
-pub sum_to_next : (cut : Cut) (k : ℕ) → k < length cut → sum (take (suc k) cut) ≡ sum (take k cut) + slice_index cut k
-sum_to_next [] k below = absurd (omega arith)
-sum_to_next (n ∷ ns) zero below = refl
-sum_to_next (n ∷ ns) (suc k) below =
-    let here = sum_cons n (take (suc k) ns) in
-    let there = sum_cons n (take k ns) in
-    let rest = sum_to_next ns k (omega arith) in
-    grind (arith, here, there, rest)
+use Rattle.meaning_laws.specs.Laws.{own_answers}
+use Rattle.meaning_laws.proofs.Cuts.{sum_cons, sum_to_next}
 
 -- a front has no more rows than all
 pub sum_to_place : (cut : Cut) (k : ℕ) → sum (take k cut) ≤ sum cut

@@ -12,7 +12,7 @@ use Rattle.meaning.specs.Limits.{max_rows}
 use Rattle.meaning.specs.Order.{Row, column}
 use Rattle.meaning.specs.Records.{dimension_of}
 use Rattle.meaning.specs.Results.{and_then}
-use Rattle.meaning.proofs.LoadedTables.{rows_typed}
+use Rattle.meaning_laws.proofs.LoadedTables.{rows_typed}
 use Rattle.columns.specs.Column.{ColumnSpec}
 use Rattle.fragment_file.specs.Writing.{AreColumns}
 use Rattle.loader.specs.Columns.{column_of, columns_of, dimension_columns}

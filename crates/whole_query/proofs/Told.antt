@@ -10,9 +10,9 @@ use Rattle.meaning.specs.Cut.{Cut, numbered}
 use Rattle.meaning.specs.Output.{Output}
 use Rattle.meaning.specs.Meaning.{meaning}
 use Rattle.meaning.specs.Gather.{Report, joined, report, output}
-use Rattle.meaning.specs.Laws.{own_answers}
+use Rattle.meaning_laws.specs.Laws.{own_answers}
 use Rattle.meaning.specs.Print.{report_text}
-use Rattle.meaning.proofs.OwnStates.{report-own_answers}
+use Rattle.meaning_laws.proofs.OwnStates.{report-own_answers}
 use Rattle.columns.specs.Column.{ColumnSpec}
 use Rattle.coordinator.specs.declared.reporting.Ended.{Ended}
 use Rattle.whole_query.specs.declared.fault.WholeFault.{WholeFault}

@@ -17,10 +17,10 @@ use Rattle.meaning.specs.Meaning.{meaning}
 use Rattle.meaning.specs.TableLaws.{are_rows_of}
 use Rattle.meaning.specs.Print.{output_text}
 use Rattle.meaning.specs.Gather.{joined}
-use Rattle.meaning.specs.Laws.{own_answers}
+use Rattle.meaning_laws.specs.Laws.{own_answers}
 use Rattle.meaning.specs.Results.{all_ok, and_then}
 use Rattle.meaning.specs.Records.{Record, fact_of, dimension_of}
-use Rattle.meaning.specs.CatalogText.{catalog_of}
+use Rattle.catalog_reader.specs.CatalogText.{catalog_of}
 use Rattle.sql_reader.specs.declared.fault.SqlFault.{SqlFault}
 use Rattle.sql_reader.specs.Grammar.{IsWithin, IsRefusal}
 use Rattle.sql_reader.specs.declared.fault.SqlFault.TheVariants as sql

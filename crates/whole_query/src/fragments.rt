@@ -5,7 +5,7 @@ ghost use Rattle.meaning.specs.Limits.{max_rows};
 ghost use Rattle.meaning.specs.Said.{Answer as AnAnswer};
 ghost use Rattle.meaning.specs.Answer.{own_body};
 ghost use Rattle.meaning.specs.Gather.{joined};
-ghost use Rattle.meaning.specs.Laws.{own_answers};
+ghost use Rattle.meaning_laws.specs.Laws.{own_answers};
 ghost use Rattle.meaning.specs.Cut.{IsCut};
 ghost use Rattle.meaning.specs.Catalog.{IsWellFormedTable};
 ghost use Rattle.meaning.specs.WellFormedPlan.{IsWellFormedPlan};
@@ -85,7 +85,8 @@ fn answer_one(
         → gather.new.cells ≡ joined gather.old.job.cut
         (answers ++ record {
           k = rows.entry.slice.fragment;
-          body = own_body gather.old.job.plan tables (enumerate_from rows.entry.slice.first_row all);
+          body = own_body gather.old.job.plan tables (enumerate_from rows.entry.slice.first_row
+              all);
         }
         ∷ [])) }
     ensures refused { IfErr result (λ e. e ≡ WholeFault.Memory) }

@@ -1,56 +1,33 @@
 -- One expression, evaluated at the selected positions.
-use Rattle.std.proofs.Common.{◌≡◌, ℕ, ◌<◌, true, List, [], ◌∷◌, get_or, map, length, inl, inr, refl, ap, sym, subst, ◌∙◌, arith}
-use Rattle.std.specs.Prelude.{nat_le}
-use Rattle.std.specs.List.{AllByRecursion}
-use Rattle.std.specs.Str.{is_utf8}
-use Rattle.std.proofs.lemmas.Bool.{and_parts}
-use Rattle.std.proofs.lemmas.List.{length-map}
+use Rattle.std.proofs.Common.{◌≡◌, ℕ, ◌<◌, true, List, [], get_or, length, refl, ap, sym, subst, ◌∙◌, arith}
 use Rattle.std.proofs.lemmas.List.Elements.{recursion_from_All}
 use Rattle.meaning.specs.declared.value.ColType.{ColType}
-use Rattle.meaning.specs.declared.value.ColType.TheVariants as of_type
 use Rattle.meaning.specs.declared.value.Value.{Value}
-use Rattle.meaning.specs.declared.value.Value.TheVariants.{Null, Int, Text}
+use Rattle.meaning.specs.declared.value.Value.TheVariants.{Null}
 use Rattle.meaning.specs.declared.outcome.Truth.{Truth}
 use Rattle.meaning.specs.declared.outcome.Outcome.{Outcome}
 use Rattle.meaning.specs.declared.outcome.Outcome.TheVariants as gives
 use Rattle.meaning.specs.declared.expr.Expr.{Expr}
 use Rattle.meaning.specs.declared.joined_row.JoinedRow.{JoinedRow}
 use Rattle.meaning.specs.Expr.{eval}
-use Rattle.meaning.specs.Limits.{max_text_bytes}
 use Rattle.meaning.specs.Operators.{value_of}
-use Rattle.meaning.specs.Typing.{RowTypes, Valued, is_of_type, gives_expr_type, fits_row_types}
+use Rattle.meaning.specs.Typing.{RowTypes, Valued, gives_expr_type, fits_row_types}
 use Rattle.meaning.proofs.Typed.{typed}
-use Rattle.accumulators.specs.Values.{is_spelled, values_of}
+use Rattle.accumulators.specs.Values.{is_spelled}
+use Rattle.accumulators.proofs.Spelled.{spelled_of_type}
 use Rattle.vectors.specs.Selection.{IsSelection, Positions, is_among}
-use Rattle.vectors.specs.Vector.{BatchSpec, outcomes_of}
+use Rattle.vectors.specs.Vector.{BatchSpec, outcomes_of, values_of}
 use Rattle.vectors.specs.declared.vector.Vector.{Vector}
 use Rattle.vectors.specs.declared.vector.Vector.TheVariants as vector
 use Rattle.vector_operators.specs.Evaluated.{Held, IsBefore, Evaluates, lane_of}
 use Rattle.vector_operators.specs.Given.{IsOfType}
+use Rattle.vector_operators.proofs.LaneValues.{lane_value, values_long}
 use Rattle.primitives.specs.Fitting.{AreTypedRows, Fits}
 use Rattle.primitives.specs.Meant.{meant_at, row_at}
 use Rattle.scan_select.proofs.Rows.{all_at}
 use Rattle.worker.specs.Evaluated.{IsOnly, IsVectorOf}
-use Rattle.worker.proofs.VectorLanes.{expression_narrows, lane_value}
-use Rattle.worker.proofs.Positions.{among_within}
-
-values_long : (kind : ColType) (v : Vector) → IsOfType (Valued kind) v → length (values_of v) ≡ length (outcomes_of v)
-values_long kind (vector.Ints lanes) is = sym (length-map lanes gives.Value)
-values_long kind (vector.Texts lanes) is = sym (length-map lanes gives.Value)
-values_long kind (vector.Truths lanes) is = elim is [
-  | inl e ↦ absurd cc
-  | inr all ↦ none lanes (recursion_from_All (λ lane. lane ≡ gives.Value Null) (map gives.Truth lanes) all.1)
-]
-  where
-    none : (ts : List Truth) → AllByRecursion (λ lane. lane ≡ gives.Value Null) (map gives.Truth ts) → 0 ≡ length (map {A = Truth} {B = Outcome} gives.Truth ts)
-    none [] all = refl
-    none (t ∷ ts) all = absurd (let e = all.0 in cc)
-
-spelled_of_type : (kind : ColType) (v : Value) → is_of_type kind v ≡ true → is_spelled v ≡ true
-spelled_of_type kind Null e = refl
-spelled_of_type kind (Int n) e = refl
-spelled_of_type of_type.Int (Text t) e = absurd cc
-spelled_of_type of_type.Text (Text t) e = (and_parts (is_utf8 t) (nat_le (length t) max_text_bytes) e).0
+use Rattle.worker.proofs.VectorLanes.{expression_narrows}
+use Rattle.vectors.proofs.Ascending.{among_within}
 
 spelled_outcome : (kind : ColType) (o : Outcome) → gives_expr_type (Valued kind) o ≡ true → is_spelled (value_of o) ≡ true
 spelled_outcome kind (gives.Value v) e = spelled_of_type kind v e

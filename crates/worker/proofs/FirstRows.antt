@@ -1,27 +1,15 @@
 -- The numbers of fragments' first rows.
-use Rattle.std.specs.Prelude.{◌≡◌, ℕ, zero, suc, ◌+◌, ◌<◌, ◌≤◌, ◌^◌, List, [], ◌∷◌, length, take, sum, slice_index, get_or}
-use Rattle.std.proofs.Common.{refl, arith, add-one}
+use Rattle.std.specs.Prelude.{◌≡◌, ℕ, zero, suc, ◌+◌, ◌<◌, ◌≤◌, ◌^◌, [], length, slice_index, get_or}
+use Rattle.std.proofs.Common.{arith, add-one}
 use Rattle.std.proofs.lemmas.List.Elements.{recursion_from_All}
-use Rattle.std.proofs.lemmas.List.Sums.{sum_by-cons}
 use Rattle.meaning.specs.Cut.{IsCut, Cut, first_row}
 use Rattle.meaning.specs.Limits.{max_rows}
+use Rattle.meaning_laws.proofs.Cuts.{sum_to_next}
 use Rattle.partial_codec.proofs.Fitting.{few_rows_before}
-
-sum_cons : (n : ℕ) (ns : List ℕ) → sum (n ∷ ns) ≡ n + sum ns
-sum_cons n ns = sum_by-cons (λ x. x) n ns
-
-next_suc : (cut : Cut) (k : ℕ) → k < length cut → sum (take (suc k) cut) ≡ sum (take k cut) + slice_index cut k
-next_suc [] k below = absurd (omega arith)
-next_suc (n ∷ ns) zero below = refl
-next_suc (n ∷ ns) (suc k) below =
-    let here = sum_cons n (take (suc k) ns) in
-    let there = sum_cons n (take k ns) in
-    let rest = next_suc ns k (omega arith) in
-    grind (arith, here, there, rest)
 
 -- the next fragment begins where this one ends
 next_first : (cut : Cut) (k : ℕ) → k < length cut → first_row cut (k + 1) ≡ first_row cut k + slice_index cut k
-next_first cut k below = rw add-one (next_suc cut k below)
+next_first cut k below = rw add-one (sum_to_next cut k below)
 
 -- rows of a cut are numbered in 64 bits
 pub first_fits : (cut : Cut) (k : ℕ) → IsCut cut → first_row cut k + 1048576 < 2 ^ 64

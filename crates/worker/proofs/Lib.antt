@@ -12,9 +12,10 @@ pub mod JudgedRows
 pub mod KeyedRows
 pub mod NumberedRows
 pub mod OpenedDimensions
-pub mod Positions
 pub mod TypedRows
 pub mod UsedColumns
 pub mod VectorLanes
 pub mod FirstRows
 pub mod GivenInput
+pub mod ThinnedRows
+pub mod SievedTables

@@ -20,7 +20,7 @@ zip_push R [] (b ∷ ys) x y are is = absurd are
 zip_push R (a ∷ xs) [] x y are is = absurd are
 zip_push R (a ∷ xs) (b ∷ ys) x y are is = (are.0, zip_push R xs ys x y are.1 is)
 
-used_at : (us : List ColumnUse) (cs : List Column) (i : ℕ) (u : ColumnUse) → list_all (λ u. is_column u (slice_get cs u.place)) us ≡ true → i < length us → u ≡ get_or us i u → is_column u (slice_get cs u.place) ≡ true
+pub used_at : (us : List ColumnUse) (cs : List Column) (i : ℕ) (u : ColumnUse) → list_all (λ u. is_column u (slice_get cs u.place)) us ≡ true → i < length us → u ≡ get_or us i u → is_column u (slice_get cs u.place) ≡ true
 used_at [] cs i u all lt is = absurd (omega (arith, lt))
 used_at (x ∷ us) cs zero u all lt is = ap (λ (y : ColumnUse). is_column y (slice_get cs y.place)) is ∙ (and_parts _ _ all).0
 used_at (x ∷ us) cs (suc i) u all lt is = used_at us cs i u (and_parts (is_column x (slice_get cs x.place)) _ all).1 (omega (arith, lt)) is
@@ -32,7 +32,7 @@ AreThere cs us = list_all (λ u. is_column u (slice_get cs u.place)) us ≡ true
 pub place_at : (us : List ColumnUse) (cs : List Column) (i : ℕ) (u : ColumnUse) → AreThere cs us → i < length us → u ≡ get_or us i u → u.place < length cs
 place_at us cs i u has lt is = (column_there u cs u.place (used_at us cs i u has lt is)).0
 
-type_of : (cs : List Column) (i : ℕ) (kind : ColType) (d : Column) → slice_get (map (λ c. c.col_type) cs) i ≡ Some kind → (get_or cs i d).col_type ≡ kind
+pub type_of : (cs : List Column) (i : ℕ) (kind : ColType) (d : Column) → slice_get (map (λ c. c.col_type) cs) i ≡ Some kind → (get_or cs i d).col_type ≡ kind
 type_of [] i kind d e = absurd cc
 type_of (c ∷ cs) zero kind d e = cc
 type_of (c ∷ cs) (suc i) kind d e = type_of cs i kind d e

@@ -6,3 +6,6 @@ pub mod Work
 pub mod Dimensions
 pub mod Joining
 pub mod Gathered
+pub mod Testing
+pub mod Tables
+pub mod Sieving

@@ -1,9 +1,8 @@
 //! Vectors that have texts at the selected positions alone.
 ghost use Rattle.std.specs.Prelude.{◌≡◌, ◌<◌, ℕ, length, All, IfOk, if◌then◌else◌};
-ghost use Rattle.accumulators.specs.Values.{values_of};
 ghost use Rattle.meaning.specs.declared.value.Value.TheVariants.{Null};
 ghost use Rattle.vectors.specs.Selection.{is_among};
-ghost use Rattle.vectors.specs.Vector.{outcomes_of};
+ghost use Rattle.vectors.specs.Vector.{outcomes_of, values_of};
 ghost use Rattle.worker.specs.Evaluated.{AreOnly, IsOnly};
 
 use std::alloc::{AllocError, Global};

@@ -13,6 +13,8 @@ mod lanes;
 mod progress;
 mod refusals;
 mod rows;
+mod sieving;
+mod testing;
 
 pub use answering::work;
 pub use fault::WorkFault;

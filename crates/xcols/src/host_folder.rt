@@ -8,8 +8,9 @@ use std::{fs, io};
 
 /// The files of the host. Their bytes are not known to contracts.
 ///
-/// A file is written under a name of its own, and renamed to its path once its bytes are on the disk. So no half file
-/// lies under the path itself: neither where a run is stopped in the middle, nor where runs write the same path at once.
+/// A file is written under a name of its own, and renamed to its path once its bytes are on the
+/// disk. So no half file lies under the path itself: neither where a run is stopped in the middle,
+/// nor where runs write the same path at once.
 #[derive(Drop)]
 pub struct HostFolder<'a, R> {
     alloc: Global,

@@ -9,8 +9,8 @@ use std::{fs, io};
 /// How many names are tried for a file.
 const MOST_PARTS: u32 = 1_000;
 
-/// A name beside the path that a file is for, which no other run writes. The file under it is removed where the name is
-/// let go before the file stands under its path.
+/// A name beside the path that a file is for, which no other run writes. The file under it is
+/// removed where the name is let go before the file stands under its path.
 pub struct Part<'a, R: Files> {
     files: &'a R,
     name: String,

@@ -1,36 +1,22 @@
 //! A value of those that stand one by one.
-ghost use Rattle.std.specs.Prelude.{◌≡◌, ◌*◌, ◌<◌, ◌≤◌, [], ◌∷◌, true, length, slice_index_or};
+ghost use Rattle.std.specs.Prelude.{◌≡◌, ◌<◌, [], true, slice_index_or};
 ghost use Rattle.meaning.specs.Order.{value_in};
 ghost use Rattle.meaning.specs.declared.value.Value.TheVariants.{Null};
 ghost use Rattle.encodings.specs.Plain.{values_form, is_values_form, ends_of, joined_of};
-ghost use Rattle.bit_packing.specs.Bytes.{words};
 ghost use Rattle.columns.specs.Texts.{texts_from};
 
-use bit_packing::numbers::{integer_at, word_at};
+use crate::plain::texts::{text_at, texts_form};
+use bit_packing::numbers::integer_at;
 use meaning::value::{ColType, ValueRef};
 
-/// Where text `i` begins in the joined bytes.
-fn start_at(count: usize, bytes: &[u8], i: usize) -> usize
-    requires front { 4 * count ≤ length bytes.now }
-    requires within { i < count }
-    ensures { result ≡ slice_index_or (0 ∷ words count bytes.now) i 0 }
-{
-    if i == 0 {
-        return 0;
-    }
-    word_at(bytes, i - 1) as usize
-}
-
-fn text_at(count: usize, bytes: &[u8], i: usize) -> &[u8]
+/// Text `i` of `count` texts.
+fn text_of_form(count: usize, bytes: &[u8], i: usize) -> &[u8]
     requires form { is_values_form ColType.Text count bytes.now ≡ true }
     requires within { i < count }
     ensures { result.now ≡ slice_index_or
         (texts_from 0 (ends_of count bytes.now) (joined_of count bytes.now)) i [] }
 {
-    let joined = &bytes[4 * count..];
-    let start = start_at(count, bytes, i);
-    let end = word_at(bytes, i) as usize;
-    &joined[start..end]
+    text_at(texts_form(bytes, count), i)
 }
 
 /// Value `i` of `count` values of a type.
@@ -41,6 +27,6 @@ pub fn value_at(col_type: ColType, count: usize, bytes: &[u8], i: usize) -> Valu
 {
     match col_type {
         ColType::Int => ValueRef::Int(integer_at(bytes, i)),
-        ColType::Text => ValueRef::Text(text_at(count, bytes, i)),
+        ColType::Text => ValueRef::Text(text_of_form(count, bytes, i)),
     }
 }

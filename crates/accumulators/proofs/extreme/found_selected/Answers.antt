@@ -4,7 +4,7 @@ use Rattle.meaning.specs.declared.answer.Statistics.{Statistics}
 use Rattle.meaning.specs.Aggregate.{merge, no_statistics}
 use Rattle.meaning.specs.Order.{value_in}
 use Rattle.accumulators.specs.Kinds.{end_state, kind_from}
-use Rattle.accumulators.specs.Values.{values_of}
+use Rattle.vectors.specs.Vector.{values_of}
 use Rattle.accumulators.proofs.Growing.{adds_up_more}
 use Rattle.accumulators.proofs.extreme.found_selected.Goals as goal
 

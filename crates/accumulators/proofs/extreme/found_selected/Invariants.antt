@@ -3,7 +3,8 @@ use Rattle.std.proofs.Common.{◌≡◌, ◌≤◌, true}
 use Rattle.meaning.specs.Aggregate.{no_statistics}
 use Rattle.meaning.specs.Order.{value_in}
 use Rattle.accumulators.specs.Kinds.{end_state, kind_from}
-use Rattle.accumulators.specs.Values.{is_spelled, values_of}
+use Rattle.accumulators.specs.Values.{is_spelled}
+use Rattle.vectors.specs.Vector.{values_of}
 use Rattle.accumulators.proofs.Growing.{AddsUp}
 use Rattle.accumulators.proofs.extreme.found_selected.Given as goal
 

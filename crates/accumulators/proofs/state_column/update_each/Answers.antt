@@ -3,7 +3,8 @@ use Rattle.std.proofs.Common.{◌≡◌, ℕ, ◌<◌, ◌≤◌, ◌∷◌, [],
 use Rattle.meaning.specs.declared.value.Value.TheVariants.{Null}
 use Rattle.accumulators.specs.Columns.{kind_of_cells, merged_at, states_in}
 use Rattle.accumulators.specs.Entries.{state_of}
-use Rattle.accumulators.specs.Values.{selected, values_of}
+use Rattle.accumulators.specs.Values.{selected}
+use Rattle.vectors.specs.Vector.{values_of}
 use Rattle.accumulators.proofs.AtPlaces.{height_next, room_next}
 use Rattle.accumulators.proofs.Placing.{entries_end, entries_more, entry_room, one_less, selected_at, selected_long}
 use Rattle.accumulators.proofs.state_column.update_each.Goals as goal

@@ -1,7 +1,8 @@
 -- Invariants of `update_each` (`state_column`).
 use Rattle.std.proofs.Common.{◌≡◌, length, drop}
 use Rattle.accumulators.specs.Columns.{kind_of_cells, states_in}
-use Rattle.accumulators.specs.Values.{selected, values_of}
+use Rattle.accumulators.specs.Values.{selected}
+use Rattle.vectors.specs.Vector.{values_of}
 use Rattle.accumulators.proofs.AtPlaces.{HasRoom}
 use Rattle.accumulators.proofs.Placing.{EntriesAddUp}
 use Rattle.accumulators.proofs.state_column.update_each.Given as goal

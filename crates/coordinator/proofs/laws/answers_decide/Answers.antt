@@ -3,7 +3,7 @@ use Rattle.std.proofs.Common.{List, ap}
 use Rattle.meaning.specs.Said.{Cell}
 use Rattle.meaning.specs.Gather.{report}
 use Rattle.meaning.specs.Print.{report_text}
-use Rattle.meaning.proofs.Cells.{same_state}
+use Rattle.meaning_laws.proofs.Cells.{same_state}
 use Rattle.partial_codec.specs.State.{state_bytes}
 use Rattle.coordinator.proofs.laws.answers_decide.Goals as goal
 

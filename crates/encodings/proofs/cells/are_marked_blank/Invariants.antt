@@ -2,7 +2,7 @@
 use Rattle.std.proofs.Common.{◌≡◌, ◌+◌, ◌-◌, ◌*◌, ◌/◌, ◌^◌, ◌≤◌}
 use Rattle.encodings.specs.Block.{body_cells}
 use Rattle.encodings.specs.Block.{are_blank_from}
-use Rattle.encodings.proofs.MaskWords.{window}
+use Rattle.bit_packing.proofs.MaskWindows.{window}
 use Rattle.encodings.proofs.cells.are_marked_blank.Given as goal
 
 abbrev pub invariant-loop-marks : goal.invariant-loop-marks

@@ -1,6 +1,7 @@
 -- Proofs of the goals of `update` (`columns`).
 use Rattle.std.proofs.Common.{zip}
-use Rattle.accumulators.specs.Values.{selected, values_of}
+use Rattle.accumulators.specs.Values.{selected}
+use Rattle.vectors.specs.Vector.{values_of}
 use Rattle.group_by.specs.RowPlaces.{listed}
 use Rattle.group_by.proofs.Updating.{updated}
 use Rattle.group_by.proofs.columns.update.Goals as goal

@@ -2,7 +2,8 @@
 use Rattle.std.proofs.Common.{ℕ, ◌<◌, length, zip, get_or, subst, sym}
 use Rattle.std.proofs.lemmas.List.{get_or_default}
 use Rattle.vectors.specs.declared.vector.Vector.{Vector}
-use Rattle.accumulators.specs.Values.{selected, values_of}
+use Rattle.accumulators.specs.Values.{selected}
+use Rattle.vectors.specs.Vector.{values_of}
 use Rattle.group_by.specs.Places.{no_column, IsUpdated}
 use Rattle.group_by.specs.RowPlaces.{listed}
 use Rattle.group_by.proofs.Updating.{done_more}

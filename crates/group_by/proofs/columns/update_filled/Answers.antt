@@ -4,7 +4,8 @@ use Rattle.std.proofs.Common.{◌≡◌, List, OnOk, length, subst, sym, ◌∙�
 use Rattle.meaning.specs.declared.answer.Statistics.{Statistics}
 use Rattle.accumulators.specs.Columns.{of_states}
 use Rattle.accumulators.specs.Entries.{with_entries}
-use Rattle.accumulators.specs.Values.{selected, values_of}
+use Rattle.accumulators.specs.Values.{selected}
+use Rattle.vectors.specs.Vector.{values_of}
 use Rattle.accumulators.proofs.Placing.{selected_long}
 use Rattle.group_by.specs.declared.row_places.RowPlaces.{RowPlaces}
 use Rattle.group_by.specs.RowPlaces.{listed}

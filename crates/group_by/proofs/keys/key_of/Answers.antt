@@ -2,7 +2,7 @@
 use Rattle.std.proofs.Common.{ap, ◌∙◌, get_or}
 use Rattle.meaning.specs.declared.value.Value.TheVariants.{Null}
 use Rattle.vectors.specs.declared.vector.Vector.{Vector}
-use Rattle.accumulators.specs.Values.{values_of}
+use Rattle.vectors.specs.Vector.{values_of}
 use Rattle.group_by.proofs.Finding.{key_more}
 use Rattle.group_by.proofs.keys.key_of.Goals as goal
 

@@ -1,7 +1,8 @@
 -- Proofs of the goals of `plain_key` (`keys`).
 use Rattle.std.proofs.Common.{rules, ◌≡◌, length, ap, ◌∙◌}
 use Rattle.vectors.specs.declared.vector.Vector.{Vector}
-use Rattle.accumulators.specs.Values.{selected, values_of}
+use Rattle.accumulators.specs.Values.{selected}
+use Rattle.vectors.specs.Vector.{values_of}
 use Rattle.group_by.proofs.Finding.{int_rows}
 use Rattle.group_by.proofs.keys.plain_key.Goals as goal
 

@@ -1,7 +1,8 @@
 -- Proofs of the goals of `plain_text_key` (`plain_texts`).
 use Rattle.std.proofs.Common.{rules, arith, ◌≡◌, length, get_or, ap, ◌∙◌}
 use Rattle.vectors.specs.declared.vector.Vector.{Vector}
-use Rattle.accumulators.specs.Values.{selected, values_of}
+use Rattle.accumulators.specs.Values.{selected}
+use Rattle.vectors.specs.Vector.{values_of}
 use Rattle.group_by.proofs.Texts.{text_rows, texts_spelled}
 use Rattle.group_by.proofs.plain_texts.plain_text_key.Goals as goal
 

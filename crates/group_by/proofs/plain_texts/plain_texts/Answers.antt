@@ -2,7 +2,7 @@
 use Rattle.std.proofs.Common.{refl, ap, sym, ◌∙◌, List, ℕ, Bor}
 use Rattle.std.proofs.lemmas.List.{length-map}
 use Rattle.meaning.specs.declared.value.Value.TheVariants.{Text}
-use Rattle.accumulators.specs.Values.{values_of}
+use Rattle.vectors.specs.Vector.{values_of}
 use Rattle.accumulators.proofs.Plain.{plain_long, plain_selected}
 use Rattle.group_by.proofs.Texts.{read}
 use Rattle.group_by.proofs.plain_texts.plain_texts.Goals as goal

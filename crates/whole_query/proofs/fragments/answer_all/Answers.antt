@@ -3,7 +3,7 @@ use Rattle.std.proofs.Common.{ap, length, ◌∙◌}
 use Rattle.std.specs.List.{range_with_len}
 use Rattle.meaning.specs.declared.plan.Plan.{Plan}
 use Rattle.meaning.specs.Gather.{joined}
-use Rattle.meaning.specs.Laws.{own_answers}
+use Rattle.meaning_laws.specs.Laws.{own_answers}
 use Rattle.partial_codec.specs.Job.{JobSpec}
 use Rattle.coordinator.specs.Gathering.{GatherSpec}
 use Rattle.whole_query.proofs.fragments.answer_all.Goals as goal

@@ -9,7 +9,7 @@ use Rattle.meaning.specs.Cut.{Cut, IsCut, first_row}
 use Rattle.fragment_file.specs.Writing.{AreColumns}
 use Rattle.meaning.specs.Answer.{own_body}
 use Rattle.meaning.specs.Gather.{joined}
-use Rattle.meaning.specs.Laws.{own_answers}
+use Rattle.meaning_laws.specs.Laws.{own_answers}
 use Rattle.partial_codec.specs.Job.{JobSpec}
 use Rattle.partial_codec.proofs.Fitting.{short_at}
 use Rattle.worker.proofs.FirstRows.{next_fits}

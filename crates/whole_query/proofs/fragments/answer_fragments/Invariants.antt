@@ -4,7 +4,7 @@ use Rattle.std.specs.List.{range_with_len}
 use Rattle.meaning.specs.Cut.{first_row}
 use Rattle.meaning.specs.Order.{Row}
 use Rattle.meaning.specs.Gather.{joined}
-use Rattle.meaning.specs.Laws.{own_answers}
+use Rattle.meaning_laws.specs.Laws.{own_answers}
 use Rattle.whole_query.specs.Fragment.{AreFragments, AreTableFiles}
 use Rattle.whole_query.proofs.fragments.answer_fragments.Given as goal
 

@@ -2,7 +2,7 @@
 use Rattle.std.proofs.Common.{Result, Ok, Err}
 use Rattle.std.specs.Prelude.{IfOk}
 use Rattle.meaning.specs.Typing.{Valued}
-use Rattle.accumulators.specs.Values.{values_of}
+use Rattle.vectors.specs.Vector.{values_of}
 use Rattle.vectors.specs.declared.vector.Vector.{Vector}
 use Rattle.worker.specs.Evaluated.{IsOnly}
 use Rattle.worker.proofs.Evaluating.{vector_of}

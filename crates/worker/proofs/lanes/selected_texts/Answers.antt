@@ -6,7 +6,7 @@ use Rattle.meaning.specs.declared.value.Value.{Value}
 use Rattle.vectors.specs.Selection.{Positions, is_among}
 use Rattle.worker.specs.Evaluated.{AreOnly, IsOnly}
 use Rattle.worker.proofs.Chosen.{all_selected, only_these}
-use Rattle.worker.proofs.Positions.{among_range, among_within}
+use Rattle.vectors.proofs.Ascending.{among_range, among_within}
 use Rattle.worker.proofs.lanes.selected_texts.Goals as goal
 
 pub returns-in-None : goal.returns-in-None

@@ -2,7 +2,7 @@
 use Rattle.std.proofs.Common.{◌+◌, ◌≤◌, length}
 use Rattle.meaning.specs.declared.plan.AggregateKind.TheVariants.{Count}
 use Rattle.accumulators.specs.State.{most_entries}
-use Rattle.accumulators.specs.Values.{values_of}
+use Rattle.vectors.specs.Vector.{values_of}
 use Rattle.accumulators.proofs.Growing.{AddsUp}
 use Rattle.accumulators.proofs.count_acc.CountAcc.add_selected.Given as goal
 

@@ -1,7 +1,7 @@
 -- Proofs of the goals of `SumAcc::add_selected` (`sum_acc`).
 use Rattle.std.proofs.Common.{ℕ, ◌<◌, length, subst}
 use Rattle.meaning.specs.declared.plan.AggregateKind.TheVariants.{Sum}
-use Rattle.accumulators.specs.Values.{values_of}
+use Rattle.vectors.specs.Vector.{values_of}
 use Rattle.accumulators.proofs.Growing.{adds_up_more, room_more}
 use Rattle.accumulators.proofs.sum_acc.SumAcc.add_selected.Goals as goal
 

@@ -3,7 +3,7 @@ use Rattle.std.proofs.Common.{◌≡◌, true, List, ◌++◌, length, ap, sym, 
 use Rattle.meaning.specs.Said.{Answer}
 use Rattle.meaning.specs.Said.{Cell}
 use Rattle.meaning.specs.Gather.{joined}
-use Rattle.meaning.proofs.Cells.{joined-append}
+use Rattle.meaning_laws.proofs.Cells.{joined-append}
 use Rattle.coordinator.specs.Gathering.{GatherSpec, IsGather, join_states, joined_with}
 use Rattle.coordinator.specs.Joining.{all_news}
 use Rattle.coordinator.proofs.StateFiles.{joined_fits, same_lengths}

@@ -13,4 +13,4 @@ returns-in-Int c =
 
 pub returns-in-Text : goal.returns-in-Text
 returns-in-Text c =
-    text_value c.args.col_type c.args.count c.args.i c.args.bytes.now _ c.in-Text.is c.requires.within c.text_at.ensures
+    text_value c.args.col_type c.args.count c.args.i c.args.bytes.now _ c.in-Text.is c.requires.within c.text_of_form.ensures

@@ -1,6 +1,0 @@
--- Proofs of the goals of `like_by_bytes` (`laws`).
-use Rattle.meaning.proofs.LikeBytes.{like_bytes}
-use Rattle.meaning.proofs.laws.like_by_bytes.Goals as goal
-
-pub returns : goal.returns
-returns c = like_bytes

@@ -1,6 +1,0 @@
--- Proofs of the goals of `previews_are_meanings` (`laws`).
-use Rattle.meaning.proofs.OwnStates.{preview-joined}
-use Rattle.meaning.proofs.laws.previews_are_meanings.Goals as goal
-
-pub returns : goal.returns
-returns c = preview-joined

@@ -1,0 +1,7 @@
+//! Evaluates an expression on one joined row, as its definition says, node by node. The queries
+//! themselves go over vectors, in `primitives`.
+#![tactic(auto)]
+
+pub mod eval;
+mod like;
+mod operators;

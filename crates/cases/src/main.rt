@@ -4,15 +4,15 @@
 
 mod catalog;
 mod cut;
-mod judging;
 mod kinds;
 mod program;
 mod refusals;
 mod selection;
 mod sql;
 mod stored_folder;
+mod tally;
 
-use crate::judging::{Tally, run_cases};
+use crate::tally::{Tally, run_cases};
 use std::process::ExitCode;
 use std::{env, fs, io};
 

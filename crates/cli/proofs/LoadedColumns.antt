@@ -1,10 +1,9 @@
 -- Columns of loaded tables are such as files are written of.
 use Rattle.std.proofs.Common.{◌≡◌, ◌≤◌, ◌<◌, ℕ, ◌+◌, Bool, true, false, List, [], ◌∷◌, length, map, take, Ok, Err, refl, sym, subst, arith}
-use Rattle.std.specs.Prelude.{Result, Option, Some, nat_lt, nat_le, sum, if◌then◌else◌}
+use Rattle.std.specs.Prelude.{Result, Option, Some, nat_lt, nat_le, if◌then◌else◌}
 use Rattle.std.specs.List.{enumerate_from}
 use Rattle.std.proofs.lemmas.Bool.{ltb-false, leb-false}
 use Rattle.std.proofs.lemmas.List.{length-map}
-use Rattle.std.proofs.lemmas.List.Sums.{sum_by-cons}
 use Rattle.meaning.specs.Limits.{max_rows}
 use Rattle.meaning.specs.declared.catalog.Column.{Column}
 use Rattle.meaning.specs.declared.catalog.Dimension.{Dimension}
@@ -22,9 +21,6 @@ use Rattle.folders.proofs.Each.{each_so}
 use Rattle.folders.specs.Folder.{Holds}
 use Rattle.folders.specs.Each.{AreEach}
 use Rattle.cli.specs.Loading.{AreDimensionColumns, IsDimensionLoaded, rows_in}
-
-sum_cons : (n : ℕ) (ns : List ℕ) → sum (n ∷ ns) ≡ n + sum ns
-sum_cons n ns = sum_by-cons (λ x. x) n ns
 
 -- what goes on ended well only if what came before did
 well_before : {X Y E : Type 0} (r : Result X E) (next : X → Result Y E) (y : Y) → and_then r next ≡ Ok y → (x : X) × (r ≡ Ok x) × (next x ≡ Ok y)

@@ -5,7 +5,7 @@ use Rattle.meaning.specs.declared.catalog.Catalog.{Catalog}
 use Rattle.meaning.specs.declared.plan.Plan.{Plan}
 use Rattle.catalog_reader.specs.CatalogText.{catalog_of}
 use Rattle.coordinator.specs.Gathering.{GatherSpec}
-use Rattle.coordinator.specs.declared.reporting.Ended.{Ended}
+use Rattle.coordinator.specs.declared.report.Ended.{Ended}
 use Rattle.whole_query.specs.Whole.{IsAnswered, IsPlanned}
 use Rattle.folders.specs.Folder.{AreHeld, Holds, catalog_path}
 use Rattle.folders.specs.declared.refusal.Refusal.{Refusal}

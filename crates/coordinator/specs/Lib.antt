@@ -5,5 +5,5 @@ pub mod Gathering
 pub mod Joining
 pub mod Laws
 pub mod Faults
-pub mod Reporting
+pub mod Report
 pub mod Merging

@@ -9,11 +9,11 @@ mod joining;
 mod laws;
 pub mod lines;
 mod output;
-mod reporting;
+mod report;
 mod same_job;
 
 pub use fault::GatherFault;
 pub use gather::{Absorbed, Gather};
 pub use last_step::PrintFault;
 pub use laws::{answers_decide, states_join};
-pub use reporting::{Ended, Report};
+pub use report::{Ended, Report};

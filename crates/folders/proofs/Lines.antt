@@ -4,8 +4,8 @@ use Rattle.fragment_file.specs.declared.fault.FileFault.{FileFault}
 use Rattle.fragment_file.specs.declared.fault.FileFault.TheVariants as fault_is
 use Rattle.meaning.specs.Records.{number_of}
 use Rattle.meaning.specs.declared.table.TableFault.{TableFault}
-use Rattle.worker.specs.declared.fault.WorkFault.{WorkFault}
-use Rattle.worker.specs.declared.fault.WorkFault.TheVariants as work_fault
+use Rattle.job_files.specs.declared.fault.WorkFault.{WorkFault}
+use Rattle.job_files.specs.declared.fault.WorkFault.TheVariants as work_fault
 use Rattle.folders.specs.Telling.{file_details, numbered_line, table_details, table_line, work_details}
 
 -- a line of a table's refusal is made of its number and details

@@ -8,8 +8,8 @@ use Rattle.loader.specs.declared.fault.LoadFault.{LoadFault}
 use Rattle.loader.specs.declared.fault.LoadFault.TheVariants as load_fault
 use Rattle.fragment_file.specs.declared.fault.FileFault.{FileFault}
 use Rattle.fragment_file.specs.declared.fault.FileFault.TheVariants as file_fault
-use Rattle.worker.specs.declared.fault.WorkFault.{WorkFault}
-use Rattle.worker.specs.declared.fault.WorkFault.TheVariants as work_fault
+use Rattle.job_files.specs.declared.fault.WorkFault.{WorkFault}
+use Rattle.job_files.specs.declared.fault.WorkFault.TheVariants as work_fault
 use Rattle.whole_query.specs.declared.fault.WholeFault.{WholeFault}
 use Rattle.whole_query.specs.declared.fault.WholeFault.TheVariants as whole_fault
 use Rattle.folders.specs.Folder.{csv_path}

@@ -15,9 +15,9 @@ use Rattle.planner_expressions.specs.declared.fault.PlanFault.{PlanFault}
 use Rattle.fragment_file.specs.Fault as file
 use Rattle.fragment_file.specs.declared.fault.FileFault.{FileFault}
 use Rattle.fragment_file.specs.declared.fault.FileFault.TheVariants as file_fault
-use Rattle.worker.specs.Fault as work
-use Rattle.worker.specs.declared.fault.WorkFault.{WorkFault}
-use Rattle.worker.specs.declared.fault.WorkFault.TheVariants as work_fault
+use Rattle.job_files.specs.Fault as work
+use Rattle.job_files.specs.declared.fault.WorkFault.{WorkFault}
+use Rattle.job_files.specs.declared.fault.WorkFault.TheVariants as work_fault
 use Rattle.folders.specs.declared.refusal.Refusal.{Refusal}
 use Rattle.folders.specs.declared.refusal.Refusal.TheVariants as refusal
 

@@ -6,6 +6,7 @@ ghost use Rattle.folders.specs.declared.refusal.Refusal.TheVariants as refusal;
 
 use crate::paths::csv_path;
 use fragment_file::FileFault;
+use job_files::WorkFault;
 use loader::LoadFault;
 use meaning::catalog::CatalogFault;
 use meaning::cut::CutFault;
@@ -15,7 +16,6 @@ use planner_expressions::fault::PlanFault;
 use sql_reader::SqlFault;
 use std::alloc::{AllocError, AllocFailed, Global};
 use whole_query::WholeFault;
-use worker::WorkFault;
 
 /// Why a command was not done.
 #[derive(Drop)]

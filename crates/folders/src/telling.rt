@@ -2,10 +2,11 @@
 ghost use Rattle.std.specs.Prelude.{◌≡◌, [], ◌∷◌, codes, decimal, OnOk};
 ghost use Rattle.std.specs.Io.KnownBytes.{Appends};
 ghost use Rattle.folders.specs.Telling.{numbered_line, catalog_line, sql_line, table_line, plan_line, cut_file_line, work_line, passed_over_line, file_line, plain_line, line_of};
-ghost use Rattle.worker.specs.declared.fault.WorkFault.TheVariants.{File};
+ghost use Rattle.job_files.specs.declared.fault.WorkFault.TheVariants.{File};
 
 use crate::refusal::Refusal;
 use fragment_file::FileFault;
+use job_files::WorkFault;
 use meaning::catalog::CatalogFault;
 use meaning::table::TableFault;
 use meaning::text::Text;
@@ -13,7 +14,6 @@ use planner_expressions::fault::PlanFault;
 use sql_reader::SqlFault;
 use std::io;
 use std::io::Write;
-use worker::WorkFault;
 
 fn tell_number<E: Write>(word: &str, number: u8, err: &mut E) -> io::Result<()>
     ensures { OnOk result (Appends (E.contents err.old) (E.contents err.new)

@@ -8,9 +8,11 @@ pub mod Loops
 pub mod FromWire
 pub mod Places
 pub mod ReadFaults
+pub mod RowLaws
 pub mod ShortPayloads
 pub mod Sizes
 pub mod TakenValues
+pub mod TypedRows
 pub mod TypedValues
 pub mod Worked
 pub mod Written

@@ -116,7 +116,7 @@ module _ (p : Value → Bool) (null : p Null ≡ true) where
   all_masked (true ∷ ns) (c ∷ cs) e = both null (all_masked ns cs (and_parts (p c) (list_all p cs) e).1)
   all_masked (false ∷ ns) (c ∷ cs) e = let h = and_parts (p c) (list_all p cs) e in both h.0 (all_masked ns cs h.1)
 
-null_typed : (t : ColType) → is_of_type t Null ≡ true
+pub null_typed : (t : ColType) → is_of_type t Null ≡ true
 null_typed of_type.Int = refl
 null_typed of_type.Text = refl
 

@@ -4,5 +4,6 @@ pub mod CutFile
 pub mod Fault
 pub mod Fragment
 pub mod FragmentReading
+pub mod Rows
 pub mod View
 pub mod Writing

@@ -4,6 +4,7 @@ ghost use Rattle.columns.specs.Column.{ColumnSpec};
 ghost use Rattle.fragment_file.specs.declared.header.Header.{Header as AHeader};
 ghost use Rattle.fragment_file.specs.Fragment.{FragmentSpec, IsFileOf, Stands};
 ghost use Rattle.fragment_file.specs.CutFile.{CutFileSpec, IsCutFileOf};
+ghost use Rattle.fragment_file.specs.Rows.{RowsAreColumns, RowsAreCounted};
 
 /// Bytes are the file of one header with one list of row groups at most.
 pub fn one_file()
@@ -20,4 +21,14 @@ pub fn one_table_slice()
 pub fn one_cut()
     ensures { (bytes : List ℕ) (f g : CutFileSpec) → IsCutFileOf bytes f → IsCutFileOf bytes g
         → f ≡ g }
+{}
+
+/// The rows of a file's row groups have in each column what the file's column holds.
+pub fn rows_are_columns()
+    ensures { RowsAreColumns }
+{}
+
+/// A file has as many rows as its header tells.
+pub fn rows_are_counted()
+    ensures { RowsAreCounted }
 {}

@@ -22,6 +22,6 @@ pub use copying::{read_column, read_columns};
 pub use cut_reading::read_cut;
 pub use cut_writing::write_cut;
 pub use fault::FileFault;
-pub use laws::{one_cut, one_file, one_table_slice};
+pub use laws::{one_cut, one_file, one_table_slice, rows_are_columns, rows_are_counted};
 pub use opening::open;
 pub use writing::write;

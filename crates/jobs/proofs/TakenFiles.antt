@@ -15,11 +15,12 @@ use Rattle.partial_codec.specs.State.{SpellsState}
 use Rattle.partial_codec.specs.declared.fault.DecodeFault.{DecodeFault}
 use Rattle.coordinator.specs.Gathering.{GatherSpec, Takes, join_states, joined_with}
 use Rattle.coordinator.specs.declared.gather.Absorbed.{Absorbed}
+use Rattle.coordinator.proofs.Held.{below_cut}
 use Rattle.folders.specs.Folder.{Holds}
 use Rattle.folders.specs.Telling.{passed_over_line}
 use Rattle.jobs.specs.Gathering.{IsTaken, IsTaking, Taken, answer, gathered, is_state, line_of, obstacle_of, passed, state, takings_of}
 use Rattle.jobs.specs.Taking.{TakesBytes, TakesFile, TakesOrNames, TookFiles}
-use Rattle.jobs.proofs.Together.{answer_more, below_cut, passed_more, state_more}
+use Rattle.jobs.proofs.Together.{answer_more, passed_more, state_more}
 
 pub appends_nothing : (o : Option (List ℕ)) → Appends o o []
 appends_nothing None = tt

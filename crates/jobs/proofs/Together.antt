@@ -1,6 +1,6 @@
 -- What files say together, with one file more.
 use Rattle.std.proofs.Common.{◌≡◌, ◌≢◌, ℕ, ◌<◌, Bool, if◌then◌else◌, List, [], ◌∷◌, ◌++◌, length, get_or, slice_set, slice_index_or, zero, suc, inl, inr, refl, sym, ap, ◌∙◌, arith}
-use Rattle.std.proofs.lemmas.Bool.{eq-eqb, ltb-true, ne_eqb}
+use Rattle.std.proofs.lemmas.Bool.{eq-eqb, ne_eqb}
 use Rattle.std.proofs.lemmas.Bool.Decides.{eqb_tells}
 use Rattle.std.proofs.lemmas.List.{ext_get_or, get_or-set_other, get_or-set_same, length-set}
 use Rattle.std.proofs.lemmas.List.FromFn.{get_or-map-range_with_len, length-map-range_with_len}
@@ -10,9 +10,6 @@ use Rattle.meaning.specs.Said.{Answer}
 use Rattle.meaning.specs.Said.{Cell}
 use Rattle.meaning.specs.declared.answer.Cell.TheVariants.{Nothing, One, Conflict}
 use Rattle.meaning_laws.proofs.Cells.{join_cells-assoc}
-use Rattle.meaning.proofs.Tests.{first_of}
-use Rattle.partial_codec.specs.Answer.{Fits}
-use Rattle.partial_codec.specs.Job.{JobSpec}
 use Rattle.partial_codec.specs.declared.fault.DecodeFault.{DecodeFault}
 use Rattle.coordinator.specs.Gathering.{join_states}
 use Rattle.jobs.specs.Gathering.{Taking, answer, state, passed, cell_among, cell_in, gathered}
@@ -42,9 +39,6 @@ gathered_from cut cells ts long each =
     each k within ∙ sym (cell_gathered cut ts k within))
 
 -- ---- an answer
-
-pub below_cut : (job : JobSpec) (a : Answer) → Fits job a → a.k < length job.cut
-below_cut job a fits = ltb-true a.k (length job.cut) (first_of _ _ fits)
 
 said_here : (a : Answer) (k : ℕ) → a.k ≡ k → cell_in k (answer a) ≡ One a.body
 said_here a k same = ap (λ (b : Bool). if b then One a.body else Nothing) (eq-eqb a.k k same)

@@ -14,8 +14,8 @@ use Rattle.partial_codec.specs.Job.{JobSpec}
 use Rattle.partial_codec.specs.State.{SpellsState, state_bytes, state_obstacle}
 use Rattle.partial_codec.specs.declared.fault.DecodeFault.{DecodeFault}
 use Rattle.coordinator.specs.Gathering.{GatherSpec}
-use Rattle.coordinator.specs.Reporting.{summary}
-use Rattle.coordinator.specs.declared.reporting.Report.{Report}
+use Rattle.coordinator.specs.Report.{summary}
+use Rattle.coordinator.specs.declared.report.Report.{Report}
 use Rattle.folders.specs.Folder.{AreHeld, Change, Holds, WritesOne}
 use Rattle.folders.specs.Refused.{IsUnread, IsUnwritten}
 use Rattle.folders.specs.Telling.{passed_over_line}

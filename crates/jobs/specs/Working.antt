@@ -5,7 +5,7 @@ use Rattle.meaning.specs.declared.plan.Join.{Join}
 use Rattle.partial_codec.specs.Answer.{Spells}
 use Rattle.partial_codec.specs.Job.{JobSpec}
 use Rattle.worker.specs.Work.{answered}
-use Rattle.worker.specs.declared.fault.WorkFault.{WorkFault}
+use Rattle.job_files.specs.declared.fault.WorkFault.{WorkFault}
 use Rattle.folders.specs.Each.{AreEach}
 use Rattle.folders.specs.Folder.{AreHeld, Change, Holds, WritesOne, dimension_path, fragment_path}
 use Rattle.folders.specs.Refused.{IsUnread, IsUnwritten}

@@ -4,7 +4,7 @@ ghost use Rattle.std.specs.Io.KnownBytes.{Appends};
 ghost use Rattle.meaning.specs.Gather.{report};
 ghost use Rattle.meaning.specs.Print.{report_text};
 ghost use Rattle.partial_codec.specs.State.{state_bytes};
-ghost use Rattle.coordinator.specs.Reporting.{summary};
+ghost use Rattle.coordinator.specs.Report.{summary};
 ghost use Rattle.folders.specs.Folder.{WritesOne};
 ghost use Rattle.folders.specs.Refused.{IsUnwritten};
 ghost use Rattle.jobs.specs.Gathering.{IsReported, IsReportRefused, IsSaved, IsSaveRefused, IsUnprinted};

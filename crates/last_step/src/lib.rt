@@ -3,7 +3,6 @@
 
 mod aggregates;
 mod columns;
-mod evaluating;
 mod expanding;
 mod finished;
 mod finishing;
@@ -14,6 +13,7 @@ mod printing;
 mod run;
 mod runs;
 mod showing;
+mod shown;
 mod stop;
 
 pub use finished::Finished;

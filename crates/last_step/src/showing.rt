@@ -13,8 +13,8 @@ ghost use Rattle.last_step.specs.Runs.{expanded, plain_rows, rows_after};
 
 use crate::aggregates::front_of;
 use crate::columns::batch_of;
-use crate::evaluating::evaluate;
 use crate::run::Run;
+use crate::shown::evaluate;
 use crate::stop::Stop;
 use accumulators::{Group, owned, position, value_at};
 use meaning::plan::Plan;

@@ -10,9 +10,10 @@ use Rattle.meaning.specs.declared.table.TableFault.TheVariants as fault
 use Rattle.meaning.specs.Cut.{IsCut, Cut}
 use Rattle.meaning.specs.Records.{Record, is_header, file_order, unless_few, judged_record}
 use Rattle.meaning.specs.Results.{all_ok, and_then}
+use Rattle.meaning_laws.proofs.Cuts.{sum_cons}
 use Rattle.loader.specs.Columns.{fact_fragments, fragments_of}
 use Rattle.loader.specs.Steps.{order_of, fragments_left}
-use Rattle.loader.proofs.WholeTable.{cut_from, sum_cons}
+use Rattle.loader.proofs.WholeTable.{cut_from}
 
 -- the order of the columns, where the first record is a header
 abbrev pub ordered : Bool → List ℕ → Result (List ℕ) TableFault

@@ -8,6 +8,7 @@ use Rattle.meaning.specs.declared.table.TableFault.TheVariants as fault
 use Rattle.meaning.specs.Order.{Row}
 use Rattle.meaning.specs.Records.{Record}
 use Rattle.meaning.specs.Results.{and_then}
+use Rattle.meaning_laws.proofs.Cuts.{sum_cons}
 use Rattle.columns.specs.Column.{ColumnSpec}
 use Rattle.loader.specs.Columns.{columns_of}
 use Rattle.loader.specs.Fault.{fault_told}
@@ -18,7 +19,6 @@ use Rattle.loader.specs.declared.fault.LoadFault.{LoadFault}
 use Rattle.loader.specs.declared.fault.LoadFault.TheVariants.{Memory, Table, Device}
 use Rattle.loader.specs.Steps.{TakesFragment, enough_rows, fragments_at, fragments_left, is_more, unless_more}
 use Rattle.loader.proofs.RowRuns.{behind, behind_none}
-use Rattle.loader.proofs.WholeTable.{sum_cons}
 
 -- a record that is left over is told behind all fragments
 left_over : (fragment : List ColumnSpec) (rest : List Record) (all : Result (List (List ColumnSpec)) TableFault) → and_then (in_front fragment all) (unless_more rest) ≡ in_front fragment (and_then all (unless_more rest))

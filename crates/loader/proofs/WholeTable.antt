@@ -3,7 +3,6 @@ use Rattle.std.proofs.Common.{◌≡◌, ◌≤◌, ◌<◌, inl, inr, ℕ, suc,
 use Rattle.std.specs.Prelude.{Result, nat_lt, sum, if◌then◌else◌}
 use Rattle.std.specs.List.{enumerate_from}
 use Rattle.std.proofs.lemmas.Bool.{lt-ltb, le-ltb, le-leb, lt-leb, cases_lt}
-use Rattle.std.proofs.lemmas.List.Sums.{sum_by-cons}
 use Rattle.std.proofs.lemmas.List.{length-append, take_all, take-append-drop, length-take}
 use Rattle.std.proofs.Math.Seq.{take-append_seam, drop-append_seam, drop-append-add}
 use Rattle.meaning.specs.declared.catalog.Column.{Column}
@@ -12,13 +11,11 @@ use Rattle.meaning.specs.declared.table.TableFault.TheVariants as fault
 use Rattle.meaning.specs.Order.{Row}
 use Rattle.meaning.specs.Records.{Record, row_of, judged_record, unless_few, unless_repeated}
 use Rattle.meaning.specs.Results.{and_then, with_result}
+use Rattle.meaning_laws.proofs.Cuts.{sum_cons}
 use Rattle.columns.specs.Column.{ColumnSpec}
 use Rattle.loader.specs.Columns.{columns_of, fragments_of}
 use Rattle.loader.specs.Steps.{rows_of, fragments_at, unless_more}
 use Rattle.loader.proofs.RowRuns.{ok_parts, behind, all_from, parts_from}
-
-pub sum_cons : (n : ℕ) (ns : List ℕ) → sum (n ∷ ns) ≡ n + sum ns
-sum_cons n ns = sum_by-cons (λ x. x) n ns
 
 -- without a key nothing is repeated
 alone : (r : Result Row TableFault) (i : ℕ) (earlier : List (Result Row TableFault)) → and_then r (unless_repeated None i earlier) ≡ r

@@ -22,7 +22,7 @@ use Rattle.planner_expressions.specs.Results.{each_ok}
 use Rattle.planner_expressions.specs.Sorts.{is_value, same_sort}
 use Rattle.planner_expressions.specs.Spelled.{Spelling, spelled, place_among}
 use Rattle.planner_expressions.proofs.Accepted.{goes_there}
-use Rattle.planner.specs.declared.aggregating.Aggregates.{Aggregates}
+use Rattle.planner.specs.declared.aggregates.Aggregates.{Aggregates}
 use Rattle.planner.specs.Aggregates.{aggregate_node, aggregate_of, aggregates_in, with_new, with_aggregate, with_aggregates, with_parts}
 use Rattle.planner.specs.Checked.{checked, conditions_checked, groups_checked, condition_check, item_check, key_check}
 use Rattle.planner.specs.Groups.{no_aggregates, item_aggregates, all_aggregates, is_empty, is_grouped, key_of, key_trees}

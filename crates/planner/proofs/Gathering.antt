@@ -8,7 +8,7 @@ use Rattle.sql_syntax.specs.declared.tree.Expr.TheViews.{roll-Expr}
 use Rattle.planner_expressions.specs.declared.scope.Scope.{Scope}
 use Rattle.planner_expressions.specs.Trees.{parts_of}
 use Rattle.planner_expressions.proofs.Replaced.{parts_give}
-use Rattle.planner.specs.declared.aggregating.Aggregates.{Aggregates}
+use Rattle.planner.specs.declared.aggregates.Aggregates.{Aggregates}
 use Rattle.planner.specs.Aggregates.{is_aggregate, aggregates_in, arm_aggregates, arm_parts, with_aggregate, with_aggregates, with_parts}
 use Rattle.planner.proofs.Topmost.{given, joined, passes, below}
 

@@ -44,7 +44,7 @@ use Rattle.planner_expressions.specs.Typed.{type_of_sort}
 use Rattle.planner_expressions.proofs.Accepted.{goes_there}
 use Rattle.planner_expressions.proofs.AlikeTrees.{spelled_sorts}
 use Rattle.planner_expressions.proofs.TypedRows.{Has, all_typed, same_is}
-use Rattle.planner.specs.declared.grouping.Keys.{Keys}
+use Rattle.planner.specs.declared.keys.Keys.{Keys}
 use Rattle.planner.specs.Aggregates.{aggregates_in, aggregate_node, aggregate_of, kind_of, type_in, row_type}
 use Rattle.planner.specs.Checked.{checked, condition_check, item_check, key_check}
 use Rattle.planner.specs.Groups.{all_aggregates, is_empty, is_grouped, item_aggregates, key_of, key_trees, no_keys}

@@ -18,7 +18,7 @@ use Rattle.planner_expressions.specs.From.{scope_of}
 use Rattle.planner_expressions.specs.Results.{each_ok}
 use Rattle.planner_expressions.specs.Spelled.{spelled}
 use Rattle.planner_expressions.proofs.Accepted.{goes_there}
-use Rattle.planner.specs.declared.grouping.Keys.{Keys}
+use Rattle.planner.specs.declared.keys.Keys.{Keys}
 use Rattle.planner.specs.declared.parts.Grouped.{Grouped}
 use Rattle.planner.specs.Checked.{checked}
 use Rattle.planner.specs.Groups.{aggregates_fit, all_aggregates, entries_check, entry_check, is_grouped, is_integer, item_aggregates, items_fit, key_of, key_trees, keys_check, keys_of, limits_check, no_keys, with_keys}

@@ -7,10 +7,10 @@ use Rattle.planner_expressions.specs.declared.basis.Basis.TheVariants.{Groups}
 use Rattle.planner_expressions.specs.declared.fault.PlanFault.{PlanFault}
 use Rattle.planner_expressions.specs.declared.scope.Scope.{Scope}
 use Rattle.planner_expressions.specs.Results.{Tells}
-use Rattle.planner.specs.declared.aggregating.Aggregates.{Aggregates}
+use Rattle.planner.specs.declared.aggregates.Aggregates.{Aggregates}
 use Rattle.planner.specs.declared.conjuncts.Conjuncts.{Conjuncts}
 use Rattle.planner.specs.declared.conjuncts.Equality.{Equality}
-use Rattle.planner.specs.declared.grouping.Keys.{Keys}
+use Rattle.planner.specs.declared.keys.Keys.{Keys}
 use Rattle.planner.specs.declared.parts.Grouped.{Grouped}
 use Rattle.planner.specs.declared.parts.Tables.{Tables}
 use Rattle.planner.specs.Groups.{all_aggregates, grouped_with, keys_by}

@@ -46,9 +46,9 @@ use Rattle.planner_expressions.proofs.Accepted.{goes_there, rows_translate}
 use Rattle.planner_expressions.proofs.HasTypes.{has-Literal}
 use Rattle.planner_expressions.proofs.Tables.{scopes_are_tables}
 use Rattle.planner_expressions.proofs.TypedRows.{rows_are_typed, same_is}
-use Rattle.planner.specs.declared.aggregating.Aggregates.{Aggregates}
+use Rattle.planner.specs.declared.aggregates.Aggregates.{Aggregates}
 use Rattle.planner.specs.declared.conjuncts.Conjuncts.{Conjuncts}
-use Rattle.planner.specs.declared.grouping.Keys.{Keys}
+use Rattle.planner.specs.declared.keys.Keys.{Keys}
 use Rattle.planner.specs.declared.parts.Grouped.{Grouped}
 use Rattle.planner.specs.declared.parts.Shown.{Shown}
 use Rattle.planner.specs.declared.parts.Tables.{Tables}

@@ -41,7 +41,7 @@ use Rattle.planner_expressions.specs.Spelled.{Spelling, spelled, place_among}
 use Rattle.planner_expressions.specs.Uses.{names, names_arm, names_node}
 use Rattle.planner_expressions.proofs.Tables.{scopes_are_tables}
 use Rattle.planner.specs.declared.conjuncts.Equality.{Equality}
-use Rattle.planner.specs.declared.aggregating.Aggregates.{Aggregates}
+use Rattle.planner.specs.declared.aggregates.Aggregates.{Aggregates}
 use Rattle.planner.specs.Aggregates.{aggregates_in, aggregate_node, aggregate_of, count_rows, is_aggregate, with_new, with_aggregate, with_aggregates, with_parts}
 use Rattle.planner.specs.Checked.{conditions}
 use Rattle.planner.specs.Conjuncts.{is_no_and, row_expr}

@@ -19,7 +19,7 @@ use Rattle.planner_expressions.specs.declared.sort.Sort.TheVariants as sort
 use Rattle.planner_expressions.specs.Judged.{Told, judged}
 use Rattle.planner_expressions.specs.Spelled.{Spelling, spelled, place_among}
 use Rattle.planner_expressions.specs.Trees.{topmost}
-use Rattle.planner.specs.declared.aggregating.Aggregates.{Aggregates}
+use Rattle.planner.specs.declared.aggregates.Aggregates.{Aggregates}
 use Rattle.planner.specs.Conjuncts.{row_expr}
 
 abbrev pub is_aggregate_node : {X A : Type 0} → Expr-F X A → Bool

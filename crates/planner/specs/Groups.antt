@@ -15,8 +15,8 @@ use Rattle.planner_expressions.specs.declared.fault.PlanFault.TheVariants as fau
 use Rattle.planner_expressions.specs.declared.scope.Scope.{Scope}
 use Rattle.planner_expressions.specs.Results.{each_ok}
 use Rattle.planner_expressions.specs.Spelled.{spelled}
-use Rattle.planner.specs.declared.aggregating.Aggregates.{Aggregates}
-use Rattle.planner.specs.declared.grouping.Keys.{Keys}
+use Rattle.planner.specs.declared.aggregates.Aggregates.{Aggregates}
+use Rattle.planner.specs.declared.keys.Keys.{Keys}
 use Rattle.planner.specs.Aggregates.{aggregates_in, with_parts, row_type}
 use Rattle.planner.specs.Checked.{Checked}
 use Rattle.planner.specs.Conjuncts.{row_expr}

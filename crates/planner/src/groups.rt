@@ -7,8 +7,8 @@ ghost use Rattle.planner_expressions.specs.declared.basis.Basis.TheVariants.{Gro
 ghost use Rattle.planner.specs.Shown.{items_of, order_of};
 ghost use Rattle.planner.specs.Planned.{shown_of as shown_in, groups_with, groups_of as groups_in, basis_of};
 
-use crate::aggregating::Aggregates;
-use crate::grouping::{
+use crate::aggregates::Aggregates;
+use crate::keys::{
     Keys, check_aggregates, check_keys, gather_having, gather_items, no_aggregates, no_keys,
     push_keys,
 };

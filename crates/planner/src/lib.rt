@@ -1,11 +1,11 @@
 //! Planning: from a query's tree to a plan, with every name looked up.
 #![tactic(auto)]
 
-mod aggregating;
+mod aggregates;
 mod checking;
 mod conjuncts;
-mod grouping;
 mod groups;
+mod keys;
 pub mod laws;
 mod parts;
 mod planning;

@@ -3,34 +3,23 @@ ghost use Rattle.std.specs.Prelude.{◌≡◌};
 ghost use Rattle.planner_expressions.specs.Numbers.{number_of};
 
 use std::alloc::AllocError;
+use std::fmt::{self, Display, Formatter, Write};
 use thiserror::Error;
 
 /// Why a query has no plan.
 #[derive(Debug, Drop, Error)]
 pub enum PlanFault {
-    #[error("out of memory")]
     Memory,
-    #[error("a table that the catalogue does not have")]
     TableUnknown,
-    #[error("a column that no table has")]
     ColumnUnknown,
-    #[error("a name that stands for several things")]
     Ambiguous,
-    #[error("types that do not fit")]
     TypeMismatch,
-    #[error("a dimension without a join equality")]
     NoEquality,
-    #[error("a dimension with two join equalities")]
     TwoEqualities,
-    #[error("the fact table is not named just once")]
     FactNotOnce,
-    #[error("a column that is not grouped")]
     NotGrouped,
-    #[error("an aggregate where none may stand")]
     MisplacedAggregate,
-    #[error("a place or a name that may not stand in GROUP BY or ORDER BY")]
     PlaceNotAllowed,
-    #[error("over a limit")]
     OverLimit,
 }
 
@@ -53,6 +42,30 @@ impl PlanFault {
             PlanFault::PlaceNotAllowed => 10,
             PlanFault::OverLimit => 11,
         }
+    }
+
+    fn text(&self) -> &'static str {
+        match self {
+            PlanFault::Memory => "out of memory",
+            PlanFault::TableUnknown => "a table that the catalogue does not have",
+            PlanFault::ColumnUnknown => "a column that no table has",
+            PlanFault::Ambiguous => "a name that stands for several things",
+            PlanFault::TypeMismatch => "types that do not fit",
+            PlanFault::NoEquality => "a dimension without a join equality",
+            PlanFault::TwoEqualities => "a dimension with two join equalities",
+            PlanFault::FactNotOnce => "the fact table is not named just once",
+            PlanFault::NotGrouped => "a column that is not grouped",
+            PlanFault::MisplacedAggregate => "an aggregate where none may stand",
+            PlanFault::PlaceNotAllowed =>
+                "a place or a name that may not stand in GROUP BY or ORDER BY",
+            PlanFault::OverLimit => "over a limit",
+        }
+    }
+}
+
+impl Display for PlanFault {
+    fn fmt<W: Write>(&self, f: &mut Formatter<W>) -> fmt::Result {
+        f.write_str(self.text())
     }
 }
 

@@ -18,7 +18,7 @@ use Rattle.scan_select.specs.Buffers.{AddsLent, FitsGroup, IsBufferOf, IsPositio
 use Rattle.scan_select.specs.Groups.{current_rows}
 use Rattle.scan_select.specs.Scanned.{AddsColumns, AreColumnsAt, IsColumnAt, IsVectorLength}
 use Rattle.scan_select.proofs.Masks.{length-window, window_taken}
-use Rattle.scan_select.proofs.Rows.{length-values}
+use Rattle.fragment_file.proofs.RowLaws.{length-values}
 
 from_some : {X : Type 0} (x y : X) → Some x ≡ Some y → x ≡ y
 from_some x y is = ap (λ o. unwrap_or o x) is

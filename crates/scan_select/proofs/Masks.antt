@@ -15,7 +15,7 @@ use Rattle.fragment_file.specs.Copying.{is_taken}
 use Rattle.vectors.specs.Lanes.{lane_value, nulls_of}
 use Rattle.vectors.specs.declared.nulls.Nulls.{Nulls}
 use Rattle.scan_select.specs.Scanned.{IsMask}
-use Rattle.scan_select.proofs.Rows.{length-values}
+use Rattle.fragment_file.proofs.RowLaws.{length-values}
 
 -- values of integers, from their numbers and marks of NULL
 ints_again : (nullable : Bool) (vs : List Value) → list_all (is_taken of_type.Int nullable) vs ≡ true → map (lane_value Int) (zip (map is_null vs) (map number vs)) ≡ vs

@@ -14,41 +14,22 @@ use Rattle.meaning.specs.declared.outcome.Outcome.TheVariants as gives
 use Rattle.meaning.specs.Order.{column}
 use Rattle.meaning.specs.Joined.{joined_row}
 use Rattle.meaning.specs.References.{FactColumn, referenced}
-use Rattle.encodings.specs.Block.{Block, bit_at, is_block, mask_of, nulls_of, cells_of, values_of, masked}
-use Rattle.encodings.proofs.Blocks.{block_body}
-use Rattle.encodings.proofs.Nulls.{length_cells}
+use Rattle.encodings.specs.Block.{Block, is_block, values_of}
 use Rattle.meaning.specs.declared.catalog.Column.{Column}
 use Rattle.std.proofs.lemmas.Bool.{and_parts, leb-true}
 use Rattle.fragment_file.specs.Fragment.{AreBlocks, no_block}
 use Rattle.fragment_file.specs.View.{rows_of, IsGroup}
+use Rattle.fragment_file.proofs.RowLaws.{column_of_row, length-values}
 use Rattle.vectors.specs.declared.batch.Place.{Place}
 use Rattle.vectors.specs.declared.batch.BatchColumn.{BatchColumn}
 use Rattle.vectors.specs.Vector.{BatchSpec, AreRowsOf, IsColumnOf, outcomes_of, reference_of}
-use Rattle.scan_select.specs.Pieces.{Piece, piece_now, row_in, rows_of_piece}
+use Rattle.fragment_file.specs.Rows.{row_in}
+use Rattle.scan_select.specs.Pieces.{Piece, piece_now, rows_of_piece}
 use Rattle.scan_select.specs.Scanned.{ScanSpec, IsColumnAt, AreColumnsAt, AddsColumns, IsBatchOf, GivesBatch, fact_rows}
 use Rattle.scan_select.specs.declared.scan.ScanBatch.{ScanBatch}
 use Rattle.scan_select.specs.declared.buffers.ColumnBuffer.{ColumnBuffer}
 use Rattle.scan_select.specs.Buffers.{IsPosition, places_of}
 use Rattle.scan_select.specs.Groups.{current_rows}
-
--- a block has a value for each of its rows
-length-nulls : (nullable : Bool) (rows : ℕ) (mask : List ℕ) → length (cond nullable (map (bit_at mask) (range_with_len 0 rows)) (replicate rows false)) ≡ rows
-length-nulls true rows mask = length-map (range_with_len 0 rows) (bit_at mask) ∙ length-range_with_len 0 rows
-length-nulls false rows mask = length-replicate rows false
-
-pub length-values : (b : Block) → is_block b ≡ true → length (values_of b) ≡ b.rows
-length-values b sound =
-    let cells = length_cells b.kind b.col_type b.rows _ (block_body b sound) in
-    let nulls = length-nulls b.nullable b.rows (mask_of b) in
-    let zipped = length-zip (nulls_of b) (cells_of b) in
-    let mapped = length-map (zip (nulls_of b) (cells_of b)) masked in
-    omega (arith, cells, nulls, zipped, mapped)
-
--- what a row has in a column is what the column's block has in that row
-pub column_of_row : (group : List Block) (i p : ℕ) → p < length group → column (row_in group i) p ≡ get_or (values_of (get_or group p no_block)) i Null
-column_of_row [] i p below = absurd (omega arith)
-column_of_row (b ∷ bs) i zero below = refl
-column_of_row (b ∷ bs) i (suc p) below = column_of_row bs i p (omega (arith, below))
 
 abbrev outcome_at : List Block → ℕ → ℕ → Outcome
 outcome_at group p i = gives.Value (get_or (values_of (get_or group p no_block)) i Null)

@@ -5,12 +5,12 @@ use Rattle.std.specs.List.{AllByRecursion, range_with_len}
 use Rattle.std.proofs.lemmas.List.Elements.{All-from_recursion, recursion_from_All}
 use Rattle.meaning.specs.declared.catalog.Column.{Column}
 use Rattle.meaning.specs.declared.value.ColType.{ColType}
-use Rattle.meaning.specs.declared.value.ColType.TheVariants as of_type
-use Rattle.meaning.specs.declared.value.Value.TheVariants.{Null}
 use Rattle.meaning.specs.Joined.{joined_row}
-use Rattle.meaning.specs.Typing.{ExprType, are_of_types, fits_row_types, is_column_type, is_of_type}
+use Rattle.meaning.specs.Typing.{ExprType, fits_row_types, is_column_type, is_of_type}
+use Rattle.meaning.proofs.Tests.{both}
 use Rattle.encodings.specs.Block.{Block, values_of}
 use Rattle.fragment_file.specs.Fragment.{AreBlocks, AreGroups, column_values, no_block}
+use Rattle.fragment_file.proofs.TypedRows.{AreTyped, all_behind, all_both, all_front, row_typed}
 use Rattle.vectors.specs.declared.batch.Place.{Place}
 use Rattle.vectors.specs.declared.batch.BatchColumn.{BatchColumn}
 use Rattle.vectors.specs.Vector.{reference_of}
@@ -18,56 +18,20 @@ use Rattle.vector_operators.specs.Given.{type_of_lanes}
 use Rattle.primitives.specs.Fitting.{is_typed_column, referenced_type}
 use Rattle.vector_operators.proofs.LaneValues.{lanes_type, same_kind}
 use Rattle.scan_select.specs.Laws.{BatchesAreTyped, header_types}
-use Rattle.scan_select.specs.Pieces.{Piece, pieces, pieces_at, pieces_of, row_in}
+use Rattle.fragment_file.specs.Rows.{row_in}
+use Rattle.scan_select.specs.Pieces.{Piece, pieces, pieces_at, pieces_of}
 use Rattle.scan_select.specs.Scanned.{AreColumnsAt, IsColumnAt, fact_rows}
 
--- ---- lists
-
-all_front : {X : Type 0} (P : X → Type 0) (xs ys : List X) → AllByRecursion P (xs ++ ys) → AllByRecursion P xs
-all_front P [] ys all = tt
-all_front P (x ∷ xs) ys all = (all.0, all_front P xs ys all.1)
-
-all_behind : {X : Type 0} (P : X → Type 0) (xs ys : List X) → AllByRecursion P (xs ++ ys) → AllByRecursion P ys
-all_behind P [] ys all = all
-all_behind P (x ∷ xs) ys all = all_behind P xs ys all.1
-
-all_both : {X : Type 0} (P : X → Type 0) (xs ys : List X) → AllByRecursion P xs → AllByRecursion P ys → AllByRecursion P (xs ++ ys)
-all_both P [] ys all more = more
-all_both P (x ∷ xs) ys all more = (all.0, all_both P xs ys all.1 more)
-
-all_or : {X : Type 0} (P : X → Type 0) (xs : List X) (i : ℕ) (d : X) → AllByRecursion P xs → P d → P (get_or xs i d)
-all_or P [] i d all blank = blank
-all_or P (x ∷ xs) zero d all blank = all.0
-all_or P (x ∷ xs) (suc i) d all blank = all_or P xs i d all.1 blank
-
-both : {a b : Bool} → a ≡ true → b ≡ true → (a && b) ≡ true
-both e f = rw (e, f) refl
-
 -- ---- row groups
-
--- blocks of the columns, with values of their types
-abbrev AreTyped : List Column → List Block → Type 0
-AreTyped cs group = (j : ℕ) (c : Column) → slice_get cs j ≡ Some c → AllByRecursion (λ v. is_of_type c.col_type v ≡ true) (values_of (get_or group j no_block))
 
 record IsTyped (cs : List Column) (group : List Block) : Type 0 where
   pub rows : ℕ
   pub blocks : AreBlocks cs rows group
   pub values : AreTyped cs group
 
-null_typed : (kind : ColType) → is_of_type kind Null ≡ true
-null_typed of_type.Int = refl
-null_typed of_type.Text = refl
-
-row_typed : (cs : List Column) (n : ℕ) (bs : List Block) (i : ℕ) → AreBlocks cs n bs → AreTyped cs bs → are_of_types (map (λ c. c.col_type) cs) (row_in bs i) ≡ true
-row_typed [] n [] i are typed = refl
-row_typed [] n (b ∷ bs) i are typed = absurd are
-row_typed (c ∷ cs) n [] i are typed = absurd are
-row_typed (c ∷ cs) n (b ∷ bs) i are typed =
-    both (all_or (λ v. is_of_type c.col_type v ≡ true) (values_of b) i Null (typed 0 c refl) (null_typed c.col_type)) (row_typed cs n bs i are.1 (λ j d at. typed (suc j) d at))
-
 fits : (cs : List Column) (n : ℕ) (bs : List Block) (i : ℕ) → AreBlocks cs n bs → AreTyped cs bs
     → fits_row_types (record { fact = map (λ c. c.col_type) cs; joins = []; key = []; aggregates = [] }) (joined_row (row_in bs i) []) ≡ true
-fits cs n bs i are typed = both (row_typed cs n bs i are typed) refl
+fits cs n bs i are typed = both _ _ (row_typed cs n bs i are typed) refl
 
 rows_fit : (cs : List Column) (n : ℕ) (bs : List Block) (is : List ℕ) → AreBlocks cs n bs → AreTyped cs bs
     → AllByRecursion (λ r. fits_row_types (record { fact = map (λ c. c.col_type) cs; joins = []; key = []; aggregates = [] }) r ≡ true) (map (λ row. joined_row row []) (map (row_in bs) is))

@@ -1,28 +1,22 @@
 -- Laws, each of them the contract of a function of `src/laws.rt`.
 use Rattle.std.specs.Prelude.{◌≡◌, ℕ, ◌<◌, true, List, [], ◌∷◌, ◌++◌, map, flat_map, length, slice_get, Some, All}
-use Rattle.meaning.specs.declared.catalog.Column.{Column}
 use Rattle.meaning.specs.declared.expr.Expr.{Expr}
 use Rattle.meaning.specs.declared.joined_row.JoinedRow.{JoinedRow}
 use Rattle.meaning.specs.Judge.{filtered}
-use Rattle.meaning.specs.Order.{column}
-use Rattle.meaning.specs.Typing.{RowTypes, is_of_type}
+use Rattle.meaning.specs.Typing.{RowTypes}
 use Rattle.encodings.specs.Block.{Block}
 use Rattle.fragment_file.specs.declared.header.Header.{Header}
-use Rattle.fragment_file.specs.Fragment.{AreTypedColumns, FragmentSpec, IsFragment, column_values}
+use Rattle.fragment_file.specs.Fragment.{AreTypedColumns, FragmentSpec, IsFragment}
+use Rattle.fragment_file.specs.Rows.{rows_in}
 use Rattle.vectors.specs.Vector.{BatchSpec}
 use Rattle.primitives.specs.Fitting.{AreTypedRows}
-use Rattle.scan_select.specs.Pieces.{Piece, pieces, rows_in, rows_of_piece}
+use Rattle.scan_select.specs.Pieces.{Piece, pieces, rows_of_piece}
 use Rattle.scan_select.specs.Scanned.{IsBatchOf, fact_rows}
 use Rattle.scan_select.specs.Selected.{conditions, filter_of}
 
 -- the pieces of row groups have the rows of the row groups, in their order, each once
 abbrev pub BatchesAreRows : Type 0
 BatchesAreRows = (n : ℕ) (groups : List (List Block)) → 0 < n → flat_map rows_of_piece (pieces n groups) ≡ flat_map rows_in groups
-
--- in each column of a file its rows have what the file's column holds, block after block
-abbrev pub RowsAreColumns : Type 0
-RowsAreColumns = (f : FragmentSpec) (j : ℕ) → IsFragment f → j < length f.header.columns
-    → map (λ row. column row j) (flat_map rows_in f.groups) ≡ column_values j f.groups
 
 -- conditions keep a row, drop it or fault as they do when the row is judged
 abbrev pub ConditionsJudge : Type 0
@@ -31,10 +25,6 @@ ConditionsJudge = (cs : List Expr) (row : JoinedRow) → filtered cs row ≡ fil
 -- the types of the columns that a header names
 abbrev pub header_types : Header → RowTypes
 header_types h = record { fact = map (λ c. c.col_type) h.columns; joins = []; key = []; aggregates = [] }
-
--- a file has as many rows as its header tells
-abbrev pub RowsAreCounted : Type 0
-RowsAreCounted = (f : FragmentSpec) → IsFragment f → length (flat_map rows_in f.groups) ≡ f.header.rows
 
 -- in a batch of a file whose columns have values of their types, columns and rows are of the types that the header tells
 abbrev pub BatchesAreTyped : Type 0

@@ -1,18 +1,10 @@
 -- The rows of row groups, and how they are cut into batches.
 use Rattle.std.specs.Prelude.{ℕ, ◌+◌, ◌-◌, ◌/◌, ◌%◌, ◌==◌, if◌then◌else◌, List, [], ◌∷◌, ◌++◌, map, flat_map, get_or, replicate, Option, Some, None, option_map}
 use Rattle.std.specs.List.{range_with_len}
-use Rattle.meaning.specs.declared.value.Value.TheVariants.{Null}
 use Rattle.meaning.specs.Order.{Row}
-use Rattle.encodings.specs.Block.{Block, values_of}
+use Rattle.encodings.specs.Block.{Block}
+use Rattle.fragment_file.specs.Rows.{row_in}
 use Rattle.fragment_file.specs.View.{rows_of}
-
--- the row of a row group at a place: what each block has there
-abbrev pub row_in : List Block → ℕ → Row
-row_in group i = map (λ b. get_or (values_of b) i Null) group
-
--- all rows of a row group
-abbrev pub rows_in : List Block → List Row
-rows_in group = map (row_in group) (range_with_len 0 (rows_of group))
 
 -- some rows of a row group, which stand one behind the other
 pub record Piece : Type 0 where

@@ -1,19 +1,9 @@
 //! Laws on scans and conditions, each the contract of a function that does nothing.
-ghost use Rattle.scan_select.specs.Laws.{BatchesAreRows, BatchesAreTyped, ConditionsJudge, RowsAreColumns, RowsAreCounted};
+ghost use Rattle.scan_select.specs.Laws.{BatchesAreRows, BatchesAreTyped, ConditionsJudge};
 
 /// The rows of all batches, one after the other, are the rows of all row groups.
 pub fn batches_are_rows()
     ensures { BatchesAreRows }
-{}
-
-/// The rows of a file's row groups have in each column what the file's column holds.
-pub fn rows_are_columns()
-    ensures { RowsAreColumns }
-{}
-
-/// A file has as many rows as its header tells.
-pub fn rows_are_counted()
-    ensures { RowsAreCounted }
 {}
 
 /// A batch of a file whose columns have values of their types fits these types, as evaluation asks.

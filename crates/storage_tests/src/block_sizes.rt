@@ -1,4 +1,5 @@
 //! Columns of many sizes and patterns as blocks of each kind, and back.
+use crate::files::is_same;
 use columns::{Column, ColumnFault};
 use encodings::kind::Kind;
 use encodings::vector_buf::VectorBuf;
@@ -127,15 +128,6 @@ fn longest_texts(alloc: Global, nullable: bool, rows: usize) -> Result<Column, C
         })?;
     }
     Ok(column)
-}
-
-fn is_same(value: ValueRef<'_>, other: ValueRef<'_>) -> bool {
-    match (value, other) {
-        (ValueRef::Null, ValueRef::Null) => true,
-        (ValueRef::Int(n), ValueRef::Int(m)) => n == m,
-        (ValueRef::Text(text), ValueRef::Text(other)) => text == other,
-        _ => false,
-    }
 }
 
 /// Whether the block has the column's values row by row.

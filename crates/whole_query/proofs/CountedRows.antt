@@ -12,8 +12,9 @@ use Rattle.meaning.specs.declared.table.TableFault.{TableFault}
 use Rattle.meaning.specs.declared.table.TableFault.TheVariants as fault
 use Rattle.meaning.specs.Order.{Row, column}
 use Rattle.meaning.specs.Records.{Record, dimension_of, fact_of, file_order, is_header, is_repeated, key_of, judged_record, row_of, table_of, unless_few, unless_repeated}
-use Rattle.meaning.specs.Results.{all_ok, and_then, with_result}
+use Rattle.meaning.specs.Results.{all_ok, and_then}
 use Rattle.meaning.specs.Cut.{Cut}
+use Rattle.loader.proofs.RowRuns.{ok_parts}
 
 -- what goes on well went well before
 pub went_on : {X Y E : Type 0} (r : Result X E) (next : X → Result Y E) (y : Y) → and_then r next ≡ Ok y → (x : X) × (r ≡ Ok x) × (next x ≡ Ok y)
@@ -21,11 +22,6 @@ went_on (Ok x) next y e = (x, refl, e)
 went_on (Err f) next y e = cc e
 
 -- all went well only if each did
-pub ok_parts : {X E : Type 0} (r : Result X E) (rs : Result (List X) E) (xs : List X) → with_result r rs ≡ Ok xs → (y : X) × (ys : List X) × (r ≡ Ok y) × (rs ≡ Ok ys) × (xs ≡ y ∷ ys)
-ok_parts (Err f) rs xs e = cc e
-ok_parts (Ok y) (Err f) xs e = cc e
-ok_parts (Ok y) (Ok ys) xs e = (y, ys, refl, refl, cc e)
-
 module _ {A X E : Type 0} (judge : A → Result X E) where
   ok_at : (zs : List A) (xs : List X) (k : ℕ) (z : A) (x : X) → all_ok (map judge zs) ≡ Ok xs → k < length zs → judge (get_or zs k z) ≡ Ok (get_or xs k x)
   ok_at [] xs k z x e lt = absurd (omega arith)

@@ -2,10 +2,10 @@
 use Rattle.std.proofs.Common.{◌≡◌, refl, ap, ◌∙◌}
 use Rattle.meaning.specs.Gather as gather
 use Rattle.meaning.specs.Output.{Output}
-use Rattle.coordinator.specs.declared.reporting.Ended.{Ended}
-use Rattle.coordinator.specs.declared.reporting.Ended.TheVariants as ended
-use Rattle.coordinator.specs.declared.reporting.Report.{Report}
-use Rattle.coordinator.specs.Reporting.{ended_as, report_of_output, summary}
+use Rattle.coordinator.specs.declared.report.Ended.{Ended}
+use Rattle.coordinator.specs.declared.report.Ended.TheVariants as ended
+use Rattle.coordinator.specs.declared.report.Report.{Report}
+use Rattle.coordinator.specs.Report.{ended_as, report_of_output, summary}
 use Rattle.whole_query.specs.Whole.{ended_in}
 
 back : (e : Ended) → ended_in (report_of_output e) ≡ e

@@ -14,9 +14,8 @@ use Rattle.encodings.specs.Block.{Block, values_of}
 use Rattle.columns.specs.Column.{ColumnSpec}
 use Rattle.loader.specs.Columns.{column_of, columns_of}
 use Rattle.fragment_file.specs.Fragment.{FragmentSpec, IsFragment, AreBlocks, AreGroups, group_sizes, column_in, column_values, columns_in}
-use Rattle.scan_select.specs.Pieces.{row_in, rows_in}
-use Rattle.scan_select.specs.Laws.{RowsAreColumns, RowsAreCounted}
-use Rattle.scan_select.proofs.LawProofs.{rows_are_columns, rows_are_counted}
+use Rattle.fragment_file.specs.Rows.{RowsAreColumns, RowsAreCounted, row_in, rows_in}
+use Rattle.fragment_file.proofs.RowLaws.{rows_are_columns, rows_are_counted}
 use Rattle.fragment_file.specs.declared.header.Header.{Header}
 use Rattle.fragment_file.specs.Fragment.{Stands, table_header}
 use Rattle.fragment_file.specs.FragmentReading.{read_fragment}
@@ -25,12 +24,13 @@ use Rattle.meaning.specs.Answer.{own_body}
 use Rattle.meaning.specs.Cut.{first_row}
 use Rattle.meaning.specs.Said.{Answer}
 use Rattle.partial_codec.specs.Job.{JobSpec}
-use Rattle.worker.specs.Files.{rows_of_file}
-use Rattle.worker.specs.Work.{answer_of, answered, input_of}
+use Rattle.job_files.specs.Files.{rows_of_file}
+use Rattle.job_files.specs.Inputs.{input_of}
+use Rattle.worker.specs.Work.{answer_of, answered}
 use Rattle.fragment_file.specs.declared.header.Slice.{Slice}
-use Rattle.worker.specs.Work.{dimension_rows}
-use Rattle.worker.proofs.FilesRead.{files_read}
-use Rattle.worker.proofs.GivenInput.{goes_there, ok_is}
+use Rattle.job_files.specs.Inputs.{dimension_rows}
+use Rattle.job_files.proofs.FilesRead.{files_read}
+use Rattle.job_files.proofs.GivenInput.{goes_there, ok_is}
 use Rattle.whole_query.specs.declared.table_files.Rows.{Rows}
 use Rattle.whole_query.specs.Fragment.{AreRowsOfJob, AreTableFiles}
 

@@ -15,14 +15,15 @@ use Rattle.meaning_laws.proofs.LoadedTables.{rows_typed}
 use Rattle.columns.specs.Column.{ColumnSpec}
 use Rattle.loader.specs.Columns.{fragments_of, fact_fragments}
 use Rattle.loader.specs.Source.{csv_records}
-use Rattle.coordinator.specs.declared.reporting.Ended.{Ended}
+use Rattle.coordinator.specs.declared.report.Ended.{Ended}
 use Rattle.whole_query.specs.declared.sources.Sources.{Sources}
 use Rattle.whole_query.specs.declared.fault.WholeFault.{WholeFault}
 use Rattle.whole_query.specs.declared.fault.WholeFault.TheVariants as fault
 use Rattle.whole_query.specs.Fragment.{AreFragments, AreTableFiles}
 use Rattle.coordinator.specs.Gathering.{GatherSpec}
 use Rattle.whole_query.specs.Whole.{Files, files_in, input_of, csv_of, joined_csvs, joined_from, joined_table, table_from, tables_of, AreTablesLoaded, IsAnsweredOver, IsPlanned, is_vector_length, IsAnswered, RunsOver, IsEndRefusal, IsRefused}
-use Rattle.whole_query.proofs.CountedRows.{went_on, ok_parts, counted_fact}
+use Rattle.loader.proofs.RowRuns.{ok_parts}
+use Rattle.whole_query.proofs.CountedRows.{went_on, counted_fact}
 
 -- ---- the joined tables
 

@@ -14,11 +14,11 @@ use Rattle.meaning_laws.specs.Laws.{own_answers}
 use Rattle.meaning.specs.Print.{report_text}
 use Rattle.meaning_laws.proofs.OwnStates.{report-own_answers}
 use Rattle.columns.specs.Column.{ColumnSpec}
-use Rattle.coordinator.specs.declared.reporting.Ended.{Ended}
+use Rattle.coordinator.specs.declared.report.Ended.{Ended}
 use Rattle.whole_query.specs.declared.fault.WholeFault.{WholeFault}
 use Rattle.whole_query.specs.Fragment.{AreFragments, AreTableFiles}
 use Rattle.coordinator.specs.Gathering.{GatherSpec}
-use Rattle.coordinator.specs.Reporting.{ended_as}
+use Rattle.coordinator.specs.Report.{ended_as}
 use Rattle.whole_query.specs.Whole.{IsAnsweredOver}
 
 module _ (plan : Plan) (rows : List Row) (dims : List (List Row)) (cut : Cut) (whole : length rows ≡ sum cut) where

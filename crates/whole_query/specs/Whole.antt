@@ -30,11 +30,11 @@ use Rattle.loader.specs.declared.fault.LoadFault.{LoadFault}
 use Rattle.loader.specs.declared.fault.LoadFault.TheVariants as load_fault
 use Rattle.loader.specs.Columns.{fragments_of}
 use Rattle.loader.specs.Source.{csv_records}
-use Rattle.coordinator.specs.declared.reporting.Ended.{Ended}
-use Rattle.coordinator.specs.declared.reporting.Ended.TheVariants as ended
-use Rattle.coordinator.specs.declared.reporting.Report.{Report}
-use Rattle.coordinator.specs.declared.reporting.Report.TheVariants as report
-use Rattle.coordinator.specs.Reporting.{ended_as}
+use Rattle.coordinator.specs.declared.report.Ended.{Ended}
+use Rattle.coordinator.specs.declared.report.Ended.TheVariants as ended
+use Rattle.coordinator.specs.declared.report.Report.{Report}
+use Rattle.coordinator.specs.declared.report.Report.TheVariants as report
+use Rattle.coordinator.specs.Report.{ended_as}
 use Rattle.whole_query.specs.Fragment.{AreTableFiles, IsTableFile}
 use Rattle.coordinator.specs.Gathering.{GatherSpec}
 use Rattle.sql_syntax.specs.declared.tree.Query.{Query}

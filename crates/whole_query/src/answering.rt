@@ -10,7 +10,7 @@ ghost use Rattle.meaning.specs.WellFormedPlan.{IsWellFormedPlan};
 ghost use Rattle.meaning.specs.Order.{Row};
 ghost use Rattle.last_step.specs.Fitting.{IsTypedOverGroups};
 ghost use Rattle.partial_codec.specs.Job.{IsPlanOfJob};
-ghost use Rattle.coordinator.specs.Reporting.{ended_as};
+ghost use Rattle.coordinator.specs.Report.{ended_as};
 ghost use Rattle.whole_query.specs.Fragment.{AreFragments, AreTableFiles};
 ghost use Rattle.whole_query.specs.Whole.{IsAnswered, IsAnsweredOver, IsPlanned, IsRefused, IsEndRefusal, ended_in, input_of};
 

@@ -2,9 +2,7 @@
 use Rattle.std.proofs.Common.{◌≡◌, ℕ, ◌<◌, true, List, [], get_or, length, refl, ap, sym, subst, ◌∙◌, arith}
 use Rattle.std.proofs.lemmas.List.Elements.{recursion_from_All}
 use Rattle.meaning.specs.declared.value.ColType.{ColType}
-use Rattle.meaning.specs.declared.value.Value.{Value}
 use Rattle.meaning.specs.declared.value.Value.TheVariants.{Null}
-use Rattle.meaning.specs.declared.outcome.Truth.{Truth}
 use Rattle.meaning.specs.declared.outcome.Outcome.{Outcome}
 use Rattle.meaning.specs.declared.outcome.Outcome.TheVariants as gives
 use Rattle.meaning.specs.declared.expr.Expr.{Expr}
@@ -18,7 +16,6 @@ use Rattle.accumulators.proofs.Spelled.{spelled_of_type}
 use Rattle.vectors.specs.Selection.{IsSelection, Positions, is_among}
 use Rattle.vectors.specs.Vector.{BatchSpec, outcomes_of, values_of}
 use Rattle.vectors.specs.declared.vector.Vector.{Vector}
-use Rattle.vectors.specs.declared.vector.Vector.TheVariants as vector
 use Rattle.vector_operators.specs.Evaluated.{Held, IsBefore, Evaluates, lane_of}
 use Rattle.vector_operators.specs.Given.{IsOfType}
 use Rattle.vector_operators.proofs.LaneValues.{lane_value, values_long}

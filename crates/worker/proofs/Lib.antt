@@ -1,21 +1,12 @@
 -- The lemmas of this crate.
+pub mod BatchColumns
 pub mod BatchRows
 pub mod Chosen
 pub mod Evaluating
-pub mod FileColumns
 pub mod FileRows
-pub mod FilesRead
 pub mod FittingAnswers
 pub mod JoinedBatches
 pub mod JoinedSteps
 pub mod JudgedRows
-pub mod KeyedRows
 pub mod NumberedRows
-pub mod OpenedDimensions
-pub mod TypedRows
-pub mod UsedColumns
 pub mod VectorLanes
-pub mod FirstRows
-pub mod GivenInput
-pub mod ThinnedRows
-pub mod SievedTables

@@ -1,7 +1,7 @@
 -- Proofs of the goals of `tell_work` (`telling`).
 use Rattle.std.proofs.Common.{[], OnOk, codes, subst}
 use Rattle.std.specs.Io.KnownBytes.{Appends}
-use Rattle.worker.specs.Fault.{number_of}
+use Rattle.job_files.specs.Fault.{number_of}
 use Rattle.folders.specs.Telling.{work_details}
 use Rattle.folders.proofs.Lines.{line_from, no_work_details}
 use Rattle.folders.proofs.telling.tell_work.Goals as goal

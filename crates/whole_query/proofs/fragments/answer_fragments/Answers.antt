@@ -12,7 +12,7 @@ use Rattle.meaning.specs.Gather.{joined}
 use Rattle.meaning_laws.specs.Laws.{own_answers}
 use Rattle.partial_codec.specs.Job.{JobSpec}
 use Rattle.partial_codec.proofs.Fitting.{short_at}
-use Rattle.worker.proofs.FirstRows.{next_fits}
+use Rattle.job_files.proofs.FirstRows.{next_fits}
 use Rattle.whole_query.proofs.FragmentColumns.{rows_at, as_many, columns_at, count_at, fileable_at, typed_at}
 use Rattle.whole_query.proofs.OwnRows.{own-own_rows}
 use Rattle.whole_query.proofs.Slices.{own_answers_to_next}

@@ -1,0 +1,63 @@
+-- What is known of a fragment that is given.
+use Rattle.std.specs.Prelude.{◌≡◌, ℕ, ◌≤◌, ◌==◌, nat_lt, nat_le, Bool, true, false, ◌&&◌, List, length, Result, Ok, Err}
+use Rattle.std.proofs.Common.{refl, ap, subst}
+use Rattle.std.proofs.lemmas.Bool.{eqb-true, leb-true, ltb-true}
+use Rattle.meaning.proofs.Tests.{first_of, second_of}
+use Rattle.meaning.specs.Limits.{max_vector_rows}
+use Rattle.fragment_file.specs.Fragment.{FragmentSpec}
+use Rattle.fragment_file.specs.FragmentReading.{read_fragment}
+use Rattle.partial_codec.specs.Job.{JobSpec}
+use Rattle.wire.specs.Reading.{◌>>=◌, same_bytes}
+use Rattle.job_files.specs.declared.fault.WorkFault.{WorkFault}
+use Rattle.job_files.specs.declared.fault.WorkFault.TheVariants.{OtherFile, OtherColumn, VectorLength}
+use Rattle.job_files.specs.Files.{HasColumns, has_columns, is_fragment_of}
+use Rattle.job_files.specs.Inputs.{InputSpec, IsInput, dimension_files_of, from_file, fragment_file_of, input_of, length_of, provided}
+
+pub goes_there : {X Y : Type 0} (r : Result X WorkFault) (k : X → Result Y WorkFault) (z : Y) → (r >>= k) ≡ Ok z → (x : X) × (r ≡ Ok x) × (k x ≡ Ok z)
+goes_there (Err e) k z is = absurd cc
+goes_there (Ok x) k z is = (x, refl, is)
+
+pub is_provided : {X : Type 0} (b : Bool) (e : WorkFault) (x y : X) → provided b e x ≡ Ok y → (b ≡ true) × (x ≡ y)
+is_provided true e x y is = (refl, cc)
+is_provided false e x y is = absurd cc
+
+pub ok_is : {X E : Type 0} (x y : X) → ◌≡◌ {A = Result X E} (Ok x) (Ok y) → x ≡ y
+ok_is x y e = cc
+
+-- the length of vectors
+pub length_is : (n m : ℕ) → length_of n ≡ Ok m → (1 ≤ n) × (n ≤ max_vector_rows)
+length_is n m is =
+    let (passes, same) = is_provided (nat_le 1 n && nat_le n max_vector_rows) VectorLength n m is in
+    (leb-true 1 n (first_of _ _ passes), leb-true n max_vector_rows (second_of (nat_le 1 n) _ passes))
+
+input_is : (job : JobSpec) (k : ℕ) (f : FragmentSpec) → is_fragment_of job k f.header ≡ true → HasColumns job.plan.fact f.header → IsInput job k f
+input_is job k f named columns =
+    let rest = second_of (nat_lt k (length job.cut)) _ named in
+    let table = second_of (f.header.load == job.load) _ rest in
+    let place = second_of (same_bytes f.header.table job.plan.fact.name) _ table in
+    let numbers = second_of (f.header.fragment == k) _ place in
+    record {
+      place = ltb-true k (length job.cut) (first_of _ _ named);
+      columns = columns;
+      first = eqb-true f.header.first_row _ (first_of _ _ numbers);
+      rows = eqb-true f.header.rows _ (second_of _ _ numbers);
+    }
+
+fragment_is : (job : JobSpec) (k : ℕ) (bytes : List ℕ) (f : FragmentSpec) → fragment_file_of job k bytes ≡ Ok f → IsInput job k f
+unfolding fragment_file_of
+fragment_is job k bytes f is =
+    let (g, read, more) = goes_there (from_file (read_fragment bytes)) (λ f. provided (is_fragment_of job k f.header) OtherFile f >>= λ f. provided (has_columns job.plan.fact f.header) OtherColumn f) f is in
+    let (h, named, last) = goes_there (provided (is_fragment_of job k g.header) OtherFile g) (λ f. provided (has_columns job.plan.fact f.header) OtherColumn f) f more in
+    let (is_named, same) = is_provided (is_fragment_of job k g.header) OtherFile g h named in
+    let (has, end) = is_provided (has_columns job.plan.fact h.header) OtherColumn h f last in
+    subst (IsInput job k) end (input_is job k h (subst (λ (x : FragmentSpec). is_fragment_of job k x.header ≡ true) same is_named) has)
+
+-- where nothing is wrong
+pub given : (job : JobSpec) (k n : ℕ) (bytes : List ℕ) (dims : List (List ℕ)) (input : InputSpec) → input_of job k n bytes dims ≡ Ok input → IsInput job k input.fragment × ((1 ≤ n) × (n ≤ max_vector_rows))
+unfolding input_of
+given job k n bytes dims input is =
+    let (m, long, more) = goes_there (length_of n) (λ m. fragment_file_of job k bytes >>= λ f. dimension_files_of job dims >>= λ ds. Ok (record { fragment = f; dims = ds })) input is in
+    let (f, read, last) = goes_there (fragment_file_of job k bytes) (λ f. dimension_files_of job dims >>= λ ds. Ok (record { fragment = f; dims = ds })) input more in
+    let (ds, reads, end) = goes_there (dimension_files_of job dims) (λ ds. Ok (record { fragment = f; dims = ds })) input last in
+    let same : f ≡ input.fragment = ap (λ (i : InputSpec). i.fragment) (ok_is _ _ end) in
+    (subst (IsInput job k) same (fragment_is job k bytes f read), length_is n m long)

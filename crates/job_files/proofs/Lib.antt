@@ -1,0 +1,11 @@
+-- The lemmas of this crate.
+pub mod FileColumns
+pub mod FilesRead
+pub mod FirstRows
+pub mod GivenInput
+pub mod KeyedRows
+pub mod OpenedDimensions
+pub mod PlanDimensions
+pub mod SievedTables
+pub mod ThinnedRows
+pub mod UsedColumns

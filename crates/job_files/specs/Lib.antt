@@ -1,0 +1,8 @@
+-- The definitions of this crate.
+pub mod Fault
+pub mod Files
+pub mod Inputs
+pub mod Dimensions
+pub mod TextTest
+pub mod Tables
+pub mod Sieve

@@ -1,0 +1,162 @@
+//! Files that a job doesn't name.
+ghost use Rattle.std.specs.Prelude.{◌≡◌, ◌<◌, ◌==◌, length, slice_get, IfOk};
+ghost use Rattle.fragment_file.specs.Fragment.{AreTypedColumns, IsFragment};
+ghost use Rattle.meaning.specs.Cut.{IsCut, first_row as row_before};
+ghost use Rattle.meaning.specs.Typing.{same_type};
+ghost use Rattle.meaning.specs.Wanting.{GivesIfMemory};
+ghost use Rattle.wire.specs.Reading.{same_bytes};
+ghost use Rattle.job_files.specs.Files.{HasColumns, has_columns, is_column, is_dimension_of, is_fragment_of};
+ghost use Rattle.job_files.specs.Inputs.{fragment_file_of, table_file_of};
+
+use crate::fault::WorkFault;
+use fragment_file::header::Header;
+use fragment_file::open;
+use fragment_file::view::FragmentView;
+use meaning::catalog::Column;
+use meaning::plan::{ColumnUse, TableUse};
+use meaning::text::Text;
+use meaning::value::ColType;
+use partial_codec::Job;
+use std::alloc::Global;
+use std::mem::drop;
+
+/// The number of the first row of fragment `k`.
+pub fn first_row(lengths: &[u32], k: usize) -> u64
+    requires within { k < length lengths.now }
+    requires cut { IsCut lengths.now }
+    ensures { result ≡ row_before lengths.now k }
+{
+    let mut first: u64 = 0;
+    for i in 0..k {
+        first += u64::from(lengths[i]);
+    }
+    first
+}
+
+fn are_same(a: &Text, b: &Text) -> bool
+    ensures { result ≡ same_bytes a.now b.now }
+{
+    a.as_str() == b.as_str()
+}
+
+fn is_same_type(a: ColType, b: ColType) -> bool
+    ensures { result ≡ same_type a b }
+{
+    match (a, b) {
+        (ColType::Int, ColType::Int) => true,
+        (ColType::Int, ColType::Text) => false,
+        (ColType::Text, ColType::Int) => false,
+        (ColType::Text, ColType::Text) => true,
+    }
+}
+
+/// Whether the column that the plan uses is in its place, with its name and type.
+fn has_column(columns: &[Column], used: &ColumnUse) -> bool
+    ensures { result ≡ is_column used.now (slice_get columns.now used.now.place) }
+{
+    match columns.get(used.place) {
+        Some(column) => {
+            are_same(&column.name, &used.name) && is_same_type(column.col_type, used.col_type)
+        }
+        None => false,
+    }
+}
+
+/// Whether each column that the plan uses of a table is in its place.
+fn has_all_columns(table: &TableUse, header: &Header) -> bool
+    ensures { result ≡ has_columns table.now header.now }
+{
+    let columns = header.columns.as_slice();
+    let used = table.columns.as_slice();
+    used.iter().all(|used| has_column(columns, used))
+}
+
+fn is_of_load(job: &Job, header: &Header) -> bool
+    ensures { result ≡ (header.now.load == job.now.load) }
+{
+    header.load == job.load()
+}
+
+/// Whether the file is that of the job's fragment `k`.
+fn is_fragment(job: &Job, k: u32, header: &Header) -> bool
+    ensures { result ≡ is_fragment_of job.now k header.now }
+{
+    let lengths = job.cut().lengths();
+    let place = k as usize;
+    if place >= lengths.len() {
+        return false;
+    }
+    is_of_load(job, header)
+        && are_same(&header.table, &job.plan().fact.name)
+        && header.fragment == k
+        && header.first_row == first_row(lengths, place)
+        && header.rows == lengths[place]
+}
+
+/// The file of the job's fragment `k`.
+///
+/// # Errors
+///
+/// Out of memory; else the first of: a file fault; another file; a column that isn't in its place.
+#[tactic(auto, unfolding(crate::specs::Inputs::fragment_file_of))]
+pub fn open_fragment<'a>(
+    alloc: Global,
+    job: &Job,
+    k: u32,
+    bytes: &'a [u8],
+) -> Result<FragmentView<'a>, WorkFault>
+    ensures read { GivesIfMemory WorkFault.Memory (λ v. v) result
+        (fragment_file_of job.now k bytes.now) }
+    ensures typed { IfOk result (λ v. AreTypedColumns v) }
+    ensures columns { IfOk result (λ v. HasColumns job.now.plan.fact v.header) }
+{
+    let view = open(alloc, bytes)?;
+    if !is_fragment(job, k, view.header()) {
+        drop(view);
+        return Err(WorkFault::OtherFile);
+    }
+    if !has_all_columns(&job.plan().fact, view.header()) {
+        drop(view);
+        return Err(WorkFault::OtherColumn);
+    }
+    Ok(view)
+}
+
+/// Whether the file is that of all rows of the job's dimension.
+fn is_dimension(job: &Job, dim: &TableUse, header: &Header) -> bool
+    ensures { result ≡ is_dimension_of job.now dim.now header.now }
+{
+    is_of_load(job, header)
+        && are_same(&header.table, &dim.name)
+        && header.fragment == 0
+        && header.first_row == 0
+}
+
+/// The file of a dimension.
+///
+/// # Errors
+///
+/// Out of memory; else the first of: a file fault; another file; a column that isn't in its place.
+#[tactic(auto, unfolding(crate::specs::Inputs::table_file_of))]
+pub fn open_table<'a>(
+    alloc: Global,
+    job: &Job,
+    dim: &TableUse,
+    bytes: &'a [u8],
+) -> Result<FragmentView<'a>, WorkFault>
+    ensures read { GivesIfMemory WorkFault.Memory (λ v. v) result
+        (table_file_of job.now dim.now bytes.now) }
+    ensures typed { IfOk result (λ v. AreTypedColumns v) }
+    ensures columns { IfOk result (λ v. HasColumns dim.now v.header) }
+{
+    let view = open(alloc, bytes)?;
+    if !is_dimension(job, dim, view.header()) {
+        drop(view);
+        return Err(WorkFault::OtherFile);
+    }
+    if !has_all_columns(dim, view.header()) {
+        drop(view);
+        return Err(WorkFault::OtherColumn);
+    }
+    Ok(view)
+}

@@ -127,7 +127,7 @@ as_sum (s ∷ states) = ap (merge (kept_by Sum s)) (as_sum states)
 
 -- ---- integers all count
 
-present_ints : (ints : List ℤ) → length (present (map Int ints)) ≡ length ints
+pub present_ints : (ints : List ℤ) → length (present (map Int ints)) ≡ length ints
 present_ints [] = refl
 present_ints (z ∷ ints) = ap suc (present_ints ints)
 

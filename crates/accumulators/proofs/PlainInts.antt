@@ -1,5 +1,5 @@
 -- Integers, all of which are entries.
-use Rattle.std.specs.Prelude.{◌≡◌, ℕ, ℤ, suc, ◌+◌, pos, ◌+ℤ◌, ◌<◌, ◌≤◌, Bool, true, false, cond, List, [], ◌∷◌, length, map, drop, get_or, Option, Some}
+use Rattle.std.specs.Prelude.{◌≡◌, ℕ, ℤ, ◌+◌, pos, ◌+ℤ◌, ◌<◌, ◌≤◌, Bool, true, false, cond, List, [], ◌∷◌, length, map, drop, get_or, Option, Some}
 use Rattle.std.specs.Int.Signed.{lt_z}
 use Rattle.std.specs.Ordering.{int_cmp, is_lt, ord_min, ordering_then}
 use Rattle.std.specs.declared.cmp.Ordering.{Ordering}
@@ -19,15 +19,11 @@ use Rattle.accumulators.specs.declared.end.End.{End}
 use Rattle.accumulators.specs.declared.end.End.TheVariants as end
 use Rattle.accumulators.specs.Entries.{state_of}
 use Rattle.accumulators.specs.Kinds.{cmp_from, end_state, kind_from, sum_state}
-use Rattle.accumulators.proofs.Growing.{first_left}
+use Rattle.accumulators.proofs.Growing.{first_left, present_ints}
 
 pub present_of_ints : (zs : List ℤ) → present (map Int zs) ≡ map Int zs
 present_of_ints [] = refl
 present_of_ints (z ∷ zs) = ap (λ (vs : List Value). Int z ∷ vs) (present_of_ints zs)
-
-ints_long : (zs : List ℤ) → length (present (map Int zs)) ≡ length zs
-ints_long [] = refl
-ints_long (z ∷ zs) = ap suc (ints_long zs)
 
 -- the sum of integers, from the k-th on
 pub total_left : (zs : List ℤ) (k : ℕ) → k < length zs → total (map Int (drop k zs)) ≡ get_or zs k (pos 0) +ℤ total (map Int (drop (k + 1) zs))
@@ -35,7 +31,7 @@ total_left zs k here = ap (λ (ys : List ℤ). total (map Int ys)) (first_left z
 
 pub sum_of_ints : (zs : List ℤ) (count : ℕ) (sum : ℤ) → count ≡ length zs → sum ≡ total (map Int zs) → sum_state count sum ≡ state_of Sum (map Int zs)
 sum_of_ints zs count sum counted is =
-    λ i. sum_state ((counted ∙ sym (ints_long zs)) i) ((is ∙ sym (ap total (present_of_ints zs))) i)
+    λ i. sum_state ((counted ∙ sym (present_ints zs)) i) ((is ∙ sym (ap total (present_of_ints zs))) i)
 
 -- ---- the nearest to an end
 
@@ -81,10 +77,10 @@ found_none end.Greatest = refl
 pub found_ints : (e : End) (zs : List ℤ) (best : ℤ) (count : ℕ) → Some (Int best) ≡ least (cmp_from e) (map Int zs) → count ≡ length zs
     → end_state e count (Int best) ≡ merge no_statistics (state_of (kind_from e) (map Int zs))
 found_ints end.Least zs best count is counted =
-    (λ i. record no_statistics { count = (counted ∙ sym (ints_long zs)) i; least = (is ∙ sym (ap (least (cmp_from end.Least)) (present_of_ints zs))) i })
+    (λ i. record no_statistics { count = (counted ∙ sym (present_ints zs)) i; least = (is ∙ sym (ap (least (cmp_from end.Least)) (present_of_ints zs))) i })
     ∙ sym (merge-none (state_of (kind_from end.Least) (map Int zs)))
 found_ints end.Greatest zs best count is counted =
-    (λ i. record no_statistics { count = (counted ∙ sym (ints_long zs)) i; greatest = (is ∙ sym (ap (least (cmp_from end.Greatest)) (present_of_ints zs))) i })
+    (λ i. record no_statistics { count = (counted ∙ sym (present_ints zs)) i; greatest = (is ∙ sym (ap (least (cmp_from end.Greatest)) (present_of_ints zs))) i })
     ∙ sym (merge-none (state_of (kind_from end.Greatest) (map Int zs)))
 
 -- the same of what code reads

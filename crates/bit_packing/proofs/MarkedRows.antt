@@ -7,6 +7,7 @@ use Rattle.std.proofs.lemmas.Nat.Bits.{bit_at-trailing_zeros, bit_at-zero, bit_a
 use Rattle.std.proofs.lemmas.Bool.{cases_lt, false≢true, eqb-true, eq-eqb}
 use Rattle.std.proofs.lemmas.List.Folds.{list_all-append, list_all-map, list_all_at}
 use Rattle.std.proofs.lemmas.List.FromFn.{get_or-range_with_len, length-range_with_len}
+use Rattle.meaning.proofs.Tests.{or_true, and_true}
 use Rattle.bit_packing.specs.Bits.{all_set_pass, bit_at, is_set}
 use Rattle.bit_packing.specs.Offsets.{offset_at}
 use Rattle.bit_packing.proofs.MaskWindows.{window, window_bit}
@@ -63,14 +64,6 @@ module _ (m c : ℕ) (set : m / 2 ^ c % 2 ≡ 1) (clear : (i : ℕ) → i < c �
       (λ h. let same = ap (λ n. n % 2) (from_above i (omega arith)) in omega arith) (cases_lt i c))
 
 -- ---- a test of the places that a word marks
-
-or_true : (b : Bool) → (b || true) ≡ true
-or_true true = refl
-or_true false = refl
-
-and_true_right : (b : Bool) → (b && true) ≡ b
-and_true_right true = refl
-and_true_right false = refl
 
 pub differ : (a b : ℕ) → a ≢ b → (a == b) ≡ false
 differ a b h = elim (a == b) as (λ r. (a == b) ≡ r → r ≡ false) [ true ↦ λ e. absurd (h (eqb-true a b e)) | false ↦ λ e. refl ] refl
@@ -163,7 +156,7 @@ module _ (p : ℕ → Bool) (mask : List ℕ) (small : AreBytes mask) (rows firs
       ∙ ap q (let e : j ≡ 0 + j = omega arith in e)) in
       let whole : n + (64 - n) ≡ 64 = omega arith in
       front
-      ∙ sym (ap (λ b. list_all q (range_with_len 0 n) && b) above ∙ and_true_right (list_all q (range_with_len 0 n)))
+      ∙ sym (ap (λ b. list_all q (range_with_len 0 n) && b) above ∙ and_true (list_all q (range_with_len 0 n)))
       ∙ sym (list_all-append q (range_with_len 0 n) (range_with_len n (64 - n)))
       ∙ ap (list_all q) (sym (range-append 0 n (64 - n) ∙ ap (λ (j : ℕ). range_with_len 0 n ++ range_with_len j (64 - n)) (let e : 0 + n ≡ n = omega arith in e)))
       ∙ ap (λ k. list_all q (range_with_len 0 k)) whole

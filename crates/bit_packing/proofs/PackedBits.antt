@@ -5,8 +5,7 @@ use Rattle.std.specs.List.{list_all}
 use Rattle.std.proofs.Math.Seq.{take-add}
 use Rattle.std.proofs.lemmas.Bool.Decides.{nat_tests}
 use Rattle.meaning.proofs.Tests.{all_first, all_rest, all_map, both}
-use Rattle.std.specs.Int.{w64, to_le_bytes, sum_through, byte_worth}
-use Rattle.std.specs.Prelude.{slice_index}
+use Rattle.std.specs.Int.{w64, to_le_bytes}
 use Rattle.std.proofs.lemmas.List.{take_all, drop_all, drop_at, drop_more, length-take-le, length-map, map-append, append-nil}
 use Rattle.std.proofs.Math.Seq.{drop-length}
 use mir.Val.{bool_byte}
@@ -14,11 +13,9 @@ use Rattle.std.proofs.lemmas.Nat.{mul-le, pow-add, shl_whole, shr_below, from_le
 use Rattle.std.proofs.Math.Nat.{pow-le-pow_right, div-mul-le_self}
 use Rattle.bit_packing.specs.Bytes.{number_of}
 use Rattle.bit_packing.specs.Packing.{Packs, ArePacked, packed, bit_of}
+use Rattle.bit_packing.proofs.UnpackNumbers.{byte_more, number-through}
 
 -- ---- bytes as one number, in parts
-
-byte_more : (m : ℕ) → 2 ^ (8 * suc m) ≡ 2 ^ (8 * m) * 256
-byte_more m = let e : 8 * suc m ≡ 8 * m + 8 = omega arith in ap (λ (j : ℕ). 2 ^ j) e ∙ pow-add 2 (8 * m) 8
 
 append_step : (x n a b p q : ℕ) → n ≡ a + p * b → q ≡ p * 256 → x + 256 * n ≡ (x + 256 * a) + q * b
 append_step x n a b p q e f = rw (e, f) (omega arith)
@@ -26,21 +23,6 @@ append_step x n a b p q e f = rw (e, f) (omega arith)
 pub number_of-append : (xs ys : List ℕ) → number_of (xs ++ ys) ≡ number_of xs + 2 ^ (8 * length xs) * number_of ys
 number_of-append [] ys = omega arith
 number_of-append (x ∷ xs) ys = append_step x (number_of (xs ++ ys)) (number_of xs) (number_of ys) (2 ^ (8 * length xs)) (2 ^ (8 * suc (length xs))) (number_of-append xs ys) (byte_more (length xs))
-
-front_step : (x t u g p q : ℕ) → u ≡ t + g * p → q ≡ p * 256 → x + 256 * u ≡ x + 256 * t + g * q
-front_step x t u g p q e f = rw (e, f) (omega arith)
-
-number-take_more : (n : ℕ) (xs : List ℕ) → number_of (take (suc n) xs) ≡ number_of (take n xs) + get_or xs n 0 * 256 ^ n
-number-take_more zero [] = refl
-number-take_more zero (x ∷ xs) = omega arith
-number-take_more (suc n) [] = omega arith
-number-take_more (suc n) (x ∷ xs) =
-    front_step x (number_of (take n xs)) (number_of (take (suc n) xs)) (get_or xs n 0) (256 ^ n) (256 ^ suc n) (number-take_more n xs) (let e : suc n ≡ n + 1 = omega arith in ap (λ (j : ℕ). 256 ^ j) e ∙ pow-add 256 n 1)
-
-number-through : (n : ℕ) (xs : List ℕ) → sum_through (λ i. byte_worth i (slice_index xs i)) n ≡ number_of (take (suc n) xs)
-number-through zero xs = sym (number-take_more zero xs ∙ omega arith)
-number-through (suc n) xs =
-    ap (λ (j : ℕ). j + get_or xs (suc n) 0 * 256 ^ suc n) (number-through n xs) ∙ sym (number-take_more (suc n) xs)
 
 number_of-word : (n : ℕ) → n < 2 ^ 64 → number_of (to_le_bytes w64 n) ≡ n
 number_of-word n h = sym (number-through 7 (to_le_bytes w64 n)) ∙ from_le_bytes-to_le_bytes_8 n h

@@ -1,11 +1,11 @@
 -- Steps of loops that fill a list from the front, and ranges of places.
-use Rattle.std.proofs.Common.{◌≡◌, ℕ, zero, suc, ◌+◌, ◌<◌, List, [], ◌∷◌, ◌++◌, length, take, map, set, get_or, refl, sym, ap, ◌∙◌, arith, Bool, true, false, ◌&&◌, ℤ, pos, negsuc, w64, to_z, of_z}
+use Rattle.std.proofs.Common.{◌≡◌, ℕ, zero, suc, ◌+◌, ◌<◌, List, [], ◌∷◌, ◌++◌, length, take, map, set, get_or, refl, sym, ap, ◌∙◌, arith, Bool, true, ℤ, pos, negsuc, w64, to_z, of_z}
 use Rattle.std.specs.List.{range_with_len, list_all}
 use lib.Signed.{mag}
 use Rattle.std.proofs.Math.Facts.{to_z-neg}
 use Rattle.std.proofs.lemmas.Int.{to_z_pos}
 use Rattle.meaning.specs.Operators.{fits_i64}
-use Rattle.std.proofs.lemmas.Bool.{false≢true}
+use Rattle.meaning.proofs.Tests.{first_of, second_of}
 use Rattle.std.proofs.lemmas.List.{take_more_set}
 use Rattle.std.proofs.lemmas.List.FromFn.{map-range_with_len_more, get_or-map-range_with_len, length-map-range_with_len}
 
@@ -38,18 +38,10 @@ same-ranges f g a b (suc n) h =
     ap f s ∙ h (j + 1) (omega arith) ∙ ap g t))
 
 -- ---- tests of all elements
-pub both_left : (a b : Bool) → (a && b) ≡ true → a ≡ true
-both_left true b h = refl
-both_left false b h = h
-
-pub both_right : (a b : Bool) → (a && b) ≡ true → b ≡ true
-both_right true b h = h
-both_right false b h = absurd (false≢true h)
-
 pub all-at : {X : Type 0} (p : X → Bool) (xs : List X) (i : ℕ) (d : X) → list_all p xs ≡ true → i < length xs → p (get_or xs i d) ≡ true
 all-at p [] i d h l = absurd (omega arith)
-all-at p (x ∷ xs) zero d h l = both_left (p x) (list_all p xs) h
-all-at p (x ∷ xs) (suc i) d h l = all-at p xs i d (both_right (p x) (list_all p xs) h) (omega arith)
+all-at p (x ∷ xs) zero d h l = first_of (p x) (list_all p xs) h
+all-at p (x ∷ xs) (suc i) d h l = all-at p xs i d (second_of (p x) (list_all p xs) h) (omega arith)
 
 -- a stored signed number
 pub stored : (z : ℤ) → mag z < 9223372036854775808 → to_z w64 (of_z w64 z) ≡ z

@@ -15,7 +15,7 @@ AreBytes xs = (k : ℕ) → get_or xs k 0 < 256
 pub are_bytes : (xs : List ℕ) → ((i : ℕ) → Fits w8 (get_or xs i 0)) → AreBytes xs
 are_bytes xs h k = let f : Fits w8 (get_or xs k 0) = h k in omega arith
 
-byte_more : (m : ℕ) → 2 ^ (8 * suc m) ≡ 2 ^ (8 * m) * 256
+pub byte_more : (m : ℕ) → 2 ^ (8 * suc m) ≡ 2 ^ (8 * m) * 256
 byte_more m = let e : 8 * suc m ≡ 8 * m + 8 = omega arith in ap (λ (j : ℕ). 2 ^ j) e ∙ pow-add 2 (8 * m) 8
 
 split_step : (x n p q d t : ℕ) → n ≡ d * p + t → q ≡ p * 256 → x + 256 * n ≡ d * q + (x + 256 * t)
@@ -44,7 +44,7 @@ number-drop m xs h = ap (λ (j : ℕ). j / 2 ^ (8 * m)) (number-split m xs) ∙ 
 pub number-take : (m : ℕ) (xs : List ℕ) → AreBytes xs → number_of xs % 2 ^ (8 * m) ≡ number_of (take m xs)
 number-take m xs h = ap (λ (j : ℕ). j % 2 ^ (8 * m)) (number-split m xs) ∙ (mod_low (number_of (drop m xs)) (8 * m) (number_of (take m xs)) (number-front_below m xs h))
 
-low_bits : (n k m j : ℕ) → j + k ≡ m → n % 2 ^ m % 2 ^ k ≡ n % 2 ^ k
+pub low_bits : (n k m j : ℕ) → j + k ≡ m → n % 2 ^ m % 2 ^ k ≡ n % 2 ^ k
 low_bits n k m j e = rw (sym e) (mod-mod-pow n j k)
 
 -- the bits that lie within the first m bytes

@@ -18,6 +18,7 @@ use Rattle.meaning.specs.declared.catalog.CatalogFault.{CatalogFault}
 use Rattle.meaning.specs.declared.catalog.CatalogFault.TheVariants.{Memory, NotUtf8, UnfitKey, OverLimit}
 use Rattle.catalog_reader.specs.declared.catalog_tables.Declared.{Declared}
 use Rattle.meaning.specs.Catalog.{is_name, IsName, IsWellFormedTable, HasKey, IsWellFormed}
+use Rattle.meaning.proofs.Tests.{not_true}
 use Rattle.catalog_reader.specs.CatalogTables.{first_line_fault, statements, tables_of}
 use Rattle.catalog_reader.specs.CatalogText.{key_place, declared_fact, keyed, facts, dims, lacks_key, exceeds_limits, exceed_limits, catalog_with, catalog_unless, lines_of, catalog_of_text, catalog_of}
 use Rattle.catalog_reader.proofs.SoundTables.{AreApart, column_name, table_name, IsSoundTable, AreSound, lines-sound, tables_of-sound}
@@ -63,10 +64,6 @@ All-both P Q R both (x ∷ xs) ps qs = (both x ps.0 qs.0, All-both P Q R both xs
 
 not_below : (m n : ℕ) → nat_lt m n ≡ false → n ≤ m
 not_below m n h = grind (arith, nat_tests)
-
-not_true : (b : Bool) → not b ≡ true → b ≡ false
-not_true true h = cc
-not_true false h = refl
 
 not_empty : (n : ℕ) → (n == 0) ≡ false → 1 ≤ n
 not_empty n h = grind (arith, nat_tests)

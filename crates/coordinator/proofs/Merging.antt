@@ -1,11 +1,11 @@
 -- The groups of fitting answers: one table takes them all, and holds what the answers say together.
-use Rattle.std.specs.Prelude.{◌≡◌, ◌≢◌, ℕ, zero, suc, ◌+◌, ◌*◌, ◌<◌, ◌≤◌, Bool, true, ◌&&◌, List, [], ◌∷◌, ◌++◌, length, map, zip, sum, take, get_or, slice_index, flat_map, filter_map, Option, None, All}
+use Rattle.std.specs.Prelude.{◌≡◌, ◌≢◌, ℕ, zero, suc, ◌+◌, ◌*◌, ◌<◌, ◌≤◌, true, List, [], ◌∷◌, ◌++◌, length, map, zip, sum, take, get_or, slice_index, flat_map, filter_map, Option, None, All}
 use Rattle.std.specs.List.{AllByRecursion, list_all, enumerate_from}
 use Rattle.std.specs.Cmp.Lexicographic.{pointwise}
 use Rattle.std.specs.Ordering.{match_ordering}
 use Rattle.std.specs.declared.cmp.Ordering.TheVariants.{Less, Equal, Greater}
 use Rattle.std.proofs.Common.{refl, sym, ap, subst, ◌∙◌, arith, length-append, append_assoc, append-nil}
-use Rattle.std.proofs.lemmas.Bool.{eqb-true, leb-true}
+use Rattle.std.proofs.lemmas.Bool.{leb-true, and_parts}
 use Rattle.std.proofs.lemmas.Grind.{flat_map-append}
 use Rattle.std.proofs.lemmas.List.{take_more}
 use Rattle.std.proofs.lemmas.List.Elements.{All-from_recursion, recursion_from_All}
@@ -13,7 +13,6 @@ use Rattle.std.proofs.lemmas.List.Sums.{sum_by-append, sum_by-cons}
 use Rattle.meaning.specs.Limits.{max_rows}
 use Rattle.meaning.specs.declared.plan.Aggregate.{Aggregate}
 use Rattle.meaning.specs.declared.plan.AggregateKind.{AggregateKind}
-use Rattle.meaning.specs.declared.plan.AggregateKind.TheVariants.{CountRows, Count, Sum, Min, Max, Avg}
 use Rattle.meaning.specs.declared.plan.GroupingKey.{GroupingKey}
 use Rattle.meaning.specs.declared.plan.Item.{Item}
 use Rattle.meaning.specs.declared.plan.Plan.{Plan}
@@ -37,24 +36,13 @@ use Rattle.group_by.specs.Groups.{all_rows, with_groups, under, SaysAs, TablesGr
 use Rattle.group_by.specs.Rows.{IsGroupOf}
 use Rattle.group_by.specs.Shape.{GroupsSpec, shape_of}
 use Rattle.last_step.specs.Printing.{ShowsSomething}
-use Rattle.partial_codec.proofs.Fitting.{statistics_same, few_groups, short_at}
+use Rattle.partial_codec.proofs.Fitting.{statistics_same, few_groups, short_at, count_fits}
 use Rattle.coordinator.specs.Faults.{least_fault}
 use Rattle.coordinator.specs.Fitted.{is_fitting, AreFitting}
 use Rattle.coordinator.specs.Gathering.{IsShown}
 use Rattle.coordinator.specs.Merging.{groups_in, all_groups, AreMergeable}
 
 -- ---- a group that fits is one that a table takes
-
-both : (a b : Bool) → (a && b) ≡ true → (a ≡ true) × (b ≡ true)
-both a b e = (first_of a b e, second_of a b e)
-
-count_within : (kind : AggregateKind) (rows : ℕ) (s : Statistics) → is_possible kind rows s ≡ true → s.count ≤ rows
-count_within CountRows rows s e = let h = eqb-true s.count rows e in omega (arith, h)
-count_within Count rows s e = leb-true s.count rows e
-count_within Sum rows s e = leb-true s.count rows (both _ _ e).0
-count_within Avg rows s e = leb-true s.count rows (both _ _ e).0
-count_within Min rows s e = leb-true s.count rows (both _ _ e).0
-count_within Max rows s e = leb-true s.count rows (both _ _ e).0
 
 kinds_of : List Aggregate → List AggregateKind
 kinds_of aggs = map (λ a. a.kind) aggs
@@ -70,14 +58,14 @@ states_taken [] rows [] shaped possible = record { widths = refl; kept = refl; w
 states_taken [] rows (s ∷ states) shaped possible = absurd cc
 states_taken (a ∷ aggs) rows [] shaped possible = absurd cc
 states_taken (a ∷ aggs) rows (s ∷ states) shaped possible =
-    let h = both (is_state_of a s) (pointwise is_state_of aggs states) shaped in
-    let k = both (is_possible a.kind rows s) (pointwise (λ b t. is_possible b.kind rows t) aggs states) possible in
+    let h = and_parts (is_state_of a s) (pointwise is_state_of aggs states) shaped in
+    let k = and_parts (is_possible a.kind rows s) (pointwise (λ b t. is_possible b.kind rows t) aggs states) possible in
     let same = statistics_same (kept_by a.kind s) s (first_of _ _ h.0) in
     let rest = states_taken aggs rows states h.1 k.1 in
     record {
       widths = ap suc rest.widths;
       kept = λ i. same i ∷ rest.kept i;
-      within = (count_within a.kind rows s k.0, rest.within);
+      within = (count_fits a.kind rows s k.0, rest.within);
     }
 
 group_taken : (plan : Plan) (g : Group) → is_group_of plan g ≡ true → is_group_possible plan g ≡ true → IsGroupOf (shape_of plan) g
@@ -89,8 +77,8 @@ groups_taken : (plan : Plan) (gs : List Group) → list_all (is_group_of plan) g
     → AllByRecursion (IsGroupOf (shape_of plan)) gs
 groups_taken plan [] shaped possible = tt
 groups_taken plan (g ∷ gs) shaped possible =
-    let h = both (is_group_of plan g) (list_all (is_group_of plan) gs) shaped in
-    let k = both (is_group_possible plan g) (list_all (is_group_possible plan) gs) possible in
+    let h = and_parts (is_group_of plan g) (list_all (is_group_of plan) gs) shaped in
+    let k = and_parts (is_group_possible plan g) (list_all (is_group_possible plan) gs) possible in
     (group_taken plan g h.0 k.0, groups_taken plan gs h.1 k.1)
 
 -- ---- the groups of one cell, and of all cells
@@ -111,7 +99,7 @@ wide (k ∷ keys) (v ∷ key) e = ap suc (wide keys key (second_of (is_of_type k
 all_wide : (plan : Plan) (gs : List Group) → list_all (is_group_of plan) gs ≡ true → AllByRecursion (λ g. length g.key ≡ length plan.keys) gs
 all_wide plan [] shaped = tt
 all_wide plan (g ∷ gs) shaped =
-    let h = both (is_group_of plan g) (list_all (is_group_of plan) gs) shaped in
+    let h = and_parts (is_group_of plan g) (list_all (is_group_of plan) gs) shaped in
     (wide plan.keys g.key (first_of (is_key_of plan g.key) _ h.0), all_wide plan gs h.1)
 
 rows_are : (gs : List Group) → sum (map (λ g. g.rows) gs) ≡ all_rows gs

@@ -1,20 +1,25 @@
-//! The coordinator: a cell for each fragment, and what an answer does to it.
+//! The coordinator: a cell for each fragment, what an answer does to it, and what is reported.
 ghost use Rattle.std.specs.Prelude.{◌≡◌, ℕ, [], ◌∷◌, ◌++◌, List, length, replicate, IfOk, IfErr, OnOk, OnErr};
+ghost use Rattle.std.specs.Io.KnownBytes.{Appends};
 ghost use Rattle.meaning.specs.Said.{Answer as AnAnswer};
 ghost use Rattle.meaning.specs.Said.{Cell as ACell};
 ghost use Rattle.meaning.specs.declared.answer.Cell.TheVariants.{Nothing};
-ghost use Rattle.meaning.specs.Gather.{joined};
+ghost use Rattle.meaning.specs.Gather.{joined, report};
+ghost use Rattle.meaning.specs.Print.{report_text};
 ghost use Rattle.partial_codec.specs.Answer.{Spells};
 ghost use Rattle.partial_codec.specs.State.{SpellsState, state_bytes};
 ghost use Rattle.coordinator.specs.Gathering.{IsShown, Takes, Refuses, RefusesState, RefusesJoin, absorbed_as, joined_with};
+ghost use Rattle.coordinator.specs.Report.{summary, IsPrintRefusal};
 
 use crate::fault::GatherFault;
 use crate::joining::{all_news, is_same, join_all, with_answer};
+use crate::report::{Report, full_report, print_full_report, summary};
 use crate::same_job::is_same_job;
 use accumulators::Group;
 use meaning::answer::{Answer, Body, Cell};
 use partial_codec::{Job, decode, decode_state, encode_state};
 use std::alloc::{AllocError, Global};
+use std::io::Write;
 use std::marker::Model;
 use std::mem;
 use std::mem::drop;
@@ -197,6 +202,48 @@ impl Gather {
             Ok(cells) => Ok(Gather { job, cells }),
             Err(fault) => {
                 drop(job);
+                Err(GatherFault::from(fault))
+            }
+        }
+    }
+
+    /// Which report would be printed.
+    pub fn report(&self, alloc: Global) -> Result<Report, GatherFault>
+        ensures value { IfOk result (λ r. r ≡ summary (report self.now.job.plan self.now.cells)) }
+        ensures refused { IfErr result (λ e. e ≡ GatherFault.Memory) }
+    {
+        Ok(summary(full_report(alloc, self)?))
+    }
+
+    /// Prints the conflicts, if there are any; else the missing fragments; else what the answers
+    /// say together. What a failed writer let out is open.
+    pub fn print_report<W: Write>(&self, alloc: Global, out: &mut W) -> Result<(), GatherFault>
+        ensures printed { OnOk result (Appends (W.contents out.old) (W.contents out.new)
+            (report_text self.now.job.plan (report self.now.job.plan self.now.cells))) }
+        ensures refused { IfErr result IsPrintRefusal }
+    {
+        let full = full_report(alloc, self)?;
+        let printed = print_full_report(alloc, self.job().plan(), &full, out);
+        drop(full);
+        Ok(printed?)
+    }
+
+    /// Prints as `print_report` does, and says which report it was.
+    pub fn print_and_report<W: Write>(
+        &self,
+        alloc: Global,
+        out: &mut W,
+    ) -> Result<Report, GatherFault>
+        ensures printed { OnOk result (Appends (W.contents out.old) (W.contents out.new)
+            (report_text self.now.job.plan (report self.now.job.plan self.now.cells))) }
+        ensures value { IfOk result (λ r. r ≡ summary (report self.now.job.plan self.now.cells)) }
+        ensures refused { IfErr result IsPrintRefusal }
+    {
+        let full = full_report(alloc, self)?;
+        match print_full_report(alloc, self.job().plan(), &full, out) {
+            Ok(()) => Ok(summary(full)),
+            Err(fault) => {
+                drop(full);
                 Err(GatherFault::from(fault))
             }
         }

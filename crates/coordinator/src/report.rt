@@ -1,6 +1,5 @@
-//! Which report a coordinator's state is.
-// What a coordinator prints: its conflicts, what is missing, or what the answers say together.
-ghost use Rattle.std.specs.Prelude.{◌≡◌, ◌≤◌, length, IfOk, IfErr, OnOk};
+//! What a coordinator prints: its conflicts, what is missing, or what the answers say together.
+ghost use Rattle.std.specs.Prelude.{◌≡◌, ◌≤◌, length, IfOk, OnOk};
 ghost use Rattle.std.specs.Io.KnownBytes.{Appends};
 ghost use Rattle.meaning.specs.Limits.{max_fragments};
 ghost use Rattle.meaning.specs.Gather.{places, report, preview};
@@ -8,10 +7,9 @@ ghost use Rattle.meaning.specs.Print.{output_text, report_text};
 ghost use Rattle.coordinator.specs.Output.{IsPrintable, output_in};
 ghost use Rattle.coordinator.specs.Fitted.{AreFitting};
 ghost use Rattle.coordinator.specs.Gathering.{IsShown};
-ghost use Rattle.coordinator.specs.Report.{has_obstacle, report_in, ended_as, summary, IsReportable, IsPrintRefusal};
+ghost use Rattle.coordinator.specs.Report.{has_obstacle, report_in, ended_as, summary, IsReportable};
 
 use crate::combining::combine;
-use crate::fault::GatherFault;
 use crate::gather::Gather;
 use crate::lines::{print_fault, print_fragments, print_row_fault};
 use crate::output::{Output, output_of};
@@ -47,7 +45,7 @@ pub enum Ended {
 
 /// What is printed: a report with its output.
 #[derive(Drop)]
-enum FullReport {
+pub enum FullReport {
     Conflict(Sequence<u32>),
     Missing(Sequence<u32>),
     Output(Output),
@@ -132,7 +130,7 @@ fn full_report_of_cells(
 }
 
 /// What is to be printed.
-fn full_report(alloc: Global, gather: &Gather) -> Result<FullReport, AllocError>
+pub fn full_report(alloc: Global, gather: &Gather) -> Result<FullReport, AllocError>
     ensures value { IfOk result (λ f. report_in f ≡ report gather.now.job.plan gather.now.cells) }
     ensures printable { IfOk result (IsReportable gather.now.job.plan) }
 {
@@ -161,7 +159,7 @@ fn print_output<W: Write>(
 }
 
 /// Prints it.
-fn print_full_report<W: Write>(
+pub fn print_full_report<W: Write>(
     alloc: Global,
     plan: &Plan,
     full: &FullReport,
@@ -188,7 +186,7 @@ fn ended_as(output: &Output) -> Ended
 }
 
 /// Which report it is.
-fn summary(full: FullReport) -> Report
+pub fn summary(full: FullReport) -> Report
     ensures { result ≡ summary (report_in full) }
 {
     match full {
@@ -198,49 +196,5 @@ fn summary(full: FullReport) -> Report
             Ended::Rows => Report::Rows,
             Ended::Fault => Report::Fault,
         },
-    }
-}
-
-impl Gather {
-    /// Which report would be printed.
-    pub fn report(&self, alloc: Global) -> Result<Report, GatherFault>
-        ensures value { IfOk result (λ r. r ≡ summary (report self.now.job.plan self.now.cells)) }
-        ensures refused { IfErr result (λ e. e ≡ GatherFault.Memory) }
-    {
-        Ok(summary(full_report(alloc, self)?))
-    }
-
-    /// Prints the conflicts, if there are any; else the missing fragments; else what the answers
-    /// say together. What a failed writer let out is open.
-    pub fn print_report<W: Write>(&self, alloc: Global, out: &mut W) -> Result<(), GatherFault>
-        ensures printed { OnOk result (Appends (W.contents out.old) (W.contents out.new)
-            (report_text self.now.job.plan (report self.now.job.plan self.now.cells))) }
-        ensures refused { IfErr result IsPrintRefusal }
-    {
-        let full = full_report(alloc, self)?;
-        let printed = print_full_report(alloc, self.job().plan(), &full, out);
-        drop(full);
-        Ok(printed?)
-    }
-
-    /// Prints as `print_report` does, and says which report it was.
-    pub fn print_and_report<W: Write>(
-        &self,
-        alloc: Global,
-        out: &mut W,
-    ) -> Result<Report, GatherFault>
-        ensures printed { OnOk result (Appends (W.contents out.old) (W.contents out.new)
-            (report_text self.now.job.plan (report self.now.job.plan self.now.cells))) }
-        ensures value { IfOk result (λ r. r ≡ summary (report self.now.job.plan self.now.cells)) }
-        ensures refused { IfErr result IsPrintRefusal }
-    {
-        let full = full_report(alloc, self)?;
-        match print_full_report(alloc, self.job().plan(), &full, out) {
-            Ok(()) => Ok(summary(full)),
-            Err(fault) => {
-                drop(full);
-                Err(GatherFault::from(fault))
-            }
-        }
     }
 }

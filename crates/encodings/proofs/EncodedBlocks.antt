@@ -4,10 +4,9 @@ use Rattle.std.specs.Prelude.{nat_lt, zip, replicate, not, ◌||◌, ◌==◌}
 use Rattle.std.specs.List.{list_all, range_with_len}
 use Rattle.std.proofs.lemmas.Bool.{ltb-true, le-leb}
 use Rattle.std.proofs.lemmas.List.{take_at, drop_at, length-map, get_or_past, take-map, length-take-le, length-drop, get_or-drop}
-use Rattle.std.proofs.lemmas.Nat.{pow-add, pow_pos, shr-shr, shr_high, shr_le, mod_low, field_of}
+use Rattle.std.proofs.lemmas.Nat.{pow_pos, shr-shr, shr_high, shr_le, mod_low, field_of}
 use Rattle.std.proofs.Math.Nat.{div-one}
 use Rattle.std.proofs.lemmas.Str.{is_utf8-from_IsUtf8}
-use Rattle.std.proofs.Math.Pow.{mod-mod-pow}
 use Rattle.meaning.specs.Limits.{row_group_rows}
 use Rattle.meaning.specs.declared.value.ColType.{ColType}
 use Rattle.meaning.specs.declared.value.ColType.TheVariants as of_type
@@ -29,40 +28,13 @@ use Rattle.columns.specs.Cells.{cell_of}
 use Rattle.encodings.specs.Encoded.{is_tight}
 use Rattle.encodings.specs.Runs.{are_unequal_neighbours}
 use Rattle.bit_packing.specs.Packing.{packed, bit_of, ArePacked}
+use Rattle.bit_packing.proofs.UnpackNumbers.{number-drop, low_bits}
 use Rattle.encodings.specs.Encoded.{IsBodyOf, IsMaskOf, PutsBody, PutsMask}
 
 -- ---- bits
 
 pub AreBytes : List ℕ → Type 0
 AreBytes xs = (k : ℕ) → get_or xs k 0 < 256
-
-byte_more : (m : ℕ) → 2 ^ (8 * suc m) ≡ 2 ^ (8 * m) * 256
-byte_more m = let e : 8 * suc m ≡ 8 * m + 8 = omega arith in ap (λ (j : ℕ). 2 ^ j) e ∙ pow-add 2 (8 * m) 8
-
-split_step : (x n p q d t : ℕ) → n ≡ d * p + t → q ≡ p * 256 → x + 256 * n ≡ d * q + (x + 256 * t)
-split_step x n p q d t e f = rw (e, f) (omega arith)
-
-number-split : (m : ℕ) (xs : List ℕ) → number_of xs ≡ number_of (drop m xs) * 2 ^ (8 * m) + number_of (take m xs)
-number-split zero xs = omega arith
-number-split (suc m) [] = omega arith
-number-split (suc m) (x ∷ xs) =
-    split_step x (number_of xs) (2 ^ (8 * m)) (2 ^ (8 * suc m)) (number_of (drop m xs)) (number_of (take m xs)) (number-split m xs) (byte_more m)
-
-bound_step : (x n p q : ℕ) → x < 256 → n < p → q ≡ p * 256 → x + 256 * n < q
-bound_step x n p q h k f = omega arith
-
-number-front_below : (m : ℕ) (xs : List ℕ) → ((k : ℕ) → get_or xs k 0 < 256) → number_of (take m xs) < 2 ^ (8 * m)
-number-front_below zero xs h = omega arith
-number-front_below (suc m) [] h = pow_pos (8 * suc m)
-number-front_below (suc m) (x ∷ xs) h =
-    bound_step x (number_of (take m xs)) (2 ^ (8 * m)) (2 ^ (8 * suc m)) (h 0) (number-front_below m xs (λ k. h (suc k))) (byte_more m)
-
--- the bytes from one on
-number-drop : (m : ℕ) (xs : List ℕ) → ((k : ℕ) → get_or xs k 0 < 256) → number_of xs / 2 ^ (8 * m) ≡ number_of (drop m xs)
-number-drop m xs h = ap (λ (j : ℕ). j / 2 ^ (8 * m)) (number-split m xs) ∙ (shr_high (number_of (drop m xs)) (8 * m) (number_of (take m xs)) (number-front_below m xs h))
-
-low_bits : (n k m j : ℕ) → j + k ≡ m → n % 2 ^ m % 2 ^ k ≡ n % 2 ^ k
-low_bits n k m j e = rw (sym e) (mod-mod-pow n j k)
 
 first_bits : (b n r : ℕ) → r < 8 → b < 256 → (b + 256 * n) / 2 ^ r % 2 ≡ b / 2 ^ r % 2
 first_bits b n r h l =

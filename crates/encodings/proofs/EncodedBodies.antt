@@ -1,6 +1,6 @@
 -- What is written of cells is a body of them.
 use Rattle.std.proofs.Common.{◌≡◌, ℕ, ◌+◌, ◌-◌, ◌*◌, ◌^◌, ◌<◌, ◌≤◌, ℤ, pos, Bool, true, false, List, [], ◌∷◌, ◌++◌, length, map, take, drop, get_or, refl, sym, ap, ◌∙◌, suc, zero, arith, append_assoc, length-append, zero-add}
-use Rattle.std.specs.Prelude.{nat_lt, nat_le, zip, replicate, sum, ◌==◌, not}
+use Rattle.std.specs.Prelude.{nat_lt, nat_le, zip, replicate, sum, ◌==◌}
 use Rattle.std.specs.List.{concat, list_all, flat_map, sum_by}
 use Rattle.std.specs.Int.{w32, from_le_bytes}
 use Rattle.std.proofs.lemmas.Bool.{lt-ltb, ltb-true, leb-true, le-leb, eq-eqb}
@@ -11,12 +11,9 @@ use Rattle.meaning.specs.declared.value.ColType.TheVariants as of_type
 use Rattle.meaning.specs.declared.value.Value.{Value}
 use Rattle.meaning.specs.declared.value.Value.TheVariants.{Null, Int, Text}
 use Rattle.meaning.specs.Operators.{fits_i64}
-use Rattle.meaning.specs.Order.{number, bytes, value_cmp, same_value}
-use Rattle.meaning.proofs.Tests.{all_first, all_rest, both, first_of, second_of, all_imply}
-use Rattle.meaning.proofs.Orders.{value_total, value_exact}
-use Rattle.std.specs.Cmp.{Equal-is}
-use Rattle.std.specs.Ordering.{is_eq}
-use Rattle.std.proofs.lemmas.Cmp.{tied_itself}
+use Rattle.meaning.specs.Order.{number, bytes, same_value}
+use Rattle.meaning.proofs.Tests.{all_first, all_rest, both, first_of, second_of, all_imply, not_true}
+use Rattle.meaning.proofs.Same.{same_itself}
 use Rattle.meaning.specs.Limits.{max_text_bytes, row_group_rows}
 use Rattle.columns.specs.Column.{is_of, is_text}
 use Rattle.columns.specs.Texts.{ends_from}
@@ -181,16 +178,6 @@ none_longer (n ∷ ns) total h =
 short_fit : (ns : List ℕ) → sum ns ≤ row_group_rows → list_all (λ n. nat_lt n (2 ^ 16)) ns ≡ true
 short_fit ns h = all_imply (λ n. nat_le n row_group_rows) (λ n. nat_lt n (2 ^ 16)) (λ n e. lt-ltb n (2 ^ 16) (let l = leb-true n row_group_rows e in omega arith)) ns (none_longer ns row_group_rows h)
 
-same_itself : (x : Value) → same_value x x ≡ true
-same_itself x = ap is_eq (tied_itself value_total x)
-
-not_true : (b : Bool) → not b ≡ true → b ≡ false
-not_true true e = cc
-not_true false e = refl
-
-same_tells : (x y : Value) → same_value x y ≡ true → x ≡ y
-same_tells x y e = value_exact x y ((Equal-is (value_cmp x y)).0 e)
-
 -- the heads of runs that are apart
 heads_of_run : (v : Value) (n : ℕ) (rest : List Value) → run_heads (v ∷ replicate n v ++ rest) ≡ run_heads (v ∷ rest)
 heads_of_run v zero rest = refl
@@ -293,7 +280,7 @@ texts_at_places ts (place ∷ places) =
     text_at (t ∷ ts) zero = refl
     text_at (t ∷ ts) (suc place) = text_at ts place
 
-numbers_back : (ns : List ℤ) → map number (map Int ns) ≡ ns
+pub numbers_back : (ns : List ℤ) → map number (map Int ns) ≡ ns
 numbers_back [] = refl
 numbers_back (n ∷ ns) = ap (λ ms. n ∷ ms) (numbers_back ns)
 

@@ -1,11 +1,10 @@
 -- Entries and codes are a dictionary of the cells.
 use Rattle.std.proofs.Common.{◌≡◌, ℕ, ◌+◌, ◌-◌, ◌*◌, ◌^◌, ◌<◌, ◌≤◌, Bool, true, false, List, [], ◌∷◌, ◌++◌, length, map, take, drop, get_or, refl, sym, ap, ◌∙◌, suc, zero, arith, append_assoc, length-append}
-use Rattle.std.specs.Prelude.{nat_lt, nat_le, ◌||◌}
+use Rattle.std.specs.Prelude.{nat_lt, nat_le}
 use Rattle.std.specs.List.{list_all, list_any, flat_map}
 use Rattle.std.specs.Cmp.{both_ways}
-use Rattle.std.specs.Ordering.{is_eq, eq_by_cmp}
+use Rattle.std.specs.Ordering.{eq_by_cmp}
 use Rattle.std.proofs.lemmas.Bool.{lt-ltb, ltb-true, le-leb}
-use Rattle.std.proofs.lemmas.Cmp.{tied_itself}
 use Rattle.std.proofs.lemmas.List.{take_at, drop_at, append-nil, length-map}
 use Rattle.meaning.specs.Limits.{row_group_rows}
 use Rattle.meaning.specs.declared.value.ColType.{ColType}
@@ -14,7 +13,8 @@ use Rattle.meaning.specs.declared.value.Value.TheVariants.{Null}
 use Rattle.meaning.specs.Order.{same_value, value_cmp, ascending_set, is_ascending}
 use Rattle.meaning.proofs.Orders.{value_total, value_exact}
 use Rattle.meaning.proofs.Sets.{same_ascending_set, ascending_set_itself}
-use Rattle.meaning.proofs.Tests.{all_first, all_rest, all_imply, both, or_second}
+use Rattle.meaning.proofs.Tests.{all_first, all_rest, all_imply, both, or_second, or_first, or_other}
+use Rattle.meaning.proofs.Same.{same_itself}
 use Rattle.columns.specs.Column.{is_of}
 use Rattle.encodings.specs.declared.kind.Kind.TheVariants as kind
 use Rattle.bit_packing.specs.Bytes.{shorts}
@@ -28,17 +28,9 @@ use Rattle.encodings.specs.Numbers.{word_bytes, short_bytes}
 use Rattle.encodings.proofs.EncodedForms.{shorts_read, length-word_bytes, length-short_bytes, length-chunks}
 use Rattle.encodings.proofs.EncodedBodies.{form_is, all_at, count_back}
 
-or_left : (a b : Bool) → a ≡ true → (a || b) ≡ true
-or_left true b e = refl
-or_left false b e = cc
-
-or_cases : (a b : Bool) → (a || b) ≡ true → a ≡ false → b ≡ true
-or_cases true b e f = cc
-or_cases false b e f = e
-
 any_get : (t : Value → Bool) (cells : List Value) (place : ℕ) → place < length cells → t (get_or cells place Null) ≡ true → list_any t cells ≡ true
 any_get t [] place h e = absurd (omega arith)
-any_get t (v ∷ cells) zero h e = or_left (t v) (list_any t cells) e
+any_get t (v ∷ cells) zero h e = or_first (t v) (list_any t cells) e
 any_get t (v ∷ cells) (suc place) h e = or_second (t v) (list_any t cells) (any_get t cells place (omega arith) e)
 
 -- what one of the places has, one of the cells has
@@ -49,11 +41,8 @@ any_at t cells (place ∷ places) h e =
     let v = get_or cells place Null in
     elim (t v) as (λ b. t v ≡ b → list_any t cells ≡ true) [
       | true ↦ λ f. any_get t cells place (ltb-true place (length cells) (all_first q place places h)) f
-      | false ↦ λ f. any_at t cells places (all_rest q place places h) (or_cases (t v) (list_any t (at_places cells places)) e f)
+      | false ↦ λ f. any_at t cells places (all_rest q place places h) (or_other (t v) (list_any t (at_places cells places)) e f)
     ] refl
-
-same_itself : (x : Value) → same_value x x ≡ true
-same_itself x = ap is_eq (tied_itself value_total x)
 
 -- each entry is some cell
 each_used : (cells : List Value) (places : List ℕ) → list_all (λ place. nat_lt place (length cells)) places ≡ true → list_all (λ entry. list_any (same_value entry) cells) (at_places cells places) ≡ true

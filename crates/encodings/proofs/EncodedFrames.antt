@@ -8,7 +8,7 @@ use Rattle.std.proofs.lemmas.Bool.{lt-ltb, ltb-true, le-leb, eq-eqb}
 use Rattle.std.proofs.lemmas.Int.{ints}
 use Rattle.std.proofs.lemmas.List.{take_at, drop_at, length-map, get_or_at, drop-drop}
 use Rattle.std.proofs.lemmas.Nat.{pow-add, pow_pos, mul-add-lt}
-use Rattle.meaning.proofs.Tests.{both, or_second, all_first, all_rest, all_map}
+use Rattle.meaning.proofs.Tests.{both, or_second, all_first, all_rest, all_map, or_first}
 use Rattle.bit_packing.specs.Widths.{width_for, IsWidth}
 use Rattle.encodings.specs.Choosing.{body_size}
 use Rattle.encodings.specs.Frame.{least_of, greatest_of, natural, spread}
@@ -22,10 +22,10 @@ use Rattle.bit_packing.specs.Offsets.{offset_at}
 use Rattle.bit_packing.specs.Packing.{packed, ArePacked}
 use Rattle.encodings.proofs.EncodedForms.{length-integer_bytes, integer_read, map_twice, all_map_same}
 use Rattle.encodings.proofs.EncodedBlocks.{digit_of, map_range}
+use Rattle.encodings.proofs.EncodedBodies.{numbers_back}
 use Rattle.meaning.specs.declared.value.ColType.TheVariants as of_type
 use Rattle.meaning.specs.declared.value.Value.TheVariants.{Int}
 use Rattle.meaning.specs.Operators.{fits_i64}
-use Rattle.meaning.specs.Order.{number}
 use Rattle.columns.specs.Column.{is_of}
 
 -- ---- the least and the greatest
@@ -108,23 +108,19 @@ all_between p (m ∷ ns) n h =
     let inner = all_between p ns m (λ k a b. h k (omega (arith, ints)) (omega (arith, ints))) in
     (h n lo1 hi1, both _ _ inner.0 inner.1)
 
-or_left : (a b : Bool) → a ≡ true → (a || b) ≡ true
-or_left true b e = refl
-or_left false b e = cc
-
 any_least : (p : ℤ → Bool) (ns : List ℤ) (n : ℤ) → p (least_of n ns) ≡ true → list_any p (n ∷ ns) ≡ true
-any_least p [] n e = or_left (p n) false e
+any_least p [] n e = or_first (p n) false e
 any_least p (m ∷ ns) n e =
     elim (min_is n (least_of m ns)).one [
-      | inl q ↦ or_left (p n) (list_any p (m ∷ ns)) (ap p (sym q) ∙ e)
+      | inl q ↦ or_first (p n) (list_any p (m ∷ ns)) (ap p (sym q) ∙ e)
       | inr q ↦ or_second (p n) (list_any p (m ∷ ns)) (any_least p ns m (ap p (sym q) ∙ e))
     ]
 
 any_greatest : (p : ℤ → Bool) (ns : List ℤ) (n : ℤ) → p (greatest_of n ns) ≡ true → list_any p (n ∷ ns) ≡ true
-any_greatest p [] n e = or_left (p n) false e
+any_greatest p [] n e = or_first (p n) false e
 any_greatest p (m ∷ ns) n e =
     elim (max_is n (greatest_of m ns)).one [
-      | inl q ↦ or_left (p n) (list_any p (m ∷ ns)) (ap p (sym q) ∙ e)
+      | inl q ↦ or_first (p n) (list_any p (m ∷ ns)) (ap p (sym q) ∙ e)
       | inr q ↦ or_second (p n) (list_any p (m ∷ ns)) (any_greatest p ns m (ap p (sym q) ∙ e))
     ]
 
@@ -195,10 +191,6 @@ some_wide (suc w) s offs l f = or_second (suc w == 0) _ (f (λ o. nat_le (2 ^ (s
 spread_is : (ns : List ℤ) → 1 ≤ length ns → least_in ns ≤ℤ greatest_in ns → unsigned_abs (greatest_in ns -ℤ least_in ns) ≡ spread ns
 spread_is [] h l = absurd (omega arith)
 spread_is (n ∷ ns) h l = natural_is (greatest_of n ns) (least_of n ns) l
-
-numbers_back : (ns : List ℤ) → map number (map Int ns) ≡ ns
-numbers_back [] = refl
-numbers_back (n ∷ ns) = ap (λ ms. n ∷ ms) (numbers_back ns)
 
 ints_fit : (ns : List ℤ) → list_all (is_of of_type.Int false) (map Int ns) ≡ true → list_all fits_i64 ns ≡ true
 ints_fit [] e = refl

@@ -3,8 +3,6 @@ use Rattle.std.proofs.Common.{◌≡◌, ℕ, ◌+◌, ◌-◌, ◌<◌, ◌≤�
 use Rattle.std.specs.Prelude.{nat_lt, nat_le, zip, replicate, not}
 use Rattle.std.specs.List.{list_all, flat_map}
 use Rattle.std.specs.Cmp.{Equal-is}
-use Rattle.std.specs.Ordering.{is_eq}
-use Rattle.std.proofs.lemmas.Cmp.{tied_itself}
 use Rattle.std.proofs.lemmas.Bool.{lt-ltb, le-leb}
 use Rattle.std.proofs.lemmas.List.{append-nil, take_more, take_all, length-map, map-append, get_or-map, get_or-take, get_or-drop, length-take, length-drop, length-take-le}
 use Rattle.std.proofs.lemmas.List.Concat.{flat_map-append}
@@ -12,8 +10,9 @@ use Rattle.std.proofs.lemmas.Grind.{replicate_next}
 use Rattle.meaning.specs.declared.value.Value.{Value}
 use Rattle.meaning.specs.declared.value.Value.TheVariants.{Null, Text}
 use Rattle.meaning.specs.Order.{same_value, value_cmp}
-use Rattle.meaning.proofs.Orders.{value_total, value_exact}
+use Rattle.meaning.proofs.Orders.{value_exact}
 use Rattle.meaning.proofs.Tests.{all_append, both, first_of, second_of}
+use Rattle.meaning.proofs.Same.{same_itself}
 use Rattle.encodings.specs.Runs.{repeated}
 use Rattle.encodings.specs.Runs.{are_unequal_neighbours}
 use Rattle.encodings.specs.Runs.{AreRuns}
@@ -131,9 +130,6 @@ runs_done cells starts lengths new_starts new_lengths start row r h p q =
 pub runs_goes_on : (cells : List Value) (starts lengths : List ℕ) (start row : ℕ) → RunsSoFar cells starts lengths start row → row < length cells → same_value (get_or cells row Null) (get_or cells start Null) ≡ true → RunsSoFar cells starts lengths start (row + 1)
 runs_goes_on cells starts lengths start row r h e =
     runs_kept cells starts lengths start row r h (value_exact _ _ ((Equal-is (value_cmp (get_or cells row Null) (get_or cells start Null))).0 e))
-
-same_itself : (x : Value) → same_value x x ≡ true
-same_itself x = ap is_eq (tied_itself value_total x)
 
 pub turned : (x y : Value) → same_value x y ≡ false → same_value y x ≡ false
 turned x y e = differ y x (λ p. absurd (let q : same_value x y ≡ true = subst (λ z. same_value x z ≡ true) (sym p) (same_itself x) in cc))

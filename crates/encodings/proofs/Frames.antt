@@ -2,7 +2,7 @@
 use Rattle.std.proofs.Common.{◌≡◌, ℕ, ◌+◌, ◌-◌, ◌*◌, ◌/◌, ◌^◌, ◌<◌, ◌≤◌, ℤ, pos, negsuc, ◌+ℤ◌, Bool, true, ◌&&◌, ◌||◌, ◌==◌, nat_le, nat_lt, List, length, get_or, take, map, sym, ap, ◌∙◌, arith}
 use Rattle.std.specs.List.{list_any, list_all, range_with_len}
 use Rattle.std.proofs.lemmas.Bool.Decides.{Decides-ltb, Decides-eqb}
-use mir.Syntax.{w64, w128}
+use mir.Syntax.{w128}
 use mir.Val.{to_z, of_z}
 use Rattle.std.specs.Int.RustNames.{FitsSigned}
 use Rattle.std.proofs.lemmas.Int.{to_z-of_z}
@@ -71,10 +71,6 @@ frame_fits rows row body e h =
     ap fits_i64 (sym (frame_value rows row body h)) ∙ all_at fits_i64 (frame_integers rows body) row (pos 0) (omega arith) all
 
 -- ---- the sum of a base and an offset, computed in 128 bits
-
-pub fits_64 : (z : ℤ) → fits_i64 z ≡ true → FitsSigned w64 z
-fits_64 (pos n) e = record { sfits = (Decides-ltb n 9223372036854775808).0 e }
-fits_64 (negsuc n) e = record { sfits = (Decides-ltb n 9223372036854775808).0 e }
 
 fits_128 : (z : ℤ) → fits_i64 z ≡ true → FitsSigned w128 z
 fits_128 (pos n) e = let h : n < 9223372036854775808 = (Decides-ltb n 9223372036854775808).0 e in record { sfits = omega arith }

@@ -12,8 +12,10 @@ use Rattle.meaning.specs.declared.value.ColType.TheVariants as of_type
 use Rattle.meaning.specs.declared.value.Value.{Value}
 use Rattle.meaning.specs.declared.value.Value.TheVariants.{Null}
 use Rattle.meaning.specs.Order.{bytes, value_cmp, same_value, placed_once, ascending_set}
-use Rattle.meaning.proofs.Orders.{value_total, value_exact}
+use Rattle.meaning.proofs.Orders.{value_total}
 use Rattle.meaning.proofs.Sets.{any-ascending_set}
+use Rattle.meaning.proofs.Same.{same_is}
+use Rattle.meaning.proofs.Tests.{or_other}
 use Rattle.encodings.specs.Homes.{value_home, value_size}
 use Rattle.encodings.specs.Plain.{form_size}
 
@@ -74,24 +76,12 @@ marked_more marks cells i home h is known = λ j low inside.
       | false ↦ λ f. (let other : ¬ (j ≡ i) = λ same. false≢true (sym f ∙ (Decides-eqb j i).1 same) in mark_keeps marks home (value_home (get_or cells j Null)) h (known j (omega arith) inside))
     ] refl
 
-same_cell : (u v : Value) → same_value u v ≡ true → u ≡ v
-same_cell u v h =
-    elim (value_cmp u v) as (λ o. value_cmp u v ≡ o → is_eq o ≡ true → u ≡ v) [
-      | Less ↦ λ e t. absurd (false≢true t)
-      | Equal ↦ λ e t. value_exact u v e
-      | Greater ↦ λ e t. absurd (false≢true t)
-    ] refl h
-
-or_second : (a b : Bool) → (a || b) ≡ true → a ≡ false → b ≡ true
-or_second true b h e = absurd (false≢true (sym e))
-or_second false b h e = h
-
 any_place : (p : Value → Bool) (xs : List Value) → list_any p xs ≡ true → (j : ℕ) × (j < length xs) × (p (get_or xs j Null) ≡ true)
 any_place p [] h = absurd (false≢true h)
 any_place p (x ∷ xs) h =
     elim (p x) as (λ b. p x ≡ b → (j : ℕ) × (j < length (x ∷ xs)) × (p (get_or (x ∷ xs) j Null) ≡ true)) [
       | true ↦ λ e. (0, omega arith, e)
-      | false ↦ λ e. (let r = any_place p xs (or_second (p x) (list_any p xs) h e) in (suc r.0, omega arith, r.2))
+      | false ↦ λ e. (let r = any_place p xs (or_other (p x) (list_any p xs) h e) in (suc r.0, omega arith, r.2))
     ] refl
 
 false_unless : (b : Bool) → ¬ (b ≡ true) → b ≡ false
@@ -110,7 +100,7 @@ size_more col_type marks cells i home size more cost h is paid told known small 
           let new : list_any (same_value x) rest ≡ false = false_unless (list_any (same_value x) rest) (λ t. (
           let at = any_place (same_value x) rest t in
           let long = length-drop (i + 1) cells in
-          let same : x ≡ get_or cells (i + 1 + at.0) Null = same_cell x (get_or rest at.0 Null) at.2 ∙ get_or-drop (i + 1) cells at.0 Null in
+          let same : x ≡ get_or cells (i + 1 + at.0) Null = same_is x (get_or rest at.0 Null) at.2 ∙ get_or-drop (i + 1) cells at.0 Null in
           let marked : get_or marks home false ≡ true = ap (λ k. get_or marks k false) (is ∙ ap value_home same) ∙ known (i + 1 + at.0) (omega arith) (let inside : at.0 < length rest = at.1 in omega arith) in
           false≢true (sym e ∙ marked))) in
           let grown = placed_new col_type x (ascending_set value_cmp rest) (any-ascending_set value_total x rest ∙ new) in

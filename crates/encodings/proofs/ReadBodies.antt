@@ -1,5 +1,5 @@
 -- Parts of bodies, and what stands in the cells of their rows.
-use Rattle.std.proofs.Common.{◌≡◌, ℕ, zero, suc, ◌+◌, ◌-◌, ◌*◌, ◌<◌, ◌≤◌, List, [], ◌∷◌, ◌++◌, length, take, drop, map, get_or, refl, sym, ap, ◌∙◌, arith, replicate, Bool, true, false, ◌&&◌, ℤ, pos, ◌+ℤ◌, ◌^◌}
+use Rattle.std.proofs.Common.{◌≡◌, ℕ, zero, suc, ◌+◌, ◌-◌, ◌*◌, ◌<◌, ◌≤◌, List, [], ◌∷◌, ◌++◌, length, take, drop, map, get_or, refl, sym, ap, ◌∙◌, arith, replicate, Bool, true, ℤ, pos, ◌+ℤ◌, ◌^◌}
 use Rattle.std.specs.Prelude.{nat_lt, nat_le, ◌==◌, ◌||◌}
 use Rattle.std.specs.List.{range_with_len, list_all, list_any}
 use borrow.Author.Tests.{ltb-true}
@@ -10,6 +10,7 @@ use Rattle.meaning.specs.declared.value.Value.TheVariants.{Null}
 use Rattle.meaning.specs.declared.value.ColType.{ColType}
 use Rattle.meaning.specs.Operators.{fits_i64}
 use Rattle.meaning.specs.Order.{value_cmp, is_ascending}
+use Rattle.meaning.proofs.Tests.{first_of, second_of, both}
 use Rattle.bit_packing.specs.Bytes.{number_of}
 use Rattle.bit_packing.specs.Bits.{bytes_of_bits}
 use Rattle.bit_packing.specs.Offsets.{offset_at, raised_offsets}
@@ -18,7 +19,6 @@ use Rattle.encodings.specs.Numbers.{count_of}
 use Rattle.encodings.specs.Frame.{frame_integers, is_frame, offsets_of, packed_of, width_of}
 use Rattle.encodings.specs.Plain.{is_values_form}
 use Rattle.encodings.specs.Runs.{repeats}
-use Rattle.bit_packing.proofs.Ranges.{both_left, both_right}
 
 pub part-map : {X Y : Type 0} (f : X → Y) (n k : ℕ) (xs : List X) → map f (take n (drop k xs)) ≡ take n (drop k (map f xs))
 part-map f n k xs = sym (take-map f n (drop k xs)) ∙ ap (take n) (sym (drop-map f k xs))
@@ -29,9 +29,9 @@ pub entries-map : {X : Type 0} (mk : X → Value) (d : X) (xs : List X) (m : ℕ
     → map mk (map (λ code. get_or xs code d) codes) ≡ map (λ code. get_or (map mk xs) code Null) codes
 entries-map mk d xs m [] l h = refl
 entries-map mk d xs m (code ∷ codes) l h =
-    let b : code < m = ltb-true code m (both_left (nat_lt code m) (list_all (λ n. nat_lt n m) codes) h) in
+    let b : code < m = ltb-true code m (first_of (nat_lt code m) (list_all (λ n. nat_lt n m) codes) h) in
     ap (λ x. x ∷ map mk (map (λ n. get_or xs n d) codes)) (sym (get_or-map mk xs code d Null (omega arith)))
-    ∙ ap (λ ys. get_or (map mk xs) code Null ∷ ys) (entries-map mk d xs m codes l (both_right (nat_lt code m) (list_all (λ n. nat_lt n m) codes) h))
+    ∙ ap (λ ys. get_or (map mk xs) code Null ∷ ys) (entries-map mk d xs m codes l (second_of (nat_lt code m) (list_all (λ n. nat_lt n m) codes) h))
 
 pub entries_read : {X : Type 0} (mk : X → Value) (d : X) (xs : List X) (m : ℕ) (codes : List ℕ) (n k : ℕ)
     → length xs ≡ m → list_all (λ code. nat_lt code m) codes ≡ true
@@ -78,20 +78,16 @@ map-map f g [] = refl
 map-map f g (x ∷ xs) = ap (λ ys. f (g x) ∷ ys) (map-map f g xs)
 
 -- ---- tests
-both : (a b : Bool) → a ≡ true → b ≡ true → (a && b) ≡ true
-both true b h k = k
-both false b h k = h
-
 pub all-take : {X : Type 0} (p : X → Bool) (n : ℕ) (xs : List X) → list_all p xs ≡ true → list_all p (take n xs) ≡ true
 all-take p zero xs h = refl
 all-take p (suc n) [] h = refl
 all-take p (suc n) (x ∷ xs) h =
-    both (p x) (list_all p (take n xs)) (both_left (p x) (list_all p xs) h) (all-take p n xs (both_right (p x) (list_all p xs) h))
+    both (p x) (list_all p (take n xs)) (first_of (p x) (list_all p xs) h) (all-take p n xs (second_of (p x) (list_all p xs) h))
 
 pub all-drop : {X : Type 0} (p : X → Bool) (n : ℕ) (xs : List X) → list_all p xs ≡ true → list_all p (drop n xs) ≡ true
 all-drop p zero xs h = h
 all-drop p (suc n) [] h = refl
-all-drop p (suc n) (x ∷ xs) h = all-drop p n xs (both_right (p x) (list_all p xs) h)
+all-drop p (suc n) (x ∷ xs) h = all-drop p n xs (second_of (p x) (list_all p xs) h)
 
 pub all-part : {X : Type 0} (p : X → Bool) (n k : ℕ) (xs : List X) → list_all p xs ≡ true → list_all p (take n (drop k xs)) ≡ true
 all-part p n k xs h = all-take p n (drop k xs) (all-drop p k xs h)
@@ -106,15 +102,15 @@ frame_read base width packed k n rows h =
 pub codes_valid : (col_type : ColType) (rows : ℕ) (body : List ℕ) → is_dictionary col_type rows body ≡ true
     → list_all (λ code. nat_lt code (count_of body)) (codes_of rows body) ≡ true
 codes_valid col_type rows body h =
-    both_right (is_ascending value_cmp (entries_of col_type rows body)) _
-    (both_right (is_values_form col_type (count_of body) (entry_bytes rows body)) _
-    (both_right (nat_le (count_of body) rows) _ (both_right (nat_le 1 (count_of body)) _
-    (both_right (nat_le (4 + 2 * rows) (length body)) _ h))))
+    second_of (is_ascending value_cmp (entries_of col_type rows body)) _
+    (second_of (is_values_form col_type (count_of body) (entry_bytes rows body)) _
+    (second_of (nat_le (count_of body) rows) _ (second_of (nat_le 1 (count_of body)) _
+    (second_of (nat_le (4 + 2 * rows) (length body)) _ h))))
 
 pub frame_fits : (rows : ℕ) (body : List ℕ) → is_frame rows body ≡ true → list_all fits_i64 (frame_integers rows body) ≡ true
 frame_fits rows body h =
-    both_right (width_of body == 0 || list_any (λ offset. nat_le (2 ^ (width_of body - 1)) offset) (offsets_of rows body)) _
-    (both_right (list_any (λ offset. offset == 0) (offsets_of rows body)) _
-    (both_right (nat_lt (number_of (packed_of body)) (2 ^ (rows * width_of body))) _
-    (both_right (length (packed_of body) == bytes_of_bits (rows * width_of body)) _
-    (both_right (nat_le (width_of body) 64) _ (both_right (nat_le 9 (length body)) _ h)))))
+    second_of (width_of body == 0 || list_any (λ offset. nat_le (2 ^ (width_of body - 1)) offset) (offsets_of rows body)) _
+    (second_of (list_any (λ offset. offset == 0) (offsets_of rows body)) _
+    (second_of (nat_lt (number_of (packed_of body)) (2 ^ (rows * width_of body))) _
+    (second_of (length (packed_of body) == bytes_of_bits (rows * width_of body)) _
+    (second_of (nat_le (width_of body) 64) _ (second_of (nat_le 9 (length body)) _ h)))))

@@ -12,12 +12,12 @@ use Rattle.meaning.specs.declared.value.ColType.TheVariants as of_type
 use Rattle.meaning.specs.declared.value.Value.{Value}
 use Rattle.meaning.specs.declared.value.Value.TheVariants.{Null, Int, Text}
 use Rattle.meaning.specs.Order.{is_null, number, bytes}
+use Rattle.meaning.proofs.Tests.{first_of, second_of}
 use Rattle.bit_packing.specs.Bits.{bit_at, is_mask}
 use Rattle.encodings.specs.Block.{Block, cells_of, is_blank, is_block, is_body, mask_length, body_of, mask_of, nulls_of, values_of}
 use Rattle.columns.specs.Cells.{masked}
 use Rattle.encodings.specs.VectorBuf.{AreBlank, AreRoom, AreCells, cells_in, masked_cells, Vector, vector_of}
 use Rattle.encodings.proofs.ReadBodies.{all-part, part-map, range-part}
-use Rattle.bit_packing.proofs.Ranges.{both_left, both_right}
 
 -- ---- one value
 length-zip_le : {X Y : Type 0} (xs : List X) (ys : List Y) → length (zip xs ys) ≤ length xs
@@ -81,8 +81,8 @@ blank-ints [] (x ∷ xs) h l = absurd (omega arith)
 blank-ints (b ∷ bs) [] h l = absurd (omega arith)
 blank-ints (true ∷ bs) (x ∷ xs) h l =
     let rest = map number (map masked (zip bs (map Int xs))) in
-    ap (λ z. z ∷ rest) (blank_number x (both_left (is_blank (Int x)) (list_all is_told (zip bs (map Int xs))) l))
-    ∙ ap (λ ys. x ∷ ys) (blank-ints bs xs (omega arith) (both_right (is_blank (Int x)) (list_all is_told (zip bs (map Int xs))) l))
+    ap (λ z. z ∷ rest) (blank_number x (first_of (is_blank (Int x)) (list_all is_told (zip bs (map Int xs))) l))
+    ∙ ap (λ ys. x ∷ ys) (blank-ints bs xs (omega arith) (second_of (is_blank (Int x)) (list_all is_told (zip bs (map Int xs))) l))
 blank-ints (false ∷ bs) (x ∷ xs) h l = ap (λ ys. x ∷ ys) (blank-ints bs xs (omega arith) l)
 
 blank-texts : (nulls : List Bool) (xs : List (List ℕ)) → length nulls ≡ length xs → list_all is_told (zip nulls (map Text xs)) ≡ true
@@ -92,8 +92,8 @@ blank-texts [] (x ∷ xs) h l = absurd (omega arith)
 blank-texts (b ∷ bs) [] h l = absurd (omega arith)
 blank-texts (true ∷ bs) (x ∷ xs) h l =
     let rest = map bytes (map masked (zip bs (map Text xs))) in
-    ap (λ z. z ∷ rest) (blank_text x (both_left (is_blank (Text x)) (list_all is_told (zip bs (map Text xs))) l))
-    ∙ ap (λ ys. x ∷ ys) (blank-texts bs xs (omega arith) (both_right (is_blank (Text x)) (list_all is_told (zip bs (map Text xs))) l))
+    ap (λ z. z ∷ rest) (blank_text x (first_of (is_blank (Text x)) (list_all is_told (zip bs (map Text xs))) l))
+    ∙ ap (λ ys. x ∷ ys) (blank-texts bs xs (omega arith) (second_of (is_blank (Text x)) (list_all is_told (zip bs (map Text xs))) l))
 blank-texts (false ∷ bs) (x ∷ xs) h l = ap (λ ys. x ∷ ys) (blank-texts bs xs (omega arith) l)
 
 blank_cells : (col_type : ColType) (nulls : List Bool) (ints : List ℤ) (texts : List (List ℕ))
@@ -277,9 +277,9 @@ pub blank_read : (b : Block) (col_type : ColType) (n k : ℕ) (nulls : List Bool
     → AreRoom col_type nulls ints texts → AreBlank col_type nulls ints texts
 blank_read b col_type n k nulls ints texts h e f x =
     let told : list_all is_told (zip (nulls_of b) (cells_of b)) ≡ true
-    = both_right (is_body b.kind b.col_type b.rows (body_of b)) _ (both_right (is_mask b.rows (mask_of b)) _
-    (both_right (nat_le (mask_length b.nullable b.rows) (length b.payload)) _ (both_right (nat_le b.rows row_group_rows) _
-    (both_right (nat_le 1 b.rows) _ h)))) in
+    = second_of (is_body b.kind b.col_type b.rows (body_of b)) _ (second_of (is_mask b.rows (mask_of b)) _
+    (second_of (nat_le (mask_length b.nullable b.rows) (length b.payload)) _ (second_of (nat_le b.rows row_group_rows) _
+    (second_of (nat_le 1 b.rows) _ h)))) in
     blank_cells col_type nulls ints texts x
     (ap (λ ns. list_all is_told (zip ns (cells_in col_type ints texts))) e
     ∙ ap (λ xs. list_all is_told (zip (take n (drop k (nulls_of b))) xs)) f

@@ -1,19 +1,13 @@
 -- Rows that get numbers one after the other.
 use Rattle.std.proofs.Common.{◌≡◌, ℕ, ◌+◌, ◌<◌, ◌≤◌, true, List, [], ◌∷◌, ◌++◌, length, get_or, nat_lt, refl, sym, ap, ◌∙◌, arith}
 use Rattle.std.specs.List.{list_all}
-use Rattle.std.specs.Cmp.{Equal-is}
 use Rattle.std.proofs.lemmas.Bool.{lt-ltb, ltb-true}
 use Rattle.std.proofs.lemmas.List.{take_more, map-append, get_or-map, length-map, length_push, get_or_push, get_or_append_left}
 use Rattle.meaning.specs.declared.value.Value.{Value}
 use Rattle.meaning.specs.declared.value.Value.TheVariants.{Null}
-use Rattle.meaning.specs.Order.{same_value, value_cmp}
-use Rattle.meaning.proofs.Orders.{value_exact}
 use Rattle.meaning.proofs.Tests.{all_append, all_imply, all_first, all_rest, both}
 use Rattle.encodings.specs.Entries.{AreNumbers}
 use Rattle.encodings.specs.Plain.{at_places}
-
-pub same_is : (v w : Value) → same_value v w ≡ true → v ≡ w
-same_is v w e = value_exact v w ((Equal-is (value_cmp v w)).0 e)
 
 -- one more number keeps a list of numbers below the bound
 pub bound_kept : (m n : ℕ) (ns : List ℕ) → m ≤ n → list_all (λ k. nat_lt k m) ns ≡ true → list_all (λ k. nat_lt k n) ns ≡ true

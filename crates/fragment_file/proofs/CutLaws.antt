@@ -6,6 +6,7 @@ use Rattle.std.proofs.lemmas.Bool.{and_parts, leb-true, le-leb, le-ltb, ne_eqb}
 use Rattle.std.proofs.lemmas.List.Elements.{All-from_recursion, recursion_from_All}
 use Rattle.meaning.specs.Cut.{IsCut, cut_of}
 use Rattle.meaning.specs.Limits.{max_fragments, max_rows}
+use Rattle.meaning.proofs.Tests.{both}
 use Rattle.wire.proofs.Parts.{IsSpelled, IsReadAgain, repeat_takes, repeat_again, repeat_all}
 use Rattle.fragment_file.specs.declared.fault.FileFault.{FileFault}
 use Rattle.fragment_file.specs.declared.fault.FileFault.TheVariants as refusal
@@ -14,7 +15,7 @@ use Rattle.wire.specs.Bytes.{number_bytes, seal_of}
 use Rattle.fragment_file.specs.FragmentReading.{within}
 use Rattle.fragment_file.specs.CutFile.{CutFileSpec, IsCutFileOf, cut_magic, cut_bytes, length_at, read_cut_file}
 use Rattle.wire.proofs.Numbers.{bind_ok, test_passed, ok_is, IsBytes, Takes, Takes-then, bytes_take, number_takes, number_again}
-use Rattle.fragment_file.proofs.HeaderLaws.{all_of, passed}
+use Rattle.fragment_file.proofs.HeaderLaws.{passed}
 use Rattle.wire.proofs.Seals.{magic_takes, magic_again, seal_takes, seal_again, seal_left}
 use Rattle.fragment_file.proofs.FromWire.{read_ok}
 use Rattle.fragment_file.specs.Fault.{from_wire}
@@ -133,7 +134,7 @@ cut_again bytes f is =
     let front = cut_magic ++ load ++ count ++ cut in
     let seal = seal_of front in
     let few = is.cut.few in
-    let kept = all_of _ _ (le-leb 1 (length f.cut) is.cut.some) (le-leb (length f.cut) max_fragments few) in
+    let kept = both _ _ (le-leb 1 (length f.cut) is.cut.some) (le-leb (length f.cut) max_fragments few) in
     let split : front ++ seal ≡ cut_magic ++ (load ++ (count ++ (cut ++ seal))) = append_assoc (cut_magic ++ load ++ count) cut seal ∙ append_assoc (cut_magic ++ load) count (cut ++ seal) ∙ append_assoc cut_magic load (count ++ (cut ++ seal)) in
     let magic : behind_magic cut_magic (front ++ seal) ≡ Ok (load ++ (count ++ (cut ++ seal))) = ap (behind_magic cut_magic) split ∙ magic_again cut_magic (load ++ (count ++ (cut ++ seal))) four in
     ap read_cut_file is.spelled

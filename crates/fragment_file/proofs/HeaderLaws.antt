@@ -13,6 +13,7 @@ use Rattle.meaning.specs.declared.value.ColType.TheVariants as of_type
 use Rattle.meaning.specs.declared.catalog.Column.{Column}
 use Rattle.meaning.specs.Catalog.{is_name, IsName}
 use Rattle.meaning.specs.Limits.{max_columns, max_name_bytes, max_rows}
+use Rattle.meaning.proofs.Tests.{both, not_true}
 use Rattle.fragment_file.specs.declared.fault.FileFault.{FileFault}
 use Rattle.fragment_file.specs.declared.fault.FileFault.TheVariants as refusal
 use Rattle.fragment_file.specs.declared.header.Header.{Header}
@@ -24,18 +25,10 @@ use Rattle.wire.proofs.Numbers.{bind_ok, test_passed, ok_is, IsBytes, Takes, Tak
 use Rattle.fragment_file.proofs.FromWire.{read_ok}
 use Rattle.fragment_file.specs.Fault.{from_wire}
 
-pub all_of : (a b : Bool) → a ≡ true → b ≡ true → (a && b) ≡ true
-all_of true b p q = q
-all_of false b p q = absurd cc
-
 -- a test that was passed on the way
 pub passed : {X Y : Type 0} (b : Bool) (d : FileFault) (x : X) (next : X → Result Y FileFault) (y : Y) → (cond b (Ok x) (Err d) >>= next) ≡ Ok y → (b ≡ true) × (next x ≡ Ok y)
 passed true d x next y e = (refl, e)
 passed false d x next y e = absurd cc
-
-pub not_true : (b : Bool) → not b ≡ true → b ≡ false
-not_true true h = cc
-not_true false h = refl
 
 -- ---- names
 
@@ -63,7 +56,7 @@ pub name_again : (name rest : List ℕ) → IsName name → name_at (name_bytes 
 unfolding name_at name_bytes
 name_again name rest is =
     let few = is.short in
-    let counted = all_of _ _ (le-leb 1 (length name) (some_byte name is.word)) (le-leb (length name) max_name_bytes few) in
+    let counted = both _ _ (le-leb 1 (length name) (some_byte name is.word)) (le-leb (length name) max_name_bytes few) in
     ap name_at (append_assoc (number_bytes 2 (length name)) name rest)
     ∙ rw (number_again 2 (length name) (name ++ rest) (omega (arith, few)), counted, bytes_again (length name) name rest refl, is.word) refl
 
@@ -347,7 +340,7 @@ header_again h rest is =
     let columns = flat_map column_bytes h.columns in
     let few = is.few in
     let many = is.rows in
-    let counted = all_of _ _ (le-leb 1 (length h.columns) is.some) (le-leb (length h.columns) max_columns few) in
+    let counted = both _ _ (le-leb 1 (length h.columns) is.some) (le-leb (length h.columns) max_columns few) in
     let new = new_from_apart [] h.columns is.distinct (recursion_from_All (λ c. IsName c.name) h.columns is.columns) in
     ap header_at (append_assoc (load ++ table ++ place ++ first ++ rows ++ count) columns rest ∙ append_assoc (load ++ table ++ place ++ first ++ rows) count (columns ++ rest) ∙ append_assoc (load ++ table ++ place ++ first) rows (count ++ (columns ++ rest)) ∙ append_assoc (load ++ table ++ place) first (rows ++ (count ++ (columns ++ rest))) ∙ append_assoc (load ++ table) place (first ++ (rows ++ (count ++ (columns ++ rest)))) ∙ append_assoc load table (place ++ (first ++ (rows ++ (count ++ (columns ++ rest))))))
     ∙ rw (

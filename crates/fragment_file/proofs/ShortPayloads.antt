@@ -1,9 +1,9 @@
 -- A payload of a chosen kind has fewer than 2 ^ 32 bytes: it is no longer than that of the values one by one.
-use Rattle.std.proofs.Common.{◌≡◌, ℕ, zero, suc, ◌+◌, ◌-◌, ◌*◌, ◌^◌, ◌<◌, ◌≤◌, Bool, true, false, ◌&&◌, List, [], ◌∷◌, length, take, drop, refl, arith}
+use Rattle.std.proofs.Common.{◌≡◌, ℕ, zero, suc, ◌+◌, ◌-◌, ◌*◌, ◌^◌, ◌<◌, ◌≤◌, Bool, true, false, List, [], ◌∷◌, length, take, drop, arith}
 use Rattle.std.specs.List.{list_all, AllByRecursion}
 use Rattle.std.specs.Str.{is_utf8}
 use Rattle.std.specs.Prelude.{nat_le}
-use Rattle.std.proofs.lemmas.Bool.{ltb-true, leb-true, false≢true}
+use Rattle.std.proofs.lemmas.Bool.{ltb-true, leb-true, false≢true, and_parts}
 use Rattle.std.proofs.lemmas.List.{length-map}
 use Rattle.std.proofs.lemmas.List.Sums.{sum_by-le}
 use Rattle.std.proofs.lemmas.List.Elements.{All-from_recursion}
@@ -21,10 +21,6 @@ use Rattle.encodings.specs.Choosing.{between, cell_of, cells_for, is_chosen, is_
 use Rattle.encodings.specs.Plain.{form_size}
 use Rattle.encodings.proofs.ReadBodies.{all-take, all-drop}
 
-both : (a b : Bool) → (a && b) ≡ true → (a ≡ true) × (b ≡ true)
-both true b e = (refl, e)
-both false b e = absurd (false≢true e)
-
 le_from_lt : (a b : ℕ) → a < b → a ≤ b
 le_from_lt a b h = omega arith
 
@@ -36,8 +32,8 @@ no_longer t nullable values kind.Runs h = le_from_lt _ _ (ltb-true _ _ h)
 no_longer t nullable values kind.Frame h = le_from_lt _ _ (ltb-true _ _ h)
 
 no_worse : (t : ColType) (nullable : Bool) (values : List Value) (k : Kind) → is_chosen t nullable values k ≡ true → is_no_worse t nullable values k kind.Plain ≡ true
-no_worse of_type.Int nullable values k h = (both _ _ (both _ _ h).1).0
-no_worse of_type.Text nullable values k h = (both _ _ (both _ _ h).1).0
+no_worse of_type.Int nullable values k h = (and_parts _ _ (and_parts _ _ h).1).0
+no_worse of_type.Text nullable values k h = (and_parts _ _ (and_parts _ _ h).1).0
 
 short_mask : (nullable : Bool) (n : ℕ) → n ≤ row_group_rows → mask_length nullable n ≤ 1024
 short_mask true n h = omega arith
@@ -46,12 +42,12 @@ short_mask false n h = omega arith
 short_texts : (nullable : Bool) (vs : List Value) → list_all (is_of of_type.Text nullable) vs ≡ true
     → AllByRecursion (λ v. 4 + length (bytes v) ≤ 65539) (cells_for of_type.Text vs)
 short_texts nullable [] h = tt
-short_texts nullable (Null ∷ vs) h = (omega arith, short_texts nullable vs (both _ _ h).1)
+short_texts nullable (Null ∷ vs) h = (omega arith, short_texts nullable vs (and_parts _ _ h).1)
 short_texts nullable (Int n ∷ vs) h = absurd (false≢true h)
 short_texts nullable (Text t ∷ vs) h =
-    let is : is_text t ≡ true = (both (is_text t) _ h).0 in
-    let short : length t ≤ max_text_bytes = leb-true _ _ (both (is_utf8 t) (nat_le (length t) max_text_bytes) is).1 in
-    (omega arith, short_texts nullable vs (both (is_text t) _ h).1)
+    let is : is_text t ≡ true = (and_parts (is_text t) _ h).0 in
+    let short : length t ≤ max_text_bytes = leb-true _ _ (and_parts (is_utf8 t) (nat_le (length t) max_text_bytes) is).1 in
+    (omega arith, short_texts nullable vs (and_parts (is_text t) _ h).1)
 
 short_form : (t : ColType) (nullable : Bool) (vs : List Value) → list_all (is_of t nullable) vs ≡ true → form_size t (cells_for t vs) ≤ 65539 * length vs
 short_form of_type.Int nullable vs h =

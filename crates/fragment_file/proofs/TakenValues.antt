@@ -9,7 +9,7 @@ use Rattle.meaning.specs.declared.value.ColType.TheVariants as of_type
 use Rattle.meaning.specs.declared.value.Value.{Value}
 use Rattle.meaning.specs.declared.value.Value.TheVariants.{Null, Int, Text}
 use Rattle.meaning.specs.Limits.{max_text_bytes}
-use Rattle.meaning.proofs.Tests.{all_flat_map}
+use Rattle.meaning.proofs.Tests.{all_flat_map, both}
 use Rattle.columns.specs.declared.fault.ColumnFault.{ColumnFault}
 use Rattle.columns.specs.declared.fault.ColumnFault.TheVariants as column_fault
 use Rattle.columns.specs.Column.{is_text, refusal}
@@ -21,7 +21,6 @@ use Rattle.encodings.specs.Block.{Block, mask_of, body_of, cells_of, values_of, 
 use Rattle.encodings.proofs.Blocks.{block_body}
 use Rattle.encodings.proofs.Ends.{length-values_form}
 use Rattle.fragment_file.specs.Copying.{is_taken}
-use Rattle.fragment_file.proofs.HeaderLaws.{all_of}
 
 -- ---- refusals
 
@@ -61,7 +60,7 @@ all_get p (x ∷ xs) (suc i) d e lt = all_get p xs i d (and_parts (p x) (list_al
 
 all_replicate : {X : Type 0} (p : X → Bool) (n : ℕ) (x : X) → p x ≡ true → list_all p (replicate n x) ≡ true
 all_replicate p zero x e = refl
-all_replicate p (suc n) x e = all_of (p x) (list_all p (replicate n x)) e (all_replicate p n x e)
+all_replicate p (suc n) x e = both (p x) (list_all p (replicate n x)) e (all_replicate p n x e)
 
 module _ (t : ColType) (nullable : Bool) where
   abbrev p : Value → Bool
@@ -75,7 +74,7 @@ module _ (t : ColType) (nullable : Bool) where
   all_runs (v ∷ vs) [] e = refl
   all_runs (v ∷ vs) (n ∷ ns) e =
       let h = and_parts (p v) (list_all p vs) e in
-      all_of (list_all p (replicate n v)) (list_all (λ run. list_all p (in_run run)) (zip vs ns)) (all_replicate p n v h.0) (all_runs vs ns h.1)
+      both (list_all p (replicate n v)) (list_all (λ run. list_all p (in_run run)) (zip vs ns)) (all_replicate p n v h.0) (all_runs vs ns h.1)
 
   all_codes : (es : List Value) (codes : List ℕ) (count : ℕ) → length es ≡ count → list_all p es ≡ true → list_all (λ code. nat_lt code count) codes ≡ true
       → list_all p (map (λ code. get_or es code Null) codes) ≡ true
@@ -83,7 +82,7 @@ module _ (t : ColType) (nullable : Bool) where
   all_codes es (c ∷ cs) count len e below =
       let h = and_parts (nat_lt c count) (list_all (λ code. nat_lt code count) cs) below in
       let lt = ltb-true c count h.0 in
-      all_of (p (get_or es c Null)) (list_all p (map (λ code. get_or es code Null) cs)) (all_get p es c Null e (omega (arith, lt, len))) (all_codes es cs count len e h.1)
+      both (p (get_or es c Null)) (list_all p (map (λ code. get_or es code Null) cs)) (all_get p es c Null e (omega (arith, lt, len))) (all_codes es cs count len e h.1)
 
 all_ints : (nullable : Bool) (ns : List ℤ) → list_all (is_taken of_type.Int nullable) (map Int ns) ≡ true
 all_ints nullable [] = refl
@@ -93,7 +92,7 @@ all_texts : (nullable : Bool) (ts : List (List ℕ)) → list_all is_text ts ≡
 all_texts nullable [] e = refl
 all_texts nullable (x ∷ xs) e =
     let h = and_parts (is_text x) (list_all is_text xs) e in
-    all_of (is_text x) (list_all (is_taken of_type.Text nullable) (map Text xs)) h.0 (all_texts nullable xs h.1)
+    both (is_text x) (list_all (is_taken of_type.Text nullable) (map Text xs)) h.0 (all_texts nullable xs h.1)
 
 -- ---- bodies
 
@@ -140,14 +139,14 @@ masked_taken t (n ∷ ns) [] e = refl
 masked_taken t (true ∷ ns) (c ∷ cs) e = masked_taken t ns cs (and_parts (is_taken t true c) (list_all (is_taken t true) cs) e).1
 masked_taken t (false ∷ ns) (c ∷ cs) e =
     let h = and_parts (is_taken t true c) (list_all (is_taken t true) cs) e in
-    all_of (is_taken t true c) (list_all (is_taken t true) (map masked (zip ns cs))) h.0 (masked_taken t ns cs h.1)
+    both (is_taken t true c) (list_all (is_taken t true) (map masked (zip ns cs))) h.0 (masked_taken t ns cs h.1)
 
 plain_taken : (t : ColType) (nullable : Bool) (n : ℕ) (cells : List Value) → list_all (is_taken t nullable) cells ≡ true → list_all (is_taken t nullable) (map masked (zip (replicate n false) cells)) ≡ true
 plain_taken t nullable zero cells e = refl
 plain_taken t nullable (suc n) [] e = refl
 plain_taken t nullable (suc n) (c ∷ cs) e =
     let h = and_parts (is_taken t nullable c) (list_all (is_taken t nullable) cs) e in
-    all_of (is_taken t nullable c) (list_all (is_taken t nullable) (map masked (zip (replicate n false) cs))) h.0 (plain_taken t nullable n cs h.1)
+    both (is_taken t nullable c) (list_all (is_taken t nullable) (map masked (zip (replicate n false) cs))) h.0 (plain_taken t nullable n cs h.1)
 
 nulls_taken : (t : ColType) (nullable : Bool) (rows : ℕ) (mask : List ℕ) (cells : List Value) → list_all (is_taken t nullable) cells ≡ true
     → list_all (is_taken t nullable) (map masked (zip (cond nullable (map (bit_at mask) (range_with_len 0 rows)) (replicate rows false)) cells)) ≡ true

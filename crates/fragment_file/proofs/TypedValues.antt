@@ -1,6 +1,6 @@
 -- Each value of a file is of its column's type.
 use Rattle.std.proofs.Common.{◌≡◌, ℕ, zero, suc, ◌+◌, ◌*◌, ◌≤◌, ◌<◌, ℤ, Bool, true, false, List, [], ◌∷◌, ◌++◌, length, get_or, take, drop, map, zip, replicate, Some, refl, ap, subst, ◌∙◌, arith, Fits, w64}
-use Rattle.std.specs.Prelude.{◌-◌, ◌^◌, ◌==◌, ◌&&◌, ◌||◌, nat_lt, nat_le, slice_get, flat_map}
+use Rattle.std.specs.Prelude.{◌-◌, ◌^◌, ◌==◌, ◌||◌, nat_lt, nat_le, slice_get, flat_map}
 use Rattle.std.specs.Int.{from_le_bytes}
 use Rattle.std.specs.List.{list_all, list_any, AllByRecursion}
 use Rattle.std.proofs.Math.Facts.{sfits_to_z}
@@ -13,6 +13,8 @@ use Rattle.meaning.specs.declared.value.Value.{Value}
 use Rattle.meaning.specs.declared.value.Value.TheVariants.{Null, Int, Text}
 use Rattle.meaning.specs.Operators.{fits_i64}
 use Rattle.meaning.specs.Typing.{is_of_type}
+use Rattle.meaning.proofs.Typed.{null_typed}
+use Rattle.meaning.proofs.Tests.{both}
 use Rattle.columns.specs.Column.{is_text}
 use Rattle.columns.proofs.CellLaws.{word_fits}
 use Rattle.encodings.specs.declared.kind.Kind.{Kind}
@@ -76,12 +78,9 @@ integer_fits bytes all =
     let fits : Fits w64 (from_le_bytes w64 bytes) = record { fits = omega (arith, small, same) } in
     word_fits (integer_of bytes) (sfits_to_z fits)
 
-both : {a b : Bool} → a ≡ true → b ≡ true → (a && b) ≡ true
-both e f = rw (e, f) refl
-
 integers_fit : (m : ℕ) (bytes : List ℕ) → Bytes bytes → list_all (is_of_type of_type.Int) (map Int (integers m bytes)) ≡ true
 integers_fit zero bytes all = refl
-integers_fit (suc m) bytes all = both (integer_fits (take 8 bytes) (taken 8 bytes all)) (integers_fit m (drop 8 bytes) (dropped 8 bytes all))
+integers_fit (suc m) bytes all = both _ _ (integer_fits (take 8 bytes) (taken 8 bytes all)) (integers_fit m (drop 8 bytes) (dropped 8 bytes all))
 
 -- ---- lists of values
 
@@ -93,15 +92,15 @@ module _ (p : Value → Bool) (null : p Null ≡ true) where
 
   all_codes : (vs : List Value) (codes : List ℕ) → list_all p vs ≡ true → list_all p (map (λ code. get_or vs code Null) codes) ≡ true
   all_codes vs [] e = refl
-  all_codes vs (c ∷ codes) e = both (all_or vs c e) (all_codes vs codes e)
+  all_codes vs (c ∷ codes) e = both _ _ (all_or vs c e) (all_codes vs codes e)
 
   all_replicate : (n : ℕ) (v : Value) → p v ≡ true → list_all p (replicate n v) ≡ true
   all_replicate zero v e = refl
-  all_replicate (suc n) v e = both e (all_replicate n v e)
+  all_replicate (suc n) v e = both _ _ e (all_replicate n v e)
 
   all_both : (xs ys : List Value) → list_all p xs ≡ true → list_all p ys ≡ true → list_all p (xs ++ ys) ≡ true
   all_both [] ys e f = f
-  all_both (x ∷ xs) ys e f = let h = and_parts (p x) (list_all p xs) e in both h.0 (all_both xs ys h.1 f)
+  all_both (x ∷ xs) ys e f = let h = and_parts (p x) (list_all p xs) e in both _ _ h.0 (all_both xs ys h.1 f)
 
   all_runs : (vs : List Value) (ns : List ℕ) → list_all p vs ≡ true → list_all p (flat_map (λ run. replicate run.1 run.0) (zip vs ns)) ≡ true
   all_runs [] ns e = refl
@@ -113,18 +112,14 @@ module _ (p : Value → Bool) (null : p Null ≡ true) where
   all_masked : (nulls : List Bool) (cells : List Value) → list_all p cells ≡ true → list_all p (map masked (zip nulls cells)) ≡ true
   all_masked [] cells e = refl
   all_masked (n ∷ ns) [] e = refl
-  all_masked (true ∷ ns) (c ∷ cs) e = both null (all_masked ns cs (and_parts (p c) (list_all p cs) e).1)
-  all_masked (false ∷ ns) (c ∷ cs) e = let h = and_parts (p c) (list_all p cs) e in both h.0 (all_masked ns cs h.1)
-
-pub null_typed : (t : ColType) → is_of_type t Null ≡ true
-null_typed of_type.Int = refl
-null_typed of_type.Text = refl
+  all_masked (true ∷ ns) (c ∷ cs) e = both _ _ null (all_masked ns cs (and_parts (p c) (list_all p cs) e).1)
+  all_masked (false ∷ ns) (c ∷ cs) e = let h = and_parts (p c) (list_all p cs) e in both _ _ h.0 (all_masked ns cs h.1)
 
 -- ---- bodies
 
 texts_fit : (ts : List (List ℕ)) → list_all is_text ts ≡ true → list_all (is_of_type of_type.Text) (map Text ts) ≡ true
 texts_fit [] e = refl
-texts_fit (t ∷ ts) e = let h = and_parts (is_text t) (list_all is_text ts) e in both h.0 (texts_fit ts h.1)
+texts_fit (t ∷ ts) e = let h = and_parts (is_text t) (list_all is_text ts) e in both _ _ h.0 (texts_fit ts h.1)
 
 form_typed : (t : ColType) (m : ℕ) (bytes : List ℕ) → Bytes bytes → is_values_form t m bytes ≡ true → list_all (is_of_type t) (values_form t m bytes) ≡ true
 form_typed of_type.Int m bytes all e = integers_fit m bytes all
@@ -154,7 +149,7 @@ runs_typed t rows body all e =
 
 offsets_fit : (zs : List ℤ) → list_all fits_i64 zs ≡ true → list_all (is_of_type of_type.Int) (map Int zs) ≡ true
 offsets_fit [] e = refl
-offsets_fit (z ∷ zs) e = let h = and_parts (fits_i64 z) (list_all fits_i64 zs) e in both h.0 (offsets_fit zs h.1)
+offsets_fit (z ∷ zs) e = let h = and_parts (fits_i64 z) (list_all fits_i64 zs) e in both _ _ h.0 (offsets_fit zs h.1)
 
 frame_fits : (rows : ℕ) (body : List ℕ) → is_frame rows body ≡ true → list_all fits_i64 (frame_integers rows body) ≡ true
 frame_fits rows body e =

@@ -13,6 +13,7 @@ use Rattle.meaning.specs.Order.{Row, row_cmp, is_ascending}
 use Rattle.meaning.specs.Aggregate.{no_statistics, merge}
 use Rattle.meaning.specs.Group.{beside, merge_groups}
 use Rattle.meaning.proofs.Orders.{row_total}
+use Rattle.meaning.proofs.Tests.{both}
 use Rattle.accumulators.specs.State.{most_entries}
 use Rattle.group_by.specs.Combined.{zipped, put_before, combined, Rises, SameBeside, IsFit, AreFit, MergesWithFirst}
 use Rattle.group_by.specs.Groups.{all_rows, together}
@@ -144,10 +145,6 @@ less_from Less e f = refl
 less_from Equal e f = cc
 less_from Greater e f = cc
 
-both_so : (a b : Bool) → a ≡ true → b ≡ true → (a && b) ≡ true
-both_so true b p q = q
-both_so false b p q = p
-
 pub combined_up : (g : Group) (gs : List Group) → Rises (map (λ (x : Group). x.key) (g ∷ gs)) → IsUp g.key (combined (g ∷ gs))
 combined_up g [] up = (g, ([], refl, refl, refl))
 combined_up g (y ∷ ys) up =
@@ -165,7 +162,7 @@ combined_up g (y ∷ ys) up =
           h ∷ hs,
           w,
           refl,
-          both_so _ _ (less_from (row_cmp g.key h.key) e (ap is_lt (sym (row_total.antisymm h.key g.key)) ∙ ap (λ k. is_lt (row_cmp k g.key)) is_y ∙ up.0)) asc,
+          both _ _ (less_from (row_cmp g.key h.key) e (ap is_lt (sym (row_total.antisymm h.key g.key)) ∙ ap (λ k. is_lt (row_cmp k g.key)) is_y ∙ up.0)) asc,
         ),
       )
     ] refl whole

@@ -14,8 +14,9 @@ use Rattle.meaning.specs.Order.{Row, row_cmp, ascending_set, is_ascending}
 use Rattle.meaning.specs.Aggregate.{no_statistics}
 use Rattle.meaning.specs.Group.{beside}
 use Rattle.meaning.proofs.Orders.{row_total, row_exact}
-use Rattle.meaning.proofs.Sets.{filter-ascending_set, same_ascending_set, ascending_set_itself}
+use Rattle.meaning.proofs.Sets.{filter-ascending_set, same_ascending_set, ascending_set_itself, no_length}
 use Rattle.meaning.proofs.Groups.{beside_none}
+use Rattle.meaning.proofs.Tests.{or_second}
 use Rattle.accumulators.specs.Columns.{ColumnSpec}
 use Rattle.accumulators.specs.State.{most_entries}
 use Rattle.group_by.specs.Combined.{combined, IsFit, AreFit, IsInOrder}
@@ -96,10 +97,6 @@ module _ (keys : List Row) (rows : List ℕ) (columns : List ColumnSpec) (counte
 
 -- ---- groups in strict order
 
-empty : {X : Type 0} (xs : List X) → length xs ≡ 0 → xs ≡ []
-empty [] e = refl
-empty (x ∷ xs) e = absurd (omega (arith, e))
-
 any_none : (k : Row) (ks : List Row) → filter (eq_by_cmp row_cmp k) ks ≡ [] → list_any (eq_by_cmp row_cmp k) ks ≡ false
 any_none k [] e = refl
 any_none k (j ∷ ks) e =
@@ -138,14 +135,14 @@ once k (g ∷ gs) zero d l is one =
     let others = filter (λ (p : Row × Group). eq_by_cmp row_cmp k p.0) (tags gs) in
     let rest : length (filter (eq_by_cmp row_cmp k) (keys_in gs)) ≡ 0 =
     (let e : suc (length (filter (eq_by_cmp row_cmp k) (keys_in gs))) ≡ 1 = ap (λ b. length (cond b (g.key ∷ filter (eq_by_cmp row_cmp k) (keys_in gs)) (filter (eq_by_cmp row_cmp k) (keys_in gs)))) (sym same) ∙ one in omega (arith, e)) in
-    let none : beside k (tags gs) ≡ [] = beside_none k (tags gs) (ap (list_any (eq_by_cmp row_cmp k)) (firsts_are gs) ∙ any_none k (keys_in gs) (empty (filter (eq_by_cmp row_cmp k) (keys_in gs)) rest)) in
+    let none : beside k (tags gs) ≡ [] = beside_none k (tags gs) (ap (list_any (eq_by_cmp row_cmp k)) (firsts_are gs) ∙ any_none k (keys_in gs) (no_length (filter (eq_by_cmp row_cmp k) (keys_in gs)) rest)) in
     ap (λ b. map (λ (p : Row × Group). p.1) (cond b ((g.key, g) ∷ others) others)) same ∙ ap (λ (hs : List Group). g ∷ hs) none
 once k (g ∷ gs) (suc i) d l is one =
     let others = filter (λ (p : Row × Group). eq_by_cmp row_cmp k p.0) (tags gs) in
     let more = filter (eq_by_cmp row_cmp k) (keys_in gs) in
     elim (eq_by_cmp row_cmp k g.key) as (λ b. length (cond b (g.key ∷ more) more) ≡ 1 → map (λ (p : Row × Group). p.1) (cond b ((g.key, g) ∷ others) others) ≡ get_or gs i d ∷ []) [
       | true ↦ λ one. absurd (any_some k (keys_in gs) i (subst (λ (n : ℕ). i < n) (sym (length-map gs (λ (h : Group). h.key))) (let e : i < length gs = omega (arith, l) in e))
-          (get_or-map (λ (h : Group). h.key) gs i d [] (omega (arith, l)) ∙ is) (empty more (let e : suc (length more) ≡ 1 = one in omega (arith, e))))
+          (get_or-map (λ (h : Group). h.key) gs i d [] (omega (arith, l)) ∙ is) (no_length more (let e : suc (length more) ≡ 1 = one in omega (arith, e))))
       | false ↦ once k gs i d (omega (arith, l)) is
     ] one
 
@@ -190,11 +187,7 @@ module _ (is_certain : Bool) (columns : List ColumnSpec) where
       any_at : (k : Row) (ks : List Row) (j : ℕ) → j < length ks → get_or ks j [] ≡ k → list_any (eq_by_cmp row_cmp k) ks ≡ true
       any_at k [] j l is = absurd (omega (arith, l))
       any_at k (x ∷ ks) zero l is = ap (λ b. b || list_any (eq_by_cmp row_cmp k) ks) (ap (eq_by_cmp row_cmp k) is ∙ ap is_eq (tied_itself row_total k))
-      any_at k (x ∷ ks) (suc j) l is = either (eq_by_cmp row_cmp k x) (list_any (eq_by_cmp row_cmp k) ks) (any_at k ks j (omega (arith, l)) is)
-        where
-          either : (a b : Bool) → b ≡ true → (a || b) ≡ true
-          either true b e = refl
-          either false b e = e
+      any_at k (x ∷ ks) (suc j) l is = or_second (eq_by_cmp row_cmp k x) (list_any (eq_by_cmp row_cmp k) ks) (any_at k ks j (omega (arith, l)) is)
 
 -- ---- all of it
 
@@ -211,7 +204,7 @@ module _ (is_certain : Bool) (keys : List Row) (rows : List ℕ) (columns : List
       let fit = places_fit keys rows columns are.counted are.within (reverse (by_place keys rows columns)) order.sorted refl order.moved few_rows in
       combined_wide (length columns) order.sorted fit j d l ∙ sym (length-map columns (λ (c : ColumnSpec). c.kind))
 
-  -- the empty key is there where it has a group in any case
+  -- the no_length key is there where it has a group in any case
   certain_there : is_certain ≡ true → list_any (eq_by_cmp row_cmp []) (keys_in (combined order.sorted)) ≡ true
   certain_there e =
       let b = by_place keys rows columns in

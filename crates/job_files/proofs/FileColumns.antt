@@ -1,5 +1,5 @@
 -- The columns of a file that a plan uses.
-use Rattle.std.proofs.Common.{◌≡◌, ℕ, zero, suc, ◌<◌, true, List, [], ◌∷◌, map, length, Some, refl, ap, arith}
+use Rattle.std.proofs.Common.{◌≡◌, ℕ, zero, suc, ◌<◌, true, List, [], ◌∷◌, map, length, Some, ap, arith}
 use Rattle.std.specs.Prelude.{All, slice_get}
 use Rattle.std.specs.List.{AllByRecursion, list_all}
 use Rattle.std.proofs.lemmas.Bool.{and_parts}
@@ -7,23 +7,17 @@ use Rattle.std.proofs.lemmas.List.Elements.{All-from_recursion}
 use Rattle.meaning.specs.declared.catalog.Column.{Column}
 use Rattle.meaning.specs.declared.plan.ColumnUse.{ColumnUse}
 use Rattle.meaning.specs.declared.plan.TableUse.{TableUse}
-use Rattle.meaning.specs.declared.value.ColType.{ColType}
 use Rattle.meaning.specs.declared.value.ColType.TheVariants as of_type
 use Rattle.meaning.specs.Typing.{same_type}
 use Rattle.meaning.specs.WellFormedPlan.{listed_places}
+use Rattle.meaning.proofs.Typed.{same_kind}
 use Rattle.wire.specs.Reading.{same_bytes}
 use Rattle.fragment_file.specs.declared.header.Header.{Header}
 use Rattle.job_files.specs.Files.{HasColumns, is_column}
 
-type_is : (a b : ColType) → same_type a b ≡ true → a ≡ b
-type_is of_type.Int of_type.Int e = refl
-type_is of_type.Int of_type.Text e = absurd cc
-type_is of_type.Text of_type.Int e = absurd cc
-type_is of_type.Text of_type.Text e = refl
-
 pub column_there : (u : ColumnUse) (cs : List Column) (i : ℕ) → is_column u (slice_get cs i) ≡ true → (i < length cs) × (slice_get (map (λ c. c.col_type) cs) i ≡ Some u.col_type)
 column_there u [] i e = absurd cc
-column_there u (c ∷ cs) zero e = (omega arith, ap Some (type_is c.col_type u.col_type (and_parts (same_bytes c.name u.name) (same_type c.col_type u.col_type) e).1))
+column_there u (c ∷ cs) zero e = (omega arith, ap Some (same_kind c.col_type u.col_type (and_parts (same_bytes c.name u.name) (same_type c.col_type u.col_type) e).1))
 column_there u (c ∷ cs) (suc i) e = let rest = column_there u cs i e in let h = rest.0 in (omega (arith, h), rest.1)
 
 module _ (cs : List Column) where

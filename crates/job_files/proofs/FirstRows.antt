@@ -8,7 +8,7 @@ use Rattle.meaning_laws.proofs.Cuts.{sum_to_next}
 use Rattle.partial_codec.proofs.Fitting.{few_rows_before}
 
 -- the next fragment begins where this one ends
-next_first : (cut : Cut) (k : ℕ) → k < length cut → first_row cut (k + 1) ≡ first_row cut k + slice_index cut k
+pub next_first : (cut : Cut) (k : ℕ) → k < length cut → first_row cut (k + 1) ≡ first_row cut k + slice_index cut k
 next_first cut k below = rw add-one (sum_to_next cut k below)
 
 -- rows of a cut are numbered in 64 bits

@@ -14,7 +14,7 @@ use Rattle.meaning.specs.Said.{Cell}
 use Rattle.meaning.specs.declared.answer.Cell.TheVariants.{Nothing, One, Conflict}
 use Rattle.meaning.specs.declared.plan.Plan.{Plan}
 use Rattle.meaning_laws.proofs.Cuts.{part-all}
-use Rattle.meaning_laws.proofs.Headline.{report-own}
+use Rattle.meaning_laws.proofs.Headline.{report-own, first_calm}
 use Rattle.jobs.specs.Gathering.{Taking, answer, cell_among, cell_in, gathered}
 use Rattle.jobs.proofs.SameFiles.{said_already}
 
@@ -23,10 +23,6 @@ only_one : (b : Body) (c : Cell) → join_cells (One b) c ≡ c → is_conflict 
 only_one b Nothing known calm = cc
 only_one b (One x) known calm = elim (same_body b x) as (λ t. cond t (One b) Conflict ≡ One x → One x ≡ One b) [ true ↦ λ e. sym e | false ↦ λ e. cc ] known
 only_one b Conflict known calm = cc
-
-first_calm : (b : Bool) (p : ℕ) (ps : List ℕ) → cond b (p ∷ ps) ps ≡ [] → (b ≡ false) × (ps ≡ [])
-first_calm true p ps e = cc
-first_calm false p ps e = (refl, e)
 
 pushed : (b : Bool) (p : ℕ × Cell) (ps : List (ℕ × Cell)) → cond b (p.0 ∷ map (λ p. p.0) ps) (map (λ p. p.0) ps) ≡ map (λ p. p.0) (cond b (p ∷ ps) ps)
 pushed true p ps = refl

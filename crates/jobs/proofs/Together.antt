@@ -8,16 +8,11 @@ use Rattle.meaning.specs.Cut.{Cut}
 use Rattle.meaning.specs.Gather.{join_cells}
 use Rattle.meaning.specs.Said.{Answer}
 use Rattle.meaning.specs.Said.{Cell}
-use Rattle.meaning.specs.declared.answer.Cell.TheVariants.{Nothing, One, Conflict}
-use Rattle.meaning_laws.proofs.Cells.{join_cells-assoc}
+use Rattle.meaning.specs.declared.answer.Cell.TheVariants.{Nothing, One}
+use Rattle.meaning_laws.proofs.Cells.{join_cells-assoc, join_nothing}
 use Rattle.partial_codec.specs.declared.fault.DecodeFault.{DecodeFault}
 use Rattle.coordinator.specs.Gathering.{join_states}
 use Rattle.jobs.specs.Gathering.{Taking, answer, state, passed, cell_among, cell_in, gathered}
-
-pub join_nothing : (c : Cell) → join_cells c Nothing ≡ c
-join_nothing Nothing = refl
-join_nothing (One b) = refl
-join_nothing Conflict = refl
 
 -- a cell with one file more
 pub among_more : (k : ℕ) (ts : List Taking) (t : Taking) → cell_among k (ts ++ t ∷ []) ≡ join_cells (cell_among k ts) (cell_in k t)

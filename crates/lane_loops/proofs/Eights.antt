@@ -5,10 +5,7 @@ use Rattle.std.proofs.Common.{refl, sym, ap, arith, ◌∙◌}
 use Rattle.std.proofs.Math.Seq.{take-add}
 use Rattle.std.proofs.lemmas.List.{length-drop, take-append-drop, take_all}
 use Rattle.std.proofs.lemmas.List.Folds.{list_any-append}
-
-or_none : (a : Bool) → (a || false) ≡ a
-or_none true = refl
-or_none false = refl
+use Rattle.meaning.proofs.Tests.{or_false}
 
 or_right : (a b c : Bool) → ((a || b) || c) ≡ (a || (b || c))
 or_right true b c = refl
@@ -31,7 +28,7 @@ module _ (p : ℕ → Bool) (xs : List ℕ) where
 
   -- the last bytes, however many are taken of these
   pub any_last : (n m : ℕ) → length xs ≤ n + m → list_any p (take m (drop n xs)) ≡ (list_any p (drop n xs) || list_any p (take 0 xs))
-  any_last n m few = ap (list_any p) (take_all m (drop n xs) (omega (arith, length-drop n xs, few))) ∙ sym (or_none (list_any p (drop n xs)))
+  any_last n m few = ap (list_any p) (take_all m (drop n xs) (omega (arith, length-drop n xs, few))) ∙ sym (or_false (list_any p (drop n xs)))
 
   -- some bytes more behind those that were gone through
   pub any_further : (a : Bool) (n m : ℕ) → ((a || list_any p (take n xs)) || list_any p (take m (drop n xs))) ≡ (a || list_any p (take (n + m) xs))

@@ -5,11 +5,7 @@ use Rattle.std.proofs.Common.{refl, sym, ap, arith, ◌∙◌}
 use Rattle.std.proofs.lemmas.Str.{chars-nil}
 use Rattle.meaning.specs.Like.{after_any_run, characters_fit, fits_one}
 use Rattle.meaning.proofs.LikeLemmas.{after_any_run-here}
-use Rattle.meaning.proofs.Tests.{second_of}
-
-or_right : (a b : Bool) → b ≡ true → (a || b) ≡ true
-or_right true b e = refl
-or_right false b e = e
+use Rattle.meaning.proofs.Tests.{second_of, or_second}
 
 pub same_test : (a b : Bool) → (a ≡ true → b ≡ true) → (b ≡ true → a ≡ true) → a ≡ b
 same_test true true to from = refl
@@ -19,7 +15,7 @@ same_test false false to from = refl
 
 -- what passes behind a run of a rest passes behind a run of the whole
 pub run_longer : (test : List ℕ → Bool) (t : ℕ) (ts : List ℕ) → after_any_run test ts ≡ true → after_any_run test (t ∷ ts) ≡ true
-run_longer test t ts e = or_right (test (t ∷ ts)) (after_any_run test ts) e
+run_longer test t ts e = or_second (test (t ∷ ts)) (after_any_run test ts) e
 
 -- two runs are one
 pub runs_join : (test : List ℕ → Bool) (ts : List ℕ) → after_any_run (after_any_run test) ts ≡ true → after_any_run test ts ≡ true
@@ -49,11 +45,6 @@ run_next p ps t (u ∷ us) other e =
       | true ↦ λ is _. after_any_run-here (characters_fit ps) (u ∷ us) (second_of (fits_one p t) (characters_fit ps (u ∷ us)) (sym (fits_more p ps t (u ∷ us) other) ∙ is))
       | false ↦ λ _ more. run_longer (characters_fit ps) u us (run_next p ps u us other more)
     ] refl e
-
--- the empty pattern fits behind the run of the whole text
-pub nothing_fits : (ts : List ℕ) → after_any_run (characters_fit []) ts ≡ true
-nothing_fits [] = refl
-nothing_fits (t ∷ ts) = nothing_fits ts
 
 module _ (pattern text : List ℕ) (ps ts : List ℕ) (here : characters_fit pattern text ≡ characters_fit ps ts) (later : after_any_run (characters_fit pattern) text ≡ true → after_any_run (characters_fit ps) ts ≡ true) where
   -- a `%` comes next

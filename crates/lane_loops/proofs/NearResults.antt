@@ -10,6 +10,7 @@ use Rattle.std.proofs.lemmas.Bool.{lt-ltb, eqb-true, eqb-false}
 use Rattle.meaning.specs.declared.expr.ArithmeticOperator.{ArithmeticOperator}
 use Rattle.meaning.specs.declared.expr.ArithmeticOperator.TheVariants.{Add, Subtract, Multiply, Divide}
 use Rattle.meaning.specs.Operators.{fits_i64}
+use Rattle.meaning.proofs.Words.{word_fits}
 use Rattle.lane_loops.specs.Lanes.{AreFilled, overflow_bit}
 use Rattle.lane_loops.specs.Near.{AreNear, AreResults, IsNear, IsShort, arith_code, arith_int, limit_of}
 use Rattle.lane_loops.proofs.Filling.{filled_more}
@@ -52,12 +53,8 @@ shift_back (negsuc a) = ap (λ (y : ℤ). shr_z y 4294967296) (shift_is a) ∙ a
 pub shortened_is : (z : ℤ) → IsShort z → shr_z (int_wrap w64 (z *ℤ pos 4294967296)) 4294967296 ≡ z
 shortened_is z near = ap (λ (y : ℤ). shr_z y 4294967296) (int_wrap_fits w64 (z *ℤ pos 4294967296) (shift_fits z near)) ∙ shift_back z
 
-fits_bits : (z : ℤ) → FitsSigned w64 z → fits_i64 z ≡ true
-fits_bits (pos n) fits = lt-ltb n 9223372036854775808 fits.sfits
-fits_bits (negsuc n) fits = lt-ltb n 9223372036854775808 fits.sfits
-
 short_bit : (m n : ℤ) → IsShort m → IsShort n → overflow_bit (m *ℤ n) ≡ 0
-short_bit m n a b = ap (λ (x : Bool). from_bool (not x)) (fits_bits (m *ℤ n) (fits_signed_mul w64 m n 2147483648 2147483648 (short_abs m a) (short_abs n b) (omega arith)))
+short_bit m n a b = ap (λ (x : Bool). from_bool (not x)) (word_fits (m *ℤ n) (fits_signed_mul w64 m n 2147483648 2147483648 (short_abs m a) (short_abs n b) (omega arith)))
 
 -- no fault is told of such operands
 near_code : (op : ArithmeticOperator) (m n : ℤ) → AreNear op m n → arith_code op m n ≡ 0

@@ -5,11 +5,11 @@ use Rattle.std.specs.List.{list_any, starts_with, ends_with}
 use Rattle.std.proofs.lemmas.Bool.{eq-eqb, eqb-true}
 use Rattle.std.proofs.lemmas.Bool.Decides.{Decides-eqb}
 use Rattle.std.proofs.lemmas.Slice.Eq.{starts_is, ends_is}
-use Rattle.std.specs.Str.{chars, IsUtf8, is_utf8}
-use lib.Utf8.{encode}
+use Rattle.std.specs.Str.{IsUtf8, is_utf8}
 use Rattle.std.specs.Str.Iter.{HasSubslice}
 use Rattle.std.proofs.lemmas.List.{length-append, take-append-drop}
 use Rattle.std.proofs.lemmas.Str.{IsUtf8-from_is_utf8, is_utf8-from_IsUtf8, IsUtf8-take, IsUtf8-drop, IsCharBoundary-after_ascii, IsCharBoundary-at_seam}
+use Rattle.meaning.proofs.LikeBytes.{take_front, drop_front, sign_utf8}
 use Rattle.memchr.specs.Find.{OccursAt, FindsNeedle}
 use Rattle.memchr.proofs.lemmas.MatchLemmas.{OccursAt-split, OccursAt-from_part}
 
@@ -19,18 +19,6 @@ pub utf8_behind : (rest : List ℕ) → is_utf8 (37 ∷ rest) ≡ true → is_ut
 utf8_behind rest e =
     let whole = IsUtf8-from_is_utf8 (37 ∷ rest) e in
     is_utf8-from_IsUtf8 rest (IsUtf8-drop (37 ∷ rest) 1 whole (IsCharBoundary-after_ascii (37 ∷ rest) 0 whole (omega arith) (omega arith)))
-
-take_front : (xs ys : List ℕ) → take (length xs) (xs ++ ys) ≡ xs
-take_front [] ys = refl
-take_front (x ∷ xs) ys = ap (λ zs. x ∷ zs) (take_front xs ys)
-
-drop_front : (xs ys : List ℕ) → drop (length xs) (xs ++ ys) ≡ ys
-drop_front [] ys = refl
-drop_front (x ∷ xs) ys = drop_front xs ys
-
-sign_utf8 : is_utf8 (37 ∷ []) ≡ true
-unfolding is_utf8 chars encode
-sign_utf8 = refl
 
 pub utf8_before : (front : List ℕ) → is_utf8 (front ++ 37 ∷ []) ≡ true → is_utf8 front ≡ true
 utf8_before front e =

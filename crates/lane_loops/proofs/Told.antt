@@ -1,12 +1,11 @@
 -- What lanes tell, operator by operator.
-use Rattle.std.specs.Prelude.{◌≡◌, ◌^◌, ℤ, pos, negsuc, ◌+ℤ◌, ◌-ℤ◌, ◌*ℤ◌, neg_ℤ, int_div, Bool, true, false, if◌then◌else◌}
-use Rattle.std.proofs.Common.{refl, ap, arith, ◌∙◌, FitsSigned}
+use Rattle.std.specs.Prelude.{◌≡◌, ℤ, pos, ◌+ℤ◌, ◌-ℤ◌, ◌*ℤ◌, neg_ℤ, int_div, Bool, true, false, if◌then◌else◌}
+use Rattle.std.proofs.Common.{refl, ap, ◌∙◌}
 use Rattle.std.specs.Int.{from_bool, int_wrap, w64}
 use Rattle.std.specs.declared.cmp.Ordering.{Ordering}
 use Rattle.std.specs.declared.cmp.Ordering.TheVariants.{Less, Equal, Greater}
 use Rattle.std.specs.Ordering.{int_cmp, int_eq, nat_cmp, ordering_then}
 use Rattle.std.specs.Cmp.Lexicographic.{slice_cmp}
-use borrow.Author.Tests.{ltb-true}
 use Rattle.std.proofs.lemmas.Int.{int_wrap_fits}
 use Rattle.meaning.specs.declared.value.Value.{Value}
 use Rattle.meaning.specs.declared.value.Value.TheVariants.{Int, Text}
@@ -19,18 +18,15 @@ use Rattle.meaning.specs.declared.expr.ComparisonOperator.{ComparisonOperator}
 use Rattle.meaning.specs.Order.{value_cmp}
 use Rattle.meaning.specs.Truth.{is_true, known}
 use Rattle.meaning.specs.Operators.{fitted, fits_i64, of_integers, test, case_of, coalesce_of}
+use Rattle.meaning.proofs.Words.{fits_word}
 use Rattle.vectors.specs.Lanes.{lane_value}
 use Rattle.lane_loops.specs.Lanes.{fault_code, overflow_bit, quotient}
 use Rattle.lane_loops.specs.Outcomes.{told_outcome, told_truth, ArithmeticIsTold, TestsAreTold, ChoicesAreTold, LanesAreTold}
 
-fits_signed : (z : ℤ) → fits_i64 z ≡ true → FitsSigned w64 z
-fits_signed (pos n) e = omega (arith, ltb-true n (2 ^ 63) e)
-fits_signed (negsuc n) e = omega (arith, ltb-true n (2 ^ 63) e)
-
 fitted_told : (z : ℤ) → fitted z ≡ told_outcome false (overflow_bit z) (int_wrap w64 z)
 fitted_told z =
     elim (fits_i64 z) as (λ b. fits_i64 z ≡ b → fitted z ≡ told_outcome false (overflow_bit z) (int_wrap w64 z)) [
-      | true ↦ λ e. rw (int_wrap_fits w64 z (fits_signed z e), e)
+      | true ↦ λ e. rw (int_wrap_fits w64 z (fits_word z e), e)
       | false ↦ λ e. rw e
     ] refl
 

@@ -21,7 +21,8 @@ use Rattle.meaning.specs.declared.value.Value.TheVariants.{Null, Int, Text}
 use Rattle.meaning.specs.Fitting.{is_group_of}
 use Rattle.meaning.specs.Order.{Row, bytes, column, is_null, number}
 use Rattle.meaning.specs.References.{Reference, FactColumn, JoinColumn, GroupKey, GroupAggregate, columns_used, columns_used_in_all}
-use Rattle.meaning.specs.Typing.{Valued, Boolean, RowTypes, fits_row_types, group_types, has_type, is_column_type, is_of_type, result_type, same_type}
+use Rattle.meaning.specs.Typing.{Valued, Boolean, RowTypes, fits_row_types, group_types, has_type, is_column_type, is_of_type, result_type}
+use Rattle.meaning.proofs.Typed.{type_itself}
 use Rattle.vectors.specs.Lanes.{lane_value, lane_values}
 use Rattle.vectors.specs.Vector.{BatchSpec, IsColumnOf, outcomes_of, same_place}
 use Rattle.vectors.specs.declared.batch.BatchColumn.{BatchColumn}
@@ -82,10 +83,6 @@ as_many a b xs ys zs e f = ap length e ∙ length-map xs a ∙ sym (length-map x
 
 -- ---- columns
 
-same_kind : (t : ColType) → same_type t t ≡ true
-same_kind of_type.Int = refl
-same_kind of_type.Text = refl
-
 abbrev pub result_of : Aggregate → ColType
 result_of a = result_type a.kind a.col_type
 
@@ -104,7 +101,7 @@ module _ (plan : Plan) where
     place = refl;
     lanes = is.values ∙ ap (map gives.Value) are ∙ keys_read i gs;
     typed = ap (λ o. is_column_type o (type_of_lanes lanes)) (get_typed (λ x. x.col_type) plan.keys i k below at)
-        ∙ ap (is_column_type (Some k.col_type)) is.type_is ∙ same_kind k.col_type;
+        ∙ ap (is_column_type (Some k.col_type)) is.type_is ∙ type_itself k.col_type;
   }
 
   pub aggregate_column_is : (gs : List Group) (i : ℕ) (a : Aggregate) (given : List Value) (lanes : Vector) → i < length plan.aggs → a ≡ get_or plan.aggs i a
@@ -113,7 +110,7 @@ module _ (plan : Plan) where
     place = refl;
     lanes = is.values ∙ ap (map gives.Value) are ∙ aggregates_read i gs;
     typed = ap (λ o. is_column_type o (type_of_lanes lanes)) (get_typed result_of plan.aggs i a below at)
-        ∙ ap (is_column_type (Some (result_of a))) is.type_is ∙ same_kind (result_of a);
+        ∙ ap (is_column_type (Some (result_of a))) is.type_is ∙ type_itself (result_of a);
   }
 
   -- the values of a key are of its type

@@ -24,6 +24,7 @@ use Rattle.meaning.specs.Order.{Row}
 use Rattle.meaning.specs.Results.{and_then}
 use Rattle.meaning.specs.Truth.{is_true}
 use Rattle.meaning.specs.Typing.{ExprType, RowTypes, Valued, Boolean, group_types}
+use Rattle.meaning.proofs.Tests.{first_of, second_of}
 use Rattle.vectors.specs.Selection.{IsSelection, Positions, all_below, is_among}
 use Rattle.vectors.specs.Vector.{BatchSpec, outcomes_of, values_of}
 use Rattle.vectors.specs.declared.vector.Vector.{Vector}
@@ -51,14 +52,6 @@ truth_true (t ∷ ts) (suc p) = truth_true ts p
 
 -- ---- a condition
 
-left_true : (a b : Bool) → (a && b) ≡ true → a ≡ true
-left_true true b e = refl
-left_true false b e = e
-
-right_true : (a b : Bool) → (a && b) ≡ true → b ≡ true
-right_true true b e = e
-right_true false b e = absurd cc
-
 right_false : (a b : Bool) → a ≡ true → (a && b) ≡ false → b ≡ false
 right_false true b t e = e
 right_false false b t e = absurd cc
@@ -66,7 +59,7 @@ right_false false b t e = absurd cc
 pub keeps : (m : ℕ → Outcome) (old new : List ℕ) (held now : Held) (v : Vector) → Evaluates m (λ i. is_among old i ≡ true) held now (lane_of v)
     → new ≡ filter (λ p. is_true_lane (lane_of v p)) old → Keeps m old new held now
 keeps m old new held now v evaluated is = record {
-  kept = λ i among before. ap is_true_lane (sym (evaluated.exact i (within i among) before)) ∙ right_true (is_among old i) (is_true_lane (lane_of v i)) (sym (filtered i) ∙ among);
+  kept = λ i among before. ap is_true_lane (sym (evaluated.exact i (within i among) before)) ∙ second_of (is_among old i) (is_true_lane (lane_of v i)) (sym (filtered i) ∙ among);
   dropped = λ i was among before. ap is_true_lane (sym (evaluated.exact i was before)) ∙ right_false (is_among old i) (is_true_lane (lane_of v i)) was (sym (filtered i) ∙ among);
   sound = λ i was before f faults. lane_sound v i f (evaluated.exact i was before ∙ faults);
   within = within;
@@ -77,7 +70,7 @@ keeps m old new held now v evaluated is = record {
     filtered i = ap (λ (xs : List ℕ). is_among xs i) is ∙ among_filter (λ p. is_true_lane (lane_of v p)) old i
 
     within : (i : ℕ) → is_among new i ≡ true → is_among old i ≡ true
-    within i among = left_true (is_among old i) (is_true_lane (lane_of v i)) (sym (filtered i) ∙ among)
+    within i among = first_of (is_among old i) (is_true_lane (lane_of v i)) (sym (filtered i) ∙ among)
 
 -- ---- HAVING
 

@@ -21,6 +21,7 @@ use Rattle.meaning.specs.Order.{Row}
 use Rattle.meaning.specs.Results.{all_ok, and_then, with_result}
 use Rattle.meaning.specs.Typing.{RowTypes, Valued, fits_row_types, gives_expr_type, group_types, has_type}
 use Rattle.meaning.proofs.Typed.{typed}
+use Rattle.meaning.proofs.Tests.{or_second}
 use Rattle.accumulators.specs.Values.{is_spelled}
 use Rattle.accumulators.proofs.Spelled.{spelled_of_type}
 use Rattle.vectors.specs.Selection.{IsSelection, Positions, is_among}
@@ -197,8 +198,4 @@ long_at vectors below selected p are low = All-from_recursion (λ v. p < length 
 pub among_at : (list : List ℕ) (k : ℕ) → k < length list → is_among list (get_or list k 0) ≡ true
 among_at [] k below = absurd (omega (arith, below))
 among_at (p ∷ ps) zero below = ap (λ (b : Bool). b || is_among ps p) (eq-eqb p p refl)
-among_at (p ∷ ps) (suc k) below = either (eqb p (get_or ps k 0)) (is_among ps (get_or ps k 0)) (among_at ps k (omega (arith, below)))
-  where
-    either : (a b : Bool) → b ≡ true → (a || b) ≡ true
-    either true b e = refl
-    either false b e = e
+among_at (p ∷ ps) (suc k) below = or_second (eqb p (get_or ps k 0)) (is_among ps (get_or ps k 0)) (among_at ps k (omega (arith, below)))

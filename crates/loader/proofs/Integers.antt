@@ -1,5 +1,5 @@
 -- What `parse` reads as an integer of 64 bits is the integer that the field spells.
-use Rattle.std.proofs.Common.{◌≡◌, ◌==◌, ◌^◌, ◌<◌, ◌≤◌, ◌+◌, ◌-◌, ◌*◌, ℕ, zero, suc, List, [], ◌∷◌, drop, take, get_or, length, ◌∙◌, subst, ℤ, pos, negsuc, neg_ℤ, ◌-ℤ◌, true, false, ◌&&◌, Some, Ok, Err, inl, inr, refl, ap, arith}
+use Rattle.std.proofs.Common.{◌≡◌, ◌==◌, ◌^◌, ◌<◌, ◌≤◌, ◌+◌, ◌-◌, ◌*◌, ℕ, zero, suc, List, [], ◌∷◌, drop, take, get_or, length, ◌∙◌, subst, ℤ, pos, neg_ℤ, ◌-ℤ◌, true, false, ◌&&◌, Some, Ok, Err, inl, inr, refl, ap, arith}
 use Rattle.std.specs.Prelude.{Result, nat_lt, slice_get}
 use Rattle.std.specs.Char.{digit_value}
 use Rattle.std.specs.Result.{result_ok}
@@ -16,15 +16,8 @@ use mir.Syntax.{w64}
 use mir.Val.{SFits as FitsSigned, to_z, of_z}
 use Rattle.meaning.specs.Operators.{fits_i64}
 use Rattle.meaning.specs.Records.{integer_of}
+use Rattle.meaning.proofs.Words.{fits_word, word_fits}
 use Rattle.loader.specs.Steps.{IsShortNumber}
-
-fits_word : (z : ℤ) → fits_i64 z ≡ true → FitsSigned w64 z
-fits_word (pos n) e = record { sfits = ltb-true n (2 ^ 63) e }
-fits_word (negsuc n) e = record { sfits = ltb-true n (2 ^ 63) e }
-
-word_fits : (z : ℤ) → FitsSigned w64 z → fits_i64 z ≡ true
-word_fits (pos n) f = lt-ltb n (2 ^ 63) f.sfits
-word_fits (negsuc n) f = lt-ltb n (2 ^ 63) f.sfits
 
 -- the test of a field says what `parse` asks
 test_holds : (digits : List ℕ) (n : ℤ) → IsNumeral 10 digits → FitsSigned w64 n → (nat_lt 0 (length digits) && (all_ascii_digits digits && fits_i64 n)) ≡ true

@@ -15,3 +15,4 @@ pub mod Typed
 pub mod LikeBytes
 pub mod Tests
 pub mod NameForms
+pub mod Words

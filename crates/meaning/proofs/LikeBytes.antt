@@ -80,14 +80,15 @@ run-from test (c ∷ before) after e =
     elim (test (c ∷ (before ++ after))) as
     (λ b. (b || after_any_run test (before ++ after)) ≡ true) [ true ↦ refl | false ↦ run-from test before after e ]
 
+-- the empty pattern fits behind the run of the whole text
+pub nothing_fits : (cs : List ℕ) → after_any_run (characters_fit []) cs ≡ true
+nothing_fits [] = refl
+nothing_fits (c ∷ cs) = nothing_fits cs
+
 -- `%` at the end takes any rest
 any_rest : (rest : List ℕ) → characters_fit (37 ∷ []) rest ≡ true
 any_rest [] = refl
-any_rest (c ∷ cs) = any_end (c ∷ cs)
-  where
-    any_end : (cs : List ℕ) → after_any_run (characters_fit []) cs ≡ true
-    any_end [] = refl
-    any_end (c ∷ cs) = any_end cs
+any_rest (c ∷ cs) = nothing_fits (c ∷ cs)
 
 no_rest : (rest : List ℕ) → characters_fit [] rest ≡ true → rest ≡ []
 no_rest [] e = refl
@@ -127,11 +128,11 @@ same_test true false to from = sym (to refl)
 same_test false true to from = from refl
 same_test false false to from = refl
 
-take_front : (xs ys : List ℕ) → take (length xs) (xs ++ ys) ≡ xs
+pub take_front : (xs ys : List ℕ) → take (length xs) (xs ++ ys) ≡ xs
 take_front [] ys = refl
 take_front (x ∷ xs) ys = ap (λ zs. x ∷ zs) (take_front xs ys)
 
-drop_front : (xs ys : List ℕ) → drop (length xs) (xs ++ ys) ≡ ys
+pub drop_front : (xs ys : List ℕ) → drop (length xs) (xs ++ ys) ≡ ys
 drop_front [] ys = refl
 drop_front (x ∷ xs) ys = drop_front xs ys
 
@@ -141,7 +142,7 @@ sign_chars : chars (37 ∷ []) ≡ 37 ∷ []
 unfolding chars
 sign_chars = refl
 
-sign_utf8 : is_utf8 (37 ∷ []) ≡ true
+pub sign_utf8 : is_utf8 (37 ∷ []) ≡ true
 unfolding is_utf8 chars encode
 sign_utf8 = refl
 

@@ -1,8 +1,8 @@
 -- Values, rows and faults are in total orders, which tell any two of them apart.
-use Rattle.std.specs.Prelude.{◌≡◌, true, false, cond, List, [], ◌∷◌}
+use Rattle.std.specs.Prelude.{◌≡◌, Bool, true, false, cond, List, [], ◌∷◌}
 use Rattle.std.specs.FinMap.{IsAntisymmetric, nat_cmp-IsAntisymmetric, int_cmp-IsAntisymmetric, slice_cmp-IsAntisymmetric}
 use Rattle.std.specs.Cmp.{IsTotalOrder}
-use Rattle.std.specs.Ordering.{ordering_then, flip_args}
+use Rattle.std.specs.Ordering.{is_lt, ordering_then, flip_args}
 use Rattle.std.specs.declared.cmp.Ordering.{Ordering}
 use Rattle.std.specs.declared.cmp.Ordering.TheVariants.{Less, Equal, Greater}
 use Rattle.std.proofs.Common.{refl, ap}
@@ -14,6 +14,11 @@ use Rattle.meaning.specs.Order.{column, value_cmp, row_cmp}
 use Rattle.meaning.specs.Finish.{by_key, order_cmp}
 use Rattle.meaning.specs.Judge.{fault_cmp}
 use Rattle.meaning.specs.Aggregate.{down_cmp}
+
+pub is_less : (r : Ordering) → is_lt r ≡ true → r ≡ Less
+is_less Less e = refl
+is_less Equal e = cc
+is_less Greater e = cc
 
 first_Equal : (r s : Ordering) → ordering_then r s ≡ Equal → r ≡ Equal
 first_Equal Less s e = e

@@ -10,6 +10,7 @@ use Rattle.std.specs.declared.cmp.Ordering.{Ordering}
 use Rattle.std.proofs.Common.{refl, sym, ap, subst}
 use Rattle.std.proofs.lemmas.Bool.{eqb-true, eq-eqb}
 use Rattle.std.proofs.lemmas.Cmp.{tied_itself, int_cmp_total}
+use Rattle.meaning.specs.declared.value.Value.{Value}
 use Rattle.meaning.specs.declared.answer.RowFault.{RowFault}
 use Rattle.meaning.specs.declared.answer.Statistics.{Statistics}
 use Rattle.meaning.specs.declared.answer.Group.{Group}
@@ -36,6 +37,12 @@ option_exact exact (Some x) (Some y) = (λ e. ap Some ((exact x y).0 e), λ e. (
 
 value_same : IsExact same_value
 value_same = cmp_exact value_total value_exact
+
+pub same_is : (v w : Value) → same_value v w ≡ true → v ≡ w
+same_is v w = (value_same v w).0
+
+pub same_itself : (v : Value) → same_value v v ≡ true
+same_itself v = (value_same v v).1 refl
 
 maybe_value_exact : IsExact (option_eq same_value)
 maybe_value_exact = option_exact value_same

@@ -1,5 +1,5 @@
--- Tests of all elements of a list, taken apart and put together.
-use Rattle.std.specs.Prelude.{◌≡◌, Bool, true, false, cond, ◌&&◌, ◌||◌, List, [], ◌∷◌, ◌++◌, map, filter, flat_map}
+-- Tests, and tests of all elements of a list, taken apart and put together.
+use Rattle.std.specs.Prelude.{◌≡◌, Bool, true, false, cond, not, ◌&&◌, ◌||◌, List, [], ◌∷◌, ◌++◌, map, filter, flat_map}
 use Rattle.std.specs.List.{list_all}
 use Rattle.std.specs.Ordering.{match_ordering}
 use Rattle.std.specs.declared.cmp.Ordering.{Ordering}
@@ -20,9 +20,43 @@ pub both : (a b : Bool) → a ≡ true → b ≡ true → (a && b) ≡ true
 both true b p q = q
 both false b p q = p
 
+pub or_first : (a b : Bool) → a ≡ true → (a || b) ≡ true
+or_first true b e = refl
+or_first false b e = cc
+
 pub or_second : (a b : Bool) → b ≡ true → (a || b) ≡ true
 or_second true b e = refl
 or_second false b e = e
+
+pub or_other : (a b : Bool) → (a || b) ≡ true → a ≡ false → b ≡ true
+or_other true b e f = cc
+or_other false b e f = e
+
+pub or_true : (b : Bool) → (b || true) ≡ true
+or_true true = refl
+or_true false = refl
+
+pub or_false : (b : Bool) → (b || false) ≡ b
+or_false true = refl
+or_false false = refl
+
+pub or_turned : (a b : Bool) → (a || b) ≡ (b || a)
+or_turned true true = refl
+or_turned true false = refl
+or_turned false true = refl
+or_turned false false = refl
+
+pub and_true : (b : Bool) → (b && true) ≡ b
+and_true true = refl
+and_true false = refl
+
+pub and_false : (b : Bool) → (b && false) ≡ false
+and_false true = refl
+and_false false = refl
+
+pub not_true : (b : Bool) → not b ≡ true → b ≡ false
+not_true true e = cc
+not_true false e = refl
 
 module _ {X : Type 0} where
   pub all_first : (p : X → Bool) (x : X) (xs : List X) → list_all p (x ∷ xs) ≡ true → p x ≡ true

@@ -154,7 +154,15 @@ chosen kind (gives.Value v) a b left right = right
 
 -- ---- what is read
 
-same_kind : (a b : ColType) → same_type a b ≡ true → a ≡ b
+pub type_itself : (t : ColType) → same_type t t ≡ true
+type_itself of_type.Int = refl
+type_itself of_type.Text = refl
+
+pub null_typed : (t : ColType) → is_of_type t Null ≡ true
+null_typed of_type.Int = refl
+null_typed of_type.Text = refl
+
+pub same_kind : (a b : ColType) → same_type a b ≡ true → a ≡ b
 same_kind of_type.Int of_type.Int e = refl
 same_kind of_type.Int of_type.Text e = cc
 same_kind of_type.Text of_type.Int e = cc

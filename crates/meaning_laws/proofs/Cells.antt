@@ -12,6 +12,7 @@ use Rattle.meaning.specs.Cut.{Cut}
 use Rattle.meaning.specs.Gather.{same_body, join_cells, cell_of, said_of, joined}
 use Rattle.meaning_laws.specs.Laws.{SameAnswers}
 use Rattle.meaning.proofs.Same.{body_exact, same_body_itself, same_body-comm}
+use Rattle.meaning.proofs.Tests.{or_second}
 
 -- a test of equal answers, as an equation in its two cases
 by_same : {P : Type 0} (a b : Body) → (same_body a b ≡ true → a ≡ b → P) → (same_body a b ≡ false → P) → P
@@ -62,15 +63,15 @@ three a b c = by_same a b
     (λ bc r. sym (ap (λ t. join_cells (One a) (unless t b)) bc ∙ ap (λ t. unless t a) ab))
     (λ bc. sym (ap (λ t. join_cells (One a) (unless t b)) bc)))
 
+pub join_nothing : (c : Cell) → join_cells c Nothing ≡ c
+join_nothing Nothing = refl
+join_nothing (One a) = refl
+join_nothing Conflict = refl
+
 pub join_cells-assoc : (c d e : Cell) → join_cells (join_cells c d) e ≡ join_cells c (join_cells d e)
 join_cells-assoc Nothing d e = refl
 join_cells-assoc (One a) Nothing e = refl
-join_cells-assoc (One a) (One b) Nothing = join-Nothing (unless (same_body a b) a)
-  where
-    join-Nothing : (c : Cell) → join_cells c Nothing ≡ c
-    join-Nothing Nothing = refl
-    join-Nothing (One a) = refl
-    join-Nothing Conflict = refl
+join_cells-assoc (One a) (One b) Nothing = join_nothing (unless (same_body a b) a)
 join_cells-assoc (One a) (One b) (One c) = three a b c
 join_cells-assoc (One a) (One b) Conflict = join-Conflict (unless (same_body a b) a)
 join_cells-assoc (One a) Conflict e = Conflict-join e ∙ sym (ap (join_cells (One a)) (Conflict-join e))
@@ -122,12 +123,8 @@ known_answers : (xs ys : List Body)
 known_answers [] ys within = refl
 known_answers (x ∷ xs) ys within =
     ap (λ c. join_cells c (cell_of ys)) (cell_of-cons x xs) ∙ join_cells-assoc (One x) (cell_of xs) (cell_of ys)
-    ∙ ap (join_cells (One x)) (known_answers xs ys (λ b h. within b (or_true (same_body b x) _ h)))
+    ∙ ap (join_cells (One x)) (known_answers xs ys (λ b h. within b (or_second (same_body b x) _ h)))
     ∙ known_answer x ys (within x (ap (λ t. t || list_any (same_body x) xs) (same_body_itself x)))
-  where
-    or_true : (s t : Bool) → t ≡ true → (s || t) ≡ true
-    or_true true t e = refl
-    or_true false t e = e
 
 -- the same answers make the same cell, in any order and however often
 pub same_cell : (xs ys : List Body) → ((b : Body) → list_any (same_body b) xs ≡ list_any (same_body b) ys) → cell_of xs

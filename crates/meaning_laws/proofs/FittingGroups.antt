@@ -32,16 +32,13 @@ use Rattle.meaning.specs.Fitting.{is_extreme, is_key_of, is_state_of, is_group_o
 use Rattle.meaning.proofs.Tests.{first_of, second_of, both}
 use Rattle.meaning.proofs.Same.{statistics_exact}
 use Rattle.meaning.proofs.Merge.{kept_by-merge}
-use Rattle.meaning_laws.proofs.StatisticsFit.{lesser_extreme, nat_le_yes}
+use Rattle.meaning_laws.proofs.StatisticsFit.{lesser_extreme, nat_le_yes, passes}
 use Rattle.meaning_laws.proofs.LoadedRows.{front_ok}
 
 -- ---- numbers
 
 bound : (a b : ℤ) → int_le a b ≡ true → a ≤ℤ b
 bound a b h = grind (arith, ints)
-
-passes : (a b : ℤ) → a ≤ℤ b → int_le a b ≡ true
-passes a b h = grind (arith, ints)
 
 sums_add : (m n : ℕ) (x z : ℤ) → is_sum_of m x ≡ true → is_sum_of n z ≡ true → is_sum_of (m + n) (x +ℤ z) ≡ true
 sums_add m n x z a b =

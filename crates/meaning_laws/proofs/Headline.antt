@@ -15,9 +15,14 @@ use Rattle.meaning.specs.Answer.{own, own_body, combined, output_of}
 use Rattle.meaning.specs.Gather.{same_body, join_cells, cell_of, said_of, joined, is_conflict, is_nothing, body_in, places, conflict, missing, output, unless_empty, preview, report}
 use Rattle.meaning.specs.Print.{output_text, report_text}
 use Rattle.meaning.proofs.Same.{same_body_itself}
+use Rattle.meaning.proofs.Tests.{or_second}
 use Rattle.meaning_laws.proofs.Cells.{known_answer}
 use Rattle.meaning_laws.proofs.Combine.{output_of-combined}
 use Rattle.meaning_laws.proofs.Cuts.{part-all}
+
+pub first_calm : (b : Bool) (p : ℕ) (ps : List ℕ) → cond b (p ∷ ps) ps ≡ [] → (b ≡ false) × (ps ≡ [])
+first_calm true p ps e = cc
+first_calm false p ps e = (refl, e)
 
 module _ (plan : Plan) (dims : List (List Row)) (cut : Cut) (rows : List Row) where
   -- what is known of a fragment
@@ -88,22 +93,14 @@ module _ (plan : Plan) (dims : List (List Row)) (cut : Cut) (rows : List Row) wh
       elim (x.k == a.k) as (λ t. list_any (same_body a.body)
       (map (λ (y : Answer). y.body) (cond t (x ∷ filter (λ y. y.k == a.k) answers)
       (filter (λ y. y.k == a.k) answers))) ≡ true) [
-        | true ↦ or_true (same_body a.body x.body) _ rest
+        | true ↦ or_second (same_body a.body x.body) _ rest
         | false ↦ rest
       ]
-    where
-      or_true : (s t : Bool) → t ≡ true → (s || t) ≡ true
-      or_true true t e = refl
-      or_true false t e = e
 
   module _ (answers : List Answer)
       (all_in : (k : ℕ) → k < length cut → Contains answers (own plan dims cut rows k)) where
     abbrev cell_at : ℕ → Cell
     cell_at k = cell_of (said_of k answers)
-
-    first_calm : (b : Bool) (p : ℕ) (ps : List ℕ) → cond b (p ∷ ps) ps ≡ [] → (b ≡ false) × (ps ≡ [])
-    first_calm true p ps e = cc
-    first_calm false p ps e = (refl, e)
 
     own_cells : (n a m : ℕ) → a + m ≤ length cut
         → map (λ p. p.0) (filter (λ p. is_conflict p.1) (enumerate_from n (map cell_at (range_with_len a m))))

@@ -29,7 +29,7 @@ use Rattle.meaning.specs.Typing.{is_of_type}
 use Rattle.meaning.specs.Results.{with_result, all_ok, and_then}
 use Rattle.meaning.specs.Records.{Record, names, is_header, file_order, spells_null, integer_value, present_value, not_null_value, value_at, file_values, catalog_row, row_of}
 use Rattle.meaning.specs.TableLaws.{is_value_of}
-use Rattle.meaning.proofs.Tests.{first_of, second_of, both, all_first, all_rest}
+use Rattle.meaning.proofs.Tests.{first_of, second_of, both, all_first, all_rest, or_second, or_true}
 
 -- ---- one field
 
@@ -40,10 +40,6 @@ module _ (nullable : Bool) where
 
   abbrev AreTaken : ColType → Result Value TableFault → Type 0
   AreTaken kind r = (v : Value) → r ≡ Ok v → IsTaken kind v
-
-  or_true : (b : Bool) → (b || true) ≡ true
-  or_true true = refl
-  or_true false = refl
 
   integer_taken : (n : ℤ) → fits_i64 n ≡ true → IsTaken of_type.Int (Int n)
   integer_taken n fits = both _ _ fits (or_true nullable)
@@ -143,12 +139,8 @@ any_map p q f goes [] e = cc
 any_map p q f goes (x ∷ xs) e =
     elim (p x) as (λ b. p x ≡ b → (b || list_any p xs) ≡ true → (q (f x) || list_any q (map f xs)) ≡ true) [
       | true ↦ λ here _. ap (λ b. b || list_any q (map f xs)) (goes x here)
-      | false ↦ λ _ rest. or_second (q (f x)) (any_map p q f goes xs rest)
+      | false ↦ λ _ rest. or_second (q (f x)) _ (any_map p q f goes xs rest)
     ] refl e
-  where
-    or_second : (a : Bool) {b : Bool} → b ≡ true → (a || b) ≡ true
-    or_second true e = refl
-    or_second false e = e
 
 any_at : {X : Type 0} (p : X → Bool) (xs : List X) (i : ℕ) (x : X) → slice_get xs i ≡ Some x → p x
     ≡ true → list_any p xs ≡ true

@@ -7,19 +7,18 @@ use Rattle.std.specs.Cmp.Lexicographic.{pointwise}
 use Rattle.std.proofs.lemmas.Bool.{ltb-false}
 use Rattle.std.proofs.lemmas.Bool.Decides.{nat_tests}
 use Rattle.std.proofs.lemmas.List.{map-append, length-append}
-use Rattle.std.specs.Cmp.{Equal-is}
 use Rattle.meaning.specs.declared.value.Value.{Value}
 use Rattle.meaning.specs.declared.catalog.Column.{Column}
 use Rattle.meaning.specs.declared.catalog.Table.{Table}
 use Rattle.meaning.specs.declared.table.TableFault.{TableFault}
 use Rattle.meaning.specs.Catalog.{IsWellFormedTable}
-use Rattle.meaning.specs.Order.{Row, column, is_null, value_cmp, same_value}
+use Rattle.meaning.specs.Order.{Row, column, is_null, same_value}
 use Rattle.meaning.specs.Dimensions.{IsUniqueIn}
 use Rattle.meaning.specs.Results.{all_ok, and_then}
 use Rattle.meaning.specs.Records.{Record, is_header, file_order, row_of, key_of, is_repeated, unless_repeated, judged_record, unless_few, table_of}
 use Rattle.meaning.specs.TableLaws.{is_value_of, are_rows_of}
 use Rattle.meaning.proofs.Tests.{first_of, second_of}
-use Rattle.meaning.proofs.Orders.{value_exact}
+use Rattle.meaning.proofs.Same.{same_is}
 use Rattle.meaning_laws.proofs.LoadedRows.{front_ok, all_ok-pass, row_taken}
 
 -- ---- what a table that loads consists of
@@ -155,9 +154,6 @@ any_longer p [] ys e = cc
 any_longer p (x ∷ xs) ys e =
     elim (p x) as (λ b. (b || list_any p xs) ≡ true → (b || list_any p (xs ++ ys))
     ≡ true) [ true ↦ λ _. refl | false ↦ λ rest. any_longer p xs ys rest ] e
-
-same_is : (v w : Value) → same_value v w ≡ true → v ≡ w
-same_is v w e = value_exact v w ((Equal-is (value_cmp v w)).0 e)
 
 module _ (v : Value) (there : is_null v ≡ false) where
   among : List Value → List Value

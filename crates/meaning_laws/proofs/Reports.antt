@@ -1,5 +1,5 @@
 -- Which report comes first, and which fragments it names.
-use Rattle.std.specs.Prelude.{◌≡◌, ℕ, zero, suc, ◌+◌, ◌<◌, ◌==◌, Bool, true, false, cond, ◌&&◌, ◌||◌, List, [], ◌∷◌, map, filter, slice_get}
+use Rattle.std.specs.Prelude.{◌≡◌, ℕ, zero, suc, ◌+◌, ◌<◌, ◌==◌, Bool, true, false, cond, ◌||◌, List, [], ◌∷◌, map, filter, slice_get}
 use Rattle.std.specs.List.{list_any, enumerate_from}
 use Rattle.std.specs.Option.{option_map_or}
 use Rattle.std.specs.Ordering.{nat_cmp, is_lt}
@@ -9,6 +9,7 @@ use Rattle.meaning.specs.declared.plan.Plan.{Plan}
 use Rattle.meaning.specs.Said.{Cell}
 use Rattle.meaning.specs.Order.{is_ascending}
 use Rattle.meaning.specs.Gather.{Report, conflict, missing, output, is_conflict, is_nothing, places, unless_empty, preview, report}
+use Rattle.meaning.proofs.Tests.{both}
 
 module _ (test : Cell → Bool) where
   -- the places, from n on
@@ -23,10 +24,6 @@ module _ (test : Cell → Bool) where
   places_from-cons : (n : ℕ) (c : Cell) (cs : List Cell) → places_from n (c ∷ cs)
       ≡ cond (test c) (n ∷ places_from (n + 1) cs) (places_from (n + 1) cs)
   places_from-cons n c cs = pushed (test c) (n, c) (filter (λ p. test p.1) (enumerate_from (n + 1) cs))
-
-  both : (a b : Bool) → a ≡ true → b ≡ true → (a && b) ≡ true
-  both true b p q = q
-  both false b p q = p
 
   less : (m n : ℕ) → m < n → is_lt (nat_cmp m n) ≡ true
   less m n below = grind (arith)

@@ -118,7 +118,7 @@ there_is_one cmp (y ∷ ys) =
 -- ---- sums
 
 -- a bound by a test, and the other way
-passes : (a b : ℤ) → a ≤ℤ b → int_le a b ≡ true
+pub passes : (a b : ℤ) → a ≤ℤ b → int_le a b ≡ true
 passes a b h = grind (arith, ints)
 
 within_64_bits : (n : ℤ) → fits_i64 n ≡ true → (least_integer ≤ℤ n) × (n ≤ℤ greatest_integer)

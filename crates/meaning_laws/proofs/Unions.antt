@@ -11,12 +11,7 @@ use Rattle.std.proofs.lemmas.List.{append-nil}
 use Rattle.meaning.specs.Order.{placed_once, ascending_set, union}
 use Rattle.meaning.proofs.Groups.{list_any-append}
 use Rattle.meaning.proofs.Sets.{any-ascending_set, same_ascending_set, ascending_set_itself, is_ascending-ascending_set}
-
-or_turned : (a b : Bool) → (a || b) ≡ (b || a)
-or_turned true true = refl
-or_turned true false = refl
-or_turned false true = refl
-or_turned false false = refl
+use Rattle.meaning.proofs.Tests.{or_turned}
 
 or_together : (a b c : Bool) → ((a || b) || c) ≡ (a || (b || c))
 or_together true b c = refl

@@ -4,7 +4,7 @@ use Rattle.std.specs.Prelude.{nat_lt, nat_le, sum, slice_index}
 use Rattle.std.specs.List.{AllByRecursion, list_all}
 use Rattle.std.specs.Bool.{Decides}
 use Rattle.std.specs.Cmp.Lexicographic.{pointwise, pointwise_decides, bytes_decides}
-use Rattle.std.proofs.lemmas.Bool.{eqb-true, eq-eqb, ltb-true, leb-true}
+use Rattle.std.proofs.lemmas.Bool.{eqb-true, eq-eqb, ltb-true, leb-true, and_parts}
 use Rattle.std.proofs.lemmas.List.{length-map}
 use Rattle.std.proofs.lemmas.List.Elements.{recursion_from_All}
 use Rattle.meaning.specs.declared.value.ColType.{ColType}
@@ -19,6 +19,7 @@ use Rattle.meaning.specs.Group.{certain_keys}
 use Rattle.meaning.specs.Cut.{first_row}
 use Rattle.meaning.specs.Fitting.{is_group_possible, are_rows_possible, is_shaped, are_keys_ascending, are_numbers_possible, fits}
 use Rattle.meaning.specs.Limits.{max_rows}
+use Rattle.meaning.proofs.Tests.{both}
 use Rattle.partial_codec.specs.declared.fault.DecodeFault.{DecodeFault}
 use Rattle.partial_codec.specs.declared.fault.DecodeFault.TheVariants as refusal
 use Rattle.partial_codec.specs.declared.shape.AggregateShape.{AggregateShape}
@@ -32,7 +33,7 @@ use Rattle.partial_codec.specs.Answer.{Fits, Spells, held_against, judged}
 use Rattle.wire.proofs.Numbers.{bind_ok, ok_is, IsBytes, bytes_take, test_not}
 use Rattle.partial_codec.specs.Ranges.{IsBody}
 use Rattle.partial_codec.proofs.FieldLaws.{type_again, kind_again, IsAggregate, IsShape, AreJobFields, IsLayout, layout_takes, layout_again}
-use Rattle.partial_codec.proofs.Fitting.{all_of, both, groups_fit, few_groups, short_at, few_rows_before, words, fault_fits}
+use Rattle.partial_codec.proofs.Fitting.{groups_fit, few_groups, short_at, few_rows_before, words, fault_fits}
 use Rattle.partial_codec.proofs.FromWire.{read_ok}
 use Rattle.partial_codec.specs.Fault.{from_wire}
 use Rattle.wire.proofs.Seals.{seal_takes, seal_left, seal_again}
@@ -59,7 +60,7 @@ argument_exact (Some s) (Some t) e = ap Some (ok_is s t (sym (type_again s) ∙ 
 
 same_aggregates : (a b : AggregateShape) → is_same_aggregate a b ≡ true → a ≡ b
 same_aggregates a b e =
-    let h = both (eqb (kind_code a.kind) (kind_code b.kind)) (eqb (argument_code a.argument) (argument_code b.argument)) e in
+    let h = and_parts (eqb (kind_code a.kind) (kind_code b.kind)) (eqb (argument_code a.argument) (argument_code b.argument)) e in
     let kinds : a.kind ≡ b.kind = ok_is a.kind b.kind (sym (kind_again a.kind) ∙ ap kind_of (eqb-true _ _ h.0) ∙ kind_again b.kind) in
     let arguments = argument_exact a.argument b.argument (eqb-true _ _ h.1) in
     λ i. record { kind = kinds i; argument = arguments i }
@@ -67,18 +68,18 @@ same_aggregates a b e =
 aggregate_exact : (a b : AggregateShape) → Decides (is_same_aggregate a b) (a ≡ b)
 aggregate_exact a b = (
   same_aggregates a b,
-  λ e. all_of _ _ (eq-eqb _ _ (ap (λ (s : AggregateShape). kind_code s.kind) e)) (eq-eqb _ _ (ap (λ (s : AggregateShape). argument_code s.argument) e)),
+  λ e. both _ _ (eq-eqb _ _ (ap (λ (s : AggregateShape). kind_code s.kind) e)) (eq-eqb _ _ (ap (λ (s : AggregateShape). argument_code s.argument) e)),
 )
 
 pub shape_same : (a b : Shape) → is_same_shape a b ≡ true → a ≡ b
 shape_same a b e =
-    let h = both (pointwise is_same_type a.keys b.keys) (pointwise is_same_aggregate a.aggregates b.aggregates) e in
+    let h = and_parts (pointwise is_same_type a.keys b.keys) (pointwise is_same_aggregate a.aggregates b.aggregates) e in
     let keys = (pointwise_decides type_exact a.keys b.keys).0 h.0 in
     let aggregates = (pointwise_decides aggregate_exact a.aggregates b.aggregates).0 h.1 in
     λ i. record { keys = keys i; aggregates = aggregates i }
 
 pub shape_itself : (a : Shape) → is_same_shape a a ≡ true
-shape_itself a = all_of _ _ ((pointwise_decides type_exact a.keys a.keys).1 refl) ((pointwise_decides aggregate_exact a.aggregates a.aggregates).1 refl)
+shape_itself a = both _ _ ((pointwise_decides type_exact a.keys a.keys).1 refl) ((pointwise_decides aggregate_exact a.aggregates a.aggregates).1 refl)
 
 -- ---- what is read is spelled so and fits
 
@@ -96,15 +97,15 @@ held_takes job l a e =
     let shape = test_not (is_same_shape l.shape (shape_of job.plan) && is_shaped job.plan l.body) refusal.Shape _ a cut.1 in
     let sorted = test_not (are_keys_ascending l.body) refusal.UnsortedGroups _ a shape.1 in
     let numbers = test_not (are_numbers_possible job.plan (first_row job.cut l.k) (slice_index job.cut l.k) l.body) refusal.Numbers _ a sorted.1 in
-    let cuts = both (same_bytes l.cut job.cut) (nat_lt l.k (length job.cut)) cut.0 in
-    let shapes = both (is_same_shape l.shape (shape_of job.plan)) (is_shaped job.plan l.body) shape.0 in
+    let cuts = and_parts (same_bytes l.cut job.cut) (nat_lt l.k (length job.cut)) cut.0 in
+    let shapes = and_parts (is_same_shape l.shape (shape_of job.plan)) (is_shaped job.plan l.body) shape.0 in
     let loads : l.load ≡ job.load = eqb-true _ _ load.0 in
     let texts : l.text ≡ job.plan.text = (bytes_decides l.text job.plan.text).0 text.0 in
     let lengths : l.cut ≡ job.cut = (bytes_decides l.cut job.cut).0 cuts.0 in
     let same_shape : l.shape ≡ shape_of job.plan = shape_same l.shape (shape_of job.plan) shapes.0 in
     let made : Answer = record { k = l.k; body = l.body } in
     let same_layout : l ≡ layout_of job made = λ i. record { load = loads i; text = texts i; cut = lengths i; k = l.k; shape = same_shape i; body = l.body } in
-    let all : fits job.plan job.cut made ≡ true = all_of _ _ cuts.1 (all_of _ _ shapes.1 (all_of _ _ sorted.0 numbers.0)) in
+    let all : fits job.plan job.cut made ≡ true = both _ _ cuts.1 (both _ _ shapes.1 (both _ _ sorted.0 numbers.0)) in
     let held : IsHeld job l made = record { layout = same_layout; fits = all } in
     subst (λ (b : Answer). IsHeld job l b) (ok_is made a numbers.1) held
 
@@ -140,8 +141,8 @@ aggregates_fit (a ∷ aggs) = (record { argument = argument_back a.kind a.col_ty
 
 pub body_fits : (job : JobSpec) (a : Answer) → IsJob job → fits job.plan job.cut a ≡ true → IsBody (shape_of job.plan) a.body
 body_fits job a is fit =
-    let shaped = both (is_shaped job.plan a.body) _ (both (nat_lt a.k (length job.cut)) _ fit).1 in
-    of_body a.body shaped.0 (both (are_keys_ascending a.body) _ shaped.1).1
+    let shaped = and_parts (is_shaped job.plan a.body) _ (and_parts (nat_lt a.k (length job.cut)) _ fit).1 in
+    of_body a.body shaped.0 (and_parts (are_keys_ascending a.body) _ shaped.1).1
   where
     short : AllByRecursion (λ n. n ≤ max_rows) job.cut
     short = recursion_from_All (λ n. n ≤ max_rows) job.cut is.cut.short
@@ -153,8 +154,8 @@ body_fits job a is fit =
         let few = is.cut.few in
         fault_fits (first_row job.cut a.k) (slice_index job.cut a.k) f (omega (arith, rows, first, few)) possible
     of_body (Groups gs) shaped possible =
-        let h = both (nat_le (sum (map (λ g. g.rows) gs)) (slice_index job.cut a.k)) (are_rows_possible (certain_keys job.plan.plain job.plan.keys) gs && list_all (is_group_possible job.plan) gs) possible in
-        let k = both (are_rows_possible (certain_keys job.plan.plain job.plan.keys) gs) (list_all (is_group_possible job.plan) gs) h.1 in
+        let h = and_parts (nat_le (sum (map (λ g. g.rows) gs)) (slice_index job.cut a.k)) (are_rows_possible (certain_keys job.plan.plain job.plan.keys) gs && list_all (is_group_possible job.plan) gs) possible in
+        let k = and_parts (are_rows_possible (certain_keys job.plan.plain job.plan.keys) gs) (list_all (is_group_possible job.plan) gs) h.1 in
         let within = leb-true _ _ h.0 in
         let rows = short_at job.cut a.k short in
         let all : sum (map (λ g. g.rows) gs) ≤ max_rows = omega (arith, within, rows) in
@@ -186,7 +187,7 @@ shape_fits job is =
 
 pub layout_fits : (job : JobSpec) (a : Answer) → IsJob job → Fits job a → IsLayout (layout_of job a)
 layout_fits job a is fit =
-    let k = ltb-true a.k (length job.cut) (both (nat_lt a.k (length job.cut)) _ fit).0 in
+    let k = ltb-true a.k (length job.cut) (and_parts (nat_lt a.k (length job.cut)) _ fit).0 in
     let few = is.cut.few in
     record {
       job = job_fits job is;
@@ -198,9 +199,9 @@ layout_fits job a is fit =
 held_again : (job : JobSpec) (a : Answer) → fits job.plan job.cut a ≡ true → held_against job (layout_of job a) ≡ Ok a
 unfolding held_against
 held_again job a fit =
-    let k = both (nat_lt a.k (length job.cut)) _ fit in
-    let shaped = both (is_shaped job.plan a.body) _ k.1 in
-    let sorted = both (are_keys_ascending a.body) _ shaped.1 in
+    let k = and_parts (nat_lt a.k (length job.cut)) _ fit in
+    let shaped = and_parts (is_shaped job.plan a.body) _ k.1 in
+    let sorted = and_parts (are_keys_ascending a.body) _ shaped.1 in
     rw (eq-eqb job.load job.load refl, (bytes_decides job.plan.text job.plan.text).1 refl, (bytes_decides job.cut job.cut).1 refl, k.0, shape_itself (shape_of job.plan), shaped.0, sorted.0, sorted.1) refl
 
 pub answer_again : (job : JobSpec) (a : Answer) → IsJob job → Fits job a → judged job (answer_bytes job a) ≡ Ok a

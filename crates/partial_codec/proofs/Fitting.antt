@@ -2,10 +2,10 @@
 use Rattle.std.proofs.Common.{◌≡◌, ℕ, zero, suc, ◌+◌, ◌*◌, ◌^◌, ◌<◌, ◌≤◌, ℤ, pos, negsuc, neg_ℤ, Bool, true, false, ◌&&◌, ◌||◌, eqb, List, [], ◌∷◌, length, map, take, Option, Some, None, refl, ap, subst, arith, inl, inr, ◌⊎◌}
 use Rattle.std.specs.Prelude.{FitsSigned, int_le, sum, slice_index, nat_lt, nat_le}
 use Rattle.std.specs.List.{AllByRecursion, list_all}
-use Rattle.std.specs.Int.{w64, w128}
+use Rattle.std.specs.Int.{w128}
 use Rattle.std.specs.Str.{is_utf8}
 use Rattle.std.specs.Cmp.Lexicographic.{pointwise}
-use Rattle.std.proofs.lemmas.Bool.{eqb-true, ltb-true, leb-true}
+use Rattle.std.proofs.lemmas.Bool.{eqb-true, ltb-true, leb-true, and_parts}
 use Rattle.std.proofs.lemmas.List.Sums.{sum_by-cons}
 use Rattle.meaning.specs.declared.value.Value.{Value}
 use Rattle.meaning.specs.declared.value.Value.TheVariants.{Null, Int, Text}
@@ -22,12 +22,12 @@ use Rattle.meaning.specs.declared.answer.Group.{Group}
 use Rattle.meaning.specs.Said.{Body}
 use Rattle.meaning.specs.declared.answer.Body.TheVariants.{Groups, Fault}
 use Rattle.meaning.specs.Order.{Row}
-use Rattle.meaning.specs.Operators.{fits_i64}
 use Rattle.meaning.specs.Aggregate.{kept_by}
 use Rattle.meaning.specs.Gather.{same_statistics, same_body}
 use Rattle.meaning.specs.Typing.{is_of_type}
 use Rattle.meaning.specs.Fitting.{is_extreme, is_key_of, is_state_of, is_group_of, is_sum_of, is_possible, is_group_possible, are_rows_possible, is_fault_possible}
 use Rattle.meaning.proofs.Same.{body_exact}
+use Rattle.meaning.proofs.Words.{fits_word}
 use Rattle.meaning.specs.Limits.{max_rows, max_text_bytes}
 use Rattle.partial_codec.specs.Shape.{shape_of, shape_of_aggregate}
 use Rattle.wire.specs.Bytes.{IsText}
@@ -41,27 +41,15 @@ sum-cons n ns = sum_by-cons (λ x. x) n ns
 abbrev rows_of : List Group → List ℕ
 rows_of gs = map (λ g. g.rows) gs
 
-pub all_of : (a b : Bool) → a ≡ true → b ≡ true → (a && b) ≡ true
-all_of true b p q = q
-all_of false b p q = absurd cc
-
-pub both : (a b : Bool) → (a && b) ≡ true → (a ≡ true) × (b ≡ true)
-both true b e = (refl, e)
-both false b e = absurd cc
-
 either : (a b : Bool) → (a || b) ≡ true → (a ≡ true) ⊎ (b ≡ true)
 either true b e = inl refl
 either false b e = inr e
 
 -- ---- values
 
-fits_word : (z : ℤ) → fits_i64 z ≡ true → FitsSigned w64 z
-fits_word (pos n) e = record { sfits = ltb-true n (2 ^ 63) e }
-fits_word (negsuc n) e = record { sfits = ltb-true n (2 ^ 63) e }
-
 fits_text : (t : List ℕ) → (is_utf8 t && nat_le (length t) max_text_bytes) ≡ true → IsText 2 t
 fits_text t e =
-    let h = both (is_utf8 t) (nat_le (length t) max_text_bytes) e in
+    let h = and_parts (is_utf8 t) (nat_le (length t) max_text_bytes) e in
     let short = leb-true (length t) max_text_bytes h.1 in
     record { is_text = h.0; short = omega (arith, short) }
 
@@ -90,7 +78,7 @@ between (suc x) (negsuc m) y hx hy low high = let h = leb-true m x low in record
 
 sum_fits : (n : ℕ) (z : ℤ) → n ≤ max_rows → is_sum_of n z ≡ true → FitsSigned w128 z
 sum_fits n z le e =
-    let h = both (int_le (neg_ℤ (pos (n * 9223372036854775808))) z) (int_le z (pos (n * 9223372036854775807))) e in
+    let h = and_parts (int_le (neg_ℤ (pos (n * 9223372036854775808))) z) (int_le z (pos (n * 9223372036854775807))) e in
     between (n * 9223372036854775808) z (n * 9223372036854775807) (omega arith) (omega arith) h.0 h.1
 
 no_sum : (z : ℤ) → pos 0 ≡ z → FitsSigned w128 z
@@ -120,30 +108,30 @@ pub statistics_itself : (a : Statistics) → same_statistics a a ≡ true
 unfolding group_with
 statistics_itself a =
     let same : ((same_statistics a a && true) && true) ≡ true = (body_exact (Groups (group_with a ∷ [])) (Groups (group_with a ∷ []))).1 refl in
-    (both _ _ (both (same_statistics a a && true) true same).0).0
+    (and_parts _ _ (and_parts (same_statistics a a && true) true same).0).0
 
 -- ---- states
 
-count_fits : (kind : AggregateKind) (rows : ℕ) (s : Statistics) → is_possible kind rows s ≡ true → s.count ≤ rows
+pub count_fits : (kind : AggregateKind) (rows : ℕ) (s : Statistics) → is_possible kind rows s ≡ true → s.count ≤ rows
 count_fits CountRows rows s e = let h = eqb-true s.count rows e in omega (arith, h)
 count_fits Count rows s e = leb-true s.count rows e
-count_fits Sum rows s e = leb-true s.count rows (both _ _ e).0
-count_fits Avg rows s e = leb-true s.count rows (both _ _ e).0
-count_fits Min rows s e = leb-true s.count rows (both _ _ e).0
-count_fits Max rows s e = leb-true s.count rows (both _ _ e).0
+count_fits Sum rows s e = leb-true s.count rows (and_parts _ _ e).0
+count_fits Avg rows s e = leb-true s.count rows (and_parts _ _ e).0
+count_fits Min rows s e = leb-true s.count rows (and_parts _ _ e).0
+count_fits Max rows s e = leb-true s.count rows (and_parts _ _ e).0
 
 sum_of_state : (kind : AggregateKind) (rows : ℕ) (s : Statistics) → rows ≤ max_rows → kept_by kind s ≡ s → is_possible kind rows s ≡ true → FitsSigned w128 s.sum
 sum_of_state CountRows rows s le kept e = no_sum s.sum (ap (λ (t : Statistics). t.sum) kept)
 sum_of_state Count rows s le kept e = no_sum s.sum (ap (λ (t : Statistics). t.sum) kept)
-sum_of_state Sum rows s le kept e = let h = both _ _ e in let c = leb-true s.count rows h.0 in sum_fits s.count s.sum (omega (arith, c)) h.1
-sum_of_state Avg rows s le kept e = let h = both _ _ e in let c = leb-true s.count rows h.0 in sum_fits s.count s.sum (omega (arith, c)) h.1
+sum_of_state Sum rows s le kept e = let h = and_parts _ _ e in let c = leb-true s.count rows h.0 in sum_fits s.count s.sum (omega (arith, c)) h.1
+sum_of_state Avg rows s le kept e = let h = and_parts _ _ e in let c = leb-true s.count rows h.0 in sum_fits s.count s.sum (omega (arith, c)) h.1
 sum_of_state Min rows s le kept e = no_sum s.sum (ap (λ (t : Statistics). t.sum) kept)
 sum_of_state Max rows s le kept e = no_sum s.sum (ap (λ (t : Statistics). t.sum) kept)
 
 state_fits : (a : Aggregate) (rows : ℕ) (s : Statistics) → rows ≤ max_rows → is_state_of a s ≡ true → is_possible a.kind rows s ≡ true → IsState a.kind s
 state_fits a rows s le shaped possible =
-    let h = both (same_statistics (kept_by a.kind s) s) (is_extreme a.col_type s.least && is_extreme a.col_type s.greatest) shaped in
-    let extremes = both (is_extreme a.col_type s.least) (is_extreme a.col_type s.greatest) h.1 in
+    let h = and_parts (same_statistics (kept_by a.kind s) s) (is_extreme a.col_type s.least && is_extreme a.col_type s.greatest) shaped in
+    let extremes = and_parts (is_extreme a.col_type s.least) (is_extreme a.col_type s.greatest) h.1 in
     let kept = statistics_same (kept_by a.kind s) s h.0 in
     let count = count_fits a.kind rows s possible in
     record {
@@ -160,8 +148,8 @@ states_fit [] rows [] le shaped possible = tt
 states_fit [] rows (s ∷ states) le shaped possible = absurd cc
 states_fit (a ∷ aggs) rows [] le shaped possible = absurd cc
 states_fit (a ∷ aggs) rows (s ∷ states) le shaped possible =
-    let h = both (is_state_of a s) (pointwise is_state_of aggs states) shaped in
-    let k = both (is_possible a.kind rows s) (pointwise (λ b t. is_possible b.kind rows t) aggs states) possible in
+    let h = and_parts (is_state_of a s) (pointwise is_state_of aggs states) shaped in
+    let k = and_parts (is_possible a.kind rows s) (pointwise (λ b t. is_possible b.kind rows t) aggs states) possible in
     (state_fits a rows s le h.0 k.0, states_fit aggs rows states le h.1 k.1)
 
 -- ---- groups
@@ -171,28 +159,28 @@ key_fits [] [] e = (refl, tt)
 key_fits [] (v ∷ key) e = absurd cc
 key_fits (k ∷ keys) [] e = absurd cc
 key_fits (k ∷ keys) (v ∷ key) e =
-    let h = both (is_of_type k.col_type v) (pointwise (λ l w. is_of_type l.col_type w) keys key) e in
+    let h = and_parts (is_of_type k.col_type v) (pointwise (λ l w. is_of_type l.col_type w) keys key) e in
     let others = key_fits keys key h.1 in
     (ap suc others.0, (value_fits k.col_type v h.0, others.1))
 
 group_fits : (plan : Plan) (g : Group) → g.rows ≤ max_rows → is_group_of plan g ≡ true → is_group_possible plan g ≡ true → IsGroup (shape_of plan) g
 group_fits plan g le shaped possible =
-    let h = both (is_key_of plan g.key) (pointwise is_state_of plan.aggs g.states) shaped in
+    let h = and_parts (is_key_of plan g.key) (pointwise is_state_of plan.aggs g.states) shaped in
     let key = key_fits plan.keys g.key h.0 in
     record { keys = key.0; key = key.1; rows = omega arith; states = states_fit plan.aggs g.rows g.states le h.1 possible }
 
 pub groups_fit : (plan : Plan) (gs : List Group) → sum (map (λ g. g.rows) gs) ≤ max_rows → list_all (is_group_of plan) gs ≡ true → list_all (is_group_possible plan) gs ≡ true → AllByRecursion (IsGroup (shape_of plan)) gs
 groups_fit plan [] le shaped possible = tt
 groups_fit plan (g ∷ gs) le shaped possible =
-    let h = both (is_group_of plan g) (list_all (is_group_of plan) gs) shaped in
-    let k = both (is_group_possible plan g) (list_all (is_group_possible plan) gs) possible in
+    let h = and_parts (is_group_of plan g) (list_all (is_group_of plan) gs) shaped in
+    let k = and_parts (is_group_possible plan g) (list_all (is_group_possible plan) gs) possible in
     let sums = sum-cons g.rows (rows_of gs) in
     (group_fits plan g (omega (arith, sums)) h.0 k.0, groups_fit plan gs (omega (arith, sums)) h.1 k.1)
 
 rows_count : (gs : List Group) → list_all (λ g. nat_le 1 g.rows) gs ≡ true → length gs ≤ sum (map (λ g. g.rows) gs)
 rows_count [] e = omega arith
 rows_count (g ∷ gs) e =
-    let h = both (nat_le 1 g.rows) (list_all (λ x. nat_le 1 x.rows) gs) e in
+    let h = and_parts (nat_le 1 g.rows) (list_all (λ x. nat_le 1 x.rows) gs) e in
     let one = leb-true 1 g.rows h.0 in
     let others = rows_count gs h.1 in
     omega (arith, one, others, sum-cons g.rows (rows_of gs))
@@ -222,7 +210,7 @@ words (n ∷ cut) short = (let n_is = short.0 in omega (arith, n_is), words cut 
 
 pub fault_fits : (first rows : ℕ) (f : RowFault) → first + rows < 2 ^ 64 → is_fault_possible first rows f ≡ true → (f.row < 2 ^ 64) × (f.code < 256)
 fault_fits first rows f lt e =
-    let h = both ((eqb f.code 1) || (eqb f.code 2)) (nat_le first f.row && nat_lt f.row (first + rows)) e in
-    let below = ltb-true f.row (first + rows) (both (nat_le first f.row) (nat_lt f.row (first + rows)) h.1).1 in
+    let h = and_parts ((eqb f.code 1) || (eqb f.code 2)) (nat_le first f.row && nat_lt f.row (first + rows)) e in
+    let below = ltb-true f.row (first + rows) (and_parts (nat_le first f.row) (nat_lt f.row (first + rows)) h.1).1 in
     let code : f.code < 256 = elim (either (eqb f.code 1) (eqb f.code 2) h.0) [ inl a ↦ (let is = eqb-true f.code 1 a in omega (arith, is)) | inr a ↦ (let is = eqb-true f.code 2 a in omega (arith, is)) ] in
     (omega (arith, below), code)

@@ -11,18 +11,19 @@ use Rattle.meaning.specs.declared.answer.Group.{Group}
 use Rattle.meaning.specs.Said.{Body}
 use Rattle.meaning.specs.declared.answer.Body.TheVariants.{Groups, Fault}
 use Rattle.std.proofs.Common.{eqb}
-use Rattle.std.proofs.lemmas.Bool.{ne_eqb}
+use Rattle.std.proofs.lemmas.Bool.{ne_eqb, and_parts}
 use Rattle.meaning.specs.Order.{Row, row_cmp, is_ascending}
 use Rattle.meaning.specs.Aggregate.{no_statistics, kept_by}
 use Rattle.meaning.specs.Gather.{same_statistics}
 use Rattle.meaning.specs.Fitting.{is_sum_of, is_state_of, is_group_of, is_shaped, is_possible, is_group_possible, are_keys_ascending, are_numbers_possible}
+use Rattle.meaning.proofs.Tests.{both}
 use Rattle.wire.specs.Reading.{◌>>=◌, number_at, i128_at, repeat_at}
 use Rattle.wire.proofs.Numbers.{bind_ok, ok_is}
 use Rattle.partial_codec.specs.Fault.{from_wire}
 use Rattle.partial_codec.specs.Keeping.{has_possible_sum, has_possible_sums, are_sums_possible, kept_state, kept_group, kept_body, is_typed_state, is_typed_group, is_typed}
 use Rattle.partial_codec.specs.LayoutReading.{value_at, unless_null, state_at, states_at, group_at, groups_at, fault_at, tagged_body_at, body_at}
 use Rattle.partial_codec.specs.Shape.{shape_of, shape_of_aggregate}
-use Rattle.partial_codec.proofs.Fitting.{both, statistics_itself}
+use Rattle.partial_codec.proofs.Fitting.{statistics_itself}
 use Rattle.partial_codec.proofs.FromWire.{read_ok}
 
 true_false : true ≡ false → ⊥
@@ -56,12 +57,12 @@ state_read Sum bytes p e =
     let a = read_ok (number_at 4 bytes) (λ n. from_wire (i128_at n.1) >>= λ sum. Ok (record no_statistics { count = n.0; sum = sum.0 }, sum.1)) p e in
     let b = read_ok (i128_at a.0.1) (λ sum. Ok (record no_statistics { count = a.0.0; sum = sum.0 }, sum.1)) p a.2 in
     let made : Statistics × List ℕ = (record no_statistics { count = a.0.0; sum = b.0.0 }, b.0.1) in
-    subst (λ (q : Statistics × List ℕ). IsRead Sum q.0) (ok_is made p b.2) (record { kept = statistics_itself made.0; sum = λ rows h. (both _ _ h).1 })
+    subst (λ (q : Statistics × List ℕ). IsRead Sum q.0) (ok_is made p b.2) (record { kept = statistics_itself made.0; sum = λ rows h. (and_parts _ _ h).1 })
 state_read Avg bytes p e =
     let a = read_ok (number_at 4 bytes) (λ n. from_wire (i128_at n.1) >>= λ sum. Ok (record no_statistics { count = n.0; sum = sum.0 }, sum.1)) p e in
     let b = read_ok (i128_at a.0.1) (λ sum. Ok (record no_statistics { count = a.0.0; sum = sum.0 }, sum.1)) p a.2 in
     let made : Statistics × List ℕ = (record no_statistics { count = a.0.0; sum = b.0.0 }, b.0.1) in
-    subst (λ (q : Statistics × List ℕ). IsRead Avg q.0) (ok_is made p b.2) (record { kept = statistics_itself made.0; sum = λ rows h. (both _ _ h).1 })
+    subst (λ (q : Statistics × List ℕ). IsRead Avg q.0) (ok_is made p b.2) (record { kept = statistics_itself made.0; sum = λ rows h. (and_parts _ _ h).1 })
 state_read Min bytes p e =
     let a = read_ok (number_at 4 bytes) (λ n. value_at n.1 >>= λ value. Ok (record no_statistics { count = n.0; least = unless_null value.0 }, value.1)) p e in
     let b = bind_ok (value_at a.0.1) (λ value. Ok (record no_statistics { count = a.0.0; least = unless_null value.0 }, value.1)) p a.2 in
@@ -78,10 +79,6 @@ record AreRead (aggs : List Aggregate) (states : List Statistics) : Type 0 where
   typed : pointwise is_state_of aggs states ≡ pointwise is_typed_state aggs states
   sums : (rows : ℕ) → pointwise (λ a s. is_possible a.kind rows s) aggs states ≡ true → list_all has_possible_sum states ≡ true
 
-all_of : (a b : Bool) → a ≡ true → b ≡ true → (a && b) ≡ true
-all_of true b p q = q
-all_of false b p q = absurd cc
-
 state_typed : (a : Aggregate) (s : Statistics) → IsRead a.kind s → is_state_of a s ≡ is_typed_state a s
 state_typed a s is = rw is.kept refl
 
@@ -96,7 +93,7 @@ states_read (g ∷ aggs) bytes p e =
     let made : List Statistics × List ℕ = (a.0.0 ∷ b.0.0, b.0.1) in
     subst (λ (q : List Statistics × List ℕ). AreRead (g ∷ aggs) q.0) (ok_is made p b.2) (record {
       typed = rw (state_typed g a.0.0 first, others.typed) refl;
-      sums = λ rows h. let k = both (is_possible g.kind rows a.0.0) (pointwise (λ x s. is_possible x.kind rows s) aggs b.0.0) h in all_of _ _ (first.sum rows k.0) (others.sums rows k.1);
+      sums = λ rows h. let k = and_parts (is_possible g.kind rows a.0.0) (pointwise (λ x s. is_possible x.kind rows s) aggs b.0.0) h in both _ _ (first.sum rows k.0) (others.sums rows k.1);
     })
 
 -- ---- groups
@@ -133,7 +130,7 @@ groups_read plan (suc n) bytes p e =
     let made : List Group × List ℕ = (a.0.0 ∷ b.0.0, b.0.1) in
     subst (λ (q : List Group × List ℕ). AreReadGroups plan q.0) (ok_is made p b.2) (record {
       typed = rw (first.typed, others.typed) refl;
-      sums = λ h. let k = both (is_group_possible plan a.0.0) (list_all (is_group_possible plan) b.0.0) h in all_of _ _ (first.sums k.0) (others.sums k.1);
+      sums = λ h. let k = and_parts (is_group_possible plan a.0.0) (list_all (is_group_possible plan) b.0.0) h in both _ _ (first.sums k.0) (others.sums k.1);
     })
 
 -- ---- bodies
@@ -155,7 +152,7 @@ tagged_read plan (suc zero) bytes p e =
     let b = bind_ok (repeat_at (group_at (shape_of plan)) a.0.0 a.0.1) (λ groups. Ok (Groups groups.0, groups.1)) p a.2 in
     let made : Body × List ℕ = (Groups b.0.0, b.0.1) in
     let groups = groups_read plan a.0.0 a.0.1 b.0 b.1 in
-    subst (λ (q : Body × List ℕ). IsReadBody plan q.0) (ok_is made p b.2) (record { typed = groups.typed; sums = λ first rows h. groups.sums (both _ _ (both _ _ h).1).1 })
+    subst (λ (q : Body × List ℕ). IsReadBody plan q.0) (ok_is made p b.2) (record { typed = groups.typed; sums = λ first rows h. groups.sums (and_parts _ _ (and_parts _ _ h).1).1 })
 tagged_read plan (suc (suc n)) bytes p e =
     let not0 : eqb (suc (suc n)) 0 ≡ false = ne_eqb _ _ (λ h. omega (arith, h)) in
     let not1 : eqb (suc (suc n)) 1 ≡ false = ne_eqb _ _ (λ h. omega (arith, h)) in
@@ -173,7 +170,7 @@ body_read plan bytes p e =
 map_same : {X : Type 0} (f : X → X) (test : X → Bool) → ((x : X) → test x ≡ true → f x ≡ x) → (xs : List X) → list_all test xs ≡ true → map f xs ≡ xs
 map_same f test same [] e = refl
 map_same f test same (x ∷ xs) e =
-    let h = both (test x) (list_all test xs) e in
+    let h = and_parts (test x) (list_all test xs) e in
     ap (λ (y : _). y ∷ map f xs) (same x h.0) ∙ ap (λ (ys : _). x ∷ ys) (map_same f test same xs h.1)
 
 state_same : (s : Statistics) → has_possible_sum s ≡ true → kept_state s ≡ s

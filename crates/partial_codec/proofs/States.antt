@@ -3,12 +3,13 @@ use Rattle.std.proofs.Common.{◌≡◌, ℕ, zero, suc, ◌+◌, ◌<◌, true,
 use Rattle.std.specs.Prelude.{nat_lt, slice_index}
 use Rattle.std.specs.List.{flat_map, AllByRecursion, list_all}
 use Rattle.std.specs.Cmp.Lexicographic.{bytes_decides}
-use Rattle.std.proofs.lemmas.Bool.{eqb-true, eq-eqb, lt-ltb, ne_eqb}
+use Rattle.std.proofs.lemmas.Bool.{eqb-true, eq-eqb, lt-ltb, ne_eqb, and_parts}
 use Rattle.meaning.specs.Said.{Body}
 use Rattle.meaning.specs.Said.{Cell}
 use Rattle.meaning.specs.declared.answer.Cell.TheVariants.{Nothing, One, Conflict}
 use Rattle.meaning.specs.Cut.{first_row}
 use Rattle.meaning.specs.Fitting.{is_shaped, are_keys_ascending, are_numbers_possible, fits}
+use Rattle.meaning.proofs.Tests.{both}
 use Rattle.partial_codec.specs.declared.fault.DecodeFault.TheVariants as refusal
 use Rattle.wire.specs.Reading.{◌>>=◌, bytes_at, number_at, repeat_at, same_bytes, behind_magic, sealed_end}
 use Rattle.partial_codec.specs.Job.{JobSpec, IsJob}
@@ -24,7 +25,6 @@ use Rattle.wire.proofs.Parts.{IsSpelled, IsReadAgain, repeat_takes, repeat_again
 use Rattle.partial_codec.proofs.Groups.{body_takes, body_again}
 use Rattle.partial_codec.proofs.FieldLaws.{IsShape, AreJobFields, job_text, job_takes, job_again, shape_takes, shape_again}
 use Rattle.wire.proofs.Seals.{magic_takes, magic_again, seal_takes, seal_again, seal_left}
-use Rattle.partial_codec.proofs.Fitting.{all_of, both}
 use Rattle.partial_codec.proofs.Answers.{shape_same, shape_itself, job_fits, shape_fits, body_fits}
 use Rattle.partial_codec.proofs.FromWire.{read_ok}
 use Rattle.partial_codec.specs.Fault.{from_wire}
@@ -193,17 +193,17 @@ held_each job [] j zero n body shaped held at is = absurd (no_answer body at)
 held_each job [] j (suc k) n body shaped held at is = absurd (no_answer body at)
 held_each job (cell ∷ cells) j zero n body shaped held at is =
     let a = bind_ok (cell_held job.plan (first_row job.cut j) (slice_index job.cut j) cell) (λ held. cells_held job (suc j) cells) tt held in
-    let here = held_one job j cell body at (both (is_cell_shaped job.plan cell) (list_all (is_cell_shaped job.plan) cells) shaped).0 a.1 in
+    let here = held_one job j cell body at (and_parts (is_cell_shaped job.plan cell) (list_all (is_cell_shaped job.plan) cells) shaped).0 a.1 in
     let same : j ≡ n = omega (arith, is) in
     (omega arith, subst (λ (m : ℕ). IsHeldAnswer job m body) same here)
 held_each job (cell ∷ cells) j (suc k) n body shaped held at is =
     let a = bind_ok (cell_held job.plan (first_row job.cut j) (slice_index job.cut j) cell) (λ held. cells_held job (suc j) cells) tt held in
-    let others = held_each job cells (suc j) k n body (both (is_cell_shaped job.plan cell) (list_all (is_cell_shaped job.plan) cells) shaped).1 a.2 at (omega (arith, is)) in
+    let others = held_each job cells (suc j) k n body (and_parts (is_cell_shaped job.plan cell) (list_all (is_cell_shaped job.plan) cells) shaped).1 a.2 at (omega (arith, is)) in
     let lt = others.0 in
     (omega (arith, lt), others.1)
 
 held_fits : (job : JobSpec) (k : ℕ) (body : Body) → k < length job.cut → IsHeldAnswer job k body → Fits job (record { k = k; body = body })
-held_fits job k body lt held = all_of _ _ (lt-ltb k (length job.cut) lt) (all_of _ _ held.shaped (all_of _ _ held.sorted held.possible))
+held_fits job k body lt held = both _ _ (lt-ltb k (length job.cut) lt) (both _ _ held.shaped (both _ _ held.sorted held.possible))
 
 -- the fields that were held against the job
 record IsHeld (job : JobSpec) (l : StateLayout) (cells : List Cell) : Type 0 where
@@ -219,7 +219,7 @@ held_takes job l cells e =
     let cut = test_not (same_bytes l.cut job.cut) refusal.OtherCut _ cells text.1 in
     let shape = test_not (is_same_shape l.shape (shape_of job.plan) && list_all (is_cell_shaped job.plan) l.cells) refusal.Shape _ cells cut.1 in
     let each = bind_ok (cells_held job 0 l.cells) (λ held. Ok l.cells) cells shape.1 in
-    let shapes = both (is_same_shape l.shape (shape_of job.plan)) (list_all (is_cell_shaped job.plan) l.cells) shape.0 in
+    let shapes = and_parts (is_same_shape l.shape (shape_of job.plan)) (list_all (is_cell_shaped job.plan) l.cells) shape.0 in
     let loads : l.load ≡ job.load = eqb-true _ _ load.0 in
     let texts : l.text ≡ job.plan.text = (bytes_decides l.text job.plan.text).0 text.0 in
     let lengths : l.cut ≡ job.cut = (bytes_decides l.cut job.cut).0 cut.0 in
@@ -280,9 +280,9 @@ cell_held_again : (job : JobSpec) (j : ℕ) (cell : Cell) → ((body : Body) →
 unfolding body_held
 cell_held_again job j Nothing given = (refl, refl)
 cell_held_again job j (One body) given =
-    let k = both (nat_lt j (length job.cut)) _ (given body refl) in
-    let shaped = both (is_shaped job.plan body) _ k.1 in
-    let sorted = both (are_keys_ascending body) _ shaped.1 in
+    let k = and_parts (nat_lt j (length job.cut)) _ (given body refl) in
+    let shaped = and_parts (is_shaped job.plan body) _ k.1 in
+    let sorted = and_parts (are_keys_ascending body) _ shaped.1 in
     (shaped.0, rw (sorted.0, sorted.1) refl)
 cell_held_again job j Conflict given = (refl, refl)
 
@@ -292,7 +292,7 @@ cells_held_again job j [] given = (refl, refl)
 cells_held_again job j (cell ∷ cells) given =
     let here = cell_held_again job j cell (here_fits job j cell cells given) in
     let later = cells_held_again job (suc j) cells (later_fit job j cell cells given) in
-    (all_of _ _ here.0 later.0, rw (here.1, later.1) refl)
+    (both _ _ here.0 later.0, rw (here.1, later.1) refl)
 
 each_fits : (job : JobSpec) (cells : List Cell) → FitsState job cells → EachFits job 0 cells
 each_fits job cells fit k n body is at =

@@ -13,6 +13,7 @@ use Rattle.meaning.specs.declared.plan.Plan.{Plan}
 use Rattle.meaning.specs.Cut.{IsCut, first_row}
 use Rattle.meaning.specs.Order.{is_ascending, row_cmp}
 use Rattle.meaning.specs.Limits.{max_rows}
+use Rattle.meaning.proofs.Tests.{and_false}
 use Rattle.partial_codec.specs.declared.fault.DecodeFault.{DecodeFault}
 use Rattle.partial_codec.specs.Job.{JobSpec}
 use Rattle.wire.specs.Reading.{◌>>=◌}
@@ -54,11 +55,7 @@ pub pointwise_lengths : {X Y : Type 0} (test : X → Y → Bool) (xs : List X) (
 pointwise_lengths test [] [] other = absurd (other refl)
 pointwise_lengths test [] (y ∷ ys) other = refl
 pointwise_lengths test (x ∷ xs) [] other = refl
-pointwise_lengths test (x ∷ xs) (y ∷ ys) other = rw (pointwise_lengths test xs ys (λ e. other (omega (arith, e)))) (never (test x y))
-  where
-    never : (b : Bool) → (b && false) ≡ false
-    never true = refl
-    never false = refl
+pointwise_lengths test (x ∷ xs) (y ∷ ys) other = rw (pointwise_lengths test xs ys (λ e. other (omega (arith, e)))) (and_false (test x y))
 
 abbrev pub all_rows : List Group → ℕ
 all_rows gs = sum (map (λ g. g.rows) gs)

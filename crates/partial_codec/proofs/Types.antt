@@ -1,9 +1,7 @@
 -- Types of values, by what the code asks of them.
-use Rattle.std.proofs.Common.{◌≡◌, ℕ, ℤ, pos, negsuc, ◌^◌, true, ◌&&◌, eqb, List, length, refl}
-use Rattle.std.specs.Prelude.{not, nat_le, FitsSigned}
-use Rattle.std.specs.Int.{w64}
+use Rattle.std.proofs.Common.{◌≡◌, ℕ, ℤ, true, ◌&&◌, eqb, List, length, refl}
+use Rattle.std.specs.Prelude.{not, nat_le}
 use Rattle.std.specs.Str.{is_utf8}
-use Rattle.std.proofs.lemmas.Bool.{lt-ltb}
 use Rattle.meaning.specs.declared.value.ColType.{ColType}
 use Rattle.meaning.specs.declared.value.ColType.TheVariants as of_type
 use Rattle.meaning.specs.declared.value.Value.TheVariants.{Int, Text}
@@ -11,10 +9,6 @@ use Rattle.meaning.specs.Limits.{max_text_bytes}
 use Rattle.meaning.specs.Operators.{fits_i64}
 use Rattle.meaning.specs.Typing.{is_of_type}
 use Rattle.partial_codec.specs.Shape.{type_code}
-
-pub word_fits : (n : ℤ) → FitsSigned w64 n → fits_i64 n ≡ true
-word_fits (pos n) fits = lt-ltb n (2 ^ 63) fits.sfits
-word_fits (negsuc n) fits = lt-ltb n (2 ^ 63) fits.sfits
 
 pub integer_type : (t : ColType) (n : ℤ) → fits_i64 n ≡ true → eqb (type_code t) 1 ≡ is_of_type t (Int n)
 integer_type of_type.Int n fits = rw fits refl

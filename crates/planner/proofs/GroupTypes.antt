@@ -1,11 +1,11 @@
 -- Items and HAVING have types over groups.
-use Rattle.std.proofs.Common.{rules, ◌≡◌, ◌⊎◌, inl, inr, ℕ, zero, suc, ◌+◌, ◌<◌, Bool, true, false, ◌&&◌, List, [], ◌∷◌, ◌++◌, map, length, cond, Option, Some, None, option_to_list, slice_get, Result, Ok, Err, refl, ap, ap₂, subst, sym, ◌∙◌, arith}
+use Rattle.std.proofs.Common.{rules, ◌≡◌, ◌⊎◌, inl, inr, ℕ, zero, suc, ◌+◌, ◌<◌, Bool, true, false, ◌&&◌, List, [], ◌∷◌, ◌++◌, map, length, cond, Option, Some, None, option_to_list, slice_get, Ok, Err, refl, ap, ap₂, subst, sym, ◌∙◌, arith}
 use Rattle.std.specs.List.{list_all, enumerate_from, AllByRecursion}
 use Rattle.std.specs.Option.{is_some, option_map_or}
 use Rattle.std.proofs.lemmas.List.Elements.{All-from_recursion}
-use Rattle.meaning.specs.Results.{all_ok, with_result}
+use Rattle.meaning.specs.Results.{all_ok}
 use Rattle.meaning.specs.References.{Reference, GroupKey, GroupAggregate, columns_used, columns_used_in_all}
-use Rattle.meaning.specs.Typing.{ExprType, Valued, Boolean, RowTypes, group_types, has_type, is_column_type, result_type, same_type}
+use Rattle.meaning.specs.Typing.{ExprType, Valued, Boolean, RowTypes, group_types, has_type, is_column_type, result_type}
 use Rattle.meaning.specs.declared.expr.Expr as plan
 use Rattle.meaning.specs.declared.expr.Expr.TheVariants as expr
 use Rattle.meaning.specs.declared.expr.Expr.TheFolds as plan_folds
@@ -15,6 +15,7 @@ use Rattle.meaning.specs.declared.plan.Item as plan_item
 use Rattle.meaning.specs.declared.value.ColType.{ColType}
 use Rattle.meaning.specs.declared.value.ColType.TheVariants as of_type
 use Rattle.meaning.proofs.Tests.{first_of as left_of, second_of as right_of, all_first, all_rest}
+use Rattle.meaning.proofs.Typed.{type_itself}
 use Rattle.sql_syntax.specs.declared.tree.Aggregate as written
 use Rattle.sql_syntax.specs.declared.tree.Aggregate.TheVariants as aggregate
 use Rattle.sql_syntax.specs.declared.tree.Arm.{Arm}
@@ -29,7 +30,6 @@ use Rattle.sql_syntax.specs.declared.tree.Query.{Query}
 use Rattle.sql_syntax.specs.Literals.{has_fitting_literals, has_only_fitting_literals}
 use Rattle.planner_expressions.specs.declared.basis.Basis.{Basis}
 use Rattle.planner_expressions.specs.declared.basis.Basis.TheVariants.{Groups}
-use Rattle.planner_expressions.specs.declared.fault.PlanFault.{PlanFault}
 use Rattle.planner_expressions.specs.declared.fault.PlanFault.TheVariants as fault
 use Rattle.planner_expressions.specs.declared.scope.Scope.{Scope}
 use Rattle.planner_expressions.specs.declared.sort.Sort.{Sort}
@@ -43,7 +43,7 @@ use Rattle.planner_expressions.specs.Translated.{translated}
 use Rattle.planner_expressions.specs.Typed.{type_of_sort}
 use Rattle.planner_expressions.proofs.Accepted.{goes_there}
 use Rattle.planner_expressions.proofs.AlikeTrees.{spelled_sorts}
-use Rattle.planner_expressions.proofs.TypedRows.{Has, all_typed, same_is}
+use Rattle.planner_expressions.proofs.TypedRows.{Has, all_typed, same_is, front}
 use Rattle.planner.specs.declared.keys.Keys.{Keys}
 use Rattle.planner.specs.Aggregates.{aggregates_in, aggregate_node, aggregate_of, kind_of, type_in, row_type}
 use Rattle.planner.specs.Checked.{checked, condition_check, item_check, key_check}
@@ -83,17 +83,7 @@ get_less [] i x is = absurd cc
 get_less (y ∷ xs) zero x is = first_less (length xs)
 get_less (y ∷ xs) (suc i) x is = next_less i (length xs) (get_less xs i x is)
 
-front : {X : Type 0} (r : Result X PlanFault) (rs : Result (List X) PlanFault) (zs : List X) → with_result r rs ≡ Ok zs
-    → (x : X) × ((xs : List X) × (r ≡ Ok x) × (rs ≡ Ok xs) × (zs ≡ x ∷ xs))
-front (Err e) rs zs is = absurd cc
-front (Ok x) (Err e) zs is = absurd cc
-front (Ok x) (Ok xs) zs is = (x, (xs, refl, refl, cc))
-
 -- ---- types
-
-same_itself : (kind : ColType) → same_type kind kind ≡ true
-same_itself of_type.Int = refl
-same_itself of_type.Text = refl
 
 value_type : (z : Sort) → is_value z ≡ true → type_of_sort z ≡ Valued (type_in (Ok z))
 value_type Integer is = refl
@@ -107,7 +97,7 @@ has-Aggregate : (types : RowTypes) (i : ℕ) (t : ExprType) → has_type types (
 has-Aggregate types i t = search (rules, plan_folds.the_lemmas)
 
 of_its_type : (o : Option ColType) (kind : ColType) (t : ExprType) → o ≡ Some kind → t ≡ Valued kind → is_column_type o t ≡ true
-of_its_type o kind t o_is t_is = ap₂ is_column_type o_is t_is ∙ same_itself kind
+of_its_type o kind t o_is t_is = ap₂ is_column_type o_is t_is ∙ type_itself kind
 
 result_of : (k : written.Aggregate) (x : Sort) → is_taken k x ≡ true → type_of_sort (aggregate_sort k x) ≡ Valued (result_type (kind_of k) (type_in (Ok x)))
 result_of aggregate.Count x is = refl

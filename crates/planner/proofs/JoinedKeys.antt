@@ -1,8 +1,8 @@
 -- Each join looks for the key of its dimension.
-use Rattle.std.proofs.Common.{◌≡◌, ℕ, suc, ◌+◌, ◌==◌, Bool, true, false, ◌&&◌, ◌||◌, not, List, [], ◌∷◌, map, filter, cond, Option, Some, None, option_to_list, slice_get, Result, Ok, Err, refl, ap, subst, sym, ◌∙◌, arith}
+use Rattle.std.proofs.Common.{◌≡◌, ℕ, suc, ◌+◌, ◌==◌, Bool, true, false, ◌&&◌, ◌||◌, not, List, [], ◌∷◌, map, filter, cond, Option, Some, None, option_to_list, slice_get, Result, Ok, refl, ap, subst, sym, ◌∙◌, arith}
 use Rattle.std.specs.List.{list_all, enumerate_from}
 use Rattle.std.specs.Option.{is_none}
-use Rattle.meaning.specs.Results.{all_ok, with_result}
+use Rattle.meaning.specs.Results.{all_ok}
 use Rattle.meaning.specs.declared.plan.Join.{Join}
 use Rattle.meaning.proofs.Tests.{both, all_first, all_append, all_filter}
 use Rattle.sql_syntax.specs.declared.tree.Arm.{Arm}
@@ -21,18 +21,13 @@ use Rattle.planner_expressions.specs.Given.{column_meant, node_column}
 use Rattle.planner_expressions.specs.Scope.{is_meant, meant, one_of, found}
 use Rattle.planner_expressions.specs.Typed.{is_key_place, has_its_key}
 use Rattle.planner_expressions.proofs.Accepted.{goes_there}
+use Rattle.planner_expressions.proofs.TypedRows.{front}
 use Rattle.planner.specs.declared.conjuncts.Equality.{Equality}
 use Rattle.planner.specs.Conjuncts.{joined_by, keyed, first_there, equality_of, node_equality, join_equality, one_equality, joins_dim, equality_for}
 use Rattle.planner.specs.Planned.{join_of, table_use}
 use Rattle.planner.specs.PlanOf.{equalities_among}
 
-front : {X : Type 0} (r : Result X PlanFault) (rs : Result (List X) PlanFault) (zs : List X) → with_result r rs ≡ Ok zs
-    → (x : X) × ((xs : List X) × (r ≡ Ok x) × (rs ≡ Ok xs) × (zs ≡ x ∷ xs))
-front (Err e) rs zs is = absurd cc
-front (Ok x) (Err e) zs is = absurd cc
-front (Ok x) (Ok xs) zs is = (x, (xs, refl, refl, cc))
-
-same_number : (m n : ℕ) → (m == n) ≡ true → m ≡ n
+pub same_number : (m n : ℕ) → (m == n) ≡ true → m ≡ n
 same_number m n is = grind arith
 
 module _ (s : Scope) (keys : List ℕ) (all_keyed : list_all (has_its_key keys) s.columns ≡ true) where

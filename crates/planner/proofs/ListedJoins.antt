@@ -1,8 +1,8 @@
 -- A join equality compares two columns of FROM that the query names, of one type.
-use Rattle.std.proofs.Common.{rules, ◌≡◌, ℕ, zero, suc, ◌+◌, ◌<◌, ◌==◌, inl, Bool, true, false, ◌&&◌, List, [], ◌∷◌, map, filter, length, cond, Option, Some, None, option_to_list, slice_get, Result, Ok, Err, refl, ap, subst, sym, ◌∙◌, arith}
+use Rattle.std.proofs.Common.{rules, ◌≡◌, ℕ, zero, suc, ◌+◌, ◌<◌, inl, Bool, true, false, ◌&&◌, List, [], ◌∷◌, map, filter, length, cond, Option, Some, None, option_to_list, slice_get, Result, Ok, refl, ap, subst, sym, ◌∙◌, arith}
 use Rattle.std.specs.List.{list_all, enumerate_from, AllByRecursion}
 use Rattle.std.specs.Option.{is_none}
-use Rattle.meaning.specs.Results.{all_ok, and_then, with_result}
+use Rattle.meaning.specs.Results.{all_ok, and_then}
 use Rattle.meaning.specs.declared.plan.Join.{Join}
 use Rattle.meaning.specs.declared.plan.TableUse.{TableUse}
 use Rattle.meaning.specs.declared.value.ColType.{ColType}
@@ -28,7 +28,7 @@ use Rattle.planner_expressions.specs.Scope.{meant, one_of, found}
 use Rattle.planner_expressions.specs.Sorts.{sort_of_type, same_sort, is_value, are_alike}
 use Rattle.planner_expressions.specs.Uses.{names, names_arm, names_node}
 use Rattle.planner_expressions.proofs.Accepted.{goes_there}
-use Rattle.planner_expressions.proofs.TypedRows.{both_sorts, typed_is, same_is}
+use Rattle.planner_expressions.proofs.TypedRows.{both_sorts, typed_is, same_is, front}
 use Rattle.planner.specs.declared.conjuncts.Equality.{Equality}
 use Rattle.planner.specs.Conjuncts.{joined_by, keyed, first_there, equality_of, node_equality, join_equality, one_equality, joins_dim, equality_for}
 use Rattle.planner.specs.Planned.{join_of, is_read, table_use, use_of}
@@ -38,15 +38,7 @@ use Rattle.planner.proofs.Conditions.{AreFine}
 use Rattle.planner.proofs.NamedParts.{Named, Covers, AllCovered, left, right}
 use Rattle.planner_expressions.proofs.Columns.{stands_among}
 use Rattle.planner.proofs.TypedTrees.{both_all}
-
-front : {X : Type 0} (r : Result X PlanFault) (rs : Result (List X) PlanFault) (zs : List X) → with_result r rs ≡ Ok zs
-    → (x : X) × ((xs : List X) × (r ≡ Ok x) × (rs ≡ Ok xs) × (zs ≡ x ∷ xs))
-front (Err e) rs zs is = absurd cc
-front (Ok x) (Err e) zs is = absurd cc
-front (Ok x) (Ok xs) zs is = (x, (xs, refl, refl, cc))
-
-same_number : (m n : ℕ) → (m == n) ≡ true → m ≡ n
-same_number m n is = grind arith
+use Rattle.planner.proofs.JoinedKeys.{same_number}
 
 -- ---- types
 

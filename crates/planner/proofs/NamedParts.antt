@@ -1,7 +1,7 @@
 -- The parts of a tree name no more than the tree.
 use Rattle.std.proofs.Common.{◌≡◌, Bool, true, false, ◌||◌, List, [], ◌∷◌, ◌++◌, map, flat_map, Some, None, refl, subst, sym, ◌∙◌}
 use Rattle.std.specs.List.{list_any, AllByRecursion}
-use Rattle.meaning.proofs.Tests.{or_second}
+use Rattle.meaning.proofs.Tests.{or_second, or_first}
 use Rattle.sql_syntax.specs.declared.tree.Arm.{Arm}
 use Rattle.sql_syntax.specs.declared.tree.Expr.{Expr}
 use Rattle.sql_syntax.specs.declared.tree.Expr.TheOpen as node
@@ -14,10 +14,6 @@ use Rattle.planner_expressions.specs.Uses.{names, names_arm, names_node, names_e
 use Rattle.planner_expressions.proofs.Replaced.{parts_give, arm_gives}
 use Rattle.planner.proofs.Topmost.{given, joined, passes, below}
 use Rattle.planner.proofs.TypedTrees.{both_all}
-
-or_first : (a b : Bool) → a ≡ true → (a || b) ≡ true
-or_first true b is = refl
-or_first false b is = absurd cc
 
 module _ (wanted : Place → Bool) where
   -- each column of that name is wanted

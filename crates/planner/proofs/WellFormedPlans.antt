@@ -1,5 +1,5 @@
 -- The plan of a query that shows something and whose literals fit is well-formed.
-use Rattle.std.proofs.Common.{◌≡◌, ◌≢◌, ℕ, zero, suc, ◌+◌, ◌<◌, ◌==◌, Bool, true, false, ◌||◌, not, List, [], ◌∷◌, map, filter, flat_map, length, rules, pos, Option, Some, None, option_to_list, slice_get, slice_index_or, Result, Ok, Err, IfOk, refl, ap, subst, sym, ◌∙◌, arith}
+use Rattle.std.proofs.Common.{◌≡◌, ◌≢◌, ℕ, zero, suc, ◌+◌, ◌<◌, ◌==◌, Bool, true, false, ◌||◌, List, [], ◌∷◌, map, filter, flat_map, length, rules, pos, Option, Some, None, option_to_list, slice_get, slice_index_or, Result, Ok, Err, IfOk, refl, ap, subst, sym, ◌∙◌, arith}
 use Rattle.std.specs.Prelude.{All}
 use Rattle.std.specs.List.{list_any, AllByRecursion, AllZip}
 use Rattle.std.proofs.lemmas.List.{length-map}
@@ -21,7 +21,7 @@ use Rattle.meaning.specs.declared.catalog.Dimension.{Dimension}
 use Rattle.meaning.specs.declared.value.Value.TheVariants as value
 use Rattle.meaning.specs.declared.value.ColType.{ColType}
 use Rattle.meaning.specs.declared.value.ColType.TheVariants as of_type
-use Rattle.meaning.proofs.Tests.{both}
+use Rattle.meaning.proofs.Tests.{both, not_true}
 use Rattle.sql_syntax.specs.Literals.{has_only_fitting_literals}
 use Rattle.sql_syntax.specs.declared.tree.Arm.{Arm}
 use Rattle.sql_syntax.specs.declared.tree.Expr.{Expr}
@@ -307,10 +307,6 @@ pairwise_none R [] [] each is = refl
 pairwise_none R [] (y ∷ ys) each is = absurd each
 pairwise_none R (x ∷ xs) ys each is = absurd cc
 
-not_grouped : (b : Bool) → not b ≡ true → b ≡ false
-not_grouped true is = absurd cc
-not_grouped false is = refl
-
 -- ---- plans
 
 typed_alike_all : {X : Type 0} (P Q R : X → Type 0) (xs : List X) → ((x : X) → P x → Q x → R x) → AllByRecursion P xs → AllByRecursion Q xs → AllByRecursion R xs
@@ -382,7 +378,7 @@ module _ (catalog : Catalog) (q : Query) (p : Plan) (parts : AreParts catalog q 
             };
         shown = λ none. some (pairwise_none (λ (x : plan_item.Item) (i : Item). Unit {0}) p.items q.items each none);
         plain = λ is.
-            let grouped = not_grouped (is_grouped s q) (sym parts.plain ∙ is) in
+            let grouped = not_true (is_grouped s q) (sym parts.plain ∙ is) in
             ap length (parts.keys_as ∙ ap (λ (b : Bool). map (key_of s) (key_trees b q)) grouped) ∙ length-map (key_trees false q) (key_of s) ∙ length-map q.items (λ (i : Item). i.expr)
             ∙ sym (pairwise_length (λ (x : plan_item.Item) (i : Item). Unit {0}) p.items q.items each);
       }

@@ -3,6 +3,7 @@ use Rattle.std.proofs.Common.{◌≡◌, Bool, true, false, ◌&&◌, List, [], 
 use Rattle.std.specs.List.{list_all}
 use Rattle.std.proofs.lemmas.List.{append-nil}
 use Rattle.meaning.specs.Results.{all_ok, and_then}
+use Rattle.meaning.proofs.Tests.{and_true}
 use Rattle.planner_expressions.specs.declared.fault.PlanFault.{PlanFault}
 use Rattle.planner_expressions.specs.declared.sort.Sort.{Sort}
 use Rattle.planner_expressions.specs.declared.sort.Sort.TheVariants.{Truth}
@@ -20,10 +21,6 @@ use Rattle.sql_syntax.specs.declared.tree.Expr.TheFolds.{the_lemmas}
 and_assoc : (a b c : Bool) → ((a && b) && c) ≡ (a && (b && c))
 and_assoc true b c = refl
 and_assoc false b c = refl
-
-and_true : (a : Bool) → (a && true) ≡ a
-and_true true = refl
-and_true false = refl
 
 pub behind_known : (f : Sort) (b : Bool) (xs : List Sort) → behind (record { first = Some f; alike = b }) xs ≡ record { first = Some f; alike = b && list_all (same_sort f) xs }
 behind_known f b [] = ap (λ (x : Bool). record { first = Some f; alike = x }) (sym (and_true b))

@@ -7,13 +7,14 @@ use Rattle.std.proofs.lemmas.List.{length-map}
 use Rattle.meaning.specs.Limits.{max_joins}
 use Rattle.meaning.specs.Results.{and_then}
 use Rattle.meaning.specs.TableLaws.{column_types, joined_types}
-use Rattle.meaning.specs.Typing.{Valued, RowTypes, is_column_type, same_type}
+use Rattle.meaning.specs.Typing.{Valued, RowTypes, is_column_type}
 use Rattle.meaning.specs.declared.catalog.Catalog.{Catalog}
 use Rattle.meaning.specs.declared.catalog.Column.{Column}
 use Rattle.meaning.specs.declared.catalog.Dimension.{Dimension}
 use Rattle.meaning.specs.declared.value.ColType.{ColType}
 use Rattle.meaning.specs.declared.value.ColType.TheVariants as of_type
 use Rattle.meaning.proofs.Tests.{both, all_append, all_imply}
+use Rattle.meaning.proofs.Typed.{type_itself}
 use Rattle.sql_syntax.specs.declared.tree.Table as written
 use Rattle.sql_syntax.specs.declared.tree.Joined.{Joined}
 use Rattle.sql_syntax.specs.declared.tree.Source.{Source}
@@ -35,10 +36,6 @@ plus_zero n = grind arith
 
 plus_next : (n i : ℕ) → n + suc i ≡ (n + 1) + i
 plus_next n i = grind arith
-
-same_itself : (kind : ColType) → same_type kind kind ≡ true
-same_itself of_type.Int = refl
-same_itself of_type.Text = refl
 
 zero_first : (n : ℕ) → 0 < suc n
 zero_first n = omega arith
@@ -96,7 +93,7 @@ types_stand types name join key all n (c ∷ cs) is at =
     let here : slice_get (types_in types join) n ≡ Some c.col_type = ap (λ (ts : List ColType). slice_get ts n) is ∙ sym (at 0 ∙ ap (slice_get all) (plus_zero n)) in
     let rest = types_stand types name join key all (n + 1) cs is (λ i. at (suc i) ∙ ap (slice_get all) (plus_next n i)) in
     both (is_column_type (slice_get (types_in types join) n) (Valued c.col_type)) _
-    (ap (λ (o : Option ColType). is_column_type o (Valued c.col_type)) here ∙ same_itself c.col_type) rest
+    (ap (λ (o : Option ColType). is_column_type o (Valued c.col_type)) here ∙ type_itself c.col_type) rest
 
 no_keys_stand : (keys name : List ℕ) (n : ℕ) (cs : List Column) → list_all (has_its_key keys) (map (place_of_column name None None) (enumerate_from n cs)) ≡ true
 no_keys_stand keys name n [] = refl

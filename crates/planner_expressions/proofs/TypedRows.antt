@@ -1,5 +1,5 @@
 -- What has no fault and has literals that fit becomes an expression that has the type of its sort.
-use Rattle.std.proofs.Common.{rules, ◌≡◌, ℕ, Bool, true, false, ◌&&◌, ◌||◌, List, [], ◌∷◌, ◌++◌, map, Option, Some, None, option_map, option_to_list, unwrap_or, Result, Ok, Err, refl, ap, subst, sym, ◌∙◌}
+use Rattle.std.proofs.Common.{rules, ◌≡◌, ℕ, Bool, true, false, ◌&&◌, List, [], ◌∷◌, ◌++◌, map, Option, Some, None, option_map, option_to_list, unwrap_or, Result, Ok, Err, refl, ap, subst, sym, ◌∙◌}
 use Rattle.std.specs.List.{list_all}
 use Rattle.meaning.specs.Results.{all_ok, and_then, with_result}
 use Rattle.meaning.specs.Typing as type
@@ -10,7 +10,7 @@ use Rattle.meaning.specs.declared.expr.Expr.TheVariants as expr
 use Rattle.meaning.specs.declared.value.ColType.{ColType}
 use Rattle.meaning.specs.declared.value.ColType.TheVariants as of_type
 use Rattle.meaning.specs.declared.value.Value.TheVariants as value
-use Rattle.meaning.proofs.Tests.{first_of as left_of, second_of as right_of, both, or_second, all_first, all_rest, all_filter}
+use Rattle.meaning.proofs.Tests.{first_of as left_of, second_of as right_of, both, or_second, all_first, all_rest, all_filter, or_first}
 use Rattle.sql_syntax.specs.declared.tree.Arm.{Arm}
 use Rattle.sql_syntax.specs.declared.tree.Expr.{Expr}
 use Rattle.sql_syntax.specs.declared.tree.Expr.TheOpen as node
@@ -59,7 +59,7 @@ both_sorts a b k z is =
     let second = goes_there b (λ y. k first.0 y) z first.2 in
     (first.0, (second.0, first.1, second.1, second.2))
 
-front : {X : Type 0} (r : Result X PlanFault) (rs : Result (List X) PlanFault) (zs : List X) → with_result r rs ≡ Ok zs
+pub front : {X : Type 0} (r : Result X PlanFault) (rs : Result (List X) PlanFault) (zs : List X) → with_result r rs ≡ Ok zs
     → (x : X) × ((xs : List X) × (r ≡ Ok x) × (rs ≡ Ok xs) × (zs ≡ x ∷ xs))
 front (Err e) rs zs is = absurd cc
 front (Ok x) (Err e) zs is = absurd cc
@@ -70,10 +70,6 @@ some_there (Err f) o is = absurd cc
 some_there (Ok x) o is = (x, refl, cc)
 
 -- ---- sorts that are alike
-
-or_first : (a b : Bool) → a ≡ true → (a || b) ≡ true
-or_first true b is = refl
-or_first false b is = absurd cc
 
 value_alike : (x : Sort) → is_value x ≡ true → are_alike (x ∷ []) ≡ true
 value_alike Integer is = refl

@@ -1,5 +1,5 @@
 -- The arms of CASE, one after the other.
-use Rattle.std.specs.Prelude.{◌≡◌, ◌≢◌, ℕ, ◌<◌, ◌⊎◌, Bool, true, false, not, if◌then◌else◌}
+use Rattle.std.specs.Prelude.{◌≡◌, ◌≢◌, ℕ, ◌<◌, Bool, true, false, not, if◌then◌else◌}
 use Rattle.std.proofs.Common.{refl, sym, ◌∙◌, ap, subst, inl, inr}
 use Rattle.meaning.specs.declared.value.ColType.{ColType}
 use Rattle.meaning.specs.declared.outcome.Truth.TheVariants.{True, False, Unknown}
@@ -8,6 +8,7 @@ use Rattle.meaning.specs.declared.outcome.Outcome.{Outcome}
 use Rattle.meaning.specs.declared.outcome.Outcome.TheVariants as gives
 use Rattle.meaning.specs.Operators.{case_of}
 use Rattle.meaning.specs.Typing.{Valued}
+use Rattle.meaning.proofs.Tests.{not_true}
 use Rattle.vectors.specs.Selection.{Positions, is_among, without}
 use Rattle.vector_operators.specs.declared.given.Given.{Given}
 use Rattle.vector_operators.specs.declared.given.Given.TheVariants as given
@@ -15,11 +16,7 @@ use Rattle.vector_operators.specs.Evaluated.{Held, IsBefore, IsWithin, Evaluates
 use Rattle.vector_operators.specs.Given.{AreNarrowed, given_at, is_of_kind, is_true_lane, ArePut}
 use Rattle.primitives.specs.Nodes.{Decides, Gives, IsPassedOver, IsTaken, Passes}
 use Rattle.vector_operators.proofs.Among.{filter_stays, filter_stood}
-use Rattle.vector_operators.proofs.Composes.{before_old, lane_is, origin_then}
-
-bool_cases : (b : Bool) → (b ≡ true) ⊎ (b ≡ false)
-bool_cases true = inl refl
-bool_cases false = inr refl
+use Rattle.vector_operators.proofs.Composes.{before_old, lane_is, origin_then, bool_cases}
 
 true_is : (o : Outcome) → is_true_lane o ≡ true → o ≡ gives.Truth True
 true_is (gives.Truth True) h = refl
@@ -87,10 +84,6 @@ module _ (kind : ColType) (meant c v rest : ℕ → Outcome) (s left lanes : Pos
 
   left_of : (i : ℕ) → IsWithin left2 i → IsWithin left i × (not (is_among lanes.list i) ≡ true)
   left_of i w = let u = filter_stood (λ p. not (is_among lanes.list p)) left.list i w.1 in ((w.0, u.0), u.1)
-
-  not_true : (b : Bool) → not b ≡ true → b ≡ false
-  not_true true e = absurd cc
-  not_true false e = refl
 
   below_lanes : (i : ℕ) → i < left.below → i < lanes.below
   below_lanes i w = subst (λ (k : ℕ). i < k) (sym same) w

@@ -21,11 +21,12 @@ use Rattle.meaning.specs.declared.expr.Expr.TheVariants as node
 use Rattle.meaning.specs.declared.expr.Expr.TheFolds.{the_lemmas}
 use Rattle.meaning.specs.declared.joined_row.JoinedRow.{JoinedRow}
 use Rattle.meaning.specs.Expr.{arms_at, eval, eval_arm, outcomes}
-use Rattle.meaning.specs.Operators.{and_of, arith_of, between_of, cases_of, compare_of, first_of, is_null_of, like_of, minus_of, not_if, not_of, one_of, or_of}
+use Rattle.meaning.specs.Operators.{and_of, arith_of, between_of, cases_of, compare_of, first_of, is_null_of, like_of, minus_of, not_if, not_of, or_of}
 use Rattle.meaning.specs.References.{Reference, FactColumn, JoinColumn, GroupKey, GroupAggregate, columns_used, referenced}
 use Rattle.meaning.specs.Typing.{ExprType, Valued, Boolean, RowTypes, fits_row_types, gives_expr_type, has_type, is_boolean, is_column_type, is_integer, is_literal_type}
 use Rattle.meaning.proofs.Tests.{first_of as first_test}
 use Rattle.meaning.proofs.Typed.{typed}
+use Rattle.meaning.proofs.Evaluation.{eval-Minus, eval-Arithmetic, eval-Compare, eval-Not, eval-And, eval-Or, eval-IsNull, eval-Between, eval-In, eval-Like, eval-Coalesce, eval-Case, eval-Literal}
 use Rattle.vectors.specs.Selection.{Positions}
 use Rattle.vectors.specs.Vector.{BatchSpec, same_place}
 use Rattle.vector_operators.specs.declared.given.Given.{Given}
@@ -57,44 +58,6 @@ regives type type' m m' s h n g is same there = record {
   evaluates = restated m m' (IsWithin s) h n (given_at g) (λ i w. same i) there.evaluates;
   kind = subst (λ (t : ExprType). is_of_kind t g ≡ true) is there.kind;
 }
-
--- ---- what each node means
-
-eval-Minus : (a : Expr) (r : JoinedRow) → eval (node.Minus a) r ≡ minus_of (eval a r)
-eval-Minus a r = search (rules, the_lemmas)
-
-eval-Arithmetic : (op : ArithmeticOperator) (a b : Expr) (r : JoinedRow) → eval (node.Arithmetic op a b) r ≡ arith_of op (eval a r) (eval b r)
-eval-Arithmetic op a b r = search (rules, the_lemmas)
-
-eval-Compare : (op : ComparisonOperator) (a b : Expr) (r : JoinedRow) → eval (node.Compare op a b) r ≡ compare_of op (eval a r) (eval b r)
-eval-Compare op a b r = search (rules, the_lemmas)
-
-eval-Not : (a : Expr) (r : JoinedRow) → eval (node.Not a) r ≡ not_of (eval a r)
-eval-Not a r = search (rules, the_lemmas)
-
-eval-And : (a b : Expr) (r : JoinedRow) → eval (node.And a b) r ≡ and_of (eval a r) (eval b r)
-eval-And a b r = search (rules, the_lemmas)
-
-eval-Or : (a b : Expr) (r : JoinedRow) → eval (node.Or a b) r ≡ or_of (eval a r) (eval b r)
-eval-Or a b r = search (rules, the_lemmas)
-
-eval-IsNull : (n : Bool) (x : Expr) (r : JoinedRow) → eval (node.IsNull n x) r ≡ not_if n (is_null_of (eval x r))
-eval-IsNull n x r = search (rules, the_lemmas)
-
-eval-Between : (n : Bool) (x low high : Expr) (r : JoinedRow) → eval (node.Between n x low high) r ≡ not_if n (between_of (eval x r) (eval low r) (eval high r))
-eval-Between n x low high r = search (rules, the_lemmas)
-
-eval-In : (n : Bool) (x : Expr) (list : List Expr) (r : JoinedRow) → eval (node.In n x list) r ≡ not_if n (one_of (eval x r) (outcomes list r))
-eval-In n x list r = search (rules, the_lemmas)
-
-eval-Like : (n : Bool) (x : Expr) (pattern : List ℕ) (r : JoinedRow) → eval (node.Like n x pattern) r ≡ not_if n (like_of pattern (eval x r))
-eval-Like n x pattern r = search (rules, the_lemmas)
-
-eval-Coalesce : (list : List Expr) (r : JoinedRow) → eval (node.Coalesce list) r ≡ first_of (outcomes list r)
-eval-Coalesce list r = search (rules, the_lemmas)
-
-eval-Case : (arms : List Arm) (otherwise : Expr) (r : JoinedRow) → eval (node.Case arms otherwise) r ≡ cases_of (arms_at r (map eval_arm arms)) (eval otherwise r)
-eval-Case arms otherwise r = search (rules, the_lemmas)
 
 -- ---- columns and literals
 
@@ -131,9 +94,6 @@ pub aggregate_node : (batch : BatchSpec) (s : Positions) (h : Held) (at : ℕ) (
     → g ≡ given_of (option_map (λ column. column.lanes) (find (λ column. same_place column.place (place_of (GroupAggregate at))) batch.columns))
     → ExprGives batch (node.Aggregate at) (IsWithin s) h h g
 aggregate_node batch s h at g long is = reference_gives batch s h (node.Aggregate at) (GroupAggregate at) g (λ types type. search (rules, the_lemmas)) (search (rules, the_lemmas)) (λ r. search (rules, the_lemmas)) long is
-
-eval-Literal : (v : Value) (r : JoinedRow) → eval (node.Literal v) r ≡ gives.Value v
-eval-Literal v r = search (rules, the_lemmas)
 
 has-Literal : (types : RowTypes) (v : Value) (type : ExprType) → has_type types (node.Literal v) type ≡ is_literal_type v type
 has-Literal types v type = search (rules, the_lemmas)

@@ -8,8 +8,8 @@ use Rattle.meaning.specs.declared.value.ColType.TheVariants as of_type
 use Rattle.meaning.specs.declared.value.Value.{Value}
 use Rattle.meaning.specs.declared.value.Value.TheVariants.{Null, Int, Text}
 use Rattle.meaning.specs.Order.{is_null, number, bytes}
+use Rattle.meaning.proofs.Tests.{both}
 use Rattle.encodings.specs.Block.{Block, is_block, values_of}
-use Rattle.fragment_file.proofs.HeaderLaws.{all_of}
 use Rattle.fragment_file.proofs.TakenValues.{values_taken}
 use Rattle.fragment_file.specs.Copying.{is_taken}
 use Rattle.vectors.specs.Lanes.{lane_value, nulls_of}
@@ -50,7 +50,7 @@ all_take p zero vs e = refl
 all_take p (suc n) [] e = refl
 all_take p (suc n) (v ∷ vs) e =
     let h = and_parts (p v) (list_all p vs) e in
-    all_of (p v) (list_all p (take n vs)) h.0 (all_take p n vs h.1)
+    both (p v) (list_all p (take n vs)) h.0 (all_take p n vs h.1)
 
 abbrev window : Block → ℕ → ℕ → List Value
 window b first rows = take rows (drop first (values_of b))

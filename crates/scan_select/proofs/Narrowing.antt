@@ -12,6 +12,7 @@ use Rattle.meaning.specs.declared.outcome.Outcome.TheVariants as gives
 use Rattle.meaning.specs.declared.expr.Expr.{Expr}
 use Rattle.meaning.specs.declared.joined_row.JoinedRow.{JoinedRow}
 use Rattle.meaning.specs.Expr.{eval}
+use Rattle.meaning.proofs.Tests.{both, and_true}
 use Rattle.vectors.specs.declared.vector.Vector.{Vector}
 use Rattle.vectors.specs.declared.vector.Vector.TheVariants as vector
 use Rattle.vectors.specs.Selection.{is_among}
@@ -126,7 +127,7 @@ pub one_behind : (m m' : ℕ → Outcome) (old mid new : List ℕ) (held first n
 one_behind m m' old mid new held first now one two = record {
   sound = λ i among before f faults. elim (fault_of_both (m i) (m' i) f faults) [
     | inl e ↦ one.sound i among (earlier i before) f e
-    | inr e ↦ two.sound i (one.kept i (earlier i before) ∙ both among e.0) before f e.1
+    | inr e ↦ two.sound i (one.kept i (earlier i before) ∙ both _ _ among e.0) before f e.1
   ];
   kept = λ i before. two.kept i before ∙ ap (λ (b : Bool). b && is_kept (m' i)) (one.kept i (earlier i before))
       ∙ in_order (is_among old i) (is_kept (m i)) (is_kept (m' i)) ∙ ap (λ (b : Bool). is_among old i && b) (sym (kept_both (m i) (m' i)));
@@ -150,9 +151,6 @@ one_behind m m' old mid new held first now one two = record {
     earlier : (i : ℕ) → IsBefore i now → IsBefore i first
     earlier = before_old m' (λ i. is_among mid i ≡ true) first now two.origin
 
-    both : {a b : Bool} → a ≡ true → b ≡ true → (a && b) ≡ true
-    both e f = rw (e, f) refl
-
     second : Finds m' (λ i. is_among mid i ≡ true) first now → Finds (λ i. behind (m i) (behind (m' i) (gives.Truth True))) (λ i. is_among old i ≡ true) held now
     second f =
         let parts = and_parts (is_among old f.place) (is_kept (m f.place)) (sym (one.kept f.place f.is_before) ∙ f.is_selected) in
@@ -173,10 +171,6 @@ none_yet rows old held = record {
   within = λ i among. among;
   origin = inl refl;
 }
-  where
-    and_true : (b : Bool) → (b && true) ≡ b
-    and_true true = refl
-    and_true false = refl
 
 -- one more of the conditions
 pub one_more_condition : (cs : List Expr) (k : ℕ) (c : Expr) (rows : List JoinedRow) (old mid new : List ℕ) (held first now : Held) → take (k + 1) cs ≡ take k cs ++ c ∷ []

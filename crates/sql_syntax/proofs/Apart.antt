@@ -26,7 +26,7 @@ use Rattle.sql_syntax.specs.Phrases.{word, mark, not_if, bracketed, aggregate_wo
 use Rattle.sql_syntax.specs.CanonicalTokens.{Printed, place, free, doubled, integer_tokens, list_tokens, arms_tokens, else_tokens, printed, printed_arm}
 use Rattle.sql_syntax.proofs.Names.{IsProper, lower_name}
 use Rattle.sql_syntax.proofs.ReadAgain.{AreApart, heads_minus}
-use Rattle.sql_syntax.proofs.Canonical.{good, placed, printed_not, printed_or, printed_and, printed_reckon, printed_minus, printed_integer, printed_text, printed_column, printed_rows, printed_aggregate, printed_list, printed_case, printed_compare, printed_between, printed_in, printed_like, printed_null, printed_arm_is}
+use Rattle.sql_syntax.proofs.Canonical.{good, placed, printed_not, printed_or, printed_and, printed_reckon, printed_minus, printed_integer, printed_text, printed_column, printed_rows, printed_aggregate, printed_list, printed_case, printed_compare, printed_between, printed_in, printed_like, printed_null, printed_arm_is, next_primary}
 
 -- ---- what may stand behind
 
@@ -132,16 +132,6 @@ joined_apt (operator.Reckon op) a b x y =
 abbrev IsPrimary : Level → Bool
 IsPrimary level.Primary = true
 IsPrimary _ = false
-
-next_primary : (l : Level) → IsPrimary l ≡ true → IsPrimary (next l) ≡ true
-next_primary level.Primary h = refl
-next_primary level.Disjunction h = absurd cc
-next_primary level.Conjunction h = absurd cc
-next_primary level.Negation h = absurd cc
-next_primary level.Predicate h = absurd cc
-next_primary level.Sum h = absurd cc
-next_primary level.Term h = absurd cc
-next_primary level.Factor h = absurd cc
 
 -- no primary begins with a minus
 no_minus : {l : Level} {ts : List Terminal} {e : Expr} → Spells l ts e → IsPrimary l ≡ true → (rest : List Terminal) → not (heads_minus (ts ++ rest)) ≡ true

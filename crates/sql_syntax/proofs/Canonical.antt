@@ -210,7 +210,7 @@ abbrev IsPrimary : Level → Bool
 IsPrimary level.Primary = true
 IsPrimary _ = false
 
-next_primary : (l : Level) → IsPrimary l ≡ true → IsPrimary (next l) ≡ true
+pub next_primary : (l : Level) → IsPrimary l ≡ true → IsPrimary (next l) ≡ true
 next_primary level.Primary h = refl
 next_primary level.Disjunction h = absurd cc
 next_primary level.Conjunction h = absurd cc

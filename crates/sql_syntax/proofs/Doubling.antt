@@ -4,6 +4,7 @@ use Rattle.std.specs.List.{before_first, after_first, position_or_len}
 use Rattle.std.proofs.lemmas.Bool.{eqb-true}
 use Rattle.std.proofs.lemmas.List.{append-nil, length-append}
 use Rattle.std.proofs.lemmas.List.Sums.{split_at_first, passes_at_first}
+use Rattle.meaning.proofs.Tests.{not_true}
 use Rattle.sql_syntax.specs.CanonicalTokens.{doubled}
 use Rattle.sql_syntax.specs.Phrases.{undoubled}
 use Rattle.sql_syntax.specs.Quoting.{without_quote}
@@ -16,17 +17,13 @@ is_quote b = eqb b 39
 abbrev is_other : ℕ → Bool
 is_other b = not (eqb b 39)
 
-other_is : (test : Bool) → not test ≡ true → test ≡ false
-other_is true h = absurd cc
-other_is false h = refl
-
 doubled_front : (f rest : List ℕ) → AllPass is_other f → doubled (f ++ rest) ≡ f ++ doubled rest
 doubled_front [] rest all = refl
-doubled_front (b ∷ f) rest all = rw (other_is (eqb b 39) all.0) (ap (λ (x : List ℕ). b ∷ x) (doubled_front f rest all.1))
+doubled_front (b ∷ f) rest all = rw (not_true (eqb b 39) all.0) (ap (λ (x : List ℕ). b ∷ x) (doubled_front f rest all.1))
 
 undoubled_front : (f rest : List ℕ) → AllPass is_other f → undoubled (f ++ rest) ≡ f ++ undoubled rest
 undoubled_front [] rest all = refl
-undoubled_front (b ∷ f) rest all = undouble_other b (f ++ rest) (other_is (eqb b 39) all.0) ∙ ap (λ (x : List ℕ). b ∷ x) (undoubled_front f rest all.1)
+undoubled_front (b ∷ f) rest all = undouble_other b (f ++ rest) (not_true (eqb b 39) all.0) ∙ ap (λ (x : List ℕ). b ∷ x) (undoubled_front f rest all.1)
 
 front_passes : (bs : List ℕ) → AllPass is_other (before_first is_quote bs)
 front_passes bs = run_passes is_other bs

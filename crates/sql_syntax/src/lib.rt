@@ -8,10 +8,10 @@ pub mod keyword;
 pub mod laws;
 pub mod lexer;
 mod printer;
-mod printing;
 pub mod quoting;
 pub mod strength;
 pub mod token;
+mod token_text;
 pub mod tree;
 
-pub use printing::print;
+pub use printer::print;

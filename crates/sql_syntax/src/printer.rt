@@ -1,16 +1,24 @@
-//! Tokens, written one behind the other with no blank that isn't needed.
-ghost use Rattle.std.specs.Prelude.{◌≡◌, ◌++◌, ◌∷◌, Some, [], true, false, OnOk, string_bytes};
-ghost use Rattle.std.specs.Fmt.{decimal};
-ghost use Rattle.sql_syntax.specs.CanonicalTokens.{doubled, integer_tokens, column_tokens};
-ghost use Rattle.sql_syntax.specs.Phrases.{not_if};
-ghost use Rattle.sql_syntax.specs.Printing.{written, blank_before, with_token, with_tokens};
-ghost use Rattle.sql_syntax.specs.Queries.{sign_text, token_text, ends_operand, hugs_left, hugs_right};
-ghost use Rattle.sql_syntax.specs.Tokens.{terminal_of, text, sign_is, integer};
-ghost use Rattle.sql_syntax.specs.declared.token.Sign.TheVariants.{Minus};
+//! The canonical text of a tree, written token by token with no blank that isn't needed.
+ghost use Rattle.std.specs.Prelude.{◌≡◌, ◌++◌, ◌∷◌, [], true, false, Some, IfOk, OnOk, map, flat_map, option_map};
+ghost use Rattle.sql_syntax.specs.Canonical.{canonical};
+ghost use Rattle.sql_syntax.specs.CanonicalTokens.{doubled, place, printed, printed_arm, integer_tokens, column_tokens, list_tokens, arms_tokens, else_tokens};
+ghost use Rattle.sql_syntax.specs.Phrases.{aggregate_word, bracketed, mark, not_if};
+ghost use Rattle.sql_syntax.specs.Printing.{written, with_token, with_tokens, behind_commas, more_items, more_keys, joined_tokens, end_tokens, condition_tokens, source_tokens};
+ghost use Rattle.sql_syntax.specs.Queries.{query_tokens, with_commas, item_tokens, alias_tokens, table_tokens, others_tokens_of, clause_tokens, groups_tokens_of, key_tokens, target_token, direction_tokens, order_tokens_of, limit_tokens_of};
+ghost use Rattle.sql_syntax.specs.Strength.{next, level_of, token_of, compares};
+ghost use Rattle.sql_syntax.specs.Tokens.{terminal_of, keyword, text, sign_is, integer};
+ghost use Rattle.sql_syntax.specs.declared.keyword.Keyword.TheVariants.{Count, Is, Null, Like};
+ghost use Rattle.sql_syntax.specs.declared.strength.Operator.TheVariants.{Reckon};
+ghost use Rattle.sql_syntax.specs.declared.token.Sign.TheVariants.{Minus, Star};
 
 use crate::keyword::Keyword;
-use crate::quoting::push_doubled;
+use crate::strength::Level;
 use crate::token::{Sign, Token};
+use crate::token_text::{ends_operand, hugs_left, hugs_right, put_blank, put_quoted, put_token};
+use crate::tree::{
+    Aggregate, Arithmetic, Arm, Direction, Expr, Item, Joined, OrderKey, OrderTarget, Query, Table,
+};
+use meaning::boxed::Boxed;
 use meaning::text::Text;
 use std::alloc::{AllocError, Global};
 
@@ -21,6 +29,37 @@ pub struct Printer {
     pub out: String,
     pub operand: bool,
     pub hugs: bool,
+}
+
+/// The canonical text of a query: keywords in capitals, names in lower case, brackets only where
+/// the grammar needs them, and no blank that isn't needed.
+#[tactic(auto, using(crate::proofs::Writing::writes), unfolding(crate::specs::Canonical::canonical))]
+pub fn print(alloc: Global, query: &Query) -> Result<Text, AllocError>
+    ensures { IfOk result (λ printed. printed ≡ canonical query.now) }
+{
+    let mut printer = Printer::new(alloc);
+    printer.put_query(query)?;
+    let Printer { out, .. } = printer;
+    Ok(Text::from_string(out))
+}
+
+/// The strongest rule that gives an expression without brackets.
+pub fn strength(expr: &Expr) -> Level
+    ensures { result ≡ (printed expr.now).level }
+{
+    match expr {
+        Expr::Or { .. } => Level::Disjunction,
+        Expr::And { .. } => Level::Conjunction,
+        Expr::Not(_) => Level::Negation,
+        Expr::Compare { .. }
+        | Expr::IsNull { .. }
+        | Expr::Between { .. }
+        | Expr::In { .. }
+        | Expr::Like { .. } => Level::Predicate,
+        Expr::Arithmetic { operator, .. } => operator.level(),
+        Expr::Minus(_) | Expr::Integer(_) => Level::Factor,
+        _ => Level::Primary,
+    }
 }
 
 impl Printer {
@@ -106,91 +145,460 @@ impl Printer {
             Ok(())
         }
     }
-}
 
-fn put_blank(out: &mut String, hugs: bool) -> Result<(), AllocError>
-    ensures { OnOk result (string_bytes out.new ≡ string_bytes out.old ++ blank_before hugs) }
-{
-    if hugs { Ok(()) } else { out.push_str(" ") }
-}
+    #[tactic(auto, using(crate::proofs::Writing::with_append))]
+    fn put_query(&mut self, query: &Query) -> Result<(), AllocError>
+        ensures { OnOk result (written self.new
+            ≡ with_tokens (written self.old) (query_tokens query.now)) }
+    {
+        self.put(Token::Keyword(Keyword::Select))?;
+        self.put_items(query.items.as_slice())?;
+        self.put_source(query)
+    }
 
-fn put_quoted(out: &mut String, content: &str) -> Result<(), AllocError>
-    ensures { OnOk result (string_bytes out.new ≡ string_bytes out.old
-        ++ token_text (text (doubled content.now))) }
-{
-    out.push_str("'")?;
-    push_doubled(out, content)?;
-    out.push_str("'")
-}
+    #[tactic(auto, using(crate::proofs::Writing::with_append))]
+    fn put_source(&mut self, query: &Query) -> Result<(), AllocError>
+        ensures { OnOk result (written self.new
+            ≡ with_tokens (written self.old) (source_tokens query.now)) }
+    {
+        self.put(Token::Keyword(Keyword::From))?;
+        self.put_table(&query.source.first)?;
+        self.put_others(query.source.others.as_slice())?;
+        self.put_conditions(query)
+    }
 
-fn put_token(out: &mut String, token: Token<'_>) -> Result<(), AllocError>
-    ensures { OnOk result (string_bytes out.new ≡ string_bytes out.old
-        ++ token_text (terminal_of token.entry)) }
-{
-    match token {
-        Token::Keyword(keyword) => out.push_str(keyword.spelling()),
-        Token::Name(name) => out.push_str(name),
-        Token::Integer(number) => put_number(out, number),
-        Token::Text(content) => put_between_quotes(out, content),
-        Token::Sign(sign) => out.push_str(sign.spelling()),
-        Token::LeftOut(_)
-        | Token::IntegerOutOfRange
-        | Token::TextNotClosed
-        | Token::UnknownCharacter => Ok(()),
+    #[tactic(auto, using(crate::proofs::Writing::with_append))]
+    fn put_conditions(&mut self, query: &Query) -> Result<(), AllocError>
+        ensures { OnOk result (written self.new
+            ≡ with_tokens (written self.old) (condition_tokens query.now)) }
+    {
+        self.put_clause(Keyword::Where, &query.filter)?;
+        self.put_groups(query.group_by.as_slice())?;
+        self.put_clause(Keyword::Having, &query.having)?;
+        self.put_end(query)
+    }
+
+    #[tactic(auto, using(crate::proofs::Writing::with_append))]
+    fn put_end(&mut self, query: &Query) -> Result<(), AllocError>
+        ensures { OnOk result (written self.new
+            ≡ with_tokens (written self.old) (end_tokens query.now)) }
+    {
+        self.put_order(query.order_by.as_slice())?;
+        self.put_limit(query.limit)
+    }
+
+    #[tactic(auto, using(crate::proofs::Writing::items_first))]
+    fn put_items(&mut self, items: &[Item]) -> Result<(), AllocError>
+        ensures { OnOk result (written self.new
+            ≡ with_tokens (written self.old) (with_commas (map item_tokens items.now))) }
+    {
+        let Some((first, rest)) = items.split_first() else {
+            return Ok(());
+        };
+        self.put_item(first)?;
+        self.put_more_items(rest)
+    }
+
+    #[tactic(auto, using(crate::proofs::Writing::items_step))]
+    fn put_more_items(&mut self, items: &[Item]) -> Result<(), AllocError>
+        ensures { OnOk result (written self.new
+            ≡ with_tokens (written self.old) (more_items items.now)) }
+    {
+        for item in items {
+            self.put(Token::Sign(Sign::Comma))?;
+            self.put_item(item)?;
+        }
+        Ok(())
+    }
+
+    #[tactic(auto, using(crate::proofs::Writing::with_append))]
+    fn put_item(&mut self, item: &Item) -> Result<(), AllocError>
+        ensures { OnOk result (written self.new
+            ≡ with_tokens (written self.old) (item_tokens item.now)) }
+    {
+        self.put_at(Level::Disjunction, &item.expr)?;
+        self.put_alias(&item.alias)
+    }
+
+    fn put_alias(&mut self, alias: &Option<Text>) -> Result<(), AllocError>
+        ensures { OnOk result (written self.new
+            ≡ with_tokens (written self.old) (alias_tokens alias.now)) }
+    {
+        match alias {
+            Some(name) => {
+                self.put(Token::Keyword(Keyword::As))?;
+                self.put(Token::Name(name.as_str()))
+            }
+            None => Ok(()),
+        }
+    }
+
+    fn put_table(&mut self, table: &Table) -> Result<(), AllocError>
+        ensures { OnOk result (written self.new
+            ≡ with_tokens (written self.old) (table_tokens table.now)) }
+    {
+        self.put(Token::Name(table.name.as_str()))?;
+        self.put_alias(&table.alias)
+    }
+
+    #[tactic(auto, using(crate::proofs::Writing::others_step))]
+    fn put_others(&mut self, others: &[Joined]) -> Result<(), AllocError>
+        ensures { OnOk result (written self.new
+            ≡ with_tokens (written self.old) (others_tokens_of others.now)) }
+    {
+        for joined in others {
+            self.put_joined(joined)?;
+        }
+        Ok(())
+    }
+
+    #[tactic(auto, using(crate::proofs::Writing::with_append))]
+    fn put_joined(&mut self, joined: &Joined) -> Result<(), AllocError>
+        ensures { OnOk result (written self.new
+            ≡ with_tokens (written self.old) (joined_tokens joined.now)) }
+    {
+        match &joined.on {
+            Some(on) => {
+                self.put(Token::Keyword(Keyword::Join))?;
+                self.put_table(&joined.table)?;
+                self.put_behind(Token::Keyword(Keyword::On), Level::Disjunction, on)
+            }
+            None => {
+                self.put(Token::Sign(Sign::Comma))?;
+                self.put_table(&joined.table)
+            }
+        }
+    }
+
+    fn put_clause(&mut self, keyword: Keyword, condition: &Option<Expr>) -> Result<(), AllocError>
+        ensures { OnOk result (written self.new
+            ≡ with_tokens (written self.old) (clause_tokens keyword condition.now)) }
+    {
+        match condition {
+            Some(condition) => {
+                self.put_behind(Token::Keyword(keyword), Level::Disjunction, condition)
+            }
+            None => Ok(()),
+        }
+    }
+
+    #[tactic(auto, using(crate::proofs::Writing::with_append))]
+    fn put_groups(&mut self, groups: &[Expr]) -> Result<(), AllocError>
+        ensures { OnOk result (written self.new
+            ≡ with_tokens (written self.old) (groups_tokens_of groups.now)) }
+    {
+        if groups.is_empty() {
+            return Ok(());
+        }
+        self.put(Token::Keyword(Keyword::Group))?;
+        self.put(Token::Keyword(Keyword::By))?;
+        self.put_list(groups)
+    }
+
+    fn put_order(&mut self, keys: &[OrderKey]) -> Result<(), AllocError>
+        ensures { OnOk result (written self.new
+            ≡ with_tokens (written self.old) (order_tokens_of keys.now)) }
+    {
+        let Some((first, rest)) = keys.split_first() else {
+            return Ok(());
+        };
+        self.put(Token::Keyword(Keyword::Order))?;
+        self.put(Token::Keyword(Keyword::By))?;
+        self.put_keys(first, rest)
+    }
+
+    #[tactic(auto, using(crate::proofs::Writing::keys_first))]
+    fn put_keys(&mut self, first: &OrderKey, rest: &[OrderKey]) -> Result<(), AllocError>
+        ensures { OnOk result (written self.new
+            ≡ with_tokens (written self.old) (with_commas (map key_tokens
+            (first.now ∷ rest.now)))) }
+    {
+        self.put_key(first)?;
+        self.put_more_keys(rest)
+    }
+
+    #[tactic(auto, using(crate::proofs::Writing::keys_step))]
+    fn put_more_keys(&mut self, keys: &[OrderKey]) -> Result<(), AllocError>
+        ensures { OnOk result (written self.new
+            ≡ with_tokens (written self.old) (more_keys keys.now)) }
+    {
+        for key in keys {
+            self.put(Token::Sign(Sign::Comma))?;
+            self.put_key(key)?;
+        }
+        Ok(())
+    }
+
+    fn put_key(&mut self, key: &OrderKey) -> Result<(), AllocError>
+        ensures { OnOk result (written self.new
+            ≡ with_tokens (written self.old) (key_tokens key.now)) }
+    {
+        self.put(target_token(&key.target))?;
+        match key.direction {
+            Direction::Ascending => Ok(()),
+            Direction::Descending => self.put(Token::Keyword(Keyword::Desc)),
+        }
+    }
+
+    fn put_limit(&mut self, limit: Option<u64>) -> Result<(), AllocError>
+        ensures { OnOk result (written self.new
+            ≡ with_tokens (written self.old) (limit_tokens_of limit)) }
+    {
+        match limit {
+            Some(number) => {
+                self.put(Token::Keyword(Keyword::Limit))?;
+                self.put(Token::Integer(number))
+            }
+            None => Ok(()),
+        }
+    }
+
+    /// An expression at a place that takes those of a rule, in brackets where it binds less.
+    #[cycle(printing)]
+    #[tactic(auto, using(crate::proofs::Writing::with_append))]
+    fn put_at(&mut self, level: Level, expr: &Expr) -> Result<(), AllocError>
+        ensures { OnOk result (written self.new
+            ≡ with_tokens (written self.old) (place level (printed expr.now))) }
+    {
+        if level.rank() <= strength(expr).rank() {
+            self.put_expr(expr)
+        } else {
+            self.put(Token::Sign(Sign::Open))?;
+            self.put_expr(expr)?;
+            self.put(Token::Sign(Sign::Close))
+        }
+    }
+
+    /// An expression behind a token.
+    #[cycle(printing)]
+    fn put_behind(&mut self, token: Token<'_>, level: Level, expr: &Expr) -> Result<(), AllocError>
+        ensures { OnOk result (written self.new
+            ≡ with_tokens (written self.old) (terminal_of token.entry
+            ∷ place level (printed expr.now))) }
+    {
+        self.put(token)?;
+        self.put_at(level, expr)
+    }
+
+    #[cycle(printing)]
+    #[tactic(auto, using(crate::proofs::Writing::aggregate_step, crate::proofs::Writing::reckon_step, crate::proofs::Writing::compare_step, crate::proofs::Writing::and_step, crate::proofs::Writing::or_step, crate::proofs::Writing::null_step, crate::proofs::Writing::between_step, crate::proofs::Writing::in_step, crate::proofs::Writing::like_step, crate::proofs::Writing::case_step))]
+    fn put_expr(&mut self, expr: &Expr) -> Result<(), AllocError>
+        ensures { OnOk result (written self.new
+            ≡ with_tokens (written self.old) (printed expr.now).tokens) }
+    {
+        match expr {
+            Expr::Column { table, name } => self.put_column(table, name),
+            Expr::Integer(integer) => self.put_integer(*integer),
+            Expr::Text(content) => self.put_text(content.as_str()),
+            Expr::CountRows => self.put_count_rows(),
+            Expr::Aggregate { kind, argument } => {
+                self.put(Token::Keyword(aggregate_word(*kind)))?;
+                self.put_behind(Token::Sign(Sign::Open), Level::Disjunction, argument.get())?;
+                self.put(Token::Sign(Sign::Close))
+            }
+            Expr::Minus(operand) => {
+                self.put_behind(Token::Sign(Sign::Minus), Level::Primary, operand.get())
+            }
+            Expr::Arithmetic {
+                operator,
+                left,
+                right,
+            } => {
+                self.put_at(operator.level(), left.get())?;
+                self.put_right(*operator, right.get())
+            }
+            Expr::Compare {
+                operator,
+                left,
+                right,
+            } => {
+                self.put_at(Level::Sum, left.get())?;
+                self.put_behind(Token::Sign(operator.sign()), Level::Sum, right.get())
+            }
+            Expr::Not(operand) => self.put_behind(
+                Token::Keyword(Keyword::Not),
+                Level::Negation,
+                operand.get(),
+            ),
+            Expr::And { left, right } => {
+                self.put_at(Level::Conjunction, left.get())?;
+                self.put_behind(Token::Keyword(Keyword::And), Level::Negation, right.get())
+            }
+            Expr::Or { left, right } => {
+                self.put_at(Level::Disjunction, left.get())?;
+                self.put_behind(Token::Keyword(Keyword::Or), Level::Conjunction, right.get())
+            }
+            Expr::IsNull { negated, subject } => {
+                self.put_at(Level::Sum, subject.get())?;
+                self.put_is_null(*negated)
+            }
+            Expr::Between {
+                negated,
+                subject,
+                low,
+                high,
+            } => {
+                self.put_at(Level::Sum, subject.get())?;
+                self.put_not_if(*negated)?;
+                self.put_behind(Token::Keyword(Keyword::Between), Level::Sum, low.get())?;
+                self.put_behind(Token::Keyword(Keyword::And), Level::Sum, high.get())
+            }
+            Expr::In {
+                negated,
+                subject,
+                entries,
+            } => {
+                self.put_at(Level::Sum, subject.get())?;
+                self.put_not_if(*negated)?;
+                self.put(Token::Keyword(Keyword::In))?;
+                self.put_in_brackets(entries.as_slice())
+            }
+            Expr::Like {
+                negated,
+                subject,
+                pattern,
+            } => {
+                self.put_at(Level::Sum, subject.get())?;
+                self.put_like(*negated, pattern)
+            }
+            Expr::Coalesce(entries) => {
+                self.put(Token::Keyword(Keyword::Coalesce))?;
+                self.put_in_brackets(entries.as_slice())
+            }
+            Expr::Case { arms, otherwise } => {
+                self.put(Token::Keyword(Keyword::Case))?;
+                self.put_arms(arms.as_slice())?;
+                self.put_else(otherwise)?;
+                self.put(Token::Keyword(Keyword::End))
+            }
+        }
+    }
+
+    /// An operator of arithmetic and what stands behind it.
+    #[cycle(printing)]
+    fn put_right(&mut self, operator: Arithmetic, right: &Expr) -> Result<(), AllocError>
+        ensures { OnOk result (written self.new
+            ≡ with_tokens (written self.old) (token_of (Reckon operator)
+            ∷ place (next (level_of (Reckon operator))) (printed right.now))) }
+    {
+        self.put_behind(Token::Sign(operator.sign()), operator.level().next(), right)
+    }
+
+    #[tactic(auto, using(crate::proofs::Writing::with_append))]
+    fn put_count_rows(&mut self) -> Result<(), AllocError>
+        ensures { OnOk result (written self.new
+            ≡ with_tokens (written self.old) (keyword Count ∷ bracketed (mark Star ∷ []))) }
+    {
+        self.put(Token::Keyword(Keyword::Count))?;
+        self.put(Token::Sign(Sign::Open))?;
+        self.put(Token::Sign(Sign::Star))?;
+        self.put(Token::Sign(Sign::Close))
+    }
+
+    #[tactic(auto, using(crate::proofs::Writing::with_append))]
+    fn put_is_null(&mut self, negated: bool) -> Result<(), AllocError>
+        ensures { OnOk result (written self.new
+            ≡ with_tokens (written self.old) (keyword Is ∷ not_if negated ++ keyword Null ∷ [])) }
+    {
+        self.put(Token::Keyword(Keyword::Is))?;
+        self.put_not_if(negated)?;
+        self.put(Token::Keyword(Keyword::Null))
+    }
+
+    #[tactic(auto, using(crate::proofs::Writing::with_append))]
+    fn put_like(&mut self, negated: bool, pattern: &Text) -> Result<(), AllocError>
+        ensures { OnOk result (written self.new
+            ≡ with_tokens (written self.old) (not_if negated ++ keyword Like
+            ∷ text (doubled pattern.now) ∷ [])) }
+    {
+        self.put_not_if(negated)?;
+        self.put(Token::Keyword(Keyword::Like))?;
+        self.put_text(pattern.as_str())
+    }
+
+    #[cycle(printing)]
+    #[tactic(auto, using(crate::proofs::Writing::with_append))]
+    fn put_in_brackets(&mut self, entries: &[Expr]) -> Result<(), AllocError>
+        ensures { OnOk result (written self.new
+            ≡ with_tokens (written self.old) (bracketed (list_tokens (map printed entries.now)))) }
+    {
+        self.put(Token::Sign(Sign::Open))?;
+        self.put_list(entries)?;
+        self.put(Token::Sign(Sign::Close))
+    }
+
+    /// Expressions with commas between.
+    #[cycle(printing)]
+    #[tactic(auto, using(crate::proofs::Writing::list_step, crate::proofs::Writing::more_step))]
+    fn put_list(&mut self, entries: &[Expr]) -> Result<(), AllocError>
+        ensures { OnOk result (written self.new
+            ≡ with_tokens (written self.old) (list_tokens (map printed entries.now))) }
+    {
+        let Some((first, rest)) = entries.split_first() else {
+            return Ok(());
+        };
+        self.put_at(Level::Disjunction, first)?;
+        for entry in rest {
+            self.put_behind(Token::Sign(Sign::Comma), Level::Disjunction, entry)?;
+        }
+        Ok(())
+    }
+
+    #[cycle(printing)]
+    #[tactic(auto, using(crate::proofs::Writing::arms_step))]
+    fn put_arms(&mut self, arms: &[Arm]) -> Result<(), AllocError>
+        ensures { OnOk result (written self.new
+            ≡ with_tokens (written self.old) (arms_tokens (map printed_arm arms.now))) }
+    {
+        for arm in arms {
+            self.put_behind(
+                Token::Keyword(Keyword::When),
+                Level::Disjunction,
+                &arm.condition,
+            )?;
+            self.put_behind(
+                Token::Keyword(Keyword::Then),
+                Level::Disjunction,
+                &arm.value,
+            )?;
+        }
+        Ok(())
+    }
+
+    /// No ELSE is the same as ELSE NULL.
+    #[cycle(printing)]
+    fn put_else(&mut self, otherwise: &Option<Boxed<Expr>>) -> Result<(), AllocError>
+        ensures { OnOk result (written self.new
+            ≡ with_tokens (written self.old) (else_tokens (option_map printed otherwise.now))) }
+    {
+        match otherwise {
+            Some(value) => self.put_behind(
+                Token::Keyword(Keyword::Else),
+                Level::Disjunction,
+                value.get(),
+            ),
+            None => Ok(()),
+        }
     }
 }
 
-fn put_between_quotes(out: &mut String, content: &str) -> Result<(), AllocError>
-    ensures { OnOk result (string_bytes out.new ≡ string_bytes out.old
-        ++ token_text (text content.now)) }
+fn target_token(target: &OrderTarget) -> Token<'_>
+    ensures { terminal_of result ≡ target_token target.now }
 {
-    out.push_str("'")?;
-    out.push_str(content)?;
-    out.push_str("'")
+    match target {
+        OrderTarget::Place(place) => Token::Integer(*place),
+        OrderTarget::Name(name) => Token::Name(name.as_str()),
+    }
 }
 
-fn put_number(out: &mut String, number: u64) -> Result<(), AllocError>
-    ensures { OnOk result (string_bytes out.new ≡ string_bytes out.old ++ decimal number) }
+fn aggregate_word(kind: Aggregate) -> Keyword
+    ensures { result ≡ aggregate_word kind }
 {
-    write!(out, "{number}")
-}
-
-/// The token may end an operand, so that a minus behind it has two operands.
-fn ends_operand(token: Token<'_>) -> bool
-    ensures { result ≡ ends_operand (terminal_of token.entry) }
-{
-    matches!(
-        token,
-        Token::Name(_)
-            | Token::Integer(_)
-            | Token::Text(_)
-            | Token::Sign(Sign::Close)
-            | Token::Keyword(Keyword::End)
-    )
-}
-
-/// No blank stands before the token.
-fn hugs_left(token: Token<'_>) -> bool
-    ensures { result ≡ hugs_left (terminal_of token.entry) }
-{
-    matches!(token, Token::Sign(Sign::Close | Sign::Comma | Sign::Dot))
-}
-
-/// No blank stands behind the token, which stands behind an operand or not.
-fn hugs_right(operand: bool, token: Token<'_>) -> bool
-    ensures { result ≡ hugs_right operand (terminal_of token.entry) }
-{
-    match token {
-        Token::Sign(Sign::Open | Sign::Dot) => true,
-        Token::Sign(Sign::Minus) => !operand,
-        Token::Keyword(
-            Keyword::Count
-            | Keyword::Sum
-            | Keyword::Min
-            | Keyword::Max
-            | Keyword::Avg
-            | Keyword::Coalesce,
-        ) => true,
-        _ => false,
+    match kind {
+        Aggregate::Count => Keyword::Count,
+        Aggregate::Sum => Keyword::Sum,
+        Aggregate::Min => Keyword::Min,
+        Aggregate::Max => Keyword::Max,
+        Aggregate::Average => Keyword::Avg,
     }
 }

@@ -1,4 +1,11 @@
 //! The tree of a query as it is written.
+ghost use Rattle.std.specs.Prelude.{◌≡◌};
+ghost use Rattle.sql_syntax.specs.Strength.{level_of, token_of, compares};
+ghost use Rattle.sql_syntax.specs.Tokens.{sign_is};
+ghost use Rattle.sql_syntax.specs.declared.strength.Operator.TheVariants.{Reckon};
+
+use crate::strength::Level;
+use crate::token::Sign;
 use meaning::boxed::Boxed;
 use meaning::sequence::Sequence;
 use meaning::text::Text;
@@ -70,6 +77,28 @@ pub enum Arithmetic {
     Divide,
 }
 
+impl Arithmetic {
+    pub fn level(self) -> Level
+        ensures { result ≡ level_of (Reckon self) }
+    {
+        match self {
+            Arithmetic::Add | Arithmetic::Subtract => Level::Sum,
+            Arithmetic::Multiply | Arithmetic::Divide => Level::Term,
+        }
+    }
+
+    pub fn sign(self) -> Sign
+        ensures { sign_is result ≡ token_of (Reckon self) }
+    {
+        match self {
+            Arithmetic::Add => Sign::Plus,
+            Arithmetic::Subtract => Sign::Minus,
+            Arithmetic::Multiply => Sign::Star,
+            Arithmetic::Divide => Sign::Slash,
+        }
+    }
+}
+
 #[derive(Clone, Copy)]
 pub enum Comparison {
     Equal,
@@ -78,6 +107,21 @@ pub enum Comparison {
     AtMost,
     Greater,
     AtLeast,
+}
+
+impl Comparison {
+    pub fn sign(self) -> Sign
+        ensures { result ≡ compares self }
+    {
+        match self {
+            Comparison::Equal => Sign::Equal,
+            Comparison::NotEqual => Sign::NotEqual,
+            Comparison::Less => Sign::Less,
+            Comparison::AtMost => Sign::AtMost,
+            Comparison::Greater => Sign::Greater,
+            Comparison::AtLeast => Sign::AtLeast,
+        }
+    }
 }
 
 #[derive(Clone, Copy)]

@@ -8,6 +8,7 @@ use Rattle.std.proofs.Common.{refl, sym, ap, arith, ◌∙◌, subst, inl, inr}
 use Rattle.std.proofs.lemmas.Map.Keys.{sorted_from_strictly_increasing}
 use Rattle.std.proofs.lemmas.List.Elements.{recursion_from_All}
 use Rattle.std.proofs.lemmas.Bool.{eqb-true}
+use Rattle.meaning.proofs.Tests.{or_second}
 use Rattle.vectors.specs.Selection.{is_among}
 use Rattle.lane_loops.specs.Lanes.{is_flag, is_flagged}
 
@@ -26,9 +27,11 @@ all_among P (x ∷ xs) i all among = elim (or_cases (x == i) (is_among xs i) amo
 pub within_among : (n : ℕ) (xs : List ℕ) (i : ℕ) → All (λ p. p < n) xs → is_among xs i ≡ true → i < n
 within_among n xs i all among = all_among (λ p. p < n) xs i (recursion_from_All (λ p. p < n) xs all) among
 
-pub or_right : (a b : Bool) → b ≡ true → (a || b) ≡ true
-or_right true b h = refl
-or_right false b h = h
+pub self_among : (x : ℕ) (xs : List ℕ) → is_among (x ∷ xs) x ≡ true
+self_among x xs = grind arith
+
+pub less_is : (x i : ℕ) → nat_cmp x i ≡ Less → x < i
+less_is x i h = grind arith
 
 -- ---- what is filtered
 
@@ -38,7 +41,7 @@ module _ (f : ℕ → Bool) where
   filter_stays (x ∷ xs) i among passes = elim (f x) as (λ b. f x ≡ b → is_among (cond b (x ∷ filter f xs) (filter f xs)) i ≡ true) [
     | true ↦ λ e. elim (or_cases (x == i) (is_among xs i) among) [
       | inl here ↦ ap (λ (b : Bool). b || is_among (filter f xs) i) here
-      | inr behind ↦ or_right (x == i) _ (filter_stays xs i behind passes)
+      | inr behind ↦ or_second (x == i) _ (filter_stays xs i behind passes)
     ]
     | false ↦ λ e. elim (or_cases (x == i) (is_among xs i) among) [
       | inl here ↦ (let same : f x ≡ f i = ap f (eqb-true x i here) in absurd cc)
@@ -51,9 +54,9 @@ module _ (f : ℕ → Bool) where
   filter_stood (x ∷ xs) i among = elim (f x) as (λ b. f x ≡ b → is_among (cond b (x ∷ filter f xs) (filter f xs)) i ≡ true → (is_among (x ∷ xs) i ≡ true) × (f i ≡ true)) [
     | true ↦ λ e a. elim (or_cases (x == i) (is_among (filter f xs) i) a) [
       | inl here ↦ (ap (λ (b : Bool). b || is_among xs i) here, ap f (sym (eqb-true x i here)) ∙ e)
-      | inr behind ↦ (let w = filter_stood xs i behind in (or_right (x == i) _ w.0, w.1))
+      | inr behind ↦ (let w = filter_stood xs i behind in (or_second (x == i) _ w.0, w.1))
     ]
-    | false ↦ λ e a. (let w = filter_stood xs i a in (or_right (x == i) _ w.0, w.1))
+    | false ↦ λ e a. (let w = filter_stood xs i a in (or_second (x == i) _ w.0, w.1))
   ] refl among
 
 -- ---- the first that passes
@@ -63,10 +66,8 @@ module _ (test : ℕ → Bool) where
   find_passes [] q found = absurd cc
   find_passes (x ∷ xs) q found = elim (test x) as (λ b. test x ≡ b → cond b (Some x) (find test xs) ≡ Some q → (is_among (x ∷ xs) q ≡ true) × (test q ≡ true)) [
     | true ↦ λ e s. (let same : x ≡ q = cc in (subst (λ (y : ℕ). is_among (x ∷ xs) y ≡ true) same (self_among x xs), ap test (sym same) ∙ e))
-    | false ↦ λ e s. (let w = find_passes xs q s in (or_right (x == q) _ w.0, w.1))
-  ] refl found where
-    self_among : (x : ℕ) (xs : List ℕ) → is_among (x ∷ xs) x ≡ true
-    self_among x xs = grind arith
+    | false ↦ λ e s. (let w = find_passes xs q s in (or_second (x == q) _ w.0, w.1))
+  ] refl found
 
   pub none_passes : (xs : List ℕ) → find test xs ≡ None → (i : ℕ) → is_among xs i ≡ true → test i ≡ false
   none_passes [] none i among = absurd cc
@@ -81,9 +82,6 @@ module _ (test : ℕ → Bool) where
   pub all_fail : (xs : List ℕ) → ((i : ℕ) → test i ≡ false) → find test xs ≡ None
   all_fail [] fails = refl
   all_fail (x ∷ xs) fails = ap (λ (b : Bool). cond b (Some x) (find test xs)) (fails x) ∙ all_fail xs fails
-
-  less_is : (x i : ℕ) → nat_cmp x i ≡ Less → x < i
-  less_is x i h = grind arith
 
   before_sorted : (xs : List ℕ) (q : ℕ) → IsStrictlySortedBy nat_cmp xs → find test xs ≡ Some q → (i : ℕ) → is_among xs i ≡ true → i < q → test i ≡ false
   unfolding IsStrictlySortedBy

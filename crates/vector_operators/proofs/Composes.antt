@@ -34,7 +34,7 @@ before_old m S h n origin i b =
       | inr f ↦ before-trans i f.place h (subst (λ (x : Held). IsBefore i x) f.is_new b) f.is_before
     ]
 
-bool_cases : (b : Bool) → (b ≡ true) ⊎ (b ≡ false)
+pub bool_cases : (b : Bool) → (b ≡ true) ⊎ (b ≡ false)
 bool_cases true = inl refl
 bool_cases false = inr refl
 

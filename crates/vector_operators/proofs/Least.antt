@@ -10,10 +10,11 @@ use Rattle.std.proofs.lemmas.Map.Keys.{sorted_from_strictly_increasing}
 use Rattle.meaning.specs.declared.outcome.Fault.{Fault}
 use Rattle.meaning.specs.declared.outcome.Outcome.{Outcome}
 use Rattle.meaning.specs.declared.outcome.Outcome.TheVariants as gives
+use Rattle.meaning.proofs.Tests.{or_second}
 use Rattle.vectors.specs.Selection.{is_among}
 use Rattle.vector_operators.specs.declared.fault.Faulted.{Faulted}
 use Rattle.vector_operators.specs.Evaluated.{Held, IsBefore, Finds, Evaluates, IsEvaluated, fault_at, first_fault, noted}
-use Rattle.vector_operators.proofs.Among.{all_among, or_cases, or_right}
+use Rattle.vector_operators.proofs.Among.{all_among, or_cases, self_among, less_is}
 use Rattle.vector_operators.proofs.Composes.{noted_cases}
 
 -- no fault at any of the positions
@@ -24,12 +25,6 @@ record IsFirst (meant : ℕ → Outcome) (list : List ℕ) (f : Faulted) : Type 
   pub among : is_among list f.position ≡ true
   pub is_fault : meant f.position ≡ gives.Fault f.fault
   pub first : (j : ℕ) (e : Fault) → is_among list j ≡ true → j < f.position → meant j ≢ gives.Fault e
-
-less_is : (x i : ℕ) → nat_cmp x i ≡ Less → x < i
-less_is x i h = grind arith
-
-self_among : (x : ℕ) (xs : List ℕ) → is_among (x ∷ xs) x ≡ true
-self_among x xs = grind arith
 
 module _ (meant : ℕ → Outcome) where
   behind : (x : ℕ) (xs : List ℕ) → ((f : Fault) → meant x ≢ gives.Fault f) → AllByRecursion (λ y. nat_cmp x y ≡ Less) xs
@@ -48,7 +43,7 @@ module _ (meant : ℕ → Outcome) where
       (
         found.1.0,
         record {
-          among = or_right (x == found.0.position) _ found.1.1.among;
+          among = or_second (x == found.0.position) _ found.1.1.among;
           is_fault = found.1.1.is_fault;
           first = λ j e among before. elim (or_cases (x == j) (is_among xs j) among) [
             | inl here ↦ (let at : x ≡ j = eqb-true x j here in λ m. never e (ap meant at ∙ m))

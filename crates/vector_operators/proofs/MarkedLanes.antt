@@ -10,13 +10,14 @@ use Rattle.std.proofs.lemmas.List.{get_or-replicate}
 use Rattle.std.proofs.lemmas.List.Elements.{All-from_recursion, recursion_from_All}
 use Rattle.std.proofs.lemmas.List.Kept.{IsStrictlyIncreasing-filter}
 use Rattle.std.proofs.lemmas.Bool.{eqb-true, eqb-false}
+use Rattle.meaning.proofs.Tests.{both, first_of, second_of, or_second}
 use Rattle.vectors.specs.Selection.{IsMask, IsSelection, Positions, all_below, is_among, without}
 use Rattle.vectors.proofs.Positions.{all_are_selection, full_mask, positions_are}
 use Rattle.lane_loops.specs.Lanes.{AreLanes, is_flag, is_flagged, null_at}
 use Rattle.vector_operators.specs.Evaluated.{IsWithin}
 use Rattle.vector_operators.specs.Given.{AreNarrowed}
 use Rattle.vector_operators.specs.LaneSets.{AreMarks, MarkWhere, lanes_in, marked}
-use Rattle.vector_operators.proofs.Among.{all_among, filter_stays, filter_stood, flagged_within, or_cases, or_right, within_among}
+use Rattle.vector_operators.proofs.Among.{all_among, filter_stays, filter_stood, flagged_within, or_cases, within_among, self_among, less_is}
 
 same_bool : (a b : Bool) → (a ≡ true → b ≡ true) → (b ≡ true → a ≡ true) → a ≡ b
 same_bool true true to from = refl
@@ -26,14 +27,8 @@ same_bool false false to from = refl
 
 -- ---- ascending positions are told by what is among them
 
-less_is : (x i : ℕ) → nat_cmp x i ≡ Less → x < i
-less_is x i h = grind arith
-
 not_among : (x : ℕ) (xs : List ℕ) → AllByRecursion (λ y. nat_cmp x y ≡ Less) xs → is_among xs x ≡ true → ⊥
 not_among x xs later among = let self : x < x = less_is x x (all_among (λ y. nat_cmp x y ≡ Less) xs x later among) in omega (arith, self)
-
-among_first : (x : ℕ) (xs : List ℕ) → is_among (x ∷ xs) x ≡ true
-among_first x xs = grind arith
 
 among_tail : (x i : ℕ) (xs : List ℕ) → (x ≡ i → ⊥) → is_among (x ∷ xs) i ≡ true → is_among xs i ≡ true
 among_tail x i xs apart among = elim (or_cases (x == i) (is_among xs i) among) [
@@ -45,19 +40,19 @@ unique : (xs ys : List ℕ) → IsStrictlySortedBy nat_cmp xs → IsStrictlySort
     → ((i : ℕ) → is_among xs i ≡ true → is_among ys i ≡ true) → ((i : ℕ) → is_among ys i ≡ true → is_among xs i ≡ true) → xs ≡ ys
 unfolding IsStrictlySortedBy
 unique [] [] a b to from = refl
-unique [] (y ∷ ys) a b to from = absurd (let h = from y (among_first y ys) in cc)
-unique (x ∷ xs) [] a b to from = absurd (let h = to x (among_first x xs) in cc)
+unique [] (y ∷ ys) a b to from = absurd (let h = from y (self_among y ys) in cc)
+unique (x ∷ xs) [] a b to from = absurd (let h = to x (self_among x xs) in cc)
 unique (x ∷ xs) (y ∷ ys) a b to from = elim (x == y) as (λ t. x == y ≡ t → x ∷ xs ≡ y ∷ ys) [
   | true ↦ λ e.
       let same : x ≡ y = eqb-true x y e in
       let tails : xs ≡ ys = unique xs ys a.1 b.1
-      (λ i among. among_tail y i ys (λ at. not_among x xs a.0 (subst (λ (k : ℕ). is_among xs k ≡ true) (sym (same ∙ at)) among)) (to i (or_right (x == i) _ among)))
-      (λ i among. among_tail x i xs (λ at. not_among y ys b.0 (subst (λ (k : ℕ). is_among ys k ≡ true) (sym (sym same ∙ at)) among)) (from i (or_right (y == i) _ among))) in
+      (λ i among. among_tail y i ys (λ at. not_among x xs a.0 (subst (λ (k : ℕ). is_among xs k ≡ true) (sym (same ∙ at)) among)) (to i (or_second (x == i) _ among)))
+      (λ i among. among_tail x i xs (λ at. not_among y ys b.0 (subst (λ (k : ℕ). is_among ys k ≡ true) (sym (sym same ∙ at)) among)) (from i (or_second (y == i) _ among))) in
       (ap (λ (k : ℕ). k ∷ xs) same ∙ ap (λ (zs : List ℕ). y ∷ zs) tails)
   | false ↦ λ e.
       let apart : x ≡ y → ⊥ = eqb-false x y e in
-      let x_there = among_tail y x ys (λ at. apart (sym at)) (to x (among_first x xs)) in
-      let y_there = among_tail x y xs apart (from y (among_first y ys)) in
+      let x_there = among_tail y x ys (λ at. apart (sym at)) (to x (self_among x xs)) in
+      let y_there = among_tail x y xs apart (from y (self_among y ys)) in
       let first : y < x = less_is y x (all_among (λ z. nat_cmp y z ≡ Less) ys x b.0 x_there) in
       let second : x < y = less_is x y (all_among (λ z. nat_cmp x z ≡ Less) xs y a.0 y_there) in
       absurd (omega (arith, first, second))
@@ -119,27 +114,15 @@ all_where s is = record { long = tt; each = λ i within. sym (ap (λ (t : Positi
 pub mask_where : (s : Positions) (mask : List Bool) → IsMask s.list s.below mask → MarkWhere s.below (is_among s.list) (Some mask)
 mask_where s mask is = record { long = is.long; each = λ i within. is.tells i within }
 
-and_left : (a b : Bool) → (a && b) ≡ true → a ≡ true
-and_left true b h = refl
-and_left false b h = h
-
-and_right : (a b : Bool) → (a && b) ≡ true → b ≡ true
-and_right true b h = h
-and_right false b h = absurd cc
-
-and_both : (a b : Bool) → a ≡ true → b ≡ true → (a && b) ≡ true
-and_both true b p q = q
-and_both false b p q = p
-
 -- marks that a mask has too
 pub narrowed_lanes : (n : ℕ) (old : Option (List Bool)) (mask out : List Bool) → AreLanes false n (λ i. marked old i && null_at mask i) out
     → AreNarrowed (λ i. null_at mask i) (lanes_in n old) (lanes_in n (Some out))
 narrowed_lanes n old mask out are = record {
   below = refl;
-  stays = λ i w passes. (w.0, marked_among n (Some out) i w.0 (are.each i w.0 ∙ and_both _ _ (among_marked n old i w.1) passes));
+  stays = λ i w passes. (w.0, marked_among n (Some out) i w.0 (are.each i w.0 ∙ both _ _ (among_marked n old i w.1) passes));
   stood = λ i w.
       let both = sym (are.each i w.0) ∙ among_marked n (Some out) i w.1 in
-      ((w.0, marked_among n old i w.0 (and_left _ _ both)), and_right _ _ both);
+      ((w.0, marked_among n old i w.0 (first_of _ _ both)), second_of _ _ both);
 }
 
 not_true : (b : Bool) → not b ≡ true → b ≡ true → ⊥
@@ -161,11 +144,11 @@ lanes_without n s t these those out is below of_these of_those are =
       lists = same_lists (lanes_in n (Some out)) (record { below = s.below; list = filter f s.list }) (are_selection n (Some out)) (kept_is_selection f s is)
           (λ i among.
           let both = sym (mark_at i (among_below n (Some out) i among)) ∙ among_marked n (Some out) i among in
-          filter_stays f s.list i (and_left (is_among s.list i) (f i) both) (and_right (is_among s.list i) (f i) both))
+          filter_stays f s.list i (first_of (is_among s.list i) (f i) both) (second_of (is_among s.list i) (f i) both))
           (λ i among.
           let stood = filter_stood f s.list i among in
           let within = subst (λ (k : ℕ). i < k) below (within_among s.below s.list i is.within stood.0) in
-          marked_among n (Some out) i within (mark_at i within ∙ and_both (is_among s.list i) (f i) stood.0 stood.1))
+          marked_among n (Some out) i within (mark_at i within ∙ both (is_among s.list i) (f i) stood.0 stood.1))
 
 pub is_mask_if : {M E : Type 0} (cells : M → List Bool) (n : ℕ) (mask : Option (List Bool)) (s : Positions) (result : Result M E) → s ≡ lanes_in n mask
     → IfOk result (λ m. AreLanes false n (marked mask) (cells m)) → IfOk result (λ m. IsMask s.list s.below (cells m))

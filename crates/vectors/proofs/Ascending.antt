@@ -5,6 +5,7 @@ use Rattle.std.specs.List.{AllByRecursion, range_with_len}
 use Rattle.std.specs.List.Sorted.{IsStrictlyIncreasing}
 use Rattle.std.proofs.lemmas.Bool.{eqb-true, eqb-false, eq-eqb, ne_eqb}
 use Rattle.std.proofs.lemmas.List.Elements.{recursion_from_All}
+use Rattle.meaning.proofs.Tests.{or_second, and_false}
 use Rattle.vectors.specs.Selection.{IsSelection, Positions, is_among}
 
 pub among_within : (n : ℕ) (xs : List ℕ) (i : ℕ) → AllByRecursion (λ p. p < n) xs → is_among xs i ≡ true → i < n
@@ -28,10 +29,6 @@ pub among_filter : (f : ℕ → Bool) (xs : List ℕ) (i : ℕ) → is_among (fi
 among_filter f [] i = refl
 among_filter f (x ∷ xs) i = of_head (f x) refl (eqb x i) refl (among_filter f xs i)
   where
-    and_false : (a : Bool) → (a && false) ≡ false
-    and_false true = refl
-    and_false false = refl
-
     of_head : (k : Bool) → f x ≡ k → (b : Bool) → eqb x i ≡ b → is_among (filter f xs) i ≡ (is_among xs i && f i) → is_among (cond (f x) (x ∷ filter f xs) (filter f xs)) i ≡ ((eqb x i || is_among xs i) && f i)
     of_head true k true b rest = let here : f i ≡ true = ap f (sym (eqb-true x i b)) ∙ k in rw (k, b, here) refl
     of_head true k false b rest = rw (k, b) rest
@@ -118,11 +115,7 @@ map_as : {X : Type 0} (f g : ℕ → X) (xs : List ℕ) → ((i : ℕ) → is_am
 map_as f g [] same = refl
 map_as {X} f g (x ∷ xs) same =
     ap (λ (y : X). y ∷ map f xs) (same x (rw (eq-eqb x x refl) refl))
-    ∙ ap (λ (ys : List X). g x ∷ ys) (map_as f g xs (λ i among. same i (either (eqb x i) (is_among xs i) among)))
-  where
-    either : (a b : Bool) → b ≡ true → (a || b) ≡ true
-    either true b e = refl
-    either false b e = e
+    ∙ ap (λ (ys : List X). g x ∷ ys) (map_as f g xs (λ i among. same i (or_second (eqb x i) (is_among xs i) among)))
 
 one_or_none : {X : Type 0} (f : ℕ → Bool) (h : ℕ → X) (xs : List ℕ) → flat_map (λ i. if f i then h i ∷ [] else []) xs ≡ map h (filter f xs)
 one_or_none f h [] = refl

@@ -1,5 +1,5 @@
 -- A plan over the columns of a batch.
-use Rattle.std.proofs.Common.{◌≡◌, ℕ, zero, suc, ◌<◌, Bool, true, false, ◌||◌, List, [], ◌∷◌, ◌++◌, get_or, map, length, refl, ap, sym, subst, ◌∙◌, arith}
+use Rattle.std.proofs.Common.{◌≡◌, ℕ, zero, suc, ◌<◌, true, List, [], ◌∷◌, ◌++◌, get_or, map, length, refl, ap, sym, subst, ◌∙◌, arith}
 use Rattle.std.specs.Prelude.{All}
 use Rattle.std.specs.List.{AllByRecursion, list_any}
 use Rattle.std.proofs.lemmas.Bool.{eq-eqb}
@@ -14,6 +14,7 @@ use Rattle.meaning.specs.References.{Reference, columns_of_plan, columns_used, c
 use Rattle.meaning.specs.TableLaws.{IsTypedAggregate}
 use Rattle.meaning.specs.Typing.{Boolean, RowTypes, Valued, has_type}
 use Rattle.meaning.specs.WellFormedPlan.{HasTypesOf, IsListed, IsWellFormedPlan}
+use Rattle.meaning.proofs.Tests.{or_second}
 use Rattle.encodings.specs.Block.{Block}
 use Rattle.fragment_file.proofs.TypedRows.{all_behind, all_front}
 use Rattle.vectors.specs.declared.batch.BatchColumn.{BatchColumn}
@@ -38,11 +39,7 @@ listed_there group first rows (p ∷ ps) (c ∷ cs) at zero are lt is =
     let here : same_place c.place (place.Fact at) ≡ true = ap (λ (q : Place). same_place q (place.Fact at)) are.0.place ∙ ap (λ (n : ℕ). same_place (place.Fact n) (place.Fact at)) is ∙ same_column at in
     rw here refl
 listed_there group first rows (p ∷ ps) (c ∷ cs) at (suc k) are lt is =
-    either (same_place c.place (place.Fact at)) (list_any (λ column. same_place column.place (place.Fact at)) cs) (listed_there group first rows ps cs at k are.1 (omega (arith, lt)) is)
-  where
-    either : (a b : Bool) → b ≡ true → (a || b) ≡ true
-    either true b e = refl
-    either false b e = e
+    or_second (same_place c.place (place.Fact at)) (list_any (λ column. same_place column.place (place.Fact at)) cs) (listed_there group first rows ps cs at k are.1 (omega (arith, lt)) is)
 
 imply : {X : Type 0} (P Q : X → Type 0) → ((x : X) → P x → Q x) → (xs : List X) → AllByRecursion P xs → AllByRecursion Q xs
 imply P Q to [] all = tt

@@ -10,6 +10,7 @@ use Rattle.std.proofs.lemmas.List.Elements.{All-from_recursion}
 use Rattle.std.proofs.lemmas.Slice.Zip.{get_or-zip, length-zip}
 use Rattle.meaning.specs.declared.value.Value.{Value}
 use Rattle.meaning.specs.declared.value.Value.TheVariants.{Null, Int, Text}
+use Rattle.meaning.proofs.Tests.{or_false}
 use Rattle.accumulators.specs.Values.{is_spelled}
 use Rattle.vectors.specs.Lanes.{int_lanes, ints_of, lane_value, lane_values, nulls_of, or_null}
 use Rattle.vectors.specs.declared.ints.IntCells.{IntCells}
@@ -21,10 +22,6 @@ use Rattle.worker.specs.Evaluated.{AreOnly, IsOnly}
 
 pub among_more : (xs : List ℕ) (p i : ℕ) → is_among (xs ++ p ∷ []) i ≡ (is_among xs i || (p == i))
 among_more [] p i = or_false (p == i)
-  where
-    or_false : (b : Bool) → (b || false) ≡ b
-    or_false true = refl
-    or_false false = refl
 among_more (x ∷ xs) p i = elim (x == i) as (λ b. (b || is_among (xs ++ p ∷ []) i) ≡ ((b || is_among xs i) || (p == i))) [
   | true ↦ refl
   | false ↦ among_more xs p i

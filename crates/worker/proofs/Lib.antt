@@ -9,4 +9,5 @@ pub mod JoinedBatches
 pub mod JoinedSteps
 pub mod JudgedRows
 pub mod NumberedRows
+pub mod SettledRows
 pub mod VectorLanes

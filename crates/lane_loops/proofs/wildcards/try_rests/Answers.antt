@@ -4,7 +4,8 @@ use Rattle.std.proofs.lemmas.Bool.Decides.{nat_tests}
 use Rattle.std.specs.Str.{chars}
 use Rattle.meaning.specs.Like.{after_any_run, characters_fit}
 use Rattle.meaning.proofs.LikeLemmas.{after_any_run-here}
-use Rattle.lane_loops.proofs.Likes.{empty_chars, nothing_fits}
+use Rattle.meaning.proofs.LikeBytes.{nothing_fits}
+use Rattle.lane_loops.proofs.Likes.{empty_chars}
 use Rattle.lane_loops.proofs.wildcards.try_rests.Goals as goal
 
 pub returns-then-is_empty-clause-value : goal.returns-then-is_empty-clause-value

@@ -1,6 +1,7 @@
 -- Proofs of the goals of `is_integer_of` (`check`).
 use Rattle.std.proofs.Common.{◌∙◌}
-use Rattle.partial_codec.proofs.Types.{integer_type, word_fits}
+use Rattle.meaning.proofs.Words.{word_fits}
+use Rattle.partial_codec.proofs.Types.{integer_type}
 use Rattle.partial_codec.proofs.check.is_integer_of.Goals as goal
 
 pub returns : goal.returns

@@ -4,8 +4,8 @@ use Rattle.std.proofs.lemmas.Bool.{not-true, not-false}
 use Rattle.std.proofs.lemmas.List.{get_or-map, length-map}
 use Rattle.meaning.specs.declared.value.Value.TheVariants.{Null}
 use Rattle.meaning.specs.Order.{same_value, value_cmp}
+use Rattle.meaning.proofs.Same.{same_is}
 use Rattle.encodings.proofs.NumberEntries.{less_next}
-use Rattle.encodings.proofs.RowNumbers.{same_is}
 use Rattle.encodings.proofs.dictionary.entries.begins_entry.Goals as goal
 
 pub returns-else-place-eq0-clause-stays : goal.returns-else-place-eq0-clause-stays

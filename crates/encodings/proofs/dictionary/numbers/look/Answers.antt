@@ -2,8 +2,8 @@
 use Rattle.std.proofs.Common.{◌≡◌, ◌+◌, ◌/◌, ◌%◌, ◌<◌, length, get_or, sym, ap, ◌∙◌, arith}
 use Rattle.std.proofs.lemmas.List.{get_or-map}
 use Rattle.meaning.specs.declared.value.Value.TheVariants.{Null}
+use Rattle.meaning.proofs.Same.{same_is}
 use Rattle.encodings.proofs.EncodedForms.{place_below}
-use Rattle.encodings.proofs.RowNumbers.{same_is}
 use Rattle.encodings.proofs.dictionary.numbers.look.Goals as goal
 
 pub returns-then-eq-clause-number : goal.returns-then-eq-clause-number

@@ -5,9 +5,10 @@ use Rattle.std.specs.Int.RustNames.{FitsSigned}
 use mir.Val.{to_z, of_z}
 use Rattle.std.proofs.lemmas.Int.{to_z-of_z}
 use Rattle.std.proofs.lemmas.List.{take_rest}
+use Rattle.meaning.proofs.Words.{fits_word}
 use Rattle.bit_packing.specs.Offsets.{offset_at}
 use Rattle.encodings.specs.Frame.{base_of, width_of, packed_of}
-use Rattle.encodings.proofs.Frames.{frame_value, frame_fits, fits_64, wide_sum}
+use Rattle.encodings.proofs.Frames.{frame_value, frame_fits, wide_sum}
 use Rattle.encodings.proofs.frame.read.frame_cell.Goals as goal
 
 pub overflow_cast-result : goal.overflow_cast-result
@@ -21,7 +22,7 @@ overflow_cast-result c =
     let sum : c.from.result +ℤ c.from-2.result ≡ base_of body +ℤ pos (offset_at (width_of body) (packed_of body) c.args.row) = ap (λ k. k +ℤ c.from-2.result) base ∙ ap (λ k. base_of body +ℤ k) (c.from-2.ensures ∙ ap pos offset) in
     let known = frame_fits c.args.rows c.args.row body c.requires.form c.requires.within in
     let total = wide_sum c.from.result c.from-2.result (base_of body +ℤ pos (offset_at (width_of body) (packed_of body) c.args.row)) wide wider sum known in
-    subst (λ (z : ℤ). FitsSigned w64 z) (sym total) (fits_64 (base_of body +ℤ pos (offset_at (width_of body) (packed_of body) c.args.row)) known)
+    subst (λ (z : ℤ). FitsSigned w64 z) (sym total) (fits_word (base_of body +ℤ pos (offset_at (width_of body) (packed_of body) c.args.row)) known)
 
 pub returns : goal.returns
 returns c =
@@ -34,4 +35,4 @@ returns c =
     let sum : c.from.result +ℤ c.from-2.result ≡ base_of body +ℤ pos (offset_at (width_of body) (packed_of body) c.args.row) = ap (λ k. k +ℤ c.from-2.result) base ∙ ap (λ k. base_of body +ℤ k) (c.from-2.ensures ∙ ap pos offset) in
     let known = frame_fits c.args.rows c.args.row body c.requires.form c.requires.within in
     let total = wide_sum c.from.result c.from-2.result (base_of body +ℤ pos (offset_at (width_of body) (packed_of body) c.args.row)) wide wider sum known in
-    ap (λ z. to_z w64 (of_z w64 z)) total ∙ to_z-of_z w64 (base_of body +ℤ pos (offset_at (width_of body) (packed_of body) c.args.row)) (fits_64 (base_of body +ℤ pos (offset_at (width_of body) (packed_of body) c.args.row)) known) ∙ sym (frame_value c.args.rows c.args.row body c.requires.within)
+    ap (λ z. to_z w64 (of_z w64 z)) total ∙ to_z-of_z w64 (base_of body +ℤ pos (offset_at (width_of body) (packed_of body) c.args.row)) (fits_word (base_of body +ℤ pos (offset_at (width_of body) (packed_of body) c.args.row)) known) ∙ sym (frame_value c.args.rows c.args.row body c.requires.within)

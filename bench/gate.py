@@ -1,10 +1,12 @@
 #!/usr/bin/env python3
 """gate.py [DIR]: clones this repository into DIR (a temporary folder if none is named), runs the whole gate there, and prints
 what each crate cost: processor seconds of its proof, its tests and its edits, by samples of the processes that check them.
-Last the time by the clock and all processor time, as the system counts it. Nothing else should run beside it."""
+Last the time by the clock and all processor time, as the system counts it. Nothing else should run beside it. Stopped by an
+interrupt, it prints what it has seen so far."""
 import collections
 import os
 import resource
+import signal
 import subprocess
 import sys
 import tempfile
@@ -35,10 +37,14 @@ def sample():
 subprocess.run(["git", "clone", "-q", top, folder], check=True)
 begun = time.monotonic()
 with open(f"{folder}.log", "w") as log:
-    gate = subprocess.Popen([".ci/run"], cwd=folder, stdout=log, stderr=subprocess.STDOUT, stdin=subprocess.DEVNULL)
-    while gate.poll() is None:
-        sample()
-        time.sleep(0.3)
+    gate = subprocess.Popen([".ci/run"], cwd=folder, stdout=log, stderr=subprocess.STDOUT, stdin=subprocess.DEVNULL, start_new_session=True)
+    try:
+        while gate.poll() is None:
+            sample()
+            time.sleep(0.3)
+    except KeyboardInterrupt:
+        os.killpg(gate.pid, signal.SIGTERM)
+        gate.wait()
 taken = time.monotonic() - begun
 used = resource.getrusage(resource.RUSAGE_CHILDREN)
 costs = collections.defaultdict(collections.Counter)

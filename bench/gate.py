@@ -1,8 +1,10 @@
 #!/usr/bin/env python3
-"""gate.py [DIR]: clones this repository into DIR (a temporary folder if none is named), runs the whole gate there, and prints
-what each crate cost: processor seconds of its proof, its tests and its edits, by samples of the processes that check them.
-Last the time by the clock and all processor time, as the system counts it. Nothing else should run beside it. Stopped by an
-interrupt, it prints what it has seen so far."""
+"""gate.py [DIR]: clones this repository into DIR (a temporary folder if none is named), builds the program there as its first
+use does, and then runs the whole gate. Prints what each crate cost: processor seconds of its proof, its tests and its edits,
+by samples of the processes that check them. Edits begin with a proof of their own, which a crate with one edit alone goes
+without. Of each part, the time by the clock and all processor time, as the system counts it. Where `rt` keeps what passed, the
+gate takes over what the first build proved, so both together are one run, if the machine kept nothing before: what `rt` says
+last tells. Nothing else should run beside it. Stopped by an interrupt, it prints what it has seen so far."""
 import collections
 import os
 import resource
@@ -15,7 +17,15 @@ import time
 top = os.path.dirname(os.path.dirname(os.path.abspath(__file__)))
 folder = sys.argv[1] if len(sys.argv) > 1 else tempfile.mkdtemp(prefix="gate-")
 tick = os.sysconf("SC_CLK_TCK")
+kinds = ["proof", "tests", "proof for edits", "edits"]
 seen = {}
+
+
+def kind_of(place, words):
+    if "rt-edit" not in place:
+        return "tests" if "--test" in words else "proof"
+    kept = words[words.index("--incremental") + 1] if "--incremental" in words else ""
+    return "proof for edits" if kept.endswith("/seed") else "edits"
 
 
 def sample():
@@ -29,33 +39,45 @@ def sample():
             fields = open(f"/proc/{number}/stat").read().rpartition(")")[2].split()
         except (OSError, ValueError):
             continue
-        kind = "edits" if "rt-edit" in place else "tests" if "--test" in words else "proof"
-        # The process's own time, with that of those it has waited for.
-        seen[number, fields[19]] = (crate, kind, sum(int(field) for field in fields[11:13]) / tick)
+        # The process's own time. Copies of itself that check beside it are processes of their own.
+        seen[number, fields[19]] = (crate, kind_of(place, words), sum(int(field) for field in fields[11:13]) / tick)
+
+
+def measure(name, words):
+    """Runs a command in the clone, and prints what it took. Returns its status."""
+    begun, before = time.monotonic(), resource.getrusage(resource.RUSAGE_CHILDREN)
+    with open(f"{folder}.{name.replace(' ', '-')}.log", "w") as log:
+        ran = subprocess.Popen(words, cwd=folder, stdout=log, stderr=subprocess.STDOUT, stdin=subprocess.DEVNULL, start_new_session=True)
+        try:
+            while ran.poll() is None:
+                sample()
+                time.sleep(0.3)
+        except KeyboardInterrupt:
+            os.killpg(ran.pid, signal.SIGTERM)
+            ran.wait()
+    taken, used = time.monotonic() - begun, resource.getrusage(resource.RUSAGE_CHILDREN)
+    user, system = used.ru_utime - before.ru_utime, used.ru_stime - before.ru_stime
+    print(f"{name}: {taken / 60:.1f} minutes by the clock; processor minutes: {user / 60:.1f} of user time, {system / 60:.1f} of system time")
+    print(subprocess.run(["tail", "-n", "2", log.name], capture_output=True, text=True).stdout, end="", flush=True)
+    return ran.returncode
+
+
+def print_table():
+    costs = collections.defaultdict(collections.Counter)
+    for crate, kind, seconds in seen.values():
+        costs[crate][kind] += seconds
+    print(f"| Crate | {' | '.join(kind.capitalize() for kind in kinds)} | Together |\n|{'---|' * (len(kinds) + 2)}")
+    for line in open(f"{folder}/crates.txt"):
+        crate = line.partition(":")[0].strip()
+        if crate in costs:
+            row = costs[crate]
+            print(f"| `{crate}` | {' | '.join(f'{row[kind]:.0f}' for kind in kinds)} | {sum(row.values()):.0f} |")
+    total = {kind: sum(row[kind] for row in costs.values()) / 60 for kind in kinds}
+    print(", ".join(f"{kind} {minutes:.1f}" for kind, minutes in total.items()), "minutes, by the samples")
 
 
 subprocess.run(["git", "clone", "-q", top, folder], check=True)
-begun = time.monotonic()
-with open(f"{folder}.log", "w") as log:
-    gate = subprocess.Popen([".ci/run"], cwd=folder, stdout=log, stderr=subprocess.STDOUT, stdin=subprocess.DEVNULL, start_new_session=True)
-    try:
-        while gate.poll() is None:
-            sample()
-            time.sleep(0.3)
-    except KeyboardInterrupt:
-        os.killpg(gate.pid, signal.SIGTERM)
-        gate.wait()
-taken = time.monotonic() - begun
-used = resource.getrusage(resource.RUSAGE_CHILDREN)
-costs = collections.defaultdict(collections.Counter)
-for crate, kind, seconds in seen.values():
-    costs[crate][kind] += seconds
-print("| Crate | Proof | Tests | Edits | Together |\n|---|---|---|---|---|")
-for line in open(f"{folder}/crates.txt"):
-    crate = line.partition(":")[0].strip()
-    if crate in costs:
-        row = costs[crate]
-        print(f"| `{crate}` | {row['proof']:.0f} | {row['tests']:.0f} | {row['edits']:.0f} | {sum(row.values()):.0f} |")
-print(f"by the clock {taken / 60:.1f} minutes; processor minutes: {used.ru_utime / 60:.1f} of user time, {used.ru_stime / 60:.1f} of system time")
-print(subprocess.run(["tail", "-n", "1", f"{folder}.log"], capture_output=True, text=True).stdout, end="")
-sys.exit(gate.returncode)
+query = ["whole", "examples/sales", "--query", "SELECT SUM(q) FROM sales", "--rows", "2"]
+status = measure("first build", ["./xcols", *query]) or measure("gate", [".ci/run"])
+print_table()
+sys.exit(status)

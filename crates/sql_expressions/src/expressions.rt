@@ -2,8 +2,9 @@
 //!
 //! `left` says how many may still be opened: brackets, CASE, NOT and minus. It bounds how deep
 //! these functions call one another, as `MAX_DEPTH` bounds how deep a tree they build.
-ghost use Rattle.sql_expressions.specs.Rules.{Cases, Gives, Listed, aggregate_at, arm_at, arm_of, arms_at, before_of, behind_star, bounds_of, bracketed_list, case_of, chain_of, closed_list_of, column_at, column_of, else_of, entry_of, factor_of, high_of, inner_at, is_of, is_sign, like_test, list_at, literal_at, minus_of, named_test, negation_of, null_of, pattern_at, predicate_of, primary_of, rows_of, rule_at, terms, test_of, then_of};
+ghost use Rattle.sql_expressions.specs.Rules.{Cases, Gives, Listed, aggregate_at, arm_at, arm_of, arms_at, before_of, behind_star, bounds_of, bracketed_list, case_of, chain_of, closed_list_of, column_at, column_of, else_of, entry_of, factor_of, high_of, inner_at, is_keyword, is_of, is_sign, like_test, list_at, literal_at, minus_of, named_test, negation_of, null_of, pattern_at, predicate_of, primary_of, rows_of, rule_at, terms, test_of, then_of, without_value};
 ghost use Rattle.sql_syntax.specs.Strength.{rank};
+ghost use Rattle.sql_syntax.specs.declared.keyword.Keyword.TheVariants as keyword;
 ghost use Rattle.sql_syntax.specs.declared.token.Sign.TheVariants as sign;
 ghost use Rattle.std.specs.Prelude.{IfOk, IfSome, length, option_map, ◌<◌, ◌≡◌, ◌≤◌};
 
@@ -693,14 +694,38 @@ fn otherwise<'a, 'b>(
     ensures shorter { IfOk result (λ x. length x.1.now < length lexemes.now) }
 {
     let Some(rest) = if_keyword(lexemes, Keyword::Else) else {
-        return Ok((None, past_keyword(lexemes, Keyword::End)?));
+        return valueless(lexemes);
     };
     if let Some(rest) = if_keyword(rest, Keyword::Null) {
-        return Ok((None, past_keyword(rest, Keyword::End)?));
+        return valueless(rest);
     }
-    let (value, rest) = inner(alloc, Level::Disjunction, rest, left)?;
+    let (value, rest) = ended(alloc, rest, left)?;
+    Ok((Some(value), rest))
+}
+
+/// END, where no value stands before it.
+fn valueless<'a, 'b>(lexemes: &'a [Lexeme<'b>]) -> Result<(Option<Parsed>, &'a [Lexeme<'b>]), Stop>
+    ensures reads { Gives (λ x. (x.0, terms x.1.now)) result (without_value (terms lexemes.now)) }
+    ensures shorter { IfOk result (λ x. length x.1.now < length lexemes.now) }
+{
+    let rest = past_keyword(lexemes, Keyword::End)?;
+    Ok((None, rest))
+}
+
+/// An expression and END.
+#[cycle(rules)]
+fn ended<'a, 'b>(
+    alloc: Global,
+    lexemes: &'a [Lexeme<'b>],
+    left: u16,
+) -> Result<(Parsed, &'a [Lexeme<'b>]), Stop>
+    ensures reads { Gives (λ x. (x.0, terms x.1.now)) result
+        (before_of (is_keyword keyword.End) (inner_at 128 left) (terms lexemes.now)) }
+    ensures shorter { IfOk result (λ x. length x.1.now < length lexemes.now) }
+{
+    let (value, rest) = inner(alloc, Level::Disjunction, lexemes, left)?;
     match past_keyword(rest, Keyword::End) {
-        Ok(rest) => Ok((Some(value), rest)),
+        Ok(rest) => Ok((value, rest)),
         Err(stop) => {
             drop(value);
             Err(stop)

@@ -77,7 +77,10 @@ abbrev pub decreases-then_value : goal.decreases-then_value
 decreases-then_value l = l.left * 100 + 1
 
 abbrev pub decreases-otherwise : goal.decreases-otherwise
-decreases-otherwise l = l.left * 100 + 1
+decreases-otherwise l = l.left * 100 + 2
+
+abbrev pub decreases-ended : goal.decreases-ended
+decreases-ended l = l.left * 100 + 1
 
 -- what is read behind the operands so far is what is read of all
 abbrev pub invariant-chain-loop-operator : goal.invariant-chain-loop-operator

@@ -5,5 +5,5 @@ pub mod Means
 pub mod Spelled
 pub mod Plain
 pub mod PlainInts
-pub mod AtPlaces
-pub mod Placing
+pub mod AtGroups
+pub mod GroupLoops

@@ -4,7 +4,7 @@ use Rattle.std.proofs.Common.{sym, ap, ◌∙◌, subst, arith}
 use Rattle.std.proofs.lemmas.List.FromFn.{length-range_with_len, get_or-range_with_len}
 use Rattle.vectors.specs.Selection.{Positions, all_below}
 
--- where all positions are selected, each stands at its own place
+-- where all positions are selected, each one selects itself
 module _ (s : Positions) (all : s ≡ all_below s.below) (k : ℕ) (here : k < length s.list) where
   pub all_within : k < s.below
   all_within = subst (λ (n : ℕ). k < n) (ap (λ (t : Positions). length t.list) all ∙ length-range_with_len 0 s.below) here

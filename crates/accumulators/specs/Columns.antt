@@ -1,4 +1,4 @@
--- A column of states: one kind, and a state for each group by its place.
+-- A column of states: one kind, and a state for each group by its group index.
 use Rattle.std.specs.Prelude.{ℕ, List, get_or, slice_set}
 use Rattle.meaning.specs.declared.plan.AggregateKind.{AggregateKind}
 use Rattle.meaning.specs.declared.plan.AggregateKind.TheVariants as kind
@@ -7,7 +7,7 @@ use Rattle.meaning.specs.Aggregate.{no_statistics, merge}
 use Rattle.accumulators.specs.declared.cells.Cells.{Cells}
 use Rattle.accumulators.specs.declared.cells.Cells.TheVariants as held
 
--- its kind, and the states in the order of their places
+-- its kind, and the states in the order of their group indexes
 pub record ColumnSpec : Type 0 where
   pub kind : AggregateKind
   pub states : List Statistics
@@ -30,7 +30,7 @@ states_in (held.Avg s) = s.items
 
 -- the states with one of them merged with another
 abbrev pub merged_at : List Statistics → ℕ → Statistics → List Statistics
-merged_at states place more = slice_set states place (merge (get_or states place no_statistics) more)
+merged_at states group_index more = slice_set states group_index (merge (get_or states group_index no_statistics) more)
 
 -- the column with these states
 abbrev pub of_states : ColumnSpec → List Statistics → ColumnSpec

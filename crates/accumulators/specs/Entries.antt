@@ -15,14 +15,14 @@ abbrev pub together : AggregateKind → List Statistics → Statistics
 together kind [] = no_statistics
 together kind (s ∷ states) = merge (kept_by kind s) (together kind states)
 
--- what goes to a place
-abbrev pub at_place : {X : Type 0} → ℕ → List (ℕ × X) → List X
-at_place place placed = map (λ p. p.1) (filter (λ p. p.0 == place) placed)
+-- what goes to a group index
+abbrev pub of_group : {X : Type 0} → ℕ → List (ℕ × X) → List X
+of_group group_index indexed = map (λ p. p.1) (filter (λ p. p.0 == group_index) indexed)
 
--- each state merged with that of the entries at its place
+-- each state merged with that of the entries at its group index
 abbrev pub with_entries : AggregateKind → List Statistics → List (ℕ × Value) → List Statistics
-with_entries kind states placed = map (λ s. merge s.1 (state_of kind (at_place s.0 placed))) (enumerate_from 0 states)
+with_entries kind states indexed = map (λ s. merge s.1 (state_of kind (of_group s.0 indexed))) (enumerate_from 0 states)
 
--- each state merged with those at its place
+-- each state merged with those at its group index
 abbrev pub with_states : AggregateKind → List Statistics → List (ℕ × Statistics) → List Statistics
-with_states kind states placed = map (λ s. merge s.1 (together kind (at_place s.0 placed))) (enumerate_from 0 states)
+with_states kind states indexed = map (λ s. merge s.1 (together kind (of_group s.0 indexed))) (enumerate_from 0 states)

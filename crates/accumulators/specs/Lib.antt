@@ -7,3 +7,4 @@ pub mod StateLaws
 pub mod Kinds
 pub mod AnyAcc
 pub mod Columns
+pub mod Fault

@@ -14,10 +14,9 @@ ghost use Rattle.vectors.specs.Vector.{values_of};
 
 use crate::fault::AggFault;
 use crate::state::State;
-use meaning::value::Value;
+use meaning::Value;
 use std::alloc::{AllocError, Global};
-use vectors::selection::Selection;
-use vectors::vector::Vector;
+use vectors::{Selection, Vector};
 
 /// The running state of an aggregate over one list of entries.
 pub trait Accumulator {

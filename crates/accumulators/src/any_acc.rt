@@ -10,11 +10,9 @@ use crate::max_acc::MaxAcc;
 use crate::min_acc::MinAcc;
 use crate::state::State;
 use crate::sum_acc::SumAcc;
-use meaning::plan::AggregateKind;
-use meaning::value::Value;
+use meaning::{AggregateKind, Value};
 use std::alloc::{AllocError, Global};
-use vectors::selection::Selection;
-use vectors::vector::Vector;
+use vectors::{Selection, Vector};
 
 /// The running state of an aggregate of one of the kinds.
 #[derive(Drop)]

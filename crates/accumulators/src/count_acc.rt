@@ -15,13 +15,10 @@ use crate::end::is_null;
 use crate::fault::AggFault;
 use crate::lanes::{plain_ints, selected_value};
 use crate::state::State;
-use meaning::answer::Statistics;
-use meaning::plan::AggregateKind;
-use meaning::value::{Value, ValueRef};
+use meaning::{AggregateKind, Statistics, Value, ValueRef};
 use std::alloc::{AllocError, Global};
 use std::marker::Model;
-use vectors::selection::Selection;
-use vectors::vector::Vector;
+use vectors::{Selection, Vector};
 
 /// COUNT of one list. Contracts see its state.
 #[derive(Clone, Drop)]

@@ -5,7 +5,7 @@ ghost use Rattle.meaning.specs.Order.{is_null, lesser, value_in};
 ghost use Rattle.accumulators.specs.Kinds.{cmp_from};
 ghost use Rattle.accumulators.specs.Values.{entry};
 
-use meaning::value::{ValueRef, compare_lent};
+use meaning::{ValueRef, compare_lent};
 
 /// An end of the whole order.
 #[derive(Clone, Copy)]

@@ -1,4 +1,4 @@
-//! What an aggregate's state stands for.
+//! What an aggregate's state evaluates to.
 ghost use Rattle.std.specs.Prelude.{◌≡◌, ◌≢◌, ◌<◌, ◌≤◌, pos, int_div, Ok, Err, IfOk, IfErr};
 ghost use Rattle.meaning.specs.declared.value.Value.TheVariants as of_value;
 ghost use Rattle.meaning.specs.Aggregate.{sum_value};
@@ -7,7 +7,7 @@ ghost use Rattle.accumulators.specs.declared.fault.AggFault.TheVariants.{SumOutO
 ghost use Rattle.accumulators.specs.State.{most_entries, IsSumOf};
 
 use crate::fault::AggFault;
-use meaning::value::Value;
+use meaning::Value;
 
 /// A count as a value.
 pub fn count_value(count: u64) -> Value

@@ -14,11 +14,9 @@ ghost use Rattle.vectors.specs.Vector.{values_of};
 use crate::end::{End, beats, is_null};
 use crate::lanes::{owned, plain_ints, selected_value};
 use crate::state::{State, unless_null};
-use meaning::answer::Statistics;
-use meaning::value::{Value, ValueRef};
+use meaning::{Statistics, Value, ValueRef};
 use std::alloc::{AllocError, Global};
-use vectors::selection::Selection;
-use vectors::vector::Vector;
+use vectors::{Selection, Vector};
 
 /// How many entries were found, and the best of them, lent: NULL where there is none.
 #[derive(Clone, Copy)]

@@ -1,5 +1,6 @@
 //! Why an aggregate has no value.
 ghost use Rattle.std.specs.Prelude.{◌≡◌};
+ghost use Rattle.accumulators.specs.Fault.{number_of};
 ghost use Rattle.accumulators.specs.declared.fault.AggFault.TheVariants.{Memory};
 
 use std::alloc::{AllocError, AllocFailed};
@@ -12,6 +13,18 @@ pub enum AggFault {
     Memory,
     #[error("sum out of range")]
     SumOutOfRange,
+}
+
+impl AggFault {
+    /// The error code.
+    pub fn number(&self) -> u8
+        ensures { result ≡ number_of self.now }
+    {
+        match self {
+            AggFault::Memory => 0,
+            AggFault::SumOutOfRange => 3,
+        }
+    }
 }
 
 impl From<AllocError> for AggFault {

@@ -2,8 +2,7 @@
 ghost use Rattle.std.specs.Prelude.{◌≡◌};
 
 use crate::state::State;
-use meaning::sequence::Sequence;
-use meaning::value::Row;
+use meaning::{Row, Sequence};
 use std::marker::Model;
 
 /// A group: its key, how many rows it has, and the state of each aggregate. Contracts see the group

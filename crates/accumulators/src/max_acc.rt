@@ -12,12 +12,10 @@ use crate::end::End;
 use crate::extreme::{Extreme, Found, found_in_states, found_selected};
 use crate::fault::AggFault;
 use crate::state::State;
-use meaning::plan::AggregateKind;
-use meaning::value::{Value, ValueRef};
+use meaning::{AggregateKind, Value, ValueRef};
 use std::alloc::{AllocError, Global};
 use std::marker::Model;
-use vectors::selection::Selection;
-use vectors::vector::Vector;
+use vectors::{Selection, Vector};
 
 /// MAX of one list. Contracts see its state.
 #[derive(Clone, Drop)]

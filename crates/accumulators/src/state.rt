@@ -15,9 +15,7 @@ use crate::evaluating::{average, count_value, sum_value};
 use crate::fault::AggFault;
 use crate::lanes::owned;
 use crate::tally::Tally;
-use meaning::answer::Statistics;
-use meaning::plan::AggregateKind;
-use meaning::value::{Value, ValueRef};
+use meaning::{AggregateKind, Statistics, Value, ValueRef};
 use std::alloc::{AllocError, Global};
 use std::marker::Model;
 

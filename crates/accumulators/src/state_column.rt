@@ -1,4 +1,4 @@
-//! The states of one aggregate in all groups, by their places.
+//! The states of one aggregate in all groups, by their group indexes.
 ghost use Rattle.std.specs.Prelude.{◌≡◌, ◌<◌, ◌≤◌, ◌+◌, [], ◌∷◌, ◌++◌, length, map, sum, zip, slice_index_or, true, All, IsOk, OnOk, OnErr, IfOk};
 ghost use Rattle.meaning.specs.Aggregate.{kept_by, no_statistics};
 ghost use Rattle.accumulators.specs.Columns.{kind_of_cells, merged_at, of_states, states_in};
@@ -10,24 +10,24 @@ ghost use Rattle.vectors.specs.Vector.{values_of};
 
 use crate::cells::Cells;
 use crate::lanes::{plain_ints, selected_value};
-use crate::same_places::one_place;
+use crate::one_group::one_group_index;
 use crate::state::State;
-use meaning::plan::AggregateKind;
+use meaning::AggregateKind;
 use std::alloc::{AllocError, Global};
 use std::marker::Model;
-use vectors::selection::Selection;
-use vectors::vector::Vector;
+use vectors::{Selection, Vector};
 
-/// One value after the other goes to the state at its place.
+/// One value after the other goes to the state at its group index.
 fn update_each(
     cells: &mut Cells,
     alloc: Global,
-    places: &[u32],
+    group_indexes: &[u32],
     lanes: &Vector<'_>,
     selection: &Selection,
 ) -> Result<(), AllocError>
-    requires places { length places.now ≡ length selection.now.list }
-    requires within { All (λ place. place < length (states_in cells.old)) places.now }
+    requires group_indexes { length group_indexes.now ≡ length selection.now.list }
+    requires within { All (λ group_index. group_index < length (states_in cells.old))
+        group_indexes.now }
     requires lanes { length (values_of lanes.now) ≡ selection.now.below }
     requires spelled { All (λ v. is_spelled v ≡ true) (values_of lanes.now) }
     requires few { All (λ s. s.count + length selection.now.list ≤ most_entries)
@@ -36,12 +36,12 @@ fn update_each(
     ensures height { length (states_in cells.new) ≡ length (states_in cells.old) }
     ensures ok { OnOk result
         (states_in cells.new ≡ with_entries (kind_of_cells cells.old) (states_in cells.old)
-        (zip places.now (selected (values_of lanes.now) selection.now.list))) }
+        (zip group_indexes.now (selected (values_of lanes.now) selection.now.list))) }
     ensures roomy { has_one_size (kind_of_cells cells.old) ≡ true → IsOk result }
 {
     for k in 0..selection.len() {
         let value = selected_value(lanes, selection, k);
-        cells.add(alloc, places[k] as usize, value)?;
+        cells.add(alloc, group_indexes[k] as usize, value)?;
     }
     Ok(())
 }
@@ -50,13 +50,14 @@ fn update_each(
 fn update_sums(
     cells: &mut Cells,
     alloc: Global,
-    places: &[u32],
+    group_indexes: &[u32],
     lanes: &Vector<'_>,
     selection: &Selection,
 ) -> Result<(), AllocError>
     requires sums { keeps_sums (kind_of_cells cells.old) ≡ true }
-    requires places { length places.now ≡ length selection.now.list }
-    requires within { All (λ place. place < length (states_in cells.old)) places.now }
+    requires group_indexes { length group_indexes.now ≡ length selection.now.list }
+    requires within { All (λ group_index. group_index < length (states_in cells.old))
+        group_indexes.now }
     requires lanes { length (values_of lanes.now) ≡ selection.now.below }
     requires spelled { All (λ v. is_spelled v ≡ true) (values_of lanes.now) }
     requires few { All (λ s. s.count + length selection.now.list ≤ most_entries)
@@ -65,29 +66,30 @@ fn update_sums(
     ensures height { length (states_in cells.new) ≡ length (states_in cells.old) }
     ensures ok { OnOk result
         (states_in cells.new ≡ with_entries (kind_of_cells cells.old) (states_in cells.old)
-        (zip places.now (selected (values_of lanes.now) selection.now.list))) }
+        (zip group_indexes.now (selected (values_of lanes.now) selection.now.list))) }
     ensures roomy { has_one_size (kind_of_cells cells.old) ≡ true → IsOk result }
 {
     let Some(ints) = plain_ints(lanes, selection) else {
-        return update_each(cells, alloc, places, lanes, selection);
+        return update_each(cells, alloc, group_indexes, lanes, selection);
     };
-    cells.add_ints(places, ints);
+    cells.add_ints(group_indexes, ints);
     Ok(())
 }
 
-/// All values go to the state at one place.
+/// All values go to the state at one group index.
 fn update_one(
     cells: &mut Cells,
     alloc: Global,
-    place: u32,
-    places: &[u32],
+    group_index: u32,
+    group_indexes: &[u32],
     lanes: &Vector<'_>,
     selection: &Selection,
 ) -> Result<(), AllocError>
-    requires same { All (λ p. p ≡ place) places.now }
-    requires some { 0 < length places.now }
-    requires places { length places.now ≡ length selection.now.list }
-    requires within { All (λ place. place < length (states_in cells.old)) places.now }
+    requires same { All (λ p. p ≡ group_index) group_indexes.now }
+    requires some { 0 < length group_indexes.now }
+    requires group_indexes { length group_indexes.now ≡ length selection.now.list }
+    requires within { All (λ group_index. group_index < length (states_in cells.old))
+        group_indexes.now }
     requires lanes { length (values_of lanes.now) ≡ selection.now.below }
     requires spelled { All (λ v. is_spelled v ≡ true) (values_of lanes.now) }
     requires few { All (λ s. s.count + length selection.now.list ≤ most_entries)
@@ -96,32 +98,33 @@ fn update_one(
     ensures height { length (states_in cells.new) ≡ length (states_in cells.old) }
     ensures ok { OnOk result
         (states_in cells.new ≡ with_entries (kind_of_cells cells.old) (states_in cells.old)
-        (zip places.now (selected (values_of lanes.now) selection.now.list))) }
+        (zip group_indexes.now (selected (values_of lanes.now) selection.now.list))) }
     ensures roomy { has_one_size (kind_of_cells cells.old) ≡ true → IsOk result }
 {
-    cells.update_at(alloc, place as usize, lanes, selection)
+    cells.update_at(alloc, group_index as usize, lanes, selection)
 }
 
-/// One state after the other goes to the state at its place.
+/// One state after the other goes to the state at its group index.
 fn merge_each(
     cells: &mut Cells,
     alloc: Global,
-    places: &[u32],
+    group_indexes: &[u32],
     states: &[State],
 ) -> Result<(), AllocError>
-    requires places { length places.now ≡ length states.now }
-    requires within { All (λ place. place < length (states_in cells.old)) places.now }
+    requires group_indexes { length group_indexes.now ≡ length states.now }
+    requires within { All (λ group_index. group_index < length (states_in cells.old))
+        group_indexes.now }
     requires few { All (λ s. s.count + sum (map (λ t. t.count) states.now) ≤ most_entries)
         (states_in cells.old) }
     ensures kind { kind_of_cells cells.new ≡ kind_of_cells cells.old }
     ensures height { length (states_in cells.new) ≡ length (states_in cells.old) }
     ensures ok { OnOk result
         (states_in cells.new ≡ with_states (kind_of_cells cells.old) (states_in cells.old)
-        (zip places.now states.now)) }
+        (zip group_indexes.now states.now)) }
     ensures roomy { has_one_size (kind_of_cells cells.old) ≡ true → IsOk result }
 {
     for k in 0..states.len() {
-        cells.add_state(alloc, places[k] as usize, &states[k])?;
+        cells.add_state(alloc, group_indexes[k] as usize, &states[k])?;
     }
     Ok(())
 }
@@ -166,18 +169,19 @@ impl StateColumn {
         self.cells.push()
     }
 
-    /// Merges into each state that of the selected values at its place: the k-th selected value
-    /// goes to the k-th place. On an error the states are open. What keeps no value of its own
-    /// takes no memory.
+    /// Merges into each state that of the selected values at its group index: the k-th selected
+    /// value goes to the k-th group index. On an error the states are open. What keeps no value of
+    /// its own takes no memory.
     pub fn update(
         &mut self,
         alloc: Global,
-        places: &[u32],
+        group_indexes: &[u32],
         lanes: &Vector<'_>,
         selection: &Selection,
     ) -> Result<(), AllocError>
-        requires places { length places.now ≡ length selection.now.list }
-        requires within { All (λ place. place < length self.old.states) places.now }
+        requires group_indexes { length group_indexes.now ≡ length selection.now.list }
+        requires within { All (λ group_index. group_index < length self.old.states)
+            group_indexes.now }
         requires lanes { length (values_of lanes.now) ≡ selection.now.below }
         requires spelled { All (λ v. is_spelled v ≡ true) (values_of lanes.now) }
         requires few { All (λ s. s.count + length selection.now.list ≤ most_entries)
@@ -187,79 +191,92 @@ impl StateColumn {
         ensures ok { OnOk result
             (self.new ≡ of_states self.old
             (with_entries self.old.kind self.old.states
-            (zip places.now (selected (values_of lanes.now) selection.now.list)))) }
+            (zip group_indexes.now (selected (values_of lanes.now) selection.now.list)))) }
         ensures roomy { has_one_size self.old.kind ≡ true → IsOk result }
     {
-        if let Some(place) = one_place(places) {
-            return update_one(&mut self.cells, alloc, place, places, lanes, selection);
+        if let Some(group_index) = one_group_index(group_indexes) {
+            return update_one(
+                &mut self.cells,
+                alloc,
+                group_index,
+                group_indexes,
+                lanes,
+                selection,
+            );
         }
         if self.cells.are_sums() {
-            return update_sums(&mut self.cells, alloc, places, lanes, selection);
+            return update_sums(&mut self.cells, alloc, group_indexes, lanes, selection);
         }
-        update_each(&mut self.cells, alloc, places, lanes, selection)
+        update_each(&mut self.cells, alloc, group_indexes, lanes, selection)
     }
 
-    /// Merges into the state at a place that of all selected values. On an error the states are
-    /// open. What keeps no value of its own takes no memory.
+    /// Merges into the state at a group index that of all selected values. On an error the states
+    /// are open. What keeps no value of its own takes no memory.
     pub fn update_at(
         &mut self,
         alloc: Global,
-        place: usize,
+        group_index: usize,
         lanes: &Vector<'_>,
         selection: &Selection,
     ) -> Result<(), AllocError>
-        requires place { place < length self.old.states }
+        requires group_index { group_index < length self.old.states }
         requires lanes { length (values_of lanes.now) ≡ selection.now.below }
         requires spelled { All (λ v. is_spelled v ≡ true) (values_of lanes.now) }
-        requires few { (slice_index_or self.old.states place no_statistics).count + length
+        requires few { (slice_index_or self.old.states group_index no_statistics).count + length
             selection.now.list ≤ most_entries }
         ensures kind { self.new.kind ≡ self.old.kind }
         ensures height { length self.new.states ≡ length self.old.states }
         ensures ok { OnOk result
             (self.new ≡ of_states self.old
-            (merged_at self.old.states place
+            (merged_at self.old.states group_index
             (state_of self.old.kind (selected (values_of lanes.now) selection.now.list)))) }
         ensures roomy { has_one_size self.old.kind ≡ true → IsOk result }
     {
-        self.cells.update_at(alloc, place, lanes, selection)
+        self.cells.update_at(alloc, group_index, lanes, selection)
     }
 
-    /// Merges into each state those at its place. On an error the states are open. What keeps no
-    /// value of its own takes no memory.
+    /// Merges into each state those at its group index. On an error the states are open. What keeps
+    /// no value of its own takes no memory.
     pub fn merge(
         &mut self,
         alloc: Global,
-        places: &[u32],
+        group_indexes: &[u32],
         states: &[State],
     ) -> Result<(), AllocError>
-        requires places { length places.now ≡ length states.now }
-        requires within { All (λ place. place < length self.old.states) places.now }
+        requires group_indexes { length group_indexes.now ≡ length states.now }
+        requires within { All (λ group_index. group_index < length self.old.states)
+            group_indexes.now }
         requires few { All (λ s. s.count + sum (map (λ t. t.count) states.now) ≤ most_entries)
             self.old.states }
         ensures kind { self.new.kind ≡ self.old.kind }
         ensures height { length self.new.states ≡ length self.old.states }
         ensures ok { OnOk result
             (self.new ≡ of_states self.old
-            (with_states self.old.kind self.old.states (zip places.now states.now))) }
+            (with_states self.old.kind self.old.states (zip group_indexes.now states.now))) }
         ensures roomy { has_one_size self.old.kind ≡ true → IsOk result }
     {
-        merge_each(&mut self.cells, alloc, places, states)
+        merge_each(&mut self.cells, alloc, group_indexes, states)
     }
 
-    /// Merges a state into the one at a place. On an error nothing changes. What keeps no value of
-    /// its own takes no memory.
-    pub fn merge_at(&mut self, alloc: Global, place: usize, state: &State) -> Result<(), AllocError>
-        requires place { place < length self.old.states }
-        requires few { (slice_index_or self.old.states place no_statistics).count + state.now.count
-            ≤ most_entries }
+    /// Merges a state into the one at a group index. On an error nothing changes. What keeps no
+    /// value of its own takes no memory.
+    pub fn merge_at(
+        &mut self,
+        alloc: Global,
+        group_index: usize,
+        state: &State,
+    ) -> Result<(), AllocError>
+        requires group_index { group_index < length self.old.states }
+        requires few { (slice_index_or self.old.states group_index no_statistics).count
+            + state.now.count ≤ most_entries }
         ensures kind { self.new.kind ≡ self.old.kind }
         ensures ok { OnOk result
             (self.new ≡ of_states self.old
-            (merged_at self.old.states place (kept_by self.old.kind state.now))) }
+            (merged_at self.old.states group_index (kept_by self.old.kind state.now))) }
         ensures err { OnErr result (self.new ≡ self.old) }
         ensures roomy { has_one_size self.old.kind ≡ true → IsOk result }
     {
-        self.cells.add_state(alloc, place, state)
+        self.cells.add_state(alloc, group_index, state)
     }
 
     /// A copy, in memory of its own.
@@ -272,10 +289,10 @@ impl StateColumn {
     }
 
     /// The state of a group.
-    pub fn state(&self, alloc: Global, place: usize) -> Result<State, AllocError>
-        requires { place < length self.now.states }
-        ensures { IfOk result (λ s. s ≡ slice_index_or self.now.states place no_statistics) }
+    pub fn state(&self, alloc: Global, group_index: usize) -> Result<State, AllocError>
+        requires { group_index < length self.now.states }
+        ensures { IfOk result (λ s. s ≡ slice_index_or self.now.states group_index no_statistics) }
     {
-        self.cells.state(alloc, place)
+        self.cells.state(alloc, group_index)
     }
 }

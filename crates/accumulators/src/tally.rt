@@ -9,7 +9,7 @@ ghost use Rattle.accumulators.specs.Kinds.{sum_state, IsSum};
 ghost use Rattle.accumulators.specs.State.{most_entries};
 
 use crate::state::State;
-use meaning::value::ValueRef;
+use meaning::ValueRef;
 
 /// The sums of the high and of the low halves of integers, each of them 2^63 more than it is.
 /// Neither leaves 64 bits, so that the processor adds several at once.

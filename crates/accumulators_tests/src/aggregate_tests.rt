@@ -5,16 +5,12 @@ ghost use Rattle.accumulators.specs.Values.{is_spelled};
 ghost use Rattle.vectors.specs.Vector.{values_of};
 
 use accumulators::{Accumulator, AggFault, AnyAcc, State};
-use meaning::plan::AggregateKind;
-use meaning::value::Value;
+use meaning::{AggregateKind, Value};
 use std::alloc::{AllocError, Global};
 use std::fmt::Write;
 use std::mem::drop;
 use std::process::Abort;
-use vectors::ints::{IntCells, Ints};
-use vectors::nulls::Nulls;
-use vectors::selection::Selection;
-use vectors::vector::Vector;
+use vectors::{IntCells, Ints, Nulls, Selection, Vector};
 
 pub const NULL: i64 = 404;
 
@@ -36,7 +32,7 @@ fn nulls_of(alloc: Global, list: &[i64]) -> Result<Vec<bool>, AllocError>
     Ok(nulls)
 }
 
-/// A vector of these integers; 404 stands for NULL.
+/// A vector of these integers; 404 is NULL.
 pub fn vector_of(alloc: Global, list: &[i64]) -> Result<Vector<'static>, AllocError>
     ensures long { IfOk result (λ lanes. length (values_of lanes) ≡ length list.now) }
     ensures spelled { IfOk result (λ lanes. All (λ v. is_spelled v ≡ true) (values_of lanes)) }
@@ -94,18 +90,18 @@ fn merged(
     Ok(acc)
 }
 
-pub fn tell_value(told: &mut String, value: Result<Value, AggFault>) -> Result<(), AllocError> {
+pub fn show_value(shown: &mut String, value: Result<Value, AggFault>) -> Result<(), AllocError> {
     match value {
-        Ok(Value::Null) => told.push_str("NULL"),
-        Ok(Value::Int(int)) => write!(told, "{int}"),
-        Ok(Value::Text(_)) => told.push_str("a text"),
-        Err(AggFault::SumOutOfRange) => told.push_str("refused"),
+        Ok(Value::Null) => shown.push_str("NULL"),
+        Ok(Value::Int(int)) => write!(shown, "{int}"),
+        Ok(Value::Text(_)) => shown.push_str("a text"),
+        Err(AggFault::SumOutOfRange) => shown.push_str("refused"),
         Err(AggFault::Memory) => Err(AllocError),
     }
 }
 
 /// How many entries there are, their sum, and the aggregate.
-fn told(
+fn shown(
     alloc: Global,
     kind: AggregateKind,
     first: &[i64],
@@ -115,11 +111,11 @@ fn told(
     requires second { length second.now ≤ 100 }
 {
     let acc = merged(alloc, kind, first, second)?;
-    let mut told = String::new(alloc);
+    let mut shown = String::new(alloc);
     let state = acc.state(alloc)?;
-    write!(told, "{} {} ", state.count(), state.sum())?;
-    tell_value(&mut told, acc.evaluate(alloc))?;
-    Ok(told)
+    write!(shown, "{} {} ", state.count(), state.sum())?;
+    show_value(&mut shown, acc.evaluate(alloc))?;
+    Ok(shown)
 }
 
 fn expect(
@@ -133,8 +129,8 @@ fn expect(
     requires first { length first.now ≤ 100 }
     requires second { length second.now ≤ 100 }
 {
-    let told = told(alloc, kind, first, second)?;
-    assert_eq!(rt; told.as_str(), want);
+    let shown = shown(alloc, kind, first, second)?;
+    assert_eq!(rt; shown.as_str(), want);
     Ok(())
 }
 

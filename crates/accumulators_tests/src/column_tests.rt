@@ -1,13 +1,13 @@
-//! States of two groups, by their places: 5 and 7 go to the first, NULL to the second.
+//! States of two groups, by group index: 5 and 7 go to the first, NULL to the second.
 ghost use Rattle.std.specs.Prelude.{◌≡◌, [], ◌∷◌, length, IfOk};
 ghost use Rattle.meaning.specs.Aggregate.{no_statistics};
 
-use crate::aggregate_tests::{NULL, tell_value, vector_of};
+use crate::aggregate_tests::{NULL, show_value, vector_of};
 use accumulators::StateColumn;
-use meaning::plan::AggregateKind;
+use meaning::AggregateKind;
 use std::alloc::{AllocError, Global};
 use std::process::Abort;
-use vectors::selection::Selection;
+use vectors::Selection;
 
 fn two_groups(alloc: Global, kind: AggregateKind) -> Result<StateColumn, AllocError>
     ensures { IfOk result (λ c. c ≡ record {
@@ -45,16 +45,16 @@ fn merged(alloc: Global, kind: AggregateKind) -> Result<StateColumn, AllocError>
 }
 
 /// What the aggregate is in each group.
-fn told(alloc: Global, kind: AggregateKind, column: &StateColumn) -> Result<String, AllocError>
+fn shown(alloc: Global, kind: AggregateKind, column: &StateColumn) -> Result<String, AllocError>
     requires { length column.now.states ≡ 2 }
 {
-    let mut told = String::new(alloc);
-    for place in 0..2 {
-        let state = column.state(alloc, place)?;
-        tell_value(&mut told, state.evaluate(alloc, kind))?;
-        told.push_str(";")?;
+    let mut shown = String::new(alloc);
+    for group_index in 0..2 {
+        let state = column.state(alloc, group_index)?;
+        show_value(&mut shown, state.evaluate(alloc, kind))?;
+        shown.push_str(";")?;
     }
-    Ok(told)
+    Ok(shown)
 }
 
 fn expect(
@@ -64,33 +64,33 @@ fn expect(
     want: &str,
 ) -> Result<(), AllocError> {
     let column = updated(alloc, kind)?;
-    let told = told(alloc, kind, &column)?;
-    assert_eq!(rt; told.as_str(), want);
+    let shown = shown(alloc, kind, &column)?;
+    assert_eq!(rt; shown.as_str(), want);
     Ok(())
 }
 
 #[test]
-fn counts_stand_at_their_places(rt: HostRuntime) -> Result<(), AllocError> {
+fn counts_by_group(rt: HostRuntime) -> Result<(), AllocError> {
     expect(&rt, rt.alloc(), AggregateKind::Count, "2;0;")
 }
 
 #[test]
-fn sums_stand_at_their_places(rt: HostRuntime) -> Result<(), AllocError> {
+fn sums_by_group(rt: HostRuntime) -> Result<(), AllocError> {
     expect(&rt, rt.alloc(), AggregateKind::Sum, "12;NULL;")
 }
 
 #[test]
-fn averages_stand_at_their_places(rt: HostRuntime) -> Result<(), AllocError> {
+fn averages_by_group(rt: HostRuntime) -> Result<(), AllocError> {
     expect(&rt, rt.alloc(), AggregateKind::Avg, "6;NULL;")
 }
 
 #[test]
-fn least_values_stand_at_their_places(rt: HostRuntime) -> Result<(), AllocError> {
+fn least_values_by_group(rt: HostRuntime) -> Result<(), AllocError> {
     expect(&rt, rt.alloc(), AggregateKind::Min, "5;NULL;")
 }
 
 #[test]
-fn greatest_values_stand_at_their_places(rt: HostRuntime) -> Result<(), AllocError> {
+fn greatest_values_by_group(rt: HostRuntime) -> Result<(), AllocError> {
     expect(&rt, rt.alloc(), AggregateKind::Max, "7;NULL;")
 }
 
@@ -101,17 +101,17 @@ fn expect_merged(
     want: &str,
 ) -> Result<(), AllocError> {
     let column = merged(alloc, kind)?;
-    let told = told(alloc, kind, &column)?;
-    assert_eq!(rt; told.as_str(), want);
+    let shown = shown(alloc, kind, &column)?;
+    assert_eq!(rt; shown.as_str(), want);
     Ok(())
 }
 
 #[test]
-fn sums_are_merged_at_their_places(rt: HostRuntime) -> Result<(), AllocError> {
+fn sums_are_merged_by_group(rt: HostRuntime) -> Result<(), AllocError> {
     expect_merged(&rt, rt.alloc(), AggregateKind::Sum, "NULL;12;")
 }
 
 #[test]
-fn least_values_are_merged_at_their_places(rt: HostRuntime) -> Result<(), AllocError> {
+fn least_values_are_merged_by_group(rt: HostRuntime) -> Result<(), AllocError> {
     expect_merged(&rt, rt.alloc(), AggregateKind::Min, "NULL;5;")
 }

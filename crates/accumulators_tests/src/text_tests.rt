@@ -4,13 +4,10 @@ ghost use Rattle.accumulators.specs.Values.{is_spelled};
 ghost use Rattle.vectors.specs.Vector.{values_of};
 
 use accumulators::{Accumulator, AggFault, MaxAcc, MinAcc};
-use meaning::value::Value;
+use meaning::Value;
 use std::alloc::{AllocError, Global};
 use std::process::Abort;
-use vectors::nulls::Nulls;
-use vectors::selection::Selection;
-use vectors::texts::{TextCells, Texts};
-use vectors::vector::Vector;
+use vectors::{Nulls, Selection, TextCells, Texts, Vector};
 
 /// A vector of two lanes with this text.
 fn twice(text: &str) -> Vector<'_>
@@ -50,14 +47,14 @@ fn greatest_of(alloc: Global, text: &str) -> Result<String, AllocError> {
 
 #[test]
 fn the_least_text_is_copied(rt: HostRuntime) -> Result<(), AllocError> {
-    let told = least_of(rt.alloc(), "north")?;
-    assert_eq!(rt; told.as_str(), "north");
+    let shown = least_of(rt.alloc(), "north")?;
+    assert_eq!(rt; shown.as_str(), "north");
     Ok(())
 }
 
 #[test]
 fn the_greatest_text_is_copied(rt: HostRuntime) -> Result<(), AllocError> {
-    let told = greatest_of(rt.alloc(), "north")?;
-    assert_eq!(rt; told.as_str(), "north");
+    let shown = greatest_of(rt.alloc(), "north")?;
+    assert_eq!(rt; shown.as_str(), "north");
     Ok(())
 }

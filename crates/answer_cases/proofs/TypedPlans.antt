@@ -14,7 +14,7 @@ use Rattle.meaning.specs.declared.value.ColType.{ColType}
 use Rattle.meaning.specs.declared.value.ColType.TheVariants as of_type
 use Rattle.meaning.specs.References.{Reference, GroupAggregate, columns_used_in_all}
 use Rattle.meaning.specs.Typing.{RowTypes, Valued, Boolean, group_types, has_type, result_type}
-use Rattle.last_step.specs.Fitting.{IsOfGroup, IsTypedOverGroups}
+use Rattle.meaning.specs.SoundPlan.{IsOfGroup, IsTypedOverGroups}
 
 abbrev sums : RowTypes
 sums = record { fact = []; joins = []; key = []; aggregates = of_type.Int ∷ [] }

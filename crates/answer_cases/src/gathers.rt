@@ -1,28 +1,26 @@
 //! Cases about coordinators: what each event does and what is printed.
 ghost use Rattle.std.specs.Prelude.{◌≡◌, IfOk, IfSome, length};
-ghost use Rattle.coordinator.specs.Gathering.{IsShown};
+ghost use Rattle.gathering.specs.Gathering.{IsShown};
 
 use crate::jobs::{NO_JOB, job_of};
-use case_files::lines::tell_printed;
-use case_files::stored::{StoredFile, find};
-use case_files::words::words;
-use coordinator::{Absorbed, Gather, GatherFault, Report};
+use case_files::{StoredFile, find, show_printed, words};
+use gathering::{Absorbed, Gather, GatherFault, Report};
 use partial_codec::Job;
 use std::alloc::{AllocError, Global};
 use std::fmt::Write;
 use std::mem;
 use std::mem::drop;
 
-fn tell_refusal(told: &mut String, fault: &GatherFault) -> Result<(), AllocError> {
-    writeln!(told, "refused {}", fault.number())
+fn show_refusal(shown: &mut String, fault: &GatherFault) -> Result<(), AllocError> {
+    writeln!(shown, "refused {}", fault.number())
 }
 
-fn tell_fragments(told: &mut String, word: &str, fragments: &[u32]) -> Result<(), AllocError> {
-    told.push_str(word)?;
+fn show_fragments(shown: &mut String, word: &str, fragments: &[u32]) -> Result<(), AllocError> {
+    shown.push_str(word)?;
     for fragment in fragments {
-        write!(told, " {fragment}")?;
+        write!(shown, " {fragment}")?;
     }
-    told.push_str("\n")
+    shown.push_str("\n")
 }
 
 // ---- events of a coordinator
@@ -31,37 +29,37 @@ fn absorb(
     alloc: Global,
     gather: &mut Gather,
     bytes: &[u8],
-    told: &mut String,
+    shown: &mut String,
 ) -> Result<(), AllocError> {
     match gather.absorb(alloc, bytes) {
-        Ok(Absorbed::New) => told.push_str("new\n"),
-        Ok(Absorbed::Known) => told.push_str("known\n"),
-        Ok(Absorbed::Conflict { fragment }) => writeln!(told, "conflict {fragment}"),
-        Err(fault) => tell_refusal(told, &fault),
+        Ok(Absorbed::New) => shown.push_str("new\n"),
+        Ok(Absorbed::Known) => shown.push_str("known\n"),
+        Ok(Absorbed::Conflict { fragment }) => writeln!(shown, "conflict {fragment}"),
+        Err(fault) => show_refusal(shown, &fault),
     }
 }
 
-fn tell_report(told: &mut String, report: &Report) -> Result<(), AllocError> {
+fn show_report(shown: &mut String, report: &Report) -> Result<(), AllocError> {
     match report {
-        Report::Conflict(fragments) => tell_fragments(told, "conflict", fragments.as_slice()),
-        Report::Missing(fragments) => tell_fragments(told, "missing", fragments.as_slice()),
-        Report::Fault => told.push_str("fault\n"),
-        Report::Rows => told.push_str("rows\n"),
+        Report::Conflict(fragments) => show_fragments(shown, "conflict", fragments.as_slice()),
+        Report::Missing(fragments) => show_fragments(shown, "missing", fragments.as_slice()),
+        Report::Fault => shown.push_str("fault\n"),
+        Report::Rows => shown.push_str("rows\n"),
     }
 }
 
-fn report(alloc: Global, gather: &Gather, told: &mut String) -> Result<(), AllocError> {
+fn report(alloc: Global, gather: &Gather, shown: &mut String) -> Result<(), AllocError> {
     match gather.report(alloc) {
-        Ok(report) => tell_report(told, &report),
-        Err(fault) => tell_refusal(told, &fault),
+        Ok(report) => show_report(shown, &report),
+        Err(fault) => show_refusal(shown, &fault),
     }
 }
 
-fn print(alloc: Global, gather: &Gather, told: &mut String) -> Result<(), AllocError> {
+fn print(alloc: Global, gather: &Gather, shown: &mut String) -> Result<(), AllocError> {
     let mut out = Vec::new(alloc);
     match gather.print_report(alloc, &mut out) {
-        Ok(()) => tell_printed(alloc, told, "out", out.as_slice()),
-        Err(fault) => tell_refusal(told, &fault),
+        Ok(()) => show_printed(alloc, shown, "out", out.as_slice()),
+        Err(fault) => show_refusal(shown, &fault),
     }
 }
 
@@ -70,16 +68,16 @@ fn save(
     gather: &Gather,
     path: &str,
     files: &mut Vec<StoredFile>,
-    told: &mut String,
+    shown: &mut String,
 ) -> Result<(), AllocError> {
     match gather.state_bytes(alloc) {
         Ok(bytes) => {
             let path = String::from_str(alloc, path)?;
-            writeln!(told, "{} bytes", bytes.len())?;
+            writeln!(shown, "{} bytes", bytes.len())?;
             files.push(StoredFile { path, bytes })?;
             Ok(())
         }
-        Err(fault) => tell_refusal(told, &fault),
+        Err(fault) => show_refusal(shown, &fault),
     }
 }
 
@@ -87,12 +85,12 @@ fn compare(
     alloc: Global,
     gather: &Gather,
     state: &[u8],
-    told: &mut String,
+    shown: &mut String,
 ) -> Result<(), AllocError> {
     match gather.state_bytes(alloc) {
-        Ok(bytes) if bytes.as_slice() == state => told.push_str("equal\n"),
-        Ok(_) => told.push_str("unequal\n"),
-        Err(fault) => tell_refusal(told, &fault),
+        Ok(bytes) if bytes.as_slice() == state => shown.push_str("equal\n"),
+        Ok(_) => shown.push_str("unequal\n"),
+        Err(fault) => show_refusal(shown, &fault),
     }
 }
 
@@ -100,11 +98,11 @@ fn join(
     alloc: Global,
     gather: &mut Gather,
     other: &Gather,
-    told: &mut String,
+    shown: &mut String,
 ) -> Result<(), AllocError> {
     match gather.join(alloc, other) {
-        Ok(()) => told.push_str("joined\n"),
-        Err(fault) => tell_refusal(told, &fault),
+        Ok(()) => shown.push_str("joined\n"),
+        Err(fault) => show_refusal(shown, &fault),
     }
 }
 
@@ -130,16 +128,16 @@ struct Origin<'a> {
 fn start(
     alloc: Global,
     origin: Origin<'_>,
-    told: &mut String,
+    shown: &mut String,
 ) -> Result<Option<Gather>, AllocError> {
     let Some(job) = job_of(alloc, origin.job)? else {
-        told.push_str(NO_JOB)?;
+        shown.push_str(NO_JOB)?;
         return Ok(None);
     };
     match started(alloc, job, origin.state) {
         Ok(gather) => Ok(Some(gather)),
         Err(fault) => {
-            tell_refusal(told, &fault)?;
+            show_refusal(shown, &fault)?;
             Ok(None)
         }
     }
@@ -149,11 +147,11 @@ fn join_other(
     alloc: Global,
     gather: &mut Gather,
     other: Origin<'_>,
-    told: &mut String,
+    shown: &mut String,
 ) -> Result<(), AllocError> {
-    match start(alloc, other, told) {
+    match start(alloc, other, shown) {
         Ok(Some(other)) => {
-            let joined = join(alloc, gather, &other, told);
+            let joined = join(alloc, gather, &other, shown);
             drop(other);
             joined
         }
@@ -171,12 +169,12 @@ fn restart(
     alloc: Global,
     gather: &mut Gather,
     other: Origin<'_>,
-    told: &mut String,
+    shown: &mut String,
 ) -> Result<(), AllocError> {
-    match start(alloc, other, told) {
+    match start(alloc, other, shown) {
         Ok(Some(other)) => {
             put(gather, other);
-            told.push_str("started\n")
+            shown.push_str("started\n")
         }
         Ok(None) => Ok(()),
         Err(e) => Err(e),
@@ -185,106 +183,106 @@ fn restart(
 
 // ---- lines
 
-fn tell_unknown(told: &mut String, event: &[&str]) -> Result<(), AllocError> {
-    writeln!(told, "(no event: {})", event.first().unwrap_or(&""))
+fn show_unknown(shown: &mut String, event: &[&str]) -> Result<(), AllocError> {
+    writeln!(shown, "(no event: {})", event.first().unwrap_or(&""))
 }
 
 // An event that no file stands for.
-fn tell_bare(
+fn show_bare(
     alloc: Global,
     job: &[&str],
     gather: &mut Gather,
     event: &[&str],
-    told: &mut String,
+    shown: &mut String,
 ) -> Result<(), AllocError> {
     match event {
-        ["new"] => restart(alloc, gather, Origin { job, state: None }, told),
-        ["report"] => report(alloc, gather, told),
-        ["print"] => print(alloc, gather, told),
-        ["join-new", job @ ..] => join_other(alloc, gather, Origin { job, state: None }, told),
-        _ => tell_unknown(told, event),
+        ["new"] => restart(alloc, gather, Origin { job, state: None }, shown),
+        ["report"] => report(alloc, gather, shown),
+        ["print"] => print(alloc, gather, shown),
+        ["join-new", job @ ..] => join_other(alloc, gather, Origin { job, state: None }, shown),
+        _ => show_unknown(shown, event),
     }
 }
 
-fn tell_of_file(
+fn show_of_file(
     alloc: Global,
     job: &[&str],
     gather: &mut Gather,
     event: &[&str],
     bytes: &[u8],
-    told: &mut String,
+    shown: &mut String,
 ) -> Result<(), AllocError> {
     let state = Some(bytes);
     match event {
-        ["absorb", _] => absorb(alloc, gather, bytes, told),
-        ["restart", _] => restart(alloc, gather, Origin { job, state }, told),
-        ["restart", _, job @ ..] => restart(alloc, gather, Origin { job, state }, told),
-        ["join", _] => join_other(alloc, gather, Origin { job, state }, told),
-        ["compare", _] => compare(alloc, gather, bytes, told),
-        _ => tell_unknown(told, event),
+        ["absorb", _] => absorb(alloc, gather, bytes, shown),
+        ["restart", _] => restart(alloc, gather, Origin { job, state }, shown),
+        ["restart", _, job @ ..] => restart(alloc, gather, Origin { job, state }, shown),
+        ["join", _] => join_other(alloc, gather, Origin { job, state }, shown),
+        ["compare", _] => compare(alloc, gather, bytes, shown),
+        _ => show_unknown(shown, event),
     }
 }
 
-fn tell_event(
+fn show_event(
     alloc: Global,
     job: &[&str],
     gather: &mut Gather,
     event: &[&str],
     files: &mut Vec<StoredFile>,
-    told: &mut String,
+    shown: &mut String,
 ) -> Result<(), AllocError> {
     if let ["save", path] = event {
-        return save(alloc, gather, path, files, told);
+        return save(alloc, gather, path, files, shown);
     }
     match event {
         [_, path, ..] => match find(files.as_slice(), path) {
-            Some(bytes) => tell_of_file(alloc, job, gather, event, bytes, told),
-            None => tell_bare(alloc, job, gather, event, told),
+            Some(bytes) => show_of_file(alloc, job, gather, event, bytes, shown),
+            None => show_bare(alloc, job, gather, event, shown),
         },
-        _ => tell_bare(alloc, job, gather, event, told),
+        _ => show_bare(alloc, job, gather, event, shown),
     }
 }
 
-fn tell_line(
+fn show_line(
     alloc: Global,
     job: &[&str],
     gather: &mut Gather,
     line: &str,
     files: &mut Vec<StoredFile>,
-    told: &mut String,
+    shown: &mut String,
 ) -> Result<(), AllocError> {
     let words = words(alloc, line)?;
     let event: Vec<&str> = words.iter().map(|word| word.text.as_str()).collect(alloc)?;
-    tell_event(alloc, job, gather, event.as_slice(), files, told)
+    show_event(alloc, job, gather, event.as_slice(), files, shown)
 }
 
-fn tell_lines(
+fn show_lines(
     alloc: Global,
     job: &[&str],
     gather: &mut Gather,
     lines: &str,
     files: &mut Vec<StoredFile>,
-    told: &mut String,
+    shown: &mut String,
 ) -> Result<(), AllocError> {
     for line in lines.lines() {
-        tell_line(alloc, job, gather, line, files, told)?;
+        show_line(alloc, job, gather, line, files, shown)?;
     }
     Ok(())
 }
 
-/// What comes of each event of a coordinator of the job that the words tell, one event a line.
-pub fn tell(
+/// What comes of each event of a coordinator of the job that the words show, one event a line.
+pub fn show(
     alloc: Global,
     job: &[&str],
     body: &str,
     files: &mut Vec<StoredFile>,
 ) -> Result<String, AllocError> {
-    let mut told = String::new(alloc);
-    if let Some(gather) = start(alloc, Origin { job, state: None }, &mut told)? {
+    let mut shown = String::new(alloc);
+    if let Some(gather) = start(alloc, Origin { job, state: None }, &mut shown)? {
         let mut gather = gather;
-        let ended = tell_lines(alloc, job, &mut gather, body, files, &mut told);
+        let ended = show_lines(alloc, job, &mut gather, body, files, &mut shown);
         drop(gather);
         ended?;
     }
-    Ok(told)
+    Ok(shown)
 }

@@ -1,5 +1,5 @@
 //! The job that the words of a case name.
-// Jobs that words tell: the number of a load, a cut, what is asked of each fragment, and the text
+// Jobs that words show: the number of a load, a cut, what is asked of each fragment, and the text
 // of the query.
 ghost use Rattle.std.specs.Prelude.{◌≡◌, ◌≢◌, ◌≤◌, [], ◌∷◌, None, false, length, map, IfOk, IfSome};
 ghost use Rattle.meaning.specs.declared.expr.Expr.TheVariants as the_expr;
@@ -7,22 +7,19 @@ ghost use Rattle.meaning.specs.declared.plan.Aggregate.{Aggregate as AnAggregate
 ghost use Rattle.meaning.specs.declared.value.ColType.TheVariants as of_type;
 ghost use Rattle.meaning.specs.Typing.{result_type};
 ghost use Rattle.meaning.specs.Limits.{max_query_bytes};
-ghost use Rattle.partial_codec.specs.Job.{IsPlanOfJob};
-ghost use Rattle.coordinator.specs.Gathering.{IsShown};
+ghost use Rattle.partial_codec.specs.Job.{IsWithinLimits};
+ghost use Rattle.gathering.specs.Gathering.{IsShown};
 
 use crate::shapes::shaped_plan;
-use meaning::cut::Cut;
-use meaning::expr::Expr;
-use meaning::limits::MAX_QUERY_BYTES;
-use meaning::plan::{Aggregate, AggregateKind, Item, Plan, TableUse};
-use meaning::sequence::Sequence;
-use meaning::text::Text;
-use meaning::value::{ColType, Value};
+use meaning::{
+    Aggregate, AggregateKind, ColType, Cut, Expr, Item, MAX_QUERY_BYTES, Plan, Sequence, TableUse,
+    Text, Value,
+};
 use partial_codec::Job;
 use std::alloc::{AllocError, Global};
 use std::mem::drop;
 
-/// What is told where words tell no job.
+/// What is text where words show no job.
 pub const NO_JOB: &str = "(no job: a load, a cut, count or sum or a shape, and a text)\n";
 
 fn lengths_of(alloc: Global, word: &str) -> Result<Option<Vec<u32>>, AllocError> {
@@ -114,7 +111,7 @@ fn with_parts(
 fn plan_of(alloc: Global, text: &str, summed: Option<usize>) -> Result<Plan, AllocError>
     requires { length text.now ≤ max_query_bytes }
     ensures shown { IfOk result IsShown }
-    ensures job { IfOk result IsPlanOfJob }
+    ensures job { IfOk result IsWithinLimits }
 {
     let text = Text::new(alloc, text)?;
     let name = Text::new(alloc, "t")?;
@@ -152,7 +149,7 @@ fn summed_by(word: &str) -> Option<Option<usize>> {
     }
 }
 
-/// The job that the words tell, where the third may be a shape, as in `7 2,3 int/rows,min:text
+/// The job that the words show, where the third may be a shape, as in `7 2,3 int/rows,min:text
 /// "SELECT ..."`.
 pub fn shaped_job_of(alloc: Global, words: &[&str]) -> Result<Option<Job>, AllocError> {
     let [load, cut, shape, text] = words else {
@@ -180,7 +177,7 @@ pub fn shaped_job_of(alloc: Global, words: &[&str]) -> Result<Option<Job>, Alloc
     }
 }
 
-/// The job that the words tell, as in `7 2,3 count "SELECT COUNT(*) FROM sales"`.
+/// The job that the words show, as in `7 2,3 count "SELECT COUNT(*) FROM sales"`.
 pub fn job_of(alloc: Global, words: &[&str]) -> Result<Option<Job>, AllocError>
     ensures { IfOk result (λ found. IfSome found (λ job. IsShown job.plan)) }
 {

@@ -1,15 +1,13 @@
-//! Plans of the shape that a word tells, as in `int,text/rows,min:text`: keys, and behind a stroke
+//! Plans of the shape that a word shows, as in `int,text/rows,min:text`: keys, and behind a stroke
 //! aggregates, of which COUNT(*) is `rows`. `-` stands for none, and a word with `plain:` before it
 //! is of a query without groups.
 ghost use Rattle.std.specs.Prelude.{◌≡◌, IfOk, IfSome};
-ghost use Rattle.partial_codec.specs.Job.{IsPlanOfJob};
+ghost use Rattle.meaning.specs.SoundPlan.{IsWithinLimits};
 
-use meaning::expr::Expr;
-use meaning::limits::{MAX_AGGREGATES, MAX_KEYS, MAX_QUERY_BYTES};
-use meaning::plan::{Aggregate, AggregateKind, GroupingKey, Plan, TableUse};
-use meaning::sequence::Sequence;
-use meaning::text::Text;
-use meaning::value::{ColType, Value};
+use meaning::{
+    Aggregate, AggregateKind, ColType, Expr, GroupingKey, MAX_AGGREGATES, MAX_KEYS,
+    MAX_QUERY_BYTES, Plan, Sequence, TableUse, Text, Value,
+};
 use std::alloc::{AllocError, Global};
 
 fn type_of(word: &str) -> Option<ColType> {
@@ -112,9 +110,9 @@ fn plan_with(
     }
 }
 
-/// The plan, unless the word tells no shape, or the shape or the text passes a limit.
+/// The plan, unless the word shows no shape, or the shape or the text passes a limit.
 pub fn shaped_plan(alloc: Global, word: &str, text: &str) -> Result<Option<Plan>, AllocError>
-    ensures { IfOk result (λ found. IfSome found IsPlanOfJob) }
+    ensures { IfOk result (λ found. IfSome found IsWithinLimits) }
 {
     let (plain, word) = match word.strip_prefix("plain:") {
         Some(shape) => (true, shape),

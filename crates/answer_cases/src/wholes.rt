@@ -1,13 +1,12 @@
 //! Cases about whole queries over the CSV files of a folder.
 use crate::jobs::cut_of;
-use case_files::lines::tell_printed;
-use case_files::stored::{StoredFile, find};
-use coordinator::{Ended, Gather};
-use meaning::cut::Cut;
+use case_files::{StoredFile, find, show_printed};
+use coordinator::{Sources, WholeFault, whole};
+use gathering::{Ended, Gather};
+use meaning::Cut;
 use std::alloc::{AllocError, Global};
 use std::fmt::Write;
 use std::mem::drop;
-use whole_query::{Sources, WholeFault, whole};
 
 // What a query asks of the tables of a folder.
 #[derive(Clone, Copy)]
@@ -75,30 +74,30 @@ fn refusal_line(alloc: Global, fault: &WholeFault) -> Result<String, AllocError>
     }
 }
 
-fn tell_held(alloc: Global, gather: &Gather, told: &mut String) -> Result<(), AllocError> {
+fn show_held(alloc: Global, gather: &Gather, shown: &mut String) -> Result<(), AllocError> {
     match gather.state_bytes(alloc) {
-        Ok(bytes) => writeln!(told, "state of {} bytes", bytes.len()),
-        Err(fault) => writeln!(told, "refused {}", fault.number()),
+        Ok(bytes) => writeln!(shown, "state of {} bytes", bytes.len()),
+        Err(fault) => writeln!(shown, "refused {}", fault.number()),
     }
 }
 
-fn tell_ended(
+fn show_ended(
     alloc: Global,
     printed: &[u8],
     ended: Ended,
     gather: &Gather,
 ) -> Result<String, AllocError> {
-    let mut told = String::new(alloc);
-    tell_printed(alloc, &mut told, "out", printed)?;
-    told.push_str(match ended {
+    let mut shown = String::new(alloc);
+    show_printed(alloc, &mut shown, "out", printed)?;
+    shown.push_str(match ended {
         Ended::Rows => "rows, ",
         Ended::Fault => "fault, ",
     })?;
-    tell_held(alloc, gather, &mut told)?;
-    Ok(told)
+    show_held(alloc, gather, &mut shown)?;
+    Ok(shown)
 }
 
-fn tell_over(
+fn show_over(
     alloc: Global,
     asked: Asked<'_>,
     cut: &Cut,
@@ -106,34 +105,39 @@ fn tell_over(
 ) -> Result<String, AllocError> {
     let catalog = catalog_of(alloc, asked.folder, files)?;
     let csvs = csvs_of(alloc, asked.folder, files)?;
-    let sources = Sources {
-        csvs: csvs.as_slice(),
-        cut,
-        vector_len: asked.vector_len,
-    };
     let mut out = Vec::new(alloc);
-    match whole(alloc, catalog, asked.query.as_bytes(), sources, &mut out) {
+    let query = asked.query.as_bytes();
+    let length = asked.vector_len;
+    match whole(
+        alloc,
+        catalog,
+        csvs.as_slice(),
+        query,
+        cut,
+        length,
+        &mut out,
+    ) {
         Ok((ended, gather)) => {
-            let told = tell_ended(alloc, out.as_slice(), ended, &gather);
+            let shown = show_ended(alloc, out.as_slice(), ended, &gather);
             drop(gather);
-            told
+            shown
         }
         Err(fault) => {
-            let told = refusal_line(alloc, &fault);
+            let shown = refusal_line(alloc, &fault);
             drop(fault);
-            told
+            shown
         }
     }
 }
 
 /// What a query over the CSV files of a folder prints and how it ends, or its refusal. The words
 /// are the folder, the rows of each fragment, the vectors' length and the query.
-pub fn tell(alloc: Global, words: &[&str], files: &[StoredFile]) -> Result<String, AllocError> {
+pub fn show(alloc: Global, words: &[&str], files: &[StoredFile]) -> Result<String, AllocError> {
     let Some(asked) = asked_by(words) else {
         return String::from_str(alloc, "(a folder, a cut, a vector's length and a query)\n");
     };
     match cut_of(alloc, asked.cut)? {
-        Some(cut) => tell_over(alloc, asked, &cut, files),
+        Some(cut) => show_over(alloc, asked, &cut, files),
         None => String::from_str(alloc, "(no cut)\n"),
     }
 }

@@ -1,4 +1,4 @@
--- The place of a number among those that stand one after the other.
+-- The bytes of a number among those that stand one after the other.
 use Rattle.std.proofs.Common.{◌≡◌, ℕ, zero, suc, ◌+◌, ◌*◌, ◌<◌, List, [], length, get_or, take, drop, pos, refl, ap, ◌∙◌, arith}
 use Rattle.std.specs.Simd.{first_chunks}
 use Rattle.std.specs.Int.{w16, w32, from_le_bytes}

@@ -58,8 +58,8 @@ pub byte_more : (bytes : List ℕ) (i n b : ℕ) → i < length bytes → n ≡ 
 byte_more bytes i n b h known read =
     let k = length bytes - (i + 1) in
     let next : k + 1 ≡ length bytes - i = omega arith in
-    let place : length bytes - 1 - i ≡ k = omega arith in
-    let same : b ≡ get_or bytes k 0 = read ∙ ap (λ j. get_or bytes j 0) place in
+    let index_is : length bytes - 1 - i ≡ k = omega arith in
+    let same : b ≡ get_or bytes k 0 = read ∙ ap (λ j. get_or bytes j 0) index_is in
     let parts : number_of (drop k bytes) ≡ get_or bytes k 0 + 256 * number_of (drop (k + 1) bytes) = ap number_of (drop_more bytes k 0 (omega arith)) in
     let rest : number_of (drop (k + 1) bytes) ≡ n = ap (λ j. number_of (drop j bytes)) next ∙ sym known in
     omega arith
@@ -96,8 +96,8 @@ lowest_byte : (bytes : List ℕ) (w : ℕ) → w ≤ 8 → number_of bytes % 2 ^
 lowest_byte [] w h = refl
 lowest_byte (b ∷ bytes) w h = low_only b (number_of bytes) w 8 h
 
--- ---- the offset at a place, of which bit s of byte p is the lowest
-module _ (width i p s : ℕ) (bytes : List ℕ) (small : AreBytes bytes) (place : width * i ≡ 8 * p + s) (few : s ≤ 64) where
+-- ---- the offset at an index, of which bit s of byte p is the lowest
+module _ (width i p s : ℕ) (bytes : List ℕ) (small : AreBytes bytes) (bit_is : width * i ≡ 8 * p + s) (few : s ≤ 64) where
   window : ℕ
   window = number_of (take 8 (drop p bytes))
 
@@ -107,7 +107,7 @@ module _ (width i p s : ℕ) (bytes : List ℕ) (small : AreBytes bytes) (place 
   offset_shifted : offset_at width bytes i ≡ (behind * 2 ^ (64 - s) + window / 2 ^ s) % 2 ^ width
   unfolding window behind
   offset_shifted =
-      ap (λ k. (number_of bytes / 2 ^ k) % 2 ^ width) place
+      ap (λ k. (number_of bytes / 2 ^ k) % 2 ^ width) bit_is
       ∙ ap (λ n. n % 2 ^ width) (sym (shr-shr (number_of bytes) (8 * p) s))
       ∙ ap (λ n. (n / 2 ^ s) % 2 ^ width) (above p bytes small)
       ∙ ap (λ n. (n / 2 ^ s) % 2 ^ width) (number_of-split 8 (drop p bytes))

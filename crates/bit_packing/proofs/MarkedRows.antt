@@ -63,7 +63,7 @@ module _ (m c : ℕ) (set : m / 2 ^ c % 2 ≡ 1) (clear : (i : ℕ) → i < c �
       ∙ ⊎_elim (λ h. let none = clear i h in omega arith)
       (λ h. let same = ap (λ n. n % 2) (from_above i (omega arith)) in omega arith) (cases_lt i c))
 
--- ---- a test of the places that a word marks
+-- ---- a test of the bits that a word marks
 
 pub differ : (a b : ℕ) → a ≢ b → (a == b) ≡ false
 differ a b h = elim (a == b) as (λ r. (a == b) ≡ r → r ≡ false) [ true ↦ λ e. absurd (h (eqb-true a b e)) | false ↦ λ e. refl ] refl
@@ -130,29 +130,29 @@ no_marks p marks none =
 
 module _ (p : ℕ → Bool) (mask : List ℕ) (small : AreBytes mask) (rows first n : ℕ) (few : n ≤ 64) (within : first + n ≤ rows) (last : n < 64 → first + n ≡ rows) where
   abbrev pub word : ℕ → ℕ
-  word place = window place mask % 2 ^ n
+  word byte = window byte mask % 2 ^ n
 
-  pub marks_within : (place : ℕ) → (i : ℕ) → is_set (word place) i ≡ true → first + i < rows
-  marks_within place i set =
+  pub marks_within : (byte : ℕ) → (i : ℕ) → is_set (word byte) i ≡ true → first + i < rows
+  marks_within byte i set =
       ⊎_elim (λ h. omega arith)
-      (λ h. absurd (false≢true (sym (ap (λ k. k == 1) (bit_at_above (window place mask % 2 ^ n) n i (mod_below (window place mask) (2 ^ n) (pow_pos n)) h)) ∙ set))) (cases_lt i n)
+      (λ h. absurd (false≢true (sym (ap (λ k. k == 1) (bit_at_above (window byte mask % 2 ^ n) n i (mod_below (window byte mask) (2 ^ n) (pow_pos n)) h)) ∙ set))) (cases_lt i n)
 
-  bit_here : (place i : ℕ) → first ≡ 8 * place → i < n → is_set (word place) i ≡ bit_at mask (first + i)
-  bit_here place i start h =
-      ap (λ k. k == 1) (bit_low (window place mask) n i h ∙ window_bit mask place i small (omega arith))
-      ∙ ap (bit_at mask) (let e : 8 * place + i ≡ first + i = omega arith in e)
+  bit_here : (byte i : ℕ) → first ≡ 8 * byte → i < n → is_set (word byte) i ≡ bit_at mask (first + i)
+  bit_here byte i start h =
+      ap (λ k. k == 1) (bit_low (window byte mask) n i h ∙ window_bit mask byte i small (omega arith))
+      ∙ ap (bit_at mask) (let e : 8 * byte + i ≡ first + i = omega arith in e)
 
-  in_word : (place : ℕ) → first ≡ 8 * place → list_all (λ i. not (bit_at mask i) || p i) (range_with_len first n) ≡ all_set_pass (λ i. p (first + i)) (word place)
+  in_word : (byte : ℕ) → first ≡ 8 * byte → list_all (λ i. not (bit_at mask i) || p i) (range_with_len first n) ≡ all_set_pass (λ i. p (first + i)) (word byte)
   unfolding all_set_pass
-  in_word place start =
-      let q : ℕ → Bool = λ i. not (is_set (word place) i) || p (first + i) in
+  in_word byte start =
+      let q : ℕ → Bool = λ i. not (is_set (word byte) i) || p (first + i) in
       let above : list_all q (range_with_len n (64 - n)) ≡ true =
       all_moved q (λ _. true) n 0 (64 - n)
-      (λ j h. ap (λ b. not b || p (first + (n + j))) (ap (λ k. k == 1) (bit_at_above (window place mask % 2 ^ n) n (n + j) (mod_below (window place mask) (2 ^ n) (pow_pos n)) (omega arith))))
+      (λ j h. ap (λ b. not b || p (first + (n + j))) (ap (λ k. k == 1) (bit_at_above (window byte mask % 2 ^ n) n (n + j) (mod_below (window byte mask) (2 ^ n) (pow_pos n)) (omega arith))))
       ∙ all_pass (λ _. true) (range_with_len 0 (64 - n)) (λ _. refl) in
       let front : list_all (λ i. not (bit_at mask i) || p i) (range_with_len first n) ≡ list_all q (range_with_len 0 n) =
       all_moved (λ i. not (bit_at mask i) || p i) q first 0 n
-      (λ j h. ap (λ b. not b || p (first + j)) (sym (bit_here place j start h))
+      (λ j h. ap (λ b. not b || p (first + j)) (sym (bit_here byte j start h))
       ∙ ap q (let e : j ≡ 0 + j = omega arith in e)) in
       let whole : n + (64 - n) ≡ 64 = omega arith in
       front
@@ -171,15 +171,15 @@ module _ (p : ℕ → Bool) (mask : List ℕ) (small : AreBytes mask) (rows firs
       ap (λ k. list_all q (range_with_len (first + n) k)) none ∙ sym (ap (λ k. list_all q (range_with_len next k)) gone))
       (λ h. ap (λ k. list_all q (range_with_len k (rows - k))) (let s : first + n ≡ next = omega arith in s)) (cases_lt n 64)
 
-  pub word_more : (place next : ℕ) → first ≡ 8 * place → next ≡ first + 64 → list_all (λ i. not (bit_at mask i) || p i) (range_with_len first (rows - first)) ≡ (all_set_pass (λ i. p (first + i)) (word place) && list_all (λ i. not (bit_at mask i) || p i) (range_with_len next (rows - next)))
-  word_more place next start e =
+  pub word_more : (byte next : ℕ) → first ≡ 8 * byte → next ≡ first + 64 → list_all (λ i. not (bit_at mask i) || p i) (range_with_len first (rows - first)) ≡ (all_set_pass (λ i. p (first + i)) (word byte) && list_all (λ i. not (bit_at mask i) || p i) (range_with_len next (rows - next)))
+  word_more byte next start e =
       let q : ℕ → Bool = λ i. not (bit_at mask i) || p i in
       let parts : rows - first ≡ n + (rows - (first + n)) = omega arith in
       ap (λ k. list_all q (range_with_len first k)) parts
       ∙ ap (list_all q) (range-append first n (rows - (first + n)))
       ∙ list_all-append q (range_with_len first n) (range_with_len (first + n) (rows - (first + n)))
-      ∙ ap (λ b. b && list_all q (range_with_len (first + n) (rows - (first + n)))) (in_word place start)
-      ∙ ap (λ b. all_set_pass (λ i. p (first + i)) (word place) && b) (behind next e)
+      ∙ ap (λ b. b && list_all q (range_with_len (first + n) (rows - (first + n)))) (in_word byte start)
+      ∙ ap (λ b. all_set_pass (λ i. p (first + i)) (word byte) && b) (behind next e)
 
 -- offsets of no bits are 0
 pub no_bits : (mask packed : List ℕ) (rows width number : ℕ) → width ≡ 0 → number ≡ 0 → true ≡ list_all (λ i. not (bit_at mask i) || offset_at width packed i == number) (range_with_len 0 rows)

@@ -161,7 +161,7 @@ module _ {X : Type 0} (f : X → ℕ) (w : ℕ) where
       let all : packed w (map f (take i xs)) ≡ packed w (map f xs) = ap (λ ys. packed w (map f ys)) (take_all i xs l) in
       rw (b, ← all, ← e) p
 
-  -- a number below those of the places behind it
+  -- a number below those behind it
   pub packed_below : (xs : List X) (i at j number value : ℕ) (d : X) → i < length xs → at ≡ i → j ≡ i + 1 → number ≡ packed w (map f (drop j xs)) → value ≡ f (get_or xs at d) → value + 2 ^ w * number ≡ packed w (map f (drop i xs))
   packed_below xs i at j number value d l a k e v =
       let behind : number ≡ packed w (map f (drop (i + 1) xs)) = e ∙ ap (λ (m : ℕ). packed w (map f (drop m xs))) k in

@@ -1,4 +1,4 @@
--- Steps of loops that fill a list from the front, and ranges of places.
+-- Steps of loops that fill a list from the front, and ranges of indexes.
 use Rattle.std.proofs.Common.{◌≡◌, ℕ, zero, suc, ◌+◌, ◌<◌, List, [], ◌∷◌, ◌++◌, length, take, map, set, get_or, refl, sym, ap, ◌∙◌, arith, Bool, true, ℤ, pos, negsuc, w64, to_z, of_z}
 use Rattle.std.specs.List.{range_with_len, list_all}
 use lib.Signed.{mag}

@@ -14,7 +14,7 @@ bit_at bytes j = (get_or bytes (j / 8) 0 / 2 ^ (j % 8)) % 2 == 1
 abbrev pub is_set : ℕ → ℕ → Bool
 is_set n i = n / 2 ^ i % 2 == 1
 
--- whether a test passes at each of the 64 places whose bit is set
+-- whether a test passes for each of the 64 bits that is set
 unfoldable pub all_set_pass : (ℕ → Bool) → ℕ → Bool
 all_set_pass p word = list_all (λ i. not (is_set word i) || p i) (range_with_len 0 64)
 

@@ -9,7 +9,7 @@ use Rattle.bit_packing.specs.Bytes.{number_of}
 abbrev pub offset_at : ℕ → List ℕ → ℕ → ℕ
 offset_at width packed i = (number_of packed / 2 ^ (width * i)) % 2 ^ width
 
--- integers by their offsets from a base, n of them from place `from` on
+-- integers by their offsets from a base, n of them from index `from` on
 abbrev pub raised_offsets : ℤ → ℕ → List ℕ → ℕ → ℕ → List ℤ
 raised_offsets base width packed from n = map (λ i. base +ℤ pos (offset_at width packed i)) (range_with_len from n)
 

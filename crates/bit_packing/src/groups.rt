@@ -11,11 +11,11 @@ use crate::windows::{low_bits, window_at};
 /// From which byte of a group on eight are read for the bits from `bit` on: those that lie within
 /// the group, where it has so many.
 #[inline(always)]
-fn window_place(width: usize, bit: usize) -> usize
+fn window_start(width: usize, bit: usize) -> usize
     requires width { width ≤ 64 }
     requires within { bit ≤ 7 * width }
     ensures before { 8 * result ≤ bit }
-    ensures near { bit - 8 * result < 64 }
+    ensures in_window { bit - 8 * result < 64 }
     ensures lane { 64 < width + (bit - 8 * result) → bit - 8 * result < 8 }
     ensures room { 64 < width + (bit - 8 * result) → result + 8 < width }
 {
@@ -37,13 +37,13 @@ fn lane_offset(width: usize, group: &[u8], lane: usize) -> u64
     ensures { result ≡ offset_at width group.now lane }
 {
     let bit = width * lane;
-    let place = window_place(width, bit);
-    let shift = bit - 8 * place;
-    let low = window_at(group, place) >> shift;
+    let start = window_start(width, bit);
+    let shift = bit - 8 * start;
+    let low = window_at(group, start) >> shift;
     if width + shift <= 64 {
         return low_bits(low, width);
     }
-    let high = low_bits(u64::from(group[place + 8]), width + shift - 64);
+    let high = low_bits(u64::from(group[start + 8]), width + shift - 64);
     (high << (64 - shift)) + low
 }
 
@@ -118,7 +118,7 @@ fn fill_each(base: i64, width: usize, packed: &[u8], first: usize, out: &mut [i6
 }
 
 /// The same for a width that is known where it is called, eight times one constant and a second
-/// more, so that all places and shifts are constants.
+/// more, so that all starts and shifts are constants.
 fn fill_known<const EIGHTS: usize, const MORE: usize>(
     base: i64,
     width: usize,

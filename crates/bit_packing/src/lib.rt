@@ -3,12 +3,22 @@
 #![tactic(auto)]
 
 mod groups;
-pub mod marked;
-pub mod masks;
-pub mod numbers;
-pub mod offsets;
-pub mod packing;
-pub mod raising;
-pub mod unpacking;
-pub mod widths;
-pub mod windows;
+mod marked;
+mod masks;
+mod numbers;
+mod offsets;
+mod packing;
+mod raising;
+mod unpacking;
+mod widths;
+mod windows;
+
+pub use marked::are_marked;
+pub use masks::{are_bits_clear, is_mask, read_nulls};
+pub use numbers::{has_bit, integer_at, short_at, word_at};
+pub use offsets::are_offsets;
+pub use packing::{make_room, put_mask, put_offsets};
+pub use raising::fill_raised;
+pub use unpacking::row_offset;
+pub use widths::width_of;
+pub use windows::{are_unused_clear, window_at};

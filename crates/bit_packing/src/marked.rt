@@ -5,7 +5,7 @@ ghost use Rattle.meaning.specs.Limits.{row_group_rows};
 ghost use Rattle.bit_packing.specs.Bits.{all_set_pass, bit_at, bytes_of_bits, is_set};
 ghost use Rattle.bit_packing.specs.Offsets.{offset_at};
 
-use crate::unpacking::near_offset;
+use crate::unpacking::row_offset;
 use crate::windows::{low_bits, window_at};
 
 /// How many rows a word of the mask has a bit for.
@@ -30,7 +30,7 @@ fn are_marked_in_word(
     let mut marks = word;
     while marks != 0 {
         let row = first + marks.trailing_zeros() as usize;
-        if near_offset(packed, width, row) != number {
+        if row_offset(packed, width, row) != number {
             return false;
         }
         marks &= marks - 1;

@@ -6,7 +6,7 @@ ghost use Rattle.bit_packing.specs.Bits.{bit_at, is_mask};
 
 use crate::numbers::has_bit;
 
-/// Whether no bit from one place on and up to another is set.
+/// Whether no bit from one number on and up to another is set.
 pub fn are_bits_clear(mask: &[u8], start: usize, end: usize) -> bool
     requires { end ≤ 8 * length mask.now }
     ensures { result ≡ list_all (λ j. not (bit_at mask.now j)) (range_with_len start
@@ -80,7 +80,7 @@ fn fill_bits(mask: &[u8], from: usize, start: usize, out: &mut [bool])
     }
 }
 
-/// The bits of the mask from place `from` on.
+/// The bits of the mask from row `from` on.
 fn fill_nulls(mask: &[u8], from: usize, out: &mut [bool])
     requires within { from + length out.old ≤ 8 * length mask.now }
     requires few { from + length out.old ≤ row_group_rows }
@@ -94,7 +94,7 @@ fn fill_nulls(mask: &[u8], from: usize, out: &mut [bool])
     }
 }
 
-/// Which rows are NULL, of the `n` from row `from` on, where the mask of a nullable column tells.
+/// Which rows are NULL, of the `n` from row `from` on, by the mask of a nullable column.
 pub fn read_nulls(nullable: bool, mask: &[u8], from: usize, n: usize, out: &mut [bool])
     requires room { n ≤ length out.old }
     requires few { from + n ≤ row_group_rows }

@@ -14,7 +14,7 @@ use crate::raising::fill_raised;
 /// How many offsets are unpacked at a time.
 const LANES: usize = 256;
 
-/// The offsets from place `from` on, each above the least integer, so that any is an integer of 64
+/// The offsets from index `from` on, each above the least integer, so that any is an integer of 64
 /// bits.
 fn fill_lifted(width: u8, packed: &[u8], from: usize, out: &mut [i64])
     requires width { width ≤ 64 }
@@ -26,7 +26,7 @@ fn fill_lifted(width: u8, packed: &[u8], from: usize, out: &mut [i64])
     fill_raised(i64::MIN, width, packed, from, out);
 }
 
-/// How many offsets are unpacked from place `from` on.
+/// How many offsets are unpacked from index `from` on.
 fn piece_len(rows: usize, from: usize) -> usize
     requires { from < rows }
     ensures few { result ≤ 256 }

@@ -6,7 +6,7 @@ ghost use Rattle.meaning.specs.Operators.{fits_i64};
 ghost use Rattle.bit_packing.specs.Offsets.{raised_offsets};
 
 use crate::groups::{fill_groups, raised};
-use crate::unpacking::near_offset;
+use crate::unpacking::row_offset;
 
 /// The cells from `start` on, one by one.
 fn fill_lanes(base: i64, width: u8, packed: &[u8], from: usize, start: usize, out: &mut [i64])
@@ -20,11 +20,11 @@ fn fill_lanes(base: i64, width: u8, packed: &[u8], from: usize, start: usize, ou
     ensures { out.new ≡ raised_offsets base width packed.now from (length out.old) }
 {
     for i in start..out.len() {
-        out[i] = raised(base, near_offset(packed, width, from + i));
+        out[i] = raised(base, row_offset(packed, width, from + i));
     }
 }
 
-/// The base and the offsets from place `from` on.
+/// The base and the offsets from index `from` on.
 pub fn fill_raised(base: i64, width: u8, packed: &[u8], from: usize, out: &mut [i64])
     requires width { width ≤ 64 }
     requires within { (from + length out.old) * width ≤ 8 * length packed.now }

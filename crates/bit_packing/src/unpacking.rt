@@ -5,7 +5,7 @@ ghost use Rattle.meaning.specs.Limits.{row_group_rows};
 ghost use Rattle.bit_packing.specs.Offsets.{offset_at};
 ghost use Rattle.bit_packing.specs.Bytes.{number_of};
 
-use meaning::limits::ROW_GROUP_ROWS;
+use meaning::ROW_GROUP_ROWS;
 
 /// The number that few bytes are, the lowest byte first.
 fn number(bytes: &[u8]) -> u128
@@ -68,9 +68,9 @@ fn first_offset(bytes: &[u8], width: u8, shift: usize) -> u64
     wide_offset(chunk, bytes[8], width, shift)
 }
 
-/// The offset at place `i`, where all places count a few bits.
+/// The offset of row `i` of a row group.
 #[inline]
-pub fn near_offset(bytes: &[u8], width: u8, i: usize) -> u64
+pub fn row_offset(bytes: &[u8], width: u8, i: usize) -> u64
     requires width { width ≤ 64 }
     requires few { i ≤ row_group_rows }
     requires within { i * width ≤ 8 * length bytes.now }
@@ -80,7 +80,7 @@ pub fn near_offset(bytes: &[u8], width: u8, i: usize) -> u64
     first_offset(&bytes[bit / 8..], width, bit % 8)
 }
 
-/// The offset at place `i`, whose bits may be more than a `usize` counts.
+/// The offset at index `i`. The bits in front of it may be more than a `usize` counts.
 fn offset(bytes: &[u8], width: u8, i: usize) -> u64
     requires width { width ≤ 64 }
     requires within { i * width ≤ 8 * length bytes.now }
@@ -91,14 +91,14 @@ fn offset(bytes: &[u8], width: u8, i: usize) -> u64
     first_offset(&bytes[start..], width, lane % 8)
 }
 
-fn fill_near(bytes: &[u8], width: u8, from: usize, out: &mut [u64])
+fn fill_row_offsets(bytes: &[u8], width: u8, from: usize, out: &mut [u64])
     requires width { width ≤ 64 }
     requires few { from + length out.old ≤ row_group_rows }
     requires within { (from + length out.old) * width ≤ 8 * length bytes.now }
     ensures { out.new ≡ map (offset_at width bytes.now) (range_with_len from (length out.old)) }
 {
     for (i, cell) in out.iter_mut().enumerate() {
-        *cell = near_offset(bytes, width, from + i);
+        *cell = row_offset(bytes, width, from + i);
     }
 }
 
@@ -113,14 +113,14 @@ fn fill_offsets(bytes: &[u8], width: u8, from: usize, out: &mut [u64])
     }
 }
 
-/// The offsets of `width` bits from place `from` on.
+/// The offsets of `width` bits from index `from` on.
 pub fn unpack(bytes: &[u8], width: u8, from: usize, out: &mut [u64])
     requires width { width ≤ 64 }
     requires within { (from + length out.old) * width ≤ 8 * length bytes.now }
     ensures { out.new ≡ map (offset_at width bytes.now) (range_with_len from (length out.old)) }
 {
     if out.len() <= ROW_GROUP_ROWS && from <= ROW_GROUP_ROWS - out.len() {
-        fill_near(bytes, width, from, out);
+        fill_row_offsets(bytes, width, from, out);
         return;
     }
     let start = from / 8 * width as usize;

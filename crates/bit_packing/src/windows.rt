@@ -14,13 +14,13 @@ fn small_number(bytes: &[u8]) -> u64
     number
 }
 
-/// Up to 8 bytes from a place on, as one number.
+/// Up to 8 bytes from an offset on, as one number.
 #[inline(always)]
-pub fn window_at(bytes: &[u8], place: usize) -> u64
-    requires { place ≤ length bytes.now }
-    ensures { result ≡ number_of (take 8 (drop place bytes.now)) }
+pub fn window_at(bytes: &[u8], start: usize) -> u64
+    requires { start ≤ length bytes.now }
+    ensures { result ≡ number_of (take 8 (drop start bytes.now)) }
 {
-    let rest = &bytes[place..];
+    let rest = &bytes[start..];
     if rest.len() < 8 {
         return small_number(rest);
     }

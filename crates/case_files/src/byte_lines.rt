@@ -1,5 +1,5 @@
 //! Bytes spelled as lines of words.
-use crate::words::{Word, words};
+use crate::word_list::{Word, words};
 use hex::FromHexError;
 use sha2::{Digest, Sha256};
 use std::alloc::{AllocError, Global};

@@ -4,7 +4,7 @@ use std::alloc::{AllocError, Global};
 /// What stands between two empty lines of a case file.
 #[derive(Drop)]
 pub struct Record<'a> {
-    /// The place of its first line, from 1.
+    /// The number of its first line, from 1.
     pub line: usize,
     /// Its first line: a kind, and the words behind it.
     pub head: &'a str,

@@ -61,7 +61,7 @@ fn take(bytes: &mut Vec<u8>, escape: Escape, byte: u8) -> Result<Escape, AllocEr
 }
 
 /// Appends the bytes of a text in which `\n`, `\r`, `\t`, `\\`, `\"` and `\x` with two hexadecimal
-/// digits stand for one byte each. Another backslash is a byte like any other.
+/// digits encode one byte each. Another backslash is a byte like any other.
 pub fn unescape(text: &str, bytes: &mut Vec<u8>) -> Result<(), AllocError> {
     let mut escape = Escape::None;
     for byte in text.bytes() {

@@ -1,10 +1,9 @@
 //! Cases about catalogues.
 use crate::refusals::refusal_line;
-use case_files::escapes::escaped_bytes;
-use catalog_reader::read_catalog::read_catalog;
+use case_files::escaped_bytes;
+use catalog_reader::read_catalog;
 use folders::Refusal;
-use meaning::catalog::{Catalog, Column, Dimension, Table};
-use meaning::value::ColType;
+use meaning::{Catalog, ColType, Column, Dimension, Table};
 use std::alloc::{AllocError, Global};
 use std::fmt::Write;
 use std::mem::drop;
@@ -16,46 +15,46 @@ fn type_word(col_type: ColType) -> &'static str {
     }
 }
 
-fn tell_column(told: &mut String, column: &Column) -> Result<(), AllocError> {
+fn show_column(shown: &mut String, column: &Column) -> Result<(), AllocError> {
     let (name, word) = (column.name.as_str(), type_word(column.col_type));
     let null = if column.nullable { " null" } else { "" };
-    writeln!(told, "col {name} {word}{null}")
+    writeln!(shown, "col {name} {word}{null}")
 }
 
-fn tell_columns(told: &mut String, table: &Table) -> Result<(), AllocError> {
+fn show_columns(shown: &mut String, table: &Table) -> Result<(), AllocError> {
     for column in table.columns.as_slice() {
-        tell_column(told, column)?;
+        show_column(shown, column)?;
     }
     Ok(())
 }
 
-fn tell_dimension(told: &mut String, dimension: &Dimension) -> Result<(), AllocError> {
+fn show_dimension(shown: &mut String, dimension: &Dimension) -> Result<(), AllocError> {
     let (table, key) = (&dimension.table, dimension.key);
     let key = match table.columns.as_slice().get(key) {
         Some(column) => column.name.as_str(),
         None => "",
     };
-    writeln!(told, "dim {} key {key}", table.name.as_str())?;
-    tell_columns(told, table)
+    writeln!(shown, "dim {} key {key}", table.name.as_str())?;
+    show_columns(shown, table)
 }
 
 fn catalog_lines(alloc: Global, catalog: &Catalog) -> Result<String, AllocError> {
-    let mut told = String::new(alloc);
-    writeln!(told, "fact {}", catalog.fact.name.as_str())?;
-    tell_columns(&mut told, &catalog.fact)?;
+    let mut shown = String::new(alloc);
+    writeln!(shown, "fact {}", catalog.fact.name.as_str())?;
+    show_columns(&mut shown, &catalog.fact)?;
     for dimension in catalog.dims.as_slice() {
-        tell_dimension(&mut told, dimension)?;
+        show_dimension(&mut shown, dimension)?;
     }
-    Ok(told)
+    Ok(shown)
 }
 
 /// The lines of the catalogue that the bytes declare, or the line of their refusal.
-fn tell_bytes(alloc: Global, text: &[u8]) -> Result<String, AllocError> {
+fn show_bytes(alloc: Global, text: &[u8]) -> Result<String, AllocError> {
     match read_catalog(alloc, text) {
         Ok(catalog) => {
-            let told = catalog_lines(alloc, &catalog);
+            let shown = catalog_lines(alloc, &catalog);
             drop(catalog);
-            told
+            shown
         }
         Err(fault) => refusal_line(alloc, &Refusal::Catalog(fault)),
     }
@@ -63,11 +62,11 @@ fn tell_bytes(alloc: Global, text: &[u8]) -> Result<String, AllocError> {
 
 /// The same of a record: its lines are the catalogue's, or escaped bytes where the word behind the
 /// kind says so.
-pub fn tell(alloc: Global, words: &[&str], body: &str) -> Result<String, AllocError> {
+pub fn show(alloc: Global, words: &[&str], body: &str) -> Result<String, AllocError> {
     if words.first() == Some(&"escaped") {
         let text = escaped_bytes(alloc, body)?;
-        tell_bytes(alloc, text.as_slice())
+        show_bytes(alloc, text.as_slice())
     } else {
-        tell_bytes(alloc, body.as_bytes())
+        show_bytes(alloc, body.as_bytes())
     }
 }

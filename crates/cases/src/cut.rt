@@ -1,36 +1,36 @@
 //! Cases about cuts.
 use crate::refusals::refusal_line;
 use folders::Refusal;
-use meaning::cut::{Cut, CutFault};
+use meaning::{Cut, CutFault};
 use std::alloc::{AllocError, Global};
 use std::fmt::Write;
 
-fn tell_run(told: &mut String, count: usize, length: u32) -> Result<(), AllocError> {
+fn show_run(shown: &mut String, count: usize, length: u32) -> Result<(), AllocError> {
     match count {
         0 => Ok(()),
-        1 => writeln!(told, "{length}"),
-        count => writeln!(told, "*{count} {length}"),
+        1 => writeln!(shown, "{length}"),
+        count => writeln!(shown, "*{count} {length}"),
     }
 }
 
-fn lengths_told(alloc: Global, lengths: &[u32]) -> Result<String, AllocError> {
-    let mut told = String::new(alloc);
+fn lengths_shown(alloc: Global, lengths: &[u32]) -> Result<String, AllocError> {
+    let mut shown = String::new(alloc);
     let (mut count, mut last) = (0usize, 0u32);
     for length in lengths {
         if count == 0 || *length != last {
-            tell_run(&mut told, count, last)?;
+            show_run(&mut shown, count, last)?;
             count = 0;
             last = *length;
         }
         count = count.saturating_add(1);
     }
-    tell_run(&mut told, count, last)?;
-    Ok(told)
+    show_run(&mut shown, count, last)?;
+    Ok(shown)
 }
 
-fn told(alloc: Global, cut: Result<Cut, CutFault>) -> Result<String, AllocError> {
+fn shown(alloc: Global, cut: Result<Cut, CutFault>) -> Result<String, AllocError> {
     match cut {
-        Ok(cut) => lengths_told(alloc, cut.lengths()),
+        Ok(cut) => lengths_shown(alloc, cut.lengths()),
         Err(fault) => refusal_line(alloc, &Refusal::Cut(fault)),
     }
 }
@@ -59,16 +59,16 @@ fn lengths_of(alloc: Global, lines: &str) -> Result<Option<Vec<u32>>, AllocError
     Ok(Some(lengths))
 }
 
-fn tell_even(alloc: Global, rows: &str, length: &str) -> Result<String, AllocError> {
+fn show_even(alloc: Global, rows: &str, length: &str) -> Result<String, AllocError> {
     match (rows.parse::<u64>(), length.parse::<u32>()) {
-        (Ok(rows), Ok(length)) if length > 0 => told(alloc, Cut::even(alloc, rows, length)),
+        (Ok(rows), Ok(length)) if length > 0 => shown(alloc, Cut::even(alloc, rows, length)),
         _ => String::from_str(alloc, "(no numbers of rows)\n"),
     }
 }
 
-fn tell_given(alloc: Global, lines: &str) -> Result<String, AllocError> {
+fn show_given(alloc: Global, lines: &str) -> Result<String, AllocError> {
     match lengths_of(alloc, lines)? {
-        Some(lengths) => told(alloc, Cut::new(lengths)),
+        Some(lengths) => shown(alloc, Cut::new(lengths)),
         None => String::from_str(alloc, "(no numbers of rows)\n"),
     }
 }
@@ -76,9 +76,9 @@ fn tell_given(alloc: Global, lines: &str) -> Result<String, AllocError> {
 /// The cut into fragments of the numbers of rows that the lines say, or the even cut by the two
 /// numbers behind `even`: its numbers of rows, or the line of its refusal. A line `*3 5` is the
 /// number 5 three times.
-pub fn tell(alloc: Global, words: &[&str], body: &str) -> Result<String, AllocError> {
+pub fn show(alloc: Global, words: &[&str], body: &str) -> Result<String, AllocError> {
     match words {
-        ["even", rows, length] => tell_even(alloc, rows, length),
-        _ => tell_given(alloc, body),
+        ["even", rows, length] => show_even(alloc, rows, length),
+        _ => show_given(alloc, body),
     }
 }

@@ -1,18 +1,16 @@
 //! Which kind of case a record is.
 use crate::{catalog, cut, program, selection, sql};
 use answer_cases::{answers, gathers, wholes};
-use case_files::byte_lines::bytes_of;
-use case_files::escapes::escaped_bytes;
-use case_files::stored::{StoredFile, find};
+use case_files::{StoredFile, bytes_of, escaped_bytes, find};
 use std::alloc::{AllocError, Global};
 use storage_cases::storage;
 
-fn tell_unknown(alloc: Global, word: &str) -> Result<String, AllocError> {
+fn show_unknown(alloc: Global, word: &str) -> Result<String, AllocError> {
     format!(in alloc; "(no record is of the kind {word})\n")
 }
 
 // The word behind the kind is the path of the catalogue.
-fn tell_plan(
+fn show_plan(
     alloc: Global,
     words: &[&str],
     body: &str,
@@ -20,10 +18,10 @@ fn tell_plan(
 ) -> Result<String, AllocError> {
     let path = words.first().copied().unwrap_or("");
     let catalog = find(files, path).unwrap_or(&[]);
-    plan_cases::tell(alloc, catalog, body)
+    plan_cases::show(alloc, catalog, body)
 }
 
-fn tell_kind(
+fn show_kind(
     alloc: Global,
     kind: &str,
     words: &[&str],
@@ -31,20 +29,20 @@ fn tell_kind(
     files: &mut Vec<StoredFile>,
 ) -> Result<String, AllocError> {
     match kind {
-        "xcols" => program::tell(alloc, words, files),
-        "sql" => sql::tell(alloc, words, body),
-        "catalog" => catalog::tell(alloc, words, body),
-        "cut" => cut::tell(alloc, words, body),
-        "plan" => tell_plan(alloc, words, body, files.as_slice()),
-        "selection" => selection::tell(alloc, words, body),
-        "lanes" => lane_cases::tell(alloc, words, body),
-        "evaluate" => expression_cases::tell(alloc, words, body),
-        "agree" => expression_cases::tell_agreement(alloc, words, body),
-        "join" => join_cases::tell(alloc, words, body),
-        "answer" => answers::tell(alloc, false, words, body),
-        "state" => answers::tell(alloc, true, words, body),
-        "gather" => gathers::tell(alloc, words, body, files),
-        "whole" => wholes::tell(alloc, words, files.as_slice()),
+        "xcols" => program::show(alloc, words, files),
+        "sql" => sql::show(alloc, words, body),
+        "catalog" => catalog::show(alloc, words, body),
+        "cut" => cut::show(alloc, words, body),
+        "plan" => show_plan(alloc, words, body, files.as_slice()),
+        "selection" => selection::show(alloc, words, body),
+        "lanes" => lane_cases::show(alloc, words, body),
+        "evaluate" => expression_cases::show(alloc, words, body),
+        "agree" => expression_cases::show_agreement(alloc, words, body),
+        "join" => join_cases::show(alloc, words, body),
+        "answer" => answers::show(alloc, false, words, body),
+        "state" => answers::show(alloc, true, words, body),
+        "gather" => gathers::show(alloc, words, body, files),
+        "whole" => wholes::show(alloc, words, files.as_slice()),
         "column"
         | "block"
         | "encode"
@@ -55,14 +53,14 @@ fn tell_kind(
         | "write"
         | "write-cut"
         | "load"
-        | "count-rows" => { storage::tell(alloc, kind, words, body, files.as_slice()) }
-        _ => tell_unknown(alloc, kind),
+        | "count-rows" => { storage::show(alloc, kind, words, body, files.as_slice()) }
+        _ => show_unknown(alloc, kind),
     }
 }
 
-/// What a record's input tells, as lines. Where the words behind the kind begin with `of PATH`, the
+/// What a record's input shows, as lines. Where the words behind the kind begin with `of PATH`, the
 /// bytes of that file are its body, in hexadecimal digits.
-pub fn tell(
+pub fn show(
     alloc: Global,
     head: &[&str],
     body: &str,
@@ -71,10 +69,10 @@ pub fn tell(
     match head {
         [kind, "of", path, words @ ..] => {
             let digits = hex::encode(alloc, find(files.as_slice(), path).unwrap_or(&[]))?;
-            tell_kind(alloc, kind, words, digits.as_str(), files)
+            show_kind(alloc, kind, words, digits.as_str(), files)
         }
-        [kind, words @ ..] => tell_kind(alloc, kind, words, body, files),
-        [] => tell_unknown(alloc, ""),
+        [kind, words @ ..] => show_kind(alloc, kind, words, body, files),
+        [] => show_unknown(alloc, ""),
     }
 }
 
@@ -87,7 +85,7 @@ fn file_bytes(alloc: Global, kind: &str, body: &str) -> Result<Option<Vec<u8>>, 
     }
 }
 
-/// Puts the file that a record without a wanted text defines, and tells whether it defines one.
+/// Puts the file that a record without a wanted text defines, and shows whether it defines one.
 pub fn put_file(
     alloc: Global,
     head: &[&str],

@@ -1,5 +1,5 @@
 //! Runs the case files that its words name: each case's input goes through public calls, and what
-//! they tell is held against what the case wants. `docs/TESTING.md` has the format.
+//! they show is held against what the case wants. `docs/TESTING.md` has the format.
 #![tactic(auto)]
 
 mod catalog;
@@ -32,8 +32,8 @@ fn run_all(rt: &HostRuntime) -> io::Result<Tally> {
 fn main(rt: HostRuntime) -> ExitCode {
     match run_all(&rt) {
         Ok(tally) => {
-            let told = println!(rt; "{} passed, {} failed", tally.passed, tally.failed);
-            if tally.failed == 0 && told.is_ok() {
+            let shown = println!(rt; "{} passed, {} failed", tally.passed, tally.failed);
+            if tally.failed == 0 && shown.is_ok() {
                 ExitCode::SUCCESS
             } else {
                 ExitCode::FAILURE

@@ -2,24 +2,23 @@
 ghost use Rattle.command_line.specs.Command.{IsInRange};
 
 use crate::stored_folder::StoredFolder;
-use case_files::lines::{tell_lines, tell_printed};
-use case_files::stored::{StoredFile, put_all};
+use case_files::{StoredFile, put_all, show_lines, show_printed};
 use cli::{Command, UsageFault, command, run};
 use std::alloc::{AllocError, Global};
 use std::fmt::Write;
 use std::mem::drop;
 
-fn tell_status(told: &mut String, status: u8) -> Result<(), AllocError> {
+fn show_status(text: &mut String, status: u8) -> Result<(), AllocError> {
     match status {
         0 => Ok(()),
-        status => writeln!(told, "status {status}"),
+        status => writeln!(text, "status {status}"),
     }
 }
 
-fn tell_written(told: &mut String, written: &[StoredFile]) -> Result<(), AllocError> {
+fn show_written(text: &mut String, written: &[StoredFile]) -> Result<(), AllocError> {
     for file in written {
         writeln!(
-            told,
+            text,
             "wrote {}, {} bytes",
             file.path.as_str(),
             file.bytes.len()
@@ -28,29 +27,29 @@ fn tell_written(told: &mut String, written: &[StoredFile]) -> Result<(), AllocEr
     Ok(())
 }
 
-fn tell_removed(told: &mut String, removed: &[String]) -> Result<(), AllocError> {
+fn show_removed(text: &mut String, removed: &[String]) -> Result<(), AllocError> {
     for path in removed {
-        writeln!(told, "removed {}", path.as_str())?;
+        writeln!(text, "removed {}", path.as_str())?;
     }
     Ok(())
 }
 
 // Of a usage fault its first line, since the rest is the words of a library.
-fn put_usage(told: &mut String, text: &str) -> Result<(), AllocError> {
+fn put_usage(text: &mut String, text: &str) -> Result<(), AllocError> {
     let shown = if text.starts_with("error") {
         text.lines().next().unwrap_or("")
     } else {
         text.trim_end()
     };
-    tell_lines(told, "err", shown)
+    show_lines(text, "err", shown)
 }
 
-fn tell_usage(alloc: Global, fault: &UsageFault) -> Result<String, AllocError> {
+fn show_usage(alloc: Global, fault: &UsageFault) -> Result<String, AllocError> {
     let text = format!(in alloc; "{fault}")?;
-    let mut told = String::new(alloc);
-    put_usage(&mut told, text.as_str())?;
-    tell_status(&mut told, fault.status())?;
-    Ok(told)
+    let mut text = String::new(alloc);
+    put_usage(&mut text, text.as_str())?;
+    show_status(&mut text, fault.status())?;
+    Ok(text)
 }
 
 // What a command that ran has printed and written.
@@ -69,18 +68,18 @@ fn run_over(alloc: Global, command: &Command, folder: &mut StoredFolder<'_>) -> 
     Outcome { status, out, err }
 }
 
-fn tell_outcome(
+fn show_outcome(
     alloc: Global,
     outcome: &Outcome,
     folder: &StoredFolder<'_>,
 ) -> Result<String, AllocError> {
-    let mut told = String::new(alloc);
-    tell_printed(alloc, &mut told, "out", outcome.out.as_slice())?;
-    tell_printed(alloc, &mut told, "err", outcome.err.as_slice())?;
-    tell_status(&mut told, outcome.status)?;
-    tell_written(&mut told, folder.written.as_slice())?;
-    tell_removed(&mut told, folder.removed.as_slice())?;
-    Ok(told)
+    let mut text = String::new(alloc);
+    show_printed(alloc, &mut text, "out", outcome.out.as_slice())?;
+    show_printed(alloc, &mut text, "err", outcome.err.as_slice())?;
+    show_status(&mut text, outcome.status)?;
+    show_written(&mut text, folder.written.as_slice())?;
+    show_removed(&mut text, folder.removed.as_slice())?;
+    Ok(text)
 }
 
 /// Takes files away from those that stand, and puts those that were written behind them.
@@ -95,7 +94,7 @@ fn change(
     put_all(files, written)
 }
 
-fn tell_command(
+fn show_command(
     alloc: Global,
     command: &Command,
     files: &mut Vec<StoredFile>,
@@ -104,7 +103,7 @@ fn tell_command(
 {
     let mut folder = StoredFolder::new(alloc, files.as_slice());
     let outcome = run_over(alloc, command, &mut folder);
-    let told = tell_outcome(alloc, &outcome, &folder);
+    let text = show_outcome(alloc, &outcome, &folder);
     drop(outcome);
     let StoredFolder {
         removed,
@@ -112,9 +111,9 @@ fn tell_command(
         ..
     } = folder;
     match change(files, removed, written) {
-        Ok(()) => told,
+        Ok(()) => text,
         Err(error) => {
-            drop(told);
+            drop(text);
             Err(error)
         }
     }
@@ -122,17 +121,17 @@ fn tell_command(
 
 /// What the program prints and writes where it is asked by these words, over the files so far. What
 /// it writes stands among them afterwards.
-pub fn tell(
+pub fn show(
     alloc: Global,
     words: &[&str],
     files: &mut Vec<StoredFile>,
 ) -> Result<String, AllocError> {
     match command(alloc, words) {
         Ok(command) => {
-            let told = tell_command(alloc, &command, files);
+            let text = show_command(alloc, &command, files);
             drop(command);
-            told
+            text
         }
-        Err(fault) => tell_usage(alloc, &fault),
+        Err(fault) => show_usage(alloc, &fault),
     }
 }

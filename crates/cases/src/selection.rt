@@ -3,39 +3,39 @@ ghost use Rattle.std.specs.Prelude.{◌≡◌, IfOk, length};
 
 use std::alloc::{AllocError, Global};
 use std::fmt::Write;
-use vectors::selection::Selection;
+use vectors::Selection;
 
 fn mark(mask: &mut [bool], word: &str) {
-    if let Ok(place) = word.parse::<usize>() {
-        if place < mask.len() {
-            mask[place] = true;
+    if let Ok(position) = word.parse::<usize>() {
+        if position < mask.len() {
+            mask[position] = true;
         }
     }
 }
 
-// A mask of the places that the words say.
-fn mask_of(alloc: Global, places: usize, words: &str) -> Result<Vec<bool>, AllocError>
-    ensures { IfOk result (λ mask. length mask.items ≡ places) }
+// A mask of the positions that the words give.
+fn mask_of(alloc: Global, below: usize, words: &str) -> Result<Vec<bool>, AllocError>
+    ensures { IfOk result (λ mask. length mask.items ≡ below) }
 {
-    let mut mask = vec![in alloc; false; places]?;
+    let mut mask = vec![in alloc; false; below]?;
     for word in words.split(' ') {
         mark(mask.as_mut_slice(), word);
     }
     Ok(mask)
 }
 
-fn tell_places(told: &mut String, places: &[u32]) -> Result<(), AllocError> {
-    told.push_str("places")?;
-    for place in places {
-        write!(told, " {place}")?;
+fn show_positions(shown: &mut String, positions: &[u32]) -> Result<(), AllocError> {
+    shown.push_str("positions")?;
+    for position in positions {
+        write!(shown, " {position}")?;
     }
-    told.push_str("\n")
+    shown.push_str("\n")
 }
 
-fn tell_selection(told: &mut String, selection: &Selection) -> Result<(), AllocError> {
-    match selection.places() {
-        None => writeln!(told, "all {}", selection.len()),
-        Some(places) => tell_places(told, places),
+fn show_selection(shown: &mut String, selection: &Selection) -> Result<(), AllocError> {
+    match selection.positions() {
+        None => writeln!(shown, "all {}", selection.len()),
+        Some(positions) => show_positions(shown, positions),
     }
 }
 
@@ -67,23 +67,28 @@ fn take_step(alloc: Global, selection: &mut Selection, line: &str) -> Result<(),
     }
 }
 
-fn tell_steps(alloc: Global, told: &mut String, length: u32, body: &str) -> Result<(), AllocError> {
+fn show_steps(
+    alloc: Global,
+    shown: &mut String,
+    length: u32,
+    body: &str,
+) -> Result<(), AllocError> {
     let mut selection = Selection::all(alloc, length)?;
     for line in body.lines() {
         take_step(alloc, &mut selection, line)?;
-        tell_selection(told, &selection)?;
+        show_selection(shown, &selection)?;
     }
     Ok(())
 }
 
-/// What a selection of so many positions is behind each line: `keep` and `minus` with places, and
+/// What a selection of so many positions is behind each line: `keep` and `minus` with positions, and
 /// `reset`.
-pub fn tell(alloc: Global, words: &[&str], body: &str) -> Result<String, AllocError> {
+pub fn show(alloc: Global, words: &[&str], body: &str) -> Result<String, AllocError> {
     let length = match words {
         [length] => length.parse::<u32>().unwrap_or(0),
         _ => 0,
     };
-    let mut told = String::new(alloc);
-    tell_steps(alloc, &mut told, length.min(4_096), body)?;
-    Ok(told)
+    let mut shown = String::new(alloc);
+    show_steps(alloc, &mut shown, length.min(4_096), body)?;
+    Ok(shown)
 }

@@ -1,7 +1,6 @@
 //! Cases about SQL texts.
 use crate::refusals::refusal_line;
-use case_files::escapes::escaped_bytes;
-use case_files::lines::tell_line;
+use case_files::{escaped_bytes, show_line};
 use folders::Refusal;
 use sql_reader::tree::Query;
 use sql_reader::{print, read};
@@ -10,9 +9,9 @@ use std::mem::drop;
 
 fn canonical_line(alloc: Global, query: &Query) -> Result<String, AllocError> {
     let text = print(alloc, query)?;
-    let mut told = String::new(alloc);
-    tell_line(&mut told, text.as_str())?;
-    Ok(told)
+    let mut shown = String::new(alloc);
+    show_line(&mut shown, text.as_str())?;
+    Ok(shown)
 }
 
 fn length_line(alloc: Global, query: &Query) -> Result<String, AllocError> {
@@ -29,13 +28,13 @@ fn query_line(alloc: Global, words: &[&str], query: &Query) -> Result<String, Al
 
 /// The canonical text of the query that the escaped lines spell, or its length, or the line of its
 /// refusal.
-pub fn tell(alloc: Global, words: &[&str], body: &str) -> Result<String, AllocError> {
+pub fn show(alloc: Global, words: &[&str], body: &str) -> Result<String, AllocError> {
     let text = escaped_bytes(alloc, body)?;
     match read(alloc, text.as_slice()) {
         Ok(query) => {
-            let told = query_line(alloc, words, &query);
+            let shown = query_line(alloc, words, &query);
             drop(query);
-            told
+            shown
         }
         Err(fault) => refusal_line(alloc, &Refusal::Sql(fault)),
     }

@@ -1,5 +1,5 @@
 //! The folder in memory that a case's command works on.
-use case_files::stored::{StoredFile, find};
+use case_files::{StoredFile, find};
 use cli::Folder;
 use std::alloc::Global;
 use std::io;

@@ -1,8 +1,6 @@
 //! Runs the records of a case file and counts the mismatches.
-use crate::kinds::{put_file, tell};
-use case_files::case_file::{Record, records};
-use case_files::stored::StoredFile;
-use case_files::words::{Word, words};
+use crate::kinds::{put_file, show};
+use case_files::{Record, StoredFile, Word, records, words};
 use std::alloc::{AllocError, Global};
 use std::io;
 use std::mem::drop;
@@ -54,7 +52,7 @@ fn judge_case(
     wanted: &str,
     files: &mut Vec<StoredFile>,
 ) -> Result<Option<Mismatch>, AllocError> {
-    let came = tell(alloc, head, body, files)?;
+    let came = show(alloc, head, body, files)?;
     if came.as_str() == wanted {
         return Ok(None);
     }

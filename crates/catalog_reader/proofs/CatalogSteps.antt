@@ -120,7 +120,7 @@ first_line_fault-next before line after none =
     first_line_fault-append [] before (line ∷ after)
     ∙ ap (λ f. option_or f (first_line_fault before (line ∷ after))) none
 
--- the number of the line at a place
+-- a line, by its number
 line_fault-at : (lines : List Line) (i : ℕ) (line : Line) → i < length lines → line_fault (take i lines) line
     ≡ fault_at (tables_of (statements (take i lines))) (i + 1) line
 line_fault-at lines i line within =

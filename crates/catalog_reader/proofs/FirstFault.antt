@@ -1,4 +1,4 @@
--- The fault that is told is the one of the least line that has one.
+-- The fault that is reported is the one of the first line that has one.
 use Rattle.std.proofs.Common.{◌≡◌, Option, Some, None, List, [], ◌∷◌, ◌++◌, append_assoc, refl, ap, sym, ◌∙◌}
 use Rattle.std.proofs.lemmas.List.{append-nil}
 use Rattle.std.specs.Option.{option_or}
@@ -45,8 +45,8 @@ record Stands (front lines : List Line) (fault : CatalogFault) : Type 0 where
 
 stands : (front lines : List Line) (fault : CatalogFault) → first_line_fault front lines
     ≡ Some fault → Stands front lines fault
-stands front [] fault told = cc
-stands front (line ∷ lines) fault told =
+stands front [] fault returned = cc
+stands front (line ∷ lines) fault returned =
     elim (line_fault front line) as
     (λ o. line_fault front line ≡ o → option_or o (first_line_fault (front ++ line ∷ []) lines)
     ≡ Some fault → Stands front (line ∷ lines) fault) [
@@ -68,12 +68,12 @@ stands front (line ∷ lines) fault told =
             here = ap (λ ls. line_fault ls rest.line) (sym (append_assoc front (line ∷ []) rest.before)) ∙ rest.here;
             earlier = ap (λ f. option_or f (first_line_fault (front ++ line ∷ []) rest.before)) is ∙ rest.earlier;
           }
-    ] refl told
+    ] refl returned
 
 pub first-from_some : (lines : List Line) (fault : CatalogFault) → first_line_fault [] lines
     ≡ Some fault → IsFirstFault lines fault
-first-from_some lines fault told =
-    let s = stands [] lines fault told in
+first-from_some lines fault returned =
+    let s = stands [] lines fault returned in
     record {
       before = s.before;
       line = s.line;

@@ -14,7 +14,7 @@ module _ {X : Type 0} where
       sym (take-length xs) ∙ ap (λ n. take n xs) (sym whole) ∙ take_more xs i d within
       ∙ ap (λ y. take i xs ++ y ∷ []) last
 
-  -- a write to the last place
+  -- a write to the last element
   set_last : (xs : List X) (i : ℕ) (y : X) → i + 1 ≡ length xs → set xs i y ≡ take i xs ++ y ∷ []
   set_last xs i y whole =
       let within : i < length xs = omega arith in

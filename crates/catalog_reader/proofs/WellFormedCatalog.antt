@@ -20,7 +20,7 @@ use Rattle.catalog_reader.specs.declared.catalog_tables.Declared.{Declared}
 use Rattle.meaning.specs.Catalog.{is_name, IsName, IsWellFormedTable, HasKey, IsWellFormed}
 use Rattle.meaning.proofs.Tests.{not_true}
 use Rattle.catalog_reader.specs.CatalogTables.{first_line_fault, statements, tables_of}
-use Rattle.catalog_reader.specs.CatalogText.{key_place, declared_fact, keyed, facts, dims, lacks_key, exceeds_limits, exceed_limits, catalog_with, catalog_unless, lines_of, catalog_of_text, catalog_of}
+use Rattle.catalog_reader.specs.CatalogText.{key_column, declared_fact, keyed, facts, dims, lacks_key, exceeds_limits, exceed_limits, catalog_with, catalog_unless, lines_of, catalog_of_text, catalog_of}
 use Rattle.catalog_reader.proofs.SoundTables.{AreApart, column_name, table_name, IsSoundTable, AreSound, lines-sound, tables_of-sound}
 
 -- ---- lists
@@ -88,16 +88,16 @@ well_formed_table d sound within =
 
 -- ---- the tables together
 
--- the column at the key's place isn't nullable
-has_key : (table : Table) (key : List ℕ) (place : ℕ) → key_place table.columns key
-    ≡ Some place → HasKey (record { table = table; key = place })
-has_key table key place is =
+-- the key column isn't nullable
+has_key : (table : Table) (key : List ℕ) (k : ℕ) → key_column table.columns key
+    ≡ Some k → HasKey (record { table = table; key = k })
+has_key table key k is =
     let test : Column → Bool = λ column. bytes_eq column.name key && not column.nullable in
     let some_column : Column = record { name = []; col_type = types.Int; nullable = false } in
-    let within = position-Some test table.columns place some_column is in
+    let within = position-Some test table.columns k some_column is in
     record {
       within = within.0;
-      filled = λ d. let found = position-Some test table.columns place d is in let parts = and_parts _ _ found.1 in
+      filled = λ d. let found = position-Some test table.columns k d is in let parts = and_parts _ _ found.1 in
           not_true _ parts.1;
     }
 
@@ -105,15 +105,15 @@ keyed-parts : (table : Table) (key : Option (List ℕ)) (dimension : Dimension)
     → keyed (record { table = table; key = key }) ≡ Some dimension → (table ≡ dimension.table) × HasKey dimension
 keyed-parts table None dimension is = cc
 keyed-parts table (Some key) dimension is =
-    elim (key_place table.columns key) as
-    (λ p. key_place table.columns key
-    ≡ p → option_map (λ place. let d : Dimension = record { table = table; key = place } in d) p
+    elim (key_column table.columns key) as
+    (λ p. key_column table.columns key
+    ≡ p → option_map (λ k. let d : Dimension = record { table = table; key = k } in d) p
     ≡ Some dimension → (table ≡ dimension.table) × HasKey dimension) [
       | None ↦ λ _ none. cc
-      | Some place ↦ λ found some.
-          let made : Dimension = record { table = table; key = place } in
+      | Some k ↦ λ found some.
+          let made : Dimension = record { table = table; key = k } in
           let same : made ≡ dimension = cc in
-          (ap (λ (d : Dimension). d.table) same, subst HasKey same (has_key table key place found))
+          (ap (λ (d : Dimension). d.table) same, subst HasKey same (has_key table key k found))
     ] refl is
 
 keyed-table : (d : Declared) (dimension : Dimension) → keyed d ≡ Some dimension → d.table ≡ dimension.table

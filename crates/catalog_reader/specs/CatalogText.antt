@@ -16,9 +16,9 @@ use Rattle.catalog_reader.specs.declared.catalog_tables.Declared.{Declared}
 use Rattle.catalog_reader.specs.CatalogLine.{line_of}
 use Rattle.catalog_reader.specs.CatalogTables.{statements, tables_of, first_line_fault}
 
--- the place of the column that has the key's name and isn't nullable
-abbrev pub key_place : List Column → List ℕ → Option ℕ
-key_place columns key = position (λ column. bytes_eq column.name key && not column.nullable) columns
+-- which column has the key's name and isn't nullable
+abbrev pub key_column : List Column → List ℕ → Option ℕ
+key_column columns key = position (λ column. bytes_eq column.name key && not column.nullable) columns
 
 -- the fact table that a table is, if it is one
 abbrev pub declared_fact : Declared → Option Table
@@ -27,8 +27,8 @@ declared_fact declared = if is_none declared.key then Some declared.table else N
 -- the dimension that a table is, if it is one and has its key column
 abbrev pub keyed : Declared → Option Dimension
 keyed declared =
-    option_and_then (λ key. option_map (λ place. record { table = declared.table; key = place })
-    (key_place declared.table.columns key)) declared.key
+    option_and_then (λ key. option_map (λ k. record { table = declared.table; key = k })
+    (key_column declared.table.columns key)) declared.key
 
 -- the fact tables, in the order of the text
 abbrev pub facts : List Declared → List Table

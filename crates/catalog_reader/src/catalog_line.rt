@@ -2,10 +2,7 @@
 ghost use Rattle.std.specs.Prelude.{◌≡◌, IfOk, map};
 ghost use Rattle.catalog_reader.specs.CatalogLine.{is_blank, words, name_of, type_of, fact_line, dimension_line, column_of, two_words, three_words, four_words, statement_of, line_of};
 
-use meaning::catalog::Column;
-use meaning::name::is_name;
-use meaning::text::Text;
-use meaning::value::ColType;
+use meaning::{ColType, Column, Text, is_name};
 use std::alloc::{AllocError, Global};
 
 /// What a line declares. Names are in lower case.

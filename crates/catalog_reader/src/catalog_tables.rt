@@ -4,9 +4,7 @@ ghost use Rattle.catalog_reader.specs.CatalogLine.{line_of};
 ghost use Rattle.catalog_reader.specs.CatalogTables.{has_column, is_declared, new_table, table_fault, column_fault, statement_fault, fault_at, first_line_fault, with_column, with_statement, with_line, statements, tables_of};
 
 use crate::catalog_line::{Line, Statement, line_of};
-use meaning::catalog::{CatalogFault, Column, Table};
-use meaning::sequence::Sequence;
-use meaning::text::Text;
+use meaning::{CatalogFault, Column, Sequence, Table, Text};
 use std::alloc::Global;
 
 /// A declared table; a dimension has the name of its key column.

@@ -2,6 +2,8 @@
 //! together, and one fact table with its dimensions of these.
 #![tactic(auto)]
 
-pub mod catalog_line;
-pub mod catalog_tables;
-pub mod read_catalog;
+mod catalog_line;
+mod catalog_tables;
+mod reading;
+
+pub use reading::read_catalog;

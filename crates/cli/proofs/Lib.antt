@@ -3,6 +3,7 @@ mod Finished
 mod HandedOn
 mod LoadedColumns
 mod Questions
+pub mod RefusalDetails
 mod Refusals
 mod Unloaded
 mod WrittenFiles

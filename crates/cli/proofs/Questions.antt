@@ -4,9 +4,10 @@ use Rattle.std.specs.Prelude.{IfErr, IfOk}
 use Rattle.meaning.specs.declared.catalog.Catalog.{Catalog}
 use Rattle.meaning.specs.declared.plan.Plan.{Plan}
 use Rattle.catalog_reader.specs.CatalogText.{catalog_of}
-use Rattle.coordinator.specs.Gathering.{GatherSpec}
-use Rattle.coordinator.specs.declared.report.Ended.{Ended}
-use Rattle.whole_query.specs.Whole.{IsAnswered, IsPlanned}
+use Rattle.gathering.specs.Gathering.{GatherSpec}
+use Rattle.gathering.specs.declared.report.Ended.{Ended}
+use Rattle.coordinator.specs.Whole.{IsAnswered}
+use Rattle.planner.specs.QueryText.{IsPlanned}
 use Rattle.folders.specs.Folder.{AreHeld, Holds, catalog_path}
 use Rattle.folders.specs.declared.refusal.Refusal.{Refusal}
 use Rattle.cli.specs.Refusing.{IsInputRefused, IsQueryRefused, IsRefusedOver, IsWholeRefused}
@@ -35,36 +36,36 @@ module _ (holds : Holds) (folder : List ℕ) (catalog : Catalog) (query : List �
   pub answered_over : (plan : Plan) (tables : Tables) (before after : Option (List ℕ)) (result : Result Ended Refusal) → AreRead tables
       → IfOk result (λ end. (text : List ℕ) → Declares text → HasPlan plan → (gather : GatherSpec) × IsAnswered (input_over text tables query vector) before after end gather)
       → IfOk result (λ end. (text : List ℕ) → Declares text → HasPlan plan → IsAnsweredSo holds folder text catalog query rows vector before after end)
-  answered_over plan tables before after (Ok end) read told = λ text declared planned.
-      let (gather, answered) = told text declared planned in
+  answered_over plan tables before after (Ok end) read returned = λ text declared planned.
+      let (gather, answered) = returned text declared planned in
       record { tables = tables; loaded = read; gather = gather; answered = answered }
-  answered_over plan tables before after (Err e) read told = tt
+  answered_over plan tables before after (Err e) read returned = tt
 
   -- a refusal over them
   pub refused_over : (plan : Plan) (tables : Tables) (result : Result Ended Refusal) → AreRead tables
       → IfErr result (λ e. (text : List ℕ) → Declares text → HasPlan plan → IsInputRefused folder (input_over text tables query vector) e)
       → IfErr result (λ e. (text : List ℕ) → Declares text → HasPlan plan → RefusedOver text e)
-  refused_over plan tables (Ok end) read told = tt
-  refused_over plan tables (Err e) read told = λ text declared planned. (tables, read, told text declared planned)
+  refused_over plan tables (Ok end) read returned = tt
+  refused_over plan tables (Err e) read returned = λ text declared planned. (tables, read, returned text declared planned)
 
   -- where the query has the plan
   pub answered_by : (plan : Plan) (before after : Option (List ℕ)) (result : Result Ended Refusal) → HasPlan plan
       → IfOk result (λ end. (text : List ℕ) → Declares text → HasPlan plan → IsAnsweredSo holds folder text catalog query rows vector before after end)
       → IfOk result (λ end. (text : List ℕ) → Declares text → IsAnsweredSo holds folder text catalog query rows vector before after end)
-  answered_by plan before after (Ok end) planned told = λ text declared. told text declared planned
-  answered_by plan before after (Err e) planned told = tt
+  answered_by plan before after (Ok end) planned returned = λ text declared. returned text declared planned
+  answered_by plan before after (Err e) planned returned = tt
 
   pub refused_by : (plan : Plan) (result : Result Ended Refusal) → HasPlan plan
       → IfErr result (λ e. (text : List ℕ) → Declares text → HasPlan plan → RefusedOver text e) → IfErr result (λ e. (text : List ℕ) → Declares text → Refused text e)
-  refused_by plan (Ok end) planned told = tt
-  refused_by plan (Err e) planned told = λ text declared. inr (told text declared planned)
+  refused_by plan (Ok end) planned returned = tt
+  refused_by plan (Err e) planned returned = λ text declared. inr (returned text declared planned)
 
   -- a file of the folder is the text that declares the catalogue
   module _ (text : List ℕ) (held : AreHeld (holds (catalog_path folder)) text) (declared : Declares text) where
     pub done : (before after : Option (List ℕ)) (end : Ended) (status : ℕ) → status ≡ end_status end
         → ((text : List ℕ) → Declares text → IsAnsweredSo holds folder text catalog query rows vector before after end) → IsWholeDone holds folder query rows vector before after status
-    done before after end status ends told =
-        let answered = told text declared in
+    done before after end status ends returned =
+        let answered = returned text declared in
         record {
           text = text;
           held = held;
@@ -79,4 +80,4 @@ module _ (holds : Holds) (folder : List ℕ) (catalog : Catalog) (query : List �
         }
 
     pub refused : (e : Refusal) → ((text : List ℕ) → Declares text → Refused text e) → IsWholeRefused holds folder query rows vector e
-    refused e told = inr (text, catalog, held, declared, told text declared)
+    refused e returned = inr (text, catalog, held, declared, returned text declared)

@@ -12,12 +12,13 @@ use Rattle.loader.specs.declared.fault.LoadFault.{LoadFault}
 use Rattle.loader.specs.declared.fault.LoadFault.TheVariants as load_fault
 use Rattle.meaning.specs.declared.catalog.Catalog.{Catalog}
 use Rattle.catalog_reader.specs.CatalogText.{catalog_of}
-use Rattle.whole_query.specs.Whole.{Files, Input, IsRefused, files_in}
-use Rattle.whole_query.specs.declared.fault.WholeFault.{WholeFault}
-use Rattle.whole_query.specs.declared.fault.WholeFault.TheVariants as whole_fault
+use Rattle.coordinator.specs.Whole.{Files, Input, IsRefused, files_in}
+use Rattle.coordinator.specs.declared.fault.WholeFault.{WholeFault}
+use Rattle.coordinator.specs.declared.fault.WholeFault.TheVariants as whole_fault
 use Rattle.folders.specs.Each.{AreEach}
 use Rattle.folders.specs.Folder.{Change, Holds, csv_path}
-use Rattle.folders.specs.Refused.{IsToldAs, load_refusal, refusal_of}
+use Rattle.folders.specs.Refused.{IsReturnedAs, load_refusal}
+use Rattle.cli.specs.WholeRefusal.{refusal_of}
 use Rattle.folders.specs.declared.refusal.Refusal.{Refusal}
 use Rattle.folders.specs.declared.refusal.Refusal.TheVariants as refusal
 use Rattle.jobs.specs.Gathering.{IsReportRefused}
@@ -38,9 +39,9 @@ pub over : (P : Input → Type 0) (text : List ℕ) (csvs : List (Bor (List ℕ)
     → files_in csvs ≡ files_of tables → P (record { catalog = text; files = files_in csvs; query = query; cut = tables.cut; vector_len = vector }) → P (input_over text tables query vector)
 over P text csvs tables query vector files stands = subst (λ (fs : Files). P (record { catalog = text; files = fs; query = query; cut = tables.cut; vector_len = vector })) files stands
 
-pub input_refused : (folder : List ℕ) (input : Input) (fault : WholeFault) (e : Refusal) → IsRefused input fault → IsToldAs (refusal_of folder fault) e → IsInputRefused folder input e
+pub input_refused : (folder : List ℕ) (input : Input) (fault : WholeFault) (e : Refusal) → IsRefused input fault → IsReturnedAs (refusal_of folder fault) e → IsInputRefused folder input e
 input_refused folder input fault e stands (inl memory) = inl memory
-input_refused folder input fault e stands (inr told) = inr (fault, stands, told)
+input_refused folder input fault e stands (inr returned) = inr (fault, stands, returned)
 
 -- a query that isn't planned is refused over any files
 pub unplanned : (folder text : List ℕ) (catalog : Catalog) (input : Input) (e : Refusal) → catalog_of text ≡ Ok catalog → text ≡ input.catalog → IsUnplanned catalog input.query e → IsInputRefused folder input e
@@ -52,13 +53,13 @@ unplanned folder text catalog input e declared same (inr (inr plan)) =
 
 -- ---- the fact
 
-pub uncounted : (folder table csv : List ℕ) (fault : LoadFault) (e : Refusal) → loads.IsUncounted (length (csv_records csv)) fault → IsToldAs (load_refusal folder table fault) e → IsUncounted (csv_path folder table) csv e
+pub uncounted : (folder table csv : List ℕ) (fault : LoadFault) (e : Refusal) → loads.IsUncounted (length (csv_records csv)) fault → IsReturnedAs (load_refusal folder table fault) e → IsUncounted (csv_path folder table) csv e
 uncounted folder table csv load_fault.Memory e stands (inl memory) = inl (inl memory)
-uncounted folder table csv load_fault.Memory e stands (inr told) = inl (inl told)
+uncounted folder table csv load_fault.Memory e stands (inr returned) = inl (inl returned)
 uncounted folder table csv load_fault.Device e stands (inl memory) = inl (inl memory)
-uncounted folder table csv load_fault.Device e stands (inr told) = inl (inr told)
+uncounted folder table csv load_fault.Device e stands (inr returned) = inl (inr returned)
 uncounted folder table csv (load_fault.Table f) e stands (inl memory) = inl (inl memory)
-uncounted folder table csv (load_fault.Table f) e stands (inr told) = inr (stands.1, told ∙ ap refusal.Load stands.0)
+uncounted folder table csv (load_fault.Table f) e stands (inr returned) = inr (stands.1, returned ∙ ap refusal.Load stands.0)
 
 -- ---- dimensions
 

@@ -10,7 +10,7 @@ use Rattle.meaning.specs.declared.catalog.Table.{Table}
 use Rattle.columns.specs.Column.{ColumnSpec}
 use Rattle.loader.proofs.FactSteps.{rows_few}
 use Rattle.meaning_laws.proofs.Cuts.{sum_to_next}
-use Rattle.whole_query.proofs.Slices.{range_to_next, sum_to_place}
+use Rattle.coordinator.proofs.Slices.{range_to_next, sum_to_place}
 use Rattle.wire.specs.Bytes.{sealed}
 use Rattle.fragment_file.specs.CutFile.{cut_bytes}
 use Rattle.fragment_file.specs.Fragment.{Stands}

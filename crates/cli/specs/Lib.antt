@@ -1,5 +1,7 @@
 -- The definitions of this crate.
+pub mod Lines
 pub mod Loading
 pub mod Refusing
 pub mod Running
 pub mod Status
+pub mod WholeRefusal

@@ -12,11 +12,12 @@ use Rattle.columns.specs.Column.{ColumnSpec}
 use Rattle.loader.specs.Columns.{fact_fragments, dimension_columns}
 use Rattle.loader.specs.Fault.{max_counted}
 use Rattle.loader.specs.Source.{csv_records}
-use Rattle.whole_query.specs.Whole.{Input, IsRefused}
-use Rattle.whole_query.specs.declared.fault.WholeFault.{WholeFault}
+use Rattle.coordinator.specs.Whole.{Input, IsRefused}
+use Rattle.coordinator.specs.declared.fault.WholeFault.{WholeFault}
 use Rattle.folders.specs.Each.{AreEach}
 use Rattle.folders.specs.Folder.{Change, Holds, AreHeld, catalog_path, csv_path, cut_path, dimension_path, fragment_path}
-use Rattle.folders.specs.Refused.{IsUnread, IsUnwritten, refusal_of}
+use Rattle.folders.specs.Refused.{IsUnread, IsUnwritten}
+use Rattle.cli.specs.WholeRefusal.{refusal_of}
 use Rattle.folders.specs.declared.refusal.Refusal.{Refusal}
 use Rattle.folders.specs.declared.refusal.Refusal.TheVariants as refusal
 use Rattle.jobs.specs.Gathering.{IsGatherRefused, IsUnprinted}

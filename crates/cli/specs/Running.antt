@@ -4,15 +4,15 @@ use Rattle.meaning.specs.declared.catalog.Catalog.{Catalog}
 use Rattle.catalog_reader.specs.CatalogText.{catalog_of}
 use Rattle.meaning.specs.Cut.{cut_of, even_lengths}
 use Rattle.loader.specs.Source.{csv_records}
-use Rattle.coordinator.specs.Gathering.{GatherSpec}
-use Rattle.whole_query.specs.Whole.{Files, Input, IsAnswered}
-use Rattle.coordinator.specs.declared.report.Ended.{Ended}
+use Rattle.gathering.specs.Gathering.{GatherSpec}
+use Rattle.coordinator.specs.Whole.{Files, Input, IsAnswered}
+use Rattle.gathering.specs.declared.report.Ended.{Ended}
 use Rattle.folders.specs.Folder.{Holds, Change, AreHeld, catalog_path, csv_path}
 use Rattle.cli.specs.Loading.{IsLoadDone}
 use Rattle.jobs.specs.Gathering.{IsGathered}
 use Rattle.jobs.specs.Working.{IsWorked}
 use Rattle.command_line.specs.declared.commands.GatherCommand.{GatherCommand}
-use Rattle.coordinator.specs.declared.report.Report.{Report}
+use Rattle.gathering.specs.declared.report.Report.{Report}
 use Rattle.cli.specs.Status.{end_status, report_status}
 use Rattle.command_line.specs.declared.commands.Command.{Command}
 use Rattle.command_line.specs.declared.commands.Command.TheVariants.{Whole, Load, Work, Gather}

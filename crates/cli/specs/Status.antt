@@ -1,9 +1,9 @@
 -- The exit statuses of the program.
 use Rattle.std.specs.Prelude.{◌≡◌, ◌⊎◌, ℕ}
-use Rattle.coordinator.specs.declared.report.Ended.{Ended}
-use Rattle.coordinator.specs.declared.report.Ended.TheVariants.{Rows, Fault}
-use Rattle.coordinator.specs.declared.report.Report.{Report}
-use Rattle.coordinator.specs.declared.report.Report.TheVariants as report
+use Rattle.gathering.specs.declared.report.Ended.{Ended}
+use Rattle.gathering.specs.declared.report.Ended.TheVariants.{Rows, Fault}
+use Rattle.gathering.specs.declared.report.Report.{Report}
+use Rattle.gathering.specs.declared.report.Report.TheVariants as report
 
 -- a query that ends with a fault of arithmetic ends with 3
 abbrev pub end_status : Ended → ℕ

@@ -7,7 +7,7 @@ ghost use Rattle.meaning.specs.declared.table.TableFault.{TableFault as Fault};
 ghost use Rattle.columns.specs.Column.{ColumnSpec};
 ghost use Rattle.fragment_file.specs.Writing.{AreColumns};
 ghost use Rattle.loader.specs.Columns.{fact_fragments};
-ghost use Rattle.loader.specs.Fault.{fault_told};
+ghost use Rattle.loader.specs.Fault.{fault_returned};
 ghost use Rattle.loader.specs.Handing.{IsToCome, declared_in, lengths_ahead};
 ghost use Rattle.loader.specs.Source.{csv_records};
 ghost use Rattle.folders.specs.Each.{AreEach};
@@ -19,12 +19,10 @@ use crate::saving::write_fragment;
 use crate::tables::even_cut;
 use crate::target::Target;
 use columns::Column;
-use folders::files::open_file;
-use folders::paths::csv_path;
-use folders::{Folder, Refusal, load_refusal};
-use fragment_file::header::Slice;
+use folders::{Folder, Refusal, csv_path, load_refusal, open_file};
+use fragment_file::Slice;
 use loader::{FactReader, LoadFault, count_rows, open_fact};
-use meaning::cut::Cut;
+use meaning::Cut;
 use std::alloc::Global;
 use std::collections::VecDeque;
 use std::mem::drop;
@@ -116,7 +114,7 @@ fn write_fragments<F: Folder>(
     ensures held { F.holds folder.new ≡ F.holds folder.old }
     ensures refused { IfErr result (λ e. (meant : Result (List (List ColumnSpec)) Fault)
         → IsToCome F.Reader.remaining reader.old meant
-        → IfSome (fault_told e) (λ f. meant ≡ Err f)) }
+        → IfSome (fault_returned e) (λ f. meant ≡ Err f)) }
 {
     let lengths = cut.lengths();
     let mut files = Ok(VecDeque::new(alloc));
@@ -156,7 +154,7 @@ fn write_read<F: Folder>(
     ensures same { F.wrote folder.new ≡ F.wrote folder.old }
     ensures held { F.holds folder.new ≡ F.holds folder.old }
     ensures refused { IfErr result (λ e. (bytes : List ℕ) → F.Reader.remaining file ≡ Some bytes
-        → IfSome (fault_told e) (λ f. fact_fragments target.now.catalog.now cut.now
+        → IfSome (fault_returned e) (λ f. fact_fragments target.now.catalog.now cut.now
         (csv_records bytes) ≡ Err f)) }
 {
     let mut reader = open_fact(alloc, target.catalog, file, cut)?;
@@ -204,7 +202,7 @@ fn write_fact<F: Folder>(
 /// # Errors
 ///
 /// Out of memory, a file that cannot be read, a cut over its limits, and the table's first fault,
-/// whichever comes first. A file that cannot be written is none of them: it is told once all tables
+/// whichever comes first. A file that cannot be written is none of them: it is returned once all tables
 /// are known to be well.
 pub fn load_fact<F: Folder>(
     alloc: Global,

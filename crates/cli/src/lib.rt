@@ -4,11 +4,14 @@
 mod fragments;
 mod loading;
 mod question;
+mod refusal_lines;
 mod running;
 mod saving;
 mod tables;
 mod target;
+mod whole_refusal;
 
 pub use command_line::{Command, UsageFault, command};
 pub use folders::Folder;
+pub use refusal_lines::print_refusal;
 pub use running::{outcome, run};

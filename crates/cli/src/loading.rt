@@ -9,13 +9,9 @@ ghost use Rattle.cli.specs.Loading.{IsDimensionLoaded};
 ghost use Rattle.cli.specs.Refusing.{AreDimensionsRefused, IsDimensionRefused};
 
 use columns::Column;
-use folders::files::read_file;
-use folders::paths::csv_path;
-use folders::{Folder, Refusal, load_refusal};
+use folders::{Folder, Refusal, csv_path, load_refusal, read_file};
 use loader::load_dimension;
-use meaning::catalog::{Catalog, Dimension};
-use meaning::sequence::Sequence;
-use meaning::text::Text;
+use meaning::{Catalog, Dimension, Sequence, Text};
 use std::alloc::Global;
 
 fn read_csv<F: Folder>(

@@ -1,5 +1,5 @@
 //! A query over a folder, and how it is answered.
-use meaning::catalog::Catalog;
+use meaning::Catalog;
 
 /// What is asked of a folder that wasn't read yet.
 #[derive(Clone, Copy)]

@@ -3,12 +3,11 @@ ghost use Rattle.std.specs.Prelude.{◌≡◌, ◌≢◌, ◌≤◌, ℕ, List, 
 ghost use Rattle.std.specs.Io.KnownBytes.{Appends};
 ghost use Rattle.meaning.specs.Catalog.{IsWellFormed};
 ghost use Rattle.catalog_reader.specs.CatalogText.{catalog_of};
-ghost use Rattle.meaning.specs.WellFormedPlan.{IsWellFormedPlan};
-ghost use Rattle.last_step.specs.Fitting.{IsTypedOverGroups};
-ghost use Rattle.partial_codec.specs.Job.{IsPlanOfJob};
+ghost use Rattle.meaning.specs.SoundPlan.{IsSoundPlan};
+ghost use Rattle.planner.specs.QueryText.{IsPlanned};
 ghost use Rattle.columns.specs.Column.{ColumnSpec};
-ghost use Rattle.coordinator.specs.Gathering.{GatherSpec};
-ghost use Rattle.whole_query.specs.Whole.{IsAnswered, IsPlanned};
+ghost use Rattle.gathering.specs.Gathering.{GatherSpec};
+ghost use Rattle.coordinator.specs.Whole.{IsAnswered};
 ghost use Rattle.command_line.specs.Command.{IsInRange};
 ghost use Rattle.folders.specs.Folder.{Writes};
 ghost use Rattle.folders.specs.Each.{AreEach};
@@ -23,21 +22,22 @@ ghost use Rattle.jobs.specs.Working.{IsWorked, IsWorkRefused};
 use crate::fragments::{Fact, load_fact};
 use crate::loading::load_dimensions;
 use crate::question::{Question, Request};
+use crate::refusal_lines::print_refusal;
 use crate::saving::save;
 use crate::tables::{Tables, lend_files, read_dims, read_fact};
 use crate::target::Target;
-use catalog_reader::read_catalog::read_catalog;
+use crate::whole_refusal::refusal_of;
+use catalog_reader::read_catalog;
 use command_line::{Command, GatherCommand, WorkCommand};
-use coordinator::{Ended, Report};
-use folders::files::read_catalog_file;
-use folders::{Folder, Refusal, refusal_of, tell};
+use coordinator::{Sources, answer_plan};
+use folders::{Folder, Refusal, read_catalog_file};
+use gathering::{Ended, Report};
 use jobs::{answer_fragment, gather_answers, plan_of};
-use meaning::plan::Plan;
+use meaning::Plan;
 use std::alloc::Global;
 use std::io;
 use std::io::Write;
 use std::mem::drop;
-use whole_query::{Sources, answer_plan};
 
 fn status_of(ended: Ended) -> u8
     ensures { result ≡ end_status ended }
@@ -67,9 +67,7 @@ fn answer_over<O: Write>(
     out: &mut O,
 ) -> Result<Ended, Refusal>
     requires catalog { IsWellFormed question.now.catalog.now }
-    requires plan { IsWellFormedPlan plan }
-    requires typed { IsTypedOverGroups plan }
-    requires job { IsPlanOfJob plan }
+    requires plan { IsSoundPlan plan }
     ensures answered { IfOk result (λ ended. (text : List ℕ)
         → catalog_of text ≡ Ok question.now.catalog.now
         → IsPlanned question.now.catalog.now question.now.query.now (Ok plan)
@@ -115,9 +113,7 @@ fn answer_planned<F: Folder, O: Write>(
     out: &mut O,
 ) -> Result<Ended, Refusal>
     requires catalog { IsWellFormed question.now.catalog.now }
-    requires plan { IsWellFormedPlan plan }
-    requires typed { IsTypedOverGroups plan }
-    requires job { IsPlanOfJob plan }
+    requires plan { IsSoundPlan plan }
     requires fact { AreTables (F.holds folder.now) question.now.directory.now
         question.now.catalog.now.fact.name question.now.rows fact }
     ensures answered { IfOk result (λ ended. (text : List ℕ)
@@ -173,7 +169,7 @@ fn answer_declared<F: Folder, O: Write>(
         ..
     } = *question;
     let fact = read_fact(alloc, folder, directory, &catalog.fact.name, question.rows)?;
-    match plan_of(alloc, directory, catalog, question.query) {
+    match plan_of(alloc, catalog, question.query) {
         Ok(plan) => answer_planned(alloc, folder, question, plan, fact, out),
         Err(refusal) => {
             drop(fact);
@@ -416,8 +412,8 @@ pub fn run<F: Folder, O: Write, E: Write>(
     match outcome(alloc, command, folder, out, err) {
         Ok(status) => status,
         Err(refusal) => {
-            // A closed standard error leaves nobody to tell.
-            let _ = tell(&refusal, err);
+            // A closed standard error leaves nobody to print.
+            let _ = print_refusal(&refusal, err);
             1
         }
     }

@@ -17,18 +17,12 @@ ghost use Rattle.cli.specs.Loading.{AreDimensionColumns, AreFiles, AreFragmentsC
 
 use crate::target::Target;
 use columns::Column;
-use folders::files::{
-    close_file, create_file, finish_file, put_file, refusal_of_file, remove_file,
+use folders::{
+    Folder, Refusal, close_file, create_file, cut_path, dimension_path, finish_file, fragment_path,
+    put_file, refusal_of_file, remove_file,
 };
-use folders::paths::{cut_path, dimension_path, fragment_path};
-use folders::{Folder, Refusal};
-use fragment_file::header::{Header, Slice};
-use fragment_file::{write, write_cut};
-use meaning::catalog::Dimension;
-use meaning::cut::Cut;
-use meaning::limits::MAX_FRAGMENTS;
-use meaning::sequence::Sequence;
-use meaning::text::Text;
+use fragment_file::{Header, Slice, write, write_cut};
+use meaning::{Cut, Dimension, MAX_FRAGMENTS, Sequence, Text};
 use std::alloc::Global;
 use std::collections::VecDeque;
 

@@ -3,19 +3,15 @@
 ghost use Rattle.std.specs.Prelude.{◌≡◌, ◌≤◌, ℕ, Ok, Some, IfErr, IfOk, IfSome, OnOk, All, length, drop, sum};
 ghost use Rattle.meaning.specs.Cut.{cut_of, even_lengths};
 ghost use Rattle.loader.specs.Source.{csv_records};
-ghost use Rattle.whole_query.specs.Whole.{files_in};
+ghost use Rattle.coordinator.specs.Whole.{files_in};
 ghost use Rattle.folders.specs.Folder.{AreHeld, csv_path};
 ghost use Rattle.folders.specs.declared.refusal.Refusal.TheVariants.{Memory};
 ghost use Rattle.cli.specs.Refusing.{AreTablesUncut, IsFactUncut, IsFileUncut, IsUncounted, IsUneven};
 ghost use Rattle.cli.specs.Running.{AreTables, IsCsvOf, files_of, rows_behind};
 
-use folders::files::try_read;
-use folders::paths::csv_path;
-use folders::{Folder, Refusal, load_refusal};
+use folders::{Folder, Refusal, csv_path, load_refusal, try_read};
 use loader::count_rows;
-use meaning::cut::Cut;
-use meaning::plan::Join;
-use meaning::text::Text;
+use meaning::{Cut, Join, Text};
 use std::alloc::{AllocError, Global};
 
 /// The bytes of a table's CSV file.

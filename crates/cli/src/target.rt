@@ -1,5 +1,5 @@
 //! What is loaded, and where its files go.
-use meaning::catalog::Catalog;
+use meaning::Catalog;
 
 /// What is loaded, and where its files go.
 #[derive(Clone, Copy)]

@@ -12,7 +12,7 @@ pub length-texts_from : (start : ℕ) (ends : List ℕ) (joined : List ℕ) → 
 length-texts_from start [] joined = refl
 length-texts_from start (e ∷ ends) joined = ap suc (length-texts_from e ends joined)
 
--- what stands between two places
+-- what stands between two offsets
 pub take_middle : (xs ys zs : List ℕ) (i j : ℕ) → i ≡ length xs → j ≡ length xs + length ys → take (j - i) (drop i (xs ++ (ys ++ zs))) ≡ ys
 take_middle xs ys zs i j p q =
     let n : length ys ≡ j - i = omega arith in
@@ -35,7 +35,7 @@ ends_at start (t ∷ ts) zero h = rw append-nil refl
 ends_at start (t ∷ ts) (suc k) h =
     rw (length-append t (concat (take (suc k) ts))) (ends_at (start + length t) ts k (omega arith) ∙ add_assoc start (length t) (length (concat (take (suc k) ts))))
 
--- the bytes in front of a place, then those of the next texts
+-- the bytes in front of a text, then those of the next texts
 pub front_more : (ts : List (List ℕ)) (a m : ℕ) → concat (take (a + m) ts) ≡ concat (take a ts) ++ concat (take m (drop a ts))
 front_more ts a m = ap concat (take-add a m ts) ∙ concat-append (take a ts) (take m (drop a ts))
 

@@ -9,8 +9,7 @@ ghost use Rattle.columns.specs.declared.fault.ColumnFault.TheVariants.{Memory};
 
 use crate::fault::ColumnFault;
 use crate::text_list::TextList;
-use meaning::limits::MAX_TEXT_BYTES;
-use meaning::value::{ColType, ValueRef};
+use meaning::{ColType, MAX_TEXT_BYTES, ValueRef};
 use std::alloc::{AllocError, Global};
 
 #[derive(Drop)]
@@ -58,13 +57,13 @@ impl Cells {
         }
     }
 
-    pub fn get(&self, place: usize) -> ValueRef<'_>
-        requires { place < length (cells_in self.now) }
-        ensures { value_in result ≡ slice_index_or (cells_in self.now) place Null }
+    pub fn get(&self, row: usize) -> ValueRef<'_>
+        requires { row < length (cells_in self.now) }
+        ensures { value_in result ≡ slice_index_or (cells_in self.now) row Null }
     {
         match self {
-            Cells::Ints(ints) => ValueRef::Int(ints[place]),
-            Cells::Texts(texts) => ValueRef::Text(texts.get(place)),
+            Cells::Ints(ints) => ValueRef::Int(ints[row]),
+            Cells::Texts(texts) => ValueRef::Text(texts.get(row)),
         }
     }
 
@@ -73,7 +72,7 @@ impl Cells {
         ensures ok { OnOk result (cells_in self.new ≡ cells_in self.old ++ Int n ∷ []) }
         ensures taken { OnOk result (refusal (type_of self.old) true (Int n) ≡ None) }
         ensures err { OnErr result (cells_in self.new ≡ cells_in self.old) }
-        ensures told { IfErr result (λ f. f ≢ Memory
+        ensures returned { IfErr result (λ f. f ≢ Memory
             → refusal (type_of self.old) true (Int n) ≡ Some f) }
     {
         match self {
@@ -92,7 +91,7 @@ impl Cells {
         ensures ok { OnOk result (cells_in self.new ≡ cells_in self.old ++ Text text.now ∷ []) }
         ensures taken { OnOk result (refusal (type_of self.old) true (Text text.now) ≡ None) }
         ensures err { OnErr result (cells_in self.new ≡ cells_in self.old) }
-        ensures told { IfErr result (λ f. f ≢ Memory
+        ensures returned { IfErr result (λ f. f ≢ Memory
             → refusal (type_of self.old) true (Text text.now) ≡ Some f) }
     {
         match self {

@@ -12,7 +12,7 @@ ghost use Rattle.columns.specs.declared.fault.ColumnFault.TheVariants.{Memory};
 use crate::cells::Cells;
 use crate::fault::ColumnFault;
 use crate::text_list::TextList;
-use meaning::value::{ColType, Value, ValueRef};
+use meaning::{ColType, Value, ValueRef};
 use std::alloc::{AllocError, Global};
 use std::marker::Model;
 
@@ -170,7 +170,7 @@ impl Column {
         ensures ok { OnOk result (self.new ≡ with_value self.old (Int n)) }
         ensures taken { OnOk result (refusal self.old.col_type self.old.nullable (Int n) ≡ None) }
         ensures err { OnErr result (self.new ≡ self.old) }
-        ensures told { IfErr result (λ f. f ≢ Memory
+        ensures returned { IfErr result (λ f. f ≢ Memory
             → refusal self.old.col_type self.old.nullable (Int n) ≡ Some f) }
     {
         make_room(&mut self.nulls, self.nullable)?;
@@ -185,7 +185,7 @@ impl Column {
         ensures taken { OnOk result (refusal self.old.col_type self.old.nullable (Text text.now)
             ≡ None) }
         ensures err { OnErr result (self.new ≡ self.old) }
-        ensures told { IfErr result (λ f. f ≢ Memory
+        ensures returned { IfErr result (λ f. f ≢ Memory
             → refusal self.old.col_type self.old.nullable (Text text.now) ≡ Some f) }
     {
         self.push_utf8(text.as_bytes())
@@ -198,7 +198,7 @@ impl Column {
         ensures taken { OnOk result (refusal self.old.col_type self.old.nullable (Text text.now)
             ≡ None) }
         ensures err { OnErr result (self.new ≡ self.old) }
-        ensures told { IfErr result (λ f. f ≢ Memory
+        ensures returned { IfErr result (λ f. f ≢ Memory
             → refusal self.old.col_type self.old.nullable (Text text.now) ≡ Some f) }
     {
         make_room(&mut self.nulls, self.nullable)?;
@@ -212,7 +212,7 @@ impl Column {
         ensures ok { OnOk result (self.new ≡ with_value self.old Null) }
         ensures taken { OnOk result (refusal self.old.col_type self.old.nullable Null ≡ None) }
         ensures err { OnErr result (self.new ≡ self.old) }
-        ensures told { IfErr result (λ f. f ≢ Memory
+        ensures returned { IfErr result (λ f. f ≢ Memory
             → refusal self.old.col_type self.old.nullable Null ≡ Some f) }
     {
         if !self.nullable {
@@ -229,7 +229,7 @@ impl Column {
         ensures ok { OnOk result (self.new ≡ with_value self.old value) }
         ensures taken { OnOk result (refusal self.old.col_type self.old.nullable value ≡ None) }
         ensures err { OnErr result (self.new ≡ self.old) }
-        ensures told { IfErr result (λ f. f ≢ Memory
+        ensures returned { IfErr result (λ f. f ≢ Memory
             → refusal self.old.col_type self.old.nullable value ≡ Some f) }
     {
         match value {

@@ -53,18 +53,18 @@ impl TextList {
         self.ends.len()
     }
 
-    /// Where a text begins in the joined bytes: at place `len()`, where they end.
-    fn start(&self, place: usize) -> usize
-        requires { place ≤ length self.now }
-        ensures { result ≡ length (concat (take place self.now)) }
+    /// Where a text begins in the joined bytes: at index `len()`, where they end.
+    fn start(&self, index: usize) -> usize
+        requires { index ≤ length self.now }
+        ensures { result ≡ length (concat (take index self.now)) }
     {
-        if place == 0 {
+        if index == 0 {
             return 0;
         }
-        self.ends[place - 1]
+        self.ends[index - 1]
     }
 
-    /// The bytes of the texts from one place up to another, one behind the other.
+    /// The bytes of the texts from one index up to another, one behind the other.
     pub fn joined(&self, from: usize, to: usize) -> &[u8]
         requires ordered { from ≤ to }
         requires within { to ≤ length self.now }
@@ -75,12 +75,12 @@ impl TextList {
     }
 
     /// The bytes of a text.
-    pub fn get(&self, place: usize) -> &[u8]
-        requires { place < length self.now }
-        ensures value { result.now ≡ slice_index_or self.now place [] }
+    pub fn get(&self, index: usize) -> &[u8]
+        requires { index < length self.now }
+        ensures value { result.now ≡ slice_index_or self.now index [] }
         ensures text { is_text result.now ≡ true }
     {
-        &self.joined[self.start(place)..self.ends[place]]
+        &self.joined[self.start(index)..self.ends[index]]
     }
 
     /// Puts the bytes of a text behind the last. On an error nothing changes.

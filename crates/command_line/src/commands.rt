@@ -1,6 +1,5 @@
 //! The commands of the program.
-use meaning::sequence::Sequence;
-use meaning::text::Text;
+use meaning::{Sequence, Text};
 
 /// What the program is asked to do.
 #[derive(Drop)]

@@ -1,6 +1,6 @@
 //! The words that the program takes, as `clap` checks and explains them.
 use clap::Arg;
-use meaning::limits::{MAX_FRAGMENTS, MAX_ROWS, MAX_VECTOR_ROWS};
+use meaning::{MAX_FRAGMENTS, MAX_ROWS, MAX_VECTOR_ROWS};
 use std::alloc::{AllocError, Global};
 use std::mem::drop;
 

@@ -10,9 +10,7 @@ use crate::parts::Parts;
 use crate::reading::read;
 use crate::usage_fault::UsageFault;
 use clap::error::ErrorKind;
-use meaning::limits::{MAX_FRAGMENTS, MAX_ROWS};
-use meaning::sequence::Sequence;
-use meaning::text::Text;
+use meaning::{MAX_FRAGMENTS, MAX_ROWS, Sequence, Text};
 use std::alloc::{AllocError, Global};
 use std::mem::drop;
 

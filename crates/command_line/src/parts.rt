@@ -10,7 +10,7 @@ ghost use Rattle.command_line.specs.Steps.{given_of, plain_of};
 ghost use Rattle.command_line.specs.Words.{IsNumber, values};
 
 use crate::found::Found;
-use meaning::limits::MAX_VECTOR_ROWS;
+use meaning::MAX_VECTOR_ROWS;
 use std::alloc::{AllocError, Global};
 
 const DEFAULT_VECTOR_ROWS: u32 = 1024;

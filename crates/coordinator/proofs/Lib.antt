@@ -1,9 +1,14 @@
 -- The lemmas of this crate.
-pub mod Fitting
-pub mod Faults
-pub mod Held
-pub mod Places
-pub mod Joined
-pub mod StateFiles
-pub mod Merging
-pub mod ShapedGroups
+pub mod OwnRows
+pub mod CountedRows
+pub mod Slices
+pub mod FragmentColumns
+pub mod FileRows
+pub mod Planned
+pub mod FoundFiles
+pub mod InTurn
+pub mod TableFaults
+pub mod TableFiles
+pub mod Returned
+pub mod Runs
+pub mod Ends

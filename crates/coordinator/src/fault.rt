@@ -1,75 +1,104 @@
-//! Why a coordinator refuses a call.
+//! Why a whole query was refused.
 ghost use Rattle.std.specs.Prelude.{◌≡◌};
-ghost use Rattle.coordinator.specs.Gathering.{fault_of, of_print, number_of};
-ghost use Rattle.coordinator.specs.declared.fault.GatherFault.TheVariants as fault;
+ghost use Rattle.coordinator.specs.Whole.{number_of, of_catalog, of_query, of_load};
+ghost use Rattle.coordinator.specs.declared.fault.WholeFault.TheVariants as fault;
 
-use last_step::PrintFault;
-use partial_codec::DecodeFault;
+use loader::LoadFault;
+use meaning::{CatalogFault, TableFault, Text};
+use planner::{PlanFault, QueryFault};
+use sql_reader::SqlFault;
 use std::alloc::{AllocError, AllocFailed};
 use thiserror::Error;
 
-/// Why a coordinator did not do what was asked.
+/// Why a query was not answered: a layer's refusal, or one of the call's own.
 #[derive(Debug, Drop, Error)]
-pub enum GatherFault {
+pub enum WholeFault {
     #[error("out of memory")]
     Memory,
-    /// Bytes that are no answer for the job.
-    #[error("{0}")]
-    Decode(DecodeFault),
-    #[error("another load, plan or cut")]
-    OtherJob,
+    #[error("the catalogue is refused")]
+    Catalog(CatalogFault),
+    #[error("the query is refused")]
+    Sql(SqlFault),
+    #[error("the query has no plan")]
+    Plan(PlanFault),
+    /// There is no CSV file of this table.
+    #[error("a table has no CSV file")]
+    MissingCsv(Text),
+    #[error("a table is refused")]
+    Load(TableFault),
+    #[error("a vector has 1 to 4,096 values")]
+    VectorLength,
     #[error("the writer failed")]
     Writer,
 }
 
-impl GatherFault {
-    /// The error code.
+impl WholeFault {
+    /// The error code: the layer's own, 1 for a missing file, and of a failed writer the
+    /// coordinator's.
     pub fn number(&self) -> u8
         ensures { result ≡ number_of self.now }
     {
         match self {
-            GatherFault::Memory => 0,
-            GatherFault::Decode(fault) => fault.number(),
-            GatherFault::OtherJob => 11,
-            GatherFault::Writer => 12,
+            WholeFault::Memory => 0,
+            WholeFault::Catalog(fault) => fault.number(),
+            WholeFault::Sql(fault) => fault.number(),
+            WholeFault::Plan(fault) => fault.number(),
+            WholeFault::MissingCsv(_) => 1,
+            WholeFault::Load(fault) => fault.number(),
+            WholeFault::VectorLength => 4,
+            WholeFault::Writer => 12,
         }
     }
 }
 
-impl From<AllocError> for GatherFault {
+impl From<AllocError> for WholeFault {
     ghost from_gives = { λ _ given. given ≡ fault.Memory };
 
-    fn from(_: AllocError) -> GatherFault {
-        GatherFault::Memory
+    fn from(_: AllocError) -> WholeFault {
+        WholeFault::Memory
     }
 }
 
-impl<T: Drop> From<AllocFailed<T>> for GatherFault {
+impl<T: Drop> From<AllocFailed<T>> for WholeFault {
     ghost from_gives = { λ _ given. given ≡ fault.Memory };
 
-    fn from(_: AllocFailed<T>) -> GatherFault {
-        GatherFault::Memory
+    fn from(_: AllocFailed<T>) -> WholeFault {
+        WholeFault::Memory
     }
 }
 
-impl From<DecodeFault> for GatherFault {
-    ghost from_gives = { λ e given. given ≡ fault_of e };
+impl From<CatalogFault> for WholeFault {
+    ghost from_gives = { λ e given. given ≡ of_catalog e };
 
-    fn from(fault: DecodeFault) -> GatherFault {
-        match fault {
-            DecodeFault::Memory => GatherFault::Memory,
-            other => GatherFault::Decode(other),
+    fn from(e: CatalogFault) -> WholeFault {
+        match e {
+            CatalogFault::Memory => WholeFault::Memory,
+            e => WholeFault::Catalog(e),
         }
     }
 }
 
-impl From<PrintFault> for GatherFault {
-    ghost from_gives = { λ e given. given ≡ of_print e };
+impl From<QueryFault> for WholeFault {
+    ghost from_gives = { λ e given. given ≡ of_query e };
 
-    fn from(fault: PrintFault) -> GatherFault {
-        match fault {
-            PrintFault::Memory => GatherFault::Memory,
-            PrintFault::Writer => GatherFault::Writer,
+    fn from(e: QueryFault) -> WholeFault {
+        match e {
+            QueryFault::Memory => WholeFault::Memory,
+            QueryFault::Sql(e) => WholeFault::Sql(e),
+            QueryFault::Plan(e) => WholeFault::Plan(e),
+        }
+    }
+}
+
+impl From<LoadFault> for WholeFault {
+    ghost from_gives = { λ e given. given ≡ of_load e };
+
+    fn from(e: LoadFault) -> WholeFault {
+        match e {
+            LoadFault::Memory => WholeFault::Memory,
+            LoadFault::Table(e) => WholeFault::Load(e),
+            // A slice's reader never fails.
+            LoadFault::Device => WholeFault::Memory,
         }
     }
 }

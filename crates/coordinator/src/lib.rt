@@ -1,19 +1,19 @@
-//! Gathering the answers of fragments, and reporting what they say together.
+//! The coordinator: all of `gathering`, and a whole query in memory, from a catalogue, CSV files and
+//! a query's text to what is printed.
 #![tactic(auto)]
 
-mod combining;
-mod copying;
+mod answering;
+mod csvs;
 mod fault;
-mod gather;
-mod joining;
-mod laws;
-pub mod lines;
-mod output;
-mod report;
-mod same_job;
+mod fragments;
+mod planning;
+mod sources;
+mod table_files;
+mod tables;
 
-pub use fault::GatherFault;
-pub use gather::{Absorbed, Gather};
-pub use last_step::PrintFault;
-pub use laws::{answers_decide, states_join};
-pub use report::{Ended, Report};
+pub use answering::{answer_plan, whole};
+pub use fault::WholeFault;
+pub use gathering::{
+    Absorbed, Ended, Gather, GatherFault, PrintFault, Report, answers_decide, states_join,
+};
+pub use sources::Sources;

@@ -1,13 +1,12 @@
 //! Answers of which each byte is changed in turn, and what `whole` hands back.
-use coordinator::Gather;
-use meaning::cut::Cut;
+use coordinator::{Gather, whole};
+use meaning::Cut;
 use partial_codec::{Job, decode};
 use sha2::{Digest, Sha256};
 use std::alloc::{AllocError, Global};
 use std::mem::drop;
 use std::process::Abort;
 use std::test::Fail;
-use whole_query::{Sources, whole};
 
 /// The count 2 for the first fragment of the cut [2,3], load 0, up to its seal.
 const COUNTED: &[u8] = b"XGA1\0\0\0\0\0\0\0\0\x1a\0\0\0SELECT COUNT(*) FROM sales\
@@ -20,12 +19,7 @@ fn counted(alloc: Global) -> Result<Gather, Fail> {
     let csvs = [("sales", b"q\n1\n2\n3\n4\n5\n".as_slice())];
     let query = b"SELECT COUNT(*) FROM sales";
     let mut out = Vec::new(alloc);
-    let sources = Sources {
-        csvs: &csvs,
-        cut: &cut,
-        vector_len: 1024,
-    };
-    let (_, gather) = whole(alloc, catalog, query, sources, &mut out)?;
+    let (_, gather) = whole(alloc, catalog, &csvs, query, &cut, 1024, &mut out)?;
     Ok(gather)
 }
 
@@ -91,7 +85,7 @@ fn want_under_seal(place: usize) -> Option<u8> {
         // Fragment 1 may have 2 rows too.
         54 => None,
         46..=57 => Some(7),
-        // With a third length, which is the fragment's number, the shape tells a key.
+        // With a third length, which is the fragment's number, the shape reports a key.
         42 | 58..=63 => Some(9),
         _ => Some(10),
     }

@@ -1,14 +1,9 @@
 //! Printing to writers that fail.
 ghost use Rattle.std.specs.Prelude.{◌≡◌, ◌≢◌, [], IfOk};
 
-use coordinator::lines::{print_fault, print_fragments, print_row_fault};
+use gathering::{print_fault, print_fragments, print_row_fault};
 use last_step::{PrintFault, print_rows};
-use meaning::answer::RowFault;
-use meaning::expr::Expr;
-use meaning::plan::{Item, Plan, TableUse};
-use meaning::sequence::Sequence;
-use meaning::text::Text;
-use meaning::value::{Row, Value};
+use meaning::{Expr, Item, Plan, Row, RowFault, Sequence, TableUse, Text, Value};
 use std::alloc::{AllocError, Global};
 use std::io::Write;
 use std::mem::drop;
@@ -144,7 +139,7 @@ fn is_full(alloc: Global) -> Result<bool, AllocError> {
 }
 
 #[test]
-fn a_full_writer_is_told(rt: HostRuntime) -> Result<(), Fail> {
+fn a_full_writer_is_returned(rt: HostRuntime) -> Result<(), Fail> {
     assert!(rt; is_full(rt.alloc())?);
     let mut room = [0u8; 4];
     let mut out = room.as_mut_slice();

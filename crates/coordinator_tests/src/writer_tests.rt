@@ -1,22 +1,16 @@
 //! Whole queries and reports on writers that fail.
-use coordinator::{Ended, Gather};
-use meaning::cut::Cut;
+use coordinator::{Ended, Gather, WholeFault, whole};
+use meaning::Cut;
 use std::alloc::Global;
 use std::io::Write;
 use std::mem::drop;
 use std::test::Fail;
-use whole_query::{Sources, WholeFault, whole};
 
 /// Counts the rows of a table, and prints the count to this writer.
 fn count<W: Write>(alloc: Global, cut: &Cut, out: &mut W) -> Result<(Ended, Gather), WholeFault> {
     let csvs = [("n", b"v\n1\n2\n".as_slice())];
     let query = b"SELECT COUNT(*) FROM n";
-    let sources = Sources {
-        csvs: &csvs,
-        cut,
-        vector_len: 1,
-    };
-    whole(alloc, b"fact n\ncol v int\n", query, sources, out)
+    whole(alloc, b"fact n\ncol v int\n", &csvs, query, cut, 1, out)
 }
 
 fn count_to_full(alloc: Global, cut: &Cut) -> Result<(Ended, Gather), WholeFault> {
@@ -25,7 +19,7 @@ fn count_to_full(alloc: Global, cut: &Cut) -> Result<(Ended, Gather), WholeFault
     count(alloc, cut, &mut out)
 }
 
-fn is_told(alloc: Global, cut: &Cut) -> bool {
+fn is_returned(alloc: Global, cut: &Cut) -> bool {
     matches!(count_to_full(alloc, cut), Err(WholeFault::Writer))
 }
 
@@ -35,9 +29,9 @@ fn one_fragment(alloc: Global) -> Result<Cut, Fail> {
 }
 
 #[test]
-fn whole_tells_a_full_writer(rt: HostRuntime) -> Result<(), Fail> {
+fn whole_reports_a_full_writer(rt: HostRuntime) -> Result<(), Fail> {
     let cut = one_fragment(rt.alloc())?;
-    assert!(rt; is_told(rt.alloc(), &cut));
+    assert!(rt; is_returned(rt.alloc(), &cut));
     Ok(())
 }
 
@@ -58,7 +52,7 @@ fn counted(alloc: Global) -> Result<Gather, Fail> {
 }
 
 #[test]
-fn a_coordinator_tells_a_full_writer(rt: HostRuntime) -> Result<(), Fail> {
+fn a_coordinator_reports_a_full_writer(rt: HostRuntime) -> Result<(), Fail> {
     let gather = counted(rt.alloc())?;
     let refusal = refusal_of_print(rt.alloc(), &gather);
     drop(gather);

@@ -11,7 +11,7 @@ use Rattle.meaning.specs.declared.value.ColType.{ColType}
 use Rattle.meaning.specs.declared.value.ColType.TheVariants as of_type
 use Rattle.meaning.specs.declared.value.Value.{Value}
 use Rattle.meaning.specs.declared.value.Value.TheVariants.{Null, Int}
-use Rattle.meaning.specs.Order.{bytes, value_cmp, placed_once, ascending_set}
+use Rattle.meaning.specs.Order.{bytes, value_cmp, inserted_once, ascending_set}
 use Rattle.meaning.proofs.Tests.{both}
 use Rattle.encodings.specs.declared.choice.Choice.{Choice}
 use Rattle.encodings.specs.declared.kind.Kind.{Kind}
@@ -21,7 +21,7 @@ use Rattle.encodings.specs.Choosing.{body_size, cells_for, is_chosen}
 use Rattle.encodings.specs.Plain.{form_size}
 use Rattle.encodings.specs.declared.dictionary.of_cells.Dictionary.{Dictionary}
 use Rattle.encodings.specs.Dictionary.{AreEntries}
-use Rattle.encodings.specs.Plain.{at_places}
+use Rattle.encodings.specs.Plain.{cells_at}
 use Rattle.encodings.proofs.EncodedDictionaries.{entries_set}
 use Rattle.encodings.specs.Choosing.{IsLeastOfOthers, IsLeastOfTwo}
 use Rattle.encodings.specs.Choice.{IsDictionaryWithin, IsMadeOf, IsBestOf}
@@ -74,7 +74,7 @@ best_of_four cells choice k p r f ek ep er ef l made =
       made = made;
     }
 
-made_ahead : (cells : List Value) (choice : Choice) (d : Dictionary) → choice.kind ≡ kind.Dict → choice.dictionary ≡ Some d → AreEntries cells d.places.items d.codes.items → IsMadeOf cells choice.kind choice.dictionary
+made_ahead : (cells : List Value) (choice : Choice) (d : Dictionary) → choice.kind ≡ kind.Dict → choice.dictionary ≡ Some d → AreEntries cells d.entry_rows.items d.codes.items → IsMadeOf cells choice.kind choice.dictionary
 made_ahead cells choice d k e entries = subst (IsMadeOf cells choice.kind) (sym e) (k, entries)
 
 nothing_ahead : (cells : List Value) (choice : Choice) → choice.dictionary ≡ None → IsMadeOf cells choice.kind choice.dictionary
@@ -139,10 +139,10 @@ best_text_kind cells choice k p r most ep er some m w l ek e =
 
 -- ---- sizes
 
-some_placed : (v : Value) (vs : List Value) → 1 ≤ length (placed_once value_cmp v vs)
-some_placed v [] = omega arith
-some_placed v (w ∷ vs) =
-    elim (value_cmp v w) as (λ o. 1 ≤ length (match_ordering o (v ∷ w ∷ vs) (w ∷ vs) (w ∷ placed_once value_cmp v vs))) [
+some_inserted : (v : Value) (vs : List Value) → 1 ≤ length (inserted_once value_cmp v vs)
+some_inserted v [] = omega arith
+some_inserted v (w ∷ vs) =
+    elim (value_cmp v w) as (λ o. 1 ≤ length (match_ordering o (v ∷ w ∷ vs) (w ∷ vs) (w ∷ inserted_once value_cmp v vs))) [
       | Less ↦ omega arith
       | Equal ↦ omega arith
       | Greater ↦ omega arith
@@ -151,31 +151,31 @@ some_placed v (w ∷ vs) =
 -- a dictionary of integers has at least one entry
 pub least_dictionary : (cells : List Value) → 1 ≤ length cells → 12 + 2 * length cells ≤ body_size kind.Dict of_type.Int cells
 least_dictionary [] h = absurd (omega arith)
-least_dictionary (v ∷ cells) h = let some = some_placed v (ascending_set value_cmp cells) in omega (arith, some)
+least_dictionary (v ∷ cells) h = let some = some_inserted v (ascending_set value_cmp cells) in omega (arith, some)
 
 pub least_text_dictionary : (cells : List Value) → 1 ≤ length cells → 8 + 2 * length cells ≤ body_size kind.Dict of_type.Text cells
 least_text_dictionary [] h = absurd (omega arith)
 least_text_dictionary (v ∷ cells) h =
     let f : Value → ℕ = λ u. 4 + length (bytes u) in
-    let some = four (placed_once value_cmp v (ascending_set value_cmp cells)) (some_placed v (ascending_set value_cmp cells)) in
+    let some = four (inserted_once value_cmp v (ascending_set value_cmp cells)) (some_inserted v (ascending_set value_cmp cells)) in
     omega (arith, some)
   where
     four : (vs : List Value) → 1 ≤ length vs → 4 ≤ sum_by (λ u. 4 + length (bytes u)) vs
     four [] h = absurd (omega arith)
     four (v ∷ vs) h = let e = sum_by-cons (λ u. 4 + length (bytes u)) v vs in omega (arith, e)
 
-pub dictionary_size : (col_type : ColType) (cells : List Value) (places codes : List ℕ) (form rows : ℕ) → AreEntries cells places codes → form ≡ form_size col_type (at_places cells places) → rows ≡ length cells → 4 + form + 2 * rows ≡ body_size kind.Dict col_type cells
-dictionary_size col_type cells places codes form rows d p q =
-    rw (p, q) (ap (λ es. 4 + form_size col_type es + 2 * length cells) (sym (entries_set cells places codes d)))
+pub dictionary_size : (col_type : ColType) (cells : List Value) (entry_rows codes : List ℕ) (form rows : ℕ) → AreEntries cells entry_rows codes → form ≡ form_size col_type (cells_at cells entry_rows) → rows ≡ length cells → 4 + form + 2 * rows ≡ body_size kind.Dict col_type cells
+dictionary_size col_type cells entry_rows codes form rows d p q =
+    rw (p, q) (ap (λ es. 4 + form_size col_type es + 2 * length cells) (sym (entries_set cells entry_rows codes d)))
 
--- the size of the texts at some places, one place further
-pub text_size_more : (cells : List Value) (places : List ℕ) (i total : ℕ) (t : List ℕ) → i < length places → bytes (get_or cells (get_or places i 0) Null) ≡ t → total ≡ form_size of_type.Text (at_places cells (take i places)) → total + (4 + length t) ≡ form_size of_type.Text (at_places cells (take (i + 1) places))
-text_size_more cells places i total t h e n =
-    let at : ℕ → Value = λ place. get_or cells place Null in
+-- the size of the texts of some rows, one row further
+pub text_size_more : (cells : List Value) (entry_rows : List ℕ) (i total : ℕ) (t : List ℕ) → i < length entry_rows → bytes (get_or cells (get_or entry_rows i 0) Null) ≡ t → total ≡ form_size of_type.Text (cells_at cells (take i entry_rows)) → total + (4 + length t) ≡ form_size of_type.Text (cells_at cells (take (i + 1) entry_rows))
+text_size_more cells entry_rows i total t h e n =
+    let at : ℕ → Value = λ row. get_or cells row Null in
     let f : Value → ℕ = λ u. 4 + length (bytes u) in
-    let more : at_places cells (take (i + 1) places) ≡ at_places cells (take i places) ++ at (get_or places i 0) ∷ [] = ap (map at) (take_more places i 0 h) ∙ map-append at (take i places) (get_or places i 0 ∷ []) in
-    let one : sum_by f (at (get_or places i 0) ∷ []) ≡ 4 + length t = sum_by-cons f (at (get_or places i 0)) [] ∙ (ap (λ u. 4 + length u + 0) e ∙ omega arith) in
-    rw (n, more) (sym (sum_by-append f (at_places cells (take i places)) (at (get_or places i 0) ∷ []) ∙ ap (λ k. sum_by f (at_places cells (take i places)) + k) one))
+    let more : cells_at cells (take (i + 1) entry_rows) ≡ cells_at cells (take i entry_rows) ++ at (get_or entry_rows i 0) ∷ [] = ap (map at) (take_more entry_rows i 0 h) ∙ map-append at (take i entry_rows) (get_or entry_rows i 0 ∷ []) in
+    let one : sum_by f (at (get_or entry_rows i 0) ∷ []) ≡ 4 + length t = sum_by-cons f (at (get_or entry_rows i 0)) [] ∙ (ap (λ u. 4 + length u + 0) e ∙ omega arith) in
+    rw (n, more) (sym (sum_by-append f (cells_at cells (take i entry_rows)) (at (get_or entry_rows i 0) ∷ []) ∙ ap (λ k. sum_by f (cells_at cells (take i entry_rows)) + k) one))
 
-pub ints_form : (ns : List ℤ) (places : List ℕ) → 8 * length places ≡ form_size of_type.Int (at_places (map Int ns) places)
-ints_form ns places = ap (λ n. 8 * n) (sym (length-map places (λ place. get_or (map Int ns) place Null)))
+pub ints_form : (ns : List ℤ) (entry_rows : List ℕ) → 8 * length entry_rows ≡ form_size of_type.Int (cells_at (map Int ns) entry_rows)
+ints_form ns entry_rows = ap (λ n. 8 * n) (sym (length-map entry_rows (λ row. get_or (map Int ns) row Null)))

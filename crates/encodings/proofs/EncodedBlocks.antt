@@ -91,7 +91,7 @@ digit_of w (n ∷ ns) (suc i) h =
     ∙ (ap (λ (j : ℕ). j % 2 ^ w) (sym (shr-shr (n + 2 ^ w * packed w ns) w (w * i)) ∙ ap (λ (j : ℕ). j / 2 ^ (w * i)) (ap (λ (j : ℕ). j / 2 ^ w) (turn n (2 ^ w) (packed w ns)) ∙ shr_high (packed w ns) w n l))
     ∙ digit_of w ns i (all_rest (λ m. nat_lt m (2 ^ w)) n ns h))
 
--- ---- lists over places
+-- ---- lists over ranges
 
 pub map_range : {Y : Type 0} (f : ℕ → Y) (d : Y) (ys : List Y) (a : ℕ) → ((i : ℕ) → i < length ys → f (a + i) ≡ get_or ys i d) → map f (range_with_len a (length ys)) ≡ ys
 map_range f d [] a h = refl

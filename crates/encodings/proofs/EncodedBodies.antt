@@ -28,7 +28,7 @@ use Rattle.encodings.specs.Runs.{repeated}
 use Rattle.encodings.specs.Choosing.{body_size}
 use Rattle.encodings.specs.Plain.{form_size}
 use Rattle.encodings.specs.Runs.{run_heads, are_unequal_neighbours}
-use Rattle.encodings.specs.Plain.{form_of, at_places, ints_at, texts_at}
+use Rattle.encodings.specs.Plain.{form_of, cells_at, ints_at, texts_at}
 use Rattle.encodings.specs.Numbers.{integer_bytes, word_bytes, short_bytes}
 use Rattle.encodings.specs.Encoded.{IsBodyOf, PutsBody}
 use Rattle.encodings.specs.Runs.{AreRuns, runs_body}
@@ -197,17 +197,17 @@ run_heads-repeated (v ∷ w ∷ vs) (suc n ∷ suc m ∷ ns) e h u =
     let apart : same_value v w ≡ false = not_true (same_value v w) (first_of _ _ u) in
     heads_of_run v n (w ∷ replicate m w ++ repeated (zip vs ns)) ∙ rw apart (ap (λ xs. v ∷ xs) rest)
 
-at_is : (p : Value → Bool) (cells : List Value) (place : ℕ) → list_all p cells ≡ true → place < length cells → p (get_or cells place Null) ≡ true
-at_is p [] place e h = absurd (omega arith)
+at_is : (p : Value → Bool) (cells : List Value) (index : ℕ) → list_all p cells ≡ true → index < length cells → p (get_or cells index Null) ≡ true
+at_is p [] index e h = absurd (omega arith)
 at_is p (v ∷ cells) zero e h = all_first p v cells e
-at_is p (v ∷ cells) (suc place) e h = at_is p cells place (all_rest p v cells e) (omega arith)
+at_is p (v ∷ cells) (suc index) e h = at_is p cells index (all_rest p v cells e) (omega arith)
 
--- what all cells are, those at some places are
-pub all_at : (p : Value → Bool) (cells : List Value) (places : List ℕ) → list_all p cells ≡ true → list_all (λ place. nat_lt place (length cells)) places ≡ true → list_all p (at_places cells places) ≡ true
+-- what all cells are, those at some indexes are
+pub all_at : (p : Value → Bool) (cells : List Value) (indexes : List ℕ) → list_all p cells ≡ true → list_all (λ index. nat_lt index (length cells)) indexes ≡ true → list_all p (cells_at cells indexes) ≡ true
 all_at p cells [] e h = refl
-all_at p cells (place ∷ places) e h =
+all_at p cells (index ∷ indexes) e h =
     let q : ℕ → Bool = λ at. nat_lt at (length cells) in
-    both _ _ (at_is p cells place e (ltb-true place (length cells) (all_first q place places h))) (all_at p cells places e (all_rest q place places h))
+    both _ _ (at_is p cells index e (ltb-true index (length cells) (all_first q index indexes h))) (all_at p cells indexes e (all_rest q index indexes h))
 
 some_run : (ns : List ℕ) → 1 ≤ sum ns → 1 ≤ length ns
 some_run [] h = absurd (omega arith)
@@ -215,12 +215,12 @@ some_run (n ∷ ns) h = omega arith
 
 pub runs_are : (col_type : ColType) (cells : List Value) (starts lengths : List ℕ) → list_all (is_of col_type false) cells ≡ true → length cells ≤ row_group_rows → 1 ≤ length cells → AreRuns cells starts lengths → IsBodyOf kind.Runs col_type cells (runs_body col_type cells starts lengths)
 runs_are col_type cells starts lengths e few some r =
-    let heads = at_places cells starts in
+    let heads = cells_at cells starts in
     let m = length starts in
     let form = form_of col_type heads in
     let tail = flat_map short_bytes lengths ++ form in
     let body = word_bytes m ++ tail in
-    let heads_long : length heads ≡ m = length-map starts (λ place. get_or cells place Null) in
+    let heads_long : length heads ≡ m = length-map starts (λ index. get_or cells index Null) in
     let pairs : length lengths ≡ length heads = r.a_length_each ∙ sym heads_long in
     let total : sum lengths ≡ length cells = sym (repeated-length heads lengths pairs) ∙ ap length r.cells_are in
     let not_more : length lengths ≤ sum lengths = fewer lengths r.not_empty in
@@ -256,29 +256,29 @@ runs_are col_type cells starts lengths e few some r =
 
 -- ---- cells of integers and of texts
 
-ints_at_places : (ns : List ℤ) (places : List ℕ) → map number (at_places (map Int ns) places) ≡ ints_at ns places
-ints_at_places ns [] = refl
-ints_at_places ns (place ∷ places) =
-    let here = int_at ns place in
-    let rest = ints_at_places ns places in
+ints_at_indexes : (ns : List ℤ) (indexes : List ℕ) → map number (cells_at (map Int ns) indexes) ≡ ints_at ns indexes
+ints_at_indexes ns [] = refl
+ints_at_indexes ns (index ∷ indexes) =
+    let here = int_at ns index in
+    let rest = ints_at_indexes ns indexes in
     cc
   where
-    int_at : (ns : List ℤ) (place : ℕ) → number (get_or (map Int ns) place Null) ≡ get_or ns place (pos 0)
-    int_at [] place = refl
+    int_at : (ns : List ℤ) (index : ℕ) → number (get_or (map Int ns) index Null) ≡ get_or ns index (pos 0)
+    int_at [] index = refl
     int_at (n ∷ ns) zero = refl
-    int_at (n ∷ ns) (suc place) = int_at ns place
+    int_at (n ∷ ns) (suc index) = int_at ns index
 
-texts_at_places : (ts : List (List ℕ)) (places : List ℕ) → map bytes (at_places (map Text ts) places) ≡ texts_at ts places
-texts_at_places ts [] = refl
-texts_at_places ts (place ∷ places) =
-    let here = text_at ts place in
-    let rest = texts_at_places ts places in
+texts_at_indexes : (ts : List (List ℕ)) (indexes : List ℕ) → map bytes (cells_at (map Text ts) indexes) ≡ texts_at ts indexes
+texts_at_indexes ts [] = refl
+texts_at_indexes ts (index ∷ indexes) =
+    let here = text_at ts index in
+    let rest = texts_at_indexes ts indexes in
     cc
   where
-    text_at : (ts : List (List ℕ)) (place : ℕ) → bytes (get_or (map Text ts) place Null) ≡ get_or ts place []
-    text_at [] place = refl
+    text_at : (ts : List (List ℕ)) (index : ℕ) → bytes (get_or (map Text ts) index Null) ≡ get_or ts index []
+    text_at [] index = refl
     text_at (t ∷ ts) zero = refl
-    text_at (t ∷ ts) (suc place) = text_at ts place
+    text_at (t ∷ ts) (suc index) = text_at ts index
 
 pub numbers_back : (ns : List ℤ) → map number (map Int ns) ≡ ns
 numbers_back [] = refl
@@ -288,14 +288,14 @@ bytes_back : (ts : List (List ℕ)) → map bytes (map Text ts) ≡ ts
 bytes_back [] = refl
 bytes_back (t ∷ ts) = ap (λ us. t ∷ us) (bytes_back ts)
 
-pub form_at_ints : (ns : List ℤ) (places : List ℕ) → form_of of_type.Int (at_places (map Int ns) places) ≡ flat_map integer_bytes (ints_at ns places)
-form_at_ints ns places = ap (flat_map integer_bytes) (ints_at_places ns places)
+pub form_at_ints : (ns : List ℤ) (indexes : List ℕ) → form_of of_type.Int (cells_at (map Int ns) indexes) ≡ flat_map integer_bytes (ints_at ns indexes)
+form_at_ints ns indexes = ap (flat_map integer_bytes) (ints_at_indexes ns indexes)
 
 abbrev pub laid_texts : List (List ℕ) → List ℕ
 laid_texts ts = flat_map word_bytes (ends_from 0 ts) ++ concat ts
 
-pub form_at_texts : (ts : List (List ℕ)) (places : List ℕ) → form_of of_type.Text (at_places (map Text ts) places) ≡ laid_texts (texts_at ts places)
-form_at_texts ts places = ap laid_texts (texts_at_places ts places)
+pub form_at_texts : (ts : List (List ℕ)) (indexes : List ℕ) → form_of of_type.Text (cells_at (map Text ts) indexes) ≡ laid_texts (texts_at ts indexes)
+form_at_texts ts indexes = ap laid_texts (texts_at_indexes ts indexes)
 
 pub puts_plain_ints : (before after : List ℕ) (ns : List ℤ) → list_all (is_of of_type.Int false) (map Int ns) ≡ true → length (map Int ns) ≤ row_group_rows → after ≡ before ++ flat_map integer_bytes ns → PutsBody before after kind.Plain of_type.Int (map Int ns)
 puts_plain_ints before after ns e few p =
@@ -309,15 +309,15 @@ joined_runs : (before a b c count lengths form : List ℕ) → a ≡ before ++ c
 joined_runs before a b c count lengths form p q r =
     r ∙ (ap (λ xs. xs ++ form) (q ∙ ap (λ xs. xs ++ lengths) p) ∙ (append_assoc (before ++ count) lengths form ∙ append_assoc before count (lengths ++ form)))
 
-pub puts_runs : (col_type : ColType) (cells : List Value) (starts lengths before a b after : List ℕ) → list_all (is_of col_type false) cells ≡ true → length cells ≤ row_group_rows → 1 ≤ length cells → AreRuns cells starts lengths → a ≡ before ++ word_bytes (length starts) → b ≡ a ++ flat_map short_bytes lengths → after ≡ b ++ form_of col_type (at_places cells starts) → PutsBody before after kind.Runs col_type cells
+pub puts_runs : (col_type : ColType) (cells : List Value) (starts lengths before a b after : List ℕ) → list_all (is_of col_type false) cells ≡ true → length cells ≤ row_group_rows → 1 ≤ length cells → AreRuns cells starts lengths → a ≡ before ++ word_bytes (length starts) → b ≡ a ++ flat_map short_bytes lengths → after ≡ b ++ form_of col_type (cells_at cells starts) → PutsBody before after kind.Runs col_type cells
 puts_runs col_type cells starts lengths before a b after e few some r p q s =
-    (runs_body col_type cells starts lengths, joined_runs before a b after (word_bytes (length starts)) (flat_map short_bytes lengths) (form_of col_type (at_places cells starts)) p q s, runs_are col_type cells starts lengths e few some r)
+    (runs_body col_type cells starts lengths, joined_runs before a b after (word_bytes (length starts)) (flat_map short_bytes lengths) (form_of col_type (cells_at cells starts)) p q s, runs_are col_type cells starts lengths e few some r)
 
 -- no more runs than cells
 pub runs_few : (cells : List Value) (starts lengths : List ℕ) → AreRuns cells starts lengths → length starts ≤ length cells
 runs_few cells starts lengths r =
-    let heads = at_places cells starts in
-    let heads_long : length heads ≡ length starts = length-map starts (λ place. get_or cells place Null) in
+    let heads = cells_at cells starts in
+    let heads_long : length heads ≡ length starts = length-map starts (λ index. get_or cells index Null) in
     let pairs : length lengths ≡ length heads = r.a_length_each ∙ sym heads_long in
     let total : sum lengths ≡ length cells = sym (repeated-length heads lengths pairs) ∙ ap length r.cells_are in
     let not_more : length lengths ≤ sum lengths = fewer lengths r.not_empty in

@@ -23,60 +23,60 @@ use Rattle.encodings.specs.Numbers.{count_of}
 use Rattle.encodings.specs.Plain.{form_size}
 use Rattle.encodings.specs.Encoded.{IsBodyOf, PutsBody}
 use Rattle.encodings.specs.Dictionary.{AreEntries, dictionary_body}
-use Rattle.encodings.specs.Plain.{at_places, form_of}
+use Rattle.encodings.specs.Plain.{cells_at, form_of}
 use Rattle.encodings.specs.Numbers.{word_bytes, short_bytes}
 use Rattle.encodings.proofs.EncodedForms.{shorts_read, length-word_bytes, length-short_bytes, length-chunks}
 use Rattle.encodings.proofs.EncodedBodies.{form_is, all_at, count_back}
 
-any_get : (t : Value → Bool) (cells : List Value) (place : ℕ) → place < length cells → t (get_or cells place Null) ≡ true → list_any t cells ≡ true
-any_get t [] place h e = absurd (omega arith)
+any_get : (t : Value → Bool) (cells : List Value) (row : ℕ) → row < length cells → t (get_or cells row Null) ≡ true → list_any t cells ≡ true
+any_get t [] row h e = absurd (omega arith)
 any_get t (v ∷ cells) zero h e = or_first (t v) (list_any t cells) e
-any_get t (v ∷ cells) (suc place) h e = or_second (t v) (list_any t cells) (any_get t cells place (omega arith) e)
+any_get t (v ∷ cells) (suc row) h e = or_second (t v) (list_any t cells) (any_get t cells row (omega arith) e)
 
--- what one of the places has, one of the cells has
-any_at : (t : Value → Bool) (cells : List Value) (places : List ℕ) → list_all (λ place. nat_lt place (length cells)) places ≡ true → list_any t (at_places cells places) ≡ true → list_any t cells ≡ true
+-- what one of the chosen cells has, one of all cells has
+any_at : (t : Value → Bool) (cells : List Value) (entry_rows : List ℕ) → list_all (λ row. nat_lt row (length cells)) entry_rows ≡ true → list_any t (cells_at cells entry_rows) ≡ true → list_any t cells ≡ true
 any_at t cells [] h e = absurd cc
-any_at t cells (place ∷ places) h e =
+any_at t cells (row ∷ entry_rows) h e =
     let q : ℕ → Bool = λ at. nat_lt at (length cells) in
-    let v = get_or cells place Null in
+    let v = get_or cells row Null in
     elim (t v) as (λ b. t v ≡ b → list_any t cells ≡ true) [
-      | true ↦ λ f. any_get t cells place (ltb-true place (length cells) (all_first q place places h)) f
-      | false ↦ λ f. any_at t cells places (all_rest q place places h) (or_other (t v) (list_any t (at_places cells places)) e f)
+      | true ↦ λ f. any_get t cells row (ltb-true row (length cells) (all_first q row entry_rows h)) f
+      | false ↦ λ f. any_at t cells entry_rows (all_rest q row entry_rows h) (or_other (t v) (list_any t (cells_at cells entry_rows)) e f)
     ] refl
 
 -- each entry is some cell
-each_used : (cells : List Value) (places : List ℕ) → list_all (λ place. nat_lt place (length cells)) places ≡ true → list_all (λ entry. list_any (same_value entry) cells) (at_places cells places) ≡ true
+each_used : (cells : List Value) (entry_rows : List ℕ) → list_all (λ row. nat_lt row (length cells)) entry_rows ≡ true → list_all (λ entry. list_any (same_value entry) cells) (cells_at cells entry_rows) ≡ true
 each_used cells [] h = refl
-each_used cells (place ∷ places) h =
+each_used cells (row ∷ entry_rows) h =
     let q : ℕ → Bool = λ at. nat_lt at (length cells) in
-    both _ _ (any_get (same_value (get_or cells place Null)) cells place (ltb-true place (length cells) (all_first q place places h)) (same_itself (get_or cells place Null))) (each_used cells places (all_rest q place places h))
+    both _ _ (any_get (same_value (get_or cells row Null)) cells row (ltb-true row (length cells) (all_first q row entry_rows h)) (same_itself (get_or cells row Null))) (each_used cells entry_rows (all_rest q row entry_rows h))
 
 some_code : (codes : List ℕ) (n : ℕ) → 1 ≤ length codes → list_all (λ code. nat_lt code n) codes ≡ true → 1 ≤ n
 some_code [] n h e = absurd (omega arith)
 some_code (code ∷ codes) n h e = let l = ltb-true code n (all_first (λ c. nat_lt c n) code codes e) in omega arith
 
 -- the entries are the set of the cells
-pub entries_set : (cells : List Value) (places codes : List ℕ) → AreEntries cells places codes → ascending_set value_cmp cells ≡ at_places cells places
-entries_set cells places codes d =
-    let entries = at_places cells places in
-    let entries_long : length entries ≡ length places = length-map places (λ place. get_or cells place Null) in
+pub entries_set : (cells : List Value) (entry_rows codes : List ℕ) → AreEntries cells entry_rows codes → ascending_set value_cmp cells ≡ cells_at cells entry_rows
+entries_set cells entry_rows codes d =
+    let entries = cells_at cells entry_rows in
+    let entries_long : length entries ≡ length entry_rows = length-map entry_rows (λ row. get_or cells row Null) in
     let turn : (t : Value → Bool) → list_any t cells ≡ true → list_any t entries ≡ true =
     λ t q. any_at t entries codes (ap (λ n. list_all (λ code. nat_lt code n) codes) entries_long ∙ d.codes_within) (ap (list_any t) d.cells_are ∙ q) in
-    same_ascending_set value_total value_exact cells entries (λ q. both_ways _ _ (turn (eq_by_cmp value_cmp q)) (any_at (eq_by_cmp value_cmp q) cells places d.within)) ∙ ascending_set_itself value_total entries d.ascending
+    same_ascending_set value_total value_exact cells entries (λ q. both_ways _ _ (turn (eq_by_cmp value_cmp q)) (any_at (eq_by_cmp value_cmp q) cells entry_rows d.within)) ∙ ascending_set_itself value_total entries d.ascending
 
-pub dictionary_is : (col_type : ColType) (cells : List Value) (places codes : List ℕ) → list_all (is_of col_type false) cells ≡ true → length cells ≤ row_group_rows → 1 ≤ length cells → AreEntries cells places codes → IsBodyOf kind.Dict col_type cells (dictionary_body col_type cells places codes)
-dictionary_is col_type cells places codes e few some d =
-    let entries = at_places cells places in
-    let m = length places in
+pub dictionary_is : (col_type : ColType) (cells : List Value) (entry_rows codes : List ℕ) → list_all (is_of col_type false) cells ≡ true → length cells ≤ row_group_rows → 1 ≤ length cells → AreEntries cells entry_rows codes → IsBodyOf kind.Dict col_type cells (dictionary_body col_type cells entry_rows codes)
+dictionary_is col_type cells entry_rows codes e few some d =
+    let entries = cells_at cells entry_rows in
+    let m = length entry_rows in
     let rows = length cells in
     let form = form_of col_type entries in
     let last = flat_map short_bytes codes in
     let front = word_bytes m ++ form in
     let body = front ++ last in
-    let entries_long : length entries ≡ m = length-map places (λ place. get_or cells place Null) in
+    let entries_long : length entries ≡ m = length-map entry_rows (λ row. get_or cells row Null) in
     let codes_long : length codes ≡ rows = sym (length-map codes (λ code. get_or entries code Null)) ∙ ap length d.cells_are in
     let m_few : m ≤ row_group_rows = let f = d.few in omega arith in
-    let values = form_is col_type entries (all_at (is_of col_type false) cells places e d.within) (let l = entries_long in omega arith) in
+    let values = form_is col_type entries (all_at (is_of col_type false) cells entry_rows e d.within) (let l = entries_long in omega arith) in
     let whole : body ≡ word_bytes m ++ (form ++ last) = append_assoc (word_bytes m) form last in
     let count : count_of body ≡ m = ap count_of whole ∙ count_back m (form ++ last) (omega arith) in
     let last_long : length last ≡ 2 * rows = length-chunks short_bytes 2 length-short_bytes codes ∙ ap (λ n. 2 * n) codes_long in
@@ -86,7 +86,7 @@ dictionary_is col_type cells places codes e few some d =
     let middle : drop 4 (take (length body - 2 * rows) body) ≡ form = ap (drop 4) (take_at front last (length body - 2 * rows) cut) ∙ drop_at (word_bytes m) form 4 (length-word_bytes m) in
     let behind : drop (length body - 2 * rows) body ≡ last = drop_at front last (length body - 2 * rows) cut in
     let small : list_all (λ n. nat_lt n (2 ^ 16)) codes ≡ true = all_imply (λ c. nat_lt c m) (λ n. nat_lt n (2 ^ 16)) (λ n q. lt-ltb n (2 ^ 16) (let l = ltb-true n m q in omega arith)) codes d.codes_within in
-    let told : shorts rows (drop (length body - 2 * rows) body) ≡ codes =
+    let returned : shorts rows (drop (length body - 2 * rows) body) ≡ codes =
     ap (shorts rows) behind ∙ (ap (λ n. shorts n last) (sym codes_long) ∙ (ap (shorts (length codes)) (sym (append-nil last)) ∙ shorts_read codes [] small)) in
     let held : values_form col_type (count_of body) (drop 4 (take (length body - 2 * rows) body)) ≡ entries =
     ap (values_form col_type (count_of body)) middle ∙ (ap (λ n. values_form col_type n form) (count ∙ sym entries_long) ∙ values.cells_are) in
@@ -97,23 +97,23 @@ dictionary_is col_type cells places codes e few some d =
     let t2 : nat_le 1 (count_of body) ≡ true = rw count (le-leb 1 m one) in
     let t3 : nat_le (count_of body) rows ≡ true = rw count (le-leb m rows d.few) in
     let t5 : is_ascending value_cmp (values_form col_type (count_of body) (drop 4 (take (length body - 2 * rows) body))) ≡ true = ap (is_ascending value_cmp) held ∙ d.ascending in
-    let t6 : list_all (λ code. nat_lt code (count_of body)) (shorts rows (drop (length body - 2 * rows) body)) ≡ true = rw (told, count) d.codes_within in
+    let t6 : list_all (λ code. nat_lt code (count_of body)) (shorts rows (drop (length body - 2 * rows) body)) ≡ true = rw (returned, count) d.codes_within in
     let turn : (t : Value → Bool) → list_any t cells ≡ true → list_any t entries ≡ true =
     λ t q. any_at t entries codes (ap (λ n. list_all (λ code. nat_lt code n) codes) entries_long ∙ d.codes_within) (ap (list_any t) d.cells_are ∙ q) in
     let set : ascending_set value_cmp cells ≡ entries =
-    same_ascending_set value_total value_exact cells entries (λ q. both_ways _ _ (turn (eq_by_cmp value_cmp q)) (any_at (eq_by_cmp value_cmp q) cells places d.within)) ∙ ascending_set_itself value_total entries d.ascending in
+    same_ascending_set value_total value_exact cells entries (λ q. both_ways _ _ (turn (eq_by_cmp value_cmp q)) (any_at (eq_by_cmp value_cmp q) cells entry_rows d.within)) ∙ ascending_set_itself value_total entries d.ascending in
     record {
       is = both _ _ t1 (both _ _ t2 (both _ _ t3 (both _ _ is_form (both _ _ t5 t6))));
-      cells_are = ap (λ vs. map (λ code. get_or vs code Null) (shorts rows (drop (length body - 2 * rows) body))) held ∙ (ap (λ cs. map (λ code. get_or entries code Null) cs) told ∙ d.cells_are);
-      tight = ap (list_all (λ entry. list_any (same_value entry) cells)) held ∙ each_used cells places d.within;
+      cells_are = ap (λ vs. map (λ code. get_or vs code Null) (shorts rows (drop (length body - 2 * rows) body))) held ∙ (ap (λ cs. map (λ code. get_or entries code Null) cs) returned ∙ d.cells_are);
+      tight = ap (list_all (λ entry. list_any (same_value entry) cells)) held ∙ each_used cells entry_rows d.within;
       size = long ∙ ap (λ n. (4 + n) + 2 * rows) (values.size ∙ ap (form_size col_type) (sym set));
     }
 
-pub puts_dictionary : (col_type : ColType) (cells : List Value) (places codes before a b after : List ℕ) → list_all (is_of col_type false) cells ≡ true → length cells ≤ row_group_rows → 1 ≤ length cells → AreEntries cells places codes → a ≡ before ++ word_bytes (length places) → b ≡ a ++ form_of col_type (at_places cells places) → after ≡ b ++ flat_map short_bytes codes → PutsBody before after kind.Dict col_type cells
-puts_dictionary col_type cells places codes before a b after e few some d p q r =
-    let form = form_of col_type (at_places cells places) in
+pub puts_dictionary : (col_type : ColType) (cells : List Value) (entry_rows codes before a b after : List ℕ) → list_all (is_of col_type false) cells ≡ true → length cells ≤ row_group_rows → 1 ≤ length cells → AreEntries cells entry_rows codes → a ≡ before ++ word_bytes (length entry_rows) → b ≡ a ++ form_of col_type (cells_at cells entry_rows) → after ≡ b ++ flat_map short_bytes codes → PutsBody before after kind.Dict col_type cells
+puts_dictionary col_type cells entry_rows codes before a b after e few some d p q r =
+    let form = form_of col_type (cells_at cells entry_rows) in
     let last = flat_map short_bytes codes in (
-      dictionary_body col_type cells places codes,
-      r ∙ (ap (λ xs. xs ++ last) (q ∙ (ap (λ xs. xs ++ form) p ∙ append_assoc before (word_bytes (length places)) form)) ∙ append_assoc before (word_bytes (length places) ++ form) last),
-      dictionary_is col_type cells places codes e few some d,
+      dictionary_body col_type cells entry_rows codes,
+      r ∙ (ap (λ xs. xs ++ last) (q ∙ (ap (λ xs. xs ++ form) p ∙ append_assoc before (word_bytes (length entry_rows)) form)) ∙ append_assoc before (word_bytes (length entry_rows) ++ form) last),
+      dictionary_is col_type cells entry_rows codes e few some d,
     )

@@ -107,8 +107,8 @@ pub window_more : {X : Type 0} (xs : List X) (from row : ℕ) (d : X) → from �
 window_more xs from row d h l =
     let e : row + 1 - from ≡ (row - from) + 1 = omega arith in
     let long : row - from < length (drop from xs) = omega (arith, length-drop from xs) in
-    let place : from + (row - from) ≡ row = omega arith in
-    let same : get_or (drop from xs) (row - from) d ≡ get_or xs row d = get_or-drop from xs (row - from) d ∙ ap (λ k. get_or xs k d) place in
+    let row_is : from + (row - from) ≡ row = omega arith in
+    let same : get_or (drop from xs) (row - from) d ≡ get_or xs row d = get_or-drop from xs (row - from) d ∙ ap (λ k. get_or xs k d) row_is in
     rw (e, take_more (drop from xs) (row - from) d long, same) refl
 
 -- one more end behind those that are written
@@ -132,34 +132,34 @@ ends_step xs from row end t before now new h l e n w p =
 pub text_short : (t : List ℕ) → is_text t ≡ true → length t ≤ max_text_bytes
 text_short t e = leb-true (length t) max_text_bytes (second_of (is_utf8 t) (nat_le (length t) max_text_bytes) e)
 
--- ---- texts at some places
+-- ---- texts at some indexes
 
-pub window_at : {X : Type 0} (xs : List X) (from to place : ℕ) (d : X) → place < to - from → get_or (take (to - from) (drop from xs)) place d ≡ get_or xs (from + place) d
-window_at xs from to place d h = get_or-take (to - from) (drop from xs) place d h ∙ get_or-drop from xs place d
+pub window_at : {X : Type 0} (xs : List X) (from to index : ℕ) (d : X) → index < to - from → get_or (take (to - from) (drop from xs)) index d ≡ get_or xs (from + index) d
+window_at xs from to index d h = get_or-take (to - from) (drop from xs) index d h ∙ get_or-drop from xs index d
 
 map_more : {X Y : Type 0} (f : X → Y) (xs : List X) (i : ℕ) (d : X) → i < length xs → map f (take (i + 1) xs) ≡ map f (take i xs) ++ f (get_or xs i d) ∷ []
 map_more f xs i d h = ap (map f) (take_more xs i d h) ∙ map-append f (take i xs) (get_or xs i d ∷ [])
 
-pub ends_at_step : (f : ℕ → List ℕ) (places : List ℕ) (i end : ℕ) (t before now new : List ℕ) → i < length places → t ≡ f (get_or places i 0) → end ≡ length (concat (map f (take i places))) → now ≡ before ++ flat_map word_bytes (ends_from 0 (map f (take i places))) → new ≡ now ++ word_bytes (end + length t) → (end + length t ≡ length (concat (map f (take (i + 1) places)))) × (new ≡ before ++ flat_map word_bytes (ends_from 0 (map f (take (i + 1) places))))
-ends_at_step f places i end t before now new h e n w p =
-    let ts = map f (take i places) in
-    let more : map f (take (i + 1) places) ≡ ts ++ t ∷ [] = map_more f places i 0 h ∙ ap (λ u. ts ++ u ∷ []) (sym e) in
+pub ends_at_step : (f : ℕ → List ℕ) (indexes : List ℕ) (i end : ℕ) (t before now new : List ℕ) → i < length indexes → t ≡ f (get_or indexes i 0) → end ≡ length (concat (map f (take i indexes))) → now ≡ before ++ flat_map word_bytes (ends_from 0 (map f (take i indexes))) → new ≡ now ++ word_bytes (end + length t) → (end + length t ≡ length (concat (map f (take (i + 1) indexes)))) × (new ≡ before ++ flat_map word_bytes (ends_from 0 (map f (take (i + 1) indexes))))
+ends_at_step f indexes i end t before now new h e n w p =
+    let ts = map f (take i indexes) in
+    let more : map f (take (i + 1) indexes) ≡ ts ++ t ∷ [] = map_more f indexes i 0 h ∙ ap (λ u. ts ++ u ∷ []) (sym e) in
     let sum : end + length t ≡ length (concat ts) + length t = ap (λ k. k + length t) n in
     let all : new ≡ before ++ (flat_map word_bytes (ends_from 0 ts) ++ word_bytes (length (concat ts) + length t)) =
     p ∙ (ap (λ ys. ys ++ word_bytes (end + length t)) w ∙ (append_assoc before (flat_map word_bytes (ends_from 0 ts)) (word_bytes (end + length t)) ∙ ap (λ k. before ++ (flat_map word_bytes (ends_from 0 ts) ++ word_bytes k)) sum)) in
     (sum ∙ (sym (length-more ts t) ∙ ap (λ ys. length (concat ys)) (sym more)), all ∙ (ap (λ ys. before ++ ys) (sym (ends_more ts t)) ∙ ap (λ ys. before ++ flat_map word_bytes (ends_from 0 ys)) (sym more)))
 
-pub joined_at_step : (f : ℕ → List ℕ) (places : List ℕ) (i : ℕ) (t before now new : List ℕ) → i < length places → t ≡ f (get_or places i 0) → now ≡ before ++ concat (map f (take i places)) → new ≡ now ++ t → new ≡ before ++ concat (map f (take (i + 1) places))
-joined_at_step f places i t before now new h e w p =
-    let ts = map f (take i places) in
-    let more : map f (take (i + 1) places) ≡ ts ++ t ∷ [] = map_more f places i 0 h ∙ ap (λ u. ts ++ u ∷ []) (sym e) in
+pub joined_at_step : (f : ℕ → List ℕ) (indexes : List ℕ) (i : ℕ) (t before now new : List ℕ) → i < length indexes → t ≡ f (get_or indexes i 0) → now ≡ before ++ concat (map f (take i indexes)) → new ≡ now ++ t → new ≡ before ++ concat (map f (take (i + 1) indexes))
+joined_at_step f indexes i t before now new h e w p =
+    let ts = map f (take i indexes) in
+    let more : map f (take (i + 1) indexes) ≡ ts ++ t ∷ [] = map_more f indexes i 0 h ∙ ap (λ u. ts ++ u ∷ []) (sym e) in
     let one : concat (ts ++ t ∷ []) ≡ concat ts ++ t = concat-append ts (t ∷ []) ∙ ap (λ u. concat ts ++ u) (append-nil t) in
     p ∙ (ap (λ ys. ys ++ t) w ∙ (append_assoc before (concat ts) t ∙ ap (λ ys. before ++ ys) (sym one ∙ ap concat (sym more))))
 
-pub all_places : {Y : Type 0} (g : List (List ℕ) → Y) (f : ℕ → List ℕ) (places : List ℕ) (i : ℕ) → length places ≤ i → g (map f (take i places)) ≡ g (map f places)
-all_places g f places i h = ap (λ ps. g (map f ps)) (take_all i places h)
+pub all_indexes : {Y : Type 0} (g : List (List ℕ) → Y) (f : ℕ → List ℕ) (indexes : List ℕ) (i : ℕ) → length indexes ≤ i → g (map f (take i indexes)) ≡ g (map f indexes)
+all_indexes g f indexes i h = ap (λ ps. g (map f ps)) (take_all i indexes h)
 
-pub place_below : (places : List ℕ) (n i : ℕ) → list_all (λ place. nat_lt place n) places ≡ true → i < length places → get_or places i 0 < n
-place_below [] n i e h = absurd (omega arith)
-place_below (place ∷ places) n zero e h = ltb-true place n (all_first (λ at. nat_lt at n) place places e)
-place_below (place ∷ places) n (suc i) e h = place_below places n i (all_rest (λ at. nat_lt at n) place places e) (omega arith)
+pub index_below : (indexes : List ℕ) (n i : ℕ) → list_all (λ index. nat_lt index n) indexes ≡ true → i < length indexes → get_or indexes i 0 < n
+index_below [] n i e h = absurd (omega arith)
+index_below (index ∷ indexes) n zero e h = ltb-true index n (all_first (λ at. nat_lt at n) index indexes e)
+index_below (index ∷ indexes) n (suc i) e h = index_below indexes n i (all_rest (λ at. nat_lt at n) index indexes e) (omega arith)

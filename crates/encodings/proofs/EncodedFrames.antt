@@ -11,7 +11,7 @@ use Rattle.std.proofs.lemmas.Nat.{pow-add, pow_pos, mul-add-lt}
 use Rattle.meaning.proofs.Tests.{both, or_second, all_first, all_rest, all_map, or_first}
 use Rattle.bit_packing.specs.Widths.{width_for, IsWidth}
 use Rattle.encodings.specs.Choosing.{body_size}
-use Rattle.encodings.specs.Frame.{least_of, greatest_of, natural, spread}
+use Rattle.encodings.specs.Frame.{least_of, greatest_of, natural, span}
 use Rattle.encodings.specs.Frame.{least_in, greatest_in}
 use Rattle.encodings.specs.Encoded.{IsBodyOf, PutsBody}
 use Rattle.encodings.specs.Numbers.{integer_bytes}
@@ -188,9 +188,9 @@ some_wide : (w s : ℕ) (offs : List ℕ) → 2 ^ w ≤ 2 * s + 1 → ((p : ℕ 
 some_wide zero s offs l f = refl
 some_wide (suc w) s offs l f = or_second (suc w == 0) _ (f (λ o. nat_le (2 ^ (suc w - 1)) o) (le-leb (2 ^ (suc w - 1)) s (half (suc w) s (omega arith) l)))
 
-spread_is : (ns : List ℤ) → 1 ≤ length ns → least_in ns ≤ℤ greatest_in ns → unsigned_abs (greatest_in ns -ℤ least_in ns) ≡ spread ns
-spread_is [] h l = absurd (omega arith)
-spread_is (n ∷ ns) h l = natural_is (greatest_of n ns) (least_of n ns) l
+span_is : (ns : List ℤ) → 1 ≤ length ns → least_in ns ≤ℤ greatest_in ns → unsigned_abs (greatest_in ns -ℤ least_in ns) ≡ span ns
+span_is [] h l = absurd (omega arith)
+span_is (n ∷ ns) h l = natural_is (greatest_of n ns) (least_of n ns) l
 
 ints_fit : (ns : List ℤ) → list_all (is_of of_type.Int false) (map Int ns) ≡ true → list_all fits_i64 ns ≡ true
 ints_fit [] e = refl
@@ -243,7 +243,7 @@ frame_is ns w bits e some width num long =
       is = both _ _ t1 (both _ _ t2 (both _ _ t3 (both _ _ t4 (both _ _ t5 (both _ _ t6 t7)))));
       cells_are = ap (map Int) integers;
       tight = tt;
-      size = total ∙ ap (λ n. 9 + n) (long ∙ ap bytes_of_bits (sym turned ∙ ap (λ k. rows * k) (width.least ∙ ap width_for (spread_is ns some b.ordered ∙ ap spread (sym (numbers_back ns))))));
+      size = total ∙ ap (λ n. 9 + n) (long ∙ ap bytes_of_bits (sym turned ∙ ap (λ k. rows * k) (width.least ∙ ap width_for (span_is ns some b.ordered ∙ ap span (sym (numbers_back ns))))));
     }
 
 joined_frame : (before a b base : List ℕ) (w : ℕ) (bits after : List ℕ) → a ≡ before ++ base → b ≡ a ++ w ∷ [] → after ≡ b ++ bits → after ≡ before ++ (base ++ (w ∷ bits))
@@ -276,5 +276,5 @@ same_width n w g b top base e p q width =
 pub frame_size : (ns : List ℤ) (w : ℕ) → 1 ≤ length ns → IsWidth (unsigned_abs (greatest_in ns -ℤ least_in ns)) w → 9 + (length ns * w + 7) / 8 ≡ body_size kind.Frame of_type.Int (map Int ns)
 frame_size ns w some width =
     let b = are_bounds ns some in
-    let wide = width.least ∙ ap width_for (spread_is ns some b.ordered ∙ ap spread (sym (numbers_back ns))) in
+    let wide = width.least ∙ ap width_for (span_is ns some b.ordered ∙ ap span (sym (numbers_back ns))) in
     ap (λ k. 9 + bytes_of_bits (k * w)) (sym (length-map ns (λ n. Int n))) ∙ ap (λ k. 9 + bytes_of_bits (length (map Int ns) * k)) wide

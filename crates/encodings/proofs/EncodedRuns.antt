@@ -16,12 +16,12 @@ use Rattle.meaning.proofs.Same.{same_itself}
 use Rattle.encodings.specs.Runs.{repeated}
 use Rattle.encodings.specs.Runs.{are_unequal_neighbours}
 use Rattle.encodings.specs.Runs.{AreRuns}
-use Rattle.encodings.specs.Plain.{at_places}
+use Rattle.encodings.specs.Plain.{cells_at}
 
 -- the closed runs, and one that began at `start` and is still open in front of `row`
 pub record RunsSoFar (cells : List Value) (starts lengths : List ℕ) (start row : ℕ) : Type 0 where
-  pub cells_are : repeated (zip (at_places cells starts) lengths) ++ replicate (row - start) (get_or cells start Null) ≡ take row cells
-  pub apart : are_unequal_neighbours (at_places cells starts ++ get_or cells start Null ∷ []) ≡ true
+  pub cells_are : repeated (zip (cells_at cells starts) lengths) ++ replicate (row - start) (get_or cells start Null) ≡ take row cells
+  pub apart : are_unequal_neighbours (cells_at cells starts ++ get_or cells start Null ∷ []) ≡ true
   pub not_empty : list_all (nat_le 1) lengths ≡ true
   pub a_length_each : length lengths ≡ length starts
   pub within : list_all (λ at. nat_lt at (length cells)) starts ≡ true
@@ -33,9 +33,9 @@ zip-push [] (b ∷ ys) x y e = absurd (omega arith)
 zip-push (a ∷ xs) [] x y e = absurd (omega arith)
 zip-push (a ∷ xs) (b ∷ ys) x y e = ap (λ zs. (a, b) ∷ zs) (zip-push xs ys x y (omega arith))
 
-repeated-push : (cells : List Value) (starts lengths : List ℕ) (start n : ℕ) → length lengths ≡ length starts → repeated (zip (at_places cells (starts ++ start ∷ [])) (lengths ++ n ∷ [])) ≡ repeated (zip (at_places cells starts) lengths) ++ replicate n (get_or cells start Null)
+repeated-push : (cells : List Value) (starts lengths : List ℕ) (start n : ℕ) → length lengths ≡ length starts → repeated (zip (cells_at cells (starts ++ start ∷ [])) (lengths ++ n ∷ [])) ≡ repeated (zip (cells_at cells starts) lengths) ++ replicate n (get_or cells start Null)
 repeated-push cells starts lengths start n e =
-    let at : ℕ → Value = λ place. get_or cells place Null in
+    let at : ℕ → Value = λ index. get_or cells index Null in
     let f : Value × ℕ → List Value = λ run. replicate run.1 run.0 in
     let pairs : length lengths ≡ length (map at starts) = e ∙ sym (length-map starts at) in
     let z : zip (map at (starts ++ start ∷ [])) (lengths ++ n ∷ []) ≡ zip (map at starts) lengths ++ (at start, n) ∷ [] =
@@ -64,7 +64,7 @@ runs_begun (v ∷ cells) h = record { cells_are = refl; apart = refl; not_empty 
 -- one more cell of the same run
 pub runs_kept : (cells : List Value) (starts lengths : List ℕ) (start row : ℕ) → RunsSoFar cells starts lengths start row → row < length cells → get_or cells row Null ≡ get_or cells start Null → RunsSoFar cells starts lengths start (row + 1)
 runs_kept cells starts lengths start row r h e =
-    let front = repeated (zip (at_places cells starts) lengths) in
+    let front = repeated (zip (cells_at cells starts) lengths) in
     let v = get_or cells start Null in
     let n : row + 1 - start ≡ (row - start) + 1 = let o = r.begun in omega arith in
     record {
@@ -78,15 +78,15 @@ runs_kept cells starts lengths start row r h e =
 
 -- closed runs of the cells up to a row
 pub record Closed (cells heads : List Value) (starts lengths : List ℕ) (row : ℕ) : Type 0 where
-  pub cells_are : repeated (zip (at_places cells starts) lengths) ≡ take row cells
-  pub heads_are : at_places cells starts ≡ heads
+  pub cells_are : repeated (zip (cells_at cells starts) lengths) ≡ take row cells
+  pub heads_are : cells_at cells starts ≡ heads
   pub not_empty : list_all (nat_le 1) lengths ≡ true
   pub a_length_each : length lengths ≡ length starts
   pub within : list_all (λ at. nat_lt at (length cells)) starts ≡ true
 
-closed_more : (cells : List Value) (starts lengths : List ℕ) (start row : ℕ) → RunsSoFar cells starts lengths start row → row ≤ length cells → Closed cells (at_places cells starts ++ get_or cells start Null ∷ []) (starts ++ start ∷ []) (lengths ++ (row - start) ∷ []) row
+closed_more : (cells : List Value) (starts lengths : List ℕ) (start row : ℕ) → RunsSoFar cells starts lengths start row → row ≤ length cells → Closed cells (cells_at cells starts ++ get_or cells start Null ∷ []) (starts ++ start ∷ []) (lengths ++ (row - start) ∷ []) row
 closed_more cells starts lengths start row r h =
-    let at : ℕ → Value = λ place. get_or cells place Null in
+    let at : ℕ → Value = λ index. get_or cells index Null in
     let o = r.begun in
     record {
       cells_are = repeated-push cells starts lengths start (row - start) r.a_length_each ∙ r.cells_are;
@@ -96,7 +96,7 @@ closed_more cells starts lengths start row r h =
       within = all_append (λ at. nat_lt at (length cells)) starts (start ∷ []) r.within (both _ _ (lt-ltb start (length cells) (omega arith)) refl);
     }
 
-runs_closed : (cells : List Value) (starts lengths new_starts new_lengths : List ℕ) (start row : ℕ) → RunsSoFar cells starts lengths start row → row ≤ length cells → new_starts ≡ starts ++ start ∷ [] → new_lengths ≡ lengths ++ (row - start) ∷ [] → Closed cells (at_places cells starts ++ get_or cells start Null ∷ []) new_starts new_lengths row
+runs_closed : (cells : List Value) (starts lengths new_starts new_lengths : List ℕ) (start row : ℕ) → RunsSoFar cells starts lengths start row → row ≤ length cells → new_starts ≡ starts ++ start ∷ [] → new_lengths ≡ lengths ++ (row - start) ∷ [] → Closed cells (cells_at cells starts ++ get_or cells start Null ∷ []) new_starts new_lengths row
 runs_closed cells starts lengths new_starts new_lengths start row r h p q = rw (p, q) (closed_more cells starts lengths start row r h)
 
 -- another run begins
@@ -107,7 +107,7 @@ runs_more cells starts lengths new_starts new_lengths start row r h d p q =
     let w = get_or cells row Null in
     record {
       cells_are = rw (c.cells_are, one) (sym (take_more cells row Null h));
-      apart = rw c.heads_are (unequal-push (at_places cells starts) (get_or cells start Null) w r.apart d);
+      apart = rw c.heads_are (unequal-push (cells_at cells starts) (get_or cells start Null) w r.apart d);
       not_empty = c.not_empty;
       a_length_each = c.a_length_each;
       within = c.within;

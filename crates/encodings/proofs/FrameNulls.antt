@@ -1,4 +1,4 @@
--- The NULLs of a frame: which offset leads to 0, and rows and their cells by their places.
+-- The NULLs of a frame: which offset leads to 0, and rows and their cells by their indexes.
 use Rattle.std.proofs.Common.{◌≡◌, ◌≢◌, ℕ, suc, ◌+◌, ◌%◌, ◌^◌, ◌<◌, ℤ, pos, negsuc, ◌+ℤ◌, Bool, true, false, not, ◌&&◌, ◌||◌, ◌==◌, List, [], ◌∷◌, length, get_or, map, zip, refl, sym, ap, ◌∙◌, arith, of_z, w64}
 use Rattle.std.specs.List.{list_all, range_with_len}
 use Rattle.std.specs.Int.RustNames.{FitsSigned}
@@ -36,21 +36,21 @@ leads_to_zero (negsuc n) offset u t f is small e fit =
     let low : n < 9223372036854775808 = f.sfits in
     at_zero n offset t (negsuc n +ℤ pos offset) refl (omega arith)
 
--- ---- rows by their places
+-- ---- rows by their indexes
 
-all_by_places : {X : Type 0} (p : X → Bool) (q : ℕ → Bool) (xs : List X) (d : X) (a : ℕ) → ((i : ℕ) → i < length xs → p (get_or xs i d) ≡ q (a + i)) → list_all p xs ≡ list_all q (range_with_len a (length xs))
-all_by_places p q [] d a same = refl
-all_by_places p q (x ∷ xs) d a same =
+all_by_index : {X : Type 0} (p : X → Bool) (q : ℕ → Bool) (xs : List X) (d : X) (a : ℕ) → ((i : ℕ) → i < length xs → p (get_or xs i d) ≡ q (a + i)) → list_all p xs ≡ list_all q (range_with_len a (length xs))
+all_by_index p q [] d a same = refl
+all_by_index p q (x ∷ xs) d a same =
     let first : p x ≡ q a = same 0 (omega arith) ∙ ap q (omega arith) in
     ap (λ b. b && list_all p xs) first
-    ∙ ap (λ b. q a && b) (all_by_places p q xs d (a + 1) (λ i h. same (suc i) (omega arith) ∙ ap q (omega arith)))
+    ∙ ap (λ b. q a && b) (all_by_index p q xs d (a + 1) (λ i h. same (suc i) (omega arith) ∙ ap q (omega arith)))
 
 module _ (rows : ℕ) (mask body : List ℕ) (form : is_frame rows body ≡ true) (t : ℕ) (leads : (offset : ℕ) → fits_i64 (base_of body +ℤ pos offset) ≡ true → is_blank (Int (base_of body +ℤ pos offset)) ≡ (offset == t)) where
   abbrev cells : List Value
   cells = map Int (frame_integers rows body)
 
-  at_place : (i : ℕ) → i < rows → is_blank (get_or cells i Null) ≡ (offset_at (width_of body) (packed_of body) i == t)
-  at_place i h =
+  at_index : (i : ℕ) → i < rows → is_blank (get_or cells i Null) ≡ (offset_at (width_of body) (packed_of body) i == t)
+  at_index i h =
       ap is_blank (sym (frame_cell_is kind.Frame of_type.Int rows i body (base_of body +ℤ pos (offset_at (width_of body) (packed_of body) i)) refl h (sym (frame_value rows i body h))))
       ∙ leads (offset_at (width_of body) (packed_of body) i) (frame_fits rows i body form h)
 
@@ -59,8 +59,8 @@ module _ (rows : ℕ) (mask body : List ℕ) (form : is_frame rows body ≡ true
       let long = length_pairs kind.Frame of_type.Int rows mask body form in
       let pairs : List (Bool × Value) = zip (bits_of rows mask) cells in
       let q : ℕ → Bool = λ i. not (bit_at mask i) || offset_at (width_of body) (packed_of body) i == t in
-      sym (all_by_places (λ (p : Bool × Value). not p.0 || is_blank p.1) q pairs (false, Null) 0
+      sym (all_by_index (λ (p : Bool × Value). not p.0 || is_blank p.1) q pairs (false, Null) 0
       (λ i h. let here : i < rows = omega arith in
       sym (pair_is kind.Frame of_type.Int rows mask body form i here)
-      ∙ ap (λ b. not (bit_at mask i) || b) (at_place i here) ∙ ap q (let e : i ≡ 0 + i = omega arith in e))
+      ∙ ap (λ b. not (bit_at mask i) || b) (at_index i here) ∙ ap q (let e : i ≡ 0 + i = omega arith in e))
       ∙ ap (λ n. list_all q (range_with_len 0 n)) long)

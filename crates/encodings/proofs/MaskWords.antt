@@ -18,44 +18,44 @@ use Rattle.bit_packing.proofs.Steps.{all_skips, all_keeps, all_stops}
 use Rattle.bit_packing.proofs.MaskWindows.{bit_of, window, window_bit}
 use Rattle.bit_packing.proofs.UnpackNumbers.{AreBytes, number-front_below}
 
-module _ (mask : List ℕ) (place row marks : ℕ) (small : AreBytes mask) (low : 8 * place ≤ row) (known : marks ≡ window place mask / 2 ^ (row - 8 * place)) where
-  mark_is : (i : ℕ) → row - 8 * place + i < 64 → marks / 2 ^ i % 2 ≡ bit_of mask (row + i)
+module _ (mask : List ℕ) (byte row marks : ℕ) (small : AreBytes mask) (low : 8 * byte ≤ row) (known : marks ≡ window byte mask / 2 ^ (row - 8 * byte)) where
+  mark_is : (i : ℕ) → row - 8 * byte + i < 64 → marks / 2 ^ i % 2 ≡ bit_of mask (row + i)
   mark_is i h =
       ap (λ n. n / 2 ^ i % 2) known
-      ∙ ap (λ n. n % 2) (shr-shr (window place mask) (row - 8 * place) i)
-      ∙ window_bit mask place (row - 8 * place + i) small h
+      ∙ ap (λ n. n % 2) (shr-shr (window byte mask) (row - 8 * byte) i)
+      ∙ window_bit mask byte (row - 8 * byte + i) small h
       ∙ ap (bit_of mask) (omega arith)
 
-  mark_set : (i : ℕ) → row - 8 * place + i < 64 → marks / 2 ^ i % 2 ≡ 1 → bit_at mask (row + i) ≡ true
+  mark_set : (i : ℕ) → row - 8 * byte + i < 64 → marks / 2 ^ i % 2 ≡ 1 → bit_at mask (row + i) ≡ true
   mark_set i h set = ap (λ n. n == 1) (sym (mark_is i h) ∙ set)
 
-  mark_clear : (i : ℕ) → row - 8 * place + i < 64 → marks / 2 ^ i % 2 ≡ 0 → bit_at mask (row + i) ≡ false
+  mark_clear : (i : ℕ) → row - 8 * byte + i < 64 → marks / 2 ^ i % 2 ≡ 0 → bit_at mask (row + i) ≡ false
   mark_clear i h clear = ap (λ n. n == 1) (sym (mark_is i h) ∙ clear)
 
   -- no mark stands above the word
-  mark_within : (i : ℕ) → marks / 2 ^ i % 2 ≡ 1 → row - 8 * place + i < 64
+  mark_within : (i : ℕ) → marks / 2 ^ i % 2 ≡ 1 → row - 8 * byte + i < 64
   mark_within i set =
-      let behind : AreBytes (drop place mask) = λ k. rw get_or-drop (small (place + k)) in
-      let below : window place mask < 2 ^ 64 = number-front_below 8 (drop place mask) behind in
-      let here : window place mask / 2 ^ (row - 8 * place + i) % 2 ≡ 1 = sym (ap (λ n. n / 2 ^ i % 2) known ∙ ap (λ n. n % 2) (shr-shr (window place mask) (row - 8 * place) i)) ∙ set in
-      ⊎_elim (λ h. h) (λ h. (let none = bit_at_above (window place mask) 64 (row - 8 * place + i) below h in absurd (omega arith))) (cases_lt (row - 8 * place + i) 64)
+      let behind : AreBytes (drop byte mask) = λ k. rw get_or-drop (small (byte + k)) in
+      let below : window byte mask < 2 ^ 64 = number-front_below 8 (drop byte mask) behind in
+      let here : window byte mask / 2 ^ (row - 8 * byte + i) % 2 ≡ 1 = sym (ap (λ n. n / 2 ^ i % 2) known ∙ ap (λ n. n % 2) (shr-shr (window byte mask) (row - 8 * byte) i)) ∙ set in
+      ⊎_elim (λ h. h) (λ h. (let none = bit_at_above (window byte mask) 64 (row - 8 * byte + i) below h in absurd (omega arith))) (cases_lt (row - 8 * byte + i) 64)
 
   -- the row of the lowest mark, and those before it
-  pub next_mark : 0 < marks → marks < 2 ^ 64 → (row - 8 * place + trailing_zeros w64 marks < 64) × (bit_at mask (row + trailing_zeros w64 marks) ≡ true) × ((i : ℕ) → i < trailing_zeros w64 marks → bit_at mask (row + i) ≡ false)
+  pub next_mark : 0 < marks → marks < 2 ^ 64 → (row - 8 * byte + trailing_zeros w64 marks < 64) × (bit_at mask (row + trailing_zeros w64 marks) ≡ true) × ((i : ℕ) → i < trailing_zeros w64 marks → bit_at mask (row + i) ≡ false)
   next_mark some fits =
       let lowest = bit_at-trailing_zeros w64 marks some fits in
       let within = mark_within (trailing_zeros w64 marks) lowest.1 in
       (within, mark_set (trailing_zeros w64 marks) within lowest.1, λ i h. mark_clear i (omega arith) (lowest.2 i h))
 
-  pub no_mark : marks ≡ 0 → (i : ℕ) → row - 8 * place + i < 64 → bit_at mask (row + i) ≡ false
+  pub no_mark : marks ≡ 0 → (i : ℕ) → row - 8 * byte + i < 64 → bit_at mask (row + i) ≡ false
   no_mark none i h = mark_clear i h (ap (λ n. n / 2 ^ i % 2) none ∙ bit_at-zero i)
 
-  pub shifted_more : (clear next : ℕ) → next ≡ row + clear + 1 → marks / 2 ^ clear / 2 ^ 1 ≡ window place mask / 2 ^ (next - 8 * place)
+  pub shifted_more : (clear next : ℕ) → next ≡ row + clear + 1 → marks / 2 ^ clear / 2 ^ 1 ≡ window byte mask / 2 ^ (next - 8 * byte)
   shifted_more clear next e =
       ap (λ n. n / 2 ^ clear / 2 ^ 1) known
-      ∙ ap (λ n. n / 2 ^ 1) (shr-shr (window place mask) (row - 8 * place) clear)
-      ∙ shr-shr (window place mask) (row - 8 * place + clear) 1
-      ∙ ap (λ k. window place mask / 2 ^ k) (omega arith)
+      ∙ ap (λ n. n / 2 ^ 1) (shr-shr (window byte mask) (row - 8 * byte) clear)
+      ∙ shr-shr (window byte mask) (row - 8 * byte + clear) 1
+      ∙ ap (λ k. window byte mask / 2 ^ k) (omega arith)
 
 -- ---- rows and their cells
 

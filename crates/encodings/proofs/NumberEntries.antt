@@ -15,7 +15,7 @@ use Rattle.meaning.specs.Order.{same_value, value_cmp, is_ascending}
 use Rattle.meaning.proofs.Orders.{value_total}
 use Rattle.meaning.proofs.Tests.{both, first_of, second_of}
 use Rattle.encodings.specs.Entries.{AreNumbered, DoNotFall, AreFirstEntries, AreFirstCodes, AreNumberEntries}
-use Rattle.encodings.specs.Plain.{at_places}
+use Rattle.encodings.specs.Plain.{cells_at}
 use Rattle.encodings.proofs.RowNumbers.{at_push, below_push}
 
 is_last : (k count : ℕ) → k < count + 1 → nat_lt k count ≡ false → k ≡ count
@@ -58,8 +58,8 @@ cells_sorted {K} cmp value (x ∷ xs) order s k h =
     let within : k + 1 < length (x ∷ xs) = omega arith in
     let a = get_or (x ∷ xs) (k + 1) x in
     let b = get_or (x ∷ xs) k x in
-    let told : is_lt (cmp a.0 b.0) ≡ false = not_less _ _ (s k x (omega arith) within) in
-    rw (get_or-map cell (x ∷ xs) (k + 1) x Null within, get_or-map cell (x ∷ xs) k x Null (omega arith)) (ap is_lt (sym (order a.0 b.0)) ∙ told)
+    let returned : is_lt (cmp a.0 b.0) ≡ false = not_less _ _ (s k x (omega arith) within) in
+    rw (get_or-map cell (x ∷ xs) (k + 1) x Null within, get_or-map cell (x ∷ xs) k x Null (omega arith)) (ap is_lt (sym (order a.0 b.0)) ∙ returned)
 
 -- ---- entries
 
@@ -76,29 +76,29 @@ ascending-push [] v w e l = both _ _ l refl
 ascending-push (a ∷ []) v w e l = both _ _ (first_of _ _ e) (both _ _ l refl)
 ascending-push (a ∷ b ∷ vs) v w e l = both _ _ (first_of _ _ e) (ascending-push (b ∷ vs) v w (second_of _ _ e) l)
 
-ascending_next : (cells sorted : List Value) (count : ℕ) (places : List ℕ) (v : Value) → AreFirstEntries cells sorted count places → (0 < count → is_lt (value_cmp (get_or sorted (count - 1) Null) v) ≡ true) → is_ascending value_cmp (at_places cells places ++ v ∷ []) ≡ true
+ascending_next : (cells sorted : List Value) (count : ℕ) (entry_rows : List ℕ) (v : Value) → AreFirstEntries cells sorted count entry_rows → (0 < count → is_lt (value_cmp (get_or sorted (count - 1) Null) v) ≡ true) → is_ascending value_cmp (cells_at cells entry_rows ++ v ∷ []) ≡ true
 ascending_next cells sorted zero [] v h l = refl
-ascending_next cells sorted zero (place ∷ places) v h l = let few = h.few in absurd (omega arith)
-ascending_next cells sorted (suc n) places v h l =
+ascending_next cells sorted zero (index ∷ entry_rows) v h l = let few = h.few in absurd (omega arith)
+ascending_next cells sorted (suc n) entry_rows v h l =
     let last = h.last (omega arith) in
     let w = get_or sorted (suc n - 1) Null in
     ap (λ es. is_ascending value_cmp (es ++ v ∷ [])) last.1 ∙ ascending-push last.0 w v (ap (is_ascending value_cmp) (sym last.1) ∙ h.ascending) (l (omega arith))
 
-pub entry_next : (cells sorted : List Value) (count : ℕ) (places : List ℕ) (row : ℕ) → AreFirstEntries cells sorted count places → row < length cells → get_or cells row Null ≡ get_or sorted count Null → (0 < count → is_lt (value_cmp (get_or sorted (count - 1) Null) (get_or sorted count Null)) ≡ true) → AreFirstEntries cells sorted (count + 1) (places ++ row ∷ [])
-entry_next cells sorted count places row h below e l =
+pub entry_next : (cells sorted : List Value) (count : ℕ) (entry_rows : List ℕ) (row : ℕ) → AreFirstEntries cells sorted count entry_rows → row < length cells → get_or cells row Null ≡ get_or sorted count Null → (0 < count → is_lt (value_cmp (get_or sorted (count - 1) Null) (get_or sorted count Null)) ≡ true) → AreFirstEntries cells sorted (count + 1) (entry_rows ++ row ∷ [])
+entry_next cells sorted count entry_rows row h below e l =
     let few = h.few in
-    let longer = length_push places row in
+    let longer = length_push entry_rows row in
     let back : count ≡ count + 1 - 1 = omega arith in
-    let next = at_push cells places row ∙ ap (λ v. at_places cells places ++ v ∷ []) e in
+    let next = at_push cells entry_rows row ∙ ap (λ v. cells_at cells entry_rows ++ v ∷ []) e in
     record {
-      within = below_push places row (length cells) h.within below;
+      within = below_push entry_rows row (length cells) h.within below;
       few = omega arith;
-      ascending = ap (is_ascending value_cmp) next ∙ ascending_next cells sorted count places (get_or sorted count Null) h l;
-      last = λ _. (at_places cells places, next ∙ ap (λ k. at_places cells places ++ get_or sorted k Null ∷ []) back);
+      ascending = ap (is_ascending value_cmp) next ∙ ascending_next cells sorted count entry_rows (get_or sorted count Null) h l;
+      last = λ _. (cells_at cells entry_rows, next ∙ ap (λ k. cells_at cells entry_rows ++ get_or sorted k Null ∷ []) back);
     }
 
-pub entry_same : (cells sorted : List Value) (count : ℕ) (places : List ℕ) → AreFirstEntries cells sorted count places → 0 < count → get_or sorted (count - 1) Null ≡ get_or sorted count Null → AreFirstEntries cells sorted (count + 1) places
-entry_same cells sorted count places h some e =
+pub entry_same : (cells sorted : List Value) (count : ℕ) (entry_rows : List ℕ) → AreFirstEntries cells sorted count entry_rows → 0 < count → get_or sorted (count - 1) Null ≡ get_or sorted count Null → AreFirstEntries cells sorted (count + 1) entry_rows
+entry_same cells sorted count entry_rows h some e =
     let few = h.few in
     let last = h.last some in
     let back : count ≡ count + 1 - 1 = omega arith in
@@ -110,11 +110,11 @@ entry_same cells sorted count places h some e =
     }
 
 -- the last entry is the cell that was entered last
-pub last_code : (cells sorted : List Value) (count : ℕ) (places : List ℕ) (code : ℕ) → AreFirstEntries cells sorted (count + 1) places → code ≡ length places - 1 → (code < length places) × (get_or (at_places cells places) code Null ≡ get_or sorted count Null)
-last_code cells sorted count places code h e =
+pub last_code : (cells sorted : List Value) (count : ℕ) (entry_rows : List ℕ) (code : ℕ) → AreFirstEntries cells sorted (count + 1) entry_rows → code ≡ length entry_rows - 1 → (code < length entry_rows) × (get_or (cells_at cells entry_rows) code Null ≡ get_or sorted count Null)
+last_code cells sorted count entry_rows code h e =
     let last = h.last (omega arith) in
     let back : count + 1 - 1 ≡ count = omega arith in
-    let long = length-map places (λ p. get_or cells p Null) in
+    let long = length-map entry_rows (λ p. get_or cells p Null) in
     let all = ap length last.1 ∙ length_push last.0 (get_or sorted (count + 1 - 1) Null) in
     (omega arith, ap (λ es. get_or es code Null) last.1 ∙ (get_or_push last.0 (get_or sorted (count + 1 - 1) Null) Null code (omega arith) ∙ ap (λ k. get_or sorted k Null) back))
 
@@ -133,7 +133,7 @@ is_before numbers count k l other = elim (nat_lt k count) as (λ b. nat_lt k cou
 ] refl
 
 pub codes_more : (entries more sorted : List Value) (numbers codes : List ℕ) (count code : ℕ) → AreFirstCodes entries sorted numbers codes count → get_or numbers count 0 < length codes → code < length (entries ++ more) → get_or (entries ++ more) code Null ≡ get_or sorted count Null → ((k : ℕ) → k < count → get_or numbers k 0 ≡ get_or numbers count 0 → get_or sorted k Null ≡ get_or sorted count Null) → AreFirstCodes (entries ++ more) sorted numbers (set codes (get_or numbers count 0) code) (count + 1)
-codes_more entries more sorted numbers codes count code h room below told alike k l =
+codes_more entries more sorted numbers codes count code h room below returned alike k l =
     let number = get_or numbers count 0 in
     let n = get_or numbers k 0 in
     let longer = length-append entries more in
@@ -142,7 +142,7 @@ codes_more entries more sorted numbers codes count code h room below told alike 
     elim (nat_eq n number) as (λ b. nat_eq n number ≡ b → P (get_or (set codes number code) n 0)) [
       | true ↦ λ t.
           let e : n ≡ number = eqb-true n number t in
-          subst P (sym (ap (λ m. get_or (set codes number code) m 0) e ∙ here)) (below, told ∙ sym (is_same sorted numbers count k l alike e))
+          subst P (sym (ap (λ m. get_or (set codes number code) m 0) e ∙ here)) (below, returned ∙ sym (is_same sorted numbers count k l alike e))
       | false ↦ λ t.
           let other : n ≢ number = λ e. absurd (true≢false (sym (eq-eqb n number e) ∙ t)) in
           let old = h k (is_before numbers count k l other) in
@@ -156,7 +156,7 @@ all_from_each p (x ∷ xs) h = both _ _ (h 0 (omega arith)) (all_from_each p xs 
 
 -- what is known of the code of each number
 code_of : {K : Type 0} (value : K → Value) (entries cells : List Value) (numbered : List (K × ℕ)) (codes : List ℕ) (count : ℕ) → AreNumbered value cells numbered count → AreFirstCodes entries (map (λ p. value p.0) numbered) (map (λ p. p.1) numbered) codes (length numbered) → (n : ℕ) → n < count → (get_or codes n 0 < length entries) × (get_or entries (get_or codes n 0) Null ≡ get_or cells n Null)
-code_of {K} value entries cells numbered codes count h told n l =
+code_of {K} value entries cells numbered codes count h returned n l =
     let found = h.each n l in
     let p = found.0 in
     let k = found.1.0 in
@@ -164,16 +164,16 @@ code_of {K} value entries cells numbered codes count h told n l =
     let number : get_or (map (λ q. q.1) numbered) k 0 ≡ n = get_or-map (λ q. q.1) numbered k p 0 within ∙ (ap (λ q. q.1) found.1.2 ∙ found.2) in
     let cell : get_or (map (λ q. value q.0) numbered) k Null ≡ value p.0 = get_or-map (λ q. value q.0) numbered k p Null within ∙ ap (λ q. value q.0) found.1.2 in
     let beside = All-contains (λ q. (q.1 < length cells) × (value q.0 ≡ get_or cells q.1 Null)) numbered p h.beside found.1 in
-    let old = told k within in
+    let old = returned k within in
     subst (λ m. (get_or codes m 0 < length entries) × (get_or entries (get_or codes m 0) Null ≡ get_or cells n Null)) number
     (old.0, old.1 ∙ (cell ∙ (beside.1 ∙ ap (λ m. get_or cells m Null) found.2)))
 
-pub number_entries : {K : Type 0} (value : K → Value) (cells : List Value) (firsts places codes : List ℕ) (numbered : List (K × ℕ)) (count : ℕ) → AreNumbered value (at_places cells firsts) numbered (length firsts) → AreFirstEntries cells (map (λ p. value p.0) numbered) count places → AreFirstCodes (at_places cells places) (map (λ p. value p.0) numbered) (map (λ p. p.1) numbered) codes count → count ≡ length numbered → length codes ≡ length firsts → AreNumberEntries cells firsts places codes
-number_entries {K} value cells firsts places codes numbered count h e so_far done room =
-    let told = subst (λ n. AreFirstCodes (at_places cells places) (map (λ (p : K × ℕ). value p.0) numbered) (map (λ (p : K × ℕ). p.1) numbered) codes n) done so_far in
-    let entries = at_places cells places in
-    let long = length-map places (λ p. get_or cells p Null) in
-    let firstly = at_places cells firsts in
+pub number_entries : {K : Type 0} (value : K → Value) (cells : List Value) (firsts entry_rows codes : List ℕ) (numbered : List (K × ℕ)) (count : ℕ) → AreNumbered value (cells_at cells firsts) numbered (length firsts) → AreFirstEntries cells (map (λ p. value p.0) numbered) count entry_rows → AreFirstCodes (cells_at cells entry_rows) (map (λ p. value p.0) numbered) (map (λ p. p.1) numbered) codes count → count ≡ length numbered → length codes ≡ length firsts → AreNumberEntries cells firsts entry_rows codes
+number_entries {K} value cells firsts entry_rows codes numbered count h e so_far done room =
+    let returned = subst (λ n. AreFirstCodes (cells_at cells entry_rows) (map (λ (p : K × ℕ). value p.0) numbered) (map (λ (p : K × ℕ). p.1) numbered) codes n) done so_far in
+    let entries = cells_at cells entry_rows in
+    let long = length-map entry_rows (λ p. get_or cells p Null) in
+    let firstly = cells_at cells firsts in
     let many = length-map firsts (λ p. get_or cells p Null) in
     let coded = length-map codes (λ c. get_or entries c Null) in
     let all = h.long in
@@ -182,39 +182,39 @@ number_entries {K} value cells firsts places codes numbered count h e so_far don
       within = e.within;
       few = omega arith;
       ascending = e.ascending;
-      codes_within = all_from_each (λ c. nat_lt c (length places)) codes (λ i l. let t = code_of value entries firstly numbered codes (length firsts) h told i (omega arith) in let low = t.0 in lt-ltb (get_or codes i 0) (length places) (omega arith));
-      cells_are = ext_get_or Null (at_places entries codes) firstly (coded ∙ (room ∙ sym many)) (λ i l. get_or-map (λ c. get_or entries c Null) codes i 0 Null (omega arith) ∙ (code_of value entries firstly numbered codes (length firsts) h told i (omega arith)).1);
+      codes_within = all_from_each (λ c. nat_lt c (length entry_rows)) codes (λ i l. let t = code_of value entries firstly numbered codes (length firsts) h returned i (omega arith) in let low = t.0 in lt-ltb (get_or codes i 0) (length entry_rows) (omega arith));
+      cells_are = ext_get_or Null (cells_at entries codes) firstly (coded ∙ (room ∙ sym many)) (λ i l. get_or-map (λ c. get_or entries c Null) codes i 0 Null (omega arith) ∙ (code_of value entries firstly numbered codes (length firsts) h returned i (omega arith)).1);
     }
 
--- the first row of the number at a place has the cell at this place
-pub row_of : {K : Type 0} (value : K → Value) (cells : List Value) (firsts : List ℕ) (numbered : List (K × ℕ)) (place : ℕ) (p : K × ℕ) → AreNumbered value (at_places cells firsts) numbered (length firsts) → place < length numbered → ((get_or numbered place p).1 < length firsts) × (get_or cells (get_or firsts (get_or numbered place p).1 0) Null ≡ get_or (map (λ q. value q.0) numbered) place Null)
-row_of {K} value cells firsts numbered place p h within =
+-- the first row of the number at an index has the cell at this index
+pub row_of : {K : Type 0} (value : K → Value) (cells : List Value) (firsts : List ℕ) (numbered : List (K × ℕ)) (index : ℕ) (p : K × ℕ) → AreNumbered value (cells_at cells firsts) numbered (length firsts) → index < length numbered → ((get_or numbered index p).1 < length firsts) × (get_or cells (get_or firsts (get_or numbered index p).1 0) Null ≡ get_or (map (λ q. value q.0) numbered) index Null)
+row_of {K} value cells firsts numbered index p h within =
     let many = length-map firsts (λ row. get_or cells row Null) in
-    let beside = h.beside place p within in
+    let beside = h.beside index p within in
     let low = beside.0 in
-    let n = (get_or numbered place p).1 in
+    let n = (get_or numbered index p).1 in
     let here : n < length firsts = omega arith in
-    (here, sym (get_or-map (λ row. get_or cells row Null) firsts n 0 Null here) ∙ (sym beside.1 ∙ sym (get_or-map (λ q. value q.0) numbered place p Null within)))
+    (here, sym (get_or-map (λ row. get_or cells row Null) firsts n 0 Null here) ∙ (sym beside.1 ∙ sym (get_or-map (λ q. value q.0) numbered index p Null within)))
 
 -- equal numbers have equal cells
-pub alike_of : {K : Type 0} (value : K → Value) (cells : List Value) (numbered : List (K × ℕ)) (count place k : ℕ) (p : K × ℕ) → AreNumbered value cells numbered count → place < length numbered → k < place → get_or (map (λ q. q.1) numbered) k 0 ≡ get_or (map (λ q. q.1) numbered) place 0 → get_or (map (λ q. value q.0) numbered) k Null ≡ get_or (map (λ q. value q.0) numbered) place Null
-alike_of {K} value cells numbered count place k p h within l e =
+pub alike_of : {K : Type 0} (value : K → Value) (cells : List Value) (numbered : List (K × ℕ)) (count index k : ℕ) (p : K × ℕ) → AreNumbered value cells numbered count → index < length numbered → k < index → get_or (map (λ q. q.1) numbered) k 0 ≡ get_or (map (λ q. q.1) numbered) index 0 → get_or (map (λ q. value q.0) numbered) k Null ≡ get_or (map (λ q. value q.0) numbered) index Null
+alike_of {K} value cells numbered count index k p h within l e =
     let low : k < length numbered = omega arith in
-    let this = h.beside place p within in
+    let this = h.beside index p within in
     let that = h.beside k p low in
-    let same : (get_or numbered k p).1 ≡ (get_or numbered place p).1 = sym (get_or-map (λ q. q.1) numbered k p 0 low) ∙ (e ∙ get_or-map (λ q. q.1) numbered place p 0 within) in
-    get_or-map (λ q. value q.0) numbered k p Null low ∙ (that.1 ∙ (ap (λ n. get_or cells n Null) same ∙ (sym this.1 ∙ sym (get_or-map (λ q. value q.0) numbered place p Null within))))
+    let same : (get_or numbered k p).1 ≡ (get_or numbered index p).1 = sym (get_or-map (λ q. q.1) numbered k p 0 low) ∙ (e ∙ get_or-map (λ q. q.1) numbered index p 0 within) in
+    get_or-map (λ q. value q.0) numbered k p Null low ∙ (that.1 ∙ (ap (λ n. get_or cells n Null) same ∙ (sym this.1 ∙ sym (get_or-map (λ q. value q.0) numbered index p Null within))))
 
 -- the code of one more number
-pub codes_next : {K : Type 0} (value : K → Value) (cells : List Value) (firsts places more new codes : List ℕ) (numbered : List (K × ℕ)) (place code : ℕ) (p : K × ℕ) → AreNumbered value (at_places cells firsts) numbered (length firsts) → place < length numbered → AreFirstCodes (at_places cells places) (map (λ q. value q.0) numbered) (map (λ q. q.1) numbered) codes place → length codes ≡ length firsts → new ≡ places ++ more → (code < length new) × (get_or (at_places cells new) code Null ≡ get_or (map (λ q. value q.0) numbered) place Null) → AreFirstCodes (at_places cells new) (map (λ q. value q.0) numbered) (map (λ q. q.1) numbered) (set codes (get_or numbered place p).1 code) (place + 1)
-codes_next {K} value cells firsts places more new codes numbered place code p h within told room kept here =
+pub codes_next : {K : Type 0} (value : K → Value) (cells : List Value) (firsts entry_rows more new codes : List ℕ) (numbered : List (K × ℕ)) (index code : ℕ) (p : K × ℕ) → AreNumbered value (cells_at cells firsts) numbered (length firsts) → index < length numbered → AreFirstCodes (cells_at cells entry_rows) (map (λ q. value q.0) numbered) (map (λ q. q.1) numbered) codes index → length codes ≡ length firsts → new ≡ entry_rows ++ more → (code < length new) × (get_or (cells_at cells new) code Null ≡ get_or (map (λ q. value q.0) numbered) index Null) → AreFirstCodes (cells_at cells new) (map (λ q. value q.0) numbered) (map (λ q. q.1) numbered) (set codes (get_or numbered index p).1 code) (index + 1)
+codes_next {K} value cells firsts entry_rows more new codes numbered index code p h within returned room kept here =
     let sorted = map (λ (q : K × ℕ). value q.0) numbered in
     let numbers = map (λ (q : K × ℕ). q.1) numbered in
-    let entries = at_places cells places in
-    let number : get_or numbers place 0 ≡ (get_or numbered place p).1 = get_or-map (λ q. q.1) numbered place p 0 within in
-    let low = (row_of value cells firsts numbered place p h within).0 in
-    let parts : at_places cells new ≡ entries ++ at_places cells more = ap (at_places cells) kept ∙ map-append (λ row. get_or cells row Null) places more in
+    let entries = cells_at cells entry_rows in
+    let number : get_or numbers index 0 ≡ (get_or numbered index p).1 = get_or-map (λ q. q.1) numbered index p 0 within in
+    let low = (row_of value cells firsts numbered index p h within).0 in
+    let parts : cells_at cells new ≡ entries ++ cells_at cells more = ap (cells_at cells) kept ∙ map-append (λ row. get_or cells row Null) entry_rows more in
     let long = length-map new (λ row. get_or cells row Null) in
-    let below : code < length (at_places cells new) = let b = here.0 in omega arith in
-    let all = codes_more entries (at_places cells more) sorted numbers codes place code told (omega arith) (subst (λ es. code < length es) parts below) (ap (λ es. get_or es code Null) (sym parts) ∙ here.1) (λ k l e. alike_of value (at_places cells firsts) numbered (length firsts) place k p h within l e) in
-    subst (λ n. AreFirstCodes (at_places cells new) sorted numbers (set codes n code) (place + 1)) number (subst (λ es. AreFirstCodes es sorted numbers (set codes (get_or numbers place 0) code) (place + 1)) (sym parts) all)
+    let below : code < length (cells_at cells new) = let b = here.0 in omega arith in
+    let all = codes_more entries (cells_at cells more) sorted numbers codes index code returned (omega arith) (subst (λ es. code < length es) parts below) (ap (λ es. get_or es code Null) (sym parts) ∙ here.1) (λ k l e. alike_of value (cells_at cells firsts) numbered (length firsts) index k p h within l e) in
+    subst (λ n. AreFirstCodes (cells_at cells new) sorted numbers (set codes n code) (index + 1)) number (subst (λ es. AreFirstCodes es sorted numbers (set codes (get_or numbers index 0) code) (index + 1)) (sym parts) all)

@@ -71,34 +71,34 @@ blank_text : (t : List ℕ) → is_blank (Text t) ≡ true → [] ≡ t
 blank_text [] h = refl
 blank_text (x ∷ xs) h = let e : length (x ∷ xs) ≡ 0 = eqb-true (length (x ∷ xs)) 0 h in absurd (omega (arith, e))
 
-abbrev is_told : Bool × Value → Bool
-is_told p = not p.0 || is_blank p.1
+abbrev is_returned : Bool × Value → Bool
+is_returned p = not p.0 || is_blank p.1
 
-blank-ints : (nulls : List Bool) (xs : List ℤ) → length nulls ≡ length xs → list_all is_told (zip nulls (map Int xs)) ≡ true
+blank-ints : (nulls : List Bool) (xs : List ℤ) → length nulls ≡ length xs → list_all is_returned (zip nulls (map Int xs)) ≡ true
     → map number (map masked (zip nulls (map Int xs))) ≡ xs
 blank-ints [] [] h l = refl
 blank-ints [] (x ∷ xs) h l = absurd (omega arith)
 blank-ints (b ∷ bs) [] h l = absurd (omega arith)
 blank-ints (true ∷ bs) (x ∷ xs) h l =
     let rest = map number (map masked (zip bs (map Int xs))) in
-    ap (λ z. z ∷ rest) (blank_number x (first_of (is_blank (Int x)) (list_all is_told (zip bs (map Int xs))) l))
-    ∙ ap (λ ys. x ∷ ys) (blank-ints bs xs (omega arith) (second_of (is_blank (Int x)) (list_all is_told (zip bs (map Int xs))) l))
+    ap (λ z. z ∷ rest) (blank_number x (first_of (is_blank (Int x)) (list_all is_returned (zip bs (map Int xs))) l))
+    ∙ ap (λ ys. x ∷ ys) (blank-ints bs xs (omega arith) (second_of (is_blank (Int x)) (list_all is_returned (zip bs (map Int xs))) l))
 blank-ints (false ∷ bs) (x ∷ xs) h l = ap (λ ys. x ∷ ys) (blank-ints bs xs (omega arith) l)
 
-blank-texts : (nulls : List Bool) (xs : List (List ℕ)) → length nulls ≡ length xs → list_all is_told (zip nulls (map Text xs)) ≡ true
+blank-texts : (nulls : List Bool) (xs : List (List ℕ)) → length nulls ≡ length xs → list_all is_returned (zip nulls (map Text xs)) ≡ true
     → map bytes (map masked (zip nulls (map Text xs))) ≡ xs
 blank-texts [] [] h l = refl
 blank-texts [] (x ∷ xs) h l = absurd (omega arith)
 blank-texts (b ∷ bs) [] h l = absurd (omega arith)
 blank-texts (true ∷ bs) (x ∷ xs) h l =
     let rest = map bytes (map masked (zip bs (map Text xs))) in
-    ap (λ z. z ∷ rest) (blank_text x (first_of (is_blank (Text x)) (list_all is_told (zip bs (map Text xs))) l))
-    ∙ ap (λ ys. x ∷ ys) (blank-texts bs xs (omega arith) (second_of (is_blank (Text x)) (list_all is_told (zip bs (map Text xs))) l))
+    ap (λ z. z ∷ rest) (blank_text x (first_of (is_blank (Text x)) (list_all is_returned (zip bs (map Text xs))) l))
+    ∙ ap (λ ys. x ∷ ys) (blank-texts bs xs (omega arith) (second_of (is_blank (Text x)) (list_all is_returned (zip bs (map Text xs))) l))
 blank-texts (false ∷ bs) (x ∷ xs) h l = ap (λ ys. x ∷ ys) (blank-texts bs xs (omega arith) l)
 
 blank_cells : (col_type : ColType) (nulls : List Bool) (ints : List ℤ) (texts : List (List ℕ))
     → AreRoom col_type nulls ints texts
-    → list_all is_told (zip nulls (cells_in col_type ints texts)) ≡ true → AreBlank col_type nulls ints texts
+    → list_all is_returned (zip nulls (cells_in col_type ints texts)) ≡ true → AreBlank col_type nulls ints texts
 blank_cells of_type.Int nulls ints texts h l = blank-ints nulls ints (sym h) l
 blank_cells of_type.Text nulls ints texts h l = blank-texts nulls texts (sym h) l
 
@@ -276,15 +276,15 @@ pub blank_read : (b : Block) (col_type : ColType) (n k : ℕ) (nulls : List Bool
     → nulls ≡ take n (drop k (nulls_of b)) → cells_in col_type ints texts ≡ take n (drop k (cells_of b))
     → AreRoom col_type nulls ints texts → AreBlank col_type nulls ints texts
 blank_read b col_type n k nulls ints texts h e f x =
-    let told : list_all is_told (zip (nulls_of b) (cells_of b)) ≡ true
+    let returned : list_all is_returned (zip (nulls_of b) (cells_of b)) ≡ true
     = second_of (is_body b.kind b.col_type b.rows (body_of b)) _ (second_of (is_mask b.rows (mask_of b)) _
     (second_of (nat_le (mask_length b.nullable b.rows) (length b.payload)) _ (second_of (nat_le b.rows row_group_rows) _
     (second_of (nat_le 1 b.rows) _ h)))) in
     blank_cells col_type nulls ints texts x
-    (ap (λ ns. list_all is_told (zip ns (cells_in col_type ints texts))) e
-    ∙ ap (λ xs. list_all is_told (zip (take n (drop k (nulls_of b))) xs)) f
-    ∙ ap (list_all is_told) (sym (zip-part n k (nulls_of b) (cells_of b)))
-    ∙ all-part is_told n k (zip (nulls_of b) (cells_of b)) told)
+    (ap (λ ns. list_all is_returned (zip ns (cells_in col_type ints texts))) e
+    ∙ ap (λ xs. list_all is_returned (zip (take n (drop k (nulls_of b))) xs)) f
+    ∙ ap (list_all is_returned) (sym (zip-part n k (nulls_of b) (cells_of b)))
+    ∙ all-part is_returned n k (zip (nulls_of b) (cells_of b)) returned)
 
 -- ---- the cells that were read
 pub cells_ready : (b : Block) (col_type : ColType) (n k : ℕ) (nulls : List Bool) (ints : List ℤ) (texts : List (List ℕ))

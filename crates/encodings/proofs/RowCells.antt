@@ -91,8 +91,8 @@ module _ (values : List Value) (lengths : List ℕ) (i rest : ℕ) (known : i < 
 pub run_cell_is : (col_type : ColType) (row run count : ℕ) (body lengths values : List ℕ) (v : Value) → count ≡ count_of body → lengths ≡ drop 4 body → values ≡ run_value_bytes body
     → ((vs : List Value) → length vs ≡ count → get_or (repeated (zip vs (shorts count lengths))) row Null ≡ get_or vs run Null)
     → v ≡ get_or (values_form col_type count values) run Null → v ≡ get_or (run_cells col_type body) row Null
-run_cell_is col_type row run count body lengths values v counted same_lengths same_values place e =
-    e ∙ sym (place (values_form col_type count values) (length-values_form col_type count values))
+run_cell_is col_type row run count body lengths values v counted same_lengths same_values cell e =
+    e ∙ sym (cell (values_form col_type count values) (length-values_form col_type count values))
     ∙ ap (λ xs. get_or (repeated (zip (values_form col_type count xs) (shorts count lengths))) row Null) same_values
     ∙ ap (λ xs. get_or (repeated (zip (values_form col_type count (run_value_bytes body)) (shorts count xs))) row Null) same_lengths
     ∙ ap (λ k. get_or (repeated (zip (values_form col_type k (run_value_bytes body)) (shorts k (drop 4 body)))) row Null) counted

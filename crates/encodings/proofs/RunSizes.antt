@@ -6,7 +6,7 @@ use Rattle.meaning.specs.declared.value.ColType.TheVariants as of_type
 use Rattle.meaning.specs.declared.value.Value.{Value}
 use Rattle.meaning.specs.declared.value.Value.TheVariants.{Null}
 use Rattle.meaning.specs.Order.{same_value}
-use Rattle.encodings.specs.Homes.{value_size}
+use Rattle.encodings.specs.Slots.{value_size}
 use Rattle.encodings.specs.Plain.{form_size}
 use Rattle.encodings.specs.Runs.{run_heads}
 use Rattle.encodings.proofs.Marks.{form_cons}
@@ -31,7 +31,7 @@ module _ (col_type : ColType) (cells : List Value) (row size more all : ℕ) (so
   -- the row before this one ends a run where this one has another cell
   pub run_ends : row < length cells → more ≡ (if same_value before (get_or cells row Null) then 0 else 2 + value_size col_type before)
       → size + runs_size col_type (run_heads (drop (row - 1) cells)) ≡ all → size + more + runs_size col_type (run_heads (drop row cells)) ≡ all
-  run_ends h told known =
+  run_ends h returned known =
       let x = before in
       let y = get_or cells row Null in
       let ys = drop (row + 1) cells in
@@ -42,12 +42,12 @@ module _ (col_type : ColType) (cells : List Value) (row size more all : ℕ) (so
       elim (same_value x y) as (λ b. more ≡ (if b then 0 else 2 + value_size col_type x) → size + runs_size col_type (if b then run_heads (y ∷ ys) else x ∷ run_heads (y ∷ ys)) ≡ all → size + more + runs_size col_type (run_heads (y ∷ ys)) ≡ all) [
         | true ↦ λ m k. omega arith
         | false ↦ λ m k. (let e = form_cons col_type x (run_heads (y ∷ ys)) in omega arith)
-      ] told known_here in
+      ] returned known_here in
       ap (λ zs. size + more + runs_size col_type (run_heads zs)) here ∙ goal_here
 
   -- the last row ends the last run
   pub last_run : row ≡ length cells → more ≡ 2 + value_size col_type before → size + runs_size col_type (run_heads (drop (row - 1) cells)) ≡ all → size + more ≡ all
-  last_run h told known =
+  last_run h returned known =
       let x = before in
       let only : drop (row - 1) cells ≡ x ∷ [] = split (omega arith) ∙ ap (λ zs. x ∷ zs) (drop_all row cells (omega arith)) in
       let e = form_cons col_type x [] in

@@ -1,4 +1,4 @@
--- Blocks byte by byte, and what they stand for.
+-- Blocks byte by byte, and what they encode.
 use Rattle.std.specs.Prelude.{◌≡◌, refl, pos, negsuc, true, false, List, [], ◌∷◌}
 use Rattle.std.specs.Str.{is_utf8, chars}
 use Rattle.meaning.specs.declared.value.ColType.TheVariants as of_type

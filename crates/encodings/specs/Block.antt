@@ -1,6 +1,6 @@
--- What a block's bytes stand for, and which bytes are a block.
+-- What a block's bytes encode, and which bytes are a block.
 --
--- A block stands for 1 to 8,192 values of one column. Its payload is the mask, in a nullable column, and a body of one
+-- A block encodes 1 to 8,192 values of one column. Its payload is the mask, in a nullable column, and a body of one
 -- of four kinds. The body alone gives a cell for each row; where the mask has a 1, the value is NULL.
 use Rattle.std.specs.Prelude.{ℕ, ◌==◌, nat_le, pos, negsuc, Bool, false, ◌&&◌, ◌||◌, not, if◌then◌else◌, List, length, map, take, drop, zip, replicate, ◌≡◌}
 use Rattle.std.specs.List.{list_all, range_with_len}
@@ -65,7 +65,7 @@ is_blank (Int (pos n)) = n == 0
 is_blank (Int (negsuc n)) = false
 is_blank (Text t) = length t == 0
 
--- the list of values that the block stands for
+-- the list of values that the block encodes
 abbrev pub values_of : Block → List Value
 values_of b = map masked (zip (nulls_of b) (cells_of b))
 
@@ -83,6 +83,6 @@ is_block b =
 abbrev pub are_blank_from : ℕ → ℕ → List ℕ → List Value → Bool
 are_blank_from row rows mask cells = list_all (λ p. not p.0 || is_blank p.1) (drop row (zip (map (bit_at mask) (range_with_len 0 rows)) cells))
 
--- the block stands for these cells, with NULL where the mask has a 1
+-- the block encodes these cells, with NULL where the mask has a 1
 abbrev pub StandsFor : Block → List Value → Type 0
 StandsFor b cells = values_of b ≡ map masked (zip (nulls_of b) cells)

@@ -13,12 +13,12 @@ use Rattle.encodings.specs.declared.kind.Kind.TheVariants as kind
 -- the dictionary of the cells, if the size that it has is at most a number
 abbrev pub IsDictionaryWithin : List Value → ℕ → ℕ → Option Dictionary → Type 0
 IsDictionaryWithin cells size most None = most < size
-IsDictionaryWithin cells size most (Some d) = (size ≤ most) × AreEntries cells d.places.items d.codes.items
+IsDictionaryWithin cells size most (Some d) = (size ≤ most) × AreEntries cells d.entry_rows.items d.codes.items
 
 -- what was made ahead for a kind is the dictionary of the cells
 abbrev pub IsMadeOf : List Value → Kind → Option Dictionary → Type 0
 IsMadeOf cells k None = Unit {0}
-IsMadeOf cells k (Some d) = (k ≡ kind.Dict) × AreEntries cells d.places.items d.codes.items
+IsMadeOf cells k (Some d) = (k ≡ kind.Dict) × AreEntries cells d.entry_rows.items d.codes.items
 
 -- the kind in which the cells take the fewest bytes, and what was made of them
 pub record IsBestOf (col_type : ColType) (cells : List Value) (choice : Choice) : Type 0 where

@@ -11,8 +11,8 @@ use Rattle.encodings.specs.Block.{mask_length}
 use Rattle.bit_packing.specs.Widths.{width_for}
 use Rattle.encodings.specs.Runs.{run_heads}
 use Rattle.encodings.specs.Plain.{form_size}
-use Rattle.encodings.specs.Frame.{spread}
-use Rattle.encodings.specs.Kind.{place_of, kinds_for}
+use Rattle.encodings.specs.Frame.{span}
+use Rattle.encodings.specs.Kind.{kind_code, kinds_for}
 use Rattle.encodings.specs.declared.kind.Kind.TheVariants as kind
 pub use Rattle.columns.specs.Cells.{cell_of}
 
@@ -27,7 +27,7 @@ abbrev pub body_size : Kind → ColType → List Value → ℕ
 body_size kind.Plain col_type cells = form_size col_type cells
 body_size kind.Dict col_type cells = 4 + form_size col_type (ascending_set value_cmp cells) + 2 * length cells
 body_size kind.Runs col_type cells = 4 + 2 * length (run_heads cells) + form_size col_type (run_heads cells)
-body_size kind.Frame col_type cells = 9 + bytes_of_bits (length cells * width_for (spread (map number cells)))
+body_size kind.Frame col_type cells = 9 + bytes_of_bits (length cells * width_for (span (map number cells)))
 
 -- how many bytes the values of a column take in a kind
 abbrev pub payload_size : Kind → ColType → Bool → List Value → ℕ
@@ -37,14 +37,14 @@ payload_size k col_type nullable values =
 -- a kind is no worse than another, and better than one before it
 abbrev pub is_no_worse : ColType → Bool → List Value → Kind → Kind → Bool
 is_no_worse col_type nullable values k other =
-    if nat_lt (place_of other) (place_of k)
+    if nat_lt (kind_code other) (kind_code k)
     then nat_lt (payload_size k col_type nullable values) (payload_size other col_type nullable values)
     else nat_le (payload_size k col_type nullable values) (payload_size other col_type nullable values)
 
 -- the kind of fewest bytes, and of equals the first
 abbrev pub is_chosen : ColType → Bool → List Value → Kind → Bool
 is_chosen col_type nullable values k =
-    list_any (λ fit. place_of fit == place_of k) (kinds_for col_type)
+    list_any (λ fit. kind_code fit == kind_code k) (kinds_for col_type)
     && list_all (is_no_worse col_type nullable values k) (kinds_for col_type)
 
 -- the first of the kinds but Dict whose size is least, of the sizes of Plain, Runs and Frame

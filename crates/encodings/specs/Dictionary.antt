@@ -7,7 +7,7 @@ use Rattle.meaning.specs.declared.value.Value.{Value}
 use Rattle.meaning.specs.declared.value.Value.TheVariants.{Null}
 use Rattle.meaning.specs.Order.{value_cmp, is_ascending}
 use Rattle.bit_packing.specs.Bytes.{shorts}
-use Rattle.encodings.specs.Plain.{values_form, is_values_form, form_of, at_places}
+use Rattle.encodings.specs.Plain.{values_form, is_values_form, form_of, cells_at}
 use Rattle.encodings.specs.Numbers.{count_of, short_bytes, word_bytes}
 
 abbrev pub entry_bytes : ℕ → List ℕ → List ℕ
@@ -35,13 +35,13 @@ abbrev pub codes_in : List (List ℕ) → List ℕ
 codes_in codes = map (from_le_bytes w16) codes
 
 abbrev pub dictionary_body : ColType → List Value → List ℕ → List ℕ → List ℕ
-dictionary_body col_type cells places codes =
-    (word_bytes (length places) ++ form_of col_type (at_places cells places)) ++ flat_map short_bytes codes
+dictionary_body col_type cells entry_rows codes =
+    (word_bytes (length entry_rows) ++ form_of col_type (cells_at cells entry_rows)) ++ flat_map short_bytes codes
 
--- the cells at these places ascend, and each cell is the one that its code tells
-pub record AreEntries (cells : List Value) (places : List ℕ) (codes : List ℕ) : Type 0 where
-  pub within : list_all (λ place. nat_lt place (length cells)) places ≡ true
-  pub few : length places ≤ length cells
-  pub ascending : is_ascending value_cmp (at_places cells places) ≡ true
-  pub codes_within : list_all (λ code. nat_lt code (length places)) codes ≡ true
-  pub cells_are : at_places (at_places cells places) codes ≡ cells
+-- the cells in these rows ascend, and each cell is the entry of its code
+pub record AreEntries (cells : List Value) (entry_rows : List ℕ) (codes : List ℕ) : Type 0 where
+  pub within : list_all (λ row. nat_lt row (length cells)) entry_rows ≡ true
+  pub few : length entry_rows ≤ length cells
+  pub ascending : is_ascending value_cmp (cells_at cells entry_rows) ≡ true
+  pub codes_within : list_all (λ code. nat_lt code (length entry_rows)) codes ≡ true
+  pub cells_are : cells_at (cells_at cells entry_rows) codes ≡ cells

@@ -9,7 +9,7 @@ use Rattle.encodings.specs.Plain.{is_values_form}
 use Rattle.encodings.specs.Dictionary.{entries_of, codes_of}
 use Rattle.bit_packing.specs.Bytes.{shorts}
 
--- the entries in ascending order, and for each row the place of its entry
+-- the entries in ascending order, and for each row the code of its entry
 pub record DictionarySpec : Type 0 where
   pub entries : List Value
   pub codes : List ℕ

@@ -1,4 +1,4 @@
--- What is written of some rows of a column: a block that stands for them, with no entry without a use and the longest runs.
+-- What is written of some rows of a column: a block that encodes them, with no entry without a use and the longest runs.
 use Rattle.std.specs.Prelude.{◌≡◌, ℕ, ◌-◌, Bool, true, List, ◌++◌, length, map}
 use Rattle.std.specs.List.{list_all, list_any, range_with_len}
 use Rattle.meaning.specs.declared.value.ColType.{ColType}
@@ -36,7 +36,7 @@ IsTightBody kind.Dict col_type cells body =
 IsTightBody kind.Runs col_type cells body = are_unequal_neighbours (run_values col_type body) ≡ true
 IsTightBody kind.Frame col_type cells body = Unit {0}
 
--- bytes stand for the cells
+-- bytes encode the cells
 pub record IsBodyOf (k : Kind) (col_type : ColType) (cells : List Value) (body : List ℕ) : Type 0 where
   pub is : is_body k col_type (length cells) body ≡ true
   pub cells_are : body_cells k col_type (length cells) body ≡ cells

@@ -7,7 +7,7 @@ use Rattle.meaning.specs.declared.value.ColType.TheVariants as of_type
 use Rattle.encodings.specs.declared.kind.Kind.TheVariants as kind
 use Rattle.encodings.specs.declared.fault.EncodeFault.TheVariants as fault
 
--- by its number a refusal is told
+-- the number by which a refusal is reported
 abbrev pub number_of_fault : EncodeFault → ℕ
 number_of_fault fault.Memory = 0
 number_of_fault fault.FrameOnText = 1

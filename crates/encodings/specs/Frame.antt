@@ -48,9 +48,9 @@ natural (pos n) = n
 natural (negsuc n) = 0
 
 -- how far the greatest integer is from the least
-abbrev pub spread : List ℤ → ℕ
-spread [] = 0
-spread (n ∷ ns) = natural (greatest_of n ns -ℤ least_of n ns)
+abbrev pub span : List ℤ → ℕ
+span [] = 0
+span (n ∷ ns) = natural (greatest_of n ns -ℤ least_of n ns)
 
 -- the least and the greatest of some integers
 abbrev pub least_in : List ℤ → ℤ

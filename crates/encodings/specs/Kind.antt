@@ -1,16 +1,16 @@
--- The place of a kind among the four, and which may hold values of a type.
+-- The byte of each of the four kinds, and which may hold values of a type.
 use Rattle.std.specs.Prelude.{ℕ, List, [], ◌∷◌}
 use Rattle.meaning.specs.declared.value.ColType.{ColType}
 use Rattle.encodings.specs.declared.kind.Kind.{Kind}
 use Rattle.meaning.specs.declared.value.ColType.TheVariants as of_type
 use Rattle.encodings.specs.declared.kind.Kind.TheVariants as kind
 
--- the place among the kinds as they are written: Plain, Dict, Runs, Frame
-abbrev pub place_of : Kind → ℕ
-place_of kind.Plain = 0
-place_of kind.Dict = 1
-place_of kind.Runs = 2
-place_of kind.Frame = 3
+-- the byte as which a kind is written
+abbrev pub kind_code : Kind → ℕ
+kind_code kind.Plain = 0
+kind_code kind.Dict = 1
+kind_code kind.Runs = 2
+kind_code kind.Frame = 3
 
 -- the kinds that may hold values of a type
 abbrev pub kinds_for : ColType → List Kind

@@ -9,7 +9,7 @@ pub mod Encoded
 pub mod Entries
 pub mod Fault
 pub mod Frame
-pub mod Homes
+pub mod Slots
 pub mod Kind
 pub mod Numbers
 pub mod Plain

@@ -47,15 +47,15 @@ abbrev pub form_size : ColType → List Value → ℕ
 form_size of_type.Int cells = 8 * length cells
 form_size of_type.Text cells = sum_by (λ v. 4 + length (bytes v)) cells
 
--- some of the cells, by their places
-abbrev pub at_places : List Value → List ℕ → List Value
-at_places cells places = map (λ place. get_or cells place Null) places
+-- some of the cells, by their indexes
+abbrev pub cells_at : List Value → List ℕ → List Value
+cells_at cells indexes = map (λ index. get_or cells index Null) indexes
 
 abbrev pub ints_at : List ℤ → List ℕ → List ℤ
-ints_at ints places = map (λ place. get_or ints place (pos 0)) places
+ints_at ints indexes = map (λ index. get_or ints index (pos 0)) indexes
 
 abbrev pub texts_at : List (List ℕ) → List ℕ → List (List ℕ)
-texts_at texts places = map (λ place. get_or texts place []) places
+texts_at texts indexes = map (λ index. get_or texts index []) indexes
 
 abbrev pub ends_in : List (List ℕ) → List ℕ
 ends_in ends = map (from_le_bytes w32) ends

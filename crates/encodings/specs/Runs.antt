@@ -4,7 +4,7 @@ use Rattle.std.specs.List.{list_all}
 use Rattle.meaning.specs.declared.value.ColType.{ColType}
 use Rattle.meaning.specs.declared.value.Value.{Value}
 use Rattle.bit_packing.specs.Bytes.{shorts}
-use Rattle.encodings.specs.Plain.{values_form, is_values_form, form_of, at_places}
+use Rattle.encodings.specs.Plain.{values_form, is_values_form, form_of, cells_at}
 use Rattle.encodings.specs.Numbers.{count_of, short_bytes, word_bytes}
 use Rattle.meaning.specs.Order.{same_value}
 
@@ -52,12 +52,12 @@ are_unequal_neighbours (x ∷ y ∷ ys) = not (same_value x y) && are_unequal_ne
 
 abbrev pub runs_body : ColType → List Value → List ℕ → List ℕ → List ℕ
 runs_body col_type cells starts lengths =
-    word_bytes (length starts) ++ (flat_map short_bytes lengths ++ form_of col_type (at_places cells starts))
+    word_bytes (length starts) ++ (flat_map short_bytes lengths ++ form_of col_type (cells_at cells starts))
 
--- the cells are runs that begin at these places and have these lengths, and no longer ones
+-- the cells are runs that begin in these rows and have these lengths, and no longer ones
 pub record AreRuns (cells : List Value) (starts : List ℕ) (lengths : List ℕ) : Type 0 where
-  pub cells_are : repeated (zip (at_places cells starts) lengths) ≡ cells
-  pub apart : are_unequal_neighbours (at_places cells starts) ≡ true
+  pub cells_are : repeated (zip (cells_at cells starts) lengths) ≡ cells
+  pub apart : are_unequal_neighbours (cells_at cells starts) ≡ true
   pub not_empty : list_all (nat_le 1) lengths ≡ true
   pub a_length_each : length lengths ≡ length starts
   pub within : list_all (λ start. nat_lt start (length cells)) starts ≡ true

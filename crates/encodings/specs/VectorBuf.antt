@@ -20,7 +20,7 @@ abbrev pub cells_in : ColType → List ℤ → List (List ℕ) → List Value
 cells_in of_type.Int ints texts = map Int ints
 cells_in of_type.Text ints texts = map Text texts
 
--- these, and NULL where it is told
+-- these, and NULL where it is marked
 abbrev pub masked_cells : ColType → List Bool → List ℤ → List (List ℕ) → List Value
 masked_cells col_type nulls ints texts = map masked (zip nulls (cells_in col_type ints texts))
 

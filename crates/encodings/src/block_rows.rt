@@ -13,8 +13,8 @@ use crate::kind::Kind;
 use crate::plain::read::{read_plain_integers, read_plain_texts};
 use crate::runs::read::{read_integer_runs, read_text_runs};
 use crate::vector_buf::VectorBuf;
-use bit_packing::masks::read_nulls;
-use meaning::value::ColType;
+use bit_packing::read_nulls;
+use meaning::ColType;
 
 fn read_integers(kind: Kind, rows: usize, body: &[u8], from: usize, out: &mut [i64])
     requires body { is_body kind of_type.Int rows body.now ≡ true }

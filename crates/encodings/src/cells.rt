@@ -18,8 +18,8 @@ use crate::plain::check::is_values_form;
 use crate::plain::values::value_at;
 use crate::runs::check::{are_null_runs_blank, are_runs};
 use crate::runs::view::run_cell;
-use bit_packing::windows::window_at;
-use meaning::value::{ColType, ValueRef};
+use bit_packing::window_at;
+use meaning::{ColType, ValueRef};
 
 /// How many bytes the mask takes.
 pub fn mask_length(nullable: bool, rows: usize) -> usize
@@ -78,18 +78,18 @@ fn are_marked_blank(
     rows: usize,
     mask: &[u8],
     body: &[u8],
-    place: usize,
+    byte: usize,
 ) -> bool
     requires form { is_body kind col_type rows body.now ≡ true }
     requires few { rows ≤ row_group_rows }
-    requires within { place ≤ length mask.now }
+    requires within { byte ≤ length mask.now }
     requires covered { length mask.now ≡ bytes_of_bits rows }
     ensures { let cells = body_cells kind col_type rows body.now in
-        (result && are_blank_from (8 * place + 64) rows mask.now cells)
-        ≡ are_blank_from (8 * place) rows mask.now cells }
+        (result && are_blank_from (8 * byte + 64) rows mask.now cells)
+        ≡ are_blank_from (8 * byte) rows mask.now cells }
 {
-    let mut marks = window_at(mask, place);
-    let mut row = 8 * place;
+    let mut marks = window_at(mask, byte);
+    let mut row = 8 * byte;
     while marks != 0 {
         let clear = marks.trailing_zeros();
         row += clear as usize;

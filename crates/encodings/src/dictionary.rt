@@ -4,11 +4,11 @@ pub(crate) mod cell;
 pub(crate) mod check;
 pub(crate) mod encode;
 pub(crate) mod entries;
-pub(crate) mod homes;
 pub(crate) mod least_size;
 pub(crate) mod numbers;
 pub(crate) mod of_cells;
 pub(crate) mod read;
+pub(crate) mod slots;
 pub(crate) mod view;
 pub(crate) mod within;
 

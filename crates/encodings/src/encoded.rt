@@ -23,7 +23,7 @@ use crate::frame::encode::put_frame;
 use crate::kind::Kind;
 use crate::plain::encode::{put_plain_ints, put_plain_texts};
 use crate::runs::encode::{put_runs_of_ints, put_runs_of_texts};
-use bit_packing::packing::put_mask;
+use bit_packing::put_mask;
 use columns::{Column, LentCells, TextList};
 use std::alloc::{AllocError, Global};
 use std::mem::drop;
@@ -129,7 +129,7 @@ fn put_cells(
     }
 }
 
-/// The payload of some rows, in a kind that was chosen or told.
+/// The payload of some rows, in a kind that was chosen or given.
 fn payload_of(
     alloc: Global,
     choice: &Choice,

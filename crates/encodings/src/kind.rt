@@ -1,8 +1,8 @@
 //! The four kinds of block.
 ghost use Rattle.std.specs.Prelude.{◌≡◌, ◌<◌, MatchOption};
-ghost use Rattle.encodings.specs.Kind.{place_of};
+ghost use Rattle.encodings.specs.Kind.{kind_code};
 
-/// How a block's bytes stand for its values.
+/// How a block's bytes encode its values.
 #[derive(Clone, Copy, Debug, PartialEq, Eq)]
 pub enum Kind {
     /// The values one by one.
@@ -16,9 +16,9 @@ pub enum Kind {
 }
 
 impl Kind {
-    /// The kind as a byte: its place among the kinds, from 0 on.
+    /// The kind as a byte.
     pub fn byte(self) -> u8
-        ensures { result ≡ place_of self }
+        ensures { result ≡ kind_code self }
     {
         match self {
             Kind::Plain => 0,
@@ -28,9 +28,9 @@ impl Kind {
         }
     }
 
-    /// The kind that a byte stands for, if it stands for one.
+    /// The kind of a byte, if there is one.
     pub fn from_byte(byte: u8) -> Option<Kind>
-        ensures { MatchOption result (3 < byte) (λ kind. place_of kind ≡ byte) }
+        ensures { MatchOption result (3 < byte) (λ kind. kind_code kind ≡ byte) }
     {
         if byte == 0 {
             return Some(Kind::Plain);

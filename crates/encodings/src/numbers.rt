@@ -5,7 +5,7 @@ ghost use Rattle.std.specs.Simd.{first_chunks};
 ghost use Rattle.std.specs.List.{flat_map};
 ghost use Rattle.encodings.specs.Numbers.{short_bytes, word_bytes, integer_bytes};
 
-use bit_packing::numbers::word_at;
+use bit_packing::word_at;
 use std::alloc::AllocError;
 
 /// The number of entries or of runs, with which a body begins.

@@ -3,8 +3,8 @@
 pub(crate) mod check;
 pub(crate) mod encode;
 pub(crate) mod of_cells;
-pub(crate) mod places;
 pub(crate) mod read;
+pub(crate) mod seek;
 pub(crate) mod size;
 pub(crate) mod view;
 

@@ -5,7 +5,7 @@ ghost use Rattle.meaning.specs.Order.{value_in, is_null, number, bytes};
 ghost use Rattle.encodings.specs.VectorBuf.{Vector, AreParts};
 ghost use Rattle.meaning.specs.declared.value.ColType.TheVariants as of_type;
 
-use meaning::value::{ColType, ValueRef};
+use meaning::{ColType, ValueRef};
 use std::alloc::{AllocError, Global};
 use std::marker::Model;
 use std::mem::drop;
@@ -109,7 +109,7 @@ impl<'a> VectorBuf<'a> {
         &self.nulls.as_slice()[..self.len]
     }
 
-    /// The integers, with 0 in the place of NULL. None for texts.
+    /// The integers, with 0 in place of NULL. None for texts.
     pub fn ints(&self) -> Option<&[i64]>
         ensures variant { IsSome result ↔ (self.now.col_type ≡ of_type.Int) }
         ensures value { IfSome result (λ ints. ints.now ≡ map number self.now.values) }
@@ -120,7 +120,7 @@ impl<'a> VectorBuf<'a> {
         }
     }
 
-    /// The bytes of the texts, with none in the place of NULL. None for integers.
+    /// The bytes of the texts, with none in place of NULL. None for integers.
     pub fn texts(&self) -> Option<&[&'a [u8]]>
         ensures variant { IsSome result ↔ (self.now.col_type ≡ of_type.Text) }
         ensures value { IfSome result (λ texts. map (λ t. t.now) texts.now

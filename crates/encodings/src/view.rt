@@ -13,10 +13,8 @@ use crate::dictionary::view::{DictionaryView, lend_dictionary};
 use crate::kind::Kind;
 use crate::runs::view::{RunsView, lend_runs};
 use crate::vector_buf::VectorBuf;
-use bit_packing::masks::is_mask;
-use bit_packing::numbers::has_bit;
-use meaning::limits::ROW_GROUP_ROWS;
-use meaning::value::{ColType, ValueRef};
+use bit_packing::{has_bit, is_mask};
+use meaning::{ColType, ROW_GROUP_ROWS, ValueRef};
 use std::marker::Model;
 
 /// A block whose bytes were found to be well formed. The bytes stand elsewhere. Contracts see the
@@ -155,7 +153,7 @@ impl<'a> BlockView<'a> {
         }
     }
 
-    /// How the bytes stand for the values.
+    /// How the bytes encode the values.
     pub fn kind(&self) -> Kind
         ensures { result ≡ self.now.kind }
     {

@@ -2,18 +2,14 @@
 use crate::columns::{Column, batch_of};
 use crate::postfix::expression;
 use crate::rows::{COMBINATIONS, columns_from, joined_row};
-use meaning::expr::Expr;
-use meaning::outcome::{Fault, Outcome, Truth};
-use meaning::value::Value;
-use primitives::evaluation::eval_vec;
-use row_evaluation::eval::eval_row;
+use meaning::{Expr, Fault, Outcome, Truth, Value};
+use primitives::eval_vec;
+use row_evaluation::eval_row;
 use std::alloc::{AllocError, Global};
 use std::fmt::Write;
 use std::mem::drop;
-use vector_operators::fault::Fault1;
-use vectors::batch::Batch;
-use vectors::selection::Selection;
-use vectors::vector::Vector;
+use vector_operators::Fault1;
+use vectors::{Batch, Selection, Vector};
 
 const MOST_ROWS: usize = 4_096;
 
@@ -227,9 +223,9 @@ fn faults_in(outcomes: &[Outcome]) -> usize {
         .count()
 }
 
-fn tell_outcomes(
+fn show_outcomes(
     alloc: Global,
-    told: &mut String,
+    shown: &mut String,
     words: &[&str],
     expr: &Expr,
     outcomes: &[Outcome],
@@ -237,40 +233,40 @@ fn tell_outcomes(
     for word in words {
         let rows = word.parse::<usize>().unwrap_or(0).min(MOST_ROWS);
         if !agrees_in(alloc, expr, rows, outcomes)? {
-            writeln!(told, "differs in vectors of {rows}")?;
+            writeln!(shown, "differs in vectors of {rows}")?;
         }
     }
-    writeln!(told, "{} faults", faults_in(outcomes))
+    writeln!(shown, "{} faults", faults_in(outcomes))
 }
 
-fn tell_expression(
+fn show_expression(
     alloc: Global,
-    told: &mut String,
+    shown: &mut String,
     words: &[&str],
     expr: &Expr,
 ) -> Result<(), AllocError> {
     let outcomes = outcomes_of(alloc, expr)?;
-    tell_outcomes(alloc, told, words, expr, outcomes.as_slice())
+    show_outcomes(alloc, shown, words, expr, outcomes.as_slice())
 }
 
-fn tell_line(
+fn show_line(
     alloc: Global,
-    told: &mut String,
+    shown: &mut String,
     words: &[&str],
     line: &str,
 ) -> Result<(), AllocError> {
     let expr = expression(alloc, line)?;
-    let result = tell_expression(alloc, told, words, &expr);
+    let result = show_expression(alloc, shown, words, &expr);
     drop(expr);
     result
 }
 
 /// For each expression on how many combinations it faults, and in vectors of which of these lengths
 /// it gives something else than evaluation does.
-pub fn tell(alloc: Global, words: &[&str], body: &str) -> Result<String, AllocError> {
-    let mut told = String::new(alloc);
+pub fn show(alloc: Global, words: &[&str], body: &str) -> Result<String, AllocError> {
+    let mut shown = String::new(alloc);
     for line in body.lines() {
-        tell_line(alloc, &mut told, words, line)?;
+        show_line(alloc, &mut shown, words, line)?;
     }
-    Ok(told)
+    Ok(shown)
 }

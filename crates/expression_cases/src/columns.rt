@@ -1,19 +1,17 @@
 //! Columns of a case, and the batch of them.
 ghost use Rattle.std.specs.Prelude.{◌≡◌, IfOk};
 
-use meaning::value::ValueRef;
+use meaning::ValueRef;
 use std::alloc::{AllocError, Global};
 use std::mem::drop;
-use vectors::batch::{Batch, BatchColumn, Place};
-use vectors::ints::{IntCells, Ints};
-use vectors::nulls::Nulls;
-use vectors::texts::{TextCells, Texts};
-use vectors::vector::Vector;
+use vectors::{
+    Batch, BatchColumn, ColumnReference, IntCells, Ints, Nulls, TextCells, Texts, Vector,
+};
 
 /// The values of a column: of its two lists of cells it reads the one of its type.
 #[derive(Drop)]
 pub struct Column<'a> {
-    pub place: Place,
+    pub reference: ColumnReference,
     pub is_text: bool,
     pub nulls: Vec<bool>,
     pub ints: Vec<i64>,
@@ -21,9 +19,9 @@ pub struct Column<'a> {
 }
 
 impl<'a> Column<'a> {
-    pub fn new(alloc: Global, place: Place, is_text: bool) -> Column<'a> {
+    pub fn new(alloc: Global, reference: ColumnReference, is_text: bool) -> Column<'a> {
         Column {
-            place,
+            reference,
             is_text,
             nulls: Vec::new(alloc),
             ints: Vec::new(alloc),
@@ -69,9 +67,13 @@ fn lanes_of<'c>(column: &'c Column<'_>) -> Option<Vector<'c>> {
 }
 
 /// Puts a column there, unless it has another number of lanes than the batch has rows.
-fn push<'c>(batch: &mut Batch<'c>, place: Place, lanes: Vector<'c>) -> Result<(), AllocError> {
+fn push<'c>(
+    batch: &mut Batch<'c>,
+    reference: ColumnReference,
+    lanes: Vector<'c>,
+) -> Result<(), AllocError> {
     if lanes.len() == batch.rows() {
-        return batch.push(BatchColumn { place, lanes });
+        return batch.push(BatchColumn { reference, lanes });
     }
     drop(lanes);
     Ok(())
@@ -86,7 +88,7 @@ pub fn batch_of<'c>(
     let mut batch = Batch::new(alloc, rows);
     for column in columns {
         if let Some(lanes) = lanes_of(column) {
-            push(&mut batch, column.place, lanes)?;
+            push(&mut batch, column.reference, lanes)?;
         }
     }
     Ok(batch)

@@ -1,17 +1,13 @@
 //! Expressions over the rows of a case, one after the other with the same fault.
 use crate::columns::{Column, batch_of};
-use crate::postfix::{expression, place_of, quoted};
-use meaning::expr::Expr;
-use meaning::outcome::Truth;
-use meaning::value::ValueRef;
-use primitives::evaluation::eval_vec;
+use crate::postfix::{expression, quoted, reference_of};
+use meaning::{Expr, Truth, ValueRef};
+use primitives::eval_vec;
 use std::alloc::{AllocError, Global};
 use std::fmt::Write;
 use std::mem::drop;
-use vector_operators::fault::Fault1;
-use vectors::batch::Batch;
-use vectors::selection::Selection;
-use vectors::vector::Vector;
+use vector_operators::Fault1;
+use vectors::{Batch, Selection, Vector};
 
 const MOST_ROWS: usize = 4_096;
 
@@ -23,34 +19,34 @@ fn truth_word(truth: Truth) -> &'static str {
     }
 }
 
-fn tell_int(told: &mut String, int: Option<i64>) -> Result<(), AllocError> {
+fn show_int(shown: &mut String, int: Option<i64>) -> Result<(), AllocError> {
     match int {
-        None => told.push_str("\\N "),
-        Some(int) => write!(told, "{int} "),
+        None => shown.push_str("\\N "),
+        Some(int) => write!(shown, "{int} "),
     }
 }
 
-fn tell_text(told: &mut String, text: Option<&[u8]>) -> Result<(), AllocError> {
+fn show_text(shown: &mut String, text: Option<&[u8]>) -> Result<(), AllocError> {
     match text {
-        None => told.push_str("\\N "),
-        Some(text) => write!(told, "'{}' ", std::str::from_utf8(text).unwrap_or("?")),
+        None => shown.push_str("\\N "),
+        Some(text) => write!(shown, "'{}' ", std::str::from_utf8(text).unwrap_or("?")),
     }
 }
 
-fn tell_lane(told: &mut String, lanes: &Vector<'_>, lane: usize) -> Result<(), AllocError> {
+fn show_lane(shown: &mut String, lanes: &Vector<'_>, lane: usize) -> Result<(), AllocError> {
     match lanes {
-        Vector::Ints(ints) if lane < ints.len() => tell_int(told, ints.get(lane)),
-        Vector::Texts(texts) if lane < texts.len() => tell_text(told, texts.get(lane)),
+        Vector::Ints(ints) if lane < ints.len() => show_int(shown, ints.get(lane)),
+        Vector::Texts(texts) if lane < texts.len() => show_text(shown, texts.get(lane)),
         Vector::Truths(truths) if lane < truths.len() => {
-            write!(told, "{} ", truth_word(truths.get(lane)))
+            write!(shown, "{} ", truth_word(truths.get(lane)))
         }
-        _ => told.push_str("(no lane) "),
+        _ => shown.push_str("(no lane) "),
     }
 }
 
 /// The selected lanes before the fault.
-fn tell_lanes(
-    told: &mut String,
+fn show_lanes(
+    shown: &mut String,
     lanes: &Vector<'_>,
     mask: &[bool],
     fault: &Fault1,
@@ -61,62 +57,62 @@ fn tell_lanes(
     };
     for (lane, is_selected) in mask.iter().enumerate() {
         if *is_selected && lane < end {
-            tell_lane(told, lanes, lane)?;
+            show_lane(shown, lanes, lane)?;
         }
     }
     Ok(())
 }
 
-fn tell_fault(told: &mut String, fault: &Fault1) -> Result<(), AllocError> {
+fn show_fault(shown: &mut String, fault: &Fault1) -> Result<(), AllocError> {
     match fault.held {
-        None => told.push_str("no fault\n"),
-        Some(held) => writeln!(told, "fault {} at {}", held.fault.code(), held.position),
+        None => shown.push_str("no fault\n"),
+        Some(held) => writeln!(shown, "fault {} at {}", held.fault.code(), held.position),
     }
 }
 
-fn tell_given(
+fn show_given(
     alloc: Global,
-    told: &mut String,
+    shown: &mut String,
     expr: &Expr,
     batch: &Batch<'_>,
     selection: &Selection,
     fault: &mut Fault1,
 ) -> Result<(), AllocError> {
     if selection.below() != batch.rows() {
-        return told.push_str("(another number of rows)\n");
+        return shown.push_str("(another number of rows)\n");
     }
     let mask = selection.mask(alloc)?;
     let lanes = eval_vec(alloc, expr, batch, selection, fault)?;
-    tell_lanes(told, &lanes, mask.as_slice(), fault)?;
-    tell_fault(told, fault)
+    show_lanes(shown, &lanes, mask.as_slice(), fault)?;
+    show_fault(shown, fault)
 }
 
-fn tell_expression(
+fn show_expression(
     alloc: Global,
-    told: &mut String,
+    shown: &mut String,
     line: &str,
     batch: &Batch<'_>,
     selection: &Selection,
     fault: &mut Fault1,
 ) -> Result<(), AllocError> {
     let expr = expression(alloc, line)?;
-    let result = tell_given(alloc, told, &expr, batch, selection, fault);
+    let result = show_given(alloc, shown, &expr, batch, selection, fault);
     drop(expr);
     result
 }
 
-fn select(selection: &mut Selection, places: &str) {
+fn select(selection: &mut Selection, positions: &str) {
     selection.reset();
-    selection.narrow(|place| {
-        places.split(' ').any(|word| word.parse::<u32>().is_ok_and(|other| other == place))
+    selection.narrow(|position| {
+        positions.split(' ').any(|word| word.parse::<u32>().is_ok_and(|other| other == position))
     });
 }
 
-/// `fresh` forgets the fault, `at PLACES` selects places, `at all` all of them, and other lines are
-/// expressions.
+/// `fresh` forgets the fault, `at POSITIONS` selects positions, `at all` all of them, and other
+/// lines are expressions.
 fn take_line(
     alloc: Global,
-    told: &mut String,
+    shown: &mut String,
     line: &str,
     batch: &Batch<'_>,
     selection: &mut Selection,
@@ -128,21 +124,21 @@ fn take_line(
             selection.reset();
             Ok(())
         }
-        Some(("at", places)) => {
-            select(selection, places);
+        Some(("at", positions)) => {
+            select(selection, positions);
             Ok(())
         }
         None if line == "fresh" => {
             *fault = Fault1::new();
             Ok(())
         }
-        _ => tell_expression(alloc, told, line, batch, selection, fault),
+        _ => show_expression(alloc, shown, line, batch, selection, fault),
     }
 }
 
-fn tell_lines(
+fn show_lines(
     alloc: Global,
-    told: &mut String,
+    shown: &mut String,
     body: &str,
     batch: &Batch<'_>,
 ) -> Result<(), AllocError> {
@@ -150,7 +146,7 @@ fn tell_lines(
     let mut selection = Selection::all(alloc, rows)?;
     let mut fault = Fault1::new();
     for line in body.lines() {
-        take_line(alloc, told, line, batch, &mut selection, &mut fault)?;
+        take_line(alloc, shown, line, batch, &mut selection, &mut fault)?;
     }
     Ok(())
 }
@@ -195,32 +191,32 @@ fn push_rows<'a>(columns: &mut [Column<'a>], body: &'a str) -> Result<usize, All
 fn columns_of<'a>(alloc: Global, words: &[&str]) -> Result<Vec<Column<'a>>, AllocError> {
     let mut columns = Vec::new(alloc);
     for word in words {
-        let (place, kind) = word.split_once(':').unwrap_or((word, "int"));
-        if let Some(place) = place_of(place) {
-            columns.push(Column::new(alloc, place, kind == "text"))?;
+        let (name, kind) = word.split_once(':').unwrap_or((word, "int"));
+        if let Some(reference) = reference_of(name) {
+            columns.push(Column::new(alloc, reference, kind == "text"))?;
         }
     }
     Ok(columns)
 }
 
-fn tell_over(
+fn show_over(
     alloc: Global,
-    told: &mut String,
+    shown: &mut String,
     columns: &[Column<'_>],
     rows: usize,
     body: &str,
 ) -> Result<(), AllocError> {
     let batch = batch_of(alloc, columns, rows)?;
-    let result = tell_lines(alloc, told, body, &batch);
+    let result = show_lines(alloc, shown, body, &batch);
     drop(batch);
     result
 }
 
 /// For each expression its selected lanes before the fault that is then held, and that fault.
-pub fn tell(alloc: Global, words: &[&str], body: &str) -> Result<String, AllocError> {
-    let mut told = String::new(alloc);
+pub fn show(alloc: Global, words: &[&str], body: &str) -> Result<String, AllocError> {
+    let mut shown = String::new(alloc);
     let mut columns = columns_of(alloc, words)?;
     let rows = push_rows(columns.as_mut_slice(), body)?;
-    tell_over(alloc, &mut told, columns.as_slice(), rows, body)?;
-    Ok(told)
+    show_over(alloc, &mut shown, columns.as_slice(), rows, body)?;
+    Ok(shown)
 }

@@ -5,19 +5,19 @@
 mod agreeing;
 mod columns;
 mod evaluating;
-pub mod postfix;
+mod postfix;
 mod rows;
 
 use std::alloc::{AllocError, Global};
 
-/// What the expressions of the lines behind a case's rows give on these. The words are the places
-/// of its columns.
-pub fn tell(alloc: Global, words: &[&str], body: &str) -> Result<String, AllocError> {
-    evaluating::tell(alloc, words, body)
+/// What the expressions of the lines behind a case's rows give on these. The words name
+/// its columns.
+pub fn show(alloc: Global, words: &[&str], body: &str) -> Result<String, AllocError> {
+    evaluating::show(alloc, words, body)
 }
 
 /// Whether each line's expression gives, in vectors of these lengths, what evaluation gives on each
 /// row.
-pub fn tell_agreement(alloc: Global, words: &[&str], body: &str) -> Result<String, AllocError> {
-    agreeing::tell(alloc, words, body)
+pub fn show_agreement(alloc: Global, words: &[&str], body: &str) -> Result<String, AllocError> {
+    agreeing::show(alloc, words, body)
 }

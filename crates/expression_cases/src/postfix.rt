@@ -1,12 +1,8 @@
 //! Expressions in postfix: `c0 2 *` is the column 0 times two.
-use meaning::boxed::Boxed;
-use meaning::expr::{ArithmeticOperator, Arm, ComparisonOperator, Expr};
-use meaning::sequence::Sequence;
-use meaning::text::Text;
-use meaning::value::Value;
+use meaning::{ArithmeticOperator, Arm, Boxed, ComparisonOperator, Expr, Sequence, Text, Value};
 use std::alloc::{AllocError, Global};
 use std::mem::drop;
-use vectors::batch::Place;
+use vectors::ColumnReference;
 
 type Built = Result<Expr, AllocError>;
 
@@ -14,36 +10,33 @@ fn number_behind(letter: char, word: &str) -> Option<usize> {
     word.strip_prefix(letter)?.parse::<usize>().ok()
 }
 
-fn join_place(word: &str) -> Option<Place> {
+fn join_reference(word: &str) -> Option<ColumnReference> {
     let (join, column) = word.strip_prefix('j')?.split_once('.')?;
     let join = join.parse::<usize>().ok()?;
     let column = column.parse::<usize>().ok()?;
-    Some(Place::Join { join, column })
+    Some(ColumnReference::Join { join, column })
 }
 
 /// `c0` is the fact's column 0, `j0.1` the column 1 of the join 0, `k0` a key, `a0` an aggregate.
-pub fn place_of(word: &str) -> Option<Place> {
+pub fn reference_of(word: &str) -> Option<ColumnReference> {
     if let Some(column) = number_behind('c', word) {
-        return Some(Place::Fact { column });
+        return Some(ColumnReference::Fact { column });
     }
     if let Some(key) = number_behind('k', word) {
-        return Some(Place::Key { key });
+        return Some(ColumnReference::Key { key });
     }
     if let Some(aggregate) = number_behind('a', word) {
-        return Some(Place::Aggregate { aggregate });
+        return Some(ColumnReference::Aggregate { aggregate });
     }
-    join_place(word)
+    join_reference(word)
 }
 
-fn column_at(place: Place) -> Expr {
-    match place {
-        Place::Fact { column } => Expr::Column(column),
-        Place::Join { join, column } => Expr::Joined {
-            join,
-            place: column,
-        },
-        Place::Key { key } => Expr::Key(key),
-        Place::Aggregate { aggregate } => Expr::Aggregate(aggregate),
+fn column_at(reference: ColumnReference) -> Expr {
+    match reference {
+        ColumnReference::Fact { column } => Expr::Column(column),
+        ColumnReference::Join { join, column } => Expr::Joined { join, column },
+        ColumnReference::Key { key } => Expr::Key(key),
+        ColumnReference::Aggregate { aggregate } => Expr::Aggregate(aggregate),
     }
 }
 
@@ -254,8 +247,8 @@ fn node(alloc: Global, stack: &mut Vec<Expr>, word: &str) -> Built {
     if let Some(op) = comparison_operator(word) {
         return compare(alloc, stack, op);
     }
-    if let Some(place) = place_of(word) {
-        return Ok(column_at(place));
+    if let Some(reference) = reference_of(word) {
+        return Ok(column_at(reference));
     }
     match word.split_once(':') {
         Some((name, operand)) => with_operand(alloc, stack, name, operand),

@@ -1,11 +1,8 @@
 //! Rows with every combination of NULL, 0, 1 and 2 in three columns of integers.
 use crate::columns::Column;
-use meaning::joined_row::JoinedRow;
-use meaning::sequence::Sequence;
-use meaning::text::Text;
-use meaning::value::{Row, Value, ValueRef};
+use meaning::{JoinedRow, Row, Sequence, Text, Value, ValueRef};
 use std::alloc::{AllocError, Global};
-use vectors::batch::Place;
+use vectors::ColumnReference;
 
 /// How many combinations there are.
 pub const COMBINATIONS: usize = 64;
@@ -13,14 +10,14 @@ pub const COMBINATIONS: usize = 64;
 /// Where a column stands, and which of the three numbers of a combination its values are of.
 #[derive(Clone, Copy)]
 struct Source {
-    place: Place,
+    reference: ColumnReference,
     is_text: bool,
     digit: u32,
 }
 
-const fn drawn_from(place: Place, is_text: bool, digit: u32) -> Source {
+const fn drawn_from(reference: ColumnReference, is_text: bool, digit: u32) -> Source {
     Source {
-        place,
+        reference,
         is_text,
         digit,
     }
@@ -30,16 +27,16 @@ const fn drawn_from(place: Place, is_text: bool, digit: u32) -> Source {
 // two keys and an aggregate.
 fn sources() -> [Source; 10] {
     [
-        drawn_from(Place::Fact { column: 0 }, false, 0),
-        drawn_from(Place::Fact { column: 1 }, false, 1),
-        drawn_from(Place::Fact { column: 2 }, false, 2),
-        drawn_from(Place::Fact { column: 3 }, true, 0),
-        drawn_from(Place::Fact { column: 4 }, true, 1),
-        drawn_from(Place::Join { join: 0, column: 0 }, false, 0),
-        drawn_from(Place::Join { join: 1, column: 1 }, true, 1),
-        drawn_from(Place::Key { key: 0 }, false, 0),
-        drawn_from(Place::Key { key: 1 }, true, 1),
-        drawn_from(Place::Aggregate { aggregate: 0 }, false, 1),
+        drawn_from(ColumnReference::Fact { column: 0 }, false, 0),
+        drawn_from(ColumnReference::Fact { column: 1 }, false, 1),
+        drawn_from(ColumnReference::Fact { column: 2 }, false, 2),
+        drawn_from(ColumnReference::Fact { column: 3 }, true, 0),
+        drawn_from(ColumnReference::Fact { column: 4 }, true, 1),
+        drawn_from(ColumnReference::Join { join: 0, column: 0 }, false, 0),
+        drawn_from(ColumnReference::Join { join: 1, column: 1 }, true, 1),
+        drawn_from(ColumnReference::Key { key: 0 }, false, 0),
+        drawn_from(ColumnReference::Key { key: 1 }, true, 1),
+        drawn_from(ColumnReference::Aggregate { aggregate: 0 }, false, 1),
     ]
 }
 
@@ -67,7 +64,7 @@ fn column_of(
     first: usize,
     rows: usize,
 ) -> Result<Column<'static>, AllocError> {
-    let mut column = Column::new(alloc, source.place, source.is_text);
+    let mut column = Column::new(alloc, source.reference, source.is_text);
     for row in 0..rows {
         let combination = row.wrapping_add(first) % COMBINATIONS;
         column.push(value_in(combination, source.is_text, source.digit))?;

@@ -2,4 +2,4 @@
 pub mod Each
 pub mod Folder
 pub mod Refused
-pub mod Telling
+pub mod Lines

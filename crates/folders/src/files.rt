@@ -9,7 +9,7 @@ use crate::folder::Folder;
 use crate::paths::catalog_path;
 use crate::refusal::{Refusal, cannot_read, cannot_write};
 use fragment_file::FileFault;
-use meaning::text::Text;
+use meaning::Text;
 use std::alloc::Global;
 use std::io;
 use std::io::{ErrorKind, Read, Write};
@@ -86,7 +86,7 @@ pub fn read_catalog_file<F: Folder>(
 
 // ---- writing
 
-/// How it is told that the file of a path was not written.
+/// How it is returned that the file of a path was not written.
 fn refusal_of_device(path: &Text, error: io::Error) -> Refusal
     ensures { IsUnwritten path.now result }
 {
@@ -96,10 +96,10 @@ fn refusal_of_device(path: &Text, error: io::Error) -> Refusal
     }
 }
 
-/// How it is told that a file of columns or of a cut was not written under a path.
+/// How it is returned that a file of columns or of a cut was not written under a path.
 pub fn refusal_of_file(path: &Text, fault: FileFault) -> Refusal
     ensures memory { fault ≡ no_file.Memory → result ≡ Memory }
-    ensures told { IsUnwritten path.now result }
+    ensures returned { IsUnwritten path.now result }
 {
     match fault {
         FileFault::Memory => Refusal::Memory,

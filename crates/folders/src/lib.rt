@@ -1,12 +1,15 @@
 //! The folder of files that commands work on, and why a command is refused.
 #![tactic(auto)]
 
-pub mod files;
+mod files;
 mod folder;
-pub mod paths;
+mod paths;
 mod refusal;
-mod telling;
 
+pub use files::{
+    close_file, create_file, finish_file, open_file, put_file, read_catalog_file, read_file,
+    refusal_of_file, remove_file, try_read, write_file,
+};
 pub use folder::Folder;
-pub use refusal::{Refusal, load_refusal, refusal_of};
-pub use telling::{tell, tell_passed_over};
+pub use paths::{csv_path, cut_path, dimension_path, fragment_path};
+pub use refusal::{Refusal, cannot_read_csv, load_refusal};

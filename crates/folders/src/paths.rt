@@ -2,7 +2,7 @@
 ghost use Rattle.std.specs.Prelude.{◌≡◌, IfOk};
 ghost use Rattle.folders.specs.Folder.{path_in, csv_path, catalog_path, fragment_path, dimension_path, cut_path};
 
-use meaning::text::Text;
+use meaning::Text;
 use std::alloc::{AllocError, Global};
 
 fn path_in(alloc: Global, folder: &str, name: &str) -> Result<Text, AllocError>

@@ -1,21 +1,17 @@
 //! Why a command was refused.
 ghost use Rattle.std.specs.Prelude.{◌≡◌};
 ghost use Rattle.folders.specs.Folder.{csv_path};
-ghost use Rattle.folders.specs.Refused.{IsLoadPathless, IsPathless, IsToldAs, IsUnread, IsUnwritten, load_refusal, of_catalog, of_cut, of_file, of_work, refusal_of};
+ghost use Rattle.folders.specs.Refused.{IsLoadPathless, IsReturnedAs, IsUnread, IsUnwritten, load_refusal, of_catalog, of_cut, of_file, of_work};
 ghost use Rattle.folders.specs.declared.refusal.Refusal.TheVariants as refusal;
 
 use crate::paths::csv_path;
 use fragment_file::FileFault;
 use job_files::WorkFault;
 use loader::LoadFault;
-use meaning::catalog::CatalogFault;
-use meaning::cut::CutFault;
-use meaning::table::TableFault;
-use meaning::text::Text;
-use planner_expressions::fault::PlanFault;
+use meaning::{CatalogFault, CutFault, TableFault, Text};
+use planner_expressions::PlanFault;
 use sql_reader::SqlFault;
 use std::alloc::{AllocError, AllocFailed, Global};
-use whole_query::WholeFault;
 
 /// Why a command was not done.
 #[derive(Drop)]
@@ -28,7 +24,7 @@ pub enum Refusal {
     /// Standard output failed.
     CannotPrint,
     /// Standard error failed, on which a file that is passed over is named.
-    CannotTell,
+    CannotReport,
     Catalog(CatalogFault),
     Cut(CutFault),
     /// The file of the cut.
@@ -101,7 +97,7 @@ impl From<WorkFault> for Refusal {
 }
 
 /// A table's CSV file cannot be read.
-fn cannot_read_csv(alloc: Global, folder: &str, table: &str) -> Refusal
+pub fn cannot_read_csv(alloc: Global, folder: &str, table: &str) -> Refusal
     ensures { IsUnread (csv_path folder.now table.now) result }
 {
     match csv_path(alloc, folder, table) {
@@ -130,31 +126,14 @@ pub fn cannot_write(path: &Text) -> Refusal
     }
 }
 
-/// How it is told that a table of a folder was not loaded.
+/// The refusal of a command by which a table of a folder was not loaded.
 pub fn load_refusal(alloc: Global, folder: &str, table: &str, fault: LoadFault) -> Refusal
-    ensures told { IsToldAs (load_refusal folder.now table.now fault) result }
+    ensures returned { IsReturnedAs (load_refusal folder.now table.now fault) result }
     ensures exact { IsLoadPathless fault → result ≡ load_refusal folder.now table.now fault }
 {
     match fault {
         LoadFault::Memory => Refusal::Memory,
         LoadFault::Table(fault) => Refusal::Load(fault),
         LoadFault::Device => cannot_read_csv(alloc, folder, table),
-    }
-}
-
-/// How it is told that a query over the files of a folder was not answered.
-pub fn refusal_of(alloc: Global, folder: &str, fault: WholeFault) -> Refusal
-    ensures told { IsToldAs (refusal_of folder.now fault) result }
-    ensures exact { IsPathless fault → result ≡ refusal_of folder.now fault }
-{
-    match fault {
-        WholeFault::Memory => Refusal::Memory,
-        WholeFault::Catalog(fault) => Refusal::Catalog(fault),
-        WholeFault::Sql(fault) => Refusal::Sql(fault),
-        WholeFault::Plan(fault) => Refusal::Plan(fault),
-        WholeFault::MissingCsv(table) => cannot_read_csv(alloc, folder, table.as_str()),
-        WholeFault::Load(fault) => Refusal::Load(fault),
-        WholeFault::VectorLength => Refusal::Work(WorkFault::VectorLength),
-        WholeFault::Writer => Refusal::CannotPrint,
     }
 }

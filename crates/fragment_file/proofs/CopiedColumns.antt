@@ -95,7 +95,7 @@ all_read b room sound enough =
 
 -- ---- a column
 
--- the values of the column at a place in one row group
+-- the values of a column in one row group
 abbrev in_group : ℕ → List Block → List Value
 in_group j g = values_of (get_or g j no_block)
 
@@ -126,10 +126,10 @@ numbered cs = zip (range_with_len 0 (length cs)) cs
 
 numbered_at : (cs : List Column) (j : ℕ) (d : Column) → j < length cs → (j < length (numbered cs)) × (get_or (numbered cs) j (0, d) ≡ (j, get_or cs j d))
 numbered_at cs j d lt =
-    let places = length-range_with_len 0 (length cs) in
+    let counted = length-range_with_len 0 (length cs) in
     let zipped = length-zip (range_with_len 0 (length cs)) cs in
-    let below : j < length (numbered cs) = omega (arith, lt, places, zipped) in
-    let pair = get_or-zip (range_with_len 0 (length cs)) cs j (0, d) (omega (arith, lt, places)) lt in
+    let below : j < length (numbered cs) = omega (arith, lt, counted, zipped) in
+    let pair = get_or-zip (range_with_len 0 (length cs)) cs j (0, d) (omega (arith, lt, counted)) lt in
     (below, pair ∙ ap (λ (i : ℕ). (i, get_or cs j d)) (get_or-range_with_len 0 (length cs) j 0 lt ∙ omega arith))
 
 pub column_more : (f : FragmentSpec) (j : ℕ) (d : Column) (old new : List ColumnSpec) (c : ColumnSpec) → j < length f.header.columns → old ≡ map (column_in f.groups) (take j (numbered f.header.columns))
@@ -143,6 +143,6 @@ column_more f j d old new c lt so_far is more =
 
 pub columns_are_all : (f : FragmentSpec) (j : ℕ) (cs : List ColumnSpec) → length f.header.columns ≤ j → cs ≡ map (column_in f.groups) (take j (numbered f.header.columns)) → cs ≡ columns_in f
 columns_are_all f j cs end so_far =
-    let places = length-range_with_len 0 (length f.header.columns) in
+    let counted = length-range_with_len 0 (length f.header.columns) in
     let zipped = length-zip (range_with_len 0 (length f.header.columns)) f.header.columns in
-    so_far ∙ ap (map (column_in f.groups)) (take_all j (numbered f.header.columns) (omega (arith, end, places, zipped)))
+    so_far ∙ ap (map (column_in f.groups)) (take_all j (numbered f.header.columns) (omega (arith, end, counted, zipped)))

@@ -8,7 +8,7 @@ use Rattle.meaning.specs.Limits.{row_group_rows}
 use Rattle.encodings.specs.declared.kind.Kind.{Kind}
 use Rattle.encodings.specs.declared.kind.Kind.TheVariants as kind
 use Rattle.encodings.specs.Block.{Block, is_block}
-use Rattle.encodings.specs.Kind.{place_of}
+use Rattle.encodings.specs.Kind.{kind_code}
 use Rattle.fragment_file.specs.declared.fault.FileFault.TheVariants as refusal
 use Rattle.wire.specs.Reading.{◌>>=◌, bytes_at, number_at}
 use Rattle.fragment_file.specs.Fragment.{IsBlockOf, AreBlocks, AreGroups, group_sizes, block_bytes, group_bytes}
@@ -27,25 +27,25 @@ some k = Some k
 some_is : (x y : Kind) → some x ≡ some y → x ≡ y
 some_is x y e = cc
 
-kind_case : (b : Bool) (n c : ℕ) → (b ≡ true → n ≡ c) → (x : Kind) (more : Option Kind) (y : Kind) → place_of x ≡ c → (more ≡ Some y → place_of y ≡ n)
-    → cond b (Some x) more ≡ Some y → place_of y ≡ n
-kind_case true n c is x more y same next e = ap place_of (sym (some_is x y e)) ∙ same ∙ sym (is refl)
+kind_case : (b : Bool) (n c : ℕ) → (b ≡ true → n ≡ c) → (x : Kind) (more : Option Kind) (y : Kind) → kind_code x ≡ c → (more ≡ Some y → kind_code y ≡ n)
+    → cond b (Some x) more ≡ Some y → kind_code y ≡ n
+kind_case true n c is x more y same next e = ap kind_code (sym (some_is x y e)) ∙ same ∙ sym (is refl)
 kind_case false n c is x more y same next e = next e
 
-kind_from : (n : ℕ) (k : Kind) → kind_of n ≡ Some k → place_of k ≡ n
+kind_from : (n : ℕ) (k : Kind) → kind_of n ≡ Some k → kind_code k ≡ n
 kind_from n k e =
     kind_case (eqb n 0) n 0 (eqb-true n 0) kind.Plain _ k refl
     (kind_case (eqb n 1) n 1 (eqb-true n 1) kind.Dict _ k refl
     (kind_case (eqb n 2) n 2 (eqb-true n 2) kind.Runs _ k refl
     (kind_case (eqb n 3) n 3 (eqb-true n 3) kind.Frame _ k refl (λ wrong. absurd cc)))) e
 
-kind_again : (k : Kind) → kind_of (place_of k) ≡ Some k
+kind_again : (k : Kind) → kind_of (kind_code k) ≡ Some k
 kind_again kind.Plain = refl
 kind_again kind.Dict = refl
 kind_again kind.Runs = refl
 kind_again kind.Frame = refl
 
-kind_fits : (k : Kind) → place_of k < 256
+kind_fits : (k : Kind) → kind_code k < 256
 kind_fits kind.Plain = omega arith
 kind_fits kind.Dict = omega arith
 kind_fits kind.Runs = omega arith
@@ -90,10 +90,10 @@ block_takes group column c rows bytes p fits e =
     let payload = bytes_take n.0.0 n.0.1 t.0.0 t.0.1 count.0.rest_fits t.1 in
     let len = payload.1 in
     let below = count.1 in
-    let code_is : Takes bytes (number_bytes 1 (place_of k.0)) a.0.1 = subst (λ (x : ℕ). Takes bytes (number_bytes 1 x) a.0.1) (sym (kind_from a.0.0 k.0 k.1)) code.0 in
+    let code_is : Takes bytes (number_bytes 1 (kind_code k.0)) a.0.1 = subst (λ (x : ℕ). Takes bytes (number_bytes 1 x) a.0.1) (sym (kind_from a.0.0 k.0 k.1)) code.0 in
     let count_is : Takes a.0.1 (number_bytes 4 (length t.0.0)) n.0.1 = subst (λ (x : ℕ). Takes a.0.1 (number_bytes 4 x) n.0.1) (sym len) count.0 in
-    let one = Takes-then bytes (number_bytes 1 (place_of k.0)) a.0.1 (number_bytes 4 (length t.0.0)) n.0.1 code_is count_is in
-    let two = Takes-then bytes (number_bytes 1 (place_of k.0) ++ number_bytes 4 (length t.0.0)) n.0.1 t.0.0 t.0.1 one payload.0 in
+    let one = Takes-then bytes (number_bytes 1 (kind_code k.0)) a.0.1 (number_bytes 4 (length t.0.0)) n.0.1 code_is count_is in
+    let two = Takes-then bytes (number_bytes 1 (kind_code k.0) ++ number_bytes 4 (length t.0.0)) n.0.1 t.0.0 t.0.1 one payload.0 in
     let is : IsBlockOf c rows (made_of k.0 c rows t.0.0) = record { col_type = refl; nullable = refl; rows = refl; sound = k.2; short = omega (arith, len, below) } in
     let made : Takes bytes (block_bytes s.0) t.0.1 × IsBlockOf c rows s.0 = subst (λ (b : Block). Takes bytes (block_bytes b) t.0.1 × IsBlockOf c rows b) k.3 (two, is) in
     let pair : Block × List ℕ = (s.0, t.0.1) in
@@ -102,12 +102,12 @@ block_takes group column c rows bytes p fits e =
 block_again : (group column : ℕ) (c : Column) (rows : ℕ) (b : Block) (rest : List ℕ) → IsBlockOf c rows b → block_at group column c rows (block_bytes b ++ rest) ≡ Ok (b, rest)
 unfolding block_at block_bytes
 block_again group column c rows b rest is =
-    let code = number_bytes 1 (place_of b.kind) in
+    let code = number_bytes 1 (kind_code b.kind) in
     let count = number_bytes 4 (length b.payload) in
     let short = is.short in
     ap (block_at group column c rows) (append_assoc (code ++ count) b.payload rest ∙ append_assoc code count (b.payload ++ rest))
     ∙ rw (
-      number_again 1 (place_of b.kind) (count ++ (b.payload ++ rest)) (kind_fits b.kind),
+      number_again 1 (kind_code b.kind) (count ++ (b.payload ++ rest)) (kind_fits b.kind),
       number_again 4 (length b.payload) (b.payload ++ rest) short,
       bytes_again (length b.payload) b.payload rest refl,
       kind_again b.kind,

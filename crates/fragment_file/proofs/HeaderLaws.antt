@@ -265,11 +265,11 @@ behind_rows load table k first rows = within (nat_le rows.0 max_rows) rows >>= b
 abbrev behind_first : ℕ → List ℕ → ℕ → ℕ × List ℕ → Read FileFault Header
 behind_first load table k first = from_wire (number_at 4 first.1) >>= behind_rows load table k first.0
 
-abbrev behind_place : ℕ → List ℕ → ℕ × List ℕ → Read FileFault Header
-behind_place load table k = from_wire (number_at 8 k.1) >>= behind_first load table k.0
+abbrev behind_fragment : ℕ → List ℕ → ℕ × List ℕ → Read FileFault Header
+behind_fragment load table k = from_wire (number_at 8 k.1) >>= behind_first load table k.0
 
 abbrev behind_table : ℕ → List ℕ × List ℕ → Read FileFault Header
-behind_table load table = from_wire (number_at 4 table.1) >>= behind_place load table.0
+behind_table load table = from_wire (number_at 4 table.1) >>= behind_fragment load table.0
 
 abbrev behind_load : ℕ × List ℕ → Read FileFault Header
 behind_load load = name_at load.1 >>= behind_table load.0
@@ -279,7 +279,7 @@ unfolding header_at header_bytes
 header_takes bytes p fits e =
     let a = read_ok (number_at 8 bytes) behind_load p e in
     let b = bind_ok (name_at a.0.1) (behind_table a.0.0) p a.2 in
-    let c = read_ok (number_at 4 b.0.1) (behind_place a.0.0 b.0.0) p b.2 in
+    let c = read_ok (number_at 4 b.0.1) (behind_fragment a.0.0 b.0.0) p b.2 in
     let d = read_ok (number_at 8 c.0.1) (behind_first a.0.0 b.0.0 c.0.0) p c.2 in
     let r = read_ok (number_at 4 d.0.1) (behind_rows a.0.0 b.0.0 c.0.0 d.0.0) p d.2 in
     let limit = passed (nat_le r.0.0 max_rows) refusal.Limit r.0 (behind_kept a.0.0 b.0.0 c.0.0 d.0.0) p r.2 in
@@ -288,8 +288,8 @@ header_takes bytes p fits e =
     let f = bind_ok (columns_at n.0.0 [] n.0.1) (behind_columns a.0.0 b.0.0 c.0.0 d.0.0 r.0.0) p counted.1 in
     let load = number_takes 8 bytes a.0.0 a.0.1 fits a.1 in
     let table = name_takes a.0.1 b.0 load.0.rest_fits b.1 in
-    let place = number_takes 4 b.0.1 c.0.0 c.0.1 table.0.rest_fits c.1 in
-    let first = number_takes 8 c.0.1 d.0.0 d.0.1 place.0.rest_fits d.1 in
+    let fragment = number_takes 4 b.0.1 c.0.0 c.0.1 table.0.rest_fits c.1 in
+    let first = number_takes 8 c.0.1 d.0.0 d.0.1 fragment.0.rest_fits d.1 in
     let rows = number_takes 4 d.0.1 r.0.0 r.0.1 first.0.rest_fits r.1 in
     let count = number_takes 2 r.0.1 n.0.0 n.0.1 rows.0.rest_fits n.1 in
     let columns = columns_takes n.0.0 [] n.0.1 f.0 count.0.rest_fits f.1 in
@@ -304,7 +304,7 @@ header_takes bytes p fits e =
     let t5 = t4 ++ number_bytes 4 r.0.0 in
     let t6 = t5 ++ number_bytes 2 (length f.0.0) in
     let p2 = Takes-then bytes t1 a.0.1 (name_bytes b.0.0) b.0.1 load.0 table.0 in
-    let p3 = Takes-then bytes t2 b.0.1 (number_bytes 4 c.0.0) c.0.1 p2 place.0 in
+    let p3 = Takes-then bytes t2 b.0.1 (number_bytes 4 c.0.0) c.0.1 p2 fragment.0 in
     let p4 = Takes-then bytes t3 c.0.1 (number_bytes 8 d.0.0) d.0.1 p3 first.0 in
     let p5 = Takes-then bytes t4 d.0.1 (number_bytes 4 r.0.0) r.0.1 p4 rows.0 in
     let p6 = Takes-then bytes t5 r.0.1 (number_bytes 2 (length f.0.0)) n.0.1 p5 counted_is in
@@ -317,7 +317,7 @@ header_takes bytes p fits e =
     let header : IsHeader (header_of a.0.0 b.0.0 c.0.0 d.0.0 r.0.0 f.0.0) = record {
       load = load.1;
       table = table.1;
-      fragment = place.1;
+      fragment = fragment.1;
       first_row = first.1;
       rows = leb-true _ _ limit.0;
       some = omega (arith, some, length_is);
@@ -333,7 +333,7 @@ unfolding header_at header_bytes
 header_again h rest is =
     let load = number_bytes 8 h.load in
     let table = name_bytes h.table in
-    let place = number_bytes 4 h.fragment in
+    let fragment = number_bytes 4 h.fragment in
     let first = number_bytes 8 h.first_row in
     let rows = number_bytes 4 h.rows in
     let count = number_bytes 2 (length h.columns) in
@@ -342,10 +342,10 @@ header_again h rest is =
     let many = is.rows in
     let counted = both _ _ (le-leb 1 (length h.columns) is.some) (le-leb (length h.columns) max_columns few) in
     let new = new_from_apart [] h.columns is.distinct (recursion_from_All (λ c. IsName c.name) h.columns is.columns) in
-    ap header_at (append_assoc (load ++ table ++ place ++ first ++ rows ++ count) columns rest ∙ append_assoc (load ++ table ++ place ++ first ++ rows) count (columns ++ rest) ∙ append_assoc (load ++ table ++ place ++ first) rows (count ++ (columns ++ rest)) ∙ append_assoc (load ++ table ++ place) first (rows ++ (count ++ (columns ++ rest))) ∙ append_assoc (load ++ table) place (first ++ (rows ++ (count ++ (columns ++ rest)))) ∙ append_assoc load table (place ++ (first ++ (rows ++ (count ++ (columns ++ rest))))))
+    ap header_at (append_assoc (load ++ table ++ fragment ++ first ++ rows ++ count) columns rest ∙ append_assoc (load ++ table ++ fragment ++ first ++ rows) count (columns ++ rest) ∙ append_assoc (load ++ table ++ fragment ++ first) rows (count ++ (columns ++ rest)) ∙ append_assoc (load ++ table ++ fragment) first (rows ++ (count ++ (columns ++ rest))) ∙ append_assoc (load ++ table) fragment (first ++ (rows ++ (count ++ (columns ++ rest)))) ∙ append_assoc load table (fragment ++ (first ++ (rows ++ (count ++ (columns ++ rest))))))
     ∙ rw (
-      number_again 8 h.load (table ++ (place ++ (first ++ (rows ++ (count ++ (columns ++ rest)))))) is.load,
-      name_again h.table (place ++ (first ++ (rows ++ (count ++ (columns ++ rest))))) is.table,
+      number_again 8 h.load (table ++ (fragment ++ (first ++ (rows ++ (count ++ (columns ++ rest)))))) is.load,
+      name_again h.table (fragment ++ (first ++ (rows ++ (count ++ (columns ++ rest))))) is.table,
       number_again 4 h.fragment (first ++ (rows ++ (count ++ (columns ++ rest)))) is.fragment,
       number_again 8 h.first_row (rows ++ (count ++ (columns ++ rest))) is.first_row,
       number_again 4 h.rows (count ++ (columns ++ rest)) (omega (arith, many)),

@@ -6,7 +6,7 @@ pub mod GroupLaws
 pub mod HeaderLaws
 pub mod Loops
 pub mod FromWire
-pub mod Places
+pub mod Locations
 pub mod ReadFaults
 pub mod RowLaws
 pub mod ShortPayloads

@@ -16,136 +16,136 @@ use Rattle.fragment_file.specs.Fragment.{fragment_magic, group_sizes}
 use Rattle.fragment_file.specs.FragmentReading.{within, formed, name_at, column_at, columns_at, header_at, is_named, kind_of, block_of, sound, block_at, blocks_at, group_at, groups_at, read_fragment}
 use Rattle.fragment_file.specs.CutFile.{cut_magic, length_at, read_cut_file}
 
-pub record Told {X : Type 0} (read : Result X FileFault) : Type 0 where
-  pub told : IfErr read IsReadFault
+pub record Returned {X : Type 0} (read : Result X FileFault) : Type 0 where
+  pub returned : IfErr read IsReadFault
 
-given : {X : Type 0} (x : X) → Told {X = X} (Ok x)
-given x = record { told = tt }
+given : {X : Type 0} (x : X) → Returned {X = X} (Ok x)
+given x = record { returned = tt }
 
-refused : {X : Type 0} (e : FileFault) → IsReadFault e → Told {X = X} (Err e)
-refused e is = record { told = is }
+refused : {X : Type 0} (e : FileFault) → IsReadFault e → Returned {X = X} (Err e)
+refused e is = record { returned = is }
 
 -- ---- steps
 
-steps : {X Y : Type 0} (r : Result X FileFault) (f : X → Result Y FileFault) → Told r → ((x : X) → Told (f x)) → Told (r >>= f)
+steps : {X Y : Type 0} (r : Result X FileFault) (f : X → Result Y FileFault) → Returned r → ((x : X) → Returned (f x)) → Returned (r >>= f)
 steps (Ok x) f p q = q x
-steps (Err e) f p q = refused e p.told
+steps (Err e) f p q = refused e p.returned
 
-wire_told : {X : Type 0} (r : Result X WireFault) → Told (from_wire r)
-wire_told (Ok x) = given x
-wire_told (Err of_wire.Magic) = refused refusal.Magic tt
-wire_told (Err of_wire.Truncated) = refused refusal.Truncated tt
-wire_told (Err of_wire.NotUtf8) = refused refusal.Header tt
-wire_told (Err of_wire.TrailingBytes) = refused refusal.TrailingBytes tt
-wire_told (Err of_wire.Seal) = refused refusal.Seal tt
+wire_returned : {X : Type 0} (r : Result X WireFault) → Returned (from_wire r)
+wire_returned (Ok x) = given x
+wire_returned (Err of_wire.Magic) = refused refusal.Magic tt
+wire_returned (Err of_wire.Truncated) = refused refusal.Truncated tt
+wire_returned (Err of_wire.NotUtf8) = refused refusal.Header tt
+wire_returned (Err of_wire.TrailingBytes) = refused refusal.TrailingBytes tt
+wire_returned (Err of_wire.Seal) = refused refusal.Seal tt
 
 -- a reader of `wire`, and what follows
-read_told : {X Y : Type 0} (r : Result X WireFault) (f : X → Result Y FileFault) → ((x : X) → Told (f x)) → Told (from_wire r >>= f)
-read_told r f q = steps (from_wire r) f (wire_told r) q
+read_returned : {X Y : Type 0} (r : Result X WireFault) (f : X → Result Y FileFault) → ((x : X) → Returned (f x)) → Returned (from_wire r >>= f)
+read_returned r f q = steps (from_wire r) f (wire_returned r) q
 
-within_told : {X : Type 0} (b : Bool) (x : X) → Told (within b x)
-within_told true x = given x
-within_told false x = refused refusal.Limit tt
+within_returned : {X : Type 0} (b : Bool) (x : X) → Returned (within b x)
+within_returned true x = given x
+within_returned false x = refused refusal.Limit tt
 
-formed_told : {X : Type 0} (b : Bool) (x : X) → Told (formed b x)
-formed_told true x = given x
-formed_told false x = refused refusal.Header tt
+formed_returned : {X : Type 0} (b : Bool) (x : X) → Returned (formed b x)
+formed_returned true x = given x
+formed_returned false x = refused refusal.Header tt
 
-one_of_two : {X : Type 0} (a b : Bool) (x y : X) → Told (cond a (Ok x) (cond b (Ok y) (Err refusal.Header)))
+one_of_two : {X : Type 0} (a b : Bool) (x y : X) → Returned (cond a (Ok x) (cond b (Ok y) (Err refusal.Header)))
 one_of_two true b x y = given x
 one_of_two false true x y = given y
 one_of_two false false x y = refused refusal.Header tt
 
-repeat_told : {X : Type 0} (part : List ℕ → Read FileFault X) → ((bytes : List ℕ) → Told (part bytes)) → (n : ℕ) (bytes : List ℕ) → Told (repeat_at part n bytes)
+repeat_returned : {X : Type 0} (part : List ℕ → Read FileFault X) → ((bytes : List ℕ) → Returned (part bytes)) → (n : ℕ) (bytes : List ℕ) → Returned (repeat_at part n bytes)
 unfolding repeat_at
-repeat_told part told zero bytes = given _
-repeat_told part told (suc n) bytes = steps _ _ (told bytes) (λ first. steps _ _ (repeat_told part told n first.1) (λ others. given _))
+repeat_returned part returned zero bytes = given _
+repeat_returned part returned (suc n) bytes = steps _ _ (returned bytes) (λ first. steps _ _ (repeat_returned part returned n first.1) (λ others. given _))
 
 -- ---- headers
 
-name_told : (bytes : List ℕ) → Told (name_at bytes)
+name_returned : (bytes : List ℕ) → Returned (name_at bytes)
 unfolding name_at
-name_told bytes =
-    read_told (number_at 2 bytes) _ (λ n. steps _ _ (within_told (nat_le 1 n.0 && nat_le n.0 max_name_bytes) n)
-    (λ n. read_told (bytes_at n.0 n.1) _ (λ name. formed_told (is_name name.0) name)))
+name_returned bytes =
+    read_returned (number_at 2 bytes) _ (λ n. steps _ _ (within_returned (nat_le 1 n.0 && nat_le n.0 max_name_bytes) n)
+    (λ n. read_returned (bytes_at n.0 n.1) _ (λ name. formed_returned (is_name name.0) name)))
 
-column_told : (earlier : List Column) (bytes : List ℕ) → Told (column_at earlier bytes)
+column_returned : (earlier : List Column) (bytes : List ℕ) → Returned (column_at earlier bytes)
 unfolding column_at
-column_told earlier bytes =
-    steps _ _ (name_told bytes) (λ name. steps _ _ (formed_told (not (is_named name.0 earlier)) name)
-    (λ name. read_told (number_at 1 name.1) _ (λ t. steps _ _ (one_of_two (t.0 == 1) (t.0 == 2) _ _)
-    (λ col_type. read_told (number_at 1 t.1) _ (λ f. steps _ _ (one_of_two (f.0 == 0) (f.0 == 1) _ _) (λ nullable. given _))))))
+column_returned earlier bytes =
+    steps _ _ (name_returned bytes) (λ name. steps _ _ (formed_returned (not (is_named name.0 earlier)) name)
+    (λ name. read_returned (number_at 1 name.1) _ (λ t. steps _ _ (one_of_two (t.0 == 1) (t.0 == 2) _ _)
+    (λ col_type. read_returned (number_at 1 t.1) _ (λ f. steps _ _ (one_of_two (f.0 == 0) (f.0 == 1) _ _) (λ nullable. given _))))))
 
-columns_told : (n : ℕ) (earlier : List Column) (bytes : List ℕ) → Told (columns_at n earlier bytes)
+columns_returned : (n : ℕ) (earlier : List Column) (bytes : List ℕ) → Returned (columns_at n earlier bytes)
 unfolding columns_at
-columns_told zero earlier bytes = given _
-columns_told (suc n) earlier bytes = steps _ _ (column_told earlier bytes) (λ c. columns_told n _ _)
+columns_returned zero earlier bytes = given _
+columns_returned (suc n) earlier bytes = steps _ _ (column_returned earlier bytes) (λ c. columns_returned n _ _)
 
-header_told : (bytes : List ℕ) → Told (header_at bytes)
+header_returned : (bytes : List ℕ) → Returned (header_at bytes)
 unfolding header_at
-header_told bytes =
-    read_told (number_at 8 bytes) _ (λ load. steps _ _ (name_told load.1) (λ table. read_told (number_at 4 table.1) _ (λ k. read_told (number_at 8 k.1) _
-    (λ first. read_told (number_at 4 first.1) _ (λ rows. steps _ _ (within_told (nat_le rows.0 max_rows) rows)
-    (λ rows. read_told (number_at 2 rows.1) _ (λ n. steps _ _ (within_told (nat_le 1 n.0 && nat_le n.0 max_columns) n)
-    (λ n. steps _ _ (columns_told n.0 [] n.1) (λ columns. given _)))))))))
+header_returned bytes =
+    read_returned (number_at 8 bytes) _ (λ load. steps _ _ (name_returned load.1) (λ table. read_returned (number_at 4 table.1) _ (λ k. read_returned (number_at 8 k.1) _
+    (λ first. read_returned (number_at 4 first.1) _ (λ rows. steps _ _ (within_returned (nat_le rows.0 max_rows) rows)
+    (λ rows. read_returned (number_at 2 rows.1) _ (λ n. steps _ _ (within_returned (nat_le 1 n.0 && nat_le n.0 max_columns) n)
+    (λ n. steps _ _ (columns_returned n.0 [] n.1) (λ columns. given _)))))))))
 
 -- ---- row groups
 
-sound_told : (group column : ℕ) (o : Option Block) → Told (sound group column o)
-sound_told group column None = refused (refusal.Block group column) tt
-sound_told group column (Some b) = given b
+sound_returned : (group column : ℕ) (o : Option Block) → Returned (sound group column o)
+sound_returned group column None = refused (refusal.Block group column) tt
+sound_returned group column (Some b) = given b
 
-block_told : (group column : ℕ) (c : Column) (rows : ℕ) (bytes : List ℕ) → Told (block_at group column c rows bytes)
+block_returned : (group column : ℕ) (c : Column) (rows : ℕ) (bytes : List ℕ) → Returned (block_at group column c rows bytes)
 unfolding block_at
-block_told group column c rows bytes =
-    read_told (number_at 1 bytes) _ (λ k. read_told (number_at 4 k.1) _ (λ n. read_told (bytes_at n.0 n.1) _
-    (λ payload. steps _ _ (sound_told group column (block_of (kind_of k.0) c rows payload.0)) (λ b. given _))))
+block_returned group column c rows bytes =
+    read_returned (number_at 1 bytes) _ (λ k. read_returned (number_at 4 k.1) _ (λ n. read_returned (bytes_at n.0 n.1) _
+    (λ payload. steps _ _ (sound_returned group column (block_of (kind_of k.0) c rows payload.0)) (λ b. given _))))
 
-blocks_told : (group column : ℕ) (cs : List Column) (rows : ℕ) (bytes : List ℕ) → Told (blocks_at group column cs rows bytes)
+blocks_returned : (group column : ℕ) (cs : List Column) (rows : ℕ) (bytes : List ℕ) → Returned (blocks_at group column cs rows bytes)
 unfolding blocks_at
-blocks_told group column [] rows bytes = given _
-blocks_told group column (c ∷ cs) rows bytes = steps _ _ (block_told group column c rows bytes) (λ b. steps _ _ (blocks_told group (suc column) cs rows b.1) (λ others. given _))
+blocks_returned group column [] rows bytes = given _
+blocks_returned group column (c ∷ cs) rows bytes = steps _ _ (block_returned group column c rows bytes) (λ b. steps _ _ (blocks_returned group (suc column) cs rows b.1) (λ others. given _))
 
-group_told : (group : ℕ) (cs : List Column) (rows : ℕ) (bytes : List ℕ) → Told (group_at group cs rows bytes)
+group_returned : (group : ℕ) (cs : List Column) (rows : ℕ) (bytes : List ℕ) → Returned (group_at group cs rows bytes)
 unfolding group_at
-group_told group cs rows bytes = read_told (number_at 4 bytes) _ (λ n. steps _ _ (formed_told (n.0 == rows) n) (λ n. blocks_told group 0 cs rows n.1))
+group_returned group cs rows bytes = read_returned (number_at 4 bytes) _ (λ n. steps _ _ (formed_returned (n.0 == rows) n) (λ n. blocks_returned group 0 cs rows n.1))
 
-groups_told : (group : ℕ) (cs : List Column) (sizes : List ℕ) (bytes : List ℕ) → Told (groups_at group cs sizes bytes)
+groups_returned : (group : ℕ) (cs : List Column) (sizes : List ℕ) (bytes : List ℕ) → Returned (groups_at group cs sizes bytes)
 unfolding groups_at
-groups_told group cs [] bytes = given _
-groups_told group cs (n ∷ sizes) bytes = steps _ _ (group_told group cs n bytes) (λ g. steps _ _ (groups_told (suc group) cs sizes g.1) (λ others. given _))
+groups_returned group cs [] bytes = given _
+groups_returned group cs (n ∷ sizes) bytes = steps _ _ (group_returned group cs n bytes) (λ g. steps _ _ (groups_returned (suc group) cs sizes g.1) (λ others. given _))
 
 -- ---- the whole
 
-pub fragment_told : (bytes : List ℕ) → Told (read_fragment bytes)
+pub fragment_returned : (bytes : List ℕ) → Returned (read_fragment bytes)
 unfolding read_fragment
-fragment_told bytes =
-    read_told (behind_magic fragment_magic bytes) _ (λ rest. steps _ _ (header_told rest) (λ header. steps _ _ (groups_told 0 header.0.columns (group_sizes header.0.rows) header.1)
-    (λ groups. read_told (bytes_at 32 groups.1) _ (λ seal. read_told (sealed_end bytes seal.0 seal.1) _ (λ end. given _)))))
+fragment_returned bytes =
+    read_returned (behind_magic fragment_magic bytes) _ (λ rest. steps _ _ (header_returned rest) (λ header. steps _ _ (groups_returned 0 header.0.columns (group_sizes header.0.rows) header.1)
+    (λ groups. read_returned (bytes_at 32 groups.1) _ (λ seal. read_returned (sealed_end bytes seal.0 seal.1) _ (λ end. given _)))))
 
-length_told : (bytes : List ℕ) → Told (length_at bytes)
+length_returned : (bytes : List ℕ) → Returned (length_at bytes)
 unfolding length_at
-length_told bytes = read_told (number_at 4 bytes) _ (λ n. within_told (nat_le n.0 max_rows) n)
+length_returned bytes = read_returned (number_at 4 bytes) _ (λ n. within_returned (nat_le n.0 max_rows) n)
 
-pub cut_told : (bytes : List ℕ) → Told (read_cut_file bytes)
+pub cut_returned : (bytes : List ℕ) → Returned (read_cut_file bytes)
 unfolding read_cut_file
-cut_told bytes =
-    read_told (behind_magic cut_magic bytes) _ (λ rest. read_told (number_at 8 rest) _ (λ load. read_told (number_at 4 load.1) _
-    (λ n. steps _ _ (within_told (nat_le 1 n.0 && nat_le n.0 max_fragments) n) (λ n. steps _ _ (repeat_told length_at length_told n.0 n.1)
-    (λ cut. read_told (bytes_at 32 cut.1) _ (λ seal. read_told (sealed_end bytes seal.0 seal.1) _ (λ end. given _)))))))
+cut_returned bytes =
+    read_returned (behind_magic cut_magic bytes) _ (λ rest. read_returned (number_at 8 rest) _ (λ load. read_returned (number_at 4 load.1) _
+    (λ n. steps _ _ (within_returned (nat_le 1 n.0 && nat_le n.0 max_fragments) n) (λ n. steps _ _ (repeat_returned length_at length_returned n.0 n.1)
+    (λ cut. read_returned (bytes_at 32 cut.1) _ (λ seal. read_returned (sealed_end bytes seal.0 seal.1) _ (λ end. given _)))))))
 
 device_or_memory : refusal.Device ≡ refusal.Memory → ⊥
 device_or_memory e = cc
 
 -- what a call gave that reads so, unless memory ran out
-pub told_by : {X Y : Type 0} (view : X → Y) (r : Result X FileFault) (read : Result Y FileFault) → GivesIfMemory refusal.Memory view r read → Told read → IfErr r IsReadFault
-told_by view (Ok x) read is told = tt
-told_by view (Err refusal.Memory) read is told = tt
-told_by view (Err refusal.Magic) read is told = tt
-told_by view (Err refusal.Truncated) read is told = tt
-told_by view (Err refusal.TrailingBytes) read is told = tt
-told_by view (Err refusal.Seal) read is told = tt
-told_by view (Err (refusal.Block group column)) read is told = tt
-told_by view (Err refusal.Header) read is told = tt
-told_by view (Err refusal.Limit) read is told = tt
-told_by view (Err refusal.Device) read is told = (subst Told (is device_or_memory) told).told
+pub returned_by : {X Y : Type 0} (view : X → Y) (r : Result X FileFault) (read : Result Y FileFault) → GivesIfMemory refusal.Memory view r read → Returned read → IfErr r IsReadFault
+returned_by view (Ok x) read is returned = tt
+returned_by view (Err refusal.Memory) read is returned = tt
+returned_by view (Err refusal.Magic) read is returned = tt
+returned_by view (Err refusal.Truncated) read is returned = tt
+returned_by view (Err refusal.TrailingBytes) read is returned = tt
+returned_by view (Err refusal.Seal) read is returned = tt
+returned_by view (Err (refusal.Block group column)) read is returned = tt
+returned_by view (Err refusal.Header) read is returned = tt
+returned_by view (Err refusal.Limit) read is returned = tt
+returned_by view (Err refusal.Device) read is returned = (subst Returned (is device_or_memory) returned).returned

@@ -40,16 +40,16 @@ some_fault : ColumnFault → Option ColumnFault
 some_fault f = Some f
 
 memory_case : (f : ColumnFault) (r : Option ColumnFault) → r ≡ None → (f ≢ column_fault.Memory → r ≡ Some f) → f ≡ column_fault.Memory
-memory_case column_fault.Memory r none told = refl
-memory_case column_fault.WrongType r none told = absurd (let h = told (λ e. cc) in cc)
-memory_case column_fault.NullNotAllowed r none told = absurd (let h = told (λ e. cc) in cc)
-memory_case column_fault.TextTooLong r none told = absurd (let h = told (λ e. cc) in cc)
+memory_case column_fault.Memory r none returned = refl
+memory_case column_fault.WrongType r none returned = absurd (let h = returned (λ e. cc) in cc)
+memory_case column_fault.NullNotAllowed r none returned = absurd (let h = returned (λ e. cc) in cc)
+memory_case column_fault.TextTooLong r none returned = absurd (let h = returned (λ e. cc) in cc)
 
 -- a value that is taken fails for memory alone
 pub only_memory : {X : Type 0} (t : ColType) (nullable : Bool) (v : Value) (r : Result X ColumnFault) → is_taken t nullable v ≡ true
     → IfErr r (λ f. f ≢ column_fault.Memory → refusal t nullable v ≡ Some f) → IfErr r (λ f. f ≡ column_fault.Memory)
-only_memory t nullable v (Ok x) e told = tt
-only_memory t nullable v (Err f) e told = memory_case f (refusal t nullable v) (not_refused t nullable v e) told
+only_memory t nullable v (Ok x) e returned = tt
+only_memory t nullable v (Err f) e returned = memory_case f (refusal t nullable v) (not_refused t nullable v e) returned
 
 -- ---- lists
 

@@ -1,7 +1,7 @@
--- The files of fragments and dimensions: what they hold, and which bytes stand for it.
+-- The files of fragments and dimensions: what they hold, and which bytes encode it.
 --
 -- A file is a header and row groups. A row group has a block for each column. One table slice may stand in many files,
--- as a block may be of any kind that fits; bytes stand for at most one.
+-- as a block may be of any kind that fits; bytes encode at most one.
 use Rattle.std.specs.Prelude.{◌≡◌, ◌≢◌, ℕ, ◌/◌, ◌%◌, ◌==◌, ◌≤◌, ◌<◌, ◌^◌, true, false, if◌then◌else◌, List, [], ◌∷◌, ◌++◌, length, map, zip, get_or, replicate, flat_map, slice_get, Some, All, AllPairs}
 use Rattle.std.specs.List.{range_with_len}
 use Rattle.wire.specs.Bytes.{number_bytes, sealed}
@@ -16,7 +16,7 @@ use Rattle.meaning.specs.Typing.{is_of_type}
 use Rattle.columns.specs.Column.{ColumnSpec}
 use Rattle.encodings.specs.declared.kind.Kind.TheVariants as kind
 use Rattle.encodings.specs.Block.{Block, is_block, values_of}
-use Rattle.encodings.specs.Kind.{place_of}
+use Rattle.encodings.specs.Kind.{kind_code}
 use Rattle.fragment_file.specs.declared.header.Header.{Header}
 use Rattle.fragment_file.specs.declared.header.Slice.{Slice}
 
@@ -85,7 +85,7 @@ pub record IsFragment (f : FragmentSpec) : Type 0 where
 abbrev pub no_block : Block
 no_block = record { kind = kind.Plain; col_type = of_type.Int; nullable = false; rows = 0; payload = [] }
 
--- the values of the column at a place, from group to group
+-- the values of a column, from group to group
 abbrev pub column_values : ℕ → List (List Block) → List Value
 column_values j groups = flat_map (λ g. values_of (get_or g j no_block)) groups
 
@@ -117,7 +117,7 @@ header_bytes h =
     ++ number_bytes 2 (length h.columns) ++ flat_map column_bytes h.columns
 
 unfoldable pub block_bytes : Block → List ℕ
-block_bytes b = number_bytes 1 (place_of b.kind) ++ number_bytes 4 (length b.payload) ++ b.payload
+block_bytes b = number_bytes 1 (kind_code b.kind) ++ number_bytes 4 (length b.payload) ++ b.payload
 
 unfoldable pub group_bytes : ℕ × List Block → List ℕ
 group_bytes g = number_bytes 4 g.0 ++ flat_map block_bytes g.1

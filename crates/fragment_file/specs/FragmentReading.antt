@@ -94,7 +94,7 @@ block_at group column c rows bytes = do
   b ← sound group column (block_of (kind_of k.0) c rows payload.0)
   Ok (b, payload.1)
 
--- the blocks of the columns from one place on
+-- the blocks of the columns from one on
 unfoldable pub blocks_at : ℕ → ℕ → List Column → ℕ → List ℕ → Read FileFault (List Block)
 blocks_at group column [] rows bytes = Ok ([], bytes)
 blocks_at group column (c ∷ columns) rows bytes = do
@@ -109,7 +109,7 @@ group_at group columns rows bytes = do
   n ← formed (n.0 == rows) n
   blocks_at group 0 columns rows n.1
 
--- row groups of these sizes, from one place on
+-- row groups of these sizes, numbered from one on
 unfoldable pub groups_at : ℕ → List Column → List ℕ → List ℕ → Read FileFault (List (List Block))
 groups_at group columns [] bytes = Ok ([], bytes)
 groups_at group columns (rows ∷ sizes) bytes = do

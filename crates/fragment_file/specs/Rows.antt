@@ -7,7 +7,7 @@ use Rattle.encodings.specs.Block.{Block, values_of}
 use Rattle.fragment_file.specs.Fragment.{FragmentSpec, IsFragment, column_values}
 use Rattle.fragment_file.specs.View.{rows_of}
 
--- the row of a row group at a place: what each block has there
+-- a row of a row group: what each block has there
 abbrev pub row_in : List Block → ℕ → Row
 row_in group i = map (λ b. get_or (values_of b) i Null) group
 
@@ -20,6 +20,6 @@ abbrev pub RowsAreColumns : Type 0
 RowsAreColumns = (f : FragmentSpec) (j : ℕ) → IsFragment f → j < length f.header.columns
     → map (λ row. column row j) (flat_map rows_in f.groups) ≡ column_values j f.groups
 
--- a file has as many rows as its header tells
+-- a file has as many rows as its header declares
 abbrev pub RowsAreCounted : Type 0
 RowsAreCounted = (f : FragmentSpec) → IsFragment f → length (flat_map rows_in f.groups) ≡ f.header.rows

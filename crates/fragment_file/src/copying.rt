@@ -12,10 +12,8 @@ ghost use Rattle.fragment_file.specs.Fragment.{column_in, column_values, columns
 use crate::fault::FileFault;
 use crate::view::FragmentView;
 use columns::{Column, ColumnFault};
-use encodings::vector_buf::VectorBuf;
-use encodings::view::BlockView;
-use meaning::limits::ROW_GROUP_ROWS;
-use meaning::value::ValueRef;
+use encodings::{BlockView, VectorBuf};
+use meaning::{ROW_GROUP_ROWS, ValueRef};
 use std::alloc::Global;
 use std::mem::drop;
 
@@ -76,34 +74,34 @@ fn append_block<'a>(
     append_values(column, buffer)
 }
 
-/// Puts all values of the file's column at a place behind the last.
+/// Puts all values of a column of the file behind the last.
 fn append_groups<'a>(
     column: &mut Column,
     view: &'a FragmentView<'_>,
-    place: usize,
+    index: usize,
     buffer: &mut VectorBuf<'a>,
 ) -> Result<(), FileFault>
-    requires place { place < length view.now.header.columns }
+    requires within { index < length view.now.header.columns }
     requires col_type { (d : ADeclared)
-        → column.old.col_type ≡ (slice_index_or view.now.header.columns place d).col_type }
+        → column.old.col_type ≡ (slice_index_or view.now.header.columns index d).col_type }
     requires nullable { (d : ADeclared)
-        → column.old.nullable ≡ (slice_index_or view.now.header.columns place d).nullable }
+        → column.old.nullable ≡ (slice_index_or view.now.header.columns index d).nullable }
     requires room { row_group_rows ≤ buffer.old.room }
     requires kind { buffer.old.col_type ≡ column.old.col_type }
     ensures ok { OnOk result
-        (column.new ≡ with_values column.old (column_values place view.now.groups)) }
+        (column.new ≡ with_values column.old (column_values index view.now.groups)) }
     ensures err { IfErr result (λ f. f ≡ FileFault.Memory) }
 {
     // No effect at run time. The proof reads from this call that the header is well-formed.
     let _header = view.header();
     for group in 0..view.group_count() {
-        let block = view.group(group).column(place);
+        let block = view.group(group).column(index);
         append_block(column, &block, buffer)?;
     }
     Ok(())
 }
 
-/// The column of the file at a place, in memory of its own: each block is read whole, and its texts
+/// A column of the file, in memory of its own: each block is read whole, and its texts
 /// are copied as bytes.
 ///
 /// # Errors
@@ -112,17 +110,17 @@ fn append_groups<'a>(
 pub fn read_column(
     alloc: Global,
     view: &FragmentView<'_>,
-    place: usize,
+    index: usize,
 ) -> Result<Column, FileFault>
-    requires place { place < length view.now.header.columns }
+    requires within { index < length view.now.header.columns }
     ensures ok { IfOk result (λ c. (d : ADeclared) →
-        c ≡ column_in view.now.groups (place, slice_index_or view.now.header.columns place d)) }
+        c ≡ column_in view.now.groups (index, slice_index_or view.now.header.columns index d)) }
     ensures err { IfErr result (λ f. f ≡ FileFault.Memory) }
 {
-    let declared = &view.header().columns.as_slice()[place];
+    let declared = &view.header().columns.as_slice()[index];
     let mut buffer = VectorBuf::new(alloc, declared.col_type, ROW_GROUP_ROWS)?;
     let mut column = Column::new(alloc, declared.col_type, declared.nullable);
-    match append_groups(&mut column, view, place, &mut buffer) {
+    match append_groups(&mut column, view, index, &mut buffer) {
         Ok(()) => Ok(column),
         Err(fault) => {
             drop(column);
@@ -141,8 +139,8 @@ pub fn read_columns(alloc: Global, view: &FragmentView<'_>) -> Result<Vec<Column
     ensures err { IfErr result (λ f. f ≡ FileFault.Memory) }
 {
     let mut columns = Vec::new(alloc);
-    for place in 0..view.header().columns.len() {
-        let column = read_column(alloc, view, place)?;
+    for index in 0..view.header().columns.len() {
+        let column = read_column(alloc, view, index)?;
         columns.push(column)?;
     }
     Ok(columns)

@@ -8,8 +8,7 @@ ghost use Rattle.wire.specs.Reading.{Reads, repeat_at};
 
 use crate::fault::FileFault;
 use crate::limits::is_1_to;
-use meaning::cut::Cut;
-use meaning::limits::{MAX_FRAGMENTS, MAX_ROWS};
+use meaning::{Cut, MAX_FRAGMENTS, MAX_ROWS};
 use std::alloc::Global;
 use wire::{SEAL_BYTES, check_seal, skip_magic, take_bytes, take_u32, take_u64};
 
@@ -72,7 +71,7 @@ fn read(alloc: Global, bytes: &[u8]) -> Result<(u64, Cut), FileFault>
 /// The load and the cut that the bytes are a file of, or the first obstacle.
 pub fn read_cut(alloc: Global, bytes: &[u8]) -> Result<(u64, Cut), FileFault>
     ensures exact { GivesIfMemory FileFault.Memory cut_file result (read_cut_file bytes.now) }
-    ensures told { IfErr result IsReadFault }
+    ensures returned { IfErr result IsReadFault }
     // What is given is spelled so.
     ensures spelled { IfOk result (λ x. IsCutFileOf bytes.now (cut_file x)) }
     // What is spelled so is given, unless memory runs out.

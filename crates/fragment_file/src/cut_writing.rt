@@ -8,7 +8,7 @@ ghost use Rattle.fragment_file.specs.declared.fault.FileFault.TheVariants.{Devic
 
 use crate::cut_reading::CUT_MAGIC;
 use crate::fault::FileFault;
-use meaning::cut::Cut;
+use meaning::Cut;
 use sha2::{Digest, Sha256};
 use std::io::Write;
 use wire::{DeviceFault, put, put_seal, put_u32, put_u64};

@@ -8,12 +8,9 @@ ghost use Rattle.meaning.specs.Wanting.{GivesIfMemory};
 ghost use Rattle.wire.specs.Reading.{Reads};
 
 use crate::fault::FileFault;
-use crate::view::BlockPlace;
-use encodings::kind::Kind;
-use encodings::view::BlockView;
-use meaning::catalog::Column;
-use meaning::limits::ROW_GROUP_ROWS;
-use meaning::sequence::Sequence;
+use crate::view::BlockLocation;
+use encodings::{BlockView, Kind};
+use meaning::{Column, ROW_GROUP_ROWS, Sequence};
 use std::alloc::Global;
 use wire::{take_bytes, take_u8, take_u32};
 
@@ -24,14 +21,14 @@ fn block_of<'a>(code: u8, of: &Column, rows: usize, payload: &'a [u8]) -> Option
     BlockView::new(kind, of.col_type, of.nullable, rows, payload)
 }
 
-/// The place of a block whose payload stands right before `rest`, the end of the bytes.
-fn place_of(bytes: &[u8], block: &BlockView<'_>, rest: &[u8]) -> BlockPlace
+/// The location of a block whose payload stands right before `rest`, the end of the bytes.
+fn location_of(bytes: &[u8], block: &BlockView<'_>, rest: &[u8]) -> BlockLocation
     requires { IsEnd bytes.now (block.now.payload ++ rest.now) }
     ensures value { block_in bytes.now result ≡ block.now }
     ensures within { IsWithin bytes.now result }
 {
     let end = bytes.len() - rest.len();
-    BlockPlace {
+    BlockLocation {
         kind: block.kind(),
         col_type: block.col_type(),
         nullable: block.nullable(),
@@ -63,7 +60,7 @@ fn take_block<'a>(
     Ok((block, rest))
 }
 
-/// The places of the blocks of a row group, which stand at the front of `rest`, the end of the
+/// The locations of the blocks of a row group, which stand at the front of `rest`, the end of the
 /// bytes.
 fn take_blocks<'a>(
     alloc: Global,
@@ -72,21 +69,21 @@ fn take_blocks<'a>(
     rows: usize,
     bytes: &[u8],
     rest: &'a [u8],
-) -> Result<(Vec<BlockPlace>, &'a [u8]), FileFault>
+) -> Result<(Vec<BlockLocation>, &'a [u8]), FileFault>
     requires { IsEnd bytes.now rest.now }
     ensures read { GivesIfMemory FileFault.Memory
         (λ x. (map (block_in bytes.now) x.0.items, x.1.now)) result
         (blocks_at group 0 columns.now rows rest.now) }
     ensures taken { IfOk result (λ x. AreTaken bytes.now x.0.items x.1.now) }
 {
-    let mut places = Vec::new(alloc);
+    let mut locations = Vec::new(alloc);
     let mut rest = rest;
     for column in 0..columns.len() {
         let (block, behind) = take_block(group, column as u64, &columns[column], rows, rest)?;
-        places.push(place_of(bytes, &block, behind))?;
+        locations.push(location_of(bytes, &block, behind))?;
         rest = behind;
     }
-    Ok((places, rest))
+    Ok((locations, rest))
 }
 
 #[tactic(auto, unfolding(crate::specs::FragmentReading::group_at))]
@@ -97,19 +94,19 @@ fn take_group<'a>(
     rows: u32,
     bytes: &[u8],
     rest: &'a [u8],
-) -> Result<(Sequence<BlockPlace>, &'a [u8]), FileFault>
+) -> Result<(Sequence<BlockLocation>, &'a [u8]), FileFault>
     requires { IsEnd bytes.now rest.now }
     ensures read { GivesIfMemory FileFault.Memory (λ x. (map (block_in bytes.now) x.0, x.1.now))
         result
         (group_at group columns.now rows rest.now) }
     ensures taken { IfOk result (λ x. AreTaken bytes.now x.0 x.1.now) }
 {
-    let (told, rest) = take_u32(rest)?;
-    if told != rows {
+    let (stated, rest) = take_u32(rest)?;
+    if stated != rows {
         return Err(FileFault::Header);
     }
-    let (places, rest) = take_blocks(alloc, group, columns, rows as usize, bytes, rest)?;
-    Ok((Sequence::from_vec(places), rest))
+    let (locations, rest) = take_blocks(alloc, group, columns, rows as usize, bytes, rest)?;
+    Ok((Sequence::from_vec(locations), rest))
 }
 
 /// How many of the rows that are left the next row group has.
@@ -120,7 +117,7 @@ fn next_rows(left: u32) -> u32
     if left < full { left } else { full }
 }
 
-/// The places of the blocks of so many rows, row group by row group, and the bytes behind them. The
+/// The locations of the blocks of so many rows, row group by row group, and the bytes behind them. The
 /// row groups stand at the front of `rest`, the end of the bytes.
 pub fn take_groups<'a>(
     alloc: Global,
@@ -128,7 +125,7 @@ pub fn take_groups<'a>(
     rows: u32,
     bytes: &[u8],
     rest: &'a [u8],
-) -> Result<(Sequence<Sequence<BlockPlace>>, &'a [u8]), FileFault>
+) -> Result<(Sequence<Sequence<BlockLocation>>, &'a [u8]), FileFault>
     requires { IsEnd bytes.now rest.now }
     ensures read { GivesIfMemory FileFault.Memory
         (λ x. (map (map (block_in bytes.now)) x.0, x.1.now)) result

@@ -2,9 +2,7 @@
 ghost use Rattle.std.specs.Prelude.{◌≡◌, IfOk};
 ghost use Rattle.fragment_file.specs.Fragment.{table_header};
 
-use meaning::catalog::{Column, Table};
-use meaning::sequence::Sequence;
-use meaning::text::Text;
+use meaning::{Column, Sequence, Table, Text};
 use std::alloc::{AllocError, Global};
 
 /// What stands in front of the row groups.
@@ -14,7 +12,7 @@ pub struct Header {
     pub load: u64,
     /// The table's name.
     pub table: Text,
-    /// The fragment's place in the cut, from 0; of a dimension 0.
+    /// Which fragment of the cut it is, from 0; of a dimension 0.
     pub fragment: u32,
     /// The number of the first row in the whole table, from 0; of a dimension 0.
     pub first_row: u64,

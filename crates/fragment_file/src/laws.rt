@@ -11,7 +11,7 @@ pub fn one_file()
     ensures { (bytes : List ℕ) (f g : FragmentSpec) → IsFileOf bytes f → IsFileOf bytes g → f ≡ g }
 {}
 
-/// Bytes stand for one header with one list of columns at most.
+/// Bytes encode one header with one list of columns at most.
 pub fn one_table_slice()
     ensures { (bytes : List ℕ) (h k : AHeader) (cs ds : List ColumnSpec) → Stands bytes h cs
         → Stands bytes k ds → (h ≡ k) × (cs ≡ ds) }
@@ -28,7 +28,7 @@ pub fn rows_are_columns()
     ensures { RowsAreColumns }
 {}
 
-/// A file has as many rows as its header tells.
+/// A file has as many rows as its header declares.
 pub fn rows_are_counted()
     ensures { RowsAreCounted }
 {}

@@ -7,9 +7,7 @@ ghost use Rattle.wire.specs.Reading.{Reads};
 
 use crate::fault::FileFault;
 use crate::limits::is_1_to;
-use meaning::limits::MAX_NAME_BYTES;
-use meaning::name::is_name;
-use meaning::text::Text;
+use meaning::{MAX_NAME_BYTES, Text, is_name};
 use std::alloc::Global;
 use wire::{take_bytes, take_u16};
 

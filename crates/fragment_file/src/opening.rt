@@ -30,10 +30,10 @@ fn read(alloc: Global, bytes: &[u8]) -> Result<FragmentView<'_>, FileFault>
 /// The file that the bytes are, or the first obstacle.
 ///
 /// The bytes are judged from front to back, then come bytes behind the end, and then the seal.
-/// Memory is taken for what was read alone, whatever lengths the bytes tell.
+/// Memory is taken for what was read alone, whatever lengths the bytes give.
 pub fn open(alloc: Global, bytes: &[u8]) -> Result<FragmentView<'_>, FileFault>
     ensures exact { GivesIfMemory FileFault.Memory (λ v. v) result (read_fragment bytes.now) }
-    ensures told { IfErr result IsReadFault }
+    ensures returned { IfErr result IsReadFault }
     // What is given is spelled so.
     ensures spelled { IfOk result (λ v. IsFileOf bytes.now v) }
     // What is spelled so is given, unless memory runs out.

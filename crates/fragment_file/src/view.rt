@@ -5,15 +5,13 @@ ghost use Rattle.fragment_file.specs.Fragment.{AreBlocks, IsFragment, no_block};
 ghost use Rattle.fragment_file.specs.View.{IsGroup, IsGroupAt, IsWithin, block_in, rows_of};
 
 use crate::header::Header;
-use encodings::kind::Kind;
-use encodings::view::BlockView;
-use meaning::sequence::Sequence;
-use meaning::value::ColType;
+use encodings::{BlockView, Kind};
+use meaning::{ColType, Sequence};
 use std::marker::Model;
 
 /// Where the payload of a block stands in bytes, and what else is known of the block.
 #[derive(Clone, Copy, Drop)]
-pub struct BlockPlace {
+pub struct BlockLocation {
     pub kind: Kind,
     pub col_type: ColType,
     pub nullable: bool,
@@ -24,9 +22,9 @@ pub struct BlockPlace {
     pub end: usize,
 }
 
-/// The block at a place.
+/// The block at a location.
 #[tactic(auto, unfolding(crate::specs::View::block_in))]
-fn lend_block(bytes: &[u8], at: BlockPlace) -> BlockView<'_>
+fn lend_block(bytes: &[u8], at: BlockLocation) -> BlockView<'_>
     requires within { IsWithin bytes.now at }
     requires sound { is_block (block_in bytes.now at) ≡ true }
     ensures { result ≡ block_in bytes.entry.now at }
@@ -35,11 +33,11 @@ fn lend_block(bytes: &[u8], at: BlockPlace) -> BlockView<'_>
     BlockView::new_unchecked(at.kind, at.col_type, at.nullable, at.rows, payload)
 }
 
-/// A row group: the places of its blocks, one for each column, and the bytes in which they stand.
+/// A row group: the locations of its blocks, one for each column, and the bytes in which they stand.
 /// It owns nothing. Contracts see the list of blocks.
 #[derive(Drop)]
 pub struct GroupView<'a> {
-    places: &'a [BlockPlace],
+    locations: &'a [BlockLocation],
     bytes: &'a [u8],
 }
 
@@ -50,36 +48,36 @@ impl<'a> Model for GroupView<'a> {
 
     ghost Value = { List Block };
 
-    ghost view = { λ g. map (block_in g.bytes.now) g.places.now };
+    ghost view = { λ g. map (block_in g.bytes.now) g.locations.now };
 
-    ghost invariant = { λ g. IsGroupAt g.bytes.now g.places.now };
+    ghost invariant = { λ g. IsGroupAt g.bytes.now g.locations.now };
 }
 
 impl<'a> GroupView<'a> {
-    /// The row group whose blocks are known to stand at these places. Looks at none of the bytes,
+    /// The row group whose blocks are known to stand at these locations. Looks at none of the bytes,
     /// and takes no memory.
-    pub fn new_unchecked(places: &'a [BlockPlace], bytes: &'a [u8]) -> GroupView<'a>
-        requires { IsGroupAt bytes.now places.now }
-        ensures { result ≡ map (block_in bytes.entry.now) places.entry.now }
+    pub fn new_unchecked(locations: &'a [BlockLocation], bytes: &'a [u8]) -> GroupView<'a>
+        requires { IsGroupAt bytes.now locations.now }
+        ensures { result ≡ map (block_in bytes.entry.now) locations.entry.now }
     {
-        GroupView { places, bytes }
+        GroupView { locations, bytes }
     }
 
     /// How many columns there are, each with a block.
     pub fn column_count(&self) -> usize
         ensures { result ≡ length self.now }
     {
-        self.places.len()
+        self.locations.len()
     }
 
-    /// The block of the column at a place in the header, from 0. Looks at none of its bytes, and
+    /// The block of a column, by its index in the header. Looks at none of its bytes, and
     /// takes no memory.
-    pub fn column(&self, place: usize) -> BlockView<'a>
-        requires { place < length self.now }
-        ensures { result ≡ slice_index_or self.now place no_block }
+    pub fn column(&self, index: usize) -> BlockView<'a>
+        requires { index < length self.now }
+        ensures { result ≡ slice_index_or self.now index no_block }
     {
-        let places = self.places;
-        lend_block(self.bytes, places[place])
+        let locations = self.locations;
+        lend_block(self.bytes, locations[index])
     }
 
     /// How many rows each of the blocks has. Without a block 0.
@@ -87,8 +85,12 @@ impl<'a> GroupView<'a> {
         ensures value { result ≡ rows_of self.now }
         ensures equal { IsGroup self.now }
     {
-        let places = self.places;
-        if places.is_empty() { 0 } else { places[0].rows }
+        let locations = self.locations;
+        if locations.is_empty() {
+            0
+        } else {
+            locations[0].rows
+        }
     }
 }
 
@@ -96,7 +98,7 @@ impl<'a> GroupView<'a> {
 #[derive(Drop)]
 pub struct FragmentView<'a> {
     header: Header,
-    groups: Sequence<Sequence<BlockPlace>>,
+    groups: Sequence<Sequence<BlockLocation>>,
     bytes: &'a [u8],
 }
 
@@ -114,11 +116,11 @@ impl<'a> Model for FragmentView<'a> {
 impl<'a> FragmentView<'a> {
     ghost use Rattle.fragment_file.specs.View.{IsFragmentAt, fragment_in};
 
-    /// The view of a header and of the places of row groups. Takes no memory.
+    /// The view of a header and of the locations of row groups. Takes no memory.
     pub(crate) fn new(
         header: Header,
         bytes: &'a [u8],
-        groups: Sequence<Sequence<BlockPlace>>,
+        groups: Sequence<Sequence<BlockLocation>>,
     ) -> FragmentView<'a>
         requires { IsFragmentAt header bytes.now groups }
         ensures { result ≡ fragment_in header bytes.entry.now groups }
@@ -146,16 +148,16 @@ impl<'a> FragmentView<'a> {
         self.groups.len()
     }
 
-    /// The row group at a place, from 0: 8,192 rows each, and in the last the rest. Takes no
+    /// A row group, by its index from 0: 8,192 rows each, and in the last the rest. Takes no
     /// memory.
-    pub fn group(&self, place: usize) -> GroupView<'_>
-        requires { place < length self.now.groups }
-        ensures value { result ≡ slice_index_or self.now.groups place [] }
+    pub fn group(&self, index: usize) -> GroupView<'_>
+        requires { index < length self.now.groups }
+        ensures value { result ≡ slice_index_or self.now.groups index [] }
         ensures count { length result ≡ length self.now.header.columns }
         // A block of each column, of its type, and all of as many rows.
         ensures blocks { AreBlocks self.now.header.columns (rows_of result) result }
     {
-        let places = &self.groups.as_slice()[place];
-        GroupView::new_unchecked(places.as_slice(), self.bytes)
+        let locations = &self.groups.as_slice()[index];
+        GroupView::new_unchecked(locations.as_slice(), self.bytes)
     }
 }

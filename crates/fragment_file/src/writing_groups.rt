@@ -1,7 +1,7 @@
 //! The row groups of a file: for each column a block of the kind of fewest bytes.
 ghost use Rattle.std.specs.Prelude.{◌≡◌, ◌≤◌, ◌<◌, ◌-◌, ◌*◌, ◌^◌, ◌++◌, length, replicate, true, All, OnOk, IfOk, IfErr};
 ghost use Rattle.meaning.specs.Limits.{max_rows, row_group_rows};
-ghost use Rattle.encodings.specs.Kind.{place_of};
+ghost use Rattle.encodings.specs.Kind.{kind_code};
 ghost use Rattle.encodings.specs.Encoded.{block_of};
 ghost use Rattle.fragment_file.specs.Fragment.{group_sizes};
 ghost use Rattle.wire.specs.Bytes.{number_bytes};
@@ -10,9 +10,8 @@ ghost use Rattle.fragment_file.specs.declared.fault.FileFault.TheVariants.{Memor
 
 use crate::fault::FileFault;
 use columns::Column;
-use encodings::kind::Kind;
-use encodings::{Encoded, encode};
-use meaning::limits::ROW_GROUP_ROWS;
+use encodings::{Encoded, Kind, encode};
+use meaning::ROW_GROUP_ROWS;
 use sha2::Sha256;
 use std::alloc::{AllocError, Global};
 use std::io::Write;
@@ -41,7 +40,7 @@ fn encoded(alloc: Global, column: &Column, from: usize, to: usize) -> Result<Enc
 fn append_payload(out: &mut Vec<u8>, kind: Kind, payload: &[u8]) -> Result<(), AllocError>
     requires { length payload.now < 2 ^ 32 }
     ensures { OnOk result (out.new.items
-        ≡ out.old.items ++ (number_bytes 1 (place_of kind) ++ number_bytes 4 (length payload.now)
+        ≡ out.old.items ++ (number_bytes 1 (kind_code kind) ++ number_bytes 4 (length payload.now)
         ++ payload.now)) }
 {
     append_u8(out, kind.byte())?;

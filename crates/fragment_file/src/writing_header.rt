@@ -6,9 +6,7 @@ ghost use Rattle.fragment_file.specs.Fragment.{IsHeader, column_bytes, fragment_
 
 use crate::header::Header;
 use crate::opening::FRAGMENT_MAGIC;
-use meaning::catalog::Column;
-use meaning::text::Text;
-use meaning::value::ColType;
+use meaning::{ColType, Column, Text};
 use std::alloc::AllocError;
 use wire::{append_u8, append_u16, append_u32, append_u64};
 

@@ -12,7 +12,7 @@ use Rattle.meaning.specs.Aggregate.{no_statistics}
 use Rattle.accumulators.specs.Columns.{ColumnSpec}
 use Rattle.group_by.specs.Shape.{Shape, GroupsSpec, empty_key, shape_with}
 use Rattle.group_by.specs.Groups.{all_rows, fresh, group_of_rows, together, with_groups}
-use Rattle.group_by.specs.Places.{no_column, state_at, by_place, table_of, ArePlaces, AreFresh}
+use Rattle.group_by.specs.GroupIndexes.{no_column, state_at, by_group_index, table_of, IsWellFormed, AreFresh}
 use Rattle.group_by.proofs.Keeping.{keeps_none}
 use Rattle.group_by.proofs.Growing.{grows_with}
 use Rattle.group_by.proofs.Together.{merge_none, states-length, states_from}
@@ -30,7 +30,7 @@ only_certain kinds =
     ap (λ (g : Group). g ∷ []) (merge_none shape (group_of_rows shape [] []) (states-length 0 kinds []))
 
 fresh_groups : (is_certain : Bool) (columns : List ColumnSpec) → ((c : ℕ) → state_at columns c 0 ≡ no_statistics)
-    → together (shape_with is_certain (kinds_of columns)) (by_place (empty_key is_certain) (replicate (length (empty_key is_certain)) 0) columns) ≡ together (shape_with is_certain (kinds_of columns)) []
+    → together (shape_with is_certain (kinds_of columns)) (by_group_index (empty_key is_certain) (replicate (length (empty_key is_certain)) 0) columns) ≡ together (shape_with is_certain (kinds_of columns)) []
 fresh_groups true columns none =
     (λ i. together (shape_with true (kinds_of columns)) (record { key = []; rows = 0; states = none_states 0 columns none i } ∷ []))
     ∙ only_certain (kinds_of columns)
@@ -51,15 +51,15 @@ module _ (is_certain : Bool) (keys : List Row) (rows : List ℕ) (columns : List
       ∙ (λ i. record { shape = shape_with is_certain (kinds_of columns); groups = fresh_groups is_certain columns (λ c. are.none c 0) i; rows = 0; handed = 0 })
       ∙ ap (λ (ks : List AggregateKind). fresh (shape_with is_certain ks)) are.kinds
 
-  pub fresh_places : ArePlaces is_certain keys rows columns 0
-  fresh_places = record {
+  pub fresh_well_formed : IsWellFormed is_certain keys rows columns 0
+  fresh_well_formed = record {
     certain = λ e. subst (λ (ks : List Row). (0 < length ks) × (get_or ks 0 [] ≡ [])) (sym certain) (certain_first is_certain e);
     counted = ap (λ (ns : List ℕ). length ns) none ∙ length-replicate (length keys) 0;
     heights = are.heights;
     total = let zero : sum rows ≡ length keys * 0 = ap sum none ∙ sum_by-replicate (λ (n : ℕ). n) (length keys) 0 in omega (arith, zero);
     few = omega arith;
-    within = λ c place. let zero : (state_at columns c place).count ≡ 0 = ap (λ (s : Statistics). s.count) (are.none c place) in omega (arith, zero);
-    kept = λ c place l. keeps_none (get_or columns c no_column).kind (state_at columns c place) (are.none c place);
+    within = λ c group_index. let zero : (state_at columns c group_index).count ≡ 0 = ap (λ (s : Statistics). s.count) (are.none c group_index) in omega (arith, zero);
+    kept = λ c group_index l. keeps_none (get_or columns c no_column).kind (state_at columns c group_index) (are.none c group_index);
   }
 
 -- ---- groups one after the other

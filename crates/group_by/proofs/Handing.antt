@@ -21,21 +21,21 @@ use Rattle.accumulators.specs.Columns.{ColumnSpec}
 use Rattle.accumulators.specs.State.{most_entries}
 use Rattle.group_by.specs.Combined.{combined, IsFit, AreFit, IsInOrder}
 use Rattle.group_by.specs.Groups.{all_rows, group_of_rows, as_one, together}
-use Rattle.group_by.specs.Places.{no_column, state_in, state_at, by_place, group_at, ArePlaces}
+use Rattle.group_by.specs.GroupIndexes.{no_column, state_in, state_at, by_group_index, group_at, IsWellFormed}
 use Rattle.group_by.specs.Shape.{Shape, empty_key, shape_with}
 use Rattle.group_by.proofs.Finding.{one_row}
 use Rattle.group_by.proofs.Growing.{grows_with}
 use Rattle.group_by.proofs.Together.{merge_none, same_beside, together-at, any_beside, at, has, IsWide, reversed}
-use Rattle.group_by.proofs.Batches.{kinds_of, by_place-length, by_place-at}
+use Rattle.group_by.proofs.Batches.{kinds_of, by_group_index-length, by_group_index-at}
 use Rattle.group_by.proofs.Combining.{reverse_cons, combined_together, combined_has, combined_ascends, combined_wide}
 
--- ---- a loop over the places, the last first
+-- ---- a loop over the group indexes, the last first
 
-pub place_more : (all now new : List Row) (key : Row) (rows : List ℕ) (columns : List ColumnSpec) (groups pushed : List Group) (g : Group) (n : ℕ)
+pub group_more : (all now new : List Row) (key : Row) (rows : List ℕ) (columns : List ColumnSpec) (groups pushed : List Group) (g : Group) (n : ℕ)
     → now ++ drop (length now) all ≡ all → now ≡ new ++ key ∷ [] → n ≡ length new → g ≡ group_at rows columns key n
-    → groups ≡ reverse (drop (length now) (by_place all rows columns)) → pushed ≡ groups ++ g ∷ [] → pushed ≡ reverse (drop (length new) (by_place all rows columns))
-place_more all now new key rows columns groups pushed g n whole is at is_g so_far push =
-    let b = by_place all rows columns in
+    → groups ≡ reverse (drop (length now) (by_group_index all rows columns)) → pushed ≡ groups ++ g ∷ [] → pushed ≡ reverse (drop (length new) (by_group_index all rows columns))
+group_more all now new key rows columns groups pushed g n whole is at is_g so_far push =
+    let b = by_group_index all rows columns in
     let m = length new in
     let rest = drop (length now) all in
     let all_is : all ≡ new ++ (key ∷ rest) = sym whole ∙ ap (λ (ys : List Row). ys ++ rest) is ∙ append_assoc new (key ∷ []) rest in
@@ -43,33 +43,33 @@ place_more all now new key rows columns groups pushed g n whole is at is_g so_fa
     let long_all : length all ≡ m + suc (length rest) = ap (λ (ys : List Row). length ys) all_is ∙ length-append new (key ∷ rest) in
     let here : m < length all = omega (arith, long_all) in
     let read : get_or all m [] ≡ key = ap (λ (ys : List Row). get_or ys m []) all_is ∙ get_or_at new key rest [] m refl in
-    let in_b : m < length b = subst (λ (i : ℕ). m < i) (sym (by_place-length all rows columns)) here in
-    let at_m : g ≡ get_or b m g = is_g ∙ (λ i. group_at rows columns (sym read i) (at i)) ∙ sym (by_place-at all rows columns m g here) in
+    let in_b : m < length b = subst (λ (i : ℕ). m < i) (sym (by_group_index-length all rows columns)) here in
+    let at_m : g ≡ get_or b m g = is_g ∙ (λ i. group_at rows columns (sym read i) (at i)) ∙ sym (by_group_index-at all rows columns m g here) in
     push
     ∙ (λ i. so_far i ++ at_m i ∷ [])
     ∙ ap (λ (i : ℕ). reverse (drop i b) ++ get_or b m g ∷ []) long
     ∙ sym (ap reverse (drop_more b m g in_b) ∙ reverse_cons (get_or b m g) (drop (m + 1) b))
 
-pub no_place : (all : List Row) (rows : List ℕ) (columns : List ColumnSpec) → drop (length all) (by_place all rows columns) ≡ []
-no_place all rows columns = drop_all (length all) (by_place all rows columns) (let e = by_place-length all rows columns in omega (arith, e))
+pub no_group_left : (all : List Row) (rows : List ℕ) (columns : List ColumnSpec) → drop (length all) (by_group_index all rows columns) ≡ []
+no_group_left all rows columns = drop_all (length all) (by_group_index all rows columns) (let e = by_group_index-length all rows columns in omega (arith, e))
 
--- ---- what the groups of places are
+-- ---- what the groups are
 
 module _ (keys : List Row) (rows : List ℕ) (columns : List ColumnSpec) (counted : length rows ≡ length keys)
-    (within : (c place : ℕ) → (state_at columns c place).count ≤ get_or rows place 0) where
-  pub rows_of : all_rows (by_place keys rows columns) ≡ sum rows
+    (within : (c group_index : ℕ) → (state_at columns c group_index).count ≤ get_or rows group_index 0) where
+  pub rows_of : all_rows (by_group_index keys rows columns) ≡ sum rows
   rows_of =
-      let b = by_place keys rows columns in
+      let b = by_group_index keys rows columns in
       let f : Group → ℕ = λ (g : Group). g.rows in
-      let long : length (map f b) ≡ length keys = length-map b f ∙ by_place-length keys rows columns in
+      let long : length (map f b) ≡ length keys = length-map b f ∙ by_group_index-length keys rows columns in
       sym (sum-map f b)
       ∙ ap sum (ext_get_or 0 (map f b) rows (long ∙ sym counted) (λ j l.
       let here : j < length keys = subst (λ (n : ℕ). j < n) long l in
-      get_or-map f b j (group_at rows columns [] 0) 0 (subst (λ (n : ℕ). j < n) (sym (by_place-length keys rows columns)) here)
-      ∙ ap f (by_place-at keys rows columns j (group_at rows columns [] 0) here)))
+      get_or-map f b j (group_at rows columns [] 0) 0 (subst (λ (n : ℕ). j < n) (sym (by_group_index-length keys rows columns)) here)
+      ∙ ap f (by_group_index-at keys rows columns j (group_at rows columns [] 0) here)))
 
-  pub place_fit : (j : ℕ) (key : Row) → IsFit (length columns) (group_at rows columns key j)
-  place_fit j key = record {
+  pub group_fit : (j : ℕ) (key : Row) → IsFit (length columns) (group_at rows columns key j)
+  group_fit j key = record {
     wide = length-map columns (λ (c : ColumnSpec). state_in c j);
     within = λ c. elim (cases_lt c (length columns)) [
       | inl l ↦ (
@@ -84,14 +84,14 @@ module _ (keys : List Row) (rows : List ℕ) (columns : List ColumnSpec) (counte
     ];
   }
 
-  pub places_fit : (groups sorted : List Group) → groups ≡ reverse (by_place keys rows columns) → IsPermutation groups sorted → sum rows ≤ most_entries → AreFit (length columns) sorted
-  places_fit groups sorted is moved few =
-      let b = by_place keys rows columns in
+  pub groups_fit : (groups sorted : List Group) → groups ≡ reverse (by_group_index keys rows columns) → IsPermutation groups sorted → sum rows ≤ most_entries → AreFit (length columns) sorted
+  groups_fit groups sorted is moved few =
+      let b = by_group_index keys rows columns in
       let whole : IsPermutation b sorted = IsPermutation-trans b groups sorted (subst (λ (gs : List Group). IsPermutation b gs) (sym is) (IsPermutation-reverse b)) moved in
       let total : all_rows sorted ≡ sum rows = sum_by-IsPermutation (λ (g : Group). g.rows) b sorted whole ∙ rows_of in
       record {
         fit = All-permutation (IsFit (length columns)) b sorted whole
-            (λ j d l. let here : j < length keys = subst (λ (n : ℕ). j < n) (by_place-length keys rows columns) l in subst (λ (g : Group). IsFit (length columns) g) (sym (by_place-at keys rows columns j d here)) (place_fit j (get_or keys j [])));
+            (λ j d l. let here : j < length keys = subst (λ (n : ℕ). j < n) (by_group_index-length keys rows columns) l in subst (λ (g : Group). IsFit (length columns) g) (sym (by_group_index-at keys rows columns j d here)) (group_fit j (get_or keys j [])));
         few = omega (arith, total, few);
       }
 
@@ -192,7 +192,7 @@ module _ (is_certain : Bool) (columns : List ColumnSpec) where
 -- ---- all of it
 
 module _ (is_certain : Bool) (keys : List Row) (rows : List ℕ) (columns : List ColumnSpec) (taken : ℕ) (groups : List Group)
-    (are : ArePlaces is_certain keys rows columns taken) (order : IsInOrder keys rows columns groups) where
+    (are : IsWellFormed is_certain keys rows columns taken) (order : IsInOrder keys rows columns groups) where
   abbrev the_shape : Shape
   the_shape = shape_with is_certain (kinds_of columns)
 
@@ -201,17 +201,17 @@ module _ (is_certain : Bool) (keys : List Row) (rows : List ℕ) (columns : List
 
   wide : (j : ℕ) (d : Group) → j < length (combined order.sorted) → IsWide the_shape (get_or (combined order.sorted) j d)
   wide j d l =
-      let fit = places_fit keys rows columns are.counted are.within (reverse (by_place keys rows columns)) order.sorted refl order.moved few_rows in
+      let fit = groups_fit keys rows columns are.counted are.within (reverse (by_group_index keys rows columns)) order.sorted refl order.moved few_rows in
       combined_wide (length columns) order.sorted fit j d l ∙ sym (length-map columns (λ (c : ColumnSpec). c.kind))
 
   -- the no_length key is there where it has a group in any case
   certain_there : is_certain ≡ true → list_any (eq_by_cmp row_cmp []) (keys_in (combined order.sorted)) ≡ true
   certain_there e =
-      let b = by_place keys rows columns in
+      let b = by_group_index keys rows columns in
       let first = are.certain e in
       let d = group_at rows columns [] 0 in
-      let in_b : 0 < length b = subst (λ (n : ℕ). 0 < n) (sym (by_place-length keys rows columns)) first.0 in
-      let here : has the_shape [] b ≡ true = has_at b in_b (ap (λ (g : Group). g.key) (by_place-at keys rows columns 0 d first.0) ∙ first.1) in
+      let in_b : 0 < length b = subst (λ (n : ℕ). 0 < n) (sym (by_group_index-length keys rows columns)) first.0 in
+      let here : has the_shape [] b ≡ true = has_at b in_b (ap (λ (g : Group). g.key) (by_group_index-at keys rows columns 0 d first.0) ∙ first.1) in
       ap (list_any (eq_by_cmp row_cmp [])) (sym (firsts_are (combined order.sorted)))
       ∙ combined_has the_shape (grows_with is_certain (kinds_of columns)) [] order.sorted
       ∙ any_beside the_shape [] order.sorted ∙ ap (list_any (λ g. true)) (order.beside []) ∙ sym (any_beside the_shape [] (reverse b))
@@ -227,10 +227,10 @@ module _ (is_certain : Bool) (keys : List Row) (rows : List ℕ) (columns : List
           ∙ sym (list_any-IsPermutation (eq_by_cmp row_cmp []) (keys_in gs) (keys_in (reverse gs)) (IsPermutation-map (λ (g : Group). g.key) gs (reverse gs) (IsPermutation-reverse gs)))
           ∙ ap (list_any (eq_by_cmp row_cmp [])) (sym (firsts_are gs)) ∙ e
 
-  pub handed_out : groups ≡ together the_shape (by_place keys rows columns)
+  pub handed_out : groups ≡ together the_shape (by_group_index keys rows columns)
   handed_out =
       let grows = grows_with is_certain (kinds_of columns) in
-      let b = by_place keys rows columns in
+      let b = by_group_index keys rows columns in
       order.are
       ∙ sym (itself is_certain columns (combined order.sorted) (combined_ascends order.sorted order.rises) wide certain_there)
       ∙ combined_together the_shape grows order.sorted

@@ -5,7 +5,7 @@ pub mod Together
 pub mod Rows
 pub mod Batches
 pub mod Finding
-pub mod OnePlace
+pub mod OneGroup
 pub mod CloseInts
 pub mod Texts
 pub mod Ends

@@ -15,12 +15,12 @@ use Rattle.meaning.specs.Group.{merge_groups}
 use Rattle.accumulators.specs.Columns.{ColumnSpec}
 use Rattle.group_by.specs.Combined.{combined, put_before, IsFit, IsInOrder}
 use Rattle.group_by.specs.Groups.{all_rows}
-use Rattle.group_by.specs.Places.{no_column, state_in, state_at, by_place, group_at, ArePlaces}
+use Rattle.group_by.specs.GroupIndexes.{no_column, state_in, state_at, by_group_index, group_at, IsWellFormed}
 use Rattle.group_by.specs.Rows.{IsGroupOf}
 use Rattle.group_by.specs.Shape.{Shape, shape_with}
-use Rattle.group_by.proofs.Batches.{kinds_of, zipped-at, by_place-length, by_place-at}
+use Rattle.group_by.proofs.Batches.{kinds_of, zipped-at, by_group_index-length, by_group_index-at}
 use Rattle.group_by.proofs.Combining.{combined_rows, merged_fit}
-use Rattle.group_by.proofs.Handing.{place_fit, rows_of}
+use Rattle.group_by.proofs.Handing.{group_fit, rows_of}
 use Rattle.group_by.proofs.Keeping.{keeps_merged}
 
 -- a group with a state of each kind, in which nothing stands that its kind doesn't keep
@@ -70,18 +70,18 @@ own_fits shape g own = record {
 }
 
 module _ (is_certain : Bool) (keys : List Row) (rows : List ℕ) (columns : List ColumnSpec) (taken : ℕ) (groups : List Group)
-    (are : ArePlaces is_certain keys rows columns taken) (order : IsInOrder keys rows columns groups) where
-  whole : IsPermutation (by_place keys rows columns) order.sorted
+    (are : IsWellFormed is_certain keys rows columns taken) (order : IsInOrder keys rows columns groups) where
+  whole : IsPermutation (by_group_index keys rows columns) order.sorted
   whole =
-      let b = by_place keys rows columns in
+      let b = by_group_index keys rows columns in
       IsPermutation-trans b (reverse b) order.sorted (IsPermutation-reverse b) order.moved
 
   long_kinds : length (kinds_of columns) ≡ length columns
   long_kinds = length-map columns (λ (c : ColumnSpec). c.kind)
 
-  place_own : (j : ℕ) (key : Row) → IsOwn (kinds_of columns) (group_at rows columns key j)
-  place_own j key = record {
-    fit = subst (λ (n : ℕ). IsFit n (group_at rows columns key j)) (sym long_kinds) (place_fit keys rows columns are.counted are.within j key);
+  group_own : (j : ℕ) (key : Row) → IsOwn (kinds_of columns) (group_at rows columns key j)
+  group_own j key = record {
+    fit = subst (λ (n : ℕ). IsFit n (group_at rows columns key j)) (sym long_kinds) (group_fit keys rows columns are.counted are.within j key);
     kept = λ c l.
         let in_columns : c < length columns = subst (λ (n : ℕ). c < n) long_kinds l in
         let read : get_or (map (λ (col : ColumnSpec). state_in col j) columns) c no_statistics ≡ state_at columns c j = get_or-map (λ (col : ColumnSpec). state_in col j) columns c no_column no_statistics in_columns in
@@ -93,9 +93,9 @@ module _ (is_certain : Bool) (keys : List Row) (rows : List ℕ) (columns : List
   pub own_groups : All (IsGroupOf (shape_with is_certain (kinds_of columns))) groups
   own_groups j d l =
       let shape = shape_with is_certain (kinds_of columns) in
-      let b = by_place keys rows columns in
+      let b = by_group_index keys rows columns in
       let all = All-permutation (IsOwn (kinds_of columns)) b order.sorted whole
-      (λ j d l. let here : j < length keys = subst (λ (n : ℕ). j < n) (by_place-length keys rows columns) l in subst (λ (g : Group). IsOwn (kinds_of columns) g) (sym (by_place-at keys rows columns j d here)) (place_own j (get_or keys j []))) in
+      (λ j d l. let here : j < length keys = subst (λ (n : ℕ). j < n) (by_group_index-length keys rows columns) l in subst (λ (g : Group). IsOwn (kinds_of columns) g) (sym (by_group_index-at keys rows columns j d here)) (group_own j (get_or keys j []))) in
       own_fits shape (get_or groups j d)
       (subst (λ (gs : List Group). IsOwn (kinds_of columns) (get_or gs j d)) (sym order.are)
       (combined_own (kinds_of columns) order.sorted all j d (subst (λ (gs : List Group). j < length gs) order.are l)))
@@ -105,6 +105,6 @@ module _ (is_certain : Bool) (keys : List Row) (rows : List ℕ) (columns : List
   own_rows =
       ap all_rows order.are
       ∙ combined_rows order.sorted
-      ∙ sum_by-IsPermutation (λ (g : Group). g.rows) (by_place keys rows columns) order.sorted whole
+      ∙ sum_by-IsPermutation (λ (g : Group). g.rows) (by_group_index keys rows columns) order.sorted whole
       ∙ rows_of keys rows columns are.counted are.within
       ∙ are.total

@@ -13,14 +13,14 @@ use Rattle.meaning.specs.Order.{Row, row_cmp, value_cmp}
 use Rattle.meaning.specs.Group.{beside, merge_groups}
 use Rattle.meaning.proofs.Orders.{row_total}
 use Rattle.accumulators.specs.Columns.{ColumnSpec}
-use Rattle.group_by.specs.declared.int_places.IntPlace.{IntPlace}
+use Rattle.group_by.specs.declared.int_groups.IntGroup.{IntGroup}
 use Rattle.group_by.specs.Combined.{combined, put_before, IsInOrder, Rises, SameBeside}
-use Rattle.group_by.specs.IntPlaces.{key_in, placed_group, AreApart, ArePlaced}
-use Rattle.group_by.specs.Places.{by_place, group_at}
-use Rattle.group_by.proofs.Batches.{by_place-length, by_place-at}
+use Rattle.group_by.specs.IntGroups.{key_in, indexed_group, AreApart, AreIndexed}
+use Rattle.group_by.specs.GroupIndexes.{by_group_index, group_at}
+use Rattle.group_by.proofs.Batches.{by_group_index-length, by_group_index-at}
 use Rattle.group_by.proofs.Combining.{reverse_cons, tie}
 
--- ---- integers with their places
+-- ---- integers with their group indexes
 
 map_push : {X Y : Type 0} (f : X → Y) (xs : List X) (x : X) → map f (xs ++ x ∷ []) ≡ map f xs ++ f x ∷ []
 map_push f [] x = refl
@@ -31,21 +31,21 @@ map_reverse f [] = refl
 map_reverse {Y = Y} f (x ∷ xs) =
     ap (map f) (reverse_cons x xs) ∙ map_push f (reverse xs) x ∙ ap (λ (ys : List Y). ys ++ f x ∷ []) (map_reverse f xs) ∙ sym (reverse_cons (f x) (map f xs))
 
-module _ (keys : List Row) (k : ℕ) (here : k < length keys) (p : IntPlace) (is_place : p.place ≡ k) (is_key : key_in p ≡ get_or keys k []) where
-  pub one_placed : (now : List IntPlace) → ArePlaced keys k now → ArePlaced keys (k + 1) (now ++ p ∷ [])
-  one_placed now so_far = record {
+module _ (keys : List Row) (k : ℕ) (here : k < length keys) (p : IntGroup) (is_index : p.group_index ≡ k) (is_key : key_in p ≡ get_or keys k []) where
+  pub one_indexed : (now : List IntGroup) → AreIndexed keys k now → AreIndexed keys (k + 1) (now ++ p ∷ [])
+  one_indexed now so_far = record {
     groups = λ rows columns.
-        let b = by_place keys rows columns in
-        let f = placed_group rows columns in
+        let b = by_group_index keys rows columns in
+        let f = indexed_group rows columns in
         let d = f p in
-        let in_b : k < length b = subst (λ (i : ℕ). k < i) (sym (by_place-length keys rows columns)) here in
-        let same : f p ≡ get_or b k d = (λ i. group_at rows columns (is_key i) (is_place i)) ∙ sym (by_place-at keys rows columns k d here) in
+        let in_b : k < length b = subst (λ (i : ℕ). k < i) (sym (by_group_index-length keys rows columns)) here in
+        let same : f p ≡ get_or b k d = (λ i. group_at rows columns (is_key i) (is_index i)) ∙ sym (by_group_index-at keys rows columns k d here) in
         map_push f now p ∙ (λ i. so_far.groups rows columns i ++ same i ∷ []) ∙ sym (take_more b k d in_b);
     within = λ j d l. within_push now so_far.within j d l;
   }
     where
-      within_push : (xs : List IntPlace) → ((j : ℕ) (d : IntPlace) → j < length xs → (get_or xs j d).place < length keys) → (j : ℕ) (d : IntPlace) → j < length (xs ++ p ∷ []) → (get_or (xs ++ p ∷ []) j d).place < length keys
-      within_push [] all zero d l = subst (λ (i : ℕ). i < length keys) (sym is_place) here
+      within_push : (xs : List IntGroup) → ((j : ℕ) (d : IntGroup) → j < length xs → (get_or xs j d).group_index < length keys) → (j : ℕ) (d : IntGroup) → j < length (xs ++ p ∷ []) → (get_or (xs ++ p ∷ []) j d).group_index < length keys
+      within_push [] all zero d l = subst (λ (i : ℕ). i < length keys) (sym is_index) here
       within_push [] all (suc j) d l = absurd (omega (arith, l))
       within_push (x ∷ xs) all zero d l = all 0 d (omega arith)
       within_push (x ∷ xs) all (suc j) d l = within_push xs (λ i e m. all (suc i) e (omega (arith, m))) j d (omega (arith, l))
@@ -62,22 +62,22 @@ then_greater Less = refl
 then_greater Equal = refl
 then_greater Greater = refl
 
-abbrev int_lt : IntPlace → IntPlace → Bool
+abbrev int_lt : IntGroup → IntGroup → Bool
 int_lt p q = is_lt (row_cmp (key_in p) (key_in q))
 
-module _ (f : IntPlace → Group) (keyed : (p : IntPlace) → (f p).key ≡ key_in p) where
-  abbrev tagged : List IntPlace → List (Row × Group)
+module _ (f : IntGroup → Group) (keyed : (p : IntGroup) → (f p).key ≡ key_in p) where
+  abbrev tagged : List IntGroup → List (Row × Group)
   tagged ps = map (λ (g : Group). (g.key, g)) (map f ps)
 
   -- none has a key that isn't one integer
-  none_beside : (k : Row) → ((p : IntPlace) → eq_by_cmp row_cmp k (key_in p) ≡ false) → (ps : List IntPlace) → beside k (tagged ps) ≡ []
+  none_beside : (k : Row) → ((p : IntGroup) → eq_by_cmp row_cmp k (key_in p) ≡ false) → (ps : List IntGroup) → beside k (tagged ps) ≡ []
   none_beside k none [] = refl
   none_beside k none (p ∷ ps) =
       let rest = filter (λ (t : Row × Group). eq_by_cmp row_cmp k t.0) (tagged ps) in
       ap (λ b. map (λ (t : Row × Group). t.1) (cond b (((f p).key, f p) ∷ rest) rest)) (ap (eq_by_cmp row_cmp k) (keyed p) ∙ none p) ∙ none_beside k none ps
 
   -- those of one integer are those that tie with it
-  tied_beside : (q : IntPlace) (ps : List IntPlace) → beside (key_in q) (tagged ps) ≡ map f (filter (ties int_lt q) ps)
+  tied_beside : (q : IntGroup) (ps : List IntGroup) → beside (key_in q) (tagged ps) ≡ map f (filter (ties int_lt q) ps)
   tied_beside q [] = refl
   tied_beside q (p ∷ ps) =
       let k = key_in q in
@@ -91,15 +91,15 @@ module _ (f : IntPlace → Group) (keyed : (p : IntPlace) → (f p).key ≡ key_
         | false ↦ tied_beside q ps
       ]
 
-  pub beside_ints : (old new : List IntPlace) → IsStableBy int_lt old new → SameBeside (map f old) (map f new)
+  pub beside_ints : (old new : List IntGroup) → IsStableBy int_lt old new → SameBeside (map f old) (map f new)
   beside_ints old new stable [] = none_beside [] (λ p. refl) new ∙ sym (none_beside [] (λ p. refl) old)
   beside_ints old new stable (Null ∷ ks) = none_beside (Null ∷ ks) (λ p. refl) new ∙ sym (none_beside (Null ∷ ks) (λ p. refl) old)
   beside_ints old new stable (Text t ∷ ks) = none_beside (Text t ∷ ks) (λ p. refl) new ∙ sym (none_beside (Text t ∷ ks) (λ p. refl) old)
   beside_ints old new stable (Int n ∷ []) =
-      let q : IntPlace = record { int = n; place = 0 } in
+      let q : IntGroup = record { int = n; group_index = 0 } in
       tied_beside q new ∙ ap (map f) (stable q) ∙ sym (tied_beside q old)
   beside_ints old new stable (Int n ∷ k ∷ ks) =
-      let none : (p : IntPlace) → eq_by_cmp row_cmp (Int n ∷ k ∷ ks) (key_in p) ≡ false = λ p. then_greater (value_cmp (Int n) (Int p.int)) in
+      let none : (p : IntGroup) → eq_by_cmp row_cmp (Int n ∷ k ∷ ks) (key_in p) ≡ false = λ p. then_greater (value_cmp (Int n) (Int p.int)) in
       none_beside (Int n ∷ k ∷ ks) none new ∙ sym (none_beside (Int n ∷ k ∷ ks) none old)
 
 pub ints_compare : (m n : ℤ) → row_cmp (Int m ∷ []) (Int n ∷ []) ≡ value_cmp (Int m) (Int n)
@@ -143,11 +143,11 @@ rises_up (g ∷ h ∷ gs) up = (
   rises_up (h ∷ gs) (next_up g (h ∷ gs) up),
 )
 
-pub apart_up : (f : IntPlace → Group) → ((p : IntPlace) → (f p).key ≡ key_in p) → (ps : List IntPlace) → AreApart ps → AreUp (map f ps)
+pub apart_up : (f : IntGroup → Group) → ((p : IntGroup) → (f p).key ≡ key_in p) → (ps : List IntGroup) → AreApart ps → AreUp (map f ps)
 apart_up f keyed ps apart k d l =
     let long = length-map ps f in
     let next : k + 1 < length ps = subst (λ (n : ℕ). k + 1 < n) long l in
-    let none : IntPlace = record { int = pos 0; place = 0 } in
+    let none : IntGroup = record { int = pos 0; group_index = 0 } in
     let one : (get_or (map f ps) k d).key ≡ key_in (get_or ps k none) = ap (λ (g : Group). g.key) (get_or-map f ps k none d (omega (arith, next))) ∙ keyed (get_or ps k none) in
     let two : (get_or (map f ps) (k + 1) d).key ≡ key_in (get_or ps (k + 1) none) = ap (λ (g : Group). g.key) (get_or-map f ps (k + 1) none d next) ∙ keyed (get_or ps (k + 1) none) in
     (λ i. is_lt (row_cmp (one i) (two i))) ∙ apart k none next
@@ -157,22 +157,22 @@ apart_up f keyed ps apart k d l =
 pub from_some : {X : Type 0} (P : X → Type 0) (o : Option X) (x : X) → o ≡ Some x → IfSome o P → P x
 from_some {X = X} P o x is has = subst (λ (found : Option X). IfSome found P) is has
 
-pub none_placed : (keys : List Row) → ArePlaced keys 0 []
-none_placed keys = record { groups = λ rows columns. refl; within = λ j d l. absurd (omega (arith, l)) }
+pub none_indexed : (keys : List Row) → AreIndexed keys 0 []
+none_indexed keys = record { groups = λ rows columns. refl; within = λ j d l. absurd (omega (arith, l)) }
 
-module _ (keys : List Row) (placed reversed sorted : List IntPlace) (are : ArePlaced keys (length keys) placed) (back : reversed ≡ reverse placed) (moved : IsPermutation reversed sorted) where
-  pub all_within : (n : ℕ) → n ≡ length keys → All (λ (p : IntPlace). p.place < n) sorted
+module _ (keys : List Row) (indexed reversed sorted : List IntGroup) (are : AreIndexed keys (length keys) indexed) (back : reversed ≡ reverse indexed) (moved : IsPermutation reversed sorted) where
+  pub all_within : (n : ℕ) → n ≡ length keys → All (λ (p : IntGroup). p.group_index < n) sorted
   all_within n long =
-      let whole : IsPermutation placed sorted = IsPermutation-trans placed reversed sorted (subst (λ (ps : List IntPlace). IsPermutation placed ps) (sym back) (IsPermutation-reverse placed)) moved in
-      All-permutation (λ (p : IntPlace). p.place < n) placed sorted whole (λ j d l. subst (λ (m : ℕ). (get_or placed j d).place < m) (sym long) (are.within j d l))
+      let whole : IsPermutation indexed sorted = IsPermutation-trans indexed reversed sorted (subst (λ (ps : List IntGroup). IsPermutation indexed ps) (sym back) (IsPermutation-reverse indexed)) moved in
+      All-permutation (λ (p : IntGroup). p.group_index < n) indexed sorted whole (λ j d l. subst (λ (m : ℕ). (get_or indexed j d).group_index < m) (sym long) (are.within j d l))
 
-  pub in_int_order : (rows : List ℕ) (columns : List ColumnSpec) (groups : List Group) → SameBeside (map (placed_group rows columns) reversed) (map (placed_group rows columns) sorted)
-      → AreApart sorted → groups ≡ map (placed_group rows columns) sorted → IsInOrder keys rows columns groups
+  pub in_int_order : (rows : List ℕ) (columns : List ColumnSpec) (groups : List Group) → SameBeside (map (indexed_group rows columns) reversed) (map (indexed_group rows columns) sorted)
+      → AreApart sorted → groups ≡ map (indexed_group rows columns) sorted → IsInOrder keys rows columns groups
   in_int_order rows columns groups beside apart is =
-      let b = by_place keys rows columns in
-      let f = placed_group rows columns in
+      let b = by_group_index keys rows columns in
+      let f = indexed_group rows columns in
       let all : map f reversed ≡ reverse b =
-      ap (map f) back ∙ map_reverse f placed ∙ ap reverse (are.groups rows columns ∙ take_all (length keys) b (let e = by_place-length keys rows columns in omega (arith, e))) in
+      ap (map f) back ∙ map_reverse f indexed ∙ ap reverse (are.groups rows columns ∙ take_all (length keys) b (let e = by_group_index-length keys rows columns in omega (arith, e))) in
       let up = apart_up f (λ p. refl) sorted apart in
       record {
         sorted = map f sorted;

@@ -205,13 +205,13 @@ module _ (shape : Shape) where
         before gs (group_of_rows shape k [] ∷ g ∷ []) (g ∷ group_of_rows shape k [] ∷ []) (grows.turned (group_of_rows shape k [] ∷ []) (g ∷ []))
         ∙ behind (g ∷ []) (group_of_rows shape k [] ∷ gs) gs (none_more k gs i d (omega (arith, here)) is wide)
 
-    -- a group more of a key that has a place goes there
-    pub placed : (gs : List Group) (p : ℕ) (h d : Group) → p < length gs → (get_or gs p d).key ≡ h.key
+    -- a group more of a key that has a group index goes there
+    pub merged_at_index : (gs : List Group) (p : ℕ) (h d : Group) → p < length gs → (get_or gs p d).key ≡ h.key
         → together shape (slice_set gs p (merge_groups (get_or gs p d) h)) ≡ together shape (gs ++ h ∷ [])
-    placed [] p h d here same = absurd (omega (arith, here))
-    placed (g ∷ gs) zero h d here same =
+    merged_at_index [] p h d here same = absurd (omega (arith, here))
+    merged_at_index (g ∷ gs) zero h d here same =
         sym (before gs (g ∷ h ∷ []) (merge_groups g h ∷ []) (merge_two g h same)) ∙ behind (g ∷ []) (h ∷ gs) (gs ++ h ∷ []) (to_end h gs)
-    placed (g ∷ gs) (suc p) h d here same = behind (g ∷ []) (slice_set gs p (merge_groups (get_or gs p d) h)) (gs ++ h ∷ []) (placed gs p h d (omega (arith, here)) same)
+    merged_at_index (g ∷ gs) (suc p) h d here same = behind (g ∷ []) (slice_set gs p (merge_groups (get_or gs p d) h)) (gs ++ h ∷ []) (merged_at_index gs p h d (omega (arith, here)) same)
 
     -- the order doesn't matter
     pub reversed : (gs : List Group) → together shape (reverse gs) ≡ together shape gs

@@ -11,11 +11,11 @@ use Rattle.meaning.specs.Order.{Row, column}
 use Rattle.meaning.specs.Aggregate.{no_statistics, merge}
 use Rattle.vectors.specs.declared.vector.Vector.{Vector}
 use Rattle.accumulators.specs.Columns.{ColumnSpec, of_states}
-use Rattle.accumulators.specs.Entries.{state_of, at_place, with_entries}
+use Rattle.accumulators.specs.Entries.{state_of, of_group, with_entries}
 use Rattle.accumulators.specs.Values.{selected}
 use Rattle.vectors.specs.Vector.{values_of}
 use Rattle.group_by.specs.Rows.{rows_at}
-use Rattle.group_by.specs.Places.{no_column, state_in, IsUpdated, AreUpdated}
+use Rattle.group_by.specs.GroupIndexes.{no_column, state_in, IsUpdated, AreUpdated}
 use Rattle.group_by.proofs.Finding.{lane_of}
 
 -- the entries of one aggregate
@@ -24,47 +24,47 @@ column_of arguments [] c d here = refl
 column_of arguments (at ∷ list) c d here = λ i. lane_of arguments at c d here i ∷ column_of arguments list c d here i
 
 -- one column that was filled up and took its entries
-pub updated : (n : ℕ) (placed : List (ℕ × Value)) (old filled new : ColumnSpec) → filled.kind ≡ old.kind → length filled.states ≡ n → ((place : ℕ) → state_in filled place ≡ state_in old place)
-    → new ≡ of_states filled (with_entries filled.kind filled.states placed) → IsUpdated n placed old new
-updated n placed old filled new kind height states is =
-    let one : ℕ × Statistics → Statistics = λ (s : ℕ × Statistics). merge s.1 (state_of filled.kind (at_place s.0 placed)) in
+pub updated : (n : ℕ) (indexed : List (ℕ × Value)) (old filled new : ColumnSpec) → filled.kind ≡ old.kind → length filled.states ≡ n → ((group_index : ℕ) → state_in filled group_index ≡ state_in old group_index)
+    → new ≡ of_states filled (with_entries filled.kind filled.states indexed) → IsUpdated n indexed old new
+updated n indexed old filled new kind height states is =
+    let one : ℕ × Statistics → Statistics = λ (s : ℕ × Statistics). merge s.1 (state_of filled.kind (of_group s.0 indexed)) in
     let long : length (enumerate_from 0 filled.states) ≡ n = length-enumerate_from 0 filled.states ∙ height in
     record {
       kind = ap (λ (c : ColumnSpec). c.kind) is ∙ kind;
       height = ap (λ (c : ColumnSpec). length c.states) is ∙ length-map (enumerate_from 0 filled.states) one ∙ long;
-      states = λ place here.
-          ap (λ (c : ColumnSpec). state_in c place) is
-          ∙ get_or-map one (enumerate_from 0 filled.states) place (0, no_statistics) no_statistics (subst (λ (m : ℕ). place < m) (sym long) here)
-          ∙ ap one (get_or-enumerate_from 0 filled.states place (0, no_statistics) (subst (λ (m : ℕ). place < m) (sym height) here))
-          ∙ (λ i. merge (states place i) (state_of (kind i) (at_place ((let e : 0 + place ≡ place = omega arith in e) i) placed)));
+      states = λ group_index here.
+          ap (λ (c : ColumnSpec). state_in c group_index) is
+          ∙ get_or-map one (enumerate_from 0 filled.states) group_index (0, no_statistics) no_statistics (subst (λ (m : ℕ). group_index < m) (sym long) here)
+          ∙ ap one (get_or-enumerate_from 0 filled.states group_index (0, no_statistics) (subst (λ (m : ℕ). group_index < m) (sym height) here))
+          ∙ (λ i. merge (states group_index i) (state_of (kind i) (of_group ((let e : 0 + group_index ≡ group_index = omega arith in e) i) indexed)));
     }
 
 -- the columns up to one took their entries, and the others stand
-pub record AreDone (n : ℕ) (places : List ℕ) (arguments : List Row) (k : ℕ) (old now : List ColumnSpec) : Type 0 where
+pub record AreDone (n : ℕ) (group_indexes : List ℕ) (arguments : List Row) (k : ℕ) (old now : List ColumnSpec) : Type 0 where
   pub long : length now ≡ length old
-  pub done : (c : ℕ) → c < k → c < length old → IsUpdated n (zip places (map (λ row. column row c) arguments)) (get_or old c no_column) (get_or now c no_column)
+  pub done : (c : ℕ) → c < k → c < length old → IsUpdated n (zip group_indexes (map (λ row. column row c) arguments)) (get_or old c no_column) (get_or now c no_column)
   pub left : (c : ℕ) → k ≤ c → get_or now c no_column ≡ get_or old c no_column
 
-pub done_more : (n : ℕ) (places : List ℕ) (arguments : List Vector) (list : List ℕ) (k : ℕ) (old now : List ColumnSpec) (d : Vector) (one new : ColumnSpec) → k < length now → k < length arguments
-    → one ≡ get_or now k no_column → IsUpdated n (zip places (selected (values_of (get_or arguments k d)) list)) one new
-    → AreDone n places (rows_at arguments list) k old now → AreDone n places (rows_at arguments list) (k + 1) old (slice_set now k new)
-done_more n places arguments list k old now d one new here in_arguments is updated so_far = record {
+pub done_more : (n : ℕ) (group_indexes : List ℕ) (arguments : List Vector) (list : List ℕ) (k : ℕ) (old now : List ColumnSpec) (d : Vector) (one new : ColumnSpec) → k < length now → k < length arguments
+    → one ≡ get_or now k no_column → IsUpdated n (zip group_indexes (selected (values_of (get_or arguments k d)) list)) one new
+    → AreDone n group_indexes (rows_at arguments list) k old now → AreDone n group_indexes (rows_at arguments list) (k + 1) old (slice_set now k new)
+done_more n group_indexes arguments list k old now d one new here in_arguments is updated so_far = record {
   long = length-set now k new ∙ so_far.long;
   done = λ c l in_old. elim (cases_eq c k) [
     | inl at ↦ (
         let entries = column_of arguments list k d in_arguments in
         let was : one ≡ get_or old k no_column = is ∙ so_far.left k (omega arith) in
         let read : get_or (slice_set now k new) k no_column ≡ new = get_or-set_same now k new no_column here in
-        let at_k : IsUpdated n (zip places (map (λ (row : Row). column row k) (rows_at arguments list))) (get_or old k no_column) (get_or (slice_set now k new) k no_column) =
-        subst (λ (vs : List Value). IsUpdated n (zip places vs) (get_or old k no_column) (get_or (slice_set now k new) k no_column)) (sym entries)
-        (subst (λ (a : ColumnSpec). IsUpdated n (zip places (selected (values_of (get_or arguments k d)) list)) a (get_or (slice_set now k new) k no_column)) was
-        (subst (λ (b : ColumnSpec). IsUpdated n (zip places (selected (values_of (get_or arguments k d)) list)) one b) (sym read) updated)) in
-        subst (λ (m : ℕ). IsUpdated n (zip places (map (λ (row : Row). column row m) (rows_at arguments list))) (get_or old m no_column) (get_or (slice_set now k new) m no_column)) (sym at) at_k)
-    | inr ne ↦ subst (λ (b : ColumnSpec). IsUpdated n (zip places (map (λ (row : Row). column row c) (rows_at arguments list))) (get_or old c no_column) b) (sym (get_or-set_other now k c new no_column ne))
+        let at_k : IsUpdated n (zip group_indexes (map (λ (row : Row). column row k) (rows_at arguments list))) (get_or old k no_column) (get_or (slice_set now k new) k no_column) =
+        subst (λ (vs : List Value). IsUpdated n (zip group_indexes vs) (get_or old k no_column) (get_or (slice_set now k new) k no_column)) (sym entries)
+        (subst (λ (a : ColumnSpec). IsUpdated n (zip group_indexes (selected (values_of (get_or arguments k d)) list)) a (get_or (slice_set now k new) k no_column)) was
+        (subst (λ (b : ColumnSpec). IsUpdated n (zip group_indexes (selected (values_of (get_or arguments k d)) list)) one b) (sym read) updated)) in
+        subst (λ (m : ℕ). IsUpdated n (zip group_indexes (map (λ (row : Row). column row m) (rows_at arguments list))) (get_or old m no_column) (get_or (slice_set now k new) m no_column)) (sym at) at_k)
+    | inr ne ↦ subst (λ (b : ColumnSpec). IsUpdated n (zip group_indexes (map (λ (row : Row). column row c) (rows_at arguments list))) (get_or old c no_column) b) (sym (get_or-set_other now k c new no_column ne))
         (so_far.done c (omega (arith, l, ne)) in_old)
   ];
   left = λ c past. let ne : c ≡ k → ⊥ = λ e. omega (arith, past, e) in get_or-set_other now k c new no_column ne ∙ so_far.left c (omega (arith, past));
 }
 
-pub all_done : (n : ℕ) (places : List ℕ) (arguments : List Row) (k : ℕ) (old now : List ColumnSpec) → length old ≤ k → AreDone n places arguments k old now → AreUpdated n places arguments old now
-all_done n places arguments k old now past done = (done.long, λ c l. done.done c (omega (arith, l, past)) l)
+pub all_done : (n : ℕ) (group_indexes : List ℕ) (arguments : List Row) (k : ℕ) (old now : List ColumnSpec) → length old ≤ k → AreDone n group_indexes arguments k old now → AreUpdated n group_indexes arguments old now
+all_done n group_indexes arguments k old now past done = (done.long, λ c l. done.done c (omega (arith, l, past)) l)

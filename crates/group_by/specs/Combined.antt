@@ -9,7 +9,7 @@ use Rattle.meaning.specs.Group.{beside, merge_groups}
 use Rattle.accumulators.specs.State.{most_entries}
 use Rattle.accumulators.specs.Columns.{ColumnSpec}
 use Rattle.group_by.specs.Groups.{all_rows}
-use Rattle.group_by.specs.Places.{by_place}
+use Rattle.group_by.specs.GroupIndexes.{by_group_index}
 
 -- a group before others, as one with the first of them where they have one key
 abbrev pub put_before : Group → List Group → List Group
@@ -59,7 +59,7 @@ zipped states others = map (λ p. merge p.0 p.1) (zip states others)
 -- what is handed out: the groups in some order, those of each key in one order, then those of one key as one
 pub record IsInOrder (keys : List Row) (rows : List ℕ) (columns : List ColumnSpec) (groups : List Group) : Type 0 where
   pub sorted : List Group
-  pub beside : SameBeside (reverse (by_place keys rows columns)) sorted
+  pub beside : SameBeside (reverse (by_group_index keys rows columns)) sorted
   pub rises : Rises (map (λ g. g.key) sorted)
-  pub moved : IsPermutation (reverse (by_place keys rows columns)) sorted
+  pub moved : IsPermutation (reverse (by_group_index keys rows columns)) sorted
   pub are : groups ≡ combined sorted

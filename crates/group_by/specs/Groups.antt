@@ -10,7 +10,7 @@ use Rattle.meaning.specs.Group.{grouped, groups, group_of, merge_groups, merged_
 use Rattle.accumulators.specs.Entries.{state_of}
 use Rattle.group_by.specs.Shape.{Shape, GroupsSpec, shape_of}
 
--- what each aggregate keeps of some argument rows, which have its entry in the column at its place
+-- what each aggregate keeps of some argument rows, which have its entry in the column of its index
 abbrev pub states_of : List AggregateKind → List Row → List Statistics
 states_of kinds rows = map (λ a. state_of a.1 (map (λ row. column row a.0) rows)) (enumerate_from 0 kinds)
 

@@ -14,18 +14,18 @@ abbrev pub rows_in : Held → List Row
 rows_in (held.Values v) = alone v.items
 rows_in (held.Rows r) = r.items
 
--- each entry of a table that is the place of a key is that of the integer that is as far above the least as the entry is
--- behind the first
+-- each entry of a table that is the group index of a key is that of the integer that is as far above the least as the
+-- entry is behind the first
 abbrev pub LeadsTo : ℤ → List ℕ → List Row → Type 0
 LeadsTo least entries keys = (at : ℕ) → at < length entries → get_or entries at 0 ≢ 2 ^ 32 - 1
     → (get_or entries at 0 < length keys) × (get_or keys (get_or entries at 0) [] ≡ Int (least +ℤ pos at) ∷ [])
 
--- a place that was found for the k-th integer, unless it is none, is that of its key
-abbrev pub IsTold : List Row → List ℤ → List ℕ → ℕ → Type 0
-IsTold keys ints places k = get_or places k 0 ≢ 2 ^ 32 - 1
-    → (get_or places k 0 < length keys) × (get_or keys (get_or places k 0) [] ≡ Int (get_or ints k (pos 0)) ∷ [])
+-- a group index that was found for the k-th integer, unless it is none, is that of its key
+abbrev pub IsReturned : List Row → List ℤ → List ℕ → ℕ → Type 0
+IsReturned keys ints group_indexes k = get_or group_indexes k 0 ≢ 2 ^ 32 - 1
+    → (get_or group_indexes k 0 < length keys) × (get_or keys (get_or group_indexes k 0) [] ≡ Int (get_or ints k (pos 0)) ∷ [])
 
 -- the same for the k-th of some keys
 abbrev pub IsLed : List Row → List Row → List ℕ → ℕ → Type 0
-IsLed keys found places k = get_or places k 0 ≢ 2 ^ 32 - 1
-    → (get_or places k 0 < length keys) × (get_or keys (get_or places k 0) [] ≡ get_or found k [])
+IsLed keys found group_indexes k = get_or group_indexes k 0 ≢ 2 ^ 32 - 1
+    → (get_or group_indexes k 0 < length keys) × (get_or keys (get_or group_indexes k 0) [] ≡ get_or found k [])

@@ -2,8 +2,8 @@
 pub mod Shape
 pub mod Groups
 pub mod Rows
-pub mod Places
+pub mod GroupIndexes
 pub mod Combined
 pub mod Keys
-pub mod RowPlaces
-pub mod IntPlaces
+pub mod RowGroups
+pub mod IntGroups

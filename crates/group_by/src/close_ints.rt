@@ -1,11 +1,11 @@
-//! Where the keys of integers that are close to each other have their places: by how far they are
-//! above a least one.
+//! Where the keys of integers that are close to each other have their group indexes: by how far
+//! they are above a least one.
 ghost use Rattle.std.specs.Prelude.{◌≡◌, ◌≢◌, ◌<◌, ◌∷◌, [], List, length, slice_index_or, true, All};
 ghost use Rattle.meaning.specs.declared.value.Value.TheVariants.{Int};
 ghost use Rattle.meaning.specs.Order.{Row};
 ghost use Rattle.group_by.specs.Keys.{LeadsTo};
 
-/// In the stead of a place, where none is known.
+/// What stands where no group index is known.
 pub const NOWHERE: u32 = u32::MAX;
 
 // A table has no more entries than so many for each row of the vector that it is made for.
@@ -56,9 +56,9 @@ fn entry_at(entries: &[u32], at: u64) -> u32
     entries.get(at as usize).copied().unwrap_or(NOWHERE)
 }
 
-/// The place to which a table leads for an integer, or `NOWHERE`.
+/// The group index to which a table leads for an integer, or `NOWHERE`.
 #[inline(always)]
-pub fn close_place(entries: &[u32], least: &i64, int: &i64) -> u32
+pub fn close_group_index(entries: &[u32], least: &i64, int: &i64) -> u32
     ensures { (keys : List Row) → LeadsTo least.now entries.now keys → result ≢ NOWHERE
         → (result < length keys) × (slice_index_or keys result [] ≡ Int int.now ∷ []) }
 {
@@ -68,30 +68,32 @@ pub fn close_place(entries: &[u32], least: &i64, int: &i64) -> u32
     entry_at(entries, int.abs_diff(*least))
 }
 
-/// Whether all of these places are known. Compares all of them, so that the loop has no branch.
-pub fn are_known(places: &[u32]) -> bool
-    ensures { result ≡ true → All (λ place. place ≢ NOWHERE) places.now }
+/// Whether all of these group indexes are known. Compares all of them, so that the loop has no
+/// branch.
+pub fn are_known(group_indexes: &[u32]) -> bool
+    ensures { result ≡ true → All (λ group_index. group_index ≢ NOWHERE) group_indexes.now }
 {
     let mut known = true;
-    for k in 0..places.len() {
-        known &= places[k] != NOWHERE;
+    for k in 0..group_indexes.len() {
+        known &= group_indexes[k] != NOWHERE;
     }
     known
 }
 
-/// Puts in the place of a key, where the table has an entry for it.
-pub fn enter(entries: &mut [u32], least: &i64, int: &i64, place: usize)
-    ensures { (keys : List Row) → LeadsTo least.now entries.old keys → place < length keys
-        → slice_index_or keys place [] ≡ Int int.now ∷ [] → LeadsTo least.now entries.new keys }
+/// Enters the group index of a key, where the table has an entry for it.
+pub fn enter(entries: &mut [u32], least: &i64, int: &i64, group_index: usize)
+    ensures { (keys : List Row) → LeadsTo least.now entries.old keys → group_index < length keys
+        → slice_index_or keys group_index [] ≡ Int int.now ∷ []
+        → LeadsTo least.now entries.new keys }
 {
     if *int < *least {
         return;
     }
-    let Ok(place) = u32::try_from(place) else {
+    let Ok(group_index) = u32::try_from(group_index) else {
         return;
     };
     let at = int.abs_diff(*least) as usize;
     if at < entries.len() {
-        entries[at] = place;
+        entries[at] = group_index;
     }
 }

@@ -6,24 +6,23 @@ ghost use Rattle.accumulators.specs.Entries.{with_entries};
 ghost use Rattle.accumulators.specs.State.{most_entries};
 ghost use Rattle.accumulators.specs.Values.{is_spelled, selected};
 ghost use Rattle.vectors.specs.Vector.{values_of};
-ghost use Rattle.group_by.specs.Places.{no_column, state_at, state_in, AreFresh, AreMerged, AreUpdated, IsMerged, IsUpdated};
-ghost use Rattle.group_by.specs.RowPlaces.{listed};
+ghost use Rattle.group_by.specs.GroupIndexes.{no_column, state_at, state_in, AreFresh, AreMerged, AreUpdated, IsMerged, IsUpdated};
+ghost use Rattle.group_by.specs.RowGroups.{listed};
 ghost use Rattle.group_by.specs.Rows.{rows_at, AreLanesOf};
 
-use crate::row_places::RowPlaces;
+use crate::row_groups::RowGroups;
 use accumulators::{State, StateColumn};
-use meaning::plan::{Aggregate, AggregateKind};
+use meaning::{Aggregate, AggregateKind};
 use std::alloc::{AllocError, Global};
-use vectors::selection::Selection;
-use vectors::vector::Vector;
+use vectors::{Selection, Vector};
 
-/// A state of no entry at each place that has none yet.
+/// A state of no entry at each group index that has none yet.
 fn fill(column: &mut StateColumn, height: usize) -> Result<(), AllocError>
     requires { length column.old.states ≤ height }
     ensures kind { column.new.kind ≡ column.old.kind }
     ensures height { OnOk result (length column.new.states ≡ height) }
-    ensures states { OnOk result ((place : ℕ)
-        → state_in column.new place ≡ state_in column.old place) }
+    ensures states { OnOk result ((group_index : ℕ)
+        → state_in column.new group_index ≡ state_in column.old group_index) }
 {
     for _ in column.len()..height {
         column.push()?;
@@ -31,73 +30,83 @@ fn fill(column: &mut StateColumn, height: usize) -> Result<(), AllocError>
     Ok(())
 }
 
-/// The selected values go to the states at their places, each of which has one.
+/// The selected values go to the states at their group indexes, each of which has one.
 fn update_filled(
     column: &mut StateColumn,
     alloc: Global,
-    places: &RowPlaces,
+    group_indexes: &RowGroups,
     lanes: &Vector<'_>,
     selection: &Selection,
 ) -> Result<(), AllocError>
-    requires places { length (listed places.now) ≡ length selection.now.list }
-    requires within { All (λ place. place < length column.old.states) (listed places.now) }
+    requires group_indexes { length (listed group_indexes.now) ≡ length selection.now.list }
+    requires within { All (λ group_index. group_index < length column.old.states)
+        (listed group_indexes.now) }
     requires lanes { length (values_of lanes.now) ≡ selection.now.below }
     requires spelled { All (λ v. is_spelled v ≡ true) (values_of lanes.now) }
-    requires few { (place : ℕ)
-        → (state_in column.old place).count + length selection.now.list ≤ most_entries }
+    requires few { (group_index : ℕ)
+        → (state_in column.old group_index).count + length selection.now.list ≤ most_entries }
     ensures { OnOk result (column.new
         ≡ of_states column.old (with_entries column.old.kind column.old.states
-        (zip (listed places.now) (selected (values_of lanes.now) selection.now.list)))) }
+        (zip (listed group_indexes.now) (selected (values_of lanes.now) selection.now.list)))) }
 {
-    match places {
-        RowPlaces::One { place, .. } => column.update_at(alloc, *place as usize, lanes, selection),
-        RowPlaces::Each(places) => column.update(alloc, places.as_slice(), lanes, selection),
+    match group_indexes {
+        RowGroups::One { group_index, .. } => column.update_at(
+            alloc,
+            *group_index as usize,
+            lanes,
+            selection,
+        ),
+        RowGroups::Each(group_indexes) => column.update(
+            alloc,
+            group_indexes.as_slice(),
+            lanes,
+            selection,
+        ),
     }
 }
 
-/// The selected values go to the states at their places.
+/// The selected values go to the states at their group indexes.
 fn update(
     column: &mut StateColumn,
     alloc: Global,
     height: usize,
-    places: &RowPlaces,
+    group_indexes: &RowGroups,
     lanes: &Vector<'_>,
     selection: &Selection,
 ) -> Result<(), AllocError>
     requires longer { length column.old.states ≤ height }
-    requires places { length (listed places.now) ≡ length selection.now.list }
-    requires within { All (λ place. place < height) (listed places.now) }
+    requires group_indexes { length (listed group_indexes.now) ≡ length selection.now.list }
+    requires within { All (λ group_index. group_index < height) (listed group_indexes.now) }
     requires lanes { length (values_of lanes.now) ≡ selection.now.below }
     requires spelled { All (λ v. is_spelled v ≡ true) (values_of lanes.now) }
-    requires few { (place : ℕ)
-        → (state_in column.old place).count + length selection.now.list ≤ most_entries }
-    ensures { OnOk result (IsUpdated height
-        (zip (listed places.now) (selected (values_of lanes.now) selection.now.list)) column.old
-        column.new) }
+    requires few { (group_index : ℕ)
+        → (state_in column.old group_index).count + length selection.now.list ≤ most_entries }
+    ensures { OnOk result (IsUpdated height (zip (listed group_indexes.now)
+        (selected (values_of lanes.now) selection.now.list)) column.old column.new) }
 {
     fill(column, height)?;
-    update_filled(column, alloc, places, lanes, selection)?;
+    update_filled(column, alloc, group_indexes, lanes, selection)?;
     Ok(())
 }
 
-/// Each aggregate's selected arguments go to the states at their places. On an error the states are
-/// open.
+/// Each aggregate's selected arguments go to the states at their group indexes. On an error the
+/// states are open.
 pub fn update_all(
     columns: &mut [StateColumn],
     alloc: Global,
     height: usize,
-    places: &RowPlaces,
+    group_indexes: &RowGroups,
     arguments: &[Vector<'_>],
     selection: &Selection,
 ) -> Result<(), AllocError>
     requires longer { (c : ℕ) → length (slice_index_or columns.old c no_column).states ≤ height }
     requires widths { length arguments.now ≡ length columns.old }
-    requires places { length (listed places.now) ≡ length selection.now.list }
-    requires within { All (λ place. place < height) (listed places.now) }
+    requires group_indexes { length (listed group_indexes.now) ≡ length selection.now.list }
+    requires within { All (λ group_index. group_index < height) (listed group_indexes.now) }
     requires arguments { AreLanesOf selection.now.below arguments.now }
-    requires few { (c place : ℕ)
-        → (state_at columns.old c place).count + length selection.now.list ≤ most_entries }
-    ensures { OnOk result (AreUpdated height (listed places.now)
+    requires few { (c group_index : ℕ)
+        → (state_at columns.old c group_index).count + length selection.now.list ≤ most_entries }
+    ensures { OnOk result (AreUpdated height (listed group_indexes.now)
         (rows_at arguments.now selection.now.list) columns.old columns.new) }
 {
     for k in 0..columns.len() {
@@ -105,7 +114,7 @@ pub fn update_all(
             &mut columns[k],
             alloc,
             height,
-            places,
+            group_indexes,
             &arguments[k],
             selection,
         )?;
@@ -113,47 +122,46 @@ pub fn update_all(
     Ok(())
 }
 
-/// A state goes to the one at its place.
+/// A state goes to the one at its group index.
 fn merge(
     column: &mut StateColumn,
     alloc: Global,
     height: usize,
-    place: usize,
+    group_index: usize,
     state: &State,
 ) -> Result<(), AllocError>
     requires longer { length column.old.states ≤ height }
-    requires within { place < height }
-    requires few { (state_in column.old place).count + state.now.count ≤ most_entries }
-    ensures { OnOk result (IsMerged height place state.now column.old column.new) }
+    requires within { group_index < height }
+    requires few { (state_in column.old group_index).count + state.now.count ≤ most_entries }
+    ensures { OnOk result (IsMerged height group_index state.now column.old column.new) }
 {
     fill(column, height)?;
-    column.merge_at(alloc, place, state)?;
+    column.merge_at(alloc, group_index, state)?;
     Ok(())
 }
 
-/// Each aggregate's state goes to the one at the group's place. On an error the states are open.
+/// Each aggregate's state goes to the one at the group's index. On an error the states are open.
 pub fn merge_all(
     columns: &mut [StateColumn],
     alloc: Global,
     height: usize,
-    place: usize,
+    group_index: usize,
     states: &[State],
 ) -> Result<(), AllocError>
     requires longer { (c : ℕ) → length (slice_index_or columns.old c no_column).states ≤ height }
     requires widths { length states.now ≡ length columns.old }
-    requires within { place < height }
-    requires few { (c : ℕ) → c < length columns.old
-        → (state_at columns.old c place).count + (slice_index_or states.now c no_statistics).count
-        ≤ most_entries }
-    ensures { OnOk result (AreMerged height place states.now columns.old columns.new) }
+    requires within { group_index < height }
+    requires few { (c : ℕ) → c < length columns.old → (state_at columns.old c group_index).count
+        + (slice_index_or states.now c no_statistics).count ≤ most_entries }
+    ensures { OnOk result (AreMerged height group_index states.now columns.old columns.new) }
 {
     for k in 0..columns.len() {
-        merge(&mut columns[k], alloc, height, place, &states[k])?;
+        merge(&mut columns[k], alloc, height, group_index, &states[k])?;
     }
     Ok(())
 }
 
-/// A column for each aggregate, with a state of no entry at each of so many places.
+/// A column for each aggregate, with a state of no entry for each of so many groups.
 pub fn fresh_columns(
     alloc: Global,
     aggregates: &[Aggregate],
@@ -175,7 +183,7 @@ fn fresh_column(
     height: usize,
 ) -> Result<StateColumn, AllocError>
     ensures { IfOk result (λ c. (c.kind ≡ kind) × (length c.states ≡ height)
-        × ((place : ℕ) → state_in c place ≡ no_statistics)) }
+        × ((group_index : ℕ) → state_in c group_index ≡ no_statistics)) }
 {
     let mut column = StateColumn::new(alloc, kind);
     fill(&mut column, height)?;

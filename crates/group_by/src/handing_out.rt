@@ -6,52 +6,51 @@ ghost use Rattle.meaning.specs.Order.{row_cmp};
 ghost use Rattle.accumulators.specs.State.{most_entries};
 ghost use Rattle.group_by.specs.Combined.{combined, put_before, zipped, AreFit, AreMergeable, IsInOrder, MergesWithFirst, Rises, SameBeside};
 ghost use Rattle.group_by.specs.Keys.{alone};
-ghost use Rattle.group_by.specs.Places.{by_place, group_at, state_at, state_in};
+ghost use Rattle.group_by.specs.GroupIndexes.{by_group_index, group_at, state_at, state_in};
 
-use crate::int_places::{are_apart, int_places, placed_groups, sort_ints};
+use crate::int_groups::{are_apart, indexed_groups, int_groups, sort_ints};
 use crate::key_list::KeyList;
 use crate::keys::{are_equal, compare_keys, copy_key};
 use accumulators::{Group, State, StateColumn};
-use meaning::sequence::Sequence;
-use meaning::value::{Row, Value};
+use meaning::{Row, Sequence, Value};
 use std::alloc::{AllocError, Global};
 use std::cmp::Ordering;
 use std::mem::drop;
 
-/// The state at a place of each column.
+/// The state at a group index of each column.
 fn states_at(
     alloc: Global,
     columns: &[StateColumn],
-    place: usize,
+    group_index: usize,
 ) -> Result<Sequence<State>, AllocError>
-    requires { All (λ c. place < length c.states) columns.now }
-    ensures { IfOk result (λ states. states ≡ map (λ c. state_in c place) columns.now) }
+    requires { All (λ c. group_index < length c.states) columns.now }
+    ensures { IfOk result (λ states. states ≡ map (λ c. state_in c group_index) columns.now) }
 {
     let mut states = Vec::with_capacity(alloc, columns.len())?;
     for column in columns {
-        states.push(column.state(alloc, place)?)?;
+        states.push(column.state(alloc, group_index)?)?;
     }
     Ok(Sequence::from_vec(states))
 }
 
-/// The group at a place.
+/// The group of this index.
 pub fn group_of(
     alloc: Global,
     key: Row,
     rows: &[u64],
     columns: &[StateColumn],
-    place: usize,
+    group_index: usize,
 ) -> Result<Group, AllocError>
-    requires rows { place < length rows.now }
-    requires columns { All (λ c. place < length c.states) columns.now }
-    ensures { IfOk result (λ g. g ≡ group_at rows.now columns.now key place) }
+    requires rows { group_index < length rows.now }
+    requires columns { All (λ c. group_index < length c.states) columns.now }
+    ensures { IfOk result (λ g. g ≡ group_at rows.now columns.now key group_index) }
 {
-    let states = states_at(alloc, columns, place)?;
-    Ok(Group::new(key, rows[place], states))
+    let states = states_at(alloc, columns, group_index)?;
+    Ok(Group::new(key, rows[group_index], states))
 }
 
-/// The groups by their places, the last first.
-fn by_places(
+/// The groups in the order of their group indexes, the last first.
+fn last_first(
     alloc: Global,
     keys: Vec<Row>,
     rows: &[u64],
@@ -60,7 +59,7 @@ fn by_places(
     requires rows { length rows.now ≡ length keys.items }
     requires columns { All (λ c. length c.states ≡ length keys.items) columns.now }
     ensures { IfOk result (λ groups. groups.items
-        ≡ reverse (by_place keys.items rows.now columns.now)) }
+        ≡ reverse (by_group_index keys.items rows.now columns.now)) }
 {
     let mut keys = keys;
     let mut groups = Vec::with_capacity(alloc, keys.len())?;
@@ -164,7 +163,7 @@ fn combine(alloc: Global, groups: Vec<Group>, width: usize) -> Result<Vec<Group>
     Ok(out)
 }
 
-/// The groups of the places in the order of their keys, those of one key as one.
+/// The groups in the order of their keys, those of one key as one.
 fn rows_in_order(
     alloc: Global,
     keys: Vec<Row>,
@@ -174,11 +173,11 @@ fn rows_in_order(
     requires rows { length rows.now ≡ length keys.items }
     requires columns { All (λ c. length c.states ≡ length keys.items) columns.now }
     requires few { sum rows.now ≤ most_entries }
-    requires within { (c place : ℕ)
-        → (state_at columns.now c place).count ≤ slice_index rows.now place }
+    requires within { (c group_index : ℕ)
+        → (state_at columns.now c group_index).count ≤ slice_index rows.now group_index }
     ensures { IfOk result (λ groups. IsInOrder keys.items rows.now columns.now groups.items) }
 {
-    let mut groups = by_places(alloc, keys, rows, columns)?;
+    let mut groups = last_first(alloc, keys, rows, columns)?;
     match sort(&mut groups) {
         Ok(()) => combine(alloc, groups, columns.len()),
         Err(fault) => {
@@ -200,18 +199,18 @@ fn ints_in_order(
     ensures { IfOk result (λ found. IfSome found
         (λ groups. IsInOrder (alone values.now) rows.now columns.now groups.items)) }
 {
-    let Some(mut placed) = int_places(alloc, values)? else {
+    let Some(mut indexed) = int_groups(alloc, values)? else {
         return Ok(None);
     };
-    placed.reverse();
-    sort_ints(&mut placed)?;
-    if !are_apart(placed.as_slice()) {
+    indexed.reverse();
+    sort_ints(&mut indexed)?;
+    if !are_apart(indexed.as_slice()) {
         return Ok(None);
     }
-    Ok(Some(placed_groups(alloc, placed.as_slice(), rows, columns)?))
+    Ok(Some(indexed_groups(alloc, indexed.as_slice(), rows, columns)?))
 }
 
-/// The groups of the places in the order of their keys, those of one key as one.
+/// The groups in the order of their keys, those of one key as one.
 pub fn in_order(
     alloc: Global,
     keys: KeyList,
@@ -221,8 +220,8 @@ pub fn in_order(
     requires rows { length rows.now ≡ length keys }
     requires columns { All (λ c. length c.states ≡ length keys) columns.now }
     requires few { sum rows.now ≤ most_entries }
-    requires within { (c place : ℕ)
-        → (state_at columns.now c place).count ≤ slice_index rows.now place }
+    requires within { (c group_index : ℕ)
+        → (state_at columns.now c group_index).count ≤ slice_index rows.now group_index }
     ensures { IfOk result (λ groups. IsInOrder keys rows.now columns.now groups.items) }
 {
     if let Some(values) = keys.values() {

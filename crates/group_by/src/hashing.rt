@@ -5,10 +5,9 @@ ghost use Rattle.group_by.specs.Rows.{AreLanesOf};
 
 use crate::plain_texts::plain_texts;
 use accumulators::{plain_ints, position, value_at};
-use meaning::value::{Row, ValueRef};
+use meaning::{Row, ValueRef};
 use std::alloc::{AllocError, Global};
-use vectors::selection::Selection;
-use vectors::vector::Vector;
+use vectors::{Selection, Vector};
 
 // The odd number nearest to 2^64 divided by the golden ratio: Knuth's multiplicative hashing.
 const MULTIPLIER: u64 = 0x9E37_79B9_7F4A_7C15;

@@ -1,16 +1,16 @@
-//! Keys by their places, and a hash table that leads to them.
+//! Keys by their group indexes, and a hash table that leads to them.
 //!
-//! The hash table is a hint: a place that it names is taken only after its key was compared, and a
-//! key that it leads to no place of gets a place more. So no contract rests on hashes. The groups
-//! of a key with two places are made one when they are handed out.
+//! The hash table is a hint: a group index that it names is taken only after its key was compared,
+//! and a key for which it leads to none gets a new one. So no contract rests on hashes. The groups
+//! of a key with two group indexes are made one when they are handed out.
 ghost use Rattle.std.specs.Prelude.{◌≡◌, ◌≢◌, ℕ, ◌<◌, ◌≤◌, ◌∷◌, ◌++◌, [], length, slice_index_or, All, true, IfOk, IfSome, OnOk};
 ghost use Rattle.std.specs.Str.{is_utf8};
 ghost use Rattle.meaning.specs.declared.value.Value.TheVariants.{Int, Text};
 ghost use Rattle.vectors.specs.Vector.{values_of};
-ghost use Rattle.group_by.specs.Keys.{IsLed, IsTold};
-ghost use Rattle.group_by.specs.Places.{AreFound, IsFound};
+ghost use Rattle.group_by.specs.Keys.{IsLed, IsReturned};
+ghost use Rattle.group_by.specs.GroupIndexes.{AreFound, IsFound};
 ghost use Rattle.group_by.specs.Shape.{empty_key};
-ghost use Rattle.group_by.specs.RowPlaces.{listed};
+ghost use Rattle.group_by.specs.RowGroups.{listed};
 ghost use Rattle.group_by.specs.Rows.{int_keys, row_at, rows_at, text_keys, AreLanesOf};
 
 use crate::close_ints::{NOWHERE, are_known};
@@ -18,33 +18,31 @@ use crate::hashing::{hash_int, hash_row, hash_rows};
 use crate::key_list::KeyList;
 use crate::keys::{copy_key, key_of, key_of_text, plain_key};
 use crate::plain_texts::plain_text_key;
-use crate::row_places::{RowPlaces, row_places};
+use crate::row_groups::{RowGroups, row_groups};
 use crate::selected_ints::selected_key;
 use accumulators::position;
-use meaning::sequence::Sequence;
-use meaning::value::Row;
+use meaning::{Row, Sequence};
 use std::alloc::{AllocError, Global};
-use vectors::selection::Selection;
-use vectors::vector::Vector;
+use vectors::{Selection, Vector};
 
-/// An entry of the hash table: a place, and the part of its key's hash that doesn't choose the
-/// slot.
+/// An entry of the hash table: a group index, and the part of its key's hash that doesn't choose
+/// the slot.
 #[derive(Clone, Copy)]
 struct Slot {
     tag: u32,
-    place: u32,
+    group_index: u32,
 }
 
 const EMPTY: u32 = u32::MAX;
 
-// So many that few keys seldom share a home.
+// So many that few keys seldom share a first slot.
 const LEAST_SLOTS: usize = 1024;
 
-/// A key's hash, and its place.
+/// A key's hash, and its group index.
 #[derive(Clone, Copy)]
 struct Hashed {
     hash: u64,
-    place: u32,
+    group_index: u32,
 }
 
 /// Keys in the order in which they came.
@@ -69,49 +67,49 @@ fn slot_number(hash: u64, step: usize, slots: usize) -> usize {
     (hash as usize).wrapping_add(step) & slots.wrapping_sub(1)
 }
 
-/// Whether the slot's place is that of the key at a position.
+/// Whether the slot's group index is that of the key at a position.
 #[inline(always)]
 fn leads_to_lanes(slot: Slot, hash: u64, keys: &KeyList, lanes: &[Vector<'_>], at: usize) -> bool
     requires { All (λ column. at < length (values_of column)) lanes.now }
-    ensures { result ≡ true → (slot.place < length keys.now)
-        × (slice_index_or keys.now slot.place [] ≡ row_at lanes.now at) }
+    ensures { result ≡ true → (slot.group_index < length keys.now)
+        × (slice_index_or keys.now slot.group_index [] ≡ row_at lanes.now at) }
 {
     if slot.tag != tag_of(hash) {
         return false;
     }
-    keys.is_key(slot.place, lanes, at)
+    keys.is_key(slot.group_index, lanes, at)
 }
 
 #[inline(always)]
 fn leads_to_row(slot: Slot, hash: u64, keys: &KeyList, row: &Row) -> bool
-    ensures { result ≡ true → (slot.place < length keys.now)
-        × (slice_index_or keys.now slot.place [] ≡ row.now) }
+    ensures { result ≡ true → (slot.group_index < length keys.now)
+        × (slice_index_or keys.now slot.group_index [] ≡ row.now) }
 {
     if slot.tag != tag_of(hash) {
         return false;
     }
-    keys.is_row(slot.place, row)
+    keys.is_row(slot.group_index, row)
 }
 
 #[inline(always)]
 fn leads_to_text(slot: Slot, hash: u64, keys: &KeyList, text: &[u8]) -> bool
-    ensures { result ≡ true → (slot.place < length keys.now)
-        × (slice_index_or keys.now slot.place [] ≡ Text text.now ∷ []) }
+    ensures { result ≡ true → (slot.group_index < length keys.now)
+        × (slice_index_or keys.now slot.group_index [] ≡ Text text.now ∷ []) }
 {
     if slot.tag != tag_of(hash) {
         return false;
     }
-    keys.is_text(slot.place, text)
+    keys.is_text(slot.group_index, text)
 }
 
-/// Puts a place into the first empty slot for its hash.
-fn enter(slots: &mut [Slot], hash: u64, place: u32) {
+/// Puts a group index into the first empty slot for its hash.
+fn enter(slots: &mut [Slot], hash: u64, group_index: u32) {
     for step in 0..slots.len() {
         let number = slot_number(hash, step, slots.len());
-        if number < slots.len() && slots[number].place == EMPTY {
+        if number < slots.len() && slots[number].group_index == EMPTY {
             slots[number] = Slot {
                 tag: tag_of(hash),
-                place,
+                group_index,
             };
             return;
         }
@@ -120,7 +118,7 @@ fn enter(slots: &mut [Slot], hash: u64, place: u32) {
 
 fn enter_all(slots: &mut [Slot], hashed: &[Hashed]) {
     for key in hashed {
-        enter(slots, key.hash, key.place);
+        enter(slots, key.hash, key.group_index);
     }
 }
 
@@ -136,39 +134,39 @@ impl KeyIndex {
         }
     }
 
-    /// The place of the key at a position, where the hash table leads to one.
+    /// The group index of the key at a position, where the hash table leads to one.
     #[inline(always)]
     fn find_lanes(&self, hash: u64, lanes: &[Vector<'_>], at: usize) -> Option<u32>
         requires { All (λ column. at < length (values_of column)) lanes.now }
-        ensures { IfSome result (λ place. (place < length self.now.keys)
-            × (slice_index_or self.now.keys place [] ≡ row_at lanes.now at)) }
+        ensures { IfSome result (λ group_index. (group_index < length self.now.keys)
+            × (slice_index_or self.now.keys group_index [] ≡ row_at lanes.now at)) }
     {
         let slots = self.slots.as_slice();
         for step in 0..slots.len() {
             let slot = *slots.get(slot_number(hash, step, slots.len()))?;
-            if slot.place == EMPTY {
+            if slot.group_index == EMPTY {
                 return None;
             }
             if leads_to_lanes(slot, hash, &self.keys, lanes, at) {
-                return Some(slot.place);
+                return Some(slot.group_index);
             }
         }
         None
     }
 
-    /// The place of a key, where the hash table leads to one.
+    /// The group index of a key, where the hash table leads to one.
     fn find_row(&self, hash: u64, row: &Row) -> Option<u32>
-        ensures { IfSome result (λ place. (place < length self.now.keys)
-            × (slice_index_or self.now.keys place [] ≡ row.now)) }
+        ensures { IfSome result (λ group_index. (group_index < length self.now.keys)
+            × (slice_index_or self.now.keys group_index [] ≡ row.now)) }
     {
         let slots = self.slots.as_slice();
         for step in 0..slots.len() {
             let slot = *slots.get(slot_number(hash, step, slots.len()))?;
-            if slot.place == EMPTY {
+            if slot.group_index == EMPTY {
                 return None;
             }
             if leads_to_row(slot, hash, &self.keys, row) {
-                return Some(slot.place);
+                return Some(slot.group_index);
             }
         }
         None
@@ -184,37 +182,37 @@ impl KeyIndex {
         let many = self.slots.len().saturating_mul(2).max(LEAST_SLOTS);
         let mut slots = vec![in alloc; Slot {
             tag: 0,
-            place: EMPTY
+            group_index: EMPTY
         }; many]?;
         enter_all(slots.as_mut_slice(), self.hashed.as_slice());
         self.slots = slots;
         Ok(())
     }
 
-    /// Has the hash table lead to a place.
-    fn lead(&mut self, alloc: Global, hash: u64, place: u32) -> Result<(), AllocError>
+    /// Has the hash table lead to a group index.
+    fn lead(&mut self, alloc: Global, hash: u64, group_index: u32) -> Result<(), AllocError>
         ensures { self.new.keys ≡ self.old.keys }
     {
         self.make_room(alloc)?;
-        self.hashed.push(Hashed { hash, place })?;
-        enter(self.slots.as_mut_slice(), hash, place);
+        self.hashed.push(Hashed { hash, group_index })?;
+        enter(self.slots.as_mut_slice(), hash, group_index);
         Ok(())
     }
 
-    /// A place for a key more. More than 2^32 keys are refused as more than memory holds.
+    /// A group index for a new key. More than 2^32 keys are refused as more than memory holds.
     fn push(&mut self, alloc: Global, hash: u64, key: Row) -> Result<u32, AllocError>
-        ensures place { IfOk result (λ place. place ≡ length self.old.keys) }
-        ensures keys { IfOk result (λ place. self.new.keys ≡ self.old.keys ++ key ∷ []) }
+        ensures group_index { IfOk result (λ group_index. group_index ≡ length self.old.keys) }
+        ensures keys { IfOk result (λ group_index. self.new.keys ≡ self.old.keys ++ key ∷ []) }
     {
-        let Ok(place) = u32::try_from(self.keys.len()) else {
+        let Ok(group_index) = u32::try_from(self.keys.len()) else {
             return Err(AllocError);
         };
-        self.lead(alloc, hash, place)?;
+        self.lead(alloc, hash, group_index)?;
         self.keys.push(alloc, key)?;
-        Ok(place)
+        Ok(group_index)
     }
 
-    /// A place for the key at a position.
+    /// A group index for the key at a position.
     #[cold]
     #[inline(never)]
     fn push_lanes(
@@ -227,18 +225,18 @@ impl KeyIndex {
     ) -> Result<u32, AllocError>
         requires lanes { AreLanesOf below lanes.now }
         requires at { at < below }
-        ensures place { IfOk result (λ place. place ≡ length self.old.keys) }
-        ensures keys { IfOk result (λ place. self.new.keys ≡ self.old.keys ++ row_at lanes.now at
-            ∷ []) }
+        ensures group_index { IfOk result (λ group_index. group_index ≡ length self.old.keys) }
+        ensures keys { IfOk result (λ group_index. self.new.keys ≡ self.old.keys
+            ++ row_at lanes.now at ∷ []) }
     {
         let key = key_of(alloc, lanes, at, below)?;
         self.push(alloc, hash, key)
     }
 
-    /// The place of the key at a position, which gets one where it has none. On an error the keys
-    /// are open.
+    /// The group index of the key at a position, which gets one where it has none. On an error the
+    /// keys are open.
     #[inline(always)]
-    fn place_of_lanes(
+    fn group_index_of_lanes(
         &mut self,
         alloc: Global,
         hash: u64,
@@ -248,153 +246,156 @@ impl KeyIndex {
     ) -> Result<u32, AllocError>
         requires lanes { AreLanesOf below lanes.now }
         requires at { at < below }
-        ensures { IfOk result (λ place. IsFound (row_at lanes.now at) self.old.keys place
-            self.new.keys) }
+        ensures { IfOk result (λ group_index. IsFound (row_at lanes.now at) self.old.keys
+            group_index self.new.keys) }
     {
-        if let Some(place) = self.find_lanes(hash, lanes, at) {
-            return Ok(place);
+        if let Some(group_index) = self.find_lanes(hash, lanes, at) {
+            return Ok(group_index);
         }
         self.push_lanes(alloc, hash, lanes, at, below)
     }
 
-    /// The place of a key, which gets one where it has none. On an error the keys are open.
-    pub fn place_of_row(&mut self, alloc: Global, row: &Row) -> Result<u32, AllocError>
-        ensures { IfOk result (λ place. IsFound row.now self.old.keys place self.new.keys) }
+    /// The group index of a key, which gets one where it has none. On an error the keys are open.
+    pub fn group_index_of_row(&mut self, alloc: Global, row: &Row) -> Result<u32, AllocError>
+        ensures { IfOk result (λ group_index. IsFound row.now self.old.keys group_index
+            self.new.keys) }
     {
         let hash = hash_row(row);
-        if let Some(place) = self.find_row(hash, row) {
-            return Ok(place);
+        if let Some(group_index) = self.find_row(hash, row) {
+            return Ok(group_index);
         }
         let key = copy_key(alloc, row)?;
         self.push(alloc, hash, key)
     }
 
-    /// The place of the empty key, for each selected row. On an error the keys are open.
-    fn places_without_keys(
+    /// The group index of the empty key, for each selected row. On an error the keys are open.
+    fn group_indexes_without_keys(
         &mut self,
         alloc: Global,
         selection: &Selection,
-    ) -> Result<RowPlaces, AllocError>
-        ensures { IfOk result (λ places. AreFound (rows_at [] selection.now.list) self.old.keys
-            (listed places) self.new.keys) }
+    ) -> Result<RowGroups, AllocError>
+        ensures { IfOk result (λ group_indexes. AreFound (rows_at [] selection.now.list)
+            self.old.keys (listed group_indexes) self.new.keys) }
     {
         if selection.len() == 0 {
-            return Ok(RowPlaces::Each(Vec::new(alloc)));
+            return Ok(RowGroups::Each(Vec::new(alloc)));
         }
         let key = Sequence::new(alloc);
-        let place = self.place_of_row(alloc, &key)?;
-        Ok(RowPlaces::One {
-            place,
+        let group_index = self.group_index_of_row(alloc, &key)?;
+        Ok(RowGroups::One {
+            group_index,
             behind: selection.len() - 1,
         })
     }
 
-    /// The place of the key of this integer alone, where the hash table leads to one.
+    /// The group index of the key of this integer alone, where the hash table leads to one.
     #[inline(always)]
     fn find_int(&self, hash: u64, int: &i64) -> Option<u32>
-        ensures { IfSome result (λ place. (place < length self.now.keys)
-            × (slice_index_or self.now.keys place [] ≡ Int int.now ∷ [])) }
+        ensures { IfSome result (λ group_index. (group_index < length self.now.keys)
+            × (slice_index_or self.now.keys group_index [] ≡ Int int.now ∷ [])) }
     {
         let slots = self.slots.as_slice();
         for step in 0..slots.len() {
             let slot = *slots.get(slot_number(hash, step, slots.len()))?;
-            if slot.place == EMPTY {
+            if slot.group_index == EMPTY {
                 return None;
             }
-            if self.keys.is_int(slot.place, int) {
-                return Some(slot.place);
+            if self.keys.is_int(slot.group_index, int) {
+                return Some(slot.group_index);
             }
         }
         None
     }
 
-    /// A place for the key of this integer alone.
+    /// A group index for the key of this integer alone.
     #[cold]
     #[inline(never)]
     fn push_int(&mut self, alloc: Global, hash: u64, int: &i64) -> Result<u32, AllocError>
-        ensures place { IfOk result (λ place. place ≡ length self.old.keys) }
-        ensures keys { IfOk result (λ place. self.new.keys ≡ self.old.keys ++ (Int int.now ∷ [])
-            ∷ []) }
+        ensures group_index { IfOk result (λ group_index. group_index ≡ length self.old.keys) }
+        ensures keys { IfOk result (λ group_index. self.new.keys ≡ self.old.keys
+            ++ (Int int.now ∷ []) ∷ []) }
     {
-        let Ok(place) = u32::try_from(self.keys.len()) else {
+        let Ok(group_index) = u32::try_from(self.keys.len()) else {
             return Err(AllocError);
         };
         self.keys.push_int(alloc, int)?;
-        if self.keys.close_place(int) != NOWHERE {
-            return Ok(place);
+        if self.keys.close_group_index(int) != NOWHERE {
+            return Ok(group_index);
         }
-        self.lead(alloc, hash, place)?;
-        Ok(place)
+        self.lead(alloc, hash, group_index)?;
+        Ok(group_index)
     }
 
-    /// The place of the key of this integer alone, which gets one where it has none. On an error
-    /// the keys are open.
+    /// The group index of the key of this integer alone, which gets one where it has none. On an
+    /// error the keys are open.
     #[inline(always)]
-    fn place_of_int(&mut self, alloc: Global, int: &i64) -> Result<u32, AllocError>
-        ensures { IfOk result (λ place. IsFound (Int int.now ∷ []) self.old.keys place
+    fn group_index_of_int(&mut self, alloc: Global, int: &i64) -> Result<u32, AllocError>
+        ensures { IfOk result (λ group_index. IsFound (Int int.now ∷ []) self.old.keys group_index
             self.new.keys) }
     {
-        let place = self.keys.close_place(int);
-        if place != NOWHERE {
-            return Ok(place);
+        let group_index = self.keys.close_group_index(int);
+        if group_index != NOWHERE {
+            return Ok(group_index);
         }
         let hash = hash_int(int);
-        if let Some(place) = self.find_int(hash, int) {
-            return Ok(place);
+        if let Some(group_index) = self.find_int(hash, int) {
+            return Ok(group_index);
         }
         self.push_int(alloc, hash, int)
     }
 
-    /// The same where a first look found the place or `NOWHERE`.
+    /// The same where a first look found the group index or `NOWHERE`.
     #[inline(always)]
-    fn settle(&mut self, alloc: Global, place: u32, int: &i64) -> Result<u32, AllocError>
-        requires { place ≢ NOWHERE → (place < length self.old.keys)
-            × (slice_index_or self.old.keys place [] ≡ Int int.now ∷ []) }
-        ensures { IfOk result (λ place. IsFound (Int int.now ∷ []) self.old.keys place
+    fn settle(&mut self, alloc: Global, group_index: u32, int: &i64) -> Result<u32, AllocError>
+        requires { group_index ≢ NOWHERE → (group_index < length self.old.keys)
+            × (slice_index_or self.old.keys group_index [] ≡ Int int.now ∷ []) }
+        ensures { IfOk result (λ group_index. IsFound (Int int.now ∷ []) self.old.keys group_index
             self.new.keys) }
     {
-        if place != NOWHERE {
-            return Ok(place);
+        if group_index != NOWHERE {
+            return Ok(group_index);
         }
-        self.place_of_int(alloc, int)
+        self.group_index_of_int(alloc, int)
     }
 
-    /// The places of integers' keys, of which some were told or are `NOWHERE`. On an error the keys
-    /// are open.
+    /// The group indexes of integers' keys, where a first look found some and left `NOWHERE` for
+    /// the others. On an error the keys are open.
     fn settle_all(
         &mut self,
         alloc: Global,
-        told: Vec<u32>,
+        returned: Vec<u32>,
         ints: &[i64],
     ) -> Result<Vec<u32>, AllocError>
-        requires long { length told.items ≡ length ints.now }
-        requires told { (k : ℕ) → k < length ints.now → IsTold self.old.keys ints.now told.items k }
-        ensures { IfOk result (λ places. AreFound (int_keys ints.now) self.old.keys places.items
-            self.new.keys) }
+        requires long { length returned.items ≡ length ints.now }
+        requires returned { (k : ℕ) → k < length ints.now → IsReturned self.old.keys ints.now
+            returned.items k }
+        ensures { IfOk result (λ group_indexes. AreFound (int_keys ints.now) self.old.keys
+            group_indexes.items self.new.keys) }
     {
-        let mut places = told;
+        let mut group_indexes = returned;
         for k in 0..ints.len() {
-            places[k] = self.settle(alloc, places[k], &ints[k])?;
+            group_indexes[k] = self.settle(alloc, group_indexes[k], &ints[k])?;
         }
-        Ok(places)
+        Ok(group_indexes)
     }
 
-    /// The place of each integer's key. On an error the keys are open.
+    /// The group index of each integer's key. On an error the keys are open.
     fn find_ints(&mut self, alloc: Global, ints: &[i64]) -> Result<Vec<u32>, AllocError>
-        ensures { IfOk result (λ places. AreFound (int_keys ints.now) self.old.keys places.items
-            self.new.keys) }
+        ensures { IfOk result (λ group_indexes. AreFound (int_keys ints.now) self.old.keys
+            group_indexes.items self.new.keys) }
     {
         self.keys.expect_ints(alloc, ints)?;
-        let places = self.keys.close_places(alloc, ints)?;
-        if are_known(places.as_slice()) {
-            return Ok(places);
+        let group_indexes = self.keys.close_group_indexes(alloc, ints)?;
+        if are_known(group_indexes.as_slice()) {
+            return Ok(group_indexes);
         }
-        self.settle_all(alloc, places, ints)
+        self.settle_all(alloc, group_indexes, ints)
     }
 
-    /// The place at a text's home, where the key there is the text alone, else `NOWHERE`.
+    /// The group index in the slot where probing for a text begins, where the key there is the text
+    /// alone, else `NOWHERE`.
     #[inline(always)]
-    fn home_of(&self, hash: u64, text: &[u8]) -> u32
+    fn at_first_slot(&self, hash: u64, text: &[u8]) -> u32
         ensures { result ≢ NOWHERE → (result < length self.now.keys)
             × (slice_index_or self.now.keys result [] ≡ Text text.now ∷ []) }
     {
@@ -403,86 +404,97 @@ impl KeyIndex {
             return NOWHERE;
         };
         if leads_to_text(*slot, hash, &self.keys, text) {
-            return slot.place;
+            return slot.group_index;
         }
         NOWHERE
     }
 
     #[inline(always)]
-    fn home_at(&self, hashes: &[u64], texts: &[&[u8]], k: usize) -> u32
+    fn at_first_slot_of(&self, hashes: &[u64], texts: &[&[u8]], k: usize) -> u32
         requires hashes { k < length hashes.now }
         requires texts { k < length texts.now }
         ensures { result ≢ NOWHERE → (result < length self.now.keys)
             × (slice_index_or self.now.keys result [] ≡ slice_index_or (text_keys texts.now) k []) }
     {
-        self.home_of(hashes[k], texts[k])
+        self.at_first_slot(hashes[k], texts[k])
     }
 
-    /// What stands at each text's home. No text's place depends on another's, so that the processor
-    /// looks several up at once.
-    fn homes(&self, alloc: Global, hashes: &[u64], texts: &[&[u8]]) -> Result<Vec<u32>, AllocError>
+    /// What each text's first slot names. No text's group index depends on another's, so that the
+    /// processor looks several up at once.
+    fn at_first_slots(
+        &self,
+        alloc: Global,
+        hashes: &[u64],
+        texts: &[&[u8]],
+    ) -> Result<Vec<u32>, AllocError>
         requires { length hashes.now ≡ length texts.now }
-        ensures long { IfOk result (λ places. length places.items ≡ length texts.now) }
-        ensures led { IfOk result (λ places. (k : ℕ) → k < length texts.now
-            → IsLed self.now.keys (text_keys texts.now) places.items k) }
+        ensures long { IfOk result (λ group_indexes. length group_indexes.items
+            ≡ length texts.now) }
+        ensures led { IfOk result (λ group_indexes. (k : ℕ) → k < length texts.now
+            → IsLed self.now.keys (text_keys texts.now) group_indexes.items k) }
     {
-        let mut places = vec![in alloc; NOWHERE; texts.len()]?;
+        let mut group_indexes = vec![in alloc; NOWHERE; texts.len()]?;
         for k in 0..texts.len() {
-            places[k] = self.home_at(hashes, texts, k);
+            group_indexes[k] = self.at_first_slot_of(hashes, texts, k);
         }
-        Ok(places)
+        Ok(group_indexes)
     }
 
-    /// The place of the key of this text alone, where the hash table leads to one.
+    /// The group index of the key of this text alone, where the hash table leads to one.
     fn find_text(&self, hash: u64, text: &[u8]) -> Option<u32>
-        ensures { IfSome result (λ place. (place < length self.now.keys)
-            × (slice_index_or self.now.keys place [] ≡ Text text.now ∷ [])) }
+        ensures { IfSome result (λ group_index. (group_index < length self.now.keys)
+            × (slice_index_or self.now.keys group_index [] ≡ Text text.now ∷ [])) }
     {
         let slots = self.slots.as_slice();
         for step in 0..slots.len() {
             let slot = *slots.get(slot_number(hash, step, slots.len()))?;
-            if slot.place == EMPTY {
+            if slot.group_index == EMPTY {
                 return None;
             }
             if leads_to_text(slot, hash, &self.keys, text) {
-                return Some(slot.place);
+                return Some(slot.group_index);
             }
         }
         None
     }
 
-    /// A place for the key of this text alone.
+    /// A group index for the key of this text alone.
     #[cold]
     #[inline(never)]
     fn push_text(&mut self, alloc: Global, hash: u64, text: &[u8]) -> Result<u32, AllocError>
         requires { is_utf8 text.now ≡ true }
-        ensures place { IfOk result (λ place. place ≡ length self.old.keys) }
-        ensures keys { IfOk result (λ place. self.new.keys ≡ self.old.keys ++ (Text text.now ∷ [])
-            ∷ []) }
+        ensures group_index { IfOk result (λ group_index. group_index ≡ length self.old.keys) }
+        ensures keys { IfOk result (λ group_index. self.new.keys ≡ self.old.keys
+            ++ (Text text.now ∷ []) ∷ []) }
     {
         let key = key_of_text(alloc, text)?;
         self.push(alloc, hash, key)
     }
 
-    /// The place of the key of this text alone, which gets one where it has none. On an error the
-    /// keys are open.
-    fn place_of_text(&mut self, alloc: Global, hash: u64, text: &[u8]) -> Result<u32, AllocError>
+    /// The group index of the key of this text alone, which gets one where it has none. On an error
+    /// the keys are open.
+    fn group_index_of_text(
+        &mut self,
+        alloc: Global,
+        hash: u64,
+        text: &[u8],
+    ) -> Result<u32, AllocError>
         requires { is_utf8 text.now ≡ true }
-        ensures { IfOk result (λ place. IsFound (Text text.now ∷ []) self.old.keys place
+        ensures { IfOk result (λ group_index. IsFound (Text text.now ∷ []) self.old.keys group_index
             self.new.keys) }
     {
-        if let Some(place) = self.find_text(hash, text) {
-            return Ok(place);
+        if let Some(group_index) = self.find_text(hash, text) {
+            return Ok(group_index);
         }
         self.push_text(alloc, hash, text)
     }
 
-    /// The same of the k-th text, where a first look found the place or `NOWHERE`.
+    /// The same of the k-th text, where a first look found the group index or `NOWHERE`.
     #[inline(always)]
     fn settle_text(
         &mut self,
         alloc: Global,
-        place: u32,
+        group_index: u32,
         hashes: &[u64],
         texts: &[&[u8]],
         k: usize,
@@ -490,42 +502,43 @@ impl KeyIndex {
         requires hashes { k < length hashes.now }
         requires texts { k < length texts.now }
         requires spelled { All (λ t. is_utf8 t.now ≡ true) texts.now }
-        requires led { place ≢ NOWHERE → (place < length self.old.keys)
-            × (slice_index_or self.old.keys place [] ≡ slice_index_or (text_keys texts.now) k []) }
-        ensures { IfOk result (λ place. IsFound (slice_index_or (text_keys texts.now) k [])
-            self.old.keys place self.new.keys) }
+        requires led { group_index ≢ NOWHERE → (group_index < length self.old.keys)
+            × (slice_index_or self.old.keys group_index []
+            ≡ slice_index_or (text_keys texts.now) k []) }
+        ensures { IfOk result (λ group_index. IsFound (slice_index_or (text_keys texts.now) k [])
+            self.old.keys group_index self.new.keys) }
     {
-        if place != NOWHERE {
-            return Ok(place);
+        if group_index != NOWHERE {
+            return Ok(group_index);
         }
-        self.place_of_text(alloc, hashes[k], texts[k])
+        self.group_index_of_text(alloc, hashes[k], texts[k])
     }
 
-    /// The places of texts' keys, of which some were told or are `NOWHERE`. On an error the keys
-    /// are open.
+    /// The group indexes of texts' keys, where a first look found some and left `NOWHERE` for the
+    /// others. On an error the keys are open.
     fn settle_texts(
         &mut self,
         alloc: Global,
-        told: Vec<u32>,
+        returned: Vec<u32>,
         hashes: &[u64],
         texts: &[&[u8]],
     ) -> Result<Vec<u32>, AllocError>
         requires hashes { length hashes.now ≡ length texts.now }
         requires spelled { All (λ t. is_utf8 t.now ≡ true) texts.now }
-        requires long { length told.items ≡ length texts.now }
+        requires long { length returned.items ≡ length texts.now }
         requires led { (k : ℕ) → k < length texts.now
-            → IsLed self.old.keys (text_keys texts.now) told.items k }
-        ensures { IfOk result (λ places. AreFound (text_keys texts.now) self.old.keys places.items
-            self.new.keys) }
+            → IsLed self.old.keys (text_keys texts.now) returned.items k }
+        ensures { IfOk result (λ group_indexes. AreFound (text_keys texts.now) self.old.keys
+            group_indexes.items self.new.keys) }
     {
-        let mut places = told;
+        let mut group_indexes = returned;
         for k in 0..texts.len() {
-            places[k] = self.settle_text(alloc, places[k], hashes, texts, k)?;
+            group_indexes[k] = self.settle_text(alloc, group_indexes[k], hashes, texts, k)?;
         }
-        Ok(places)
+        Ok(group_indexes)
     }
 
-    /// The place of each text's key. On an error the keys are open.
+    /// The group index of each text's key. On an error the keys are open.
     fn find_texts(
         &mut self,
         alloc: Global,
@@ -534,17 +547,18 @@ impl KeyIndex {
     ) -> Result<Vec<u32>, AllocError>
         requires hashes { length hashes.now ≡ length texts.now }
         requires spelled { All (λ t. is_utf8 t.now ≡ true) texts.now }
-        ensures { IfOk result (λ places. AreFound (text_keys texts.now) self.old.keys places.items
-            self.new.keys) }
+        ensures { IfOk result (λ group_indexes. AreFound (text_keys texts.now) self.old.keys
+            group_indexes.items self.new.keys) }
     {
-        let places = self.homes(alloc, hashes, texts)?;
-        if are_known(places.as_slice()) {
-            return Ok(places);
+        let group_indexes = self.at_first_slots(alloc, hashes, texts)?;
+        if are_known(group_indexes.as_slice()) {
+            return Ok(group_indexes);
         }
-        self.settle_texts(alloc, places, hashes, texts)
+        self.settle_texts(alloc, group_indexes, hashes, texts)
     }
 
-    /// The place of each selected row's key, of one column or more. On an error the keys are open.
+    /// The group index of each selected row's key, of one column or more. On an error the keys are
+    /// open.
     fn find_rows(
         &mut self,
         alloc: Global,
@@ -554,15 +568,21 @@ impl KeyIndex {
     ) -> Result<Vec<u32>, AllocError>
         requires lanes { AreLanesOf selection.now.below lanes.now }
         requires hashes { length hashes.now ≡ length selection.now.list }
-        ensures { IfOk result (λ places. AreFound (rows_at lanes.now selection.now.list)
-            self.old.keys places.items self.new.keys) }
+        ensures { IfOk result (λ group_indexes. AreFound (rows_at lanes.now selection.now.list)
+            self.old.keys group_indexes.items self.new.keys) }
     {
-        let mut places = Vec::with_capacity(alloc, selection.len())?;
+        let mut group_indexes = Vec::with_capacity(alloc, selection.len())?;
         for k in 0..selection.len() {
             let at = position(selection, k);
-            places.push(self.place_of_lanes(alloc, hashes[k], lanes, at, selection.below())?)?;
+            group_indexes.push(self.group_index_of_lanes(
+                alloc,
+                hashes[k],
+                lanes,
+                at,
+                selection.below(),
+            )?)?;
         }
-        Ok(places)
+        Ok(group_indexes)
     }
 
     /// The same by the loop that fits the columns. On an error the keys are open.
@@ -573,8 +593,8 @@ impl KeyIndex {
         selection: &Selection,
     ) -> Result<Vec<u32>, AllocError>
         requires { AreLanesOf selection.now.below lanes.now }
-        ensures { IfOk result (λ places. AreFound (rows_at lanes.now selection.now.list)
-            self.old.keys places.items self.new.keys) }
+        ensures { IfOk result (λ group_indexes. AreFound (rows_at lanes.now selection.now.list)
+            self.old.keys group_indexes.items self.new.keys) }
     {
         if let Some(ints) = plain_key(lanes, selection) {
             return self.find_ints(alloc, ints);
@@ -589,22 +609,22 @@ impl KeyIndex {
         self.find_rows(alloc, hashes.as_slice(), lanes, selection)
     }
 
-    /// The place of each selected row's key. Keys that have none get one. On an error the keys are
-    /// open.
-    pub fn find_places(
+    /// The group index of each selected row's key. Keys that have none get one. On an error the
+    /// keys are open.
+    pub fn find_group_indexes(
         &mut self,
         alloc: Global,
         lanes: &[Vector<'_>],
         selection: &Selection,
-    ) -> Result<RowPlaces, AllocError>
+    ) -> Result<RowGroups, AllocError>
         requires { AreLanesOf selection.now.below lanes.now }
-        ensures { IfOk result (λ places. AreFound (rows_at lanes.now selection.now.list)
-            self.old.keys (listed places) self.new.keys) }
+        ensures { IfOk result (λ group_indexes. AreFound (rows_at lanes.now selection.now.list)
+            self.old.keys (listed group_indexes) self.new.keys) }
     {
         if lanes.is_empty() {
-            return self.places_without_keys(alloc, selection);
+            return self.group_indexes_without_keys(alloc, selection);
         }
-        Ok(row_places(self.find_each(alloc, lanes, selection)?))
+        Ok(row_groups(self.find_each(alloc, lanes, selection)?))
     }
 
     /// The empty key alone, or no key.
@@ -628,7 +648,7 @@ impl KeyIndex {
         keys
     }
 
-    /// The same keys at the same places, in memory of their own.
+    /// The same keys at the same group indexes, in memory of their own.
     pub fn copy(&self, alloc: Global) -> Result<KeyIndex, AllocError>
         ensures { IfOk result (λ index. index.keys ≡ self.now.keys) }
     {

@@ -1,21 +1,21 @@
-//! Keys in the order of their places. Keys of one column stand as values, so that they need no
-//! memory of their own.
+//! Keys in the order of their group indexes. Keys of one column stand as values, so that they need
+//! no memory of their own.
 ghost use Rattle.std.specs.Prelude.{◌≡◌, ◌≢◌, ℕ, ◌<◌, ◌∷◌, ◌++◌, [], length, pos, map, slice_index_or, All, true, IfOk, IfSome, OnOk};
 ghost use Rattle.meaning.specs.declared.value.Value.TheVariants.{Int, Text};
 ghost use Rattle.vectors.specs.Vector.{values_of};
-ghost use Rattle.group_by.specs.Keys.{alone, rows_in, IsTold};
+ghost use Rattle.group_by.specs.Keys.{alone, rows_in, IsReturned};
 ghost use Rattle.group_by.specs.Rows.{row_at, AreLanesOf};
 
-use crate::close_ints::{NOWHERE, close_place, enter, window_of};
+use crate::close_ints::{NOWHERE, close_group_index, enter, window_of};
 use crate::keys::{
     copy_key, is_int, is_int_value, is_key, is_lane_value, is_row, is_row_value, is_text_key,
     is_text_value, key_of_value, only_value,
 };
-use meaning::value::{Row, Value};
+use meaning::{Row, Value};
 use std::alloc::{AllocError, Global};
 use std::marker::Model;
 use std::mem::replace;
-use vectors::vector::Vector;
+use vectors::Vector;
 
 #[derive(Drop)]
 enum Held {
@@ -23,12 +23,12 @@ enum Held {
     Rows(Vec<Row>),
 }
 
-/// Keys by their places. Contracts see their list.
+/// Keys by their group indexes. Contracts see their list.
 #[derive(Drop)]
 pub struct KeyList {
     held: Held,
-    // The places of keys that are integers close to each other, by how far they are above a least
-    // one.
+    // The group indexes of keys that are integers close to each other, by how far they are above a
+    // least one.
     least: i64,
     close: Vec<u32>,
 }
@@ -46,19 +46,19 @@ impl Model for KeyList {
 }
 
 #[inline(always)]
-fn value_of(values: &[Value], place: u32) -> Option<&Value>
-    ensures { IfSome result (λ v. (place < length (alone values.now))
-        × (slice_index_or (alone values.now) place [] ≡ v.now ∷ [])) }
+fn value_of(values: &[Value], group_index: u32) -> Option<&Value>
+    ensures { IfSome result (λ v. (group_index < length (alone values.now))
+        × (slice_index_or (alone values.now) group_index [] ≡ v.now ∷ [])) }
 {
-    values.get(place as usize)
+    values.get(group_index as usize)
 }
 
 #[inline(always)]
-fn row_of(rows: &[Row], place: u32) -> Option<&Row>
-    ensures { IfSome result (λ row. (place < length rows.now)
-        × (slice_index_or rows.now place [] ≡ row.now)) }
+fn row_of(rows: &[Row], group_index: u32) -> Option<&Row>
+    ensures { IfSome result (λ row. (group_index < length rows.now)
+        × (slice_index_or rows.now group_index [] ≡ row.now)) }
 {
-    rows.get(place as usize)
+    rows.get(group_index as usize)
 }
 
 /// The same keys as rows.
@@ -145,72 +145,72 @@ impl KeyList {
         }
     }
 
-    /// Whether the key at a place is the one that these vectors have at a position.
+    /// Whether the key at a group index is the one that these vectors have at a position.
     #[inline(always)]
-    pub fn is_key(&self, place: u32, lanes: &[Vector<'_>], at: usize) -> bool
+    pub fn is_key(&self, group_index: u32, lanes: &[Vector<'_>], at: usize) -> bool
         requires { All (λ column. at < length (values_of column)) lanes.now }
-        ensures { result ≡ true → (place < length self.now)
-            × (slice_index_or self.now place [] ≡ row_at lanes.now at) }
+        ensures { result ≡ true → (group_index < length self.now)
+            × (slice_index_or self.now group_index [] ≡ row_at lanes.now at) }
     {
         match &self.held {
-            Held::Values(values) => match value_of(values.as_slice(), place) {
+            Held::Values(values) => match value_of(values.as_slice(), group_index) {
                 Some(value) => is_lane_value(value, lanes, at),
                 None => false,
             },
-            Held::Rows(rows) => match row_of(rows.as_slice(), place) {
+            Held::Rows(rows) => match row_of(rows.as_slice(), group_index) {
                 Some(row) => is_key(row, lanes, at),
                 None => false,
             },
         }
     }
 
-    /// Whether the key at a place is this one.
-    pub fn is_row(&self, place: u32, key: &Row) -> bool
-        ensures { result ≡ true → (place < length self.now)
-            × (slice_index_or self.now place [] ≡ key.now) }
+    /// Whether the key at a group index is this one.
+    pub fn is_row(&self, group_index: u32, key: &Row) -> bool
+        ensures { result ≡ true → (group_index < length self.now)
+            × (slice_index_or self.now group_index [] ≡ key.now) }
     {
         match &self.held {
-            Held::Values(values) => match value_of(values.as_slice(), place) {
+            Held::Values(values) => match value_of(values.as_slice(), group_index) {
                 Some(value) => is_row_value(value, key),
                 None => false,
             },
-            Held::Rows(rows) => match row_of(rows.as_slice(), place) {
+            Held::Rows(rows) => match row_of(rows.as_slice(), group_index) {
                 Some(row) => is_row(row, key),
                 None => false,
             },
         }
     }
 
-    /// Whether the key at a place is this integer alone.
+    /// Whether the key at a group index is this integer alone.
     #[inline(always)]
-    pub fn is_int(&self, place: u32, int: &i64) -> bool
-        ensures { result ≡ true → (place < length self.now)
-            × (slice_index_or self.now place [] ≡ Int int.now ∷ []) }
+    pub fn is_int(&self, group_index: u32, int: &i64) -> bool
+        ensures { result ≡ true → (group_index < length self.now)
+            × (slice_index_or self.now group_index [] ≡ Int int.now ∷ []) }
     {
         match &self.held {
-            Held::Values(values) => match value_of(values.as_slice(), place) {
+            Held::Values(values) => match value_of(values.as_slice(), group_index) {
                 Some(value) => is_int_value(value, int),
                 None => false,
             },
-            Held::Rows(rows) => match row_of(rows.as_slice(), place) {
+            Held::Rows(rows) => match row_of(rows.as_slice(), group_index) {
                 Some(row) => is_int(row, int),
                 None => false,
             },
         }
     }
 
-    /// Whether the key at a place is this text alone.
+    /// Whether the key at a group index is this text alone.
     #[inline(always)]
-    pub fn is_text(&self, place: u32, text: &[u8]) -> bool
-        ensures { result ≡ true → (place < length self.now)
-            × (slice_index_or self.now place [] ≡ Text text.now ∷ []) }
+    pub fn is_text(&self, group_index: u32, text: &[u8]) -> bool
+        ensures { result ≡ true → (group_index < length self.now)
+            × (slice_index_or self.now group_index [] ≡ Text text.now ∷ []) }
     {
         match &self.held {
-            Held::Values(values) => match value_of(values.as_slice(), place) {
+            Held::Values(values) => match value_of(values.as_slice(), group_index) {
                 Some(value) => is_text_value(value, text),
                 None => false,
             },
-            Held::Rows(rows) => match row_of(rows.as_slice(), place) {
+            Held::Rows(rows) => match row_of(rows.as_slice(), group_index) {
                 Some(row) => is_text_key(row, text),
                 None => false,
             },
@@ -234,28 +234,28 @@ impl KeyList {
         Ok(())
     }
 
-    /// The place of the key of this integer alone, where the table of such integers leads to one,
-    /// else `NOWHERE`.
+    /// The group index of the key of this integer alone, where the table of such integers leads to
+    /// one, else `NOWHERE`.
     #[inline(always)]
-    pub fn close_place(&self, int: &i64) -> u32
+    pub fn close_group_index(&self, int: &i64) -> u32
         ensures { result ≢ NOWHERE → (result < length self.now)
             × (slice_index_or self.now result [] ≡ Int int.now ∷ []) }
     {
-        close_place(self.close.as_slice(), &self.least, int)
+        close_group_index(self.close.as_slice(), &self.least, int)
     }
 
     /// The same of each integer. No branch depends on one, so that the processor looks several up
     /// at once.
-    pub fn close_places(&self, alloc: Global, ints: &[i64]) -> Result<Vec<u32>, AllocError>
-        ensures long { IfOk result (λ places. length places.items ≡ length ints.now) }
-        ensures found { IfOk result (λ places. (k : ℕ) → k < length ints.now
-            → IsTold self.now ints.now places.items k) }
+    pub fn close_group_indexes(&self, alloc: Global, ints: &[i64]) -> Result<Vec<u32>, AllocError>
+        ensures long { IfOk result (λ group_indexes. length group_indexes.items ≡ length ints.now) }
+        ensures found { IfOk result (λ group_indexes. (k : ℕ) → k < length ints.now
+            → IsReturned self.now ints.now group_indexes.items k) }
     {
-        let mut places = vec![in alloc; NOWHERE; ints.len()]?;
+        let mut group_indexes = vec![in alloc; NOWHERE; ints.len()]?;
         for k in 0..ints.len() {
-            places[k] = self.close_place(&ints[k]);
+            group_indexes[k] = self.close_group_index(&ints[k]);
         }
-        Ok(places)
+        Ok(group_indexes)
     }
 
     /// A key of one value more. On an error the keys are open, and no entry leads to one.
@@ -275,9 +275,9 @@ impl KeyList {
     pub fn push_int(&mut self, alloc: Global, int: &i64) -> Result<(), AllocError>
         ensures { OnOk result (self.new ≡ self.old ++ (Int int.now ∷ []) ∷ []) }
     {
-        let place = self.len();
+        let group_index = self.len();
         self.push_one(alloc, Value::Int(*int))?;
-        enter(self.close.as_mut_slice(), &self.least, int, place);
+        enter(self.close.as_mut_slice(), &self.least, int, group_index);
         Ok(())
     }
 

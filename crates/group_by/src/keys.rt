@@ -10,12 +10,10 @@ ghost use Rattle.group_by.specs.Rows.{int_keys, row_at, rows_at, AreLanesOf};
 
 use crate::same_bytes::are_same_bytes;
 use accumulators::{owned, plain_ints, value_at};
-use meaning::sequence::Sequence;
-use meaning::value::{Row, Value, ValueRef};
+use meaning::{Row, Sequence, Value, ValueRef};
 use std::alloc::{AllocError, Global};
 use std::cmp::Ordering;
-use vectors::selection::Selection;
-use vectors::vector::Vector;
+use vectors::{Selection, Vector};
 
 #[inline(always)]
 fn is_text(text: &[u8], other: ValueRef<'_>) -> bool

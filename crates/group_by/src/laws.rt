@@ -1,7 +1,7 @@
 //! Laws on groups, each a contract.
 ghost use Rattle.group_by.specs.Groups.{SaysAs, TablesGrow};
 
-use meaning::plan::Plan;
+use meaning::Plan;
 
 /// The words of this crate say what the plan's own do.
 pub fn says_as(plan: &Plan)

@@ -6,9 +6,7 @@ ghost use Rattle.accumulators.specs.Values.{selected};
 ghost use Rattle.vectors.specs.Vector.{values_of};
 ghost use Rattle.group_by.specs.Rows.{rows_at, text_keys, AreLanesOf};
 
-use vectors::selection::Selection;
-use vectors::texts::{TextCells, Texts};
-use vectors::vector::Vector;
+use vectors::{Selection, TextCells, Texts, Vector};
 
 fn plain_cells<'v, 'a>(texts: &'v Texts<'a>) -> Option<&'v [&'a [u8]]>
     ensures { IfSome result (λ cells. map Text (map (λ t. t.now) cells.now) ≡ texts.now) }
@@ -33,7 +31,7 @@ pub fn plain_texts<'v, 'a>(lanes: &'v Vector<'a>, selection: &Selection) -> Opti
         ≡ values_of lanes.now) }
     ensures long { IfSome result (λ texts. length texts.now ≡ length selection.now.list) }
 {
-    let None = selection.places() else {
+    let None = selection.positions() else {
         return None;
     };
     let Vector::Texts(texts) = lanes else {

@@ -4,19 +4,17 @@ ghost use Rattle.meaning.specs.declared.value.Value.TheVariants.{Int, Null};
 ghost use Rattle.group_by.specs.Rows.{int_keys, rows_at, AreLanesOf};
 
 use std::alloc::{AllocError, Global};
-use vectors::ints::{IntCells, Ints};
-use vectors::selection::Selection;
-use vectors::vector::Vector;
+use vectors::{IntCells, Ints, Selection, Vector};
 
-/// The integers at these places.
-fn gathered(alloc: Global, cells: &[i64], places: &[u32]) -> Result<Vec<i64>, AllocError>
-    requires { All (λ place. place < length cells.now) places.now }
+/// The integers at these positions.
+fn gathered(alloc: Global, cells: &[i64], positions: &[u32]) -> Result<Vec<i64>, AllocError>
+    requires { All (λ position. position < length cells.now) positions.now }
     ensures { IfOk result (λ ints. ints.items
-        ≡ map (λ place. slice_index_or cells.now place (pos 0)) places.now) }
+        ≡ map (λ position. slice_index_or cells.now position (pos 0)) positions.now) }
 {
-    let mut ints = Vec::with_capacity(alloc, places.len())?;
-    for place in places {
-        ints.push(cells[*place as usize])?;
+    let mut ints = Vec::with_capacity(alloc, positions.len())?;
+    for position in positions {
+        ints.push(cells[*position as usize])?;
     }
     Ok(ints)
 }
@@ -30,13 +28,13 @@ fn selected_cells(
     ensures { IfOk result (λ found. IfSome found (λ own. map Int own.items
         ≡ map (λ at. slice_index_or ints.now at Null) selection.now.list)) }
 {
-    let Some(places) = selection.places() else {
+    let Some(positions) = selection.positions() else {
         return Ok(None);
     };
     let Some(cells) = ints.plain() else {
         return Ok(None);
     };
-    Ok(Some(gathered(alloc, cells, places)?))
+    Ok(Some(gathered(alloc, cells, positions)?))
 }
 
 /// The integers of one key at the selected rows, where not all are selected and none is NULL.

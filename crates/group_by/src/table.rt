@@ -5,7 +5,7 @@ ghost use Rattle.meaning.specs.Group.{certain_keys};
 ghost use Rattle.accumulators.specs.State.{most_entries};
 ghost use Rattle.group_by.specs.Shape.{empty_key, shape_of};
 ghost use Rattle.group_by.specs.Groups.{all_rows, fresh, with_rows, with_groups};
-ghost use Rattle.group_by.specs.Places.{no_column, state_at, AreAdded, AreFresh, IsAbsorbed};
+ghost use Rattle.group_by.specs.GroupIndexes.{no_column, state_at, AreAdded, AreFresh, IsAbsorbed};
 ghost use Rattle.group_by.specs.Rows.{kept_rows, rows_at, AreLanesOf, IsGroupOf};
 
 use crate::columns::{copy_columns, fresh_columns, merge_all, update_all};
@@ -13,12 +13,10 @@ use crate::counts::{count_rows, raise};
 use crate::handing_out::in_order;
 use crate::index::KeyIndex;
 use accumulators::{Group, StateColumn};
-use meaning::plan::{Aggregate, Plan};
-use meaning::sequence::Sequence;
+use meaning::{Aggregate, Plan, Sequence};
 use std::alloc::{AllocError, Global};
 use std::marker::Model;
-use vectors::selection::Selection;
-use vectors::vector::Vector;
+use vectors::{Selection, Vector};
 
 /// A table of groups. Contracts see the groups in the order of their keys, whatever the order in
 /// which rows came, how many rows were taken in all, and how many groups were handed to
@@ -28,7 +26,7 @@ pub struct GroupTable {
     // Whether the empty key has a group in any case.
     is_certain: bool,
     index: KeyIndex,
-    // By the places of the keys, as the states in the columns are.
+    // By the group indexes of the keys, as the states in the columns are.
     rows: Vec<u64>,
     columns: Vec<StateColumn>,
     taken: u64,
@@ -37,14 +35,14 @@ pub struct GroupTable {
 
 impl Model for GroupTable {
     ghost use Rattle.group_by.specs.Shape.{GroupsSpec};
-    ghost use Rattle.group_by.specs.Places.{table_of, ArePlaces};
+    ghost use Rattle.group_by.specs.GroupIndexes.{table_of, IsWellFormed};
 
     ghost Value = { GroupsSpec };
 
     ghost view = { λ t. table_of t.is_certain t.index.keys t.rows.items t.columns.items t.taken
         t.handed };
 
-    ghost invariant = { λ t. ArePlaces t.is_certain t.index.keys t.rows.items t.columns.items
+    ghost invariant = { λ t. IsWellFormed t.is_certain t.index.keys t.rows.items t.columns.items
         t.taken };
 }
 
@@ -56,8 +54,8 @@ struct SelectedRows<'a> {
     selection: &'a Selection,
 }
 
-/// Finds the places of the selected rows, and counts them and their arguments there. On an error
-/// all of it is open.
+/// Finds the group indexes of the selected rows, and counts them and their arguments there. On an
+/// error all of it is open.
 fn add_rows(
     alloc: Global,
     index: &mut KeyIndex,
@@ -72,22 +70,22 @@ fn add_rows(
     requires heights { (c : ℕ)
         → length (slice_index_or columns.old.items c no_column).states ≤ length index.old.keys }
     requires few { sum rows.old.items + length selected.now.selection.now.list ≤ most_entries }
-    requires states { (c place : ℕ)
-        → (state_at columns.old.items c place).count + length selected.now.selection.now.list
+    requires states { (c group_index : ℕ)
+        → (state_at columns.old.items c group_index).count + length selected.now.selection.now.list
         ≤ most_entries }
     ensures { OnOk result
         (AreAdded (rows_at selected.now.keys.now selected.now.selection.now.list)
         (rows_at selected.now.arguments.now selected.now.selection.now.list) index.old.keys
         rows.old.items columns.old.items index.new.keys rows.new.items columns.new.items) }
 {
-    let places = index.find_places(alloc, selected.keys, selected.selection)?;
+    let group_indexes = index.find_group_indexes(alloc, selected.keys, selected.selection)?;
     let height = index.keys.len();
-    count_rows(rows, height, &places)?;
+    count_rows(rows, height, &group_indexes)?;
     update_all(
         columns.as_mut_slice(),
         alloc,
         height,
-        &places,
+        &group_indexes,
         selected.arguments,
         selected.selection,
     )?;
@@ -132,7 +130,8 @@ fn has_certain_key(plan: &Plan) -> bool
     }
 }
 
-/// Finds the place of a group's key, and merges the group there. On an error all of it is open.
+/// Finds the group index of a group's key, and merges the group there. On an error all of it is
+/// open.
 fn add_group(
     alloc: Global,
     index: &mut KeyIndex,
@@ -145,16 +144,22 @@ fn add_group(
     requires heights { (c : ℕ)
         → length (slice_index_or columns.old.items c no_column).states ≤ length index.old.keys }
     requires few { sum rows.old.items + group.now.rows ≤ most_entries }
-    requires states { (c place : ℕ) → c < length columns.old.items
-        → (state_at columns.old.items c place).count +
+    requires states { (c group_index : ℕ) → c < length columns.old.items
+        → (state_at columns.old.items c group_index).count +
         (slice_index_or group.now.states c no_statistics).count ≤ most_entries }
     ensures { OnOk result (IsAbsorbed group.now index.old.keys rows.old.items columns.old.items
         index.new.keys rows.new.items columns.new.items) }
 {
-    let place = index.place_of_row(alloc, group.key())? as usize;
+    let group_index = index.group_index_of_row(alloc, group.key())? as usize;
     let height = index.keys.len();
-    raise(rows, height, place, group.rows())?;
-    merge_all(columns.as_mut_slice(), alloc, height, place, group.states())?;
+    raise(rows, height, group_index, group.rows())?;
+    merge_all(
+        columns.as_mut_slice(),
+        alloc,
+        height,
+        group_index,
+        group.states(),
+    )?;
     Ok(())
 }
 

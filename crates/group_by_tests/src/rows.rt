@@ -5,10 +5,7 @@ ghost use Rattle.vectors.specs.Vector.{values_of};
 ghost use Rattle.group_by.specs.Rows.{AreLanesOf};
 
 use std::alloc::{AllocError, Global};
-use vectors::ints::{IntCells, Ints};
-use vectors::nulls::Nulls;
-use vectors::texts::{TextCells, Texts};
-use vectors::vector::Vector;
+use vectors::{IntCells, Ints, Nulls, TextCells, Texts, Vector};
 
 pub const NULL: i64 = 404;
 
@@ -30,7 +27,7 @@ fn nulls_of(alloc: Global, list: &[i64]) -> Result<Vec<bool>, AllocError>
     Ok(nulls)
 }
 
-/// A vector of so many lanes with these integers; 404 stands for NULL.
+/// A vector of so many lanes with these integers; 404 is NULL.
 pub fn vector_of(alloc: Global, list: &[i64], lanes: usize) -> Result<Vector<'static>, AllocError>
     ensures { IfOk result (λ vector. (length (values_of vector) ≡ lanes) × All (λ v. is_spelled v
         ≡ true) (values_of vector)) }

@@ -6,18 +6,17 @@ ghost use Rattle.group_by.specs.Shape.{shape_of};
 ghost use Rattle.group_by_tests.specs.Tables.{HasTaken};
 
 use crate::rows::{NULL, alike, plain, twice, vector_of, vectors_of};
-use crate::tables::{sum_by, table_of, told, with_rows};
+use crate::tables::{shown, sum_by, table_of, with_rows};
 use accumulators::Group;
 use group_by::GroupTable;
-use meaning::plan::Plan;
-use meaning::value::Value;
+use meaning::{Plan, Value};
 use std::alloc::{AllocError, Global};
 use std::mem::drop;
 use std::process::Abort;
-use vectors::vector::Vector;
+use vectors::Vector;
 
 /// What the table of these rows hands out.
-fn told_of(
+fn shown_of(
     alloc: Global,
     plan: &Plan,
     keys: &[Vector<'_>],
@@ -29,7 +28,7 @@ fn told_of(
 {
     let table = table_of(alloc, plan, keys, list)?;
     let groups = table.into_groups(alloc)?;
-    told(alloc, groups.as_slice())
+    shown(alloc, groups.as_slice())
 }
 
 fn expect(
@@ -43,9 +42,9 @@ fn expect(
     requires keys { AreLanesOf (length list.now) keys.now }
 {
     let plan = sum_by(alloc, keys.len())?;
-    let told = told_of(alloc, &plan, keys, list);
+    let shown = shown_of(alloc, &plan, keys, list);
     drop(plan);
-    assert_eq!(rt; told?.as_str(), want);
+    assert_eq!(rt; shown?.as_str(), want);
     Ok(())
 }
 
@@ -124,7 +123,7 @@ struct Part<'a> {
 }
 
 /// What the table of these rows hands out, and of those behind them.
-fn told_of_both(
+fn shown_of_both(
     alloc: Global,
     plan: &Plan,
     first: &Part<'_>,
@@ -140,7 +139,7 @@ fn told_of_both(
     let arguments = [vector_of(alloc, more.list, more.list.len())?];
     let table = with_rows(alloc, table, more.keys, &arguments, more.list.len())?;
     let groups = table.into_groups(alloc)?;
-    told(alloc, groups.as_slice())
+    shown(alloc, groups.as_slice())
 }
 
 fn expect_both(
@@ -156,9 +155,9 @@ fn expect_both(
     requires more_keys { AreLanesOf (length more.now.list.now) more.now.keys.now }
 {
     let plan = sum_by(alloc, 1)?;
-    let told = told_of_both(alloc, &plan, first, more);
+    let shown = shown_of_both(alloc, &plan, first, more);
     drop(plan);
-    assert_eq!(rt; told?.as_str(), want);
+    assert_eq!(rt; shown?.as_str(), want);
     Ok(())
 }
 
@@ -169,8 +168,8 @@ type Rows = (&'static [i64], &'static [i64]);
 type Both = (Rows, Rows, &'static str);
 
 const BOTH: &[Both] = &[
-    // The first are close to each other, so they have places in a table of their own; those with a
-    // mask are hashed.
+    // The first are close to each other, so their group indexes stand in a table of their own;
+    // those with a mask are hashed.
     (
         (&[5, 6, 5], &[1, 2, 4]),
         (&[6, NULL, 7, 6], &[8, 16, 32, 64]),
@@ -322,7 +321,7 @@ fn with_groups_of(
 }
 
 /// What is handed out of the first table, with the groups of the two others.
-fn told_merged(
+fn shown_merged(
     alloc: Global,
     plan: &Plan,
     one: Rows,
@@ -335,7 +334,7 @@ fn told_merged(
     let table = with_groups_of(alloc, plan, table, two)?;
     let table = with_groups_of(alloc, plan, table, three)?;
     let groups = table.into_groups(alloc)?;
-    told(alloc, groups.as_slice())
+    shown(alloc, groups.as_slice())
 }
 
 fn expect_merged(
@@ -346,10 +345,10 @@ fn expect_merged(
     three: Rows,
 ) -> Result<(), AllocError> {
     let plan = sum_by(alloc, 1)?;
-    let told = told_merged(alloc, &plan, one, two, three);
+    let shown = shown_merged(alloc, &plan, one, two, three);
     drop(plan);
     let want = "NULL 2 2 18; -5 1 1 64; 2 2 2 12; 7 3 3 161; 9 1 0 0; ";
-    assert_eq!(rt; told?.as_str(), want);
+    assert_eq!(rt; shown?.as_str(), want);
     Ok(())
 }
 
@@ -365,17 +364,17 @@ fn three_tables_are_merged_in_every_order(rt: HostRuntime) -> Result<(), AllocEr
 }
 
 /// What a copy hands out whose table takes groups, before and behind them.
-fn told_copied(alloc: Global, plan: &Plan) -> Result<String, AllocError>
+fn shown_copied(alloc: Global, plan: &Plan) -> Result<String, AllocError>
     requires { map (λ a. a.kind) plan.now.aggs ≡ Sum ∷ [] }
 {
     let table = table_by(alloc, plan, ONE)?;
     let copy = table.copy(alloc)?;
     let table = with_groups_of(alloc, plan, table, TWO)?;
     let old = copy.into_groups(alloc)?;
-    let mut said = told(alloc, old.as_slice())?;
+    let mut said = shown(alloc, old.as_slice())?;
     said.push_str("and then ")?;
     let new = table.groups(alloc)?;
-    said.push_str(told(alloc, new.as_slice())?.as_str())?;
+    said.push_str(shown(alloc, new.as_slice())?.as_str())?;
     Ok(said)
 }
 
@@ -383,10 +382,10 @@ fn told_copied(alloc: Global, plan: &Plan) -> Result<String, AllocError>
 fn a_copy_stays_as_it_is(rt: HostRuntime) -> Result<(), AllocError> {
     let alloc = rt.alloc();
     let plan = sum_by(alloc, 1)?;
-    let told = told_copied(alloc, &plan);
+    let shown = shown_copied(alloc, &plan);
     drop(plan);
     let want = "NULL 1 1 2; 2 1 1 4; 7 1 1 1; and then NULL 1 1 2; 2 2 2 12; 7 1 1 1; 9 1 0 0; ";
-    assert_eq!(rt; told?.as_str(), want);
+    assert_eq!(rt; shown?.as_str(), want);
     Ok(())
 }
 
@@ -412,8 +411,8 @@ fn is_of(group: &Group, number: i64) -> bool {
     key[0] == Value::Int(number) && group.rows() == 1 && states[0].sum() == i128::from(number)
 }
 
-/// How many groups stand at their places.
-fn in_place(groups: &[Group], apart: i64) -> usize {
+/// How many groups stand where their keys say.
+fn in_order(groups: &[Group], apart: i64) -> usize {
     let mut many: usize = 0;
     for k in 0..groups.len() {
         if is_of(
@@ -426,7 +425,7 @@ fn in_place(groups: &[Group], apart: i64) -> usize {
     many
 }
 
-fn in_place_of(
+fn in_order_of(
     alloc: Global,
     plan: &Plan,
     list: &[i64],
@@ -439,10 +438,10 @@ fn in_place_of(
     let vectors = [plain(list)];
     let table = with_rows(alloc, table, &vectors, &vectors, list.len())?;
     let groups = table.into_groups(alloc)?;
-    Ok((groups.len(), in_place(groups.as_slice(), apart)))
+    Ok((groups.len(), in_order(groups.as_slice(), apart)))
 }
 
-fn expect_in_place(
+fn expect_in_order(
     rt: &impl Abort,
     alloc: Global,
     many: usize,
@@ -452,15 +451,15 @@ fn expect_in_place(
 {
     let list = different(alloc, many, apart)?;
     let plan = sum_by(alloc, 1)?;
-    let found = in_place_of(alloc, &plan, list.as_slice(), apart);
+    let found = in_order_of(alloc, &plan, list.as_slice(), apart);
     drop(plan);
     assert!(rt; found? == (many, many));
     Ok(())
 }
 
-/// Keys that have their places in a table of their own, and keys that are hashed.
+/// Keys whose group indexes stand in a table of their own, and keys that are hashed.
 #[test]
 fn a_million_keys(rt: HostRuntime) -> Result<(), AllocError> {
-    expect_in_place(&rt, rt.alloc(), 1_000_000, 1)?;
-    expect_in_place(&rt, rt.alloc(), 1_000_000, 9_000_000_000_000)
+    expect_in_order(&rt, rt.alloc(), 1_000_000, 1)?;
+    expect_in_order(&rt, rt.alloc(), 1_000_000, 9_000_000_000_000)
 }

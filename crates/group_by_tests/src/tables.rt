@@ -1,4 +1,4 @@
-//! Tables with a sum for each group, and what they tell.
+//! Tables with a sum for each group, and what they report.
 ghost use Rattle.std.specs.Prelude.{◌≡◌, ◌≤◌, ◌+◌, ◌∷◌, [], length, map, IfOk};
 ghost use Rattle.meaning.specs.declared.plan.AggregateKind.TheVariants.{Sum};
 ghost use Rattle.group_by.specs.Rows.{AreLanesOf};
@@ -8,15 +8,13 @@ ghost use Rattle.group_by_tests.specs.Tables.{HasTaken};
 use crate::rows::vector_of;
 use accumulators::Group;
 use group_by::GroupTable;
-use meaning::expr::Expr;
-use meaning::plan::{Aggregate, AggregateKind, GroupingKey, Plan, TableUse};
-use meaning::sequence::Sequence;
-use meaning::text::Text;
-use meaning::value::{ColType, Row, Value};
+use meaning::{
+    Aggregate, AggregateKind, ColType, Expr, GroupingKey, Plan, Row, Sequence, TableUse, Text,
+    Value,
+};
 use std::alloc::{AllocError, Global};
 use std::fmt::Write;
-use vectors::selection::Selection;
-use vectors::vector::Vector;
+use vectors::{Selection, Vector};
 
 fn one_sum(alloc: Global) -> Result<Sequence<Aggregate>, AllocError>
     ensures { IfOk result (λ aggregates. map (λ a. a.kind) aggregates ≡ Sum ∷ []) }
@@ -119,27 +117,27 @@ pub fn table_of(
     with_rows(alloc, table, keys, &arguments, list.len())
 }
 
-fn tell_key(told: &mut String, key: &Row) -> Result<(), AllocError> {
+fn show_key(shown: &mut String, key: &Row) -> Result<(), AllocError> {
     for value in key.as_slice() {
         match value {
-            Value::Null => told.push_str("NULL ")?,
-            Value::Int(int) => write!(told, "{int} ")?,
-            Value::Text(text) => write!(told, "{} ", text.as_str())?,
+            Value::Null => shown.push_str("NULL ")?,
+            Value::Int(int) => write!(shown, "{int} ")?,
+            Value::Text(text) => write!(shown, "{} ", text.as_str())?,
         }
     }
     Ok(())
 }
 
 /// Each group's key, row count and sum.
-pub fn told(alloc: Global, groups: &[Group]) -> Result<String, AllocError> {
-    let mut told = String::new(alloc);
+pub fn shown(alloc: Global, groups: &[Group]) -> Result<String, AllocError> {
+    let mut shown = String::new(alloc);
     for group in groups {
-        tell_key(&mut told, group.key())?;
-        write!(told, "{}", group.rows())?;
+        show_key(&mut shown, group.key())?;
+        write!(shown, "{}", group.rows())?;
         for state in group.states() {
-            write!(told, " {} {}", state.count(), state.sum())?;
+            write!(shown, " {} {}", state.count(), state.sum())?;
         }
-        told.push_str("; ")?;
+        shown.push_str("; ")?;
     }
-    Ok(told)
+    Ok(shown)
 }

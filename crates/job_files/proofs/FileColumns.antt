@@ -9,7 +9,7 @@ use Rattle.meaning.specs.declared.plan.ColumnUse.{ColumnUse}
 use Rattle.meaning.specs.declared.plan.TableUse.{TableUse}
 use Rattle.meaning.specs.declared.value.ColType.TheVariants as of_type
 use Rattle.meaning.specs.Typing.{same_type}
-use Rattle.meaning.specs.WellFormedPlan.{listed_places}
+use Rattle.meaning.specs.SoundPlan.{used_columns}
 use Rattle.meaning.proofs.Typed.{same_kind}
 use Rattle.wire.specs.Reading.{same_bytes}
 use Rattle.fragment_file.specs.declared.header.Header.{Header}
@@ -21,17 +21,17 @@ column_there u (c ∷ cs) zero e = (omega arith, ap Some (same_kind c.col_type u
 column_there u (c ∷ cs) (suc i) e = let rest = column_there u cs i e in let h = rest.0 in (omega (arith, h), rest.1)
 
 module _ (cs : List Column) where
-  pub uses_typed : (us : List ColumnUse) → list_all (λ u. is_column u (slice_get cs u.place)) us ≡ true → AllByRecursion (λ u. slice_get (map (λ c. c.col_type) cs) u.place ≡ Some u.col_type) us
+  pub uses_typed : (us : List ColumnUse) → list_all (λ u. is_column u (slice_get cs u.column)) us ≡ true → AllByRecursion (λ u. slice_get (map (λ c. c.col_type) cs) u.column ≡ Some u.col_type) us
   uses_typed [] e = tt
   uses_typed (u ∷ us) e =
-      let h = and_parts (is_column u (slice_get cs u.place)) (list_all (λ u. is_column u (slice_get cs u.place)) us) e in
-      ((column_there u cs u.place h.0).1, uses_typed us h.1)
+      let h = and_parts (is_column u (slice_get cs u.column)) (list_all (λ u. is_column u (slice_get cs u.column)) us) e in
+      ((column_there u cs u.column h.0).1, uses_typed us h.1)
 
-  pub uses_within : (us : List ColumnUse) → list_all (λ u. is_column u (slice_get cs u.place)) us ≡ true → AllByRecursion (λ p. p < length cs) (map (λ u. u.place) us)
+  pub uses_within : (us : List ColumnUse) → list_all (λ u. is_column u (slice_get cs u.column)) us ≡ true → AllByRecursion (λ p. p < length cs) (map (λ u. u.column) us)
   uses_within [] e = tt
   uses_within (u ∷ us) e =
-      let h = and_parts (is_column u (slice_get cs u.place)) (list_all (λ u. is_column u (slice_get cs u.place)) us) e in
-      ((column_there u cs u.place h.0).0, uses_within us h.1)
+      let h = and_parts (is_column u (slice_get cs u.column)) (list_all (λ u. is_column u (slice_get cs u.column)) us) e in
+      ((column_there u cs u.column h.0).0, uses_within us h.1)
 
-pub places_within : (table : TableUse) (h : Header) → HasColumns table h → All (λ p. p < length h.columns) (listed_places table)
-places_within table h has = All-from_recursion (λ p. p < length h.columns) (listed_places table) (uses_within h.columns table.columns has)
+pub columns_within : (table : TableUse) (h : Header) → HasColumns table h → All (λ p. p < length h.columns) (used_columns table)
+columns_within table h has = All-from_recursion (λ p. p < length h.columns) (used_columns table) (uses_within h.columns table.columns has)

@@ -1,4 +1,4 @@
--- The files of an input are those that the bytes stand for, and files that are the job's are an input.
+-- The files of an input are those that the bytes encode, and files that are the job's are an input.
 use Rattle.std.specs.Prelude.{◌≡◌, ℕ, ◌==◌, List, [], ◌∷◌, length, map, zip, Result, Ok, Err}
 use Rattle.std.specs.List.{AllZip}
 use Rattle.std.proofs.Common.{refl, ap, subst, ◌∙◌, arith}
@@ -65,7 +65,7 @@ dimensions_read job dims fs is =
     let (counted, same) = is_provided (length dims == length job.plan.joins) OtherFile dims ds many in
     all_read job job.plan.joins dims fs (eqb-true (length dims) (length job.plan.joins) counted) (ap (λ (xs : List (List ℕ)). all_ok (map (dimension_file_of job) (zip job.plan.joins xs))) same ∙ last)
 
--- each file of an input is the one that its bytes stand for
+-- each file of an input is the one that its bytes encode
 pub files_read : (job : JobSpec) (k n : ℕ) (bytes : List ℕ) (dims : List (List ℕ)) (input : InputSpec) → input_of job k n bytes dims ≡ Ok input
     → (read_fragment bytes ≡ Ok input.fragment) × AllZip (λ b f. read_fragment b ≡ Ok f) dims input.dims
 unfolding input_of

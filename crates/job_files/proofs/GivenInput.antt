@@ -34,10 +34,10 @@ input_is : (job : JobSpec) (k : ℕ) (f : FragmentSpec) → is_fragment_of job k
 input_is job k f named columns =
     let rest = second_of (nat_lt k (length job.cut)) _ named in
     let table = second_of (f.header.load == job.load) _ rest in
-    let place = second_of (same_bytes f.header.table job.plan.fact.name) _ table in
-    let numbers = second_of (f.header.fragment == k) _ place in
+    let named_so = second_of (same_bytes f.header.table job.plan.fact.name) _ table in
+    let numbers = second_of (f.header.fragment == k) _ named_so in
     record {
-      place = ltb-true k (length job.cut) (first_of _ _ named);
+      within = ltb-true k (length job.cut) (first_of _ _ named);
       columns = columns;
       first = eqb-true f.header.first_row _ (first_of _ _ numbers);
       rows = eqb-true f.header.rows _ (second_of _ _ numbers);

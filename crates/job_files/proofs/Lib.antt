@@ -1,4 +1,5 @@
 -- The lemmas of this crate.
+pub mod DimFilters
 pub mod FileColumns
 pub mod FilesRead
 pub mod FirstRows
@@ -6,6 +7,5 @@ pub mod GivenInput
 pub mod KeyedRows
 pub mod OpenedDimensions
 pub mod PlanDimensions
-pub mod SievedTables
 pub mod ThinnedRows
 pub mod UsedColumns

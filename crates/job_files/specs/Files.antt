@@ -20,14 +20,14 @@ use Rattle.partial_codec.specs.Job.{JobSpec}
 abbrev pub rows_of_file : FragmentSpec → List Row
 rows_of_file f = flat_map rows_in f.groups
 
--- the column at the place has the name and the type
+-- the column that is there has the name and the type
 abbrev pub is_column : ColumnUse → Option Column → Bool
 is_column u None = false
 is_column u (Some c) = same_bytes c.name u.name && same_type c.col_type u.col_type
 
--- each column that the plan uses of a table is in its place
+-- each column that the plan uses of a table is where the plan has it
 abbrev pub has_columns : TableUse → Header → Bool
-has_columns table h = list_all (λ u. is_column u (slice_get h.columns u.place)) table.columns
+has_columns table h = list_all (λ u. is_column u (slice_get h.columns u.column)) table.columns
 
 abbrev pub HasColumns : TableUse → Header → Type 0
 HasColumns table h = has_columns table h ≡ true

@@ -5,4 +5,4 @@ pub mod Inputs
 pub mod Dimensions
 pub mod TextTest
 pub mod Tables
-pub mod Sieve
+pub mod DimFilter

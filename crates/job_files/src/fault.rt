@@ -7,7 +7,7 @@ use fragment_file::FileFault;
 use std::alloc::{AllocError, AllocFailed};
 use thiserror::Error;
 
-/// Why a fragment isn't answered: the first obstacle in the order that `work` tells.
+/// Why a fragment isn't answered: the first obstacle in the order that `work` states.
 #[derive(Debug, Drop, Error)]
 pub enum WorkFault {
     #[error("out of memory")]

@@ -2,14 +2,14 @@
 #![tactic(auto)]
 
 mod decoding;
+mod dim_filter;
 mod dimensions;
 mod fault;
 mod inputs;
 mod refusals;
-mod sieve;
 mod text_test;
 
+pub use dim_filter::{DimFilter, FilteredTables, filter_dimensions};
 pub use dimensions::Dimension;
 pub use fault::WorkFault;
 pub use inputs::{Input, open_input};
-pub use sieve::{Sieve, Sieved, sieve_dimensions};

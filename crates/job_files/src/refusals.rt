@@ -9,13 +9,8 @@ ghost use Rattle.job_files.specs.Files.{HasColumns, has_columns, is_column, is_d
 ghost use Rattle.job_files.specs.Inputs.{fragment_file_of, table_file_of};
 
 use crate::fault::WorkFault;
-use fragment_file::header::Header;
-use fragment_file::open;
-use fragment_file::view::FragmentView;
-use meaning::catalog::Column;
-use meaning::plan::{ColumnUse, TableUse};
-use meaning::text::Text;
-use meaning::value::ColType;
+use fragment_file::{FragmentView, Header, open};
+use meaning::{ColType, Column, ColumnUse, TableUse, Text};
 use partial_codec::Job;
 use std::alloc::Global;
 use std::mem::drop;
@@ -50,11 +45,11 @@ fn is_same_type(a: ColType, b: ColType) -> bool
     }
 }
 
-/// Whether the column that the plan uses is in its place, with its name and type.
+/// Whether the column that the plan uses is where the plan has it, with its name and type.
 fn has_column(columns: &[Column], used: &ColumnUse) -> bool
-    ensures { result ≡ is_column used.now (slice_get columns.now used.now.place) }
+    ensures { result ≡ is_column used.now (slice_get columns.now used.now.column) }
 {
-    match columns.get(used.place) {
+    match columns.get(used.column) {
         Some(column) => {
             are_same(&column.name, &used.name) && is_same_type(column.col_type, used.col_type)
         }
@@ -62,7 +57,7 @@ fn has_column(columns: &[Column], used: &ColumnUse) -> bool
     }
 }
 
-/// Whether each column that the plan uses of a table is in its place.
+/// Whether each column that the plan uses of a table is where the plan has it.
 fn has_all_columns(table: &TableUse, header: &Header) -> bool
     ensures { result ≡ has_columns table.now header.now }
 {
@@ -82,22 +77,22 @@ fn is_fragment(job: &Job, k: u32, header: &Header) -> bool
     ensures { result ≡ is_fragment_of job.now k header.now }
 {
     let lengths = job.cut().lengths();
-    let place = k as usize;
-    if place >= lengths.len() {
+    let fragment = k as usize;
+    if fragment >= lengths.len() {
         return false;
     }
     is_of_load(job, header)
         && are_same(&header.table, &job.plan().fact.name)
         && header.fragment == k
-        && header.first_row == first_row(lengths, place)
-        && header.rows == lengths[place]
+        && header.first_row == first_row(lengths, fragment)
+        && header.rows == lengths[fragment]
 }
 
 /// The file of the job's fragment `k`.
 ///
 /// # Errors
 ///
-/// Out of memory; else the first of: a file fault; another file; a column that isn't in its place.
+/// Out of memory; else the first of: a file fault; another file; another column than the plan's.
 #[tactic(auto, unfolding(crate::specs::Inputs::fragment_file_of))]
 pub fn open_fragment<'a>(
     alloc: Global,
@@ -136,7 +131,7 @@ fn is_dimension(job: &Job, dim: &TableUse, header: &Header) -> bool
 ///
 /// # Errors
 ///
-/// Out of memory; else the first of: a file fault; another file; a column that isn't in its place.
+/// Out of memory; else the first of: a file fault; another file; another column than the plan's.
 #[tactic(auto, unfolding(crate::specs::Inputs::table_file_of))]
 pub fn open_table<'a>(
     alloc: Global,

@@ -5,8 +5,7 @@ ghost use Rattle.meaning.specs.Order.{is_null as is_null_value, value_in};
 ghost use Rattle.meaning.specs.Truth.{is_true};
 ghost use Rattle.job_files.specs.TextTest.{AreFirst, condition_of};
 
-use meaning::expr::{ComparisonOperator, Expr};
-use meaning::value::{Value, ValueRef, compare_lent};
+use meaning::{ComparisonOperator, Expr, Value, ValueRef, compare_lent};
 use std::alloc::{AllocError, Global};
 use std::cmp::Ordering;
 
@@ -14,7 +13,7 @@ use std::cmp::Ordering;
 #[derive(Clone, Copy)]
 pub struct Test<'a> {
     pub join: usize,
-    pub place: usize,
+    pub column: usize,
     pub operator: ComparisonOperator,
     pub literal: &'a Value,
 }
@@ -78,7 +77,7 @@ fn read_test(condition: &Expr) -> Option<Test<'_>>
     let Expr::Compare(operator, left, right) = condition else {
         return None;
     };
-    let Expr::Joined { join, place } = left.get() else {
+    let Expr::Joined { join, column } = left.get() else {
         return None;
     };
     let Expr::Literal(literal) = right.get() else {
@@ -89,7 +88,7 @@ fn read_test(condition: &Expr) -> Option<Test<'_>>
     }
     Some(Test {
         join: *join,
-        place: *place,
+        column: *column,
         operator: *operator,
         literal,
     })

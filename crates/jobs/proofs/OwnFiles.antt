@@ -5,7 +5,7 @@ use Rattle.std.specs.List.{range_with_len, enumerate_from}
 use Rattle.std.proofs.lemmas.Bool.{eq-eqb}
 use Rattle.meaning.specs.Answer.{own, own_body}
 use Rattle.meaning.specs.Cut.{Cut, fragment, numbered}
-use Rattle.meaning.specs.Gather.{is_conflict, join_cells, output, places, report, same_body}
+use Rattle.meaning.specs.Gather.{is_conflict, join_cells, output, fragments_where, report, same_body}
 use Rattle.meaning.specs.Meaning.{meaning}
 use Rattle.meaning.specs.Order.{Row}
 use Rattle.meaning.specs.Print.{output_text, report_text}
@@ -49,11 +49,11 @@ module _ (plan : Plan) (dims : List (List Row)) (cut : Cut) (rows : List Row) (t
       let here = only_one (own_at a) (cell_among a takings) (known a (omega (arith, below))) parts.0 in
       λ i. here i ∷ own_cells (n + 1) (a + 1) m (omega (arith, below)) parts.1 i
 
-  pub report_gathered : sum cut ≡ length rows → places is_conflict (gathered cut takings) ≡ [] → report plan (gathered cut takings) ≡ output (meaning plan dims (numbered rows))
+  pub report_gathered : sum cut ≡ length rows → fragments_where is_conflict (gathered cut takings) ≡ [] → report plan (gathered cut takings) ≡ output (meaning plan dims (numbered rows))
   report_gathered whole calm =
       ap (report plan) (own_cells 0 0 (length cut) (omega arith) calm) ∙ report-own plan dims cut rows (range_with_len 0 (length cut))
       ∙ ap (λ table. output (meaning plan dims table)) (part-all cut rows whole)
 
-  pub text_gathered : sum cut ≡ length rows → places is_conflict (gathered cut takings) ≡ []
+  pub text_gathered : sum cut ≡ length rows → fragments_where is_conflict (gathered cut takings) ≡ []
       → report_text plan (report plan (gathered cut takings)) ≡ output_text plan (meaning plan dims (numbered rows))
   text_gathered whole calm = ap (report_text plan) (report_gathered whole calm)

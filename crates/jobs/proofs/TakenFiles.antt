@@ -13,11 +13,11 @@ use Rattle.partial_codec.specs.Fault.{number_of}
 use Rattle.partial_codec.specs.Job.{JobSpec}
 use Rattle.partial_codec.specs.State.{SpellsState}
 use Rattle.partial_codec.specs.declared.fault.DecodeFault.{DecodeFault}
-use Rattle.coordinator.specs.Gathering.{GatherSpec, Takes, join_states, joined_with}
-use Rattle.coordinator.specs.declared.gather.Absorbed.{Absorbed}
-use Rattle.coordinator.proofs.Held.{below_cut}
+use Rattle.gathering.specs.Gathering.{GatherSpec, Takes, join_states, joined_with}
+use Rattle.gathering.specs.declared.gather.Absorbed.{Absorbed}
+use Rattle.gathering.proofs.Held.{below_cut}
 use Rattle.folders.specs.Folder.{Holds}
-use Rattle.folders.specs.Telling.{passed_over_line}
+use Rattle.jobs.specs.PassedOver.{passed_over_line}
 use Rattle.jobs.specs.Gathering.{IsTaken, IsTaking, Taken, answer, gathered, is_state, line_of, obstacle_of, passed, state, takings_of}
 use Rattle.jobs.specs.Taking.{TakesBytes, TakesFile, TakesOrNames, TookFiles}
 use Rattle.jobs.proofs.Together.{answer_more, passed_more, state_more}
@@ -36,8 +36,8 @@ pub on_ok : {T E : Type 0} (r : Result T E) (P Q : Type 0) → (P → Q) → OnO
 on_ok (Ok x) P Q so is = so is
 on_ok (Err e) P Q so is = tt
 
-pub taken_answer : (old new : GatherSpec) (bytes : List ℕ) (told : Absorbed) → is_state bytes ≡ false → Takes old new bytes told → TakesBytes old new bytes
-taken_answer old new bytes told begins takes = record {
+pub taken_answer : (old new : GatherSpec) (bytes : List ℕ) (returned : Absorbed) → is_state bytes ≡ false → Takes old new bytes returned → TakesBytes old new bytes
+taken_answer old new bytes returned begins takes = record {
   taking = answer takes.answer;
   is = (begins, takes.spelled);
   adds = record {

@@ -13,12 +13,12 @@ use Rattle.partial_codec.specs.Fault.{number_of}
 use Rattle.partial_codec.specs.Job.{JobSpec}
 use Rattle.partial_codec.specs.State.{SpellsState, state_bytes, state_obstacle}
 use Rattle.partial_codec.specs.declared.fault.DecodeFault.{DecodeFault}
-use Rattle.coordinator.specs.Gathering.{GatherSpec}
-use Rattle.coordinator.specs.Report.{summary}
-use Rattle.coordinator.specs.declared.report.Report.{Report}
+use Rattle.gathering.specs.Gathering.{GatherSpec}
+use Rattle.gathering.specs.Report.{summary}
+use Rattle.gathering.specs.declared.report.Report.{Report}
 use Rattle.folders.specs.Folder.{AreHeld, Change, Holds, WritesOne}
 use Rattle.folders.specs.Refused.{IsUnread, IsUnwritten}
-use Rattle.folders.specs.Telling.{passed_over_line}
+use Rattle.jobs.specs.PassedOver.{passed_over_line}
 use Rattle.folders.specs.declared.refusal.Refusal.{Refusal}
 use Rattle.folders.specs.declared.refusal.Refusal.TheVariants as refusal
 use Rattle.jobs.specs.Job.{IsJobOf, IsJobRefused}
@@ -106,11 +106,11 @@ abbrev pub IsSaved : Option (List ℕ) → List ℕ → Option (List Change) →
 IsSaved None spelled before after = after ≡ before
 IsSaved (Some path) spelled before after = WritesOne path (λ bytes. bytes ≡ spelled) before after
 
--- the state was saved, and its report printed and told
+-- the state was saved, and its report printed and returned
 pub record IsReported (g : GatherSpec) (save : Option (List ℕ)) (before after : Option (List ℕ)) (wrote_before wrote_after : Option (List Change)) (given : Report) : Type 0 where
   pub saved : IsSaved save (state_bytes g.job g.cells) wrote_before wrote_after
   pub printed : Appends before after (report_text g.job.plan (report g.job.plan g.cells))
-  pub told : given ≡ summary (report g.job.plan g.cells)
+  pub returned : given ≡ summary (report g.job.plan g.cells)
 
 -- what the files say together was gathered, saved and reported
 pub record IsGathered (holds : Holds) (command : GatherCommand) (before after err_before err_after : Option (List ℕ)) (wrote_before wrote_after : Option (List Change)) (given : Report) : Type 0 where
@@ -121,16 +121,16 @@ pub record IsGathered (holds : Holds) (command : GatherCommand) (before after er
 -- ---- refused
 
 -- a file can't be named, or memory ran out
-abbrev pub IsUntold : Refusal → Type 0
-IsUntold e = (e ≡ refusal.Memory) ⊎ (e ≡ refusal.CannotTell)
+abbrev pub IsUnreturned : Refusal → Type 0
+IsUnreturned e = (e ≡ refusal.Memory) ⊎ (e ≡ refusal.CannotReport)
 
 -- the path's file can't be read or named
 abbrev pub IsFileRefused : List ℕ → Refusal → Type 0
-IsFileRefused path e = IsUntold e ⊎ IsUnread path e
+IsFileRefused path e = IsUnreturned e ⊎ IsUnread path e
 
 -- one of the files can't be read or named
 abbrev pub IsTakingRefused : List (List ℕ) → Refusal → Type 0
-IsTakingRefused paths e = IsUntold e ⊎ ((path : List ℕ) × Contains paths path × IsUnread path e)
+IsTakingRefused paths e = IsUnreturned e ⊎ ((path : List ℕ) × Contains paths path × IsUnread path e)
 
 -- printing failed, or memory ran out
 abbrev pub IsUnprinted : Refusal → Type 0

@@ -11,7 +11,7 @@ use Rattle.sql_reader.specs.declared.fault.SqlFault.{SqlFault}
 use Rattle.sql_reader.specs.declared.fault.SqlFault.TheVariants as sql
 use Rattle.planner_expressions.specs.declared.fault.PlanFault.{PlanFault}
 use Rattle.partial_codec.specs.Job.{JobSpec}
-use Rattle.whole_query.specs.Whole.{IsPlanned}
+use Rattle.planner.specs.QueryText.{IsPlanned}
 use Rattle.folders.specs.Folder.{AreHeld, Holds, catalog_path, cut_path}
 use Rattle.folders.specs.Refused.{IsUnread}
 use Rattle.folders.specs.declared.refusal.Refusal.{Refusal}

@@ -2,7 +2,7 @@
 use Rattle.std.specs.Prelude.{◌≡◌, ◌↔◌, ℕ, ◌<◌, List, [], length, sum, Contains}
 use Rattle.meaning.specs.Answer.{own}
 use Rattle.meaning.specs.Cut.{numbered}
-use Rattle.meaning.specs.Gather.{is_conflict, places, report}
+use Rattle.meaning.specs.Gather.{is_conflict, fragments_where, report}
 use Rattle.meaning.specs.Meaning.{meaning}
 use Rattle.meaning.specs.Order.{Row}
 use Rattle.meaning.specs.Print.{output_text, report_text}
@@ -29,5 +29,5 @@ abbrev pub OwnAnswersMean : Type 0
 OwnAnswersMean = (job : JobSpec) (dims : List (List Row)) (rows : List Row) (takings : List Taking)
     → sum job.cut ≡ length rows
     → ((k : ℕ) → k < length job.cut → Contains takings (answer (own job.plan dims job.cut rows k)))
-    → places is_conflict (gathered job.cut takings) ≡ []
+    → fragments_where is_conflict (gathered job.cut takings) ≡ []
     → report_text job.plan (report job.plan (gathered job.cut takings)) ≡ output_text job.plan (meaning job.plan dims (numbered rows))

@@ -2,9 +2,9 @@
 use Rattle.std.specs.Prelude.{◌≡◌, ℕ, List, [], ◌∷◌, ◌++◌, Option, Some, ⊤}
 use Rattle.std.specs.Io.KnownBytes.{Appends}
 use Rattle.partial_codec.specs.Job.{JobSpec}
-use Rattle.coordinator.specs.Gathering.{GatherSpec}
-use Rattle.coordinator.specs.declared.fault.GatherFault.{GatherFault}
-use Rattle.coordinator.specs.declared.fault.GatherFault.TheVariants as fault
+use Rattle.gathering.specs.Gathering.{GatherSpec}
+use Rattle.gathering.specs.declared.fault.GatherFault.{GatherFault}
+use Rattle.gathering.specs.declared.fault.GatherFault.TheVariants as fault
 use Rattle.folders.specs.Folder.{AreHeld, Holds}
 use Rattle.jobs.specs.Gathering.{AreTaken, Taken, Taking, IsTaking, gathered, line_of_taking, obstacle_of, takings_of}
 

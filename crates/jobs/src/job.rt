@@ -1,24 +1,18 @@
 //! The job of a query over the tables that a folder was loaded with.
 ghost use Rattle.std.specs.Prelude.{◌≡◌, IfErr, IfOk};
 ghost use Rattle.meaning.specs.Catalog.{IsWellFormed};
-ghost use Rattle.meaning.specs.WellFormedPlan.{IsWellFormedPlan};
-ghost use Rattle.last_step.specs.Fitting.{IsTypedOverGroups};
-ghost use Rattle.partial_codec.specs.Job.{IsPlanOfJob};
-ghost use Rattle.whole_query.specs.Whole.{IsPlanned};
+ghost use Rattle.meaning.specs.SoundPlan.{IsSoundPlan};
+ghost use Rattle.planner.specs.QueryText.{IsPlanned};
 ghost use Rattle.jobs.specs.Job.{IsCatalogRefused, IsCatalogThere, IsCutRefused, IsCutThere, IsJobOf, IsJobOver, IsJobRefused, IsQueryRefused, IsRefusedOver};
 
-use catalog_reader::read_catalog::read_catalog;
-use folders::files::{read_catalog_file, read_file};
-use folders::paths::cut_path;
-use folders::{Folder, Refusal, refusal_of};
+use catalog_reader::read_catalog;
+use folders::{Folder, Refusal, cut_path, read_catalog_file, read_file};
 use fragment_file::read_cut;
-use meaning::catalog::Catalog;
-use meaning::cut::Cut;
-use meaning::plan::Plan;
+use meaning::{Catalog, Cut, Plan};
 use partial_codec::Job;
+use planner::{QueryFault, plan_query};
 use std::alloc::Global;
 use std::mem::drop;
-use whole_query::plan_query;
 
 fn read_tables<F: Folder>(alloc: Global, folder: &F, directory: &str) -> Result<Catalog, Refusal>
     ensures there { IfOk result (IsCatalogThere (F.holds folder.now) directory.now) }
@@ -43,21 +37,16 @@ fn read_load<F: Folder>(alloc: Global, folder: &F, directory: &str) -> Result<(u
 /// # Errors
 ///
 /// Out of memory, the text's first fault, or its plan's.
-pub fn plan_of(
-    alloc: Global,
-    directory: &str,
-    catalog: &Catalog,
-    query: &str,
-) -> Result<Plan, Refusal>
+pub fn plan_of(alloc: Global, catalog: &Catalog, query: &str) -> Result<Plan, Refusal>
     ensures planned { IfOk result (λ plan. IsPlanned catalog.now query.now (Ok plan)) }
-    ensures well_formed { IfOk result IsWellFormedPlan }
-    ensures typed { IfOk result IsTypedOverGroups }
-    ensures job { IfOk result IsPlanOfJob }
+    ensures sound { IfOk result IsSoundPlan }
     ensures refused { IfErr result (IsQueryRefused catalog.now query.now) }
 {
     match plan_query(alloc, catalog, query.as_bytes()) {
         Ok(plan) => Ok(plan),
-        Err(fault) => Err(refusal_of(alloc, directory, fault)),
+        Err(QueryFault::Memory) => Err(Refusal::Memory),
+        Err(QueryFault::Sql(fault)) => Err(Refusal::Sql(fault)),
+        Err(QueryFault::Plan(fault)) => Err(Refusal::Plan(fault)),
     }
 }
 
@@ -70,13 +59,12 @@ fn job_over<F: Folder>(
     query: &str,
 ) -> Result<Job, Refusal>
     ensures over { IfOk result (IsJobOver (F.holds folder.now) directory.now catalog.now query.now) }
-    ensures well_formed { IfOk result (λ job. IsWellFormedPlan job.plan) }
-    ensures typed { IfOk result (λ job. IsTypedOverGroups job.plan) }
+    ensures sound { IfOk result (λ job. IsSoundPlan job.plan) }
     ensures refused { IfErr result
         (IsRefusedOver (F.holds folder.now) directory.now catalog.now query.now) }
 {
     let (load, cut) = read_load(alloc, folder, directory)?;
-    match plan_of(alloc, directory, catalog, query) {
+    match plan_of(alloc, catalog, query) {
         Ok(plan) => Ok(Job::new(load, plan, cut)),
         Err(refusal) => {
             drop(cut);
@@ -99,8 +87,7 @@ pub fn read_job<F: Folder>(
     query: &str,
 ) -> Result<Job, Refusal>
     ensures job { IfOk result (IsJobOf (F.holds folder.now) directory.now query.now) }
-    ensures well_formed { IfOk result (λ job. IsWellFormedPlan job.plan) }
-    ensures typed { IfOk result (λ job. IsTypedOverGroups job.plan) }
+    ensures sound { IfOk result (λ job. IsSoundPlan job.plan) }
     ensures refused { IfErr result (IsJobRefused (F.holds folder.now) directory.now query.now) }
 {
     let catalog = read_tables(alloc, folder, directory)?;

@@ -5,6 +5,7 @@
 mod gathering;
 mod job;
 mod laws;
+mod passed_over;
 mod saving;
 mod taking;
 mod working;

@@ -4,15 +4,14 @@ ghost use Rattle.std.specs.Io.KnownBytes.{Appends};
 ghost use Rattle.meaning.specs.Gather.{report};
 ghost use Rattle.meaning.specs.Print.{report_text};
 ghost use Rattle.partial_codec.specs.State.{state_bytes};
-ghost use Rattle.coordinator.specs.Report.{summary};
+ghost use Rattle.gathering.specs.Report.{summary};
 ghost use Rattle.folders.specs.Folder.{WritesOne};
 ghost use Rattle.folders.specs.Refused.{IsUnwritten};
 ghost use Rattle.jobs.specs.Gathering.{IsReported, IsReportRefused, IsSaved, IsSaveRefused, IsUnprinted};
 
-use coordinator::{Gather, GatherFault, Report};
-use folders::files::write_file;
-use folders::{Folder, Refusal};
-use meaning::text::Text;
+use folders::{Folder, Refusal, write_file};
+use gathering::{Gather, GatherFault, Report};
+use meaning::Text;
 use std::alloc::Global;
 use std::io::Write;
 
@@ -54,10 +53,10 @@ fn save_state<F: Folder>(
 fn print_report<O: Write>(alloc: Global, gather: &Gather, out: &mut O) -> Result<Report, Refusal>
     ensures printed { OnOk result (Appends (O.contents out.old) (O.contents out.new)
         (report_text gather.now.job.plan (report gather.now.job.plan gather.now.cells))) }
-    ensures told { IfOk result (λ r. r ≡ summary (report gather.now.job.plan gather.now.cells)) }
+    ensures returned { IfOk result (λ r. r ≡ summary (report gather.now.job.plan gather.now.cells)) }
     ensures refused { IfErr result IsUnprinted }
 {
-    match gather.print_and_report(alloc, out) {
+    match gather.print_report(alloc, out) {
         Ok(report) => Ok(report),
         Err(GatherFault::Writer) => Err(Refusal::CannotPrint),
         // Nothing else keeps a report from being found.

@@ -1,12 +1,12 @@
 //! Files of answers and states, taken one after the other.
 ghost use Rattle.std.specs.Prelude.{◌≡◌, [], IfErr, OnErr, OnOk, false, true};
-ghost use Rattle.jobs.specs.Gathering.{IsFileRefused, IsTakingRefused, IsUntold, gathered, is_state};
+ghost use Rattle.jobs.specs.Gathering.{IsFileRefused, IsTakingRefused, IsUnreturned, gathered, is_state};
 ghost use Rattle.jobs.specs.Taking.{IsFailure, TakesBytes, TakesFile, TakesOrNames, TookFiles};
 
-use coordinator::{Gather, GatherFault};
-use folders::files::read_file;
-use folders::{Folder, Refusal, tell_passed_over};
-use meaning::text::Text;
+use crate::passed_over::print_passed_over;
+use folders::{Folder, Refusal, read_file};
+use gathering::{Gather, GatherFault};
+use meaning::Text;
 use std::alloc::Global;
 use std::io::Write;
 
@@ -64,14 +64,14 @@ fn take_or_name<E: Write>(
     ensures takes { OnOk result
         (TakesOrNames gather.old gather.new path.now bytes.now (E.contents err.old)
         (E.contents err.new)) }
-    ensures refused { IfErr result IsUntold }
+    ensures refused { IfErr result IsUnreturned }
 {
     match take_bytes(alloc, gather, bytes) {
         Ok(()) => Ok(()),
         Err(GatherFault::Decode(fault)) => {
-            match tell_passed_over(fault.number(), path.as_str(), err) {
+            match print_passed_over(fault.number(), path.as_str(), err) {
                 Ok(()) => Ok(()),
-                Err(_) => Err(Refusal::CannotTell),
+                Err(_) => Err(Refusal::CannotReport),
             }
         }
         // Nothing else but want of memory keeps an answer or a state from being taken.

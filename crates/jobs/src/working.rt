@@ -1,6 +1,6 @@
 //! A fragment's answer, from the folder's files to the answer's.
 ghost use Rattle.std.specs.Prelude.{◌≡◌, ◌⊎◌, IfErr, IfOk, OnOk, Ok, map};
-ghost use Rattle.meaning.specs.WellFormedPlan.{IsWellFormedPlan};
+ghost use Rattle.meaning.specs.SoundPlan.{IsSoundPlan};
 ghost use Rattle.meaning.specs.Said.{Answer as AnAnswer};
 ghost use Rattle.folders.specs.Folder.{AreHeld, dimension_path, fragment_path};
 ghost use Rattle.folders.specs.Each.{AreEach};
@@ -11,10 +11,8 @@ ghost use Rattle.jobs.specs.Working.{AreDimensionsUnread, IsAnswer, IsAnswerRefu
 
 use crate::job::read_job;
 use command_line::WorkCommand;
-use folders::files::{read_file, write_file};
-use folders::paths::{dimension_path, fragment_path};
-use folders::{Folder, Refusal};
-use meaning::plan::Join;
+use folders::{Folder, Refusal, dimension_path, fragment_path, read_file, write_file};
+use meaning::Join;
 use partial_codec::{Job, encode};
 use std::alloc::{AllocError, Global};
 use std::mem::drop;
@@ -89,7 +87,7 @@ fn answer_files(
     k: u32,
     vector: u32,
 ) -> Result<Vec<u8>, Refusal>
-    requires { IsWellFormedPlan job.now.plan }
+    requires { IsSoundPlan job.now.plan }
     ensures spelled { IfOk result
         (λ bytes. IsFileAnswer job.now k vector fragment.now (map (λ file. file.items) dims.now)
         bytes.items) }
@@ -114,7 +112,7 @@ fn answer_job<F: Folder>(
     job: &Job,
     command: &WorkCommand,
 ) -> Result<Vec<u8>, Refusal>
-    requires { IsWellFormedPlan job.now.plan }
+    requires { IsSoundPlan job.now.plan }
     ensures spelled { IfOk result
         (λ bytes. IsAnswer (F.holds folder.now) command.now job.now bytes.items) }
     ensures refused { IfErr result (IsAnswerRefused (F.holds folder.now) command.now job.now) }

@@ -1,5 +1,5 @@
-//! A dimension that the lines of a case spell: its keys at place 4, and where they are spelled
-//! integers at 2 and texts at 7.
+//! A dimension that the lines of a case spell: its keys as column 4, and where they are
+//! spelled integers as column 2 and texts as column 7.
 ghost use Rattle.std.specs.Prelude.{◌≡◌, length, true, All, option_map};
 ghost use Rattle.hash_join.specs.Dim.{IsDim, column_at};
 
@@ -7,7 +7,7 @@ use crate::looks;
 use crate::words::{Steps, Word, digits_of, steps_of, word_of};
 use columns::{Column, ColumnFault};
 use hash_join::{DimColumn, DimFault, DimTable};
-use meaning::value::ColType;
+use meaning::ColType;
 use std::alloc::{AllocError, Global};
 use std::fmt::Write;
 use std::mem::drop;
@@ -128,14 +128,14 @@ fn take_all(
 
 fn push_spelled(
     columns: &mut Vec<DimColumn>,
-    place: usize,
+    number: usize,
     column: Column,
 ) -> Result<(), AllocError> {
     if column.len() == 0 {
         drop(column);
         return Ok(());
     }
-    columns.push(DimColumn { place, column })?;
+    columns.push(DimColumn { number, column })?;
     Ok(())
 }
 
@@ -144,7 +144,7 @@ fn columns_of(alloc: Global, spelled: Spelled) -> Result<Vec<DimColumn>, AllocEr
     let mut columns = Vec::with_capacity(alloc, 3)?;
     push_spelled(&mut columns, 2, ints)?;
     columns.push(DimColumn {
-        place: KEY,
+        number: KEY,
         column: keys,
     })?;
     push_spelled(&mut columns, 7, texts)?;
@@ -154,7 +154,7 @@ fn columns_of(alloc: Global, spelled: Spelled) -> Result<Vec<DimColumn>, AllocEr
 fn key_rows(columns: &[DimColumn], key: usize) -> Option<usize>
     ensures { result ≡ option_map (λ c. length c.column.values) (column_at key columns.now) }
 {
-    let found = columns.iter().find(|c| c.place == key)?;
+    let found = columns.iter().find(|c| c.number == key)?;
     Some(found.column.len())
 }
 
@@ -174,49 +174,54 @@ fn is_dim(columns: &[DimColumn], key: usize) -> bool
     }
 }
 
-fn tell_fault(told: &mut String, fault: &DimFault) -> Result<(), AllocError> {
+fn show_fault(shown: &mut String, fault: &DimFault) -> Result<(), AllocError> {
     match fault {
         DimFault::Memory => Err(AllocError),
-        DimFault::KeyTwice => writeln!(told, "refused {}", fault.number()),
+        DimFault::KeyTwice => writeln!(shown, "refused {}", fault.number()),
     }
 }
 
-fn tell_built(
+fn show_built(
     alloc: Global,
-    told: &mut String,
+    shown: &mut String,
     built: Result<DimTable, DimFault>,
     body: &str,
 ) -> Result<(), AllocError> {
     match built {
-        Err(fault) => tell_fault(told, &fault),
+        Err(fault) => show_fault(shown, &fault),
         Ok(table) => {
-            let ended = looks::tell_all(alloc, told, &table, body);
+            let ended = looks::show_all(alloc, shown, &table, body);
             drop(table);
             ended
         }
     }
 }
 
-fn tell_columns(
+fn show_columns(
     alloc: Global,
-    told: &mut String,
+    shown: &mut String,
     columns: Vec<DimColumn>,
     body: &str,
 ) -> Result<(), AllocError> {
     if !is_dim(columns.as_slice(), KEY) {
         drop(columns);
-        return told.push_str("no dimension\n");
+        return shown.push_str("no dimension\n");
     }
-    tell_built(alloc, told, DimTable::build(alloc, columns, KEY), body)
+    show_built(alloc, shown, DimTable::build(alloc, columns, KEY), body)
 }
 
-/// Whether the dimension is built, and what each lookup in it tells.
-pub fn tell(alloc: Global, told: &mut String, is_text: bool, body: &str) -> Result<(), AllocError> {
+/// Whether the dimension is built, and what each lookup in it shows.
+pub fn show(
+    alloc: Global,
+    shown: &mut String,
+    is_text: bool,
+    body: &str,
+) -> Result<(), AllocError> {
     let mut spelled = Spelled::new(alloc, is_text);
     match take_all(alloc, &mut spelled, is_text, body) {
         Ok(()) => {
             let columns = columns_of(alloc, spelled)?;
-            tell_columns(alloc, told, columns, body)
+            show_columns(alloc, shown, columns, body)
         }
         Err(error) => {
             drop(spelled);

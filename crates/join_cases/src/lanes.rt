@@ -1,12 +1,8 @@
 //! The lanes that a lookup's words spell.
 use crate::words::{Word, word_of};
-use meaning::outcome::Truth;
+use meaning::Truth;
 use std::alloc::{AllocError, Global};
-use vectors::ints::{IntCells, Ints};
-use vectors::nulls::Nulls;
-use vectors::texts::{TextCells, Texts};
-use vectors::truths::{TruthCells, Truths};
-use vectors::vector::Vector;
+use vectors::{IntCells, Ints, Nulls, TextCells, Texts, TruthCells, Truths, Vector};
 
 /// A cell for each word, in the list of its type.
 #[derive(Drop)]

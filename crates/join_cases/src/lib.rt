@@ -10,12 +10,12 @@ use std::alloc::{AllocError, Global};
 
 /// What comes of a dimension whose keys have the type that the words name, and of the lookups in
 /// it.
-pub fn tell(alloc: Global, words: &[&str], body: &str) -> Result<String, AllocError> {
+pub fn show(alloc: Global, words: &[&str], body: &str) -> Result<String, AllocError> {
     let is_text = match words {
         [name] => *name == "text",
         _ => false,
     };
-    let mut told = String::new(alloc);
-    dims::tell(alloc, &mut told, is_text, body)?;
-    Ok(told)
+    let mut shown = String::new(alloc);
+    dims::show(alloc, &mut shown, is_text, body)?;
+    Ok(shown)
 }

@@ -1,16 +1,16 @@
-//! Arithmetic, with NULL lanes and faults; and the three-valued operators, whose words stand in the
-//! same place.
+//! Arithmetic, with NULL lanes and faults; and the three-valued operators, whose words stand where
+//! theirs do.
 ghost use Rattle.std.specs.Prelude.{◌≡◌, IfOk};
 
 use crate::lines::{Lines, first_word, int_of, is_null, lines_of, second_word};
 use crate::truths;
-use lane_loops::adding::{add_ints, mul_ints, sub_ints};
-use lane_loops::dividing::{div_ints, div_ints_at, neg_ints};
-use lane_loops::flags::{clear_flags, first_flagged, has_flag};
-use lane_loops::nulls::or_nulls;
+use lane_loops::{
+    add_ints, clear_flags, div_ints, div_ints_at, first_flagged, has_flag, mul_ints, neg_ints,
+    or_nulls, sub_ints,
+};
 use std::alloc::{AllocError, Global};
 use std::fmt::Write;
-use vectors::selection::Selection;
+use vectors::Selection;
 
 #[derive(Drop)]
 struct Operands {
@@ -52,14 +52,14 @@ fn run(operator: &str, operands: &Operands, out: &mut [i64; 8], codes: &mut [u8;
     true
 }
 
-fn tell_lane(told: &mut String, null: bool, code: u8, int: i64) -> Result<(), AllocError> {
+fn show_lane(shown: &mut String, null: bool, code: u8, int: i64) -> Result<(), AllocError> {
     if null {
-        return told.push_str("\\N\n");
+        return shown.push_str("\\N\n");
     }
     match code {
-        0 => writeln!(told, "{int}"),
-        1 => told.push_str("overflow\n"),
-        _ => told.push_str("division by zero\n"),
+        0 => writeln!(shown, "{int}"),
+        1 => shown.push_str("overflow\n"),
+        _ => shown.push_str("division by zero\n"),
     }
 }
 
@@ -78,27 +78,27 @@ fn lanes_with_lines(alloc: Global, count: usize) -> Result<Selection, AllocError
     Ok(selection)
 }
 
-fn tell_first(
+fn show_first(
     alloc: Global,
-    told: &mut String,
+    shown: &mut String,
     codes: &[u8; 8],
     count: usize,
 ) -> Result<(), AllocError> {
     if !has_flag(codes) {
-        return told.push_str("no fault\n");
+        return shown.push_str("no fault\n");
     }
     let selection = lanes_with_lines(alloc, count)?;
     match first_flagged(codes, &selection) {
-        Some(place) => writeln!(told, "fault at {place}"),
-        None => told.push_str("no fault\n"),
+        Some(position) => writeln!(shown, "fault at {position}"),
+        None => shown.push_str("no fault\n"),
     }
 }
 
 /// The results of an operator, NULL where an operand is, or its fault; then the first lane that has
 /// one.
-pub fn tell(
+pub fn show(
     alloc: Global,
-    told: &mut String,
+    shown: &mut String,
     operator: &str,
     body: &str,
 ) -> Result<(), AllocError> {
@@ -106,15 +106,15 @@ pub fn tell(
     let operands = operands_of(&lines);
     let (mut out, mut codes) = ([0i64; 8], [0u8; 8]);
     if !run(operator, &operands, &mut out, &mut codes) {
-        return truths::tell(told, operator, &lines, count);
+        return truths::show(shown, operator, &lines, count);
     }
     let mut nulls = [false; 8];
     or_nulls(&operands.left_nulls, &operands.right_nulls, &mut nulls);
     clear_flags(&nulls, &mut codes);
     for i in 0..8 {
         if i < count {
-            tell_lane(told, nulls[i], codes[i], out[i])?;
+            show_lane(shown, nulls[i], codes[i], out[i])?;
         }
     }
-    tell_first(alloc, told, &codes, count)
+    show_first(alloc, shown, &codes, count)
 }

@@ -11,47 +11,47 @@ mod truths;
 use std::alloc::{AllocError, Global};
 
 /// What each lane holds behind the loop that the words name.
-pub fn tell(alloc: Global, words: &[&str], body: &str) -> Result<String, AllocError> {
-    let mut told = String::new(alloc);
-    tell_into(alloc, &mut told, words, body)?;
-    Ok(told)
+pub fn show(alloc: Global, words: &[&str], body: &str) -> Result<String, AllocError> {
+    let mut shown = String::new(alloc);
+    show_into(alloc, &mut shown, words, body)?;
+    Ok(shown)
 }
 
-fn tell_into(
+fn show_into(
     alloc: Global,
-    told: &mut String,
+    shown: &mut String,
     words: &[&str],
     body: &str,
 ) -> Result<(), AllocError> {
     match words {
-        [operator] => tell_plain(alloc, told, operator, body),
-        _ => tell_with(told, words, body),
+        [operator] => show_plain(alloc, shown, operator, body),
+        _ => show_with(shown, words, body),
     }
 }
 
-fn tell_plain(
+fn show_plain(
     alloc: Global,
-    told: &mut String,
+    shown: &mut String,
     operator: &str,
     body: &str,
 ) -> Result<(), AllocError> {
     match operator {
-        "null" => tests::null(told, body),
-        "not-null" => tests::not_null(told, body),
-        "places" => truths::places(told, body),
-        "choose" => truths::choose_lanes(told, body),
-        "batch" => batches::tell(alloc, told, body),
-        _ => arithmetic::tell(alloc, told, operator, body),
+        "null" => tests::null(shown, body),
+        "not-null" => tests::not_null(shown, body),
+        "positions" => truths::positions(shown, body),
+        "choose" => truths::choose_lanes(shown, body),
+        "batch" => batches::show(alloc, shown, body),
+        _ => arithmetic::show(alloc, shown, operator, body),
     }
 }
 
-fn tell_with(told: &mut String, words: &[&str], body: &str) -> Result<(), AllocError> {
+fn show_with(shown: &mut String, words: &[&str], body: &str) -> Result<(), AllocError> {
     match words {
-        ["compare", operator] => tests::compare(told, operator, body),
-        ["compare", operator, "to", int] => tests::compare_to(told, operator, int, body),
-        ["compare-texts", operator] => texts::compare(told, operator, body),
-        ["compare-texts", operator, "to", text] => texts::compare_to(told, operator, text, body),
-        ["like", pattern] => texts::like(told, pattern, body),
-        _ => told.push_str("(no such loop)\n"),
+        ["compare", operator] => tests::compare(shown, operator, body),
+        ["compare", operator, "to", int] => tests::compare_to(shown, operator, int, body),
+        ["compare-texts", operator] => texts::compare(shown, operator, body),
+        ["compare-texts", operator, "to", text] => texts::compare_to(shown, operator, text, body),
+        ["like", pattern] => texts::like(shown, pattern, body),
+        _ => shown.push_str("(no such loop)\n"),
     }
 }

@@ -1,6 +1,5 @@
 //! Lines and words of a case.
-use meaning::expr::ComparisonOperator;
-use meaning::outcome::Truth;
+use meaning::{ComparisonOperator, Truth};
 
 pub const LANES: usize = 8;
 

@@ -2,33 +2,35 @@
 use crate::lines::{
     Lines, first_word, int_of, is_null, lines_of, operator_of, second_word, truth_word,
 };
-use lane_loops::choosing::truths_unless_null;
-use lane_loops::comparing::{compare_ints, compare_ints_to};
-use lane_loops::nulls::{are_not_null, are_null};
-use meaning::outcome::Truth;
+use lane_loops::{are_not_null, are_null, compare_ints, compare_ints_to, truths_unless_null};
+use meaning::Truth;
 use std::alloc::AllocError;
 use std::fmt::Write;
 
 /// A line for each of the first truths.
-pub fn tell_truths(told: &mut String, truths: &[Truth; 8], count: usize) -> Result<(), AllocError> {
+pub fn show_truths(
+    shown: &mut String,
+    truths: &[Truth; 8],
+    count: usize,
+) -> Result<(), AllocError> {
     for i in 0..8 {
         if i < count {
-            writeln!(told, "{}", truth_word(truths[i]))?;
+            writeln!(shown, "{}", truth_word(truths[i]))?;
         }
     }
     Ok(())
 }
 
 /// The truths of bits, UNKNOWN where a lane is NULL.
-pub fn tell_bits(
-    told: &mut String,
+pub fn show_bits(
+    shown: &mut String,
     nulls: &[bool; 8],
     bits: &[u8; 8],
     count: usize,
 ) -> Result<(), AllocError> {
     let mut truths = [Truth::Unknown; 8];
     truths_unless_null(nulls, bits, &mut truths);
-    tell_truths(told, &truths, count)
+    show_truths(shown, &truths, count)
 }
 
 pub fn first_ints(lines: &[&str; 8]) -> [i64; 8] {
@@ -64,7 +66,7 @@ pub fn nulls_of(lines: &[&str; 8]) -> [bool; 8] {
     nulls
 }
 
-pub fn compare(told: &mut String, operator: &str, body: &str) -> Result<(), AllocError> {
+pub fn compare(shown: &mut String, operator: &str, body: &str) -> Result<(), AllocError> {
     let Lines { lines, count } = lines_of(body);
     let mut bits = [0u8; 8];
     compare_ints(
@@ -73,11 +75,11 @@ pub fn compare(told: &mut String, operator: &str, body: &str) -> Result<(), Allo
         &second_ints(&lines),
         &mut bits,
     );
-    tell_bits(told, &nulls_of(&lines), &bits, count)
+    show_bits(shown, &nulls_of(&lines), &bits, count)
 }
 
 pub fn compare_to(
-    told: &mut String,
+    shown: &mut String,
     operator: &str,
     int: &str,
     body: &str,
@@ -90,19 +92,19 @@ pub fn compare_to(
         int_of(int),
         &mut bits,
     );
-    tell_bits(told, &nulls_of(&lines), &bits, count)
+    show_bits(shown, &nulls_of(&lines), &bits, count)
 }
 
-pub fn null(told: &mut String, body: &str) -> Result<(), AllocError> {
+pub fn null(shown: &mut String, body: &str) -> Result<(), AllocError> {
     let Lines { lines, count } = lines_of(body);
     let mut truths = [Truth::Unknown; 8];
     are_null(&nulls_of(&lines), &mut truths);
-    tell_truths(told, &truths, count)
+    show_truths(shown, &truths, count)
 }
 
-pub fn not_null(told: &mut String, body: &str) -> Result<(), AllocError> {
+pub fn not_null(shown: &mut String, body: &str) -> Result<(), AllocError> {
     let Lines { lines, count } = lines_of(body);
     let mut truths = [Truth::Unknown; 8];
     are_not_null(&nulls_of(&lines), &mut truths);
-    tell_truths(told, &truths, count)
+    show_truths(shown, &truths, count)
 }

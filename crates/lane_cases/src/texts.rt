@@ -1,8 +1,9 @@
 //! Comparisons of texts, and LIKE.
 use crate::lines::{Lines, first_word, is_null, lines_of, operator_of, second_word};
-use crate::tests::{nulls_of, tell_bits};
-use lane_loops::comparing::{compare_texts, compare_texts_to, compare_texts_to_at};
-use lane_loops::like::{LikePattern, like_texts, like_texts_at};
+use crate::tests::{nulls_of, show_bits};
+use lane_loops::{
+    LikePattern, compare_texts, compare_texts_to, compare_texts_to_at, like_texts, like_texts_at,
+};
 use std::alloc::AllocError;
 
 fn first_texts<'a>(lines: &[&'a str; 8]) -> [&'a [u8]; 8] {
@@ -37,12 +38,12 @@ fn whole_nulls(lines: &[&str; 8]) -> [bool; 8] {
     nulls
 }
 
-/// Whether the lanes at these places are told alike by the loop over these alone.
-fn are_alike(bits: &[u8; 8], at_places: &[u8; 8]) -> bool {
-    bits[0] == at_places[0] && bits[2] == at_places[2]
+/// Whether the lanes at these positions are shown alike by the loop over these alone.
+fn are_alike(bits: &[u8; 8], at_positions: &[u8; 8]) -> bool {
+    bits[0] == at_positions[0] && bits[2] == at_positions[2]
 }
 
-pub fn compare(told: &mut String, operator: &str, body: &str) -> Result<(), AllocError> {
+pub fn compare(shown: &mut String, operator: &str, body: &str) -> Result<(), AllocError> {
     let Lines { lines, count } = lines_of(body);
     let mut bits = [0u8; 8];
     compare_texts(
@@ -51,11 +52,11 @@ pub fn compare(told: &mut String, operator: &str, body: &str) -> Result<(), Allo
         &second_texts(&lines),
         &mut bits,
     );
-    tell_bits(told, &nulls_of(&lines), &bits, count)
+    show_bits(shown, &nulls_of(&lines), &bits, count)
 }
 
 pub fn compare_to(
-    told: &mut String,
+    shown: &mut String,
     operator: &str,
     text: &str,
     body: &str,
@@ -63,24 +64,30 @@ pub fn compare_to(
     let Lines { lines, count } = lines_of(body);
     let operator = operator_of(operator);
     let texts = whole_texts(&lines);
-    let (mut bits, mut at_places) = ([0u8; 8], [0u8; 8]);
+    let (mut bits, mut at_positions) = ([0u8; 8], [0u8; 8]);
     compare_texts_to(operator, &texts, text.as_bytes(), &mut bits);
-    compare_texts_to_at(operator, &texts, text.as_bytes(), &[2, 0], &mut at_places);
-    if !are_alike(&bits, &at_places) {
-        return told.push_str("(the loop at places differs)\n");
+    compare_texts_to_at(
+        operator,
+        &texts,
+        text.as_bytes(),
+        &[2, 0],
+        &mut at_positions,
+    );
+    if !are_alike(&bits, &at_positions) {
+        return shown.push_str("(the loop at positions differs)\n");
     }
-    tell_bits(told, &whole_nulls(&lines), &bits, count)
+    show_bits(shown, &whole_nulls(&lines), &bits, count)
 }
 
-pub fn like(told: &mut String, pattern: &str, body: &str) -> Result<(), AllocError> {
+pub fn like(shown: &mut String, pattern: &str, body: &str) -> Result<(), AllocError> {
     let Lines { lines, count } = lines_of(body);
     let texts = whole_texts(&lines);
     let pattern = LikePattern::new(pattern);
-    let (mut bits, mut at_places) = ([0u8; 8], [0u8; 8]);
+    let (mut bits, mut at_positions) = ([0u8; 8], [0u8; 8]);
     like_texts(&pattern, &texts, &mut bits);
-    like_texts_at(&pattern, &texts, &[2, 0], &mut at_places);
-    if !are_alike(&bits, &at_places) {
-        return told.push_str("(the loop at places differs)\n");
+    like_texts_at(&pattern, &texts, &[2, 0], &mut at_positions);
+    if !are_alike(&bits, &at_positions) {
+        return shown.push_str("(the loop at positions differs)\n");
     }
-    tell_bits(told, &whole_nulls(&lines), &bits, count)
+    show_bits(shown, &whole_nulls(&lines), &bits, count)
 }

@@ -1,10 +1,10 @@
-//! AND, OR and NOT, places of a mask, and choice.
+//! AND, OR and NOT, positions of a mask, and choice.
 use crate::lines::{Lines, first_word, int_of, lines_of, second_word, truth_of};
-use crate::tests::tell_truths;
-use lane_loops::choosing::{choose, true_lanes, truths_of_bits};
-use lane_loops::places::mask_to_places;
-use lane_loops::truths::{and_truths, not_truths, or_truths};
-use meaning::outcome::Truth;
+use crate::tests::show_truths;
+use lane_loops::{
+    and_truths, choose, mask_to_positions, not_truths, or_truths, true_lanes, truths_of_bits,
+};
+use meaning::Truth;
 use std::alloc::AllocError;
 use std::fmt::Write;
 
@@ -33,8 +33,8 @@ fn bits_of(lines: &[&str; 8]) -> [u8; 8] {
 }
 
 /// The truths of an operator.
-pub fn tell(
-    told: &mut String,
+pub fn show(
+    shown: &mut String,
     operator: &str,
     lines: &[&str; 8],
     count: usize,
@@ -46,25 +46,25 @@ pub fn tell(
         "or" => or_truths(&left, &right, &mut out),
         "not" => not_truths(&left, &mut out),
         "bits" => truths_of_bits(&bits_of(lines), &mut out),
-        _ => return told.push_str("(no such loop)\n"),
+        _ => return shown.push_str("(no such loop)\n"),
     }
-    tell_truths(told, &out, count)
+    show_truths(shown, &out, count)
 }
 
-/// The places of the lines that aren't 0.
-pub fn places(told: &mut String, body: &str) -> Result<(), AllocError> {
+/// The positions of the lines that aren't 0.
+pub fn positions(shown: &mut String, body: &str) -> Result<(), AllocError> {
     let Lines { lines, .. } = lines_of(body);
-    let mut places = [0u32; 8];
-    let count = mask_to_places(&bits_of(&lines), &mut places);
-    told.push_str("places")?;
-    for place in &places[..count] {
-        write!(told, " {place}")?;
+    let mut positions = [0u32; 8];
+    let count = mask_to_positions(&bits_of(&lines), &mut positions);
+    shown.push_str("positions")?;
+    for position in &positions[..count] {
+        write!(shown, " {position}")?;
     }
-    told.push_str("\n")
+    shown.push_str("\n")
 }
 
 /// A line has a truth and two integers: the first where it is TRUE, else the second.
-pub fn choose_lanes(told: &mut String, body: &str) -> Result<(), AllocError> {
+pub fn choose_lanes(shown: &mut String, body: &str) -> Result<(), AllocError> {
     let Lines { lines, count } = lines_of(body);
     let (mut these, mut those) = ([0i64; 8], [0i64; 8]);
     for i in 0..8 {
@@ -78,7 +78,7 @@ pub fn choose_lanes(told: &mut String, body: &str) -> Result<(), AllocError> {
     choose(&mask, &these, &those, &mut out);
     for i in 0..8 {
         if i < count {
-            writeln!(told, "{}", out[i])?;
+            writeln!(shown, "{}", out[i])?;
         }
     }
     Ok(())

@@ -4,8 +4,8 @@ pub mod Eights
 pub mod Filling
 pub mod FillingAt
 pub mod FirstFlag
-pub mod GatheredPlaces
+pub mod GatheredPositions
 pub mod Likes
 pub mod PatternParts
-pub mod Told
-pub mod NearResults
+pub mod Returned
+pub mod SmallResults

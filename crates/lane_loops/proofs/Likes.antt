@@ -1,4 +1,4 @@
--- A pattern that is tried character by character, and behind a `%` from the first place where it fits.
+-- A pattern that is tried character by character, and behind a `%` from the first position where it fits.
 use Rattle.std.specs.Prelude.{◌≡◌, ℕ, ◌==◌, Bool, true, false, cond, ◌&&◌, ◌||◌, List, [], ◌∷◌, length}
 use Rattle.std.specs.Str.{chars}
 use Rattle.std.proofs.Common.{refl, sym, ap, arith, ◌∙◌}

@@ -29,13 +29,13 @@ pub record AreLanesWhere {X : Type 0} (blank : X) (n : ℕ) (Premise : ℕ → T
   pub long : length lanes ≡ n
   pub each : (i : ℕ) → i < n → Premise i → get_or lanes i blank ≡ meant i
 
--- each lane at one of the places is what is meant there; the others are open
+-- each lane at one of the positions is what is meant there; the others are open
 abbrev pub AreLanesAt : {X : Type 0} → X → List ℕ → (ℕ → X) → List X → Type 0
-AreLanesAt blank places meant lanes = (k : ℕ) → k < length places → get_or lanes (get_or places k 0) blank ≡ meant (get_or places k 0)
+AreLanesAt blank positions meant lanes = (k : ℕ) → k < length positions → get_or lanes (get_or positions k 0) blank ≡ meant (get_or positions k 0)
 
 -- the same where the premise holds
 abbrev pub AreLanesAtWhere : {X : Type 0} → X → List ℕ → (ℕ → Type 0) → (ℕ → X) → List X → Type 0
-AreLanesAtWhere blank places Premise meant lanes = (k : ℕ) → k < length places → Premise (get_or places k 0) → get_or lanes (get_or places k 0) blank ≡ meant (get_or places k 0)
+AreLanesAtWhere blank positions Premise meant lanes = (k : ℕ) → k < length positions → Premise (get_or positions k 0) → get_or lanes (get_or positions k 0) blank ≡ meant (get_or positions k 0)
 
 -- the integer of a lane
 abbrev pub int_at : List ℤ → ℕ → ℤ
@@ -118,7 +118,7 @@ kept_flag mask flags i = if get_or mask i false then get_or flags i 0 else 0
 abbrev pub chosen_lane : {X : Type 0} → X → List Bool → List X → List X → ℕ → X
 chosen_lane blank mask these those i = if get_or mask i false then get_or these i blank else get_or those i blank
 
--- each lane is that of the first list where the mask tells so, else that of the second
+-- each lane is that of the first list where the mask marks it, else that of the second
 pub record AreChosen {X : Type 0} (n : ℕ) (mask : List Bool) (these those lanes : List X) : Type 0 where
   pub long : length lanes ≡ n
   pub each : (i : ℕ) (blank : X) → i < n → get_or lanes i blank ≡ chosen_lane blank mask these those i

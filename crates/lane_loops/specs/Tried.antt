@@ -1,4 +1,4 @@
--- What is told of a pattern by its characters up to a `%`.
+-- What the characters of a pattern up to a `%` decide.
 use Rattle.std.specs.Prelude.{◌≡◌, ℕ, ◌<◌, Bool, true, false, List, length}
 use Rattle.std.specs.Str.{chars}
 use Rattle.meaning.specs.Like.{after_any_run, characters_fit}
@@ -6,16 +6,16 @@ use Rattle.lane_loops.specs.declared.wildcards.Tried.{Tried}
 use Rattle.lane_loops.specs.declared.wildcards.Tried.TheVariants.{Fits, Differs, UpToSign}
 
 -- the answer, or where it is left to: whether the pattern behind the `%` fits some rest of the text that is left
-abbrev pub Tells : Bool → Tried → Type 0
-Tells answer Fits = answer ≡ true
-Tells answer Differs = answer ≡ false
-Tells answer (UpToSign behind rest) = answer ≡ after_any_run (characters_fit (chars behind.now)) (chars rest.now)
+abbrev pub Reports : Bool → Tried → Type 0
+Reports answer Fits = answer ≡ true
+Reports answer Differs = answer ≡ false
+Reports answer (UpToSign behind rest) = answer ≡ after_any_run (characters_fit (chars behind.now)) (chars rest.now)
 
 -- where it is left to that, so is whether the whole pattern fits some rest of the text
-abbrev pub TellsLater : List ℕ → List ℕ → Tried → Type 0
-TellsLater pattern text (UpToSign behind rest) = after_any_run (characters_fit pattern) text ≡ after_any_run (characters_fit (chars behind.now)) (chars rest.now)
-TellsLater pattern text Fits = Unit {0}
-TellsLater pattern text Differs = Unit {0}
+abbrev pub ReportsLater : List ℕ → List ℕ → Tried → Type 0
+ReportsLater pattern text (UpToSign behind rest) = after_any_run (characters_fit pattern) text ≡ after_any_run (characters_fit (chars behind.now)) (chars rest.now)
+ReportsLater pattern text Fits = Unit {0}
+ReportsLater pattern text Differs = Unit {0}
 
 -- the pattern that is left is shorter
 abbrev pub IsShorter : ℕ → Tried → Type 0

@@ -4,7 +4,7 @@ ghost use Rattle.meaning.specs.declared.outcome.Truth.TheVariants.{Unknown};
 ghost use Rattle.meaning.specs.Truth.{is_true};
 ghost use Rattle.lane_loops.specs.Lanes.{AreChosen, AreLanes, chosen_lane, not_false_at, not_true_at, truth_at, truth_of_bit, truth_or_unknown};
 
-use meaning::outcome::Truth;
+use meaning::Truth;
 
 #[inline(always)]
 fn chosen_at<T: Copy>(mask: &[bool], yes: &[T], no: &[T], lane: usize) -> T
@@ -18,7 +18,7 @@ fn chosen_at<T: Copy>(mask: &[bool], yes: &[T], no: &[T], lane: usize) -> T
     if mask[lane] { this } else { that }
 }
 
-/// The lane of `yes` where the mask tells so, else that of `no`. CASE chooses by which lanes are
+/// The lane of `yes` where the mask marks it, else that of `no`. CASE chooses by which lanes are
 /// TRUE (`true_lanes`), COALESCE by which are NULL; both choose cells and NULLs alike.
 pub fn choose<T: Copy>(mask: &[bool], yes: &[T], no: &[T], out: &mut [T])
     requires mask { length mask.now ≡ length out.old }

@@ -5,7 +5,7 @@ ghost use Rattle.std.specs.Cmp.Lexicographic.{slice_cmp};
 ghost use Rattle.meaning.specs.Operators.{test};
 ghost use Rattle.lane_loops.specs.Lanes.{AreFilled, AreLanes, AreLanesAt, compared_bit, compared_text_bit, compared_text_to_bit, compared_to_bit};
 
-use meaning::expr::ComparisonOperator;
+use meaning::ComparisonOperator;
 
 /// Whether a comparison holds of two integers.
 #[inline(always)]
@@ -250,20 +250,20 @@ pub fn compare_texts_to(op: ComparisonOperator, left: &[&[u8]], right: &[u8], ou
     }
 }
 
-/// The same in the lanes at these places. What stands in the other lanes is open.
+/// The same in the lanes at these positions. What stands in the other lanes is open.
 pub fn compare_texts_to_at(
     op: ComparisonOperator,
     left: &[&[u8]],
     right: &[u8],
-    places: &[u32],
+    positions: &[u32],
     out: &mut [u8],
 )
     requires long { length left.now ≡ length out.old }
-    requires within { All (λ p. p < length out.old) places.now }
-    ensures { AreLanesAt 0 places.now (compared_text_to_bit op left.now right.now) out.new }
+    requires within { All (λ p. p < length out.old) positions.now }
+    ensures { AreLanesAt 0 positions.now (compared_text_to_bit op left.now right.now) out.new }
 {
-    for place in places {
-        let place = *place as usize;
-        out[place] = text_bit_beside(op, left, place, right);
+    for position in positions {
+        let position = *position as usize;
+        out[position] = text_bit_beside(op, left, position, right);
     }
 }

@@ -41,9 +41,9 @@ fn put_quotient(left: &[i64], right: &[i64], lane: usize, out: &mut [i64], codes
     out[lane] = quotient_or_dividend(left[lane], right[lane]);
 }
 
-/// The quotients, rounded towards zero, and 0 in `codes`. Where there is none the dividend stands
-/// in its place, and the fault's code in `codes`: 1 where 64 bits don't hold the quotient, 2 where
-/// the divisor is 0.
+/// The quotients, rounded towards zero, and 0 in `codes`. Where there is none, the lane holds
+/// the dividend and `codes` the fault's code: 1 where 64 bits don't hold the quotient, 2 where the
+/// divisor is 0.
 pub fn div_ints(left: &[i64], right: &[i64], out: &mut [i64], codes: &mut [u8])
     requires left { length left.now ≡ length out.old }
     requires right { length right.now ≡ length out.old }
@@ -58,19 +58,25 @@ pub fn div_ints(left: &[i64], right: &[i64], out: &mut [i64], codes: &mut [u8])
     }
 }
 
-/// The same in the lanes at these places. What stands in the other lanes is open.
-pub fn div_ints_at(left: &[i64], right: &[i64], places: &[u32], out: &mut [i64], codes: &mut [u8])
+/// The same in the lanes at these positions. What stands in the other lanes is open.
+pub fn div_ints_at(
+    left: &[i64],
+    right: &[i64],
+    positions: &[u32],
+    out: &mut [i64],
+    codes: &mut [u8],
+)
     requires left { length left.now ≡ length out.old }
     requires right { length right.now ≡ length out.old }
     requires codes { length codes.old ≡ length out.old }
-    requires within { All (λ p. p < length out.old) places.now }
-    ensures value { AreLanesAt (pos 0) places.now
+    requires within { All (λ p. p < length out.old) positions.now }
+    ensures value { AreLanesAt (pos 0) positions.now
         (λ i. quotient (int_at left.now i) (int_at right.now i)) out.new }
-    ensures code { AreLanesAt 0 places.now
+    ensures code { AreLanesAt 0 positions.now
         (λ i. fault_code (of_integers Divide (int_at left.now i) (int_at right.now i))) codes.new }
 {
-    for place in places {
-        put_quotient(left, right, *place as usize, out, codes);
+    for position in positions {
+        put_quotient(left, right, *position as usize, out, codes);
     }
 }
 

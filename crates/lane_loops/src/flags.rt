@@ -3,7 +3,7 @@ ghost use Rattle.std.specs.Prelude.{◌≡◌, ◌<◌, length, find, All};
 ghost use Rattle.std.specs.List.{list_any, range_with_len};
 ghost use Rattle.lane_loops.specs.Lanes.{AreLanes, cleared_flag, is_flag, is_flagged, kept_flag};
 
-use vectors::selection::Selection;
+use vectors::Selection;
 
 /// Whether any flag isn't 0.
 pub fn has_flag(flags: &[u8]) -> bool
@@ -70,14 +70,14 @@ pub fn first_of_all(flags: &[u8]) -> Option<usize>
     None
 }
 
-fn first_of_places(flags: &[u8], places: &[u32]) -> Option<usize>
-    requires { All (λ p. p < length flags.now) places.now }
-    ensures { result ≡ find (is_flagged flags.now) places.now }
+fn first_of_positions(flags: &[u8], positions: &[u32]) -> Option<usize>
+    requires { All (λ p. p < length flags.now) positions.now }
+    ensures { result ≡ find (is_flagged flags.now) positions.now }
 {
-    for i in 0..places.len() {
-        let place = places[i] as usize;
-        if flags[place] != 0 {
-            return Some(place);
+    for i in 0..positions.len() {
+        let position = positions[i] as usize;
+        if flags[position] != 0 {
+            return Some(position);
         }
     }
     None
@@ -88,8 +88,8 @@ pub fn first_flagged(flags: &[u8], selection: &Selection) -> Option<usize>
     requires { selection.now.below ≡ length flags.now }
     ensures { result ≡ find (is_flagged flags.now) selection.now.list }
 {
-    match selection.places() {
+    match selection.positions() {
         None => first_of_all(flags),
-        Some(places) => first_of_places(flags, places),
+        Some(positions) => first_of_positions(flags, positions),
     }
 }

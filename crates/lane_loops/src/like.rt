@@ -278,15 +278,15 @@ pub fn like_texts(pattern: &LikePattern<'_>, texts: &[&[u8]], out: &mut [u8])
     }
 }
 
-/// The same in the lanes at these places. What stands in the other lanes is open.
-pub fn like_texts_at(pattern: &LikePattern<'_>, texts: &[&[u8]], places: &[u32], out: &mut [u8])
+/// The same in the lanes at these positions. What stands in the other lanes is open.
+pub fn like_texts_at(pattern: &LikePattern<'_>, texts: &[&[u8]], positions: &[u32], out: &mut [u8])
     requires long { length texts.now ≡ length out.old }
-    requires within { All (λ p. p < length out.old) places.now }
-    ensures { AreLanesAtWhere 0 places.now (λ i. is_utf8 (text_at texts.now i) ≡ true)
+    requires within { All (λ p. p < length out.old) positions.now }
+    ensures { AreLanesAtWhere 0 positions.now (λ i. is_utf8 (text_at texts.now i) ≡ true)
         (like_bit pattern.now texts.now) out.new }
 {
-    for place in places {
-        let place = *place as usize;
-        out[place] = bit_at(pattern, texts, place);
+    for position in positions {
+        let position = *position as usize;
+        out[position] = bit_at(pattern, texts, position);
     }
 }

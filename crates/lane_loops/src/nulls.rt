@@ -4,7 +4,7 @@ ghost use Rattle.meaning.specs.declared.outcome.Truth.TheVariants.{Unknown};
 ghost use Rattle.meaning.specs.Truth.{known};
 ghost use Rattle.lane_loops.specs.Lanes.{AreLanes, null_at};
 
-use meaning::outcome::Truth;
+use meaning::Truth;
 
 #[inline(always)]
 fn either_at(left: &[bool], right: &[bool], lane: usize) -> bool

@@ -4,7 +4,7 @@ ghost use Rattle.meaning.specs.declared.outcome.Truth.TheVariants.{Unknown};
 ghost use Rattle.meaning.specs.Truth.{and3, not3, or3};
 ghost use Rattle.lane_loops.specs.Lanes.{AreLanes, truth_at};
 
-use meaning::outcome::Truth;
+use meaning::Truth;
 
 #[inline(always)]
 fn and(left: Truth, right: Truth) -> Truth

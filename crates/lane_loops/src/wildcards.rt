@@ -3,7 +3,7 @@
 ghost use Rattle.std.specs.Prelude.{◌≡◌, ◌<◌, [], ◌∷◌, length, MatchOption};
 ghost use Rattle.std.specs.Str.{chars};
 ghost use Rattle.meaning.specs.Like.{after_any_run, characters_fit, fits_one, is_like};
-ghost use Rattle.lane_loops.specs.Tried.{IsShorter, Tells, TellsLater};
+ghost use Rattle.lane_loops.specs.Tried.{IsShorter, Reports, ReportsLater};
 
 /// What comes of the pattern's characters up to its next `%`.
 #[derive(Drop)]
@@ -34,7 +34,7 @@ fn fits_one(sign: char, c: char) -> bool
 }
 
 fn end_of_pattern(text: &str) -> Tried<'_>
-    ensures here { Tells (characters_fit [] (chars text.now)) result }
+    ensures here { Reports (characters_fit [] (chars text.now)) result }
     ensures shorter { IsShorter 0 result }
 {
     match next_char(text) {
@@ -45,8 +45,8 @@ fn end_of_pattern(text: &str) -> Tried<'_>
 
 /// Tries the pattern at the front of the text, up to the pattern's next `%`.
 fn try_front<'a>(pattern: &'a str, text: &'a str) -> Tried<'a>
-    ensures here { Tells (characters_fit (chars pattern.now) (chars text.now)) result }
-    ensures later { TellsLater (chars pattern.now) (chars text.now) result }
+    ensures here { Reports (characters_fit (chars pattern.now) (chars text.now)) result }
+    ensures later { ReportsLater (chars pattern.now) (chars text.now) result }
     ensures shorter { IsShorter (length pattern.now) result }
 {
     let mut pattern_left = pattern;
@@ -71,7 +71,7 @@ fn try_front<'a>(pattern: &'a str, text: &'a str) -> Tried<'a>
 
 /// Tries the pattern at each rest of the text, the longest first.
 fn try_rests<'a>(pattern: &'a str, text: &'a str) -> Tried<'a>
-    ensures value { Tells (after_any_run (characters_fit (chars pattern.now)) (chars text.now))
+    ensures value { Reports (after_any_run (characters_fit (chars pattern.now)) (chars text.now))
         result }
     ensures shorter { IsShorter (length pattern.now) result }
 {
@@ -95,7 +95,7 @@ fn try_rests<'a>(pattern: &'a str, text: &'a str) -> Tried<'a>
 /// Whether the pattern fits some rest of the text.
 ///
 /// Where the characters up to a `%` fit first, nothing is lost by going on from there: what fits
-/// behind a later place also fits behind the first.
+/// behind a later position also fits behind the first.
 fn fits_some_rest(pattern: &str, text: &str) -> bool
     ensures { result ≡ after_any_run (characters_fit (chars pattern.now)) (chars text.now) }
 {

@@ -13,14 +13,14 @@ use Rattle.meaning.proofs.Tests.{all_append, both}
 use Rattle.last_step.specs.declared.stop.Stop.{Stop}
 use Rattle.last_step.specs.declared.stop.Stop.TheVariants.{Memory, Fault}
 use Rattle.last_step.specs.Batches.{IsJudged, fits}
-use Rattle.meaning.specs.Wanting.{TellsIfMemory}
-use Rattle.last_step.specs.Given.{fault_told}
+use Rattle.meaning.specs.Wanting.{ReportsIfMemory}
+use Rattle.last_step.specs.Given.{fault_returned}
 use Rattle.last_step.proofs.Judging.{judged_behind, starts, goes_on, stops, ends}
 
 abbrev pub judge : Aggregate × Statistics → Result Value ℕ
 judge p = value p.0.kind p.1
 
--- these values were found, and the aggregates from a place on are left
+-- these values were found, and the aggregates from an index on are left
 pub record AreJudged (aggs : List Aggregate) (states : List Statistics) (k : ℕ) : Type 0 where
   pub before : Row
   pub fit : list_all fits before ≡ true
@@ -38,7 +38,7 @@ module _ (aggs : List Aggregate) (states : List Statistics) (k : ℕ) (a : Aggre
     so_far = goes_on judge judged.before _ _ (a, s) (value_in v) _ here is judged.so_far;
   }
 
-  pub judged_stops : (e : Stop) → TellsIfMemory fault_told value_in (Err e) (value a.kind s) → IsJudged (map judge (zip aggs states)) (Err e)
+  pub judged_stops : (e : Stop) → ReportsIfMemory fault_returned value_in (Err e) (value a.kind s) → IsJudged (map judge (zip aggs states)) (Err e)
   judged_stops Memory bad = tt
   judged_stops (Fault c) bad = stops judge judged.before _ _ (a, s) (Fault c) _ here bad judged.so_far
 

@@ -24,16 +24,17 @@ use Rattle.meaning.specs.References.{Reference, FactColumn, JoinColumn, GroupKey
 use Rattle.meaning.specs.Typing.{Valued, Boolean, RowTypes, fits_row_types, group_types, has_type, is_column_type, is_of_type, result_type}
 use Rattle.meaning.proofs.Typed.{type_itself}
 use Rattle.vectors.specs.Lanes.{lane_value, lane_values}
-use Rattle.vectors.specs.Vector.{BatchSpec, IsColumnOf, outcomes_of, same_place}
+use Rattle.vectors.specs.Vector.{BatchSpec, IsColumnOf, outcomes_of, same_reference}
 use Rattle.vectors.specs.declared.batch.BatchColumn.{BatchColumn}
-use Rattle.vectors.specs.declared.batch.Place.{Place}
-use Rattle.vectors.specs.declared.batch.Place.TheVariants as place
+use Rattle.vectors.specs.declared.batch.ColumnReference.{ColumnReference}
+use Rattle.vectors.specs.declared.batch.ColumnReference.TheVariants as reference
 use Rattle.vectors.specs.declared.vector.Vector.{Vector}
 use Rattle.vectors.specs.declared.vector.Vector.TheVariants as vector
 use Rattle.vector_operators.specs.Given.{type_of_lanes}
-use Rattle.primitives.specs.Fitting.{AreTypedRows, Fits, has_column, is_typed_column, place_of}
+use Rattle.primitives.specs.Fitting.{AreTypedRows, Fits, has_column, is_typed_column, column_reference}
 use Rattle.last_step.specs.Batches.{HasAt, HasValues, IsBatchOf, IsColumnIn, IsPartOf, IsVectorOf, aggregate_in, row_in}
-use Rattle.last_step.specs.Fitting.{AreGroupsOf, IsOfGroup, IsTypedOverGroups}
+use Rattle.last_step.specs.Fitting.{AreGroupsOf}
+use Rattle.meaning.specs.SoundPlan.{IsOfGroup, IsTypedOverGroups}
 use Rattle.last_step.proofs.GroupRows.{aggregates_typed, get_typed, has_at, key_typed, of_column, row_typed}
 
 -- ---- values that are put one by one
@@ -96,18 +97,18 @@ module _ (plan : Plan) where
   aggregates_read i (g ∷ gs) = ap (λ (os : List Outcome). gives.Value (aggregate_in plan i g) ∷ os) (aggregates_read i gs)
 
   pub key_column_is : (gs : List Group) (i : ℕ) (k : GroupingKey) (given : List Value) (lanes : Vector) → i < length plan.keys → k ≡ get_or plan.keys i k
-      → given ≡ map (λ g. column g.key i) gs → IsVectorOf k.col_type given lanes → IsColumnIn plan gs (place.Key i) (record { place = place.Key i; lanes = lanes })
+      → given ≡ map (λ g. column g.key i) gs → IsVectorOf k.col_type given lanes → IsColumnIn plan gs (reference.Key i) (record { reference = reference.Key i; lanes = lanes })
   key_column_is gs i k given lanes below at are is = record {
-    place = refl;
+    reference = refl;
     lanes = is.values ∙ ap (map gives.Value) are ∙ keys_read i gs;
     typed = ap (λ o. is_column_type o (type_of_lanes lanes)) (get_typed (λ x. x.col_type) plan.keys i k below at)
         ∙ ap (is_column_type (Some k.col_type)) is.type_is ∙ type_itself k.col_type;
   }
 
   pub aggregate_column_is : (gs : List Group) (i : ℕ) (a : Aggregate) (given : List Value) (lanes : Vector) → i < length plan.aggs → a ≡ get_or plan.aggs i a
-      → given ≡ map (aggregate_in plan i) gs → IsVectorOf (result_of a) given lanes → IsColumnIn plan gs (place.Aggregate i) (record { place = place.Aggregate i; lanes = lanes })
+      → given ≡ map (aggregate_in plan i) gs → IsVectorOf (result_of a) given lanes → IsColumnIn plan gs (reference.Aggregate i) (record { reference = reference.Aggregate i; lanes = lanes })
   aggregate_column_is gs i a given lanes below at are is = record {
-    place = refl;
+    reference = refl;
     lanes = is.values ∙ ap (map gives.Value) are ∙ aggregates_read i gs;
     typed = ap (λ o. is_column_type o (type_of_lanes lanes)) (get_typed result_of plan.aggs i a below at)
         ∙ ap (is_column_type (Some (result_of a))) is.type_is ∙ type_itself (result_of a);
@@ -186,10 +187,10 @@ module _ (plan : Plan) where
       by false b e = e
 
   -- the lanes of a column are as many as the rows
-  pub column_long : (gs : List Group) (keys aggregates : ℕ) (at : Place) (c : BatchColumn) (b : BatchSpec) → IsColumnIn plan gs at c → IsPartOf plan gs keys aggregates b → length (outcomes_of c.lanes) ≡ b.rows
+  pub column_long : (gs : List Group) (keys aggregates : ℕ) (at : ColumnReference) (c : BatchColumn) (b : BatchSpec) → IsColumnIn plan gs at c → IsPartOf plan gs keys aggregates b → length (outcomes_of c.lanes) ≡ b.rows
   column_long gs keys aggregates at c b is part = ap length is.lanes ∙ length-map (map (row_in plan) gs) _ ∙ part.typed.are_rows.counted
 
-  more_typed : (gs : List Group) (at : Place) (c : BatchColumn) (b : BatchSpec) → IsColumnIn plan gs at c → AreTypedRows (group_types plan) b (map (row_in plan) gs)
+  more_typed : (gs : List Group) (at : ColumnReference) (c : BatchColumn) (b : BatchSpec) → IsColumnIn plan gs at c → AreTypedRows (group_types plan) b (map (row_in plan) gs)
       → AreTypedRows (group_types plan) (record { rows = b.rows; columns = b.columns ++ c ∷ [] }) (map (row_in plan) gs)
   more_typed gs at c b is typed = record {
     are_rows = record { counted = typed.are_rows.counted; columns = all_push (IsColumnOf (map (row_in plan) gs)) b.columns c typed.are_rows.columns is.lanes };
@@ -198,25 +199,25 @@ module _ (plan : Plan) where
   }
 
   there : (b : BatchSpec) (c : BatchColumn) (u : Reference) → has_column b.columns u ≡ true → has_column (b.columns ++ c ∷ []) u ≡ true
-  there b c u e = any_left (λ column. same_place column.place (place_of u)) b.columns (c ∷ []) e
+  there b c u e = any_left (λ column. same_reference column.reference (column_reference u)) b.columns (c ∷ []) e
 
-  pub one_more_key : (gs : List Group) (k : ℕ) (c : BatchColumn) (b : BatchSpec) → IsColumnIn plan gs (place.Key k) c → IsPartOf plan gs k 0 b → IsPartOf plan gs (k + 1) 0 (record { rows = b.rows; columns = b.columns ++ c ∷ [] })
+  pub one_more_key : (gs : List Group) (k : ℕ) (c : BatchColumn) (b : BatchSpec) → IsColumnIn plan gs (reference.Key k) c → IsPartOf plan gs k 0 b → IsPartOf plan gs (k + 1) 0 (record { rows = b.rows; columns = b.columns ++ c ∷ [] })
   one_more_key gs k c b is part = record {
-    typed = more_typed gs (place.Key k) c b is part.typed;
+    typed = more_typed gs (reference.Key k) c b is part.typed;
     keys_there = λ i below. elim (cases_lt i k) [
       | inl before ↦ there b c (GroupKey i) (part.keys_there i before)
-      | inr from ↦ (let same : i ≡ k = omega (arith, below, from) in any_last (λ column. same_place column.place (place.Key i)) b.columns c (ap (λ p. same_place p (place.Key i)) is.place ∙ eq-eqb k i (sym same)))
+      | inr from ↦ (let same : i ≡ k = omega (arith, below, from) in any_last (λ column. same_reference column.reference (reference.Key i)) b.columns c (ap (λ p. same_reference p (reference.Key i)) is.reference ∙ eq-eqb k i (sym same)))
     ];
     aggregates_there = λ i below. there b c (GroupAggregate i) (part.aggregates_there i below);
   }
 
-  pub one_more_aggregate : (gs : List Group) (keys k : ℕ) (c : BatchColumn) (b : BatchSpec) → IsColumnIn plan gs (place.Aggregate k) c → IsPartOf plan gs keys k b → IsPartOf plan gs keys (k + 1) (record { rows = b.rows; columns = b.columns ++ c ∷ [] })
+  pub one_more_aggregate : (gs : List Group) (keys k : ℕ) (c : BatchColumn) (b : BatchSpec) → IsColumnIn plan gs (reference.Aggregate k) c → IsPartOf plan gs keys k b → IsPartOf plan gs keys (k + 1) (record { rows = b.rows; columns = b.columns ++ c ∷ [] })
   one_more_aggregate gs keys k c b is part = record {
-    typed = more_typed gs (place.Aggregate k) c b is part.typed;
+    typed = more_typed gs (reference.Aggregate k) c b is part.typed;
     keys_there = λ i below. there b c (GroupKey i) (part.keys_there i below);
     aggregates_there = λ i below. elim (cases_lt i k) [
       | inl before ↦ there b c (GroupAggregate i) (part.aggregates_there i before)
-      | inr from ↦ (let same : i ≡ k = omega (arith, below, from) in any_last (λ column. same_place column.place (place.Aggregate i)) b.columns c (ap (λ p. same_place p (place.Aggregate i)) is.place ∙ eq-eqb k i (sym same)))
+      | inr from ↦ (let same : i ≡ k = omega (arith, below, from) in any_last (λ column. same_reference column.reference (reference.Aggregate i)) b.columns c (ap (λ p. same_reference p (reference.Aggregate i)) is.reference ∙ eq-eqb k i (sym same)))
     ];
   }
 

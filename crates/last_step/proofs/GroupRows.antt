@@ -1,4 +1,4 @@
--- What expressions read of groups has the types that the plan tells.
+-- What expressions read of groups has the types that the plan declares.
 use Rattle.std.proofs.Common.{◌≡◌, ℕ, zero, suc, ◌+◌, ◌<◌, Bool, true, false, cond, ◌&&◌, List, [], ◌∷◌, ◌++◌, map, length, get_or, Some, None, Ok, Err, refl, sym, ap, ◌∙◌, subst, arith}
 use Rattle.std.specs.Prelude.{Option, Result, ℤ, pos, zip, slice_get, unwrap_or, int_div, ◌==◌, not}
 use Rattle.std.specs.List.{list_all}
@@ -45,19 +45,19 @@ record IsAt (states : List Statistics) (row : Row) (kind : AggregateKind) (j : �
   pub within : j < length states
   pub gives : (d : Statistics) → value kind (get_or states j d) ≡ Ok (column row j)
 
-at_place : (aggs : List Aggregate) (states : List Statistics) (row : Row) → pointwise is_state_of aggs states ≡ true → all_ok (map judge (zip aggs states)) ≡ Ok row
+at_index : (aggs : List Aggregate) (states : List Statistics) (row : Row) → pointwise is_state_of aggs states ≡ true → all_ok (map judge (zip aggs states)) ≡ Ok row
     → (j : ℕ) (a : Aggregate) → j < length aggs → a ≡ get_or aggs j a → IsAt states row a.kind j
-at_place [] states row shape are j a below at = absurd (omega (arith, below))
-at_place (x ∷ aggs) [] row shape are j a below at = absurd cc
-at_place (x ∷ aggs) (s ∷ states) row shape are zero a below at =
+at_index [] states row shape are j a below at = absurd (omega (arith, below))
+at_index (x ∷ aggs) [] row shape are j a below at = absurd cc
+at_index (x ∷ aggs) (s ∷ states) row shape are zero a below at =
     let t = taken (judge (x, s)) (all_ok (map judge (zip aggs states))) row are in
     record {
       within = omega arith;
       gives = λ d. ap (λ (b : Aggregate). value b.kind s) at ∙ t.is_head ∙ ap (λ (r : Row). Ok (column r 0)) (sym t.parts);
     }
-at_place (x ∷ aggs) (s ∷ states) row shape are (suc j) a below at =
+at_index (x ∷ aggs) (s ∷ states) row shape are (suc j) a below at =
     let t = taken (judge (x, s)) (all_ok (map judge (zip aggs states))) row are in
-    let rest = at_place aggs states t.tail (second_of (is_state_of x s) (pointwise is_state_of aggs states) shape) t.is_tail j a (omega (arith, below)) at in
+    let rest = at_index aggs states t.tail (second_of (is_state_of x s) (pointwise is_state_of aggs states) shape) t.is_tail j a (omega (arith, below)) at in
     record {
       within = let h = rest.within in omega (arith, h);
       gives = λ d. rest.gives d ∙ ap (λ (r : Row). Ok (column r (suc j))) (sym t.parts);
@@ -65,7 +65,7 @@ at_place (x ∷ aggs) (s ∷ states) row shape are (suc j) a below at =
 
 pub has_at : (plan : Plan) (g : Group) (j : ℕ) (a : Aggregate) → j < length plan.aggs → a ≡ get_or plan.aggs j a → is_group_of plan g ≡ true → HasValues plan g → HasAt plan a.kind j g
 has_at plan g j a below at shape has =
-    let is = at_place plan.aggs g.states has.row (second_of (is_key_of plan g.key) (pointwise is_state_of plan.aggs g.states) shape) has.are j a below at in
+    let is = at_index plan.aggs g.states has.row (second_of (is_key_of plan g.key) (pointwise is_state_of plan.aggs g.states) shape) has.are j a below at in
     record { within = is.within; gives = λ d. is.gives d ∙ ap (λ (r : Result Row ℕ). Ok (column (row_of r) j)) (sym has.are) }
 
 -- ---- types

@@ -5,17 +5,17 @@ use Rattle.std.proofs.lemmas.List.{append-nil}
 use Rattle.meaning.specs.Results.{all_ok, and_then, with_result}
 use Rattle.last_step.specs.declared.stop.Stop.{Stop}
 use Rattle.last_step.specs.declared.stop.Stop.TheVariants.{Memory, Fault}
-use Rattle.meaning.specs.Wanting.{TellsIfMemory}
-use Rattle.last_step.specs.Given.{fault_told}
+use Rattle.meaning.specs.Wanting.{ReportsIfMemory}
+use Rattle.last_step.specs.Given.{fault_returned}
 
--- the elements from a place on
+-- the elements from an index on
 from_suc : {A : Type 0} (zs : List A) (i : ℕ) (z : A) → i < length zs → z ≡ get_or zs i z → drop i zs ≡ z ∷ drop (suc i) zs
 from_suc [] i z l e = absurd (omega (arith, l))
 from_suc {A = A} (x ∷ zs) zero z l e = ap (λ (y : A). y ∷ zs) (sym e)
 from_suc (x ∷ zs) (suc i) z l e = from_suc zs i z (omega (arith, l)) e
 
-pub from_place : {A : Type 0} (zs : List A) (i : ℕ) (z : A) → i < length zs → z ≡ get_or zs i z → drop i zs ≡ z ∷ drop (i + 1) zs
-from_place zs i z l e = from_suc zs i z l e ∙ ap (λ k. z ∷ drop k zs) (sym (add-one i))
+pub from_index : {A : Type 0} (zs : List A) (i : ℕ) (z : A) → i < length zs → z ≡ get_or zs i z → drop i zs ≡ z ∷ drop (i + 1) zs
+from_index zs i z l e = from_suc zs i z l e ∙ ap (λ k. z ∷ drop k zs) (sym (add-one i))
 
 pub past_end : {A : Type 0} (zs : List A) (i : ℕ) → length zs ≤ i → drop i zs ≡ []
 past_end [] zero short = refl
@@ -72,8 +72,8 @@ module _ {A X : Type 0} (judge : A → Result X ℕ) where
       ap (judged_behind before) here ∙ ap (λ r. behind_all before (with_result r (all_ok (map judge rest)))) good ∙ moved before x (all_ok (map judge rest)) in
       sym next ∙ so_far
 
-  pub stops : (before : List X) (zs rest : List A) (z : A) (e : Stop) (all : Result (List X) ℕ) → zs ≡ z ∷ rest → TellsIfMemory fault_told (λ x. x) (Err e) (judge z)
-      → judged_behind before zs ≡ all → TellsIfMemory fault_told (λ x. x) (Err e) all
+  pub stops : (before : List X) (zs rest : List A) (z : A) (e : Stop) (all : Result (List X) ℕ) → zs ≡ z ∷ rest → ReportsIfMemory fault_returned (λ x. x) (Err e) (judge z)
+      → judged_behind before zs ≡ all → ReportsIfMemory fault_returned (λ x. x) (Err e) all
   stops before zs rest z Memory all here bad so_far = tt
   stops before zs rest z (Fault c) all here bad so_far =
       sym so_far ∙ ap (judged_behind before) here ∙ ap (λ r. behind_all before (with_result r (all_ok (map judge rest)))) bad

@@ -101,8 +101,8 @@ module _ (plan : Plan) (rows : List JoinedRow) where
   exprs = map (λ i. i.expr) plan.items
 
   -- the fault that is held is that of the row there
-  abbrev IsTold : Held → Type 0
-  IsTold h = IfSome h (λ f. (f.position < length rows) × (shown plan (row_at rows f.position) ≡ Err (code_of f.fault)))
+  abbrev IsReturned : Held → Type 0
+  IsReturned h = IfSome h (λ f. (f.position < length rows) × (shown plan (row_at rows f.position) ≡ Err (code_of f.fault)))
 
   abbrev shown_row : ℕ → Result (List Row) ℕ
   shown_row i = and_then (values exprs (row_at rows i)) (λ row. Ok (row ∷ []))
@@ -126,11 +126,11 @@ module _ (plan : Plan) (rows : List JoinedRow) where
         ap (λ h. behind_having h (row_at rows i) (shown_row i)) is ∙ drops (eval condition (row_at rows i)) (shown_row i) (keeps.dropped i was among before) (keeps.sound i was before);
     given = λ i among before. refl;
     fault = elim keeps.origin [
-      | inl same ↦ subst IsTold (sym same) tt
-      | inr f ↦ subst IsTold (sym f.is_new)
+      | inl same ↦ subst IsReturned (sym same) tt
+      | inr f ↦ subst IsReturned (sym f.is_new)
           ((
-            let below = among_within 0 (length rows) f.place f.is_selected in omega (arith, below),
-            ap (λ h. behind_having h (row_at rows f.place) (shown_row f.place)) is ∙ ap (λ o. rows_behind o (shown_row f.place)) f.is_meant,
+            let below = among_within 0 (length rows) f.position f.is_selected in omega (arith, below),
+            ap (λ h. behind_having h (row_at rows f.position) (shown_row f.position)) is ∙ ap (λ o. rows_behind o (shown_row f.position)) f.is_meant,
           ))
     ];
   }
@@ -188,13 +188,13 @@ module _ (plan : Plan) (rows : List JoinedRow) where
         ∙ ap (λ x. Ok (lane_row vectors p ++ x ∷ [])) (lane_value v p)
         ∙ ap Ok (sym (map_push (λ w. get_or (values_of w) p Null) vectors v));
     fault = elim evaluated.origin [
-      | inl same ↦ subst IsTold (sym same) shows.fault
-      | inr f ↦ subst IsTold (sym f.is_new)
+      | inl same ↦ subst IsReturned (sym same) shows.fault
+      | inr f ↦ subst IsReturned (sym f.is_new)
           ((
-            within f.place f.is_selected,
-            shows.kept f.place f.is_selected f.is_before (and_then (values exprs (row_at rows f.place)) (λ row. Ok (row ∷ [])))
-                ∙ ap (λ r. and_then r (λ row. Ok (row ∷ []))) (ap (λ es. values es (row_at rows f.place)) all
-                ∙ values_fault (first k) i.expr (map (λ x. x.expr) (drop (k + 1) plan.items)) (row_at rows f.place) (lane_row vectors f.place) f.fault (shows.given f.place f.is_selected f.is_before) f.is_meant),
+            within f.position f.is_selected,
+            shows.kept f.position f.is_selected f.is_before (and_then (values exprs (row_at rows f.position)) (λ row. Ok (row ∷ [])))
+                ∙ ap (λ r. and_then r (λ row. Ok (row ∷ []))) (ap (λ es. values es (row_at rows f.position)) all
+                ∙ values_fault (first k) i.expr (map (λ x. x.expr) (drop (k + 1) plan.items)) (row_at rows f.position) (lane_row vectors f.position) f.fault (shows.given f.position f.is_selected f.is_before) f.is_meant),
           ))
     ];
   }

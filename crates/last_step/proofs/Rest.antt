@@ -18,8 +18,8 @@ use Rattle.last_step.specs.declared.stop.Stop.{Stop}
 use Rattle.last_step.specs.declared.stop.Stop.TheVariants as stop
 use Rattle.last_step.specs.Batches.{HasValues, IsFront, IsJudged, ended, row_in, row_of, shown_after}
 use Rattle.last_step.specs.Fitting.{AreGroupsOf}
-use Rattle.meaning.specs.Wanting.{TellsIfMemory}
-use Rattle.last_step.specs.Given.{fault_told}
+use Rattle.meaning.specs.Wanting.{ReportsIfMemory}
+use Rattle.last_step.specs.Given.{fault_returned}
 use Rattle.meaning.specs.Fitting.{is_group_of}
 use Rattle.last_step.specs.Runs.{expanded, plain_rows, rows_after, rows_behind_groups}
 
@@ -100,7 +100,7 @@ module _ (plan : Plan) where
       ∙ ap (λ r. shown plan (group_row g.key (row_of r))) (sym is) in
       λ i. one i ∷ shown_each gs not_plain all.1 i
 
-  -- where each aggregate has a value, HAVING and the items tell the rows
+  -- where each aggregate has a value, HAVING and the items determine the rows
   pub sound_after : (before : List Row) (gs : List Group) → plan.plain ≡ false → AllByRecursion (HasValues plan) gs → rows_after plan before gs ≡ shown_after plan before (map (row_in plan) gs)
   sound_after before gs not_plain all = ap (λ rs. and_then (all_ok rs) (λ parts. Ok (before ++ all_rows parts))) (shown_each gs not_plain all)
 
@@ -123,15 +123,15 @@ module _ (plan : Plan) where
   next_batch gs n before middle all is so_far =
       sym (ap (λ r. and_then r (λ rows. rows_after plan rows (drop n gs))) is) ∙ sym (both_after before (take n gs) (drop n gs)) ∙ ap (rows_after plan before) (take-append-drop n gs) ∙ so_far
 
-  pub stop_batch : {X Y : Type 0} (seen : X → List Row) (view : Y → List Row) (gs : List Group) (n : ℕ) (before : List Row) (e : Stop) (all : Result (List Row) ℕ) → TellsIfMemory fault_told seen (Err e) (rows_after plan before (take n gs)) → rows_after plan before gs ≡ all
-      → TellsIfMemory fault_told view (Err e) all
+  pub stop_batch : {X Y : Type 0} (seen : X → List Row) (view : Y → List Row) (gs : List Group) (n : ℕ) (before : List Row) (e : Stop) (all : Result (List Row) ℕ) → ReportsIfMemory fault_returned seen (Err e) (rows_after plan before (take n gs)) → rows_after plan before gs ≡ all
+      → ReportsIfMemory fault_returned view (Err e) all
   stop_batch seen view gs n before stop.Memory all bad so_far = tt
   stop_batch seen view gs n before (stop.Fault c) all bad so_far =
       sym so_far ∙ ap (rows_after plan before) (sym (take-append-drop n gs)) ∙ both_after before (take n gs) (drop n gs) ∙ ap (λ r. and_then r (λ rows. rows_after plan rows (drop n gs))) bad
 
   -- nothing stands before
-  pub none_before : {X Y : Type 0} (seen : X → List Row) (view : Y → List Row) (runs : List Run) (gs : List Group) (e : Stop) → runs ≡ [] → TellsIfMemory fault_told seen (Err e) (rows_after plan (expanded runs) gs)
-      → TellsIfMemory fault_told view (Err e) (rows_behind_groups plan (map (read_off plan) gs))
+  pub none_before : {X Y : Type 0} (seen : X → List Row) (view : Y → List Row) (runs : List Run) (gs : List Group) (e : Stop) → runs ≡ [] → ReportsIfMemory fault_returned seen (Err e) (rows_after plan (expanded runs) gs)
+      → ReportsIfMemory fault_returned view (Err e) (rows_behind_groups plan (map (read_off plan) gs))
   none_before seen view runs gs stop.Memory none bad = tt
   none_before seen view runs gs (stop.Fault c) none bad = ap (λ (rs : List Run). rows_after plan (expanded rs) gs) (sym none) ∙ bad
 
@@ -153,12 +153,12 @@ module _ (plan : Plan) where
 
   -- what a batch gives, behind its front
   pub front_then : {X : Type 0} (gs : List Group) (n : ℕ) (fault : Option ℕ) (before middle : List Row) (r : Result X Stop) → IsFront plan gs n fault → rows_after plan before (take n gs) ≡ Ok middle
-      → TellsIfMemory fault_told (λ _. middle) r (ended fault middle) → TellsIfMemory fault_told (λ _. middle) r (rows_after plan before gs)
+      → ReportsIfMemory fault_returned (λ _. middle) r (ended fault middle) → ReportsIfMemory fault_returned (λ _. middle) r (rows_after plan before gs)
   front_then gs n fault before middle (Ok x) is front ends = is.behind before ∙ ap (λ r. and_then r (ended fault)) front ∙ ends
   front_then gs n fault before middle (Err stop.Memory) is front ends = tt
   front_then gs n fault before middle (Err (stop.Fault c)) is front ends = is.behind before ∙ ap (λ r. and_then r (ended fault)) front ∙ ends
 
   pub front_stops : {X Y : Type 0} (seen : X → List Row) (view : Y → List Row) (gs : List Group) (n : ℕ) (fault : Option ℕ) (before : List Row) (e : Stop) → IsFront plan gs n fault
-      → TellsIfMemory fault_told seen (Err e) (rows_after plan before (take n gs)) → TellsIfMemory fault_told view (Err e) (rows_after plan before gs)
+      → ReportsIfMemory fault_returned seen (Err e) (rows_after plan before (take n gs)) → ReportsIfMemory fault_returned view (Err e) (rows_after plan before gs)
   front_stops seen view gs n fault before stop.Memory is bad = tt
   front_stops seen view gs n fault before (stop.Fault c) is bad = is.behind before ∙ ap (λ r. and_then r (ended fault)) bad

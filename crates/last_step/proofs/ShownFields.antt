@@ -18,7 +18,7 @@ use Rattle.meaning.specs.declared.answer.Group.{Group}
 use Rattle.meaning.specs.Finish.{Evaluated, Rows, finished, rows_behind, behind_having, shown, rows_of, limited, all_rows, finish, order_cmp}
 use Rattle.meaning.specs.Expr.{eval, with_value, values}
 use Rattle.meaning.specs.Joined.{group_row}
-use Rattle.meaning.specs.Order.{Row, placed, sorted}
+use Rattle.meaning.specs.Order.{Row, inserted, sorted}
 use Rattle.meaning.specs.Results.{with_result, all_ok, and_then}
 use Rattle.last_step.specs.Given.{meant}
 use Rattle.last_step.specs.Printing.{HasFields, IsPrintable, ShowsSomething}
@@ -40,16 +40,16 @@ full_take zero xs p = tt
 full_take (suc n) [] p = tt
 full_take (suc n) (x ∷ xs) p = (p.0, full_take n xs p.1)
 
-full_placed : (cmp : Row → Row → Ordering) (x : Row) (xs : List Row) → IsFull x → AreFull xs → AreFull (placed cmp x xs)
-full_placed cmp x [] p q = (p, tt)
-full_placed cmp x (y ∷ ys) p q = elim (is_lt (cmp y x)) as (λ t. AreFull (if t then y ∷ placed cmp x ys else x ∷ y ∷ ys)) [
-  | true ↦ (q.0, full_placed cmp x ys p q.1)
+full_inserted : (cmp : Row → Row → Ordering) (x : Row) (xs : List Row) → IsFull x → AreFull xs → AreFull (inserted cmp x xs)
+full_inserted cmp x [] p q = (p, tt)
+full_inserted cmp x (y ∷ ys) p q = elim (is_lt (cmp y x)) as (λ t. AreFull (if t then y ∷ inserted cmp x ys else x ∷ y ∷ ys)) [
+  | true ↦ (q.0, full_inserted cmp x ys p q.1)
   | false ↦ (p, q)
 ]
 
 full_sorted : (cmp : Row → Row → Ordering) (xs : List Row) → AreFull xs → AreFull (sorted cmp xs)
 full_sorted cmp [] p = tt
-full_sorted cmp (x ∷ xs) p = full_placed cmp x (sorted cmp xs) p.0 (full_sorted cmp xs p.1)
+full_sorted cmp (x ∷ xs) p = full_inserted cmp x (sorted cmp xs) p.0 (full_sorted cmp xs p.1)
 
 full_limited : (limit : Option ℕ) (xs : List Row) → AreFull xs → AreFull (limited limit xs)
 full_limited None xs p = p

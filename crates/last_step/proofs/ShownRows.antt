@@ -154,9 +154,9 @@ module _ (plan : Plan) (rows : List JoinedRow) (selected : List ℕ) (held : Hel
   -- the fault that is held is the first
   pub fault_shown : (before : List Row) (f : Faulted) → held ≡ Some f → shown_after plan before rows ≡ Err (code_of f.fault)
   fault_shown before f is =
-      let told = subst (λ (h : Held). IfSome h (λ g. (g.position < length rows) × (shown plan (row_at rows g.position) ≡ Err (code_of g.fault)))) is shows.fault in
+      let returned = subst (λ (h : Held). IfSome h (λ g. (g.position < length rows) × (shown plan (row_at rows g.position) ≡ Err (code_of g.fault)))) is shows.fault in
       ap (λ r. and_then r (λ parts. Ok (before ++ all_rows parts)))
-      (first_fault plan (lane_row vectors) rows f.position (code_of f.fault) told.0 (λ i low. (_, shown_before i (let h = told.0 in omega (arith, low, h)) (subst (λ (h : Held). IsBefore i h) (sym is) low))) told.1)
+      (first_fault plan (lane_row vectors) rows f.position (code_of f.fault) returned.0 (λ i low. (_, shown_before i (let h = returned.0 in omega (arith, low, h)) (subst (λ (h : Held). IsBefore i h) (sym is) low))) returned.1)
 
 -- without a fault, the rows are those of the lanes
 pub rows_shown : (plan : Plan) (before : List Row) (rows : List JoinedRow) (s : Positions) (vectors : List Vector) → IsSelection s → s.below ≡ length rows → Shows plan rows (length plan.items) s.list None vectors

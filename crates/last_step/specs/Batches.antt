@@ -26,7 +26,7 @@ use Rattle.accumulators.specs.Values.{is_spelled}
 use Rattle.vectors.specs.Selection.{is_among}
 use Rattle.vectors.specs.Vector.{BatchSpec, IsColumnOf, outcomes_of, values_of}
 use Rattle.vectors.specs.declared.batch.BatchColumn.{BatchColumn}
-use Rattle.vectors.specs.declared.batch.Place.{Place}
+use Rattle.vectors.specs.declared.batch.ColumnReference.{ColumnReference}
 use Rattle.vectors.specs.declared.vector.Vector.{Vector}
 use Rattle.vector_operators.specs.Evaluated.{Finds, Held, IsBefore}
 use Rattle.vector_operators.specs.Given.{is_true_lane, type_of_lanes}
@@ -123,8 +123,8 @@ pub record HasAt (plan : Plan) (kind : AggregateKind) (j : ℕ) (g : Group) : Ty
   pub gives : (d : Statistics) → value kind (get_or g.states j d) ≡ Ok (aggregate_in plan j g)
 
 -- the column of a key or an aggregate of the groups
-pub record IsColumnIn (plan : Plan) (groups : List Group) (at : Place) (c : BatchColumn) : Type 0 where
-  pub place : c.place ≡ at
+pub record IsColumnIn (plan : Plan) (groups : List Group) (at : ColumnReference) (c : BatchColumn) : Type 0 where
+  pub reference : c.reference ≡ at
   pub lanes : IsColumnOf (map (row_in plan) groups) c
   pub typed : is_typed_column (group_types plan) c ≡ true
 

@@ -1,6 +1,6 @@
 -- What a call gives beside what is meant.
---     fault_told    the fault that a call's error tells
---     meant         the last step's outcome
+--     fault_returned  the fault that a call's error reports
+--     meant           the last step's outcome
 use Rattle.std.specs.Prelude.{◌≡◌, ℕ, Bool, true, false, List, Option, Some, None, Result, Ok, Err}
 use Rattle.meaning.specs.declared.value.Value.{Value}
 use Rattle.meaning.specs.declared.value.Value.TheVariants.{Null}
@@ -22,10 +22,10 @@ use Rattle.last_step.specs.declared.stop.Stop.TheVariants.{Memory, Fault}
 use Rattle.last_step.specs.declared.finished.Finished.{Finished}
 use Rattle.last_step.specs.declared.finished.Finished.TheVariants as finished
 
--- the fault that a stop tells, if it isn't that memory was wanting
-abbrev pub fault_told : Stop → Option ℕ
-fault_told Memory = None
-fault_told (Fault code) = Some code
+-- the fault that a stop reports, if it isn't that memory was wanting
+abbrev pub fault_returned : Stop → Option ℕ
+fault_returned Memory = None
+fault_returned (Fault code) = Some code
 
 -- what the last step gave
 abbrev pub meant : Finished → last.Finished

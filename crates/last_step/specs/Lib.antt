@@ -5,3 +5,4 @@ pub mod Fitting
 pub mod Batches
 pub mod Lent
 pub mod Printing
+pub mod PrintFaults

@@ -4,13 +4,12 @@ ghost use Rattle.meaning.specs.declared.plan.AggregateKind.TheVariants as the_ki
 ghost use Rattle.meaning.specs.Aggregate.{value};
 ghost use Rattle.meaning.specs.Order.{value_in};
 ghost use Rattle.last_step.specs.Batches.{IsFront, IsJudged, fits};
-ghost use Rattle.meaning.specs.Wanting.{TellsIfMemory};
-ghost use Rattle.last_step.specs.Given.{fault_told};
+ghost use Rattle.meaning.specs.Wanting.{ReportsIfMemory};
+ghost use Rattle.last_step.specs.Given.{fault_returned};
 
 use crate::stop::Stop;
 use accumulators::{AggFault, Group, State};
-use meaning::plan::{Aggregate, AggregateKind, Plan};
-use meaning::value::{Value, ValueRef};
+use meaning::{Aggregate, AggregateKind, Plan, Value, ValueRef};
 use std::alloc::{AllocError, Global};
 
 /// The number of the fault of a sum outside 64 bits.
@@ -20,7 +19,7 @@ const SUM_OUT_OF_RANGE: u8 = 3;
 fn integer_of(alloc: Global, kind: AggregateKind, state: &State) -> Result<ValueRef<'_>, Stop>
     requires least { kind ≢ the_kind.Min }
     requires greatest { kind ≢ the_kind.Max }
-    ensures value { TellsIfMemory fault_told value_in result (value kind state.now) }
+    ensures value { ReportsIfMemory fault_returned value_in result (value kind state.now) }
     ensures fits { IfOk result (λ v. fits (value_in v) ≡ true) }
 {
     match state.evaluate(alloc, kind) {
@@ -48,7 +47,7 @@ fn greatest_of(state: &State) -> ValueRef<'_>
 
 /// The value of an aggregate, lent where the state has it.
 pub fn value_of(alloc: Global, kind: AggregateKind, state: &State) -> Result<ValueRef<'_>, Stop>
-    ensures value { TellsIfMemory fault_told value_in result (value kind state.now) }
+    ensures value { ReportsIfMemory fault_returned value_in result (value kind state.now) }
     ensures fits { IfOk result (λ v. fits (value_in v) ≡ true) }
 {
     match kind {

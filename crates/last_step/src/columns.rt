@@ -6,7 +6,7 @@ ghost use Rattle.meaning.specs.declared.value.Value.{Value as AValue};
 ghost use Rattle.meaning.specs.Aggregate.{value};
 ghost use Rattle.meaning.specs.Order.{bytes, column, is_null, number, value_in};
 ghost use Rattle.meaning.specs.Typing.{is_of_type, result_type};
-ghost use Rattle.vectors.specs.declared.batch.Place.TheVariants as place;
+ghost use Rattle.vectors.specs.declared.batch.ColumnReference.TheVariants as reference;
 ghost use Rattle.last_step.specs.Batches.{HasAt, HasValues, IsBatchOf, IsColumnIn, IsPartOf, IsVectorOf, aggregate_in, row_in};
 ghost use Rattle.last_step.specs.Fitting.{AreGroupsOf};
 
@@ -14,14 +14,11 @@ use crate::aggregates::value_of;
 use crate::ordering::value_at;
 use crate::stop::Stop;
 use accumulators::{Group, State};
-use meaning::plan::{Aggregate, AggregateKind, Plan};
-use meaning::value::{ColType, ValueRef};
+use meaning::{Aggregate, AggregateKind, ColType, Plan, ValueRef};
 use std::alloc::{AllocError, Global};
-use vectors::batch::{Batch, BatchColumn, Place};
-use vectors::ints::{IntCells, Ints};
-use vectors::nulls::Nulls;
-use vectors::texts::{TextCells, Texts};
-use vectors::vector::Vector;
+use vectors::{
+    Batch, BatchColumn, ColumnReference, IntCells, Ints, Nulls, TextCells, Texts, Vector,
+};
 
 fn is_null(value: ValueRef<'_>) -> bool
     ensures { result ≡ is_null (value_in value.entry) }
@@ -190,13 +187,13 @@ fn key_column<'a>(
 ) -> Result<BatchColumn<'a>, AllocError>
     requires within { key < length plan.now.keys }
     requires groups { AreGroupsOf plan.now groups.now }
-    ensures { IfOk result (IsColumnIn plan.now groups.now (place.Key key)) }
+    ensures { IfOk result (IsColumnIn plan.now groups.now (reference.Key key)) }
 {
     let keys = plan.keys.as_slice();
     let values = keys_of(alloc, groups, key)?;
     let lanes = vector_of(alloc, keys[key].col_type, values.as_slice())?;
     Ok(BatchColumn {
-        place: Place::Key { key },
+        reference: ColumnReference::Key { key },
         lanes,
     })
 }
@@ -210,13 +207,13 @@ fn aggregate_column<'a>(
     requires within { aggregate < length plan.now.aggs }
     requires groups { AreGroupsOf plan.now groups.now }
     requires values { All (HasValues plan.now) groups.now }
-    ensures { IfOk result (IsColumnIn plan.now groups.now (place.Aggregate aggregate)) }
+    ensures { IfOk result (IsColumnIn plan.now groups.now (reference.Aggregate aggregate)) }
 {
     let Aggregate { kind, col_type, .. } = &plan.aggs.as_slice()[aggregate];
     let values = aggregates_of(alloc, *kind, groups, aggregate)?;
     let lanes = vector_of(alloc, result_type(*kind, *col_type), values.as_slice())?;
     Ok(BatchColumn {
-        place: Place::Aggregate { aggregate },
+        reference: ColumnReference::Aggregate { aggregate },
         lanes,
     })
 }

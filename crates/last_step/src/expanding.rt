@@ -5,8 +5,7 @@ ghost use Rattle.last_step.specs.Runs.{expanded, room};
 
 use crate::run::Run;
 use crate::showing::copy_row;
-use meaning::sequence::Sequence;
-use meaning::value::Row;
+use meaning::{Row, Sequence};
 use std::alloc::{AllocError, Global};
 use std::mem::drop;
 

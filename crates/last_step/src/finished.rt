@@ -1,7 +1,6 @@
 //! What the last step gives.
 
-use meaning::sequence::Sequence;
-use meaning::value::Row;
+use meaning::{Row, Sequence};
 
 /// The rows in their order, or the number of the first fault over groups.
 #[derive(Drop)]

@@ -16,9 +16,7 @@ use crate::run::Run;
 use crate::runs::runs_of;
 use crate::stop::Stop;
 use accumulators::Group;
-use meaning::plan::Plan;
-use meaning::sequence::Sequence;
-use meaning::value::Row;
+use meaning::{Plan, Row, Sequence};
 use std::alloc::{AllocError, Global};
 use std::mem::drop;
 

@@ -4,7 +4,7 @@ ghost use Rattle.last_step.specs.Lent.{lent_contents};
 use std::io;
 use std::io::Write;
 
-/// A borrowed writer, for a writer that keeps what it writes to. Contracts tell its bytes behind
+/// A borrowed writer, for a writer that keeps what it writes to. Contracts see its bytes behind
 /// the name of the borrow, so that the lender knows his own when it is given back.
 #[derive(Drop)]
 pub struct Lent<'a, W> {

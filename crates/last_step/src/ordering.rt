@@ -5,16 +5,15 @@ ghost use Rattle.meaning.specs.Order.{column, row_cmp, sorted, value_in};
 ghost use Rattle.last_step.specs.Runs.{expanded};
 
 use crate::run::Run;
-use meaning::plan::OrderKey;
-use meaning::value::{Row, ValueRef, compare_lent};
+use meaning::{OrderKey, Row, ValueRef, compare_lent};
 use std::alloc::AllocError;
 use std::cmp::Ordering;
 
 /// The value in a column, and NULL past the end.
-pub fn value_at(row: &Row, place: usize) -> ValueRef<'_>
-    ensures { value_in result ≡ column row.now place }
+pub fn value_at(row: &Row, at: usize) -> ValueRef<'_>
+    ensures { value_in result ≡ column row.now at }
 {
-    match row.as_slice().get(place) {
+    match row.as_slice().get(at) {
         Some(value) => value.as_value_ref(),
         None => ValueRef::Null,
     }

@@ -1,6 +1,7 @@
 //! Why a report was not printed.
 ghost use Rattle.std.specs.Prelude.{◌≡◌, if◌then◌else◌};
 ghost use Rattle.csv.specs.Reading.{error_kind, is_io};
+ghost use Rattle.last_step.specs.PrintFaults.{number_of};
 ghost use Rattle.last_step.specs.declared.print_fault.PrintFault.TheVariants.{Memory, Writer};
 
 use std::alloc::AllocError;
@@ -14,6 +15,18 @@ pub enum PrintFault {
     Memory,
     #[error("the output can't be written")]
     Writer,
+}
+
+impl PrintFault {
+    /// The error code.
+    pub fn number(&self) -> u8
+        ensures { result ≡ number_of self.now }
+    {
+        match self {
+            PrintFault::Memory => 0,
+            PrintFault::Writer => 1,
+        }
+    }
 }
 
 impl From<AllocError> for PrintFault {

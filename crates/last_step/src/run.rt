@@ -1,6 +1,6 @@
 //! A row with the number of its repeats.
 
-use meaning::value::Row;
+use meaning::Row;
 
 /// A row that stands so many times in the answer.
 #[derive(Drop)]

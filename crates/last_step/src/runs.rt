@@ -2,20 +2,20 @@
 ghost use Rattle.std.specs.Prelude.{map};
 ghost use Rattle.meaning.specs.Answer.{read_off};
 ghost use Rattle.last_step.specs.Fitting.{AreGroupsOf};
-ghost use Rattle.meaning.specs.Wanting.{TellsIfMemory};
-ghost use Rattle.last_step.specs.Given.{fault_told};
+ghost use Rattle.meaning.specs.Wanting.{ReportsIfMemory};
+ghost use Rattle.last_step.specs.Given.{fault_returned};
 ghost use Rattle.last_step.specs.Runs.{expanded, rows_after, rows_behind_groups};
 
 use crate::run::Run;
 use crate::showing::{push_grouped, push_plain};
 use crate::stop::Stop;
 use accumulators::Group;
-use meaning::plan::Plan;
+use meaning::Plan;
 use std::alloc::Global;
 
 fn push_all(alloc: Global, plan: &Plan, groups: &[Group], runs: &mut Vec<Run>) -> Result<(), Stop>
     requires { AreGroupsOf plan.now groups.now }
-    ensures { TellsIfMemory fault_told (λ _. expanded runs.new.items) result
+    ensures { ReportsIfMemory fault_returned (λ _. expanded runs.new.items) result
         (rows_after plan.now (expanded runs.old.items) groups.now) }
 {
     if plan.plain {
@@ -27,7 +27,7 @@ fn push_all(alloc: Global, plan: &Plan, groups: &[Group], runs: &mut Vec<Run>) -
 /// The rows of the groups as runs, or the first fault from group to group.
 pub fn runs_of(alloc: Global, plan: &Plan, groups: &[Group]) -> Result<Vec<Run>, Stop>
     requires { AreGroupsOf plan.now groups.now }
-    ensures { TellsIfMemory fault_told (λ runs. expanded runs.items) result
+    ensures { ReportsIfMemory fault_returned (λ runs. expanded runs.items) result
         (rows_behind_groups plan.now (map (read_off plan.now) groups.now)) }
 {
     let mut runs = Vec::new(alloc);

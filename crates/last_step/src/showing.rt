@@ -7,8 +7,8 @@ ghost use Rattle.accumulators.specs.Values.{is_spelled};
 ghost use Rattle.vectors.specs.Vector.{values_of};
 ghost use Rattle.last_step.specs.Batches.{AreReadable, HasValues, IsBatchOf, ended, lane_row, shown_after};
 ghost use Rattle.last_step.specs.Fitting.{AreGroupsOf};
-ghost use Rattle.meaning.specs.Wanting.{TellsIfMemory};
-ghost use Rattle.last_step.specs.Given.{fault_told};
+ghost use Rattle.meaning.specs.Wanting.{ReportsIfMemory};
+ghost use Rattle.last_step.specs.Given.{fault_returned};
 ghost use Rattle.last_step.specs.Runs.{expanded, plain_rows, rows_after};
 
 use crate::aggregates::front_of;
@@ -17,14 +17,10 @@ use crate::run::Run;
 use crate::shown::evaluate;
 use crate::stop::Stop;
 use accumulators::{Group, owned, position, value_at};
-use meaning::plan::Plan;
-use meaning::sequence::Sequence;
-use meaning::value::{Row, Value};
+use meaning::{Plan, Row, Sequence, Value};
 use std::alloc::{AllocError, Global};
 use std::mem::drop;
-use vectors::batch::Batch;
-use vectors::selection::Selection;
-use vectors::vector::Vector;
+use vectors::{Batch, Selection, Vector};
 
 /// How many groups are evaluated at once.
 const BATCH_GROUPS: usize = 1024;
@@ -92,7 +88,7 @@ fn push_shown(
     requires small { batch.now.rows < 2 ^ 32 }
     requires rows { (rows : List JoinedRow) × IsBatchOf plan.now rows batch.now }
     ensures { (rows : List JoinedRow) → IsBatchOf plan.now rows batch.now
-        → TellsIfMemory fault_told (λ _. expanded runs.new.items) result
+        → ReportsIfMemory fault_returned (λ _. expanded runs.new.items) result
         (shown_after plan.now (expanded runs.old.items) rows) }
 {
     let shown = evaluate(alloc, plan, batch)?;
@@ -108,7 +104,7 @@ fn push_sound(alloc: Global, plan: &Plan, groups: &[Group], runs: &mut Vec<Run>)
     requires groups { AreGroupsOf plan.now groups.now }
     requires few { length groups.now < 2 ^ 32 }
     requires values { All (HasValues plan.now) groups.now }
-    ensures { TellsIfMemory fault_told (λ _. expanded runs.new.items) result
+    ensures { ReportsIfMemory fault_returned (λ _. expanded runs.new.items) result
         (rows_after plan.now (expanded runs.old.items) groups.now) }
 {
     let batch = batch_of(alloc, plan, groups)?;
@@ -118,7 +114,7 @@ fn push_sound(alloc: Global, plan: &Plan, groups: &[Group], runs: &mut Vec<Run>)
 }
 
 fn end_of(fault: Option<u8>) -> Result<(), Stop>
-    ensures { (rows : List ARow) → TellsIfMemory fault_told (λ _. rows) result (ended fault rows) }
+    ensures { (rows : List ARow) → ReportsIfMemory fault_returned (λ _. rows) result (ended fault rows) }
 {
     match fault {
         Some(code) => Err(Stop::Fault(code)),
@@ -131,7 +127,7 @@ fn push_batch(alloc: Global, plan: &Plan, groups: &[Group], runs: &mut Vec<Run>)
     requires grouped { plan.now.plain ≡ false }
     requires groups { AreGroupsOf plan.now groups.now }
     requires few { length groups.now < 2 ^ 32 }
-    ensures { TellsIfMemory fault_told (λ _. expanded runs.new.items) result
+    ensures { ReportsIfMemory fault_returned (λ _. expanded runs.new.items) result
         (rows_after plan.now (expanded runs.old.items) groups.now) }
 {
     let front = front_of(alloc, plan, groups)?;
@@ -148,7 +144,7 @@ pub fn push_grouped(
 ) -> Result<(), Stop>
     requires grouped { plan.now.plain ≡ false }
     requires groups { AreGroupsOf plan.now groups.now }
-    ensures { TellsIfMemory fault_told (λ _. expanded runs.new.items) result
+    ensures { ReportsIfMemory fault_returned (λ _. expanded runs.new.items) result
         (rows_after plan.now (expanded runs.old.items) groups.now) }
 {
     let mut rest = groups;

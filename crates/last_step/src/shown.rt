@@ -10,16 +10,12 @@ ghost use Rattle.primitives.specs.Fitting.{AreTypedRows, Fits};
 ghost use Rattle.primitives.specs.Meant.{meant_at};
 ghost use Rattle.last_step.specs.Batches.{IsBatchOf, Keeps, Shows};
 
-use meaning::expr::Expr;
-use meaning::outcome::Truth;
-use meaning::plan::Plan;
-use primitives::evaluation::eval_vec;
+use meaning::{Expr, Plan, Truth};
+use primitives::eval_vec;
 use std::alloc::{AllocError, Global};
 use std::mem::drop;
-use vector_operators::fault::Fault1;
-use vectors::batch::Batch;
-use vectors::selection::Selection;
-use vectors::vector::Vector;
+use vector_operators::Fault1;
+use vectors::{Batch, Selection, Vector};
 
 /// Whether a lane is TRUE.
 fn is_true_at(lanes: &Vector<'_>, lane: usize) -> bool
@@ -43,7 +39,7 @@ fn keep_true(selection: &mut Selection, lanes: &Vector<'_>)
 {
     // No effect at run time. The proof reads from this call that positions ascend below the length.
     let _positions = selection.len();
-    selection.narrow(|place| is_true_at(lanes, place as usize));
+    selection.narrow(|position| is_true_at(lanes, position as usize));
 }
 
 /// The selected groups of which a condition is TRUE.

@@ -28,7 +28,8 @@ use Rattle.meaning.specs.References.{Reference, GroupKey, GroupAggregate, column
 use Rattle.meaning.specs.Typing.{RowTypes, Valued, Boolean, group_types, has_type, is_of_type, result_type}
 use Rattle.meaning.proofs.Same.{statistics_exact}
 use Rattle.meaning.proofs.Tests.{both}
-use Rattle.last_step.specs.Fitting.{AreGroupsOf, IsOfGroup, IsTypedOverGroups}
+use Rattle.last_step.specs.Fitting.{AreGroupsOf}
+use Rattle.meaning.specs.SoundPlan.{IsOfGroup, IsTypedOverGroups}
 use Rattle.last_step_tests.specs.Shapes.{AreKeys, AreSums, IsHaving, IsSumGroup, IsSumPlan, IsSumState, sum_types}
 
 -- ---- HAVING

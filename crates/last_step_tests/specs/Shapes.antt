@@ -12,7 +12,7 @@ use Rattle.meaning.specs.declared.value.Value.TheVariants.{Int}
 use Rattle.meaning.specs.Operators.{fits_i64}
 use Rattle.meaning.specs.References.{GroupAggregate, columns_used_in_all}
 use Rattle.meaning.specs.Typing.{Boolean, RowTypes, has_type}
-use Rattle.last_step.specs.Fitting.{IsTypedOverGroups}
+use Rattle.meaning.specs.SoundPlan.{IsTypedOverGroups}
 
 -- a key and a sum, both integers
 abbrev pub sum_types : RowTypes

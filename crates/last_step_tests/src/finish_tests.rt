@@ -3,7 +3,7 @@
 use crate::groups::{BEYOND, NULL, groups_of};
 use crate::plans::{Having, Query, plan_of};
 use last_step::{Finished, finish};
-use meaning::value::{Row, Value};
+use meaning::{Row, Value};
 use std::alloc::{AllocError, Global};
 use std::fmt::Write;
 use std::mem::drop;
@@ -16,28 +16,28 @@ const ALL: Query = Query {
     plain: false,
 };
 
-fn tell_row(told: &mut String, row: &Row) -> Result<(), AllocError> {
+fn show_row(shown: &mut String, row: &Row) -> Result<(), AllocError> {
     for value in row.as_slice() {
         match value {
-            Value::Null => told.push_str("NULL ")?,
-            Value::Int(int) => write!(told, "{int} ")?,
-            Value::Text(text) => write!(told, "{} ", text.as_str())?,
+            Value::Null => shown.push_str("NULL ")?,
+            Value::Int(int) => write!(shown, "{int} ")?,
+            Value::Text(text) => write!(shown, "{} ", text.as_str())?,
         }
     }
-    told.push_str("; ")
+    shown.push_str("; ")
 }
 
-fn told(alloc: Global, finished: &Finished) -> Result<String, AllocError> {
-    let mut told = String::new(alloc);
+fn shown(alloc: Global, finished: &Finished) -> Result<String, AllocError> {
+    let mut shown = String::new(alloc);
     match finished {
         Finished::Rows(rows) => {
             for row in rows.as_slice() {
-                tell_row(&mut told, row)?;
+                show_row(&mut shown, row)?;
             }
         }
-        Finished::Fault(code) => write!(told, "fault {code}")?,
+        Finished::Fault(code) => write!(shown, "fault {code}")?,
     }
-    Ok(told)
+    Ok(shown)
 }
 
 #[tactic(auto, using(crate::proofs::SumPlans::groups_fit))]
@@ -56,8 +56,8 @@ fn expect(
     list: &[(i64, u64, i64)],
     want: &str,
 ) -> Result<(), AllocError> {
-    let told = told(alloc, &finished(alloc, query, list)?)?;
-    assert_eq!(rt; told.as_str(), want);
+    let shown = shown(alloc, &finished(alloc, query, list)?)?;
+    assert_eq!(rt; shown.as_str(), want);
     Ok(())
 }
 
@@ -99,7 +99,7 @@ fn having_takes_only_true(rt: HostRuntime) -> Result<(), AllocError> {
 }
 
 #[test]
-fn first_fault_by_key_is_told_whatever_limit_says(rt: HostRuntime) -> Result<(), AllocError> {
+fn first_fault_by_key_is_returned_whatever_limit_says(rt: HostRuntime) -> Result<(), AllocError> {
     let query = Query {
         having: Having::HundredBySumAboveTwo,
         limit: Some(0),

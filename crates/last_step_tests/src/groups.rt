@@ -6,9 +6,7 @@ ghost use Rattle.meaning.specs.Operators.{fits_i64};
 ghost use Rattle.last_step_tests.specs.Shapes.{IsSumGroup, IsSumState};
 
 use accumulators::{Group, State};
-use meaning::answer::Statistics;
-use meaning::sequence::Sequence;
-use meaning::value::{Row, Value};
+use meaning::{Row, Sequence, Statistics, Value};
 use std::alloc::{AllocError, Global};
 
 pub const NULL: i64 = 404;
@@ -29,7 +27,7 @@ fn state_of(int: i64) -> State
     })
 }
 
-/// The state of a sum; 404 stands for none, 505 for one outside 64 bits.
+/// The state of a sum; 404 is none, 505 for one outside 64 bits.
 fn state(sum: i64) -> State
     ensures { IsSumState result }
 {

@@ -6,12 +6,10 @@ ghost use Rattle.meaning.specs.declared.expr.Expr.TheVariants as the_expr;
 ghost use Rattle.meaning.specs.declared.value.Value.TheVariants.{Int};
 ghost use Rattle.last_step_tests.specs.Shapes.{AreKeys, AreSums, IsHaving, IsSumPlan};
 
-use meaning::boxed::Boxed;
-use meaning::expr::{ArithmeticOperator, ComparisonOperator, Expr};
-use meaning::plan::{Aggregate, AggregateKind, GroupingKey, Item, OrderKey, Plan, TableUse};
-use meaning::sequence::Sequence;
-use meaning::text::Text;
-use meaning::value::{ColType, Value};
+use meaning::{
+    Aggregate, AggregateKind, ArithmeticOperator, Boxed, ColType, ComparisonOperator, Expr,
+    GroupingKey, Item, OrderKey, Plan, Sequence, TableUse, Text, Value,
+};
 use std::alloc::{AllocError, Global};
 use std::mem::drop;
 

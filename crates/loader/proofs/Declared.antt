@@ -23,9 +23,9 @@ use Rattle.meaning.proofs.Tests.{both}
 use Rattle.columns.specs.Column.{ColumnSpec, refusal}
 use Rattle.columns.specs.declared.fault.ColumnFault.TheVariants as fault
 use Rattle.loader.specs.Columns.{AreDeclared, Kind, kind_of, declared_kind, column_of, columns_of, row_counts, take_row, takes, with_row}
-use Rattle.loader.specs.Steps.{IsOrderOf, TakesRow, field_places, has_each}
+use Rattle.loader.specs.Steps.{IsOrderOf, TakesRow, inverse_order, has_each}
 use Rattle.loader.specs.declared.fault.LoadFault.{LoadFault}
-use Rattle.loader.proofs.Fragments.{long_row, places_length}
+use Rattle.loader.proofs.Fragments.{long_row, inverse_length}
 
 -- ---- one value
 
@@ -41,11 +41,11 @@ takes_value of_type.Text nullable (Text t) e =
     let short : nat_le (length t) max_text_bytes ≡ true = (and_parts (is_utf8 t) (nat_le (length t) max_text_bytes) text).1 in
     ap (λ b. if b then None else Some fault.TextTooLong) short
 
--- a column takes what a field stands for under its declaration
-pub takes_field : (c : ColumnSpec) (d : Column) → c.col_type ≡ d.col_type → c.nullable ≡ d.nullable → (row place : ℕ) (field : List ℕ) (v : Value)
-    → field_value row place d field ≡ Ok v → refusal c.col_type c.nullable v ≡ None
-takes_field c d kind nullable row place field v e =
-    (λ i. refusal (kind i) (nullable i) v) ∙ takes_value d.col_type d.nullable v (taken d.nullable d.col_type row place field v e)
+-- a column takes the value of a field under its declaration
+pub takes_field : (c : ColumnSpec) (d : Column) → c.col_type ≡ d.col_type → c.nullable ≡ d.nullable → (row index : ℕ) (field : List ℕ) (v : Value)
+    → field_value row index d field ≡ Ok v → refusal c.col_type c.nullable v ≡ None
+takes_field c d kind nullable row index field v e =
+    (λ i. refusal (kind i) (nullable i) v) ∙ takes_value d.col_type d.nullable v (taken d.nullable d.col_type row index field v e)
 
 -- ---- a row
 
@@ -62,7 +62,7 @@ declared_at declared cs i d c are lt =
     at_any : (ds : List Column) (i : ℕ) (d : Column) (k : Kind) → i < length ds → get_or (map declared_kind ds) i k ≡ declared_kind (get_or ds i d)
     at_any ds i d k lt = get_or-map declared_kind ds i d k lt
 
--- a value at each place, from the place s on
+-- a value at each index, from index s on
 fits_from : (cs : List ColumnSpec) (f : ℕ → Value) (s : ℕ) → ((k : ℕ) (c : ColumnSpec) → k < length cs → takes (get_or cs k c) (f (s + k)) ≡ true)
     → take_row cs (map f (range_with_len s (length cs))) ≡ true
 fits_from [] f s each = refl
@@ -76,16 +76,16 @@ judged_there : (declared : List Column) (row : ℕ) (order : List ℕ) (fields :
     → (j k : ℕ) (d : Column) → slice_get order j ≡ Some k → slice_get declared k ≡ Some d → j < length fields
     → (field : List ℕ) × (field_value row k d field ≡ Ok (slice_index_or values j Null))
 judged_there declared row [] fields values e j k d at there lt = cc at
-judged_there declared row (place ∷ order) [] values e j k d at there lt = absurd (omega arith)
-judged_there declared row (place ∷ order) (f ∷ fields) values e zero k d at there lt =
-    let front = front_ok (value_at row place (slice_get declared place) f) (file_values declared order row fields) values e in
-    let same : place ≡ k = cc at in (
+judged_there declared row (index ∷ order) [] values e j k d at there lt = absurd (omega arith)
+judged_there declared row (index ∷ order) (f ∷ fields) values e zero k d at there lt =
+    let front = front_ok (value_at row index (slice_get declared index) f) (file_values declared order row fields) values e in
+    let same : index ≡ k = cc at in (
       f,
       ap (λ (c : Option Column). value_at row k c f) (sym there) ∙ ap (λ n. value_at row n (slice_get declared n) f) (sym same) ∙ front.here
           ∙ ap (λ (vs : List Value). Ok (slice_index_or vs 0 Null)) (sym front.whole),
     )
-judged_there declared row (place ∷ order) (f ∷ fields) values e (suc j) k d at there lt =
-    let front = front_ok (value_at row place (slice_get declared place) f) (file_values declared order row fields) values e in
+judged_there declared row (index ∷ order) (f ∷ fields) values e (suc j) k d at there lt =
+    let front = front_ok (value_at row index (slice_get declared index) f) (file_values declared order row fields) values e in
     let (field, good) = judged_there declared row order fields front.later front.behind j k d at there (omega arith) in
     (field, good ∙ ap (λ (vs : List Value). Ok (slice_index_or vs (suc j) Null)) (sym front.whole))
 
@@ -101,18 +101,18 @@ pub record_fits : (declared : List Column) (order : List ℕ) → has_each order
     → file_values declared order row fields ≡ Ok values → (cs : List ColumnSpec) → AreDeclared declared cs → take_row cs (catalog_row order values) ≡ true
 record_fits declared order each wide row fields values long e cs are =
     let many = declared_length declared cs are in
-    let f : ℕ → Value = λ place. slice_index_or values (unwrap_or (position (λ p. p == place) order) 0) Null in
+    let f : ℕ → Value = λ index. slice_index_or values (unwrap_or (position (λ p. p == index) order) 0) Null in
     let counted : length cs ≡ length order = many ∙ sym wide in
     ap (λ n. take_row cs (map f (range_with_len 0 n))) (sym counted) ∙ fits_from cs f 0 (at f many refl)
   where
-    at : (f : ℕ → Value) → length cs ≡ length declared → f ≡ (λ place. slice_index_or values (unwrap_or (position (λ p. p == place) order) 0) Null)
+    at : (f : ℕ → Value) → length cs ≡ length declared → f ≡ (λ index. slice_index_or values (unwrap_or (position (λ p. p == index) order) 0) Null)
         → (k : ℕ) (c : ColumnSpec) → k < length cs → takes (get_or cs k c) (f (0 + k)) ≡ true
     at f many is k c lt =
         let d = get_or declared k (record { name = []; col_type = c.col_type; nullable = c.nullable }) in
         let there : slice_get declared k ≡ Some d = slice_get-get_or declared k _ (omega (arith, many)) in
-        let named = AllPass-from_list_all (λ place. is_some (position (λ p. p == place) order)) (range_with_len 0 (length order)) each k 0 (let r = length-range_with_len 0 (length order) in omega (arith, r, many, wide)) in
-        let place : get_or (range_with_len 0 (length order)) k 0 ≡ k = get_or-range_with_len 0 (length order) k 0 (omega (arith, many, wide)) ∙ zero-add k in
-        let found = some_there (position (λ p. p == k) order) (ap (λ n. is_some (position (λ p. p == n) order)) (sym place) ∙ named) in
+        let named = AllPass-from_list_all (λ index. is_some (position (λ p. p == index) order)) (range_with_len 0 (length order)) each k 0 (let r = length-range_with_len 0 (length order) in omega (arith, r, many, wide)) in
+        let index : get_or (range_with_len 0 (length order)) k 0 ≡ k = get_or-range_with_len 0 (length order) k 0 (omega (arith, many, wide)) ∙ zero-add k in
+        let found = some_there (position (λ p. p == k) order) (ap (λ n. is_some (position (λ p. p == n) order)) (sym index) ∙ named) in
         let j = found.0 in
         let stands = position-Some (λ p. p == k) order j 0 found.1 in
         let at_j : slice_get order j ≡ Some k = slice_get-get_or order j 0 stands.0 ∙ ap Some (eqb-true (get_or order j 0) k stands.1) in
@@ -123,16 +123,16 @@ record_fits declared order each wide row fields values long e cs are =
         ap (takes (get_or cs k c)) value
         ∙ ap is_none (takes_field (get_or cs k c) d (ap (λ (p : Kind). p.0) kinds ∙ ap (λ (x : Column). x.col_type) same) (ap (λ (p : Kind). p.1) kinds ∙ ap (λ (x : Column). x.nullable) same) row k judged.0 (slice_index_or values j Null) judged.1)
 
--- a row that fits has a value that fits at each place
+-- a row that fits has a value that fits at each index
 pub taken_at : (cs : List ColumnSpec) (row : Row) (i : ℕ) (c : ColumnSpec) → take_row cs row ≡ true → i < length cs
     → refusal (get_or cs i c).col_type (get_or cs i c).nullable (slice_index_or row i Null) ≡ None
 taken_at [] row i c fits lt = absurd (omega arith)
 taken_at (x ∷ cs) [] i c fits lt = cc fits
-taken_at (x ∷ cs) (v ∷ row) zero c fits lt = none_told (refusal x.col_type x.nullable v) (and_parts _ _ fits).0
+taken_at (x ∷ cs) (v ∷ row) zero c fits lt = none_returned (refusal x.col_type x.nullable v) (and_parts _ _ fits).0
   where
-    none_told : {X : Type 0} (o : Option X) → is_none o ≡ true → o ≡ None
-    none_told None e = refl
-    none_told (Some f) e = cc e
+    none_returned : {X : Type 0} (o : Option X) → is_none o ≡ true → o ≡ None
+    none_returned None e = refl
+    none_returned (Some f) e = cc e
 taken_at (x ∷ cs) (v ∷ row) (suc i) c fits lt = taken_at cs row i c (and_parts (takes x v) (take_row cs row) fits).1 (omega arith)
 
 -- ---- columns with a row more
@@ -143,13 +143,13 @@ same_kinds (c ∷ cs) [] le = absurd (omega arith)
 same_kinds (c ∷ cs) (v ∷ r) le = ap (λ (ks : List Kind). kind_of c ∷ ks) (same_kinds cs r (omega arith))
 
 -- as many as the fields of an order
-pub declared_places : (declared : List Column) (order places : List ℕ) (cs : List ColumnSpec) → IsOrderOf declared order → places ≡ field_places order → AreDeclared declared cs → length cs ≡ length places
-declared_places declared order places cs is inverse are =
-    declared_length declared cs are ∙ sym is.long ∙ sym (places_length order places inverse)
+pub declared_fields : (declared : List Column) (order fields : List ℕ) (cs : List ColumnSpec) → IsOrderOf declared order → fields ≡ inverse_order order → AreDeclared declared cs → length cs ≡ length fields
+declared_fields declared order fields cs is inverse are =
+    declared_length declared cs are ∙ sym is.long ∙ sym (inverse_length order fields inverse)
 
 pub declared_kept : (declared : List Column) (order : List ℕ) (row : ℕ) (fields : Record) (cs after : List ColumnSpec) (r : Result (Unit {0}) LoadFault) → IsOrderOf declared order
     → AreDeclared declared cs → TakesRow (row_of declared order row fields) cs after r → OnOk r (AreDeclared declared after)
-declared_kept declared order row fields cs after (Err f) is are told = tt
+declared_kept declared order row fields cs after (Err f) is are returned = tt
 declared_kept declared order row fields cs after (Ok _) is are (r, judged, e) =
     let long = long_row declared order row fields r judged in
     let wide = is.long in
@@ -159,7 +159,7 @@ declared_kept declared order row fields cs after (Ok _) is are (r, judged, e) =
 -- each column has a row more
 pub rows_longer : (declared : List Column) (order : List ℕ) (row : ℕ) (fields : Record) (cs after : List ColumnSpec) (r : Result (Unit {0}) LoadFault) → IsOrderOf declared order
     → AreDeclared declared cs → TakesRow (row_of declared order row fields) cs after r → OnOk r (row_counts after ≡ map (λ n. n + 1) (row_counts cs))
-rows_longer declared order row fields cs after (Err f) is are told = tt
+rows_longer declared order row fields cs after (Err f) is are returned = tt
 rows_longer declared order row fields cs after (Ok _) is are (r, judged, e) =
     let long = long_row declared order row fields r judged in
     let wide = is.long in
@@ -190,7 +190,7 @@ none_longer (n ∷ counts) =
     let here : n + 0 ≡ n = omega arith in
     rw (here, sym (none_longer counts)) refl
 
--- the columns, of which the front has a value more, at a place
+-- the columns, of which the front has a value more, at an index
 pub front_kind : (cs : List ColumnSpec) (values : Row) (i : ℕ) (c : ColumnSpec) → i ≤ length values → i < length cs
     → kind_of (get_or (with_row (take i cs) values ++ drop i cs) i c) ≡ kind_of (get_or cs i c)
 front_kind cs values i c enough lt =
@@ -204,19 +204,19 @@ front_kind cs values i c enough lt =
 -- ---- columns of no row
 
 pub fresh_declared : (declared : List Column) → AreDeclared declared (columns_of declared [])
-fresh_declared declared = from_place declared 0
+fresh_declared declared = from_index declared 0
   where
-    from_place : (ds : List Column) (n : ℕ) → map kind_of (map (column_of []) (enumerate_from n ds)) ≡ map declared_kind ds
-    from_place [] n = refl
-    from_place (d ∷ ds) n = ap (λ (ks : List Kind). declared_kind d ∷ ks) (from_place ds (n + 1))
+    from_index : (ds : List Column) (n : ℕ) → map kind_of (map (column_of []) (enumerate_from n ds)) ≡ map declared_kind ds
+    from_index [] n = refl
+    from_index (d ∷ ds) n = ap (λ (ks : List Kind). declared_kind d ∷ ks) (from_index ds (n + 1))
 
 -- columns that had no rows have those that were put there
 pub fresh_rows : (declared : List Column) (before after : List ColumnSpec) (n : ℕ) → before ≡ columns_of declared [] → row_counts after ≡ map (λ k. k + n) (row_counts before) → row_counts after ≡ map (λ _. n) declared
-fresh_rows declared before after n fresh longer = longer ∙ ap (λ (cs : List ColumnSpec). map (λ k. k + n) (row_counts cs)) fresh ∙ from_place declared 0 n
+fresh_rows declared before after n fresh longer = longer ∙ ap (λ (cs : List ColumnSpec). map (λ k. k + n) (row_counts cs)) fresh ∙ from_index declared 0 n
   where
-    from_place : (ds : List Column) (i n : ℕ) → map (λ k. k + n) (row_counts (map (column_of []) (enumerate_from i ds))) ≡ map (λ _. n) ds
-    from_place [] i n = refl
-    from_place (d ∷ ds) i n =
+    from_index : (ds : List Column) (i n : ℕ) → map (λ k. k + n) (row_counts (map (column_of []) (enumerate_from i ds))) ≡ map (λ _. n) ds
+    from_index [] i n = refl
+    from_index (d ∷ ds) i n =
         let here : 0 + n ≡ n = omega arith in
-        let others = from_place ds (i + 1) n in
+        let others = from_index ds (i + 1) n in
         rw (here, others) refl

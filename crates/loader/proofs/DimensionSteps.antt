@@ -16,8 +16,8 @@ use Rattle.columns.specs.Column.{ColumnSpec}
 use Rattle.loader.specs.declared.fault.LoadFault.{LoadFault}
 use Rattle.loader.specs.declared.fault.LoadFault.TheVariants.{Memory, Table, Device}
 use Rattle.loader.specs.Columns.{columns_of, dimension_columns}
-use Rattle.meaning.specs.Wanting.{TellsIfMemory}
-use Rattle.loader.specs.Fault.{fault_told}
+use Rattle.meaning.specs.Wanting.{ReportsIfMemory}
+use Rattle.loader.specs.Fault.{fault_returned}
 use Rattle.loader.specs.Steps.{order_of, keyed_rows, TakesTable}
 use Rattle.loader.proofs.FactSteps.{ordered}
 
@@ -44,7 +44,7 @@ opened_dimension d declared records header others order same all ordered_so =
     ap (dimension_columns d) all ∙ by_header d.table.columns d.key header others order (is_header d.table.columns header) (rw same at ordered_so)
     ∙ ap (λ (c : List Column). in_columns c (keyed_rows c order d.key max_rows others)) (sym same)
 
-pub table_loaded : (declared : List Column) (rows : Result (List Row) TableFault) (result : Result (List ColumnSpec) LoadFault) → TakesTable declared rows result → TellsIfMemory fault_told (λ (columns : List ColumnSpec). columns) result (in_columns declared rows)
+pub table_loaded : (declared : List Column) (rows : Result (List Row) TableFault) (result : Result (List ColumnSpec) LoadFault) → TakesTable declared rows result → ReportsIfMemory fault_returned (λ (columns : List ColumnSpec). columns) result (in_columns declared rows)
 table_loaded declared rows (Ok columns) (zs, e, same) = rw (e, same) refl
 table_loaded declared rows (Err (Table f)) e = ap (in_columns declared) e
 table_loaded declared rows (Err Memory) e = tt

@@ -13,8 +13,8 @@ use Rattle.csv.specs.declared.parser.Action.TheVariants as act
 use Rattle.csv.specs.Machine.{is_end, ends_at_end, in_field, start_field, after_end}
 use Rattle.csv.specs.Reading.{default_config}
 use Rattle.loader.proofs.Judging.{taken}
-use Rattle.loader.specs.declared.place.Place.{Place}
-use Rattle.loader.specs.declared.place.Place.TheVariants as place
+use Rattle.loader.specs.declared.record_state.RecordState.{RecordState}
+use Rattle.loader.specs.declared.record_state.RecordState.TheVariants as record_state
 use Rattle.loader.specs.Counting.{settled, next_state, ends_record, state_behind, ended_in, records_left, is_unquoted, is_quote, is_line_end, state_at}
 
 -- ---- lists of bytes
@@ -92,7 +92,7 @@ within_quotes false x y = refl
 start_ends : (c : ℕ) → is_end (start_field default_config c).1 ≡ is_line_end c
 start_ends c = quoted_ends (c == 34) (is_line_end c) st.InQuoted (in_field default_config c) (no_line_end c 34 refl refl) (in_field_ends c)
 
--- whether a byte ends a record, from place to place
+-- whether a byte ends a record, from state to state
 pub between_ends : (c : ℕ) → ends_record st.StartRecord c ≡ false
 unfolding ends_record
 between_ends c = never_ends (is_line_end c) st.StartRecord (start_field default_config c) (start_ends c)
@@ -199,7 +199,7 @@ no_quote (x ∷ xs) zero c none there = let same : x ≡ c = cc there in subst (
 no_quote (x ∷ xs) (suc i) c none there = no_quote xs i c (either_false _ _ none).1 there
 
 module _ (s : State) (block : List ℕ) where
-  -- as many records end in front of a place
+  -- as many records end in front of a byte
   abbrev pub HasEnded : ℕ → ℕ → Type 0
   HasEnded i records = records ≡ ended_in s (take i block)
 
@@ -218,7 +218,7 @@ module _ (s : State) (block : List ℕ) where
   pub one_behind : (i c : ℕ) → slice_get block i ≡ Some c → state_behind s (take (i + 1) block) ≡ next_state (state_behind s (take i block)) c
   one_behind i c there = ap (state_behind s) (taken block i c there) ∙ behind_append (take i block) (c ∷ []) s
 
-  -- what a loop over bytes without quotes knows in front of a place
+  -- what a loop over bytes without quotes knows in front of a byte
   abbrev pub CountsPlain : ℕ → Bool → ℕ → Type 0
   CountsPlain i within records = HasEnded i records × (is_unquoted (state_behind s (take i block)) ≡ true) × (within ≡ ends_at_end (state_behind s (take i block)))
 
@@ -233,7 +233,7 @@ module _ (s : State) (block : List ℕ) where
         sym (ap ends_at_end next ∙ plain_open c),
       )
 
--- the place behind bytes without quotes is that behind the last
+-- the state behind bytes without quotes is that behind the last
 pub behind_last : (xs : List ℕ) (s : State) (c d : ℕ) → list_any is_quote (d ∷ xs) ≡ false → is_unquoted s ≡ true → slice_get (d ∷ xs) (length xs) ≡ Some c → state_behind s (d ∷ xs) ≡ settled (in_field default_config c).0
 behind_last [] s c d plain out there =
     let same : d ≡ c = cc there in
@@ -245,30 +245,30 @@ behind_last (x ∷ xs) s c d plain out there =
 pub behind_all : (xs : List ℕ) (s : State) (c : ℕ) → list_any is_quote xs ≡ false → is_unquoted s ≡ true → slice_get xs (length xs - 1) ≡ Some c → state_behind s xs ≡ settled (in_field default_config c).0
 behind_all [] s c plain out there = cc there
 behind_all (d ∷ xs) s c plain out there =
-    let place : suc (length xs) - 1 ≡ length xs = omega arith in
-    behind_last xs s c d plain out (ap (slice_get (d ∷ xs)) (sym place) ∙ there)
+    let at_last : suc (length xs) - 1 ≡ length xs = omega arith in
+    behind_last xs s c d plain out (ap (slice_get (d ∷ xs)) (sym at_last) ∙ there)
 
--- ---- from place to place
+-- ---- from state to state
 
 -- a byte ends a record if it is a line end within one, outside of quotes
-pub ends_by_parts : (p : Place) (c : ℕ) → ends_record (state_at p) c ≡ ((is_line_end c && ends_at_end (state_at p)) && is_unquoted (state_at p))
-ends_by_parts place.Between c = plain_ends st.StartRecord c refl ∙ sym (so (is_line_end c && false))
-ends_by_parts place.FieldStart c = plain_ends st.StartField c refl ∙ sym (so (is_line_end c && true))
-ends_by_parts place.Field c = plain_ends st.InField c refl ∙ sym (so (is_line_end c && true))
-ends_by_parts place.Quoted c = quoted_ends_never c ∙ sym (not_so (is_line_end c && true))
-ends_by_parts place.QuoteEnd c = plain_ends st.AfterQuote c refl ∙ sym (so (is_line_end c && true))
+pub ends_by_parts : (p : RecordState) (c : ℕ) → ends_record (state_at p) c ≡ ((is_line_end c && ends_at_end (state_at p)) && is_unquoted (state_at p))
+ends_by_parts record_state.Between c = plain_ends st.StartRecord c refl ∙ sym (so (is_line_end c && false))
+ends_by_parts record_state.FieldStart c = plain_ends st.StartField c refl ∙ sym (so (is_line_end c && true))
+ends_by_parts record_state.Field c = plain_ends st.InField c refl ∙ sym (so (is_line_end c && true))
+ends_by_parts record_state.Quoted c = quoted_ends_never c ∙ sym (not_so (is_line_end c && true))
+ends_by_parts record_state.QuoteEnd c = plain_ends st.AfterQuote c refl ∙ sym (so (is_line_end c && true))
 
 quoted_goes : (c : ℕ) → (c ≡ 34 → ⊥) → next_state st.InQuoted c ≡ st.InQuoted
 unfolding next_state
 quoted_goes c is_not = let other = ne_eqb c 34 is_not in rw other refl
 
 -- within quotes it stays there
-pub stays_quoted : (p : Place) (c : ℕ) → is_unquoted (state_at p) ≡ false → (c ≡ 34 → ⊥) → st.InQuoted ≡ next_state (state_at p) c
-stays_quoted place.Between c out is_not = cc out
-stays_quoted place.FieldStart c out is_not = cc out
-stays_quoted place.Field c out is_not = cc out
-stays_quoted place.Quoted c out is_not = sym (quoted_goes c is_not)
-stays_quoted place.QuoteEnd c out is_not = cc out
+pub stays_quoted : (p : RecordState) (c : ℕ) → is_unquoted (state_at p) ≡ false → (c ≡ 34 → ⊥) → st.InQuoted ≡ next_state (state_at p) c
+stays_quoted record_state.Between c out is_not = cc out
+stays_quoted record_state.FieldStart c out is_not = cc out
+stays_quoted record_state.Field c out is_not = cc out
+stays_quoted record_state.Quoted c out is_not = sym (quoted_goes c is_not)
+stays_quoted record_state.QuoteEnd c out is_not = cc out
 
 pub goes_plain : (s : State) (c : ℕ) → is_unquoted s ≡ true → (c ≡ 34 → ⊥) → settled (in_field default_config c).0 ≡ next_state s c
 goes_plain s c out is_not = sym (plain_next s c out (ne_eqb c 34 is_not))

@@ -1,4 +1,4 @@
--- The fields of a record by place, and maps of maps.
+-- The fields of a record by index, and maps of maps.
 use Rattle.std.proofs.Common.{◌≡◌, ℕ, zero, suc, List, [], ◌∷◌, map, refl, ap, sym, Some, true}
 use Rattle.std.specs.Prelude.{slice_get}
 use Rattle.std.specs.Str.{is_utf8}

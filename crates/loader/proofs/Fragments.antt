@@ -14,14 +14,14 @@ use Rattle.meaning.specs.Records.{Record, row_of, catalog_row, file_values}
 use Rattle.meaning.specs.Results.{and_then}
 use Rattle.columns.specs.Column.{ColumnSpec, with_value}
 use Rattle.loader.specs.Columns.{column_of, columns_of, with_row}
-use Rattle.loader.specs.Steps.{numbered_row, rows_of, with_rows, enough_rows, field_places}
+use Rattle.loader.specs.Steps.{numbered_row, rows_of, with_rows, enough_rows, inverse_order}
 use Rattle.loader.proofs.RowRuns.{ok_parts}
 
 -- ---- a row has a value for each column
 
 catalog_length : (order : List ℕ) (values : List Value) → length (catalog_row order values) ≡ length order
 catalog_length order values =
-    length-map (range_with_len 0 (length order)) (λ place. slice_index_or values (unwrap_or (position (λ p. p == place) order) 0) Null)
+    length-map (range_with_len 0 (length order)) (λ index. slice_index_or values (unwrap_or (position (λ p. p == index) order) 0) Null)
     ∙ length-range_with_len 0 (length order)
 
 by_values : (order : List ℕ) (r : Row) (v : Result (List Value) TableFault) → and_then v (λ values. Ok (catalog_row order values)) ≡ Ok r → length r ≡ length order
@@ -39,14 +39,14 @@ long_row columns order row fields r e =
 
 -- ---- rows in columns
 
--- the elements from a place on
+-- the elements from an index on
 from_suc : (row : Row) (n : ℕ) → n < length row → drop n row ≡ column row n ∷ drop (suc n) row
 from_suc [] n lt = absurd (omega arith)
 from_suc (v ∷ row) zero lt = refl
 from_suc (v ∷ row) (suc n) lt = from_suc row n (omega arith)
 
-from_place : (row : Row) (n : ℕ) → n < length row → drop n row ≡ column row n ∷ drop (n + 1) row
-from_place row n lt = from_suc row n lt ∙ ap (λ k. column row n ∷ drop k row) (sym (add-one n))
+from_index : (row : Row) (n : ℕ) → n < length row → drop n row ≡ column row n ∷ drop (n + 1) row
+from_index row n lt = from_suc row n lt ∙ ap (λ k. column row n ∷ drop k row) (sym (add-one n))
 
 first_and_others : (n : ℕ) (c : Column) (rows : List Row) (row : Row) (left right : List ColumnSpec) → left ≡ right
     → with_value (column_of rows (n, c)) (column row n) ∷ left ≡ column_of (rows ++ row ∷ []) (n, c) ∷ right
@@ -54,12 +54,12 @@ first_and_others n c rows row left right same =
     let values : map (λ r. column r n) (rows ++ row ∷ []) ≡ map (λ r. column r n) rows ++ column row n ∷ [] = map-append (λ r. column r n) rows (row ∷ []) in
     rw (same, values) refl
 
--- one row more, from the column at a place on
+-- one row more, from a column on
 row_in : (n : ℕ) (declared : List Column) (rows : List Row) (row : Row) → n + length declared ≡ length row
     → map (λ p. with_value p.0 p.1) (zip (map (column_of rows) (enumerate_from n declared)) (drop n row)) ≡ map (column_of (rows ++ row ∷ [])) (enumerate_from n declared)
 row_in n [] rows row long = refl
 row_in n (c ∷ declared) rows row long =
-    let here : drop n row ≡ column row n ∷ drop (n + 1) row = from_place row n (omega (arith, long)) in
+    let here : drop n row ≡ column row n ∷ drop (n + 1) row = from_index row n (omega (arith, long)) in
     let others = row_in (n + 1) declared rows row (omega (arith, long)) in
     rw here (first_and_others n c rows row _ _ others)
 
@@ -97,9 +97,9 @@ fragment_columns declared order first count rest columns rows long e fresh =
 pub columns_length : (declared : List Column) (rows : List Row) → length (columns_of declared rows) ≡ length declared
 columns_length declared rows = length-map (enumerate_from 0 declared) (column_of rows) ∙ length-enumerate_from 0 declared
 
-pub places_length : (order places : List ℕ) → places ≡ field_places order → length places ≡ length order
-places_length order places e =
-    ap length e ∙ length-map (range_with_len 0 (length order)) (λ place. unwrap_or (position (λ p. p == place) order) 0) ∙ length-range_with_len 0 (length order)
+pub inverse_length : (order fields : List ℕ) → fields ≡ inverse_order order → length fields ≡ length order
+inverse_length order fields e =
+    ap length e ∙ length-map (range_with_len 0 (length order)) (λ index. unwrap_or (position (λ p. p == index) order) 0) ∙ length-range_with_len 0 (length order)
 
 -- elements that take the place of as many
 pub put_back : {A : Type 0} (n : ℕ) (now items : List A) → length items ≡ n → length now ≡ n → take n (now ++ drop (length now) items) ≡ now

@@ -11,7 +11,7 @@ use Rattle.meaning.specs.Results.{and_then}
 use Rattle.meaning_laws.proofs.Cuts.{sum_cons}
 use Rattle.columns.specs.Column.{ColumnSpec}
 use Rattle.loader.specs.Columns.{columns_of}
-use Rattle.loader.specs.Fault.{fault_told}
+use Rattle.loader.specs.Fault.{fault_returned}
 use Rattle.loader.specs.Handing.{HandsOn, IsToCome, declared_in, in_front, lengths_ahead}
 use Rattle.loader.specs.Source.{IsLeft}
 use Rattle.loader.specs.declared.fact.FactReader.{FactReader}
@@ -20,7 +20,7 @@ use Rattle.loader.specs.declared.fault.LoadFault.TheVariants.{Memory, Table, Dev
 use Rattle.loader.specs.Steps.{TakesFragment, enough_rows, fragments_at, fragments_left, is_more, unless_more}
 use Rattle.loader.proofs.RowRuns.{behind, behind_none}
 
--- a record that is left over is told behind all fragments
+-- a record that is left over is reported behind all fragments
 left_over : (fragment : List ColumnSpec) (rest : List Record) (all : Result (List (List ColumnSpec)) TableFault) → and_then (in_front fragment all) (unless_more rest) ≡ in_front fragment (and_then all (unless_more rest))
 left_over fragment rest (Err f) = refl
 left_over fragment [] (Ok others) = refl
@@ -130,7 +130,7 @@ module _ {R : Type 0} (known : R → Option (List ℕ)) (meant : Result (List (L
         all ∙ ap (behind done) (hands others coming) ∙ ap (λ (fs : List (List ColumnSpec)). Ok fs) (append-nil done)
     no_more (Some x) none hands = absurd (none x refl)
 
-    pub one_refused : (e : LoadFault) → ((others : Result (List (List ColumnSpec)) TableFault) → IsToCome known before others → HandsOn known others after (Err e)) → IfSome (fault_told e) (λ f. meant ≡ Err f)
+    pub one_refused : (e : LoadFault) → ((others : Result (List (List ColumnSpec)) TableFault) → IsToCome known before others → HandsOn known others after (Err e)) → IfSome (fault_returned e) (λ f. meant ≡ Err f)
     one_refused (Table f) hands =
         let (others, all, coming) = handed in
         all ∙ ap (behind done) (hands others coming)

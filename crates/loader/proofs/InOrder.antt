@@ -15,45 +15,45 @@ use Rattle.meaning.specs.declared.value.Value.TheVariants.{Null}
 use Rattle.meaning.specs.Records.{Record, catalog_row, field_value, file_values, row_of, value_at}
 use Rattle.columns.specs.Column.{ColumnSpec, with_value}
 use Rattle.loader.specs.Columns.{with_row}
-use Rattle.loader.specs.Steps.{TakesField, TakesRow, field_places, is_in_order}
+use Rattle.loader.specs.Steps.{TakesField, TakesRow, inverse_order, is_in_order}
 use Rattle.loader.specs.declared.fault.LoadFault.{LoadFault}
 use Rattle.loader.specs.declared.fault.LoadFault.TheVariants.{Memory, Table, Device}
 use Rattle.loader.proofs.Judging.{judged_behind, zipped, goes_on, fails, finishes, zip_short_left}
 use Rattle.loader.proofs.Values.{all_set, set_next}
 
--- each column's place is its field's
+-- each field has the index of its column
 from_start : (s : ℕ) (order : List ℕ) → list_all (λ p. p.1 == p.0) (enumerate_from s order) ≡ true → order ≡ range_with_len s (length order)
 from_start s [] all = refl
-from_start s (place ∷ order) all =
+from_start s (index ∷ order) all =
     let parts = and_parts _ _ all in
-    let first : place ≡ s = eqb-true place s parts.0 in
+    let first : index ≡ s = eqb-true index s parts.0 in
     let rest = from_start (s + 1) order parts.1 in
     cc (first, rest)
 
 order_is : (order : List ℕ) → is_in_order order ≡ true → order ≡ range_with_len 0 (length order)
 order_is order all = from_start 0 order all
 
-pub order_whole : (order places : List ℕ) (n : ℕ) (found : Bool) → places ≡ field_places order → found ≡ is_in_order order → found ≡ true → length places ≡ n → order ≡ range_with_len 0 n
-order_whole order places n found inverse is holds count =
-    let long : length places ≡ length order =
-    ap length inverse ∙ length-map (range_with_len 0 (length order)) (λ place. unwrap_or (position (λ p. p == place) order) 0) ∙ length-range_with_len 0 (length order) in
+pub order_whole : (order fields : List ℕ) (n : ℕ) (found : Bool) → fields ≡ inverse_order order → found ≡ is_in_order order → found ≡ true → length fields ≡ n → order ≡ range_with_len 0 n
+order_whole order fields n found inverse is holds count =
+    let long : length fields ≡ length order =
+    ap length inverse ∙ length-map (range_with_len 0 (length order)) (λ index. unwrap_or (position (λ p. p == index) order) 0) ∙ length-range_with_len 0 (length order) in
     order_is order (sym is ∙ holds) ∙ ap (λ k. range_with_len 0 k) (sym long ∙ count)
 
--- a place in the order of the catalogue stands at itself
-places_before : (s n k place : ℕ) → k < n → s + k ≡ place → prefix_len (λ p. not (p == place)) (range_with_len s n) ≡ k
-places_before s zero k place lt e = absurd (omega arith)
-places_before s (suc n) zero place lt e = let same = eq-eqb s place (omega arith) in rw same refl
-places_before s (suc n) (suc k) place lt e =
-    let other = ne_eqb s place (λ same. omega arith) in
-    rw other (let behind = places_before (s + 1) n k place (omega arith) (omega arith) in omega (arith, behind))
+-- in the order of the catalogue each index stands at itself
+numbers_before : (s n k index : ℕ) → k < n → s + k ≡ index → prefix_len (λ p. not (p == index)) (range_with_len s n) ≡ k
+numbers_before s zero k index lt e = absurd (omega arith)
+numbers_before s (suc n) zero index lt e = let same = eq-eqb s index (omega arith) in rw same refl
+numbers_before s (suc n) (suc k) index lt e =
+    let other = ne_eqb s index (λ same. omega arith) in
+    rw other (let behind = numbers_before (s + 1) n k index (omega arith) (omega arith) in omega (arith, behind))
 
-place_of : (n place : ℕ) → place < n → position (λ p. p == place) (range_with_len 0 n) ≡ Some place
-place_of n place lt =
-    let before = places_before 0 n place place lt (omega arith) in
-    let within = lt-ltb place n lt in
+position_of : (n index : ℕ) → index < n → position (λ p. p == index) (range_with_len 0 n) ≡ Some index
+position_of n index lt =
+    let before = numbers_before 0 n index index lt (omega arith) in
+    let within = lt-ltb index n lt in
     rw (before, length-range_with_len 0 n, within) refl
 
--- a row that has each value at its place is the values
+-- a row that has each value at its index is the values
 rows_at : (f : ℕ → Value) (s : ℕ) (values : List Value) → ((k : ℕ) → k < length values → f (s + k) ≡ get_or values k Null) → map f (range_with_len s (length values)) ≡ values
 rows_at f s [] at = refl
 rows_at f s (v ∷ values) at =
@@ -64,10 +64,10 @@ rows_at f s (v ∷ values) at =
 pub row_in_order : (n : ℕ) (values : List Value) → length values ≡ n → catalog_row (range_with_len 0 n) values ≡ values
 row_in_order n values e =
     let order = range_with_len 0 n in
-    let f = λ (place : ℕ). slice_index_or values (unwrap_or (position (λ p. p == place) order) 0) Null in
+    let f = λ (index : ℕ). slice_index_or values (unwrap_or (position (λ p. p == index) order) 0) Null in
     let counted : length order ≡ length values = length-range_with_len 0 n ∙ sym e in
     ap (λ k. map f (range_with_len 0 k)) counted
-    ∙ rows_at f 0 values (λ k lt. let at = place_of n (0 + k) (omega arith) in ap (λ (found : Option ℕ). slice_index_or values (unwrap_or found 0) Null) at ∙ ap (λ j. slice_index_or values j Null) (zero-add k))
+    ∙ rows_at f 0 values (λ k lt. let at = position_of n (0 + k) (omega arith) in ap (λ (found : Option ℕ). slice_index_or values (unwrap_or found 0) Null) at ∙ ap (λ j. slice_index_or values j Null) (zero-add k))
 
 -- only the front of a row counts
 row_front : (cs : List ColumnSpec) (row others : List Value) → length cs ≤ length row → with_row cs (row ++ others) ≡ with_row cs row
@@ -75,7 +75,7 @@ row_front [] row others le = refl
 row_front (c ∷ cs) [] others le = absurd (omega arith)
 row_front (c ∷ cs) (v ∷ row) others le = ap (λ (xs : List ColumnSpec). with_value c v ∷ xs) (row_front cs row others (omega arith))
 
--- the value of a row with one value more, at the last place
+-- the value of a row with one value more, at the last index
 last_is : (values : List Value) (i : ℕ) (v : Value) → length values ≡ i → v ≡ slice_index_or (values ++ v ∷ []) i Null
 last_is [] zero v e = refl
 last_is [] (suc i) v e = absurd (omega arith)
@@ -89,7 +89,7 @@ module _ (declared : List Column) (row : ℕ) (fields : Record) (cs : List Colum
   abbrev order : List ℕ
   order = range_with_len 0 (length declared)
 
-  -- the values of the fields in front of a place stand behind the last ones of their columns
+  -- the values of the fields in front of an index stand behind the last ones of their columns
   abbrev pub HasFront : ℕ → List ColumnSpec → Type 0
   HasFront i columns = (values : List Value) × (length values ≡ i) ×
       (judged_behind judge values (drop i (zip order fields)) ≡ file_values declared order row fields) ×
@@ -98,8 +98,8 @@ module _ (declared : List Column) (row : ℕ) (fields : Record) (cs : List Colum
   field_here : (i : ℕ) (text : List ℕ) → i < length declared → slice_get fields i ≡ Some text → slice_get (zip order fields) i ≡ Some (i, text)
   field_here i text lt there =
       let long = length-range_with_len 0 (length declared) in
-      let place : slice_get order i ≡ Some i = slice_get-get_or order i 0 (omega (arith, long)) ∙ ap Some (get_or-range_with_len 0 (length declared) i 0 lt ∙ zero-add i) in
-      zipped order fields i i text place there
+      let index : slice_get order i ≡ Some i = slice_get-get_or order i 0 (omega (arith, long)) ∙ ap Some (get_or-range_with_len 0 (length declared) i 0 lt ∙ zero-add i) in
+      zipped order fields i i text index there
 
   pub next_field : (i : ℕ) (d : Column) (text : List ℕ) (columns : List ColumnSpec) (x put : ColumnSpec) → length cs ≡ length declared → i < length cs → slice_get fields i ≡ Some text → slice_get declared i ≡ Some d
       → (v : Value) × (field_value row i d text ≡ Ok v) × (put ≡ with_value (get_or columns i x) v) → HasFront i columns → HasFront (i + 1) (slice_set columns i put)

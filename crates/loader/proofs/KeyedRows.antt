@@ -30,8 +30,8 @@ at_end (x ∷ xs) v = at_end xs v
 
 last_of : (xs : List Value) (v : Value) → get_or (xs ++ v ∷ []) (length (xs ++ v ∷ []) - 1) Null ≡ v
 last_of xs v =
-    let place : length (xs ++ v ∷ []) - 1 ≡ length xs = omega (arith, length-append xs (v ∷ [])) in
-    ap (λ n. get_or (xs ++ v ∷ []) n Null) place ∙ at_end xs v
+    let index : length (xs ++ v ∷ []) - 1 ≡ length xs = omega (arith, length-append xs (v ∷ [])) in
+    ap (λ n. get_or (xs ++ v ∷ []) n Null) index ∙ at_end xs v
 
 pub last_is : (cs : List ColumnSpec) (r : Row) (k : ℕ) (d : ColumnSpec) → length (with_row cs r) ≡ length cs → k < length cs
     → get_or (get_or (with_row cs r) k d).values (length (get_or (with_row cs r) k d).values - 1) Null ≡ column r k

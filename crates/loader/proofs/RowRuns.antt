@@ -51,8 +51,8 @@ module _ {A X E : Type 0} (judge : ℕ × A → Result X E) where
   parts_from first [] ys (d ∷ done) e = cc e
   parts_from first (x ∷ xs) ys done e =
       let (y, rest, here, others, all) = ok_parts (judge (first, x)) (all_from (first + 1) xs) done e in
-      let place : first + 1 + length xs ≡ first + suc (length xs) = omega arith in
-      let more = parts_from (first + 1) xs ys rest others ∙ ap (λ n. behind rest (all_from n ys)) place in
+      let index : first + 1 + length xs ≡ first + suc (length xs) = omega arith in
+      let more = parts_from (first + 1) xs ys rest others ∙ ap (λ n. behind rest (all_from n ys)) index in
       in_front (judge (first, x)) y (all_from (first + 1) (xs ++ ys)) (all_from (first + suc (length xs)) ys) done rest here more all
 
 module _ (declared : List Column) (order : List ℕ) where
@@ -108,7 +108,7 @@ as_meant known reader declared declared2 order order2 row row2 rest now after re
 
 module _ {R : Type 0} (known : R → Option (List ℕ)) (reader : Reader R) (declared : List Column) (order : List ℕ) (first count : ℕ) (columns now after : List ColumnSpec) (rest before later : List Record) (rows : List Row)
     (all : rest ≡ before ++ later) (within : length before < count) (done : rows_of declared order first before ≡ Ok rows) where
-  -- a record's fault is told
+  -- a record's fault is returned
   pub next_refused : (e : LoadFault) → TakesNextRow known declared order (first + length before) later now after reader (Err e)
       → TakesRows known declared order first count rest columns after reader (Err e)
   next_refused (Table f) (fields, others, next, judged) = rw (all, next) (fault_within declared order first count before others fields rows f within done judged)

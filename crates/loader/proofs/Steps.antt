@@ -7,8 +7,8 @@ use Rattle.meaning.specs.Records.{Record, row_of}
 use Rattle.columns.specs.Column.{ColumnSpec}
 use Rattle.loader.specs.declared.fault.LoadFault.{LoadFault}
 use Rattle.loader.specs.declared.fault.LoadFault.TheVariants.{Memory, Table, Device}
-use Rattle.meaning.specs.Wanting.{TellsIfMemory}
-use Rattle.loader.specs.Fault.{fault_told}
+use Rattle.meaning.specs.Wanting.{ReportsIfMemory}
+use Rattle.loader.specs.Fault.{fault_returned}
 use Rattle.loader.specs.Source.{IsLeft, TakesNext}
 use Rattle.loader.specs.Steps.{IsFaultOf, Opens, TakesRow, TakesNextRow, is_more, order_of}
 use Rattle.meaning.specs.Order.{Row}
@@ -24,14 +24,14 @@ module _ {R : Type 0} (known : R → Option (List ℕ)) (after : Reader R) (rest
   one_taken false e taken = cc e
 
   module _ (declared : List Column) (order : List ℕ) (row : ℕ) (before now : List ColumnSpec) where
-    -- the fault of the record is told
+    -- the fault of the record is returned
     pub row_refused : (others : List Record) → rest ≡ fields ∷ others → (e : LoadFault) → TakesRow (row_of declared order row fields) before now (Err e)
         → TakesNextRow known declared order row rest before now after (Err e)
     row_refused others first (Table fault) judged = (fields, others, first, judged)
     row_refused others first Memory judged = tt
     row_refused others first Device judged = tt
 
--- whether there was a record tells whether any is to come
+-- if there was no record, none is to come
 pub more_come : {R : Type 0} (known : R → Option (List ℕ)) (before after : Reader R) (fields : Record) (result : Result Bool LoadFault)
     → IfOk result (λ found. (rest : List Record) → IsLeft known before rest → TakesNext known after rest found fields)
     → IfOk result (λ found. (rest : List Record) → IsLeft known before rest → found ≡ is_more rest)
@@ -41,15 +41,15 @@ more_come known before after fields (Ok true) taken = λ rest left. rw (taken re
 
 -- a record that is refused is not taken
 pub fault_taken : (judged : Result Row TableFault) (before now : List ColumnSpec) (e : LoadFault) → IsFaultOf judged e → TakesRow judged before now (Err e)
-fault_taken judged before now (Table fault) told = told
-fault_taken judged before now Memory told = tt
-fault_taken judged before now Device told = tt
+fault_taken judged before now (Table fault) returned = returned
+fault_taken judged before now Memory returned = tt
+fault_taken judged before now Device returned = tt
 
 -- what the first record says of the columns is what opening gives
 pub opened : {R X : Type 0} (known : R → Option (List ℕ)) (after : Reader R) (declared : List Column) (order : X → List ℕ) (rest others : List Record) (header : Record)
-    → rest ≡ header ∷ others → IsLeft known after others → (result : Result X LoadFault) → TellsIfMemory fault_told order result (order_of declared header)
+    → rest ≡ header ∷ others → IsLeft known after others → (result : Result X LoadFault) → ReportsIfMemory fault_returned order result (order_of declared header)
     → Opens order (λ _. after) known declared rest result
-opened known after declared order rest others header first left (Ok x) told = (header, others, first, told, left)
-opened known after declared order rest others header first left (Err (Table fault)) told = rw first told
-opened known after declared order rest others header first left (Err Memory) told = tt
-opened known after declared order rest others header first left (Err Device) told = tt
+opened known after declared order rest others header first left (Ok x) returned = (header, others, first, returned, left)
+opened known after declared order rest others header first left (Err (Table fault)) returned = rw first returned
+opened known after declared order rest others header first left (Err Memory) returned = tt
+opened known after declared order rest others header first left (Err Device) returned = tt

@@ -17,8 +17,8 @@ use Rattle.meaning.specs.declared.value.Value.{Value}
 use Rattle.meaning.specs.declared.value.Value.TheVariants.{Null, Text}
 use Rattle.meaning.specs.Records.{Record, field_value, not_null_value, present_value, spells_null, file_order, file_values, is_header, names, value_at}
 use Rattle.meaning.specs.Results.{with_result}
-use Rattle.meaning.specs.Wanting.{TellsIfMemory}
-use Rattle.loader.specs.Fault.{fault_told}
+use Rattle.meaning.specs.Wanting.{ReportsIfMemory}
+use Rattle.loader.specs.Fault.{fault_returned}
 use Rattle.loader.specs.declared.fault.LoadFault.{LoadFault}
 use Rattle.loader.specs.declared.header.FileOrder.{FileOrder}
 use Rattle.loader.specs.Steps.{IsOrderOf, order_of}
@@ -37,10 +37,10 @@ value_text row column c field v e =
       | false ↦ λ wrong. cc wrong
     ] e
 
-column_there : (columns : List Column) (place : ℕ) → place < length columns → (c : Column) × (slice_get columns place ≡ Some c)
-column_there [] place h = absurd (omega arith)
+column_there : (columns : List Column) (index : ℕ) → index < length columns → (c : Column) × (slice_get columns index ≡ Some c)
+column_there [] index h = absurd (omega arith)
 column_there (c ∷ columns) zero h = (c, refl)
-column_there (c ∷ columns) (suc place) h = column_there columns place (omega arith)
+column_there (c ∷ columns) (suc index) h = column_there columns index (omega arith)
 
 first_ok : {X E : Type 0} (r : Result X E) (rs : Result (List X) E) (xs : List X) → with_result r rs ≡ Ok xs → (x : X) × (ys : List X) × (r ≡ Ok x) × (rs ≡ Ok ys)
 first_ok (Err f) rs xs e = cc e
@@ -48,16 +48,16 @@ first_ok (Ok x) (Err f) xs e = cc e
 first_ok (Ok x) (Ok ys) xs e = (x, ys, refl, refl)
 
 -- fields that all have values are texts
-pub valued_fields : (columns : List Column) (order : List ℕ) (row : ℕ) (fields : Record) (values : List Value) → list_all (λ place. nat_lt place (length columns)) order ≡ true → length order ≡ length fields → file_values columns order row fields ≡ Ok values → AllText fields
+pub valued_fields : (columns : List Column) (order : List ℕ) (row : ℕ) (fields : Record) (values : List Value) → list_all (λ index. nat_lt index (length columns)) order ≡ true → length order ≡ length fields → file_values columns order row fields ≡ Ok values → AllText fields
 unfolding AllText
 valued_fields columns [] row [] values within long e = tt
 valued_fields columns [] row (f ∷ fields) values within long e = absurd (omega arith)
-valued_fields columns (place ∷ order) row [] values within long e = absurd (omega arith)
-valued_fields columns (place ∷ order) row (f ∷ fields) values within long e =
+valued_fields columns (index ∷ order) row [] values within long e = absurd (omega arith)
+valued_fields columns (index ∷ order) row (f ∷ fields) values within long e =
     let parts = and_parts _ _ within in
-    let (c, there) = column_there columns place (ltb-true place (length columns) parts.0) in
-    let (v, vs, first, rest) = first_ok (value_at row place (slice_get columns place) f) _ values e in (
-      IsUtf8-from_is_utf8 f (value_text row place c f v (ap (λ d. value_at row place d f) (sym there) ∙ first)),
+    let (c, there) = column_there columns index (ltb-true index (length columns) parts.0) in
+    let (v, vs, first, rest) = first_ok (value_at row index (slice_get columns index) f) _ values e in (
+      IsUtf8-from_is_utf8 f (value_text row index c f v (ap (λ d. value_at row index d f) (sym there) ∙ first)),
       valued_fields columns order row fields vs parts.1 (omega arith) rest,
     )
 
@@ -71,14 +71,14 @@ named_within p c columns =
       | false ↦ λ t. omega arith
     ] refl
 
-order_within : (c : Column) (columns : List Column) (header : Record) → list_all (λ place. nat_lt place (length (c ∷ columns))) (file_order (c ∷ columns) header) ≡ true
+order_within : (c : Column) (columns : List Column) (header : Record) → list_all (λ index. nat_lt index (length (c ∷ columns))) (file_order (c ∷ columns) header) ≡ true
 order_within c columns [] = refl
 order_within c columns (field ∷ header) =
     let first = lt-ltb _ (length (c ∷ columns)) (named_within (names field) c columns) in
     let rest = order_within c columns header in
     cc (first, rest)
 
-all_within : (columns : List Column) (header : Record) → length header ≡ length columns → list_all (λ place. nat_lt place (length columns)) (file_order columns header) ≡ true
+all_within : (columns : List Column) (header : Record) → length header ≡ length columns → list_all (λ index. nat_lt index (length columns)) (file_order columns header) ≡ true
 all_within [] [] long = refl
 all_within [] (field ∷ header) long = absurd (omega arith)
 all_within (c ∷ columns) header long = order_within c columns header
@@ -97,13 +97,13 @@ order_is columns header order e =
       | false ↦ λ t wrong. cc wrong
     ] refl e
 
-pub judged_texts : (values : List Value) (columns : List Column) (order : List ℕ) (row : ℕ) (fields : Record) (r : Result (Unit {0}) LoadFault) → IsOrderOf columns order → length fields ≡ length columns → TellsIfMemory fault_told (λ _. values) r (file_values columns order row fields) → OnOk r (AllText fields)
-judged_texts values columns order row fields (Ok x) is long told = valued_fields columns order row fields values is.within (is.long ∙ sym long) told
-judged_texts values columns order row fields (Err f) is long told = tt
+pub judged_texts : (values : List Value) (columns : List Column) (order : List ℕ) (row : ℕ) (fields : Record) (r : Result (Unit {0}) LoadFault) → IsOrderOf columns order → length fields ≡ length columns → ReportsIfMemory fault_returned (λ _. values) r (file_values columns order row fields) → OnOk r (AllText fields)
+judged_texts values columns order row fields (Ok x) is long returned = valued_fields columns order row fields values is.within (is.long ∙ sym long) returned
+judged_texts values columns order row fields (Err f) is long returned = tt
 
-pub order_told : (columns : List Column) (header : Record) (r : Result FileOrder LoadFault) → TellsIfMemory fault_told (λ (o : FileOrder). o.columns.items) r (order_of columns header) → IfOk r (λ o. IsOrderOf columns o.columns.items)
-order_told columns header (Ok o) told = order_is columns header o.columns.items told
-order_told columns header (Err f) told = tt
+pub order_returned : (columns : List Column) (header : Record) (r : Result FileOrder LoadFault) → ReportsIfMemory fault_returned (λ (o : FileOrder). o.columns.items) r (order_of columns header) → IfOk r (λ o. IsOrderOf columns o.columns.items)
+order_returned columns header (Ok o) returned = order_is columns header o.columns.items returned
+order_returned columns header (Err f) returned = tt
 
 -- ---- the texts of a column
 

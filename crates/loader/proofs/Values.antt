@@ -9,7 +9,7 @@ use Rattle.meaning.specs.declared.value.Value.{Value}
 use Rattle.meaning.specs.Records.{Record, catalog_row}
 use Rattle.loader.specs.declared.field.Parsed.{Parsed}
 use Rattle.loader.specs.Columns.{with_row}
-use Rattle.loader.specs.Steps.{value_of, values_of, field_places}
+use Rattle.loader.specs.Steps.{value_of, values_of, inverse_order}
 use Rattle.loader.proofs.Fields.{map_map}
 
 -- one more
@@ -20,7 +20,7 @@ values_more [] (g ∷ fields) p f e = let same : g ≡ f = cc e in ap (λ (x : L
 values_more (q ∷ judged) [] p f e = cc e
 values_more (q ∷ judged) (g ∷ fields) p f e = ap (λ (vs : List Value). value_of (q, g) ∷ vs) (values_more judged fields p f e)
 
--- the value at a place
+-- the value at an index
 pub value_there : (judged : List Parsed) (fields : Record) (i : ℕ) (p : Parsed) (f : List ℕ) → i < length judged → p ≡ get_or judged i p → slice_get fields i ≡ Some f
     → slice_index_or (values_of judged fields) i Null ≡ value_of (p, f)
 value_there [] fields i p f lt e g = absurd (omega arith)
@@ -44,17 +44,17 @@ none_judged (q ∷ judged) (h ∷ fields) zero le = absurd (omega arith)
 none_judged (q ∷ judged) (h ∷ fields) (suc i) le = none_judged judged fields i (omega arith)
 
 -- the value of a column is that of its field
-pub row_value : (order : List ℕ) (places : List ℕ) (values : List Value) (i : ℕ) (d : ℕ) → places ≡ field_places order → i < length places
-    → slice_index_or (catalog_row order values) i Null ≡ slice_index_or values (get_or places i d) Null
-row_value order places values i d e lt =
-    let value_at : ℕ → Value = λ place. slice_index_or values place Null in
-    let row_is : map value_at places ≡ catalog_row order values = ap (map value_at) e ∙ map_map (λ place. unwrap_or (position (λ p. p == place) order) 0) value_at (range_with_len 0 (length order)) in
-    ap (λ (row : List Value). slice_index_or row i Null) (sym row_is) ∙ get_or-map value_at places i d Null lt
+pub row_value : (order : List ℕ) (fields : List ℕ) (values : List Value) (i : ℕ) (d : ℕ) → fields ≡ inverse_order order → i < length fields
+    → slice_index_or (catalog_row order values) i Null ≡ slice_index_or values (get_or fields i d) Null
+row_value order fields values i d e lt =
+    let value_at : ℕ → Value = λ index. slice_index_or values index Null in
+    let row_is : map value_at fields ≡ catalog_row order values = ap (map value_at) e ∙ map_map (λ index. unwrap_or (position (λ p. p == index) order) 0) value_at (range_with_len 0 (length order)) in
+    ap (λ (row : List Value). slice_index_or row i Null) (sym row_is) ∙ get_or-map value_at fields i d Null lt
 
-pub row_length : (order : List ℕ) (places : List ℕ) (values : List Value) → places ≡ field_places order → length (catalog_row order values) ≡ length places
-row_length order places values e =
-    length-map (range_with_len 0 (length order)) (λ place. slice_index_or values (unwrap_or (position (λ p. p == place) order) 0) Null)
-    ∙ sym (length-map (range_with_len 0 (length order)) (λ place. unwrap_or (position (λ p. p == place) order) 0)) ∙ sym (ap length e)
+pub row_length : (order : List ℕ) (fields : List ℕ) (values : List Value) → fields ≡ inverse_order order → length (catalog_row order values) ≡ length fields
+row_length order fields values e =
+    length-map (range_with_len 0 (length order)) (λ index. slice_index_or values (unwrap_or (position (λ p. p == index) order) 0) Null)
+    ∙ sym (length-map (range_with_len 0 (length order)) (λ index. unwrap_or (position (λ p. p == index) order) 0)) ∙ sym (ap length e)
 
 -- a value more in the next column
 pub set_next : (cs : List ColumnSpec) (row : List Value) (i : ℕ) (d : ColumnSpec) (v : Value) → i < length cs → i < length row → v ≡ slice_index_or row i Null

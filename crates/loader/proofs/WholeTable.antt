@@ -84,7 +84,7 @@ module _ (declared : List Column) (order : List ℕ) (most : ℕ) (whole : List 
   in_front n lengths rows (Err f) long = refl
   in_front n lengths rows (Ok more) long = by_few n lengths rows more (nat_lt (length (rows ++ more)) (sum (n ∷ lengths))) (nat_lt (length more) (sum lengths)) (ap (nat_lt (length (rows ++ more))) (sum_cons n lengths) ∙ fewer_alike n (sum lengths) rows more long) long
 
-  -- records that are left over are told behind the fragments
+  -- records that are left over are reported behind the fragments
   left_over : (rows : List Row) (rest : List Record) (all : Result (List (List ColumnSpec)) TableFault) → in_columns rows (and_then all (unless_more rest)) ≡ and_then (in_columns rows all) (unless_more rest)
   left_over rows rest (Err f) = refl
   left_over rows [] (Ok others) = refl
@@ -93,7 +93,7 @@ module _ (declared : List Column) (order : List ℕ) (most : ℕ) (whole : List 
   abbrev pub judged_from : ℕ → List Record → Result (List Row) TableFault
   judged_from = all_from judge
 
-  -- what is to be shown of records from a place on
+  -- what is to be shown of records from an index on
   abbrev IsCut : List ℕ → ℕ → List Record → Type 0
   IsCut lengths first rest = cut_rows lengths (judged_from first rest) ≡ and_then (fragments_at declared order first lengths rest) (unless_more (drop (sum lengths) rest))
 

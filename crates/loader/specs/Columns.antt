@@ -69,7 +69,7 @@ fact_fragments catalog cut records = and_then (fact_of catalog cut records) (λ 
 abbrev pub dimension_named : Catalog → List ℕ → Option Dimension
 dimension_named catalog name = find (λ d. bytes_eq d.table.name name) catalog.dims
 
--- the catalogue has a dimension of a name, and its key is the place of one of its columns
+-- the catalogue has a dimension of a name, and its key is one of its columns
 abbrev pub HasDimension : Catalog → List ℕ → Type 0
 HasDimension catalog name = (d : Dimension) × (dimension_named catalog name ≡ Some d) × (d.key < length d.table.columns)
 

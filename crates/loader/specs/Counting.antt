@@ -6,8 +6,8 @@ use Rattle.csv.specs.Reading.{default_config}
 use Rattle.csv.specs.declared.parser.State.{State}
 use Rattle.csv.specs.declared.parser.State.TheVariants as st
 use Rattle.loader.specs.declared.counted.Counted.{Counted}
-use Rattle.loader.specs.declared.place.Place.{Place}
-use Rattle.loader.specs.declared.place.Place.TheVariants as place
+use Rattle.loader.specs.declared.record_state.RecordState.{RecordState}
+use Rattle.loader.specs.declared.record_state.RecordState.TheVariants as record_state
 
 -- behind a carriage return a record begins, as behind a line feed
 abbrev pub settled : State → State
@@ -42,13 +42,13 @@ ended_in s (byte ∷ bytes) = from_bool (ends_record s byte) + ended_in (next_st
 abbrev pub records_left : State → List ℕ → ℕ
 records_left s bytes = ended_in s bytes + from_bool (ends_at_end (state_behind s bytes))
 
--- the state at a place
-abbrev pub state_at : Place → State
-state_at place.Between = st.StartRecord
-state_at place.FieldStart = st.StartField
-state_at place.Field = st.InField
-state_at place.Quoted = st.InQuoted
-state_at place.QuoteEnd = st.AfterQuote
+-- the state of the reader
+abbrev pub state_at : RecordState → State
+state_at record_state.Between = st.StartRecord
+state_at record_state.FieldStart = st.StartField
+state_at record_state.Field = st.InField
+state_at record_state.Quoted = st.InQuoted
+state_at record_state.QuoteEnd = st.AfterQuote
 
 -- outside of quotes, and of what only other settings give
 abbrev pub is_unquoted : State → Bool
@@ -69,7 +69,7 @@ is_line_end byte = (byte == 13) || (byte == 10)
 
 -- the records that were counted, with those that end among these bytes
 abbrev pub counted_with : Counted → List ℕ → ℕ
-counted_with counted bytes = counted.records + records_left (state_at counted.place) bytes
+counted_with counted bytes = counted.records + records_left (state_at counted.state) bytes
 
 -- this many are counted with the bytes that a reader has yet to give
 abbrev pub GoesOn : {R : Type 0} → (R → Option (List ℕ)) → R → ℕ → Counted → Type 0

@@ -21,7 +21,7 @@ IsOutside Memory = ⊤
 IsOutside Device = ⊤
 IsOutside (Table fault) = ⊥
 
--- out of memory, or the reader failed; or too many rows, which is told of this many records
+-- out of memory, or the reader failed; or too many rows, which is reported if there are this many records
 abbrev pub IsUncounted : ℕ → LoadFault → Type 0
 IsUncounted records Memory = ⊤
 IsUncounted records Device = ⊤
@@ -33,8 +33,8 @@ IsOfCounting Memory = ⊤
 IsOfCounting Device = ⊤
 IsOfCounting (Table fault) = fault ≡ TooManyRows
 
--- the fault that is told, where it is neither that memory was wanting nor that the reader failed
-abbrev pub fault_told : LoadFault → Option TableFault
-fault_told Memory = None
-fault_told (Table fault) = Some fault
-fault_told Device = None
+-- the fault that is returned, where memory was not wanting and the reader did not fail
+abbrev pub fault_returned : LoadFault → Option TableFault
+fault_returned Memory = None
+fault_returned (Table fault) = Some fault
+fault_returned Device = None

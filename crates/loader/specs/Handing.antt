@@ -29,7 +29,7 @@ pub record IsToCome {R : Type 0} (known : R → Option (List ℕ)) (reader : Fac
 abbrev pub in_front : List ColumnSpec → Result (List (List ColumnSpec)) TableFault → Result (List (List ColumnSpec)) TableFault
 in_front fragment others = and_then others (λ fragments. Ok (fragment ∷ fragments))
 
--- the first of these fragments was handed on and the others are to come, or there was none, or the fault is told
+-- the first of these fragments was handed on and the others are to come, or there was none, or the fault is returned
 abbrev pub HandsOn : {R : Type 0} → (R → Option (List ℕ)) → Result (List (List ColumnSpec)) TableFault → FactReader R → Result (Option (List ColumnSpec)) LoadFault → Type 0
 HandsOn known meant reader (Ok (Some fragment)) = (others : Result (List (List ColumnSpec)) TableFault) × (meant ≡ in_front fragment others) × IsToCome known reader others
 HandsOn known meant reader (Ok None) = meant ≡ Ok []
@@ -37,7 +37,7 @@ HandsOn known meant reader (Err (Table fault)) = meant ≡ Err fault
 HandsOn known meant reader (Err Memory) = ⊤
 HandsOn known meant reader (Err Device) = ⊤
 
--- these fragments are to come from what was opened, or the fault is told
+-- these fragments are to come from what was opened, or the fault is returned
 abbrev pub OpensFact : {R : Type 0} → (R → Option (List ℕ)) → Result (List (List ColumnSpec)) TableFault → Result (FactReader R) LoadFault → Type 0
 OpensFact known meant (Ok reader) = IsToCome known reader meant
 OpensFact known meant (Err (Table fault)) = meant ≡ Err fault

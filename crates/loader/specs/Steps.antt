@@ -23,20 +23,20 @@ use Rattle.loader.specs.declared.field.Parsed.TheVariants as parsed
 abbrev pub order_of : List Column → Record → Result (List ℕ) TableFault
 order_of columns header = if is_header columns header then Ok (file_order columns header) else Err fault.Header
 
--- a place of one of the declared columns for each of as many fields
+-- one of the declared columns for each of as many fields
 pub record IsOrderOf (declared : List Column) (order : List ℕ) : Type 0 where
   pub long : length order ≡ length declared
-  pub within : list_all (λ place. nat_lt place (length declared)) order ≡ true
+  pub within : list_all (λ index. nat_lt index (length declared)) order ≡ true
 
 -- the field of each column, by the columns of the fields
-abbrev pub field_places : List ℕ → List ℕ
-field_places order = map (λ place. unwrap_or (position (λ p. p == place) order) 0) (range_with_len 0 (length order))
+abbrev pub inverse_order : List ℕ → List ℕ
+inverse_order order = map (λ index. unwrap_or (position (λ p. p == index) order) 0) (range_with_len 0 (length order))
 
 -- each column has a field
 abbrev pub has_each : List ℕ → Bool
-has_each order = list_all (λ place. is_some (position (λ p. p == place) order)) (range_with_len 0 (length order))
+has_each order = list_all (λ index. is_some (position (λ p. p == index) order)) (range_with_len 0 (length order))
 
--- each field is that of the column at the field's place
+-- each field is that of the column with the same index
 abbrev pub is_in_order : List ℕ → Bool
 is_in_order order = list_all (λ p. p.1 == p.0) (enumerate_from 0 order)
 
@@ -59,14 +59,14 @@ abbrev pub ReadsField : List ℕ → Result Parsed TableFault → Result Value T
 ReadsField field (Ok p) meant = meant ≡ Ok (value_of (p, field))
 ReadsField field (Err fault) meant = meant ≡ Err fault
 
--- a field's value stands behind the last, or its fault is told
+-- a field's value stands behind the last, or its fault is returned
 abbrev pub TakesField : Result Value TableFault → ColumnSpec → ColumnSpec → Result (Unit {0}) LoadFault → Type 0
 TakesField judged before after (Ok _) = (v : Value) × (judged ≡ Ok v) × (after ≡ with_value before v)
 TakesField judged before after (Err (Table fault)) = judged ≡ Err fault
 TakesField judged before after (Err Memory) = ⊤
 TakesField judged before after (Err Device) = ⊤
 
--- a record's row stands behind the last rows, or its first fault is told
+-- a record's row stands behind the last rows, or its first fault is returned
 abbrev pub TakesRow : Result Row TableFault → List ColumnSpec → List ColumnSpec → Result (Unit {0}) LoadFault → Type 0
 TakesRow judged before after (Ok _) = (row : Row) × (judged ≡ Ok row) × (after ≡ with_row before row)
 TakesRow judged before after (Err (Table fault)) = judged ≡ Err fault
@@ -92,7 +92,7 @@ abbrev pub with_rows : List ColumnSpec → List Row → List ColumnSpec
 with_rows columns [] = columns
 with_rows columns (row ∷ rows) = with_rows (with_row columns row) rows
 
--- the next record's row stands behind the last rows, or there was no record, or its first fault is told
+-- the next record's row stands behind the last rows, or there was no record, or its first fault is returned
 abbrev pub TakesNextRow : {R : Type 0} → (R → Option (List ℕ)) → List Column → List ℕ → ℕ → List Record → List ColumnSpec → List ColumnSpec → Reader R → Result Bool LoadFault → Type 0
 TakesNextRow known declared order row rest before after reader (Ok true) =
     (fields : Record) × (others : List Record) × (r : Row) × (rest ≡ fields ∷ others) × (row_of declared order row fields ≡ Ok r) × (after ≡ with_row before r) × IsLeft known reader others
@@ -106,7 +106,7 @@ abbrev pub enough_rows : List Column → List ℕ → ℕ → ℕ → List Recor
 enough_rows declared order first count records =
     and_then (rows_of declared order first (take count records)) (λ rows. if nat_lt (length records) count then Err fault.TooFewRows else Ok rows)
 
--- the rows of so many records stand behind the last rows, or the first fault is told
+-- the rows of so many records stand behind the last rows, or the first fault is returned
 abbrev pub TakesRows : {R : Type 0} → (R → Option (List ℕ)) → List Column → List ℕ → ℕ → ℕ → List Record → List ColumnSpec → List ColumnSpec → Reader R → Result (Unit {0}) LoadFault → Type 0
 TakesRows known declared order first count rest before after reader (Ok _) =
     (rows : List Row) × (enough_rows declared order first count rest ≡ Ok rows) × (after ≡ with_rows before rows) × IsLeft known reader (drop count rest)
@@ -157,7 +157,7 @@ Opens order reader known declared records (Err Device) = ⊤
 abbrev pub keyed_rows : List Column → List ℕ → ℕ → ℕ → List Record → Result (List Row) TableFault
 keyed_rows declared order key most records = all_ok (map (judged_record declared (Some key) most order records) (enumerate_from 0 records))
 
--- the rows of all records stand behind the last rows, or the first fault is told
+-- the rows of all records stand behind the last rows, or the first fault is returned
 abbrev pub TakesAll : List Column → List ℕ → ℕ → ℕ → List Record → List ColumnSpec → List ColumnSpec → Result (Unit {0}) LoadFault → Type 0
 TakesAll declared order key most rest before after (Ok _) = (rows : List Row) × (keyed_rows declared order key most rest ≡ Ok rows) × (after ≡ with_rows before rows)
 TakesAll declared order key most rest before after (Err (Table fault)) = keyed_rows declared order key most rest ≡ Err fault

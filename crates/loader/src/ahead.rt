@@ -1,7 +1,7 @@
 //! The fragments of a cut that are still to come.
 ghost use Rattle.std.specs.Prelude.{◌≡◌, ◌+◌, ◌^◌, ◌<◌, sum};
 
-use meaning::cut::Cut;
+use meaning::Cut;
 
 /// The fragments that are still to come.
 #[derive(Clone, Copy)]

@@ -3,13 +3,13 @@ ghost use Rattle.std.specs.Prelude.{◌≡◌, ◌<◌, ◌^◌, true, false, le
 ghost use Rattle.std.specs.List.{list_any};
 ghost use Rattle.loader.specs.Counting.{ended_in, is_quote, is_unquoted, state_at, state_behind};
 
-use crate::place::{Place, behind_plain, is_line_end};
+use crate::record_state::{RecordState, behind_plain, is_line_end};
 
-/// How many records end in a block, and what the place behind it is.
+/// How many records end in a block, and the state behind it.
 #[derive(Clone, Copy)]
 pub struct Ended {
     pub records: u32,
-    pub place: Place,
+    pub state: RecordState,
 }
 
 /// Whether a quote is among the bytes. All are looked at, so that many are at once.
@@ -25,13 +25,13 @@ fn has_quote(block: &[u8]) -> bool
 
 /// How many records end in a block without quotes: as many as there are line ends behind another
 /// byte.
-fn count_plain(place: Place, block: &[u8]) -> u32
+fn count_plain(state: RecordState, block: &[u8]) -> u32
     requires few { length block.now < 2 ^ 32 }
     requires plain { list_any is_quote block.now ≡ false }
-    requires unquoted { is_unquoted (state_at place) ≡ true }
-    ensures { result ≡ ended_in (state_at place) block.now }
+    requires unquoted { is_unquoted (state_at state) ≡ true }
+    ensures { result ≡ ended_in (state_at state) block.now }
 {
-    let mut within = place.is_open();
+    let mut within = state.is_open();
     let mut records = 0u32;
     for byte in block {
         let ends = is_line_end(*byte);
@@ -41,25 +41,25 @@ fn count_plain(place: Place, block: &[u8]) -> u32
     records
 }
 
-/// The place behind a block without quotes.
-fn behind_block(place: Place, block: &[u8]) -> Place
+/// The state behind a block without quotes.
+fn behind_block(state: RecordState, block: &[u8]) -> RecordState
     requires plain { list_any is_quote block.now ≡ false }
-    requires unquoted { is_unquoted (state_at place) ≡ true }
-    ensures { state_at result ≡ state_behind (state_at place) block.now }
+    requires unquoted { is_unquoted (state_at state) ≡ true }
+    ensures { state_at result ≡ state_behind (state_at state) block.now }
 {
     match block.last() {
         Some(byte) => behind_plain(*byte),
-        None => place,
+        None => state,
     }
 }
 
 /// The same of any block, byte by byte.
-fn count_each(place: Place, block: &[u8]) -> Ended
+fn count_each(state: RecordState, block: &[u8]) -> Ended
     requires { length block.now < 2 ^ 32 }
-    ensures records { result.records ≡ ended_in (state_at place) block.now }
-    ensures place { state_at result.place ≡ state_behind (state_at place) block.now }
+    ensures records { result.records ≡ ended_in (state_at state) block.now }
+    ensures state { state_at result.state ≡ state_behind (state_at state) block.now }
 {
-    let mut here = place;
+    let mut here = state;
     let mut records = 0u32;
     for byte in block {
         records += u32::from(here.ends_record(*byte));
@@ -67,21 +67,21 @@ fn count_each(place: Place, block: &[u8]) -> Ended
     }
     Ended {
         records,
-        place: here,
+        state: here,
     }
 }
 
-/// How many records end in a block that begins at a place.
-pub fn count_block(place: Place, block: &[u8]) -> Ended
+/// How many records end in a block that begins in a state.
+pub fn count_block(state: RecordState, block: &[u8]) -> Ended
     requires { length block.now < 2 ^ 32 }
-    ensures records { result.records ≡ ended_in (state_at place) block.now }
-    ensures place { state_at result.place ≡ state_behind (state_at place) block.now }
+    ensures records { result.records ≡ ended_in (state_at state) block.now }
+    ensures state { state_at result.state ≡ state_behind (state_at state) block.now }
 {
-    if !place.is_unquoted() || has_quote(block) {
-        return count_each(place, block);
+    if !state.is_unquoted() || has_quote(block) {
+        return count_each(state, block);
     }
     Ended {
-        records: count_plain(place, block),
-        place: behind_block(place, block),
+        records: count_plain(state, block),
+        state: behind_block(state, block),
     }
 }

@@ -6,14 +6,14 @@ ghost use Rattle.loader.specs.Fault.{IsOfCounting, IsUncounted};
 
 use crate::blocks::count_block;
 use crate::fault::LoadFault;
-use crate::place::Place;
-use meaning::table::TableFault;
+use crate::record_state::RecordState;
+use meaning::TableFault;
 
-/// How many records ended so far, and what the place behind them is.
+/// How many records ended so far, and the state behind them.
 #[derive(Clone, Copy)]
 pub struct Counted {
     pub records: u64,
-    pub place: Place,
+    pub state: RecordState,
 }
 
 impl Counted {
@@ -23,10 +23,10 @@ impl Counted {
         ensures { (rest : List ℕ)
             → counted_with result rest ≡ records_left st.StartRecord (front.now ++ rest) }
     {
-        let ended = count_block(Place::Between, front);
+        let ended = count_block(RecordState::Between, front);
         Counted {
             records: u64::from(ended.records),
-            place: ended.place,
+            state: ended.state,
         }
     }
 
@@ -35,15 +35,15 @@ impl Counted {
         requires { length block.now < 2 ^ 32 }
         ensures counted { IfOk result (λ after. (rest : List ℕ)
             → counted_with after rest ≡ counted_with self (block.now ++ rest)) }
-        ensures told { IfErr result IsOfCounting }
+        ensures returned { IfErr result IsOfCounting }
         ensures refused { (rest : List ℕ)
             → IfErr result (IsUncounted (counted_with self (block.now ++ rest))) }
     {
-        let ended = count_block(self.place, block);
+        let ended = count_block(self.state, block);
         match self.records.checked_add(u64::from(ended.records)) {
             Some(records) => Ok(Counted {
                 records,
-                place: ended.place,
+                state: ended.state,
             }),
             None => Err(LoadFault::Table(TableFault::TooManyRows)),
         }
@@ -52,10 +52,10 @@ impl Counted {
     /// All records, with the one that the end of the text ends.
     pub fn at_end(self) -> Result<u64, LoadFault>
         ensures counted { IfOk result (λ n. n ≡ counted_with self []) }
-        ensures told { IfErr result IsOfCounting }
+        ensures returned { IfErr result IsOfCounting }
         ensures refused { IfErr result (IsUncounted (counted_with self [])) }
     {
-        match self.records.checked_add(u64::from(self.place.is_open())) {
+        match self.records.checked_add(u64::from(self.state.is_open())) {
             Some(records) => Ok(records),
             None => Err(LoadFault::Table(TableFault::TooManyRows)),
         }

@@ -23,7 +23,7 @@ fn read_block<R: Read>(reader: &mut R, block: &mut [u8]) -> Result<usize, LoadFa
     ensures within { IfOk result (λ n. n ≤ length block.new) }
     ensures read { IfOk result (λ n. (bytes : List ℕ) → R.remaining reader.old ≡ Some bytes
         → Reads (R.remaining reader.new) bytes (take n block.new)) }
-    ensures told { IfErr result (λ f. f ≡ Device) }
+    ensures returned { IfErr result (λ f. f ≡ Device) }
 {
     match reader.read(block) {
         Ok(count) => Ok(count),
@@ -36,7 +36,7 @@ fn next_byte<R: Read>(reader: &mut R) -> Result<Option<u8>, LoadFault>
     ensures read { IfOk result (λ found. (bytes : List ℕ) → R.remaining reader.old ≡ Some bytes
         → MatchOption found (Reads (R.remaining reader.new) bytes [])
         (λ byte. Reads (R.remaining reader.new) bytes (byte ∷ []))) }
-    ensures told { IfErr result (λ f. f ≡ Device) }
+    ensures returned { IfErr result (λ f. f ≡ Device) }
 {
     let mut one = [0u8];
     if read_block(reader, &mut one)? == 0 {
@@ -50,7 +50,7 @@ fn count_third<R: Read>(reader: &mut R) -> Result<Counted, LoadFault>
     ensures counted { IfOk result (λ counted. (bytes : List ℕ) → R.remaining reader.old ≡ Some bytes
         → GoesOn R.remaining reader.new
         (records_left st.StartRecord (strip_bom (0xEF ∷ 0xBB ∷ bytes))) counted) }
-    ensures told { IfErr result (λ f. f ≡ Device) }
+    ensures returned { IfErr result (λ f. f ≡ Device) }
 {
     let Some(third) = next_byte(reader)? else {
         return Ok(Counted::of_front(&[0xEF, 0xBB]));
@@ -66,7 +66,7 @@ fn count_second<R: Read>(reader: &mut R) -> Result<Counted, LoadFault>
     ensures counted { IfOk result (λ counted. (bytes : List ℕ) → R.remaining reader.old ≡ Some bytes
         → GoesOn R.remaining reader.new (records_left st.StartRecord (strip_bom (0xEF ∷ bytes)))
         counted) }
-    ensures told { IfErr result (λ f. f ≡ Device) }
+    ensures returned { IfErr result (λ f. f ≡ Device) }
 {
     let Some(second) = next_byte(reader)? else {
         return Ok(Counted::of_front(&[0xEF]));
@@ -81,7 +81,7 @@ fn count_second<R: Read>(reader: &mut R) -> Result<Counted, LoadFault>
 fn count_front<R: Read>(reader: &mut R) -> Result<Counted, LoadFault>
     ensures counted { IfOk result (λ counted. (bytes : List ℕ) → R.remaining reader.old ≡ Some bytes
         → GoesOn R.remaining reader.new (records_left st.StartRecord (strip_bom bytes)) counted) }
-    ensures told { IfErr result (λ f. f ≡ Device) }
+    ensures returned { IfErr result (λ f. f ≡ Device) }
 {
     let Some(first) = next_byte(reader)? else {
         return Ok(Counted::of_front(&[]));
@@ -99,7 +99,7 @@ fn count_from<R: Read>(reader: &mut R, block: &mut [u8], start: Counted) -> Resu
     requires few { length block.old < 2 ^ 32 }
     ensures counted { (all : ℕ) → GoesOn R.remaining reader.old all start
         → IfOk result (λ n. n ≡ all) }
-    ensures told { IfErr result IsOfCounting }
+    ensures returned { IfErr result IsOfCounting }
     ensures refused { (all : ℕ) → GoesOn R.remaining reader.old all start
         → IfErr result (IsUncounted all) }
 {
@@ -120,7 +120,7 @@ fn count_records<R: Read>(reader: &mut R, block: &mut [u8]) -> Result<u64, LoadF
     requires few { length block.old < 2 ^ 32 }
     ensures counted { (bytes : List ℕ) → R.remaining reader.old ≡ Some bytes
         → IfOk result (λ n. n ≡ length (csv_records bytes)) }
-    ensures told { IfErr result IsOfCounting }
+    ensures returned { IfErr result IsOfCounting }
     ensures refused { (bytes : List ℕ) → R.remaining reader.old ≡ Some bytes
         → IfErr result (IsUncounted (length (csv_records bytes))) }
 {
@@ -131,7 +131,7 @@ fn count_records<R: Read>(reader: &mut R, block: &mut [u8]) -> Result<u64, LoadF
 fn count_in_blocks<R: Read>(alloc: Global, reader: &mut R) -> Result<u64, LoadFault>
     ensures counted { (bytes : List ℕ) → R.remaining reader.old ≡ Some bytes
         → IfOk result (λ n. n ≡ length (csv_records bytes)) }
-    ensures told { IfErr result IsOfCounting }
+    ensures returned { IfErr result IsOfCounting }
     ensures refused { (bytes : List ℕ) → R.remaining reader.old ≡ Some bytes
         → IfErr result (IsUncounted (length (csv_records bytes))) }
 {
@@ -149,7 +149,7 @@ fn count_in_blocks<R: Read>(alloc: Global, reader: &mut R) -> Result<u64, LoadFa
 pub fn count_rows<R: Read + Drop>(alloc: Global, mut reader: R) -> Result<u64, LoadFault>
     ensures counted { (bytes : List ℕ) → R.remaining reader ≡ Some bytes
         → IfOk result (λ n. n ≡ length (drop 1 (csv_records bytes))) }
-    ensures told { IfErr result IsOfCounting }
+    ensures returned { IfErr result IsOfCounting }
     ensures refused { (bytes : List ℕ) → R.remaining reader ≡ Some bytes
         → IfErr result (IsUncounted (length (csv_records bytes))) }
 {

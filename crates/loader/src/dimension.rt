@@ -2,16 +2,14 @@
 ghost use Rattle.std.specs.Prelude.{◌≡◌, ◌<◌, ℕ, List, length, Some, option_copied, ◌↔◌, IsTrue};
 ghost use Rattle.meaning.specs.declared.catalog.Dimension.{Dimension as ADimension};
 ghost use Rattle.loader.specs.Columns.{HasDimension, dimension_columns, dimension_named};
-ghost use Rattle.meaning.specs.Wanting.{TellsIfMemory};
-ghost use Rattle.loader.specs.Fault.{fault_told};
+ghost use Rattle.meaning.specs.Wanting.{ReportsIfMemory};
+ghost use Rattle.loader.specs.Fault.{fault_returned};
 ghost use Rattle.loader.specs.Source.{csv_records};
 
 use crate::fault::LoadFault;
 use crate::table::open_rows;
 use columns::Column;
-use meaning::catalog::{Catalog, Dimension};
-use meaning::limits::MAX_ROWS;
-use meaning::sequence::Sequence;
+use meaning::{Catalog, Dimension, MAX_ROWS, Sequence};
 use std::alloc::Global;
 use std::io::Read;
 use std::mem::drop;
@@ -25,7 +23,7 @@ pub fn load_dimension<R: Read + Drop>(
 ) -> Result<Sequence<Column>, LoadFault>
     requires { dimension.now.key < length dimension.now.table.columns }
     ensures { (bytes : List ℕ) → R.remaining reader ≡ Some bytes
-        → TellsIfMemory fault_told (λ columns. columns) result
+        → ReportsIfMemory fault_returned (λ columns. columns) result
         (dimension_columns dimension.now (csv_records bytes)) }
 {
     let mut rows = open_rows(alloc, dimension.table.columns.as_slice(), reader)?;
@@ -62,7 +60,7 @@ pub fn load_dim<R: Read + Drop>(
     requires { HasDimension catalog.now name.now }
     ensures { (d : ADimension) (bytes : List ℕ) → dimension_named catalog.now name.now ≡ Some d
         → R.remaining reader ≡ Some bytes
-        → TellsIfMemory fault_told (λ columns. columns) result
+        → ReportsIfMemory fault_returned (λ columns. columns) result
         (dimension_columns d (csv_records bytes)) }
 {
     let Some(dimension) = dimension_named(catalog, name) else {

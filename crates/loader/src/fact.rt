@@ -4,18 +4,15 @@ ghost use Rattle.meaning.specs.declared.table.TableFault.{TableFault as Fault};
 ghost use Rattle.columns.specs.Column.{ColumnSpec};
 ghost use Rattle.loader.specs.Columns.{fact_fragments};
 ghost use Rattle.loader.specs.Handing.{HandsOn, IsNextOf, IsToCome, OpensFact, declared_in, lengths_ahead};
-ghost use Rattle.meaning.specs.Wanting.{TellsIfMemory};
-ghost use Rattle.loader.specs.Fault.{fault_told};
+ghost use Rattle.meaning.specs.Wanting.{ReportsIfMemory};
+ghost use Rattle.loader.specs.Fault.{fault_returned};
 ghost use Rattle.loader.specs.Source.{csv_records};
 
 use crate::ahead::Ahead;
 use crate::fault::LoadFault;
 use crate::table::{Rows, open_rows};
 use columns::Column;
-use meaning::catalog::Catalog;
-use meaning::cut::Cut;
-use meaning::sequence::Sequence;
-use meaning::table::TableFault;
+use meaning::{Catalog, Cut, Sequence, TableFault};
 use std::alloc::Global;
 use std::io::Read;
 use std::mem::drop;
@@ -103,7 +100,7 @@ fn add_fragments<R: Read>(
     requires { fragments.old.items ≡ [] }
     ensures { (meant : Result (List (List ColumnSpec)) Fault)
         → IsToCome R.remaining reader.old meant
-        → TellsIfMemory fault_told (λ _. fragments.new.items) result meant }
+        → ReportsIfMemory fault_returned (λ _. fragments.new.items) result meant }
 {
     while let Some(fragment) = reader.next_fragment(alloc)? {
         fragments.push(fragment)?;
@@ -118,7 +115,7 @@ fn all_fragments<R: Read>(
 ) -> Result<Vec<Sequence<Column>>, LoadFault>
     ensures { (meant : Result (List (List ColumnSpec)) Fault)
         → IsToCome R.remaining reader.old meant
-        → TellsIfMemory fault_told (λ fragments. fragments.items) result meant }
+        → ReportsIfMemory fault_returned (λ fragments. fragments.items) result meant }
 {
     let mut fragments = Vec::with_capacity(alloc, cut.lengths().len())?;
     match add_fragments(alloc, reader, &mut fragments) {
@@ -139,7 +136,7 @@ pub fn load_fact<R: Read + Drop>(
     cut: &Cut,
 ) -> Result<Vec<Sequence<Column>>, LoadFault>
     ensures { (bytes : List ℕ) → R.remaining reader ≡ Some bytes
-        → TellsIfMemory fault_told (λ fragments. fragments.items) result
+        → ReportsIfMemory fault_returned (λ fragments. fragments.items) result
         (fact_fragments catalog.now cut.now (csv_records bytes)) }
 {
     let mut reader = open_fact(alloc, catalog, reader, cut)?;

@@ -2,7 +2,7 @@
 ghost use Rattle.std.specs.Prelude.{◌≡◌};
 ghost use Rattle.loader.specs.Fault.{number_of};
 
-use meaning::table::TableFault;
+use meaning::TableFault;
 use std::alloc::{AllocError, AllocFailed};
 use thiserror::Error;
 

@@ -1,20 +1,16 @@
-//! One field: what it stands for in its column.
+//! One field: the value that it encodes in its column.
 ghost use Rattle.std.specs.Prelude.{◌≡◌, true, IfSome, Some};
 ghost use Rattle.std.specs.Str.{is_utf8};
 ghost use Rattle.meaning.specs.declared.value.ColType.TheVariants as of_type;
 ghost use Rattle.meaning.specs.Records as declared;
 ghost use Rattle.loader.specs.Steps.{IsShortNumber, ReadsField};
 
-use meaning::catalog::Column;
-use meaning::limits::MAX_TEXT_BYTES;
-use meaning::table::TableFault;
-use meaning::text::text_of;
-use meaning::value::ColType;
+use meaning::{ColType, Column, MAX_TEXT_BYTES, TableFault, text_of};
 
 /// The most digits that surely stay within 64 bits.
 const SURE_DIGITS: usize = 18;
 
-/// What a field stands for. A text is the field itself, which is then UTF-8.
+/// The value of a field. A text is the field itself, which is then UTF-8.
 #[derive(Clone, Copy)]
 pub enum Parsed {
     Null,
@@ -115,36 +111,36 @@ fn not_null_value(kind: ColType, row: u64, column: u64, field: &[u8]) -> Result<
     }
 }
 
-/// What a field that is UTF-8 stands for in a column. Rows and columns count from 0, a column by
-/// its place in the catalogue.
+/// The value of a field that is UTF-8. Rows and columns count from 0, columns in the order of
+/// the catalogue.
 #[inline(always)]
-pub fn judge_text(row: u64, place: u64, column: &Column, field: &[u8]) -> Result<Parsed, TableFault>
+pub fn judge_text(row: u64, index: u64, column: &Column, field: &[u8]) -> Result<Parsed, TableFault>
     requires { is_utf8 field.now ≡ true }
-    ensures { ReadsField field.now result (declared.field_value row place column.now field.now) }
+    ensures { ReadsField field.now result (declared.field_value row index column.now field.now) }
 {
     if let Some(number) = short_value(column.col_type, field) {
         return Ok(Parsed::Int(number));
     }
     if !spells_null(field) {
-        return present_value(column.col_type, row, place, field);
+        return present_value(column.col_type, row, index, field);
     }
     if column.nullable {
         return Ok(Parsed::Null);
     }
-    not_null_value(column.col_type, row, place, field)
+    not_null_value(column.col_type, row, index, field)
 }
 
 /// The same of a field that may be no text.
 pub fn judge_field(
     row: u64,
-    place: u64,
+    index: u64,
     column: &Column,
     field: &[u8],
 ) -> Result<Parsed, TableFault>
-    ensures { ReadsField field.now result (declared.field_value row place column.now field.now) }
+    ensures { ReadsField field.now result (declared.field_value row index column.now field.now) }
 {
     if text_of(field).is_none() {
-        return Err(TableFault::NotUtf8 { row, column: place });
+        return Err(TableFault::NotUtf8 { row, column: index });
     }
-    judge_text(row, place, column, field)
+    judge_text(row, index, column, field)
 }

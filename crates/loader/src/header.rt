@@ -3,27 +3,26 @@ ghost use Rattle.std.specs.Prelude.{◌≡◌, ◌==◌, true, map, count_by, po
 ghost use Rattle.std.specs.List.{list_all};
 ghost use Rattle.csv.specs.Records.{fields_of};
 ghost use Rattle.meaning.specs.Records as declared;
-ghost use Rattle.meaning.specs.Wanting.{TellsIfMemory};
-ghost use Rattle.loader.specs.Fault.{fault_told};
-ghost use Rattle.loader.specs.Steps.{field_places, has_each, is_in_order, order_of};
+ghost use Rattle.meaning.specs.Wanting.{ReportsIfMemory};
+ghost use Rattle.loader.specs.Fault.{fault_returned};
+ghost use Rattle.loader.specs.Steps.{inverse_order, has_each, is_in_order, order_of};
 
 use crate::fault::LoadFault;
 use csv::ByteRecord;
-use meaning::catalog::Column;
-use meaning::table::TableFault;
+use meaning::{Column, TableFault};
 use std::alloc::{AllocError, Global};
 use std::mem::drop;
 
 /// How the columns of a file stand to those of the catalogue.
 #[derive(Drop)]
 pub struct FileOrder {
-    /// The place in the catalogue of each field's column.
+    /// Which column of the catalogue each field has.
     pub columns: Vec<usize>,
     /// The field of each column of the catalogue.
     pub fields: Vec<usize>,
     /// Whether the fields have the order of the catalogue.
     pub in_order: bool,
-    ghost inverse: { fields.items ≡ field_places columns.items },
+    ghost inverse: { fields.items ≡ inverse_order columns.items },
     ghost each: { has_each columns.items ≡ true },
     ghost ordered: { in_order ≡ is_in_order columns.items },
 }
@@ -34,7 +33,7 @@ fn names(field: &[u8], column: &Column) -> bool
     field.eq_ignore_ascii_case(column.name.as_bytes())
 }
 
-/// The field at a place.
+/// A field, by its index.
 pub fn field_at(row: &ByteRecord, i: usize) -> Option<&[u8]>
     ensures { option_map (λ field. field.now) result ≡ slice_get (fields_of row.now) i }
 {
@@ -91,43 +90,43 @@ fn file_order(alloc: Global, columns: &[Column], header: &[&[u8]]) -> Result<Vec
         .collect(alloc)
 }
 
-fn field_of(order: &[usize], place: usize) -> Option<usize>
-    ensures { result ≡ position (λ p. p == place) order.now }
+fn field_of(order: &[usize], index: usize) -> Option<usize>
+    ensures { result ≡ position (λ p. p == index) order.now }
 {
-    order.iter().position(|p| *p == place)
+    order.iter().position(|p| *p == index)
 }
 
-fn field_places(alloc: Global, order: &[usize]) -> Result<Vec<usize>, AllocError>
-    ensures { IfOk result (λ places. places.items ≡ field_places order.now) }
+fn inverse_order(alloc: Global, order: &[usize]) -> Result<Vec<usize>, AllocError>
+    ensures { IfOk result (λ fields. fields.items ≡ inverse_order order.now) }
 {
     (0..order.len())
-        .map(|place| field_of(order, place).unwrap_or(0))
+        .map(|index| field_of(order, index).unwrap_or(0))
         .collect(alloc)
 }
 
 fn has_each(order: &[usize]) -> bool
     ensures { result ≡ has_each order.now }
 {
-    (0..order.len()).all(|place| field_of(order, place).is_some())
+    (0..order.len()).all(|index| field_of(order, index).is_some())
 }
 
 fn is_in_order(order: &[usize]) -> bool
     ensures { result ≡ is_in_order order.now }
 {
-    order.iter().enumerate().all(|(i, place)| *place == i)
+    order.iter().enumerate().all(|(i, index)| *index == i)
 }
 
 /// Columns of the catalogue in the order of the fields, with the way back.
-fn with_places(alloc: Global, columns: Vec<usize>) -> Result<FileOrder, AllocError>
+fn with_inverse(alloc: Global, columns: Vec<usize>) -> Result<FileOrder, AllocError>
     ensures { IfOk result (λ order. order.columns.items ≡ columns.items) }
 {
     if !has_each(&columns) {
-        // Two columns of the catalogue have one name, so no record can stand for a row.
+        // Two columns of the catalogue have one name, so no record can encode a row.
         drop(columns);
         return Err(AllocError);
     }
     let in_order = is_in_order(&columns);
-    match field_places(alloc, &columns) {
+    match inverse_order(alloc, &columns) {
         Ok(fields) => Ok(FileOrder {
             columns,
             fields,
@@ -142,13 +141,13 @@ fn with_places(alloc: Global, columns: Vec<usize>) -> Result<FileOrder, AllocErr
 
 /// The order of the columns that the fields of a header name.
 fn order_by(alloc: Global, columns: &[Column], header: &[&[u8]]) -> Result<FileOrder, LoadFault>
-    ensures { TellsIfMemory fault_told (λ order. order.columns.items) result
+    ensures { ReportsIfMemory fault_returned (λ order. order.columns.items) result
         (order_of columns.now (map (λ field. field.now) header.now)) }
 {
     if !is_header(columns, header) {
         return Err(LoadFault::Table(TableFault::Header));
     }
-    Ok(with_places(alloc, file_order(alloc, columns, header)?)?)
+    Ok(with_inverse(alloc, file_order(alloc, columns, header)?)?)
 }
 
 /// The order of the columns that a header names.
@@ -157,7 +156,7 @@ pub fn order_of(
     columns: &[Column],
     header: &ByteRecord,
 ) -> Result<FileOrder, LoadFault>
-    ensures { TellsIfMemory fault_told (λ order. order.columns.items) result
+    ensures { ReportsIfMemory fault_returned (λ order. order.columns.items) result
         (order_of columns.now (fields_of header.now)) }
 {
     let header = fields_in(alloc, header)?;

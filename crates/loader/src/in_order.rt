@@ -14,24 +14,24 @@ use crate::header::field_at;
 use crate::rows::push_field;
 use columns::Column;
 use csv::ByteRecord;
-use meaning::catalog::Column as Declared;
+use meaning::Column as Declared;
 
 /// Judges a field, and puts its value behind the last of its column.
 #[inline(always)]
 fn take_field(
     declared: &Declared,
     row: u64,
-    place: u64,
+    index: u64,
     field: &[u8],
     column: &mut Column,
 ) -> Result<(), LoadFault>
     requires text { is_utf8 field.now ≡ true }
     requires declared { (column.old.col_type ≡ declared.now.col_type)
         × (column.old.nullable ≡ declared.now.nullable) }
-    ensures { TakesField (records.field_value row place declared.now field.now) column.old
+    ensures { TakesField (records.field_value row index declared.now field.now) column.old
         column.new result }
 {
-    let parsed = judge_text(row, place, declared, field)?;
+    let parsed = judge_text(row, index, declared, field)?;
     push_field(column, parsed, field)
 }
 

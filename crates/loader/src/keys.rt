@@ -5,7 +5,7 @@ ghost use Rattle.meaning.specs.Order.{is_null};
 ghost use Rattle.meaning.specs.Records.{is_repeated};
 ghost use Rattle.loader.specs.Keys.{HoldsKeys};
 
-use meaning::value::Value;
+use meaning::Value;
 use std::alloc::{AllocError, Global};
 use std::collections::BTreeSet;
 

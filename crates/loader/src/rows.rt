@@ -21,7 +21,7 @@ use csv::ByteRecord;
 fn push_parsed(column: &mut Column, parsed: Parsed, field: &[u8]) -> Result<(), ColumnFault>
     requires { is_utf8 field.now ≡ true }
     ensures ok { OnOk result (column.new ≡ with_value column.old (value_of (parsed, field.now))) }
-    ensures told { IfErr result (λ f. f ≢ refused.Memory
+    ensures returned { IfErr result (λ f. f ≢ refused.Memory
         → refusal column.old.col_type column.old.nullable (value_of (parsed, field.now)) ≡ Some f) }
 {
     match parsed {
@@ -31,7 +31,7 @@ fn push_parsed(column: &mut Column, parsed: Parsed, field: &[u8]) -> Result<(), 
     }
 }
 
-/// What a judged field stands for, behind the last value of its column.
+/// The value of a judged field, behind the last value of its column.
 #[inline(always)]
 pub fn push_field(column: &mut Column, parsed: Parsed, field: &[u8]) -> Result<(), LoadFault>
     requires text { is_utf8 field.now ≡ true }
@@ -47,17 +47,17 @@ pub fn push_field(column: &mut Column, parsed: Parsed, field: &[u8]) -> Result<(
     }
 }
 
-/// What the field at a place stands for, and the field; NULL where there is none.
-fn judged_at<'a>(place: usize, parsed: &[Parsed], fields: &'a ByteRecord) -> (Parsed, &'a [u8])
+/// A judged field and its bytes; NULL where there is none.
+fn judged_at<'a>(index: usize, parsed: &[Parsed], fields: &'a ByteRecord) -> (Parsed, &'a [u8])
     requires { AllText (fields_of fields.now) }
     ensures text { is_utf8 result.1.now ≡ true }
     ensures value { value_of (result.0, result.1.now)
-        ≡ slice_index_or (values_of parsed.now (fields_of fields.now)) place Null }
+        ≡ slice_index_or (values_of parsed.now (fields_of fields.now)) index Null }
 {
-    let Some(judged) = parsed.get(place) else {
+    let Some(judged) = parsed.get(index) else {
         return (Parsed::Null, b"".as_slice());
     };
-    let Some(field) = field_at(fields, place) else {
+    let Some(field) = field_at(fields, index) else {
         return (Parsed::Null, b"".as_slice());
     };
     (*judged, field)

@@ -1,4 +1,4 @@
--- Values, rows and faults are in total orders, which tell any two of them apart.
+-- Values, rows and faults are in total orders, which distinguish any two of them.
 use Rattle.std.specs.Prelude.{◌≡◌, Bool, true, false, cond, List, [], ◌∷◌}
 use Rattle.std.specs.FinMap.{IsAntisymmetric, nat_cmp-IsAntisymmetric, int_cmp-IsAntisymmetric, slice_cmp-IsAntisymmetric}
 use Rattle.std.specs.Cmp.{IsTotalOrder}
@@ -68,7 +68,7 @@ by_key_total k = on_total (λ row. column row k.item)
     (elim k.descending as (λ b. IsTotalOrder
     (cond b (flip_args value_cmp) value_cmp)) [ true ↦ down_total | false ↦ value_total ])
 
--- the order of the answer is total, and tells any two rows apart
+-- the order of the answer is total, and distinguishes any two rows
 pub order_total : (keys : List OrderKey) → IsTotalOrder (order_cmp keys)
 order_total [] = row_total
 order_total (k ∷ ks) = then_total (by_key_total k) (order_total ks)

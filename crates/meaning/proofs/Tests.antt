@@ -6,7 +6,7 @@ use Rattle.std.specs.declared.cmp.Ordering.{Ordering}
 use Rattle.std.specs.declared.cmp.Ordering.TheVariants.{Less, Equal, Greater}
 use Rattle.std.proofs.Common.{refl, ◌∙◌}
 use Rattle.std.proofs.lemmas.List.Folds.{list_all-append}
-use Rattle.meaning.specs.Order.{placed_once, ascending_set}
+use Rattle.meaning.specs.Order.{inserted_once, ascending_set}
 
 pub first_of : (a b : Bool) → (a && b) ≡ true → a ≡ true
 first_of true b e = refl
@@ -89,20 +89,20 @@ module _ {X : Type 0} where
       ]
 
   -- a set has its list's elements alone
-  all_placed : (cmp : X → X → Ordering) (p : X → Bool) (x : X) (ys : List X) → p x ≡ true → list_all p ys
-      ≡ true → list_all p (placed_once cmp x ys) ≡ true
-  all_placed cmp p x [] a e = both _ _ a refl
-  all_placed cmp p x (y ∷ ys) a e =
-      elim (cmp x y) as (λ r. list_all p (match_ordering r (x ∷ y ∷ ys) (y ∷ ys) (y ∷ placed_once cmp x ys)) ≡ true) [
+  all_inserted : (cmp : X → X → Ordering) (p : X → Bool) (x : X) (ys : List X) → p x ≡ true → list_all p ys
+      ≡ true → list_all p (inserted_once cmp x ys) ≡ true
+  all_inserted cmp p x [] a e = both _ _ a refl
+  all_inserted cmp p x (y ∷ ys) a e =
+      elim (cmp x y) as (λ r. list_all p (match_ordering r (x ∷ y ∷ ys) (y ∷ ys) (y ∷ inserted_once cmp x ys)) ≡ true) [
         | Less ↦ both _ _ a e
         | Equal ↦ e
-        | Greater ↦ both _ _ (all_first p y ys e) (all_placed cmp p x ys a (all_rest p y ys e))
+        | Greater ↦ both _ _ (all_first p y ys e) (all_inserted cmp p x ys a (all_rest p y ys e))
       ]
 
   pub all_set : (cmp : X → X → Ordering) (p : X → Bool) (xs : List X) → list_all p xs
       ≡ true → list_all p (ascending_set cmp xs) ≡ true
   all_set cmp p [] e = refl
-  all_set cmp p (x ∷ xs) e = all_placed cmp p x (ascending_set cmp xs) (all_first p x xs e)
+  all_set cmp p (x ∷ xs) e = all_inserted cmp p x (ascending_set cmp xs) (all_first p x xs e)
       (all_set cmp p xs (all_rest p x xs e))
 
 module _ {X Y : Type 0} where

@@ -49,7 +49,7 @@ pub record IsWellFormedTable (table : Table) : Type 0 where
   pub columns : All (λ column. IsName column.name) table.columns
   pub distinct : AllPairs (λ a b. a ≢ b) (map (λ column. column.name) table.columns)
 
--- the key is the place of a column that isn't nullable
+-- the key is one of the columns, and isn't nullable
 pub record HasKey (dimension : Dimension) : Type 0 where
   pub within : dimension.key < length dimension.table.columns
   pub filled : HoldsAt (λ column. column.nullable ≡ false) dimension.table.columns dimension.key

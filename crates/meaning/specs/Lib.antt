@@ -29,4 +29,4 @@ pub mod Dimensions
 pub mod Records
 pub mod ExpressionLaws
 pub mod TableLaws
-pub mod WellFormedPlan
+pub mod SoundPlan

@@ -27,24 +27,24 @@ module _ {X : Type 0} (cmp : X → X → Ordering) where
   least (x ∷ xs) = lesser (Some x) (least xs)
 
   -- x before the first element that it is not greater than
-  abbrev pub placed : X → List X → List X
-  placed x [] = x ∷ []
-  placed x (y ∷ ys) = if is_lt (cmp y x) then y ∷ placed x ys else x ∷ y ∷ ys
+  abbrev pub inserted : X → List X → List X
+  inserted x [] = x ∷ []
+  inserted x (y ∷ ys) = if is_lt (cmp y x) then y ∷ inserted x ys else x ∷ y ∷ ys
 
   -- the list in ascending order
   abbrev pub sorted : List X → List X
   sorted [] = []
-  sorted (x ∷ xs) = placed x (sorted xs)
+  sorted (x ∷ xs) = inserted x (sorted xs)
 
-  -- x in its place, unless it is there
-  abbrev pub placed_once : X → List X → List X
-  placed_once x [] = x ∷ []
-  placed_once x (y ∷ ys) = match_ordering (cmp x y) (x ∷ y ∷ ys) (y ∷ ys) (y ∷ placed_once x ys)
+  -- x before the first element that it is less than, unless it is there
+  abbrev pub inserted_once : X → List X → List X
+  inserted_once x [] = x ∷ []
+  inserted_once x (y ∷ ys) = match_ordering (cmp x y) (x ∷ y ∷ ys) (y ∷ ys) (y ∷ inserted_once x ys)
 
   -- the set of the elements, as a list in ascending order
   abbrev pub ascending_set : List X → List X
   ascending_set [] = []
-  ascending_set (x ∷ xs) = placed_once x (ascending_set xs)
+  ascending_set (x ∷ xs) = inserted_once x (ascending_set xs)
 
   -- two sets as one: where one has no element it is the other, so that nothing is changed by a set of none
   abbrev pub union : List X → List X → List X
@@ -64,7 +64,7 @@ Row = List Value
 
 -- the value in a column
 abbrev pub column : Row → ℕ → Value
-column row place = slice_index_or row place Null
+column row at = slice_index_or row at Null
 
 abbrev pub is_null : Value → Bool
 is_null Null = true

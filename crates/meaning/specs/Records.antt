@@ -1,4 +1,4 @@
--- The table that the records of a CSV file stand for under a declaration, or the first fault that they have.
+-- The table that the records of a CSV file encode under a declaration, or the first fault that they have.
 use Rattle.std.specs.Prelude.{ℕ, ◌==◌, nat_lt, nat_le, ℤ, Bool, ◌&&◌, ◌||◌, not, if◌then◌else◌, List, [], ◌∷◌, length, map, take, sum, zip, count_by, position, slice_get, slice_index_or, Option, Some, None, unwrap_or, Result, Ok, Err}
 use Rattle.std.specs.List.{list_all, list_any, range_with_len, enumerate_from}
 use Rattle.std.specs.Str.{str_eq_ignore_ascii_case, bytes_eq, all_ascii_digits, is_utf8}
@@ -45,7 +45,7 @@ abbrev pub is_header : List Column → Record → Bool
 is_header columns header =
     (length header == length columns) && list_all (λ c. count_by (λ field. names field c) header == 1) columns
 
--- the places of the columns that the header names, in the order of the file
+-- the numbers of the columns that the header names, in the order of the file
 abbrev pub file_order : List Column → Record → List ℕ
 file_order columns header = map (λ field. unwrap_or (position (names field) columns) 0) header
 
@@ -77,7 +77,7 @@ abbrev pub not_null_value : ColType → ℕ → ℕ → List ℕ → Result Valu
 not_null_value of_type.Int row column field = Err (fault.NullNotAllowed row column)
 not_null_value of_type.Text row column field = Ok (Text field)
 
--- the value that a field stands for in a column
+-- the value that a field encodes in a column
 abbrev pub field_value : ℕ → ℕ → Column → List ℕ → Result Value TableFault
 field_value row column c field =
     if not (is_utf8 field) then Err (fault.NotUtf8 row column)
@@ -87,10 +87,10 @@ field_value row column c field =
 
 -- ---- one record
 
--- the value of the field that names the column at a place
+-- the value of a field of the column with this number
 abbrev pub value_at : ℕ → ℕ → Option Column → List ℕ → Result Value TableFault
-value_at row place None field = Ok Null
-value_at row place (Some c) field = field_value row place c field
+value_at row k None field = Ok Null
+value_at row k (Some c) field = field_value row k c field
 
 -- the values in the order of the file, or the first fault in that order
 abbrev pub file_values : List Column → List ℕ → ℕ → Record → Result (List Value) TableFault
@@ -99,10 +99,10 @@ file_values columns order row fields =
 
 -- the values in the order of the catalogue
 abbrev pub catalog_row : List ℕ → List Value → Row
-catalog_row order values = map (λ place. slice_index_or values (unwrap_or (position (λ p. p == place) order) 0) Null)
+catalog_row order values = map (λ k. slice_index_or values (unwrap_or (position (λ p. p == k) order) 0) Null)
     (range_with_len 0 (length order))
 
--- the row that a record stands for
+-- the row that a record encodes
 abbrev pub row_of : List Column → List ℕ → ℕ → Record → Result Row TableFault
 row_of columns order row fields =
     if length fields == length columns
@@ -126,7 +126,7 @@ unless_repeated None i earlier row = Ok row
 unless_repeated (Some key) i earlier row =
     if is_repeated (column row key) (map (key_of key) earlier) then Err (fault.KeyTwice i) else Ok row
 
--- what becomes of the record at a place: too many come first, then its own faults, then its key
+-- what becomes of a record with its number: too many come first, then its own faults, then its key
 abbrev pub judged_record : List Column → Option ℕ → ℕ → List ℕ → List Record → ℕ × Record → Result Row TableFault
 judged_record columns key most order records p =
     if nat_le most p.0 then Err fault.TooManyRows
@@ -137,7 +137,7 @@ judged_record columns key most order records p =
 abbrev pub unless_few : ℕ → List Row → Result (List Row) TableFault
 unless_few fewest rows = if nat_lt (length rows) fewest then Err fault.TooFewRows else Ok rows
 
--- the table that records stand for: a header, then `fewest` to `most` rows; the first fault from record to record
+-- the table that records encode: a header, then `fewest` to `most` rows; the first fault from record to record
 abbrev pub table_of : List Column → Option ℕ → ℕ → ℕ → List Record → Result (List Row) TableFault
 table_of columns key fewest most [] = Err fault.Header
 table_of columns key fewest most (header ∷ records) =

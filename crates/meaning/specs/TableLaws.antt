@@ -69,7 +69,7 @@ pub record IsTypedAggregate (types : RowTypes) (a : Aggregate) : Type 0 where
   pub typed : has_type types a.argument (Valued a.col_type) ≡ true
   pub counted : a.kind ≡ CountRows → (v : Value) × (a.argument ≡ node.Literal v) × (is_null v ≡ false)
 
--- conditions are truths, and keys and arguments have the types that the plan tells
+-- conditions are truths, and keys and arguments have the types that the plan gives them
 pub record IsTypedPlan (types : RowTypes) (plan : Plan) : Type 0 where
   pub conditions : All (λ c. has_type types c Boolean ≡ true) plan.conjuncts
   pub keys : All (λ k. has_type types k.expr (Valued k.col_type) ≡ true) plan.keys

@@ -1,4 +1,4 @@
--- Of which types values, keys, arguments and expressions are; an expression's type is told from its nodes alone.
+-- Of which types values, keys, arguments and expressions are; an expression's type follows from its nodes alone.
 use Rattle.std.specs.Prelude.{nat_le, Bool, true, false, ◌&&◌, ◌||◌, not, List, [], ◌∷◌, length, map, Option, Some, None, slice_get, slice_index_or}
 use Rattle.std.specs.List.{list_all}
 use Rattle.std.specs.Cmp.Lexicographic.{pointwise}

@@ -5,10 +5,10 @@ ghost use Rattle.std.specs.Prelude.{◌≡◌, IfOk};
 use std::alloc::{AllocError, Global};
 use std::marker::Model;
 
-/// A part of a tree, kept on the heap. Contracts see the part itself, whatever its place in memory.
+/// A part of a tree, kept on the heap. Contracts see the part itself, wherever it lies in memory.
 #[derive(Drop)]
 pub struct Boxed<T> {
-    place: Box<T>,
+    content: Box<T>,
 }
 
 impl<T> Model for Boxed<T> {
@@ -16,22 +16,22 @@ impl<T> Model for Boxed<T> {
 
     ghost coded = { T.code };
 
-    ghost view = { λ b. b.place.value };
+    ghost view = { λ b. b.content.value };
 }
 
 impl<T> Boxed<T> {
     pub fn get(&self) -> &T
         ensures { result.now ≡ self.now }
     {
-        &self.place
+        &self.content
     }
 
     /// Gives the part back.
     pub fn into_inner(self) -> T
         ensures { result ≡ self }
     {
-        let Boxed { place } = self;
-        Box::into_inner(place)
+        let Boxed { content } = self;
+        Box::into_inner(content)
     }
 }
 
@@ -40,7 +40,7 @@ impl<T: Drop> Boxed<T> {
         ensures { IfOk result (λ b. b ≡ part) }
     {
         Ok(Boxed {
-            place: Box::new(alloc, part)?,
+            content: Box::new(alloc, part)?,
         })
     }
 }

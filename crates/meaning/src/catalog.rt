@@ -25,11 +25,11 @@ pub struct Table {
     pub columns: Sequence<Column>,
 }
 
-/// A dimension: a table whose key column tells its rows apart.
+/// A dimension: a table whose rows its key column distinguishes.
 #[derive(Drop)]
 pub struct Dimension {
     pub table: Table,
-    /// The key column's place among the table's columns, from 0.
+    /// Which of the table's columns is the key, from 0.
     pub key: usize,
 }
 

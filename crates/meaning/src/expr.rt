@@ -23,7 +23,7 @@ pub enum ComparisonOperator {
     GreaterOrEqual,
 }
 
-/// An expression whose names are looked up: they are places, from 0. Where a node is `negated`, NOT
+/// An expression whose names are looked up: they are numbers, from 0. Where a node is `negated`, NOT
 /// is written within it, as in `x NOT IN (..)`.
 #[cycle(expr)]
 #[derive(Drop)]
@@ -33,7 +33,7 @@ pub enum Expr {
     /// A column of the row that a join found.
     Joined {
         join: usize,
-        place: usize,
+        column: usize,
     },
     /// A key of the group.
     Key(usize),

@@ -19,21 +19,21 @@ pub struct JoinedRow {
 }
 
 /// A copy of the value in a column, and NULL past the end.
-pub fn value_at(row: &Row, place: usize) -> Result<Value, AllocError>
-    ensures { IfOk result (λ v. v ≡ column row.now place) }
+pub fn value_at(row: &Row, at: usize) -> Result<Value, AllocError>
+    ensures { IfOk result (λ v. v ≡ column row.now at) }
 {
-    match row.as_slice().get(place) {
+    match row.as_slice().get(at) {
         Some(value) => value.clone(),
         None => Ok(Value::Null),
     }
 }
 
 /// A copy of the value in a column of a join's row, and NULL past the end.
-pub fn joined_value(row: &JoinedRow, join: usize, place: usize) -> Result<Value, AllocError>
-    ensures { IfOk result (λ v. v ≡ joined_column row.now join place) }
+pub fn joined_value(row: &JoinedRow, join: usize, at: usize) -> Result<Value, AllocError>
+    ensures { IfOk result (λ v. v ≡ joined_column row.now join at) }
 {
     match row.joins.as_slice().get(join) {
-        Some(found) => value_at(found, place),
+        Some(found) => value_at(found, at),
         None => Ok(Value::Null),
     }
 }

@@ -6,18 +6,38 @@
 //! above share. The theorems are the crate `meaning_laws`.
 #![tactic(auto)]
 
-pub mod answer;
-pub mod boxed;
-pub mod catalog;
-pub mod cut;
+mod answer;
+mod boxed;
+mod catalog;
+mod cut;
 pub mod expr;
-pub mod joined_row;
-pub mod limits;
-pub mod name;
-pub mod outcome;
-pub mod plan;
-pub mod reserved;
-pub mod sequence;
-pub mod table;
-pub mod text;
-pub mod value;
+mod joined_row;
+mod limits;
+mod name;
+mod outcome;
+mod plan;
+mod reserved;
+mod sequence;
+mod table;
+mod text;
+mod value;
+
+pub use answer::{Answer, Body, Cell, RowFault, Statistics};
+pub use boxed::Boxed;
+pub use catalog::{Catalog, CatalogFault, Column, Dimension, Table};
+pub use cut::{Cut, CutFault};
+pub use expr::{ArithmeticOperator, Arm, ComparisonOperator, Expr};
+pub use joined_row::{JoinedRow, joined_value, value_at};
+pub use limits::{
+    MAX_AGGREGATES, MAX_COLUMNS, MAX_DIMENSIONS, MAX_FRAGMENTS, MAX_JOINS, MAX_KEYS,
+    MAX_NAME_BYTES, MAX_QUERY_BYTES, MAX_ROWS, MAX_TEXT_BYTES, MAX_VECTOR_ROWS, ROW_GROUP_ROWS,
+};
+pub use name::is_name;
+pub use outcome::{Fault, Outcome, Truth};
+pub use plan::{
+    Aggregate, AggregateKind, ColumnUse, GroupingKey, Item, Join, OrderKey, Plan, TableUse,
+};
+pub use sequence::Sequence;
+pub use table::TableFault;
+pub use text::{Text, text_of};
+pub use value::{ColType, Row, Value, ValueRef, compare_lent};

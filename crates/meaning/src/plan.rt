@@ -5,10 +5,10 @@ use crate::sequence::Sequence;
 use crate::text::Text;
 use crate::value::ColType;
 
-/// A column that a plan reads. A worker finds it at this place, with this name and type.
+/// A column that a plan reads. A worker finds it by this number, with this name and type.
 #[derive(Drop)]
 pub struct ColumnUse {
-    pub place: usize,
+    pub column: usize,
     pub name: Text,
     pub col_type: ColType,
 }
@@ -73,7 +73,7 @@ pub struct OrderKey {
 /// A query with its names looked up. The items of a plain query, one with no groups, are its keys.
 #[derive(Drop)]
 pub struct Plan {
-    /// The canonical text, by which two jobs are told apart.
+    /// The canonical text, by which two jobs are distinguished.
     pub text: Text,
     pub fact: TableUse,
     pub joins: Sequence<Join>,

@@ -59,11 +59,11 @@ impl<T> Sequence<T> {
         self.items.len()
     }
 
-    pub fn get(&self, place: usize) -> Option<&T>
-        ensures value { option_copied result ≡ slice_get self.now place }
-        ensures within { OnSome result (place < length self.now) }
+    pub fn get(&self, index: usize) -> Option<&T>
+        ensures value { option_copied result ≡ slice_get self.now index }
+        ensures within { OnSome result (index < length self.now) }
     {
-        self.items.get(place)
+        self.items.get(index)
     }
 }
 

@@ -3,7 +3,7 @@
 use thiserror::Error;
 
 /// Why the records of a CSV file are no table of a declaration. Rows count from 0 behind the
-/// header, columns by their place in the catalogue from 0. Its text says what is wrong, its fields
+/// header, columns from 0 in the order of the catalogue. Its text says what is wrong, its fields
 /// where.
 #[derive(Clone, Copy, Debug, Error)]
 pub enum TableFault {

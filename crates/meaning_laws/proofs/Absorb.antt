@@ -19,7 +19,7 @@ module _ {X : Type 0} (f g : ℕ → X) (k : ℕ) (same : (j : ℕ) → j ≢ k 
       let here = same a (omega arith) in
       λ i. here i ∷ next i
 
-  -- two lists of answers by place, which differ at one place alone
+  -- two lists of answers by fragment, which differ at one fragment alone
   changed_at : (a m i : ℕ) → a + i ≡ k → map g (range_with_len a m) ≡ slice_set (map f (range_with_len a m)) i (g k)
   changed_at a zero zero e = refl
   changed_at a zero (suc i) e = refl

@@ -9,7 +9,7 @@ use Rattle.meaning.specs.Order.{Row}
 use Rattle.meaning.specs.Cut.{numbered, Cut, part}
 
 module _ {X : Type 0} where
-  -- the piece at place k of a list that is cut
+  -- piece k of a list that is cut
   abbrev piece : List ℕ → List X → ℕ → List X
   piece cut xs k = take (slice_index cut k) (drop (sum (take k cut)) xs)
 

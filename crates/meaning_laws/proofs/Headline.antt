@@ -12,7 +12,7 @@ use Rattle.meaning.specs.Order.{Row}
 use Rattle.meaning.specs.Cut.{Cut, numbered, fragment, part}
 use Rattle.meaning.specs.Meaning.{meaning}
 use Rattle.meaning.specs.Answer.{own, own_body, combined, output_of}
-use Rattle.meaning.specs.Gather.{same_body, join_cells, cell_of, said_of, joined, is_conflict, is_nothing, body_in, places, conflict, missing, output, unless_empty, preview, report}
+use Rattle.meaning.specs.Gather.{same_body, join_cells, cell_of, said_of, joined, is_conflict, is_nothing, body_in, fragments_where, conflict, missing, output, unless_empty, preview, report}
 use Rattle.meaning.specs.Print.{output_text, report_text}
 use Rattle.meaning.proofs.Same.{same_body_itself}
 use Rattle.meaning.proofs.Tests.{or_second}
@@ -50,22 +50,22 @@ module _ (plan : Plan) (dims : List (List Row)) (cut : Cut) (rows : List Row) wh
       ∙ output_of-combined plan dims (map (λ k. fragment cut k rows) ks)
       ∙ ap (λ table. meaning plan dims table) (fragments ks)
 
-  no_place : (test : Cell → Bool) → ((k : ℕ) → test (own_cell k) ≡ false) → (n : ℕ) (ks : List ℕ)
+  no_fragment : (test : Cell → Bool) → ((k : ℕ) → test (own_cell k) ≡ false) → (n : ℕ) (ks : List ℕ)
       → map (λ p. p.0) (filter (λ p. test p.1) (enumerate_from n (map own_cell ks))) ≡ []
-  no_place test none n [] = refl
-  no_place test none n (k ∷ ks) =
+  no_fragment test none n [] = refl
+  no_fragment test none n (k ∷ ks) =
       ap (λ b. map (λ (p : ℕ × Cell). p.0)
       (cond b ((n, own_cell k) ∷ filter (λ p. test p.1) (enumerate_from (n + 1) (map own_cell ks)))
       (filter (λ p. test p.1) (enumerate_from (n + 1) (map own_cell ks))))) (none k)
-      ∙ no_place test none (n + 1) ks
+      ∙ no_fragment test none (n + 1) ks
 
   pub report-own : (ks : List ℕ) → report plan (map own_cell ks) ≡ output (meaning plan dims (part cut ks rows))
   report-own ks =
       ap (λ js. unless_empty conflict js
-      (unless_empty missing (places is_nothing (map own_cell ks)) (output (preview plan (map own_cell ks)))))
-      (no_place is_conflict (λ k. refl) 0 ks)
+      (unless_empty missing (fragments_where is_nothing (map own_cell ks)) (output (preview plan (map own_cell ks)))))
+      (no_fragment is_conflict (λ k. refl) 0 ks)
       ∙ ap (λ js. unless_empty missing js (output (preview plan (map own_cell ks))))
-      (no_place is_nothing (λ k. refl) 0 ks)
+      (no_fragment is_nothing (λ k. refl) 0 ks)
       ∙ ap output (preview-own ks)
 
   -- ---- every own answer is in, and none conflicts
@@ -122,14 +122,14 @@ module _ (plan : Plan) (dims : List (List Row)) (cut : Cut) (rows : List Row) wh
         pushed false p ps = refl
 
     -- the headline: what is reported is the query's meaning over the whole table
-    pub report-joined : sum cut ≡ length rows → places is_conflict (joined cut answers)
+    pub report-joined : sum cut ≡ length rows → fragments_where is_conflict (joined cut answers)
         ≡ [] → report plan (joined cut answers) ≡ output (meaning plan dims (numbered rows))
     report-joined whole calm =
         ap (report plan) (own_cells 0 0 (length cut) (omega arith) calm) ∙ report-own (range_with_len 0 (length cut))
         ∙ ap (λ table. output (meaning plan dims table)) (part-all cut rows whole)
 
     -- and so is what is printed
-    pub text-joined : sum cut ≡ length rows → places is_conflict (joined cut answers)
+    pub text-joined : sum cut ≡ length rows → fragments_where is_conflict (joined cut answers)
         ≡ [] → report_text plan (report plan (joined cut answers))
         ≡ output_text plan (meaning plan dims (numbered rows))
     text-joined whole calm = ap (report_text plan) (report-joined whole calm)

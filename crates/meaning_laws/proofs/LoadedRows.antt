@@ -187,15 +187,15 @@ all_ok-pass f p each (x ∷ xs) ys e =
     ap (list_all p) parts.whole ∙ both _ _ (each x parts.first parts.here)
     (all_ok-pass f p each xs parts.later parts.behind)
 
--- values at the places from s on, each of which passes its column's test
-pointwise-places : {X Y : Type 0} (t : X → Y → Bool) (f : ℕ → Y) (s : ℕ) (xs : List X)
+-- values of the columns from s on, each of which passes its column's test
+pointwise-columns : {X Y : Type 0} (t : X → Y → Bool) (f : ℕ → Y) (s : ℕ) (xs : List X)
     → ((k : ℕ) (x : X) → slice_get xs k ≡ Some x → t x (f (s + k)) ≡ true)
     → pointwise t xs (map f (range_with_len s (length xs))) ≡ true
-pointwise-places t f s [] each = refl
-pointwise-places t f s (x ∷ xs) each =
+pointwise-columns t f s [] each = refl
+pointwise-columns t f s (x ∷ xs) each =
     let first : s + 0 ≡ s = omega arith in
     both _ _ (ap (λ k. t x (f k)) (sym first) ∙ each 0 x refl)
-    (pointwise-places t f (s + 1) xs
+    (pointwise-columns t f (s + 1) xs
     (λ k y at. let later : s + suc k ≡ (s + 1) + k = omega arith in
     ap (λ n. t y (f n)) (sym later) ∙ each (suc k) y at))
 
@@ -239,9 +239,9 @@ module _ (table : Table) (is : IsWellFormedTable table) where
   abbrev name_at : ℕ → Column → List ℕ
   name_at i d = slice_index_or (map (λ (c : Column). c.name) columns) i d.name
 
-  -- two places with one name are one place
-  one_place : (i j : ℕ) (d : Column) → i < length columns → j < length columns → name_at i d ≡ name_at j d → i ≡ j
-  one_place i j d below under same =
+  -- two columns with one name are one column
+  one_column : (i j : ℕ) (d : Column) → i < length columns → j < length columns → name_at i d ≡ name_at j d → i ≡ j
+  one_column i j d below under same =
       let many = length-map columns (λ (c : Column). c.name) in
       elim (nat_lt i j) as (λ b. nat_lt i j ≡ b → i ≡ j) [
         | true ↦ λ less. absurd (is.distinct i j d.name (ltb-true i j less) (omega arith) same)
@@ -251,10 +251,10 @@ module _ (table : Table) (is : IsWellFormedTable table) where
         ] refl
       ] refl
 
-  -- the field that names a column has its place
-  place_named : (field : List ℕ) (i : ℕ) (c : Column) → slice_get columns i ≡ Some c → names field c
+  -- the field that names a column has its number
+  number_named : (field : List ℕ) (i : ℕ) (c : Column) → slice_get columns i ≡ Some c → names field c
       ≡ true → unwrap_or (position (names field) columns) 0 ≡ i
-  place_named field i c at on =
+  number_named field i c at on =
       let j = position_or_len (names field) columns in
       let there = some_position (names field) columns (any_at (names field) columns i c at on) in
       let found = position-Some (names field) columns j c there in
@@ -264,18 +264,18 @@ module _ (table : Table) (is : IsWellFormedTable table) where
       let same : d.name ≡ c.name = one_name field d c (is.columns j c found.0)
       (subst (λ (x : Column). IsName x.name) is_c (is.columns i c below)) found.1 on in
       ap (λ o. unwrap_or o 0) there
-      ∙ one_place j i c found.0 below
+      ∙ one_column j i c found.0 below
       (get_or-map (λ (x : Column). x.name) columns j c ∙ same ∙ ap (λ (x : Column). x.name) (sym is_c)
       ∙ sym (get_or-map (λ (x : Column). x.name) columns i c))
 
-  -- each column's place is among those of the fields
-  place_there : (header : Record) → is_header columns header ≡ true → (i : ℕ) (c : Column) → slice_get columns i
+  -- the number of each column is among those of the fields
+  number_there : (header : Record) → is_header columns header ≡ true → (i : ℕ) (c : Column) → slice_get columns i
       ≡ Some c → list_any (λ p. p == i) (file_order columns header) ≡ true
-  place_there header fine i c at =
+  number_there header fine i c at =
       let one = all_at (λ (c : Column). count_by (λ field. names field c) header == 1) columns i c
       (second_of _ _ fine) at in
       any_map (λ field. names field c) (λ p. p == i) (λ field. unwrap_or (position (names field) columns) 0)
-      (λ field on. eq-eqb _ i (place_named field i c at on)) header (any_of_one (λ field. names field c) header one)
+      (λ field on. eq-eqb _ i (number_named field i c at on)) header (any_of_one (λ field. names field c) header one)
     where
       all_at : {X : Type 0} (p : X → Bool) (xs : List X) (i : ℕ) (x : X) → list_all p xs ≡ true → slice_get xs i
           ≡ Some x → p x ≡ true
@@ -289,14 +289,14 @@ module _ (table : Table) (is : IsWellFormedTable table) where
     abbrev judge : ℕ × List ℕ → Result Value TableFault
     judge p = value_at row p.0 (slice_get columns p.0) p.1
 
-    -- what is given at the place of a column is a value of it
-    at_place : (i : ℕ) (c : Column) → slice_get columns i
+    -- what is given for a column is a value of it
+    at_column : (i : ℕ) (c : Column) → slice_get columns i
         ≡ Some c → (order : List ℕ) (fields : List (List ℕ)) (values : List Value)
         → all_ok (map judge (zip order fields)) ≡ Ok values
         → (j : ℕ) → slice_get order j ≡ Some i → j < length fields → is_value_of c (slice_index_or values j Null) ≡ true
-    at_place i c at [] fields values good j there below = cc
-    at_place i c at (o ∷ order) [] values good j there below = absurd (omega arith)
-    at_place i c at (o ∷ order) (f ∷ fields) values good zero there below =
+    at_column i c at [] fields values good j there below = cc
+    at_column i c at (o ∷ order) [] values good j there below = absurd (omega arith)
+    at_column i c at (o ∷ order) (f ∷ fields) values good zero there below =
         let parts = front_ok (judge (o, f)) (all_ok (map judge (zip order fields))) values good in
         let same : o ≡ i = cc in
         let given : value_at row i (Some c) f
@@ -304,12 +304,12 @@ module _ (table : Table) (is : IsWellFormedTable table) where
         ∙ ap (λ (n : ℕ). judge (n, f)) (sym same) ∙ parts.here in
         ap (λ (vs : List Value). is_value_of c (slice_index_or vs 0 Null)) parts.whole
         ∙ taken c.nullable c.col_type row i f parts.first given
-    at_place i c at (o ∷ order) (f ∷ fields) values good (suc j) there below =
+    at_column i c at (o ∷ order) (f ∷ fields) values good (suc j) there below =
         let parts = front_ok (judge (o, f)) (all_ok (map judge (zip order fields))) values good in
         ap (λ (vs : List Value). is_value_of c (slice_index_or vs (suc j) Null)) parts.whole
-        ∙ at_place i c at order fields parts.later parts.behind j there (omega arith)
+        ∙ at_column i c at order fields parts.later parts.behind j there (omega arith)
 
-    -- the row that a record stands for has a value for each column
+    -- the row that a record encodes has a value for each column
     pub row_taken : (header : Record) → is_header columns header
         ≡ true → (fields : Record) (r : Row) → row_of columns (file_order columns header) row fields
         ≡ Ok r → pointwise is_value_of columns r ≡ true
@@ -336,26 +336,26 @@ module _ (table : Table) (is : IsWellFormedTable table) where
             length-map header (λ field. unwrap_or (position (names field) columns) 0)
             ∙ eqb-true (length header) (length columns) (first_of _ _ fine) in
             ap (pointwise is_value_of columns) (sym is_row)
-            ∙ ap (λ n. pointwise is_value_of columns (map (value_of_place values) (range_with_len 0 n))) as_many
-            ∙ pointwise-places is_value_of (value_of_place values) 0 columns
+            ∙ ap (λ n. pointwise is_value_of columns (map (value_of_column values) (range_with_len 0 n))) as_many
+            ∙ pointwise-columns is_value_of (value_of_column values) 0 columns
             (λ k c at. here values is_read counted k c at)
           where
-            value_of_place : List Value → ℕ → Value
-            value_of_place values place = slice_index_or values (unwrap_or (position (λ p. p == place) order) 0) Null
+            value_of_column : List Value → ℕ → Value
+            value_of_column values i = slice_index_or values (unwrap_or (position (λ p. p == i) order) 0) Null
 
             here : (values : List Value) → file_values columns order row fields ≡ Ok values → length fields
                 ≡ length columns → (k : ℕ) (c : Column) → slice_get columns k
-                ≡ Some c → is_value_of c (value_of_place values (0 + k)) ≡ true
+                ≡ Some c → is_value_of c (value_of_column values (0 + k)) ≡ true
             here values is_read counted k c at =
                 let as_many : length order ≡ length columns =
                 length-map header (λ field. unwrap_or (position (names field) columns) 0)
                 ∙ eqb-true (length header) (length columns) (first_of _ _ fine) in
                 let start : 0 + k ≡ k = omega arith in
                 let j = position_or_len (λ p. p == k) order in
-                let found = some_position (λ p. p == k) order (place_there header fine k c at) in
-                let place = position-Some (λ p. p == k) order j 0 found in
-                let stands : slice_get order j ≡ Some k = slice_get-get_or order j 0 place.0
-                ∙ ap Some (eqb-true (get_or order j 0) k place.1) in
-                ap (λ n. is_value_of c (value_of_place values n)) start
+                let found = some_position (λ p. p == k) order (number_there header fine k c at) in
+                let found_at = position-Some (λ p. p == k) order j 0 found in
+                let stands : slice_get order j ≡ Some k = slice_get-get_or order j 0 found_at.0
+                ∙ ap Some (eqb-true (get_or order j 0) k found_at.1) in
+                ap (λ n. is_value_of c (value_of_column values n)) start
                 ∙ ap (λ o. is_value_of c (slice_index_or values (unwrap_or o 0) Null)) found
-                ∙ at_place k c at order fields values is_read j stands (let below = place.0 in omega arith)
+                ∙ at_column k c at order fields values is_read j stands (let below = found_at.0 in omega arith)

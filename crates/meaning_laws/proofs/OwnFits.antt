@@ -18,7 +18,7 @@ use Rattle.meaning.specs.declared.answer.RowFault.{RowFault}
 use Rattle.meaning.specs.declared.answer.Group.{Group}
 use Rattle.meaning.specs.Said.{Body}
 use Rattle.meaning.specs.declared.answer.Body.TheVariants.{Groups}
-use Rattle.meaning.specs.Order.{Row, column, row_cmp, least, lesser, is_ascending, placed_once, ascending_set}
+use Rattle.meaning.specs.Order.{Row, column, row_cmp, least, lesser, is_ascending, inserted_once, ascending_set}
 use Rattle.meaning.specs.Cut.{Cut, Numbered, numbered, first_row, fragment}
 use Rattle.meaning.specs.Joined.{combos}
 use Rattle.meaning.specs.Judge.{fault_cmp, first_fault, judged, row_faults, row_fault, kept_rows}
@@ -279,7 +279,7 @@ module _ (plan : Plan) (kept : List (Row × Row)) (typed : list_all (is_kept pla
   one_empty (x ∷ xs) e =
       ap (λ row. ascending_set row_cmp ([] ∷ row ∷ xs))
       (empty_row x (all_first (λ row. pointwise (λ (k : GroupingKey) v. is_of_type k.col_type v) [] row) x xs e))
-      ∙ ap (placed_once row_cmp []) (one_empty xs
+      ∙ ap (inserted_once row_cmp []) (one_empty xs
       (all_rest (λ row. pointwise (λ (k : GroupingKey) v. is_of_type k.col_type v) [] row) x xs e))
 
   no_empty_group : certain ≡ [] → list_all (λ (g : Group). nat_le 1 g.rows) known ≡ true

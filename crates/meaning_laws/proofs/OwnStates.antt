@@ -13,7 +13,7 @@ use Rattle.meaning.specs.Order.{Row}
 use Rattle.meaning.specs.Cut.{Cut, numbered, fragment, part}
 use Rattle.meaning.specs.Meaning.{meaning}
 use Rattle.meaning.specs.Answer.{own, own_body, combined, output_of}
-use Rattle.meaning.specs.Gather.{join_cells, cell_of, said_of, joined, body_in, is_one, places, output, preview, report}
+use Rattle.meaning.specs.Gather.{join_cells, cell_of, said_of, joined, body_in, is_one, fragments_where, output, preview, report}
 use Rattle.meaning_laws.specs.Laws.{among, own_answers}
 use Rattle.meaning_laws.proofs.Cells.{join_cells_same, cell_of-cons}
 use Rattle.meaning_laws.proofs.Combine.{output_of-combined}
@@ -144,9 +144,9 @@ module _ (plan : Plan) (dims : List (List Row)) (cut : Cut) (rows : List Row) wh
   -- the preview of such a state is the meaning over the rows of the fragments that hold one answer
   pub preview-cells : (cells : List Cell)
       → ((k : ℕ) (b : Body) → slice_get cells k ≡ Some (One b) → b ≡ own_body plan dims (fragment cut k rows))
-      → preview plan cells ≡ meaning plan dims (part cut (places is_one cells) rows)
+      → preview plan cells ≡ meaning plan dims (part cut (fragments_where is_one cells) rows)
   preview-cells cells own =
       ap (λ bs. output_of plan (combined plan bs))
       (bodies_of-own 0 cells (λ k b at. let first : k ≡ 0 + k = omega arith in own k b at ∙ ap own_at first))
-      ∙ output_of-combined plan dims (map (λ k. fragment cut k rows) (places is_one cells))
-      ∙ ap (λ table. meaning plan dims table) (fragments (places is_one cells))
+      ∙ output_of-combined plan dims (map (λ k. fragment cut k rows) (fragments_where is_one cells))
+      ∙ ap (λ table. meaning plan dims table) (fragments (fragments_where is_one cells))

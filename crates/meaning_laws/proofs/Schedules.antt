@@ -45,7 +45,7 @@ module _ (cut : Cut) where
         saved = map (joined cut) w.saved;
       }
 
-  -- a list with the state of a set at one place
+  -- a list with the state of a set at one index
   put : (sets : List Answers) (i : ℕ) (answers : Answers) (c : State) → c
       ≡ joined cut answers → slice_set (map (joined cut) sets) i c ≡ map (joined cut) (slice_set sets i answers)
   put sets i answers c e = ap (slice_set (map (joined cut) sets) i) e ∙ sym (map-set (joined cut) sets i answers)

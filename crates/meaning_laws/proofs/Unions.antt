@@ -8,7 +8,7 @@ use Rattle.std.specs.declared.cmp.Ordering.{Ordering}
 use Rattle.std.specs.declared.cmp.Ordering.TheVariants.{Less, Equal, Greater}
 use Rattle.std.proofs.Common.{refl, sym, ap, ◌∙◌}
 use Rattle.std.proofs.lemmas.List.{append-nil}
-use Rattle.meaning.specs.Order.{placed_once, ascending_set, union}
+use Rattle.meaning.specs.Order.{inserted_once, ascending_set, union}
 use Rattle.meaning.proofs.Groups.{list_any-append}
 use Rattle.meaning.proofs.Sets.{any-ascending_set, same_ascending_set, ascending_set_itself, is_ascending-ascending_set}
 use Rattle.meaning.proofs.Tests.{or_turned}
@@ -27,13 +27,13 @@ module _ {X : Type 0} {cmp : X → X → Ordering} (o : IsTotalOrder cmp) (exact
   abbrev Some' : List X → Type 0
   Some' xs = (x : X) × (rest : List X) × (xs ≡ x ∷ rest)
 
-  placed_some : (x : X) (ys : List X) → Some' (placed_once cmp x ys)
-  placed_some x [] = (x, [], refl)
-  placed_some x (y ∷ ys) =
-      elim (cmp x y) as (λ r. Some' (match_ordering r (x ∷ y ∷ ys) (y ∷ ys) (y ∷ placed_once cmp x ys))) [
+  inserted_some : (x : X) (ys : List X) → Some' (inserted_once cmp x ys)
+  inserted_some x [] = (x, [], refl)
+  inserted_some x (y ∷ ys) =
+      elim (cmp x y) as (λ r. Some' (match_ordering r (x ∷ y ∷ ys) (y ∷ ys) (y ∷ inserted_once cmp x ys))) [
         | Less ↦ (x, y ∷ ys, refl)
         | Equal ↦ (y, ys, refl)
-        | Greater ↦ (y, placed_once cmp x ys, refl)
+        | Greater ↦ (y, inserted_once cmp x ys, refl)
       ]
 
   same_sets : (xs ys : List X) → ((q : X) → list_any (eq_by_cmp cmp q) xs ≡ list_any (eq_by_cmp cmp q) ys) → set xs
@@ -91,10 +91,10 @@ module _ {X : Type 0} {cmp : X → X → Ordering} (o : IsTotalOrder cmp) (exact
       union_none [] = refl
       union_none (x ∷ xs) = refl
   union-assoc (x ∷ xs) (y ∷ ys) (z ∷ zs) =
-      union_some (set ((x ∷ xs) ++ (y ∷ ys))) (z ∷ zs) (placed_some x (set (xs ++ (y ∷ ys)))) (z, zs, refl)
+      union_some (set ((x ∷ xs) ++ (y ∷ ys))) (z ∷ zs) (inserted_some x (set (xs ++ (y ∷ ys)))) (z, zs, refl)
       ∙ set_left ((x ∷ xs) ++ (y ∷ ys)) (z ∷ zs) ∙ set_together (x ∷ xs) (y ∷ ys) (z ∷ zs)
       ∙ sym (set_right (x ∷ xs) ((y ∷ ys) ++ (z ∷ zs)))
-      ∙ sym (union_some (x ∷ xs) (set ((y ∷ ys) ++ (z ∷ zs))) (x, xs, refl) (placed_some y (set (ys ++ (z ∷ zs)))))
+      ∙ sym (union_some (x ∷ xs) (set ((y ∷ ys) ++ (z ∷ zs))) (x, xs, refl) (inserted_some y (set (ys ++ (z ∷ zs)))))
 
   pub union_none : (xs : List X) → union cmp xs [] ≡ xs
   union_none [] = refl
@@ -105,5 +105,5 @@ module _ {X : Type 0} {cmp : X → X → Ordering} (o : IsTotalOrder cmp) (exact
   set-append [] ys = refl
   set-append (x ∷ xs) [] = ap set (append-nil (x ∷ xs)) ∙ sym (union_none (set (x ∷ xs)))
   set-append (x ∷ xs) (y ∷ ys) =
-      sym (union_some (set (x ∷ xs)) (set (y ∷ ys)) (placed_some x (set xs)) (placed_some y (set ys))
+      sym (union_some (set (x ∷ xs)) (set (y ∷ ys)) (inserted_some x (set xs)) (inserted_some y (set ys))
       ∙ set_left (x ∷ xs) (set (y ∷ ys)) ∙ set_right (x ∷ xs) (y ∷ ys))

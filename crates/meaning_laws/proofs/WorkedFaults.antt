@@ -1,4 +1,4 @@
--- Worked examples: which of several faults is told, and which are not met.
+-- Worked examples: which of several faults is reported, and which are not met.
 use Rattle.std.specs.Prelude.{◌≡◌, [], ◌∷◌, Some, codes}
 use Rattle.std.specs.Fmt.{digits}
 use Rattle.meaning.specs.declared.value.Value.TheVariants.{Int}

@@ -98,9 +98,9 @@ more_rows = record {
       Groups (record { key = []; rows = 3; states = record no_statistics { count = 2 } ∷ [] } ∷ []);
 }
 
-row_counts_tell_apart : after (first ∷ more_rows ∷ []) ≡ codes "conflict: 0\n"
+row_counts_report_apart : after (first ∷ more_rows ∷ []) ≡ codes "conflict: 0\n"
 unfolding digits
-row_counts_tell_apart = simp evaluation
+row_counts_report_apart = simp evaluation
 
 -- a fault and groups, and two faults
 abbrev faulted : ℕ → ℕ → Answer
@@ -120,7 +120,7 @@ nothing_heard : after [] ≡ codes "missing: 0 1\n"
 unfolding digits
 nothing_heard = refl
 
--- a conflict is told before a missing fragment
+-- a conflict is reported before a missing fragment
 conflict_beside_a_missing_fragment : after (first ∷ other ∷ []) ≡ codes "conflict: 0\n"
 unfolding digits
 conflict_beside_a_missing_fragment = simp evaluation
@@ -174,54 +174,54 @@ plain_answer_of_no_rows = refl
 -- ---- events
 
 -- the first query's report of one of two coordinators, after some events
-abbrev told : ℕ → List Event → List ℕ
-told i events = report_text count_plan (report count_plan (joined (2 ∷ 3 ∷ []) (heard 2 i events)))
+abbrev returned : ℕ → List Event → List ℕ
+returned i events = report_text count_plan (report count_plan (joined (2 ∷ 3 ∷ []) (heard 2 i events)))
 
 -- coordinator 0 shares its answer with coordinator 1
 abbrev shared : List Event
 shared = post (Some first) ∷ post (Some second) ∷ take 0 0 ∷ take 1 1 ∷ share 0 ∷ take 1 2 ∷ []
 
-shared_by_0 : told 0 shared ≡ codes "missing: 1\n"
+shared_by_0 : returned 0 shared ≡ codes "missing: 1\n"
 unfolding digits
 shared_by_0 = refl
 
-shared_with_1 : told 1 shared ≡ codes "c1\n5\n"
+shared_with_1 : returned 1 shared ≡ codes "c1\n5\n"
 unfolding digits
 shared_with_1 = simp evaluation
 
 -- what came behind the last save is lost at a restart, and all where nothing was saved
-restarted_as_saved : told 0 (shared ++ save 0 ∷ take 0 1 ∷ restart 0 ∷ []) ≡ codes "missing: 1\n"
+restarted_as_saved : returned 0 (shared ++ save 0 ∷ take 0 1 ∷ restart 0 ∷ []) ≡ codes "missing: 1\n"
 unfolding digits
 restarted_as_saved = refl
 
-saved_twice : told 0 (shared ++ save 0 ∷ take 0 1 ∷ save 0 ∷ restart 0 ∷ []) ≡ codes "c1\n5\n"
+saved_twice : returned 0 (shared ++ save 0 ∷ take 0 1 ∷ save 0 ∷ restart 0 ∷ []) ≡ codes "c1\n5\n"
 unfolding digits
 saved_twice = simp evaluation
 
-restarted_from_nothing : told 1 (shared ++ restart 1 ∷ []) ≡ codes "missing: 0 1\n"
+restarted_from_nothing : returned 1 (shared ++ restart 1 ∷ []) ≡ codes "missing: 0 1\n"
 unfolding digits
 restarted_from_nothing = refl
 
 -- a packet holds what its sender had heard when it was sent
-shared_before : told 1 (post (Some first) ∷ share 0 ∷ take 0 0 ∷ take 1 1 ∷ []) ≡ codes "missing: 0 1\n"
+shared_before : returned 1 (post (Some first) ∷ share 0 ∷ take 0 0 ∷ take 1 1 ∷ []) ≡ codes "missing: 0 1\n"
 unfolding digits
 shared_before = refl
 
 -- bytes that spell no answer make a packet, and a take of it or of no packet changes nothing
-no_answer : told 0 (post None ∷ post (Some second) ∷ take 0 0 ∷ take 0 9 ∷ []) ≡ codes "missing: 0 1\n"
+no_answer : returned 0 (post None ∷ post (Some second) ∷ take 0 0 ∷ take 0 9 ∷ []) ≡ codes "missing: 0 1\n"
 unfolding digits
 no_answer = refl
 
-no_answer_is_a_packet : told 0 (post None ∷ post (Some second) ∷ take 0 0 ∷ take 0 1 ∷ []) ≡ codes "missing: 0\n"
+no_answer_is_a_packet : returned 0 (post None ∷ post (Some second) ∷ take 0 0 ∷ take 0 1 ∷ []) ≡ codes "missing: 0\n"
 unfolding digits
 no_answer_is_a_packet = refl
 
 -- a share, a take, a save and a restart of a coordinator that isn't there change nothing: the share makes no packet
-nobody : told 0 (share 7 ∷ post (Some second) ∷ take 0 0 ∷ take 7 0 ∷ save 7 ∷ restart 7 ∷ []) ≡ codes "missing: 0\n"
+nobody : returned 0 (share 7 ∷ post (Some second) ∷ take 0 0 ∷ take 7 0 ∷ save 7 ∷ restart 7 ∷ []) ≡ codes "missing: 0\n"
 unfolding digits
 nobody = refl
 
 -- a packet may be taken again, and by several
-taken_again : told 0 (shared ++ take 0 0 ∷ take 0 1 ∷ take 0 2 ∷ take 0 1 ∷ []) ≡ codes "c1\n5\n"
+taken_again : returned 0 (shared ++ take 0 0 ∷ take 0 1 ∷ take 0 2 ∷ take 0 1 ∷ []) ≡ codes "c1\n5\n"
 unfolding digits
 taken_again = simp evaluation

@@ -54,7 +54,7 @@ within : matches (codes "%ab%") (codes "ab" ∷ codes "cabc" ∷ codes "aab" ∷
 unfolding is_like chars
 within = refl
 
--- the run that `%` stands for is none that is tried first
+-- the run that `%` matches is not the one that is tried first
 runs_tried_again : matches (codes "a%b") (codes "abcab" ∷ codes "abcac" ∷ codes "b" ∷ codes "ab" ∷ [])
     ≡ true ∷ false ∷ false ∷ true ∷ []
 unfolding is_like chars

@@ -1,4 +1,4 @@
--- Worked examples: the table that the records of a CSV file stand for, and how a table is cut.
+-- Worked examples: the table that the records of a CSV file encode, and how a table is cut.
 use Rattle.std.proofs.Common.{◌≡◌, ℕ, pos, negsuc, true, false, List, [], ◌∷◌, map, replicate, codes, Some, Result, Ok, Err, refl}
 use lib.Utf8.{encode}
 use Rattle.std.specs.Str.{is_utf8, chars}
@@ -123,6 +123,6 @@ cut_refusals : map cut_of ([] ∷ (0 ∷ []) ∷ (1048576 ∷ 0 ∷ 3 ∷ []) �
     ≡ Err NoFragment ∷ Ok (0 ∷ []) ∷ Ok (1048576 ∷ 0 ∷ 3 ∷ []) ∷ Err FragmentTooLong ∷ []
 cut_refusals = refl
 
--- too many fragments are told before one that is too long
+-- too many fragments are reported before one that is too long
 many_before_long : cut_of (1048577 ∷ replicate 4096 0) ≡ Err TooManyFragments
 many_before_long = refl

@@ -24,7 +24,7 @@ use Rattle.meaning.specs.Group.{group_of, kept_groups, merge_groups, merged_grou
 use Rattle.meaning.specs.Finish.{order_cmp}
 use Rattle.meaning.specs.Meaning.{meaning}
 use Rattle.meaning.specs.Answer.{own, own_body, combined, read_off}
-use Rattle.meaning.specs.Gather.{same_body, join_cells, said_of, joined, is_conflict, is_nothing, is_one, places, conflict, missing, output, preview, report}
+use Rattle.meaning.specs.Gather.{same_body, join_cells, said_of, joined, is_conflict, is_nothing, is_one, fragments_where, conflict, missing, output, preview, report}
 use Rattle.meaning_laws.specs.Heard.{Event, heard}
 use Rattle.meaning_laws.specs.Running.{state_after}
 use Rattle.meaning.specs.Fitting.{is_group_of, is_group_possible, fits}
@@ -116,7 +116,7 @@ PreviewsAreMeanings = (plan : Plan) (dims : List (List Row)) (cut : Cut) (rows :
 abbrev pub PreviewsOfOwnAnswers : Type 0
 PreviewsOfOwnAnswers = (plan : Plan) (dims : List (List Row)) (cut : Cut) (rows : List Row) (cells : List Cell)
     → ((k : ℕ) (b : Body) → slice_get cells k ≡ Some (One b) → b ≡ own_body plan dims (fragment cut k rows))
-    → preview plan cells ≡ meaning plan dims (part cut (places is_one cells) rows)
+    → preview plan cells ≡ meaning plan dims (part cut (fragments_where is_one cells) rows)
 
 -- coordinators that hold cells alone hold after any events the states of what they have heard
 abbrev pub StatesOfHeard : Type 0
@@ -140,16 +140,16 @@ FragmentsCombine = (plan : Plan) (dims : List (List Row)) (cut : Cut) (rows : Li
 
 -- a conflict is reported before anything is missing, and missing fragments before anything else
 pub record ReportsInOrder (plan : Plan) (cells : List Cell) : Type 0 where
-  pub conflicts : list_any is_conflict cells ≡ true → report plan cells ≡ conflict (places is_conflict cells)
+  pub conflicts : list_any is_conflict cells ≡ true → report plan cells ≡ conflict (fragments_where is_conflict cells)
   pub absent : list_any is_conflict cells ≡ false → list_any is_nothing cells ≡ true → report plan cells
-      ≡ missing (places is_nothing cells)
+      ≡ missing (fragments_where is_nothing cells)
   pub complete : list_any is_conflict cells ≡ false → list_any is_nothing cells ≡ false → report plan cells
       ≡ output (preview plan cells)
 
--- the places of the cells that pass a test are just those, ascending
-pub record PlacesAscend (test : Cell → Bool) (cells : List Cell) : Type 0 where
-  pub ascends : is_ascending nat_cmp (places test cells) ≡ true
-  pub just : (k : ℕ) → list_any (λ j. j == k) (places test cells) ≡ option_map_or test (slice_get cells k) false
+-- the numbers of the cells that pass a test are just those, ascending
+pub record FragmentsAscend (test : Cell → Bool) (cells : List Cell) : Type 0 where
+  pub ascends : is_ascending nat_cmp (fragments_where test cells) ≡ true
+  pub just : (k : ℕ) → list_any (λ j. j == k) (fragments_where test cells) ≡ option_map_or test (slice_get cells k) false
 
 -- where the dimensions' keys are unique, a fact row has at most one combination
 abbrev pub OneCombination : Type 0
@@ -183,7 +183,7 @@ pub record SetsUnite {X : Type 0} (cmp : X → X → Ordering) : Type 0 where
   pub together : (xs ys : List X) → ascending_set cmp (xs ++ ys)
       ≡ union cmp (ascending_set cmp xs) (ascending_set cmp ys)
 
--- groups that fit are merged into one that fits, and what is read off one has the types that the plan tells
+-- groups that fit are merged into one that fits, and what is read off one has the types that the plan gives
 pub record GroupsFit (plan : Plan) : Type 0 where
   pub shaped : (a b : Group) → is_group_of plan a ≡ true → is_group_of plan b ≡ true
       → is_group_of plan (merge_groups a b) ≡ true
@@ -215,5 +215,5 @@ abbrev pub Headline : Type 0
 Headline = (plan : Plan) (dims : List (List Row)) (cut : Cut) (rows : List Row) (answers : List Answer)
     → sum cut ≡ length rows
     → ((k : ℕ) → k < length cut → Contains answers (own plan dims cut rows k))
-    → places is_conflict (joined cut answers) ≡ []
+    → fragments_where is_conflict (joined cut answers) ≡ []
     → report_text plan (report plan (joined cut answers)) ≡ output_text plan (meaning plan dims (numbered rows))

@@ -8,7 +8,7 @@ ghost use Rattle.meaning.specs.declared.plan.OrderKey.{OrderKey};
 ghost use Rattle.meaning.specs.declared.plan.Plan.{Plan};
 ghost use Rattle.meaning.specs.Finish.{order_cmp};
 ghost use Rattle.meaning.specs.Order.{row_cmp, value_cmp};
-ghost use Rattle.meaning_laws.specs.Laws.{CellsJoin, StatesJoin, StatisticsMerge, StatisticsServe, SetsAscend, FaultsCombine, AnswersCombine, GroupsMerge, PreviewsAreMeanings, WholeFromParts, PreviewsOfOwnAnswers, StatesOfHeard, KeptGroupsMerge, Sorts, SetsContain, SetsUnite, GroupsFit, JoinedRowsAreMatches, FragmentsCombine, ReportsInOrder, PlacesAscend, OneCombination, OwnAnswersFit, SortsAreEqual, JoinsAreLookups, Headline};
+ghost use Rattle.meaning_laws.specs.Laws.{CellsJoin, StatesJoin, StatisticsMerge, StatisticsServe, SetsAscend, FaultsCombine, AnswersCombine, GroupsMerge, PreviewsAreMeanings, WholeFromParts, PreviewsOfOwnAnswers, StatesOfHeard, KeptGroupsMerge, Sorts, SetsContain, SetsUnite, GroupsFit, JoinedRowsAreMatches, FragmentsCombine, ReportsInOrder, FragmentsAscend, OneCombination, OwnAnswersFit, SortsAreEqual, JoinsAreLookups, Headline};
 ghost use Rattle.meaning.specs.ExpressionLaws.{ReadsColumnsUsed, JudgesColumnsUsed, EvaluationIsTyped, ConditionsFilter, LikeByBytes};
 ghost use Rattle.meaning.specs.TableLaws.{TablesAreTyped, KeysAreUnique, LoadedTablesFit};
 
@@ -71,7 +71,7 @@ pub fn fragments_combine()
 /// A conflict is reported first, then what is missing; both are named in ascending order.
 pub fn reports_in_order()
     ensures order { (plan : Plan) (cells : List Cell) → ReportsInOrder plan cells }
-    ensures places { (test : Cell → Bool) (cells : List Cell) → PlacesAscend test cells }
+    ensures fragments { (test : Cell → Bool) (cells : List Cell) → FragmentsAscend test cells }
 {}
 
 /// A fact row meets at most one row of each dimension.
@@ -161,7 +161,7 @@ pub fn loaded_tables_fit()
     ensures { LoadedTablesFit }
 {}
 
-/// Sets are a commutative monoid under union, also where a list of no element stands for none.
+/// Sets are a commutative monoid under union, also where one of them is a list of no element.
 pub fn sets_unite()
     ensures rows { SetsUnite row_cmp }
     ensures values { SetsUnite value_cmp }

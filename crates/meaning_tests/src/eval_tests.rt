@@ -1,12 +1,9 @@
 //! Each node over NULL, faults and values.
-use meaning::boxed::Boxed;
-use meaning::expr::{ArithmeticOperator, Arm, ComparisonOperator, Expr};
-use meaning::joined_row::JoinedRow;
-use meaning::outcome::{Outcome, Truth};
-use meaning::sequence::Sequence;
-use meaning::text::Text;
-use meaning::value::{Row, Value};
-use row_evaluation::eval::eval_row;
+use meaning::{
+    ArithmeticOperator, Arm, Boxed, ComparisonOperator, Expr, JoinedRow, Outcome, Row, Sequence,
+    Text, Truth, Value,
+};
+use row_evaluation::eval_row;
 use std::alloc::{AllocError, Global};
 use std::mem::drop;
 use std::process::Abort;
@@ -138,7 +135,7 @@ fn row(alloc: Global) -> Result<JoinedRow, AllocError> {
     })
 }
 
-fn truth_told(truth: Truth) -> &'static str {
+fn truth_returned(truth: Truth) -> &'static str {
     match truth {
         Truth::False => "FALSE",
         Truth::Unknown => "UNKNOWN",
@@ -146,29 +143,29 @@ fn truth_told(truth: Truth) -> &'static str {
     }
 }
 
-fn outcome_told(alloc: Global, outcome: &Outcome) -> Result<String, AllocError> {
+fn outcome_returned(alloc: Global, outcome: &Outcome) -> Result<String, AllocError> {
     match outcome {
         Outcome::Value(Value::Null) => String::from_str(alloc, "NULL"),
         Outcome::Value(Value::Int(n)) => format!(in alloc; "{n}"),
         Outcome::Value(Value::Text(text)) => String::from_str(alloc, text.as_str()),
-        Outcome::Truth(truth) => String::from_str(alloc, truth_told(*truth)),
+        Outcome::Truth(truth) => String::from_str(alloc, truth_returned(*truth)),
         Outcome::Fault(fault) => format!(in alloc; "fault {}", fault.code()),
     }
 }
 
-/// What is told of what the expression gives on the row.
-fn told(alloc: Global, expr: &Expr) -> Result<String, AllocError> {
+/// The text of what the expression gives on the row.
+fn returned(alloc: Global, expr: &Expr) -> Result<String, AllocError> {
     let row = row(alloc)?;
     let outcome = eval_row(alloc, expr, &row);
     drop(row);
-    outcome_told(alloc, &outcome?)
+    outcome_returned(alloc, &outcome?)
 }
 
 fn expect(rt: &impl Abort, alloc: Global, expr: Built, want: &str) -> Result<(), AllocError> {
     let expr = expr?;
-    let told = told(alloc, &expr);
+    let returned = returned(alloc, &expr);
     drop(expr);
-    assert_eq!(rt; told?.as_str(), want);
+    assert_eq!(rt; returned?.as_str(), want);
     Ok(())
 }
 
@@ -234,7 +231,7 @@ fn a_join_lends_its_columns(rt: HostRuntime) -> Result<(), AllocError> {
     let expr = equal(
         alloc,
         Ok(Expr::Column(1)),
-        Ok(Expr::Joined { join: 0, place: 0 }),
+        Ok(Expr::Joined { join: 0, column: 0 }),
     );
     expect(&rt, alloc, expr, "TRUE")
 }

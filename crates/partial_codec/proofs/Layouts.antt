@@ -1,4 +1,4 @@
--- What is told of the fields that were kept is what is told of those that were read.
+-- What is returned of the fields that were kept is what is returned of those that were read.
 use Rattle.std.proofs.Common.{◌≡◌, ℕ, Bool, true, false, ◌&&◌, eqb, List, length, Result, Ok, Err, refl, sym, ap, subst, ◌∙◌}
 use Rattle.std.specs.Prelude.{not, if◌then◌else◌, nat_lt, slice_index}
 use Rattle.meaning.specs.Cut.{first_row}
@@ -61,10 +61,10 @@ module _ (plan : Plan) (k first rows : ℕ) (body : Body) where
   behind_shape : IsReadBody plan body → (if not (is_shaped plan body) then Err fault.Shape else of_read) ≡ (if not (is_typed plan (kept_body body)) then Err fault.Shape else of_kept)
   behind_shape is = rw (is.typed, body_typed plan body, numbers_same is) refl
 
-  pub body_told : (shape : Shape) → WasRead shape body
+  pub body_returned : (shape : Shape) → WasRead shape body
       → (if not (is_same_shape shape (shape_of plan) && is_shaped plan body) then Err fault.Shape else of_read)
       ≡ (if not (is_same_shape shape (shape_of plan)) then Err fault.Shape else if not (is_typed plan (kept_body body)) then Err fault.Shape else of_kept)
-  body_told shape was =
+  body_returned shape was =
       elim (is_same_shape shape (shape_of plan)) as (λ b. is_same_shape shape (shape_of plan) ≡ b →
       (if not (b && is_shaped plan body) then Err fault.Shape else of_read) ≡ (if not b then Err fault.Shape else if not (is_typed plan (kept_body body)) then Err fault.Shape else of_kept)) [
         | true ↦ λ e. behind_shape (read_by_plan plan shape body was e)
@@ -95,23 +95,23 @@ read_parts job read was =
     if not (eqb read.load job.load) then Err fault.OtherLoad
     else if not (same_bytes read.text job.plan.text) then Err fault.OtherQuery
     else if not (same_bytes read.cut job.cut && nat_lt read.k (length job.cut)) then Err fault.OtherCut
-    else x) (body_told job.plan read.k (first_row job.cut read.k) (slice_index job.cut read.k) read.body read.shape was)
+    else x) (body_returned job.plan read.k (first_row job.cut read.k) (slice_index job.cut read.k) read.body read.shape was)
 
-pub layout_told : (job : JobSpec) (l : Held) (read : Layout) → IsLayout l read → WasRead read.shape read.body → held_against job read ≡ layout_held_by job l
-layout_told job l read is was =
+pub layout_returned : (job : JobSpec) (l : Held) (read : Layout) → IsLayout l read → WasRead read.shape read.body → held_against job read ≡ layout_held_by job l
+layout_returned job l read is was =
     let parts : by_parts job l.job.load l.job.text.now (words l.job.fragments l.job.cut.now) l.k (shape_in l.shape) l.body l.are_sums_possible
     ≡ by_parts job read.load read.text read.cut read.k read.shape (kept_body read.body) (are_sums_possible read.body) =
     λ i. by_parts job (is.job.load i) (is.job.text i) (is.job.cut i) (is.k i) (is.shape i) (is.body i) (is.possible i) in
     read_parts job read was ∙ sym parts ∙ held_parts job l
 
--- what is told of sealed bytes
-pub judged_told : (job : JobSpec) (bytes rest seal behind end : List ℕ) (l : Held) → (y : Layout × List ℕ) × (layout_at bytes ≡ Ok y) × (IsLayout l y.0 × (rest ≡ y.1)) → bytes_at 32 rest ≡ Ok (seal, behind) → sealed_end bytes seal behind ≡ Ok end
+-- what is returned of sealed bytes
+pub judged_returned : (job : JobSpec) (bytes rest seal behind end : List ℕ) (l : Held) → (y : Layout × List ℕ) × (layout_at bytes ≡ Ok y) × (IsLayout l y.0 × (rest ≡ y.1)) → bytes_at 32 rest ≡ Ok (seal, behind) → sealed_end bytes seal behind ≡ Ok end
     → judged job bytes ≡ layout_held_by job l
 unfolding judged
-judged_told job bytes rest seal behind end l (y, read, is) sealed ended =
+judged_returned job bytes rest seal behind end l (y, read, is) sealed ended =
     let here : bytes_at 32 y.1 ≡ Ok (seal, behind) = ap (bytes_at 32) (sym is.1) ∙ sealed in
-    rw (read, here, ended) (layout_told job l y.0 is.0 (layout_was_read bytes y read))
+    rw (read, here, ended) (layout_returned job l y.0 is.0 (layout_was_read bytes y read))
 
-pub if_memory : {E X Y : Type 0} (memory : E) (view : X → Y) (r : Result X E) (read told : Result Y E) → read ≡ told → Reads view r told → GivesIfMemory memory view r read
-if_memory memory view (Ok x) read told same reads = same ∙ reads
-if_memory memory view (Err e) read told same reads = λ not_memory. same ∙ reads
+pub if_memory : {E X Y : Type 0} (memory : E) (view : X → Y) (r : Result X E) (read returned : Result Y E) → read ≡ returned → Reads view r returned → GivesIfMemory memory view r read
+if_memory memory view (Ok x) read returned same reads = same ∙ reads
+if_memory memory view (Err e) read returned same reads = λ not_memory. same ∙ reads

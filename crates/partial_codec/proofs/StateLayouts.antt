@@ -1,4 +1,4 @@
--- What is told of the cells that were kept is what is told of those that were read.
+-- What is returned of the cells that were kept is what is returned of those that were read.
 use Rattle.std.proofs.Common.{◌≡◌, ℕ, zero, suc, Bool, true, false, ◌&&◌, eqb, List, [], ◌∷◌, length, map, Result, Ok, Err, refl, sym, ap, subst, ◌∙◌, arith}
 use Rattle.std.specs.Prelude.{not, if◌then◌else◌, slice_index}
 use Rattle.std.specs.List.{list_all, AllByRecursion}
@@ -98,23 +98,23 @@ cells_typed plan (cell ∷ cells) are = rw (cell_typed plan cell are.0, cells_ty
 
 -- ---- order and numbers, fragment by fragment
 
-body_told : (plan : Plan) (first rows : ℕ) (body : Body) → IsReadBody plan body → body_held plan first rows body ≡ body_held_by plan first rows (kept_body body) (are_sums_possible body)
+body_returned : (plan : Plan) (first rows : ℕ) (body : Body) → IsReadBody plan body → body_held plan first rows body ≡ body_held_by plan first rows (kept_body body) (are_sums_possible body)
 unfolding body_held
-body_told plan first rows body is =
+body_returned plan first rows body is =
     elim (are_sums_possible body) as (λ b. are_sums_possible body ≡ b → body_held plan first rows body ≡ body_held_by plan first rows (kept_body body) (are_sums_possible body)) [
       | true ↦ λ e. rw (body_same body e, e) refl
       | false ↦ λ e. rw (body_ascending body, body_numbers plan first rows body is, e) refl
     ] refl
 
-cell_told : (plan : Plan) (first rows : ℕ) (cell : Cell) → IsReadCell plan cell → cell_held plan first rows cell ≡ cell_held_by plan first rows (kept_cell cell) (is_cell_possible cell)
-cell_told plan first rows Nothing is = refl
-cell_told plan first rows (One body) is = body_told plan first rows body is
-cell_told plan first rows Conflict is = refl
+cell_returned : (plan : Plan) (first rows : ℕ) (cell : Cell) → IsReadCell plan cell → cell_held plan first rows cell ≡ cell_held_by plan first rows (kept_cell cell) (is_cell_possible cell)
+cell_returned plan first rows Nothing is = refl
+cell_returned plan first rows (One body) is = body_returned plan first rows body is
+cell_returned plan first rows Conflict is = refl
 
-cells_told : (job : JobSpec) (k : ℕ) (cells : List Cell) → AllByRecursion (IsReadCell job.plan) cells → cells_held job k cells ≡ cells_held_by job k (map kept_cell cells) (map is_cell_possible cells)
+cells_returned : (job : JobSpec) (k : ℕ) (cells : List Cell) → AllByRecursion (IsReadCell job.plan) cells → cells_held job k cells ≡ cells_held_by job k (map kept_cell cells) (map is_cell_possible cells)
 unfolding cells_held cells_held_by
-cells_told job k [] are = refl
-cells_told job k (cell ∷ cells) are = rw (cell_told job.plan (first_row job.cut k) (slice_index job.cut k) cell are.0, cells_told job (suc k) cells are.1) refl
+cells_returned job k [] are = refl
+cells_returned job k (cell ∷ cells) are = rw (cell_returned job.plan (first_row job.cut k) (slice_index job.cut k) cell are.0, cells_returned job (suc k) cells are.1) refl
 
 -- ---- where all is in order, what is kept is what was read
 
@@ -150,17 +150,17 @@ module _ (job : JobSpec) (cells : List Cell) where
 
   held_same : AllByRecursion (IsReadCell job.plan) cells → of_read ≡ of_kept
   held_same are =
-      ap (λ (r : Result (Unit {0}) DecodeFault). r >>= λ held. Ok cells) (cells_told job 0 cells are)
+      ap (λ (r : Result (Unit {0}) DecodeFault). r >>= λ held. Ok cells) (cells_returned job 0 cells are)
       ∙ finish (cells_held_by job 0 (map kept_cell cells) (map is_cell_possible cells)) cells (map kept_cell cells) (cells_same job 0 cells)
 
   behind_shape : AllByRecursion (IsReadCell job.plan) cells
       → (if not (list_all (is_cell_shaped job.plan) cells) then Err fault.Shape else of_read) ≡ (if not (list_all (is_cell_typed job.plan) (map kept_cell cells)) then Err fault.Shape else of_kept)
   behind_shape are = rw (cells_typed job.plan cells are, held_same are) refl
 
-  types_told : (shape : Shape) → (is_same_shape shape (shape_of job.plan) ≡ true → AllByRecursion (IsReadCell job.plan) cells)
+  types_returned : (shape : Shape) → (is_same_shape shape (shape_of job.plan) ≡ true → AllByRecursion (IsReadCell job.plan) cells)
       → (if not (is_same_shape shape (shape_of job.plan) && list_all (is_cell_shaped job.plan) cells) then Err fault.Shape else of_read)
       ≡ (if not (is_same_shape shape (shape_of job.plan)) then Err fault.Shape else if not (list_all (is_cell_typed job.plan) (map kept_cell cells)) then Err fault.Shape else of_kept)
-  types_told shape are =
+  types_returned shape are =
       elim (is_same_shape shape (shape_of job.plan)) as (λ b. is_same_shape shape (shape_of job.plan) ≡ b →
       (if not (b && list_all (is_cell_shaped job.plan) cells) then Err fault.Shape else of_read)
       ≡ (if not b then Err fault.Shape else if not (list_all (is_cell_typed job.plan) (map kept_cell cells)) then Err fault.Shape else of_kept)) [
@@ -170,13 +170,13 @@ module _ (job : JobSpec) (cells : List Cell) where
 
 -- the steps, by the parts of the fields
 abbrev by_parts : JobSpec → ℕ → List ℕ → List ℕ → Shape → List Cell → List Bool → Result (List Cell) DecodeFault
-by_parts job load text cut shape cells told =
+by_parts job load text cut shape cells returned =
     if not (eqb load job.load) then Err fault.OtherLoad
     else if not (same_bytes text job.plan.text) then Err fault.OtherQuery
     else if not (same_bytes cut job.cut) then Err fault.OtherCut
     else if not (is_same_shape shape (shape_of job.plan)) then Err fault.Shape
     else if not (list_all (is_cell_typed job.plan) cells) then Err fault.Shape
-    else (cells_held_by job 0 cells told >>= λ held. Ok cells)
+    else (cells_held_by job 0 cells returned >>= λ held. Ok cells)
 
 held_parts : (job : JobSpec) (l : Held) → by_parts job l.job.load l.job.text.now (words l.job.fragments l.job.cut.now) (shape_in l.shape) l.cells.items l.are_possible.items ≡ state_held_by job l
 unfolding state_held_by
@@ -189,24 +189,24 @@ read_parts job read were =
     if not (eqb read.load job.load) then Err fault.OtherLoad
     else if not (same_bytes read.text job.plan.text) then Err fault.OtherQuery
     else if not (same_bytes read.cut job.cut) then Err fault.OtherCut
-    else x) (types_told job read.cells read.shape (read_by_plan job.plan read were))
+    else x) (types_returned job read.cells read.shape (read_by_plan job.plan read were))
 
-state_told : (job : JobSpec) (l : Held) (read : StateLayout) → IsStateLayout l read → WereRead read → state_held_against job read ≡ state_held_by job l
-state_told job l read is were =
+state_returned : (job : JobSpec) (l : Held) (read : StateLayout) → IsStateLayout l read → WereRead read → state_held_against job read ≡ state_held_by job l
+state_returned job l read is were =
     let parts : by_parts job l.job.load l.job.text.now (words l.job.fragments l.job.cut.now) (shape_in l.shape) l.cells.items l.are_possible.items
     ≡ by_parts job read.load read.text read.cut read.shape (map kept_cell read.cells) (map is_cell_possible read.cells) =
     λ i. by_parts job (is.job.load i) (is.job.text i) (is.job.cut i) (is.shape i) (is.cells i) (is.possible i) in
     read_parts job read were ∙ sym parts ∙ held_parts job l
 
--- what is told of sealed bytes
-pub judged_state_told : (job : JobSpec) (bytes rest seal behind end : List ℕ) (l : Held) → (y : StateLayout × List ℕ) × (state_layout_at bytes ≡ Ok y) × (IsStateLayout l y.0 × (rest ≡ y.1)) → bytes_at 32 rest ≡ Ok (seal, behind)
+-- what is returned of sealed bytes
+pub judged_state_returned : (job : JobSpec) (bytes rest seal behind end : List ℕ) (l : Held) → (y : StateLayout × List ℕ) × (state_layout_at bytes ≡ Ok y) × (IsStateLayout l y.0 × (rest ≡ y.1)) → bytes_at 32 rest ≡ Ok (seal, behind)
     → sealed_end bytes seal behind ≡ Ok end → judged_state job bytes ≡ state_held_by job l
 unfolding judged_state
-judged_state_told job bytes rest seal behind end l (y, read, is) sealed ended =
+judged_state_returned job bytes rest seal behind end l (y, read, is) sealed ended =
     let here : bytes_at 32 y.1 ≡ Ok (seal, behind) = ap (bytes_at 32) (sym is.1) ∙ sealed in
-    rw (read, here, ended) (state_told job l y.0 is.0 (state_was_read bytes y read))
+    rw (read, here, ended) (state_returned job l y.0 is.0 (state_was_read bytes y read))
 
--- there is a cell, and what is told of it, for each fragment that was read
+-- there is a cell, and what is returned of it, for each fragment that was read
 pub as_many : (bytes rest : List ℕ) (l : Held) → (y : StateLayout × List ℕ) × (state_layout_at bytes ≡ Ok y) × (IsStateLayout l y.0 × (rest ≡ y.1)) → (length l.cells.items ≡ l.job.fragments) × (length l.are_possible.items ≡ l.job.fragments)
 as_many bytes rest l (y, read, is) =
     let count : length y.0.cells ≡ l.job.fragments = layout_cells bytes y read ∙ sym is.0.job.count in

@@ -65,29 +65,29 @@ rows_step gs i d lt = rw (drop-cons gs i d lt) (sum_by-cons (λ n. n) (get_or gs
 
 -- ---- cells
 
-pub cells_step : (job : JobSpec) (cells : List Cell) (told : List Bool) (k : ℕ) (d : Cell) (e : Bool) → k < length cells → k < length told
-    → cells_held_by job k (drop k cells) (drop k told) ≡ (cell_held_by job.plan (first_row job.cut k) (slice_index job.cut k) (get_or cells k d) (get_or told k e) >>= λ held. cells_held_by job (suc k) (drop (suc k) cells) (drop (suc k) told))
+pub cells_step : (job : JobSpec) (cells : List Cell) (returned : List Bool) (k : ℕ) (d : Cell) (e : Bool) → k < length cells → k < length returned
+    → cells_held_by job k (drop k cells) (drop k returned) ≡ (cell_held_by job.plan (first_row job.cut k) (slice_index job.cut k) (get_or cells k d) (get_or returned k e) >>= λ held. cells_held_by job (suc k) (drop (suc k) cells) (drop (suc k) returned))
 unfolding cells_held_by
-cells_step job cells told k d e lt flags = rw (drop-cons cells k d lt, drop-cons told k e flags) refl
+cells_step job cells returned k d e lt flags = rw (drop-cons cells k d lt, drop-cons returned k e flags) refl
 
 -- what the code holds against fragment k, whose outcome is `r`
-pub cells_after : (job : JobSpec) (cells : List Cell) (told : List Bool) (k : ℕ) (d : Cell) (e : Bool) (plan : Plan) (first rows : ℕ) (cell : Cell) (possible : Bool) (r : Result (Unit {0}) DecodeFault) → k < length cells → k < length told
-    → plan ≡ job.plan → first ≡ first_row job.cut k → rows ≡ slice_index job.cut k → cell ≡ get_or cells k d → possible ≡ get_or told k e → cell_held_by plan first rows cell possible ≡ r
-    → cells_held_by job k (drop k cells) (drop k told) ≡ (r >>= λ held. cells_held_by job (k + 1) (drop (k + 1) cells) (drop (k + 1) told))
-cells_after job cells told k d e plan first rows cell possible r lt flags plans firsts lengths at flag held =
-    let same : cell_held_by job.plan (first_row job.cut k) (slice_index job.cut k) (get_or cells k d) (get_or told k e) ≡ r =
-    ap (λ (p : Plan). cell_held_by p (first_row job.cut k) (slice_index job.cut k) (get_or cells k d) (get_or told k e)) (sym plans)
-    ∙ ap (λ (n : ℕ). cell_held_by plan n (slice_index job.cut k) (get_or cells k d) (get_or told k e)) (sym firsts)
-    ∙ ap (λ (n : ℕ). cell_held_by plan first n (get_or cells k d) (get_or told k e)) (sym lengths)
-    ∙ ap (λ (c : Cell). cell_held_by plan first rows c (get_or told k e)) (sym at)
+pub cells_after : (job : JobSpec) (cells : List Cell) (returned : List Bool) (k : ℕ) (d : Cell) (e : Bool) (plan : Plan) (first rows : ℕ) (cell : Cell) (possible : Bool) (r : Result (Unit {0}) DecodeFault) → k < length cells → k < length returned
+    → plan ≡ job.plan → first ≡ first_row job.cut k → rows ≡ slice_index job.cut k → cell ≡ get_or cells k d → possible ≡ get_or returned k e → cell_held_by plan first rows cell possible ≡ r
+    → cells_held_by job k (drop k cells) (drop k returned) ≡ (r >>= λ held. cells_held_by job (k + 1) (drop (k + 1) cells) (drop (k + 1) returned))
+cells_after job cells returned k d e plan first rows cell possible r lt flags plans firsts lengths at flag held =
+    let same : cell_held_by job.plan (first_row job.cut k) (slice_index job.cut k) (get_or cells k d) (get_or returned k e) ≡ r =
+    ap (λ (p : Plan). cell_held_by p (first_row job.cut k) (slice_index job.cut k) (get_or cells k d) (get_or returned k e)) (sym plans)
+    ∙ ap (λ (n : ℕ). cell_held_by plan n (slice_index job.cut k) (get_or cells k d) (get_or returned k e)) (sym firsts)
+    ∙ ap (λ (n : ℕ). cell_held_by plan first n (get_or cells k d) (get_or returned k e)) (sym lengths)
+    ∙ ap (λ (c : Cell). cell_held_by plan first rows c (get_or returned k e)) (sym at)
     ∙ ap (λ (b : Bool). cell_held_by plan first rows cell b) (sym flag) ∙ held in
     let next : suc k ≡ k + 1 = omega arith in
-    cells_step job cells told k d e lt flags ∙ ap (λ (x : Result (Unit {0}) DecodeFault). x >>= λ held. cells_held_by job (suc k) (drop (suc k) cells) (drop (suc k) told)) same
-    ∙ ap (λ (n : ℕ). r >>= λ held. cells_held_by job n (drop n cells) (drop n told)) next
+    cells_step job cells returned k d e lt flags ∙ ap (λ (x : Result (Unit {0}) DecodeFault). x >>= λ held. cells_held_by job (suc k) (drop (suc k) cells) (drop (suc k) returned)) same
+    ∙ ap (λ (n : ℕ). r >>= λ held. cells_held_by job n (drop n cells) (drop n returned)) next
 
-pub cells_end : (job : JobSpec) (cells : List Cell) (told : List Bool) (k : ℕ) → length cells ≤ k → cells_held_by job k (drop k cells) (drop k told) ≡ Ok tt
+pub cells_end : (job : JobSpec) (cells : List Cell) (returned : List Bool) (k : ℕ) → length cells ≤ k → cells_held_by job k (drop k cells) (drop k returned) ≡ Ok tt
 unfolding cells_held_by
-cells_end job cells told k le = rw (drop_all k cells le) refl
+cells_end job cells returned k le = rw (drop_all k cells le) refl
 
 first_step : (cut : List ℕ) (k : ℕ) → k < length cut → first_row cut (suc k) ≡ first_row cut k + slice_index cut k
 first_step [] k lt = absurd (omega arith)

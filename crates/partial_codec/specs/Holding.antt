@@ -1,4 +1,4 @@
--- What the readers keep, held against a job: the same steps as for what was read, with the sums told apart.
+-- What the readers keep, held against a job: the same steps as for what was read, with the sums returned apart.
 use Rattle.std.specs.Prelude.{ℕ, suc, ◌==◌, nat_lt, Bool, ◌&&◌, not, if◌then◌else◌, List, [], ◌∷◌, length, slice_index, Result, Ok, Err}
 use Rattle.std.specs.List.{list_all}
 use Rattle.meaning.specs.Cut.{first_row}
@@ -46,10 +46,10 @@ cell_held_by plan first rows Conflict possible = Ok tt
 
 -- the cells of the fragments from k on, each with whether its sums are possible
 unfoldable pub cells_held_by : JobSpec → ℕ → List Cell → List Bool → Result (Unit {0}) DecodeFault
-cells_held_by job k [] told = Ok tt
+cells_held_by job k [] returned = Ok tt
 cells_held_by job k (cell ∷ cells) [] = Ok tt
-cells_held_by job k (cell ∷ cells) (possible ∷ told) =
-    cell_held_by job.plan (first_row job.cut k) (slice_index job.cut k) cell possible >>= λ held. cells_held_by job (suc k) cells told
+cells_held_by job k (cell ∷ cells) (possible ∷ returned) =
+    cell_held_by job.plan (first_row job.cut k) (slice_index job.cut k) cell possible >>= λ held. cells_held_by job (suc k) cells returned
 
 unfoldable pub state_held_by : JobSpec → StateLayout → Result (List Cell) DecodeFault
 state_held_by job l =

@@ -1,5 +1,5 @@
 -- What the readers of groups keep of what they read. A state can't hold a sum that so many integers don't give: such a sum
--- is kept as 0, and told.
+-- is kept as 0, and returned.
 use Rattle.std.specs.Prelude.{◌≡◌, ◌≢◌, ◌≤◌, ℕ, pos, Bool, true, ◌&&◌, if◌then◌else◌, List, map, Result, Ok, Err}
 use Rattle.std.specs.List.{list_all}
 use Rattle.std.specs.Cmp.Lexicographic.{pointwise}
@@ -73,13 +73,13 @@ is_cell_typed plan Conflict = true
 -- ---- what a call gave
 
 -- parts that were kept, whether their sums are possible, and the bytes behind them
-pub record AreKept {X : Type 0} (kept : X → X) (possible : X → Bool) (given : List X) (told : Bool) (rest : List ℕ) (read : List X × List ℕ) : Type 0 where
+pub record AreKept {X : Type 0} (kept : X → X) (possible : X → Bool) (given : List X) (returned : Bool) (rest : List ℕ) (read : List X × List ℕ) : Type 0 where
   pub parts : given ≡ map kept read.0
-  pub sums : told ≡ list_all possible read.0
+  pub sums : returned ≡ list_all possible read.0
   pub behind : rest ≡ read.1
 
 -- one part that was kept
-pub record IsKept {X : Type 0} (kept : X → X) (possible : X → Bool) (given : X) (told : Bool) (rest : List ℕ) (read : X × List ℕ) : Type 0 where
+pub record IsKept {X : Type 0} (kept : X → X) (possible : X → Bool) (given : X) (returned : Bool) (rest : List ℕ) (read : X × List ℕ) : Type 0 where
   pub part : given ≡ kept read.0
-  pub sums : told ≡ possible read.0
+  pub sums : returned ≡ possible read.0
   pub behind : rest ≡ read.1

@@ -14,10 +14,7 @@ use crate::fault::DecodeFault;
 use crate::shape::{AggregateShape, Shape};
 use crate::values::take_value;
 use accumulators::{Group, State};
-use meaning::answer::{Body, RowFault, Statistics};
-use meaning::plan::AggregateKind;
-use meaning::sequence::Sequence;
-use meaning::value::{Row, Value};
+use meaning::{AggregateKind, Body, Row, RowFault, Sequence, Statistics, Value};
 use std::alloc::Global;
 use wire::{take_i128, take_u8, take_u32, take_u64};
 

@@ -20,10 +20,10 @@ use crate::fields::JobFields;
 use crate::job::Job;
 use accumulators::{Group, State};
 use byteorder::{ByteOrder, LittleEndian};
-use meaning::answer::{Body, RowFault};
-use meaning::limits::MAX_TEXT_BYTES;
-use meaning::plan::{Aggregate, AggregateKind, GroupingKey, Plan};
-use meaning::value::{ColType, Value, ValueRef};
+use meaning::{
+    Aggregate, AggregateKind, Body, ColType, GroupingKey, MAX_TEXT_BYTES, Plan, RowFault, Value,
+    ValueRef,
+};
 
 // ---- the job
 

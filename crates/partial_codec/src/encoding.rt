@@ -15,9 +15,7 @@ use crate::job::Job;
 use crate::shape::{argument_code, kind_code, shape_of_aggregate, type_code};
 use crate::values::put_value;
 use accumulators::{Group, State};
-use meaning::answer::{Answer, Body};
-use meaning::plan::{Aggregate, AggregateKind, GroupingKey, Plan};
-use meaning::value::Value;
+use meaning::{Aggregate, AggregateKind, Answer, Body, GroupingKey, Plan, Value};
 use std::alloc::{AllocError, Global};
 use wire::{append_i128, append_seal, append_text, append_u8, append_u16, append_u32, append_u64};
 

@@ -9,16 +9,14 @@ use crate::body::take_body;
 use crate::fault::DecodeFault;
 use crate::shape::{AggregateShape, Shape};
 use accumulators::Group;
-use meaning::answer::Body;
-use meaning::plan::AggregateKind;
-use meaning::value::ColType;
+use meaning::{AggregateKind, Body, ColType};
 use std::alloc::Global;
 use wire::{skip_magic, take_bytes, take_text, take_u8, take_u16, take_u32, take_u64};
 
 /// What an answer's bytes begin with.
 pub const ANSWER_MAGIC: [u8; 4] = *b"XGA1";
 
-/// The fields that tell the job. The lengths of the cut's fragments stand in four bytes each.
+/// The fields that report the job. The lengths of the cut's fragments stand in four bytes each.
 #[derive(Drop)]
 pub struct JobFields<'a> {
     pub load: u64,
@@ -155,7 +153,7 @@ fn take_lengths(count: u32, bytes: &[u8]) -> Result<(&[u8], &[u8]), DecodeFault>
     Ok(bytes.split_at(size))
 }
 
-/// The fields that tell the job, and the bytes behind them.
+/// The fields that report the job, and the bytes behind them.
 #[tactic(auto, unfolding(crate::specs::LayoutReading::job_at))]
 pub fn take_job(bytes: &[u8]) -> Result<(JobFields<'_>, &[u8]), DecodeFault>
     ensures { KeepsIfMemory DecodeFault.Memory (λ x y. AreJobFields x.0 y.0

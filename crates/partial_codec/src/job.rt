@@ -1,9 +1,9 @@
 //! What answers and states are for.
 ghost use Rattle.std.specs.Prelude.{◌≡◌, ◌≤◌, length};
-ghost use Rattle.partial_codec.specs.Job.{JobSpec, IsPlanOfJob};
+ghost use Rattle.meaning.specs.SoundPlan.{IsWithinLimits};
+ghost use Rattle.partial_codec.specs.Job.{JobSpec};
 
-use meaning::cut::Cut;
-use meaning::plan::Plan;
+use meaning::{Cut, Plan};
 use std::marker::Model;
 
 /// What a query's answers are for: the load of the tables, the query's plan, and the cut of the
@@ -34,7 +34,7 @@ impl Job {
 
     /// The job of a plan within the limits on a query. Takes no memory.
     pub fn new(load: u64, plan: Plan, cut: Cut) -> Job
-        requires { IsPlanOfJob plan }
+        requires { IsWithinLimits plan }
         ensures { result ≡ record { load = load; plan = plan; cut = cut } }
     {
         // No effect at run time. The proof reads from this call that the text is UTF-8.

@@ -1,7 +1,7 @@
 //! Jobs, and as bytes the answers of fragments and the states of coordinators.
 //!
-//! An answer or a state has one spelling for a job, and each refusal of bytes tells the first thing
-//! from front to back that is wrong with them. `specs/` has the formats; `docs/FORMATS.md` tells
+//! An answer or a state has one spelling for a job, and each refusal of bytes reports the first thing
+//! from front to back that is wrong with them. `specs/` has the formats; `docs/FORMATS.md` reports
 //! them in words.
 #![tactic(auto)]
 
@@ -25,5 +25,5 @@ pub use encoding::encode;
 pub use fault::DecodeFault;
 pub use job::Job;
 pub use laws::{one_answer, one_spelling, one_state, one_state_spelling};
-pub use meaning::answer::{Answer, Body, Cell};
+pub use meaning::{Answer, Body, Cell};
 pub use state::{decode_state, encode_state};

@@ -4,8 +4,7 @@ ghost use Rattle.std.specs.Cmp.Lexicographic.{pointwise};
 ghost use Rattle.partial_codec.specs.Fields.{shape_in};
 ghost use Rattle.partial_codec.specs.Shape as spec;
 
-use meaning::plan::{Aggregate, AggregateKind, GroupingKey, Plan};
-use meaning::value::ColType;
+use meaning::{Aggregate, AggregateKind, ColType, GroupingKey, Plan};
 
 /// An aggregate as an answer's shape shows it. COUNT(*) has no argument.
 #[derive(Clone, Copy, Drop)]

@@ -14,8 +14,7 @@ use crate::job::Job;
 use crate::state_check::hold_state_against;
 use crate::state_fields::{STATE_MAGIC, take_state_layout};
 use accumulators::Group;
-use meaning::answer::Cell;
-use meaning::plan::Plan;
+use meaning::{Cell, Plan};
 use std::alloc::{AllocError, Global};
 use wire::{SEAL_BYTES, append_seal, append_u8, check_seal, take_bytes};
 
@@ -94,7 +93,7 @@ fn judge_state(alloc: Global, job: &Job, bytes: &[u8]) -> Result<Vec<Cell<Group>
 ///
 /// The bytes are read from front to back; then come the seal, the job, the shape and all types; and
 /// then, fragment by fragment, the order of the groups and the numbers. Memory is taken for what
-/// was read alone, whatever counts the bytes tell.
+/// was read alone, whatever counts the bytes report.
 pub fn decode_state(alloc: Global, job: &Job, bytes: &[u8]) -> Result<Vec<Cell<Group>>, DecodeFault>
     // What is given is spelled so.
     ensures spelled { IfOk result (λ cells. SpellsState job.now bytes.now cells.items) }

@@ -12,8 +12,7 @@ use crate::job::Job;
 use crate::shape::is_shape_of;
 use crate::state_fields::StateLayout;
 use accumulators::Group;
-use meaning::answer::{Body, Cell};
-use meaning::plan::Plan;
+use meaning::{Body, Cell, Plan};
 use std::mem::drop;
 
 fn is_cell_typed(plan: &Plan, cell: &Cell<Group>) -> bool
@@ -72,7 +71,7 @@ fn check_cell(
 /// Each cell held against its fragment, before the next is.
 fn check_cells(job: &Job, cells: &[Cell<Group>], are_possible: &[bool]) -> Result<(), DecodeFault>
     requires fragments { length cells.now ≡ length job.now.cut }
-    requires told { length are_possible.now ≡ length job.now.cut }
+    requires returned { length are_possible.now ≡ length job.now.cut }
     ensures { Reads (λ done. done) result
         (holding.cells_held_by job.now 0 cells.now are_possible.now) }
 {
@@ -91,7 +90,7 @@ fn check_cells(job: &Job, cells: &[Cell<Group>], are_possible: &[bool]) -> Resul
 fn check_state(job: &Job, layout: &StateLayout<'_>) -> Result<(), DecodeFault>
     requires cut { length layout.now.job.cut.now ≡ layout.now.job.fragments * 4 }
     requires cells { length layout.now.cells.items ≡ layout.now.job.fragments }
-    requires told { length layout.now.are_possible.items ≡ layout.now.job.fragments }
+    requires returned { length layout.now.are_possible.items ≡ layout.now.job.fragments }
     ensures { Reads (λ _. layout.now.cells.items) result (state_held_by job.now layout.now) }
 {
     if layout.job.load != job.load() {
@@ -119,7 +118,7 @@ pub fn hold_state_against(
 ) -> Result<Vec<Cell<Group>>, DecodeFault>
     requires cut { length layout.job.cut.now ≡ layout.job.fragments * 4 }
     requires cells { length layout.cells.items ≡ layout.job.fragments }
-    requires told { length layout.are_possible.items ≡ layout.job.fragments }
+    requires returned { length layout.are_possible.items ≡ layout.job.fragments }
     ensures { Reads (λ cells. cells.items) result (state_held_by job.now layout.entry) }
 {
     match check_state(job, &layout) {

@@ -9,8 +9,7 @@ ghost use Rattle.partial_codec.specs.Spelling.{value_bytes};
 ghost use Rattle.meaning.specs.Wanting.{GivesIfMemory};
 
 use crate::fault::DecodeFault;
-use meaning::text::Text;
-use meaning::value::{Value, ValueRef};
+use meaning::{Text, Value, ValueRef};
 use std::alloc::{AllocError, Global};
 use wire::{append_i64, append_short_text, append_u8, take_i64, take_short_text, take_u8};
 

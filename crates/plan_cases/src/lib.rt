@@ -1,9 +1,8 @@
 //! Cases about plans.
 #![tactic(auto)]
 
-use catalog_reader::read_catalog::read_catalog;
-use meaning::catalog::Catalog;
-use meaning::plan::Plan;
+use catalog_reader::read_catalog;
+use meaning::{Catalog, Plan};
 use planner::plan;
 use sql_reader::read;
 use sql_reader::tree::Query;
@@ -22,9 +21,9 @@ fn shape(alloc: Global, plan: &Plan) -> Result<String, AllocError> {
 fn plan_line(alloc: Global, catalog: &Catalog, query: &Query) -> Result<String, AllocError> {
     match plan(alloc, catalog, query) {
         Ok(plan) => {
-            let told = shape(alloc, &plan);
+            let shown = shape(alloc, &plan);
             drop(plan);
-            told
+            shown
         }
         Err(fault) => format!(in alloc; "refused {}\n", fault.number()),
     }
@@ -33,9 +32,9 @@ fn plan_line(alloc: Global, catalog: &Catalog, query: &Query) -> Result<String, 
 fn query_line(alloc: Global, catalog: &Catalog, text: &str) -> Result<String, AllocError> {
     match read(alloc, text.as_bytes()) {
         Ok(query) => {
-            let told = plan_line(alloc, catalog, &query);
+            let shown = plan_line(alloc, catalog, &query);
             drop(query);
-            told
+            shown
         }
         Err(_) => String::from_str(alloc, "(no query)\n"),
     }
@@ -43,12 +42,12 @@ fn query_line(alloc: Global, catalog: &Catalog, text: &str) -> Result<String, Al
 
 /// How many joins, other conditions, keys and aggregates the plan has of the query that the text
 /// is, over the catalogue that the bytes declare; or the number of the plan's refusal.
-pub fn tell(alloc: Global, catalog: &[u8], text: &str) -> Result<String, AllocError> {
+pub fn show(alloc: Global, catalog: &[u8], text: &str) -> Result<String, AllocError> {
     match read_catalog(alloc, catalog) {
         Ok(catalog) => {
-            let told = query_line(alloc, &catalog, text);
+            let shown = query_line(alloc, &catalog, text);
             drop(catalog);
-            told
+            shown
         }
         Err(_) => String::from_str(alloc, "(no catalogue)\n"),
     }

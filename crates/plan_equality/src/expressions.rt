@@ -1,8 +1,7 @@
 //! Whether two expressions are equal.
 ghost use Rattle.std.specs.Prelude.{◌≡◌, ◌↔◌, IsTrue};
 
-use meaning::expr::{ArithmeticOperator, Arm, ComparisonOperator, Expr};
-use meaning::value::Value;
+use meaning::{ArithmeticOperator, Arm, ComparisonOperator, Expr, Value};
 
 fn is_same_arithmetic(a: ArithmeticOperator, b: ArithmeticOperator) -> bool
     ensures { IsTrue result ↔ (a ≡ b) }
@@ -43,7 +42,7 @@ pub fn is_same_expr(a: &Expr, b: &Expr) -> bool
 {
     match (a, b) {
         (Expr::Column(a), Expr::Column(b)) => a == b,
-        (Expr::Joined { join: i, place: p }, Expr::Joined { join: j, place: q }) => {
+        (Expr::Joined { join: i, column: p }, Expr::Joined { join: j, column: q }) => {
             i == j && p == q
         }
         (Expr::Key(a), Expr::Key(b)) => a == b,

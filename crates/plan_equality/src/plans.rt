@@ -2,13 +2,12 @@
 ghost use Rattle.std.specs.Prelude.{◌≡◌, ◌↔◌, IsTrue};
 
 use crate::expressions::{are_same_exprs, is_same_expr};
-use meaning::expr::Expr;
-use meaning::plan::{Aggregate, ColumnUse, GroupingKey, Item, Join, OrderKey, Plan, TableUse};
+use meaning::{Aggregate, ColumnUse, Expr, GroupingKey, Item, Join, OrderKey, Plan, TableUse};
 
 fn is_same_column(a: &ColumnUse, b: &ColumnUse) -> bool
     ensures { IsTrue result ↔ (a.now ≡ b.now) }
 {
-    a.place == b.place && a.name == b.name && a.col_type == b.col_type
+    a.column == b.column && a.name == b.name && a.col_type == b.col_type
 }
 
 fn are_same_columns(a: &[ColumnUse], b: &[ColumnUse]) -> bool

@@ -14,7 +14,7 @@ use Rattle.sql_syntax.specs.declared.tree.Expr.TheFolds.{the_lemmas, ind-Expr, m
 use Rattle.sql_syntax.specs.declared.tree.Expr.TheViews.{roll-Expr}
 use Rattle.planner_expressions.specs.declared.scope.Scope.{Scope}
 use Rattle.planner_expressions.specs.declared.sort.Sort.{Sort}
-use Rattle.planner_expressions.specs.Judged.{Told, Judgement, judge_node, judge_arm, judged, judged_arm}
+use Rattle.planner_expressions.specs.Judged.{Returned, Judgement, judge_node, judge_arm, judged, judged_arm}
 use Rattle.planner_expressions.specs.Meant.{SameOnRows}
 use Rattle.planner_expressions.proofs.Accepted.{both_there, rows_translate}
 use Rattle.planner_expressions.proofs.Meaning.{rows_mean}
@@ -82,7 +82,7 @@ module _ (s : Scope) where
   pub and_is : (x : Expr-F Expr Arm) → is_and_node x ≡ true → is_no_and (roll-Expr x) ≡ false
   and_is x is = search (rules, the_lemmas)
 
-  abbrev judge_at : Expr-F Expr Arm → Told
+  abbrev judge_at : Expr-F Expr Arm → Returned
   judge_at x = judge_node s (map-Expr Expr Arm Judgement (Judgement × Judgement) (judged s) (judged_arm s) x) true
 
   rolled : (x : Expr-F Expr Arm) → judged s (roll-Expr x) true ≡ judge_at x
@@ -118,7 +118,7 @@ module _ (s : Scope) where
   parted_node (node.Case arms otherwise) z is = whole (bare (node.Case arms otherwise)) refl z is
 
   pub parted : (e : Expr) → Parted e
-  parted = ind-Expr Parted (λ a. Unit {0}) (λ x y is z told. subst Parted_at is (parted_node y) z (sym (rolled x) ∙ told)) (λ x y is. tt)
+  parted = ind-Expr Parted (λ a. Unit {0}) (λ x y is z returned. subst Parted_at is (parted_node y) z (sym (rolled x) ∙ returned)) (λ x y is. tt)
 
   pub all_parted : (es : List Expr) → AreFine es → AreFine (flat_map conjuncts_of es)
   all_parted [] fine = tt

@@ -20,7 +20,7 @@ use Rattle.planner_expressions.specs.declared.sort.Sort.TheVariants.{Truth}
 use Rattle.planner_expressions.specs.Judged.{judged}
 use Rattle.planner_expressions.specs.Results.{each_ok}
 use Rattle.planner_expressions.specs.Sorts.{is_value, same_sort}
-use Rattle.planner_expressions.specs.Spelled.{Spelling, spelled, place_among}
+use Rattle.planner_expressions.specs.Spelled.{Spelling, spelled, index_among}
 use Rattle.planner_expressions.proofs.Accepted.{goes_there}
 use Rattle.planner.specs.declared.aggregates.Aggregates.{Aggregates}
 use Rattle.planner.specs.Aggregates.{aggregate_node, aggregate_of, aggregates_in, with_new, with_aggregate, with_aggregates, with_parts}
@@ -28,7 +28,7 @@ use Rattle.planner.specs.Checked.{checked, conditions_checked, groups_checked, c
 use Rattle.planner.specs.Groups.{no_aggregates, item_aggregates, all_aggregates, is_empty, is_grouped, key_of, key_trees}
 use Rattle.planner.specs.PlanOf.{Pairwise, IsKeyOf, IsAggregateOf, IsGivenAs, AreAggregates, own_aggregates, is_aggregate_at, argument_of, is_counted}
 use Rattle.planner.proofs.Conditions.{AreFine, row_means}
-use Rattle.planner.proofs.OwnAggregates.{HasPlace, aggregate_there, flat, parts_have, parts_still}
+use Rattle.planner.proofs.OwnAggregates.{HasIndex, aggregate_there, flat, parts_have, parts_still}
 use Rattle.planner.proofs.TypedTrees.{both_all}
 use Rattle.planner.proofs.Unbarred.{AreCounted, unbarred}
 
@@ -58,7 +58,7 @@ module _ (s : Scope) where
 
   take_all : (l : Aggregates) (es : List Expr) → Taken l → AreCounted s es → Taken (with_aggregates s l es)
   take_all l [] taken all = taken
-  take_all l (e ∷ es) taken all = take_all (with_aggregate s l e) es (take_new l e (place_among l.written (spelled s e)) taken all.0) all.1
+  take_all l (e ∷ es) taken all = take_all (with_aggregate s l e) es (take_new l e (index_among l.written (spelled s e)) taken all.0) all.1
 
   abbrev AllCounted : List (List Expr) → Type 0
   AllCounted [] = Unit {0}
@@ -120,16 +120,16 @@ module _ (s : Scope) where
       let first = take_parts no_aggregates (map (λ i. aggregates_in i.expr) q.items) ([], refl, refl, tt) (items_counted q.items all.0.0 all.0.1) in
       take_parts (item_aggregates s q) (map aggregates_in (option_to_list q.having)) first (having_counted (option_to_list q.having) all.2.0 all.2.1)
 
-  -- each of the query's aggregates is counted, and has its place
+  -- each of the query's aggregates is counted, and has its index
   abbrev Own : Query → Expr → Type 0
-  Own q e = is_counted s e × HasPlace s (all_aggregates s q).written e
+  Own q e = is_counted s e × HasIndex s (all_aggregates s q).written e
 
-  paired : (ws : List Spelling) (es : List Expr) → AreCounted s es → AllByRecursion (HasPlace s ws) es → AllByRecursion (λ e. is_counted s e × HasPlace s ws e) es
+  paired : (ws : List Spelling) (es : List Expr) → AreCounted s es → AllByRecursion (HasIndex s ws) es → AllByRecursion (λ e. is_counted s e × HasIndex s ws e) es
   paired ws [] counted has = tt
   paired ws (e ∷ es) counted has = ((counted.0, has.0), paired ws es counted.1 has.1)
 
-  all_paired : (ws : List Spelling) (parts : List (List Expr)) → AllCounted parts → AllByRecursion (λ es. AllByRecursion (HasPlace s ws) es) parts
-      → AllByRecursion (λ es. AllByRecursion (λ e. is_counted s e × HasPlace s ws e) es) parts
+  all_paired : (ws : List Spelling) (parts : List (List Expr)) → AllCounted parts → AllByRecursion (λ es. AllByRecursion (HasIndex s ws) es) parts
+      → AllByRecursion (λ es. AllByRecursion (λ e. is_counted s e × HasIndex s ws e) es) parts
   all_paired ws [] counted has = tt
   all_paired ws (es ∷ parts) counted has = (paired ws es counted.0 has.0, all_paired ws parts counted.1 has.1)
 
@@ -183,7 +183,7 @@ module _ (s : Scope) where
   -- nothing was taken from any of them
   no_longer : (l : Aggregates) (es : List Expr) → (l.list ≡ [] → ⊥) → (with_aggregates s l es).list ≡ [] → ⊥
   no_longer l [] some none = some none
-  no_longer l (e ∷ es) some none = no_longer (with_aggregate s l e) es (λ h. still l (spelled s e) (aggregate_of s e) (place_among l.written (spelled s e)) some h) none
+  no_longer l (e ∷ es) some none = no_longer (with_aggregate s l e) es (λ h. still l (spelled s e) (aggregate_of s e) (index_among l.written (spelled s e)) some h) none
     where
       tail_there : (xs : List Aggregate) (a : Aggregate) → xs ++ a ∷ [] ≡ [] → ⊥
       tail_there [] a h = cc

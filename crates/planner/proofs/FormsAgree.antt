@@ -18,7 +18,7 @@ use Rattle.sql_syntax.specs.declared.tree.Table as written
 use Rattle.sql_syntax.specs.Canonical.{canonical}
 use Rattle.planner_expressions.specs.declared.fault.PlanFault.{PlanFault}
 use Rattle.planner_expressions.specs.declared.scope.Dim.{Dim}
-use Rattle.planner_expressions.specs.declared.scope.Place.{Place}
+use Rattle.planner_expressions.specs.declared.scope.ScopeColumn.{ScopeColumn}
 use Rattle.planner_expressions.specs.declared.scope.Scope.{Scope}
 use Rattle.planner_expressions.specs.From.{enter, enter_all, no_tables, whole, scope_of}
 use Rattle.planner_expressions.specs.Results.{each_ok, map_ok}
@@ -78,20 +78,20 @@ checked_is s q =
 
 -- ---- tables
 
-abbrev named_by : List Item → List Expr → List Expr → Option Expr → Place → Bool
+abbrev named_by : List Item → List Expr → List Expr → Option Expr → ScopeColumn → Bool
 named_by items conditions keys having p =
     list_any (λ i. names p i.expr) items || (list_any (names p) conditions || (list_any (names p) keys || list_any (names p) (option_to_list having)))
 
-abbrev use_by : Scope → (Place → Bool) → Option ℕ → List ℕ → TableUse
+abbrev use_by : Scope → (ScopeColumn → Bool) → Option ℕ → List ℕ → TableUse
 use_by s named join name = record { name = name; columns = map use_of (filter (λ p. same_join join p.join && named p) s.columns) }
 
-abbrev join_by : Scope → (Place → Bool) → List Equality → ℕ × Dim → Result Join PlanFault
+abbrev join_by : Scope → (ScopeColumn → Bool) → List Equality → ℕ × Dim → Result Join PlanFault
 join_by s named equalities d = and_then (equality_for equalities d.0) (λ e. Ok (record { dim = use_by s named (Some d.0) d.1.name; foreign = e.foreign; key = e.key }))
 
 abbrev conjuncts_by : Scope → List Expr → Conjuncts
 conjuncts_by s conditions = with_conjuncts s no_conjuncts (flat_map conjuncts_of conditions)
 
-abbrev tables_by : List ℕ → Scope → (Place → Bool) → List Expr → Result Tables PlanFault
+abbrev tables_by : List ℕ → Scope → (ScopeColumn → Bool) → List Expr → Result Tables PlanFault
 tables_by fact s named conditions =
     and_then (all_ok (map (join_by s named (conjuncts_by s conditions).equalities) (enumerate_from 0 s.dims)))
     (λ joins. Ok (record { fact = use_by s named None fact; joins = joins; conjuncts = (conjuncts_by s conditions).plain }))

@@ -35,10 +35,10 @@ use Rattle.planner_expressions.specs.declared.scope.Scope.{Scope}
 use Rattle.planner_expressions.specs.declared.sort.Sort.{Sort}
 use Rattle.planner_expressions.specs.declared.sort.Sort.TheVariants.{Integer, Text, Truth}
 use Rattle.planner_expressions.specs.Given.{given_in, key_first}
-use Rattle.planner_expressions.specs.Judged.{Told, Judgement, judge_node, judged, judged_arm, over_part, placed_well}
+use Rattle.planner_expressions.specs.Judged.{Returned, Judgement, judge_node, judged, judged_arm, over_part, if_allowed}
 use Rattle.planner_expressions.specs.Results.{each_ok}
 use Rattle.planner_expressions.specs.Sorts.{is_value, same_sort, is_taken, aggregate_sort}
-use Rattle.planner_expressions.specs.Spelled.{Spelling, spelled, place_among}
+use Rattle.planner_expressions.specs.Spelled.{Spelling, spelled, index_among}
 use Rattle.planner_expressions.specs.Translated.{translated}
 use Rattle.planner_expressions.specs.Typed.{type_of_sort}
 use Rattle.planner_expressions.proofs.Accepted.{goes_there}
@@ -51,7 +51,8 @@ use Rattle.planner.specs.Groups.{all_aggregates, is_empty, is_grouped, item_aggr
 use Rattle.planner.specs.Planned.{basis_of}
 use Rattle.planner.specs.PlanOf.{argument_of, is_counted}
 use Rattle.planner.specs.Shown.{header, if_built, item_of, items_of, having_of, over_group, with_header}
-use Rattle.planner.specs.Typed.{IsOfGroup, GroupsAreTyped}
+use Rattle.meaning.specs.SoundPlan.{IsOfGroup}
+use Rattle.planner.specs.Typed.{GroupsAreTyped}
 use Rattle.planner.proofs.Counted.{AllEmpty, checks, empty_is, neither, none_taken, parts_none, taken}
 use Rattle.planner.proofs.Lifted.{lifts}
 use Rattle.planner.proofs.OwnAggregates.{get_map, tree_at}
@@ -110,11 +111,11 @@ result_of aggregate.Max Integer is = refl
 result_of aggregate.Max Text is = refl
 result_of aggregate.Max Truth is = absurd cc
 
-taken_is : (k : written.Aggregate) (x z : Sort) (t : Bool) → cond t (placed_well false (aggregate_sort k x)) (Err fault.TypeMismatch) ≡ Ok z → (t ≡ true) × (aggregate_sort k x ≡ z)
+taken_is : (k : written.Aggregate) (x z : Sort) (t : Bool) → cond t (if_allowed false (aggregate_sort k x)) (Err fault.TypeMismatch) ≡ Ok z → (t ≡ true) × (aggregate_sort k x ≡ z)
 taken_is k x z true is = (refl, cc)
 taken_is k x z false is = absurd cc
 
-same_ok : (a b : Sort) → ◌≡◌ {A = Told} (Ok a) (Ok b) → a ≡ b
+same_ok : (a b : Sort) → ◌≡◌ {A = Returned} (Ok a) (Ok b) → a ≡ b
 same_ok a b is = cc
 
 module _ (s : Scope) where
@@ -122,7 +123,7 @@ module _ (s : Scope) where
   abbrev IsKey : Expr → Type 0
   IsKey e = (z : Sort) × (judged s e true ≡ Ok z) × (is_value z ≡ true)
 
-  abbrev judge_at : Expr-F Expr Arm → Told
+  abbrev judge_at : Expr-F Expr Arm → Returned
   judge_at x = judge_node s (map-Expr Expr Arm Judgement (Judgement × Judgement) (judged s) (judged_arm s) x) false
 
   judged_out : (e : Expr) → judged s e false ≡ judge_at (out-Expr e)
@@ -135,7 +136,7 @@ module _ (s : Scope) where
   aggregate_type (node.Aggregate k a) z fine is =
       let part = goes_there (judged s a true) (over_part k false) z is in
       let there = taken_is k part.0 z (is_taken k part.0) part.2 in
-      ap type_of_sort (sym there.1) ∙ result_of k part.0 there.0 ∙ ap (λ (t : Told). Valued (result_type (kind_of k) (type_in t))) (sym part.1)
+      ap type_of_sort (sym there.1) ∙ result_of k part.0 there.0 ∙ ap (λ (t : Returned). Valued (result_type (kind_of k) (type_in t))) (sym part.1)
   aggregate_type node.CountRows z fine is = ap type_of_sort (sym (same_ok Integer z is))
   aggregate_type _ z fine is = absurd fine
 
@@ -146,43 +147,43 @@ module _ (s : Scope) where
     abbrev given : Expr → Option plan.Expr
     given = given_in s (Groups (map (spelled s) keys) (map (spelled s) counted))
 
-    key_typed : (e : Expr) (i : ℕ) (z : Sort) → place_among (map (spelled s) keys) (spelled s e) ≡ Some i → judged s e false ≡ Ok z → Has types (expr.Key i) z
-    key_typed e i z place is =
-        let k = tree_at s keys (spelled s e) i place in
+    key_typed : (e : Expr) (i : ℕ) (z : Sort) → index_among (map (spelled s) keys) (spelled s e) ≡ Some i → judged s e false ≡ Ok z → Has types (expr.Key i) z
+    key_typed e i z index_is is =
+        let k = tree_at s keys (spelled s e) i index_is in
         let fine = all_get IsKey keys i k.0 keys_fine k.1 in
         let same : fine.0 ≡ z = same_ok fine.0 z (sym (lifts s k.0 fine.0 fine.1) ∙ spelled_sorts s e k.0 false z k.2 is) in
         has-Key types i (type_of_sort z)
         ∙ of_its_type (slice_get types.key i) (row_type s k.0) (type_of_sort z) (key_types i k.0 k.1)
-        (ap type_of_sort (sym same) ∙ value_type fine.0 fine.2 ∙ ap (λ (t : Told). Valued (type_in t)) (sym fine.1))
+        (ap type_of_sort (sym same) ∙ value_type fine.0 fine.2 ∙ ap (λ (t : Returned). Valued (type_in t)) (sym fine.1))
 
     all_counted : (es : List Expr) (i : ℕ) (t : Expr) → AreCounted s es → slice_get es i ≡ Some t → is_counted s t
     all_counted [] i t all is = absurd cc
     all_counted (e ∷ es) zero t all is = let same : e ≡ t = cc in subst (is_counted s) same all.0
     all_counted (e ∷ es) (suc i) t all is = all_counted es i t all.1 is
 
-    aggregate_typed : (e : Expr) (i : ℕ) (z : Sort) → place_among (map (spelled s) counted) (spelled s e) ≡ Some i → judged s e false ≡ Ok z → Has types (expr.Aggregate i) z
-    aggregate_typed e i z place is =
-        let t = tree_at s counted (spelled s e) i place in
+    aggregate_typed : (e : Expr) (i : ℕ) (z : Sort) → index_among (map (spelled s) counted) (spelled s e) ≡ Some i → judged s e false ≡ Ok z → Has types (expr.Aggregate i) z
+    aggregate_typed e i z index_is is =
+        let t = tree_at s counted (spelled s e) i index_is in
         let fine = all_counted counted i t.0 counted_fine t.1 in
-        let told = spelled_sorts s e t.0 false z t.2 is in
+        let returned = spelled_sorts s e t.0 false z t.2 is in
         has-Aggregate types i (type_of_sort z)
         ∙ of_its_type (slice_get types.aggregates i) (type_of (aggregate_of s t.0)) (type_of_sort z) (aggregate_types i t.0 t.1)
-        (aggregate_type (out-Expr t.0) z fine (sym (judged_out t.0) ∙ told))
+        (aggregate_type (out-Expr t.0) z fine (sym (judged_out t.0) ∙ returned))
 
-    abbrev Placed : Option ℕ → Option ℕ → plan.Expr → Type 0
-    Placed i j x = ((k : ℕ) × (i ≡ Some k) × (x ≡ expr.Key k)) ⊎ ((k : ℕ) × (j ≡ Some k) × (x ≡ expr.Aggregate k))
+    abbrev IsIndexed : Option ℕ → Option ℕ → plan.Expr → Type 0
+    IsIndexed i j x = ((k : ℕ) × (i ≡ Some k) × (x ≡ expr.Key k)) ⊎ ((k : ℕ) × (j ≡ Some k) × (x ≡ expr.Aggregate k))
 
-    placed_as : (i j : Option ℕ) (x : plan.Expr) → key_first i j ≡ Some x → Placed i j x
-    placed_as (Some k) j x is = inl (k, refl, cc)
-    placed_as None (Some k) x is = inr (k, refl, cc)
-    placed_as None None x is = absurd cc
+    indexed_as : (i j : Option ℕ) (x : plan.Expr) → key_first i j ≡ Some x → IsIndexed i j x
+    indexed_as (Some k) j x is = inl (k, refl, cc)
+    indexed_as None (Some k) x is = inr (k, refl, cc)
+    indexed_as None None x is = absurd cc
 
-    by_place : (e : Expr) (x : plan.Expr) (z : Sort) → Placed (place_among (map (spelled s) keys) (spelled s e)) (place_among (map (spelled s) counted) (spelled s e)) x → judged s e false ≡ Ok z → Has types x z
-    by_place e x z (inl at) is = subst (λ (y : plan.Expr). Has types y z) (sym at.2) (key_typed e at.0 z at.1 is)
-    by_place e x z (inr at) is = subst (λ (y : plan.Expr). Has types y z) (sym at.2) (aggregate_typed e at.0 z at.1 is)
+    by_index : (e : Expr) (x : plan.Expr) (z : Sort) → IsIndexed (index_among (map (spelled s) keys) (spelled s e)) (index_among (map (spelled s) counted) (spelled s e)) x → judged s e false ≡ Ok z → Has types x z
+    by_index e x z (inl at) is = subst (λ (y : plan.Expr). Has types y z) (sym at.2) (key_typed e at.0 z at.1 is)
+    by_index e x z (inr at) is = subst (λ (y : plan.Expr). Has types y z) (sym at.2) (aggregate_typed e at.0 z at.1 is)
 
     given_typed : (e : Expr) (x : plan.Expr) (z : Sort) → given e ≡ Some x → judged s e false ≡ Ok z → Has types x z
-    given_typed e x z is told = by_place e x z (placed_as (place_among (map (spelled s) keys) (spelled s e)) (place_among (map (spelled s) counted) (spelled s e)) x is) told
+    given_typed e x z is returned = by_index e x z (indexed_as (index_among (map (spelled s) keys) (spelled s e)) (index_among (map (spelled s) counted) (spelled s e)) x is) returned
 
     over_groups : (e : Expr) (z : Sort) (x : plan.Expr) → has_fitting_literals e ≡ true → judged s e false ≡ Ok z → translated given e ≡ Some x → Has types x z
     over_groups = all_typed s types given false given_typed
@@ -190,7 +191,7 @@ module _ (s : Scope) where
     -- ---- what is named
 
     module _ (IsRead : Reference → Type 0) (of_key : (i : ℕ) (k : Expr) → slice_get keys i ≡ Some k → IsRead (GroupKey i)) (of_aggregate : (i : ℕ) (t : Expr) → slice_get counted i ≡ Some t → IsRead (GroupAggregate i)) where
-      by_name : (e : Expr) (x : plan.Expr) → Placed (place_among (map (spelled s) keys) (spelled s e)) (place_among (map (spelled s) counted) (spelled s e)) x → AllByRecursion IsRead (columns_used x)
+      by_name : (e : Expr) (x : plan.Expr) → IsIndexed (index_among (map (spelled s) keys) (spelled s e)) (index_among (map (spelled s) counted) (spelled s e)) x → AllByRecursion IsRead (columns_used x)
       by_name e x (inl at) =
           let k = tree_at s keys (spelled s e) at.0 at.1 in
           subst (λ (us : List Reference). AllByRecursion IsRead us) (sym (ap columns_used at.2 ∙ used-Key at.0)) (of_key at.0 k.0 k.1, tt)
@@ -200,7 +201,7 @@ module _ (s : Scope) where
 
       names_groups : (e : Expr) (x : plan.Expr) → translated given e ≡ Some x → AllByRecursion IsRead (columns_used x)
       names_groups e x is =
-          reads given IsRead (λ p. true) (λ f y covered told. by_name f y (placed_as (place_among (map (spelled s) keys) (spelled s f)) (place_among (map (spelled s) counted) (spelled s f)) y told))
+          reads given IsRead (λ p. true) (λ f y covered returned. by_name f y (indexed_as (index_among (map (spelled s) keys) (spelled s f)) (index_among (map (spelled s) counted) (spelled s f)) y returned))
           e (λ p h. refl) x is
 
   -- ---- keys

@@ -14,12 +14,12 @@ use Rattle.sql_syntax.specs.declared.tree.Expr.TheViews.{out-Expr}
 use Rattle.sql_syntax.specs.declared.tree.Query.{Query}
 use Rattle.planner_expressions.specs.declared.fault.PlanFault.{PlanFault}
 use Rattle.planner_expressions.specs.declared.scope.Dim.{Dim}
-use Rattle.planner_expressions.specs.declared.scope.Place.{Place}
+use Rattle.planner_expressions.specs.declared.scope.ScopeColumn.{ScopeColumn}
 use Rattle.planner_expressions.specs.declared.scope.Scope.{Scope}
 use Rattle.planner_expressions.specs.From.{is_at}
 use Rattle.planner_expressions.specs.Given.{column_meant, node_column}
 use Rattle.planner_expressions.specs.Scope.{is_meant, meant, one_of, found}
-use Rattle.planner_expressions.specs.Typed.{is_key_place, has_its_key}
+use Rattle.planner_expressions.specs.Typed.{is_key_column, has_its_key}
 use Rattle.planner_expressions.proofs.Accepted.{goes_there}
 use Rattle.planner_expressions.proofs.TypedRows.{front}
 use Rattle.planner.specs.declared.conjuncts.Equality.{Equality}
@@ -37,16 +37,16 @@ module _ (s : Scope) (keys : List ℕ) (all_keyed : list_all (has_its_key keys) 
   abbrev OneLooks : Option Equality → Type 0
   OneLooks o = list_all LooksFor (option_to_list o) ≡ true
 
-  abbrev Stands : Option Place → Type 0
-  Stands o = (p : Place) → o ≡ Some p → has_its_key keys p ≡ true
+  abbrev Stands : Option ScopeColumn → Type 0
+  Stands o = (p : ScopeColumn) → o ≡ Some p → has_its_key keys p ≡ true
 
-  by_test : (x k : Place) (j : ℕ) (is_key rest : Bool) → (not is_key || is_at k.place (slice_get keys j)) ≡ true
-      → OneLooks (cond (is_key && rest) (Some (record { join = j; foreign = x.place; key = k.place })) None)
-  by_test x k j true true is = both (is_at k.place (slice_get keys j)) true is refl
+  by_test : (x k : ScopeColumn) (j : ℕ) (is_key rest : Bool) → (not is_key || is_at k.column (slice_get keys j)) ≡ true
+      → OneLooks (cond (is_key && rest) (Some (record { join = j; foreign = x.column; key = k.column })) None)
+  by_test x k j true true is = both (is_at k.column (slice_get keys j)) true is refl
   by_test x k j true false is = refl
   by_test x k j false rest is = refl
 
-  by_join : (x k : Place) (join : Option ℕ) → (not k.is_key || is_key_place keys join k.place) ≡ true → OneLooks (joined_by (k.is_key && is_none x.join) x k join)
+  by_join : (x k : ScopeColumn) (join : Option ℕ) → (not k.is_key || is_key_column keys join k.column) ≡ true → OneLooks (joined_by (k.is_key && is_none x.join) x k join)
   by_join x k None is = refl
   by_join x k (Some j) is = by_test x k j k.is_key (is_none x.join) is
 
@@ -54,14 +54,14 @@ module _ (s : Scope) (keys : List ℕ) (all_keyed : list_all (has_its_key keys) 
   either_looks (Some x) b first second = first
   either_looks None b first second = second
 
-  of_places : (a b : Option Place) → Stands a → Stands b → OneLooks (equality_of a b)
-  of_places (Some x) (Some k) first second = either_looks (keyed x k) (keyed k x) (by_join x k k.join (second k refl)) (by_join k x x.join (first x refl))
-  of_places (Some x) None first second = refl
-  of_places None b first second = refl
+  of_columns : (a b : Option ScopeColumn) → Stands a → Stands b → OneLooks (equality_of a b)
+  of_columns (Some x) (Some k) first second = either_looks (keyed x k) (keyed k x) (by_join x k k.join (second k refl)) (by_join k x x.join (first x refl))
+  of_columns (Some x) None first second = refl
+  of_columns None b first second = refl
 
-  one_stands : (ps : List Place) → list_all (has_its_key keys) ps ≡ true → Stands (found (one_of ps))
+  one_stands : (ps : List ScopeColumn) → list_all (has_its_key keys) ps ≡ true → Stands (found (one_of ps))
   one_stands [] all p is = absurd cc
-  one_stands (q ∷ []) all p is = let same : q ≡ p = cc in subst (λ (r : Place). has_its_key keys r ≡ true) same (all_first (has_its_key keys) q [] all)
+  one_stands (q ∷ []) all p is = let same : q ≡ p = cc in subst (λ (r : ScopeColumn). has_its_key keys r ≡ true) same (all_first (has_its_key keys) q [] all)
   one_stands (q ∷ r ∷ ps) all p is = absurd cc
 
   at_node : (x : Expr-F Expr Arm) → Stands (node_column s x)
@@ -69,7 +69,7 @@ module _ (s : Scope) (keys : List ℕ) (all_keyed : list_all (has_its_key keys) 
   at_node _ p is = absurd cc
 
   node_looks : (x : Expr-F Expr Arm) → OneLooks (node_equality s x)
-  node_looks (node.Compare comparison.Equal a b) = of_places (column_meant s a) (column_meant s b) (at_node (out-Expr a)) (at_node (out-Expr b))
+  node_looks (node.Compare comparison.Equal a b) = of_columns (column_meant s a) (column_meant s b) (at_node (out-Expr a)) (at_node (out-Expr b))
   node_looks _ = refl
 
   all_look : (es : List Expr) → list_all LooksFor (equalities_among s es) ≡ true

@@ -1,7 +1,7 @@
 pub mod Equalities
 pub mod Topmost
 pub mod Gathering
-pub mod Telling
+pub mod Reporting
 pub mod Uses
 pub mod Parting
 pub mod Conditions
@@ -13,7 +13,8 @@ pub mod NamedParts
 pub mod ReadColumns
 pub mod TypedAlike
 pub mod ListedJoins
-pub mod WellFormedPlans
+pub mod SoundPlans
+pub mod PlannedTexts
 pub mod TypedPlans
 pub mod Unbarred
 pub mod OwnAggregates

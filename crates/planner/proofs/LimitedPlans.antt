@@ -36,10 +36,10 @@ few_if false n most test is = let h = ltb-false most n test in omega (arith, h)
 few : (n most : ℕ) → (if nat_lt most n then Err fault.OverLimit else well) ≡ well → n ≤ most
 few n most is = few_if (nat_lt most n) n most refl is
 
-entry_if : (a b : Bool) (place : ℕ) → nat_le max_keys place ≡ b → (if a then Err fault.PlaceNotAllowed else if b then Err fault.OverLimit else well) ≡ well → place < max_keys
-entry_if true b place test is = absurd cc
-entry_if false true place test is = absurd cc
-entry_if false false place test is = let h = leb-false max_keys place test in omega (arith, h)
+entry_if : (a b : Bool) (position : ℕ) → nat_le max_keys position ≡ b → (if a then Err fault.PositionNotAllowed else if b then Err fault.OverLimit else well) ≡ well → position < max_keys
+entry_if true b position test is = absurd cc
+entry_if false true position test is = absurd cc
+entry_if false false position test is = let h = leb-false max_keys position test in omega (arith, h)
 
 -- each entry stands before the limit
 entries_few : (n : ℕ) (es : List Expr) → n ≤ max_keys → each_ok (map entry_check (enumerate_from n es)) ≡ Ok tt → n + length es ≤ max_keys

@@ -18,12 +18,12 @@ use Rattle.sql_syntax.specs.declared.tree.Expr.TheViews.{out-Expr}
 use Rattle.sql_syntax.specs.declared.tree.Query.{Query}
 use Rattle.planner_expressions.specs.declared.fault.PlanFault.{PlanFault}
 use Rattle.planner_expressions.specs.declared.scope.Dim.{Dim}
-use Rattle.planner_expressions.specs.declared.scope.Place.{Place}
+use Rattle.planner_expressions.specs.declared.scope.ScopeColumn.{ScopeColumn}
 use Rattle.planner_expressions.specs.declared.scope.Scope.{Scope}
 use Rattle.planner_expressions.specs.declared.sort.Sort.{Sort}
 use Rattle.planner_expressions.specs.declared.sort.Sort.TheVariants.{Truth}
 use Rattle.planner_expressions.specs.Given.{column_meant, node_column}
-use Rattle.planner_expressions.specs.Judged.{Told, Judgement, judge_node, judged, judged_arm, typed}
+use Rattle.planner_expressions.specs.Judged.{Returned, Judgement, judge_node, judged, judged_arm, typed}
 use Rattle.planner_expressions.specs.Scope.{meant, one_of, found}
 use Rattle.planner_expressions.specs.Sorts.{sort_of_type, same_sort, is_value, are_alike}
 use Rattle.planner_expressions.specs.Uses.{names, names_arm, names_node}
@@ -48,11 +48,11 @@ type_is of_type.Int of_type.Text is = absurd cc
 type_is of_type.Text of_type.Int is = absurd cc
 type_is of_type.Text of_type.Text is = refl
 
-module _ (s : Scope) (wanted : Place → Bool) where
+module _ (s : Scope) (wanted : ScopeColumn → Bool) where
   -- the join equality is between a column of the fact and one of a dimension, both wanted and of one type
   pub record IsBetween (e : Equality) : Type 0 where
-    pub x : Place
-    pub k : Place
+    pub x : ScopeColumn
+    pub k : ScopeColumn
     pub x_there : Among s.columns x
     pub k_there : Among s.columns k
     pub x_wanted : wanted x ≡ true
@@ -60,8 +60,8 @@ module _ (s : Scope) (wanted : Place → Bool) where
     pub x_join : x.join ≡ None
     pub k_join : k.join ≡ Some e.join
     pub same : x.col_type ≡ k.col_type
-    pub foreign : e.foreign ≡ x.place
-    pub key : e.key ≡ k.place
+    pub foreign : e.foreign ≡ x.column
+    pub key : e.key ≡ k.column
 
   abbrev pub AreBetween : List Equality → Type 0
   AreBetween = AllByRecursion IsBetween
@@ -69,15 +69,15 @@ module _ (s : Scope) (wanted : Place → Bool) where
   abbrev OneBetween : Option Equality → Type 0
   OneBetween o = AreBetween (option_to_list o)
 
-  abbrev IsThere : Place → Type 0
+  abbrev IsThere : ScopeColumn → Type 0
   IsThere p = Among s.columns p × (wanted p ≡ true)
 
   no_join : (o : Option ℕ) → is_none o ≡ true → o ≡ None
   no_join None is = refl
   no_join (Some j) is = absurd cc
 
-  by_test : (x k : Place) (j : ℕ) (b : Bool) → k.join ≡ Some j → IsThere x → IsThere k → x.col_type ≡ k.col_type → (k.is_key && is_none x.join) ≡ b
-      → OneBetween (cond b (Some (record { join = j; foreign = x.place; key = k.place })) None)
+  by_test : (x k : ScopeColumn) (j : ℕ) (b : Bool) → k.join ≡ Some j → IsThere x → IsThere k → x.col_type ≡ k.col_type → (k.is_key && is_none x.join) ≡ b
+      → OneBetween (cond b (Some (record { join = j; foreign = x.column; key = k.column })) None)
   by_test x k j true joined x_is k_is same is = (
     record {
       x = x;
@@ -96,7 +96,7 @@ module _ (s : Scope) (wanted : Place → Bool) where
   )
   by_test x k j false joined x_is k_is same is = tt
 
-  by_join : (x k : Place) (join : Option ℕ) → k.join ≡ join → IsThere x → IsThere k → x.col_type ≡ k.col_type → OneBetween (joined_by (k.is_key && is_none x.join) x k join)
+  by_join : (x k : ScopeColumn) (join : Option ℕ) → k.join ≡ join → IsThere x → IsThere k → x.col_type ≡ k.col_type → OneBetween (joined_by (k.is_key && is_none x.join) x k join)
   by_join x k None joined x_is k_is same = tt
   by_join x k (Some j) joined x_is k_is same = by_test x k j (k.is_key && is_none x.join) joined x_is k_is same refl
 
@@ -104,25 +104,25 @@ module _ (s : Scope) (wanted : Place → Bool) where
   either_between (Some x) b first second = first
   either_between None b first second = second
 
-  abbrev Stands : Option Place → Type 0
-  Stands o = (p : Place) → o ≡ Some p → IsThere p
+  abbrev Stands : Option ScopeColumn → Type 0
+  Stands o = (p : ScopeColumn) → o ≡ Some p → IsThere p
 
-  of_places : (a b : Option Place) → Stands a → Stands b → ((x k : Place) → a ≡ Some x → b ≡ Some k → x.col_type ≡ k.col_type) → AreBetween (option_to_list (equality_of a b))
-  of_places (Some x) (Some k) first second alike =
+  of_columns : (a b : Option ScopeColumn) → Stands a → Stands b → ((x k : ScopeColumn) → a ≡ Some x → b ≡ Some k → x.col_type ≡ k.col_type) → AreBetween (option_to_list (equality_of a b))
+  of_columns (Some x) (Some k) first second alike =
       either_between (keyed x k) (keyed k x) (by_join x k k.join refl (first x refl) (second k refl) (alike x k refl refl))
       (by_join k x x.join refl (second k refl) (first x refl) (sym (alike x k refl refl)))
-  of_places (Some x) None first second alike = tt
-  of_places None b first second alike = tt
+  of_columns (Some x) None first second alike = tt
+  of_columns None b first second alike = tt
 
   -- ---- names
 
-  abbrev named_at : Expr-F Expr Arm → Place → Bool
+  abbrev named_at : Expr-F Expr Arm → ScopeColumn → Bool
   named_at x p = names_node p (map-Expr Expr Arm Bool Bool (names p) (names_arm p) x)
 
-  names_out : (e : Expr) (p : Place) → names p e ≡ named_at (out-Expr e) p
+  names_out : (e : Expr) (p : ScopeColumn) → names p e ≡ named_at (out-Expr e) p
   names_out e p = search (rules, the_lemmas)
 
-  abbrev judge_at : Expr-F Expr Arm → Told
+  abbrev judge_at : Expr-F Expr Arm → Returned
   judge_at x = judge_node s (map-Expr Expr Arm Judgement (Judgement × Judgement) (judged s) (judged_arm s) x) true
 
   judged_out : (e : Expr) → judged s e true ≡ judge_at (out-Expr e)
@@ -135,23 +135,23 @@ module _ (s : Scope) (wanted : Place → Bool) where
   tree_stands : (e : Expr) → Covers wanted e → Stands (column_meant s e)
   tree_stands e covered = node_stands (out-Expr e) (λ p h. covered p (names_out e p ∙ h))
 
-  one_sort : (ps : List Place) (p : Place) → found (one_of ps) ≡ Some p → and_then (one_of ps) (λ q. Ok (sort_of_type q.col_type)) ≡ Ok (sort_of_type p.col_type)
+  one_sort : (ps : List ScopeColumn) (p : ScopeColumn) → found (one_of ps) ≡ Some p → and_then (one_of ps) (λ q. Ok (sort_of_type q.col_type)) ≡ Ok (sort_of_type p.col_type)
   one_sort [] p is = absurd cc
-  one_sort (q ∷ []) p is = let same : q ≡ p = cc in ap (λ (r : Place). Ok (sort_of_type r.col_type)) same
+  one_sort (q ∷ []) p is = let same : q ≡ p = cc in ap (λ (r : ScopeColumn). Ok (sort_of_type r.col_type)) same
   one_sort (q ∷ r ∷ ps) p is = absurd cc
 
-  node_sort : (x : Expr-F Expr Arm) (p : Place) → node_column s x ≡ Some p → judge_at x ≡ Ok (sort_of_type p.col_type)
+  node_sort : (x : Expr-F Expr Arm) (p : ScopeColumn) → node_column s x ≡ Some p → judge_at x ≡ Ok (sort_of_type p.col_type)
   node_sort (node.Column table name) p is = one_sort (meant s table name) p is
   node_sort _ p is = absurd cc
 
-  tree_sort : (e : Expr) (p : Place) → column_meant s e ≡ Some p → judged s e true ≡ Ok (sort_of_type p.col_type)
+  tree_sort : (e : Expr) (p : ScopeColumn) → column_meant s e ≡ Some p → judged s e true ≡ Ok (sort_of_type p.col_type)
   tree_sort e p is = judged_out e ∙ node_sort (out-Expr e) p is
 
-  same_ok : (a b : Sort) → ◌≡◌ {A = Told} (Ok a) (Ok b) → a ≡ b
+  same_ok : (a b : Sort) → ◌≡◌ {A = Returned} (Ok a) (Ok b) → a ≡ b
   same_ok a b is = cc
 
   -- two names that are compared are of one type
-  alike_types : (a b : Expr) (x k : Place) (j l z : Sort) → judged s a true ≡ Ok j → judged s b true ≡ Ok l → typed (are_alike (j ∷ l ∷ [])) Truth ≡ Ok z
+  alike_types : (a b : Expr) (x k : ScopeColumn) (j l z : Sort) → judged s a true ≡ Ok j → judged s b true ≡ Ok l → typed (are_alike (j ∷ l ∷ [])) Truth ≡ Ok z
       → column_meant s a ≡ Some x → column_meant s b ≡ Some k → x.col_type ≡ k.col_type
   alike_types a b x k j l z a_is b_is is x_is k_is =
       let first : j ≡ sort_of_type x.col_type = same_ok j (sort_of_type x.col_type) (sym a_is ∙ tree_sort a x x_is) in
@@ -164,7 +164,7 @@ module _ (s : Scope) (wanted : Place → Bool) where
   node_between : (x : Expr-F Expr Arm) (z : Sort) → judge_at x ≡ Ok z → Named wanted (named_at x) → AreBetween (option_to_list (node_equality s x))
   node_between (node.Compare comparison.Equal a b) z is named =
       let sorts = both_sorts (judged s a true) (judged s b true) (λ j l. typed (are_alike (j ∷ l ∷ [])) Truth) z is in
-      of_places (column_meant s a) (column_meant s b)
+      of_columns (column_meant s a) (column_meant s b)
       (tree_stands a (left wanted (λ p. names p a) (λ p. names p b) named))
       (tree_stands b (right wanted (λ p. names p a) (λ p. names p b) named))
       (λ x k. alike_types a b x k sorts.0 sorts.1.0 z sorts.1.1 sorts.1.2 sorts.1.3)
@@ -180,7 +180,7 @@ module _ (s : Scope) (wanted : Place → Bool) where
 -- ---- joins
 
 module _ (s : Scope) (q : Query) (equalities : List Equality) where
-  -- the join of the dimension of FROM at this place, by its equality
+  -- the join of the dimension of FROM of this index, by its equality
   pub record IsJoinAt (n : ℕ) (j : Join) : Type 0 where
     pub equality : Equality
     pub there : Among equalities equality
@@ -211,7 +211,7 @@ module _ (s : Scope) (q : Query) (equalities : List Equality) where
       join_is : (t : TableUse) (e : Equality) (j : Join) → ◌≡◌ {A = Result Join PlanFault} (Ok (record { dim = t; foreign = e.foreign; key = e.key })) (Ok j) → record { dim = t; foreign = e.foreign; key = e.key } ≡ j
       join_is t e j is = cc
 
-  -- the joins are those of the dimensions from this place on
+  -- the joins are those of the dimensions from this index on
   abbrev pub AreJoinsFrom : ℕ → List Dim → List Join → Type 0
   AreJoinsFrom n [] [] = Unit {0}
   AreJoinsFrom n [] (j ∷ js) = ⊥

@@ -8,17 +8,17 @@ use Rattle.sql_syntax.specs.declared.tree.Expr.TheOpen as node
 use Rattle.sql_syntax.specs.declared.tree.Expr.TheOpen.{Expr-F, Arm-F}
 use Rattle.sql_syntax.specs.declared.tree.Expr.TheFolds.{ind-Expr, map-Expr, fold-roll-Expr, fold-roll-Arm}
 use Rattle.sql_syntax.specs.declared.tree.Expr.TheViews.{roll-Expr}
-use Rattle.planner_expressions.specs.declared.scope.Place.{Place}
+use Rattle.planner_expressions.specs.declared.scope.ScopeColumn.{ScopeColumn}
 use Rattle.planner_expressions.specs.Trees.{parts_of, topmost}
 use Rattle.planner_expressions.specs.Uses.{names, names_arm, names_node, names_either}
 use Rattle.planner_expressions.proofs.Replaced.{parts_give, arm_gives}
 use Rattle.planner.proofs.Topmost.{given, joined, passes, below}
 use Rattle.planner.proofs.TypedTrees.{both_all}
 
-module _ (wanted : Place → Bool) where
+module _ (wanted : ScopeColumn → Bool) where
   -- each column of that name is wanted
-  abbrev pub Named : (Place → Bool) → Type 0
-  Named namer = (p : Place) → namer p ≡ true → wanted p ≡ true
+  abbrev pub Named : (ScopeColumn → Bool) → Type 0
+  Named namer = (p : ScopeColumn) → namer p ≡ true → wanted p ≡ true
 
   abbrev pub Covers : Expr → Type 0
   Covers e = Named (λ p. names p e)
@@ -26,10 +26,10 @@ module _ (wanted : Place → Bool) where
   abbrev pub AllCovered : List Expr → Type 0
   AllCovered = AllByRecursion Covers
 
-  pub left : (f g : Place → Bool) → Named (λ p. f p || g p) → Named f
+  pub left : (f g : ScopeColumn → Bool) → Named (λ p. f p || g p) → Named f
   left f g named p is = named p (or_first (f p) (g p) is)
 
-  pub right : (f g : Place → Bool) → Named (λ p. f p || g p) → Named g
+  pub right : (f g : ScopeColumn → Bool) → Named (λ p. f p || g p) → Named g
   right f g named p is = named p (or_second (f p) (g p) is)
 
   pub all_covered : (es : List Expr) → Named (λ p. list_any (names p) es) → AllCovered es
@@ -62,7 +62,7 @@ module _ (wanted : Place → Bool) where
     abbrev arms_in : List PartingArm → List Arm
     arms_in = map (λ (a : PartingArm). a.0)
 
-    abbrev named_at : Expr-F Expr Arm → Place → Bool
+    abbrev named_at : Expr-F Expr Arm → ScopeColumn → Bool
     named_at x p = names_node p (map-Expr Expr Arm Bool Bool (names p) (names_arm p) x)
 
     abbrev parts_at : Expr-F Expr Arm → List (List Expr)

@@ -14,10 +14,10 @@ use Rattle.sql_syntax.specs.declared.tree.Expr.TheOpen as node
 use Rattle.sql_syntax.specs.declared.tree.Expr.TheOpen.{Expr-F}
 use Rattle.sql_syntax.specs.declared.tree.Expr.TheFolds.{the_lemmas, map-Expr}
 use Rattle.sql_syntax.specs.declared.tree.Expr.TheViews.{out-Expr}
-use Rattle.planner_expressions.specs.declared.scope.Place.{Place}
+use Rattle.planner_expressions.specs.declared.scope.ScopeColumn.{ScopeColumn}
 use Rattle.planner_expressions.specs.declared.scope.Scope.{Scope}
 use Rattle.planner_expressions.specs.Scope.{stands_for}
-use Rattle.planner_expressions.specs.Spelled.{Spelling, aggregate_code, column_code, spell_node, spelled, spelled_arm, same_spelling, place_among}
+use Rattle.planner_expressions.specs.Spelled.{Spelling, aggregate_code, column_code, spell_node, spelled, spelled_arm, same_spelling, index_among}
 use Rattle.planner_expressions.proofs.AlikeTrees.{spelled_sorts, spelled_translate}
 use Rattle.planner_expressions.proofs.SpelledAlike.{tail_is, head_is, aggregate_same, is_tag}
 use Rattle.planner.specs.declared.aggregates.Aggregates.{Aggregates}
@@ -26,7 +26,7 @@ use Rattle.planner.specs.Conjuncts.{row_expr}
 use Rattle.planner.specs.PlanOf.{argument_of, is_counted}
 use Rattle.planner.proofs.TypedTrees.{both_all}
 
--- ---- the first place
+-- ---- the first index
 
 module _ {X : Type 0} (p : X → Bool) where
   more_by : (n i : ℕ) (xs ys : List X) (b : Bool) → (position_from p (n + 1) xs ≡ Some i → position_from p (n + 1) ys ≡ Some i)
@@ -34,17 +34,17 @@ module _ {X : Type 0} (p : X → Bool) where
   more_by n i xs ys true rest is = is
   more_by n i xs ys false rest is = rest is
 
-  place_more : (n i : ℕ) (xs ys : List X) → position_from p n xs ≡ Some i → position_from p n (xs ++ ys) ≡ Some i
-  place_more n i [] ys is = absurd cc
-  place_more n i (x ∷ xs) ys is = more_by n i xs (xs ++ ys) (p x) (place_more (n + 1) i xs ys) is
+  index_more : (n i : ℕ) (xs ys : List X) → position_from p n xs ≡ Some i → position_from p n (xs ++ ys) ≡ Some i
+  index_more n i [] ys is = absurd cc
+  index_more n i (x ∷ xs) ys is = more_by n i xs (xs ++ ys) (p x) (index_more (n + 1) i xs ys) is
 
   last_by : (n : ℕ) (xs : List X) (b : Bool) → ((i : ℕ) × (position_from p (n + 1) xs ≡ Some i)) → (i : ℕ) × (cond b (Some n) (position_from p (n + 1) xs) ≡ Some i)
   last_by n xs true rest = (n, refl)
   last_by n xs false rest = rest
 
-  place_last : (n : ℕ) (xs : List X) (x : X) → p x ≡ true → (i : ℕ) × (position_from p n (xs ++ x ∷ []) ≡ Some i)
-  place_last n [] x is = (n, ap (λ (b : Bool). cond b (Some n) None) is)
-  place_last n (y ∷ xs) x is = last_by n (xs ++ x ∷ []) (p y) (place_last (n + 1) xs x is)
+  index_last : (n : ℕ) (xs : List X) (x : X) → p x ≡ true → (i : ℕ) × (position_from p n (xs ++ x ∷ []) ≡ Some i)
+  index_last n [] x is = (n, ap (λ (b : Bool). cond b (Some n) None) is)
+  index_last n (y ∷ xs) x is = last_by n (xs ++ x ∷ []) (p y) (index_last (n + 1) xs x is)
 
 plus_zero : (n : ℕ) → n ≡ n + 0
 plus_zero n = grind arith
@@ -74,7 +74,7 @@ module _ (s : Scope) where
   has_argument (node.Aggregate k a) = true
   has_argument _ = false
 
-  no_tag : (o : Option Place) → is_tag 5 (column_code o) ≡ false
+  no_tag : (o : Option ScopeColumn) → is_tag 5 (column_code o) ≡ false
   no_tag None = refl
   no_tag (Some p) = refl
 
@@ -112,60 +112,60 @@ module _ (s : Scope) where
   pub one_aggregate : (e f : Expr) → spelled s e ≡ spelled s f → is_counted s e → aggregate_of s e ≡ aggregate_of s f
   one_aggregate e f is counted = node_same (out-Expr e) (out-Expr f) (has_argument (out-Expr e)) refl (sym (spelled_out e) ∙ is ∙ spelled_out f) counted
 
-  -- ---- each has a place
+  -- ---- each has an index
 
-  abbrev pub HasPlace : List Spelling → Expr → Type 0
-  HasPlace ws e = (i : ℕ) × (place_among ws (spelled s e) ≡ Some i)
+  abbrev pub HasIndex : List Spelling → Expr → Type 0
+  HasIndex ws e = (i : ℕ) × (index_among ws (spelled s e) ≡ Some i)
 
-  from_start : (ws : List Spelling) (x : Spelling) → place_among ws x ≡ position_from (same_spelling x) 0 ws
+  from_start : (ws : List Spelling) (x : Spelling) → index_among ws x ≡ position_from (same_spelling x) 0 ws
   from_start ws x = position_from-zero (same_spelling x) ws
 
-  place_kept : (ws vs : List Spelling) (e : Expr) → HasPlace ws e → HasPlace (ws ++ vs) e
-  place_kept ws vs e has =
-      (has.0, from_start (ws ++ vs) (spelled s e) ∙ place_more (same_spelling (spelled s e)) 0 has.0 ws vs (sym (from_start ws (spelled s e)) ∙ has.1))
+  index_kept : (ws vs : List Spelling) (e : Expr) → HasIndex ws e → HasIndex (ws ++ vs) e
+  index_kept ws vs e has =
+      (has.0, from_start (ws ++ vs) (spelled s e) ∙ index_more (same_spelling (spelled s e)) 0 has.0 ws vs (sym (from_start ws (spelled s e)) ∙ has.1))
 
-  new_kept : (l : Aggregates) (x : Spelling) (a : Aggregate) (o : Option ℕ) (e : Expr) → HasPlace l.written e → HasPlace (with_new l x a o).written e
+  new_kept : (l : Aggregates) (x : Spelling) (a : Aggregate) (o : Option ℕ) (e : Expr) → HasIndex l.written e → HasIndex (with_new l x a o).written e
   new_kept l x a (Some i) e has = has
-  new_kept l x a None e has = place_kept l.written (x ∷ []) e has
+  new_kept l x a None e has = index_kept l.written (x ∷ []) e has
 
   itself : (x : Spelling) → same_spelling x x ≡ true
   itself x = (signed_items x x).1 refl
 
-  new_has : (l : Aggregates) (e : Expr) (a : Aggregate) (o : Option ℕ) → place_among l.written (spelled s e) ≡ o → HasPlace (with_new l (spelled s e) a o).written e
+  new_has : (l : Aggregates) (e : Expr) (a : Aggregate) (o : Option ℕ) → index_among l.written (spelled s e) ≡ o → HasIndex (with_new l (spelled s e) a o).written e
   new_has l e a (Some i) is = (i, is)
   new_has l e a None is =
-      let last = place_last (same_spelling (spelled s e)) 0 l.written (spelled s e) (itself (spelled s e)) in
+      let last = index_last (same_spelling (spelled s e)) 0 l.written (spelled s e) (itself (spelled s e)) in
       (last.0, from_start (l.written ++ spelled s e ∷ []) (spelled s e) ∙ last.1)
 
-  all_kept : (l : Aggregates) (es : List Expr) (e : Expr) → HasPlace l.written e → HasPlace (with_aggregates s l es).written e
+  all_kept : (l : Aggregates) (es : List Expr) (e : Expr) → HasIndex l.written e → HasIndex (with_aggregates s l es).written e
   all_kept l [] e has = has
-  all_kept l (f ∷ es) e has = all_kept (with_aggregate s l f) es e (new_kept l (spelled s f) (aggregate_of s f) (place_among l.written (spelled s f)) e has)
+  all_kept l (f ∷ es) e has = all_kept (with_aggregate s l f) es e (new_kept l (spelled s f) (aggregate_of s f) (index_among l.written (spelled s f)) e has)
 
-  parts_kept : (l : Aggregates) (parts : List (List Expr)) (e : Expr) → HasPlace l.written e → HasPlace (with_parts s l parts).written e
+  parts_kept : (l : Aggregates) (parts : List (List Expr)) (e : Expr) → HasIndex l.written e → HasIndex (with_parts s l parts).written e
   parts_kept l [] e has = has
   parts_kept l (es ∷ parts) e has = parts_kept (with_aggregates s l es) parts e (all_kept l es e has)
 
-  all_have : (l : Aggregates) (es : List Expr) → AllByRecursion (HasPlace (with_aggregates s l es).written) es
+  all_have : (l : Aggregates) (es : List Expr) → AllByRecursion (HasIndex (with_aggregates s l es).written) es
   all_have l [] = tt
   all_have l (e ∷ es) =
-      (all_kept (with_aggregate s l e) es e (new_has l e (aggregate_of s e) (place_among l.written (spelled s e)) refl), all_have (with_aggregate s l e) es)
+      (all_kept (with_aggregate s l e) es e (new_has l e (aggregate_of s e) (index_among l.written (spelled s e)) refl), all_have (with_aggregate s l e) es)
 
   through : (P Q : Expr → Type 0) (es : List Expr) → ((e : Expr) → P e → Q e) → AllByRecursion P es → AllByRecursion Q es
   through P Q [] made all = tt
   through P Q (e ∷ es) made all = (made e all.0, through P Q es made all.1)
 
   -- those of each part
-  pub parts_have : (l : Aggregates) (parts : List (List Expr)) → AllByRecursion (λ es. AllByRecursion (HasPlace (with_parts s l parts).written) es) parts
+  pub parts_have : (l : Aggregates) (parts : List (List Expr)) → AllByRecursion (λ es. AllByRecursion (HasIndex (with_parts s l parts).written) es) parts
   parts_have l [] = tt
   parts_have l (es ∷ parts) = (
-    through (HasPlace (with_aggregates s l es).written) (HasPlace (with_parts s (with_aggregates s l es) parts).written) es (parts_kept (with_aggregates s l es) parts) (all_have l es),
+    through (HasIndex (with_aggregates s l es).written) (HasIndex (with_parts s (with_aggregates s l es) parts).written) es (parts_kept (with_aggregates s l es) parts) (all_have l es),
     parts_have (with_aggregates s l es) parts,
   )
 
-  pub parts_still : (l : Aggregates) (parts more : List (List Expr)) → AllByRecursion (λ es. AllByRecursion (HasPlace l.written) es) parts
-      → AllByRecursion (λ es. AllByRecursion (HasPlace (with_parts s l more).written) es) parts
+  pub parts_still : (l : Aggregates) (parts more : List (List Expr)) → AllByRecursion (λ es. AllByRecursion (HasIndex l.written) es) parts
+      → AllByRecursion (λ es. AllByRecursion (HasIndex (with_parts s l more).written) es) parts
   parts_still l [] more all = tt
-  parts_still l (es ∷ parts) more all = (through (HasPlace l.written) (HasPlace (with_parts s l more).written) es (parts_kept l more) all.0, parts_still l parts more all.1)
+  parts_still l (es ∷ parts) more all = (through (HasIndex l.written) (HasIndex (with_parts s l more).written) es (parts_kept l more) all.0, parts_still l parts more all.1)
 
   -- ---- the tree there
 
@@ -180,16 +180,16 @@ module _ (s : Scope) where
   found_at n i [] x is = absurd cc
   found_at n i (e ∷ es) x is = by_test n i e es x (same_spelling x (spelled s e)) refl (found_at (n + 1) i es x) is
 
-  pub tree_at : (es : List Expr) (x : Spelling) (i : ℕ) → place_among (map (spelled s) es) x ≡ Some i → (f : Expr) × (slice_get es i ≡ Some f) × (x ≡ spelled s f)
+  pub tree_at : (es : List Expr) (x : Spelling) (i : ℕ) → index_among (map (spelled s) es) x ≡ Some i → (f : Expr) × (slice_get es i ≡ Some f) × (x ≡ spelled s f)
   tree_at es x i is =
       let found = found_at 0 i es x (sym (from_start (map (spelled s) es) x) ∙ is) in
       (found.1.0, ap (slice_get es) (found.1.1 ∙ zero_plus found.0) ∙ found.1.2, found.1.3)
 
   -- the aggregate there
-  pub aggregate_there : (es : List Expr) (ws : List Spelling) (list : List Aggregate) (e : Expr) (has : HasPlace ws e) → ws ≡ map (spelled s) es → list ≡ map (aggregate_of s) es → is_counted s e
+  pub aggregate_there : (es : List Expr) (ws : List Spelling) (list : List Aggregate) (e : Expr) (has : HasIndex ws e) → ws ≡ map (spelled s) es → list ≡ map (aggregate_of s) es → is_counted s e
       → slice_get list has.0 ≡ Some (aggregate_of s e)
   aggregate_there es ws list e has written_is list_is counted =
-      let found = tree_at es (spelled s e) has.0 (sym (ap (λ (xs : List Spelling). place_among xs (spelled s e)) written_is) ∙ has.1) in
+      let found = tree_at es (spelled s e) has.0 (sym (ap (λ (xs : List Spelling). index_among xs (spelled s e)) written_is) ∙ has.1) in
       ap (λ (xs : List Aggregate). slice_get xs has.0) list_is ∙ get_map (aggregate_of s) es has.0 found.0 found.1
       ∙ ap (λ (a : Aggregate). Some a) (sym (one_aggregate e found.0 found.2 counted))
 

@@ -23,7 +23,7 @@ use Rattle.planner_expressions.specs.From.{scope_of}
 use Rattle.planner_expressions.specs.Given.{given_in}
 use Rattle.planner_expressions.specs.Judged.{judged}
 use Rattle.planner_expressions.specs.Meant.{SameOnRows, SameOnGroups}
-use Rattle.planner_expressions.specs.Results.{each_ok, Tells}
+use Rattle.planner_expressions.specs.Results.{each_ok, Reports}
 use Rattle.planner_expressions.specs.Sorts.{same_sort}
 use Rattle.planner_expressions.specs.Spelled.{Spelling, spelled}
 use Rattle.planner_expressions.specs.Translated.{translated}
@@ -185,6 +185,6 @@ plans_mean catalog q p is =
           (ok_same _ _ PlanFault order.2) (ok_same _ _ PlanFault shown.2) (ok_same _ _ PlanFault groups.2),
     )
 
-pub means_told : (catalog : Catalog) (q : Query) (r : Result Plan PlanFault) → Tells r (planned catalog q) → IfOk r (λ p. IsAPlanOf catalog q p)
-means_told catalog q (Ok p) is = plans_mean catalog q p is
-means_told catalog q (Err f) told = tt
+pub means_returned : (catalog : Catalog) (q : Query) (r : Result Plan PlanFault) → Reports r (planned catalog q) → IfOk r (λ p. IsAPlanOf catalog q p)
+means_returned catalog q (Ok p) is = plans_mean catalog q p is
+means_returned catalog q (Err f) returned = tt

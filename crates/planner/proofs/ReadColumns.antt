@@ -17,9 +17,9 @@ use Rattle.sql_syntax.specs.declared.tree.Expr.TheOpen.{Expr-F, Arm-F}
 use Rattle.sql_syntax.specs.declared.tree.Expr.TheFolds.{the_lemmas, ind-Expr, map-Expr, fold-roll-Expr, fold-roll-Arm}
 use Rattle.sql_syntax.specs.declared.tree.Expr.TheViews.{roll-Expr, out-Expr}
 use Rattle.planner_expressions.specs.declared.basis.Basis.TheVariants.{Rows}
-use Rattle.planner_expressions.specs.declared.scope.Place.{Place}
+use Rattle.planner_expressions.specs.declared.scope.ScopeColumn.{ScopeColumn}
 use Rattle.planner_expressions.specs.declared.scope.Scope.{Scope}
-use Rattle.planner_expressions.specs.Given.{node_column, given_in, place_of, place_in}
+use Rattle.planner_expressions.specs.Given.{node_column, given_in, column_expr, column_in}
 use Rattle.planner_expressions.specs.Scope.{stands_for}
 use Rattle.planner_expressions.specs.Translated.{Made, made, translated, all_some, arm_of, arithmetic_of, comparison_of}
 use Rattle.planner_expressions.specs.Uses.{names, names_arm, names_node, names_either}
@@ -89,7 +89,7 @@ used_in_arm-record w t = search (rules, plan_folds.the_lemmas)
 
 -- ---- trees
 
-module _ (given : Expr → Option plan.Expr) (IsRead : Reference → Type 0) (test : Place → Bool)
+module _ (given : Expr → Option plan.Expr) (IsRead : Reference → Type 0) (test : ScopeColumn → Bool)
     (given_reads : (e : Expr) (x : plan.Expr) → Covers test e → given e ≡ Some x → AllByRecursion IsRead (columns_used x)) where
   abbrev AreRead : List Reference → Type 0
   AreRead = AllByRecursion IsRead
@@ -115,7 +115,7 @@ module _ (given : Expr → Option plan.Expr) (IsRead : Reference → Type 0) (te
   abbrev bare : Expr-F Reading ReadingArm → Expr-F Expr Arm
   bare = map-Expr Reading ReadingArm Expr Arm (λ e. e.0) (λ a. a.0)
 
-  abbrev named_at : Expr-F Expr Arm → Place → Bool
+  abbrev named_at : Expr-F Expr Arm → ScopeColumn → Bool
   named_at x p = names_node p (map-Expr Expr Arm Bool Bool (names p) (names_arm p) x)
 
   abbrev made_of : Expr-F Expr Arm → Made
@@ -263,29 +263,29 @@ abbrev pub reference_in : Option ℕ → ℕ → Reference
 reference_in None at = FactColumn at
 reference_in (Some j) at = JoinColumn j at
 
-module _ (s : Scope) (test : Place → Bool) where
+module _ (s : Scope) (test : ScopeColumn → Bool) where
   -- it is a column of FROM that passes the test
   abbrev pub IsOf : Reference → Type 0
-  IsOf u = (p : Place) × Among s.columns p × (test p ≡ true) × (reference_in p.join p.place ≡ u)
+  IsOf u = (p : ScopeColumn) × Among s.columns p × (test p ≡ true) × (reference_in p.join p.column ≡ u)
 
   abbrev pub AreOf : List Reference → Type 0
   AreOf = AllByRecursion IsOf
 
-  place_read : (p : Place) (join : Option ℕ) → columns_used (place_in join p.place) ≡ reference_in join p.place ∷ []
-  place_read p None = used-Column p.place
-  place_read p (Some j) = used-Joined j p.place
+  column_read : (p : ScopeColumn) (join : Option ℕ) → columns_used (column_in join p.column) ≡ reference_in join p.column ∷ []
+  column_read p None = used-Column p.column
+  column_read p (Some j) = used-Joined j p.column
 
-  abbrev named_in : Expr-F Expr Arm → Place → Bool
+  abbrev named_in : Expr-F Expr Arm → ScopeColumn → Bool
   named_in x p = names_node p (map-Expr Expr Arm Bool Bool (names p) (names_arm p) x)
 
-  names_out : (e : Expr) (p : Place) → names p e ≡ named_in (out-Expr e) p
+  names_out : (e : Expr) (p : ScopeColumn) → names p e ≡ named_in (out-Expr e) p
   names_out e p = search (rules, the_lemmas)
 
-  node_given : (v : Expr-F Expr Arm) (x : plan.Expr) → Named test (named_in v) → option_map place_of (node_column s v) ≡ Some x → AreOf (columns_used x)
+  node_given : (v : Expr-F Expr Arm) (x : plan.Expr) → Named test (named_in v) → option_map column_expr (node_column s v) ≡ Some x → AreOf (columns_used x)
   node_given (node.Column table name) x named is =
-      let p = one_there place_of (stands_for s table name) x is in
+      let p = one_there column_expr (stands_for s table name) x is in
       let there = stands_among s table name p.0 p.1 in
-      subst (λ (w : plan.Expr). AreOf (columns_used w)) (sym p.2) (subst AreOf (sym (place_read p.0 p.0.join)) ((p.0, there.0, named p.0 there.1, refl), tt))
+      subst (λ (w : plan.Expr). AreOf (columns_used w)) (sym p.2) (subst AreOf (sym (column_read p.0 p.0.join)) ((p.0, there.0, named p.0 there.1, refl), tt))
   node_given _ x named is = absurd cc
 
   row_given : (e : Expr) (x : plan.Expr) → Covers test e → given_in s Rows e ≡ Some x → AreOf (columns_used x)
@@ -295,6 +295,6 @@ module _ (s : Scope) (test : Place → Bool) where
   by_row e (Some x) named is = reads (given_in s Rows) IsOf test row_given e named x is
   by_row e None named is = subst AreOf (sym (used-Literal value.Null)) tt
 
-  -- also where the tree has no expression, and NULL stands for it
+  -- also where the tree has no expression, and NULL is used for it
   pub row_reads : (e : Expr) → Covers test e → AreOf (columns_used (row_expr s e))
   row_reads e named = by_row e (translated (given_in s Rows) e) named refl

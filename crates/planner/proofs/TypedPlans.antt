@@ -37,10 +37,10 @@ use Rattle.planner_expressions.specs.declared.scope.Scope.{Scope}
 use Rattle.planner_expressions.specs.declared.sort.Sort.{Sort}
 use Rattle.planner_expressions.specs.declared.sort.Sort.TheVariants.{Integer, Text, Truth}
 use Rattle.planner_expressions.specs.From.{scope_of}
-use Rattle.planner_expressions.specs.Judged.{Told, Judgement, judge_node, judged, judged_arm, over_part, placed_well}
-use Rattle.planner_expressions.specs.Results.{each_ok, Tells}
+use Rattle.planner_expressions.specs.Judged.{Returned, Judgement, judge_node, judged, judged_arm, over_part, if_allowed}
+use Rattle.planner_expressions.specs.Results.{each_ok, Reports}
 use Rattle.planner_expressions.specs.Sorts.{is_value, same_sort, is_taken, aggregate_sort}
-use Rattle.planner_expressions.specs.Spelled.{Spelling, spelled, place_among}
+use Rattle.planner_expressions.specs.Spelled.{Spelling, spelled, index_among}
 use Rattle.planner_expressions.specs.Typed.{type_of_sort, columns_have_types}
 use Rattle.planner_expressions.proofs.Accepted.{goes_there, rows_translate}
 use Rattle.planner_expressions.proofs.HasTypes.{has-Literal}
@@ -100,7 +100,7 @@ module _ (s : Scope) (types : RowTypes) (columns : columns_have_types types s �
 
   value_typed : (e : Expr) (z : Sort) → is_value z ≡ true → has_fitting_literals e ≡ true → judged s e true ≡ Ok z → has_type types (row_expr s e) (Valued (row_type s e)) ≡ true
   value_typed e z value fits is =
-      ap (has_type types (row_expr s e)) (ap (λ (t : Told). Valued (type_in t)) is ∙ sym (value_type z value)) ∙ row_typed e z fits is
+      ap (has_type types (row_expr s e)) (ap (λ (t : Returned). Valued (type_in t)) is ∙ sym (value_type z value)) ∙ row_typed e z fits is
 
   -- ---- aggregates
 
@@ -121,7 +121,7 @@ module _ (s : Scope) (types : RowTypes) (columns : columns_have_types types s �
   taken_value aggregate.Min x is = is
   taken_value aggregate.Max x is = is
 
-  taken : (k : written.Aggregate) (b : Bool) (x z : Sort) (t : Bool) → cond t (placed_well b (aggregate_sort k x)) (Err fault.TypeMismatch) ≡ Ok z → t ≡ true
+  taken : (k : written.Aggregate) (b : Bool) (x z : Sort) (t : Bool) → cond t (if_allowed b (aggregate_sort k x)) (Err fault.TypeMismatch) ≡ Ok z → t ≡ true
   taken k b x z true is = refl
   taken k b x z false is = absurd cc
 
@@ -159,7 +159,7 @@ module _ (s : Scope) (types : RowTypes) (columns : columns_have_types types s �
 
   take_all : (l : Aggregates) (es : List Expr) → AllTyped l → AllGood s es → AllTyped (with_aggregates s l es)
   take_all l [] all good = all
-  take_all l (e ∷ es) all good = take_all (with_aggregate s l e) es (take_one l (spelled s e) (aggregate_of s e) (place_among l.written (spelled s e)) all (aggregate_typed e good.0)) good.1
+  take_all l (e ∷ es) all good = take_all (with_aggregate s l e) es (take_one l (spelled s e) (aggregate_of s e) (index_among l.written (spelled s e)) all (aggregate_typed e good.0)) good.1
 
   take_parts : (l : Aggregates) (parts : List (List Expr)) → AllTyped l → AllByRecursion (AllGood s) parts → AllTyped (with_parts s l parts)
   take_parts l [] all good = all
@@ -356,9 +356,9 @@ plans_are_typed catalog q p is fits =
       plan_typed s (joined_types catalog known.0) known.1.typed q p parts.z parts.checks fits parts.conjuncts_are parts.keys_as parts.aggs_are,
     )
 
-pub typed_told : (catalog : Catalog) (q : Query) (r : Result Plan PlanFault) → Tells r (planned catalog q) → IfOk r (λ p. has_only_fitting_literals q ≡ true → IsTypedOver catalog p)
-typed_told catalog q (Ok p) is = plans_are_typed catalog q p is
-typed_told catalog q (Err f) told = tt
+pub typed_returned : (catalog : Catalog) (q : Query) (r : Result Plan PlanFault) → Reports r (planned catalog q) → IfOk r (λ p. has_only_fitting_literals q ≡ true → IsTypedOver catalog p)
+typed_returned catalog q (Ok p) is = plans_are_typed catalog q p is
+typed_returned catalog q (Err f) returned = tt
 
 pub plans_serve : PlansServe
 plans_serve catalog q p is fits formed =

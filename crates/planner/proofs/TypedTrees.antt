@@ -14,7 +14,7 @@ use Rattle.sql_syntax.specs.Literals.{all_true, fitting_node, fitting_pair, has_
 use Rattle.planner_expressions.specs.declared.scope.Scope.{Scope}
 use Rattle.planner_expressions.specs.declared.sort.Sort.{Sort}
 use Rattle.planner_expressions.specs.declared.sort.Sort.TheVariants.{Truth}
-use Rattle.planner_expressions.specs.Judged.{Told, Judgement, judge_node, judge_arm, judged, judged_arm, two, typed, each, each_arm, arm_sorts, else_sort, case_sort, over_part}
+use Rattle.planner_expressions.specs.Judged.{Returned, Judgement, judge_node, judge_arm, judged, judged_arm, two, typed, each, each_arm, arm_sorts, else_sort, case_sort, over_part}
 use Rattle.planner_expressions.specs.Sorts.{same_sort}
 use Rattle.planner_expressions.specs.Trees.{parts_of, topmost}
 use Rattle.planner_expressions.proofs.Accepted.{goes_there, front_there}
@@ -35,7 +35,7 @@ module _ (s : Scope) where
   pub fits_rolled : (x : Expr-F Expr Arm) → has_fitting_literals (roll-Expr x) ≡ fits_at x
   fits_rolled x = fold-roll-Expr Bool Bool fitting_node fitting_pair x
 
-  abbrev judge_at : Bool → Expr-F Expr Arm → Told
+  abbrev judge_at : Bool → Expr-F Expr Arm → Returned
   judge_at b x = judge_node s (map-Expr Expr Arm Judgement (Judgement × Judgement) (judged s) (judged_arm s) x) b
 
   pub rolled : (b : Bool) (x : Expr-F Expr Arm) → judged s (roll-Expr x) b ≡ judge_at b x
@@ -96,7 +96,7 @@ module _ (s : Scope) where
         let here = a.1 b parts.0.0 (all_first (λ (t : Bool). t) (arm_has_fitting_literals a.0) (map arm_has_fitting_literals (arms_in list)) fits) parts.0.1 in
         (here.0, (here.1, arms_good list b parts.1.0 rest (all_rest (λ (t : Bool). t) (arm_has_fitting_literals a.0) (map arm_has_fitting_literals (arms_in list)) fits) parts.1.1 more))
 
-    pair_good : (a c : Parting) (b : Bool) (z : Sort) (k : Sort → Sort → Told) → (has_fitting_literals a.0 && has_fitting_literals c.0) ≡ true → two (judged s a.0 b) (judged s c.0 b) k ≡ Ok z
+    pair_good : (a c : Parting) (b : Bool) (z : Sort) (k : Sort → Sort → Returned) → (has_fitting_literals a.0 && has_fitting_literals c.0) ≡ true → two (judged s a.0 b) (judged s c.0 b) k ≡ Ok z
         → AllByRecursion AllGood (topmost test a.0 ∷ topmost test c.0 ∷ [])
     pair_good a c b z k fits is =
         let j = both_sorts (judged s a.0 b) (judged s c.0 b) k z is in (
@@ -104,7 +104,7 @@ module _ (s : Scope) where
           (c.1 (right_of (has_fitting_literals a.0) (has_fitting_literals c.0) fits, (b, (j.1.0, j.1.2))), tt),
         )
 
-    one_good : (a : Parting) (b : Bool) (z : Sort) (k : Sort → Told) → has_fitting_literals a.0 ≡ true → and_then (judged s a.0 b) k ≡ Ok z → AllByRecursion AllGood (topmost test a.0 ∷ [])
+    one_good : (a : Parting) (b : Bool) (z : Sort) (k : Sort → Returned) → has_fitting_literals a.0 ≡ true → and_then (judged s a.0 b) k ≡ Ok z → AllByRecursion AllGood (topmost test a.0 ∷ [])
     one_good a b z k fits is = let j = goes_there (judged s a.0 b) k z is in (a.1 (fits, (b, (j.0, j.1))), tt)
 
     node_good : (y : Expr-F Parting PartingArm) (b : Bool) (z : Sort) → fits_at (bare y) ≡ true → judge_at b (bare y) ≡ Ok z → AllByRecursion AllGood (parts_at (bare y))
@@ -170,9 +170,9 @@ module _ (s : Scope) where
         (λ x y is good.
         any_good x (test (roll-Expr x)) refl
         (subst Parted_at is (λ g. node_good y g.1.0 g.1.1.0 (sym (fits_rolled (bare y)) ∙ g.0) (sym (rolled g.1.0 (bare y)) ∙ g.1.1.1)) good) good)
-        (λ x y is b p fits told.
+        (λ x y is b p fits returned.
         subst Arm_at is (arm_good y) b p (sym (fold-roll-Arm Bool Bool fitting_node fitting_pair x) ∙ fits)
-        (sym (ap (arm_sorts b) (fold-roll-Arm Judgement (Judgement × Judgement) (judge_node s) judge_arm x)) ∙ told))
+        (sym (ap (arm_sorts b) (fold-roll-Arm Judgement (Judgement × Judgement) (judge_node s) judge_arm x)) ∙ returned))
 
   -- ---- conjuncts
 

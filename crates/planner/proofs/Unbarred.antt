@@ -15,7 +15,7 @@ use Rattle.planner_expressions.specs.declared.sort.Sort.{Sort}
 use Rattle.planner_expressions.specs.declared.sort.Sort.TheVariants.{Truth}
 use Rattle.planner_expressions.specs.Sorts.{are_alike, first_of}
 use Rattle.planner_expressions.specs.Results.{map_ok}
-use Rattle.planner_expressions.specs.Judged.{Told, Judgement, judge_node, judge_arm, judged, judged_arm, two, each, each_arm, arm_sorts, else_sort, over_part, typed, case_sort}
+use Rattle.planner_expressions.specs.Judged.{Returned, Judgement, judge_node, judge_arm, judged, judged_arm, two, each, each_arm, arm_sorts, else_sort, over_part, typed, case_sort}
 use Rattle.planner_expressions.proofs.Accepted.{goes_there, front_there}
 use Rattle.planner.specs.Aggregates.{is_aggregate_node, is_aggregate, aggregates_in, arm_aggregates, arm_parts}
 use Rattle.planner.proofs.Topmost.{of_parts, passes, below}
@@ -31,7 +31,7 @@ second_empty : {X : Type 0} (xs ys : List X) → xs ++ ys ≡ [] → ys ≡ []
 second_empty [] ys is = is
 second_empty (x ∷ xs) ys is = absurd cc
 
-some_there : (r : Told) (o : Option Sort) → map_ok (λ (x : Sort). Some x) r ≡ Ok o → (x : Sort) × (r ≡ Ok x)
+some_there : (r : Returned) (o : Option Sort) → map_ok (λ (x : Sort). Some x) r ≡ Ok o → (x : Sort) × (r ≡ Ok x)
 some_there (Err f) o is = absurd cc
 some_there (Ok x) o is = (x, refl)
 
@@ -59,7 +59,7 @@ module _ (s : Scope) where
   both_empty xs ys x_is y_is = ap₂ (λ (u v : List Expr). u ++ (v ++ [])) x_is y_is
 
   -- of these aggregates, and where there are none, barring them changes nothing
-  abbrev Holds : List Expr → Told → Sort → Type 0
+  abbrev Holds : List Expr → Returned → Sort → Type 0
   Holds counted barred z = AreCounted counted × (counted ≡ [] → barred ≡ Ok z)
 
   abbrev Judged : Expr → Type 0
@@ -80,7 +80,7 @@ module _ (s : Scope) where
   abbrev bare : Expr-F Judging JudgingArm → Expr-F Expr Arm
   bare = map-Expr Judging JudgingArm Expr Arm (λ e. e.0) (λ a. a.0)
 
-  abbrev judge_at : Bool → Expr-F Expr Arm → Told
+  abbrev judge_at : Bool → Expr-F Expr Arm → Returned
   judge_at b x = judge_node s (map-Expr Expr Arm Judgement (Judgement × Judgement) (judged s) (judged_arm s) x) b
 
   rolled : (b : Bool) (x : Expr-F Expr Arm) → judged s (roll-Expr x) b ≡ judge_at b x
@@ -94,15 +94,15 @@ module _ (s : Scope) where
 
   -- ---- one part, and two
 
-  one_holds : (a : Judging) (k : Sort → Told) (z : Sort) → and_then (judged s a.0 false) k ≡ Ok z → Holds (aggregates_in a.0 ++ []) (and_then (judged s a.0 true) k) z
+  one_holds : (a : Judging) (k : Sort → Returned) (z : Sort) → and_then (judged s a.0 false) k ≡ Ok z → Holds (aggregates_in a.0 ++ []) (and_then (judged s a.0 true) k) z
   one_holds a k z is =
       let part = goes_there (judged s a.0 false) k z is in
       let here = a.1 part.0 part.1 in (
         both_counted (aggregates_in a.0) [] here.0 tt,
-        λ none. ap (λ (t : Told). and_then t k) (here.1 (first_empty (aggregates_in a.0) [] none)) ∙ part.2,
+        λ none. ap (λ (t : Returned). and_then t k) (here.1 (first_empty (aggregates_in a.0) [] none)) ∙ part.2,
       )
 
-  two_hold : (a b : Judging) (k : Sort → Sort → Told) (z : Sort) → two (judged s a.0 false) (judged s b.0 false) k ≡ Ok z
+  two_hold : (a b : Judging) (k : Sort → Sort → Returned) (z : Sort) → two (judged s a.0 false) (judged s b.0 false) k ≡ Ok z
       → Holds (aggregates_in a.0 ++ (aggregates_in b.0 ++ [])) (two (judged s a.0 true) (judged s b.0 true) k) z
   two_hold a b k z is =
       let first = goes_there (judged s a.0 false) (λ x. and_then (judged s b.0 false) (λ y. k x y)) z is in
@@ -110,7 +110,7 @@ module _ (s : Scope) where
       let left = a.1 first.0 first.1 in
       let right = b.1 second.0 second.1 in (
         both_counted (aggregates_in a.0) (aggregates_in b.0 ++ []) left.0 (both_counted (aggregates_in b.0) [] right.0 tt),
-        λ none. ap₂ (λ (t u : Told). two t u k) (left.1 (first_empty (aggregates_in a.0) (aggregates_in b.0 ++ []) none))
+        λ none. ap₂ (λ (t u : Returned). two t u k) (left.1 (first_empty (aggregates_in a.0) (aggregates_in b.0 ++ []) none))
             (right.1 (first_empty (aggregates_in b.0) [] (second_empty (aggregates_in a.0) (aggregates_in b.0 ++ []) none))) ∙ second.2,
       )
 
@@ -125,7 +125,7 @@ module _ (s : Scope) where
       let here = e.1 found.0.0 found.0.1 in
       let rest = list_holds es found.1.0 found.1.1 in (
         both_counted (aggregates_in e.0) rest_of here.0 rest.0,
-        λ none. ap₂ (λ (t : Told) (ts : Result (List Sort) PlanFault). with_result t ts)
+        λ none. ap₂ (λ (t : Returned) (ts : Result (List Sort) PlanFault). with_result t ts)
             (here.1 (first_empty (aggregates_in e.0) rest_of none) ∙ sym found.0.1) (rest.1 (second_empty (aggregates_in e.0) rest_of none) ∙ sym found.1.1) ∙ is,
       )
 
@@ -173,7 +173,7 @@ module _ (s : Scope) where
       let bounds = two_hold low high _ z part.2 in
       let rest_of = aggregates_in low.0 ++ (aggregates_in high.0 ++ []) in (
         both_counted (aggregates_in a.0) rest_of here.0 bounds.0,
-        λ none. ap (λ (t : Told). and_then t (λ x. two (judged s low.0 true) (judged s high.0 true) (λ y w. typed (are_alike (x ∷ y ∷ w ∷ [])) Truth))) (here.1 (first_empty (aggregates_in a.0) rest_of none)) ∙ bounds.1 (second_empty (aggregates_in a.0) rest_of none),
+        λ none. ap (λ (t : Returned). and_then t (λ x. two (judged s low.0 true) (judged s high.0 true) (λ y w. typed (are_alike (x ∷ y ∷ w ∷ [])) Truth))) (here.1 (first_empty (aggregates_in a.0) rest_of none)) ∙ bounds.1 (second_empty (aggregates_in a.0) rest_of none),
       )
   node_holds (node.In negated a entries) other z is =
       let part = goes_there (judged s a.0 false) _ z is in
@@ -182,7 +182,7 @@ module _ (s : Scope) where
       let rest = list_holds entries list.0 list.1 in
       let rest_of = lists (map aggregates_in (map (λ (e : Judging). e.0) entries)) in (
         both_counted (aggregates_in a.0) rest_of here.0 rest.0,
-        λ none. ap (λ (t : Told). and_then t (λ x. and_then (all_ok (each true (map (judged s) (map (λ (e : Judging). e.0) entries)))) (λ xs. typed (are_alike (x ∷ xs)) Truth))) (here.1 (first_empty (aggregates_in a.0) rest_of none))
+        λ none. ap (λ (t : Returned). and_then t (λ x. and_then (all_ok (each true (map (judged s) (map (λ (e : Judging). e.0) entries)))) (λ xs. typed (are_alike (x ∷ xs)) Truth))) (here.1 (first_empty (aggregates_in a.0) rest_of none))
             ∙ ap (λ (t : Result (List Sort) PlanFault). and_then t (λ xs. typed (are_alike (part.0 ∷ xs)) Truth)) (rest.1 (second_empty (aggregates_in a.0) rest_of none)) ∙ list.2,
       )
   node_holds (node.Coalesce entries) other z is =
@@ -208,7 +208,7 @@ module _ (s : Scope) where
       let same : lists (arm_parts (map arm_aggregates all) ++ aggregates_in e.0 ∷ []) ≡ arm_lists all ++ last_of = flat_map-append (λ part. part) (arm_parts (map arm_aggregates all)) (aggregates_in e.0 ∷ []) in (
         subst AreCounted (sym same) (both_counted (arm_lists all) last_of found.0 (both_counted (aggregates_in e.0) [] here.0 tt)),
         λ none. ap (λ (t : Result (List (Sort × Sort)) PlanFault). and_then t (λ ps. and_then (else_sort true (Some (judged s e.0))) (case_sort ps))) (found.1 (first_empty (arm_lists all) last_of (sym same ∙ none)))
-            ∙ ap (λ (t : Told). and_then (map_ok (λ (x : Sort). Some x) t) (case_sort list.0)) (here.1 (first_empty (aggregates_in e.0) [] (second_empty (arm_lists all) last_of (sym same ∙ none))) ∙ sym value.1) ∙ list.2,
+            ∙ ap (λ (t : Returned). and_then (map_ok (λ (x : Sort). Some x) t) (case_sort list.0)) (here.1 (first_empty (aggregates_in e.0) [] (second_empty (arm_lists all) last_of (sym same ∙ none))) ∙ sym value.1) ∙ list.2,
       )
 
   -- ---- trees
@@ -272,7 +272,7 @@ module _ (s : Scope) where
       let cs = aggregates_in y.condition.0 in
       let vs = aggregates_in y.value.0 in (
         both_counted cs (vs ++ []) left.0 (both_counted vs [] right.0 tt),
-        λ none. ap₂ (λ (t u : Told). arm_sorts true ((λ b. t), (λ b. u))) (left.1 (first_empty cs (vs ++ []) none)) (right.1 (first_empty vs [] (second_empty cs (vs ++ []) none))) ∙ second.2,
+        λ none. ap₂ (λ (t u : Returned). arm_sorts true ((λ b. t), (λ b. u))) (left.1 (first_empty cs (vs ++ []) none)) (right.1 (first_empty vs [] (second_empty cs (vs ++ []) none))) ∙ second.2,
       )
 
   abbrev Arm_at : Arm-F Expr Arm → Type 0
@@ -282,10 +282,10 @@ module _ (s : Scope) where
 
   pub unbarred : (e : Expr) → Judged e
   unbarred = ind-Expr Judged JudgedArm
-      (λ x y is z told.
-      let here = subst Judged_at is (node_judged y) z (sym (rolled false x) ∙ told) in
+      (λ x y is z returned.
+      let here = subst Judged_at is (node_judged y) z (sym (rolled false x) ∙ returned) in
       (here.0, λ none. rolled true x ∙ here.1 none))
-      (λ x y is p told.
+      (λ x y is p returned.
       let folded = fold-roll-Arm Judgement (Judgement × Judgement) (judge_node s) judge_arm x in
-      let here = subst Arm_at is (arm_judged y) p (sym (ap (arm_sorts false) folded) ∙ told) in
+      let here = subst Arm_at is (arm_judged y) p (sym (ap (arm_sorts false) folded) ∙ returned) in
       (here.0, λ none. ap (arm_sorts true) folded ∙ here.1 none))

@@ -30,7 +30,7 @@ use Rattle.sql_syntax.specs.declared.tree.Expr.TheFolds.{the_lemmas}
 use Rattle.sql_syntax.specs.declared.tree.Item.{Item}
 use Rattle.sql_syntax.specs.declared.tree.Joined.{Joined}
 use Rattle.sql_syntax.specs.declared.tree.OrderTarget.{OrderTarget}
-use Rattle.sql_syntax.specs.declared.tree.OrderTarget.TheVariants.{Place, Name}
+use Rattle.sql_syntax.specs.declared.tree.OrderTarget.TheVariants.{Position, Name}
 use Rattle.sql_syntax.specs.declared.tree.Query.{Query}
 use Rattle.sql_syntax.specs.declared.tree.Source.{Source}
 use Rattle.sql_syntax.specs.Literals.{has_only_fitting_literals}
@@ -115,7 +115,7 @@ ambiguous = search (rules, the_lemmas)
 by_own_name : planned catalog (query (item (tree.Column (Some (codes "store")) (codes "region")) ∷ []) two_stores None []) ≡ Err fault.ColumnUnknown
 by_own_name = search (rules, the_lemmas)
 
--- SELECT a.region FROM sales, store a, store b: the name stands for one column, and the first dimension has no equality
+-- SELECT a.region FROM sales, store a, store b: the name refers to one column, and the first dimension has no equality
 qualified : planned catalog (query (item (tree.Column (Some (codes "a")) (codes "region")) ∷ []) two_stores None []) ≡ Err fault.NoEquality
 qualified = search (rules, the_lemmas)
 
@@ -183,9 +183,9 @@ not_grouped = search (rules, the_lemmas, plan.the_lemmas)
 part_of_key : planned catalog (query (item (name (codes "q")) ∷ []) (sales []) None (next ∷ [])) ≡ Err fault.NotGrouped
 part_of_key = search (rules, the_lemmas, plan.the_lemmas)
 
--- SELECT id FROM sales GROUP BY 1: the literal is told before the column that isn't grouped
-by_place : planned catalog (query (item (name (codes "id")) ∷ []) (sales []) None (tree.Integer (pos 1) ∷ [])) ≡ Err fault.PlaceNotAllowed
-by_place = search (rules, the_lemmas, plan.the_lemmas)
+-- SELECT id FROM sales GROUP BY 1: the literal is refused before the column that isn't grouped
+by_position : planned catalog (query (item (name (codes "id")) ∷ []) (sales []) None (tree.Integer (pos 1) ∷ [])) ≡ Err fault.PositionNotAllowed
+by_position = search (rules, the_lemmas, plan.the_lemmas)
 
 -- SELECT (sales.q + 1) * 2 FROM sales GROUP BY q + 1
 part_is_grouped :
@@ -211,16 +211,16 @@ having_alone = search (rules, the_lemmas, plan.the_lemmas)
 abbrev ordered : OrderTarget → Query
 ordered target = record (query (item (name (codes "id")) ∷ item (name (codes "id")) ∷ []) (sales []) None []) { order_by = record { target = target; direction = Ascending } ∷ [] }
 
-before_the_first : planned catalog (ordered (Place 0)) ≡ Err fault.PlaceNotAllowed
+before_the_first : planned catalog (ordered (Position 0)) ≡ Err fault.PositionNotAllowed
 before_the_first = search (rules, the_lemmas, plan.the_lemmas)
 
-past_the_end : planned catalog (ordered (Place 3)) ≡ Err fault.PlaceNotAllowed
+past_the_end : planned catalog (ordered (Position 3)) ≡ Err fault.PositionNotAllowed
 past_the_end = search (rules, the_lemmas, plan.the_lemmas)
 
-last_item : is_ok (planned catalog (ordered (Place 2))) ≡ true
+last_item : is_ok (planned catalog (ordered (Position 2))) ≡ true
 last_item = search (rules, the_lemmas, plan.the_lemmas)
 
-no_item : planned catalog (ordered (Name (codes "c1"))) ≡ Err fault.PlaceNotAllowed
+no_item : planned catalog (ordered (Name (codes "c1"))) ≡ Err fault.PositionNotAllowed
 no_item = search (rules, the_lemmas, plan.the_lemmas)
 
 two_items : planned catalog (ordered (Name (codes "id"))) ≡ Err fault.Ambiguous
@@ -260,7 +260,7 @@ best_of source condition = record {
   filter = Some condition;
   group_by = name (codes "region") ∷ [];
   having = Some (tree.Compare Greater least (tree.Integer (pos 0)));
-  order_by = record { target = Place 2; direction = Descending } ∷ record { target = Name (codes "best"); direction = Ascending } ∷ [];
+  order_by = record { target = Position 2; direction = Descending } ∷ record { target = Name (codes "best"); direction = Ascending } ∷ [];
   limit = Some 3;
 }
 
@@ -269,7 +269,7 @@ abbrev pub at_most : Expr
 at_most = tree.Compare AtMost (name (codes "q")) (name (codes "p"))
 
 abbrev pub read : ℕ → List ℕ → ColType → ColumnUse
-read place name kind = record { place = place; name = name; col_type = kind }
+read k name kind = record { column = k; name = name; col_type = kind }
 
 -- the plan, by hand but for its text
 abbrev pub best_plan : List ℕ → Plan

@@ -16,8 +16,8 @@ use Rattle.sql_syntax.specs.declared.tree.Expr.TheOpen.{Expr-F}
 use Rattle.sql_syntax.specs.declared.tree.Expr.TheViews.{out-Expr}
 use Rattle.planner_expressions.specs.declared.scope.Scope.{Scope}
 use Rattle.planner_expressions.specs.declared.sort.Sort.TheVariants as sort
-use Rattle.planner_expressions.specs.Judged.{Told, judged}
-use Rattle.planner_expressions.specs.Spelled.{Spelling, spelled, place_among}
+use Rattle.planner_expressions.specs.Judged.{Returned, judged}
+use Rattle.planner_expressions.specs.Spelled.{Spelling, spelled, index_among}
 use Rattle.planner_expressions.specs.Trees.{topmost}
 use Rattle.planner.specs.declared.aggregates.Aggregates.{Aggregates}
 use Rattle.planner.specs.Conjuncts.{row_expr}
@@ -42,7 +42,7 @@ kind_of aggregate.Max = kind.Max
 kind_of aggregate.Average = kind.Avg
 
 -- the type of what was judged to be a value
-abbrev pub type_in : Told → ColType
+abbrev pub type_in : Returned → ColType
 type_in (Ok sort.Integer) = of_type.Int
 type_in (Ok sort.Text) = of_type.Text
 type_in (Ok sort.Truth) = of_type.Int
@@ -70,7 +70,7 @@ with_new l x a (Some i) = l
 with_new l x a None = record { written = l.written ++ x ∷ []; list = l.list ++ a ∷ [] }
 
 abbrev pub with_aggregate : Scope → Aggregates → Expr → Aggregates
-with_aggregate s l e = with_new l (spelled s e) (aggregate_of s e) (place_among l.written (spelled s e))
+with_aggregate s l e = with_new l (spelled s e) (aggregate_of s e) (index_among l.written (spelled s e))
 
 abbrev pub with_aggregates : Scope → Aggregates → List Expr → Aggregates
 with_aggregates s l [] = l

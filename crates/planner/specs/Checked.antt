@@ -9,7 +9,7 @@ use Rattle.planner_expressions.specs.declared.fault.PlanFault.{PlanFault}
 use Rattle.planner_expressions.specs.declared.fault.PlanFault.TheVariants as fault
 use Rattle.planner_expressions.specs.declared.scope.Scope.{Scope}
 use Rattle.planner_expressions.specs.declared.sort.Sort.TheVariants.{Truth}
-use Rattle.planner_expressions.specs.Judged.{Told, judged}
+use Rattle.planner_expressions.specs.Judged.{Returned, judged}
 use Rattle.planner_expressions.specs.Results.{each_ok}
 use Rattle.planner_expressions.specs.Sorts.{is_value, same_sort}
 
@@ -18,12 +18,12 @@ abbrev pub Checked : Type 0
 Checked = Result (Unit {0}) PlanFault
 
 -- the whole expression is a value
-abbrev pub as_value : Told → Checked
-as_value told = and_then told (λ s. if is_value s then Ok tt else Err fault.TypeMismatch)
+abbrev pub as_value : Returned → Checked
+as_value returned = and_then returned (λ s. if is_value s then Ok tt else Err fault.TypeMismatch)
 
 -- the whole expression is a truth
-abbrev pub as_truth : Told → Checked
-as_truth told = and_then told (λ s. if same_sort Truth s then Ok tt else Err fault.TypeMismatch)
+abbrev pub as_truth : Returned → Checked
+as_truth returned = and_then returned (λ s. if same_sort Truth s then Ok tt else Err fault.TypeMismatch)
 
 -- an item is a value, in which aggregates may stand
 abbrev pub item_check : Scope → Item → Checked

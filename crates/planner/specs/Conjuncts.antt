@@ -13,7 +13,7 @@ use Rattle.sql_syntax.specs.declared.tree.Arm.{Arm}
 use Rattle.planner_expressions.specs.declared.fault.PlanFault.{PlanFault}
 use Rattle.planner_expressions.specs.declared.fault.PlanFault.TheVariants as fault
 use Rattle.planner_expressions.specs.declared.basis.Basis.TheVariants.{Rows}
-use Rattle.planner_expressions.specs.declared.scope.Place.{Place}
+use Rattle.planner_expressions.specs.declared.scope.ScopeColumn.{ScopeColumn}
 use Rattle.planner_expressions.specs.declared.scope.Scope.{Scope}
 use Rattle.planner.specs.declared.conjuncts.Equality.{Equality}
 use Rattle.planner.specs.declared.conjuncts.Conjuncts.{Conjuncts}
@@ -35,11 +35,11 @@ conjuncts_of = topmost is_no_and
 -- ---- join equalities
 
 -- x is a column of the fact, and k the key of a dimension
-abbrev pub joined_by : Bool → Place → Place → Option ℕ → Option Equality
+abbrev pub joined_by : Bool → ScopeColumn → ScopeColumn → Option ℕ → Option Equality
 joined_by test x k None = None
-joined_by test x k (Some join) = if test then Some (record { join = join; foreign = x.place; key = k.place }) else None
+joined_by test x k (Some join) = if test then Some (record { join = join; foreign = x.column; key = k.column }) else None
 
-abbrev pub keyed : Place → Place → Option Equality
+abbrev pub keyed : ScopeColumn → ScopeColumn → Option Equality
 keyed x k = joined_by (k.is_key && is_none x.join) x k k.join
 
 abbrev pub first_there : {X : Type 0} → Option X → Option X → Option X
@@ -47,7 +47,7 @@ first_there (Some x) y = Some x
 first_there None y = y
 
 -- in either order
-abbrev pub equality_of : Option Place → Option Place → Option Equality
+abbrev pub equality_of : Option ScopeColumn → Option ScopeColumn → Option Equality
 equality_of (Some x) (Some k) = first_there (keyed x k) (keyed k x)
 equality_of (Some x) None = None
 equality_of None k = None

@@ -59,9 +59,9 @@ is_integer_node _ = false
 abbrev pub is_integer : Expr → Bool
 is_integer e = is_integer_node (out-Expr e)
 
--- an entry of GROUP BY, at its place: no integer literal alone, and not past the limit
+-- an entry of GROUP BY, with its position: no integer literal alone, and not past the limit
 abbrev pub entry_check : ℕ × Expr → Checked
-entry_check e = if is_integer e.1 then Err fault.PlaceNotAllowed else if nat_le max_keys e.0 then Err fault.OverLimit else Ok tt
+entry_check e = if is_integer e.1 then Err fault.PositionNotAllowed else if nat_le max_keys e.0 then Err fault.OverLimit else Ok tt
 
 abbrev pub entries_check : List Expr → Checked
 entries_check es = each_ok (map entry_check (enumerate_from 0 es))

@@ -6,6 +6,7 @@ pub mod Shown
 pub mod Planned
 pub mod PlanOf
 pub mod Typed
-pub mod WellFormed
+pub mod Sound
+pub mod QueryText
 pub mod Forms
 pub mod Limited

@@ -1,4 +1,5 @@
--- What the plan of a query is: its lists are the query's, and each of its expressions gives what the query's tree gives.
+-- What the plan of a query is: its lists are the query's, and each of its expressions gives what the query's tree
+-- gives.
 use Rattle.std.specs.Prelude.{◌≡◌, ◌≢◌, ℕ, Bool, true, not, List, [], ◌∷◌, ◌++◌, map, filter, flat_map, Option, Some, None, option_to_list, slice_get, Ok, All, codes, decimal}
 use Rattle.std.specs.List.{enumerate_from}
 use Rattle.std.specs.Option.{is_none}
@@ -25,7 +26,7 @@ use Rattle.planner_expressions.specs.declared.sort.Sort.{Sort}
 use Rattle.planner_expressions.specs.From.{scope_of}
 use Rattle.planner_expressions.specs.Judged.{judged}
 use Rattle.planner_expressions.specs.Meant.{SameOnRows, SameOnGroups}
-use Rattle.planner_expressions.specs.Spelled.{Spelling, spelled, place_among}
+use Rattle.planner_expressions.specs.Spelled.{Spelling, spelled, index_among}
 use Rattle.planner.specs.declared.conjuncts.Equality.{Equality}
 use Rattle.planner.specs.Aggregates.{aggregates_in, count_rows, kind_of, row_type}
 use Rattle.planner.specs.Checked.{conditions}
@@ -80,11 +81,12 @@ IsItemOf s q x i = SameOnGroups s (key_spellings s q) (aggregate_spellings s q) 
 abbrev pub IsHavingOf : Scope → Query → plan.Expr → Expr → Type 0
 IsHavingOf s q x e = SameOnGroups s (key_spellings s q) (aggregate_spellings s q) x e
 
--- the header of the item at this place, counted from 1: the name of AS, else that of the column that the item is, else `c` and the place
-pub record IsHeaderOf (place : ℕ) (text : List ℕ) (i : Item) : Type 0 where
+-- the header of the item at this position, counted from 1: the name of AS, else that of the column that the item is,
+-- else `c` and the position
+pub record IsHeaderOf (position : ℕ) (text : List ℕ) (i : Item) : Type 0 where
   pub named : (alias : List ℕ) → i.alias ≡ Some alias → text ≡ alias
   pub column : (table : Option (List ℕ)) (name : List ℕ) → i.alias ≡ None → i.expr ≡ tree.Column table name → text ≡ name
-  pub other : i.alias ≡ None → ((table : Option (List ℕ)) (name : List ℕ) → i.expr ≢ tree.Column table name) → text ≡ codes "c" ++ decimal place
+  pub other : i.alias ≡ None → ((table : Option (List ℕ)) (name : List ℕ) → i.expr ≢ tree.Column table name) → text ≡ codes "c" ++ decimal position
 
 abbrev pub IsHeadedAs : plan_item.Item → ℕ × Item → Type 0
 IsHeadedAs x i = IsHeaderOf i.0 x.header i.1
@@ -94,8 +96,8 @@ pub record IsKeyOf (s : Scope) (k : GroupingKey) (e : Expr) : Type 0 where
   pub same : SameOnRows s k.expr e
   pub typed : k.col_type ≡ row_type s e
 
--- an aggregate has the tree's kind, and its argument gives on every row what the tree's argument gives, and is of its type;
--- COUNT(*) counts a literal
+-- an aggregate has the tree's kind, and its argument gives on every row what the tree's argument gives, and is of its
+-- type; COUNT(*) counts a literal
 abbrev pub is_aggregate_at : Scope → Aggregate → Expr-F Expr Arm → Type 0
 is_aggregate_at s a (node.Aggregate kind x) = (a.kind ≡ kind_of kind) × SameOnRows s a.argument x × (a.col_type ≡ row_type s x)
 is_aggregate_at s a node.CountRows = a ≡ count_rows
@@ -110,7 +112,7 @@ own_aggregates q = flat_map (λ i. aggregates_in i.expr) q.items ++ flat_map agg
 
 -- the plan's aggregate as which the tree is given is the tree's own
 abbrev pub IsGivenAs : Scope → Query → List Aggregate → Expr → Type 0
-IsGivenAs s q list e = (i : ℕ) × (place_among (aggregate_spellings s q) (spelled s e) ≡ Some i) × ((a : Aggregate) × (slice_get list i ≡ Some a) × IsAggregateOf s a e)
+IsGivenAs s q list e = (i : ℕ) × (index_among (aggregate_spellings s q) (spelled s e) ≡ Some i) × ((a : Aggregate) × (slice_get list i ≡ Some a) × IsAggregateOf s a e)
 
 -- the plan's aggregates are those of trees, as which the parts of items are given, each as its own
 pub record AreAggregates (s : Scope) (q : Query) (list : List Aggregate) : Type 0 where

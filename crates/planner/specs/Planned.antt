@@ -16,7 +16,7 @@ use Rattle.planner_expressions.specs.declared.basis.Basis.{Basis}
 use Rattle.planner_expressions.specs.declared.basis.Basis.TheVariants.{Groups}
 use Rattle.planner_expressions.specs.declared.fault.PlanFault.{PlanFault}
 use Rattle.planner_expressions.specs.declared.scope.Dim.{Dim}
-use Rattle.planner_expressions.specs.declared.scope.Place.{Place}
+use Rattle.planner_expressions.specs.declared.scope.ScopeColumn.{ScopeColumn}
 use Rattle.planner_expressions.specs.declared.scope.Scope.{Scope}
 use Rattle.planner_expressions.specs.From.{scope_of}
 use Rattle.planner_expressions.specs.Uses.{names}
@@ -33,7 +33,7 @@ use Rattle.planner.specs.Shown.{items_of, having_of, order_of}
 -- ---- the columns that are read
 
 -- some expression of the query names the column
-abbrev pub is_named : Query → Place → Bool
+abbrev pub is_named : Query → ScopeColumn → Bool
 is_named q p =
     list_any (λ i. names p i.expr) q.items
     || (list_any (names p) (conditions q) || (list_any (names p) q.group_by || list_any (names p) (option_to_list q.having)))
@@ -44,11 +44,11 @@ same_join None None = true
 same_join (Some i) (Some j) = i == j
 same_join _ _ = false
 
-abbrev pub is_read : Query → Option ℕ → Place → Bool
+abbrev pub is_read : Query → Option ℕ → ScopeColumn → Bool
 is_read q join p = same_join join p.join && is_named q p
 
-abbrev pub use_of : Place → ColumnUse
-use_of p = record { place = p.place; name = p.name; col_type = p.col_type }
+abbrev pub use_of : ScopeColumn → ColumnUse
+use_of p = record { column = p.column; name = p.name; col_type = p.col_type }
 
 -- a table with those of its columns that the query names, in the catalogue's order
 abbrev pub table_use : Scope → Query → Option ℕ → List ℕ → TableUse

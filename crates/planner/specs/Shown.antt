@@ -41,7 +41,7 @@ name_behind None column = column
 abbrev pub item_name : Item → Option (List ℕ)
 item_name i = name_behind i.alias (column_name i.expr)
 
--- the header of an item: its name, else `c` and its place from 1
+-- the header of an item: its name, else `c` and its position from 1
 abbrev pub header : ℕ × Item → List ℕ
 header i = unwrap_or (item_name i.1) (codes "c" ++ decimal (i.0 + 1))
 
@@ -75,12 +75,12 @@ has_name name i = option_map_or (bytes_eq name) (item_name i) false
 
 -- the first of the items with a name, and how many there are
 abbrev pub one_named : Option ℕ → ℕ → Result ℕ PlanFault
-one_named None n = Err fault.PlaceNotAllowed
+one_named None n = Err fault.PositionNotAllowed
 one_named (Some i) n = if n == 1 then Ok i else Err fault.Ambiguous
 
--- the item that ORDER BY names, counted from 0: by a place from 1, or by a name that just one item has
+-- the item that ORDER BY names, counted from 0: by a position from 1, or by a name that just one item has
 abbrev pub item_meant : List Item → OrderTarget → Result ℕ PlanFault
-item_meant items (target.Place n) = if (n == 0) || nat_lt (length items) n then Err fault.PlaceNotAllowed else Ok (n - 1)
+item_meant items (target.Position n) = if (n == 0) || nat_lt (length items) n then Err fault.PositionNotAllowed else Ok (n - 1)
 item_meant items (target.Name name) = one_named (position (has_name name) items) (length (filter (has_name name) items))
 
 abbrev pub is_descending : Direction → Bool

@@ -1,36 +1,21 @@
 -- Plans have types.
-use Rattle.std.specs.Prelude.{◌≡◌, ◌<◌, true, List, ◌++◌, map, length, option_to_list, Ok, All}
+use Rattle.std.specs.Prelude.{◌≡◌, true, List, Ok}
 use Rattle.meaning.specs.declared.catalog.Catalog.{Catalog}
 use Rattle.meaning.specs.declared.catalog.Dimension.{Dimension}
 use Rattle.meaning.specs.declared.plan.Plan.{Plan}
-use Rattle.meaning.specs.declared.value.ColType.{ColType}
 use Rattle.meaning.specs.Catalog.{IsWellFormed}
 use Rattle.meaning.specs.Cut.{Cut}
 use Rattle.meaning.specs.Order.{Row}
-use Rattle.meaning.specs.References.{Reference, FactColumn, JoinColumn, GroupKey, GroupAggregate, columns_used_in_all}
+use Rattle.meaning.specs.SoundPlan.{IsTypedOverGroups}
 use Rattle.meaning.specs.TableLaws.{joined_types, AreJoined, AreLoaded, IsTypedPlan, LoadedTablesServe}
-use Rattle.meaning.specs.Typing.{Valued, Boolean, group_types, has_type}
 use Rattle.sql_syntax.specs.declared.tree.Query.{Query}
 use Rattle.sql_syntax.specs.Literals.{has_only_fitting_literals}
 use Rattle.planner.specs.Planned.{planned}
 
 -- the plan joins dimensions of the catalogue by their keys, and over these tables its conditions are truths, and its keys and
--- its aggregates' arguments are of the types that it tells
+-- its aggregates' arguments are of the types that it declares
 abbrev pub IsTypedOver : Catalog → Plan → Type 0
 IsTypedOver catalog p = (dimensions : List Dimension) × AreJoined catalog p dimensions × IsTypedPlan (joined_types catalog dimensions) p
-
--- a key or an aggregate of the plan
-abbrev pub IsOfGroup : Plan → Reference → Type 0
-IsOfGroup p (GroupKey i) = i < length p.keys
-IsOfGroup p (GroupAggregate i) = i < length p.aggs
-IsOfGroup p (FactColumn at) = ⊥
-IsOfGroup p (JoinColumn join at) = ⊥
-
--- over the plan's groups each item is a value of one type, and HAVING a truth; and they name keys and aggregates of the plan alone
-pub record IsTypedOverGroups (p : Plan) : Type 0 where
-  pub items : All (λ i. (kind : ColType) × (has_type (group_types p) i.expr (Valued kind) ≡ true)) p.items
-  pub having : All (λ e. has_type (group_types p) e Boolean ≡ true) (option_to_list p.having)
-  pub named : All (IsOfGroup p) (columns_used_in_all (map (λ i. i.expr) p.items ++ option_to_list p.having))
 
 -- the items and HAVING of a query whose literals fit have types over groups
 abbrev pub GroupsAreTyped : Type 0

@@ -4,18 +4,9 @@ ghost use Rattle.planner.specs.Conjuncts.{row_expr as expr_of};
 ghost use Rattle.planner.specs.Aggregates.{kind_of as plan_kind, type_in, row_type as type_of_row, aggregate_of, aggregates_in, arm_aggregates, with_aggregate, with_aggregates, with_parts, count_rows as rows_counted, arm_parts};
 
 use crate::conjuncts::row_expr;
-use meaning::boxed::Boxed;
-use meaning::plan::AggregateKind;
-use meaning::sequence::Sequence;
-use meaning::value::{ColType, Value};
-use meaning::{expr, plan};
-use planner_expressions::basis::written;
-use planner_expressions::fault::PlanFault;
-use planner_expressions::judging::judge;
-use planner_expressions::scope::Scope;
-use planner_expressions::sort::Sort;
-use planner_expressions::spelling::find_same;
-use sql_syntax::tree::{Aggregate, Arm, Expr};
+use meaning::{AggregateKind, Boxed, ColType, Sequence, Value, expr, plan};
+use planner_expressions::{PlanFault, Scope, Sort, find_same, judge, written};
+use sql_syntax::{Aggregate, Arm, Expr};
 use std::alloc::{AllocError, Global};
 
 /// Aggregates, each written out and as the plan has it.
@@ -37,10 +28,10 @@ fn kind_of(kind: Aggregate) -> AggregateKind
     }
 }
 
-fn type_of(told: Result<Sort, PlanFault>) -> ColType
-    ensures { result ≡ type_in told }
+fn type_of(returned: Result<Sort, PlanFault>) -> ColType
+    ensures { result ≡ type_in returned }
 {
-    match told {
+    match returned {
         Ok(sort) => match sort {
             Sort::Integer => ColType::Int,
             Sort::Text => ColType::Text,

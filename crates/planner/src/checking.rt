@@ -3,16 +3,13 @@ ghost use Rattle.std.specs.Prelude.{◌≡◌, map, true, option_to_list};
 ghost use Rattle.planner.specs.Checked.{as_value, as_truth, item_check, key_check, condition_check, on_trees, conditions_checked, groups_checked, checked};
 ghost use Rattle.planner_expressions.specs.Results.{each_ok};
 
-use planner_expressions::fault::PlanFault;
-use planner_expressions::judging::judge;
-use planner_expressions::scope::Scope;
-use planner_expressions::sort::Sort;
-use sql_syntax::tree::{Expr, Item, Joined, Query};
+use planner_expressions::{PlanFault, Scope, Sort, judge};
+use sql_syntax::{Expr, Item, Joined, Query};
 
-fn value(told: Result<Sort, PlanFault>) -> Result<(), PlanFault>
-    ensures { result ≡ as_value told }
+fn value(returned: Result<Sort, PlanFault>) -> Result<(), PlanFault>
+    ensures { result ≡ as_value returned }
 {
-    match told {
+    match returned {
         Ok(sort) => {
             if sort.is_value() {
                 Ok(())
@@ -24,10 +21,10 @@ fn value(told: Result<Sort, PlanFault>) -> Result<(), PlanFault>
     }
 }
 
-fn truth(told: Result<Sort, PlanFault>) -> Result<(), PlanFault>
-    ensures { result ≡ as_truth told }
+fn truth(returned: Result<Sort, PlanFault>) -> Result<(), PlanFault>
+    ensures { result ≡ as_truth returned }
 {
-    match told {
+    match returned {
         Ok(sort) => {
             if Sort::Truth.is(sort) {
                 Ok(())

@@ -4,14 +4,9 @@ ghost use Rattle.planner.specs.Checked.{on_trees, conditions};
 ghost use Rattle.planner_expressions.specs.Given.{column_meant};
 ghost use Rattle.planner.specs.Conjuncts.{keyed as keyed_by, equality_of, join_equality, row_expr as expr_of, with_conjunct, with_conjuncts, conjuncts_of, joins_dim, equality_for as equality_of_dim, one_equality};
 
-use meaning::expr;
-use meaning::sequence::Sequence;
-use meaning::value::Value;
-use planner_expressions::basis::{Basis, column_of};
-use planner_expressions::fault::PlanFault;
-use planner_expressions::scope::{Place, Scope};
-use planner_expressions::translating::translate;
-use sql_syntax::tree::{Comparison, Expr, Joined, Query};
+use meaning::{Sequence, Value, expr};
+use planner_expressions::{Basis, PlanFault, Scope, ScopeColumn, column_of, translate};
+use sql_syntax::{Comparison, Expr, Joined, Query};
 use std::alloc::{AllocError, Global};
 
 /// That a column of the fact equals the key of a dimension of FROM.
@@ -32,7 +27,7 @@ pub struct Conjuncts {
     pub plain: Sequence<expr::Expr>,
 }
 
-fn keyed(x: &Place, k: &Place) -> Option<Equality>
+fn keyed(x: &ScopeColumn, k: &ScopeColumn) -> Option<Equality>
     ensures { result ≡ keyed_by x.now k.now }
 {
     match k.join {
@@ -40,8 +35,8 @@ fn keyed(x: &Place, k: &Place) -> Option<Equality>
             if k.is_key && x.join.is_none() {
                 Some(Equality {
                     join,
-                    foreign: x.place,
-                    key: k.place,
+                    foreign: x.column,
+                    key: k.column,
                 })
             } else {
                 None
@@ -51,7 +46,7 @@ fn keyed(x: &Place, k: &Place) -> Option<Equality>
     }
 }
 
-fn either(x: &Place, k: &Place) -> Option<Equality>
+fn either(x: &ScopeColumn, k: &ScopeColumn) -> Option<Equality>
     ensures { result ≡ equality_of (Some x.now) (Some k.now) }
 {
     match keyed(x, k) {

@@ -1,7 +1,7 @@
 //! The groups of a plan, and what is shown of them.
 ghost use Rattle.std.specs.Prelude.{◌≡◌, IfOk, not, Ok};
 ghost use Rattle.meaning.specs.Results.{and_then};
-ghost use Rattle.planner_expressions.specs.Results.{map_ok, Tells};
+ghost use Rattle.planner_expressions.specs.Results.{map_ok, Reports};
 ghost use Rattle.planner.specs.Groups.{no_aggregates as none_gathered, all_aggregates, grouped_with, limits_check, keys_by};
 ghost use Rattle.planner_expressions.specs.declared.basis.Basis.TheVariants.{Groups};
 ghost use Rattle.planner.specs.Shown.{items_of, order_of};
@@ -14,12 +14,9 @@ use crate::keys::{
 };
 use crate::parts::{Grouped, Shown};
 use crate::showing::{having_of, push_items, push_order};
-use meaning::plan::{Item, OrderKey};
-use meaning::sequence::Sequence;
-use planner_expressions::basis::Basis;
-use planner_expressions::fault::PlanFault;
-use planner_expressions::scope::Scope;
-use sql_syntax::tree::Query;
+use meaning::{Item, OrderKey, Sequence};
+use planner_expressions::{Basis, PlanFault, Scope};
+use sql_syntax::Query;
 use std::alloc::{AllocError, Global};
 
 fn items(
@@ -28,7 +25,7 @@ fn items(
     query: &Query,
     basis: &Basis,
 ) -> Result<Sequence<Item>, PlanFault>
-    ensures { Tells result (items_of scope.now basis.now query.now.items) }
+    ensures { Reports result (items_of scope.now basis.now query.now.items) }
 {
     let mut out = Sequence::new(alloc);
     match push_items(alloc, scope, basis, query.items.as_slice(), &mut out) {
@@ -41,7 +38,7 @@ fn items(
 }
 
 fn order(alloc: Global, query: &Query) -> Result<Sequence<OrderKey>, PlanFault>
-    ensures { Tells result (order_of query.now.items query.now.order_by) }
+    ensures { Reports result (order_of query.now.items query.now.order_by) }
 {
     let mut out = Sequence::new(alloc);
     match push_order(query.items.as_slice(), query.order_by.as_slice(), &mut out) {
@@ -54,7 +51,7 @@ fn order(alloc: Global, query: &Query) -> Result<Sequence<OrderKey>, PlanFault>
 }
 
 fn shown(alloc: Global, scope: &Scope, query: &Query, basis: &Basis) -> Result<Shown, PlanFault>
-    ensures { Tells result (shown_in scope.now query.now basis.now) }
+    ensures { Reports result (shown_in scope.now query.now basis.now) }
 {
     match items(alloc, scope, query, basis) {
         Ok(items) => match having_of(alloc, scope, basis, &query.having) {
@@ -93,7 +90,7 @@ fn gather_all(
     out: &mut Aggregates,
 ) -> Result<(), PlanFault>
     requires { out.old ≡ none_gathered }
-    ensures { Tells (map_ok (λ _. out.new) result)
+    ensures { Reports (map_ok (λ _. out.new) result)
         (and_then (limits_check scope.now query.now) (λ _. Ok
         (all_aggregates scope.now query.now))) }
 {
@@ -116,7 +113,7 @@ fn gather_all(
 }
 
 fn aggregates(alloc: Global, scope: &Scope, query: &Query) -> Result<Aggregates, PlanFault>
-    ensures { Tells result (and_then (limits_check scope.now query.now)
+    ensures { Reports result (and_then (limits_check scope.now query.now)
         (λ _. Ok (all_aggregates scope.now query.now))) }
 {
     let mut out = no_aggregates(alloc);
@@ -150,7 +147,7 @@ fn groups_from(
     keys: Keys,
     aggregates: Aggregates,
 ) -> Result<Grouped, PlanFault>
-    ensures { Tells result (and_then
+    ensures { Reports result (and_then
         (shown_in scope.now query.now (Groups keys.written aggregates.written))
         (λ shown. Ok (record {
           keys = keys.list;
@@ -195,7 +192,7 @@ fn groups_given(
     aggregates: Aggregates,
 ) -> Result<Grouped, PlanFault>
     requires { aggregates ≡ all_aggregates scope.now query.now }
-    ensures { Tells result (and_then (shown_in scope.now query.now (basis_of scope.now query.now))
+    ensures { Reports result (and_then (shown_in scope.now query.now (basis_of scope.now query.now))
         (λ shown. Ok (groups_with scope.now query.now shown))) }
 {
     let grouped = is_grouped(query, &aggregates);
@@ -210,7 +207,7 @@ fn groups_given(
 
 /// The groups, and what is shown of them.
 pub fn groups_of(alloc: Global, scope: &Scope, query: &Query) -> Result<Grouped, PlanFault>
-    ensures { Tells result (groups_in scope.now query.now) }
+    ensures { Reports result (groups_in scope.now query.now) }
 {
     match aggregates(alloc, scope, query) {
         Ok(found) => groups_given(alloc, scope, query, found),

@@ -7,13 +7,9 @@ ghost use Rattle.planner.specs.Groups.{no_aggregates as none_gathered, aggregate
 
 use crate::aggregates::{Aggregates, gather, row_type};
 use crate::conjuncts::row_expr;
-use meaning::limits::{MAX_AGGREGATES, MAX_KEYS};
-use meaning::plan::GroupingKey;
-use meaning::sequence::Sequence;
-use planner_expressions::basis::written;
-use planner_expressions::fault::PlanFault;
-use planner_expressions::scope::Scope;
-use sql_syntax::tree::{Expr, Item, Query};
+use meaning::{GroupingKey, MAX_AGGREGATES, MAX_KEYS, Sequence};
+use planner_expressions::{PlanFault, Scope, written};
+use sql_syntax::{Expr, Item, Query};
 use std::alloc::{AllocError, Global};
 
 /// Keys, each written out and as the plan has it.
@@ -84,13 +80,13 @@ fn is_integer(expr: &Expr) -> bool
     }
 }
 
-fn check_entry(place: usize, entry: &Expr) -> Result<(), PlanFault>
-    ensures { result ≡ entry_check (place, entry.now) }
+fn check_entry(position: usize, entry: &Expr) -> Result<(), PlanFault>
+    ensures { result ≡ entry_check (position, entry.now) }
 {
     if is_integer(entry) {
-        return Err(PlanFault::PlaceNotAllowed);
+        return Err(PlanFault::PositionNotAllowed);
     }
-    if place >= MAX_KEYS {
+    if position >= MAX_KEYS {
         Err(PlanFault::OverLimit)
     } else {
         Ok(())
@@ -100,8 +96,8 @@ fn check_entry(place: usize, entry: &Expr) -> Result<(), PlanFault>
 fn check_entries(entries: &[Expr]) -> Result<(), PlanFault>
     ensures { result ≡ entries_check entries.now }
 {
-    for (place, entry) in entries.iter().enumerate() {
-        match check_entry(place, entry) {
+    for (position, entry) in entries.iter().enumerate() {
+        match check_entry(position, entry) {
             Ok(()) => {}
             Err(e) => return Err(e),
         }

@@ -3,7 +3,7 @@ ghost use Rattle.planner.specs.Forms.{FormsAgree, CommaIsJoin};
 ghost use Rattle.planner.specs.Limited.{PlansAreLimited};
 ghost use Rattle.planner.specs.PlanOf.{PlansMean, PlansAgree};
 ghost use Rattle.planner.specs.Typed.{PlansAreTyped, PlansServe, GroupsAreTyped};
-ghost use Rattle.planner.specs.WellFormed.{PlansAreWellFormed};
+ghost use Rattle.planner.specs.Sound.{PlansAreSound};
 
 /// The plan that is defined is the query's.
 pub fn plans_mean()
@@ -25,9 +25,9 @@ pub fn plans_serve()
     ensures { PlansServe }
 {}
 
-/// The plan of a query that shows something and whose literals fit is well-formed.
-pub fn plans_are_well_formed()
-    ensures { PlansAreWellFormed }
+/// The plan of a query that shows something, whose literals fit and whose text is short is sound.
+pub fn plans_are_sound()
+    ensures { PlansAreSound }
 {}
 
 /// Queries that differ at most in which conditions stand behind ON have one plan but for its text,

@@ -6,12 +6,20 @@ mod checking;
 mod conjuncts;
 mod groups;
 mod keys;
-pub mod laws;
+mod laws;
 mod parts;
 mod planning;
+mod query_fault;
+mod query_text;
 mod reading;
 mod showing;
 mod tables;
 
-pub use planner_expressions::fault::PlanFault;
+pub use laws::{
+    comma_is_join, forms_agree, groups_are_typed, plans_agree, plans_are_limited, plans_are_sound,
+    plans_are_typed, plans_mean, plans_serve,
+};
+pub use planner_expressions::PlanFault;
 pub use planning::plan;
+pub use query_fault::QueryFault;
+pub use query_text::plan_query;

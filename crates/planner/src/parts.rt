@@ -1,7 +1,5 @@
 //! The parts of a plan.
-use meaning::expr::Expr;
-use meaning::plan::{Aggregate, GroupingKey, Item, Join, OrderKey, TableUse};
-use meaning::sequence::Sequence;
+use meaning::{Aggregate, Expr, GroupingKey, Item, Join, OrderKey, Sequence, TableUse};
 
 /// The tables, and what is asked of their rows.
 #[derive(Drop)]

@@ -1,25 +1,21 @@
 //! Plans of queries.
-ghost use Rattle.std.specs.Prelude.{◌≡◌, ◌≢◌, IfOk, List, [], ℕ, Ok, true};
-ghost use Rattle.meaning.specs.WellFormedPlan.{IsWellFormedPlan};
+ghost use Rattle.std.specs.Prelude.{◌≡◌, IfOk, List, ℕ, Ok, true};
+ghost use Rattle.meaning.specs.SoundPlan.{IsSoundPlan};
 ghost use Rattle.sql_syntax.specs.Canonical.{canonical};
 ghost use Rattle.sql_syntax.specs.Literals.{has_only_fitting_literals};
-ghost use Rattle.planner_expressions.specs.Results.{Tells};
+ghost use Rattle.planner_expressions.specs.Results.{Reports};
 ghost use Rattle.planner.specs.Planned.{plan_with, planned, planned_in};
 ghost use Rattle.planner.specs.PlanOf.{IsAPlanOf};
+ghost use Rattle.planner.specs.Sound.{IsSoundQuery};
 ghost use Rattle.planner.specs.Typed.{IsTypedOver};
 
 use crate::checking::check;
 use crate::groups::groups_of;
 use crate::parts::{Grouped, Shown, Tables};
 use crate::tables::tables_of;
-use meaning::catalog::Catalog;
-use meaning::plan::Plan;
-use meaning::text::Text;
-use planner_expressions::fault::PlanFault;
-use planner_expressions::from::scope_of;
-use planner_expressions::scope::Scope;
-use sql_syntax::print;
-use sql_syntax::tree::Query;
+use meaning::{Catalog, Plan, Text};
+use planner_expressions::{PlanFault, Scope, scope_of};
+use sql_syntax::{Query, print};
 use std::alloc::Global;
 
 fn plan_from(text: Text, query: &Query, tables: Tables, groups: Grouped) -> Plan
@@ -63,7 +59,7 @@ fn plan_with_text(
     tables: Tables,
     groups: Grouped,
 ) -> Result<Plan, PlanFault>
-    ensures { Tells result (Ok (plan_with query.now tables groups)) }
+    ensures { Reports result (Ok (plan_with query.now tables groups)) }
 {
     match print(alloc, query) {
         Ok(text) => Ok(plan_from(text, query, tables, groups)),
@@ -76,7 +72,7 @@ fn plan_with_text(
 }
 
 fn plan_in(alloc: Global, fact: &Text, scope: &Scope, query: &Query) -> Result<Plan, PlanFault>
-    ensures { Tells result (planned_in fact.now scope.now query.now) }
+    ensures { Reports result (planned_in fact.now scope.now query.now) }
 {
     match check(scope, query) {
         Ok(()) => {}
@@ -94,8 +90,8 @@ fn plan_in(alloc: Global, fact: &Text, scope: &Scope, query: &Query) -> Result<P
     }
 }
 
-fn plan_told(alloc: Global, catalog: &Catalog, query: &Query) -> Result<Plan, PlanFault>
-    ensures { Tells result (planned catalog.now query.now) }
+fn plan_returned(alloc: Global, catalog: &Catalog, query: &Query) -> Result<Plan, PlanFault>
+    ensures { Reports result (planned catalog.now query.now) }
 {
     match scope_of(alloc, catalog, &query.source) {
         Ok(scope) => {
@@ -108,10 +104,10 @@ fn plan_told(alloc: Global, catalog: &Catalog, query: &Query) -> Result<Plan, Pl
 }
 
 /// The plan of a query over the tables of a catalogue, or its first fault.
-#[tactic(auto, using(crate::proofs::PlansMean::means_told, crate::proofs::TypedPlans::typed_told, crate::proofs::WellFormedPlans::planned_told))]
+#[tactic(auto, using(crate::proofs::PlansMean::means_returned, crate::proofs::TypedPlans::typed_returned, crate::proofs::SoundPlans::planned_returned))]
 pub fn plan(alloc: Global, catalog: &Catalog, query: &Query) -> Result<Plan, PlanFault>
     // It is the plan that is defined, or exactly the first fault, unless memory is wanting.
-    ensures told { Tells result (planned catalog.now query.now) }
+    ensures returned { Reports result (planned catalog.now query.now) }
     // A plan that is given is the defined one.
     ensures defined { IfOk result (λ p. planned catalog.now query.now ≡ Ok p) }
     // A plan is the query's.
@@ -119,10 +115,8 @@ pub fn plan(alloc: Global, catalog: &Catalog, query: &Query) -> Result<Plan, Pla
     // The plan of a query whose literals fit is typed.
     ensures typed { IfOk result (λ p. has_only_fitting_literals query.now ≡ true
         → IsTypedOver catalog.now p) }
-    // The plan of a query that shows something and whose literals fit lists each column that it
-    // names.
-    ensures formed { IfOk result (λ p. has_only_fitting_literals query.now ≡ true
-        → query.now.items ≢ [] → IsWellFormedPlan p) }
+    // The plan of a query that was read is sound.
+    ensures sound { IfOk result (λ p. IsSoundQuery query.now → IsSoundPlan p) }
 {
-    plan_told(alloc, catalog, query)
+    plan_returned(alloc, catalog, query)
 }

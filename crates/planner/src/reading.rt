@@ -1,72 +1,68 @@
 //! Which columns of which tables a query reads, and how the tables are joined.
 ghost use Rattle.std.specs.Prelude.{◌≡◌, ◌++◌, ◌∷◌, [], ◌||◌, ◌&&◌, OnOk, IfOk, map, filter, option_to_list};
 ghost use Rattle.std.specs.List.{list_any, enumerate_from};
-ghost use Rattle.planner_expressions.specs.Results.{map_ok, Tells};
+ghost use Rattle.planner_expressions.specs.Results.{map_ok, Reports};
 ghost use Rattle.planner_expressions.specs.Uses.{names as names_it};
 ghost use Rattle.planner.specs.Checked.{on_trees, conditions};
 ghost use Rattle.planner.specs.Planned.{is_named as named_in, same_join as of_join, is_read as read_in, use_of, table_use as used_of, join_of, joins_of};
 
 use crate::conjuncts::{Equality, equality_for};
-use meaning::plan::{ColumnUse, Join, TableUse};
-use meaning::sequence::Sequence;
-use meaning::text::Text;
-use planner_expressions::fault::PlanFault;
-use planner_expressions::scope::{Dim, Place, Scope};
-use planner_expressions::using::names;
-use sql_syntax::tree::{Expr, Item, Joined, Query};
+use meaning::{ColumnUse, Join, Sequence, TableUse, Text};
+use planner_expressions::{Dim, PlanFault, Scope, ScopeColumn, names};
+use sql_syntax::{Expr, Item, Joined, Query};
 use std::alloc::{AllocError, Global};
 
-fn in_items(place: &Place, items: &[Item]) -> bool
-    ensures { result ≡ list_any (λ i. names_it place.now i.expr) items.now }
+fn in_items(column: &ScopeColumn, items: &[Item]) -> bool
+    ensures { result ≡ list_any (λ i. names_it column.now i.expr) items.now }
 {
-    items.iter().any(|item| names(place, &item.expr))
+    items.iter().any(|item| names(column, &item.expr))
 }
 
-fn in_trees(place: &Place, trees: &[Expr]) -> bool
-    ensures { result ≡ list_any (names_it place.now) trees.now }
+fn in_trees(column: &ScopeColumn, trees: &[Expr]) -> bool
+    ensures { result ≡ list_any (names_it column.now) trees.now }
 {
-    trees.iter().any(|tree| names(place, tree))
+    trees.iter().any(|tree| names(column, tree))
 }
 
-fn in_condition(place: &Place, condition: &Option<Expr>) -> bool
-    ensures { result ≡ list_any (names_it place.now) (option_to_list condition.now) }
+fn in_condition(column: &ScopeColumn, condition: &Option<Expr>) -> bool
+    ensures { result ≡ list_any (names_it column.now) (option_to_list condition.now) }
 {
     match condition {
-        Some(condition) => names(place, condition),
+        Some(condition) => names(column, condition),
         None => false,
     }
 }
 
-fn in_ons(place: &Place, others: &[Joined]) -> bool
-    ensures { result ≡ list_any (names_it place.now) (on_trees others.now) }
+fn in_ons(column: &ScopeColumn, others: &[Joined]) -> bool
+    ensures { result ≡ list_any (names_it column.now) (on_trees others.now) }
 {
     for joined in others {
-        if in_condition(place, &joined.on) {
+        if in_condition(column, &joined.on) {
             return true;
         }
     }
     false
 }
 
-fn in_conditions(place: &Place, query: &Query) -> bool
-    ensures { result ≡ list_any (names_it place.now) (conditions query.now) }
+fn in_conditions(column: &ScopeColumn, query: &Query) -> bool
+    ensures { result ≡ list_any (names_it column.now) (conditions query.now) }
 {
-    in_ons(place, query.source.others.as_slice()) || in_condition(place, &query.filter)
+    in_ons(column, query.source.others.as_slice()) || in_condition(column, &query.filter)
 }
 
-fn in_groups(place: &Place, query: &Query) -> bool
-    ensures { result ≡ (list_any (names_it place.now) query.now.group_by || list_any
-        (names_it place.now) (option_to_list query.now.having)) }
+fn in_groups(column: &ScopeColumn, query: &Query) -> bool
+    ensures { result ≡ (list_any (names_it column.now) query.now.group_by || list_any
+        (names_it column.now) (option_to_list query.now.having)) }
 {
-    in_trees(place, query.group_by.as_slice()) || in_condition(place, &query.having)
+    in_trees(column, query.group_by.as_slice()) || in_condition(column, &query.having)
 }
 
 /// Some expression of the query names the column.
-fn is_named(query: &Query, place: &Place) -> bool
-    ensures { result ≡ named_in query.now place.now }
+fn is_named(query: &Query, column: &ScopeColumn) -> bool
+    ensures { result ≡ named_in query.now column.now }
 {
-    in_items(place, query.items.as_slice())
-        || (in_conditions(place, query) || in_groups(place, query))
+    in_items(column, query.items.as_slice())
+        || (in_conditions(column, query) || in_groups(column, query))
 }
 
 fn same_join(left: Option<usize>, right: Option<usize>) -> bool
@@ -81,19 +77,19 @@ fn same_join(left: Option<usize>, right: Option<usize>) -> bool
     }
 }
 
-fn is_read(query: &Query, join: Option<usize>, place: &Place) -> bool
-    ensures { result ≡ read_in query.now join place.now }
+fn is_read(query: &Query, join: Option<usize>, column: &ScopeColumn) -> bool
+    ensures { result ≡ read_in query.now join column.now }
 {
-    same_join(join, place.join) && is_named(query, place)
+    same_join(join, column.join) && is_named(query, column)
 }
 
-fn column_use(place: &Place) -> Result<ColumnUse, AllocError>
-    ensures { IfOk result (λ c. c ≡ use_of place.now) }
+fn column_use(column: &ScopeColumn) -> Result<ColumnUse, AllocError>
+    ensures { IfOk result (λ c. c ≡ use_of column.now) }
 {
     Ok(ColumnUse {
-        place: place.place,
-        name: place.name.clone()?,
-        col_type: place.col_type,
+        column: column.column,
+        name: column.name.clone()?,
+        col_type: column.col_type,
     })
 }
 
@@ -101,15 +97,15 @@ fn column_use(place: &Place) -> Result<ColumnUse, AllocError>
 fn push_use(
     query: &Query,
     join: Option<usize>,
-    place: &Place,
+    column: &ScopeColumn,
     out: &mut Sequence<ColumnUse>,
 ) -> Result<(), AllocError>
     ensures { OnOk result (out.new ≡ out.old
-        ++ map use_of (filter (read_in query.now join) (place.now ∷ []))) }
+        ++ map use_of (filter (read_in query.now join) (column.now ∷ []))) }
 {
-    if is_read(query, join, place) {
-        let column = column_use(place)?;
-        return out.push(column);
+    if is_read(query, join, column) {
+        let used = column_use(column)?;
+        return out.push(used);
     }
     Ok(())
 }
@@ -117,14 +113,14 @@ fn push_use(
 fn push_uses(
     query: &Query,
     join: Option<usize>,
-    columns: &[Place],
+    columns: &[ScopeColumn],
     out: &mut Sequence<ColumnUse>,
 ) -> Result<(), AllocError>
     ensures { OnOk result (out.new ≡ out.old
         ++ map use_of (filter (read_in query.now join) columns.now)) }
 {
-    for place in columns {
-        push_use(query, join, place, out)?;
+    for column in columns {
+        push_use(query, join, column, out)?;
     }
     Ok(())
 }
@@ -173,13 +169,13 @@ fn join_at(
     scope: &Scope,
     query: &Query,
     equalities: &[Equality],
-    place: usize,
+    join: usize,
     dim: &Dim,
 ) -> Result<Join, PlanFault>
-    ensures { Tells result (join_of scope.now query.now equalities.now (place, dim.now)) }
+    ensures { Reports result (join_of scope.now query.now equalities.now (join, dim.now)) }
 {
-    match equality_for(equalities, place) {
-        Ok(equality) => match table_use(alloc, scope, query, Some(place), &dim.name) {
+    match equality_for(equalities, join) {
+        Ok(equality) => match table_use(alloc, scope, query, Some(join), &dim.name) {
             Ok(dim) => Ok(Join {
                 dim,
                 foreign: equality.foreign,
@@ -192,7 +188,7 @@ fn join_at(
 }
 
 fn put_join(join: Result<Join, PlanFault>, out: &mut Sequence<Join>) -> Result<(), PlanFault>
-    ensures { Tells (map_ok (λ _. out.new) result) (map_ok (λ j. out.old ++ j ∷ []) join) }
+    ensures { Reports (map_ok (λ _. out.new) result) (map_ok (λ j. out.old ++ j ∷ []) join) }
 {
     match join {
         Ok(join) => match out.push(join) {
@@ -211,11 +207,11 @@ pub fn push_joins(
     equalities: &[Equality],
     out: &mut Sequence<Join>,
 ) -> Result<(), PlanFault>
-    ensures { Tells (map_ok (λ _. out.new) result)
+    ensures { Reports (map_ok (λ _. out.new) result)
         (map_ok (λ js. out.old ++ js) (joins_of scope.now query.now equalities.now)) }
 {
-    for (place, dim) in scope.dims.as_slice().iter().enumerate() {
-        match put_join(join_at(alloc, scope, query, equalities, place, dim), out) {
+    for (join, dim) in scope.dims.as_slice().iter().enumerate() {
+        match put_join(join_at(alloc, scope, query, equalities, join, dim), out) {
             Ok(()) => {}
             Err(e) => return Err(e),
         }

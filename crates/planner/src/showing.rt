@@ -2,17 +2,12 @@
 ghost use Rattle.std.specs.Prelude.{◌≡◌, ◌++◌, ◌∷◌, [], ◌+◌, ◌<◌, IfOk, map, option_map, List, ℕ, ◌^◌, codes, decimal, position, filter, length};
 ghost use Rattle.std.specs.List.{enumerate_from};
 ghost use Rattle.meaning.specs.Results.{all_ok};
-ghost use Rattle.planner_expressions.specs.Results.{map_ok, Tells};
+ghost use Rattle.planner_expressions.specs.Results.{map_ok, Reports};
 ghost use Rattle.planner.specs.Shown.{item_name as named_by, header as headed, has_name as goes_by, one_named, item_meant, is_descending as descends, order_key, order_of as ordered, over_group as built, item_of, items_of, having_of as having_from, with_header};
 
-use meaning::sequence::Sequence;
-use meaning::text::Text;
-use meaning::{expr, plan};
-use planner_expressions::basis::Basis;
-use planner_expressions::fault::PlanFault;
-use planner_expressions::scope::Scope;
-use planner_expressions::translating::translate;
-use sql_syntax::tree::{Direction, Expr, Item, OrderKey, OrderTarget};
+use meaning::{Sequence, Text, expr, plan};
+use planner_expressions::{Basis, PlanFault, Scope, translate};
+use sql_syntax::{Direction, Expr, Item, OrderKey, OrderTarget};
 use std::alloc::{AllocError, Global};
 
 /// The name by which ORDER BY may name an item.
@@ -34,13 +29,13 @@ fn numbered(alloc: Global, number: usize) -> Result<Text, AllocError>
     Ok(Text::from_string(format!(in alloc; "c{}", number)?))
 }
 
-fn header(alloc: Global, place: usize, item: &Item) -> Result<Text, AllocError>
-    requires { place + 1 < 2 ^ 64 }
-    ensures { IfOk result (λ t. t ≡ headed (place, item.now)) }
+fn header(alloc: Global, index: usize, item: &Item) -> Result<Text, AllocError>
+    requires { index + 1 < 2 ^ 64 }
+    ensures { IfOk result (λ t. t ≡ headed (index, item.now)) }
 {
     match item_name(item) {
         Some(name) => name.clone(),
-        None => numbered(alloc, place + 1),
+        None => numbered(alloc, index + 1),
     }
 }
 
@@ -51,7 +46,7 @@ fn over_group(
     basis: &Basis,
     expr: &Expr,
 ) -> Result<expr::Expr, PlanFault>
-    ensures { Tells result (built scope.now basis.now expr.now) }
+    ensures { Reports result (built scope.now basis.now expr.now) }
 {
     match translate(alloc, scope, basis, expr) {
         Ok(Some(found)) => Ok(found),
@@ -62,7 +57,7 @@ fn over_group(
 
 fn with_name(expr: expr::Expr, header: Result<Text, AllocError>) -> Result<plan::Item, PlanFault>
     ensures { (name : List ℕ) → IfOk header (λ t. t ≡ name)
-        → Tells result (Ok (with_header name expr)) }
+        → Reports result (Ok (with_header name expr)) }
 {
     match header {
         Ok(header) => Ok(plan::Item { header, expr }),
@@ -77,14 +72,14 @@ fn item_at(
     alloc: Global,
     scope: &Scope,
     basis: &Basis,
-    place: usize,
+    index: usize,
     item: &Item,
 ) -> Result<plan::Item, PlanFault>
-    requires { place + 1 < 2 ^ 64 }
-    ensures { Tells result (item_of scope.now basis.now (place, item.now)) }
+    requires { index + 1 < 2 ^ 64 }
+    ensures { Reports result (item_of scope.now basis.now (index, item.now)) }
 {
     match over_group(alloc, scope, basis, &item.expr) {
-        Ok(found) => with_name(found, header(alloc, place, item)),
+        Ok(found) => with_name(found, header(alloc, index, item)),
         Err(e) => Err(e),
     }
 }
@@ -93,7 +88,7 @@ fn put_item(
     item: Result<plan::Item, PlanFault>,
     out: &mut Sequence<plan::Item>,
 ) -> Result<(), PlanFault>
-    ensures { Tells (map_ok (λ _. out.new) result) (map_ok (λ i. out.old ++ i ∷ []) item) }
+    ensures { Reports (map_ok (λ _. out.new) result) (map_ok (λ i. out.old ++ i ∷ []) item) }
 {
     match item {
         Ok(item) => match out.push(item) {
@@ -112,11 +107,11 @@ pub fn push_items(
     items: &[Item],
     out: &mut Sequence<plan::Item>,
 ) -> Result<(), PlanFault>
-    ensures { Tells (map_ok (λ _. out.new) result)
+    ensures { Reports (map_ok (λ _. out.new) result)
         (map_ok (λ is. out.old ++ is) (items_of scope.now basis.now items.now)) }
 {
-    for (place, item) in items.iter().enumerate() {
-        match put_item(item_at(alloc, scope, basis, place, item), out) {
+    for (index, item) in items.iter().enumerate() {
+        match put_item(item_at(alloc, scope, basis, index, item), out) {
             Ok(()) => {}
             Err(e) => return Err(e),
         }
@@ -130,7 +125,7 @@ pub fn having_of(
     basis: &Basis,
     having: &Option<Expr>,
 ) -> Result<Option<expr::Expr>, PlanFault>
-    ensures { Tells result (having_from scope.now basis.now having.now) }
+    ensures { Reports result (having_from scope.now basis.now having.now) }
 {
     match having {
         Some(having) => match over_group(alloc, scope, basis, having) {
@@ -175,7 +170,7 @@ fn item_named(items: &[Item], name: &Text) -> Result<usize, PlanFault>
                 Err(PlanFault::Ambiguous)
             }
         }
-        None => Err(PlanFault::PlaceNotAllowed),
+        None => Err(PlanFault::PositionNotAllowed),
     }
 }
 
@@ -183,12 +178,12 @@ fn item_for(items: &[Item], target: &OrderTarget) -> Result<usize, PlanFault>
     ensures { result ≡ item_meant items.now target.now }
 {
     match target {
-        OrderTarget::Place(place) => {
-            let place = *place;
-            if place == 0 || place > items.len() as u64 {
-                Err(PlanFault::PlaceNotAllowed)
+        OrderTarget::Position(position) => {
+            let position = *position;
+            if position == 0 || position > items.len() as u64 {
+                Err(PlanFault::PositionNotAllowed)
             } else {
-                Ok((place - 1) as usize)
+                Ok((position - 1) as usize)
             }
         }
         OrderTarget::Name(name) => item_named(items, name),
@@ -220,7 +215,7 @@ fn put_key(
     key: Result<plan::OrderKey, PlanFault>,
     out: &mut Sequence<plan::OrderKey>,
 ) -> Result<(), PlanFault>
-    ensures { Tells (map_ok (λ _. out.new) result) (map_ok (λ i. out.old ++ i ∷ []) key) }
+    ensures { Reports (map_ok (λ _. out.new) result) (map_ok (λ i. out.old ++ i ∷ []) key) }
 {
     match key {
         Ok(key) => match out.push(key) {
@@ -237,7 +232,7 @@ pub fn push_order(
     keys: &[OrderKey],
     out: &mut Sequence<plan::OrderKey>,
 ) -> Result<(), PlanFault>
-    ensures { Tells (map_ok (λ _. out.new) result)
+    ensures { Reports (map_ok (λ _. out.new) result)
         (map_ok (λ ks. out.old ++ ks) (ordered items.now keys.now)) }
 {
     for key in keys {

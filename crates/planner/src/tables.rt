@@ -1,18 +1,15 @@
 //! The tables of a plan, and what is asked of their rows.
 ghost use Rattle.std.specs.Prelude.{◌≡◌, IfOk, None, Ok};
 ghost use Rattle.meaning.specs.declared.plan.TableUse as plan_table;
-ghost use Rattle.planner_expressions.specs.Results.{Tells};
+ghost use Rattle.planner_expressions.specs.Results.{Reports};
 ghost use Rattle.planner.specs.Planned.{conjuncts as conjuncts_in, joins_of, tables_with, tables_of as tables_in, table_use as used_of};
 
 use crate::conjuncts::{Conjuncts, Equality, add_all};
 use crate::parts::Tables;
 use crate::reading::{push_joins, table_use};
-use meaning::plan::{Join, TableUse};
-use meaning::sequence::Sequence;
-use meaning::text::Text;
-use planner_expressions::fault::PlanFault;
-use planner_expressions::scope::Scope;
-use sql_syntax::tree::Query;
+use meaning::{Join, Sequence, TableUse, Text};
+use planner_expressions::{PlanFault, Scope};
+use sql_syntax::Query;
 use std::alloc::{AllocError, Global};
 
 fn conjuncts(alloc: Global, scope: &Scope, query: &Query) -> Result<Conjuncts, AllocError>
@@ -37,7 +34,7 @@ fn joins(
     query: &Query,
     equalities: &[Equality],
 ) -> Result<Sequence<Join>, PlanFault>
-    ensures { Tells result (joins_of scope.now query.now equalities.now) }
+    ensures { Reports result (joins_of scope.now query.now equalities.now) }
 {
     let mut out = Sequence::new(alloc);
     match push_joins(alloc, scope, query, equalities, &mut out) {
@@ -55,7 +52,7 @@ fn tables_from(
     conjuncts: Conjuncts,
 ) -> Result<Tables, PlanFault>
     ensures { (t : plan_table.TableUse) → IfOk fact (λ f. f ≡ t)
-        → Tells result (Ok (record { fact = t; joins = joins; conjuncts = conjuncts.plain })) }
+        → Reports result (Ok (record { fact = t; joins = joins; conjuncts = conjuncts.plain })) }
 {
     let Conjuncts { equalities, plain } = conjuncts;
     drop(equalities);
@@ -81,7 +78,7 @@ fn tables_given(
     conjuncts: Conjuncts,
 ) -> Result<Tables, PlanFault>
     requires { conjuncts ≡ conjuncts_in scope.now query.now }
-    ensures { Tells result (tables_in fact.now scope.now query.now) }
+    ensures { Reports result (tables_in fact.now scope.now query.now) }
 {
     match joins(alloc, scope, query, conjuncts.equalities.as_slice()) {
         Ok(joins) => {
@@ -102,7 +99,7 @@ pub fn tables_of(
     query: &Query,
     fact: &Text,
 ) -> Result<Tables, PlanFault>
-    ensures { Tells result (tables_in fact.now scope.now query.now) }
+    ensures { Reports result (tables_in fact.now scope.now query.now) }
 {
     match conjuncts(alloc, scope, query) {
         Ok(found) => tables_given(alloc, scope, query, fact, found),

@@ -15,11 +15,11 @@ use Rattle.sql_syntax.specs.declared.tree.Expr.TheViews.{roll-Expr}
 use Rattle.planner_expressions.specs.declared.basis.Basis.TheVariants.{Rows}
 use Rattle.planner_expressions.specs.declared.fault.PlanFault.{PlanFault}
 use Rattle.planner_expressions.specs.declared.fault.PlanFault.TheVariants as fault
-use Rattle.planner_expressions.specs.declared.scope.Place.{Place}
+use Rattle.planner_expressions.specs.declared.scope.ScopeColumn.{ScopeColumn}
 use Rattle.planner_expressions.specs.declared.scope.Scope.{Scope}
 use Rattle.planner_expressions.specs.declared.sort.Sort.{Sort}
-use Rattle.planner_expressions.specs.Given.{column_meant, given_in, place_of}
-use Rattle.planner_expressions.specs.Judged.{Told, Judgement, judge_node, judge_arm, judged, judged_arm, two, each, each_arm, arm_sorts, else_sort, over_part, placed_well, name_sort}
+use Rattle.planner_expressions.specs.Given.{column_meant, given_in, column_expr}
+use Rattle.planner_expressions.specs.Judged.{Returned, Judgement, judge_node, judge_arm, judged, judged_arm, two, each, each_arm, arm_sorts, else_sort, over_part, if_allowed, name_sort}
 use Rattle.planner_expressions.specs.Meant.{RowsTranslate}
 use Rattle.planner_expressions.specs.Scope.{meant, one_of, stands_for, found}
 use Rattle.planner_expressions.specs.Sorts.{sort_of_type, is_taken, aggregate_sort}
@@ -32,7 +32,7 @@ pub goes_there : {X Y : Type 0} (r : Result X PlanFault) (k : X → Result Y Pla
 goes_there (Err e) k z is = absurd cc
 goes_there (Ok x) k z is = (x, refl, is)
 
-pub both_there : (a b : Told) (k : Sort → Sort → Told) (z : Sort) → two a b k ≡ Ok z → ((x : Sort) × (a ≡ Ok x)) × ((y : Sort) × (b ≡ Ok y))
+pub both_there : (a b : Returned) (k : Sort → Sort → Returned) (z : Sort) → two a b k ≡ Ok z → ((x : Sort) × (a ≡ Ok x)) × ((y : Sort) × (b ≡ Ok y))
 both_there a b k z is =
     let first = goes_there a (λ x. and_then b (λ y. k x y)) z is in
     let second = goes_there b (λ y. k first.0 y) z first.2 in
@@ -44,11 +44,11 @@ front_there (Err e) rs zs is = absurd cc
 front_there (Ok x) (Err e) zs is = absurd cc
 front_there (Ok x) (Ok xs) zs is = ((x, refl), (xs, refl))
 
-no_aggregate : (kind : Aggregate) (x z : Sort) (b : Bool) → cond b (placed_well true (aggregate_sort kind x)) (Err fault.TypeMismatch) ≡ Ok z → ⊥
+no_aggregate : (kind : Aggregate) (x z : Sort) (b : Bool) → cond b (if_allowed true (aggregate_sort kind x)) (Err fault.TypeMismatch) ≡ Ok z → ⊥
 no_aggregate kind x z true is = cc
 no_aggregate kind x z false is = cc
 
-named : (c : List Place) (z : Sort) → and_then (one_of c) (λ p. Ok (sort_of_type p.col_type)) ≡ Ok z → (p : Place) × (found (one_of c) ≡ Some p)
+named : (c : List ScopeColumn) (z : Sort) → and_then (one_of c) (λ p. Ok (sort_of_type p.col_type)) ≡ Ok z → (p : ScopeColumn) × (found (one_of c) ≡ Some p)
 named c z is = let p = goes_there (one_of c) (λ p. Ok (sort_of_type p.col_type)) z is in (p.0, ap found p.1)
 
 module _ (s : Scope) where
@@ -79,7 +79,7 @@ module _ (s : Scope) where
   abbrev bare : Expr-F Judging JudgingArm → Expr-F Expr Arm
   bare = map-Expr Judging JudgingArm Expr Arm (λ e. e.0) (λ a. a.0)
 
-  abbrev judge_at : Expr-F Expr Arm → Told
+  abbrev judge_at : Expr-F Expr Arm → Returned
   judge_at x = judge_node s (map-Expr Expr Arm Judgement (Judgement × Judgement) (judged s) (judged_arm s) x) true
 
   abbrev made_of : Expr-F Expr Arm → Made
@@ -181,7 +181,7 @@ module _ (s : Scope) where
       let x = e.1 value_of.0 value_of.1 in
       (expr.Case xs.0 x.0, ap₂ (two_some (λ (l : List plan_arm.Arm) (y : plan.Expr). expr.Case l y)) xs.1 x.1)
     where
-      some_there : (r : Told) (o : Option Sort) → Rattle.planner_expressions.specs.Results.map_ok (λ (x : Sort). Some x) r ≡ Ok o → (x : Sort) × (r ≡ Ok x)
+      some_there : (r : Returned) (o : Option Sort) → Rattle.planner_expressions.specs.Results.map_ok (λ (x : Sort). Some x) r ≡ Ok o → (x : Sort) × (r ≡ Ok x)
       some_there (Err f) o is = absurd cc
       some_there (Ok x) o is = (x, refl)
 
@@ -199,7 +199,7 @@ module _ (s : Scope) where
   name_there : (table : Option (List ℕ)) (name : List ℕ) (z : Sort) → name_sort s table name ≡ Ok z → There (unwrap_or (some_given (roll-Expr (node.Column table name))) None)
   name_there table name z is =
       let p = named (meant s table name) z is in
-      is_given (given (roll-Expr (node.Column table name))) None (place_of p.0) (ap (option_map place_of) (column_at table name ∙ p.1))
+      is_given (given (roll-Expr (node.Column table name))) None (column_expr p.0) (ap (option_map column_expr) (column_at table name ∙ p.1))
 
   any_there : (y : Expr-F Judging JudgingArm) (z : Sort) → judge_at (bare y) ≡ Ok z → There (unwrap_or (some_given (roll-Expr (bare y))) (made_of (bare y)))
   any_there (node.Column table name) z is = name_there table name z is
@@ -234,12 +234,12 @@ module _ (s : Scope) where
 
   fine : (e : Expr) → Fine e
   fine = ind-Expr Fine FineArm
-      (λ x y is z told.
-      let at : judge_at x ≡ Ok z = sym (ap (λ (j : Judgement). j true) (fold-roll-Expr Judgement (Judgement × Judgement) (judge_node s) judge_arm x)) ∙ told in
+      (λ x y is z returned.
+      let at : judge_at x ≡ Ok z = sym (ap (λ (j : Judgement). j true) (fold-roll-Expr Judgement (Judgement × Judgement) (judge_node s) judge_arm x)) ∙ returned in
       let here = subst Fine_at is (any_there y) z at in
       (here.0, at_node some_given made x ∙ here.1))
-      (λ x y is p told.
-      let at = sym (ap (arm_sorts true) (fold-roll-Arm Judgement (Judgement × Judgement) (judge_node s) judge_arm x)) ∙ told in
+      (λ x y is p returned.
+      let at = sym (ap (arm_sorts true) (fold-roll-Arm Judgement (Judgement × Judgement) (judge_node s) judge_arm x)) ∙ returned in
       subst Arm_at is (arm_there y) p at)
 
 pub rows_translate : RowsTranslate

@@ -12,7 +12,7 @@ use Rattle.sql_syntax.specs.declared.tree.Expr.TheOpen.{Expr-F}
 use Rattle.sql_syntax.specs.declared.tree.Expr.TheFolds.{the_lemmas, map-Expr}
 use Rattle.sql_syntax.specs.declared.tree.Expr.TheViews.{out-Expr}
 use Rattle.planner_expressions.specs.declared.scope.Scope.{Scope}
-use Rattle.planner_expressions.specs.Spelled.{Spelling, spell_node, spelled, spelled_arm, same_spelling, place_among}
+use Rattle.planner_expressions.specs.Spelled.{Spelling, spell_node, spelled, spelled_arm, same_spelling, index_among}
 use Rattle.planner_expressions.specs.Given.{group_given, key_first}
 use Rattle.planner_expressions.specs.Kinds.{node_kind, kind_in, begins, may_be_among}
 
@@ -81,7 +81,7 @@ module _ (s : Scope) where
           let same_at = subst (λ (x : Spelling). same_spelling x w ≡ true) (spelled_out e) same in
           absurd (let there = begins_alike k (spell_at (out-Expr e)) w (first_at (out-Expr e) k is) same_at in let wrong = sym there ∙ other in cc)
 
-  not_among : (e : Expr) (k : ℤ) (list : List Spelling) → kind_in e ≡ Some k → list_any (begins k) list ≡ false → place_among list (spelled s e) ≡ None
+  not_among : (e : Expr) (k : ℤ) (list : List Spelling) → kind_in e ≡ Some k → list_any (begins k) list ≡ false → index_among list (spelled s e) ≡ None
   not_among e k list is none =
       let all = none_passes (same_spelling (spelled s e)) (begins k) (λ w other. differs e k w is other) list none in
       ap (λ (n : ℕ). cond (nat_lt n (length list)) (Some n) None) all

@@ -19,10 +19,10 @@ use Rattle.sql_syntax.specs.declared.tree.Expr.TheOpen.{Expr-F, Arm-F}
 use Rattle.sql_syntax.specs.declared.tree.Expr.TheFolds.{ind-Expr, map-Expr}
 use Rattle.sql_syntax.specs.declared.tree.Expr.TheViews.{roll-Expr, roll-Arm}
 use Rattle.planner_expressions.specs.declared.basis.Basis.TheVariants.{Rows, Groups}
-use Rattle.planner_expressions.specs.declared.scope.Place.{Place}
-use Rattle.planner_expressions.specs.Given.{column_meant, given_in, place_of, place_in, key_first}
+use Rattle.planner_expressions.specs.declared.scope.ScopeColumn.{ScopeColumn}
+use Rattle.planner_expressions.specs.Given.{column_meant, given_in, column_expr, column_in, key_first}
 use Rattle.planner_expressions.specs.Meant.{operated, meant_by, value_in, key_or_aggregate, RowsMean, GroupsMean}
-use Rattle.planner_expressions.specs.Spelled.{spelled, place_among}
+use Rattle.planner_expressions.specs.Spelled.{spelled, index_among}
 use Rattle.planner_expressions.specs.Translated.{Made, made, translated, two_some, three_some, all_some, arm_of, arithmetic_of, comparison_of}
 use Rattle.planner_expressions.proofs.Replaced.{parts_give, at_node}
 
@@ -178,11 +178,11 @@ module _ (given : Expr → Option plan.Expr) (r : JoinedRow) where
 
 -- ---- rows
 
-row_value : (r : JoinedRow) (p : Place) (join : Option ℕ) → eval (place_in join p.place) r ≡ gives.Value (value_in r join p.place)
-row_value r p None = eval-Column p.place r
-row_value r p (Some j) = eval-Joined j p.place r
+row_value : (r : JoinedRow) (p : ScopeColumn) (join : Option ℕ) → eval (column_in join p.column) r ≡ gives.Value (value_in r join p.column)
+row_value r p None = eval-Column p.column r
+row_value r p (Some j) = eval-Joined j p.column r
 
-row_given : (r : JoinedRow) (c : Option Place) → option_map (λ x. eval x r) (option_map place_of c) ≡ option_map (λ p. gives.Value (value_in r p.join p.place)) c
+row_given : (r : JoinedRow) (c : Option ScopeColumn) → option_map (λ x. eval x r) (option_map column_expr c) ≡ option_map (λ p. gives.Value (value_in r p.join p.column)) c
 row_given r None = refl
 row_given r (Some p) = ap (λ (o : Outcome). Some o) (row_value r p p.join)
 
@@ -199,4 +199,4 @@ group_given key values None None = refl
 pub groups_mean : GroupsMean
 groups_mean s keys aggregates e x is key values =
     means (given_in s (Groups keys aggregates)) (group_row key values) e x is
-    ∙ (λ i. meant_by (λ t. group_given key values (place_among keys (spelled s t)) (place_among aggregates (spelled s t)) i) e)
+    ∙ (λ i. meant_by (λ t. group_given key values (index_among keys (spelled s t)) (index_among aggregates (spelled s t)) i) e)

@@ -14,7 +14,7 @@ use Rattle.sql_syntax.specs.declared.tree.Expr.TheOpen as node
 use Rattle.sql_syntax.specs.declared.tree.Expr.TheOpen.{Expr-F, Arm-F}
 use Rattle.sql_syntax.specs.declared.tree.Expr.TheFolds.{the_lemmas, ind-Expr, map-Expr, fold-roll-Expr}
 use Rattle.sql_syntax.specs.declared.tree.Expr.TheViews.{roll-Expr, out-Expr}
-use Rattle.planner_expressions.specs.declared.scope.Place.{Place}
+use Rattle.planner_expressions.specs.declared.scope.ScopeColumn.{ScopeColumn}
 use Rattle.planner_expressions.specs.declared.scope.Scope.{Scope}
 use Rattle.planner_expressions.specs.Scope.{stands_for}
 use Rattle.planner_expressions.specs.Spelled.{Spelling, text_code, column_code, bool_code, aggregate_code, arithmetic_code, comparison_code, list_code, arms_code, spell_node, spell_arm, spelled, spelled_arm}
@@ -86,7 +86,7 @@ comparison_same comparison.AtLeast _ is = absurd cc
 
 -- ---- columns
 
-column_same : (s : Scope) (t u : Option (List ℕ)) (m n : List ℕ) (o r : Option Place) (xs ys : Spelling) → stands_for s t m ≡ o → stands_for s u n ≡ r → column_code o ++ xs ≡ column_code r ++ ys → (o ≡ r) × (xs ≡ ys)
+column_same : (s : Scope) (t u : Option (List ℕ)) (m n : List ℕ) (o r : Option ScopeColumn) (xs ys : Spelling) → stands_for s t m ≡ o → stands_for s u n ≡ r → column_code o ++ xs ≡ column_code r ++ ys → (o ≡ r) × (xs ≡ ys)
 column_same s t u m n None None xs ys o_is r_is is = (refl, tail_is _ _ xs ys is)
 column_same s t u m n None (Some q) xs ys o_is r_is is = absurd cc
 column_same s t u m n (Some p) None xs ys o_is r_is is = absurd cc
@@ -95,18 +95,18 @@ column_same s t u m n (Some p) (Some q) xs ys o_is r_is is =
     let owner = text_same p.owner q.owner (text_code p.name ++ xs) (text_code q.name ++ ys)
     (sym (append_assoc (text_code p.owner) (text_code p.name) xs) ∙ rest ∙ append_assoc (text_code q.owner) (text_code q.name) ys) in
     let name = text_same p.name q.name xs ys owner.1 in
-    (ap (λ (x : Place). Some x) (same_column s t u m n p q o_is r_is owner.0 name.0), name.1)
+    (ap (λ (x : ScopeColumn). Some x) (same_column s t u m n p q o_is r_is owner.0 name.0), name.1)
 
 -- a column's code begins with 0 or 1, and no other node's does
 abbrev heads_column : Spelling → Bool
 heads_column (pos n ∷ xs) = nat_lt n 2
 heads_column _ = false
 
-column_heads : (o : Option Place) (xs : Spelling) → heads_column (column_code o ++ xs) ≡ true
+column_heads : (o : Option ScopeColumn) (xs : Spelling) → heads_column (column_code o ++ xs) ≡ true
 column_heads None xs = refl
 column_heads (Some p) xs = refl
 
-no_column : (o : Option Place) (xs ys : Spelling) → heads_column ys ≡ false → column_code o ++ xs ≡ ys → ⊥
+no_column : (o : Option ScopeColumn) (xs ys : Spelling) → heads_column ys ≡ false → column_code o ++ xs ≡ ys → ⊥
 no_column o xs ys other is = let wrong : true ≡ false = sym (column_heads o xs) ∙ ap heads_column is ∙ other in cc
 
 abbrev pub is_tag : ℕ → Spelling → Bool
@@ -119,7 +119,7 @@ apart k xs ys there other is = let wrong : true ≡ false = sym there ∙ ap (is
 
 -- ---- trees
 
--- R holds of trees whose nodes are of one kind and whose parts go together by R, where two names stand for one column
+-- R holds of trees whose nodes are of one kind and whose parts go together by R, where two names refer to one column
 module _ (s : Scope) (R : Expr → Expr → Type 0) where
   abbrev pub Pair : Type 0
   Pair = (a : Expr) × (b : Expr) × R a b
@@ -424,9 +424,9 @@ module _ (s : Scope) (R : Expr → Expr → Type 0) where
 
     all_alike : (a : Expr) → Alike a
     all_alike = ind-Expr Alike AlikeArm
-        (λ x y is b u v told.
+        (λ x y is b u v returned.
         let here = subst Alike_at is (node_alike y) (out-Expr b) u v
-        (ap (λ (w : Spelling). w ++ u) (sym (fold-roll-Expr Spelling (Spelling × Spelling) (spell_node s) spell_arm x)) ∙ told ∙ ap (λ (w : Spelling). w ++ v) (spelled_out b)) in
+        (ap (λ (w : Spelling). w ++ u) (sym (fold-roll-Expr Spelling (Spelling × Spelling) (spell_node s) spell_arm x)) ∙ returned ∙ ap (λ (w : Spelling). w ++ v) (spelled_out b)) in
         (subst (λ (e : Expr). R (roll-Expr x) e) (out_again b) here.0, here.1))
         (λ x y is. subst Arm_at is (arm_alike y))
 

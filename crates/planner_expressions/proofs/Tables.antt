@@ -1,4 +1,4 @@
--- The columns of FROM stand at their places in the catalogue's tables.
+-- The columns of FROM stand where the catalogue's tables have them.
 use Rattle.std.proofs.Common.{◌≡◌, ℕ, zero, suc, ◌+◌, ◌<◌, ◌==◌, Bool, true, false, not, ◌||◌, List, [], ◌∷◌, ◌++◌, map, find, length, cond, Option, Some, None, option_map, slice_get, slice_index_or, Ok, Err, refl, ap, ap₂, subst, sym, ◌∙◌, arith}
 use Rattle.std.specs.Prelude.{nat_lt, bytes_eq, Contains}
 use Rattle.std.specs.List.{list_all, list_any, enumerate_from, AllByRecursion}
@@ -20,12 +20,12 @@ use Rattle.sql_syntax.specs.declared.tree.Joined.{Joined}
 use Rattle.sql_syntax.specs.declared.tree.Source.{Source}
 use Rattle.planner_expressions.specs.declared.fault.PlanFault.TheVariants as fault
 use Rattle.planner_expressions.specs.declared.scope.Dim.{Dim}
-use Rattle.planner_expressions.specs.declared.scope.Place.{Place}
+use Rattle.planner_expressions.specs.declared.scope.ScopeColumn.{ScopeColumn}
 use Rattle.planner_expressions.specs.declared.scope.Scope.{Scope}
 use Rattle.planner_expressions.specs.declared.scope.Times.{Times}
 use Rattle.planner_expressions.specs.declared.scope.Times.TheVariants.{Never, Once, Often}
-use Rattle.planner_expressions.specs.From.{called, is_at, place_of_column, places, with_fact, with_dim, with_table, if_new, enter, enter_all, no_tables, whole, scope_of}
-use Rattle.planner_expressions.specs.Typed.{types_in, has_its_type, columns_have_types, is_key_place, has_its_key, ScopesAreTables}
+use Rattle.planner_expressions.specs.From.{called, is_at, scope_column_of, scope_columns, with_fact, with_dim, with_table, if_new, enter, enter_all, no_tables, whole, scope_of}
+use Rattle.planner_expressions.specs.Typed.{types_in, has_its_type, columns_have_types, is_key_column, has_its_key, ScopesAreTables}
 use Rattle.planner_expressions.proofs.Accepted.{goes_there}
 use Rattle.planner_expressions.proofs.Meaning.{one_there}
 
@@ -70,24 +70,24 @@ index_last : {X : Type 0} (xs : List X) (x d : X) → slice_index_or (xs ++ x �
 index_last [] x d = refl
 index_last (y ∷ xs) x d = index_last xs x d
 
-no_place : (place : ℕ) → is_at place None ≡ true → ⊥
-no_place place is = cc
+no_key : (at : ℕ) → is_at at None ≡ true → ⊥
+no_key at is = cc
 
-key_more : (keys more : List ℕ) (j place : ℕ) → is_at place (slice_get keys j) ≡ true → is_at place (slice_get (keys ++ more) j) ≡ true
-key_more [] more j place is = absurd (no_place place is)
-key_more (k ∷ keys) more zero place is = is
-key_more (k ∷ keys) more (suc j) place is = key_more keys more j place is
+key_more : (keys more : List ℕ) (j at : ℕ) → is_at at (slice_get keys j) ≡ true → is_at at (slice_get (keys ++ more) j) ≡ true
+key_more [] more j at is = absurd (no_key at is)
+key_more (k ∷ keys) more zero at is = is
+key_more (k ∷ keys) more (suc j) at is = key_more keys more j at is
 
-type_more : (types more : List (List ColType)) (j place : ℕ) (kind : ColType) → is_column_type (slice_get (slice_index_or types j []) place) (Valued kind) ≡ true
-    → is_column_type (slice_get (slice_index_or (types ++ more) j []) place) (Valued kind) ≡ true
-type_more [] more j place kind is = absurd cc
-type_more (t ∷ types) more zero place kind is = is
-type_more (t ∷ types) more (suc j) place kind is = type_more types more j place kind is
+type_more : (types more : List (List ColType)) (j at : ℕ) (kind : ColType) → is_column_type (slice_get (slice_index_or types j []) at) (Valued kind) ≡ true
+    → is_column_type (slice_get (slice_index_or (types ++ more) j []) at) (Valued kind) ≡ true
+type_more [] more j at kind is = absurd cc
+type_more (t ∷ types) more zero at kind is = is
+type_more (t ∷ types) more (suc j) at kind is = type_more types more j at kind is
 
 -- ---- the columns of one table
 
 types_stand : (types : RowTypes) (name : List ℕ) (join key : Option ℕ) (all : List ColType) (n : ℕ) (cs : List Column) → types_in types join ≡ all
-    → ((i : ℕ) → slice_get (column_types cs) i ≡ slice_get all (n + i)) → list_all (has_its_type types) (map (place_of_column name join key) (enumerate_from n cs)) ≡ true
+    → ((i : ℕ) → slice_get (column_types cs) i ≡ slice_get all (n + i)) → list_all (has_its_type types) (map (scope_column_of name join key) (enumerate_from n cs)) ≡ true
 types_stand types name join key all n [] is at = refl
 types_stand types name join key all n (c ∷ cs) is at =
     let here : slice_get (types_in types join) n ≡ Some c.col_type = ap (λ (ts : List ColType). slice_get ts n) is ∙ sym (at 0 ∙ ap (slice_get all) (plus_zero n)) in
@@ -95,7 +95,7 @@ types_stand types name join key all n (c ∷ cs) is at =
     both (is_column_type (slice_get (types_in types join) n) (Valued c.col_type)) _
     (ap (λ (o : Option ColType). is_column_type o (Valued c.col_type)) here ∙ type_itself c.col_type) rest
 
-no_keys_stand : (keys name : List ℕ) (n : ℕ) (cs : List Column) → list_all (has_its_key keys) (map (place_of_column name None None) (enumerate_from n cs)) ≡ true
+no_keys_stand : (keys name : List ℕ) (n : ℕ) (cs : List Column) → list_all (has_its_key keys) (map (scope_column_of name None None) (enumerate_from n cs)) ≡ true
 no_keys_stand keys name n [] = refl
 no_keys_stand keys name n (c ∷ cs) = no_keys_stand keys name (n + 1) cs
 
@@ -104,7 +104,7 @@ not_or true = refl
 not_or false = refl
 
 keys_stand : (keys name : List ℕ) (j key n : ℕ) (cs : List Column) → slice_get keys j ≡ Some key
-    → list_all (has_its_key keys) (map (place_of_column name (Some j) (Some key)) (enumerate_from n cs)) ≡ true
+    → list_all (has_its_key keys) (map (scope_column_of name (Some j) (Some key)) (enumerate_from n cs)) ≡ true
 keys_stand keys name j key n [] is = refl
 keys_stand keys name j key n (c ∷ cs) is =
     both (not (n == key) || is_at n (slice_get keys j)) _ (ap (λ (o : Option ℕ). not (n == key) || is_at n o) is ∙ not_or (n == key)) (keys_stand keys name j key (n + 1) cs is)
@@ -128,24 +128,24 @@ module _ (catalog : Catalog) where
   fact_stands ds s name stand = (
     stand.0,
     stand.1,
-    all_append (has_its_type (joined_types catalog ds)) s.columns (places name None None catalog.fact.columns) stand.2
+    all_append (has_its_type (joined_types catalog ds)) s.columns (scope_columns name None None catalog.fact.columns) stand.2
         (types_stand (joined_types catalog ds) name None None (column_types catalog.fact.columns) 0 catalog.fact.columns refl (λ i. ap (slice_get (column_types catalog.fact.columns)) (zero_plus i))),
-    all_append (has_its_key (map key_of s.dims)) s.columns (places name None None catalog.fact.columns) stand.3 (no_keys_stand (map key_of s.dims) name 0 catalog.fact.columns),
+    all_append (has_its_key (map key_of s.dims)) s.columns (scope_columns name None None catalog.fact.columns) stand.3 (no_keys_stand (map key_of s.dims) name 0 catalog.fact.columns),
   )
 
-  more_typed : (ds : List Dimension) (d : Dimension) (p : Place) (join : Option ℕ) → is_column_type (slice_get (types_in (joined_types catalog ds) join) p.place) (Valued p.col_type) ≡ true
-      → is_column_type (slice_get (types_in (joined_types catalog (ds ++ d ∷ [])) join) p.place) (Valued p.col_type) ≡ true
+  more_typed : (ds : List Dimension) (d : Dimension) (p : ScopeColumn) (join : Option ℕ) → is_column_type (slice_get (types_in (joined_types catalog ds) join) p.column) (Valued p.col_type) ≡ true
+      → is_column_type (slice_get (types_in (joined_types catalog (ds ++ d ∷ [])) join) p.column) (Valued p.col_type) ≡ true
   more_typed ds d p None is = is
   more_typed ds d p (Some j) is =
-      ap (λ (ts : List (List ColType)). is_column_type (slice_get (slice_index_or ts j []) p.place) (Valued p.col_type)) (map_last types_of ds d)
-      ∙ type_more (map types_of ds) (types_of d ∷ []) j p.place p.col_type is
+      ap (λ (ts : List (List ColType)). is_column_type (slice_get (slice_index_or ts j []) p.column) (Valued p.col_type)) (map_last types_of ds d)
+      ∙ type_more (map types_of ds) (types_of d ∷ []) j p.column p.col_type is
 
-  more_place : (keys : List ℕ) (k : ℕ) (join : Option ℕ) (place : ℕ) → is_key_place keys join place ≡ true → is_key_place (keys ++ k ∷ []) join place ≡ true
-  more_place keys k None place is = refl
-  more_place keys k (Some j) place is = key_more keys (k ∷ []) j place is
+  more_key_column : (keys : List ℕ) (k : ℕ) (join : Option ℕ) (at : ℕ) → is_key_column keys join at ≡ true → is_key_column (keys ++ k ∷ []) join at ≡ true
+  more_key_column keys k None at is = refl
+  more_key_column keys k (Some j) at is = key_more keys (k ∷ []) j at is
 
-  more_keyed : (keys : List ℕ) (k : ℕ) (p : Place) (b : Bool) → (not b || is_key_place keys p.join p.place) ≡ true → (not b || is_key_place (keys ++ k ∷ []) p.join p.place) ≡ true
-  more_keyed keys k p true is = more_place keys k p.join p.place is
+  more_keyed : (keys : List ℕ) (k : ℕ) (p : ScopeColumn) (b : Bool) → (not b || is_key_column keys p.join p.column) ≡ true → (not b || is_key_column (keys ++ k ∷ []) p.join p.column) ≡ true
+  more_keyed keys k p true is = more_key_column keys k p.join p.column is
   more_keyed keys k p false is = refl
 
   dim_stands : (ds : List Dimension) (s : Scope) (name : List ℕ) (d : Dimension) → Contains catalog.dims d → Stand ds s → Stand (ds ++ d ∷ []) (with_dim s name d)
@@ -159,13 +159,13 @@ module _ (catalog : Catalog) where
       let key_at : slice_get (map key_of s.dims ++ d.key ∷ []) (length s.dims) ≡ Some d.key =
       ap (slice_get (map key_of s.dims ++ d.key ∷ [])) (sym (length-map s.dims key_of)) ∙ get_last (map key_of s.dims) d.key in
       let old_keys = all_imply (has_its_key (map key_of s.dims)) (has_its_key (map key_of s.dims ++ d.key ∷ [])) (λ p. more_keyed (map key_of s.dims) d.key p p.is_key) s.columns stand.3 in
-      let all_keys = all_append (has_its_key (map key_of s.dims ++ d.key ∷ [])) s.columns (places name (Some (length s.dims)) (Some d.key) d.table.columns) old_keys
+      let all_keys = all_append (has_its_key (map key_of s.dims ++ d.key ∷ [])) s.columns (scope_columns name (Some (length s.dims)) (Some d.key) d.table.columns) old_keys
       (keys_stand (map key_of s.dims ++ d.key ∷ []) name (length s.dims) d.key 0 d.table.columns key_at) in (
         all_last (Contains catalog.dims) ds d stand.0 there,
         map_last key_in ds d ∙ ap (λ (ks : List ℕ). ks ++ d.key ∷ []) stand.1 ∙ sym keys_are,
-        all_append (has_its_type (joined_types catalog (ds ++ d ∷ []))) s.columns (places name (Some (length s.dims)) (Some d.key) d.table.columns) old
+        all_append (has_its_type (joined_types catalog (ds ++ d ∷ []))) s.columns (scope_columns name (Some (length s.dims)) (Some d.key) d.table.columns) old
             (types_stand (joined_types catalog (ds ++ d ∷ [])) name (Some (length s.dims)) (Some d.key) (types_of d) 0 d.table.columns type_at (λ i. ap (slice_get (types_of d)) (zero_plus i))),
-        subst (λ (ks : List ℕ). list_all (has_its_key ks) (s.columns ++ places name (Some (length s.dims)) (Some d.key) d.table.columns) ≡ true) (sym keys_are) all_keys,
+        subst (λ (ks : List ℕ). list_all (has_its_key ks) (s.columns ++ scope_columns name (Some (length s.dims)) (Some d.key) d.table.columns) ≡ true) (sym keys_are) all_keys,
       )
 
   abbrev Stands : Scope → Type 0
@@ -201,8 +201,8 @@ module _ (catalog : Catalog) where
   is_whole s Once new is = by (nat_lt max_joins (length s.dims)) is
     where
       by : (b : Bool) → cond b (Err fault.OverLimit) (Ok s) ≡ Ok new → s ≡ new
-      by true told = absurd cc
-      by false told = cc
+      by true returned = absurd cc
+      by false returned = cc
 
   pub stands : (source : Source) (s : Scope) → scope_of catalog source ≡ Ok s → Stands s
   stands source s is =

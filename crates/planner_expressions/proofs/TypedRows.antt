@@ -20,12 +20,12 @@ use Rattle.sql_syntax.specs.declared.tree.Expr.TheViews.{roll-Expr, out-Expr}
 use Rattle.sql_syntax.specs.Literals.{all_true, fitting_node, fitting_pair, has_fitting_literals, arm_has_fitting_literals}
 use Rattle.planner_expressions.specs.declared.basis.Basis.TheVariants.{Rows}
 use Rattle.planner_expressions.specs.declared.fault.PlanFault.{PlanFault}
-use Rattle.planner_expressions.specs.declared.scope.Place.{Place}
+use Rattle.planner_expressions.specs.declared.scope.ScopeColumn.{ScopeColumn}
 use Rattle.planner_expressions.specs.declared.scope.Scope.{Scope}
 use Rattle.planner_expressions.specs.declared.sort.Sort.{Sort}
 use Rattle.planner_expressions.specs.declared.sort.Sort.TheVariants.{Integer, Text, Truth}
-use Rattle.planner_expressions.specs.Given.{node_column, given_in, place_of, place_in}
-use Rattle.planner_expressions.specs.Judged.{Told, Judgement, judge_node, judge_arm, judged, judged_arm, two, typed, each, each_arm, arm_sorts, else_sort, case_sort}
+use Rattle.planner_expressions.specs.Given.{node_column, given_in, column_expr, column_in}
+use Rattle.planner_expressions.specs.Judged.{Returned, Judgement, judge_node, judge_arm, judged, judged_arm, two, typed, each, each_arm, arm_sorts, else_sort, case_sort}
 use Rattle.planner_expressions.specs.Results.{map_ok}
 use Rattle.planner_expressions.specs.Scope.{is_meant, meant, one_of, stands_for, found}
 use Rattle.planner_expressions.specs.Sorts.{sort_of_type, same_sort, is_value, are_alike, first_of, results}
@@ -53,7 +53,7 @@ same_is Truth Integer is = absurd cc
 same_is Truth Text is = absurd cc
 same_is Truth Truth is = refl
 
-pub both_sorts : (a b : Told) (k : Sort → Sort → Told) (z : Sort) → two a b k ≡ Ok z → (x : Sort) × ((y : Sort) × (a ≡ Ok x) × (b ≡ Ok y) × (k x y ≡ Ok z))
+pub both_sorts : (a b : Returned) (k : Sort → Sort → Returned) (z : Sort) → two a b k ≡ Ok z → (x : Sort) × ((y : Sort) × (a ≡ Ok x) × (b ≡ Ok y) × (k x y ≡ Ok z))
 both_sorts a b k z is =
     let first = goes_there a (λ x. and_then b (λ y. k x y)) z is in
     let second = goes_there b (λ y. k first.0 y) z first.2 in
@@ -65,7 +65,7 @@ front (Err e) rs zs is = absurd cc
 front (Ok x) (Err e) zs is = absurd cc
 front (Ok x) (Ok xs) zs is = (x, (xs, refl, refl, cc))
 
-pub some_there : (r : Told) (o : Option Sort) → map_ok (λ (x : Sort). Some x) r ≡ Ok o → (x : Sort) × (r ≡ Ok x) × (o ≡ Some x)
+pub some_there : (r : Returned) (o : Option Sort) → map_ok (λ (x : Sort). Some x) r ≡ Ok o → (x : Sort) × (r ≡ Ok x) × (o ≡ Some x)
 some_there (Err f) o is = absurd cc
 some_there (Ok x) o is = (x, refl, cc)
 
@@ -183,7 +183,7 @@ module _ (s : Scope) (types : RowTypes) (given : Expr → Option plan.Expr) (bar
   abbrev bare : Expr-F Typing_of Arm_of → Expr-F Expr Arm
   bare = map-Expr Typing_of Arm_of Expr Arm (λ e. e.0) (λ a. a.0)
 
-  abbrev judge_at : Expr-F Expr Arm → Told
+  abbrev judge_at : Expr-F Expr Arm → Returned
   judge_at x = judge_node s (map-Expr Expr Arm Judgement (Judgement × Judgement) (judged s) (judged_arm s) x) barred
 
   abbrev fits_at : Expr-F Expr Arm → Bool
@@ -392,44 +392,44 @@ module _ (s : Scope) (types : RowTypes) (given : Expr → Option plan.Expr) (bar
 
   pub all_typed : (e : Expr) → Typed e
   all_typed = ind-Expr Typed TypedArm
-      (λ v y is z x fits told there.
-      subst Typed_at is (any_typed y) z x (sym (fold-roll-Expr Bool Bool fitting_node fitting_pair v) ∙ fits) (sym (judged_at v) ∙ told) (sym (at_node some_given made v) ∙ there))
-      (λ v y is p w t fits told when_is then_is.
+      (λ v y is z x fits returned there.
+      subst Typed_at is (any_typed y) z x (sym (fold-roll-Expr Bool Bool fitting_node fitting_pair v) ∙ fits) (sym (judged_at v) ∙ returned) (sym (at_node some_given made v) ∙ there))
+      (λ v y is p w t fits returned when_is then_is.
       subst Arm_at is (any_arm y) p w t (sym (fold-roll-Arm Bool Bool fitting_node fitting_pair v) ∙ fits)
-      (sym (ap (arm_sorts barred) (fold-roll-Arm Judgement (Judgement × Judgement) (judge_node s) judge_arm v)) ∙ told) when_is then_is)
+      (sym (ap (arm_sorts barred) (fold-roll-Arm Judgement (Judgement × Judgement) (judge_node s) judge_arm v)) ∙ returned) when_is then_is)
 
 -- ---- rows
 
 module _ (types : RowTypes) (s : Scope) (typed_columns : columns_have_types types s ≡ true) where
-  place_typed : (p : Place) (join : Option ℕ) → is_column_type (Rattle.std.specs.Prelude.slice_get (types_in types join) p.place) (Valued p.col_type) ≡ true
-      → has_type types (place_in join p.place) (Valued p.col_type) ≡ true
-  place_typed p None is = has-Column types p.place (Valued p.col_type) ∙ is
-  place_typed p (Some j) is = has-Joined types j p.place (Valued p.col_type) ∙ is
+  column_typed : (p : ScopeColumn) (join : Option ℕ) → is_column_type (Rattle.std.specs.Prelude.slice_get (types_in types join) p.column) (Valued p.col_type) ≡ true
+      → has_type types (column_in join p.column) (Valued p.col_type) ≡ true
+  column_typed p None is = has-Column types p.column (Valued p.col_type) ∙ is
+  column_typed p (Some j) is = has-Joined types j p.column (Valued p.col_type) ∙ is
 
   kind_of_type : (kind : ColType) → type_of_sort (sort_of_type kind) ≡ Valued kind
   kind_of_type of_type.Int = refl
   kind_of_type of_type.Text = refl
 
-  the_one : (ps : List Place) (p : Place) (x : plan.Expr) (z : Sort) → list_all (has_its_type types) ps ≡ true → found (one_of ps) ≡ Some p → place_of p ≡ x
+  the_one : (ps : List ScopeColumn) (p : ScopeColumn) (x : plan.Expr) (z : Sort) → list_all (has_its_type types) ps ≡ true → found (one_of ps) ≡ Some p → column_expr p ≡ x
       → and_then (one_of ps) (λ q. Ok (sort_of_type q.col_type)) ≡ Ok z → Has types x z
-  the_one [] p x z all is x_is told = absurd cc
-  the_one (q ∷ []) p x z all is x_is told =
+  the_one [] p x z all is x_is returned = absurd cc
+  the_one (q ∷ []) p x z all is x_is returned =
       let same : q ≡ p = cc in
       let sort : sort_of_type q.col_type ≡ z = cc in
-      let there = place_typed q q.join (all_first (has_its_type types) q [] all) in
-      as_is types x (place_of q) z (sort_of_type q.col_type) (sym x_is ∙ sym (ap place_of same)) sort
-      (ap (has_type types (place_of q)) (kind_of_type q.col_type) ∙ there)
-  the_one (q ∷ r ∷ ps) p x z all is x_is told = absurd cc
+      let there = column_typed q q.join (all_first (has_its_type types) q [] all) in
+      as_is types x (column_expr q) z (sort_of_type q.col_type) (sym x_is ∙ sym (ap column_expr same)) sort
+      (ap (has_type types (column_expr q)) (kind_of_type q.col_type) ∙ there)
+  the_one (q ∷ r ∷ ps) p x z all is x_is returned = absurd cc
 
-  node_given : (v : Expr-F Expr Arm) (x : plan.Expr) (z : Sort) → option_map place_of (node_column s v) ≡ Some x
+  node_given : (v : Expr-F Expr Arm) (x : plan.Expr) (z : Sort) → option_map column_expr (node_column s v) ≡ Some x
       → judge_node s (map-Expr Expr Arm Judgement (Judgement × Judgement) (judged s) (judged_arm s) v) true ≡ Ok z → Has types x z
-  node_given (node.Column table name) x z is told =
-      let p = one_there place_of (stands_for s table name) x is in
-      the_one (meant s table name) p.0 x z (all_filter (has_its_type types) (is_meant table name) s.columns typed_columns) p.1 (sym p.2) told
-  node_given _ x z is told = absurd cc
+  node_given (node.Column table name) x z is returned =
+      let p = one_there column_expr (stands_for s table name) x is in
+      the_one (meant s table name) p.0 x z (all_filter (has_its_type types) (is_meant table name) s.columns typed_columns) p.1 (sym p.2) returned
+  node_given _ x z is returned = absurd cc
 
   rows_given : (e : Expr) (x : plan.Expr) (z : Sort) → given_in s Rows e ≡ Some x → judged s e true ≡ Ok z → Has types x z
-  rows_given e x z is told = node_given (out-Expr e) x z is (sym (at_out e) ∙ told)
+  rows_given e x z is returned = node_given (out-Expr e) x z is (sym (at_out e) ∙ returned)
     where
       at_out : (e : Expr) → judged s e true ≡ judge_node s (map-Expr Expr Arm Judgement (Judgement × Judgement) (judged s) (judged_arm s) (out-Expr e)) true
       at_out e = search (rules, the_lemmas)

@@ -5,7 +5,7 @@ use Rattle.sql_syntax.specs.declared.tree.Expr.{Expr}
 use Rattle.sql_syntax.specs.declared.tree.Expr.TheOpen as node
 use Rattle.sql_syntax.specs.declared.tree.Expr.TheVariants as tree
 use Rattle.planner_expressions.specs.declared.basis.Basis.TheVariants.{Rows}
-use Rattle.planner_expressions.specs.declared.scope.Place.{Place}
+use Rattle.planner_expressions.specs.declared.scope.ScopeColumn.{ScopeColumn}
 use Rattle.planner_expressions.specs.declared.scope.Scope.{Scope}
 use Rattle.planner_expressions.specs.declared.sort.Sort.{Sort}
 use Rattle.planner_expressions.specs.Given.{column_meant, given_in}
@@ -16,15 +16,15 @@ use Rattle.planner_expressions.specs.Translated.{translated}
 use Rattle.planner_expressions.specs.Trees.{Node, tree_over, replaced}
 
 -- a column's name behind that of its table
-abbrev pub full_name : Place → Expr
+abbrev pub full_name : ScopeColumn → Expr
 full_name p = tree.Column (Some p.owner) p.name
 
--- a node from its parts; a name that stands for no column is left out
+-- a node from its parts; a name that refers to no column is left out
 abbrev pub with_parts : Node Expr → Expr
 with_parts (node.Column table name) = tree.Column None []
 with_parts n = tree_over (λ e. e) n
 
--- the tree with the full name of the column that it stands for in place of each name
+-- the tree with the full name of the column that it refers to for each name
 abbrev pub with_full_names : Scope → Expr → Expr
 with_full_names s = replaced (λ e. option_map full_name (column_meant s e)) with_parts
 

@@ -12,7 +12,7 @@ use Rattle.sql_syntax.specs.declared.tree.Joined.{Joined}
 use Rattle.sql_syntax.specs.declared.tree.Source.{Source}
 use Rattle.planner_expressions.specs.declared.fault.PlanFault.{PlanFault}
 use Rattle.planner_expressions.specs.declared.fault.PlanFault.TheVariants as fault
-use Rattle.planner_expressions.specs.declared.scope.Place.{Place}
+use Rattle.planner_expressions.specs.declared.scope.ScopeColumn.{ScopeColumn}
 use Rattle.planner_expressions.specs.declared.scope.Scope.{Scope}
 use Rattle.planner_expressions.specs.declared.scope.Times.{Times}
 use Rattle.planner_expressions.specs.declared.scope.Times.TheVariants.{Never, Once, Often}
@@ -25,13 +25,13 @@ abbrev pub is_at : ℕ → Option ℕ → Bool
 is_at n None = false
 is_at n (Some m) = n == m
 
--- a column of a table that goes by this name, of this dimension of FROM or of the fact, whose key has this place
-abbrev pub place_of_column : List ℕ → Option ℕ → Option ℕ → ℕ × Column → Place
-place_of_column name join key c =
-    record { owner = name; join = join; place = c.0; is_key = is_at c.0 key; name = c.1.name; col_type = c.1.col_type }
+-- a column of a table that goes by this name, of this dimension of FROM or of the fact, whose key is this column
+abbrev pub scope_column_of : List ℕ → Option ℕ → Option ℕ → ℕ × Column → ScopeColumn
+scope_column_of name join key c =
+    record { owner = name; join = join; column = c.0; is_key = is_at c.0 key; name = c.1.name; col_type = c.1.col_type }
 
-abbrev pub places : List ℕ → Option ℕ → Option ℕ → List Column → List Place
-places name join key columns = map (place_of_column name join key) (enumerate_from 0 columns)
+abbrev pub scope_columns : List ℕ → Option ℕ → Option ℕ → List Column → List ScopeColumn
+scope_columns name join key columns = map (scope_column_of name join key) (enumerate_from 0 columns)
 
 abbrev pub once_more : Times → Times
 once_more Never = Once
@@ -44,7 +44,7 @@ with_fact s name t = record {
   names = s.names ++ name ∷ [];
   fact = once_more s.fact;
   dims = s.dims;
-  columns = s.columns ++ places name None None t.columns;
+  columns = s.columns ++ scope_columns name None None t.columns;
 }
 
 -- with one more dimension
@@ -53,7 +53,7 @@ with_dim s name d = record {
   names = s.names ++ name ∷ [];
   fact = s.fact;
   dims = s.dims ++ record { name = d.table.name; key = d.key } ∷ [];
-  columns = s.columns ++ places name (Some (length s.dims)) (Some d.key) d.table.columns;
+  columns = s.columns ++ scope_columns name (Some (length s.dims)) (Some d.key) d.table.columns;
 }
 
 -- with one more table, if the catalogue has it

@@ -20,37 +20,37 @@ use Rattle.planner_expressions.specs.Sorts.{sort_of_type, same_sort, is_value, a
 use Rattle.planner_expressions.specs.Trees.{Node}
 
 -- a sort or a fault
-abbrev pub Told : Type 0
-Told = Result Sort PlanFault
+abbrev pub Returned : Type 0
+Returned = Result Sort PlanFault
 
-abbrev pub name_sort : Scope → Option (List ℕ) → List ℕ → Told
+abbrev pub name_sort : Scope → Option (List ℕ) → List ℕ → Returned
 name_sort s table name = and_then (one_of (meant s table name)) (λ p. Ok (sort_of_type p.col_type))
 
 -- the sort, where the parts are of the sorts that they are to be
-abbrev pub typed : Bool → Sort → Told
+abbrev pub typed : Bool → Sort → Returned
 typed test sort = if test then Ok sort else Err fault.TypeMismatch
 
 -- what two parts give
-abbrev pub two : Told → Told → (Sort → Sort → Told) → Told
+abbrev pub two : Returned → Returned → (Sort → Sort → Returned) → Returned
 two a b next = and_then a (λ x. and_then b (λ y. next x y))
 
 -- an aggregate, where it may stand
-abbrev pub placed_well : Bool → Sort → Told
-placed_well barred sort = if barred then Err fault.MisplacedAggregate else Ok sort
+abbrev pub if_allowed : Bool → Sort → Returned
+if_allowed barred sort = if barred then Err fault.MisplacedAggregate else Ok sort
 
 -- an aggregate over a part of this sort
-abbrev pub over_part : Aggregate → Bool → Sort → Told
-over_part kind barred x = if is_taken kind x then placed_well barred (aggregate_sort kind x) else Err fault.TypeMismatch
+abbrev pub over_part : Aggregate → Bool → Sort → Returned
+over_part kind barred x = if is_taken kind x then if_allowed barred (aggregate_sort kind x) else Err fault.TypeMismatch
 
 -- a CASE whose arms and ELSE have these sorts
-abbrev pub case_sort : List (Sort × Sort) → Option Sort → Told
+abbrev pub case_sort : List (Sort × Sort) → Option Sort → Returned
 case_sort arms otherwise = typed (list_all (λ arm. same_sort Truth arm.0) arms && are_alike (results arms otherwise)) (first_of (results arms otherwise))
 
 -- what a part is, where aggregates are barred and where they aren't
 abbrev pub Judgement : Type 0
-Judgement = Bool → Told
+Judgement = Bool → Returned
 
-abbrev pub each : Bool → List Judgement → List Told
+abbrev pub each : Bool → List Judgement → List Returned
 each barred = map (λ part. part barred)
 
 -- the condition and then the value
@@ -70,7 +70,7 @@ abbrev pub judge_node : Scope → Node Judgement → Judgement
 judge_node s (node.Column table name) barred = name_sort s table name
 judge_node s (node.Integer n) barred = Ok Integer
 judge_node s (node.Text t) barred = Ok Text
-judge_node s node.CountRows barred = placed_well barred Integer
+judge_node s node.CountRows barred = if_allowed barred Integer
 judge_node s (node.Aggregate kind a) barred = and_then (a true) (over_part kind barred)
 judge_node s (node.Minus a) barred = and_then (a barred) (λ x. typed (same_sort Integer x) Integer)
 judge_node s (node.Arithmetic op a b) barred = two (a barred) (b barred) (λ x y. typed (same_sort Integer x && same_sort Integer y) Integer)

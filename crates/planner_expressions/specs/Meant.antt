@@ -18,7 +18,7 @@ use Rattle.planner_expressions.specs.declared.scope.Scope.{Scope}
 use Rattle.planner_expressions.specs.declared.sort.Sort.{Sort}
 use Rattle.planner_expressions.specs.Given.{column_meant, given_in}
 use Rattle.planner_expressions.specs.Judged.{judged}
-use Rattle.planner_expressions.specs.Spelled.{Spelling, spelled, place_among}
+use Rattle.planner_expressions.specs.Spelled.{Spelling, spelled, index_among}
 use Rattle.planner_expressions.specs.Translated.{arithmetic_of, comparison_of, translated}
 use Rattle.planner_expressions.specs.Trees.{Node, replaced}
 
@@ -50,12 +50,12 @@ meant_by given = replaced given operated
 
 -- the value in a column of the fact's row, or of the row of a dimension of FROM
 abbrev pub value_in : JoinedRow → Option ℕ → ℕ → Value
-value_in r None place = column r.fact place
-value_in r (Some j) place = joined_column r j place
+value_in r None at = column r.fact at
+value_in r (Some j) at = joined_column r j at
 
--- a name alone is given, by the one column that it stands for
+-- a name alone is given, by the one column that it refers to
 abbrev pub named_value : Scope → JoinedRow → Expr → Option Outcome
-named_value s r e = option_map (λ p. gives.Value (value_in r p.join p.place)) (column_meant s e)
+named_value s r e = option_map (λ p. gives.Value (value_in r p.join p.column)) (column_meant s e)
 
 -- what a tree gives on a joined row
 abbrev pub eval_named : Scope → Expr → JoinedRow → Outcome
@@ -75,7 +75,7 @@ key_or_aggregate key values None None = None
 
 -- a tree that is the same as a key is given by it, and an aggregate by its value
 abbrev pub group_value : Scope → List Spelling → List Spelling → Row → Row → Expr → Option Outcome
-group_value s keys aggregates key values e = key_or_aggregate key values (place_among keys (spelled s e)) (place_among aggregates (spelled s e))
+group_value s keys aggregates key values e = key_or_aggregate key values (index_among keys (spelled s e)) (index_among aggregates (spelled s e))
 
 -- on every group the plan's expression gives what the tree gives
 abbrev pub SameOnGroups : Scope → List Spelling → List Spelling → plan.Expr → Expr → Type 0

@@ -15,5 +15,5 @@ number_of fault.TwoEqualities = 6
 number_of fault.FactNotOnce = 7
 number_of fault.NotGrouped = 8
 number_of fault.MisplacedAggregate = 9
-number_of fault.PlaceNotAllowed = 10
+number_of fault.PositionNotAllowed = 10
 number_of fault.OverLimit = 11

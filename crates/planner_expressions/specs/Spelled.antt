@@ -1,5 +1,5 @@
--- A tree written out node by node, each name as the column that it stands for: two trees are the same once their names are
--- looked up where they are written alike.
+-- A tree written out node by node, each name as the column that it refers to: two trees are the same once their names
+-- are looked up where they are written alike.
 use Rattle.std.specs.Prelude.{ℕ, ℤ, pos, negsuc, Bool, true, false, List, [], ◌∷◌, ◌++◌, position, Option, Some, None}
 use Rattle.std.specs.Cmp.Lexicographic.{pointwise}
 use Rattle.std.specs.Ordering.{int_eq}
@@ -14,7 +14,7 @@ use Rattle.sql_syntax.specs.declared.tree.Expr.{Expr}
 use Rattle.sql_syntax.specs.declared.tree.Expr.TheOpen as node
 use Rattle.sql_syntax.specs.declared.tree.Expr.TheOpen.{Arm-F}
 use Rattle.sql_syntax.specs.declared.tree.Expr.TheFolds.{fold-Expr, fold-Arm}
-use Rattle.planner_expressions.specs.declared.scope.Place.{Place}
+use Rattle.planner_expressions.specs.declared.scope.ScopeColumn.{ScopeColumn}
 use Rattle.planner_expressions.specs.declared.scope.Scope.{Scope}
 use Rattle.planner_expressions.specs.Scope.{stands_for}
 use Rattle.planner_expressions.specs.Trees.{Node}
@@ -28,7 +28,7 @@ text_code [] = negsuc 0 ∷ []
 text_code (b ∷ bs) = pos b ∷ text_code bs
 
 -- a column, by the name that its table goes by and its own
-abbrev pub column_code : Option Place → Spelling
+abbrev pub column_code : Option ScopeColumn → Spelling
 column_code None = pos 1 ∷ []
 column_code (Some p) = pos 0 ∷ text_code p.owner ++ text_code p.name
 
@@ -103,6 +103,6 @@ spelled_arm s = fold-Arm Spelling (Spelling × Spelling) (spell_node s) spell_ar
 abbrev pub same_spelling : Spelling → Spelling → Bool
 same_spelling = pointwise int_eq
 
--- the first place in a list of a tree that is the same
-abbrev pub place_among : List Spelling → Spelling → Option ℕ
-place_among list x = position (same_spelling x) list
+-- where a list first has a tree that is the same
+abbrev pub index_among : List Spelling → Spelling → Option ℕ
+index_among list x = position (same_spelling x) list

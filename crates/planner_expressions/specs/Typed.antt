@@ -12,7 +12,7 @@ use Rattle.sql_syntax.specs.declared.tree.Expr.{Expr}
 use Rattle.sql_syntax.specs.declared.tree.Source.{Source}
 use Rattle.sql_syntax.specs.Literals.{has_fitting_literals}
 use Rattle.planner_expressions.specs.declared.basis.Basis.TheVariants.{Rows}
-use Rattle.planner_expressions.specs.declared.scope.Place.{Place}
+use Rattle.planner_expressions.specs.declared.scope.ScopeColumn.{ScopeColumn}
 use Rattle.planner_expressions.specs.declared.scope.Scope.{Scope}
 use Rattle.planner_expressions.specs.declared.sort.Sort.{Sort}
 use Rattle.planner_expressions.specs.declared.sort.Sort.TheVariants.{Integer, Text, Truth}
@@ -31,9 +31,9 @@ abbrev pub types_in : RowTypes → Option ℕ → List ColType
 types_in types None = types.fact
 types_in types (Some j) = slice_index_or types.joins j []
 
--- the column's type stands at its place in its table
-abbrev pub has_its_type : RowTypes → Place → Bool
-has_its_type types p = is_column_type (slice_get (types_in types p.join) p.place) (Valued p.col_type)
+-- its table has the column's type where it has the column
+abbrev pub has_its_type : RowTypes → ScopeColumn → Bool
+has_its_type types p = is_column_type (slice_get (types_in types p.join) p.column) (Valued p.col_type)
 
 abbrev pub columns_have_types : RowTypes → Scope → Bool
 columns_have_types types s = list_all (has_its_type types) s.columns
@@ -50,14 +50,14 @@ RowsAreTyped = (types : RowTypes) (s : Scope) (e : Expr) (sort : Sort) (x : plan
 
 -- ---- the tables of FROM
 
--- the key of the dimension has this place; the fact has none
-abbrev pub is_key_place : List ℕ → Option ℕ → ℕ → Bool
-is_key_place keys None place = true
-is_key_place keys (Some j) place = is_at place (slice_get keys j)
+-- this column is the key of the dimension; the fact has none
+abbrev pub is_key_column : List ℕ → Option ℕ → ℕ → Bool
+is_key_column keys None at = true
+is_key_column keys (Some j) at = is_at at (slice_get keys j)
 
--- a column that is told to be its dimension's key is it
-abbrev pub has_its_key : List ℕ → Place → Bool
-has_its_key keys p = not p.is_key || is_key_place keys p.join p.place
+-- a column that is marked as its dimension's key is that key
+abbrev pub has_its_key : List ℕ → ScopeColumn → Bool
+has_its_key keys p = not p.is_key || is_key_column keys p.join p.column
 
 -- the scope's dimensions are these ones of the catalogue, and its columns have their types
 pub record AreTables (catalog : Catalog) (dimensions : List Dimension) (s : Scope) : Type 0 where

@@ -7,11 +7,11 @@ use Rattle.sql_syntax.specs.declared.tree.Expr.{Expr}
 use Rattle.sql_syntax.specs.declared.tree.Expr.TheOpen as node
 use Rattle.sql_syntax.specs.declared.tree.Expr.TheOpen.{Expr-F, Arm-F}
 use Rattle.sql_syntax.specs.declared.tree.Expr.TheFolds.{fold-Expr, fold-Arm}
-use Rattle.planner_expressions.specs.declared.scope.Place.{Place}
+use Rattle.planner_expressions.specs.declared.scope.ScopeColumn.{ScopeColumn}
 use Rattle.planner_expressions.specs.Scope.{is_meant}
 
--- a node has a name that may stand for the column
-abbrev pub names_node : Place → Expr-F Bool Bool → Bool
+-- a node has a name that may refer to the column
+abbrev pub names_node : ScopeColumn → Expr-F Bool Bool → Bool
 names_node p (node.Column table name) = is_meant table name p
 names_node p (node.Integer n) = false
 names_node p (node.Text t) = false
@@ -33,8 +33,8 @@ names_node p (node.Case arms otherwise) = list_any (λ x. x) arms || option_map_
 abbrev pub names_either : Arm-F Bool Bool → Bool
 names_either arm = arm.condition || arm.value
 
-abbrev pub names : Place → Expr → Bool
+abbrev pub names : ScopeColumn → Expr → Bool
 names p = fold-Expr Bool Bool (names_node p) names_either
 
-abbrev pub names_arm : Place → Arm → Bool
+abbrev pub names_arm : ScopeColumn → Arm → Bool
 names_arm p = fold-Arm Bool Bool (names_node p) names_either

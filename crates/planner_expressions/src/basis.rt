@@ -1,15 +1,14 @@
 //! What expressions are made of: columns of rows, or keys and aggregates of groups.
 ghost use Rattle.std.specs.Prelude.{◌≡◌, IfOk, Option, option_map};
 ghost use Rattle.meaning.specs.declared.expr.Expr as plan;
-ghost use Rattle.planner_expressions.specs.Given.{place_of, column_meant, group_given, given_in};
+ghost use Rattle.planner_expressions.specs.Given.{column_expr, column_meant, group_given, given_in};
 ghost use Rattle.planner_expressions.specs.Spelled.{spelled};
 
 use crate::kinds::may_be_among;
 use crate::naming::look_up;
-use crate::scope::{Place, Scope};
+use crate::scope::{Scope, ScopeColumn};
 use crate::spelling::{find_same, spell};
-use meaning::expr::Expr;
-use meaning::sequence::Sequence;
+use meaning::{Expr, Sequence};
 use sql_syntax::tree;
 use std::alloc::{AllocError, Global};
 
@@ -25,25 +24,25 @@ pub enum Basis {
     },
 }
 
-fn expr_at(place: &Place) -> Expr
-    ensures { result ≡ place_of place.now }
+fn expr_at(column: &ScopeColumn) -> Expr
+    ensures { result ≡ column_expr column.now }
 {
-    match place.join {
+    match column.join {
         Some(join) => Expr::Joined {
             join,
-            place: place.place,
+            column: column.column,
         },
-        None => Expr::Column(place.place),
+        None => Expr::Column(column.column),
     }
 }
 
-/// The column that an expression stands for, where it is a name alone.
-pub fn column_of<'a>(scope: &'a Scope, expr: &tree::Expr) -> Option<&'a Place>
+/// The column that an expression refers to, where it is a name alone.
+pub fn column_of<'a>(scope: &'a Scope, expr: &tree::Expr) -> Option<&'a ScopeColumn>
     ensures { option_map (λ p. p.now) result ≡ column_meant scope.now expr.now }
 {
     match expr {
         tree::Expr::Column { table, name } => match look_up(scope, table, name) {
-            Ok(place) => Some(place),
+            Ok(column) => Some(column),
             Err(_) => None,
         },
         _ => None,
@@ -51,7 +50,7 @@ pub fn column_of<'a>(scope: &'a Scope, expr: &tree::Expr) -> Option<&'a Place>
 }
 
 fn row_given(scope: &Scope, expr: &tree::Expr) -> Option<Expr>
-    ensures { result ≡ option_map place_of (column_meant scope.now expr.now) }
+    ensures { result ≡ option_map column_expr (column_meant scope.now expr.now) }
 {
     column_of(scope, expr).map(expr_at)
 }
@@ -86,8 +85,8 @@ pub fn written(alloc: Global, scope: &Scope, expr: &tree::Expr) -> Result<Sequen
     }
 }
 
-/// What stands for the expression, if anything does. It is written out only where a key or an
-/// aggregate begins as it does.
+/// What the expression becomes, if anything is given for it. It is written out only where a key or
+/// an aggregate begins as it does.
 pub fn given(
     alloc: Global,
     scope: &Scope,

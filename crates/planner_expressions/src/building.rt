@@ -5,10 +5,7 @@ ghost use Rattle.meaning.specs.declared.expr.Expr.TheVariants as expr;
 ghost use Rattle.meaning.specs.declared.expr.Arm.{Arm};
 ghost use Rattle.planner_expressions.specs.Translated.{arithmetic_of, comparison_of, two_some, three_some, pair_some, arm_of};
 
-use meaning::boxed::Boxed;
-use meaning::expr::{ArithmeticOperator, Arm, ComparisonOperator, Expr};
-use meaning::sequence::Sequence;
-use meaning::text::Text;
+use meaning::{ArithmeticOperator, Arm, Boxed, ComparisonOperator, Expr, Sequence, Text};
 use sql_syntax::tree;
 use std::alloc::{AllocError, Global};
 

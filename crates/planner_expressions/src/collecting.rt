@@ -4,8 +4,7 @@ ghost use Rattle.meaning.specs.declared.expr.Arm as plan_arm;
 ghost use Rattle.meaning.specs.declared.expr.Expr as plan;
 ghost use Rattle.planner_expressions.specs.Translated.{if_all};
 
-use meaning::expr::{Arm, Expr};
-use meaning::sequence::Sequence;
+use meaning::{Arm, Expr, Sequence};
 use std::alloc::AllocError;
 
 /// Puts an expression behind the others, and says whether there was one.

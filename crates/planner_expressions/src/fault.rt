@@ -19,7 +19,7 @@ pub enum PlanFault {
     FactNotOnce,
     NotGrouped,
     MisplacedAggregate,
-    PlaceNotAllowed,
+    PositionNotAllowed,
     OverLimit,
 }
 
@@ -39,7 +39,7 @@ impl PlanFault {
             PlanFault::FactNotOnce => 7,
             PlanFault::NotGrouped => 8,
             PlanFault::MisplacedAggregate => 9,
-            PlanFault::PlaceNotAllowed => 10,
+            PlanFault::PositionNotAllowed => 10,
             PlanFault::OverLimit => 11,
         }
     }
@@ -49,15 +49,15 @@ impl PlanFault {
             PlanFault::Memory => "out of memory",
             PlanFault::TableUnknown => "a table that the catalogue does not have",
             PlanFault::ColumnUnknown => "a column that no table has",
-            PlanFault::Ambiguous => "a name that stands for several things",
+            PlanFault::Ambiguous => "a name that refers to several things",
             PlanFault::TypeMismatch => "types that do not fit",
             PlanFault::NoEquality => "a dimension without a join equality",
             PlanFault::TwoEqualities => "a dimension with two join equalities",
             PlanFault::FactNotOnce => "the fact table is not named just once",
             PlanFault::NotGrouped => "a column that is not grouped",
             PlanFault::MisplacedAggregate => "an aggregate where none may stand",
-            PlanFault::PlaceNotAllowed =>
-                "a place or a name that may not stand in GROUP BY or ORDER BY",
+            PlanFault::PositionNotAllowed =>
+                "a position or a name that may not stand in GROUP BY or ORDER BY",
             PlanFault::OverLimit => "over a limit",
         }
     }

@@ -1,15 +1,12 @@
 //! The tables of FROM.
 ghost use Rattle.std.specs.Prelude.{◌≡◌, ◌++◌, ◌∷◌, [], ℕ, List, OnOk, IfOk, bytes_eq, find, option_copied};
 ghost use Rattle.std.specs.List.{list_any};
-ghost use Rattle.planner_expressions.specs.From.{called, is_at as at_key, place_of_column, places, once_more, with_fact, with_dim, if_new, with_table, enter as entered, enter_all as all_entered, no_tables as nothing, whole, scope_of as scope_from, source_from, if_there};
-ghost use Rattle.planner_expressions.specs.Results.{map_ok, Tells};
+ghost use Rattle.planner_expressions.specs.From.{called, is_at as at_key, scope_column_of, scope_columns, once_more, with_fact, with_dim, if_new, with_table, enter as entered, enter_all as all_entered, no_tables as nothing, whole, scope_of as scope_from, source_from, if_there};
+ghost use Rattle.planner_expressions.specs.Results.{map_ok, Reports};
 
 use crate::fault::PlanFault;
-use crate::scope::{Dim, Place, Scope, Times};
-use meaning::catalog::{Catalog, Column, Dimension, Table};
-use meaning::limits::MAX_JOINS;
-use meaning::sequence::Sequence;
-use meaning::text::Text;
+use crate::scope::{Dim, Scope, ScopeColumn, Times};
+use meaning::{Catalog, Column, Dimension, MAX_JOINS, Sequence, Table, Text};
 use sql_syntax::tree;
 use std::alloc::{AllocError, Global};
 
@@ -23,31 +20,31 @@ fn name_of(table: &tree::Table) -> &Text
     }
 }
 
-fn is_at(place: usize, key: Option<usize>) -> bool
-    ensures { result ≡ at_key place key }
+fn is_at(at: usize, key: Option<usize>) -> bool
+    ensures { result ≡ at_key at key }
 {
     match key {
-        Some(key) => place == key,
+        Some(key) => at == key,
         None => false,
     }
 }
 
-fn place_at(
+fn scope_column(
     owner: &Text,
     join: Option<usize>,
     key: Option<usize>,
-    place: usize,
+    at: usize,
     column: &Column,
-) -> Result<Place, AllocError>
-    ensures { IfOk result (λ p. p ≡ place_of_column owner.now join key (place, column.now)) }
+) -> Result<ScopeColumn, AllocError>
+    ensures { IfOk result (λ p. p ≡ scope_column_of owner.now join key (at, column.now)) }
 {
     let owner = owner.clone()?;
     let name = column.name.clone()?;
-    Ok(Place {
+    Ok(ScopeColumn {
         owner,
         join,
-        place,
-        is_key: is_at(place, key),
+        column: at,
+        is_key: is_at(at, key),
         name,
         col_type: column.col_type,
     })
@@ -59,12 +56,12 @@ fn add_columns(
     join: Option<usize>,
     key: Option<usize>,
     columns: &[Column],
-    out: &mut Sequence<Place>,
+    out: &mut Sequence<ScopeColumn>,
 ) -> Result<(), AllocError>
-    ensures { OnOk result (out.new ≡ out.old ++ places owner.now join key columns.now) }
+    ensures { OnOk result (out.new ≡ out.old ++ scope_columns owner.now join key columns.now) }
 {
-    for (place, column) in columns.iter().enumerate() {
-        out.push(place_at(owner, join, key, place, column)?)?;
+    for (at, column) in columns.iter().enumerate() {
+        out.push(scope_column(owner, join, key, at, column)?)?;
     }
     Ok(())
 }
@@ -151,7 +148,7 @@ fn add_table(scope: &mut Scope, catalog: &Catalog, table: &tree::Table) -> Resul
 }
 
 fn enter(scope: &mut Scope, catalog: &Catalog, table: &tree::Table) -> Result<(), PlanFault>
-    ensures { Tells (map_ok (λ _. scope.new) result) (entered catalog.now scope.old table.now) }
+    ensures { Reports (map_ok (λ _. scope.new) result) (entered catalog.now scope.old table.now) }
 {
     let taken = is_taken(scope, name_of(table));
     match add_table(scope, catalog, table) {
@@ -169,7 +166,7 @@ fn enter(scope: &mut Scope, catalog: &Catalog, table: &tree::Table) -> Result<()
 }
 
 fn enter_all(scope: &mut Scope, catalog: &Catalog, others: &[tree::Joined]) -> Result<(), PlanFault>
-    ensures { Tells (map_ok (λ _. scope.new) result) (all_entered catalog.now scope.old others.now) }
+    ensures { Reports (map_ok (λ _. scope.new) result) (all_entered catalog.now scope.old others.now) }
 {
     for joined in others {
         match enter(scope, catalog, &joined.table) {
@@ -213,7 +210,7 @@ fn enter_source(
     catalog: &Catalog,
     source: &tree::Source,
 ) -> Result<(), PlanFault>
-    ensures { Tells (map_ok (λ _. scope.new) result) (source_from catalog.now scope.old source.now) }
+    ensures { Reports (map_ok (λ _. scope.new) result) (source_from catalog.now scope.old source.now) }
 {
     match enter(scope, catalog, &source.first) {
         Ok(()) => {}
@@ -227,7 +224,7 @@ fn enter_source(
 
 /// The tables of FROM, or the first fault.
 pub fn scope_of(alloc: Global, catalog: &Catalog, source: &tree::Source) -> Result<Scope, PlanFault>
-    ensures { Tells result (scope_from catalog.now source.now) }
+    ensures { Reports result (scope_from catalog.now source.now) }
 {
     let mut scope = no_tables(alloc);
     match enter_source(&mut scope, catalog, source) {

@@ -13,7 +13,7 @@ use crate::sort_rules::{
     between, both, coalesced, compared, listed, one, over, unless_barred, value, with_else,
     without_else,
 };
-use sql_syntax::tree::{Arm, Expr};
+use sql_syntax::{Arm, Expr};
 
 /// The sort of the expression, or its first fault; where aggregates are barred none may stand in
 /// it.

@@ -4,8 +4,8 @@ ghost use Rattle.std.specs.List.{list_any};
 ghost use Rattle.std.specs.Ordering.{int_eq};
 ghost use Rattle.planner_expressions.specs.Kinds.{kind_in, begins as begins_by, may_be_among as may_be};
 
-use meaning::sequence::Sequence;
-use sql_syntax::tree::Expr;
+use meaning::Sequence;
+use sql_syntax::Expr;
 
 /// The number that the tree begins with. A name begins as its column does, and has none here.
 fn kind_of(expr: &Expr) -> Option<i64>

@@ -25,7 +25,7 @@ pub fn rows_are_typed()
     ensures { RowsAreTyped }
 {}
 
-/// The columns of FROM stand at their places in the catalogue's tables, with their types.
+/// The columns of FROM stand where the catalogue's tables have them, with their types.
 pub fn scopes_are_tables()
     ensures { ScopesAreTables }
 {}

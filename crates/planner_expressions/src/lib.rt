@@ -2,18 +2,32 @@
 //! which sort an expression is, which expressions are the same, and what each becomes in a plan.
 #![tactic(auto)]
 
-pub mod basis;
+mod basis;
 mod building;
 mod collecting;
-pub mod fault;
-pub mod from;
-pub mod judging;
+mod fault;
+mod from;
+mod judging;
 mod kinds;
-pub mod laws;
+mod laws;
 mod naming;
-pub mod scope;
-pub mod sort;
+mod scope;
+mod sort;
 mod sort_rules;
-pub mod spelling;
-pub mod translating;
-pub mod using;
+mod spelling;
+mod translating;
+mod using;
+
+pub use basis::{Basis, column_of, written};
+pub use fault::PlanFault;
+pub use from::scope_of;
+pub use judging::judge;
+pub use laws::{
+    groups_mean, rows_are_typed, rows_mean, rows_translate, scopes_are_tables,
+    spelled_trees_are_equal, spelled_trees_have_sorts, spelled_trees_mean, spelled_trees_translate,
+};
+pub use scope::{Dim, Scope, ScopeColumn};
+pub use sort::Sort;
+pub use spelling::find_same;
+pub use translating::translate;
+pub use using::names;

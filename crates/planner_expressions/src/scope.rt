@@ -1,24 +1,22 @@
-//! What the names of a query may stand for.
-use meaning::sequence::Sequence;
-use meaning::text::Text;
-use meaning::value::ColType;
+//! What the names of a query may mean.
+use meaning::{ColType, Sequence, Text};
 
 /// A column of a table of FROM.
 #[derive(Drop)]
-pub struct Place {
+pub struct ScopeColumn {
     /// The name that its table goes by.
     pub owner: Text,
     /// Which of the dimensions of FROM has it; none where the fact has it.
     pub join: Option<usize>,
-    /// Its place among its table's columns.
-    pub place: usize,
+    /// Which of its table's columns it is.
+    pub column: usize,
     /// It is its dimension's key.
     pub is_key: bool,
     pub name: Text,
     pub col_type: ColType,
 }
 
-/// A dimension of FROM: the name that the catalogue gives it, and its key's place.
+/// A dimension of FROM: the name that the catalogue gives it, and which of its columns is its key.
 #[derive(Drop)]
 pub struct Dim {
     pub name: Text,
@@ -40,5 +38,5 @@ pub struct Scope {
     pub names: Sequence<Text>,
     pub fact: Times,
     pub dims: Sequence<Dim>,
-    pub columns: Sequence<Place>,
+    pub columns: Sequence<ScopeColumn>,
 }

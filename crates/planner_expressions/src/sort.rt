@@ -2,7 +2,7 @@
 ghost use Rattle.std.specs.Prelude.{◌≡◌};
 ghost use Rattle.planner_expressions.specs.Sorts.{same_sort, is_value, sort_of_type, fresh, added, with_arm, first_known};
 
-use meaning::value::ColType;
+use meaning::ColType;
 
 /// What an expression is: a value of a type, or a truth.
 #[derive(Clone, Copy)]

@@ -1,13 +1,13 @@
 //! Which sorts an operator takes, and which it gives.
 ghost use Rattle.std.specs.Prelude.{◌≡◌, ◌∷◌, [], ◌&&◌};
 ghost use Rattle.meaning.specs.Results.{and_then};
-ghost use Rattle.planner_expressions.specs.Judged.{typed, two, placed_well, over_part};
+ghost use Rattle.planner_expressions.specs.Judged.{typed, two, if_allowed, over_part};
 ghost use Rattle.planner_expressions.specs.Sorts.{same_sort, is_value, are_alike, is_taken, aggregate_sort, added, first_known};
 ghost use Rattle.planner_expressions.specs.declared.sort.Sort.TheVariants as sort;
 
 use crate::fault::PlanFault;
 use crate::sort::{ArmSorts, Likeness, Sort};
-use sql_syntax::tree::Aggregate;
+use sql_syntax::Aggregate;
 
 /// The sort, if the test holds.
 fn sort_if(test: bool, gives: Sort) -> Result<Sort, PlanFault>
@@ -22,7 +22,7 @@ fn sort_if(test: bool, gives: Sort) -> Result<Sort, PlanFault>
 
 /// An aggregate, unless none may stand there.
 pub fn unless_barred(barred: bool, gives: Sort) -> Result<Sort, PlanFault>
-    ensures { result ≡ placed_well barred gives }
+    ensures { result ≡ if_allowed barred gives }
 {
     if barred {
         Err(PlanFault::MisplacedAggregate)

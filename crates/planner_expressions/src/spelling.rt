@@ -1,14 +1,12 @@
 //! Trees written out, with names looked up, so that two of them can be compared.
 ghost use Rattle.std.specs.Prelude.{◌≡◌, ◌++◌, ◌∷◌, [], map, option_map, OnOk};
-ghost use Rattle.planner_expressions.specs.Spelled.{spelled, spelled_arm, text_code, column_code, bool_code, aggregate_code, arithmetic_code, comparison_code, list_code, arms_code, else_code, same_spelling, place_among};
+ghost use Rattle.planner_expressions.specs.Spelled.{spelled, spelled_arm, text_code, column_code, bool_code, aggregate_code, arithmetic_code, comparison_code, list_code, arms_code, else_code, same_spelling, index_among};
 ghost use Rattle.planner_expressions.specs.Scope.{stands_for};
 
 use crate::naming::look_up;
-use crate::scope::{Place, Scope};
-use meaning::boxed::Boxed;
-use meaning::sequence::Sequence;
-use meaning::text::Text;
-use sql_syntax::tree::{Aggregate, Arithmetic, Arm, Comparison, Expr};
+use crate::scope::{Scope, ScopeColumn};
+use meaning::{Boxed, Sequence, Text};
+use sql_syntax::{Aggregate, Arithmetic, Arm, Comparison, Expr};
 use std::alloc::AllocError;
 
 /// A text's bytes, and its end.
@@ -21,12 +19,12 @@ fn put_text(text: &Text, out: &mut Sequence<i64>) -> Result<(), AllocError>
     out.push(-1)
 }
 
-fn put_place(place: &Place, out: &mut Sequence<i64>) -> Result<(), AllocError>
-    ensures { OnOk result (out.new ≡ out.old ++ column_code (Some place.now)) }
+fn put_scope_column(column: &ScopeColumn, out: &mut Sequence<i64>) -> Result<(), AllocError>
+    ensures { OnOk result (out.new ≡ out.old ++ column_code (Some column.now)) }
 {
     out.push(0)?;
-    put_text(&place.owner, out)?;
-    put_text(&place.name, out)
+    put_text(&column.owner, out)?;
+    put_text(&column.name, out)
 }
 
 fn put_column(
@@ -39,7 +37,7 @@ fn put_column(
         ++ column_code (stands_for scope.now table.now name.now)) }
 {
     match look_up(scope, table, name) {
-        Ok(place) => put_place(place, out),
+        Ok(column) => put_scope_column(column, out),
         Err(_) => out.push(1),
     }
 }
@@ -238,9 +236,9 @@ fn is_same(a: &Sequence<i64>, b: &Sequence<i64>) -> bool
     a == b
 }
 
-/// The first place in a list of a tree that is written out like this.
+/// Where a list first has a tree that is written out like this.
 pub fn find_same(list: &[Sequence<i64>], wanted: &Sequence<i64>) -> Option<usize>
-    ensures { result ≡ place_among list.now wanted.now }
+    ensures { result ≡ index_among list.now wanted.now }
 {
     list.iter().position(|spelling| is_same(wanted, spelling))
 }

@@ -11,12 +11,8 @@ use crate::building::{
 };
 use crate::collecting::{list_if, put, put_arm};
 use crate::scope::Scope;
-use meaning::boxed::Boxed;
-use meaning::expr;
-use meaning::sequence::Sequence;
-use meaning::text::Text;
-use meaning::value::Value;
-use sql_syntax::tree::{Arm, Expr};
+use meaning::{Boxed, Sequence, Text, Value, expr};
+use sql_syntax::{Arm, Expr};
 use std::alloc::{AllocError, Global};
 
 fn text_literal(text: &Text) -> Result<Option<expr::Expr>, AllocError>
@@ -25,7 +21,7 @@ fn text_literal(text: &Text) -> Result<Option<expr::Expr>, AllocError>
     Ok(Some(expr::Expr::Literal(Value::Text(text.clone()?))))
 }
 
-/// The plan's expression, if something stands for each name and each aggregate.
+/// The plan's expression, if something is given for each name and each aggregate.
 #[cycle(translate)]
 pub fn translate(
     alloc: Global,

@@ -5,63 +5,63 @@ ghost use Rattle.std.specs.Option.{option_map_or};
 ghost use Rattle.planner_expressions.specs.Uses.{names as named_by, names_arm};
 
 use crate::naming::is_meant;
-use crate::scope::Place;
-use meaning::boxed::Boxed;
-use sql_syntax::tree::{Arm, Expr};
+use crate::scope::ScopeColumn;
+use meaning::Boxed;
+use sql_syntax::{Arm, Expr};
 
-/// A name in the expression may stand for the column.
+/// A name in the expression may refer to the column.
 #[cycle(names)]
-pub fn names(place: &Place, expr: &Expr) -> bool
-    ensures { result ≡ named_by place.now expr.now }
+pub fn names(column: &ScopeColumn, expr: &Expr) -> bool
+    ensures { result ≡ named_by column.now expr.now }
 {
     match expr {
-        Expr::Column { table, name } => is_meant(place, table, name),
+        Expr::Column { table, name } => is_meant(column, table, name),
         Expr::Integer(_) => false,
         Expr::Text(_) => false,
         Expr::CountRows => false,
-        Expr::Aggregate { argument, .. } => names(place, argument.get()),
-        Expr::Minus(a) => names(place, a.get()),
+        Expr::Aggregate { argument, .. } => names(column, argument.get()),
+        Expr::Minus(a) => names(column, a.get()),
         Expr::Arithmetic { left, right, .. } => {
-            let left = names(place, left.get());
-            either(left, names(place, right.get()))
+            let left = names(column, left.get());
+            either(left, names(column, right.get()))
         }
         Expr::Compare { left, right, .. } => {
-            let left = names(place, left.get());
-            either(left, names(place, right.get()))
+            let left = names(column, left.get());
+            either(left, names(column, right.get()))
         }
-        Expr::Not(a) => names(place, a.get()),
+        Expr::Not(a) => names(column, a.get()),
         Expr::And { left, right } => {
-            let left = names(place, left.get());
-            either(left, names(place, right.get()))
+            let left = names(column, left.get());
+            either(left, names(column, right.get()))
         }
         Expr::Or { left, right } => {
-            let left = names(place, left.get());
-            either(left, names(place, right.get()))
+            let left = names(column, left.get());
+            either(left, names(column, right.get()))
         }
-        Expr::IsNull { subject, .. } => names(place, subject.get()),
+        Expr::IsNull { subject, .. } => names(column, subject.get()),
         Expr::Between {
             subject,
             low,
             high,
             ..
         } => {
-            let subject = names(place, subject.get());
-            let low = names(place, low.get());
-            either(subject, either(low, names(place, high.get())))
+            let subject = names(column, subject.get());
+            let low = names(column, low.get());
+            either(subject, either(low, names(column, high.get())))
         }
         Expr::In {
             subject,
             entries,
             ..
         } => {
-            let subject = names(place, subject.get());
-            either(subject, names_any(place, entries.as_slice()))
+            let subject = names(column, subject.get());
+            either(subject, names_any(column, entries.as_slice()))
         }
-        Expr::Like { subject, .. } => names(place, subject.get()),
-        Expr::Coalesce(entries) => names_any(place, entries.as_slice()),
+        Expr::Like { subject, .. } => names(column, subject.get()),
+        Expr::Coalesce(entries) => names_any(column, entries.as_slice()),
         Expr::Case { arms, otherwise } => {
-            let arms = names_arms(place, arms.as_slice());
-            either(arms, names_else(place, otherwise))
+            let arms = names_arms(column, arms.as_slice());
+            either(arms, names_else(column, otherwise))
         }
     }
 }
@@ -73,11 +73,11 @@ fn either(left: bool, right: bool) -> bool
 }
 
 #[cycle(names)]
-fn names_any(place: &Place, entries: &[Expr]) -> bool
-    ensures { result ≡ list_any (λ x. x) (map (named_by place.now) entries.now) }
+fn names_any(column: &ScopeColumn, entries: &[Expr]) -> bool
+    ensures { result ≡ list_any (λ x. x) (map (named_by column.now) entries.now) }
 {
     for entry in entries {
-        if names(place, entry) {
+        if names(column, entry) {
             return true;
         }
     }
@@ -85,12 +85,12 @@ fn names_any(place: &Place, entries: &[Expr]) -> bool
 }
 
 #[cycle(names)]
-fn names_arms(place: &Place, arms: &[Arm]) -> bool
-    ensures { result ≡ list_any (λ x. x) (map (names_arm place.now) arms.now) }
+fn names_arms(column: &ScopeColumn, arms: &[Arm]) -> bool
+    ensures { result ≡ list_any (λ x. x) (map (names_arm column.now) arms.now) }
 {
     for arm in arms {
-        let condition = names(place, &arm.condition);
-        if either(condition, names(place, &arm.value)) {
+        let condition = names(column, &arm.condition);
+        if either(condition, names(column, &arm.value)) {
             return true;
         }
     }
@@ -98,11 +98,11 @@ fn names_arms(place: &Place, arms: &[Arm]) -> bool
 }
 
 #[cycle(names)]
-fn names_else(place: &Place, otherwise: &Option<Boxed<Expr>>) -> bool
-    ensures { result ≡ option_map_or (λ x. x) (option_map (named_by place.now) otherwise.now) false }
+fn names_else(column: &ScopeColumn, otherwise: &Option<Boxed<Expr>>) -> bool
+    ensures { result ≡ option_map_or (λ x. x) (option_map (named_by column.now) otherwise.now) false }
 {
     match otherwise {
-        Some(otherwise) => names(place, otherwise.get()),
+        Some(otherwise) => names(column, otherwise.get()),
         None => false,
     }
 }

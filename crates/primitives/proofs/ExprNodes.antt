@@ -28,12 +28,12 @@ use Rattle.meaning.proofs.Tests.{first_of as first_test}
 use Rattle.meaning.proofs.Typed.{typed}
 use Rattle.meaning.proofs.Evaluation.{eval-Minus, eval-Arithmetic, eval-Compare, eval-Not, eval-And, eval-Or, eval-IsNull, eval-Between, eval-In, eval-Like, eval-Coalesce, eval-Case, eval-Literal}
 use Rattle.vectors.specs.Selection.{Positions}
-use Rattle.vectors.specs.Vector.{BatchSpec, same_place}
+use Rattle.vectors.specs.Vector.{BatchSpec, same_reference}
 use Rattle.vector_operators.specs.declared.given.Given.{Given}
 use Rattle.vector_operators.specs.declared.given.Given.TheVariants as given
 use Rattle.vector_operators.specs.Evaluated.{Evaluates, Held, IsWithin}
 use Rattle.primitives.specs.Meant.{meant_at, row_at}
-use Rattle.primitives.specs.Fitting.{AreTypedRows, Fits, has_column, place_of, referenced_type}
+use Rattle.primitives.specs.Fitting.{AreTypedRows, Fits, has_column, column_reference, referenced_type}
 use Rattle.vector_operators.specs.Given.{AreNegatedIf, IsSpelled, IsSpelledIn, given_at, given_of, is_of_kind}
 use Rattle.primitives.specs.Nodes.{Decides, FitsArm, Gives, IsExact, IsNoLater, one_of_subject}
 use Rattle.primitives.proofs.Columns.{column_gives}
@@ -64,7 +64,7 @@ regives type type' m m' s h n g is same there = record {
 reference_gives : (batch : BatchSpec) (s : Positions) (h : Held) (e : Expr) (u : Reference) (g : Given)
     → ((types : RowTypes) (type : ExprType) → has_type types e type ≡ is_column_type (referenced_type types u) type)
     → columns_used e ≡ u ∷ [] → ((r : JoinedRow) → eval e r ≡ gives.Value (referenced r u)) → s.below ≡ batch.rows
-    → g ≡ given_of (option_map (λ column. column.lanes) (find (λ column. same_place column.place (place_of u)) batch.columns))
+    → g ≡ given_of (option_map (λ column. column.lanes) (find (λ column. same_reference column.reference (column_reference u)) batch.columns))
     → ExprGives batch e (IsWithin s) h h g
 reference_gives batch s h e u g type_is used means long is types type rows are fits =
     let present = subst (AllByRecursion (λ v. has_column batch.columns v ≡ true)) used (recursion_from_All (λ v. has_column batch.columns v ≡ true) (columns_used e) fits.present) in
@@ -76,22 +76,22 @@ reference_gives batch s h e u g type_is used means long is types type rows are f
     }
 
 pub column_node : (batch : BatchSpec) (s : Positions) (h : Held) (at : ℕ) (g : Given) → s.below ≡ batch.rows
-    → g ≡ given_of (option_map (λ column. column.lanes) (find (λ column. same_place column.place (place_of (FactColumn at))) batch.columns))
+    → g ≡ given_of (option_map (λ column. column.lanes) (find (λ column. same_reference column.reference (column_reference (FactColumn at))) batch.columns))
     → ExprGives batch (node.Column at) (IsWithin s) h h g
 column_node batch s h at g long is = reference_gives batch s h (node.Column at) (FactColumn at) g (λ types type. search (rules, the_lemmas)) (search (rules, the_lemmas)) (λ r. search (rules, the_lemmas)) long is
 
 pub joined_node : (batch : BatchSpec) (s : Positions) (h : Held) (join at : ℕ) (g : Given) → s.below ≡ batch.rows
-    → g ≡ given_of (option_map (λ column. column.lanes) (find (λ column. same_place column.place (place_of (JoinColumn join at))) batch.columns))
+    → g ≡ given_of (option_map (λ column. column.lanes) (find (λ column. same_reference column.reference (column_reference (JoinColumn join at))) batch.columns))
     → ExprGives batch (node.Joined join at) (IsWithin s) h h g
 joined_node batch s h join at g long is = reference_gives batch s h (node.Joined join at) (JoinColumn join at) g (λ types type. search (rules, the_lemmas)) (search (rules, the_lemmas)) (λ r. search (rules, the_lemmas)) long is
 
 pub key_node : (batch : BatchSpec) (s : Positions) (h : Held) (at : ℕ) (g : Given) → s.below ≡ batch.rows
-    → g ≡ given_of (option_map (λ column. column.lanes) (find (λ column. same_place column.place (place_of (GroupKey at))) batch.columns))
+    → g ≡ given_of (option_map (λ column. column.lanes) (find (λ column. same_reference column.reference (column_reference (GroupKey at))) batch.columns))
     → ExprGives batch (node.Key at) (IsWithin s) h h g
 key_node batch s h at g long is = reference_gives batch s h (node.Key at) (GroupKey at) g (λ types type. search (rules, the_lemmas)) (search (rules, the_lemmas)) (λ r. search (rules, the_lemmas)) long is
 
 pub aggregate_node : (batch : BatchSpec) (s : Positions) (h : Held) (at : ℕ) (g : Given) → s.below ≡ batch.rows
-    → g ≡ given_of (option_map (λ column. column.lanes) (find (λ column. same_place column.place (place_of (GroupAggregate at))) batch.columns))
+    → g ≡ given_of (option_map (λ column. column.lanes) (find (λ column. same_reference column.reference (column_reference (GroupAggregate at))) batch.columns))
     → ExprGives batch (node.Aggregate at) (IsWithin s) h h g
 aggregate_node batch s h at g long is = reference_gives batch s h (node.Aggregate at) (GroupAggregate at) g (λ types type. search (rules, the_lemmas)) (search (rules, the_lemmas)) (λ r. search (rules, the_lemmas)) long is
 
@@ -318,12 +318,12 @@ pub like_node : {E F : Type 0} (batch : BatchSpec) (s : Positions) (h h1 : Held)
     → IfOk found (λ g. is_of_kind Boolean g ≡ true)
     → IfOk r (AreNegatedIf is n2 found) → (IfOk found (λ a. is_of_kind Boolean a ≡ true) → IfOk r (λ g. is_of_kind Boolean g ≡ true))
     → IfOk r (ExprGives batch (node.Like is x pattern) (IsWithin s) h h1)
-like_node batch s h h1 n n2 is x pattern subject found (Err _) long long2 rows_long on told of_kind value kind = tt
-like_node batch s h h1 n n2 is x pattern subject (Err _) (Ok g) long long2 rows_long on told of_kind value kind = absurd value
-like_node batch s h h1 n n2 is x pattern subject (Ok w) (Ok g) long long2 rows_long on told of_kind value kind = λ types type rows are fits.
+like_node batch s h h1 n n2 is x pattern subject found (Err _) long long2 rows_long on returned of_kind value kind = tt
+like_node batch s h h1 n n2 is x pattern subject (Err _) (Ok g) long long2 rows_long on returned of_kind value kind = absurd value
+like_node batch s h h1 n n2 is x pattern subject (Ok w) (Ok g) long long2 rows_long on returned of_kind value kind = λ types type rows are fits.
     (let f = fits_like types batch.columns is x pattern type fits in
     let there = on types (Valued of_type.Text) rows are f.1 in
-    let like_is = told there.kind in
+    let like_is = returned there.kind in
     let m : ℕ → Outcome = meant_at x rows in
     let row_fits = recursion_from_All (λ r. fits_row_types types r ≡ true) rows are.values in
     regives Boolean type (λ i. not_if is (like_of pattern (m i))) (meant_at (node.Like is x pattern) rows) s h h1 g (boolean_is type f.0)

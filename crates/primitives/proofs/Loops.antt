@@ -34,9 +34,9 @@ each_is P [] i d all within = absurd (omega (arith, within))
 each_is P (x ∷ xs) zero d all within = all.0
 each_is P (x ∷ xs) (suc i) d all within = each_is P xs i d all.1 (omega (arith, within))
 
--- what holds of all holds of the one at a place
-at_place : {X : Type 0} (P : X → Type 0) (xs : List X) (k : ℕ) (x : X) → All P xs → k < length xs → x ≡ get_or xs k x → P x
-at_place P xs k x all below is = subst P (sym is) (each_is P xs k x (recursion_from_All P xs all) below)
+-- what holds of all holds of each one by its index
+at_index : {X : Type 0} (P : X → Type 0) (xs : List X) (k : ℕ) (x : X) → All P xs → k < length xs → x ≡ get_or xs k x → P x
+at_index P xs k x all below is = subst P (sym is) (each_is P xs k x (recursion_from_All P xs all) below)
 
 front : {X : Type 0} (xs : List X) (k : ℕ) (x : X) → k < length xs → x ≡ get_or xs k x → take (k + 1) xs ≡ take k xs ++ x ∷ []
 front xs k x below is = take_more xs k x below ∙ ap (λ z. take k xs ++ z ∷ []) (sym is)
@@ -90,7 +90,7 @@ pub found_more : (batch : BatchSpec) (s : Positions) (list : List Expr) (k : ℕ
 found_more batch s list k item subject h1 h2 h3 found next below is on so_far types rows kind x held are fits of_subject on_subject =
     let before = so_far types rows kind x held are fits of_subject on_subject in
     let a : ℕ → Outcome = λ i. one_of_subject (x i) (outcomes (take k list) (row_at rows i)) in
-    let then = on types rows kind x a held are (at_place (λ e. Fits types batch.columns e (Valued kind)) list k item fits below is) of_subject
+    let then = on types rows kind x a held are (at_index (λ e. Fits types batch.columns e (Valued kind)) list k item fits below is) of_subject
     (λ i w b. on_subject.exact i w (before.1 i b)) before.0.evaluates in (
       regiven Boolean (λ i. or_of (a i) (compare_of Equal (x i) (meant_at item rows i))) (λ i. one_of_subject (x i) (outcomes (take (k + 1) list) (row_at rows i))) s held h3 next
           (λ i. sym (one_of_subject_more (x i) (outcomes (take k list) (row_at rows i)) (meant_at item rows i))
@@ -140,7 +140,7 @@ first_more batch s list k item h1 h2 h3 so_far next below is on first types rows
     (λ i. sym (first_of_more (outcomes (take k list) (row_at rows i)) (meant_at item rows i))
     ∙ ap first_of (sym (outcomes_more (take k list) item (row_at rows i)))
     ∙ ap (λ (es : List Expr). first_of (outcomes es (row_at rows i))) (sym (front list k item below is)))
-    (on types rows kind a h1 are (at_place (λ e. Fits types batch.columns e (Valued kind)) list k item fits below is) before.kind before.evaluates)
+    (on types rows kind a h1 are (at_index (λ e. Fits types batch.columns e (Valued kind)) list k item fits below is) before.kind before.evaluates)
 
 pub first_all : (batch : BatchSpec) (s : Positions) (list : List Expr) (k : ℕ) (h1 h2 : Held) (so_far : Given) → length list ≤ k
     → FirstGiven batch s list k h1 h2 so_far
@@ -152,7 +152,7 @@ first_all batch s list k h1 h2 so_far done first types rows kind are fits =
 
 -- ---- CASE
 
--- the arms from a place on decide the lanes that are left
+-- the arms from one on decide the lanes that are left
 abbrev pub ArmsDecide : BatchSpec → Positions → List Arm → ℕ → Held → Held → Positions → Given → Type 0
 ArmsDecide batch s arms k h1 now left g = (types : RowTypes) (rows : List JoinedRow) (kind : ColType) (rest : ℕ → Outcome)
     → AreTypedRows types batch rows → All (FitsArm types batch.columns kind) arms
@@ -171,7 +171,7 @@ arms_first batch s left arms first others h1 h2 g is on = subst (λ (all : List 
     (let later : List (Meaning × Meaning) = map eval_arm others in
     subst (λ (p : Meaning × Meaning). Decides kind (λ i. cases_of (arms_at (row_at rows i) (p ∷ later)) (rest i)) (λ i. cases_of (arms_at (row_at rows i) later) (rest i)) (IsWithin s) left h1 h2 g)
     (sym (eval_arm-parts first.when first.then))
-    (on types rows kind (λ i. cases_of (arms_at (row_at rows i) later) (rest i)) are (at_place (FitsArm types batch.columns kind) (first ∷ others) 0 first fit (omega arith) refl))))
+    (on types rows kind (λ i. cases_of (arms_at (row_at rows i) later) (rest i)) are (at_index (FitsArm types batch.columns kind) (first ∷ others) 0 first fit (omega arith) refl))))
 
 -- an arm behind the first
 pub behind_first : (arms : List Arm) (first : Arm) (others : List Arm) (k : ℕ) (x : Arm) → arms ≡ first ∷ others → k < length others → x ≡ get_or others k x
@@ -196,7 +196,7 @@ arms_more batch s arms k arm h1 h2 h3 left left2 g next below is on so_far types
     let split : drop k arms ≡ arm ∷ drop (k + 1) arms = drop_more arms k arm below ∙ ap (λ (a : Arm). a ∷ drop (k + 1) arms) (sym is) in
     let before = subst (λ (l : List Arm). Decides kind meant (λ i. cases_of (arms_at (row_at rows i) (map eval_arm l)) (rest i)) (IsWithin s) left h1 h2 g) split (so_far types rows kind rest are fit) in
     let there = subst (λ (p : Meaning × Meaning). Decides kind meant (λ i. cases_of (arms_at (row_at rows i) (p ∷ later)) (rest i)) (IsWithin s) left h1 h2 g) (eval_arm-parts arm.when arm.then) before in
-    on types rows kind meant (λ i. cases_of (arms_at (row_at rows i) later) (rest i)) s h1 are (at_place (FitsArm types batch.columns kind) arms k arm fit below is) there
+    on types rows kind meant (λ i. cases_of (arms_at (row_at rows i) later) (rest i)) s h1 are (at_index (FitsArm types batch.columns kind) arms k arm fit below is) there
 
 none_left : (arms : List Arm) (k : ℕ) → length arms ≤ k → drop k arms ≡ []
 none_left [] zero done = refl

@@ -6,10 +6,10 @@ use Rattle.meaning.specs.declared.expr.Expr.{Expr}
 use Rattle.meaning.specs.declared.joined_row.JoinedRow.{JoinedRow}
 use Rattle.meaning.specs.References.{Reference, FactColumn, JoinColumn, GroupKey, GroupAggregate, columns_used}
 use Rattle.meaning.specs.Typing.{ExprType, RowTypes, is_column_type, fits_row_types, has_type}
-use Rattle.vectors.specs.declared.batch.Place.{Place}
-use Rattle.vectors.specs.declared.batch.Place.TheVariants as place
+use Rattle.vectors.specs.declared.batch.ColumnReference.{ColumnReference}
+use Rattle.vectors.specs.declared.batch.ColumnReference.TheVariants as reference
 use Rattle.vectors.specs.declared.batch.BatchColumn.{BatchColumn}
-use Rattle.vectors.specs.Vector.{BatchSpec, AreRowsOf, reference_of, same_place}
+use Rattle.vectors.specs.Vector.{BatchSpec, AreRowsOf, reference_of, same_reference}
 use Rattle.vector_operators.specs.Given.{type_of_lanes}
 
 -- the type of what stands there, if the rows have it
@@ -19,9 +19,9 @@ referenced_type types (JoinColumn join at) = slice_get (slice_index_or types.joi
 referenced_type types (GroupKey i) = slice_get types.key i
 referenced_type types (GroupAggregate i) = slice_get types.aggregates i
 
--- the column's lanes are of the type of what stands in its place
+-- the column's lanes are of the type that its reference has
 abbrev pub is_typed_column : RowTypes → BatchColumn → Bool
-is_typed_column types column = is_column_type (referenced_type types (reference_of column.place)) (type_of_lanes column.lanes)
+is_typed_column types column = is_column_type (referenced_type types (reference_of column.reference)) (type_of_lanes column.lanes)
 
 -- rows that the batch has the columns of, each value of its type, a text in UTF-8 among it
 pub record AreTypedRows (types : RowTypes) (batch : BatchSpec) (rows : List JoinedRow) : Type 0 where
@@ -30,14 +30,14 @@ pub record AreTypedRows (types : RowTypes) (batch : BatchSpec) (rows : List Join
   pub columns : All (λ column. is_typed_column types column ≡ true) batch.columns
 
 -- where a batch has what an expression reads
-abbrev pub place_of : Reference → Place
-place_of (FactColumn at) = place.Fact at
-place_of (JoinColumn join at) = place.Join join at
-place_of (GroupKey i) = place.Key i
-place_of (GroupAggregate i) = place.Aggregate i
+abbrev pub column_reference : Reference → ColumnReference
+column_reference (FactColumn at) = reference.Fact at
+column_reference (JoinColumn join at) = reference.Join join at
+column_reference (GroupKey i) = reference.Key i
+column_reference (GroupAggregate i) = reference.Aggregate i
 
 abbrev pub has_column : List BatchColumn → Reference → Bool
-has_column columns u = list_any (λ column. same_place column.place (place_of u)) columns
+has_column columns u = list_any (λ column. same_reference column.reference (column_reference u)) columns
 
 -- the expression has the type, and each column that it names is there
 pub record Fits (types : RowTypes) (columns : List BatchColumn) (e : Expr) (type : ExprType) : Type 0 where

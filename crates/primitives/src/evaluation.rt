@@ -10,13 +10,10 @@ ghost use Rattle.primitives.specs.Fitting.{AreTypedRows, Fits};
 ghost use Rattle.vector_operators.specs.Given.{IsOfType};
 
 use crate::nodes::{Evaluation, eval};
-use meaning::expr::Expr;
+use meaning::Expr;
 use std::alloc::{AllocError, Global};
-use vector_operators::fault::Fault1;
-use vector_operators::lane_set::LaneSet;
-use vectors::batch::Batch;
-use vectors::selection::Selection;
-use vectors::vector::Vector;
+use vector_operators::{Fault1, LaneSet};
+use vectors::{Batch, Selection, Vector};
 
 /// What the expression gives on each selected row of the batch, as one vector.
 ///

@@ -2,5 +2,7 @@
 //! fault.
 #![tactic(auto)]
 
-pub mod evaluation;
-pub mod nodes;
+mod evaluation;
+mod nodes;
+
+pub use evaluation::eval_vec;

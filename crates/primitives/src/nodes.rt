@@ -18,21 +18,14 @@ ghost use Rattle.primitives.specs.Fitting.{AreTypedRows, Fits};
 ghost use Rattle.vector_operators.specs.Given.{AreNegatedIf, IsLong, IsSpelledIn, are_alike, given_at, is_not_false, is_not_true, is_null_lane, is_of_kind, ArePut};
 ghost use Rattle.primitives.specs.Nodes.{Decides, FitsArm, Gives, IsExact, IsNoLater, IsTaken, IsWhere, Passes, one_of_subject};
 
-use meaning::expr::{ArithmeticOperator, Arm, ComparisonOperator, Expr};
-use meaning::outcome::Truth;
-use meaning::text::Text;
+use meaning::{ArithmeticOperator, Arm, ComparisonOperator, Expr, Text, Truth};
 use std::alloc::{AllocError, Global};
 use std::mem::drop;
-use vector_operators::arithmetic::{arithmetic, minus};
-use vector_operators::choice::{coalesce, put};
-use vector_operators::comparing::{compare, is_null, like, one_truth};
-use vector_operators::fault::Fault1;
-use vector_operators::given::{Given, lent_column, repeated};
-use vector_operators::lane_set::LaneSet;
-use vector_operators::logic::{
-    and, not, not_if, or, unless_false, unless_true, where_null, where_true,
+use vector_operators::{
+    Fault1, Given, LaneSet, and, arithmetic, coalesce, compare, is_null, lent_column, like, minus,
+    not, not_if, one_truth, or, put, repeated, unless_false, unless_true, where_null, where_true,
 };
-use vectors::batch::{Batch, Place};
+use vectors::{Batch, ColumnReference};
 
 /// Where an expression is evaluated: over the rows of a batch, with memory for what it gives.
 #[derive(Clone, Copy)]
@@ -60,7 +53,10 @@ pub fn eval<'a>(
     // A function clears room for all its locals when it begins, so columns and literals don't begin
     // that of the other nodes.
     match expr {
-        Expr::Column(column) => Ok(lent_column(on.batch, Place::Fact { column: *column })),
+        Expr::Column(column) => Ok(lent_column(
+            on.batch,
+            ColumnReference::Fact { column: *column },
+        )),
         Expr::Literal(value) => Ok(repeated(value, on.batch.rows())),
         _ => eval_node(on, expr, selection, fault),
     }
@@ -83,18 +79,21 @@ fn eval_node<'a>(
         g) }
 {
     match expr {
-        Expr::Column(column) => Ok(lent_column(on.batch, Place::Fact { column: *column })),
-        Expr::Joined { join, place } => Ok(lent_column(
+        Expr::Column(column) => Ok(lent_column(
             on.batch,
-            Place::Join {
+            ColumnReference::Fact { column: *column },
+        )),
+        Expr::Joined { join, column } => Ok(lent_column(
+            on.batch,
+            ColumnReference::Join {
                 join: *join,
-                column: *place,
+                column: *column,
             },
         )),
-        Expr::Key(key) => Ok(lent_column(on.batch, Place::Key { key: *key })),
+        Expr::Key(key) => Ok(lent_column(on.batch, ColumnReference::Key { key: *key })),
         Expr::Aggregate(aggregate) => Ok(lent_column(
             on.batch,
-            Place::Aggregate {
+            ColumnReference::Aggregate {
                 aggregate: *aggregate,
             },
         )),

@@ -80,7 +80,7 @@ const KEY_TWICE: &[(&str, &[u8])] = &[
     ("sales/store.csv", b"k\n10\n10\n"),
 ];
 
-/// A table's fault is told before that of a file that can't be written.
+/// A table's fault is returned before that of a file that can't be written.
 #[test]
 fn tables_are_judged_first(rt: HostRuntime) -> Result<(), Fail> {
     let mut folder = MemoryFolder::new(rt.alloc(), KEY_TWICE, 3);

@@ -12,11 +12,10 @@ ghost use Rattle.meaning.specs.declared.outcome.Outcome.TheVariants as gives;
 use crate::operators::{
     and, arith, compare, decides_and, decides_or, is_at_most, is_null, like, minus, not, or,
 };
-use meaning::expr::{ArithmeticOperator, Arm, ComparisonOperator, Expr};
-use meaning::joined_row::{JoinedRow, joined_value, value_at};
-use meaning::outcome::{Outcome, Truth};
-use meaning::text::Text;
-use meaning::value::{Row, Value};
+use meaning::{
+    ArithmeticOperator, Arm, ComparisonOperator, Expr, JoinedRow, Outcome, Row, Text, Truth, Value,
+    joined_value, value_at,
+};
 use std::alloc::{AllocError, Global};
 
 /// What the expression gives on the row: the plain evaluation, node by node.
@@ -25,10 +24,10 @@ pub fn eval_row(alloc: Global, expr: &Expr, row: &JoinedRow) -> Result<Outcome, 
     ensures { IfOk result (λ o. o ≡ eval expr.now row.now) }
 {
     match expr {
-        Expr::Column(place) => outcome_at(&row.fact, *place),
-        Expr::Joined { join, place } => joined_outcome(row, *join, *place),
-        Expr::Key(place) => outcome_at(&row.key, *place),
-        Expr::Aggregate(place) => outcome_at(&row.aggregates, *place),
+        Expr::Column(at) => outcome_at(&row.fact, *at),
+        Expr::Joined { join, column } => joined_outcome(row, *join, *column),
+        Expr::Key(at) => outcome_at(&row.key, *at),
+        Expr::Aggregate(at) => outcome_at(&row.aggregates, *at),
         Expr::Literal(value) => literal(value),
         Expr::Minus(a) => eval_row(alloc, a.get(), row).map(minus),
         Expr::Arithmetic(op, a, b) => {
@@ -111,16 +110,16 @@ fn literal(value: &Value) -> Result<Outcome, AllocError>
     Ok(Outcome::Value(value.clone()?))
 }
 
-fn outcome_at(row: &Row, place: usize) -> Result<Outcome, AllocError>
-    ensures { IfOk result (λ o. o ≡ gives.Value (column row.now place)) }
+fn outcome_at(row: &Row, at: usize) -> Result<Outcome, AllocError>
+    ensures { IfOk result (λ o. o ≡ gives.Value (column row.now at)) }
 {
-    Ok(Outcome::Value(value_at(row, place)?))
+    Ok(Outcome::Value(value_at(row, at)?))
 }
 
-fn joined_outcome(row: &JoinedRow, join: usize, place: usize) -> Result<Outcome, AllocError>
-    ensures { IfOk result (λ o. o ≡ gives.Value (joined_column row.now join place)) }
+fn joined_outcome(row: &JoinedRow, join: usize, at: usize) -> Result<Outcome, AllocError>
+    ensures { IfOk result (λ o. o ≡ gives.Value (joined_column row.now join at)) }
 {
-    Ok(Outcome::Value(joined_value(row, join, place)?))
+    Ok(Outcome::Value(joined_value(row, join, at)?))
 }
 
 fn arith_if_known(

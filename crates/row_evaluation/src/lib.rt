@@ -2,6 +2,8 @@
 //! themselves go over vectors, in `primitives`.
 #![tactic(auto)]
 
-pub mod eval;
+mod eval;
 mod like;
 mod operators;
+
+pub use eval::eval_row;

@@ -3,7 +3,7 @@
 ghost use Rattle.std.specs.Prelude.{◌≡◌, IfOk};
 ghost use Rattle.meaning.specs.Like.{after_any_run, fits_one, characters_fit, is_like};
 
-use meaning::text::Text;
+use meaning::Text;
 use std::alloc::{AllocError, Global};
 
 fn fits_one(p: char, c: char) -> bool

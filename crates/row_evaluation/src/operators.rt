@@ -8,10 +8,7 @@ ghost use Rattle.meaning.specs.Truth as truth;
 ghost use Rattle.meaning.specs.Operators as spec;
 
 use crate::like::is_like;
-use meaning::expr::{ArithmeticOperator, ComparisonOperator};
-use meaning::outcome::{Fault, Outcome, Truth};
-use meaning::text::Text;
-use meaning::value::Value;
+use meaning::{ArithmeticOperator, ComparisonOperator, Fault, Outcome, Text, Truth, Value};
 use std::alloc::{AllocError, Global};
 use std::cmp::Ordering;
 

@@ -14,7 +14,7 @@ use Rattle.fragment_file.specs.Fragment.{AreBlocks, IsBlockOf, no_block}
 use Rattle.vectors.specs.declared.batch.BatchColumn.{BatchColumn}
 use Rattle.vectors.specs.Vector.{BatchSpec, HasLanesOf}
 use Rattle.scan_select.specs.declared.buffers.ColumnBuffer.{ColumnBuffer}
-use Rattle.scan_select.specs.Buffers.{AddsLent, FitsGroup, IsBufferOf, IsPosition, IsFilled, IsLendable, IsLentOf, filled, filled_now, places_of}
+use Rattle.scan_select.specs.Buffers.{AddsLent, FitsGroup, IsBufferOf, IsPosition, IsFilled, IsLendable, IsLentOf, filled, filled_now, columns_of}
 use Rattle.scan_select.specs.Groups.{current_rows}
 use Rattle.scan_select.specs.Scanned.{AddsColumns, AreColumnsAt, IsColumnAt, IsVectorLength}
 use Rattle.scan_select.proofs.Masks.{length-window, window_taken}
@@ -36,7 +36,7 @@ block_at (d ∷ ds) n (b ∷ bs) (suc p) c are there =
 
 fits_group : (cs : List Column) (n most : ℕ) (group : List Block) (b : ColumnBuffer) → AreBlocks cs n group → IsBufferOf cs most b → FitsGroup group b
 fits_group cs n most group b are is =
-    let at = block_at cs n group b.place is.column are is.there in
+    let at = block_at cs n group b.column is.column are is.there in
     record { there = at.1; col_type = is.col_type ∙ sym at.0.col_type }
 
 all_fit : (cs : List Column) (n most : ℕ) (group : List Block) (bs : List ColumnBuffer) → AreBlocks cs n group → AllByRecursion (IsBufferOf cs most) bs → AllByRecursion (FitsGroup group) bs
@@ -57,21 +57,21 @@ still_of cs most group first [] all = tt
 still_of cs most group first (b ∷ bs) all =
     (record { column = all.0.column; there = all.0.there; col_type = all.0.col_type; nullable = all.0.nullable; room = all.0.room }, still_of cs most group first bs all.1)
 
-same_places : (group : List Block) (first : ℕ) (bs : List ColumnBuffer) → places_of (map (filled group first) bs) ≡ places_of bs
-same_places group first [] = refl
-same_places group first (b ∷ bs) = ap (λ (ps : List ℕ). b.place ∷ ps) (same_places group first bs)
+same_columns : (group : List Block) (first : ℕ) (bs : List ColumnBuffer) → columns_of (map (filled group first) bs) ≡ columns_of bs
+same_columns group first [] = refl
+same_columns group first (b ∷ bs) = ap (λ (ps : List ℕ). b.column ∷ ps) (same_columns group first bs)
 
-pub now_places : (current : Option (List Block)) (first : ℕ) (bs : List ColumnBuffer) → places_of (filled_now current first bs) ≡ places_of bs
-now_places None first bs = refl
-now_places (Some group) first bs = same_places group first bs
+pub now_columns : (current : Option (List Block)) (first : ℕ) (bs : List ColumnBuffer) → columns_of (filled_now current first bs) ≡ columns_of bs
+now_columns None first bs = refl
+now_columns (Some group) first bs = same_columns group first bs
 
 -- where a scan stands when the buffers were filled anew
-pub stands_again : (cs : List Column) (most : ℕ) (current : Option (List Block)) (group_rows first rows : ℕ) (bs new : List ColumnBuffer) → All (λ p. p < length cs) (places_of bs) → IsVectorLength most → group_rows ≡ current_rows current
+pub stands_again : (cs : List Column) (most : ℕ) (current : Option (List Block)) (group_rows first rows : ℕ) (bs new : List ColumnBuffer) → All (λ p. p < length cs) (columns_of bs) → IsVectorLength most → group_rows ≡ current_rows current
     → first ≤ group_rows → rows ≡ min most (group_rows - first) → All (IsBufferOf cs most) bs → new ≡ filled_now current first bs → IsPosition cs most current group_rows first rows new
-stands_again cs most None group_rows first rows bs new places vectors are within full of_columns filled =
+stands_again cs most None group_rows first rows bs new below vectors are within full of_columns filled =
     let same : new ≡ bs = filled in
     record {
-      places_within = subst (λ (xs : List ColumnBuffer). All (λ p. p < length cs) (places_of xs)) (sym same) places;
+      columns_within = subst (λ (xs : List ColumnBuffer). All (λ p. p < length cs) (columns_of xs)) (sym same) below;
       vectors = vectors;
       group_rows_are = are;
       within = omega (arith, within, full);
@@ -79,9 +79,9 @@ stands_again cs most None group_rows first rows bs new places vectors are within
       of_columns = subst (λ (xs : List ColumnBuffer). All (IsBufferOf cs most) xs) (sym same) of_columns;
       filled = tt;
     }
-stands_again cs most (Some group) group_rows first rows bs new places vectors are within full of_columns filling =
+stands_again cs most (Some group) group_rows first rows bs new below vectors are within full of_columns filling =
     record {
-      places_within = subst (λ (ps : List ℕ). All (λ p. p < length cs) ps) (sym (ap places_of filling ∙ same_places group first bs)) places;
+      columns_within = subst (λ (ps : List ℕ). All (λ p. p < length cs) ps) (sym (ap columns_of filling ∙ same_columns group first bs)) below;
       vectors = vectors;
       group_rows_are = are;
       within = omega (arith, within, full);
@@ -129,19 +129,19 @@ shorter (suc most) (suc rows) (v ∷ vs) is = ap (λ (ws : List Value). v ∷ ws
 
 module _ (cs : List Column) (n most : ℕ) (group : List Block) (first rows : ℕ) (are : AreBlocks cs n group) (full : rows ≡ min most (n - first)) (within : first + rows ≤ n) where
   -- the values that a filled buffer holds
-  holds : (b : ColumnBuffer) → IsBufferOf cs most b → IsFilled group first b → b.values.values ≡ take rows (drop first (values_of (get_or group b.place no_block)))
+  holds : (b : ColumnBuffer) → IsBufferOf cs most b → IsFilled group first b → b.values.values ≡ take rows (drop first (values_of (get_or group b.column no_block)))
   holds b is filled =
-      let at = block_at cs n group b.place is.column are is.there in
-      let vs : List Value = drop first (values_of (get_or group b.place no_block)) in
-      let count = length-values (get_or group b.place no_block) at.0.sound in
-      let behind = length-drop first (values_of (get_or group b.place no_block)) in
+      let at = block_at cs n group b.column is.column are is.there in
+      let vs : List Value = drop first (values_of (get_or group b.column no_block)) in
+      let count = length-values (get_or group b.column no_block) at.0.sound in
+      let behind = length-drop first (values_of (get_or group b.column no_block)) in
       let same = at.0.rows in
       filled ∙ ap (λ (k : ℕ). take k vs) is.room ∙ shorter most rows vs (omega (arith, full, count, behind, same))
 
   lendable : (b : ColumnBuffer) → IsBufferOf cs most b → IsFilled group first b → IsLendable rows b
   lendable b is filled =
-      let at = block_at cs n group b.place is.column are is.there in
-      let block : Block = get_or group b.place no_block in
+      let at = block_at cs n group b.column is.column are is.there in
+      let block : Block = get_or group b.column no_block in
       let values = holds b is filled in
       let type : block.col_type ≡ b.values.col_type = at.0.col_type ∙ sym is.col_type in
       let nullable : block.nullable ≡ b.nullable = at.0.nullable ∙ sym is.nullable in
@@ -161,28 +161,28 @@ module _ (cs : List Column) (n most : ℕ) (group : List Block) (first rows : �
   are_lendable bs all filled = All-from_recursion (IsLendable rows) bs (all_lendable bs (recursion_from_All (IsBufferOf cs most) bs all) (recursion_from_All (IsFilled group first) bs filled))
 
   -- what is lent is the column of the row group
-  lent_at : (b : ColumnBuffer) (c : BatchColumn) → IsBufferOf cs most b → IsFilled group first b → IsLentOf b c → IsColumnAt group first rows b.place c
+  lent_at : (b : ColumnBuffer) (c : BatchColumn) → IsBufferOf cs most b → IsFilled group first b → IsLentOf b c → IsColumnAt group first rows b.column c
   lent_at b c is filled lent =
-      let at = block_at cs n group b.place is.column are is.there in
+      let at = block_at cs n group b.column is.column are is.there in
       record {
-        place = lent.place;
+        reference = lent.reference;
         values = lent.values ∙ ap (map gives.Value) (holds b is filled);
         typed = subst (λ (t : ColType). HasLanesOf t c.lanes) (is.col_type ∙ sym at.0.col_type) lent.typed;
       }
 
-  all_at_places : (bs : List ColumnBuffer) (columns : List BatchColumn) → AllByRecursion (IsBufferOf cs most) bs → AllByRecursion (IsFilled group first) bs → AllZip IsLentOf bs columns → AreColumnsAt group first rows (places_of bs) columns
-  all_at_places [] [] all filled lent = tt
-  all_at_places [] (c ∷ columns) all filled lent = absurd lent
-  all_at_places (b ∷ bs) [] all filled lent = absurd lent
-  all_at_places (b ∷ bs) (c ∷ columns) all filled lent = (lent_at b c all.0 filled.0 lent.0, all_at_places bs columns all.1 filled.1 lent.1)
+  all_at_columns : (bs : List ColumnBuffer) (columns : List BatchColumn) → AllByRecursion (IsBufferOf cs most) bs → AllByRecursion (IsFilled group first) bs → AllZip IsLentOf bs columns → AreColumnsAt group first rows (columns_of bs) columns
+  all_at_columns [] [] all filled lent = tt
+  all_at_columns [] (c ∷ columns) all filled lent = absurd lent
+  all_at_columns (b ∷ bs) [] all filled lent = absurd lent
+  all_at_columns (b ∷ bs) (c ∷ columns) all filled lent = (lent_at b c all.0 filled.0 lent.0, all_at_columns bs columns all.1 filled.1 lent.1)
 
-  pub adds_columns : (bs : List ColumnBuffer) (old new : BatchSpec) → old.rows ≡ rows → All (IsBufferOf cs most) bs → All (IsFilled group first) bs → AddsLent bs old new → AddsColumns group first (places_of bs) old new
+  pub adds_columns : (bs : List ColumnBuffer) (old new : BatchSpec) → old.rows ≡ rows → All (IsBufferOf cs most) bs → All (IsFilled group first) bs → AddsLent bs old new → AddsColumns group first (columns_of bs) old new
   adds_columns bs old new count all filled adds = record {
     rows = adds.rows;
     more = adds.more;
     columns = adds.columns;
-    are = subst (λ (k : ℕ). AreColumnsAt group first k (places_of bs) adds.more) (sym count)
-        (all_at_places bs adds.more (recursion_from_All (IsBufferOf cs most) bs all) (recursion_from_All (IsFilled group first) bs filled) adds.are);
+    are = subst (λ (k : ℕ). AreColumnsAt group first k (columns_of bs) adds.more) (sym count)
+        (all_at_columns bs adds.more (recursion_from_All (IsBufferOf cs most) bs all) (recursion_from_All (IsFilled group first) bs filled) adds.are);
   }
 
 -- ---- one column behind the others

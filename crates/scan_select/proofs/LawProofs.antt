@@ -71,10 +71,10 @@ batches_are_rows n (group ∷ groups) some =
     flat_map_both rows_of_piece (pieces_of n group) (pieces n groups) ∙ ap (λ (rows : List Row). rows ++ flat_map rows_of_piece (pieces n groups)) (one_group n group some)
     ∙ ap (λ (rows : List Row). rows_in group ++ rows) (batches_are_rows n groups some)
 
--- ---- places
+-- ---- columns
 
-pub one_place_more : (k : ℕ) → range_with_len 0 (k + 1) ≡ range_with_len 0 k ++ k ∷ []
-one_place_more k = range_parts 0 k 1 ∙ ap (λ (i : ℕ). range_with_len 0 k ++ i ∷ []) (omega arith)
+pub range_one_more : (k : ℕ) → range_with_len 0 (k + 1) ≡ range_with_len 0 k ++ k ∷ []
+range_one_more k = range_parts 0 k 1 ∙ ap (λ (i : ℕ). range_with_len 0 k ++ i ∷ []) (omega arith)
 
 all_below : (n : ℕ) → All (λ p. p < n) (range_with_len 0 n)
 all_below n = λ k d lt.
@@ -82,5 +82,5 @@ all_below n = λ k d lt.
     let is = get_or-range_with_len 0 n k d (omega (arith, lt, long)) in
     omega (arith, is, lt, long)
 
-pub places_below : (n : ℕ) (places : List ℕ) (many : ℕ) → places ≡ range_with_len 0 n → n ≡ many → All (λ p. p < many) places
-places_below n places many is same = subst (λ (ps : List ℕ). All (λ p. p < many) ps) (sym is) (subst (λ (m : ℕ). All (λ p. p < m) (range_with_len 0 n)) same (all_below n))
+pub columns_below : (n : ℕ) (columns : List ℕ) (many : ℕ) → columns ≡ range_with_len 0 n → n ≡ many → All (λ p. p < many) columns
+columns_below n columns many is same = subst (λ (ps : List ℕ). All (λ p. p < many) ps) (sym is) (subst (λ (m : ℕ). All (λ p. p < m) (range_with_len 0 n)) same (all_below n))

@@ -70,7 +70,7 @@ length-window b first rows sound within =
 
 -- ---- lanes of a buffer's cells
 
--- what a mask tells, for as many lanes
+-- what a mask marks, for as many lanes
 nulls_are : (n : ℕ) (mask : List Bool) (nulls : Nulls) → n ≡ length mask → nulls_of (length mask) nulls ≡ mask → nulls_of n nulls ≡ mask
 nulls_are n mask nulls long is = ap (λ (k : ℕ). nulls_of k nulls) long ∙ is
 
@@ -80,20 +80,20 @@ mask_fits col_type nullable vs mask taken is isnt =
     let long = ap length is ∙ length-map vs is_null in
     is ∙ none ∙ ap (λ (k : ℕ). replicate k false) (sym long)
 
-module _ (nullable : Bool) (vs : List Value) (mask : List Bool) (nulls : Nulls) (is : mask ≡ map is_null vs) (told : nulls_of (length mask) nulls ≡ mask) where
+module _ (nullable : Bool) (vs : List Value) (mask : List Bool) (nulls : Nulls) (is : mask ≡ map is_null vs) (returned : nulls_of (length mask) nulls ≡ mask) where
   pub ints_long : (ints : List ℤ) → ints ≡ map number vs → length (nulls_of (length ints) nulls) ≡ length ints
   ints_long ints cells =
       let here = ap length cells ∙ length-map vs number in
       let there = ap length is ∙ length-map vs is_null in
       let long : length ints ≡ length mask = omega (arith, here, there) in
-      ap length (nulls_are (length ints) mask nulls long told) ∙ sym long
+      ap length (nulls_are (length ints) mask nulls long returned) ∙ sym long
 
   pub ints_lent : (ints : List ℤ) → list_all (is_taken of_type.Int nullable) vs ≡ true → ints ≡ map number vs → map (lane_value Int) (zip (nulls_of (length ints) nulls) ints) ≡ vs
   ints_lent ints taken cells =
       let here = ap length cells ∙ length-map vs number in
       let there = ap length is ∙ length-map vs is_null in
       let long : length ints ≡ length mask = omega (arith, here, there) in
-      ap (λ (m : List Bool). map (lane_value Int) (zip m ints)) (nulls_are (length ints) mask nulls long told ∙ is)
+      ap (λ (m : List Bool). map (lane_value Int) (zip m ints)) (nulls_are (length ints) mask nulls long returned ∙ is)
       ∙ ap (λ (ns : List ℤ). map (lane_value Int) (zip (map is_null vs) ns)) cells
       ∙ ints_again nullable vs taken
 
@@ -102,13 +102,13 @@ module _ (nullable : Bool) (vs : List Value) (mask : List Bool) (nulls : Nulls) 
       let here = ap length cells ∙ length-map vs bytes in
       let there = ap length is ∙ length-map vs is_null in
       let long : length texts ≡ length mask = omega (arith, here, there) in
-      ap length (nulls_are (length texts) mask nulls long told) ∙ sym long
+      ap length (nulls_are (length texts) mask nulls long returned) ∙ sym long
 
   pub texts_lent : (texts : List (List ℕ)) → list_all (is_taken of_type.Text nullable) vs ≡ true → texts ≡ map bytes vs → map (lane_value Text) (zip (nulls_of (length texts) nulls) texts) ≡ vs
   texts_lent texts taken cells =
       let here = ap length cells ∙ length-map vs bytes in
       let there = ap length is ∙ length-map vs is_null in
       let long : length texts ≡ length mask = omega (arith, here, there) in
-      ap (λ (m : List Bool). map (lane_value Text) (zip m texts)) (nulls_are (length texts) mask nulls long told ∙ is)
+      ap (λ (m : List Bool). map (lane_value Text) (zip m texts)) (nulls_are (length texts) mask nulls long returned ∙ is)
       ∙ ap (λ (ts : List (List ℕ)). map (lane_value Text) (zip (map is_null vs) ts)) cells
       ∙ texts_again nullable vs taken

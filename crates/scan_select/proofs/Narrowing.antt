@@ -74,7 +74,7 @@ narrows_as m m' old new held now same n = record {
   within = n.within;
   origin = elim n.origin [
     | inl e ↦ inl e
-    | inr f ↦ inr (record { place = f.place; fault = f.fault; is_new = f.is_new; is_selected = f.is_selected; is_before = f.is_before; is_meant = sym (same f.place) ∙ f.is_meant })
+    | inr f ↦ inr (record { position = f.position; fault = f.fault; is_new = f.is_new; is_selected = f.is_selected; is_before = f.is_before; is_meant = sym (same f.position) ∙ f.is_meant })
   ];
 }
 
@@ -136,12 +136,12 @@ one_behind m m' old mid new held first now one two = record {
     | inl same ↦ elim one.origin [
       | inl as_before ↦ inl (same ∙ as_before)
       | inr f ↦ inr (record {
-        place = f.place;
+        position = f.position;
         fault = f.fault;
         is_new = same ∙ f.is_new;
         is_selected = f.is_selected;
         is_before = f.is_before;
-        is_meant = ap (λ (o : Outcome). behind o (behind (m' f.place) (gives.Truth True))) f.is_meant;
+        is_meant = ap (λ (o : Outcome). behind o (behind (m' f.position) (gives.Truth True))) f.is_meant;
       })
     ]
     | inr f ↦ inr (second f)
@@ -153,14 +153,14 @@ one_behind m m' old mid new held first now one two = record {
 
     second : Finds m' (λ i. is_among mid i ≡ true) first now → Finds (λ i. behind (m i) (behind (m' i) (gives.Truth True))) (λ i. is_among old i ≡ true) held now
     second f =
-        let parts = and_parts (is_among old f.place) (is_kept (m f.place)) (sym (one.kept f.place f.is_before) ∙ f.is_selected) in
+        let parts = and_parts (is_among old f.position) (is_kept (m f.position)) (sym (one.kept f.position f.is_before) ∙ f.is_selected) in
         record {
-          place = f.place;
+          position = f.position;
           fault = f.fault;
           is_new = f.is_new;
           is_selected = parts.0;
-          is_before = before_old m (λ i. is_among old i ≡ true) held first one.origin f.place f.is_before;
-          is_meant = fault_behind (m f.place) (m' f.place) f.fault parts.1 f.is_meant;
+          is_before = before_old m (λ i. is_among old i ≡ true) held first one.origin f.position f.is_before;
+          is_meant = fault_behind (m f.position) (m' f.position) f.fault parts.1 f.is_meant;
         }
 
 -- no condition at all

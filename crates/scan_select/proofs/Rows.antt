@@ -20,7 +20,7 @@ use Rattle.std.proofs.lemmas.Bool.{and_parts, leb-true}
 use Rattle.fragment_file.specs.Fragment.{AreBlocks, no_block}
 use Rattle.fragment_file.specs.View.{rows_of, IsGroup}
 use Rattle.fragment_file.proofs.RowLaws.{column_of_row, length-values}
-use Rattle.vectors.specs.declared.batch.Place.{Place}
+use Rattle.vectors.specs.declared.batch.ColumnReference.{ColumnReference}
 use Rattle.vectors.specs.declared.batch.BatchColumn.{BatchColumn}
 use Rattle.vectors.specs.Vector.{BatchSpec, AreRowsOf, IsColumnOf, outcomes_of, reference_of}
 use Rattle.fragment_file.specs.Rows.{row_in}
@@ -28,7 +28,7 @@ use Rattle.scan_select.specs.Pieces.{Piece, piece_now, rows_of_piece}
 use Rattle.scan_select.specs.Scanned.{ScanSpec, IsColumnAt, AreColumnsAt, AddsColumns, IsBatchOf, GivesBatch, fact_rows}
 use Rattle.scan_select.specs.declared.scan.ScanBatch.{ScanBatch}
 use Rattle.scan_select.specs.declared.buffers.ColumnBuffer.{ColumnBuffer}
-use Rattle.scan_select.specs.Buffers.{IsPosition, places_of}
+use Rattle.scan_select.specs.Buffers.{IsPosition, columns_of}
 use Rattle.scan_select.specs.Groups.{current_rows}
 
 abbrev outcome_at : List Block → ℕ → ℕ → Outcome
@@ -62,30 +62,30 @@ all_at P [] i d all below = absurd (omega arith)
 all_at P (x ∷ xs) zero d all below = all.0
 all_at P (x ∷ xs) (suc i) d all below = all_at P xs i d all.1 (omega (arith, below))
 
-place_is : (group : List Block) (first rows p : ℕ) (c : BatchColumn) → IsGroup group → p < length group → first + rows ≤ rows_of group → IsColumnAt group first rows p c
+has_rows : (group : List Block) (first rows p : ℕ) (c : BatchColumn) → IsGroup group → p < length group → first + rows ≤ rows_of group → IsColumnAt group first rows p c
     → IsColumnOf (fact_rows (record { group = group; first = first; rows = rows })) c
-place_is group first rows p c sound below within at =
+has_rows group first rows p c sound below within at =
     let block = all_at (λ b. is_block b ≡ true) group p no_block (recursion_from_All (λ b. is_block b ≡ true) group sound.sound) below in
     let equal = all_at (λ b. b.rows ≡ rows_of group) group p no_block (recursion_from_All (λ b. b.rows ≡ rows_of group) group sound.equal) below in
     let values = at.values ∙ column_is group first rows p block below (omega (arith, within, equal)) in
-    subst (λ (q : Place). outcomes_of c.lanes ≡ map (λ row. gives.Value (referenced row (reference_of q))) (fact_rows (record { group = group; first = first; rows = rows }))) (sym at.place) values
+    subst (λ (q : ColumnReference). outcomes_of c.lanes ≡ map (λ row. gives.Value (referenced row (reference_of q))) (fact_rows (record { group = group; first = first; rows = rows }))) (sym at.reference) values
 
-all_places : (group : List Block) (first rows : ℕ) (places : List ℕ) (columns : List BatchColumn) → IsGroup group → AllByRecursion (λ p. p < length group) places → first + rows ≤ rows_of group
-    → AreColumnsAt group first rows places columns → AllByRecursion (IsColumnOf (fact_rows (record { group = group; first = first; rows = rows }))) columns
-all_places group first rows [] [] sound below within are = tt
-all_places group first rows [] (c ∷ cs) sound below within are = absurd are
-all_places group first rows (p ∷ ps) [] sound below within are = absurd are
-all_places group first rows (p ∷ ps) (c ∷ cs) sound below within are =
-    (place_is group first rows p c sound below.0 within are.0, all_places group first rows ps cs sound below.1 within are.1)
+all_have_rows : (group : List Block) (first rows : ℕ) (wanted : List ℕ) (columns : List BatchColumn) → IsGroup group → AllByRecursion (λ p. p < length group) wanted → first + rows ≤ rows_of group
+    → AreColumnsAt group first rows wanted columns → AllByRecursion (IsColumnOf (fact_rows (record { group = group; first = first; rows = rows }))) columns
+all_have_rows group first rows [] [] sound below within are = tt
+all_have_rows group first rows [] (c ∷ cs) sound below within are = absurd are
+all_have_rows group first rows (p ∷ ps) [] sound below within are = absurd are
+all_have_rows group first rows (p ∷ ps) (c ∷ cs) sound below within are =
+    (has_rows group first rows p c sound below.0 within are.0, all_have_rows group first rows ps cs sound below.1 within are.1)
 
--- the columns at places of a row group are those of its rows
-pub batch_has_rows : (group : List Block) (first rows : ℕ) (places : List ℕ) (columns : List BatchColumn) → IsGroup group → All (λ p. p < length group) places → first + rows ≤ rows_of group
-    → AreColumnsAt group first rows places columns → AreRowsOf (record { rows = rows; columns = columns }) (fact_rows (record { group = group; first = first; rows = rows }))
-batch_has_rows group first rows places columns sound below within are = record {
+-- the columns of a row group that are read are those of its rows
+pub batch_has_rows : (group : List Block) (first rows : ℕ) (wanted : List ℕ) (columns : List BatchColumn) → IsGroup group → All (λ p. p < length group) wanted → first + rows ≤ rows_of group
+    → AreColumnsAt group first rows wanted columns → AreRowsOf (record { rows = rows; columns = columns }) (fact_rows (record { group = group; first = first; rows = rows }))
+batch_has_rows group first rows wanted columns sound below within are = record {
   counted = length-map (rows_of_piece (record { group = group; first = first; rows = rows })) (λ row. joined_row row [])
       ∙ length-map (range_with_len first rows) (row_in group) ∙ length-range_with_len first rows;
   columns = All-from_recursion (IsColumnOf (fact_rows (record { group = group; first = first; rows = rows }))) columns
-      (all_places group first rows places columns sound (recursion_from_All (λ p. p < length group) places below) within are);
+      (all_have_rows group first rows wanted columns sound (recursion_from_All (λ p. p < length group) wanted below) within are);
 }
 
 first_part : (b : Block) → is_block b ≡ true → nat_le 1 b.rows ≡ true
@@ -102,17 +102,17 @@ some_rows (c ∷ cs) n (b ∷ bs) are some =
 
 -- the batch of the rows that stand
 pub batch_gives : (scan : ScanSpec) (cs : List Column) (current : Option (List Block)) (most group_rows first rows : ℕ) (buffers : List ColumnBuffer) (b : ScanBatch) (old : BatchSpec) → current ≡ Some b.group
-    → scan.at ≡ piece_now current first rows → scan.places ≡ places_of buffers → IsPosition cs most current group_rows first rows buffers → length b.group ≡ length cs → IsGroup b.group → eqb rows 0 ≡ false
-    → b.first_row ≡ first → old ≡ record { rows = rows; columns = [] } → AddsColumns b.group first (places_of buffers) old b.batch → GivesBatch scan (Some b)
+    → scan.at ≡ piece_now current first rows → scan.columns ≡ columns_of buffers → IsPosition cs most current group_rows first rows buffers → length b.group ≡ length cs → IsGroup b.group → eqb rows 0 ≡ false
+    → b.first_row ≡ first → old ≡ record { rows = rows; columns = [] } → AddsColumns b.group first (columns_of buffers) old b.batch → GivesBatch scan (Some b)
 batch_gives scan cs current most group_rows first rows buffers b old stands at same position count sound some first_is fresh adds =
     let piece : Piece = record { group = b.group; first = first; rows = rows } in
-    let places : List ℕ = places_of buffers in
+    let wanted : List ℕ = columns_of buffers in
     let now : scan.at ≡ Some piece = at ∙ rw (stands, some) refl in
-    let places_within : All (λ p. p < length b.group) places = subst (λ (k : ℕ). All (λ p. p < k) places) (sym count) position.places_within in
+    let columns_within : All (λ p. p < length b.group) wanted = subst (λ (k : ℕ). All (λ p. p < k) wanted) (sym count) position.columns_within in
     let rows_are : group_rows ≡ rows_of b.group = position.group_rows_are ∙ ap current_rows stands in
     let within : first + rows ≤ rows_of b.group = let h = position.within in omega (arith, rows_are, h) in
     let old_rows : old.rows ≡ rows = ap (λ (x : BatchSpec). x.rows) fresh in
-    let are : AreColumnsAt b.group first rows places adds.more = subst (λ (k : ℕ). AreColumnsAt b.group first k places adds.more) old_rows adds.are in
+    let are : AreColumnsAt b.group first rows wanted adds.more = subst (λ (k : ℕ). AreColumnsAt b.group first k wanted adds.more) old_rows adds.are in
     let all : b.batch ≡ record { rows = rows; columns = adds.more } =
     λ i. record { rows = (adds.rows ∙ old_rows) i; columns = (adds.columns ∙ ap (λ (x : BatchSpec). x.columns ++ adds.more) fresh) i } in (
       piece,
@@ -120,7 +120,7 @@ batch_gives scan cs current most group_rows first rows buffers b old stands at s
         stands = now;
         group = refl;
         first_row = first_is;
-        batch = subst (IsBatchOf scan.places piece) (sym all) (subst (λ (ps : List ℕ). IsBatchOf ps piece (record { rows = rows; columns = adds.more })) (sym same)
-            (record { rows = batch_has_rows b.group first rows places adds.more sound places_within within are; columns = are }));
+        batch = subst (IsBatchOf scan.columns piece) (sym all) (subst (λ (ps : List ℕ). IsBatchOf ps piece (record { rows = rows; columns = adds.more })) (sym same)
+            (record { rows = batch_has_rows b.group first rows wanted adds.more sound columns_within within are; columns = are }));
       },
     )

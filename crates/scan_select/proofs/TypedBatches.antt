@@ -11,7 +11,7 @@ use Rattle.meaning.proofs.Tests.{both}
 use Rattle.encodings.specs.Block.{Block, values_of}
 use Rattle.fragment_file.specs.Fragment.{AreBlocks, AreGroups, column_values, no_block}
 use Rattle.fragment_file.proofs.TypedRows.{AreTyped, all_behind, all_both, all_front, row_typed}
-use Rattle.vectors.specs.declared.batch.Place.{Place}
+use Rattle.vectors.specs.declared.batch.ColumnReference.{ColumnReference}
 use Rattle.vectors.specs.declared.batch.BatchColumn.{BatchColumn}
 use Rattle.vectors.specs.Vector.{reference_of}
 use Rattle.vector_operators.specs.Given.{type_of_lanes}
@@ -64,23 +64,23 @@ block_type (c ∷ cs) n (b ∷ bs) zero are below = ap Some (sym are.0.col_type)
 block_type (c ∷ cs) n (b ∷ bs) (suc p) are below = block_type cs n bs p are.1 (omega (arith, below))
 
 module _ (cs : List Column) (n : ℕ) (group : List Block) (first rows : ℕ) (are : AreBlocks cs n group) where
-  place_typed : (p : ℕ) (c : BatchColumn) → p < length cs → IsColumnAt group first rows p c
+  column_typed : (p : ℕ) (c : BatchColumn) → p < length cs → IsColumnAt group first rows p c
       → is_typed_column (record { fact = map (λ c. c.col_type) cs; joins = []; key = []; aggregates = [] }) c ≡ true
-  place_typed p c below at =
+  column_typed p c below at =
       let kind : ColType = (get_or group p no_block).col_type in
-      let there : referenced_type (record { fact = map (λ c. c.col_type) cs; joins = []; key = []; aggregates = [] }) (reference_of c.place) ≡ Some kind
-      = ap (λ (q : Place). referenced_type (record { fact = map (λ c. c.col_type) cs; joins = []; key = []; aggregates = [] }) (reference_of q)) at.place ∙ block_type cs n group p are below in
+      let there : referenced_type (record { fact = map (λ c. c.col_type) cs; joins = []; key = []; aggregates = [] }) (reference_of c.reference) ≡ Some kind
+      = ap (λ (q : ColumnReference). referenced_type (record { fact = map (λ c. c.col_type) cs; joins = []; key = []; aggregates = [] }) (reference_of q)) at.reference ∙ block_type cs n group p are below in
       ap (λ t. is_column_type t (type_of_lanes c.lanes)) there ∙ ap (λ (t : ExprType). is_column_type (Some kind) t) (lanes_type kind c.lanes at.typed) ∙ same_kind kind
 
-  places_typed : (places : List ℕ) (columns : List BatchColumn) → AllByRecursion (λ p. p < length cs) places → AreColumnsAt group first rows places columns
+  columns_typed : (wanted : List ℕ) (columns : List BatchColumn) → AllByRecursion (λ p. p < length cs) wanted → AreColumnsAt group first rows wanted columns
       → AllByRecursion (λ c. is_typed_column (record { fact = map (λ c. c.col_type) cs; joins = []; key = []; aggregates = [] }) c ≡ true) columns
-  places_typed [] [] below at = tt
-  places_typed [] (c ∷ cs) below at = absurd at
-  places_typed (p ∷ ps) [] below at = absurd at
-  places_typed (p ∷ ps) (c ∷ cs) below at = (place_typed p c below.0 at.0, places_typed ps cs below.1 at.1)
+  columns_typed [] [] below at = tt
+  columns_typed [] (c ∷ cs) below at = absurd at
+  columns_typed (p ∷ ps) [] below at = absurd at
+  columns_typed (p ∷ ps) (c ∷ cs) below at = (column_typed p c below.0 at.0, columns_typed ps cs below.1 at.1)
 
 pub batches_are_typed : BatchesAreTyped
-batches_are_typed f n before behind piece places batch is typed parts below of =
+batches_are_typed f n before behind piece wanted batch is typed parts below of =
     let all : AllByRecursion (λ (p : Piece). IsTyped f.header.columns p.group) (pieces n f.groups)
     = pieces_typed f.header.columns n _ f.groups is.groups (λ j c at. recursion_from_All (λ v. is_of_type c.col_type v ≡ true) (column_values j f.groups) (typed j c at)) in
     let here = (all_behind (λ (p : Piece). IsTyped f.header.columns p.group) before (piece ∷ behind) (subst (λ (ps : List Piece). AllByRecursion (λ (p : Piece). IsTyped f.header.columns p.group) ps) parts all)).0 in
@@ -88,5 +88,5 @@ batches_are_typed f n before behind piece places batch is typed parts below of =
       are_rows = of.rows;
       values = All-from_recursion (λ r. fits_row_types (header_types f.header) r ≡ true) (fact_rows piece) (rows_fit f.header.columns here.rows piece.group (range_with_len piece.first piece.rows) here.blocks here.values);
       columns = All-from_recursion (λ c. is_typed_column (header_types f.header) c ≡ true) batch.columns
-          (places_typed f.header.columns here.rows piece.group piece.first piece.rows here.blocks places batch.columns (recursion_from_All (λ p. p < length f.header.columns) places below) of.columns);
+          (columns_typed f.header.columns here.rows piece.group piece.first piece.rows here.blocks wanted batch.columns (recursion_from_All (λ p. p < length f.header.columns) wanted below) of.columns);
     }

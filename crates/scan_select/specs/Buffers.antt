@@ -8,7 +8,7 @@ use Rattle.encodings.specs.Block.{Block, values_of}
 use Rattle.fragment_file.specs.Copying.{is_taken}
 use Rattle.fragment_file.specs.Fragment.{no_block}
 use Rattle.vectors.specs.declared.batch.BatchColumn.{BatchColumn}
-use Rattle.vectors.specs.declared.batch.Place.TheVariants as place
+use Rattle.vectors.specs.declared.batch.ColumnReference.TheVariants as reference
 use Rattle.vectors.specs.Vector.{BatchSpec, outcomes_of, HasLanesOf}
 use Rattle.scan_select.specs.declared.buffers.ColumnBuffer.{ColumnBuffer}
 use Rattle.scan_select.specs.Groups.{current_rows}
@@ -17,29 +17,29 @@ use Rattle.scan_select.specs.Scanned.{IsVectorLength}
 -- a buffer of one of these columns, with room for so many values
 pub record IsBufferOf (columns : List Column) (most : ℕ) (b : ColumnBuffer) : Type 0 where
   pub column : Column
-  pub there : slice_get columns b.place ≡ Some column
+  pub there : slice_get columns b.column ≡ Some column
   pub col_type : b.values.col_type ≡ column.col_type
   pub nullable : b.nullable ≡ column.nullable
   pub room : b.values.room ≡ most
 
--- the places of the columns
-abbrev pub places_of : List ColumnBuffer → List ℕ
-places_of buffers = map (λ b. b.place) buffers
+-- the columns that are read, by their numbers in the header
+abbrev pub columns_of : List ColumnBuffer → List ℕ
+columns_of buffers = map (λ b. b.column) buffers
 
 -- ---- filling
 
 -- the buffer's column stands in the row group, and is of its type
 pub record FitsGroup (group : List Block) (b : ColumnBuffer) : Type 0 where
-  pub there : b.place < length group
-  pub col_type : b.values.col_type ≡ (get_or group b.place no_block).col_type
+  pub there : b.column < length group
+  pub col_type : b.values.col_type ≡ (get_or group b.column no_block).col_type
 
 -- the column's values from a row on, as many as there is room for
 abbrev pub window_of : List Block → ℕ → ColumnBuffer → List Value
-window_of group first b = take b.values.room (drop first (values_of (get_or group b.place no_block)))
+window_of group first b = take b.values.room (drop first (values_of (get_or group b.column no_block)))
 
 -- the buffer filled with them
 abbrev pub filled : List Block → ℕ → ColumnBuffer → ColumnBuffer
-filled group first b = record { place = b.place; nullable = b.nullable; values = record { room = b.values.room; col_type = b.values.col_type; values = window_of group first b } }
+filled group first b = record { column = b.column; nullable = b.nullable; values = record { room = b.values.room; col_type = b.values.col_type; values = window_of group first b } }
 
 -- buffers filled from the row group that stands, if one does
 abbrev pub filled_now : Option (List Block) → ℕ → List ColumnBuffer → List ColumnBuffer
@@ -51,7 +51,7 @@ IsFilled group first b = b.values.values ≡ window_of group first b
 
 -- where a scan stands in a row group: its rows are as many as a vector may have, or as are left, and the buffers hold them
 pub record IsPosition (columns : List Column) (most : ℕ) (current : Option (List Block)) (group_rows first rows : ℕ) (buffers : List ColumnBuffer) : Type 0 where
-  pub places_within : All (λ p. p < length columns) (places_of buffers)
+  pub columns_within : All (λ p. p < length columns) (columns_of buffers)
   pub vectors : IsVectorLength most
   pub group_rows_are : group_rows ≡ current_rows current
   pub within : first + rows ≤ group_rows
@@ -68,7 +68,7 @@ pub record IsLendable (rows : ℕ) (b : ColumnBuffer) : Type 0 where
 
 -- the column of a batch that the buffer's values are
 pub record IsLentOf (b : ColumnBuffer) (column : BatchColumn) : Type 0 where
-  pub place : column.place ≡ place.Fact b.place
+  pub reference : column.reference ≡ reference.Fact b.column
   pub values : outcomes_of column.lanes ≡ map gives.Value b.values.values
   pub typed : HasLanesOf b.values.col_type column.lanes
 

@@ -9,7 +9,7 @@ pub record FileGroupsSpec : Type 0 where
   pub coming : List (List Block)
   pub current : Option (List Block)
 
--- the place of the row group that came last is one of the file's
+-- the index of the row group that came last is one of the file's
 abbrev pub IsAt : List (List Block) → Option ℕ → Type 0
 IsAt groups None = Unit {0}
 IsAt groups (Some k) = k < length groups

@@ -26,8 +26,8 @@ ConditionsJudge = (cs : List Expr) (row : JoinedRow) → filtered cs row ≡ fil
 abbrev pub header_types : Header → RowTypes
 header_types h = record { fact = map (λ c. c.col_type) h.columns; joins = []; key = []; aggregates = [] }
 
--- in a batch of a file whose columns have values of their types, columns and rows are of the types that the header tells
+-- in a batch of a file whose columns have values of their types, columns and rows are of the types that the header declares
 abbrev pub BatchesAreTyped : Type 0
-BatchesAreTyped = (f : FragmentSpec) (n : ℕ) (before behind : List Piece) (piece : Piece) (places : List ℕ) (batch : BatchSpec)
-    → IsFragment f → AreTypedColumns f → pieces n f.groups ≡ before ++ piece ∷ behind → All (λ p. p < length f.header.columns) places
-    → IsBatchOf places piece batch → AreTypedRows (header_types f.header) batch (fact_rows piece)
+BatchesAreTyped = (f : FragmentSpec) (n : ℕ) (before behind : List Piece) (piece : Piece) (wanted : List ℕ) (batch : BatchSpec)
+    → IsFragment f → AreTypedColumns f → pieces n f.groups ≡ before ++ piece ∷ behind → All (λ p. p < length f.header.columns) wanted
+    → IsBatchOf wanted piece batch → AreTypedRows (header_types f.header) batch (fact_rows piece)

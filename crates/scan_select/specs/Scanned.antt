@@ -8,7 +8,7 @@ use Rattle.meaning.specs.Limits.{max_vector_rows}
 use Rattle.encodings.specs.Block.{Block, values_of}
 use Rattle.fragment_file.specs.declared.header.Header.{Header}
 use Rattle.fragment_file.specs.Fragment.{no_block}
-use Rattle.vectors.specs.declared.batch.Place.TheVariants as place
+use Rattle.vectors.specs.declared.batch.ColumnReference.TheVariants as reference
 use Rattle.vectors.specs.declared.batch.BatchColumn.{BatchColumn}
 use Rattle.vectors.specs.Vector.{BatchSpec, AreRowsOf, outcomes_of, HasLanesOf}
 use Rattle.scan_select.specs.declared.fault.ScanFault.{ScanFault}
@@ -21,11 +21,11 @@ abbrev pub number_of : ScanFault → ℕ
 number_of Memory = 0
 number_of VectorLength = 1
 
--- a scan: the file's header, the columns that it reads by their places in it, the rows that stand now, and those that
+-- a scan: the file's header, the numbers in it of the columns that it reads, the rows that stand now, and those that
 -- are still to come, where that is known
 pub record ScanSpec : Type 0 where
   pub header : Header
-  pub places : List ℕ
+  pub columns : List ℕ
   pub most : ℕ
   pub at : Option Piece
   pub left : Option (List Piece)
@@ -46,9 +46,9 @@ IsStanding true at = (piece : Piece) × (at ≡ Some piece)
 IsStanding false at = at ≡ None
 
 -- before the first row
-pub record IsFresh (scan : ScanSpec) (header : Header) (places : List ℕ) (most : ℕ) (coming : Option (List (List Block))) : Type 0 where
+pub record IsFresh (scan : ScanSpec) (header : Header) (wanted : List ℕ) (most : ℕ) (coming : Option (List (List Block))) : Type 0 where
   pub length : IsVectorLength most
-  pub fresh : scan ≡ record { header = header; places = places; most = most; at = None; left = option_map (pieces most) coming }
+  pub fresh : scan ≡ record { header = header; columns = wanted; most = most; at = None; left = option_map (pieces most) coming }
 
 -- ---- lanes
 
@@ -60,35 +60,35 @@ IsMask nullable mask = nullable ≡ false → mask ≡ replicate (length mask) f
 
 -- a column of a row group: so many of its values from the first on
 pub record IsColumnAt (group : List Block) (first rows : ℕ) (p : ℕ) (column : BatchColumn) : Type 0 where
-  pub place : column.place ≡ place.Fact p
+  pub reference : column.reference ≡ reference.Fact p
   pub values : outcomes_of column.lanes ≡ map gives.Value (take rows (drop first (values_of (get_or group p no_block))))
   pub typed : HasLanesOf (get_or group p no_block).col_type column.lanes
 
 abbrev pub AreColumnsAt : List Block → ℕ → ℕ → List ℕ → List BatchColumn → Type 0
-AreColumnsAt group first rows places columns = AllZip (IsColumnAt group first rows) places columns
+AreColumnsAt group first rows wanted columns = AllZip (IsColumnAt group first rows) wanted columns
 
 -- the columns stand behind those that were there
-pub record AddsColumns (group : List Block) (first : ℕ) (places : List ℕ) (old new : BatchSpec) : Type 0 where
+pub record AddsColumns (group : List Block) (first : ℕ) (wanted : List ℕ) (old new : BatchSpec) : Type 0 where
   pub rows : new.rows ≡ old.rows
   pub more : List BatchColumn
   pub columns : new.columns ≡ old.columns ++ more
-  pub are : AreColumnsAt group first old.rows places more
+  pub are : AreColumnsAt group first old.rows wanted more
 
 -- rows of the fact table alone, as expressions read them
 abbrev pub fact_rows : Piece → List JoinedRow
 fact_rows piece = map (λ row. joined_row row []) (rows_of_piece piece)
 
--- a batch of the columns at these places: it has the columns of these rows
-pub record IsBatchOf (places : List ℕ) (piece : Piece) (batch : BatchSpec) : Type 0 where
+-- a batch of the columns that are wanted: it has the columns of these rows
+pub record IsBatchOf (wanted : List ℕ) (piece : Piece) (batch : BatchSpec) : Type 0 where
   pub rows : AreRowsOf batch (fact_rows piece)
-  pub columns : AreColumnsAt piece.group piece.first piece.rows places batch.columns
+  pub columns : AreColumnsAt piece.group piece.first piece.rows wanted batch.columns
 
 -- the batch of the rows that stand now
 pub record IsScanBatch (scan : ScanSpec) (piece : Piece) (b : ScanBatch) : Type 0 where
   pub stands : scan.at ≡ Some piece
   pub group : b.group ≡ piece.group
   pub first_row : b.first_row ≡ piece.first
-  pub batch : IsBatchOf scan.places piece b.batch
+  pub batch : IsBatchOf scan.columns piece b.batch
 
 abbrev pub GivesBatch : ScanSpec → Option ScanBatch → Type 0
 GivesBatch scan None = scan.at ≡ None

@@ -1,26 +1,24 @@
 //! The columns that a scan reads, each with room for a vector of its values.
 ghost use Rattle.std.specs.Prelude.{◌≡◌, ◌<◌, ℕ, List, length, map, All, OnOk, IfOk};
 ghost use Rattle.meaning.specs.declared.outcome.Outcome.TheVariants as gives;
-ghost use Rattle.scan_select.specs.Buffers.{AddsLent, FitsGroup, IsBufferOf, IsLendable, IsLentOf, filled, places_of};
+ghost use Rattle.scan_select.specs.Buffers.{AddsLent, FitsGroup, IsBufferOf, IsLendable, IsLentOf, filled, columns_of};
 ghost use Rattle.scan_select.specs.Scanned.{IsMask};
 ghost use Rattle.vectors.specs.Lanes.{nulls_of};
 ghost use Rattle.vectors.specs.Vector.{outcomes_of, HasLanesOf};
 
-use encodings::vector_buf::VectorBuf;
-use fragment_file::view::GroupView;
-use meaning::catalog::Column;
+use encodings::VectorBuf;
+use fragment_file::GroupView;
+use meaning::Column;
 use std::alloc::{AllocError, Global};
-use vectors::batch::{Batch, BatchColumn, Place};
-use vectors::ints::{IntCells, Ints};
-use vectors::nulls::Nulls;
-use vectors::texts::{TextCells, Texts};
-use vectors::vector::Vector;
+use vectors::{
+    Batch, BatchColumn, ColumnReference, IntCells, Ints, Nulls, TextCells, Texts, Vector,
+};
 
 /// A column that a scan reads, and room for a vector of its values.
 #[derive(Drop)]
 pub struct ColumnBuffer<'v> {
-    // The column's place in the header.
-    pub(crate) place: usize,
+    // The column's number in the header.
+    pub(crate) column: usize,
     pub(crate) nullable: bool,
     pub(crate) values: VectorBuf<'v>,
 }
@@ -37,22 +35,22 @@ fn lent_nulls(nullable: bool, mask: &[bool]) -> Nulls<'_>
 }
 
 impl<'v> ColumnBuffer<'v> {
-    /// Room for `most` values of the column at a place.
+    /// Room for `most` values of a column of the header.
     fn new(
         alloc: Global,
         columns: &[Column],
-        place: usize,
+        column: usize,
         most: usize,
     ) -> Result<ColumnBuffer<'v>, AllocError>
-        requires { place < length columns.now }
-        ensures place { IfOk result (λ b. b.place ≡ place) }
+        requires { column < length columns.now }
+        ensures column { IfOk result (λ b. b.column ≡ column) }
         ensures buffer { IfOk result (λ b. IsBufferOf columns.now most b) }
     {
-        let column = &columns[place];
-        let values = VectorBuf::new(alloc, column.col_type, most)?;
+        let declared = &columns[column];
+        let values = VectorBuf::new(alloc, declared.col_type, most)?;
         Ok(ColumnBuffer {
-            place,
-            nullable: column.nullable,
+            column,
+            nullable: declared.nullable,
             values,
         })
     }
@@ -63,7 +61,7 @@ impl<'v> ColumnBuffer<'v> {
         requires { FitsGroup group.now self.old }
         ensures { self.new ≡ filled group.now first self.old }
     {
-        let block = group.column(self.place);
+        let block = group.column(self.column);
         block.read_into(first, &mut self.values);
     }
 
@@ -84,20 +82,21 @@ impl<'v> ColumnBuffer<'v> {
     }
 }
 
-/// Room for vectors of `most` values of the columns at these places.
+/// Room for vectors of `most` values of the columns that are wanted, by their numbers in the
+/// header.
 pub fn make_buffers<'v>(
     alloc: Global,
     columns: &[Column],
-    places: &[usize],
+    wanted: &[usize],
     most: usize,
 ) -> Result<Vec<ColumnBuffer<'v>>, AllocError>
-    requires { All (λ p. p < length columns.now) places.now }
-    ensures places { IfOk result (λ buffers. places_of buffers.items ≡ places.now) }
+    requires { All (λ p. p < length columns.now) wanted.now }
+    ensures columns { IfOk result (λ buffers. columns_of buffers.items ≡ wanted.now) }
     ensures buffers { IfOk result (λ buffers. All (IsBufferOf columns.now most) buffers.items) }
 {
     let mut buffers = Vec::new(alloc);
-    for place in places {
-        buffers.push(ColumnBuffer::new(alloc, columns, *place, most)?)?;
+    for column in wanted {
+        buffers.push(ColumnBuffer::new(alloc, columns, *column, most)?)?;
     }
     Ok(buffers)
 }
@@ -121,11 +120,11 @@ pub fn lend_all<'s>(
     ensures { OnOk result (AddsLent buffers.now batch.old batch.new) }
 {
     for buffer in buffers {
-        let place = Place::Fact {
-            column: buffer.place,
+        let reference = ColumnReference::Fact {
+            column: buffer.column,
         };
         let lanes = buffer.lanes();
-        batch.push(BatchColumn { place, lanes })?;
+        batch.push(BatchColumn { reference, lanes })?;
     }
     Ok(())
 }

@@ -3,8 +3,7 @@ ghost use Rattle.std.specs.Prelude.{◌≡◌, None, Some};
 ghost use Rattle.scan_select.specs.FileGroups.{FileGroupsSpec};
 
 use crate::row_groups::RowGroups;
-use fragment_file::header::Header;
-use fragment_file::view::{FragmentView, GroupView};
+use fragment_file::{FragmentView, GroupView, Header};
 use std::convert::Infallible;
 use std::marker::Model;
 
@@ -12,7 +11,7 @@ use std::marker::Model;
 #[derive(Drop)]
 pub struct FileGroups<'v> {
     view: &'v FragmentView<'v>,
-    // The place of the row group that came last.
+    // The index of the row group that came last.
     at: Option<usize>,
     // How many row groups came.
     next: usize,
@@ -77,9 +76,9 @@ impl<'v> RowGroups for FileGroups<'v> {
     where
         Self: 'g,
     {
-        let place = self.at?;
+        let index = self.at?;
         // That the file has a column, so that a row group has a row.
         let _header = self.view.header();
-        Some(self.view.group(place))
+        Some(self.view.group(index))
     }
 }

@@ -3,14 +3,15 @@
 
 mod buffers;
 mod fault;
-pub mod file_groups;
-pub mod laws;
-pub mod row_groups;
-pub mod scan;
-pub mod selecting;
+mod file_groups;
+mod laws;
+mod row_groups;
+mod scan;
+mod selecting;
 
 pub use fault::ScanFault;
 pub use file_groups::FileGroups;
+pub use laws::{batches_are_rows, batches_are_typed, conditions_judge};
 pub use row_groups::RowGroups;
 pub use scan::{Scan, ScanBatch};
 pub use selecting::select;

@@ -6,10 +6,9 @@ ghost use Rattle.fragment_file.specs.Fragment.{AreBlocks};
 ghost use Rattle.fragment_file.specs.View.{rows_of};
 ghost use Rattle.scan_select.specs.Groups.{GroupsGoOn};
 
-use fragment_file::header::Header;
-use fragment_file::view::GroupView;
+use fragment_file::{GroupView, Header};
 
-/// The row groups of a file, from the first to the last. Their bytes stand for `'v`.
+/// The row groups of a file, from the first to the last. Their bytes live for `'v`.
 pub trait RowGroups {
     /// Why the next row group can't be had.
     type Fault: Drop;
@@ -31,7 +30,7 @@ pub trait RowGroups {
     /// Goes on to the next row group, and says whether there is one.
     fn next_group(&mut self) -> Result<bool, Self::Fault>
         ensures same { header_of self.new ≡ header_of self.old }
-        ensures told { IfOk result
+        ensures returned { IfOk result
             (λ more. GroupsGoOn more (coming self.old) (coming self.new) (current self.new)) }
         ensures refused { OnErr result (current self.new ≡ None) };
 

@@ -11,11 +11,11 @@ use crate::buffers::{ColumnBuffer, fill_all, lend_all, make_buffers};
 use crate::fault::ScanFault;
 use crate::file_groups::FileGroups;
 use crate::row_groups::RowGroups;
-use fragment_file::view::{FragmentView, GroupView};
-use meaning::limits::MAX_VECTOR_ROWS;
+use fragment_file::{FragmentView, GroupView};
+use meaning::MAX_VECTOR_ROWS;
 use std::alloc::{AllocError, Global};
 use std::marker::Model;
-use vectors::batch::Batch;
+use vectors::Batch;
 
 /// Some rows of one row group, as vectors.
 #[derive(Drop)]
@@ -46,7 +46,7 @@ pub struct Scan<'v, G: RowGroups + Drop + 'v> {
 
 impl<'v, G: RowGroups + Drop + 'v> Model for Scan<'v, G> {
     ghost use Rattle.std.specs.Prelude.{◌+◌};
-    ghost use Rattle.scan_select.specs.Buffers.{IsPosition, places_of};
+    ghost use Rattle.scan_select.specs.Buffers.{IsPosition, columns_of};
     ghost use Rattle.scan_select.specs.Pieces.{piece_now, pieces_left};
     ghost use Rattle.scan_select.specs.Scanned.{ScanSpec};
 
@@ -54,7 +54,7 @@ impl<'v, G: RowGroups + Drop + 'v> Model for Scan<'v, G> {
 
     ghost view = { λ s. record {
       header = G.header_of s.groups;
-      places = places_of s.buffers.items;
+      columns = columns_of s.buffers.items;
       most = s.most;
       at = piece_now (G.current s.groups) s.first s.rows;
       left = pieces_left s.most (G.current s.groups) (s.first + s.rows) (G.coming s.groups);
@@ -64,15 +64,15 @@ impl<'v, G: RowGroups + Drop + 'v> Model for Scan<'v, G> {
         s.group_rows s.first s.rows s.buffers.items };
 }
 
-/// The places below a number.
-fn all_places(alloc: Global, n: usize) -> Result<Vec<usize>, AllocError>
-    ensures { IfOk result (λ places. places.items ≡ range_with_len 0 n) }
+/// The numbers of the first `n` columns.
+fn all_columns(alloc: Global, n: usize) -> Result<Vec<usize>, AllocError>
+    ensures { IfOk result (λ columns. columns.items ≡ range_with_len 0 n) }
 {
-    let mut places = Vec::new(alloc);
-    for place in 0..n {
-        places.push(place)?;
+    let mut columns = Vec::new(alloc);
+    for column in 0..n {
+        columns.push(column)?;
     }
-    Ok(places)
+    Ok(columns)
 }
 
 /// How many rows the row group has that came last.
@@ -98,8 +98,8 @@ fn fill_now<'v, G: RowGroups + 'v>(groups: &G, buffers: &mut Vec<ColumnBuffer<'v
 }
 
 impl<'v, G: RowGroups + Drop + 'v> Scan<'v, G> {
-    /// Before the first of the row groups, none of which has come yet. Reads the columns at these
-    /// places in the header, in vectors of at most so many rows.
+    /// Before the first of the row groups, none of which has come yet. Reads the columns of these
+    /// numbers in the header, in vectors of at most so many rows.
     ///
     /// # Errors
     ///
@@ -108,19 +108,19 @@ impl<'v, G: RowGroups + Drop + 'v> Scan<'v, G> {
         alloc: Global,
         groups: G,
         most: usize,
-        places: &[usize],
+        wanted: &[usize],
     ) -> Result<Scan<'v, G>, ScanFault>
-        requires places { All (λ p. p < length (G.header_of groups).columns) places.now }
+        requires wanted { All (λ p. p < length (G.header_of groups).columns) wanted.now }
         requires before { G.current groups ≡ None }
         ensures ok { IfOk result
-            (λ scan. IsFresh scan (G.header_of groups) places.now most (G.coming groups)) }
+            (λ scan. IsFresh scan (G.header_of groups) wanted.now most (G.coming groups)) }
         ensures err { IfErr result (λ f. f ≡ VectorLength → IsVectorLength most → ⊥) }
     {
         if most < 1 || MAX_VECTOR_ROWS < most {
             return Err(ScanFault::VectorLength);
         }
         let columns = groups.header().columns.as_slice();
-        let buffers = make_buffers(alloc, columns, places, most)?;
+        let buffers = make_buffers(alloc, columns, wanted, most)?;
         Ok(Scan {
             groups,
             buffers,
@@ -138,9 +138,9 @@ impl<'v, G: RowGroups + Drop + 'v> Scan<'v, G> {
     /// Why the next row group can't be had; no vector stands then.
     pub fn advance(&mut self) -> Result<bool, G::Fault>
         ensures header { self.new.header ≡ self.old.header }
-        ensures places { self.new.places ≡ self.old.places }
+        ensures columns { self.new.columns ≡ self.old.columns }
         ensures most { self.new.most ≡ self.old.most }
-        ensures told { IfOk result (λ more. (left : List Piece) → self.old.left ≡ Some left
+        ensures returned { IfOk result (λ more. (left : List Piece) → self.old.left ≡ Some left
             → Advances more left self.new.at self.new.left) }
         ensures stands { IfOk result (λ more. IsStanding more self.new.at) }
         ensures refused { OnErr result (self.new.at ≡ None) }
@@ -187,8 +187,8 @@ impl<'v, G: RowGroups + Drop + 'v> Scan<'v, G> {
 }
 
 impl<'v> Scan<'v, FileGroups<'v>> {
-    /// Before the first row of an opened file. Reads the columns at these places in its header, in
-    /// vectors of at most so many rows.
+    /// Before the first row of an opened file. Reads the columns of these numbers in its header,
+    /// in vectors of at most so many rows.
     ///
     /// # Errors
     ///
@@ -197,14 +197,14 @@ impl<'v> Scan<'v, FileGroups<'v>> {
         alloc: Global,
         view: &'v FragmentView<'v>,
         most: usize,
-        places: &[usize],
+        wanted: &[usize],
     ) -> Result<Scan<'v, FileGroups<'v>>, ScanFault>
-        requires { All (λ p. p < length view.now.header.columns) places.now }
+        requires { All (λ p. p < length view.now.header.columns) wanted.now }
         ensures ok { IfOk result
-            (λ scan. IsFresh scan view.now.header places.now most (Some view.now.groups)) }
+            (λ scan. IsFresh scan view.now.header wanted.now most (Some view.now.groups)) }
         ensures err { IfErr result (λ f. f ≡ VectorLength → IsVectorLength most → ⊥) }
     {
-        Scan::over(alloc, FileGroups::new(view), most, places)
+        Scan::over(alloc, FileGroups::new(view), most, wanted)
     }
 
     /// The same, of all columns.
@@ -222,7 +222,7 @@ impl<'v> Scan<'v, FileGroups<'v>> {
             (range_with_len 0 (length view.now.header.columns)) most (Some view.now.groups)) }
         ensures err { IfErr result (λ f. f ≡ VectorLength → IsVectorLength most → ⊥) }
     {
-        let places = all_places(alloc, view.header().columns.len())?;
-        Scan::of_columns(alloc, view, most, places.as_slice())
+        let columns = all_columns(alloc, view.header().columns.len())?;
+        Scan::of_columns(alloc, view, most, columns.as_slice())
     }
 }

@@ -16,7 +16,7 @@ pub length_terms : (ls : List Lexeme) → length (terms ls) ≡ length ls
 length_terms ls = length-map ls (λ (l : Lexeme). terminal_of l.token)
 
 -- what stops a part stops the whole
-pub stops_both : {A B : Type 0} (told : Stop) (part : Option A) (all : Option B) → Stops told part → (part ≡ None → all ≡ None) → Stops told all
+pub stops_both : {A B : Type 0} (returned : Stop) (part : Option A) (all : Option B) → Stops returned part → (part ≡ None → all ≡ None) → Stops returned all
 stops_both stop.Memory part all s f = tt
 stops_both stop.TooDeep part all s f = f s
 stops_both (stop.At left) part all s f = f s

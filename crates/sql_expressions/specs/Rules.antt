@@ -51,7 +51,7 @@ Stops (stop.At left) read = read ≡ None
 -- What a call returned, seen by view, is what reading gives, unless memory ran out.
 abbrev pub Gives : {X Y : Type 0} → (X → Y) → Result X Stop → Option Y → Type 0
 Gives view (Ok x) read = read ≡ Some (view x)
-Gives view (Err told) read = Stops told read
+Gives view (Err reason) read = Stops reason read
 
 -- one step, and then the next with what it gave
 infixl 10 ◌>>=◌

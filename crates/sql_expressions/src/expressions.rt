@@ -17,12 +17,8 @@ use crate::taking::{
     aggregate_of, begins_test, if_comparison, if_integer, if_keyword, if_operator, if_sign, name,
     past_keyword, past_sign, stop_at, text,
 };
-use meaning::sequence::Sequence;
-use meaning::text::Text;
-use sql_syntax::keyword::Keyword;
-use sql_syntax::strength::Level;
-use sql_syntax::token::{Lexeme, Sign, Token};
-use sql_syntax::tree::{Aggregate, Arm, Expr};
+use meaning::{Sequence, Text};
+use sql_syntax::{Aggregate, Arm, Expr, Keyword, Level, Lexeme, Sign, Token};
 use std::alloc::Global;
 use std::mem::drop;
 

@@ -5,11 +5,8 @@ ghost use Rattle.sql_syntax.specs.declared.tree.Expr.TheVariants as expr;
 ghost use Rattle.std.specs.Prelude.{◌≡◌, IfOk, max};
 
 use crate::stop::Stop;
-use meaning::boxed::Boxed;
-use meaning::sequence::Sequence;
-use meaning::text::Text;
-use sql_syntax::strength::Operator;
-use sql_syntax::tree::{Aggregate, Arm, Comparison, Expr};
+use meaning::{Boxed, Sequence, Text};
+use sql_syntax::{Aggregate, Arm, Comparison, Expr, Operator};
 use std::alloc::{AllocError, Global};
 use std::mem::drop;
 

@@ -6,12 +6,11 @@ ghost use Rattle.sql_syntax.specs.Words.{lower};
 ghost use Rattle.std.specs.Prelude.{IfOk, IfSome, length, option_map, ◌<◌, ◌≡◌};
 
 use crate::stop::Stop;
-use meaning::text::Text;
-use sql_syntax::keyword::Keyword;
-use sql_syntax::quoting::push_undoubled;
-use sql_syntax::strength::{Level, Operator};
-use sql_syntax::token::{Lexeme, Sign, Token};
-use sql_syntax::tree::{Aggregate, Arithmetic, Comparison};
+use meaning::Text;
+use sql_syntax::{
+    Aggregate, Arithmetic, Comparison, Keyword, Level, Lexeme, Operator, Sign, Token,
+    push_undoubled,
+};
 use std::alloc::{AllocError, Global};
 
 /// A token isn't expected at the front, or the end isn't.

@@ -1,4 +1,4 @@
--- What is read of a text is its tree, and what is told stands in it.
+-- What is read of a text is its tree, and the refusal that is returned stands in it.
 use Rattle.std.proofs.Common.{◌≡◌, ℕ, zero, suc, ◌<◌, ◌≤◌, Bool, true, false, cond, List, [], ◌∷◌, ◌++◌, length, get_or, Option, Some, None, Result, Ok, Err, IsUtf8, refl, sym, ap, ◌∙◌, subst, arith, inr}
 use Rattle.std.specs.Prelude.{nat_le, IfOk, IfErr}
 use Rattle.std.proofs.lemmas.List.{append-nil}
@@ -7,7 +7,7 @@ use Rattle.meaning.specs.Limits.{max_query_bytes}
 use Rattle.sql_syntax.specs.declared.token.Lexeme.{Lexeme}
 use Rattle.sql_syntax.specs.declared.tree.Query.{Query}
 use Rattle.sql_syntax.specs.Tokens as terminal
-use Rattle.sql_syntax.specs.Tokens.{Terminal, Placed, placed, all_placed, terminals, terminal_of, tokens_of}
+use Rattle.sql_syntax.specs.Tokens.{Terminal, Located, located, all_located, terminals, terminal_of, tokens_of}
 use Rattle.sql_syntax.specs.Queries.{open_in_query}
 use Rattle.sql_syntax.specs.Canonical.{canonical}
 use Rattle.sql_reader.specs.declared.fault.SqlFault.{SqlFault}
@@ -17,48 +17,48 @@ use Rattle.sql_expressions.specs.declared.stop.Stop.TheVariants as stop
 use Rattle.sql_expressions.specs.Rules.{terms, Stops}
 use Rattle.sql_reader.specs.Rules.{query_at, within}
 use Rattle.sql_reader.specs.Grammar.{IsTree, IsShallow, IsWithin, GivesQuery, refusal, refusal_at, StandsIn, HasNone, IsRefusal}
-use Rattle.sql_reader.specs.Refusing.{Tells, IsTold, IsKept, Refuses, no_memory, no_query, too_long, IsAnswer}
+use Rattle.sql_reader.specs.Refusing.{Reports, IsReturned, IsKept, Refuses, no_memory, no_query, too_long, IsAnswer}
 use Rattle.sql_reader.proofs.CompleteQuery.{complete_query, unique_query}
 use Rattle.sql_reader.proofs.SoundQuery.{query_sound}
 
--- ---- tokens with their places
+-- ---- tokens with their offsets
 
 -- a token at an index stands between those before it and those behind it
-pub placed_split : (ls : List Lexeme) (i : ℕ) (d : Lexeme) → i < length ls → (front : List Placed) × (rest : List Placed) × (all_placed ls ≡ front ++ placed (get_or ls i d) ∷ rest)
-placed_split [] i d h = absurd (omega arith)
-placed_split (l ∷ ls) zero d h = ([], all_placed ls, refl)
-placed_split (l ∷ ls) (suc i) d h = let s = placed_split ls i d (omega arith) in (placed l ∷ s.0, s.1, ap (λ (ps : List Placed). placed l ∷ ps) s.2)
+pub located_split : (ls : List Lexeme) (i : ℕ) (d : Lexeme) → i < length ls → (front : List Located) × (rest : List Located) × (all_located ls ≡ front ++ located (get_or ls i d) ∷ rest)
+located_split [] i d h = absurd (omega arith)
+located_split (l ∷ ls) zero d h = ([], all_located ls, refl)
+located_split (l ∷ ls) (suc i) d h = let s = located_split ls i d (omega arith) in (located l ∷ s.0, s.1, ap (λ (ps : List Located). located l ∷ ps) s.2)
 
-told_of : (end : ℕ) (ps front rest : List Placed) (p : Placed) (told : SqlFault) → ps ≡ front ++ p ∷ rest → Tells told (refusal p.terminal p.place) → IsTold end ps told
-told_of end ps front rest p fault.Memory parts e = tt
-told_of end ps front rest p fault.TooDeep parts e = tt
-told_of end ps front rest p fault.NotUtf8 parts e = record { front = front; rest = p ∷ rest; parts = parts; tells = e }
-told_of end ps front rest p fault.TooLong parts e = record { front = front; rest = p ∷ rest; parts = parts; tells = e }
-told_of end ps front rest p (fault.UnknownCharacter at) parts e = record { front = front; rest = p ∷ rest; parts = parts; tells = e }
-told_of end ps front rest p (fault.TextNotClosed at) parts e = record { front = front; rest = p ∷ rest; parts = parts; tells = e }
-told_of end ps front rest p (fault.IntegerOutOfRange at) parts e = record { front = front; rest = p ∷ rest; parts = parts; tells = e }
-told_of end ps front rest p (fault.UnexpectedToken at) parts e = record { front = front; rest = p ∷ rest; parts = parts; tells = e }
-told_of end ps front rest p (fault.LeftOut at w) parts e = record { front = front; rest = p ∷ rest; parts = parts; tells = e }
+returned_of : (end : ℕ) (ps front rest : List Located) (p : Located) (returned : SqlFault) → ps ≡ front ++ p ∷ rest → Reports returned (refusal p.terminal p.offset) → IsReturned end ps returned
+returned_of end ps front rest p fault.Memory parts e = tt
+returned_of end ps front rest p fault.TooDeep parts e = tt
+returned_of end ps front rest p fault.NotUtf8 parts e = record { front = front; rest = p ∷ rest; parts = parts; reports = e }
+returned_of end ps front rest p fault.TooLong parts e = record { front = front; rest = p ∷ rest; parts = parts; reports = e }
+returned_of end ps front rest p (fault.UnknownCharacter at) parts e = record { front = front; rest = p ∷ rest; parts = parts; reports = e }
+returned_of end ps front rest p (fault.TextNotClosed at) parts e = record { front = front; rest = p ∷ rest; parts = parts; reports = e }
+returned_of end ps front rest p (fault.IntegerOutOfRange at) parts e = record { front = front; rest = p ∷ rest; parts = parts; reports = e }
+returned_of end ps front rest p (fault.UnexpectedToken at) parts e = record { front = front; rest = p ∷ rest; parts = parts; reports = e }
+returned_of end ps front rest p (fault.LeftOut at w) parts e = record { front = front; rest = p ∷ rest; parts = parts; reports = e }
 
-pub told_at : (end i : ℕ) (ls : List Lexeme) (d l : Lexeme) (told : SqlFault) → i < length ls → l ≡ get_or ls i d → Tells told (refusal (terminal_of l.token) l.place) → IsTold end (all_placed ls) told
-told_at end i ls d l told h is e =
-    let s = placed_split ls i d h in
-    let parts : all_placed ls ≡ s.0 ++ placed l ∷ s.1 = s.2 ∙ ap (λ (x : Lexeme). s.0 ++ placed x ∷ s.1) (sym is) in
-    told_of end (all_placed ls) s.0 s.1 (placed l) told parts e
+pub returned_at : (end i : ℕ) (ls : List Lexeme) (d l : Lexeme) (returned : SqlFault) → i < length ls → l ≡ get_or ls i d → Reports returned (refusal (terminal_of l.token) l.offset) → IsReturned end (all_located ls) returned
+returned_at end i ls d l returned h is e =
+    let s = located_split ls i d h in
+    let parts : all_located ls ≡ s.0 ++ located l ∷ s.1 = s.2 ∙ ap (λ (x : Lexeme). s.0 ++ located x ∷ s.1) (sym is) in
+    returned_of end (all_located ls) s.0 s.1 (located l) returned parts e
 
-pub told_at_end : (end : ℕ) (ps : List Placed) → StandsIn end ps (fault.UnexpectedToken end)
-told_at_end end ps = record { front = ps; rest = []; parts = sym (append-nil ps); tells = refl }
+pub returned_at_end : (end : ℕ) (ps : List Located) → StandsIn end ps (fault.UnexpectedToken end)
+returned_at_end end ps = record { front = ps; rest = []; parts = sym (append-nil ps); reports = refl }
 
-pub terminals_terms : (ls : List Lexeme) → terminals (all_placed ls) ≡ terms ls
+pub terminals_terms : (ls : List Lexeme) → terminals (all_located ls) ≡ terms ls
 terminals_terms [] = refl
 terminals_terms (l ∷ ls) = ap (λ (ts : List Terminal). terminal_of l.token ∷ ts) (terminals_terms ls)
 
 -- ---- what the tokens give
 
-read_as : (ls : List Lexeme) (r : Option Query) → query_at within (terms ls) ≡ r → query_at within (terminals (all_placed ls)) ≡ r
+read_as : (ls : List Lexeme) (r : Option Query) → query_at within (terms ls) ≡ r → query_at within (terminals (all_located ls)) ≡ r
 read_as ls r e = ap (query_at within) (terminals_terms ls) ∙ e
 
-pub kept_answers : (end : ℕ) (ls : List Lexeme) (q : Query) (r : Result Query SqlFault) → query_at within (terms ls) ≡ Some q → IsKept q r → IsAnswer end (all_placed ls) r
+pub kept_answers : (end : ℕ) (ls : List Lexeme) (q : Query) (r : Result Query SqlFault) → query_at within (terms ls) ≡ Some q → IsKept q r → IsAnswer end (all_located ls) r
 kept_answers end ls q (Ok r) e k = (read_as ls (Some r) (e ∙ ap (λ (x : Query). Some x) (sym k.0)), subst (λ (x : Query). length (canonical x) ≤ max_query_bytes) (sym k.0) k.1)
 kept_answers end ls q (Err fault.Memory) e k = no_memory
 kept_answers end ls q (Err fault.TooLong) e k = too_long q (read_as ls (Some q) e) k
@@ -70,15 +70,15 @@ kept_answers end ls q (Err (fault.IntegerOutOfRange at)) e k = absurd k
 kept_answers end ls q (Err (fault.UnexpectedToken at)) e k = absurd k
 kept_answers end ls q (Err (fault.LeftOut at w)) e k = absurd k
 
-pub stopped_answers : (end : ℕ) (ls : List Lexeme) (reason : Stop) (told : SqlFault) → Stops reason (query_at within (terms ls)) → IsTold end (all_placed ls) told → (reason ≡ stop.Memory → told ≡ fault.Memory) → Refuses end (all_placed ls) told
-stopped_answers end ls stop.Memory told s t m = subst (λ (x : SqlFault). Refuses end (all_placed ls) x) (sym (m refl)) no_memory
-stopped_answers end ls stop.TooDeep told s t m = no_query told (read_as ls None s) t
-stopped_answers end ls (stop.At left) told s t m = no_query told (read_as ls None s) t
+pub stopped_answers : (end : ℕ) (ls : List Lexeme) (reason : Stop) (returned : SqlFault) → Stops reason (query_at within (terms ls)) → IsReturned end (all_located ls) returned → (reason ≡ stop.Memory → returned ≡ fault.Memory) → Refuses end (all_located ls) returned
+stopped_answers end ls stop.Memory returned s t m = subst (λ (x : SqlFault). Refuses end (all_located ls) x) (sym (m refl)) no_memory
+stopped_answers end ls stop.TooDeep returned s t m = no_query returned (read_as ls None s) t
+stopped_answers end ls (stop.At left) returned s t m = no_query returned (read_as ls None s) t
 
 -- where memory runs out for the tokens
-pub from_memory : (end : ℕ) (ps : List Placed) (r : Result Query SqlFault) → IsErr r → IsErrAnd r (λ (told : SqlFault). told ≡ fault.Memory) → IsAnswer end ps r
+pub from_memory : (end : ℕ) (ps : List Located) (r : Result Query SqlFault) → IsErr r → IsErrAnd r (λ (returned : SqlFault). returned ≡ fault.Memory) → IsAnswer end ps r
 from_memory end ps (Ok q) is h = absurd cc
-from_memory end ps (Err told) is h = subst (λ (x : SqlFault). Refuses end ps x) (sym h) no_memory
+from_memory end ps (Err returned) is h = subst (λ (x : SqlFault). Refuses end ps x) (sym h) no_memory
 
 -- ---- what that says of the text
 
@@ -127,35 +127,35 @@ no_encoding terminal.out_of_range at e = absurd cc
 no_encoding terminal.not_closed at e = absurd cc
 no_encoding terminal.unknown at e = absurd cc
 
-never_long : (end : ℕ) (rest : List Placed) → refusal_at end rest ≡ fault.TooLong → ⊥
+never_long : (end : ℕ) (rest : List Located) → refusal_at end rest ≡ fault.TooLong → ⊥
 never_long end [] e = absurd cc
-never_long end (p ∷ ps) e = no_length p.terminal p.place e
+never_long end (p ∷ ps) e = no_length p.terminal p.offset e
 
-never_encoding : (end : ℕ) (rest : List Placed) → refusal_at end rest ≡ fault.NotUtf8 → ⊥
+never_encoding : (end : ℕ) (rest : List Located) → refusal_at end rest ≡ fault.NotUtf8 → ⊥
 never_encoding end [] e = absurd cc
-never_encoding end (p ∷ ps) e = no_encoding p.terminal p.place e
+never_encoding end (p ∷ ps) e = no_encoding p.terminal p.offset e
 
-unread_refusal : (bs : List ℕ) (told : SqlFault) → IsUtf8 bs → length bs ≤ max_query_bytes → HasNone bs → IsTold (length bs) (tokens_of bs) told → IsRefusal bs told
+unread_refusal : (bs : List ℕ) (returned : SqlFault) → IsUtf8 bs → length bs ≤ max_query_bytes → HasNone bs → IsReturned (length bs) (tokens_of bs) returned → IsRefusal bs returned
 unread_refusal bs fault.Memory utf8 short none t = tt
 unread_refusal bs fault.TooDeep utf8 short none t = (short, utf8, none)
-unread_refusal bs fault.NotUtf8 utf8 short none t = absurd (never_encoding (length bs) t.rest t.tells)
-unread_refusal bs fault.TooLong utf8 short none t = absurd (never_long (length bs) t.rest t.tells)
+unread_refusal bs fault.NotUtf8 utf8 short none t = absurd (never_encoding (length bs) t.rest t.reports)
+unread_refusal bs fault.TooLong utf8 short none t = absurd (never_long (length bs) t.rest t.reports)
 unread_refusal bs (fault.UnknownCharacter at) utf8 short none t = (short, utf8, none, t)
 unread_refusal bs (fault.TextNotClosed at) utf8 short none t = (short, utf8, none, t)
 unread_refusal bs (fault.IntegerOutOfRange at) utf8 short none t = (short, utf8, none, t)
 unread_refusal bs (fault.UnexpectedToken at) utf8 short none t = (short, utf8, none, t)
 unread_refusal bs (fault.LeftOut at w) utf8 short none t = (short, utf8, none, t)
 
-pub refuses_refusal : (bs : List ℕ) (told : SqlFault) → IsUtf8 bs → length bs ≤ max_query_bytes → Refuses (length bs) (tokens_of bs) told → IsRefusal bs told
-refuses_refusal bs told utf8 short no_memory = tt
-refuses_refusal bs told utf8 short (no_query said e t) = unread_refusal bs said utf8 short (none_shallow bs e) t
-refuses_refusal bs told utf8 short (too_long q e h) = inr (q, record { utf8 = utf8; spells = (query_sound (terminals (tokens_of bs)) q e).spells }, h)
+pub refuses_refusal : (bs : List ℕ) (returned : SqlFault) → IsUtf8 bs → length bs ≤ max_query_bytes → Refuses (length bs) (tokens_of bs) returned → IsRefusal bs returned
+refuses_refusal bs returned utf8 short no_memory = tt
+refuses_refusal bs returned utf8 short (no_query said e t) = unread_refusal bs said utf8 short (none_shallow bs e) t
+refuses_refusal bs returned utf8 short (too_long q e h) = inr (q, record { utf8 = utf8; spells = (query_sound (terminals (tokens_of bs)) q e).spells }, h)
 
 -- a text that has a tree within the limits isn't refused
-given_refused : (bs : List ℕ) (q : Query) (told : SqlFault) → IsWithin bs q → Refuses (length bs) (tokens_of bs) told → GivesQuery q (Err told)
-given_refused bs q told w no_memory = tt
-given_refused bs q told w (no_query said e t) = absurd (none_shallow bs e q w.tree w.shallow)
-given_refused bs q told w (too_long r e h) =
+given_refused : (bs : List ℕ) (q : Query) (returned : SqlFault) → IsWithin bs q → Refuses (length bs) (tokens_of bs) returned → GivesQuery q (Err returned)
+given_refused bs q returned w no_memory = tt
+given_refused bs q returned w (no_query said e t) = absurd (none_shallow bs e q w.tree w.shallow)
+given_refused bs q returned w (too_long r e h) =
     let found : ◌≡◌ {A = Option Query} (Some q) (Some r) = sym (shallow_read bs q w.tree w.shallow) ∙ e in
     let same : q ≡ r = cc found in
     let short : length (canonical r) ≤ max_query_bytes = subst (λ (x : Query). length (canonical x) ≤ max_query_bytes) same w.short.printed in
@@ -165,18 +165,18 @@ pub answer_given : (bs : List ℕ) (q : Query) (r : Result Query SqlFault) → I
 answer_given bs q (Ok r) w a =
     let found : ◌≡◌ {A = Option Query} (Some r) (Some q) = sym a.0 ∙ shallow_read bs q w.tree w.shallow in
     cc found
-answer_given bs q (Err told) w a = given_refused bs q told w a
+answer_given bs q (Err returned) w a = given_refused bs q returned w a
 
 -- what is read of the text, which two names may name
 pub tree_given : (bs ts : List ℕ) (r : Result Query SqlFault) → ts ≡ bs → IsUtf8 bs → length bs ≤ max_query_bytes → IsAnswer (length ts) (tokens_of ts) r → IfOk r (IsWithin bs)
 tree_given bs ts (Ok q) same utf8 short a =
     let here : IsAnswer (length bs) (tokens_of bs) (Ok q) = subst (λ (x : List ℕ). IsAnswer (length x) (tokens_of x) (Ok q)) same a in
     within_read bs q utf8 short here.0 here.1
-tree_given bs ts (Err told) same utf8 short a = tt
+tree_given bs ts (Err returned) same utf8 short a = tt
 
 pub refusal_given : (bs ts : List ℕ) (r : Result Query SqlFault) → ts ≡ bs → IsUtf8 bs → length bs ≤ max_query_bytes → IsAnswer (length ts) (tokens_of ts) r → IfErr r (IsRefusal bs)
 refusal_given bs ts (Ok q) same utf8 short a = tt
-refusal_given bs ts (Err told) same utf8 short a = refuses_refusal bs told utf8 short (subst (λ (x : List ℕ). IsAnswer (length x) (tokens_of x) (Err told)) same a)
+refusal_given bs ts (Err returned) same utf8 short a = refuses_refusal bs returned utf8 short (subst (λ (x : List ℕ). IsAnswer (length x) (tokens_of x) (Err returned)) same a)
 
 pub query_given : (bs ts : List ℕ) (r : Result Query SqlFault) → ts ≡ bs → IsAnswer (length ts) (tokens_of ts) r → (q : Query) → IsWithin bs q → GivesQuery q r
 query_given bs ts r same a q w = answer_given bs q r w (subst (λ (x : List ℕ). IsAnswer (length x) (tokens_of x) r) same a)

@@ -21,7 +21,7 @@ use Rattle.sql_syntax.specs.Tokens.{Terminal}
 use Rattle.sql_syntax.specs.declared.strength.Level.TheVariants as level
 use Rattle.sql_syntax.specs.Phrases.{word, mark, Spells, open_in}
 use Rattle.sql_syntax.specs.CanonicalTokens.{depth, deepest}
-use Rattle.sql_syntax.specs.Queries.{SpellsAlias, none, bare, behind_as, SpellsTable, table, SpellsTarget, place, name, SpellsDirection, unsaid, ascending, descending, SpellsItems, last_item, more_items, SpellsOthers, no_others, behind_comma, behind_join, SpellsClause, no_clause, clause, SpellsGroups, no_groups, groups, SpellsKeys, last_key, more_keys, SpellsOrder, no_order, order, SpellsLimit, no_limit, limit, SpellsEnd, no_end, semicolon, SpellsQuery, open_in_query, option_depth, query_depth}
+use Rattle.sql_syntax.specs.Queries.{SpellsAlias, none, bare, behind_as, SpellsTable, table, SpellsTarget, position, name, SpellsDirection, unsaid, ascending, descending, SpellsItems, last_item, more_items, SpellsOthers, no_others, behind_comma, behind_join, SpellsClause, no_clause, clause, SpellsGroups, no_groups, groups, SpellsKeys, last_key, more_keys, SpellsOrder, no_order, order, SpellsLimit, no_limit, limit, SpellsEnd, no_end, semicolon, SpellsQuery, open_in_query, option_depth, query_depth}
 use Rattle.sql_reader.specs.Rules as rule
 use Rattle.sql_expressions.specs.Rules as phrase
 use Rattle.sql_expressions.specs.Rules.{◌>>=◌, is_keyword, is_sign, behind, inner_at}
@@ -320,7 +320,7 @@ groups_stage (groups d) rest l h s = h
 -- ---- ORDER BY and LIMIT
 
 target_reads : {t : Terminal} {o : OrderTarget} (d : SpellsTarget t o) (rest : List Terminal) → rule.target_at (t ∷ rest) ≡ Some (o, rest)
-target_reads (place n h) rest = rw (le-leb n 9223372036854775807 h) refl
+target_reads (position n h) rest = rw (le-leb n 9223372036854775807 h) refl
 target_reads (name n) rest = refl
 
 direction_reads : {ts : List Terminal} {o : Direction} (d : SpellsDirection ts o) (rest : List Terminal) → 1 ≤ stage_of rest → rule.direction_at (ts ++ rest) ≡ (o, rest)

@@ -24,7 +24,7 @@ use Rattle.sql_syntax.specs.declared.strength.Level.{Level}
 use Rattle.sql_syntax.specs.declared.strength.Level.TheVariants as level
 use Rattle.sql_syntax.specs.Phrases.{word, mark, Spells, open_in, open_in_list}
 use Rattle.sql_syntax.specs.CanonicalTokens.{depth, deepest}
-use Rattle.sql_syntax.specs.Queries.{SpellsAlias, none, bare, behind_as, SpellsTable, table, SpellsTarget, place, name, SpellsDirection, unsaid, ascending, descending, SpellsItems, last_item, more_items, SpellsOthers, no_others, behind_comma, behind_join, SpellsClause, no_clause, clause, SpellsGroups, no_groups, groups, SpellsKeys, last_key, more_keys, SpellsOrder, no_order, order, SpellsLimit, no_limit, limit, SpellsEnd, no_end, semicolon, SpellsQuery, open_in_query, option_depth, query_depth}
+use Rattle.sql_syntax.specs.Queries.{SpellsAlias, none, bare, behind_as, SpellsTable, table, SpellsTarget, position, name, SpellsDirection, unsaid, ascending, descending, SpellsItems, last_item, more_items, SpellsOthers, no_others, behind_comma, behind_join, SpellsClause, no_clause, clause, SpellsGroups, no_groups, groups, SpellsKeys, last_key, more_keys, SpellsOrder, no_order, order, SpellsLimit, no_limit, limit, SpellsEnd, no_end, semicolon, SpellsQuery, open_in_query, option_depth, query_depth}
 use Rattle.sql_expressions.specs.declared.parsed.Parsed.{Parsed}
 use Rattle.sql_reader.specs.Rules as rule
 use Rattle.sql_expressions.specs.Rules as phrase
@@ -362,12 +362,12 @@ pub record TookTarget (ts : List Terminal) (x : OrderTarget × List Terminal) : 
   pub spells : SpellsTarget first x.0
   pub parts : ts ≡ first ∷ x.1
 
-target_turn : (ts : List Terminal) (x : OrderTarget × List Terminal) (begins : Bool) → cond begins (phrase.integer_at ts >>= (λ n. Some (target.Place n.0, n.1))) (phrase.name_at ts >>= (λ n. Some (target.Name n.0, n.1))) ≡ Some x → TookTarget ts x
+target_turn : (ts : List Terminal) (x : OrderTarget × List Terminal) (begins : Bool) → cond begins (phrase.integer_at ts >>= (λ n. Some (target.Position n.0, n.1))) (phrase.name_at ts >>= (λ n. Some (target.Name n.0, n.1))) ≡ Some x → TookTarget ts x
 target_turn ts x true e =
-    let r = bind_some (phrase.integer_at ts) (λ (n : ℕ × List Terminal). Some (target.Place n.0, n.1)) x e in
+    let r = bind_some (phrase.integer_at ts) (λ (n : ℕ × List Terminal). Some (target.Position n.0, n.1)) x e in
     let p = integer_taken ts r.0 r.1 in
-    let same : ◌≡◌ {A = OrderTarget × List Terminal} (target.Place r.0.0, r.0.1) x = cc r.2 in
-    subst (λ (y : OrderTarget × List Terminal). TookTarget ts y) same (record { first = terminal.integer r.0.0; spells = place r.0.0 p.1; parts = p.0 })
+    let same : ◌≡◌ {A = OrderTarget × List Terminal} (target.Position r.0.0, r.0.1) x = cc r.2 in
+    subst (λ (y : OrderTarget × List Terminal). TookTarget ts y) same (record { first = terminal.integer r.0.0; spells = position r.0.0 p.1; parts = p.0 })
 target_turn ts x false e =
     let r = bind_some (phrase.name_at ts) (λ (n : List ℕ × List Terminal). Some (target.Name n.0, n.1)) x e in
     let m = name_taken ts r.0 r.1 in

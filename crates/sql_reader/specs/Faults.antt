@@ -7,10 +7,10 @@ use Rattle.sql_reader.specs.declared.fault.SqlFault.TheVariants as fault
 abbrev pub number_of : SqlFault → ℕ
 number_of fault.Memory = 0
 number_of fault.NotUtf8 = 1
-number_of (fault.UnknownCharacter place) = 2
-number_of (fault.TextNotClosed place) = 3
-number_of (fault.IntegerOutOfRange place) = 4
-number_of (fault.UnexpectedToken place) = 5
+number_of (fault.UnknownCharacter offset) = 2
+number_of (fault.TextNotClosed offset) = 3
+number_of (fault.IntegerOutOfRange offset) = 4
+number_of (fault.UnexpectedToken offset) = 5
 number_of fault.TooDeep = 6
 number_of fault.TooLong = 7
-number_of (fault.LeftOut place word) = 8
+number_of (fault.LeftOut offset word) = 8

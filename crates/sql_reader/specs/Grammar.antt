@@ -7,7 +7,7 @@ use Rattle.sql_reader.specs.declared.fault.SqlFault.TheVariants as fault
 use Rattle.sql_syntax.specs.declared.tree.Query.{Query}
 use Rattle.sql_syntax.specs.Words.{lower}
 use Rattle.sql_syntax.specs.Tokens as terminal
-use Rattle.sql_syntax.specs.Tokens.{Terminal, Placed, tokens_of, terminals}
+use Rattle.sql_syntax.specs.Tokens.{Terminal, Located, tokens_of, terminals}
 use Rattle.sql_syntax.specs.Queries.{SpellsQuery, open_in_query, query_depth}
 use Rattle.sql_syntax.specs.Canonical.{canonical}
 
@@ -36,42 +36,42 @@ pub record IsWithin (bs : List ℕ) (q : Query) : Type 0 where
 abbrev pub GivesQuery : Query → Result Query SqlFault → Type 0
 GivesQuery q (Ok r) = r ≡ q
 GivesQuery q (Err fault.Memory) = Unit {0}
-GivesQuery q (Err told) = ⊥
+GivesQuery q (Err returned) = ⊥
 
 -- ---- refusals
 
--- the refusal of a token at a place where it isn't expected
+-- the refusal of a token at an offset where it isn't expected
 abbrev pub refusal : Terminal → ℕ → SqlFault
-refusal (terminal.keyword k) place = fault.UnexpectedToken place
-refusal (terminal.name n) place = fault.UnexpectedToken place
-refusal (terminal.integer n) place = if nat_le n 9223372036854775807 then fault.UnexpectedToken place else fault.IntegerOutOfRange place
-refusal (terminal.text t) place = fault.UnexpectedToken place
-refusal (terminal.sign_is s) place = fault.UnexpectedToken place
-refusal (terminal.left_out w) place = fault.LeftOut place (lower w)
-refusal terminal.out_of_range place = fault.IntegerOutOfRange place
-refusal terminal.not_closed place = fault.TextNotClosed place
-refusal terminal.unknown place = fault.UnknownCharacter place
+refusal (terminal.keyword k) offset = fault.UnexpectedToken offset
+refusal (terminal.name n) offset = fault.UnexpectedToken offset
+refusal (terminal.integer n) offset = if nat_le n 9223372036854775807 then fault.UnexpectedToken offset else fault.IntegerOutOfRange offset
+refusal (terminal.text t) offset = fault.UnexpectedToken offset
+refusal (terminal.sign_is s) offset = fault.UnexpectedToken offset
+refusal (terminal.left_out w) offset = fault.LeftOut offset (lower w)
+refusal terminal.out_of_range offset = fault.IntegerOutOfRange offset
+refusal terminal.not_closed offset = fault.TextNotClosed offset
+refusal terminal.unknown offset = fault.UnknownCharacter offset
 
 -- the refusal of the token at the front, or of the text's end
-abbrev pub refusal_at : ℕ → List Placed → SqlFault
+abbrev pub refusal_at : ℕ → List Located → SqlFault
 refusal_at end [] = fault.UnexpectedToken end
-refusal_at end (p ∷ ps) = refusal p.terminal p.place
+refusal_at end (p ∷ ps) = refusal p.terminal p.offset
 
 -- the refusal is that of a token of the list, or of the text's end
-pub record StandsIn (end : ℕ) (ps : List Placed) (told : SqlFault) : Type 0 where
-  pub front : List Placed
-  pub rest : List Placed
+pub record StandsIn (end : ℕ) (ps : List Located) (returned : SqlFault) : Type 0 where
+  pub front : List Located
+  pub rest : List Located
   pub parts : ps ≡ front ++ rest
-  pub tells : refusal_at end rest ≡ told
+  pub reports : refusal_at end rest ≡ returned
 
 -- the text has no tree, or one that is too deep, or too many are open in it
 abbrev pub HasNone : List ℕ → Type 0
 HasNone bs = (q : Query) (tree : IsTree bs q) → IsShallow bs q tree → ⊥
 
--- where each refusal is told
+-- where each refusal is returned
 abbrev pub IsRefusal : List ℕ → SqlFault → Type 0
 IsRefusal bs fault.Memory = Unit {0}
 IsRefusal bs fault.TooLong = (max_query_bytes < length bs) ⊎ ((q : Query) × IsTree bs q × (max_query_bytes < length (canonical q)))
 IsRefusal bs fault.NotUtf8 = (length bs ≤ max_query_bytes) × (IsUtf8 bs → ⊥)
 IsRefusal bs fault.TooDeep = (length bs ≤ max_query_bytes) × IsUtf8 bs × HasNone bs
-IsRefusal bs told = (length bs ≤ max_query_bytes) × IsUtf8 bs × HasNone bs × StandsIn (length bs) (tokens_of bs) told
+IsRefusal bs returned = (length bs ≤ max_query_bytes) × IsUtf8 bs × HasNone bs × StandsIn (length bs) (tokens_of bs) returned

@@ -100,7 +100,7 @@ groups_at inner ts = choose (behind (is_keyword keyword.Group) ts) (group_keys_a
 
 -- what ORDER BY names, and its direction
 abbrev pub target_at : List Terminal → Reads OrderTarget
-target_at ts = if begins_integer ts then integer_at ts >>= (λ n. Some (target.Place n.0, n.1)) else name_at ts >>= (λ n. Some (target.Name n.0, n.1))
+target_at ts = if begins_integer ts then integer_at ts >>= (λ n. Some (target.Position n.0, n.1)) else name_at ts >>= (λ n. Some (target.Name n.0, n.1))
 
 abbrev pub direction_at : List Terminal → Direction × List Terminal
 direction_at ts =

@@ -3,20 +3,14 @@ ghost use Rattle.sql_expressions.specs.Rules.{Gives, terms};
 ghost use Rattle.sql_reader.specs.Rules.{alias_at, clause_at, condition_at, conditions_at, direction_at, ended, ended_limit_at, ending_at, expr_at, from_at, group_keys_at, grouping_at, groups_at, having_at, item_at, items_at, joined_at, key_at, keys_at, limit_at, listed_at, order_at, other_at, put_item, put_key, put_other, query_at, query_of_parts, selected_at, source_at, table_at, tables_at, tail_at, target_at, within};
 ghost use Rattle.std.specs.Prelude.{IfOk, length, ◌<◌, ◌≡◌, ◌≤◌};
 
-use meaning::sequence::Sequence;
-use meaning::text::Text;
-use sql_expressions::expressions::{inner, push_entries};
-use sql_expressions::parsed::Parsed;
-use sql_expressions::stop::Stop;
-use sql_expressions::taking::{
-    begins_integer, begins_name, begins_other, if_keyword, if_sign, integer, name, past_keyword,
-    stop_at,
+use meaning::{Sequence, Text};
+use sql_expressions::{
+    Parsed, Stop, begins_integer, begins_name, begins_other, if_keyword, if_sign, inner, integer,
+    name, past_keyword, push_entries, stop_at,
 };
-use sql_syntax::keyword::Keyword;
-use sql_syntax::strength::Level;
-use sql_syntax::token::{Lexeme, Sign};
-use sql_syntax::tree::{
-    Direction, Expr, Item, Joined, OrderKey, OrderTarget, Query, Source, Table,
+use sql_syntax::{
+    Direction, Expr, Item, Joined, Keyword, Level, Lexeme, OrderKey, OrderTarget, Query, Sign,
+    Source, Table,
 };
 use std::alloc::Global;
 use std::mem::drop;
@@ -305,8 +299,8 @@ fn target<'a, 'b>(
     ensures shorter { IfOk result (λ x. length x.1.now < length lexemes.now) }
 {
     if begins_integer(lexemes) {
-        let (place, rest) = integer(lexemes)?;
-        return Ok((OrderTarget::Place(place), rest));
+        let (position, rest) = integer(lexemes)?;
+        return Ok((OrderTarget::Position(position), rest));
     }
     let (name, rest) = name(alloc, lexemes)?;
     Ok((OrderTarget::Name(name), rest))

@@ -3,11 +3,11 @@ ghost use Rattle.std.specs.Prelude.{◌≡◌};
 ghost use Rattle.sql_reader.specs.declared.fault.SqlFault.TheVariants.{Memory};
 ghost use Rattle.sql_reader.specs.Faults.{number_of};
 
-use meaning::text::Text;
+use meaning::Text;
 use std::alloc::AllocError;
 use thiserror::Error;
 
-/// Why a text isn't a query. Places are bytes of the text, counted from 0; at the end of the text,
+/// Why a text isn't a query. Offsets are bytes of the text, counted from 0; at the end of the text,
 /// its length.
 #[derive(Debug, Drop, Error)]
 pub enum SqlFault {
@@ -15,23 +15,23 @@ pub enum SqlFault {
     Memory,
     #[error("the text is not UTF-8")]
     NotUtf8,
-    #[error("unknown character at {place}")]
-    UnknownCharacter { place: usize },
-    /// The place is that of the opening quote.
-    #[error("the text that begins at {place} is not closed")]
-    TextNotClosed { place: usize },
-    #[error("integer out of range at {place}")]
-    IntegerOutOfRange { place: usize },
-    #[error("token not expected at {place}")]
-    UnexpectedToken { place: usize },
+    #[error("unknown character at {offset}")]
+    UnknownCharacter { offset: usize },
+    /// The offset is that of the opening quote.
+    #[error("the text that begins at {offset} is not closed")]
+    TextNotClosed { offset: usize },
+    #[error("integer out of range at {offset}")]
+    IntegerOutOfRange { offset: usize },
+    #[error("token not expected at {offset}")]
+    UnexpectedToken { offset: usize },
     #[error("nested too deeply")]
     TooDeep,
     /// The text, or its canonical text, has over 65,535 bytes.
     #[error("the text or its canonical text is too long")]
     TooLong,
     /// A part of SQL that is left out. The word is in lower case.
-    #[error("left out at {place}: {}", .word.as_str())]
-    LeftOut { place: usize, word: Text },
+    #[error("left out at {offset}: {}", .word.as_str())]
+    LeftOut { offset: usize, word: Text },
 }
 
 impl SqlFault {

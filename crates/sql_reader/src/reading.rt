@@ -1,6 +1,6 @@
 //! A query from the bytes of its text.
 ghost use Rattle.std.specs.Prelude.{◌≡◌, IfOk, IfErr, length};
-ghost use Rattle.sql_syntax.specs.Tokens.{all_placed, tokens_of};
+ghost use Rattle.sql_syntax.specs.Tokens.{all_located, tokens_of};
 ghost use Rattle.sql_syntax.specs.declared.tree.Query.{Query};
 ghost use Rattle.sql_reader.specs.Grammar.{IsWithin, IsRefusal, GivesQuery};
 ghost use Rattle.sql_reader.specs.Refusing.{IsAnswer, IsKept};
@@ -8,17 +8,14 @@ ghost use Rattle.sql_reader.specs.Refusing.{IsAnswer, IsKept};
 use crate::clauses::query;
 use crate::fault::SqlFault;
 use crate::refusing::fault_of;
-use meaning::limits::MAX_QUERY_BYTES;
-use sql_syntax::lexer::tokens;
-use sql_syntax::print;
-use sql_syntax::token::Lexeme;
-use sql_syntax::tree::Query;
+use meaning::MAX_QUERY_BYTES;
+use sql_syntax::{Lexeme, Query, print, tokens};
 use std::alloc::Global;
 use std::mem::drop;
 
 /// The syntax tree of a text. Where several refusals stand in a text, one of the whole text comes
-/// first, then the one of the least place, and that of the canonical text last. A text in which too
-/// many are open, or whose tree is too deep, is refused for that where reading comes to it.
+/// first, then the one of the least offset, and that of the canonical text last. A text in which
+/// too many are open, or whose tree is too deep, is refused for that where reading comes to it.
 pub fn read(alloc: Global, text: &[u8]) -> Result<Query, SqlFault>
     // What is read is the tree of the text, within the limits.
     ensures tree { IfOk result (IsWithin text.now) }
@@ -45,7 +42,7 @@ fn read_text(alloc: Global, text: &str) -> Result<Query, SqlFault>
 
 /// The query of a text's tokens, and the text has so many bytes.
 fn read_lexemes(alloc: Global, lexemes: &[Lexeme<'_>], end: usize) -> Result<Query, SqlFault>
-    ensures { IsAnswer end (all_placed lexemes.now) result }
+    ensures { IsAnswer end (all_located lexemes.now) result }
 {
     match query(alloc, lexemes) {
         Ok(query) => if_short(alloc, query),

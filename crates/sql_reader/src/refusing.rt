@@ -1,21 +1,21 @@
-//! The refusal that a text's reader tells, by where reading stopped.
+//! The refusal that a text's reader reports, by where reading stopped.
 ghost use Rattle.sql_reader.specs.Grammar.{refusal};
-ghost use Rattle.sql_reader.specs.Refusing.{Tells, IsTold};
+ghost use Rattle.sql_reader.specs.Refusing.{Reports, IsReturned};
 ghost use Rattle.sql_reader.specs.declared.fault.SqlFault.TheVariants as fault;
 ghost use Rattle.sql_expressions.specs.declared.stop.Stop.TheVariants as stop;
-ghost use Rattle.sql_syntax.specs.Tokens.{terminal_of, all_placed};
+ghost use Rattle.sql_syntax.specs.Tokens.{terminal_of, all_located};
 ghost use Rattle.sql_syntax.specs.Words.{lower};
 ghost use Rattle.std.specs.Prelude.{◌≡◌, IfOk};
 
 use crate::fault::SqlFault;
-use meaning::text::Text;
-use sql_expressions::stop::Stop;
-use sql_syntax::token::{Lexeme, Token};
+use meaning::Text;
+use sql_expressions::Stop;
+use sql_syntax::{Lexeme, Token};
 use std::alloc::{AllocError, Global};
 
 /// Why a text of `end` bytes with these tokens isn't read.
 pub fn fault_of(alloc: Global, reason: Stop, lexemes: &[Lexeme<'_>], end: usize) -> SqlFault
-    ensures told { IsTold end (all_placed lexemes.now) result }
+    ensures returned { IsReturned end (all_located lexemes.now) result }
     ensures memory { reason ≡ stop.Memory → result ≡ fault.Memory }
 {
     match reason {
@@ -25,35 +25,35 @@ pub fn fault_of(alloc: Global, reason: Stop, lexemes: &[Lexeme<'_>], end: usize)
     }
 }
 
-/// The refusal of the token at a place of the list, or of the end.
+/// The refusal of the token at an index of the list, or of the end.
 fn refusal_at(alloc: Global, lexemes: &[Lexeme<'_>], index: usize, end: usize) -> SqlFault
-    ensures { IsTold end (all_placed lexemes.now) result }
+    ensures { IsReturned end (all_located lexemes.now) result }
 {
     match lexemes.get(index) {
-        Some(lexeme) => refusal(alloc, lexeme.token, lexeme.place),
-        None => SqlFault::UnexpectedToken { place: end },
+        Some(lexeme) => refusal(alloc, lexeme.token, lexeme.offset),
+        None => SqlFault::UnexpectedToken { offset: end },
     }
 }
 
-fn refusal(alloc: Global, token: Token<'_>, place: usize) -> SqlFault
-    ensures { Tells result (refusal (terminal_of token.entry) place) }
+fn refusal(alloc: Global, token: Token<'_>, offset: usize) -> SqlFault
+    ensures { Reports result (refusal (terminal_of token.entry) offset) }
 {
     match token {
         Token::Integer(number) => {
             if number <= i64::MAX as u64 {
-                SqlFault::UnexpectedToken { place }
+                SqlFault::UnexpectedToken { offset }
             } else {
-                SqlFault::IntegerOutOfRange { place }
+                SqlFault::IntegerOutOfRange { offset }
             }
         }
         Token::LeftOut(spelling) => match lower(alloc, spelling) {
-            Ok(word) => SqlFault::LeftOut { place, word },
+            Ok(word) => SqlFault::LeftOut { offset, word },
             Err(_) => SqlFault::Memory,
         },
-        Token::IntegerOutOfRange => SqlFault::IntegerOutOfRange { place },
-        Token::TextNotClosed => SqlFault::TextNotClosed { place },
-        Token::UnknownCharacter => SqlFault::UnknownCharacter { place },
-        _ => SqlFault::UnexpectedToken { place },
+        Token::IntegerOutOfRange => SqlFault::IntegerOutOfRange { offset },
+        Token::TextNotClosed => SqlFault::TextNotClosed { offset },
+        Token::UnknownCharacter => SqlFault::UnknownCharacter { offset },
+        _ => SqlFault::UnexpectedToken { offset },
     }
 }
 

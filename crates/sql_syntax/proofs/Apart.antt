@@ -23,10 +23,10 @@ use Rattle.sql_syntax.specs.Tokens as terminal
 use Rattle.sql_syntax.specs.Tokens.{Terminal}
 use Rattle.sql_syntax.specs.Strength.{next, rank, level_of, token_of, node_of, compares}
 use Rattle.sql_syntax.specs.Phrases.{word, mark, not_if, bracketed, aggregate_word, below_zero, undoubled, Spells, as_next, joined, negated, tested, minus, integer, negative, text, column, column_of, rows, aggregated, first_of, chosen, in_brackets, Tests, compared, between, among, like, is_null, SpellsList, last, more, SpellsArms, last_arm, more_arms, SpellsElse, nothing, null, otherwise}
-use Rattle.sql_syntax.specs.CanonicalTokens.{Printed, place, free, doubled, integer_tokens, list_tokens, arms_tokens, else_tokens, printed, printed_arm}
+use Rattle.sql_syntax.specs.CanonicalTokens.{Printed, at_level, free, doubled, integer_tokens, list_tokens, arms_tokens, else_tokens, printed, printed_arm}
 use Rattle.sql_syntax.proofs.Names.{IsProper, lower_name}
 use Rattle.sql_syntax.proofs.ReadAgain.{AreApart, heads_minus}
-use Rattle.sql_syntax.proofs.Canonical.{good, placed, printed_not, printed_or, printed_and, printed_reckon, printed_minus, printed_integer, printed_text, printed_column, printed_rows, printed_aggregate, printed_list, printed_case, printed_compare, printed_between, printed_in, printed_like, printed_null, printed_arm_is, next_primary}
+use Rattle.sql_syntax.proofs.Canonical.{good, spells_at_level, printed_not, printed_or, printed_and, printed_reckon, printed_minus, printed_integer, printed_text, printed_column, printed_rows, printed_aggregate, printed_list, printed_case, printed_compare, printed_between, printed_in, printed_like, printed_null, printed_arm_is, next_primary}
 
 -- ---- what may stand behind
 
@@ -61,23 +61,23 @@ apt_by e p is fits = subst (λ (x : Printed). Fits (is_strong x.level) x.tokens)
 pub brackets_fit : (ts : List Terminal) → Fits false ts → Fits true (bracketed ts)
 brackets_fit ts fits = λ rest ready. (tt, refl, subst (AreApart false) (sym (append_assoc ts (mark sign.Close ∷ []) rest)) (fits (mark sign.Close ∷ rest) (λ o. (tt, refl, ready))))
 
-strong_place : (test strong : Bool) (ts : List Terminal) → (test ≡ true → strong ≡ true) → Fits strong ts → Fits true (cond test ts (bracketed ts))
-strong_place true true ts h fits = fits
-strong_place true false ts h fits = let no = h refl in absurd cc
-strong_place false strong ts h fits = brackets_fit ts (weaker strong ts fits)
+strong_at_level : (test strong : Bool) (ts : List Terminal) → (test ≡ true → strong ≡ true) → Fits strong ts → Fits true (cond test ts (bracketed ts))
+strong_at_level true true ts h fits = fits
+strong_at_level true false ts h fits = let no = h refl in absurd cc
+strong_at_level false strong ts h fits = brackets_fit ts (weaker strong ts fits)
 
-weak_place : (test strong : Bool) (ts : List Terminal) → Fits strong ts → Fits false (cond test ts (bracketed ts))
-weak_place true strong ts fits = weaker strong ts fits
-weak_place false strong ts fits = weaker true (bracketed ts) (brackets_fit ts (weaker strong ts fits))
+weak_at_level : (test strong : Bool) (ts : List Terminal) → Fits strong ts → Fits false (cond test ts (bracketed ts))
+weak_at_level true strong ts fits = weaker strong ts fits
+weak_at_level false strong ts fits = weaker true (bracketed ts) (brackets_fit ts (weaker strong ts fits))
 
-pub free_fits : (l : Level) (e : Expr) → Apt e → Fits false (place l (printed e))
-free_fits l e apt = weak_place (leb (rank l) (rank (printed e).level)) (is_strong (printed e).level) (printed e).tokens apt
+pub free_fits : (l : Level) (e : Expr) → Apt e → Fits false (at_level l (printed e))
+free_fits l e apt = weak_at_level (leb (rank l) (rank (printed e).level)) (is_strong (printed e).level) (printed e).tokens apt
 
 climbs : (l m : Level) → is_strong l ≡ true → leb (rank l) (rank m) ≡ true → is_strong m ≡ true
 climbs l m h e = le-leb 4 (rank m) (let low = leb-true 4 (rank l) h in let high = leb-true (rank l) (rank m) e in omega (arith, low, high))
 
-operand_fits : (l : Level) (e : Expr) → is_strong l ≡ true → Apt e → Fits true (place l (printed e))
-operand_fits l e h apt = strong_place (leb (rank l) (rank (printed e).level)) (is_strong (printed e).level) (printed e).tokens (climbs l (printed e).level h) apt
+operand_fits : (l : Level) (e : Expr) → is_strong l ≡ true → Apt e → Fits true (at_level l (printed e))
+operand_fits l e h apt = strong_at_level (leb (rank l) (rank (printed e).level)) (is_strong (printed e).level) (printed e).tokens (climbs l (printed e).level h) apt
 
 -- ---- operators
 
@@ -116,16 +116,16 @@ weak_parts ts us fits behind = λ rest ready. subst (AreApart false) (sym (appen
 
 joined_apt : (o : Operator) (a b : Expr) → Apt a → Apt b → Apt (node_of o a b)
 joined_apt operator.Or a b x y =
-    apt_by (expr.Or a b) _ (printed_or a b) (weak_parts (place level.Disjunction (printed a)) (word keyword.Or ∷ place level.Conjunction (printed b)) (free_fits level.Disjunction a x)
+    apt_by (expr.Or a b) _ (printed_or a b) (weak_parts (at_level level.Disjunction (printed a)) (word keyword.Or ∷ at_level level.Conjunction (printed b)) (free_fits level.Disjunction a x)
     (λ rest ready o. (tt, refl, free_fits level.Conjunction b y rest ready)))
 joined_apt operator.And a b x y =
-    apt_by (expr.And a b) _ (printed_and a b) (weak_parts (place level.Conjunction (printed a)) (word keyword.And ∷ place level.Negation (printed b)) (free_fits level.Conjunction a x)
+    apt_by (expr.And a b) _ (printed_and a b) (weak_parts (at_level level.Conjunction (printed a)) (word keyword.And ∷ at_level level.Negation (printed b)) (free_fits level.Conjunction a x)
     (λ rest ready o. (tt, refl, free_fits level.Negation b y rest ready)))
 joined_apt (operator.Reckon op) a b x y =
     apt_by (expr.Arithmetic op a b) _ (printed_reckon op a b) (
-    subst (λ s. Fits s (place (level_of (operator.Reckon op)) (printed a) ++ token_of (operator.Reckon op) ∷ place (next (level_of (operator.Reckon op))) (printed b))) (sym (strong_op op))
-    (two_parts true (place (level_of (operator.Reckon op)) (printed a)) (token_of (operator.Reckon op) ∷ place (next (level_of (operator.Reckon op))) (printed b)) (operand_fits (level_of (operator.Reckon op)) a (strong_op op) x)
-    (λ rest ready. op_apart op (place (next (level_of (operator.Reckon op))) (printed b) ++ rest) (operand_fits (next (level_of (operator.Reckon op))) b (strong_next op) y rest ready))))
+    subst (λ s. Fits s (at_level (level_of (operator.Reckon op)) (printed a) ++ token_of (operator.Reckon op) ∷ at_level (next (level_of (operator.Reckon op))) (printed b))) (sym (strong_op op))
+    (two_parts true (at_level (level_of (operator.Reckon op)) (printed a)) (token_of (operator.Reckon op) ∷ at_level (next (level_of (operator.Reckon op))) (printed b)) (operand_fits (level_of (operator.Reckon op)) a (strong_op op) x)
+    (λ rest ready. op_apart op (at_level (next (level_of (operator.Reckon op))) (printed b) ++ rest) (operand_fits (next (level_of (operator.Reckon op))) b (strong_next op) y rest ready))))
 
 -- ---- unary minus
 
@@ -248,7 +248,7 @@ mutual
   apt (negated {e = e} d) all = apt_by (expr.Not e) _ (printed_not e) (λ rest ready. (tt, refl, free_fits level.Negation e (apt d all.1) rest ready))
   apt (tested {ts = ts} {us = us} {a = a} d t) all = let s = split_all ts us all in apt_test t (apt d s.0) s.1
   apt (minus {e = e} h d) all =
-      apt_by (expr.Minus e) _ (printed_minus e) (λ rest ready. (tt, no_minus (placed level.Primary e (good d)) refl rest, operand_fits level.Primary e refl (apt d all.1) rest ready))
+      apt_by (expr.Minus e) _ (printed_minus e) (λ rest ready. (tt, no_minus (spells_at_level level.Primary e (good d)) refl rest, operand_fits level.Primary e refl (apt d all.1) rest ready))
   apt (integer n h) all = integer_apt (pos n) (λ rest ready. (omega (arith, h), refl, ready))
   apt (negative n h) all = negative_apt n h
   apt (text t) all = apt_by (expr.Text (undoubled t)) _ (printed_text (undoubled t)) (λ rest ready. ((undoubled t, refl), refl, ready))
@@ -266,21 +266,21 @@ mutual
 
   apt_test : {a e : Expr} {ts : List Terminal} → Tests a ts e → Apt a → AllByRecursion IsProper ts → Apt e
   apt_test {a} (compared op {b = b} d) x all =
-      apt_by (expr.Compare op a b) _ (printed_compare op a b) (two_parts false (place level.Sum (printed a)) (mark (compares op) ∷ place level.Sum (printed b)) (operand_fits level.Sum a refl x)
-      (λ rest ends. compare_apart op (place level.Sum (printed b) ++ rest) (operand_fits level.Sum b refl (apt d all.1) rest (ends true))))
+      apt_by (expr.Compare op a b) _ (printed_compare op a b) (two_parts false (at_level level.Sum (printed a)) (mark (compares op) ∷ at_level level.Sum (printed b)) (operand_fits level.Sum a refl x)
+      (λ rest ends. compare_apart op (at_level level.Sum (printed b) ++ rest) (operand_fits level.Sum b refl (apt d all.1) rest (ends true))))
   apt_test {a} (between not {low = low} {high = high} {ts = ts} {us = us} d d') x all =
       let s = split_all (not_if not) (word keyword.Between ∷ ts ++ word keyword.And ∷ us) all in
       let t = split_all ts (word keyword.And ∷ us) s.1.1 in
-      apt_by (expr.Between not a low high) _ (printed_between not a low high) (two_parts false (place level.Sum (printed a)) _ (operand_fits level.Sum a refl x)
-      (λ rest ends. between_behind not (place level.Sum (printed low)) (place level.Sum (printed high)) rest (operand_fits level.Sum low refl (apt d t.0)) (operand_fits level.Sum high refl (apt d' t.1.1)) ends))
+      apt_by (expr.Between not a low high) _ (printed_between not a low high) (two_parts false (at_level level.Sum (printed a)) _ (operand_fits level.Sum a refl x)
+      (λ rest ends. between_behind not (at_level level.Sum (printed low)) (at_level level.Sum (printed high)) rest (operand_fits level.Sum low refl (apt d t.0)) (operand_fits level.Sum high refl (apt d' t.1.1)) ends))
   apt_test {a} (among not {ts = ts} {es = es} ds) x all =
       let s = split_all (not_if not) (word keyword.In ∷ bracketed ts) all in
-      apt_by (expr.In not a es) _ (printed_in not a es) (two_parts false (place level.Sum (printed a)) _ (operand_fits level.Sum a refl x)
+      apt_by (expr.In not a es) _ (printed_in not a es) (two_parts false (at_level level.Sum (printed a)) _ (operand_fits level.Sum a refl x)
       (λ rest ends. in_behind not (list_tokens (map printed es)) rest (brackets_fit (list_tokens (map printed es)) (apt_list ds (split_all ts (mark sign.Close ∷ []) s.1.1.1).0)) ends))
   apt_test {a} (like not t) x all =
-      apt_by (expr.Like not a (undoubled t)) _ (printed_like not a (undoubled t)) (two_parts false (place level.Sum (printed a)) _ (operand_fits level.Sum a refl x) (λ rest ends. like_apart not (undoubled t) rest ends))
+      apt_by (expr.Like not a (undoubled t)) _ (printed_like not a (undoubled t)) (two_parts false (at_level level.Sum (printed a)) _ (operand_fits level.Sum a refl x) (λ rest ends. like_apart not (undoubled t) rest ends))
   apt_test {a} (is_null not) x all =
-      apt_by (expr.IsNull not a) _ (printed_null not a) (two_parts false (place level.Sum (printed a)) _ (operand_fits level.Sum a refl x) (λ rest ends. null_apart not rest ends))
+      apt_by (expr.IsNull not a) _ (printed_null not a) (two_parts false (at_level level.Sum (printed a)) _ (operand_fits level.Sum a refl x) (λ rest ends. null_apart not rest ends))
 
   pub apt_list : {ts : List Terminal} {es : List Expr} → SpellsList ts es → AllByRecursion IsProper ts → Fits false (list_tokens (map printed es))
   apt_list (last {e = e} d) all = free_fits level.Disjunction e (apt d all)

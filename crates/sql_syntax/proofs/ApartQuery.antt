@@ -17,7 +17,7 @@ use Rattle.sql_syntax.specs.Tokens.{Terminal, tokens_of, terminals}
 use Rattle.sql_syntax.specs.Canonical.{canonical}
 use Rattle.sql_syntax.specs.Phrases.{word, mark, Spells}
 use Rattle.sql_syntax.specs.CanonicalTokens.{printed, free, list_tokens}
-use Rattle.sql_syntax.specs.Queries.{SpellsAlias, none, bare, behind_as, SpellsTable, table, SpellsTarget, place, name, SpellsDirection, unsaid, ascending, descending, SpellsItems, last_item, more_items, SpellsOthers, no_others, behind_comma, behind_join, SpellsClause, no_clause, clause, SpellsGroups, no_groups, groups, SpellsKeys, last_key, more_keys, SpellsOrder, no_order, order, SpellsLimit, no_limit, limit, SpellsQuery, alias_tokens, table_tokens, item_tokens, with_commas, others_tokens_of, clause_tokens, groups_tokens_of, target_token, direction_tokens, key_tokens, order_tokens_of, limit_tokens_of, query_tokens}
+use Rattle.sql_syntax.specs.Queries.{SpellsAlias, none, bare, behind_as, SpellsTable, table, SpellsTarget, position, name, SpellsDirection, unsaid, ascending, descending, SpellsItems, last_item, more_items, SpellsOthers, no_others, behind_comma, behind_join, SpellsClause, no_clause, clause, SpellsGroups, no_groups, groups, SpellsKeys, last_key, more_keys, SpellsOrder, no_order, order, SpellsLimit, no_limit, limit, SpellsQuery, alias_tokens, table_tokens, item_tokens, with_commas, others_tokens_of, clause_tokens, groups_tokens_of, target_token, direction_tokens, key_tokens, order_tokens_of, limit_tokens_of, query_tokens}
 use Rattle.sql_syntax.proofs.Names.{IsProper, lower_name, tokens_proper}
 use Rattle.sql_syntax.proofs.ReadAgain.{AreApart, tokens_again}
 use Rattle.sql_syntax.proofs.CanonicalQuery.{query_good}
@@ -96,7 +96,7 @@ direction_goes ascending = no_arms
 direction_goes descending = λ rest ends o. (tt, refl, ends false)
 
 key_fits : {t : Terminal} {ts : List Terminal} {o : OrderTarget} {d : Direction} → SpellsTarget t o → SpellsDirection ts d → AllByRecursion IsProper (t ∷ ts) → Fits false (target_token o ∷ direction_tokens d)
-key_fits (place n h) d all = let goes = direction_goes d in λ rest ends. (omega (arith, h), refl, goes rest ends true)
+key_fits (position n h) d all = let goes = direction_goes d in λ rest ends. (omega (arith, h), refl, goes rest ends true)
 key_fits (name n) d all = let goes = direction_goes d in λ rest ends. (lower_name n all.0, refl, goes rest ends true)
 
 some_keys : {ts : List Terminal} → SpellsKeys ts [] → ⊥

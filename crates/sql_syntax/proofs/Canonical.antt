@@ -22,7 +22,7 @@ use Rattle.sql_syntax.specs.declared.strength.Operator.{Operator}
 use Rattle.sql_syntax.specs.declared.strength.Operator.TheVariants as operator
 use Rattle.sql_syntax.specs.Strength.{next, rank, level_of, node_of, compares}
 use Rattle.sql_syntax.specs.Phrases.{word, mark, not_if, bracketed, aggregate_word, below_zero, undoubled, heads_integer, Spells, as_next, joined, negated, tested, minus, integer, negative, text, column, column_of, rows, aggregated, first_of, chosen, in_brackets, Tests, compared, between, among, like, is_null, SpellsList, last, more, SpellsArms, last_arm, more_arms, SpellsElse, nothing, null, otherwise}
-use Rattle.sql_syntax.specs.CanonicalTokens.{Printed, place, free, doubled, join_tokens, integer_tokens, column_tokens, list_tokens, arms_tokens, else_tokens, printed, printed_arm, canonical_tokens}
+use Rattle.sql_syntax.specs.CanonicalTokens.{Printed, at_level, free, doubled, join_tokens, integer_tokens, column_tokens, list_tokens, arms_tokens, else_tokens, printed, printed_arm, canonical_tokens}
 use Rattle.sql_syntax.proofs.Names.{lower_lower}
 
 -- ---- from rule to rule
@@ -114,23 +114,23 @@ from_primary level.Term d = climbs level.Term level.Primary refl d
 from_primary level.Factor d = climbs level.Factor level.Primary refl d
 from_primary level.Primary d = climbs level.Primary level.Primary refl d
 
-placed_by : (l strong : Level) (ts : List Terminal) (e : Expr) (test : Bool) → leb (rank l) (rank strong) ≡ test → Spells strong ts e → Spells l (cond test ts (bracketed ts)) e
-placed_by l strong ts e true h d = climbs l strong h d
-placed_by l strong ts e false h d = from_primary l (in_brackets (to_free strong d))
+spells_by_level : (l strong : Level) (ts : List Terminal) (e : Expr) (test : Bool) → leb (rank l) (rank strong) ≡ test → Spells strong ts e → Spells l (cond test ts (bracketed ts)) e
+spells_by_level l strong ts e true h d = climbs l strong h d
+spells_by_level l strong ts e false h d = from_primary l (in_brackets (to_free strong d))
 
--- the printed expression is spelled by any rule at whose place it stands
+-- the printed expression is spelled by any rule of the level that it stands at
 abbrev pub Good : Expr → Type 0
 Good e = Spells (printed e).level (printed e).tokens e
 
-pub placed : (l : Level) (e : Expr) → Good e → Spells l (place l (printed e)) e
-placed l e d = placed_by l (printed e).level (printed e).tokens e (leb (rank l) (rank (printed e).level)) refl d
+pub spells_at_level : (l : Level) (e : Expr) → Good e → Spells l (at_level l (printed e)) e
+spells_at_level l e d = spells_by_level l (printed e).level (printed e).tokens e (leb (rank l) (rank (printed e).level)) refl d
 
 good_by : (e : Expr) (p : Printed) → printed e ≡ p → Spells p.level p.tokens e → Good e
 good_by e p is d = subst (λ (x : Printed). Spells x.level x.tokens e) (sym is) d
 
 -- ---- what is printed of each node
 
-pub printed_not : (e : Expr) → printed (expr.Not e) ≡ record { level = level.Negation; tokens = word keyword.Not ∷ place level.Negation (printed e) }
+pub printed_not : (e : Expr) → printed (expr.Not e) ≡ record { level = level.Negation; tokens = word keyword.Not ∷ at_level level.Negation (printed e) }
 printed_not e = search (rules, the_lemmas)
 
 pub printed_or : (a b : Expr) → printed (expr.Or a b) ≡ record { level = level.Disjunction; tokens = join_tokens operator.Or (printed a) (printed b) }
@@ -148,7 +148,7 @@ printed_and a b = search (rules, the_lemmas)
 pub printed_reckon : (op : Arithmetic) (a b : Expr) → printed (expr.Arithmetic op a b) ≡ record { level = level_of (operator.Reckon op); tokens = join_tokens (operator.Reckon op) (printed a) (printed b) }
 printed_reckon op a b = search (rules, the_lemmas)
 
-pub printed_minus : (e : Expr) → printed (expr.Minus e) ≡ record { level = level.Factor; tokens = mark sign.Minus ∷ place level.Primary (printed e) }
+pub printed_minus : (e : Expr) → printed (expr.Minus e) ≡ record { level = level.Factor; tokens = mark sign.Minus ∷ at_level level.Primary (printed e) }
 printed_minus e = search (rules, the_lemmas)
 
 pub printed_integer : (n : ℤ) → printed (expr.Integer n) ≡ record { level = level.Factor; tokens = integer_tokens n }
@@ -166,22 +166,22 @@ printed_rows = search (rules, the_lemmas)
 pub printed_aggregate : (k : Aggregate) (e : Expr) → printed (expr.Aggregate k e) ≡ record { level = level.Primary; tokens = word (aggregate_word k) ∷ bracketed (free (printed e)) }
 printed_aggregate k e = search (rules, the_lemmas)
 
-pub printed_compare : (op : Comparison) (a b : Expr) → printed (expr.Compare op a b) ≡ record { level = level.Predicate; tokens = place level.Sum (printed a) ++ mark (compares op) ∷ place level.Sum (printed b) }
+pub printed_compare : (op : Comparison) (a b : Expr) → printed (expr.Compare op a b) ≡ record { level = level.Predicate; tokens = at_level level.Sum (printed a) ++ mark (compares op) ∷ at_level level.Sum (printed b) }
 printed_compare op a b = search (rules, the_lemmas)
 
 pub printed_between : (not : Bool) (x low high : Expr) → printed (expr.Between not x low high)
-    ≡ record { level = level.Predicate; tokens = place level.Sum (printed x) ++ (not_if not ++ (word keyword.Between ∷ place level.Sum (printed low) ++ word keyword.And ∷ place level.Sum (printed high))) }
+    ≡ record { level = level.Predicate; tokens = at_level level.Sum (printed x) ++ (not_if not ++ (word keyword.Between ∷ at_level level.Sum (printed low) ++ word keyword.And ∷ at_level level.Sum (printed high))) }
 printed_between not x low high = search (rules, the_lemmas)
 
 pub printed_in : (not : Bool) (x : Expr) (es : List Expr) → printed (expr.In not x es)
-    ≡ record { level = level.Predicate; tokens = place level.Sum (printed x) ++ (not_if not ++ word keyword.In ∷ bracketed (list_tokens (map printed es))) }
+    ≡ record { level = level.Predicate; tokens = at_level level.Sum (printed x) ++ (not_if not ++ word keyword.In ∷ bracketed (list_tokens (map printed es))) }
 printed_in not x es = search (rules, the_lemmas)
 
 pub printed_like : (not : Bool) (x : Expr) (t : List ℕ) → printed (expr.Like not x t)
-    ≡ record { level = level.Predicate; tokens = place level.Sum (printed x) ++ (not_if not ++ word keyword.Like ∷ terminal.text (doubled t) ∷ []) }
+    ≡ record { level = level.Predicate; tokens = at_level level.Sum (printed x) ++ (not_if not ++ word keyword.Like ∷ terminal.text (doubled t) ∷ []) }
 printed_like not x t = search (rules, the_lemmas)
 
-pub printed_null : (not : Bool) (x : Expr) → printed (expr.IsNull not x) ≡ record { level = level.Predicate; tokens = place level.Sum (printed x) ++ (word keyword.Is ∷ not_if not ++ word keyword.Null ∷ []) }
+pub printed_null : (not : Bool) (x : Expr) → printed (expr.IsNull not x) ≡ record { level = level.Predicate; tokens = at_level level.Sum (printed x) ++ (word keyword.Is ∷ not_if not ++ word keyword.Null ∷ []) }
 printed_null not x = search (rules, the_lemmas)
 
 pub printed_arm_is : (c v : Expr) → printed_arm (record { condition = c; value = v }) ≡ (printed c, printed v)
@@ -253,9 +253,9 @@ negative_good zero h = integer_good (pos 0) (integer 0 (omega arith))
 negative_good (suc n) h = integer_good (negsuc n) (negative (suc n) h)
 
 joined_good : (o : Operator) (a b : Expr) → Good a → Good b → Good (node_of o a b)
-joined_good operator.Or a b x y = good_by (expr.Or a b) _ (printed_or a b) (joined operator.Or (placed level.Disjunction a x) (placed level.Conjunction b y))
-joined_good operator.And a b x y = good_by (expr.And a b) _ (printed_and a b) (joined operator.And (placed level.Conjunction a x) (placed level.Negation b y))
-joined_good (operator.Reckon op) a b x y = good_by (expr.Arithmetic op a b) _ (printed_reckon op a b) (joined (operator.Reckon op) (placed (level_of (operator.Reckon op)) a x) (placed (next (level_of (operator.Reckon op))) b y))
+joined_good operator.Or a b x y = good_by (expr.Or a b) _ (printed_or a b) (joined operator.Or (spells_at_level level.Disjunction a x) (spells_at_level level.Conjunction b y))
+joined_good operator.And a b x y = good_by (expr.And a b) _ (printed_and a b) (joined operator.And (spells_at_level level.Conjunction a x) (spells_at_level level.Negation b y))
+joined_good (operator.Reckon op) a b x y = good_by (expr.Arithmetic op a b) _ (printed_reckon op a b) (joined (operator.Reckon op) (spells_at_level (level_of (operator.Reckon op)) a x) (spells_at_level (next (level_of (operator.Reckon op))) b y))
 
 text_good : (t : List ℕ) → Good (expr.Text t)
 text_good t = good_by (expr.Text t) _ (printed_text t) (subst (λ u. Spells level.Primary (terminal.text (doubled t) ∷ []) (expr.Text u)) (undoubled_doubled t) (text (doubled t)))
@@ -295,42 +295,42 @@ mutual
   pub good : {l : Level} {ts : List Terminal} {e : Expr} → Spells l ts e → Good e
   good (as_next d) = good d
   good (joined o {a = a} {b = b} d d') = joined_good o a b (good d) (good d')
-  good (negated {e = e} d) = good_by (expr.Not e) _ (printed_not e) (negated (placed level.Negation e (good d)))
+  good (negated {e = e} d) = good_by (expr.Not e) _ (printed_not e) (negated (spells_at_level level.Negation e (good d)))
   good (tested {a = a} d t) = good_test t (good d)
-  good (minus {e = e} h d) = let p = placed level.Primary e (good d) in good_by (expr.Minus e) _ (printed_minus e) (minus (no_integer p refl) (as_next p))
+  good (minus {e = e} h d) = let p = spells_at_level level.Primary e (good d) in good_by (expr.Minus e) _ (printed_minus e) (minus (no_integer p refl) (as_next p))
   good (integer n h) = integer_good (pos n) (integer n h)
   good (negative n h) = negative_good n h
   good (text t) = text_good (undoubled t)
   good (column n) = column_good n
   good (column_of t n) = column_of_good t n
   good rows = good_by expr.CountRows _ printed_rows rows
-  good (aggregated k {e = e} d) = good_by (expr.Aggregate k e) _ (printed_aggregate k e) (aggregated k (placed level.Disjunction e (good d)))
+  good (aggregated k {e = e} d) = good_by (expr.Aggregate k e) _ (printed_aggregate k e) (aggregated k (spells_at_level level.Disjunction e (good d)))
   good (first_of {es = es} ds) = good_by (expr.Coalesce es) _ (printed_list es) (first_of (good_list ds))
   good (chosen {arms = arms} {otherwise = o} ds d) = good_by (expr.Case arms o) _ (printed_case arms o) (chosen (good_arms ds) (good_else d))
   good (in_brackets d) = good d
 
   good_test : {a e : Expr} {ts : List Terminal} → Tests a ts e → Good a → Good e
-  good_test {a} (compared op {b = b} d) x = good_by (expr.Compare op a b) _ (printed_compare op a b) (tested (placed level.Sum a x) (compared op (placed level.Sum b (good d))))
+  good_test {a} (compared op {b = b} d) x = good_by (expr.Compare op a b) _ (printed_compare op a b) (tested (spells_at_level level.Sum a x) (compared op (spells_at_level level.Sum b (good d))))
   good_test {a} (between not {low = low} {high = high} d d') x =
-      good_by (expr.Between not a low high) _ (printed_between not a low high) (tested (placed level.Sum a x) (between not (placed level.Sum low (good d)) (placed level.Sum high (good d'))))
-  good_test {a} (among not {es = es} ds) x = good_by (expr.In not a es) _ (printed_in not a es) (tested (placed level.Sum a x) (among not (good_list ds)))
+      good_by (expr.Between not a low high) _ (printed_between not a low high) (tested (spells_at_level level.Sum a x) (between not (spells_at_level level.Sum low (good d)) (spells_at_level level.Sum high (good d'))))
+  good_test {a} (among not {es = es} ds) x = good_by (expr.In not a es) _ (printed_in not a es) (tested (spells_at_level level.Sum a x) (among not (good_list ds)))
   good_test {a} (like not t) x =
-      good_by (expr.Like not a (undoubled t)) _ (printed_like not a (undoubled t)) (tested (placed level.Sum a x)
+      good_by (expr.Like not a (undoubled t)) _ (printed_like not a (undoubled t)) (tested (spells_at_level level.Sum a x)
       (subst (λ u. Tests a (not_if not ++ word keyword.Like ∷ terminal.text (doubled (undoubled t)) ∷ []) (expr.Like not a u)) (undoubled_doubled (undoubled t)) (like not (doubled (undoubled t)))))
-  good_test {a} (is_null not) x = good_by (expr.IsNull not a) _ (printed_null not a) (tested (placed level.Sum a x) (is_null not))
+  good_test {a} (is_null not) x = good_by (expr.IsNull not a) _ (printed_null not a) (tested (spells_at_level level.Sum a x) (is_null not))
 
   pub good_list : {ts : List Terminal} {es : List Expr} → SpellsList ts es → SpellsList (list_tokens (map printed es)) es
-  good_list (last {e = e} d) = last (placed level.Disjunction e (good d))
-  good_list (more {e = e} d ds) = more_good e _ (placed level.Disjunction e (good d)) (good_list ds)
+  good_list (last {e = e} d) = last (spells_at_level level.Disjunction e (good d))
+  good_list (more {e = e} d ds) = more_good e _ (spells_at_level level.Disjunction e (good d)) (good_list ds)
 
   good_arms : {ts : List Terminal} {arms : List Arm} → SpellsArms ts arms → SpellsArms (arms_tokens (map printed_arm arms)) arms
-  good_arms (last_arm {c = c} {v = v} d d') = last_arm_good c v (placed level.Disjunction c (good d)) (placed level.Disjunction v (good d'))
-  good_arms (more_arms {c = c} {v = v} {arms = arms} d d' ds) = more_arms_good c v arms (placed level.Disjunction c (good d)) (placed level.Disjunction v (good d')) (good_arms ds)
+  good_arms (last_arm {c = c} {v = v} d d') = last_arm_good c v (spells_at_level level.Disjunction c (good d)) (spells_at_level level.Disjunction v (good d'))
+  good_arms (more_arms {c = c} {v = v} {arms = arms} d d' ds) = more_arms_good c v arms (spells_at_level level.Disjunction c (good d)) (spells_at_level level.Disjunction v (good d')) (good_arms ds)
 
   good_else : {ts : List Terminal} {o : Option Expr} → SpellsElse ts o → SpellsElse (else_tokens (option_map printed o)) o
   good_else nothing = nothing
   good_else null = nothing
-  good_else (otherwise {e = e} d) = otherwise (placed level.Disjunction e (good d))
+  good_else (otherwise {e = e} d) = otherwise (spells_at_level level.Disjunction e (good d))
 
 -- the canonical tokens of a tree spell it
 pub canonical_spells : {l : Level} {ts : List Terminal} {e : Expr} → Spells l ts e → Spells level.Disjunction (canonical_tokens e) e

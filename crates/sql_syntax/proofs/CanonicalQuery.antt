@@ -18,12 +18,12 @@ use Rattle.sql_syntax.specs.Tokens.{Terminal}
 use Rattle.sql_syntax.specs.declared.strength.Level.TheVariants as level
 use Rattle.sql_syntax.specs.Phrases.{word, Spells, SpellsList, last, more}
 use Rattle.sql_syntax.specs.CanonicalTokens.{printed, free, list_tokens}
-use Rattle.sql_syntax.specs.Queries.{SpellsAlias, none, bare, behind_as, SpellsTable, table, SpellsTarget, place, name, SpellsDirection, unsaid, ascending, descending, SpellsItems, last_item, more_items, SpellsOthers, no_others, behind_comma, behind_join, SpellsClause, no_clause, clause, SpellsGroups, no_groups, groups, SpellsKeys, last_key, more_keys, SpellsOrder, no_order, order, SpellsLimit, no_limit, limit, no_end, SpellsQuery, alias_tokens, table_tokens, item_tokens, with_commas, others_tokens_of, clause_tokens, groups_tokens_of, target_token, direction_tokens, key_tokens, order_tokens_of, limit_tokens_of, query_tokens}
+use Rattle.sql_syntax.specs.Queries.{SpellsAlias, none, bare, behind_as, SpellsTable, table, SpellsTarget, position, name, SpellsDirection, unsaid, ascending, descending, SpellsItems, last_item, more_items, SpellsOthers, no_others, behind_comma, behind_join, SpellsClause, no_clause, clause, SpellsGroups, no_groups, groups, SpellsKeys, last_key, more_keys, SpellsOrder, no_order, order, SpellsLimit, no_limit, limit, no_end, SpellsQuery, alias_tokens, table_tokens, item_tokens, with_commas, others_tokens_of, clause_tokens, groups_tokens_of, target_token, direction_tokens, key_tokens, order_tokens_of, limit_tokens_of, query_tokens}
 use Rattle.sql_syntax.proofs.Names.{lower_lower}
-use Rattle.sql_syntax.proofs.Canonical.{placed, good, good_list}
+use Rattle.sql_syntax.proofs.Canonical.{spells_at_level, good, good_list}
 
 free_good : {ts : List Terminal} {e : Expr} → Spells level.Disjunction ts e → Spells level.Disjunction (free (printed e)) e
-free_good {e = e} d = placed level.Disjunction e (good d)
+free_good {e = e} d = spells_at_level level.Disjunction e (good d)
 
 alias_good : {ts : List Terminal} {alias : Option (List ℕ)} → SpellsAlias ts alias → SpellsAlias (alias_tokens alias) alias
 alias_good none = none
@@ -34,7 +34,7 @@ table_good : {ts : List Terminal} {t : Table} → SpellsTable ts t → SpellsTab
 table_good (table n {alias = a} d) = subst (λ m. SpellsTable (terminal.name (lower n) ∷ alias_tokens a) (record { name = m; alias = a })) (lower_lower n) (table (lower n) (alias_good d))
 
 target_good : {t : Terminal} {o : OrderTarget} → SpellsTarget t o → SpellsTarget (target_token o) o
-target_good (place n h) = place n h
+target_good (position n h) = position n h
 target_good (name n) = subst (λ m. SpellsTarget (terminal.name (lower n)) (target.Name m)) (lower_lower n) (name (lower n))
 
 direction_good : {ts : List Terminal} {d : Direction} → SpellsDirection ts d → SpellsDirection (direction_tokens d) d

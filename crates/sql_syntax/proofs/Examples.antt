@@ -17,7 +17,7 @@ use Rattle.sql_syntax.specs.declared.strength.Operator.TheVariants as operator
 use Rattle.sql_syntax.specs.Strength.{level_of, compares}
 use Rattle.sql_syntax.specs.Words.{lower}
 use Rattle.sql_syntax.specs.Phrases.{word, mark, not_if, Spells, as_next, joined, column}
-use Rattle.sql_syntax.specs.CanonicalTokens.{Printed, printed, place, join_tokens, canonical_tokens}
+use Rattle.sql_syntax.specs.CanonicalTokens.{Printed, printed, at_level, join_tokens, canonical_tokens}
 use Rattle.sql_syntax.specs.Queries.{text_of}
 use Rattle.sql_syntax.proofs.Canonical.{to_free, printed_not, printed_or, printed_and, printed_reckon, printed_minus, printed_integer, printed_column, printed_compare, printed_between}
 
@@ -49,19 +49,19 @@ or_is x y f g = printed_or x y ∙ (λ i. record { level = level.Disjunction; to
 and_is : (x y : Expr) {p q : Printed} → printed x ≡ p → printed y ≡ q → printed (expr.And x y) ≡ record { level = level.Conjunction; tokens = join_tokens operator.And p q }
 and_is x y f g = printed_and x y ∙ (λ i. record { level = level.Conjunction; tokens = join_tokens operator.And (f i) (g i) })
 
-not_is : (x : Expr) {p : Printed} → printed x ≡ p → printed (expr.Not x) ≡ record { level = level.Negation; tokens = word keyword.Not ∷ place level.Negation p }
-not_is x f = printed_not x ∙ (λ i. record { level = level.Negation; tokens = word keyword.Not ∷ place level.Negation (f i) })
+not_is : (x : Expr) {p : Printed} → printed x ≡ p → printed (expr.Not x) ≡ record { level = level.Negation; tokens = word keyword.Not ∷ at_level level.Negation p }
+not_is x f = printed_not x ∙ (λ i. record { level = level.Negation; tokens = word keyword.Not ∷ at_level level.Negation (f i) })
 
-minus_is : (x : Expr) {p : Printed} → printed x ≡ p → printed (expr.Minus x) ≡ record { level = level.Factor; tokens = mark sign.Minus ∷ place level.Primary p }
-minus_is x f = printed_minus x ∙ (λ i. record { level = level.Factor; tokens = mark sign.Minus ∷ place level.Primary (f i) })
+minus_is : (x : Expr) {p : Printed} → printed x ≡ p → printed (expr.Minus x) ≡ record { level = level.Factor; tokens = mark sign.Minus ∷ at_level level.Primary p }
+minus_is x f = printed_minus x ∙ (λ i. record { level = level.Factor; tokens = mark sign.Minus ∷ at_level level.Primary (f i) })
 
 compare_is : (op : Comparison) (x y : Expr) {p q : Printed} → printed x ≡ p → printed y ≡ q
-    → printed (expr.Compare op x y) ≡ record { level = level.Predicate; tokens = place level.Sum p ++ mark (compares op) ∷ place level.Sum q }
-compare_is op x y f g = printed_compare op x y ∙ (λ i. record { level = level.Predicate; tokens = place level.Sum (f i) ++ mark (compares op) ∷ place level.Sum (g i) })
+    → printed (expr.Compare op x y) ≡ record { level = level.Predicate; tokens = at_level level.Sum p ++ mark (compares op) ∷ at_level level.Sum q }
+compare_is op x y f g = printed_compare op x y ∙ (λ i. record { level = level.Predicate; tokens = at_level level.Sum (f i) ++ mark (compares op) ∷ at_level level.Sum (g i) })
 
 between_is : (x y z : Expr) {p q r : Printed} → printed x ≡ p → printed y ≡ q → printed z ≡ r
-    → printed (expr.Between true x y z) ≡ record { level = level.Predicate; tokens = place level.Sum p ++ (not_if true ++ (word keyword.Between ∷ place level.Sum q ++ word keyword.And ∷ place level.Sum r)) }
-between_is x y z f g h = printed_between true x y z ∙ (λ i. record { level = level.Predicate; tokens = place level.Sum (f i) ++ (not_if true ++ (word keyword.Between ∷ place level.Sum (g i) ++ word keyword.And ∷ place level.Sum (h i))) })
+    → printed (expr.Between true x y z) ≡ record { level = level.Predicate; tokens = at_level level.Sum p ++ (not_if true ++ (word keyword.Between ∷ at_level level.Sum q ++ word keyword.And ∷ at_level level.Sum r)) }
+between_is x y z f g h = printed_between true x y z ∙ (λ i. record { level = level.Predicate; tokens = at_level level.Sum (f i) ++ (not_if true ++ (word keyword.Between ∷ at_level level.Sum (g i) ++ word keyword.And ∷ at_level level.Sum (h i))) })
 
 -- a - b - c groups from the left, and is written without brackets
 left_text : text_of (canonical_tokens (minus_of (minus_of a b) c)) ≡ codes "a - b - c"

@@ -2,7 +2,7 @@
 use Rattle.std.proofs.Common.{◌≡◌, ℕ, zero, suc, ◌+◌, Bool, true, false, cond, eqb, List, [], ◌∷◌, length, get_or, take, drop, Option, Some, None}
 use Rattle.std.specs.List.{AllByRecursion}
 use Rattle.sql_syntax.specs.Tokens as terminal
-use Rattle.sql_syntax.specs.Tokens.{Terminal, is_blank, behind_blanks, behind_line, quoted_len, terminal_at, with_first, placed_from, tokens_of, terminals}
+use Rattle.sql_syntax.specs.Tokens.{Terminal, is_blank, behind_blanks, behind_line, quoted_len, terminal_at, with_first, located_from, tokens_of, terminals}
 use Rattle.sql_syntax.proofs.Names.{IsProperBy, first_proper}
 
 -- what holds of what is left, and what follows of it in quotes
@@ -51,13 +51,13 @@ module _ (Holds IsQuoted : List ℕ → Type 0) (none : Holds []) (next : (b : �
       (either_left (eqb (get_or bs 0 0) 39) (terminal.text_at bs) (terminal.sign_at bs) (text_left (quoted_len (drop 1 bs)) (drop 1 bs) (dropped 1 bs holds))
       (sign_left (terminal.long_sign (get_or bs 0 0) (get_or bs 1 0)) bs holds)))
 
-  with_first_proper : (n text_len : ℕ) (bs : List ℕ) → Holds bs → ((left : List ℕ) → Holds left → AllByRecursion (IsProperBy IsQuoted) (terminals (placed_from n text_len left)))
-      → AllByRecursion (IsProperBy IsQuoted) (terminals (with_first text_len (placed_from n text_len) bs))
+  with_first_proper : (n text_len : ℕ) (bs : List ℕ) → Holds bs → ((left : List ℕ) → Holds left → AllByRecursion (IsProperBy IsQuoted) (terminals (located_from n text_len left)))
+      → AllByRecursion (IsProperBy IsQuoted) (terminals (with_first text_len (located_from n text_len) bs))
   with_first_proper n text_len [] holds more = tt
   with_first_proper n text_len (b ∷ bs) holds more =
       (first_proper IsQuoted (b ∷ bs) (λ quote k closed. quoted (b ∷ bs) k holds quote closed), more (terminal_at (b ∷ bs)).1 (first_left (b ∷ bs) holds))
 
-  all_proper : (n text_len : ℕ) (bs : List ℕ) → Holds bs → AllByRecursion (IsProperBy IsQuoted) (terminals (placed_from n text_len bs))
+  all_proper : (n text_len : ℕ) (bs : List ℕ) → Holds bs → AllByRecursion (IsProperBy IsQuoted) (terminals (located_from n text_len bs))
   all_proper zero text_len bs holds = tt
   all_proper (suc n) text_len bs holds = with_first_proper n text_len (behind_blanks bs) (blanks_left bs holds) (all_proper n text_len)
 

@@ -13,7 +13,7 @@ use Rattle.sql_syntax.specs.declared.keyword.Keyword.{Keyword}
 use Rattle.sql_syntax.specs.declared.token.Sign.{Sign}
 use Rattle.sql_syntax.specs.Words.{lower, spelling_of, keywords, keyword_of, left_out_words, is_left_out}
 use Rattle.sql_syntax.specs.Tokens as terminal
-use Rattle.sql_syntax.specs.Tokens.{Terminal, Placed, is_blank, behind_blanks, is_word_start, is_word_byte, drop_while, other_word, word_or_other, word_of, word_at, quoted_len, terminal_at, with_first, placed_from, tokens_of, terminals}
+use Rattle.sql_syntax.specs.Tokens.{Terminal, Located, is_blank, behind_blanks, is_word_start, is_word_byte, drop_while, other_word, word_or_other, word_of, word_at, quoted_len, terminal_at, with_first, located_from, tokens_of, terminals}
 use Rattle.sql_syntax.proofs.Runs.{words_ascii}
 
 abbrev pub AllPass : (ℕ → Bool) → List ℕ → Type 0
@@ -160,12 +160,12 @@ first_proper P bs quoted =
     (λ digit. integer_proper P (terminal.number_of (take_while terminal.is_digit bs)) (leb (terminal.number_of (take_while terminal.is_digit bs)) 9223372036854775808))
     (choice_proper P (eqb (get_or bs 0 0) 39) (terminal.text_at bs) (terminal.sign_at bs) (λ quote. text_proper P (quoted_len (drop 1 bs)) (drop 1 bs) (quoted (eqb-true (get_or bs 0 0) 39 quote))) later))
 
-left_proper : (n text_len : ℕ) (bs : List ℕ) → ((left : List ℕ) → AllByRecursion IsProper (terminals (placed_from n text_len left))) → AllByRecursion IsProper (terminals (with_first text_len (placed_from n text_len) bs))
+left_proper : (n text_len : ℕ) (bs : List ℕ) → ((left : List ℕ) → AllByRecursion IsProper (terminals (located_from n text_len left))) → AllByRecursion IsProper (terminals (with_first text_len (located_from n text_len) bs))
 left_proper n text_len [] more = tt
 left_proper n text_len (b ∷ bs) more = (first_proper any_text (b ∷ bs) (λ _ n _. tt), more (terminal_at (b ∷ bs)).1)
 
 -- and so are all names of a text
-pub all_proper : (n text_len : ℕ) (bs : List ℕ) → AllByRecursion IsProper (terminals (placed_from n text_len bs))
+pub all_proper : (n text_len : ℕ) (bs : List ℕ) → AllByRecursion IsProper (terminals (located_from n text_len bs))
 all_proper zero text_len bs = tt
 all_proper (suc n) text_len bs = left_proper n text_len (behind_blanks bs) (all_proper n text_len)
 

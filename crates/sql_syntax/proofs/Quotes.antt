@@ -8,11 +8,11 @@ use Rattle.sql_syntax.specs.Tokens.{quoted_len, behind_quote}
 abbrev pub ahead : ℕ → Option ℕ → Option ℕ
 ahead at = option_map (λ n. n + at)
 
--- a place that has a byte other than 0 is within
+-- an offset that has a byte other than 0 is within
 pub has_byte : (bs : List ℕ) (i : ℕ) → 0 < get_or bs i 0 → i < length bs
 has_byte bs i positive = elim (cases_lt i (length bs)) [ inl lt ↦ lt | inr le ↦ absurd (omega (arith, get_or_past bs i 0 le)) ]
 
--- a quote stands at this place
+-- a quote stands at this offset
 abbrev pub StandsAt : List ℕ → ℕ → Type 0
 StandsAt bs n = (n < length bs) × (get_or bs n 0 ≡ 39)
 

@@ -8,7 +8,7 @@ use Rattle.sql_syntax.specs.declared.keyword.Keyword.{Keyword}
 use Rattle.sql_syntax.specs.declared.token.Sign.TheVariants as sign
 use Rattle.sql_syntax.specs.Words.{spelling_of}
 use Rattle.sql_syntax.specs.Tokens as terminal
-use Rattle.sql_syntax.specs.Tokens.{Terminal, Placed, behind_blanks, is_digit, is_word_start, terminal_at, with_first, placed_from, tokens_of, terminals}
+use Rattle.sql_syntax.specs.Tokens.{Terminal, Located, behind_blanks, is_digit, is_word_start, terminal_at, with_first, located_from, tokens_of, terminals}
 use Rattle.sql_syntax.specs.CanonicalTokens.{doubled}
 use Rattle.sql_syntax.specs.Queries.{token_text, ends_operand, hugs_left, hugs_right, text_behind, text_of}
 use Rattle.sql_syntax.proofs.Names.{AllPass, IsName}
@@ -199,19 +199,19 @@ behind_blank : (hugs : Bool) (x : List ℕ) → behind_blanks (cond hugs [] (cod
 behind_blank true x = refl
 behind_blank false x = refl
 
-first_of_some : (len : ℕ) (more : List ℕ → List Placed) (bs : List ℕ) → 0 < length bs → terminals (with_first len more bs) ≡ (terminal_at bs).0 ∷ terminals (more (terminal_at bs).1)
+first_of_some : (len : ℕ) (more : List ℕ → List Located) (bs : List ℕ) → 0 < length bs → terminals (with_first len more bs) ≡ (terminal_at bs).0 ∷ terminals (more (terminal_at bs).1)
 first_of_some len more [] some = absurd (omega arith)
 first_of_some len more (b ∷ bs) some = refl
 
 one_token : (n len : ℕ) (hugs : Bool) (t : Terminal) (rest : List ℕ) → IsRead t rest
-    → terminals (placed_from (suc n) len (cond hugs [] (codes " ") ++ (token_text t ++ rest))) ≡ t ∷ terminals (placed_from n len rest)
+    → terminals (located_from (suc n) len (cond hugs [] (codes " ") ++ (token_text t ++ rest))) ≡ t ∷ terminals (located_from n len rest)
 one_token n len hugs t rest is =
-    let more : List ℕ → List Placed = placed_from n len in
+    let more : List ℕ → List Located = located_from n len in
     ap (λ (bs : List ℕ). terminals (with_first len more bs)) (behind_blank hugs (token_text t ++ rest) ∙ is.stays)
     ∙ first_of_some len more (token_text t ++ rest) (omega (arith, length-append (token_text t) rest, is.some))
     ∙ ap (λ (x : Terminal × List ℕ). x.0 ∷ terminals (more x.1)) is.first
 
-reads_all : (n len : ℕ) (o hugs : Bool) (ts : List Terminal) → AreApart o ts → length (text_behind o hugs ts) ≤ n → terminals (placed_from n len (text_behind o hugs ts)) ≡ ts
+reads_all : (n len : ℕ) (o hugs : Bool) (ts : List Terminal) → AreApart o ts → length (text_behind o hugs ts) ≤ n → terminals (located_from n len (text_behind o hugs ts)) ≡ ts
 reads_all zero len o hugs [] all within = refl
 reads_all (suc n) len o hugs [] all within = refl
 reads_all zero len o hugs (t ∷ ts) all within =

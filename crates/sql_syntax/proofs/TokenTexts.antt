@@ -14,7 +14,7 @@ use Rattle.sql_syntax.specs.declared.token.Sign.{Sign}
 use Rattle.sql_syntax.specs.declared.token.Sign.TheVariants as sign
 use Rattle.sql_syntax.specs.Words.{spelling_of, keyword_of}
 use Rattle.sql_syntax.specs.Tokens as terminal
-use Rattle.sql_syntax.specs.Tokens.{Terminal, Placed, behind_blanks, is_blank, is_digit, is_word_start, is_word_byte, word_of, word_at, integer_at, text_at, text_or_none, sign_at, quoted_len, behind_quote, number_of, integer_of, drop_while, terminal_at, with_first, placed_from, tokens_of}
+use Rattle.sql_syntax.specs.Tokens.{Terminal, Located, behind_blanks, is_blank, is_digit, is_word_start, is_word_byte, word_of, word_at, integer_at, text_at, text_or_none, sign_at, quoted_len, behind_quote, number_of, integer_of, drop_while, terminal_at, with_first, located_from, tokens_of}
 use Rattle.sql_syntax.specs.CanonicalTokens.{doubled}
 use Rattle.sql_syntax.specs.Queries.{token_text}
 use Rattle.sql_syntax.proofs.Names.{AllPass, run_ends}

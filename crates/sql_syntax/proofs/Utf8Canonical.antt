@@ -33,7 +33,7 @@ use Rattle.sql_syntax.specs.Tokens.{Terminal, tokens_of, terminals}
 use Rattle.sql_syntax.specs.Canonical.{canonical}
 use Rattle.sql_syntax.specs.Strength.{next, rank, level_of, token_of, node_of, compares}
 use Rattle.sql_syntax.specs.Phrases.{word, mark, not_if, bracketed, below_zero, undoubled, Spells, as_next, joined, negated, tested, minus, integer, negative, text, column, column_of, rows, aggregated, first_of, chosen, in_brackets, Tests, compared, between, among, like, is_null, SpellsList, last, more, SpellsArms, last_arm, more_arms, SpellsElse, nothing, null, otherwise}
-use Rattle.sql_syntax.specs.CanonicalTokens.{Printed, place, free, doubled, join_tokens, integer_tokens, list_tokens, arms_tokens, else_tokens, printed, printed_arm}
+use Rattle.sql_syntax.specs.CanonicalTokens.{Printed, at_level, free, doubled, join_tokens, integer_tokens, list_tokens, arms_tokens, else_tokens, printed, printed_arm}
 use Rattle.sql_syntax.specs.Queries.{SpellsAlias, none, bare, behind_as, SpellsTable, table, SpellsTarget, name, SpellsItems, last_item, more_items, SpellsOthers, no_others, behind_comma, behind_join, SpellsClause, no_clause, clause, SpellsGroups, no_groups, groups, SpellsKeys, last_key, more_keys, SpellsOrder, no_order, order, SpellsQuery, alias_tokens, table_tokens, item_tokens, with_commas, others_tokens_of, clause_tokens, groups_tokens_of, target_token, direction_tokens, key_tokens, order_tokens_of, limit_tokens_of, query_tokens, sign_text, token_text, ends_operand, hugs_left, hugs_right, text_behind}
 use Rattle.sql_syntax.specs.Queries as queries
 use Rattle.sql_syntax.proofs.Names.{IsProperBy, lower_name, name_ascii, tokens_proper}
@@ -62,15 +62,15 @@ in_brackets_too ts all = (tt, both ts (mark sign.Close ∷ []) all (tt, tt))
 within_brackets : (ts : List Terminal) → All (bracketed ts) → All ts
 within_brackets ts all = (split ts (mark sign.Close ∷ []) all.1).0
 
-placed_by : (test : Bool) (ts : List Terminal) → All ts → All (cond test ts (bracketed ts))
-placed_by true ts all = all
-placed_by false ts all = in_brackets_too ts all
+fine_by_level : (test : Bool) (ts : List Terminal) → All ts → All (cond test ts (bracketed ts))
+fine_by_level true ts all = all
+fine_by_level false ts all = in_brackets_too ts all
 
 abbrev Fine : Expr → Type 0
 Fine e = All (printed e).tokens
 
-placed : (l : Level) (e : Expr) → Fine e → All (place l (printed e))
-placed l e all = placed_by (leb (rank l) (rank (printed e).level)) (printed e).tokens all
+fine_at_level : (l : Level) (e : Expr) → Fine e → All (at_level l (printed e))
+fine_at_level l e all = fine_by_level (leb (rank l) (rank (printed e).level)) (printed e).tokens all
 
 not_too : (not : Bool) → All (not_if not)
 not_too true = (tt, tt)
@@ -90,7 +90,7 @@ op_too (operator.Reckon arithmetic.Multiply) = tt
 op_too (operator.Reckon arithmetic.Divide) = tt
 
 join_too : (o : Operator) (a b : Expr) → Fine a → Fine b → All (join_tokens o (printed a) (printed b))
-join_too o a b x y = both (place (level_of o) (printed a)) (token_of o ∷ place (next (level_of o)) (printed b)) (placed (level_of o) a x) (op_too o, placed (next (level_of o)) b y)
+join_too o a b x y = both (at_level (level_of o) (printed a)) (token_of o ∷ at_level (next (level_of o)) (printed b)) (fine_at_level (level_of o) a x) (op_too o, fine_at_level (next (level_of o)) b y)
 
 joined_fine : (o : Operator) (a b : Expr) → Fine a → Fine b → Fine (node_of o a b)
 joined_fine operator.Or a b x y = fine_by (expr.Or a b) _ (printed_or a b) (join_too operator.Or a b x y)
@@ -123,9 +123,9 @@ mutual
   fine : {l : Level} {ts : List Terminal} {e : Expr} → Spells l ts e → All ts → Fine e
   fine (as_next d) all = fine d all
   fine (joined o {ts = ts} {us = us} {a = a} {b = b} d d') all = let s = split ts (token_of o ∷ us) all in joined_fine o a b (fine d s.0) (fine d' s.1.1)
-  fine (negated {e = e} d) all = fine_by (expr.Not e) _ (printed_not e) (tt, placed level.Negation e (fine d all.1))
+  fine (negated {e = e} d) all = fine_by (expr.Not e) _ (printed_not e) (tt, fine_at_level level.Negation e (fine d all.1))
   fine (tested {ts = ts} {us = us} d t) all = let s = split ts us all in fine_test t (fine d s.0) s.1
-  fine (minus {e = e} h d) all = fine_by (expr.Minus e) _ (printed_minus e) (tt, placed level.Primary e (fine d all.1))
+  fine (minus {e = e} h d) all = fine_by (expr.Minus e) _ (printed_minus e) (tt, fine_at_level level.Primary e (fine d all.1))
   fine (integer n h) all = integer_fine (pos n)
   fine (negative n h) all = integer_fine (below_zero n)
   fine (text t) all = fine_by (expr.Text (undoubled t)) _ (printed_text (undoubled t)) (text_kept t all.0, tt)
@@ -133,7 +133,7 @@ mutual
   fine (column_of t n) all = fine_by (expr.Column (Some (lower t)) (lower n)) _ (printed_column (Some (lower t)) (lower n)) (lower_name t all.0, (tt, (lower_name n all.1.1.0, tt)))
   fine rows all = fine_by expr.CountRows _ printed_rows (tt, (tt, (tt, (tt, tt))))
   fine (aggregated k {ts = ts} {e = e} d) all =
-      fine_by (expr.Aggregate k e) _ (printed_aggregate k e) (tt, in_brackets_too (free (printed e)) (placed level.Disjunction e (fine d (within_brackets ts all.1))))
+      fine_by (expr.Aggregate k e) _ (printed_aggregate k e) (tt, in_brackets_too (free (printed e)) (fine_at_level level.Disjunction e (fine d (within_brackets ts all.1))))
   fine (first_of {ts = ts} {es = es} ds) all = fine_by (expr.Coalesce es) _ (printed_list es) (tt, in_brackets_too (list_tokens (map printed es)) (fine_list ds (within_brackets ts all.1)))
   fine (chosen {ts = ts} {us = us} {arms = arms} {otherwise = o} ds d) all =
       let s = split ts (us ++ word keyword.End ∷ []) all.1 in
@@ -143,41 +143,41 @@ mutual
 
   fine_test : {a e : Expr} {ts : List Terminal} → Tests a ts e → Fine a → All ts → Fine e
   fine_test {a} (compared op {b = b} d) x all =
-      fine_by (expr.Compare op a b) _ (printed_compare op a b) (both (place level.Sum (printed a)) (mark (compares op) ∷ place level.Sum (printed b)) (placed level.Sum a x) (tt, placed level.Sum b (fine d all.1)))
+      fine_by (expr.Compare op a b) _ (printed_compare op a b) (both (at_level level.Sum (printed a)) (mark (compares op) ∷ at_level level.Sum (printed b)) (fine_at_level level.Sum a x) (tt, fine_at_level level.Sum b (fine d all.1)))
   fine_test {a} (between not {low = low} {high = high} {ts = ts} {us = us} d d') x all =
       let s = split (not_if not) (word keyword.Between ∷ ts ++ word keyword.And ∷ us) all in
       let t = split ts (word keyword.And ∷ us) s.1.1 in
-      let bounds = both (place level.Sum (printed low)) (word keyword.And ∷ place level.Sum (printed high)) (placed level.Sum low (fine d t.0)) (tt, placed level.Sum high (fine d' t.1.1)) in
-      fine_by (expr.Between not a low high) _ (printed_between not a low high) (both (place level.Sum (printed a)) _ (placed level.Sum a x) (both (not_if not) _ (not_too not) (tt, bounds)))
+      let bounds = both (at_level level.Sum (printed low)) (word keyword.And ∷ at_level level.Sum (printed high)) (fine_at_level level.Sum low (fine d t.0)) (tt, fine_at_level level.Sum high (fine d' t.1.1)) in
+      fine_by (expr.Between not a low high) _ (printed_between not a low high) (both (at_level level.Sum (printed a)) _ (fine_at_level level.Sum a x) (both (not_if not) _ (not_too not) (tt, bounds)))
   fine_test {a} (among not {ts = ts} {es = es} ds) x all =
       let s = split (not_if not) (word keyword.In ∷ bracketed ts) all in
       let list = in_brackets_too (list_tokens (map printed es)) (fine_list ds (within_brackets ts s.1.1)) in
-      fine_by (expr.In not a es) _ (printed_in not a es) (both (place level.Sum (printed a)) _ (placed level.Sum a x) (both (not_if not) _ (not_too not) (tt, list)))
+      fine_by (expr.In not a es) _ (printed_in not a es) (both (at_level level.Sum (printed a)) _ (fine_at_level level.Sum a x) (both (not_if not) _ (not_too not) (tt, list)))
   fine_test {a} (like not t) x all =
       let s = split (not_if not) (word keyword.Like ∷ terminal.text t ∷ []) all in
-      fine_by (expr.Like not a (undoubled t)) _ (printed_like not a (undoubled t)) (both (place level.Sum (printed a)) _ (placed level.Sum a x) (both (not_if not) _ (not_too not) (tt, (text_kept t s.1.1.0, tt))))
+      fine_by (expr.Like not a (undoubled t)) _ (printed_like not a (undoubled t)) (both (at_level level.Sum (printed a)) _ (fine_at_level level.Sum a x) (both (not_if not) _ (not_too not) (tt, (text_kept t s.1.1.0, tt))))
   fine_test {a} (is_null not) x all =
-      fine_by (expr.IsNull not a) _ (printed_null not a) (both (place level.Sum (printed a)) _ (placed level.Sum a x) (tt, both (not_if not) (word keyword.Null ∷ []) (not_too not) (tt, tt)))
+      fine_by (expr.IsNull not a) _ (printed_null not a) (both (at_level level.Sum (printed a)) _ (fine_at_level level.Sum a x) (tt, both (not_if not) (word keyword.Null ∷ []) (not_too not) (tt, tt)))
 
   fine_list : {ts : List Terminal} {es : List Expr} → SpellsList ts es → All ts → All (list_tokens (map printed es))
-  fine_list (last {e = e} d) all = placed level.Disjunction e (fine d all)
-  fine_list (more {ts = ts} {us = us} {e = e} {es = es} d ds) all = let s = split ts (mark sign.Comma ∷ us) all in list_too e es (placed level.Disjunction e (fine d s.0)) (fine_list ds s.1.1)
+  fine_list (last {e = e} d) all = fine_at_level level.Disjunction e (fine d all)
+  fine_list (more {ts = ts} {us = us} {e = e} {es = es} d ds) all = let s = split ts (mark sign.Comma ∷ us) all in list_too e es (fine_at_level level.Disjunction e (fine d s.0)) (fine_list ds s.1.1)
 
   fine_arms : {ts : List Terminal} {arms : List Arm} → SpellsArms ts arms → All ts → All (arms_tokens (map printed_arm arms))
   fine_arms (last_arm {ts = ts} {us = us} {c = c} {v = v} d d') all =
-      let s = split ts (word keyword.Then ∷ us) all.1 in arm_too c v [] (placed level.Disjunction c (fine d s.0)) (placed level.Disjunction v (fine d' s.1.1)) tt
+      let s = split ts (word keyword.Then ∷ us) all.1 in arm_too c v [] (fine_at_level level.Disjunction c (fine d s.0)) (fine_at_level level.Disjunction v (fine d' s.1.1)) tt
   fine_arms (more_arms {ts = ts} {us = us} {vs = vs} {c = c} {v = v} {arms = arms} d d' ds) all =
       let s = split ts (word keyword.Then ∷ us ++ vs) all.1 in
       let t = split us vs s.1.1 in
-      arm_too c v arms (placed level.Disjunction c (fine d s.0)) (placed level.Disjunction v (fine d' t.0)) (fine_arms ds t.1)
+      arm_too c v arms (fine_at_level level.Disjunction c (fine d s.0)) (fine_at_level level.Disjunction v (fine d' t.0)) (fine_arms ds t.1)
 
   fine_else : {ts : List Terminal} {o : Option Expr} → SpellsElse ts o → All ts → All (else_tokens (option_map printed o))
   fine_else nothing all = tt
   fine_else null all = tt
-  fine_else (otherwise {e = e} d) all = (tt, placed level.Disjunction e (fine d all.1))
+  fine_else (otherwise {e = e} d) all = (tt, fine_at_level level.Disjunction e (fine d all.1))
 
 free_too : {ts : List Terminal} {e : Expr} → Spells level.Disjunction ts e → All ts → All (free (printed e))
-free_too {e = e} d all = placed level.Disjunction e (fine d all)
+free_too {e = e} d all = fine_at_level level.Disjunction e (fine d all)
 
 -- ---- parts of a query
 
@@ -229,7 +229,7 @@ direction_too direction.Ascending = tt
 direction_too direction.Descending = (tt, tt)
 
 key_too : {t : Terminal} {o : OrderTarget} (d : Direction) → SpellsTarget t o → IsProperBy IsUtf8 t → All (target_token o ∷ direction_tokens d)
-key_too d (queries.place n h) fine = (tt, direction_too d)
+key_too d (queries.position n h) fine = (tt, direction_too d)
 key_too d (name n) fine = (lower_name n fine, direction_too d)
 
 keys_too : {ts : List Terminal} {keys : List OrderKey} → SpellsKeys ts keys → All ts → All (with_commas (map key_tokens keys))

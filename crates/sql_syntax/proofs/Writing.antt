@@ -21,7 +21,7 @@ use Rattle.sql_syntax.specs.Tokens as terminal
 use Rattle.sql_syntax.specs.Tokens.{Terminal}
 use Rattle.sql_syntax.specs.Strength.{next, level_of, token_of, compares}
 use Rattle.sql_syntax.specs.Phrases.{word, mark, not_if, bracketed, aggregate_word}
-use Rattle.sql_syntax.specs.CanonicalTokens.{Printed, place, free, doubled, else_tokens, printed, printed_arm, list_tokens, arms_tokens}
+use Rattle.sql_syntax.specs.CanonicalTokens.{Printed, at_level, free, doubled, else_tokens, printed, printed_arm, list_tokens, arms_tokens}
 use Rattle.sql_syntax.specs.Queries.{text_behind, with_commas, item_tokens, key_tokens, other_tokens, table_tokens, others_tokens_of}
 use Rattle.sql_syntax.specs.Printing.{Written, with_token, with_tokens, behind_commas, more_items, more_keys, joined_tokens}
 use Rattle.sql_syntax.proofs.Canonical.{printed_or, printed_case, printed_and, printed_reckon, printed_aggregate, printed_compare, printed_between, printed_in, printed_like, printed_null, printed_arm_is}
@@ -92,45 +92,45 @@ aggregate_step w k e =
     ∙ with_append (with_token w (word (aggregate_word k))) (mark sign.Open ∷ free (printed e)) (mark sign.Close ∷ [])
 
 pub reckon_step : (w : Written) (op : Arithmetic) (a b : Expr) → with_tokens w (printed (expr.Arithmetic op a b)).tokens
-    ≡ with_tokens (with_tokens w (place (level_of (operator.Reckon op)) (printed a))) (token_of (operator.Reckon op) ∷ place (next (level_of (operator.Reckon op))) (printed b))
+    ≡ with_tokens (with_tokens w (at_level (level_of (operator.Reckon op)) (printed a))) (token_of (operator.Reckon op) ∷ at_level (next (level_of (operator.Reckon op))) (printed b))
 reckon_step w op a b =
     ap (λ (p : Printed). with_tokens w p.tokens) (printed_reckon op a b)
-    ∙ with_append w (place (level_of (operator.Reckon op)) (printed a)) (token_of (operator.Reckon op) ∷ place (next (level_of (operator.Reckon op))) (printed b))
+    ∙ with_append w (at_level (level_of (operator.Reckon op)) (printed a)) (token_of (operator.Reckon op) ∷ at_level (next (level_of (operator.Reckon op))) (printed b))
 
 pub compare_step : (w : Written) (op : Comparison) (a b : Expr) → with_tokens w (printed (expr.Compare op a b)).tokens
-    ≡ with_tokens (with_tokens w (place level.Sum (printed a))) (mark (compares op) ∷ place level.Sum (printed b))
-compare_step w op a b = ap (λ (p : Printed). with_tokens w p.tokens) (printed_compare op a b) ∙ with_append w (place level.Sum (printed a)) (mark (compares op) ∷ place level.Sum (printed b))
+    ≡ with_tokens (with_tokens w (at_level level.Sum (printed a))) (mark (compares op) ∷ at_level level.Sum (printed b))
+compare_step w op a b = ap (λ (p : Printed). with_tokens w p.tokens) (printed_compare op a b) ∙ with_append w (at_level level.Sum (printed a)) (mark (compares op) ∷ at_level level.Sum (printed b))
 
 pub and_step : (w : Written) (a b : Expr) → with_tokens w (printed (expr.And a b)).tokens
-    ≡ with_tokens (with_tokens w (place level.Conjunction (printed a))) (word keyword.And ∷ place level.Negation (printed b))
-and_step w a b = ap (λ (p : Printed). with_tokens w p.tokens) (printed_and a b) ∙ with_append w (place level.Conjunction (printed a)) (word keyword.And ∷ place level.Negation (printed b))
+    ≡ with_tokens (with_tokens w (at_level level.Conjunction (printed a))) (word keyword.And ∷ at_level level.Negation (printed b))
+and_step w a b = ap (λ (p : Printed). with_tokens w p.tokens) (printed_and a b) ∙ with_append w (at_level level.Conjunction (printed a)) (word keyword.And ∷ at_level level.Negation (printed b))
 
 pub or_step : (w : Written) (a b : Expr) → with_tokens w (printed (expr.Or a b)).tokens
-    ≡ with_tokens (with_tokens w (place level.Disjunction (printed a))) (word keyword.Or ∷ place level.Conjunction (printed b))
-or_step w a b = ap (λ (p : Printed). with_tokens w p.tokens) (printed_or a b) ∙ with_append w (place level.Disjunction (printed a)) (word keyword.Or ∷ place level.Conjunction (printed b))
+    ≡ with_tokens (with_tokens w (at_level level.Disjunction (printed a))) (word keyword.Or ∷ at_level level.Conjunction (printed b))
+or_step w a b = ap (λ (p : Printed). with_tokens w p.tokens) (printed_or a b) ∙ with_append w (at_level level.Disjunction (printed a)) (word keyword.Or ∷ at_level level.Conjunction (printed b))
 
 pub null_step : (w : Written) (not : Bool) (x : Expr) → with_tokens w (printed (expr.IsNull not x)).tokens
-    ≡ with_tokens (with_tokens w (place level.Sum (printed x))) (word keyword.Is ∷ not_if not ++ word keyword.Null ∷ [])
-null_step w not x = ap (λ (p : Printed). with_tokens w p.tokens) (printed_null not x) ∙ with_append w (place level.Sum (printed x)) (word keyword.Is ∷ not_if not ++ word keyword.Null ∷ [])
+    ≡ with_tokens (with_tokens w (at_level level.Sum (printed x))) (word keyword.Is ∷ not_if not ++ word keyword.Null ∷ [])
+null_step w not x = ap (λ (p : Printed). with_tokens w p.tokens) (printed_null not x) ∙ with_append w (at_level level.Sum (printed x)) (word keyword.Is ∷ not_if not ++ word keyword.Null ∷ [])
 
 pub between_step : (w : Written) (not : Bool) (x low high : Expr) → with_tokens w (printed (expr.Between not x low high)).tokens
-    ≡ with_tokens (with_tokens (with_tokens (with_tokens w (place level.Sum (printed x))) (not_if not)) (word keyword.Between ∷ place level.Sum (printed low))) (word keyword.And ∷ place level.Sum (printed high))
+    ≡ with_tokens (with_tokens (with_tokens (with_tokens w (at_level level.Sum (printed x))) (not_if not)) (word keyword.Between ∷ at_level level.Sum (printed low))) (word keyword.And ∷ at_level level.Sum (printed high))
 between_step w not x low high =
     ap (λ (p : Printed). with_tokens w p.tokens) (printed_between not x low high)
-    ∙ with_append w (place level.Sum (printed x)) (not_if not ++ (word keyword.Between ∷ place level.Sum (printed low) ++ word keyword.And ∷ place level.Sum (printed high)))
-    ∙ with_append (with_tokens w (place level.Sum (printed x))) (not_if not) (word keyword.Between ∷ place level.Sum (printed low) ++ word keyword.And ∷ place level.Sum (printed high))
-    ∙ with_append (with_tokens (with_tokens w (place level.Sum (printed x))) (not_if not)) (word keyword.Between ∷ place level.Sum (printed low)) (word keyword.And ∷ place level.Sum (printed high))
+    ∙ with_append w (at_level level.Sum (printed x)) (not_if not ++ (word keyword.Between ∷ at_level level.Sum (printed low) ++ word keyword.And ∷ at_level level.Sum (printed high)))
+    ∙ with_append (with_tokens w (at_level level.Sum (printed x))) (not_if not) (word keyword.Between ∷ at_level level.Sum (printed low) ++ word keyword.And ∷ at_level level.Sum (printed high))
+    ∙ with_append (with_tokens (with_tokens w (at_level level.Sum (printed x))) (not_if not)) (word keyword.Between ∷ at_level level.Sum (printed low)) (word keyword.And ∷ at_level level.Sum (printed high))
 
 pub in_step : (w : Written) (not : Bool) (x : Expr) (es : List Expr) → with_tokens w (printed (expr.In not x es)).tokens
-    ≡ with_tokens (with_token (with_tokens (with_tokens w (place level.Sum (printed x))) (not_if not)) (word keyword.In)) (bracketed (list_tokens (map printed es)))
+    ≡ with_tokens (with_token (with_tokens (with_tokens w (at_level level.Sum (printed x))) (not_if not)) (word keyword.In)) (bracketed (list_tokens (map printed es)))
 in_step w not x es =
     ap (λ (p : Printed). with_tokens w p.tokens) (printed_in not x es)
-    ∙ with_append w (place level.Sum (printed x)) (not_if not ++ word keyword.In ∷ bracketed (list_tokens (map printed es)))
-    ∙ with_append (with_tokens w (place level.Sum (printed x))) (not_if not) (word keyword.In ∷ bracketed (list_tokens (map printed es)))
+    ∙ with_append w (at_level level.Sum (printed x)) (not_if not ++ word keyword.In ∷ bracketed (list_tokens (map printed es)))
+    ∙ with_append (with_tokens w (at_level level.Sum (printed x))) (not_if not) (word keyword.In ∷ bracketed (list_tokens (map printed es)))
 
 pub like_step : (w : Written) (not : Bool) (x : Expr) (t : List ℕ) → with_tokens w (printed (expr.Like not x t)).tokens
-    ≡ with_tokens (with_tokens w (place level.Sum (printed x))) (not_if not ++ word keyword.Like ∷ terminal.text (doubled t) ∷ [])
-like_step w not x t = ap (λ (p : Printed). with_tokens w p.tokens) (printed_like not x t) ∙ with_append w (place level.Sum (printed x)) (not_if not ++ word keyword.Like ∷ terminal.text (doubled t) ∷ [])
+    ≡ with_tokens (with_tokens w (at_level level.Sum (printed x))) (not_if not ++ word keyword.Like ∷ terminal.text (doubled t) ∷ [])
+like_step w not x t = ap (λ (p : Printed). with_tokens w p.tokens) (printed_like not x t) ∙ with_append w (at_level level.Sum (printed x)) (not_if not ++ word keyword.Like ∷ terminal.text (doubled t) ∷ [])
 
 pub case_step : (w : Written) (arms : List Arm) (o : Option Expr) → with_tokens w (printed (expr.Case arms o)).tokens
     ≡ with_token (with_tokens (with_tokens (with_token w (word keyword.Case)) (arms_tokens (map printed_arm arms))) (else_tokens (option_map printed o))) (word keyword.End)

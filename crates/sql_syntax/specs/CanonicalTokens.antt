@@ -22,12 +22,12 @@ pub record Printed : Type 0 where
   pub tokens : List Terminal
 
 -- A rule takes what is as strong as itself, and anything else in brackets.
-abbrev pub place : Level → Printed → List Terminal
-place l p = if nat_le (rank l) (rank p.level) then p.tokens else bracketed p.tokens
+abbrev pub at_level : Level → Printed → List Terminal
+at_level l p = if nat_le (rank l) (rank p.level) then p.tokens else bracketed p.tokens
 
 -- any expression, as it stands in brackets
 abbrev pub free : Printed → List Terminal
-free p = place level.Disjunction p
+free p = at_level level.Disjunction p
 
 -- a text's quotes, each twice
 abbrev pub doubled : List ℕ → List ℕ
@@ -35,7 +35,7 @@ doubled = flat_map (λ b. if b == 39 then 39 ∷ 39 ∷ [] else b ∷ [])
 
 -- an operator between its operands
 abbrev pub join_tokens : Operator → Printed → Printed → List Terminal
-join_tokens o a b = place (level_of o) a ++ token_of o ∷ place (next (level_of o)) b
+join_tokens o a b = at_level (level_of o) a ++ token_of o ∷ at_level (next (level_of o)) b
 
 -- an integer
 abbrev pub integer_tokens : ℤ → List Terminal
@@ -70,16 +70,16 @@ node_tokens (node.Integer n) = integer_tokens n
 node_tokens (node.Text t) = terminal.text (doubled t) ∷ []
 node_tokens node.CountRows = word keyword.Count ∷ bracketed (mark sign.Star ∷ [])
 node_tokens (node.Aggregate k a) = word (aggregate_word k) ∷ bracketed (free a)
-node_tokens (node.Minus a) = mark sign.Minus ∷ place level.Primary a
+node_tokens (node.Minus a) = mark sign.Minus ∷ at_level level.Primary a
 node_tokens (node.Arithmetic op a b) = join_tokens (operator.Reckon op) a b
-node_tokens (node.Compare op a b) = place level.Sum a ++ mark (compares op) ∷ place level.Sum b
-node_tokens (node.Not a) = word keyword.Not ∷ place level.Negation a
+node_tokens (node.Compare op a b) = at_level level.Sum a ++ mark (compares op) ∷ at_level level.Sum b
+node_tokens (node.Not a) = word keyword.Not ∷ at_level level.Negation a
 node_tokens (node.And a b) = join_tokens operator.And a b
 node_tokens (node.Or a b) = join_tokens operator.Or a b
-node_tokens (node.IsNull not x) = place level.Sum x ++ (word keyword.Is ∷ not_if not ++ word keyword.Null ∷ [])
-node_tokens (node.Between not x low high) = place level.Sum x ++ (not_if not ++ (word keyword.Between ∷ place level.Sum low ++ word keyword.And ∷ place level.Sum high))
-node_tokens (node.In not x entries) = place level.Sum x ++ (not_if not ++ word keyword.In ∷ bracketed (list_tokens entries))
-node_tokens (node.Like not x pattern) = place level.Sum x ++ (not_if not ++ word keyword.Like ∷ terminal.text (doubled pattern) ∷ [])
+node_tokens (node.IsNull not x) = at_level level.Sum x ++ (word keyword.Is ∷ not_if not ++ word keyword.Null ∷ [])
+node_tokens (node.Between not x low high) = at_level level.Sum x ++ (not_if not ++ (word keyword.Between ∷ at_level level.Sum low ++ word keyword.And ∷ at_level level.Sum high))
+node_tokens (node.In not x entries) = at_level level.Sum x ++ (not_if not ++ word keyword.In ∷ bracketed (list_tokens entries))
+node_tokens (node.Like not x pattern) = at_level level.Sum x ++ (not_if not ++ word keyword.Like ∷ terminal.text (doubled pattern) ∷ [])
 node_tokens (node.Coalesce entries) = word keyword.Coalesce ∷ bracketed (list_tokens entries)
 node_tokens (node.Case arms otherwise) = word keyword.Case ∷ arms_tokens arms ++ (else_tokens otherwise ++ word keyword.End ∷ [])
 

@@ -35,7 +35,7 @@ pub data SpellsTable : List Terminal → Table → Type 0 where
 
 -- what ORDER BY names
 pub data SpellsTarget : Terminal → OrderTarget → Type 0 where
-  place : (n : ℕ) → n ≤ 9223372036854775807 → SpellsTarget (terminal.integer n) (target.Place n)
+  position : (n : ℕ) → n ≤ 9223372036854775807 → SpellsTarget (terminal.integer n) (target.Position n)
   name : (n : List ℕ) → SpellsTarget (terminal.name n) (target.Name (lower n))
 
 -- ASC, which may be left out, or DESC
@@ -164,7 +164,7 @@ groups_tokens_of [] = []
 groups_tokens_of (e ∷ es) = word keyword.Group ∷ word keyword.By ∷ list_tokens (map printed (e ∷ es))
 
 abbrev pub target_token : OrderTarget → Terminal
-target_token (target.Place n) = terminal.integer n
+target_token (target.Position n) = terminal.integer n
 target_token (target.Name n) = terminal.name n
 
 abbrev pub direction_tokens : Direction → List Terminal
@@ -252,7 +252,7 @@ abbrev pub text_behind : Bool → Bool → List Terminal → List ℕ
 text_behind operand hugs [] = []
 text_behind operand hugs (t ∷ ts) = (if hugs || hugs_left t then [] else codes " ") ++ (token_text t ++ text_behind (ends_operand t) (hugs_right operand t) ts)
 
--- one blank between two tokens, but for the places where none stands
+-- one blank between two tokens, but where none stands
 abbrev pub text_of : List Terminal → List ℕ
 text_of = text_behind false true
 

@@ -21,10 +21,10 @@ pub data Terminal : Type 0 where
   not_closed : Terminal
   unknown : Terminal
 
--- a token at its place
-pub record Placed : Type 0 where
+-- a token at its offset
+pub record Located : Type 0 where
   pub terminal : Terminal
-  pub place : ℕ
+  pub offset : ℕ
 
 -- the token, by the text that it lends
 abbrev pub terminal_of : Token → Terminal
@@ -39,15 +39,15 @@ terminal_of token.TextNotClosed = not_closed
 terminal_of token.UnknownCharacter = unknown
 
 -- the token of the code, without where it lies
-abbrev pub placed : Lexeme → Placed
-placed l = record { terminal = terminal_of l.token; place = l.place }
+abbrev pub located : Lexeme → Located
+located l = record { terminal = terminal_of l.token; offset = l.offset }
 
 -- each token of a list so
-abbrev pub all_placed : List Lexeme → List Placed
-all_placed = map placed
+abbrev pub all_located : List Lexeme → List Located
+all_located = map located
 
 -- the tokens alone, wherever they stand
-abbrev pub terminals : List Placed → List Terminal
+abbrev pub terminals : List Located → List Terminal
 terminals = map (λ p. p.terminal)
 
 -- ---- blanks and comments
@@ -198,18 +198,18 @@ terminal_at bs =
 -- ---- all tokens
 
 -- The token at the front of what is left of a text, and those that `more` gives of what is left behind it.
--- The place of a token is how many bytes of the text stand before it.
-abbrev pub with_first : ℕ → (List ℕ → List Placed) → List ℕ → List Placed
+-- The offset of a token is how many bytes of the text stand before it.
+abbrev pub with_first : ℕ → (List ℕ → List Located) → List ℕ → List Located
 with_first text_len more [] = []
 with_first text_len more (b ∷ bs) =
     let first = terminal_at (b ∷ bs) in
-    record { terminal = first.0; place = text_len - length (b ∷ bs) } ∷ more first.1
+    record { terminal = first.0; offset = text_len - length (b ∷ bs) } ∷ more first.1
 
 -- the tokens of what is left of a text, at most n of them, each behind blanks and comments
-abbrev pub placed_from : ℕ → ℕ → List ℕ → List Placed
-placed_from zero text_len bs = []
-placed_from (suc n) text_len bs = with_first text_len (placed_from n text_len) (behind_blanks bs)
+abbrev pub located_from : ℕ → ℕ → List ℕ → List Located
+located_from zero text_len bs = []
+located_from (suc n) text_len bs = with_first text_len (located_from n text_len) (behind_blanks bs)
 
 -- the tokens of a text, which has no more of them than bytes
-unfoldable pub tokens_of : List ℕ → List Placed
-tokens_of bs = placed_from (length bs) (length bs) bs
+unfoldable pub tokens_of : List ℕ → List Located
+tokens_of bs = located_from (length bs) (length bs) bs

@@ -2,7 +2,7 @@
 ghost use Rattle.std.specs.Prelude.{◌≡◌, ◌≤◌, ◌<◌, ◌↔◌, IsTrue, IfOk, IfSome, Option, length, drop, take, nat_le, Some, None, if◌then◌else◌, slice_index, option_map, ◌+◌};
 ghost use Rattle.std.specs.List.{prefix_len};
 ghost use Rattle.std.specs.Str.{IsCharBoundary, IsUtf8};
-ghost use Rattle.sql_syntax.specs.Tokens.{terminal_of, all_placed, is_blank, behind_blanks, is_word_start, is_word_byte, is_digit, number_of, quoted_len, long_sign, short_sign, word_of, word_at, integer_at, text_at, sign_at, terminal_at, tokens_of};
+ghost use Rattle.sql_syntax.specs.Tokens.{terminal_of, all_located, is_blank, behind_blanks, is_word_start, is_word_byte, is_digit, number_of, quoted_len, long_sign, short_sign, word_of, word_at, integer_at, text_at, sign_at, terminal_at, tokens_of};
 
 use crate::keyword::{Keyword, is_left_out};
 use crate::token::{Lexeme, Sign, Token};
@@ -13,14 +13,14 @@ const GREATEST: u64 = 9223372036854775808;
 
 /// All tokens of a text. Where a text isn't closed or a character is unknown, that is the last.
 pub fn tokens(alloc: Global, text: &str) -> Result<Vec<Lexeme<'_>>, AllocError>
-    ensures { IfOk result (λ lexemes. all_placed lexemes.items ≡ tokens_of text.now) }
+    ensures { IfOk result (λ lexemes. all_located lexemes.items ≡ tokens_of text.now) }
 {
     let mut lexemes = Vec::new(alloc);
     let mut rest = skip_blanks(text);
     while !rest.is_empty() {
-        let place = text.len() - rest.len();
+        let offset = text.len() - rest.len();
         let (token, behind) = first_token(rest);
-        lexemes.push(Lexeme { token, place })?;
+        lexemes.push(Lexeme { token, offset })?;
         rest = skip_blanks(behind);
     }
     Ok(lexemes)

@@ -4,14 +4,27 @@
 //! on it.
 #![tactic(auto)]
 
-pub mod keyword;
-pub mod laws;
-pub mod lexer;
+mod keyword;
+mod laws;
+mod lexer;
 mod printer;
-pub mod quoting;
-pub mod strength;
-pub mod token;
+mod quoting;
+mod strength;
+mod token;
 mod token_text;
 pub mod tree;
 
+pub use keyword::Keyword;
+pub use laws::{
+    canonical_query_tokens_spell, canonical_text_is_utf8, canonical_text_spells_the_query,
+    canonical_tokens_spell,
+};
+pub use lexer::tokens;
 pub use printer::print;
+pub use quoting::push_undoubled;
+pub use strength::{Level, Operator};
+pub use token::{Lexeme, Sign, Token};
+pub use tree::{
+    Aggregate, Arithmetic, Arm, Comparison, Direction, Expr, Item, Joined, OrderKey, OrderTarget,
+    Query, Source, Table,
+};

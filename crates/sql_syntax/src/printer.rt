@@ -1,7 +1,7 @@
 //! The canonical text of a tree, written token by token with no blank that isn't needed.
 ghost use Rattle.std.specs.Prelude.{◌≡◌, ◌++◌, ◌∷◌, [], true, false, Some, IfOk, OnOk, map, flat_map, option_map};
 ghost use Rattle.sql_syntax.specs.Canonical.{canonical};
-ghost use Rattle.sql_syntax.specs.CanonicalTokens.{doubled, place, printed, printed_arm, integer_tokens, column_tokens, list_tokens, arms_tokens, else_tokens};
+ghost use Rattle.sql_syntax.specs.CanonicalTokens.{doubled, at_level, printed, printed_arm, integer_tokens, column_tokens, list_tokens, arms_tokens, else_tokens};
 ghost use Rattle.sql_syntax.specs.Phrases.{aggregate_word, bracketed, mark, not_if};
 ghost use Rattle.sql_syntax.specs.Printing.{written, with_token, with_tokens, behind_commas, more_items, more_keys, joined_tokens, end_tokens, condition_tokens, source_tokens};
 ghost use Rattle.sql_syntax.specs.Queries.{query_tokens, with_commas, item_tokens, alias_tokens, table_tokens, others_tokens_of, clause_tokens, groups_tokens_of, key_tokens, target_token, direction_tokens, order_tokens_of, limit_tokens_of};
@@ -18,8 +18,7 @@ use crate::token_text::{ends_operand, hugs_left, hugs_right, put_blank, put_quot
 use crate::tree::{
     Aggregate, Arithmetic, Arm, Direction, Expr, Item, Joined, OrderKey, OrderTarget, Query, Table,
 };
-use meaning::boxed::Boxed;
-use meaning::text::Text;
+use meaning::{Boxed, Text};
 use std::alloc::{AllocError, Global};
 
 /// The text so far, whether its last token may end an operand, and whether no blank may stand
@@ -353,12 +352,12 @@ impl Printer {
         }
     }
 
-    /// An expression at a place that takes those of a rule, in brackets where it binds less.
+    /// An expression where those of a rule are taken, in brackets where it binds less.
     #[cycle(printing)]
     #[tactic(auto, using(crate::proofs::Writing::with_append))]
     fn put_at(&mut self, level: Level, expr: &Expr) -> Result<(), AllocError>
         ensures { OnOk result (written self.new
-            ≡ with_tokens (written self.old) (place level (printed expr.now))) }
+            ≡ with_tokens (written self.old) (at_level level (printed expr.now))) }
     {
         if level.rank() <= strength(expr).rank() {
             self.put_expr(expr)
@@ -374,7 +373,7 @@ impl Printer {
     fn put_behind(&mut self, token: Token<'_>, level: Level, expr: &Expr) -> Result<(), AllocError>
         ensures { OnOk result (written self.new
             ≡ with_tokens (written self.old) (terminal_of token.entry
-            ∷ place level (printed expr.now))) }
+            ∷ at_level level (printed expr.now))) }
     {
         self.put(token)?;
         self.put_at(level, expr)
@@ -479,7 +478,7 @@ impl Printer {
     fn put_right(&mut self, operator: Arithmetic, right: &Expr) -> Result<(), AllocError>
         ensures { OnOk result (written self.new
             ≡ with_tokens (written self.old) (token_of (Reckon operator)
-            ∷ place (next (level_of (Reckon operator))) (printed right.now))) }
+            ∷ at_level (next (level_of (Reckon operator))) (printed right.now))) }
     {
         self.put_behind(Token::Sign(operator.sign()), operator.level().next(), right)
     }
@@ -586,7 +585,7 @@ fn target_token(target: &OrderTarget) -> Token<'_>
     ensures { terminal_of result ≡ target_token target.now }
 {
     match target {
-        OrderTarget::Place(place) => Token::Integer(*place),
+        OrderTarget::Position(position) => Token::Integer(*position),
         OrderTarget::Name(name) => Token::Name(name.as_str()),
     }
 }

@@ -1,4 +1,4 @@
-//! Tokens and their places.
+//! Tokens and their offsets.
 ghost use Rattle.std.specs.Prelude.{◌≡◌};
 ghost use Rattle.sql_syntax.specs.Queries.{sign_text};
 
@@ -66,9 +66,9 @@ pub enum Token<'a> {
     UnknownCharacter,
 }
 
-/// A token and its place: how many bytes of the text stand before it.
+/// A token and its offset: how many bytes of the text stand before it.
 #[derive(Clone, Copy)]
 pub struct Lexeme<'a> {
     pub token: Token<'a>,
-    pub place: usize,
+    pub offset: usize,
 }

@@ -6,9 +6,7 @@ ghost use Rattle.sql_syntax.specs.declared.strength.Operator.TheVariants.{Reckon
 
 use crate::strength::Level;
 use crate::token::Sign;
-use meaning::boxed::Boxed;
-use meaning::sequence::Sequence;
-use meaning::text::Text;
+use meaning::{Boxed, Sequence, Text};
 
 /// A query as it is written: names aren't looked up yet, and all names are in lower case.
 #[derive(Drop)]
@@ -56,10 +54,10 @@ pub struct OrderKey {
     pub direction: Direction,
 }
 
-/// What ORDER BY names: an item by its place, counted from 1, or by its name.
+/// What ORDER BY names: an item by its position, counted from 1, or by its name.
 #[derive(Drop)]
 pub enum OrderTarget {
-    Place(u64),
+    Position(u64),
     Name(Text),
 }
 

@@ -1,17 +1,11 @@
-//! Cases of blocks: the values that bytes stand for, and the bytes that values are written as.
+//! Cases of blocks: the values that bytes encode, and the bytes that values are written as.
 ghost use Rattle.std.specs.Prelude.{◌≡◌};
 
-use crate::values::{column_of, tell_value, type_of};
-use case_files::byte_lines::bytes_of;
+use crate::values::{column_of, show_value, type_of};
+use case_files::bytes_of;
 use columns::Column;
-use encodings::dictionary::DictionaryView;
-use encodings::kind::Kind;
-use encodings::runs::RunsView;
-use encodings::unpacking::unpack;
-use encodings::vector_buf::VectorBuf;
-use encodings::view::BlockView;
-use encodings::{choose, encode_as};
-use meaning::value::ColType;
+use encodings::{BlockView, DictionaryView, Kind, RunsView, VectorBuf, choose, encode_as, unpack};
+use meaning::ColType;
 use std::alloc::{AllocError, Global};
 use std::fmt::Write;
 use std::mem::drop;
@@ -38,7 +32,7 @@ pub fn kind_word(kind: Kind) -> &'static str {
     }
 }
 
-// ---- what a block's bytes stand for
+// ---- what a block's bytes encode
 
 /// A block as a record's words describe it, and for how many rows the vectors have room by which it
 /// is read.
@@ -75,41 +69,41 @@ fn block_asked(words: &[&str]) -> Option<Asked> {
 }
 
 /// Appends a line of a block's values behind its kind.
-pub fn tell_block_values(told: &mut String, view: &BlockView<'_>) -> Result<(), AllocError> {
-    told.push_str(kind_word(view.kind()))?;
+pub fn show_block_values(shown: &mut String, view: &BlockView<'_>) -> Result<(), AllocError> {
+    shown.push_str(kind_word(view.kind()))?;
     for row in 0..view.len() {
-        tell_value(told, view.get(row))?;
+        show_value(shown, view.get(row))?;
     }
-    told.push_str("\n")
+    shown.push_str("\n")
 }
 
-fn tell_entries(told: &mut String, dictionary: &DictionaryView<'_>) -> Result<(), AllocError> {
-    told.push_str("entries")?;
-    for place in 0..dictionary.len() {
-        tell_value(told, dictionary.entry(place))?;
+fn show_entries(shown: &mut String, dictionary: &DictionaryView<'_>) -> Result<(), AllocError> {
+    shown.push_str("entries")?;
+    for entry in 0..dictionary.len() {
+        show_value(shown, dictionary.entry(entry))?;
     }
-    told.push_str("\n")
+    shown.push_str("\n")
 }
 
-fn tell_runs(told: &mut String, runs: &RunsView<'_>) -> Result<(), AllocError> {
-    told.push_str("runs")?;
+fn show_runs(shown: &mut String, runs: &RunsView<'_>) -> Result<(), AllocError> {
+    shown.push_str("runs")?;
     for run in 0..runs.len() {
-        write!(told, " {} of", runs.length(run))?;
-        tell_value(told, runs.value(run))?;
+        write!(shown, " {} of", runs.length(run))?;
+        show_value(shown, runs.value(run))?;
     }
-    told.push_str("\n")
+    shown.push_str("\n")
 }
 
-fn tell_vector(told: &mut String, vector: &VectorBuf<'_>) -> Result<(), AllocError> {
-    told.push_str("read")?;
+fn show_vector(shown: &mut String, vector: &VectorBuf<'_>) -> Result<(), AllocError> {
+    shown.push_str("read")?;
     for i in 0..vector.len() {
-        tell_value(told, vector.get(i))?;
+        show_value(shown, vector.get(i))?;
     }
-    told.push_str("\n")
+    shown.push_str("\n")
 }
 
-fn tell_vectors<'a>(
-    told: &mut String,
+fn show_vectors<'a>(
+    shown: &mut String,
     view: &BlockView<'a>,
     vector: &mut VectorBuf<'a>,
 ) -> Result<(), AllocError>
@@ -121,15 +115,15 @@ fn tell_vectors<'a>(
             break;
         }
         view.read_into(from, vector);
-        tell_vector(told, vector)?;
+        show_vector(shown, vector)?;
         from = from.saturating_add(vector.len());
     }
     Ok(())
 }
 
-fn tell_read(
+fn show_read(
     alloc: Global,
-    told: &mut String,
+    shown: &mut String,
     view: &BlockView<'_>,
     room: usize,
 ) -> Result<(), AllocError> {
@@ -137,89 +131,89 @@ fn tell_read(
         return Ok(());
     }
     let mut vector = VectorBuf::new(alloc, view.col_type(), room)?;
-    let read = tell_vectors(told, view, &mut vector);
+    let read = show_vectors(shown, view, &mut vector);
     drop(vector);
     read
 }
 
-fn tell_parts(told: &mut String, view: &BlockView<'_>) -> Result<(), AllocError> {
+fn show_parts(shown: &mut String, view: &BlockView<'_>) -> Result<(), AllocError> {
     if let Some(dictionary) = view.dictionary() {
-        tell_entries(told, &dictionary)?;
+        show_entries(shown, &dictionary)?;
     }
     if let Some(runs) = view.runs() {
-        tell_runs(told, &runs)?;
+        show_runs(shown, &runs)?;
     }
     Ok(())
 }
 
-fn tell_payload(
+fn show_payload(
     alloc: Global,
-    told: &mut String,
+    shown: &mut String,
     asked: Asked,
     payload: &[u8],
 ) -> Result<(), AllocError> {
     let Asked { kind, rows, .. } = asked;
     match BlockView::new(kind, asked.col_type, asked.nullable, rows, payload) {
         Some(view) => {
-            tell_block_values(told, &view)?;
-            tell_parts(told, &view)?;
-            tell_read(alloc, told, &view, asked.room)
+            show_block_values(shown, &view)?;
+            show_parts(shown, &view)?;
+            show_read(alloc, shown, &view, asked.room)
         }
-        None => told.push_str("refused\n"),
+        None => shown.push_str("refused\n"),
     }
 }
 
-/// The values that the bytes stand for, or that they are refused.
-pub fn tell_block(
+/// The values that the bytes encode, or that they are refused.
+pub fn show_block(
     alloc: Global,
-    told: &mut String,
+    shown: &mut String,
     words: &[&str],
     body: &str,
 ) -> Result<(), AllocError> {
     let Some(asked) = block_asked(words) else {
-        return told.push_str("(no block of a kind)\n");
+        return shown.push_str("(no block of a kind)\n");
     };
     let Some(payload) = bytes_of(alloc, body)? else {
-        return told.push_str("(no bytes)\n");
+        return shown.push_str("(no bytes)\n");
     };
-    let done = tell_payload(alloc, told, asked, payload.as_slice());
+    let done = show_payload(alloc, shown, asked, payload.as_slice());
     drop(payload);
     done
 }
 
 // ---- the bytes of values
 
-fn tell_hex(alloc: Global, told: &mut String, bytes: &[u8]) -> Result<(), AllocError> {
+fn show_hex(alloc: Global, shown: &mut String, bytes: &[u8]) -> Result<(), AllocError> {
     let digits = hex::encode(alloc, bytes)?;
-    let done = writeln!(told, "{digits}");
+    let done = writeln!(shown, "{digits}");
     drop(digits);
     done
 }
 
-fn tell_encoded(
+fn show_encoded(
     alloc: Global,
-    told: &mut String,
+    shown: &mut String,
     kind: Kind,
     column: &Column,
 ) -> Result<(), AllocError> {
     let rows = column.len();
     if rows == 0 || rows > 8192 {
-        return told.push_str("(a block has 1 to 8192 rows)\n");
+        return shown.push_str("(a block has 1 to 8192 rows)\n");
     }
     match encode_as(alloc, kind, column, 0, rows) {
         Ok(payload) => {
-            let done = tell_hex(alloc, told, payload.as_slice());
+            let done = show_hex(alloc, shown, payload.as_slice());
             drop(payload);
             done
         }
-        Err(fault) => writeln!(told, "refused {}: {fault}", fault.number()),
+        Err(fault) => writeln!(shown, "refused {}: {fault}", fault.number()),
     }
 }
 
 /// The bytes of the values in a kind, or the refusal.
-pub fn tell_encode(
+pub fn show_encode(
     alloc: Global,
-    told: &mut String,
+    shown: &mut String,
     words: &[&str],
     body: &str,
 ) -> Result<(), AllocError> {
@@ -227,17 +221,17 @@ pub fn tell_encode(
         .split_first()
         .and_then(|(word, words)| Some((kind_of(word)?, type_of(words)?)))
     else {
-        return told.push_str("(no kind and type)\n");
+        return shown.push_str("(no kind and type)\n");
     };
     let column = column_of(alloc, col_type, nullable, body)?;
-    let done = tell_encoded(alloc, told, kind, &column);
+    let done = show_encoded(alloc, shown, kind, &column);
     drop(column);
     done
 }
 
-fn tell_size(
+fn show_size(
     alloc: Global,
-    told: &mut String,
+    shown: &mut String,
     kind: Kind,
     column: &Column,
 ) -> Result<(), AllocError> {
@@ -249,42 +243,42 @@ fn tell_size(
         Ok(payload) => {
             let size = payload.len();
             drop(payload);
-            writeln!(told, "{} {size}", kind_word(kind))
+            writeln!(shown, "{} {size}", kind_word(kind))
         }
-        Err(fault) => writeln!(told, "{} refused {}", kind_word(kind), fault.number()),
+        Err(fault) => writeln!(shown, "{} refused {}", kind_word(kind), fault.number()),
     }
 }
 
-fn tell_chosen(alloc: Global, told: &mut String, column: &Column) -> Result<(), AllocError> {
+fn show_chosen(alloc: Global, shown: &mut String, column: &Column) -> Result<(), AllocError> {
     let rows = column.len();
     if rows == 0 || rows > 8192 {
-        return told.push_str("(a block has 1 to 8192 rows)\n");
+        return shown.push_str("(a block has 1 to 8192 rows)\n");
     }
     match choose(alloc, column, 0, rows) {
-        Ok(kind) => writeln!(told, "chosen {}", kind_word(kind)),
-        Err(fault) => writeln!(told, "refused {}: {fault}", fault.number()),
+        Ok(kind) => writeln!(shown, "chosen {}", kind_word(kind)),
+        Err(fault) => writeln!(shown, "refused {}: {fault}", fault.number()),
     }
 }
 
-fn tell_sizes(alloc: Global, told: &mut String, column: &Column) -> Result<(), AllocError> {
+fn show_sizes(alloc: Global, shown: &mut String, column: &Column) -> Result<(), AllocError> {
     for kind in KINDS {
-        tell_size(alloc, told, kind, column)?;
+        show_size(alloc, shown, kind, column)?;
     }
-    tell_chosen(alloc, told, column)
+    show_chosen(alloc, shown, column)
 }
 
 /// How many bytes the values take in each kind, and which kind is chosen.
-pub fn tell_choose(
+pub fn show_choose(
     alloc: Global,
-    told: &mut String,
+    shown: &mut String,
     words: &[&str],
     body: &str,
 ) -> Result<(), AllocError> {
     let Some((col_type, nullable, _)) = type_of(words) else {
-        return told.push_str("(no type of a column)\n");
+        return shown.push_str("(no type of a column)\n");
     };
     let column = column_of(alloc, col_type, nullable, body)?;
-    let done = tell_sizes(alloc, told, &column);
+    let done = show_sizes(alloc, shown, &column);
     drop(column);
     done
 }
@@ -306,48 +300,48 @@ fn unpack_into(bytes: &[u8], width: u8, from: usize, out: &mut [u64]) -> bool {
     true
 }
 
-fn tell_numbers(told: &mut String, numbers: &[u64]) -> Result<(), AllocError> {
-    told.push_str("numbers")?;
+fn show_numbers(shown: &mut String, numbers: &[u64]) -> Result<(), AllocError> {
+    shown.push_str("numbers")?;
     for number in numbers {
-        write!(told, " {number}")?;
+        write!(shown, " {number}")?;
     }
-    told.push_str("\n")
+    shown.push_str("\n")
 }
 
-fn tell_unpacked(
+fn show_unpacked(
     alloc: Global,
-    told: &mut String,
+    shown: &mut String,
     width: u8,
-    place: (usize, usize),
+    range: (usize, usize),
     bytes: &[u8],
 ) -> Result<(), AllocError> {
-    let (from, count) = place;
+    let (from, count) = range;
     let mut out = vec![in alloc; 0; count]?;
     let done = if unpack_into(bytes, width, from, out.as_mut_slice()) {
-        tell_numbers(told, out.as_slice())
+        show_numbers(shown, out.as_slice())
     } else {
-        told.push_str("(not within the bytes)\n")
+        shown.push_str("(not within the bytes)\n")
     };
     drop(out);
     done
 }
 
 /// Packed numbers of a width in bits, from one on so many.
-pub fn tell_unpack(
+pub fn show_unpack(
     alloc: Global,
-    told: &mut String,
+    shown: &mut String,
     words: &[&str],
     body: &str,
 ) -> Result<(), AllocError> {
     let [width, from, count] = words else {
-        return told.push_str("(no width, place and number)\n");
+        return shown.push_str("(no width, index and number)\n");
     };
     let width = width.parse().unwrap_or(0);
-    let place = (from.parse().unwrap_or(0), count.parse().unwrap_or(0));
+    let range = (from.parse().unwrap_or(0), count.parse().unwrap_or(0));
     let Some(bytes) = bytes_of(alloc, body)? else {
-        return told.push_str("(no bytes)\n");
+        return shown.push_str("(no bytes)\n");
     };
-    let done = tell_unpacked(alloc, told, width, place, bytes.as_slice());
+    let done = show_unpacked(alloc, shown, width, range, bytes.as_slice());
     drop(bytes);
     done
 }

@@ -1,8 +1,7 @@
 //! Cases about columns.
-use crate::values::{tell_values, type_of};
+use crate::values::{show_values, type_of};
 use columns::{Column, ColumnFault};
-use meaning::text::Text;
-use meaning::value::Value;
+use meaning::{Text, Value};
 use std::alloc::{AllocError, Global};
 use std::fmt::Write;
 use std::mem::drop;
@@ -34,38 +33,38 @@ fn push_line(alloc: Global, column: &mut Column, line: &str) -> Result<(), Colum
     }
 }
 
-fn push_and_tell(
+fn push_and_show(
     alloc: Global,
-    told: &mut String,
+    shown: &mut String,
     column: &mut Column,
     body: &str,
 ) -> Result<(), AllocError> {
     for line in body.lines() {
         if let Err(fault) = push_line(alloc, column, line) {
-            writeln!(told, "refused {}: {fault}", fault.number())?;
+            writeln!(shown, "refused {}: {fault}", fault.number())?;
         }
     }
     Ok(())
 }
 
-fn tell_ints(told: &mut String, ints: &[i64]) -> Result<(), AllocError> {
-    told.push_str("ints")?;
+fn show_ints(shown: &mut String, ints: &[i64]) -> Result<(), AllocError> {
+    shown.push_str("ints")?;
     for number in ints {
-        write!(told, " {number}")?;
+        write!(shown, " {number}")?;
     }
-    told.push_str("\n")
+    shown.push_str("\n")
 }
 
-fn tell_nulls(told: &mut String, nulls: &[bool]) -> Result<(), AllocError> {
-    told.push_str("nulls")?;
+fn show_nulls(shown: &mut String, nulls: &[bool]) -> Result<(), AllocError> {
+    shown.push_str("nulls")?;
     for is_null in nulls {
-        told.push_str(if *is_null { " yes" } else { " no" })?;
+        shown.push_str(if *is_null { " yes" } else { " no" })?;
     }
-    told.push_str("\n")
+    shown.push_str("\n")
 }
 
 // The texts without the first, and all of them, one behind the other.
-fn tell_joined(told: &mut String, column: &Column) -> Result<(), AllocError> {
+fn show_joined(shown: &mut String, column: &Column) -> Result<(), AllocError> {
     let Some(texts) = column.texts() else {
         return Ok(());
     };
@@ -76,37 +75,37 @@ fn tell_joined(told: &mut String, column: &Column) -> Result<(), AllocError> {
     let others = texts.joined(1, texts.len());
     let is_end = all.ends_with(others);
     writeln!(
-        told,
+        shown,
         "joined {} bytes, behind the first {}, its end: {is_end}",
         all.len(),
         others.len()
     )
 }
 
-fn tell_column(told: &mut String, column: &Column) -> Result<(), AllocError> {
-    tell_values(told, "values", column)?;
+fn show_column(shown: &mut String, column: &Column) -> Result<(), AllocError> {
+    show_values(shown, "values", column)?;
     if let Some(ints) = column.ints() {
-        tell_ints(told, ints)?;
+        show_ints(shown, ints)?;
     }
     if let Some(nulls) = column.nulls() {
-        tell_nulls(told, nulls)?;
+        show_nulls(shown, nulls)?;
     }
-    tell_joined(told, column)
+    show_joined(shown, column)
 }
 
 /// Which pushes are refused, and what the column then has.
-pub fn tell(
+pub fn show(
     alloc: Global,
-    told: &mut String,
+    shown: &mut String,
     words: &[&str],
     body: &str,
 ) -> Result<(), AllocError> {
     let Some((col_type, nullable, _)) = type_of(words) else {
-        return told.push_str("(no type of a column)\n");
+        return shown.push_str("(no type of a column)\n");
     };
     let mut column = Column::new(alloc, col_type, nullable);
-    let pushed = push_and_tell(alloc, told, &mut column, body);
-    let ended = tell_column(told, &column);
+    let pushed = push_and_show(alloc, shown, &mut column, body);
+    let ended = show_column(shown, &column);
     drop(column);
     pushed?;
     ended

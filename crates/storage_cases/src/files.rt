@@ -1,36 +1,30 @@
 //! Cases about fragment files and cut files.
 ghost use Rattle.std.specs.Prelude.{◌≡◌, ◌∷◌, [], codes, IfOk};
 
-use crate::blocks::tell_block_values;
+use crate::blocks::show_block_values;
 use crate::values::{column_of, type_of, type_word};
-use case_files::byte_lines::bytes_of;
+use case_files::bytes_of;
 use columns::Column;
-use fragment_file::header::Header;
-use fragment_file::view::{FragmentView, GroupView};
-use fragment_file::{FileFault, open, read_cut, write, write_cut};
-use meaning::catalog::Column as Declared;
-use meaning::cut::Cut;
-use meaning::sequence::Sequence;
-use meaning::text::Text;
-use meaning::value::ColType;
+use fragment_file::{FileFault, FragmentView, GroupView, Header, open, read_cut, write, write_cut};
+use meaning::{ColType, Column as Declared, Cut, Sequence, Text};
 use sha2::{Digest, Sha256};
 use std::alloc::{AllocError, Global};
 use std::fmt::Write;
 use std::mem::drop;
 
-fn tell_refusal(told: &mut String, fault: &FileFault) -> Result<(), AllocError> {
+fn show_refusal(shown: &mut String, fault: &FileFault) -> Result<(), AllocError> {
     let number = fault.number();
     match fault {
-        FileFault::Block { group, column } => writeln!(told, "refused {number} {group} {column}"),
-        _ => writeln!(told, "refused {number}"),
+        FileFault::Block { group, column } => writeln!(shown, "refused {number} {group} {column}"),
+        _ => writeln!(shown, "refused {number}"),
     }
 }
 
 // ---- reading
 
-fn tell_header(told: &mut String, header: &Header) -> Result<(), AllocError> {
+fn show_header(shown: &mut String, header: &Header) -> Result<(), AllocError> {
     writeln!(
-        told,
+        shown,
         "load {}, table {}, fragment {}, from row {}, {} rows",
         header.load,
         header.table.as_str(),
@@ -40,88 +34,88 @@ fn tell_header(told: &mut String, header: &Header) -> Result<(), AllocError> {
     )
 }
 
-fn tell_declared(told: &mut String, columns: &[Declared]) -> Result<(), AllocError> {
+fn show_declared(shown: &mut String, columns: &[Declared]) -> Result<(), AllocError> {
     for column in columns {
         let null = if column.nullable { " null" } else { "" };
         let word = type_word(column.col_type);
-        writeln!(told, "col {} {word}{null}", column.name.as_str())?;
+        writeln!(shown, "col {} {word}{null}", column.name.as_str())?;
     }
     Ok(())
 }
 
-fn tell_group(told: &mut String, group: &GroupView<'_>) -> Result<(), AllocError> {
-    writeln!(told, "group of {} rows", group.rows())?;
-    for place in 0..group.column_count() {
-        let block = group.column(place);
-        tell_block_values(told, &block)?;
+fn show_group(shown: &mut String, group: &GroupView<'_>) -> Result<(), AllocError> {
+    writeln!(shown, "group of {} rows", group.rows())?;
+    for index in 0..group.column_count() {
+        let block = group.column(index);
+        show_block_values(shown, &block)?;
     }
     Ok(())
 }
 
-fn tell_file(told: &mut String, view: &FragmentView<'_>) -> Result<(), AllocError> {
-    tell_header(told, view.header())?;
-    tell_declared(told, view.header().columns.as_slice())?;
-    for place in 0..view.group_count() {
-        let group = view.group(place);
-        tell_group(told, &group)?;
+fn show_file(shown: &mut String, view: &FragmentView<'_>) -> Result<(), AllocError> {
+    show_header(shown, view.header())?;
+    show_declared(shown, view.header().columns.as_slice())?;
+    for index in 0..view.group_count() {
+        let group = view.group(index);
+        show_group(shown, &group)?;
     }
     Ok(())
 }
 
-fn tell_opened(alloc: Global, told: &mut String, bytes: &[u8]) -> Result<(), AllocError> {
+fn show_opened(alloc: Global, shown: &mut String, bytes: &[u8]) -> Result<(), AllocError> {
     match open(alloc, bytes) {
         Ok(view) => {
-            let done = tell_file(told, &view);
+            let done = show_file(shown, &view);
             drop(view);
             done
         }
-        Err(fault) => tell_refusal(told, &fault),
+        Err(fault) => show_refusal(shown, &fault),
     }
 }
 
 /// What the bytes are a fragment file of, or the refusal.
-pub fn tell_fragment(alloc: Global, told: &mut String, body: &str) -> Result<(), AllocError> {
+pub fn show_fragment(alloc: Global, shown: &mut String, body: &str) -> Result<(), AllocError> {
     let Some(bytes) = bytes_of(alloc, body)? else {
-        return told.push_str("(no bytes)\n");
+        return shown.push_str("(no bytes)\n");
     };
-    let done = tell_opened(alloc, told, bytes.as_slice());
+    let done = show_opened(alloc, shown, bytes.as_slice());
     drop(bytes);
     done
 }
 
-fn tell_cut(told: &mut String, load: u64, lengths: &[u32]) -> Result<(), AllocError> {
-    write!(told, "load {load}, cut")?;
+fn show_cut(shown: &mut String, load: u64, lengths: &[u32]) -> Result<(), AllocError> {
+    write!(shown, "load {load}, cut")?;
     for length in lengths {
-        write!(told, " {length}")?;
+        write!(shown, " {length}")?;
     }
-    told.push_str("\n")
+    shown.push_str("\n")
 }
 
-fn tell_read_cut(alloc: Global, told: &mut String, bytes: &[u8]) -> Result<(), AllocError> {
+fn show_read_cut(alloc: Global, shown: &mut String, bytes: &[u8]) -> Result<(), AllocError> {
     match read_cut(alloc, bytes) {
         Ok((load, cut)) => {
-            let done = tell_cut(told, load, cut.lengths());
+            let done = show_cut(shown, load, cut.lengths());
             drop(cut);
             done
         }
-        Err(fault) => tell_refusal(told, &fault),
+        Err(fault) => show_refusal(shown, &fault),
     }
 }
 
 /// The load and the cut that the bytes are a file of, or the refusal.
-pub fn tell_cut_file(alloc: Global, told: &mut String, body: &str) -> Result<(), AllocError> {
+pub fn show_cut_file(alloc: Global, shown: &mut String, body: &str) -> Result<(), AllocError> {
     let Some(bytes) = bytes_of(alloc, body)? else {
-        return told.push_str("(no bytes)\n");
+        return shown.push_str("(no bytes)\n");
     };
-    let done = tell_read_cut(alloc, told, bytes.as_slice());
+    let done = show_read_cut(alloc, shown, bytes.as_slice());
     drop(bytes);
     done
 }
 
 // ---- writing
 
-// The seal is told as a word, where it is that of the bytes before it.
-fn tell_sealed(alloc: Global, told: &mut String, bytes: &[u8]) -> Result<(), AllocError> {
+// The seal is shown as a word, where it is that of the bytes before it.
+fn show_sealed(alloc: Global, shown: &mut String, bytes: &[u8]) -> Result<(), AllocError> {
     let (front, seal) = bytes.split_at(bytes.len().saturating_sub(32));
     let digits = hex::encode(alloc, front)?;
     let word = if seal == Sha256::digest(front).as_slice() {
@@ -129,7 +123,7 @@ fn tell_sealed(alloc: Global, told: &mut String, bytes: &[u8]) -> Result<(), All
     } else {
         "(another seal)"
     };
-    let done = writeln!(told, "{} bytes\n{digits}\n{word}", bytes.len());
+    let done = writeln!(shown, "{} bytes\n{digits}\n{word}", bytes.len());
     drop(digits);
     done
 }
@@ -176,23 +170,23 @@ fn write_one(alloc: Global, load: u64, column: Column, out: &mut Vec<u8>) -> Res
     write(alloc, &header, &[column], out)
 }
 
-fn tell_written(
+fn show_written(
     alloc: Global,
-    told: &mut String,
+    shown: &mut String,
     load: u64,
     column: Column,
 ) -> Result<(), AllocError> {
     let mut out = Vec::new(alloc);
     match write_one(alloc, load, column, &mut out) {
-        Ok(()) => tell_sealed(alloc, told, out.as_slice()),
-        Err(fault) => tell_refusal(told, &fault),
+        Ok(()) => show_sealed(alloc, shown, out.as_slice()),
+        Err(fault) => show_refusal(shown, &fault),
     }
 }
 
 /// The bytes of a file of a table `n` with one column `v` of these values.
-pub fn tell_write(
+pub fn show_write(
     alloc: Global,
-    told: &mut String,
+    shown: &mut String,
     words: &[&str],
     body: &str,
 ) -> Result<(), AllocError> {
@@ -201,10 +195,10 @@ pub fn tell_write(
         type_of(words)?,
     )))
     else {
-        return told.push_str("(no load and type)\n");
+        return shown.push_str("(no load and type)\n");
     };
     let column = column_of(alloc, col_type, nullable, body)?;
-    tell_written(alloc, told, load, column)
+    show_written(alloc, shown, load, column)
 }
 
 /// The lengths that some words spell. A word that spells none is 0.
@@ -215,33 +209,33 @@ pub fn lengths_of(alloc: Global, words: &[&str]) -> Result<Vec<u32>, AllocError>
         .collect(alloc)
 }
 
-fn tell_written_cut(
+fn show_written_cut(
     alloc: Global,
-    told: &mut String,
+    shown: &mut String,
     load: u64,
     cut: &Cut,
 ) -> Result<(), AllocError> {
     let mut out = Vec::new(alloc);
     let done = match write_cut(load, cut, &mut out) {
-        Ok(()) => tell_sealed(alloc, told, out.as_slice()),
-        Err(fault) => tell_refusal(told, &fault),
+        Ok(()) => show_sealed(alloc, shown, out.as_slice()),
+        Err(fault) => show_refusal(shown, &fault),
     };
     drop(out);
     done
 }
 
 /// The bytes of the file of a load and a cut.
-pub fn tell_write_cut(alloc: Global, told: &mut String, words: &[&str]) -> Result<(), AllocError> {
+pub fn show_write_cut(alloc: Global, shown: &mut String, words: &[&str]) -> Result<(), AllocError> {
     let Some((load, words)) = words.split_first() else {
-        return told.push_str("(no load)\n");
+        return shown.push_str("(no load)\n");
     };
     let load = load.parse().unwrap_or(0);
     match Cut::new(lengths_of(alloc, words)?) {
         Ok(cut) => {
-            let done = tell_written_cut(alloc, told, load, &cut);
+            let done = show_written_cut(alloc, shown, load, &cut);
             drop(cut);
             done
         }
-        Err(fault) => writeln!(told, "no cut: {fault}"),
+        Err(fault) => writeln!(shown, "no cut: {fault}"),
     }
 }

@@ -1,11 +1,11 @@
 //! Types and values as words.
 use columns::{Column, ColumnFault};
-use meaning::value::{ColType, ValueRef};
+use meaning::{ColType, ValueRef};
 use std::alloc::{AllocError, Global};
 use std::fmt::Write;
 use std::mem::drop;
 
-// A longer text is told by its length.
+// A longer text is shown by its length.
 const MOST_TEXT: usize = 100;
 
 /// The type of a column, whether NULL may stand in it, and the words behind.
@@ -26,31 +26,31 @@ pub fn type_word(col_type: ColType) -> &'static str {
     }
 }
 
-fn tell_text(told: &mut String, bytes: &[u8]) -> Result<(), AllocError> {
+fn show_text(shown: &mut String, bytes: &[u8]) -> Result<(), AllocError> {
     let text = std::str::from_utf8(bytes).unwrap_or("?");
     if text.len() > MOST_TEXT {
-        write!(told, " ({} bytes)", text.len())
+        write!(shown, " ({} bytes)", text.len())
     } else {
-        write!(told, " '{text}'")
+        write!(shown, " '{text}'")
     }
 }
 
 /// Appends a blank and a value: `\N`, an integer, or a text in single quotes.
-pub fn tell_value(told: &mut String, value: ValueRef<'_>) -> Result<(), AllocError> {
+pub fn show_value(shown: &mut String, value: ValueRef<'_>) -> Result<(), AllocError> {
     match value {
-        ValueRef::Null => told.push_str(" \\N"),
-        ValueRef::Int(number) => write!(told, " {number}"),
-        ValueRef::Text(bytes) => tell_text(told, bytes),
+        ValueRef::Null => shown.push_str(" \\N"),
+        ValueRef::Int(number) => write!(shown, " {number}"),
+        ValueRef::Text(bytes) => show_text(shown, bytes),
     }
 }
 
 /// Appends a line of a column's values behind a word.
-pub fn tell_values(told: &mut String, word: &str, column: &Column) -> Result<(), AllocError> {
-    told.push_str(word)?;
+pub fn show_values(shown: &mut String, word: &str, column: &Column) -> Result<(), AllocError> {
+    shown.push_str(word)?;
     for row in 0..column.len() {
-        tell_value(told, column.get(row))?;
+        show_value(shown, column.get(row))?;
     }
-    told.push_str("\n")
+    shown.push_str("\n")
 }
 
 fn unquoted(line: &str) -> &str {
@@ -77,7 +77,7 @@ fn push_values(column: &mut Column, body: &str) -> Result<(), AllocError> {
     Ok(())
 }
 
-/// The column of a record's lines: a value a line, as they are told. What doesn't fit is left out.
+/// The column of a record's lines: a value a line, as they are shown. What doesn't fit is left out.
 pub fn column_of(
     alloc: Global,
     col_type: ColType,

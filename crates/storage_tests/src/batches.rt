@@ -1,17 +1,14 @@
 //! Values that are read out of blocks, and lent to a batch without a copy.
 use crate::files::{Shape, file_of, integers, texts};
 use columns::Column;
-use encodings::vector_buf::VectorBuf;
-use encodings::view::BlockView;
+use encodings::{BlockView, VectorBuf};
 use fragment_file::open;
-use meaning::value::ValueRef;
+use meaning::ValueRef;
 use std::alloc::{AllocError, Global};
 use std::test::Fail;
-use vectors::batch::{Batch, BatchColumn, Place};
-use vectors::ints::{IntCells, Ints};
-use vectors::nulls::Nulls;
-use vectors::texts::{TextCells, Texts};
-use vectors::vector::Vector;
+use vectors::{
+    Batch, BatchColumn, ColumnReference, IntCells, Ints, Nulls, TextCells, Texts, Vector,
+};
 
 /// What was read last, as lanes.
 fn lanes_of<'v>(buffer: &'v VectorBuf<'_>) -> Option<Vector<'v>> {
@@ -56,10 +53,10 @@ fn lends_rows<'v>(
     let Some(lanes) = lanes_of(buffer) else {
         return Ok(false);
     };
-    let place = Place::Fact { column: 3 };
+    let reference = ColumnReference::Fact { column: 3 };
     let mut batch: Batch<'v> = Batch::new(alloc, lanes.len());
-    batch.push(BatchColumn { place, lanes })?;
-    match batch.column(place) {
+    batch.push(BatchColumn { reference, lanes })?;
+    match batch.column(reference) {
         Some(lanes) => Ok(lanes.len() > 0 && are_rows(lanes, column, 0)),
         None => Ok(false),
     }

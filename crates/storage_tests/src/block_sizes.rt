@@ -1,11 +1,8 @@
 //! Columns of many sizes and patterns as blocks of each kind, and back.
 use crate::files::is_same;
 use columns::{Column, ColumnFault};
-use encodings::kind::Kind;
-use encodings::vector_buf::VectorBuf;
-use encodings::view::BlockView;
-use encodings::{choose, encode_as};
-use meaning::value::{ColType, ValueRef};
+use encodings::{BlockView, Kind, VectorBuf, choose, encode_as};
+use meaning::{ColType, ValueRef};
 use std::alloc::{AllocError, Global};
 use std::test::Fail;
 
@@ -198,7 +195,7 @@ fn encoded(alloc: Global, kind: Kind, column: &Column) -> Option<Vec<u8>> {
     encode_as(alloc, kind, column, 0, column.len()).ok()
 }
 
-/// Whether a payload is a block that stands for the column.
+/// Whether a payload is a block that encodes the column.
 fn stands_for(
     alloc: Global,
     kind: Kind,

@@ -2,10 +2,9 @@
 // A file of two row groups, each of whose bytes is changed, against a plain reading of the format.
 use crate::files::{Shape, file_of, first_kind, integers, texts, zeros};
 use columns::Column;
-use encodings::kind::Kind;
-use encodings::view::BlockView;
+use encodings::{BlockView, Kind};
 use fragment_file::{FileFault, open};
-use meaning::value::ColType;
+use meaning::ColType;
 use sha2::{Digest, Sha256};
 use std::alloc::{AllocError, Global};
 use std::test::Fail;
@@ -65,7 +64,7 @@ impl<'a> Cursor<'a> {
         Ok(())
     }
 
-    /// A byte that tells one of a few.
+    /// A byte that has one of a few values.
     fn one_of(&mut self, least: u64, most: u64) -> Result<u64, FileFault> {
         let number = self.number(1)?;
         if number < least || number > most {
@@ -177,31 +176,31 @@ fn refusal(alloc: Global, bytes: &[u8]) -> Option<u8> {
 
 /// Whether the bytes are refused, by their first obstacle.
 fn is_refused(alloc: Global, bytes: &[u8]) -> bool {
-    let told = refusal(alloc, bytes);
-    told.is_some() && told == number_of(obstacle(alloc, bytes))
+    let returned = refusal(alloc, bytes);
+    returned.is_some() && returned == number_of(obstacle(alloc, bytes))
 }
 
-/// Whether the bytes are refused where any bit of the byte at a place is another, or all are.
-fn is_refused_with_others(alloc: Global, bytes: &mut [u8], place: usize) -> bool {
-    if place >= bytes.len() {
+/// Whether the bytes are refused where any bit of the byte at an offset is another, or all are.
+fn is_refused_with_others(alloc: Global, bytes: &mut [u8], offset: usize) -> bool {
+    if offset >= bytes.len() {
         return false;
     }
-    let byte = bytes[place];
+    let byte = bytes[offset];
     for change in [1, 2, 4, 8, 16, 32, 64, 128, 255] {
-        bytes[place] = byte ^ change;
+        bytes[offset] = byte ^ change;
         if !is_refused(alloc, bytes) {
             return false;
         }
     }
-    bytes[place] = byte;
+    bytes[offset] = byte;
     true
 }
 
-/// The first place at which a change is not refused by the first obstacle.
-fn place_missed(alloc: Global, bytes: &mut [u8]) -> Option<usize> {
-    for place in 0..bytes.len() {
-        if !is_refused_with_others(alloc, bytes, place) {
-            return Some(place);
+/// The first offset at which a change is not refused by the first obstacle.
+fn offset_missed(alloc: Global, bytes: &mut [u8]) -> Option<usize> {
+    for offset in 0..bytes.len() {
+        if !is_refused_with_others(alloc, bytes, offset) {
+            return Some(offset);
         }
     }
     None
@@ -212,7 +211,7 @@ fn each_byte_changed(rt: HostRuntime) -> Result<(), Fail> {
     let mut bytes = file_of(rt.alloc(), zeros(rt.alloc(), 8_193)?)?;
     assert_eq!(rt; refusal(rt.alloc(), &bytes), None);
     assert_eq!(rt; number_of(obstacle(rt.alloc(), &bytes)), None);
-    assert_eq!(rt; place_missed(rt.alloc(), &mut bytes), None);
+    assert_eq!(rt; offset_missed(rt.alloc(), &mut bytes), None);
     Ok(())
 }
 
@@ -222,7 +221,7 @@ fn is_safe(alloc: Global, column: Column, kind: Kind) -> bool {
         Ok(mut bytes) => {
             first_kind(alloc, &bytes) == Some(kind)
                 && number_of(obstacle(alloc, &bytes)).is_none()
-                && place_missed(alloc, &mut bytes).is_none()
+                && offset_missed(alloc, &mut bytes).is_none()
         }
         Err(_) => false,
     }

@@ -3,15 +3,9 @@
 ghost use Rattle.std.specs.Prelude.{◌≡◌, ◌≤◌, ◌∷◌, [], codes, length, IfOk};
 
 use columns::{Column, ColumnFault};
-use encodings::kind::Kind;
-use encodings::view::BlockView;
-use fragment_file::header::Header;
-use fragment_file::view::FragmentView;
-use fragment_file::{FileFault, open, read_columns, write};
-use meaning::catalog::Column as Declared;
-use meaning::sequence::Sequence;
-use meaning::text::Text;
-use meaning::value::{ColType, ValueRef};
+use encodings::{BlockView, Kind};
+use fragment_file::{FileFault, FragmentView, Header, open, read_columns, write};
+use meaning::{ColType, Column as Declared, Sequence, Text, ValueRef};
 use std::alloc::{AllocError, Global};
 use std::io;
 use std::io::Write;
@@ -172,8 +166,8 @@ pub fn is_same(a: ValueRef<'_>, b: ValueRef<'_>) -> bool {
 /// Whether a block has the rows of a column from one on.
 fn has_rows(block: &BlockView<'_>, column: &Column, from: usize) -> bool {
     for row in 0..block.len() {
-        let place = from.saturating_add(row);
-        if place >= column.len() || !is_same(block.get(row), column.get(place)) {
+        let index = from.saturating_add(row);
+        if index >= column.len() || !is_same(block.get(row), column.get(index)) {
             return false;
         }
     }
@@ -183,8 +177,8 @@ fn has_rows(block: &BlockView<'_>, column: &Column, from: usize) -> bool {
 /// Whether the row groups have the rows of a column, in blocks of a kind.
 fn has_column(view: &FragmentView<'_>, kind: Kind, column: &Column) -> bool {
     let mut from: usize = 0;
-    for place in 0..view.group_count() {
-        let group = view.group(place);
+    for group_index in 0..view.group_count() {
+        let group = view.group(group_index);
         if group.column_count() != 1 {
             return false;
         }
@@ -351,7 +345,7 @@ fn refusal_after(alloc: Global, writes: u32) -> Result<Option<u8>, ColumnFault> 
     }
 }
 
-/// The first number of writes after which another refusal is told than should be. The header, three
+/// The first number of writes after which the refusal is not the one that it should be. The header, three
 /// row groups and the seal are five writes.
 fn writes_missed(alloc: Global) -> Result<Option<u32>, ColumnFault> {
     for writes in 0..7 {

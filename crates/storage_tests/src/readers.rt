@@ -1,11 +1,10 @@
 //! CSV readers that give pieces or fail.
 // Readers that give what they have in pieces, that fail, and that make a large dimension.
 use crate::block_sizes::passes;
-use catalog_reader::read_catalog::read_catalog;
+use catalog_reader::read_catalog;
 use columns::Column;
 use loader::{LoadFault, count_rows, has_dim, load_dim, load_fact};
-use meaning::cut::Cut;
-use meaning::value::ValueRef;
+use meaning::{Cut, ValueRef};
 use std::alloc::{AllocError, Global};
 use std::fmt::Write;
 use std::io;
@@ -190,8 +189,8 @@ fn count_after(alloc: Global, calls: u32) -> Option<u8> {
     }
 }
 
-/// The first number of calls after which another refusal is told than should be. Nine calls give
-/// the 26 bytes, and one more tells their end.
+/// The first number of calls after which the refusal is not the one that it should be. Nine calls give
+/// the 26 bytes, and one more their end.
 fn calls_missed(alloc: Global) -> Result<Option<u32>, Fail> {
     for calls in [0, 1, 2, 3, 4, 5, 6, 7, 8, 9, 20] {
         let want = if calls < 10 { Some(10) } else { None };
@@ -220,8 +219,8 @@ struct ManyRows {
 
 /// The number of seven digits in front that is next.
 fn count_on(line: &mut [u8]) {
-    for place in [6, 5, 4, 3, 2, 1, 0] {
-        let Some(digit) = line.get_mut(place) else {
+    for index in [6, 5, 4, 3, 2, 1, 0] {
+        let Some(digit) = line.get_mut(index) else {
             return;
         };
         match *digit {
@@ -284,7 +283,7 @@ fn last_key(alloc: Global, rows: u32) -> Result<Option<i64>, Fail> {
 fn a_dimension_has_up_to_1048576_rows(rt: HostRuntime) -> Result<(), Fail> {
     assert_eq!(rt; last_key(rt.alloc(), 3)?, Some(2));
     assert_eq!(rt; last_key(rt.alloc(), 1_048_576)?, Some(1_048_575));
-    // Too many rows are told as 8.
+    // Too many rows are reported as 8.
     assert_eq!(rt; last_key(rt.alloc(), 1_048_577)?, Some(-8));
     Ok(())
 }

@@ -3,27 +3,23 @@
 use crate::batches::are_rows;
 use crate::files::{Shape, file_of, integers, texts};
 use columns::Column;
-use fragment_file::open;
-use fragment_file::view::FragmentView;
-use meaning::boxed::Boxed;
-use meaning::expr::{ArithmeticOperator, ComparisonOperator, Expr};
-use meaning::value::{ColType, Value};
+use fragment_file::{FragmentView, open};
+use meaning::{ArithmeticOperator, Boxed, ColType, ComparisonOperator, Expr, Value};
 use scan_select::{FileGroups, Scan, ScanBatch, ScanFault, select};
 use std::alloc::{AllocError, Global};
 use std::fmt::Write;
 use std::test::Fail;
-use vector_operators::fault::Fault1;
-use vectors::batch::Place;
-use vectors::selection::Selection;
+use vector_operators::Fault1;
+use vectors::{ColumnReference, Selection};
 
 /// The rows of a batch, where they are the column's from one on, the batch is no longer than it may
 /// be, and says where in its row group it begins.
 fn rows_of(scanned: &ScanBatch<'_>, column: &Column, from: usize, most: usize) -> Option<usize> {
     let rows = scanned.batch.rows();
-    let lanes = scanned.batch.column(Place::Fact { column: 0 })?;
+    let lanes = scanned.batch.column(ColumnReference::Fact { column: 0 })?;
     let first = from % 8_192;
-    let is_placed = scanned.first_row == first && rows <= most && rows <= 8_192 - first;
-    if is_placed && lanes.len() == rows && are_rows(lanes, column, from) {
+    let is_expected = scanned.first_row == first && rows <= most && rows <= 8_192 - first;
+    if is_expected && lanes.len() == rows && are_rows(lanes, column, from) {
         Some(rows)
     } else {
         None
@@ -159,12 +155,12 @@ fn tenth_above_one(alloc: Global) -> Result<Expr, AllocError> {
 }
 
 /// The positions that stay, and the fault that is held, if any.
-fn told(alloc: Global, selection: &Selection, fault: &Fault1) -> Result<String, AllocError> {
+fn shown(alloc: Global, selection: &Selection, fault: &Fault1) -> Result<String, AllocError> {
     let mut text = String::new(alloc);
     for position in 0..selection.below() {
-        let is_there = match selection.places() {
+        let is_there = match selection.positions() {
             None => true,
-            Some(places) => places.iter().any(|place| *place as usize == position),
+            Some(positions) => positions.iter().any(|p| *p as usize == position),
         };
         if is_there {
             write!(text, "{position} ")?;
@@ -187,7 +183,7 @@ fn selected(
     let mut selection = Selection::all(alloc, rows)?;
     let mut fault = Fault1::new();
     select(alloc, scanned, &mut selection, conditions, &mut fault)?;
-    told(alloc, &selection, &fault)
+    shown(alloc, &selection, &fault)
 }
 
 /// What the conditions make of 2, NULL, 0, 4 and 1.
@@ -222,7 +218,7 @@ fn unknown_is_not_kept(rt: HostRuntime) -> Result<(), Fail> {
 }
 
 #[test]
-fn a_fault_is_told_at_its_row(rt: HostRuntime) -> Result<(), Fail> {
+fn a_fault_is_reported_at_its_row(rt: HostRuntime) -> Result<(), Fail> {
     let conditions = vec![in rt.alloc(); tenth_above_one(rt.alloc())?]?;
     assert!(rt; kept(rt.alloc(), &conditions)?.ends_with("fault 2 at 2"));
     Ok(())

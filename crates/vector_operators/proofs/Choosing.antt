@@ -40,18 +40,18 @@ module _ {X : Type 0} (value : X → Value) (blank : X) (mask : List Bool) (thes
       ])
 
   module _ (cells : List X) (nulls : Nulls) (long : length cells ≡ length mask) (are : AreChosenNulls mask these those nulls) where
-    told : AreLanes false (length mask) (λ i. is_null_lane (chosen_at mask these those i)) (nulls_of (length cells) nulls)
-    told = subst (λ (n : ℕ). AreLanes false (length mask) (λ i. is_null_lane (chosen_at mask these those i)) (nulls_of n nulls)) (sym long) are
+    returned : AreLanes false (length mask) (λ i. is_null_lane (chosen_at mask these those i)) (nulls_of (length cells) nulls)
+    returned = subst (λ (n : ℕ). AreLanes false (length mask) (λ i. is_null_lane (chosen_at mask these those i)) (nulls_of n nulls)) (sym long) are
 
     pub chosen_fit : length (nulls_of (length cells) nulls) ≡ length cells
-    chosen_fit = told.long ∙ sym long
+    chosen_fit = returned.long ∙ sym long
 
     module _ (lanes : List Value) (is : lanes ≡ lane_values value (nulls_of (length cells) nulls) cells) where
       pub chosen_lanes : AreChosenCells value blank mask these those cells → (i : ℕ) → i < length mask → gives.Value (get_or lanes i Null) ≡ chosen_at mask these those i
       chosen_lanes of_cells i within =
           ap gives.Value (ap (λ (vs : List Value). get_or vs i Null) is
           ∙ lane_at value (nulls_of (length cells) nulls) cells i blank chosen_fit (subst (λ (k : ℕ). i < k) (sym long) within)
-          ∙ ap (λ (b : Bool). lane_value value (b, get_or cells i blank)) (told.each i within))
+          ∙ ap (λ (b : Bool). lane_value value (b, get_or cells i blank)) (returned.each i within))
           ∙ sym (of_cells i within)
 
       pub chosen_long : length lanes ≡ length mask

@@ -31,7 +31,7 @@ pub before_old : (m : ℕ → Outcome) (S : ℕ → Type 0) (h n : Held) → ((n
 before_old m S h n origin i b =
     elim origin [
       | inl same ↦ subst (λ (x : Held). IsBefore i x) same b
-      | inr f ↦ before-trans i f.place h (subst (λ (x : Held). IsBefore i x) f.is_new b) f.is_before
+      | inr f ↦ before-trans i f.position h (subst (λ (x : Held). IsBefore i x) f.is_new b) f.is_before
     ]
 
 pub bool_cases : (b : Bool) → (b ≡ true) ⊎ (b ≡ false)
@@ -43,8 +43,8 @@ pub found_as : (m m' : ℕ → Outcome) (S S' : ℕ → Type 0) (h h' n : Held)
     → ((i : ℕ) (e : Fault) → S i → IsBefore i h → m i ≡ gives.Fault e → S' i × IsBefore i h' × (m' i ≡ gives.Fault e))
     → Finds m S h n → Finds m' S' h' n
 found_as m m' S S' h h' n to f =
-    let w = to f.place f.fault f.is_selected f.is_before f.is_meant in
-    record { place = f.place; fault = f.fault; is_new = f.is_new; is_selected = w.0; is_before = w.1; is_meant = w.2 }
+    let w = to f.position f.fault f.is_selected f.is_before f.is_meant in
+    record { position = f.position; fault = f.fault; is_new = f.is_new; is_selected = w.0; is_before = w.1; is_meant = w.2 }
 
 -- first one origin, then another
 pub origin_then : (m m' : ℕ → Outcome) (S S' : ℕ → Type 0) (h n n' : Held) → ((n ≡ h) ⊎ Finds m S h n)
@@ -52,7 +52,7 @@ pub origin_then : (m m' : ℕ → Outcome) (S S' : ℕ → Type 0) (h n n' : Hel
     → ((n' ≡ n) ⊎ Finds m' S' n n') → (n' ≡ h) ⊎ Finds m S h n'
 origin_then m m' S S' h n n' first to second =
     elim second [
-      | inl same ↦ elim first [ inl as_before ↦ inl (same ∙ as_before) | inr f ↦ inr (record { place = f.place; fault = f.fault; is_new = same ∙ f.is_new; is_selected = f.is_selected; is_before = f.is_before; is_meant = f.is_meant }) ]
+      | inl same ↦ elim first [ inl as_before ↦ inl (same ∙ as_before) | inr f ↦ inr (record { position = f.position; fault = f.fault; is_new = same ∙ f.is_new; is_selected = f.is_selected; is_before = f.is_before; is_meant = f.is_meant }) ]
       | inr g ↦ inr (found_as m' m S' S n h n' (λ i e s b meant. let w = to i e s b meant in (w.0, before_old m S h n first i b, w.1)) g)
     ]
 
@@ -65,7 +65,7 @@ origin_as m m' S S' h n to o =
       | inr f ↦ inr (found_as m m' S S' h h n (λ i e s b meant. let w = to i e s b meant in (w.0, b, w.1)) f)
     ]
 
--- g of two operands, where needs tells from the left whether the right counts
+-- g of two operands, where needs reports from the left whether the right counts
 pub record Node (g : Outcome → Outcome → Outcome) (needs : Outcome → Bool) : Type 0 where
   pub left_fault : (e : Fault) (b : Outcome) → g (gives.Fault e) b ≡ gives.Fault e
   pub right_fault : (a : Outcome) (e : Fault) → ((f : Fault) → a ≢ gives.Fault f) → needs a ≡ true → g a (gives.Fault e) ≡ gives.Fault e

@@ -84,20 +84,20 @@ module _ (meant : ℕ → Outcome) where
     by_first f is = elim (noted_cases held f) [
       | inl taken ↦ sym (taken.1 ∙ sym (elim origin [
         | inl same ↦ absurd (sound f.position is.among (subst (λ (h : Held). IsBefore f.position h) (sym same) taken.0) f.fault is.is_fault)
-        | inr g ↦ elim (cases_order g.place f.position) [
+        | inr g ↦ elim (cases_order g.position f.position) [
           | inl at ↦
               (let w : gives.Fault g.fault ≡ gives.Fault f.fault = sym g.is_meant ∙ ap meant at ∙ is.is_fault in
               let faults : g.fault ≡ f.fault = cc in
               g.is_new ∙ ap (λ (x : ℕ). Some (record { position = x; fault = g.fault })) at ∙ ap (λ (x : Fault). Some (record { position = f.position; fault = x })) faults)
           | inr other ↦ elim other [
-            | inl under ↦ absurd (is.first g.place g.fault g.is_selected under g.is_meant)
+            | inl under ↦ absurd (is.first g.position g.fault g.is_selected under g.is_meant)
             | inr over ↦ absurd (sound f.position is.among (subst (λ (h : Held). IsBefore f.position h) (sym g.is_new) over) f.fault is.is_fault)
           ]
         ]
       ]))
       | inr kept ↦ sym (kept.0 ∙ sym (elim origin [
         | inl same ↦ same
-        | inr g ↦ absurd (is.first g.place g.fault g.is_selected (kept.1 g.place g.is_before) g.is_meant)
+        | inr g ↦ absurd (is.first g.position g.fault g.is_selected (kept.1 g.position g.is_before) g.is_meant)
       ]))
     ]
 
@@ -106,7 +106,7 @@ module _ (meant : ℕ → Outcome) where
     least_noted ascending = elim (first_cases list (sorted_from_strictly_increasing list ascending)) [
       | inl none ↦ (elim origin [
         | inl same ↦ same
-        | inr g ↦ absurd (none.1 g.place g.fault g.is_selected g.is_meant)
+        | inr g ↦ absurd (none.1 g.position g.fault g.is_selected g.is_meant)
       ]) ∙ sym (ap (λ (h : Held). noted held h) none.0)
       | inr found ↦ by_first found.0 found.1.1 ∙ sym (ap (λ (h : Held). noted held h) found.1.0)
     ]

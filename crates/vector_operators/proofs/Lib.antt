@@ -7,7 +7,7 @@ pub mod LaneValues
 pub mod Least
 pub mod MarkedLanes
 pub mod Narrowed
-pub mod NearTold
 pub mod Parts
+pub mod SmallReturned
 pub mod Tested
 pub mod Typed

@@ -25,7 +25,7 @@ same_bool true false to from = sym (to refl)
 same_bool false true to from = from refl
 same_bool false false to from = refl
 
--- ---- ascending positions are told by what is among them
+-- ---- ascending positions are determined by what is among them
 
 not_among : (x : ℕ) (xs : List ℕ) → AllByRecursion (λ y. nat_cmp x y ≡ Less) xs → is_among xs x ≡ true → ⊥
 not_among x xs later among = let self : x < x = less_is x x (all_among (λ y. nat_cmp x y ≡ Less) xs x later among) in omega (arith, self)
@@ -78,7 +78,7 @@ kept_is_selection f s is = record {
 }
 
 among_all : (n i : ℕ) → i < n → is_among (range_with_len 0 n) i ≡ true
-among_all n i within = sym ((full_mask n (replicate n true) refl).tells i within) ∙ get_or-replicate n i true false within
+among_all n i within = sym ((full_mask n (replicate n true) refl).reports i within) ∙ get_or-replicate n i true false within
 
 module _ (n : ℕ) (mask : Option (List Bool)) where
   pub are_selection : IsSelection (lanes_in n mask)
@@ -98,7 +98,7 @@ module _ (n : ℕ) (mask : Option (List Bool)) where
 
   -- a mask of the marks
   pub is_mask : (cells : List Bool) → AreLanes false n (marked mask) cells → IsMask (lanes_in n mask).list n cells
-  is_mask cells are = record { long = are.long; tells = λ p below. are.each p below ∙ mark_is p below }
+  is_mask cells are = record { long = are.long; reports = λ p below. are.each p below ∙ mark_is p below }
 
 -- the marks of a selection
 pub of_selection : (s : Positions) (mask : Option (List Bool)) → IsSelection s → MarkWhere s.below (is_among s.list) mask → lanes_in s.below mask ≡ s
@@ -112,7 +112,7 @@ pub all_where : (s : Positions) → s ≡ all_below s.below → MarkWhere s.belo
 all_where s is = record { long = tt; each = λ i within. sym (ap (λ (t : Positions). is_among t.list i) is ∙ among_all s.below i within) }
 
 pub mask_where : (s : Positions) (mask : List Bool) → IsMask s.list s.below mask → MarkWhere s.below (is_among s.list) (Some mask)
-mask_where s mask is = record { long = is.long; each = λ i within. is.tells i within }
+mask_where s mask is = record { long = is.long; each = λ i within. is.reports i within }
 
 -- marks that a mask has too
 pub narrowed_lanes : (n : ℕ) (old : Option (List Bool)) (mask out : List Bool) → AreLanes false n (λ i. marked old i && null_at mask i) out
@@ -138,7 +138,7 @@ lanes_without n s t these those out is below of_these of_those are =
       f p = not (is_among t.list p)
 
       mark_at : (i : ℕ) → i < n → marked (Some out) i ≡ (is_among s.list i && f i)
-      mark_at i within = are.each i within ∙ ap (λ (b : Bool). b && not (null_at those i)) (of_these.tells i within) ∙ ap (λ (b : Bool). is_among s.list i && not b) (of_those.tells i within)
+      mark_at i within = are.each i within ∙ ap (λ (b : Bool). b && not (null_at those i)) (of_these.reports i within) ∙ ap (λ (b : Bool). is_among s.list i && not b) (of_those.reports i within)
 
       lists : (lanes_in n (Some out)).list ≡ without s.list t.list
       lists = same_lists (lanes_in n (Some out)) (record { below = s.below; list = filter f s.list }) (are_selection n (Some out)) (kept_is_selection f s is)

@@ -11,12 +11,12 @@ use Rattle.vectors.specs.declared.nulls.Nulls.{Nulls}
 use Rattle.vectors.specs.Lanes.{AreLanes, lane_value, lane_values, nulls_of}
 use Rattle.vectors.proofs.Lanes.{lanes_long, lane_at}
 use Rattle.lane_loops.specs.Lanes as loops
-use Rattle.vector_operators.specs.Spread.{AreParts}
+use Rattle.vector_operators.specs.Broadcast.{AreParts}
 
 module _ {X : Type 0} (value : X → Value) (present : (x : X) → is_null (value x) ≡ false) where
-  pub null_told : (b : Bool) (x : X) → is_null (lane_value value (b, x)) ≡ b
-  null_told true x = refl
-  null_told false x = present x
+  pub null_returned : (b : Bool) (x : X) → is_null (lane_value value (b, x)) ≡ b
+  null_returned true x = refl
+  null_returned false x = present x
 
   module _ (blank : X) (cells : List X) (nulls : Nulls) (lanes : List Value) (are : AreLanes cells nulls)
       (is : lanes ≡ lane_values value (nulls_of (length cells) nulls) cells) where
@@ -36,7 +36,7 @@ module _ {X : Type 0} (value : X → Value) (present : (x : X) → is_null (valu
     pub nulls_are : loops.AreLanes false (length lanes) (λ i. is_null (get_or lanes i Null)) (nulls_of (length lanes) nulls)
     nulls_are = record {
       long = nulls_long;
-      each = λ i within. sym (ap (λ (v : Value). is_null v) (each i within) ∙ null_told _ _);
+      each = λ i within. sym (ap (λ (v : Value). is_null v) (each i within) ∙ null_returned _ _);
     }
 
     pub are_parts : AreParts value blank lanes cells nulls

@@ -57,12 +57,12 @@ IsWithin s i = (i < s.below) × (is_among s.list i ≡ true)
 
 -- the new fault is that of a selected position before the one that was held
 pub record Finds (meant : ℕ → Outcome) (Selected : ℕ → Type 0) (held new : Held) : Type 0 where
-  pub place : ℕ
+  pub position : ℕ
   pub fault : Fault
-  pub is_new : new ≡ Some (record { position = place; fault = fault })
-  pub is_selected : Selected place
-  pub is_before : IsBefore place held
-  pub is_meant : meant place ≡ gives.Fault fault
+  pub is_new : new ≡ Some (record { position = position; fault = fault })
+  pub is_selected : Selected position
+  pub is_before : IsBefore position held
+  pub is_meant : meant position ≡ gives.Fault fault
 
 -- each selected lane before the new fault is what is meant there, and that fault is the old one or one that is found
 pub record Evaluates (meant : ℕ → Outcome) (Selected : ℕ → Type 0) (held new : Held) (lanes : ℕ → Outcome) : Type 0 where

@@ -148,7 +148,7 @@ abbrev pub AreGivenCells : {X : Type 0} → (X → Value) → X → ℕ → Give
 AreGivenCells value blank n g cells = (i : ℕ) → i < n
     → given_at g i ≡ gives.Value (lane_value value (is_null_lane (given_at g i), get_or cells i blank))
 
--- the lane of the first where the mask tells so, else that of the second
+-- the lane of the first where the mask marks it, else that of the second
 abbrev pub chosen_at : List Bool → Given → Given → ℕ → Outcome
 chosen_at mask these those i = if null_at mask i then given_at these i else given_at those i
 
@@ -159,6 +159,6 @@ AreChosenCells value blank mask these those cells = (i : ℕ) → i < length mas
 abbrev pub AreChosenLanes : List Bool → Given → Given → (ℕ → Outcome) → Type 0
 AreChosenLanes mask these those lanes = (i : ℕ) → i < length mask → lanes i ≡ chosen_at mask these those i
 
--- so many are told, each NULL where the lane chosen is
+-- so many lanes are given, each NULL where the lane chosen is
 abbrev pub AreChosenNulls : List Bool → Given → Given → Nulls → Type 0
 AreChosenNulls mask these those nulls = AreLanes false (length mask) (λ i. is_null_lane (chosen_at mask these those i)) (nulls_of (length mask) nulls)

@@ -1,7 +1,7 @@
 -- The definitions of this crate.
+pub mod Broadcast
 pub mod Evaluated
 pub mod Given
 pub mod LaneSets
 pub mod Laws
-pub mod Spread
-pub mod Told
+pub mod Returned

@@ -10,41 +10,41 @@ ghost use Rattle.lane_loops.specs.Lanes.{AreChosen, AreLanes};
 ghost use Rattle.vector_operators.specs.declared.given.Given.TheVariants as given;
 ghost use Rattle.vector_operators.specs.Given.{AreCellsOf, AreChosenCells, AreChosenLanes, AreChosenNulls, AreGivenCells, ArePut, IsLong, chosen_at, given_at, is_null_lane, is_of_kind};
 ghost use Rattle.meaning.specs.Order.{is_null};
-ghost use Rattle.vector_operators.specs.Spread.{IsNeverNull, spread_cells};
+ghost use Rattle.vector_operators.specs.Broadcast.{IsNeverNull, broadcast_cells};
 
+use crate::broadcast::{
+    Broadcast, broadcast_ints, broadcast_texts, int_parts, null_lanes, text_parts,
+};
 use crate::given::Given;
 use crate::lane_set::LaneSet;
-use crate::spread::{Spread, int_parts, null_lanes, spread_ints, spread_texts, text_parts};
-use lane_loops::choosing::choose;
+use lane_loops::choose;
 use std::alloc::{AllocError, Global};
 use std::mem::drop;
-use vectors::ints::{IntCells, Ints};
-use vectors::nulls::Nulls;
-use vectors::texts::{TextCells, Texts};
+use vectors::{IntCells, Ints, Nulls, TextCells, Texts};
 
-fn blank_ints<'a>(alloc: Global, lanes: usize) -> Result<Spread<'a, i64>, AllocError>
-    ensures { IfOk result (λ s. spread_cells s ≡ replicate lanes (pos 0)) }
+fn blank_ints<'a>(alloc: Global, lanes: usize) -> Result<Broadcast<'a, i64>, AllocError>
+    ensures { IfOk result (λ s. broadcast_cells s ≡ replicate lanes (pos 0)) }
 {
-    Ok(Spread::Owned(vec![in alloc; 0i64; lanes]?))
+    Ok(Broadcast::Owned(vec![in alloc; 0i64; lanes]?))
 }
 
-fn cells_of_ints<'a>(alloc: Global, ints: &'a Ints<'_>) -> Result<Spread<'a, i64>, AllocError>
-    ensures { IfOk result (λ s. AreCellsOf Int (pos 0) ints.now (spread_cells s)) }
+fn cells_of_ints<'a>(alloc: Global, ints: &'a Ints<'_>) -> Result<Broadcast<'a, i64>, AllocError>
+    ensures { IfOk result (λ s. AreCellsOf Int (pos 0) ints.now (broadcast_cells s)) }
 {
     let (cells, _) = int_parts(ints);
-    spread_ints(alloc, cells)
+    broadcast_ints(alloc, cells)
 }
 
-/// The integers of the lanes; 0 where it isn't told of integers.
+/// The integers of the lanes; 0 where the lanes aren't integers.
 fn int_cells<'a>(
     alloc: Global,
     given: &'a Given<'_>,
     lanes: usize,
-) -> Result<Spread<'a, i64>, AllocError>
+) -> Result<Broadcast<'a, i64>, AllocError>
     requires { IsLong lanes given.now }
-    ensures long { IfOk result (λ s. length (spread_cells s) ≡ lanes) }
+    ensures long { IfOk result (λ s. length (broadcast_cells s) ≡ lanes) }
     ensures value { is_of_kind (Valued of_type.Int) given.now ≡ true
-        → IfOk result (λ s. AreGivenCells Int (pos 0) lanes given.now (spread_cells s)) }
+        → IfOk result (λ s. AreGivenCells Int (pos 0) lanes given.now (broadcast_cells s)) }
 {
     match given {
         Given::Ints(ints) => cells_of_ints(alloc, ints),
@@ -52,34 +52,34 @@ fn int_cells<'a>(
     }
 }
 
-fn blank_texts<'a, 't>(alloc: Global, lanes: usize) -> Result<Spread<'a, &'t [u8]>, AllocError>
-    ensures { IfOk result (λ s. map (λ t. t.now) (spread_cells s) ≡ replicate lanes []) }
+fn blank_texts<'a, 't>(alloc: Global, lanes: usize) -> Result<Broadcast<'a, &'t [u8]>, AllocError>
+    ensures { IfOk result (λ s. map (λ t. t.now) (broadcast_cells s) ≡ replicate lanes []) }
 {
     let blank: &[u8] = &[];
-    Ok(Spread::Owned(vec![in alloc; blank; lanes]?))
+    Ok(Broadcast::Owned(vec![in alloc; blank; lanes]?))
 }
 
 fn cells_of_texts<'a, 't>(
     alloc: Global,
     texts: &'a Texts<'t>,
-) -> Result<Spread<'a, &'t [u8]>, AllocError>
-    ensures { IfOk result (λ s. AreCellsOf Text [] texts.now (map (λ t. t.now) (spread_cells s))) }
+) -> Result<Broadcast<'a, &'t [u8]>, AllocError>
+    ensures { IfOk result (λ s. AreCellsOf Text [] texts.now (map (λ t. t.now) (broadcast_cells s))) }
 {
     let (cells, _) = text_parts(texts);
-    spread_texts(alloc, cells)
+    broadcast_texts(alloc, cells)
 }
 
-/// The texts of the lanes; the empty one where it isn't told of texts.
+/// The texts of the lanes; the empty one where the lanes aren't texts.
 fn text_cells<'a, 't>(
     alloc: Global,
     given: &'a Given<'t>,
     lanes: usize,
-) -> Result<Spread<'a, &'t [u8]>, AllocError>
+) -> Result<Broadcast<'a, &'t [u8]>, AllocError>
     requires { IsLong lanes given.now }
-    ensures long { IfOk result (λ s. length (spread_cells s) ≡ lanes) }
+    ensures long { IfOk result (λ s. length (broadcast_cells s) ≡ lanes) }
     ensures value { is_of_kind (Valued of_type.Text) given.now ≡ true
         → IfOk result (λ s. AreGivenCells Text [] lanes given.now
-        (map (λ t. t.now) (spread_cells s))) }
+        (map (λ t. t.now) (broadcast_cells s))) }
 {
     if let Given::Texts(texts) = given {
         return cells_of_texts(alloc, texts);
@@ -253,7 +253,7 @@ fn choose_texts<'t>(
     Ok(Texts::new(TextCells::Owned(cells), nulls))
 }
 
-/// The lanes of `those`, NULL where the mask tells so.
+/// The lanes of `those`, NULL where the mask marks it.
 fn null_or<'t>(
     alloc: Global,
     mask: &[bool],
@@ -276,7 +276,7 @@ fn null_or<'t>(
     }
 }
 
-/// The lane of `these` where the mask tells so, else that of `those`, both of one type.
+/// The lane of `these` where the mask marks it, else that of `those`, both of one type.
 pub fn choose_lanes<'t>(
     alloc: Global,
     mask: &[bool],

@@ -10,25 +10,22 @@ ghost use Rattle.meaning.specs.Truth.{known};
 ghost use Rattle.meaning.specs.Typing.{Boolean, Valued};
 ghost use Rattle.vectors.specs.Lanes.{ints_of, nulls_of, texts_of};
 ghost use Rattle.lane_loops.specs.Lanes.{AreLanes, AreLanesWhere, compared_bit, compared_text_to_bit, compared_to_bit, like_bit, null_at, text_at};
-ghost use Rattle.lane_loops.specs.Outcomes.{told_truth};
+ghost use Rattle.lane_loops.specs.Outcomes.{returned_truth};
 ghost use Rattle.vector_operators.specs.declared.given.Given.TheVariants as given;
 ghost use Rattle.vector_operators.specs.Given.{IsLong, IsSpelled, IsSpelledIn, are_alike, given_at, is_of_kind};
-ghost use Rattle.vector_operators.specs.Spread.{text_bit};
+ghost use Rattle.vector_operators.specs.Broadcast.{text_bit};
 
+use crate::broadcast::{
+    broadcast_ints, broadcast_texts, either_null, int_parts, null_lanes, text_parts,
+};
 use crate::given::Given;
-use crate::spread::{either_null, int_parts, null_lanes, spread_ints, spread_texts, text_parts};
-use lane_loops::choosing::{truths_of_bits, truths_unless_null};
-use lane_loops::comparing::{compare_ints, compare_ints_to, compare_texts, compare_texts_to};
-use lane_loops::like::{LikePattern, like_texts};
-use lane_loops::nulls::{are_not_null, are_null};
-use meaning::expr::ComparisonOperator;
-use meaning::outcome::Truth;
-use meaning::text::Text;
+use lane_loops::{
+    LikePattern, are_not_null, are_null, compare_ints, compare_ints_to, compare_texts,
+    compare_texts_to, like_texts, truths_of_bits, truths_unless_null,
+};
+use meaning::{ComparisonOperator, Text, Truth};
 use std::alloc::{AllocError, Global};
-use vectors::ints::{IntCells, Ints};
-use vectors::nulls::Nulls;
-use vectors::texts::{TextCells, Texts};
-use vectors::truths::{TruthCells, Truths};
+use vectors::{IntCells, Ints, Nulls, TextCells, Texts, TruthCells, Truths};
 
 /// One truth in each lane.
 pub fn one_truth(truth: Truth, lanes: usize) -> Given<'static>
@@ -43,7 +40,7 @@ fn put_truths(nulls: &Nulls<'_>, bits: &[u8], out: &mut [Truth])
     requires nulls { length (nulls_of (length out.old) nulls.now) ≡ length out.old }
     requires bits { length bits.now ≡ length out.old }
     ensures { AreLanes Unknown (length out.old)
-        (λ i. told_truth (null_at (nulls_of (length out.old) nulls.now) i) (slice_index bits.now i))
+        (λ i. returned_truth (null_at (nulls_of (length out.old) nulls.now) i) (slice_index bits.now i))
         out.new }
 {
     match nulls.mask() {
@@ -57,7 +54,7 @@ fn truths_from(alloc: Global, nulls: &Nulls<'_>, bits: &[u8]) -> Result<Truths, 
     requires { length (nulls_of (length bits.now) nulls.now) ≡ length bits.now }
     ensures value { IfOk result
         (AreLanes Unknown (length bits.now)
-        (λ i. told_truth (null_at (nulls_of (length bits.now) nulls.now) i)
+        (λ i. returned_truth (null_at (nulls_of (length bits.now) nulls.now) i)
         (slice_index bits.now i))) }
 {
     let mut out = vec![in alloc; Truth::Unknown; bits.len()]?;
@@ -75,7 +72,7 @@ fn bits_of_two(
     ensures { IfOk result (λ bits. AreLanes 0 (length left.now)
         (compared_bit op left.now (ints_of right.now)) bits.items) }
 {
-    let right = spread_ints(alloc, right)?;
+    let right = broadcast_ints(alloc, right)?;
     let mut bits = vec![in alloc; 0u8; left.len()]?;
     compare_ints(op, left, right.as_slice(), bits.as_mut_slice());
     Ok(bits)
@@ -125,7 +122,7 @@ fn compare_of_ints(
     let (left_cells, left_nulls) = int_parts(left);
     let (right_cells, right_nulls) = int_parts(right);
     let nulls = either_null(alloc, left_nulls, right_nulls, left.len())?;
-    let left_cells = spread_ints(alloc, left_cells)?;
+    let left_cells = broadcast_ints(alloc, left_cells)?;
     let bits = int_bits(alloc, op, left_cells.as_slice(), right_cells)?;
     truths_from(alloc, &nulls, bits.as_slice())
 }
@@ -140,7 +137,7 @@ fn text_bits_of_two(
     ensures { IfOk result (λ bits. AreLanes 0 (length left.now)
         (text_bit op (map (λ t. t.now) left.now) (texts_of right.now)) bits.items) }
 {
-    let right = spread_texts(alloc, right)?;
+    let right = broadcast_texts(alloc, right)?;
     let mut bits = vec![in alloc; 0u8; left.len()]?;
     compare_texts(op, left, right.as_slice(), bits.as_mut_slice());
     Ok(bits)
@@ -190,7 +187,7 @@ fn compare_of_texts(
     let (left_cells, left_nulls) = text_parts(left);
     let (right_cells, right_nulls) = text_parts(right);
     let nulls = either_null(alloc, left_nulls, right_nulls, left.len())?;
-    let left_cells = spread_texts(alloc, left_cells)?;
+    let left_cells = broadcast_texts(alloc, left_cells)?;
     let bits = text_bits(alloc, op, left_cells.as_slice(), right_cells)?;
     truths_from(alloc, &nulls, bits.as_slice())
 }
@@ -284,7 +281,7 @@ fn like_of_texts(alloc: Global, pattern: &Text, texts: &Texts<'_>) -> Result<Tru
         (λ i. truth_of (like_value pattern.now (slice_index_or texts.now i Null))) truths) }
 {
     let (cells, nulls) = text_parts(texts);
-    let cells = spread_texts(alloc, cells)?;
+    let cells = broadcast_texts(alloc, cells)?;
     let bits = like_bits(alloc, pattern.as_str(), cells.as_slice())?;
     truths_from(alloc, nulls, bits.as_slice())
 }

@@ -2,7 +2,7 @@
 ghost use Rattle.std.specs.Prelude.{◌≡◌, Some, None};
 ghost use Rattle.vector_operators.specs.Evaluated.{noted};
 
-use meaning::outcome::Fault;
+use meaning::Fault;
 
 /// A fault, and the position of the row that has it.
 #[derive(Clone, Copy)]
@@ -25,8 +25,7 @@ impl Fault1 {
         Fault1 { held: None }
     }
 
-    /// A fault more: it takes the place of the one that is held only at a strictly smaller
-    /// position.
+    /// A fault more: it replaces the one that is held only at a strictly smaller position.
     pub fn note(&mut self, found: Faulted)
         ensures { self.new.held ≡ noted self.old.held (Some found) }
     {

@@ -4,18 +4,13 @@ ghost use Rattle.meaning.specs.declared.value.Value.TheVariants.{Int, Text};
 ghost use Rattle.meaning.specs.declared.outcome.Outcome.TheVariants as gives;
 ghost use Rattle.meaning.specs.Typing.{ExprType, is_literal_type};
 ghost use Rattle.vectors.specs.Lanes.{ints_of, lane_values, nulls_of, texts_of};
-ghost use Rattle.vectors.specs.Vector.{outcomes_of, same_place};
+ghost use Rattle.vectors.specs.Vector.{outcomes_of, same_reference};
 ghost use Rattle.vector_operators.specs.Evaluated.{lane_of};
 ghost use Rattle.vector_operators.specs.Given.{IsOfType, IsLong, given_at, given_of, is_of_kind};
 
-use meaning::value::Value;
+use meaning::Value;
 use std::alloc::{AllocError, Global};
-use vectors::batch::{Batch, Place};
-use vectors::ints::{IntCells, Ints};
-use vectors::nulls::Nulls;
-use vectors::texts::{TextCells, Texts};
-use vectors::truths::Truths;
-use vectors::vector::Vector;
+use vectors::{Batch, ColumnReference, IntCells, Ints, Nulls, TextCells, Texts, Truths, Vector};
 
 /// What a part of an expression gives: NULL in each lane, which is of any type, or lanes of one
 /// kind.
@@ -77,14 +72,14 @@ fn lent_texts<'a>(texts: &'a Texts<'_>) -> Texts<'a>
     Texts::new(lent_text_cells(cells), lent_nulls(nulls))
 }
 
-/// The lanes of the column at this place, lent. There is none where types don't fit.
-pub fn lent_column<'a>(batch: &'a Batch<'_>, place: Place) -> Given<'a>
+/// The lanes of the column with this reference, lent. There is none where types don't fit.
+pub fn lent_column<'a>(batch: &'a Batch<'_>, reference: ColumnReference) -> Given<'a>
     ensures value { result ≡ given_of
         (option_map (λ column. column.lanes)
-        (find (λ column. same_place column.place place) batch.now.columns)) }
+        (find (λ column. same_reference column.reference reference) batch.now.columns)) }
     ensures long { IsLong batch.now.rows result }
 {
-    match batch.column(place) {
+    match batch.column(reference) {
         None => Given::Null,
         Some(Vector::Ints(ints)) => Given::Ints(lent_ints(ints)),
         Some(Vector::Texts(texts)) => Given::Texts(lent_texts(texts)),

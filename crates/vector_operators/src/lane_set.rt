@@ -5,14 +5,13 @@ ghost use Rattle.vectors.specs.Selection.{IsMask, IsSelection, is_among, without
 ghost use Rattle.lane_loops.specs.Lanes.{AreLanes, null_at};
 ghost use Rattle.vector_operators.specs.Given.{AreNarrowed};
 ghost use Rattle.vector_operators.specs.LaneSets.{AreMarks, MarkWhere, lanes_in, marked, mask_in};
-ghost use Rattle.vector_operators.specs.Spread.{spread_cells};
+ghost use Rattle.vector_operators.specs.Broadcast.{broadcast_cells};
 
-use crate::spread::Spread;
-use lane_loops::flags::keep_flags;
-use lane_loops::masks::{mark_both, mark_first_alone};
+use crate::broadcast::Broadcast;
+use lane_loops::{keep_flags, mark_both, mark_first_alone};
 use std::alloc::{AllocError, Global};
 use std::marker::Model;
-use vectors::selection::Selection;
+use vectors::Selection;
 
 /// Which lanes are meant: all, or those that a mask marks.
 #[derive(Drop)]
@@ -25,7 +24,7 @@ fn marks_of(alloc: Global, selection: &Selection) -> Result<Marks, AllocError>
     ensures { IfOk result (λ marks. MarkWhere selection.now.below (is_among selection.now.list)
         (mask_in marks)) }
 {
-    match selection.places() {
+    match selection.positions() {
         None => Ok(Marks::All),
         Some(_) => Ok(Marks::Marked(selection.mask(alloc)?)),
     }
@@ -40,14 +39,18 @@ fn copied(alloc: Global, marks: &Marks) -> Result<Marks, AllocError>
     }
 }
 
-fn spread<'a>(alloc: Global, marks: &'a Marks, lanes: usize) -> Result<Spread<'a, bool>, AllocError>
+fn broadcast<'a>(
+    alloc: Global,
+    marks: &'a Marks,
+    lanes: usize,
+) -> Result<Broadcast<'a, bool>, AllocError>
     requires { AreMarks lanes (mask_in marks.now) }
     ensures { IfOk result (λ mask. AreLanes false lanes (marked (mask_in marks.now))
-        (spread_cells mask)) }
+        (broadcast_cells mask)) }
 {
     match marks {
-        Marks::All => Ok(Spread::Owned(vec![in alloc; true; lanes]?)),
-        Marks::Marked(mask) => Ok(Spread::Lent(mask.as_slice())),
+        Marks::All => Ok(Broadcast::Owned(vec![in alloc; true; lanes]?)),
+        Marks::Marked(mask) => Ok(Broadcast::Lent(mask.as_slice())),
     }
 }
 
@@ -135,10 +138,10 @@ impl LaneSet {
     }
 
     /// For each lane whether it is one of these.
-    pub fn mask(&self, alloc: Global) -> Result<Spread<'_, bool>, AllocError>
-        ensures { IfOk result (λ mask. IsMask self.now.list self.now.below (spread_cells mask)) }
+    pub fn mask(&self, alloc: Global) -> Result<Broadcast<'_, bool>, AllocError>
+        ensures { IfOk result (λ mask. IsMask self.now.list self.now.below (broadcast_cells mask)) }
     {
-        spread(alloc, &self.marks, self.lanes)
+        broadcast(alloc, &self.marks, self.lanes)
     }
 
     /// Takes the flag off each lane that isn't one of these.

@@ -6,15 +6,14 @@ ghost use Rattle.meaning.specs.Typing.{Boolean};
 ghost use Rattle.lane_loops.specs.Lanes.{null_at};
 ghost use Rattle.vector_operators.specs.Given.{AreNarrowed, IsLong, given_at, is_not_false, is_not_true, is_null_lane, is_of_kind, is_true_lane};
 
+use crate::broadcast::{broadcast_truths, null_lanes};
 use crate::given::Given;
 use crate::lane_set::LaneSet;
-use crate::spread::{null_lanes, spread_truths};
-use lane_loops::choosing::{not_false_lanes, not_true_lanes, true_lanes};
-use lane_loops::truths::{and_truths, not_truths, or_truths};
-use meaning::outcome::Truth;
+use lane_loops::{and_truths, not_false_lanes, not_true_lanes, not_truths, or_truths, true_lanes};
+use meaning::Truth;
 use std::alloc::{AllocError, Global};
 use std::mem::drop;
-use vectors::truths::{TruthCells, Truths};
+use vectors::{TruthCells, Truths};
 
 /// AND of each two lanes.
 pub fn and(
@@ -30,8 +29,8 @@ pub fn and(
     ensures long { IfOk result (IsLong lanes) }
     ensures kind { IfOk result (λ g. is_of_kind Boolean g ≡ true) }
 {
-    let left = spread_truths(alloc, left, lanes)?;
-    let right = spread_truths(alloc, right, lanes)?;
+    let left = broadcast_truths(alloc, left, lanes)?;
+    let right = broadcast_truths(alloc, right, lanes)?;
     let mut out = vec![in alloc; Truth::Unknown; lanes]?;
     and_truths(left.as_slice(), right.as_slice(), out.as_mut_slice());
     Ok(Given::Truths(Truths::new(TruthCells::Owned(out))))
@@ -51,8 +50,8 @@ pub fn or(
     ensures long { IfOk result (IsLong lanes) }
     ensures kind { IfOk result (λ g. is_of_kind Boolean g ≡ true) }
 {
-    let left = spread_truths(alloc, left, lanes)?;
-    let right = spread_truths(alloc, right, lanes)?;
+    let left = broadcast_truths(alloc, left, lanes)?;
+    let right = broadcast_truths(alloc, right, lanes)?;
     let mut out = vec![in alloc; Truth::Unknown; lanes]?;
     or_truths(left.as_slice(), right.as_slice(), out.as_mut_slice());
     Ok(Given::Truths(Truths::new(TruthCells::Owned(out))))
@@ -66,7 +65,7 @@ pub fn not(alloc: Global, given: &Given<'_>, lanes: usize) -> Result<Given<'stat
     ensures long { IfOk result (IsLong lanes) }
     ensures kind { IfOk result (λ g. is_of_kind Boolean g ≡ true) }
 {
-    let truths = spread_truths(alloc, given, lanes)?;
+    let truths = broadcast_truths(alloc, given, lanes)?;
     let mut out = vec![in alloc; Truth::Unknown; lanes]?;
     not_truths(truths.as_slice(), out.as_mut_slice());
     Ok(Given::Truths(Truths::new(TruthCells::Owned(out))))
@@ -103,7 +102,7 @@ pub fn unless_false(
     requires { IsLong selection.now.below given.now }
     ensures { IfOk result (AreNarrowed (λ i. is_not_false (given_at given.now i)) selection.now) }
 {
-    let truths = spread_truths(alloc, given, selection.below())?;
+    let truths = broadcast_truths(alloc, given, selection.below())?;
     let mut mask = vec![in alloc; false; selection.below()]?;
     not_false_lanes(truths.as_slice(), mask.as_mut_slice());
     selection.narrowed(alloc, mask)
@@ -118,7 +117,7 @@ pub fn unless_true(
     requires { IsLong selection.now.below given.now }
     ensures { IfOk result (AreNarrowed (λ i. is_not_true (given_at given.now i)) selection.now) }
 {
-    let truths = spread_truths(alloc, given, selection.below())?;
+    let truths = broadcast_truths(alloc, given, selection.below())?;
     let mut mask = vec![in alloc; false; selection.below()]?;
     not_true_lanes(truths.as_slice(), mask.as_mut_slice());
     selection.narrowed(alloc, mask)
@@ -133,7 +132,7 @@ pub fn where_true(
     requires { IsLong selection.now.below given.now }
     ensures { IfOk result (AreNarrowed (λ i. is_true_lane (given_at given.now i)) selection.now) }
 {
-    let truths = spread_truths(alloc, given, selection.below())?;
+    let truths = broadcast_truths(alloc, given, selection.below())?;
     let mut chosen = vec![in alloc; false; selection.below()]?;
     true_lanes(truths.as_slice(), chosen.as_mut_slice());
     selection.narrowed(alloc, chosen)

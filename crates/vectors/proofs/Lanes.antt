@@ -23,33 +23,33 @@ module _ {X : Type 0} (value : X → Value) where
   lane_at (b ∷ bs) (x ∷ xs) zero d same within = refl
   lane_at (b ∷ bs) (x ∷ xs) (suc i) d same within = lane_at bs xs i d (omega (arith, same)) (omega (arith, within))
 
--- NULL is told of the lane, however many lanes there are
-pub told_at : {X : Type 0} (cells : List X) (nulls : Nulls) (i : ℕ) → AreLanes cells nulls → i < length cells → i < length (nulls_of (i + 1) nulls)
-told_at cells null.None i are within = omega (arith, length-replicate (i + 1) false)
-told_at cells (null.Lent mask) i are within = omega (arith, are, within)
-told_at cells (null.Owned mask) i are within = omega (arith, are, within)
+-- the lane is marked NULL or not, however many lanes there are
+pub marked_at : {X : Type 0} (cells : List X) (nulls : Nulls) (i : ℕ) → AreLanes cells nulls → i < length cells → i < length (nulls_of (i + 1) nulls)
+marked_at cells null.None i are within = omega (arith, length-replicate (i + 1) false)
+marked_at cells (null.Lent mask) i are within = omega (arith, are, within)
+marked_at cells (null.Owned mask) i are within = omega (arith, are, within)
 
 -- one lane of a vector
 module _ {X : Type 0} (value : X → Value) (cells : List X) (nulls : Nulls) (lanes : List Value) (are : AreLanes cells nulls)
     (is : lane_values value (nulls_of (length cells) nulls) cells ≡ lanes) where
-  abbrev told : List Bool
-  told = nulls_of (length cells) nulls
+  abbrev marks : List Bool
+  marks = nulls_of (length cells) nulls
 
   pub long : length cells ≡ length lanes
-  long = sym (lanes_long value told cells are) ∙ ap (λ (vs : List Value). length vs) is
+  long = sym (lanes_long value marks cells are) ∙ ap (λ (vs : List Value). length vs) is
 
   module _ (i : ℕ) (within : i < length lanes) where
     pub cell_within : i < length cells
     cell_within = omega (arith, long, within)
 
-    pub null_told : i < length (nulls_of (i + 1) nulls)
-    null_told = told_at cells nulls i are cell_within
+    pub null_marked : i < length (nulls_of (i + 1) nulls)
+    null_marked = marked_at cells nulls i are cell_within
 
-    at : (d : X) → get_or lanes i Null ≡ lane_value value (get_or told i false, get_or cells i d)
-    at d = ap (λ (vs : List Value). get_or vs i Null) (sym is) ∙ lane_at value told cells i d are cell_within
+    at : (d : X) → get_or lanes i Null ≡ lane_value value (get_or marks i false, get_or cells i d)
+    at d = ap (λ (vs : List Value). get_or vs i Null) (sym is) ∙ lane_at value marks cells i d are cell_within
 
-    pub null_lane : (d : X) → true ≡ get_or told i false → Null ≡ get_or lanes i Null
+    pub null_lane : (d : X) → true ≡ get_or marks i false → Null ≡ get_or lanes i Null
     null_lane d e = ap (λ (b : Bool). lane_value value (b, get_or cells i d)) e ∙ sym (at d)
 
-    pub value_lane : (d : X) → false ≡ get_or told i false → value (get_or cells i d) ≡ get_or lanes i Null
+    pub value_lane : (d : X) → false ≡ get_or marks i false → value (get_or cells i d) ≡ get_or lanes i Null
     value_lane d e = ap (λ (b : Bool). lane_value value (b, get_or cells i d)) e ∙ sym (at d)

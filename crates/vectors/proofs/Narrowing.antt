@@ -1,4 +1,4 @@
--- A selection is narrowed place by place.
+-- A selection is narrowed position by position.
 use Rattle.std.specs.Prelude.{◌≡◌, ℕ, zero, suc, ◌+◌, ◌<◌, ◌≤◌, Bool, true, false, List, [], ◌∷◌, ◌++◌, length, take, drop, set, get_or, All}
 use Rattle.std.specs.List.{range_with_len, AllZip}
 use Rattle.std.specs.Int.{from_bool}
@@ -78,9 +78,9 @@ same_left xs ys i same = ap (λ (n : ℕ). get_or xs n 0) (sym none) ∙ sym (ge
   none = omega arith
 
 module _ (old now : List ℕ) (n i : ℕ) where
-  -- a place of the front that wasn't yet asked is one of the old
-  pub front_place : All (λ p. p < length old) (take n old) → i < n → n ≤ length old → drop i now ≡ drop i old → get_or now i 0 < length old
-  front_place below here front same =
+  -- a position of the front that wasn't yet asked is one of the old
+  pub front_position : All (λ p. p < length old) (take n old) → i < n → n ≤ length old → drop i now ≡ drop i old → get_or now i 0 < length old
+  front_position below here front same =
       let first : i < length (take n old) = omega (arith, length-take n old, here, front) in
       let at : get_or (take n old) i 0 ≡ get_or old i 0 = get_or-take n old i 0 here in
       subst (λ (p : ℕ). p < length old) (at ∙ sym (same_left now old i same)) (All-get_or (λ p. p < length old) (take n old) i 0 first below)

@@ -57,11 +57,11 @@ all_are_selection n = record { ascending = ascending; within = All-from_get_or (
   below i within = let here : i < n = omega (arith, within, long) in rw (at i here) here
 
 -- a selection of all is well held
-pub all_is_held : (n : ℕ) (places : List ℕ) → n ≡ length places → n < 2 ^ 32 → IsHeld true n places
-all_is_held n places counted few = record {
-  counted = counted ∙ sym (length-range_with_len 0 (length places));
+pub all_is_held : (n : ℕ) (positions : List ℕ) → n ≡ length positions → n < 2 ^ 32 → IsHeld true n positions
+all_is_held n positions counted few = record {
+  counted = counted ∙ sym (length-range_with_len 0 (length positions));
   few = subst (λ (k : ℕ). k < 2 ^ 32) counted few;
-  selection = all_are_selection (length places);
+  selection = all_are_selection (length positions);
 }
 
 -- a front that is kept of a selection is well held
@@ -76,8 +76,8 @@ kept_is_held Answers is_all n count old new held keeps within same = record {
   long : count ≡ length (take count new)
   long = omega (arith, length-take count new, within)
 
-pub held_within : (count : ℕ) (places : List ℕ) → IsHeld false count places → count ≤ length places
-held_within count places held = omega (arith, held.counted, length-take count places)
+pub held_within : (count : ℕ) (positions : List ℕ) → IsHeld false count positions → count ≤ length positions
+held_within count positions held = omega (arith, held.counted, length-take count positions)
 
 -- ---- masks
 
@@ -92,10 +92,10 @@ among_range a (suc n) p from below = elim (a == p) as (λ b. a == p ≡ b → b 
 pub full_mask : (n : ℕ) (mask : List Bool) → mask ≡ replicate n true → IsMask (range_with_len 0 n) n mask
 full_mask n mask all = record {
   long = ap length all ∙ length-replicate n true;
-  tells = tells;
+  reports = reports;
 } where
-  tells : (p : ℕ) → p < n → get_or mask p false ≡ is_among (range_with_len 0 n) p
-  tells p below =
+  reports : (p : ℕ) → p < n → get_or mask p false ≡ is_among (range_with_len 0 n) p
+  reports p below =
       let least : 0 ≤ p = omega arith in
       let within : p < 0 + n = omega (arith, below) in
       ap (λ (m : List Bool). get_or m p false) all ∙ get_or-replicate n p true false below ∙ sym (among_range 0 n p least within)

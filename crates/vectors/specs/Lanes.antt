@@ -13,7 +13,7 @@ use Rattle.vectors.specs.declared.truths.TruthCells.{TruthCells}
 use Rattle.vectors.specs.declared.truths.TruthCells.TheVariants as truth_cells
 use Rattle.meaning.specs.declared.outcome.Truth.{Truth}
 
--- the value of a lane: NULL where it is told, else that of the cell
+-- the value of a lane: NULL where it is marked so, else that of the cell
 abbrev pub lane_value : {X : Type 0} → (X → Value) → Bool × X → Value
 lane_value value (true, cell) = Null
 lane_value value (false, cell) = value cell
@@ -54,7 +54,7 @@ ints_of (int_cells.Repeated cell lanes) = replicate lanes cell
 abbrev pub int_lanes : IntCells → Nulls → List Value
 int_lanes cells nulls = lane_values Int (nulls_of (length (ints_of cells)) nulls) (ints_of cells)
 
--- as many lanes are told to be NULL or not as there are cells
+-- as many lanes are marked NULL or not as there are cells
 abbrev pub AreLanes : {X : Type 0} → List X → Nulls → Type 0
 AreLanes cells nulls = length (nulls_of (length cells) nulls) ≡ length cells
 

@@ -40,16 +40,16 @@ without list other = filter (λ p. not (is_among other p)) list
 
 -- ---- how a selection is held
 
--- the first `count` places are selected, unless all are
+-- the first `count` positions are selected, unless all are
 abbrev pub positions_of : Bool → ℕ → List ℕ → Positions
-positions_of is_all count places = record { below = length places; list = if is_all then range_with_len 0 (length places) else take count places }
+positions_of is_all count positions = record { below = length positions; list = if is_all then range_with_len 0 (length positions) else take count positions }
 
-pub record IsHeld (is_all : Bool) (count : ℕ) (places : List ℕ) : Type 0 where
-  pub counted : count ≡ length (positions_of is_all count places).list
-  pub few : length places < 2 ^ 32
-  pub selection : IsSelection (positions_of is_all count places)
+pub record IsHeld (is_all : Bool) (count : ℕ) (positions : List ℕ) : Type 0 where
+  pub counted : count ≡ length (positions_of is_all count positions).list
+  pub few : length positions < 2 ^ 32
+  pub selection : IsSelection (positions_of is_all count positions)
 
 -- for each position below the length whether it is in the list
 pub record IsMask (list : List ℕ) (below : ℕ) (mask : List Bool) : Type 0 where
   pub long : length mask ≡ below
-  pub tells : (p : ℕ) → p < below → get_or mask p false ≡ is_among list p
+  pub reports : (p : ℕ) → p < below → get_or mask p false ≡ is_among list p

@@ -9,8 +9,8 @@ use Rattle.meaning.specs.declared.value.Value.{Value}
 use Rattle.meaning.specs.References.{Reference, FactColumn, JoinColumn, GroupKey, GroupAggregate, referenced}
 use Rattle.vectors.specs.declared.vector.Vector.{Vector}
 use Rattle.vectors.specs.declared.vector.Vector.TheVariants as vector
-use Rattle.vectors.specs.declared.batch.Place.{Place}
-use Rattle.vectors.specs.declared.batch.Place.TheVariants as place
+use Rattle.vectors.specs.declared.batch.ColumnReference.{ColumnReference}
+use Rattle.vectors.specs.declared.batch.ColumnReference.TheVariants as reference
 use Rattle.vectors.specs.declared.batch.BatchColumn.{BatchColumn}
 
 -- what each lane gives: a value or a truth
@@ -33,28 +33,28 @@ HasLanesOf _ _ = ⊥
 
 -- ---- batches
 
--- what an expression calls the place of a column
-abbrev pub reference_of : Place → Reference
-reference_of (place.Fact column) = FactColumn column
-reference_of (place.Join join column) = JoinColumn join column
-reference_of (place.Key key) = GroupKey key
-reference_of (place.Aggregate aggregate) = GroupAggregate aggregate
+-- the reference by which expressions name the column
+abbrev pub reference_of : ColumnReference → Reference
+reference_of (reference.Fact column) = FactColumn column
+reference_of (reference.Join join column) = JoinColumn join column
+reference_of (reference.Key key) = GroupKey key
+reference_of (reference.Aggregate aggregate) = GroupAggregate aggregate
 
-abbrev pub same_place : Place → Place → Bool
-same_place (place.Fact c) (place.Fact d) = nat_eq c d
-same_place (place.Join i c) (place.Join j d) = nat_eq i j && nat_eq c d
-same_place (place.Key i) (place.Key j) = nat_eq i j
-same_place (place.Aggregate i) (place.Aggregate j) = nat_eq i j
-same_place _ _ = false
+abbrev pub same_reference : ColumnReference → ColumnReference → Bool
+same_reference (reference.Fact c) (reference.Fact d) = nat_eq c d
+same_reference (reference.Join i c) (reference.Join j d) = nat_eq i j && nat_eq c d
+same_reference (reference.Key i) (reference.Key j) = nat_eq i j
+same_reference (reference.Aggregate i) (reference.Aggregate j) = nat_eq i j
+same_reference _ _ = false
 
 -- how many rows there are, and the columns of them that are there
 pub record BatchSpec : Type 0 where
   pub rows : ℕ
   pub columns : List BatchColumn
 
--- a lane of the column is what each of the rows has at its place
+-- each lane of the column is the value that its row has under the reference
 abbrev pub IsColumnOf : List JoinedRow → BatchColumn → Type 0
-IsColumnOf rows column = outcomes_of column.lanes ≡ map (λ row. gives.Value (referenced row (reference_of column.place))) rows
+IsColumnOf rows column = outcomes_of column.lanes ≡ map (λ row. gives.Value (referenced row (reference_of column.reference))) rows
 
 -- rows that the batch has the columns of; what else they hold is open
 pub record AreRowsOf (batch : BatchSpec) (rows : List JoinedRow) : Type 0 where

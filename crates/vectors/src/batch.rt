@@ -1,6 +1,6 @@
 //! Batches: the columns of some rows, as vectors.
 ghost use Rattle.std.specs.Prelude.{◌≡◌, [], ◌∷◌, ◌++◌, length, find, option_map, IfSome, OnOk, OnErr};
-ghost use Rattle.vectors.specs.Vector.{outcomes_of, same_place};
+ghost use Rattle.vectors.specs.Vector.{outcomes_of, same_reference};
 
 use crate::vector::Vector;
 use std::alloc::{AllocError, Global};
@@ -8,7 +8,7 @@ use std::marker::Model;
 
 /// Where an expression finds a column.
 #[derive(Clone, Copy, PartialEq, Eq)]
-pub enum Place {
+pub enum ColumnReference {
     Fact { column: usize },
     Join { join: usize, column: usize },
     Key { key: usize },
@@ -18,7 +18,7 @@ pub enum Place {
 /// A column of a batch.
 #[derive(Drop)]
 pub struct BatchColumn<'a> {
-    pub place: Place,
+    pub reference: ColumnReference,
     pub lanes: Vector<'a>,
 }
 
@@ -74,14 +74,17 @@ impl<'a> Batch<'a> {
         Ok(())
     }
 
-    /// The lanes of the first column of this place.
-    pub fn column(&self, place: Place) -> Option<&Vector<'a>>
+    /// The lanes of the first column with this reference.
+    pub fn column(&self, reference: ColumnReference) -> Option<&Vector<'a>>
         ensures value { option_map (λ lanes. lanes.now) result
             ≡ option_map (λ column. column.lanes)
-            (find (λ column. same_place column.place place) self.now.columns) }
+            (find (λ column. same_reference column.reference reference) self.now.columns) }
         ensures long { IfSome result (λ lanes. length (outcomes_of lanes.now) ≡ self.now.rows) }
     {
-        let column = self.columns.iter().find(|column| column.place == place)?;
+        let column = self
+            .columns
+            .iter()
+            .find(|column| column.reference == reference)?;
         Some(&column.lanes)
     }
 }

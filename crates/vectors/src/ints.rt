@@ -71,8 +71,8 @@ impl<'a> Model for Ints<'a> {
 }
 
 impl<'a> Ints<'a> {
-    /// Lanes of these cells, NULL where it is told. What stands in the cell of a NULL lane is of no
-    /// account.
+    /// Lanes of these cells, NULL where it is marked so. What stands in the cell of a NULL lane is
+    /// of no account.
     pub fn new(cells: IntCells<'a>, nulls: Nulls<'a>) -> Ints<'a>
         requires { AreLanes (ints_of cells) nulls }
         ensures { result ≡ int_lanes cells.entry nulls.entry }

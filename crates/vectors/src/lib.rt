@@ -1,10 +1,18 @@
 //! Short pieces of columns, and ascending positions in them.
 #![tactic(auto)]
 
-pub mod batch;
-pub mod ints;
-pub mod nulls;
-pub mod selection;
-pub mod texts;
-pub mod truths;
-pub mod vector;
+mod batch;
+mod ints;
+mod nulls;
+mod selection;
+mod texts;
+mod truths;
+mod vector;
+
+pub use batch::{Batch, BatchColumn, ColumnReference};
+pub use ints::{IntCells, Ints};
+pub use nulls::Nulls;
+pub use selection::Selection;
+pub use texts::{TextCells, Texts};
+pub use truths::{TruthCells, Truths};
+pub use vector::Vector;

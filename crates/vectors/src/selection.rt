@@ -12,7 +12,7 @@ use std::marker::Model;
 #[derive(Drop)]
 pub struct Selection {
     // As many as there are positions; the first `count` are selected, unless all are.
-    places: Vec<u32>,
+    positions: Vec<u32>,
     count: usize,
     is_all: bool,
 }
@@ -23,74 +23,79 @@ impl Model for Selection {
 
     ghost Value = { Positions };
 
-    ghost view = { λ s. positions_of s.is_all s.count s.places.items };
+    ghost view = { λ s. positions_of s.is_all s.count s.positions.items };
 
-    ghost invariant = { λ s. IsHeld s.is_all s.count s.places.items };
+    ghost invariant = { λ s. IsHeld s.is_all s.count s.positions.items };
 }
 
-/// Puts in front the positions below the length at which `keep` answers true, and tells how many
+/// Puts in front the positions below the length at which `keep` answers true, and reports how many
 /// these are.
-fn keep_of_all<F: Fn(u32) -> bool>(places: &mut [u32], keep: &F) -> usize
-    requires few { length places.old < 2 ^ 32 }
-    requires askable { (p : ℕ) → p < length places.old → F.pre keep.now p }
-    ensures kept { Keeps (F.post keep.now) (range_with_len 0 (length places.old))
-        (take result places.new) }
-    ensures within { result ≤ length places.new }
+fn keep_of_all<F: Fn(u32) -> bool>(positions: &mut [u32], keep: &F) -> usize
+    requires few { length positions.old < 2 ^ 32 }
+    requires askable { (p : ℕ) → p < length positions.old → F.pre keep.now p }
+    ensures kept { Keeps (F.post keep.now) (range_with_len 0 (length positions.old))
+        (take result positions.new) }
+    ensures within { result ≤ length positions.new }
 {
     let mut count = 0;
-    for place in 0..places.len() {
-        let place = place as u32;
-        places[count] = place;
-        count += usize::from(keep(place));
+    for position in 0..positions.len() {
+        let position = position as u32;
+        positions[count] = position;
+        count += usize::from(keep(position));
     }
     count
 }
 
-/// Puts in front those of the first `n` at which `keep` answers true, and tells how many these are.
-fn keep_of_front<F: Fn(u32) -> bool>(places: &mut [u32], n: usize, keep: &F) -> usize
-    requires front { n ≤ length places.old }
-    requires below { All (λ p. p < length places.old) (take n places.old) }
-    requires askable { (p : ℕ) → p < length places.old → F.pre keep.now p }
-    ensures kept { Keeps (F.post keep.now) (take n places.old) (take result places.new) }
+/// Puts in front those of the first `n` at which `keep` answers true, and reports how many these
+/// are.
+fn keep_of_front<F: Fn(u32) -> bool>(positions: &mut [u32], n: usize, keep: &F) -> usize
+    requires front { n ≤ length positions.old }
+    requires below { All (λ p. p < length positions.old) (take n positions.old) }
+    requires askable { (p : ℕ) → p < length positions.old → F.pre keep.now p }
+    ensures kept { Keeps (F.post keep.now) (take n positions.old) (take result positions.new) }
     ensures within { result ≤ n }
 {
     let mut count = 0;
     for i in 0..n {
-        let place = places[i];
-        places[count] = place;
-        count += usize::from(keep(place));
+        let position = positions[i];
+        positions[count] = position;
+        count += usize::from(keep(position));
     }
     count
 }
 
-/// Puts in front those that `keep` leaves of all positions or of the first `count`, and tells how
+/// Puts in front those that `keep` leaves of all positions or of the first `count`, and reports how
 /// many these are.
-fn keep_places<F: Fn(u32) -> bool>(
-    places: &mut [u32],
+fn keep_positions<F: Fn(u32) -> bool>(
+    positions: &mut [u32],
     is_all: bool,
     count: usize,
     keep: &F,
 ) -> usize
-    requires held { IsHeld is_all count places.old }
-    requires askable { (p : ℕ) → p < length places.old → F.pre keep.now p }
-    ensures held { IsHeld false result places.new }
-    ensures kept { Keeps (F.post keep.now) (positions_of is_all count places.old).list
-        (positions_of false result places.new).list }
+    requires held { IsHeld is_all count positions.old }
+    requires askable { (p : ℕ) → p < length positions.old → F.pre keep.now p }
+    ensures held { IsHeld false result positions.new }
+    ensures kept { Keeps (F.post keep.now) (positions_of is_all count positions.old).list
+        (positions_of false result positions.new).list }
 {
     if is_all {
-        return keep_of_all(places, keep);
+        return keep_of_all(positions, keep);
     }
-    keep_of_front(places, count, keep)
+    keep_of_front(positions, count, keep)
 }
 
-/// Marks the places among so many.
-fn mask_of_places(alloc: Global, places: &[u32], below: usize) -> Result<Vec<bool>, AllocError>
-    requires { All (λ p. p < below) places.now }
-    ensures { IfOk result (λ mask. IsMask places.now below mask.items) }
+/// Marks the positions among so many.
+fn mask_of_positions(
+    alloc: Global,
+    positions: &[u32],
+    below: usize,
+) -> Result<Vec<bool>, AllocError>
+    requires { All (λ p. p < below) positions.now }
+    ensures { IfOk result (λ mask. IsMask positions.now below mask.items) }
 {
     let mut mask = vec![in alloc; false; below]?;
-    for place in places {
-        mask[*place as usize] = true;
+    for position in positions {
+        mask[*position as usize] = true;
     }
     Ok(mask)
 }
@@ -112,9 +117,9 @@ fn mask_of_all(alloc: Global, below: usize) -> Result<Vec<bool>, AllocError>
 fn mask_of(alloc: Global, selection: &Selection) -> Result<Vec<bool>, AllocError>
     ensures { IfOk result (λ mask. IsMask selection.now.list selection.now.below mask.items) }
 {
-    match selection.places() {
+    match selection.positions() {
         None => mask_of_all(alloc, selection.below()),
-        Some(places) => mask_of_places(alloc, places, selection.below()),
+        Some(positions) => mask_of_positions(alloc, positions, selection.below()),
     }
 }
 
@@ -123,9 +128,9 @@ impl Selection {
     pub fn all(alloc: Global, n: u32) -> Result<Selection, AllocError>
         ensures { IfOk result (λ s. s ≡ all_below n) }
     {
-        let places = vec![in alloc; 0; n as usize]?;
+        let positions = vec![in alloc; 0; n as usize]?;
         Ok(Selection {
-            places,
+            positions,
             count: n as usize,
             is_all: true,
         })
@@ -135,7 +140,7 @@ impl Selection {
     pub fn reset(&mut self)
         ensures { self.new ≡ all_below self.old.below }
     {
-        self.count = self.places.len();
+        self.count = self.positions.len();
         self.is_all = true;
     }
 
@@ -143,7 +148,7 @@ impl Selection {
     pub fn below(&self) -> usize
         ensures { result ≡ self.now.below }
     {
-        self.places.len()
+        self.positions.len()
     }
 
     /// How many positions are selected.
@@ -162,15 +167,15 @@ impl Selection {
     }
 
     /// The selected positions, ascending; `None` where all are selected and no list was made.
-    pub fn places(&self) -> Option<&[u32]>
-        ensures list { IfSome result (λ places. places.now ≡ self.now.list) }
+    pub fn positions(&self) -> Option<&[u32]>
+        ensures list { IfSome result (λ positions. positions.now ≡ self.now.list) }
         ensures all { IsNone result → self.now ≡ all_below self.now.below }
         ensures sound { IsSelection self.now }
     {
         if self.is_all {
             return None;
         }
-        Some(&self.places.as_slice()[..self.count])
+        Some(&self.positions.as_slice()[..self.count])
     }
 
     /// Keeps the positions at which `keep` answers true. `keep` may be asked at each position below
@@ -180,8 +185,8 @@ impl Selection {
         ensures kept { Keeps (F.post keep) self.old.list self.new.list }
         ensures below { self.new.below ≡ self.old.below }
     {
-        let places = self.places.as_mut_slice();
-        self.count = keep_places(places, self.is_all, self.count, &keep);
+        let positions = self.positions.as_mut_slice();
+        self.count = keep_positions(positions, self.is_all, self.count, &keep);
         self.is_all = false;
     }
 
@@ -194,8 +199,8 @@ impl Selection {
         } }
     {
         // That each position lies below the length.
-        let _ = &self.places;
-        self.narrow(|place| mask[place as usize]);
+        let _ = &self.positions;
+        self.narrow(|position| mask[position as usize]);
     }
 
     /// For each position below the length whether it is selected.
@@ -209,9 +214,9 @@ impl Selection {
     pub fn copy(&self, alloc: Global) -> Result<Selection, AllocError>
         ensures { IfOk result (λ s. s ≡ self.now) }
     {
-        let places = Vec::from_slice(alloc, self.places.as_slice())?;
+        let positions = Vec::from_slice(alloc, self.positions.as_slice())?;
         Ok(Selection {
-            places,
+            positions,
             count: self.count,
             is_all: self.is_all,
         })
@@ -224,11 +229,11 @@ impl Selection {
             ≡ record { below = self.now.below; list = without self.now.list other.now.list }) }
     {
         // That each position lies below the length.
-        let _ = &self.places;
+        let _ = &self.positions;
         let is_other = mask_of(alloc, other)?;
         let mut left = self.copy(alloc)?;
         let is_other = is_other.as_slice();
-        left.narrow(|place| !is_other[place as usize]);
+        left.narrow(|position| !is_other[position as usize]);
         Ok(left)
     }
 }

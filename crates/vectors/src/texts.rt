@@ -64,8 +64,8 @@ impl<'a> Model for Texts<'a> {
 }
 
 impl<'a> Texts<'a> {
-    /// Lanes of these cells, NULL where it is told. What stands in the cell of a NULL lane is of no
-    /// account.
+    /// Lanes of these cells, NULL where it is marked so. What stands in the cell of a NULL lane is
+    /// of no account.
     pub fn new(cells: TextCells<'a>, nulls: Nulls<'a>) -> Texts<'a>
         requires { AreLanes (texts_of cells) nulls }
         ensures { result ≡ text_lanes cells.entry nulls.entry }

@@ -3,7 +3,7 @@ ghost use Rattle.std.specs.Prelude.{◌≡◌, ◌<◌, length, slice_index_or};
 ghost use Rattle.meaning.specs.declared.outcome.Truth.TheVariants.{Unknown};
 ghost use Rattle.vectors.specs.Lanes.{truths_of};
 
-use meaning::outcome::Truth;
+use meaning::Truth;
 use std::marker::Model;
 
 /// Where the truths stand: here, or one for all lanes.

@@ -1,4 +1,4 @@
--- Reading parts one after the other in a loop: those behind the place stand behind those that were read.
+-- Reading parts one after the other in a loop: those that are left are read behind those that were.
 use Rattle.std.proofs.Common.{◌≡◌, ℕ, suc, ◌-◌, ◌+◌, ◌≤◌, ◌<◌, List, [], ◌∷◌, ◌++◌, Ok, Err, refl, sym, ap, ◌∙◌, append_assoc, arith}
 use Rattle.std.proofs.lemmas.List.{append-nil}
 use Rattle.wire.specs.Reading.{◌>>=◌, Read, repeat_at}

@@ -13,14 +13,14 @@ use Rattle.meaning.specs.Order.{Row}
 use Rattle.meaning.specs.References.{Reference, columns_of_plan, columns_used, columns_used_in_all}
 use Rattle.meaning.specs.TableLaws.{IsTypedAggregate}
 use Rattle.meaning.specs.Typing.{Boolean, RowTypes, Valued, has_type}
-use Rattle.meaning.specs.WellFormedPlan.{HasTypesOf, IsListed, IsWellFormedPlan}
+use Rattle.meaning.specs.SoundPlan.{HasTypesOf, IsListed, IsSoundPlan}
 use Rattle.meaning.proofs.Tests.{or_second}
 use Rattle.encodings.specs.Block.{Block}
 use Rattle.fragment_file.proofs.TypedRows.{all_behind, all_front}
 use Rattle.vectors.specs.declared.batch.BatchColumn.{BatchColumn}
-use Rattle.vectors.specs.declared.batch.Place.{Place}
-use Rattle.vectors.specs.declared.batch.Place.TheVariants as place
-use Rattle.vectors.specs.Vector.{same_place}
+use Rattle.vectors.specs.declared.batch.ColumnReference.{ColumnReference}
+use Rattle.vectors.specs.declared.batch.ColumnReference.TheVariants as reference
+use Rattle.vectors.specs.Vector.{same_reference}
 use Rattle.primitives.specs.Fitting.{Fits, has_column}
 use Rattle.primitives.specs.Meant.{row_at}
 use Rattle.scan_select.specs.Scanned.{AreColumnsAt}
@@ -28,18 +28,18 @@ use Rattle.worker.specs.Evaluated.{FitsColumns}
 
 -- ---- the columns of a batch
 
-same_column : (p : ℕ) → same_place (place.Fact p) (place.Fact p) ≡ true
+same_column : (p : ℕ) → same_reference (reference.Fact p) (reference.Fact p) ≡ true
 same_column p = eq-eqb p p refl
 
 pub listed_there : (group : List Block) (first rows : ℕ) (ps : List ℕ) (cs : List BatchColumn) (at k : ℕ) → AreColumnsAt group first rows ps cs → k < length ps → get_or ps k at ≡ at
-    → list_any (λ column. same_place column.place (place.Fact at)) cs ≡ true
+    → list_any (λ column. same_reference column.reference (reference.Fact at)) cs ≡ true
 listed_there group first rows [] cs at k are lt is = absurd (omega (arith, lt))
 listed_there group first rows (p ∷ ps) [] at k are lt is = absurd are
 listed_there group first rows (p ∷ ps) (c ∷ cs) at zero are lt is =
-    let here : same_place c.place (place.Fact at) ≡ true = ap (λ (q : Place). same_place q (place.Fact at)) are.0.place ∙ ap (λ (n : ℕ). same_place (place.Fact n) (place.Fact at)) is ∙ same_column at in
+    let here : same_reference c.reference (reference.Fact at) ≡ true = ap (λ (q : ColumnReference). same_reference q (reference.Fact at)) are.0.reference ∙ ap (λ (n : ℕ). same_reference (reference.Fact n) (reference.Fact at)) is ∙ same_column at in
     rw here refl
 listed_there group first rows (p ∷ ps) (c ∷ cs) at (suc k) are lt is =
-    or_second (same_place c.place (place.Fact at)) (list_any (λ column. same_place column.place (place.Fact at)) cs) (listed_there group first rows ps cs at k are.1 (omega (arith, lt)) is)
+    or_second (same_reference c.reference (reference.Fact at)) (list_any (λ column. same_reference column.reference (reference.Fact at)) cs) (listed_there group first rows ps cs at k are.1 (omega (arith, lt)) is)
 
 imply : {X : Type 0} (P Q : X → Type 0) → ((x : X) → P x → Q x) → (xs : List X) → AllByRecursion P xs → AllByRecursion Q xs
 imply P Q to [] all = tt
@@ -65,7 +65,7 @@ map_itself [] = refl
 map_itself {X} (x ∷ xs) = ap (λ (ys : List X). x ∷ ys) (map_itself xs)
 
 -- a plan over a batch of the columns that it names
-pub fits_columns : (plan : Plan) (types : RowTypes) (cs : List BatchColumn) → IsWellFormedPlan plan → HasTypesOf plan types → ((u : Reference) → IsListed plan u → has_column cs u ≡ true) → FitsColumns types cs plan
+pub fits_columns : (plan : Plan) (types : RowTypes) (cs : List BatchColumn) → IsSoundPlan plan → HasTypesOf plan types → ((u : Reference) → IsListed plan u → has_column cs u ≡ true) → FitsColumns types cs plan
 fits_columns plan types cs well has there =
     let typed = well.typed types has in
     let listed = recursion_from_All (IsListed plan) (columns_of_plan plan) well.listed in

@@ -35,10 +35,10 @@ text_of t = Text t.now
 abbrev lane : Bor (List ℕ) → List Bool → List (Bor (List ℕ)) → ℕ → Value
 lane blank nulls cells i = lane_value text_of (get_or nulls i true, get_or cells i blank)
 
-pub record AreSoFar (places : List ℕ) (texts : List Value) (nulls : List Bool) (cells : List (Bor (List ℕ))) : Type 0 where
+pub record AreSoFar (positions : List ℕ) (texts : List Value) (nulls : List Bool) (cells : List (Bor (List ℕ))) : Type 0 where
   pub nulls_long : length nulls ≡ length texts
   pub cells_long : length cells ≡ length texts
-  pub each : (i : ℕ) (d : Bor (List ℕ)) → i < length texts → lane d nulls cells i ≡ (if is_among places i then get_or texts i Null else Null)
+  pub each : (i : ℕ) (d : Bor (List ℕ)) → i < length texts → lane d nulls cells i ≡ (if is_among positions i then get_or texts i Null else Null)
 
 true_there : (nulls : List Bool) → ((k : ℕ) (d : Bool) → k < length nulls → get_or nulls k d ≡ true) → (i : ℕ) → get_or nulls i true ≡ true
 true_there [] all i = refl
@@ -46,9 +46,9 @@ true_there (n ∷ ns) all zero = all 0 true (omega arith)
 true_there (n ∷ ns) all (suc i) = true_there ns (λ k d lt. all (suc k) d (omega (arith, lt))) i
 
 -- no lane yet
-pub none_so_far : (places : List ℕ) (texts : List Value) (nulls : List Bool) (cells : List (Bor (List ℕ))) → places ≡ [] → length nulls ≡ length texts → length cells ≡ length texts
-    → ((i : ℕ) → get_or nulls i true ≡ true) → AreSoFar places texts nulls cells
-none_so_far places texts nulls cells none a b all = record {
+pub none_so_far : (positions : List ℕ) (texts : List Value) (nulls : List Bool) (cells : List (Bor (List ℕ))) → positions ≡ [] → length nulls ≡ length texts → length cells ≡ length texts
+    → ((i : ℕ) → get_or nulls i true ≡ true) → AreSoFar positions texts nulls cells
+none_so_far positions texts nulls cells none a b all = record {
   nulls_long = a;
   cells_long = b;
   each = λ i d below. ap (λ n. lane_value text_of (n, get_or cells i d)) (all i) ∙ sym (ap (λ (ps : List ℕ). if is_among ps i then get_or texts i Null else Null) none);
@@ -58,25 +58,25 @@ taken : (blank : Bor (List ℕ)) (text : Option (Bor (List ℕ))) → lane_value
 taken blank None = refl
 taken blank (Some t) = refl
 
--- one place more
-pub one_so_far : (blank : Bor (List ℕ)) (places : List ℕ) (k p : ℕ) (texts : List Value) (nulls : List Bool) (cells : List (Bor (List ℕ))) (text : Option (Bor (List ℕ)))
-    → take (k + 1) places ≡ take k places ++ p ∷ [] → p < length texts → or_null text_of text ≡ get_or texts p Null
-    → AreSoFar (take k places) texts nulls cells → AreSoFar (take (k + 1) places) texts (set nulls p (is_none text)) (set cells p (unwrap_or text blank))
-one_so_far blank places k p texts nulls cells text more below found so_far = record {
+-- one position more
+pub one_so_far : (blank : Bor (List ℕ)) (positions : List ℕ) (k p : ℕ) (texts : List Value) (nulls : List Bool) (cells : List (Bor (List ℕ))) (text : Option (Bor (List ℕ)))
+    → take (k + 1) positions ≡ take k positions ++ p ∷ [] → p < length texts → or_null text_of text ≡ get_or texts p Null
+    → AreSoFar (take k positions) texts nulls cells → AreSoFar (take (k + 1) positions) texts (set nulls p (is_none text)) (set cells p (unwrap_or text blank))
+one_so_far blank positions k p texts nulls cells text more below found so_far = record {
   nulls_long = length-set nulls p (is_none text) ∙ so_far.nulls_long;
   cells_long = length-set cells p (unwrap_or text blank) ∙ so_far.cells_long;
-  each = λ i d lt. one i d lt (eqb p i) refl ∙ sym (ap (λ (b : Bool). if b then get_or texts i Null else Null) (ap (λ (ps : List ℕ). is_among ps i) more ∙ among_more (take k places) p i));
+  each = λ i d lt. one i d lt (eqb p i) refl ∙ sym (ap (λ (b : Bool). if b then get_or texts i Null else Null) (ap (λ (ps : List ℕ). is_among ps i) more ∙ among_more (take k positions) p i));
 }
   where
     one : (i : ℕ) (d : Bor (List ℕ)) → i < length texts → (b : Bool) → eqb p i ≡ b
-        → lane d (set nulls p (is_none text)) (set cells p (unwrap_or text blank)) i ≡ (if is_among (take k places) i || (p == i) then get_or texts i Null else Null)
+        → lane d (set nulls p (is_none text)) (set cells p (unwrap_or text blank)) i ≡ (if is_among (take k positions) i || (p == i) then get_or texts i Null else Null)
     one i d lt true e =
         let same : i ≡ p = sym (eqb-true p i e) in
         let n_here : p < length nulls = let h = so_far.nulls_long in omega (arith, h, below) in
         let c_here : p < length cells = let h = so_far.cells_long in omega (arith, h, below) in
         let n = get_or-set_at nulls p i (is_none text) true same n_here in
         let c = get_or-set_at cells p i (unwrap_or text blank) d same c_here in
-        rw (n, c, e) (taken blank text ∙ found ∙ ap (λ (q : ℕ). get_or texts q Null) (sym same) ∙ chosen (is_among (take k places) i))
+        rw (n, c, e) (taken blank text ∙ found ∙ ap (λ (q : ℕ). get_or texts q Null) (sym same) ∙ chosen (is_among (take k positions) i))
       where
         chosen : (b : Bool) → get_or texts i Null ≡ (if b || true then get_or texts i Null else Null)
         chosen true = refl
@@ -85,7 +85,7 @@ one_so_far blank places k p texts nulls cells text more below found so_far = rec
         let apart : i ≡ p → ⊥ = λ h. eqb-false p i e (sym h) in
         let n = get_or-set_other nulls p i (is_none text) true apart in
         let c = get_or-set_other cells p i (unwrap_or text blank) d apart in
-        rw (n, c, e) (so_far.each i d lt ∙ chosen (is_among (take k places) i))
+        rw (n, c, e) (so_far.each i d lt ∙ chosen (is_among (take k positions) i))
       where
         chosen : (b : Bool) → (if b then get_or texts i Null else Null) ≡ (if b || false then get_or texts i Null else Null)
         chosen true = refl
@@ -101,10 +101,10 @@ one_of : (cells : List (Bor (List ℕ))) (i : ℕ) → i < length cells → Bor 
 one_of [] i lt = absurd (omega (arith, lt))
 one_of (c ∷ cells) i lt = c
 
--- all places
-pub all_so_far : (places : List ℕ) (texts : List Value) (nulls : List Bool) (cells : List (Bor (List ℕ))) → AreSoFar places texts nulls cells
-    → AreOnly places texts (lane_values Text nulls (map (λ t. t.now) cells))
-all_so_far places texts nulls cells so_far =
+-- all positions
+pub all_so_far : (positions : List ℕ) (texts : List Value) (nulls : List Bool) (cells : List (Bor (List ℕ))) → AreSoFar positions texts nulls cells
+    → AreOnly positions texts (lane_values Text nulls (map (λ t. t.now) cells))
+all_so_far positions texts nulls cells so_far =
     let a = so_far.nulls_long in
     let b = so_far.cells_long in
     let zipped = length-zip nulls cells in

@@ -21,7 +21,7 @@ use Rattle.meaning.specs.Joined.{is_joined, joined_row, matches}
 use Rattle.meaning.specs.Operators.{compared}
 use Rattle.meaning.specs.Order.{Row, column}
 use Rattle.meaning.specs.Truth.{is_true}
-use Rattle.meaning.specs.WellFormedPlan.{IsWellFormedPlan}
+use Rattle.meaning.specs.SoundPlan.{IsSoundPlan}
 use Rattle.vectors.specs.Selection.{IsSelection, Positions, is_among}
 use Rattle.vectors.specs.Vector.{BatchSpec}
 use Rattle.vector_operators.proofs.Among.{within_among}
@@ -44,7 +44,7 @@ conditions-append : (cs ds : List Expr) (row : JoinedRow) → conditions (cs ++ 
 conditions-append [] ds row = refl
 conditions-append (c ∷ cs) ds row = ap (behind (eval c row)) (conditions-append cs ds row) ∙ in_turn (eval c row) (conditions cs row) (conditions ds row)
 
--- where the first conditions are passed, the others alone tell what all do
+-- where the first conditions are passed, the others alone report what all do
 pub later_alone : (n : ℕ) (cs : List Expr) (row : JoinedRow) → conditions (take n cs) row ≡ gives.Truth True → conditions (drop n cs) row ≡ conditions cs row
 later_alone n cs row all =
     sym (ap (λ (xs : List Expr). conditions xs row) (sym (take-append-drop n cs)) ∙ conditions-append (take n cs) (drop n cs) row ∙ ap (λ (o : Outcome). behind o (conditions (drop n cs) row)) all)
@@ -107,7 +107,7 @@ module _ (plan : Plan) (given : TablesSpec) (facts : List Row) (selected : List 
   one_true i lt among c (t, is, there, pass) =
       let held = met_holds (get_or facts i []) t plan.joins given.tables (joins_at i) t.join are (meets i lt among) there pass in
       ap (λ (e : Expr). eval e (joined_row (get_or facts i []) (joins_at i))) is ∙ meant (joins_at i) (get_or facts i []) t
-      ∙ ap (λ (u : Truth). gives.Truth u) (true_is (compared t.operator (column (slice_index_or (joins_at i) t.join []) t.place) t.literal.now) held)
+      ∙ ap (λ (u : Truth). gives.Truth u) (true_is (compared t.operator (column (slice_index_or (joins_at i) t.join []) t.column) t.literal.now) held)
 
   all_true : (i : ℕ) → i < length facts → is_among selected i ≡ true → (cs : List Expr) → AllByRecursion (IsSettled given) cs → conditions cs (joined_row (get_or facts i []) (joins_at i)) ≡ gives.Truth True
   all_true i lt among [] all = refl
@@ -122,7 +122,7 @@ module _ (plan : Plan) (given : TablesSpec) (facts : List Row) (selected : List 
 
 -- ---- behind all joins
 
-pub all_left : (plan : Plan) (given : TablesSpec) (facts : List Row) (s : Positions) (batch : BatchSpec) → IsWellFormedPlan plan → HasColumns plan.fact given.fragment.header
+pub all_left : (plan : Plan) (given : TablesSpec) (facts : List Row) (s : Positions) (batch : BatchSpec) → IsSoundPlan plan → HasColumns plan.fact given.fragment.header
     → AllZip IsTable plan.joins given.tables → IsJoinedTo (length plan.joins) plan given facts s.list batch → IsSelection s → s.below ≡ batch.rows
     → (n : ℕ) → All (IsSettled given) (take n plan.conjuncts)
     → (rows : List JoinedRow) × AreTypedRows (table_types given) batch rows × FitsColumns (table_types given) batch.columns plan × AreSettledRows n plan rows s.list

@@ -7,14 +7,11 @@ ghost use Rattle.primitives.specs.Fitting.{AreTypedRows, Fits};
 ghost use Rattle.worker.specs.Evaluated.{AreVectorsOf, IsVectorOf};
 
 use crate::lanes::only_selected;
-use meaning::expr::Expr;
-use meaning::plan::{Aggregate, GroupingKey};
-use primitives::evaluation::eval_vec;
+use meaning::{Aggregate, Expr, GroupingKey};
+use primitives::eval_vec;
 use std::alloc::{AllocError, Global};
-use vector_operators::fault::Fault1;
-use vectors::batch::Batch;
-use vectors::selection::Selection;
-use vectors::vector::Vector;
+use vector_operators::Fault1;
+use vectors::{Batch, Selection, Vector};
 
 /// What one expression gives at the selected positions.
 fn evaluate<'a>(

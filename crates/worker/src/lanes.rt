@@ -6,22 +6,23 @@ ghost use Rattle.vectors.specs.Vector.{outcomes_of, values_of};
 ghost use Rattle.worker.specs.Evaluated.{AreOnly, IsOnly};
 
 use std::alloc::{AllocError, Global};
-use vectors::nulls::Nulls;
-use vectors::selection::Selection;
-use vectors::texts::{TextCells, Texts};
-use vectors::vector::Vector;
+use vectors::{Nulls, Selection, TextCells, Texts, Vector};
 
-/// The texts at these places; NULL in the other lanes.
-fn texts_at<'a>(alloc: Global, texts: &Texts<'a>, places: &[u32]) -> Result<Texts<'a>, AllocError>
-    requires { All (λ p. p < length texts.now) places.now }
-    ensures { IfOk result (λ only. AreOnly places.now texts.now only) }
+/// The texts at these positions; NULL in the other lanes.
+fn texts_at<'a>(
+    alloc: Global,
+    texts: &Texts<'a>,
+    positions: &[u32],
+) -> Result<Texts<'a>, AllocError>
+    requires { All (λ p. p < length texts.now) positions.now }
+    ensures { IfOk result (λ only. AreOnly positions.now texts.now only) }
 {
     let lanes = texts.len();
     let blank: &'a [u8] = &[];
     let mut cells = vec![in alloc; blank; lanes]?;
     let mut nulls = vec![in alloc; true; lanes]?;
-    for place in places {
-        let lane = *place as usize;
+    for position in positions {
+        let lane = *position as usize;
         let text = texts.get(lane);
         nulls[lane] = text.is_none();
         cells[lane] = text.unwrap_or(blank);
@@ -38,9 +39,9 @@ fn selected_texts<'a>(
     requires { length texts ≡ selection.now.below }
     ensures { IfOk result (λ only. IsOnly selection.now.list texts.entry only) }
 {
-    match selection.places() {
+    match selection.positions() {
         None => Ok(texts),
-        Some(places) => texts_at(alloc, &texts, places),
+        Some(positions) => texts_at(alloc, &texts, positions),
     }
 }
 

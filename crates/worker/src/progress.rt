@@ -1,7 +1,7 @@
 //! What rows come to.
 
 use group_by::GroupTable;
-use meaning::answer::RowFault;
+use meaning::RowFault;
 
 /// What the rows that were gone through come to: the groups of those that were kept, or the fault
 /// of the least row.

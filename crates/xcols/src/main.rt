@@ -20,7 +20,7 @@ fn main(rt: HostRuntime) -> ExitCode {
             ExitCode::from(run(rt.alloc(), &command, &mut folder, &mut out, &mut err))
         }
         Err(fault) => {
-            // A closed standard error leaves nobody to tell.
+            // A closed standard error leaves nobody to print.
             let _ = eprint!(rt; "{fault}");
             ExitCode::from(fault.status())
         }

@@ -6,16 +6,16 @@ ghost use Rattle.meaning.specs.declared.value.Value.TheVariants.{Int, Text};
 ghost use Rattle.meaning.specs.Order.{value_cmp, same_value};
 ghost use Rattle.encodings.specs.Cell.{int_order, int_same, text_order, text_same};
 
-use crate::dictionary::homes::{home_of_int, home_of_text};
+use crate::dictionary::slots::{slot_of_int, slot_of_text};
 
 /// Where a cell is looked for first.
-pub trait Home {
-    fn home(&self) -> usize
+pub trait Slotted {
+    fn slot(&self) -> usize
         ensures { result < 32768 };
 }
 
 /// A cell with the order of its value.
-pub trait Cell: Copy + Drop + Home + Ord {
+pub trait Cell: Copy + Drop + Slotted + Ord {
     ghost value: { Self → Value };
 
     ghost order: { (a b : Self) → Self.cmp a b ≡ value_cmp (value a) (value b) };
@@ -23,9 +23,9 @@ pub trait Cell: Copy + Drop + Home + Ord {
     ghost same: { (a b : Self) → Self.eq a b ≡ same_value (value a) (value b) };
 }
 
-impl Home for i64 {
-    fn home(&self) -> usize {
-        home_of_int(*self)
+impl Slotted for i64 {
+    fn slot(&self) -> usize {
+        slot_of_int(*self)
     }
 }
 
@@ -37,9 +37,9 @@ impl Cell for i64 {
     ghost same = { int_same };
 }
 
-impl Home for &[u8] {
-    fn home(&self) -> usize {
-        home_of_text(self)
+impl Slotted for &[u8] {
+    fn slot(&self) -> usize {
+        slot_of_text(self)
     }
 }
 

@@ -12,8 +12,8 @@ use crate::dictionary::view::{code_bytes, entry_bytes};
 use crate::numbers::leading_count;
 use crate::plain::check::is_values_form;
 use crate::plain::values::value_at;
-use bit_packing::numbers::short_at;
-use meaning::value::{ColType, ValueRef};
+use bit_packing::short_at;
+use meaning::{ColType, ValueRef};
 
 /// Whether `rows` codes are below the number of entries. All are looked at, eight at a time as it
 /// is compiled.

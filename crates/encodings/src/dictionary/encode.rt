@@ -12,7 +12,7 @@ ghost use Rattle.encodings.specs.declared.kind.Kind.TheVariants as kind;
 use crate::dictionary::of_cells::{Dictionary, dictionary_of_ints, dictionary_of_texts};
 use crate::numbers::{put_shorts, put_word};
 use crate::plain::encode::{put_integers_at, put_texts_at};
-use bit_packing::packing::make_room;
+use bit_packing::make_room;
 use columns::TextList;
 use std::alloc::{AllocError, Global};
 use std::mem::drop;
@@ -25,18 +25,18 @@ pub fn put_int_dictionary(
     requires fit { list_all (is_of of_type.Int false) (map Int ints.now) ≡ true }
     requires some { 1 ≤ length ints.now }
     requires few { length ints.now ≤ row_group_rows }
-    requires entries { AreEntries (map Int ints.now) dictionary.now.places.items
+    requires entries { AreEntries (map Int ints.now) dictionary.now.entry_rows.items
         dictionary.now.codes.items }
     ensures { OnOk result (PutsBody out.old.items out.new.items kind.Dict of_type.Int
         (map Int ints.now)) }
 {
-    let entries = dictionary.places.len();
+    let entries = dictionary.entry_rows.len();
     make_room(
         out,
         entries.saturating_mul(8).saturating_add(4 + 2 * ints.len()),
     )?;
     put_word(out, entries as u32)?;
-    put_integers_at(out, ints, dictionary.places.as_slice())?;
+    put_integers_at(out, ints, dictionary.entry_rows.as_slice())?;
     put_shorts(out, dictionary.codes.as_slice())?;
     Ok(())
 }
@@ -71,12 +71,12 @@ pub fn put_text_dictionary(
     requires within { to ≤ length texts.now }
     requires few { to - from ≤ row_group_rows }
     requires entries { AreEntries (map Text (take (to - from) (drop from texts.now)))
-        dictionary.now.places.items dictionary.now.codes.items }
+        dictionary.now.entry_rows.items dictionary.now.codes.items }
     ensures { OnOk result (PutsBody out.old.items out.new.items kind.Dict of_type.Text
         (map Text (take (to - from) (drop from texts.now)))) }
 {
-    put_word(out, dictionary.places.len() as u32)?;
-    put_texts_at(out, texts, from, to, dictionary.places.as_slice())?;
+    put_word(out, dictionary.entry_rows.len() as u32)?;
+    put_texts_at(out, texts, from, to, dictionary.entry_rows.as_slice())?;
     put_shorts(out, dictionary.codes.as_slice())?;
     Ok(())
 }

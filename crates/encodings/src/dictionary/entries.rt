@@ -1,4 +1,4 @@
-//! Numbers in the order of their cells, and the place of each among the different cells.
+//! Numbers in the order of their cells, and the code of each: which of the different cells it has.
 ghost use Rattle.std.specs.Prelude.{ℕ, List, ◌≡◌, ◌<◌, ◌≤◌, ◌+◌, ◌-◌, [], ◌++◌, nat_lt, true, false, length, map, slice_index_or, OnOk, IfOk};
 ghost use Rattle.std.specs.List.{list_all};
 ghost use Rattle.std.specs.Ordering.{is_lt};
@@ -7,7 +7,7 @@ ghost use Rattle.meaning.specs.Order.{value_cmp};
 ghost use Rattle.meaning.specs.declared.value.Value.{Value};
 ghost use Rattle.meaning.specs.declared.value.Value.TheVariants.{Null};
 ghost use Rattle.encodings.specs.Entries.{AreNumbered, AreNumberEntries, AreFirstEntries, DoNotFall};
-ghost use Rattle.encodings.specs.Plain.{at_places};
+ghost use Rattle.encodings.specs.Plain.{cells_at};
 
 use crate::dictionary::cell::Cell;
 use crate::dictionary::of_cells::Dictionary;
@@ -22,7 +22,7 @@ fn put_numbered<K: Cell>(
 ) -> Result<(), AllocError>
     requires none { numbered.old.items ≡ [] }
     requires within { list_all (λ row. nat_lt row (length cells.now)) firsts.now ≡ true }
-    ensures { OnOk result (AreNumbered K.value (at_places (map K.value cells.now) firsts.now)
+    ensures { OnOk result (AreNumbered K.value (cells_at (map K.value cells.now) firsts.now)
         numbered.new.items (length firsts.now)) }
 {
     for number in 0..firsts.len() {
@@ -48,7 +48,7 @@ fn sorted<K: Cell>(
 ) -> Result<Vec<(K, usize)>, AllocError>
     requires within { list_all (λ row. nat_lt row (length cells.now)) firsts.now ≡ true }
     ensures numbered { IfOk result
-        (λ numbered. AreNumbered K.value (at_places (map K.value cells.now) firsts.now)
+        (λ numbered. AreNumbered K.value (cells_at (map K.value cells.now) firsts.now)
         numbered.items (length firsts.now)) }
     ensures sorted { IfOk result (λ numbered. DoNotFall (map (λ p. K.value p.0) numbered.items)) }
 {
@@ -65,78 +65,78 @@ fn sorted<K: Cell>(
     }
 }
 
-/// Whether the cell at a place is another one than that before it.
-fn begins_entry<K: Cell>(sorted: &[(K, usize)], place: usize) -> bool
-    requires within { place < length sorted.now }
+/// Whether the cell at an index is another one than that before it.
+fn begins_entry<K: Cell>(sorted: &[(K, usize)], index: usize) -> bool
+    requires within { index < length sorted.now }
     requires sorted { DoNotFall (map (λ p. K.value p.0) sorted.now) }
-    ensures begins { result ≡ true → 0 < place
-        → is_lt (value_cmp (slice_index_or (map (λ p. K.value p.0) sorted.now) (place - 1) Null)
-        (slice_index_or (map (λ p. K.value p.0) sorted.now) place Null)) ≡ true }
-    ensures stays { result ≡ false → (0 < place)
-        × (slice_index_or (map (λ p. K.value p.0) sorted.now) (place - 1) Null
-        ≡ slice_index_or (map (λ p. K.value p.0) sorted.now) place Null) }
+    ensures begins { result ≡ true → 0 < index
+        → is_lt (value_cmp (slice_index_or (map (λ p. K.value p.0) sorted.now) (index - 1) Null)
+        (slice_index_or (map (λ p. K.value p.0) sorted.now) index Null)) ≡ true }
+    ensures stays { result ≡ false → (0 < index)
+        × (slice_index_or (map (λ p. K.value p.0) sorted.now) (index - 1) Null
+        ≡ slice_index_or (map (λ p. K.value p.0) sorted.now) index Null) }
 {
-    place == 0 || sorted[place - 1].0 != sorted[place].0
+    index == 0 || sorted[index - 1].0 != sorted[index].0
 }
 
-/// Puts the first row of a number behind `places` where its cell begins an entry, and gives the
+/// Puts the first row of a number behind `entry_rows` where its cell begins an entry, and gives the
 /// code of the cell.
 fn enter<K: Cell>(
     cells: &[K],
     sorted: &[(K, usize)],
     firsts: &[usize],
-    place: usize,
-    places: &mut Vec<usize>,
+    index: usize,
+    entry_rows: &mut Vec<usize>,
 ) -> Result<u16, AllocError>
     requires few { length firsts.now ≤ row_group_rows }
     requires rows { list_all (λ row. nat_lt row (length cells.now)) firsts.now ≡ true }
-    requires within { place < length sorted.now }
-    requires numbered { AreNumbered K.value (at_places (map K.value cells.now) firsts.now)
+    requires within { index < length sorted.now }
+    requires numbered { AreNumbered K.value (cells_at (map K.value cells.now) firsts.now)
         sorted.now (length firsts.now) }
     requires sorted { DoNotFall (map (λ p. K.value p.0) sorted.now) }
     requires before { AreFirstEntries (map K.value cells.now) (map (λ p. K.value p.0) sorted.now)
-        place places.old.items }
+        index entry_rows.old.items }
     ensures entries { OnOk result
-        (AreFirstEntries (map K.value cells.now) (map (λ p. K.value p.0) sorted.now) (place + 1)
-        places.new.items) }
-    ensures kept { OnOk result ((more : List ℕ) × (places.new.items ≡ places.old.items ++ more)) }
-    ensures code { IfOk result (λ code. (code < length places.new.items)
-        × (slice_index_or (at_places (map K.value cells.now) places.new.items) code Null
-        ≡ slice_index_or (map (λ p. K.value p.0) sorted.now) place Null)) }
+        (AreFirstEntries (map K.value cells.now) (map (λ p. K.value p.0) sorted.now) (index + 1)
+        entry_rows.new.items) }
+    ensures kept { OnOk result ((more : List ℕ) × (entry_rows.new.items ≡ entry_rows.old.items ++ more)) }
+    ensures code { IfOk result (λ code. (code < length entry_rows.new.items)
+        × (slice_index_or (cells_at (map K.value cells.now) entry_rows.new.items) code Null
+        ≡ slice_index_or (map (λ p. K.value p.0) sorted.now) index Null)) }
 {
-    if begins_entry(sorted, place) {
-        places.push(firsts[sorted[place].1])?;
+    if begins_entry(sorted, index) {
+        entry_rows.push(firsts[sorted[index].1])?;
     }
-    Ok((places.len() - 1) as u16)
+    Ok((entry_rows.len() - 1) as u16)
 }
 
-/// Puts the first row of each entry into `places`, and for each number the place of its entry into
+/// Puts the first row of each entry into `entry_rows`, and for each number the code of its entry into
 /// `codes`.
 fn put_entries<K: Cell>(
     cells: &[K],
     sorted: &[(K, usize)],
     firsts: &[usize],
-    places: &mut Vec<usize>,
+    entry_rows: &mut Vec<usize>,
     codes: &mut [u16],
 ) -> Result<(), AllocError>
     requires few { length firsts.now ≤ row_group_rows }
     requires rows { list_all (λ row. nat_lt row (length cells.now)) firsts.now ≡ true }
-    requires numbered { AreNumbered K.value (at_places (map K.value cells.now) firsts.now)
+    requires numbered { AreNumbered K.value (cells_at (map K.value cells.now) firsts.now)
         sorted.now (length firsts.now) }
     requires sorted { DoNotFall (map (λ p. K.value p.0) sorted.now) }
-    requires none { places.old.items ≡ [] }
+    requires none { entry_rows.old.items ≡ [] }
     requires room { length codes.old ≡ length firsts.now }
-    ensures { OnOk result (AreNumberEntries (map K.value cells.now) firsts.now places.new.items
+    ensures { OnOk result (AreNumberEntries (map K.value cells.now) firsts.now entry_rows.new.items
         codes.new) }
 {
-    for place in 0..sorted.len() {
-        let code = enter(cells, sorted, firsts, place, places)?;
-        codes[sorted[place].1] = code;
+    for index in 0..sorted.len() {
+        let code = enter(cells, sorted, firsts, index, entry_rows)?;
+        codes[sorted[index].1] = code;
     }
     Ok(())
 }
 
-/// A dictionary of the numbers: a first row for each entry, and for each number the place of its
+/// A dictionary of the numbers: a first row for each entry, and for each number the code of its
 /// entry.
 fn entries_of<K: Cell>(
     alloc: Global,
@@ -146,18 +146,18 @@ fn entries_of<K: Cell>(
 ) -> Result<Dictionary, AllocError>
     requires few { length firsts.now ≤ row_group_rows }
     requires rows { list_all (λ row. nat_lt row (length cells.now)) firsts.now ≡ true }
-    requires numbered { AreNumbered K.value (at_places (map K.value cells.now) firsts.now)
+    requires numbered { AreNumbered K.value (cells_at (map K.value cells.now) firsts.now)
         sorted.now (length firsts.now) }
     requires sorted { DoNotFall (map (λ p. K.value p.0) sorted.now) }
-    ensures { IfOk result (λ d. AreNumberEntries (map K.value cells.now) firsts.now d.places.items
+    ensures { IfOk result (λ d. AreNumberEntries (map K.value cells.now) firsts.now d.entry_rows.items
         d.codes.items) }
 {
     let mut codes = vec![in alloc; 0; firsts.len()]?;
-    let mut places = Vec::new(alloc);
-    match put_entries(cells, sorted, firsts, &mut places, codes.as_mut_slice()) {
-        Ok(()) => Ok(Dictionary { places, codes }),
+    let mut entry_rows = Vec::new(alloc);
+    match put_entries(cells, sorted, firsts, &mut entry_rows, codes.as_mut_slice()) {
+        Ok(()) => Ok(Dictionary { entry_rows, codes }),
         Err(fault) => {
-            drop(places);
+            drop(entry_rows);
             drop(codes);
             Err(fault)
         }
@@ -172,7 +172,7 @@ pub fn numbers_in_order<K: Cell>(
 ) -> Result<Dictionary, AllocError>
     requires few { length firsts.now ≤ row_group_rows }
     requires rows { list_all (λ row. nat_lt row (length cells.now)) firsts.now ≡ true }
-    ensures { IfOk result (λ d. AreNumberEntries (map K.value cells.now) firsts.now d.places.items
+    ensures { IfOk result (λ d. AreNumberEntries (map K.value cells.now) firsts.now d.entry_rows.items
         d.codes.items) }
 {
     let sorted = sorted(alloc, cells, firsts)?;

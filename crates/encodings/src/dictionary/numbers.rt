@@ -12,7 +12,7 @@ use std::mem::drop;
 /// How many slots there are, twice as many as there may be numbers.
 const SLOTS: usize = 16_384;
 
-/// In how many slots from its home on a cell is looked for. A cell that isn't found gets a number
+/// In how many slots from its first on a cell is looked for. A cell that isn't found gets a number
 /// more than it needs, which is put together with its first when the numbers are put in order.
 const REACH: usize = 8;
 
@@ -31,9 +31,9 @@ fn look<K: Cell>(cells: &[K], firsts: &[usize], slots: &[u16], cell: K) -> Resul
         × (slice_index_or (map K.value cells.now) (slice_index firsts.now n) Null ≡ K.value cell)) }
     ensures slot { IfErr result (λ slot. slot < 16384) }
 {
-    let home = cell.home() / 2;
+    let first_slot = cell.slot() / 2;
     for step in 0..REACH {
-        let slot = (home + step) % SLOTS;
+        let slot = (first_slot + step) % SLOTS;
         let number = slots[slot];
         if firsts.len() <= usize::from(number) {
             return Err(slot);
@@ -42,7 +42,7 @@ fn look<K: Cell>(cells: &[K], firsts: &[usize], slots: &[u16], cell: K) -> Resul
             return Ok(number);
         }
     }
-    Err(home)
+    Err(first_slot)
 }
 
 impl Numbers {

@@ -13,10 +13,10 @@ use columns::TextList;
 use std::alloc::{AllocError, Global};
 use std::mem::drop;
 
-/// A row for each entry, in the order of their cells, and for each row the place of its entry.
+/// A row for each entry, in the order of their cells, and for each row the code of its entry.
 #[derive(Drop)]
 pub struct Dictionary {
-    pub places: Vec<usize>,
+    pub entry_rows: Vec<usize>,
     pub codes: Vec<u16>,
 }
 
@@ -39,13 +39,13 @@ fn recode(of_rows: &mut [u16], codes: &[u16])
 fn recoded(numbers: Numbers, entries: Dictionary) -> Dictionary
     ensures { (cells : List Value)
         → AreNumbers cells numbers.firsts.items numbers.of_rows.items (length cells)
-        → AreNumberEntries cells numbers.firsts.items entries.places.items entries.codes.items
-        → AreEntries cells result.places.items result.codes.items }
+        → AreNumberEntries cells numbers.firsts.items entries.entry_rows.items entries.codes.items
+        → AreEntries cells result.entry_rows.items result.codes.items }
 {
     let mut codes = numbers.of_rows;
     recode(codes.as_mut_slice(), entries.codes.as_slice());
     Dictionary {
-        places: entries.places,
+        entry_rows: entries.entry_rows,
         codes,
     }
 }
@@ -53,7 +53,7 @@ fn recoded(numbers: Numbers, entries: Dictionary) -> Dictionary
 /// The dictionary of some cells.
 fn dictionary_of<K: Cell>(alloc: Global, cells: &[K]) -> Result<Dictionary, AllocError>
     requires { length cells.now ≤ row_group_rows }
-    ensures { IfOk result (λ d. AreEntries (map K.value cells.now) d.places.items d.codes.items) }
+    ensures { IfOk result (λ d. AreEntries (map K.value cells.now) d.entry_rows.items d.codes.items) }
 {
     let numbers = numbers_of(alloc, cells)?;
     match numbers_in_order(alloc, cells, numbers.firsts.as_slice()) {
@@ -67,7 +67,7 @@ fn dictionary_of<K: Cell>(alloc: Global, cells: &[K]) -> Result<Dictionary, Allo
 
 pub fn dictionary_of_ints(alloc: Global, ints: &[i64]) -> Result<Dictionary, AllocError>
     requires { length ints.now ≤ row_group_rows }
-    ensures { IfOk result (λ d. AreEntries (map Int ints.now) d.places.items d.codes.items) }
+    ensures { IfOk result (λ d. AreEntries (map Int ints.now) d.entry_rows.items d.codes.items) }
 {
     dictionary_of(alloc, ints)
 }
@@ -100,7 +100,7 @@ pub fn dictionary_of_texts(
     requires within { to ≤ length texts.now }
     requires few { to - from ≤ row_group_rows }
     ensures { IfOk result (λ d. AreEntries (map Text (take (to - from) (drop from texts.now)))
-        d.places.items d.codes.items) }
+        d.entry_rows.items d.codes.items) }
 {
     let cells = texts_between(alloc, texts, from, to)?;
     let dictionary = dictionary_of(alloc, cells.as_slice());

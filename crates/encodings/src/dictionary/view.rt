@@ -7,11 +7,11 @@ ghost use Rattle.encodings.specs.DictionaryView.{dictionary_of};
 
 use crate::numbers::leading_count;
 use crate::plain::values::value_at;
-use bit_packing::numbers::short_at;
-use meaning::value::{ColType, ValueRef};
+use bit_packing::short_at;
+use meaning::{ColType, ValueRef};
 use std::marker::Model;
 
-/// The entries of a dictionary, and the code of each row: its entry's place. Contracts see both
+/// The entries of a dictionary, and the code of each row: which entry it has. Contracts see both
 /// lists.
 #[derive(Drop)]
 pub struct DictionaryView<'a> {
@@ -87,14 +87,14 @@ impl<'a> DictionaryView<'a> {
     }
 
     /// An entry. The entries ascend.
-    pub fn entry(&self, place: usize) -> ValueRef<'a>
-        requires { place < length self.now.entries }
-        ensures { value_in result ≡ slice_index_or self.now.entries place Null }
+    pub fn entry(&self, index: usize) -> ValueRef<'a>
+        requires { index < length self.now.entries }
+        ensures { value_in result ≡ slice_index_or self.now.entries index Null }
     {
-        value_at(self.col_type, self.count, self.entries, place)
+        value_at(self.col_type, self.count, self.entries, index)
     }
 
-    /// The place of a row's entry.
+    /// The code of a row: which entry it has.
     pub fn code(&self, row: usize) -> u16
         requires { row < length self.now.codes }
         ensures value { result ≡ slice_index self.now.codes row }

@@ -3,7 +3,7 @@ ghost use Rattle.std.specs.Prelude.{◌≡◌, ◌≤◌, ◌<◌, ◌*◌, ◌-
 ghost use Rattle.std.specs.List.{list_all};
 ghost use Rattle.meaning.specs.Limits.{row_group_rows};
 ghost use Rattle.encodings.specs.Dictionary.{AreEntries};
-ghost use Rattle.encodings.specs.Plain.{at_places};
+ghost use Rattle.encodings.specs.Plain.{cells_at};
 ghost use Rattle.meaning.specs.declared.value.Value.{Value};
 ghost use Rattle.meaning.specs.declared.value.Value.TheVariants.{Int, Text};
 ghost use Rattle.encodings.specs.Choosing.{body_size};
@@ -21,7 +21,7 @@ use std::mem::drop;
 
 /// A dictionary, if its size is at most a number.
 fn kept(dictionary: Dictionary, size: usize, most: usize) -> Option<Dictionary>
-    ensures { (cells : List Value) → AreEntries cells dictionary.places.items dictionary.codes.items
+    ensures { (cells : List Value) → AreEntries cells dictionary.entry_rows.items dictionary.codes.items
         → IsDictionaryWithin cells size most result }
 {
     if most < size {
@@ -52,22 +52,22 @@ pub fn dictionary_of_ints_within(
         return Ok(None);
     }
     let dictionary = dictionary_of_ints(alloc, ints)?;
-    let size = 4 + 8 * dictionary.places.len() + 2 * ints.len();
+    let size = 4 + 8 * dictionary.entry_rows.len() + 2 * ints.len();
     Ok(kept(dictionary, size, most))
 }
 
-/// How many bytes the texts at some places take one by one.
-fn text_size_at(texts: &TextList, from: usize, to: usize, places: &[usize]) -> usize
+/// How many bytes the texts of some rows take one by one.
+fn text_size_at(texts: &TextList, from: usize, to: usize, rows: &[usize]) -> usize
     requires within { to ≤ length texts.now }
-    requires places { list_all (λ place. nat_lt place (to - from)) places.now ≡ true }
-    requires few { length places.now ≤ row_group_rows }
+    requires rows { list_all (λ row. nat_lt row (to - from)) rows.now ≡ true }
+    requires few { length rows.now ≤ row_group_rows }
     ensures value { result ≡ form_size of_type.Text
-        (at_places (map Text (take (to - from) (drop from texts.now))) places.now) }
-    ensures bound { result ≤ 65539 * length places.now }
+        (cells_at (map Text (take (to - from) (drop from texts.now))) rows.now) }
+    ensures bound { result ≤ 65539 * length rows.now }
 {
     let mut total = 0;
-    for place in places {
-        total += 4 + text_at(texts, from, to, *place).len();
+    for row in rows {
+        total += 4 + text_at(texts, from, to, *row).len();
     }
     total
 }
@@ -96,6 +96,8 @@ pub fn dictionary_of_texts_within(
         return Ok(None);
     }
     let dictionary = dictionary_of_texts(alloc, texts, from, to)?;
-    let size = 4 + text_size_at(texts, from, to, dictionary.places.as_slice()) + 2 * (to - from);
+    let size = 4
+        + text_size_at(texts, from, to, dictionary.entry_rows.as_slice())
+        + 2 * (to - from);
     Ok(kept(dictionary, size, most))
 }

@@ -8,10 +8,7 @@ ghost use Rattle.meaning.specs.Operators.{fits_i64};
 ghost use Rattle.encodings.specs.Block.{are_blank_from, is_blank};
 ghost use Rattle.encodings.specs.Frame.{is_frame, frame_integers};
 
-use bit_packing::marked::are_marked;
-use bit_packing::numbers::integer_at;
-use bit_packing::offsets::are_offsets;
-use bit_packing::windows::are_unused_clear;
+use bit_packing::{are_marked, are_offsets, are_unused_clear, integer_at};
 
 /// Whether bytes are a frame of `rows` offsets, and no more.
 pub fn is_frame(rows: usize, body: &[u8]) -> bool

@@ -11,8 +11,7 @@ ghost use Rattle.encodings.specs.declared.kind.Kind.TheVariants as kind;
 
 use crate::frame::bounds::bounds_of;
 use crate::numbers::put_integer;
-use bit_packing::packing::{make_room, put_offsets};
-use bit_packing::widths::width_of;
+use bit_packing::{make_room, put_offsets, width_of};
 use std::alloc::AllocError;
 
 pub fn frame_size(ints: &[i64]) -> usize

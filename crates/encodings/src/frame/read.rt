@@ -4,9 +4,7 @@ ghost use Rattle.meaning.specs.Limits.{row_group_rows};
 ghost use Rattle.encodings.specs.Frame.{is_frame, frame_integers, base_of};
 
 use crate::numbers::chunks;
-use bit_packing::numbers::integer_at;
-use bit_packing::raising::fill_raised;
-use bit_packing::unpacking::near_offset;
+use bit_packing::{fill_raised, integer_at, row_offset};
 
 /// What stands in the cell of a row.
 pub fn frame_cell(rows: usize, body: &[u8], row: usize) -> i64
@@ -15,7 +13,7 @@ pub fn frame_cell(rows: usize, body: &[u8], row: usize) -> i64
     requires few { rows ≤ row_group_rows }
     ensures { result ≡ slice_index_or (frame_integers rows body.now) row (pos 0) }
 {
-    let offset = near_offset(&body[9..], body[8], row);
+    let offset = row_offset(&body[9..], body[8], row);
     (i128::from(integer_at(body, 0)) + i128::from(offset)) as i64
 }
 

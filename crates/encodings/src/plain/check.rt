@@ -9,9 +9,8 @@ ghost use Rattle.encodings.specs.Plain.{is_values_form, are_ends};
 ghost use Rattle.bit_packing.specs.Bytes.{words};
 ghost use Rattle.columns.specs.Texts.{texts_from};
 
-use bit_packing::numbers::word_at;
-use meaning::limits::MAX_TEXT_BYTES;
-use meaning::value::ColType;
+use bit_packing::word_at;
+use meaning::{ColType, MAX_TEXT_BYTES};
 
 fn are_ends(count: usize, bytes: &[u8], total: usize) -> bool
     requires { 4 * count ≤ length bytes.now }
@@ -28,7 +27,7 @@ fn are_ends(count: usize, bytes: &[u8], total: usize) -> bool
     start == total
 }
 
-/// Whether a text from one place up to another isn't too long and ends between characters.
+/// Whether a text from one offset up to another isn't too long and ends between characters.
 #[inline(always)]
 fn is_cut(joined: &[u8], start: usize, end: usize) -> bool
     requires ordered { start ≤ end }

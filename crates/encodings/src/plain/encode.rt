@@ -12,7 +12,7 @@ ghost use Rattle.meaning.specs.declared.value.ColType.TheVariants as of_type;
 ghost use Rattle.encodings.specs.declared.kind.Kind.TheVariants as kind;
 
 use crate::numbers::{put_integer, put_word};
-use bit_packing::packing::make_room;
+use bit_packing::make_room;
 use columns::TextList;
 use std::alloc::AllocError;
 
@@ -25,14 +25,14 @@ pub fn put_integers(out: &mut Vec<u8>, ints: &[i64]) -> Result<(), AllocError>
     Ok(())
 }
 
-/// The integers at some places.
-pub fn put_integers_at(out: &mut Vec<u8>, ints: &[i64], places: &[usize]) -> Result<(), AllocError>
-    requires { list_all (λ place. nat_lt place (length ints.now)) places.now ≡ true }
+/// The integers of some rows.
+pub fn put_integers_at(out: &mut Vec<u8>, ints: &[i64], rows: &[usize]) -> Result<(), AllocError>
+    requires { list_all (λ row. nat_lt row (length ints.now)) rows.now ≡ true }
     ensures { OnOk result (out.new.items
-        ≡ out.old.items ++ flat_map integer_bytes (ints_at ints.now places.now)) }
+        ≡ out.old.items ++ flat_map integer_bytes (ints_at ints.now rows.now)) }
 {
-    for place in places {
-        put_integer(out, ints[*place])?;
+    for row in rows {
+        put_integer(out, ints[*row])?;
     }
     Ok(())
 }
@@ -72,14 +72,14 @@ pub fn put_texts(
     out.extend_from_slice(texts.joined(from, to))
 }
 
-/// The text at a place, counted from a row on.
-pub fn text_at(texts: &TextList, from: usize, to: usize, place: usize) -> &[u8]
+/// The text of a row, where rows count from `from`.
+pub fn text_at(texts: &TextList, from: usize, to: usize, row: usize) -> &[u8]
     requires within { to ≤ length texts.now }
-    requires place { place < to - from }
-    ensures value { result.now ≡ slice_index_or (take (to - from) (drop from texts.now)) place [] }
+    requires row { row < to - from }
+    ensures value { result.now ≡ slice_index_or (take (to - from) (drop from texts.now)) row [] }
     ensures text { is_text result.now ≡ true }
 {
-    texts.get(from + place)
+    texts.get(from + row)
 }
 
 fn put_ends_at(
@@ -87,18 +87,18 @@ fn put_ends_at(
     texts: &TextList,
     from: usize,
     to: usize,
-    places: &[usize],
+    rows: &[usize],
 ) -> Result<(), AllocError>
     requires within { to ≤ length texts.now }
-    requires places { list_all (λ place. nat_lt place (to - from)) places.now ≡ true }
-    requires few { length places.now ≤ row_group_rows }
+    requires rows { list_all (λ row. nat_lt row (to - from)) rows.now ≡ true }
+    requires few { length rows.now ≤ row_group_rows }
     ensures { OnOk result (out.new.items
         ≡ out.old.items ++ flat_map word_bytes
-        (ends_from 0 (texts_at (take (to - from) (drop from texts.now)) places.now))) }
+        (ends_from 0 (texts_at (take (to - from) (drop from texts.now)) rows.now))) }
 {
     let mut end = 0;
-    for place in places {
-        end += text_at(texts, from, to, *place).len() as u32;
+    for row in rows {
+        end += text_at(texts, from, to, *row).len() as u32;
         put_word(out, end)?;
     }
     Ok(())
@@ -109,37 +109,37 @@ fn put_joined_at(
     texts: &TextList,
     from: usize,
     to: usize,
-    places: &[usize],
+    rows: &[usize],
 ) -> Result<(), AllocError>
     requires within { to ≤ length texts.now }
-    requires places { list_all (λ place. nat_lt place (to - from)) places.now ≡ true }
+    requires rows { list_all (λ row. nat_lt row (to - from)) rows.now ≡ true }
     ensures { OnOk result (out.new.items
-        ≡ out.old.items ++ concat (texts_at (take (to - from) (drop from texts.now)) places.now)) }
+        ≡ out.old.items ++ concat (texts_at (take (to - from) (drop from texts.now)) rows.now)) }
 {
-    for place in places {
-        out.extend_from_slice(text_at(texts, from, to, *place))?;
+    for row in rows {
+        out.extend_from_slice(text_at(texts, from, to, *row))?;
     }
     Ok(())
 }
 
-/// The texts at some places, counted from a row on.
+/// The texts of some rows, which count from `from`.
 pub fn put_texts_at(
     out: &mut Vec<u8>,
     texts: &TextList,
     from: usize,
     to: usize,
-    places: &[usize],
+    rows: &[usize],
 ) -> Result<(), AllocError>
     requires within { to ≤ length texts.now }
-    requires places { list_all (λ place. nat_lt place (to - from)) places.now ≡ true }
-    requires few { length places.now ≤ row_group_rows }
+    requires rows { list_all (λ row. nat_lt row (to - from)) rows.now ≡ true }
+    requires few { length rows.now ≤ row_group_rows }
     ensures { OnOk result (out.new.items
         ≡ out.old.items ++ (flat_map word_bytes
-        (ends_from 0 (texts_at (take (to - from) (drop from texts.now)) places.now))
-        ++ concat (texts_at (take (to - from) (drop from texts.now)) places.now))) }
+        (ends_from 0 (texts_at (take (to - from) (drop from texts.now)) rows.now))
+        ++ concat (texts_at (take (to - from) (drop from texts.now)) rows.now))) }
 {
-    put_ends_at(out, texts, from, to, places)?;
-    put_joined_at(out, texts, from, to, places)?;
+    put_ends_at(out, texts, from, to, rows)?;
+    put_joined_at(out, texts, from, to, rows)?;
     Ok(())
 }
 

@@ -26,7 +26,7 @@ pub fn texts_form<'a>(bytes: &'a [u8], count: usize) -> Texts<'a>
 }
 
 /// Where text `i` begins, and where the one before ends.
-fn place_at(ends: &[[u8; 4]], i: usize) -> usize
+fn text_start(ends: &[[u8; 4]], i: usize) -> usize
     requires { i ≤ length ends.now }
     ensures { result ≡ slice_index_or (0 ∷ ends_in ends.now) i 0 }
 {
@@ -37,7 +37,7 @@ fn place_at(ends: &[[u8; 4]], i: usize) -> usize
 }
 
 /// From where to where text `i` stands.
-fn place_of(texts: Texts<'_>, i: usize) -> (usize, usize)
+fn text_bounds(texts: Texts<'_>, i: usize) -> (usize, usize)
     requires within { i < length texts.ends.now }
     requires valid { are_texts texts.ends.now texts.joined.now ≡ true }
     ensures text { take (result.1 - result.0) (drop result.0 texts.entry.joined.now)
@@ -45,7 +45,7 @@ fn place_of(texts: Texts<'_>, i: usize) -> (usize, usize)
     ensures ordered { result.0 ≤ result.1 }
     ensures within { result.1 ≤ length texts.entry.joined.now }
 {
-    (place_at(texts.ends, i), place_at(texts.ends, i + 1))
+    (text_start(texts.ends, i), text_start(texts.ends, i + 1))
 }
 
 /// Text `i`.
@@ -55,6 +55,6 @@ pub fn text_at<'a>(texts: Texts<'a>, i: usize) -> &'a [u8]
     ensures { result.now ≡ slice_index_or (texts_in texts.entry.ends.now texts.entry.joined.now) i
         [] }
 {
-    let (start, end) = place_of(texts, i);
+    let (start, end) = text_bounds(texts, i);
     &texts.joined[start..end]
 }

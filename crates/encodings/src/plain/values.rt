@@ -6,8 +6,8 @@ ghost use Rattle.encodings.specs.Plain.{values_form, is_values_form, ends_of, jo
 ghost use Rattle.columns.specs.Texts.{texts_from};
 
 use crate::plain::texts::{text_at, texts_form};
-use bit_packing::numbers::integer_at;
-use meaning::value::{ColType, ValueRef};
+use bit_packing::integer_at;
+use meaning::{ColType, ValueRef};
 
 /// Text `i` of `count` texts.
 fn text_of_form(count: usize, bytes: &[u8], i: usize) -> &[u8]

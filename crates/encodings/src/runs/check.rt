@@ -13,9 +13,8 @@ use crate::cells::is_blank;
 use crate::numbers::leading_count;
 use crate::plain::check::is_values_form;
 use crate::runs::view::{RunsView, lend_runs, length_bytes, run_value_bytes};
-use bit_packing::masks::are_bits_clear;
-use bit_packing::numbers::short_at;
-use meaning::value::ColType;
+use bit_packing::{are_bits_clear, short_at};
+use meaning::ColType;
 
 /// Whether `count` lengths of runs are at least 1, and `rows` together.
 fn are_lengths(count: usize, bytes: &[u8], rows: usize) -> bool

@@ -12,7 +12,7 @@ ghost use Rattle.encodings.specs.declared.kind.Kind.TheVariants as kind;
 use crate::numbers::{put_shorts, put_word};
 use crate::plain::encode::{put_integers_at, put_texts_at};
 use crate::runs::of_cells::{Runs, runs_of_ints, runs_of_texts};
-use bit_packing::packing::make_room;
+use bit_packing::make_room;
 use columns::TextList;
 use std::alloc::{AllocError, Global};
 use std::mem::drop;

@@ -12,7 +12,7 @@ ghost use Rattle.meaning.specs.declared.value.ColType.TheVariants as of_type;
 
 use crate::numbers::{chunks, leading_count};
 use crate::plain::texts::{Texts, text_at, texts_form};
-use crate::runs::places::{pass_over, run_at};
+use crate::runs::seek::{pass_over, run_at};
 
 /// Puts a text into `n` cells from `at` on.
 fn put_texts<'a>(out: &mut [&'a [u8]], at: usize, n: usize, text: &'a [u8])

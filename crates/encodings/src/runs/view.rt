@@ -10,8 +10,8 @@ ghost use Rattle.encodings.specs.RunsView.{runs_of};
 
 use crate::numbers::leading_count;
 use crate::plain::values::value_at;
-use bit_packing::numbers::short_at;
-use meaning::value::{ColType, ValueRef};
+use bit_packing::short_at;
+use meaning::{ColType, ValueRef};
 use std::marker::Model;
 
 /// The values and the lengths of runs. Contracts see both lists.
@@ -60,7 +60,7 @@ fn run_of(count: usize, lengths: &[u8], row: usize) -> usize
     requires room { count ≤ length lengths.now / 2 }
     requires within { row < sum (shorts count lengths.now) }
     ensures below { result < count }
-    ensures place { (values : List Value) → length values ≡ count
+    ensures cell { (values : List Value) → length values ≡ count
         → slice_index_or (repeated (zip values (shorts count lengths.now))) row Null
         ≡ slice_index_or values result Null }
 {

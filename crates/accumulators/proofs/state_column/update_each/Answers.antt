@@ -5,8 +5,8 @@ use Rattle.accumulators.specs.Columns.{kind_of_cells, merged_at, states_in}
 use Rattle.accumulators.specs.Entries.{state_of}
 use Rattle.accumulators.specs.Values.{selected}
 use Rattle.vectors.specs.Vector.{values_of}
-use Rattle.accumulators.proofs.AtPlaces.{height_next, room_next}
-use Rattle.accumulators.proofs.Placing.{entries_end, entries_more, entry_room, one_less, selected_at, selected_long}
+use Rattle.accumulators.proofs.AtGroups.{height_next, room_next}
+use Rattle.accumulators.proofs.GroupLoops.{entries_end, entries_more, entry_room, one_less, selected_at, selected_long}
 use Rattle.accumulators.proofs.state_column.update_each.Goals as goal
 
 pub loop-k-preserved : goal.loop-k-preserved
@@ -20,16 +20,16 @@ loop-k-preserved c =
     let now = states_in c.loop-k.cells in
     let new = states_in c.add.new.self in
     let here : k < length list = subst (λ (n : ℕ). k < n) c.len-k-end.ensures.value c.loop-k-test.true in
-    let place = get_or a.places.now k 0 in
+    let group_index = get_or a.group_indexes.now k 0 in
     let value = c.selected_value-value.ensures.value ∙ sym (selected_at (values_of a.lanes.now) list k here) in
-    let is_new : new ≡ merged_at now place (state_of kind (get_or values k Null ∷ [])) = c.in_ok-add.ensures.ok ∙ (λ i. merged_at now place (state_of (so_far.kind i) (value i ∷ []))) in
+    let is_new : new ≡ merged_at now group_index (state_of kind (get_or values k Null ∷ [])) = c.in_ok-add.ensures.ok ∙ (λ i. merged_at now group_index (state_of (so_far.kind i) (value i ∷ []))) in
     let long = selected_long (values_of a.lanes.now) list in
-    let inside : place < length now = subst (λ (n : ℕ). place < n) (sym so_far.height) (c.requires.within k 0 (subst (λ (n : ℕ). k < n) (sym c.requires.places) here)) in
+    let inside : group_index < length now = subst (λ (n : ℕ). group_index < n) (sym so_far.height) (c.requires.within k 0 (subst (λ (n : ℕ). k < n) (sym c.requires.group_indexes) here)) in
     record {
       kind = c.in_ok-add.ensures.kind ∙ so_far.kind;
-      height = height_next place now new _ is_new ∙ so_far.height;
-      whole = entries_more kind a.places.now values (c.requires.places ∙ sym long) (states_in a.cells.now) k (subst (λ (n : ℕ). k < n) (sym long) here) now new is_new so_far.whole;
-      room = room_next _ _ 1 place now new _ (one_less list k 0 here) (entry_room kind (get_or values k Null)) inside is_new so_far.room;
+      height = height_next group_index now new _ is_new ∙ so_far.height;
+      whole = entries_more kind a.group_indexes.now values (c.requires.group_indexes ∙ sym long) (states_in a.cells.now) k (subst (λ (n : ℕ). k < n) (sym long) here) now new is_new so_far.whole;
+      room = room_next _ _ 1 group_index now new _ (one_less list k 0 here) (entry_room kind (get_or values k Null)) inside is_new so_far.room;
     }
 
 pub returns-clause-ok : goal.returns-clause-ok
@@ -39,4 +39,4 @@ returns-clause-ok c =
     let values = selected (values_of a.lanes.now) list in
     let long = selected_long (values_of a.lanes.now) list in
     let past : length values ≤ c.loop-k.k = subst (λ (n : ℕ). n ≤ c.loop-k.k) (c.len-k-end.ensures.value ∙ sym long) c.loop-k-test.false in
-    entries_end (kind_of_cells a.cells.now) a.places.now values (c.requires.places ∙ sym long) (states_in a.cells.now) c.loop-k.k past (states_in c.loop-k.cells) c.loop-k.invariant.whole
+    entries_end (kind_of_cells a.cells.now) a.group_indexes.now values (c.requires.group_indexes ∙ sym long) (states_in a.cells.now) c.loop-k.k past (states_in c.loop-k.cells) c.loop-k.invariant.whole

@@ -1,6 +1,6 @@
 -- Proofs of the goals of `answer_over` (`running`).
 use Rattle.std.proofs.Common.{ap, ◌∙◌}
-use Rattle.whole_query.specs.Whole.{IsAnswered, IsRefused, files_in}
+use Rattle.coordinator.specs.Whole.{IsAnswered, IsRefused, files_in}
 use Rattle.cli.specs.Running.{input_over}
 use Rattle.cli.proofs.Refusals.{input_refused, over}
 use Rattle.cli.proofs.running.answer_over.Goals as goal
@@ -23,4 +23,4 @@ returns-clause-refused g c = λ text declared planned.
     input_refused question.directory.now (input_over text tables question.query.now question.vector) fault c.refusal_of.result
     (over (λ input. IsRefused input fault) text c.as_slice.result.now tables question.query.now question.vector
     (ap files_in c.as_slice.ensures.value ∙ c.in-Ok.ensures) (c.in-Err-answer_plan.ensures.refused text question.query.now declared planned))
-    c.refusal_of.ensures.told
+    c.refusal_of.ensures.returned

@@ -1,6 +1,6 @@
 -- Loop invariants of `lend_files` (`tables`).
 use Rattle.std.proofs.Common.{◌≡◌, take, map}
-use Rattle.whole_query.specs.Whole.{files_in}
+use Rattle.coordinator.specs.Whole.{files_in}
 use Rattle.cli.specs.Running.{files_read}
 use Rattle.cli.proofs.tables.lend_files.Given as goal
 

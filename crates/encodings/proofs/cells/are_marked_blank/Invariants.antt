@@ -7,11 +7,11 @@ use Rattle.encodings.proofs.cells.are_marked_blank.Given as goal
 
 abbrev pub invariant-loop-marks : goal.invariant-loop-marks
 invariant-loop-marks l = record {
-  behind : are_blank_from l.row l.rows l.mask (body_cells l.kind l.col_type l.rows l.body) ≡ are_blank_from (8 * l.place) l.rows l.mask (body_cells l.kind l.col_type l.rows l.body);
-  shifted : l.marks ≡ window l.place l.mask / 2 ^ (l.row - 8 * l.place);
-  low : 8 * l.place ≤ l.row;
-  high : l.row ≤ 8 * l.place + 64;
+  behind : are_blank_from l.row l.rows l.mask (body_cells l.kind l.col_type l.rows l.body) ≡ are_blank_from (8 * l.byte) l.rows l.mask (body_cells l.kind l.col_type l.rows l.body);
+  shifted : l.marks ≡ window l.byte l.mask / 2 ^ (l.row - 8 * l.byte);
+  low : 8 * l.byte ≤ l.row;
+  high : l.row ≤ 8 * l.byte + 64;
 }
 
 abbrev pub decreases-loop-marks : goal.decreases-loop-marks
-decreases-loop-marks l = 8 * l.place + 64 - l.row
+decreases-loop-marks l = 8 * l.byte + 64 - l.row

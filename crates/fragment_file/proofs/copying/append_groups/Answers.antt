@@ -17,28 +17,28 @@ pub append_block-requires-clause-kind : goal.append_block-requires-clause-kind
 append_block-requires-clause-kind c =
     let below = c.loop-group-test.true in
     let count = c.group_count-group-end.ensures in
-    let is = declared_is c.args.view.now c.group.result c.column-block.result c.loop-group.group c.args.place none c.header-header.ensures.sound (omega (arith, below, count)) c.group.ensures.value c.column-block.ensures c.requires.place in
+    let is = declared_is c.args.view.now c.group.result c.column-block.result c.loop-group.group c.args.index none c.header-header.ensures.sound (omega (arith, below, count)) c.group.ensures.value c.column-block.ensures c.requires.within in
     c.loop-group.invariant.2 ∙ c.requires.col_type none ∙ sym is.1.col_type
 
 pub append_block-requires-clause-col_type : goal.append_block-requires-clause-col_type
 append_block-requires-clause-col_type c =
     let below = c.loop-group-test.true in
     let count = c.group_count-group-end.ensures in
-    let is = declared_is c.args.view.now c.group.result c.column-block.result c.loop-group.group c.args.place none c.header-header.ensures.sound (omega (arith, below, count)) c.group.ensures.value c.column-block.ensures c.requires.place in
+    let is = declared_is c.args.view.now c.group.result c.column-block.result c.loop-group.group c.args.index none c.header-header.ensures.sound (omega (arith, below, count)) c.group.ensures.value c.column-block.ensures c.requires.within in
     is.1.col_type ∙ sym (c.requires.col_type none) ∙ ap (λ (s : ColumnSpec). s.col_type) (sym c.loop-group.invariant.0)
 
 pub append_block-requires-clause-nullable : goal.append_block-requires-clause-nullable
 append_block-requires-clause-nullable c =
     let below = c.loop-group-test.true in
     let count = c.group_count-group-end.ensures in
-    let is = declared_is c.args.view.now c.group.result c.column-block.result c.loop-group.group c.args.place none c.header-header.ensures.sound (omega (arith, below, count)) c.group.ensures.value c.column-block.ensures c.requires.place in
+    let is = declared_is c.args.view.now c.group.result c.column-block.result c.loop-group.group c.args.index none c.header-header.ensures.sound (omega (arith, below, count)) c.group.ensures.value c.column-block.ensures c.requires.within in
     is.1.nullable ∙ sym (c.requires.nullable none) ∙ ap (λ (s : ColumnSpec). s.nullable) (sym c.loop-group.invariant.0)
 
 pub loop-group-preserved : goal.loop-group-preserved
 loop-group-preserved c =
     let below = c.loop-group-test.true in
     let count = c.group_count-group-end.ensures in (
-      block_more c.args.column.now c.loop-group.column c.append_block.new.column c.args.view.now.groups c.group.result c.column-block.result c.loop-group.group c.args.place
+      block_more c.args.column.now c.loop-group.column c.append_block.new.column c.args.view.now.groups c.group.result c.column-block.result c.loop-group.group c.args.index
           (omega (arith, below, count)) c.group.ensures.value c.column-block.ensures c.loop-group.invariant.0 c.in_ok-append_block.ensures.ok,
       c.in_ok-append_block.ensures.room ∙ c.loop-group.invariant.1,
       c.in_ok-append_block.ensures.same ∙ c.loop-group.invariant.2,
@@ -48,4 +48,4 @@ pub returns-clause-ok : goal.returns-clause-ok
 returns-clause-ok c =
     let end = c.loop-group-test.false in
     let count = c.group_count-group-end.ensures in
-    all_groups c.args.column.now c.loop-group.column c.args.view.now.groups c.loop-group.group c.args.place (omega (arith, end, count)) c.loop-group.invariant.0
+    all_groups c.args.column.now c.loop-group.column c.args.view.now.groups c.loop-group.group c.args.index (omega (arith, end, count)) c.loop-group.invariant.0

@@ -4,15 +4,15 @@ use Rattle.fragment_file.specs.declared.header.Header.{Header}
 use Rattle.fragment_file.proofs.CopiedColumns.{none, column_more, columns_are_all}
 use Rattle.fragment_file.proofs.copying.read_columns.Goals as goal
 
-pub loop-place-preserved : goal.loop-place-preserved
-loop-place-preserved c =
-    let below = c.loop-place-test.true in
-    let count = c.len-place-end.ensures ∙ ap (λ (h : Header). length h.columns) c.header.ensures.value in
-    column_more c.args.view.now c.loop-place.place none c.loop-place.columns.items c.push.new.self.items c.in_ok-column.column (omega (arith, below, count)) c.loop-place.invariant
+pub loop-index-preserved : goal.loop-index-preserved
+loop-index-preserved c =
+    let below = c.loop-index-test.true in
+    let count = c.len-index-end.ensures ∙ ap (λ (h : Header). length h.columns) c.header.ensures.value in
+    column_more c.args.view.now c.loop-index.index none c.loop-index.columns.items c.push.new.self.items c.in_ok-column.column (omega (arith, below, count)) c.loop-index.invariant
     (c.in_ok-column.ensures.ok none) c.in_ok-push.ensures.items
 
 pub returns-clause-ok : goal.returns-clause-ok
 returns-clause-ok c =
-    let end = c.loop-place-test.false in
-    let count = c.len-place-end.ensures ∙ ap (λ (h : Header). length h.columns) c.header.ensures.value in
-    columns_are_all c.args.view.now c.loop-place.place c.loop-place.columns.items (omega (arith, end, count)) c.loop-place.invariant
+    let end = c.loop-index-test.false in
+    let count = c.len-index-end.ensures ∙ ap (λ (h : Header). length h.columns) c.header.ensures.value in
+    columns_are_all c.args.view.now c.loop-index.index c.loop-index.columns.items (omega (arith, end, count)) c.loop-index.invariant

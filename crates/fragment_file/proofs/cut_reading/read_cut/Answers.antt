@@ -7,7 +7,7 @@ use Rattle.fragment_file.specs.CutFile.{CutFileSpec, IsCutFileOf, cut_file, read
 use Rattle.meaning.specs.Wanting.{GivesIfMemory}
 use Rattle.wire.proofs.Numbers.{IsBytes}
 use Rattle.fragment_file.proofs.CutLaws.{cut_takes, cut_again}
-use Rattle.fragment_file.proofs.ReadFaults.{cut_told, told_by}
+use Rattle.fragment_file.proofs.ReadFaults.{cut_returned, returned_by}
 use Rattle.fragment_file.proofs.cut_reading.read_cut.Goals as goal
 
 is_spelled : (bytes : List ℕ) (r : Result (ℕ × List ℕ) FileFault) → IsBytes bytes → GivesIfMemory Memory cut_file r (read_cut_file bytes) → IfOk r (λ x. IsCutFileOf bytes (cut_file x))
@@ -24,5 +24,5 @@ returns-clause-spelled c = is_spelled c.args.bytes.now c.read.result (λ i. (c.t
 pub returns-clause-complete : goal.returns-clause-complete
 returns-clause-complete c = λ f is. is_given c.args.bytes.now f c.read.result is c.read.ensures
 
-pub returns-clause-told : goal.returns-clause-told
-returns-clause-told c = told_by cut_file c.read.result _ c.read.ensures (cut_told c.args.bytes.now)
+pub returns-clause-returned : goal.returns-clause-returned
+returns-clause-returned c = returned_by cut_file c.read.result _ c.read.ensures (cut_returned c.args.bytes.now)

@@ -2,7 +2,7 @@
 use Rattle.std.proofs.Common.{List, ℕ, ◌++◌, sym, ◌∙◌, subst}
 use Rattle.fragment_file.specs.FragmentReading.{kind_of}
 use Rattle.fragment_file.specs.View.{IsEnd}
-use Rattle.fragment_file.proofs.Places.{block_behind, block_payload}
+use Rattle.fragment_file.proofs.Locations.{block_behind, block_payload}
 use Rattle.fragment_file.proofs.groups.take_block.Goals as goal
 
 pub returns-clause-behind : goal.returns-clause-behind

@@ -6,7 +6,7 @@ use Rattle.fragment_file.specs.Fragment.{group_sizes}
 use Rattle.fragment_file.specs.FragmentReading.{groups_at}
 use Rattle.fragment_file.specs.View.{block_in}
 use Rattle.fragment_file.proofs.Loops.{groups_go_on, groups_fail, groups_finish}
-use Rattle.fragment_file.proofs.Places.{mapped_push, groups_push}
+use Rattle.fragment_file.proofs.Locations.{mapped_push, groups_push}
 use Rattle.fragment_file.proofs.groups.take_groups.Goals as goal
 
 pub returns-in_err-group-clause-read : goal.returns-in_err-group-clause-read

@@ -9,7 +9,7 @@ use Rattle.meaning.specs.Wanting.{GivesIfMemory}
 use Rattle.wire.proofs.Numbers.{IsBytes}
 use Rattle.fragment_file.proofs.FileLaws.{file_takes, file_again}
 use Rattle.fragment_file.proofs.TypedValues.{file_typed}
-use Rattle.fragment_file.proofs.ReadFaults.{fragment_told, told_by}
+use Rattle.fragment_file.proofs.ReadFaults.{fragment_returned, returned_by}
 use Rattle.fragment_file.proofs.opening.open.Goals as goal
 
 is_spelled : (bytes : List ℕ) (r : Result FragmentSpec FileFault) → IsBytes bytes → GivesIfMemory Memory (λ v. v) r (read_fragment bytes) → IfOk r (λ v. IsFileOf bytes v)
@@ -26,8 +26,8 @@ returns-clause-spelled c = is_spelled c.args.bytes.now c.read.result (λ i. (c.t
 pub returns-clause-complete : goal.returns-clause-complete
 returns-clause-complete c = λ f is. is_given c.args.bytes.now f c.read.result is c.read.ensures
 
-pub returns-clause-told : goal.returns-clause-told
-returns-clause-told c = told_by (λ v. v) c.read.result _ c.read.ensures (fragment_told c.args.bytes.now)
+pub returns-clause-returned : goal.returns-clause-returned
+returns-clause-returned c = returned_by (λ v. v) c.read.result _ c.read.ensures (fragment_returned c.args.bytes.now)
 
 is_typed : (bytes : List ℕ) (r : Result FragmentSpec FileFault) → IsBytes bytes → GivesIfMemory Memory (λ v. v) r (read_fragment bytes) → IfOk r (λ v. AreTypedColumns v)
 is_typed bytes (Ok v) ok read = file_typed bytes v ok (file_takes bytes v ok read)

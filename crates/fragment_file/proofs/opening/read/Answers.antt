@@ -5,7 +5,7 @@ use Rattle.fragment_file.specs.Fragment.{fragment_magic, group_sizes, header_byt
 use Rattle.fragment_file.specs.View.{block_in}
 use Rattle.fragment_file.proofs.HeaderLaws.{header_takes}
 use Rattle.fragment_file.proofs.GroupLaws.{groups_takes}
-use Rattle.fragment_file.proofs.Places.{end_behind}
+use Rattle.fragment_file.proofs.Locations.{end_behind}
 use Rattle.fragment_file.proofs.opening.read.Goals as goal
 
 pub take_groups-requires : goal.take_groups-requires

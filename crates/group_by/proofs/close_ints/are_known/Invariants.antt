@@ -4,4 +4,4 @@ use Rattle.std.specs.Prelude.{◌≢◌}
 use Rattle.group_by.proofs.close_ints.are_known.Given as goal
 
 abbrev pub invariant-loop-k : goal.invariant-loop-k
-invariant-loop-k l = l.known ≡ true → (j : ℕ) → j < l.k → get_or l.places j 0 ≢ 2 ^ 32 - 1
+invariant-loop-k l = l.known ≡ true → (j : ℕ) → j < l.k → get_or l.group_indexes j 0 ≢ 2 ^ 32 - 1

@@ -1,6 +1,6 @@
 -- Invariants of `fresh_columns` (`columns`).
 use Rattle.std.proofs.Common.{map, take}
-use Rattle.group_by.specs.Places.{AreFresh}
+use Rattle.group_by.specs.GroupIndexes.{AreFresh}
 use Rattle.group_by.proofs.columns.fresh_columns.Given as goal
 
 abbrev pub invariant-loop-aggregate : goal.invariant-loop-aggregate

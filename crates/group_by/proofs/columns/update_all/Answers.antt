@@ -4,8 +4,8 @@ use Rattle.std.proofs.lemmas.List.{get_or_default}
 use Rattle.vectors.specs.declared.vector.Vector.{Vector}
 use Rattle.accumulators.specs.Values.{selected}
 use Rattle.vectors.specs.Vector.{values_of}
-use Rattle.group_by.specs.Places.{no_column, IsUpdated}
-use Rattle.group_by.specs.RowPlaces.{listed}
+use Rattle.group_by.specs.GroupIndexes.{no_column, IsUpdated}
+use Rattle.group_by.specs.RowGroups.{listed}
 use Rattle.group_by.proofs.Updating.{done_more}
 use Rattle.group_by.proofs.columns.update_all.Goals as goal
 
@@ -19,6 +19,6 @@ loop-k-preserved c =
     let list = a.selection.now.list in
     let here : k < length now = subst (λ (n : ℕ). k < n) (sym c.loop-k.invariant.long) c.loop-k-test.true in
     let in_arguments : k < length a.arguments.now = subst (λ (n : ℕ). k < n) (sym c.requires.widths) c.loop-k-test.true in
-    let entries = subst (λ (v : Vector). IsUpdated a.height (zip (listed a.places.now) (selected (values_of v) list)) (get_or now k one) c.update.new.column) c.index-arguments-k.is c.in_ok-update.ensures in
-    done_more a.height (listed a.places.now) a.arguments.now list k a.columns.now now lanes (get_or now k one) c.update.new.column here in_arguments
+    let entries = subst (λ (v : Vector). IsUpdated a.height (zip (listed a.group_indexes.now) (selected (values_of v) list)) (get_or now k one) c.update.new.column) c.index-arguments-k.is c.in_ok-update.ensures in
+    done_more a.height (listed a.group_indexes.now) a.arguments.now list k a.columns.now now lanes (get_or now k one) c.update.new.column here in_arguments
     (get_or_default now k one no_column here) entries c.loop-k.invariant

@@ -11,5 +11,5 @@ pub returns : goal.returns
 returns c =
     let list = c.args.selection.now.list in
     let one : length c.args.lanes.now ≡ 1 = search rules in
-    IfSome_then c.in_ok-found.found c.in_ok-found.ensures (λ own told. int_rows c.args.lanes.now c.index-lanes-0.result list own.items one
-    (told ∙ ap (λ (v : Vector). selected (values_of v) list) (sym c.in-Ints.is ∙ c.index-lanes-0.is)))
+    IfSome_then c.in_ok-found.found c.in_ok-found.ensures (λ own returned. int_rows c.args.lanes.now c.index-lanes-0.result list own.items one
+    (returned ∙ ap (λ (v : Vector). selected (values_of v) list) (sym c.in-Ints.is ∙ c.index-lanes-0.is)))

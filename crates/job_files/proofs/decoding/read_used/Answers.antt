@@ -5,13 +5,13 @@ use Rattle.std.proofs.lemmas.List.{take_all}
 use Rattle.meaning.specs.declared.plan.ColumnUse.{ColumnUse}
 use Rattle.fragment_file.proofs.CopiedColumns.{none}
 use Rattle.job_files.specs.Dimensions.{IsColumnIn}
-use Rattle.job_files.proofs.UsedColumns.{AreThere, one_used, place_at}
+use Rattle.job_files.proofs.UsedColumns.{AreThere, one_used, used_column_within}
 use Rattle.job_files.proofs.decoding.read_used.Goals as goal
 
 pub column_of-requires : goal.column_of-requires
 column_of-requires c =
     let has = subst (AreThere c.args.file.now.header.columns) (sym c.as_slice-used.ensures) c.requires in
-    record { place = place_at c.as_slice-used.result.now c.args.file.now.header.columns c.loop-used.used-index c.used-item.result has c.loop-used-test.true c.used-item.is }
+    record { number = used_column_within c.as_slice-used.result.now c.args.file.now.header.columns c.loop-used.used-index c.used-item.result has c.loop-used-test.true c.used-item.is }
 
 pub loop-used-preserved : goal.loop-used-preserved
 loop-used-preserved c =

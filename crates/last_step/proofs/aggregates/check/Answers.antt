@@ -2,7 +2,7 @@
 use Rattle.std.proofs.Common.{◌≡◌, ◌≤◌, ◌<◌, ◌+◌, length, rules, ap, ◌∙◌, sym, subst, drop, get_or, Err}
 use Rattle.meaning.specs.declared.plan.Aggregate.{Aggregate}
 use Rattle.meaning.specs.Aggregate.{value}
-use Rattle.last_step.proofs.Judging.{from_place, zip_more, zip_end_left, zip_end_right}
+use Rattle.last_step.proofs.Judging.{from_index, zip_more, zip_end_left, zip_end_right}
 use Rattle.last_step.proofs.Checked.{judged_ends, judged_more}
 use Rattle.last_step.proofs.aggregates.check.Goals as goal
 
@@ -13,7 +13,7 @@ loop-k-preserved c =
     let states = c.args.states.now in
     let below : k < length states = search rules in
     let is : c.in-Some.state.now ≡ get_or states k c.in-Some.state.now = search rules in
-    let here = zip_more aggs states k c.index-aggs-k.result c.in-Some.state.now (from_place aggs k c.index-aggs-k.result c.loop-k-test.true c.index-aggs-k.is) (from_place states k c.in-Some.state.now below is) in
+    let here = zip_more aggs states k c.index-aggs-k.result c.in-Some.state.now (from_index aggs k c.index-aggs-k.result c.loop-k-test.true c.index-aggs-k.is) (from_index states k c.in-Some.state.now below is) in
     judged_more aggs states k c.index-aggs-k.result c.in-Some.state.now here c.loop-k.invariant c.in_ok-value_of.field-0 (ap (λ (a : Aggregate). value a.kind c.in-Some.state.now) c.index-aggs-k.is ∙ c.in_ok-value_of.ensures.value) c.in_ok-value_of.ensures.fits
 
 pub returns-in_default : goal.returns-in_default

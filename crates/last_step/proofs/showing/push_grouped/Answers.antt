@@ -4,8 +4,8 @@ use Rattle.std.proofs.lemmas.Result.{err_from_is_err_and}
 use Rattle.meaning.specs.declared.answer.Group.{Group}
 use Rattle.meaning.specs.Order.{Row}
 use Rattle.last_step.specs.Fitting.{AreGroupsOf}
-use Rattle.meaning.specs.Wanting.{TellsIfMemory}
-use Rattle.last_step.specs.Given.{fault_told}
+use Rattle.meaning.specs.Wanting.{ReportsIfMemory}
+use Rattle.last_step.specs.Given.{fault_returned}
 use Rattle.last_step.specs.Runs.{expanded, rows_after}
 use Rattle.last_step.proofs.Rest.{next_batch, rest_groups, stop_batch}
 use Rattle.last_step.proofs.showing.push_grouped.Goals as goal
@@ -31,4 +31,4 @@ returns-in_err-push_batch c =
     let e = c.in_err-push_batch.field-0.0 in
     let p = err_from_is_err_and c.from_residual.result c.from_residual.ensures.1 in
     rw (p.1, p.2) (stop_batch plan seen seen rest c.min.result before e _
-    (subst (λ (gs : List Group). TellsIfMemory fault_told seen (Err e) (rows_after plan before gs)) c.split_at.ensures.front c.in_err-push_batch.ensures) c.loop-rest.invariant.1)
+    (subst (λ (gs : List Group). ReportsIfMemory fault_returned seen (Err e) (rows_after plan before gs)) c.split_at.ensures.front c.in_err-push_batch.ensures) c.loop-rest.invariant.1)

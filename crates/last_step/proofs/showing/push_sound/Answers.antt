@@ -4,14 +4,14 @@ use Rattle.std.specs.Prelude.{Result}
 use Rattle.std.proofs.lemmas.List.Elements.{recursion_from_All}
 use Rattle.meaning.specs.Order.{Row}
 use Rattle.last_step.specs.Batches.{HasValues, row_in}
-use Rattle.meaning.specs.Wanting.{TellsIfMemory}
-use Rattle.last_step.specs.Given.{fault_told}
+use Rattle.meaning.specs.Wanting.{ReportsIfMemory}
+use Rattle.last_step.specs.Given.{fault_returned}
 use Rattle.last_step.specs.Runs.{expanded}
 use Rattle.last_step.proofs.Rest.{sound_after}
 use Rattle.last_step.proofs.showing.push_sound.Goals as goal
 
 pub returns : goal.returns
 returns c =
-    subst (λ (meaning : Result (List Row) ℕ). TellsIfMemory {X = Unit {0}} {Y = List Row} fault_told (λ _. expanded c.push_shown-pushed.new.runs.items) c.push_shown-pushed.result meaning)
+    subst (λ (meaning : Result (List Row) ℕ). ReportsIfMemory {X = Unit {0}} {Y = List Row} fault_returned (λ _. expanded c.push_shown-pushed.new.runs.items) c.push_shown-pushed.result meaning)
     (sym (sound_after c.args.plan.now (expanded c.args.runs.now.items) c.args.groups.now c.requires.grouped (recursion_from_All (HasValues c.args.plan.now) c.args.groups.now c.requires.values)))
     (c.push_shown-pushed.ensures (map (row_in c.args.plan.now) c.args.groups.now) c.in_ok-batch.ensures)

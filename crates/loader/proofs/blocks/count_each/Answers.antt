@@ -8,14 +8,14 @@ use Rattle.loader.proofs.blocks.count_each.Goals as goal
 
 pub overflow_add-records : goal.overflow_add-records
 overflow_add-records c =
-    let few = few_ended (state_at c.args.place) c.args.block.now c.loop-byte.byte-index c.loop-byte.records (omega (arith, c.loop-byte-test.true)) c.loop-byte.invariant.0 in
+    let few = few_ended (state_at c.args.state) c.args.block.now c.loop-byte.byte-index c.loop-byte.records (omega (arith, c.loop-byte-test.true)) c.loop-byte.invariant.0 in
     let one = from_bool_few c.ends_record.result in
     omega (arith, few, one, c.loop-byte-test.true, c.requires, c.from-records.ensures)
 
 pub loop-byte-preserved : goal.loop-byte-preserved
 loop-byte-preserved c =
     let i = c.loop-byte.byte-index in
-    let s = state_at c.args.place in
+    let s = state_at c.args.state in
     let block = c.args.block.now in
     let byte = get_or block i 0 in
     let there = slice_get-get_or block i 0 c.loop-byte-test.true in

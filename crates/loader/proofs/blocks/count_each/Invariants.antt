@@ -5,4 +5,4 @@ use Rattle.loader.proofs.EndedRecords.{HasEnded}
 use Rattle.loader.proofs.blocks.count_each.Given as goal
 
 abbrev pub invariant-loop-byte : goal.invariant-loop-byte
-invariant-loop-byte l = HasEnded (state_at l.fn.place) l.block l.byte-index l.records × (state_at l.here ≡ state_behind (state_at l.fn.place) (take l.byte-index l.block))
+invariant-loop-byte l = HasEnded (state_at l.fn.state) l.block l.byte-index l.records × (state_at l.here ≡ state_behind (state_at l.fn.state) (take l.byte-index l.block))

@@ -5,7 +5,7 @@ use Rattle.csv.specs.Records.{fields_of}
 use Rattle.meaning.specs.Records.{catalog_row, file_values}
 use Rattle.loader.specs.Columns.{take_row}
 use Rattle.loader.specs.Steps.{values_of}
-use Rattle.loader.proofs.Declared.{declared_length, declared_places, record_fits}
+use Rattle.loader.proofs.Declared.{declared_length, declared_fields, record_fits}
 use Rattle.loader.proofs.InOrder.{order_whole}
 use Rattle.loader.proofs.table.load_record.Goals as goal
 
@@ -13,7 +13,7 @@ pub returns-then-order : goal.returns-then-order
 returns-then-order c =
     let order = c.args.order.now in
     let declared = c.args.declared.now in
-    let many = declared_places declared order.columns.items order.fields.items c.args.columns.now c.requires.order order.inverse c.requires.columns in
+    let many = declared_fields declared order.columns.items order.fields.items c.args.columns.now c.requires.order order.inverse c.requires.columns in
     let wide = declared_length declared c.args.columns.now c.requires.columns in
     let whole : order.columns.items ≡ range_with_len 0 (length declared) =
     order_whole order.columns.items order.fields.items (length declared) order.in_order order.inverse order.ordered c.if-order.true (omega (arith, many, wide)) in
@@ -22,7 +22,7 @@ returns-then-order c =
 pub push_row-requires-clause-columns : goal.push_row-requires-clause-columns
 push_row-requires-clause-columns c =
     let order = c.args.order.now in
-    declared_places c.args.declared.now order.columns.items order.fields.items c.args.columns.now c.requires.order order.inverse c.requires.columns
+    declared_fields c.args.declared.now order.columns.items order.fields.items c.args.columns.now c.requires.order order.inverse c.requires.columns
 
 pub push_row-requires-clause-taken : goal.push_row-requires-clause-taken
 push_row-requires-clause-taken c =

@@ -2,7 +2,7 @@
 use Rattle.std.proofs.Common.{refl}
 use Rattle.csv.specs.Records.{fields_of}
 use Rattle.loader.proofs.Steps.{none_taken, one_taken, opened}
-use Rattle.loader.proofs.TextFields.{order_told}
+use Rattle.loader.proofs.TextFields.{order_returned}
 use Rattle.loader.proofs.table.read_header.Goals as goal
 
 pub returns-then-not-branch-clause-opened : goal.returns-then-not-branch-clause-opened
@@ -15,4 +15,4 @@ returns-clause-opened g c rest left =
     opened g.R.Read.remaining c.next_record.new.reader c.args.declared.now (λ order. order.columns.items) rest others (fields_of c.next_record.new.row) first on c.order_of.result c.order_of.ensures
 
 pub returns-clause-declared : goal.returns-clause-declared
-returns-clause-declared g c = order_told c.args.declared.now (fields_of c.next_record.new.row) c.order_of.result c.order_of.ensures
+returns-clause-declared g c = order_returned c.args.declared.now (fields_of c.next_record.new.row) c.order_of.result c.order_of.ensures

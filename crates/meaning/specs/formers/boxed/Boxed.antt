@@ -32,8 +32,8 @@ the_weighed w = w
 
 -- the one field is a `Box`: a pointer and an allocator beside the part
 abbrev field : Former {0}
-field = via (pair this (const (Ptr × Global))) Inside (λ X f. (f.place.value, (f.place.ptr, f.place.alloc)))
-    (λ X p. record { place = record { ptr = p.1.0; alloc = p.1.1; value = p.0 } }) (λ X f. refl) (λ X p. refl)
+field = via (pair this (const (Ptr × Global))) Inside (λ X f. (f.content.value, (f.content.ptr, f.content.alloc)))
+    (λ X p. record { content = record { ptr = p.1.0; alloc = p.1.1; value = p.0 } }) (λ X f. refl) (λ X p. refl)
 
 module _ (R S : RattleType) (h : R.Denot → S.Denot) where
   abbrev moved : Box R.Denot Global → Box S.Denot Global

@@ -14,8 +14,8 @@ returns-clause-order c = λ plan cells. record {
 zero_first : (k : ℕ) → k ≡ 0 + k
 zero_first k = omega arith
 
-pub returns-clause-places : goal.returns-clause-places
-returns-clause-places c = λ test cells. record {
+pub returns-clause-fragments : goal.returns-clause-fragments
+returns-clause-fragments c = λ test cells. record {
   ascends = ascending test cells 0;
   just =
       λ k. named test cells 0 k k (zero_first k);

@@ -12,9 +12,9 @@ returns-in_err-check_cell c =
     let k = c.loop-k.k in
     let lt : k < length c.args.cells.now = c.loop-k-test.true in
     let cells = c.requires.fragments in
-    let told = c.requires.told in
+    let returned = c.requires.returned in
     let rows : c.from-rows.result ≡ slice_index job.cut k = c.from-rows.ensures ∙ ap (λ (xs : List ℕ). get_or xs k 0) (c.lengths-lengths.ensures.value ∙ c.cut.ensures) in
-    let after = cells_after job c.args.cells.now c.args.are_possible.now k _ _ c.plan.result.now c.loop-k.first c.from-rows.result c.index-cells-k.result _ (Err c.in_err-check_cell.field-0.0) lt (omega (arith, lt, cells, told)) c.plan.ensures.value c.loop-k.invariant.first rows c.index-cells-k.is refl
+    let after = cells_after job c.args.cells.now c.args.are_possible.now k _ _ c.plan.result.now c.loop-k.first c.from-rows.result c.index-cells-k.result _ (Err c.in_err-check_cell.field-0.0) lt (omega (arith, lt, cells, returned)) c.plan.ensures.value c.loop-k.invariant.first rows c.index-cells-k.is refl
     c.in_err-check_cell.ensures in
     let p = err_from_is_err_and c.from_residual.result c.from_residual.ensures.1 in
     rw (p.1, p.2) (c.loop-k.invariant.rest ∙ after)
@@ -35,9 +35,9 @@ loop-k-preserved c =
     let rows : c.from-rows.result ≡ slice_index job.cut k = c.from-rows.ensures ∙ ap (λ (xs : List ℕ). get_or xs k 0) (c.lengths-lengths.ensures.value ∙ c.cut.ensures) in
     let lt : k < length c.args.cells.now = c.loop-k-test.true in
     let cells = c.requires.fragments in
-    let told = c.requires.told in
+    let returned = c.requires.returned in
     let next = next_first job.cut k (omega (arith, lt, cells)) in
-    let after = cells_after job c.args.cells.now c.args.are_possible.now k _ _ c.plan.result.now c.loop-k.first c.from-rows.result c.index-cells-k.result _ (Ok tt) lt (omega (arith, lt, cells, told)) c.plan.ensures.value c.loop-k.invariant.first rows c.index-cells-k.is refl
+    let after = cells_after job c.args.cells.now c.args.are_possible.now k _ _ c.plan.result.now c.loop-k.first c.from-rows.result c.index-cells-k.result _ (Ok tt) lt (omega (arith, lt, cells, returned)) c.plan.ensures.value c.loop-k.invariant.first rows c.index-cells-k.is refl
     c.in_ok-check_cell.ensures in
     let firsts = c.loop-k.invariant.first in
     record { first = omega (arith, next, firsts, rows); rest = c.loop-k.invariant.rest ∙ after }

@@ -9,7 +9,7 @@ check_cells-requires-clause-fragments c =
     ap (λ (cs : List Cell). length cs) c.deref-2.ensures.value ∙ c.requires.cells
     ∙ same_count c.args.layout.now.job.fragments c.args.layout.now.job.cut.now c.args.job.now.cut (sym c.is_cut_of.ensures ∙ c.if-not-is_cut_of.false)
 
-pub check_cells-requires-clause-told : goal.check_cells-requires-clause-told
-check_cells-requires-clause-told c =
-    ap (λ (bs : List Bool). length bs) c.deref-3.ensures.value ∙ c.requires.told
+pub check_cells-requires-clause-returned : goal.check_cells-requires-clause-returned
+check_cells-requires-clause-returned c =
+    ap (λ (bs : List Bool). length bs) c.deref-3.ensures.value ∙ c.requires.returned
     ∙ same_count c.args.layout.now.job.fragments c.args.layout.now.job.cut.now c.args.job.now.cut (sym c.is_cut_of.ensures ∙ c.if-not-is_cut_of.false)

@@ -6,4 +6,4 @@ use Rattle.planner.specs.Checked.{on_trees}
 use Rattle.planner.proofs.reading.in_ons.Given as goal
 
 abbrev pub invariant-loop-joined : goal.invariant-loop-joined
-invariant-loop-joined l = list_any (names l.place) (on_trees (drop l.joined-index l.others)) ≡ list_any (names l.place) (on_trees l.others)
+invariant-loop-joined l = list_any (names l.column) (on_trees (drop l.joined-index l.others)) ≡ list_any (names l.column) (on_trees l.others)

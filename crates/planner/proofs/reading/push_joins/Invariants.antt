@@ -6,5 +6,5 @@ use Rattle.planner_expressions.specs.Results.{map_ok}
 use Rattle.planner.specs.Planned.{join_of, joins_of}
 use Rattle.planner.proofs.reading.push_joins.Given as goal
 
-abbrev pub invariant-loop-place : goal.invariant-loop-place
-invariant-loop-place l = map_ok (λ js. l.out ++ js) (all_ok (map (join_of l.scope l.query l.equalities) (enumerate_from l.place (drop l.place l.scope.dims)))) ≡ map_ok (λ js. l.initial.out ++ js) (joins_of l.scope l.query l.equalities)
+abbrev pub invariant-loop-join : goal.invariant-loop-join
+invariant-loop-join l = map_ok (λ js. l.out ++ js) (all_ok (map (join_of l.scope l.query l.equalities) (enumerate_from l.join (drop l.join l.scope.dims)))) ≡ map_ok (λ js. l.initial.out ++ js) (joins_of l.scope l.query l.equalities)

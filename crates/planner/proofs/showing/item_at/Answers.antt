@@ -1,5 +1,5 @@
 -- Proofs of the goals of `item_at` (`showing`).
-use Rattle.planner.proofs.Telling.{goes}
+use Rattle.planner.proofs.Reporting.{goes}
 use Rattle.planner.proofs.showing.item_at.Goals as goal
 
 pub returns-in-Ok : goal.returns-in-Ok

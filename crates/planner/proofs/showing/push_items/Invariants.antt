@@ -6,5 +6,5 @@ use Rattle.planner_expressions.specs.Results.{map_ok}
 use Rattle.planner.specs.Shown.{item_of, items_of}
 use Rattle.planner.proofs.showing.push_items.Given as goal
 
-abbrev pub invariant-loop-place : goal.invariant-loop-place
-invariant-loop-place l = map_ok (λ is. l.out ++ is) (all_ok (map (item_of l.scope l.basis) (enumerate_from l.place (drop l.place l.items)))) ≡ map_ok (λ is. l.initial.out ++ is) (items_of l.scope l.basis l.items)
+abbrev pub invariant-loop-index : goal.invariant-loop-index
+invariant-loop-index l = map_ok (λ is. l.out ++ is) (all_ok (map (item_of l.scope l.basis) (enumerate_from l.index (drop l.index l.items)))) ≡ map_ok (λ is. l.initial.out ++ is) (items_of l.scope l.basis l.items)

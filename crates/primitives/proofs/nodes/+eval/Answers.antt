@@ -143,7 +143,7 @@ pub eval_node-returns-in-Column-clause-gives : goal.eval_node-returns-in-Column-
 eval_node-returns-in-Column-clause-gives t c = as_lent _ _ _ _ _ _ (node.Column c.in-Column.column) c.in-Column.is (column_node _ _ _ _ _ c.requires c.lent_column.ensures.value)
 
 pub eval_node-returns-in-Joined-clause-gives : goal.eval_node-returns-in-Joined-clause-gives
-eval_node-returns-in-Joined-clause-gives t c = as_lent _ _ _ _ _ _ (node.Joined c.in-Joined.join c.in-Joined.place) c.in-Joined.is (joined_node _ _ _ _ _ _ c.requires c.lent_column-in-Joined.ensures.value)
+eval_node-returns-in-Joined-clause-gives t c = as_lent _ _ _ _ _ _ (node.Joined c.in-Joined.join c.in-Joined.column) c.in-Joined.is (joined_node _ _ _ _ _ _ c.requires c.lent_column-in-Joined.ensures.value)
 
 pub eval_node-returns-in-Key-clause-gives : goal.eval_node-returns-in-Key-clause-gives
 eval_node-returns-in-Key-clause-gives t c = as_lent _ _ _ _ _ _ (node.Key c.in-Key.key) c.in-Key.is (key_node _ _ _ _ _ c.requires c.lent_column-in-Key.ensures.value)

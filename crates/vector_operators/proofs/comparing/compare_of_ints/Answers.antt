@@ -5,7 +5,7 @@ use Rattle.std.specs.Ordering.{int_cmp}
 use Rattle.meaning.specs.declared.value.Value.TheVariants.{Int}
 use Rattle.meaning.specs.Operators.{test}
 use Rattle.vectors.specs.Lanes.{ints_of}
-use Rattle.vector_operators.proofs.Tested.{tells, ints_told}
+use Rattle.vector_operators.proofs.Tested.{reports, ints_returned}
 use Rattle.vector_operators.proofs.comparing.compare_of_ints.Goals as goal
 
 pub returns : goal.returns
@@ -13,7 +13,7 @@ returns c =
     let n = length c.args.left.now in
     let lc = ints_of c.int_parts.result.0.now in
     let same = c.as_slice.ensures ∙ c.in_ok-left_cells.ensures in
-    tells Int (pos 0) c.args.op (λ x y. from_bool (test c.args.op (int_cmp x y))) (ints_told c.args.op)
+    reports Int (pos 0) c.args.op (λ x y. from_bool (test c.args.op (int_cmp x y))) (ints_returned c.args.op)
     n (length c.as_slice.result.now) c.len.result c.args.left.now c.args.right.now lc (ints_of c.int_parts-2.result.0.now) c.as_slice.result.now
     c.in_ok-bits.bits.items c.as_slice-2.result.now c.int_parts.result.1.now c.int_parts-2.result.1.now c.in_ok-nulls.nulls _ c.truths_from.result
     c.int_parts.ensures c.int_parts-2.ensures refl c.requires c.len.ensures c.in_ok-nulls.ensures same

@@ -5,10 +5,10 @@ use Rattle.std.proofs.lemmas.List.{length-set}
 use Rattle.vectors.proofs.Narrowing.{keeps_more, counted_more, range_more}
 use Rattle.vectors.proofs.selection.keep_of_all.Goals as goal
 
-pub loop-place-preserved : goal.loop-place-preserved
-loop-place-preserved g c =
-    let i = c.loop-place.place in
-    let kept = c.loop-place.invariant in
-    let within : c.loop-place.count < length c.loop-place.places = omega (arith, kept.1, kept.2, c.loop-place-test.true) in
-    let more = keeps_more _ (range_with_len 0 i) c.loop-place.places c.loop-place.count i c.from-count.result c.keep.result kept.0 within c.keep.ensures c.from-count.ensures in
-    (rw (range_more i) more, counted_more c.loop-place.count i c.from-count.result c.keep.result kept.1 c.from-count.ensures, length-set c.loop-place.places c.loop-place.count i ∙ kept.2)
+pub loop-position-preserved : goal.loop-position-preserved
+loop-position-preserved g c =
+    let i = c.loop-position.position in
+    let kept = c.loop-position.invariant in
+    let within : c.loop-position.count < length c.loop-position.positions = omega (arith, kept.1, kept.2, c.loop-position-test.true) in
+    let more = keeps_more _ (range_with_len 0 i) c.loop-position.positions c.loop-position.count i c.from-count.result c.keep.result kept.0 within c.keep.ensures c.from-count.ensures in
+    (rw (range_more i) more, counted_more c.loop-position.count i c.from-count.result c.keep.result kept.1 c.from-count.ensures, length-set c.loop-position.positions c.loop-position.count i ∙ kept.2)

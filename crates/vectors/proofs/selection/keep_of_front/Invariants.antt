@@ -5,7 +5,7 @@ use Rattle.vectors.proofs.selection.keep_of_front.Given as goal
 
 abbrev pub invariant-loop-i : goal.invariant-loop-i
 invariant-loop-i g l =
-    Keeps (goal.F-post g l.keep) (take l.i l.fn.places) (take l.count l.places)
+    Keeps (goal.F-post g l.keep) (take l.i l.fn.positions) (take l.count l.positions)
     × (l.count ≤ l.i)
-    × (length l.places ≡ length l.fn.places)
-    × (drop l.i l.places ≡ drop l.i l.fn.places)
+    × (length l.positions ≡ length l.fn.positions)
+    × (drop l.i l.positions ≡ drop l.i l.fn.positions)

@@ -8,6 +8,6 @@ use Rattle.worker.proofs.lanes.texts_at.Goals as goal
 
 pub returns : goal.returns
 returns c =
-    let all = take_all c.loop-place.place-index c.args.places.now c.loop-place-test.false in
-    let so_far = subst (λ (ps : List ℕ). AreSoFar ps c.args.texts.now c.loop-place.nulls.items c.loop-place.cells.items) all c.loop-place.invariant in
-    subst (λ (vs : List Value). AreOnly c.args.places.now c.args.texts.now vs) (sym c.new.ensures) (all_so_far c.args.places.now c.args.texts.now c.loop-place.nulls.items c.loop-place.cells.items so_far)
+    let all = take_all c.loop-position.position-index c.args.positions.now c.loop-position-test.false in
+    let so_far = subst (λ (ps : List ℕ). AreSoFar ps c.args.texts.now c.loop-position.nulls.items c.loop-position.cells.items) all c.loop-position.invariant in
+    subst (λ (vs : List Value). AreOnly c.args.positions.now c.args.texts.now vs) (sym c.new.ensures) (all_so_far c.args.positions.now c.args.texts.now c.loop-position.nulls.items c.loop-position.cells.items so_far)

@@ -7,17 +7,17 @@ use Rattle.columns.proofs.text_list.TextList.get.Goals as goal
 pub index-requires : goal.index-requires
 index-requires c = omega (arith, length-texts_from 0 c.self.inside.ends.items c.self.inside.joined.items, ap length c.self.view_is, c.self.inside.ends.ok.0)
 
-end_is : (c : goal.After-row_known-1) → c.index.result.now ≡ length (concat (take (c.args.place + 1) c.args.self.now))
-end_is c = end_seen _ _ _ c.args.place _ c.self.invariant c.self.view_is c.requires c.index.ensures
+end_is : (c : goal.After-row_known-1) → c.index.result.now ≡ length (concat (take (c.args.index + 1) c.args.self.now))
+end_is c = end_seen _ _ _ c.args.index _ c.self.invariant c.self.view_is c.requires c.index.ensures
 
 in_order : (c : goal.After-row_known-1) → c.start.result ≤ c.index.result.now
-in_order c = rw (c.start.ensures, end_is c) (front_le c.args.self.now c.args.place (c.args.place + 1) (omega arith))
+in_order c = rw (c.start.ensures, end_is c) (front_le c.args.self.now c.args.index (c.args.index + 1) (omega arith))
 
 within : (c : goal.After-row_known-1) → c.index.result.now ≤ length c.deref.result.now
 within c =
     let n = ap length (c.deref.ensures.value ∙ c.self.invariant.joined_is) in
     let s = ap (λ ts. length (concat ts)) c.self.view_is in
-    omega (arith, end_is c, front_within c.args.self.now (c.args.place + 1))
+    omega (arith, end_is c, front_within c.args.self.now (c.args.index + 1))
 
 pub slice_bounds-result-count : goal.slice_bounds-result-count
 slice_bounds-result-count c = in_order c
@@ -37,11 +37,11 @@ slice_bounds-result-end c =
 
 pub returns-clause-value : goal.returns-clause-value
 returns-clause-value c =
-    let e = end_seen _ _ _ c.args.place _ c.self.invariant c.self.view_is c.requires c.index.ensures in
-    rw (c.deref.ensures.value, c.self.invariant.joined_is, c.self.view_is) (cut_one c.args.self.now c.args.place _ _ c.requires c.start.ensures e)
+    let e = end_seen _ _ _ c.args.index _ c.self.invariant c.self.view_is c.requires c.index.ensures in
+    rw (c.deref.ensures.value, c.self.invariant.joined_is, c.self.view_is) (cut_one c.args.self.now c.args.index _ _ c.requires c.start.ensures e)
 
 pub returns-clause-text : goal.returns-clause-text
 returns-clause-text c =
-    let e = end_seen _ _ _ c.args.place _ c.self.invariant c.self.view_is c.requires c.index.ensures in
-    rw (c.deref.ensures.value, c.self.invariant.joined_is, c.self.view_is, cut_one c.args.self.now c.args.place _ _ c.requires c.start.ensures e, ← c.self.view_is)
-    (one_is_text _ c.args.place (rw c.self.view_is c.requires) c.self.invariant.texts_are)
+    let e = end_seen _ _ _ c.args.index _ c.self.invariant c.self.view_is c.requires c.index.ensures in
+    rw (c.deref.ensures.value, c.self.invariant.joined_is, c.self.view_is, cut_one c.args.self.now c.args.index _ _ c.requires c.start.ensures e, ← c.self.view_is)
+    (one_is_text _ c.args.index (rw c.self.view_is c.requires) c.self.invariant.texts_are)

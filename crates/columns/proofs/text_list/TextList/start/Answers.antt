@@ -12,6 +12,6 @@ pub returns : goal.returns
 returns c =
     let long = length-texts_from 0 c.self.inside.ends.items c.self.inside.joined.items in
     let same = ap length c.self.view_is in
-    let e = end_read _ _ _ (c.args.place - 1) _ c.self.invariant (omega arith) (sym long) c.index.ensures in
-    let p : (c.args.place - 1) + 1 ≡ c.args.place = omega arith in
-    e ∙ (ap (λ n. length (concat (take n (texts_from 0 c.self.inside.ends.items c.self.inside.joined.items)))) p ∙ ap (λ ts. length (concat (take c.args.place ts))) c.self.view_is)
+    let e = end_read _ _ _ (c.args.index - 1) _ c.self.invariant (omega arith) (sym long) c.index.ensures in
+    let p : (c.args.index - 1) + 1 ≡ c.args.index = omega arith in
+    e ∙ (ap (λ n. length (concat (take n (texts_from 0 c.self.inside.ends.items c.self.inside.joined.items)))) p ∙ ap (λ ts. length (concat (take c.args.index ts))) c.self.view_is)

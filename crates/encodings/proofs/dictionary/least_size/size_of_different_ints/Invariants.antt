@@ -11,7 +11,7 @@ abbrev pub invariant-loop-row : goal.invariant-loop-row
 invariant-loop-row l =
     let cells = map Int l.ints in record {
       within : l.row ≤ length l.ints;
-      homes : length l.marks ≡ 32768;
+      slots : length l.marks ≡ 32768;
       marked : AreMarked l.marks cells l.row;
       size : l.size ≤ form_size of_type.Int (ascending_set value_cmp (drop l.row cells));
       few : l.size ≤ 65539 * (length l.ints - l.row);

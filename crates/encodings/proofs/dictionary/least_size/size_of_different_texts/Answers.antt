@@ -14,7 +14,7 @@ returns-then-is_settled-clause-least c =
     let rows = rows_of c.args.texts.now c.args.from c.args.to c.requires.within in
     let long = length-map ts Text in
     let is : Text c.text_at-text.result.now ≡ get_or cells (c.loop-row.row - 1) Null = ap Text c.text_at-text.ensures.value ∙ sym (get_or-map Text ts (c.loop-row.row - 1) [] Null (omega arith)) in
-    let step = row_before of_type.Text cells (Text c.text_at-text.result.now) c.loop-row.marks c.mark-size.new.marks c.loop-row.row c.home_of_text.result c.loop-row.size c.mark-size.result (4 + length c.text_at-text.result.now) (omega arith) (omega arith) is c.home_of_text.ensures.value refl (omega arith) c.mark-size.ensures.marks c.mark-size.ensures.size c.loop-row.invariant.marked c.loop-row.invariant.size in
+    let step = row_before of_type.Text cells (Text c.text_at-text.result.now) c.loop-row.marks c.mark-size.new.marks c.loop-row.row c.slot_of_text.result c.loop-row.size c.mark-size.result (4 + length c.text_at-text.result.now) (omega arith) (omega arith) is c.slot_of_text.ensures.value refl (omega arith) c.mark-size.ensures.marks c.mark-size.ensures.size c.loop-row.invariant.marked c.loop-row.invariant.size in
     let rest = set_drop of_type.Text (c.loop-row.row - 1) cells in
     let small = step.1 in
     omega arith
@@ -26,10 +26,10 @@ loop-row-preserved c =
     let rows = rows_of c.args.texts.now c.args.from c.args.to c.requires.within in
     let long = length-map ts Text in
     let is : Text c.text_at-text.result.now ≡ get_or cells (c.loop-row.row - 1) Null = ap Text c.text_at-text.ensures.value ∙ sym (get_or-map Text ts (c.loop-row.row - 1) [] Null (omega arith)) in
-    let step = row_before of_type.Text cells (Text c.text_at-text.result.now) c.loop-row.marks c.mark-size.new.marks c.loop-row.row c.home_of_text.result c.loop-row.size c.mark-size.result (4 + length c.text_at-text.result.now) (omega arith) (omega arith) is c.home_of_text.ensures.value refl (omega arith) c.mark-size.ensures.marks c.mark-size.ensures.size c.loop-row.invariant.marked c.loop-row.invariant.size in
+    let step = row_before of_type.Text cells (Text c.text_at-text.result.now) c.loop-row.marks c.mark-size.new.marks c.loop-row.row c.slot_of_text.result c.loop-row.size c.mark-size.result (4 + length c.text_at-text.result.now) (omega arith) (omega arith) is c.slot_of_text.ensures.value refl (omega arith) c.mark-size.ensures.marks c.mark-size.ensures.size c.loop-row.invariant.marked c.loop-row.invariant.size in
     record {
       within = omega arith;
-      homes = ap length c.mark-size.ensures.marks ∙ length-set c.loop-row.marks c.home_of_text.result true ∙ c.loop-row.invariant.homes;
+      slots = ap length c.mark-size.ensures.marks ∙ length-set c.loop-row.marks c.slot_of_text.result true ∙ c.loop-row.invariant.slots;
       marked = step.0;
       size = step.1;
       few = search rules;

@@ -11,7 +11,7 @@ abbrev pub invariant-loop-row : goal.invariant-loop-row
 invariant-loop-row l =
     let cells = map Text (take (l.to - l.from) (drop l.from l.texts)) in record {
       within : l.row ≤ l.to - l.from;
-      homes : length l.marks ≡ 32768;
+      slots : length l.marks ≡ 32768;
       marked : AreMarked l.marks cells l.row;
       size : l.size ≤ form_size of_type.Text (ascending_set value_cmp (drop l.row cells));
       few : l.size ≤ 65539 * (l.to - l.from - l.row);

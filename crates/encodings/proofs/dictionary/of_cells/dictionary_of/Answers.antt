@@ -10,4 +10,4 @@ returns-in-Ok g c =
     let numbers = c.in_ok-numbers.numbers in
     let entries = c.in-Ok.entries in
     c.recoded.ensures cells (subst (AreNumbers cells numbers.firsts.items numbers.of_rows.items) (sym (length-map c.args.cells.now g.K.Cell.value)) c.in_ok-numbers.ensures)
-    (subst (λ firsts. AreNumberEntries cells firsts entries.places.items entries.codes.items) c.as_slice.ensures.value c.in-Ok.ensures)
+    (subst (λ firsts. AreNumberEntries cells firsts entries.entry_rows.items entries.codes.items) c.as_slice.ensures.value c.in-Ok.ensures)

@@ -12,4 +12,4 @@ returns c =
     let now : Bor (List ℕ) → List ℕ = λ t. t.now in
     let cells : map (λ (t : Bor (List ℕ)). Text t.now) c.as_slice.result.now ≡ map Text (take (c.args.to - c.args.from) (drop c.args.from c.args.texts.now)) =
     text_cells c.as_slice.result.now ∙ ap (map Text) (ap (map now) c.as_slice.ensures.value ∙ c.in_ok-cells.ensures) in
-    subst (λ vs. IfOk c.dictionary_of-dictionary.result (λ (d : Dictionary). AreEntries vs d.places.items d.codes.items)) cells c.dictionary_of-dictionary.ensures
+    subst (λ vs. IfOk c.dictionary_of-dictionary.result (λ (d : Dictionary). AreEntries vs d.entry_rows.items d.codes.items)) cells c.dictionary_of-dictionary.ensures

@@ -12,4 +12,4 @@ returns c = λ cells numbers entries.
     c.recode.ensures ∙ (ap (λ cs. map (λ n. get_or cs n 0) c.as_mut_slice.result.now) c.as_slice.ensures.value ∙ ap (map (λ n. get_or codes n 0)) c.as_mut_slice.ensures.value) in
     let full = sym of_rows.ok.0 in
     let back = put_back of_rows.len c.recode.new.of_rows of_rows.items full (ap length new ∙ (length-map of_rows.items (λ n. get_or codes n 0) ∙ full)) in
-    rw (back, new) (row_codes cells c.args.numbers.firsts.items of_rows.items c.args.entries.places.items codes numbers entries)
+    rw (back, new) (row_codes cells c.args.numbers.firsts.items of_rows.items c.args.entries.entry_rows.items codes numbers entries)

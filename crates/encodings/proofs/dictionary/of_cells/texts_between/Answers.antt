@@ -12,10 +12,10 @@ loop-row-preserved c =
     let row : ℕ = c.loop-row.row in
     let i = row - from in
     let next : row + 1 - from ≡ i + 1 = omega arith in
-    let place : from + i ≡ row = omega arith in
+    let row_is : from + i ≡ row = omega arith in
     let long = length-drop from texts in
     let within : i < length (drop from texts) = omega arith in
-    let text : c.get.result.now ≡ get_or (drop from texts) i [] = c.get.ensures.value ∙ (ap (λ k. get_or texts k []) (sym place) ∙ sym (get_or-drop from texts i [])) in
+    let text : c.get.result.now ≡ get_or (drop from texts) i [] = c.get.ensures.value ∙ (ap (λ k. get_or texts k []) (sym row_is) ∙ sym (get_or-drop from texts i [])) in
     ap (map now) c.in_ok-push.ensures.items
     ∙ (map-append now c.loop-row.cells.items (c.get.result ∷ [])
     ∙ (ap (λ ts. ts ++ c.get.result.now ∷ []) c.loop-row.invariant

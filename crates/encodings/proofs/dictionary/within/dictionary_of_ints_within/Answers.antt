@@ -17,8 +17,8 @@ pub returns : goal.returns
 returns c =
     let cells = map Int c.args.ints.now in
     let long = length-map c.args.ints.now (λ n. Int n) in
-    let places = c.in_ok-dictionary.dictionary.places.items in
+    let entry_rows = c.in_ok-dictionary.dictionary.entry_rows.items in
     let codes = c.in_ok-dictionary.dictionary.codes.items in
-    let count : c.len.result ≡ length places = omega (arith, c.len.ensures, c.in_ok-dictionary.dictionary.places.ok.0) in
-    let size = dictionary_size of_type.Int cells places codes (8 * c.len.result) (length c.args.ints.now) c.in_ok-dictionary.ensures (ap (λ n. 8 * n) count ∙ ints_form c.args.ints.now places) (sym long) in
+    let count : c.len.result ≡ length entry_rows = omega (arith, c.len.ensures, c.in_ok-dictionary.dictionary.entry_rows.ok.0) in
+    let size = dictionary_size of_type.Int cells entry_rows codes (8 * c.len.result) (length c.args.ints.now) c.in_ok-dictionary.ensures (ap (λ n. 8 * n) count ∙ ints_form c.args.ints.now entry_rows) (sym long) in
     subst (λ n. IsDictionaryWithin cells n c.args.most c.kept.result) size (c.kept.ensures cells c.in_ok-dictionary.ensures)

@@ -7,9 +7,9 @@ use Rattle.encodings.specs.Numbers.{word_bytes}
 use Rattle.encodings.specs.Plain.{texts_at}
 use Rattle.encodings.proofs.plain.encode.put_ends_at.Given as goal
 
-abbrev pub invariant-loop-place : goal.invariant-loop-place
-invariant-loop-place l = record {
-  end_is : l.end ≡ length (concat (texts_at (take (l.to - l.from) (drop l.from l.texts)) (take l.place-index l.places)));
-  bound : l.end ≤ max_text_bytes * l.place-index;
-  written : l.out.items ≡ l.initial.out.items ++ flat_map word_bytes (ends_from 0 (texts_at (take (l.to - l.from) (drop l.from l.texts)) (take l.place-index l.places)));
+abbrev pub invariant-loop-row : goal.invariant-loop-row
+invariant-loop-row l = record {
+  end_is : l.end ≡ length (concat (texts_at (take (l.to - l.from) (drop l.from l.texts)) (take l.row-index l.rows)));
+  bound : l.end ≤ max_text_bytes * l.row-index;
+  written : l.out.items ≡ l.initial.out.items ++ flat_map word_bytes (ends_from 0 (texts_at (take (l.to - l.from) (drop l.from l.texts)) (take l.row-index l.rows)));
 }

@@ -5,5 +5,5 @@ use Rattle.encodings.specs.Numbers.{integer_bytes}
 use Rattle.encodings.specs.Plain.{ints_at}
 use Rattle.encodings.proofs.plain.encode.put_integers_at.Given as goal
 
-abbrev pub invariant-loop-place : goal.invariant-loop-place
-invariant-loop-place l = l.out.items ≡ l.initial.out.items ++ flat_map integer_bytes (ints_at l.ints (take l.place-index l.places))
+abbrev pub invariant-loop-row : goal.invariant-loop-row
+invariant-loop-row l = l.out.items ≡ l.initial.out.items ++ flat_map integer_bytes (ints_at l.ints (take l.row-index l.rows))

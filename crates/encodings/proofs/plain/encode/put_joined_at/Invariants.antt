@@ -4,5 +4,5 @@ use Rattle.std.specs.List.{concat}
 use Rattle.encodings.specs.Plain.{texts_at}
 use Rattle.encodings.proofs.plain.encode.put_joined_at.Given as goal
 
-abbrev pub invariant-loop-place : goal.invariant-loop-place
-invariant-loop-place l = l.out.items ≡ l.initial.out.items ++ concat (texts_at (take (l.to - l.from) (drop l.from l.texts)) (take l.place-index l.places))
+abbrev pub invariant-loop-row : goal.invariant-loop-row
+invariant-loop-row l = l.out.items ≡ l.initial.out.items ++ concat (texts_at (take (l.to - l.from) (drop l.from l.texts)) (take l.row-index l.rows))

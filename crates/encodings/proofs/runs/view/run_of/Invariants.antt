@@ -10,5 +10,5 @@ abbrev pub invariant-loop-i : goal.invariant-loop-i
 invariant-loop-i l =
     let lengths = shorts l.count l.lengths in record {
       within : l.rest < sum (drop l.i lengths);
-      place : (values : List Value) → length values ≡ l.count → get_or (repeated (zip values lengths)) l.row Null ≡ get_or (repeated (drop l.i (zip values lengths))) l.rest Null;
+      cell : (values : List Value) → length values ≡ l.count → get_or (repeated (zip values lengths)) l.row Null ≡ get_or (repeated (drop l.i (zip values lengths))) l.rest Null;
     }

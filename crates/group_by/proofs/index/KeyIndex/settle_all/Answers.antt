@@ -4,5 +4,5 @@ use Rattle.group_by.proofs.index.KeyIndex.settle_all.Goals as goal
 
 pub loop-k-preserved : goal.loop-k-preserved
 loop-k-preserved c =
-    one_settled c.args.ints.now c.args.self.now.keys c.loop-k.k c.loop-k.places.items c.loop-k.self.keys c.settle.new.self.keys c.in_ok-places.field-0
-    c.loop-k-test.true c.in_ok-places.ensures c.loop-k.invariant
+    one_settled c.args.ints.now c.args.self.now.keys c.loop-k.k c.loop-k.group_indexes.items c.loop-k.self.keys c.settle.new.self.keys c.in_ok-group_indexes.field-0
+    c.loop-k-test.true c.in_ok-group_indexes.ensures c.loop-k.invariant

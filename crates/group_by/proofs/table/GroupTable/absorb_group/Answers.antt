@@ -4,8 +4,8 @@ use Rattle.accumulators.specs.State.{most_entries}
 use Rattle.group_by.specs.Shape.{Shape, GroupsSpec}
 use Rattle.group_by.specs.Groups.{with_groups}
 use Rattle.group_by.specs.Rows.{IsGroupOf}
-use Rattle.group_by.specs.Places.{table_of, ArePlaces}
-use Rattle.group_by.proofs.Merging.{places_absorbed, table_absorbed}
+use Rattle.group_by.specs.GroupIndexes.{table_of, IsWellFormed}
+use Rattle.group_by.proofs.Merging.{absorbed_well_formed, table_absorbed}
 use Rattle.group_by.proofs.table.GroupTable.absorb_group.Goals as goal
 
 pub invariant_of-result : goal.invariant_of-result
@@ -15,8 +15,8 @@ invariant_of-result c =
     let fits = subst (λ (s : Shape). IsGroupOf s g) (sym (ap (λ (s : GroupsSpec). s.shape) c.self.view_is)) c.requires.fit in
     let taken : t.taken ≡ c.args.self.rows = ap (λ (s : GroupsSpec). s.rows) c.self.view_is in
     let few : t.taken + g.rows ≤ most_entries = let h = c.requires.few in omega (arith, h, taken) in
-    subst (λ (n : ℕ). ArePlaces t.is_certain c.add_group.new.index.keys c.add_group.new.rows.items c.add_group.new.columns.items (t.taken + n)) (sym c.rows.ensures)
-    (places_absorbed t.is_certain t.index.keys t.rows.items t.columns.items t.taken g c.add_group.new.index.keys c.add_group.new.rows.items c.add_group.new.columns.items
+    subst (λ (n : ℕ). IsWellFormed t.is_certain c.add_group.new.index.keys c.add_group.new.rows.items c.add_group.new.columns.items (t.taken + n)) (sym c.rows.ensures)
+    (absorbed_well_formed t.is_certain t.index.keys t.rows.items t.columns.items t.taken g c.add_group.new.index.keys c.add_group.new.rows.items c.add_group.new.columns.items
     c.self.invariant fits c.in-Ok.ensures few)
 
 pub returns-in-Ok : goal.returns-in-Ok

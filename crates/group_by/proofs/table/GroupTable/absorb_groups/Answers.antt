@@ -6,7 +6,7 @@ use Rattle.meaning.specs.declared.answer.Group.{Group}
 use Rattle.accumulators.specs.Columns.{ColumnSpec}
 use Rattle.group_by.specs.Shape.{GroupsSpec}
 use Rattle.group_by.specs.Groups.{all_rows, with_groups}
-use Rattle.group_by.specs.Places.{by_place}
+use Rattle.group_by.specs.GroupIndexes.{by_group_index}
 use Rattle.group_by.proofs.Fresh.{no_groups, one_more}
 use Rattle.group_by.proofs.table.GroupTable.absorb_groups.Goals as goal
 
@@ -14,7 +14,7 @@ pub loop-k-init : goal.loop-k-init
 loop-k-init c =
     let t = c.self.inside in
     sym (subst (λ (s : GroupsSpec). with_groups s [] ≡ s) c.self.view_is
-    (no_groups t.is_certain (map (λ (col : ColumnSpec). col.kind) t.columns.items) (by_place t.index.keys t.rows.items t.columns.items) t.taken t.handed))
+    (no_groups t.is_certain (map (λ (col : ColumnSpec). col.kind) t.columns.items) (by_group_index t.index.keys t.rows.items t.columns.items) t.taken t.handed))
 
 pub absorb_group-requires-clause-few : goal.absorb_group-requires-clause-few
 absorb_group-requires-clause-few c =
@@ -34,7 +34,7 @@ loop-k-preserved c =
     let k = c.loop-k.k in
     let g = c.index-groups-k.result in
     let step = subst (λ (s : GroupsSpec). with_groups (with_groups s (take k groups)) (g ∷ []) ≡ with_groups s (take k groups ++ g ∷ [])) c.self.view_is
-    (one_more t.is_certain (map (λ (col : ColumnSpec). col.kind) t.columns.items) (by_place t.index.keys t.rows.items t.columns.items) t.taken t.handed (take k groups) g) in
+    (one_more t.is_certain (map (λ (col : ColumnSpec). col.kind) t.columns.items) (by_group_index t.index.keys t.rows.items t.columns.items) t.taken t.handed (take k groups) g) in
     c.in_ok-table.ensures
     ∙ ap (λ (s : GroupsSpec). with_groups s (g ∷ [])) c.loop-k.invariant
     ∙ step

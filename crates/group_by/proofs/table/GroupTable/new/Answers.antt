@@ -1,7 +1,7 @@
 -- Proofs of the goals of `new` (`table`).
 use Rattle.std.proofs.Common.{◌≡◌, rules, length, map, replicate, ◌∙◌}
 use Rattle.group_by.specs.Groups.{fresh}
-use Rattle.group_by.specs.Places.{AreFresh}
+use Rattle.group_by.specs.GroupIndexes.{AreFresh}
 use Rattle.group_by.proofs.Fresh.{fresh_table}
 use Rattle.group_by.proofs.table.GroupTable.new.Goals as goal
 

@@ -9,5 +9,5 @@ use Rattle.loader.proofs.counted.Counted.of_front.Goals as goal
 pub returns : goal.returns
 returns c rest =
     let whole = left_append c.args.front.now rest st.StartRecord in
-    ap (λ (s : State). c.from.result + records_left s rest) c.count_block-ended.ensures.place
+    ap (λ (s : State). c.from.result + records_left s rest) c.count_block-ended.ensures.state
     ∙ omega (arith, whole, c.from.ensures, c.count_block-ended.ensures.records)

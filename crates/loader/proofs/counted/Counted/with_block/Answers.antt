@@ -7,11 +7,11 @@ use Rattle.loader.proofs.counted.Counted.with_block.Goals as goal
 
 pub returns-in-Some-clause-counted : goal.returns-in-Some-clause-counted
 returns-in-Some-clause-counted c rest =
-    let whole = left_append c.args.block.now rest (state_at c.args.self.place) in
-    ap (λ (s : State). c.in-Some.records + records_left s rest) c.count_block-ended.ensures.place
+    let whole = left_append c.args.block.now rest (state_at c.args.self.state) in
+    ap (λ (s : State). c.in-Some.records + records_left s rest) c.count_block-ended.ensures.state
     ∙ omega (arith, whole, c.in-Some.ensures, c.from.ensures, c.count_block-ended.ensures.records)
 
 pub returns-in-None-clause-refused : goal.returns-in-None-clause-refused
 returns-in-None-clause-refused c rest =
-    let whole = left_append c.args.block.now rest (state_at c.args.self.place) in
+    let whole = left_append c.args.block.now rest (state_at c.args.self.state) in
     (refl, omega (arith, whole, c.in-None.ensures, c.from.ensures, c.count_block-ended.ensures.records))

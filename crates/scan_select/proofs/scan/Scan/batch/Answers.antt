@@ -41,4 +41,4 @@ returns g c =
     let adds = adds_columns columns (rows_of group) c.self.inside.most group c.self.inside.first c.self.inside.rows c.in-Some.ensures.blocks full (omega (arith, below, rows_are)) c.self.inside.buffers.items c.new-batch.result c.lend_all.new.batch
     (ap (λ b. b.rows) c.new-batch.ensures) at.of_columns filled lent in
     batch_gives c.args.self.now columns _ c.self.inside.most c.self.inside.group_rows c.self.inside.first c.self.inside.rows c.self.inside.buffers.items _ c.new-batch.result stands (sym (ap (λ (s : ScanSpec). s.at) c.self.view_is))
-    (sym (ap (λ (s : ScanSpec). s.places) c.self.view_is)) at c.in-Some.ensures.count c.rows-rows.ensures.equal (ne_eqb _ _ c.if-self-eq0.false) refl c.new-batch.ensures adds
+    (sym (ap (λ (s : ScanSpec). s.columns) c.self.view_is)) at c.in-Some.ensures.count c.rows-rows.ensures.equal (ne_eqb _ _ c.if-self-eq0.false) refl c.new-batch.ensures adds

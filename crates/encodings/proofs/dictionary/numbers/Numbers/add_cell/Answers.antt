@@ -15,8 +15,8 @@ returns-in_ok-push-in-Ok-clause-numbers g c =
     let long = length-map c.args.cells.now value in
     let within : c.args.row < length cells = let h = c.requires.within in omega arith in
     let here : get_or cells c.args.row Null ≡ value cell = get_or-map value c.args.cells.now c.args.row cell Null c.requires.within ∙ ap value (sym c.index-cells-row.is) in
-    let told = subst (λ fs. (number < length fs) × (get_or cells (get_or fs number 0) Null ≡ value cell)) c.as_slice.ensures.value c.in-Ok.ensures.number in
-    rw c.in_ok-push-in-Ok.ensures.items (number_known cells firsts c.args.self.now.of_rows.items c.args.row number c.requires.numbers within told.0 (told.1 ∙ sym here))
+    let returned = subst (λ fs. (number < length fs) × (get_or cells (get_or fs number 0) Null ≡ value cell)) c.as_slice.ensures.value c.in-Ok.ensures.number in
+    rw c.in_ok-push-in-Ok.ensures.items (number_known cells firsts c.args.self.now.of_rows.items c.args.row number c.requires.numbers within returned.0 (returned.1 ∙ sym here))
 
 pub returns-in_ok-slots-in-Err-clause-numbers : goal.returns-in_ok-slots-in-Err-clause-numbers
 returns-in_ok-slots-in-Err-clause-numbers g c =

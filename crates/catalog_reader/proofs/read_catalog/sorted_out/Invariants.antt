@@ -1,8 +1,0 @@
--- Loop invariants of `sorted_out` (`read_catalog`).
-use Rattle.std.proofs.Common.{◌≡◌}
-use Rattle.catalog_reader.specs.CatalogText.{facts, dims}
-use Rattle.catalog_reader.proofs.read_catalog.sorted_out.Given as goal
-
-abbrev pub invariant-loop-declared : goal.invariant-loop-declared
-invariant-loop-declared l =
-    (l.found_facts.items ≡ facts l.yielded) × (l.found_dims.items ≡ dims l.yielded)

@@ -1,0 +1,91 @@
+-- Proofs of the goals of `answer_fragments` (`fragments`).
+use Rattle.std.proofs.Common.{◌≡◌, ◌<◌, ◌≤◌, ◌^◌, ap, sym, subst, refl, ◌∙◌, [], ◌∷◌, ◌++◌, ℕ, ◌+◌, List, length, slice_index_or, arith}
+use Rattle.std.specs.List.{range_with_len, enumerate_from}
+use Rattle.std.proofs.lemmas.List.Elements.{recursion_from_All}
+use Rattle.meaning.specs.Limits.{max_rows}
+use Rattle.meaning.specs.Said.{Cell}
+use Rattle.meaning.specs.Order.{Row}
+use Rattle.meaning.specs.Cut.{Cut, IsCut, first_row}
+use Rattle.fragment_file.specs.Writing.{AreColumns}
+use Rattle.meaning.specs.Answer.{own_body}
+use Rattle.meaning.specs.Gather.{joined}
+use Rattle.meaning_laws.specs.Laws.{own_answers}
+use Rattle.partial_codec.specs.Job.{JobSpec}
+use Rattle.partial_codec.proofs.Fitting.{short_at}
+use Rattle.job_files.proofs.FirstRows.{next_fits}
+use Rattle.coordinator.proofs.FragmentColumns.{rows_at, as_many, columns_at, count_at, fileable_at, typed_at}
+use Rattle.coordinator.proofs.OwnRows.{own-own_rows}
+use Rattle.coordinator.proofs.Slices.{own_answers_to_next}
+use Rattle.coordinator.proofs.fragments.answer_fragments.Goals as goal
+
+below_cut : (lengths cut : List ℕ) (k : ℕ) → lengths ≡ cut → k < length lengths → k < length cut
+below_cut lengths cut k same below = subst (λ (ls : List ℕ). k < length ls) same below
+
+pub bounds-star-k : goal.bounds-star-k
+bounds-star-k c =
+    let (rows, are) = c.requires.fragments in
+    let below = below_cut c.lengths-lengths.result.now c.args.star.cut.now c.loop-k.k c.lengths-lengths.ensures.value c.loop-k-test.true in
+    let many = as_many c.args.star.fact.now rows c.args.star.cut.now c.args.star.fragments.now are in
+    omega (arith, below, many)
+
+pub answer_one-requires-clause-rows : goal.answer_one-requires-clause-rows
+answer_one-requires-clause-rows c =
+    let (rows, are) = c.requires.fragments in
+    let table = c.args.star.fact.now in
+    let cut = c.args.star.cut.now in
+    let fragments = c.args.star.fragments.now in
+    let k = c.loop-k.k in
+    let same = c.lengths-lengths.ensures.value in
+    let below = below_cut c.lengths-lengths.result.now cut k same c.loop-k-test.true in
+    let is = columns_at table rows cut fragments are k c.index-star-k.result c.as_slice.result.now below c.index-star-k.is (c.as_slice.ensures ∙ sym c.index-star-k.is) in
+    record {
+      table = c.requires.table;
+      few = subst (λ (ls : List ℕ). slice_index_or ls k 0 ≤ max_rows) (sym same) (short_at cut k (recursion_from_All (λ n. n ≤ max_rows) cut c.lengths-lengths.ensures.within_limits.short));
+      columns = subst (λ (ls : List ℕ). AreColumns table.columns (slice_index_or ls k 0) c.as_slice.result.now) (sym same) (fileable_at table rows cut fragments are k c.as_slice.result.now below is);
+    }
+
+next : (lengths cut : List ℕ) (k first n : ℕ) → lengths ≡ cut → IsCut cut → k < length lengths → first ≡ first_row cut k → n ≡ slice_index_or lengths k 0 → (first + n < 2 ^ 64) × (first + n ≡ first_row cut (k + 1))
+next lengths cut k first n same is below begins long =
+    next_fits cut k first n is (below_cut lengths cut k same below) begins (long ∙ ap (λ (ls : List ℕ). slice_index_or ls k 0) same)
+
+pub overflow_add-first_row : goal.overflow_add-first_row
+overflow_add-first_row c =
+    let fits = next c.lengths-lengths.result.now c.args.star.cut.now c.loop-k.k c.loop-k.first_row c.from-first_row.result c.lengths-lengths.ensures.value
+    c.lengths-lengths.ensures.within_limits c.loop-k-test.true c.loop-k.invariant.first c.from-first_row.ensures in
+    omega (arith, fits.0)
+
+-- one answer more, where the job is that of before
+one_more : (before job : JobSpec) (cut : Cut) (rows : List Row) (tables : List (List Row)) (k first : ℕ) (cells : List Cell) → job ≡ before → before.cut ≡ cut → first ≡ first_row cut k
+    → cells ≡ joined job.cut (own_answers before.plan tables cut rows (range_with_len 0 k) ++ record { k = k; body = own_body job.plan tables (enumerate_from first (rows_at cut k rows)) } ∷ [])
+    → cells ≡ joined cut (own_answers before.plan tables cut rows (range_with_len 0 (k + 1)))
+one_more before job cut rows tables k first cells same of_cut begins taken =
+    taken
+    ∙ ap (λ (j : JobSpec). joined j.cut (own_answers before.plan tables cut rows (range_with_len 0 k) ++ record { k = k; body = own_body j.plan tables (enumerate_from first (rows_at cut k rows)) } ∷ [])) same
+    ∙ ap (λ (n : ℕ). joined before.cut (own_answers before.plan tables cut rows (range_with_len 0 k) ++ record { k = k; body = own_body before.plan tables (enumerate_from n (rows_at cut k rows)) } ∷ [])) begins
+    ∙ (λ i. joined (of_cut i) (own_answers before.plan tables cut rows (range_with_len 0 k) ++ own-own_rows before.plan tables cut k rows (rows_at cut k rows) refl i ∷ []))
+    ∙ ap (joined cut) (sym (own_answers_to_next before.plan tables cut rows k))
+
+pub loop-k-preserved : goal.loop-k-preserved
+loop-k-preserved c =
+    let before = c.args.gather.now.job in
+    let table = c.args.star.fact.now in
+    let cut = c.args.star.cut.now in
+    let fragments = c.args.star.fragments.now in
+    let k = c.loop-k.k in
+    let same = c.lengths-lengths.ensures.value in
+    let below = below_cut c.lengths-lengths.result.now cut k same c.loop-k-test.true in
+    let of_job = c.loop-k.invariant.same in
+    let of_cut = ap (λ (j : JobSpec). j.cut) of_job ∙ c.requires.cut in
+    record {
+      same = c.in_ok-answer_one.ensures.same ∙ of_job;
+      first = (next c.lengths-lengths.result.now cut k c.loop-k.first_row c.from-first_row.result same c.lengths-lengths.ensures.within_limits c.loop-k-test.true c.loop-k.invariant.first c.from-first_row.ensures).1;
+      taken = λ rows tables are files.
+          let answers = own_answers before.plan tables cut rows (range_with_len 0 k) in
+          one_more before c.loop-k.gather.job cut rows tables k c.loop-k.first_row c.answer_one.new.gather.cells of_job c.requires.cut c.loop-k.invariant.first
+          (c.in_ok-answer_one.ensures.taken answers (rows_at cut k rows) tables (record {
+            first = c.loop-k.invariant.first ∙ ap (λ (l : Cut). first_row l k) (sym of_cut);
+            columns = columns_at table rows cut fragments are k c.index-star-k.result c.as_slice.result.now below c.index-star-k.is (c.as_slice.ensures ∙ sym c.index-star-k.is);
+            counted = count_at table rows cut fragments are k below ∙ sym (ap (λ (ls : List ℕ). slice_index_or ls k 0) same);
+            typed = typed_at table rows cut fragments are k;
+          }) files (c.loop-k.invariant.taken rows tables are files ∙ ap (λ (l : Cut). joined l answers) (sym of_cut)));
+    }

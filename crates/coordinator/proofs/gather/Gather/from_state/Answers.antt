@@ -1,6 +1,0 @@
--- Proofs of the goals of `Gather::from_state` (`gather`).
-use Rattle.coordinator.proofs.StateFiles.{held_state}
-use Rattle.coordinator.proofs.gather.Gather.from_state.Goals as goal
-
-pub invariant_of-result : goal.invariant_of-result
-invariant_of-result c = held_state c.args.job c.in-Ok.cells.items c.requires c.in-Ok.ensures.spelled.fits

@@ -1,6 +1,0 @@
--- Proofs of the goals of `states_join` (`laws`).
-use Rattle.coordinator.proofs.Joined.{join_states-comm, join_states-assoc, join_states_same}
-use Rattle.coordinator.proofs.laws.states_join.Goals as goal
-
-pub returns : goal.returns
-returns c = record { commutes = join_states-comm; associates = join_states-assoc; repeats = join_states_same }

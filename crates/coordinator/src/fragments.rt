@@ -1,0 +1,215 @@
+//! The answers of all fragments of a plan's tables, gathered.
+ghost use Rattle.std.specs.Prelude.{◌≡◌, ◌<◌, ◌≤◌, [], ◌∷◌, ◌++◌, ℕ, List, length, map, slice_index, IfOk, IfErr, OnOk};
+ghost use Rattle.std.specs.List.{range_with_len, enumerate_from};
+ghost use Rattle.meaning.specs.Limits.{max_rows};
+ghost use Rattle.meaning.specs.Said.{Answer as AnAnswer};
+ghost use Rattle.meaning.specs.Answer.{own_body};
+ghost use Rattle.meaning.specs.Gather.{joined};
+ghost use Rattle.meaning_laws.specs.Laws.{own_answers};
+ghost use Rattle.meaning.specs.Cut.{IsCut};
+ghost use Rattle.meaning.specs.Catalog.{IsWellFormedTable};
+ghost use Rattle.meaning.specs.SoundPlan.{IsSoundPlan};
+ghost use Rattle.meaning.specs.Order.{Row};
+ghost use Rattle.partial_codec.specs.Answer.{Spells};
+ghost use Rattle.coordinator.specs.Fragment.{AreFragments, AreRowsOfJob, AreTableFiles, IsFileable};
+ghost use Rattle.coordinator.specs.Whole.{HoldsOwnAnswers};
+
+use crate::fault::WholeFault;
+use crate::sources::Sources;
+use crate::table_files::{LOAD, Rows, file_of, lend_files};
+use crate::tables::Tables;
+use columns::Column;
+use fragment_file::Slice;
+use gathering::Gather;
+use meaning::{Cut, Plan, Sequence, Table};
+use partial_codec::{Job, encode};
+use std::alloc::{AllocError, Global};
+use std::mem::drop;
+use worker::work;
+
+fn copy_cut(alloc: Global, cut: &Cut) -> Result<Cut, WholeFault>
+    ensures value { IfOk result (λ copy. copy ≡ cut.now) }
+    ensures refused { IfErr result (λ e. e ≡ WholeFault.Memory) }
+{
+    let lengths = Vec::from_slice(alloc, cut.lengths())?;
+    // The lengths of a cut are a cut, so this is not refused.
+    Cut::new(lengths).map_err(|_| WholeFault::Memory)
+}
+
+/// The rows' answer, which is a fragment's own, spelled for the job.
+fn answer_bytes(
+    alloc: Global,
+    job: &Job,
+    rows: Rows<'_>,
+    dims: &[&[u8]],
+    vector_len: usize,
+) -> Result<Vec<u8>, AllocError>
+    requires plan { IsSoundPlan job.now.plan }
+    requires rows { IsFileable rows }
+    ensures { IfOk result (λ bytes. (all : List Row) (tables : List (List Row))
+        → AreRowsOfJob job.now rows.entry all → AreTableFiles tables (map (λ d. d.now) dims.now)
+        → Spells job.now bytes.items
+        (record {
+          k = rows.entry.slice.fragment;
+          body = own_body job.now.plan tables (enumerate_from rows.entry.slice.first_row all);
+        })) }
+{
+    let file = file_of(alloc, rows)?;
+    match work(alloc, job, &file, dims, rows.slice.fragment, vector_len) {
+        Ok(answer) => encode(alloc, job, &answer),
+        // The files are those that the job names, so memory was wanting.
+        Err(_) => Err(AllocError),
+    }
+}
+
+/// Has the coordinator take the bytes of the rows' answer.
+fn answer_one(
+    alloc: Global,
+    gather: &mut Gather,
+    rows: Rows<'_>,
+    dims: &[&[u8]],
+    vector_len: usize,
+) -> Result<(), WholeFault>
+    requires plan { IsSoundPlan gather.now.job.plan }
+    requires rows { IsFileable rows }
+    ensures same { OnOk result (gather.new.job ≡ gather.old.job) }
+    ensures taken { OnOk result
+        ((answers : List AnAnswer) (all : List Row) (tables : List (List Row))
+        → AreRowsOfJob gather.old.job rows.entry all
+        → AreTableFiles tables (map (λ d. d.now) dims.now)
+        → gather.old.cells ≡ joined gather.old.job.cut answers
+        → gather.new.cells ≡ joined gather.old.job.cut
+        (answers ++ record {
+          k = rows.entry.slice.fragment;
+          body = own_body gather.old.job.plan tables (enumerate_from rows.entry.slice.first_row
+              all);
+        }
+        ∷ [])) }
+    ensures refused { IfErr result (λ e. e ≡ WholeFault.Memory) }
+{
+    let bytes = answer_bytes(alloc, gather.job(), rows, dims, vector_len)?;
+    match gather.absorb(alloc, bytes.as_slice()) {
+        Ok(_) => Ok(()),
+        // An answer's own bytes are refused only when out of memory.
+        Err(_) => Err(WholeFault::Memory),
+    }
+}
+
+/// The fact's fragments, the files of the joined dimensions, and how many rows a vector has.
+#[derive(Clone, Copy)]
+struct Star<'a> {
+    fact: &'a Table,
+    cut: &'a Cut,
+    fragments: &'a [Sequence<Column>],
+    dims: &'a [&'a [u8]],
+    vector_len: usize,
+}
+
+/// Answers for each fragment in turn.
+fn answer_fragments(alloc: Global, gather: &mut Gather, star: Star<'_>) -> Result<(), WholeFault>
+    requires plan { IsSoundPlan gather.now.job.plan }
+    requires table { IsWellFormedTable star.fact.now }
+    requires cut { gather.now.job.cut ≡ star.cut.now }
+    requires fragments { (rows : List Row)
+        × AreFragments star.fact.now rows star.cut.now star.fragments.now }
+    requires nothing { gather.now.cells ≡ joined star.cut.now [] }
+    ensures same { OnOk result (gather.new.job ≡ gather.old.job) }
+    ensures taken { OnOk result ((rows : List Row) (tables : List (List Row))
+        → AreFragments star.entry.fact.now rows star.entry.cut.now star.entry.fragments.now
+        → AreTableFiles tables (map (λ d. d.now) star.entry.dims.now)
+        → gather.new.cells ≡ joined star.entry.cut.now
+        (own_answers gather.old.job.plan tables star.entry.cut.now rows
+        (range_with_len 0 (length star.entry.cut.now)))) }
+    ensures refused { IfErr result (λ e. e ≡ WholeFault.Memory) }
+{
+    let lengths = star.cut.lengths();
+    let mut first_row = 0;
+    for k in 0..lengths.len() {
+        let rows = Rows {
+            table: star.fact,
+            columns: star.fragments[k].as_slice(),
+            slice: Slice {
+                fragment: k as u32,
+                first_row,
+                rows: lengths[k],
+            },
+        };
+        answer_one(alloc, gather, rows, star.dims, star.vector_len)?;
+        first_row += u64::from(lengths[k]);
+    }
+    Ok(())
+}
+
+/// A coordinator that has taken no answer.
+fn start(alloc: Global, plan: Plan, cut: &Cut) -> Result<Gather, WholeFault>
+    requires plan { IsSoundPlan plan }
+    ensures job { IfOk result (λ g. g.job ≡ record { load = 0; plan = plan; cut = cut.now }) }
+    ensures cells { IfOk result (λ g. g.cells ≡ joined cut.now []) }
+    ensures refused { IfErr result (λ e. e ≡ WholeFault.Memory) }
+{
+    match copy_cut(alloc, cut) {
+        Ok(copy) => Ok(Gather::new(alloc, Job::new(LOAD, plan, copy))?),
+        Err(e) => {
+            drop(plan);
+            Err(e)
+        }
+    }
+}
+
+/// A coordinator that has taken just every fragment's own answer.
+fn answer_all(alloc: Global, plan: Plan, star: Star<'_>) -> Result<Gather, WholeFault>
+    requires plan { IsSoundPlan plan }
+    requires table { IsWellFormedTable star.fact.now }
+    requires fragments { (rows : List Row)
+        × AreFragments star.fact.now rows star.cut.now star.fragments.now }
+    ensures state { IfOk result (λ g. (rows : List Row) (tables : List (List Row))
+        → AreFragments star.entry.fact.now rows star.entry.cut.now star.entry.fragments.now
+        → AreTableFiles tables (map (λ d. d.now) star.entry.dims.now)
+        → HoldsOwnAnswers plan rows tables star.entry.cut.now g) }
+    ensures refused { IfErr result (λ e. e ≡ WholeFault.Memory) }
+{
+    let mut gather = start(alloc, plan, star.cut)?;
+    match answer_fragments(alloc, &mut gather, star) {
+        Ok(()) => Ok(gather),
+        Err(e) => {
+            drop(gather);
+            Err(e)
+        }
+    }
+}
+
+/// A coordinator that has taken the answers of all fragments of the plan's tables.
+pub fn answer_tables(
+    alloc: Global,
+    plan: Plan,
+    fact: &Table,
+    tables: &Tables,
+    sources: Sources<'_>,
+) -> Result<Gather, WholeFault>
+    requires plan { IsSoundPlan plan }
+    requires fact { IsWellFormedTable fact.now }
+    requires fragments { (rows : List Row)
+        × AreFragments fact.now rows sources.cut.now tables.now.fragments.items }
+    ensures state { IfOk result (λ g. (rows : List Row) (dims : List (List Row))
+        → AreFragments fact.now rows sources.entry.cut.now tables.now.fragments.items
+        → AreTableFiles dims tables.now.dims.items
+        → HoldsOwnAnswers plan rows dims sources.entry.cut.now g) }
+    ensures refused { IfErr result (λ e. e ≡ WholeFault.Memory) }
+{
+    match lend_files(alloc, &tables.dims) {
+        Ok(dims) => {
+            let star = Star {
+                fact,
+                cut: sources.cut,
+                fragments: &tables.fragments,
+                dims: &dims,
+                vector_len: sources.vector_len,
+            };
+            answer_all(alloc, plan, star)
+        }
+        Err(_) => {
+            drop(plan);
+            Err(WholeFault::Memory)
+        }
+    }
+}

@@ -1,0 +1,87 @@
+//! The tables that a plan names, from their CSV files.
+ghost use Rattle.std.specs.Prelude.{◌≡◌, ◌≢◌, IfOk, IfErr, OnOk, Err, true, false};
+ghost use Rattle.meaning.specs.Catalog.{IsWellFormed};
+ghost use Rattle.coordinator.specs.Whole.{AreTablesLoaded, IsTablesRefused, files_in, is_vector_length, tables_of};
+ghost use Rattle.coordinator.specs.declared.fault.WholeFault.TheVariants as fault;
+
+use crate::csvs::{check_csvs, csv_of};
+use crate::fault::WholeFault;
+use crate::sources::Sources;
+use crate::table_files::joined_files;
+use columns::Column;
+use loader::load_fact;
+use meaning::{Catalog, MAX_VECTOR_ROWS, Plan, Sequence};
+use std::alloc::Global;
+use std::mem::drop;
+
+/// The fact's fragments, and the file of each joined dimension, in the order of the joins.
+#[derive(Drop)]
+pub struct Tables {
+    pub fragments: Vec<Sequence<Column>>,
+    pub dims: Vec<Sequence<u8>>,
+}
+
+/// The tables that the plan names: first each CSV file is found, the fact's before the dimensions',
+/// then they are loaded in this order.
+fn load_tables(
+    alloc: Global,
+    catalog: &Catalog,
+    sources: Sources<'_>,
+    plan: &Plan,
+) -> Result<Tables, WholeFault>
+    requires catalog { IsWellFormed catalog.now }
+    ensures loaded { IfOk result
+        (λ tables. AreTablesLoaded catalog.now (files_in sources.entry.csvs.now)
+        sources.entry.cut.now plan.now tables.fragments.items tables.dims.items) }
+    ensures refused { IfErr result (λ e. e ≢ fault.Memory
+        → tables_of catalog.now (files_in sources.entry.csvs.now) sources.entry.cut.now plan.now
+        ≡ Err e) }
+{
+    let csv = csv_of(sources.csvs, &plan.fact.name)?;
+    check_csvs(sources.csvs, plan.joins.as_slice())?;
+    let fragments = load_fact(alloc, catalog, csv, sources.cut)?;
+    match joined_files(alloc, catalog, sources.csvs, plan.joins.as_slice()) {
+        Ok(dims) => Ok(Tables { fragments, dims }),
+        Err(e) => {
+            drop(fragments);
+            Err(e)
+        }
+    }
+}
+
+fn check_vector_len(vector_len: usize) -> Result<(), WholeFault>
+    ensures ok { OnOk result (is_vector_length vector_len ≡ true) }
+    ensures refused { IfErr result (λ e. (e ≡ WholeFault.VectorLength)
+        × (is_vector_length vector_len ≡ false)) }
+{
+    if vector_len == 0 || vector_len > MAX_VECTOR_ROWS {
+        return Err(WholeFault::VectorLength);
+    }
+    Ok(())
+}
+
+/// The tables that the plan names, and the vectors' length judged behind them.
+pub fn checked_tables(
+    alloc: Global,
+    catalog: &Catalog,
+    sources: Sources<'_>,
+    plan: &Plan,
+) -> Result<Tables, WholeFault>
+    requires catalog { IsWellFormed catalog.now }
+    ensures loaded { IfOk result
+        (λ tables. AreTablesLoaded catalog.now (files_in sources.entry.csvs.now)
+        sources.entry.cut.now plan.now tables.fragments.items tables.dims.items) }
+    ensures vectors { OnOk result (is_vector_length sources.entry.vector_len ≡ true) }
+    ensures refused { IfErr result
+        (IsTablesRefused catalog.now (files_in sources.entry.csvs.now) sources.entry.cut.now
+        plan.now sources.entry.vector_len) }
+{
+    let tables = load_tables(alloc, catalog, sources, plan)?;
+    match check_vector_len(sources.vector_len) {
+        Ok(()) => Ok(tables),
+        Err(e) => {
+            drop(tables);
+            Err(e)
+        }
+    }
+}

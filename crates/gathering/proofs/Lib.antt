@@ -1,0 +1,9 @@
+-- The lemmas of this crate.
+pub mod Fitting
+pub mod Faults
+pub mod Held
+pub mod Places
+pub mod Joined
+pub mod StateFiles
+pub mod Merging
+pub mod ShapedGroups

@@ -1,0 +1,53 @@
+-- What a coordinator holds may be spelled as a state, and what a state spells may be held.
+use Rattle.std.specs.Prelude.{◌≡◌, ℕ, zero, suc, ◌<◌, true, List, [], ◌∷◌, length, get_or}
+use Rattle.std.proofs.Common.{refl, sym, ap, ◌∙◌, subst, arith}
+use Rattle.meaning.specs.Said.{Body}
+use Rattle.meaning.specs.Said.{Cell}
+use Rattle.meaning.specs.declared.answer.Cell.TheVariants.{Nothing, One, Conflict}
+use Rattle.partial_codec.specs.Answer.{Fits}
+use Rattle.partial_codec.specs.Job.{JobSpec}
+use Rattle.partial_codec.specs.State.{FitsState}
+use Rattle.gathering.specs.Fitted.{is_fitting}
+use Rattle.meaning.specs.SoundPlan.{IsSoundPlan}
+use Rattle.gathering.specs.Gathering.{GatherSpec, IsGather, join_states}
+use Rattle.gathering.proofs.Fitting.{AreFitting-at}
+use Rattle.gathering.proofs.Joined.{AreFitting-from, AreFitting-join, length-join_states}
+
+-- an answer stands in a cell alone
+within : (cells : List Cell) (k : ℕ) (body : Body) → get_or cells k Nothing ≡ One body → k < length cells
+within [] k body e = cc
+within (c ∷ cells) zero body e = omega arith
+within (c ∷ cells) (suc k) body e = let below = within cells k body e in omega (arith, below)
+
+-- what is held may be spelled
+pub fits_state : (g : GatherSpec) → IsGather g → FitsState g.job g.cells
+fits_state g ok = record {
+  fragments = ok.each;
+  answers = λ k body e. subst (λ c. is_fitting g.job.plan g.job.cut k c ≡ true) e (AreFitting-at g.job.plan g.job.cut g.cells k Nothing (within g.cells k body e) ok.fitting);
+}
+
+cell_fits : (job : JobSpec) (k : ℕ) (c : Cell) → ((body : Body) → c ≡ One body → Fits job (record { k = k; body = body })) → is_fitting job.plan job.cut k c ≡ true
+cell_fits job k Nothing fits = refl
+cell_fits job k (One body) fits = fits body refl
+cell_fits job k Conflict fits = refl
+
+-- what is spelled may be held
+pub held_state : (job : JobSpec) (cells : List Cell) → IsSoundPlan job.plan → FitsState job cells → IsGather (record { job = job; cells = cells })
+held_state job cells sound fits = record {
+  sound = sound;
+  each = fits.fragments;
+  fitting = AreFitting-from job.plan job.cut cells (λ k below. cell_fits job k (get_or cells k Nothing) (fits.answers k));
+}
+
+-- two that hold answers for one job, as one
+pub joined_fits : (g other : GatherSpec) → IsGather g → IsGather other → g.job ≡ other.job → IsGather (record { job = g.job; cells = join_states g.cells other.cells })
+joined_fits g other ok right same =
+    let right_fits = subst (λ job. IsGather (record { job = job; cells = other.cells })) (sym same) right in
+    record {
+      sound = ok.sound;
+      each = length-join_states g.cells other.cells (ok.each ∙ sym right_fits.each) ∙ ok.each;
+      fitting = AreFitting-join g.job.plan g.job.cut g.cells other.cells ok.fitting right_fits.fitting;
+    }
+
+pub same_lengths : (g other : GatherSpec) → IsGather g → IsGather other → g.job ≡ other.job → length g.cells ≡ length other.cells
+same_lengths g other ok right same = ok.each ∙ ap (λ (job : JobSpec). length job.cut) same ∙ sym right.each

@@ -1,0 +1,114 @@
+//! Joins the cells of two coordinators.
+// What another coordinator's cells add to one's own.
+ghost use Rattle.std.specs.Prelude.{◌≡◌, ◌<◌, length, slice_set, slice_index_or, IfOk};
+ghost use Rattle.meaning.specs.declared.answer.Cell.TheVariants.{Nothing, One};
+ghost use Rattle.meaning.specs.Gather.{join_cells, same_body};
+ghost use Rattle.gathering.specs.Gathering.{join_states};
+ghost use Rattle.gathering.specs.Joining.{conflict_unless, delta_of, all_deltas};
+
+use crate::copying::copy_body;
+use accumulators::Group;
+use meaning::{Body, Cell};
+use std::alloc::{AllocError, Global};
+use std::mem;
+
+/// Whether two answers are equal.
+pub fn is_same(a: &Body<Group>, b: &Body<Group>) -> bool
+    ensures { result ≡ same_body a.now b.now }
+{
+    a == b
+}
+
+/// The cell after one more answer for its fragment.
+pub fn with_answer(cell: Cell<Group>, body: Body<Group>) -> Cell<Group>
+    ensures { result ≡ join_cells cell (One body) }
+{
+    match cell {
+        Cell::Nothing => Cell::One(body),
+        Cell::One(known) => {
+            if is_same(&known, &body) {
+                Cell::One(known)
+            } else {
+                Cell::Conflict
+            }
+        }
+        Cell::Conflict => Cell::Conflict,
+    }
+}
+
+/// The least that a cell is to be joined with, to become what it is with the other's: nothing where
+/// it stays.
+fn delta_of(
+    alloc: Global,
+    own: &Cell<Group>,
+    other: &Cell<Group>,
+) -> Result<Cell<Group>, AllocError>
+    ensures { IfOk result (λ delta. delta ≡ delta_of own.now other.now) }
+{
+    match (own, other) {
+        (Cell::Conflict, _) | (_, Cell::Nothing) => Ok(Cell::Nothing),
+        (_, Cell::Conflict) => Ok(Cell::Conflict),
+        (Cell::Nothing, Cell::One(said)) => Ok(Cell::One(copy_body(alloc, said)?)),
+        (Cell::One(known), Cell::One(said)) => Ok(conflict_unless(is_same(known, said))),
+    }
+}
+
+/// Equal answers are no delta.
+fn conflict_unless(is_known: bool) -> Cell<Group>
+    ensures { result ≡ conflict_unless is_known }
+{
+    if is_known {
+        Cell::Nothing
+    } else {
+        Cell::Conflict
+    }
+}
+
+/// What is new of each cell.
+pub fn all_deltas(
+    alloc: Global,
+    own: &[Cell<Group>],
+    others: &[Cell<Group>],
+) -> Result<Vec<Cell<Group>>, AllocError>
+    requires { length own.now ≡ length others.now }
+    ensures { IfOk result (λ delta. delta.items ≡ all_deltas own.now others.now) }
+{
+    let mut delta = Vec::new(alloc);
+    for k in 0..own.len() {
+        delta.push(delta_of(alloc, &own[k], &others[k])?)?;
+    }
+    Ok(delta)
+}
+
+/// Two cells of one fragment as one.
+fn joined(own: Cell<Group>, other: Cell<Group>) -> Cell<Group>
+    ensures { result ≡ join_cells own other }
+{
+    match other {
+        Cell::Nothing => own,
+        Cell::One(said) => with_answer(own, said),
+        Cell::Conflict => Cell::Conflict,
+    }
+}
+
+/// Joins the cell at a place with its delta.
+fn join_at(cells: &mut Vec<Cell<Group>>, k: usize, delta: Cell<Group>)
+    requires { k < length cells.old.items }
+    ensures { cells.new.items
+        ≡ slice_set cells.old.items k (join_cells (slice_index_or cells.old.items k Nothing) delta) }
+{
+    let cell = &mut cells[k];
+    let held = mem::replace(cell, Cell::Nothing);
+    *cell = joined(held, delta);
+}
+
+/// Joins each cell with its delta.
+pub fn join_all(cells: &mut Vec<Cell<Group>>, delta: Vec<Cell<Group>>)
+    requires { length cells.old.items ≡ length delta.items }
+    ensures { cells.new.items ≡ join_states cells.old.items delta.items }
+{
+    let mut delta = delta;
+    while let Some(change) = delta.pop() {
+        join_at(cells, delta.len(), change);
+    }
+}

@@ -1,0 +1,20 @@
+//! Gathering the answers of fragments, and reporting what they say together.
+#![tactic(auto)]
+
+mod combining;
+mod copying;
+mod fault;
+mod gather;
+mod joining;
+mod laws;
+mod lines;
+mod output;
+mod report;
+mod same_job;
+
+pub use fault::GatherFault;
+pub use gather::{Absorbed, Gather};
+pub use last_step::PrintFault;
+pub use laws::{answers_decide, states_join};
+pub use lines::{print_fault, print_fragments, print_row_fault};
+pub use report::{Ended, Report};

@@ -1,7 +1,0 @@
--- Proofs of the goals of `Place::ends_record` (`place`).
-use Rattle.std.proofs.Common.{sym}
-use Rattle.loader.proofs.EndedRecords.{ends_by_parts}
-use Rattle.loader.proofs.place.Place.ends_record.Goals as goal
-
-pub returns : goal.returns
-returns c = rw (c.is_line_end.ensures, c.is_open.ensures, c.is_unquoted.ensures) (sym (ends_by_parts c.args.self c.args.byte))

@@ -1,7 +1,0 @@
--- Loop invariants of `all_places` (`scan`).
-use Rattle.std.proofs.Common.{◌≡◌}
-use Rattle.std.specs.List.{range_with_len}
-use Rattle.scan_select.proofs.scan.all_places.Given as goal
-
-abbrev pub invariant-loop-place : goal.invariant-loop-place
-invariant-loop-place l = l.places.items ≡ range_with_len 0 l.place

@@ -1,8 +1,0 @@
--- Loop invariants of `check_csvs` (`csvs`).
-use Rattle.std.proofs.Common.{List, ℕ}
-use Rattle.whole_query.specs.Whole.{csv_of, files_in}
-use Rattle.whole_query.proofs.InTurn.{HasJudged}
-use Rattle.whole_query.proofs.csvs.check_csvs.Given as goal
-
-abbrev pub invariant-loop-join : goal.invariant-loop-join
-invariant-loop-join l = (before : List (List ℕ)) × HasJudged (λ j. csv_of (files_in l.csvs) j.dim.name) l.joins l.join-index before

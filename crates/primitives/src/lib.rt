@@ -5,4 +5,4 @@
 mod evaluation;
 mod nodes;
 
-pub use evaluation::eval_vec;
+pub use evaluation::{eval_lanes, eval_vec};

@@ -1,6 +1,4 @@
 //! The job that the words of a case name.
-// Jobs that words show: the number of a load, a cut, what is asked of each fragment, and the text
-// of the query.
 ghost use Rattle.std.specs.Prelude.{◌≡◌, ◌≢◌, ◌≤◌, [], ◌∷◌, None, false, length, map, IfOk, IfSome};
 ghost use Rattle.meaning.specs.declared.expr.Expr.TheVariants as the_expr;
 ghost use Rattle.meaning.specs.declared.plan.Aggregate.{Aggregate as AnAggregate};
@@ -45,7 +43,7 @@ fn aggregate_of(summed: Option<usize>) -> Aggregate
     ensures { result_type result.kind result.col_type ≡ of_type.Int }
 {
     let (kind, argument) = match summed {
-        Some(place) => (AggregateKind::Sum, Expr::Column(place)),
+        Some(column) => (AggregateKind::Sum, Expr::Column(column)),
         None => (AggregateKind::CountRows, Expr::Literal(Value::Int(1))),
     };
     Aggregate {
@@ -140,7 +138,7 @@ fn job_over(
     }
 }
 
-// The place of the column that is summed, where one is.
+// The column of the column that is summed, where one is.
 fn summed_by(word: &str) -> Option<Option<usize>> {
     match word {
         "count" => Some(None),

@@ -40,4 +40,4 @@ pub use plan::{
 pub use sequence::Sequence;
 pub use table::TableFault;
 pub use text::{Text, text_of};
-pub use value::{ColType, Row, Value, ValueRef, compare_lent};
+pub use value::{ColType, Row, Value, ValueRef, compare_lent, type_code};

@@ -15,7 +15,7 @@ mod joined_row;
 mod limits;
 mod name;
 mod outcome;
-mod plan;
+pub mod plan;
 mod reserved;
 mod sequence;
 mod table;

@@ -11,14 +11,14 @@ use Rattle.meaning.specs.Said.{Cell}
 use Rattle.meaning.specs.declared.answer.Cell.TheVariants.{Nothing, One}
 use Rattle.partial_codec.specs.Fault.{number_of}
 use Rattle.partial_codec.specs.Job.{JobSpec}
-use Rattle.partial_codec.specs.State.{SpellsState}
+use Rattle.partial_codec.specs.State.{SpellsState, is_state}
 use Rattle.partial_codec.specs.declared.fault.DecodeFault.{DecodeFault}
-use Rattle.gathering.specs.Gathering.{GatherSpec, Takes, join_states, joined_with}
+use Rattle.gathering.specs.Gathering.{GatherSpec, Joins, Takes, join_states}
 use Rattle.gathering.specs.declared.gather.Absorbed.{Absorbed}
 use Rattle.gathering.proofs.Held.{below_cut}
 use Rattle.folders.specs.Folder.{Holds}
 use Rattle.jobs.specs.PassedOver.{passed_over_line}
-use Rattle.jobs.specs.Gathering.{IsTaken, IsTaking, Taken, answer, gathered, is_state, line_of, obstacle_of, passed, state, takings_of}
+use Rattle.jobs.specs.Gathering.{IsTaken, IsTaking, Taken, answer, gathered, line_of, obstacle_of, passed, state, takings_of}
 use Rattle.jobs.specs.Taking.{TakesBytes, TakesFile, TakesOrNames, TookFiles}
 use Rattle.jobs.proofs.Together.{answer_more, passed_more, state_more}
 
@@ -41,9 +41,9 @@ taken_answer old new bytes returned begins takes = record {
   taking = answer takes.answer;
   is = (begins, takes.spelled);
   adds = record {
-    job = ap (λ (g : GatherSpec). g.job) takes.state;
+    job = takes.job;
     state = λ takings before.
-        ap (λ (g : GatherSpec). g.cells) takes.state
+        takes.cells
         ∙ ap (λ (cells : List Cell). slice_set cells takes.answer.k (join_cells (slice_index_or cells takes.answer.k Nothing) (One takes.answer.body))) before
         ∙ answer_more old.job.cut takings takes.answer (below_cut old.job takes.answer takes.spelled.fits);
   };
@@ -51,14 +51,14 @@ taken_answer old new bytes returned begins takes = record {
 }
 
 pub taken_state : (old new : GatherSpec) (bytes : List ℕ) → is_state bytes ≡ true
-    → ((cells : List Cell) × SpellsState old.job bytes cells × (new ≡ joined_with old (record { job = old.job; cells = cells }))) → TakesBytes old new bytes
-taken_state old new bytes begins (cells, spelled, same) = record {
+    → ((cells : List Cell) × SpellsState old.job bytes cells × Joins old new cells) → TakesBytes old new bytes
+taken_state old new bytes begins (cells, spelled, joins) = record {
   taking = state cells;
   is = (begins, spelled);
   adds = record {
-    job = ap (λ (g : GatherSpec). g.job) same;
+    job = joins.job;
     state = λ takings before.
-        ap (λ (g : GatherSpec). g.cells) same
+        joins.cells
         ∙ ap (λ (held : List Cell). join_states held cells) before
         ∙ state_more old.job.cut takings cells spelled.fits.fragments;
   };

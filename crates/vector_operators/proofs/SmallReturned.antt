@@ -1,4 +1,4 @@
--- What is returned where no lane has a fault.
+-- What arithmetic gives where no lane has a fault.
 use Rattle.std.specs.Prelude.{◌≡◌, ℕ, ◌<◌, ℤ, pos, Bool, true, false, List, length, replicate, get_or, Option, Some, None, Result, Ok, Err, IfOk, IfSome}
 use Rattle.std.proofs.Common.{refl, sym, ap, arith, subst, ◌∙◌, inl}
 use Rattle.std.proofs.lemmas.List.{length-replicate, get_or-replicate}

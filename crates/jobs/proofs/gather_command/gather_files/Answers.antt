@@ -1,10 +1,10 @@
--- Proofs of the goals of `gather_files` (`gathering`).
+-- Proofs of the goals of `gather_files` (`gather_command`).
 use Rattle.std.proofs.Common.{subst, inl, inr}
 use Rattle.std.proofs.lemmas.Result.{err_from_is_err_and}
 use Rattle.jobs.specs.Gathering.{IsTakingRefused}
 use Rattle.jobs.specs.Job.{IsJobOf}
 use Rattle.jobs.proofs.Refusals.{no_job}
-use Rattle.jobs.proofs.gathering.gather_files.Goals as goal
+use Rattle.jobs.proofs.gather_command.gather_files.Goals as goal
 
 pub returns-in_err-job-clause-refused : goal.returns-in_err-job-clause-refused
 returns-in_err-job-clause-refused g c =

@@ -9,10 +9,10 @@ use Rattle.meaning.specs.Said.{Cell}
 use Rattle.meaning.specs.Gather.{fragments_where}
 
 -- the numbers, where the first cell has this number
-abbrev places_from : (Cell → Bool) → ℕ → List Cell → List ℕ
-places_from test start cells = map (λ p. p.0) (filter (λ p. test p.1) (enumerate_from start cells))
+abbrev fragments_from : (Cell → Bool) → ℕ → List Cell → List ℕ
+fragments_from test start cells = map (λ p. p.0) (filter (λ p. test p.1) (enumerate_from start cells))
 
-one_more : (test : Cell → Bool) (start : ℕ) (cells : List Cell) (c : Cell) (k : ℕ) → k ≡ start + length cells → places_from test start (cells ++ c ∷ []) ≡ places_from test start cells ++ cond (test c) (k ∷ []) []
+one_more : (test : Cell → Bool) (start : ℕ) (cells : List Cell) (c : Cell) (k : ℕ) → k ≡ start + length cells → fragments_from test start (cells ++ c ∷ []) ≡ fragments_from test start cells ++ cond (test c) (k ∷ []) []
 one_more test start [] c k e = elim (test c) as (λ t. map {A = ℕ × Cell} (λ p. p.0) (cond t ((start, c) ∷ []) []) ≡ cond t (k ∷ []) []) [
   | true ↦ let here : start ≡ k = grind arith in ap (λ n. n ∷ []) here
   | false ↦ refl
@@ -24,8 +24,8 @@ one_more test start (x ∷ xs) c k e = elim (test x) as (λ t. map {A = ℕ × C
     ]
 
 -- the numbers among one cell more
-pub places_of_next : (test : Cell → Bool) (cells : List Cell) (k : ℕ) (d : Cell) → k < length cells → fragments_where test (take (k + 1) cells) ≡ fragments_where test (take k cells) ++ cond (test (slice_index_or cells k d)) (k ∷ []) []
-places_of_next test cells k d below =
+pub fragments_of_next : (test : Cell → Bool) (cells : List Cell) (k : ℕ) (d : Cell) → k < length cells → fragments_where test (take (k + 1) cells) ≡ fragments_where test (take k cells) ++ cond (test (slice_index_or cells k d)) (k ∷ []) []
+fragments_of_next test cells k d below =
     ap (λ n. fragments_where test (take n cells)) (sym (suc-eq-add-one k))
     ∙ ap (fragments_where test) (take-suc cells k d below)
     ∙ one_more test 0 (take k cells) (slice_index_or cells k d) k (grind (arith, length-take-le k cells (omega arith)))

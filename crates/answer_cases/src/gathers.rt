@@ -58,7 +58,7 @@ fn report(alloc: Global, gather: &Gather, shown: &mut String) -> Result<(), Allo
 fn print(alloc: Global, gather: &Gather, shown: &mut String) -> Result<(), AllocError> {
     let mut out = Vec::new(alloc);
     match gather.print_report(alloc, &mut out) {
-        Ok(()) => show_printed(alloc, shown, "out", out.as_slice()),
+        Ok(_) => show_printed(alloc, shown, "out", out.as_slice()),
         Err(fault) => show_refusal(shown, &fault),
     }
 }

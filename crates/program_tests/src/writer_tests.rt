@@ -27,7 +27,7 @@ fn refusal_of_print(alloc: Global, gather: &Gather) -> Option<u8> {
     let mut room = [0u8; 4];
     let mut out = room.as_mut_slice();
     match gather.print_report(alloc, &mut out) {
-        Ok(()) => None,
+        Ok(_) => None,
         Err(fault) => Some(fault.number()),
     }
 }

@@ -19,6 +19,6 @@ pub use numbers::{has_bit, integer_at, short_at, word_at};
 pub use offsets::are_offsets;
 pub use packing::{make_room, put_mask, put_offsets};
 pub use raising::fill_raised;
-pub use unpacking::row_offset;
+pub use unpacking::{row_offset, unpack};
 pub use widths::width_of;
 pub use windows::{are_unused_clear, window_at};

@@ -63,7 +63,7 @@ uncounted folder table csv (load_fault.Table f) e stands (inr returned) = inr (s
 
 -- ---- dimensions
 
--- the dimension at a place is refused, and those before it are loaded
+-- a dimension is refused, and those before it are loaded
 pub first_refused : (holds : Holds) (folder : List ℕ) (dims items : List Dimension) (k : ℕ) (d : Dimension) (columns : List (List ColumnSpec)) (e : Refusal)
     → items ≡ dims → k < length items → d ≡ get_or items k d → AreEach (IsDimensionLoaded holds folder) (take k items) columns → IsDimensionRefused holds folder d e → IsFirstRefused holds folder dims e
 first_refused holds folder dims items k d columns e same below is loaded refused = record {

@@ -10,7 +10,7 @@ use Rattle.meaning.specs.declared.catalog.Table.{Table}
 use Rattle.columns.specs.Column.{ColumnSpec}
 use Rattle.loader.proofs.FactSteps.{rows_few}
 use Rattle.meaning_laws.proofs.Cuts.{sum_to_next}
-use Rattle.coordinator.proofs.Slices.{range_to_next, sum_to_place}
+use Rattle.coordinator.proofs.Slices.{range_to_next, sum_to_fragment}
 use Rattle.wire.specs.Bytes.{sealed}
 use Rattle.fragment_file.specs.CutFile.{cut_bytes}
 use Rattle.fragment_file.specs.Fragment.{Stands}
@@ -32,7 +32,7 @@ next_first cut k below = rw add-one (sum_to_next cut k below)
 
 -- rows of a cut are numbered in 64 bits
 pub first_fits : (cut : Cut) (k : ℕ) → IsCut cut → first_row cut k < 2 ^ 64
-first_fits cut k is = let all = rows_few cut is in let front = sum_to_place cut k in omega (arith, all, front)
+first_fits cut k is = let all = rows_few cut is in let front = sum_to_fragment cut k in omega (arith, all, front)
 
 pub next_fits : (cut lengths : List ℕ) (k first n : ℕ) → IsCut cut → lengths ≡ cut → k < length lengths → first ≡ first_row cut k → n ≡ get_or lengths k 0
     → (first + n < 2 ^ 64) × (first + n ≡ first_row cut (k + 1))
@@ -44,7 +44,7 @@ next_fits cut lengths k first n is same below begins long =
     let fits = first_fits cut (k + 1) is in
     (omega (arith, begins, here, next, fits), omega (arith, begins, here, next))
 
--- the columns at a place are those of the dimension there
+-- each dimension has its columns
 pub dimension_at : (ds declared : List Dimension) (dims : List (List ColumnSpec)) (k : ℕ) (d : Dimension) (columns : List ColumnSpec) → declared ≡ ds → k < length declared
     → d ≡ get_or declared k d → columns ≡ get_or dims k columns → AreEach AreDimensionColumns ds dims → AreDimensionColumns d columns
 dimension_at ds declared dims k d columns same below d_is is all =
@@ -72,7 +72,7 @@ closed_from Is s (suc n) m (c ∷ fragments) (f ∷ files) file rest numbered al
     let (columns, below, is, closed) = closed_from Is (s + 1) n m fragments files file rest next all.1 at in
     (columns, omega (arith, below), is, closed)
 
--- the file that is next is that of the fragment at its place
+-- the file that is next is that of the next fragment
 pub closed_at : {P : Type 0} (enclosed : P → Option (List ℕ)) (wrote : Option (List Change)) (load : ℕ) (table : Table) (cut : Cut) (fragments : List (List ColumnSpec)) (files : List P) (n : ℕ) (file : P) (rest : List P)
     → AreFragmentsClosed enclosed wrote load table cut fragments files → drop n files ≡ file ∷ rest
     → (columns : List ColumnSpec) × (n < length fragments) × (columns ≡ get_or fragments n columns) × Encloses (StandsForFragment load table cut (n, columns)) wrote (enclosed file)

@@ -1,5 +1,4 @@
 //! The fact table, loaded and written a fragment at a time.
-// Fragments on their way from a CSV file to files of columns.
 ghost use Rattle.std.specs.Prelude.{◌≡◌, ◌≤◌, ◌<◌, ℕ, List, [], ◌∷◌, ◌++◌, Some, Ok, Err, IfErr, IfOk, IfSome, Result, length, sum};
 ghost use Rattle.meaning.specs.Limits.{max_rows};
 ghost use Rattle.meaning.specs.Catalog.{IsWellFormedTable};

@@ -1,5 +1,4 @@
 //! Reads the dimensions of `load` from their CSV files.
-// The columns of a folder's dimensions.
 ghost use Rattle.std.specs.Prelude.{◌≡◌, ◌<◌, IfErr, IfOk, length};
 ghost use Rattle.meaning.specs.Catalog.{IsWellFormed};
 ghost use Rattle.folders.specs.Folder.{AreHeld, csv_path};

@@ -1,5 +1,4 @@
 //! Writes the files of `load`.
-// The files of loaded tables.
 ghost use Rattle.std.specs.Prelude.{◌≡◌, ◌≤◌, ◌<◌, ◌-◌, ℕ, List, None, IfErr, IfOk, OnOk, length, map, zip};
 ghost use Rattle.std.specs.List.{enumerate_from, range_with_len};
 ghost use Rattle.meaning.specs.Limits.{max_fragments, max_rows};

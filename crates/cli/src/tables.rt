@@ -1,5 +1,4 @@
 //! The CSV files of a catalogue's tables.
-// The files of a folder that a query is answered over.
 ghost use Rattle.std.specs.Prelude.{◌≡◌, ◌≤◌, ℕ, Ok, Some, IfErr, IfOk, IfSome, OnOk, All, length, drop, sum};
 ghost use Rattle.meaning.specs.Cut.{cut_of, even_lengths};
 ghost use Rattle.loader.specs.Source.{csv_records};

@@ -90,8 +90,8 @@ counted_table columns key fewest most (header ∷ records) rows e =
           let own = ok_at judge (enumerate_from 0 records) rows most (0, []) [] good (omega (arith, long)) in
           let (within, is_row) = judged_row columns key most order records (get_or (enumerate_from 0 records) most (0, [])) (get_or rows most []) own in
           let same = get_or-enumerate_from 0 records most (0, []) (omega (arith, long, length-enumerate_from 0 records)) in
-          let place : (get_or (enumerate_from 0 records) most (0, [])).0 ≡ 0 + most = ap (λ (p : ℕ × Record). p.0) same in
-          absurd (omega (arith, within, place))
+          let number_is : (get_or (enumerate_from 0 records) most (0, [])).0 ≡ 0 + most = ap (λ (p : ℕ × Record). p.0) same in
+          absurd (omega (arith, within, number_is))
     ]
 
 -- a fact table that is loaded has as many rows as the cut

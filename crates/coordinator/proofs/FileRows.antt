@@ -84,9 +84,9 @@ blocks_count [] n (b ∷ blocks) are = absurd are
 blocks_count (c ∷ columns) n [] are = absurd are
 blocks_count (c ∷ columns) n (b ∷ blocks) are = ap suc (blocks_count columns n blocks are.1)
 
-group_wide : (n : ℕ) (group : List Block) (places : List ℕ) → length group ≡ n → AreWide n (map (row_in group) places)
+group_wide : (n : ℕ) (group : List Block) (rows : List ℕ) → length group ≡ n → AreWide n (map (row_in group) rows)
 group_wide n group [] count = tt
-group_wide n group (i ∷ places) count = (length-map group (λ b. get_or (values_of b) i Null) ∙ count, group_wide n group places count)
+group_wide n group (i ∷ rows) count = (length-map group (λ b. get_or (values_of b) i Null) ∙ count, group_wide n group rows count)
 
 wide_both : (n : ℕ) (rows others : List Row) → AreWide n rows → AreWide n others → AreWide n (rows ++ others)
 wide_both n [] others a b = b
@@ -101,7 +101,7 @@ groups_wide columns (n ∷ sizes) (g ∷ groups) are =
 
 -- ---- columns
 
--- equal columns have equal values at each place
+-- equal columns have equal values in each row
 values_from : (groups : List (List Block)) (rows : List Row) (i : ℕ) (declared : List Column)
     → map (column_in groups) (zip (range_with_len i (length declared)) declared) ≡ map (column_of rows) (enumerate_from i declared)
     → (j : ℕ) → j < length declared → column_values (i + j) groups ≡ map (λ r. column r (i + j)) rows

@@ -12,21 +12,21 @@ use Rattle.meaning_laws.specs.Laws.{own_answers}
 use Rattle.meaning_laws.proofs.Cuts.{sum_cons, sum_to_next}
 
 -- a front has no more rows than all
-pub sum_to_place : (cut : Cut) (k : ℕ) → sum (take k cut) ≤ sum cut
-sum_to_place [] zero = omega arith
-sum_to_place [] (suc k) = omega arith
-sum_to_place (n ∷ ns) zero = omega arith
-sum_to_place (n ∷ ns) (suc k) =
+pub sum_to_fragment : (cut : Cut) (k : ℕ) → sum (take k cut) ≤ sum cut
+sum_to_fragment [] zero = omega arith
+sum_to_fragment [] (suc k) = omega arith
+sum_to_fragment (n ∷ ns) zero = omega arith
+sum_to_fragment (n ∷ ns) (suc k) =
     let here = sum_cons n (take k ns) in
     let there = sum_cons n ns in
-    let rest = sum_to_place ns k in
+    let rest = sum_to_fragment ns k in
     grind (arith, here, there, rest)
 
 -- the fragment's rows are there
 pub room : (cut : Cut) (k : ℕ) (rows : List Row) → k < length cut → length rows ≡ sum cut → slice_index cut k ≤ length (drop (first_row cut k) rows)
 room cut k rows below whole =
     let next = sum_to_next cut k below in
-    let most = sum_to_place cut (suc k) in
+    let most = sum_to_fragment cut (suc k) in
     let left = length-drop (first_row cut k) rows in
     grind (arith, next, most, left, whole)
 

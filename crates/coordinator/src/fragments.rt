@@ -16,11 +16,12 @@ ghost use Rattle.coordinator.specs.Whole.{HoldsOwnAnswers};
 
 use crate::fault::WholeFault;
 use crate::sources::Sources;
-use crate::table_files::{LOAD, Rows, file_of, lend_files};
+use crate::table_files::{LOAD, Rows, file_of};
 use crate::tables::Tables;
 use columns::Column;
 use fragment_file::Slice;
 use gathering::Gather;
+use job_files::lend_files;
 use meaning::{Cut, Plan, Sequence, Table};
 use partial_codec::{Job, encode};
 use std::alloc::{AllocError, Global};

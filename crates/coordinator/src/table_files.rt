@@ -14,7 +14,7 @@ use crate::csvs::csv_of;
 use crate::fault::WholeFault;
 use columns::Column;
 use fragment_file::{Header, Slice, write};
-use loader::load_dimension;
+use loader::{dimension_named, load_dimension};
 use meaning::{Catalog, Dimension, Join, Sequence, Table};
 use std::alloc::{AllocError, Global};
 use std::mem::drop;
@@ -92,13 +92,6 @@ fn dimension_file(
     Ok(Sequence::from_vec(file?))
 }
 
-fn dimension_named<'a>(catalog: &'a Catalog, name: &str) -> Option<&'a Dimension>
-    ensures { option_copied result ≡ dimension_named catalog.now name.now }
-{
-    let dims = catalog.dims.as_slice();
-    dims.iter().find(|d| d.table.name.as_str() == name)
-}
-
 /// The file of a join's dimension, from its CSV file.
 fn joined_file<'a>(
     alloc: Global,
@@ -138,15 +131,4 @@ pub fn joined_files<'a>(
         files.push(joined_file(alloc, catalog, csvs, join)?)?;
     }
     Ok(files)
-}
-
-/// The bytes of files, lent.
-pub fn lend_files<'a>(alloc: Global, files: &'a [Sequence<u8>]) -> Result<Vec<&'a [u8]>, AllocError>
-    ensures { IfOk result (λ lent. map (λ file. file.now) lent.items ≡ files.now) }
-{
-    let mut lent = Vec::new(alloc);
-    for file in files {
-        lent.push(file.as_slice())?;
-    }
-    Ok(lent)
 }

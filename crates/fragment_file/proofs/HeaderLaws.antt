@@ -18,7 +18,8 @@ use Rattle.fragment_file.specs.declared.fault.FileFault.{FileFault}
 use Rattle.fragment_file.specs.declared.fault.FileFault.TheVariants as refusal
 use Rattle.fragment_file.specs.declared.header.Header.{Header}
 use Rattle.wire.specs.Reading.{◌>>=◌, Read, same_bytes, bytes_at, number_at}
-use Rattle.fragment_file.specs.Fragment.{IsHeader, name_bytes, type_code, column_bytes, header_bytes}
+use Rattle.meaning.specs.TypeCodes.{type_code}
+use Rattle.fragment_file.specs.Fragment.{IsHeader, name_bytes, column_bytes, header_bytes}
 use Rattle.wire.specs.Bytes.{number_bytes}
 use Rattle.fragment_file.specs.FragmentReading.{within, formed, name_at, type_of, flag_of, is_named, column_at, columns_at, header_at}
 use Rattle.wire.proofs.Numbers.{bind_ok, test_passed, ok_is, IsBytes, Takes, Takes-then, bytes_take, bytes_again, number_takes, number_again}

@@ -13,6 +13,7 @@ use Rattle.meaning.specs.declared.catalog.Table.{Table}
 use Rattle.meaning.specs.Catalog.{IsName}
 use Rattle.meaning.specs.Limits.{max_columns, max_rows, row_group_rows}
 use Rattle.meaning.specs.Typing.{is_of_type}
+use Rattle.meaning.specs.TypeCodes.{type_code}
 use Rattle.columns.specs.Column.{ColumnSpec}
 use Rattle.encodings.specs.declared.kind.Kind.TheVariants as kind
 use Rattle.encodings.specs.Block.{Block, is_block, values_of}
@@ -103,10 +104,6 @@ AreTypedColumns f = (j : ℕ) (c : Column) → slice_get f.header.columns j ≡ 
 
 unfoldable pub name_bytes : List ℕ → List ℕ
 name_bytes name = number_bytes 2 (length name) ++ name
-
-abbrev pub type_code : ColType → ℕ
-type_code of_type.Int = 1
-type_code of_type.Text = 2
 
 unfoldable pub column_bytes : Column → List ℕ
 column_bytes c = name_bytes c.name ++ number_bytes 1 (type_code c.col_type) ++ number_bytes 1 (if c.nullable then 1 else 0)

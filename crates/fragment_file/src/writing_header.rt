@@ -2,22 +2,14 @@
 ghost use Rattle.std.specs.Prelude.{◌≡◌, ◌++◌, ◌≤◌, length, All, flat_map, OnOk};
 ghost use Rattle.meaning.specs.Catalog.{IsName};
 ghost use Rattle.meaning.specs.Limits.{max_name_bytes};
-ghost use Rattle.fragment_file.specs.Fragment.{IsHeader, column_bytes, fragment_magic, header_bytes, name_bytes, type_code};
+ghost use Rattle.meaning.specs.TypeCodes.{type_code};
+ghost use Rattle.fragment_file.specs.Fragment.{IsHeader, column_bytes, fragment_magic, header_bytes, name_bytes};
 
 use crate::header::Header;
 use crate::opening::FRAGMENT_MAGIC;
-use meaning::{ColType, Column, Text};
+use meaning::{Column, Text, type_code};
 use std::alloc::AllocError;
 use wire::{append_u8, append_u16, append_u32, append_u64};
-
-fn type_byte(col_type: ColType) -> u8
-    ensures { result ≡ type_code col_type }
-{
-    match col_type {
-        ColType::Int => 1,
-        ColType::Text => 2,
-    }
-}
 
 #[tactic(auto, unfolding(crate::specs::Fragment::name_bytes))]
 fn append_name(out: &mut Vec<u8>, name: &Text) -> Result<(), AllocError>
@@ -35,7 +27,7 @@ fn append_column(out: &mut Vec<u8>, column: &Column) -> Result<(), AllocError>
     ensures { OnOk result (out.new.items ≡ out.old.items ++ column_bytes column.now) }
 {
     append_name(out, &column.name)?;
-    append_u8(out, type_byte(column.col_type))?;
+    append_u8(out, type_code(column.col_type))?;
     if column.nullable {
         return append_u8(out, 1);
     }

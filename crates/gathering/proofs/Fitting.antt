@@ -21,7 +21,7 @@ module _ (plan : Plan) (cut : Cut) where
       let later : n + suc k ≡ (n + 1) + k = omega arith in
       both _ _ (first_of _ _ e) (set_from (n + 1) cells k c (subst (λ (j : ℕ). is_fitting plan cut j c ≡ true) later here) (second_of _ _ e))
 
-  -- a fitting cell may take any place
+  -- a fitting cell may stand for any fragment
   pub AreFitting-set : (cells : List Cell) (k : ℕ) (c : Cell) → is_fitting plan cut k c ≡ true → AreFitting plan cut cells → AreFitting plan cut (slice_set cells k c)
   AreFitting-set cells k c here before =
       let same : k ≡ 0 + k = omega arith in
@@ -45,15 +45,15 @@ module _ (plan : Plan) (cut : Cut) where
   is_fitting-join k Conflict (One b) p q = refl
   is_fitting-join k Conflict Conflict p q = refl
 
-  at_place : (n : ℕ) (cells : List Cell) (k : ℕ) (d : Cell) → k < length cells → list_all (λ p. is_fitting plan cut p.0 p.1) (enumerate_from n cells) ≡ true → is_fitting plan cut (n + k) (slice_index_or cells k d) ≡ true
-  at_place n [] k d below e = absurd (omega arith)
-  at_place n (c ∷ cells) zero d below e = subst (λ (j : ℕ). is_fitting plan cut j c ≡ true) (sym (add-zero n)) (first_of _ _ e)
-  at_place n (c ∷ cells) (suc k) d below e =
+  at_fragment : (n : ℕ) (cells : List Cell) (k : ℕ) (d : Cell) → k < length cells → list_all (λ p. is_fitting plan cut p.0 p.1) (enumerate_from n cells) ≡ true → is_fitting plan cut (n + k) (slice_index_or cells k d) ≡ true
+  at_fragment n [] k d below e = absurd (omega arith)
+  at_fragment n (c ∷ cells) zero d below e = subst (λ (j : ℕ). is_fitting plan cut j c ≡ true) (sym (add-zero n)) (first_of _ _ e)
+  at_fragment n (c ∷ cells) (suc k) d below e =
       let later : (n + 1) + k ≡ n + suc k = omega arith in
-      subst (λ (j : ℕ). is_fitting plan cut j (slice_index_or cells k d) ≡ true) later (at_place (n + 1) cells k d (omega arith) (second_of _ _ e))
+      subst (λ (j : ℕ). is_fitting plan cut j (slice_index_or cells k d) ≡ true) later (at_fragment (n + 1) cells k d (omega arith) (second_of _ _ e))
 
-  -- each cell is fitting at its place
+  -- each cell fits its fragment
   pub AreFitting-at : (cells : List Cell) (k : ℕ) (d : Cell) → k < length cells → AreFitting plan cut cells → is_fitting plan cut k (slice_index_or cells k d) ≡ true
   AreFitting-at cells k d below fitting =
       let same : 0 + k ≡ k = omega arith in
-      subst (λ (j : ℕ). is_fitting plan cut j (slice_index_or cells k d) ≡ true) same (at_place 0 cells k d below fitting.each)
+      subst (λ (j : ℕ). is_fitting plan cut j (slice_index_or cells k d) ≡ true) same (at_fragment 0 cells k d below fitting.each)

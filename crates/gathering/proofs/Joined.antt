@@ -95,7 +95,7 @@ module _ (plan : Plan) (cut : Cut) where
       let later : n + suc k ≡ (n + 1) + k = omega arith in
       subst (λ (j : ℕ). is_fitting plan cut j (get_or cells k Nothing) ≡ true) later (at (suc k) (omega (arith, below)))))
 
-  -- cells of which each is fitting at its place
+  -- cells of which each fits its fragment
   pub AreFitting-from : (cells : List Cell) → ((k : ℕ) → k < length cells → is_fitting plan cut k (get_or cells k Nothing) ≡ true) → AreFitting plan cut cells
   AreFitting-from cells at = record {
     each = all_from 0 cells (λ k below.

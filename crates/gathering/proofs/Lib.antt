@@ -2,7 +2,7 @@
 pub mod Fitting
 pub mod Faults
 pub mod Held
-pub mod Places
+pub mod ListedFragments
 pub mod Joined
 pub mod StateFiles
 pub mod Merging

@@ -218,17 +218,17 @@ combined-groups plan cells none =
 
 -- ---- keys
 
-all_placed : (P : Row → Type 0) (x : Row) (ys : List Row) → P x → AllByRecursion P ys → AllByRecursion P (inserted_once row_cmp x ys)
-all_placed P x [] here rest = (here, tt)
-all_placed P x (y ∷ ys) here rest = elim (row_cmp x y) as (λ o. AllByRecursion P (match_ordering o (x ∷ y ∷ ys) (y ∷ ys) (y ∷ inserted_once row_cmp x ys))) [
+all_inserted : (P : Row → Type 0) (x : Row) (ys : List Row) → P x → AllByRecursion P ys → AllByRecursion P (inserted_once row_cmp x ys)
+all_inserted P x [] here rest = (here, tt)
+all_inserted P x (y ∷ ys) here rest = elim (row_cmp x y) as (λ o. AllByRecursion P (match_ordering o (x ∷ y ∷ ys) (y ∷ ys) (y ∷ inserted_once row_cmp x ys))) [
   | Less ↦ (here, rest)
   | Equal ↦ rest
-  | Greater ↦ (rest.0, all_placed P x ys here rest.1)
+  | Greater ↦ (rest.0, all_inserted P x ys here rest.1)
 ]
 
 pub all_in_set : (P : Row → Type 0) (xs : List Row) → AllByRecursion P xs → AllByRecursion P (ascending_set row_cmp xs)
 all_in_set P [] all = tt
-all_in_set P (x ∷ xs) all = all_placed P x (ascending_set row_cmp xs) all.0 (all_in_set P xs all.1)
+all_in_set P (x ∷ xs) all = all_inserted P x (ascending_set row_cmp xs) all.0 (all_in_set P xs all.1)
 
 merged_key : (plan : Plan) (key : Row) (gs : List Group) → (merged plan key gs).key ≡ key
 merged_key plan key [] = refl

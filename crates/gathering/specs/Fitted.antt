@@ -18,6 +18,6 @@ is_fitting plan cut k Nothing = true
 is_fitting plan cut k (One b) = is_fitting_body plan cut k b
 is_fitting plan cut k Conflict = true
 
--- each cell is fitting at its place
+-- each cell fits its fragment
 pub record AreFitting (plan : Plan) (cut : Cut) (cells : List Cell) : Type 0 where
   pub each : list_all (λ p. is_fitting plan cut p.0 p.1) (enumerate_from 0 cells) ≡ true

@@ -1,9 +1,9 @@
-//! Copies of answers and their parts.
-// Copies of what a coordinator holds.
+//! Copies of what a coordinator holds.
 ghost use Rattle.std.specs.Prelude.{◌≡◌, IfOk};
 
 use accumulators::{Group, State};
-use meaning::{Body, Row, Sequence, Value};
+use last_step::copy_row;
+use meaning::{Body, Sequence};
 use std::alloc::{AllocError, Global};
 use std::mem::drop;
 
@@ -17,21 +17,11 @@ fn copy_states(alloc: Global, states: &[State]) -> Result<Sequence<State>, Alloc
     Ok(copy)
 }
 
-fn copy_row(alloc: Global, row: &[Value]) -> Result<Row, AllocError>
-    ensures { IfOk result (λ copy. copy ≡ row.now) }
-{
-    let mut copy = Sequence::new(alloc);
-    for value in row {
-        copy.push(value.clone()?)?;
-    }
-    Ok(copy)
-}
-
 fn copy_group(alloc: Global, group: &Group) -> Result<Group, AllocError>
     ensures { IfOk result (λ copy. copy ≡ group.now) }
 {
     let states = copy_states(alloc, group.states())?;
-    match copy_row(alloc, group.key().as_slice()) {
+    match copy_row(alloc, group.key()) {
         Ok(key) => Ok(Group::new(key, group.rows(), states)),
         Err(e) => {
             drop(states);

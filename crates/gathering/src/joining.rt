@@ -1,5 +1,4 @@
 //! Joins the cells of two coordinators.
-// What another coordinator's cells add to one's own.
 ghost use Rattle.std.specs.Prelude.{◌≡◌, ◌<◌, length, slice_set, slice_index_or, IfOk};
 ghost use Rattle.meaning.specs.declared.answer.Cell.TheVariants.{Nothing, One};
 ghost use Rattle.meaning.specs.Gather.{join_cells, same_body};
@@ -91,7 +90,7 @@ fn joined(own: Cell<Group>, other: Cell<Group>) -> Cell<Group>
     }
 }
 
-/// Joins the cell at a place with its delta.
+/// Joins a fragment's cell with its delta.
 fn join_at(cells: &mut Vec<Cell<Group>>, k: usize, delta: Cell<Group>)
     requires { k < length cells.old.items }
     ensures { cells.new.items

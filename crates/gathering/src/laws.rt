@@ -1,6 +1,5 @@
-//! Laws of coordinators, each the contract of an empty function.
-// What coordinators side by side can rely on. A body does nothing: the clause is a theorem on the
-// definitions.
+//! Laws of coordinators side by side, each the contract of an empty function: a theorem on the
+//! definitions.
 ghost use Rattle.gathering.specs.Laws.{AnswersDecide, StatesJoin};
 
 /// The same answers, in any order and however often, make equal states, equal bytes and equal

@@ -1,5 +1,4 @@
-//! Compares two jobs.
-// Whether two coordinators' jobs are one.
+//! Whether two coordinators' jobs are one.
 ghost use Rattle.std.specs.Prelude.{◌≡◌, ◌↔◌, IsTrue};
 
 use partial_codec::Job;

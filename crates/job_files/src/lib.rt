@@ -6,6 +6,7 @@ mod dim_filter;
 mod dimensions;
 mod fault;
 mod inputs;
+mod lending;
 mod refusals;
 mod text_test;
 
@@ -13,3 +14,4 @@ pub use dim_filter::{DimFilter, FilteredTables, filter_dimensions};
 pub use dimensions::Dimension;
 pub use fault::WorkFault;
 pub use inputs::{Input, open_input};
+pub use lending::lend_files;

@@ -1,7 +1,6 @@
 //! Files that a job doesn't name.
 ghost use Rattle.std.specs.Prelude.{◌≡◌, ◌<◌, ◌==◌, length, slice_get, IfOk};
 ghost use Rattle.fragment_file.specs.Fragment.{AreTypedColumns, IsFragment};
-ghost use Rattle.meaning.specs.Cut.{IsCut, first_row as row_before};
 ghost use Rattle.meaning.specs.Typing.{same_type};
 ghost use Rattle.meaning.specs.Wanting.{GivesIfMemory};
 ghost use Rattle.wire.specs.Reading.{same_bytes};
@@ -11,22 +10,9 @@ ghost use Rattle.job_files.specs.Inputs.{fragment_file_of, table_file_of};
 use crate::fault::WorkFault;
 use fragment_file::{FragmentView, Header, open};
 use meaning::{ColType, Column, ColumnUse, TableUse, Text};
-use partial_codec::Job;
+use partial_codec::{Job, first_row};
 use std::alloc::Global;
 use std::mem::drop;
-
-/// The number of the first row of fragment `k`.
-pub fn first_row(lengths: &[u32], k: usize) -> u64
-    requires within { k < length lengths.now }
-    requires cut { IsCut lengths.now }
-    ensures { result ≡ row_before lengths.now k }
-{
-    let mut first: u64 = 0;
-    for i in 0..k {
-        first += u64::from(lengths[i]);
-    }
-    first
-}
 
 fn are_same(a: &Text, b: &Text) -> bool
     ensures { result ≡ same_bytes a.now b.now }

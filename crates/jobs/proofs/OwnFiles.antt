@@ -14,7 +14,7 @@ use Rattle.meaning.specs.Said.{Cell}
 use Rattle.meaning.specs.declared.answer.Cell.TheVariants.{Nothing, One, Conflict}
 use Rattle.meaning.specs.declared.plan.Plan.{Plan}
 use Rattle.meaning_laws.proofs.Cuts.{part-all}
-use Rattle.meaning_laws.proofs.Headline.{report-own, first_calm}
+use Rattle.meaning_laws.proofs.HeadlineLaw.{report-own, first_calm}
 use Rattle.jobs.specs.Gathering.{Taking, answer, cell_among, cell_in, gathered}
 use Rattle.jobs.proofs.SameFiles.{said_already}
 

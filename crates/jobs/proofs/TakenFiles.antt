@@ -11,14 +11,14 @@ use Rattle.meaning.specs.Said.{Cell}
 use Rattle.meaning.specs.declared.answer.Cell.TheVariants.{Nothing, One}
 use Rattle.partial_codec.specs.Fault.{number_of}
 use Rattle.partial_codec.specs.Job.{JobSpec}
-use Rattle.partial_codec.specs.State.{SpellsState}
+use Rattle.partial_codec.specs.State.{SpellsState, is_state}
 use Rattle.partial_codec.specs.declared.fault.DecodeFault.{DecodeFault}
 use Rattle.gathering.specs.Gathering.{GatherSpec, Joins, Takes, join_states}
 use Rattle.gathering.specs.declared.gather.Absorbed.{Absorbed}
 use Rattle.gathering.proofs.Held.{below_cut}
 use Rattle.folders.specs.Folder.{Holds}
 use Rattle.jobs.specs.PassedOver.{passed_over_line}
-use Rattle.jobs.specs.Gathering.{IsTaken, IsTaking, Taken, answer, gathered, is_state, line_of, obstacle_of, passed, state, takings_of}
+use Rattle.jobs.specs.Gathering.{IsTaken, IsTaking, Taken, answer, gathered, line_of, obstacle_of, passed, state, takings_of}
 use Rattle.jobs.specs.Taking.{TakesBytes, TakesFile, TakesOrNames, TookFiles}
 use Rattle.jobs.proofs.Together.{answer_more, passed_more, state_more}
 

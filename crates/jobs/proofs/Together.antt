@@ -26,7 +26,7 @@ gathered_length cut ts = length-map-range_with_len (λ k. cell_among k ts) 0 (le
 pub cell_gathered : (cut : Cut) (ts : List Taking) (k : ℕ) → k < length cut → get_or (gathered cut ts) k Nothing ≡ cell_among k ts
 cell_gathered cut ts k below = get_or-map-range_with_len (λ k. cell_among k ts) 0 (length cut) k k Nothing below (omega arith)
 
--- cells that are so at each place are what the files say
+-- cells that are so for each fragment are what the files say
 pub gathered_from : (cut : Cut) (cells : List Cell) (ts : List Taking) → length cells ≡ length cut → ((k : ℕ) → k < length cut → get_or cells k Nothing ≡ cell_among k ts) → cells ≡ gathered cut ts
 gathered_from cut cells ts long each =
     ext_get_or Nothing cells (gathered cut ts) (long ∙ sym (gathered_length cut ts)) (λ k below.

@@ -1,6 +1,6 @@
 -- What becomes of files of answers and states, and what they say together.
-use Rattle.std.specs.Prelude.{◌≡◌, ◌⊎◌, ℕ, ◌==◌, nat_eq, Bool, true, false, if◌then◌else◌, List, [], ◌∷◌, map, flat_map, length, codes, slice_index_or, All, Contains, Option, Some, None}
-use Rattle.std.specs.List.{range_with_len, starts_with}
+use Rattle.std.specs.Prelude.{◌≡◌, ◌⊎◌, ℕ, ◌==◌, true, false, if◌then◌else◌, List, [], ◌∷◌, map, flat_map, length, slice_index_or, All, Contains, Option, Some, None}
+use Rattle.std.specs.List.{range_with_len}
 use Rattle.std.specs.Io.KnownBytes.{Appends}
 use Rattle.meaning.specs.Cut.{Cut}
 use Rattle.meaning.specs.Gather.{join_cells, report}
@@ -11,7 +11,7 @@ use Rattle.meaning.specs.declared.answer.Cell.TheVariants.{Nothing, One}
 use Rattle.partial_codec.specs.Answer.{Spells, obstacle}
 use Rattle.partial_codec.specs.Fault.{number_of}
 use Rattle.partial_codec.specs.Job.{JobSpec}
-use Rattle.partial_codec.specs.State.{SpellsState, state_bytes, state_obstacle}
+use Rattle.partial_codec.specs.State.{SpellsState, is_state, state_bytes, state_obstacle}
 use Rattle.partial_codec.specs.declared.fault.DecodeFault.{DecodeFault}
 use Rattle.gathering.specs.Gathering.{GatherSpec}
 use Rattle.gathering.specs.Report.{summary}
@@ -31,10 +31,6 @@ pub data Taking : Type 0 where
   answer : Answer → Taking
   state : List Cell → Taking
   passed : DecodeFault → Taking
-
--- bytes that begin with `XGS1` are a state's
-abbrev pub is_state : List ℕ → Bool
-is_state bytes = starts_with nat_eq bytes (codes "XGS1")
 
 -- the first obstacle to the bytes' being a state, where they begin as one, or else an answer
 abbrev pub obstacle_of : JobSpec → List ℕ → Option DecodeFault

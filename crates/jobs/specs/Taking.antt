@@ -6,6 +6,8 @@ use Rattle.gathering.specs.Gathering.{GatherSpec}
 use Rattle.gathering.specs.declared.fault.GatherFault.{GatherFault}
 use Rattle.gathering.specs.declared.fault.GatherFault.TheVariants as fault
 use Rattle.folders.specs.Folder.{AreHeld, Holds}
+use Rattle.jobs.specs.declared.takes_answers.TakeFault.{TakeFault}
+use Rattle.jobs.specs.declared.takes_answers.TakeFault.TheVariants as take
 use Rattle.jobs.specs.Gathering.{AreTaken, Taken, Taking, IsTaking, gathered, line_of_taking, obstacle_of, takings_of}
 
 -- what files say together becomes what they say with this one
@@ -26,6 +28,11 @@ IsFailure job bytes fault.Memory = ⊤
 IsFailure job bytes (fault.Decode e) = obstacle_of job bytes ≡ Some e
 IsFailure job bytes fault.OtherJob = ⊥
 IsFailure job bytes fault.Writer = ⊥
+
+-- the same, as it is returned
+abbrev pub IsRefused : JobSpec → List ℕ → TakeFault → Type 0
+IsRefused job bytes take.Memory = ⊤
+IsRefused job bytes (take.Refused e) = obstacle_of job bytes ≡ Some e
 
 -- bytes were taken, or their path was named
 pub record TakesOrNames (old new : GatherSpec) (path bytes : List ℕ) (err_before err_after : Option (List ℕ)) : Type 0 where

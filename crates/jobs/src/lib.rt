@@ -2,15 +2,17 @@
 //! into.
 #![tactic(auto)]
 
-mod gathering;
+mod gather_command;
 mod job;
 mod laws;
 mod passed_over;
 mod saving;
+mod takes_answers;
 mod taking;
 mod working;
 
-pub use gathering::gather_answers;
+pub use gather_command::gather_answers;
 pub use job::plan_of;
 pub use laws::{answers_are_joined, own_answers_mean};
+pub use takes_answers::{TakeFault, TakesAnswers};
 pub use working::answer_fragment;

@@ -1,5 +1,5 @@
 //! A fragment's answer, from the folder's files to the answer's.
-ghost use Rattle.std.specs.Prelude.{◌≡◌, ◌⊎◌, IfErr, IfOk, OnOk, Ok, map};
+ghost use Rattle.std.specs.Prelude.{◌≡◌, ◌⊎◌, IfErr, IfOk, OnOk, Ok};
 ghost use Rattle.meaning.specs.SoundPlan.{IsSoundPlan};
 ghost use Rattle.meaning.specs.Said.{Answer as AnAnswer};
 ghost use Rattle.folders.specs.Folder.{AreHeld, dimension_path, fragment_path};
@@ -12,9 +12,10 @@ ghost use Rattle.jobs.specs.Working.{AreDimensionsUnread, IsAnswer, IsAnswerRefu
 use crate::job::read_job;
 use command_line::WorkCommand;
 use folders::{Folder, Refusal, dimension_path, fragment_path, read_file, write_file};
-use meaning::Join;
+use job_files::lend_files;
+use meaning::{Join, Sequence};
 use partial_codec::{Job, encode};
-use std::alloc::{AllocError, Global};
+use std::alloc::Global;
 use std::mem::drop;
 use worker::work;
 
@@ -39,13 +40,13 @@ fn read_dimension<F: Folder>(
     folder: &F,
     directory: &str,
     join: &Join,
-) -> Result<Vec<u8>, Refusal>
+) -> Result<Sequence<u8>, Refusal>
     ensures held { IfOk result
-        (λ bytes. IsDimensionOf (F.holds folder.now) directory.now join.now bytes.items) }
+        (λ bytes. IsDimensionOf (F.holds folder.now) directory.now join.now bytes) }
     ensures refused { IfErr result (IsUnread (dimension_path directory.now join.now.dim.name)) }
 {
     let path = dimension_path(alloc, directory, join.dim.name.as_str())?;
-    read_file(alloc, folder, &path)
+    Ok(Sequence::from_vec(read_file(alloc, folder, &path)?))
 }
 
 /// The files of the dimensions that are joined, in the order of the joins.
@@ -54,10 +55,9 @@ fn read_dimensions<F: Folder>(
     folder: &F,
     directory: &str,
     joins: &[Join],
-) -> Result<Vec<Vec<u8>>, Refusal>
+) -> Result<Vec<Sequence<u8>>, Refusal>
     ensures held { IfOk result
-        (λ dims. AreEach (IsDimensionOf (F.holds folder.now) directory.now) joins.now
-        (map (λ bytes. bytes.items) dims.items)) }
+        (λ dims. AreEach (IsDimensionOf (F.holds folder.now) directory.now) joins.now dims.items) }
     ensures refused { IfErr result (AreDimensionsUnread directory.now joins.now) }
 {
     let mut dims = Vec::new(alloc);
@@ -67,32 +67,19 @@ fn read_dimensions<F: Folder>(
     Ok(dims)
 }
 
-fn lend_files<'a>(alloc: Global, files: &'a [Vec<u8>]) -> Result<Vec<&'a [u8]>, AllocError>
-    ensures { IfOk result (λ lent. map (λ file. file.now) lent.items
-        ≡ map (λ bytes. bytes.items) files.now) }
-{
-    let mut lent = Vec::new(alloc);
-    for file in files {
-        lent.push(file.as_slice())?;
-    }
-    Ok(lent)
-}
-
 /// What the worker answers for the files, as bytes.
 fn answer_files(
     alloc: Global,
     job: &Job,
     fragment: &[u8],
-    dims: &[Vec<u8>],
+    dims: &[Sequence<u8>],
     k: u32,
     vector: u32,
 ) -> Result<Vec<u8>, Refusal>
     requires { IsSoundPlan job.now.plan }
     ensures spelled { IfOk result
-        (λ bytes. IsFileAnswer job.now k vector fragment.now (map (λ file. file.items) dims.now)
-        bytes.items) }
-    ensures refused { IfErr result
-        (IsFileRefused job.now k vector fragment.now (map (λ file. file.items) dims.now)) }
+        (λ bytes. IsFileAnswer job.now k vector fragment.now dims.now bytes.items) }
+    ensures refused { IfErr result (IsFileRefused job.now k vector fragment.now dims.now) }
 {
     let lent = lend_files(alloc, dims)?;
     match work(alloc, job, fragment, lent.as_slice(), k, vector as usize) {

@@ -20,3 +20,4 @@ pub use finished::Finished;
 pub use finishing::finish;
 pub use print_fault::PrintFault;
 pub use printing::print_rows;
+pub use showing::copy_row;

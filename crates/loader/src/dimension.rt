@@ -32,7 +32,8 @@ pub fn load_dimension<R: Read + Drop>(
     columns
 }
 
-fn dimension_named<'a>(catalog: &'a Catalog, name: &str) -> Option<&'a Dimension>
+/// The dimension of a name.
+pub fn dimension_named<'a>(catalog: &'a Catalog, name: &str) -> Option<&'a Dimension>
     ensures { option_copied result ≡ dimension_named catalog.now name.now }
 {
     let dims = catalog.dims.as_slice();

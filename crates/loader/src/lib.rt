@@ -19,6 +19,6 @@ mod source;
 mod table;
 
 pub use counting::count_rows;
-pub use dimension::{has_dim, load_dim, load_dimension};
+pub use dimension::{dimension_named, has_dim, load_dim, load_dimension};
 pub use fact::{FactReader, load_fact, open_fact};
 pub use fault::LoadFault;

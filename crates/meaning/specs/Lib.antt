@@ -30,3 +30,4 @@ pub mod Records
 pub mod ExpressionLaws
 pub mod TableLaws
 pub mod SoundPlan
+pub mod TypeCodes

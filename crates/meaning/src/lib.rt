@@ -15,7 +15,7 @@ mod joined_row;
 mod limits;
 mod name;
 mod outcome;
-mod plan;
+pub mod plan;
 mod reserved;
 mod sequence;
 mod table;
@@ -40,4 +40,4 @@ pub use plan::{
 pub use sequence::Sequence;
 pub use table::TableFault;
 pub use text::{Text, text_of};
-pub use value::{ColType, Row, Value, ValueRef, compare_lent};
+pub use value::{ColType, Row, Value, ValueRef, compare_lent, type_code};

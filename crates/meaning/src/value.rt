@@ -3,6 +3,7 @@
 ghost use Rattle.std.specs.Prelude.{◌≡◌, ℕ, List, true, IfOk};
 ghost use Rattle.std.specs.Str.{is_utf8};
 ghost use Rattle.meaning.specs.Order.{value_cmp, value_in};
+ghost use Rattle.meaning.specs.TypeCodes.{type_code};
 ghost use Rattle.meaning.specs.declared.value.Value.TheVariants as of_value;
 
 use crate::sequence::Sequence;
@@ -15,6 +16,16 @@ use std::cmp::Ordering;
 pub enum ColType {
     Int,
     Text,
+}
+
+/// The byte by which files and answers encode a column's type.
+pub fn type_code(col_type: ColType) -> u8
+    ensures { result ≡ type_code col_type }
+{
+    match col_type {
+        ColType::Int => 1,
+        ColType::Text => 2,
+    }
 }
 
 /// What stands in one column of one row. The order is the whole order: NULL, integers by number,

@@ -2,7 +2,7 @@
 pub mod Combine
 pub mod Cells
 pub mod Cuts
-pub mod Headline
+pub mod HeadlineLaw
 pub mod Joins
 pub mod Schedules
 pub mod Absorb

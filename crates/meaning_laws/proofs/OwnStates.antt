@@ -17,7 +17,7 @@ use Rattle.meaning.specs.Gather.{join_cells, cell_of, said_of, joined, body_in, 
 use Rattle.meaning_laws.specs.Laws.{among, own_answers}
 use Rattle.meaning_laws.proofs.Cells.{join_cells_same, cell_of-cons}
 use Rattle.meaning_laws.proofs.Combine.{output_of-combined}
-use Rattle.meaning_laws.proofs.Headline.{report-own}
+use Rattle.meaning_laws.proofs.HeadlineLaw.{report-own}
 use Rattle.meaning_laws.proofs.Cuts.{part-all}
 
 module _ (plan : Plan) (dims : List (List Row)) (cut : Cut) (rows : List Row) where

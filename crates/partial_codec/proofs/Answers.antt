@@ -25,7 +25,8 @@ use Rattle.partial_codec.specs.declared.fault.DecodeFault.TheVariants as refusal
 use Rattle.partial_codec.specs.declared.shape.AggregateShape.{AggregateShape}
 use Rattle.wire.specs.Reading.{◌>>=◌, bytes_at, same_bytes, sealed_end}
 use Rattle.partial_codec.specs.Job.{JobSpec, IsJob}
-use Rattle.partial_codec.specs.Shape.{Shape, shape_of, shape_of_aggregate, argument_of, argument_code, kind_code, type_code, is_same_type, is_same_aggregate, is_same_shape}
+use Rattle.meaning.specs.TypeCodes.{type_code}
+use Rattle.partial_codec.specs.Shape.{Shape, shape_of, shape_of_aggregate, argument_of, argument_code, kind_code, is_same_type, is_same_aggregate, is_same_shape}
 use Rattle.partial_codec.specs.Spelling.{Layout, layout_bytes, layout_of, answer_bytes}
 use Rattle.wire.specs.Bytes.{seal_of}
 use Rattle.partial_codec.specs.LayoutReading.{type_of, kind_of, argument_from, layout_at}

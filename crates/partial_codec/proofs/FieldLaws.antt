@@ -10,7 +10,8 @@ use Rattle.meaning.specs.Said.{Body}
 use Rattle.partial_codec.specs.declared.fault.DecodeFault.{DecodeFault}
 use Rattle.partial_codec.specs.declared.shape.AggregateShape.{AggregateShape}
 use Rattle.wire.specs.Reading.{◌>>=◌, number_at, text_at, repeat_at, behind_magic}
-use Rattle.partial_codec.specs.Shape.{Shape, type_code, argument_code, kind_code}
+use Rattle.meaning.specs.TypeCodes.{type_code}
+use Rattle.partial_codec.specs.Shape.{Shape, argument_code, kind_code}
 use Rattle.partial_codec.specs.Spelling.{Layout, job_bytes, aggregate_bytes, shape_bytes, body_bytes, answer_magic, layout_bytes}
 use Rattle.wire.specs.Bytes.{number_bytes, text_bytes, IsText}
 use Rattle.partial_codec.specs.LayoutReading.{JobFields, type_of, type_at, kind_of, argument_from, argument_at, aggregate_at, shape_at, job_at, body_at, layout_at, length_at}

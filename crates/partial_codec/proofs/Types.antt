@@ -8,7 +8,7 @@ use Rattle.meaning.specs.declared.value.Value.TheVariants.{Int, Text}
 use Rattle.meaning.specs.Limits.{max_text_bytes}
 use Rattle.meaning.specs.Operators.{fits_i64}
 use Rattle.meaning.specs.Typing.{is_of_type}
-use Rattle.partial_codec.specs.Shape.{type_code}
+use Rattle.meaning.specs.TypeCodes.{type_code}
 
 pub integer_type : (t : ColType) (n : ℤ) → fits_i64 n ≡ true → eqb (type_code t) 1 ≡ is_of_type t (Int n)
 integer_type of_type.Int n fits = rw fits refl

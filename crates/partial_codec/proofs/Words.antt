@@ -62,7 +62,7 @@ words_length (suc n) bytes = ap suc (words_length n (drop 4 bytes))
 pub other_count : (n : ℕ) (bytes lengths : List ℕ) → (n ≡ length lengths → ⊥) → same_bytes (words n bytes) lengths ≡ false
 other_count n bytes lengths other = pointwise_lengths nat_eq (words n bytes) lengths (λ e. other (sym (words_length n bytes) ∙ e))
 
--- what is left to compare at place i, of as many words as lengths
+-- what is left to compare from word i on, of as many words as lengths
 abbrev pub AreLeft : List ℕ → List ℕ → ℕ → List ℕ → Type 0
 AreLeft bytes lengths i rest =
     (length rest ≡ (length lengths - i) * 4) × (same_bytes (words (length lengths) bytes) lengths ≡ same_bytes (words (length lengths - i) rest) (drop i lengths))

@@ -2,11 +2,11 @@
 use Rattle.std.specs.Prelude.{ℕ, ◌==◌, Bool, ◌&&◌, List, map, Option, Some, None}
 use Rattle.std.specs.Cmp.Lexicographic.{pointwise}
 use Rattle.meaning.specs.declared.value.ColType.{ColType}
-use Rattle.meaning.specs.declared.value.ColType.TheVariants as of_type
 use Rattle.meaning.specs.declared.plan.AggregateKind.{AggregateKind}
 use Rattle.meaning.specs.declared.plan.AggregateKind.TheVariants.{CountRows, Count, Sum, Min, Max, Avg}
 use Rattle.meaning.specs.declared.plan.Aggregate.{Aggregate}
 use Rattle.meaning.specs.declared.plan.Plan.{Plan}
+use Rattle.meaning.specs.TypeCodes.{type_code}
 use Rattle.partial_codec.specs.declared.shape.AggregateShape.{AggregateShape}
 
 -- the type of each key; the kind and the argument's type of each aggregate
@@ -27,10 +27,6 @@ abbrev pub shape_of : Plan → Shape
 shape_of plan = record { keys = map (λ k. k.col_type) plan.keys; aggregates = map shape_of_aggregate plan.aggs }
 
 -- ---- codes
-
-abbrev pub type_code : ColType → ℕ
-type_code of_type.Int = 1
-type_code of_type.Text = 2
 
 -- 0 stands for no argument
 abbrev pub argument_code : Option ColType → ℕ

@@ -12,7 +12,8 @@ use Rattle.meaning.specs.declared.answer.Body.TheVariants.{Groups, Fault}
 use Rattle.meaning.specs.Said.{Answer}
 use Rattle.partial_codec.specs.declared.shape.AggregateShape.{AggregateShape}
 use Rattle.partial_codec.specs.Job.{JobSpec}
-use Rattle.partial_codec.specs.Shape.{Shape, shape_of, type_code, kind_code, argument_code}
+use Rattle.meaning.specs.TypeCodes.{type_code}
+use Rattle.partial_codec.specs.Shape.{Shape, shape_of, kind_code, argument_code}
 use Rattle.wire.specs.Bytes.{number_bytes, i64_bytes, i128_bytes, text_bytes, sealed}
 
 -- ---- values

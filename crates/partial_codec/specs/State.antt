@@ -1,6 +1,6 @@
 -- What a coordinator holds for a job as bytes: the spelling of its cells, how they are read, and what is wrong first with other bytes.
-use Rattle.std.specs.Prelude.{◌≡◌, ℕ, suc, ◌==◌, Bool, true, ◌&&◌, not, if◌then◌else◌, List, [], ◌∷◌, ◌++◌, length, get_or, slice_index, Option, Result, Ok, Err}
-use Rattle.std.specs.List.{flat_map, list_all}
+use Rattle.std.specs.Prelude.{◌≡◌, ℕ, suc, ◌==◌, nat_eq, Bool, true, ◌&&◌, not, if◌then◌else◌, List, [], ◌∷◌, ◌++◌, length, get_or, slice_index, Option, Result, Ok, Err}
+use Rattle.std.specs.List.{flat_map, list_all, starts_with}
 use Rattle.meaning.specs.Said.{Body}
 use Rattle.meaning.specs.Said.{Cell}
 use Rattle.meaning.specs.declared.answer.Cell.TheVariants.{Nothing, One, Conflict}
@@ -29,6 +29,10 @@ cell_bytes shape Conflict = number_bytes 1 2
 -- `XGS1`
 unfoldable pub state_magic : List ℕ
 state_magic = 88 ∷ 71 ∷ 83 ∷ 49 ∷ []
+
+-- bytes that begin so are a state's
+abbrev pub is_state : List ℕ → Bool
+is_state bytes = starts_with nat_eq bytes state_magic
 
 -- all of a state but its seal
 pub record StateLayout : Type 0 where

@@ -13,7 +13,7 @@ ghost use Rattle.meaning.specs.Order.{is_ascending, row_cmp, value_in};
 ghost use Rattle.meaning.specs.Typing as typing;
 ghost use Rattle.partial_codec.specs.Fields.{words};
 ghost use Rattle.partial_codec.specs.Keeping as keeping;
-ghost use Rattle.partial_codec.specs.Shape.{type_code};
+ghost use Rattle.meaning.specs.TypeCodes.{type_code};
 ghost use Rattle.wire.specs.Reading.{same_bytes};
 
 use crate::fields::JobFields;

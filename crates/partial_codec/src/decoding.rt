@@ -22,7 +22,7 @@ use std::mem::drop;
 use wire::{SEAL_BYTES, check_seal, take_bytes};
 
 /// The number of the first row of fragment `k`.
-fn first_row(lengths: &[u32], k: usize) -> u64
+pub fn first_row(lengths: &[u32], k: usize) -> u64
     requires within { k < length lengths.now }
     requires cut { IsCut lengths.now }
     ensures { result ≡ row_before lengths.now k }
@@ -50,9 +50,9 @@ fn are_numbers_of_fragment(job: &Job, k: u32, body: &Body<Group>) -> bool
         (slice_index job.now.cut k) body.now }
 {
     let lengths = job.cut().lengths();
-    let place = k as usize;
-    let rows = u64::from(lengths[place]);
-    are_numbers_possible(job.plan(), first_row(lengths, place), rows, body)
+    let k = k as usize;
+    let rows = u64::from(lengths[k]);
+    are_numbers_possible(job.plan(), first_row(lengths, k), rows, body)
 }
 
 /// The first thing in which the fields are not those of an answer for the job.

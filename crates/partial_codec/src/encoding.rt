@@ -4,18 +4,19 @@ ghost use Rattle.std.specs.List.{flat_map, AllByRecursion};
 ghost use Rattle.accumulators.specs.Values.{entry, or_null};
 ghost use Rattle.meaning.specs.declared.answer.Body.TheVariants.{Groups};
 ghost use Rattle.meaning.specs.Order.{value_in};
+ghost use Rattle.meaning.specs.TypeCodes.{type_code};
 ghost use Rattle.partial_codec.specs.Answer.{Fits};
 ghost use Rattle.partial_codec.specs.Ranges.{AreStates, IsBody, IsExtreme, IsGroup, IsState, IsValue};
 ghost use Rattle.partial_codec.specs.Shape as shapes;
 ghost use Rattle.partial_codec.specs.Spelling as spec;
 ghost use Rattle.wire.specs.Bytes.{number_bytes};
 
-use crate::fields::ANSWER_MAGIC;
+use crate::magics::ANSWER_MAGIC;
 use crate::job::Job;
-use crate::shape::{argument_code, kind_code, shape_of_aggregate, type_code};
+use crate::shape::{argument_code, kind_code, shape_of_aggregate};
 use crate::values::put_value;
 use accumulators::{Group, State};
-use meaning::{Aggregate, AggregateKind, Answer, Body, GroupingKey, Plan, Value};
+use meaning::{Aggregate, AggregateKind, Answer, Body, GroupingKey, Plan, Value, type_code};
 use std::alloc::{AllocError, Global};
 use wire::{append_i128, append_seal, append_text, append_u8, append_u16, append_u32, append_u64};
 
@@ -38,7 +39,7 @@ pub fn put_job(out: &mut Vec<u8>, load: u64, text: &str, lengths: &[u32]) -> Res
 
 fn put_types(out: &mut Vec<u8>, keys: &[GroupingKey]) -> Result<(), AllocError>
     ensures { OnOk result (out.new.items ≡ out.old.items
-        ++ flat_map (λ t. number_bytes 1 (shapes.type_code t)) (map (λ k. k.col_type) keys.now)) }
+        ++ flat_map (λ t. number_bytes 1 (type_code t)) (map (λ k. k.col_type) keys.now)) }
 {
     for key in keys {
         append_u8(out, type_code(key.col_type))?;

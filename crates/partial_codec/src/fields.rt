@@ -5,6 +5,7 @@ ghost use Rattle.meaning.specs.Wanting.{GivesIfMemory, KeepsIfMemory};
 ghost use Rattle.partial_codec.specs.LayoutReading as reading;
 ghost use Rattle.wire.specs.Reading.{Reads, repeat_at};
 
+use crate::magics::ANSWER_MAGIC;
 use crate::body::take_body;
 use crate::fault::DecodeFault;
 use crate::shape::{AggregateShape, Shape};
@@ -12,9 +13,6 @@ use accumulators::Group;
 use meaning::{AggregateKind, Body, ColType};
 use std::alloc::Global;
 use wire::{skip_magic, take_bytes, take_text, take_u8, take_u16, take_u32, take_u64};
-
-/// What an answer's bytes begin with.
-pub const ANSWER_MAGIC: [u8; 4] = *b"XGA1";
 
 /// The fields that report the job. The lengths of the cut's fragments stand in four bytes each.
 #[derive(Drop)]

@@ -4,7 +4,7 @@ ghost use Rattle.std.specs.Cmp.Lexicographic.{pointwise};
 ghost use Rattle.partial_codec.specs.Fields.{shape_in};
 ghost use Rattle.partial_codec.specs.Shape as spec;
 
-use meaning::{Aggregate, AggregateKind, ColType, GroupingKey, Plan};
+use meaning::{Aggregate, AggregateKind, ColType, GroupingKey, Plan, type_code};
 
 /// An aggregate as an answer's shape shows it. COUNT(*) has no argument.
 #[derive(Clone, Copy, Drop)]
@@ -18,15 +18,6 @@ pub struct AggregateShape {
 pub struct Shape {
     pub keys: Vec<ColType>,
     pub aggregates: Vec<AggregateShape>,
-}
-
-pub fn type_code(col_type: ColType) -> u8
-    ensures { result ≡ spec.type_code col_type }
-{
-    match col_type {
-        ColType::Int => 1,
-        ColType::Text => 2,
-    }
 }
 
 pub fn kind_code(kind: AggregateKind) -> u8

@@ -10,14 +10,12 @@ ghost use Rattle.wire.specs.Reading.{repeat_at};
 use crate::body::take_body;
 use crate::fault::DecodeFault;
 use crate::fields::{JobFields, take_job, take_shape};
+use crate::magics::STATE_MAGIC;
 use crate::shape::Shape;
 use accumulators::Group;
 use meaning::Cell;
 use std::alloc::Global;
 use wire::{skip_magic, take_u8};
-
-/// What a state's bytes begin with.
-pub const STATE_MAGIC: [u8; 4] = *b"XGS1";
 
 /// All fields of a state but its seal, and whether the sums in each cell are possible.
 #[derive(Drop)]

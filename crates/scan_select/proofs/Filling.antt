@@ -36,8 +36,7 @@ block_at (d ∷ ds) n (b ∷ bs) (suc p) c are there =
 
 fits_group : (cs : List Column) (n most : ℕ) (group : List Block) (b : ColumnBuffer) → AreBlocks cs n group → IsBufferOf cs most b → FitsGroup group b
 fits_group cs n most group b are is =
-    let at = block_at cs n group b.column is.column are is.there in
-    record { there = at.1; col_type = is.col_type ∙ sym at.0.col_type }
+    (block_at cs n group b.column is.column are is.there).1
 
 all_fit : (cs : List Column) (n most : ℕ) (group : List Block) (bs : List ColumnBuffer) → AreBlocks cs n group → AllByRecursion (IsBufferOf cs most) bs → AllByRecursion (FitsGroup group) bs
 all_fit cs n most group [] are all = tt
@@ -50,12 +49,12 @@ all_fit_group cs n most group bs are all = All-from_recursion (FitsGroup group) 
 
 all_filled : (group : List Block) (first : ℕ) (bs : List ColumnBuffer) → AllByRecursion (IsFilled group first) (map (filled group first) bs)
 all_filled group first [] = tt
-all_filled group first (b ∷ bs) = (refl, all_filled group first bs)
+all_filled group first (b ∷ bs) = (record { col_type = refl; values = refl }, all_filled group first bs)
 
 still_of : (cs : List Column) (most : ℕ) (group : List Block) (first : ℕ) (bs : List ColumnBuffer) → AllByRecursion (IsBufferOf cs most) bs → AllByRecursion (IsBufferOf cs most) (map (filled group first) bs)
 still_of cs most group first [] all = tt
 still_of cs most group first (b ∷ bs) all =
-    (record { column = all.0.column; there = all.0.there; col_type = all.0.col_type; nullable = all.0.nullable; room = all.0.room }, still_of cs most group first bs all.1)
+    (record { column = all.0.column; there = all.0.there; nullable = all.0.nullable; room = all.0.room }, still_of cs most group first bs all.1)
 
 same_columns : (group : List Block) (first : ℕ) (bs : List ColumnBuffer) → columns_of (map (filled group first) bs) ≡ columns_of bs
 same_columns group first [] = refl
@@ -136,14 +135,14 @@ module _ (cs : List Column) (n most : ℕ) (group : List Block) (first rows : �
       let count = length-values (get_or group b.column no_block) at.0.sound in
       let behind = length-drop first (values_of (get_or group b.column no_block)) in
       let same = at.0.rows in
-      filled ∙ ap (λ (k : ℕ). take k vs) is.room ∙ shorter most rows vs (omega (arith, full, count, behind, same))
+      filled.values ∙ ap (λ (k : ℕ). take k vs) is.room ∙ shorter most rows vs (omega (arith, full, count, behind, same))
 
   lendable : (b : ColumnBuffer) → IsBufferOf cs most b → IsFilled group first b → IsLendable rows b
   lendable b is filled =
       let at = block_at cs n group b.column is.column are is.there in
       let block : Block = get_or group b.column no_block in
       let values = holds b is filled in
-      let type : block.col_type ≡ b.values.col_type = at.0.col_type ∙ sym is.col_type in
+      let type : block.col_type ≡ b.values.col_type = sym filled.col_type in
       let nullable : block.nullable ≡ b.nullable = at.0.nullable ∙ sym is.nullable in
       let same = at.0.rows in
       record {
@@ -163,11 +162,10 @@ module _ (cs : List Column) (n most : ℕ) (group : List Block) (first rows : �
   -- what is lent is the column of the row group
   lent_at : (b : ColumnBuffer) (c : BatchColumn) → IsBufferOf cs most b → IsFilled group first b → IsLentOf b c → IsColumnAt group first rows b.column c
   lent_at b c is filled lent =
-      let at = block_at cs n group b.column is.column are is.there in
       record {
         reference = lent.reference;
         values = lent.values ∙ ap (map gives.Value) (holds b is filled);
-        typed = subst (λ (t : ColType). HasLanesOf t c.lanes) (is.col_type ∙ sym at.0.col_type) lent.typed;
+        typed = subst (λ (t : ColType). HasLanesOf t c.lanes) filled.col_type lent.typed;
       }
 
   all_at_columns : (bs : List ColumnBuffer) (columns : List BatchColumn) → AllByRecursion (IsBufferOf cs most) bs → AllByRecursion (IsFilled group first) bs → AllZip IsLentOf bs columns → AreColumnsAt group first rows (columns_of bs) columns

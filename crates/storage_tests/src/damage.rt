@@ -1,5 +1,4 @@
 //! Files of which each byte is changed in turn.
-// A file of two row groups, each of whose bytes is changed, against a plain reading of the format.
 use crate::files::{Shape, file_of, first_kind, integers, texts, zeros};
 use columns::Column;
 use encodings::{BlockView, Kind};

@@ -1,5 +1,4 @@
 //! Files of every kind of block, and writers that fail at each write.
-// Files of several row groups in each kind of block, and a device that fails.
 ghost use Rattle.std.specs.Prelude.{◌≡◌, ◌≤◌, ◌∷◌, [], codes, length, IfOk};
 
 use columns::{Column, ColumnFault};

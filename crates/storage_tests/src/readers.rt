@@ -1,5 +1,4 @@
 //! CSV readers that give pieces or fail.
-// Readers that give what they have in pieces, that fail, and that make a large dimension.
 use crate::block_sizes::passes;
 use catalog_reader::read_catalog;
 use columns::Column;

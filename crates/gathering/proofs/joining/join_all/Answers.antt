@@ -17,11 +17,11 @@ loop-change-preserved c =
     let popped : c.loop-change.delta.items ≡ rest ++ change ∷ [] = c.in-Some.ensures.items in
     let longer : length c.loop-change.delta.items ≡ suc (length rest) = omega (arith, ap length popped, length-append rest (change ∷ [])) in
     let below : length rest < length all = omega (arith, longer, ap length split, length-append c.loop-change.delta.items put, c.requires) in
-    let placed : c.join_at.new.cells.items ≡ slice_set c.loop-change.cells.items (length rest) (join_cells (slice_index_or c.loop-change.cells.items (length rest) Nothing) change) =
+    let with_delta : c.join_at.new.cells.items ≡ slice_set c.loop-change.cells.items (length rest) (join_cells (slice_index_or c.loop-change.cells.items (length rest) Nothing) change) =
     c.join_at.ensures ∙ ap (λ k. slice_set c.loop-change.cells.items k (join_cells (slice_index_or c.loop-change.cells.items k Nothing) change)) (c.len.ensures ∙ omega (arith, c.pop.new.self.ok.0)) in (
       change ∷ put,
       split ∙ ap (λ (cs : List Cell). cs ++ put) popped ∙ append_assoc rest (change ∷ []) put,
-      placed
+      with_delta
           ∙ ap (λ (cs : List Cell). slice_set cs (length rest) (join_cells (slice_index_or cs (length rest) Nothing) change)) (cells_are ∙ ap (λ m. take m all ++ join_states (drop m all) put) longer)
           ∙ joined_before (length rest) all put change below,
     )

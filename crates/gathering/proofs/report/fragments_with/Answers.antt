@@ -3,7 +3,7 @@ use Rattle.std.proofs.Common.{◌≡◌, ap, sym, ◌∙◌, ◌+◌, ◌++◌, 
 use Rattle.std.proofs.lemmas.List.{append-nil}
 use Rattle.meaning.specs.Gather.{fragments_where}
 use Rattle.gathering.specs.Report.{has_obstacle}
-use Rattle.gathering.proofs.Places.{places_of_next}
+use Rattle.gathering.proofs.ListedFragments.{fragments_of_next}
 use Rattle.gathering.proofs.report.fragments_with.Goals as goal
 use Rattle.gathering.proofs.report.fragments_with.Goals.{then-has_obstacle+in_ok-push, else-has_obstacle}
 
@@ -11,7 +11,7 @@ use Rattle.gathering.proofs.report.fragments_with.Goals.{then-has_obstacle+in_ok
 next : (c : goal.Joined-has_obstacle) (t : Bool) → t ≡ has_obstacle c.args.obstacle c.index-cells-k.result
     → fragments_where (has_obstacle c.args.obstacle) (take (c.loop-k.k + 1) c.args.cells.now) ≡ fragments_where (has_obstacle c.args.obstacle) (take c.loop-k.k c.args.cells.now) ++ cond t (c.loop-k.k ∷ []) []
 next c t e =
-    places_of_next (has_obstacle c.args.obstacle) c.args.cells.now c.loop-k.k c.index-cells-k.result c.loop-k-test.true
+    fragments_of_next (has_obstacle c.args.obstacle) c.args.cells.now c.loop-k.k c.index-cells-k.result c.loop-k-test.true
     ∙ ap (λ b. fragments_where (has_obstacle c.args.obstacle) (take c.loop-k.k c.args.cells.now) ++ cond b (c.loop-k.k ∷ []) []) (sym (e ∙ ap (has_obstacle c.args.obstacle) c.index-cells-k.is))
 
 pub loop-k-preserved : goal.loop-k-preserved

@@ -4,4 +4,4 @@ use Rattle.jobs.specs.Taking.{TookFiles}
 use Rattle.jobs.proofs.taking.take_files.Given as goal
 
 abbrev pub invariant-loop-path : goal.invariant-loop-path
-invariant-loop-path g l = TookFiles (g.F.Folder.holds l.folder) l.fn.gather l.gather (take l.path-index l.paths) (g.E.Write.contents l.fn.err) (g.E.Write.contents l.err)
+invariant-loop-path g l = TookFiles (g.F.Folder.holds l.folder) (g.T.TakesAnswers.held l.fn.taker) (g.T.TakesAnswers.held l.taker) (take l.path-index l.paths) (g.E.Write.contents l.fn.err) (g.E.Write.contents l.err)

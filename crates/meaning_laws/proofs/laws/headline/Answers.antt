@@ -1,5 +1,5 @@
 -- Proofs of the goals of `headline` (`laws`).
-use Rattle.meaning_laws.proofs.Headline.{text-joined}
+use Rattle.meaning_laws.proofs.HeadlineLaw.{text-joined}
 use Rattle.meaning_laws.proofs.laws.headline.Goals as goal
 
 pub returns : goal.returns

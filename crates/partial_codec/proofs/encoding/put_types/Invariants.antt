@@ -2,7 +2,7 @@
 use Rattle.std.proofs.Common.{◌≡◌, ◌++◌, take, map}
 use Rattle.std.specs.List.{flat_map}
 use Rattle.wire.specs.Bytes.{number_bytes}
-use Rattle.partial_codec.specs.Shape.{type_code}
+use Rattle.meaning.specs.TypeCodes.{type_code}
 use Rattle.partial_codec.proofs.encoding.put_types.Given as goal
 
 abbrev pub invariant-loop-key : goal.invariant-loop-key

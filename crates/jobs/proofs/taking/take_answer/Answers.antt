@@ -1,6 +1,0 @@
--- Proofs of the goals of `take_answer` (`taking`).
-use Rattle.jobs.proofs.TakenFiles.{taken_answer}
-use Rattle.jobs.proofs.taking.take_answer.Goals as goal
-
-pub returns-clause-taken : goal.returns-clause-taken
-returns-clause-taken c = taken_answer c.args.gather.now c.absorb.new.self c.args.bytes.now c.in_ok-absorb.field-0 c.requires c.in_ok-absorb.ensures.takes

@@ -1,6 +1,0 @@
--- Proofs of the goals of `take_state` (`taking`).
-use Rattle.jobs.proofs.TakenFiles.{on_ok, taken_state}
-use Rattle.jobs.proofs.taking.take_state.Goals as goal
-
-pub returns-clause-taken : goal.returns-clause-taken
-returns-clause-taken c = on_ok c.absorb_state.result _ _ (taken_state c.args.gather.now c.absorb_state.new.self c.args.bytes.now c.requires) c.absorb_state.ensures.joins

@@ -97,7 +97,7 @@ fn answer_lines(
     Ok(shown)
 }
 
-fn show_answer(alloc: Global, job: &Job, bytes: &[u8]) -> Result<String, AllocError> {
+fn decoded_answer(alloc: Global, job: &Job, bytes: &[u8]) -> Result<String, AllocError> {
     match decode(alloc, job, bytes) {
         Ok(answer) => {
             let shown = answer_lines(alloc, job, &answer, bytes);
@@ -125,7 +125,7 @@ fn state_lines(
     Ok(shown)
 }
 
-fn show_state(alloc: Global, job: &Job, bytes: &[u8]) -> Result<String, AllocError> {
+fn decoded_state(alloc: Global, job: &Job, bytes: &[u8]) -> Result<String, AllocError> {
     match decode_state(alloc, job, bytes) {
         Ok(cells) => {
             let shown = state_lines(alloc, job, &cells, bytes);
@@ -136,9 +136,8 @@ fn show_state(alloc: Global, job: &Job, bytes: &[u8]) -> Result<String, AllocErr
     }
 }
 
-/// What the bytes of the lines say as an answer for the job that the words show, or as a state of a
-/// coordinator, and how many bytes they are; or the number of the refusal.
-pub fn show(
+/// What the bytes of the lines say for the job that the words name, as an answer or as a state.
+fn show_bytes(
     alloc: Global,
     is_state: bool,
     words: &[&str],
@@ -151,10 +150,22 @@ pub fn show(
         return String::from_str(alloc, NO_JOB);
     };
     let shown = if is_state {
-        show_state(alloc, &job, bytes.as_slice())
+        decoded_state(alloc, &job, bytes.as_slice())
     } else {
-        show_answer(alloc, &job, bytes.as_slice())
+        decoded_answer(alloc, &job, bytes.as_slice())
     };
     drop(job);
     shown
+}
+
+/// What the bytes of the lines say as an answer for the job that the words name, and how many bytes
+/// they are; or the number of the refusal.
+pub fn show_answer(alloc: Global, words: &[&str], body: &str) -> Result<String, AllocError> {
+    show_bytes(alloc, false, words, body)
+}
+
+/// What the bytes of the lines say as a coordinator's state for the job that the words name, and how
+/// many bytes they are; or the number of the refusal.
+pub fn show_state(alloc: Global, words: &[&str], body: &str) -> Result<String, AllocError> {
+    show_bytes(alloc, true, words, body)
 }

@@ -58,7 +58,7 @@ fn report(alloc: Global, gather: &Gather, shown: &mut String) -> Result<(), Allo
 fn print(alloc: Global, gather: &Gather, shown: &mut String) -> Result<(), AllocError> {
     let mut out = Vec::new(alloc);
     match gather.print_report(alloc, &mut out) {
-        Ok(()) => show_printed(alloc, shown, "out", out.as_slice()),
+        Ok(_) => show_printed(alloc, shown, "out", out.as_slice()),
         Err(fault) => show_refusal(shown, &fault),
     }
 }
@@ -187,7 +187,7 @@ fn show_unknown(shown: &mut String, event: &[&str]) -> Result<(), AllocError> {
     writeln!(shown, "(no event: {})", event.first().unwrap_or(&""))
 }
 
-// An event that no file stands for.
+// An event that names no file.
 fn show_bare(
     alloc: Global,
     job: &[&str],
@@ -270,8 +270,8 @@ fn show_lines(
     Ok(())
 }
 
-/// What comes of each event of a coordinator of the job that the words show, one event a line.
-pub fn show(
+/// What comes of each event of a coordinator of the job that the words name, one event a line.
+pub fn show_gathering(
     alloc: Global,
     job: &[&str],
     body: &str,

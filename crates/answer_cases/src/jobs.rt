@@ -1,4 +1,5 @@
-//! The job that the words of a case name.
+//! Jobs that the words of a case name: the number of a load, a cut, what is asked of each fragment,
+//! and the text of the query.
 ghost use Rattle.std.specs.Prelude.{◌≡◌, ◌≢◌, ◌≤◌, [], ◌∷◌, None, false, length, map, IfOk, IfSome};
 ghost use Rattle.meaning.specs.declared.expr.Expr.TheVariants as the_expr;
 ghost use Rattle.meaning.specs.declared.plan.Aggregate.{Aggregate as AnAggregate};
@@ -17,7 +18,7 @@ use partial_codec::Job;
 use std::alloc::{AllocError, Global};
 use std::mem::drop;
 
-/// What is text where words show no job.
+/// What is shown where words name no job.
 pub const NO_JOB: &str = "(no job: a load, a cut, count or sum or a shape, and a text)\n";
 
 fn lengths_of(alloc: Global, word: &str) -> Result<Option<Vec<u32>>, AllocError> {
@@ -138,7 +139,7 @@ fn job_over(
     }
 }
 
-// The column of the column that is summed, where one is.
+// The number of the column that is summed, where one is.
 fn summed_by(word: &str) -> Option<Option<usize>> {
     match word {
         "count" => Some(None),
@@ -147,7 +148,7 @@ fn summed_by(word: &str) -> Option<Option<usize>> {
     }
 }
 
-/// The job that the words show, where the third may be a shape, as in `7 2,3 int/rows,min:text
+/// The job that the words name, where the third may be a shape, as in `7 2,3 int/rows,min:text
 /// "SELECT ..."`.
 pub fn shaped_job_of(alloc: Global, words: &[&str]) -> Result<Option<Job>, AllocError> {
     let [load, cut, shape, text] = words else {
@@ -175,7 +176,7 @@ pub fn shaped_job_of(alloc: Global, words: &[&str]) -> Result<Option<Job>, Alloc
     }
 }
 
-/// The job that the words show, as in `7 2,3 count "SELECT COUNT(*) FROM sales"`.
+/// The job that the words name, as in `7 2,3 count "SELECT COUNT(*) FROM sales"`.
 pub fn job_of(alloc: Global, words: &[&str]) -> Result<Option<Job>, AllocError>
     ensures { IfOk result (λ found. IfSome found (λ job. IsShown job.plan)) }
 {

@@ -2,8 +2,12 @@
 //! cut.
 #![tactic(auto)]
 
-pub mod answers;
-pub mod gathers;
+mod answers;
+mod gathers;
 mod jobs;
 mod shapes;
-pub mod wholes;
+mod wholes;
+
+pub use answers::{show_answer, show_state};
+pub use gathers::show_gathering;
+pub use wholes::show_whole_query;

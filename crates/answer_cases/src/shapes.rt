@@ -1,5 +1,5 @@
-//! Plans of the shape that a word shows, as in `int,text/rows,min:text`: keys, and behind a stroke
-//! aggregates, of which COUNT(*) is `rows`. `-` stands for none, and a word with `plain:` before it
+//! Plans of the shape that a word spells, as in `int,text/rows,min:text`: keys, and behind a stroke
+//! aggregates, of which COUNT(*) is `rows`. `-` is none, and a word with `plain:` before it
 //! is of a query without groups.
 ghost use Rattle.std.specs.Prelude.{◌≡◌, IfOk, IfSome};
 ghost use Rattle.meaning.specs.SoundPlan.{IsWithinLimits};
@@ -110,7 +110,7 @@ fn plan_with(
     }
 }
 
-/// The plan, unless the word shows no shape, or the shape or the text passes a limit.
+/// The plan, unless the word spells no shape, or the shape or the text passes a limit.
 pub fn shaped_plan(alloc: Global, word: &str, text: &str) -> Result<Option<Plan>, AllocError>
     ensures { IfOk result (λ found. IfSome found IsWithinLimits) }
 {

@@ -132,7 +132,11 @@ fn show_over(
 
 /// What a query over the CSV files of a folder prints and how it ends, or its refusal. The words
 /// are the folder, the rows of each fragment, the vectors' length and the query.
-pub fn show(alloc: Global, words: &[&str], files: &[StoredFile]) -> Result<String, AllocError> {
+pub fn show_whole_query(
+    alloc: Global,
+    words: &[&str],
+    files: &[StoredFile],
+) -> Result<String, AllocError> {
     let Some(asked) = asked_by(words) else {
         return String::from_str(alloc, "(a folder, a cut, a vector's length and a query)\n");
     };

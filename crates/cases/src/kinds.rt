@@ -1,13 +1,12 @@
 //! Which kind of case a record is.
-use crate::{catalog, cut, program, selection, sql};
-use answer_cases::{answers, gathers, wholes};
+use crate::{catalog, cut, plan, program, sql};
+use answer_cases::{show_answer, show_gathering, show_state, show_whole_query};
 use case_files::{StoredFile, bytes_of, escaped_bytes, find};
 use std::alloc::{AllocError, Global};
-use storage_cases::storage;
-
-fn show_unknown(alloc: Global, word: &str) -> Result<String, AllocError> {
-    format!(in alloc; "(no record is of the kind {word})\n")
-}
+use storage_cases::show_storage;
+use vector_cases::{
+    show_agreement, show_expressions, show_lane_loop, show_lookups, show_selection,
+};
 
 // The word behind the kind is the path of the catalogue.
 fn show_plan(
@@ -18,7 +17,7 @@ fn show_plan(
 ) -> Result<String, AllocError> {
     let path = words.first().copied().unwrap_or("");
     let catalog = find(files, path).unwrap_or(&[]);
-    plan_cases::show(alloc, catalog, body)
+    plan::show(alloc, catalog, body)
 }
 
 fn show_kind(
@@ -34,27 +33,16 @@ fn show_kind(
         "catalog" => catalog::show(alloc, words, body),
         "cut" => cut::show(alloc, words, body),
         "plan" => show_plan(alloc, words, body, files.as_slice()),
-        "selection" => selection::show(alloc, words, body),
-        "lanes" => lane_cases::show(alloc, words, body),
-        "evaluate" => expression_cases::show(alloc, words, body),
-        "agree" => expression_cases::show_agreement(alloc, words, body),
-        "join" => join_cases::show(alloc, words, body),
-        "answer" => answers::show(alloc, false, words, body),
-        "state" => answers::show(alloc, true, words, body),
-        "gather" => gathers::show(alloc, words, body, files),
-        "whole" => wholes::show(alloc, words, files.as_slice()),
-        "column"
-        | "block"
-        | "encode"
-        | "choose"
-        | "unpack"
-        | "fragment"
-        | "cut-file"
-        | "write"
-        | "write-cut"
-        | "load"
-        | "count-rows" => { storage::show(alloc, kind, words, body, files.as_slice()) }
-        _ => show_unknown(alloc, kind),
+        "selection" => show_selection(alloc, words, body),
+        "lanes" => show_lane_loop(alloc, words, body),
+        "evaluate" => show_expressions(alloc, words, body),
+        "agree" => show_agreement(alloc, words, body),
+        "join" => show_lookups(alloc, words, body),
+        "answer" => show_answer(alloc, words, body),
+        "state" => show_state(alloc, words, body),
+        "gather" => show_gathering(alloc, words, body, files),
+        "whole" => show_whole_query(alloc, words, files.as_slice()),
+        _ => show_storage(alloc, kind, words, body, files.as_slice()),
     }
 }
 
@@ -72,7 +60,7 @@ pub fn show(
             show_kind(alloc, kind, words, digits.as_str(), files)
         }
         [kind, words @ ..] => show_kind(alloc, kind, words, body, files),
-        [] => show_unknown(alloc, ""),
+        [] => String::from_str(alloc, "(a record without a kind)\n"),
     }
 }
 
@@ -85,7 +73,7 @@ fn file_bytes(alloc: Global, kind: &str, body: &str) -> Result<Option<Vec<u8>>, 
     }
 }
 
-/// Puts the file that a record without a wanted text defines, and shows whether it defines one.
+/// Puts the file that a record without a wanted text defines. Whether it defines one.
 pub fn put_file(
     alloc: Global,
     head: &[&str],

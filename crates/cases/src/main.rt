@@ -5,9 +5,9 @@
 mod catalog;
 mod cut;
 mod kinds;
+mod plan;
 mod program;
 mod refusals;
-mod selection;
 mod sql;
 mod stored_folder;
 mod tally;

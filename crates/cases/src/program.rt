@@ -8,17 +8,17 @@ use std::alloc::{AllocError, Global};
 use std::fmt::Write;
 use std::mem::drop;
 
-fn show_status(text: &mut String, status: u8) -> Result<(), AllocError> {
+fn show_status(shown: &mut String, status: u8) -> Result<(), AllocError> {
     match status {
         0 => Ok(()),
-        status => writeln!(text, "status {status}"),
+        status => writeln!(shown, "status {status}"),
     }
 }
 
-fn show_written(text: &mut String, written: &[StoredFile]) -> Result<(), AllocError> {
+fn show_written(shown: &mut String, written: &[StoredFile]) -> Result<(), AllocError> {
     for file in written {
         writeln!(
-            text,
+            shown,
             "wrote {}, {} bytes",
             file.path.as_str(),
             file.bytes.len()
@@ -27,29 +27,29 @@ fn show_written(text: &mut String, written: &[StoredFile]) -> Result<(), AllocEr
     Ok(())
 }
 
-fn show_removed(text: &mut String, removed: &[String]) -> Result<(), AllocError> {
+fn show_removed(shown: &mut String, removed: &[String]) -> Result<(), AllocError> {
     for path in removed {
-        writeln!(text, "removed {}", path.as_str())?;
+        writeln!(shown, "removed {}", path.as_str())?;
     }
     Ok(())
 }
 
 // Of a usage fault its first line, since the rest is the words of a library.
-fn put_usage(text: &mut String, text: &str) -> Result<(), AllocError> {
-    let shown = if text.starts_with("error") {
+fn put_usage(shown: &mut String, text: &str) -> Result<(), AllocError> {
+    let lines = if text.starts_with("error") {
         text.lines().next().unwrap_or("")
     } else {
         text.trim_end()
     };
-    show_lines(text, "err", shown)
+    show_lines(shown, "err", lines)
 }
 
 fn show_usage(alloc: Global, fault: &UsageFault) -> Result<String, AllocError> {
     let text = format!(in alloc; "{fault}")?;
-    let mut text = String::new(alloc);
-    put_usage(&mut text, text.as_str())?;
-    show_status(&mut text, fault.status())?;
-    Ok(text)
+    let mut shown = String::new(alloc);
+    put_usage(&mut shown, text.as_str())?;
+    show_status(&mut shown, fault.status())?;
+    Ok(shown)
 }
 
 // What a command that ran has printed and written.
@@ -73,13 +73,13 @@ fn show_outcome(
     outcome: &Outcome,
     folder: &StoredFolder<'_>,
 ) -> Result<String, AllocError> {
-    let mut text = String::new(alloc);
-    show_printed(alloc, &mut text, "out", outcome.out.as_slice())?;
-    show_printed(alloc, &mut text, "err", outcome.err.as_slice())?;
-    show_status(&mut text, outcome.status)?;
-    show_written(&mut text, folder.written.as_slice())?;
-    show_removed(&mut text, folder.removed.as_slice())?;
-    Ok(text)
+    let mut shown = String::new(alloc);
+    show_printed(alloc, &mut shown, "out", outcome.out.as_slice())?;
+    show_printed(alloc, &mut shown, "err", outcome.err.as_slice())?;
+    show_status(&mut shown, outcome.status)?;
+    show_written(&mut shown, folder.written.as_slice())?;
+    show_removed(&mut shown, folder.removed.as_slice())?;
+    Ok(shown)
 }
 
 /// Takes files away from those that stand, and puts those that were written behind them.
@@ -103,7 +103,7 @@ fn show_command(
 {
     let mut folder = StoredFolder::new(alloc, files.as_slice());
     let outcome = run_over(alloc, command, &mut folder);
-    let text = show_outcome(alloc, &outcome, &folder);
+    let shown = show_outcome(alloc, &outcome, &folder);
     drop(outcome);
     let StoredFolder {
         removed,
@@ -111,9 +111,9 @@ fn show_command(
         ..
     } = folder;
     match change(files, removed, written) {
-        Ok(()) => text,
+        Ok(()) => shown,
         Err(error) => {
-            drop(text);
+            drop(shown);
             Err(error)
         }
     }
@@ -128,9 +128,9 @@ pub fn show(
 ) -> Result<String, AllocError> {
     match command(alloc, words) {
         Ok(command) => {
-            let text = show_command(alloc, &command, files);
+            let shown = show_command(alloc, &command, files);
             drop(command);
-            text
+            shown
         }
         Err(fault) => show_usage(alloc, &fault),
     }

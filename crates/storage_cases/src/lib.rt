@@ -1,9 +1,11 @@
-//! The kinds of cases of columns, blocks, files and loading.
+//! Cases of columns, blocks, files and loading.
 #![tactic(auto)]
 
 mod blocks;
 mod column;
 mod files;
 mod loading;
-pub mod storage;
+mod storage;
 mod values;
+
+pub use storage::show_storage;

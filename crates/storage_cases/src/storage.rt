@@ -1,7 +1,8 @@
-//! Which kind of storage case a record is.
+//! Which kind of case a record is.
 use crate::{blocks, column, files, loading};
 use case_files::StoredFile;
 use std::alloc::{AllocError, Global};
+use std::fmt::Write;
 use std::mem::drop;
 
 fn put(
@@ -24,12 +25,12 @@ fn put(
         "write-cut" => files::show_write_cut(alloc, shown, words),
         "load" => loading::show_load(alloc, shown, words, body, stored),
         "count-rows" => loading::show_count_rows(alloc, shown, body),
-        _ => shown.push_str("(no record is of this kind)\n"),
+        _ => writeln!(shown, "(no record is of the kind {kind})"),
     }
 }
 
-/// What records of columns, blocks, files and loading show.
-pub fn show(
+/// What a record of columns, blocks, files or loading shows.
+pub fn show_storage(
     alloc: Global,
     kind: &str,
     words: &[&str],

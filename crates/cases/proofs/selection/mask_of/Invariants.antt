@@ -1,6 +1,0 @@
--- Loop invariants of `mask_of` (`selection`).
-use Rattle.std.proofs.Common.{◌≡◌, length}
-use Rattle.cases.proofs.selection.mask_of.Given as goal
-
-abbrev pub invariant-loop-word : goal.invariant-loop-word
-invariant-loop-word l = length l.mask.items ≡ l.below

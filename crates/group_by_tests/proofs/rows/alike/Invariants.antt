@@ -1,7 +1,0 @@
--- Invariants of `alike` (`rows`).
-use Rattle.std.proofs.Common.{length}
-use Rattle.group_by.specs.Rows.{AreLanesOf}
-use Rattle.group_by_tests.proofs.rows.alike.Given as goal
-
-abbrev pub invariant-loop : goal.invariant-loop
-invariant-loop l = AreLanesOf (length l.list) l.vectors.items

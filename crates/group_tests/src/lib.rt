@@ -1,0 +1,25 @@
+//! Tests of expressions over rows, aggregates, tables of groups and the last step.
+#![tactic(auto)]
+
+#[cfg(test)]
+mod aggregate_tests;
+#[cfg(test)]
+mod column_tests;
+#[cfg(test)]
+mod eval_tests;
+#[cfg(test)]
+mod finish_tests;
+#[cfg(test)]
+mod groups;
+#[cfg(test)]
+mod lanes;
+#[cfg(test)]
+mod plans;
+#[cfg(test)]
+mod rows;
+#[cfg(test)]
+mod table_tests;
+#[cfg(test)]
+mod tables;
+#[cfg(test)]
+mod text_tests;

@@ -1,0 +1,10 @@
+//! Expressions over vectors: what they give on rows of a case, and whether they give what the oracle
+//! gives.
+mod agreeing;
+mod combinations;
+mod evaluating;
+mod postfix;
+
+pub use agreeing::show_agreement;
+pub use evaluating::show_expressions;
+pub use postfix::postfix_expression;

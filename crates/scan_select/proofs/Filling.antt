@@ -8,6 +8,7 @@ use Rattle.meaning.specs.declared.catalog.Column.{Column}
 use Rattle.meaning.specs.declared.value.ColType.{ColType}
 use Rattle.meaning.specs.declared.value.Value.{Value}
 use Rattle.meaning.specs.declared.outcome.Outcome.TheVariants as gives
+use Rattle.meaning.specs.VectorLength.{is_vector_length}
 use Rattle.encodings.specs.Block.{Block, values_of}
 use Rattle.fragment_file.specs.Copying.{is_taken}
 use Rattle.fragment_file.specs.Fragment.{AreBlocks, IsBlockOf, no_block}
@@ -16,7 +17,7 @@ use Rattle.vectors.specs.Vector.{BatchSpec, HasLanesOf}
 use Rattle.scan_select.specs.declared.buffers.ColumnBuffer.{ColumnBuffer}
 use Rattle.scan_select.specs.Buffers.{AddsLent, FitsGroup, IsBufferOf, IsPosition, IsFilled, IsLendable, IsLentOf, filled, filled_now, columns_of}
 use Rattle.scan_select.specs.Groups.{current_rows}
-use Rattle.scan_select.specs.Scanned.{AddsColumns, AreColumnsAt, IsColumnAt, IsVectorLength}
+use Rattle.scan_select.specs.Scanned.{AddsColumns, AreColumnsAt, IsColumnAt}
 use Rattle.scan_select.proofs.Masks.{length-window, window_taken}
 use Rattle.fragment_file.proofs.RowLaws.{length-values}
 
@@ -65,7 +66,7 @@ now_columns None first bs = refl
 now_columns (Some group) first bs = same_columns group first bs
 
 -- where a scan stands when the buffers were filled anew
-pub stands_again : (cs : List Column) (most : ℕ) (current : Option (List Block)) (group_rows first rows : ℕ) (bs new : List ColumnBuffer) → All (λ p. p < length cs) (columns_of bs) → IsVectorLength most → group_rows ≡ current_rows current
+pub stands_again : (cs : List Column) (most : ℕ) (current : Option (List Block)) (group_rows first rows : ℕ) (bs new : List ColumnBuffer) → All (λ p. p < length cs) (columns_of bs) → is_vector_length most ≡ true → group_rows ≡ current_rows current
     → first ≤ group_rows → rows ≡ min most (group_rows - first) → All (IsBufferOf cs most) bs → new ≡ filled_now current first bs → IsPosition cs most current group_rows first rows new
 stands_again cs most None group_rows first rows bs new below vectors are within full of_columns filled =
     let same : new ≡ bs = filled in

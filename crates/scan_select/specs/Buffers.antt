@@ -3,6 +3,7 @@ use Rattle.std.specs.Prelude.{◌≡◌, ◌<◌, ◌≤◌, ◌+◌, ◌-◌, m
 use Rattle.std.specs.List.{list_all, AllZip}
 use Rattle.meaning.specs.declared.catalog.Column.{Column}
 use Rattle.meaning.specs.declared.value.Value.{Value}
+use Rattle.meaning.specs.VectorLength.{is_vector_length}
 use Rattle.meaning.specs.declared.outcome.Outcome.TheVariants as gives
 use Rattle.encodings.specs.Block.{Block, values_of}
 use Rattle.fragment_file.specs.Copying.{is_taken}
@@ -12,7 +13,6 @@ use Rattle.vectors.specs.declared.batch.ColumnReference.TheVariants as reference
 use Rattle.vectors.specs.Vector.{BatchSpec, outcomes_of, HasLanesOf}
 use Rattle.scan_select.specs.declared.buffers.ColumnBuffer.{ColumnBuffer}
 use Rattle.scan_select.specs.Groups.{current_rows}
-use Rattle.scan_select.specs.Scanned.{IsVectorLength}
 
 -- a buffer of one of these columns, with room for so many values
 pub record IsBufferOf (columns : List Column) (most : ℕ) (b : ColumnBuffer) : Type 0 where
@@ -51,7 +51,7 @@ pub record IsFilled (group : List Block) (first : ℕ) (b : ColumnBuffer) : Type
 -- where a scan stands in a row group: its rows are as many as a vector may have, or as are left, and the buffers hold them
 pub record IsPosition (columns : List Column) (most : ℕ) (current : Option (List Block)) (group_rows first rows : ℕ) (buffers : List ColumnBuffer) : Type 0 where
   pub columns_within : All (λ p. p < length columns) (columns_of buffers)
-  pub vectors : IsVectorLength most
+  pub vectors : is_vector_length most ≡ true
   pub group_rows_are : group_rows ≡ current_rows current
   pub within : first + rows ≤ group_rows
   pub full : rows ≡ min most (group_rows - first)

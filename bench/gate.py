@@ -21,8 +21,8 @@ kinds = ["proof", "tests", "proof for edits", "edits"]
 seen = {}
 
 
-def kind_of(place, words):
-    if "rt-edit" not in place:
+def kind_of(cwd, words):
+    if "rt-edit" not in cwd:
         return "tests" if "--test" in words else "proof"
     kept = words[words.index("--incremental") + 1] if "--incremental" in words else ""
     return "proof for edits" if kept.endswith("/seed") else "edits"
@@ -35,12 +35,12 @@ def sample():
             if os.path.basename(words[0]) != "rattle" or "--crate-name" not in words:
                 continue
             crate = words[words.index("--crate-name") + 1]
-            place = os.readlink(f"/proc/{number}/cwd")
+            cwd = os.readlink(f"/proc/{number}/cwd")
             fields = open(f"/proc/{number}/stat").read().rpartition(")")[2].split()
         except (OSError, ValueError):
             continue
         # The process's own time. Copies of itself that check beside it are processes of their own.
-        seen[number, fields[19]] = (crate, kind_of(place, words), sum(int(field) for field in fields[11:13]) / tick)
+        seen[number, fields[19]] = (crate, kind_of(cwd, words), sum(int(field) for field in fields[11:13]) / tick)
 
 
 def measure(name, words):

@@ -56,7 +56,7 @@ copy_crates() {
 prove_crates() {
     script=$1 room=$2 log=$3
     many=$(grep -c : "$room/crates.txt")
-    place=0
+    count=0
     started=$(date +%s)
     echo "$script: proving $many crates, with every processor" >&2
     (cd "$room" && PYTHONUNBUFFERED=1 rt ci) 2>&1 </dev/null | tee "$log" | while IFS= read -r line; do
@@ -65,8 +65,8 @@ prove_crates() {
             'rt: '*' proved' | 'rt: '*' NOT PROVED'* | 'rt: '*' is kept: '*) ;;
             *) continue ;;
         esac
-        place=$((place + 1))
+        count=$((count + 1))
         crate=${line#rt: }
-        echo "$script: crate $place of $many, ${crate%%:*} ($(since "$started") so far)" >&2
+        echo "$script: crate $count of $many, ${crate%%:*} ($(since "$started") so far)" >&2
     done
 }

@@ -107,7 +107,7 @@ AreFragmentsClosed enclosed wrote load table cut fragments files = AreEach (IsFr
 
 -- ---- the command
 
--- what is returned of the whole fact and its fragments
+-- the refusal of the whole fact and of its fragments
 abbrev pub loaded_line : ℕ → ℕ → List ℕ
 loaded_line rows fragments = codes "loaded " ++ decimal rows ++ codes " rows in " ++ decimal fragments ++ codes " fragments" ++ 10 ∷ []
 

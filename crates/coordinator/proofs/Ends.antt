@@ -12,6 +12,6 @@ back : (e : Ended) → ended_in (report_of_output e) ≡ e
 back ended.Rows = refl
 back ended.Fault = refl
 
--- what is returned of the report of an output is how that ends
+-- the summary of an output's report is how it ends
 pub ends_so : (returned : Report) (end : Ended) (reported : gather.Report) → returned ≡ summary reported → end ≡ ended_in returned → (o : Output) → reported ≡ gather.output o → end ≡ ended_as o
 ends_so returned end reported is ends o of_output = ends ∙ ap ended_in (is ∙ ap summary of_output) ∙ back (ended_as o)

@@ -7,7 +7,7 @@ use Rattle.coordinator.specs.declared.fault.WholeFault.{WholeFault}
 use Rattle.coordinator.specs.declared.fault.WholeFault.TheVariants as fault
 use Rattle.coordinator.specs.Whole.{files_in, found_csv, csv_of}
 
--- what is returned of a file that was looked for
+-- the result for a file that was looked for
 abbrev pub returned : List ℕ → Option (List ℕ) → Result (List ℕ) WholeFault
 returned name None = Err (fault.MissingCsv name)
 returned name (Some csv) = Ok csv

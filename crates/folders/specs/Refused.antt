@@ -24,7 +24,7 @@ IsUnread path e = (e ≡ refusal.Memory) ⊎ (e ≡ refusal.CannotRead path)
 abbrev pub IsUnwritten : List ℕ → Refusal → Type 0
 IsUnwritten path e = (e ≡ refusal.Memory) ⊎ (e ≡ refusal.CannotWrite path)
 
--- it is returned so, unless memory runs out
+-- this refusal, unless memory runs out
 abbrev pub IsReturnedAs : Refusal → Refusal → Type 0
 IsReturnedAs meant e = (e ≡ refusal.Memory) ⊎ (e ≡ meant)
 

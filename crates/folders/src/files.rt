@@ -86,7 +86,7 @@ pub fn read_catalog_file<F: Folder>(
 
 // ---- writing
 
-/// How it is returned that the file of a path was not written.
+/// The refusal where the file of a path was not written.
 fn refusal_of_device(path: &Text, error: io::Error) -> Refusal
     ensures { IsUnwritten path.now result }
 {
@@ -96,7 +96,7 @@ fn refusal_of_device(path: &Text, error: io::Error) -> Refusal
     }
 }
 
-/// How it is returned that a file of columns or of a cut was not written under a path.
+/// The refusal where a file of columns or of a cut was not written under a path.
 pub fn refusal_of_file(path: &Text, fault: FileFault) -> Refusal
     ensures memory { fault ≡ no_file.Memory → result ≡ Memory }
     ensures returned { IsUnwritten path.now result }

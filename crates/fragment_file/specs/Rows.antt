@@ -7,12 +7,16 @@ use Rattle.encodings.specs.Block.{Block, values_of}
 use Rattle.fragment_file.specs.Fragment.{FragmentSpec, IsFragment, column_values}
 use Rattle.fragment_file.specs.View.{rows_of}
 
+-- the blocks of its columns, by which the crates above know a row group
+abbrev pub RowGroup : Type 0
+RowGroup = List Block
+
 -- a row of a row group: what each block has there
-abbrev pub row_in : List Block → ℕ → Row
+abbrev pub row_in : RowGroup → ℕ → Row
 row_in group i = map (λ b. get_or (values_of b) i Null) group
 
 -- all rows of a row group
-abbrev pub rows_in : List Block → List Row
+abbrev pub rows_in : RowGroup → List Row
 rows_in group = map (row_in group) (range_with_len 0 (rows_of group))
 
 -- in each column of a file its rows have what the file's column holds, block after block

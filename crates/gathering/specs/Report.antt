@@ -1,4 +1,4 @@
--- What stands in the cells of a coordinator, and what is returned of it.
+-- What stands in the cells of a coordinator, and the report of it.
 use Rattle.std.specs.Prelude.{Bool, ⊤}
 use Rattle.meaning.specs.Said.{Cell}
 use Rattle.meaning.specs.Output.{Output}

@@ -1,4 +1,4 @@
-//! Tables with a sum for each group, and what they report.
+//! Tables with a sum for each group, and what they hand out.
 ghost use Rattle.std.specs.Prelude.{◌≡◌, ◌≤◌, ◌+◌, ◌∷◌, [], length, map, IfOk};
 ghost use Rattle.meaning.specs.declared.plan.AggregateKind.TheVariants.{Sum};
 ghost use Rattle.group_by.specs.Rows.{AreLanesOf};

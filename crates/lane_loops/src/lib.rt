@@ -28,6 +28,6 @@ pub use laws::lanes_are_returned;
 pub use like::{LikePattern, like_texts, like_texts_at};
 pub use masks::{mark_both, mark_first_alone};
 pub use nulls::{are_not_null, are_null, or_nulls};
-pub use positions::mask_to_positions;
+pub use positions::mask_to_places;
 pub use small::{operate_small, operate_small_from, operate_small_to};
 pub use truths::{and_truths, not_truths, or_truths};

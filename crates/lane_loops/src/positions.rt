@@ -2,9 +2,9 @@
 ghost use Rattle.std.specs.Prelude.{◌≡◌, ◌<◌, ◌≤◌, ◌^◌, ◌==◌, not, length, filter, slice_index, take};
 ghost use Rattle.std.specs.List.{range_with_len};
 
-/// Puts in front the positions of the bytes that aren't 0, ascending, and reports how many these
+/// Puts in front the positions of the bytes that aren't 0, ascending, and returns how many these
 /// are.
-pub fn mask_to_positions(mask: &[u8], positions: &mut [u32]) -> usize
+pub fn mask_to_places(mask: &[u8], positions: &mut [u32]) -> usize
     requires room { length mask.now ≡ length positions.old }
     requires few { length mask.now < 2 ^ 32 }
     ensures positions { take result positions.new

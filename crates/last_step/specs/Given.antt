@@ -1,5 +1,5 @@
 -- What a call gives beside what is meant.
---     fault_returned  the fault that a call's error reports
+--     fault_returned  the fault that a call's error is
 --     meant           the last step's outcome
 use Rattle.std.specs.Prelude.{◌≡◌, ℕ, Bool, true, false, List, Option, Some, None, Result, Ok, Err}
 use Rattle.meaning.specs.declared.value.Value.{Value}
@@ -22,7 +22,7 @@ use Rattle.last_step.specs.declared.stop.Stop.TheVariants.{Memory, Fault}
 use Rattle.last_step.specs.declared.finished.Finished.{Finished}
 use Rattle.last_step.specs.declared.finished.Finished.TheVariants as finished
 
--- the fault that a stop reports, if it isn't that memory was wanting
+-- the fault that a stop is, if it isn't that memory was wanting
 abbrev pub fault_returned : Stop → Option ℕ
 fault_returned Memory = None
 fault_returned (Fault code) = Some code

@@ -163,7 +163,7 @@ body_fits job a is fit =
         let count = few_groups (certain_keys job.plan.plain job.plan.keys) gs all k.0 in
         (omega (arith, count), groups_fit job.plan gs all shaped k.1)
 
--- the fields that report a job have a spelling
+-- the fields that describe a job have a spelling
 pub job_fits : (job : JobSpec) → IsJob job → AreJobFields (record { load = job.load; text = job.plan.text; cut = job.cut })
 job_fits job is =
     let few = is.cut.few in

@@ -1,4 +1,4 @@
--- Shapes, the fields that report the job, and the whole layout: what is read is spelled so, and what is spelled is read again.
+-- Shapes, the fields that describe the job, and the whole layout: what is read is spelled so, and what is spelled is read again.
 use Rattle.std.proofs.Common.{◌≡◌, ℕ, ◌^◌, ◌<◌, Bool, true, false, cond, eqb, List, [], ◌∷◌, ◌++◌, length, Option, Some, None, Result, Ok, refl, sym, ap, subst, ◌∙◌, append_assoc, arith}
 use Rattle.std.specs.List.{flat_map, AllByRecursion}
 use Rattle.std.proofs.lemmas.Bool.{eqb-true}
@@ -172,7 +172,7 @@ shape_again shape rest fits =
       repeat_again aggregate_at aggregate_bytes IsAggregate aggregate_again (length shape.aggregates) shape.aggregates rest refl fits.each,
     ) refl
 
--- ---- the fields that report the job
+-- ---- the fields that describe the job
 
 word_takes : IsSpelled length_at (number_bytes 4)
 word_takes bytes p fits e = (number_takes 4 bytes p.0 p.1 fits (wire_ok (number_at 4 bytes) p e)).0

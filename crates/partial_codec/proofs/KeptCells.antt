@@ -9,7 +9,7 @@ use Rattle.partial_codec.specs.Keeping.{IsKept, kept_cell, is_cell_possible}
 use Rattle.partial_codec.specs.Shape.{Shape}
 use Rattle.partial_codec.specs.State.{cell_at}
 
--- the cells and what was returned of them, by what was read
+-- the cells and their marks, by what was read
 abbrev AreCellsOf : List Cell → List Bool → List Cell → Type 0
 AreCellsOf cells returned raw = (cells ≡ map kept_cell raw) × (returned ≡ map is_cell_possible raw)
 

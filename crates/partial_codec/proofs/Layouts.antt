@@ -1,4 +1,4 @@
--- What is returned of the fields that were kept is what is returned of those that were read.
+-- The obstacle in the fields that were kept is that in those that were read.
 use Rattle.std.proofs.Common.{◌≡◌, ℕ, Bool, true, false, ◌&&◌, eqb, List, length, Result, Ok, Err, refl, sym, ap, subst, ◌∙◌}
 use Rattle.std.specs.Prelude.{not, if◌then◌else◌, nat_lt, slice_index}
 use Rattle.meaning.specs.Cut.{first_row}
@@ -104,7 +104,7 @@ layout_returned job l read is was =
     λ i. by_parts job (is.job.load i) (is.job.text i) (is.job.cut i) (is.k i) (is.shape i) (is.body i) (is.possible i) in
     read_parts job read was ∙ sym parts ∙ held_parts job l
 
--- what is returned of sealed bytes
+-- the obstacle in sealed bytes
 pub judged_returned : (job : JobSpec) (bytes rest seal behind end : List ℕ) (l : Held) → (y : Layout × List ℕ) × (layout_at bytes ≡ Ok y) × (IsLayout l y.0 × (rest ≡ y.1)) → bytes_at 32 rest ≡ Ok (seal, behind) → sealed_end bytes seal behind ≡ Ok end
     → judged job bytes ≡ layout_held_by job l
 unfolding judged

@@ -1,4 +1,4 @@
--- What is returned of the cells that were kept is what is returned of those that were read.
+-- The obstacle in the cells that were kept is that in those that were read.
 use Rattle.std.proofs.Common.{◌≡◌, ℕ, zero, suc, Bool, true, false, ◌&&◌, eqb, List, [], ◌∷◌, length, map, Result, Ok, Err, refl, sym, ap, subst, ◌∙◌, arith}
 use Rattle.std.specs.Prelude.{not, if◌then◌else◌, slice_index}
 use Rattle.std.specs.List.{list_all, AllByRecursion}
@@ -198,7 +198,7 @@ state_returned job l read is were =
     λ i. by_parts job (is.job.load i) (is.job.text i) (is.job.cut i) (is.shape i) (is.cells i) (is.possible i) in
     read_parts job read were ∙ sym parts ∙ held_parts job l
 
--- what is returned of sealed bytes
+-- the obstacle in sealed bytes
 pub judged_state_returned : (job : JobSpec) (bytes rest seal behind end : List ℕ) (l : Held) → (y : StateLayout × List ℕ) × (state_layout_at bytes ≡ Ok y) × (IsStateLayout l y.0 × (rest ≡ y.1)) → bytes_at 32 rest ≡ Ok (seal, behind)
     → sealed_end bytes seal behind ≡ Ok end → judged_state job bytes ≡ state_held_by job l
 unfolding judged_state
@@ -206,7 +206,7 @@ judged_state_returned job bytes rest seal behind end l (y, read, is) sealed ende
     let here : bytes_at 32 y.1 ≡ Ok (seal, behind) = ap (bytes_at 32) (sym is.1) ∙ sealed in
     rw (read, here, ended) (state_returned job l y.0 is.0 (state_was_read bytes y read))
 
--- there is a cell, and what is returned of it, for each fragment that was read
+-- there is a cell, and its mark, for each fragment that was read
 pub as_many : (bytes rest : List ℕ) (l : Held) → (y : StateLayout × List ℕ) × (state_layout_at bytes ≡ Ok y) × (IsStateLayout l y.0 × (rest ≡ y.1)) → (length l.cells.items ≡ l.job.fragments) × (length l.are_possible.items ≡ l.job.fragments)
 as_many bytes rest l (y, read, is) =
     let count : length y.0.cells ≡ l.job.fragments = layout_cells bytes y read ∙ sym is.0.job.count in

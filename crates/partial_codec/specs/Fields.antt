@@ -24,7 +24,7 @@ words (suc n) bytes = little_number 4 bytes ∷ words n (drop 4 bytes)
 abbrev pub WasRead : Shape → Body → Type 0
 WasRead shape body = (bytes rest : List ℕ) × (reading.body_at shape bytes ≡ Ok (body, rest))
 
--- the fields that report the job: the cut's lengths stand in their bytes
+-- the fields that describe the job: the cut's lengths stand in their bytes
 pub record AreJobFields (job : JobFields) (read : reading.JobFields) : Type 0 where
   pub load : job.load ≡ read.load
   pub text : job.text.now ≡ read.text
@@ -32,7 +32,7 @@ pub record AreJobFields (job : JobFields) (read : reading.JobFields) : Type 0 wh
   pub bytes : length job.cut.now ≡ job.fragments * 4
   pub cut : words job.fragments job.cut.now ≡ read.cut
 
--- the fields of an answer, of whose sums the impossible ones are returned
+-- the fields of an answer, whose impossible sums are marked
 pub record IsLayout (layout : Layout) (read : spec.Layout) : Type 0 where
   pub job : AreJobFields layout.job (record { load = read.load; text = read.text; cut = read.cut })
   pub k : layout.k ≡ read.k

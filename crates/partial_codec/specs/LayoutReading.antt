@@ -150,7 +150,7 @@ shape_at bytes = do
 
 -- ---- the whole
 
--- the fields that report the job: its load, the query's text, and the cut
+-- the fields that describe the job: its load, the query's text, and the cut
 pub record JobFields : Type 0 where
   pub load : ℕ
   pub text : List ℕ

@@ -57,7 +57,7 @@ body_bytes shape (Groups gs) = number_bytes 1 1 ++ number_bytes 4 (length gs) ++
 
 -- ---- the whole
 
--- the fields that report the job
+-- the fields that describe the job
 unfoldable pub job_bytes : ℕ → List ℕ → List ℕ → List ℕ
 job_bytes load text cut = number_bytes 8 load ++ text_bytes 4 text ++ number_bytes 4 (length cut) ++ flat_map (number_bytes 4) cut
 

@@ -123,7 +123,7 @@ fn judge(alloc: Global, job: &Job, bytes: &[u8]) -> Result<Answer<Group>, Decode
 /// The answer that the bytes spell for the job, or the first obstacle.
 ///
 /// The bytes are read from front to back; then come the seal, the job, the shape, the order of the
-/// groups and the numbers. Memory is taken for what was read alone, whatever counts the bytes report.
+/// groups and the numbers. Memory is taken for what was read alone, whatever counts the bytes claim.
 pub fn decode(alloc: Global, job: &Job, bytes: &[u8]) -> Result<Answer<Group>, DecodeFault>
     // What is given is spelled so.
     ensures spelled { IfOk result (λ a. Spells job.now bytes.now a) }

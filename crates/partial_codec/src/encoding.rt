@@ -11,8 +11,8 @@ ghost use Rattle.partial_codec.specs.Shape as shapes;
 ghost use Rattle.partial_codec.specs.Spelling as spec;
 ghost use Rattle.wire.specs.Bytes.{number_bytes};
 
-use crate::magics::ANSWER_MAGIC;
 use crate::job::Job;
+use crate::magics::ANSWER_MAGIC;
 use crate::shape::{argument_code, kind_code, shape_of_aggregate};
 use crate::values::put_value;
 use accumulators::{Group, State};

@@ -5,16 +5,16 @@ ghost use Rattle.meaning.specs.Wanting.{GivesIfMemory, KeepsIfMemory};
 ghost use Rattle.partial_codec.specs.LayoutReading as reading;
 ghost use Rattle.wire.specs.Reading.{Reads, repeat_at};
 
-use crate::magics::ANSWER_MAGIC;
 use crate::body::take_body;
 use crate::fault::DecodeFault;
+use crate::magics::ANSWER_MAGIC;
 use crate::shape::{AggregateShape, Shape};
 use accumulators::Group;
 use meaning::{AggregateKind, Body, ColType};
 use std::alloc::Global;
 use wire::{skip_magic, take_bytes, take_text, take_u8, take_u16, take_u32, take_u64};
 
-/// The fields that report the job. The lengths of the cut's fragments stand in four bytes each.
+/// The fields that describe the job. The lengths of the cut's fragments stand in four bytes each.
 #[derive(Drop)]
 pub struct JobFields<'a> {
     pub load: u64,
@@ -151,7 +151,7 @@ fn take_lengths(count: u32, bytes: &[u8]) -> Result<(&[u8], &[u8]), DecodeFault>
     Ok(bytes.split_at(size))
 }
 
-/// The fields that report the job, and the bytes behind them.
+/// The fields that describe the job, and the bytes behind them.
 #[tactic(auto, unfolding(crate::specs::LayoutReading::job_at))]
 pub fn take_job(bytes: &[u8]) -> Result<(JobFields<'_>, &[u8]), DecodeFault>
     ensures { KeepsIfMemory DecodeFault.Memory (λ x y. AreJobFields x.0 y.0

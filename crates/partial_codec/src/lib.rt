@@ -1,6 +1,6 @@
 //! Jobs, and as bytes the answers of fragments and the states of coordinators.
 //!
-//! An answer or a state has one spelling for a job, and each refusal of bytes reports the first thing
+//! An answer or a state has one spelling for a job, and each refusal of bytes names the first thing
 //! from front to back that is wrong with them. `specs/` has the formats; `docs/FORMATS.md` says them
 //! in words.
 #![tactic(auto)]

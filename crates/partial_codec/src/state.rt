@@ -11,8 +11,8 @@ ghost use Rattle.meaning.specs.Wanting.{GivesIfMemory};
 use crate::encoding::{put_body, put_job, put_shape};
 use crate::fault::DecodeFault;
 use crate::job::Job;
-use crate::state_check::hold_state_against;
 use crate::magics::STATE_MAGIC;
+use crate::state_check::hold_state_against;
 use crate::state_fields::take_state_layout;
 use accumulators::Group;
 use meaning::{Cell, Plan};
@@ -94,7 +94,7 @@ fn judge_state(alloc: Global, job: &Job, bytes: &[u8]) -> Result<Vec<Cell<Group>
 ///
 /// The bytes are read from front to back; then come the seal, the job, the shape and all types; and
 /// then, fragment by fragment, the order of the groups and the numbers. Memory is taken for what
-/// was read alone, whatever counts the bytes report.
+/// was read alone, whatever counts the bytes claim.
 pub fn decode_state(alloc: Global, job: &Job, bytes: &[u8]) -> Result<Vec<Cell<Group>>, DecodeFault>
     // What is given is spelled so.
     ensures spelled { IfOk result (λ cells. SpellsState job.now bytes.now cells.items) }

@@ -16,6 +16,7 @@ use Rattle.meaning.specs.declared.value.ColType.{ColType}
 use Rattle.meaning.specs.declared.value.ColType.TheVariants as of_type
 use Rattle.meaning.proofs.Tests.{first_of as left_of, second_of as right_of, all_first, all_rest}
 use Rattle.meaning.proofs.Typed.{type_itself}
+use Rattle.sql_syntax.specs.Joins.{condition_of}
 use Rattle.sql_syntax.specs.declared.tree.Aggregate as written
 use Rattle.sql_syntax.specs.declared.tree.Aggregate.TheVariants as aggregate
 use Rattle.sql_syntax.specs.declared.tree.Arm.{Arm}
@@ -308,7 +309,7 @@ map_itself (x ∷ xs) = ap (λ (ys : List plan.Expr). x ∷ ys) (map_itself xs)
 having_part : (q : Query) → has_only_fitting_literals q ≡ true → option_map_or has_fitting_literals q.having true ≡ true
 having_part q fits =
     let items = list_all (λ (i : Item). has_fitting_literals i.expr) q.items in
-    let ons = list_all (λ (j : Joined). option_map_or has_fitting_literals j.on true) q.source.others in
+    let ons = list_all (λ (j : Joined). option_map_or has_fitting_literals (condition_of j.kind) true) q.source.others in
     let filter = option_map_or has_fitting_literals q.filter true in
     let keys = list_all has_fitting_literals q.group_by in
     let having = option_map_or has_fitting_literals q.having true in

@@ -1,4 +1,4 @@
--- What calls in a row report.
+-- What calls in a row return.
 use Rattle.std.proofs.Common.{◌≡◌, Result, Ok, Err, ap, subst, sym}
 use Rattle.meaning.specs.Results.{and_then}
 use Rattle.planner_expressions.specs.declared.fault.PlanFault.{PlanFault}

@@ -20,6 +20,7 @@ use Rattle.meaning.specs.declared.value.Value.TheVariants as value
 use Rattle.meaning_laws.proofs.LoadedQueries.{loaded_tables}
 use Rattle.meaning.proofs.Tests.{first_of as left_of, second_of as right_of, all_first, all_rest, all_append}
 use Rattle.sql_syntax.specs.Literals.{has_fitting_literals, has_only_fitting_literals}
+use Rattle.sql_syntax.specs.Joins.{condition_of}
 use Rattle.sql_syntax.specs.declared.tree.Aggregate as written
 use Rattle.sql_syntax.specs.declared.tree.Aggregate.TheVariants as aggregate
 use Rattle.sql_syntax.specs.declared.tree.Arm.{Arm}
@@ -79,12 +80,12 @@ option_all (Some e) is = is_one (has_fitting_literals e) is
     is_one true h = refl
     is_one false h = h
 
-ons_fit : (js : List Joined) → list_all (λ j. option_map_or has_fitting_literals j.on true) js ≡ true → list_all has_fitting_literals (on_trees js) ≡ true
+ons_fit : (js : List Joined) → list_all (λ j. option_map_or has_fitting_literals (condition_of j.kind) true) js ≡ true → list_all has_fitting_literals (on_trees js) ≡ true
 ons_fit [] is = refl
 ons_fit (j ∷ js) is =
-    all_append has_fitting_literals (option_to_list j.on) (on_trees js)
-    (option_all j.on (all_first (λ (k : Joined). option_map_or has_fitting_literals k.on true) j js is))
-    (ons_fit js (all_rest (λ (k : Joined). option_map_or has_fitting_literals k.on true) j js is))
+    all_append has_fitting_literals (option_to_list (condition_of j.kind)) (on_trees js)
+    (option_all (condition_of j.kind) (all_first (λ (k : Joined). option_map_or has_fitting_literals (condition_of k.kind) true) j js is))
+    (ons_fit js (all_rest (λ (k : Joined). option_map_or has_fitting_literals (condition_of k.kind) true) j js is))
 
 module _ (s : Scope) (types : RowTypes) (columns : columns_have_types types s ≡ true) where
   row_typed : (e : Expr) (z : Sort) → has_fitting_literals e ≡ true → judged s e true ≡ Ok z → has_type types (row_expr s e) (type_of_sort z) ≡ true
@@ -248,7 +249,7 @@ module _ (s : Scope) (types : RowTypes) (columns : columns_have_types types s �
   items_fit_in q = list_all (λ i. has_fitting_literals i.expr) q.items
 
   abbrev ons_fit_in : Query → Bool
-  ons_fit_in q = list_all (λ j. option_map_or has_fitting_literals j.on true) q.source.others
+  ons_fit_in q = list_all (λ j. option_map_or has_fitting_literals (condition_of j.kind) true) q.source.others
 
   abbrev filter_fits : Query → Bool
   filter_fits q = option_map_or has_fitting_literals q.filter true

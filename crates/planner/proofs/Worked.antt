@@ -20,6 +20,8 @@ use Rattle.meaning.specs.declared.plan.OrderKey as plan_key
 use Rattle.meaning.specs.declared.plan.Plan.{Plan}
 use Rattle.meaning.specs.declared.value.Value.TheVariants as value
 use Rattle.sql_syntax.specs.Canonical.{canonical}
+use Rattle.sql_syntax.specs.declared.tree.JoinKind.{JoinKind}
+use Rattle.sql_syntax.specs.declared.tree.JoinKind.TheVariants as join_kind
 use Rattle.sql_syntax.specs.declared.tree.Aggregate.TheVariants as aggregate
 use Rattle.sql_syntax.specs.declared.tree.Arithmetic.TheVariants.{Add, Multiply}
 use Rattle.sql_syntax.specs.declared.tree.Comparison.TheVariants.{Equal, AtMost, Greater}
@@ -73,8 +75,12 @@ name n = tree.Column None n
 abbrev pub item : Expr → Item
 item e = record { expr = e; alias = None }
 
+abbrev kind_of : Option Expr → JoinKind
+kind_of None = join_kind.Comma
+kind_of (Some e) = join_kind.Inner e
+
 abbrev pub joined : List ℕ → Option (List ℕ) → Option Expr → Joined
-joined table alias on = record { table = record { name = table; alias = alias }; on = on }
+joined table alias on = record { table = record { name = table; alias = alias }; kind = kind_of on }
 
 abbrev pub sales : List Joined → Source
 sales others = record { first = record { name = codes "sales"; alias = None }; others = others }

@@ -1,6 +1,7 @@
 -- The expressions of a query in the order items, ON, WHERE, GROUP BY, HAVING, up to the first fault.
 use Rattle.std.specs.Prelude.{Bool, true, false, List, ◌++◌, map, flat_map, if◌then◌else◌, option_to_list, Result, Ok, Err}
 use Rattle.meaning.specs.Results.{and_then}
+use Rattle.sql_syntax.specs.Joins.{condition_of}
 use Rattle.sql_syntax.specs.declared.tree.Expr.{Expr}
 use Rattle.sql_syntax.specs.declared.tree.Item.{Item}
 use Rattle.sql_syntax.specs.declared.tree.Joined.{Joined}
@@ -39,7 +40,7 @@ condition_check s barred e = as_truth (judged s e barred)
 
 -- the conditions of ON, in the order of the text
 abbrev pub on_trees : List Joined → List Expr
-on_trees js = flat_map (λ j. option_to_list j.on) js
+on_trees js = flat_map (λ j. option_to_list (condition_of j.kind)) js
 
 -- the conditions of ON and then that of WHERE
 abbrev pub conditions : Query → List Expr

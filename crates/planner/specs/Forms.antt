@@ -5,6 +5,7 @@ use Rattle.meaning.specs.Meaning.{meaning}
 use Rattle.meaning.specs.Order.{Row}
 use Rattle.meaning.specs.declared.catalog.Catalog.{Catalog}
 use Rattle.meaning.specs.declared.plan.Plan.{Plan}
+use Rattle.sql_syntax.specs.declared.tree.JoinKind.TheVariants as join_kind
 use Rattle.sql_syntax.specs.declared.tree.Expr.{Expr}
 use Rattle.sql_syntax.specs.declared.tree.Query.{Query}
 use Rattle.sql_syntax.specs.declared.tree.Table as written
@@ -35,12 +36,12 @@ FormsAgree = (catalog : Catalog) (q r : Query) → AskTheSame q r → map_ok (wi
 -- FROM first, other WHERE condition
 abbrev pub with_comma : Query → written.Table → written.Table → Expr → Query
 with_comma q first other condition =
-    record q { source = record { first = first; others = record { table = other; on = None } ∷ [] }; filter = Some condition }
+    record q { source = record { first = first; others = record { table = other; kind = join_kind.Comma } ∷ [] }; filter = Some condition }
 
 -- FROM first JOIN other ON condition
 abbrev pub with_join : Query → written.Table → written.Table → Expr → Query
 with_join q first other condition =
-    record q { source = record { first = first; others = record { table = other; on = Some condition } ∷ [] }; filter = None }
+    record q { source = record { first = first; others = record { table = other; kind = join_kind.Inner condition } ∷ [] }; filter = None }
 
 -- a comma with its condition behind WHERE has the plan of JOIN but for its text, or its fault; and the plans mean the same
 -- over all tables

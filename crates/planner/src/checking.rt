@@ -1,10 +1,11 @@
 //! The expressions of a query, up to the first fault.
 ghost use Rattle.std.specs.Prelude.{◌≡◌, map, true, option_to_list};
+ghost use Rattle.sql_syntax.specs.Joins.{condition_of};
 ghost use Rattle.planner.specs.Checked.{as_value, as_truth, item_check, key_check, condition_check, on_trees, conditions_checked, groups_checked, checked};
 ghost use Rattle.planner_expressions.specs.Results.{each_ok};
 
 use planner_expressions::{PlanFault, Scope, Sort, judge};
-use sql_syntax::{Expr, Item, Joined, Query};
+use sql_syntax::{Expr, Item, JoinKind, Joined, Query};
 
 fn value(returned: Result<Sort, PlanFault>) -> Result<(), PlanFault>
     ensures { result ≡ as_value returned }
@@ -70,11 +71,21 @@ fn check_condition(scope: &Scope, barred: bool, condition: &Option<Expr>) -> Res
     }
 }
 
+fn check_join(scope: &Scope, kind: &JoinKind) -> Result<(), PlanFault>
+    ensures { result ≡ each_ok
+        (map (condition_check scope.now true) (option_to_list (condition_of kind.now))) }
+{
+    match kind {
+        JoinKind::Comma => Ok(()),
+        JoinKind::Inner(on) => truth(judge(scope, on, true)),
+    }
+}
+
 fn check_ons(scope: &Scope, others: &[Joined]) -> Result<(), PlanFault>
     ensures { result ≡ each_ok (map (condition_check scope.now true) (on_trees others.now)) }
 {
     for joined in others {
-        match check_condition(scope, true, &joined.on) {
+        match check_join(scope, &joined.kind) {
             Ok(()) => {}
             Err(e) => return Err(e),
         }

@@ -1,12 +1,13 @@
 //! The conjuncts of ON and WHERE.
 ghost use Rattle.std.specs.Prelude.{◌≡◌, ◌++◌, OnOk, IfOk, flat_map, filter, find, length, option_copied, option_to_list, ℕ};
+ghost use Rattle.sql_syntax.specs.Joins.{condition_of};
 ghost use Rattle.planner.specs.Checked.{on_trees, conditions};
 ghost use Rattle.planner_expressions.specs.Given.{column_meant};
 ghost use Rattle.planner.specs.Conjuncts.{keyed as keyed_by, equality_of, join_equality, row_expr as expr_of, with_conjunct, with_conjuncts, conjuncts_of, joins_dim, equality_for as equality_of_dim, one_equality};
 
 use meaning::{Sequence, Value, expr};
 use planner_expressions::{Basis, PlanFault, Scope, ScopeColumn, column_of, translate};
-use sql_syntax::{Comparison, Expr, Joined, Query};
+use sql_syntax::{Comparison, Expr, JoinKind, Joined, Query};
 use std::alloc::{AllocError, Global};
 
 /// That a column of the fact equals the key of a dimension of FROM.
@@ -151,6 +152,21 @@ fn add_condition(
     }
 }
 
+fn add_join(
+    alloc: Global,
+    scope: &Scope,
+    kind: &JoinKind,
+    out: &mut Conjuncts,
+) -> Result<(), AllocError>
+    ensures { OnOk result (out.new ≡ with_conjuncts scope.now out.old
+        (flat_map conjuncts_of (option_to_list (condition_of kind.now)))) }
+{
+    match kind {
+        JoinKind::Comma => Ok(()),
+        JoinKind::Inner(on) => add_conjuncts(alloc, scope, on, out),
+    }
+}
+
 fn add_ons(
     alloc: Global,
     scope: &Scope,
@@ -161,7 +177,7 @@ fn add_ons(
         ≡ with_conjuncts scope.now out.old (flat_map conjuncts_of (on_trees others.now))) }
 {
     for joined in others {
-        add_condition(alloc, scope, &joined.on, out)?;
+        add_join(alloc, scope, &joined.kind, out)?;
     }
     Ok(())
 }

@@ -3,13 +3,14 @@ ghost use Rattle.std.specs.Prelude.{◌≡◌, ◌++◌, ◌∷◌, [], ◌||◌
 ghost use Rattle.std.specs.List.{list_any, enumerate_from};
 ghost use Rattle.planner_expressions.specs.Results.{map_ok, Reports};
 ghost use Rattle.planner_expressions.specs.Uses.{names as names_it};
+ghost use Rattle.sql_syntax.specs.Joins.{condition_of};
 ghost use Rattle.planner.specs.Checked.{on_trees, conditions};
 ghost use Rattle.planner.specs.Planned.{is_named as named_in, same_join as of_join, is_read as read_in, use_of, table_use as used_of, join_of, joins_of};
 
 use crate::conjuncts::{Equality, equality_for};
 use meaning::{ColumnUse, Join, Sequence, TableUse, Text};
 use planner_expressions::{Dim, PlanFault, Scope, ScopeColumn, names};
-use sql_syntax::{Expr, Item, Joined, Query};
+use sql_syntax::{Expr, Item, JoinKind, Joined, Query};
 use std::alloc::{AllocError, Global};
 
 fn in_items(column: &ScopeColumn, items: &[Item]) -> bool
@@ -33,11 +34,20 @@ fn in_condition(column: &ScopeColumn, condition: &Option<Expr>) -> bool
     }
 }
 
+fn in_join(column: &ScopeColumn, kind: &JoinKind) -> bool
+    ensures { result ≡ list_any (names_it column.now) (option_to_list (condition_of kind.now)) }
+{
+    match kind {
+        JoinKind::Comma => false,
+        JoinKind::Inner(on) => names(column, on),
+    }
+}
+
 fn in_ons(column: &ScopeColumn, others: &[Joined]) -> bool
     ensures { result ≡ list_any (names_it column.now) (on_trees others.now) }
 {
     for joined in others {
-        if in_condition(column, &joined.on) {
+        if in_join(column, &joined.kind) {
             return true;
         }
     }

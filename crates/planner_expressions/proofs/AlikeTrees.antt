@@ -129,7 +129,7 @@ module _ (s : Scope) where
       parts : (a : Arm) → judged_arm s a ≡ (judged s a.condition, judged s a.value)
       parts a = search (rules, the_lemmas)
 
-  -- the other reports the same, where the one has no fault
+  -- the other returns the same, where the one has no fault
   as_returned : (p : Q) (b : Bool) (z : Sort) → judged s p.0 b ≡ Ok z → judged s p.1 b ≡ judged s p.0 b
   as_returned p b z is = p.2 b z is ∙ sym is
 

@@ -60,7 +60,7 @@ module _ {X : Type 0} where
   stops old None rest all is kept = kept
   stops old (Some y) rest all is kept = absurd cc
 
-  -- what was put reports whether it was there
+  -- what was put says whether it was there
   pub there : {E : Type 0} (r : Result Bool E) (b : Bool) (new : List X) (o : Option (List X)) → r ≡ Ok b → b ≡ true → IfOk r (λ t. if_all t new ≡ o) → Some new ≡ o
   there (Err e) b new o is on says = absurd cc
   there (Ok true) b new o is on says = says

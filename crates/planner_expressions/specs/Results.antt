@@ -15,6 +15,6 @@ abbrev pub each_ok : {X : Type 0} → List (Result X PlanFault) → Result (Unit
 each_ok [] = Ok tt
 each_ok (r ∷ rs) = and_then r (λ x. each_ok rs)
 
--- what a call reports, unless memory is wanting
+-- what a call returns, unless memory is wanting
 abbrev pub Reports : {X : Type 0} → Result X PlanFault → Result X PlanFault → Type 0
 Reports r returned = GivesIfMemory fault.Memory (λ x. x) r returned

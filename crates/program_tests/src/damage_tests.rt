@@ -80,7 +80,7 @@ fn want_under_seal(offset: usize) -> Option<u8> {
         // Fragment 1 may have 2 rows too.
         54 => None,
         46..=57 => Some(7),
-        // With a third length, which is the fragment's number, the shape reports a key.
+        // With a third length, which is the fragment's number, the shape shows a key.
         42 | 58..=63 => Some(9),
         _ => Some(10),
     }

@@ -7,6 +7,8 @@ use Rattle.sql_syntax.specs.declared.keyword.Keyword.{Keyword}
 use Rattle.sql_syntax.specs.declared.keyword.Keyword.TheVariants as keyword
 use Rattle.sql_syntax.specs.declared.token.Sign.{Sign}
 use Rattle.sql_syntax.specs.declared.token.Sign.TheVariants as sign
+use Rattle.sql_syntax.specs.Joins.{condition_of}
+use Rattle.sql_syntax.specs.declared.tree.JoinKind.TheVariants as join_kind
 use Rattle.sql_syntax.specs.declared.tree.Direction.{Direction}
 use Rattle.sql_syntax.specs.declared.tree.OrderTarget.{OrderTarget}
 use Rattle.sql_syntax.specs.declared.tree.OrderKey.{OrderKey}
@@ -240,11 +242,11 @@ others_step : (m most n : ℕ) (before : List Joined) (ts rest : List Terminal) 
     → rule.more_others (inner_at most n) m (before ++ j ∷ []) rest ≡ r → rule.more_others (inner_at most n) (suc m) before ts ≡ r
 others_step m most n before ts rest j r begins reads more_read = rw (begins, reads) more_read
 
-comma_reads : (most n : ℕ) (ts rest : List Terminal) (t : Table) → rule.table_at ts ≡ Some (t, rest) → rule.other_at (inner_at most n) (mark sign.Comma ∷ ts) ≡ Some (record { table = t; on = None }, rest)
+comma_reads : (most n : ℕ) (ts rest : List Terminal) (t : Table) → rule.table_at ts ≡ Some (t, rest) → rule.other_at (inner_at most n) (mark sign.Comma ∷ ts) ≡ Some (record { table = t; kind = join_kind.Comma }, rest)
 comma_reads most n ts rest t reads = rw reads refl
 
 joined_reads : (most n : ℕ) (ts us rest : List Terminal) (t : Table) (e : Expr) → rule.table_at ts ≡ Some (t, word keyword.On ∷ us) → inner_at most n level.Disjunction us ≡ Some (whole e, rest)
-    → rule.joined_at (inner_at most n) ts ≡ Some (record { table = t; on = Some e }, rest)
+    → rule.joined_at (inner_at most n) ts ≡ Some (record { table = t; kind = join_kind.Inner e }, rest)
 joined_reads most n ts us rest t e first second = rw (first, second) refl
 
 join_reads : (most n : ℕ) (is ts rest : List Terminal) (j : Joined) → (is ≡ word keyword.Join ∷ []) ⊎ (is ≡ word keyword.Inner ∷ word keyword.Join ∷ []) → rule.joined_at (inner_at most n) ts ≡ Some (j, rest)
@@ -256,7 +258,7 @@ join_reads most n is ts rest j (inr e) reads =
 
 -- the deepest conditions of tables
 abbrev on_depth : Joined → ℕ
-on_depth j = option_depth j.on
+on_depth j = option_depth (condition_of j.kind)
 
 others_read : {ts : List Terminal} {others : List Joined} {k : ℕ} (d : SpellsOthers ts others k) (most n m : ℕ) (before : List Joined) (rest : List Terminal) → suc k ≤ n → deepest (map on_depth others) ≤ most → 2 ≤ stage_of rest → length (ts ++ rest) < m
     → rule.more_others (inner_at most n) m before (ts ++ rest) ≡ Some (before ++ others, rest)
@@ -269,10 +271,10 @@ others_read (behind_comma {ts = ts} {us = us} {t = t} {others = others} d ds) mo
     let same_len : length ((ts ++ us) ++ rest) ≡ length (ts ++ (us ++ rest)) = ap length assoc in
     let deep : max 0 (deepest (map on_depth others)) ≤ most = h in
     ap (λ (x : List Terminal). rule.more_others (inner_at most n) (suc m) before (mark sign.Comma ∷ x)) assoc
-    ∙ others_step m most n before (mark sign.Comma ∷ ts ++ (us ++ rest)) (us ++ rest) (record { table = t; on = None }) (Some ((before ++ record { table = t; on = None } ∷ []) ++ others, rest)) refl
+    ∙ others_step m most n before (mark sign.Comma ∷ ts ++ (us ++ rest)) (us ++ rest) (record { table = t; kind = join_kind.Comma }) (Some ((before ++ record { table = t; kind = join_kind.Comma } ∷ []) ++ others, rest)) refl
     (comma_reads most n (ts ++ (us ++ rest)) (us ++ rest) t (table_reads d (us ++ rest) (others_stage ds rest s)))
-    (others_read ds most n m (before ++ record { table = t; on = None } ∷ []) rest o (omega arith) s (omega arith))
-    ∙ ap (λ x. Some (x, rest)) (append_assoc before (record { table = t; on = None } ∷ []) others)
+    (others_read ds most n m (before ++ record { table = t; kind = join_kind.Comma } ∷ []) rest o (omega arith) s (omega arith))
+    ∙ ap (λ x. Some (x, rest)) (append_assoc before (record { table = t; kind = join_kind.Comma } ∷ []) others)
 others_read (behind_join {is = is} {ts = ts} {us = us} {vs = vs} j t d ds) most n zero before rest o h s f = absurd (omega arith)
 others_read (behind_join {is = is} {ts = ts} {us = us} {vs = vs} {t = t} {e = e} {others = others} {most = k} j dt d ds) most n (suc m) before rest o h s f =
     let both : suc (max (open_in d) k) ≤ n = o in
@@ -286,12 +288,12 @@ others_read (behind_join {is = is} {ts = ts} {us = us} {vs = vs} {t = t} {e = e}
     let len3 : length (us ++ (vs ++ rest)) ≡ length us + length (vs ++ rest) = length-append us (vs ++ rest) in
     let first_open : suc (open_in d) ≤ n = omega arith in
     let first_depth : depth e ≤ most = omega arith in
-    let parts = join_reads most n is (ts ++ (word keyword.On ∷ us ++ (vs ++ rest))) (vs ++ rest) (record { table = t; on = Some e }) j
+    let parts = join_reads most n is (ts ++ (word keyword.On ∷ us ++ (vs ++ rest))) (vs ++ rest) (record { table = t; kind = join_kind.Inner e }) j
     (joined_reads most n (ts ++ (word keyword.On ∷ us ++ (vs ++ rest))) (us ++ (vs ++ rest)) (vs ++ rest) t e (table_reads dt (word keyword.On ∷ us ++ (vs ++ rest)) (omega arith)) (free d most n (vs ++ rest) first_open first_depth (stage_reach (vs ++ rest) (others_stage ds rest s)))) in
     ap (rule.more_others (inner_at most n) (suc m) before) assoc
-    ∙ others_step m most n before (is ++ (ts ++ (word keyword.On ∷ us ++ (vs ++ rest)))) (vs ++ rest) (record { table = t; on = Some e }) (Some ((before ++ record { table = t; on = Some e } ∷ []) ++ others, rest)) parts.0 parts.1
-    (others_read ds most n m (before ++ record { table = t; on = Some e } ∷ []) rest (omega arith) (omega arith) s (omega arith))
-    ∙ ap (λ x. Some (x, rest)) (append_assoc before (record { table = t; on = Some e } ∷ []) others)
+    ∙ others_step m most n before (is ++ (ts ++ (word keyword.On ∷ us ++ (vs ++ rest)))) (vs ++ rest) (record { table = t; kind = join_kind.Inner e }) (Some ((before ++ record { table = t; kind = join_kind.Inner e } ∷ []) ++ others, rest)) parts.0 parts.1
+    (others_read ds most n m (before ++ record { table = t; kind = join_kind.Inner e } ∷ []) rest (omega arith) (omega arith) s (omega arith))
+    ∙ ap (λ x. Some (x, rest)) (append_assoc before (record { table = t; kind = join_kind.Inner e } ∷ []) others)
 
 -- ---- clauses
 

@@ -15,6 +15,7 @@ use Rattle.sql_syntax.specs.declared.token.Sign.TheVariants as sign
 use Rattle.sql_syntax.specs.declared.strength.Level.{Level}
 use Rattle.sql_syntax.specs.declared.strength.Operator.{Operator}
 use Rattle.sql_syntax.specs.declared.strength.Operator.TheVariants as operator
+use Rattle.sql_syntax.specs.Joins.{condition_of}
 use Rattle.sql_syntax.specs.declared.tree.Aggregate.{Aggregate}
 use Rattle.sql_syntax.specs.declared.tree.Arithmetic.{Arithmetic}
 use Rattle.sql_syntax.specs.declared.tree.Comparison.{Comparison}
@@ -196,7 +197,7 @@ items_fit (more_items {ts = ts} {us = us} {vs = vs} {e = e} {items = items} d a 
     both (hf e) (items_fit_in items) (fits d s.0) (items_fit others t.1.1)
 
 abbrev others_fit_in : List Joined → Bool
-others_fit_in others = list_all (λ j. option_fits j.on) others
+others_fit_in others = list_all (λ j. option_fits (condition_of j.kind)) others
 
 others_fit : {ts : List Terminal} {others : List Joined} {n : ℕ} → SpellsOthers ts others n → All ts → others_fit_in others ≡ true
 others_fit no_others all = refl

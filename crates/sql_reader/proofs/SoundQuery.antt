@@ -6,6 +6,8 @@ use Rattle.std.proofs.lemmas.List.{append-nil}
 use Rattle.sql_syntax.specs.declared.keyword.Keyword.{Keyword}
 use Rattle.sql_syntax.specs.declared.keyword.Keyword.TheVariants as keyword
 use Rattle.sql_syntax.specs.declared.token.Sign.TheVariants as sign
+use Rattle.sql_syntax.specs.Joins.{condition_of}
+use Rattle.sql_syntax.specs.declared.tree.JoinKind.TheVariants as join_kind
 use Rattle.sql_syntax.specs.declared.tree.Direction.{Direction}
 use Rattle.sql_syntax.specs.declared.tree.Direction.TheVariants as direction
 use Rattle.sql_syntax.specs.declared.tree.OrderTarget.{OrderTarget}
@@ -180,28 +182,28 @@ table_sound ts x e =
 pub record TookOther (n : ℕ) (ts : List Terminal) (x : Joined × List Terminal) : Type 0 where
   pub front : List Terminal
   pub parts : ts ≡ front ++ x.1
-  pub bounded : option_depth x.0.on ≤ 128
+  pub bounded : option_depth (condition_of x.0.kind) ≤ 128
   pub with_others : (us : List Terminal) (others : List Joined) (most : ℕ) → SpellsOthers us others most → most ≤ n → (all : ℕ) × SpellsOthers (front ++ us) (x.0 ∷ others) all × (all ≤ n)
 
 listed_sound : (n : ℕ) (ts us : List Terminal) (x : Joined × List Terminal) → ts ≡ mark sign.Comma ∷ us → rule.listed_at us ≡ Some x → TookOther n ts x
 listed_sound n ts us x comma e =
-    let r = bind_some (rule.table_at us) (λ (t : Table × List Terminal). Some (record { table = t.0; on = None }, t.1)) x e in
+    let r = bind_some (rule.table_at us) (λ (t : Table × List Terminal). Some (record { table = t.0; kind = join_kind.Comma }, t.1)) x e in
     let t = table_sound us r.0 r.1 in
-    let same : ◌≡◌ {A = Joined × List Terminal} (record { table = r.0.0; on = None }, r.0.1) x = cc r.2 in
+    let same : ◌≡◌ {A = Joined × List Terminal} (record { table = r.0.0; kind = join_kind.Comma }, r.0.1) x = cc r.2 in
     subst (λ (y : Joined × List Terminal). TookOther n ts y) same
     (record { front = mark sign.Comma ∷ t.front; parts = comma ∙ ap (λ (v : List Terminal). mark sign.Comma ∷ v) t.parts; bounded = omega arith; with_others = λ vs others most d o. (most, behind_comma t.spells d, o) })
 
 joined_sound : (n : ℕ) (inner : Level → phrase.Reader) → IsInner (suc n) inner → (is ts us : List Terminal) (x : Joined × List Terminal) → (is ≡ word keyword.Join ∷ []) ⊎ (is ≡ word keyword.Inner ∷ word keyword.Join ∷ []) → ts ≡ is ++ us → rule.joined_at inner us ≡ Some x → TookOther n ts x
 joined_sound n inner h is ts us x words before e =
-    let r = bind_some (rule.table_at us) (λ (t : Table × List Terminal). rule.condition_at inner keyword.On t.1 >>= (λ e. Some (record { table = t.0; on = Some e.0 }, e.1))) x e in
-    let s = bind_some (rule.condition_at inner keyword.On r.0.1) (λ (e : Expr × List Terminal). Some (record { table = r.0.0; on = Some e.0 }, e.1)) x r.2 in
+    let r = bind_some (rule.table_at us) (λ (t : Table × List Terminal). rule.condition_at inner keyword.On t.1 >>= (λ e. Some (record { table = t.0; kind = join_kind.Inner e.0 }, e.1))) x e in
+    let s = bind_some (rule.condition_at inner keyword.On r.0.1) (λ (e : Expr × List Terminal). Some (record { table = r.0.0; kind = join_kind.Inner e.0 }, e.1)) x r.2 in
     let o = bind_some (behind (is_keyword keyword.On) r.0.1) (λ (vs : List Terminal). inner level.Disjunction vs >>= (λ e. Some (e.0.expr, e.1))) s.0 s.1 in
     let c = bind_some (inner level.Disjunction o.0) (λ (e : Parsed × List Terminal). Some (e.0.expr, e.1)) s.0 o.2 in
     let t = table_sound us r.0 r.1 in
     let d = h level.Disjunction o.0 c.0 c.1 in
     let on_word : r.0.1 ≡ word keyword.On ∷ o.0 = word_taken keyword.On r.0.1 o.0 o.1 in
     let found : ◌≡◌ {A = Expr × List Terminal} (c.0.0.expr, c.0.1) s.0 = cc c.2 in
-    let same : ◌≡◌ {A = Joined × List Terminal} (record { table = r.0.0; on = Some c.0.0.expr }, c.0.1) x = ap (λ (e : Expr × List Terminal). (record { table = r.0.0; on = Some e.0 }, e.1)) found ∙ cc s.2 in
+    let same : ◌≡◌ {A = Joined × List Terminal} (record { table = r.0.0; kind = join_kind.Inner c.0.0.expr }, c.0.1) x = ap (λ (e : Expr × List Terminal). (record { table = r.0.0; kind = join_kind.Inner e.0 }, e.1)) found ∙ cc s.2 in
     let opened : open_in d.spells + 1 ≤ suc n = d.opens in
     let deep : c.0.0.depth ≡ depth c.0.0.expr = d.deep in
     let most_deep : c.0.0.depth ≤ 128 = d.bounded in
@@ -212,10 +214,10 @@ joined_sound n inner h is ts us x words before e =
     (record { front = is ++ (t.front ++ (word keyword.On ∷ d.front)); parts = parts; bounded = bound; with_others = λ vs others most rest o. with_rest t.front r.0.0 t.spells d.front c.0.0.expr d.spells (omega arith) vs others most rest o })
   where
     with_rest : (t_front : List Terminal) (t : Table) → SpellsTable t_front t → (d_front : List Terminal) (e : Expr) (d : Spells level.Disjunction d_front e) → open_in d ≤ n → (vs : List Terminal) (others : List Joined) (most : ℕ) → SpellsOthers vs others most → most ≤ n
-        → (all : ℕ) × SpellsOthers ((is ++ (t_front ++ (word keyword.On ∷ d_front))) ++ vs) (record { table = t; on = Some e } ∷ others) all × (all ≤ n)
+        → (all : ℕ) × SpellsOthers ((is ++ (t_front ++ (word keyword.On ∷ d_front))) ++ vs) (record { table = t; kind = join_kind.Inner e } ∷ others) all × (all ≤ n)
     with_rest t_front t t_spells d_front e d few vs others most rest o =
         let assoc : is ++ (t_front ++ (word keyword.On ∷ d_front ++ vs)) ≡ (is ++ (t_front ++ (word keyword.On ∷ d_front))) ++ vs = ap (λ (v : List Terminal). is ++ v) (sym (append_assoc t_front (word keyword.On ∷ d_front) vs)) ∙ sym (append_assoc is (t_front ++ (word keyword.On ∷ d_front)) vs) in
-        (max (open_in d) most, subst (λ (v : List Terminal). SpellsOthers v (record { table = t; on = Some e } ∷ others) (max (open_in d) most)) assoc (behind_join words t_spells d rest), omega arith)
+        (max (open_in d) most, subst (λ (v : List Terminal). SpellsOthers v (record { table = t; kind = join_kind.Inner e } ∷ others) (max (open_in d) most)) assoc (behind_join words t_spells d rest), omega arith)
 
 -- behind JOIN
 join_sound : (n : ℕ) (inner : Level → phrase.Reader) → IsInner (suc n) inner → (ts : List Terminal) (x : Joined × List Terminal) → (behind (is_keyword keyword.Join) ts >>= rule.joined_at inner) ≡ Some x → TookOther n ts x
@@ -248,7 +250,7 @@ other_sound n inner h ts x e = other_turn n inner h ts x (choose_some (behind (i
 
 -- a joined table's condition is so deep
 abbrev on_depth : Joined → ℕ
-on_depth j = option_depth j.on
+on_depth j = option_depth (condition_of j.kind)
 
 pub record TookOthers (n : ℕ) (before : List Joined) (ts : List Terminal) (x : List Joined × List Terminal) : Type 0 where
   pub front : List Terminal
@@ -266,8 +268,8 @@ no_others_took n before ts = record { front = []; others = []; most = 0; spells 
 more_others_took : (n : ℕ) (before : List Joined) (ts : List Terminal) (j : Joined × List Terminal) (x : List Joined × List Terminal) → TookOther n ts j → TookOthers n (before ++ j.0 ∷ []) j.1 x → TookOthers n before ts x
 more_others_took n before ts j x t l =
     let rest_deep : deepest (map on_depth l.others) ≤ 128 = l.bounded in
-    let first_deep : option_depth j.0.on ≤ 128 = t.bounded in
-    let bound : max (option_depth j.0.on) (deepest (map on_depth l.others)) ≤ 128 = omega arith in
+    let first_deep : option_depth (condition_of j.0.kind) ≤ 128 = t.bounded in
+    let bound : max (option_depth (condition_of j.0.kind)) (deepest (map on_depth l.others)) ≤ 128 = omega arith in
     let all = t.with_others l.front l.others l.most l.spells l.opens in
     record { front = t.front ++ l.front; others = j.0 ∷ l.others; most = all.0; spells = all.1; parts = t.parts ∙ ap (λ (v : List Terminal). t.front ++ v) l.parts ∙ sym (append_assoc t.front l.front x.1); opens = all.2; are = l.are ∙ append_assoc before (j.0 ∷ []) l.others; bounded = bound }
 

@@ -5,6 +5,7 @@ use Rattle.sql_syntax.specs.declared.keyword.Keyword.TheVariants as keyword
 use Rattle.sql_syntax.specs.declared.token.Sign.TheVariants as sign
 use Rattle.sql_syntax.specs.declared.strength.Level.{Level}
 use Rattle.sql_syntax.specs.declared.strength.Level.TheVariants as level
+use Rattle.sql_syntax.specs.declared.tree.JoinKind.TheVariants as join_kind
 use Rattle.sql_syntax.specs.declared.tree.Expr.{Expr}
 use Rattle.sql_syntax.specs.declared.tree.Direction.{Direction}
 use Rattle.sql_syntax.specs.declared.tree.Direction.TheVariants as direction
@@ -56,10 +57,10 @@ condition_at inner k ts = behind (is_keyword k) ts >>= (λ us. expr_at inner us 
 
 -- the table behind a comma, and that behind JOIN, with its condition
 abbrev pub listed_at : List Terminal → Reads Joined
-listed_at ts = table_at ts >>= (λ t. Some (record { table = t.0; on = None }, t.1))
+listed_at ts = table_at ts >>= (λ t. Some (record { table = t.0; kind = join_kind.Comma }, t.1))
 
 abbrev pub joined_at : (Level → Reader) → List Terminal → Reads Joined
-joined_at inner ts = table_at ts >>= (λ t. condition_at inner keyword.On t.1 >>= (λ e. Some (record { table = t.0; on = Some e.0 }, e.1)))
+joined_at inner ts = table_at ts >>= (λ t. condition_at inner keyword.On t.1 >>= (λ e. Some (record { table = t.0; kind = join_kind.Inner e.0 }, e.1)))
 
 -- a further table: behind a comma, or behind JOIN
 abbrev pub other_at : (Level → Reader) → List Terminal → Reads Joined

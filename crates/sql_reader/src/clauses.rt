@@ -9,8 +9,8 @@ use sql_expressions::{
     name, past_keyword, push_entries, stop_at,
 };
 use sql_syntax::{
-    Direction, Expr, Item, Joined, Keyword, Level, Lexeme, OrderKey, OrderTarget, Query, Sign,
-    Source, Table,
+    Direction, Expr, Item, JoinKind, Joined, Keyword, Level, Lexeme, OrderKey, OrderTarget, Query,
+    Sign, Source, Table,
 };
 use std::alloc::Global;
 use std::mem::drop;
@@ -134,7 +134,8 @@ fn listed<'a, 'b>(
     ensures shorter { IfOk result (λ x. length x.1.now < length lexemes.now) }
 {
     let (table, rest) = table(alloc, lexemes)?;
-    Ok((Joined { table, on: None }, rest))
+    let kind = JoinKind::Comma;
+    Ok((Joined { table, kind }, rest))
 }
 
 /// A table behind JOIN, and its condition.
@@ -149,11 +150,8 @@ fn joined<'a, 'b>(
     let (table, rest) = table(alloc, lexemes)?;
     match condition(alloc, Keyword::On, rest) {
         Ok((on, rest)) => {
-            let joined = Joined {
-                table,
-                on: Some(on),
-            };
-            Ok((joined, rest))
+            let kind = JoinKind::Inner(on);
+            Ok((Joined { table, kind }, rest))
         }
         Err(stop) => Err(stop),
     }

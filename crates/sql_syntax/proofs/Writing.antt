@@ -7,6 +7,8 @@ use Rattle.sql_syntax.specs.declared.keyword.Keyword.TheVariants as keyword
 use Rattle.sql_syntax.specs.declared.token.Sign.TheVariants as sign
 use Rattle.sql_syntax.specs.declared.strength.Level.TheVariants as level
 use Rattle.sql_syntax.specs.declared.strength.Operator.TheVariants as operator
+use Rattle.sql_syntax.specs.declared.tree.JoinKind.{JoinKind}
+use Rattle.sql_syntax.specs.declared.tree.JoinKind.TheVariants as join_kind
 use Rattle.sql_syntax.specs.declared.tree.Aggregate.{Aggregate}
 use Rattle.sql_syntax.specs.declared.tree.Arithmetic.{Arithmetic}
 use Rattle.sql_syntax.specs.declared.tree.Comparison.{Comparison}
@@ -67,14 +69,14 @@ keys_are key (next ∷ keys) = ap (λ (x : List Terminal). key_tokens key ++ mar
 pub keys_first : (w : Written) (key : OrderKey) (keys : List OrderKey) → with_tokens w (with_commas (map key_tokens (key ∷ keys))) ≡ with_tokens (with_tokens w (key_tokens key)) (more_keys keys)
 keys_first w key keys = ap (with_tokens w) (keys_are key keys) ∙ with_append w (key_tokens key) (more_keys keys)
 
-other_is : (on : Option Expr) (t : Table) (rest : List Terminal) → other_tokens on t rest ≡ other_tokens on t [] ++ rest
-other_is None t rest = ap (λ (x : List Terminal). mark sign.Comma ∷ x ++ rest) (sym (append-nil (table_tokens t)))
-other_is (Some e) t rest =
+other_is : (kind : JoinKind) (t : Table) (rest : List Terminal) → other_tokens kind t rest ≡ other_tokens kind t [] ++ rest
+other_is join_kind.Comma t rest = ap (λ (x : List Terminal). mark sign.Comma ∷ x ++ rest) (sym (append-nil (table_tokens t)))
+other_is (join_kind.Inner e) t rest =
     ap (λ (x : List Terminal). word keyword.Join ∷ x) (sym (append_assoc (table_tokens t) (word keyword.On ∷ free (printed e)) rest))
     ∙ ap (λ (x : List Terminal). (word keyword.Join ∷ table_tokens t ++ (word keyword.On ∷ x)) ++ rest) (sym (append-nil (free (printed e))))
 
 pub others_step : (w : Written) (j : Joined) (js : List Joined) → with_tokens w (others_tokens_of (j ∷ js)) ≡ with_tokens (with_tokens w (joined_tokens j)) (others_tokens_of js)
-others_step w j js = ap (with_tokens w) (other_is j.on j.table (others_tokens_of js)) ∙ with_append w (joined_tokens j) (others_tokens_of js)
+others_step w j js = ap (with_tokens w) (other_is j.kind j.table (others_tokens_of js)) ∙ with_append w (joined_tokens j) (others_tokens_of js)
 
 pub arms_step : (w : Written) (arm : Arm) (ps : List (Printed × Printed)) → with_tokens w (arms_tokens (printed_arm arm ∷ ps))
     ≡ with_tokens (with_tokens (with_tokens w (word keyword.When ∷ free (printed arm.condition))) (word keyword.Then ∷ free (printed arm.value))) (arms_tokens ps)

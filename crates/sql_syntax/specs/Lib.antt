@@ -9,3 +9,4 @@ pub mod Queries
 pub mod Quoting
 pub mod Literals
 pub mod Printing
+pub mod Joins

@@ -5,6 +5,7 @@ use Rattle.std.specs.Option.{option_map_or}
 use Rattle.meaning.specs.declared.value.ColType.TheVariants as of_type
 use Rattle.meaning.specs.declared.value.Value.TheVariants as value
 use Rattle.meaning.specs.Typing.{is_of_type}
+use Rattle.sql_syntax.specs.Joins.{condition_of}
 use Rattle.sql_syntax.specs.declared.tree.Expr.{Expr}
 use Rattle.sql_syntax.specs.declared.tree.Expr.TheOpen as node
 use Rattle.sql_syntax.specs.declared.tree.Expr.TheOpen.{Expr-F, Arm-F}
@@ -50,7 +51,7 @@ arm_has_fitting_literals = fold-Arm Bool Bool fitting_node fitting_pair
 abbrev pub has_only_fitting_literals : Query → Bool
 has_only_fitting_literals q =
     list_all (λ i. has_fitting_literals i.expr) q.items
-    && (list_all (λ j. option_map_or has_fitting_literals j.on true) q.source.others
+    && (list_all (λ j. option_map_or has_fitting_literals (condition_of j.kind) true) q.source.others
     && (option_map_or has_fitting_literals q.filter true
     && (list_all has_fitting_literals q.group_by
     && option_map_or has_fitting_literals q.having true)))

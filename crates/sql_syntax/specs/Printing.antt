@@ -51,7 +51,7 @@ more_keys = flat_map (λ key. mark sign.Comma ∷ key_tokens key)
 
 -- a further table, with its condition
 abbrev pub joined_tokens : Joined → List Terminal
-joined_tokens j = other_tokens j.on j.table []
+joined_tokens j = other_tokens j.kind j.table []
 
 -- ORDER BY and LIMIT
 abbrev pub end_tokens : Query → List Terminal

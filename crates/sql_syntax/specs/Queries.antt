@@ -5,6 +5,9 @@ use Rattle.sql_syntax.specs.declared.keyword.Keyword.{Keyword}
 use Rattle.sql_syntax.specs.declared.keyword.Keyword.TheVariants as keyword
 use Rattle.sql_syntax.specs.declared.token.Sign.{Sign}
 use Rattle.sql_syntax.specs.declared.token.Sign.TheVariants as sign
+use Rattle.sql_syntax.specs.Joins.{condition_of}
+use Rattle.sql_syntax.specs.declared.tree.JoinKind.{JoinKind}
+use Rattle.sql_syntax.specs.declared.tree.JoinKind.TheVariants as join_kind
 use Rattle.sql_syntax.specs.declared.tree.Direction.{Direction}
 use Rattle.sql_syntax.specs.declared.tree.Direction.TheVariants as direction
 use Rattle.sql_syntax.specs.declared.tree.OrderTarget.{OrderTarget}
@@ -57,11 +60,11 @@ pub data SpellsItems : List Terminal → List Item → ℕ → Type 0 where
 pub data SpellsOthers : List Terminal → List Joined → ℕ → Type 0 where
   no_others : SpellsOthers [] [] 0
   behind_comma : {ts us : List Terminal} {t : Table} {others : List Joined} {most : ℕ} → SpellsTable ts t → SpellsOthers us others most
-      → SpellsOthers (mark sign.Comma ∷ ts ++ us) (record { table = t; on = None } ∷ others) most
+      → SpellsOthers (mark sign.Comma ∷ ts ++ us) (record { table = t; kind = join_kind.Comma } ∷ others) most
   behind_join : {is ts us vs : List Terminal} {t : Table} {e : Expr} {others : List Joined} {most : ℕ}
       → (is ≡ word keyword.Join ∷ []) ⊎ (is ≡ word keyword.Inner ∷ word keyword.Join ∷ [])
       → SpellsTable ts t → (d : Spells level.Disjunction us e) → SpellsOthers vs others most
-      → SpellsOthers (is ++ (ts ++ (word keyword.On ∷ us ++ vs))) (record { table = t; on = Some e } ∷ others) (max (open_in d) most)
+      → SpellsOthers (is ++ (ts ++ (word keyword.On ∷ us ++ vs))) (record { table = t; kind = join_kind.Inner e } ∷ others) (max (open_in d) most)
 
 -- a keyword and an expression, or nothing
 pub data SpellsClause (k : Keyword) : List Terminal → Option Expr → ℕ → Type 0 where
@@ -146,13 +149,13 @@ with_commas (ts ∷ []) = ts
 with_commas (ts ∷ us ∷ rest) = ts ++ mark sign.Comma ∷ with_commas (us ∷ rest)
 
 -- a further table in front of the rest
-abbrev pub other_tokens : Option Expr → Table → List Terminal → List Terminal
-other_tokens None t rest = mark sign.Comma ∷ table_tokens t ++ rest
-other_tokens (Some e) t rest = word keyword.Join ∷ table_tokens t ++ (word keyword.On ∷ free (printed e) ++ rest)
+abbrev pub other_tokens : JoinKind → Table → List Terminal → List Terminal
+other_tokens join_kind.Comma t rest = mark sign.Comma ∷ table_tokens t ++ rest
+other_tokens (join_kind.Inner e) t rest = word keyword.Join ∷ table_tokens t ++ (word keyword.On ∷ free (printed e) ++ rest)
 
 abbrev pub others_tokens_of : List Joined → List Terminal
 others_tokens_of [] = []
-others_tokens_of (j ∷ others) = other_tokens j.on j.table (others_tokens_of others)
+others_tokens_of (j ∷ others) = other_tokens j.kind j.table (others_tokens_of others)
 
 abbrev pub clause_tokens : Keyword → Option Expr → List Terminal
 clause_tokens k None = []
@@ -265,4 +268,4 @@ option_depth (Some e) = depth e
 -- the depth of the deepest expression
 abbrev pub query_depth : Query → ℕ
 query_depth q =
-    deepest (option_depth q.filter ∷ option_depth q.having ∷ deepest (map (λ item. depth item.expr) q.items) ∷ deepest (map (λ j. option_depth j.on) q.source.others) ∷ deepest (map depth q.group_by) ∷ [])
+    deepest (option_depth q.filter ∷ option_depth q.having ∷ deepest (map (λ item. depth item.expr) q.items) ∷ deepest (map (λ j. option_depth (condition_of j.kind)) q.source.others) ∷ deepest (map depth q.group_by) ∷ [])

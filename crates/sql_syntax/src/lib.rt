@@ -25,6 +25,6 @@ pub use quoting::push_undoubled;
 pub use strength::{Level, Operator};
 pub use token::{Lexeme, Sign, Token};
 pub use tree::{
-    Aggregate, Arithmetic, Arm, Comparison, Direction, Expr, Item, Joined, OrderKey, OrderTarget,
-    Query, Source, Table,
+    Aggregate, Arithmetic, Arm, Comparison, Direction, Expr, Item, JoinKind, Joined, OrderKey,
+    OrderTarget, Query, Source, Table,
 };

@@ -16,7 +16,8 @@ use crate::strength::Level;
 use crate::token::{Sign, Token};
 use crate::token_text::{ends_operand, hugs_left, hugs_right, put_blank, put_quoted, put_token};
 use crate::tree::{
-    Aggregate, Arithmetic, Arm, Direction, Expr, Item, Joined, OrderKey, OrderTarget, Query, Table,
+    Aggregate, Arithmetic, Arm, Direction, Expr, Item, JoinKind, Joined, OrderKey, OrderTarget,
+    Query, Table,
 };
 use meaning::{Boxed, Text};
 use std::alloc::{AllocError, Global};
@@ -256,13 +257,13 @@ impl Printer {
         ensures { OnOk result (written self.new
             ≡ with_tokens (written self.old) (joined_tokens joined.now)) }
     {
-        match &joined.on {
-            Some(on) => {
+        match &joined.kind {
+            JoinKind::Inner(on) => {
                 self.put(Token::Keyword(Keyword::Join))?;
                 self.put_table(&joined.table)?;
                 self.put_behind(Token::Keyword(Keyword::On), Level::Disjunction, on)
             }
-            None => {
+            JoinKind::Comma => {
                 self.put(Token::Sign(Sign::Comma))?;
                 self.put_table(&joined.table)
             }

@@ -40,12 +40,20 @@ pub struct Table {
     pub alias: Option<Text>,
 }
 
-/// A further table of FROM. One behind a comma has no condition, one behind JOIN has the one of its
-/// ON.
+/// How a table of FROM is joined to those before it.
+#[derive(Drop)]
+pub enum JoinKind {
+    /// By a comma. Its condition stands in WHERE.
+    Comma,
+    /// By JOIN, with the condition of its ON.
+    Inner(Expr),
+}
+
+/// A further table of FROM.
 #[derive(Drop)]
 pub struct Joined {
     pub table: Table,
-    pub on: Option<Expr>,
+    pub kind: JoinKind,
 }
 
 #[derive(Drop)]

@@ -65,7 +65,7 @@ origin_as m m' S S' h n to o =
       | inr f ↦ inr (found_as m m' S S' h h n (λ i e s b meant. let w = to i e s b meant in (w.0, b, w.1)) f)
     ]
 
--- g of two operands, where needs reports from the left whether the right counts
+-- g of two operands, where `needs` says from the left whether the right counts
 pub record Node (g : Outcome → Outcome → Outcome) (needs : Outcome → Bool) : Type 0 where
   pub left_fault : (e : Fault) (b : Outcome) → g (gives.Fault e) b ≡ gives.Fault e
   pub right_fault : (a : Outcome) (e : Fault) → ((f : Fault) → a ≢ gives.Fault f) → needs a ≡ true → g a (gives.Fault e) ≡ gives.Fault e

@@ -1,5 +1,5 @@
 -- Lanes that are marked, as positions.
-use Rattle.std.specs.Prelude.{◌≡◌, ℕ, zero, suc, ◌<◌, ◌==◌, ◌&&◌, ◌||◌, Bool, true, false, not, cond, if◌then◌else◌, List, [], ◌∷◌, length, filter, find, replicate, get_or, All, Option, Some, None, Result, Ok, Err, IfOk}
+use Rattle.std.specs.Prelude.{◌≡◌, ℕ, ◌<◌, ◌==◌, ◌&&◌, Bool, true, false, not, cond, if◌then◌else◌, List, [], ◌∷◌, length, filter, find, replicate, get_or, Option, Some, None, Result, Ok, Err, IfOk}
 use Rattle.std.specs.List.{range_with_len, AllByRecursion}
 use Rattle.std.specs.List.Sorted.{IsStrictlySortedBy}
 use Rattle.std.specs.Ordering.{nat_cmp}
@@ -12,11 +12,10 @@ use Rattle.std.proofs.lemmas.List.Kept.{IsStrictlyIncreasing-filter}
 use Rattle.std.proofs.lemmas.Bool.{eqb-true, eqb-false}
 use Rattle.meaning.proofs.Tests.{both, first_of, second_of, or_second}
 use Rattle.vectors.specs.Selection.{IsMask, IsSelection, Positions, all_below, is_among, without}
-use Rattle.vectors.proofs.Positions.{all_are_selection, full_mask, positions_are}
+use Rattle.vectors.proofs.Positions.{all_are_selection, full_mask}
 use Rattle.lane_loops.specs.Lanes.{AreLanes, is_flag, is_flagged, null_at}
-use Rattle.vector_operators.specs.Evaluated.{IsWithin}
 use Rattle.vector_operators.specs.Given.{AreNarrowed}
-use Rattle.vector_operators.specs.LaneSets.{AreMarks, MarkWhere, lanes_in, marked}
+use Rattle.vector_operators.specs.LaneSets.{MarkWhere, lanes_in, marked}
 use Rattle.vector_operators.proofs.Among.{all_among, filter_stays, filter_stood, flagged_within, or_cases, within_among, self_among, less_is}
 
 same_bool : (a b : Bool) → (a ≡ true → b ≡ true) → (b ≡ true → a ≡ true) → a ≡ b

@@ -1,6 +1,6 @@
 -- What arithmetic gives where no lane has a fault.
-use Rattle.std.specs.Prelude.{◌≡◌, ℕ, ◌<◌, ℤ, pos, Bool, true, false, List, length, replicate, get_or, Option, Some, None, Result, Ok, Err, IfOk, IfSome}
-use Rattle.std.proofs.Common.{refl, sym, ap, arith, subst, ◌∙◌, inl}
+use Rattle.std.specs.Prelude.{◌≡◌, ℕ, ◌<◌, ℤ, pos, Bool, true, false, List, length, replicate, get_or}
+use Rattle.std.proofs.Common.{refl, sym, ap, arith, ◌∙◌, inl}
 use Rattle.std.proofs.lemmas.List.{length-replicate, get_or-replicate}
 use Rattle.meaning.specs.declared.value.Value.{Value}
 use Rattle.meaning.specs.declared.value.Value.TheVariants.{Null, Int}

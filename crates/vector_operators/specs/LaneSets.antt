@@ -1,7 +1,7 @@
 -- Lanes that are evaluated.
-use Rattle.std.specs.Prelude.{◌≡◌, ℕ, ◌<◌, ◌&&◌, Bool, true, false, List, filter, length, get_or, Option, Some, None}
+use Rattle.std.specs.Prelude.{◌≡◌, ℕ, ◌<◌, Bool, true, false, List, filter, length, get_or, Option, Some, None}
 use Rattle.std.specs.List.{range_with_len}
-use Rattle.vectors.specs.Selection.{Positions, is_among}
+use Rattle.vectors.specs.Selection.{Positions}
 use Rattle.vector_operators.specs.declared.lane_set.Marks.{Marks}
 use Rattle.vector_operators.specs.declared.lane_set.Marks.TheVariants as marks
 

@@ -1,5 +1,5 @@
 -- What loops of arithmetic report of lanes, and the fault that is noted.
-use Rattle.std.specs.Prelude.{◌≡◌, ℕ, ◌==◌, ◌<◌, Bool, List, length, get_or, find, Option, Some, None, if◌then◌else◌}
+use Rattle.std.specs.Prelude.{◌≡◌, ℕ, ◌==◌, Bool, List, get_or, find, Option, Some, None, if◌then◌else◌}
 use Rattle.meaning.specs.declared.outcome.Fault.{Fault}
 use Rattle.meaning.specs.declared.outcome.Fault.TheVariants.{Overflow, DivisionByZero}
 use Rattle.lane_loops.specs.Lanes.{cleared_flag, is_flagged}

@@ -28,7 +28,7 @@ impl Model for Selection {
     ghost invariant = { λ s. IsHeld s.is_all s.count s.positions.items };
 }
 
-/// Puts in front the positions below the length at which `keep` answers true, and reports how many
+/// Puts in front the positions below the length at which `keep` answers true, and returns how many
 /// these are.
 fn keep_of_all<F: Fn(u32) -> bool>(positions: &mut [u32], keep: &F) -> usize
     requires few { length positions.old < 2 ^ 32 }
@@ -46,7 +46,7 @@ fn keep_of_all<F: Fn(u32) -> bool>(positions: &mut [u32], keep: &F) -> usize
     count
 }
 
-/// Puts in front those of the first `n` at which `keep` answers true, and reports how many these
+/// Puts in front those of the first `n` at which `keep` answers true, and returns how many these
 /// are.
 fn keep_of_front<F: Fn(u32) -> bool>(positions: &mut [u32], n: usize, keep: &F) -> usize
     requires front { n ≤ length positions.old }
@@ -64,7 +64,7 @@ fn keep_of_front<F: Fn(u32) -> bool>(positions: &mut [u32], n: usize, keep: &F) 
     count
 }
 
-/// Puts in front those that `keep` leaves of all positions or of the first `count`, and reports how
+/// Puts in front those that `keep` leaves of all positions or of the first `count`, and returns how
 /// many these are.
 fn keep_positions<F: Fn(u32) -> bool>(
     positions: &mut [u32],

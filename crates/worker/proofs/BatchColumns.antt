@@ -15,7 +15,7 @@ use Rattle.meaning.specs.TableLaws.{IsTypedAggregate}
 use Rattle.meaning.specs.Typing.{Boolean, RowTypes, Valued, has_type}
 use Rattle.meaning.specs.SoundPlan.{HasTypesOf, IsListed, IsSoundPlan}
 use Rattle.meaning.proofs.Tests.{or_second}
-use Rattle.encodings.specs.Block.{Block}
+use Rattle.fragment_file.specs.Rows.{RowGroup}
 use Rattle.fragment_file.proofs.TypedRows.{all_behind, all_front}
 use Rattle.vectors.specs.declared.batch.BatchColumn.{BatchColumn}
 use Rattle.vectors.specs.declared.batch.ColumnReference.{ColumnReference}
@@ -31,7 +31,7 @@ use Rattle.worker.specs.Evaluated.{FitsColumns}
 same_column : (p : ℕ) → same_reference (reference.Fact p) (reference.Fact p) ≡ true
 same_column p = eq-eqb p p refl
 
-pub listed_there : (group : List Block) (first rows : ℕ) (ps : List ℕ) (cs : List BatchColumn) (at k : ℕ) → AreColumnsAt group first rows ps cs → k < length ps → get_or ps k at ≡ at
+pub listed_there : (group : RowGroup) (first rows : ℕ) (ps : List ℕ) (cs : List BatchColumn) (at k : ℕ) → AreColumnsAt group first rows ps cs → k < length ps → get_or ps k at ≡ at
     → list_any (λ column. same_reference column.reference (reference.Fact at)) cs ≡ true
 listed_there group first rows [] cs at k are lt is = absurd (omega (arith, lt))
 listed_there group first rows (p ∷ ps) [] at k are lt is = absurd are

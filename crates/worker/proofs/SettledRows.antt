@@ -44,7 +44,7 @@ conditions-append : (cs ds : List Expr) (row : JoinedRow) → conditions (cs ++ 
 conditions-append [] ds row = refl
 conditions-append (c ∷ cs) ds row = ap (behind (eval c row)) (conditions-append cs ds row) ∙ in_turn (eval c row) (conditions cs row) (conditions ds row)
 
--- where the first conditions are passed, the others alone report what all do
+-- where the first conditions are passed, the others alone decide what all do
 pub later_alone : (n : ℕ) (cs : List Expr) (row : JoinedRow) → conditions (take n cs) row ≡ gives.Truth True → conditions (drop n cs) row ≡ conditions cs row
 later_alone n cs row all =
     sym (ap (λ (xs : List Expr). conditions xs row) (sym (take-append-drop n cs)) ∙ conditions-append (take n cs) (drop n cs) row ∙ ap (λ (o : Outcome). behind o (conditions (drop n cs) row)) all)

@@ -3,7 +3,7 @@ use crate::lanes::lines::{Lines, first_word, int_of, lines_of, second_word};
 use crate::lanes::tests::show_truths;
 use crate::words::truth_of;
 use lane_loops::{
-    and_truths, choose, mask_to_positions, not_truths, or_truths, true_lanes, truths_of_bits,
+    and_truths, choose, mask_to_places, not_truths, or_truths, true_lanes, truths_of_bits,
 };
 use meaning::Truth;
 use std::alloc::AllocError;
@@ -56,7 +56,7 @@ pub fn show(
 pub fn positions(shown: &mut String, body: &str) -> Result<(), AllocError> {
     let Lines { lines, .. } = lines_of(body);
     let mut positions = [0u32; 8];
-    let count = mask_to_positions(&bits_of(&lines), &mut positions);
+    let count = mask_to_places(&bits_of(&lines), &mut positions);
     shown.push_str("positions")?;
     for position in &positions[..count] {
         write!(shown, " {position}")?;

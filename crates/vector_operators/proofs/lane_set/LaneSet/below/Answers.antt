@@ -1,5 +1,5 @@
 -- Proofs of the goals of `LaneSet::below` (`lane_set`).
-use Rattle.std.proofs.Common.{subst, sym}
+use Rattle.std.proofs.Common.{subst}
 use Rattle.vectors.specs.Selection.{IsSelection}
 use Rattle.vector_operators.specs.LaneSets.{mask_in}
 use Rattle.vector_operators.proofs.MarkedLanes.{are_selection}

@@ -1,5 +1,5 @@
 -- Proofs of the goals of `LaneSet::minus` (`lane_set`).
-use Rattle.std.proofs.Common.{sym, ap, subst, ◌∙◌, ◌≡◌, length, ℕ, false, not, ◌&&◌, List, Bool}
+use Rattle.std.proofs.Common.{sym, ap, subst, ◌∙◌, ◌≡◌, ℕ, false, not, ◌&&◌, List, Bool}
 use Rattle.vectors.specs.Selection.{IsMask, IsSelection, Positions}
 use Rattle.lane_loops.specs.Lanes.{AreLanes, null_at}
 use Rattle.vector_operators.specs.LaneSets.{mask_in}

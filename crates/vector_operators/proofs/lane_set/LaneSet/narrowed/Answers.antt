@@ -1,5 +1,5 @@
 -- Proofs of the goals of `LaneSet::narrowed` (`lane_set`).
-use Rattle.std.proofs.Common.{sym, ap, subst, ◌∙◌, ◌≡◌, length, ℕ, false, ◌&&◌, List, Bool}
+use Rattle.std.proofs.Common.{sym, ap, subst, ◌∙◌, ◌≡◌, length, ℕ, false, ◌&&◌}
 use Rattle.vectors.specs.Selection.{Positions}
 use Rattle.lane_loops.specs.Lanes.{AreLanes, null_at}
 use Rattle.vector_operators.specs.Given.{AreNarrowed}

@@ -1,5 +1,5 @@
 -- Proofs of the goals of `Ints::get` (`ints`).
-use Rattle.std.proofs.Common.{◌∙◌, ap, length, pos, ℤ}
+use Rattle.std.proofs.Common.{◌∙◌, length, pos}
 use Rattle.meaning.specs.declared.value.Value.TheVariants.{Int}
 use Rattle.vectors.specs.Lanes.{ints_of}
 use Rattle.vectors.proofs.Lanes.{cell_within, null_marked, null_lane, value_lane}

@@ -1,6 +1,6 @@
 -- Proofs of the goals of `Selection::keep_marked` (`selection`).
-use Rattle.std.proofs.Common.{rules, ◌<◌, ◌∙◌, sym, ap, subst, get_or, false, filter, ℕ, List, All}
-use Rattle.vectors.specs.Selection.{Positions, IsSelection}
+use Rattle.std.proofs.Common.{rules, subst, get_or, false, filter}
+use Rattle.vectors.specs.Selection.{IsSelection}
 use Rattle.vectors.proofs.Positions.{keeps_filter, positions_are}
 use Rattle.vectors.proofs.selection.Selection.keep_marked.Goals as goal
 

@@ -1,9 +1,9 @@
--- Proofs of the goals of `mask_to_positions` (`positions`).
+-- Proofs of the goals of `mask_to_places` (`positions`).
 use Rattle.std.proofs.Common.{◌<◌, ◌==◌, ◌∙◌, not, arith, length, get_or}
 use Rattle.std.proofs.lemmas.List.{length-set}
 use Rattle.vectors.proofs.Narrowing.{counted_more}
 use Rattle.lane_loops.proofs.GatheredPositions.{positions_more}
-use Rattle.lane_loops.proofs.positions.mask_to_positions.Goals as goal
+use Rattle.lane_loops.proofs.positions.mask_to_places.Goals as goal
 
 pub loop-i-preserved : goal.loop-i-preserved
 loop-i-preserved c =

@@ -1,7 +1,7 @@
--- Loop invariants of `mask_to_positions` (`positions`).
+-- Loop invariants of `mask_to_places` (`positions`).
 use Rattle.std.proofs.Common.{◌≡◌, ◌≤◌, ◌==◌, not, length, filter, get_or, take}
 use Rattle.std.specs.List.{range_with_len}
-use Rattle.lane_loops.proofs.positions.mask_to_positions.Given as goal
+use Rattle.lane_loops.proofs.positions.mask_to_places.Given as goal
 
 abbrev pub invariant-loop-i : goal.invariant-loop-i
 invariant-loop-i l =

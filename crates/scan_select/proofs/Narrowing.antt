@@ -14,7 +14,6 @@ use Rattle.meaning.specs.declared.joined_row.JoinedRow.{JoinedRow}
 use Rattle.meaning.specs.Expr.{eval}
 use Rattle.meaning.proofs.Tests.{both, and_true}
 use Rattle.vectors.specs.declared.vector.Vector.{Vector}
-use Rattle.vectors.specs.declared.vector.Vector.TheVariants as vector
 use Rattle.vectors.specs.Selection.{is_among}
 use Rattle.vector_operators.specs.Evaluated.{Held, IsBefore, Finds, Evaluates, lane_of}
 use Rattle.primitives.specs.Meant.{meant_at, row_at}

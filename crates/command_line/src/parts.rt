@@ -10,7 +10,7 @@ ghost use Rattle.command_line.specs.Steps.{given_of, plain_of};
 ghost use Rattle.command_line.specs.Words.{IsNumber, values};
 
 use crate::found::Found;
-use meaning::MAX_VECTOR_ROWS;
+use meaning::is_vector_length;
 use std::alloc::{AllocError, Global};
 
 const DEFAULT_VECTOR_ROWS: u32 = 1024;
@@ -140,9 +140,21 @@ impl<'a> Parts<'a> {
     {
         match self.find("vector") {
             Found::Nothing => Some(DEFAULT_VECTOR_ROWS),
-            Found::Once(_) => self.number_within("vector", 1, MAX_VECTOR_ROWS as u32),
+            Found::Once(_) => self.vector_length("vector"),
             Found::Often => None,
         }
+    }
+
+    /// The number that an option's digits say, if a vector may have so many rows.
+    fn vector_length(&self, name: &str) -> Option<u32>
+        ensures { IfSome result (λ n. HasNumber name.now (given_of self.now) n × (1 ≤ n)
+            × (n ≤ max_vector_rows)) }
+    {
+        let number = self.number(name)?;
+        if !is_vector_length(number as usize) {
+            return None;
+        }
+        Some(number as u32)
     }
 }
 

@@ -21,7 +21,8 @@ use Rattle.coordinator.specs.declared.fault.WholeFault.{WholeFault}
 use Rattle.coordinator.specs.declared.fault.WholeFault.TheVariants as fault
 use Rattle.coordinator.specs.Fragment.{AreFragments, AreTableFiles}
 use Rattle.gathering.specs.Gathering.{GatherSpec}
-use Rattle.coordinator.specs.Whole.{Files, files_in, input_of, csv_of, joined_csvs, joined_from, joined_table, table_from, tables_of, AreTablesLoaded, IsAnsweredOver, is_vector_length, IsAnswered, RunsOver, IsEndRefusal, IsRefused}
+use Rattle.meaning.specs.VectorLength.{is_vector_length}
+use Rattle.coordinator.specs.Whole.{Files, files_in, input_of, csv_of, joined_csvs, joined_from, joined_table, table_from, tables_of, AreTablesLoaded, IsAnsweredOver, IsAnswered, RunsOver, IsEndRefusal, IsRefused}
 use Rattle.planner.specs.QueryText.{IsPlanned}
 use Rattle.loader.proofs.RowRuns.{ok_parts}
 use Rattle.coordinator.proofs.CountedRows.{went_on, counted_fact}

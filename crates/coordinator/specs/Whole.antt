@@ -1,10 +1,10 @@
 -- A query from CSV files to print: what it runs over, and why it is refused.
-use Rattle.std.specs.Prelude.{◌≡◌, ◌⊎◌, ℕ, nat_le, Bool, true, false, ◌&&◌, List, [], map, zip, find, Option, Some, None, Result, Ok, Err, ⊤, ◌≢◌, length, sum}
+use Rattle.std.specs.Prelude.{◌≡◌, ◌⊎◌, ℕ, true, false, List, [], map, zip, find, Option, Some, None, Result, Ok, Err, ⊤, ◌≢◌, length, sum}
 use Rattle.std.specs.Borrow.{Bor}
 use Rattle.std.specs.List.{range_with_len}
 use Rattle.std.specs.Str.{bytes_eq}
 use Rattle.std.specs.Io.KnownBytes.{Appends}
-use Rattle.meaning.specs.Limits.{max_vector_rows}
+use Rattle.meaning.specs.VectorLength.{is_vector_length}
 use Rattle.meaning.specs.declared.catalog.Catalog.{Catalog}
 use Rattle.meaning.specs.declared.catalog.Dimension.{Dimension}
 use Rattle.meaning.specs.declared.catalog.CatalogFault.{CatalogFault}
@@ -134,10 +134,6 @@ tables_of catalog files cut plan =
     Ok (rows, dims)))))
 
 -- ---- what is asked
-
--- vectors have 1 to 4,096 values
-abbrev pub is_vector_length : ℕ → Bool
-is_vector_length n = nat_le 1 n && nat_le n max_vector_rows
 
 -- all that a call is given but the writer
 pub record Input : Type 0 where

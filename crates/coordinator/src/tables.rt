@@ -1,7 +1,8 @@
 //! The tables that a plan names, from their CSV files.
 ghost use Rattle.std.specs.Prelude.{◌≡◌, ◌≢◌, IfOk, IfErr, OnOk, Err, true, false};
 ghost use Rattle.meaning.specs.Catalog.{IsWellFormed};
-ghost use Rattle.coordinator.specs.Whole.{AreTablesLoaded, IsTablesRefused, files_in, is_vector_length, tables_of};
+ghost use Rattle.meaning.specs.VectorLength.{is_vector_length};
+ghost use Rattle.coordinator.specs.Whole.{AreTablesLoaded, IsTablesRefused, files_in, tables_of};
 ghost use Rattle.coordinator.specs.declared.fault.WholeFault.TheVariants as fault;
 
 use crate::csvs::{check_csvs, csv_of};
@@ -10,7 +11,7 @@ use crate::sources::Sources;
 use crate::table_files::joined_files;
 use columns::Column;
 use loader::load_fact;
-use meaning::{Catalog, MAX_VECTOR_ROWS, Plan, Sequence};
+use meaning::{Catalog, Plan, Sequence, is_vector_length};
 use std::alloc::Global;
 use std::mem::drop;
 
@@ -54,7 +55,7 @@ fn check_vector_len(vector_len: usize) -> Result<(), WholeFault>
     ensures refused { IfErr result (λ e. (e ≡ WholeFault.VectorLength)
         × (is_vector_length vector_len ≡ false)) }
 {
-    if vector_len == 0 || vector_len > MAX_VECTOR_ROWS {
+    if !is_vector_length(vector_len) {
         return Err(WholeFault::VectorLength);
     }
     Ok(())

@@ -46,21 +46,23 @@ null-texts (true ∷ bs) (x ∷ xs) h = ap (λ ys. true ∷ ys) (null-texts bs x
 null-texts (false ∷ bs) (x ∷ xs) h = ap (λ ys. false ∷ ys) (null-texts bs xs (omega arith))
 
 pub nulls-masked : (col_type : ColType) (nulls : List Bool) (ints : List ℤ) (texts : List (List ℕ))
-    → AreRoom col_type nulls ints texts → map is_null (masked_cells col_type nulls ints texts) ≡ nulls
-nulls-masked of_type.Int nulls ints texts h = null-ints nulls ints h
-nulls-masked of_type.Text nulls ints texts h = null-texts nulls texts h
+    → AreRoom nulls ints texts → map is_null (masked_cells col_type nulls ints texts) ≡ nulls
+nulls-masked of_type.Int nulls ints texts h = null-ints nulls ints h.0
+nulls-masked of_type.Text nulls ints texts h = null-texts nulls texts h.1
 
 -- as much room as there was
-pub room_kept : (col_type : ColType) (nulls nulls' : List Bool) (ints ints' : List ℤ) (texts texts' : List (List ℕ))
-    → AreRoom col_type nulls ints texts → length nulls' ≡ length nulls → length ints' ≡ length ints → length texts' ≡ length texts → AreRoom col_type nulls' ints' texts'
-room_kept of_type.Int nulls nulls' ints ints' texts texts' h a b d = b ∙ (h ∙ sym a)
-room_kept of_type.Text nulls nulls' ints ints' texts texts' h a b d = d ∙ (h ∙ sym a)
+pub room_kept : (nulls nulls' : List Bool) (ints ints' : List ℤ) (texts texts' : List (List ℕ))
+    → AreRoom nulls ints texts → length nulls' ≡ length nulls → length ints' ≡ length ints → length texts' ≡ length texts → AreRoom nulls' ints' texts'
+room_kept nulls nulls' ints ints' texts texts' h a b d = (b ∙ (h.0 ∙ sym a), d ∙ (h.1 ∙ sym a))
 
 -- the room that the front takes
-room_front : (col_type : ColType) (n : ℕ) (nulls : List Bool) (ints : List ℤ) (texts : List (List ℕ))
-    → AreRoom col_type nulls ints texts → n ≤ length nulls → AreRoom col_type (take n nulls) (take n ints) (take n texts)
-room_front of_type.Int n nulls ints texts h z = length-take-le n ints (omega arith) ∙ sym (length-take-le n nulls z)
-room_front of_type.Text n nulls ints texts h z = length-take-le n texts (omega arith) ∙ sym (length-take-le n nulls z)
+room_front : (n : ℕ) (nulls : List Bool) (ints : List ℤ) (texts : List (List ℕ))
+    → AreRoom nulls ints texts → n ≤ length nulls → AreRoom (take n nulls) (take n ints) (take n texts)
+room_front n nulls ints texts h z =
+    let a : length ints ≡ length nulls = h.0 in
+    let b : length texts ≡ length nulls = h.1 in
+    let front : length (take n nulls) ≡ n = length-take-le n nulls z in
+    (length-take-le n ints (omega (arith, a, z)) ∙ sym front, length-take-le n texts (omega (arith, b, z)) ∙ sym front)
 
 -- ---- cells of NULL
 blank_number : (z : ℤ) → is_blank (Int z) ≡ true → pos 0 ≡ z
@@ -97,10 +99,10 @@ blank-texts (true ∷ bs) (x ∷ xs) h l =
 blank-texts (false ∷ bs) (x ∷ xs) h l = ap (λ ys. x ∷ ys) (blank-texts bs xs (omega arith) l)
 
 blank_cells : (col_type : ColType) (nulls : List Bool) (ints : List ℤ) (texts : List (List ℕ))
-    → AreRoom col_type nulls ints texts
+    → AreRoom nulls ints texts
     → list_all is_returned (zip nulls (cells_in col_type ints texts)) ≡ true → AreBlank col_type nulls ints texts
-blank_cells of_type.Int nulls ints texts h l = blank-ints nulls ints (sym h) l
-blank_cells of_type.Text nulls ints texts h l = blank-texts nulls texts (sym h) l
+blank_cells of_type.Int nulls ints texts h l = blank-ints nulls ints (sym h.0) l
+blank_cells of_type.Text nulls ints texts h l = blank-texts nulls texts (sym h.1) l
 
 -- ---- parts of pairs
 zip-nil : {X Y : Type 0} (xs : List X) (ys : List Y) → length ys ≡ 0 → [] ≡ zip xs ys
@@ -155,7 +157,7 @@ pub int-at : (len : ℕ) (nulls : List Bool) (ints : List ℤ) (texts : List (Li
     → Int (get_or ints i (pos 0)) ≡ get_or (vector_of of_type.Int len nulls ints texts).values i Null
 int-at len nulls ints texts i cells h f =
     let k : i < len = below_len of_type.Int len nulls ints texts i cells.within h in
-    let room : len ≤ length ints = (let x : length ints ≡ length nulls = cells.room in let y : len ≤ length nulls = cells.within in omega (arith, x, y)) in
+    let room : len ≤ length ints = (let x : length ints ≡ length nulls = cells.room.0 in let y : len ≤ length nulls = cells.within in omega (arith, x, y)) in
     let m : length (take len ints) ≡ len = length-take-le len ints room in
     let own : List Value = map Int (take len ints) in
     let l : length own ≡ len = length-map (take len ints) Int ∙ m in
@@ -168,7 +170,7 @@ pub text-at : (len : ℕ) (nulls : List Bool) (ints : List ℤ) (texts : List (L
     → Text (get_or texts i []) ≡ get_or (vector_of of_type.Text len nulls ints texts).values i Null
 text-at len nulls ints texts i cells h f =
     let k : i < len = below_len of_type.Text len nulls ints texts i cells.within h in
-    let room : len ≤ length texts = (let x : length texts ≡ length nulls = cells.room in let y : len ≤ length nulls = cells.within in omega (arith, x, y)) in
+    let room : len ≤ length texts = (let x : length texts ≡ length nulls = cells.room.1 in let y : len ≤ length nulls = cells.within in omega (arith, x, y)) in
     let m : length (take len texts) ≡ len = length-take-le len texts room in
     let own : List Value = map Text (take len texts) in
     let l : length own ≡ len = length-map (take len texts) Text ∙ m in
@@ -181,18 +183,18 @@ pub text_room : {T : Type 0} (len : ℕ) (nulls : List Bool) (ints : List ℤ) (
     → i < length lent
 text_room len nulls ints texts lent i cells h e =
     let k : i < len = below_len of_type.Text len nulls ints texts i cells.within h in
-    let x : length texts ≡ length nulls = cells.room in
+    let x : length texts ≡ length nulls = cells.room.1 in
     let y : len ≤ length nulls = cells.within in
     omega (arith, x, y, e, k)
 
 length-cells : (col_type : ColType) (len : ℕ) (nulls : List Bool) (ints : List ℤ) (texts : List (List ℕ))
     → AreCells col_type len nulls ints texts → length (cells_in col_type (take len ints) (take len texts)) ≡ len
 length-cells of_type.Int len nulls ints texts cells =
-    let x : length ints ≡ length nulls = cells.room in
+    let x : length ints ≡ length nulls = cells.room.0 in
     let y : len ≤ length nulls = cells.within in
     length-map (take len ints) Int ∙ length-take-le len ints (omega (arith, x, y))
 length-cells of_type.Text len nulls ints texts cells =
-    let x : length texts ≡ length nulls = cells.room in
+    let x : length texts ≡ length nulls = cells.room.1 in
     let y : len ≤ length nulls = cells.within in
     length-map (take len texts) Text ∙ length-take-le len texts (omega (arith, x, y))
 
@@ -207,7 +209,7 @@ null-at col_type len nulls ints texts i cells h f =
 pub nulls-of : (col_type : ColType) (len : ℕ) (nulls : List Bool) (ints : List ℤ) (texts : List (List ℕ))
     → AreCells col_type len nulls ints texts → take len nulls ≡ map is_null (vector_of col_type len nulls ints texts).values
 nulls-of col_type len nulls ints texts cells =
-    sym (nulls-masked col_type (take len nulls) (take len ints) (take len texts) (room_front col_type len nulls ints texts cells.room cells.within))
+    sym (nulls-masked col_type (take len nulls) (take len ints) (take len texts) (room_front len nulls ints texts cells.room cells.within))
 
 pub texts-of : (len : ℕ) (nulls : List Bool) (ints : List ℤ) (texts : List (List ℕ))
     → AreCells of_type.Text len nulls ints texts → take len texts ≡ map bytes (vector_of of_type.Text len nulls ints texts).values
@@ -274,7 +276,7 @@ values_read b room from nulls cells e f =
 pub blank_read : (b : Block) (col_type : ColType) (n k : ℕ) (nulls : List Bool) (ints : List ℤ) (texts : List (List ℕ))
     → is_block b ≡ true
     → nulls ≡ take n (drop k (nulls_of b)) → cells_in col_type ints texts ≡ take n (drop k (cells_of b))
-    → AreRoom col_type nulls ints texts → AreBlank col_type nulls ints texts
+    → AreRoom nulls ints texts → AreBlank col_type nulls ints texts
 blank_read b col_type n k nulls ints texts h e f x =
     let returned : list_all is_returned (zip (nulls_of b) (cells_of b)) ≡ true
     = second_of (is_body b.kind b.col_type b.rows (body_of b)) _ (second_of (is_mask b.rows (mask_of b)) _
@@ -290,11 +292,11 @@ blank_read b col_type n k nulls ints texts h e f x =
 pub cells_ready : (b : Block) (col_type : ColType) (n k : ℕ) (nulls : List Bool) (ints : List ℤ) (texts : List (List ℕ))
     → is_block b ≡ true
     → take n nulls ≡ take n (drop k (nulls_of b)) → cells_in col_type (take n ints) (take n texts) ≡ take n (drop k (cells_of b))
-    → AreRoom col_type nulls ints texts → n ≤ length nulls → AreCells col_type n nulls ints texts
+    → AreRoom nulls ints texts → n ≤ length nulls → AreCells col_type n nulls ints texts
 cells_ready b col_type n k nulls ints texts h e f x z = record {
   room = x;
   within = z;
-  blank = blank_read b col_type n k (take n nulls) (take n ints) (take n texts) h e f (room_front col_type n nulls ints texts x z);
+  blank = blank_read b col_type n k (take n nulls) (take n ints) (take n texts) h e f (room_front n nulls ints texts x z);
 }
 
 same_part : {X : Type 0} (n m k l : ℕ) → n ≡ m → k ≡ l → (xs : List X) → take n (drop k xs) ≡ take m (drop l xs)

@@ -9,7 +9,7 @@ use Rattle.columns.specs.Cells.{masked}
 use Rattle.encodings.specs.declared.vector_buf.Lanes.{Lanes}
 use Rattle.encodings.specs.declared.vector_buf.Lanes.TheVariants as lanes
 
--- how many values of a type there is room for, and the values that were read last
+-- how many values there is room for, and the values that were read last, with the type of their column
 pub record Vector : Type 0 where
   pub room : ℕ
   pub col_type : ColType
@@ -29,14 +29,13 @@ abbrev pub AreBlank : ColType → List Bool → List ℤ → List (List ℕ) →
 AreBlank of_type.Int nulls ints texts = map number (masked_cells of_type.Int nulls ints texts) ≡ ints
 AreBlank of_type.Text nulls ints texts = map bytes (masked_cells of_type.Text nulls ints texts) ≡ texts
 
--- there are as many cells of the type as there are marks of NULL
-abbrev pub AreRoom : ColType → List Bool → List ℤ → List (List ℕ) → Type 0
-AreRoom of_type.Int nulls ints texts = length ints ≡ length nulls
-AreRoom of_type.Text nulls ints texts = length texts ≡ length nulls
+-- there are as many cells of each type as there are marks of NULL
+abbrev pub AreRoom : List Bool → List ℤ → List (List ℕ) → Type 0
+AreRoom nulls ints texts = (length ints ≡ length nulls) × (length texts ≡ length nulls)
 
 -- cells that lie side by side, of which the first `len` are in use
 pub record AreCells (col_type : ColType) (len : ℕ) (nulls : List Bool) (ints : List ℤ) (texts : List (List ℕ)) : Type 0 where
-  pub room : AreRoom col_type nulls ints texts
+  pub room : AreRoom nulls ints texts
   pub within : len ≤ length nulls
   pub blank : AreBlank col_type (take len nulls) (take len ints) (take len texts)
 

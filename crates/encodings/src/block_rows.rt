@@ -97,7 +97,7 @@ pub struct Parts<'a> {
 }
 
 /// The values of a block from row `from` on, as many as there is room for. What was in the buffer
-/// is gone.
+/// is gone, and its type is the block's.
 pub fn read_rows<'a>(block: Parts<'a>, from: usize, out: &mut VectorBuf<'a>)
     requires block { is_block
         (record {
@@ -107,7 +107,6 @@ pub fn read_rows<'a>(block: Parts<'a>, from: usize, out: &mut VectorBuf<'a>)
           rows = block.rows;
           payload = block.payload.now;
         }) ≡ true }
-    requires typed { out.old.col_type ≡ block.col_type }
     ensures { out.new ≡ record {
       room = out.old.room;
       col_type = block.entry.col_type;
@@ -136,5 +135,6 @@ pub fn read_rows<'a>(block: Parts<'a>, from: usize, out: &mut VectorBuf<'a>)
         count,
     };
     read_cells(part, out.ints.as_mut_slice(), out.texts.as_mut_slice());
+    out.col_type = block.col_type;
     out.len = count;
 }

@@ -17,10 +17,11 @@ pub enum Lanes<'a> {
     Texts(Vec<&'a [u8]>),
 }
 
-/// Room for values of one type, filled anew by each read.
+/// Room for values of a column, filled anew by each read. It has the type of the column that filled
+/// it last.
 #[derive(Drop)]
 pub struct VectorBuf<'a> {
-    // Of the two, the one of the other type is empty.
+    // Of the two, the one of the other type has no values.
     pub(crate) ints: Vec<i64>,
     pub(crate) texts: Vec<&'a [u8]>,
     pub(crate) nulls: Vec<bool>,
@@ -49,25 +50,22 @@ fn integer_at(ints: &[i64], i: usize) -> i64
 }
 
 impl<'a> VectorBuf<'a> {
-    /// Room for `n` values of a type, and none there. Takes no memory for the other type.
-    pub fn new(alloc: Global, col_type: ColType, n: usize) -> Result<VectorBuf<'a>, AllocError>
-        ensures { IfOk result (λ v. v ≡ record { room = n; col_type = col_type; values = [] }) }
+    /// Room for `n` values of either type, and none there. The type is that of integers until a
+    /// column fills it.
+    pub fn new(alloc: Global, n: usize) -> Result<VectorBuf<'a>, AllocError>
+        ensures { IfOk result (λ v. v ≡ record { room = n; col_type = of_type.Int; values = [] }) }
     {
         let blank: &'a [u8] = &[];
-        let (ints, texts) = match col_type {
-            ColType::Int => (n, 0),
-            ColType::Text => (0, n),
-        };
         Ok(VectorBuf {
-            ints: vec![in alloc; 0; ints]?,
-            texts: vec![in alloc; blank; texts]?,
+            ints: vec![in alloc; 0; n]?,
+            texts: vec![in alloc; blank; n]?,
             nulls: vec![in alloc; false; n]?,
             len: 0,
-            col_type,
+            col_type: ColType::Int,
         })
     }
 
-    /// The type of the values.
+    /// The type of the values, that of the column which filled it last.
     pub fn col_type(&self) -> ColType
         ensures { result ≡ self.now.col_type }
     {
@@ -109,7 +107,7 @@ impl<'a> VectorBuf<'a> {
         &self.nulls.as_slice()[..self.len]
     }
 
-    /// The integers, with 0 in place of NULL. None for texts.
+    /// The integers, with 0 for NULL. None for texts.
     pub fn ints(&self) -> Option<&[i64]>
         ensures variant { IsSome result ↔ (self.now.col_type ≡ of_type.Int) }
         ensures value { IfSome result (λ ints. ints.now ≡ map number self.now.values) }
@@ -120,7 +118,7 @@ impl<'a> VectorBuf<'a> {
         }
     }
 
-    /// The bytes of the texts, with none in place of NULL. None for integers.
+    /// The bytes of the texts, with none for NULL. None for integers.
     pub fn texts(&self) -> Option<&[&'a [u8]]>
         ensures variant { IsSome result ↔ (self.now.col_type ≡ of_type.Text) }
         ensures value { IfSome result (λ texts. map (λ t. t.now) texts.now
@@ -132,8 +130,8 @@ impl<'a> VectorBuf<'a> {
         }
     }
 
-    /// The values that were read, and which of them are NULL: 0 or the empty text stands in the
-    /// place of such. Nothing is copied.
+    /// The values that were read, and which of them are NULL: these are 0 or the empty text.
+    /// Nothing is copied.
     pub fn into_parts(self) -> (Lanes<'a>, Vec<bool>)
         ensures { AreParts result.0 result.1.items self.entry }
     {

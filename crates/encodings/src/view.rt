@@ -189,10 +189,9 @@ impl<'a> BlockView<'a> {
         self.payload
     }
 
-    /// Fills the buffer, which is for values of this type, anew with those from row `from` on, as
-    /// many as it has room for or as are left. Takes no memory.
+    /// Fills the buffer anew with the values from row `from` on, as many as it has room for or as
+    /// are left. It takes this column's type, and no memory.
     pub fn read_into(&self, from: usize, out: &mut VectorBuf<'a>)
-        requires { out.old.col_type ≡ self.now.col_type }
         ensures { out.new ≡ record {
           room = out.old.room;
           col_type = self.now.col_type;

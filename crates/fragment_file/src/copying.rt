@@ -60,13 +60,12 @@ fn append_block<'a>(
     buffer: &mut VectorBuf<'a>,
 ) -> Result<(), FileFault>
     requires room { row_group_rows ≤ buffer.old.room }
-    requires kind { buffer.old.col_type ≡ block.now.col_type }
     requires col_type { block.now.col_type ≡ column.old.col_type }
     requires nullable { block.now.nullable ≡ column.old.nullable }
     ensures ok { OnOk result (column.new ≡ with_values column.old (values_of block.now)) }
     ensures err { IfErr result (λ f. f ≡ FileFault.Memory) }
     ensures room { buffer.new.room ≡ buffer.old.room }
-    ensures same { buffer.new.col_type ≡ buffer.old.col_type }
+    ensures kind { buffer.new.col_type ≡ block.now.col_type }
 {
     // No effect at run time. The proof reads from this call that the view is of a block.
     let _rows = block.len();
@@ -87,7 +86,6 @@ fn append_groups<'a>(
     requires nullable { (d : ADeclared)
         → column.old.nullable ≡ (slice_index_or view.now.header.columns index d).nullable }
     requires room { row_group_rows ≤ buffer.old.room }
-    requires kind { buffer.old.col_type ≡ column.old.col_type }
     ensures ok { OnOk result
         (column.new ≡ with_values column.old (column_values index view.now.groups)) }
     ensures err { IfErr result (λ f. f ≡ FileFault.Memory) }
@@ -118,7 +116,7 @@ pub fn read_column(
     ensures err { IfErr result (λ f. f ≡ FileFault.Memory) }
 {
     let declared = &view.header().columns.as_slice()[index];
-    let mut buffer = VectorBuf::new(alloc, declared.col_type, ROW_GROUP_ROWS)?;
+    let mut buffer = VectorBuf::new(alloc, ROW_GROUP_ROWS)?;
     let mut column = Column::new(alloc, declared.col_type, declared.nullable);
     match append_groups(&mut column, view, index, &mut buffer) {
         Ok(()) => Ok(column),

@@ -1,9 +1,9 @@
 -- What is known of a fragment that is given.
-use Rattle.std.specs.Prelude.{◌≡◌, ℕ, ◌≤◌, ◌==◌, nat_lt, nat_le, Bool, true, false, ◌&&◌, List, length, Result, Ok, Err}
+use Rattle.std.specs.Prelude.{◌≡◌, ℕ, ◌==◌, nat_lt, Bool, true, false, ◌&&◌, List, length, Result, Ok, Err}
 use Rattle.std.proofs.Common.{refl, ap, subst}
-use Rattle.std.proofs.lemmas.Bool.{eqb-true, leb-true, ltb-true}
+use Rattle.std.proofs.lemmas.Bool.{eqb-true, ltb-true}
 use Rattle.meaning.proofs.Tests.{first_of, second_of}
-use Rattle.meaning.specs.Limits.{max_vector_rows}
+use Rattle.meaning.specs.VectorLength.{is_vector_length}
 use Rattle.fragment_file.specs.Fragment.{FragmentSpec}
 use Rattle.fragment_file.specs.FragmentReading.{read_fragment}
 use Rattle.partial_codec.specs.Job.{JobSpec}
@@ -25,10 +25,8 @@ pub ok_is : {X E : Type 0} (x y : X) → ◌≡◌ {A = Result X E} (Ok x) (Ok y
 ok_is x y e = cc
 
 -- the length of vectors
-pub length_is : (n m : ℕ) → length_of n ≡ Ok m → (1 ≤ n) × (n ≤ max_vector_rows)
-length_is n m is =
-    let (passes, same) = is_provided (nat_le 1 n && nat_le n max_vector_rows) VectorLength n m is in
-    (leb-true 1 n (first_of _ _ passes), leb-true n max_vector_rows (second_of (nat_le 1 n) _ passes))
+pub length_is : (n m : ℕ) → length_of n ≡ Ok m → is_vector_length n ≡ true
+length_is n m is = (is_provided (is_vector_length n) VectorLength n m is).0
 
 input_is : (job : JobSpec) (k : ℕ) (f : FragmentSpec) → is_fragment_of job k f.header ≡ true → HasColumns job.plan.fact f.header → IsInput job k f
 input_is job k f named columns =
@@ -53,7 +51,7 @@ fragment_is job k bytes f is =
     subst (IsInput job k) end (input_is job k h (subst (λ (x : FragmentSpec). is_fragment_of job k x.header ≡ true) same is_named) has)
 
 -- where nothing is wrong
-pub given : (job : JobSpec) (k n : ℕ) (bytes : List ℕ) (dims : List (List ℕ)) (input : InputSpec) → input_of job k n bytes dims ≡ Ok input → IsInput job k input.fragment × ((1 ≤ n) × (n ≤ max_vector_rows))
+pub given : (job : JobSpec) (k n : ℕ) (bytes : List ℕ) (dims : List (List ℕ)) (input : InputSpec) → input_of job k n bytes dims ≡ Ok input → IsInput job k input.fragment × (is_vector_length n ≡ true)
 unfolding input_of
 given job k n bytes dims input is =
     let (m, long, more) = goes_there (length_of n) (λ m. fragment_file_of job k bytes >>= λ f. dimension_files_of job dims >>= λ ds. Ok (record { fragment = f; dims = ds })) input is in

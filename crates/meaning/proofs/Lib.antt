@@ -16,3 +16,4 @@ pub mod LikeBytes
 pub mod Tests
 pub mod NameForms
 pub mod Words
+pub mod VectorLengths

@@ -31,3 +31,4 @@ pub mod ExpressionLaws
 pub mod TableLaws
 pub mod SoundPlan
 pub mod TypeCodes
+pub mod VectorLength

@@ -21,6 +21,7 @@ mod sequence;
 mod table;
 mod text;
 mod value;
+mod vector_length;
 
 pub use answer::{Answer, Body, Cell, RowFault, Statistics};
 pub use boxed::Boxed;
@@ -41,3 +42,4 @@ pub use sequence::Sequence;
 pub use table::TableFault;
 pub use text::{Text, text_of};
 pub use value::{ColType, Row, Value, ValueRef, compare_lent, type_code};
+pub use vector_length::is_vector_length;

@@ -15,6 +15,42 @@ use std::alloc::{AllocError, Global};
 use vector_operators::{Fault1, LaneSet};
 use vectors::{Batch, Selection, Vector};
 
+/// What the expression gives on these lanes of the batch, as one vector.
+///
+/// The fault of the least lane that has one goes to `fault`, unless one at that lane or before is
+/// held there. Each of these lanes before the fault that is then held is what evaluation gives on
+/// its row; the others are open. Types fit where the expression has a type over the batch's
+/// columns, and these are there.
+pub fn eval_lanes<'a>(
+    alloc: Global,
+    expr: &'a Expr,
+    batch: &'a Batch<'_>,
+    lanes: &LaneSet,
+    fault: &mut Fault1,
+) -> Result<Vector<'a>, AllocError>
+    requires { lanes.now.below ≡ batch.now.rows }
+    ensures evaluated { IfOk result
+        (λ v. (types : RowTypes) (type : ExprType) (rows : List JoinedRow)
+        → AreTypedRows types batch.now rows → Fits types batch.now.columns expr.now type
+        → IsEvaluated (meant_at expr.now rows) lanes.now.list fault.old.held fault.new.held
+        (lane_of v)) }
+    ensures composes { IfOk result
+        (λ v. (types : RowTypes) (type : ExprType) (rows : List JoinedRow)
+        → AreTypedRows types batch.now rows → Fits types batch.now.columns expr.now type
+        → Evaluates (meant_at expr.now rows) (λ i. is_among lanes.now.list i ≡ true)
+        fault.old.held fault.new.held (lane_of v)) }
+    ensures typed { IfOk result (λ v. (types : RowTypes) (type : ExprType) (rows : List JoinedRow)
+        → AreTypedRows types batch.now rows → Fits types batch.now.columns expr.now type
+        → IsOfType type v) }
+    ensures long { IfOk result (λ v. length (outcomes_of v) ≡ batch.now.rows) }
+{
+    // That lanes ascend below the number of rows.
+    let _ = lanes.below();
+    let on = Evaluation { alloc, batch };
+    let given = eval(&on, expr, lanes, fault)?;
+    given.into_vector(alloc, batch.rows())
+}
+
 /// What the expression gives on each selected row of the batch, as one vector.
 ///
 /// The fault of the least selected position that has one goes to `fault`, unless one at that
@@ -44,10 +80,6 @@ pub fn eval_vec<'a>(
         → IsOfType type v) }
     ensures long { IfOk result (λ v. length (outcomes_of v) ≡ batch.now.rows) }
 {
-    // That positions ascend below the number of rows.
-    let _ = selection.len();
     let lanes = LaneSet::of(alloc, selection)?;
-    let on = Evaluation { alloc, batch };
-    let given = eval(&on, expr, &lanes, fault)?;
-    given.into_vector(alloc, batch.rows())
+    eval_lanes(alloc, expr, batch, &lanes, fault)
 }

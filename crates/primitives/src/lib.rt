@@ -6,5 +6,5 @@ mod evaluation;
 mod narrowing;
 mod nodes;
 
-pub use evaluation::eval_vec;
+pub use evaluation::{eval_lanes, eval_vec};
 pub use narrowing::keep_where;

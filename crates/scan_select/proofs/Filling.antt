@@ -8,6 +8,7 @@ use Rattle.meaning.specs.declared.catalog.Column.{Column}
 use Rattle.meaning.specs.declared.value.ColType.{ColType}
 use Rattle.meaning.specs.declared.value.Value.{Value}
 use Rattle.meaning.specs.declared.outcome.Outcome.TheVariants as gives
+use Rattle.meaning.specs.VectorLength.{is_vector_length}
 use Rattle.encodings.specs.Block.{Block, values_of}
 use Rattle.fragment_file.specs.Copying.{is_taken}
 use Rattle.fragment_file.specs.Fragment.{AreBlocks, IsBlockOf, no_block}
@@ -16,7 +17,7 @@ use Rattle.vectors.specs.Vector.{BatchSpec, HasLanesOf}
 use Rattle.scan_select.specs.declared.buffers.ColumnBuffer.{ColumnBuffer}
 use Rattle.scan_select.specs.Buffers.{AddsLent, FitsGroup, IsBufferOf, IsPosition, IsFilled, IsLendable, IsLentOf, filled, filled_now, columns_of}
 use Rattle.scan_select.specs.Groups.{current_rows}
-use Rattle.scan_select.specs.Scanned.{AddsColumns, AreColumnsAt, IsColumnAt, IsVectorLength}
+use Rattle.scan_select.specs.Scanned.{AddsColumns, AreColumnsAt, IsColumnAt}
 use Rattle.scan_select.proofs.Masks.{length-window, window_taken}
 use Rattle.fragment_file.proofs.RowLaws.{length-values}
 
@@ -36,8 +37,7 @@ block_at (d ∷ ds) n (b ∷ bs) (suc p) c are there =
 
 fits_group : (cs : List Column) (n most : ℕ) (group : List Block) (b : ColumnBuffer) → AreBlocks cs n group → IsBufferOf cs most b → FitsGroup group b
 fits_group cs n most group b are is =
-    let at = block_at cs n group b.column is.column are is.there in
-    record { there = at.1; col_type = is.col_type ∙ sym at.0.col_type }
+    (block_at cs n group b.column is.column are is.there).1
 
 all_fit : (cs : List Column) (n most : ℕ) (group : List Block) (bs : List ColumnBuffer) → AreBlocks cs n group → AllByRecursion (IsBufferOf cs most) bs → AllByRecursion (FitsGroup group) bs
 all_fit cs n most group [] are all = tt
@@ -50,12 +50,12 @@ all_fit_group cs n most group bs are all = All-from_recursion (FitsGroup group) 
 
 all_filled : (group : List Block) (first : ℕ) (bs : List ColumnBuffer) → AllByRecursion (IsFilled group first) (map (filled group first) bs)
 all_filled group first [] = tt
-all_filled group first (b ∷ bs) = (refl, all_filled group first bs)
+all_filled group first (b ∷ bs) = (record { col_type = refl; values = refl }, all_filled group first bs)
 
 still_of : (cs : List Column) (most : ℕ) (group : List Block) (first : ℕ) (bs : List ColumnBuffer) → AllByRecursion (IsBufferOf cs most) bs → AllByRecursion (IsBufferOf cs most) (map (filled group first) bs)
 still_of cs most group first [] all = tt
 still_of cs most group first (b ∷ bs) all =
-    (record { column = all.0.column; there = all.0.there; col_type = all.0.col_type; nullable = all.0.nullable; room = all.0.room }, still_of cs most group first bs all.1)
+    (record { column = all.0.column; there = all.0.there; nullable = all.0.nullable; room = all.0.room }, still_of cs most group first bs all.1)
 
 same_columns : (group : List Block) (first : ℕ) (bs : List ColumnBuffer) → columns_of (map (filled group first) bs) ≡ columns_of bs
 same_columns group first [] = refl
@@ -66,7 +66,7 @@ now_columns None first bs = refl
 now_columns (Some group) first bs = same_columns group first bs
 
 -- where a scan stands when the buffers were filled anew
-pub stands_again : (cs : List Column) (most : ℕ) (current : Option (List Block)) (group_rows first rows : ℕ) (bs new : List ColumnBuffer) → All (λ p. p < length cs) (columns_of bs) → IsVectorLength most → group_rows ≡ current_rows current
+pub stands_again : (cs : List Column) (most : ℕ) (current : Option (List Block)) (group_rows first rows : ℕ) (bs new : List ColumnBuffer) → All (λ p. p < length cs) (columns_of bs) → is_vector_length most ≡ true → group_rows ≡ current_rows current
     → first ≤ group_rows → rows ≡ min most (group_rows - first) → All (IsBufferOf cs most) bs → new ≡ filled_now current first bs → IsPosition cs most current group_rows first rows new
 stands_again cs most None group_rows first rows bs new below vectors are within full of_columns filled =
     let same : new ≡ bs = filled in
@@ -136,14 +136,14 @@ module _ (cs : List Column) (n most : ℕ) (group : List Block) (first rows : �
       let count = length-values (get_or group b.column no_block) at.0.sound in
       let behind = length-drop first (values_of (get_or group b.column no_block)) in
       let same = at.0.rows in
-      filled ∙ ap (λ (k : ℕ). take k vs) is.room ∙ shorter most rows vs (omega (arith, full, count, behind, same))
+      filled.values ∙ ap (λ (k : ℕ). take k vs) is.room ∙ shorter most rows vs (omega (arith, full, count, behind, same))
 
   lendable : (b : ColumnBuffer) → IsBufferOf cs most b → IsFilled group first b → IsLendable rows b
   lendable b is filled =
       let at = block_at cs n group b.column is.column are is.there in
       let block : Block = get_or group b.column no_block in
       let values = holds b is filled in
-      let type : block.col_type ≡ b.values.col_type = at.0.col_type ∙ sym is.col_type in
+      let type : block.col_type ≡ b.values.col_type = sym filled.col_type in
       let nullable : block.nullable ≡ b.nullable = at.0.nullable ∙ sym is.nullable in
       let same = at.0.rows in
       record {
@@ -163,11 +163,10 @@ module _ (cs : List Column) (n most : ℕ) (group : List Block) (first rows : �
   -- what is lent is the column of the row group
   lent_at : (b : ColumnBuffer) (c : BatchColumn) → IsBufferOf cs most b → IsFilled group first b → IsLentOf b c → IsColumnAt group first rows b.column c
   lent_at b c is filled lent =
-      let at = block_at cs n group b.column is.column are is.there in
       record {
         reference = lent.reference;
         values = lent.values ∙ ap (map gives.Value) (holds b is filled);
-        typed = subst (λ (t : ColType). HasLanesOf t c.lanes) (is.col_type ∙ sym at.0.col_type) lent.typed;
+        typed = subst (λ (t : ColType). HasLanesOf t c.lanes) filled.col_type lent.typed;
       }
 
   all_at_columns : (bs : List ColumnBuffer) (columns : List BatchColumn) → AllByRecursion (IsBufferOf cs most) bs → AllByRecursion (IsFilled group first) bs → AllZip IsLentOf bs columns → AreColumnsAt group first rows (columns_of bs) columns

@@ -1,10 +1,10 @@
 -- What a scan has read, and what it is still to read.
-use Rattle.std.specs.Prelude.{◌≡◌, ℕ, ◌+◌, ◌≤◌, Bool, true, false, List, [], ◌∷◌, ◌++◌, map, length, replicate, get_or, take, drop, Option, Some, None, option_map}
+use Rattle.std.specs.Prelude.{◌≡◌, ℕ, ◌+◌, Bool, true, false, List, [], ◌∷◌, ◌++◌, map, length, replicate, get_or, take, drop, Option, Some, None, option_map}
 use Rattle.std.specs.List.{AllZip}
 use Rattle.meaning.specs.declared.outcome.Outcome.TheVariants as gives
 use Rattle.meaning.specs.declared.joined_row.JoinedRow.{JoinedRow}
 use Rattle.meaning.specs.Joined.{joined_row}
-use Rattle.meaning.specs.Limits.{max_vector_rows}
+use Rattle.meaning.specs.VectorLength.{is_vector_length}
 use Rattle.encodings.specs.Block.{Block, values_of}
 use Rattle.fragment_file.specs.declared.header.Header.{Header}
 use Rattle.fragment_file.specs.Fragment.{no_block}
@@ -30,11 +30,6 @@ pub record ScanSpec : Type 0 where
   pub at : Option Piece
   pub left : Option (List Piece)
 
--- vectors of 1 to 4,096 rows
-pub record IsVectorLength (n : ℕ) : Type 0 where
-  pub some : 1 ≤ n
-  pub few : n ≤ max_vector_rows
-
 -- the first of the pieces that were to come stands now, or none was to come
 abbrev pub Advances : Bool → List Piece → Option Piece → Option (List Piece) → Type 0
 Advances true pieces at left = (piece : Piece) × (rest : List Piece) × (pieces ≡ piece ∷ rest) × (at ≡ Some piece) × (left ≡ Some rest)
@@ -47,7 +42,7 @@ IsStanding false at = at ≡ None
 
 -- before the first row
 pub record IsFresh (scan : ScanSpec) (header : Header) (wanted : List ℕ) (most : ℕ) (coming : Option (List (List Block))) : Type 0 where
-  pub length : IsVectorLength most
+  pub length : is_vector_length most ≡ true
   pub fresh : scan ≡ record { header = header; columns = wanted; most = most; at = None; left = option_map (pieces most) coming }
 
 -- ---- lanes

@@ -47,7 +47,7 @@ impl<'v> ColumnBuffer<'v> {
         ensures buffer { IfOk result (λ b. IsBufferOf columns.now most b) }
     {
         let declared = &columns[column];
-        let values = VectorBuf::new(alloc, declared.col_type, most)?;
+        let values = VectorBuf::new(alloc, most)?;
         Ok(ColumnBuffer {
             column,
             nullable: declared.nullable,
@@ -55,8 +55,8 @@ impl<'v> ColumnBuffer<'v> {
         })
     }
 
-    /// Fills the buffer anew with the column's values in a row group, from row `first` on. Takes no
-    /// memory.
+    /// Fills the buffer anew with the column's values in a row group, from row `first` on. It takes
+    /// the column's type, and no memory.
     fn fill(&mut self, group: &GroupView<'v>, first: usize)
         requires { FitsGroup group.now self.old }
         ensures { self.new ≡ filled group.now first self.old }

@@ -1,18 +1,19 @@
 //! The rows of a file, vector by vector.
-ghost use Rattle.std.specs.Prelude.{◌≡◌, ◌≤◌, ◌<◌, ℕ, List, None, Some, length, All, OnErr, IfErr, IfOk, IfSome};
+ghost use Rattle.std.specs.Prelude.{◌≡◌, ◌≤◌, ◌<◌, ℕ, false, List, None, Some, length, All, OnErr, IfErr, IfOk, IfSome};
 ghost use Rattle.std.specs.List.{range_with_len};
+ghost use Rattle.meaning.specs.VectorLength.{is_vector_length};
 ghost use Rattle.scan_select.specs.declared.fault.ScanFault.TheVariants.{VectorLength};
 ghost use Rattle.scan_select.specs.Buffers.{IsBufferOf, filled_now};
 ghost use Rattle.scan_select.specs.Groups.{current_rows};
 ghost use Rattle.scan_select.specs.Pieces.{Piece};
-ghost use Rattle.scan_select.specs.Scanned.{Advances, GivesBatch, IsFresh, IsStanding, IsVectorLength};
+ghost use Rattle.scan_select.specs.Scanned.{Advances, GivesBatch, IsFresh, IsStanding};
 
 use crate::buffers::{ColumnBuffer, fill_all, lend_all, make_buffers};
 use crate::fault::ScanFault;
 use crate::file_groups::FileGroups;
 use crate::row_groups::RowGroups;
 use fragment_file::{FragmentView, GroupView};
-use meaning::MAX_VECTOR_ROWS;
+use meaning::is_vector_length;
 use std::alloc::{AllocError, Global};
 use std::marker::Model;
 use vectors::Batch;
@@ -114,9 +115,9 @@ impl<'v, G: RowGroups + Drop + 'v> Scan<'v, G> {
         requires before { G.current groups ≡ None }
         ensures ok { IfOk result
             (λ scan. IsFresh scan (G.header_of groups) wanted.now most (G.coming groups)) }
-        ensures err { IfErr result (λ f. f ≡ VectorLength → IsVectorLength most → ⊥) }
+        ensures err { IfErr result (λ f. f ≡ VectorLength → is_vector_length most ≡ false) }
     {
-        if most < 1 || MAX_VECTOR_ROWS < most {
+        if !is_vector_length(most) {
             return Err(ScanFault::VectorLength);
         }
         let columns = groups.header().columns.as_slice();
@@ -202,7 +203,7 @@ impl<'v> Scan<'v, FileGroups<'v>> {
         requires { All (λ p. p < length view.now.header.columns) wanted.now }
         ensures ok { IfOk result
             (λ scan. IsFresh scan view.now.header wanted.now most (Some view.now.groups)) }
-        ensures err { IfErr result (λ f. f ≡ VectorLength → IsVectorLength most → ⊥) }
+        ensures err { IfErr result (λ f. f ≡ VectorLength → is_vector_length most ≡ false) }
     {
         Scan::over(alloc, FileGroups::new(view), most, wanted)
     }
@@ -220,7 +221,7 @@ impl<'v> Scan<'v, FileGroups<'v>> {
         ensures ok { IfOk result
             (λ scan. IsFresh scan view.now.header
             (range_with_len 0 (length view.now.header.columns)) most (Some view.now.groups)) }
-        ensures err { IfErr result (λ f. f ≡ VectorLength → IsVectorLength most → ⊥) }
+        ensures err { IfErr result (λ f. f ≡ VectorLength → is_vector_length most ≡ false) }
     {
         let columns = all_columns(alloc, view.header().columns.len())?;
         Scan::of_columns(alloc, view, most, columns.as_slice())

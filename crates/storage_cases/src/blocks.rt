@@ -1,6 +1,4 @@
 //! Cases of blocks: the values that bytes encode, and the bytes that values are written as.
-ghost use Rattle.std.specs.Prelude.{◌≡◌};
-
 use crate::values::{column_of, show_value, type_of};
 use case_files::bytes_of;
 use columns::Column;
@@ -106,9 +104,7 @@ fn show_vectors<'a>(
     shown: &mut String,
     view: &BlockView<'a>,
     vector: &mut VectorBuf<'a>,
-) -> Result<(), AllocError>
-    requires { vector.old.col_type ≡ view.now.col_type }
-{
+) -> Result<(), AllocError> {
     let mut from: usize = 0;
     for _ in 0..view.len() {
         if from >= view.len() {
@@ -130,7 +126,7 @@ fn show_read(
     if room == 0 {
         return Ok(());
     }
-    let mut vector = VectorBuf::new(alloc, view.col_type(), room)?;
+    let mut vector = VectorBuf::new(alloc, room)?;
     let read = show_vectors(shown, view, &mut vector);
     drop(vector);
     read

@@ -63,7 +63,7 @@ fn lends_rows<'v>(
 }
 
 fn lends_block(alloc: Global, block: &BlockView<'_>, column: &Column) -> Result<bool, AllocError> {
-    let mut buffer = VectorBuf::new(alloc, block.col_type(), 1_024)?;
+    let mut buffer = VectorBuf::new(alloc, 1_024)?;
     block.read_into(0, &mut buffer);
     lends_rows(alloc, &buffer, column)
 }

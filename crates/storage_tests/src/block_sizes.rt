@@ -172,7 +172,7 @@ fn is_read<'a>(
     column: &Column,
     room: usize,
 ) -> Result<bool, AllocError> {
-    let mut vector = VectorBuf::new(alloc, view.col_type(), room)?;
+    let mut vector = VectorBuf::new(alloc, room)?;
     let mut from = 0;
     for _ in 0..column.len() {
         view.read_into(from, &mut vector);

@@ -39,7 +39,7 @@ fn batch_of<'c>(alloc: Global, lanes: Vector<'c>) -> Result<Batch<'c>, AllocErro
     Ok(batch)
 }
 
-/// The rows that are found, unless the selection is of other rows.
+/// The row at each position that is left, unless the selection is of other rows.
 fn look_up(
     alloc: Global,
     table: &DimTable,
@@ -61,10 +61,16 @@ fn position_at(selection: &Selection, k: usize) -> usize {
     }
 }
 
+/// The row at a position.
+fn row_at(rows: &[u32], position: usize) -> u32 {
+    rows.get(position).copied().unwrap_or(u32::MAX)
+}
+
 fn show_rows(shown: &mut String, selection: &Selection, rows: &[u32]) -> Result<(), AllocError> {
     write!(shown, "{} met", selection.len())?;
-    for (k, row) in rows.iter().enumerate() {
-        write!(shown, " {}>{row}", position_at(selection, k))?;
+    for k in 0..selection.len() {
+        let position = position_at(selection, k);
+        write!(shown, " {position}>{}", row_at(rows, position))?;
     }
     shown.push_str("\n")
 }
@@ -92,7 +98,7 @@ fn attach<'a>(
     selection: &Selection,
     rows: &[u32],
 ) -> Result<(), AllocError> {
-    if selection.below() != batch.rows() || rows.len() != selection.len() {
+    if selection.below() != batch.rows() || rows.len() != batch.rows() {
         return Err(AllocError);
     }
     table.attach(alloc, batch, JOIN, selection, rows)
@@ -197,9 +203,13 @@ struct Met {
     rows: u64,
 }
 
-fn sum_of(rows: &[u32]) -> u64 {
-    rows.iter()
-        .fold(0, |sum: u64, row| sum.wrapping_add(u64::from(*row)))
+fn sum_of(selection: &Selection, rows: &[u32]) -> u64 {
+    let mut sum = 0u64;
+    for k in 0..selection.len() {
+        let row = row_at(rows, position_at(selection, k));
+        sum = sum.wrapping_add(u64::from(row));
+    }
+    sum
 }
 
 fn met_in(alloc: Global, table: &DimTable, lanes: Vector<'_>) -> Result<Met, AllocError> {
@@ -213,8 +223,8 @@ fn found_in(alloc: Global, table: &DimTable, batch: &Batch<'_>) -> Result<Met, A
     let mut selection = selection_of(alloc, batch.rows(), "all")?;
     let rows = look_up(alloc, table, batch, &mut selection)?;
     Ok(Met {
-        keys: rows.len(),
-        rows: sum_of(rows.as_slice()),
+        keys: selection.len(),
+        rows: sum_of(&selection, rows.as_slice()),
     })
 }
 

@@ -43,16 +43,13 @@ invariant_of-out c =
     let tv : length f.texts.items ≡ f.texts.len = ap length (sym c.as_mut_slice-3.ensures.value) ∙ c.as_mut_slice-3.ensures.len in
     let tm : length (map now f.texts.items) ≡ length f.texts.items = length-map f.texts.items now in
     let tn : length texts ≡ length c.read_cells.new.texts = length-map c.read_cells.new.texts now in
-    let typed : f.col_type ≡ c.args.block.col_type = ap (λ v. v.col_type) c.out.view_is ∙ c.requires.typed in
-    let own : AreRoom c.args.block.col_type f.nulls.items f.ints.items (map now f.texts.items) =
-    subst (λ t. AreRoom t f.nulls.items f.ints.items (map now f.texts.items)) typed c.out.invariant.room in
+    let own : AreRoom f.nulls.items f.ints.items (map now f.texts.items) = c.out.invariant.room in
     let ready : AreCells c.args.block.col_type n nulls ints texts
     = cells_ready b c.args.block.col_type n k nulls ints texts c.requires.block e g
-    (room_kept c.args.block.col_type f.nulls.items nulls f.ints.items ints (map now f.texts.items) texts own (nl ∙ sym nv) (il ∙ sym iv) (tn ∙ (tl ∙ (sym tv ∙ sym tm)))) (omega (arith, hn, nl)) in
-    subst (λ t. AreCells t n (with_items f.nulls nulls).items (with_items f.ints ints).items (map now (with_items f.texts c.read_cells.new.texts).items)) (sym typed)
-    (subst (λ cs. AreCells c.args.block.col_type n cs (with_items f.ints ints).items (map now (with_items f.texts c.read_cells.new.texts).items)) (sym ns)
+    (room_kept f.nulls.items nulls f.ints.items ints (map now f.texts.items) texts own (nl ∙ sym nv) (il ∙ sym iv) (tn ∙ (tl ∙ (sym tv ∙ sym tm)))) (omega (arith, hn, nl)) in
+    subst (λ cs. AreCells c.args.block.col_type n cs (with_items f.ints ints).items (map now (with_items f.texts c.read_cells.new.texts).items)) (sym ns)
     (subst (λ cs. AreCells c.args.block.col_type n nulls cs (map now (with_items f.texts c.read_cells.new.texts).items)) (sym is)
-    (subst (AreCells c.args.block.col_type n nulls ints) (sym ts) ready)))
+    (subst (AreCells c.args.block.col_type n nulls ints) (sym ts) ready))
 
 pub returns : goal.returns
 returns c =
@@ -81,12 +78,10 @@ returns c =
     ∙ nulls_read c.args.block.nullable (mask_of b) k n c.args.block.rows (omega (arith, hn, hk)) in
     let g : cells_in c.args.block.col_type (take n ints) (take n texts) ≡ take n (drop k (cells_of b))
     = c.read_cells.ensures ∙ ap (λ ys. take n (drop k (body_cells c.args.block.kind c.args.block.col_type c.args.block.rows ys))) body in
-    let typed : f.col_type ≡ c.args.block.col_type = ap (λ v. v.col_type) c.out.view_is ∙ c.requires.typed in
     let room : length f.nulls.items ≡ c.args.out.now.room = ap (λ v. v.room) c.out.view_is in
     let nv : length f.nulls.items ≡ f.nulls.len = ap length (sym c.as_mut_slice.ensures.value) ∙ c.as_mut_slice.ensures.len in
     let r : f.nulls.len ≡ c.args.out.now.room = sym nv ∙ room in
-    ap (λ t. vector_of t n (with_items f.nulls nulls).items (with_items f.ints ints).items (map now (with_items f.texts c.read_cells.new.texts).items)) typed
-    ∙ ap (λ cs. vector_of c.args.block.col_type n cs (with_items f.ints ints).items (map now (with_items f.texts c.read_cells.new.texts).items)) ns
+    ap (λ cs. vector_of c.args.block.col_type n cs (with_items f.ints ints).items (map now (with_items f.texts c.read_cells.new.texts).items)) ns
     ∙ ap (λ cs. vector_of c.args.block.col_type n nulls cs (map now (with_items f.texts c.read_cells.new.texts).items)) is
     ∙ ap (vector_of c.args.block.col_type n nulls ints) ts
     ∙ vector_read b c.args.block.col_type c.args.out.now.room c.args.from n k nulls ints texts

@@ -5,20 +5,13 @@ use Rattle.fragment_file.proofs.CopiedColumns.{none, no_values, declared_is, blo
 use Rattle.fragment_file.proofs.copying.append_groups.Goals as goal
 
 pub loop-group-init : goal.loop-group-init
-loop-group-init c = (no_values c.args.column.now, refl, c.requires.kind)
+loop-group-init c = (no_values c.args.column.now, refl)
 
 pub append_block-requires-clause-room : goal.append_block-requires-clause-room
 append_block-requires-clause-room c =
     let same = c.loop-group.invariant.1 in
     let enough = c.requires.room in
     omega (arith, same, enough)
-
-pub append_block-requires-clause-kind : goal.append_block-requires-clause-kind
-append_block-requires-clause-kind c =
-    let below = c.loop-group-test.true in
-    let count = c.group_count-group-end.ensures in
-    let is = declared_is c.args.view.now c.group.result c.column-block.result c.loop-group.group c.args.index none c.header-header.ensures.sound (omega (arith, below, count)) c.group.ensures.value c.column-block.ensures c.requires.within in
-    c.loop-group.invariant.2 ∙ c.requires.col_type none ∙ sym is.1.col_type
 
 pub append_block-requires-clause-col_type : goal.append_block-requires-clause-col_type
 append_block-requires-clause-col_type c =
@@ -41,7 +34,6 @@ loop-group-preserved c =
       block_more c.args.column.now c.loop-group.column c.append_block.new.column c.args.view.now.groups c.group.result c.column-block.result c.loop-group.group c.args.index
           (omega (arith, below, count)) c.group.ensures.value c.column-block.ensures c.loop-group.invariant.0 c.in_ok-append_block.ensures.ok,
       c.in_ok-append_block.ensures.room ∙ c.loop-group.invariant.1,
-      c.in_ok-append_block.ensures.same ∙ c.loop-group.invariant.2,
     )
 
 pub returns-clause-ok : goal.returns-clause-ok

@@ -10,4 +10,3 @@ abbrev pub invariant-loop-group : goal.invariant-loop-group
 invariant-loop-group l =
     (l.column ≡ with_values l.fn.column (flat_map (λ g. values_of (get_or g l.index no_block)) (take l.group l.view.groups)))
     × (l.buffer.room ≡ l.fn.buffer.room)
-    × (l.buffer.col_type ≡ l.fn.column.col_type)

@@ -1,9 +1,12 @@
 -- Proofs of the goals of `evaluate` (`expressions`).
-use Rattle.std.proofs.Common.{Result, Ok, Err}
+use Rattle.std.proofs.Common.{◌≡◌, true, subst, Result, Ok, Err}
 use Rattle.std.specs.Prelude.{IfOk}
 use Rattle.meaning.specs.Typing.{Valued}
 use Rattle.vectors.specs.Vector.{values_of}
 use Rattle.vectors.specs.declared.vector.Vector.{Vector}
+use Rattle.vectors.specs.Selection.{Positions, is_among}
+use Rattle.vector_operators.specs.Evaluated.{Evaluates, lane_of}
+use Rattle.primitives.specs.Meant.{meant_at}
 use Rattle.worker.specs.Evaluated.{IsOnly}
 use Rattle.worker.proofs.Evaluating.{vector_of}
 use Rattle.worker.proofs.expressions.evaluate.Goals as goal
@@ -14,8 +17,10 @@ lift (Err e) P Q to is = tt
 
 pub returns : goal.returns
 returns c =
-    lift c.only_selected.result (λ v. IsOnly c.args.selection.now.list (values_of c.in_ok-lanes.lanes) (values_of v)) _
+    lift c.only_selected.result (λ v. IsOnly c.args.selection.now.list (values_of c.in_ok-given.given) (values_of v)) _
     (λ v only types kind rows typed fits.
-    vector_of types kind c.args.expr.now c.args.batch.now rows c.args.selection.now c.args.fault.now.held c.eval_vec.new.fault.held c.in_ok-lanes.lanes v
-    c.len-positions.ensures.sound c.requires typed fits (c.in_ok-lanes.ensures.composes types (Valued kind) rows typed fits) (c.in_ok-lanes.ensures.typed types (Valued kind) rows typed fits) c.in_ok-lanes.ensures.long only)
+    vector_of types kind c.args.expr.now c.args.batch.now rows c.args.selection.now c.args.fault.now.held c.eval_lanes.new.fault.held c.in_ok-given.given v
+    c.len-positions.ensures.sound c.requires.below typed fits
+    (subst (λ (s : Positions). Evaluates (meant_at c.args.expr.now rows) (λ i. is_among s.list i ≡ true) c.args.fault.now.held c.eval_lanes.new.fault.held (lane_of c.in_ok-given.given)) c.requires.same
+    (c.in_ok-given.ensures.composes types (Valued kind) rows typed fits)) (c.in_ok-given.ensures.typed types (Valued kind) rows typed fits) c.in_ok-given.ensures.long only)
     c.only_selected.ensures

@@ -2,6 +2,7 @@
 use Rattle.std.proofs.Common.{ℕ, ◌+◌, ◌<◌, length, ap, sym, subst, ◌∙◌, arith}
 use Rattle.std.specs.Prelude.{All}
 use Rattle.fragment_file.specs.declared.header.Header.{Header}
+use Rattle.meaning.proofs.VectorLengths.{vector_length_within}
 use Rattle.scan_select.specs.Buffers.{IsBufferOf, columns_of}
 use Rattle.scan_select.specs.Scanned.{Advances, ScanSpec}
 use Rattle.scan_select.specs.Pieces.{piece_now, pieces_left}
@@ -40,12 +41,12 @@ returns-clause-columns g c =
 
 pub returns-then-behind-group_rows-clause-returned : goal.returns-then-behind-group_rows-clause-returned
 returns-then-behind-group_rows-clause-returned g c =
-    λ left known. same_group c.self.inside.most _ _ c.self.inside.group_rows (c.self.inside.first + c.self.inside.rows) c.min-self-inside.result left c.self.invariant.vectors.some c.self.invariant.group_rows_are c.if-behind-group_rows.true
+    λ left known. same_group c.self.inside.most _ _ c.self.inside.group_rows (c.self.inside.first + c.self.inside.rows) c.min-self-inside.result left (vector_length_within c.self.inside.most c.self.invariant.vectors).0 c.self.invariant.group_rows_are c.if-behind-group_rows.true
     c.min-self-inside.ensures (ap (λ (s : ScanSpec). s.left) c.self.view_is ∙ known)
 
 pub returns-then-behind-group_rows-clause-stands : goal.returns-then-behind-group_rows-clause-stands
 returns-then-behind-group_rows-clause-stands g c =
-    still_stand c.self.inside.most _ c.self.inside.group_rows (c.self.inside.first + c.self.inside.rows) c.min-self-inside.result c.self.invariant.vectors.some c.self.invariant.group_rows_are c.if-behind-group_rows.true c.min-self-inside.ensures
+    still_stand c.self.inside.most _ c.self.inside.group_rows (c.self.inside.first + c.self.inside.rows) c.min-self-inside.result (vector_length_within c.self.inside.most c.self.invariant.vectors).0 c.self.invariant.group_rows_are c.if-behind-group_rows.true c.min-self-inside.ensures
 
 pub returns-clause-returned : goal.returns-clause-returned
 returns-clause-returned g c =
@@ -53,9 +54,9 @@ returns-clause-returned g c =
     let same = c.self.invariant.group_rows_are in
     let most = c.self.inside.most in
     λ left known. subst (λ (k : ℕ). Advances c.in_ok-more.more left (piece_now (g.G.RowGroups.current c.next_group.new.self) 0 c.min-self-inside-2.result) (pieces_left most (g.G.RowGroups.current c.next_group.new.self) k (g.G.RowGroups.coming c.next_group.new.self)))
-    (omega arith) (next_group most _ _ _ _ (c.self.inside.first + c.self.inside.rows) c.rows_now-self-inside.result c.min-self-inside-2.result c.in_ok-more.more left c.self.invariant.vectors.some (omega (arith, end, same))
+    (omega arith) (next_group most _ _ _ _ (c.self.inside.first + c.self.inside.rows) c.rows_now-self-inside.result c.min-self-inside-2.result c.in_ok-more.more left (vector_length_within c.self.inside.most c.self.invariant.vectors).0 (omega (arith, end, same))
     c.in_ok-more.ensures.returned.known c.rows_now-self-inside.ensures.value c.rows_now-self-inside.ensures.some c.min-self-inside-2.ensures (ap (λ (s : ScanSpec). s.left) c.self.view_is ∙ known))
 
 pub returns-clause-stands : goal.returns-clause-stands
 returns-clause-stands g c =
-    some_stand c.self.inside.most c.rows_now-self-inside.result c.min-self-inside-2.result c.in_ok-more.more _ c.self.invariant.vectors.some c.in_ok-more.ensures.returned.stands c.rows_now-self-inside.ensures.some c.min-self-inside-2.ensures
+    some_stand c.self.inside.most c.rows_now-self-inside.result c.min-self-inside-2.result c.in_ok-more.more _ (vector_length_within c.self.inside.most c.self.invariant.vectors).0 c.in_ok-more.ensures.returned.stands c.rows_now-self-inside.ensures.some c.min-self-inside-2.ensures

@@ -11,10 +11,10 @@ ghost use Rattle.primitives.specs.Meant.{meant_at};
 ghost use Rattle.last_step.specs.Batches.{IsBatchOf, Keeps, Shows};
 
 use meaning::{Expr, Plan, Truth};
-use primitives::eval_vec;
+use primitives::{eval_lanes, eval_vec};
 use std::alloc::{AllocError, Global};
 use std::mem::drop;
-use vector_operators::Fault1;
+use vector_operators::{Fault1, LaneSet};
 use vectors::{Batch, Selection, Vector};
 
 /// Whether a lane is TRUE.
@@ -103,10 +103,11 @@ fn item_vectors<'a>(
 {
     // That positions lie below the number of rows.
     let _positions = kept.len();
+    let lanes = LaneSet::of(alloc, kept)?;
     let items = plan.items.as_slice();
     let mut vectors = Vec::with_capacity(alloc, items.len())?;
     for item in items {
-        vectors.push(eval_vec(alloc, &item.expr, batch, kept, fault)?)?;
+        vectors.push(eval_lanes(alloc, &item.expr, batch, &lanes, fault)?)?;
     }
     Ok(vectors)
 }

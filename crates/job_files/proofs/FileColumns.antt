@@ -7,7 +7,6 @@ use Rattle.std.proofs.lemmas.List.Elements.{All-from_recursion}
 use Rattle.meaning.specs.declared.catalog.Column.{Column}
 use Rattle.meaning.specs.declared.plan.ColumnUse.{ColumnUse}
 use Rattle.meaning.specs.declared.plan.TableUse.{TableUse}
-use Rattle.meaning.specs.declared.value.ColType.TheVariants as of_type
 use Rattle.meaning.specs.Typing.{same_type}
 use Rattle.meaning.specs.SoundPlan.{used_columns}
 use Rattle.meaning.proofs.Typed.{same_kind}

@@ -36,43 +36,14 @@ use Rattle.vector_operators.proofs.Composes.{before_old}
 use Rattle.vector_operators.proofs.LaneValues.{lane_sound, lane_value, values_long}
 use Rattle.primitives.specs.Fitting.{AreTypedRows, Fits}
 use Rattle.primitives.specs.Meant.{meant_at, row_at}
-use Rattle.last_step.specs.Batches.{IsBatchOf, Keeps, Shows, lane_row}
+use Rattle.primitives.specs.Narrowed.{Narrows}
+use Rattle.last_step.specs.Batches.{IsBatchOf, Shows, lane_row}
 
--- ---- lanes
-
-pub value_not_true : (vs : List Value) (p : ℕ) → is_true_lane (get_or (map {A = Value} {B = Outcome} gives.Value vs) p (gives.Value Null)) ≡ false
-value_not_true [] p = refl
-value_not_true (v ∷ vs) zero = refl
-value_not_true (v ∷ vs) (suc p) = value_not_true vs p
-
-pub truth_true : (ts : List Truth) (p : ℕ) → is_true_lane (get_or (map {A = Truth} {B = Outcome} gives.Truth ts) p (gives.Value Null)) ≡ is_true (get_or ts p Unknown)
-truth_true [] p = refl
-truth_true (t ∷ ts) zero = refl
-truth_true (t ∷ ts) (suc p) = truth_true ts p
-
--- ---- a condition
+-- ---- HAVING
 
 right_false : (a b : Bool) → a ≡ true → (a && b) ≡ false → b ≡ false
 right_false true b t e = e
 right_false false b t e = absurd cc
-
-pub keeps : (m : ℕ → Outcome) (old new : List ℕ) (held now : Held) (v : Vector) → Evaluates m (λ i. is_among old i ≡ true) held now (lane_of v)
-    → new ≡ filter (λ p. is_true_lane (lane_of v p)) old → Keeps m old new held now
-keeps m old new held now v evaluated is = record {
-  kept = λ i among before. ap is_true_lane (sym (evaluated.exact i (within i among) before)) ∙ second_of (is_among old i) (is_true_lane (lane_of v i)) (sym (filtered i) ∙ among);
-  dropped = λ i was among before. ap is_true_lane (sym (evaluated.exact i was before)) ∙ right_false (is_among old i) (is_true_lane (lane_of v i)) was (sym (filtered i) ∙ among);
-  sound = λ i was before f faults. lane_sound v i f (evaluated.exact i was before ∙ faults);
-  within = within;
-  origin = evaluated.origin;
-}
-  where
-    filtered : (i : ℕ) → is_among new i ≡ (is_among old i && is_true_lane (lane_of v i))
-    filtered i = ap (λ (xs : List ℕ). is_among xs i) is ∙ among_filter (λ p. is_true_lane (lane_of v p)) old i
-
-    within : (i : ℕ) → is_among new i ≡ true → is_among old i ≡ true
-    within i among = first_of (is_among old i) (is_true_lane (lane_of v i)) (sym (filtered i) ∙ among)
-
--- ---- HAVING
 
 passes : (o : Outcome) (rest : Result (List Row) ℕ) → is_true_lane o ≡ true → rows_behind o rest ≡ rest
 passes (gives.Fault f) rest e = absurd cc
@@ -117,15 +88,18 @@ module _ (plan : Plan) (rows : List JoinedRow) where
   }
 
   -- those of which HAVING is TRUE
-  pub having_kept : (condition : Expr) (selected : List ℕ) (held : Held) → plan.having ≡ Some condition → Keeps (meant_at condition rows) (range_with_len 0 (length rows)) selected None held
+  pub having_kept : (condition : Expr) (selected : List ℕ) (held : Held) → plan.having ≡ Some condition → Narrows (meant_at condition rows) (range_with_len 0 (length rows)) selected None held
       → Shows plan rows 0 selected held []
-  having_kept condition selected held is keeps = record {
-    kept = λ i among before rest. ap (λ h. behind_having h (row_at rows i) rest) is ∙ passes (eval condition (row_at rows i)) rest (keeps.kept i among before);
+  having_kept condition selected held is narrows = record {
+    kept = λ i among before rest.
+        let kept = second_of (is_among (range_with_len 0 (length rows)) i) (is_true_lane (meant_at condition rows i)) (sym (narrows.kept i before) ∙ among) in
+        ap (λ h. behind_having h (row_at rows i) rest) is ∙ passes (eval condition (row_at rows i)) rest kept;
     dropped = λ i among below before.
         let was = among_range 0 (length rows) i (omega arith) (omega (arith, below)) in
-        ap (λ h. behind_having h (row_at rows i) (shown_row i)) is ∙ drops (eval condition (row_at rows i)) (shown_row i) (keeps.dropped i was among before) (keeps.sound i was before);
+        let gone = right_false (is_among (range_with_len 0 (length rows)) i) (is_true_lane (meant_at condition rows i)) was (sym (narrows.kept i before) ∙ among) in
+        ap (λ h. behind_having h (row_at rows i) (shown_row i)) is ∙ drops (eval condition (row_at rows i)) (shown_row i) gone (narrows.sound i was before);
     given = λ i among before. refl;
-    fault = elim keeps.origin [
+    fault = elim narrows.origin [
       | inl same ↦ subst IsReturned (sym same) tt
       | inr f ↦ subst IsReturned (sym f.is_new)
           ((
@@ -231,11 +205,11 @@ none_kept plan rows s n held none is counted held_none =
     subst (λ (h : Held). Shows plan rows 0 s.list h []) (sym held_none) (subst (λ (xs : List ℕ). Shows plan rows 0 xs None []) range (all_kept plan rows none))
 
 pub some_kept : (plan : Plan) (rows : List JoinedRow) (condition : Expr) (s : Positions) (n : ℕ) (old held : Held) (selected : List ℕ) → plan.having ≡ Some condition → s ≡ all_below n → length rows ≡ n → old ≡ None
-    → Keeps (meant_at condition rows) s.list selected old held → Shows plan rows 0 selected held []
-some_kept plan rows condition s n old held selected some is counted old_none keeps =
+    → Narrows (meant_at condition rows) s.list selected old held → Shows plan rows 0 selected held []
+some_kept plan rows condition s n old held selected some is counted old_none narrows =
     let range : s.list ≡ range_with_len 0 (length rows) = ap (λ (p : Positions). p.list) is ∙ sym (ap (range_with_len 0) counted) in
     having_kept plan rows condition selected held some
-    (subst (λ (h : Held). Keeps (meant_at condition rows) (range_with_len 0 (length rows)) selected h held) old_none (subst (λ (xs : List ℕ). Keeps (meant_at condition rows) xs selected old held) range keeps))
+    (subst (λ (h : Held). Narrows (meant_at condition rows) (range_with_len 0 (length rows)) selected h held) old_none (subst (λ (xs : List ℕ). Narrows (meant_at condition rows) xs selected old held) range narrows))
 
 pub having_fits : (plan : Plan) (rows : List JoinedRow) (b : BatchSpec) (condition : Expr) → plan.having ≡ Some condition → IsBatchOf plan rows b → Fits (group_types plan) b.columns condition Boolean
 having_fits plan rows b condition some batch =

@@ -133,11 +133,3 @@ pub record IsPartOf (plan : Plan) (groups : List Group) (keys aggregates : ℕ) 
   pub typed : AreTypedRows (group_types plan) batch (map (row_in plan) groups)
   pub keys_there : (i : ℕ) → i < keys → has_column batch.columns (GroupKey i) ≡ true
   pub aggregates_there : (i : ℕ) → i < aggregates → has_column batch.columns (GroupAggregate i) ≡ true
-
--- the positions that stay are those at which the condition is TRUE, before the fault that is held, and there it has no fault
-pub record Keeps (condition : ℕ → Outcome) (old new : List ℕ) (held now : Held) : Type 0 where
-  pub kept : (i : ℕ) → is_among new i ≡ true → IsBefore i now → is_true_lane (condition i) ≡ true
-  pub dropped : (i : ℕ) → is_among old i ≡ true → is_among new i ≡ false → IsBefore i now → is_true_lane (condition i) ≡ false
-  pub sound : (i : ℕ) → is_among old i ≡ true → IsBefore i now → (f : fault.Fault) → condition i ≢ gives.Fault f
-  pub within : (i : ℕ) → is_among new i ≡ true → is_among old i ≡ true
-  pub origin : (now ≡ held) ⊎ Finds condition (λ i. is_among old i ≡ true) held now

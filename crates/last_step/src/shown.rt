@@ -1,46 +1,19 @@
 //! HAVING and the items over a batch of groups.
-ghost use Rattle.std.specs.Prelude.{◌≡◌, ◌<◌, ◌^◌, [], None, List, length, filter, All, IfOk, OnOk};
+ghost use Rattle.std.specs.Prelude.{◌≡◌, ◌<◌, ◌^◌, [], None, List, length, All, IfOk};
 ghost use Rattle.meaning.specs.declared.joined_row.JoinedRow.{JoinedRow};
 ghost use Rattle.meaning.specs.Typing.{Boolean, RowTypes};
-ghost use Rattle.vectors.specs.Vector.{outcomes_of, values_of};
+ghost use Rattle.vectors.specs.Vector.{values_of};
 ghost use Rattle.vectors.specs.Selection.{IsSelection};
-ghost use Rattle.vector_operators.specs.Evaluated.{lane_of};
-ghost use Rattle.vector_operators.specs.Given.{is_true_lane};
 ghost use Rattle.primitives.specs.Fitting.{AreTypedRows, Fits};
 ghost use Rattle.primitives.specs.Meant.{meant_at};
-ghost use Rattle.last_step.specs.Batches.{IsBatchOf, Keeps, Shows};
+ghost use Rattle.primitives.specs.Narrowed.{Narrows};
+ghost use Rattle.last_step.specs.Batches.{IsBatchOf, Shows};
 
-use meaning::{Expr, Plan, Truth};
-use primitives::eval_vec;
+use meaning::{Expr, Plan};
+use primitives::{eval_vec, keep_where};
 use std::alloc::{AllocError, Global};
-use std::mem::drop;
 use vector_operators::Fault1;
 use vectors::{Batch, Selection, Vector};
-
-/// Whether a lane is TRUE.
-fn is_true_at(lanes: &Vector<'_>, lane: usize) -> bool
-    requires { lane < length (outcomes_of lanes.now) }
-    ensures { result ≡ is_true_lane (lane_of lanes.now lane) }
-{
-    match lanes {
-        Vector::Truths(truths) => matches!(truths.get(lane), Truth::True),
-        Vector::Ints(_) => false,
-        Vector::Texts(_) => false,
-    }
-}
-
-/// Keeps the positions whose lanes are TRUE.
-fn keep_true(selection: &mut Selection, lanes: &Vector<'_>)
-    requires { length (outcomes_of lanes.now) ≡ selection.old.below }
-    ensures { selection.new ≡ record {
-      below = selection.old.below;
-      list = filter (λ p. is_true_lane (lane_of lanes.now p)) selection.old.list;
-    } }
-{
-    // No effect at run time. The proof reads from this call that positions ascend below the length.
-    let _positions = selection.len();
-    selection.narrow(|position| is_true_at(lanes, position as usize));
-}
 
 /// The selected groups of which a condition is TRUE.
 fn kept_where(
@@ -54,13 +27,11 @@ fn kept_where(
     ensures below { IfOk result (λ kept. kept.below ≡ selection.below) }
     ensures kept { IfOk result (λ kept. (types : RowTypes) (rows : List JoinedRow)
         → AreTypedRows types batch.now rows → Fits types batch.now.columns condition.now Boolean
-        → Keeps (meant_at condition.now rows) selection.list kept.list fault.old.held
+        → Narrows (meant_at condition.now rows) selection.list kept.list fault.old.held
         fault.new.held) }
 {
     let mut kept = selection;
-    let lanes = eval_vec(alloc, condition, batch, &kept, fault)?;
-    keep_true(&mut kept, &lanes);
-    drop(lanes);
+    keep_where(alloc, condition, batch, &mut kept, fault)?;
     Ok(kept)
 }
 

@@ -3,6 +3,7 @@ pub mod Arms
 pub mod Columns
 pub mod ExprNodes
 pub mod Fitted
+pub mod Keeping
 pub mod Lists
 pub mod Loops
 pub mod NodeGives

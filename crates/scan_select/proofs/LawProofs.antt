@@ -1,14 +1,11 @@
 -- The laws.
-use Rattle.std.proofs.Common.{◌≡◌, ℕ, zero, suc, ◌+◌, ◌-◌, ◌≤◌, ◌<◌, min, true, false, List, [], ◌∷◌, ◌++◌, get_or, length, map, refl, ap, sym, subst, ◌∙◌, append_assoc, arith}
-use Rattle.std.specs.Prelude.{flat_map, sum, nat_lt, if◌then◌else◌, All}
-use Rattle.std.proofs.lemmas.Bool.{ltb-false}
+use Rattle.std.proofs.Common.{◌≡◌, ℕ, zero, suc, ◌+◌, ◌-◌, ◌≤◌, ◌<◌, min, List, [], ◌∷◌, ◌++◌, map, refl, ap, sym, subst, ◌∙◌, append_assoc, arith}
+use Rattle.std.specs.Prelude.{flat_map, All}
 use Rattle.std.specs.List.{range_with_len}
-use Rattle.std.proofs.lemmas.List.{length-append, length-map, map-append}
-use Rattle.std.proofs.lemmas.List.Sums.{sum_by-cons}
+use Rattle.std.proofs.lemmas.List.{map-append}
 use Rattle.meaning.specs.declared.outcome.Truth.TheVariants.{True, False, Unknown}
 use Rattle.meaning.specs.declared.outcome.Outcome.{Outcome}
 use Rattle.meaning.specs.declared.outcome.Outcome.TheVariants as gives
-use Rattle.meaning.specs.declared.value.Value.{Value}
 use Rattle.meaning.specs.Expr.{eval}
 use Rattle.meaning.specs.Judge.{filtered_by}
 use Rattle.meaning.specs.Order.{Row}
@@ -19,7 +16,6 @@ use Rattle.scan_select.specs.Pieces.{sizes, pieces_at, pieces_of, pieces, rows_o
 use Rattle.scan_select.specs.Selected.{behind, conditions, filter_of}
 use Rattle.scan_select.specs.Laws.{BatchesAreRows, ConditionsJudge}
 use Rattle.std.proofs.lemmas.List.FromFn.{get_or-range_with_len, length-range_with_len}
-use Rattle.std.proofs.lemmas.Simd.{pick_l_whole}
 use Rattle.scan_select.proofs.Sizes.{sizes_end, sizes_step}
 
 pub conditions_judge : ConditionsJudge

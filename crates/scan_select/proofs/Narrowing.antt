@@ -1,11 +1,7 @@
 -- One condition after the other.
-use Rattle.std.proofs.Common.{◌≡◌, ℕ, zero, suc, ◌+◌, ◌⊎◌, inl, inr, Bool, true, false, cond, ◌&&◌, List, [], ◌∷◌, ◌++◌, get_or, map, filter, take, refl, ap, sym, ◌∙◌}
+use Rattle.std.proofs.Common.{◌≡◌, ℕ, ◌+◌, ◌⊎◌, inl, inr, Bool, true, false, ◌&&◌, List, [], ◌∷◌, ◌++◌, take, refl, ap, sym, ◌∙◌}
 use Rattle.std.proofs.lemmas.Bool.{and_parts}
-use Rattle.meaning.specs.Truth.{is_true}
-use Rattle.meaning.specs.declared.value.Value.{Value}
-use Rattle.meaning.specs.declared.value.Value.TheVariants.{Null}
 use Rattle.meaning.specs.declared.outcome.Fault.{Fault}
-use Rattle.meaning.specs.declared.outcome.Truth.{Truth}
 use Rattle.meaning.specs.declared.outcome.Truth.TheVariants.{True, False, Unknown}
 use Rattle.meaning.specs.declared.outcome.Outcome.{Outcome}
 use Rattle.meaning.specs.declared.outcome.Outcome.TheVariants as gives
@@ -13,36 +9,15 @@ use Rattle.meaning.specs.declared.expr.Expr.{Expr}
 use Rattle.meaning.specs.declared.joined_row.JoinedRow.{JoinedRow}
 use Rattle.meaning.specs.Expr.{eval}
 use Rattle.meaning.proofs.Tests.{both, and_true}
-use Rattle.vectors.specs.declared.vector.Vector.{Vector}
-use Rattle.vectors.specs.declared.vector.Vector.TheVariants as vector
 use Rattle.vectors.specs.Selection.{is_among}
-use Rattle.vector_operators.specs.Evaluated.{Held, IsBefore, Finds, Evaluates, lane_of}
+use Rattle.vector_operators.specs.Evaluated.{Held, IsBefore, Finds}
+use Rattle.vector_operators.specs.Given.{is_true_lane}
 use Rattle.primitives.specs.Meant.{meant_at, row_at}
-use Rattle.scan_select.specs.Selected.{behind, conditions, conditions_at, is_kept, Narrows, Selects}
+use Rattle.primitives.specs.Narrowed.{Narrows}
+use Rattle.scan_select.specs.Selected.{behind, conditions, conditions_at, Selects}
 use Rattle.std.specs.List.Sorted.{IsStrictlyIncreasing}
-use Rattle.vectors.proofs.Ascending.{among_filter}
 use Rattle.vector_operators.proofs.Composes.{before_old}
-use Rattle.vector_operators.proofs.LaneValues.{lane_sound}
 use Rattle.vector_operators.proofs.Least.{least_noted}
-
--- ---- lanes
-
-pub value_dropped : (vs : List Value) (p : ℕ) → is_kept (get_or (map {A = Value} {B = Outcome} gives.Value vs) p (gives.Value Null)) ≡ false
-value_dropped [] p = refl
-value_dropped (v ∷ vs) zero = refl
-value_dropped (v ∷ vs) (suc p) = value_dropped vs p
-
-pub truth_kept : (ts : List Truth) (p : ℕ) → is_kept (get_or (map {A = Truth} {B = Outcome} gives.Truth ts) p (gives.Value Null)) ≡ is_true (get_or ts p Unknown)
-truth_kept [] p = refl
-truth_kept (True ∷ ts) zero = refl
-truth_kept (Unknown ∷ ts) zero = refl
-truth_kept (False ∷ ts) zero = refl
-truth_kept (t ∷ ts) (suc p) = truth_kept ts p
-
-pub filter_as : (f g : ℕ → Bool) (xs : List ℕ) → ((p : ℕ) → f p ≡ g p) → filter f xs ≡ filter g xs
-filter_as f g [] same = refl
-filter_as f g (x ∷ xs) same =
-    ap (λ b. cond b (x ∷ filter f xs) (filter f xs)) (same x) ∙ ap (λ (rest : List ℕ). cond (g x) (x ∷ rest) rest) (filter_as f g xs same)
 
 -- ---- positions
 
@@ -50,27 +25,10 @@ in_order : (a b c : Bool) → ((a && b) && c) ≡ (a && (b && c))
 in_order true b c = refl
 in_order false b c = refl
 
--- ---- one condition
-
-pub one_condition : (m : ℕ → Outcome) (old new : List ℕ) (held now : Held) (v : Vector) → Evaluates m (λ i. is_among old i ≡ true) held now (lane_of v) → new ≡ filter (λ p. is_kept (lane_of v p)) old → Narrows m old new held now
-one_condition m old new held now v evaluated is = record {
-  sound = λ i among before f faults. lane_sound v i f (evaluated.exact i among before ∙ faults);
-  kept = λ i before. kept_at i before (is_among old i) refl;
-  within = λ i among. (and_parts (is_among old i) (is_kept (lane_of v i)) (sym (filtered i) ∙ among)).0;
-  origin = evaluated.origin;
-}
-  where
-    filtered : (i : ℕ) → is_among new i ≡ (is_among old i && is_kept (lane_of v i))
-    filtered i = ap (λ (xs : List ℕ). is_among xs i) is ∙ among_filter (λ p. is_kept (lane_of v p)) old i
-
-    kept_at : (i : ℕ) → IsBefore i now → (b : Bool) → is_among old i ≡ b → is_among new i ≡ (is_among old i && is_kept (m i))
-    kept_at i before true among = filtered i ∙ ap (λ (o : Outcome). is_among old i && is_kept o) (evaluated.exact i among before)
-    kept_at i before false among = filtered i ∙ rw among refl
-
 narrows_as : (m m' : ℕ → Outcome) (old new : List ℕ) (held now : Held) → ((i : ℕ) → m i ≡ m' i) → Narrows m old new held now → Narrows m' old new held now
 narrows_as m m' old new held now same n = record {
   sound = λ i among before f faults. n.sound i among before f (same i ∙ faults);
-  kept = λ i before. n.kept i before ∙ ap (λ (o : Outcome). is_among old i && is_kept o) (same i);
+  kept = λ i before. n.kept i before ∙ ap (λ (o : Outcome). is_among old i && is_true_lane o) (same i);
   within = n.within;
   origin = elim n.origin [
     | inl e ↦ inl e
@@ -92,7 +50,7 @@ conditions_then (c ∷ cs) ds row = ap (behind (eval c row)) (conditions_then cs
     in_turn (gives.Truth False) b x = refl
     in_turn (gives.Value v) b x = refl
 
-kept_both : (a b : Outcome) → is_kept (behind a (behind b (gives.Truth True))) ≡ (is_kept a && is_kept b)
+kept_both : (a b : Outcome) → is_true_lane (behind a (behind b (gives.Truth True))) ≡ (is_true_lane a && is_true_lane b)
 kept_both (gives.Fault f) b = refl
 kept_both (gives.Value v) b = refl
 kept_both (gives.Truth Unknown) b = refl
@@ -104,7 +62,7 @@ kept_both (gives.Truth True) (gives.Truth Unknown) = refl
 kept_both (gives.Truth True) (gives.Truth False) = refl
 
 -- a fault of both is the first's, or the second's where the first is TRUE
-fault_of_both : (a b : Outcome) (f : Fault) → behind a (behind b (gives.Truth True)) ≡ gives.Fault f → (a ≡ gives.Fault f) ⊎ ((is_kept a ≡ true) × (b ≡ gives.Fault f))
+fault_of_both : (a b : Outcome) (f : Fault) → behind a (behind b (gives.Truth True)) ≡ gives.Fault f → (a ≡ gives.Fault f) ⊎ ((is_true_lane a ≡ true) × (b ≡ gives.Fault f))
 fault_of_both (gives.Fault g) b f e = inl e
 fault_of_both (gives.Value v) b f e = absurd cc
 fault_of_both (gives.Truth Unknown) b f e = absurd cc
@@ -115,7 +73,7 @@ fault_of_both (gives.Truth True) (gives.Truth True) f e = absurd cc
 fault_of_both (gives.Truth True) (gives.Truth Unknown) f e = absurd cc
 fault_of_both (gives.Truth True) (gives.Truth False) f e = absurd cc
 
-fault_behind : (a b : Outcome) (f : Fault) → is_kept a ≡ true → b ≡ gives.Fault f → behind a (behind b (gives.Truth True)) ≡ gives.Fault f
+fault_behind : (a b : Outcome) (f : Fault) → is_true_lane a ≡ true → b ≡ gives.Fault f → behind a (behind b (gives.Truth True)) ≡ gives.Fault f
 fault_behind (gives.Truth True) b f kept e = rw e refl
 fault_behind (gives.Fault g) b f kept e = absurd cc
 fault_behind (gives.Value v) b f kept e = absurd cc
@@ -129,8 +87,8 @@ one_behind m m' old mid new held first now one two = record {
     | inl e ↦ one.sound i among (earlier i before) f e
     | inr e ↦ two.sound i (one.kept i (earlier i before) ∙ both _ _ among e.0) before f e.1
   ];
-  kept = λ i before. two.kept i before ∙ ap (λ (b : Bool). b && is_kept (m' i)) (one.kept i (earlier i before))
-      ∙ in_order (is_among old i) (is_kept (m i)) (is_kept (m' i)) ∙ ap (λ (b : Bool). is_among old i && b) (sym (kept_both (m i) (m' i)));
+  kept = λ i before. two.kept i before ∙ ap (λ (b : Bool). b && is_true_lane (m' i)) (one.kept i (earlier i before))
+      ∙ in_order (is_among old i) (is_true_lane (m i)) (is_true_lane (m' i)) ∙ ap (λ (b : Bool). is_among old i && b) (sym (kept_both (m i) (m' i)));
   within = λ i among. one.within i (two.within i among);
   origin = elim two.origin [
     | inl same ↦ elim one.origin [
@@ -153,7 +111,7 @@ one_behind m m' old mid new held first now one two = record {
 
     second : Finds m' (λ i. is_among mid i ≡ true) first now → Finds (λ i. behind (m i) (behind (m' i) (gives.Truth True))) (λ i. is_among old i ≡ true) held now
     second f =
-        let parts = and_parts (is_among old f.position) (is_kept (m f.position)) (sym (one.kept f.position f.is_before) ∙ f.is_selected) in
+        let parts = and_parts (is_among old f.position) (is_true_lane (m f.position)) (sym (one.kept f.position f.is_before) ∙ f.is_selected) in
         record {
           position = f.position;
           fault = f.fault;

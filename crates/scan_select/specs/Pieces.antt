@@ -1,5 +1,5 @@
 -- The rows of row groups, and how they are cut into batches.
-use Rattle.std.specs.Prelude.{ℕ, ◌+◌, ◌-◌, ◌/◌, ◌%◌, ◌==◌, if◌then◌else◌, List, [], ◌∷◌, ◌++◌, map, flat_map, get_or, replicate, Option, Some, None, option_map}
+use Rattle.std.specs.Prelude.{ℕ, ◌+◌, ◌-◌, ◌/◌, ◌%◌, ◌==◌, if◌then◌else◌, List, [], ◌∷◌, ◌++◌, map, flat_map, replicate, Option, Some, None, option_map}
 use Rattle.std.specs.List.{range_with_len}
 use Rattle.meaning.specs.Order.{Row}
 use Rattle.encodings.specs.Block.{Block}

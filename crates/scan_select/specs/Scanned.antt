@@ -1,5 +1,5 @@
 -- What a scan has read, and what it is still to read.
-use Rattle.std.specs.Prelude.{◌≡◌, ℕ, ◌+◌, Bool, true, false, List, [], ◌∷◌, ◌++◌, map, length, replicate, get_or, take, drop, Option, Some, None, option_map}
+use Rattle.std.specs.Prelude.{◌≡◌, ℕ, Bool, true, false, List, [], ◌∷◌, ◌++◌, map, length, replicate, get_or, take, drop, Option, Some, None, option_map}
 use Rattle.std.specs.List.{AllZip}
 use Rattle.meaning.specs.declared.outcome.Outcome.TheVariants as gives
 use Rattle.meaning.specs.declared.joined_row.JoinedRow.{JoinedRow}

@@ -1,6 +1,5 @@
 -- Which rows conditions keep, and the fault of the least row at which one faults.
-use Rattle.std.specs.Prelude.{◌≡◌, ◌≢◌, ◌⊎◌, ℕ, Bool, true, false, ◌&&◌, List, [], ◌∷◌}
-use Rattle.meaning.specs.declared.outcome.Fault.{Fault}
+use Rattle.std.specs.Prelude.{◌≡◌, ℕ, true, ◌&&◌, List, [], ◌∷◌}
 use Rattle.meaning.specs.declared.outcome.Truth.TheVariants.{True, False, Unknown}
 use Rattle.meaning.specs.declared.outcome.Outcome.{Outcome}
 use Rattle.meaning.specs.declared.outcome.Outcome.TheVariants as gives
@@ -10,7 +9,8 @@ use Rattle.meaning.specs.Expr.{eval}
 use Rattle.meaning.specs.Judge.{Filtered, Passes, Drops, Faults}
 use Rattle.meaning.specs.Operators.{code_of}
 use Rattle.vectors.specs.Selection.{is_among}
-use Rattle.vector_operators.specs.Evaluated.{Held, IsBefore, Finds, first_fault, noted}
+use Rattle.vector_operators.specs.Evaluated.{Held, IsBefore, first_fault, noted}
+use Rattle.vector_operators.specs.Given.{is_true_lane}
 use Rattle.primitives.specs.Meant.{row_at}
 
 -- TRUE goes on to the next condition; all else but a fault drops the row
@@ -38,24 +38,9 @@ filter_of (gives.Value v) = Drops
 abbrev pub conditions_at : List Expr → List JoinedRow → ℕ → Outcome
 conditions_at cs rows i = conditions cs (row_at rows i)
 
-abbrev pub is_kept : Outcome → Bool
-is_kept (gives.Truth True) = true
-is_kept (gives.Truth Unknown) = false
-is_kept (gives.Truth False) = false
-is_kept (gives.Value v) = false
-is_kept (gives.Fault f) = false
-
--- the fault of the least position of the old that has one is noted; below the fault that is then held just those stay that
--- are kept, past it any of the old may stay
+-- the fault of the least position of the old that has one is noted; below the fault that is then held just those stay at
+-- which all is TRUE, past it any of the old may stay
 pub record Selects (meant : ℕ → Outcome) (old new : List ℕ) (held now : Held) : Type 0 where
   pub least : now ≡ noted held (first_fault meant old)
-  pub kept : (i : ℕ) → IsBefore i now → is_among new i ≡ (is_among old i && is_kept (meant i))
+  pub kept : (i : ℕ) → IsBefore i now → is_among new i ≡ (is_among old i && is_true_lane (meant i))
   pub within : (i : ℕ) → is_among new i ≡ true → is_among old i ≡ true
-
--- ---- the same, in a form in which one condition follows another
-
-pub record Narrows (meant : ℕ → Outcome) (old new : List ℕ) (held now : Held) : Type 0 where
-  pub sound : (i : ℕ) → is_among old i ≡ true → IsBefore i now → (f : Fault) → meant i ≢ gives.Fault f
-  pub kept : (i : ℕ) → IsBefore i now → is_among new i ≡ (is_among old i && is_kept (meant i))
-  pub within : (i : ℕ) → is_among new i ≡ true → is_among old i ≡ true
-  pub origin : (now ≡ held) ⊎ Finds meant (λ i. is_among old i ≡ true) held now

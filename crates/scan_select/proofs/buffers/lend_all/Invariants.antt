@@ -1,5 +1,5 @@
 -- Loop invariants of `lend_all` (`buffers`).
-use Rattle.std.proofs.Common.{◌≡◌, take}
+use Rattle.std.proofs.Common.{take}
 use Rattle.scan_select.specs.Buffers.{AddsLent}
 use Rattle.scan_select.proofs.buffers.lend_all.Given as goal
 

@@ -5,7 +5,8 @@ use Rattle.std.proofs.lemmas.List.Elements.{recursion_from_All}
 use Rattle.meaning.specs.declared.expr.Expr.{Expr}
 use Rattle.meaning.specs.Typing.{Boolean}
 use Rattle.primitives.specs.Fitting.{Fits}
-use Rattle.scan_select.specs.Selected.{Narrows, conditions_at}
+use Rattle.primitives.specs.Narrowed.{Narrows}
+use Rattle.scan_select.specs.Selected.{conditions_at}
 use Rattle.scan_select.proofs.Narrowing.{one_more_condition, selects}
 use Rattle.scan_select.proofs.Rows.{all_at}
 use Rattle.scan_select.proofs.selecting.select.Goals as goal

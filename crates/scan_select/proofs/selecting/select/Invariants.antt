@@ -4,7 +4,8 @@ use Rattle.std.specs.Prelude.{All}
 use Rattle.meaning.specs.declared.joined_row.JoinedRow.{JoinedRow}
 use Rattle.meaning.specs.Typing.{Boolean, RowTypes}
 use Rattle.primitives.specs.Fitting.{AreTypedRows, Fits}
-use Rattle.scan_select.specs.Selected.{Narrows, conditions_at}
+use Rattle.primitives.specs.Narrowed.{Narrows}
+use Rattle.scan_select.specs.Selected.{conditions_at}
 use Rattle.scan_select.proofs.selecting.select.Given as goal
 
 abbrev pub invariant-loop-condition : goal.invariant-loop-condition

@@ -1,5 +1,5 @@
 -- Proofs of the goals of `batch` (`scan`).
-use Rattle.std.proofs.Common.{◌≡◌, ℕ, ◌+◌, ◌-◌, ◌≤◌, min, List, Some, ap, sym, subst, refl, ◌∙◌, arith}
+use Rattle.std.proofs.Common.{◌≡◌, ℕ, ◌-◌, min, List, ap, sym, subst, refl, ◌∙◌, arith}
 use Rattle.std.specs.Prelude.{All, Option, option_map, IfSome}
 use Rattle.std.proofs.lemmas.Bool.{ne_eqb}
 use Rattle.encodings.specs.Block.{Block}

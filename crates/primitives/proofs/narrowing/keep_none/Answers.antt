@@ -1,7 +1,7 @@
--- Proofs of the goals of `keep_none` (`selecting`).
+-- Proofs of the goals of `keep_none` (`narrowing`).
 use Rattle.std.proofs.Common.{rules, false, filter}
 use Rattle.vectors.proofs.Positions.{keeps_filter, positions_are}
-use Rattle.scan_select.proofs.selecting.keep_none.Goals as goal
+use Rattle.primitives.proofs.narrowing.keep_none.Goals as goal
 
 pub returns : goal.returns
 returns c =

@@ -1,10 +1,10 @@
--- Proofs of the goals of `keep_where` (`selecting`).
+-- Proofs of the goals of `keep_where` (`narrowing`).
 use Rattle.std.proofs.Common.{ap}
 use Rattle.meaning.specs.Typing.{Boolean}
 use Rattle.vectors.specs.Selection.{Positions}
 use Rattle.primitives.specs.Meant.{meant_at}
-use Rattle.scan_select.proofs.Narrowing.{one_condition}
-use Rattle.scan_select.proofs.selecting.keep_where.Goals as goal
+use Rattle.primitives.proofs.Keeping.{one_condition}
+use Rattle.primitives.proofs.narrowing.keep_where.Goals as goal
 
 pub returns-clause-kept : goal.returns-clause-kept
 returns-clause-kept c = λ types rows typed fits.

@@ -1,9 +1,9 @@
--- Proofs of the goals of `keep_lanes` (`selecting`).
+-- Proofs of the goals of `keep_lanes` (`narrowing`).
 use Rattle.std.proofs.Common.{rules, get_or, filter}
 use Rattle.meaning.specs.Truth.{is_true}
 use Rattle.meaning.specs.declared.outcome.Truth.TheVariants.{Unknown}
 use Rattle.vectors.proofs.Positions.{keeps_filter, positions_are}
-use Rattle.scan_select.proofs.selecting.keep_lanes.Goals as goal
+use Rattle.primitives.proofs.narrowing.keep_lanes.Goals as goal
 
 pub returns : goal.returns
 returns c =

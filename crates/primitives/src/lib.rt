@@ -8,3 +8,4 @@ mod nodes;
 
 pub use evaluation::{eval_lanes, eval_vec};
 pub use narrowing::keep_where;
+pub use vector_operators::Fault1;

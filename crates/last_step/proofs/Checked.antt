@@ -1,5 +1,5 @@
 -- The aggregates of one group, judged one after the other.
-use Rattle.std.proofs.Common.{◌≡◌, ℕ, ◌+◌, true, Bool, ◌&&◌, List, [], ◌∷◌, ◌++◌, drop, map, Ok, Err, refl, sym, ap, ◌∙◌}
+use Rattle.std.proofs.Common.{◌≡◌, ℕ, ◌+◌, true, List, [], ◌∷◌, ◌++◌, drop, map, Ok, Err, refl}
 use Rattle.std.specs.Prelude.{Result, zip}
 use Rattle.std.specs.List.{list_all}
 use Rattle.meaning.specs.declared.answer.Statistics.{Statistics}

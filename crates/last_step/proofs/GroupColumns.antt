@@ -1,13 +1,12 @@
 -- Columns of groups, and the batch that they make.
-use Rattle.std.proofs.Common.{◌≡◌, ℕ, zero, suc, ◌+◌, ◌<◌, ◌≤◌, ◌⊎◌, inl, inr, Bool, true, false, ◌||◌, List, [], ◌∷◌, ◌++◌, map, take, length, get_or, Some, None, refl, sym, ap, ◌∙◌, subst, arith}
-use Rattle.std.specs.Prelude.{Option, ℤ, All, slice_get, option_to_list, nat_eq}
+use Rattle.std.proofs.Common.{◌≡◌, ℕ, ◌+◌, ◌<◌, inl, inr, Bool, true, false, ◌||◌, List, [], ◌∷◌, ◌++◌, map, take, length, get_or, Some, refl, sym, ap, ◌∙◌, subst, arith}
+use Rattle.std.specs.Prelude.{ℤ, All, option_to_list}
 use Rattle.std.specs.List.{AllByRecursion, list_any}
 use Rattle.std.proofs.lemmas.Bool.{cases_lt, eq-eqb}
 use Rattle.std.proofs.lemmas.List.{length-map, map_push, map_more}
 use Rattle.std.proofs.lemmas.List.Elements.{All-from_recursion, recursion_from_All}
 use Rattle.meaning.specs.declared.answer.Group.{Group}
 use Rattle.meaning.specs.declared.expr.Expr.{Expr}
-use Rattle.meaning.specs.declared.joined_row.JoinedRow.{JoinedRow}
 use Rattle.meaning.specs.declared.outcome.Outcome.{Outcome}
 use Rattle.meaning.specs.declared.outcome.Outcome.TheVariants as gives
 use Rattle.meaning.specs.declared.plan.Aggregate.{Aggregate}
@@ -19,9 +18,9 @@ use Rattle.meaning.specs.declared.value.ColType.TheVariants as of_type
 use Rattle.meaning.specs.declared.value.Value.{Value}
 use Rattle.meaning.specs.declared.value.Value.TheVariants.{Null, Int, Text}
 use Rattle.meaning.specs.Fitting.{is_group_of}
-use Rattle.meaning.specs.Order.{Row, bytes, column, is_null, number}
+use Rattle.meaning.specs.Order.{bytes, column, is_null, number}
 use Rattle.meaning.specs.References.{Reference, FactColumn, JoinColumn, GroupKey, GroupAggregate, columns_used, columns_used_in_all}
-use Rattle.meaning.specs.Typing.{Valued, Boolean, RowTypes, fits_row_types, group_types, has_type, is_column_type, is_of_type, result_type}
+use Rattle.meaning.specs.Typing.{Valued, Boolean, fits_row_types, group_types, has_type, is_column_type, is_of_type, result_type}
 use Rattle.meaning.proofs.Typed.{type_itself}
 use Rattle.vectors.specs.Lanes.{lane_value, lane_values}
 use Rattle.vectors.specs.Vector.{BatchSpec, IsColumnOf, outcomes_of, same_reference}
@@ -34,7 +33,7 @@ use Rattle.vector_operators.specs.Given.{type_of_lanes}
 use Rattle.primitives.specs.Fitting.{AreTypedRows, Fits, has_column, is_typed_column, column_reference}
 use Rattle.last_step.specs.Batches.{HasAt, HasValues, IsBatchOf, IsColumnIn, IsPartOf, IsVectorOf, aggregate_in, row_in}
 use Rattle.last_step.specs.Fitting.{AreGroupsOf}
-use Rattle.meaning.specs.SoundPlan.{IsOfGroup, IsTypedOverGroups}
+use Rattle.meaning.specs.SoundPlan.{IsOfGroup}
 use Rattle.last_step.proofs.GroupRows.{aggregates_typed, get_typed, has_at, key_typed, of_column, row_typed}
 
 -- ---- values that are put one by one

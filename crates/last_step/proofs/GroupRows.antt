@@ -1,11 +1,10 @@
 -- What expressions read of groups has the types that the plan declares.
-use Rattle.std.proofs.Common.{◌≡◌, ℕ, zero, suc, ◌+◌, ◌<◌, Bool, true, false, cond, ◌&&◌, List, [], ◌∷◌, ◌++◌, map, length, get_or, Some, None, Ok, Err, refl, sym, ap, ◌∙◌, subst, arith}
+use Rattle.std.proofs.Common.{◌≡◌, ℕ, zero, suc, ◌<◌, Bool, true, false, cond, ◌&&◌, List, [], ◌∷◌, map, length, get_or, Some, None, Ok, Err, refl, sym, ap, ◌∙◌, subst, arith}
 use Rattle.std.specs.Prelude.{Option, Result, ℤ, pos, zip, slice_get, unwrap_or, int_div, ◌==◌, not}
 use Rattle.std.specs.List.{list_all}
 use Rattle.std.specs.Cmp.Lexicographic.{pointwise}
 use Rattle.meaning.specs.declared.answer.Group.{Group}
 use Rattle.meaning.specs.declared.answer.Statistics.{Statistics}
-use Rattle.meaning.specs.declared.joined_row.JoinedRow.{JoinedRow}
 use Rattle.meaning.specs.declared.plan.Aggregate.{Aggregate}
 use Rattle.meaning.specs.declared.plan.AggregateKind.{AggregateKind}
 use Rattle.meaning.specs.declared.plan.AggregateKind.TheVariants.{CountRows, Count, Sum, Min, Max, Avg}
@@ -14,9 +13,8 @@ use Rattle.meaning.specs.declared.plan.Plan.{Plan}
 use Rattle.meaning.specs.declared.value.ColType.{ColType}
 use Rattle.meaning.specs.declared.value.ColType.TheVariants as of_type
 use Rattle.meaning.specs.declared.value.Value.{Value}
-use Rattle.meaning.specs.declared.value.Value.TheVariants.{Null, Int, Text}
-use Rattle.meaning.specs.Aggregate.{sum_value, value}
-use Rattle.meaning.specs.Answer.{read_off}
+use Rattle.meaning.specs.declared.value.Value.TheVariants.{Null, Int}
+use Rattle.meaning.specs.Aggregate.{value}
 use Rattle.meaning.specs.Fitting.{is_extreme, is_group_of, is_key_of, is_state_of}
 use Rattle.meaning.specs.Operators.{fits_i64, sum_out_of_range}
 use Rattle.meaning.specs.Order.{Row, column, is_null}

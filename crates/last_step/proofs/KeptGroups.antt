@@ -1,5 +1,5 @@
 -- HAVING and the items over vectors.
-use Rattle.std.proofs.Common.{◌≡◌, ◌≢◌, ℕ, zero, suc, ◌+◌, ◌<◌, inl, inr, eqb, Bool, true, false, ◌&&◌, ◌||◌, List, [], ◌∷◌, ◌++◌, get_or, map, filter, take, drop, length, None, Some, Ok, Err, refl, ap, sym, subst, ◌∙◌, arith}
+use Rattle.std.proofs.Common.{◌≡◌, ◌≢◌, ℕ, zero, suc, ◌+◌, ◌<◌, inl, inr, eqb, Bool, true, false, ◌&&◌, ◌||◌, List, [], ◌∷◌, ◌++◌, get_or, map, take, drop, length, None, Some, Ok, Err, refl, ap, sym, subst, ◌∙◌, arith}
 use Rattle.std.specs.Prelude.{All, Option, Result, IfSome, option_to_list}
 use Rattle.std.specs.List.{AllByRecursion, range_with_len}
 use Rattle.std.proofs.lemmas.Bool.{eqb-true, false≢true}
@@ -8,28 +8,24 @@ use Rattle.std.proofs.lemmas.List.Elements.{All-from_recursion, recursion_from_A
 use Rattle.meaning.specs.declared.expr.Expr.{Expr}
 use Rattle.meaning.specs.declared.joined_row.JoinedRow.{JoinedRow}
 use Rattle.meaning.specs.declared.outcome.Fault.{Fault}
-use Rattle.meaning.specs.declared.outcome.Truth.{Truth}
 use Rattle.meaning.specs.declared.outcome.Truth.TheVariants.{True, False, Unknown}
 use Rattle.meaning.specs.declared.outcome.Outcome.{Outcome}
 use Rattle.meaning.specs.declared.outcome.Outcome.TheVariants as gives
 use Rattle.meaning.specs.declared.plan.Item.{Item}
 use Rattle.meaning.specs.declared.plan.Plan.{Plan}
 use Rattle.meaning.specs.declared.value.ColType.{ColType}
-use Rattle.meaning.specs.declared.value.Value.{Value}
 use Rattle.meaning.specs.declared.value.Value.TheVariants.{Null}
 use Rattle.meaning.specs.Expr.{eval, values, with_value}
 use Rattle.meaning.specs.Finish.{behind_having, rows_behind, shown}
 use Rattle.meaning.specs.Operators.{code_of, value_of}
 use Rattle.meaning.specs.Order.{Row}
 use Rattle.meaning.specs.Results.{and_then}
-use Rattle.meaning.specs.Truth.{is_true}
 use Rattle.meaning.specs.Typing.{ExprType, RowTypes, Valued, Boolean, group_types}
-use Rattle.meaning.proofs.Tests.{first_of, second_of}
+use Rattle.meaning.proofs.Tests.{second_of}
 use Rattle.vectors.specs.Selection.{IsSelection, Positions, all_below, is_among}
 use Rattle.vectors.specs.Vector.{BatchSpec, outcomes_of, values_of}
 use Rattle.vectors.specs.declared.vector.Vector.{Vector}
-use Rattle.vectors.specs.declared.vector.Vector.TheVariants as vector
-use Rattle.vectors.proofs.Ascending.{among_filter, among_range}
+use Rattle.vectors.proofs.Ascending.{among_range}
 use Rattle.vector_operators.specs.Evaluated.{Evaluates, Held, IsBefore, lane_of}
 use Rattle.vector_operators.specs.Given.{IsOfType, is_true_lane}
 use Rattle.vector_operators.proofs.Composes.{before_old}

@@ -1,15 +1,13 @@
 -- The rows of groups behind others.
 use Rattle.std.proofs.Common.{◌≡◌, ℕ, zero, suc, ◌+◌, ◌<◌, ◌≤◌, true, false, cond, List, [], ◌∷◌, ◌++◌, map, take, drop, length, get_or, replicate, Ok, Err, None, Some, refl, sym, ap, ◌∙◌, subst, append_assoc, append-nil}
-use Rattle.std.specs.Prelude.{Option, Result, All}
+use Rattle.std.specs.Prelude.{Option, Result}
 use Rattle.std.specs.List.{AllByRecursion}
 use Rattle.std.proofs.lemmas.List.{take-append-drop, take_all, take_more}
 use Rattle.std.proofs.lemmas.List.Elements.{All-from_recursion, recursion_from_All}
 use Rattle.meaning.specs.declared.answer.Group.{Group}
-use Rattle.meaning.specs.declared.joined_row.JoinedRow.{JoinedRow}
 use Rattle.meaning.specs.declared.plan.Plan.{Plan}
-use Rattle.meaning.specs.declared.value.Value.{Value}
 use Rattle.meaning.specs.Answer.{read_off}
-use Rattle.meaning.specs.Finish.{Evaluated, all_rows, rows_of, shown}
+use Rattle.meaning.specs.Finish.{all_rows, rows_of, shown}
 use Rattle.meaning.specs.Joined.{group_row}
 use Rattle.meaning.specs.Order.{Row}
 use Rattle.meaning.specs.Results.{all_ok, and_then, with_result}

@@ -6,13 +6,11 @@ use Rattle.std.proofs.lemmas.Bool.{eqb-true, eqb-false, eq-eqb, ne_eqb}
 use Rattle.std.proofs.lemmas.List.{take_all}
 use Rattle.std.proofs.lemmas.List.Elements.{All-from_recursion, recursion_from_All}
 use Rattle.meaning.specs.declared.joined_row.JoinedRow.{JoinedRow}
-use Rattle.meaning.specs.declared.outcome.Fault.{Fault}
 use Rattle.meaning.specs.declared.outcome.Outcome.{Outcome}
 use Rattle.meaning.specs.declared.outcome.Outcome.TheVariants as gives
 use Rattle.meaning.specs.declared.plan.Item.{Item}
 use Rattle.meaning.specs.declared.plan.Plan.{Plan}
 use Rattle.meaning.specs.declared.value.ColType.{ColType}
-use Rattle.meaning.specs.declared.value.Value.{Value}
 use Rattle.meaning.specs.declared.value.Value.TheVariants.{Null}
 use Rattle.meaning.specs.Expr.{eval, values, with_value}
 use Rattle.meaning.specs.Finish.{all_rows, shown}

@@ -1,5 +1,5 @@
 -- Groups batch by batch: their aggregates, and what HAVING and the items give over vectors.
-use Rattle.std.specs.Prelude.{◌≡◌, ◌≢◌, ◌⊎◌, ℕ, ◌<◌, ◌≤◌, Bool, true, false, List, [], ◌++◌, map, length, take, get_or, option_to_list, Option, Some, None, Result, Ok, Err, All, IfSome, ⊤}
+use Rattle.std.specs.Prelude.{◌≡◌, ℕ, ◌<◌, ◌≤◌, Bool, true, false, List, [], ◌++◌, map, length, take, get_or, option_to_list, Option, Some, None, Result, Ok, Err, All, IfSome, ⊤}
 use Rattle.std.specs.List.{list_all}
 use Rattle.meaning.specs.declared.answer.Group.{Group}
 use Rattle.meaning.specs.declared.joined_row.JoinedRow.{JoinedRow}
@@ -7,8 +7,6 @@ use Rattle.meaning.specs.declared.plan.Plan.{Plan}
 use Rattle.meaning.specs.declared.value.ColType.{ColType}
 use Rattle.meaning.specs.declared.value.Value.{Value}
 use Rattle.meaning.specs.declared.value.Value.TheVariants.{Null, Int, Text}
-use Rattle.meaning.specs.declared.outcome.Fault as fault
-use Rattle.meaning.specs.declared.outcome.Outcome.{Outcome}
 use Rattle.meaning.specs.declared.outcome.Outcome.TheVariants as gives
 use Rattle.meaning.specs.declared.answer.Statistics.{Statistics}
 use Rattle.meaning.specs.declared.plan.AggregateKind.{AggregateKind}
@@ -28,8 +26,8 @@ use Rattle.vectors.specs.Vector.{BatchSpec, IsColumnOf, outcomes_of, values_of}
 use Rattle.vectors.specs.declared.batch.BatchColumn.{BatchColumn}
 use Rattle.vectors.specs.declared.batch.ColumnReference.{ColumnReference}
 use Rattle.vectors.specs.declared.vector.Vector.{Vector}
-use Rattle.vector_operators.specs.Evaluated.{Finds, Held, IsBefore}
-use Rattle.vector_operators.specs.Given.{is_true_lane, type_of_lanes}
+use Rattle.vector_operators.specs.Evaluated.{Held, IsBefore}
+use Rattle.vector_operators.specs.Given.{type_of_lanes}
 use Rattle.primitives.specs.Fitting.{AreTypedRows, Fits, has_column, is_typed_column}
 use Rattle.primitives.specs.Meant.{row_at}
 use Rattle.last_step.specs.declared.stop.Stop.{Stop}

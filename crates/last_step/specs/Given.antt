@@ -1,7 +1,7 @@
 -- What a call gives beside what is meant.
 --     fault_returned  the fault that a call's error is
 --     meant           the last step's outcome
-use Rattle.std.specs.Prelude.{◌≡◌, ℕ, Bool, true, false, List, Option, Some, None, Result, Ok, Err}
+use Rattle.std.specs.Prelude.{ℕ, Bool, true, false, List, Option, Some, None, Result, Ok, Err}
 use Rattle.meaning.specs.declared.value.Value.{Value}
 use Rattle.meaning.specs.declared.value.Value.TheVariants.{Null}
 use Rattle.meaning.specs.declared.outcome.Truth.TheVariants.{False, Unknown, True}

@@ -1,6 +1,6 @@
 -- Rows behind the joins pass the conditions that are settled.
 use Rattle.std.proofs.Common.{◌≡◌, ℕ, zero, suc, ◌<◌, inl, inr, Bool, true, false, cond, List, [], ◌∷◌, ◌++◌, map, zip, length, take, drop, get_or, refl, ap, sym, subst, ◌∙◌, arith}
-use Rattle.std.specs.Prelude.{◌⊎◌, All, filter, slice_index_or}
+use Rattle.std.specs.Prelude.{◌⊎◌, All, slice_index_or}
 use Rattle.std.specs.List.{AllByRecursion, AllZip}
 use Rattle.std.proofs.lemmas.List.{length-map, take_all, take-append-drop}
 use Rattle.std.proofs.lemmas.List.Elements.{recursion_from_All}
@@ -31,10 +31,10 @@ use Rattle.scan_select.specs.Selected.{behind, conditions}
 use Rattle.job_files.specs.declared.text_test.Test.{Test}
 use Rattle.job_files.specs.Files.{HasColumns}
 use Rattle.job_files.specs.Tables.{IsSettled, IsTable, PassesWhereKeyed, TableSpec, TablesSpec, table_rows, table_types}
-use Rattle.job_files.specs.TextTest.{condition_of, holds}
+use Rattle.job_files.specs.TextTest.{holds}
 use Rattle.job_files.proofs.ThinnedRows.{meant, never_null}
 use Rattle.worker.specs.Evaluated.{AreJoinedRows, AreSettledRows, FitsColumns}
-use Rattle.worker.specs.Joining.{AreJoinedTo, IsJoinedTo, IsMetWhere, MeetsAll}
+use Rattle.worker.specs.Joining.{IsJoinedTo, IsMetWhere, MeetsAll}
 use Rattle.worker.proofs.JoinedBatches.{fits_behind, has_table_types, joined_behind, many_tables, typed_behind}
 use Rattle.worker.proofs.JudgedRows.{in_turn}
 

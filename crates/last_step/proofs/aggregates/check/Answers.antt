@@ -1,8 +1,8 @@
 -- Proofs of the goals of `check` (`aggregates`).
-use Rattle.std.proofs.Common.{◌≡◌, ◌≤◌, ◌<◌, ◌+◌, length, rules, ap, ◌∙◌, sym, subst, drop, get_or, Err}
+use Rattle.std.proofs.Common.{◌≡◌, ◌≤◌, ◌<◌, length, rules, ap, ◌∙◌, get_or}
 use Rattle.meaning.specs.declared.plan.Aggregate.{Aggregate}
 use Rattle.meaning.specs.Aggregate.{value}
-use Rattle.last_step.proofs.Judging.{from_index, zip_more, zip_end_left, zip_end_right}
+use Rattle.last_step.proofs.Judging.{from_index, zip_more, zip_end_right}
 use Rattle.last_step.proofs.Checked.{judged_ends, judged_more}
 use Rattle.last_step.proofs.aggregates.check.Goals as goal
 

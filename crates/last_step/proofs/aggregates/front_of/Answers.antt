@@ -1,7 +1,6 @@
 -- Proofs of the goals of `front_of` (`aggregates`).
-use Rattle.std.proofs.Common.{◌≡◌, ◌≤◌, map, ap, ◌∙◌, sym, subst, Some, Err, arith}
+use Rattle.std.proofs.Common.{map, ap, ◌∙◌, sym, subst, Some, Err, arith}
 use Rattle.std.specs.Prelude.{zip}
-use Rattle.meaning.specs.Aggregate.{value}
 use Rattle.meaning.specs.Results.{all_ok}
 use Rattle.last_step.specs.Batches.{IsFront, IsJudged}
 use Rattle.last_step.proofs.Checked.{judge}

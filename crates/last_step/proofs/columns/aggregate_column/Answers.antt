@@ -6,7 +6,7 @@ use Rattle.meaning.specs.declared.value.ColType.{ColType}
 use Rattle.meaning.specs.declared.value.Value.{Value}
 use Rattle.meaning.specs.Order.{value_in}
 use Rattle.meaning.specs.Typing.{is_of_type}
-use Rattle.last_step.specs.Batches.{IsVectorOf, aggregate_in}
+use Rattle.last_step.specs.Batches.{IsVectorOf}
 use Rattle.last_step.proofs.GroupColumns.{aggregate_column_is, aggregates_of_type, have_at}
 use Rattle.last_step.proofs.columns.aggregate_column.Goals as goal
 

@@ -1,6 +1,5 @@
 -- Proofs of the goals of `push_shown` (`showing`).
 use Rattle.std.proofs.Common.{List, length, map, ◌++◌, Ok, Err, ap, sym, subst, ◌∙◌}
-use Rattle.meaning.specs.Order.{Row}
 use Rattle.vectors.specs.declared.vector.Vector.{Vector}
 use Rattle.vector_operators.specs.Evaluated.{Held}
 use Rattle.last_step.specs.Batches.{AreReadable, Shows, lane_row}

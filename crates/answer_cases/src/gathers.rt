@@ -1,6 +1,6 @@
 //! Cases about coordinators: what each event does and what is printed.
 ghost use Rattle.std.specs.Prelude.{◌≡◌, IfOk, IfSome, length};
-ghost use Rattle.gathering.specs.Gathering.{IsShown};
+ghost use Rattle.meaning.specs.SoundPlan.{IsSoundPlan};
 
 use crate::jobs::{NO_JOB, job_of};
 use case_files::{StoredFile, find, show_printed, words};
@@ -110,7 +110,7 @@ fn join(
 
 // A coordinator of a job: one that has taken nothing, or one that holds what a state spells.
 fn started(alloc: Global, job: Job, state: Option<&[u8]>) -> Result<Gather, GatherFault>
-    requires { IsShown job.plan }
+    requires { IsSoundPlan job.plan }
 {
     match state {
         Some(bytes) => Gather::from_state(alloc, job, bytes),

@@ -1,13 +1,12 @@
 //! Jobs that the words of a case name: the number of a load, a cut, what is asked of each fragment,
 //! and the text of the query.
-ghost use Rattle.std.specs.Prelude.{◌≡◌, ◌≢◌, ◌≤◌, [], ◌∷◌, None, false, length, map, IfOk, IfSome};
+ghost use Rattle.std.specs.Prelude.{pos, ◌≡◌, ◌≤◌, [], ◌∷◌, None, false, length, map, IfOk, IfSome};
 ghost use Rattle.meaning.specs.declared.expr.Expr.TheVariants as the_expr;
 ghost use Rattle.meaning.specs.declared.plan.Aggregate.{Aggregate as AnAggregate};
 ghost use Rattle.meaning.specs.declared.value.ColType.TheVariants as of_type;
-ghost use Rattle.meaning.specs.Typing.{result_type};
+ghost use Rattle.meaning.specs.declared.value.Value.TheVariants as the_value;
 ghost use Rattle.meaning.specs.Limits.{max_query_bytes};
-ghost use Rattle.partial_codec.specs.Job.{IsWithinLimits};
-ghost use Rattle.gathering.specs.Gathering.{IsShown};
+ghost use Rattle.meaning.specs.SoundPlan.{IsSoundPlan};
 
 use crate::shapes::shaped_plan;
 use meaning::{
@@ -40,29 +39,26 @@ pub fn cut_of(alloc: Global, word: &str) -> Result<Option<Cut>, AllocError> {
     }
 }
 
-fn aggregate_of(summed: Option<usize>) -> Aggregate
-    ensures { result_type result.kind result.col_type ≡ of_type.Int }
+// Of the literal 1, so that the plan names no column.
+fn aggregate_of(kind: AggregateKind) -> Aggregate
+    ensures kind { result.kind ≡ kind }
+    ensures argument { result.argument ≡ the_expr.Literal (the_value.Int (pos 1)) }
+    ensures integer { result.col_type ≡ of_type.Int }
 {
-    let (kind, argument) = match summed {
-        Some(column) => (AggregateKind::Sum, Expr::Column(column)),
-        None => (AggregateKind::CountRows, Expr::Literal(Value::Int(1))),
-    };
     Aggregate {
         kind,
-        argument,
+        argument: Expr::Literal(Value::Int(1)),
         col_type: ColType::Int,
     }
 }
 
 fn only_parts(
     alloc: Global,
-    summed: Option<usize>,
+    kind: AggregateKind,
 ) -> Result<(Sequence<Aggregate>, Sequence<Item>), AllocError>
-    ensures aggregate { IfOk result (λ parts. length parts.0 ≡ 1) }
-    ensures item { IfOk result (λ parts. parts.1 ≢ []) }
-    ensures integer { IfOk result (λ parts. (a : AnAggregate) × (parts.0 ≡ a ∷ [])
-        × (result_type a.kind a.col_type ≡ of_type.Int)) }
-    ensures shown { IfOk result (λ parts. map (λ i. i.expr) parts.1 ≡ the_expr.Aggregate 0 ∷ []) }
+    ensures aggregate { IfOk result (λ parts. (a : AnAggregate) × (parts.0 ≡ a ∷ [])
+        × (a.argument ≡ the_expr.Literal (the_value.Int (pos 1))) × (a.col_type ≡ of_type.Int)) }
+    ensures item { IfOk result (λ parts. map (λ i. i.expr) parts.1 ≡ the_expr.Aggregate 0 ∷ []) }
 {
     let header = Text::new(alloc, "c1")?;
     let mut items = Sequence::new(alloc);
@@ -71,7 +67,7 @@ fn only_parts(
         expr: Expr::Aggregate(0),
     })?;
     let mut aggs = Sequence::new(alloc);
-    aggs.push(aggregate_of(summed))?;
+    aggs.push(aggregate_of(kind))?;
     Ok((aggs, items))
 }
 
@@ -83,6 +79,8 @@ fn with_parts(
     items: Sequence<Item>,
 ) -> Plan
     ensures text { result.text ≡ text }
+    ensures joins { result.joins ≡ [] }
+    ensures conjuncts { result.conjuncts ≡ [] }
     ensures keys { result.keys ≡ [] }
     ensures aggregates { result.aggs ≡ aggs }
     ensures items { result.items ≡ items }
@@ -107,14 +105,13 @@ fn with_parts(
     }
 }
 
-fn plan_of(alloc: Global, text: &str, summed: Option<usize>) -> Result<Plan, AllocError>
+fn plan_of(alloc: Global, text: &str, kind: AggregateKind) -> Result<Plan, AllocError>
     requires { length text.now ≤ max_query_bytes }
-    ensures shown { IfOk result IsShown }
-    ensures job { IfOk result IsWithinLimits }
+    ensures { IfOk result IsSoundPlan }
 {
     let text = Text::new(alloc, text)?;
     let name = Text::new(alloc, "t")?;
-    match only_parts(alloc, summed) {
+    match only_parts(alloc, kind) {
         Ok((aggs, items)) => Ok(with_parts(alloc, text, name, aggs, items)),
         Err(e) => Err(e),
     }
@@ -124,13 +121,13 @@ fn job_over(
     alloc: Global,
     load: u64,
     cut: Cut,
-    summed: Option<usize>,
+    kind: AggregateKind,
     text: &str,
 ) -> Result<Job, AllocError>
     requires { length text.now ≤ max_query_bytes }
-    ensures { IfOk result (λ job. IsShown job.plan) }
+    ensures { IfOk result (λ job. IsSoundPlan job.plan) }
 {
-    match plan_of(alloc, text, summed) {
+    match plan_of(alloc, text, kind) {
         Ok(plan) => Ok(Job::new(load, plan, cut)),
         Err(e) => {
             drop(cut);
@@ -139,11 +136,10 @@ fn job_over(
     }
 }
 
-// The number of the column that is summed, where one is.
-fn summed_by(word: &str) -> Option<Option<usize>> {
+fn kind_of(word: &str) -> Option<AggregateKind> {
     match word {
-        "count" => Some(None),
-        "sum" => Some(Some(0)),
+        "count" => Some(AggregateKind::CountRows),
+        "sum" => Some(AggregateKind::Sum),
         _ => None,
     }
 }
@@ -178,19 +174,19 @@ pub fn shaped_job_of(alloc: Global, words: &[&str]) -> Result<Option<Job>, Alloc
 
 /// The job that the words name, as in `7 2,3 count "SELECT COUNT(*) FROM sales"`.
 pub fn job_of(alloc: Global, words: &[&str]) -> Result<Option<Job>, AllocError>
-    ensures { IfOk result (λ found. IfSome found (λ job. IsShown job.plan)) }
+    ensures { IfOk result (λ found. IfSome found (λ job. IsSoundPlan job.plan)) }
 {
     let [load, cut, kind, text] = words else {
         return Ok(None);
     };
-    let (Ok(load), Some(summed)) = (load.parse::<u64>(), summed_by(kind)) else {
+    let (Ok(load), Some(kind)) = (load.parse::<u64>(), kind_of(kind)) else {
         return Ok(None);
     };
     if text.len() > MAX_QUERY_BYTES {
         return Ok(None);
     }
     match cut_of(alloc, cut)? {
-        Some(cut) => Ok(Some(job_over(alloc, load, cut, summed, text)?)),
+        Some(cut) => Ok(Some(job_over(alloc, load, cut, kind, text)?)),
         None => Ok(None),
     }
 }

@@ -253,7 +253,7 @@ merged_keys plan P gs certain all =
     over (k ∷ ks) p = (subst P (sym (merged_key plan k (beside k (map (λ (g : Group). (g.key, g)) gs)))) p.0, over ks p.1)
 
 full : (plan : Plan) → IsSoundPlan plan → plan.plain ≡ true → (key : Row) → length key ≡ length plan.keys → key ≢ []
-full plan sound plain key e none = some plan.items sound.sound (sym (sound.plain plain) ∙ sym e ∙ ap length none)
+full plan sound plain key e none = some plan.items sound.shown (sym (sound.plain plain) ∙ sym e ∙ ap length none)
   where
     some : (items : List Item) → items ≢ [] → length items ≡ 0 → ⊥
     some [] h e = h refl
@@ -266,7 +266,7 @@ all_full plan sound plain (g ∷ gs) all = (full plan sound plain g.key all.0, a
 -- in a plain query no key is empty
 pub combined_shows : (plan : Plan) (cut : Cut) (cells : List Cell) → IsCut cut → AreFitting plan cut cells → IsSoundPlan plan → ShowsSomething plan (merged_groups plan (all_groups cells))
 combined_shows plan cut cells is_cut fitting sound = record {
-  items = sound.sound;
+  items = sound.shown;
   keys = λ plain. All-from_recursion (λ g. g.key ≢ []) _
       (merged_keys plan (λ key. key ≢ []) (all_groups cells) (ap (λ p. certain_keys p plan.keys) plain)
       (all_full plan sound plain (all_groups cells) (cells_take plan cut is_cut 0 cells fitting.each).keys));

@@ -1,5 +1,5 @@
 -- What a coordinator holds, and what an answer does to it.
-use Rattle.std.specs.Prelude.{◌≡◌, ℕ, if◌then◌else◌, List, [], length, map, zip, slice_set, slice_index_or, Some, ⊤}
+use Rattle.std.specs.Prelude.{◌≡◌, ◌≢◌, ℕ, if◌then◌else◌, List, [], length, map, zip, slice_set, slice_index_or, Some, ⊤}
 use Rattle.meaning.specs.Said.{Body}
 use Rattle.meaning.specs.Said.{Answer}
 use Rattle.meaning.specs.Said.{Cell}

@@ -10,9 +10,9 @@ ghost use Rattle.primitives.specs.Narrowed.{Narrows};
 ghost use Rattle.last_step.specs.Batches.{IsBatchOf, Shows};
 
 use meaning::{Expr, Plan};
-use primitives::{eval_vec, keep_where};
+use primitives::{eval_lanes, keep_where};
 use std::alloc::{AllocError, Global};
-use vector_operators::Fault1;
+use vector_operators::{Fault1, LaneSet};
 use vectors::{Batch, Selection, Vector};
 
 /// The selected groups of which a condition is TRUE.
@@ -74,10 +74,11 @@ fn item_vectors<'a>(
 {
     // That positions lie below the number of rows.
     let _positions = kept.len();
+    let lanes = LaneSet::of(alloc, kept)?;
     let items = plan.items.as_slice();
     let mut vectors = Vec::with_capacity(alloc, items.len())?;
     for item in items {
-        vectors.push(eval_vec(alloc, &item.expr, batch, kept, fault)?)?;
+        vectors.push(eval_lanes(alloc, &item.expr, batch, &lanes, fault)?)?;
     }
     Ok(vectors)
 }

@@ -1,5 +1,5 @@
 -- The values that aggregates take.
-use Rattle.std.specs.Prelude.{ℕ, Bool, true, List, [], map, get_or, Option, Some, None}
+use Rattle.std.specs.Prelude.{ℕ, Bool, true, List, map, get_or, Option, Some, None}
 use Rattle.std.specs.Str.{is_utf8}
 use Rattle.meaning.specs.declared.value.Value.{Value}
 use Rattle.meaning.specs.declared.value.Value.TheVariants.{Null, Int, Text}

@@ -13,7 +13,6 @@ use Rattle.meaning.specs.declared.plan.Aggregate.{Aggregate}
 use Rattle.meaning.specs.declared.plan.GroupingKey.{GroupingKey}
 use Rattle.meaning.specs.declared.plan.Item as plan_item
 use Rattle.meaning.specs.declared.value.ColType.{ColType}
-use Rattle.meaning.specs.declared.value.ColType.TheVariants as of_type
 use Rattle.meaning.proofs.Tests.{first_of as left_of, second_of as right_of, all_first, all_rest}
 use Rattle.meaning.proofs.Typed.{type_itself}
 use Rattle.sql_syntax.specs.Joins.{condition_of}

@@ -1,13 +1,11 @@
 -- Plans are within the limits on a query.
-use Rattle.std.specs.Prelude.{◌≡◌, ℕ, zero, suc, ◌+◌, ◌<◌, ◌≤◌, nat_lt, nat_le, Bool, true, false, if◌then◌else◌, List, [], ◌∷◌, ◌++◌, length, map, Result, Ok, Err}
+use Rattle.std.specs.Prelude.{◌≡◌, ℕ, ◌+◌, ◌<◌, ◌≤◌, nat_lt, nat_le, Bool, true, false, if◌then◌else◌, List, [], ◌∷◌, length, map, Result, Ok, Err}
 use Rattle.std.specs.List.{enumerate_from}
 use Rattle.std.proofs.Common.{refl, sym, ap, subst, ◌∙◌, arith}
 use Rattle.std.proofs.lemmas.Bool.{ltb-false, leb-false}
 use Rattle.std.proofs.lemmas.List.{length-map}
 use Rattle.meaning.specs.Limits.{max_aggregates, max_keys}
 use Rattle.meaning.specs.Results.{and_then}
-use Rattle.meaning.specs.declared.catalog.Catalog.{Catalog}
-use Rattle.meaning.specs.declared.plan.Plan.{Plan}
 use Rattle.sql_syntax.specs.declared.tree.Expr.{Expr}
 use Rattle.sql_syntax.specs.declared.tree.Item.{Item}
 use Rattle.sql_syntax.specs.declared.tree.Query.{Query}
@@ -16,14 +14,12 @@ use Rattle.planner_expressions.specs.declared.fault.PlanFault.TheVariants as fau
 use Rattle.planner_expressions.specs.declared.scope.Scope.{Scope}
 use Rattle.planner_expressions.specs.From.{scope_of}
 use Rattle.planner_expressions.specs.Results.{each_ok}
-use Rattle.planner_expressions.specs.Spelled.{spelled}
 use Rattle.planner_expressions.proofs.Accepted.{goes_there}
 use Rattle.planner.specs.declared.keys.Keys.{Keys}
-use Rattle.planner.specs.declared.parts.Grouped.{Grouped}
 use Rattle.planner.specs.Checked.{checked}
-use Rattle.planner.specs.Groups.{aggregates_fit, all_aggregates, entries_check, entry_check, is_grouped, is_integer, item_aggregates, items_fit, key_of, key_trees, keys_check, keys_of, limits_check, no_keys, with_keys}
+use Rattle.planner.specs.Groups.{aggregates_fit, all_aggregates, entry_check, is_grouped, is_integer, item_aggregates, key_of, key_trees, keys_check, limits_check, no_keys, with_keys}
 use Rattle.planner.specs.Limited.{IsLimited, PlansAreLimited}
-use Rattle.planner.specs.Planned.{tables_of, groups_of, groups_with, shown_of, basis_of, plan_with, planned, planned_in}
+use Rattle.planner.specs.Planned.{tables_of, groups_of, groups_with, shown_of, basis_of, plan_with, planned_in}
 use Rattle.planner.proofs.PlansMean.{keys_are}
 
 abbrev well : Result (Unit {0}) PlanFault

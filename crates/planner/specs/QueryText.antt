@@ -1,5 +1,5 @@
 -- The plan of a query's text, and why there is none.
-use Rattle.std.specs.Prelude.{◌≡◌, ◌≢◌, ℕ, List, Result, Ok, Err, ⊤}
+use Rattle.std.specs.Prelude.{◌≡◌, ◌≢◌, ℕ, List, Result, Err, ⊤}
 use Rattle.meaning.specs.declared.catalog.Catalog.{Catalog}
 use Rattle.meaning.specs.declared.plan.Plan.{Plan}
 use Rattle.sql_syntax.specs.declared.tree.Query.{Query}

@@ -12,7 +12,6 @@ use Rattle.meaning.specs.declared.catalog.Catalog.{Catalog}
 use Rattle.meaning.specs.declared.catalog.Column.{Column}
 use Rattle.meaning.specs.declared.catalog.Dimension.{Dimension}
 use Rattle.meaning.specs.declared.value.ColType.{ColType}
-use Rattle.meaning.specs.declared.value.ColType.TheVariants as of_type
 use Rattle.meaning.proofs.Tests.{both, all_append, all_imply}
 use Rattle.meaning.proofs.Typed.{type_itself}
 use Rattle.sql_syntax.specs.declared.tree.Table as written

@@ -23,7 +23,7 @@ use Rattle.gathering.specs.Report.{ended_as}
 use Rattle.coordinator.specs.Whole.{HoldsOwnAnswers, IsAnsweredOver}
 
 module _ (plan : Plan) (rows : List Row) (dims : List (List Row)) (cut : Cut) (whole : length rows ≡ sum cut) where
-  own_cells : List Cell
+  abbrev own_cells : List Cell
   own_cells = joined cut (own_answers plan dims cut rows (range_with_len 0 (length cut)))
 
   means : report plan own_cells ≡ output (meaning plan dims (numbered rows))

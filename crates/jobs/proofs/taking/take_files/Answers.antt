@@ -1,6 +1,9 @@
 -- Proofs of the goals of `take_files` (`taking`).
-use Rattle.jobs.proofs.TakenFiles.{took_more}
+use Rattle.jobs.proofs.TakenFiles.{took_more, took_none}
 use Rattle.jobs.proofs.taking.take_files.Goals as goal
+
+pub loop-path-init : goal.loop-path-init
+loop-path-init g c = took_none (g.F.Folder.holds c.args.folder.now) (g.T.TakesAnswers.held c.args.taker.now) (g.E.Write.contents c.args.err.now) c.requires.nothing
 
 pub loop-path-preserved : goal.loop-path-preserved
 loop-path-preserved g c =

@@ -52,7 +52,6 @@ module _ (plan : Plan) (a : Aggregate) (no_joins : plan.joins ≡ []) (no_conjun
     (only : plan.aggs ≡ a ∷ []) (argument : a.argument ≡ one) (integer : a.col_type ≡ of_type.Int)
     (shows : map (λ i. i.expr) plan.items ≡ expr.Aggregate 0 ∷ []) (no_having : plan.having ≡ None) (no_plain : plan.plain ≡ false)
     (within : IsWithinLimits plan) where
-
   types : group_types plan ≡ sums
   types =
       (λ i. record { fact = []; joins = []; key = map (λ k. k.col_type) (no_keys i); aggregates = map (λ (b : Aggregate). result_type b.kind b.col_type) (only i) })

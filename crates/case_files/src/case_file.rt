@@ -41,7 +41,7 @@ fn push_line(text: &mut String, line: &str) -> Result<(), AllocError> {
     text.push_str("\n")
 }
 
-// Puts a line into the record that isn't ended, or begins one with it. Tells whether a record isn't
+// Puts a line into the record that isn't ended, or begins one with it. Says whether a record isn't
 // ended behind it.
 fn take_line<'a>(
     alloc: Global,

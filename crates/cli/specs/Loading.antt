@@ -62,7 +62,7 @@ pub record IsFactLoaded (holds : Holds) (folder : List ℕ) (catalog : Catalog) 
 abbrev pub header_of : ℕ → Table → ℕ → ℕ → ℕ → Header
 header_of load table fragment first_row rows = table_header load table (record { fragment = fragment; first_row = first_row; rows = rows })
 
--- bytes stand for the header and the columns of a fragment, of which its number and columns are given
+-- bytes encode the header and the columns of a fragment, of which its number and columns are given
 abbrev pub StandsForFragment : ℕ → Table → Cut → ℕ × List ColumnSpec → List ℕ → Type 0
 StandsForFragment load table cut p bytes = Stands bytes (header_of load table p.0 (first_row cut p.0) (slice_index cut p.0)) p.1
 

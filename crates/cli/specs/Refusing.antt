@@ -58,7 +58,7 @@ IsFactUncounted holds folder catalog e = IsUnread (csv_path folder catalog.fact.
     ⊎ ((e ≡ refusal.Load table_fault.TooManyRows)
     × ((csv : List ℕ) → holds (csv_path folder catalog.fact.name) ≡ Some csv → max_counted ≤ length (csv_records csv)))
 
--- the fact's file can't be read to its end, or the table that it stands for has a fault under this cut
+-- the fact's file can't be read to its end, or its table has a fault under this cut
 abbrev pub IsFactUnloaded : Holds → List ℕ → Catalog → Cut → Refusal → Type 0
 IsFactUnloaded holds folder catalog cut e = IsUnread (csv_path folder catalog.fact.name) e
     ⊎ ((fault : TableFault) × (e ≡ refusal.Load fault)
@@ -70,7 +70,7 @@ IsFactRefused holds folder catalog rows e = IsFactUncounted holds folder catalog
     ⊎ ((counted : ℕ) × IsFactCounted holds folder catalog counted
     × (IsUneven counted rows e ⊎ ((cut : Cut) × (cut_of (even_lengths counted rows) ≡ Ok cut) × IsFactUnloaded holds folder catalog cut e)))
 
--- a dimension's file can't be read, or the table that it stands for has a fault
+-- a dimension's file can't be read, or its table has a fault
 abbrev pub IsDimensionRefused : Holds → List ℕ → Dimension → Refusal → Type 0
 IsDimensionRefused holds folder d e = IsUnread (csv_path folder d.table.name) e
     ⊎ ((csv : List ℕ) × (fault : TableFault) × AreHeld (holds (csv_path folder d.table.name)) csv

@@ -5,7 +5,7 @@ ghost use Rattle.command_line.specs.Words.{named_of, values};
 
 use crate::parts::Given;
 
-/// What stands for an option.
+/// How often an option is given, and what it is.
 #[derive(Copy, Clone, Drop)]
 pub enum Found<'a> {
     Nothing,
@@ -14,7 +14,7 @@ pub enum Found<'a> {
 }
 
 impl<'a> Found<'a> {
-    /// What stands for the option when one more word was read.
+    /// The same when one more word was read.
     pub fn after(self, given: &Given<'a>, name: &str) -> Found<'a>
         ensures { (vs : List (List ℕ)) → IsFound vs self.entry
             → IsFound (vs ++ values name.now (named_of given.now ∷ [])) result }

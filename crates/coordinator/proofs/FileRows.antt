@@ -137,7 +137,7 @@ file_rows f rows by_columns counted is columns count typed =
 
 -- ---- the answer of a file
 
--- the rows of a file that stands for the columns of rows
+-- the rows of a file that encodes the columns of rows
 held_rows : (bytes : List ℕ) (table : Table) (slice : Slice) (columns : List ColumnSpec) (rows : List Row) (stands : Stands bytes (table_header 0 table slice) columns)
     → columns ≡ columns_of table.columns rows → length rows ≡ slice.rows → are_rows_of table.columns rows ≡ true
     → (f : FragmentSpec) → read_fragment bytes ≡ Ok f → rows_of_file f ≡ rows

@@ -149,7 +149,7 @@ whole_input catalog csvs query cut vector_len = record { catalog = catalog; file
 abbrev pub input_of : List ℕ → List ℕ → Sources → Input
 input_of catalog query sources = whole_input catalog sources.csvs.now query sources.cut.now sources.vector_len
 
--- the plan and the tables that the input stands for
+-- the plan and the tables of the input
 pub record RunsOver (input : Input) (plan : Plan) (rows : List Row) (dims : List (List Row)) : Type 0 where
   pub catalog : Catalog
   pub declared : catalog_of input.catalog ≡ Ok catalog

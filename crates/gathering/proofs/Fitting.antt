@@ -21,7 +21,7 @@ module _ (plan : Plan) (cut : Cut) where
       let later : n + suc k ≡ (n + 1) + k = omega arith in
       both _ _ (first_of _ _ e) (set_from (n + 1) cells k c (subst (λ (j : ℕ). is_fitting plan cut j c ≡ true) later here) (second_of _ _ e))
 
-  -- a fitting cell may stand for any fragment
+  -- a fitting cell may be any fragment's
   pub AreFitting-set : (cells : List Cell) (k : ℕ) (c : Cell) → is_fitting plan cut k c ≡ true → AreFitting plan cut cells → AreFitting plan cut (slice_set cells k c)
   AreFitting-set cells k c here before =
       let same : k ≡ 0 + k = omega arith in

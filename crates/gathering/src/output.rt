@@ -15,7 +15,7 @@ pub enum Output {
     RowFault(RowFault),
 }
 
-/// The output that a body stands for.
+/// The output of a body.
 pub fn output_of(alloc: Global, plan: &Plan, body: &Body<Group>) -> Result<Output, AllocError>
     requires { IsFinishable plan.now body.now }
     ensures value { IfOk result (λ o. output_in o ≡ output_of plan.now body.now) }

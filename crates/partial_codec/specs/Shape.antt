@@ -28,7 +28,7 @@ shape_of plan = record { keys = map (λ k. k.col_type) plan.keys; aggregates = m
 
 -- ---- codes
 
--- 0 stands for no argument
+-- 0 encodes no argument
 abbrev pub argument_code : Option ColType → ℕ
 argument_code None = 0
 argument_code (Some t) = type_code t

@@ -382,48 +382,24 @@ impl Cells {
         ensures roomy { has_one_size (kind_of_cells self.old) ≡ true → IsOk result }
     {
         match self {
-            Cells::CountRows(cells) => update_count(
-                cells.as_mut_slice(),
-                alloc,
-                group_index,
-                lanes,
-                selection,
-            ),
-            Cells::Count(cells) => update_count(
-                cells.as_mut_slice(),
-                alloc,
-                group_index,
-                lanes,
-                selection,
-            ),
-            Cells::Sum(cells) => update_sum(
-                cells.as_mut_slice(),
-                alloc,
-                group_index,
-                lanes,
-                selection,
-            ),
-            Cells::Min(cells) => update_min(
-                cells.as_mut_slice(),
-                alloc,
-                group_index,
-                lanes,
-                selection,
-            ),
-            Cells::Max(cells) => update_max(
-                cells.as_mut_slice(),
-                alloc,
-                group_index,
-                lanes,
-                selection,
-            ),
-            Cells::Avg(cells) => update_sum(
-                cells.as_mut_slice(),
-                alloc,
-                group_index,
-                lanes,
-                selection,
-            ),
+            Cells::CountRows(cells) => {
+                update_count(cells.as_mut_slice(), alloc, group_index, lanes, selection)
+            }
+            Cells::Count(cells) => {
+                update_count(cells.as_mut_slice(), alloc, group_index, lanes, selection)
+            }
+            Cells::Sum(cells) => {
+                update_sum(cells.as_mut_slice(), alloc, group_index, lanes, selection)
+            }
+            Cells::Min(cells) => {
+                update_min(cells.as_mut_slice(), alloc, group_index, lanes, selection)
+            }
+            Cells::Max(cells) => {
+                update_max(cells.as_mut_slice(), alloc, group_index, lanes, selection)
+            }
+            Cells::Avg(cells) => {
+                update_sum(cells.as_mut_slice(), alloc, group_index, lanes, selection)
+            }
         }
     }
 

@@ -8,9 +8,9 @@ use Rattle.std.proofs.lemmas.Bool.Decides.{nat_tests}
 use Rattle.meaning.specs.declared.answer.Statistics.{Statistics}
 use Rattle.meaning.specs.Aggregate.{no_statistics, merge}
 use Rattle.accumulators.specs.Columns.{merged_at}
-use Rattle.accumulators.specs.Entries.{of_group}
-use Rattle.accumulators.specs.State.{most_entries}
-use Rattle.accumulators.proofs.Growing.{first_left}
+use Rattle.aggregate_states.specs.Entries.{of_group}
+use Rattle.aggregate_states.specs.State.{most_entries}
+use Rattle.aggregate_states.proofs.Growing.{first_left}
 
 pub same : (p n : ℕ) → p ≡ n → (p == n) ≡ true
 same p n e = grind (arith, nat_tests)

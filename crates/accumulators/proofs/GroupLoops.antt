@@ -9,9 +9,9 @@ use Rattle.meaning.specs.declared.answer.Statistics.{Statistics}
 use Rattle.meaning.specs.Aggregate.{merge, kept_by, statistics}
 use Rattle.meaning.proofs.Merge.{merge-assoc}
 use Rattle.accumulators.specs.Columns.{merged_at}
-use Rattle.accumulators.specs.Entries.{state_of, together, with_entries, with_states}
-use Rattle.accumulators.specs.Values.{selected}
-use Rattle.accumulators.proofs.Growing.{joined, merge-no_entry, merge-fresh, first_left, kept_count, present_one}
+use Rattle.aggregate_states.specs.Entries.{state_of, together, with_entries, with_states}
+use Rattle.aggregate_states.specs.Values.{selected}
+use Rattle.aggregate_states.proofs.Growing.{joined, merge-no_entry, merge-fresh, first_left, kept_count, present_one}
 use Rattle.accumulators.proofs.AtGroups.{at_one, groups_more, groups_end, zip_one}
 
 module _ (kind : AggregateKind) where

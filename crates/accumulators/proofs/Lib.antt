@@ -1,9 +1,3 @@
 -- The lemmas of this crate.
-pub mod Selected
-pub mod Growing
-pub mod Means
-pub mod Spelled
-pub mod Plain
-pub mod PlainInts
 pub mod AtGroups
 pub mod GroupLoops

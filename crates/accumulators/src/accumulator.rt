@@ -4,16 +4,15 @@ ghost use Rattle.meaning.specs.declared.plan.AggregateKind.{AggregateKind};
 ghost use Rattle.meaning.specs.declared.answer.Statistics.{Statistics};
 ghost use Rattle.meaning.specs.Aggregate.{merge, value};
 ghost use Rattle.meaning.specs.Operators.{sum_out_of_range};
-ghost use Rattle.accumulators.specs.declared.fault.AggFault.TheVariants.{SumOutOfRange};
-ghost use Rattle.accumulators.specs.Entries.{state_of, together};
-ghost use Rattle.accumulators.specs.Kinds.{has_one_size};
-ghost use Rattle.accumulators.specs.Laws.{StatesMerge};
-ghost use Rattle.accumulators.specs.State.{most_entries};
-ghost use Rattle.accumulators.specs.Values.{is_spelled, selected};
+ghost use Rattle.aggregate_states.specs.declared.fault.AggFault.TheVariants.{SumOutOfRange};
+ghost use Rattle.aggregate_states.specs.Entries.{state_of, together};
+ghost use Rattle.aggregate_states.specs.Kinds.{has_one_size};
+ghost use Rattle.aggregate_states.specs.Laws.{StatesMerge};
+ghost use Rattle.aggregate_states.specs.State.{most_entries};
+ghost use Rattle.aggregate_states.specs.Values.{is_spelled, selected};
 ghost use Rattle.vectors.specs.Vector.{values_of};
 
-use crate::fault::AggFault;
-use crate::state::State;
+use aggregate_states::{AggFault, State};
 use meaning::Value;
 use std::alloc::{AllocError, Global};
 use vectors::{Selection, Vector};
@@ -60,11 +59,12 @@ pub trait Accumulator {
     ///
     /// # Errors
     ///
-    /// A sum outside 64 bits, or out of memory.
+    /// A sum outside 64 bits; of the least and the greatest, out of memory.
     fn evaluate(&self, alloc: Global) -> Result<Value, AggFault>
         ensures ok { IfOk result (λ v. value (kind self.now) (held self.now) ≡ Ok v) }
         ensures err { IfErr result (λ f. f ≡ SumOutOfRange
-            → value (kind self.now) (held self.now) ≡ Err sum_out_of_range) };
+            → value (kind self.now) (held self.now) ≡ Err sum_out_of_range) }
+        ensures roomy { has_one_size (kind self.now) ≡ true → IfErr result (λ f. f ≡ SumOutOfRange) };
 
     ghost merges: { (x : Self) → StatesMerge (kind x) };
 }

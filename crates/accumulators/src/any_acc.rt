@@ -5,11 +5,10 @@ ghost use Rattle.accumulators.specs.AnyAcc.{held_by, kind_of};
 
 use crate::accumulator::Accumulator;
 use crate::count_acc::CountAcc;
-use crate::fault::AggFault;
 use crate::max_acc::MaxAcc;
 use crate::min_acc::MinAcc;
-use crate::state::State;
 use crate::sum_acc::SumAcc;
+use aggregate_states::{AggFault, State};
 use meaning::{AggregateKind, Value};
 use std::alloc::{AllocError, Global};
 use vectors::{Selection, Vector};
@@ -58,7 +57,7 @@ impl AnyAcc {
 
 impl Accumulator for AnyAcc {
     ghost use Rattle.accumulators.specs.AnyAcc.{held_by, kind_of};
-    ghost use Rattle.accumulators.specs.StateLaws.{states_merge};
+    ghost use Rattle.aggregate_states.specs.StateLaws.{states_merge};
 
     ghost kind = { kind_of };
 
@@ -105,7 +104,13 @@ impl Accumulator for AnyAcc {
     }
 
     fn evaluate(&self, alloc: Global) -> Result<Value, AggFault> {
-        let state = self.state(alloc)?;
-        state.evaluate(alloc, self.kind())
+        match self {
+            AnyAcc::CountRows(acc) => acc.to_state().evaluate(alloc, AggregateKind::CountRows),
+            AnyAcc::Count(acc) => acc.evaluate(alloc),
+            AnyAcc::Sum(acc) => acc.evaluate(alloc),
+            AnyAcc::Min(acc) => acc.evaluate(alloc),
+            AnyAcc::Max(acc) => acc.evaluate(alloc),
+            AnyAcc::Avg(acc) => acc.to_state().evaluate(alloc, AggregateKind::Avg),
+        }
     }
 }

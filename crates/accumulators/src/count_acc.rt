@@ -4,17 +4,14 @@ ghost use Rattle.meaning.specs.declared.plan.AggregateKind.TheVariants.{Count};
 ghost use Rattle.meaning.specs.declared.value.Value.TheVariants.{Int};
 ghost use Rattle.meaning.specs.Aggregate.{kept_by, merge, no_statistics};
 ghost use Rattle.meaning.specs.Order.{value_in};
-ghost use Rattle.accumulators.specs.Entries.{state_of};
-ghost use Rattle.accumulators.specs.Kinds.{count_state};
-ghost use Rattle.accumulators.specs.State.{most_entries};
-ghost use Rattle.accumulators.specs.Values.{is_spelled, selected};
+ghost use Rattle.aggregate_states.specs.Entries.{state_of};
+ghost use Rattle.aggregate_states.specs.Kinds.{count_state};
+ghost use Rattle.aggregate_states.specs.State.{most_entries};
+ghost use Rattle.aggregate_states.specs.Values.{is_spelled, selected};
 ghost use Rattle.vectors.specs.Vector.{values_of};
 
 use crate::accumulator::Accumulator;
-use crate::end::is_null;
-use crate::fault::AggFault;
-use crate::lanes::{plain_ints, selected_value};
-use crate::state::State;
+use aggregate_states::{AggFault, State, is_null, plain_ints, selected_value};
 use meaning::{AggregateKind, Statistics, Value, ValueRef};
 use std::alloc::{AllocError, Global};
 use std::marker::Model;
@@ -29,8 +26,8 @@ pub struct CountAcc {
 impl Model for CountAcc {
     ghost use Rattle.std.specs.Prelude.{◌≤◌};
     ghost use Rattle.meaning.specs.declared.answer.Statistics.{Statistics};
-    ghost use Rattle.accumulators.specs.Kinds.{count_state};
-    ghost use Rattle.accumulators.specs.State.{most_entries};
+    ghost use Rattle.aggregate_states.specs.Kinds.{count_state};
+    ghost use Rattle.aggregate_states.specs.State.{most_entries};
 
     ghost Value = { Statistics };
 
@@ -110,7 +107,7 @@ impl CountAcc {
 
 impl Accumulator for CountAcc {
     ghost use Rattle.meaning.specs.declared.plan.AggregateKind.TheVariants.{Count};
-    ghost use Rattle.accumulators.specs.StateLaws.{states_merge};
+    ghost use Rattle.aggregate_states.specs.StateLaws.{states_merge};
 
     ghost kind = { λ _. Count };
 

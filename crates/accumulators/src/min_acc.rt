@@ -3,15 +3,12 @@ ghost use Rattle.std.specs.Prelude.{◌≡◌, ◌<◌, ◌≤◌, ◌+◌, ◌�
 ghost use Rattle.meaning.specs.declared.plan.AggregateKind.TheVariants.{Min};
 ghost use Rattle.meaning.specs.Aggregate.{kept_by, merge, no_statistics};
 ghost use Rattle.meaning.specs.Order.{value_in};
-ghost use Rattle.accumulators.specs.Entries.{state_of};
-ghost use Rattle.accumulators.specs.State.{most_entries};
-ghost use Rattle.accumulators.specs.Values.{is_spelled};
+ghost use Rattle.aggregate_states.specs.Entries.{state_of};
+ghost use Rattle.aggregate_states.specs.State.{most_entries};
+ghost use Rattle.aggregate_states.specs.Values.{is_spelled};
 
 use crate::accumulator::Accumulator;
-use crate::end::End;
-use crate::extreme::{Extreme, Found, found_in_states, found_selected};
-use crate::fault::AggFault;
-use crate::state::State;
+use aggregate_states::{AggFault, End, Extreme, Found, State, found_in_states, found_selected};
 use meaning::{AggregateKind, Value, ValueRef};
 use std::alloc::{AllocError, Global};
 use std::marker::Model;
@@ -25,8 +22,8 @@ pub struct MinAcc {
 
 impl Model for MinAcc {
     ghost use Rattle.meaning.specs.declared.answer.Statistics.{Statistics};
-    ghost use Rattle.accumulators.specs.declared.end.End.TheVariants as end;
-    ghost use Rattle.accumulators.specs.Kinds.{end_state, IsExtreme};
+    ghost use Rattle.aggregate_states.specs.declared.end.End.TheVariants as end;
+    ghost use Rattle.aggregate_states.specs.Kinds.{end_state, IsExtreme};
 
     ghost Value = { Statistics };
 
@@ -69,7 +66,7 @@ impl MinAcc {
 
 impl Accumulator for MinAcc {
     ghost use Rattle.meaning.specs.declared.plan.AggregateKind.TheVariants.{Min};
-    ghost use Rattle.accumulators.specs.StateLaws.{states_merge};
+    ghost use Rattle.aggregate_states.specs.StateLaws.{states_merge};
 
     ghost kind = { λ _. Min };
 

@@ -2,16 +2,14 @@
 ghost use Rattle.std.specs.Prelude.{◌≡◌, ◌<◌, ◌≤◌, ◌+◌, [], ◌∷◌, ◌++◌, length, map, sum, zip, slice_index_or, true, All, IsOk, OnOk, OnErr, IfOk};
 ghost use Rattle.meaning.specs.Aggregate.{kept_by, no_statistics};
 ghost use Rattle.accumulators.specs.Columns.{kind_of_cells, merged_at, of_states, states_in};
-ghost use Rattle.accumulators.specs.Entries.{state_of, with_entries, with_states};
-ghost use Rattle.accumulators.specs.Kinds.{has_one_size, keeps_sums};
-ghost use Rattle.accumulators.specs.State.{most_entries};
-ghost use Rattle.accumulators.specs.Values.{is_spelled, selected};
+ghost use Rattle.aggregate_states.specs.Entries.{state_of, with_entries, with_states};
+ghost use Rattle.aggregate_states.specs.Kinds.{has_one_size, keeps_sums};
+ghost use Rattle.aggregate_states.specs.State.{most_entries};
+ghost use Rattle.aggregate_states.specs.Values.{is_spelled, selected};
 ghost use Rattle.vectors.specs.Vector.{values_of};
 
 use crate::cells::Cells;
-use crate::lanes::{plain_ints, selected_value};
-use crate::one_group::one_group_index;
-use crate::state::State;
+use aggregate_states::{State, one_group_index, plain_ints, selected_value};
 use meaning::AggregateKind;
 use std::alloc::{AllocError, Global};
 use std::marker::Model;

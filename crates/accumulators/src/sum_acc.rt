@@ -4,17 +4,14 @@ ghost use Rattle.meaning.specs.declared.plan.AggregateKind.TheVariants.{Sum};
 ghost use Rattle.meaning.specs.declared.value.Value.TheVariants.{Int};
 ghost use Rattle.meaning.specs.Aggregate.{kept_by, merge, no_statistics};
 ghost use Rattle.meaning.specs.Order.{value_in};
-ghost use Rattle.accumulators.specs.Entries.{state_of};
-ghost use Rattle.accumulators.specs.Kinds.{sum_state, IsSum};
-ghost use Rattle.accumulators.specs.State.{most_entries};
-ghost use Rattle.accumulators.specs.Values.{is_spelled, selected};
+ghost use Rattle.aggregate_states.specs.Entries.{state_of};
+ghost use Rattle.aggregate_states.specs.Kinds.{sum_state, IsSum};
+ghost use Rattle.aggregate_states.specs.State.{most_entries};
+ghost use Rattle.aggregate_states.specs.Values.{is_spelled, selected};
 ghost use Rattle.vectors.specs.Vector.{values_of};
 
 use crate::accumulator::Accumulator;
-use crate::fault::AggFault;
-use crate::lanes::{plain_ints, selected_value};
-use crate::state::State;
-use crate::tally::Tally;
+use aggregate_states::{AggFault, State, Tally, plain_ints, selected_value};
 use meaning::{AggregateKind, Statistics, Value, ValueRef};
 use std::alloc::{AllocError, Global};
 use std::marker::Model;
@@ -28,7 +25,7 @@ pub struct SumAcc {
 
 impl Model for SumAcc {
     ghost use Rattle.meaning.specs.declared.answer.Statistics.{Statistics};
-    ghost use Rattle.accumulators.specs.Kinds.{sum_state, IsSum};
+    ghost use Rattle.aggregate_states.specs.Kinds.{sum_state, IsSum};
 
     ghost Value = { Statistics };
 
@@ -111,7 +108,7 @@ impl SumAcc {
 
 impl Accumulator for SumAcc {
     ghost use Rattle.meaning.specs.declared.plan.AggregateKind.TheVariants.{Sum};
-    ghost use Rattle.accumulators.specs.StateLaws.{states_merge};
+    ghost use Rattle.aggregate_states.specs.StateLaws.{states_merge};
 
     ghost kind = { λ _. Sum };
 

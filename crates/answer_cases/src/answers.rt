@@ -3,7 +3,7 @@ ghost use Rattle.partial_codec.specs.Answer.{Fits};
 ghost use Rattle.partial_codec.specs.State.{FitsState};
 
 use crate::jobs::{NO_JOB, shaped_job_of};
-use accumulators::Group;
+use aggregate_states::Group;
 use case_files::bytes_of;
 use meaning::{Answer, Body, Cell, ValueRef};
 use partial_codec::{DecodeFault, Job, decode, decode_state, encode, encode_state};

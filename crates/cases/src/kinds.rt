@@ -2,11 +2,10 @@
 use crate::{catalog, cut, plan, program, sql};
 use answer_cases::{show_answer, show_gathering, show_state, show_whole_query};
 use case_files::{StoredFile, bytes_of, escaped_bytes, find};
+use expression_cases::{show_agreement, show_expressions};
 use std::alloc::{AllocError, Global};
 use storage_cases::show_storage;
-use vector_cases::{
-    show_agreement, show_expressions, show_lane_loop, show_lookups, show_selection,
-};
+use vector_cases::{show_lane_loop, show_lookups, show_selection};
 
 // The word behind the kind is the path of the catalogue.
 fn show_plan(

@@ -2,6 +2,9 @@
 mod Finished
 mod HandedOn
 mod LoadedColumns
+mod LoadedFiles
+mod OneJob
+mod Program
 mod Questions
 pub mod RefusalDetails
 mod Refusals

@@ -13,7 +13,7 @@ use Rattle.meaning.specs.Order.{Row}
 use Rattle.meaning.specs.Records.{Record, dimension_of, file_order, is_header, judged_record, unless_few, row_of, unless_repeated}
 use Rattle.meaning.specs.Results.{and_then}
 use Rattle.columns.specs.Column.{ColumnSpec}
-use Rattle.loader.specs.Columns.{columns_of, column_of}
+use Rattle.columns.specs.Rows.{columns_of, column_of}
 use Rattle.loader.specs.Source.{csv_records}
 use Rattle.loader.proofs.RowRuns.{ok_parts, all_from}
 use Rattle.fragment_file.specs.Writing.{AreColumns}

@@ -21,12 +21,11 @@ use Rattle.folders.specs.Refused.{IsReturnedAs, load_refusal}
 use Rattle.cli.specs.WholeRefusal.{refusal_of}
 use Rattle.folders.specs.declared.refusal.Refusal.{Refusal}
 use Rattle.folders.specs.declared.refusal.Refusal.TheVariants as refusal
-use Rattle.jobs.specs.Gathering.{IsReportRefused}
 use Rattle.jobs.specs.Job.{IsQueryRefused as IsUnplanned}
 use Rattle.jobs.specs.Working.{IsWorkRefused}
 use Rattle.command_line.specs.declared.commands.WorkCommand.{WorkCommand}
 use Rattle.cli.specs.Loading.{IsDimensionLoaded}
-use Rattle.cli.specs.Refusing.{IsDimensionRefused, IsFirstRefused, IsInputRefused, IsLoadRefused, IsOfOutput, IsQuiet, IsRefusedSo, IsUncounted, IsWholeRefused, LeavesFiles}
+use Rattle.cli.specs.Refusing.{IsDimensionRefused, IsFirstRefused, IsInputRefused, IsLoadLeft, IsLoadRefused, IsQuiet, IsRefusedSo, IsUncounted, IsWholeRefused}
 use Rattle.cli.specs.Running.{files_of, input_over}
 use Rattle.command_line.specs.declared.commands.Command.{Command}
 use Rattle.command_line.specs.declared.commands.Command.TheVariants.{Whole, Load, Work}
@@ -82,42 +81,31 @@ contained dims items k d same below is = subst (λ xs. Contains xs d) same (subs
 
 -- ---- the commands
 
-report_is_output : (save : Option (List ℕ)) (e : Refusal) → IsReportRefused save e → IsOfOutput e
-report_is_output None e (inl unsaved) = absurd unsaved
-report_is_output None e (inr unprinted) = inl unprinted
-report_is_output (Some path) e (inl unwritten) = inr (path, unwritten)
-report_is_output (Some path) e (inr unprinted) = inl unprinted
-
--- saving and printing alone leave something
-pub gather_leaves : (save : Option (List ℕ)) (e : Refusal) (before after : Option (List Change)) → IsReportRefused save e ⊎ (after ≡ before) → LeavesFiles e before after
-gather_leaves save e before after (inl refused) = inl (report_is_output save e refused)
-gather_leaves save e before after (inr same) = inr same
-
 -- `load` is refused, of which the folder was lent
-pub load_refused : (holds : Holds) (command : Command) (folder lent : List ℕ) (load rows : ℕ) (e : Refusal) (before after : Option (List ℕ)) (wrote_before wrote_after : Option (List Change))
-    → command ≡ Load folder load rows → lent ≡ folder → IsLoadRefused holds lent rows e → IsQuiet e before after → LeavesFiles e wrote_before wrote_after
-    → IsRefusedSo holds command before after wrote_before wrote_after e
-load_refused holds command folder lent load rows e before after wrote_before wrote_after is same stands quiet left =
-    subst (λ (x : Command). IsRefusedSo holds x before after wrote_before wrote_after e) (sym is) (record {
+pub load_refused : (holds : Holds) (command : Command) (folder lent : List ℕ) (load rows : ℕ) (e : Refusal) (before after err : Option (List ℕ)) (wrote_before wrote_after : Option (List Change))
+    → command ≡ Load folder load rows → lent ≡ folder → IsLoadRefused holds lent rows e → IsQuiet e before after → IsLoadLeft holds lent load rows e wrote_before wrote_after
+    → IsRefusedSo holds command before after err wrote_before wrote_after e
+load_refused holds command folder lent load rows e before after err wrote_before wrote_after is same stands quiet left =
+    subst (λ (x : Command). IsRefusedSo holds x before after err wrote_before wrote_after e) (sym is) (record {
       stands = subst (λ f. IsLoadRefused holds f rows e) same stands;
       quiet = quiet;
-      left = left;
+      left = subst (λ f. IsLoadLeft holds f load rows e wrote_before wrote_after) same left;
     })
 
 -- `work` is refused
-pub work_refused : (holds : Holds) (command : Command) (asked : WorkCommand) (e : Refusal) (before : Option (List ℕ)) (wrote_before wrote_after : Option (List Change))
-    → command ≡ Work asked → IsWorkRefused holds asked e → LeavesFiles e wrote_before wrote_after → IsRefusedSo holds command before before wrote_before wrote_after e
-work_refused holds command asked e before wrote_before wrote_after is stands left =
-    subst (λ (x : Command). IsRefusedSo holds x before before wrote_before wrote_after e) (sym is) (record { stands = stands; quiet = inr refl; left = left })
+pub work_refused : (holds : Holds) (command : Command) (asked : WorkCommand) (e : Refusal) (before err : Option (List ℕ)) (wrote_before wrote_after : Option (List Change))
+    → command ≡ Work asked → IsWorkRefused holds asked e → wrote_after ≡ wrote_before → IsRefusedSo holds command before before err wrote_before wrote_after e
+work_refused holds command asked e before err wrote_before wrote_after is stands left =
+    subst (λ (x : Command). IsRefusedSo holds x before before err wrote_before wrote_after e) (sym is) (record { stands = stands; quiet = inr refl; left = left })
 
 -- so is `whole`, of which the folder and the query were lent
-pub whole_refused : (holds : Holds) (command : Command) (folder lent query text : List ℕ) (rows vector : ℕ) (result : Result ℕ Refusal) (before after : Option (List ℕ)) (wrote : Option (List Change))
+pub whole_refused : (holds : Holds) (command : Command) (folder lent query text : List ℕ) (rows vector : ℕ) (result : Result ℕ Refusal) (before after err : Option (List ℕ)) (wrote : Option (List Change))
     → command ≡ Whole folder query rows vector → lent ≡ folder → text ≡ query → IfErr result (IsWholeRefused holds lent text rows vector) → IfErr result (λ e. IsQuiet e before after)
-    → IfErr result (IsRefusedSo holds command before after wrote wrote)
-whole_refused holds command folder lent query text rows vector (Ok status) before after wrote is here same stands quiet = tt
-whole_refused holds command folder lent query text rows vector (Err e) before after wrote is here same stands quiet =
-    subst (λ (x : Command). IsRefusedSo holds x before after wrote wrote e) (sym is) (record {
+    → IfErr result (IsRefusedSo holds command before after err wrote wrote)
+whole_refused holds command folder lent query text rows vector (Ok status) before after err wrote is here same stands quiet = tt
+whole_refused holds command folder lent query text rows vector (Err e) before after err wrote is here same stands quiet =
+    subst (λ (x : Command). IsRefusedSo holds x before after err wrote wrote e) (sym is) (record {
       stands = subst (λ f. IsWholeRefused holds f query rows vector e) here (subst (λ q. IsWholeRefused holds lent q rows vector e) same stands);
       quiet = quiet;
-      left = inr refl;
+      left = refl;
     })

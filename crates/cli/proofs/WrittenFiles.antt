@@ -1,9 +1,10 @@
 -- Files that are written and taken away one behind the other.
-use Rattle.std.proofs.Common.{◌≡◌, ◌≤◌, ◌<◌, ◌^◌, ℕ, zero, suc, ◌+◌, ◌-◌, List, [], ◌∷◌, ◌++◌, length, map, take, drop, get_or, refl, sym, subst, ap, ◌∙◌, append_assoc, arith, add-one}
+use Rattle.std.proofs.Common.{◌≡◌, ◌≤◌, ◌<◌, ◌^◌, ℕ, zero, suc, ◌+◌, ◌-◌, List, [], ◌∷◌, ◌++◌, length, map, take, drop, get_or, refl, sym, subst, ap, ◌∙◌, append_assoc, append-nil, arith, add-one}
 use Rattle.std.specs.Prelude.{Option, None, Some, slice_index, zip}
 use Rattle.std.specs.List.{enumerate_from, range_with_len}
 use Rattle.std.proofs.lemmas.List.{map-append, take_all}
 use Rattle.meaning.specs.Cut.{IsCut, Cut, first_row}
+use Rattle.meaning.specs.Limits.{max_fragments}
 use Rattle.meaning.specs.declared.catalog.Catalog.{Catalog}
 use Rattle.meaning.specs.declared.catalog.Dimension.{Dimension}
 use Rattle.meaning.specs.declared.catalog.Table.{Table}
@@ -16,7 +17,7 @@ use Rattle.fragment_file.specs.CutFile.{cut_bytes}
 use Rattle.fragment_file.specs.Fragment.{Stands}
 use Rattle.folders.specs.Folder.{Change, Encloses, Finishes, Removes, Writes, WritesOne, cut_path, fragment_path, dimension_path}
 use Rattle.folders.specs.Each.{AreEach}
-use Rattle.cli.specs.Loading.{AreDimensionColumns, AreFiles, AreFragmentsClosed, IsDimensionFile, IsFragmentClosed, IsFragmentFile, StandsForFragment, cut_file_of, header_of, removals, rows_in}
+use Rattle.cli.specs.Loading.{AreDimensionColumns, AreDimensionsBegun, AreFiles, AreFilesBegun, AreFragmentsBegun, AreFragmentsClosed, IsDimensionFile, IsFragmentClosed, IsFragmentFile, StandsForFragment, cut_file_of, header_of, removals, removed, rows_in}
 use Rattle.folders.proofs.Each.{each_at, each_length, each_more, numbered_more, zipped_more}
 
 wrote_more : {A : Type 0} (IsFile : A → Change → Type 0) (xs : List A) (x : A) (path : List ℕ) (AreSuch : List ℕ → Type 0) (before now after : Option (List Change))
@@ -137,6 +138,77 @@ removed_more path first k before now after le wrote removed = λ old known.
       removed (old ++ new) reached ∙ ap Some (append_assoc old new (taken path k ∷ [])),
       ap (λ l. l ++ taken path k ∷ []) are ∙ sym (taken_more path first k le),
     )
+
+-- ---- less than all files
+
+-- the same changes, of which less is said
+pub less : {P Q : List Change → Type 0} (before after : Option (List Change)) → ((changes : List Change) → P changes → Q changes) → Writes P before after → Writes Q before after
+less before after so wrote = λ old known.
+    let (new, reached, is) = wrote old known in
+    (new, reached, so new is)
+
+-- nothing was written
+nothing : {P : List Change → Type 0} (wrote : Option (List Change)) → P [] → Writes P wrote wrote
+nothing wrote is = λ old known. ([], known ∙ ap Some (sym (append-nil old)), is)
+
+all_fragments : (folder : List ℕ) (load : ℕ) (table : Table) (cut : Cut) (fragments : List (List ColumnSpec)) (changes : List Change)
+    → AreEach (IsFragmentFile folder load table cut) (enumerate_from 0 fragments) changes → AreFragmentsBegun folder load table cut fragments changes
+all_fragments folder load table cut fragments changes are =
+    (length fragments, subst (λ (l : List (List ColumnSpec)). AreEach (IsFragmentFile folder load table cut) (enumerate_from 0 l) changes) (sym (take_all (length fragments) fragments (omega arith))) are)
+
+all_dimensions : (folder : List ℕ) (load : ℕ) (declared : List Dimension) (dims : List (List ColumnSpec)) (changes : List Change)
+    → AreEach (IsDimensionFile folder load) (zip declared dims) changes → AreDimensionsBegun folder load declared dims changes
+all_dimensions folder load declared dims changes are =
+    let n = length declared + length dims in (
+      n,
+      subst (λ (l : List (Dimension × List ColumnSpec)). AreEach (IsDimensionFile folder load) l changes)
+          (sym (ap (λ ds. zip ds (take n dims)) (take_all n declared (omega arith)) ∙ ap (zip declared) (take_all n dims (omega arith)))) are,
+    )
+
+module _ (folder : List ℕ) (load : ℕ) (catalog : Catalog) (cut : Cut) (fragments dims : List (List ColumnSpec)) where
+  abbrev Begun : Option (List Change) → Option (List Change) → Type 0
+  Begun = Writes (AreFilesBegun folder load catalog cut fragments dims)
+
+  abbrev PutAll : Option (List Change) → Option (List Change) → Type 0
+  PutAll = Writes (AreEach (IsFragmentFile folder load catalog.fact cut) (enumerate_from 0 fragments))
+
+  abbrev SavedAll : Option (List Change) → Option (List Change) → Type 0
+  SavedAll = Writes (AreEach (IsDimensionFile folder load) (zip catalog.dims dims))
+
+  abbrev RemovedSome : Option (List Change) → Option (List Change) → Type 0
+  RemovedSome = Writes (λ changes. (n : ℕ) × (changes ≡ removed folder catalog.fact cut n))
+
+  one_after_other : (before first second after : Option (List Change)) → Writes (AreFragmentsBegun folder load catalog.fact cut fragments) before first
+      → Writes (AreDimensionsBegun folder load catalog.dims dims) first second → RemovedSome second after → Begun before after
+  one_after_other before first second after put saved gone = λ old known.
+      let (a, there, are_fragments) = put old known in
+      let (b, then, are_dims) = saved (old ++ a) there in
+      let (c, behind, (n, are_removed)) = gone ((old ++ a) ++ b) then in (
+        (a ++ b) ++ c,
+        behind ∙ ap Some (ap (λ l. l ++ c) (append_assoc old a b) ∙ append_assoc old (a ++ b) c),
+        record { of_fragments = a; fragments_are = are_fragments; of_dims = b; dims_are = are_dims; removals = n; whole = ap (λ l. (a ++ b) ++ l) are_removed },
+      )
+
+  -- a fragment's file can't be put under its path
+  pub fragments_stop : (before after : Option (List Change)) → Writes (AreFragmentsBegun folder load catalog.fact cut fragments) before after → Begun before after
+  fragments_stop before after put = one_after_other before after after after put (nothing after (0, tt)) (nothing after (0, refl))
+
+  -- a dimension's file can't be written
+  pub dimensions_stop : (before first after : Option (List Change)) → PutAll before first → Writes (AreDimensionsBegun folder load catalog.dims dims) first after → Begun before after
+  dimensions_stop before first after put saved =
+      one_after_other before first after after (less before first (all_fragments folder load catalog.fact cut fragments) put) saved (nothing after (0, refl))
+
+  -- a fragment's file can't be taken away
+  pub removals_stop : (before first second after : Option (List Change)) → PutAll before first → SavedAll first second → RemovedSome second after → Begun before after
+  removals_stop before first second after put saved gone =
+      one_after_other before first second after (less before first (all_fragments folder load catalog.fact cut fragments) put)
+      (less first second (all_dimensions folder load catalog.dims dims) saved) gone
+
+  -- the file of the cut can't be written
+  pub cut_stops : (before first second third after : Option (List Change)) → PutAll before first → SavedAll first second → Writes (λ changes. changes ≡ removals folder catalog.fact cut) second third → after ≡ third
+      → Begun before after
+  cut_stops before first second third after put saved gone same =
+      subst (Begun before) (sym same) (removals_stop before first second third put saved (less second third (λ changes is. (max_fragments - length cut, is)) gone))
 
 -- ---- all files
 

@@ -1,5 +1,5 @@
 -- What loading a folder's tables gives, and which files it writes and takes away.
-use Rattle.std.specs.Prelude.{◌≡◌, ℕ, ◌≤◌, ◌-◌, List, [], ◌∷◌, ◌++◌, length, map, drop, sum, slice_index, zip, codes, decimal, Option, None, Some, Ok}
+use Rattle.std.specs.Prelude.{◌≡◌, ℕ, ◌≤◌, ◌-◌, List, [], ◌∷◌, ◌++◌, length, map, take, drop, sum, slice_index, zip, codes, decimal, Option, None, Some, Ok}
 use Rattle.std.specs.List.{enumerate_from, range_with_len}
 use Rattle.std.specs.Io.KnownBytes.{Appends}
 use Rattle.meaning.specs.Limits.{max_fragments, max_rows}
@@ -74,9 +74,13 @@ IsFragmentFile folder load table cut p change = (bytes : List ℕ) × (change �
 abbrev pub IsDimensionFile : List ℕ → ℕ → Dimension × List ColumnSpec → Change → Type 0
 IsDimensionFile folder load p change = (bytes : List ℕ) × (change ≡ (dimension_path folder p.0.table.name, Some bytes)) × Stands bytes (header_of load p.0.table 0 0 (rows_in p.1)) p.1
 
+-- the files of so many fragments behind those of the cut are taken away
+abbrev pub removed : List ℕ → Table → Cut → ℕ → List Change
+removed folder table cut n = map (λ k. (fragment_path folder table.name k, None)) (range_with_len (length cut) n)
+
 -- the files of fragments that the cut doesn't have are taken away
 abbrev pub removals : List ℕ → Table → Cut → List Change
-removals folder table cut = map (λ k. (fragment_path folder table.name k, None)) (range_with_len (length cut) (max_fragments - length cut))
+removals folder table cut = removed folder table cut (max_fragments - length cut)
 
 -- the file of the cut
 abbrev pub cut_file_of : List ℕ → ℕ → Cut → Change
@@ -90,6 +94,23 @@ pub record AreFiles (folder : List ℕ) (load : ℕ) (catalog : Catalog) (cut : 
   pub of_dims : List Change
   pub dims_are : AreEach (IsDimensionFile folder load) (zip catalog.dims dims) of_dims
   pub whole : changes ≡ ((of_fragments ++ of_dims) ++ removals folder catalog.fact cut) ++ cut_file_of folder load cut ∷ []
+
+-- the first files of the fragments were written
+abbrev pub AreFragmentsBegun : List ℕ → ℕ → Table → Cut → List (List ColumnSpec) → List Change → Type 0
+AreFragmentsBegun folder load table cut fragments changes = (n : ℕ) × AreEach (IsFragmentFile folder load table cut) (enumerate_from 0 (take n fragments)) changes
+
+-- the first files of the dimensions were written
+abbrev pub AreDimensionsBegun : List ℕ → ℕ → List Dimension → List (List ColumnSpec) → List Change → Type 0
+AreDimensionsBegun folder load declared dims changes = (n : ℕ) × AreEach (IsDimensionFile folder load) (zip (take n declared) (take n dims)) changes
+
+-- the first of a load's files were written or taken away, in their order, but not the file of the cut
+pub record AreFilesBegun (folder : List ℕ) (load : ℕ) (catalog : Catalog) (cut : Cut) (fragments dims : List (List ColumnSpec)) (changes : List Change) : Type 0 where
+  pub of_fragments : List Change
+  pub fragments_are : AreFragmentsBegun folder load catalog.fact cut fragments of_fragments
+  pub of_dims : List Change
+  pub dims_are : AreDimensionsBegun folder load catalog.dims dims of_dims
+  pub removals : ℕ
+  pub whole : changes ≡ (of_fragments ++ of_dims) ++ removed folder catalog.fact cut removals
 
 -- ---- files that stand under no path yet
 

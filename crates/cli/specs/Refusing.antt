@@ -15,15 +15,15 @@ use Rattle.loader.specs.Source.{csv_records}
 use Rattle.coordinator.specs.Whole.{Input, IsRefused}
 use Rattle.coordinator.specs.declared.fault.WholeFault.{WholeFault}
 use Rattle.folders.specs.Each.{AreEach}
-use Rattle.folders.specs.Folder.{Change, Holds, AreHeld, catalog_path, csv_path, cut_path, dimension_path, fragment_path}
+use Rattle.folders.specs.Folder.{Change, Holds, AreHeld, Writes, catalog_path, csv_path, cut_path, dimension_path, fragment_path}
 use Rattle.folders.specs.Refused.{IsUnread, IsUnwritten}
 use Rattle.cli.specs.WholeRefusal.{refusal_of}
 use Rattle.folders.specs.declared.refusal.Refusal.{Refusal}
 use Rattle.folders.specs.declared.refusal.Refusal.TheVariants as refusal
-use Rattle.jobs.specs.Gathering.{IsGatherRefused, IsUnprinted}
+use Rattle.jobs.specs.Gathering.{IsGatherLeft, IsGatherRefused}
 use Rattle.jobs.specs.Job.{IsCatalogRefused, IsCatalogThere}
 use Rattle.jobs.specs.Working.{IsWorkRefused}
-use Rattle.cli.specs.Loading.{IsDimensionLoaded, IsFactCounted, IsFactLoaded}
+use Rattle.cli.specs.Loading.{AreFiles, AreFilesBegun, IsDimensionLoaded, IsFactCounted, IsFactLoaded}
 use Rattle.cli.specs.Running.{AreTables, IsCsvOf, input_over}
 use Rattle.command_line.specs.declared.commands.Command.{Command}
 use Rattle.command_line.specs.declared.commands.Command.TheVariants.{Whole, Load, Work, Gather}
@@ -163,17 +163,40 @@ IsRefusedFor holds (Gather command) e = IsGatherRefused holds command e
 
 -- ---- what a refusal leaves
 
--- memory ran out, or a file or the report can't be written
-abbrev pub IsOfOutput : Refusal → Type 0
-IsOfOutput e = IsUnprinted e ⊎ ((path : List ℕ) × IsUnwritten path e)
+-- the first of a load's files were written, or all of them where standard output failed behind them
+abbrev pub IsWrittenSoFar : List ℕ → ℕ → Catalog → Cut → List (List ColumnSpec) → List (List ColumnSpec) → Refusal → Option (List Change) → Option (List Change) → Type 0
+IsWrittenSoFar folder load catalog cut fragments dims e before after = Writes (AreFilesBegun folder load catalog cut fragments dims) before after
+    ⊎ ((e ≡ refusal.CannotPrint) × Writes (AreFiles folder load catalog cut fragments dims) before after)
 
--- nothing was printed, unless the refusal is of printing
+-- nothing was printed, unless standard output failed
 abbrev pub IsQuiet : Refusal → Option (List ℕ) → Option (List ℕ) → Type 0
-IsQuiet e before after = IsUnprinted e ⊎ (after ≡ before)
+IsQuiet e before after = (e ≡ refusal.CannotPrint) ⊎ (after ≡ before)
 
--- no file was written, unless the refusal is of writing
-abbrev pub LeavesFiles : Refusal → Option (List Change) → Option (List Change) → Type 0
-LeavesFiles e before after = IsOfOutput e ⊎ (after ≡ before)
+-- all tables are loaded, and the first of their files were written, or all where standard output failed behind them
+pub record IsSavedSoFar (holds : Holds) (folder : List ℕ) (load rows : ℕ) (catalog : Catalog) (e : Refusal) (before after : Option (List Change)) : Type 0 where
+  pub cut : Cut
+  pub fragments : List (List ColumnSpec)
+  pub fact : IsFactLoaded holds folder catalog rows cut fragments
+  pub dims : List (List ColumnSpec)
+  pub each : AreEach (IsDimensionLoaded holds folder) catalog.dims dims
+  pub written : IsWrittenSoFar folder load catalog cut fragments dims e before after
+
+-- a load that is refused wrote no file, or no more than some
+abbrev pub IsCatalogLoadLeft : Holds → List ℕ → ℕ → ℕ → Catalog → Refusal → Option (List Change) → Option (List Change) → Type 0
+IsCatalogLoadLeft holds folder load rows catalog e before after = (after ≡ before) ⊎ IsSavedSoFar holds folder load rows catalog e before after
+
+-- the same, by the catalogue that lies there
+abbrev pub IsLoadLeft : Holds → List ℕ → ℕ → ℕ → Refusal → Option (List Change) → Option (List Change) → Type 0
+IsLoadLeft holds folder load rows e before after = (after ≡ before)
+    ⊎ ((catalog : Catalog) × IsCatalogThere holds folder catalog × IsSavedSoFar holds folder load rows catalog e before after)
+
+-- the files that a refused command leaves: `whole` and `work` write none, `load` no more than the first of its files, and
+-- `gather` none but a state whose report can't be printed
+abbrev pub LeavesFiles : Holds → Command → Refusal → Option (List ℕ) → Option (List Change) → Option (List Change) → Type 0
+LeavesFiles holds (Whole folder query rows vector) e err before after = after ≡ before
+LeavesFiles holds (Load folder load rows) e err before after = IsLoadLeft holds folder load rows e before after
+LeavesFiles holds (Work command) e err before after = after ≡ before
+LeavesFiles holds (Gather command) e err before after = IsGatherLeft holds command err before after
 
 -- nothing went to standard error but from `gather`, which names the files that it passes over
 abbrev pub IsSilent : Command → Option (List ℕ) → Option (List ℕ) → Type 0
@@ -181,7 +204,7 @@ IsSilent (Gather command) before after = ⊤
 IsSilent _ before after = after ≡ before
 
 -- a command is refused for this, and what it printed and wrote by then
-pub record IsRefusedSo (holds : Holds) (command : Command) (before after : Option (List ℕ)) (wrote_before wrote_after : Option (List Change)) (e : Refusal) : Type 0 where
+pub record IsRefusedSo (holds : Holds) (command : Command) (before after err_before : Option (List ℕ)) (wrote_before wrote_after : Option (List Change)) (e : Refusal) : Type 0 where
   pub stands : IsRefusedFor holds command e
   pub quiet : IsQuiet e before after
-  pub left : LeavesFiles e wrote_before wrote_after
+  pub left : LeavesFiles holds command e err_before wrote_before wrote_after

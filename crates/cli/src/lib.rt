@@ -2,6 +2,7 @@
 #![tactic(auto)]
 
 mod fragments;
+mod laws;
 mod loading;
 mod question;
 mod refusal_lines;
@@ -13,5 +14,6 @@ mod whole_refusal;
 
 pub use command_line::{Command, UsageFault, command};
 pub use folders::Folder;
+pub use laws::runs_mean;
 pub use refusal_lines::print_refusal;
 pub use running::{outcome, run};

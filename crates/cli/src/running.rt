@@ -1,5 +1,5 @@
 //! Runs a command and gives its exit status.
-ghost use Rattle.std.specs.Prelude.{◌≡◌, ◌≢◌, ◌≤◌, ℕ, List, IfErr, IfOk, OnErr, OnOk, Ok, length, sum};
+ghost use Rattle.std.specs.Prelude.{◌≡◌, ◌≢◌, ◌≤◌, ℕ, List, ◌⊎◌, IfErr, IfOk, OnErr, OnOk, Ok, length, sum};
 ghost use Rattle.std.specs.Io.KnownBytes.{Appends};
 ghost use Rattle.meaning.specs.Catalog.{IsWellFormed};
 ghost use Rattle.catalog_reader.specs.CatalogText.{catalog_of};
@@ -12,11 +12,11 @@ ghost use Rattle.command_line.specs.Command.{IsInRange};
 ghost use Rattle.folders.specs.Folder.{Writes};
 ghost use Rattle.folders.specs.Each.{AreEach};
 ghost use Rattle.cli.specs.Loading.{AreFiles, AreFragmentsClosed, IsCatalogLoaded, IsDimensionLoaded, IsLoadDone, loaded_line};
-ghost use Rattle.cli.specs.Refusing.{AreFragmentsUnwritten, IsCatalogLoadRefused, IsInputRefused, IsLoadRefused, IsQueryRefused, IsQuiet, IsRefusedOver, IsRefusedSo, IsSilent, IsUnfinished, IsWholeRefused, LeavesFiles};
+ghost use Rattle.cli.specs.Refusing.{AreFragmentsUnwritten, IsCatalogLoadLeft, IsCatalogLoadRefused, IsInputRefused, IsLoadLeft, IsLoadRefused, IsQueryRefused, IsQuiet, IsRefusedOver, IsRefusedSo, IsSilent, IsUnfinished, IsWholeRefused, IsWrittenSoFar};
 ghost use Rattle.cli.specs.Running.{AreTables, IsAnsweredSo, IsWholeDone, IsCommandDone, IsReportedAs, input_over};
 ghost use Rattle.cli.specs.Status.{IsEndStatus, IsRunStatus, end_status, report_status};
 ghost use Rattle.folders.specs.declared.refusal.Refusal.{Refusal as ARefusal};
-ghost use Rattle.jobs.specs.Gathering.{IsGatherRefused};
+ghost use Rattle.jobs.specs.Gathering.{IsGatherLeft, IsGatherRefused};
 ghost use Rattle.jobs.specs.Working.{IsWorked, IsWorkRefused};
 
 use crate::fragments::{Fact, load_fact};
@@ -242,7 +242,15 @@ fn finish_load<F: Folder, O: Write>(
         (IsUnfinished (F.holds folder.old) target.now.directory.now target.now.catalog.now
         fact.cut) }
     ensures quiet { IfErr result (λ e. IsQuiet e (O.contents out.old) (O.contents out.new)) }
-    ensures left { IfErr result (λ e. LeavesFiles e (F.wrote folder.old) (F.wrote folder.new)) }
+    ensures left { IfErr result (λ e. (F.wrote folder.new ≡ F.wrote folder.old)
+        ⊎ ((fragments : List (List ColumnSpec))
+        → IfOk fact.files (λ files. AreFragmentsClosed F.enclosed (F.wrote folder.old)
+        target.now.load target.now.catalog.now.fact fact.cut fragments files.items)
+        → (dims : List (List ColumnSpec))
+        × AreEach (IsDimensionLoaded (F.holds folder.old) target.now.directory.now)
+        target.now.catalog.now.dims dims
+        × IsWrittenSoFar target.now.directory.now target.now.load target.now.catalog.now fact.cut
+        fragments dims e (F.wrote folder.old) (F.wrote folder.new))) }
 {
     let Fact { rows, cut, files } = fact;
     let dims = load_dimensions(alloc, folder, target.directory, target.catalog)?;
@@ -271,7 +279,9 @@ fn load_declared<F: Folder, O: Write>(
         (IsCatalogLoadRefused (F.holds folder.old) target.now.directory.now target.now.catalog.now
         rows) }
     ensures quiet { IfErr result (λ e. IsQuiet e (O.contents out.old) (O.contents out.new)) }
-    ensures left { IfErr result (λ e. LeavesFiles e (F.wrote folder.old) (F.wrote folder.new)) }
+    ensures left { IfErr result (λ e. IsCatalogLoadLeft (F.holds folder.old)
+        target.now.directory.now target.now.load rows target.now.catalog.now e
+        (F.wrote folder.old) (F.wrote folder.new)) }
 {
     let fact = load_fact(alloc, folder, target, rows)?;
     finish_load(alloc, folder, target, fact, out)
@@ -291,7 +301,8 @@ fn load<F: Folder, O: Write>(
         (O.contents out.new) (F.wrote folder.old) (F.wrote folder.new)) }
     ensures refused { IfErr result (IsLoadRefused (F.holds folder.old) directory.now rows) }
     ensures quiet { IfErr result (λ e. IsQuiet e (O.contents out.old) (O.contents out.new)) }
-    ensures left { IfErr result (λ e. LeavesFiles e (F.wrote folder.old) (F.wrote folder.new)) }
+    ensures left { IfErr result (λ e. IsLoadLeft (F.holds folder.old) directory.now load rows e
+        (F.wrote folder.old) (F.wrote folder.new)) }
 {
     let bytes = read_catalog_file(alloc, folder, directory)?;
     let catalog = read_catalog(alloc, bytes.as_slice())?;
@@ -318,7 +329,9 @@ fn gather<F: Folder, O: Write, E: Write>(
         (E.contents err.old) (E.contents err.new) (F.wrote folder.old) (F.wrote folder.new)) }
     ensures refused { IfErr result (IsGatherRefused (F.holds folder.old) command.now) }
     ensures quiet { IfErr result (λ e. IsQuiet e (O.contents out.old) (O.contents out.new)) }
-    ensures left { IfErr result (λ e. LeavesFiles e (F.wrote folder.old) (F.wrote folder.new)) }
+    ensures left { OnErr result
+        (IsGatherLeft (F.holds folder.old) command.now (E.contents err.old) (F.wrote folder.old)
+        (F.wrote folder.new)) }
 {
     let report = gather_answers(alloc, folder, command, out, err)?;
     Ok(status_of_report(&report))
@@ -328,7 +341,7 @@ fn work<F: Folder>(alloc: Global, folder: &mut F, command: &WorkCommand) -> Resu
     ensures worked { OnOk result
         (IsWorked (F.holds folder.old) command.now (F.wrote folder.old) (F.wrote folder.new)) }
     ensures refused { IfErr result (IsWorkRefused (F.holds folder.old) command.now) }
-    ensures left { IfErr result (λ e. LeavesFiles e (F.wrote folder.old) (F.wrote folder.new)) }
+    ensures left { OnErr result (F.wrote folder.new ≡ F.wrote folder.old) }
 {
     answer_fragment(alloc, folder, command)
 }
@@ -341,7 +354,9 @@ fn work<F: Folder>(alloc: Global, folder: &mut F, command: &WorkCommand) -> Resu
 /// # Errors
 ///
 /// Out of memory, or the first thing that is wrong in the folder's bytes, in the command's order.
-/// Nothing was printed then and no file was written, unless it is that printing or writing failed.
+/// Whatever it is, nothing was printed then, unless standard output failed; and no file was written
+/// but by a load whose files could not all be written, which leaves the first of them, and by a
+/// `gather` whose report could not be printed, which leaves its state.
 pub fn outcome<F: Folder, O: Write, E: Write>(
     alloc: Global,
     command: &Command,
@@ -356,7 +371,7 @@ pub fn outcome<F: Folder, O: Write, E: Write>(
         (E.contents err.old) (E.contents err.new) (F.wrote folder.old) (F.wrote folder.new)) }
     ensures refused { IfErr result
         (IsRefusedSo (F.holds folder.old) command.now (O.contents out.old) (O.contents out.new)
-        (F.wrote folder.old) (F.wrote folder.new)) }
+        (E.contents err.old) (F.wrote folder.old) (F.wrote folder.new)) }
     ensures silent { OnErr result (IsSilent command.now (E.contents err.old) (E.contents err.new)) }
 {
     match command {
@@ -407,7 +422,7 @@ pub fn run<F: Folder, O: Write, E: Write>(
         (E.contents err.old) (E.contents err.new) (F.wrote folder.old) (F.wrote folder.new) result }
     ensures refused { result ≡ 1 → (e : ARefusal)
         × IsRefusedSo (F.holds folder.old) command.now (O.contents out.old) (O.contents out.new)
-        (F.wrote folder.old) (F.wrote folder.new) e }
+        (E.contents err.old) (F.wrote folder.old) (F.wrote folder.new) e }
 {
     match outcome(alloc, command, folder, out, err) {
         Ok(status) => status,

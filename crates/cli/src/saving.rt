@@ -1,5 +1,5 @@
 //! Writes the files of `load`.
-ghost use Rattle.std.specs.Prelude.{◌≡◌, ◌≤◌, ◌<◌, ◌-◌, ℕ, List, None, IfErr, IfOk, OnOk, length, map, zip};
+ghost use Rattle.std.specs.Prelude.{◌≡◌, ◌≤◌, ◌<◌, ◌-◌, ℕ, List, None, IfErr, IfOk, OnErr, OnOk, length, map, zip};
 ghost use Rattle.std.specs.List.{enumerate_from, range_with_len};
 ghost use Rattle.meaning.specs.Limits.{max_fragments, max_rows};
 ghost use Rattle.meaning.specs.Catalog.{IsWellFormed, IsWellFormedTable};
@@ -12,7 +12,7 @@ ghost use Rattle.folders.specs.Folder.{Encloses, Finishes, Removes, Writes, Writ
 ghost use Rattle.folders.specs.Refused.{IsUnwritten};
 ghost use Rattle.folders.specs.Each.{AreEach};
 ghost use Rattle.cli.specs.Refusing.{AreDimensionsUnwritten, AreFilesUnwritten, AreFragmentsUnwritten, IsFragmentLeft};
-ghost use Rattle.cli.specs.Loading.{AreDimensionColumns, AreFiles, AreFragmentsClosed, IsDimensionFile, IsFragmentFile, header_of, removals, rows_in};
+ghost use Rattle.cli.specs.Loading.{AreDimensionColumns, AreDimensionsBegun, AreFiles, AreFilesBegun, AreFragmentsBegun, AreFragmentsClosed, IsDimensionFile, IsFragmentFile, header_of, removals, removed, rows_in};
 
 use crate::target::Target;
 use columns::Column;
@@ -93,6 +93,7 @@ fn put_fragment<F: Folder>(
     ensures put { OnOk result (Finishes (F.wrote folder.old) (F.wrote folder.new)
         (fragment_path target.now.directory.now target.now.catalog.now.fact.name fragment)
         (F.enclosed file)) }
+    ensures left { OnErr result (F.wrote folder.new ≡ F.wrote folder.old) }
     ensures refused { IfErr result
         (IsUnwritten (fragment_path target.now.directory.now target.now.catalog.now.fact.name
         fragment)) }
@@ -116,6 +117,11 @@ fn put_fragments<F: Folder>(
         → Writes (AreEach (IsFragmentFile target.now.directory.now target.now.load
         target.now.catalog.now.fact cut) (enumerate_from 0 fragments))
         (F.wrote folder.old) (F.wrote folder.new)) }
+    ensures left { OnErr result ((cut : List ℕ) (fragments : List (List ColumnSpec))
+        → AreFragmentsClosed F.enclosed (F.wrote folder.old) target.now.load
+        target.now.catalog.now.fact cut fragments files.items
+        → Writes (AreFragmentsBegun target.now.directory.now target.now.load
+        target.now.catalog.now.fact cut fragments) (F.wrote folder.old) (F.wrote folder.new)) }
     ensures refused { IfErr result
         (AreFragmentsUnwritten target.now.directory.now target.now.catalog.now.fact.name
         (length files.items)) }
@@ -138,6 +144,7 @@ fn remove_fragment<F: Folder>(
 ) -> Result<(), Refusal>
     ensures removed { OnOk result (Removes (F.wrote folder.old) (F.wrote folder.new)
         (fragment_path target.now.directory.now target.now.catalog.now.fact.name fragment)) }
+    ensures left { OnErr result (F.wrote folder.new ≡ F.wrote folder.old) }
     ensures refused { IfErr result
         (IsUnwritten (fragment_path target.now.directory.now target.now.catalog.now.fact.name
         fragment)) }
@@ -158,6 +165,10 @@ fn remove_fragments<F: Folder>(
     ensures removed { OnOk result
         (Writes (λ changes. changes
         ≡ removals target.now.directory.now target.now.catalog.now.fact cut.now)
+        (F.wrote folder.old) (F.wrote folder.new)) }
+    ensures left { OnErr result
+        (Writes (λ changes. (n : ℕ)
+        × (changes ≡ removed target.now.directory.now target.now.catalog.now.fact cut.now n))
         (F.wrote folder.old) (F.wrote folder.new)) }
     ensures refused { IfErr result
         (IsFragmentLeft target.now.directory.now target.now.catalog.now.fact.name cut.now) }
@@ -192,6 +203,7 @@ fn save_rows<F: Folder>(
     ensures written { OnOk result
         (WritesOne path.now (λ bytes. Stands bytes header.now columns.now) (F.wrote folder.old)
         (F.wrote folder.new)) }
+    ensures left { OnErr result (F.wrote folder.new ≡ F.wrote folder.old) }
     ensures refused { IfErr result (IsUnwritten path.now) }
 {
     let file = write_rows(alloc, folder, path, header, columns)?;
@@ -212,6 +224,7 @@ fn save_dimension<F: Folder>(
         (λ bytes. Stands bytes (header_of target.now.load dim.now.table 0 0 (rows_in columns.now))
         columns.now)
         (F.wrote folder.old) (F.wrote folder.new)) }
+    ensures left { OnErr result (F.wrote folder.new ≡ F.wrote folder.old) }
     ensures refused { IfErr result
         (IsUnwritten (dimension_path target.now.directory.now dim.now.table.name)) }
 {
@@ -237,6 +250,9 @@ fn save_dimensions<F: Folder>(
         (Writes (AreEach (IsDimensionFile target.now.directory.now target.now.load)
         (zip target.now.catalog.now.dims dims.now))
         (F.wrote folder.old) (F.wrote folder.new)) }
+    ensures left { OnErr result
+        (Writes (AreDimensionsBegun target.now.directory.now target.now.load
+        target.now.catalog.now.dims dims.now) (F.wrote folder.old) (F.wrote folder.new)) }
     ensures refused { IfErr result
         (AreDimensionsUnwritten target.now.directory.now target.now.catalog.now.dims) }
 {
@@ -258,6 +274,7 @@ fn save_cut<F: Folder>(
     ensures written { OnOk result (WritesOne (cut_path target.now.directory.now)
         (λ bytes. bytes ≡ sealed (cut_bytes (record { load = target.now.load; cut = cut.now })))
         (F.wrote folder.old) (F.wrote folder.new)) }
+    ensures left { OnErr result (F.wrote folder.new ≡ F.wrote folder.old) }
     ensures refused { IfErr result (IsUnwritten (cut_path target.now.directory.now)) }
 {
     let path = cut_path(alloc, target.directory)?;
@@ -273,7 +290,8 @@ fn save_cut<F: Folder>(
 ///
 /// # Errors
 ///
-/// Out of memory, or the first file that cannot be written or taken away. Those before it stay.
+/// Out of memory, or the first file that cannot be written or taken away. Those before it stay as
+/// they are written.
 pub fn save<F: Folder>(
     alloc: Global,
     folder: &mut F,
@@ -290,6 +308,11 @@ pub fn save<F: Folder>(
         target.now.catalog.now.fact cut.now fragments files.items
         → Writes (AreFiles target.now.directory.now target.now.load target.now.catalog.now cut.now
         fragments dims.now) (F.wrote folder.old) (F.wrote folder.new)) }
+    ensures left { OnErr result ((fragments : List (List ColumnSpec))
+        → AreFragmentsClosed F.enclosed (F.wrote folder.old) target.now.load
+        target.now.catalog.now.fact cut.now fragments files.items
+        → Writes (AreFilesBegun target.now.directory.now target.now.load target.now.catalog.now
+        cut.now fragments dims.now) (F.wrote folder.old) (F.wrote folder.new)) }
     ensures refused { IfErr result
         (AreFilesUnwritten target.now.directory.now target.now.catalog.now cut.now) }
 {

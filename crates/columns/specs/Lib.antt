@@ -2,4 +2,5 @@
 pub mod Cells
 pub mod Column
 pub mod Lent
+pub mod Rows
 pub mod Texts

@@ -12,15 +12,13 @@ use Rattle.meaning.specs.Order.{Row}
 use Rattle.meaning.specs.TableLaws.{are_rows_of, is_value_of}
 use Rattle.meaning.specs.Cut.{Cut, first_row}
 use Rattle.columns.specs.Column.{ColumnSpec}
-use Rattle.loader.specs.Columns.{column_of, columns_of, fragments_of}
+use Rattle.columns.specs.Rows.{column_of, columns_of}
+use Rattle.loader.specs.Columns.{fragments_of}
 use Rattle.fragment_file.specs.Writing.{AreColumns}
+use Rattle.job_files.specs.RowFiles.{rows_of_fragment}
 use Rattle.coordinator.specs.Fragment.{AreFragments}
 use Rattle.meaning_laws.proofs.Cuts.{sum_cons}
 use Rattle.coordinator.proofs.Slices.{room}
-
--- the rows of a fragment
-abbrev pub rows_at : Cut → ℕ → List Row → List Row
-rows_at cut k rows = take (slice_index cut k) (drop (first_row cut k) rows)
 
 counted : (declared : List Column) (cut : Cut) (rows : List Row) → length (fragments_of declared cut rows) ≡ length cut
 counted declared [] rows = refl
@@ -37,7 +35,7 @@ all_dropped p (suc n) [] e = refl
 all_dropped p (suc n) (x ∷ xs) e = all_dropped p n xs (second_of (p x) _ e)
 
 -- each fragment's columns are those of its rows
-fragment_at : (declared : List Column) (cut : Cut) (rows : List Row) (k : ℕ) (d : List ColumnSpec) → k < length cut → slice_index_or (fragments_of declared cut rows) k d ≡ columns_of declared (rows_at cut k rows)
+fragment_at : (declared : List Column) (cut : Cut) (rows : List Row) (k : ℕ) (d : List ColumnSpec) → k < length cut → slice_index_or (fragments_of declared cut rows) k d ≡ columns_of declared (rows_of_fragment cut k rows)
 fragment_at declared [] rows k d below = absurd (omega arith)
 fragment_at declared (n ∷ cut) rows zero d below = refl
 fragment_at declared (n ∷ cut) rows (suc k) d below =
@@ -55,17 +53,17 @@ module _ (table : Table) (rows : List Row) (cut : Cut) (fragments : List (List C
   pub as_many : length fragments ≡ length cut
   as_many = ap length are.fragments_are ∙ counted table.columns cut rows
 
-  pub columns_at : (k : ℕ) (found columns : List ColumnSpec) → k < length cut → found ≡ slice_index_or fragments k found → columns ≡ found → columns ≡ columns_of table.columns (rows_at cut k rows)
+  pub columns_at : (k : ℕ) (found columns : List ColumnSpec) → k < length cut → found ≡ slice_index_or fragments k found → columns ≡ found → columns ≡ columns_of table.columns (rows_of_fragment cut k rows)
   columns_at k found columns below here same =
       same ∙ here ∙ ap (λ (fs : List (List ColumnSpec)). slice_index_or fs k found) are.fragments_are ∙ fragment_at table.columns cut rows k found below
 
-  pub count_at : (k : ℕ) → k < length cut → length (rows_at cut k rows) ≡ slice_index cut k
+  pub count_at : (k : ℕ) → k < length cut → length (rows_of_fragment cut k rows) ≡ slice_index cut k
   count_at k below = length-take-le (slice_index cut k) (drop (first_row cut k) rows) (room cut k rows below are.whole)
 
-  pub typed_at : (k : ℕ) → are_rows_of table.columns (rows_at cut k rows) ≡ true
+  pub typed_at : (k : ℕ) → are_rows_of table.columns (rows_of_fragment cut k rows) ≡ true
   typed_at k = all_taken (pointwise is_value_of table.columns) (slice_index cut k) (drop (first_row cut k) rows) (all_dropped (pointwise is_value_of table.columns) (first_row cut k) rows are.typed)
 
-  pub fileable_at : (k : ℕ) (columns : List ColumnSpec) → k < length cut → columns ≡ columns_of table.columns (rows_at cut k rows) → AreColumns table.columns (slice_index cut k) columns
+  pub fileable_at : (k : ℕ) (columns : List ColumnSpec) → k < length cut → columns ≡ columns_of table.columns (rows_of_fragment cut k rows) → AreColumns table.columns (slice_index cut k) columns
   fileable_at k columns below is =
       subst (AreColumns table.columns (slice_index cut k)) (sym is)
-      (subst (λ n. AreColumns table.columns n (columns_of table.columns (rows_at cut k rows))) (count_at k below) (columns_from (rows_at cut k rows) 0 table.columns))
+      (subst (λ n. AreColumns table.columns n (columns_of table.columns (rows_of_fragment cut k rows))) (count_at k below) (columns_from (rows_of_fragment cut k rows) 0 table.columns))

@@ -1,9 +1,7 @@
 -- The lemmas of this crate.
-pub mod OwnRows
 pub mod CountedRows
 pub mod Slices
 pub mod FragmentColumns
-pub mod FileRows
 pub mod Planned
 pub mod FoundFiles
 pub mod InTurn

@@ -17,7 +17,8 @@ use Rattle.meaning_laws.proofs.OwnStates.{report-own_answers}
 use Rattle.columns.specs.Column.{ColumnSpec}
 use Rattle.gathering.specs.declared.report.Ended.{Ended}
 use Rattle.coordinator.specs.declared.fault.WholeFault.{WholeFault}
-use Rattle.coordinator.specs.Fragment.{AreFragments, AreTableFiles}
+use Rattle.job_files.specs.RowFiles.{AreFilesOfTables}
+use Rattle.coordinator.specs.Fragment.{AreFragments}
 use Rattle.gathering.specs.Gathering.{GatherSpec}
 use Rattle.gathering.specs.Report.{ended_as}
 use Rattle.coordinator.specs.Whole.{HoldsOwnAnswers, IsAnsweredOver}
@@ -44,9 +45,9 @@ module _ (plan : Plan) (rows : List Row) (dims : List (List Row)) (cut : Cut) (w
 
 -- where a call printed what the state reports and handed it on, the state being that of the answers of a table's fragments
 pub returned : (plan : Plan) (table : Table) (cut : Cut) (fragments : List (List ColumnSpec)) (files : List (List ℕ)) (before after : Option (List ℕ)) (g : GatherSpec)
-    → ((rows : List Row) (dims : List (List Row)) → AreFragments table rows cut fragments → AreTableFiles dims files → HoldsOwnAnswers plan rows dims cut g)
+    → ((rows : List Row) (dims : List (List Row)) → AreFragments table rows cut fragments → AreFilesOfTables dims files → HoldsOwnAnswers plan rows dims cut g)
     → (result : Result (Ended × GatherSpec) WholeFault)
     → OnOk result (Appends before after (report_text g.job.plan (report g.job.plan g.cells))) → IfOk result (λ r. (o : Output) → report g.job.plan g.cells ≡ output o → r.0 ≡ ended_as o) → IfOk result (λ r. r.1 ≡ g)
-    → IfOk result (λ r. (rows : List Row) (dims : List (List Row)) → AreFragments table rows cut fragments → AreTableFiles dims files → IsAnsweredOver plan rows dims cut before after r.0 r.1)
+    → IfOk result (λ r. (rows : List Row) (dims : List (List Row)) → AreFragments table rows cut fragments → AreFilesOfTables dims files → IsAnsweredOver plan rows dims cut before after r.0 r.1)
 returned plan table cut fragments files before after g holds (Ok r) prints ends same = λ rows dims are files_are. answered plan rows dims cut are.whole before after g (holds rows dims are files_are) r.0 r.1 prints ends same
 returned plan table cut fragments files before after g holds (Err e) prints ends same = tt

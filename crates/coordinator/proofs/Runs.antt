@@ -19,7 +19,8 @@ use Rattle.gathering.specs.declared.report.Ended.{Ended}
 use Rattle.coordinator.specs.declared.sources.Sources.{Sources}
 use Rattle.coordinator.specs.declared.fault.WholeFault.{WholeFault}
 use Rattle.coordinator.specs.declared.fault.WholeFault.TheVariants as fault
-use Rattle.coordinator.specs.Fragment.{AreFragments, AreTableFiles}
+use Rattle.job_files.specs.RowFiles.{AreFilesOfTables}
+use Rattle.coordinator.specs.Fragment.{AreFragments}
 use Rattle.gathering.specs.Gathering.{GatherSpec}
 use Rattle.meaning.specs.VectorLength.{is_vector_length}
 use Rattle.coordinator.specs.Whole.{Files, files_in, input_of, csv_of, joined_csvs, joined_from, joined_table, table_from, tables_of, AreTablesLoaded, IsAnsweredOver, IsAnswered, RunsOver, IsEndRefusal, IsRefused}
@@ -95,7 +96,7 @@ module _ (catalog : Catalog) (files : Files) (cut : Cut) (plan : Plan) where
     dimension_refused e refused = joined_behind (Err e) refused
 
     -- the fact's file gives its fragments, and each dimension's its rows
-    pub loaded : (dims : List (List Row)) (dim_files : List (List ℕ)) → all_ok (map (joined_from catalog files) plan.joins) ≡ Ok dims → AreTableFiles dims dim_files → AreTablesLoaded catalog files cut plan fragments dim_files
+    pub loaded : (dims : List (List Row)) (dim_files : List (List ℕ)) → all_ok (map (joined_from catalog files) plan.joins) ≡ Ok dims → AreFilesOfTables dims dim_files → AreTablesLoaded catalog files cut plan fragments dim_files
     loaded dims dim_files good are = record {
       rows = parts.0;
       dims = dims;
@@ -120,7 +121,7 @@ module _ (catalog : Catalog) (sources : Sources) (plan : Plan) (fragments : List
 
   -- an answer over the fragments is one over the input
   pub answered : (before after : Option (List ℕ)) (result : Result (Ended × GatherSpec) WholeFault)
-      → IfOk result (λ r. (rows : List Row) (dims : List (List Row)) → AreFragments catalog.fact rows sources.cut.now fragments → AreTableFiles dims dim_files → IsAnsweredOver plan rows dims sources.cut.now before after r.0 r.1)
+      → IfOk result (λ r. (rows : List Row) (dims : List (List Row)) → AreFragments catalog.fact rows sources.cut.now fragments → AreFilesOfTables dims dim_files → IsAnsweredOver plan rows dims sources.cut.now before after r.0 r.1)
       → IfOk result (λ r. (bytes query : List ℕ) → catalog_of bytes ≡ Ok catalog → IsPlanned catalog query (Ok plan) → IsAnswered (input_of bytes query sources) before after r.0 r.1)
   answered before after (Err e) over = tt
   answered before after (Ok r) over = λ bytes query declared planned.

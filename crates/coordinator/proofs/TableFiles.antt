@@ -15,17 +15,19 @@ use Rattle.meaning.specs.Results.{and_then}
 use Rattle.meaning_laws.proofs.LoadedTables.{rows_typed}
 use Rattle.columns.specs.Column.{ColumnSpec}
 use Rattle.fragment_file.specs.Writing.{AreColumns}
-use Rattle.loader.specs.Columns.{column_of, columns_of, dimension_columns}
+use Rattle.columns.specs.Rows.{column_of, columns_of}
+use Rattle.loader.specs.Columns.{dimension_columns}
 use Rattle.loader.specs.Source.{csv_records}
 use Rattle.coordinator.specs.declared.table_files.Rows.{Rows}
 use Rattle.coordinator.specs.declared.fault.WholeFault.TheVariants as fault
-use Rattle.coordinator.specs.Fragment.{AreAllRows, AreTableFiles, IsFileable, IsTableFile}
+use Rattle.job_files.specs.RowFiles.{AreFilesOfTables, IsFileOfRows}
+use Rattle.coordinator.specs.Fragment.{AreAllRows, IsFileable}
 use Rattle.coordinator.specs.Whole.{dimension_table, table_from}
 use Rattle.coordinator.proofs.CountedRows.{counted_dimension, went_on}
 use Rattle.coordinator.proofs.FragmentColumns.{columns_from}
 
 -- one file more
-pub one_more : (tables : List (List Row)) (files : List (List ℕ)) (rows : List Row) (bytes : List ℕ) → AreTableFiles tables files → IsTableFile rows bytes → AreTableFiles (tables ++ rows ∷ []) (files ++ bytes ∷ [])
+pub one_more : (tables : List (List Row)) (files : List (List ℕ)) (rows : List Row) (bytes : List ℕ) → AreFilesOfTables tables files → IsFileOfRows rows bytes → AreFilesOfTables (tables ++ rows ∷ []) (files ++ bytes ∷ [])
 one_more [] [] rows bytes are is = (is, tt)
 one_more [] (b ∷ files) rows bytes are is = absurd are
 one_more (r ∷ tables) [] rows bytes are is = absurd are

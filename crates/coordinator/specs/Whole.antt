@@ -34,7 +34,7 @@ use Rattle.gathering.specs.declared.report.Ended.TheVariants as ended
 use Rattle.gathering.specs.declared.report.Report.{Report}
 use Rattle.gathering.specs.declared.report.Report.TheVariants as report
 use Rattle.gathering.specs.Report.{ended_as}
-use Rattle.coordinator.specs.Fragment.{AreTableFiles, IsTableFile}
+use Rattle.job_files.specs.RowFiles.{AreFilesOfTables, IsFileOfRows}
 use Rattle.meaning.specs.Catalog as catalog_number
 use Rattle.meaning.specs.Records as load_number
 use Rattle.sql_reader.specs.Faults as sql_number
@@ -206,7 +206,7 @@ joined_from catalog files j = and_then (csv_of files j.dim.name) (λ csv. joined
 
 -- a file of the rows that are meant
 abbrev pub IsFileOf : Result (List Row) WholeFault → List ℕ → Type 0
-IsFileOf meant bytes = (rows : List Row) × (meant ≡ Ok rows) × IsTableFile rows bytes
+IsFileOf meant bytes = (rows : List Row) × (meant ≡ Ok rows) × IsFileOfRows rows bytes
 
 -- the fragments of the fact's rows, just as many as the cut has and each of its column's type, and a file of each join's dimension
 pub record AreTablesLoaded (catalog : Catalog) (files : Files) (cut : Cut) (plan : Plan) (fragments : List (List ColumnSpec)) (dim_files : List (List ℕ)) : Type 0 where
@@ -216,7 +216,7 @@ pub record AreTablesLoaded (catalog : Catalog) (files : Files) (cut : Cut) (plan
   pub fragments_are : fragments ≡ fragments_of catalog.fact.columns cut rows
   pub whole : length rows ≡ sum cut
   pub typed : are_rows_of catalog.fact.columns rows ≡ true
-  pub dims_are : AreTableFiles dims dim_files
+  pub dims_are : AreFilesOfTables dims dim_files
 
 -- how a query ended of which this report was printed; a conflict or a missing fragment is no end
 abbrev pub ended_in : Report → Ended

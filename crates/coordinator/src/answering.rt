@@ -9,7 +9,8 @@ ghost use Rattle.meaning.specs.Catalog.{IsWellFormed, IsWellFormedTable};
 ghost use Rattle.meaning.specs.SoundPlan.{IsSoundPlan};
 ghost use Rattle.meaning.specs.Order.{Row};
 ghost use Rattle.gathering.specs.Report.{ended_as};
-ghost use Rattle.coordinator.specs.Fragment.{AreFragments, AreTableFiles};
+ghost use Rattle.job_files.specs.RowFiles.{AreFilesOfTables};
+ghost use Rattle.coordinator.specs.Fragment.{AreFragments};
 ghost use Rattle.planner.specs.QueryText.{IsPlanned};
 ghost use Rattle.coordinator.specs.Whole.{IsAnswered, IsAnsweredOver, IsRefused, IsEndRefusal, ended_in, input_of, whole_input};
 
@@ -43,6 +44,8 @@ fn print_answer<W: Write>(alloc: Global, gather: &Gather, out: &mut W) -> Result
     ensures ended { IfOk result (λ e. (o : Output)
         → report gather.now.job.plan gather.now.cells ≡ output o → e ≡ ended_as o) }
     ensures refused { IfErr result IsEndRefusal }
+    ensures quiet { IfErr result (λ e. (e ≡ WholeFault.Writer)
+        ⊎ (W.contents out.new ≡ W.contents out.old)) }
 {
     match gather.print_report(alloc, out) {
         Ok(report) => Ok(ended_in(&report)),
@@ -64,6 +67,8 @@ fn print_gathered<W: Write>(
         → r.0 ≡ ended_as o) }
     ensures same { IfOk result (λ r. r.1 ≡ gather) }
     ensures refused { IfErr result IsEndRefusal }
+    ensures quiet { IfErr result (λ e. (e ≡ WholeFault.Writer)
+        ⊎ (W.contents out.new ≡ W.contents out.old)) }
 {
     match print_answer(alloc, &gather, out) {
         Ok(ended) => Ok((ended, gather)),
@@ -95,10 +100,12 @@ fn answer_run<W: Write>(
         × AreFragments fact.now rows sources.cut.now run.tables.fragments.items }
     ensures answered { IfOk result (λ r. (rows : List Row) (dims : List (List Row))
         → AreFragments fact.now rows sources.entry.cut.now run.tables.fragments.items
-        → AreTableFiles dims run.tables.dims.items
+        → AreFilesOfTables dims run.tables.dims.items
         → IsAnsweredOver run.plan rows dims sources.entry.cut.now (W.contents out.old)
         (W.contents out.new) r.0 r.1) }
     ensures refused { IfErr result IsEndRefusal }
+    ensures quiet { IfErr result (λ e. (e ≡ WholeFault.Writer)
+        ⊎ (W.contents out.new ≡ W.contents out.old)) }
 {
     let Run { plan, tables } = run;
     let gathered = answer_tables(alloc, plan, fact, &tables, sources);
@@ -131,8 +138,9 @@ pub fn answer_plan<W: Write>(
     ensures refused { IfErr result (λ e. (bytes query : List ℕ) → catalog_of bytes ≡ Ok catalog.now
         → IsPlanned catalog.now query (Ok plan)
         → IsRefused (input_of bytes query sources.entry) e) }
-    // Nothing is printed before all is well.
-    ensures quiet { IfErr result (λ e. IsEndRefusal e ⊎ (W.contents out.new ≡ W.contents out.old)) }
+    // Nothing is printed before all is well, and then only the writer can fail.
+    ensures quiet { IfErr result (λ e. (e ≡ WholeFault.Writer)
+        ⊎ (W.contents out.new ≡ W.contents out.old)) }
 {
     match checked_tables(alloc, catalog, sources, &plan) {
         Ok(tables) => answer_run(alloc, Run { plan, tables }, &catalog.fact, sources, out),
@@ -157,7 +165,8 @@ fn answer_query<W: Write>(
         (W.contents out.new) r.0 r.1) }
     ensures refused { IfErr result (λ e. (bytes : List ℕ) → catalog_of bytes ≡ Ok catalog.now
         → IsRefused (input_of bytes query.now sources.entry) e) }
-    ensures quiet { IfErr result (λ e. IsEndRefusal e ⊎ (W.contents out.new ≡ W.contents out.old)) }
+    ensures quiet { IfErr result (λ e. (e ≡ WholeFault.Writer)
+        ⊎ (W.contents out.new ≡ W.contents out.old)) }
 {
     let plan = plan_of(alloc, catalog, query)?;
     answer_plan(alloc, catalog, plan, sources, out)
@@ -189,8 +198,9 @@ pub fn whole<W: Write>(
     // A refusal stands in the input.
     ensures refused { IfErr result
         (IsRefused (whole_input catalog.now csvs.now query.now cut.now vector_len)) }
-    // Nothing is printed before all is well.
-    ensures quiet { IfErr result (λ e. IsEndRefusal e ⊎ (W.contents out.new ≡ W.contents out.old)) }
+    // Nothing is printed before all is well, and then only the writer can fail.
+    ensures quiet { IfErr result (λ e. (e ≡ WholeFault.Writer)
+        ⊎ (W.contents out.new ≡ W.contents out.old)) }
 {
     let sources = Sources {
         csvs,

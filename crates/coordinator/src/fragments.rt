@@ -1,9 +1,9 @@
 //! The answers of all fragments of a plan's tables, gathered.
 ghost use Rattle.std.specs.Prelude.{◌≡◌, ◌<◌, ◌≤◌, [], ◌∷◌, ◌++◌, ℕ, List, length, map, slice_index, IfOk, IfErr, OnOk};
-ghost use Rattle.std.specs.List.{range_with_len, enumerate_from};
+ghost use Rattle.std.specs.List.{range_with_len};
 ghost use Rattle.meaning.specs.Limits.{max_rows};
 ghost use Rattle.meaning.specs.Said.{Answer as AnAnswer};
-ghost use Rattle.meaning.specs.Answer.{own_body};
+ghost use Rattle.meaning.specs.Answer.{own};
 ghost use Rattle.meaning.specs.Gather.{joined};
 ghost use Rattle.meaning_laws.specs.Laws.{own_answers};
 ghost use Rattle.meaning.specs.Cut.{IsCut};
@@ -11,7 +11,8 @@ ghost use Rattle.meaning.specs.Catalog.{IsWellFormedTable};
 ghost use Rattle.meaning.specs.SoundPlan.{IsSoundPlan};
 ghost use Rattle.meaning.specs.Order.{Row};
 ghost use Rattle.partial_codec.specs.Answer.{Spells};
-ghost use Rattle.coordinator.specs.Fragment.{AreFragments, AreRowsOfJob, AreTableFiles, IsFileable};
+ghost use Rattle.job_files.specs.RowFiles.{AreFilesOfTables};
+ghost use Rattle.coordinator.specs.Fragment.{AreFragments, AreRowsOfJob, IsFileable};
 ghost use Rattle.coordinator.specs.Whole.{HoldsOwnAnswers};
 
 use crate::fault::WholeFault;
@@ -20,7 +21,7 @@ use crate::table_files::{LOAD, Rows, file_of};
 use crate::tables::Tables;
 use columns::Column;
 use fragment_file::Slice;
-use gathering::Gather;
+use gathering::{Gather, GatherFault};
 use job_files::lend_files;
 use meaning::{Cut, Plan, Sequence, Table};
 use partial_codec::{Job, encode};
@@ -47,13 +48,11 @@ fn answer_bytes(
 ) -> Result<Vec<u8>, AllocError>
     requires plan { IsSoundPlan job.now.plan }
     requires rows { IsFileable rows }
-    ensures { IfOk result (λ bytes. (all : List Row) (tables : List (List Row))
-        → AreRowsOfJob job.now rows.entry all → AreTableFiles tables (map (λ d. d.now) dims.now)
+    ensures spells { IfOk result (λ bytes. (a : AnAnswer) × Spells job.now bytes.items a) }
+    ensures own { IfOk result (λ bytes. (all : List Row) (tables : List (List Row))
+        → AreRowsOfJob job.now rows.entry all → AreFilesOfTables tables (map (λ d. d.now) dims.now)
         → Spells job.now bytes.items
-        (record {
-          k = rows.entry.slice.fragment;
-          body = own_body job.now.plan tables (enumerate_from rows.entry.slice.first_row all);
-        })) }
+        (own job.now.plan tables job.now.cut all rows.entry.slice.fragment)) }
 {
     let file = file_of(alloc, rows)?;
     match work(alloc, job, &file, dims, rows.slice.fragment, vector_len) {
@@ -77,22 +76,23 @@ fn answer_one(
     ensures taken { OnOk result
         ((answers : List AnAnswer) (all : List Row) (tables : List (List Row))
         → AreRowsOfJob gather.old.job rows.entry all
-        → AreTableFiles tables (map (λ d. d.now) dims.now)
+        → AreFilesOfTables tables (map (λ d. d.now) dims.now)
         → gather.old.cells ≡ joined gather.old.job.cut answers
         → gather.new.cells ≡ joined gather.old.job.cut
-        (answers ++ record {
-          k = rows.entry.slice.fragment;
-          body = own_body gather.old.job.plan tables (enumerate_from rows.entry.slice.first_row
-              all);
-        }
+        (answers ++ own gather.old.job.plan tables gather.old.job.cut all rows.entry.slice.fragment
         ∷ [])) }
     ensures refused { IfErr result (λ e. e ≡ WholeFault.Memory) }
 {
-    let bytes = answer_bytes(alloc, gather.job(), rows, dims, vector_len)?;
+    let job = gather.job();
+    // No effect at run time. The proof reads from this call the limits on a job.
+    let _plan = job.plan();
+    let bytes = answer_bytes(alloc, job, rows, dims, vector_len)?;
     match gather.absorb(alloc, bytes.as_slice()) {
         Ok(_) => Ok(()),
-        // An answer's own bytes are refused only when out of memory.
-        Err(_) => Err(WholeFault::Memory),
+        Err(GatherFault::Memory) => Err(WholeFault::Memory),
+        // The bytes are an answer for the job.
+        Err(GatherFault::Decode(_)) => unreachable!(),
+        Err(GatherFault::OtherJob | GatherFault::Writer) => unreachable!(),
     }
 }
 
@@ -117,7 +117,7 @@ fn answer_fragments(alloc: Global, gather: &mut Gather, star: Star<'_>) -> Resul
     ensures same { OnOk result (gather.new.job ≡ gather.old.job) }
     ensures taken { OnOk result ((rows : List Row) (tables : List (List Row))
         → AreFragments star.entry.fact.now rows star.entry.cut.now star.entry.fragments.now
-        → AreTableFiles tables (map (λ d. d.now) star.entry.dims.now)
+        → AreFilesOfTables tables (map (λ d. d.now) star.entry.dims.now)
         → gather.new.cells ≡ joined star.entry.cut.now
         (own_answers gather.old.job.plan tables star.entry.cut.now rows
         (range_with_len 0 (length star.entry.cut.now)))) }
@@ -165,7 +165,7 @@ fn answer_all(alloc: Global, plan: Plan, star: Star<'_>) -> Result<Gather, Whole
         × AreFragments star.fact.now rows star.cut.now star.fragments.now }
     ensures state { IfOk result (λ g. (rows : List Row) (tables : List (List Row))
         → AreFragments star.entry.fact.now rows star.entry.cut.now star.entry.fragments.now
-        → AreTableFiles tables (map (λ d. d.now) star.entry.dims.now)
+        → AreFilesOfTables tables (map (λ d. d.now) star.entry.dims.now)
         → HoldsOwnAnswers plan rows tables star.entry.cut.now g) }
     ensures refused { IfErr result (λ e. e ≡ WholeFault.Memory) }
 {
@@ -193,7 +193,7 @@ pub fn answer_tables(
         × AreFragments fact.now rows sources.cut.now tables.now.fragments.items }
     ensures state { IfOk result (λ g. (rows : List Row) (dims : List (List Row))
         → AreFragments fact.now rows sources.entry.cut.now tables.now.fragments.items
-        → AreTableFiles dims tables.now.dims.items
+        → AreFilesOfTables dims tables.now.dims.items
         → HoldsOwnAnswers plan rows dims sources.entry.cut.now g) }
     ensures refused { IfErr result (λ e. e ≡ WholeFault.Memory) }
 {

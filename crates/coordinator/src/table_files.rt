@@ -6,7 +6,8 @@ ghost use Rattle.meaning.specs.Results.{all_ok};
 ghost use Rattle.columns.specs.Column.{ColumnSpec};
 ghost use Rattle.loader.specs.Columns.{dimension_named};
 ghost use Rattle.fragment_file.specs.Fragment.{Stands, table_header};
-ghost use Rattle.coordinator.specs.Fragment.{AreAllRows, AreTableFiles, IsFileable, IsTableFile};
+ghost use Rattle.job_files.specs.RowFiles.{AreFilesOfTables, IsFileOfRows};
+ghost use Rattle.coordinator.specs.Fragment.{AreAllRows, IsFileable};
 ghost use Rattle.coordinator.specs.Whole.{IsFileOf, files_in, dimension_table, joined_from, table_from};
 ghost use Rattle.coordinator.specs.declared.fault.WholeFault.TheVariants as fault;
 
@@ -59,7 +60,7 @@ fn count_rows(columns: &[Column]) -> usize
 fn table_file(alloc: Global, table: &Table, columns: &[Column]) -> Result<Vec<u8>, AllocError>
     requires { (rows : List Row) × AreAllRows table.now rows columns.now }
     ensures { IfOk result (λ bytes. (rows : List Row) → AreAllRows table.now rows columns.now
-        → IsTableFile rows bytes.items) }
+        → IsFileOfRows rows bytes.items) }
 {
     let slice = Slice {
         fragment: 0,
@@ -122,7 +123,7 @@ pub fn joined_files<'a>(
     requires { IsWellFormed catalog.now }
     ensures files { IfOk result (λ files. (dims : List (List Row))
         × (all_ok (map (joined_from catalog.now (files_in csvs.now)) joins.now) ≡ Ok dims)
-        × AreTableFiles dims files.items) }
+        × AreFilesOfTables dims files.items) }
     ensures refused { IfErr result (λ e. e ≢ fault.Memory
         → all_ok (map (joined_from catalog.now (files_in csvs.now)) joins.now) ≡ Err e) }
 {

@@ -14,14 +14,14 @@ use Rattle.meaning.specs.declared.value.Value.TheVariants.{Null, Int}
 use Rattle.meaning.specs.Order.{bytes, value_cmp, inserted_once, ascending_set}
 use Rattle.meaning.proofs.Tests.{both}
 use Rattle.encodings.specs.declared.choice.Choice.{Choice}
-use Rattle.encodings.specs.declared.kind.Kind.{Kind}
-use Rattle.encodings.specs.declared.kind.Kind.TheVariants as kind
-use Rattle.encodings.specs.Block.{mask_length}
+use Rattle.blocks.specs.declared.kind.Kind.{Kind}
+use Rattle.blocks.specs.declared.kind.Kind.TheVariants as kind
+use Rattle.blocks.specs.Block.{mask_length}
 use Rattle.encodings.specs.Choosing.{body_size, cells_for, is_chosen}
-use Rattle.encodings.specs.Plain.{form_size}
+use Rattle.blocks.specs.Plain.{form_size}
 use Rattle.encodings.specs.declared.dictionary.of_cells.Dictionary.{Dictionary}
-use Rattle.encodings.specs.Dictionary.{AreEntries}
-use Rattle.encodings.specs.Plain.{cells_at}
+use Rattle.blocks.specs.Dictionary.{AreEntries}
+use Rattle.blocks.specs.Plain.{cells_at}
 use Rattle.encodings.proofs.EncodedDictionaries.{entries_set}
 use Rattle.encodings.specs.Choosing.{IsLeastOfOthers, IsLeastOfTwo}
 use Rattle.encodings.specs.Choice.{IsDictionaryWithin, IsMadeOf, IsBestOf}

@@ -15,18 +15,18 @@ use Rattle.meaning.specs.declared.value.Value.TheVariants.{Null, Int, Text}
 use Rattle.meaning.specs.Order.{is_null, number, bytes}
 use Rattle.meaning.proofs.Tests.{all_first, all_rest, both}
 use Rattle.columns.specs.Column.{ColumnSpec, IsColumn, is_of, is_text}
-use Rattle.encodings.specs.declared.kind.Kind.{Kind}
-use Rattle.encodings.specs.declared.kind.Kind.TheVariants as kind
+use Rattle.blocks.specs.declared.kind.Kind.{Kind}
+use Rattle.blocks.specs.declared.kind.Kind.TheVariants as kind
 use Rattle.bit_packing.specs.Bytes.{number_of}
 use Rattle.bit_packing.specs.Bits.{bit_at, bytes_of_bits, is_mask}
-use Rattle.encodings.specs.Block.{mask_length, is_blank, is_block, values_of, is_body, body_cells}
+use Rattle.blocks.specs.Block.{mask_length, is_blank, is_block, values_of, is_body, body_cells}
 use Rattle.columns.specs.Cells.{masked, blank}
-use Rattle.encodings.specs.Dictionary.{entries_of}
-use Rattle.encodings.specs.Runs.{run_values}
+use Rattle.blocks.specs.Dictionary.{entries_of}
+use Rattle.blocks.specs.Runs.{run_values}
 use Rattle.encodings.specs.Choosing.{between, cells_for, payload_size}
 use Rattle.columns.specs.Cells.{cell_of}
 use Rattle.encodings.specs.Encoded.{is_tight}
-use Rattle.encodings.specs.Runs.{are_unequal_neighbours}
+use Rattle.blocks.specs.Runs.{are_unequal_neighbours}
 use Rattle.bit_packing.specs.Packing.{packed, bit_of, ArePacked}
 use Rattle.bit_packing.proofs.UnpackNumbers.{number-drop, low_bits}
 use Rattle.encodings.specs.Encoded.{IsBodyOf, IsMaskOf, PutsBody, PutsMask}

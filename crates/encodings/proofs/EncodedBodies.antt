@@ -19,19 +19,19 @@ use Rattle.columns.specs.Column.{is_of, is_text}
 use Rattle.columns.specs.Texts.{ends_from}
 use Rattle.columns.specs.Texts as laid
 use Rattle.columns.proofs.Joined.{texts_read}
-use Rattle.encodings.specs.declared.kind.Kind.TheVariants as kind
+use Rattle.blocks.specs.declared.kind.Kind.TheVariants as kind
 use Rattle.bit_packing.specs.Bytes.{words, shorts, integers}
 use Rattle.columns.specs.Texts.{texts_from}
-use Rattle.encodings.specs.Plain.{values_form, is_values_form, are_ends}
-use Rattle.encodings.specs.Numbers.{count_of}
-use Rattle.encodings.specs.Runs.{repeated}
+use Rattle.blocks.specs.Plain.{values_form, is_values_form, are_ends}
+use Rattle.blocks.specs.Numbers.{count_of}
+use Rattle.blocks.specs.Runs.{repeated}
 use Rattle.encodings.specs.Choosing.{body_size}
-use Rattle.encodings.specs.Plain.{form_size}
-use Rattle.encodings.specs.Runs.{run_heads, are_unequal_neighbours}
-use Rattle.encodings.specs.Plain.{form_of, cells_at, ints_at, texts_at}
-use Rattle.encodings.specs.Numbers.{integer_bytes, word_bytes, short_bytes}
+use Rattle.blocks.specs.Plain.{form_size}
+use Rattle.blocks.specs.Runs.{run_heads, are_unequal_neighbours}
+use Rattle.blocks.specs.Plain.{form_of, cells_at, ints_at, texts_at}
+use Rattle.blocks.specs.Numbers.{integer_bytes, word_bytes, short_bytes}
 use Rattle.encodings.specs.Encoded.{IsBodyOf, PutsBody}
-use Rattle.encodings.specs.Runs.{AreRuns, runs_body}
+use Rattle.blocks.specs.Runs.{AreRuns, runs_body}
 use Rattle.encodings.proofs.EncodedForms.{words_read, shorts_read, integers_read, length-short_bytes, chunks_behind, length-chunks, length-word_bytes, length-integer_bytes, text_short, word_read}
 
 -- ---- integers and texts of cells

@@ -16,15 +16,15 @@ use Rattle.meaning.proofs.Sets.{same_ascending_set, ascending_set_itself}
 use Rattle.meaning.proofs.Tests.{all_first, all_rest, all_imply, both, or_second, or_first, or_other}
 use Rattle.meaning.proofs.Same.{same_itself}
 use Rattle.columns.specs.Column.{is_of}
-use Rattle.encodings.specs.declared.kind.Kind.TheVariants as kind
+use Rattle.blocks.specs.declared.kind.Kind.TheVariants as kind
 use Rattle.bit_packing.specs.Bytes.{shorts}
-use Rattle.encodings.specs.Plain.{values_form, is_values_form}
-use Rattle.encodings.specs.Numbers.{count_of}
-use Rattle.encodings.specs.Plain.{form_size}
+use Rattle.blocks.specs.Plain.{values_form, is_values_form}
+use Rattle.blocks.specs.Numbers.{count_of}
+use Rattle.blocks.specs.Plain.{form_size}
 use Rattle.encodings.specs.Encoded.{IsBodyOf, PutsBody}
-use Rattle.encodings.specs.Dictionary.{AreEntries, dictionary_body}
-use Rattle.encodings.specs.Plain.{cells_at, form_of}
-use Rattle.encodings.specs.Numbers.{word_bytes, short_bytes}
+use Rattle.blocks.specs.Dictionary.{AreEntries, dictionary_body}
+use Rattle.blocks.specs.Plain.{cells_at, form_of}
+use Rattle.blocks.specs.Numbers.{word_bytes, short_bytes}
 use Rattle.encodings.proofs.EncodedForms.{shorts_read, length-word_bytes, length-short_bytes, length-chunks}
 use Rattle.encodings.proofs.EncodedBodies.{form_is, all_at, count_back}
 

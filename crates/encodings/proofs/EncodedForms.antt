@@ -19,7 +19,7 @@ use mir.Val.{SFits}
 use Rattle.meaning.specs.Operators.{fits_i64}
 use Rattle.meaning.proofs.Tests.{all_first, all_rest, second_of}
 use Rattle.bit_packing.specs.Bytes.{shorts, words, integers, integer_of}
-use Rattle.encodings.specs.Numbers.{short_bytes, word_bytes, integer_bytes}
+use Rattle.blocks.specs.Numbers.{short_bytes, word_bytes, integer_bytes}
 
 -- what is written with a fixed length is cut again
 pub chunks_read : {X : Type 0} (f : X → List ℕ) (w : ℕ) → ((x : X) → length (f x) ≡ w) → (xs : List X) (rest : List ℕ) → first_chunks w (length xs) (flat_map f xs ++ rest) ≡ map f xs

@@ -11,11 +11,11 @@ use Rattle.std.proofs.lemmas.Nat.{pow-add, pow_pos, mul-add-lt}
 use Rattle.meaning.proofs.Tests.{both, or_second, all_first, all_rest, all_map, or_first}
 use Rattle.bit_packing.specs.Widths.{width_for, IsWidth}
 use Rattle.encodings.specs.Choosing.{body_size}
-use Rattle.encodings.specs.Frame.{least_of, greatest_of, natural, span}
-use Rattle.encodings.specs.Frame.{least_in, greatest_in}
+use Rattle.blocks.specs.Frame.{least_of, greatest_of, natural, span}
+use Rattle.blocks.specs.Frame.{least_in, greatest_in}
 use Rattle.encodings.specs.Encoded.{IsBodyOf, PutsBody}
-use Rattle.encodings.specs.Numbers.{integer_bytes}
-use Rattle.encodings.specs.declared.kind.Kind.TheVariants as kind
+use Rattle.blocks.specs.Numbers.{integer_bytes}
+use Rattle.blocks.specs.declared.kind.Kind.TheVariants as kind
 use Rattle.bit_packing.specs.Bytes.{number_of, integer_of}
 use Rattle.bit_packing.specs.Bits.{bytes_of_bits}
 use Rattle.bit_packing.specs.Offsets.{offset_at}

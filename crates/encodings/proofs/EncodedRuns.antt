@@ -13,10 +13,10 @@ use Rattle.meaning.specs.Order.{same_value, value_cmp}
 use Rattle.meaning.proofs.Orders.{value_exact}
 use Rattle.meaning.proofs.Tests.{all_append, both, first_of, second_of}
 use Rattle.meaning.proofs.Same.{same_itself}
-use Rattle.encodings.specs.Runs.{repeated}
-use Rattle.encodings.specs.Runs.{are_unequal_neighbours}
-use Rattle.encodings.specs.Runs.{AreRuns}
-use Rattle.encodings.specs.Plain.{cells_at}
+use Rattle.blocks.specs.Runs.{repeated}
+use Rattle.blocks.specs.Runs.{are_unequal_neighbours}
+use Rattle.blocks.specs.Runs.{AreRuns}
+use Rattle.blocks.specs.Plain.{cells_at}
 
 -- the closed runs, and one that began at `start` and is still open in front of `row`
 pub record RunsSoFar (cells : List Value) (starts lengths : List ℕ) (start row : ℕ) : Type 0 where

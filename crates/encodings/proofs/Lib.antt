@@ -1,6 +1,4 @@
 -- The lemmas of this crate.
-pub mod Ascending
-pub mod Blocks
 pub mod ChosenKinds
 pub mod ChosenRows
 pub mod EncodedBlocks
@@ -9,23 +7,9 @@ pub mod EncodedDictionaries
 pub mod EncodedForms
 pub mod EncodedFrames
 pub mod EncodedRuns
-pub mod Ends
-pub mod Frames
-pub mod FrameNulls
 pub mod Marks
-pub mod MaskWords
-pub mod NullRuns
-pub mod Nulls
 pub mod NumberEntries
-pub mod PassedRuns
-pub mod ReadBodies
-pub mod ReadLists
-pub mod ReadParts
-pub mod ReadVectors
-pub mod RowCells
 pub mod RowCodes
 pub mod RowNumbers
 pub mod RunSizes
-pub mod TextCuts
-pub mod UnpackNumbers
 pub mod Worked

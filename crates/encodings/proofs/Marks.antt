@@ -17,7 +17,7 @@ use Rattle.meaning.proofs.Sets.{any-ascending_set}
 use Rattle.meaning.proofs.Same.{same_is}
 use Rattle.meaning.proofs.Tests.{or_other}
 use Rattle.encodings.specs.Slots.{value_slot, value_size}
-use Rattle.encodings.specs.Plain.{form_size}
+use Rattle.blocks.specs.Plain.{form_size}
 
 -- ---- the size of a set, one element more
 

@@ -15,7 +15,7 @@ use Rattle.meaning.specs.Order.{same_value, value_cmp, is_ascending}
 use Rattle.meaning.proofs.Orders.{value_total}
 use Rattle.meaning.proofs.Tests.{both, first_of, second_of}
 use Rattle.encodings.specs.Entries.{AreNumbered, DoNotFall, AreFirstEntries, AreFirstCodes, AreNumberEntries}
-use Rattle.encodings.specs.Plain.{cells_at}
+use Rattle.blocks.specs.Plain.{cells_at}
 use Rattle.encodings.proofs.RowNumbers.{at_push, below_push}
 
 is_last : (k count : ℕ) → k < count + 1 → nat_lt k count ≡ false → k ≡ count

@@ -8,8 +8,8 @@ use Rattle.meaning.specs.declared.value.Value.TheVariants.{Null, Text}
 use denote.Bor.{Bor}
 use Rattle.meaning.proofs.Tests.{all_first, all_rest, both}
 use Rattle.encodings.specs.Entries.{AreNumbers, AreNumberEntries}
-use Rattle.encodings.specs.Dictionary.{AreEntries}
-use Rattle.encodings.specs.Plain.{cells_at}
+use Rattle.blocks.specs.Dictionary.{AreEntries}
+use Rattle.blocks.specs.Plain.{cells_at}
 use Rattle.encodings.proofs.EncodedForms.{index_below}
 
 -- what a buffer holds that was lent and comes back full

@@ -7,7 +7,7 @@ use Rattle.meaning.specs.declared.value.Value.{Value}
 use Rattle.meaning.specs.declared.value.Value.TheVariants.{Null}
 use Rattle.meaning.proofs.Tests.{all_append, all_imply, all_first, all_rest, both}
 use Rattle.encodings.specs.Entries.{AreNumbers}
-use Rattle.encodings.specs.Plain.{cells_at}
+use Rattle.blocks.specs.Plain.{cells_at}
 
 -- one more number keeps a list of numbers below the bound
 pub bound_kept : (m n : ℕ) (ns : List ℕ) → m ≤ n → list_all (λ k. nat_lt k m) ns ≡ true → list_all (λ k. nat_lt k n) ns ≡ true

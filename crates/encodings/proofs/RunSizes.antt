@@ -7,8 +7,8 @@ use Rattle.meaning.specs.declared.value.Value.{Value}
 use Rattle.meaning.specs.declared.value.Value.TheVariants.{Null}
 use Rattle.meaning.specs.Order.{same_value}
 use Rattle.encodings.specs.Slots.{value_size}
-use Rattle.encodings.specs.Plain.{form_size}
-use Rattle.encodings.specs.Runs.{run_heads}
+use Rattle.blocks.specs.Plain.{form_size}
+use Rattle.blocks.specs.Runs.{run_heads}
 use Rattle.encodings.proofs.Marks.{form_cons}
 
 -- a length and a value for each run

@@ -4,11 +4,11 @@ use Rattle.meaning.specs.declared.value.ColType.{ColType}
 use Rattle.meaning.specs.declared.value.Value.{Value}
 use Rattle.columns.specs.Column.{ColumnSpec}
 use Rattle.encodings.specs.declared.choice.Choice.{Choice}
-use Rattle.encodings.specs.declared.kind.Kind.{Kind}
+use Rattle.blocks.specs.declared.kind.Kind.{Kind}
 use Rattle.encodings.specs.declared.dictionary.of_cells.Dictionary.{Dictionary}
 use Rattle.encodings.specs.Choosing.{between, cells_for, is_chosen}
-use Rattle.encodings.specs.Dictionary.{AreEntries}
-use Rattle.encodings.specs.declared.kind.Kind.TheVariants as kind
+use Rattle.blocks.specs.Dictionary.{AreEntries}
+use Rattle.blocks.specs.declared.kind.Kind.TheVariants as kind
 
 -- the dictionary of the cells, if the size that it has is at most a number
 abbrev pub IsDictionaryWithin : List Value → ℕ → ℕ → Option Dictionary → Type 0

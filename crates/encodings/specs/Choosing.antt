@@ -5,15 +5,15 @@ use Rattle.meaning.specs.declared.value.ColType.{ColType}
 use Rattle.meaning.specs.declared.value.Value.{Value}
 use Rattle.meaning.specs.Order.{value_cmp, ascending_set, number}
 use Rattle.columns.specs.Column.{ColumnSpec}
-use Rattle.encodings.specs.declared.kind.Kind.{Kind}
+use Rattle.blocks.specs.declared.kind.Kind.{Kind}
 use Rattle.bit_packing.specs.Bits.{bytes_of_bits}
-use Rattle.encodings.specs.Block.{mask_length}
+use Rattle.blocks.specs.Block.{mask_length}
 use Rattle.bit_packing.specs.Widths.{width_for}
-use Rattle.encodings.specs.Runs.{run_heads}
-use Rattle.encodings.specs.Plain.{form_size}
-use Rattle.encodings.specs.Frame.{span}
-use Rattle.encodings.specs.Kind.{kind_code, kinds_for}
-use Rattle.encodings.specs.declared.kind.Kind.TheVariants as kind
+use Rattle.blocks.specs.Runs.{run_heads}
+use Rattle.blocks.specs.Plain.{form_size}
+use Rattle.blocks.specs.Frame.{span}
+use Rattle.blocks.specs.Kind.{kind_code, kinds_for}
+use Rattle.blocks.specs.declared.kind.Kind.TheVariants as kind
 pub use Rattle.columns.specs.Cells.{cell_of}
 
 -- the values of the rows from one on and up to another

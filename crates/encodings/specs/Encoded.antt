@@ -5,13 +5,13 @@ use Rattle.meaning.specs.declared.value.ColType.{ColType}
 use Rattle.meaning.specs.declared.value.Value.{Value}
 use Rattle.meaning.specs.Order.{same_value, is_null}
 use Rattle.columns.specs.Column.{ColumnSpec}
-use Rattle.encodings.specs.declared.kind.Kind.{Kind}
+use Rattle.blocks.specs.declared.kind.Kind.{Kind}
 use Rattle.bit_packing.specs.Bits.{bit_at, is_mask}
-use Rattle.encodings.specs.Block.{Block, mask_length, is_body, body_cells, body_of, cells_of}
-use Rattle.encodings.specs.Dictionary.{entries_of}
-use Rattle.encodings.specs.Runs.{run_values, are_unequal_neighbours}
+use Rattle.blocks.specs.Block.{Block, mask_length, is_body, body_cells, body_of, cells_of}
+use Rattle.blocks.specs.Dictionary.{entries_of}
+use Rattle.blocks.specs.Runs.{run_values, are_unequal_neighbours}
 use Rattle.encodings.specs.Choosing.{body_size}
-use Rattle.encodings.specs.declared.kind.Kind.TheVariants as kind
+use Rattle.blocks.specs.declared.kind.Kind.TheVariants as kind
 
 -- the block of some rows of a column
 abbrev pub block_of : Kind → ColumnSpec → ℕ → ℕ → List ℕ → Block

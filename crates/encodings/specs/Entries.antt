@@ -6,7 +6,7 @@ use Rattle.std.specs.Ordering.{is_lt}
 use Rattle.meaning.specs.declared.value.Value.{Value}
 use Rattle.meaning.specs.declared.value.Value.TheVariants.{Null}
 use Rattle.meaning.specs.Order.{value_cmp, is_ascending}
-use Rattle.encodings.specs.Plain.{cells_at}
+use Rattle.blocks.specs.Plain.{cells_at}
 
 -- each of the first `rows` rows has a number, and each number a first row, in which the same cell stands
 pub record AreNumbers (cells : List Value) (firsts of_rows : List ℕ) (rows : ℕ) : Type 0 where

@@ -1,10 +1,10 @@
 -- Why a block is not written.
 use Rattle.std.specs.Prelude.{ℕ}
 use Rattle.meaning.specs.declared.value.ColType.{ColType}
-use Rattle.encodings.specs.declared.kind.Kind.{Kind}
+use Rattle.blocks.specs.declared.kind.Kind.{Kind}
 use Rattle.encodings.specs.declared.fault.EncodeFault.{EncodeFault}
 use Rattle.meaning.specs.declared.value.ColType.TheVariants as of_type
-use Rattle.encodings.specs.declared.kind.Kind.TheVariants as kind
+use Rattle.blocks.specs.declared.kind.Kind.TheVariants as kind
 use Rattle.encodings.specs.declared.fault.EncodeFault.TheVariants as fault
 
 -- the number by which a refusal is reported

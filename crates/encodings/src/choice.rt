@@ -1,9 +1,9 @@
 //! A kind that cells are written in, and what was made for it ahead.
 ghost use Rattle.std.specs.Prelude.{◌≡◌, None, Some};
-ghost use Rattle.encodings.specs.declared.kind.Kind.TheVariants as kind;
+ghost use Rattle.blocks.specs.declared.kind.Kind.TheVariants as kind;
 
 use crate::dictionary::of_cells::Dictionary;
-use crate::kind::Kind;
+use blocks::Kind;
 
 /// A kind, and the dictionary where it is one and was made already.
 #[derive(Drop)]

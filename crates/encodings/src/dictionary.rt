@@ -1,15 +1,10 @@
 //! Entries in ascending order, and a code for each row.
 
 pub(crate) mod cell;
-pub(crate) mod check;
 pub(crate) mod encode;
 pub(crate) mod entries;
 pub(crate) mod least_size;
 pub(crate) mod numbers;
 pub(crate) mod of_cells;
-pub(crate) mod read;
 pub(crate) mod slots;
-pub(crate) mod view;
 pub(crate) mod within;
-
-pub use view::DictionaryView;

@@ -1,7 +1,3 @@
 //! Values that stand one by one.
 
-pub mod check;
 pub mod encode;
-pub mod read;
-pub mod texts;
-pub mod values;

@@ -1,5 +1,5 @@
 //! The files of a folder, read and written whole.
-ghost use Rattle.std.specs.Prelude.{◌≡◌, ◌≢◌, IfErr, IfOk, IfSome, OnOk};
+ghost use Rattle.std.specs.Prelude.{◌≡◌, ◌≢◌, IfErr, IfOk, IfSome, OnErr, OnOk};
 ghost use Rattle.fragment_file.specs.declared.fault.FileFault.TheVariants as no_file;
 ghost use Rattle.folders.specs.Folder.{AreHeld, Finishes, HasHeld, IsEmptyFile, Removes, WritesOne, catalog_path};
 ghost use Rattle.folders.specs.Refused.{IsUnread, IsUnwritten};
@@ -143,6 +143,7 @@ pub fn put_file<F: Folder>(folder: &mut F, path: &Text, file: F::Closed) -> Resu
     ensures finished { OnOk result
         (Finishes (F.wrote folder.old) (F.wrote folder.new) path.now (F.enclosed file)) }
     ensures refused { IfErr result (IsUnwritten path.now) }
+    ensures unchanged { OnErr result (F.wrote folder.new ≡ F.wrote folder.old) }
 {
     match folder.finish(path.as_str(), file) {
         Ok(()) => Ok(()),
@@ -155,6 +156,7 @@ pub fn finish_file<F: Folder>(folder: &mut F, path: &Text, file: F::Writer) -> R
     ensures finished { OnOk result
         (Finishes (F.wrote folder.old) (F.wrote folder.new) path.now (F.Writer.contents file)) }
     ensures refused { IfErr result (IsUnwritten path.now) }
+    ensures unchanged { OnErr result (F.wrote folder.new ≡ F.wrote folder.old) }
 {
     let file = close_file(folder, path, file)?;
     put_file(folder, path, file)
@@ -164,6 +166,7 @@ pub fn finish_file<F: Folder>(folder: &mut F, path: &Text, file: F::Writer) -> R
 pub fn remove_file<F: Folder>(folder: &mut F, path: &Text) -> Result<(), Refusal>
     ensures removed { OnOk result (Removes (F.wrote folder.old) (F.wrote folder.new) path.now) }
     ensures refused { IfErr result (IsUnwritten path.now) }
+    ensures unchanged { OnErr result (F.wrote folder.new ≡ F.wrote folder.old) }
 {
     match folder.remove(path.as_str()) {
         Ok(()) => Ok(()),
@@ -175,13 +178,14 @@ pub fn remove_file<F: Folder>(folder: &mut F, path: &Text) -> Result<(), Refusal
 ///
 /// # Errors
 ///
-/// Out of memory, or the file cannot be written. The beginning of it may then lie under the name
-/// that the folder gives a file until it is whole.
+/// Out of memory, or the file cannot be written. Its path is then as it was; the beginning of the
+/// file may lie under the name that the folder gives a file until it is whole.
 pub fn write_file<F: Folder>(folder: &mut F, path: &Text, bytes: &[u8]) -> Result<(), Refusal>
     ensures written { OnOk result
         (WritesOne path.now (λ given. given ≡ bytes.now) (F.wrote folder.old)
         (F.wrote folder.new)) }
     ensures refused { IfErr result (IsUnwritten path.now) }
+    ensures unchanged { OnErr result (F.wrote folder.new ≡ F.wrote folder.old) }
 {
     let mut file = create_file(folder, path)?;
     match file.write_all(bytes) {

@@ -1,5 +1,5 @@
 //! The trait of folders that commands read from and write to.
-ghost use Rattle.std.specs.Prelude.{◌≡◌, ℕ, List, Option, None, IfOk, OnOk};
+ghost use Rattle.std.specs.Prelude.{◌≡◌, ℕ, List, Option, None, IfOk, OnErr, OnOk};
 ghost use Rattle.folders.specs.Folder.{Change, Finishes, IsEmptyFile, Opens, Removes};
 
 use std::io;
@@ -42,12 +42,14 @@ pub trait Folder {
         ensures same { wrote self.new ≡ wrote self.old }
         ensures held { holds self.new ≡ holds self.old };
 
-    /// Puts a file that was created for this path under it.
+    /// Puts a file that was created for this path under it. On error no path changes.
     fn finish(&mut self, path: &str, file: Self::Closed) -> io::Result<()>
-        ensures { OnOk result (Finishes (wrote self.old) (wrote self.new) path.now
-            (enclosed file)) };
+        ensures finished { OnOk result (Finishes (wrote self.old) (wrote self.new) path.now
+            (enclosed file)) }
+        ensures unchanged { OnErr result (wrote self.new ≡ wrote self.old) };
 
-    /// Takes the file of a path away, where there is one.
+    /// Takes the file of a path away, where there is one. On error no path changes.
     fn remove(&mut self, path: &str) -> io::Result<()>
-        ensures { OnOk result (Removes (wrote self.old) (wrote self.new) path.now) };
+        ensures removed { OnOk result (Removes (wrote self.old) (wrote self.new) path.now) }
+        ensures unchanged { OnErr result (wrote self.new ≡ wrote self.old) };
 }

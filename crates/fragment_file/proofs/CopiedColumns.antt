@@ -11,9 +11,9 @@ use Rattle.meaning.specs.declared.value.Value.{Value}
 use Rattle.meaning.specs.declared.catalog.Column.{Column}
 use Rattle.meaning.specs.Limits.{row_group_rows}
 use Rattle.columns.specs.Column.{ColumnSpec}
-use Rattle.encodings.specs.Block.{Block, cells_of, is_block, masked, nulls_of, values_of}
-use Rattle.encodings.proofs.Blocks.{block_body}
-use Rattle.encodings.proofs.Nulls.{length_cells}
+use Rattle.blocks.specs.Block.{Block, cells_of, is_block, masked, nulls_of, values_of}
+use Rattle.blocks.proofs.Blocks.{block_body}
+use Rattle.blocks.proofs.Nulls.{length_cells}
 use Rattle.fragment_file.specs.Copying.{with_values}
 use Rattle.fragment_file.specs.View.{rows_of}
 use Rattle.fragment_file.specs.Fragment.{FragmentSpec, IsBlockOf, AreBlocks, AreGroups, IsFragment, group_sizes, no_block, column_values, column_in, columns_in}

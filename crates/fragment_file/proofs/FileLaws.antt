@@ -1,7 +1,7 @@
 -- Whole files: what is read is spelled so, and what is spelled so is read.
 use Rattle.std.proofs.Common.{◌≡◌, ℕ, List, ◌++◌, length, zip, Ok, refl, ap, subst, ◌∙◌, append_assoc}
 use Rattle.std.specs.List.{flat_map}
-use Rattle.encodings.specs.Block.{Block}
+use Rattle.blocks.specs.Block.{Block}
 use Rattle.fragment_file.specs.declared.header.Header.{Header}
 use Rattle.wire.specs.Reading.{◌>>=◌, bytes_at, behind_magic, sealed_end}
 use Rattle.fragment_file.specs.Fragment.{FragmentSpec, IsFileOf, group_sizes, group_bytes, header_bytes, groups_bytes, fragment_magic, fragment_bytes}

@@ -5,10 +5,10 @@ use Rattle.std.proofs.lemmas.Bool.{eqb-true, eq-eqb}
 use Rattle.std.proofs.lemmas.List.Concat.{flat_map-cons}
 use Rattle.meaning.specs.declared.catalog.Column.{Column}
 use Rattle.meaning.specs.Limits.{row_group_rows}
-use Rattle.encodings.specs.declared.kind.Kind.{Kind}
-use Rattle.encodings.specs.declared.kind.Kind.TheVariants as kind
-use Rattle.encodings.specs.Block.{Block, is_block}
-use Rattle.encodings.specs.Kind.{kind_code}
+use Rattle.blocks.specs.declared.kind.Kind.{Kind}
+use Rattle.blocks.specs.declared.kind.Kind.TheVariants as kind
+use Rattle.blocks.specs.Block.{Block, is_block}
+use Rattle.blocks.specs.Kind.{kind_code}
 use Rattle.fragment_file.specs.declared.fault.FileFault.TheVariants as refusal
 use Rattle.wire.specs.Reading.{◌>>=◌, bytes_at, number_at}
 use Rattle.fragment_file.specs.Fragment.{IsBlockOf, AreBlocks, AreGroups, group_sizes, block_bytes, group_bytes}

@@ -2,6 +2,7 @@
 pub mod CopiedColumns
 pub mod CutLaws
 pub mod FileLaws
+pub mod FileRows
 pub mod GroupLaws
 pub mod HeaderLaws
 pub mod Loops

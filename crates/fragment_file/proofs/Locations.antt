@@ -4,8 +4,8 @@ use Rattle.std.specs.List.{AllByRecursion}
 use Rattle.std.proofs.lemmas.List.{map-append, get_or-map, length-map, length-append, take_at, drop_at}
 use Rattle.std.proofs.lemmas.List.Elements.{All-append, All-from_recursion, All-get_or}
 use Rattle.meaning.specs.declared.catalog.Column.{Column}
-use Rattle.encodings.specs.declared.kind.Kind.{Kind}
-use Rattle.encodings.specs.Block.{Block, is_block}
+use Rattle.blocks.specs.declared.kind.Kind.{Kind}
+use Rattle.blocks.specs.Block.{Block, is_block}
 use Rattle.wire.specs.Reading.{bytes_at, number_at}
 use Rattle.wire.proofs.Numbers.{bytes_parts, number_parts}
 use Rattle.fragment_file.specs.declared.header.Header.{Header}

@@ -3,7 +3,7 @@ use Rattle.std.proofs.Common.{◌≡◌, ℕ, suc, ◌-◌, ◌+◌, ◌≤◌, 
 use Rattle.std.proofs.Math.Seq.{drop-cons}
 use Rattle.std.proofs.lemmas.List.{append-nil, drop_all, length-append}
 use Rattle.meaning.specs.declared.catalog.Column.{Column}
-use Rattle.encodings.specs.Block.{Block}
+use Rattle.blocks.specs.Block.{Block}
 use Rattle.fragment_file.specs.declared.fault.FileFault.{FileFault}
 use Rattle.wire.specs.Reading.{◌>>=◌, Read}
 use Rattle.fragment_file.specs.Fragment.{group_sizes}

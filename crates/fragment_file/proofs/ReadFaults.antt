@@ -4,7 +4,7 @@ use Rattle.std.specs.Prelude.{IfErr, nat_le, not}
 use Rattle.meaning.specs.declared.catalog.Column.{Column}
 use Rattle.meaning.specs.Catalog.{is_name}
 use Rattle.meaning.specs.Limits.{max_columns, max_fragments, max_name_bytes, max_rows}
-use Rattle.encodings.specs.Block.{Block}
+use Rattle.blocks.specs.Block.{Block}
 use Rattle.wire.specs.declared.fault.WireFault.{WireFault}
 use Rattle.wire.specs.declared.fault.WireFault.TheVariants as of_wire
 use Rattle.meaning.specs.Wanting.{GivesIfMemory}

@@ -13,9 +13,9 @@ use Rattle.meaning.specs.declared.value.Value.{Value}
 use Rattle.meaning.specs.declared.value.Value.TheVariants.{Null}
 use Rattle.meaning.specs.Limits.{row_group_rows}
 use Rattle.meaning.specs.Order.{column}
-use Rattle.encodings.specs.Block.{Block, bit_at, cells_of, is_block, mask_of, masked, nulls_of, values_of}
-use Rattle.encodings.proofs.Blocks.{block_body}
-use Rattle.encodings.proofs.Nulls.{length_cells}
+use Rattle.blocks.specs.Block.{Block, bit_at, cells_of, is_block, mask_of, masked, nulls_of, values_of}
+use Rattle.blocks.proofs.Blocks.{block_body}
+use Rattle.blocks.proofs.Nulls.{length_cells}
 use Rattle.fragment_file.specs.Fragment.{AreBlocks, AreGroups, column_values, group_sizes, no_block}
 use Rattle.fragment_file.specs.Rows.{RowsAreColumns, RowsAreCounted, row_in, rows_in}
 use Rattle.fragment_file.specs.View.{rows_of}

@@ -14,12 +14,12 @@ use Rattle.meaning.specs.declared.value.Value.TheVariants.{Null, Int, Text}
 use Rattle.meaning.specs.Order.{bytes}
 use Rattle.meaning.specs.Limits.{max_text_bytes, row_group_rows}
 use Rattle.columns.specs.Column.{ColumnSpec, IsColumn, is_of, is_text}
-use Rattle.encodings.specs.declared.kind.Kind.{Kind}
-use Rattle.encodings.specs.declared.kind.Kind.TheVariants as kind
-use Rattle.encodings.specs.Block.{mask_length}
+use Rattle.blocks.specs.declared.kind.Kind.{Kind}
+use Rattle.blocks.specs.declared.kind.Kind.TheVariants as kind
+use Rattle.blocks.specs.Block.{mask_length}
 use Rattle.encodings.specs.Choosing.{between, cell_of, cells_for, is_chosen, is_no_worse, payload_size}
-use Rattle.encodings.specs.Plain.{form_size}
-use Rattle.encodings.proofs.ReadBodies.{all-take, all-drop}
+use Rattle.blocks.specs.Plain.{form_size}
+use Rattle.blocks.proofs.ReadBodies.{all-take, all-drop}
 
 le_from_lt : (a b : ℕ) → a < b → a ≤ b
 le_from_lt a b h = omega arith

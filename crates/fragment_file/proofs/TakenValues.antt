@@ -13,13 +13,13 @@ use Rattle.meaning.proofs.Tests.{all_flat_map, both}
 use Rattle.columns.specs.declared.fault.ColumnFault.{ColumnFault}
 use Rattle.columns.specs.declared.fault.ColumnFault.TheVariants as column_fault
 use Rattle.columns.specs.Column.{is_text, refusal}
-use Rattle.encodings.specs.declared.kind.Kind.{Kind}
-use Rattle.encodings.specs.declared.kind.Kind.TheVariants as kind
-use Rattle.encodings.specs.Numbers.{integers}
+use Rattle.blocks.specs.declared.kind.Kind.{Kind}
+use Rattle.blocks.specs.declared.kind.Kind.TheVariants as kind
+use Rattle.blocks.specs.Numbers.{integers}
 use Rattle.columns.specs.Texts.{texts_from}
-use Rattle.encodings.specs.Block.{Block, mask_of, body_of, cells_of, values_of, masked, bit_at, is_block, is_body, body_cells, values_form, is_values_form, ends_of, joined_of, are_ends, count_of, entry_bytes, entries_of, codes_of, is_dictionary, run_lengths, run_values, run_value_bytes, run_cells, are_runs, frame_integers}
-use Rattle.encodings.proofs.Blocks.{block_body}
-use Rattle.encodings.proofs.Ends.{length-values_form}
+use Rattle.blocks.specs.Block.{Block, mask_of, body_of, cells_of, values_of, masked, bit_at, is_block, is_body, body_cells, values_form, is_values_form, ends_of, joined_of, are_ends, count_of, entry_bytes, entries_of, codes_of, is_dictionary, run_lengths, run_values, run_value_bytes, run_cells, are_runs, frame_integers}
+use Rattle.blocks.proofs.Blocks.{block_body}
+use Rattle.blocks.proofs.Ends.{length-values_form}
 use Rattle.fragment_file.specs.Copying.{is_taken}
 
 -- ---- refusals

@@ -10,7 +10,7 @@ use Rattle.meaning.specs.TableLaws.{column_types}
 use Rattle.meaning.specs.Typing.{are_of_types, is_of_type}
 use Rattle.meaning.proofs.Tests.{both}
 use Rattle.meaning.proofs.Typed.{null_typed}
-use Rattle.encodings.specs.Block.{Block, values_of}
+use Rattle.blocks.specs.Block.{Block, values_of}
 use Rattle.fragment_file.specs.Fragment.{AreBlocks, AreGroups, AreTypedColumns, FragmentSpec, IsFragment, column_values, no_block}
 use Rattle.fragment_file.specs.Rows.{row_in, rows_in}
 use Rattle.fragment_file.specs.View.{rows_of}

@@ -17,13 +17,13 @@ use Rattle.meaning.proofs.Typed.{null_typed}
 use Rattle.meaning.proofs.Tests.{both}
 use Rattle.columns.specs.Column.{is_text}
 use Rattle.columns.proofs.CellLaws.{word_fits}
-use Rattle.encodings.specs.declared.kind.Kind.{Kind}
-use Rattle.encodings.specs.declared.kind.Kind.TheVariants as kind
-use Rattle.encodings.specs.Numbers.{number_of, integer_of, integers}
+use Rattle.blocks.specs.declared.kind.Kind.{Kind}
+use Rattle.blocks.specs.declared.kind.Kind.TheVariants as kind
+use Rattle.blocks.specs.Numbers.{number_of, integer_of, integers}
 use Rattle.columns.specs.Texts.{texts_from}
-use Rattle.encodings.specs.Block.{Block, body_of, mask_length, nulls_of, cells_of, values_of, masked, is_block, is_body, body_cells, values_form, is_values_form, ends_of, joined_of, are_ends, count_of, entry_bytes, entries_of, codes_of, is_dictionary, run_lengths, run_values, run_value_bytes, run_cells, are_runs, frame_integers, offsets_of, width_of, packed_of, bytes_of_bits, is_frame}
-use Rattle.encodings.proofs.Blocks.{block_body}
-use Rattle.encodings.proofs.UnpackNumbers.{from_le_bytes-64}
+use Rattle.blocks.specs.Block.{Block, body_of, mask_length, nulls_of, cells_of, values_of, masked, is_block, is_body, body_cells, values_form, is_values_form, ends_of, joined_of, are_ends, count_of, entry_bytes, entries_of, codes_of, is_dictionary, run_lengths, run_values, run_value_bytes, run_cells, are_runs, frame_integers, offsets_of, width_of, packed_of, bytes_of_bits, is_frame}
+use Rattle.blocks.proofs.Blocks.{block_body}
+use Rattle.blocks.proofs.UnpackNumbers.{from_le_bytes-64}
 use Rattle.wire.specs.Bytes.{number_bytes, sealed}
 use Rattle.wire.proofs.Numbers.{IsBytes}
 use Rattle.fragment_file.specs.Fragment.{FragmentSpec, IsFileOf, AreBlocks, AreGroups, AreTypedColumns, block_bytes, group_bytes, groups_bytes, group_sizes, header_bytes, fragment_bytes, fragment_magic, column_values, no_block}

@@ -14,7 +14,7 @@ use Rattle.meaning.specs.declared.value.Value.{Value}
 use Rattle.meaning.specs.declared.catalog.Column.{Column}
 use Rattle.meaning.specs.Limits.{row_group_rows}
 use Rattle.columns.specs.Column.{ColumnSpec}
-use Rattle.encodings.specs.Block.{Block, values_of}
+use Rattle.blocks.specs.Block.{Block, values_of}
 use Rattle.fragment_file.specs.declared.header.Header.{Header}
 use Rattle.fragment_file.specs.Fragment.{FragmentSpec, IsFileOf, IsHeader, AreBlocks, AreGroups, groups_bytes, group_sizes, fragment_magic, header_bytes, fragment_bytes, no_block, column_values, column_in, columns_in}
 use Rattle.wire.specs.Bytes.{seal_of, sealed}

@@ -7,7 +7,7 @@ use Rattle.std.proofs.lemmas.Bool.{ne_eqb}
 use Rattle.meaning.specs.Limits.{row_group_rows}
 use Rattle.sha2.specs.declared.Sha256.{Sha256}
 use Rattle.columns.specs.Column.{ColumnSpec}
-use Rattle.encodings.specs.Block.{Block}
+use Rattle.blocks.specs.Block.{Block}
 use Rattle.wire.specs.Bytes.{number_bytes}
 use Rattle.fragment_file.specs.Fragment.{block_bytes, group_bytes, group_sizes}
 use Rattle.fragment_file.specs.Writing.{IsRowsOf, AreRowsOf, AreGroupsOf, PutsBlock, PutsBlocks, PutsGroup, WritesGroup, WritesGroups}

@@ -15,9 +15,9 @@ use Rattle.meaning.specs.Limits.{max_columns, max_rows, row_group_rows}
 use Rattle.meaning.specs.Typing.{is_of_type}
 use Rattle.meaning.specs.TypeCodes.{type_code}
 use Rattle.columns.specs.Column.{ColumnSpec}
-use Rattle.encodings.specs.declared.kind.Kind.TheVariants as kind
-use Rattle.encodings.specs.Block.{Block, is_block, values_of}
-use Rattle.encodings.specs.Kind.{kind_code}
+use Rattle.blocks.specs.declared.kind.Kind.TheVariants as kind
+use Rattle.blocks.specs.Block.{Block, is_block, values_of}
+use Rattle.blocks.specs.Kind.{kind_code}
 use Rattle.fragment_file.specs.declared.header.Header.{Header}
 use Rattle.fragment_file.specs.declared.header.Slice.{Slice}
 

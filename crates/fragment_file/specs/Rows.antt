@@ -3,7 +3,7 @@ use Rattle.std.specs.Prelude.{◌≡◌, ℕ, ◌<◌, List, map, flat_map, leng
 use Rattle.std.specs.List.{range_with_len}
 use Rattle.meaning.specs.declared.value.Value.TheVariants.{Null}
 use Rattle.meaning.specs.Order.{Row, column}
-use Rattle.encodings.specs.Block.{Block, values_of}
+use Rattle.blocks.specs.Block.{Block, values_of}
 use Rattle.fragment_file.specs.Fragment.{FragmentSpec, IsFragment, column_values}
 use Rattle.fragment_file.specs.View.{rows_of}
 

@@ -1,6 +1,6 @@
 -- What the views of a file lend: blocks at locations of its bytes.
 use Rattle.std.specs.Prelude.{◌≡◌, ℕ, ◌-◌, ◌≤◌, true, List, [], ◌∷◌, ◌++◌, length, map, take, drop, All}
-use Rattle.encodings.specs.Block.{Block, is_block}
+use Rattle.blocks.specs.Block.{Block, is_block}
 use Rattle.fragment_file.specs.declared.header.Header.{Header}
 use Rattle.fragment_file.specs.declared.view.BlockLocation.{BlockLocation}
 use Rattle.fragment_file.specs.Fragment.{FragmentSpec, IsFragment}

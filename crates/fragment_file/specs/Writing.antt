@@ -5,7 +5,7 @@ use Rattle.sha2.specs.declared.Sha256.{Sha256}
 use Rattle.wire.specs.Writing.{Puts}
 use Rattle.meaning.specs.declared.catalog.Column.{Column}
 use Rattle.columns.specs.Column.{ColumnSpec}
-use Rattle.encodings.specs.Block.{Block, is_block, values_of}
+use Rattle.blocks.specs.Block.{Block, is_block, values_of}
 use Rattle.encodings.specs.Choosing.{is_chosen}
 use Rattle.encodings.specs.Encoded.{is_tight}
 use Rattle.fragment_file.specs.declared.fault.FileFault.{FileFault}

@@ -5,14 +5,14 @@ ghost use Rattle.meaning.specs.Limits.{row_group_rows};
 ghost use Rattle.meaning.specs.Order.{value_in};
 ghost use Rattle.meaning.specs.declared.catalog.Column.{Column as ADeclared};
 ghost use Rattle.columns.specs.Column.{with_value};
-ghost use Rattle.encodings.specs.Block.{values_of};
+ghost use Rattle.blocks.specs.Block.{values_of};
 ghost use Rattle.fragment_file.specs.Copying.{is_taken, with_values};
 ghost use Rattle.fragment_file.specs.Fragment.{column_in, column_values, columns_in};
 
 use crate::fault::FileFault;
 use crate::view::FragmentView;
+use blocks::{BlockView, VectorBuf};
 use columns::{Column, ColumnFault};
-use encodings::{BlockView, VectorBuf};
 use meaning::{ROW_GROUP_ROWS, ValueRef};
 use std::alloc::Global;
 use std::mem::drop;

@@ -9,7 +9,7 @@ ghost use Rattle.wire.specs.Reading.{Reads};
 
 use crate::fault::FileFault;
 use crate::view::BlockLocation;
-use encodings::{BlockView, Kind};
+use blocks::{BlockView, Kind};
 use meaning::{Column, ROW_GROUP_ROWS, Sequence};
 use std::alloc::Global;
 use wire::{take_bytes, take_u8, take_u32};

@@ -1,11 +1,11 @@
 //! What an opened file lends.
 ghost use Rattle.std.specs.Prelude.{◌≡◌, ◌<◌, [], length, map, slice_index_or, true};
-ghost use Rattle.encodings.specs.Block.{is_block};
+ghost use Rattle.blocks.specs.Block.{is_block};
 ghost use Rattle.fragment_file.specs.Fragment.{AreBlocks, IsFragment, no_block};
 ghost use Rattle.fragment_file.specs.View.{IsGroup, IsGroupAt, IsWithin, block_in, rows_of};
 
 use crate::header::Header;
-use encodings::{BlockView, Kind};
+use blocks::{BlockView, Kind};
 use meaning::{ColType, Sequence};
 use std::marker::Model;
 
@@ -43,7 +43,7 @@ pub struct GroupView<'a> {
 
 impl<'a> Model for GroupView<'a> {
     ghost use Rattle.std.specs.Prelude.{List, map};
-    ghost use Rattle.encodings.specs.Block.{Block};
+    ghost use Rattle.blocks.specs.Block.{Block};
     ghost use Rattle.fragment_file.specs.View.{IsGroupAt, block_in};
 
     ghost Value = { List Block };

@@ -1,7 +1,7 @@
 //! The row groups of a file: for each column a block of the kind of fewest bytes.
 ghost use Rattle.std.specs.Prelude.{◌≡◌, ◌≤◌, ◌<◌, ◌-◌, ◌*◌, ◌^◌, ◌++◌, length, replicate, true, All, OnOk, IfOk, IfErr};
 ghost use Rattle.meaning.specs.Limits.{max_rows, row_group_rows};
-ghost use Rattle.encodings.specs.Kind.{kind_code};
+ghost use Rattle.blocks.specs.Kind.{kind_code};
 ghost use Rattle.encodings.specs.Encoded.{block_of};
 ghost use Rattle.fragment_file.specs.Fragment.{group_sizes};
 ghost use Rattle.wire.specs.Bytes.{number_bytes};
@@ -9,8 +9,9 @@ ghost use Rattle.fragment_file.specs.Writing.{IsRowsOf, IsWriteFault, PutsBlock,
 ghost use Rattle.fragment_file.specs.declared.fault.FileFault.TheVariants.{Memory};
 
 use crate::fault::FileFault;
+use blocks::Kind;
 use columns::Column;
-use encodings::{Encoded, Kind, encode};
+use encodings::{Encoded, encode};
 use meaning::ROW_GROUP_ROWS;
 use sha2::Sha256;
 use std::alloc::{AllocError, Global};

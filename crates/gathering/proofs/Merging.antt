@@ -31,7 +31,7 @@ use Rattle.meaning.specs.Fitting.{is_group_of, is_key_of, is_state_of, is_possib
 use Rattle.meaning.specs.Answer.{body_of, groups_of, combined}
 use Rattle.meaning.specs.Gather.{body_in}
 use Rattle.meaning.proofs.Tests.{first_of, second_of}
-use Rattle.accumulators.specs.State.{most_entries}
+use Rattle.aggregate_states.specs.State.{most_entries}
 use Rattle.group_by.specs.Groups.{all_rows, with_groups, under, SaysAs, TablesGrow}
 use Rattle.group_by.specs.Rows.{IsGroupOf}
 use Rattle.group_by.specs.Shape.{GroupsSpec, shape_of}

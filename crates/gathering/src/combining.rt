@@ -12,7 +12,7 @@ ghost use Rattle.meaning.specs.SoundPlan.{IsSoundPlan};
 ghost use Rattle.gathering.specs.Merging.{AreMergeable, all_groups, groups_in};
 ghost use Rattle.gathering.specs.Output.{IsFinishable, Shows};
 
-use accumulators::Group;
+use aggregate_states::Group;
 use group_by::GroupTable;
 use meaning::{Body, Cell, Cut, Plan, RowFault};
 use std::alloc::{AllocError, Global};

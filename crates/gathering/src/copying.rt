@@ -1,7 +1,7 @@
 //! Copies of what a coordinator holds.
 ghost use Rattle.std.specs.Prelude.{◌≡◌, IfOk};
 
-use accumulators::{Group, State};
+use aggregate_states::{Group, State};
 use last_step::copy_row;
 use meaning::{Body, Sequence};
 use std::alloc::{AllocError, Global};

@@ -1,5 +1,5 @@
 //! The coordinator: a cell for each fragment, what an answer does to it, and what is reported.
-ghost use Rattle.std.specs.Prelude.{◌≡◌, ℕ, [], ◌∷◌, ◌++◌, List, length, replicate, IfOk, IfErr, OnOk, OnErr};
+ghost use Rattle.std.specs.Prelude.{◌≡◌, ◌⊎◌, ℕ, [], ◌∷◌, ◌++◌, List, length, replicate, IfOk, IfErr, OnOk, OnErr};
 ghost use Rattle.std.specs.Io.KnownBytes.{Appends};
 ghost use Rattle.meaning.specs.Said.{Answer as AnAnswer};
 ghost use Rattle.meaning.specs.Said.{Cell as ACell};
@@ -16,7 +16,7 @@ use crate::fault::GatherFault;
 use crate::joining::{all_deltas, is_same, join_all, with_answer};
 use crate::report::{Report, full_report, print_full_report, summary};
 use crate::same_job::is_same_job;
-use accumulators::Group;
+use aggregate_states::Group;
 use meaning::{Answer, Body, Cell};
 use partial_codec::{Job, decode, decode_state, encode_state};
 use std::alloc::{AllocError, Global};
@@ -218,12 +218,15 @@ impl Gather {
     }
 
     /// Prints the conflicts, if there are any; else the missing fragments; else what the answers
-    /// say together; and says which report it was. What a failed writer let out is open.
+    /// say together; and says which report it was. What a failed writer let out is open; any other
+    /// refusal leaves `out` as it was.
     pub fn print_report<W: Write>(&self, alloc: Global, out: &mut W) -> Result<Report, GatherFault>
         ensures printed { OnOk result (Appends (W.contents out.old) (W.contents out.new)
             (report_text self.now.job.plan (report self.now.job.plan self.now.cells))) }
         ensures value { IfOk result (λ r. r ≡ summary (report self.now.job.plan self.now.cells)) }
         ensures refused { IfErr result IsPrintRefusal }
+        ensures quiet { IfErr result (λ e. (e ≡ GatherFault.Writer)
+            ⊎ (W.contents out.new ≡ W.contents out.old)) }
     {
         let full = full_report(alloc, self)?;
         match print_full_report(alloc, self.job().plan(), &full, out) {

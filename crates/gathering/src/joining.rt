@@ -6,7 +6,7 @@ ghost use Rattle.gathering.specs.Gathering.{join_states};
 ghost use Rattle.gathering.specs.Joining.{conflict_unless, delta_of, all_deltas};
 
 use crate::copying::copy_body;
-use accumulators::Group;
+use aggregate_states::Group;
 use meaning::{Body, Cell};
 use std::alloc::{AllocError, Global};
 use std::mem;

@@ -3,7 +3,7 @@ ghost use Rattle.std.specs.Prelude.{◌≡◌, IfOk};
 ghost use Rattle.meaning.specs.Answer.{output_of};
 ghost use Rattle.gathering.specs.Output.{IsFinishable, IsPrintable, Shows, output_in};
 
-use accumulators::Group;
+use aggregate_states::Group;
 use last_step::{Finished, finish};
 use meaning::{Body, Plan, RowFault};
 use std::alloc::{AllocError, Global};

@@ -1,5 +1,5 @@
 //! What a coordinator prints: its conflicts, what is missing, or what the answers say together.
-ghost use Rattle.std.specs.Prelude.{◌≡◌, ◌≤◌, length, IfOk, OnOk};
+ghost use Rattle.std.specs.Prelude.{◌≡◌, ◌≤◌, ◌⊎◌, length, IfErr, IfOk, OnOk};
 ghost use Rattle.std.specs.Io.KnownBytes.{Appends};
 ghost use Rattle.meaning.specs.Limits.{max_fragments};
 ghost use Rattle.meaning.specs.Gather.{fragments_where, report, preview};
@@ -13,7 +13,7 @@ use crate::combining::combine;
 use crate::gather::Gather;
 use crate::lines::{print_fault, print_fragments, print_row_fault};
 use crate::output::{Output, output_of};
-use accumulators::Group;
+use aggregate_states::Group;
 use last_step::{Finished, PrintFault, print_rows};
 use meaning::{Cell, Cut, Plan, Sequence};
 use std::alloc::{AllocError, Global};
@@ -155,8 +155,7 @@ fn print_output<W: Write>(
     }
 }
 
-/// Prints it.
-pub fn print_full_report<W: Write>(
+fn write_full_report<W: Write>(
     alloc: Global,
     plan: &Plan,
     full: &FullReport,
@@ -170,6 +169,39 @@ pub fn print_full_report<W: Write>(
         FullReport::Conflict(fragments) => print_fragments("conflict", fragments.as_slice(), out),
         FullReport::Missing(fragments) => print_fragments("missing", fragments.as_slice(), out),
         FullReport::Output(output) => print_output(alloc, plan, output, out),
+    }
+}
+
+/// The text of what is printed.
+fn report_bytes(alloc: Global, plan: &Plan, full: &FullReport) -> Result<Vec<u8>, AllocError>
+    requires { IsReportable plan.now full.now }
+    ensures { IfOk result (λ text. text.items ≡ report_text plan.now (report_in full.now)) }
+{
+    let mut text = Vec::new(alloc);
+    match write_full_report(alloc, plan, full, &mut text) {
+        Ok(()) => Ok(text),
+        // A writer to memory fails where memory is wanting.
+        Err(_) => Err(AllocError),
+    }
+}
+
+/// Prints it. All that takes memory comes before the first byte.
+pub fn print_full_report<W: Write>(
+    alloc: Global,
+    plan: &Plan,
+    full: &FullReport,
+    out: &mut W,
+) -> Result<(), PrintFault>
+    requires { IsReportable plan.now full.now }
+    ensures printed { OnOk result (Appends (W.contents out.old) (W.contents out.new)
+        (report_text plan.now (report_in full.now))) }
+    ensures quiet { IfErr result (λ e. (e ≡ PrintFault.Writer)
+        ⊎ (W.contents out.new ≡ W.contents out.old)) }
+{
+    let text = report_bytes(alloc, plan, full)?;
+    match out.write_all(&text) {
+        Ok(()) => Ok(()),
+        Err(_) => Err(PrintFault::Writer),
     }
 }
 

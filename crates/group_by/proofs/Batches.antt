@@ -13,12 +13,13 @@ use Rattle.meaning.specs.Order.{Row, column}
 use Rattle.meaning.specs.Aggregate.{no_statistics, merge}
 use Rattle.meaning.specs.Group.{merge_groups}
 use Rattle.accumulators.specs.Columns.{ColumnSpec}
-use Rattle.accumulators.specs.Entries.{state_of, of_group}
-use Rattle.accumulators.proofs.Growing.{state_of-none}
+use Rattle.aggregate_states.specs.Entries.{state_of, of_group}
+use Rattle.aggregate_states.proofs.Growing.{state_of-none}
 use Rattle.group_by.specs.Combined.{zipped}
 use Rattle.group_by.specs.Shape.{Shape, shape_with}
 use Rattle.group_by.specs.Groups.{group_of_rows, groups_of_rows, together}
-use Rattle.group_by.specs.GroupIndexes.{no_column, state_in, group_at, by_group_index, times, AreUpdated, AreCounted, AreFound}
+use Rattle.group_index.specs.Found.{AreFound}
+use Rattle.group_by.specs.GroupIndexes.{no_column, state_in, group_at, by_group_index, times, AreUpdated, AreCounted}
 use Rattle.group_by.proofs.Growing.{Grows, grows_with}
 use Rattle.group_by.proofs.Together.{behind, none_more, singles, single, IsWide, states_from, states-length, zipped-length}
 use Rattle.group_by.proofs.Rows.{from_index, rows_indexed}

@@ -14,11 +14,11 @@ use Rattle.meaning.specs.Aggregate.{no_statistics, merge}
 use Rattle.meaning.specs.Group.{beside, merge_groups}
 use Rattle.meaning.proofs.Orders.{row_total}
 use Rattle.meaning.proofs.Tests.{both}
-use Rattle.accumulators.specs.State.{most_entries}
+use Rattle.aggregate_states.specs.State.{most_entries}
 use Rattle.group_by.specs.Combined.{zipped, put_before, combined, Rises, SameBeside, IsFit, AreFit, MergesWithFirst}
 use Rattle.group_by.specs.Groups.{all_rows, together}
 use Rattle.group_by.specs.Shape.{Shape}
-use Rattle.group_by.proofs.Finding.{one_row}
+use Rattle.group_index.proofs.Finding.{one_row}
 use Rattle.group_by.proofs.Growing.{Grows}
 use Rattle.group_by.proofs.Together.{before, behind, merge_two, has, zipped-length}
 

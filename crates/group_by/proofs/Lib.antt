@@ -4,12 +4,8 @@ pub mod Growing
 pub mod Together
 pub mod Rows
 pub mod Batches
-pub mod Finding
+pub mod Counting
 pub mod OneGroup
-pub mod CloseInts
-pub mod Texts
-pub mod Ends
-pub mod SelectedInts
 pub mod Updating
 pub mod Adding
 pub mod Merging

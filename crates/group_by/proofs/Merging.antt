@@ -13,8 +13,8 @@ use Rattle.meaning.specs.Order.{Row}
 use Rattle.meaning.specs.Aggregate.{no_statistics, kept_by, merge}
 use Rattle.meaning.specs.Group.{merge_groups}
 use Rattle.accumulators.specs.Columns.{ColumnSpec, merged_at, of_states}
-use Rattle.accumulators.specs.State.{most_entries}
-use Rattle.accumulators.proofs.Growing.{kept_count}
+use Rattle.aggregate_states.specs.State.{most_entries}
+use Rattle.aggregate_states.proofs.Growing.{kept_count}
 use Rattle.group_by.specs.Combined.{zipped}
 use Rattle.group_by.specs.Shape.{Shape, shape_with}
 use Rattle.group_by.specs.Groups.{all_rows, group_of_rows, together, with_groups}

@@ -6,7 +6,7 @@ use Rattle.std.proofs.lemmas.Bool.{cases_eq}
 use Rattle.meaning.specs.declared.answer.Group.{Group}
 use Rattle.meaning.specs.Order.{Row}
 use Rattle.meaning.specs.Group.{merge_groups}
-use Rattle.accumulators.specs.Entries.{of_group}
+use Rattle.aggregate_states.specs.Entries.{of_group}
 use Rattle.accumulators.proofs.AtGroups.{of_group-here, of_group-other, other, other_above}
 use Rattle.group_by.specs.Shape.{Shape}
 use Rattle.group_by.specs.Groups.{group_of_rows, together}

@@ -14,9 +14,9 @@ use Rattle.meaning.proofs.Orders.{row_total, row_exact}
 use Rattle.meaning.proofs.Sets.{same_ascending_set}
 use Rattle.meaning.proofs.Groups.{list_any-append}
 use Rattle.meaning.proofs.LiveTable.{zipped-assoc, zipped-comm}
-use Rattle.accumulators.specs.Entries.{state_of}
-use Rattle.accumulators.specs.StateLaws.{state_of-append}
-use Rattle.accumulators.proofs.Growing.{merge-no_entry}
+use Rattle.aggregate_states.specs.Entries.{state_of}
+use Rattle.aggregate_states.specs.StateLaws.{state_of-append}
+use Rattle.aggregate_states.proofs.Growing.{merge-no_entry}
 use Rattle.group_by.specs.Combined.{zipped}
 use Rattle.group_by.specs.Shape.{Shape}
 use Rattle.group_by.specs.Groups.{states_of, group_of_rows, groups_of_rows, as_one, together}

@@ -11,12 +11,12 @@ use Rattle.meaning.specs.Order.{Row, column}
 use Rattle.meaning.specs.Aggregate.{no_statistics, merge}
 use Rattle.vectors.specs.declared.vector.Vector.{Vector}
 use Rattle.accumulators.specs.Columns.{ColumnSpec, of_states}
-use Rattle.accumulators.specs.Entries.{state_of, of_group, with_entries}
-use Rattle.accumulators.specs.Values.{selected}
+use Rattle.aggregate_states.specs.Entries.{state_of, of_group, with_entries}
+use Rattle.aggregate_states.specs.Values.{selected}
 use Rattle.vectors.specs.Vector.{values_of}
-use Rattle.group_by.specs.Rows.{rows_at}
+use Rattle.group_index.specs.Rows.{rows_at}
 use Rattle.group_by.specs.GroupIndexes.{no_column, state_in, IsUpdated, AreUpdated}
-use Rattle.group_by.proofs.Finding.{lane_of}
+use Rattle.group_index.proofs.Finding.{lane_of}
 
 -- the entries of one aggregate
 pub column_of : (arguments : List Vector) (list : List ℕ) (c : ℕ) (d : Vector) → c < length arguments → map (λ (row : Row). column row c) (rows_at arguments list) ≡ selected (values_of (get_or arguments c d)) list

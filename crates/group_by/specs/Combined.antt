@@ -6,7 +6,7 @@ use Rattle.meaning.specs.declared.answer.Group.{Group}
 use Rattle.meaning.specs.Order.{Row, row_cmp}
 use Rattle.meaning.specs.Aggregate.{no_statistics, merge}
 use Rattle.meaning.specs.Group.{beside, merge_groups}
-use Rattle.accumulators.specs.State.{most_entries}
+use Rattle.aggregate_states.specs.State.{most_entries}
 use Rattle.accumulators.specs.Columns.{ColumnSpec}
 use Rattle.group_by.specs.Groups.{all_rows}
 use Rattle.group_by.specs.GroupIndexes.{by_group_index}

@@ -10,8 +10,9 @@ use Rattle.meaning.specs.declared.answer.Group.{Group}
 use Rattle.meaning.specs.Order.{Row, column}
 use Rattle.meaning.specs.Aggregate.{no_statistics, kept_by, merge}
 use Rattle.accumulators.specs.Columns.{ColumnSpec}
-use Rattle.accumulators.specs.Entries.{state_of, of_group}
-use Rattle.accumulators.specs.State.{most_entries}
+use Rattle.aggregate_states.specs.Entries.{state_of, of_group}
+use Rattle.aggregate_states.specs.State.{most_entries}
+use Rattle.group_index.specs.Found.{AreFound, IsFound}
 use Rattle.group_by.specs.Shape.{GroupsSpec, shape_with}
 use Rattle.group_by.specs.Groups.{together}
 
@@ -53,23 +54,6 @@ pub record IsWellFormed (is_certain : Bool) (keys : List Row) (rows : List ℕ) 
   pub few : taken ≤ most_entries
   pub within : (c group_index : ℕ) → (state_at columns c group_index).count ≤ get_or rows group_index 0
   pub kept : (c group_index : ℕ) → c < length columns → kept_by (get_or columns c no_column).kind (state_at columns c group_index) ≡ state_at columns c group_index
-
--- ---- what a search finds
-
--- a key's group index among others, to which it came where it had none
-pub record IsFound (key : Row) (old : List Row) (group_index : ℕ) (new : List Row) : Type 0 where
-  pub within : group_index < length new
-  pub is : get_or new group_index [] ≡ key
-  pub kept : (j : ℕ) → j < length old → (j < length new) × (get_or new j [] ≡ get_or old j [])
-  pub added : (j : ℕ) → length old ≤ j → j < length new → get_or new j [] ≡ key
-
--- a group index for each of some keys
-pub record AreFound (found : List Row) (old : List Row) (group_indexes : List ℕ) (new : List Row) : Type 0 where
-  pub long : length group_indexes ≡ length found
-  pub within : (k : ℕ) → k < length found → get_or group_indexes k 0 < length new
-  pub are : (k : ℕ) → k < length found → get_or new (get_or group_indexes k 0) [] ≡ get_or found k []
-  pub kept : (j : ℕ) → j < length old → (j < length new) × (get_or new j [] ≡ get_or old j [])
-  pub added : (j : ℕ) → length old ≤ j → j < length new → (k : ℕ) × (k < length found) × (get_or found k [] ≡ get_or new j [])
 
 -- ---- what rows do to counts and columns
 

@@ -7,7 +7,7 @@ use Rattle.meaning.specs.declared.answer.Statistics.{Statistics}
 use Rattle.meaning.specs.declared.answer.Group.{Group}
 use Rattle.meaning.specs.Order.{Row, column}
 use Rattle.meaning.specs.Group.{grouped, groups, group_of, merge_groups, merged_groups}
-use Rattle.accumulators.specs.Entries.{state_of}
+use Rattle.aggregate_states.specs.Entries.{state_of}
 use Rattle.group_by.specs.Shape.{Shape, GroupsSpec, shape_of}
 
 -- what each aggregate keeps of some argument rows, which have its entry in the column of its index

@@ -4,6 +4,4 @@ pub mod Groups
 pub mod Rows
 pub mod GroupIndexes
 pub mod Combined
-pub mod Keys
-pub mod RowGroups
 pub mod IntGroups

@@ -1,10 +1,11 @@
 -- What a table of groups knows of its plan.
-use Rattle.std.specs.Prelude.{ℕ, Bool, true, false, List, [], ◌∷◌, map}
+use Rattle.std.specs.Prelude.{ℕ, Bool, List, map}
 use Rattle.meaning.specs.declared.plan.AggregateKind.{AggregateKind}
 use Rattle.meaning.specs.declared.plan.Plan.{Plan}
 use Rattle.meaning.specs.declared.answer.Group.{Group}
 use Rattle.meaning.specs.Order.{Row}
 use Rattle.meaning.specs.Group.{certain_keys}
+use Rattle.group_index.specs.Keys.{empty_key}
 
 -- the keys that have a group in any case, and each aggregate's kind
 pub record Shape : Type 0 where
@@ -13,11 +14,6 @@ pub record Shape : Type 0 where
 
 abbrev pub shape_of : Plan → Shape
 shape_of plan = record { certain = certain_keys plan.plain plan.keys; kinds = map (λ a. a.kind) plan.aggs }
-
--- the empty key, if it has a group in any case
-abbrev pub empty_key : Bool → List Row
-empty_key true = [] ∷ []
-empty_key false = []
 
 abbrev pub shape_with : Bool → List AggregateKind → Shape
 shape_with is_certain kinds = record { certain = empty_key is_certain; kinds = kinds }

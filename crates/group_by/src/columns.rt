@@ -2,16 +2,16 @@
 ghost use Rattle.std.specs.Prelude.{◌≡◌, ℕ, ◌<◌, ◌≤◌, ◌+◌, length, map, zip, slice_index_or, true, All, IfOk, OnOk};
 ghost use Rattle.meaning.specs.Aggregate.{no_statistics};
 ghost use Rattle.accumulators.specs.Columns.{of_states};
-ghost use Rattle.accumulators.specs.Entries.{with_entries};
-ghost use Rattle.accumulators.specs.State.{most_entries};
-ghost use Rattle.accumulators.specs.Values.{is_spelled, selected};
+ghost use Rattle.aggregate_states.specs.Entries.{with_entries};
+ghost use Rattle.aggregate_states.specs.State.{most_entries};
+ghost use Rattle.aggregate_states.specs.Values.{is_spelled, selected};
 ghost use Rattle.vectors.specs.Vector.{values_of};
 ghost use Rattle.group_by.specs.GroupIndexes.{no_column, state_at, state_in, AreFresh, AreMerged, AreUpdated, IsMerged, IsUpdated};
-ghost use Rattle.group_by.specs.RowGroups.{listed};
-ghost use Rattle.group_by.specs.Rows.{rows_at, AreLanesOf};
+ghost use Rattle.group_index.specs.RowGroups.{listed};
+ghost use Rattle.group_index.specs.Rows.{rows_at, AreLanesOf};
 
-use crate::row_groups::RowGroups;
 use accumulators::{State, StateColumn};
+use group_index::RowGroups;
 use meaning::{Aggregate, AggregateKind};
 use std::alloc::{AllocError, Global};
 use vectors::{Selection, Vector};

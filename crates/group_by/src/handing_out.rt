@@ -3,15 +3,14 @@ ghost use Rattle.std.specs.Prelude.{◌≡◌, ℕ, ◌<◌, ◌≤◌, ◌+◌,
 ghost use Rattle.meaning.specs.Aggregate.{no_statistics};
 ghost use Rattle.meaning.specs.Group.{merge_groups};
 ghost use Rattle.meaning.specs.Order.{row_cmp};
-ghost use Rattle.accumulators.specs.State.{most_entries};
+ghost use Rattle.aggregate_states.specs.State.{most_entries};
 ghost use Rattle.group_by.specs.Combined.{combined, put_before, zipped, AreFit, AreMergeable, IsInOrder, MergesWithFirst, Rises, SameBeside};
-ghost use Rattle.group_by.specs.Keys.{alone};
+ghost use Rattle.group_index.specs.Keys.{alone};
 ghost use Rattle.group_by.specs.GroupIndexes.{by_group_index, group_at, state_at, state_in};
 
 use crate::int_groups::{are_apart, indexed_groups, int_groups, sort_ints};
-use crate::key_list::KeyList;
-use crate::keys::{are_equal, compare_keys, copy_key};
 use accumulators::{Group, State, StateColumn};
+use group_index::{KeyList, are_equal, compare_keys, copy_key};
 use meaning::{Row, Sequence, Value};
 use std::alloc::{AllocError, Global};
 use std::cmp::Ordering;

@@ -8,11 +8,11 @@ ghost use Rattle.meaning.specs.Order.{row_cmp};
 ghost use Rattle.accumulators.specs.Columns.{ColumnSpec};
 ghost use Rattle.group_by.specs.Combined.{SameBeside};
 ghost use Rattle.group_by.specs.IntGroups.{key_in, indexed_group, AreApart, AreIndexed};
-ghost use Rattle.group_by.specs.Keys.{alone};
+ghost use Rattle.group_index.specs.Keys.{alone};
 
 use crate::handing_out::group_of;
-use crate::keys::key_of_value;
 use accumulators::{Group, StateColumn};
+use group_index::key_of_value;
 use meaning::Value;
 use std::alloc::{AllocError, Global};
 use std::cmp::Ordering;

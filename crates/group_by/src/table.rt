@@ -2,17 +2,19 @@
 ghost use Rattle.std.specs.Prelude.{◌≡◌, ℕ, ◌<◌, ◌≤◌, ◌+◌, [], ◌∷◌, length, map, slice_index_or, sum, replicate, All, IfOk, OnOk};
 ghost use Rattle.meaning.specs.Aggregate.{no_statistics};
 ghost use Rattle.meaning.specs.Group.{certain_keys};
-ghost use Rattle.accumulators.specs.State.{most_entries};
-ghost use Rattle.group_by.specs.Shape.{empty_key, shape_of};
+ghost use Rattle.aggregate_states.specs.State.{most_entries};
+ghost use Rattle.group_index.specs.Keys.{empty_key};
+ghost use Rattle.group_by.specs.Shape.{shape_of};
 ghost use Rattle.group_by.specs.Groups.{all_rows, fresh, with_rows, with_groups};
 ghost use Rattle.group_by.specs.GroupIndexes.{no_column, state_at, AreAdded, AreFresh, IsAbsorbed};
-ghost use Rattle.group_by.specs.Rows.{kept_rows, rows_at, AreLanesOf, IsGroupOf};
+ghost use Rattle.group_index.specs.Rows.{rows_at, AreLanesOf};
+ghost use Rattle.group_by.specs.Rows.{kept_rows, IsGroupOf};
 
 use crate::columns::{copy_columns, fresh_columns, merge_all, update_all};
 use crate::counts::{count_rows, raise};
 use crate::handing_out::in_order;
-use crate::index::KeyIndex;
 use accumulators::{Group, StateColumn};
+use group_index::KeyIndex;
 use meaning::{Aggregate, Plan, Sequence};
 use std::alloc::{AllocError, Global};
 use std::marker::Model;

@@ -1,8 +1,8 @@
 //! Vectors of a few lanes.
 ghost use Rattle.std.specs.Prelude.{◌≡◌, length, true, All, IfOk};
-ghost use Rattle.accumulators.specs.Values.{is_spelled};
+ghost use Rattle.aggregate_states.specs.Values.{is_spelled};
 ghost use Rattle.vectors.specs.Vector.{values_of};
-ghost use Rattle.group_by.specs.Rows.{AreLanesOf};
+ghost use Rattle.group_index.specs.Rows.{AreLanesOf};
 
 use std::alloc::{AllocError, Global};
 use vectors::{IntCells, Ints, Nulls, TextCells, Texts, Vector};

@@ -1,7 +1,7 @@
 //! What tables hand out, by the order of their keys.
 ghost use Rattle.std.specs.Prelude.{◌≡◌, ◌≤◌, ◌+◌, ◌∷◌, [], length, map, IfOk};
 ghost use Rattle.meaning.specs.declared.plan.AggregateKind.TheVariants.{Sum};
-ghost use Rattle.group_by.specs.Rows.{AreLanesOf};
+ghost use Rattle.group_index.specs.Rows.{AreLanesOf};
 ghost use Rattle.group_by.specs.Shape.{shape_of};
 ghost use Rattle.group_tests.specs.Tables.{HasTaken};
 
@@ -59,6 +59,12 @@ const CASES: &[Case] = &[
     (&[&[]], &[], ""),
     // One key of each row, and NULL as one key.
     (&[&[8, 8, 8]], &[1, 2, 3], "8 3 3 6; "),
+    // The keys a, b, NULL and a.
+    (
+        &[&[1, 2, NULL, 1]],
+        &[1, 2, 4, 8],
+        "NULL 1 1 4; 1 2 2 9; 2 1 1 2; ",
+    ),
     (
         &[&[7, -3, NULL, 7, NULL]],
         &[1, 2, NULL, 4, 5],

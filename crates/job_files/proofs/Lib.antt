@@ -7,5 +7,6 @@ pub mod GivenInput
 pub mod KeyedRows
 pub mod OpenedDimensions
 pub mod PlanDimensions
+pub mod RowFiles
 pub mod ThinnedRows
 pub mod UsedColumns

@@ -2,6 +2,7 @@
 pub mod Fault
 pub mod Files
 pub mod Inputs
+pub mod RowFiles
 pub mod Dimensions
 pub mod TextTest
 pub mod Tables

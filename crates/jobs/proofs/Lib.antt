@@ -1,6 +1,7 @@
 -- The lemmas of this crate.
 mod Together
 mod SameFiles
-mod OwnFiles
+pub mod OwnAnswers
+pub mod OwnFiles
 mod TakenFiles
 mod Refusals

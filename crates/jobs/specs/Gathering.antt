@@ -102,6 +102,10 @@ abbrev pub IsSaved : Option (List ℕ) → List ℕ → Option (List Change) →
 IsSaved None spelled before after = after ≡ before
 IsSaved (Some path) spelled before after = WritesOne path (λ bytes. bytes ≡ spelled) before after
 
+-- no file was written, or the state was saved
+abbrev pub IsSaveLeft : Option (List ℕ) → List ℕ → Option (List Change) → Option (List Change) → Type 0
+IsSaveLeft save spelled before after = (after ≡ before) ⊎ IsSaved save spelled before after
+
 -- the state was saved, and its report printed and returned
 pub record IsReported (g : GatherSpec) (save : Option (List ℕ)) (before after : Option (List ℕ)) (wrote_before wrote_after : Option (List Change)) (given : Report) : Type 0 where
   pub saved : IsSaved save (state_bytes g.job g.cells) wrote_before wrote_after
@@ -113,6 +117,11 @@ pub record IsGathered (holds : Holds) (command : GatherCommand) (before after er
   pub gather : GatherSpec
   pub files : IsGatheredOf holds command err_before err_after gather
   pub reported : IsReported gather command.save before after wrote_before wrote_after given
+
+-- no file was written, or the state that the files say together was saved
+abbrev pub IsGatherLeft : Holds → GatherCommand → Option (List ℕ) → Option (List Change) → Option (List Change) → Type 0
+IsGatherLeft holds command err before after = (after ≡ before)
+    ⊎ ((gather : GatherSpec) × (named : Option (List ℕ)) × IsGatheredOf holds command err named gather × IsSaved command.save (state_bytes gather.job gather.cells) before after)
 
 -- ---- refused
 

@@ -10,7 +10,7 @@ use Rattle.sql_reader.specs.Grammar.{IsRefusal}
 use Rattle.sql_reader.specs.declared.fault.SqlFault.{SqlFault}
 use Rattle.sql_reader.specs.declared.fault.SqlFault.TheVariants as sql
 use Rattle.planner_expressions.specs.declared.fault.PlanFault.{PlanFault}
-use Rattle.partial_codec.specs.Job.{JobSpec}
+use Rattle.partial_codec.specs.Job.{IsJob, JobSpec}
 use Rattle.planner.specs.QueryText.{IsPlanned}
 use Rattle.folders.specs.Folder.{AreHeld, Holds, catalog_path, cut_path}
 use Rattle.folders.specs.Refused.{IsUnread}
@@ -31,10 +31,11 @@ pub record IsCutThere (holds : Holds) (folder : List ℕ) (load : ℕ) (cut : Cu
   pub held : AreHeld (holds (cut_path folder)) bytes
   pub spelled : IsCutFileOf bytes (record { load = load; cut = cut })
 
--- the load and the cut that lie there, and the query's plan over declared tables
+-- the load and the cut that lie there, and the query's plan over declared tables; they are within the limits on a job
 pub record IsJobOver (holds : Holds) (folder : List ℕ) (catalog : Catalog) (query : List ℕ) (job : JobSpec) : Type 0 where
   pub loaded : IsCutThere holds folder job.load job.cut
   pub planned : IsPlanned catalog query (Ok job.plan)
+  pub within : IsJob job
 
 -- the same, over the tables that the folder's catalogue declares
 pub record IsJobOf (holds : Holds) (folder query : List ℕ) (job : JobSpec) : Type 0 where

@@ -1,10 +1,13 @@
 -- What is written for one fragment, and why nothing is.
-use Rattle.std.specs.Prelude.{◌≡◌, ◌⊎◌, ℕ, List, Option, Ok, Err, Contains}
+use Rattle.std.specs.Prelude.{◌≡◌, ◌⊎◌, ℕ, List, Option, Some, Ok, Err, Contains}
+use Rattle.meaning.specs.Answer.{own}
+use Rattle.meaning.specs.Order.{Row}
 use Rattle.meaning.specs.Said.{Answer}
 use Rattle.meaning.specs.declared.plan.Join.{Join}
 use Rattle.partial_codec.specs.Answer.{Spells}
 use Rattle.partial_codec.specs.Job.{JobSpec}
 use Rattle.worker.specs.Work.{answered}
+use Rattle.job_files.specs.RowFiles.{IsFileOfRows, rows_of_fragment}
 use Rattle.job_files.specs.declared.fault.WorkFault.{WorkFault}
 use Rattle.folders.specs.Each.{AreEach}
 use Rattle.folders.specs.Folder.{AreHeld, Change, Holds, WritesOne, dimension_path, fragment_path}
@@ -42,6 +45,26 @@ pub record IsSpelled (holds : Holds) (command : WorkCommand) (bytes : List ℕ) 
   pub job : JobSpec
   pub is_job : IsJobOf holds command.folder command.query job
   pub answer : IsAnswer holds command job bytes
+
+-- the bytes that are held are known, and they are a file of just these rows
+pub record HoldsRows (held : Option (List ℕ)) (rows : List Row) : Type 0 where
+  pub bytes : List ℕ
+  pub known : held ≡ Some bytes
+  pub is_file : IsFileOfRows rows bytes
+
+abbrev pub HoldsDimension : Holds → List ℕ → Join → List Row → Type 0
+HoldsDimension holds folder join rows = HoldsRows (holds (dimension_path folder join.dim.name)) rows
+
+-- the folder holds a file of the fragment of a table of these rows, and one of each joined dimension
+pub record HoldsFragment (holds : Holds) (folder : List ℕ) (job : JobSpec) (k : ℕ) (rows : List Row) (tables : List (List Row)) : Type 0 where
+  pub fragment : HoldsRows (holds (fragment_path folder job.plan.fact.name k)) (rows_of_fragment job.cut k rows)
+  pub dims : AreEach (HoldsDimension holds folder) job.plan.joins tables
+
+-- the spelling, for the query's job, of the fragment's own answer over these tables, where the folder holds their files
+pub record IsOwnSpelled (holds : Holds) (command : WorkCommand) (rows : List Row) (tables : List (List Row)) (bytes : List ℕ) : Type 0 where
+  pub job : JobSpec
+  pub is_job : IsJobOf holds command.folder command.query job
+  pub is_own : HoldsFragment holds command.folder job command.fragment rows tables → Spells job bytes (own job.plan tables job.cut rows command.fragment)
 
 -- just that spelling was written, under the path that was asked for
 abbrev pub IsWorked : Holds → WorkCommand → Option (List Change) → Option (List Change) → Type 0

@@ -1,6 +1,6 @@
 //! What answers and states say together, from their files to the report.
-ghost use Rattle.std.specs.Prelude.{◌≡◌, ◌⊎◌, IfErr, IfOk};
-ghost use Rattle.jobs.specs.Gathering.{IsGathered, IsGatheredOf, IsGatherRefused, IsReportRefused, IsTogetherRefused, IsUnprinted};
+ghost use Rattle.std.specs.Prelude.{◌≡◌, ◌⊎◌, IfErr, IfOk, OnErr};
+ghost use Rattle.jobs.specs.Gathering.{IsGatherLeft, IsGathered, IsGatheredOf, IsGatherRefused, IsTogetherRefused};
 
 use crate::job::read_job;
 use crate::saving::save_and_report;
@@ -60,11 +60,13 @@ pub fn gather_answers<F: Folder, O: Write, E: Write>(
         (IsGathered (F.holds folder.old) command.now (O.contents out.old) (O.contents out.new)
         (E.contents err.old) (E.contents err.new) (F.wrote folder.old) (F.wrote folder.new)) }
     ensures refused { IfErr result (IsGatherRefused (F.holds folder.old) command.now) }
-    // Nothing is printed before the state is saved.
-    ensures quiet { IfErr result (λ e. IsUnprinted e ⊎ (O.contents out.new ≡ O.contents out.old)) }
-    // No file was written before all are taken.
-    ensures left { IfErr result (λ e. IsReportRefused command.now.save e
-        ⊎ (F.wrote folder.new ≡ F.wrote folder.old)) }
+    // Nothing is printed before the state is saved, and then only the output can fail.
+    ensures quiet { IfErr result (λ e. (e ≡ Refusal.CannotPrint)
+        ⊎ (O.contents out.new ≡ O.contents out.old)) }
+    // No file was written, or the state that all files make, before its report failed.
+    ensures left { OnErr result
+        (IsGatherLeft (F.holds folder.old) command.now (E.contents err.old) (F.wrote folder.old)
+        (F.wrote folder.new)) }
 {
     let gather = gather_files(alloc, folder, command, err)?;
     let report = save_and_report(alloc, folder, &gather, &command.save, out);

@@ -65,7 +65,12 @@ fn job_over<F: Folder>(
 {
     let (load, cut) = read_load(alloc, folder, directory)?;
     match plan_of(alloc, catalog, query) {
-        Ok(plan) => Ok(Job::new(load, plan, cut)),
+        Ok(plan) => {
+            let job = Job::new(load, plan, cut);
+            // No effect at run time. The proof reads from this call the limits on a job.
+            let _plan = job.plan();
+            Ok(job)
+        }
         Err(refusal) => {
             drop(cut);
             Err(refusal)

@@ -1,5 +1,5 @@
 //! A coordinator's state, saved and reported.
-ghost use Rattle.std.specs.Prelude.{◌≡◌, ◌⊎◌, IfErr, IfOk, OnOk};
+ghost use Rattle.std.specs.Prelude.{◌≡◌, ◌⊎◌, IfErr, IfOk, OnErr, OnOk};
 ghost use Rattle.std.specs.Io.KnownBytes.{Appends};
 ghost use Rattle.meaning.specs.Gather.{report};
 ghost use Rattle.meaning.specs.Print.{report_text};
@@ -7,7 +7,7 @@ ghost use Rattle.partial_codec.specs.State.{state_bytes};
 ghost use Rattle.gathering.specs.Report.{summary};
 ghost use Rattle.folders.specs.Folder.{WritesOne};
 ghost use Rattle.folders.specs.Refused.{IsUnwritten};
-ghost use Rattle.jobs.specs.Gathering.{IsReported, IsReportRefused, IsSaved, IsSaveRefused, IsUnprinted};
+ghost use Rattle.jobs.specs.Gathering.{IsReported, IsReportRefused, IsSaved, IsSaveLeft, IsSaveRefused, IsUnprinted};
 
 use folders::{Folder, Refusal, write_file};
 use gathering::{Gather, GatherFault, Report};
@@ -25,6 +25,7 @@ fn write_state<F: Folder>(
         (WritesOne path.now (λ bytes. bytes ≡ state_bytes gather.now.job gather.now.cells)
         (F.wrote folder.old) (F.wrote folder.new)) }
     ensures refused { IfErr result (IsUnwritten path.now) }
+    ensures left { OnErr result (F.wrote folder.new ≡ F.wrote folder.old) }
 {
     match gather.state_bytes(alloc) {
         Ok(bytes) => write_file(folder, path, bytes.as_slice()),
@@ -43,6 +44,7 @@ fn save_state<F: Folder>(
         (IsSaved save.now (state_bytes gather.now.job gather.now.cells) (F.wrote folder.old)
         (F.wrote folder.new)) }
     ensures refused { IfErr result (IsSaveRefused save.now) }
+    ensures left { OnErr result (F.wrote folder.new ≡ F.wrote folder.old) }
 {
     match save {
         Some(path) => write_state(alloc, folder, gather, path),
@@ -55,6 +57,8 @@ fn print_report<O: Write>(alloc: Global, gather: &Gather, out: &mut O) -> Result
         (report_text gather.now.job.plan (report gather.now.job.plan gather.now.cells))) }
     ensures returned { IfOk result (λ r. r ≡ summary (report gather.now.job.plan gather.now.cells)) }
     ensures refused { IfErr result IsUnprinted }
+    ensures quiet { IfErr result (λ e. (e ≡ Refusal.CannotPrint)
+        ⊎ (O.contents out.new ≡ O.contents out.old)) }
 {
     match gather.print_report(alloc, out) {
         Ok(report) => Ok(report),
@@ -76,8 +80,12 @@ pub fn save_and_report<F: Folder, O: Write>(
         (IsReported gather.now save.now (O.contents out.old) (O.contents out.new)
         (F.wrote folder.old) (F.wrote folder.new)) }
     ensures refused { IfErr result (IsReportRefused save.now) }
-    // Nothing is printed before the state is saved.
-    ensures quiet { IfErr result (λ e. IsUnprinted e ⊎ (O.contents out.new ≡ O.contents out.old)) }
+    // Nothing is printed before the state is saved, and then only the output can fail.
+    ensures quiet { IfErr result (λ e. (e ≡ Refusal.CannotPrint)
+        ⊎ (O.contents out.new ≡ O.contents out.old)) }
+    ensures left { OnErr result
+        (IsSaveLeft save.now (state_bytes gather.now.job gather.now.cells) (F.wrote folder.old)
+        (F.wrote folder.new)) }
 {
     save_state(alloc, folder, gather, save)?;
     print_report(alloc, gather, out)

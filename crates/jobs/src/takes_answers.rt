@@ -69,8 +69,8 @@ impl TakesAnswers for Gather {
         match take_bytes(alloc, self, bytes) {
             Ok(()) => Ok(()),
             Err(GatherFault::Decode(fault)) => Err(TakeFault::Refused(fault)),
-            // Nothing else but want of memory keeps an answer or a state from being taken.
-            Err(_) => Err(TakeFault::Memory),
+            Err(GatherFault::Memory) => Err(TakeFault::Memory),
+            Err(GatherFault::OtherJob | GatherFault::Writer) => unreachable!(),
         }
     }
 }

@@ -1,13 +1,14 @@
 //! A fragment's answer, from the folder's files to the answer's.
-ghost use Rattle.std.specs.Prelude.{◌≡◌, ◌⊎◌, IfErr, IfOk, OnOk, Ok};
+ghost use Rattle.std.specs.Prelude.{◌≡◌, List, IfErr, IfOk, OnErr, OnOk, Ok};
+ghost use Rattle.meaning.specs.Order.{Row};
 ghost use Rattle.meaning.specs.SoundPlan.{IsSoundPlan};
 ghost use Rattle.meaning.specs.Said.{Answer as AnAnswer};
-ghost use Rattle.folders.specs.Folder.{AreHeld, dimension_path, fragment_path};
+ghost use Rattle.folders.specs.Folder.{AreHeld, WritesOne, dimension_path, fragment_path};
 ghost use Rattle.folders.specs.Each.{AreEach};
-ghost use Rattle.folders.specs.Refused.{IsUnread, IsUnwritten};
+ghost use Rattle.folders.specs.Refused.{IsUnread};
 ghost use Rattle.partial_codec.specs.Answer.{Spells};
 ghost use Rattle.worker.specs.Work.{answered};
-ghost use Rattle.jobs.specs.Working.{AreDimensionsUnread, IsAnswer, IsAnswerRefused, IsDimensionOf, IsFileAnswer, IsFileRefused, IsSpelled, IsSpelledRefused, IsWorkRefused, IsWorked};
+ghost use Rattle.jobs.specs.Working.{AreDimensionsUnread, IsAnswer, IsAnswerRefused, IsDimensionOf, IsFileAnswer, IsFileRefused, IsOwnSpelled, IsSpelled, IsSpelledRefused, IsWorkRefused, IsWorked};
 
 use crate::job::read_job;
 use command_line::WorkCommand;
@@ -141,7 +142,7 @@ fn spelled_answer<F: Folder>(
 /// Out of memory, or the first of these: what keeps the folder and the query from a job (the
 /// catalogue, the file of the cut, the query's text, its plan), a file that cannot be read (the
 /// fragment's, then the dimensions'), what the worker refuses, and last that the answer cannot be
-/// written.
+/// written. No file was written then.
 pub fn answer_fragment<F: Folder>(
     alloc: Global,
     folder: &mut F,
@@ -149,10 +150,13 @@ pub fn answer_fragment<F: Folder>(
 ) -> Result<(), Refusal>
     ensures worked { OnOk result
         (IsWorked (F.holds folder.old) command.now (F.wrote folder.old) (F.wrote folder.new)) }
+    // Where the folder holds the files of tables, it is the fragment's own answer over them.
+    ensures own { OnOk result ((rows : List Row) (tables : List (List Row))
+        → WritesOne command.now.out
+        (IsOwnSpelled (F.holds folder.old) command.now rows tables) (F.wrote folder.old)
+        (F.wrote folder.new)) }
     ensures refused { IfErr result (IsWorkRefused (F.holds folder.old) command.now) }
-    // No file was written, unless writing it failed.
-    ensures left { IfErr result (λ e. IsUnwritten command.now.out e
-        ⊎ (F.wrote folder.new ≡ F.wrote folder.old)) }
+    ensures left { OnErr result (F.wrote folder.new ≡ F.wrote folder.old) }
 {
     let bytes = spelled_answer(alloc, folder, command)?;
     write_file(folder, &command.out, bytes.as_slice())

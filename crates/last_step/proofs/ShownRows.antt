@@ -20,8 +20,8 @@ use Rattle.meaning.specs.Results.{all_ok, and_then, with_result}
 use Rattle.meaning.specs.Typing.{RowTypes, Valued, fits_row_types, gives_expr_type, group_types, has_type}
 use Rattle.meaning.proofs.Typed.{typed}
 use Rattle.meaning.proofs.Tests.{or_second}
-use Rattle.accumulators.specs.Values.{is_spelled}
-use Rattle.accumulators.proofs.Spelled.{spelled_of_type}
+use Rattle.aggregate_states.specs.Values.{is_spelled}
+use Rattle.aggregate_states.proofs.Spelled.{spelled_of_type}
 use Rattle.vectors.specs.Selection.{IsSelection, Positions, is_among}
 use Rattle.vectors.specs.Vector.{BatchSpec, values_of}
 use Rattle.vectors.specs.declared.vector.Vector.{Vector}

@@ -20,7 +20,7 @@ use Rattle.meaning.specs.Operators.{code_of, fits_i64}
 use Rattle.meaning.specs.Order.{Row, column}
 use Rattle.meaning.specs.Results.{all_ok, and_then}
 use Rattle.meaning.specs.Typing.{Valued, Boolean, group_types}
-use Rattle.accumulators.specs.Values.{is_spelled}
+use Rattle.aggregate_states.specs.Values.{is_spelled}
 use Rattle.vectors.specs.Selection.{is_among}
 use Rattle.vectors.specs.Vector.{BatchSpec, IsColumnOf, outcomes_of, values_of}
 use Rattle.vectors.specs.declared.batch.BatchColumn.{BatchColumn}

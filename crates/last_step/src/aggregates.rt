@@ -8,7 +8,7 @@ ghost use Rattle.meaning.specs.Wanting.{ReportsIfMemory};
 ghost use Rattle.last_step.specs.Given.{fault_returned};
 
 use crate::stop::Stop;
-use accumulators::{AggFault, Group, State};
+use aggregate_states::{AggFault, Group, State};
 use meaning::{Aggregate, AggregateKind, Plan, Value, ValueRef};
 use std::alloc::{AllocError, Global};
 

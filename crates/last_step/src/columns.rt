@@ -13,7 +13,7 @@ ghost use Rattle.last_step.specs.Fitting.{AreGroupsOf};
 use crate::aggregates::value_of;
 use crate::ordering::value_at;
 use crate::stop::Stop;
-use accumulators::{Group, State};
+use aggregate_states::{Group, State};
 use meaning::{Aggregate, AggregateKind, ColType, Plan, ValueRef};
 use std::alloc::{AllocError, Global};
 use vectors::{

@@ -15,7 +15,7 @@ use crate::ordering::sort;
 use crate::run::Run;
 use crate::runs::runs_of;
 use crate::stop::Stop;
-use accumulators::Group;
+use aggregate_states::Group;
 use meaning::{Plan, Row, Sequence};
 use std::alloc::{AllocError, Global};
 use std::mem::drop;

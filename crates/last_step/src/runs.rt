@@ -9,7 +9,7 @@ ghost use Rattle.last_step.specs.Runs.{expanded, rows_after, rows_behind_groups}
 use crate::run::Run;
 use crate::showing::{push_grouped, push_plain};
 use crate::stop::Stop;
-use accumulators::Group;
+use aggregate_states::Group;
 use meaning::Plan;
 use std::alloc::Global;
 

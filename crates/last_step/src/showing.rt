@@ -3,7 +3,7 @@ ghost use Rattle.std.specs.Prelude.{◌≡◌, ◌++◌, ◌<◌, ◌≤◌, ◌
 ghost use Rattle.meaning.specs.declared.joined_row.JoinedRow.{JoinedRow};
 ghost use Rattle.meaning.specs.declared.value.Value.TheVariants.{Null};
 ghost use Rattle.meaning.specs.Order.{Row as ARow};
-ghost use Rattle.accumulators.specs.Values.{is_spelled};
+ghost use Rattle.aggregate_states.specs.Values.{is_spelled};
 ghost use Rattle.vectors.specs.Vector.{values_of};
 ghost use Rattle.last_step.specs.Batches.{AreReadable, HasValues, IsBatchOf, ended, lane_row, shown_after};
 ghost use Rattle.last_step.specs.Fitting.{AreGroupsOf};
@@ -16,7 +16,7 @@ use crate::columns::batch_of;
 use crate::run::Run;
 use crate::shown::evaluate;
 use crate::stop::Stop;
-use accumulators::{Group, owned, position, value_at};
+use aggregate_states::{Group, owned, position, value_at};
 use meaning::{Plan, Row, Sequence, Value};
 use std::alloc::{AllocError, Global};
 use std::mem::drop;

@@ -22,7 +22,8 @@ use Rattle.meaning_laws.proofs.LoadedRows.{taken, front_ok}
 use Rattle.meaning.proofs.Tests.{both}
 use Rattle.columns.specs.Column.{ColumnSpec, refusal}
 use Rattle.columns.specs.declared.fault.ColumnFault.TheVariants as fault
-use Rattle.loader.specs.Columns.{AreDeclared, Kind, kind_of, declared_kind, column_of, columns_of, row_counts, take_row, takes, with_row}
+use Rattle.columns.specs.Rows.{column_of, columns_of}
+use Rattle.loader.specs.Columns.{AreDeclared, Kind, kind_of, declared_kind, row_counts, take_row, takes, with_row}
 use Rattle.loader.specs.Steps.{IsOrderOf, TakesRow, inverse_order, has_each}
 use Rattle.loader.specs.declared.fault.LoadFault.{LoadFault}
 use Rattle.loader.proofs.Fragments.{long_row, inverse_length}

@@ -15,7 +15,8 @@ use Rattle.meaning.specs.Results.{all_ok, and_then}
 use Rattle.columns.specs.Column.{ColumnSpec}
 use Rattle.loader.specs.declared.fault.LoadFault.{LoadFault}
 use Rattle.loader.specs.declared.fault.LoadFault.TheVariants.{Memory, Table, Device}
-use Rattle.loader.specs.Columns.{columns_of, dimension_columns}
+use Rattle.columns.specs.Rows.{columns_of}
+use Rattle.loader.specs.Columns.{dimension_columns}
 use Rattle.meaning.specs.Wanting.{ReportsIfMemory}
 use Rattle.loader.specs.Fault.{fault_returned}
 use Rattle.loader.specs.Steps.{order_of, keyed_rows, TakesTable}

@@ -13,7 +13,8 @@ use Rattle.meaning.specs.Order.{Row, column}
 use Rattle.meaning.specs.Records.{Record, row_of, catalog_row, file_values}
 use Rattle.meaning.specs.Results.{and_then}
 use Rattle.columns.specs.Column.{ColumnSpec, with_value}
-use Rattle.loader.specs.Columns.{column_of, columns_of, with_row}
+use Rattle.columns.specs.Rows.{column_of, columns_of}
+use Rattle.loader.specs.Columns.{with_row}
 use Rattle.loader.specs.Steps.{numbered_row, rows_of, with_rows, enough_rows, inverse_order}
 use Rattle.loader.proofs.RowRuns.{ok_parts}
 

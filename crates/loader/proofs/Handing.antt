@@ -10,7 +10,7 @@ use Rattle.meaning.specs.Records.{Record}
 use Rattle.meaning.specs.Results.{and_then}
 use Rattle.meaning_laws.proofs.Cuts.{sum_cons}
 use Rattle.columns.specs.Column.{ColumnSpec}
-use Rattle.loader.specs.Columns.{columns_of}
+use Rattle.columns.specs.Rows.{columns_of}
 use Rattle.loader.specs.Fault.{fault_returned}
 use Rattle.loader.specs.Handing.{HandsOn, IsToCome, declared_in, in_front, lengths_ahead}
 use Rattle.loader.specs.Source.{IsLeft}

@@ -3,7 +3,8 @@ use Rattle.std.proofs.Common.{◌≡◌, ℕ, ◌+◌, List, [], ◌∷◌, map,
 use Rattle.std.specs.List.{enumerate_from}
 use Rattle.meaning.specs.declared.catalog.Column.{Column}
 use Rattle.columns.specs.Column.{ColumnSpec}
-use Rattle.loader.specs.Columns.{column_of, columns_of, no_rows}
+use Rattle.columns.specs.Rows.{column_of, columns_of}
+use Rattle.loader.specs.Columns.{no_rows}
 
 -- columns of no rows
 numbered_new : (n : ℕ) (declared : List Column) → map no_rows declared ≡ map (column_of []) (enumerate_from n declared)

@@ -13,7 +13,8 @@ use Rattle.meaning.specs.Records.{Record, row_of, judged_record, unless_few, unl
 use Rattle.meaning.specs.Results.{and_then, with_result}
 use Rattle.meaning_laws.proofs.Cuts.{sum_cons}
 use Rattle.columns.specs.Column.{ColumnSpec}
-use Rattle.loader.specs.Columns.{columns_of, fragments_of}
+use Rattle.columns.specs.Rows.{columns_of}
+use Rattle.loader.specs.Columns.{fragments_of}
 use Rattle.loader.specs.Steps.{rows_of, fragments_at, unless_more}
 use Rattle.loader.proofs.RowRuns.{ok_parts, behind, all_from, parts_from}
 

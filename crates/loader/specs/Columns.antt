@@ -1,6 +1,5 @@
--- The columns that rows are kept in.
+-- The columns of fragments and of dimensions, and what a column takes.
 use Rattle.std.specs.Prelude.{◌≡◌, ◌<◌, ℕ, Bool, Some, length, List, [], ◌∷◌, map, zip, take, drop, Option, is_none, find, Result, Ok}
-use Rattle.std.specs.List.{enumerate_from}
 use Rattle.std.specs.Str.{bytes_eq}
 use Rattle.std.specs.Cmp.Lexicographic.{pointwise}
 use Rattle.meaning.specs.declared.value.ColType.{ColType}
@@ -9,15 +8,12 @@ use Rattle.meaning.specs.declared.catalog.Column.{Column}
 use Rattle.meaning.specs.declared.catalog.Catalog.{Catalog}
 use Rattle.meaning.specs.declared.catalog.Dimension.{Dimension}
 use Rattle.meaning.specs.declared.table.TableFault.{TableFault}
-use Rattle.meaning.specs.Order.{Row, column}
+use Rattle.meaning.specs.Order.{Row}
 use Rattle.meaning.specs.Records.{Record, fact_of, dimension_of}
 use Rattle.meaning.specs.Results.{and_then}
 use Rattle.meaning.specs.Cut.{Cut}
 use Rattle.columns.specs.Column.{ColumnSpec, with_value, refusal}
-
--- a declared column with its values from row to row
-abbrev pub column_of : List Row → ℕ × Column → ColumnSpec
-column_of rows p = record { col_type = p.1.col_type; nullable = p.1.nullable; values = map (λ row. column row p.0) rows }
+use Rattle.columns.specs.Rows.{columns_of}
 
 -- a column's type, and whether NULL may stand in it
 abbrev pub Kind : Type 0
@@ -51,10 +47,6 @@ take_row columns row = pointwise takes columns row
 -- a declared column without rows
 abbrev pub no_rows : Column → ColumnSpec
 no_rows c = record { col_type = c.col_type; nullable = c.nullable; values = [] }
-
--- the declared columns with the values of rows
-abbrev pub columns_of : List Column → List Row → List ColumnSpec
-columns_of declared rows = map (column_of rows) (enumerate_from 0 declared)
 
 -- each fragment's columns, where the rows are cut
 abbrev pub fragments_of : List Column → Cut → List Row → List (List ColumnSpec)

@@ -15,7 +15,8 @@ use Rattle.columns.specs.Column.{ColumnSpec, with_value}
 use Rattle.loader.specs.Source.{IsLeft}
 use Rattle.loader.specs.declared.fault.LoadFault.{LoadFault}
 use Rattle.loader.specs.declared.fault.LoadFault.TheVariants.{Memory, Table, Device}
-use Rattle.loader.specs.Columns.{columns_of, with_row}
+use Rattle.columns.specs.Rows.{columns_of}
+use Rattle.loader.specs.Columns.{with_row}
 use Rattle.loader.specs.declared.field.Parsed.{Parsed}
 use Rattle.loader.specs.declared.field.Parsed.TheVariants as parsed
 

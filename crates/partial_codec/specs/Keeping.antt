@@ -11,8 +11,8 @@ use Rattle.meaning.specs.declared.answer.Cell.TheVariants.{Nothing, One, Conflic
 use Rattle.meaning.specs.declared.plan.Aggregate.{Aggregate}
 use Rattle.meaning.specs.declared.plan.Plan.{Plan}
 use Rattle.meaning.specs.Fitting.{is_extreme, is_key_of, is_sum_of}
-use Rattle.accumulators.specs.State.{most_entries}
-use Rattle.accumulators.specs.State as states
+use Rattle.aggregate_states.specs.State.{most_entries}
+use Rattle.aggregate_states.specs.State as states
 
 -- ---- sums
 

@@ -1,7 +1,7 @@
 //! The body of an answer, read from front to back: groups, or a fault.
 ghost use Rattle.std.specs.Prelude.{◌≡◌, true, IfOk};
-ghost use Rattle.accumulators.specs.State as states;
-ghost use Rattle.accumulators.specs.Values.{is_spelled};
+ghost use Rattle.aggregate_states.specs.State as states;
+ghost use Rattle.aggregate_states.specs.Values.{is_spelled};
 ghost use Rattle.meaning.specs.declared.answer.Body.TheVariants.{Fault};
 ghost use Rattle.meaning.specs.Fitting as fitting;
 ghost use Rattle.partial_codec.specs.Fields.{shape_in};
@@ -13,7 +13,7 @@ ghost use Rattle.wire.specs.Reading.{Reads, repeat_at};
 use crate::fault::DecodeFault;
 use crate::shape::{AggregateShape, Shape};
 use crate::values::take_value;
-use accumulators::{Group, State};
+use aggregate_states::{Group, State};
 use meaning::{AggregateKind, Body, Row, RowFault, Sequence, Statistics, Value};
 use std::alloc::Global;
 use wire::{take_i128, take_u8, take_u32, take_u64};

@@ -3,7 +3,7 @@ ghost use Rattle.std.specs.Prelude.{◌≡◌, ◌<◌, ◌*◌, ◌&&◌, ◌==
 ghost use Rattle.std.specs.Cmp.Lexicographic.{pointwise};
 ghost use Rattle.std.specs.List.{list_all};
 ghost use Rattle.std.specs.Ordering.{is_lt};
-ghost use Rattle.accumulators.specs.Values.{entry, is_spelled};
+ghost use Rattle.aggregate_states.specs.Values.{entry, is_spelled};
 ghost use Rattle.meaning.specs.Fitting as fitting;
 ghost use Rattle.meaning.specs.Group.{certain_keys};
 ghost use Rattle.meaning.specs.declared.answer.Body.TheVariants.{Groups};
@@ -18,7 +18,7 @@ ghost use Rattle.wire.specs.Reading.{same_bytes};
 
 use crate::fields::JobFields;
 use crate::job::Job;
-use accumulators::{Group, State};
+use aggregate_states::{Group, State};
 use byteorder::{ByteOrder, LittleEndian};
 use meaning::{
     Aggregate, AggregateKind, Body, ColType, GroupingKey, MAX_TEXT_BYTES, Plan, RowFault, Value,

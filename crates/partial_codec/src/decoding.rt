@@ -15,7 +15,7 @@ use crate::fault::DecodeFault;
 use crate::fields::{JobFields, Layout, take_layout};
 use crate::job::Job;
 use crate::shape::is_shape_of;
-use accumulators::Group;
+use aggregate_states::Group;
 use meaning::{Answer, Body};
 use std::alloc::Global;
 use std::mem::drop;

@@ -1,7 +1,7 @@
 //! Answers as bytes, and the parts that states have too.
 ghost use Rattle.std.specs.Prelude.{◌≡◌, ◌<◌, ◌^◌, ◌++◌, length, map, IfOk, OnOk};
 ghost use Rattle.std.specs.List.{flat_map, AllByRecursion};
-ghost use Rattle.accumulators.specs.Values.{entry, or_null};
+ghost use Rattle.aggregate_states.specs.Values.{entry, or_null};
 ghost use Rattle.meaning.specs.declared.answer.Body.TheVariants.{Groups};
 ghost use Rattle.meaning.specs.Order.{value_in};
 ghost use Rattle.meaning.specs.TypeCodes.{type_code};
@@ -15,7 +15,7 @@ use crate::job::Job;
 use crate::magics::ANSWER_MAGIC;
 use crate::shape::{argument_code, kind_code, shape_of_aggregate};
 use crate::values::put_value;
-use accumulators::{Group, State};
+use aggregate_states::{Group, State};
 use meaning::{Aggregate, AggregateKind, Answer, Body, GroupingKey, Plan, Value, type_code};
 use std::alloc::{AllocError, Global};
 use wire::{append_i128, append_seal, append_text, append_u8, append_u16, append_u32, append_u64};

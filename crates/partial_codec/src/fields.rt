@@ -9,7 +9,7 @@ use crate::body::take_body;
 use crate::fault::DecodeFault;
 use crate::magics::ANSWER_MAGIC;
 use crate::shape::{AggregateShape, Shape};
-use accumulators::Group;
+use aggregate_states::Group;
 use meaning::{AggregateKind, Body, ColType};
 use std::alloc::Global;
 use wire::{skip_magic, take_bytes, take_text, take_u8, take_u16, take_u32, take_u64};

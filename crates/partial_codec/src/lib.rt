@@ -20,7 +20,7 @@ mod state_check;
 mod state_fields;
 mod values;
 
-pub use accumulators::Group;
+pub use aggregate_states::Group;
 pub use decoding::{decode, first_row};
 pub use encoding::encode;
 pub use fault::DecodeFault;

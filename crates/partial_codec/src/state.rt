@@ -14,7 +14,7 @@ use crate::job::Job;
 use crate::magics::STATE_MAGIC;
 use crate::state_check::hold_state_against;
 use crate::state_fields::take_state_layout;
-use accumulators::Group;
+use aggregate_states::Group;
 use meaning::{Cell, Plan};
 use std::alloc::{AllocError, Global};
 use wire::{SEAL_BYTES, append_seal, append_u8, check_seal, take_bytes};

@@ -11,7 +11,7 @@ use crate::fault::DecodeFault;
 use crate::job::Job;
 use crate::shape::is_shape_of;
 use crate::state_fields::StateLayout;
-use accumulators::Group;
+use aggregate_states::Group;
 use meaning::{Body, Cell, Plan};
 use std::mem::drop;
 

@@ -12,7 +12,7 @@ use crate::fault::DecodeFault;
 use crate::fields::{JobFields, take_job, take_shape};
 use crate::magics::STATE_MAGIC;
 use crate::shape::Shape;
-use accumulators::Group;
+use aggregate_states::Group;
 use meaning::Cell;
 use std::alloc::Global;
 use wire::{skip_magic, take_u8};

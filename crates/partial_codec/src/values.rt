@@ -1,7 +1,7 @@
 //! Values as bytes.
 ghost use Rattle.std.specs.Prelude.{◌≡◌, ◌++◌, ◌<◌, ◌^◌, OnOk, IfOk, true, length};
 ghost use Rattle.std.specs.Str.{is_utf8};
-ghost use Rattle.accumulators.specs.Values.{is_spelled};
+ghost use Rattle.aggregate_states.specs.Values.{is_spelled};
 ghost use Rattle.meaning.specs.Order.{value_in};
 ghost use Rattle.partial_codec.specs.LayoutReading.{value_at};
 ghost use Rattle.partial_codec.specs.Ranges.{IsValue};

@@ -2,7 +2,7 @@
 use Rattle.std.proofs.Common.{◌≡◌, ℕ, ◌+◌, ◌-◌, ◌≤◌, ◌<◌, min, Bool, false, true, eqb, List, [], ◌∷◌, ◌++◌, Option, Some, None, refl, ap, subst, ◌∙◌, arith}
 use Rattle.std.specs.Prelude.{IfSome}
 use Rattle.std.proofs.lemmas.Bool.{ne_eqb}
-use Rattle.encodings.specs.Block.{Block}
+use Rattle.blocks.specs.Block.{Block}
 use Rattle.fragment_file.specs.View.{rows_of}
 use Rattle.scan_select.specs.Groups.{GoesOn, IsEnd, current_rows}
 use Rattle.scan_select.specs.Pieces.{Piece, sizes, pieces_at, pieces_of, pieces, piece_now, pieces_behind, pieces_left}

@@ -9,7 +9,7 @@ use Rattle.meaning.specs.declared.value.ColType.{ColType}
 use Rattle.meaning.specs.declared.value.Value.{Value}
 use Rattle.meaning.specs.declared.outcome.Outcome.TheVariants as gives
 use Rattle.meaning.specs.VectorLength.{is_vector_length}
-use Rattle.encodings.specs.Block.{Block, values_of}
+use Rattle.blocks.specs.Block.{Block, values_of}
 use Rattle.fragment_file.specs.Copying.{is_taken}
 use Rattle.fragment_file.specs.Fragment.{AreBlocks, IsBlockOf, no_block}
 use Rattle.vectors.specs.declared.batch.BatchColumn.{BatchColumn}

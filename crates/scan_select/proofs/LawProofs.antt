@@ -9,7 +9,7 @@ use Rattle.meaning.specs.declared.outcome.Outcome.TheVariants as gives
 use Rattle.meaning.specs.Expr.{eval}
 use Rattle.meaning.specs.Judge.{filtered_by}
 use Rattle.meaning.specs.Order.{Row}
-use Rattle.encodings.specs.Block.{Block}
+use Rattle.blocks.specs.Block.{Block}
 use Rattle.fragment_file.specs.View.{rows_of}
 use Rattle.fragment_file.specs.Rows.{row_in, rows_in}
 use Rattle.scan_select.specs.Pieces.{sizes, pieces_at, pieces_of, pieces, rows_of_piece}

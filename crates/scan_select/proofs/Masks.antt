@@ -9,7 +9,7 @@ use Rattle.meaning.specs.declared.value.Value.{Value}
 use Rattle.meaning.specs.declared.value.Value.TheVariants.{Null, Int, Text}
 use Rattle.meaning.specs.Order.{is_null, number, bytes}
 use Rattle.meaning.proofs.Tests.{both}
-use Rattle.encodings.specs.Block.{Block, is_block, values_of}
+use Rattle.blocks.specs.Block.{Block, is_block, values_of}
 use Rattle.fragment_file.proofs.TakenValues.{values_taken}
 use Rattle.fragment_file.specs.Copying.{is_taken}
 use Rattle.vectors.specs.Lanes.{lane_value, nulls_of}

@@ -13,7 +13,7 @@ use Rattle.meaning.specs.declared.outcome.Outcome.TheVariants as gives
 use Rattle.meaning.specs.Order.{column}
 use Rattle.meaning.specs.Joined.{joined_row}
 use Rattle.meaning.specs.References.{FactColumn, referenced}
-use Rattle.encodings.specs.Block.{Block, is_block, values_of}
+use Rattle.blocks.specs.Block.{Block, is_block, values_of}
 use Rattle.meaning.specs.declared.catalog.Column.{Column}
 use Rattle.std.proofs.lemmas.Bool.{and_parts, leb-true}
 use Rattle.fragment_file.specs.Fragment.{AreBlocks, no_block}

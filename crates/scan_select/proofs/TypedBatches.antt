@@ -8,7 +8,7 @@ use Rattle.meaning.specs.declared.value.ColType.{ColType}
 use Rattle.meaning.specs.Joined.{joined_row}
 use Rattle.meaning.specs.Typing.{ExprType, fits_row_types, is_column_type, is_of_type}
 use Rattle.meaning.proofs.Tests.{both}
-use Rattle.encodings.specs.Block.{Block, values_of}
+use Rattle.blocks.specs.Block.{Block, values_of}
 use Rattle.fragment_file.specs.Fragment.{AreBlocks, AreGroups, column_values, no_block}
 use Rattle.fragment_file.proofs.TypedRows.{AreTyped, all_behind, all_both, all_front, row_typed}
 use Rattle.vectors.specs.declared.batch.ColumnReference.{ColumnReference}

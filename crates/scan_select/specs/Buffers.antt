@@ -5,7 +5,7 @@ use Rattle.meaning.specs.declared.catalog.Column.{Column}
 use Rattle.meaning.specs.declared.value.Value.{Value}
 use Rattle.meaning.specs.VectorLength.{is_vector_length}
 use Rattle.meaning.specs.declared.outcome.Outcome.TheVariants as gives
-use Rattle.encodings.specs.Block.{Block, values_of}
+use Rattle.blocks.specs.Block.{Block, values_of}
 use Rattle.fragment_file.specs.Copying.{is_taken}
 use Rattle.fragment_file.specs.Fragment.{no_block}
 use Rattle.vectors.specs.declared.batch.BatchColumn.{BatchColumn}

@@ -1,6 +1,6 @@
 -- The row groups of an opened file, of which some have come.
 use Rattle.std.specs.Prelude.{ℕ, ◌<◌, List, length, Option, Some, None}
-use Rattle.encodings.specs.Block.{Block}
+use Rattle.blocks.specs.Block.{Block}
 use Rattle.fragment_file.specs.Fragment.{FragmentSpec}
 
 -- the file, the row groups that are still to come, and the one that came last

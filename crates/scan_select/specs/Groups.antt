@@ -1,6 +1,6 @@
 -- Row groups that come one after the other.
 use Rattle.std.specs.Prelude.{◌≡◌, ℕ, Bool, true, false, List, [], ◌∷◌, Option, Some, None}
-use Rattle.encodings.specs.Block.{Block}
+use Rattle.blocks.specs.Block.{Block}
 use Rattle.fragment_file.specs.View.{rows_of}
 
 -- the first of those that were to come stands now, or none was to come

@@ -4,7 +4,7 @@ use Rattle.meaning.specs.declared.expr.Expr.{Expr}
 use Rattle.meaning.specs.declared.joined_row.JoinedRow.{JoinedRow}
 use Rattle.meaning.specs.Judge.{filtered}
 use Rattle.meaning.specs.Typing.{RowTypes}
-use Rattle.encodings.specs.Block.{Block}
+use Rattle.blocks.specs.Block.{Block}
 use Rattle.fragment_file.specs.declared.header.Header.{Header}
 use Rattle.fragment_file.specs.Fragment.{AreTypedColumns, FragmentSpec, IsFragment}
 use Rattle.fragment_file.specs.Rows.{rows_in}

@@ -2,7 +2,7 @@
 use Rattle.std.specs.Prelude.{ℕ, ◌+◌, ◌-◌, ◌/◌, ◌%◌, ◌==◌, if◌then◌else◌, List, [], ◌∷◌, ◌++◌, map, flat_map, replicate, Option, Some, None, option_map}
 use Rattle.std.specs.List.{range_with_len}
 use Rattle.meaning.specs.Order.{Row}
-use Rattle.encodings.specs.Block.{Block}
+use Rattle.blocks.specs.Block.{Block}
 use Rattle.fragment_file.specs.Rows.{row_in}
 use Rattle.fragment_file.specs.View.{rows_of}
 

@@ -5,7 +5,7 @@ use Rattle.meaning.specs.declared.outcome.Outcome.TheVariants as gives
 use Rattle.meaning.specs.declared.joined_row.JoinedRow.{JoinedRow}
 use Rattle.meaning.specs.Joined.{joined_row}
 use Rattle.meaning.specs.VectorLength.{is_vector_length}
-use Rattle.encodings.specs.Block.{Block, values_of}
+use Rattle.blocks.specs.Block.{Block, values_of}
 use Rattle.fragment_file.specs.declared.header.Header.{Header}
 use Rattle.fragment_file.specs.Fragment.{no_block}
 use Rattle.vectors.specs.declared.batch.ColumnReference.TheVariants as reference

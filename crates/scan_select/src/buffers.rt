@@ -6,7 +6,7 @@ ghost use Rattle.scan_select.specs.Scanned.{IsMask};
 ghost use Rattle.vectors.specs.Lanes.{nulls_of};
 ghost use Rattle.vectors.specs.Vector.{outcomes_of, HasLanesOf};
 
-use encodings::VectorBuf;
+use blocks::VectorBuf;
 use fragment_file::GroupView;
 use meaning::Column;
 use std::alloc::{AllocError, Global};

@@ -1,6 +1,6 @@
 //! Where a scan finds row groups.
 ghost use Rattle.std.specs.Prelude.{◌≡◌, ◌≤◌, List, Option, None, option_map, length, IfSome, OnErr, IfOk};
-ghost use Rattle.encodings.specs.Block.{Block};
+ghost use Rattle.blocks.specs.Block.{Block};
 ghost use Rattle.fragment_file.specs.declared.header.Header.{Header as AHeader};
 ghost use Rattle.fragment_file.specs.Fragment.{AreBlocks};
 ghost use Rattle.fragment_file.specs.View.{rows_of};

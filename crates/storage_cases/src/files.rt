@@ -1,7 +1,7 @@
 //! Cases about fragment files and cut files.
 ghost use Rattle.std.specs.Prelude.{◌≡◌, ◌∷◌, [], codes, IfOk};
 
-use crate::blocks::show_block_values;
+use crate::block_values::show_block_values;
 use crate::values::{column_of, type_of, type_word};
 use case_files::bytes_of;
 use columns::Column;

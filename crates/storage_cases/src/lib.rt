@@ -1,7 +1,7 @@
 //! Cases of columns, blocks, files and loading.
 #![tactic(auto)]
 
-mod blocks;
+mod block_values;
 mod column;
 mod files;
 mod loading;

@@ -1,5 +1,5 @@
 //! Which kind of case a record is.
-use crate::{blocks, column, files, loading};
+use crate::{block_values, column, files, loading};
 use case_files::StoredFile;
 use std::alloc::{AllocError, Global};
 use std::fmt::Write;
@@ -15,10 +15,10 @@ fn put(
 ) -> Result<(), AllocError> {
     match kind {
         "column" => column::show(alloc, shown, words, body),
-        "block" => blocks::show_block(alloc, shown, words, body),
-        "encode" => blocks::show_encode(alloc, shown, words, body),
-        "choose" => blocks::show_choose(alloc, shown, words, body),
-        "unpack" => blocks::show_unpack(alloc, shown, words, body),
+        "block" => block_values::show_block(alloc, shown, words, body),
+        "encode" => block_values::show_encode(alloc, shown, words, body),
+        "choose" => block_values::show_choose(alloc, shown, words, body),
+        "unpack" => block_values::show_unpack(alloc, shown, words, body),
         "fragment" => files::show_fragment(alloc, shown, body),
         "cut-file" => files::show_cut_file(alloc, shown, body),
         "write" => files::show_write(alloc, shown, words, body),

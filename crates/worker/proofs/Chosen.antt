@@ -11,7 +11,7 @@ use Rattle.std.proofs.lemmas.Slice.Zip.{get_or-zip, length-zip}
 use Rattle.meaning.specs.declared.value.Value.{Value}
 use Rattle.meaning.specs.declared.value.Value.TheVariants.{Null, Int, Text}
 use Rattle.meaning.proofs.Tests.{or_false}
-use Rattle.accumulators.specs.Values.{is_spelled}
+use Rattle.aggregate_states.specs.Values.{is_spelled}
 use Rattle.vectors.specs.Lanes.{int_lanes, ints_of, lane_value, lane_values, nulls_of, or_null}
 use Rattle.vectors.specs.declared.ints.IntCells.{IntCells}
 use Rattle.vectors.specs.declared.nulls.Nulls.{Nulls}

@@ -11,8 +11,8 @@ use Rattle.meaning.specs.Expr.{eval}
 use Rattle.meaning.specs.Operators.{value_of}
 use Rattle.meaning.specs.Typing.{RowTypes, Valued, gives_expr_type, fits_row_types}
 use Rattle.meaning.proofs.Typed.{typed}
-use Rattle.accumulators.specs.Values.{is_spelled}
-use Rattle.accumulators.proofs.Spelled.{spelled_of_type}
+use Rattle.aggregate_states.specs.Values.{is_spelled}
+use Rattle.aggregate_states.proofs.Spelled.{spelled_of_type}
 use Rattle.vectors.specs.Selection.{IsSelection, Positions, is_among}
 use Rattle.vectors.specs.Vector.{BatchSpec, outcomes_of, values_of}
 use Rattle.vectors.specs.declared.vector.Vector.{Vector}

@@ -9,5 +9,6 @@ pub mod JoinedBatches
 pub mod JoinedSteps
 pub mod JudgedRows
 pub mod NumberedRows
+pub mod OwnAnswers
 pub mod SettledRows
 pub mod VectorLanes

@@ -4,10 +4,10 @@ ghost use Rattle.std.specs.List.{list_all};
 ghost use Rattle.meaning.specs.Limits.{row_group_rows};
 ghost use Rattle.meaning.specs.declared.value.Value.TheVariants.{Int, Text};
 ghost use Rattle.columns.specs.Column.{is_of};
-ghost use Rattle.encodings.specs.Dictionary.{AreEntries};
+ghost use Rattle.blocks.specs.Dictionary.{AreEntries};
 ghost use Rattle.encodings.specs.Encoded.{PutsBody};
 ghost use Rattle.meaning.specs.declared.value.ColType.TheVariants as of_type;
-ghost use Rattle.encodings.specs.declared.kind.Kind.TheVariants as kind;
+ghost use Rattle.blocks.specs.declared.kind.Kind.TheVariants as kind;
 
 use crate::dictionary::of_cells::{Dictionary, dictionary_of_ints, dictionary_of_texts};
 use crate::numbers::{put_shorts, put_word};

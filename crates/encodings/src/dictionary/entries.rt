@@ -7,7 +7,7 @@ ghost use Rattle.meaning.specs.Order.{value_cmp};
 ghost use Rattle.meaning.specs.declared.value.Value.{Value};
 ghost use Rattle.meaning.specs.declared.value.Value.TheVariants.{Null};
 ghost use Rattle.encodings.specs.Entries.{AreNumbered, AreNumberEntries, AreFirstEntries, DoNotFall};
-ghost use Rattle.encodings.specs.Plain.{cells_at};
+ghost use Rattle.blocks.specs.Plain.{cells_at};
 
 use crate::dictionary::cell::Cell;
 use crate::dictionary::of_cells::Dictionary;

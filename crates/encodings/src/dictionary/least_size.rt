@@ -4,7 +4,7 @@ ghost use Rattle.std.specs.Prelude.{◌≡◌, ◌-◌, ◌*◌, ◌<◌, ◌≤
 ghost use Rattle.meaning.specs.Limits.{row_group_rows};
 ghost use Rattle.meaning.specs.Order.{value_cmp, ascending_set};
 ghost use Rattle.meaning.specs.declared.value.Value.TheVariants.{Int, Text};
-ghost use Rattle.encodings.specs.Plain.{form_size};
+ghost use Rattle.blocks.specs.Plain.{form_size};
 ghost use Rattle.meaning.specs.declared.value.ColType.TheVariants as of_type;
 
 use crate::dictionary::slots::{HASH_SLOTS, slot_of_int, slot_of_text};

@@ -4,7 +4,7 @@ ghost use Rattle.meaning.specs.Limits.{row_group_rows};
 ghost use Rattle.meaning.specs.declared.value.Value.{Value};
 ghost use Rattle.encodings.specs.Entries.{AreNumberEntries, AreNumbers};
 ghost use Rattle.meaning.specs.declared.value.Value.TheVariants.{Int, Text};
-ghost use Rattle.encodings.specs.Dictionary.{AreEntries};
+ghost use Rattle.blocks.specs.Dictionary.{AreEntries};
 
 use crate::dictionary::cell::Cell;
 use crate::dictionary::entries::numbers_in_order;

@@ -2,15 +2,15 @@
 ghost use Rattle.std.specs.Prelude.{◌≡◌, ◌≤◌, ◌<◌, ◌*◌, ◌-◌, true, length, map, take, drop, IfOk, List, nat_lt};
 ghost use Rattle.std.specs.List.{list_all};
 ghost use Rattle.meaning.specs.Limits.{row_group_rows};
-ghost use Rattle.encodings.specs.Dictionary.{AreEntries};
-ghost use Rattle.encodings.specs.Plain.{cells_at};
+ghost use Rattle.blocks.specs.Dictionary.{AreEntries};
+ghost use Rattle.blocks.specs.Plain.{cells_at};
 ghost use Rattle.meaning.specs.declared.value.Value.{Value};
 ghost use Rattle.meaning.specs.declared.value.Value.TheVariants.{Int, Text};
 ghost use Rattle.encodings.specs.Choosing.{body_size};
-ghost use Rattle.encodings.specs.Plain.{form_size};
+ghost use Rattle.blocks.specs.Plain.{form_size};
 ghost use Rattle.encodings.specs.Choice.{IsDictionaryWithin};
 ghost use Rattle.meaning.specs.declared.value.ColType.TheVariants as of_type;
-ghost use Rattle.encodings.specs.declared.kind.Kind.TheVariants as kind;
+ghost use Rattle.blocks.specs.declared.kind.Kind.TheVariants as kind;
 
 use crate::dictionary::least_size::{least_size_of_ints, least_size_of_texts};
 use crate::dictionary::of_cells::{Dictionary, dictionary_of_ints, dictionary_of_texts};

@@ -1,7 +1,7 @@
 //! The least and the greatest of some integers.
 ghost use Rattle.std.specs.Prelude.{◌≡◌, ◌≤◌, length};
 ghost use Rattle.std.specs.Ordering.{int_cmp, ord_min, ord_max};
-ghost use Rattle.encodings.specs.Frame.{least_in, greatest_in};
+ghost use Rattle.blocks.specs.Frame.{least_in, greatest_in};
 
 /// The least and the greatest of some integers.
 #[derive(Clone, Copy)]

@@ -7,7 +7,7 @@ ghost use Rattle.encodings.specs.Choosing.{body_size};
 ghost use Rattle.columns.specs.Column.{is_of};
 ghost use Rattle.encodings.specs.Encoded.{PutsBody};
 ghost use Rattle.meaning.specs.declared.value.ColType.TheVariants as of_type;
-ghost use Rattle.encodings.specs.declared.kind.Kind.TheVariants as kind;
+ghost use Rattle.blocks.specs.declared.kind.Kind.TheVariants as kind;
 
 use crate::frame::bounds::bounds_of;
 use crate::numbers::put_integer;

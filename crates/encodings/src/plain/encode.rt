@@ -4,12 +4,12 @@ ghost use Rattle.std.specs.List.{concat, flat_map, list_all};
 ghost use Rattle.meaning.specs.Limits.{row_group_rows};
 ghost use Rattle.columns.specs.Column.{is_text, is_of};
 ghost use Rattle.columns.specs.Texts.{ends_from};
-ghost use Rattle.encodings.specs.Numbers.{integer_bytes, word_bytes};
-ghost use Rattle.encodings.specs.Plain.{ints_at, texts_at};
+ghost use Rattle.blocks.specs.Numbers.{integer_bytes, word_bytes};
+ghost use Rattle.blocks.specs.Plain.{ints_at, texts_at};
 ghost use Rattle.encodings.specs.Encoded.{PutsBody};
 ghost use Rattle.meaning.specs.declared.value.Value.TheVariants.{Int, Text};
 ghost use Rattle.meaning.specs.declared.value.ColType.TheVariants as of_type;
-ghost use Rattle.encodings.specs.declared.kind.Kind.TheVariants as kind;
+ghost use Rattle.blocks.specs.declared.kind.Kind.TheVariants as kind;
 
 use crate::numbers::{put_integer, put_word};
 use bit_packing::make_room;

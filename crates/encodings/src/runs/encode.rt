@@ -4,10 +4,10 @@ ghost use Rattle.std.specs.List.{list_all};
 ghost use Rattle.meaning.specs.Limits.{row_group_rows};
 ghost use Rattle.meaning.specs.declared.value.Value.TheVariants.{Int, Text};
 ghost use Rattle.columns.specs.Column.{is_of};
-ghost use Rattle.encodings.specs.Runs.{AreRuns};
+ghost use Rattle.blocks.specs.Runs.{AreRuns};
 ghost use Rattle.encodings.specs.Encoded.{PutsBody};
 ghost use Rattle.meaning.specs.declared.value.ColType.TheVariants as of_type;
-ghost use Rattle.encodings.specs.declared.kind.Kind.TheVariants as kind;
+ghost use Rattle.blocks.specs.declared.kind.Kind.TheVariants as kind;
 
 use crate::numbers::{put_shorts, put_word};
 use crate::plain::encode::{put_integers_at, put_texts_at};

@@ -3,7 +3,7 @@ ghost use Rattle.std.specs.Prelude.{◌≡◌, ◌≤◌, ◌<◌, ◌-◌, ◌+
 ghost use Rattle.meaning.specs.Limits.{row_group_rows};
 ghost use Rattle.meaning.specs.declared.value.Value.TheVariants.{Null, Int, Text};
 ghost use Rattle.meaning.specs.Order.{same_value};
-ghost use Rattle.encodings.specs.Runs.{AreRuns};
+ghost use Rattle.blocks.specs.Runs.{AreRuns};
 
 use columns::TextList;
 use std::alloc::{AllocError, Global};

@@ -5,7 +5,7 @@ ghost use Rattle.meaning.specs.declared.value.Value.TheVariants.{Null, Int, Text
 ghost use Rattle.meaning.specs.Order.{same_value, bytes};
 ghost use Rattle.encodings.specs.Choosing.{body_size};
 ghost use Rattle.meaning.specs.declared.value.ColType.TheVariants as of_type;
-ghost use Rattle.encodings.specs.declared.kind.Kind.TheVariants as kind;
+ghost use Rattle.blocks.specs.declared.kind.Kind.TheVariants as kind;
 
 use crate::plain::encode::text_at;
 use crate::runs::of_cells::{is_same_int, is_same_text};

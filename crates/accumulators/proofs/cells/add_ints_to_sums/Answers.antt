@@ -5,7 +5,7 @@ use Rattle.meaning.specs.declared.plan.AggregateKind.TheVariants.{Sum}
 use Rattle.meaning.specs.declared.value.Value.{Value}
 use Rattle.meaning.specs.declared.value.Value.TheVariants.{Int, Null}
 use Rattle.accumulators.specs.Columns.{merged_at}
-use Rattle.accumulators.specs.Entries.{state_of}
+use Rattle.aggregate_states.specs.Entries.{state_of}
 use Rattle.accumulators.proofs.AtGroups.{height_next, room_next}
 use Rattle.accumulators.proofs.GroupLoops.{entries_end, entries_more, entry_room, int_at, one_less}
 use Rattle.accumulators.proofs.cells.add_ints_to_sums.Goals as goal

@@ -3,7 +3,7 @@ use Rattle.std.proofs.Common.{◌≡◌, ℕ, ◌<◌, length, get_or, subst, sy
 use Rattle.meaning.specs.Aggregate.{kept_by}
 use Rattle.accumulators.specs.Columns.{kind_of_cells, merged_at, states_in}
 use Rattle.accumulators.proofs.AtGroups.{height_next, room_next}
-use Rattle.accumulators.proofs.Growing.{entries_left}
+use Rattle.aggregate_states.proofs.Growing.{entries_left}
 use Rattle.accumulators.proofs.GroupLoops.{states_end, states_more, state_room}
 use Rattle.accumulators.proofs.state_column.merge_each.Goals as goal
 

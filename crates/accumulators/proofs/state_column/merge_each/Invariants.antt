@@ -2,7 +2,7 @@
 use Rattle.std.proofs.Common.{◌≡◌, length, drop}
 use Rattle.accumulators.specs.Columns.{kind_of_cells, states_in}
 use Rattle.accumulators.proofs.AtGroups.{HasRoom}
-use Rattle.accumulators.proofs.Growing.{all_entries}
+use Rattle.aggregate_states.proofs.Growing.{all_entries}
 use Rattle.accumulators.proofs.GroupLoops.{StatesAddUp}
 use Rattle.accumulators.proofs.state_column.merge_each.Given as goal
 

@@ -2,8 +2,8 @@
 use Rattle.std.proofs.Common.{◌≡◌, ℕ, ◌<◌, ◌≤◌, ◌∷◌, [], length, get_or, subst, sym, ◌∙◌}
 use Rattle.meaning.specs.declared.value.Value.TheVariants.{Null}
 use Rattle.accumulators.specs.Columns.{kind_of_cells, merged_at, states_in}
-use Rattle.accumulators.specs.Entries.{state_of}
-use Rattle.accumulators.specs.Values.{selected}
+use Rattle.aggregate_states.specs.Entries.{state_of}
+use Rattle.aggregate_states.specs.Values.{selected}
 use Rattle.vectors.specs.Vector.{values_of}
 use Rattle.accumulators.proofs.AtGroups.{height_next, room_next}
 use Rattle.accumulators.proofs.GroupLoops.{entries_end, entries_more, entry_room, one_less, selected_at, selected_long}

@@ -1,7 +1,7 @@
 -- Invariants of `update_each` (`state_column`).
 use Rattle.std.proofs.Common.{◌≡◌, length, drop}
 use Rattle.accumulators.specs.Columns.{kind_of_cells, states_in}
-use Rattle.accumulators.specs.Values.{selected}
+use Rattle.aggregate_states.specs.Values.{selected}
 use Rattle.vectors.specs.Vector.{values_of}
 use Rattle.accumulators.proofs.AtGroups.{HasRoom}
 use Rattle.accumulators.proofs.GroupLoops.{EntriesAddUp}

@@ -2,7 +2,7 @@
 use Rattle.std.proofs.Common.{◌≡◌, List, OnOk, sym, subst, ◌∙◌}
 use Rattle.meaning.specs.declared.answer.Statistics.{Statistics}
 use Rattle.accumulators.specs.Columns.{kind_of_cells, states_in}
-use Rattle.accumulators.specs.Values.{selected}
+use Rattle.aggregate_states.specs.Values.{selected}
 use Rattle.vectors.specs.Vector.{values_of}
 use Rattle.accumulators.proofs.GroupLoops.{entries_at_one, selected_long}
 use Rattle.accumulators.proofs.state_column.update_one.Goals as goal

@@ -4,7 +4,7 @@ use Rattle.std.proofs.lemmas.Result.{err_from_is_err_and}
 use Rattle.columns.specs.Column.{ColumnSpec}
 use Rattle.folders.specs.Each.{AreEach}
 use Rattle.folders.specs.Folder.{Writes}
-use Rattle.cli.specs.Loading.{AreDimensionColumns, AreFiles, AreFragmentsClosed}
+use Rattle.cli.specs.Loading.{AreDimensionColumns, AreFiles, AreFilesBegun, AreFragmentsClosed}
 use Rattle.cli.proofs.HandedOn.{ok_part}
 use Rattle.cli.proofs.LoadedColumns.{dimensions_fit}
 use Rattle.cli.proofs.running.finish_load.Goals as goal
@@ -36,3 +36,33 @@ returns-in-Ok-clause-finished g c fragments closed =
 
 pub returns-clause-refused : goal.returns-clause-refused
 returns-clause-refused g c = inr (c.in_ok-dims.dims.items, c.in_ok-dims.ensures.loaded, inr refl)
+
+pub returns-in_err-save-clause-left : goal.returns-in_err-save-clause-left
+returns-in_err-save-clause-left g c =
+    let F = g.F.Folder in
+    let target = c.args.target.now in
+    let cut = c.args.fact.cut in
+    let files = c.in_ok-files.files in
+    let p = err_from_is_err_and c.from_residual-in_err-save.result c.from_residual-in_err-save.ensures.1 in
+    rw (p.1, p.2) (inr (λ fragments closed.
+    let begun = c.in_err-save.ensures.left fragments (ok_part c.args.fact.files files (λ fs. AreFragmentsClosed F.enclosed (F.wrote c.args.folder.now) target.load target.catalog.now.fact cut fragments fs.items) c.in_ok-files.was closed) in (
+      c.in_ok-dims.dims.items,
+      c.in_ok-dims.ensures.loaded,
+      inl (subst (λ (l : List (List ColumnSpec)). Writes (AreFilesBegun target.directory.now target.load target.catalog.now cut fragments l) (F.wrote c.args.folder.now) (F.wrote c.save.new.folder)) c.as_slice.ensures.value begun),
+    )))
+
+pub returns-clause-left : goal.returns-clause-left
+returns-clause-left g c = inr (λ fragments closed.
+    let F = g.F.Folder in
+    let target = c.args.target.now in
+    let cut = c.args.fact.cut in
+    let files = c.in_ok-files.files in
+    let written = c.in_ok-save.ensures.written fragments
+    (ok_part c.args.fact.files files (λ fs. AreFragmentsClosed F.enclosed (F.wrote c.args.folder.now) target.load target.catalog.now.fact cut fragments fs.items) c.in_ok-files.was closed) in (
+      c.in_ok-dims.dims.items,
+      c.in_ok-dims.ensures.loaded,
+      inr (
+        refl,
+        subst (λ (l : List (List ColumnSpec)). Writes (AreFiles target.directory.now target.load target.catalog.now cut fragments l) (F.wrote c.args.folder.now) (F.wrote c.save.new.folder)) c.as_slice.ensures.value written,
+      ),
+    ))

@@ -9,18 +9,18 @@ returns-in_err-load-in-Load-clause-refused g c =
     let refused = c.in_err-load-in-Load in
     let p = err_from_is_err_and c.from_residual.result c.from_residual.ensures.1 in
     rw (p.1, p.2) (load_refused folder c.args.command.now c.in-Load.directory c.as_str.result.now c.in-Load.number c.in-Load.rows refused.field-0.0
-    (g.O.Write.contents c.args.out.now) (g.O.Write.contents c.load.new.out) (g.F.Folder.wrote c.args.folder.now) (g.F.Folder.wrote c.load.new.folder)
+    (g.O.Write.contents c.args.out.now) (g.O.Write.contents c.load.new.out) (g.E.Write.contents c.args.err.now) (g.F.Folder.wrote c.args.folder.now) (g.F.Folder.wrote c.load.new.folder)
     c.in-Load.is c.as_str.ensures refused.ensures.refused refused.ensures.quiet refused.ensures.left)
 
 pub returns-in_err-work-in-Work-clause-refused : goal.returns-in_err-work-in-Work-clause-refused
 returns-in_err-work-in-Work-clause-refused g c =
     let refused = c.in_err-work-in-Work in
     let p = err_from_is_err_and c.from_residual-in_err-work-in-Work.result c.from_residual-in_err-work-in-Work.ensures.1 in
-    rw (p.1, p.2) (work_refused (g.F.Folder.holds c.args.folder.now) c.args.command.now c.in-Work.command refused.field-0.0 (g.O.Write.contents c.args.out.now)
+    rw (p.1, p.2) (work_refused (g.F.Folder.holds c.args.folder.now) c.args.command.now c.in-Work.command refused.field-0.0 (g.O.Write.contents c.args.out.now) (g.E.Write.contents c.args.err.now)
     (g.F.Folder.wrote c.args.folder.now) (g.F.Folder.wrote c.work.new.folder) c.in-Work.is refused.ensures.refused refused.ensures.left)
 
 pub returns-in-Whole-clause-refused : goal.returns-in-Whole-clause-refused
 returns-in-Whole-clause-refused g c =
     whole_refused (g.F.Folder.holds c.args.folder.now) c.args.command.now c.in-Whole.directory c.as_str-directory.result.now c.in-Whole.query c.as_str-query.result.now
-    c.in-Whole.rows c.in-Whole.vector c.answer.result (g.O.Write.contents c.args.out.now) (g.O.Write.contents c.answer.new.out) (g.F.Folder.wrote c.args.folder.now)
+    c.in-Whole.rows c.in-Whole.vector c.answer.result (g.O.Write.contents c.args.out.now) (g.O.Write.contents c.answer.new.out) (g.E.Write.contents c.args.err.now) (g.F.Folder.wrote c.args.folder.now)
     c.in-Whole.is c.as_str-directory.ensures c.as_str-query.ensures c.answer.ensures.refused c.answer.ensures.quiet

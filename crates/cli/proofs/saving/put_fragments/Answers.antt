@@ -1,7 +1,10 @@
 -- Proofs of the goals of `put_fragments` (`saving`).
-use Rattle.std.proofs.Common.{◌≡◌, ◌≤◌, ◌∷◌, ap, length, drop, sym, ◌∙◌, arith}
+use Rattle.std.proofs.Common.{◌≡◌, ◌≤◌, ◌∷◌, ap, length, drop, sym, subst, ◌∙◌, arith}
+use Rattle.std.proofs.lemmas.Result.{err_from_is_err_and}
+use Rattle.folders.specs.Folder.{Writes}
+use Rattle.cli.specs.Loading.{AreFragmentsBegun}
 use Rattle.cli.proofs.HandedOn.{head_of}
-use Rattle.cli.proofs.WrittenFiles.{all_put, put_more}
+use Rattle.cli.proofs.WrittenFiles.{all_put, less, put_more}
 use Rattle.cli.proofs.saving.put_fragments.Goals as goal
 
 pub loop-file-preserved : goal.loop-file-preserved
@@ -31,3 +34,13 @@ returns-clause-put g c cut fragments closed =
     let few : length c.args.files.items ≤ c.loop-file.fragment = omega (arith, none, left, c.loop-file.invariant.1) in
     all_put F.enclosed target.directory.now target.load target.catalog.now.fact cut fragments c.args.files.items c.loop-file.fragment (F.wrote c.args.folder.now) (F.wrote c.loop-file.folder)
     closed few (c.loop-file.invariant.2 cut fragments closed)
+
+pub returns-in_err-put_fragment-clause-left : goal.returns-in_err-put_fragment-clause-left
+returns-in_err-put_fragment-clause-left g c =
+    let F = g.F.Folder in
+    let target = c.args.target.now in
+    let p = err_from_is_err_and c.from_residual.result c.from_residual.ensures.1 in
+    rw p.1 (λ cut fragments closed.
+    let Begun = Writes (AreFragmentsBegun target.directory.now target.load target.catalog.now.fact cut fragments) (F.wrote c.args.folder.now) in
+    subst Begun (sym c.in_err-put_fragment.ensures.left)
+    (less (F.wrote c.args.folder.now) (F.wrote c.loop-file.folder) (λ changes each. (c.loop-file.fragment, each)) (c.loop-file.invariant.2 cut fragments closed)))

@@ -1,11 +1,15 @@
 -- Proofs of the goals of `save_dimensions` (`saving`).
-use Rattle.std.proofs.Common.{◌≡◌, ◌<◌, List, length, get_or, sym, subst, ap, arith}
+use Rattle.std.proofs.Common.{◌≡◌, ◌<◌, List, length, get_or, take, sym, subst, ap, arith}
+use Rattle.std.specs.Prelude.{zip}
+use Rattle.meaning.specs.declared.catalog.Dimension.{Dimension}
+use Rattle.folders.specs.Each.{AreEach}
+use Rattle.folders.specs.Folder.{Writes}
 use Rattle.columns.specs.Column.{ColumnSpec}
-use Rattle.cli.specs.Loading.{AreDimensionColumns, IsDimensionFile}
+use Rattle.cli.specs.Loading.{AreDimensionColumns, AreDimensionsBegun, IsDimensionFile}
 use Rattle.folders.proofs.Each.{each_length}
 use Rattle.std.proofs.lemmas.Result.{err_from_is_err_and}
 use Rattle.cli.proofs.Refusals.{contained}
-use Rattle.cli.proofs.WrittenFiles.{dimension_at, dimension_more, dimensions_end}
+use Rattle.cli.proofs.WrittenFiles.{dimension_at, dimension_more, dimensions_end, less}
 use Rattle.cli.proofs.saving.save_dimensions.Goals as goal
 
 pub bounds-dims-i : goal.bounds-dims-i
@@ -46,3 +50,14 @@ returns-in_err-save_dimension-clause-refused g c =
       contained c.args.target.now.catalog.now.dims c.as_slice-declared.result.now c.loop-i.i d c.as_slice-declared.ensures c.loop-i-test.true c.index-declared-i.is,
       c.in_err-save_dimension.ensures.refused,
     )
+
+pub returns-in_err-save_dimension-clause-left : goal.returns-in_err-save_dimension-clause-left
+returns-in_err-save_dimension-clause-left g c =
+    let F = g.F.Folder in
+    let target = c.args.target.now in
+    let dims = c.args.dims.now in
+    let i = c.loop-i.i in
+    let p = err_from_is_err_and c.from_residual.result c.from_residual.ensures.1 in
+    let begun = subst (λ (ds : List Dimension). Writes (AreEach (IsDimensionFile target.directory.now target.load) (zip (take i ds) (take i dims))) (F.wrote c.args.folder.now) (F.wrote c.loop-i.folder)) c.as_slice-declared.ensures c.loop-i.invariant in
+    rw p.1 (subst (Writes (AreDimensionsBegun target.directory.now target.load target.catalog.now.dims dims) (F.wrote c.args.folder.now)) (sym c.in_err-save_dimension.ensures.left)
+    (less (F.wrote c.args.folder.now) (F.wrote c.loop-i.folder) (λ changes each. (i, each)) begun))

@@ -1,20 +1,22 @@
 -- Proofs of the goals of `answer_fragments` (`fragments`).
 use Rattle.std.proofs.Common.{◌≡◌, ◌<◌, ◌≤◌, ◌^◌, ap, sym, subst, refl, ◌∙◌, [], ◌∷◌, ◌++◌, ℕ, ◌+◌, List, length, slice_index_or, arith}
-use Rattle.std.specs.List.{range_with_len, enumerate_from}
+use Rattle.std.specs.List.{range_with_len}
 use Rattle.std.proofs.lemmas.List.Elements.{recursion_from_All}
 use Rattle.meaning.specs.Limits.{max_rows}
 use Rattle.meaning.specs.Said.{Cell}
 use Rattle.meaning.specs.Order.{Row}
 use Rattle.meaning.specs.Cut.{Cut, IsCut, first_row}
+use Rattle.columns.specs.Rows.{columns_of}
+use Rattle.meaning.specs.TableLaws.{are_rows_of}
 use Rattle.fragment_file.specs.Writing.{AreColumns}
-use Rattle.meaning.specs.Answer.{own_body}
+use Rattle.meaning.specs.Answer.{own}
 use Rattle.meaning.specs.Gather.{joined}
 use Rattle.meaning_laws.specs.Laws.{own_answers}
 use Rattle.partial_codec.specs.Job.{JobSpec}
 use Rattle.partial_codec.proofs.Fitting.{short_at}
 use Rattle.job_files.proofs.FirstRows.{next_fits}
-use Rattle.coordinator.proofs.FragmentColumns.{rows_at, as_many, columns_at, count_at, fileable_at, typed_at}
-use Rattle.coordinator.proofs.OwnRows.{own-own_rows}
+use Rattle.job_files.specs.RowFiles.{rows_of_fragment}
+use Rattle.coordinator.proofs.FragmentColumns.{as_many, columns_at, count_at, fileable_at, typed_at}
 use Rattle.coordinator.proofs.Slices.{own_answers_to_next}
 use Rattle.coordinator.proofs.fragments.answer_fragments.Goals as goal
 
@@ -55,14 +57,13 @@ overflow_add-first_row c =
     omega (arith, fits.0)
 
 -- one answer more, where the job is that of before
-one_more : (before job : JobSpec) (cut : Cut) (rows : List Row) (tables : List (List Row)) (k first : ℕ) (cells : List Cell) → job ≡ before → before.cut ≡ cut → first ≡ first_row cut k
-    → cells ≡ joined job.cut (own_answers before.plan tables cut rows (range_with_len 0 k) ++ record { k = k; body = own_body job.plan tables (enumerate_from first (rows_at cut k rows)) } ∷ [])
+one_more : (before job : JobSpec) (cut : Cut) (rows : List Row) (tables : List (List Row)) (k : ℕ) (cells : List Cell) → job ≡ before → before.cut ≡ cut
+    → cells ≡ joined job.cut (own_answers before.plan tables cut rows (range_with_len 0 k) ++ own job.plan tables job.cut rows k ∷ [])
     → cells ≡ joined cut (own_answers before.plan tables cut rows (range_with_len 0 (k + 1)))
-one_more before job cut rows tables k first cells same of_cut begins taken =
+one_more before job cut rows tables k cells same of_cut taken =
     taken
-    ∙ ap (λ (j : JobSpec). joined j.cut (own_answers before.plan tables cut rows (range_with_len 0 k) ++ record { k = k; body = own_body j.plan tables (enumerate_from first (rows_at cut k rows)) } ∷ [])) same
-    ∙ ap (λ (n : ℕ). joined before.cut (own_answers before.plan tables cut rows (range_with_len 0 k) ++ record { k = k; body = own_body before.plan tables (enumerate_from n (rows_at cut k rows)) } ∷ [])) begins
-    ∙ (λ i. joined (of_cut i) (own_answers before.plan tables cut rows (range_with_len 0 k) ++ own-own_rows before.plan tables cut k rows (rows_at cut k rows) refl i ∷ []))
+    ∙ ap (λ (j : JobSpec). joined j.cut (own_answers before.plan tables cut rows (range_with_len 0 k) ++ own j.plan tables j.cut rows k ∷ [])) same
+    ∙ (λ i. joined (of_cut i) (own_answers before.plan tables cut rows (range_with_len 0 k) ++ own before.plan tables (of_cut i) rows k ∷ []))
     ∙ ap (joined cut) (sym (own_answers_to_next before.plan tables cut rows k))
 
 pub loop-k-preserved : goal.loop-k-preserved
@@ -81,11 +82,12 @@ loop-k-preserved c =
       first = (next c.lengths-lengths.result.now cut k c.loop-k.first_row c.from-first_row.result same c.lengths-lengths.ensures.within_limits c.loop-k-test.true c.loop-k.invariant.first c.from-first_row.ensures).1;
       taken = λ rows tables are files.
           let answers = own_answers before.plan tables cut rows (range_with_len 0 k) in
-          one_more before c.loop-k.gather.job cut rows tables k c.loop-k.first_row c.answer_one.new.gather.cells of_job c.requires.cut c.loop-k.invariant.first
-          (c.in_ok-answer_one.ensures.taken answers (rows_at cut k rows) tables (record {
-            first = c.loop-k.invariant.first ∙ ap (λ (l : Cut). first_row l k) (sym of_cut);
-            columns = columns_at table rows cut fragments are k c.index-star-k.result c.as_slice.result.now below c.index-star-k.is (c.as_slice.ensures ∙ sym c.index-star-k.is);
-            counted = count_at table rows cut fragments are k below ∙ sym (ap (λ (ls : List ℕ). slice_index_or ls k 0) same);
-            typed = typed_at table rows cut fragments are k;
+          let fragment = λ (l : Cut). rows_of_fragment l k rows in
+          one_more before c.loop-k.gather.job cut rows tables k c.answer_one.new.gather.cells of_job c.requires.cut
+          (c.in_ok-answer_one.ensures.taken answers rows tables (record {
+            columns = columns_at table rows cut fragments are k c.index-star-k.result c.as_slice.result.now below c.index-star-k.is (c.as_slice.ensures ∙ sym c.index-star-k.is)
+                ∙ ap (λ (l : Cut). columns_of table.columns (fragment l)) (sym of_cut);
+            counted = ap (λ (l : Cut). length (fragment l)) of_cut ∙ count_at table rows cut fragments are k below ∙ sym (ap (λ (ls : List ℕ). slice_index_or ls k 0) same);
+            typed = ap (λ (l : Cut). are_rows_of table.columns (fragment l)) of_cut ∙ typed_at table rows cut fragments are k;
           }) files (c.loop-k.invariant.taken rows tables are files ∙ ap (λ (l : Cut). joined l answers) (sym of_cut)));
     }

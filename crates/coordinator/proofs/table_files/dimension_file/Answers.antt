@@ -1,7 +1,8 @@
 -- Proofs of the goals of `dimension_file` (`table_files`).
 use Rattle.std.proofs.Common.{List, refl, sym, subst}
 use Rattle.columns.specs.Column.{ColumnSpec}
-use Rattle.coordinator.specs.Fragment.{AreAllRows, IsTableFile}
+use Rattle.job_files.specs.RowFiles.{IsFileOfRows}
+use Rattle.coordinator.specs.Fragment.{AreAllRows}
 use Rattle.coordinator.proofs.TableFiles.{all_rows_of_dimension}
 use Rattle.coordinator.proofs.table_files.dimension_file.Goals as goal
 
@@ -15,5 +16,5 @@ returns-clause-file c =
     let (rows, meant, are) = all_rows_of_dimension c.args.dimension.now c.args.csv.now c.in_ok-columns.columns c.requires.table (c.in_ok-columns.ensures c.args.csv.now refl) in (
       rows,
       meant,
-      subst (IsTableFile rows) (sym c.from_vec.ensures) (c.in_ok-file.ensures rows (subst (λ (columns : List ColumnSpec). AreAllRows c.args.dimension.now.table rows columns) (sym c.as_slice.ensures) are)),
+      subst (IsFileOfRows rows) (sym c.from_vec.ensures) (c.in_ok-file.ensures rows (subst (λ (columns : List ColumnSpec). AreAllRows c.args.dimension.now.table rows columns) (sym c.as_slice.ensures) are)),
     )

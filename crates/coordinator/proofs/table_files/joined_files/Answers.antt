@@ -1,21 +1,21 @@
 -- Proofs of the goals of `joined_files` (`table_files`).
 use Rattle.std.proofs.Common.{[], ◌∷◌, ◌++◌, sym, subst, arith}
 use Rattle.std.proofs.lemmas.Result.{err_from_is_err_and}
-use Rattle.coordinator.specs.Fragment.{AreTableFiles}
+use Rattle.job_files.specs.RowFiles.{AreFilesOfTables}
 use Rattle.coordinator.specs.Whole.{files_in, joined_from}
 use Rattle.coordinator.proofs.InTurn.{begins, next, stops, ends}
 use Rattle.coordinator.proofs.TableFiles.{one_more}
 use Rattle.coordinator.proofs.table_files.joined_files.Goals as goal
 
 pub loop-join-init : goal.loop-join-init
-loop-join-init c = ([], subst (AreTableFiles []) (sym c.new-files.ensures.items) tt, begins (joined_from c.args.catalog.now (files_in c.args.csvs.now)) c.args.joins.now)
+loop-join-init c = ([], subst (AreFilesOfTables []) (sym c.new-files.ensures.items) tt, begins (joined_from c.args.catalog.now (files_in c.args.csvs.now)) c.args.joins.now)
 
 pub loop-join-preserved : goal.loop-join-preserved
 loop-join-preserved c =
     let (before, files, judged) = c.loop-join.invariant in
     let (rows, meant, is) = c.in_ok-joined_file.ensures.file in (
       before ++ rows ∷ [],
-      subst (AreTableFiles (before ++ rows ∷ [])) (sym c.in_ok-push.ensures.items) (one_more before c.loop-join.files.items rows c.in_ok-joined_file.field-0 files is),
+      subst (AreFilesOfTables (before ++ rows ∷ [])) (sym c.in_ok-push.ensures.items) (one_more before c.loop-join.files.items rows c.in_ok-joined_file.field-0 files is),
       next (joined_from c.args.catalog.now (files_in c.args.csvs.now)) c.args.joins.now c.loop-join.join-index before c.join-item.result rows c.loop-join-test.true c.join-item.is meant judged,
     )
 

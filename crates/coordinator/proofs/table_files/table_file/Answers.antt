@@ -1,8 +1,8 @@
 -- Proofs of the goals of `table_file` (`table_files`).
-use Rattle.std.proofs.Common.{List, length, IfOk, Ok, Err, subst, refl, arith}
+use Rattle.std.proofs.Common.{IfOk, Ok, Err, sym, refl, arith}
 use Rattle.std.specs.Prelude.{Result}
-use Rattle.columns.specs.Column.{ColumnSpec}
-use Rattle.fragment_file.specs.Fragment.{Stands, table_header}
+use Rattle.fragment_file.specs.Fragment.{table_header}
+use Rattle.job_files.proofs.RowFiles.{file_of_columns}
 use Rattle.coordinator.proofs.TableFiles.{all_fileable, counted_first}
 use Rattle.coordinator.proofs.table_files.table_file.Goals as goal
 
@@ -24,10 +24,6 @@ file_of-requires c =
     (counted_first c.args.table.now rows c.args.columns.now c.count_rows.result are c.count_rows.ensures) refl
 
 pub returns : goal.returns
-returns c = weaker c.file_of.result (λ bytes stands rows are. record {
-  table = c.args.table.now;
-  stands = subst (λ (columns : List ColumnSpec). Stands bytes.items (table_header 0 c.args.table.now (record { fragment = 0; first_row = 0; rows = length rows })) columns) are.columns_are
-      (subst (λ n. Stands bytes.items (table_header 0 c.args.table.now (record { fragment = 0; first_row = 0; rows = n })) c.args.columns.now)
-      (counted_first c.args.table.now rows c.args.columns.now c.count_rows.result are c.count_rows.ensures) stands);
-  typed = are.typed;
-}) c.file_of.ensures
+returns c = weaker c.file_of.result (λ bytes stands rows are.
+    file_of_columns bytes.items (table_header 0 c.args.table.now (record { fragment = 0; first_row = 0; rows = c.count_rows.result })) c.args.columns.now rows stands are.columns_are
+    (sym (counted_first c.args.table.now rows c.args.columns.now c.count_rows.result are c.count_rows.ensures)) are.typed) c.file_of.ensures

@@ -4,7 +4,7 @@ use Rattle.std.specs.Prelude.{min}
 use Rattle.std.proofs.lemmas.List.{length-map}
 use Rattle.meaning.specs.declared.value.ColType.TheVariants as of_type
 use Rattle.meaning.specs.declared.value.Value.TheVariants.{Int}
-use Rattle.encodings.specs.declared.kind.Kind.TheVariants as kind
+use Rattle.blocks.specs.declared.kind.Kind.TheVariants as kind
 use Rattle.encodings.specs.Choice.{IsDictionaryWithin}
 use Rattle.encodings.specs.Choosing.{body_size}
 use Rattle.encodings.proofs.ChosenKinds.{best_int_dictionary, best_int_kind}

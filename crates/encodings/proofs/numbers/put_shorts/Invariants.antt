@@ -1,7 +1,7 @@
 -- Loop invariants of `put_shorts` (`numbers`).
 use Rattle.std.proofs.Common.{◌≡◌, ◌++◌, take}
 use Rattle.std.specs.List.{flat_map}
-use Rattle.encodings.specs.Numbers.{short_bytes}
+use Rattle.blocks.specs.Numbers.{short_bytes}
 use Rattle.encodings.proofs.numbers.put_shorts.Given as goal
 
 abbrev pub invariant-loop-n : goal.invariant-loop-n

@@ -4,8 +4,8 @@ use Rattle.std.specs.Prelude.{Bool}
 use Rattle.std.specs.List.{list_all}
 use Rattle.meaning.specs.declared.value.ColType.{ColType}
 use Rattle.meaning.specs.declared.value.Value.{Value}
-use Rattle.encodings.specs.VectorBuf.{Vector}
-use Rattle.encodings.specs.Block.{values_of}
+use Rattle.blocks.specs.VectorBuf.{Vector}
+use Rattle.blocks.specs.Block.{values_of}
 use Rattle.fragment_file.specs.Copying.{is_taken, with_values}
 use Rattle.fragment_file.proofs.Written.{on_ok}
 use Rattle.fragment_file.proofs.CopiedColumns.{all_read}

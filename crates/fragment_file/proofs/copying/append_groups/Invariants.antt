@@ -1,7 +1,7 @@
 -- Loop invariants of `append_groups` (`copying`).
 use Rattle.std.proofs.Common.{◌≡◌, take, get_or}
 use Rattle.std.specs.List.{flat_map}
-use Rattle.encodings.specs.Block.{values_of}
+use Rattle.blocks.specs.Block.{values_of}
 use Rattle.fragment_file.specs.Copying.{with_values}
 use Rattle.fragment_file.specs.Fragment.{no_block}
 use Rattle.fragment_file.proofs.copying.append_groups.Given as goal

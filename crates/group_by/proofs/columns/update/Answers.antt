@@ -1,8 +1,8 @@
 -- Proofs of the goals of `update` (`columns`).
 use Rattle.std.proofs.Common.{zip}
-use Rattle.accumulators.specs.Values.{selected}
+use Rattle.aggregate_states.specs.Values.{selected}
 use Rattle.vectors.specs.Vector.{values_of}
-use Rattle.group_by.specs.RowGroups.{listed}
+use Rattle.group_index.specs.RowGroups.{listed}
 use Rattle.group_by.proofs.Updating.{updated}
 use Rattle.group_by.proofs.columns.update.Goals as goal
 

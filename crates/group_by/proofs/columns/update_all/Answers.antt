@@ -2,10 +2,10 @@
 use Rattle.std.proofs.Common.{ℕ, ◌<◌, length, zip, get_or, subst, sym}
 use Rattle.std.proofs.lemmas.List.{get_or_default}
 use Rattle.vectors.specs.declared.vector.Vector.{Vector}
-use Rattle.accumulators.specs.Values.{selected}
+use Rattle.aggregate_states.specs.Values.{selected}
 use Rattle.vectors.specs.Vector.{values_of}
 use Rattle.group_by.specs.GroupIndexes.{no_column, IsUpdated}
-use Rattle.group_by.specs.RowGroups.{listed}
+use Rattle.group_index.specs.RowGroups.{listed}
 use Rattle.group_by.proofs.Updating.{done_more}
 use Rattle.group_by.proofs.columns.update_all.Goals as goal
 

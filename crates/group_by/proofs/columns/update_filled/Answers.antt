@@ -3,12 +3,12 @@ use Rattle.std.specs.List.{zip}
 use Rattle.std.proofs.Common.{◌≡◌, List, OnOk, length, subst, sym, ◌∙◌}
 use Rattle.meaning.specs.declared.answer.Statistics.{Statistics}
 use Rattle.accumulators.specs.Columns.{of_states}
-use Rattle.accumulators.specs.Entries.{with_entries}
-use Rattle.accumulators.specs.Values.{selected}
+use Rattle.aggregate_states.specs.Entries.{with_entries}
+use Rattle.aggregate_states.specs.Values.{selected}
 use Rattle.vectors.specs.Vector.{values_of}
 use Rattle.accumulators.proofs.GroupLoops.{selected_long}
-use Rattle.group_by.specs.declared.row_groups.RowGroups.{RowGroups}
-use Rattle.group_by.specs.RowGroups.{listed}
+use Rattle.group_index.specs.declared.row_groups.RowGroups.{RowGroups}
+use Rattle.group_index.specs.RowGroups.{listed}
 use Rattle.group_by.proofs.OneGroup.{entries_once}
 use Rattle.group_by.proofs.columns.update_filled.Goals as goal
 

@@ -4,7 +4,7 @@ use Rattle.std.proofs.lemmas.List.{length-map}
 use Rattle.meaning.specs.declared.value.Value.{Value}
 use Rattle.group_by.specs.declared.int_groups.IntGroup.{IntGroup}
 use Rattle.group_by.specs.IntGroups.{indexed_group, AreApart, AreIndexed}
-use Rattle.group_by.specs.Keys.{alone}
+use Rattle.group_index.specs.Keys.{alone}
 use Rattle.group_by.proofs.SortedInts.{all_within, from_some, in_int_order}
 use Rattle.group_by.proofs.handing_out.ints_in_order.Goals as goal
 

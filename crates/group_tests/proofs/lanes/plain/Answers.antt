@@ -4,8 +4,8 @@ use Rattle.std.proofs.lemmas.List.{length-replicate}
 use Rattle.meaning.specs.declared.value.Value.{Value}
 use Rattle.meaning.specs.declared.value.Value.TheVariants.{Int}
 use Rattle.vectors.proofs.Lanes.{lanes_long}
-use Rattle.accumulators.specs.Values.{is_spelled}
-use Rattle.accumulators.proofs.Spelled.{ints_spelled}
+use Rattle.aggregate_states.specs.Values.{is_spelled}
+use Rattle.aggregate_states.proofs.Spelled.{ints_spelled}
 use Rattle.group_tests.proofs.lanes.plain.Goals as goal
 
 pub returns-clause-long : goal.returns-clause-long

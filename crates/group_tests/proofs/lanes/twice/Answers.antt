@@ -4,7 +4,7 @@ use Rattle.std.specs.Str.{is_utf8}
 use Rattle.std.proofs.lemmas.Str.{is_utf8-from_IsUtf8}
 use Rattle.meaning.specs.declared.value.Value.{Value}
 use Rattle.meaning.specs.declared.value.Value.TheVariants.{Text}
-use Rattle.accumulators.specs.Values.{is_spelled}
+use Rattle.aggregate_states.specs.Values.{is_spelled}
 use Rattle.group_tests.proofs.lanes.twice.Goals as goal
 
 both_spelled : (t : List ℕ) → is_utf8 t ≡ true → All (λ v. is_spelled v ≡ true) (Text t ∷ Text t ∷ [])

@@ -1,7 +1,7 @@
 -- Proofs of the goals of `fill_now` (`scan`).
 use Rattle.std.proofs.Common.{List, ap, sym, subst, ◌∙◌}
 use Rattle.std.specs.Prelude.{All, Option, option_map}
-use Rattle.encodings.specs.Block.{Block}
+use Rattle.blocks.specs.Block.{Block}
 use Rattle.fragment_file.specs.View.{rows_of}
 use Rattle.scan_select.specs.declared.buffers.ColumnBuffer.{ColumnBuffer}
 use Rattle.scan_select.specs.Buffers.{FitsGroup, filled, filled_now}

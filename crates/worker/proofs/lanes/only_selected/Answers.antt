@@ -2,7 +2,7 @@
 use Rattle.std.proofs.Common.{List, subst, sym, ap, ◌≡◌, true}
 use Rattle.std.specs.List.{AllByRecursion}
 use Rattle.meaning.specs.declared.value.Value.{Value}
-use Rattle.accumulators.specs.Values.{is_spelled}
+use Rattle.aggregate_states.specs.Values.{is_spelled}
 use Rattle.vectors.specs.Vector.{values_of}
 use Rattle.worker.specs.Evaluated.{IsOnly}
 use Rattle.worker.proofs.Chosen.{all_spelled, ints_spelled}

@@ -4,8 +4,8 @@ use Rattle.meaning.specs.declared.answer.Statistics.{Statistics}
 use Rattle.meaning.specs.Aggregate.{merge}
 use Rattle.accumulators.specs.AnyAcc.{held_by, kind_of}
 use Rattle.accumulators.specs.declared.any_acc.AnyAcc.{AnyAcc}
-use Rattle.accumulators.specs.Entries.{together}
-use Rattle.accumulators.proofs.Growing.{as_count, as_sum}
+use Rattle.aggregate_states.specs.Entries.{together}
+use Rattle.aggregate_states.proofs.Growing.{as_count, as_sum}
 use Rattle.accumulators.proofs.any_acc.AnyAccAccumulator.merge_batch.Goals as goal
 
 pub returns-in-CountRows-clause-ok : goal.returns-in-CountRows-clause-ok

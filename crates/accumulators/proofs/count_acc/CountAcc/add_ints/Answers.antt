@@ -2,7 +2,7 @@
 use Rattle.std.proofs.Common.{ap, sym, ◌∙◌}
 use Rattle.meaning.specs.declared.answer.Statistics.{Statistics}
 use Rattle.meaning.specs.Aggregate.{merge}
-use Rattle.accumulators.proofs.Growing.{count_of_ints}
+use Rattle.aggregate_states.proofs.Growing.{count_of_ints}
 use Rattle.accumulators.proofs.count_acc.CountAcc.add_ints.Goals as goal
 
 pub returns : goal.returns

@@ -2,7 +2,7 @@
 use Rattle.std.proofs.Common.{ℕ, ◌<◌, length, subst}
 use Rattle.meaning.specs.declared.plan.AggregateKind.TheVariants.{Count}
 use Rattle.vectors.specs.Vector.{values_of}
-use Rattle.accumulators.proofs.Growing.{adds_up_more, room_more}
+use Rattle.aggregate_states.proofs.Growing.{adds_up_more, room_more}
 use Rattle.accumulators.proofs.count_acc.CountAcc.add_selected.Goals as goal
 
 pub loop-k-preserved : goal.loop-k-preserved

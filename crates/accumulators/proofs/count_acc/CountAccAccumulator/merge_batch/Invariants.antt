@@ -2,8 +2,8 @@
 use Rattle.std.proofs.Common.{◌+◌, ◌≤◌, drop, map}
 use Rattle.std.specs.Prelude.{sum}
 use Rattle.meaning.specs.declared.plan.AggregateKind.TheVariants.{Count}
-use Rattle.accumulators.specs.State.{most_entries}
-use Rattle.accumulators.proofs.Growing.{MergesUp}
+use Rattle.aggregate_states.specs.State.{most_entries}
+use Rattle.aggregate_states.proofs.Growing.{MergesUp}
 use Rattle.accumulators.proofs.count_acc.CountAccAccumulator.merge_batch.Given as goal
 
 -- the states that are left make it whole, and there is room for their entries

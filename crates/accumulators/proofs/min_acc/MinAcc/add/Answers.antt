@@ -2,8 +2,8 @@
 use Rattle.std.proofs.Common.{◌≡◌, OnOk, subst}
 use Rattle.meaning.specs.declared.answer.Statistics.{Statistics}
 use Rattle.meaning.specs.Aggregate.{merge}
-use Rattle.accumulators.specs.declared.end.End.TheVariants as end
-use Rattle.accumulators.specs.Kinds.{end_state}
+use Rattle.aggregate_states.specs.declared.end.End.TheVariants as end
+use Rattle.aggregate_states.specs.Kinds.{end_state}
 use Rattle.accumulators.proofs.min_acc.MinAcc.add.Goals as goal
 
 pub returns-clause-ok : goal.returns-clause-ok

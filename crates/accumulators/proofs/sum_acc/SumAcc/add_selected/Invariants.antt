@@ -1,9 +1,9 @@
 -- Invariants of `SumAcc::add_selected` (`sum_acc`).
 use Rattle.std.proofs.Common.{◌+◌, ◌≤◌, length}
 use Rattle.meaning.specs.declared.plan.AggregateKind.TheVariants.{Sum}
-use Rattle.accumulators.specs.State.{most_entries}
+use Rattle.aggregate_states.specs.State.{most_entries}
 use Rattle.vectors.specs.Vector.{values_of}
-use Rattle.accumulators.proofs.Growing.{AddsUp}
+use Rattle.aggregate_states.proofs.Growing.{AddsUp}
 use Rattle.accumulators.proofs.sum_acc.SumAcc.add_selected.Given as goal
 
 -- the values that are left make it whole, and there is room for them

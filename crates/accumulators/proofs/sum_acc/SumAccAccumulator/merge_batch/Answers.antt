@@ -3,7 +3,7 @@ use Rattle.std.proofs.Common.{◌∙◌, ap}
 use Rattle.meaning.specs.declared.answer.Statistics.{Statistics}
 use Rattle.meaning.specs.declared.plan.AggregateKind.TheVariants.{Sum}
 use Rattle.meaning.specs.Aggregate.{merge, kept_by}
-use Rattle.accumulators.proofs.Growing.{merges_up_more, room_left}
+use Rattle.aggregate_states.proofs.Growing.{merges_up_more, room_left}
 use Rattle.accumulators.proofs.sum_acc.SumAccAccumulator.merge_batch.Goals as goal
 
 pub loop-k-preserved : goal.loop-k-preserved

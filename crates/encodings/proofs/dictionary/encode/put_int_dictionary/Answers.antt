@@ -5,9 +5,9 @@ use Rattle.std.proofs.lemmas.List.{length-map}
 use Rattle.meaning.specs.Limits.{row_group_rows}
 use Rattle.meaning.specs.declared.value.ColType.TheVariants as of_type
 use Rattle.meaning.specs.declared.value.Value.TheVariants.{Int}
-use Rattle.encodings.specs.Numbers.{word_bytes, short_bytes, integer_bytes}
-use Rattle.encodings.specs.Plain.{ints_at}
-use Rattle.encodings.specs.Dictionary.{AreEntries}
+use Rattle.blocks.specs.Numbers.{word_bytes, short_bytes, integer_bytes}
+use Rattle.blocks.specs.Plain.{ints_at}
+use Rattle.blocks.specs.Dictionary.{AreEntries}
 use Rattle.encodings.proofs.EncodedBodies.{form_at_ints}
 use Rattle.encodings.proofs.EncodedDictionaries.{puts_dictionary}
 use Rattle.encodings.proofs.dictionary.encode.put_int_dictionary.Goals as goal

@@ -1,7 +1,7 @@
 -- Loop invariants of `put_entries` (`dictionary::entries`).
 use Rattle.std.proofs.Common.{◌≡◌, map, length}
 use Rattle.encodings.specs.Entries.{AreFirstEntries, AreFirstCodes}
-use Rattle.encodings.specs.Plain.{cells_at}
+use Rattle.blocks.specs.Plain.{cells_at}
 use Rattle.encodings.proofs.dictionary.entries.put_entries.Given as goal
 
 abbrev pub invariant-loop-index : goal.invariant-loop-index

@@ -2,7 +2,7 @@
 use Rattle.std.proofs.Common.{◌≡◌, ◌<◌, length, map, get_or, sym, ap, ◌∙◌, arith}
 use Rattle.std.proofs.lemmas.List.{get_or-map, length-map}
 use Rattle.meaning.specs.declared.value.Value.TheVariants.{Null}
-use Rattle.encodings.specs.Plain.{cells_at}
+use Rattle.blocks.specs.Plain.{cells_at}
 use Rattle.encodings.proofs.EncodedForms.{index_below}
 use Rattle.encodings.proofs.NumberEntries.{numbered_more}
 use Rattle.encodings.proofs.dictionary.entries.put_numbered.Goals as goal

@@ -1,7 +1,7 @@
 -- Loop invariants of `put_numbered` (`dictionary::entries`).
 use Rattle.std.proofs.Common.{map}
 use Rattle.encodings.specs.Entries.{AreNumbered}
-use Rattle.encodings.specs.Plain.{cells_at}
+use Rattle.blocks.specs.Plain.{cells_at}
 use Rattle.encodings.proofs.dictionary.entries.put_numbered.Given as goal
 
 abbrev pub invariant-loop-number : goal.invariant-loop-number

@@ -1,6 +1,6 @@
 -- Proofs of the goals of `sorted` (`dictionary::entries`).
 use Rattle.std.proofs.Common.{length, map}
-use Rattle.encodings.specs.Plain.{cells_at}
+use Rattle.blocks.specs.Plain.{cells_at}
 use Rattle.encodings.proofs.dictionary.entries.sorted.Goals as goal
 
 pub returns-in-Ok-clause-numbered : goal.returns-in-Ok-clause-numbered

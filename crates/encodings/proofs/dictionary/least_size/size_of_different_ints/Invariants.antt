@@ -3,7 +3,7 @@ use Rattle.std.proofs.Common.{◌≡◌, ◌-◌, ◌*◌, ◌≤◌, length, ma
 use Rattle.meaning.specs.declared.value.ColType.TheVariants as of_type
 use Rattle.meaning.specs.declared.value.Value.TheVariants.{Int}
 use Rattle.meaning.specs.Order.{value_cmp, ascending_set}
-use Rattle.encodings.specs.Plain.{form_size}
+use Rattle.blocks.specs.Plain.{form_size}
 use Rattle.encodings.proofs.Marks.{AreMarked}
 use Rattle.encodings.proofs.dictionary.least_size.size_of_different_ints.Given as goal
 

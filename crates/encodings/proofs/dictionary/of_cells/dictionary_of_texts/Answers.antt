@@ -1,7 +1,7 @@
 -- Proofs of the goals of `dictionary_of_texts` (`dictionary::of_cells`).
 use Rattle.std.proofs.Common.{◌≡◌, ◌-◌, ℕ, List, map, take, drop, ap, ◌∙◌, subst, IfOk}
 use Rattle.meaning.specs.declared.value.Value.TheVariants.{Text}
-use Rattle.encodings.specs.Dictionary.{AreEntries}
+use Rattle.blocks.specs.Dictionary.{AreEntries}
 use Rattle.encodings.specs.declared.dictionary.of_cells.Dictionary.{Dictionary}
 use Rattle.encodings.proofs.RowCodes.{text_cells}
 use Rattle.encodings.proofs.dictionary.of_cells.dictionary_of_texts.Goals as goal

@@ -3,8 +3,8 @@ use Rattle.std.proofs.Common.{◌-◌, ◌∙◌, ap, sym, subst, map, take, dro
 use Rattle.meaning.specs.declared.value.ColType.TheVariants as of_type
 use Rattle.meaning.specs.declared.value.Value.TheVariants.{Text}
 use Rattle.encodings.specs.Choice.{IsDictionaryWithin}
-use Rattle.encodings.specs.Plain.{form_size}
-use Rattle.encodings.specs.Plain.{cells_at}
+use Rattle.blocks.specs.Plain.{form_size}
+use Rattle.blocks.specs.Plain.{cells_at}
 use Rattle.encodings.proofs.ChosenKinds.{dictionary_size, least_text_dictionary}
 use Rattle.encodings.proofs.EncodedRuns.{rows_of}
 use Rattle.encodings.proofs.dictionary.within.dictionary_of_texts_within.Goals as goal

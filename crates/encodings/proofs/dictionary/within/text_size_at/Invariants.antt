@@ -2,8 +2,8 @@
 use Rattle.std.proofs.Common.{◌≡◌, ◌≤◌, ◌*◌, ◌-◌, map, take, drop}
 use Rattle.meaning.specs.declared.value.ColType.TheVariants as of_type
 use Rattle.meaning.specs.declared.value.Value.TheVariants.{Text}
-use Rattle.encodings.specs.Plain.{form_size}
-use Rattle.encodings.specs.Plain.{cells_at}
+use Rattle.blocks.specs.Plain.{form_size}
+use Rattle.blocks.specs.Plain.{cells_at}
 use Rattle.encodings.proofs.dictionary.within.text_size_at.Given as goal
 
 abbrev pub invariant-loop-row : goal.invariant-loop-row

@@ -2,7 +2,7 @@
 use Rattle.std.proofs.Common.{◌≡◌, ◌-◌, ◌+◌, arith, rules, length, drop, get_or, pos, sym, ap, ◌∙◌, w64, FitsSigned}
 use Rattle.std.specs.Ordering.{int_cmp, ord_min, ord_max}
 use Rattle.std.proofs.lemmas.Int.{to_z-of_z}
-use Rattle.encodings.specs.Frame.{least_in, greatest_in}
+use Rattle.blocks.specs.Frame.{least_in, greatest_in}
 use Rattle.encodings.proofs.EncodedFrames.{least_more, greatest_more, last_least, last_greatest}
 use Rattle.encodings.proofs.frame.bounds.bounds_of.Goals as goal
 

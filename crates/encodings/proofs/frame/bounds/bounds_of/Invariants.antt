@@ -1,6 +1,6 @@
 -- Loop invariants of `bounds_of` (`frame::bounds`).
 use Rattle.std.proofs.Common.{◌≡◌, ◌<◌, drop, length}
-use Rattle.encodings.specs.Frame.{least_in, greatest_in}
+use Rattle.blocks.specs.Frame.{least_in, greatest_in}
 use Rattle.encodings.proofs.frame.bounds.bounds_of.Given as goal
 
 abbrev pub invariant-loop-row : goal.invariant-loop-row

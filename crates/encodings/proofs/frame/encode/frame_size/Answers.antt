@@ -2,7 +2,7 @@
 use Rattle.std.proofs.Common.{◌≡◌, rules, ◌∙◌, ◌-ℤ◌, unsigned_abs, w64, to_z, of_z, FitsSigned}
 use Rattle.std.proofs.lemmas.Int.{to_z-of_z}
 use Rattle.bit_packing.specs.Widths.{IsWidth}
-use Rattle.encodings.specs.Frame.{least_in, greatest_in}
+use Rattle.blocks.specs.Frame.{least_in, greatest_in}
 use Rattle.encodings.proofs.EncodedFrames.{frame_size, same_width}
 use Rattle.encodings.proofs.frame.encode.frame_size.Goals as goal
 

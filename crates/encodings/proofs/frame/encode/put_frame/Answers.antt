@@ -5,8 +5,8 @@ use Rattle.std.specs.List.{list_all}
 use Rattle.std.proofs.lemmas.Int.{to_z-of_z}
 use Rattle.bit_packing.specs.Packing.{ArePacked, packed}
 use Rattle.bit_packing.specs.Widths.{IsWidth}
-use Rattle.encodings.specs.Frame.{least_in, greatest_in}
-use Rattle.encodings.specs.Numbers.{integer_bytes}
+use Rattle.blocks.specs.Frame.{least_in, greatest_in}
+use Rattle.blocks.specs.Numbers.{integer_bytes}
 use Rattle.encodings.proofs.EncodedFrames.{puts_frame, offsets_fit, same_width}
 use Rattle.encodings.proofs.frame.encode.put_frame.Goals as goal
 

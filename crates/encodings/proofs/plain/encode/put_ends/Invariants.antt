@@ -3,7 +3,7 @@ use Rattle.std.proofs.Common.{◌≡◌, ◌++◌, ◌-◌, ◌≤◌, ◌*◌, 
 use Rattle.std.specs.List.{flat_map, concat}
 use Rattle.meaning.specs.Limits.{max_text_bytes}
 use Rattle.columns.specs.Texts.{ends_from}
-use Rattle.encodings.specs.Numbers.{word_bytes}
+use Rattle.blocks.specs.Numbers.{word_bytes}
 use Rattle.encodings.proofs.plain.encode.put_ends.Given as goal
 
 abbrev pub invariant-loop-row : goal.invariant-loop-row

@@ -3,7 +3,7 @@ use Rattle.std.proofs.Common.{◌≤◌, ◌∙◌, ◌++◌, ◌-◌, take, dro
 use Rattle.std.specs.List.{flat_map}
 use Rattle.meaning.specs.Limits.{max_text_bytes}
 use Rattle.columns.specs.Texts.{ends_from}
-use Rattle.encodings.specs.Numbers.{word_bytes}
+use Rattle.blocks.specs.Numbers.{word_bytes}
 use Rattle.encodings.proofs.EncodedForms.{ends_at_step, text_short, all_indexes}
 use Rattle.encodings.proofs.plain.encode.put_ends_at.Goals as goal
 

@@ -1,7 +1,7 @@
 -- Loop invariants of `put_integers` (`plain::encode`).
 use Rattle.std.proofs.Common.{◌≡◌, ◌++◌, take}
 use Rattle.std.specs.List.{flat_map}
-use Rattle.encodings.specs.Numbers.{integer_bytes}
+use Rattle.blocks.specs.Numbers.{integer_bytes}
 use Rattle.encodings.proofs.plain.encode.put_integers.Given as goal
 
 abbrev pub invariant-loop-n : goal.invariant-loop-n

@@ -1,8 +1,8 @@
 -- Loop invariants of `put_integers_at` (`plain::encode`).
 use Rattle.std.proofs.Common.{◌≡◌, ◌++◌, take}
 use Rattle.std.specs.List.{flat_map}
-use Rattle.encodings.specs.Numbers.{integer_bytes}
-use Rattle.encodings.specs.Plain.{ints_at}
+use Rattle.blocks.specs.Numbers.{integer_bytes}
+use Rattle.blocks.specs.Plain.{ints_at}
 use Rattle.encodings.proofs.plain.encode.put_integers_at.Given as goal
 
 abbrev pub invariant-loop-row : goal.invariant-loop-row

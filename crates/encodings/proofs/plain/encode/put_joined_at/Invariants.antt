@@ -1,7 +1,7 @@
 -- Loop invariants of `put_joined_at` (`plain::encode`).
 use Rattle.std.proofs.Common.{◌≡◌, ◌++◌, ◌-◌, take, drop}
 use Rattle.std.specs.List.{concat}
-use Rattle.encodings.specs.Plain.{texts_at}
+use Rattle.blocks.specs.Plain.{texts_at}
 use Rattle.encodings.proofs.plain.encode.put_joined_at.Given as goal
 
 abbrev pub invariant-loop-row : goal.invariant-loop-row

@@ -3,7 +3,7 @@ use Rattle.std.proofs.Common.{arith, ap, ◌∙◌, ◌++◌, List, ℕ}
 use Rattle.std.specs.List.{flat_map}
 use Rattle.std.proofs.lemmas.List.{length-map}
 use Rattle.meaning.specs.declared.value.Value.TheVariants.{Int}
-use Rattle.encodings.specs.Numbers.{integer_bytes}
+use Rattle.blocks.specs.Numbers.{integer_bytes}
 use Rattle.encodings.proofs.EncodedBodies.{puts_plain_ints}
 use Rattle.encodings.proofs.plain.encode.put_plain_ints.Goals as goal
 

@@ -5,8 +5,8 @@ use Rattle.std.proofs.lemmas.List.{length-map}
 use Rattle.meaning.specs.Limits.{row_group_rows}
 use Rattle.meaning.specs.declared.value.ColType.TheVariants as of_type
 use Rattle.meaning.specs.declared.value.Value.TheVariants.{Int}
-use Rattle.encodings.specs.Numbers.{word_bytes, short_bytes, integer_bytes}
-use Rattle.encodings.specs.Plain.{ints_at}
+use Rattle.blocks.specs.Numbers.{word_bytes, short_bytes, integer_bytes}
+use Rattle.blocks.specs.Plain.{ints_at}
 use Rattle.encodings.proofs.EncodedBodies.{puts_runs, runs_few, form_at_ints}
 use Rattle.encodings.proofs.runs.encode.put_int_runs.Goals as goal
 

@@ -4,8 +4,8 @@ use Rattle.std.specs.List.{flat_map}
 use Rattle.meaning.specs.Limits.{row_group_rows}
 use Rattle.meaning.specs.declared.value.ColType.TheVariants as of_type
 use Rattle.meaning.specs.declared.value.Value.TheVariants.{Text}
-use Rattle.encodings.specs.Numbers.{word_bytes, short_bytes}
-use Rattle.encodings.specs.Plain.{texts_at}
+use Rattle.blocks.specs.Numbers.{word_bytes, short_bytes}
+use Rattle.blocks.specs.Plain.{texts_at}
 use Rattle.encodings.proofs.EncodedBodies.{puts_runs, runs_few, form_at_texts, laid_texts}
 use Rattle.encodings.proofs.EncodedRuns.{rows_of}
 use Rattle.encodings.proofs.runs.encode.put_text_runs.Goals as goal

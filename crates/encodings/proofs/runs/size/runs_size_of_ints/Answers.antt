@@ -3,7 +3,7 @@ use Rattle.std.proofs.Common.{◌≡◌, ◌+◌, ◌-◌, map, drop, refl, ap, 
 use Rattle.std.proofs.lemmas.List.{length-map}
 use Rattle.meaning.specs.declared.value.ColType.TheVariants as of_type
 use Rattle.meaning.specs.declared.value.Value.TheVariants.{Int}
-use Rattle.encodings.specs.Runs.{run_heads}
+use Rattle.blocks.specs.Runs.{run_heads}
 use Rattle.encodings.proofs.RunSizes.{runs_size, run_ends, last_run}
 use Rattle.encodings.proofs.runs.size.runs_size_of_ints.Goals as goal
 

@@ -2,7 +2,7 @@
 use Rattle.std.proofs.Common.{◌≡◌, ◌+◌, ◌-◌, ◌*◌, ◌<◌, ◌≤◌, length, map, drop}
 use Rattle.meaning.specs.declared.value.ColType.TheVariants as of_type
 use Rattle.meaning.specs.declared.value.Value.TheVariants.{Int}
-use Rattle.encodings.specs.Runs.{run_heads}
+use Rattle.blocks.specs.Runs.{run_heads}
 use Rattle.encodings.proofs.RunSizes.{runs_size}
 use Rattle.encodings.proofs.runs.size.runs_size_of_ints.Given as goal
 

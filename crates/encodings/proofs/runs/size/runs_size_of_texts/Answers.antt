@@ -4,7 +4,7 @@ use Rattle.std.proofs.lemmas.List.{length-map, get_or-map}
 use Rattle.meaning.specs.declared.value.ColType.TheVariants as of_type
 use Rattle.meaning.specs.declared.value.Value.TheVariants.{Null, Text}
 use Rattle.meaning.specs.Order.{bytes}
-use Rattle.encodings.specs.Runs.{run_heads}
+use Rattle.blocks.specs.Runs.{run_heads}
 use Rattle.encodings.proofs.EncodedRuns.{rows_of}
 use Rattle.encodings.proofs.RunSizes.{runs_size, run_ends, last_run}
 use Rattle.encodings.proofs.runs.size.runs_size_of_texts.Goals as goal

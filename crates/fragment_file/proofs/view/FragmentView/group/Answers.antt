@@ -1,7 +1,7 @@
 -- Proofs of the goals of `FragmentView::group` (`view`).
 use Rattle.std.proofs.Common.{List, ◌<◌, [], length, map, get_or, sym, ap, subst, ◌∙◌, arith}
 use Rattle.std.proofs.lemmas.List.{get_or-map, length-map}
-use Rattle.encodings.specs.Block.{Block}
+use Rattle.blocks.specs.Block.{Block}
 use Rattle.fragment_file.specs.declared.view.BlockLocation.{BlockLocation}
 use Rattle.fragment_file.specs.Fragment.{FragmentSpec, AreBlocks, IsFragment}
 use Rattle.fragment_file.specs.View.{IsGroupAt, block_in, rows_of}

@@ -1,7 +1,7 @@
 -- Proofs of the goals of `GroupView::column` (`view`).
 use Rattle.std.proofs.Common.{List, ◌<◌, length, ap, arith}
 use Rattle.std.proofs.lemmas.List.{length-map}
-use Rattle.encodings.specs.Block.{Block}
+use Rattle.blocks.specs.Block.{Block}
 use Rattle.fragment_file.specs.View.{block_in}
 use Rattle.fragment_file.proofs.Locations.{block_sound}
 use Rattle.fragment_file.proofs.view.GroupView.column.Goals as goal

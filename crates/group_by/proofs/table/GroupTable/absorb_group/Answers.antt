@@ -1,6 +1,6 @@
 -- Proofs of the goals of `absorb_group` (`table`).
 use Rattle.std.proofs.Common.{◌≡◌, ℕ, ◌+◌, ◌≤◌, [], ◌∷◌, ap, subst, sym, arith, ◌∙◌}
-use Rattle.accumulators.specs.State.{most_entries}
+use Rattle.aggregate_states.specs.State.{most_entries}
 use Rattle.group_by.specs.Shape.{Shape, GroupsSpec}
 use Rattle.group_by.specs.Groups.{with_groups}
 use Rattle.group_by.specs.Rows.{IsGroupOf}

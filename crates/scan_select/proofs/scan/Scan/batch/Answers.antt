@@ -2,7 +2,7 @@
 use Rattle.std.proofs.Common.{◌≡◌, ℕ, ◌-◌, min, List, ap, sym, subst, refl, ◌∙◌, arith}
 use Rattle.std.specs.Prelude.{All, Option, option_map, IfSome}
 use Rattle.std.proofs.lemmas.Bool.{ne_eqb}
-use Rattle.encodings.specs.Block.{Block}
+use Rattle.blocks.specs.Block.{Block}
 use Rattle.fragment_file.specs.View.{rows_of}
 use Rattle.scan_select.specs.declared.buffers.ColumnBuffer.{ColumnBuffer}
 use Rattle.scan_select.specs.Buffers.{AddsLent, IsFilled, IsLendable}

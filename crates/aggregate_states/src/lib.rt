@@ -1,0 +1,22 @@
+//! What is known of a list of entries: states of aggregates and what they evaluate to, the parts of
+//! which accumulators make them, and the groups that hold them.
+#![tactic(auto)]
+
+mod end;
+mod evaluating;
+mod extreme;
+mod fault;
+mod group;
+mod lanes;
+mod one_group;
+mod state;
+mod tally;
+
+pub use end::{End, is_null};
+pub use extreme::{Extreme, Found, found_in_states, found_selected};
+pub use fault::AggFault;
+pub use group::Group;
+pub use lanes::{owned, plain_ints, position, selected_value, value_at};
+pub use one_group::one_group_index;
+pub use state::State;
+pub use tally::Tally;

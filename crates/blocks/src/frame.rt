@@ -1,0 +1,4 @@
+//! A frame of reference: a base, and an offset of a fixed width in bits for each row.
+
+pub mod check;
+pub mod read;

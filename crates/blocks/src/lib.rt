@@ -1,0 +1,20 @@
+//! Blocks, as they are read: the values of one column in up to 8,192 rows, in bytes of one of four
+//! kinds. A view is made only of bytes that are a block.
+#![tactic(auto)]
+
+mod block_rows;
+mod cells;
+mod dictionary;
+mod frame;
+mod kind;
+mod numbers;
+mod plain;
+mod runs;
+mod vector_buf;
+mod view;
+
+pub use dictionary::DictionaryView;
+pub use kind::Kind;
+pub use runs::RunsView;
+pub use vector_buf::VectorBuf;
+pub use view::BlockView;

@@ -1,7 +1,0 @@
--- Loop invariants of `pass_over` (`runs::seek`).
-use Rattle.std.proofs.Common.{◌≡◌, ◌+◌, ◌*◌, take, sum}
-use Rattle.encodings.specs.Dictionary.{codes_in}
-use Rattle.encodings.proofs.runs.seek.pass_over.Given as goal
-
-abbrev pub invariant-loop-k : goal.invariant-loop-k
-invariant-loop-k l = l.skip + sum (take (32 * l.k) (codes_in l.lengths)) ≡ l.from

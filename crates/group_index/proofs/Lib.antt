@@ -1,0 +1,5 @@
+pub mod Finding
+pub mod CloseInts
+pub mod Texts
+pub mod Ends
+pub mod SelectedInts

@@ -1,0 +1,12 @@
+-- Invariants of `find_int` (`index`).
+use Rattle.std.proofs.Common.{◌<◌, ◌∷◌, [], ℕ, length, get_or}
+use Rattle.meaning.specs.declared.value.Value.TheVariants.{Int}
+use Rattle.group_index.specs.declared.index.Slot.{Slot}
+use Rattle.group_index.specs.Probing.{slot_at, ComesTo, Leads}
+use Rattle.group_index.proofs.index.KeyIndex.find_int.Given as goal
+
+abbrev pub invariant-loop-step : goal.invariant-loop-step
+invariant-loop-step l = record {
+  passed : ComesTo l.hash l.slots l.step;
+  missed : (before : ℕ) (d : Slot) → before < l.step → Leads (Int l.int ∷ []) l.hash l.self.keys (get_or l.slots (slot_at l.hash before (length l.slots)) d) → ⊥;
+}

@@ -1,0 +1,29 @@
+-- The slots of a hash table that a search looks at.
+use Rattle.std.specs.Prelude.{◌≡◌, ◌≢◌, ℕ, ◌+◌, ◌-◌, ◌/◌, ◌%◌, ◌^◌, ◌<◌, bit_and, List, [], length, get_or}
+use Rattle.meaning.specs.Order.{Row}
+use Rattle.group_index.specs.declared.index.Slot.{Slot}
+
+-- the part of a hash that is held
+abbrev pub tag_in : ℕ → ℕ
+tag_in hash = hash / 2 ^ 32 % 2 ^ 32
+
+-- the slot to look at after so many steps
+abbrev pub slot_at : ℕ → ℕ → ℕ → ℕ
+slot_at hash step slots = bit_and ((hash + step) % 2 ^ 64) ((slots + (2 ^ 64 - 1)) % 2 ^ 64)
+
+-- a slot leads to a key of this hash
+pub record Leads (key : Row) (hash : ℕ) (keys : List Row) (s : Slot) : Type 0 where
+  pub full : s.group_index ≢ 2 ^ 32 - 1
+  pub tag : s.tag ≡ tag_in hash
+  pub within : s.group_index < length keys
+  pub is : get_or keys s.group_index [] ≡ key
+
+-- a search comes to so many steps: each slot before is there, and full
+abbrev pub ComesTo : ℕ → List Slot → ℕ → Type 0
+ComesTo hash slots step = (before : ℕ) (d : Slot) → before < step
+    → (slot_at hash before (length slots) < length slots) × ((get_or slots (slot_at hash before (length slots)) d).group_index ≢ 2 ^ 32 - 1)
+
+-- no slot that a search comes to leads to the key
+abbrev pub IsMissed : Row → ℕ → List Row → List Slot → Type 0
+IsMissed key hash keys slots = (step : ℕ) (d : Slot) → step < length slots → ComesTo hash slots step
+    → slot_at hash step (length slots) < length slots → Leads key hash keys (get_or slots (slot_at hash step (length slots)) d) → ⊥

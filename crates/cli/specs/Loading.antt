@@ -103,7 +103,8 @@ AreFragmentsBegun folder load table cut fragments changes = (n : ℕ) × AreEach
 abbrev pub AreDimensionsBegun : List ℕ → ℕ → List Dimension → List (List ColumnSpec) → List Change → Type 0
 AreDimensionsBegun folder load declared dims changes = (n : ℕ) × AreEach (IsDimensionFile folder load) (zip (take n declared) (take n dims)) changes
 
--- the first of a load's files were written or taken away, in their order, but not the file of the cut
+-- the first files of the fragments and of the dimensions were written, and the first of the others taken away; but not the file
+-- of the cut
 pub record AreFilesBegun (folder : List ℕ) (load : ℕ) (catalog : Catalog) (cut : Cut) (fragments dims : List (List ColumnSpec)) (changes : List Change) : Type 0 where
   pub of_fragments : List Change
   pub fragments_are : AreFragmentsBegun folder load catalog.fact cut fragments of_fragments

@@ -163,7 +163,7 @@ IsRefusedFor holds (Gather command) e = IsGatherRefused holds command e
 
 -- ---- what a refusal leaves
 
--- the first of a load's files were written, or all of them where standard output failed behind them
+-- the first of a load's files of each kind were written, or all of them where standard output failed behind them
 abbrev pub IsWrittenSoFar : List ℕ → ℕ → Catalog → Cut → List (List ColumnSpec) → List (List ColumnSpec) → Refusal → Option (List Change) → Option (List Change) → Type 0
 IsWrittenSoFar folder load catalog cut fragments dims e before after = Writes (AreFilesBegun folder load catalog cut fragments dims) before after
     ⊎ ((e ≡ refusal.CannotPrint) × Writes (AreFiles folder load catalog cut fragments dims) before after)
@@ -172,7 +172,7 @@ IsWrittenSoFar folder load catalog cut fragments dims e before after = Writes (A
 abbrev pub IsQuiet : Refusal → Option (List ℕ) → Option (List ℕ) → Type 0
 IsQuiet e before after = (e ≡ refusal.CannotPrint) ⊎ (after ≡ before)
 
--- all tables are loaded, and the first of their files were written, or all where standard output failed behind them
+-- all tables are loaded, and the first of their files of each kind were written, or all where standard output failed behind them
 pub record IsSavedSoFar (holds : Holds) (folder : List ℕ) (load rows : ℕ) (catalog : Catalog) (e : Refusal) (before after : Option (List Change)) : Type 0 where
   pub cut : Cut
   pub fragments : List (List ColumnSpec)
@@ -190,7 +190,7 @@ abbrev pub IsLoadLeft : Holds → List ℕ → ℕ → ℕ → Refusal → Optio
 IsLoadLeft holds folder load rows e before after = (after ≡ before)
     ⊎ ((catalog : Catalog) × IsCatalogThere holds folder catalog × IsSavedSoFar holds folder load rows catalog e before after)
 
--- the files that a refused command leaves: `whole` and `work` write none, `load` no more than the first of its files, and
+-- the files that a refused command leaves: `whole` and `work` write none, `load` no more than the first files of each kind, and
 -- `gather` none but a state whose report can't be printed
 abbrev pub LeavesFiles : Holds → Command → Refusal → Option (List ℕ) → Option (List Change) → Option (List Change) → Type 0
 LeavesFiles holds (Whole folder query rows vector) e err before after = after ≡ before

@@ -355,7 +355,7 @@ fn work<F: Folder>(alloc: Global, folder: &mut F, command: &WorkCommand) -> Resu
 ///
 /// Out of memory, or the first thing that is wrong in the folder's bytes, in the command's order.
 /// Whatever it is, nothing was printed then, unless standard output failed; and no file was written
-/// but by a load whose files could not all be written, which leaves the first of them, and by a
+/// but by a load whose files could not all be written, which leaves those before it, and by a
 /// `gather` whose report could not be printed, which leaves its state.
 pub fn outcome<F: Folder, O: Write, E: Write>(
     alloc: Global,

@@ -4,6 +4,7 @@ pub mod Digits
 pub mod Fits
 pub mod LaneGroups
 pub mod LeastWidths
+pub mod Lowered
 pub mod MarkedRows
 pub mod MaskBytes
 pub mod MaskWindows

@@ -102,26 +102,8 @@ number-take_all m xs h = ap number_of (take_all m xs h)
 pub offset_at-group : (w g j i : ℕ) (xs : List ℕ) → AreBytes xs → 8 * g + j ≡ i → offset_at w (drop (g * w) xs) j ≡ offset_at w xs i
 offset_at-group w g j i xs h e = sym (offset_at-drop w (g * w) (w * j) i xs h (rw (sym e) (omega arith)))
 
--- where a digit begins, by groups of eight lanes
-group_within : (q r w n : ℕ) → (8 * q + r) * w ≤ 8 * n → q * w + r * w / 8 ≤ n
-group_within q r w n h = omega arith
-
 pub parts_of_8 : (i : ℕ) → i ≡ 8 * (i / 8) + i % 8
 parts_of_8 i = omega arith
-
-pub start_within : (i w n : ℕ) → i * w ≤ 8 * n → i / 8 * w + (i % 8) * w / 8 ≤ n
-start_within i w n h =
-    let k : (8 * (i / 8) + i % 8) * w ≤ 8 * n = subst (λ (j : ℕ). j * w ≤ 8 * n) (parts_of_8 i) h in
-    group_within (i / 8) (i % 8) w n k
-
-group_bit : (q r w i s : ℕ) → i ≡ 8 * q + r → s ≡ r * w → 8 * (q * w + s / 8) + s % 8 ≡ w * i
-group_bit q r w i s e f = let g : 8 * (s / 8) + s % 8 ≡ s = omega arith in rw e (omega (arith, g, f))
-
-pub offset_at-start : (w i : ℕ) (xs : List ℕ) → AreBytes xs
-    → number_of (drop (i / 8 * w + (i % 8) * w / 8) xs) / 2 ^ ((i % 8) * w % 8) % 2 ^ w ≡ offset_at w xs i
-offset_at-start w i xs h =
-    sym (offset_at-drop w (i / 8 * w + (i % 8) * w / 8) ((i % 8) * w % 8) i xs h
-    (group_bit (i / 8) (i % 8) w i ((i % 8) * w) (parts_of_8 i) refl))
 
 -- a byte more at the front
 pub number-drop_less : (xs : List ℕ) (i j : ℕ) → i < length xs → j ≡ i + 1 → number_of (drop i xs) ≡ get_or xs i 0 + 256 * number_of (drop j xs)

@@ -12,11 +12,11 @@ use crate::groups::raised;
 use crate::raising::fill_raised;
 
 /// How many offsets are unpacked at a time.
-const LANES: usize = 256;
+pub const LANES: usize = 256;
 
 /// The offsets from index `from` on, each above the least integer, so that any is an integer of 64
 /// bits.
-fn fill_lifted(width: u8, packed: &[u8], from: usize, out: &mut [i64])
+pub fn fill_lifted(width: u8, packed: &[u8], from: usize, out: &mut [i64])
     requires width { width ≤ 64 }
     requires within { (from + length out.old) * width ≤ 8 * length packed.now }
     requires few { from + length out.old ≤ row_group_rows }

@@ -7,7 +7,6 @@ use Rattle.std.proofs.lemmas.List.Elements.{Contains-get_or}
 use Rattle.meaning.specs.declared.catalog.Dimension.{Dimension}
 use Rattle.columns.specs.Column.{ColumnSpec}
 use Rattle.loader.specs.Fault as loads
-use Rattle.loader.specs.Source.{csv_records}
 use Rattle.loader.specs.declared.fault.LoadFault.{LoadFault}
 use Rattle.loader.specs.declared.fault.LoadFault.TheVariants as load_fault
 use Rattle.meaning.specs.declared.catalog.Catalog.{Catalog}
@@ -17,7 +16,7 @@ use Rattle.coordinator.specs.declared.fault.WholeFault.{WholeFault}
 use Rattle.coordinator.specs.declared.fault.WholeFault.TheVariants as whole_fault
 use Rattle.folders.specs.Each.{AreEach}
 use Rattle.folders.specs.Folder.{Change, Holds, csv_path}
-use Rattle.folders.specs.Refused.{IsReturnedAs, load_refusal}
+use Rattle.folders.specs.Refused.{IsReturnedAs, IsUnread, load_refusal}
 use Rattle.cli.specs.WholeRefusal.{refusal_of}
 use Rattle.folders.specs.declared.refusal.Refusal.{Refusal}
 use Rattle.folders.specs.declared.refusal.Refusal.TheVariants as refusal
@@ -25,7 +24,7 @@ use Rattle.jobs.specs.Job.{IsQueryRefused as IsUnplanned}
 use Rattle.jobs.specs.Working.{IsWorkRefused}
 use Rattle.command_line.specs.declared.commands.WorkCommand.{WorkCommand}
 use Rattle.cli.specs.Loading.{IsDimensionLoaded}
-use Rattle.cli.specs.Refusing.{IsDimensionRefused, IsFirstRefused, IsInputRefused, IsLoadLeft, IsLoadRefused, IsQuiet, IsRefusedSo, IsUncounted, IsWholeRefused}
+use Rattle.cli.specs.Refusing.{IsDimensionRefused, IsFirstRefused, IsInputRefused, IsLoadLeft, IsLoadRefused, IsQuiet, IsRefusedSo, IsWholeRefused}
 use Rattle.cli.specs.Running.{files_of, input_over}
 use Rattle.command_line.specs.declared.commands.Command.{Command}
 use Rattle.command_line.specs.declared.commands.Command.TheVariants.{Whole, Load, Work}
@@ -52,13 +51,12 @@ unplanned folder text catalog input e declared same (inr (inr plan)) =
 
 -- ---- the fact
 
-pub uncounted : (folder table csv : List ℕ) (fault : LoadFault) (e : Refusal) → loads.IsUncounted (length (csv_records csv)) fault → IsReturnedAs (load_refusal folder table fault) e → IsUncounted (csv_path folder table) csv e
-uncounted folder table csv load_fault.Memory e stands (inl memory) = inl (inl memory)
-uncounted folder table csv load_fault.Memory e stands (inr returned) = inl (inl returned)
-uncounted folder table csv load_fault.Device e stands (inl memory) = inl (inl memory)
-uncounted folder table csv load_fault.Device e stands (inr returned) = inl (inr returned)
-uncounted folder table csv (load_fault.Table f) e stands (inl memory) = inl (inl memory)
-uncounted folder table csv (load_fault.Table f) e stands (inr returned) = inr (stands.1, returned ∙ ap refusal.Load stands.0)
+pub uncounted : (folder table : List ℕ) (fault : LoadFault) (e : Refusal) → loads.IsOutside fault → IsReturnedAs (load_refusal folder table fault) e → IsUnread (csv_path folder table) e
+uncounted folder table load_fault.Memory e stands (inl memory) = inl memory
+uncounted folder table load_fault.Memory e stands (inr returned) = inl returned
+uncounted folder table load_fault.Device e stands (inl memory) = inl memory
+uncounted folder table load_fault.Device e stands (inr returned) = inr returned
+uncounted folder table (load_fault.Table f) e stands is = absurd stands
 
 -- ---- dimensions
 

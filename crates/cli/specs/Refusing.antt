@@ -4,13 +4,11 @@ use Rattle.meaning.specs.declared.catalog.Catalog.{Catalog}
 use Rattle.meaning.specs.declared.catalog.Dimension.{Dimension}
 use Rattle.meaning.specs.declared.cut.CutFault.{CutFault}
 use Rattle.meaning.specs.declared.table.TableFault.{TableFault}
-use Rattle.meaning.specs.declared.table.TableFault.TheVariants as table_fault
 use Rattle.catalog_reader.specs.CatalogText.{catalog_of}
 use Rattle.meaning.specs.Limits.{max_fragments}
 use Rattle.meaning.specs.Cut.{Cut, cut_of, even_lengths}
 use Rattle.columns.specs.Column.{ColumnSpec}
 use Rattle.loader.specs.Columns.{fact_fragments, dimension_columns}
-use Rattle.loader.specs.Fault.{max_counted}
 use Rattle.loader.specs.Source.{csv_records}
 use Rattle.coordinator.specs.Whole.{Input, IsRefused}
 use Rattle.coordinator.specs.declared.fault.WholeFault.{WholeFault}
@@ -32,18 +30,15 @@ use Rattle.cli.specs.declared.tables.Tables.{Tables}
 
 -- ---- the fact's rows, counted and cut
 
--- the records of the file at the path can't be counted: the file can't be read to its end, memory ran out, or there are too many
-abbrev pub IsUncounted : List ℕ → List ℕ → Refusal → Type 0
-IsUncounted path csv e = IsUnread path e ⊎ ((max_counted ≤ length (csv_records csv)) × (e ≡ refusal.Load table_fault.TooManyRows))
 
 -- memory ran out, or so many rows can't be cut evenly into fragments of `rows`
 abbrev pub IsUneven : ℕ → ℕ → Refusal → Type 0
 IsUneven counted rows e = (e ≡ refusal.Memory)
     ⊎ ((fault : CutFault) × (cut_of (even_lengths counted rows) ≡ Err fault) × (e ≡ refusal.Cut fault))
 
--- the rows of the file at the path can't be counted, or they can't be cut
+-- the file at the path can't be read to its end, or its rows can't be cut
 abbrev pub IsFileUncut : List ℕ → List ℕ → ℕ → Refusal → Type 0
-IsFileUncut path csv rows e = IsUncounted path csv e ⊎ IsUneven (length (drop 1 (csv_records csv))) rows e
+IsFileUncut path csv rows e = IsUnread path e ⊎ IsUneven (length (drop 1 (csv_records csv))) rows e
 
 -- the same of the fact's file, where it could be read; where not, there are no rows
 abbrev pub IsFactUncut : List ℕ → Option CsvFile → ℕ → Refusal → Type 0
@@ -52,21 +47,15 @@ IsFactUncut folder (Some file) rows e = IsFileUncut (csv_path folder file.table)
 
 -- ---- tables that aren't loaded
 
--- the fact's file can't be read to its end, or its records can't be counted
-abbrev pub IsFactUncounted : Holds → List ℕ → Catalog → Refusal → Type 0
-IsFactUncounted holds folder catalog e = IsUnread (csv_path folder catalog.fact.name) e
-    ⊎ ((e ≡ refusal.Load table_fault.TooManyRows)
-    × ((csv : List ℕ) → holds (csv_path folder catalog.fact.name) ≡ Some csv → max_counted ≤ length (csv_records csv)))
-
 -- the fact's file can't be read to its end, or its table has a fault under this cut
 abbrev pub IsFactUnloaded : Holds → List ℕ → Catalog → Cut → Refusal → Type 0
 IsFactUnloaded holds folder catalog cut e = IsUnread (csv_path folder catalog.fact.name) e
     ⊎ ((fault : TableFault) × (e ≡ refusal.Load fault)
     × ((csv : List ℕ) → holds (csv_path folder catalog.fact.name) ≡ Some csv → fact_fragments catalog cut (csv_records csv) ≡ Err fault))
 
--- the fact isn't counted, or it isn't cut, or it isn't loaded. What is said of its file is said where its bytes are known.
+-- the fact's file can't be read to its end, or it isn't cut, or it isn't loaded. What is said of its file is said where its bytes are known.
 abbrev pub IsFactRefused : Holds → List ℕ → Catalog → ℕ → Refusal → Type 0
-IsFactRefused holds folder catalog rows e = IsFactUncounted holds folder catalog e
+IsFactRefused holds folder catalog rows e = IsUnread (csv_path folder catalog.fact.name) e
     ⊎ ((counted : ℕ) × IsFactCounted holds folder catalog counted
     × (IsUneven counted rows e ⊎ ((cut : Cut) × (cut_of (even_lengths counted rows) ≡ Ok cut) × IsFactUnloaded holds folder catalog cut e)))
 

@@ -12,7 +12,8 @@ ghost use Rattle.loader.specs.Source.{csv_records};
 ghost use Rattle.folders.specs.Each.{AreEach};
 ghost use Rattle.folders.specs.Folder.{csv_path};
 ghost use Rattle.cli.specs.Loading.{AreFragmentColumns, AreFragmentsClosed, IsFactCounted, IsFactLoaded, IsNextSlice};
-ghost use Rattle.cli.specs.Refusing.{AreFragmentsUnwritten, IsFactRefused, IsFactUncounted, IsFactUnloaded};
+ghost use Rattle.cli.specs.Refusing.{AreFragmentsUnwritten, IsFactRefused, IsFactUnloaded};
+ghost use Rattle.folders.specs.Refused.{IsUnread};
 
 use crate::saving::write_fragment;
 use crate::tables::even_cut;
@@ -44,7 +45,7 @@ fn count_fact<F: Folder>(alloc: Global, folder: &F, target: &Target<'_>) -> Resu
     ensures counted { IfOk result
         (IsFactCounted (F.holds folder.now) target.now.directory.now target.now.catalog.now) }
     ensures refused { IfErr result
-        (IsFactUncounted (F.holds folder.now) target.now.directory.now target.now.catalog.now) }
+        (IsUnread (csv_path target.now.directory.now target.now.catalog.now.fact.name)) }
 {
     let name = target.catalog.fact.name.as_str();
     let path = csv_path(alloc, target.directory, name)?;

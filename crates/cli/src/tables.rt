@@ -4,8 +4,9 @@ ghost use Rattle.meaning.specs.Cut.{cut_of, even_lengths};
 ghost use Rattle.loader.specs.Source.{csv_records};
 ghost use Rattle.coordinator.specs.Whole.{files_in};
 ghost use Rattle.folders.specs.Folder.{AreHeld, csv_path};
+ghost use Rattle.folders.specs.Refused.{IsUnread};
 ghost use Rattle.folders.specs.declared.refusal.Refusal.TheVariants.{Memory};
-ghost use Rattle.cli.specs.Refusing.{AreTablesUncut, IsFactUncut, IsFileUncut, IsUncounted, IsUneven};
+ghost use Rattle.cli.specs.Refusing.{AreTablesUncut, IsFactUncut, IsFileUncut, IsUneven};
 ghost use Rattle.cli.specs.Running.{AreTables, IsCsvOf, files_of, rows_behind};
 
 use folders::{Folder, Refusal, csv_path, load_refusal, try_read};
@@ -55,7 +56,7 @@ pub fn counted_rows(
     csv: &[u8],
 ) -> Result<u64, Refusal>
     ensures counted { IfOk result (λ n. n ≡ length (drop 1 (csv_records csv.now))) }
-    ensures refused { IfErr result (IsUncounted (csv_path directory.now table.now) csv.now) }
+    ensures refused { IfErr result (IsUnread (csv_path directory.now table.now)) }
 {
     match count_rows(alloc, csv) {
         Ok(rows) => Ok(rows),

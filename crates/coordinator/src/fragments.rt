@@ -12,6 +12,7 @@ ghost use Rattle.meaning.specs.SoundPlan.{IsSoundPlan};
 ghost use Rattle.meaning.specs.Order.{Row};
 ghost use Rattle.partial_codec.specs.Answer.{Spells};
 ghost use Rattle.job_files.specs.RowFiles.{AreFilesOfTables};
+ghost use Rattle.worker.specs.Opened.{AreOpenedFor, AreOver};
 ghost use Rattle.coordinator.specs.Fragment.{AreFragments, AreRowsOfJob, IsFileable};
 ghost use Rattle.coordinator.specs.Whole.{HoldsOwnAnswers};
 
@@ -27,7 +28,7 @@ use meaning::{Cut, Plan, Sequence, Table};
 use partial_codec::{Job, encode};
 use std::alloc::{AllocError, Global};
 use std::mem::drop;
-use worker::work;
+use worker::{Dimensions, work_over};
 
 fn copy_cut(alloc: Global, cut: &Cut) -> Result<Cut, WholeFault>
     ensures value { IfOk result (λ copy. copy ≡ cut.now) }
@@ -43,19 +44,20 @@ fn answer_bytes(
     alloc: Global,
     job: &Job,
     rows: Rows<'_>,
-    dims: &[&[u8]],
+    dimensions: &Dimensions<'_>,
     vector_len: usize,
 ) -> Result<Vec<u8>, AllocError>
     requires plan { IsSoundPlan job.now.plan }
     requires rows { IsFileable rows }
+    requires dimensions { AreOpenedFor job.now.plan dimensions.now }
     ensures spells { IfOk result (λ bytes. (a : AnAnswer) × Spells job.now bytes.items a) }
     ensures own { IfOk result (λ bytes. (all : List Row) (tables : List (List Row))
-        → AreRowsOfJob job.now rows.entry all → AreFilesOfTables tables (map (λ d. d.now) dims.now)
+        → AreRowsOfJob job.now rows.entry all → AreOver job.now tables dimensions.now
         → Spells job.now bytes.items
         (own job.now.plan tables job.now.cut all rows.entry.slice.fragment)) }
 {
     let file = file_of(alloc, rows)?;
-    match work(alloc, job, &file, dims, rows.slice.fragment, vector_len) {
+    match work_over(alloc, job, &file, dimensions, rows.slice.fragment, vector_len) {
         Ok(answer) => encode(alloc, job, &answer),
         // The files are those that the job names, so memory was wanting.
         Err(_) => Err(AllocError),
@@ -67,16 +69,17 @@ fn answer_one(
     alloc: Global,
     gather: &mut Gather,
     rows: Rows<'_>,
-    dims: &[&[u8]],
+    dimensions: &Dimensions<'_>,
     vector_len: usize,
 ) -> Result<(), WholeFault>
     requires plan { IsSoundPlan gather.now.job.plan }
     requires rows { IsFileable rows }
+    requires dimensions { AreOpenedFor gather.now.job.plan dimensions.now }
     ensures same { OnOk result (gather.new.job ≡ gather.old.job) }
     ensures taken { OnOk result
         ((answers : List AnAnswer) (all : List Row) (tables : List (List Row))
         → AreRowsOfJob gather.old.job rows.entry all
-        → AreFilesOfTables tables (map (λ d. d.now) dims.now)
+        → AreOver gather.old.job tables dimensions.now
         → gather.old.cells ≡ joined gather.old.job.cut answers
         → gather.new.cells ≡ joined gather.old.job.cut
         (answers ++ own gather.old.job.plan tables gather.old.job.cut all rows.entry.slice.fragment
@@ -86,7 +89,7 @@ fn answer_one(
     let job = gather.job();
     // No effect at run time. The proof reads from this call the limits on a job.
     let _plan = job.plan();
-    let bytes = answer_bytes(alloc, job, rows, dims, vector_len)?;
+    let bytes = answer_bytes(alloc, job, rows, dimensions, vector_len)?;
     match gather.absorb(alloc, bytes.as_slice()) {
         Ok(_) => Ok(()),
         Err(GatherFault::Memory) => Err(WholeFault::Memory),
@@ -96,46 +99,51 @@ fn answer_one(
     }
 }
 
-/// The fact's fragments, the files of the joined dimensions, and how many rows a vector has.
+/// The fact's fragments, and how many rows a vector has.
 #[derive(Clone, Copy)]
-struct Star<'a> {
-    fact: &'a Table,
+struct Facts<'a> {
+    table: &'a Table,
     cut: &'a Cut,
     fragments: &'a [Sequence<Column>],
-    dims: &'a [&'a [u8]],
     vector_len: usize,
 }
 
-/// Answers for each fragment in turn.
-fn answer_fragments(alloc: Global, gather: &mut Gather, star: Star<'_>) -> Result<(), WholeFault>
+/// Answers for each fragment in turn, over the dimensions of the job.
+fn answer_fragments(
+    alloc: Global,
+    gather: &mut Gather,
+    facts: Facts<'_>,
+    dimensions: &Dimensions<'_>,
+) -> Result<(), WholeFault>
+    requires dimensions { AreOpenedFor gather.now.job.plan dimensions.now }
     requires plan { IsSoundPlan gather.now.job.plan }
-    requires table { IsWellFormedTable star.fact.now }
-    requires cut { gather.now.job.cut ≡ star.cut.now }
+    requires table { IsWellFormedTable facts.table.now }
+    requires cut { gather.now.job.cut ≡ facts.cut.now }
     requires fragments { (rows : List Row)
-        × AreFragments star.fact.now rows star.cut.now star.fragments.now }
-    requires nothing { gather.now.cells ≡ joined star.cut.now [] }
+        × AreFragments facts.table.now rows facts.cut.now facts.fragments.now }
+    requires nothing { gather.now.cells ≡ joined facts.cut.now [] }
     ensures same { OnOk result (gather.new.job ≡ gather.old.job) }
     ensures taken { OnOk result ((rows : List Row) (tables : List (List Row))
-        → AreFragments star.entry.fact.now rows star.entry.cut.now star.entry.fragments.now
-        → AreFilesOfTables tables (map (λ d. d.now) star.entry.dims.now)
-        → gather.new.cells ≡ joined star.entry.cut.now
-        (own_answers gather.old.job.plan tables star.entry.cut.now rows
-        (range_with_len 0 (length star.entry.cut.now)))) }
+        → AreFragments facts.entry.table.now rows facts.entry.cut.now facts.entry.fragments.now
+        → AreOver gather.old.job tables dimensions.now
+        → gather.new.cells ≡ joined facts.entry.cut.now
+        (own_answers gather.old.job.plan tables facts.entry.cut.now rows
+        (range_with_len 0 (length facts.entry.cut.now)))) }
     ensures refused { IfErr result (λ e. e ≡ WholeFault.Memory) }
 {
-    let lengths = star.cut.lengths();
+    let lengths = facts.cut.lengths();
     let mut first_row = 0;
     for k in 0..lengths.len() {
         let rows = Rows {
-            table: star.fact,
-            columns: star.fragments[k].as_slice(),
+            table: facts.table,
+            columns: facts.fragments[k].as_slice(),
             slice: Slice {
                 fragment: k as u32,
                 first_row,
                 rows: lengths[k],
             },
         };
-        answer_one(alloc, gather, rows, star.dims, star.vector_len)?;
+        answer_one(alloc, gather, rows, dimensions, facts.vector_len)?;
         first_row += u64::from(lengths[k]);
     }
     Ok(())
@@ -157,20 +165,58 @@ fn start(alloc: Global, plan: Plan, cut: &Cut) -> Result<Gather, WholeFault>
     }
 }
 
-/// A coordinator that has taken just every fragment's own answer.
-fn answer_all(alloc: Global, plan: Plan, star: Star<'_>) -> Result<Gather, WholeFault>
-    requires plan { IsSoundPlan plan }
-    requires table { IsWellFormedTable star.fact.now }
+/// Opens the dimensions, and answers for each fragment in turn over them.
+fn answer_over(
+    alloc: Global,
+    gather: &mut Gather,
+    facts: Facts<'_>,
+    dims: &[&[u8]],
+) -> Result<(), WholeFault>
+    requires plan { IsSoundPlan gather.now.job.plan }
+    requires table { IsWellFormedTable facts.table.now }
+    requires cut { gather.now.job.cut ≡ facts.cut.now }
     requires fragments { (rows : List Row)
-        × AreFragments star.fact.now rows star.cut.now star.fragments.now }
-    ensures state { IfOk result (λ g. (rows : List Row) (tables : List (List Row))
-        → AreFragments star.entry.fact.now rows star.entry.cut.now star.entry.fragments.now
-        → AreFilesOfTables tables (map (λ d. d.now) star.entry.dims.now)
-        → HoldsOwnAnswers plan rows tables star.entry.cut.now g) }
+        × AreFragments facts.table.now rows facts.cut.now facts.fragments.now }
+    requires nothing { gather.now.cells ≡ joined facts.cut.now [] }
+    ensures same { OnOk result (gather.new.job ≡ gather.old.job) }
+    ensures taken { OnOk result ((rows : List Row) (tables : List (List Row))
+        → AreFragments facts.entry.table.now rows facts.entry.cut.now facts.entry.fragments.now
+        → AreFilesOfTables tables (map (λ d. d.now) dims.now)
+        → gather.new.cells ≡ joined facts.entry.cut.now
+        (own_answers gather.old.job.plan tables facts.entry.cut.now rows
+        (range_with_len 0 (length facts.entry.cut.now)))) }
     ensures refused { IfErr result (λ e. e ≡ WholeFault.Memory) }
 {
-    let mut gather = start(alloc, plan, star.cut)?;
-    match answer_fragments(alloc, &mut gather, star) {
+    match Dimensions::open(alloc, gather.job(), dims) {
+        Ok(dimensions) => {
+            let answered = answer_fragments(alloc, gather, facts, &dimensions);
+            drop(dimensions);
+            answered
+        }
+        // The files are those that the job names, so memory was wanting.
+        Err(_) => Err(WholeFault::Memory),
+    }
+}
+
+/// A coordinator that has taken just every fragment's own answer.
+fn answer_all(
+    alloc: Global,
+    plan: Plan,
+    facts: Facts<'_>,
+    dims: &[&[u8]],
+) -> Result<Gather, WholeFault>
+    requires plan { IsSoundPlan plan }
+    requires table { IsWellFormedTable facts.table.now }
+    requires fragments { (rows : List Row)
+        × AreFragments facts.table.now rows facts.cut.now facts.fragments.now }
+    ensures state { IfOk result (λ g. (rows : List Row) (tables : List (List Row))
+        → AreFragments facts.entry.table.now rows facts.entry.cut.now facts.entry.fragments.now
+        → AreFilesOfTables tables (map (λ d. d.now) dims.now)
+        → HoldsOwnAnswers plan rows tables facts.entry.cut.now g) }
+    ensures refused { IfErr result (λ e. e ≡ WholeFault.Memory) }
+{
+    let mut gather = start(alloc, plan, facts.cut)?;
+    match answer_over(alloc, &mut gather, facts, dims) {
         Ok(()) => Ok(gather),
         Err(e) => {
             drop(gather);
@@ -199,14 +245,13 @@ pub fn answer_tables(
 {
     match lend_files(alloc, &tables.dims) {
         Ok(dims) => {
-            let star = Star {
-                fact,
+            let facts = Facts {
+                table: fact,
                 cut: sources.cut,
                 fragments: &tables.fragments,
-                dims: &dims,
                 vector_len: sources.vector_len,
             };
-            answer_all(alloc, plan, star)
+            answer_all(alloc, plan, facts, &dims)
         }
         Err(_) => {
             drop(plan);

@@ -1,5 +1,5 @@
 -- What a layer's refusal is as one of a command's, and how it is known that a file was not read or written.
-use Rattle.std.specs.Prelude.{◌≡◌, ◌⊎◌, ℕ, List, ⊤}
+use Rattle.std.specs.Prelude.{◌≡◌, ◌⊎◌, ℕ, List, ◌∷◌, ◌++◌, All, ⊤}
 use Rattle.meaning.specs.declared.catalog.CatalogFault.{CatalogFault}
 use Rattle.meaning.specs.declared.catalog.CatalogFault.TheVariants as catalog_fault
 use Rattle.meaning.specs.declared.cut.CutFault.{CutFault}
@@ -23,6 +23,14 @@ IsUnread path e = (e ≡ refusal.Memory) ⊎ (e ≡ refusal.CannotRead path)
 -- the path's file can't be written, or memory ran out
 abbrev pub IsUnwritten : List ℕ → Refusal → Type 0
 IsUnwritten path e = (e ≡ refusal.Memory) ⊎ (e ≡ refusal.CannotWrite path)
+
+-- the path is one of these, and the files of those before it were opened
+abbrev pub IsNextOpened : (List ℕ → Type 0) → List (List ℕ) → List ℕ → Type 0
+IsNextOpened opens paths path = (before behind : List (List ℕ)) × (paths ≡ before ++ path ∷ behind) × All opens before
+
+-- where a file can't be read, it is one of these, and those before it were opened
+abbrev pub IsFirstUnread : (List ℕ → Type 0) → List (List ℕ) → Refusal → Type 0
+IsFirstUnread opens paths e = (path : List ℕ) → e ≡ refusal.CannotRead path → IsNextOpened opens paths path
 
 -- this refusal, unless memory runs out
 abbrev pub IsReturnedAs : Refusal → Refusal → Type 0

@@ -17,7 +17,8 @@ use std::io::{ErrorKind, Read, Write};
 // ---- reading
 
 fn read_bytes<F: Folder>(alloc: Global, folder: &F, path: &str) -> io::Result<Vec<u8>>
-    ensures { IfOk result (λ bytes. AreHeld (F.holds folder.now path.now) bytes.items) }
+    ensures held { IfOk result (λ bytes. AreHeld (F.holds folder.now path.now) bytes.items) }
+    ensures opened { OnOk result (F.opens folder.now path.now) }
 {
     let mut file = folder.open(path)?;
     let mut bytes = Vec::new(alloc);
@@ -33,6 +34,7 @@ pub fn try_read<F: Folder>(
 ) -> Result<Option<Vec<u8>>, Refusal>
     ensures held { IfOk result
         (λ found. IfSome found (λ bytes. AreHeld (F.holds folder.now path.now) bytes.items)) }
+    ensures opened { IfOk result (λ found. IfSome found (λ _. F.opens folder.now path.now)) }
     ensures refused { IfErr result (λ e. e ≡ Memory) }
 {
     match read_bytes(alloc, folder, path) {
@@ -47,6 +49,7 @@ pub fn try_read<F: Folder>(
 /// The bytes of a file.
 pub fn read_file<F: Folder>(alloc: Global, folder: &F, path: &Text) -> Result<Vec<u8>, Refusal>
     ensures held { IfOk result (λ bytes. AreHeld (F.holds folder.now path.now) bytes.items) }
+    ensures opened { OnOk result (F.opens folder.now path.now) }
     ensures refused { IfErr result (IsUnread path.now) }
 {
     match try_read(alloc, folder, path.as_str())? {

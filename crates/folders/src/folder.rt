@@ -1,5 +1,5 @@
 //! The trait of folders that commands read from and write to.
-ghost use Rattle.std.specs.Prelude.{◌≡◌, ℕ, List, Option, None, IfOk, OnErr, OnOk};
+ghost use Rattle.std.specs.Prelude.{◌≡◌, ℕ, List, Option, None, IfOk, OnErr, OnOk, ⊤};
 ghost use Rattle.folders.specs.Folder.{Change, Finishes, IsEmptyFile, Opens, Removes};
 
 use std::io;
@@ -19,6 +19,9 @@ pub trait Folder {
     // The bytes of a path's file, where they are known.
     ghost holds: { Self → List ℕ → Option (List ℕ) } = { λ _ _. None };
 
+    // What a path's file meets once it was opened.
+    ghost opens: { Self → List ℕ → Type 0 } = { λ _ _. ⊤ };
+
     // The files finished and taken away so far, where they are known.
     ghost wrote: { Self → Option (List Change) } = { λ _. None };
 
@@ -27,7 +30,8 @@ pub trait Folder {
 
     /// A reader of a file's bytes from their beginning.
     fn open(&self, path: &str) -> io::Result<Self::Reader>
-        ensures { Opens Self.Reader.remaining (holds self.now path.now) result };
+        ensures held { Opens Self.Reader.remaining (holds self.now path.now) result }
+        ensures opened { OnOk result (opens self.now path.now) };
 
     /// An empty file, which stands under its path once it is finished.
     fn create(&mut self, path: &str) -> io::Result<Self::Writer>

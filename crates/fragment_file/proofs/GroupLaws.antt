@@ -53,7 +53,7 @@ kind_fits kind.Frame = omega arith
 
 -- ---- blocks
 
-abbrev made_of : Kind → Column → ℕ → List ℕ → Block
+abbrev pub made_of : Kind → Column → ℕ → List ℕ → Block
 made_of k c rows payload = record { kind = k; col_type = c.col_type; nullable = c.nullable; rows = rows; payload = payload }
 
 chosen : (t : Bool) (made b : Block) (group column : ℕ) → sound group column (cond t (Some made) None) ≡ Ok b → (t ≡ true) × (made ≡ b)
@@ -61,7 +61,7 @@ chosen true made b group column e = (refl, ok_is made b e)
 chosen false made b group column e = absurd cc
 
 -- the kind of a block that was found sound
-sound_is : (group column : ℕ) (o : Option Kind) (c : Column) (rows : ℕ) (payload : List ℕ) (b : Block) → sound group column (block_of o c rows payload) ≡ Ok b
+pub sound_is : (group column : ℕ) (o : Option Kind) (c : Column) (rows : ℕ) (payload : List ℕ) (b : Block) → sound group column (block_of o c rows payload) ≡ Ok b
     → (k : Kind) × (o ≡ Some k) × (is_block (made_of k c rows payload) ≡ true) × (made_of k c rows payload ≡ b)
 sound_is group column None c rows payload b e = absurd cc
 sound_is group column (Some k) c rows payload b e =

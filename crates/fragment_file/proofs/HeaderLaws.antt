@@ -103,7 +103,7 @@ flag_fits true = omega arith
 flag_fits false = omega arith
 
 -- a column that stands behind earlier ones
-abbrev IsNew : List Column → Column → Type 0
+abbrev pub IsNew : List Column → Column → Type 0
 IsNew earlier c = IsName c.name × (is_named c.name earlier ≡ false)
 
 column_takes : (earlier : List Column) (bytes : List ℕ) (p : Column × List ℕ) → IsBytes bytes → column_at earlier bytes ≡ Ok p → Takes bytes (column_bytes p.0) p.1 × IsNew earlier p.0
@@ -208,14 +208,14 @@ mapped_push : (cs : List Column) (c : Column) → map name_in (cs ++ c ∷ []) �
 mapped_push [] c = refl
 mapped_push (x ∷ cs) c = ap (λ (names : List (List ℕ)). x.name ∷ names) (mapped_push cs c)
 
-apart_from_new : (earlier more : List Column) → AreNew earlier more → AllPairs differ (map name_in earlier) → AllPairs differ (map name_in (earlier ++ more))
+pub apart_from_new : (earlier more : List Column) → AreNew earlier more → AllPairs differ (map name_in earlier) → AllPairs differ (map name_in (earlier ++ more))
 apart_from_new earlier [] new apart = subst (λ (cs : List Column). AllPairs differ (map name_in cs)) (sym (append-nil earlier)) apart
 apart_from_new earlier (c ∷ cs) new apart =
     let pushed = all_pairs_push differ (map name_in earlier) c.name apart (none_named c.name earlier new.0.1) in
     let here : AllPairs differ (map name_in (earlier ++ c ∷ [])) = subst (AllPairs differ) (sym (mapped_push earlier c)) pushed in
     subst (λ (all : List Column). AllPairs differ (map name_in all)) (append_assoc earlier (c ∷ []) cs) (apart_from_new (earlier ++ c ∷ []) cs new.1 here)
 
-names_from_new : (earlier more : List Column) → AreNew earlier more → AllByRecursion (λ c. IsName c.name) more
+pub names_from_new : (earlier more : List Column) → AreNew earlier more → AllByRecursion (λ c. IsName c.name) more
 names_from_new earlier [] new = tt
 names_from_new earlier (c ∷ cs) new = (new.0.0, names_from_new (earlier ++ c ∷ []) cs new.1)
 

@@ -114,7 +114,7 @@ equal_rows : (n : ℕ) (bs : List Block) → AllByRecursion (λ b. b.rows ≡ n)
 equal_rows n [] rows = tt
 equal_rows n (b ∷ bs) rows = rows_are n (b ∷ bs) (b ∷ bs) rows.0 rows
 
-blocks_group : (cs : List Column) (n : ℕ) (bs : List Block) → AreBlocks cs n bs → IsGroup bs
+pub blocks_group : (cs : List Column) (n : ℕ) (bs : List Block) → AreBlocks cs n bs → IsGroup bs
 blocks_group cs n bs are =
     let both = blocks_equal cs n bs are in
     record { sound = All-from_recursion (λ b. is_block b ≡ true) bs both.0; equal = All-from_recursion (λ b. b.rows ≡ rows_of bs) bs (equal_rows n bs both.1) }

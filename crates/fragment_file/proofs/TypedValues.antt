@@ -26,6 +26,9 @@ use Rattle.blocks.proofs.Blocks.{block_body}
 use Rattle.blocks.proofs.UnpackNumbers.{from_le_bytes-64}
 use Rattle.wire.specs.Bytes.{number_bytes, sealed}
 use Rattle.wire.proofs.Numbers.{IsBytes}
+use Rattle.fragment_file.specs.declared.view.BlockLocation.{BlockLocation}
+use Rattle.fragment_file.specs.Lent.{AreTypedBlocks}
+use Rattle.fragment_file.specs.View.{block_in}
 use Rattle.fragment_file.specs.Fragment.{FragmentSpec, IsFileOf, AreBlocks, AreGroups, AreTypedColumns, block_bytes, group_bytes, groups_bytes, group_sizes, header_bytes, fragment_bytes, fragment_magic, column_values, no_block}
 
 -- ---- bytes
@@ -216,3 +219,25 @@ file_typed bytes f fit is = λ j c at.
     let whole : Bytes (sealed (fragment_bytes f)) = subst Bytes is.spelled (bytes_are bytes fit) in
     All-from_recursion (λ v. is_of_type c.col_type v ≡ true) (column_values j f.groups) (all_true (is_of_type c.col_type) (column_values j f.groups)
     (columns_typed f.header.columns (group_sizes f.header.rows) f.groups j c is.sound.groups (groups_of f (front (fragment_bytes f) _ whole)) at))
+
+-- ---- row groups
+
+located_bytes : (bytes : List ℕ) (p : BlockLocation) → Bytes bytes → Bytes (block_in bytes p).payload
+unfolding block_in
+located_bytes bytes p all = taken (p.end - p.start) (drop p.start bytes) (dropped p.start bytes all)
+
+located_typed : (cs : List Column) (n : ℕ) (bytes : List ℕ) (ps : List BlockLocation) (j : ℕ) (c : Column) → AreBlocks cs n (map (block_in bytes) ps) → Bytes bytes → slice_get cs j ≡ Some c
+    → list_all (is_of_type c.col_type) (values_of (get_or (map (block_in bytes) ps) j no_block)) ≡ true
+located_typed [] n bytes ps j c are all at = absurd cc
+located_typed (d ∷ cs) n bytes [] j c are all at = absurd are
+located_typed (d ∷ cs) n bytes (p ∷ ps) zero c are all at =
+    let same : d ≡ c = cc in
+    subst (λ (t : ColType). list_all (is_of_type t) (values_of (block_in bytes p)) ≡ true) (are.0.col_type ∙ ap (λ (x : Column). x.col_type) same)
+    (values_typed (block_in bytes p) are.0.sound (located_bytes bytes p all))
+located_typed (d ∷ cs) n bytes (p ∷ ps) (suc j) c are all at = located_typed cs n bytes ps j c are.1 all at
+
+-- each value of a row group in bytes is of its column's type
+pub group_typed : (cs : List Column) (n : ℕ) (bytes : List ℕ) (ps : List BlockLocation) → IsBytes bytes → AreBlocks cs n (map (block_in bytes) ps) → AreTypedBlocks cs (map (block_in bytes) ps)
+group_typed cs n bytes ps fit are = λ j c at.
+    All-from_recursion (λ v. is_of_type c.col_type v ≡ true) (values_of (get_or (map (block_in bytes) ps) j no_block)) (all_true (is_of_type c.col_type) (values_of (get_or (map (block_in bytes) ps) j no_block))
+    (located_typed cs n bytes ps j c are (bytes_are bytes fit) at))

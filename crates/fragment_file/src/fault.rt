@@ -8,7 +8,7 @@ use thiserror::Error;
 use wire::{DeviceFault, WireFault};
 
 /// Why bytes are no file, or why a file is not written: the first obstacle from front to back.
-#[derive(Debug, Drop, Error)]
+#[derive(Clone, Copy, Debug, Drop, Error)]
 pub enum FileFault {
     #[error("out of memory")]
     Memory,

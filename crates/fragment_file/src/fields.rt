@@ -13,7 +13,8 @@ use std::alloc::Global;
 use std::mem::drop;
 use wire::{take_u8, take_u16, take_u32, take_u64};
 
-fn type_of(code: u8) -> Result<ColType, FileFault>
+/// The type that a header's code names.
+pub fn type_of(code: u8) -> Result<ColType, FileFault>
     ensures { Reads (λ t. t) result (type_of code) }
 {
     match code {
@@ -23,7 +24,8 @@ fn type_of(code: u8) -> Result<ColType, FileFault>
     }
 }
 
-fn flag_of(code: u8) -> Result<bool, FileFault>
+/// Whether a header's flag is set.
+pub fn flag_of(code: u8) -> Result<bool, FileFault>
     ensures { Reads (λ b. b) result (flag_of code) }
 {
     match code {
@@ -33,7 +35,8 @@ fn flag_of(code: u8) -> Result<bool, FileFault>
     }
 }
 
-fn is_named(name: &[u8], columns: &[Column]) -> bool
+/// Whether one of the columns has the name.
+pub fn is_named(name: &[u8], columns: &[Column]) -> bool
     ensures { result ≡ is_named name.now columns.now }
 {
     columns.iter().any(|column| column.name.as_bytes() == name)

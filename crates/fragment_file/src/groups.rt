@@ -14,7 +14,8 @@ use meaning::{Column, ROW_GROUP_ROWS, Sequence};
 use std::alloc::Global;
 use wire::{take_bytes, take_u8, take_u32};
 
-fn block_of<'a>(code: u8, of: &Column, rows: usize, payload: &'a [u8]) -> Option<BlockView<'a>>
+/// The block of a column that a payload is, by the code of its kind, where it is one.
+pub fn block_of<'a>(code: u8, of: &Column, rows: usize, payload: &'a [u8]) -> Option<BlockView<'a>>
     ensures { result ≡ block_of (kind_of code) of.now rows payload.now }
 {
     let kind = Kind::from_byte(code)?;
@@ -110,7 +111,7 @@ fn take_group<'a>(
 }
 
 /// How many of the rows that are left the next row group has.
-fn next_rows(left: u32) -> u32
+pub fn next_rows(left: u32) -> u32
     ensures { result ≡ if nat_lt left row_group_rows then left else row_group_rows }
 {
     let full = ROW_GROUP_ROWS as u32;

@@ -1,27 +1,44 @@
-//! Each kind over two lists, one merged into the other.
-ghost use Rattle.std.specs.Prelude.{◌≡◌, ◌≤◌, length, IfOk};
+//! Each kind over two lists, one merged into the other; MIN and MAX over four, three of them merged
+//! by one call.
+ghost use Rattle.std.specs.Prelude.{◌≡◌, ◌≤◌, length, true, All, IfOk};
+ghost use Rattle.aggregate_states.specs.Values.{is_spelled};
+ghost use Rattle.vectors.specs.Vector.{values_of};
 ghost use Rattle.accumulators.specs.AnyAcc.{held_by};
 
-use crate::lanes::{NULL, vector_of};
+use crate::lanes::{NULL, twice, vector_of};
 use accumulators::{Accumulator, AggFault, AnyAcc, State};
 use meaning::{AggregateKind, Value};
 use std::alloc::{AllocError, Global};
 use std::fmt::Write;
 use std::mem::drop;
 use std::process::Abort;
-use vectors::Selection;
+use vectors::{Selection, Vector};
 
 const MOST: i64 = i64::MAX;
+
+/// The aggregate over so many lanes.
+fn aggregate_over(
+    alloc: Global,
+    kind: AggregateKind,
+    lanes: &Vector<'_>,
+    many: usize,
+) -> Result<AnyAcc, AllocError>
+    requires long { length (values_of lanes.now) ≡ many }
+    requires spelled { All (λ v. is_spelled v ≡ true) (values_of lanes.now) }
+    requires few { many ≤ 100 }
+{
+    let selection = Selection::all(alloc, many as u32)?;
+    let mut acc = AnyAcc::new(kind);
+    acc.update_batch(alloc, lanes, &selection)?;
+    Ok(acc)
+}
 
 /// The aggregate over a list.
 fn aggregate_of(alloc: Global, kind: AggregateKind, list: &[i64]) -> Result<AnyAcc, AllocError>
     requires { length list.now ≤ 100 }
 {
     let lanes = vector_of(alloc, list, list.len())?;
-    let selection = Selection::all(alloc, list.len() as u32)?;
-    let mut acc = AnyAcc::new(kind);
-    acc.update_batch(alloc, &lanes, &selection)?;
-    Ok(acc)
+    aggregate_over(alloc, kind, &lanes, list.len())
 }
 
 /// A state, where it knows of few entries, as those here do.
@@ -65,23 +82,14 @@ pub fn show_value(shown: &mut String, value: Result<Value, AggFault>) -> Result<
     match value {
         Ok(Value::Null) => shown.push_str("NULL"),
         Ok(Value::Int(int)) => write!(shown, "{int}"),
-        Ok(Value::Text(_)) => shown.push_str("a text"),
+        Ok(Value::Text(text)) => shown.push_str(text.as_str()),
         Err(AggFault::SumOutOfRange) => shown.push_str("refused"),
         Err(AggFault::Memory) => Err(AllocError),
     }
 }
 
 /// How many entries there are, their sum, and the aggregate.
-fn shown(
-    alloc: Global,
-    kind: AggregateKind,
-    first: &[i64],
-    second: &[i64],
-) -> Result<String, AllocError>
-    requires first { length first.now ≤ 100 }
-    requires second { length second.now ≤ 100 }
-{
-    let acc = merged(alloc, kind, first, second)?;
+fn show(alloc: Global, acc: &AnyAcc) -> Result<String, AllocError> {
     let mut shown = String::new(alloc);
     let state = acc.state(alloc)?;
     write!(shown, "{} {} ", state.count(), state.sum())?;
@@ -100,7 +108,7 @@ fn expect(
     requires first { length first.now ≤ 100 }
     requires second { length second.now ≤ 100 }
 {
-    let shown = shown(alloc, kind, first, second)?;
+    let shown = show(alloc, &merged(alloc, kind, first, second)?)?;
     assert_eq!(rt; shown.as_str(), want);
     Ok(())
 }
@@ -153,4 +161,126 @@ fn rows_are_counted(rt: HostRuntime) -> Result<(), AllocError> {
 fn the_greatest_may_come_from_either(rt: HostRuntime) -> Result<(), AllocError> {
     let alloc = rt.alloc();
     expect(&rt, alloc, AggregateKind::Max, &[-5, NULL], &[-3], "2 0 -3")
+}
+
+/// Integers, or a text twice.
+#[derive(Clone, Copy)]
+enum Entries {
+    Ints(&'static [i64]),
+    Text(&'static str),
+}
+
+use Entries::{Ints, Text};
+
+fn aggregate_of_entries(
+    alloc: Global,
+    kind: AggregateKind,
+    entries: Entries,
+) -> Result<AnyAcc, AllocError> {
+    match entries {
+        Ints(list) if list.len() <= 100 => aggregate_of(alloc, kind, list),
+        Ints(_) => Err(AllocError),
+        Text(text) => aggregate_over(alloc, kind, &twice(text), 2),
+    }
+}
+
+fn few_of(alloc: Global, kind: AggregateKind, entries: Entries) -> Result<State, AllocError>
+    ensures { IfOk result (λ s. s.count ≤ 100) }
+{
+    few(alloc, &aggregate_of_entries(alloc, kind, entries)?)
+}
+
+fn merge_three(
+    alloc: Global,
+    acc: &mut AnyAcc,
+    one: State,
+    two: State,
+    three: State,
+) -> Result<(), AllocError>
+    requires one { one.count ≤ 100 }
+    requires two { two.count ≤ 100 }
+    requires three { three.count ≤ 100 }
+{
+    drop(few(alloc, acc)?);
+    let states = vec![in alloc; one, two, three]?;
+    acc.merge_batch(alloc, states.as_slice())
+}
+
+/// Entries, three more whose states are merged into theirs by one call, and what is then shown.
+type AtOnce = (Entries, (Entries, Entries, Entries), &'static str);
+
+fn merged_at_once(
+    alloc: Global,
+    kind: AggregateKind,
+    first: Entries,
+    others: (Entries, Entries, Entries),
+) -> Result<AnyAcc, AllocError> {
+    let one = few_of(alloc, kind, others.0)?;
+    let two = few_of(alloc, kind, others.1)?;
+    let three = few_of(alloc, kind, others.2)?;
+    let mut acc = aggregate_of_entries(alloc, kind, first)?;
+    merge_three(alloc, &mut acc, one, two, three)?;
+    Ok(acc)
+}
+
+fn expect_at_once(
+    rt: &impl Abort,
+    alloc: Global,
+    kind: AggregateKind,
+    cases: &[AtOnce],
+) -> Result<(), AllocError> {
+    for (first, others, want) in cases {
+        let acc = merged_at_once(alloc, kind, *first, *others)?;
+        let shown = show(alloc, &acc)?;
+        assert_eq!(rt; shown.as_str(), *want);
+    }
+    Ok(())
+}
+
+const LEAST: &[AtOnce] = &[
+    (Ints(&[5]), (Ints(&[3, 9]), Ints(&[7]), Ints(&[4])), "5 0 3"),
+    (Ints(&[5]), (Ints(&[7]), Ints(&[3, 9]), Ints(&[4])), "5 0 3"),
+    (Ints(&[5]), (Ints(&[7]), Ints(&[4]), Ints(&[9, 3])), "5 0 3"),
+    (Ints(&[2]), (Ints(&[7]), Ints(&[4]), Ints(&[9, 3])), "5 0 2"),
+    (Ints(&[]), (Ints(&[7]), Ints(&[NULL]), Ints(&[8])), "2 0 7"),
+    (
+        Ints(&[]),
+        (Ints(&[NULL]), Ints(&[]), Ints(&[NULL])),
+        "0 0 NULL",
+    ),
+    (Text("m"), (Text("x"), Text("east"), Text("n")), "8 0 east"),
+    (Text("b"), (Text("x"), Text("east"), Text("n")), "8 0 b"),
+];
+
+#[test]
+fn the_least_of_several_states(rt: HostRuntime) -> Result<(), AllocError> {
+    expect_at_once(&rt, rt.alloc(), AggregateKind::Min, LEAST)
+}
+
+const GREATEST: &[AtOnce] = &[
+    (Ints(&[5]), (Ints(&[9, 3]), Ints(&[7]), Ints(&[4])), "5 0 9"),
+    (Ints(&[5]), (Ints(&[7]), Ints(&[3, 9]), Ints(&[4])), "5 0 9"),
+    (Ints(&[5]), (Ints(&[7]), Ints(&[4]), Ints(&[9, 3])), "5 0 9"),
+    (
+        Ints(&[12]),
+        (Ints(&[7]), Ints(&[4]), Ints(&[9, 3])),
+        "5 0 12",
+    ),
+    (
+        Ints(&[]),
+        (Ints(&[-7]), Ints(&[NULL]), Ints(&[-8])),
+        "2 0 -7",
+    ),
+    (
+        Ints(&[]),
+        (Ints(&[NULL]), Ints(&[]), Ints(&[NULL])),
+        "0 0 NULL",
+    ),
+    (Text("m"), (Text("b"), Text("west"), Text("n")), "8 0 west"),
+    (Text("x"), (Text("b"), Text("west"), Text("n")), "8 0 x"),
+];
+
+#[test]
+fn the_greatest_of_several_states(rt: HostRuntime) -> Result<(), AllocError> {
+    expect_at_once(&rt, rt.alloc(), AggregateKind::Max, GREATEST)
 }

@@ -41,7 +41,7 @@ input_is job k f named columns =
       rows = eqb-true f.header.rows _ (second_of _ _ numbers);
     }
 
-fragment_is : (job : JobSpec) (k : ℕ) (bytes : List ℕ) (f : FragmentSpec) → fragment_file_of job k bytes ≡ Ok f → IsInput job k f
+pub fragment_is : (job : JobSpec) (k : ℕ) (bytes : List ℕ) (f : FragmentSpec) → fragment_file_of job k bytes ≡ Ok f → IsInput job k f
 unfolding fragment_file_of
 fragment_is job k bytes f is =
     let (g, read, more) = goes_there (from_file (read_fragment bytes)) (λ f. provided (is_fragment_of job k f.header) OtherFile f >>= λ f. provided (has_columns job.plan.fact f.header) OtherColumn f) f is in

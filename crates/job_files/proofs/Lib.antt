@@ -1,5 +1,4 @@
 -- The lemmas of this crate.
-pub mod DimFilters
 pub mod FileColumns
 pub mod FilesRead
 pub mod FirstRows
@@ -8,5 +7,5 @@ pub mod KeyedRows
 pub mod OpenedDimensions
 pub mod PlanDimensions
 pub mod RowFiles
-pub mod ThinnedRows
+pub mod Tables
 pub mod UsedColumns

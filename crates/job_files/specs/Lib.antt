@@ -4,6 +4,4 @@ pub mod Files
 pub mod Inputs
 pub mod RowFiles
 pub mod Dimensions
-pub mod TextTest
 pub mod Tables
-pub mod DimFilter

@@ -2,16 +2,12 @@
 #![tactic(auto)]
 
 mod decoding;
-mod dim_filter;
 mod dimensions;
 mod fault;
-mod inputs;
 mod lending;
 mod refusals;
-mod text_test;
 
-pub use dim_filter::{DimFilter, FilteredTables, filter_dimensions};
-pub use dimensions::Dimension;
+pub use dimensions::{Dimension, open_dimensions};
 pub use fault::WorkFault;
-pub use inputs::{Input, open_input};
 pub use lending::lend_files;
+pub use refusals::{check_length, open_fragment};

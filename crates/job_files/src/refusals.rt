@@ -5,14 +5,24 @@ ghost use Rattle.meaning.specs.Typing.{same_type};
 ghost use Rattle.meaning.specs.Wanting.{GivesIfMemory};
 ghost use Rattle.wire.specs.Reading.{same_bytes};
 ghost use Rattle.job_files.specs.Files.{HasColumns, has_columns, is_column, is_dimension_of, is_fragment_of};
-ghost use Rattle.job_files.specs.Inputs.{fragment_file_of, table_file_of};
+ghost use Rattle.job_files.specs.Inputs.{fragment_file_of, length_of, table_file_of};
 
 use crate::fault::WorkFault;
 use fragment_file::{FragmentView, Header, open};
-use meaning::{ColType, Column, ColumnUse, TableUse, Text};
+use meaning::{ColType, Column, ColumnUse, TableUse, Text, is_vector_length};
 use partial_codec::{Job, first_row};
 use std::alloc::Global;
 use std::mem::drop;
+
+/// The length of vectors, if it is one.
+pub fn check_length(vector_len: usize) -> Result<usize, WorkFault>
+    ensures { result ≡ length_of vector_len }
+{
+    if !is_vector_length(vector_len) {
+        return Err(WorkFault::VectorLength);
+    }
+    Ok(vector_len)
+}
 
 fn are_same(a: &Text, b: &Text) -> bool
     ensures { result ≡ same_bytes a.now b.now }

@@ -5,3 +5,4 @@ pub mod OwnAnswers
 pub mod OwnFiles
 mod TakenFiles
 mod Refusals
+mod FirstUnread

@@ -17,11 +17,11 @@ use Rattle.gathering.specs.Gathering.{GatherSpec}
 use Rattle.gathering.specs.Report.{summary}
 use Rattle.gathering.specs.declared.report.Report.{Report}
 use Rattle.folders.specs.Folder.{AreHeld, Change, Holds, WritesOne}
-use Rattle.folders.specs.Refused.{IsUnread, IsUnwritten}
+use Rattle.folders.specs.Refused.{IsNextOpened, IsUnread, IsUnwritten}
 use Rattle.jobs.specs.PassedOver.{passed_over_line}
 use Rattle.folders.specs.declared.refusal.Refusal.{Refusal}
 use Rattle.folders.specs.declared.refusal.Refusal.TheVariants as refusal
-use Rattle.jobs.specs.Job.{IsJobOf, IsJobRefused}
+use Rattle.jobs.specs.Job.{IsJobOf, IsJobRefused, IsOfJob}
 use Rattle.command_line.specs.declared.commands.GatherCommand.{GatherCommand}
 
 -- ---- a file
@@ -158,3 +158,7 @@ IsTogetherRefused holds command e = IsJobRefused holds command.folder command.qu
 -- the files don't come to a state, or what comes behind them is refused
 abbrev pub IsGatherRefused : Holds → GatherCommand → Refusal → Type 0
 IsGatherRefused holds command e = IsTogetherRefused holds command e ⊎ ((job : JobSpec) × IsJobOf holds command.folder command.query job × IsReportRefused command.save e)
+
+-- a file that can't be read is the catalogue's, that of the cut, or one of the files, of which those before it were opened
+abbrev pub IsGatherUnread : (List ℕ → Type 0) → GatherCommand → Refusal → Type 0
+IsGatherUnread opens command e = (path : List ℕ) → e ≡ refusal.CannotRead path → IsOfJob command.folder path ⊎ IsNextOpened opens command.files path

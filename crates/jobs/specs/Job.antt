@@ -70,3 +70,7 @@ IsRefusedOver holds folder catalog query e = IsCutRefused holds folder e
 abbrev pub IsJobRefused : Holds → List ℕ → List ℕ → Refusal → Type 0
 IsJobRefused holds folder query e = IsCatalogRefused holds folder e
     ⊎ ((catalog : Catalog) × IsCatalogThere holds folder catalog × IsRefusedOver holds folder catalog query e)
+
+-- the path of a file that the job is made from
+abbrev pub IsOfJob : List ℕ → List ℕ → Type 0
+IsOfJob folder path = (path ≡ catalog_path folder) ⊎ (path ≡ cut_path folder)

@@ -1,5 +1,5 @@
 -- What is written for one fragment, and why nothing is.
-use Rattle.std.specs.Prelude.{◌≡◌, ◌⊎◌, ℕ, List, Option, Some, Ok, Err, Contains}
+use Rattle.std.specs.Prelude.{◌≡◌, ◌⊎◌, ℕ, List, ◌∷◌, map, Option, Some, Ok, Err, Contains}
 use Rattle.meaning.specs.Answer.{own}
 use Rattle.meaning.specs.Order.{Row}
 use Rattle.meaning.specs.Said.{Answer}
@@ -11,11 +11,11 @@ use Rattle.job_files.specs.RowFiles.{IsFileOfRows, rows_of_fragment}
 use Rattle.job_files.specs.declared.fault.WorkFault.{WorkFault}
 use Rattle.folders.specs.Each.{AreEach}
 use Rattle.folders.specs.Folder.{AreHeld, Change, Holds, WritesOne, dimension_path, fragment_path}
-use Rattle.folders.specs.Refused.{IsUnread, IsUnwritten}
+use Rattle.folders.specs.Refused.{IsNextOpened, IsUnread, IsUnwritten}
 use Rattle.folders.specs.declared.refusal.Refusal.{Refusal}
 use Rattle.folders.specs.declared.refusal.Refusal.TheVariants as refusal
 use Rattle.command_line.specs.declared.commands.WorkCommand.{WorkCommand}
-use Rattle.jobs.specs.Job.{IsJobOf, IsJobRefused}
+use Rattle.jobs.specs.Job.{IsJobOf, IsJobRefused, IsOfJob}
 
 -- ---- answered
 
@@ -95,3 +95,14 @@ IsSpelledRefused holds command e = IsJobRefused holds command.folder command.que
 abbrev pub IsWorkRefused : Holds → WorkCommand → Refusal → Type 0
 IsWorkRefused holds command e = IsSpelledRefused holds command e
     ⊎ ((bytes : List ℕ) × IsSpelled holds command bytes × IsUnwritten command.out e)
+
+-- ---- in their order
+
+-- the fragment's path, and behind it those of the dimensions, in the order of the joins
+abbrev pub paths_of : WorkCommand → JobSpec → List (List ℕ)
+paths_of command job = fragment_path command.folder job.plan.fact.name command.fragment ∷ map (λ join. dimension_path command.folder join.dim.name) job.plan.joins
+
+-- a file that can't be read is the catalogue's, that of the cut, or one of the job's, of which those before it were opened
+abbrev pub IsWorkUnread : Holds → (List ℕ → Type 0) → WorkCommand → Refusal → Type 0
+IsWorkUnread holds opens command e = (path : List ℕ) → e ≡ refusal.CannotRead path
+    → IsOfJob command.folder path ⊎ ((job : JobSpec) × IsJobOf holds command.folder command.query job × IsNextOpened opens (paths_of command job) path)

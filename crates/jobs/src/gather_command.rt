@@ -1,6 +1,6 @@
 //! What answers and states say together, from their files to the report.
 ghost use Rattle.std.specs.Prelude.{◌≡◌, ◌⊎◌, IfErr, IfOk, OnErr};
-ghost use Rattle.jobs.specs.Gathering.{IsGatherLeft, IsGathered, IsGatheredOf, IsGatherRefused, IsTogetherRefused};
+ghost use Rattle.jobs.specs.Gathering.{IsGatherLeft, IsGathered, IsGatheredOf, IsGatherRefused, IsGatherUnread, IsTogetherRefused};
 
 use crate::job::read_job;
 use crate::saving::save_and_report;
@@ -22,6 +22,7 @@ fn gather_files<F: Folder, E: Write>(
     ensures gathered { IfOk result
         (IsGatheredOf (F.holds folder.now) command.now (E.contents err.old) (E.contents err.new)) }
     ensures refused { IfErr result (IsTogetherRefused (F.holds folder.now) command.now) }
+    ensures first { IfErr result (IsGatherUnread (F.opens folder.now) command.now) }
 {
     let job = read_job(
         alloc,
@@ -60,6 +61,8 @@ pub fn gather_answers<F: Folder, O: Write, E: Write>(
         (IsGathered (F.holds folder.old) command.now (O.contents out.old) (O.contents out.new)
         (E.contents err.old) (E.contents err.new) (F.wrote folder.old) (F.wrote folder.new)) }
     ensures refused { IfErr result (IsGatherRefused (F.holds folder.old) command.now) }
+    // A file that can't be read is the first of them: those before it were opened.
+    ensures first { IfErr result (IsGatherUnread (F.opens folder.old) command.now) }
     // Nothing is printed before the state is saved, and then only the output can fail.
     ensures quiet { IfErr result (λ e. (e ≡ Refusal.CannotPrint)
         ⊎ (O.contents out.new ≡ O.contents out.old)) }

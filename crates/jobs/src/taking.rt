@@ -1,5 +1,6 @@
 //! Files of answers and states, taken one after the other.
 ghost use Rattle.std.specs.Prelude.{◌≡◌, [], IfErr, OnOk};
+ghost use Rattle.folders.specs.Refused.{IsFirstUnread};
 ghost use Rattle.jobs.specs.Gathering.{IsFileRefused, IsTakingRefused, IsUnreturned, gathered};
 ghost use Rattle.jobs.specs.Taking.{TakesFile, TakesOrNames, TookFiles};
 
@@ -45,6 +46,7 @@ fn take_file<F: Folder, T: TakesAnswers, E: Write>(
     ensures takes { OnOk result
         (TakesFile (F.holds folder.now) (T.held taker.old) (T.held taker.new) path.now
         (E.contents err.old) (E.contents err.new)) }
+    ensures opened { OnOk result (F.opens folder.now path.now) }
     ensures refused { IfErr result (IsFileRefused path.now) }
 {
     let bytes = read_file(alloc, folder, path)?;
@@ -65,6 +67,7 @@ pub fn take_files<F: Folder, T: TakesAnswers, E: Write>(
         (TookFiles (F.holds folder.now) (T.held taker.old) (T.held taker.new) paths.now
         (E.contents err.old) (E.contents err.new)) }
     ensures refused { IfErr result (IsTakingRefused paths.now) }
+    ensures first { IfErr result (IsFirstUnread (F.opens folder.now) paths.now) }
 {
     for path in paths {
         take_file(alloc, folder, taker, path, err)?;

@@ -1,14 +1,14 @@
 //! A fragment's answer, from the folder's files to the answer's.
-ghost use Rattle.std.specs.Prelude.{◌≡◌, List, IfErr, IfOk, OnErr, OnOk, Ok};
+ghost use Rattle.std.specs.Prelude.{◌≡◌, List, map, IfErr, IfOk, OnErr, OnOk, Ok};
 ghost use Rattle.meaning.specs.Order.{Row};
 ghost use Rattle.meaning.specs.SoundPlan.{IsSoundPlan};
 ghost use Rattle.meaning.specs.Said.{Answer as AnAnswer};
 ghost use Rattle.folders.specs.Folder.{AreHeld, WritesOne, dimension_path, fragment_path};
 ghost use Rattle.folders.specs.Each.{AreEach};
-ghost use Rattle.folders.specs.Refused.{IsUnread};
+ghost use Rattle.folders.specs.Refused.{IsFirstUnread, IsUnread};
 ghost use Rattle.partial_codec.specs.Answer.{Spells};
 ghost use Rattle.worker.specs.Work.{answered};
-ghost use Rattle.jobs.specs.Working.{AreDimensionsUnread, IsAnswer, IsAnswerRefused, IsDimensionOf, IsFileAnswer, IsFileRefused, IsOwnSpelled, IsSpelled, IsSpelledRefused, IsWorkRefused, IsWorked};
+ghost use Rattle.jobs.specs.Working.{AreDimensionsUnread, IsAnswer, IsAnswerRefused, IsDimensionOf, IsFileAnswer, IsFileRefused, IsOwnSpelled, IsSpelled, IsSpelledRefused, IsWorkRefused, IsWorkUnread, IsWorked, paths_of};
 
 use crate::job::read_job;
 use command_line::WorkCommand;
@@ -30,6 +30,8 @@ fn read_fragment<F: Folder>(
     ensures held { IfOk result
         (λ bytes. AreHeld (F.holds folder.now (fragment_path directory.now table.now fragment))
         bytes.items) }
+    ensures opened { OnOk result
+        (F.opens folder.now (fragment_path directory.now table.now fragment)) }
     ensures refused { IfErr result (IsUnread (fragment_path directory.now table.now fragment)) }
 {
     let path = fragment_path(alloc, directory, table, fragment)?;
@@ -44,6 +46,8 @@ fn read_dimension<F: Folder>(
 ) -> Result<Sequence<u8>, Refusal>
     ensures held { IfOk result
         (λ bytes. IsDimensionOf (F.holds folder.now) directory.now join.now bytes) }
+    ensures opened { OnOk result
+        (F.opens folder.now (dimension_path directory.now join.now.dim.name)) }
     ensures refused { IfErr result (IsUnread (dimension_path directory.now join.now.dim.name)) }
 {
     let path = dimension_path(alloc, directory, join.dim.name.as_str())?;
@@ -60,6 +64,8 @@ fn read_dimensions<F: Folder>(
     ensures held { IfOk result
         (λ dims. AreEach (IsDimensionOf (F.holds folder.now) directory.now) joins.now dims.items) }
     ensures refused { IfErr result (AreDimensionsUnread directory.now joins.now) }
+    ensures first { IfErr result (IsFirstUnread (F.opens folder.now)
+        (map (λ join. dimension_path directory.now join.dim.name) joins.now)) }
 {
     let mut dims = Vec::new(alloc);
     for join in joins {
@@ -104,6 +110,8 @@ fn answer_job<F: Folder>(
     ensures spelled { IfOk result
         (λ bytes. IsAnswer (F.holds folder.now) command.now job.now bytes.items) }
     ensures refused { IfErr result (IsAnswerRefused (F.holds folder.now) command.now job.now) }
+    ensures first { IfErr result
+        (IsFirstUnread (F.opens folder.now) (paths_of command.now job.now)) }
 {
     let (directory, k) = (command.folder.as_str(), command.fragment);
     let plan = job.plan();
@@ -121,6 +129,8 @@ fn spelled_answer<F: Folder>(
 ) -> Result<Vec<u8>, Refusal>
     ensures spelled { IfOk result (λ bytes. IsSpelled (F.holds folder.now) command.now bytes.items) }
     ensures refused { IfErr result (IsSpelledRefused (F.holds folder.now) command.now) }
+    ensures first { IfErr result
+        (IsWorkUnread (F.holds folder.now) (F.opens folder.now) command.now) }
 {
     let job = read_job(
         alloc,
@@ -156,6 +166,9 @@ pub fn answer_fragment<F: Folder>(
         (IsOwnSpelled (F.holds folder.old) command.now rows tables) (F.wrote folder.old)
         (F.wrote folder.new)) }
     ensures refused { IfErr result (IsWorkRefused (F.holds folder.old) command.now) }
+    // A file that can't be read is the first of the job's: those before it were opened.
+    ensures first { IfErr result
+        (IsWorkUnread (F.holds folder.old) (F.opens folder.old) command.now) }
     ensures left { OnErr result (F.wrote folder.new ≡ F.wrote folder.old) }
 {
     let bytes = spelled_answer(alloc, folder, command)?;

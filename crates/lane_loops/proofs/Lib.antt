@@ -1,10 +1,8 @@
 -- The lemmas of this crate.
 pub mod Chosen
-pub mod Eights
 pub mod Filling
 pub mod FillingAt
 pub mod FirstFlag
-pub mod GatheredPositions
 pub mod Likes
 pub mod PatternParts
 pub mod Returned

@@ -1,5 +1,5 @@
 -- The parts of a pattern, and where a part stands in a text.
-use Rattle.std.specs.Prelude.{◌-◌, ◌<◌, nat_eq, Bool, false, ◌≡◌, ℕ, ◌+◌, ◌≤◌, true, List, [], ◌∷◌, ◌++◌, length, take, drop, get_or, ◌||◌, Option, Some, None, is_some}
+use Rattle.std.specs.Prelude.{◌-◌, ◌<◌, suc, slice_index, nat_eq, Bool, false, ◌≡◌, ℕ, ◌+◌, ◌≤◌, true, List, [], ◌∷◌, ◌++◌, length, take, drop, get_or, ◌||◌, Option, Some, None, is_some}
 use Rattle.std.proofs.Common.{refl, sym, ap, subst, arith, ◌∙◌}
 use Rattle.std.specs.List.{list_any, starts_with, ends_with}
 use Rattle.std.proofs.lemmas.Bool.{eq-eqb, eqb-true}
@@ -7,10 +7,11 @@ use Rattle.std.proofs.lemmas.Bool.Decides.{Decides-eqb}
 use Rattle.std.proofs.lemmas.Slice.Eq.{starts_is, ends_is}
 use Rattle.std.specs.Str.{IsUtf8, is_utf8}
 use Rattle.std.specs.Str.Iter.{HasSubslice}
+use Rattle.std.proofs.lemmas.List.Folds.{list_any_at}
 use Rattle.std.proofs.lemmas.List.{length-append, take-append-drop}
 use Rattle.std.proofs.lemmas.Str.{IsUtf8-from_is_utf8, is_utf8-from_IsUtf8, IsUtf8-take, IsUtf8-drop, IsCharBoundary-after_ascii, IsCharBoundary-at_seam}
 use Rattle.meaning.proofs.LikeBytes.{take_front, drop_front, sign_utf8}
-use Rattle.memchr.specs.Find.{OccursAt, FindsNeedle}
+use Rattle.memchr.specs.Find.{IsFirstByte, OccursAt, FindsNeedle}
 use Rattle.memchr.proofs.lemmas.MatchLemmas.{OccursAt-split, OccursAt-from_part}
 
 -- ---- UTF-8 on either side of a `%`
@@ -64,6 +65,18 @@ short_ends text part short = isnt (ends_with nat_eq text part) (λ e.
     omega (arith, short, ap length whole, length-append (take (length text - length part) text) part))
 
 -- ---- a part of one byte
+
+none_passes : (test : ℕ → Bool) (text : List ℕ) → ((k : ℕ) → k < length text → test (slice_index text k) ≡ true → ⊥) → list_any test text ≡ false
+none_passes test [] none = refl
+none_passes test (b ∷ text) none = elim (test b) as (λ t. test b ≡ t → (t || list_any test text) ≡ false) [
+  | true ↦ λ is. absurd (none 0 (omega arith) is)
+  | false ↦ λ _. none_passes test text (λ k lt. none (suc k) (omega (arith, lt)))
+] refl
+
+-- a first byte that passes is found just where one passes
+pub is_found_any : (test : ℕ → Bool) (text : List ℕ) (found : Option ℕ) → IsFirstByte test text found → is_some found ≡ list_any test text
+is_found_any test text (Some k) (first, passes) = sym (list_any_at test text k 0 first.high passes)
+is_found_any test text None nowhere = sym (none_passes test text (λ k lt. nowhere k (omega arith) lt))
 
 -- the byte is among those of the text
 pub byte_to : (byte : ℕ) (text : List ℕ) → list_any (λ b. nat_eq b byte) text ≡ true → HasSubslice text (byte ∷ [])

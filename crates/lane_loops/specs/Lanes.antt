@@ -2,7 +2,7 @@
 use Rattle.std.specs.Prelude.{◌≡◌, ℕ, ◌<◌, ◌==◌, ℤ, pos, int_div, Bool, false, not, if◌then◌else◌, List, [], map, length, get_or}
 use Rattle.std.specs.Borrow.{Bor}
 use Rattle.std.specs.Int.{from_bool}
-use Rattle.std.specs.Ordering.{int_cmp, nat_cmp}
+use Rattle.std.specs.Ordering.{nat_cmp}
 use Rattle.std.specs.Cmp.Lexicographic.{slice_cmp}
 use Rattle.meaning.specs.declared.outcome.Truth.{Truth}
 use Rattle.meaning.specs.declared.outcome.Truth.TheVariants.{Unknown}
@@ -12,17 +12,8 @@ use Rattle.meaning.specs.declared.expr.ComparisonOperator.{ComparisonOperator}
 use Rattle.meaning.specs.declared.expr.ArithmeticOperator.TheVariants.{Divide}
 use Rattle.meaning.specs.Truth.{is_true, known, not3}
 use Rattle.meaning.specs.Like.{is_like}
-use Rattle.meaning.specs.Operators.{test, fits_i64, code_of, of_integers}
-
--- so many lanes, each what is meant there
-pub record AreLanes {X : Type 0} (blank : X) (n : ℕ) (meant : ℕ → X) (lanes : List X) : Type 0 where
-  pub long : length lanes ≡ n
-  pub each : (i : ℕ) → i < n → get_or lanes i blank ≡ meant i
-
--- the first `i` of so many lanes are what is meant there
-pub record AreFilled {X : Type 0} (blank : X) (n i : ℕ) (meant : ℕ → X) (lanes : List X) : Type 0 where
-  pub long : length lanes ≡ n
-  pub each : (j : ℕ) → j < i → get_or lanes j blank ≡ meant j
+use Rattle.meaning.specs.Operators.{test, code_of, of_integers}
+pub use Rattle.lane_kernels.specs.Lanes.{AreLanes, AreFilled, int_at, compared_bit, compared_to_bit, overflow_bit}
 
 -- so many lanes, each what is meant there where the premise holds; elsewhere it is open
 pub record AreLanesWhere {X : Type 0} (blank : X) (n : ℕ) (Premise : ℕ → Type 0) (meant : ℕ → X) (lanes : List X) : Type 0 where
@@ -37,10 +28,6 @@ AreLanesAt blank positions meant lanes = (k : ℕ) → k < length positions → 
 abbrev pub AreLanesAtWhere : {X : Type 0} → X → List ℕ → (ℕ → Type 0) → (ℕ → X) → List X → Type 0
 AreLanesAtWhere blank positions Premise meant lanes = (k : ℕ) → k < length positions → Premise (get_or positions k 0) → get_or lanes (get_or positions k 0) blank ≡ meant (get_or positions k 0)
 
--- the integer of a lane
-abbrev pub int_at : List ℤ → ℕ → ℤ
-int_at ints i = get_or ints i (pos 0)
-
 -- the truth of a lane
 abbrev pub truth_at : List Truth → ℕ → Truth
 truth_at truths i = get_or truths i Unknown
@@ -52,18 +39,6 @@ not_false_at truths i = not (is_true (not3 (truth_at truths i)))
 -- the truth of a lane isn't TRUE
 abbrev pub not_true_at : List Truth → ℕ → Bool
 not_true_at truths i = not (is_true (truth_at truths i))
-
--- 1 where the comparison holds, else 0
-abbrev pub compared_bit : ComparisonOperator → List ℤ → List ℤ → ℕ → ℕ
-compared_bit op left right i = from_bool (test op (int_cmp (int_at left i) (int_at right i)))
-
--- the same against one integer
-abbrev pub compared_to_bit : ComparisonOperator → List ℤ → ℤ → ℕ → ℕ
-compared_to_bit op left right i = from_bool (test op (int_cmp (int_at left i) right))
-
--- 1 where 64 bits don't hold the integer, else 0
-abbrev pub overflow_bit : ℤ → ℕ
-overflow_bit n = from_bool (not (fits_i64 n))
 
 -- ---- texts
 

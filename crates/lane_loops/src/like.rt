@@ -9,6 +9,7 @@ ghost use Rattle.lane_loops.specs.Lanes.{AreLanesAtWhere, AreLanesWhere, like_bi
 ghost use Rattle.lane_loops.specs.Patterns.{IsPart, IsSound, pattern_of};
 
 use crate::wildcards;
+use memchr::memchr;
 use memchr::memmem::Finder;
 use std::marker::Model;
 
@@ -150,47 +151,11 @@ fn is_suffix(part: &[u8], text: &[u8]) -> bool
     ends_with(text, part)
 }
 
-// Goes over all bytes, so that the loop has no branch, where a search would stop at the first.
 #[inline(always)]
-fn any_is(bytes: &[u8], byte: &u8) -> bool
-    ensures { result ≡ list_any (λ b. nat_eq b byte.now) bytes.now }
+fn has_byte(text: &[u8], byte: u8) -> bool
+    ensures { result ≡ list_any (λ b. nat_eq b byte) text.now }
 {
-    let mut is_any = false;
-    for b in bytes {
-        is_any |= *b == *byte;
-    }
-    is_any
-}
-
-#[inline(always)]
-fn any_of_eight(text: &[u8], start: usize, byte: &u8) -> bool
-    requires { start + 8 ≤ length text.now }
-    ensures { result ≡ list_any (λ b. nat_eq b byte.now) (take 8 (drop start text.now)) }
-{
-    any_is(&text[start..start + 8], byte)
-}
-
-/// Eight at a time, the last eight first, so that only short texts are gone over byte by byte.
-#[inline(always)]
-fn has_byte(text: &[u8], byte: &u8) -> bool
-    ensures { result ≡ list_any (λ b. nat_eq b byte.now) text.now }
-{
-    if text.len() < 8 {
-        return any_is(text, byte);
-    }
-    let mut is_any = any_of_eight(text, text.len() - 8, byte);
-    for eight in 0..text.len() / 8 {
-        is_any |= any_of_eight(text, 8 * eight, byte);
-    }
-    is_any
-}
-
-#[inline(always)]
-fn has_first(text: &[u8], part: &[u8]) -> bool
-    requires { 0 < length part.now }
-    ensures { result ≡ list_any (λ b. nat_eq b (slice_index part.now 0)) text.now }
-{
-    has_byte(text, &part[0])
+    memchr(byte, text).is_some()
 }
 
 #[inline(always)]
@@ -199,7 +164,7 @@ fn is_byte_within(part: &[u8], text: &[u8]) -> bool
     requires part { IsPart part.now }
     ensures { is_utf8 text.now ≡ true → result ≡ is_like (37 ∷ (part.now ++ 37 ∷ [])) text.now }
 {
-    has_first(text, part)
+    has_byte(text, part[0])
 }
 
 fn is_found(part: &Finder<'_>, text: &[u8]) -> bool

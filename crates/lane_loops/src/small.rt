@@ -1,12 +1,26 @@
 //! Arithmetic on small integers, of which no result is beyond 64 bits: no flag is kept of a
 //! lane.
-ghost use Rattle.std.specs.Prelude.{◌≡◌, ◌<◌, ◌*ℤ◌, true, false, length, set};
+ghost use Rattle.std.specs.Prelude.{◌≡◌, ◌<◌, ◌+ℤ◌, ◌-ℤ◌, ◌*ℤ◌, true, false, length, set};
 ghost use Rattle.std.specs.Int.{int_wrap, w64};
 ghost use Rattle.lane_loops.specs.Lanes.{int_at};
 ghost use Rattle.lane_loops.specs.Small.{AreSmall, AreResults, IsSmall, IsShort, arith_int, limit_of};
 
-use crate::adding::{wrapped_difference, wrapped_product, wrapped_sum};
+use crate::multiplying::wrapped_product;
 use meaning::ArithmeticOperator;
+
+#[inline(always)]
+fn wrapped_sum(left: i64, right: i64) -> i64
+    ensures { result ≡ int_wrap w64 (left +ℤ right) }
+{
+    left.wrapping_add(right)
+}
+
+#[inline(always)]
+fn wrapped_difference(left: i64, right: i64) -> i64
+    ensures { result ≡ int_wrap w64 (left -ℤ right) }
+{
+    left.wrapping_sub(right)
+}
 
 /// How far the integer is above -2^62. Where it isn't within 2^62 of zero, that is 2^63 or more.
 #[inline(always)]

@@ -150,7 +150,7 @@ unquoted_start true x a other e = cc e
 unquoted_start false x a other e = refl
 
 -- where a byte that is no quote leads, outside of quotes
-plain_next : (s : State) (c : ℕ) → is_unquoted s ≡ true → is_quote c ≡ false → next_state s c ≡ settled (in_field default_config c).0
+pub plain_next : (s : State) (c : ℕ) → is_unquoted s ≡ true → is_quote c ≡ false → next_state s c ≡ settled (in_field default_config c).0
 unfolding next_state
 plain_next st.StartRecord c out plain = between_goes c ∙ ap (λ (q : State × Action). settled q.0) (unquoted_start (c == 34) st.InQuoted act.Skip (in_field default_config c) plain)
 plain_next st.StartField c out plain = ap (λ (q : State × Action). settled q.0) (unquoted_start (c == 34) st.InQuoted act.Skip (in_field default_config c) plain)
@@ -161,7 +161,7 @@ plain_next st.InEscape c out plain = cc out
 plain_next st.InComment c out plain = cc out
 plain_next st.AfterCr c out plain = cc out
 
-plain_ends : (s : State) (c : ℕ) → is_unquoted s ≡ true → ends_record s c ≡ (is_line_end c && ends_at_end s)
+pub plain_ends : (s : State) (c : ℕ) → is_unquoted s ≡ true → ends_record s c ≡ (is_line_end c && ends_at_end s)
 plain_ends st.StartRecord c out = between_ends c ∙ sym (not_so (is_line_end c))
 plain_ends st.StartField c out = start_field_ends c ∙ sym (so (is_line_end c))
 plain_ends st.InField c out = field_ends_at c ∙ sym (so (is_line_end c))
@@ -183,13 +183,13 @@ opens false true lf apart = refl
 opens false false true apart = refl
 opens false false false apart = refl
 
-plain_out : (c : ℕ) → is_unquoted (settled (in_field default_config c).0) ≡ true
+pub plain_out : (c : ℕ) → is_unquoted (settled (in_field default_config c).0) ≡ true
 plain_out c = stays_out (c == 44) (c == 13) (c == 10)
 
-plain_open : (c : ℕ) → ends_at_end (settled (in_field default_config c).0) ≡ not (is_line_end c)
+pub plain_open : (c : ℕ) → ends_at_end (settled (in_field default_config c).0) ≡ not (is_line_end c)
 plain_open c = opens (c == 44) (c == 13) (c == 10) (no_line_end c 44 refl refl)
 
-either_false : (a b : Bool) → (a || b) ≡ false → (a ≡ false) × (b ≡ false)
+pub either_false : (a b : Bool) → (a || b) ≡ false → (a ≡ false) × (b ≡ false)
 either_false true b e = cc e
 either_false false b e = (refl, e)
 
@@ -217,21 +217,6 @@ module _ (s : State) (block : List ℕ) where
 
   pub one_behind : (i c : ℕ) → slice_get block i ≡ Some c → state_behind s (take (i + 1) block) ≡ next_state (state_behind s (take i block)) c
   one_behind i c there = ap (state_behind s) (taken block i c there) ∙ behind_append (take i block) (c ∷ []) s
-
-  -- what a loop over bytes without quotes knows in front of a byte
-  abbrev pub CountsPlain : ℕ → Bool → ℕ → Type 0
-  CountsPlain i within records = HasEnded i records × (is_unquoted (state_behind s (take i block)) ≡ true) × (within ≡ ends_at_end (state_behind s (take i block)))
-
-  pub one_plain : (i c records : ℕ) (within : Bool) → list_any is_quote block ≡ false → slice_get block i ≡ Some c → CountsPlain i within records
-      → CountsPlain (i + 1) (not (is_line_end c)) (records + from_bool (is_line_end c && within))
-  one_plain i c records within plain there (ended, out, is_within) =
-      let here = state_behind s (take i block) in
-      let next = one_behind i c there ∙ plain_next here c out (no_quote block i c plain there) in
-      let same : ends_record here c ≡ (is_line_end c && within) = plain_ends here c out ∙ ap (λ b. is_line_end c && b) (sym is_within) in (
-        subst (λ b. HasEnded (i + 1) (records + from_bool b)) same (one_ended i c records there ended),
-        ap is_unquoted next ∙ plain_out c,
-        sym (ap ends_at_end next ∙ plain_open c),
-      )
 
 -- the state behind bytes without quotes is that behind the last
 pub behind_last : (xs : List ℕ) (s : State) (c d : ℕ) → list_any is_quote (d ∷ xs) ≡ false → is_unquoted s ≡ true → slice_get (d ∷ xs) (length xs) ≡ Some c → state_behind s (d ∷ xs) ≡ settled (in_field default_config c).0

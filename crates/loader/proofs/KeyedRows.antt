@@ -1,6 +1,6 @@
 -- Rows whose keys differ.
 use Rattle.std.proofs.Common.{◌≡◌, ◌≤◌, ◌<◌, ℕ, zero, suc, ◌+◌, ◌-◌, Bool, true, false, not, List, [], ◌∷◌, ◌++◌, length, map, take, get_or, Ok, Err, Some, Option, refl, sym, ap, ◌∙◌, arith, zero-add, append_assoc}
-use Rattle.std.specs.Prelude.{Result, if◌then◌else◌, nat_le}
+use Rattle.std.specs.Prelude.{Result, if◌then◌else◌, nat_le, slice_get}
 use Rattle.std.specs.List.{enumerate_from}
 use Rattle.std.proofs.lemmas.Bool.{le-leb, lt-leb}
 use Rattle.std.proofs.lemmas.List.{append-nil, length-append, map-append}
@@ -17,7 +17,8 @@ use Rattle.meaning.specs.Results.{all_ok, and_then}
 use Rattle.columns.specs.Column.{ColumnSpec}
 use Rattle.loader.specs.declared.fault.LoadFault.{LoadFault}
 use Rattle.loader.specs.declared.fault.LoadFault.TheVariants.{Memory, Table, Device}
-use Rattle.loader.specs.Columns.{with_row}
+use Rattle.loader.specs.Columns.{last_in, with_row}
+use Rattle.loader.proofs.Fragments.{long_row}
 use Rattle.loader.specs.Source.{IsLeft}
 use Rattle.loader.specs.Steps.{numbered_row, rows_of, with_rows, keyed_rows, is_more, TakesNextRow, TakesAll, TakesTable}
 use Rattle.loader.proofs.RowRuns.{ok_parts, all_from, parts_from, row_more, rows_more}
@@ -33,12 +34,12 @@ last_of xs v =
     let index : length (xs ++ v ∷ []) - 1 ≡ length xs = omega (arith, length-append xs (v ∷ [])) in
     ap (λ n. get_or (xs ++ v ∷ []) n Null) index ∙ at_end xs v
 
-pub last_is : (cs : List ColumnSpec) (r : Row) (k : ℕ) (d : ColumnSpec) → length (with_row cs r) ≡ length cs → k < length cs
-    → get_or (get_or (with_row cs r) k d).values (length (get_or (with_row cs r) k d).values - 1) Null ≡ column r k
-last_is [] r k d same lt = absurd (omega arith)
-last_is (c ∷ cs) [] k d same lt = absurd (omega (arith, same))
-last_is (c ∷ cs) (v ∷ r) zero d same lt = last_of c.values v
-last_is (c ∷ cs) (v ∷ r) (suc k) d same lt = last_is cs r k d (omega (arith, same)) (omega arith)
+pub last_is : (cs : List ColumnSpec) (r : Row) (k : ℕ) → length r ≡ length cs → last_in (slice_get (with_row cs r) k) ≡ column r k
+last_is [] [] k same = refl
+last_is [] (v ∷ r) k same = absurd (omega (arith, same))
+last_is (c ∷ cs) [] k same = absurd (omega (arith, same))
+last_is (c ∷ cs) (v ∷ r) zero same = last_of c.values v
+last_is (c ∷ cs) (v ∷ r) (suc k) same = last_is cs r k (omega (arith, same))
 
 -- ---- keys
 
@@ -127,16 +128,16 @@ module _ {R : Type 0} (known : R → Option (List ℕ)) (reader : Reader R) (dec
   all_taken false e (none, same) = (rows, keyed_end declared order key most records before later rows all none judged, same ∙ kept)
 
   -- a row whose key is taken or new
-  pub one_row : (found : Bool) → found ≡ true → TakesNextRow known declared order (length before) later now after reader (Ok found) → length after ≡ length now → key < length now → length before < most → (v : Value) (d : ColumnSpec)
-      → v ≡ get_or (get_or after key d).values (length (get_or after key d).values - 1) Null
+  pub one_row : (found : Bool) → found ≡ true → TakesNextRow known declared order (length before) later now after reader (Ok found) → length order ≡ length now → length before < most → (v : Value)
+      → v ≡ last_in (slice_get after key)
       → (added : Bool) → added ≡ not (is_repeated v (keys_in key rows))
       → (added ≡ false → keyed_rows declared order key most records ≡ Err (fault.KeyTwice (length before)))
       × (added ≡ true → (xs ys : List Record) × (zs : List Row) × (records ≡ xs ++ ys) × (length xs ≡ length before + 1) × (rows_of declared order 0 xs ≡ Ok zs)
       × (all_ok (map (judged_record declared (Some key) most order records) (enumerate_from 0 xs)) ≡ Ok zs) × (after ≡ with_rows columns zs) × (keys_in key zs ≡ keys_in key rows ++ v ∷ []) × IsLeft known reader ys)
-  one_row false e taken wide lt limit v d value added new = cc e
-  one_row true e (fields, others, r, next, row, one_more, left) wide lt limit v d value added new =
+  one_row false e taken wide limit v value added new = cc e
+  one_row true e (fields, others, r, next, row, one_more, left) wide limit v value added new =
       let split = all ∙ ap (λ (l : List Record). before ++ l) next in
-      let its_key : v ≡ column r key = value ∙ ap (λ (cs : List ColumnSpec). get_or (get_or cs key d).values (length (get_or cs key d).values - 1) Null) one_more ∙ last_is now r key d (ap length (sym one_more) ∙ wide) lt in
+      let its_key : v ≡ column r key = value ∙ ap (λ (cs : List ColumnSpec). last_in (slice_get cs key)) one_more ∙ last_is now r key (long_row declared order (length before) fields r row ∙ wide) in
       let tested : added ≡ not (is_repeated (column r key) (keys_in key rows)) = new ∙ ap (λ (k : Value). not (is_repeated k (keys_in key rows))) its_key in (
         λ old. key_fault declared order key most records before fields others rows split done judged r limit row (negated added (is_repeated (column r key) (keys_in key rows)) tested old),
         λ fresh. (

@@ -13,8 +13,10 @@ pub mod Integers
 pub mod Judging
 pub mod KeySets
 pub mod KeyedRows
+pub mod Lines
 pub mod Marks
 pub mod RowRuns
+pub mod Shapes
 pub mod Steps
 pub mod Tables
 pub mod TextFields

@@ -1,12 +1,11 @@
 -- The first bytes of a text, which may be a byte order mark, and reads.
-use Rattle.std.proofs.Common.{◌≡◌, ◌∙◌, ℕ, zero, suc, List, [], ◌∷◌, ◌++◌, take, Option, Some, None, refl, sym, ap, subst, arith}
+use Rattle.std.proofs.Common.{◌≡◌, ◌∙◌, ℕ, zero, suc, List, [], ◌∷◌, ◌++◌, take, Option, Some, None, refl, sym, ap, arith}
 use Rattle.std.specs.Prelude.{IfOk, MatchOption, Result, Ok, Err}
 use borrow.Author.Tests.{ne_eqb}
 use Rattle.csv.specs.Reading.{strip_bom}
 use Rattle.csv.specs.declared.parser.State.TheVariants as st
 use Rattle.loader.specs.declared.counted.Counted.{Counted}
 use Rattle.loader.specs.declared.fault.LoadFault.{LoadFault}
-use Rattle.loader.specs.Fault.{IsUncounted}
 use Rattle.loader.specs.Counting.{GoesOn, Reads, counted_with, records_left}
 
 pub one_short : (a : ℕ) → strip_bom (a ∷ []) ≡ a ∷ []
@@ -85,14 +84,6 @@ goes_through known before between after front byte mark same read (Ok counted) c
     let (rest, later, whole) = read bytes left in
     let (last, is, all) = counts rest later in
     (last, is, all ∙ ap (λ (xs : List ℕ). records_left st.StartRecord (strip_bom (front ++ xs))) (sym (whole ∙ ap (λ (x : ℕ). x ∷ rest) same)))
-
--- more were counted with a block than can be
-pub block_refused : {R : Type 0} (known : R → Option (List ℕ)) (before after : R) (all : ℕ) (counted : Counted) (block : List ℕ) (fault : LoadFault)
-    → ((bytes : List ℕ) → known before ≡ Some bytes → Reads (known after) bytes block) → ((rest : List ℕ) → IsUncounted (counted_with counted (block ++ rest)) fault)
-    → GoesOn known before all counted → IsUncounted all fault
-block_refused known before after all counted block fault read refused (bytes, left, so_far) =
-    let (rest, later, whole, end) = read bytes left in
-    subst (λ n. IsUncounted n fault) (ap (counted_with counted) (sym whole) ∙ so_far) (refused rest)
 
 pub none_in_front : (n : ℕ) (xs : List ℕ) → n ≡ 0 → take n xs ≡ []
 none_in_front zero xs e = refl

@@ -1,5 +1,6 @@
 -- How many records end among bytes, by what stands between one byte and the next.
-use Rattle.std.specs.Prelude.{◌≡◌, ◌++◌, ℕ, ◌+◌, ◌==◌, ◌||◌, Bool, true, false, List, [], ◌∷◌, Option, Some}
+use Rattle.std.specs.Prelude.{◌≡◌, ◌++◌, ℕ, length, nat_lt, ◌+◌, ◌==◌, ◌||◌, Bool, true, false, List, [], ◌∷◌, Option, Some}
+use Rattle.std.specs.List.{list_any}
 use Rattle.std.specs.Int.{from_bool}
 use Rattle.csv.specs.Machine.{step, is_end, ends_at_end}
 use Rattle.csv.specs.Reading.{default_config}
@@ -66,6 +67,14 @@ is_quote byte = byte == 34
 
 abbrev pub is_line_end : ℕ → Bool
 is_line_end byte = (byte == 13) || (byte == 10)
+
+-- no line end is among bytes
+abbrev pub IsOneLine : List ℕ → Type 0
+IsOneLine bytes = list_any is_line_end bytes ≡ false
+
+-- the first line end among bytes stands in front of others, and behind some if there are such
+abbrev pub EndsLine : List ℕ → Bool → List ℕ → Type 0
+EndsLine bytes some others = (line : List ℕ) × (end : ℕ) × (bytes ≡ line ++ end ∷ others) × IsOneLine line × (is_line_end end ≡ true) × (some ≡ nat_lt 0 (length line))
 
 -- the records that were counted, with those that end among these bytes
 abbrev pub counted_with : Counted → List ℕ → ℕ

@@ -1,9 +1,10 @@
 //! The records that end in a block of bytes.
-ghost use Rattle.std.specs.Prelude.{◌≡◌, ◌<◌, ◌^◌, true, false, length};
+ghost use Rattle.std.specs.Prelude.{◌≡◌, ◌<◌, ◌^◌, true, false, length, None, IfSome};
 ghost use Rattle.std.specs.List.{list_any};
-ghost use Rattle.loader.specs.Counting.{ended_in, is_quote, is_unquoted, state_at, state_behind};
+ghost use Rattle.loader.specs.Counting.{EndsLine, IsOneLine, ended_in, is_quote, is_unquoted, state_at, state_behind};
 
-use crate::record_state::{RecordState, behind_plain, is_line_end};
+use crate::record_state::{RecordState, behind_plain};
+use memchr::{memchr, memchr2};
 
 /// How many records end in a block, and the state behind it.
 #[derive(Clone, Copy)]
@@ -12,15 +13,21 @@ pub struct Ended {
     pub state: RecordState,
 }
 
-/// Whether a quote is among the bytes. All are looked at, so that many are at once.
+/// Whether a quote is among the bytes.
 fn has_quote(block: &[u8]) -> bool
     ensures { result ≡ list_any is_quote block.now }
 {
-    let mut found = false;
-    for byte in block {
-        found |= *byte == b'"';
-    }
-    found
+    memchr(b'"', block).is_some()
+}
+
+/// The bytes behind the next line end, and whether others stand before it; none where no line end
+/// is left.
+fn behind_line(block: &[u8]) -> Option<(bool, &[u8])>
+    ensures none { result ≡ None → IsOneLine block.now }
+    ensures split { IfSome result (λ line. EndsLine block.now line.0 line.1.now) }
+{
+    let end = memchr2(b'\r', b'\n', block)?;
+    Some((end > 0, &block[end + 1..]))
 }
 
 /// How many records end in a block without quotes: as many as there are line ends behind another
@@ -33,10 +40,11 @@ fn count_plain(state: RecordState, block: &[u8]) -> u32
 {
     let mut within = state.is_open();
     let mut records = 0u32;
-    for byte in block {
-        let ends = is_line_end(*byte);
-        records += u32::from(ends & within);
-        within = !ends;
+    let mut rest = block;
+    while let Some((has_bytes, others)) = behind_line(rest) {
+        records += u32::from(within | has_bytes);
+        within = false;
+        rest = others;
     }
     records
 }

@@ -2,12 +2,11 @@
 ghost use Rattle.std.specs.Prelude.{◌≡◌, ◌<◌, ◌^◌, ◌++◌, [], ℕ, List, length, IfOk, IfErr};
 ghost use Rattle.csv.specs.declared.parser.State.TheVariants as st;
 ghost use Rattle.loader.specs.Counting.{counted_with, records_left};
-ghost use Rattle.loader.specs.Fault.{IsOfCounting, IsUncounted};
+ghost use Rattle.loader.specs.declared.fault.LoadFault.TheVariants.{Memory};
 
 use crate::blocks::count_block;
 use crate::fault::LoadFault;
 use crate::record_state::RecordState;
-use meaning::TableFault;
 
 /// How many records ended so far, and the state behind them.
 #[derive(Clone, Copy)]
@@ -30,14 +29,13 @@ impl Counted {
         }
     }
 
-    /// With the records that end in a block.
+    /// With the records that end in a block. More than 64 bits count are refused as out of memory:
+    /// no file has as many.
     pub fn with_block(self, block: &[u8]) -> Result<Counted, LoadFault>
         requires { length block.now < 2 ^ 32 }
         ensures counted { IfOk result (λ after. (rest : List ℕ)
             → counted_with after rest ≡ counted_with self (block.now ++ rest)) }
-        ensures returned { IfErr result IsOfCounting }
-        ensures refused { (rest : List ℕ)
-            → IfErr result (IsUncounted (counted_with self (block.now ++ rest))) }
+        ensures refused { IfErr result (λ f. f ≡ Memory) }
     {
         let ended = count_block(self.state, block);
         match self.records.checked_add(u64::from(ended.records)) {
@@ -45,19 +43,18 @@ impl Counted {
                 records,
                 state: ended.state,
             }),
-            None => Err(LoadFault::Table(TableFault::TooManyRows)),
+            None => Err(LoadFault::Memory),
         }
     }
 
     /// All records, with the one that the end of the text ends.
     pub fn at_end(self) -> Result<u64, LoadFault>
         ensures counted { IfOk result (λ n. n ≡ counted_with self []) }
-        ensures returned { IfErr result IsOfCounting }
-        ensures refused { IfErr result (IsUncounted (counted_with self [])) }
+        ensures refused { IfErr result (λ f. f ≡ Memory) }
     {
         match self.records.checked_add(u64::from(self.state.is_open())) {
             Some(records) => Ok(records),
-            None => Err(LoadFault::Table(TableFault::TooManyRows)),
+            None => Err(LoadFault::Memory),
         }
     }
 }

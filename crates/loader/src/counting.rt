@@ -3,7 +3,7 @@ ghost use Rattle.std.specs.Prelude.{◌≡◌, ◌++◌, ◌∷◌, [], ◌<◌,
 ghost use Rattle.csv.specs.declared.parser.State.TheVariants as st;
 ghost use Rattle.csv.specs.Reading.{strip_bom};
 ghost use Rattle.loader.specs.Counting.{GoesOn, Reads, records_left};
-ghost use Rattle.loader.specs.Fault.{IsOfCounting, IsUncounted};
+ghost use Rattle.loader.specs.Fault.{IsOutside};
 ghost use Rattle.loader.specs.declared.fault.LoadFault.TheVariants.{Device};
 ghost use Rattle.loader.specs.Source.{csv_records};
 
@@ -99,9 +99,7 @@ fn count_from<R: Read>(reader: &mut R, block: &mut [u8], start: Counted) -> Resu
     requires few { length block.old < 2 ^ 32 }
     ensures counted { (all : ℕ) → GoesOn R.remaining reader.old all start
         → IfOk result (λ n. n ≡ all) }
-    ensures returned { IfErr result IsOfCounting }
-    ensures refused { (all : ℕ) → GoesOn R.remaining reader.old all start
-        → IfErr result (IsUncounted all) }
+    ensures refused { IfErr result IsOutside }
 {
     let mut counted = start;
     for _ in 0..u64::MAX {
@@ -120,9 +118,7 @@ fn count_records<R: Read>(reader: &mut R, block: &mut [u8]) -> Result<u64, LoadF
     requires few { length block.old < 2 ^ 32 }
     ensures counted { (bytes : List ℕ) → R.remaining reader.old ≡ Some bytes
         → IfOk result (λ n. n ≡ length (csv_records bytes)) }
-    ensures returned { IfErr result IsOfCounting }
-    ensures refused { (bytes : List ℕ) → R.remaining reader.old ≡ Some bytes
-        → IfErr result (IsUncounted (length (csv_records bytes))) }
+    ensures refused { IfErr result IsOutside }
 {
     let counted = count_front(reader)?;
     count_from(reader, block, counted)
@@ -131,9 +127,7 @@ fn count_records<R: Read>(reader: &mut R, block: &mut [u8]) -> Result<u64, LoadF
 fn count_in_blocks<R: Read>(alloc: Global, reader: &mut R) -> Result<u64, LoadFault>
     ensures counted { (bytes : List ℕ) → R.remaining reader.old ≡ Some bytes
         → IfOk result (λ n. n ≡ length (csv_records bytes)) }
-    ensures returned { IfErr result IsOfCounting }
-    ensures refused { (bytes : List ℕ) → R.remaining reader.old ≡ Some bytes
-        → IfErr result (IsUncounted (length (csv_records bytes))) }
+    ensures refused { IfErr result IsOutside }
 {
     let mut block = vec![in alloc; 0u8; BLOCK]?;
     let records = count_records(reader, &mut block);
@@ -145,13 +139,11 @@ fn count_in_blocks<R: Read>(alloc: Global, reader: &mut R) -> Result<u64, LoadFa
 ///
 /// # Errors
 ///
-/// Out of memory, the reader's own, or too many rows where 64 bits don't count the records.
+/// Out of memory, or the reader's own.
 pub fn count_rows<R: Read + Drop>(alloc: Global, mut reader: R) -> Result<u64, LoadFault>
     ensures counted { (bytes : List ℕ) → R.remaining reader ≡ Some bytes
         → IfOk result (λ n. n ≡ length (drop 1 (csv_records bytes))) }
-    ensures returned { IfErr result IsOfCounting }
-    ensures refused { (bytes : List ℕ) → R.remaining reader ≡ Some bytes
-        → IfErr result (IsUncounted (length (csv_records bytes))) }
+    ensures refused { IfErr result IsOutside }
 {
     let records = count_in_blocks(alloc, &mut reader);
     drop(reader);

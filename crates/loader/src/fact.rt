@@ -1,8 +1,8 @@
 //! The fact table.
-ghost use Rattle.std.specs.Prelude.{◌≡◌, [], ℕ, List, None, Some, IfOk, Result};
+ghost use Rattle.std.specs.Prelude.{◌≡◌, [], ℕ, List, None, Some, IfOk, OnOk, Result};
 ghost use Rattle.meaning.specs.declared.table.TableFault.{TableFault as Fault};
 ghost use Rattle.columns.specs.Column.{ColumnSpec};
-ghost use Rattle.loader.specs.Columns.{fact_fragments};
+ghost use Rattle.loader.specs.Columns.{AreFragmentsOf, fact_fragments};
 ghost use Rattle.loader.specs.Handing.{HandsOn, IsNextOf, IsToCome, OpensFact, declared_in, lengths_ahead};
 ghost use Rattle.meaning.specs.Wanting.{ReportsIfMemory};
 ghost use Rattle.loader.specs.Fault.{fault_returned};
@@ -98,7 +98,9 @@ fn add_fragments<R: Read>(
     fragments: &mut Vec<Sequence<Column>>,
 ) -> Result<(), LoadFault>
     requires { fragments.old.items ≡ [] }
-    ensures { (meant : Result (List (List ColumnSpec)) Fault)
+    ensures declared { OnOk result
+        (AreFragmentsOf (declared_in reader.old) (lengths_ahead reader.old) fragments.new.items) }
+    ensures loaded { (meant : Result (List (List ColumnSpec)) Fault)
         → IsToCome R.remaining reader.old meant
         → ReportsIfMemory fault_returned (λ _. fragments.new.items) result meant }
 {
@@ -113,7 +115,10 @@ fn all_fragments<R: Read>(
     reader: &mut FactReader<'_, R>,
     cut: &Cut,
 ) -> Result<Vec<Sequence<Column>>, LoadFault>
-    ensures { (meant : Result (List (List ColumnSpec)) Fault)
+    ensures declared { IfOk result
+        (λ fragments. AreFragmentsOf (declared_in reader.old) (lengths_ahead reader.old)
+        fragments.items) }
+    ensures loaded { (meant : Result (List (List ColumnSpec)) Fault)
         → IsToCome R.remaining reader.old meant
         → ReportsIfMemory fault_returned (λ fragments. fragments.items) result meant }
 {
@@ -128,14 +133,20 @@ fn all_fragments<R: Read>(
 }
 
 /// Each fragment's columns, in the order of the catalogue, from the fact table's CSV file. There
-/// are just as many rows as the cut has. Else the first fault from record to record.
+/// are just as many rows as the cut has.
+///
+/// # Errors
+///
+/// Out of memory, the reader's own, or the first fault from record to record.
 pub fn load_fact<R: Read + Drop>(
     alloc: Global,
     catalog: &Catalog,
     reader: R,
     cut: &Cut,
 ) -> Result<Vec<Sequence<Column>>, LoadFault>
-    ensures { (bytes : List ℕ) → R.remaining reader ≡ Some bytes
+    ensures declared { IfOk result
+        (λ fragments. AreFragmentsOf catalog.now.fact.columns cut.now fragments.items) }
+    ensures loaded { (bytes : List ℕ) → R.remaining reader ≡ Some bytes
         → ReportsIfMemory fault_returned (λ fragments. fragments.items) result
         (fact_fragments catalog.now cut.now (csv_records bytes)) }
 {

@@ -1,12 +1,12 @@
 //! Records judged one after the other and put into columns.
-ghost use Rattle.std.specs.Prelude.{◌≡◌, ◌-◌, slice_index_or, [], ◌+◌, ◌<◌, ◌^◌, List, length, map, ℕ, Some, Ok, Err, IfOk, IfErr, OnOk, true};
+ghost use Rattle.std.specs.Prelude.{◌≡◌, ◌-◌, slice_get, slice_index_or, [], ◌+◌, ◌<◌, ◌^◌, List, length, map, ℕ, Some, Ok, Err, IfOk, IfErr, OnOk, true, false};
 ghost use Rattle.csv.specs.Records.{AllText, fields_of};
 ghost use Rattle.meaning.specs.declared.value.Value.TheVariants.{Null};
 ghost use Rattle.meaning.specs.declared.value.Value.TheVariants as of_value;
 ghost use Rattle.meaning.specs.Records.{Record};
 ghost use Rattle.meaning.specs.Records as records;
 ghost use Rattle.columns.specs.Rows.{columns_of};
-ghost use Rattle.loader.specs.Columns.{AreDeclared, AreRowsOf, no_rows, row_counts};
+ghost use Rattle.loader.specs.Columns.{AreAtMost, AreDeclared, AreRowsOf, HaveMore, last_in, no_rows, row_counts};
 ghost use Rattle.loader.specs.Fault.{IsOutside};
 ghost use Rattle.loader.specs.Keys.{HoldsKeys};
 ghost use Rattle.loader.specs.Source.{IsLeft, csv_records};
@@ -67,6 +67,16 @@ fn last_value(alloc: Global, column: &Column) -> Result<Value, AllocError>
         return Ok(Value::Null);
     }
     column.get(column.len() - 1).to_value(alloc)
+}
+
+/// The value of the last row in a column, and NULL where there is no such column.
+fn last_key(alloc: Global, columns: &[Column], key: usize) -> Result<Value, AllocError>
+    ensures { IfOk result (λ v. v ≡ last_in (slice_get columns.now key)) }
+{
+    match columns.get(key) {
+        Some(column) => last_value(alloc, column),
+        None => Ok(Value::Null),
+    }
 }
 
 /// Judges a record of texts, and puts its row behind the last rows. `parsed` is room that is used
@@ -240,6 +250,7 @@ impl<R: Read> Rows<'_, R> {
         ensures kept { OnOk result (AreDeclared self.old.declared.now columns.new) }
         ensures longer { IfOk result (λ found. found ≡ true
             → row_counts columns.new ≡ map (λ n. n + 1) (row_counts columns.old)) }
+        ensures same { IfOk result (λ found. found ≡ false → columns.new ≡ columns.old) }
         ensures order { self.new.order ≡ self.old.order }
         ensures taken { (rest : List Record) → IsLeft R.remaining self.old.reader rest
             → TakesNextRow R.remaining self.old.declared.now self.old.order.columns.items row rest
@@ -313,8 +324,9 @@ impl<R: Read> Rows<'_, R> {
         columns: &mut [Column],
     ) -> Result<(), LoadFault>
         requires columns { AreDeclared self.old.declared.now columns.old }
-        requires key { key < length columns.old }
         requires none { HoldsKeys keys.old.present [] }
+        ensures kept { OnOk result (AreDeclared self.old.declared.now columns.new) }
+        ensures longer { OnOk result (HaveMore most columns.old columns.new) }
         ensures taken { (rest : List Record) → IsLeft R.remaining self.old.reader rest
             → TakesAll self.old.declared.now self.old.order.columns.items key most rest columns.old
             columns.new result }
@@ -323,7 +335,7 @@ impl<R: Read> Rows<'_, R> {
             if !self.next_row(row, columns)? {
                 return Ok(());
             }
-            if !keys.insert(last_value(alloc, &columns[key])?)? {
+            if !keys.insert(last_key(alloc, columns, key)?)? {
                 return Err(LoadFault::Table(TableFault::KeyTwice { row }));
             }
         }
@@ -342,8 +354,9 @@ impl<R: Read> Rows<'_, R> {
         most: u64,
         columns: &mut [Column],
     ) -> Result<(), LoadFault>
-        requires columns { AreDeclared self.old.declared.now columns.old }
-        requires key { key < length columns.old }
+        requires { AreDeclared self.old.declared.now columns.old }
+        ensures kept { OnOk result (AreDeclared self.old.declared.now columns.new) }
+        ensures longer { OnOk result (HaveMore most columns.old columns.new) }
         ensures taken { (rest : List Record) → IsLeft R.remaining self.old.reader rest
             → TakesAll self.old.declared.now self.old.order.columns.items key most rest columns.old
             columns.new result }
@@ -362,8 +375,8 @@ impl<R: Read> Rows<'_, R> {
         key: usize,
         most: u64,
     ) -> Result<Sequence<Column>, LoadFault>
-        requires columns { length self.old.declared.now ≡ length self.old.order.columns.items }
-        requires key { key < length self.old.declared.now }
+        requires { length self.old.declared.now ≡ length self.old.order.columns.items }
+        ensures rows { IfOk result (AreAtMost self.old.declared.now most) }
         ensures taken { (rest : List Record) → IsLeft R.remaining self.old.reader rest
             → TakesTable self.old.declared.now
             (keyed_rows self.old.declared.now self.old.order.columns.items key most rest) result }

@@ -1,6 +1,7 @@
 -- Lemmas of this crate.
 pub mod Arms
 pub mod Columns
+pub mod Composed
 pub mod ExprNodes
 pub mod Fitted
 pub mod Keeping

@@ -41,22 +41,10 @@ module _ (meant : ℕ → Outcome) (s : Positions) (is : IsSelection s) (n : ℕ
   selected : Evaluates meant (λ i. is_among s.list i ≡ true) h h2 (given_at g)
   selected = reselected meant (IsWithin s) (λ i. is_among s.list i ≡ true) h h2 (given_at g) (λ i w. w.1) (λ i among. (below i among, among)) ev
 
-  vector_evaluates : Evaluates meant (λ i. is_among s.list i ≡ true) h h2 (lane_of v)
-  vector_evaluates = record { exact = λ i among before. same i among ∙ selected.exact i among before; origin = selected.origin }
-
   vector_is : IsEvaluated meant s.list h h2 (lane_of v)
   vector_is =
       let w = evaluated meant s.list h h2 (given_at g) (lane_is g) selected is.ascending in
       record { least = w.least; exact = λ i among before. same i among ∙ w.exact i among before }
-
-pub vector_composes : {E : Type 0} (batch : BatchSpec) (e : Expr) (s : Positions) (n : ℕ) (h h2 : Held) (g : Given) (r : Result Vector E)
-    → IsSelection s → s.below ≡ n → ExprGives batch e (IsWithin s) h h2 g → IfOk r (λ v. (i : ℕ) → i < n → lane_of v i ≡ given_at g i)
-    → IfOk r (λ v. (types : RowTypes) (type : ExprType) (rows : List JoinedRow)
-    → AreTypedRows types batch rows → Fits types batch.columns e type
-    → Evaluates (meant_at e rows) (λ i. is_among s.list i ≡ true) h h2 (lane_of v))
-vector_composes batch e s n h h2 g (Err x) is long on value = tt
-vector_composes batch e s n h h2 g (Ok v) is long on value = λ types type rows are fits.
-    vector_evaluates (meant_at e rows) s is n long h h2 g v value (on types type rows are fits).evaluates
 
 pub vector_evaluated : {E : Type 0} (batch : BatchSpec) (e : Expr) (s : Positions) (n : ℕ) (h h2 : Held) (g : Given) (r : Result Vector E)
     → IsSelection s → s.below ≡ n → ExprGives batch e (IsWithin s) h h2 g → IfOk r (λ v. (i : ℕ) → i < n → lane_of v i ≡ given_at g i)

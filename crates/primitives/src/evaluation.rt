@@ -1,10 +1,9 @@
 //! Expressions over the columns of a batch.
-ghost use Rattle.std.specs.Prelude.{◌≡◌, ℕ, true, List, length, IfOk};
+ghost use Rattle.std.specs.Prelude.{◌≡◌, List, length, IfOk};
 ghost use Rattle.meaning.specs.declared.joined_row.JoinedRow.{JoinedRow};
 ghost use Rattle.meaning.specs.Typing.{ExprType, RowTypes};
-ghost use Rattle.vectors.specs.Selection.{is_among};
 ghost use Rattle.vectors.specs.Vector.{outcomes_of};
-ghost use Rattle.vector_operators.specs.Evaluated.{Evaluates, IsEvaluated, lane_of};
+ghost use Rattle.vector_operators.specs.Evaluated.{IsEvaluated, lane_of};
 ghost use Rattle.primitives.specs.Meant.{meant_at};
 ghost use Rattle.primitives.specs.Fitting.{AreTypedRows, Fits};
 ghost use Rattle.vector_operators.specs.Given.{IsOfType};
@@ -34,11 +33,6 @@ pub fn eval_lanes<'a>(
         → AreTypedRows types batch.now rows → Fits types batch.now.columns expr.now type
         → IsEvaluated (meant_at expr.now rows) lanes.now.list fault.old.held fault.new.held
         (lane_of v)) }
-    ensures composes { IfOk result
-        (λ v. (types : RowTypes) (type : ExprType) (rows : List JoinedRow)
-        → AreTypedRows types batch.now rows → Fits types batch.now.columns expr.now type
-        → Evaluates (meant_at expr.now rows) (λ i. is_among lanes.now.list i ≡ true)
-        fault.old.held fault.new.held (lane_of v)) }
     ensures typed { IfOk result (λ v. (types : RowTypes) (type : ExprType) (rows : List JoinedRow)
         → AreTypedRows types batch.now rows → Fits types batch.now.columns expr.now type
         → IsOfType type v) }
@@ -70,11 +64,6 @@ pub fn eval_vec<'a>(
         → AreTypedRows types batch.now rows → Fits types batch.now.columns expr.now type
         → IsEvaluated (meant_at expr.now rows) selection.now.list fault.old.held fault.new.held
         (lane_of v)) }
-    ensures composes { IfOk result
-        (λ v. (types : RowTypes) (type : ExprType) (rows : List JoinedRow)
-        → AreTypedRows types batch.now rows → Fits types batch.now.columns expr.now type
-        → Evaluates (meant_at expr.now rows) (λ i. is_among selection.now.list i ≡ true)
-        fault.old.held fault.new.held (lane_of v)) }
     ensures typed { IfOk result (λ v. (types : RowTypes) (type : ExprType) (rows : List JoinedRow)
         → AreTypedRows types batch.now rows → Fits types batch.now.columns expr.now type
         → IsOfType type v) }

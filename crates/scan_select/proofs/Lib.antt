@@ -3,6 +3,7 @@ pub mod Sizes
 pub mod Advancing
 pub mod Masks
 pub mod Rows
+pub mod Selected
 pub mod Filling
 pub mod Narrowing
 pub mod LawProofs

@@ -17,6 +17,7 @@ use Rattle.blocks.specs.Block.{Block, is_block, values_of}
 use Rattle.meaning.specs.declared.catalog.Column.{Column}
 use Rattle.std.proofs.lemmas.Bool.{and_parts, leb-true}
 use Rattle.fragment_file.specs.Fragment.{AreBlocks, no_block}
+use Rattle.fragment_file.specs.Lent.{blocks_in}
 use Rattle.fragment_file.specs.View.{rows_of, IsGroup}
 use Rattle.fragment_file.proofs.RowLaws.{column_of_row, length-values}
 use Rattle.vectors.specs.declared.batch.ColumnReference.{ColumnReference}
@@ -100,18 +101,18 @@ some_rows (c ∷ cs) n (b ∷ bs) are some =
     omega (arith, rows, same)
 
 -- the batch of the rows that stand
-pub batch_gives : (scan : ScanSpec) (cs : List Column) (current : Option (List Block)) (most group_rows first rows : ℕ) (buffers : List ColumnBuffer) (b : ScanBatch) (old : BatchSpec) → current ≡ Some b.group
-    → scan.at ≡ piece_now current first rows → scan.columns ≡ columns_of buffers → IsPosition cs most current group_rows first rows buffers → length b.group ≡ length cs → IsGroup b.group → eqb rows 0 ≡ false
-    → b.first_row ≡ first → old ≡ record { rows = rows; columns = [] } → AddsColumns b.group first (columns_of buffers) old b.batch → GivesBatch scan (Some b)
+pub batch_gives : (scan : ScanSpec) (cs : List Column) (current : Option (List Block)) (most group_rows first rows : ℕ) (buffers : List ColumnBuffer) (b : ScanBatch) (old : BatchSpec) → current ≡ Some (blocks_in b.group)
+    → scan.at ≡ piece_now current first rows → scan.columns ≡ columns_of buffers → IsPosition cs most current group_rows first rows buffers → length (blocks_in b.group) ≡ length cs → IsGroup (blocks_in b.group) → eqb rows 0 ≡ false
+    → b.first_row ≡ first → old ≡ record { rows = rows; columns = [] } → AddsColumns (blocks_in b.group) first (columns_of buffers) old b.batch → GivesBatch scan (Some b)
 batch_gives scan cs current most group_rows first rows buffers b old stands at same position count sound some first_is fresh adds =
-    let piece : Piece = record { group = b.group; first = first; rows = rows } in
+    let piece : Piece = record { group = blocks_in b.group; first = first; rows = rows } in
     let wanted : List ℕ = columns_of buffers in
     let now : scan.at ≡ Some piece = at ∙ rw (stands, some) refl in
-    let columns_within : All (λ p. p < length b.group) wanted = subst (λ (k : ℕ). All (λ p. p < k) wanted) (sym count) position.columns_within in
-    let rows_are : group_rows ≡ rows_of b.group = position.group_rows_are ∙ ap current_rows stands in
-    let within : first + rows ≤ rows_of b.group = let h = position.within in omega (arith, rows_are, h) in
+    let columns_within : All (λ p. p < length (blocks_in b.group)) wanted = subst (λ (k : ℕ). All (λ p. p < k) wanted) (sym count) position.columns_within in
+    let rows_are : group_rows ≡ rows_of (blocks_in b.group) = position.group_rows_are ∙ ap current_rows stands in
+    let within : first + rows ≤ rows_of (blocks_in b.group) = let h = position.within in omega (arith, rows_are, h) in
     let old_rows : old.rows ≡ rows = ap (λ (x : BatchSpec). x.rows) fresh in
-    let are : AreColumnsAt b.group first rows wanted adds.more = subst (λ (k : ℕ). AreColumnsAt b.group first k wanted adds.more) old_rows adds.are in
+    let are : AreColumnsAt (blocks_in b.group) first rows wanted adds.more = subst (λ (k : ℕ). AreColumnsAt (blocks_in b.group) first k wanted adds.more) old_rows adds.are in
     let all : b.batch ≡ record { rows = rows; columns = adds.more } =
     λ i. record { rows = (adds.rows ∙ old_rows) i; columns = (adds.columns ∙ ap (λ (x : BatchSpec). x.columns ++ adds.more) fresh) i } in (
       piece,
@@ -120,6 +121,6 @@ batch_gives scan cs current most group_rows first rows buffers b old stands at s
         group = refl;
         first_row = first_is;
         batch = subst (IsBatchOf scan.columns piece) (sym all) (subst (λ (ps : List ℕ). IsBatchOf ps piece (record { rows = rows; columns = adds.more })) (sym same)
-            (record { rows = batch_has_rows b.group first rows wanted adds.more sound columns_within within are; columns = are }));
+            (record { rows = batch_has_rows (blocks_in b.group) first rows wanted adds.more sound columns_within within are; columns = are }));
       },
     )

@@ -8,6 +8,7 @@ use Rattle.meaning.specs.VectorLength.{is_vector_length}
 use Rattle.blocks.specs.Block.{Block, values_of}
 use Rattle.fragment_file.specs.declared.header.Header.{Header}
 use Rattle.fragment_file.specs.Fragment.{no_block}
+use Rattle.fragment_file.specs.Lent.{blocks_in}
 use Rattle.vectors.specs.declared.batch.ColumnReference.TheVariants as reference
 use Rattle.vectors.specs.declared.batch.BatchColumn.{BatchColumn}
 use Rattle.vectors.specs.Vector.{BatchSpec, AreRowsOf, outcomes_of, HasLanesOf}
@@ -81,7 +82,7 @@ pub record IsBatchOf (wanted : List ℕ) (piece : Piece) (batch : BatchSpec) : T
 -- the batch of the rows that stand now
 pub record IsScanBatch (scan : ScanSpec) (piece : Piece) (b : ScanBatch) : Type 0 where
   pub stands : scan.at ≡ Some piece
-  pub group : b.group ≡ piece.group
+  pub group : blocks_in b.group ≡ piece.group
   pub first_row : b.first_row ≡ piece.first
   pub batch : IsBatchOf scan.columns piece b.batch
 

@@ -1,6 +1,7 @@
 //! The columns that a scan reads, each with room for a vector of its values.
 ghost use Rattle.std.specs.Prelude.{◌≡◌, ◌<◌, ℕ, List, length, map, All, OnOk, IfOk};
 ghost use Rattle.meaning.specs.declared.outcome.Outcome.TheVariants as gives;
+ghost use Rattle.fragment_file.specs.Lent.{blocks_in};
 ghost use Rattle.scan_select.specs.Buffers.{AddsLent, FitsGroup, IsBufferOf, IsLendable, IsLentOf, filled, columns_of};
 ghost use Rattle.scan_select.specs.Scanned.{IsMask};
 ghost use Rattle.vectors.specs.Lanes.{nulls_of};
@@ -58,8 +59,8 @@ impl<'v> ColumnBuffer<'v> {
     /// Fills the buffer anew with the column's values in a row group, from row `first` on. It takes
     /// the column's type, and no memory.
     fn fill(&mut self, group: &GroupView<'v>, first: usize)
-        requires { FitsGroup group.now self.old }
-        ensures { self.new ≡ filled group.now first self.old }
+        requires { FitsGroup (blocks_in group.now) self.old }
+        ensures { self.new ≡ filled (blocks_in group.now) first self.old }
     {
         let block = group.column(self.column);
         block.read_into(first, &mut self.values);
@@ -103,8 +104,8 @@ pub fn make_buffers<'v>(
 
 /// Fills the buffers anew with their columns' values in a row group, from row `first` on.
 pub fn fill_all<'v>(buffers: &mut [ColumnBuffer<'v>], group: &GroupView<'v>, first: usize)
-    requires { All (FitsGroup group.now) buffers.old }
-    ensures { buffers.new ≡ map (filled group.now first) buffers.old }
+    requires { All (FitsGroup (blocks_in group.now)) buffers.old }
+    ensures { buffers.new ≡ map (filled (blocks_in group.now) first) buffers.old }
 {
     for buffer in buffers.iter_mut() {
         buffer.fill(group, first);

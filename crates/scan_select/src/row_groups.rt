@@ -3,6 +3,7 @@ ghost use Rattle.std.specs.Prelude.{◌≡◌, ◌≤◌, List, Option, None, op
 ghost use Rattle.blocks.specs.Block.{Block};
 ghost use Rattle.fragment_file.specs.declared.header.Header.{Header as AHeader};
 ghost use Rattle.fragment_file.specs.Fragment.{AreBlocks};
+ghost use Rattle.fragment_file.specs.Lent.{blocks_in};
 ghost use Rattle.fragment_file.specs.View.{rows_of};
 ghost use Rattle.scan_select.specs.Groups.{GroupsGoOn};
 
@@ -38,10 +39,10 @@ pub trait RowGroups {
     fn group<'v>(&self) -> Option<GroupView<'v>>
     where
         Self: 'v,
-        ensures value { option_map (λ group. group) result ≡ current self.now }
-        ensures count { IfSome result (λ group. length group
+        ensures value { option_map blocks_in result ≡ current self.now }
+        ensures count { IfSome result (λ group. length (blocks_in group)
             ≡ length (header_of self.now).columns) }
         ensures blocks { IfSome result
-            (λ group. AreBlocks (header_of self.now).columns (rows_of group) group) }
-        ensures some { IfSome result (λ group. 1 ≤ rows_of group) };
+            (λ group. AreBlocks (header_of self.now).columns (rows_of (blocks_in group)) (blocks_in group)) }
+        ensures some { IfSome result (λ group. 1 ≤ rows_of (blocks_in group)) };
 }

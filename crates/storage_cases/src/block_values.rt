@@ -1,4 +1,5 @@
 //! Cases of blocks: the values that bytes encode, and the bytes that values are written as.
+use crate::lengths;
 use crate::values::{column_of, show_value, type_of};
 use case_files::bytes_of;
 use columns::Column;
@@ -281,8 +282,8 @@ pub fn show_choose(
 
 // ---- packed numbers
 
-// Whether so many numbers from one on lie within the bytes.
-fn unpack_into(bytes: &[u8], width: u8, from: usize, out: &mut [u64]) -> bool {
+/// Whether so many numbers from one on lie within the bytes.
+pub fn unpack_into(bytes: &[u8], width: u8, from: usize, out: &mut [u64]) -> bool {
     let Some(end) = from.checked_add(out.len()) else {
         return false;
     };
@@ -322,13 +323,31 @@ fn show_unpacked(
     done
 }
 
-/// Packed numbers of a width in bits, from one on so many.
+fn show_lengths(
+    alloc: Global,
+    shown: &mut String,
+    width: &str,
+    body: &str,
+) -> Result<(), AllocError> {
+    let Some(bytes) = bytes_of(alloc, body)? else {
+        return shown.push_str("(no bytes)\n");
+    };
+    let done = lengths::show(shown, width.parse().unwrap_or(0), bytes.as_slice());
+    drop(bytes);
+    done
+}
+
+/// Packed numbers of a width in bits, from one on so many; or how often these are those of a plain
+/// loop.
 pub fn show_unpack(
     alloc: Global,
     shown: &mut String,
     words: &[&str],
     body: &str,
 ) -> Result<(), AllocError> {
+    if let ["lengths", width] = words {
+        return show_lengths(alloc, shown, width, body);
+    }
     let [width, from, count] = words else {
         return shown.push_str("(no width, index and number)\n");
     };

@@ -239,3 +239,62 @@ pub fn show_write_cut(alloc: Global, shown: &mut String, words: &[&str]) -> Resu
         Err(fault) => writeln!(shown, "no cut: {fault}"),
     }
 }
+
+fn show_alike(
+    alloc: Global,
+    shown: &mut String,
+    cut: &Cut,
+    bytes: &[u8],
+) -> Result<(), AllocError> {
+    match read_cut(alloc, bytes) {
+        Ok((load, back)) => {
+            let alike = if back.lengths() == cut.lengths() {
+                "alike"
+            } else {
+                "others"
+            };
+            let (length, count) = (bytes.len(), back.lengths().len());
+            let done = writeln!(
+                shown,
+                "{length} bytes, load {load}, {count} lengths, {alike}"
+            );
+            drop(back);
+            done
+        }
+        Err(fault) => show_refusal(shown, &fault),
+    }
+}
+
+fn show_written_and_read(
+    alloc: Global,
+    shown: &mut String,
+    load: u64,
+    cut: &Cut,
+) -> Result<(), AllocError> {
+    let mut out = Vec::new(alloc);
+    let done = match write_cut(load, cut, &mut out) {
+        Ok(()) => show_alike(alloc, shown, cut, out.as_slice()),
+        Err(fault) => show_refusal(shown, &fault),
+    };
+    drop(out);
+    done
+}
+
+/// What is read back of the file of a load and an even cut, by its rows and each fragment's.
+pub fn show_cut_back(alloc: Global, shown: &mut String, words: &[&str]) -> Result<(), AllocError> {
+    let [load, rows, length] = words else {
+        return shown.push_str("(no load, rows and length)\n");
+    };
+    let length = length.parse().unwrap_or(1);
+    if length == 0 {
+        return shown.push_str("(no length)\n");
+    }
+    match Cut::even(alloc, rows.parse().unwrap_or(0), length) {
+        Ok(cut) => {
+            let done = show_written_and_read(alloc, shown, load.parse().unwrap_or(0), &cut);
+            drop(cut);
+            done
+        }
+        Err(fault) => writeln!(shown, "no cut: {fault}"),
+    }
+}

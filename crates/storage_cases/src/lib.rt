@@ -4,6 +4,7 @@
 mod block_values;
 mod column;
 mod files;
+mod lengths;
 mod loading;
 mod storage;
 mod values;

@@ -23,6 +23,7 @@ fn put(
         "cut-file" => files::show_cut_file(alloc, shown, body),
         "write" => files::show_write(alloc, shown, words, body),
         "write-cut" => files::show_write_cut(alloc, shown, words),
+        "cut-back" => files::show_cut_back(alloc, shown, words),
         "load" => loading::show_load(alloc, shown, words, body, stored),
         "count-rows" => loading::show_count_rows(alloc, shown, body),
         _ => writeln!(shown, "(no record is of the kind {kind})"),

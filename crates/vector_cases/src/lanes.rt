@@ -1,5 +1,6 @@
 //! Loops over lanes: a line a lane, at most eight.
 mod arithmetic;
+mod lengths;
 mod lines;
 mod tests;
 mod texts;
@@ -36,6 +37,7 @@ fn show_plain(
     match operator {
         "null" => tests::null(shown, body),
         "not-null" => tests::not_null(shown, body),
+        "lengths" => lengths::show(shown, body),
         "positions" => truths::positions(shown, body),
         "choose" => truths::choose_lanes(shown, body),
         "batch" => two_columns::show(alloc, shown, body),
@@ -45,6 +47,7 @@ fn show_plain(
 
 fn show_with(shown: &mut String, words: &[&str], body: &str) -> Result<(), AllocError> {
     match words {
+        ["flagged", operator] => arithmetic::show_flagged(shown, operator, body),
         ["compare", operator] => tests::compare(shown, operator, body),
         ["compare", operator, "to", int] => tests::compare_to(shown, operator, int, body),
         ["compare-texts", operator] => texts::compare(shown, operator, body),

@@ -1,4 +1,5 @@
 -- The lemmas of this crate.
+pub mod Answered
 pub mod BatchColumns
 pub mod BatchRows
 pub mod Chosen
@@ -8,7 +9,11 @@ pub mod FittingAnswers
 pub mod JoinedBatches
 pub mod JoinedSteps
 pub mod JudgedRows
+pub mod LaterConditions
+pub mod Leading
+pub mod MarkedRows
+pub mod Marks
 pub mod NumberedRows
 pub mod OwnAnswers
-pub mod SettledRows
+pub mod Pushed
 pub mod VectorLanes

@@ -1,4 +1,6 @@
 -- The definitions of this crate.
+pub mod DimConditions
+pub mod Opened
 pub mod Evaluated
 pub mod Work
 pub mod Joining

@@ -1,13 +1,16 @@
-//! One fragment's own answer to a query.
+//! One fragment's own answer to a query, and the dimensions that fragments are answered over.
 #![tactic(auto)]
 
 mod answering;
 mod batches;
+mod dim_condition;
+mod dimensions;
 mod expressions;
 mod joining;
 mod lanes;
 mod progress;
 mod rows;
 
-pub use answering::work;
+pub use answering::{work, work_over};
+pub use dimensions::Dimensions;
 pub use job_files::WorkFault;

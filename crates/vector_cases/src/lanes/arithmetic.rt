@@ -118,3 +118,20 @@ pub fn show(
     }
     show_first(alloc, shown, &codes, count)
 }
+
+/// What an operator leaves of each line: the integer, also where 64 bits don't hold the result, and
+/// the flag.
+pub fn show_flagged(shown: &mut String, operator: &str, body: &str) -> Result<(), AllocError> {
+    let Lines { lines, count } = lines_of(body);
+    let operands = operands_of(&lines);
+    let (mut out, mut codes) = ([0i64; 8], [0u8; 8]);
+    if !run(operator, &operands, &mut out, &mut codes) {
+        return shown.push_str("(no such loop)\n");
+    }
+    for i in 0..8 {
+        if i < count {
+            writeln!(shown, "{} {}", out[i], codes[i])?;
+        }
+    }
+    Ok(())
+}

@@ -1,5 +1,5 @@
 -- Proofs of the goals of `counted_rows` (`tables`).
-use Rattle.std.proofs.Common.{subst, rules}
+use Rattle.std.proofs.Common.{subst}
 use Rattle.folders.specs.Refused.{IsReturnedAs, load_refusal}
 use Rattle.cli.proofs.Refusals.{uncounted}
 use Rattle.cli.proofs.tables.counted_rows.Goals as goal
@@ -7,5 +7,5 @@ use Rattle.cli.proofs.tables.counted_rows.Goals as goal
 pub returns-in-Err-clause-refused : goal.returns-in-Err-clause-refused
 returns-in-Err-clause-refused c =
     let directory = c.args.directory.now in
-    uncounted directory c.args.table.now c.args.csv.now c.in-Err.fault c.load_refusal.result (c.in-Err.ensures.refused c.args.csv.now (search rules))
+    uncounted directory c.args.table.now c.in-Err.fault c.load_refusal.result c.in-Err.ensures.refused
     (subst (λ t. IsReturnedAs (load_refusal directory t c.in-Err.fault) c.load_refusal.result) c.as_str.ensures c.load_refusal.ensures.returned)

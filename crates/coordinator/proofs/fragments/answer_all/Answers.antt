@@ -11,7 +11,7 @@ pub returns-in-Ok-clause-state : goal.returns-in-Ok-clause-state
 returns-in-Ok-clause-state c = λ rows tables are files.
     let job_is = c.in_ok-gather.ensures.job in
     let plan = ap (λ (j : JobSpec). j.plan) job_is in
-    let cut = c.args.star.cut.now in
+    let cut = c.args.facts.cut.now in
     record {
       job = c.in-Ok.ensures.same ∙ job_is;
       cells = c.in-Ok.ensures.taken rows tables are files ∙ ap (λ (p : Plan). joined cut (own_answers p tables cut rows (range_with_len 0 (length cut)))) plan;

@@ -16,6 +16,8 @@ use Rattle.partial_codec.specs.Job.{JobSpec}
 use Rattle.partial_codec.proofs.Fitting.{short_at}
 use Rattle.job_files.proofs.FirstRows.{next_fits}
 use Rattle.job_files.specs.RowFiles.{rows_of_fragment}
+use Rattle.worker.specs.Opened.{AreOpenedFor, AreOver}
+use Rattle.meaning.specs.declared.plan.Plan.{Plan}
 use Rattle.coordinator.proofs.FragmentColumns.{as_many, columns_at, count_at, fileable_at, typed_at}
 use Rattle.coordinator.proofs.Slices.{own_answers_to_next}
 use Rattle.coordinator.proofs.fragments.answer_fragments.Goals as goal
@@ -23,23 +25,23 @@ use Rattle.coordinator.proofs.fragments.answer_fragments.Goals as goal
 below_cut : (lengths cut : List ℕ) (k : ℕ) → lengths ≡ cut → k < length lengths → k < length cut
 below_cut lengths cut k same below = subst (λ (ls : List ℕ). k < length ls) same below
 
-pub bounds-star-k : goal.bounds-star-k
-bounds-star-k c =
+pub bounds-facts-k : goal.bounds-facts-k
+bounds-facts-k c =
     let (rows, are) = c.requires.fragments in
-    let below = below_cut c.lengths-lengths.result.now c.args.star.cut.now c.loop-k.k c.lengths-lengths.ensures.value c.loop-k-test.true in
-    let many = as_many c.args.star.fact.now rows c.args.star.cut.now c.args.star.fragments.now are in
+    let below = below_cut c.lengths-lengths.result.now c.args.facts.cut.now c.loop-k.k c.lengths-lengths.ensures.value c.loop-k-test.true in
+    let many = as_many c.args.facts.table.now rows c.args.facts.cut.now c.args.facts.fragments.now are in
     omega (arith, below, many)
 
 pub answer_one-requires-clause-rows : goal.answer_one-requires-clause-rows
 answer_one-requires-clause-rows c =
     let (rows, are) = c.requires.fragments in
-    let table = c.args.star.fact.now in
-    let cut = c.args.star.cut.now in
-    let fragments = c.args.star.fragments.now in
+    let table = c.args.facts.table.now in
+    let cut = c.args.facts.cut.now in
+    let fragments = c.args.facts.fragments.now in
     let k = c.loop-k.k in
     let same = c.lengths-lengths.ensures.value in
     let below = below_cut c.lengths-lengths.result.now cut k same c.loop-k-test.true in
-    let is = columns_at table rows cut fragments are k c.index-star-k.result c.as_slice.result.now below c.index-star-k.is (c.as_slice.ensures ∙ sym c.index-star-k.is) in
+    let is = columns_at table rows cut fragments are k c.index-facts-k.result c.as_slice.result.now below c.index-facts-k.is (c.as_slice.ensures ∙ sym c.index-facts-k.is) in
     record {
       table = c.requires.table;
       few = subst (λ (ls : List ℕ). slice_index_or ls k 0 ≤ max_rows) (sym same) (short_at cut k (recursion_from_All (λ n. n ≤ max_rows) cut c.lengths-lengths.ensures.within_limits.short));
@@ -52,7 +54,7 @@ next lengths cut k first n same is below begins long =
 
 pub overflow_add-first_row : goal.overflow_add-first_row
 overflow_add-first_row c =
-    let fits = next c.lengths-lengths.result.now c.args.star.cut.now c.loop-k.k c.loop-k.first_row c.from-first_row.result c.lengths-lengths.ensures.value
+    let fits = next c.lengths-lengths.result.now c.args.facts.cut.now c.loop-k.k c.loop-k.first_row c.from-first_row.result c.lengths-lengths.ensures.value
     c.lengths-lengths.ensures.within_limits c.loop-k-test.true c.loop-k.invariant.first c.from-first_row.ensures in
     omega (arith, fits.0)
 
@@ -69,9 +71,9 @@ one_more before job cut rows tables k cells same of_cut taken =
 pub loop-k-preserved : goal.loop-k-preserved
 loop-k-preserved c =
     let before = c.args.gather.now.job in
-    let table = c.args.star.fact.now in
-    let cut = c.args.star.cut.now in
-    let fragments = c.args.star.fragments.now in
+    let table = c.args.facts.table.now in
+    let cut = c.args.facts.cut.now in
+    let fragments = c.args.facts.fragments.now in
     let k = c.loop-k.k in
     let same = c.lengths-lengths.ensures.value in
     let below = below_cut c.lengths-lengths.result.now cut k same c.loop-k-test.true in
@@ -85,9 +87,18 @@ loop-k-preserved c =
           let fragment = λ (l : Cut). rows_of_fragment l k rows in
           one_more before c.loop-k.gather.job cut rows tables k c.answer_one.new.gather.cells of_job c.requires.cut
           (c.in_ok-answer_one.ensures.taken answers rows tables (record {
-            columns = columns_at table rows cut fragments are k c.index-star-k.result c.as_slice.result.now below c.index-star-k.is (c.as_slice.ensures ∙ sym c.index-star-k.is)
+            columns = columns_at table rows cut fragments are k c.index-facts-k.result c.as_slice.result.now below c.index-facts-k.is (c.as_slice.ensures ∙ sym c.index-facts-k.is)
                 ∙ ap (λ (l : Cut). columns_of table.columns (fragment l)) (sym of_cut);
             counted = ap (λ (l : Cut). length (fragment l)) of_cut ∙ count_at table rows cut fragments are k below ∙ sym (ap (λ (ls : List ℕ). slice_index_or ls k 0) same);
             typed = ap (λ (l : Cut). are_rows_of table.columns (fragment l)) of_cut ∙ typed_at table rows cut fragments are k;
-          }) files (c.loop-k.invariant.taken rows tables are files ∙ ap (λ (l : Cut). joined l answers) (sym of_cut)));
+          }) (subst (λ (j : JobSpec). AreOver j tables c.args.dimensions.now) (sym of_job) files) (c.loop-k.invariant.taken rows tables are files ∙ ap (λ (l : Cut). joined l answers) (sym of_cut)));
     }
+
+pub answer_one-requires-clause-dimensions : goal.answer_one-requires-clause-dimensions
+answer_one-requires-clause-dimensions c = subst (λ (j : JobSpec). AreOpenedFor j.plan c.args.dimensions.now) (sym c.loop-k.invariant.same) c.requires.dimensions
+
+pub returns-clause-taken : goal.returns-clause-taken
+returns-clause-taken c = λ rows tables are over.
+    let cut = c.args.facts.cut.now in
+    let end : c.loop-k.k ≡ length cut = let past = c.loop-k-test.false in let within = c.loop-k.auto.k-end in let same = ap (λ (ls : List ℕ). length ls) c.lengths-lengths.ensures.value in omega (arith, past, within, same) in
+    subst (λ (n : ℕ). c.loop-k.gather.cells ≡ joined cut (own_answers c.args.gather.now.job.plan tables cut rows (range_with_len 0 n))) end (c.loop-k.invariant.taken rows tables are over)

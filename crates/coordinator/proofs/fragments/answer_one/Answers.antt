@@ -7,6 +7,7 @@ use Rattle.partial_codec.specs.Answer.{Spells, fault_in}
 use Rattle.partial_codec.specs.declared.fault.DecodeFault.{DecodeFault}
 use Rattle.partial_codec.proofs.Answers.{spelled_reads}
 use Rattle.gathering.specs.Gathering.{Refuses}
+use Rattle.worker.specs.Opened.{AreOver}
 use Rattle.coordinator.specs.Fragment.{AreRowsOfJob}
 use Rattle.coordinator.proofs.fragments.answer_one.Goals as goal
 
@@ -16,7 +17,7 @@ returns-in-Ok-clause-taken c answers all tables are joined before =
     let rows = c.args.rows in
     let job = c.args.gather.now.job in
     let here = subst (λ (j : JobSpec). AreRowsOfJob j rows all) (sym same) are in
-    let spelled = subst (λ (j : JobSpec). Spells j c.in_ok-bytes.bytes.items (own j.plan tables j.cut all rows.slice.fragment)) same (c.in_ok-bytes.ensures.own all tables here joined) in
+    let spelled = subst (λ (j : JobSpec). Spells j c.in_ok-bytes.bytes.items (own j.plan tables j.cut all rows.slice.fragment)) same (c.in_ok-bytes.ensures.own all tables here (subst (λ (j : JobSpec). AreOver j tables c.args.dimensions.now) (sym same) joined)) in
     let answer = own job.plan tables job.cut all rows.slice.fragment in
     c.in-Ok.ensures.joins answers answer (subst (λ (bytes : List ℕ). Spells job bytes answer) (sym c.as_slice.ensures.value) spelled) before
 

@@ -8,12 +8,12 @@ use Rattle.coordinator.proofs.table_files.dimension_file.Goals as goal
 
 pub table_file-file-requires : goal.table_file-file-requires
 table_file-file-requires c =
-    let (rows, meant, are) = all_rows_of_dimension c.args.dimension.now c.args.csv.now c.in_ok-columns.columns c.requires.table (c.in_ok-columns.ensures c.args.csv.now refl) in
+    let (rows, meant, are) = all_rows_of_dimension c.args.dimension.now c.args.csv.now c.in_ok-columns.columns c.requires.table (c.in_ok-columns.ensures.loaded c.args.csv.now refl) in
     (rows, subst (λ (columns : List ColumnSpec). AreAllRows c.args.dimension.now.table rows columns) (sym c.as_slice.ensures) are)
 
 pub returns-clause-file : goal.returns-clause-file
 returns-clause-file c =
-    let (rows, meant, are) = all_rows_of_dimension c.args.dimension.now c.args.csv.now c.in_ok-columns.columns c.requires.table (c.in_ok-columns.ensures c.args.csv.now refl) in (
+    let (rows, meant, are) = all_rows_of_dimension c.args.dimension.now c.args.csv.now c.in_ok-columns.columns c.requires.table (c.in_ok-columns.ensures.loaded c.args.csv.now refl) in (
       rows,
       meant,
       subst (IsFileOfRows rows) (sym c.from_vec.ensures) (c.in_ok-file.ensures rows (subst (λ (columns : List ColumnSpec). AreAllRows c.args.dimension.now.table rows columns) (sym c.as_slice.ensures) are)),

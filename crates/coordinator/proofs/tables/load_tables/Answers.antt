@@ -13,7 +13,7 @@ returns-in-Ok-clause-loaded c =
     let (csvs, found) = c.in_ok-check_csvs.ensures.found in
     let (dims, good, are) = c.in-Ok.ensures.files in
     loaded catalog files c.args.sources.cut.now c.args.plan.now c.in_ok-csv.csv.now csvs c.in_ok-fragments.fragments.items c.requires.catalog.fact c.in_ok-csv.ensures
-    (subst (λ (joins : List Join). joined_csvs files joins ≡ Ok csvs) c.as_slice.ensures found) (c.in_ok-fragments.ensures c.in_ok-csv.csv.now refl) dims c.in-Ok.dims.items
+    (subst (λ (joins : List Join). joined_csvs files joins ≡ Ok csvs) c.as_slice.ensures found) (c.in_ok-fragments.ensures.loaded c.in_ok-csv.csv.now refl) dims c.in-Ok.dims.items
     (subst (λ (joins : List Join). all_ok (map (joined_from catalog files) joins) ≡ Ok dims) c.as_slice-2.ensures good) are
 
 pub returns-in-Err-clause-refused : goal.returns-in-Err-clause-refused
@@ -22,5 +22,5 @@ returns-in-Err-clause-refused c other =
     let files = files_in c.args.sources.csvs.now in
     let (csvs, found) = c.in_ok-check_csvs.ensures.found in
     dimension_refused catalog files c.args.sources.cut.now c.args.plan.now c.in_ok-csv.csv.now csvs c.in_ok-fragments.fragments.items c.requires.catalog.fact c.in_ok-csv.ensures
-    (subst (λ (joins : List Join). joined_csvs files joins ≡ Ok csvs) c.as_slice.ensures found) (c.in_ok-fragments.ensures c.in_ok-csv.csv.now refl) c.in-Err.e
+    (subst (λ (joins : List Join). joined_csvs files joins ≡ Ok csvs) c.as_slice.ensures found) (c.in_ok-fragments.ensures.loaded c.in_ok-csv.csv.now refl) c.in-Err.e
     (subst (λ (joins : List Join). all_ok (map (joined_from catalog files) joins) ≡ Err c.in-Err.e) c.as_slice-2.ensures (c.in-Err.ensures.refused other))

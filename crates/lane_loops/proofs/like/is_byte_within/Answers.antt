@@ -14,5 +14,5 @@ returns c = λ utf8.
     let byte = get_or part 0 0 in
     let within = (like_bytes part text c.requires.part.0 c.requires.part.1 utf8).within in
     let only : part ≡ byte ∷ [] = only_byte part 0 c.requires.one in
-    c.has_first.ensures ∙ same_test _ (is_like (37 ∷ (part ++ 37 ∷ [])) text)
+    c.has_byte.ensures ∙ same_test _ (is_like (37 ∷ (part ++ 37 ∷ [])) text)
     (λ e. within.1 (subst (HasSubslice text) (sym only) (byte_to byte text e))) (λ e. byte_from byte text (subst (HasSubslice text) only (within.0 e)))

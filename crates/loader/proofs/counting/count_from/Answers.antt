@@ -1,9 +1,7 @@
 -- Proofs of the goals of `count_from` (`counting`).
 use Rattle.std.proofs.Common.{◌≡◌, ◌∙◌, ℕ, subst, take}
-use Rattle.std.specs.Prelude.{IfOk, IfErr}
-use Rattle.std.proofs.lemmas.Result.{err_from_is_err_and}
-use Rattle.loader.specs.Fault.{IsUncounted}
-use Rattle.loader.proofs.Marks.{all_read, block_counted, block_refused, none_in_front}
+use Rattle.std.specs.Prelude.{IfOk}
+use Rattle.loader.proofs.Marks.{all_read, block_counted, none_in_front}
 use Rattle.loader.proofs.counting.count_from.Goals as goal
 
 pub returns-then-filled-eq0-clause-counted : goal.returns-then-filled-eq0-clause-counted
@@ -12,20 +10,6 @@ returns-then-filled-eq0-clause-counted g c all start =
     let block = c.read_block.new.block in
     let done = all_read g.R.Read.remaining c.loop.reader c.read_block.new.reader all c.loop.counted (take filled block) c.in_ok-filled.ensures.read (none_in_front filled block c.if-filled-eq0.true) (c.loop.invariant.1 all start) in
     subst (λ (n : ℕ). IfOk c.at_end.result (λ m. m ≡ n)) done c.at_end.ensures.counted
-
-pub returns-then-filled-eq0-clause-refused : goal.returns-then-filled-eq0-clause-refused
-returns-then-filled-eq0-clause-refused g c all start =
-    let filled = c.in_ok-filled.filled in
-    let block = c.read_block.new.block in
-    let done = all_read g.R.Read.remaining c.loop.reader c.read_block.new.reader all c.loop.counted (take filled block) c.in_ok-filled.ensures.read (none_in_front filled block c.if-filled-eq0.true) (c.loop.invariant.1 all start) in
-    subst (λ (n : ℕ). IfErr c.at_end.result (IsUncounted n)) done c.at_end.ensures.refused
-
-pub returns-in_err-counted-clause-refused : goal.returns-in_err-counted-clause-refused
-returns-in_err-counted-clause-refused g c all start =
-    let filled = c.in_ok-filled.filled in
-    let block = c.read_block.new.block in
-    let p = err_from_is_err_and c.from_residual-in_err-counted.result c.from_residual-in_err-counted.ensures.1 in
-    rw (p.1, p.2) (block_refused g.R.Read.remaining c.loop.reader c.read_block.new.reader all c.loop.counted (take filled block) c.in_err-counted.field-0.0 c.in_ok-filled.ensures.read c.in_err-counted.ensures.refused (c.loop.invariant.1 all start))
 
 pub loop-preserved : goal.loop-preserved
 loop-preserved g c =

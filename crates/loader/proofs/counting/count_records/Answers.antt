@@ -10,8 +10,3 @@ pub returns-clause-counted : goal.returns-clause-counted
 returns-clause-counted g c bytes known =
     let goes = subst (λ (n : ℕ). GoesOn g.R.Read.remaining c.count_front.new.reader n c.in_ok-counted.counted) (sym (all_counted (strip_bom bytes))) (c.in_ok-counted.ensures.counted bytes known) in
     c.count_from.ensures.counted (length (csv_records bytes)) goes
-
-pub returns-clause-refused : goal.returns-clause-refused
-returns-clause-refused g c bytes known =
-    let goes = subst (λ (n : ℕ). GoesOn g.R.Read.remaining c.count_front.new.reader n c.in_ok-counted.counted) (sym (all_counted (strip_bom bytes))) (c.in_ok-counted.ensures.counted bytes known) in
-    c.count_from.ensures.refused (length (csv_records bytes)) goes

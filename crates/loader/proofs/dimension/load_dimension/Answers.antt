@@ -6,8 +6,8 @@ use Rattle.loader.specs.Steps.{keyed_rows, TakesTable}
 use Rattle.loader.proofs.DimensionSteps.{opened_dimension, table_loaded}
 use Rattle.loader.proofs.dimension.load_dimension.Goals as goal
 
-pub returns : goal.returns
-returns g c bytes known =
+pub returns-clause-loaded : goal.returns-clause-loaded
+returns-clause-loaded g c bytes known =
     let rows = c.in_ok-rows.rows in
     let d = c.args.dimension.now in
     let (header, others, all, ordered, left) = c.in_ok-rows.ensures.opened bytes known in

@@ -1,5 +1,6 @@
 -- Proofs of the goals of `fill_all` (`buffers`).
 use Rattle.std.proofs.Common.{◌++◌, ap, ◌∙◌, map, take, drop, List, slice_set, slice_index_or}
+use Rattle.fragment_file.specs.Lent.{blocks_in}
 use Rattle.scan_select.specs.declared.buffers.ColumnBuffer.{ColumnBuffer}
 use Rattle.scan_select.specs.Buffers.{filled}
 use Rattle.scan_select.proofs.Filling.{fills_one_more}
@@ -7,7 +8,7 @@ use Rattle.scan_select.proofs.buffers.fill_all.Goals as goal
 
 pub loop-buffer-preserved : goal.loop-buffer-preserved
 loop-buffer-preserved c =
-    let f = filled c.args.group.now c.args.first in
+    let f = filled (blocks_in c.args.group.now) c.args.first in
     let old : List ColumnBuffer = c.args.buffers.now in
     let i = c.loop-buffer.buffer-index in
     let before : List ColumnBuffer = map f (take i old) ++ drop i old in

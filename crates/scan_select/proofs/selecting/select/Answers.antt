@@ -29,8 +29,3 @@ returns-clause-selects c = λ types rows typed fits.
     let all = take_all c.loop-condition.condition-index c.args.conditions.now c.loop-condition-test.false in
     selects _ _ _ _ _ c.len-positions.ensures.sound.ascending
     (subst (λ (es : List Expr). Narrows (conditions_at es rows) c.args.selection.now.list c.loop-condition.selection.list c.args.fault.now.held c.loop-condition.fault.held) all (c.loop-condition.invariant.0 types rows typed fits))
-
-pub returns-clause-composes : goal.returns-clause-composes
-returns-clause-composes c = λ types rows typed fits.
-    let all = take_all c.loop-condition.condition-index c.args.conditions.now c.loop-condition-test.false in
-    subst (λ (es : List Expr). Narrows (conditions_at es rows) c.args.selection.now.list c.loop-condition.selection.list c.args.fault.now.held c.loop-condition.fault.held) all (c.loop-condition.invariant.0 types rows typed fits)

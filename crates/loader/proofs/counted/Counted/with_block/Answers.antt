@@ -1,5 +1,5 @@
 -- Proofs of the goals of `Counted::with_block` (`counted`).
-use Rattle.std.proofs.Common.{◌+◌, ◌∙◌, ap, arith, refl}
+use Rattle.std.proofs.Common.{◌+◌, ◌∙◌, ap, arith}
 use Rattle.csv.specs.declared.parser.State.{State}
 use Rattle.loader.specs.Counting.{records_left, state_at}
 use Rattle.loader.proofs.EndedRecords.{left_append}
@@ -10,8 +10,3 @@ returns-in-Some-clause-counted c rest =
     let whole = left_append c.args.block.now rest (state_at c.args.self.state) in
     ap (λ (s : State). c.in-Some.records + records_left s rest) c.count_block-ended.ensures.state
     ∙ omega (arith, whole, c.in-Some.ensures, c.from.ensures, c.count_block-ended.ensures.records)
-
-pub returns-in-None-clause-refused : goal.returns-in-None-clause-refused
-returns-in-None-clause-refused c rest =
-    let whole = left_append c.args.block.now rest (state_at c.args.self.state) in
-    (refl, omega (arith, whole, c.in-None.ensures, c.from.ensures, c.count_block-ended.ensures.records))

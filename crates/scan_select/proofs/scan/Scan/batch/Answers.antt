@@ -3,6 +3,7 @@ use Rattle.std.proofs.Common.{◌≡◌, ℕ, ◌-◌, min, List, ap, sym, subst
 use Rattle.std.specs.Prelude.{All, Option, option_map, IfSome}
 use Rattle.std.proofs.lemmas.Bool.{ne_eqb}
 use Rattle.blocks.specs.Block.{Block}
+use Rattle.fragment_file.specs.Lent.{blocks_in}
 use Rattle.fragment_file.specs.View.{rows_of}
 use Rattle.scan_select.specs.declared.buffers.ColumnBuffer.{ColumnBuffer}
 use Rattle.scan_select.specs.Buffers.{AddsLent, IsFilled, IsLendable}
@@ -15,9 +16,9 @@ use Rattle.scan_select.proofs.scan.Scan.batch.Goals as goal
 pub lend_all-requires : goal.lend_all-requires
 lend_all-requires g c =
     let columns = (g.G.RowGroups.header_of c.self.inside.groups).columns in
-    let group = c.in-Some.group in
+    let group = blocks_in c.in-Some.group in
     let at = c.self.invariant in
-    let stands = sym c.group.ensures.value ∙ ap (option_map (λ x. x)) c.in-Some.is in
+    let stands = sym c.group.ensures.value ∙ ap (option_map blocks_in) c.in-Some.is in
     let filled = subst (λ (current : Option (List Block)). IfSome current (λ g. All (IsFilled g c.self.inside.first) c.self.inside.buffers.items)) stands at.filled in
     let rows_are = at.group_rows_are ∙ ap current_rows stands in
     let full = at.full ∙ ap (λ (k : ℕ). min c.self.inside.most (k - c.self.inside.first)) rows_are in
@@ -30,9 +31,9 @@ lend_all-requires g c =
 pub returns : goal.returns
 returns g c =
     let columns = (g.G.RowGroups.header_of c.self.inside.groups).columns in
-    let group = c.in-Some.group in
+    let group = blocks_in c.in-Some.group in
     let at = c.self.invariant in
-    let stands = sym c.group.ensures.value ∙ ap (option_map (λ x. x)) c.in-Some.is in
+    let stands = sym c.group.ensures.value ∙ ap (option_map blocks_in) c.in-Some.is in
     let filled = subst (λ (current : Option (List Block)). IfSome current (λ g. All (IsFilled g c.self.inside.first) c.self.inside.buffers.items)) stands at.filled in
     let rows_are = at.group_rows_are ∙ ap current_rows stands in
     let full = at.full ∙ ap (λ (k : ℕ). min c.self.inside.most (k - c.self.inside.first)) rows_are in

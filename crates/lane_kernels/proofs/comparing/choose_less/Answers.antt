@@ -1,0 +1,11 @@
+-- Proofs of the goals of `choose_less` (`comparing`).
+use Rattle.std.specs.Simd.Lanes.{chunk}
+use Rattle.std.proofs.lemmas.Simd.{length-chunk}
+use Rattle.lane_kernels.proofs.Chosen.{chosen_is, less_is}
+use Rattle.lane_kernels.proofs.comparing.choose_less.Goals as goal
+
+pub returns : goal.returns
+returns c =
+    let xs = chunk c.args.start 8 c.args.left.now in
+    let ys = chunk c.args.start 8 c.args.right.now in
+    chosen_is _ _ less_is c.args.less c.args.other 8 xs ys (length-chunk c.args.start 8 c.args.left.now c.requires.left) c.look_at_eight.ensures c.look_at_eight-2.ensures

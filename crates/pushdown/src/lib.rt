@@ -1,0 +1,7 @@
+//! Which conditions can be evaluated ahead of the joins: on one dimension's rows, or on the values of
+//! one column of the fact.
+#![tactic(auto)]
+
+mod condition;
+
+pub use condition::{Source, can_push_down, dimension_of};

@@ -30,7 +30,6 @@ use Rattle.cli.specs.declared.tables.Tables.{Tables}
 
 -- ---- the fact's rows, counted and cut
 
-
 -- memory ran out, or so many rows can't be cut evenly into fragments of `rows`
 abbrev pub IsUneven : ℕ → ℕ → Refusal → Type 0
 IsUneven counted rows e = (e ≡ refusal.Memory)

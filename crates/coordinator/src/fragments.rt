@@ -57,7 +57,14 @@ fn answer_bytes(
         (own job.now.plan tables job.now.cut all rows.entry.slice.fragment)) }
 {
     let file = file_of(alloc, rows)?;
-    match work_over(alloc, job, &file, dimensions, rows.slice.fragment, vector_len) {
+    match work_over(
+        alloc,
+        job,
+        &file,
+        dimensions,
+        rows.slice.fragment,
+        vector_len,
+    ) {
         Ok(answer) => encode(alloc, job, &answer),
         // The files are those that the job names, so memory was wanting.
         Err(_) => Err(AllocError),

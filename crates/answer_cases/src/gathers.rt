@@ -63,6 +63,14 @@ fn print(alloc: Global, gather: &Gather, shown: &mut String) -> Result<(), Alloc
     }
 }
 
+fn preview(alloc: Global, gather: &Gather, shown: &mut String) -> Result<(), AllocError> {
+    let mut out = Vec::new(alloc);
+    match gather.preview(alloc, &mut out) {
+        Ok(_) => show_printed(alloc, shown, "out", out.as_slice()),
+        Err(fault) => show_refusal(shown, &fault),
+    }
+}
+
 fn save(
     alloc: Global,
     gather: &Gather,
@@ -199,6 +207,8 @@ fn show_bare(
         ["new"] => restart(alloc, gather, Origin { job, state: None }, shown),
         ["report"] => report(alloc, gather, shown),
         ["print"] => print(alloc, gather, shown),
+        ["preview"] => preview(alloc, gather, shown),
+        ["merges"] => writeln!(shown, "{} merged", gather.merges()),
         ["join-new", job @ ..] => join_other(alloc, gather, Origin { job, state: None }, shown),
         _ => show_unknown(shown, event),
     }

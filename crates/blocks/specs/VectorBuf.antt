@@ -1,5 +1,5 @@
 -- A vector of values that was read out of a block.
-use Rattle.std.specs.Prelude.{◌≡◌, ℕ, ◌≤◌, ℤ, Bool, List, map, zip, length, take}
+use Rattle.std.specs.Prelude.{◌≡◌, ℕ, ◌≤◌, ℤ, Bool, List, [], map, zip, length, take}
 use Rattle.meaning.specs.declared.value.ColType.{ColType}
 use Rattle.meaning.specs.declared.value.ColType.TheVariants as of_type
 use Rattle.meaning.specs.declared.value.Value.{Value}
@@ -38,6 +38,10 @@ pub record AreCells (col_type : ColType) (len : ℕ) (nulls : List Bool) (ints :
   pub room : AreRoom nulls ints texts
   pub within : len ≤ length nulls
   pub blank : AreBlank col_type (take len nulls) (take len ints) (take len texts)
+
+-- a text without bytes for each mark of NULL
+abbrev pub no_texts : List Bool → List (List ℕ)
+no_texts nulls = map (λ _. []) nulls
 
 -- the vector of such cells
 abbrev pub vector_of : ColType → ℕ → List Bool → List ℤ → List (List ℕ) → Vector

@@ -9,6 +9,7 @@ ghost use Rattle.meaning.specs.declared.value.ColType.TheVariants as of_type;
 use crate::cells::mask_length;
 use crate::dictionary::read::{read_coded_integers, read_coded_texts};
 use crate::frame::read::read_frame;
+use crate::int_buf::IntBuf;
 use crate::kind::Kind;
 use crate::plain::read::{read_plain_integers, read_plain_texts};
 use crate::runs::read::{read_integer_runs, read_text_runs};
@@ -136,5 +137,47 @@ pub fn read_rows<'a>(block: Parts<'a>, from: usize, out: &mut VectorBuf<'a>)
     };
     read_cells(part, out.ints.as_mut_slice(), out.texts.as_mut_slice());
     out.col_type = block.col_type;
+    out.len = count;
+}
+
+/// The same of a block of integers.
+pub fn read_ints(block: Parts<'_>, from: usize, out: &mut IntBuf)
+    requires block { is_block
+        (record {
+          kind = block.kind;
+          col_type = block.col_type;
+          nullable = block.nullable;
+          rows = block.rows;
+          payload = block.payload.now;
+        }) ≡ true }
+    requires ints { block.col_type ≡ of_type.Int }
+    ensures { out.new ≡ record {
+      room = out.old.room;
+      col_type = of_type.Int;
+      values = take out.old.room (drop from
+          (values_of (record {
+            kind = block.entry.kind;
+            col_type = block.entry.col_type;
+            nullable = block.entry.nullable;
+            rows = block.entry.rows;
+            payload = block.entry.payload.now;
+          })));
+    } }
+{
+    let count = out.nulls.len().min(block.rows.saturating_sub(from));
+    let (mask, body) = block
+        .payload
+        .split_at(mask_length(block.nullable, block.rows));
+    let start = from.min(block.rows);
+    read_nulls(block.nullable, mask, start, count, out.nulls.as_mut_slice());
+    let part = Rows {
+        kind: block.kind,
+        col_type: block.col_type,
+        rows: block.rows,
+        body,
+        from: start,
+        count,
+    };
+    read_cells(part, out.ints.as_mut_slice(), &mut []);
     out.len = count;
 }

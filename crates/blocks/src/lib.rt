@@ -6,6 +6,7 @@ mod block_rows;
 mod cells;
 mod dictionary;
 mod frame;
+mod int_buf;
 mod kind;
 mod numbers;
 mod plain;
@@ -14,7 +15,8 @@ mod vector_buf;
 mod view;
 
 pub use dictionary::DictionaryView;
+pub use int_buf::IntBuf;
 pub use kind::Kind;
 pub use runs::RunsView;
-pub use vector_buf::VectorBuf;
+pub use vector_buf::{Lanes, VectorBuf};
 pub use view::BlockView;

@@ -6,10 +6,12 @@ ghost use Rattle.blocks.specs.Block.{Block, is_block, mask_of, body_of, nulls_of
 ghost use Rattle.blocks.specs.DictionaryView.{dictionary_in, coded_cells};
 ghost use Rattle.blocks.specs.RunsView.{runs_in, run_cells};
 ghost use Rattle.blocks.specs.Block.{StandsFor};
+ghost use Rattle.meaning.specs.declared.value.ColType.TheVariants as of_type;
 
-use crate::block_rows::{Parts, read_rows};
+use crate::block_rows::{Parts, read_ints, read_rows};
 use crate::cells::{are_nulls_blank, cell_at, is_body, mask_length};
 use crate::dictionary::view::{DictionaryView, lend_dictionary};
+use crate::int_buf::IntBuf;
 use crate::kind::Kind;
 use crate::runs::view::{RunsView, lend_runs};
 use crate::vector_buf::VectorBuf;
@@ -206,6 +208,25 @@ impl<'a> BlockView<'a> {
             payload: self.payload,
         };
         read_rows(block, from, out);
+    }
+
+    /// The same, where the values are integers. What they are read into borrows nothing.
+    pub fn read_ints_into(&self, from: usize, out: &mut IntBuf)
+        requires { self.now.col_type ≡ of_type.Int }
+        ensures { out.new ≡ record {
+          room = out.old.room;
+          col_type = of_type.Int;
+          values = take out.old.room (drop from (values_of self.now));
+        } }
+    {
+        let block = Parts {
+            kind: self.kind,
+            col_type: self.col_type,
+            nullable: self.nullable,
+            rows: self.rows,
+            payload: self.payload,
+        };
+        read_ints(block, from, out);
     }
 
     fn mask(&self) -> &'a [u8]

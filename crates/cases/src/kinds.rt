@@ -3,9 +3,11 @@ use crate::{catalog, cut, plan, program, sql};
 use answer_cases::{show_answer, show_gathering, show_state, show_whole_query};
 use case_files::{StoredFile, bytes_of, escaped_bytes, find};
 use expression_cases::{show_agreement, show_expressions};
+use join_cases::show_lookups;
+use predicate_cases::show_predicates;
 use std::alloc::{AllocError, Global};
 use storage_cases::show_storage;
-use vector_cases::{show_lane_loop, show_lookups, show_selection};
+use vector_cases::{show_lane_loop, show_selection};
 
 // The word behind the kind is the path of the catalogue.
 fn show_plan(
@@ -36,6 +38,7 @@ fn show_kind(
         "lanes" => show_lane_loop(alloc, words, body),
         "evaluate" => show_expressions(alloc, words, body),
         "agree" => show_agreement(alloc, words, body),
+        "predicate" => show_predicates(alloc, words, body),
         "join" => show_lookups(alloc, words, body),
         "answer" => show_answer(alloc, words, body),
         "state" => show_state(alloc, words, body),

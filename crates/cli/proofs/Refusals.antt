@@ -5,7 +5,6 @@ use Rattle.std.specs.Borrow.{Bor}
 use Rattle.std.proofs.Math.Seq.{split_at}
 use Rattle.std.proofs.lemmas.List.Elements.{Contains-get_or}
 use Rattle.meaning.specs.declared.catalog.Dimension.{Dimension}
-use Rattle.columns.specs.Column.{ColumnSpec}
 use Rattle.loader.specs.Fault as loads
 use Rattle.loader.specs.declared.fault.LoadFault.{LoadFault}
 use Rattle.loader.specs.declared.fault.LoadFault.TheVariants as load_fault
@@ -23,8 +22,8 @@ use Rattle.folders.specs.declared.refusal.Refusal.TheVariants as refusal
 use Rattle.jobs.specs.Job.{IsQueryRefused as IsUnplanned}
 use Rattle.jobs.specs.Working.{IsWorkRefused}
 use Rattle.command_line.specs.declared.commands.WorkCommand.{WorkCommand}
-use Rattle.cli.specs.Loading.{IsDimensionLoaded}
-use Rattle.cli.specs.Refusing.{IsDimensionRefused, IsFirstRefused, IsInputRefused, IsLoadLeft, IsLoadRefused, IsQuiet, IsRefusedSo, IsWholeRefused}
+use Rattle.cli.specs.Refusing.{IsInputRefused, IsRefusedSo, IsWholeRefused}
+use Rattle.loads.specs.Refusing.{IsLoadLeft, IsLoadRefused, IsQuiet}
 use Rattle.cli.specs.Running.{files_of, input_over}
 use Rattle.command_line.specs.declared.commands.Command.{Command}
 use Rattle.command_line.specs.declared.commands.Command.TheVariants.{Whole, Load, Work}
@@ -48,34 +47,6 @@ unplanned folder text catalog input e declared same (inr (inl sql)) =
     inr (whole_fault.Sql sql.0, inr (inl (catalog, subst (λ bs. catalog_of bs ≡ Ok catalog) same declared, inl (sql.1, sql.2))), sql.3)
 unplanned folder text catalog input e declared same (inr (inr plan)) =
     inr (whole_fault.Plan plan.0, inr (inl (catalog, subst (λ bs. catalog_of bs ≡ Ok catalog) same declared, inl plan.1)), plan.2)
-
--- ---- the fact
-
-pub uncounted : (folder table : List ℕ) (fault : LoadFault) (e : Refusal) → loads.IsOutside fault → IsReturnedAs (load_refusal folder table fault) e → IsUnread (csv_path folder table) e
-uncounted folder table load_fault.Memory e stands (inl memory) = inl memory
-uncounted folder table load_fault.Memory e stands (inr returned) = inl returned
-uncounted folder table load_fault.Device e stands (inl memory) = inl memory
-uncounted folder table load_fault.Device e stands (inr returned) = inr returned
-uncounted folder table (load_fault.Table f) e stands is = absurd stands
-
--- ---- dimensions
-
--- a dimension is refused, and those before it are loaded
-pub first_refused : (holds : Holds) (folder : List ℕ) (dims items : List Dimension) (k : ℕ) (d : Dimension) (columns : List (List ColumnSpec)) (e : Refusal)
-    → items ≡ dims → k < length items → d ≡ get_or items k d → AreEach (IsDimensionLoaded holds folder) (take k items) columns → IsDimensionRefused holds folder d e → IsFirstRefused holds folder dims e
-first_refused holds folder dims items k d columns e same below is loaded refused = record {
-  before = take k items;
-  dim = d;
-  behind = drop (suc k) items;
-  dims_are = sym same ∙ (split_at items k d below ∙ ap (λ x. take k items ++ x ∷ drop (suc k) items) (sym is));
-  columns = columns;
-  loaded = loaded;
-  refused = refused;
-}
-
--- it is one of them
-pub contained : (dims items : List Dimension) (k : ℕ) (d : Dimension) → items ≡ dims → k < length items → d ≡ get_or items k d → Contains dims d
-contained dims items k d same below is = subst (λ xs. Contains xs d) same (subst (λ x. Contains items x) (sym is) (Contains-get_or items k d below))
 
 -- ---- the commands
 

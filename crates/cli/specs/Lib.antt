@@ -1,7 +1,5 @@
 -- The definitions of this crate.
 pub mod Lines
-pub mod Loading
-pub mod Program
 pub mod Refusing
 pub mod Running
 pub mod Status

@@ -8,7 +8,7 @@ use Rattle.gathering.specs.Gathering.{GatherSpec}
 use Rattle.coordinator.specs.Whole.{Files, Input, IsAnswered}
 use Rattle.gathering.specs.declared.report.Ended.{Ended}
 use Rattle.folders.specs.Folder.{Holds, Change, AreHeld, catalog_path, csv_path}
-use Rattle.cli.specs.Loading.{IsLoadDone}
+use Rattle.loads.specs.Loading.{IsLoadDone}
 use Rattle.jobs.specs.Gathering.{IsGathered}
 use Rattle.jobs.specs.Working.{IsWorked}
 use Rattle.command_line.specs.declared.commands.GatherCommand.{GatherCommand}

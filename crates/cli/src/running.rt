@@ -1,31 +1,23 @@
 //! Runs a command and gives its exit status.
 ghost use Rattle.std.specs.Prelude.{◌≡◌, ◌≢◌, ◌≤◌, ℕ, List, ◌⊎◌, IfErr, IfOk, OnErr, OnOk, Ok, length, sum};
-ghost use Rattle.std.specs.Io.KnownBytes.{Appends};
 ghost use Rattle.meaning.specs.Catalog.{IsWellFormed};
 ghost use Rattle.catalog_reader.specs.CatalogText.{catalog_of};
 ghost use Rattle.meaning.specs.SoundPlan.{IsSoundPlan};
 ghost use Rattle.planner.specs.QueryText.{IsPlanned};
-ghost use Rattle.columns.specs.Column.{ColumnSpec};
 ghost use Rattle.gathering.specs.Gathering.{GatherSpec};
 ghost use Rattle.coordinator.specs.Whole.{IsAnswered};
 ghost use Rattle.command_line.specs.Command.{IsInRange};
-ghost use Rattle.folders.specs.Folder.{Writes};
-ghost use Rattle.folders.specs.Each.{AreEach};
-ghost use Rattle.cli.specs.Loading.{AreFiles, AreFragmentsClosed, IsCatalogLoaded, IsDimensionLoaded, IsLoadDone, loaded_line};
-ghost use Rattle.cli.specs.Refusing.{AreFragmentsUnwritten, IsCatalogLoadLeft, IsCatalogLoadRefused, IsInputRefused, IsLoadLeft, IsLoadRefused, IsQueryRefused, IsQuiet, IsRefusedOver, IsRefusedSo, IsSilent, IsUnfinished, IsWholeRefused, IsWrittenSoFar};
+ghost use Rattle.cli.specs.Refusing.{IsInputRefused, IsQueryRefused, IsRefusedOver, IsRefusedSo, IsSilent, IsWholeRefused};
+ghost use Rattle.loads.specs.Refusing.{IsQuiet};
 ghost use Rattle.cli.specs.Running.{AreTables, IsAnsweredSo, IsWholeDone, IsCommandDone, IsReportedAs, input_over};
 ghost use Rattle.cli.specs.Status.{IsEndStatus, IsRunStatus, end_status, report_status};
 ghost use Rattle.folders.specs.declared.refusal.Refusal.{Refusal as ARefusal};
 ghost use Rattle.jobs.specs.Gathering.{IsGatherLeft, IsGatherRefused};
 ghost use Rattle.jobs.specs.Working.{IsWorked, IsWorkRefused};
 
-use crate::fragments::{Fact, load_fact};
-use crate::loading::load_dimensions;
 use crate::question::{Question, Request};
 use crate::refusal_lines::print_refusal;
-use crate::saving::save;
 use crate::tables::{Tables, lend_files, read_dims, read_fact};
-use crate::target::Target;
 use crate::whole_refusal::refusal_of;
 use catalog_reader::read_catalog;
 use command_line::{Command, GatherCommand, WorkCommand};
@@ -33,9 +25,9 @@ use coordinator::{Sources, answer_plan};
 use folders::{Folder, Refusal, read_catalog_file};
 use gathering::{Ended, Report};
 use jobs::{answer_fragment, gather_answers, plan_of};
+use loads::load_tables;
 use meaning::Plan;
 use std::alloc::Global;
-use std::io;
 use std::io::Write;
 use std::mem::drop;
 
@@ -207,115 +199,6 @@ fn answer<F: Folder, O: Write>(
     Ok(status_of(ended?))
 }
 
-fn print_loaded<O: Write>(rows: u64, fragments: usize, out: &mut O) -> io::Result<()>
-    ensures { OnOk result (Appends (O.contents out.old) (O.contents out.new)
-        (loaded_line rows fragments)) }
-{
-    writeln!(out, "loaded {rows} rows in {fragments} fragments")
-}
-
-/// Loads the dimensions behind the fact, and only then puts files under their paths.
-fn finish_load<F: Folder, O: Write>(
-    alloc: Global,
-    folder: &mut F,
-    target: &Target<'_>,
-    fact: Fact<F::Closed>,
-    out: &mut O,
-) -> Result<(), Refusal>
-    requires well_formed { IsWellFormed target.now.catalog.now }
-    requires counted { fact.rows ≡ sum fact.cut }
-    requires closed { IfOk fact.files (λ files. length files.items ≡ length fact.cut) }
-    requires unwritten { IfErr fact.files
-        (AreFragmentsUnwritten target.now.directory.now target.now.catalog.now.fact.name
-        (length fact.cut)) }
-    ensures finished { OnOk result ((fragments : List (List ColumnSpec))
-        → IfOk fact.files (λ files. AreFragmentsClosed F.enclosed (F.wrote folder.old)
-        target.now.load target.now.catalog.now.fact fact.cut fragments files.items)
-        → (dims : List (List ColumnSpec))
-        × AreEach (IsDimensionLoaded (F.holds folder.old) target.now.directory.now)
-        target.now.catalog.now.dims dims
-        × Appends (O.contents out.old) (O.contents out.new)
-        (loaded_line (sum fact.cut) (length fact.cut))
-        × Writes (AreFiles target.now.directory.now target.now.load target.now.catalog.now fact.cut
-        fragments dims) (F.wrote folder.old) (F.wrote folder.new)) }
-    ensures refused { IfErr result
-        (IsUnfinished (F.holds folder.old) target.now.directory.now target.now.catalog.now
-        fact.cut) }
-    ensures quiet { IfErr result (λ e. IsQuiet e (O.contents out.old) (O.contents out.new)) }
-    ensures left { IfErr result (λ e. (F.wrote folder.new ≡ F.wrote folder.old)
-        ⊎ ((fragments : List (List ColumnSpec))
-        → IfOk fact.files (λ files. AreFragmentsClosed F.enclosed (F.wrote folder.old)
-        target.now.load target.now.catalog.now.fact fact.cut fragments files.items)
-        → (dims : List (List ColumnSpec))
-        × AreEach (IsDimensionLoaded (F.holds folder.old) target.now.directory.now)
-        target.now.catalog.now.dims dims
-        × IsWrittenSoFar target.now.directory.now target.now.load target.now.catalog.now fact.cut
-        fragments dims e (F.wrote folder.old) (F.wrote folder.new))) }
-{
-    let Fact { rows, cut, files } = fact;
-    let dims = load_dimensions(alloc, folder, target.directory, target.catalog)?;
-    let files = files?;
-    save(alloc, folder, target, &cut, files, dims.as_slice())?;
-    match print_loaded(rows, cut.lengths().len(), out) {
-        Ok(()) => Ok(()),
-        Err(_) => Err(Refusal::CannotPrint),
-    }
-}
-
-fn load_declared<F: Folder, O: Write>(
-    alloc: Global,
-    folder: &mut F,
-    target: &Target<'_>,
-    rows: u32,
-    out: &mut O,
-) -> Result<(), Refusal>
-    requires rows { 1 ≤ rows }
-    requires well_formed { IsWellFormed target.now.catalog.now }
-    ensures loaded { OnOk result
-        (IsCatalogLoaded (F.holds folder.old) target.now.directory.now target.now.load rows
-        target.now.catalog.now
-        (O.contents out.old) (O.contents out.new) (F.wrote folder.old) (F.wrote folder.new)) }
-    ensures refused { IfErr result
-        (IsCatalogLoadRefused (F.holds folder.old) target.now.directory.now target.now.catalog.now
-        rows) }
-    ensures quiet { IfErr result (λ e. IsQuiet e (O.contents out.old) (O.contents out.new)) }
-    ensures left { IfErr result (λ e. IsCatalogLoadLeft (F.holds folder.old)
-        target.now.directory.now target.now.load rows target.now.catalog.now e
-        (F.wrote folder.old) (F.wrote folder.new)) }
-{
-    let fact = load_fact(alloc, folder, target, rows)?;
-    finish_load(alloc, folder, target, fact, out)
-}
-
-fn load<F: Folder, O: Write>(
-    alloc: Global,
-    folder: &mut F,
-    directory: &str,
-    load: u64,
-    rows: u32,
-    out: &mut O,
-) -> Result<(), Refusal>
-    requires { 1 ≤ rows }
-    ensures loaded { OnOk result
-        (IsLoadDone (F.holds folder.old) directory.now load rows (O.contents out.old)
-        (O.contents out.new) (F.wrote folder.old) (F.wrote folder.new)) }
-    ensures refused { IfErr result (IsLoadRefused (F.holds folder.old) directory.now rows) }
-    ensures quiet { IfErr result (λ e. IsQuiet e (O.contents out.old) (O.contents out.new)) }
-    ensures left { IfErr result (λ e. IsLoadLeft (F.holds folder.old) directory.now load rows e
-        (F.wrote folder.old) (F.wrote folder.new)) }
-{
-    let bytes = read_catalog_file(alloc, folder, directory)?;
-    let catalog = read_catalog(alloc, bytes.as_slice())?;
-    let target = Target {
-        directory,
-        load,
-        catalog: &catalog,
-    };
-    let loaded = load_declared(alloc, folder, &target, rows, out);
-    drop(catalog);
-    loaded
-}
-
 fn gather<F: Folder, O: Write, E: Write>(
     alloc: Global,
     folder: &mut F,
@@ -395,7 +278,7 @@ pub fn outcome<F: Folder, O: Write, E: Write>(
             load: number,
             rows,
         } => {
-            load(alloc, folder, directory.as_str(), *number, *rows, out)?;
+            load_tables(alloc, folder, directory.as_str(), *number, *rows, out)?;
             Ok(0)
         }
         Command::Work(command) => {

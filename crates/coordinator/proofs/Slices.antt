@@ -4,38 +4,22 @@ use Rattle.std.specs.List.{range_with_len}
 use Rattle.std.proofs.Common.{sym, ap, ◌∙◌, arith}
 use Rattle.std.proofs.Math.Numerals.{suc-eq-add-one}
 use Rattle.std.proofs.lemmas.List.{length-drop, map-append}
+use Rattle.std.proofs.lemmas.List.Sums.{sum_by-take-le}
 use Rattle.meaning.specs.declared.plan.Plan.{Plan}
 use Rattle.meaning.specs.Order.{Row}
 use Rattle.meaning.specs.Cut.{Cut, first_row}
 use Rattle.meaning.specs.Answer.{own}
 use Rattle.meaning_laws.specs.Laws.{own_answers}
-use Rattle.meaning_laws.proofs.Cuts.{sum_cons, sum_to_next}
-
--- a front has no more rows than all
-pub sum_to_fragment : (cut : Cut) (k : ℕ) → sum (take k cut) ≤ sum cut
-sum_to_fragment [] zero = omega arith
-sum_to_fragment [] (suc k) = omega arith
-sum_to_fragment (n ∷ ns) zero = omega arith
-sum_to_fragment (n ∷ ns) (suc k) =
-    let here = sum_cons n (take k ns) in
-    let there = sum_cons n ns in
-    let rest = sum_to_fragment ns k in
-    grind (arith, here, there, rest)
+use Rattle.meaning_laws.proofs.Cuts.{sum_to_next}
+use Rattle.loader.proofs.Ranges.{range_to_next}
 
 -- the fragment's rows are there
 pub room : (cut : Cut) (k : ℕ) (rows : List Row) → k < length cut → length rows ≡ sum cut → slice_index cut k ≤ length (drop (first_row cut k) rows)
 room cut k rows below whole =
     let next = sum_to_next cut k below in
-    let most = sum_to_fragment cut (suc k) in
+    let most : sum (take (suc k) cut) ≤ sum cut = sum_by-take-le (λ n. n) cut (suc k) in
     let left = length-drop (first_row cut k) rows in
     grind (arith, next, most, left, whole)
-
--- a range of one number more
-pub range_to_next : (start n : ℕ) → range_with_len start (suc n) ≡ range_with_len start n ++ (start + n) ∷ []
-range_to_next start zero = ap (λ k. k ∷ []) (grind arith)
-range_to_next start (suc n) =
-    let same : (start + 1) + n ≡ start + suc n = omega arith in
-    ap (λ ks. start ∷ ks) (range_to_next (start + 1) n ∙ ap (λ k. range_with_len (start + 1) n ++ k ∷ []) same)
 
 -- the own answers of one fragment more
 pub own_answers_to_next : (plan : Plan) (dims : List (List Row)) (cut : Cut) (rows : List Row) (k : ℕ)

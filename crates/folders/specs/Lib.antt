@@ -3,3 +3,4 @@ pub mod Each
 pub mod Folder
 pub mod Refused
 pub mod Lines
+pub mod Tables

@@ -5,6 +5,7 @@ mod files;
 mod folder;
 mod paths;
 mod refusal;
+mod tables;
 
 pub use files::{
     close_file, create_file, finish_file, open_file, put_file, read_catalog_file, read_file,
@@ -13,3 +14,4 @@ pub use files::{
 pub use folder::Folder;
 pub use paths::{csv_path, cut_path, dimension_path, fragment_path};
 pub use refusal::{Refusal, cannot_read_csv, load_refusal};
+pub use tables::read_tables;

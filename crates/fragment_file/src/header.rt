@@ -67,4 +67,22 @@ impl Header {
             columns: copy_columns(alloc, table.columns.as_slice())?,
         })
     }
+
+    /// The same header again.
+    ///
+    /// # Errors
+    ///
+    /// Out of memory.
+    pub fn copy(&self, alloc: Global) -> Result<Header, AllocError>
+        ensures { IfOk result (λ copy. copy ≡ self.now) }
+    {
+        Ok(Header {
+            load: self.load,
+            table: self.table.clone()?,
+            fragment: self.fragment,
+            first_row: self.first_row,
+            rows: self.rows,
+            columns: copy_columns(alloc, self.columns.as_slice())?,
+        })
+    }
 }

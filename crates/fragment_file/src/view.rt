@@ -1,8 +1,8 @@
 //! What an opened file lends.
-ghost use Rattle.std.specs.Prelude.{◌≡◌, ◌<◌, [], length, slice_index_or};
+ghost use Rattle.std.specs.Prelude.{◌≡◌, ◌<◌, ℕ, [], get_or, length, map, slice_index_or};
 ghost use Rattle.fragment_file.specs.Fragment.{AreBlocks, IsFragment};
-ghost use Rattle.fragment_file.specs.Lent.{blocks_in};
-ghost use Rattle.fragment_file.specs.View.{rows_of};
+ghost use Rattle.fragment_file.specs.Lent.{AreTypedBlocks, blocks_in};
+ghost use Rattle.fragment_file.specs.View.{IsGroupAt, block_in, rows_of};
 
 use crate::group_view::GroupView;
 use crate::header::Header;
@@ -40,6 +40,15 @@ impl<'a> Model for FragmentView<'a> {
     ghost view = { λ v. fragment_in v.header v.bytes.now v.groups };
 
     ghost invariant = { λ v. IsFragmentAt v.header v.bytes.now v.groups };
+}
+
+/// The row group whose blocks stand at these locations.
+fn lend_group<'a>(locations: &'a [BlockLocation], bytes: &'a [u8]) -> GroupView<'a>
+    requires { IsGroupAt bytes.now locations.now }
+    ensures value { blocks_in result ≡ map (block_in bytes.entry.now) locations.entry.now }
+    ensures bytes { (i : ℕ) → get_or bytes.entry.now i 0 < 256 }
+{
+    GroupView::new_unchecked(locations, bytes)
 }
 
 impl<'a> FragmentView<'a> {
@@ -86,8 +95,9 @@ impl<'a> FragmentView<'a> {
         // A block of each column, of its type, and all of as many rows.
         ensures blocks { AreBlocks self.now.header.columns (rows_of (blocks_in result))
             (blocks_in result) }
+        ensures typed { AreTypedBlocks self.now.header.columns (blocks_in result) }
     {
         let locations = &self.groups.as_slice()[index];
-        GroupView::new_unchecked(locations.as_slice(), self.bytes)
+        lend_group(locations.as_slice(), self.bytes)
     }
 }

@@ -14,7 +14,7 @@ use Rattle.meaning.specs.Answer.{body_of, groups_of, combined}
 use Rattle.meaning.specs.Gather.{body_in}
 use Rattle.gathering.specs.Faults.{fault_in, least_fault}
 
-first_cell : (cell : Cell) (cells : List Cell) → least_fault (cell ∷ cells) ≡ lesser fault_cmp (fault_in cell) (least_fault cells)
+pub first_cell : (cell : Cell) (cells : List Cell) → least_fault (cell ∷ cells) ≡ lesser fault_cmp (fault_in cell) (least_fault cells)
 first_cell Nothing cells = refl
 first_cell (One (Groups gs)) cells = refl
 first_cell (One (Fault f)) cells = refl

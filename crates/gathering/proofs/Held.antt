@@ -1,31 +1,29 @@
 -- What a coordinator holds fits its job, before and after an answer.
-use Rattle.std.specs.Prelude.{◌≡◌, ℕ, zero, suc, ◌+◌, ◌<◌, List, [], ◌∷◌, ◌++◌, map, length, replicate, slice_set, slice_index_or}
+use Rattle.std.specs.Prelude.{◌≡◌, ℕ, zero, suc, ◌+◌, ◌<◌, true, false, cond, List, [], ◌∷◌, ◌++◌, map, length, replicate, slice_set, slice_index_or}
 use Rattle.std.specs.List.{range_with_len}
 use Rattle.std.proofs.Common.{refl, sym, ap, ◌∙◌, subst}
-use Rattle.std.proofs.lemmas.List.{length-set, length-replicate}
+use Rattle.std.proofs.lemmas.List.{length-replicate}
 use Rattle.std.proofs.lemmas.Bool.{ltb-true}
 use Rattle.std.proofs.lemmas.Option.{slice_get-get_or, same_Some}
-use Rattle.meaning.specs.Said.{Answer}
-use Rattle.meaning.specs.Said.{Cell}
-use Rattle.meaning.specs.declared.answer.Cell.TheVariants.{Nothing, One}
+use Rattle.meaning.specs.declared.plan.Plan.{Plan}
+use Rattle.meaning.specs.Said.{Answer, Body, Cell}
+use Rattle.meaning.specs.declared.answer.Cell.TheVariants.{Nothing, One, Conflict}
 use Rattle.meaning.specs.Cut.{Cut}
-use Rattle.meaning.specs.Gather.{join_cells, joined}
+use Rattle.meaning.specs.Gather.{join_cells, joined, same_body}
 use Rattle.meaning_laws.proofs.Absorb.{joined-push}
 use Rattle.meaning.proofs.Tests.{first_of}
 use Rattle.partial_codec.specs.Job.{JobSpec}
 use Rattle.partial_codec.specs.Answer.{Fits}
-use Rattle.gathering.proofs.Fitting.{AreFitting-set, AreFitting-none, AreFitting-at, is_fitting-join}
-use Rattle.meaning.specs.SoundPlan.{IsSoundPlan}
-use Rattle.gathering.specs.Gathering.{GatherSpec, IsGather, cell_at, cells_with}
+use Rattle.gathering.specs.Fitted.{is_fitting}
+use Rattle.gathering.specs.Gathering.{least_handed, most_handed}
+use Rattle.gathering.specs.Joining.{conflict_unless, delta_of}
+use Rattle.gathering.specs.Merging.{all_groups, groups_in}
+use Rattle.gathering.specs.Totals.{behind, most_at_change}
 
 -- ---- a coordinator that has taken nothing
 
-pub fresh_fits : (job : JobSpec) → IsSoundPlan job.plan → IsGather (record { job = job; cells = replicate (length job.cut) Nothing })
-fresh_fits job sound = record {
-  sound = sound;
-  each = length-replicate (length job.cut) Nothing;
-  fitting = AreFitting-none job.plan job.cut (length job.cut);
-}
+pub fresh_each : (cut : Cut) → length (replicate {A = Cell} (length cut) Nothing) ≡ length cut
+fresh_each cut = length-replicate (length cut) Nothing
 
 pub fresh_cells : (cut : Cut) → replicate (length cut) Nothing ≡ joined cut []
 fresh_cells cut = from 0 (length cut) where
@@ -44,19 +42,41 @@ one_more cut answers a cells below e = ap (λ cs. slice_set cs a.k (join_cells (
 pub below_cut : (job : JobSpec) (a : Answer) → Fits job a → a.k < length job.cut
 below_cut job a fits = ltb-true a.k (length job.cut) (first_of _ _ fits)
 
-pub below : (g : GatherSpec) (a : Answer) → IsGather g → Fits g.job a → a.k < length g.cells
-below g a ok fits = subst (λ n. a.k < n) (sym ok.each) (below_cut g.job a fits)
+pub below : (job : JobSpec) (cells : List Cell) (a : Answer) → length cells ≡ length job.cut → Fits job a → a.k < length cells
+below job cells a each fits = subst (λ n. a.k < n) (sym each) (below_cut job a fits)
 
 pub same_at : (cells : List Cell) (i : ℕ) (d e : Cell) → i < length cells → slice_index_or cells i d ≡ slice_index_or cells i e
 same_at cells i d e h = same_Some _ _ (sym (slice_get-get_or cells i d h) ∙ slice_get-get_or cells i e h)
 
--- ---- after an answer
+-- ---- what is new of a cell
 
-pub kept : (g : GatherSpec) (a : Answer) → IsGather g → Fits g.job a → IsGather (record { job = g.job; cells = cells_with g.cells a })
-kept g a ok fits = record {
-  sound = ok.sound;
-  each = length-set g.cells a.k (join_cells (cell_at g.cells a.k) (One a.body)) ∙ ok.each;
-  fitting = AreFitting-set g.job.plan g.job.cut g.cells a.k (join_cells (cell_at g.cells a.k) (One a.body))
-      (is_fitting-join g.job.plan g.job.cut a.k (cell_at g.cells a.k) (One a.body) (AreFitting-at g.job.plan g.job.cut g.cells a.k Nothing (below g a ok fits) ok.fitting) fits)
-      ok.fitting;
-}
+-- a cell behind what is new of it is the cell joined with the other
+pub behind_delta : (own other : Cell) → behind own (delta_of own other) ≡ join_cells own other
+behind_delta Nothing Nothing = refl
+behind_delta Nothing (One b) = refl
+behind_delta Nothing Conflict = refl
+behind_delta (One a) Nothing = refl
+behind_delta (One a) (One b) = elim (same_body a b) as (λ t. behind (One a) (conflict_unless t) ≡ cond t (One a) Conflict) [ true ↦ refl | false ↦ refl ]
+behind_delta (One a) Conflict = refl
+behind_delta Conflict Nothing = refl
+behind_delta Conflict (One b) = refl
+behind_delta Conflict Conflict = refl
+
+-- what is new fits where the other does
+pub delta_fits : (plan : Plan) (cut : Cut) (k : ℕ) (own other : Cell) → is_fitting plan cut k other ≡ true → is_fitting plan cut k (delta_of own other) ≡ true
+delta_fits plan cut k Nothing other fits = fits
+delta_fits plan cut k (One a) Nothing fits = refl
+delta_fits plan cut k (One a) (One b) fits = elim (same_body a b) as (λ t. is_fitting plan cut k (conflict_unless t) ≡ true) [ true ↦ refl | false ↦ refl ]
+delta_fits plan cut k (One a) Conflict fits = refl
+delta_fits plan cut k Conflict other fits = refl
+
+-- how many groups an answer has handed over
+pub handed_least : (own : Cell) (body : Body) → length (groups_in (delta_of own (One body))) ≡ least_handed own body
+handed_least Nothing body = refl
+handed_least (One a) body = elim (same_body a body) as (λ t. length (groups_in (conflict_unless t)) ≡ 0) [ true ↦ refl | false ↦ refl ]
+handed_least Conflict body = refl
+
+pub handed_most : (own : Cell) (body : Body) (kept : List Cell) → most_at_change (delta_of own (One body)) kept ≡ most_handed own body kept
+handed_most Nothing body kept = refl
+handed_most (One a) body kept = elim (same_body a body) as (λ t. most_at_change (conflict_unless t) kept ≡ cond t 0 (length (all_groups kept))) [ true ↦ refl | false ↦ refl ]
+handed_most Conflict body kept = refl

@@ -1,5 +1,5 @@
 -- Cells joined with what is new of them, and with another coordinator's.
-use Rattle.std.specs.Prelude.{◌≡◌, ℕ, zero, suc, ◌+◌, ◌<◌, true, false, cond, List, [], ◌∷◌, ◌++◌, length, take, drop, slice_set, slice_index_or, get_or}
+use Rattle.std.specs.Prelude.{◌≡◌, ℕ, zero, suc, ◌+◌, ◌<◌, ◌≤◌, true, false, cond, List, [], ◌∷◌, ◌++◌, length, take, drop, slice_set, slice_index_or, get_or}
 use Rattle.std.specs.List.{list_all, enumerate_from}
 use Rattle.std.proofs.Common.{refl, sym, ap, subst, arith}
 use Rattle.meaning.specs.declared.plan.Plan.{Plan}
@@ -102,3 +102,22 @@ module _ (plan : Plan) (cut : Cut) where
         let same : k ≡ 0 + k = omega arith in
         subst (λ (j : ℕ). is_fitting plan cut j (get_or cells k Nothing) ≡ true) same (at k below));
   }
+
+-- ---- what is new, in place of the others
+
+pub reduced_next : (k : ℕ) (own others : List Cell) (a : Cell) → k < length own → length own ≡ length others → a ≡ slice_index_or own k a
+    → slice_set (take k (all_deltas own others) ++ drop k others) k (delta_of a (slice_index_or (take k (all_deltas own others) ++ drop k others) k Nothing))
+    ≡ take (suc k) (all_deltas own others) ++ drop (suc k) others
+reduced_next k [] others a below long e = absurd (omega (arith, below))
+reduced_next k (c ∷ own) [] a below long e = absurd (omega (arith, long))
+reduced_next zero (c ∷ own) (d ∷ others) a below long e = λ i. delta_of (e i) d ∷ others
+reduced_next (suc k) (c ∷ own) (d ∷ others) a below long e =
+    ap (λ (cs : List Cell). delta_of c d ∷ cs) (reduced_next k own others a (omega (arith, below)) (omega (arith, long)) e)
+
+pub reduced_all : (k : ℕ) (own others : List Cell) → length own ≡ length others → length own ≤ k → take k (all_deltas own others) ++ drop k others ≡ all_deltas own others
+reduced_all zero [] [] long end = refl
+reduced_all (suc k) [] [] long end = refl
+reduced_all k [] (d ∷ others) long end = absurd (omega (arith, long))
+reduced_all k (c ∷ own) [] long end = absurd (omega (arith, long))
+reduced_all zero (c ∷ own) (d ∷ others) long end = absurd (omega (arith, end))
+reduced_all (suc k) (c ∷ own) (d ∷ others) long end = ap (λ (cs : List Cell). delta_of c d ∷ cs) (reduced_all k own others (omega (arith, long)) (omega (arith, end)))

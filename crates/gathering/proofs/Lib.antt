@@ -7,3 +7,5 @@ pub mod Joined
 pub mod StateFiles
 pub mod Merging
 pub mod ShapedGroups
+pub mod Deltas
+pub mod LiveTotals

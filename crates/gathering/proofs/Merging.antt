@@ -32,7 +32,7 @@ use Rattle.meaning.specs.Answer.{body_of, groups_of, combined}
 use Rattle.meaning.specs.Gather.{body_in}
 use Rattle.meaning.proofs.Tests.{first_of, second_of}
 use Rattle.aggregate_states.specs.State.{most_entries}
-use Rattle.group_by.specs.Groups.{all_rows, with_groups, under, SaysAs, TablesGrow}
+use Rattle.group_by.specs.Groups.{all_rows, with_groups, SaysAs, TablesGrow}
 use Rattle.group_by.specs.Rows.{IsGroupOf}
 use Rattle.group_by.specs.Shape.{GroupsSpec, shape_of}
 use Rattle.last_step.specs.Printing.{ShowsSomething}
@@ -40,7 +40,8 @@ use Rattle.partial_codec.proofs.Fitting.{statistics_same, few_groups, short_at, 
 use Rattle.gathering.specs.Faults.{least_fault}
 use Rattle.gathering.specs.Fitted.{is_fitting, AreFitting}
 use Rattle.meaning.specs.SoundPlan.{IsSoundPlan}
-use Rattle.gathering.specs.Merging.{groups_in, all_groups, AreMergeable}
+use Rattle.gathering.specs.Merging.{groups_in, all_groups, table_with, AreMergeable}
+use Rattle.gathering.specs.Totals.{CanTake}
 
 -- ---- a group that fits is one that a table takes
 
@@ -83,11 +84,11 @@ groups_taken plan (g ∷ gs) shaped possible =
 
 -- ---- the groups of one cell, and of all cells
 
-record Takes (plan : Plan) (most : ℕ) (gs : List Group) : Type 0 where
-  fit : AllByRecursion (IsGroupOf (shape_of plan)) gs
-  few : all_rows gs ≤ most
-  handed : length gs ≤ most
-  keys : AllByRecursion (λ g. length g.key ≡ length plan.keys) gs
+pub record Takes (plan : Plan) (most : ℕ) (gs : List Group) : Type 0 where
+  pub fit : AllByRecursion (IsGroupOf (shape_of plan)) gs
+  pub few : all_rows gs ≤ most
+  pub handed : length gs ≤ most
+  pub keys : AllByRecursion (λ g. length g.key ≡ length plan.keys) gs
 
 -- a key has a value for each of the plan's keys
 wide : (keys : List GroupingKey) (key : Row) → pointwise (λ k v. is_of_type k.col_type v) keys key ≡ true → length key ≡ length keys
@@ -106,7 +107,7 @@ rows_are : (gs : List Group) → sum (map (λ g. g.rows) gs) ≡ all_rows gs
 rows_are [] = refl
 rows_are (g ∷ gs) = sum_by-cons (λ x. x) g.rows (map (λ (h : Group). h.rows) gs) ∙ ap (λ n. g.rows + n) (rows_are gs) ∙ sym (sum_by-cons (λ (h : Group). h.rows) g gs)
 
-cell_takes : (plan : Plan) (cut : Cut) → IsCut cut → (k : ℕ) (c : Cell) → is_fitting plan cut k c ≡ true → Takes plan max_rows (groups_in c)
+pub cell_takes : (plan : Plan) (cut : Cut) → IsCut cut → (k : ℕ) (c : Cell) → is_fitting plan cut k c ≡ true → Takes plan max_rows (groups_in c)
 cell_takes plan cut is_cut k Nothing e = record { fit = tt; few = omega arith; handed = omega arith; keys = tt }
 cell_takes plan cut is_cut k Conflict e = record { fit = tt; few = omega arith; handed = omega arith; keys = tt }
 cell_takes plan cut is_cut k (One (Fault f)) e = record { fit = tt; few = omega arith; handed = omega arith; keys = tt }
@@ -137,7 +138,7 @@ join_takes plan m n gs hs a b = record {
     by P [] p q = q
     by P (g ∷ gs) p q = (p.0, by P gs p.1 q)
 
-cells_take : (plan : Plan) (cut : Cut) → IsCut cut → (n : ℕ) (cells : List Cell) → list_all (λ p. is_fitting plan cut p.0 p.1) (enumerate_from n cells) ≡ true
+pub cells_take : (plan : Plan) (cut : Cut) → IsCut cut → (n : ℕ) (cells : List Cell) → list_all (λ p. is_fitting plan cut p.0 p.1) (enumerate_from n cells) ≡ true
     → Takes plan (length cells * max_rows) (all_groups cells)
 cells_take plan cut is_cut n [] e = record { fit = tt; few = omega arith; handed = omega arith; keys = tt }
 cells_take plan cut is_cut n (c ∷ cells) e =
@@ -161,11 +162,7 @@ cells_mergeable plan cut cells is_cut each fitting =
 
 -- ---- cell after cell
 
--- the table of these groups
-abbrev pub table_with : Plan → List Group → GroupsSpec
-table_with plan gs = with_groups (under plan [] 0 0) gs
-
-front_and_back : (cells : List Cell) (i : ℕ) (d : Cell) → i < length cells → (rest : List Group) × (all_groups cells ≡ all_groups (take i cells) ++ (groups_in (get_or cells i d) ++ rest))
+pub front_and_back : (cells : List Cell) (i : ℕ) (d : Cell) → i < length cells → (rest : List Group) × (all_groups cells ≡ all_groups (take i cells) ++ (groups_in (get_or cells i d) ++ rest))
 front_and_back [] i d below = absurd (omega arith)
 front_and_back (c ∷ cells) zero d below = (all_groups cells, refl)
 front_and_back (c ∷ cells) (suc i) d below =
@@ -178,7 +175,7 @@ pub record IsNext (plan : Plan) (cells : List Cell) (i : ℕ) (gs : List Group) 
   pub few : all_rows (all_groups (take i cells)) + all_rows gs ≤ most_entries
   pub handed : length (all_groups (take i cells)) + length gs < 9223372036854775808
 
-middle : (P : Group → Type 0) (xs ys zs : List Group) → AllByRecursion P (xs ++ (ys ++ zs)) → AllByRecursion P ys
+pub middle : (P : Group → Type 0) (xs ys zs : List Group) → AllByRecursion P (xs ++ (ys ++ zs)) → AllByRecursion P ys
 middle P [] [] zs all = tt
 middle P [] (y ∷ ys) zs all = (all.0, middle P [] ys zs all.1)
 middle P (x ∷ xs) ys zs all = middle P xs ys zs all.1
@@ -285,12 +282,6 @@ table_more plan cells i d old new grow below was is =
     is ∙ ap (λ t. with_groups t (groups_in (get_or cells i d))) was
     ∙ grow.groups [] 0 0 (all_groups (take i cells)) (groups_in (get_or cells i d))
     ∙ ap (table_with plan) (sym (groups_more cells i d below))
-
--- what the next groups are to be taken by a table that took those before them
-pub record CanTake (t : GroupsSpec) (gs : List Group) : Type 0 where
-  pub fit : All (IsGroupOf t.shape) gs
-  pub few : t.rows + all_rows gs ≤ most_entries
-  pub handed : t.handed + length gs < 9223372036854775808
 
 pub table_takes : (plan : Plan) (t : GroupsSpec) (cells : List Cell) (i : ℕ) (cell : Cell) (gs : List Group) → i < length cells → AreMergeable plan (all_groups cells)
     → t ≡ table_with plan (all_groups (take i cells)) → cell ≡ get_or cells i cell → gs ≡ groups_in cell → CanTake t gs

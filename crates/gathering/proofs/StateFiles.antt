@@ -7,11 +7,10 @@ use Rattle.meaning.specs.declared.answer.Cell.TheVariants.{Nothing, One, Conflic
 use Rattle.partial_codec.specs.Answer.{Fits}
 use Rattle.partial_codec.specs.Job.{JobSpec}
 use Rattle.partial_codec.specs.State.{FitsState}
-use Rattle.gathering.specs.Fitted.{is_fitting}
-use Rattle.meaning.specs.SoundPlan.{IsSoundPlan}
+use Rattle.gathering.specs.Fitted.{AreFitting, is_fitting}
 use Rattle.gathering.specs.Gathering.{GatherSpec, IsGather, join_states}
 use Rattle.gathering.proofs.Fitting.{AreFitting-at}
-use Rattle.gathering.proofs.Joined.{AreFitting-from, AreFitting-join, length-join_states}
+use Rattle.gathering.proofs.Joined.{AreFitting-from, AreFitting-join}
 
 -- an answer stands in a cell alone
 within : (cells : List Cell) (k : ℕ) (body : Body) → get_or cells k Nothing ≡ One body → k < length cells
@@ -32,22 +31,14 @@ cell_fits job k (One body) fits = fits body refl
 cell_fits job k Conflict fits = refl
 
 -- what is spelled may be held
-pub held_state : (job : JobSpec) (cells : List Cell) → IsSoundPlan job.plan → FitsState job cells → IsGather (record { job = job; cells = cells })
-held_state job cells sound fits = record {
-  sound = sound;
-  each = fits.fragments;
-  fitting = AreFitting-from job.plan job.cut cells (λ k below. cell_fits job k (get_or cells k Nothing) (fits.answers k));
-}
+pub held_state : (job : JobSpec) (cells : List Cell) → FitsState job cells → AreFitting job.plan job.cut cells
+held_state job cells fits = AreFitting-from job.plan job.cut cells (λ k below. cell_fits job k (get_or cells k Nothing) (fits.answers k))
 
 -- two that hold answers for one job, as one
-pub joined_fits : (g other : GatherSpec) → IsGather g → IsGather other → g.job ≡ other.job → IsGather (record { job = g.job; cells = join_states g.cells other.cells })
+pub joined_fits : (g other : GatherSpec) → IsGather g → IsGather other → g.job ≡ other.job → AreFitting g.job.plan g.job.cut (join_states g.cells other.cells)
 joined_fits g other ok right same =
-    let right_fits = subst (λ job. IsGather (record { job = job; cells = other.cells })) (sym same) right in
-    record {
-      sound = ok.sound;
-      each = length-join_states g.cells other.cells (ok.each ∙ sym right_fits.each) ∙ ok.each;
-      fitting = AreFitting-join g.job.plan g.job.cut g.cells other.cells ok.fitting right_fits.fitting;
-    }
+    let right_fits = subst (λ job. IsGather (record { job = job; cells = other.cells; merges = other.merges })) (sym same) right in
+    AreFitting-join g.job.plan g.job.cut g.cells other.cells ok.fitting right_fits.fitting
 
 pub same_lengths : (g other : GatherSpec) → IsGather g → IsGather other → g.job ≡ other.job → length g.cells ≡ length other.cells
 same_lengths g other ok right same = ok.each ∙ ap (λ (job : JobSpec). length job.cut) same ∙ sym right.each

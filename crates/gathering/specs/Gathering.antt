@@ -1,11 +1,11 @@
 -- What a coordinator holds, and what an answer does to it.
-use Rattle.std.specs.Prelude.{◌≡◌, ◌≢◌, ℕ, if◌then◌else◌, List, [], length, map, zip, slice_set, slice_index_or, Some, ⊤}
+use Rattle.std.specs.Prelude.{◌≡◌, ◌≢◌, ℕ, ◌+◌, ◌≤◌, if◌then◌else◌, List, length, map, zip, slice_set, slice_index_or, Some, ⊤}
 use Rattle.meaning.specs.Said.{Body}
 use Rattle.meaning.specs.Said.{Answer}
 use Rattle.meaning.specs.Said.{Cell}
 use Rattle.meaning.specs.declared.answer.Cell.TheVariants.{Nothing, One, Conflict}
+use Rattle.meaning.specs.Answer.{groups_of}
 use Rattle.meaning.specs.Gather.{same_body, join_cells}
-use Rattle.meaning.specs.declared.plan.Plan.{Plan}
 use Rattle.partial_codec.specs.declared.fault.DecodeFault.{DecodeFault}
 use Rattle.partial_codec.specs.declared.fault.DecodeFault.TheVariants as refusal
 use Rattle.partial_codec.specs.Fault as codec
@@ -19,18 +19,30 @@ use Rattle.last_step.specs.declared.print_fault.PrintFault.{PrintFault}
 use Rattle.last_step.specs.declared.print_fault.PrintFault.TheVariants as print
 use Rattle.gathering.specs.declared.fault.GatherFault.{GatherFault}
 use Rattle.gathering.specs.declared.fault.GatherFault.TheVariants as fault
+use Rattle.gathering.specs.declared.totals.Totals.{Totals}
 use Rattle.gathering.specs.Fitted.{AreFitting}
+use Rattle.gathering.specs.Joining.{all_deltas}
+use Rattle.gathering.specs.Merging.{all_groups}
+use Rattle.gathering.specs.Totals.{AreTotalsOf, handed_at_join, merges_of, most_merges}
 
--- what answers are for, and what is held for each fragment
+-- what answers are for, what is held for each fragment, and how many groups were handed to tables so far
 pub record GatherSpec : Type 0 where
   pub job : JobSpec
   pub cells : List Cell
+  pub merges : ℕ
 
 -- the plan is sound, and there is a cell for each fragment of the cut, in which an answer fits the job
 pub record IsGather (g : GatherSpec) : Type 0 where
   pub sound : IsSoundPlan g.job.plan
   pub each : length g.cells ≡ length g.job.cut
   pub fitting : AreFitting g.job.plan g.job.cut g.cells
+
+-- the same of the cells, and the totals are those of the answers in them, for which no more groups were handed to tables
+-- than answers and conflicts ask for
+pub record IsHeld (job : JobSpec) (cells : List Cell) (t : Totals) : Type 0 where
+  pub gather : IsGather (record { job = job; cells = cells; merges = merges_of t })
+  pub totals : AreTotalsOf job.plan cells t
+  pub merges : merges_of t ≤ most_merges cells
 
 -- what is held for a fragment
 abbrev pub cell_at : List Cell → ℕ → Cell
@@ -50,6 +62,25 @@ absorbed_as Nothing k body = absorbed.New
 absorbed_as (One known) k body = if same_body known body then absorbed.Known else absorbed.Conflict k
 absorbed_as Conflict k body = absorbed.Conflict k
 
+-- ---- groups that are handed to tables
+
+-- how many are handed over for an answer at the least, and at the most: those of an answer that is new, and at a
+-- conflict that is new at most those of the answers that are kept
+abbrev pub least_handed : Cell → Body → ℕ
+least_handed Nothing body = length (groups_of body)
+least_handed (One known) body = 0
+least_handed Conflict body = 0
+
+abbrev pub most_handed : Cell → Body → List Cell → ℕ
+most_handed Nothing body kept = length (groups_of body)
+most_handed (One known) body kept = if same_body known body then 0 else length (all_groups kept)
+most_handed Conflict body kept = 0
+
+-- a number rises by so many at the least, and at the most
+pub record Rises (least most old new : ℕ) : Type 0 where
+  pub at_least : old + least ≤ new
+  pub at_most : new ≤ old + most
+
 -- the bytes spell an answer, and its cell is joined with it
 pub record Takes (old new : GatherSpec) (bytes : List ℕ) (returned : Absorbed) : Type 0 where
   pub answer : Answer
@@ -57,11 +88,14 @@ pub record Takes (old new : GatherSpec) (bytes : List ℕ) (returned : Absorbed)
   pub job : new.job ≡ old.job
   pub cells : new.cells ≡ cells_with old.cells answer
   pub classified : returned ≡ absorbed_as (cell_at old.cells answer.k) answer.k answer.body
+  pub counted : Rises (least_handed (cell_at old.cells answer.k) answer.body)
+      (most_handed (cell_at old.cells answer.k) answer.body new.cells) old.merges new.merges
 
 -- the other cells are joined with the old ones, fragment by fragment
 pub record Joins (old new : GatherSpec) (others : List Cell) : Type 0 where
   pub job : new.job ≡ old.job
   pub cells : new.cells ≡ join_states old.cells others
+  pub counted : Rises 0 (handed_at_join old.cells (all_deltas old.cells others)) old.merges new.merges
 
 -- the first obstacle to the bytes' being an answer is returned
 abbrev pub Refuses : JobSpec → List ℕ → GatherFault → Type 0

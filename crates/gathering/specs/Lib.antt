@@ -7,3 +7,4 @@ pub mod Laws
 pub mod Faults
 pub mod Report
 pub mod Merging
+pub mod Totals

@@ -1,20 +1,15 @@
-//! What the answers in the cells say together: the fault of the least row, or all groups merged.
-ghost use Rattle.std.specs.Prelude.{◌≡◌, length, filter_map, IfOk};
+//! The faults and the groups of the answers in cells: the fault of the least row, and all groups merged.
+ghost use Rattle.std.specs.Prelude.{◌≡◌, length, IfOk};
 ghost use Rattle.std.specs.Ordering.{ord_min};
-ghost use Rattle.meaning.specs.Answer.{combined};
-ghost use Rattle.meaning.specs.Gather.{body_in};
 ghost use Rattle.meaning.specs.Judge.{fault_cmp};
 ghost use Rattle.meaning.specs.Order.{lesser};
-ghost use Rattle.meaning.specs.Group.{merged_groups};
 ghost use Rattle.gathering.specs.Faults.{fault_in, least_fault};
-ghost use Rattle.gathering.specs.Fitted.{AreFitting};
-ghost use Rattle.meaning.specs.SoundPlan.{IsSoundPlan};
-ghost use Rattle.gathering.specs.Merging.{AreMergeable, all_groups, groups_in};
-ghost use Rattle.gathering.specs.Output.{IsFinishable, Shows};
+ghost use Rattle.gathering.specs.Merging.{AreMergeable, all_groups, groups_in, table_with};
+ghost use Rattle.gathering.specs.Totals.{CanTake, IsTableWith, all_behind, behind};
 
 use aggregate_states::Group;
 use group_by::GroupTable;
-use meaning::{Body, Cell, Cut, Plan, RowFault};
+use meaning::{Body, Cell, Plan, RowFault};
 use std::alloc::{AllocError, Global};
 
 /// The fault that the answer in a cell is, if it is one.
@@ -36,7 +31,7 @@ fn first_of(one: RowFault, other: RowFault) -> RowFault
 }
 
 /// Of two faults that may be absent the one of the lesser row.
-fn earlier(one: Option<RowFault>, other: Option<RowFault>) -> Option<RowFault>
+pub fn earlier(one: Option<RowFault>, other: Option<RowFault>) -> Option<RowFault>
     ensures { result ≡ lesser fault_cmp one other }
 {
     match (one, other) {
@@ -47,7 +42,7 @@ fn earlier(one: Option<RowFault>, other: Option<RowFault>) -> Option<RowFault>
 }
 
 /// The fault of the least row that an answer has.
-fn least_fault(cells: &[Cell<Group>]) -> Option<RowFault>
+pub fn least_fault(cells: &[Cell<Group>]) -> Option<RowFault>
     ensures { result ≡ least_fault cells.now }
 {
     let mut least = None;
@@ -69,35 +64,62 @@ fn groups_in(cell: &Cell<Group>) -> &[Group]
     }
 }
 
-/// The groups of all answers in one table, those of one key merged.
-fn merge_groups(alloc: Global, plan: &Plan, cells: &[Cell<Group>]) -> Result<GroupTable, AllocError>
-    requires { AreMergeable plan.now (all_groups cells.now) }
-    ensures { IfOk result (λ t. t.groups ≡ merged_groups plan.now (all_groups cells.now)) }
+/// The table with the groups of the answers in some cells more.
+pub fn merge_cells(
+    alloc: Global,
+    table: GroupTable,
+    cells: &[Cell<Group>],
+) -> Result<GroupTable, AllocError>
+    requires { CanTake table (all_groups cells.now) }
+    ensures { IfOk result (IsTableWith table (all_groups cells.now)) }
 {
-    let mut table = GroupTable::new(alloc, plan)?;
+    let mut table = table;
     for cell in cells {
         table = table.absorb_groups(alloc, groups_in(cell))?;
     }
     Ok(table)
 }
 
-/// What the answers say of all their fragments' rows together.
-pub fn combine(
+/// A cell behind its delta.
+fn behind<'a>(cell: &'a Cell<Group>, delta: &'a Cell<Group>) -> &'a Cell<Group>
+    ensures { result.now ≡ behind cell.now delta.now }
+{
+    match delta {
+        Cell::Nothing => cell,
+        Cell::One(_) => delta,
+        Cell::Conflict => delta,
+    }
+}
+
+/// The groups of the answers in the cells behind their deltas, in one table.
+pub fn merge_behind(
     alloc: Global,
     plan: &Plan,
-    cut: &Cut,
     cells: &[Cell<Group>],
-) -> Result<Body<Group>, AllocError>
-    requires each { length cells.now ≡ length cut.now }
-    requires fitting { AreFitting plan.now cut.now cells.now }
-    ensures value { IfOk result (λ b. b ≡ combined plan.now (filter_map body_in cells.now)) }
-    ensures shows { IsSoundPlan plan.now → IfOk result (Shows plan.now) }
-    ensures finishable { IsSoundPlan plan.now → IfOk result (IsFinishable plan.now) }
+    deltas: &[Cell<Group>],
+) -> Result<GroupTable, AllocError>
+    requires lengths { length cells.now ≡ length deltas.now }
+    requires mergeable { AreMergeable plan.now (all_groups (all_behind cells.now deltas.now)) }
+    ensures { IfOk result (λ t. t
+        ≡ table_with plan.now (all_groups (all_behind cells.now deltas.now))) }
 {
-    // The limits of a cut, by which no count overflows.
-    let _lengths = cut.lengths();
-    match least_fault(cells) {
-        Some(fault) => Ok(Body::Fault(fault)),
-        None => Ok(Body::Groups(merge_groups(alloc, plan, cells)?.into_groups(alloc)?)),
+    let mut table = GroupTable::new(alloc, plan)?;
+    for k in 0..cells.len() {
+        table = table.absorb_groups(alloc, groups_in(behind(&cells[k], &deltas[k])))?;
     }
+    Ok(table)
+}
+
+/// The fault of the least row that an answer has in the cells behind their deltas.
+pub fn least_behind(cells: &[Cell<Group>], deltas: &[Cell<Group>]) -> Option<RowFault>
+    requires { length cells.now ≡ length deltas.now }
+    ensures { result ≡ least_fault (all_behind cells.now deltas.now) }
+{
+    let mut least = None;
+    let mut k = cells.len();
+    while k > 0 {
+        k -= 1;
+        least = earlier(fault_in(behind(&cells[k], &deltas[k])), least);
+    }
+    least
 }

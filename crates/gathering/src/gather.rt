@@ -1,36 +1,42 @@
 //! The coordinator: a cell for each fragment, what an answer does to it, and what is reported.
-ghost use Rattle.std.specs.Prelude.{◌≡◌, ◌⊎◌, ℕ, [], ◌∷◌, ◌++◌, List, length, replicate, IfOk, IfErr, OnOk, OnErr};
+ghost use Rattle.std.specs.Prelude.{◌≡◌, ◌⊎◌, ◌≤◌, ◌<◌, ◌^◌, ℕ, [], ◌∷◌, ◌++◌, List, length, IfOk, IfErr, OnOk, OnErr};
 ghost use Rattle.std.specs.Io.KnownBytes.{Appends};
 ghost use Rattle.meaning.specs.Said.{Answer as AnAnswer};
 ghost use Rattle.meaning.specs.Said.{Cell as ACell};
-ghost use Rattle.meaning.specs.declared.answer.Cell.TheVariants.{Nothing};
-ghost use Rattle.meaning.specs.Gather.{joined, report};
-ghost use Rattle.meaning.specs.Print.{report_text};
+ghost use Rattle.meaning.specs.Gather.{joined, preview, report};
+ghost use Rattle.meaning.specs.Print.{output_text, report_text};
+ghost use Rattle.meaning.specs.SoundPlan.{IsSoundPlan};
 ghost use Rattle.partial_codec.specs.Answer.{Spells};
 ghost use Rattle.partial_codec.specs.State.{SpellsState, state_bytes};
-ghost use Rattle.meaning.specs.SoundPlan.{IsSoundPlan};
+ghost use Rattle.gathering.specs.Fitted.{AreFitting};
 ghost use Rattle.gathering.specs.Gathering.{Takes, Joins, Refuses, RefusesState, RefusesJoin, absorbed_as};
-ghost use Rattle.gathering.specs.Report.{summary, IsPrintRefusal};
+ghost use Rattle.gathering.specs.Merging.{all_groups};
+ghost use Rattle.gathering.specs.Report.{ended_as, summary, IsPrintRefusal};
 
+use crate::changing::{change, change_all, no_answers};
 use crate::fault::GatherFault;
-use crate::joining::{all_deltas, is_same, join_all, with_answer};
-use crate::report::{Report, full_report, print_full_report, summary};
+use crate::joining::{all_deltas, delta_with, is_same, reduce_all};
+use crate::output::output_together;
+use crate::report::{Ended, FullReport, Report, ended_as, full_report, print_full_report, summary};
 use crate::same_job::is_same_job;
+use crate::totals::{Totals, totals_of};
 use aggregate_states::Group;
 use meaning::{Answer, Body, Cell};
 use partial_codec::{Job, decode, decode_state, encode_state};
 use std::alloc::{AllocError, Global};
 use std::io::Write;
 use std::marker::Model;
-use std::mem;
 use std::mem::drop;
 
 /// What a coordinator holds of a job: for each fragment of the cut nothing, one answer, or a
-/// conflict.
+/// conflict; and what the answers say together. Its type keeps one live table, which is of the
+/// groups in the cells that hold one answer, and the fault of the least row among these cells'
+/// faults.
 #[derive(Drop)]
 pub struct Gather {
     job: Job,
     cells: Vec<Cell<Group>>,
+    totals: Totals,
 }
 
 /// What became of an answer.
@@ -49,16 +55,21 @@ impl Model for Gather {
     ghost use Rattle.meaning.specs.contracts.plan.Plan as a_plan;
     ghost use Rattle.meaning.specs.contracts.answer.Group as a_group;
     ghost use Rattle.meaning.specs.contracts.answer.Cell as a_cell;
-    ghost use Rattle.gathering.specs.Gathering.{GatherSpec, IsGather};
+    ghost use Rattle.gathering.specs.Gathering.{GatherSpec, IsHeld};
+    ghost use Rattle.gathering.specs.Totals.{merges_of};
 
     ghost Value = { GatherSpec };
 
     ghost coded = { Prim.hlevel
         (codes, a_plan.the_row.coded, (a_cell.the_row a_group.the_row).coded) };
 
-    ghost view = { λ g. record { job = g.job; cells = g.cells.items } };
+    ghost view = { λ g. record {
+      job = g.job;
+      cells = g.cells.items;
+      merges = merges_of g.totals;
+    } };
 
-    ghost invariant = { λ g. IsGather (record { job = g.job; cells = g.cells.items }) };
+    ghost invariant = { λ g. IsHeld g.job g.cells.items g.totals };
 }
 
 /// What is said of an answer for a fragment of which this is held.
@@ -78,28 +89,41 @@ fn classify(held: &Cell<Group>, fragment: u32, body: &Body<Group>) -> Absorbed
     }
 }
 
-/// Nothing for each of so many fragments.
-fn no_answers(alloc: Global, fragments: usize) -> Result<Vec<Cell<Group>>, AllocError>
-    ensures { IfOk result (λ cells. cells.items ≡ replicate fragments Nothing) }
+/// A coordinator that holds these cells.
+fn holding(alloc: Global, job: Job, cells: Vec<Cell<Group>>) -> Result<Gather, AllocError>
+    requires sound { IsSoundPlan job.plan }
+    requires each { length cells.items ≡ length job.cut }
+    requires fitting { AreFitting job.plan job.cut cells.items }
+    ensures { IfOk result (λ g. g ≡ record {
+      job = job;
+      cells = cells.items;
+      merges = length (all_groups cells.items);
+    }) }
 {
-    let mut cells = Vec::new(alloc);
-    for _ in 0..fragments {
-        cells.push(Cell::Nothing)?;
+    // No effect at run time. The proof reads from this call the limits of a cut.
+    let _lengths = job.cut().lengths();
+    match totals_of(alloc, job.plan(), cells.as_slice()) {
+        Ok(totals) => Ok(Gather { job, cells, totals }),
+        Err(e) => {
+            drop(job);
+            drop(cells);
+            Err(e)
+        }
     }
-    Ok(cells)
 }
 
 impl Gather {
-    ghost use Rattle.gathering.specs.Gathering.{IsGather};
+    ghost use Rattle.gathering.specs.Gathering.{IsGather, IsHeld};
 
     /// A coordinator that has taken no answer.
     pub fn new(alloc: Global, job: Job) -> Result<Gather, AllocError>
         requires { IsSoundPlan job.plan }
         ensures job { IfOk result (λ g. g.job ≡ job) }
         ensures cells { IfOk result (λ g. g.cells ≡ joined job.cut []) }
+        ensures merges { IfOk result (λ g. g.merges ≡ 0) }
     {
         match no_answers(alloc, job.cut().lengths().len()) {
-            Ok(cells) => Ok(Gather { job, cells }),
+            Ok(cells) => holding(alloc, job, cells),
             Err(e) => {
                 drop(job);
                 Err(e)
@@ -123,6 +147,23 @@ impl Gather {
         &self.cells
     }
 
+    /// What the answers say together, as it was kept while they came.
+    pub(crate) fn totals(&self) -> &Totals
+        ensures { IsHeld self.now.job self.now.cells result.now }
+    {
+        &self.totals
+    }
+
+    /// How many groups were merged into the live table and those before it. Takes no memory.
+    pub fn merges(&self) -> u64
+        ensures value { result ≡ self.now.merges }
+        ensures few { result < 2 ^ 45 }
+    {
+        // No effect at run time. The proof reads from this call the limits of a cut.
+        let _lengths = self.job.cut().lengths();
+        self.totals.merges()
+    }
+
     /// Takes the answer that the bytes spell. The bytes' refusals are those of
     /// `partial_codec::decode`. On error nothing changes.
     pub fn absorb(&mut self, alloc: Global, bytes: &[u8]) -> Result<Absorbed, GatherFault>
@@ -137,10 +178,16 @@ impl Gather {
         ensures unchanged { OnErr result (self.new ≡ self.old) }
     {
         let Answer { k, body } = decode(alloc, &self.job, bytes)?;
-        let cell = &mut self.cells[k as usize];
-        let held = mem::replace(cell, Cell::Nothing);
-        let absorbed = classify(&held, k, &body);
-        *cell = with_answer(held, body);
+        let absorbed = classify(&self.cells[k as usize], k, &body);
+        let delta = delta_with(&self.cells[k as usize], Cell::One(body));
+        change(
+            alloc,
+            &self.job,
+            &mut self.cells,
+            &mut self.totals,
+            k,
+            delta,
+        )?;
         Ok(absorbed)
     }
 
@@ -161,8 +208,8 @@ impl Gather {
         if !is_same_job(&self.job, other.job()) {
             return Err(GatherFault::OtherJob);
         }
-        let delta = all_deltas(alloc, &self.cells, other.cells())?;
-        join_all(&mut self.cells, delta);
+        let deltas = all_deltas(alloc, &self.cells, other.cells())?;
+        change_all(alloc, &self.job, &mut self.cells, &mut self.totals, deltas)?;
         Ok(())
     }
 
@@ -175,8 +222,9 @@ impl Gather {
         ensures refused { IfErr result (RefusesState self.old.job bytes.now) }
         ensures unchanged { OnErr result (self.new ≡ self.old) }
     {
-        let cells = decode_state(alloc, &self.job, bytes)?;
-        join_all(&mut self.cells, cells);
+        let mut deltas = decode_state(alloc, &self.job, bytes)?;
+        reduce_all(&self.cells, &mut deltas);
+        change_all(alloc, &self.job, &mut self.cells, &mut self.totals, deltas)?;
         Ok(())
     }
 
@@ -199,9 +247,11 @@ impl Gather {
         ensures complete { (cells : List ACell) → SpellsState job bytes.now cells
             → IfErr result (λ e. e ≡ GatherFault.Memory) }
         ensures refused { IfErr result (RefusesState job bytes.now) }
+        // No more groups were merged than its answers have.
+        ensures merges { IfOk result (λ g. g.merges ≤ length (all_groups g.cells)) }
     {
         match decode_state(alloc, &job, bytes) {
-            Ok(cells) => Ok(Gather { job, cells }),
+            Ok(cells) => Ok(holding(alloc, job, cells)?),
             Err(fault) => {
                 drop(job);
                 Err(GatherFault::from(fault))
@@ -231,6 +281,30 @@ impl Gather {
         let full = full_report(alloc, self)?;
         match print_full_report(alloc, self.job().plan(), &full, out) {
             Ok(()) => Ok(summary(full)),
+            Err(fault) => {
+                drop(full);
+                Err(GatherFault::from(fault))
+            }
+        }
+    }
+
+    /// Prints what the answers say together, as if the fragments that hold one were all, and says
+    /// whether it is rows or a fault. What a failed writer let out is open; any other refusal
+    /// leaves `out` as it was.
+    pub fn preview<W: Write>(&self, alloc: Global, out: &mut W) -> Result<Ended, GatherFault>
+        ensures printed { OnOk result (Appends (W.contents out.old) (W.contents out.new)
+            (output_text self.now.job.plan (preview self.now.job.plan self.now.cells))) }
+        ensures value { IfOk result
+            (λ e. e ≡ ended_as (preview self.now.job.plan self.now.cells)) }
+        ensures refused { IfErr result IsPrintRefusal }
+        ensures quiet { IfErr result (λ e. (e ≡ GatherFault.Writer)
+            ⊎ (W.contents out.new ≡ W.contents out.old)) }
+    {
+        let output = output_together(alloc, self)?;
+        let ended = ended_as(&output);
+        let full = FullReport::Output(output);
+        match print_full_report(alloc, self.job().plan(), &full, out) {
+            Ok(()) => Ok(ended),
             Err(fault) => {
                 drop(full);
                 Err(GatherFault::from(fault))

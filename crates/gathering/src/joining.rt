@@ -10,6 +10,7 @@ use aggregate_states::Group;
 use meaning::{Body, Cell};
 use std::alloc::{AllocError, Global};
 use std::mem;
+use std::mem::drop;
 
 /// Whether two answers are equal.
 pub fn is_same(a: &Body<Group>, b: &Body<Group>) -> bool
@@ -60,6 +61,55 @@ fn conflict_unless(is_known: bool) -> Cell<Group>
         Cell::Nothing
     } else {
         Cell::Conflict
+    }
+}
+
+/// The same where the other is given up, which takes no memory.
+pub fn delta_with(own: &Cell<Group>, other: Cell<Group>) -> Cell<Group>
+    ensures { result ≡ delta_of own.now other }
+{
+    match own {
+        Cell::Nothing => other,
+        Cell::One(known) => delta_to(known, other),
+        Cell::Conflict => {
+            drop(other);
+            Cell::Nothing
+        }
+    }
+}
+
+fn delta_to(known: &Body<Group>, other: Cell<Group>) -> Cell<Group>
+    ensures { result ≡ delta_of (One known.now) other }
+{
+    match other {
+        Cell::Nothing => Cell::Nothing,
+        Cell::One(said) => {
+            let is_known = is_same(known, &said);
+            drop(said);
+            conflict_unless(is_known)
+        }
+        Cell::Conflict => Cell::Conflict,
+    }
+}
+
+/// What is new of a cell, in place of it.
+fn reduce_at(others: &mut Vec<Cell<Group>>, k: usize, own: &Cell<Group>)
+    requires { k < length others.old.items }
+    ensures { others.new.items
+        ≡ slice_set others.old.items k (delta_of own.now (slice_index_or others.old.items k Nothing)) }
+{
+    let cell = &mut others[k];
+    let other = mem::replace(cell, Cell::Nothing);
+    *cell = delta_with(own, other);
+}
+
+/// What is new of each cell, in place of these.
+pub fn reduce_all(own: &[Cell<Group>], others: &mut Vec<Cell<Group>>)
+    requires { length own.now ≡ length others.old.items }
+    ensures { others.new.items ≡ all_deltas own.now others.old.items }
+{
+    for k in 0..own.len() {
+        reduce_at(others, k, &own[k]);
     }
 }
 

@@ -1,6 +1,7 @@
 //! Gathering the answers of fragments, and reporting what they say together.
 #![tactic(auto)]
 
+mod changing;
 mod combining;
 mod copying;
 mod fault;
@@ -11,6 +12,7 @@ mod lines;
 mod output;
 mod report;
 mod same_job;
+mod totals;
 
 pub use fault::GatherFault;
 pub use gather::{Absorbed, Gather};

@@ -2,23 +2,19 @@
 ghost use Rattle.std.specs.Prelude.{◌≡◌, ◌≤◌, ◌⊎◌, length, IfErr, IfOk, OnOk};
 ghost use Rattle.std.specs.Io.KnownBytes.{Appends};
 ghost use Rattle.meaning.specs.Limits.{max_fragments};
-ghost use Rattle.meaning.specs.Gather.{fragments_where, report, preview};
+ghost use Rattle.meaning.specs.Gather.{fragments_where, report};
 ghost use Rattle.meaning.specs.Print.{output_text, report_text};
 ghost use Rattle.gathering.specs.Output.{IsPrintable, output_in};
-ghost use Rattle.gathering.specs.Fitted.{AreFitting};
-ghost use Rattle.meaning.specs.SoundPlan.{IsSoundPlan};
 ghost use Rattle.gathering.specs.Report.{has_obstacle, report_in, ended_as, summary, IsReportable};
 
-use crate::combining::combine;
 use crate::gather::Gather;
 use crate::lines::{print_fault, print_fragments, print_row_fault};
-use crate::output::{Output, output_of};
+use crate::output::{Output, output_together};
 use aggregate_states::Group;
 use last_step::{Finished, PrintFault, print_rows};
-use meaning::{Cell, Cut, Plan, Sequence};
+use meaning::{Cell, Plan, Sequence};
 use std::alloc::{AllocError, Global};
 use std::io::Write;
-use std::mem::drop;
 
 /// Which of these a coordinator would print. Fragments ascend.
 #[derive(Drop)]
@@ -82,60 +78,22 @@ fn fragments_with(
     Ok(fragments)
 }
 
-/// What the answers say together.
-fn output_of_cells(
-    alloc: Global,
-    plan: &Plan,
-    cut: &Cut,
-    cells: &[Cell<Group>],
-) -> Result<Output, AllocError>
-    requires plan { IsSoundPlan plan.now }
-    requires each { length cells.now ≡ length cut.now }
-    requires fitting { AreFitting plan.now cut.now cells.now }
-    ensures value { IfOk result (λ o. output_in o ≡ preview plan.now cells.now) }
-    ensures printable { IfOk result (IsPrintable plan.now) }
-{
-    let body = combine(alloc, plan, cut, cells)?;
-    let output = output_of(alloc, plan, &body);
-    drop(body);
-    output
-}
-
-/// What is to be printed of the cells.
-fn full_report_of_cells(
-    alloc: Global,
-    plan: &Plan,
-    cut: &Cut,
-    cells: &[Cell<Group>],
-) -> Result<FullReport, AllocError>
-    requires plan { IsSoundPlan plan.now }
-    requires each { length cells.now ≡ length cut.now }
-    requires fitting { AreFitting plan.now cut.now cells.now }
-    requires few { length cells.now ≤ max_fragments }
-    ensures value { IfOk result (λ f. report_in f ≡ report plan.now cells.now) }
-    ensures printable { IfOk result (IsReportable plan.now) }
-{
-    let conflicts = fragments_with(alloc, Obstacle::Conflict, cells)?;
-    if conflicts.len() > 0 {
-        return Ok(FullReport::Conflict(conflicts));
-    }
-    let missing = fragments_with(alloc, Obstacle::NoAnswer, cells)?;
-    if missing.len() > 0 {
-        return Ok(FullReport::Missing(missing));
-    }
-    Ok(FullReport::Output(output_of_cells(alloc, plan, cut, cells)?))
-}
-
 /// What is to be printed.
 pub fn full_report(alloc: Global, gather: &Gather) -> Result<FullReport, AllocError>
     ensures value { IfOk result (λ f. report_in f ≡ report gather.now.job.plan gather.now.cells) }
     ensures printable { IfOk result (IsReportable gather.now.job.plan) }
 {
-    let cells = gather.cells();
-    let cut = gather.job().cut();
     // No effect at run time. The proof reads from this call the limits of a cut.
-    let _lengths = cut.lengths();
-    full_report_of_cells(alloc, gather.job().plan(), cut, cells)
+    let _lengths = gather.job().cut().lengths();
+    let conflicts = fragments_with(alloc, Obstacle::Conflict, gather.cells())?;
+    if conflicts.len() > 0 {
+        return Ok(FullReport::Conflict(conflicts));
+    }
+    let missing = fragments_with(alloc, Obstacle::NoAnswer, gather.cells())?;
+    if missing.len() > 0 {
+        return Ok(FullReport::Missing(missing));
+    }
+    Ok(FullReport::Output(output_together(alloc, gather)?))
 }
 
 fn print_output<W: Write>(
@@ -205,7 +163,8 @@ pub fn print_full_report<W: Write>(
     }
 }
 
-fn ended_as(output: &Output) -> Ended
+/// Whether it is rows or a fault.
+pub fn ended_as(output: &Output) -> Ended
     ensures { result ≡ ended_as (output_in output.now) }
 {
     match output {

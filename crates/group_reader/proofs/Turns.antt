@@ -1,7 +1,9 @@
 -- A reader's turns: what was to come, and what is to come behind it.
-use Rattle.std.specs.Prelude.{◌≡◌, ℕ, suc, ◌+◌, ◌-◌, ◌≤◌, ◌<◌, Bool, true, false, List, [], ◌∷◌, length, map, Option, Some, None, option_map, is_some, Ok, Err}
+use Rattle.std.specs.Prelude.{◌≡◌, nat_lt, if◌then◌else◌, ℕ, suc, ◌+◌, ◌-◌, ◌≤◌, ◌<◌, Bool, true, false, List, [], ◌∷◌, length, map, Option, Some, None, option_map, is_some, Ok, Err}
 use Rattle.std.proofs.Common.{refl, sym, ap, subst, ◌∙◌, arith}
+use Rattle.std.proofs.lemmas.Bool.{ltb-false}
 use Rattle.meaning.specs.declared.catalog.Column.{Column}
+use Rattle.meaning.specs.Limits.{row_group_rows}
 use Rattle.blocks.specs.Block.{Block}
 use Rattle.fragment_file.specs.declared.fault.FileFault.{FileFault}
 use Rattle.fragment_file.specs.declared.header.Header.{Header}
@@ -31,6 +33,35 @@ open_coming known old g c same may coming =
 
 sizes_now : (left rows : ℕ) → 0 < left → rows ≡ first_size left → group_sizes left ≡ rows ∷ group_sizes (left - rows)
 sizes_now left rows some is = rw is (sizes_step left some)
+
+blocks_rows : (columns : List Column) (rows : ℕ) (blocks : List Block) → 1 ≤ length columns → AreBlocks columns rows blocks → rows_of blocks ≡ rows
+blocks_rows [] rows blocks some are = absurd (omega (arith, some))
+blocks_rows (c ∷ cs) rows [] some are = absurd are
+blocks_rows (c ∷ cs) rows (b ∷ bs) some are = are.0.rows
+
+-- the next row group has no more rows than are left
+pub first_within : (left rows : ℕ) → rows ≡ first_size left → rows ≤ left
+first_within left rows is =
+    elim (nat_lt left row_group_rows) as (λ b. nat_lt left row_group_rows ≡ b → rows ≤ left) [
+      | true ↦ λ e. (let all : rows ≡ left = is ∙ ap (λ (b : Bool). if b then left else row_group_rows) e in omega (arith, all))
+      | false ↦ λ e. (let full : rows ≡ row_group_rows = is ∙ ap (λ (b : Bool). if b then left else row_group_rows) e in let many = ltb-false _ _ e in omega (arith, full, many))
+    ] refl
+
+first_some : (left rows : ℕ) → 0 < left → rows ≡ first_size left → 1 ≤ rows
+first_some left rows more is =
+    elim (nat_lt left row_group_rows) as (λ b. nat_lt left row_group_rows ≡ b → 1 ≤ rows) [
+      | true ↦ λ e. (let all : rows ≡ left = is ∙ ap (λ (b : Bool). if b then left else row_group_rows) e in omega (arith, all, more))
+      | false ↦ λ e. (let full : rows ≡ row_group_rows = is ∙ ap (λ (b : Bool). if b then left else row_group_rows) e in omega (arith, full))
+    ] refl
+
+-- a row group of that many rows, and those that are left behind it
+pub counts_group : (columns : List Column) (left rows : ℕ) (bytes : List ℕ) (locations : List BlockLocation) → 1 ≤ length columns → 0 < left → rows ≡ first_size left → AreLocated columns rows bytes locations
+    → (1 ≤ rows_of (map (block_in bytes) locations)) × (left ≡ rows_of (map (block_in bytes) locations) + (left - rows))
+counts_group columns left rows bytes locations some more is are =
+    let within = first_within left rows is in
+    let one = first_some left rows more is in
+    let count : rows_of (map (block_in bytes) locations) ≡ rows = blocks_rows columns rows (map (block_in bytes) locations) some are.blocks in
+    (omega (arith, one, count), omega (arith, within, count))
 
 abbrev pub after_group : ℕ → List Column → ℕ → ℕ → List ℕ → List ℕ → Coming
 after_group came columns left rows all rest = coming_at (came + 1) columns (group_sizes (left - rows)) all rest
@@ -62,11 +93,6 @@ blocks_length [] rows [] are = refl
 blocks_length [] rows (b ∷ bs) are = absurd are
 blocks_length (c ∷ cs) rows [] are = absurd are
 blocks_length (c ∷ cs) rows (b ∷ bs) are = ap suc (blocks_length cs rows bs are.1)
-
-blocks_rows : (columns : List Column) (rows : ℕ) (blocks : List Block) → 1 ≤ length columns → AreBlocks columns rows blocks → rows_of blocks ≡ rows
-blocks_rows [] rows blocks some are = absurd (omega (arith, some))
-blocks_rows (c ∷ cs) rows [] some are = absurd are
-blocks_rows (c ∷ cs) rows (b ∷ bs) some are = are.0.rows
 
 pub located_count : (columns : List Column) (rows : ℕ) (bytes : List ℕ) (locations : List BlockLocation) → AreLocated columns rows bytes locations → length (map (block_in bytes) locations) ≡ length columns
 located_count columns rows bytes locations are = blocks_length columns rows (map (block_in bytes) locations) are.blocks

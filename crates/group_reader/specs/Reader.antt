@@ -1,5 +1,5 @@
 -- A reader of row groups, and what it does.
-use Rattle.std.specs.Prelude.{◌≡◌, ◌≢◌, ℕ, ◌+◌, ◌≤◌, Bool, true, false, List, [], ◌∷◌, Option, Some, None, is_some, Result, Ok, Err, IfOk, IfErr, OnErr}
+use Rattle.std.specs.Prelude.{◌≡◌, ◌≢◌, ℕ, ◌+◌, ◌≤◌, Bool, true, false, List, [], ◌∷◌, Option, Some, None, is_some, Result, Ok, Err, IfOk, IfErr, IfSome, OnErr}
 use Rattle.meaning.specs.Limits.{max_rows}
 use Rattle.blocks.specs.Block.{Block}
 use Rattle.fragment_file.specs.declared.fault.FileFault.{FileFault}
@@ -7,6 +7,7 @@ use Rattle.fragment_file.specs.declared.fault.FileFault.TheVariants.{Memory, Dev
 use Rattle.fragment_file.specs.declared.header.Header.{Header}
 use Rattle.fragment_file.specs.declared.view.BlockLocation.{BlockLocation}
 use Rattle.fragment_file.specs.Fragment.{IsHeader, group_sizes}
+use Rattle.fragment_file.specs.View.{rows_of}
 use Rattle.group_reader.specs.declared.source.Source.{Source}
 use Rattle.group_reader.specs.declared.standing.Standing.{Standing}
 use Rattle.group_reader.specs.declared.standing.Standing.TheVariants.{Between, AtGroup, AtEnd, Refused}
@@ -36,11 +37,19 @@ IsStanding AtGroup header bytes locations = (rows : ℕ) × (1 ≤ rows) × AreL
 IsStanding AtEnd header bytes locations = Unit {0}
 IsStanding (Refused e) header bytes locations = Unit {0}
 
+-- at the end no row is left
+abbrev pub IsOver : Standing → ℕ → Type 0
+IsOver Between left = Unit {0}
+IsOver AtGroup left = Unit {0}
+IsOver AtEnd left = left ≡ 0
+IsOver (Refused e) left = Unit {0}
+
 -- what holds of every reader
 pub record IsReader (h : Header) (came left : ℕ) (standing : Standing) (bytes : List ℕ) (locations : List BlockLocation) : Type 0 where
   pub header : IsHeader h
   pub few : came + left ≤ max_rows
   pub stands : IsStanding standing h bytes locations
+  pub over : IsOver standing left
 
 -- a reader that may have more to give
 abbrev pub IsOpen : Standing → Type 0
@@ -89,6 +98,11 @@ abbrev pub IsThere : Bool → Option (List Block) → Type 0
 IsThere true current = (group : List Block) × (current ≡ Some group)
 IsThere false current = current ≡ None
 
+-- of the rows that were left the row group that came has the first, and at least one; at the end none was left
+abbrev pub Counts : Bool → ℕ → ℕ → Option (List Block) → Type 0
+Counts true old new current = IfSome current (λ group. (1 ≤ rows_of group) × (old ≡ rows_of group + new))
+Counts false old new current = (old ≡ 0) × (new ≡ 0)
+
 -- a reader of these bytes was opened, or the first thing that is wrong with their front was told
 abbrev pub Opens : {R : Type 0} → (R → Option (List ℕ)) → List ℕ → Result (ReaderSpec R) FileFault → Type 0
 Opens known bytes (Ok g) = (rest : List ℕ) × (header_read bytes ≡ Ok (g.header, rest)) × IsComing known g (coming_behind bytes g.header rest)
@@ -99,6 +113,7 @@ pub record Advances {R : Type 0} (known : R → Option (List ℕ)) (old new : Re
   pub same : new.header ≡ old.header
   pub told : (c : Coming) → IsComing known old c → GoesOn known new c r
   pub stands : IfOk r (λ more. IsThere more new.current)
+  pub counted : IfOk r (λ more. Counts more old.left new.left new.current)
   pub refused : IfErr r (λ e. refused_in new ≡ Some e)
   pub none : OnErr r (new.current ≡ None)
   pub again : (e : FileFault) → refused_in old ≡ Some e → (r ≡ Err e) × (new ≡ old)

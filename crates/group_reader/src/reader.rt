@@ -7,7 +7,7 @@ ghost use Rattle.fragment_file.specs.Fragment.{AreBlocks, IsHeader};
 ghost use Rattle.fragment_file.specs.Lent.{AreTypedBlocks, blocks_in};
 ghost use Rattle.fragment_file.specs.View.{IsGroupAt, block_in, rows_of};
 ghost use Rattle.group_reader.specs.Coming.{Coming};
-ghost use Rattle.group_reader.specs.Reader.{Advances, GoesOn, IsComing, IsFirst, IsOpen, IsThere, Opens, lends, refused_in};
+ghost use Rattle.group_reader.specs.Reader.{Advances, Counts, GoesOn, IsComing, IsFirst, IsOpen, IsThere, Opens, lends, refused_in};
 ghost use Rattle.group_reader.specs.contracts.reader.GroupReader.{the_row};
 
 use crate::ending::read_end;
@@ -75,6 +75,7 @@ impl<R: Read + Drop> GroupReader<R> {
     /// What is wrong first with the front of the file; the reader's; out of memory.
     pub fn open(alloc: Global, reader: R) -> Result<GroupReader<R>, FileFault>
         ensures before { IfOk result (λ g. g.current ≡ None) }
+        ensures left { IfOk result (λ g. g.left ≡ g.header.rows) }
         ensures opened { (bytes : List ℕ) → R.remaining reader ≡ Some bytes
             → Opens R.remaining bytes result }
     {
@@ -118,6 +119,8 @@ impl<R: Read + Drop> GroupReader<R> {
         ensures told { (c : Coming) → IsComing R.remaining self.old c
             → GoesOn R.remaining self.new c result }
         ensures stands { IfOk result (λ more. IsThere more self.new.current) }
+        ensures counted { IfOk result
+            (λ more. Counts more self.old.left self.new.left self.new.current) }
     {
         self.standing = Standing::Between;
         if self.left == 0 {
@@ -147,6 +150,8 @@ impl<R: Read + Drop> GroupReader<R> {
         ensures told { (c : Coming) → IsComing R.remaining self.old c
             → GoesOn R.remaining self.new c result }
         ensures stands { IfOk result (λ more. IsThere more self.new.current) }
+        ensures counted { IfOk result
+            (λ more. Counts more self.old.left self.new.left self.new.current) }
         ensures refused { IfErr result (λ e. refused_in self.new ≡ Some e) }
         ensures none { OnErr result (self.new.current ≡ None) }
     {
@@ -171,6 +176,8 @@ impl<R: Read + Drop> GroupReader<R> {
         ensures told { (c : Coming) → IsComing R.remaining self.old c
             → GoesOn R.remaining self.new c result }
         ensures stands { IfOk result (λ more. IsThere more self.new.current) }
+        ensures counted { IfOk result
+            (λ more. Counts more self.old.left self.new.left self.new.current) }
         ensures refused { IfErr result (λ e. refused_in self.new ≡ Some e) }
         ensures none { OnErr result (self.new.current ≡ None) }
         ensures again { (e : AFault) → refused_in self.old ≡ Some e

@@ -1,12 +1,10 @@
-//! Tests of expressions over rows, aggregates, tables of groups and the last step.
+//! Tests of aggregates, tables of groups and the last step.
 #![tactic(auto)]
 
 #[cfg(test)]
 mod aggregate_tests;
 #[cfg(test)]
 mod column_tests;
-#[cfg(test)]
-mod eval_tests;
 #[cfg(test)]
 mod finish_tests;
 #[cfg(test)]

@@ -1,9 +1,11 @@
 -- What is known of a fragment that is given.
-use Rattle.std.specs.Prelude.{◌≡◌, ℕ, ◌==◌, nat_lt, Bool, true, false, List, length, Result, Ok, Err}
-use Rattle.std.proofs.Common.{refl, ap, subst}
+use Rattle.std.specs.Prelude.{◌≡◌, ℕ, ◌==◌, nat_lt, Bool, true, false, if◌then◌else◌, List, length, Option, Some, None, Result, Ok, Err}
+use Rattle.std.proofs.Common.{refl, ap, sym, subst, ◌∙◌}
 use Rattle.std.proofs.lemmas.Bool.{eqb-true, ltb-true}
 use Rattle.meaning.proofs.Tests.{first_of, second_of}
 use Rattle.meaning.specs.VectorLength.{is_vector_length}
+use Rattle.fragment_file.specs.Rows.{RowGroup}
+use Rattle.fragment_file.specs.declared.header.Header.{Header}
 use Rattle.fragment_file.specs.Fragment.{FragmentSpec}
 use Rattle.fragment_file.specs.FragmentReading.{read_fragment}
 use Rattle.partial_codec.specs.Job.{JobSpec}
@@ -11,7 +13,7 @@ use Rattle.wire.specs.Reading.{◌>>=◌, same_bytes}
 use Rattle.job_files.specs.declared.fault.WorkFault.{WorkFault}
 use Rattle.job_files.specs.declared.fault.WorkFault.TheVariants.{OtherFile, OtherColumn, VectorLength}
 use Rattle.job_files.specs.Files.{HasColumns, has_columns, is_fragment_of}
-use Rattle.job_files.specs.Inputs.{InputSpec, IsInput, dimension_files_of, from_file, fragment_file_of, input_of, length_of, provided}
+use Rattle.job_files.specs.Inputs.{InputSpec, IsInput, dimension_files_of, from_file, fragment_file_of, header_fault, input_of, length_of, provided}
 
 pub goes_there : {X Y : Type 0} (r : Result X WorkFault) (k : X → Result Y WorkFault) (z : Y) → (r >>= k) ≡ Ok z → (x : X) × (r ≡ Ok x) × (k x ≡ Ok z)
 goes_there (Err e) k z is = absurd cc
@@ -40,6 +42,27 @@ input_is job k f named columns =
       first = eqb-true f.header.first_row _ (first_of _ _ numbers);
       rows = eqb-true f.header.rows _ (second_of _ _ numbers);
     }
+
+abbrev no_fault : Option WorkFault
+no_fault = None
+
+none_is : (e : WorkFault) → no_fault ≡ Some e → ⊥
+none_is e is = cc
+
+-- a header at which nothing is wrong
+pub header_given : (job : JobSpec) (k : ℕ) (h : Header) (groups : List RowGroup) → header_fault job k h ≡ None → IsInput job k (record { header = h; groups = groups })
+header_given job k h groups none =
+    elim (is_fragment_of job k h) as (λ b. is_fragment_of job k h ≡ b → IsInput job k (record { header = h; groups = groups })) [
+      | true ↦ λ named. with_columns named (sym (ap (λ (b : Bool). if b then (if has_columns job.plan.fact h then None else Some OtherColumn) else Some OtherFile) named) ∙ none)
+      | false ↦ λ named. absurd (none_is OtherFile (sym none ∙ ap (λ (b : Bool). if b then (if has_columns job.plan.fact h then None else Some OtherColumn) else Some OtherFile) named))
+    ] refl
+  where
+    with_columns : is_fragment_of job k h ≡ true → (if has_columns job.plan.fact h then None else Some OtherColumn) ≡ None → IsInput job k (record { header = h; groups = groups })
+    with_columns named has =
+        elim (has_columns job.plan.fact h) as (λ b. has_columns job.plan.fact h ≡ b → IsInput job k (record { header = h; groups = groups })) [
+          | true ↦ λ columns. input_is job k (record { header = h; groups = groups }) named columns
+          | false ↦ λ columns. absurd (none_is OtherColumn (sym has ∙ ap (λ (b : Bool). if b then None else Some OtherColumn) columns))
+        ] refl
 
 pub fragment_is : (job : JobSpec) (k : ℕ) (bytes : List ℕ) (f : FragmentSpec) → fragment_file_of job k bytes ≡ Ok f → IsInput job k f
 unfolding fragment_file_of

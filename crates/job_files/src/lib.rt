@@ -10,4 +10,4 @@ mod refusals;
 pub use dimensions::{Dimension, open_dimensions};
 pub use fault::WorkFault;
 pub use lending::lend_files;
-pub use refusals::{check_length, open_fragment};
+pub use refusals::{check_length, judge_fragment};

@@ -5,7 +5,7 @@ ghost use Rattle.meaning.specs.Typing.{same_type};
 ghost use Rattle.meaning.specs.Wanting.{GivesIfMemory};
 ghost use Rattle.wire.specs.Reading.{same_bytes};
 ghost use Rattle.job_files.specs.Files.{HasColumns, has_columns, is_column, is_dimension_of, is_fragment_of};
-ghost use Rattle.job_files.specs.Inputs.{fragment_file_of, length_of, table_file_of};
+ghost use Rattle.job_files.specs.Inputs.{header_fault, length_of, table_file_of};
 
 use crate::fault::WorkFault;
 use fragment_file::{FragmentView, Header, open};
@@ -84,33 +84,18 @@ fn is_fragment(job: &Job, k: u32, header: &Header) -> bool
         && header.rows == lengths[fragment]
 }
 
-/// The file of the job's fragment `k`.
-///
-/// # Errors
-///
-/// Out of memory; else the first of: a file fault; another file; another column than the plan's.
-#[tactic(auto, unfolding(crate::specs::Inputs::fragment_file_of))]
-pub fn open_fragment<'a>(
-    alloc: Global,
-    job: &Job,
-    k: u32,
-    bytes: &'a [u8],
-) -> Result<FragmentView<'a>, WorkFault>
-    ensures read { GivesIfMemory WorkFault.Memory (λ v. v) result
-        (fragment_file_of job.now k bytes.now) }
-    ensures typed { IfOk result (λ v. AreTypedColumns v) }
-    ensures columns { IfOk result (λ v. HasColumns job.now.plan.fact v.header) }
+/// What keeps a file with this header from being that of the job's fragment `k`: that it isn't the one
+/// that the job names, else a column that the plan uses and that isn't in its place.
+pub fn judge_fragment(job: &Job, k: u32, header: &Header) -> Option<WorkFault>
+    ensures { result ≡ header_fault job.now k header.now }
 {
-    let view = open(alloc, bytes)?;
-    if !is_fragment(job, k, view.header()) {
-        drop(view);
-        return Err(WorkFault::OtherFile);
+    if !is_fragment(job, k, header) {
+        return Some(WorkFault::OtherFile);
     }
-    if !has_all_columns(&job.plan().fact, view.header()) {
-        drop(view);
-        return Err(WorkFault::OtherColumn);
+    if !has_all_columns(&job.plan().fact, header) {
+        return Some(WorkFault::OtherColumn);
     }
-    Ok(view)
+    None
 }
 
 /// Whether the file is that of all rows of the job's dimension.

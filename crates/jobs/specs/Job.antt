@@ -1,9 +1,7 @@
 -- The job of a query over what lies in a folder, and why there is none.
 use Rattle.std.specs.Prelude.{◌≡◌, ◌≢◌, ◌⊎◌, ℕ, List, Ok, Err}
-use Rattle.catalog_reader.specs.CatalogText.{catalog_of}
 use Rattle.meaning.specs.Cut.{Cut}
 use Rattle.meaning.specs.declared.catalog.Catalog.{Catalog}
-use Rattle.meaning.specs.declared.catalog.CatalogFault.{CatalogFault}
 use Rattle.fragment_file.specs.CutFile.{IsCutFileOf, read_cut_file}
 use Rattle.fragment_file.specs.declared.fault.FileFault.{FileFault}
 use Rattle.sql_reader.specs.Grammar.{IsRefusal}
@@ -13,17 +11,12 @@ use Rattle.planner_expressions.specs.declared.fault.PlanFault.{PlanFault}
 use Rattle.partial_codec.specs.Job.{IsJob, JobSpec}
 use Rattle.planner.specs.QueryText.{IsPlanned}
 use Rattle.folders.specs.Folder.{AreHeld, Holds, catalog_path, cut_path}
+use Rattle.folders.specs.Tables.{IsCatalogRefused, IsCatalogThere}
 use Rattle.folders.specs.Refused.{IsUnread}
 use Rattle.folders.specs.declared.refusal.Refusal.{Refusal}
 use Rattle.folders.specs.declared.refusal.Refusal.TheVariants as refusal
 
 -- ---- what lies there
-
--- the catalogue that the folder's file declares
-pub record IsCatalogThere (holds : Holds) (folder : List ℕ) (catalog : Catalog) : Type 0 where
-  pub bytes : List ℕ
-  pub held : AreHeld (holds (catalog_path folder)) bytes
-  pub declared : catalog_of bytes ≡ Ok catalog
 
 -- the load and the cut that the folder's file of the cut spells
 pub record IsCutThere (holds : Holds) (folder : List ℕ) (load : ℕ) (cut : Cut) : Type 0 where
@@ -44,11 +37,6 @@ pub record IsJobOf (holds : Holds) (folder query : List ℕ) (job : JobSpec) : T
   pub over : IsJobOver holds folder catalog query job
 
 -- ---- why there is none
-
--- the catalogue can't be read, or it declares no tables
-abbrev pub IsCatalogRefused : Holds → List ℕ → Refusal → Type 0
-IsCatalogRefused holds folder e = IsUnread (catalog_path folder) e
-    ⊎ ((bytes : List ℕ) × (fault : CatalogFault) × AreHeld (holds (catalog_path folder)) bytes × (catalog_of bytes ≡ Err fault) × (e ≡ refusal.Catalog fault))
 
 -- the file of the cut can't be read, or it is none
 abbrev pub IsCutRefused : Holds → List ℕ → Refusal → Type 0

@@ -3,24 +3,15 @@ ghost use Rattle.std.specs.Prelude.{◌≡◌, IfErr, IfOk};
 ghost use Rattle.meaning.specs.Catalog.{IsWellFormed};
 ghost use Rattle.meaning.specs.SoundPlan.{IsSoundPlan};
 ghost use Rattle.planner.specs.QueryText.{IsPlanned};
-ghost use Rattle.jobs.specs.Job.{IsCatalogRefused, IsCatalogThere, IsCutRefused, IsCutThere, IsJobOf, IsJobOver, IsJobRefused, IsQueryRefused, IsRefusedOver};
+ghost use Rattle.jobs.specs.Job.{IsCutRefused, IsCutThere, IsJobOf, IsJobOver, IsJobRefused, IsQueryRefused, IsRefusedOver};
 
-use catalog_reader::read_catalog;
-use folders::{Folder, Refusal, cut_path, read_catalog_file, read_file};
+use folders::{Folder, Refusal, cut_path, read_file, read_tables};
 use fragment_file::read_cut;
 use meaning::{Catalog, Cut, Plan};
 use partial_codec::Job;
 use planner::{QueryFault, plan_query};
 use std::alloc::Global;
 use std::mem::drop;
-
-fn read_tables<F: Folder>(alloc: Global, folder: &F, directory: &str) -> Result<Catalog, Refusal>
-    ensures there { IfOk result (IsCatalogThere (F.holds folder.now) directory.now) }
-    ensures refused { IfErr result (IsCatalogRefused (F.holds folder.now) directory.now) }
-{
-    let bytes = read_catalog_file(alloc, folder, directory)?;
-    Ok(read_catalog(alloc, bytes.as_slice())?)
-}
 
 /// The number of the load, and the cut.
 fn read_load<F: Folder>(alloc: Global, folder: &F, directory: &str) -> Result<(u64, Cut), Refusal>

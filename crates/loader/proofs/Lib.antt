@@ -8,6 +8,7 @@ pub mod FactSteps
 pub mod Fields
 pub mod Fragments
 pub mod Handing
+pub mod HeaderColumns
 pub mod InOrder
 pub mod Integers
 pub mod Judging
@@ -15,6 +16,7 @@ pub mod KeySets
 pub mod KeyedRows
 pub mod Lines
 pub mod Marks
+pub mod Ranges
 pub mod RowRuns
 pub mod Shapes
 pub mod Steps

@@ -37,7 +37,7 @@ value_text row column c field v e =
       | false ↦ λ wrong. cc wrong
     ] e
 
-column_there : (columns : List Column) (index : ℕ) → index < length columns → (c : Column) × (slice_get columns index ≡ Some c)
+pub column_there : (columns : List Column) (index : ℕ) → index < length columns → (c : Column) × (slice_get columns index ≡ Some c)
 column_there [] index h = absurd (omega arith)
 column_there (c ∷ columns) zero h = (c, refl)
 column_there (c ∷ columns) (suc index) h = column_there columns index (omega arith)

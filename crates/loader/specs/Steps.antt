@@ -1,5 +1,5 @@
 -- The steps from records to columns.
-use Rattle.std.specs.Prelude.{◌≡◌, ℕ, ◌<◌, ◌^◌, ◌+◌, ◌==◌, nat_lt, if◌then◌else◌, List, [], ◌∷◌, map, zip, length, take, drop, sum, position, unwrap_or, Option, Some, is_some, Result, Ok, Err, Bool, true, false, ⊤}
+use Rattle.std.specs.Prelude.{◌≡◌, ℕ, ◌<◌, ◌^◌, ◌+◌, ◌==◌, nat_lt, if◌then◌else◌, List, [], ◌∷◌, map, zip, length, take, drop, sum, count_by, position, unwrap_or, Option, Some, is_some, Result, Ok, Err, Bool, true, false, ⊤}
 use Rattle.std.specs.List.{range_with_len, enumerate_from, list_all}
 use Rattle.std.specs.Str.Parse.{IsNumeral, digits_value}
 use Rattle.meaning.specs.declared.value.Value.{Value}
@@ -8,7 +8,7 @@ use Rattle.meaning.specs.declared.catalog.Column.{Column}
 use Rattle.meaning.specs.declared.table.TableFault.{TableFault}
 use Rattle.meaning.specs.declared.table.TableFault.TheVariants as fault
 use Rattle.meaning.specs.Order.{Row}
-use Rattle.meaning.specs.Records.{Record, is_header, file_order, judged_record, row_of}
+use Rattle.meaning.specs.Records.{Record, is_header, names, file_order, judged_record, row_of}
 use Rattle.meaning.specs.Results.{all_ok, and_then}
 use Rattle.csv.specs.declared.reader.Reader.{Reader}
 use Rattle.columns.specs.Column.{ColumnSpec, with_value}
@@ -19,6 +19,10 @@ use Rattle.columns.specs.Rows.{columns_of}
 use Rattle.loader.specs.Columns.{with_row}
 use Rattle.loader.specs.declared.field.Parsed.{Parsed}
 use Rattle.loader.specs.declared.field.Parsed.TheVariants as parsed
+
+-- a field names just one of the columns
+unfoldable pub names_one : List Column → List ℕ → Bool
+names_one columns field = count_by (λ column. names field column) columns == 1
 
 -- the columns of the fields, if the record is a header
 abbrev pub order_of : List Column → Record → Result (List ℕ) TableFault

@@ -5,7 +5,7 @@ ghost use Rattle.csv.specs.Records.{fields_of};
 ghost use Rattle.meaning.specs.Records as declared;
 ghost use Rattle.meaning.specs.Wanting.{ReportsIfMemory};
 ghost use Rattle.loader.specs.Fault.{fault_returned};
-ghost use Rattle.loader.specs.Steps.{inverse_order, has_each, is_in_order, order_of};
+ghost use Rattle.loader.specs.Steps.{inverse_order, has_each, is_in_order, names_one, order_of};
 
 use crate::fault::LoadFault;
 use csv::ByteRecord;
@@ -68,10 +68,35 @@ fn are_named_once(columns: &[Column], header: &[&[u8]]) -> bool
     columns.iter().all(|column| is_named_once(column, header))
 }
 
+#[tactic(auto, unfolding(crate::specs::Steps::names_one))]
+fn names_one(columns: &[Column], field: &[u8]) -> bool
+    ensures { result ≡ names_one columns.now field.now }
+{
+    columns.iter().filter(|column| names(field, column)).count() == 1
+}
+
+fn single_names(columns: &[Column], header: &[&[u8]]) -> usize
+    ensures { result ≡ count_by (names_one columns.now) (map (λ field. field.now) header.now) }
+{
+    header
+        .iter()
+        .filter(|field| names_one(columns, field))
+        .count()
+}
+
+fn name_one_each(columns: &[Column], header: &[&[u8]]) -> bool
+    ensures { result ≡ list_all (names_one columns.now) (map (λ field. field.now) header.now) }
+{
+    single_names(columns, header) == header.len()
+}
+
+#[tactic(auto, unfolding(crate::specs::Steps::names_one))]
 fn is_header(columns: &[Column], header: &[&[u8]]) -> bool
     ensures { result ≡ declared.is_header columns.now (map (λ field. field.now) header.now) }
 {
-    header.len() == columns.len() && are_named_once(columns, header)
+    header.len() == columns.len()
+        && are_named_once(columns, header)
+        && name_one_each(columns, header)
 }
 
 fn column_named(columns: &[Column], field: &[u8]) -> Option<usize>
@@ -104,12 +129,6 @@ fn inverse_order(alloc: Global, order: &[usize]) -> Result<Vec<usize>, AllocErro
         .collect(alloc)
 }
 
-fn has_each(order: &[usize]) -> bool
-    ensures { result ≡ has_each order.now }
-{
-    (0..order.len()).all(|index| field_of(order, index).is_some())
-}
-
 fn is_in_order(order: &[usize]) -> bool
     ensures { result ≡ is_in_order order.now }
 {
@@ -118,13 +137,9 @@ fn is_in_order(order: &[usize]) -> bool
 
 /// Columns of the catalogue in the order of the fields, with the way back.
 fn with_inverse(alloc: Global, columns: Vec<usize>) -> Result<FileOrder, AllocError>
+    requires each { has_each columns.items ≡ true }
     ensures { IfOk result (λ order. order.columns.items ≡ columns.items) }
 {
-    if !has_each(&columns) {
-        // Two columns of the catalogue have one name, so no record can encode a row.
-        drop(columns);
-        return Err(AllocError);
-    }
     let in_order = is_in_order(&columns);
     match inverse_order(alloc, &columns) {
         Ok(fields) => Ok(FileOrder {
@@ -147,7 +162,8 @@ fn order_by(alloc: Global, columns: &[Column], header: &[&[u8]]) -> Result<FileO
     if !is_header(columns, header) {
         return Err(LoadFault::Table(TableFault::Header));
     }
-    Ok(with_inverse(alloc, file_order(alloc, columns, header)?)?)
+    let order = file_order(alloc, columns, header)?;
+    Ok(with_inverse(alloc, order)?)
 }
 
 /// The order of the columns that a header names.

@@ -40,10 +40,11 @@ Record = List (List ℕ)
 abbrev pub names : List ℕ → Column → Bool
 names field c = str_eq_ignore_ascii_case field c.name
 
--- each declared column is named once, and nothing else is
+-- each declared column is named by one field, and each field names one column
 abbrev pub is_header : List Column → Record → Bool
 is_header columns header =
-    (length header == length columns) && list_all (λ c. count_by (λ field. names field c) header == 1) columns
+    (length header == length columns) && (list_all (λ c. count_by (λ field. names field c) header == 1) columns
+    && list_all (λ field. count_by (λ c. names field c) columns == 1) header)
 
 -- the numbers of the columns that the header names, in the order of the file
 abbrev pub file_order : List Column → Record → List ℕ

@@ -273,7 +273,7 @@ module _ (table : Table) (is : IsWellFormedTable table) where
       ≡ Some c → list_any (λ p. p == i) (file_order columns header) ≡ true
   number_there header fine i c at =
       let one = all_at (λ (c : Column). count_by (λ field. names field c) header == 1) columns i c
-      (second_of _ _ fine) at in
+      (first_of _ _ (second_of _ _ fine)) at in
       any_map (λ field. names field c) (λ p. p == i) (λ field. unwrap_or (position (names field) columns) 0)
       (λ field on. eq-eqb _ i (number_named field i c at on)) header (any_of_one (λ field. names field c) header one)
     where

@@ -40,3 +40,21 @@ fn a_coordinator_reports_a_full_writer(rt: HostRuntime) -> Result<(), Fail> {
     assert_eq!(rt; refusal, Some(12));
     Ok(())
 }
+
+fn refusal_of_preview(alloc: Global, gather: &Gather) -> Option<u8> {
+    let mut room = [0u8; 4];
+    let mut out = room.as_mut_slice();
+    match gather.preview(alloc, &mut out) {
+        Ok(_) => None,
+        Err(fault) => Some(fault.number()),
+    }
+}
+
+#[test]
+fn a_preview_reports_a_full_writer(rt: HostRuntime) -> Result<(), Fail> {
+    let gather = counted(rt.alloc())?;
+    let refusal = refusal_of_preview(rt.alloc(), &gather);
+    drop(gather);
+    assert_eq!(rt; refusal, Some(12));
+    Ok(())
+}

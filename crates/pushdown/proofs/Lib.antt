@@ -1,3 +1,4 @@
 -- The lemmas of this crate.
 pub mod Faultless
+pub mod NamedColumn
 pub mod Tested

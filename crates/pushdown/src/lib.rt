@@ -3,5 +3,7 @@
 #![tactic(auto)]
 
 mod condition;
+mod fact_column;
 
 pub use condition::{Source, can_push_down, dimension_of};
+pub use fact_column::fact_column_of;

@@ -3,6 +3,8 @@
 #![tactic(auto)]
 
 mod eval;
+#[cfg(test)]
+mod eval_tests;
 mod like;
 mod operators;
 

@@ -9,13 +9,15 @@ use Rattle.meaning.specs.declared.value.ColType.{ColType}
 use Rattle.meaning.specs.declared.value.Value.{Value}
 use Rattle.meaning.specs.declared.outcome.Outcome.TheVariants as gives
 use Rattle.meaning.specs.VectorLength.{is_vector_length}
-use Rattle.blocks.specs.Block.{Block, values_of}
+use Rattle.blocks.specs.Block.{Block, is_block, values_of}
 use Rattle.fragment_file.specs.Copying.{is_taken}
 use Rattle.fragment_file.specs.Fragment.{AreBlocks, IsBlockOf, no_block}
 use Rattle.vectors.specs.declared.batch.BatchColumn.{BatchColumn}
 use Rattle.vectors.specs.Vector.{BatchSpec, HasLanesOf}
 use Rattle.scan_select.specs.declared.buffers.ColumnBuffer.{ColumnBuffer}
-use Rattle.scan_select.specs.Buffers.{AddsLent, FitsGroup, IsBufferOf, IsPosition, IsFilled, IsLendable, IsLentOf, filled, filled_now, columns_of}
+use Rattle.scan_select.specs.declared.buffers.Room.{Room}
+use Rattle.scan_select.specs.declared.buffers.Room.TheVariants as room
+use Rattle.scan_select.specs.Buffers.{FitsGroup, HasRoom, HoldsRows, HoldsWindow, IsBufferOf, IsPosition, IsFilled, IsLendable, IsRoomFor, block_of, filled, filled_now, filled_room, columns_of}
 use Rattle.scan_select.specs.Groups.{current_rows}
 use Rattle.scan_select.specs.Scanned.{AddsColumns, AreColumnsAt, IsColumnAt}
 use Rattle.scan_select.proofs.Masks.{length-window, window_taken}
@@ -35,9 +37,13 @@ block_at (d ∷ ds) n (b ∷ bs) (suc p) c are there =
     let below = rest.1 in
     (rest.0, omega (arith, below))
 
+room_fits : (t u : ColType) (r : Room) → t ≡ u → IsRoomFor t r → IsRoomFor u r
+room_fits t u r same is = subst (λ (k : ColType). IsRoomFor k r) same is
+
 fits_group : (cs : List Column) (n most : ℕ) (group : List Block) (b : ColumnBuffer) → AreBlocks cs n group → IsBufferOf cs most b → FitsGroup group b
 fits_group cs n most group b are is =
-    (block_at cs n group b.column is.column are is.there).1
+    let at = block_at cs n group b.column is.column are is.there in
+    record { within = at.1; type = room_fits is.column.col_type (block_of group b.column).col_type b.room (sym at.0.col_type) is.type }
 
 all_fit : (cs : List Column) (n most : ℕ) (group : List Block) (bs : List ColumnBuffer) → AreBlocks cs n group → AllByRecursion (IsBufferOf cs most) bs → AllByRecursion (FitsGroup group) bs
 all_fit cs n most group [] are all = tt
@@ -48,14 +54,26 @@ all_fit_group cs n most group bs are all = All-from_recursion (FitsGroup group) 
 
 -- ---- filling
 
+holds_window : (group : List Block) (first p : ℕ) (r : Room) → HoldsWindow group first p (filled_room group first p r)
+holds_window group first p (room.Ints v) = refl
+holds_window group first p room.Texts = tt
+
 all_filled : (group : List Block) (first : ℕ) (bs : List ColumnBuffer) → AllByRecursion (IsFilled group first) (map (filled group first) bs)
 all_filled group first [] = tt
-all_filled group first (b ∷ bs) = (record { col_type = refl; values = refl }, all_filled group first bs)
+all_filled group first (b ∷ bs) = (holds_window group first b.column b.room, all_filled group first bs)
+
+same_type : (t : ColType) (group : List Block) (first p : ℕ) (r : Room) → IsRoomFor t r → IsRoomFor t (filled_room group first p r)
+same_type t group first p (room.Ints v) is = is
+same_type t group first p room.Texts is = is
+
+same_many : (most : ℕ) (group : List Block) (first p : ℕ) (r : Room) → HasRoom most r → HasRoom most (filled_room group first p r)
+same_many most group first p (room.Ints v) is = is
+same_many most group first p room.Texts is = is
 
 still_of : (cs : List Column) (most : ℕ) (group : List Block) (first : ℕ) (bs : List ColumnBuffer) → AllByRecursion (IsBufferOf cs most) bs → AllByRecursion (IsBufferOf cs most) (map (filled group first) bs)
 still_of cs most group first [] all = tt
 still_of cs most group first (b ∷ bs) all =
-    (record { column = all.0.column; there = all.0.there; nullable = all.0.nullable; room = all.0.room }, still_of cs most group first bs all.1)
+    (record { column = all.0.column; there = all.0.there; nullable = all.0.nullable; type = same_type all.0.column.col_type group first b.column b.room all.0.type; many = same_many most group first b.column b.room all.0.many }, still_of cs most group first bs all.1)
 
 same_columns : (group : List Block) (first : ℕ) (bs : List ColumnBuffer) → columns_of (map (filled group first) bs) ≡ columns_of bs
 same_columns group first [] = refl
@@ -128,61 +146,50 @@ shorter (suc most) zero (v ∷ vs) is = absurd (omega (arith, is))
 shorter (suc most) (suc rows) (v ∷ vs) is = ap (λ (ws : List Value). v ∷ ws) (shorter most rows vs (omega (arith, is)))
 
 module _ (cs : List Column) (n most : ℕ) (group : List Block) (first rows : ℕ) (are : AreBlocks cs n group) (full : rows ≡ min most (n - first)) (within : first + rows ≤ n) where
-  -- the values that a filled buffer holds
-  holds : (b : ColumnBuffer) → IsBufferOf cs most b → IsFilled group first b → b.values.values ≡ take rows (drop first (values_of (get_or group b.column no_block)))
-  holds b is filled =
-      let at = block_at cs n group b.column is.column are is.there in
-      let vs : List Value = drop first (values_of (get_or group b.column no_block)) in
-      let count = length-values (get_or group b.column no_block) at.0.sound in
-      let behind = length-drop first (values_of (get_or group b.column no_block)) in
+  -- as many values as the room is for are just those of the rows
+  holds_rows : (b : ColumnBuffer) (r : Room) → (c : Column) → slice_get cs b.column ≡ Some c → HasRoom most r → HoldsWindow group first b.column r → HoldsRows group first rows b.column r
+  holds_rows b (room.Ints v) c there many holds =
+      let at = block_at cs n group b.column c are there in
+      let vs : List Value = drop first (values_of (block_of group b.column)) in
+      let count = length-values (block_of group b.column) at.0.sound in
+      let behind = length-drop first (values_of (block_of group b.column)) in
       let same = at.0.rows in
-      filled.values ∙ ap (λ (k : ℕ). take k vs) is.room ∙ shorter most rows vs (omega (arith, full, count, behind, same))
+      holds ∙ ap (λ (k : ℕ). take k vs) many ∙ shorter most rows vs (omega (arith, full, count, behind, same))
+  holds_rows b room.Texts c there many holds = tt
 
-  lendable : (b : ColumnBuffer) → IsBufferOf cs most b → IsFilled group first b → IsLendable rows b
+  lendable : (b : ColumnBuffer) → IsBufferOf cs most b → IsFilled group first b → IsLendable group first rows b
   lendable b is filled =
       let at = block_at cs n group b.column is.column are is.there in
-      let block : Block = get_or group b.column no_block in
-      let values = holds b is filled in
-      let type : block.col_type ≡ b.values.col_type = sym filled.col_type in
-      let nullable : block.nullable ≡ b.nullable = at.0.nullable ∙ sym is.nullable in
+      let fits = fits_group cs n most group b are is in
       let same = at.0.rows in
       record {
-        taken = subst (λ (vs : List Value). list_all (is_taken b.values.col_type b.nullable) vs ≡ true) (sym values)
-            (subst (λ (k : Bool). list_all (is_taken b.values.col_type k) (take rows (drop first (values_of block))) ≡ true) nullable
-            (subst (λ (t : ColType). list_all (is_taken t block.nullable) (take rows (drop first (values_of block))) ≡ true) type (window_taken block first rows at.0.sound)));
-        long = ap length values ∙ length-window block first rows at.0.sound (omega (arith, same, within));
+        column_within = at.1;
+        sound = at.0.sound;
+        nullable = is.nullable ∙ sym at.0.nullable;
+        within = omega (arith, same, within);
+        type = fits.type;
+        holds = holds_rows b b.room is.column is.there is.many filled;
       }
 
-  all_lendable : (bs : List ColumnBuffer) → AllByRecursion (IsBufferOf cs most) bs → AllByRecursion (IsFilled group first) bs → AllByRecursion (IsLendable rows) bs
+  all_lendable : (bs : List ColumnBuffer) → AllByRecursion (IsBufferOf cs most) bs → AllByRecursion (IsFilled group first) bs → AllByRecursion (IsLendable group first rows) bs
   all_lendable [] all filled = tt
   all_lendable (b ∷ bs) all filled = (lendable b all.0 filled.0, all_lendable bs all.1 filled.1)
 
-  pub are_lendable : (bs : List ColumnBuffer) → All (IsBufferOf cs most) bs → All (IsFilled group first) bs → All (IsLendable rows) bs
-  are_lendable bs all filled = All-from_recursion (IsLendable rows) bs (all_lendable bs (recursion_from_All (IsBufferOf cs most) bs all) (recursion_from_All (IsFilled group first) bs filled))
+  pub are_lendable : (bs : List ColumnBuffer) → All (IsBufferOf cs most) bs → All (IsFilled group first) bs → All (IsLendable group first rows) bs
+  are_lendable bs all filled = All-from_recursion (IsLendable group first rows) bs (all_lendable bs (recursion_from_All (IsBufferOf cs most) bs all) (recursion_from_All (IsFilled group first) bs filled))
 
-  -- what is lent is the column of the row group
-  lent_at : (b : ColumnBuffer) (c : BatchColumn) → IsBufferOf cs most b → IsFilled group first b → IsLentOf b c → IsColumnAt group first rows b.column c
-  lent_at b c is filled lent =
-      record {
-        reference = lent.reference;
-        values = lent.values ∙ ap (map gives.Value) (holds b is filled);
-        typed = subst (λ (t : ColType). HasLanesOf t c.lanes) filled.col_type lent.typed;
-      }
+-- ---- one buffer
 
-  all_at_columns : (bs : List ColumnBuffer) (columns : List BatchColumn) → AllByRecursion (IsBufferOf cs most) bs → AllByRecursion (IsFilled group first) bs → AllZip IsLentOf bs columns → AreColumnsAt group first rows (columns_of bs) columns
-  all_at_columns [] [] all filled lent = tt
-  all_at_columns [] (c ∷ columns) all filled lent = absurd lent
-  all_at_columns (b ∷ bs) [] all filled lent = absurd lent
-  all_at_columns (b ∷ bs) (c ∷ columns) all filled lent = (lent_at b c all.0 filled.0 lent.0, all_at_columns bs columns all.1 filled.1 lent.1)
+-- the lanes of a buffer of integers, or of texts that are read
+module _ (block : Block) (first rows : ℕ) (sound : is_block block ≡ true) where
+  abbrev pub window : List Value
+  window = take rows (drop first (values_of block))
 
-  pub adds_columns : (bs : List ColumnBuffer) (old new : BatchSpec) → old.rows ≡ rows → All (IsBufferOf cs most) bs → All (IsFilled group first) bs → AddsLent bs old new → AddsColumns group first (columns_of bs) old new
-  adds_columns bs old new count all filled adds = record {
-    rows = adds.rows;
-    more = adds.more;
-    columns = adds.columns;
-    are = subst (λ (k : ℕ). AreColumnsAt group first k (columns_of bs) adds.more) (sym count)
-        (all_at_columns bs adds.more (recursion_from_All (IsBufferOf cs most) bs all) (recursion_from_All (IsFilled group first) bs filled) adds.are);
-  }
+  -- each value is of the block's type, and none is NULL where the block isn't nullable
+  pub taken : (t : ColType) (nullable : Bool) → block.col_type ≡ t → block.nullable ≡ nullable → list_all (is_taken t nullable) window ≡ true
+  taken t nullable type same =
+      subst (λ (k : Bool). list_all (is_taken t k) window ≡ true) same
+      (subst (λ (u : ColType). list_all (is_taken u block.nullable) window ≡ true) type (window_taken block first rows sound))
 
 -- ---- one column behind the others
 
@@ -192,13 +199,18 @@ at_end R [] x (z ∷ ys) y all at = absurd all
 at_end R (w ∷ xs) x [] y all at = absurd all
 at_end R (w ∷ xs) x (z ∷ ys) y all at = (all.0, at_end R xs x ys y all.1 at)
 
-pub lends_one_more : (bs : List ColumnBuffer) (i : ℕ) (b : ColumnBuffer) (old now new : BatchSpec) (c : BatchColumn) → i < length bs → b ≡ get_or bs i b
-    → AddsLent (take i bs) old now → new ≡ record { rows = now.rows; columns = now.columns ++ c ∷ [] } → IsLentOf b c → AddsLent (take (i + 1) bs) old new
-lends_one_more bs i b old now new c below is adds pushed lent = record {
+columns_append : (bs : List ColumnBuffer) (b : ColumnBuffer) → columns_of (bs ++ b ∷ []) ≡ columns_of bs ++ b.column ∷ []
+columns_append [] b = refl
+columns_append (d ∷ bs) b = ap (λ (ps : List ℕ). d.column ∷ ps) (columns_append bs b)
+
+pub lends_one_more : (group : List Block) (first rows : ℕ) (bs : List ColumnBuffer) (i : ℕ) (b : ColumnBuffer) (old now new : BatchSpec) (c : BatchColumn) → i < length bs → b ≡ get_or bs i b → rows ≡ old.rows
+    → AddsColumns group first (columns_of (take i bs)) old now → new ≡ record { rows = now.rows; columns = now.columns ++ c ∷ [] } → IsColumnAt group first rows b.column c → AddsColumns group first (columns_of (take (i + 1) bs)) old new
+lends_one_more group first rows bs i b old now new c below is same adds pushed lent = record {
   rows = ap (λ (x : BatchSpec). x.rows) pushed ∙ adds.rows;
   more = adds.more ++ c ∷ [];
   columns = ap (λ (x : BatchSpec). x.columns) pushed ∙ ap (λ (cs : List BatchColumn). cs ++ c ∷ []) adds.columns ∙ append_assoc old.columns adds.more (c ∷ []);
   are =
-      let next : take (i + 1) bs ≡ take i bs ++ b ∷ [] = take_more bs i b below ∙ ap (λ (x : ColumnBuffer). take i bs ++ x ∷ []) (sym is) in
-      subst (λ (xs : List ColumnBuffer). AllZip IsLentOf xs (adds.more ++ c ∷ [])) (sym next) (at_end IsLentOf (take i bs) b adds.more c adds.are lent);
+      let next : columns_of (take (i + 1) bs) ≡ columns_of (take i bs) ++ b.column ∷ [] = ap columns_of (take_more bs i b below ∙ ap (λ (x : ColumnBuffer). take i bs ++ x ∷ []) (sym is)) ∙ columns_append (take i bs) b in
+      subst (λ (ps : List ℕ). AllZip (IsColumnAt group first old.rows) ps (adds.more ++ c ∷ [])) (sym next)
+      (at_end (IsColumnAt group first old.rows) (columns_of (take i bs)) b.column adds.more c adds.are (subst (λ (k : ℕ). IsColumnAt group first k b.column c) same lent));
 }

@@ -5,6 +5,8 @@ pub mod Masks
 pub mod Rows
 pub mod Selected
 pub mod Filling
+pub mod Groups
 pub mod Narrowing
 pub mod LawProofs
+pub mod MarkedBlocks
 pub mod TypedBatches

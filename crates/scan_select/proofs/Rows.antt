@@ -17,7 +17,8 @@ use Rattle.blocks.specs.Block.{Block, is_block, values_of}
 use Rattle.meaning.specs.declared.catalog.Column.{Column}
 use Rattle.std.proofs.lemmas.Bool.{and_parts, leb-true}
 use Rattle.fragment_file.specs.Fragment.{AreBlocks, no_block}
-use Rattle.fragment_file.specs.Lent.{blocks_in}
+use Rattle.fragment_file.specs.declared.header.Header.{Header}
+use Rattle.fragment_file.specs.Lent.{AreTypedBlocks, blocks_in}
 use Rattle.fragment_file.specs.View.{rows_of, IsGroup}
 use Rattle.fragment_file.proofs.RowLaws.{column_of_row, length-values}
 use Rattle.vectors.specs.declared.batch.ColumnReference.{ColumnReference}
@@ -25,11 +26,13 @@ use Rattle.vectors.specs.declared.batch.BatchColumn.{BatchColumn}
 use Rattle.vectors.specs.Vector.{BatchSpec, AreRowsOf, IsColumnOf, outcomes_of, reference_of}
 use Rattle.fragment_file.specs.Rows.{row_in}
 use Rattle.scan_select.specs.Pieces.{Piece, piece_now, rows_of_piece}
-use Rattle.scan_select.specs.Scanned.{ScanSpec, IsColumnAt, AreColumnsAt, AddsColumns, IsBatchOf, GivesBatch, fact_rows}
+use Rattle.scan_select.specs.Scanned.{ScanSpec, IsColumnAt, AreColumnsAt, AddsColumns, IsBatchOf, GivesBatch, fact_rows, header_types}
 use Rattle.scan_select.specs.declared.scan.ScanBatch.{ScanBatch}
 use Rattle.scan_select.specs.declared.buffers.ColumnBuffer.{ColumnBuffer}
 use Rattle.scan_select.specs.Buffers.{IsPosition, columns_of}
 use Rattle.scan_select.specs.Groups.{current_rows}
+use Rattle.primitives.specs.Fitting.{AreTypedRows}
+use Rattle.scan_select.proofs.TypedBatches.{typed_batch, typed_group}
 
 abbrev outcome_at : List Block → ℕ → ℕ → Outcome
 outcome_at group p i = gives.Value (get_or (values_of (get_or group p no_block)) i Null)
@@ -101,10 +104,11 @@ some_rows (c ∷ cs) n (b ∷ bs) are some =
     omega (arith, rows, same)
 
 -- the batch of the rows that stand
-pub batch_gives : (scan : ScanSpec) (cs : List Column) (current : Option (List Block)) (most group_rows first rows : ℕ) (buffers : List ColumnBuffer) (b : ScanBatch) (old : BatchSpec) → current ≡ Some (blocks_in b.group)
-    → scan.at ≡ piece_now current first rows → scan.columns ≡ columns_of buffers → IsPosition cs most current group_rows first rows buffers → length (blocks_in b.group) ≡ length cs → IsGroup (blocks_in b.group) → eqb rows 0 ≡ false
+pub batch_gives : {G : Type 0} (scan : ScanSpec G) (h : Header) (current : Option (List Block)) (most group_rows first rows : ℕ) (buffers : List ColumnBuffer) (b : ScanBatch) (old : BatchSpec) → current ≡ Some (blocks_in b.group)
+    → scan.header ≡ h → scan.at ≡ piece_now current first rows → scan.columns ≡ columns_of buffers → IsPosition h.columns most current group_rows first rows buffers → length (blocks_in b.group) ≡ length h.columns
+    → AreBlocks h.columns (rows_of (blocks_in b.group)) (blocks_in b.group) → AreTypedBlocks h.columns (blocks_in b.group) → IsGroup (blocks_in b.group) → eqb rows 0 ≡ false
     → b.first_row ≡ first → old ≡ record { rows = rows; columns = [] } → AddsColumns (blocks_in b.group) first (columns_of buffers) old b.batch → GivesBatch scan (Some b)
-batch_gives scan cs current most group_rows first rows buffers b old stands at same position count sound some first_is fresh adds =
+batch_gives scan h current most group_rows first rows buffers b old stands under at same position count blocks typed sound some first_is fresh adds =
     let piece : Piece = record { group = blocks_in b.group; first = first; rows = rows } in
     let wanted : List ℕ = columns_of buffers in
     let now : scan.at ≡ Some piece = at ∙ rw (stands, some) refl in
@@ -114,13 +118,15 @@ batch_gives scan cs current most group_rows first rows buffers b old stands at s
     let old_rows : old.rows ≡ rows = ap (λ (x : BatchSpec). x.rows) fresh in
     let are : AreColumnsAt (blocks_in b.group) first rows wanted adds.more = subst (λ (k : ℕ). AreColumnsAt (blocks_in b.group) first k wanted adds.more) old_rows adds.are in
     let all : b.batch ≡ record { rows = rows; columns = adds.more } =
-    λ i. record { rows = (adds.rows ∙ old_rows) i; columns = (adds.columns ∙ ap (λ (x : BatchSpec). x.columns ++ adds.more) fresh) i } in (
+    λ i. record { rows = (adds.rows ∙ old_rows) i; columns = (adds.columns ∙ ap (λ (x : BatchSpec). x.columns ++ adds.more) fresh) i } in
+    let of : IsBatchOf wanted piece b.batch = subst (IsBatchOf wanted piece) (sym all) (record { rows = batch_has_rows (blocks_in b.group) first rows wanted adds.more sound columns_within within are; columns = are }) in (
       piece,
       record {
         stands = now;
         group = refl;
         first_row = first_is;
-        batch = subst (IsBatchOf scan.columns piece) (sym all) (subst (λ (ps : List ℕ). IsBatchOf ps piece (record { rows = rows; columns = adds.more })) (sym same)
-            (record { rows = batch_has_rows (blocks_in b.group) first rows wanted adds.more sound columns_within within are; columns = are }));
+        batch = subst (λ (ps : List ℕ). IsBatchOf ps piece b.batch) (sym same) of;
+        typed = subst (λ (x : Header). AreTypedRows (header_types x) b.batch (fact_rows piece)) (sym under)
+            (typed_batch h (rows_of (blocks_in b.group)) (blocks_in b.group) first rows wanted b.batch blocks (typed_group h.columns (blocks_in b.group) typed) position.columns_within of);
       },
     )

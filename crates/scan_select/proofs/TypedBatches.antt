@@ -1,6 +1,6 @@
 -- Batches of files whose columns have values of their types.
 use Rattle.std.proofs.Common.{◌≡◌, ℕ, zero, suc, ◌+◌, ◌<◌, true, List, [], ◌∷◌, get_or, length, map, Some, refl, ap, sym, subst, ◌∙◌, arith}
-use Rattle.std.specs.Prelude.{slice_get}
+use Rattle.std.specs.Prelude.{slice_get, All}
 use Rattle.std.specs.List.{AllByRecursion, range_with_len}
 use Rattle.std.proofs.lemmas.List.Elements.{All-from_recursion, recursion_from_All}
 use Rattle.meaning.specs.declared.catalog.Column.{Column}
@@ -10,17 +10,20 @@ use Rattle.meaning.specs.Typing.{ExprType, fits_row_types, is_column_type, is_of
 use Rattle.meaning.proofs.Tests.{both}
 use Rattle.blocks.specs.Block.{Block, values_of}
 use Rattle.fragment_file.specs.Fragment.{AreBlocks, AreGroups, column_values, no_block}
+use Rattle.fragment_file.specs.declared.header.Header.{Header}
+use Rattle.fragment_file.specs.Lent.{AreTypedBlocks}
 use Rattle.fragment_file.proofs.TypedRows.{AreTyped, all_behind, all_both, all_front, row_typed}
 use Rattle.vectors.specs.declared.batch.ColumnReference.{ColumnReference}
 use Rattle.vectors.specs.declared.batch.BatchColumn.{BatchColumn}
 use Rattle.vectors.specs.Vector.{reference_of}
 use Rattle.vector_operators.specs.Given.{type_of_lanes}
-use Rattle.primitives.specs.Fitting.{is_typed_column, referenced_type}
+use Rattle.vectors.specs.Vector.{BatchSpec}
+use Rattle.primitives.specs.Fitting.{AreTypedRows, is_typed_column, referenced_type}
 use Rattle.vector_operators.proofs.LaneValues.{lanes_type, same_kind}
-use Rattle.scan_select.specs.Laws.{BatchesAreTyped, header_types}
+use Rattle.scan_select.specs.Laws.{BatchesAreTyped}
 use Rattle.fragment_file.specs.Rows.{row_in}
 use Rattle.scan_select.specs.Pieces.{Piece, pieces, pieces_at, pieces_of}
-use Rattle.scan_select.specs.Scanned.{AreColumnsAt, IsColumnAt, fact_rows}
+use Rattle.scan_select.specs.Scanned.{AreColumnsAt, IsBatchOf, IsColumnAt, fact_rows, header_types}
 
 -- ---- row groups
 
@@ -79,14 +82,25 @@ module _ (cs : List Column) (n : ℕ) (group : List Block) (first rows : ℕ) (a
   columns_typed (p ∷ ps) [] below at = absurd at
   columns_typed (p ∷ ps) (c ∷ cs) below at = (column_typed p c below.0 at.0, columns_typed ps cs below.1 at.1)
 
+-- the batch of a row group with values of its columns' types
+pub typed_batch : (h : Header) (n : ℕ) (group : List Block) (first rows : ℕ) (wanted : List ℕ) (batch : BatchSpec) → AreBlocks h.columns n group → AreTyped h.columns group → All (λ p. p < length h.columns) wanted
+    → IsBatchOf wanted (record { group = group; first = first; rows = rows }) batch → AreTypedRows (header_types h) batch (fact_rows (record { group = group; first = first; rows = rows }))
+typed_batch h n group first rows wanted batch blocks typed below of =
+    let piece : Piece = record { group = group; first = first; rows = rows } in
+    record {
+      are_rows = of.rows;
+      values = All-from_recursion (λ r. fits_row_types (header_types h) r ≡ true) (fact_rows piece) (rows_fit h.columns n group (range_with_len first rows) blocks typed);
+      columns = All-from_recursion (λ c. is_typed_column (header_types h) c ≡ true) batch.columns
+          (columns_typed h.columns n group first rows blocks wanted batch.columns (recursion_from_All (λ p. p < length h.columns) wanted below) of.columns);
+    }
+
+-- the values of such a row group, block by block
+pub typed_group : (cs : List Column) (group : List Block) → AreTypedBlocks cs group → AreTyped cs group
+typed_group cs group typed = λ j c at. recursion_from_All (λ v. is_of_type c.col_type v ≡ true) (values_of (get_or group j no_block)) (typed j c at)
+
 pub batches_are_typed : BatchesAreTyped
 batches_are_typed f n before behind piece wanted batch is typed parts below of =
     let all : AllByRecursion (λ (p : Piece). IsTyped f.header.columns p.group) (pieces n f.groups)
     = pieces_typed f.header.columns n _ f.groups is.groups (λ j c at. recursion_from_All (λ v. is_of_type c.col_type v ≡ true) (column_values j f.groups) (typed j c at)) in
     let here = (all_behind (λ (p : Piece). IsTyped f.header.columns p.group) before (piece ∷ behind) (subst (λ (ps : List Piece). AllByRecursion (λ (p : Piece). IsTyped f.header.columns p.group) ps) parts all)).0 in
-    record {
-      are_rows = of.rows;
-      values = All-from_recursion (λ r. fits_row_types (header_types f.header) r ≡ true) (fact_rows piece) (rows_fit f.header.columns here.rows piece.group (range_with_len piece.first piece.rows) here.blocks here.values);
-      columns = All-from_recursion (λ c. is_typed_column (header_types f.header) c ≡ true) batch.columns
-          (columns_typed f.header.columns here.rows piece.group piece.first piece.rows here.blocks wanted batch.columns (recursion_from_All (λ p. p < length f.header.columns) wanted below) of.columns);
-    }
+    typed_batch f.header here.rows piece.group piece.first piece.rows wanted batch here.blocks here.values below of

@@ -1,25 +1,34 @@
 -- The columns that a scan reads, and what their buffers hold.
-use Rattle.std.specs.Prelude.{◌≡◌, ◌<◌, ◌≤◌, ◌+◌, ◌-◌, min, ◌++◌, ℕ, List, map, length, take, drop, get_or, slice_get, Option, Some, None, All, IfSome, true}
-use Rattle.std.specs.List.{list_all, AllZip}
+use Rattle.std.specs.Prelude.{◌≡◌, ◌<◌, ◌≤◌, ◌+◌, ◌-◌, min, ℕ, Bool, List, map, length, take, drop, get_or, slice_get, Option, Some, None, All, IfSome, true}
 use Rattle.meaning.specs.declared.catalog.Column.{Column}
+use Rattle.meaning.specs.declared.value.ColType.{ColType}
+use Rattle.meaning.specs.declared.value.ColType.TheVariants as of_type
 use Rattle.meaning.specs.declared.value.Value.{Value}
 use Rattle.meaning.specs.VectorLength.{is_vector_length}
-use Rattle.meaning.specs.declared.outcome.Outcome.TheVariants as gives
-use Rattle.blocks.specs.Block.{Block, values_of}
-use Rattle.fragment_file.specs.Copying.{is_taken}
+use Rattle.blocks.specs.Block.{Block, is_block, values_of}
 use Rattle.fragment_file.specs.Fragment.{no_block}
-use Rattle.vectors.specs.declared.batch.BatchColumn.{BatchColumn}
-use Rattle.vectors.specs.declared.batch.ColumnReference.TheVariants as reference
-use Rattle.vectors.specs.Vector.{BatchSpec, outcomes_of, HasLanesOf}
 use Rattle.scan_select.specs.declared.buffers.ColumnBuffer.{ColumnBuffer}
+use Rattle.scan_select.specs.declared.buffers.Room.{Room}
+use Rattle.scan_select.specs.declared.buffers.Room.TheVariants as room
 use Rattle.scan_select.specs.Groups.{current_rows}
+
+-- the room is that for values of this type
+abbrev pub IsRoomFor : ColType → Room → Type 0
+IsRoomFor t (room.Ints v) = t ≡ of_type.Int
+IsRoomFor t room.Texts = t ≡ of_type.Text
+
+-- room for so many integers
+abbrev pub HasRoom : ℕ → Room → Type 0
+HasRoom most (room.Ints v) = v.room ≡ most
+HasRoom most room.Texts = Unit {0}
 
 -- a buffer of one of these columns, with room for so many values
 pub record IsBufferOf (columns : List Column) (most : ℕ) (b : ColumnBuffer) : Type 0 where
   pub column : Column
   pub there : slice_get columns b.column ≡ Some column
   pub nullable : b.nullable ≡ column.nullable
-  pub room : b.values.room ≡ most
+  pub type : IsRoomFor column.col_type b.room
+  pub many : HasRoom most b.room
 
 -- the columns that are read, by their numbers in the header
 abbrev pub columns_of : List ColumnBuffer → List ℕ
@@ -27,26 +36,38 @@ columns_of buffers = map (λ b. b.column) buffers
 
 -- ---- filling
 
--- the buffer's column stands in the row group
-abbrev pub FitsGroup : List Block → ColumnBuffer → Type 0
-FitsGroup group b = b.column < length group
+-- the block of a column
+abbrev pub block_of : List Block → ℕ → Block
+block_of group p = get_or group p no_block
 
--- the column's values from a row on, as many as there is room for
-abbrev pub window_of : List Block → ℕ → ColumnBuffer → List Value
-window_of group first b = take b.values.room (drop first (values_of (get_or group b.column no_block)))
+-- the buffer's column stands in the row group, with values of the type that the room is for
+pub record FitsGroup (group : List Block) (b : ColumnBuffer) : Type 0 where
+  pub within : b.column < length group
+  pub type : IsRoomFor (block_of group b.column).col_type b.room
 
--- the buffer filled with them; it has the column's type then
+-- a column's values from a row on, at most so many
+abbrev pub window_of : List Block → ℕ → ℕ → ℕ → List Value
+window_of group first n p = take n (drop first (values_of (block_of group p)))
+
+-- room filled with them
+abbrev pub filled_room : List Block → ℕ → ℕ → Room → Room
+filled_room group first p (room.Ints v) = room.Ints (record { room = v.room; col_type = of_type.Int; values = window_of group first v.room p })
+filled_room group first p room.Texts = room.Texts
+
 abbrev pub filled : List Block → ℕ → ColumnBuffer → ColumnBuffer
-filled group first b = record { column = b.column; nullable = b.nullable; values = record { room = b.values.room; col_type = (get_or group b.column no_block).col_type; values = window_of group first b } }
+filled group first b = record { column = b.column; nullable = b.nullable; room = filled_room group first b.column b.room }
 
 -- buffers filled from the row group that stands, if one does
 abbrev pub filled_now : Option (List Block) → ℕ → List ColumnBuffer → List ColumnBuffer
 filled_now None first buffers = buffers
 filled_now (Some group) first buffers = map (filled group first) buffers
 
-pub record IsFilled (group : List Block) (first : ℕ) (b : ColumnBuffer) : Type 0 where
-  pub col_type : b.values.col_type ≡ (get_or group b.column no_block).col_type
-  pub values : b.values.values ≡ window_of group first b
+abbrev pub HoldsWindow : List Block → ℕ → ℕ → Room → Type 0
+HoldsWindow group first p (room.Ints v) = v.values ≡ window_of group first v.room p
+HoldsWindow group first p room.Texts = Unit {0}
+
+abbrev pub IsFilled : List Block → ℕ → ColumnBuffer → Type 0
+IsFilled group first b = HoldsWindow group first b.column b.room
 
 -- where a scan stands in a row group: its rows are as many as a vector may have, or as are left, and the buffers hold them
 pub record IsPosition (columns : List Column) (most : ℕ) (current : Option (List Block)) (group_rows first rows : ℕ) (buffers : List ColumnBuffer) : Type 0 where
@@ -60,20 +81,22 @@ pub record IsPosition (columns : List Column) (most : ℕ) (current : Option (Li
 
 -- ---- lending
 
--- so many values of the column's type, of which none is NULL where the column isn't nullable
-pub record IsLendable (rows : ℕ) (b : ColumnBuffer) : Type 0 where
-  pub taken : list_all (is_taken b.values.col_type b.nullable) b.values.values ≡ true
-  pub long : length b.values.values ≡ rows
+-- a block of texts that has these rows
+pub record IsTextBlock (first rows : ℕ) (block : Block) : Type 0 where
+  pub sound : is_block block ≡ true
+  pub type : block.col_type ≡ of_type.Text
+  pub within : first + rows ≤ block.rows
 
--- the column of a batch that the buffer's values are
-pub record IsLentOf (b : ColumnBuffer) (column : BatchColumn) : Type 0 where
-  pub reference : column.reference ≡ reference.Fact b.column
-  pub values : outcomes_of column.lanes ≡ map gives.Value b.values.values
-  pub typed : HasLanesOf b.values.col_type column.lanes
+-- the room has just the column's values in these rows
+abbrev pub HoldsRows : List Block → ℕ → ℕ → ℕ → Room → Type 0
+HoldsRows group first rows p (room.Ints v) = v.values ≡ window_of group first rows p
+HoldsRows group first rows p room.Texts = Unit {0}
 
--- the columns stand behind those that were there
-pub record AddsLent (buffers : List ColumnBuffer) (old new : BatchSpec) : Type 0 where
-  pub rows : new.rows ≡ old.rows
-  pub more : List BatchColumn
-  pub columns : new.columns ≡ old.columns ++ more
-  pub are : AllZip IsLentOf buffers more
+-- the column has these rows, and the buffer its values in them
+pub record IsLendable (group : List Block) (first rows : ℕ) (b : ColumnBuffer) : Type 0 where
+  pub column_within : b.column < length group
+  pub sound : is_block (block_of group b.column) ≡ true
+  pub nullable : b.nullable ≡ (block_of group b.column).nullable
+  pub within : first + rows ≤ (block_of group b.column).rows
+  pub type : IsRoomFor (block_of group b.column).col_type b.room
+  pub holds : HoldsRows group first rows b.column b.room

@@ -1,21 +1,18 @@
 -- Row groups that come one after the other.
-use Rattle.std.specs.Prelude.{◌≡◌, ℕ, Bool, true, false, List, [], ◌∷◌, Option, Some, None}
+use Rattle.std.specs.Prelude.{◌≡◌, ◌≢◌, ℕ, Bool, true, false, List, Option, Some, None, Result, Ok, Err}
 use Rattle.blocks.specs.Block.{Block}
+use Rattle.fragment_file.specs.declared.fault.FileFault.{FileFault}
+use Rattle.fragment_file.specs.declared.fault.FileFault.TheVariants.{Memory, Device}
 use Rattle.fragment_file.specs.View.{rows_of}
+use Rattle.group_reader.specs.Coming.{Coming, with_group}
+use Rattle.group_reader.specs.Reader.{only}
 
--- the first of those that were to come stands now, or none was to come
-abbrev pub GoesOn : Bool → List (List Block) → Option (List (List Block)) → Option (List Block) → Type 0
-GoesOn true groups coming current = (group : List Block) × (rest : List (List Block)) × (groups ≡ group ∷ rest) × (coming ≡ Some rest) × (current ≡ Some group)
-GoesOn false groups coming current = (groups ≡ []) × (coming ≡ Some []) × (current ≡ None)
-
--- the same where it is known which were to come; at the end none stands in any case
-abbrev pub IsEnd : Bool → Option (List Block) → Type 0
-IsEnd true current = (group : List Block) × (current ≡ Some group)
-IsEnd false current = current ≡ None
-
-pub record GroupsGoOn (more : Bool) (old new : Option (List (List Block))) (current : Option (List Block)) : Type 0 where
-  pub known : (groups : List (List Block)) → old ≡ Some groups → GoesOn more groups new current
-  pub stands : IsEnd more current
+-- the first of the row groups that were to come stands now, or none was to come and nothing is wrong with the end; or the
+-- fault that was to come was told, unless memory was wanting or the reader failed
+abbrev pub GroupsGoOn : (Coming → Type 0) → Option (List Block) → Coming → Result Bool FileFault → Type 0
+GroupsGoOn still current c (Ok true) = (group : List Block) × (rest : Coming) × (c ≡ with_group group rest) × still rest × (current ≡ Some group)
+GroupsGoOn still current c (Ok false) = (c ≡ only None) × still c × (current ≡ None)
+GroupsGoOn still current c (Err e) = e ≢ Memory → e ≢ Device → c ≡ only (Some e)
 
 -- how many rows the row group has that stands now
 abbrev pub current_rows : Option (List Block) → ℕ

@@ -3,15 +3,13 @@ use Rattle.std.specs.Prelude.{◌≡◌, ℕ, ◌<◌, List, [], ◌∷◌, ◌+
 use Rattle.meaning.specs.declared.expr.Expr.{Expr}
 use Rattle.meaning.specs.declared.joined_row.JoinedRow.{JoinedRow}
 use Rattle.meaning.specs.Judge.{filtered}
-use Rattle.meaning.specs.Typing.{RowTypes}
 use Rattle.blocks.specs.Block.{Block}
-use Rattle.fragment_file.specs.declared.header.Header.{Header}
 use Rattle.fragment_file.specs.Fragment.{AreTypedColumns, FragmentSpec, IsFragment}
 use Rattle.fragment_file.specs.Rows.{rows_in}
 use Rattle.vectors.specs.Vector.{BatchSpec}
 use Rattle.primitives.specs.Fitting.{AreTypedRows}
 use Rattle.scan_select.specs.Pieces.{Piece, pieces, rows_of_piece}
-use Rattle.scan_select.specs.Scanned.{IsBatchOf, fact_rows}
+use Rattle.scan_select.specs.Scanned.{IsBatchOf, fact_rows, header_types}
 use Rattle.scan_select.specs.Selected.{conditions, filter_of}
 
 -- the pieces of row groups have the rows of the row groups, in their order, each once
@@ -21,10 +19,6 @@ BatchesAreRows = (n : ℕ) (groups : List (List Block)) → 0 < n → flat_map r
 -- conditions keep a row, drop it or fault as they do when the row is judged
 abbrev pub ConditionsJudge : Type 0
 ConditionsJudge = (cs : List Expr) (row : JoinedRow) → filtered cs row ≡ filter_of (conditions cs row)
-
--- the types of the columns that a header names
-abbrev pub header_types : Header → RowTypes
-header_types h = record { fact = map (λ c. c.col_type) h.columns; joins = []; key = []; aggregates = [] }
 
 -- in a batch of a file whose columns have values of their types, columns and rows are of the types that the header declares
 abbrev pub BatchesAreTyped : Type 0

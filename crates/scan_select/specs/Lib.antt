@@ -5,4 +5,5 @@ pub mod Pieces
 pub mod Scanned
 pub mod Buffers
 pub mod Selected
+pub mod OnBlocks
 pub mod Laws

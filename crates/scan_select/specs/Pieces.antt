@@ -1,5 +1,5 @@
 -- The rows of row groups, and how they are cut into batches.
-use Rattle.std.specs.Prelude.{ℕ, ◌+◌, ◌-◌, ◌/◌, ◌%◌, ◌==◌, if◌then◌else◌, List, [], ◌∷◌, ◌++◌, map, flat_map, replicate, Option, Some, None, option_map}
+use Rattle.std.specs.Prelude.{ℕ, ◌+◌, ◌-◌, ◌/◌, ◌%◌, ◌==◌, if◌then◌else◌, List, [], ◌∷◌, ◌++◌, map, flat_map, replicate, Option, Some, None}
 use Rattle.std.specs.List.{range_with_len}
 use Rattle.meaning.specs.Order.{Row}
 use Rattle.blocks.specs.Block.{Block}
@@ -43,7 +43,3 @@ piece_now (Some group) first rows = if rows == 0 then None else Some (record { g
 abbrev pub pieces_behind : ℕ → Option (List Block) → ℕ → List Piece
 pieces_behind n None from = []
 pieces_behind n (Some group) from = pieces_at group from (sizes n (rows_of group - from))
-
--- what is left of it and of those that are still to come
-abbrev pub pieces_left : ℕ → Option (List Block) → ℕ → Option (List (List Block)) → Option (List Piece)
-pieces_left n current from coming = option_map (λ groups. pieces_behind n current from ++ pieces n groups) coming

@@ -1,14 +1,19 @@
 -- What a scan has read, and what it is still to read.
-use Rattle.std.specs.Prelude.{◌≡◌, ℕ, Bool, true, false, List, [], ◌∷◌, ◌++◌, map, length, replicate, get_or, take, drop, Option, Some, None, option_map}
+use Rattle.std.specs.Prelude.{◌≡◌, ◌≢◌, ℕ, ◌+◌, ◌≤◌, Bool, true, false, List, [], ◌∷◌, ◌++◌, map, length, replicate, get_or, take, drop, Option, Some, None, Result, Ok, Err, IfSome}
 use Rattle.std.specs.List.{AllZip}
 use Rattle.meaning.specs.declared.outcome.Outcome.TheVariants as gives
 use Rattle.meaning.specs.declared.joined_row.JoinedRow.{JoinedRow}
 use Rattle.meaning.specs.Joined.{joined_row}
+use Rattle.meaning.specs.Typing.{RowTypes}
 use Rattle.meaning.specs.VectorLength.{is_vector_length}
 use Rattle.blocks.specs.Block.{Block, values_of}
+use Rattle.fragment_file.specs.declared.fault.FileFault.{FileFault}
+use Rattle.fragment_file.specs.declared.fault.FileFault.TheVariants as no_file
 use Rattle.fragment_file.specs.declared.header.Header.{Header}
 use Rattle.fragment_file.specs.Fragment.{no_block}
 use Rattle.fragment_file.specs.Lent.{blocks_in}
+use Rattle.group_reader.specs.Coming.{Coming}
+use Rattle.primitives.specs.Fitting.{AreTypedRows}
 use Rattle.vectors.specs.declared.batch.ColumnReference.TheVariants as reference
 use Rattle.vectors.specs.declared.batch.BatchColumn.{BatchColumn}
 use Rattle.vectors.specs.Vector.{BatchSpec, AreRowsOf, outcomes_of, HasLanesOf}
@@ -22,29 +27,63 @@ abbrev pub number_of : ScanFault → ℕ
 number_of Memory = 0
 number_of VectorLength = 1
 
--- a scan: the file's header, the numbers in it of the columns that it reads, the rows that stand now, and those that
--- are still to come, where that is known
-pub record ScanSpec : Type 0 where
+-- a scan: where its row groups come from, the file's header, the numbers in it of the columns that it reads, the rows that
+-- stand now, what is left of their row group behind them, and how many rows are left in all
+pub record ScanSpec (G : Type 0) : Type 0 where
+  pub source : G
   pub header : Header
   pub columns : List ℕ
   pub most : ℕ
   pub at : Option Piece
-  pub left : Option (List Piece)
+  pub behind : List Piece
+  pub rows_left : ℕ
 
--- the first of the pieces that were to come stands now, or none was to come
-abbrev pub Advances : Bool → List Piece → Option Piece → Option (List Piece) → Type 0
-Advances true pieces at left = (piece : Piece) × (rest : List Piece) × (pieces ≡ piece ∷ rest) × (at ≡ Some piece) × (left ≡ Some rest)
-Advances false pieces at left = (pieces ≡ []) × (at ≡ None) × (left ≡ Some [])
+-- pieces that are still to come, and then the end: nothing, or what is wrong in its place
+pub record Left : Type 0 where
+  pub pieces : List Piece
+  pub end : Option FileFault
+
+-- what is left of a row group, and then row groups and their end, in pieces of at most so many rows
+abbrev pub left_behind : ℕ → List Piece → Coming → Left
+left_behind n behind c = record { pieces = behind ++ pieces n c.groups; end = c.end }
+
+abbrev pub with_piece : Piece → Left → Left
+with_piece piece l = record { pieces = piece ∷ l.pieces; end = l.end }
+
+abbrev pub nothing_but : Option FileFault → Left
+nothing_but end = record { pieces = []; end = end }
+
+-- these pieces, and then this end, are still to come of a scan, where it is known what is to come of its source
+abbrev pub AreLeft : {G : Type 0} → (G → Coming → Type 0) → ScanSpec G → Left → Type 0
+AreLeft is_coming scan l = (c : Coming) × is_coming scan.source c × (l ≡ left_behind scan.most scan.behind c)
+
+-- the first of the pieces that were to come stands now, or none was to come and nothing is wrong with the end; or the fault
+-- that was to come was told, unless memory was wanting or the reader failed
+abbrev pub Advances : {G : Type 0} → (G → Coming → Type 0) → ScanSpec G → Left → Result Bool FileFault → Type 0
+Advances is_coming scan l (Ok true) = (piece : Piece) × (rest : Left) × (l ≡ with_piece piece rest) × AreLeft is_coming scan rest × (scan.at ≡ Some piece)
+Advances is_coming scan l (Ok false) = (l ≡ nothing_but None) × AreLeft is_coming scan l × (scan.at ≡ None)
+Advances is_coming scan l (Err e) = e ≢ no_file.Memory → e ≢ no_file.Device → l ≡ nothing_but (Some e)
 
 -- whether rows stand now
 abbrev pub IsStanding : Bool → Option Piece → Type 0
 IsStanding true at = (piece : Piece) × (at ≡ Some piece)
 IsStanding false at = at ≡ None
 
--- before the first row
-pub record IsFresh (scan : ScanSpec) (header : Header) (wanted : List ℕ) (most : ℕ) (coming : Option (List (List Block))) : Type 0 where
-  pub length : is_vector_length most ≡ true
-  pub fresh : scan ≡ record { header = header; columns = wanted; most = most; at = None; left = option_map (pieces most) coming }
+-- of the rows that were left the piece that stands has the first, and at least one; at the end none was left
+abbrev pub CountsRows : Bool → ℕ → ℕ → Option Piece → Type 0
+CountsRows true old new at = IfSome at (λ piece. (1 ≤ piece.rows) × (old ≡ piece.rows + new))
+CountsRows false old new at = (old ≡ 0) × (new ≡ 0)
+
+-- before the first row of a source, of which so many rows are to come
+pub record IsFresh {G : Type 0} (source : G) (header : Header) (rows : ℕ) (wanted : List ℕ) (most : ℕ) (scan : ScanSpec G) : Type 0 where
+  pub sized : is_vector_length most ≡ true
+  pub from : scan.source ≡ source
+  pub under : scan.header ≡ header
+  pub reads : scan.columns ≡ wanted
+  pub vectors : scan.most ≡ most
+  pub none : scan.at ≡ None
+  pub all : scan.behind ≡ []
+  pub many : scan.rows_left ≡ rows
 
 -- ---- lanes
 
@@ -79,13 +118,18 @@ pub record IsBatchOf (wanted : List ℕ) (piece : Piece) (batch : BatchSpec) : T
   pub rows : AreRowsOf batch (fact_rows piece)
   pub columns : AreColumnsAt piece.group piece.first piece.rows wanted batch.columns
 
--- the batch of the rows that stand now
-pub record IsScanBatch (scan : ScanSpec) (piece : Piece) (b : ScanBatch) : Type 0 where
+-- the types of the columns that a header names
+abbrev pub header_types : Header → RowTypes
+header_types h = record { fact = map (λ c. c.col_type) h.columns; joins = []; key = []; aggregates = [] }
+
+-- the batch of the rows that stand now: columns and rows are of the types that the header declares
+pub record IsScanBatch {G : Type 0} (scan : ScanSpec G) (piece : Piece) (b : ScanBatch) : Type 0 where
   pub stands : scan.at ≡ Some piece
   pub group : blocks_in b.group ≡ piece.group
   pub first_row : b.first_row ≡ piece.first
   pub batch : IsBatchOf scan.columns piece b.batch
+  pub typed : AreTypedRows (header_types scan.header) b.batch (fact_rows piece)
 
-abbrev pub GivesBatch : ScanSpec → Option ScanBatch → Type 0
+abbrev pub GivesBatch : {G : Type 0} → ScanSpec G → Option ScanBatch → Type 0
 GivesBatch scan None = scan.at ≡ None
 GivesBatch scan (Some b) = (piece : Piece) × IsScanBatch scan piece b

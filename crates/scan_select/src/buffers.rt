@@ -1,27 +1,39 @@
-//! The columns that a scan reads, each with room for a vector of its values.
-ghost use Rattle.std.specs.Prelude.{◌≡◌, ◌<◌, ℕ, List, length, map, All, OnOk, IfOk};
+//! The columns that a scan reads, and the room in which they are lent as vectors.
+ghost use Rattle.std.specs.Prelude.{◌≡◌, ◌<◌, ◌≤◌, ◌+◌, ℕ, List, length, map, take, drop, get_or, All, OnOk, IfOk};
 ghost use Rattle.meaning.specs.declared.outcome.Outcome.TheVariants as gives;
+ghost use Rattle.meaning.specs.declared.value.ColType.TheVariants as of_type;
+ghost use Rattle.blocks.specs.Block.{is_block, values_of};
+ghost use Rattle.fragment_file.specs.Fragment.{no_block};
 ghost use Rattle.fragment_file.specs.Lent.{blocks_in};
-ghost use Rattle.scan_select.specs.Buffers.{AddsLent, FitsGroup, IsBufferOf, IsLendable, IsLentOf, filled, columns_of};
-ghost use Rattle.scan_select.specs.Scanned.{IsMask};
+ghost use Rattle.scan_select.specs.Buffers.{FitsGroup, HasRoom, IsBufferOf, IsLendable, IsRoomFor, IsTextBlock, columns_of, filled};
+ghost use Rattle.scan_select.specs.Scanned.{AddsColumns, IsMask};
 ghost use Rattle.vectors.specs.Lanes.{nulls_of};
 ghost use Rattle.vectors.specs.Vector.{outcomes_of, HasLanesOf};
 
-use blocks::VectorBuf;
+use blocks::{BlockView, IntBuf, Lanes, VectorBuf};
 use fragment_file::GroupView;
-use meaning::Column;
+use meaning::{ColType, Column};
 use std::alloc::{AllocError, Global};
+use std::mem::drop;
 use vectors::{
     Batch, BatchColumn, ColumnReference, IntCells, Ints, Nulls, TextCells, Texts, Vector,
 };
 
-/// A column that a scan reads, and room for a vector of its values.
+/// What a scan keeps for a column: room for integers. Texts stand in the bytes of a row group, so
+/// that each batch makes a list of its own of them.
 #[derive(Drop)]
-pub struct ColumnBuffer<'v> {
+pub enum Room {
+    Ints(IntBuf),
+    Texts,
+}
+
+/// A column that a scan reads.
+#[derive(Drop)]
+pub struct ColumnBuffer {
     // The column's number in the header.
     pub(crate) column: usize,
     pub(crate) nullable: bool,
-    pub(crate) values: VectorBuf<'v>,
+    pub(crate) room: Room,
 }
 
 /// Which lanes are NULL: none, where the column isn't nullable.
@@ -35,62 +47,120 @@ fn lent_nulls(nullable: bool, mask: &[bool]) -> Nulls<'_>
     Nulls::None
 }
 
-impl<'v> ColumnBuffer<'v> {
+/// The same of a mask that is given up.
+fn owned_nulls<'a>(nullable: bool, mask: Vec<bool>) -> Nulls<'a>
+    requires { IsMask nullable mask.items }
+    ensures { nulls_of (length mask.items) result ≡ mask.items }
+{
+    if nullable {
+        return Nulls::Owned(mask);
+    }
+    drop(mask);
+    Nulls::None
+}
+
+/// The texts of a block from row `first` on, as lanes in a list of their own.
+fn text_lanes<'a>(
+    alloc: Global,
+    block: &BlockView<'a>,
+    first: usize,
+    rows: usize,
+) -> Result<Vector<'a>, AllocError>
+    requires { IsTextBlock first rows block.now }
+    ensures values { IfOk result (λ v. outcomes_of v
+        ≡ map gives.Value (take rows (drop first (values_of block.now)))) }
+    ensures typed { IfOk result (λ v. HasLanesOf of_type.Text v) }
+{
+    let mut values = VectorBuf::new(alloc, rows)?;
+    block.read_into(first, &mut values);
+    let (lanes, mask) = values.into_parts();
+    match lanes {
+        Lanes::Texts(texts) => {
+            let nulls = owned_nulls(block.nullable(), mask);
+            Ok(Vector::Texts(Texts::new(TextCells::Owned(texts), nulls)))
+        }
+        Lanes::Ints(_) => unreachable!(),
+    }
+}
+
+fn room_for(alloc: Global, col_type: ColType, most: usize) -> Result<Room, AllocError>
+    ensures typed { IfOk result (λ r. IsRoomFor col_type r) }
+    ensures room { IfOk result (λ r. HasRoom most r) }
+{
+    match col_type {
+        ColType::Int => Ok(Room::Ints(IntBuf::new(alloc, most)?)),
+        ColType::Text => Ok(Room::Texts),
+    }
+}
+
+impl ColumnBuffer {
     /// Room for `most` values of a column of the header.
     fn new(
         alloc: Global,
         columns: &[Column],
         column: usize,
         most: usize,
-    ) -> Result<ColumnBuffer<'v>, AllocError>
+    ) -> Result<ColumnBuffer, AllocError>
         requires { column < length columns.now }
         ensures column { IfOk result (λ b. b.column ≡ column) }
         ensures buffer { IfOk result (λ b. IsBufferOf columns.now most b) }
     {
         let declared = &columns[column];
-        let values = VectorBuf::new(alloc, most)?;
+        let room = room_for(alloc, declared.col_type, most)?;
         Ok(ColumnBuffer {
             column,
             nullable: declared.nullable,
-            values,
+            room,
         })
     }
 
-    /// Fills the buffer anew with the column's values in a row group, from row `first` on. It takes
-    /// the column's type, and no memory.
-    fn fill(&mut self, group: &GroupView<'v>, first: usize)
+    /// Fills the room for integers anew with the column's values in a row group, from row `first` on.
+    /// It takes no memory.
+    fn fill(&mut self, group: &GroupView<'_>, first: usize)
         requires { FitsGroup (blocks_in group.now) self.old }
         ensures { self.new ≡ filled (blocks_in group.now) first self.old }
     {
-        let block = group.column(self.column);
-        block.read_into(first, &mut self.values);
+        match &mut self.room {
+            Room::Ints(values) => {
+                let block = group.column(self.column);
+                block.read_ints_into(first, values);
+            }
+            Room::Texts => {}
+        }
     }
 
-    /// The values, as lanes. Nothing is copied.
-    fn lanes(&self) -> Vector<'_>
-        requires { (rows : ℕ) × IsLendable rows self.now }
-        ensures values { outcomes_of result ≡ map gives.Value self.now.values.values }
-        ensures typed { HasLanesOf self.now.values.col_type result }
+    /// The column's values in a row group, from row `first` on, as lanes. No integer is copied.
+    fn lanes<'s>(
+        &'s self,
+        alloc: Global,
+        group: &GroupView<'s>,
+        first: usize,
+        rows: usize,
+    ) -> Result<Vector<'s>, AllocError>
+        requires { IsLendable (blocks_in group.now) first rows self.now }
+        ensures values { IfOk result (λ v. outcomes_of v ≡ map gives.Value (take rows (drop first
+            (values_of (get_or (blocks_in group.now) self.now.column no_block))))) }
+        ensures typed { IfOk result (λ v. HasLanesOf
+            (get_or (blocks_in group.now) self.now.column no_block).col_type v) }
     {
-        let nulls = lent_nulls(self.nullable, self.values.nulls());
-        if let Some(ints) = self.values.ints() {
-            return Vector::Ints(Ints::new(IntCells::Lent(ints), nulls));
+        match &self.room {
+            Room::Ints(values) => {
+                let nulls = lent_nulls(self.nullable, values.nulls());
+                Ok(Vector::Ints(Ints::new(IntCells::Lent(values.ints()), nulls)))
+            }
+            Room::Texts => text_lanes(alloc, &group.column(self.column), first, rows),
         }
-        let Some(texts) = self.values.texts() else {
-            unreachable!()
-        };
-        Vector::Texts(Texts::new(TextCells::Lent(texts), nulls))
     }
 }
 
 /// Room for vectors of `most` values of the columns that are wanted, by their numbers in the
 /// header.
-pub fn make_buffers<'v>(
+pub fn make_buffers(
     alloc: Global,
     columns: &[Column],
     wanted: &[usize],
     most: usize,
-) -> Result<Vec<ColumnBuffer<'v>>, AllocError>
+) -> Result<Vec<ColumnBuffer>, AllocError>
     requires { All (λ p. p < length columns.now) wanted.now }
     ensures columns { IfOk result (λ buffers. columns_of buffers.items ≡ wanted.now) }
     ensures buffers { IfOk result (λ buffers. All (IsBufferOf columns.now most) buffers.items) }
@@ -103,7 +173,7 @@ pub fn make_buffers<'v>(
 }
 
 /// Fills the buffers anew with their columns' values in a row group, from row `first` on.
-pub fn fill_all<'v>(buffers: &mut [ColumnBuffer<'v>], group: &GroupView<'v>, first: usize)
+pub fn fill_all(buffers: &mut [ColumnBuffer], group: &GroupView<'_>, first: usize)
     requires { All (FitsGroup (blocks_in group.now)) buffers.old }
     ensures { buffers.new ≡ map (filled (blocks_in group.now) first) buffers.old }
 {
@@ -112,19 +182,25 @@ pub fn fill_all<'v>(buffers: &mut [ColumnBuffer<'v>], group: &GroupView<'v>, fir
     }
 }
 
-/// Puts the columns behind those of the batch. On an error the batch is open.
+/// Puts the columns' values in a row group, from row `first` on, behind the columns of the batch. On
+/// an error the batch is open.
 pub fn lend_all<'s>(
+    alloc: Global,
     batch: &mut Batch<'s>,
-    buffers: &'s [ColumnBuffer<'_>],
+    buffers: &'s [ColumnBuffer],
+    group: &GroupView<'s>,
+    first: usize,
 ) -> Result<(), AllocError>
-    requires { All (IsLendable batch.old.rows) buffers.now }
-    ensures { OnOk result (AddsLent buffers.now batch.old batch.new) }
+    requires { All (IsLendable (blocks_in group.now) first batch.old.rows) buffers.now }
+    ensures { OnOk result (AddsColumns (blocks_in group.now) first (columns_of buffers.now)
+        batch.old batch.new) }
 {
+    let rows = batch.rows();
     for buffer in buffers {
         let reference = ColumnReference::Fact {
             column: buffer.column,
         };
-        let lanes = buffer.lanes();
+        let lanes = buffer.lanes(alloc, group, first, rows)?;
         batch.push(BatchColumn { reference, lanes })?;
     }
     Ok(())

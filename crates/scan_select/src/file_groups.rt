@@ -1,10 +1,9 @@
 //! The row groups of an opened file.
-ghost use Rattle.std.specs.Prelude.{◌≡◌, None, Some};
-ghost use Rattle.scan_select.specs.FileGroups.{FileGroupsSpec};
+ghost use Rattle.std.specs.Prelude.{◌≡◌};
+ghost use Rattle.scan_select.specs.FileGroups.{all_coming, all_groups, rows_of_all};
 
 use crate::row_groups::RowGroups;
-use fragment_file::{FragmentView, GroupView, Header};
-use std::convert::Infallible;
+use fragment_file::{FileFault, FragmentView, GroupView, Header};
 use std::marker::Model;
 
 /// The row groups of an opened file, one after the other. They can always be had.
@@ -35,11 +34,7 @@ impl<'v> Model for FileGroups<'v> {
 impl<'v> FileGroups<'v> {
     /// Before the first row group.
     pub fn new(view: &'v FragmentView<'v>) -> FileGroups<'v>
-        ensures { result ≡ record {
-          file = view.entry.now;
-          coming = view.entry.now.groups;
-          current = None;
-        } }
+        ensures { result ≡ all_groups view.entry.now }
     {
         FileGroups {
             view,
@@ -50,11 +45,11 @@ impl<'v> FileGroups<'v> {
 }
 
 impl<'v> RowGroups for FileGroups<'v> {
-    type Fault = Infallible;
-
     ghost header_of = { λ g. g.file.header };
 
-    ghost coming = { λ g. Some g.coming };
+    ghost is_coming = { λ g c. c ≡ all_coming g.coming };
+
+    ghost rows_left = { λ g. rows_of_all g.coming };
 
     ghost current = { λ g. g.current };
 
@@ -62,8 +57,10 @@ impl<'v> RowGroups for FileGroups<'v> {
         self.view.header()
     }
 
-    fn next_group(&mut self) -> Result<bool, Infallible> {
+    fn advance(&mut self) -> Result<bool, FileFault> {
         if self.next < self.view.group_count() {
+            // No effect at run time. The proof reads from these calls that a row group has a row.
+            let (_header, _group) = (self.view.header(), self.view.group(self.next));
             self.at = Some(self.next);
             self.next += 1;
             return Ok(true);
@@ -72,10 +69,7 @@ impl<'v> RowGroups for FileGroups<'v> {
         Ok(false)
     }
 
-    fn group<'g>(&self) -> Option<GroupView<'g>>
-    where
-        Self: 'g,
-    {
+    fn group(&self) -> Option<GroupView<'_>> {
         let index = self.at?;
         // That the file has a column, so that a row group has a row.
         let _header = self.view.header();

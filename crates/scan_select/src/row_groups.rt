@@ -1,24 +1,28 @@
 //! Where a scan finds row groups.
-ghost use Rattle.std.specs.Prelude.{◌≡◌, ◌≤◌, List, Option, None, option_map, length, IfSome, OnErr, IfOk};
+ghost use Rattle.std.specs.Prelude.{◌≡◌, ◌≤◌, ℕ, List, Option, option_map, length, IfSome, None, OnErr, IfOk};
 ghost use Rattle.blocks.specs.Block.{Block};
 ghost use Rattle.fragment_file.specs.declared.header.Header.{Header as AHeader};
-ghost use Rattle.fragment_file.specs.Fragment.{AreBlocks};
-ghost use Rattle.fragment_file.specs.Lent.{blocks_in};
+ghost use Rattle.fragment_file.specs.Fragment.{AreBlocks, IsHeader};
+ghost use Rattle.fragment_file.specs.Lent.{AreTypedBlocks, blocks_in};
 ghost use Rattle.fragment_file.specs.View.{rows_of};
+ghost use Rattle.group_reader.specs.Coming.{Coming};
+ghost use Rattle.group_reader.specs.Reader.{Counts, IsThere};
+ghost use Rattle.group_reader.specs.Source.{EndsAs};
 ghost use Rattle.scan_select.specs.Groups.{GroupsGoOn};
 
-use fragment_file::{GroupView, Header};
+use fragment_file::{FileFault, GroupView, Header};
 
-/// The row groups of a file, from the first to the last. Their bytes live for `'v`.
+/// The row groups of a file, from the first to the last. One at a time stands, and is lent for a
+/// borrow of the source alone, which may read the next one over it.
 pub trait RowGroups {
-    /// Why the next row group can't be had.
-    type Fault: Drop;
-
     // What stands in front of the row groups.
     ghost header_of: { Self → AHeader };
 
-    // The row groups that are still to come, where they are known.
-    ghost coming: { Self → Option (List (List Block)) };
+    // These row groups, and then this end, are still to come.
+    ghost is_coming: { Self → Coming → Type 0 };
+
+    // How many rows the row groups have that are still to come.
+    ghost rows_left: { Self → ℕ };
 
     // The row group that came last. There is none before the first, behind the last, and where one
     // couldn't be had.
@@ -26,23 +30,43 @@ pub trait RowGroups {
 
     /// What stands in front of the row groups.
     fn header(&self) -> &Header
-        ensures { result.now ≡ header_of self.now };
+        ensures value { result.now ≡ header_of self.now }
+        ensures sound { IsHeader (header_of self.now) };
 
     /// Goes on to the next row group, and says whether there is one.
-    fn next_group(&mut self) -> Result<bool, Self::Fault>
+    ///
+    /// # Errors
+    ///
+    /// Why it can't be had, or what is wrong with the end.
+    fn advance(&mut self) -> Result<bool, FileFault>
         ensures same { header_of self.new ≡ header_of self.old }
-        ensures returned { IfOk result
-            (λ more. GroupsGoOn more (coming self.old) (coming self.new) (current self.new)) }
-        ensures refused { OnErr result (current self.new ≡ None) };
+        ensures told { (c : Coming) → is_coming self.old c
+            → GroupsGoOn (is_coming self.new) (current self.new) c result }
+        ensures stands { IfOk result (λ more. IsThere more (current self.new)) }
+        ensures counted { IfOk result
+            (λ more. Counts more (rows_left self.old) (rows_left self.new) (current self.new)) }
+        ensures none { OnErr result (current self.new ≡ None) };
 
     /// The row group that came last.
-    fn group<'v>(&self) -> Option<GroupView<'v>>
-    where
-        Self: 'v,
+    fn group(&self) -> Option<GroupView<'_>>
         ensures value { option_map blocks_in result ≡ current self.now }
         ensures count { IfSome result (λ group. length (blocks_in group)
             ≡ length (header_of self.now).columns) }
         ensures blocks { IfSome result
             (λ group. AreBlocks (header_of self.now).columns (rows_of (blocks_in group)) (blocks_in group)) }
-        ensures some { IfSome result (λ group. 1 ≤ rows_of (blocks_in group)) };
+        ensures some { IfSome result (λ group. 1 ≤ rows_of (blocks_in group)) }
+        ensures typed { IfSome result
+            (λ group. AreTypedBlocks (header_of self.now).columns (blocks_in group)) };
+}
+
+/// Goes on to the end, and looks at none of the row groups that are left.
+///
+/// # Errors
+///
+/// The first thing that is wrong with what is left.
+pub fn read_out<G: RowGroups>(groups: &mut G) -> Result<(), FileFault>
+    ensures { (c : Coming) → G.is_coming groups.old c → EndsAs result c.end }
+{
+    while groups.advance()? {}
+    Ok(())
 }

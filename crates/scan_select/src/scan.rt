@@ -1,21 +1,22 @@
 //! The rows of a file, vector by vector.
-ghost use Rattle.std.specs.Prelude.{◌≡◌, ◌≤◌, ◌<◌, ℕ, false, List, None, Some, length, All, OnErr, IfErr, IfOk, IfSome};
+ghost use Rattle.std.specs.Prelude.{◌≡◌, ◌≤◌, ◌<◌, ◌+◌, ◌-◌, ℕ, false, List, None, length, All, OnErr, IfErr, IfOk, IfSome};
 ghost use Rattle.std.specs.List.{range_with_len};
 ghost use Rattle.meaning.specs.VectorLength.{is_vector_length};
 ghost use Rattle.scan_select.specs.declared.fault.ScanFault.TheVariants.{VectorLength};
 ghost use Rattle.scan_select.specs.Buffers.{IsBufferOf, filled_now};
+ghost use Rattle.scan_select.specs.FileGroups.{all_groups, rows_of_all};
 ghost use Rattle.scan_select.specs.Groups.{current_rows};
-ghost use Rattle.scan_select.specs.Pieces.{Piece};
-ghost use Rattle.scan_select.specs.Scanned.{Advances, GivesBatch, IsFresh, IsStanding};
+ghost use Rattle.scan_select.specs.Scanned.{Advances, AreLeft, CountsRows, GivesBatch, IsFresh, IsStanding, Left};
 
 use crate::buffers::{ColumnBuffer, fill_all, lend_all, make_buffers};
 use crate::fault::ScanFault;
 use crate::file_groups::FileGroups;
 use crate::row_groups::RowGroups;
-use fragment_file::{FragmentView, GroupView};
+use fragment_file::{FileFault, FragmentView, GroupView};
 use meaning::is_vector_length;
 use std::alloc::{AllocError, Global};
 use std::marker::Model;
+use std::mem::drop;
 use vectors::Batch;
 
 /// Some rows of one row group, as vectors.
@@ -29,13 +30,13 @@ pub struct ScanBatch<'s> {
 }
 
 /// The rows of a file in vectors. A vector never crosses from one row group to the next. The room
-/// for a vector of each column is taken once, and filled anew by each. After MonetDB/X100, where a
-/// scan gives vectors of the columns that a query uses, and of no others.
+/// for a vector of integers of each column is taken once, and filled anew by each. After
+/// MonetDB/X100, where a scan gives vectors of the columns that a query uses, and of no others.
 #[derive(Drop)]
-pub struct Scan<'v, G: RowGroups + Drop + 'v> {
+pub struct Scan<G: RowGroups + Drop> {
     groups: G,
     // The columns that are read.
-    buffers: Vec<ColumnBuffer<'v>>,
+    buffers: Vec<ColumnBuffer>,
     // The most rows of a vector.
     most: usize,
     // The rows of the row group that came last; the vector's first among them, and how many the
@@ -45,20 +46,22 @@ pub struct Scan<'v, G: RowGroups + Drop + 'v> {
     rows: usize,
 }
 
-impl<'v, G: RowGroups + Drop + 'v> Model for Scan<'v, G> {
-    ghost use Rattle.std.specs.Prelude.{◌+◌};
+impl<G: RowGroups + Drop> Model for Scan<G> {
+    ghost use Rattle.std.specs.Prelude.{◌+◌, ◌-◌};
     ghost use Rattle.scan_select.specs.Buffers.{IsPosition, columns_of};
-    ghost use Rattle.scan_select.specs.Pieces.{piece_now, pieces_left};
+    ghost use Rattle.scan_select.specs.Pieces.{piece_now, pieces_behind};
     ghost use Rattle.scan_select.specs.Scanned.{ScanSpec};
 
-    ghost Value = { ScanSpec };
+    ghost Value = { ScanSpec G };
 
     ghost view = { λ s. record {
+      source = s.groups;
       header = G.header_of s.groups;
       columns = columns_of s.buffers.items;
       most = s.most;
       at = piece_now (G.current s.groups) s.first s.rows;
-      left = pieces_left s.most (G.current s.groups) (s.first + s.rows) (G.coming s.groups);
+      behind = pieces_behind s.most (G.current s.groups) (s.first + s.rows);
+      rows_left = (s.group_rows - (s.first + s.rows)) + G.rows_left s.groups;
     } };
 
     ghost invariant = { λ s. IsPosition (G.header_of s.groups).columns s.most (G.current s.groups)
@@ -77,7 +80,7 @@ fn all_columns(alloc: Global, n: usize) -> Result<Vec<usize>, AllocError>
 }
 
 /// How many rows the row group has that came last.
-fn rows_now<'v, G: RowGroups + 'v>(groups: &G) -> usize
+fn rows_now<G: RowGroups>(groups: &G) -> usize
     ensures value { result ≡ current_rows (G.current groups.now) }
     ensures some { IfSome (G.current groups.now) (λ _. 1 ≤ result) }
 {
@@ -88,7 +91,7 @@ fn rows_now<'v, G: RowGroups + 'v>(groups: &G) -> usize
 }
 
 /// Fills the buffers from the row group that came last, if there is one, from row `first` on.
-fn fill_now<'v, G: RowGroups + 'v>(groups: &G, buffers: &mut Vec<ColumnBuffer<'v>>, first: usize)
+fn fill_now<G: RowGroups>(groups: &G, buffers: &mut Vec<ColumnBuffer>, first: usize)
     requires { (most : ℕ) × All (IsBufferOf (G.header_of groups.now).columns most)
         buffers.old.items }
     ensures { buffers.new.items ≡ filled_now (G.current groups.now) first buffers.old.items }
@@ -98,53 +101,82 @@ fn fill_now<'v, G: RowGroups + 'v>(groups: &G, buffers: &mut Vec<ColumnBuffer<'v
     }
 }
 
-impl<'v, G: RowGroups + Drop + 'v> Scan<'v, G> {
+impl<G: RowGroups + Drop> Scan<G> {
     /// Before the first of the row groups, none of which has come yet. Reads the columns of these
     /// numbers in the header, in vectors of at most so many rows.
     ///
     /// # Errors
     ///
     /// Vectors of no row, or of more than 4,096; out of memory.
-    pub fn over(
+    pub fn of_groups(
         alloc: Global,
         groups: G,
         most: usize,
         wanted: &[usize],
-    ) -> Result<Scan<'v, G>, ScanFault>
+    ) -> Result<Scan<G>, ScanFault>
         requires wanted { All (λ p. p < length (G.header_of groups).columns) wanted.now }
         requires before { G.current groups ≡ None }
         ensures ok { IfOk result
-            (λ scan. IsFresh scan (G.header_of groups) wanted.now most (G.coming groups)) }
+            (IsFresh groups (G.header_of groups) (G.rows_left groups) wanted.now most) }
         ensures err { IfErr result (λ f. f ≡ VectorLength → is_vector_length most ≡ false) }
     {
         if !is_vector_length(most) {
+            drop(groups);
             return Err(ScanFault::VectorLength);
         }
         let columns = groups.header().columns.as_slice();
-        let buffers = make_buffers(alloc, columns, wanted, most)?;
-        Ok(Scan {
-            groups,
-            buffers,
-            most,
-            group_rows: 0,
-            first: 0,
-            rows: 0,
-        })
+        match make_buffers(alloc, columns, wanted, most) {
+            Ok(buffers) => Ok(Scan {
+                groups,
+                buffers,
+                most,
+                group_rows: 0,
+                first: 0,
+                rows: 0,
+            }),
+            Err(_) => {
+                drop(groups);
+                Err(ScanFault::Memory)
+            }
+        }
     }
 
-    /// Goes on to the next vector, and says whether there is one. Takes no memory.
+    /// The same, of all columns.
     ///
     /// # Errors
     ///
-    /// Why the next row group can't be had; no vector stands then.
-    pub fn advance(&mut self) -> Result<bool, G::Fault>
+    /// As of [`Scan::of_groups`].
+    pub fn over(alloc: Global, groups: G, most: usize) -> Result<Scan<G>, ScanFault>
+        requires { G.current groups ≡ None }
+        ensures ok { IfOk result
+            (IsFresh groups (G.header_of groups) (G.rows_left groups)
+            (range_with_len 0 (length (G.header_of groups).columns)) most) }
+        ensures err { IfErr result (λ f. f ≡ VectorLength → is_vector_length most ≡ false) }
+    {
+        match all_columns(alloc, groups.header().columns.len()) {
+            Ok(columns) => Scan::of_groups(alloc, groups, most, columns.as_slice()),
+            Err(_) => {
+                drop(groups);
+                Err(ScanFault::Memory)
+            }
+        }
+    }
+
+    /// Goes on to the next vector, and says whether there is one. Takes no memory of its own.
+    ///
+    /// # Errors
+    ///
+    /// Why the next row group can't be had, or what is wrong with the end; no vector stands then.
+    pub fn advance(&mut self) -> Result<bool, FileFault>
         ensures header { self.new.header ≡ self.old.header }
         ensures columns { self.new.columns ≡ self.old.columns }
         ensures most { self.new.most ≡ self.old.most }
-        ensures returned { IfOk result (λ more. (left : List Piece) → self.old.left ≡ Some left
-            → Advances more left self.new.at self.new.left) }
+        ensures told { (l : Left) → AreLeft G.is_coming self.old l
+            → Advances G.is_coming self.new l result }
         ensures stands { IfOk result (λ more. IsStanding more self.new.at) }
-        ensures refused { OnErr result (self.new.at ≡ None) }
+        ensures counted { IfOk result
+            (λ more. CountsRows more self.old.rows_left self.new.rows_left self.new.at) }
+        ensures none { OnErr result (self.new.at ≡ None) }
     {
         let group_rows = self.group_rows;
         let behind = self.first + self.rows;
@@ -157,15 +189,19 @@ impl<'v, G: RowGroups + Drop + 'v> Scan<'v, G> {
         self.first = 0;
         self.rows = 0;
         self.group_rows = 0;
-        let more = self.groups.next_group()?;
-        self.group_rows = rows_now(&self.groups);
-        self.rows = self.most.min(self.group_rows);
-        fill_now(&self.groups, &mut self.buffers, 0);
-        Ok(more)
+        match self.groups.advance() {
+            Ok(more) => {
+                self.group_rows = rows_now(&self.groups);
+                self.rows = self.most.min(self.group_rows);
+                fill_now(&self.groups, &mut self.buffers, 0);
+                Ok(more)
+            }
+            Err(fault) => Err(fault),
+        }
     }
 
-    /// The vector that stands now, if any. Its columns are lent from the scan's buffers, texts from
-    /// the bytes of the row group.
+    /// The vector that stands now, if any. Integers are lent from the scan's buffers, texts from the
+    /// bytes of the row group. All of it is gone with the next call that goes on.
     pub fn batch(&self, alloc: Global) -> Result<Option<ScanBatch<'_>>, AllocError>
         ensures { IfOk result (λ batch. GivesBatch self.now batch) }
     {
@@ -178,16 +214,35 @@ impl<'v, G: RowGroups + Drop + 'v> Scan<'v, G> {
         // That all blocks have as many rows.
         let _rows = group.rows();
         let mut batch = Batch::new(alloc, self.rows);
-        lend_all(&mut batch, self.buffers.as_slice())?;
+        lend_all(
+            alloc,
+            &mut batch,
+            self.buffers.as_slice(),
+            &group,
+            self.first,
+        )?;
         Ok(Some(ScanBatch {
             batch,
             group,
             first_row: self.first,
         }))
     }
+
+    /// Where the row groups come from, behind the one that stands.
+    pub fn into_source(self) -> G
+        ensures { result ≡ self.source }
+    {
+        let Scan {
+            groups,
+            buffers,
+            ..
+        } = self;
+        drop(buffers);
+        groups
+    }
 }
 
-impl<'v> Scan<'v, FileGroups<'v>> {
+impl<'v> Scan<FileGroups<'v>> {
     /// Before the first row of an opened file. Reads the columns of these numbers in its header,
     /// in vectors of at most so many rows.
     ///
@@ -199,13 +254,14 @@ impl<'v> Scan<'v, FileGroups<'v>> {
         view: &'v FragmentView<'v>,
         most: usize,
         wanted: &[usize],
-    ) -> Result<Scan<'v, FileGroups<'v>>, ScanFault>
+    ) -> Result<Scan<FileGroups<'v>>, ScanFault>
         requires { All (λ p. p < length view.now.header.columns) wanted.now }
         ensures ok { IfOk result
-            (λ scan. IsFresh scan view.now.header wanted.now most (Some view.now.groups)) }
+            (IsFresh (all_groups view.entry.now) view.entry.now.header
+            (rows_of_all view.entry.now.groups) wanted.now most) }
         ensures err { IfErr result (λ f. f ≡ VectorLength → is_vector_length most ≡ false) }
     {
-        Scan::over(alloc, FileGroups::new(view), most, wanted)
+        Scan::of_groups(alloc, FileGroups::new(view), most, wanted)
     }
 
     /// The same, of all columns.
@@ -217,13 +273,13 @@ impl<'v> Scan<'v, FileGroups<'v>> {
         alloc: Global,
         view: &'v FragmentView<'v>,
         most: usize,
-    ) -> Result<Scan<'v, FileGroups<'v>>, ScanFault>
+    ) -> Result<Scan<FileGroups<'v>>, ScanFault>
         ensures ok { IfOk result
-            (λ scan. IsFresh scan view.now.header
-            (range_with_len 0 (length view.now.header.columns)) most (Some view.now.groups)) }
+            (IsFresh (all_groups view.entry.now) view.entry.now.header
+            (rows_of_all view.entry.now.groups)
+            (range_with_len 0 (length view.entry.now.header.columns)) most) }
         ensures err { IfErr result (λ f. f ≡ VectorLength → is_vector_length most ≡ false) }
     {
-        let columns = all_columns(alloc, view.header().columns.len())?;
-        Scan::of_columns(alloc, view, most, columns.as_slice())
+        Scan::over(alloc, FileGroups::new(view), most)
     }
 }

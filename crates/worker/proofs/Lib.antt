@@ -17,3 +17,5 @@ pub mod NumberedRows
 pub mod OwnAnswers
 pub mod Pushed
 pub mod VectorLanes
+pub mod InTurn
+pub mod SourceRows

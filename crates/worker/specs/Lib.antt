@@ -5,3 +5,4 @@ pub mod Evaluated
 pub mod Work
 pub mod Joining
 pub mod Gathered
+pub mod Held

@@ -11,6 +11,6 @@ mod lanes;
 mod progress;
 mod rows;
 
-pub use answering::{work, work_over};
+pub use answering::{work, work_from, work_over};
 pub use dimensions::Dimensions;
 pub use job_files::WorkFault;

@@ -3,13 +3,13 @@ use Rattle.std.proofs.lemmas.Result.{err_from_is_err_and}
 use Rattle.cli.proofs.Refusals.{load_refused, whole_refused, work_refused}
 use Rattle.cli.proofs.running.outcome.Goals as goal
 
-pub returns-in_err-load-in-Load-clause-refused : goal.returns-in_err-load-in-Load-clause-refused
-returns-in_err-load-in-Load-clause-refused g c =
+pub returns-in_err-load_tables-in-Load-clause-refused : goal.returns-in_err-load_tables-in-Load-clause-refused
+returns-in_err-load_tables-in-Load-clause-refused g c =
     let folder = g.F.Folder.holds c.args.folder.now in
-    let refused = c.in_err-load-in-Load in
+    let refused = c.in_err-load_tables-in-Load in
     let p = err_from_is_err_and c.from_residual.result c.from_residual.ensures.1 in
     rw (p.1, p.2) (load_refused folder c.args.command.now c.in-Load.directory c.as_str.result.now c.in-Load.number c.in-Load.rows refused.field-0.0
-    (g.O.Write.contents c.args.out.now) (g.O.Write.contents c.load.new.out) (g.E.Write.contents c.args.err.now) (g.F.Folder.wrote c.args.folder.now) (g.F.Folder.wrote c.load.new.folder)
+    (g.O.Write.contents c.args.out.now) (g.O.Write.contents c.load_tables.new.out) (g.E.Write.contents c.args.err.now) (g.F.Folder.wrote c.args.folder.now) (g.F.Folder.wrote c.load_tables.new.folder)
     c.in-Load.is c.as_str.ensures refused.ensures.refused refused.ensures.quiet refused.ensures.left)
 
 pub returns-in_err-work-in-Work-clause-refused : goal.returns-in_err-work-in-Work-clause-refused

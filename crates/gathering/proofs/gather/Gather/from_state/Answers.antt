@@ -2,5 +2,5 @@
 use Rattle.gathering.proofs.StateFiles.{held_state}
 use Rattle.gathering.proofs.gather.Gather.from_state.Goals as goal
 
-pub invariant_of-result : goal.invariant_of-result
-invariant_of-result c = held_state c.args.job c.in-Ok.cells.items c.requires c.in-Ok.ensures.spelled.fits
+pub holding-requires-clause-fitting : goal.holding-requires-clause-fitting
+holding-requires-clause-fitting c = held_state c.args.job c.in-Ok.cells.items c.in-Ok.ensures.spelled.fits

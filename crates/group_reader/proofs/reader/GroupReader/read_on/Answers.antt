@@ -2,7 +2,7 @@
 use Rattle.std.proofs.Common.{rules, ◌<◌, refl, sym, map}
 use Rattle.std.proofs.lemmas.Result.{err_from_is_err_and}
 use Rattle.fragment_file.specs.View.{block_in}
-use Rattle.group_reader.proofs.Turns.{after_group, group_comes, group_fails, open_coming}
+use Rattle.group_reader.proofs.Turns.{after_group, counts_group, group_comes, group_fails, open_coming}
 use Rattle.group_reader.proofs.reader.GroupReader.read_on.Goals as goal
 
 pub returns-in_err-self-inside-clause-told : goal.returns-in_err-self-inside-clause-told
@@ -29,3 +29,9 @@ returns-clause-told g c c' coming =
       (from.0, told.0, told.2, refl),
       refl,
     )
+
+pub returns-clause-counted : goal.returns-clause-counted
+returns-clause-counted g c =
+    let inside = c.self.inside in
+    let located = (rw c.as_slice.ensures at c.in_ok-self-inside.ensures.located) in
+    rw (← c.self.view_is) (counts_group inside.header.columns inside.left c.next_rows-rows.result c.next_locations.new.bytes.items c.in_ok-self-inside.field-0.items c.self.invariant.header.some (search rules) c.next_rows-rows.ensures located)

@@ -1,12 +1,12 @@
 -- Proofs of the goals of `advance` (`scan`).
-use Rattle.std.proofs.Common.{ℕ, ◌+◌, ◌<◌, length, ap, sym, subst, ◌∙◌, arith}
+use Rattle.std.proofs.Common.{◌≡◌, ℕ, ◌+◌, ◌-◌, ◌<◌, [], None, length, refl, ap, sym, subst, ◌∙◌, arith}
 use Rattle.std.specs.Prelude.{All}
 use Rattle.fragment_file.specs.declared.header.Header.{Header}
 use Rattle.meaning.proofs.VectorLengths.{vector_length_within}
 use Rattle.scan_select.specs.Buffers.{IsBufferOf, columns_of}
-use Rattle.scan_select.specs.Scanned.{Advances, ScanSpec}
-use Rattle.scan_select.specs.Pieces.{piece_now, pieces_left}
-use Rattle.scan_select.proofs.Advancing.{next_group, same_group, some_stand, still_stand}
+use Rattle.scan_select.specs.Pieces.{piece_now, pieces_behind}
+use Rattle.scan_select.specs.Scanned.{AreLeft, CountsRows, ScanSpec}
+use Rattle.scan_select.proofs.Advancing.{counts_next, counts_same, next_group, no_group, same_group, some_stand, still_stand}
 use Rattle.scan_select.proofs.Filling.{now_columns, stands_again}
 use Rattle.scan_select.proofs.scan.Scan.advance.Goals as goal
 
@@ -21,42 +21,68 @@ invariant_of-self g c =
 
 pub returns-then-behind-group_rows-clause-columns : goal.returns-then-behind-group_rows-clause-columns
 returns-then-behind-group_rows-clause-columns g c =
-    ap columns_of c.fill_now.ensures ∙ now_columns _ (c.self.inside.first + c.self.inside.rows) c.self.inside.buffers.items ∙ ap (λ (s : ScanSpec). s.columns) c.self.view_is
+    ap columns_of c.fill_now.ensures ∙ now_columns _ (c.self.inside.first + c.self.inside.rows) c.self.inside.buffers.items ∙ ap (λ (s : ScanSpec _). s.columns) c.self.view_is
 
-pub fill_now-requires-2 : goal.fill_now-requires-2
-fill_now-requires-2 g c =
-    (c.self.inside.most, subst (λ (h : Header). All (IsBufferOf h.columns c.self.inside.most) c.self.inside.buffers.items) (sym c.next_group.ensures.same) c.self.invariant.of_columns)
-
-pub invariant_of-self-2 : goal.invariant_of-self-2
-invariant_of-self-2 g c =
-    let of_columns = subst (λ (h : Header). All (IsBufferOf h.columns c.self.inside.most) c.self.inside.buffers.items) (sym c.next_group.ensures.same) c.self.invariant.of_columns in
-    let below = subst (λ (h : Header). All (λ p. p < length h.columns) (columns_of c.self.inside.buffers.items)) (sym c.next_group.ensures.same) c.self.invariant.columns_within in
-    let size = c.min-self-inside-2.ensures in
-    stands_again _ c.self.inside.most _ c.rows_now-self-inside.result 0 c.min-self-inside-2.result c.self.inside.buffers.items _ below c.self.invariant.vectors c.rows_now-self-inside.ensures.value
-    (omega arith) (omega (arith, size)) of_columns c.fill_now-2.ensures
-
-pub returns-clause-columns : goal.returns-clause-columns
-returns-clause-columns g c =
-    ap columns_of c.fill_now-2.ensures ∙ now_columns _ 0 c.self.inside.buffers.items ∙ ap (λ (s : ScanSpec). s.columns) c.self.view_is
-
-pub returns-then-behind-group_rows-clause-returned : goal.returns-then-behind-group_rows-clause-returned
-returns-then-behind-group_rows-clause-returned g c =
-    λ left known. same_group c.self.inside.most _ _ c.self.inside.group_rows (c.self.inside.first + c.self.inside.rows) c.min-self-inside.result left (vector_length_within c.self.inside.most c.self.invariant.vectors).0 c.self.invariant.group_rows_are c.if-behind-group_rows.true
-    c.min-self-inside.ensures (ap (λ (s : ScanSpec). s.left) c.self.view_is ∙ known)
+pub returns-then-behind-group_rows-clause-told : goal.returns-then-behind-group_rows-clause-told
+returns-then-behind-group_rows-clause-told g c = λ l are.
+    let now = subst (λ (s : ScanSpec _). AreLeft g.G.RowGroups.is_coming s l) (sym c.self.view_is) are in
+    same_group g.G.RowGroups.is_coming c.self.inside.most (g.G.RowGroups.current c.self.inside.groups) c.self.inside.group_rows (c.self.inside.first + c.self.inside.rows) c.min-self-inside.result
+    (record { source = c.self.inside.groups; header = g.G.RowGroups.header_of c.self.inside.groups; columns = []; most = c.self.inside.most; at = piece_now (g.G.RowGroups.current c.self.inside.groups) (c.self.inside.first + c.self.inside.rows) c.min-self-inside.result; behind = pieces_behind c.self.inside.most (g.G.RowGroups.current c.self.inside.groups) (c.self.inside.first + c.self.inside.rows + c.min-self-inside.result); rows_left = 0 }) l now.0
+    (vector_length_within c.self.inside.most c.self.invariant.vectors).0 c.self.invariant.group_rows_are c.if-behind-group_rows.true c.min-self-inside.ensures refl refl refl now.1 now.2
 
 pub returns-then-behind-group_rows-clause-stands : goal.returns-then-behind-group_rows-clause-stands
 returns-then-behind-group_rows-clause-stands g c =
     still_stand c.self.inside.most _ c.self.inside.group_rows (c.self.inside.first + c.self.inside.rows) c.min-self-inside.result (vector_length_within c.self.inside.most c.self.invariant.vectors).0 c.self.invariant.group_rows_are c.if-behind-group_rows.true c.min-self-inside.ensures
 
-pub returns-clause-returned : goal.returns-clause-returned
-returns-clause-returned g c =
+pub returns-then-behind-group_rows-clause-counted : goal.returns-then-behind-group_rows-clause-counted
+returns-then-behind-group_rows-clause-counted g c =
+    rw (← c.self.view_is) (counts_same c.self.inside.most (g.G.RowGroups.current c.self.inside.groups) c.self.inside.group_rows (c.self.inside.first + c.self.inside.rows) c.min-self-inside.result (g.G.RowGroups.rows_left c.self.inside.groups)
+    (vector_length_within c.self.inside.most c.self.invariant.vectors).0 c.self.invariant.group_rows_are c.if-behind-group_rows.true c.min-self-inside.ensures)
+
+pub fill_now-requires-in-Ok : goal.fill_now-requires-in-Ok
+fill_now-requires-in-Ok g c =
+    (c.self.inside.most, subst (λ (h : Header). All (IsBufferOf h.columns c.self.inside.most) c.self.inside.buffers.items) (sym c.advance.ensures.same) c.self.invariant.of_columns)
+
+pub invariant_of-self-in-Ok : goal.invariant_of-self-in-Ok
+invariant_of-self-in-Ok g c =
+    let of_columns = subst (λ (h : Header). All (IsBufferOf h.columns c.self.inside.most) c.self.inside.buffers.items) (sym c.advance.ensures.same) c.self.invariant.of_columns in
+    let below = subst (λ (h : Header). All (λ p. p < length h.columns) (columns_of c.self.inside.buffers.items)) (sym c.advance.ensures.same) c.self.invariant.columns_within in
+    let size = c.min-self-inside-in-Ok.ensures in
+    stands_again _ c.self.inside.most _ c.rows_now-self-inside.result 0 c.min-self-inside-in-Ok.result c.self.inside.buffers.items _ below c.self.invariant.vectors c.rows_now-self-inside.ensures.value
+    (omega arith) (omega (arith, size)) of_columns c.fill_now-in-Ok.ensures
+
+pub returns-in-Ok-clause-columns : goal.returns-in-Ok-clause-columns
+returns-in-Ok-clause-columns g c =
+    ap columns_of c.fill_now-in-Ok.ensures ∙ now_columns _ 0 c.self.inside.buffers.items ∙ ap (λ (s : ScanSpec _). s.columns) c.self.view_is
+
+pub returns-in-Ok-clause-told : goal.returns-in-Ok-clause-told
+returns-in-Ok-clause-told g c = λ l are.
     let end = c.if-behind-group_rows.false in
     let same = c.self.invariant.group_rows_are in
-    let most = c.self.inside.most in
-    λ left known. subst (λ (k : ℕ). Advances c.in_ok-more.more left (piece_now (g.G.RowGroups.current c.next_group.new.self) 0 c.min-self-inside-2.result) (pieces_left most (g.G.RowGroups.current c.next_group.new.self) k (g.G.RowGroups.coming c.next_group.new.self)))
-    (omega arith) (next_group most _ _ _ _ (c.self.inside.first + c.self.inside.rows) c.rows_now-self-inside.result c.min-self-inside-2.result c.in_ok-more.more left (vector_length_within c.self.inside.most c.self.invariant.vectors).0 (omega (arith, end, same))
-    c.in_ok-more.ensures.returned.known c.rows_now-self-inside.ensures.value c.rows_now-self-inside.ensures.some c.min-self-inside-2.ensures (ap (λ (s : ScanSpec). s.left) c.self.view_is ∙ known))
+    let now = subst (λ (s : ScanSpec _). AreLeft g.G.RowGroups.is_coming s l) (sym c.self.view_is) are in
+    next_group g.G.RowGroups.is_coming c.self.inside.most (g.G.RowGroups.current c.self.inside.groups) (g.G.RowGroups.current c.advance.new.self) (c.self.inside.first + c.self.inside.rows) c.rows_now-self-inside.result c.min-self-inside-in-Ok.result
+    (record { source = c.advance.new.self; header = g.G.RowGroups.header_of c.self.inside.groups; columns = []; most = c.self.inside.most; at = piece_now (g.G.RowGroups.current c.advance.new.self) 0 c.min-self-inside-in-Ok.result; behind = pieces_behind c.self.inside.most (g.G.RowGroups.current c.advance.new.self) (0 + c.min-self-inside-in-Ok.result); rows_left = 0 }) l now.0 c.in-Ok.more
+    (vector_length_within c.self.inside.most c.self.invariant.vectors).0 (omega (arith, end, same)) (c.in-Ok.ensures.told now.0 now.1) c.rows_now-self-inside.ensures.value c.rows_now-self-inside.ensures.some c.min-self-inside-in-Ok.ensures refl refl (ap (λ (k : ℕ). pieces_behind c.self.inside.most (g.G.RowGroups.current c.advance.new.self) k) (omega arith)) now.2
 
-pub returns-clause-stands : goal.returns-clause-stands
-returns-clause-stands g c =
-    some_stand c.self.inside.most c.rows_now-self-inside.result c.min-self-inside-2.result c.in_ok-more.more _ (vector_length_within c.self.inside.most c.self.invariant.vectors).0 c.in_ok-more.ensures.returned.stands c.rows_now-self-inside.ensures.some c.min-self-inside-2.ensures
+pub returns-in-Ok-clause-stands : goal.returns-in-Ok-clause-stands
+returns-in-Ok-clause-stands g c =
+    some_stand c.self.inside.most c.rows_now-self-inside.result c.min-self-inside-in-Ok.result c.in-Ok.more _ (vector_length_within c.self.inside.most c.self.invariant.vectors).0 c.in-Ok.ensures.stands c.rows_now-self-inside.ensures.some c.min-self-inside-in-Ok.ensures
+
+pub returns-in-Err-clause-told : goal.returns-in-Err-clause-told
+returns-in-Err-clause-told g c = λ l are.
+    let end = c.if-behind-group_rows.false in
+    let same = c.self.invariant.group_rows_are in
+    let now = subst (λ (s : ScanSpec _). AreLeft g.G.RowGroups.is_coming s l) (sym c.self.view_is) are in
+    no_group g.G.RowGroups.is_coming c.self.inside.most (g.G.RowGroups.current c.self.inside.groups) (c.self.inside.first + c.self.inside.rows) (g.G.RowGroups.is_coming c.advance.new.self) (g.G.RowGroups.current c.advance.new.self)
+    (record { source = c.advance.new.self; header = g.G.RowGroups.header_of c.self.inside.groups; columns = []; most = c.self.inside.most; at = None; behind = []; rows_left = 0 }) l now.0 c.in-Err.fault
+    (vector_length_within c.self.inside.most c.self.invariant.vectors).0 (omega (arith, end, same)) (c.in-Err.ensures.told now.0 now.1) now.2
+
+pub returns-in-Ok-clause-counted : goal.returns-in-Ok-clause-counted
+returns-in-Ok-clause-counted g c =
+    let end = c.if-behind-group_rows.false in
+    let none : c.min-self-inside-in-Ok.result ≡ 0 + c.min-self-inside-in-Ok.result = omega arith in
+    rw (← c.self.view_is) (subst (λ (k : ℕ). CountsRows c.in-Ok.more ((c.self.inside.group_rows - (c.self.inside.first + c.self.inside.rows)) + g.G.RowGroups.rows_left c.self.inside.groups)
+    ((c.rows_now-self-inside.result - k) + g.G.RowGroups.rows_left c.advance.new.self) (piece_now (g.G.RowGroups.current c.advance.new.self) 0 c.min-self-inside-in-Ok.result)) none
+    (counts_next c.self.inside.most (g.G.RowGroups.current c.advance.new.self) c.self.inside.group_rows (c.self.inside.first + c.self.inside.rows) c.rows_now-self-inside.result c.min-self-inside-in-Ok.result
+    (g.G.RowGroups.rows_left c.self.inside.groups) (g.G.RowGroups.rows_left c.advance.new.self) c.in-Ok.more (vector_length_within c.self.inside.most c.self.invariant.vectors).0 (omega (arith, end)) c.in-Ok.ensures.stands c.in-Ok.ensures.counted
+    c.rows_now-self-inside.ensures.value c.rows_now-self-inside.ensures.some c.min-self-inside-in-Ok.ensures))

@@ -1,0 +1,6 @@
+-- The lemmas of this crate.
+pub mod EntryKinds
+pub mod LaneLists
+pub mod OneColumn
+pub mod RowMarks
+pub mod TypedEntries

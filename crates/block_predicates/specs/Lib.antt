@@ -1,0 +1,4 @@
+-- The definitions of this crate.
+pub mod Entries
+pub mod Marks
+pub mod Predicate

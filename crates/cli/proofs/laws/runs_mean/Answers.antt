@@ -1,6 +1,0 @@
--- Proofs of the goals of `runs_mean` (`laws`).
-use Rattle.cli.proofs.Program.{runs_mean}
-use Rattle.cli.proofs.laws.runs_mean.Goals as goal
-
-pub returns : goal.returns
-returns c = runs_mean

@@ -1,8 +1,0 @@
--- Loop invariants of `load_dimensions` (`loading`).
-use Rattle.std.proofs.Common.{take}
-use Rattle.folders.specs.Each.{AreEach}
-use Rattle.cli.specs.Loading.{IsDimensionLoaded}
-use Rattle.cli.proofs.loading.load_dimensions.Given as goal
-
-abbrev pub invariant-loop-dim : goal.invariant-loop-dim
-invariant-loop-dim g l = AreEach (IsDimensionLoaded (g.F.Folder.holds l.folder) l.directory) (take l.dim-index l.dim-items) l.dims.items

@@ -1,0 +1,7 @@
+-- The lemmas of this crate.
+mod Finished
+mod HandedOn
+mod LoadedColumns
+mod Refusals
+mod Unloaded
+mod WrittenFiles

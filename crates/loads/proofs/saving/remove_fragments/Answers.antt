@@ -1,0 +1,29 @@
+-- Proofs of the goals of `remove_fragments` (`saving`).
+use Rattle.std.proofs.Common.{◌≡◌, ◌-◌, ℕ, length, sym, subst, arith}
+use Rattle.std.proofs.lemmas.Result.{err_from_is_err_and}
+use Rattle.folders.specs.Folder.{Writes, fragment_path}
+use Rattle.loads.specs.Loading.{removed}
+use Rattle.loads.proofs.WrittenFiles.{less, removed_more}
+use Rattle.loads.proofs.saving.remove_fragments.Goals as goal
+
+pub loop-fragment-preserved : goal.loop-fragment-preserved
+loop-fragment-preserved g c =
+    let F = g.F.Folder in
+    let target = c.args.target.now in
+    let le = c.loop-fragment.invariant.0 in
+    let below = c.loop-fragment-test.true in (
+      omega (arith, le),
+      omega (arith, below),
+      removed_more (λ k. fragment_path target.directory.now target.catalog.now.fact.name k) (length c.args.cut.now) c.loop-fragment.fragment (F.wrote c.args.folder.now) (F.wrote c.loop-fragment.folder) (F.wrote c.remove_fragment.new.folder)
+          le c.loop-fragment.invariant.2 c.in_ok-remove_fragment.ensures.removed,
+    )
+
+pub returns-in_err-remove_fragment-clause-left : goal.returns-in_err-remove_fragment-clause-left
+returns-in_err-remove_fragment-clause-left g c =
+    let F = g.F.Folder in
+    let target = c.args.target.now in
+    let cut = c.args.cut.now in
+    let p = err_from_is_err_and c.from_residual.result c.from_residual.ensures.1 in
+    rw p.1 (
+    subst (Writes (λ changes. (n : ℕ) × (changes ≡ removed target.directory.now target.catalog.now.fact cut n)) (F.wrote c.args.folder.now)) (sym c.in_err-remove_fragment.ensures.left)
+    (less (F.wrote c.args.folder.now) (F.wrote c.loop-fragment.folder) (λ changes is. (c.loop-fragment.fragment - length cut, is)) c.loop-fragment.invariant.2))

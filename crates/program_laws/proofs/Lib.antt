@@ -1,0 +1,4 @@
+-- The lemmas of this crate.
+mod LoadedFiles
+mod OneJob
+mod Program

@@ -4,9 +4,8 @@ use crate::batches::are_rows;
 use crate::files::{Shape, file_of, integers, texts};
 use columns::Column;
 use fragment_file::{FragmentView, open};
-use group_reader::GroupReader;
 use meaning::{ArithmeticOperator, Boxed, ColType, ComparisonOperator, Expr, Value};
-use scan_select::{RowGroups, Scan, ScanBatch, ScanFault, select};
+use scan_select::{FileGroups, Scan, ScanBatch, ScanFault, select};
 use std::alloc::{AllocError, Global};
 use std::fmt::Write;
 use std::test::Fail;
@@ -28,9 +27,9 @@ fn rows_of(scanned: &ScanBatch<'_>, column: &Column, from: usize, most: usize) -
 }
 
 /// Whether the scan gives the column's rows, each once, and then ends.
-fn gives_all<G: RowGroups + Drop>(
+fn gives_all<'v>(
     alloc: Global,
-    scan: &mut Scan<G>,
+    scan: &mut Scan<FileGroups<'v>>,
     column: &Column,
     most: usize,
 ) -> Result<bool, AllocError> {
@@ -66,24 +65,6 @@ fn is_scanned(alloc: Global, view: &FragmentView<'_>, column: &Column) -> Result
     Ok(true)
 }
 
-/// The same, of a reader of the file's bytes.
-fn is_read(alloc: Global, bytes: &[u8], column: &Column) -> Result<bool, AllocError> {
-    for most in [3, 1_024, 4_096] {
-        let Ok(reader) = GroupReader::open(alloc, bytes) else {
-            return Ok(false);
-        };
-        match Scan::over(alloc, reader, most) {
-            Ok(mut scan) => {
-                if !gives_all(alloc, &mut scan, column, most)? {
-                    return Ok(false);
-                }
-            }
-            Err(_) => return Ok(false),
-        }
-    }
-    Ok(true)
-}
-
 /// Each kind of block that integers and texts of this shape are written in.
 fn are_scanned(alloc: Global, shape: Shape, nullable: bool, rows: u32) -> Result<bool, Fail> {
     let column = integers(alloc, shape, nullable, rows)?;
@@ -91,13 +72,13 @@ fn are_scanned(alloc: Global, shape: Shape, nullable: bool, rows: u32) -> Result
     let Ok(view) = open(alloc, &bytes) else {
         return Ok(false);
     };
-    if !is_scanned(alloc, &view, &column)? || !is_read(alloc, &bytes, &column)? {
+    if !is_scanned(alloc, &view, &column)? {
         return Ok(false);
     }
     let column = texts(alloc, shape, nullable, rows)?;
     let bytes = file_of(alloc, texts(alloc, shape, nullable, rows)?)?;
     match open(alloc, &bytes) {
-        Ok(view) => { Ok(is_scanned(alloc, &view, &column)? && is_read(alloc, &bytes, &column)?) }
+        Ok(view) => Ok(is_scanned(alloc, &view, &column)?),
         Err(_) => Ok(false),
     }
 }

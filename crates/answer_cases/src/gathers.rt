@@ -11,7 +11,7 @@ use std::fmt::Write;
 use std::mem;
 use std::mem::drop;
 
-fn show_refusal(shown: &mut String, fault: &GatherFault) -> Result<(), AllocError> {
+pub fn show_refusal(shown: &mut String, fault: &GatherFault) -> Result<(), AllocError> {
     writeln!(shown, "refused {}", fault.number())
 }
 
@@ -55,7 +55,7 @@ fn report(alloc: Global, gather: &Gather, shown: &mut String) -> Result<(), Allo
     }
 }
 
-fn print(alloc: Global, gather: &Gather, shown: &mut String) -> Result<(), AllocError> {
+pub fn print(alloc: Global, gather: &Gather, shown: &mut String) -> Result<(), AllocError> {
     let mut out = Vec::new(alloc);
     match gather.print_report(alloc, &mut out) {
         Ok(_) => show_printed(alloc, shown, "out", out.as_slice()),

@@ -1,6 +1,8 @@
 //! Which kind of case a record is.
 use crate::{catalog, cut, plan, program, sql};
-use answer_cases::{show_answer, show_gathering, show_state, show_whole_query};
+use answer_cases::{
+    show_answer, show_gathering, show_random_schedules, show_schedule, show_state, show_whole_query,
+};
 use case_files::{StoredFile, bytes_of, escaped_bytes, find};
 use expression_cases::{show_agreement, show_expressions};
 use join_cases::show_lookups;
@@ -43,6 +45,8 @@ fn show_kind(
         "answer" => show_answer(alloc, words, body),
         "state" => show_state(alloc, words, body),
         "gather" => show_gathering(alloc, words, body, files),
+        "random-schedules" => show_random_schedules(alloc, words, body, files.as_slice()),
+        "schedule" => show_schedule(alloc, words, body, files.as_slice()),
         "whole" => show_whole_query(alloc, words, files.as_slice()),
         _ => show_storage(alloc, kind, words, body, files.as_slice()),
     }

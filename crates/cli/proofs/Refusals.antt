@@ -20,9 +20,9 @@ use Rattle.cli.specs.WholeRefusal.{refusal_of}
 use Rattle.folders.specs.declared.refusal.Refusal.{Refusal}
 use Rattle.folders.specs.declared.refusal.Refusal.TheVariants as refusal
 use Rattle.jobs.specs.Job.{IsQueryRefused as IsUnplanned}
-use Rattle.jobs.specs.Working.{IsWorkRefused}
+use Rattle.jobs.specs.Working.{IsWorkRefused, IsWorkUnread}
 use Rattle.command_line.specs.declared.commands.WorkCommand.{WorkCommand}
-use Rattle.cli.specs.Refusing.{IsInputRefused, IsRefusedSo, IsWholeRefused}
+use Rattle.cli.specs.Refusing.{IsInputRefused, IsRefusedSo, IsUnreadFirst, IsWholeRefused}
 use Rattle.loads.specs.Refusing.{IsLoadLeft, IsLoadRefused, IsQuiet}
 use Rattle.cli.specs.Running.{files_of, input_over}
 use Rattle.command_line.specs.declared.commands.Command.{Command}
@@ -78,3 +78,16 @@ whole_refused holds command folder lent query text rows vector (Err e) before af
       quiet = quiet;
       left = refl;
     })
+
+-- ---- the first file that can't be read
+
+-- `load` and `whole` say nothing of it
+pub load_first : (holds : Holds) (opens : List ℕ → Type 0) (command : Command) (folder : List ℕ) (load rows : ℕ) (e : Refusal) → command ≡ Load folder load rows → IsUnreadFirst holds opens command e
+load_first holds opens command folder load rows e is = subst (λ (x : Command). IsUnreadFirst holds opens x e) (sym is) tt
+
+pub whole_first : (holds : Holds) (opens : List ℕ → Type 0) (command : Command) (folder query : List ℕ) (rows vector : ℕ) (result : Result ℕ Refusal) → command ≡ Whole folder query rows vector → IfErr result (IsUnreadFirst holds opens command)
+whole_first holds opens command folder query rows vector (Ok status) is = tt
+whole_first holds opens command folder query rows vector (Err e) is = subst (λ (x : Command). IsUnreadFirst holds opens x e) (sym is) tt
+
+pub work_first : (holds : Holds) (opens : List ℕ → Type 0) (command : Command) (asked : WorkCommand) (e : Refusal) → command ≡ Work asked → IsWorkUnread holds opens asked e → IsUnreadFirst holds opens command e
+work_first holds opens command asked e is first = subst (λ (x : Command). IsUnreadFirst holds opens x e) (sym is) first

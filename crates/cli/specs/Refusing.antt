@@ -17,9 +17,9 @@ use Rattle.folders.specs.Refused.{IsUnread, IsUnwritten}
 use Rattle.cli.specs.WholeRefusal.{refusal_of}
 use Rattle.folders.specs.declared.refusal.Refusal.{Refusal}
 use Rattle.folders.specs.declared.refusal.Refusal.TheVariants as refusal
-use Rattle.jobs.specs.Gathering.{IsGatherLeft, IsGatherRefused}
+use Rattle.jobs.specs.Gathering.{IsGatherLeft, IsGatherRefused, IsGatherUnread}
 use Rattle.folders.specs.Tables.{IsCatalogRefused, IsCatalogThere}
-use Rattle.jobs.specs.Working.{IsWorkRefused}
+use Rattle.jobs.specs.Working.{IsWorkRefused, IsWorkUnread}
 use Rattle.loads.specs.Refusing.{IsLoadLeft, IsLoadRefused, IsQuiet, IsUneven}
 use Rattle.cli.specs.Running.{AreTables, IsCsvOf, input_over}
 use Rattle.command_line.specs.declared.commands.Command.{Command}
@@ -70,6 +70,12 @@ IsRefusedFor holds (Whole folder query rows vector) e = IsWholeRefused holds fol
 IsRefusedFor holds (Load folder load rows) e = IsLoadRefused holds folder rows e
 IsRefusedFor holds (Work command) e = IsWorkRefused holds command e
 IsRefusedFor holds (Gather command) e = IsGatherRefused holds command e
+
+-- a file that `work` or `gather` can't read is the first of theirs: those before it were opened
+abbrev pub IsUnreadFirst : Holds → (List ℕ → Type 0) → Command → Refusal → Type 0
+IsUnreadFirst holds opens (Work command) e = IsWorkUnread holds opens command e
+IsUnreadFirst holds opens (Gather command) e = IsGatherUnread opens command e
+IsUnreadFirst holds opens _ e = ⊤
 
 -- ---- what a refusal leaves
 

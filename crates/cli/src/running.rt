@@ -7,13 +7,13 @@ ghost use Rattle.planner.specs.QueryText.{IsPlanned};
 ghost use Rattle.gathering.specs.Gathering.{GatherSpec};
 ghost use Rattle.coordinator.specs.Whole.{IsAnswered};
 ghost use Rattle.command_line.specs.Command.{IsInRange};
-ghost use Rattle.cli.specs.Refusing.{IsInputRefused, IsQueryRefused, IsRefusedOver, IsRefusedSo, IsSilent, IsWholeRefused};
+ghost use Rattle.cli.specs.Refusing.{IsInputRefused, IsQueryRefused, IsRefusedOver, IsRefusedSo, IsSilent, IsUnreadFirst, IsWholeRefused};
 ghost use Rattle.loads.specs.Refusing.{IsQuiet};
 ghost use Rattle.cli.specs.Running.{AreTables, IsAnsweredSo, IsWholeDone, IsCommandDone, IsReportedAs, input_over};
 ghost use Rattle.cli.specs.Status.{IsEndStatus, IsRunStatus, end_status, report_status};
 ghost use Rattle.folders.specs.declared.refusal.Refusal.{Refusal as ARefusal};
-ghost use Rattle.jobs.specs.Gathering.{IsGatherLeft, IsGatherRefused};
-ghost use Rattle.jobs.specs.Working.{IsWorked, IsWorkRefused};
+ghost use Rattle.jobs.specs.Gathering.{IsGatherLeft, IsGatherRefused, IsGatherUnread};
+ghost use Rattle.jobs.specs.Working.{IsWorked, IsWorkRefused, IsWorkUnread};
 
 use crate::question::{Question, Request};
 use crate::refusal_lines::print_refusal;
@@ -211,6 +211,7 @@ fn gather<F: Folder, O: Write, E: Write>(
         (IsReportedAs (F.holds folder.old) command.now (O.contents out.old) (O.contents out.new)
         (E.contents err.old) (E.contents err.new) (F.wrote folder.old) (F.wrote folder.new)) }
     ensures refused { IfErr result (IsGatherRefused (F.holds folder.old) command.now) }
+    ensures first { IfErr result (IsGatherUnread (F.opens folder.old) command.now) }
     ensures quiet { IfErr result (λ e. IsQuiet e (O.contents out.old) (O.contents out.new)) }
     ensures left { OnErr result
         (IsGatherLeft (F.holds folder.old) command.now (E.contents err.old) (F.wrote folder.old)
@@ -224,6 +225,8 @@ fn work<F: Folder>(alloc: Global, folder: &mut F, command: &WorkCommand) -> Resu
     ensures worked { OnOk result
         (IsWorked (F.holds folder.old) command.now (F.wrote folder.old) (F.wrote folder.new)) }
     ensures refused { IfErr result (IsWorkRefused (F.holds folder.old) command.now) }
+    ensures first { IfErr result
+        (IsWorkUnread (F.holds folder.old) (F.opens folder.old) command.now) }
     ensures left { OnErr result (F.wrote folder.new ≡ F.wrote folder.old) }
 {
     answer_fragment(alloc, folder, command)
@@ -255,6 +258,8 @@ pub fn outcome<F: Folder, O: Write, E: Write>(
     ensures refused { IfErr result
         (IsRefusedSo (F.holds folder.old) command.now (O.contents out.old) (O.contents out.new)
         (E.contents err.old) (F.wrote folder.old) (F.wrote folder.new)) }
+    ensures first { IfErr result
+        (IsUnreadFirst (F.holds folder.old) (F.opens folder.old) command.now) }
     ensures silent { OnErr result (IsSilent command.now (E.contents err.old) (E.contents err.new)) }
 {
     match command {
@@ -305,7 +310,8 @@ pub fn run<F: Folder, O: Write, E: Write>(
         (E.contents err.old) (E.contents err.new) (F.wrote folder.old) (F.wrote folder.new) result }
     ensures refused { result ≡ 1 → (e : ARefusal)
         × IsRefusedSo (F.holds folder.old) command.now (O.contents out.old) (O.contents out.new)
-        (E.contents err.old) (F.wrote folder.old) (F.wrote folder.new) e }
+        (E.contents err.old) (F.wrote folder.old) (F.wrote folder.new) e
+        × IsUnreadFirst (F.holds folder.old) (F.opens folder.old) command.now e }
 {
     match outcome(alloc, command, folder, out, err) {
         Ok(status) => status,

@@ -1,5 +1,5 @@
 -- What words say of a command.
-use Rattle.std.specs.Prelude.{◌≡◌, ◌⊎◌, ℕ, true, List, [], ◌∷◌, codes, Option, Some, None}
+use Rattle.std.specs.Prelude.{◌≡◌, ◌⊎◌, ℕ, true, if◌then◌else◌, List, [], ◌∷◌, codes, Option, Some, None}
 use Rattle.command_line.specs.declared.commands.Command.{Command}
 use Rattle.command_line.specs.declared.commands.Command.TheVariants.{Whole, Load, Work, Gather}
 use Rattle.command_line.specs.Words.{AreParts, IsNumber, Named, Word, are_among, values}
@@ -34,6 +34,13 @@ options_of (Load folder load rows) = codes "load" ∷ codes "rows" ∷ []
 options_of (Work command) = codes "query" ∷ codes "fragment" ∷ codes "out" ∷ codes "vector" ∷ []
 options_of (Gather command) = codes "query" ∷ codes "save" ∷ []
 
+-- its flags
+abbrev pub flags_in : Command → List Word
+flags_in (Whole folder query rows vector) = []
+flags_in (Load folder load rows) = []
+flags_in (Work command) = []
+flags_in (Gather command) = if command.preview then codes "preview" ∷ [] else []
+
 -- its words that are no options
 abbrev pub plain_words : Command → List Word
 plain_words (Whole folder query rows vector) = folder ∷ []
@@ -48,14 +55,15 @@ HasOptions named (Load folder load rows) = HasNumber (codes "load") named load �
 HasOptions named (Work command) = HasText (codes "query") named command.query × HasNumber (codes "fragment") named command.fragment × HasText (codes "out") named command.out × HasVector named command.vector
 HasOptions named (Gather command) = HasText (codes "query") named command.query × HasTextOrNone (codes "save") named command.save
 
--- the command of that name, with these options and plain words
-pub record IsOf (name : Word) (named : List Named) (plain : List Word) (command : Command) : Type 0 where
+-- the command of that name, with these options, flags and plain words
+pub record IsOf (name : Word) (named : List Named) (flags plain : List Word) (command : Command) : Type 0 where
   pub is : name_of command ≡ name
+  pub flags_are : flags_in command ≡ flags
   pub words : plain_words command ≡ plain
   pub among : are_among (options_of command) named ≡ true
   pub options : HasOptions named command
 
--- Words say a command: its name, and then its options, each once at most, and its plain words.
+-- Words say a command: its name, and then its options and flags, each once at most, and its plain words.
 abbrev pub IsSaid : List Word → Command → Type 0
-IsSaid words command = (rest : List Word) × (named : List Named) × (words ≡ name_of command ∷ rest) × AreParts rest named (plain_words command)
+IsSaid words command = (rest : List Word) × (named : List Named) × (words ≡ name_of command ∷ rest) × AreParts rest named (flags_in command) (plain_words command)
     × (are_among (options_of command) named ≡ true) × HasOptions named command

@@ -18,17 +18,23 @@ Named = Word × Word
 abbrev pub IsName : Word → Type 0
 IsName name = (i : ℕ) → i < length name → get_or name i 0 ≢ 61
 
+-- an option that has no value
+abbrev pub IsFlag : Word → Type 0
+IsFlag name = name ≡ codes "preview"
+
 -- no option, and not the end of the options
 abbrev pub IsPlain : Word → Type 0
 IsPlain word = (rest : Word) → word ≢ codes "--" ++ rest
 
--- Options, each with its value as the next word or behind `=`, and plain words, in any order. Behind `--` all words are plain.
-pub data AreParts : List Word → List Named → List Word → Type 0 where
-  nothing : AreParts [] [] []
-  apart : {ws : List Word} {named : List Named} {plain : List Word} (name value : Word) → IsName name → AreParts ws named plain → AreParts ((codes "--" ++ name) ∷ value ∷ ws) ((name, value) ∷ named) plain
-  joined : {ws : List Word} {named : List Named} {plain : List Word} (name value : Word) → IsName name → AreParts ws named plain → AreParts ((codes "--" ++ (name ++ (codes "=" ++ value))) ∷ ws) ((name, value) ∷ named) plain
-  word : {ws : List Word} {named : List Named} {plain : List Word} (w : Word) → IsPlain w → AreParts ws named plain → AreParts (w ∷ ws) named (w ∷ plain)
-  behind : (ws : List Word) → AreParts (codes "--" ∷ ws) [] ws
+-- Options, each with its value as the next word or behind `=`, flags, and plain words, in any order. Behind `--` all words are
+-- plain.
+pub data AreParts : List Word → List Named → List Word → List Word → Type 0 where
+  nothing : AreParts [] [] [] []
+  apart : {ws : List Word} {named : List Named} {flags plain : List Word} (name value : Word) → IsName name → (IsFlag name → ⊥) → AreParts ws named flags plain → AreParts ((codes "--" ++ name) ∷ value ∷ ws) ((name, value) ∷ named) flags plain
+  joined : {ws : List Word} {named : List Named} {flags plain : List Word} (name value : Word) → IsName name → AreParts ws named flags plain → AreParts ((codes "--" ++ (name ++ (codes "=" ++ value))) ∷ ws) ((name, value) ∷ named) flags plain
+  flag : {ws : List Word} {named : List Named} {flags plain : List Word} (name : Word) → IsFlag name → AreParts ws named flags plain → AreParts ((codes "--" ++ name) ∷ ws) named (name ∷ flags) plain
+  word : {ws : List Word} {named : List Named} {flags plain : List Word} (w : Word) → IsPlain w → AreParts ws named flags plain → AreParts (w ∷ ws) named flags (w ∷ plain)
+  behind : (ws : List Word) → AreParts (codes "--" ∷ ws) [] [] ws
 
 -- the values of an option
 abbrev pub values : Word → List Named → List Word

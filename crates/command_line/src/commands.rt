@@ -45,6 +45,9 @@ pub struct GatherCommand {
     pub query: Text,
     /// The path under which the state is written, where it is to be saved.
     pub save: Option<Text>,
+    /// Whether what the answers say together is printed though fragments are missing or in
+    /// conflict.
+    pub preview: bool,
     /// The paths of answers and of states, in the order in which they are taken.
     pub files: Sequence<Text>,
 }

@@ -1,5 +1,5 @@
 //! The words that the program takes, as `clap` checks and explains them.
-use clap::Arg;
+use clap::{Arg, ArgAction};
 use meaning::{MAX_FRAGMENTS, MAX_ROWS, MAX_VECTOR_ROWS};
 use std::alloc::{AllocError, Global};
 use std::mem::drop;
@@ -112,6 +112,15 @@ fn save_arg<'a>(alloc: Global) -> Arg<'a> {
         .help("The file that the state is written to")
 }
 
+fn preview_arg<'a>(alloc: Global) -> Arg<'a> {
+    Arg::new(alloc, "preview")
+        .long("preview")
+        .action(ArgAction::SetTrue)
+        .help(
+            "Prints a preview in place of the report: the query over the fragments that hold one answer",
+        )
+}
+
 fn files_arg<'a>(alloc: Global) -> Arg<'a> {
     Arg::new(alloc, "FILES")
         .required(true)
@@ -156,5 +165,6 @@ fn gather_parser<'a>(alloc: Global) -> Result<clap::Command<'a>, AllocError> {
     let parser = parser.arg(folder_arg(alloc))?;
     let parser = parser.arg(query_arg(alloc))?;
     let parser = parser.arg(save_arg(alloc))?;
+    let parser = parser.arg(preview_arg(alloc))?;
     parser.arg(files_arg(alloc))
 }

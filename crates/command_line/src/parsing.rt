@@ -2,7 +2,7 @@
 ghost use Rattle.std.specs.Prelude.{◌≡◌, IfOk, IfSome, codes, map, option_map};
 ghost use Rattle.command_line.specs.Command.{IsInRange};
 ghost use Rattle.command_line.specs.Said.{IsOf, IsSaid};
-ghost use Rattle.command_line.specs.Steps.{given_of, plain_of};
+ghost use Rattle.command_line.specs.Steps.{flags_of, given_of, plain_of};
 
 use crate::commands::{Command, GatherCommand, WorkCommand};
 use crate::parser::parser;
@@ -65,7 +65,8 @@ fn said(alloc: Global, words: &[&str]) -> Result<Option<Command>, AllocError>
 
 fn of_name(alloc: Global, name: &str, parts: &Parts<'_>) -> Result<Option<Command>, AllocError>
     ensures said { IfOk result
-        (λ o. IfSome o (IsOf name.now (given_of parts.now) (plain_of parts.now))) }
+        (λ o. IfSome o (IsOf name.now (given_of parts.now)
+        (flags_of parts.now) (plain_of parts.now))) }
     ensures range { IfOk result (λ o. IfSome o IsInRange) }
 {
     match name {
@@ -79,10 +80,11 @@ fn of_name(alloc: Global, name: &str, parts: &Parts<'_>) -> Result<Option<Comman
 
 fn whole(alloc: Global, parts: &Parts<'_>) -> Result<Option<Command>, AllocError>
     ensures said { IfOk result
-        (λ o. IfSome o (IsOf (codes "whole") (given_of parts.now) (plain_of parts.now))) }
+        (λ o. IfSome o (IsOf (codes "whole") (given_of parts.now)
+        (flags_of parts.now) (plain_of parts.now))) }
     ensures range { IfOk result (λ o. IfSome o IsInRange) }
 {
-    if !parts.has_only(&["query", "rows", "vector"]) {
+    if !parts.has_only(&["query", "rows", "vector"]) || !parts.has_no_flag() {
         return Ok(None);
     }
     let (Some(folder), Some(query), Some(rows), Some(vector)) = (
@@ -103,10 +105,11 @@ fn whole(alloc: Global, parts: &Parts<'_>) -> Result<Option<Command>, AllocError
 
 fn load(alloc: Global, parts: &Parts<'_>) -> Result<Option<Command>, AllocError>
     ensures said { IfOk result
-        (λ o. IfSome o (IsOf (codes "load") (given_of parts.now) (plain_of parts.now))) }
+        (λ o. IfSome o (IsOf (codes "load") (given_of parts.now)
+        (flags_of parts.now) (plain_of parts.now))) }
     ensures range { IfOk result (λ o. IfSome o IsInRange) }
 {
-    if !parts.has_only(&["load", "rows"]) {
+    if !parts.has_only(&["load", "rows"]) || !parts.has_no_flag() {
         return Ok(None);
     }
     let (Some(folder), Some(load), Some(rows)) = (
@@ -125,10 +128,11 @@ fn load(alloc: Global, parts: &Parts<'_>) -> Result<Option<Command>, AllocError>
 
 fn work(alloc: Global, parts: &Parts<'_>) -> Result<Option<Command>, AllocError>
     ensures said { IfOk result
-        (λ o. IfSome o (IsOf (codes "work") (given_of parts.now) (plain_of parts.now))) }
+        (λ o. IfSome o (IsOf (codes "work") (given_of parts.now)
+        (flags_of parts.now) (plain_of parts.now))) }
     ensures range { IfOk result (λ o. IfSome o IsInRange) }
 {
-    if !parts.has_only(&["query", "fragment", "out", "vector"]) {
+    if !parts.has_only(&["query", "fragment", "out", "vector"]) || !parts.has_no_flag() {
         return Ok(None);
     }
     let (Some(folder), Some(query), Some(out)) = (
@@ -155,7 +159,8 @@ fn work(alloc: Global, parts: &Parts<'_>) -> Result<Option<Command>, AllocError>
 
 fn gather(alloc: Global, parts: &Parts<'_>) -> Result<Option<Command>, AllocError>
     ensures said { IfOk result
-        (λ o. IfSome o (IsOf (codes "gather") (given_of parts.now) (plain_of parts.now))) }
+        (λ o. IfSome o (IsOf (codes "gather") (given_of parts.now)
+        (flags_of parts.now) (plain_of parts.now))) }
     ensures range { IfOk result (λ o. IfSome o IsInRange) }
 {
     if !parts.has_only(&["query", "save"]) {
@@ -167,13 +172,18 @@ fn gather(alloc: Global, parts: &Parts<'_>) -> Result<Option<Command>, AllocErro
     if files.is_empty() {
         return Ok(None);
     }
-    let (Some(query), Some(save)) = (parts.text("query"), parts.text_if_any("save")) else {
+    let (Some(query), Some(save), Some(preview)) = (
+        parts.text("query"),
+        parts.text_if_any("save"),
+        parts.only_flag("preview"),
+    ) else {
         return Ok(None);
     };
     Ok(Some(Command::Gather(GatherCommand {
         folder: Text::new(alloc, folder)?,
         query: Text::new(alloc, query)?,
         save: text_if_any(alloc, save)?,
+        preview,
         files: texts(alloc, files)?,
     })))
 }

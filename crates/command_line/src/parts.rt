@@ -1,12 +1,12 @@
-//! The words behind a command's name: options with their values, and plain words.
-ghost use Rattle.std.specs.Prelude.{◌≡◌, ◌≤◌, ◌++◌, IfOk, IfSome, [], ◌∷◌, nat_eq, option_map};
+//! The words behind a command's name: options with their values, flags, and plain words.
+ghost use Rattle.std.specs.Prelude.{◌≡◌, ◌≤◌, ◌++◌, IfOk, IfSome, [], ◌∷◌, if◌then◌else◌, map, nat_eq, option_map, true};
 ghost use Rattle.std.specs.Cmp.Lexicographic.{pointwise};
 ghost use Rattle.std.specs.List.{list_all, list_any};
 ghost use Rattle.std.specs.Vec.{vec_items};
 ghost use Rattle.meaning.specs.Limits.{max_vector_rows};
 ghost use Rattle.command_line.specs.Found.{IsFound};
 ghost use Rattle.command_line.specs.Said.{HasNumber, HasText, HasTextOrNone, HasVector};
-ghost use Rattle.command_line.specs.Steps.{given_of, plain_of};
+ghost use Rattle.command_line.specs.Steps.{flags_of, given_of, plain_of};
 ghost use Rattle.command_line.specs.Words.{IsNumber, values};
 
 use crate::found::Found;
@@ -22,33 +22,47 @@ pub struct Given<'a> {
     pub value: &'a str,
 }
 
-/// Options with their values, and plain words.
+/// Options with their values, flags, and plain words.
 #[derive(Drop)]
 pub struct Parts<'a> {
     given: Vec<Given<'a>>,
+    flags: Vec<&'a str>,
     plain: Vec<&'a str>,
 }
 
 impl<'a> Parts<'a> {
     pub fn new(alloc: Global) -> Parts<'a>
-        ensures { (vec_items result.given ≡ []) × (vec_items result.plain ≡ []) }
+        ensures { (vec_items result.given ≡ []) × (vec_items result.flags ≡ [])
+            × (vec_items result.plain ≡ []) }
     {
         Parts {
             given: Vec::new(alloc),
+            flags: Vec::new(alloc),
             plain: Vec::new(alloc),
         }
     }
 
     pub fn add(&mut self, name: &'a str, value: &'a str) -> Result<(), AllocError>
         ensures { IfOk result (λ _. (given_of self.new ≡ given_of self.old
-            ++ ((name.now, value.now) ∷ [])) × (plain_of self.new ≡ plain_of self.old)) }
+            ++ ((name.now, value.now) ∷ [])) × (flags_of self.new ≡ flags_of self.old)
+            × (plain_of self.new ≡ plain_of self.old)) }
     {
         self.given.push(Given { name, value })?;
         Ok(())
     }
 
+    pub fn add_flag(&mut self, name: &'a str) -> Result<(), AllocError>
+        ensures { IfOk result (λ _. (given_of self.new ≡ given_of self.old)
+            × (flags_of self.new ≡ flags_of self.old ++ (name.now ∷ []))
+            × (plain_of self.new ≡ plain_of self.old)) }
+    {
+        self.flags.push(name)?;
+        Ok(())
+    }
+
     pub fn add_plain(&mut self, word: &'a str) -> Result<(), AllocError>
         ensures { IfOk result (λ _. (given_of self.new ≡ given_of self.old)
+            × (flags_of self.new ≡ flags_of self.old)
             × (plain_of self.new ≡ plain_of self.old ++ (word.now ∷ []))) }
     {
         self.plain.push(word)?;
@@ -76,10 +90,7 @@ impl<'a> Parts<'a> {
     pub fn only_word(&self) -> Option<&'a str>
         ensures { IfSome result (λ w. plain_of self.now ≡ w.now ∷ []) }
     {
-        match self.plain.as_slice() {
-            [word] => Some(word),
-            _ => None,
-        }
+        only(self.plain.as_slice())
     }
 
     /// Whether each option is one of these.
@@ -89,6 +100,27 @@ impl<'a> Parts<'a> {
             (vec_items self.now.given) }
     {
         self.given.iter().all(|given| is_among(given.name, names))
+    }
+
+    /// Whether no flag stands there.
+    pub fn has_no_flag(&self) -> bool
+        ensures { (result ≡ true) → (flags_of self.now ≡ []) }
+    {
+        self.flags.is_empty()
+    }
+
+    /// Whether this flag stands there, alone and once; nothing where another does, or it does often.
+    pub fn only_flag(&self, name: &str) -> Option<bool>
+        ensures { IfSome result (λ given. flags_of self.now
+            ≡ (if given then name.now ∷ [] else [])) }
+    {
+        if self.has_no_flag() {
+            return Some(false);
+        }
+        if only(self.flags.as_slice())? != name {
+            return None;
+        }
+        Some(true)
     }
 
     /// The value of an option that stands there once.
@@ -155,6 +187,16 @@ impl<'a> Parts<'a> {
             return None;
         }
         Some(number as u32)
+    }
+}
+
+// The word, where there is one alone.
+fn only<'a>(words: &[&'a str]) -> Option<&'a str>
+    ensures { IfSome result (λ w. map (λ w. w.now) words.now ≡ w.now ∷ []) }
+{
+    match words {
+        [word] => Some(word),
+        _ => None,
     }
 }
 

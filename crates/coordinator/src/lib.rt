@@ -16,4 +16,5 @@ pub use fault::WholeFault;
 pub use gathering::{
     Absorbed, Ended, Gather, GatherFault, PrintFault, Report, answers_decide, states_join,
 };
+pub use schedules::{Event, run_world};
 pub use sources::Sources;

@@ -62,6 +62,7 @@ pub fn read_file<F: Folder>(alloc: Global, folder: &F, path: &Text) -> Result<Ve
 pub fn open_file<F: Folder>(folder: &F, path: &Text) -> Result<F::Reader, Refusal>
     ensures opened { IfOk result
         (λ file. HasHeld (F.holds folder.now path.now) (F.Reader.remaining file)) }
+    ensures there { OnOk result (F.opens folder.now path.now) }
     ensures refused { IfErr result (IsUnread path.now) }
 {
     match folder.open(path.as_str()) {

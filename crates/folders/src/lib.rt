@@ -13,5 +13,5 @@ pub use files::{
 };
 pub use folder::Folder;
 pub use paths::{csv_path, cut_path, dimension_path, fragment_path};
-pub use refusal::{Refusal, cannot_read_csv, load_refusal};
+pub use refusal::{Refusal, cannot_read_csv, load_refusal, work_refusal};
 pub use tables::read_tables;

@@ -1,5 +1,7 @@
 //! Why a command was refused.
-ghost use Rattle.std.specs.Prelude.{◌≡◌};
+ghost use Rattle.std.specs.Prelude.{◌≡◌, ◌≢◌};
+ghost use Rattle.fragment_file.specs.declared.fault.FileFault.TheVariants as file_fault;
+ghost use Rattle.job_files.specs.declared.fault.WorkFault.TheVariants as work_fault;
 ghost use Rattle.folders.specs.Folder.{csv_path};
 ghost use Rattle.folders.specs.Refused.{IsLoadPathless, IsReturnedAs, IsUnread, IsUnwritten, load_refusal, of_catalog, of_cut, of_file, of_work};
 ghost use Rattle.folders.specs.declared.refusal.Refusal.TheVariants as refusal;
@@ -135,5 +137,17 @@ pub fn load_refusal(alloc: Global, folder: &str, table: &str, fault: LoadFault) 
         LoadFault::Memory => Refusal::Memory,
         LoadFault::Table(fault) => Refusal::Load(fault),
         LoadFault::Device => cannot_read_csv(alloc, folder, table),
+    }
+}
+
+/// The refusal of a command whose worker refused the files, where the fragment's file stands under
+/// this path. One that can't be read to its end can't be read.
+pub fn work_refusal(path: &Text, fault: WorkFault) -> Refusal
+    ensures unread { fault ≡ work_fault.File file_fault.Device → IsUnread path.now result }
+    ensures other { fault ≢ work_fault.File file_fault.Device → result ≡ of_work fault }
+{
+    match fault {
+        WorkFault::File(FileFault::Device) => cannot_read(path),
+        fault => Refusal::from(fault),
     }
 }

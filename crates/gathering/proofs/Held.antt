@@ -1,9 +1,9 @@
 -- What a coordinator holds fits its job, before and after an answer.
-use Rattle.std.specs.Prelude.{◌≡◌, ℕ, zero, suc, ◌+◌, ◌<◌, true, false, cond, List, [], ◌∷◌, ◌++◌, map, length, replicate, slice_set, slice_index_or}
+use Rattle.std.specs.Prelude.{◌≡◌, ℕ, zero, suc, ◌+◌, ◌<◌, Bool, true, false, not, cond, List, [], ◌∷◌, ◌++◌, map, length, replicate, slice_set, slice_index_or}
 use Rattle.std.specs.List.{range_with_len}
-use Rattle.std.proofs.Common.{refl, sym, ap, ◌∙◌, subst}
-use Rattle.std.proofs.lemmas.List.{length-replicate}
-use Rattle.std.proofs.lemmas.Bool.{ltb-true}
+use Rattle.std.proofs.Common.{refl, sym, ap, ◌∙◌, subst, arith}
+use Rattle.std.proofs.lemmas.List.{length-replicate, set-get_or, get_or-set_same}
+use Rattle.std.proofs.lemmas.Bool.{ltb-true, false≢true}
 use Rattle.std.proofs.lemmas.Option.{slice_get-get_or, same_Some}
 use Rattle.meaning.specs.declared.plan.Plan.{Plan}
 use Rattle.meaning.specs.Said.{Answer, Body, Cell}
@@ -13,9 +13,10 @@ use Rattle.meaning.specs.Gather.{join_cells, joined, same_body}
 use Rattle.meaning_laws.proofs.Absorb.{joined-push}
 use Rattle.meaning.proofs.Tests.{first_of}
 use Rattle.partial_codec.specs.Job.{JobSpec}
-use Rattle.partial_codec.specs.Answer.{Fits}
+use Rattle.partial_codec.specs.Answer.{Fits, Spells}
+use Rattle.gathering.specs.declared.gather.Absorbed.{Absorbed}
 use Rattle.gathering.specs.Fitted.{is_fitting}
-use Rattle.gathering.specs.Gathering.{least_handed, most_handed}
+use Rattle.gathering.specs.Gathering.{GatherSpec, IsGather, Rises, Takes, Would, absorbed_as, cell_at, cells_with, changes, least_handed, most_handed}
 use Rattle.gathering.specs.Joining.{conflict_unless, delta_of}
 use Rattle.gathering.specs.Merging.{all_groups, groups_in}
 use Rattle.gathering.specs.Totals.{behind, most_at_change}
@@ -80,3 +81,66 @@ pub handed_most : (own : Cell) (body : Body) (kept : List Cell) → most_at_chan
 handed_most Nothing body kept = refl
 handed_most (One a) body kept = elim (same_body a body) as (λ t. most_at_change (conflict_unless t) kept ≡ cond t 0 (length (all_groups kept))) [ true ↦ refl | false ↦ refl ]
 handed_most Conflict body kept = refl
+
+-- ---- whether an answer changes what is held
+
+stays_held : (c : Cell) (body : Body) → changes c body ≡ false → join_cells c (One body) ≡ c
+stays_held Nothing body e = absurd (false≢true (sym e))
+stays_held (One known) body e =
+    elim (same_body known body) as (λ t. not t ≡ false → cond t (One known) Conflict ≡ One known) [
+      | true ↦ λ f. refl
+      | false ↦ λ f. absurd (false≢true (sym f))
+    ] e
+stays_held Conflict body e = refl
+
+one_is_something : (body : Body) → One body ≡ Nothing → ⊥
+one_is_something body e = cc
+
+conflict_is_no_answer : (body : Body) → Conflict ≡ One body → ⊥
+conflict_is_no_answer body e = cc
+
+moves_held : (c : Cell) (body : Body) → changes c body ≡ true → join_cells c (One body) ≡ c → ⊥
+moves_held Nothing body e same = one_is_something body same
+moves_held (One known) body e same =
+    elim (same_body known body) as (λ t. not t ≡ true → cond t (One known) Conflict ≡ One known → ⊥) [
+      | true ↦ λ f g. false≢true f
+      | false ↦ λ f g. conflict_is_no_answer known g
+    ] e same
+moves_held Conflict body e same = false≢true e
+
+-- an answer that changes nothing hands no groups over
+hands_nothing : (c : Cell) (body : Body) → changes c body ≡ false → least_handed c body ≡ 0
+hands_nothing Nothing body e = absurd (false≢true (sym e))
+hands_nothing (One known) body e = refl
+hands_nothing Conflict body e = refl
+
+-- the cells with an answer that changes nothing are the cells
+pub stay : (cells : List Cell) (a : Answer) → changes (cell_at cells a.k) a.body ≡ false → cells_with cells a ≡ cells
+stay cells a e = ap (slice_set cells a.k) (stays_held (cell_at cells a.k) a.body e) ∙ set-get_or cells a.k Nothing
+
+-- and those with one that changes something are others
+pub move : (cells : List Cell) (a : Answer) → a.k < length cells → changes (cell_at cells a.k) a.body ≡ true → cells_with cells a ≡ cells → ⊥
+move cells a within e same =
+    moves_held (cell_at cells a.k) a.body e
+    (sym (get_or-set_same cells a.k (join_cells (cell_at cells a.k) (One a.body)) Nothing within) ∙ ap (λ (cs : List Cell). cell_at cs a.k) same)
+
+-- what is said of an answer before it is taken
+pub said_before : (g : GatherSpec) (bytes : List ℕ) (returned : Absorbed × Bool) (a : Answer) → IsGather g → Spells g.job bytes a → ((b : Answer) → Spells g.job bytes b → b ≡ a)
+    → returned.0 ≡ absorbed_as (cell_at g.cells a.k) a.k a.body → returned.1 ≡ changes (cell_at g.cells a.k) a.body → Would g bytes returned
+said_before g bytes returned a ok spelled one classified is = record {
+  answer = a;
+  spelled = spelled;
+  classified = classified;
+  same = λ e. record {
+    answer = a;
+    spelled = spelled;
+    job = refl;
+    cells = sym (stay g.cells a (sym is ∙ e));
+    classified = classified;
+    counted = record {
+      at_least = omega (arith, hands_nothing (cell_at g.cells a.k) a.body (sym is ∙ e));
+      at_most = omega arith;
+    };
+  };
+  changed = λ e b b_spelled same. move g.cells a (below g.job g.cells a ok.each spelled.fits) (sym is ∙ e) (ap (cells_with g.cells) (sym (one b b_spelled)) ∙ same);
+}

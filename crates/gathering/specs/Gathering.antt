@@ -1,5 +1,5 @@
 -- What a coordinator holds, and what an answer does to it.
-use Rattle.std.specs.Prelude.{◌≡◌, ◌≢◌, ℕ, ◌+◌, ◌≤◌, if◌then◌else◌, List, length, map, zip, slice_set, slice_index_or, Some, ⊤}
+use Rattle.std.specs.Prelude.{◌≡◌, ◌≢◌, ℕ, ◌+◌, ◌≤◌, Bool, true, false, not, if◌then◌else◌, List, length, map, zip, slice_set, slice_index_or, Some, ⊤}
 use Rattle.meaning.specs.Said.{Body}
 use Rattle.meaning.specs.Said.{Answer}
 use Rattle.meaning.specs.Said.{Cell}
@@ -90,6 +90,21 @@ pub record Takes (old new : GatherSpec) (bytes : List ℕ) (returned : Absorbed)
   pub classified : returned ≡ absorbed_as (cell_at old.cells answer.k) answer.k answer.body
   pub counted : Rises (least_handed (cell_at old.cells answer.k) answer.body)
       (most_handed (cell_at old.cells answer.k) answer.body new.cells) old.merges new.merges
+
+-- an answer would change what is held
+abbrev pub changes : Cell → Body → Bool
+changes Nothing body = true
+changes (One known) body = not (same_body known body)
+changes Conflict body = false
+
+-- The bytes spell an answer. Returned are what is said of it where it is taken, and whether a cell changes: where none
+-- does, a coordinator has taken it that stays just as it is.
+pub record Would (g : GatherSpec) (bytes : List ℕ) (returned : Absorbed × Bool) : Type 0 where
+  pub answer : Answer
+  pub spelled : Spells g.job bytes answer
+  pub classified : returned.0 ≡ absorbed_as (cell_at g.cells answer.k) answer.k answer.body
+  pub same : returned.1 ≡ false → Takes g g bytes returned.0
+  pub changed : returned.1 ≡ true → (a : Answer) → Spells g.job bytes a → cells_with g.cells a ≢ g.cells
 
 -- the other cells are joined with the old ones, fragment by fragment
 pub record Joins (old new : GatherSpec) (others : List Cell) : Type 0 where

@@ -9,7 +9,7 @@ ghost use Rattle.meaning.specs.SoundPlan.{IsSoundPlan};
 ghost use Rattle.partial_codec.specs.Answer.{Spells};
 ghost use Rattle.partial_codec.specs.State.{SpellsState, state_bytes};
 ghost use Rattle.gathering.specs.Fitted.{AreFitting};
-ghost use Rattle.gathering.specs.Gathering.{Takes, Joins, Refuses, RefusesState, RefusesJoin, absorbed_as};
+ghost use Rattle.gathering.specs.Gathering.{Takes, Would, Joins, Refuses, RefusesState, RefusesJoin, absorbed_as, changes};
 ghost use Rattle.gathering.specs.Merging.{all_groups};
 ghost use Rattle.gathering.specs.Report.{ended_as, summary, IsPrintRefusal};
 
@@ -86,6 +86,17 @@ fn classify(held: &Cell<Group>, fragment: u32, body: &Body<Group>) -> Absorbed
             }
         }
         Cell::Conflict => Absorbed::Conflict { fragment },
+    }
+}
+
+/// Whether an answer for a fragment of which this is held would change it.
+fn changes(held: &Cell<Group>, body: &Body<Group>) -> bool
+    ensures { result ≡ changes held.now body.now }
+{
+    match held {
+        Cell::Nothing => true,
+        Cell::One(known) => !is_same(known, body),
+        Cell::Conflict => false,
     }
 }
 
@@ -189,6 +200,19 @@ impl Gather {
             delta,
         )?;
         Ok(absorbed)
+    }
+
+    /// What an `absorb` of these bytes would return if it succeeded, and whether it would change
+    /// what is held for a fragment. The bytes' refusals are those of `partial_codec::decode`.
+    pub fn would(&self, alloc: Global, bytes: &[u8]) -> Result<(Absorbed, bool), GatherFault>
+        ensures would { IfOk result (Would self.now bytes.now) }
+        ensures refused { IfErr result (Refuses self.now.job bytes.now) }
+    {
+        let Answer { k, body } = decode(alloc, &self.job, bytes)?;
+        let held = &self.cells[k as usize];
+        let returned = (classify(held, k, &body), changes(held, &body));
+        drop(body);
+        Ok(returned)
     }
 
     /// Takes all that another coordinator holds. Another load, plan or cut is refused. On error

@@ -15,9 +15,9 @@ use Rattle.fragment_file.specs.FragmentReading.{block_at, block_of, blocks_at, f
 use Rattle.fragment_file.specs.View.{IsWithin, block_in}
 use Rattle.fragment_file.proofs.GroupLaws.{made_of, sound_is}
 use Rattle.group_reader.specs.declared.source.Source.{Source}
-use Rattle.group_reader.specs.Source.{IsBehind, Tells}
+use Rattle.group_reader.specs.Source.{Takes}
 use Rattle.group_reader.specs.Located.{AreLocated}
-use Rattle.group_reader.proofs.Telling.{judged_told}
+use Rattle.group_reader.proofs.Telling.{Reached, judged_told}
 use Rattle.group_reader.proofs.Pieces.{BeginsWith, begins_parts, begins_shorter}
 
 -- ---- one block
@@ -36,13 +36,14 @@ unfolding block_at
 block_start group column c rows bytes = refl
 
 -- what was judged behind all that was read
-pub judged_behind : {R : Type 0} (known : R → Option (List ℕ)) (s : Source R) (all left : List ℕ) (group column code : ℕ) (c : Column) (rows start : ℕ) (old new slice : List ℕ) (r : Result BlockLocation FileFault)
-    → start ≡ length old → slice ≡ new → Reads (block_in slice) r (sound group column (block_of (kind_of code) c rows (drop start slice))) → IsBehind known s all left
-    → Tells known s all (block_in new) r (behind_payload group column code c rows (drop (length old) new, left))
-judged_behind known s all left group column code c rows start old new slice r from same told behind =
-    judged_told known s all left (block_in new) r (sound group column (block_of (kind_of code) c rows (drop (length old) new)))
+pub judged_behind : {R : Type 0} {known : R → Option (List ℕ)} {before now : Source R} {part left : List ℕ → Read FileFault Block} (group column code : ℕ) (c : Column) (rows start : ℕ) (old new slice : List ℕ) (r : Result BlockLocation FileFault)
+    → Reached known before now part left → ((rest : List ℕ) → left rest ≡ behind_payload group column code c rows (drop (length old) new, rest))
+    → start ≡ length old → slice ≡ new → Reads (block_in slice) r (sound group column (block_of (kind_of code) c rows (drop start slice)))
+    → Takes known before now (block_in new) r part
+judged_behind group column code c rows start old new slice r reached is from same told =
+    judged_told (block_in new) r (sound group column (block_of (kind_of code) c rows (drop (length old) new))) reached is
     (subst (λ (n : ℕ). Reads (block_in new) r (sound group column (block_of (kind_of code) c rows (drop n new)))) from
-    (subst (λ (bytes : List ℕ). Reads (block_in bytes) r (sound group column (block_of (kind_of code) c rows (drop start bytes)))) same told)) behind
+    (subst (λ (bytes : List ℕ). Reads (block_in bytes) r (sound group column (block_of (kind_of code) c rows (drop start bytes)))) same told))
 
 sound_block : (group column code : ℕ) (c : Column) (rows : ℕ) (payload bytes : List ℕ) (r : Result BlockLocation FileFault) → length payload < 2 ^ 32
     → Reads (block_in bytes) r (sound group column (block_of (kind_of code) c rows payload)) → IfOk r (λ p. IsBlockOf c rows (block_in bytes p))

@@ -18,7 +18,8 @@ use Rattle.fragment_file.specs.FragmentReading.{column_at, columns_at, flag_of, 
 use Rattle.fragment_file.proofs.HeaderLaws.{AreNew, apart_from_new, names_from_new}
 use Rattle.group_reader.specs.Fields.{AreColumnsOf, IsNewColumn, counted_at, flag_at, slice_at, type_at}
 use Rattle.group_reader.specs.declared.source.Source.{Source}
-use Rattle.group_reader.specs.Source.{IsBehind, Tells}
+use Rattle.group_reader.specs.Source.{Takes}
+use Rattle.group_reader.proofs.Telling.{Reached, finishes}
 
 -- ---- steps in another order
 
@@ -52,10 +53,10 @@ done_is : {Y : Type 0} (x y : Y) → done x ≡ done y → x ≡ y
 done_is x y e = cc
 
 -- what was made of all that was read
-pub given_told : {R X Y : Type 0} (known : R → Option (List ℕ)) (s : Source R) (all left : List ℕ) (view : X → Y) (r : Result X FileFault) (y : Y)
-    → GivesIfMemory Memory view r (Ok y) → IsBehind known s all left → Tells known s all view r (Ok (y, left))
-given_told known s all left view (Ok x) y told behind = (left, ap (λ (z : _). Ok (z, left)) (done_is y (view x) told), behind)
-given_told known s all left view (Err e) y told behind = λ no_memory no_device. absurd (ok_not y e (told no_memory))
+pub given_told : {R X Y : Type 0} {known : R → Option (List ℕ)} {old now : Source R} {part left : List ℕ → Read FileFault Y} (view : X → Y) (r : Result X FileFault) (y : Y)
+    → Reached known old now part left → ((rest : List ℕ) → left rest ≡ Ok (y, rest)) → GivesIfMemory Memory view r (Ok y) → Takes known old now view r part
+given_told view (Ok x) y reached is told = finishes (view x) reached (λ rest. is rest ∙ ap (λ (z : _). Ok (z, rest)) (done_is y (view x) told))
+given_told view (Err e) y reached is told = λ no_memory no_device. absurd (ok_not y e (told no_memory))
   where
     ok_not : {Z : Type 0} (z : Z) (d : FileFault) → done z ≡ Err d → ⊥
     ok_not z d same = cc

@@ -1,18 +1,25 @@
 -- Bytes that come in pieces, each behind those that are there.
 use Rattle.std.specs.Prelude.{◌≡◌, ℕ, ◌+◌, ◌≤◌, Bool, true, false, List, [], ◌++◌, length, take, drop, Result, Ok, Err, cond, nat_lt}
-use Rattle.std.proofs.Common.{refl, sym, ap, ◌∙◌, arith, append_assoc}
+use Rattle.std.proofs.Common.{refl, sym, ap, ◌∙◌, arith, take_all}
+use Rattle.std.proofs.Math.Seq.{drop-length}
 use Rattle.std.proofs.lemmas.Bool.{ltb-true, lt-ltb}
 use Rattle.std.proofs.lemmas.List.{take-append-drop, take-append-le, drop-append-le, length-append, length-take, length-drop}
 use Rattle.wire.specs.declared.fault.WireFault.{WireFault}
 use Rattle.wire.specs.declared.fault.WireFault.TheVariants.{Truncated}
 use Rattle.wire.specs.Reading.{Read, bytes_at}
-use Rattle.wire.proofs.Numbers.{bytes_parts, bytes_again}
+use Rattle.wire.proofs.Numbers.{bytes_again}
 use Rattle.fragment_file.specs.declared.fault.FileFault.{FileFault}
 use Rattle.fragment_file.specs.Fault.{from_wire}
 
 -- bytes begin with others
 abbrev pub BeginsWith : List ℕ → List ℕ → Type 0
 BeginsWith a b = take (length a) b ≡ a
+
+pub begins_all : (a : List ℕ) → BeginsWith a a
+begins_all a = take_all (length a) a (omega arith)
+
+pub behind_all : (a : List ℕ) → drop (length a) a ≡ []
+behind_all a = drop-length a
 
 pub begins_shorter : (a b : List ℕ) → BeginsWith a b → length a ≤ length b
 begins_shorter a b begins = let same = ap length begins in omega (arith, same, length-take (length a) b)
@@ -29,17 +36,9 @@ pub behind_more : (a b c : List ℕ) → BeginsWith a b → BeginsWith b c → d
 behind_more a b c first second =
     ap (drop (length a)) (begins_parts b c second) ∙ drop-append-le (length a) b (drop (length b) c) (begins_shorter a b first)
 
-from_ok : {X : Type 0} (r : Result X WireFault) (x : X) → from_wire r ≡ Ok x → r ≡ Ok x
+pub from_ok : {X : Type 0} (r : Result X WireFault) (x : X) → from_wire r ≡ Ok x → r ≡ Ok x
 from_ok (Ok y) x e = cc
 from_ok (Err d) x e = absurd cc
-
--- the next piece of what was to be read
-pub piece_read : (a b c rest mid left : List ℕ) (size : ℕ) → BeginsWith a b → BeginsWith b c → rest ≡ drop (length a) b ++ mid → from_wire (bytes_at size mid) ≡ Ok (drop (length b) c, left)
-    → rest ≡ drop (length a) c ++ left
-piece_read a b c rest mid left size first second parts read =
-    let next : mid ≡ drop (length b) c ++ left = bytes_parts size mid (drop (length b) c) left (from_ok (bytes_at size mid) (drop (length b) c, left) read) in
-    parts ∙ ap (λ (r : List ℕ). drop (length a) b ++ r) next ∙ sym (append_assoc (drop (length a) b) (drop (length b) c) left)
-    ∙ ap (λ (front : List ℕ). front ++ left) (sym (behind_more a b c first second))
 
 abbrev bytes_or : Bool → ℕ → List ℕ → Read WireFault (List ℕ)
 bytes_or b n rest = cond b (Err Truncated) (Ok (take n rest, drop n rest))

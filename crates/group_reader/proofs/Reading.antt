@@ -1,6 +1,6 @@
 -- What a full buffer, and one that isn't, say of the bytes that were to be read.
-use Rattle.std.specs.Prelude.{◌≡◌, ℕ, ◌≤◌, ◌<◌, List, ◌++◌, length, take, drop, Option, Ok, Err, if◌then◌else◌}
-use Rattle.std.proofs.Common.{sym, ap, ◌∙◌, ◌+◌, arith, take_all, append-nil, length-take-le, lt-ltb, le-ltb, length-append}
+use Rattle.std.specs.Prelude.{◌≡◌, ℕ, ◌≤◌, ◌<◌, List, [], ◌++◌, length, take, drop, Option, Some, Ok, Err, if◌then◌else◌}
+use Rattle.std.proofs.Common.{refl, sym, ap, ◌∙◌, ◌+◌, arith, take_all, append-nil, length-take-le, lt-ltb, le-ltb, length-append}
 use Rattle.std.proofs.Math.Seq.{take-append_seam, drop-append_seam}
 use Rattle.wire.specs.Reading.{bytes_at}
 use Rattle.wire.specs.declared.fault.WireFault.TheVariants as of_wire
@@ -31,3 +31,9 @@ enough left bytes n k out filled long most =
     ap (λ b. from_wire (if b then Err of_wire.Truncated else Ok (take k bytes, drop k bytes))) (le-ltb (length bytes) k (omega (arith, count, long)))
     ∙ (λ i. Ok (take (sym long i) (all i), drop (sym long i) (all i)))
     ∙ (λ i. Ok (take-append_seam out filled.0 i, drop-append_seam out filled.0 i))
+
+-- ---- bytes that may have been those
+
+-- a buffer that isn't full has all bytes
+pub filled_short : (n : ℕ) (out : List ℕ) → IsFilled (Some []) (take n out) n out
+filled_short n out = ([], refl, sym (append-nil (take n out)), (λ less. refl))

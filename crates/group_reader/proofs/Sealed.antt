@@ -1,6 +1,6 @@
 -- The seal of a source, and what stands behind it.
-use Rattle.std.specs.Prelude.{◌≡◌, ℕ, ◌+◌, ◌-◌, ◌≤◌, ◌<◌, Bool, true, false, not, cond, List, [], ◌++◌, length, take, Option, Some, None, Ok, Err}
-use Rattle.std.proofs.Common.{refl, sym, ap, ◌∙◌, arith}
+use Rattle.std.specs.Prelude.{◌≡◌, ℕ, ◌-◌, ◌≤◌, ◌<◌, Bool, true, false, not, cond, List, [], ◌++◌, length, take, Option, Some, None, Ok, Err}
+use Rattle.std.proofs.Common.{refl, sym, ap, ◌∙◌, arith, take_all}
 use Rattle.std.proofs.lemmas.Bool.{ne_eqb}
 use Rattle.std.proofs.lemmas.List.{append-nil, length-append, length-take-le, take_at}
 use Rattle.wire.specs.Reading.{same_bytes, sealed_end}
@@ -17,15 +17,19 @@ use Rattle.group_reader.proofs.Reading.{too_few, enough}
 pub end_short : (left : Option (List ℕ)) (all rest : List ℕ) (n : ℕ) (seal : List ℕ) → IsFilled left rest n seal → length seal ≡ 32 → n < length seal → end_at all rest ≡ Some Truncated
 end_short left all rest n seal filled long less = ap (end_behind all) (too_few left rest n 32 seal filled long less)
 
-pub end_sealed : (left : Option (List ℕ)) (all rest : List ℕ) (n : ℕ) (seal : List ℕ) → (filled : IsFilled left rest n seal) → length seal ≡ 32 → length seal ≤ n
+end_sealed : (left : Option (List ℕ)) (all rest : List ℕ) (n : ℕ) (seal : List ℕ) → (filled : IsFilled left rest n seal) → length seal ≡ 32 → length seal ≤ n
     → end_at all rest ≡ fault_in (from_wire (sealed_end all seal filled.0))
 end_sealed left all rest n seal filled long most = ap (end_behind all) (enough left rest n 32 seal filled long most)
 
+-- the seal is there, whatever stands behind it
+pub end_full : (all rest : List ℕ) (n : ℕ) (seal : List ℕ) → length seal ≡ 32 → length seal ≤ n → end_at all (seal ++ rest) ≡ fault_in (from_wire (sealed_end all seal rest))
+end_full all rest n seal long most = end_sealed (Some rest) all (seal ++ rest) n seal (rest, refl, ap (λ (front : List ℕ). front ++ rest) (sym (take_all n seal most)), (λ less. absurd (omega (arith, less, most)))) long most
+
 -- ---- behind the seal
 
-pub some_left : (left : Option (List ℕ)) (rest : List ℕ) (n : ℕ) (more : List ℕ) → IsFilled left rest n more → length more ≡ 1 → n ≤ length more → 0 < n → 0 < length rest
-some_left left rest n more filled one within some =
-    let all : length rest ≡ length (take n more) + length filled.0 = ap length filled.2 ∙ length-append (take n more) filled.0 in
+pub some_more : (rest : List ℕ) (n : ℕ) (more : List ℕ) → n ≤ length more → 0 < n → 0 < length (take n more ++ rest)
+some_more rest n more within some =
+    let all = length-append (take n more) rest in
     let taken : length (take n more) ≡ n = length-take-le n more within in
     omega (arith, all, taken, some)
 

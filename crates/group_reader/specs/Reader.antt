@@ -1,6 +1,7 @@
 -- A reader of row groups, and what it does.
-use Rattle.std.specs.Prelude.{◌≡◌, ◌≢◌, ℕ, ◌+◌, ◌≤◌, Bool, true, false, List, [], ◌∷◌, Option, Some, None, is_some, Result, Ok, Err, IfOk, IfErr, IfSome, OnErr}
+use Rattle.std.specs.Prelude.{◌≡◌, ◌≢◌, ℕ, ◌+◌, ◌≤◌, Bool, true, false, List, [], ◌∷◌, ◌++◌, Option, Some, None, is_some, Result, Ok, Err, IfOk, IfErr, IfSome, OnErr}
 use Rattle.meaning.specs.Limits.{max_rows}
+use Rattle.sha2.specs.Hashers.{Holds256}
 use Rattle.blocks.specs.Block.{Block}
 use Rattle.fragment_file.specs.declared.fault.FileFault.{FileFault}
 use Rattle.fragment_file.specs.declared.fault.FileFault.TheVariants.{Memory, Device}
@@ -13,7 +14,7 @@ use Rattle.group_reader.specs.declared.standing.Standing.{Standing}
 use Rattle.group_reader.specs.declared.standing.Standing.TheVariants.{Between, AtGroup, AtEnd, Refused}
 use Rattle.group_reader.specs.Coming.{Coming, coming_at, coming_behind, header_read, with_group}
 use Rattle.group_reader.specs.Located.{AreLocated}
-use Rattle.group_reader.specs.Source.{IsBehind}
+use Rattle.group_reader.specs.Source.{MayBeLeft, Yields}
 
 -- what callers see of a reader: what it reads from, the header, how many row groups came, how many rows are left behind
 -- them, and the row group that stands
@@ -73,25 +74,41 @@ refused_in g = refused_by g.standing
 abbrev pub only : Option FileFault → Coming
 only end = record { groups = []; end = end }
 
-abbrev pub ComesFrom : {R : Type 0} → (R → Option (List ℕ)) → Source R → Header → ℕ → ℕ → Coming → Type 0
-ComesFrom known source header came left c = (all rest : List ℕ) × IsBehind known source all rest × (c ≡ coming_at came header.columns (group_sizes left) all rest)
+abbrev pub coming_from : Standing → Header → ℕ → ℕ → List ℕ → List ℕ → Coming
+coming_from Between header came left all rest = coming_at came header.columns (group_sizes left) all rest
+coming_from AtGroup header came left all rest = coming_at came header.columns (group_sizes left) all rest
+coming_from AtEnd header came left all rest = only None
+coming_from (Refused e) header came left all rest = only (Some e)
 
-abbrev pub Comes : {R : Type 0} → (R → Option (List ℕ)) → Standing → Source R → Header → ℕ → ℕ → Coming → Type 0
-Comes known Between source header came left c = ComesFrom known source header came left c
-Comes known AtGroup source header came left c = ComesFrom known source header came left c
-Comes known AtEnd source header came left c = c ≡ only None
-Comes known (Refused e) source header came left c = c ≡ only (Some e)
+-- the row groups, and then the end, that are to come of a reader which has the rest of all bytes left
+abbrev pub coming_of : {R : Type 0} → ReaderSpec R → List ℕ → List ℕ → Coming
+coming_of g all rest = coming_from g.standing g.header g.came g.left all rest
 
--- these row groups, and then this end, are still to come of a reader of which it is known what it has left
-abbrev pub IsComing : {R : Type 0} → (R → Option (List ℕ)) → ReaderSpec R → Coming → Type 0
-IsComing known g c = Comes known g.standing g.source g.header g.came g.left c
+-- these row groups, and then this end, may be to come: those of the bytes that a reader gave and of others that may be left
+abbrev pub MayCome : {R : Type 0} → (R → Option (List ℕ)) → ReaderSpec R → Coming → Type 0
+MayCome known g c = (front : List ℕ) → Holds256 g.source.hasher front → (rest : List ℕ) × MayBeLeft (known g.source.reader) rest × (c ≡ coming_of g (front ++ rest) rest)
 
--- a call went on to the first of what was to come, or told the end of it; or why not, unless memory was wanting or the
--- reader failed
-abbrev pub GoesOn : {R : Type 0} → (R → Option (List ℕ)) → ReaderSpec R → Coming → Result Bool FileFault → Type 0
-GoesOn known g c (Ok true) = (group : List Block) × (rest : Coming) × (c ≡ with_group group rest) × IsComing known g rest × (g.current ≡ Some group)
-GoesOn known g c (Ok false) = (c ≡ only None) × IsComing known g c × (g.current ≡ None)
-GoesOn known g c (Err e) = e ≢ Memory → e ≢ Device → c ≡ only (Some e)
+-- a row group came: it is the first that was to come, and then those that are to come now, whatever stands behind the bytes
+-- that were given
+pub record GroupCame {R : Type 0} (known : R → Option (List ℕ)) (old new : ReaderSpec R) : Type 0 where
+  pub group : List Block
+  pub given : List ℕ
+  pub yields : Yields known old.source new.source given
+  pub comes : (all rest : List ℕ) → coming_of old all (given ++ rest) ≡ with_group group (coming_of new all rest)
+  pub stands : new.current ≡ Some group
+
+-- the end came: there are bytes that may be left in which none was to come, and nothing is wrong with the end
+pub record EndCame {R : Type 0} (known : R → Option (List ℕ)) (old new : ReaderSpec R) : Type 0 where
+  pub was : MayCome known old (only None)
+  pub still : (all rest : List ℕ) → coming_of new all rest ≡ only None
+  pub none : new.current ≡ None
+
+-- a call went on to the first of what was to come, or told the end of it; or there are bytes that may be left in which what
+-- it told was to come in its place, unless memory was wanting or the reader failed
+abbrev pub GoesOn : {R : Type 0} → (R → Option (List ℕ)) → ReaderSpec R → ReaderSpec R → Result Bool FileFault → Type 0
+GoesOn known old new (Ok true) = GroupCame known old new
+GoesOn known old new (Ok false) = EndCame known old new
+GoesOn known old new (Err e) = e ≢ Memory → e ≢ Device → MayCome known old (only (Some e))
 
 -- whether a row group stands
 abbrev pub IsThere : Bool → Option (List Block) → Type 0
@@ -103,15 +120,24 @@ abbrev pub Counts : Bool → ℕ → ℕ → Option (List Block) → Type 0
 Counts true old new current = IfSome current (λ group. (1 ≤ rows_of group) × (old ≡ rows_of group + new))
 Counts false old new current = (old ≡ 0) × (new ≡ 0)
 
--- a reader of these bytes was opened, or the first thing that is wrong with their front was told
-abbrev pub Opens : {R : Type 0} → (R → Option (List ℕ)) → List ℕ → Result (ReaderSpec R) FileFault → Type 0
-Opens known bytes (Ok g) = (rest : List ℕ) × (header_read bytes ≡ Ok (g.header, rest)) × IsComing known g (coming_behind bytes g.header rest)
-Opens known bytes (Err e) = e ≢ Memory → e ≢ Device → header_read bytes ≡ Err e
+-- a reader was opened behind the header of the bytes that it gave, whatever stands behind them
+pub record IsOpened {R : Type 0} (known : R → Option (List ℕ)) (reader : R) (g : ReaderSpec R) : Type 0 where
+  pub given : List ℕ
+  pub left : (bytes : List ℕ) → known reader ≡ Some bytes → (rest : List ℕ) × (known g.source.reader ≡ Some rest) × (bytes ≡ given ++ rest)
+  pub hashed : Holds256 g.source.hasher given
+  pub header : (rest : List ℕ) → header_read (given ++ rest) ≡ Ok (g.header, rest)
+  pub comes : (all rest : List ℕ) → coming_of g all rest ≡ coming_behind all g.header rest
+
+-- the same; or there are bytes that the reader may have with whose front this is wrong first, unless memory was wanting or
+-- the reader failed
+abbrev pub Opens : {R : Type 0} → (R → Option (List ℕ)) → R → Result (ReaderSpec R) FileFault → Type 0
+Opens known reader (Ok g) = IsOpened known reader g
+Opens known reader (Err e) = e ≢ Memory → e ≢ Device → (bytes : List ℕ) × MayBeLeft (known reader) bytes × (header_read bytes ≡ Err e)
 
 -- what a call does that goes on to the next row group, and says whether there is one
 pub record Advances {R : Type 0} (known : R → Option (List ℕ)) (old new : ReaderSpec R) (r : Result Bool FileFault) : Type 0 where
   pub same : new.header ≡ old.header
-  pub told : (c : Coming) → IsComing known old c → GoesOn known new c r
+  pub told : GoesOn known old new r
   pub stands : IfOk r (λ more. IsThere more new.current)
   pub counted : IfOk r (λ more. Counts more old.left new.left new.current)
   pub refused : IfErr r (λ e. refused_in new ≡ Some e)
@@ -127,3 +153,7 @@ lends (Err e) = Err e
 abbrev pub IsFirst : List (List Block) → Option (List Block) → Type 0
 IsFirst [] found = found ≡ None
 IsFirst (group ∷ groups) found = found ≡ Some group
+
+-- where it is known what a reader has left: these row groups, and then this end, are to come
+abbrev pub IsComing : {R : Type 0} → (R → Option (List ℕ)) → ReaderSpec R → Coming → Type 0
+IsComing known g c = (front rest : List ℕ) × Holds256 g.source.hasher front × (known g.source.reader ≡ Some rest) × (c ≡ coming_of g (front ++ rest) rest)

@@ -1,10 +1,13 @@
--- The bytes of a file one part after the other, from a reader of which it is known what it has left.
+-- The bytes of a file one part after the other, from a reader.
 use Rattle.std.specs.Prelude.{◌≡◌, ◌≢◌, ℕ, ◌<◌, List, [], ◌++◌, length, take, Option, Some, None, Result, Ok, Err}
 use Rattle.sha2.specs.Hashers.{Holds256}
 use Rattle.wire.specs.Reading.{Read}
 use Rattle.fragment_file.specs.declared.fault.FileFault.{FileFault}
 use Rattle.fragment_file.specs.declared.fault.FileFault.TheVariants.{Memory, Device}
 use Rattle.group_reader.specs.declared.source.Source.{Source}
+use Rattle.group_reader.specs.Coming.{end_at}
+
+-- ---- a reader
 
 -- what a call gave of the bytes that a reader had: these come first, the others are left; none comes only at the end
 abbrev pub Gave : Option (List ℕ) → List ℕ → List ℕ → Type 0
@@ -18,24 +21,39 @@ StandsAt left bytes n out = (rest : List ℕ) × (left ≡ Some rest) × (bytes 
 abbrev pub IsFilled : Option (List ℕ) → List ℕ → ℕ → List ℕ → Type 0
 IsFilled left bytes n out = (rest : List ℕ) × (left ≡ Some rest) × (bytes ≡ take n out ++ rest) × (n < length out → rest ≡ [])
 
--- the reader gave the front of all bytes and has the rest left, and the hasher holds the front
-pub record IsBehind {R : Type 0} (known : R → Option (List ℕ)) (s : Source R) (all rest : List ℕ) : Type 0 where
-  pub front : List ℕ
-  pub parts : all ≡ front ++ rest
-  pub left : known s.reader ≡ Some rest
-  pub held : Holds256 s.hasher front
+-- these bytes may be left: any, unless it is known which are
+abbrev pub MayBeLeft : Option (List ℕ) → List ℕ → Type 0
+MayBeLeft left bytes = (known : List ℕ) → left ≡ Some known → known ≡ bytes
 
--- what a call gave, seen by `view`, is what was to be read, and the source stands behind it; or what is wrong was told,
--- unless memory was wanting or the reader failed
-abbrev pub Tells : {R X Y : Type 0} → (R → Option (List ℕ)) → Source R → List ℕ → (X → Y) → Result X FileFault → Read FileFault Y → Type 0
-Tells known s all view (Ok x) read = (rest : List ℕ) × (read ≡ Ok (view x, rest)) × IsBehind known s all rest
-Tells known s all view (Err e) read = e ≢ Memory → e ≢ Device → read ≡ Err e
+-- ---- a source
 
--- the same of a call that reads a part of what is left
+-- a source gave these bytes: where it is known what was left, they come first of it, and the others are left; and the hasher
+-- has them behind those that it had
+pub record Yields {R : Type 0} (known : R → Option (List ℕ)) (old new : Source R) (given : List ℕ) : Type 0 where
+  pub left : (bytes : List ℕ) → known old.reader ≡ Some bytes → (rest : List ℕ) × (known new.reader ≡ Some rest) × (bytes ≡ given ++ rest)
+  pub hashed : (front : List ℕ) → Holds256 old.hasher front → Holds256 new.hasher (front ++ given)
+
+-- this was read of the bytes that a source gave, whatever stands behind them
+abbrev pub Took : {R Y : Type 0} → (R → Option (List ℕ)) → Source R → Source R → (List ℕ → Read FileFault Y) → Y → Type 0
+Took known old new part y = (given : List ℕ) × Yields known old new given × ((rest : List ℕ) → part (given ++ rest) ≡ Ok (y, rest))
+
+-- there are bytes that may be left of which this is wrong, unless memory was wanting or the reader failed
+abbrev pub Refuses : {R Y : Type 0} → (R → Option (List ℕ)) → Source R → (List ℕ → Read FileFault Y) → FileFault → Type 0
+Refuses known s part e = e ≢ Memory → e ≢ Device → (bytes : List ℕ) × MayBeLeft (known s.reader) bytes × (part bytes ≡ Err e)
+
+-- what a call gave, seen by `view`, is what was read, or what is wrong was told
 abbrev pub Takes : {R X Y : Type 0} → (R → Option (List ℕ)) → Source R → Source R → (X → Y) → Result X FileFault → (List ℕ → Read FileFault Y) → Type 0
-Takes known old new view result part = (all rest : List ℕ) → IsBehind known old all rest → Tells known new all view result (part rest)
+Takes known old new view (Ok x) part = Took known old new part (view x)
+Takes known old new view (Err e) part = Refuses known old part e
 
--- the bytes ended right, or what is wrong was told, unless memory was wanting or the reader failed
-abbrev pub EndsAs : Result (Unit {0}) FileFault → Option FileFault → Type 0
-EndsAs (Ok x) end = end ≡ None
-EndsAs (Err e) end = e ≢ Memory → e ≢ Device → end ≡ Some e
+-- ---- the end
+
+-- the bytes of a source, those that it gave and others that may be left, end so
+abbrev pub EndsBy : {R : Type 0} → (R → Option (List ℕ)) → Source R → Option FileFault → Type 0
+EndsBy known s end = (front : List ℕ) → Holds256 s.hasher front → (rest : List ℕ) × MayBeLeft (known s.reader) rest × (end_at (front ++ rest) rest ≡ end)
+
+-- it is such an end at which nothing is wrong, or one at which what was told is, unless memory was wanting or the reader
+-- failed
+abbrev pub EndsAs : Result (Unit {0}) FileFault → (Option FileFault → Type 0) → Type 0
+EndsAs (Ok x) IsEnd = IsEnd None
+EndsAs (Err e) IsEnd = e ≢ Memory → e ≢ Device → IsEnd (Some e)

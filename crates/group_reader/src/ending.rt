@@ -2,8 +2,7 @@
 ghost use Rattle.std.specs.Prelude.{◌≡◌, List, ℕ};
 ghost use Rattle.sha2.specs.Hashers.{Holds256};
 ghost use Rattle.wire.specs.Bytes.{seal_of};
-ghost use Rattle.group_reader.specs.Coming.{end_at};
-ghost use Rattle.group_reader.specs.Source.{EndsAs, IsBehind};
+ghost use Rattle.group_reader.specs.Source.{EndsAs, EndsBy};
 
 use crate::source::{Source, fill};
 use fragment_file::FileFault;
@@ -22,8 +21,7 @@ fn seal_now(hasher: &mut Sha256) -> [u8; 32]
 
 /// The seal, where it is the end and that of all bytes before it.
 pub fn read_end<R: Read + Drop>(source: &mut Source<R>) -> Result<(), FileFault>
-    ensures { (all rest : List ℕ) → IsBehind R.remaining source.old all rest
-        → EndsAs result (end_at all rest) }
+    ensures { EndsAs result (EndsBy R.remaining source.old) }
 {
     let mut seal = [0; SEAL_BYTES];
     let sealed = fill(&mut source.reader, &mut seal)?;

@@ -1,5 +1,5 @@
 //! A reader of row groups, one after the other.
-ghost use Rattle.std.specs.Prelude.{◌≡◌, ◌≤◌, ◌<◌, get_or, ℕ, List, None, Some, length, map, option_map, IfErr, IfOk, IfSome, Err, OnErr};
+ghost use Rattle.std.specs.Prelude.{◌≡◌, ◌≤◌, ◌<◌, get_or, ℕ, None, Some, length, map, option_map, IfErr, IfOk, IfSome, Err, OnErr};
 ghost use Rattle.std.specs.Borrow.{sem};
 ghost use Rattle.std.specs.Io.BufRead.{Rests};
 ghost use Rattle.fragment_file.specs.declared.fault.FileFault.{FileFault as AFault};
@@ -76,8 +76,7 @@ impl<R: Read + Drop> GroupReader<R> {
     pub fn open(alloc: Global, reader: R) -> Result<GroupReader<R>, FileFault>
         ensures before { IfOk result (λ g. g.current ≡ None) }
         ensures left { IfOk result (λ g. g.left ≡ g.header.rows) }
-        ensures opened { (bytes : List ℕ) → R.remaining reader ≡ Some bytes
-            → Opens R.remaining bytes result }
+        ensures opened { Opens R.remaining reader result }
     {
         let mut source = Source {
             reader,
@@ -116,8 +115,7 @@ impl<R: Read + Drop> GroupReader<R> {
     fn read_on(&mut self) -> Result<bool, FileFault>
         requires { IsOpen self.old.standing }
         ensures same { self.new.header ≡ self.old.header }
-        ensures told { (c : Coming) → IsComing R.remaining self.old c
-            → GoesOn R.remaining self.new c result }
+        ensures told { GoesOn R.remaining self.old self.new result }
         ensures stands { IfOk result (λ more. IsThere more self.new.current) }
         ensures counted { IfOk result
             (λ more. Counts more self.old.left self.new.left self.new.current) }
@@ -147,8 +145,7 @@ impl<R: Read + Drop> GroupReader<R> {
     fn go_on(&mut self) -> Result<bool, FileFault>
         requires { IsOpen self.old.standing }
         ensures same { self.new.header ≡ self.old.header }
-        ensures told { (c : Coming) → IsComing R.remaining self.old c
-            → GoesOn R.remaining self.new c result }
+        ensures told { GoesOn R.remaining self.old self.new result }
         ensures stands { IfOk result (λ more. IsThere more self.new.current) }
         ensures counted { IfOk result
             (λ more. Counts more self.old.left self.new.left self.new.current) }
@@ -173,8 +170,7 @@ impl<R: Read + Drop> GroupReader<R> {
     /// refused returns the same refusal from then on, and reads no more.
     pub fn advance(&mut self) -> Result<bool, FileFault>
         ensures same { self.new.header ≡ self.old.header }
-        ensures told { (c : Coming) → IsComing R.remaining self.old c
-            → GoesOn R.remaining self.new c result }
+        ensures told { GoesOn R.remaining self.old self.new result }
         ensures stands { IfOk result (λ more. IsThere more self.new.current) }
         ensures counted { IfOk result
             (λ more. Counts more self.old.left self.new.left self.new.current) }

@@ -6,3 +6,4 @@ pub mod OwnFiles
 mod TakenFiles
 mod Refusals
 mod FirstUnread
+mod ReadFiles

@@ -5,9 +5,10 @@ use Rattle.std.specs.List.{range_with_len, enumerate_from}
 use Rattle.std.proofs.lemmas.Bool.{eq-eqb}
 use Rattle.meaning.specs.Answer.{own, own_body}
 use Rattle.meaning.specs.Cut.{Cut, fragment, numbered}
-use Rattle.meaning.specs.Gather.{is_conflict, join_cells, output, fragments_where, report, same_body}
+use Rattle.meaning.specs.Gather.{conflict, is_conflict, is_nothing, join_cells, missing, output, fragments_where, preview, report, same_body, unless_empty}
 use Rattle.meaning.specs.Meaning.{meaning}
 use Rattle.meaning.specs.Order.{Row}
+use Rattle.meaning.specs.Output.{Output}
 use Rattle.meaning.specs.Print.{output_text, report_text}
 use Rattle.meaning.specs.Said.{Body}
 use Rattle.meaning.specs.Said.{Cell}
@@ -15,7 +16,7 @@ use Rattle.meaning.specs.declared.answer.Cell.TheVariants.{Nothing, One, Conflic
 use Rattle.meaning.specs.declared.plan.Plan.{Plan}
 use Rattle.meaning_laws.proofs.Cuts.{part-all}
 use Rattle.meaning_laws.proofs.HeadlineLaw.{report-own, first_calm}
-use Rattle.jobs.specs.Gathering.{Taking, answer, cell_among, cell_in, gathered}
+use Rattle.jobs.specs.Gathering.{Taking, answer, cell_among, cell_in, gathered, shown}
 use Rattle.jobs.proofs.SameFiles.{said_already}
 
 -- a cell that holds an answer and is no conflict holds it alone
@@ -27,6 +28,15 @@ only_one b Conflict known calm = cc
 pushed : (b : Bool) (p : ℕ × Cell) (ps : List (ℕ × Cell)) → cond b (p.0 ∷ map (λ p. p.0) ps) (map (λ p. p.0) ps) ≡ map (λ p. p.0) (cond b (p ∷ ps) ps)
 pushed true p ps = refl
 pushed false p ps = refl
+
+-- a report that is an output is that of the preview
+previewed_behind : (conflicts missings : List ℕ) (shown meant : Output) → unless_empty conflict conflicts (unless_empty missing missings (output shown)) ≡ output meant → shown ≡ meant
+previewed_behind [] [] shown meant is = cc
+previewed_behind [] (k ∷ ks) shown meant is = cc
+previewed_behind (k ∷ ks) missings shown meant is = cc
+
+previewed : (plan : Plan) (cells : List Cell) (meant : Output) → report plan cells ≡ output meant → preview plan cells ≡ meant
+previewed plan cells meant is = previewed_behind (fragments_where is_conflict cells) (fragments_where is_nothing cells) (preview plan cells) meant is
 
 module _ (plan : Plan) (dims : List (List Row)) (cut : Cut) (rows : List Row) (takings : List Taking)
     (all_in : (k : ℕ) → k < length cut → Contains takings (answer (own plan dims cut rows k))) where
@@ -55,5 +65,6 @@ module _ (plan : Plan) (dims : List (List Row)) (cut : Cut) (rows : List Row) (t
       ∙ ap (λ table. output (meaning plan dims table)) (part-all cut rows whole)
 
   pub text_gathered : sum cut ≡ length rows → fragments_where is_conflict (gathered cut takings) ≡ []
-      → report_text plan (report plan (gathered cut takings)) ≡ output_text plan (meaning plan dims (numbered rows))
-  text_gathered whole calm = ap (report_text plan) (report_gathered whole calm)
+      → (asked : Bool) → report_text plan (shown asked plan (gathered cut takings)) ≡ output_text plan (meaning plan dims (numbered rows))
+  text_gathered whole calm true = ap (output_text plan) (previewed plan (gathered cut takings) (meaning plan dims (numbered rows)) (report_gathered whole calm))
+  text_gathered whole calm false = ap (report_text plan) (report_gathered whole calm)

@@ -2,13 +2,13 @@
 use Rattle.std.proofs.Common.{◌≡◌, ℕ, zero, suc, List, [], ◌∷◌, refl, sym, ap, ◌∙◌, arith}
 use Rattle.std.specs.Prelude.{Contains}
 use Rattle.meaning.specs.Cut.{Cut}
-use Rattle.meaning.specs.Gather.{join_cells, report}
+use Rattle.meaning.specs.Gather.{join_cells}
 use Rattle.meaning.specs.Print.{report_text}
 use Rattle.meaning.specs.Said.{Cell}
 use Rattle.meaning_laws.proofs.Cells.{join_cells-assoc, join_cells-comm, join_cells_same}
 use Rattle.partial_codec.specs.Job.{JobSpec}
 use Rattle.partial_codec.specs.State.{state_bytes}
-use Rattle.jobs.specs.Gathering.{Taking, cell_among, cell_in, gathered}
+use Rattle.jobs.specs.Gathering.{Taking, cell_among, cell_in, gathered, shown}
 use Rattle.jobs.specs.Laws.{SameTakings, SaySame}
 use Rattle.jobs.proofs.Together.{cell_gathered, gathered_from, gathered_length}
 
@@ -48,5 +48,5 @@ say_same job xs ys same =
     record {
       state = states;
       bytes = ap (λ (cells : List Cell). state_bytes job cells) states;
-      print = ap (λ (cells : List Cell). report_text job.plan (report job.plan cells)) states;
+      print = λ asked. ap (λ (cells : List Cell). report_text job.plan (shown asked job.plan cells)) states;
     }

@@ -1,13 +1,15 @@
 -- What becomes of files of answers and states, and what they say together.
-use Rattle.std.specs.Prelude.{◌≡◌, ◌⊎◌, ℕ, ◌==◌, true, false, if◌then◌else◌, List, [], ◌∷◌, map, flat_map, length, slice_index_or, All, Contains, Option, Some, None}
+use Rattle.std.specs.Prelude.{◌≡◌, ◌⊎◌, ℕ, ◌==◌, Bool, true, false, if◌then◌else◌, List, [], ◌∷◌, map, flat_map, length, slice_index_or, All, Contains, Option, Some, None}
 use Rattle.std.specs.List.{range_with_len}
 use Rattle.std.specs.Io.KnownBytes.{Appends}
 use Rattle.meaning.specs.Cut.{Cut}
-use Rattle.meaning.specs.Gather.{join_cells, report}
+use Rattle.meaning.specs.Gather as gather
+use Rattle.meaning.specs.Gather.{join_cells, output, preview, report}
 use Rattle.meaning.specs.Print.{report_text}
 use Rattle.meaning.specs.Said.{Answer}
 use Rattle.meaning.specs.Said.{Cell}
 use Rattle.meaning.specs.declared.answer.Cell.TheVariants.{Nothing, One}
+use Rattle.meaning.specs.declared.plan.Plan.{Plan}
 use Rattle.partial_codec.specs.Answer.{Spells, obstacle}
 use Rattle.partial_codec.specs.Fault.{number_of}
 use Rattle.partial_codec.specs.Job.{JobSpec}
@@ -82,6 +84,11 @@ gathered cut takings = map (λ k. cell_among k takings) (range_with_len 0 (lengt
 abbrev pub takings_of : List Taken → List Taking
 takings_of files = map (λ file. file.taking) files
 
+-- what is shown of a coordinator: its report, or the preview in its place
+abbrev pub shown : Bool → Plan → List Cell → gather.Report
+shown true plan cells = output (preview plan cells)
+shown false plan cells = report plan cells
+
 -- ---- the command
 
 -- these files were taken, and those that were passed over are named on standard error
@@ -106,17 +113,17 @@ IsSaved (Some path) spelled before after = WritesOne path (λ bytes. bytes ≡ s
 abbrev pub IsSaveLeft : Option (List ℕ) → List ℕ → Option (List Change) → Option (List Change) → Type 0
 IsSaveLeft save spelled before after = (after ≡ before) ⊎ IsSaved save spelled before after
 
--- the state was saved, and its report printed and returned
-pub record IsReported (g : GatherSpec) (save : Option (List ℕ)) (before after : Option (List ℕ)) (wrote_before wrote_after : Option (List Change)) (given : Report) : Type 0 where
+-- the state was saved, and what is shown of it printed and returned
+pub record IsReported (g : GatherSpec) (save : Option (List ℕ)) (asked : Bool) (before after : Option (List ℕ)) (wrote_before wrote_after : Option (List Change)) (given : Report) : Type 0 where
   pub saved : IsSaved save (state_bytes g.job g.cells) wrote_before wrote_after
-  pub printed : Appends before after (report_text g.job.plan (report g.job.plan g.cells))
-  pub returned : given ≡ summary (report g.job.plan g.cells)
+  pub printed : Appends before after (report_text g.job.plan (shown asked g.job.plan g.cells))
+  pub returned : given ≡ summary (shown asked g.job.plan g.cells)
 
 -- what the files say together was gathered, saved and reported
 pub record IsGathered (holds : Holds) (command : GatherCommand) (before after err_before err_after : Option (List ℕ)) (wrote_before wrote_after : Option (List Change)) (given : Report) : Type 0 where
   pub gather : GatherSpec
   pub files : IsGatheredOf holds command err_before err_after gather
-  pub reported : IsReported gather command.save before after wrote_before wrote_after given
+  pub reported : IsReported gather command.save command.preview before after wrote_before wrote_after given
 
 -- no file was written, or the state that the files say together was saved
 abbrev pub IsGatherLeft : Holds → GatherCommand → Option (List ℕ) → Option (List Change) → Option (List Change) → Type 0
@@ -146,7 +153,7 @@ abbrev pub IsSaveRefused : Option (List ℕ) → Refusal → Type 0
 IsSaveRefused None e = ⊥
 IsSaveRefused (Some path) e = IsUnwritten path e
 
--- the state can't be written, or the report can't be printed
+-- the state can't be written, or what is shown can't be printed
 abbrev pub IsReportRefused : Option (List ℕ) → Refusal → Type 0
 IsReportRefused save e = IsSaveRefused save e ⊎ IsUnprinted e
 

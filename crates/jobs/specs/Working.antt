@@ -6,6 +6,7 @@ use Rattle.meaning.specs.Said.{Answer}
 use Rattle.meaning.specs.declared.plan.Join.{Join}
 use Rattle.partial_codec.specs.Answer.{Spells}
 use Rattle.partial_codec.specs.Job.{JobSpec}
+use Rattle.group_reader.specs.Source.{MayBeLeft}
 use Rattle.worker.specs.Work.{answered}
 use Rattle.job_files.specs.RowFiles.{IsFileOfRows, rows_of_fragment}
 use Rattle.job_files.specs.declared.fault.WorkFault.{WorkFault}
@@ -28,6 +29,10 @@ pub record IsFileAnswer (job : JobSpec) (k vector : ℕ) (fragment : List ℕ) (
   pub answer : Answer
   pub meant : answered job k vector fragment dims ≡ Ok answer
   pub spelled : Spells job bytes answer
+
+-- the same, for bytes that a reader of the fragment's file may have
+abbrev pub IsReaderAnswer : JobSpec → ℕ → ℕ → Option (List ℕ) → List (List ℕ) → List ℕ → Type 0
+IsReaderAnswer job k vector left dims bytes = (fragment : List ℕ) × MayBeLeft left fragment × IsFileAnswer job k vector fragment dims bytes
 
 -- the files that the job's fragment is answered over: its own, and of each join the dimension's, in the order of the joins
 pub record AreFilesOf (holds : Holds) (command : WorkCommand) (job : JobSpec) (fragment : List ℕ) (dims : List (List ℕ)) : Type 0 where
@@ -76,6 +81,10 @@ IsWorked holds command before after = WritesOne command.out (IsSpelled holds com
 abbrev pub IsFileRefused : JobSpec → ℕ → ℕ → List ℕ → List (List ℕ) → Refusal → Type 0
 IsFileRefused job k vector fragment dims e = (e ≡ refusal.Memory)
     ⊎ ((fault : WorkFault) × (answered job k vector fragment dims ≡ Err fault) × (e ≡ refusal.Work fault))
+
+-- the fragment's file can't be read, or the worker refuses bytes that a reader of it may have
+abbrev pub IsReaderRefused : JobSpec → ℕ → ℕ → List ℕ → Option (List ℕ) → List (List ℕ) → Refusal → Type 0
+IsReaderRefused job k vector path left dims e = IsUnread path e ⊎ ((fragment : List ℕ) × MayBeLeft left fragment × IsFileRefused job k vector fragment dims e)
 
 -- a joined dimension's file can't be read
 abbrev pub AreDimensionsUnread : List ℕ → List Join → Refusal → Type 0

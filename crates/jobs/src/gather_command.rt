@@ -3,7 +3,7 @@ ghost use Rattle.std.specs.Prelude.{◌≡◌, ◌⊎◌, IfErr, IfOk, OnErr};
 ghost use Rattle.jobs.specs.Gathering.{IsGatherLeft, IsGathered, IsGatheredOf, IsGatherRefused, IsGatherUnread, IsTogetherRefused};
 
 use crate::job::read_job;
-use crate::saving::save_and_report;
+use crate::saving::save_and_show;
 use crate::taking::take_files;
 use command_line::GatherCommand;
 use folders::{Folder, Refusal};
@@ -42,14 +42,14 @@ fn gather_files<F: Folder, E: Write>(
 
 /// Gathers the answers and states of a query over the tables that a folder was loaded with, in the
 /// order of the files; then writes the state under the path `save`, if there is one, and prints the
-/// report, and says which it was. A file that spells neither an answer nor a state for the query's
+/// report, or the preview where the command asks for it, and says which it was. A file that spells neither an answer nor a state for the query's
 /// job is named on standard error, with the error code of its bytes, and passed over.
 ///
 /// # Errors
 ///
 /// Out of memory, or the first of these: what keeps the folder and the query from a job (the
 /// catalogue, the file of the cut, the query's text, its plan), a file that cannot be read or
-/// named, a state that cannot be written, a report that cannot be printed.
+/// named, a state that cannot be written, a report or preview that cannot be printed.
 pub fn gather_answers<F: Folder, O: Write, E: Write>(
     alloc: Global,
     folder: &mut F,
@@ -66,13 +66,13 @@ pub fn gather_answers<F: Folder, O: Write, E: Write>(
     // Nothing is printed before the state is saved, and then only the output can fail.
     ensures quiet { IfErr result (λ e. (e ≡ Refusal.CannotPrint)
         ⊎ (O.contents out.new ≡ O.contents out.old)) }
-    // No file was written, or the state that all files make, before its report failed.
+    // No file was written, or the state that all files make, before its print failed.
     ensures left { OnErr result
         (IsGatherLeft (F.holds folder.old) command.now (E.contents err.old) (F.wrote folder.old)
         (F.wrote folder.new)) }
 {
     let gather = gather_files(alloc, folder, command, err)?;
-    let report = save_and_report(alloc, folder, &gather, &command.save, out);
+    let report = save_and_show(alloc, folder, &gather, command, out);
     drop(gather);
     report
 }

@@ -3,39 +3,44 @@ ghost use Rattle.std.specs.Prelude.{◌≡◌, List, map, IfErr, IfOk, OnErr, On
 ghost use Rattle.meaning.specs.Order.{Row};
 ghost use Rattle.meaning.specs.SoundPlan.{IsSoundPlan};
 ghost use Rattle.meaning.specs.Said.{Answer as AnAnswer};
-ghost use Rattle.folders.specs.Folder.{AreHeld, WritesOne, dimension_path, fragment_path};
+ghost use Rattle.folders.specs.Folder.{HasHeld, WritesOne, dimension_path, fragment_path};
 ghost use Rattle.folders.specs.Each.{AreEach};
 ghost use Rattle.folders.specs.Refused.{IsFirstUnread, IsUnread};
 ghost use Rattle.partial_codec.specs.Answer.{Spells};
-ghost use Rattle.worker.specs.Work.{answered};
-ghost use Rattle.jobs.specs.Working.{AreDimensionsUnread, IsAnswer, IsAnswerRefused, IsDimensionOf, IsFileAnswer, IsFileRefused, IsOwnSpelled, IsSpelled, IsSpelledRefused, IsWorkRefused, IsWorkUnread, IsWorked, paths_of};
+ghost use Rattle.jobs.specs.Working.{AreDimensionsUnread, IsAnswer, IsAnswerRefused, IsDimensionOf, IsOwnSpelled, IsReaderAnswer, IsReaderRefused, IsSpelled, IsSpelledRefused, IsWorkRefused, IsWorkUnread, IsWorked, paths_of};
 
 use crate::job::read_job;
 use command_line::WorkCommand;
-use folders::{Folder, Refusal, dimension_path, fragment_path, read_file, write_file};
+use folders::{
+    Folder, Refusal, dimension_path, fragment_path, open_file, read_file, work_refusal, write_file,
+};
 use job_files::lend_files;
-use meaning::{Join, Sequence};
+use meaning::{Join, Sequence, Text};
 use partial_codec::{Job, encode};
 use std::alloc::Global;
+use std::io::Read;
 use std::mem::drop;
-use worker::work;
+use worker::work_from;
 
-fn read_fragment<F: Folder>(
+/// A reader of the fragment's file, beside its path.
+fn open_fragment<F: Folder>(
     alloc: Global,
     folder: &F,
     directory: &str,
     table: &str,
     fragment: u32,
-) -> Result<Vec<u8>, Refusal>
+) -> Result<(Text, F::Reader), Refusal>
+    ensures path { IfOk result (λ x. x.0 ≡ fragment_path directory.now table.now fragment) }
     ensures held { IfOk result
-        (λ bytes. AreHeld (F.holds folder.now (fragment_path directory.now table.now fragment))
-        bytes.items) }
+        (λ x. HasHeld (F.holds folder.now (fragment_path directory.now table.now fragment))
+        (F.Reader.remaining x.1)) }
     ensures opened { OnOk result
         (F.opens folder.now (fragment_path directory.now table.now fragment)) }
     ensures refused { IfErr result (IsUnread (fragment_path directory.now table.now fragment)) }
 {
     let path = fragment_path(alloc, directory, table, fragment)?;
-    read_file(alloc, folder, &path)
+    let file = open_file(folder, &path)?;
+    Ok((path, file))
 }
 
 fn read_dimension<F: Folder>(
@@ -74,28 +79,31 @@ fn read_dimensions<F: Folder>(
     Ok(dims)
 }
 
-/// What the worker answers for the files, as bytes.
-fn answer_files(
+/// What the worker answers for the files, as bytes. The fragment's stands under this path, and one
+/// row group of it at a time is in memory.
+fn answer_files<R: Read + Drop>(
     alloc: Global,
     job: &Job,
-    fragment: &[u8],
+    path: &Text,
+    fragment: R,
     dims: &[Sequence<u8>],
     k: u32,
     vector: u32,
 ) -> Result<Vec<u8>, Refusal>
     requires { IsSoundPlan job.now.plan }
-    ensures spelled { IfOk result
-        (λ bytes. IsFileAnswer job.now k vector fragment.now dims.now bytes.items) }
-    ensures refused { IfErr result (IsFileRefused job.now k vector fragment.now dims.now) }
+    ensures spelled { IfOk result (λ bytes.
+        IsReaderAnswer job.now k vector (R.remaining fragment) dims.now bytes.items) }
+    ensures refused { IfErr result
+        (IsReaderRefused job.now k vector path.now (R.remaining fragment) dims.now) }
 {
     let lent = lend_files(alloc, dims)?;
-    match work(alloc, job, fragment, lent.as_slice(), k, vector as usize) {
+    match work_from(alloc, job, fragment, lent.as_slice(), k, vector as usize) {
         Ok(answer) => {
             let bytes = encode(alloc, job, &answer);
             drop(answer);
             Ok(bytes?)
         }
-        Err(fault) => Err(Refusal::from(fault)),
+        Err(fault) => Err(work_refusal(path, fault)),
     }
 }
 
@@ -115,10 +123,9 @@ fn answer_job<F: Folder>(
 {
     let (directory, k) = (command.folder.as_str(), command.fragment);
     let plan = job.plan();
-    let fragment = read_fragment(alloc, folder, directory, plan.fact.name.as_str(), k)?;
+    let (path, fragment) = open_fragment(alloc, folder, directory, plan.fact.name.as_str(), k)?;
     let dims = read_dimensions(alloc, folder, directory, plan.joins.as_slice())?;
-    let (fragment, dims) = (fragment.as_slice(), dims.as_slice());
-    answer_files(alloc, job, fragment, dims, k, command.vector)
+    answer_files(alloc, job, &path, fragment, dims.as_slice(), k, command.vector)
 }
 
 /// The answer, as bytes.
@@ -145,14 +152,16 @@ fn spelled_answer<F: Folder>(
 
 /// Answers a query for one fragment of the tables that a folder was loaded with, and writes the
 /// answer under the path `out`. The files of the dimensions that the query joins are given to the
-/// worker in the order of the joins; each file is read before one is judged.
+/// worker in the order of the joins, and of the fragment's file one row group at a time is in
+/// memory. The fragment's file is opened, and the dimensions' are read, before one is judged.
 ///
 /// # Errors
 ///
 /// Out of memory, or the first of these: what keeps the folder and the query from a job (the
 /// catalogue, the file of the cut, the query's text, its plan), a file that cannot be read (the
-/// fragment's, then the dimensions'), what the worker refuses, and last that the answer cannot be
-/// written. No file was written then.
+/// fragment's, then the dimensions'; the fragment's again where it can be opened and not be read to
+/// its end), what the worker refuses, and last that the answer cannot be written. No file was
+/// written then.
 pub fn answer_fragment<F: Folder>(
     alloc: Global,
     folder: &mut F,

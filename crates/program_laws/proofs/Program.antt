@@ -8,7 +8,7 @@ use Rattle.std.proofs.lemmas.List.Elements.{All-contains, Contains-append_left, 
 use Rattle.meaning.specs.Answer.{own}
 use Rattle.meaning.specs.Catalog.{IsWellFormed, IsWellFormedTable}
 use Rattle.meaning.specs.Cut.{Cut, even_lengths, first_row, numbered}
-use Rattle.meaning.specs.Gather.{is_conflict, fragments_where, report}
+use Rattle.meaning.specs.Gather.{is_conflict, fragments_where}
 use Rattle.meaning.specs.Meaning.{meaning}
 use Rattle.meaning.specs.Order.{Row}
 use Rattle.meaning.specs.Print.{output_text, report_text}
@@ -45,7 +45,7 @@ use Rattle.gathering.specs.declared.report.Report.{Report}
 use Rattle.folders.specs.Each.{AreEach}
 use Rattle.folders.specs.Folder.{Change, Holds, catalog_path, csv_path, cut_path, dimension_path, fragment_path}
 use Rattle.command_line.specs.declared.commands.GatherCommand.{GatherCommand}
-use Rattle.jobs.specs.Gathering.{IsTaken, IsTaking, Taken, Taking, answer, gathered, obstacle_of, passed, state, takings_of}
+use Rattle.jobs.specs.Gathering.{IsTaken, IsTaking, Taken, Taking, answer, gathered, obstacle_of, passed, shown, state, takings_of}
 use Rattle.jobs.specs.Job.{IsJobOf}
 use Rattle.jobs.specs.Working.{HoldsDimension, HoldsFragment, HoldsRows, IsOwnSpelled}
 use Rattle.jobs.proofs.OwnAnswers.{own_spelled}
@@ -223,7 +223,7 @@ module _ (holds : Holds) (load each : ℕ) (command : GatherCommand) (before aft
       let takings = takings_of run.gathered.files.files in
       let cells = run.gathered.files.state in
       let calm = subst (λ (cs : List Cell). fragments_where is_conflict cs ≡ []) cells run.calm in
-      let text_is = ap (λ (cs : List Cell). report_text job.plan (report job.plan cs)) cells ∙ text_gathered job.plan dims job.cut rows takings own_taken whole calm in
+      let text_is = ap (λ (cs : List Cell). report_text job.plan (shown command.preview job.plan cs)) cells ∙ text_gathered job.plan dims job.cut rows takings own_taken whole calm command.preview in
       subst (Appends before after) text_is run.gathered.reported.printed
 
 pub runs_mean : RunsMean

@@ -4,6 +4,8 @@
 
 mod condition;
 mod fact_column;
+mod naming;
 
 pub use condition::{Source, can_push_down, dimension_of};
 pub use fact_column::fact_column_of;
+pub use naming::names_fact_column;

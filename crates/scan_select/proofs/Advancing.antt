@@ -1,15 +1,15 @@
 -- A step from one vector to the next.
 use Rattle.std.proofs.Common.{◌≡◌, ℕ, ◌+◌, ◌-◌, ◌≤◌, ◌<◌, min, Bool, false, true, eqb, List, [], ◌∷◌, ◌++◌, Option, Some, None, Ok, Err, refl, ap, sym, subst, ◌∙◌, arith}
-use Rattle.std.specs.Prelude.{IfSome}
+use Rattle.std.specs.Prelude.{if◌then◌else◌, IfSome}
 use Rattle.std.proofs.lemmas.Bool.{ne_eqb}
 use Rattle.blocks.specs.Block.{Block}
 use Rattle.fragment_file.specs.declared.fault.FileFault.{FileFault}
 use Rattle.fragment_file.specs.View.{rows_of}
-use Rattle.group_reader.specs.Coming.{Coming}
+use Rattle.group_reader.specs.Coming.{Coming, with_group}
 use Rattle.group_reader.specs.Reader.{Counts, IsThere, only}
 use Rattle.scan_select.specs.Groups.{GroupsGoOn, current_rows}
 use Rattle.scan_select.specs.Pieces.{Piece, sizes, pieces_at, pieces_of, pieces, piece_now, pieces_behind}
-use Rattle.scan_select.specs.Scanned.{Advances, CountsRows, IsStanding, Left, ScanSpec, left_behind, nothing_but, with_piece}
+use Rattle.scan_select.specs.Scanned.{Advances, AreLeft, CountsRows, IsStanding, ScanSpec, StaysIn, left_behind, with_piece}
 use Rattle.scan_select.proofs.Sizes.{sizes_end, sizes_step}
 
 -- within a row group: the pieces from a row on are one from there and those behind it
@@ -45,6 +45,29 @@ some_stand n group_rows rows true current some stands filled size =
     rw (stands.1, some_rows) (record { group = stands.0; first = 0; rows = rows }, refl)
 some_stand n group_rows rows false current some stands filled size = rw stands refl
 
+-- ---- in which row group
+
+-- the next vector of the same row group
+pub stays_in : (n : ℕ) (current : Option (List Block)) (group_rows first rows more : ℕ) → 0 < n → group_rows ≡ current_rows current → first + rows < group_rows → rows ≡ min n (group_rows - first)
+    → StaysIn (piece_now current first rows) (piece_now current (first + rows) more)
+stays_in n None group_rows first rows more some all below size = absurd (omega (arith, all, below))
+stays_in n (Some group) group_rows first rows more some all below size =
+    let filled : eqb rows 0 ≡ false = ne_eqb _ _ (λ h. omega (arith, h, size, below, some)) in
+    rw filled (behind (eqb more 0))
+  where
+    behind : (b : Bool) → StaysIn (Some (record { group = group; first = first; rows = rows })) (if b then None else Some (record { group = group; first = first + rows; rows = more }))
+    behind true = tt
+    behind false = λ _. (record { group = group; first = first; rows = rows }, refl, refl)
+
+-- the first vector of a row group
+pub begins_group : (old : Option Piece) (current : Option (List Block)) (rows : ℕ) → StaysIn old (piece_now current 0 rows)
+begins_group old None rows = tt
+begins_group old (Some group) rows = first_one (eqb rows 0)
+  where
+    first_one : (b : Bool) → StaysIn old (if b then None else Some (record { group = group; first = 0; rows = rows }))
+    first_one true = tt
+    first_one false = λ later. absurd (later refl)
+
 -- ---- what is still to come
 
 abbrev piece_of : List Block → ℕ → ℕ → Piece
@@ -54,59 +77,68 @@ piece_of group first rows = record { group = group; first = first; rows = rows }
 left_with : (n : ℕ) (behind : List Piece) (piece : Piece) (more : List Piece) (c : Coming) → behind ≡ piece ∷ more → left_behind n behind c ≡ with_piece piece (left_behind n more c)
 left_with n behind piece more c is = ap (λ (ps : List Piece). left_behind n ps c) is
 
-module _ {G : Type 0} (is_coming : G → Coming → Type 0) where
+module _ {G : Type 0} (is_coming : G → Coming → Type 0) (n : ℕ) (some : 0 < n) where
   -- the next vector of the same row group
-  pub same_group : (n : ℕ) (current : Option (List Block)) (group_rows behind rows : ℕ) (new : ScanSpec G) (l : Left) (c : Coming) → 0 < n → group_rows ≡ current_rows current → behind < group_rows
-      → rows ≡ min n (group_rows - behind) → new.most ≡ n → new.at ≡ piece_now current behind rows → new.behind ≡ pieces_behind n current (behind + rows)
-      → is_coming new.source c → l ≡ left_behind n (pieces_behind n current behind) c → Advances is_coming new l (Ok true)
-  same_group n None group_rows behind rows new l c some all below size most at left coming known = absurd (omega (arith, all, below))
-  same_group n (Some group) group_rows behind rows new l c some all below size most at left coming known =
+  pub same_group : (current : Option (List Block)) (group_rows behind rows : ℕ) (old new : ScanSpec G) → group_rows ≡ current_rows current → behind < group_rows
+      → rows ≡ min n (group_rows - behind) → old.most ≡ n → old.behind ≡ pieces_behind n current behind → new.source ≡ old.source → new.most ≡ n → new.at ≡ piece_now current behind rows → new.behind ≡ pieces_behind n current (behind + rows)
+      → Advances is_coming old new (Ok true)
+  same_group None group_rows behind rows old new all below size was_most was same most at left = absurd (omega (arith, all, below))
+  same_group (Some group) group_rows behind rows old new all below size was_most was same most at left =
       let size' : rows ≡ min n (rows_of group - behind) = size ∙ ap (λ (k : ℕ). min n (k - behind)) all in
       let kept : 0 < rows = omega (arith, size', below, all, some) in
       let filled : eqb rows 0 ≡ false = ne_eqb _ _ (λ h. omega (arith, h, kept)) in
       let front : pieces_behind n (Some group) behind ≡ piece_of group behind rows ∷ pieces_behind n (Some group) (behind + rows) = rw size' (piece_and_rest n group behind some (omega (arith, all, below))) in (
         piece_of group behind rows,
-        left_behind n (pieces_behind n (Some group) (behind + rows)) c,
-        known ∙ left_with n _ (piece_of group behind rows) (pieces_behind n (Some group) (behind + rows)) c front,
-        (c, coming, (λ i. left_behind (sym most i) (sym left i) c)),
+        (λ rest are.
+            let (c, coming, parts) = are in (
+              c,
+              subst (λ (source : G). is_coming source c) same coming,
+              ap (with_piece (piece_of group behind rows)) (parts ∙ (λ i. left_behind (most i) (left i) c))
+                  ∙ sym (left_with n _ (piece_of group behind rows) (pieces_behind n (Some group) (behind + rows)) c front)
+                  ∙ (λ i. left_behind (sym was_most i) (sym was i) c),
+            )),
         at ∙ rw filled refl,
       )
 
-  -- the first vector of the next row group, or the end, or why there is neither
-  pub next_group : (n : ℕ) (old current : Option (List Block)) (behind group_rows rows : ℕ) (new : ScanSpec G) (l : Left) (c : Coming) (more : Bool) → 0 < n → current_rows old ≤ behind
-      → GroupsGoOn (is_coming new.source) current c (Ok more) → group_rows ≡ current_rows current → IfSome current (λ _. 1 ≤ group_rows) → rows ≡ min n group_rows
-      → new.most ≡ n → new.at ≡ piece_now current 0 rows → new.behind ≡ pieces_behind n current rows → l ≡ left_behind n (pieces_behind n old behind) c
-      → Advances is_coming new l (Ok more)
-  next_group n old current behind group_rows rows new l c true some end step all filled size most at left known =
-      let kept : 1 ≤ group_rows = subst (λ (x : Option (List Block)). IfSome x (λ _. 1 ≤ group_rows)) step.4 filled in
-      let all' : group_rows ≡ rows_of step.0 = all ∙ ap current_rows step.4 in
-      let size' : rows ≡ min n (rows_of step.0 - 0) = omega (arith, size, all') in
+  -- nothing is left of the row group that stood
+  from_source : (current : Option (List Block)) (behind : ℕ) (old : ScanSpec G) (c : Coming) → current_rows current ≤ behind → old.most ≡ n → old.behind ≡ pieces_behind n current behind → is_coming old.source c → AreLeft is_coming old (left_behind n [] c)
+  from_source current behind old c end was_most was coming = (c, coming, (λ i. left_behind (sym was_most i) (sym (was ∙ none_behind n current behind some end) i) c))
+
+  -- the first vector of the next row group, or the end
+  pub next_group : (before current : Option (List Block)) (behind group_rows rows : ℕ) (old new : ScanSpec G) (more : Bool) → current_rows before ≤ behind
+      → old.most ≡ n → old.behind ≡ pieces_behind n before behind → GroupsGoOn (is_coming old.source) (is_coming new.source) current (Ok more)
+      → group_rows ≡ current_rows current → IfSome current (λ _. 1 ≤ group_rows) → rows ≡ min n group_rows
+      → new.most ≡ n → new.at ≡ piece_now current 0 rows → new.behind ≡ pieces_behind n current rows
+      → Advances is_coming old new (Ok more)
+  next_group before current behind group_rows rows old new true end was_most was step all filled size most at left =
+      let (group, came, stands) = step in
+      let kept : 1 ≤ group_rows = subst (λ (x : Option (List Block)). IfSome x (λ _. 1 ≤ group_rows)) stands filled in
+      let all' : group_rows ≡ rows_of group = all ∙ ap current_rows stands in
+      let size' : rows ≡ min n (rows_of group - 0) = omega (arith, size, all') in
       let some_rows : eqb rows 0 ≡ false = ne_eqb _ _ (λ h. omega (arith, h, kept, size, some)) in
-      let none = none_behind n old behind some end in
-      let parts : pieces_behind n (Some step.0) 0 ≡ piece_of step.0 0 rows ∷ pieces_behind n (Some step.0) rows = rw size' (piece_and_rest n step.0 0 some (omega (arith, kept, all')) ∙ ap (λ (k : ℕ). piece_of step.0 0 (min n (rows_of step.0 - 0)) ∷ pieces_behind n (Some step.0) k) (omega arith)) in
-      let front : pieces_of n step.0 ≡ piece_of step.0 0 rows ∷ pieces_behind n (Some step.0) rows = ap (λ (k : ℕ). pieces_at step.0 0 (sizes n k)) (omega arith) ∙ parts in
-      let rest : Left = left_behind n (pieces_behind n (Some step.0) rows) step.1 in
-      let same : l ≡ with_piece (piece_of step.0 0 rows) rest =
-      known ∙ ap (λ (ps : List Piece). left_behind n ps c) none ∙ ap (left_behind n []) step.2 ∙ ap (λ (ps : List Piece). record { pieces = ps ++ pieces n step.1.groups; end = step.1.end }) front in (
-        piece_of step.0 0 rows,
-        rest,
-        same,
-        (step.1, step.3, (λ i. left_behind (sym most i) (sym (left ∙ ap (λ (x : Option (List Block)). pieces_behind n x rows) step.4) i) step.1)),
-        at ∙ ap (λ (x : Option (List Block)). piece_now x 0 rows) step.4 ∙ rw some_rows refl,
+      let parts : pieces_behind n (Some group) 0 ≡ piece_of group 0 rows ∷ pieces_behind n (Some group) rows = rw size' (piece_and_rest n group 0 some (omega (arith, kept, all')) ∙ ap (λ (k : ℕ). piece_of group 0 (min n (rows_of group - 0)) ∷ pieces_behind n (Some group) k) (omega arith)) in
+      let front : pieces_of n group ≡ piece_of group 0 rows ∷ pieces_behind n (Some group) rows = ap (λ (k : ℕ). pieces_at group 0 (sizes n k)) (omega arith) ∙ parts in (
+        piece_of group 0 rows,
+        (λ rest are.
+            let (c, coming, is) = are in
+            subst (AreLeft is_coming old)
+            (ap (λ (ps : List Piece). record { pieces = ps ++ pieces n c.groups; end = c.end }) front
+            ∙ ap (with_piece (piece_of group 0 rows)) (sym (is ∙ (λ i. left_behind (most i) ((left ∙ ap (λ (x : Option (List Block)). pieces_behind n x rows) stands) i) c))))
+            (from_source before behind old (with_group group c) end was_most was (came c coming))),
+        at ∙ ap (λ (x : Option (List Block)). piece_now x 0 rows) stands ∙ rw some_rows refl,
       )
-  next_group n old current behind group_rows rows new l c false some end step all filled size most at left known =
-      let none = none_behind n old behind some end in
-      let nothing : l ≡ nothing_but None = known ∙ ap (λ (ps : List Piece). left_behind n ps c) none ∙ ap (left_behind n []) step.0 in (
-        nothing,
-        (c, step.1, nothing ∙ sym (ap (left_behind new.most new.behind) step.0 ∙ ap (λ (ps : List Piece). left_behind new.most ps (only None)) (left ∙ ap (λ (x : Option (List Block)). pieces_behind n x rows) step.2))),
-        at ∙ ap (λ (x : Option (List Block)). piece_now x 0 rows) step.2,
+  next_group before current behind group_rows rows old new false end was_most was step all filled size most at left =
+      let (over, still, none) = step in (
+        from_source before behind old (only None) end was_most was over,
+        (only None, still, (λ i. left_behind (sym most i) (sym (left ∙ ap (λ (x : Option (List Block)). pieces_behind n x rows) none) i) (only None))),
+        at ∙ ap (λ (x : Option (List Block)). piece_now x 0 rows) none,
       )
 
-  pub no_group : (n : ℕ) (old : Option (List Block)) (behind : ℕ) (still : Coming → Type 0) (current : Option (List Block)) (new : ScanSpec G) (l : Left) (c : Coming) (e : FileFault) → 0 < n → current_rows old ≤ behind
-      → GroupsGoOn still current c (Err e) → l ≡ left_behind n (pieces_behind n old behind) c → Advances is_coming new l (Err e)
-  no_group n old behind still current new l c e some end step known no_memory no_device =
-      let none = none_behind n old behind some end in
-      known ∙ ap (λ (ps : List Piece). left_behind n ps c) none ∙ ap (left_behind n []) (step no_memory no_device)
+  -- why there is neither
+  pub no_group : (before current : Option (List Block)) (behind : ℕ) (still : Coming → Type 0) (old new : ScanSpec G) (e : FileFault) → current_rows before ≤ behind
+      → old.most ≡ n → old.behind ≡ pieces_behind n before behind → GroupsGoOn (is_coming old.source) still current (Err e) → Advances is_coming old new (Err e)
+  no_group before current behind still old new e end was_most was step no_memory no_device =
+      from_source before behind old (only (Some e)) end was_most was (step no_memory no_device)
 
 -- ---- how many rows are left
 

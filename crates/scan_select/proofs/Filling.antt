@@ -1,26 +1,25 @@
 -- What buffers hold that were filled from a row group, and the columns of a batch that they are lent as.
-use Rattle.std.proofs.Common.{◌≡◌, ℕ, zero, suc, ◌+◌, ◌-◌, ◌≤◌, ◌<◌, min, Bool, true, List, [], ◌∷◌, ◌++◌, append_assoc, length, map, get_or, take, drop, slice_index_or, slice_set, Option, Some, None, refl, ap, sym, subst, ◌∙◌, arith}
-use Rattle.std.specs.Prelude.{slice_get, All, unwrap_or}
+use Rattle.std.proofs.Common.{◌≡◌, ℕ, zero, suc, ◌+◌, ◌-◌, ◌≤◌, ◌<◌, min, Bool, true, false, not, List, [], ◌∷◌, ◌++◌, append_assoc, append-nil, length, map, get_or, take, drop, slice_index_or, slice_set, Option, Some, None, refl, ap, sym, subst, ◌∙◌, arith}
+use Rattle.std.specs.Prelude.{if◌then◌else◌, slice_get, All, unwrap_or}
 use Rattle.std.specs.List.{list_all, AllByRecursion, AllZip}
-use Rattle.std.proofs.lemmas.List.Elements.{All-from_recursion, recursion_from_All}
+use Rattle.std.proofs.lemmas.List.Elements.{All-from_recursion, filter-append, recursion_from_All}
 use Rattle.std.proofs.lemmas.List.{length-drop, take_more}
 use Rattle.meaning.specs.declared.catalog.Column.{Column}
 use Rattle.meaning.specs.declared.value.ColType.{ColType}
 use Rattle.meaning.specs.declared.value.Value.{Value}
-use Rattle.meaning.specs.declared.outcome.Outcome.TheVariants as gives
 use Rattle.meaning.specs.VectorLength.{is_vector_length}
 use Rattle.blocks.specs.Block.{Block, is_block, values_of}
 use Rattle.fragment_file.specs.Copying.{is_taken}
 use Rattle.fragment_file.specs.Fragment.{AreBlocks, IsBlockOf, no_block}
 use Rattle.vectors.specs.declared.batch.BatchColumn.{BatchColumn}
-use Rattle.vectors.specs.Vector.{BatchSpec, HasLanesOf}
+use Rattle.vectors.specs.Vector.{BatchSpec}
 use Rattle.scan_select.specs.declared.buffers.ColumnBuffer.{ColumnBuffer}
 use Rattle.scan_select.specs.declared.buffers.Room.{Room}
 use Rattle.scan_select.specs.declared.buffers.Room.TheVariants as room
 use Rattle.scan_select.specs.Buffers.{FitsGroup, HasRoom, HoldsRows, HoldsWindow, IsBufferOf, IsPosition, IsFilled, IsLendable, IsRoomFor, block_of, filled, filled_now, filled_room, columns_of}
 use Rattle.scan_select.specs.Groups.{current_rows}
-use Rattle.scan_select.specs.Scanned.{AddsColumns, AreColumnsAt, IsColumnAt}
-use Rattle.scan_select.proofs.Masks.{length-window, window_taken}
+use Rattle.scan_select.specs.Scanned.{AddsColumns, AreColumnsAt, IsColumnAt, unpacked}
+use Rattle.scan_select.proofs.Masks.{window_taken}
 use Rattle.fragment_file.proofs.RowLaws.{length-values}
 
 from_some : {X : Type 0} (x y : X) → Some x ≡ Some y → x ≡ y
@@ -193,24 +192,55 @@ module _ (block : Block) (first rows : ℕ) (sound : is_block block ≡ true) wh
 
 -- ---- one column behind the others
 
-at_end : {X Y : Type 0} (R : X → Y → Type 0) (xs : List X) (x : X) (ys : List Y) (y : Y) → AllZip R xs ys → R x y → AllZip R (xs ++ x ∷ []) (ys ++ y ∷ [])
-at_end R [] x [] y all at = (at, tt)
-at_end R [] x (z ∷ ys) y all at = absurd all
-at_end R (w ∷ xs) x [] y all at = absurd all
-at_end R (w ∷ xs) x (z ∷ ys) y all at = (all.0, at_end R xs x ys y all.1 at)
-
 columns_append : (bs : List ColumnBuffer) (b : ColumnBuffer) → columns_of (bs ++ b ∷ []) ≡ columns_of bs ++ b.column ∷ []
 columns_append [] b = refl
 columns_append (d ∷ bs) b = ap (λ (ps : List ℕ). d.column ∷ ps) (columns_append bs b)
 
-pub lends_one_more : (group : List Block) (first rows : ℕ) (bs : List ColumnBuffer) (i : ℕ) (b : ColumnBuffer) (old now new : BatchSpec) (c : BatchColumn) → i < length bs → b ≡ get_or bs i b → rows ≡ old.rows
-    → AddsColumns group first (columns_of (take i bs)) old now → new ≡ record { rows = now.rows; columns = now.columns ++ c ∷ [] } → IsColumnAt group first rows b.column c → AddsColumns group first (columns_of (take (i + 1) bs)) old new
-lends_one_more group first rows bs i b old now new c below is same adds pushed lent = record {
-  rows = ap (λ (x : BatchSpec). x.rows) pushed ∙ adds.rows;
-  more = adds.more ++ c ∷ [];
-  columns = ap (λ (x : BatchSpec). x.columns) pushed ∙ ap (λ (cs : List BatchColumn). cs ++ c ∷ []) adds.columns ∙ append_assoc old.columns adds.more (c ∷ []);
-  are =
-      let next : columns_of (take (i + 1) bs) ≡ columns_of (take i bs) ++ b.column ∷ [] = ap columns_of (take_more bs i b below ∙ ap (λ (x : ColumnBuffer). take i bs ++ x ∷ []) (sym is)) ∙ columns_append (take i bs) b in
-      subst (λ (ps : List ℕ). AllZip (IsColumnAt group first old.rows) ps (adds.more ++ c ∷ [])) (sym next)
-      (at_end (IsColumnAt group first old.rows) (columns_of (take i bs)) b.column adds.more c adds.are (subst (λ (k : ℕ). IsColumnAt group first k b.column c) same lent));
-}
+zip_append : {X Y : Type 0} (R : X → Y → Type 0) (xs ws : List X) (ys zs : List Y) → AllZip R xs ys → AllZip R ws zs → AllZip R (xs ++ ws) (ys ++ zs)
+zip_append R [] ws [] zs all more = more
+zip_append R [] ws (y ∷ ys) zs all more = absurd all
+zip_append R (x ∷ xs) ws [] zs all more = absurd all
+zip_append R (x ∷ xs) ws (y ∷ ys) zs all more = (all.0, zip_append R xs ws ys zs all.1 more)
+
+-- the buffer that is next is left out, or isn't
+next_columns : (packed : List Bool) (bs : List ColumnBuffer) (i : ℕ) (b : ColumnBuffer) → i < length bs → b ≡ get_or bs i b
+    → unpacked packed (columns_of (take (i + 1) bs)) ≡ unpacked packed (columns_of (take i bs)) ++ unpacked packed (b.column ∷ [])
+next_columns packed bs i b below is =
+    ap (unpacked packed) (ap columns_of (take_more bs i b below ∙ ap (λ (x : ColumnBuffer). take i bs ++ x ∷ []) (sym is)) ∙ columns_append (take i bs) b)
+    ∙ filter-append (λ p. not (slice_index_or packed p false)) (columns_of (take i bs)) (b.column ∷ [])
+
+pub lends_no_more : (group : List Block) (first : ℕ) (packed : List Bool) (bs : List ColumnBuffer) (i : ℕ) (b : ColumnBuffer) (old now : BatchSpec) → i < length bs → b ≡ get_or bs i b → slice_index_or packed b.column false ≡ true
+    → AddsColumns group first (unpacked packed (columns_of (take i bs))) old now → AddsColumns group first (unpacked packed (columns_of (take (i + 1) bs))) old now
+lends_no_more group first packed bs i b old now below is marked adds =
+    let none : unpacked packed (b.column ∷ []) ≡ [] = rw marked refl in
+    subst (λ (ps : List ℕ). AddsColumns group first ps old now)
+    (sym (next_columns packed bs i b below is ∙ ap (λ (ps : List ℕ). unpacked packed (columns_of (take i bs)) ++ ps) none ∙ append-nil (unpacked packed (columns_of (take i bs))))) adds
+
+pub lends_one_more : (group : List Block) (first : ℕ) (packed : List Bool) (bs : List ColumnBuffer) (i : ℕ) (b : ColumnBuffer) (old now new : BatchSpec) → i < length bs → b ≡ get_or bs i b → slice_index_or packed b.column false ≡ false
+    → AddsColumns group first (unpacked packed (columns_of (take i bs))) old now → AddsColumns group first (b.column ∷ []) now new → AddsColumns group first (unpacked packed (columns_of (take (i + 1) bs))) old new
+lends_one_more group first packed bs i b old now new below is marked adds lent =
+    let one : unpacked packed (b.column ∷ []) ≡ b.column ∷ [] = rw marked refl in
+    let front : List ℕ = unpacked packed (columns_of (take i bs)) in
+    subst (λ (ps : List ℕ). AddsColumns group first ps old new) (sym (next_columns packed bs i b below is ∙ ap (λ (ps : List ℕ). front ++ ps) one))
+    (record {
+      rows = lent.rows ∙ adds.rows;
+      more = adds.more ++ lent.more;
+      columns = lent.columns ∙ ap (λ (cs : List BatchColumn). cs ++ lent.more) adds.columns ∙ append_assoc old.columns adds.more lent.more;
+      are = zip_append (IsColumnAt group first old.rows) front (b.column ∷ []) adds.more lent.more adds.are (subst (λ (k : ℕ). AreColumnsAt group first k (b.column ∷ []) lent.more) adds.rows lent.are);
+    })
+
+-- none is left out
+pub none_packed : (ps : List ℕ) → unpacked [] ps ≡ ps
+none_packed [] = refl
+none_packed (p ∷ ps) = ap (λ (qs : List ℕ). p ∷ qs) (none_packed ps)
+
+-- those that are left are among the others
+left_within : (P : ℕ → Type 0) (packed : List Bool) (ps : List ℕ) → AllByRecursion P ps → AllByRecursion P (unpacked packed ps)
+left_within P packed [] all = tt
+left_within P packed (p ∷ ps) all = elim (slice_index_or packed p false) as (λ b. AllByRecursion P (if not b then p ∷ unpacked packed ps else unpacked packed ps)) [
+  | true ↦ left_within P packed ps all.1
+  | false ↦ (all.0, left_within P packed ps all.1)
+]
+
+pub unpacked_within : (n : ℕ) (packed : List Bool) (ps : List ℕ) → All (λ p. p < n) ps → All (λ p. p < n) (unpacked packed ps)
+unpacked_within n packed ps all = All-from_recursion (λ p. p < n) (unpacked packed ps) (left_within (λ p. p < n) packed ps (recursion_from_All (λ p. p < n) ps all))

@@ -1,5 +1,5 @@
 -- The rows that a batch has the columns of.
-use Rattle.std.proofs.Common.{◌≡◌, ℕ, zero, suc, ◌+◌, ◌≤◌, ◌<◌, false, true, eqb, List, [], ◌∷◌, ◌++◌, length, Option, Some, get_or, map, take, drop, refl, ap, sym, ◌∙◌, subst, arith}
+use Rattle.std.proofs.Common.{◌≡◌, ℕ, zero, suc, ◌+◌, ◌≤◌, ◌<◌, Bool, false, true, eqb, List, [], ◌∷◌, ◌++◌, length, Option, Some, None, get_or, map, take, drop, refl, ap, sym, ◌∙◌, subst, arith}
 use Rattle.std.specs.Prelude.{nat_le, All}
 use Rattle.std.specs.List.{range_with_len, AllByRecursion}
 use Rattle.std.proofs.lemmas.List.Elements.{All-from_recursion, recursion_from_All}
@@ -26,12 +26,14 @@ use Rattle.vectors.specs.declared.batch.BatchColumn.{BatchColumn}
 use Rattle.vectors.specs.Vector.{BatchSpec, AreRowsOf, IsColumnOf, outcomes_of, reference_of}
 use Rattle.fragment_file.specs.Rows.{row_in}
 use Rattle.scan_select.specs.Pieces.{Piece, piece_now, rows_of_piece}
-use Rattle.scan_select.specs.Scanned.{ScanSpec, IsColumnAt, AreColumnsAt, AddsColumns, IsBatchOf, GivesBatch, fact_rows, header_types}
+use Rattle.scan_select.specs.Scanned.{ScanSpec, IsColumnAt, AreColumnsAt, AddsColumns, IsBatchOf, GivesBatch, GivesStanding, GivesUnpacked, fact_rows, header_types, unpacked}
 use Rattle.scan_select.specs.declared.scan.ScanBatch.{ScanBatch}
+use Rattle.scan_select.specs.declared.scan.Standing.{Standing}
 use Rattle.scan_select.specs.declared.buffers.ColumnBuffer.{ColumnBuffer}
 use Rattle.scan_select.specs.Buffers.{IsPosition, columns_of}
 use Rattle.scan_select.specs.Groups.{current_rows}
 use Rattle.primitives.specs.Fitting.{AreTypedRows}
+use Rattle.scan_select.proofs.Filling.{none_packed, unpacked_within}
 use Rattle.scan_select.proofs.TypedBatches.{typed_batch, typed_group}
 
 abbrev outcome_at : List Block → ℕ → ℕ → Outcome
@@ -104,15 +106,16 @@ some_rows (c ∷ cs) n (b ∷ bs) are some =
     omega (arith, rows, same)
 
 -- the batch of the rows that stand
-pub batch_gives : {G : Type 0} (scan : ScanSpec G) (h : Header) (current : Option (List Block)) (most group_rows first rows : ℕ) (buffers : List ColumnBuffer) (b : ScanBatch) (old : BatchSpec) → current ≡ Some (blocks_in b.group)
+pub batch_gives : {G : Type 0} (scan : ScanSpec G) (packed : List Bool) (h : Header) (current : Option (List Block)) (most group_rows first rows : ℕ) (buffers : List ColumnBuffer) (b : ScanBatch) (old : BatchSpec) → current ≡ Some (blocks_in b.group)
     → scan.header ≡ h → scan.at ≡ piece_now current first rows → scan.columns ≡ columns_of buffers → IsPosition h.columns most current group_rows first rows buffers → length (blocks_in b.group) ≡ length h.columns
     → AreBlocks h.columns (rows_of (blocks_in b.group)) (blocks_in b.group) → AreTypedBlocks h.columns (blocks_in b.group) → IsGroup (blocks_in b.group) → eqb rows 0 ≡ false
-    → b.first_row ≡ first → old ≡ record { rows = rows; columns = [] } → AddsColumns (blocks_in b.group) first (columns_of buffers) old b.batch → GivesBatch scan (Some b)
-batch_gives scan h current most group_rows first rows buffers b old stands under at same position count blocks typed sound some first_is fresh adds =
+    → b.first_row ≡ first → old ≡ record { rows = rows; columns = [] } → AddsColumns (blocks_in b.group) first (unpacked packed (columns_of buffers)) old b.batch → GivesUnpacked packed scan (Some b)
+batch_gives scan packed h current most group_rows first rows buffers b old stands under at same position count blocks typed sound some first_is fresh adds =
     let piece : Piece = record { group = blocks_in b.group; first = first; rows = rows } in
-    let wanted : List ℕ = columns_of buffers in
+    let wanted : List ℕ = unpacked packed (columns_of buffers) in
+    let below : All (λ p. p < length h.columns) wanted = unpacked_within (length h.columns) packed (columns_of buffers) position.columns_within in
     let now : scan.at ≡ Some piece = at ∙ rw (stands, some) refl in
-    let columns_within : All (λ p. p < length (blocks_in b.group)) wanted = subst (λ (k : ℕ). All (λ p. p < k) wanted) (sym count) position.columns_within in
+    let columns_within : All (λ p. p < length (blocks_in b.group)) wanted = subst (λ (k : ℕ). All (λ p. p < k) wanted) (sym count) below in
     let rows_are : group_rows ≡ rows_of (blocks_in b.group) = position.group_rows_are ∙ ap current_rows stands in
     let within : first + rows ≤ rows_of (blocks_in b.group) = let h = position.within in omega (arith, rows_are, h) in
     let old_rows : old.rows ≡ rows = ap (λ (x : BatchSpec). x.rows) fresh in
@@ -125,8 +128,22 @@ batch_gives scan h current most group_rows first rows buffers b old stands under
         stands = now;
         group = refl;
         first_row = first_is;
-        batch = subst (λ (ps : List ℕ). IsBatchOf ps piece b.batch) (sym same) of;
+        batch = subst (λ (ps : List ℕ). IsBatchOf (unpacked packed ps) piece b.batch) (sym same) of;
         typed = subst (λ (x : Header). AreTypedRows (header_types x) b.batch (fact_rows piece)) (sym under)
-            (typed_batch h (rows_of (blocks_in b.group)) (blocks_in b.group) first rows wanted b.batch blocks (typed_group h.columns (blocks_in b.group) typed) position.columns_within of);
+            (typed_batch h (rows_of (blocks_in b.group)) (blocks_in b.group) first rows wanted b.batch blocks (typed_group h.columns (blocks_in b.group) typed) below of);
+        within = within;
+        blocks = subst (λ (x : Header). AreBlocks x.columns (rows_of (blocks_in b.group)) (blocks_in b.group)) (sym under) blocks;
       },
     )
+
+-- with no column left out it is that of all columns
+pub gives_all : {G : Type 0} (scan : ScanSpec G) (b : Option ScanBatch) → GivesUnpacked [] scan b → GivesBatch scan b
+gives_all scan None none = none
+gives_all scan (Some b) gives =
+    (gives.0, record { stands = gives.1.stands; group = gives.1.group; first_row = gives.1.first_row; batch = subst (λ (ps : List ℕ). IsBatchOf ps gives.0 b.batch) (none_packed scan.columns) gives.1.batch; typed = gives.1.typed; within = gives.1.within; blocks = gives.1.blocks })
+
+-- where the rows stand
+pub stands_in : {G : Type 0} (scan : ScanSpec G) (current : Option (List Block)) (first rows : ℕ) (s : Standing) → current ≡ Some (blocks_in s.group) → scan.at ≡ piece_now current first rows → eqb rows 0 ≡ false → s.first_row ≡ first
+    → GivesStanding scan (Some s)
+stands_in scan current first rows s stands at some first_is =
+    (record { group = blocks_in s.group; first = first; rows = rows }, record { stands = at ∙ rw (stands, some) refl; group = refl; first_row = first_is })

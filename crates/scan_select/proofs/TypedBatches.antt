@@ -60,7 +60,8 @@ pieces_typed cs n (m ∷ ms) (g ∷ gs) are typed =
 
 -- ---- columns
 
-block_type : (cs : List Column) (n : ℕ) (bs : List Block) (p : ℕ) → AreBlocks cs n bs → p < length cs → slice_get (map (λ c. c.col_type) cs) p ≡ Some (get_or bs p no_block).col_type
+-- each block is of the type that its column has
+pub block_type : (cs : List Column) (n : ℕ) (bs : List Block) (p : ℕ) → AreBlocks cs n bs → p < length cs → slice_get (map (λ c. c.col_type) cs) p ≡ Some (get_or bs p no_block).col_type
 block_type [] n bs p are below = absurd (omega (arith, below))
 block_type (c ∷ cs) n [] p are below = absurd are
 block_type (c ∷ cs) n (b ∷ bs) zero are below = ap Some (sym are.0.col_type)

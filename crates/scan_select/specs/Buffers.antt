@@ -1,5 +1,5 @@
 -- The columns that a scan reads, and what their buffers hold.
-use Rattle.std.specs.Prelude.{◌≡◌, ◌<◌, ◌≤◌, ◌+◌, ◌-◌, min, ℕ, Bool, List, map, length, take, drop, get_or, slice_get, Option, Some, None, All, IfSome, true}
+use Rattle.std.specs.Prelude.{◌≡◌, ◌<◌, ◌≤◌, ◌+◌, ◌-◌, min, ℕ, List, map, length, take, drop, get_or, slice_get, Option, Some, None, All, IfSome, true}
 use Rattle.meaning.specs.declared.catalog.Column.{Column}
 use Rattle.meaning.specs.declared.value.ColType.{ColType}
 use Rattle.meaning.specs.declared.value.ColType.TheVariants as of_type

@@ -7,12 +7,13 @@ use Rattle.fragment_file.specs.View.{rows_of}
 use Rattle.group_reader.specs.Coming.{Coming, with_group}
 use Rattle.group_reader.specs.Reader.{only}
 
--- the first of the row groups that were to come stands now, or none was to come and nothing is wrong with the end; or the
--- fault that was to come was told, unless memory was wanting or the reader failed
-abbrev pub GroupsGoOn : (Coming → Type 0) → Option (List Block) → Coming → Result Bool FileFault → Type 0
-GroupsGoOn still current c (Ok true) = (group : List Block) × (rest : Coming) × (c ≡ with_group group rest) × still rest × (current ≡ Some group)
-GroupsGoOn still current c (Ok false) = (c ≡ only None) × still c × (current ≡ None)
-GroupsGoOn still current c (Err e) = e ≢ Memory → e ≢ Device → c ≡ only (Some e)
+-- a row group came: whatever may be to come behind it, may have been to come with it in front. Or the end came: it may have
+-- been that none was to come, and nothing is wrong with the end; or that the fault that was told was to come in place of a
+-- row group, unless memory was wanting or the reader failed
+abbrev pub GroupsGoOn : (Coming → Type 0) → (Coming → Type 0) → Option (List Block) → Result Bool FileFault → Type 0
+GroupsGoOn was still current (Ok true) = (group : List Block) × ((rest : Coming) → still rest → was (with_group group rest)) × (current ≡ Some group)
+GroupsGoOn was still current (Ok false) = was (only None) × still (only None) × (current ≡ None)
+GroupsGoOn was still current (Err e) = e ≢ Memory → e ≢ Device → was (only (Some e))
 
 -- how many rows the row group has that stands now
 abbrev pub current_rows : Option (List Block) → ℕ

@@ -1,5 +1,5 @@
 -- Laws, each of them the contract of a function of `src/laws.rt`.
-use Rattle.std.specs.Prelude.{◌≡◌, ℕ, ◌<◌, List, [], ◌∷◌, ◌++◌, map, flat_map, length, All}
+use Rattle.std.specs.Prelude.{◌≡◌, ℕ, ◌<◌, List, ◌∷◌, ◌++◌, flat_map, length, All}
 use Rattle.meaning.specs.declared.expr.Expr.{Expr}
 use Rattle.meaning.specs.declared.joined_row.JoinedRow.{JoinedRow}
 use Rattle.meaning.specs.Judge.{filtered}

@@ -1,12 +1,12 @@
 //! The columns that a scan reads, and the room in which they are lent as vectors.
-ghost use Rattle.std.specs.Prelude.{◌≡◌, ◌<◌, ◌≤◌, ◌+◌, ℕ, List, length, map, take, drop, get_or, All, OnOk, IfOk};
+ghost use Rattle.std.specs.Prelude.{◌≡◌, ◌<◌, ◌≤◌, ◌+◌, ℕ, false, List, [], ◌∷◌, length, map, take, drop, get_or, slice_index_or, All, OnOk, IfOk};
 ghost use Rattle.meaning.specs.declared.outcome.Outcome.TheVariants as gives;
 ghost use Rattle.meaning.specs.declared.value.ColType.TheVariants as of_type;
 ghost use Rattle.blocks.specs.Block.{is_block, values_of};
 ghost use Rattle.fragment_file.specs.Fragment.{no_block};
 ghost use Rattle.fragment_file.specs.Lent.{blocks_in};
 ghost use Rattle.scan_select.specs.Buffers.{FitsGroup, HasRoom, IsBufferOf, IsLendable, IsRoomFor, IsTextBlock, columns_of, filled};
-ghost use Rattle.scan_select.specs.Scanned.{AddsColumns, IsMask};
+ghost use Rattle.scan_select.specs.Scanned.{AddsColumns, IsMask, unpacked};
 ghost use Rattle.vectors.specs.Lanes.{nulls_of};
 ghost use Rattle.vectors.specs.Vector.{outcomes_of, HasLanesOf};
 
@@ -182,26 +182,52 @@ pub fn fill_all(buffers: &mut [ColumnBuffer], group: &GroupView<'_>, first: usiz
     }
 }
 
-/// Puts the columns' values in a row group, from row `first` on, behind the columns of the batch. On
+/// Whether the column is marked; one that isn't there is not.
+fn is_marked(packed: &[bool], column: usize) -> bool
+    ensures { result ≡ slice_index_or packed.now column false }
+{
+    packed.get(column).copied().unwrap_or(false)
+}
+
+/// Puts a column's values in a row group, from row `first` on, behind the columns of the batch. On
 /// an error the batch is open.
+fn lend_one<'s>(
+    alloc: Global,
+    batch: &mut Batch<'s>,
+    buffer: &'s ColumnBuffer,
+    group: &GroupView<'s>,
+    first: usize,
+) -> Result<(), AllocError>
+    requires { IsLendable (blocks_in group.now) first batch.old.rows buffer.now }
+    ensures { OnOk result (AddsColumns (blocks_in group.now) first (buffer.now.column ∷ [])
+        batch.old batch.new) }
+{
+    let reference = ColumnReference::Fact {
+        column: buffer.column,
+    };
+    let lanes = buffer.lanes(alloc, group, first, batch.rows())?;
+    batch.push(BatchColumn { reference, lanes })
+}
+
+/// Puts the values in a row group, from row `first` on, of the columns that aren't marked as packed
+/// behind the columns of the batch. On an error the batch is open.
 pub fn lend_all<'s>(
     alloc: Global,
     batch: &mut Batch<'s>,
     buffers: &'s [ColumnBuffer],
+    packed: &[bool],
     group: &GroupView<'s>,
     first: usize,
 ) -> Result<(), AllocError>
     requires { All (IsLendable (blocks_in group.now) first batch.old.rows) buffers.now }
-    ensures { OnOk result (AddsColumns (blocks_in group.now) first (columns_of buffers.now)
-        batch.old batch.new) }
+    ensures { OnOk result (AddsColumns (blocks_in group.now) first
+        (unpacked packed.now (columns_of buffers.now)) batch.old batch.new) }
 {
-    let rows = batch.rows();
     for buffer in buffers {
-        let reference = ColumnReference::Fact {
-            column: buffer.column,
-        };
-        let lanes = buffer.lanes(alloc, group, first, rows)?;
-        batch.push(BatchColumn { reference, lanes })?;
+        if is_marked(packed, buffer.column) {
+            continue;
+        }
+        lend_one(alloc, batch, buffer, group, first)?;
     }
     Ok(())
 }

@@ -17,5 +17,5 @@ pub use file_groups::FileGroups;
 pub use laws::{batches_are_rows, batches_are_typed, conditions_judge};
 pub use marked::{mark_conditions, select_marked};
 pub use row_groups::{RowGroups, read_out};
-pub use scan::{Scan, ScanBatch};
+pub use scan::{Scan, ScanBatch, Standing};
 pub use selecting::select;

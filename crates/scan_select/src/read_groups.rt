@@ -1,5 +1,5 @@
 //! The row groups of a file that is read one row group after the other.
-ghost use Rattle.group_reader.specs.Reader.{IsComing};
+ghost use Rattle.group_reader.specs.Reader.{MayCome};
 
 use crate::row_groups::RowGroups;
 use fragment_file::{FileFault, GroupView, Header};
@@ -9,7 +9,7 @@ use std::io::Read;
 impl<R: Read + Drop> RowGroups for GroupReader<R> {
     ghost header_of = { λ g. g.header };
 
-    ghost is_coming = { λ g c. IsComing R.remaining g c };
+    ghost is_coming = { λ g c. MayCome R.remaining g c };
 
     ghost rows_left = { λ g. g.left };
 

@@ -18,7 +18,8 @@ pub trait RowGroups {
     // What stands in front of the row groups.
     ghost header_of: { Self → AHeader };
 
-    // These row groups, and then this end, are still to come.
+    // These row groups, and then this end, may be still to come: where it is known what is to come,
+    // no others may.
     ghost is_coming: { Self → Coming → Type 0 };
 
     // How many rows the row groups have that are still to come.
@@ -40,8 +41,8 @@ pub trait RowGroups {
     /// Why it can't be had, or what is wrong with the end.
     fn advance(&mut self) -> Result<bool, FileFault>
         ensures same { header_of self.new ≡ header_of self.old }
-        ensures told { (c : Coming) → is_coming self.old c
-            → GroupsGoOn (is_coming self.new) (current self.new) c result }
+        ensures told { GroupsGoOn (is_coming self.old) (is_coming self.new) (current self.new)
+            result }
         ensures stands { IfOk result (λ more. IsThere more (current self.new)) }
         ensures counted { IfOk result
             (λ more. Counts more (rows_left self.old) (rows_left self.new) (current self.new)) }
@@ -65,7 +66,7 @@ pub trait RowGroups {
 ///
 /// The first thing that is wrong with what is left.
 pub fn read_out<G: RowGroups>(groups: &mut G) -> Result<(), FileFault>
-    ensures { (c : Coming) → G.is_coming groups.old c → EndsAs result c.end }
+    ensures { EndsAs result (λ end. (c : Coming) × G.is_coming groups.old c × (c.end ≡ end)) }
 {
     while groups.advance()? {}
     Ok(())

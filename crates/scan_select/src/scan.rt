@@ -6,7 +6,7 @@ ghost use Rattle.scan_select.specs.declared.fault.ScanFault.TheVariants.{VectorL
 ghost use Rattle.scan_select.specs.Buffers.{IsBufferOf, filled_now};
 ghost use Rattle.scan_select.specs.FileGroups.{all_groups, rows_of_all};
 ghost use Rattle.scan_select.specs.Groups.{current_rows};
-ghost use Rattle.scan_select.specs.Scanned.{Advances, AreLeft, CountsRows, GivesBatch, IsFresh, IsStanding, Left};
+ghost use Rattle.scan_select.specs.Scanned.{Advances, CountsRows, GivesBatch, GivesStanding, GivesUnpacked, IsFresh, IsStanding, StaysIn};
 
 use crate::buffers::{ColumnBuffer, fill_all, lend_all, make_buffers};
 use crate::fault::ScanFault;
@@ -26,6 +26,14 @@ pub struct ScanBatch<'s> {
     pub batch: Batch<'s>,
     pub group: GroupView<'s>,
     /// The batch's first row, counted from 0 in the row group.
+    pub first_row: usize,
+}
+
+/// Where a vector is.
+#[derive(Drop)]
+pub struct Standing<'s> {
+    pub group: GroupView<'s>,
+    /// The vector's first row, counted from 0 in the row group.
     pub first_row: usize,
 }
 
@@ -171,11 +179,11 @@ impl<G: RowGroups + Drop> Scan<G> {
         ensures header { self.new.header ≡ self.old.header }
         ensures columns { self.new.columns ≡ self.old.columns }
         ensures most { self.new.most ≡ self.old.most }
-        ensures told { (l : Left) → AreLeft G.is_coming self.old l
-            → Advances G.is_coming self.new l result }
+        ensures told { Advances G.is_coming self.old self.new result }
         ensures stands { IfOk result (λ more. IsStanding more self.new.at) }
         ensures counted { IfOk result
             (λ more. CountsRows more self.old.rows_left self.new.rows_left self.new.at) }
+        ensures stays { StaysIn self.old.at self.new.at }
         ensures none { OnErr result (self.new.at ≡ None) }
     {
         let group_rows = self.group_rows;
@@ -200,10 +208,38 @@ impl<G: RowGroups + Drop> Scan<G> {
         }
     }
 
-    /// The vector that stands now, if any. Integers are lent from the scan's buffers, texts from the
-    /// bytes of the row group. All of it is gone with the next call that goes on.
+    /// Where the vector is that stands now, if any.
+    pub fn standing(&self) -> Option<Standing<'_>>
+        ensures { GivesStanding self.now result }
+    {
+        if self.rows == 0 {
+            return None;
+        }
+        match self.groups.group() {
+            Some(group) => Some(Standing {
+                group,
+                first_row: self.first,
+            }),
+            None => None,
+        }
+    }
+
+    /// The vector that stands now, if any, of all columns. Integers are lent from the scan's buffers,
+    /// texts from the bytes of the row group. All of it is gone with the next call that goes on.
     pub fn batch(&self, alloc: Global) -> Result<Option<ScanBatch<'_>>, AllocError>
         ensures { IfOk result (λ batch. GivesBatch self.now batch) }
+    {
+        self.batch_without(alloc, &[])
+    }
+
+    /// The same, without the columns that are marked at their number in the header. These stay packed:
+    /// no list of their texts is made.
+    pub fn batch_without(
+        &self,
+        alloc: Global,
+        packed: &[bool],
+    ) -> Result<Option<ScanBatch<'_>>, AllocError>
+        ensures { IfOk result (λ batch. GivesUnpacked packed.now self.now batch) }
     {
         if self.rows == 0 {
             return Ok(None);
@@ -218,6 +254,7 @@ impl<G: RowGroups + Drop> Scan<G> {
             alloc,
             &mut batch,
             self.buffers.as_slice(),
+            packed,
             &group,
             self.first,
         )?;

@@ -15,6 +15,7 @@ pub mod MarkedRows
 pub mod Marks
 pub mod NumberedRows
 pub mod OwnAnswers
+pub mod PackedColumns
 pub mod Pushed
 pub mod VectorLanes
 pub mod InTurn

@@ -6,6 +6,7 @@ mod batches;
 mod dim_condition;
 mod dimensions;
 mod expressions;
+mod group_marks;
 mod joining;
 mod lanes;
 mod progress;

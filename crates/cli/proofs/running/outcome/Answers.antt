@@ -1,6 +1,6 @@
 -- Proofs of the goals of `outcome` (`running`).
 use Rattle.std.proofs.lemmas.Result.{err_from_is_err_and}
-use Rattle.cli.proofs.Refusals.{load_refused, whole_refused, work_refused}
+use Rattle.cli.proofs.Refusals.{load_first, load_refused, whole_first, whole_refused, work_first, work_refused}
 use Rattle.cli.proofs.running.outcome.Goals as goal
 
 pub returns-in_err-load_tables-in-Load-clause-refused : goal.returns-in_err-load_tables-in-Load-clause-refused
@@ -24,3 +24,18 @@ returns-in-Whole-clause-refused g c =
     whole_refused (g.F.Folder.holds c.args.folder.now) c.args.command.now c.in-Whole.directory c.as_str-directory.result.now c.in-Whole.query c.as_str-query.result.now
     c.in-Whole.rows c.in-Whole.vector c.answer.result (g.O.Write.contents c.args.out.now) (g.O.Write.contents c.answer.new.out) (g.E.Write.contents c.args.err.now) (g.F.Folder.wrote c.args.folder.now)
     c.in-Whole.is c.as_str-directory.ensures c.as_str-query.ensures c.answer.ensures.refused c.answer.ensures.quiet
+
+pub returns-in_err-load_tables-in-Load-clause-first : goal.returns-in_err-load_tables-in-Load-clause-first
+returns-in_err-load_tables-in-Load-clause-first g c =
+    let p = err_from_is_err_and c.from_residual.result c.from_residual.ensures.1 in
+    rw (p.1, p.2) (load_first (g.F.Folder.holds c.args.folder.now) (g.F.Folder.opens c.args.folder.now) c.args.command.now c.in-Load.directory c.in-Load.number c.in-Load.rows c.in_err-load_tables-in-Load.field-0.0 c.in-Load.is)
+
+pub returns-in_err-work-in-Work-clause-first : goal.returns-in_err-work-in-Work-clause-first
+returns-in_err-work-in-Work-clause-first g c =
+    let refused = c.in_err-work-in-Work in
+    let p = err_from_is_err_and c.from_residual-in_err-work-in-Work.result c.from_residual-in_err-work-in-Work.ensures.1 in
+    rw (p.1, p.2) (work_first (g.F.Folder.holds c.args.folder.now) (g.F.Folder.opens c.args.folder.now) c.args.command.now c.in-Work.command refused.field-0.0 c.in-Work.is refused.ensures.first)
+
+pub returns-in-Whole-clause-first : goal.returns-in-Whole-clause-first
+returns-in-Whole-clause-first g c =
+    whole_first (g.F.Folder.holds c.args.folder.now) (g.F.Folder.opens c.args.folder.now) c.args.command.now c.in-Whole.directory c.in-Whole.query c.in-Whole.rows c.in-Whole.vector c.answer.result c.in-Whole.is

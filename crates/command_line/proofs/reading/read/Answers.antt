@@ -4,7 +4,7 @@ use Rattle.command_line.proofs.reading.read.Goals as goal
 
 -- src/words.rt:56:5
 pub loop-word-init : goal.loop-word-init
-loop-word-init c = none_read _ _ c.new-parts.ensures.0 c.new-parts.ensures.1
+loop-word-init c = none_read _ _ c.new-parts.ensures.0 c.new-parts.ensures.1 c.new-parts.ensures.2
 
 -- src/words.rt:56:5
 pub loop-word-preserved : goal.loop-word-preserved

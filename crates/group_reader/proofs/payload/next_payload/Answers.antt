@@ -1,8 +1,19 @@
 -- Proofs of the goals of `next_payload` (`payload`).
-use Rattle.std.proofs.Common.{rules, ◌≡◌, ◌≤◌, ◌+◌, ◌-◌, length, drop, arith}
+use Rattle.std.proofs.Common.{rules, ◌≡◌, ◌≤◌, ◌+◌, ◌-◌, ◌++◌, length, drop, refl, sym, subst, arith}
 use Rattle.std.proofs.lemmas.Result.{err_from_is_err_and}
-use Rattle.group_reader.proofs.Pieces.{begins_then, length_behind, piece_failed, piece_read, pieces_read}
+use Rattle.group_reader.specs.Source.{Yields}
+use Rattle.group_reader.proofs.Pieces.{begins_all, begins_then, behind_all, behind_more, length_behind, piece_failed, pieces_read}
+use Rattle.group_reader.proofs.Telling.{before, took_bytes, yields_both, yields_nothing}
 use Rattle.group_reader.proofs.payload.next_payload.Goals as goal
+
+pub loop-left-init : goal.loop-left-init
+loop-left-init g c =
+    let old = c.args.bytes.now.items in (
+      begins_all old,
+      omega arith,
+      omega arith,
+      subst (Yields g.R.Read.remaining c.args.source.now c.args.source.now) (sym (behind_all old)) (yields_nothing g.R.Read.remaining c.args.source.now),
+    )
 
 pub returns-in_err-next_piece-clause-read : goal.returns-in_err-next_piece-clause-read
 returns-in_err-next_piece-clause-read g c =
@@ -13,9 +24,12 @@ returns-in_err-next_piece-clause-read g c =
     let long = length_behind old here (c.args.count - c.loop-left.left) inv.1 in
     let most : length (drop (length old) here) + c.min-size.result ≤ c.args.count = omega (arith, long, small, inv.2) in
     let p = err_from_is_err_and c.from_residual.result c.from_residual.ensures.1 in
-    rw (p.1, p.2) (λ all rest behind no_memory no_device.
-    let mid = inv.3 all rest behind in
-    piece_failed (drop (length old) here) mid.0 rest c.min-size.result c.args.count _ mid.1 most (c.in_err-next_piece.ensures.read all mid.0 mid.2 no_memory no_device))
+    rw (p.1, p.2) (λ no_memory no_device.
+    let wrong = c.in_err-next_piece.ensures.read no_memory no_device in (
+      drop (length old) here ++ wrong.0,
+      before _ _ _ (drop (length old) here) wrong.0 inv.3 wrong.1,
+      piece_failed (drop (length old) here) wrong.0 (drop (length old) here ++ wrong.0) c.min-size.result c.args.count _ refl most wrong.2,
+    ))
 
 pub loop-left-preserved : goal.loop-left-preserved
 loop-left-preserved g c =
@@ -29,17 +43,14 @@ loop-left-preserved g c =
       begins_then old here new inv.0 kept,
       omega (arith, more, inv.1, inv.2, small),
       omega (arith, inv.2),
-      λ all rest behind.
-          let mid = inv.3 all rest behind in
-          let told = c.in_ok-next_piece.ensures.read all mid.0 mid.2 in
-          (told.0, piece_read old here new rest mid.0 told.0 c.min-size.result inv.0 kept mid.1 told.1, told.2),
+      subst (Yields g.R.Read.remaining c.args.source.now c.next_piece.new.source) (sym (behind_more old here new inv.0 kept))
+          (yields_both _ _ _ _ (drop (length old) here) (drop (length here) new) inv.3 (took_bytes _ _ _ c.min-size.result (drop (length here) new) c.in_ok-next_piece.ensures.read)),
     )
 
 pub returns-clause-read : goal.returns-clause-read
-returns-clause-read g c all rest behind =
+returns-clause-read g c =
     let old = c.args.bytes.now.items in
     let here = c.loop-left.bytes.items in
     let inv = c.loop-left.invariant in
-    let mid = inv.3 all rest behind in
     let long : length (drop (length old) here) ≡ c.args.count = omega (arith, length_behind old here (c.args.count - c.loop-left.left) inv.1, c.loop-left-test.false) in
-    (mid.0, pieces_read (drop (length old) here) mid.0 rest c.args.count mid.1 long, mid.2)
+    (drop (length old) here, inv.3, (λ rest. pieces_read (drop (length old) here) rest (drop (length old) here ++ rest) c.args.count refl long))

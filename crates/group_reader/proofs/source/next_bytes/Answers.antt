@@ -1,25 +1,31 @@
 -- Proofs of the goals of `next_bytes` (`source`).
-use Rattle.std.proofs.Common.{◌≡◌, ◌++◌, List, ℕ, ap, sym, ◌∙◌, rules, append_assoc, length}
-use Rattle.group_reader.proofs.Reading.{too_few, enough, full_parts}
+use Rattle.std.proofs.Common.{◌≡◌, ◌++◌, [], List, ℕ, Some, refl, ap, ◌∙◌, rules, append-nil, length, take}
+use Rattle.group_reader.proofs.Pieces.{pieces_read}
+use Rattle.group_reader.proofs.Reading.{filled_short, full_parts, too_few}
 use Rattle.group_reader.proofs.source.next_bytes.Goals as goal
 
 pub returns-then-count-out : goal.returns-then-count-out
-returns-then-count-out g c all rest behind no_memory no_device =
-    let long : length c.fill.new.out ≡ length c.args.out.now = search rules in
-    too_few _ rest c.in_ok-count.count (length c.args.out.now) c.fill.new.out (c.in_ok-count.ensures.filled rest behind.left) long c.if-count-out.true
+returns-then-count-out g c no_memory no_device =
+    let out = c.fill.new.out in
+    let count = c.in_ok-count.count in
+    let long : length out ≡ length c.args.out.now = search rules in (
+      take count out,
+      (λ bytes known.
+          let filled = c.in_ok-count.ensures.filled bytes known in
+          filled.2 ∙ ap (λ (rest : List ℕ). take count out ++ rest) (filled.3 c.if-count-out.true) ∙ append-nil (take count out)),
+      too_few (Some []) (take count out) count (length c.args.out.now) out (filled_short count out) long c.if-count-out.true,
+    )
 
 pub returns : goal.returns
-returns g c all rest behind =
-    let long : length c.fill.new.out ≡ length c.args.out.now = search rules in
-    let filled = c.in_ok-count.ensures.filled rest behind.left in
-    let read = enough _ rest c.in_ok-count.count (length c.args.out.now) c.fill.new.out filled long c.if-count-out.false in
-    let parts : rest ≡ c.fill.new.out ++ filled.0 = full_parts _ rest c.in_ok-count.count c.fill.new.out filled c.if-count-out.false in (
-      filled.0,
-      read,
+returns g c =
+    let out = c.fill.new.out in
+    let long : length out ≡ length c.args.out.now = search rules in (
+      out,
       record {
-        front = behind.front ++ c.fill.new.out;
-        parts = behind.parts ∙ ap (λ (r : List ℕ). behind.front ++ r) parts ∙ sym (append_assoc behind.front c.fill.new.out filled.0);
-        left = filled.1;
-        held = c.update.ensures behind.front behind.held;
+        left = λ bytes known.
+            let filled = c.in_ok-count.ensures.filled bytes known in
+            (filled.0, filled.1, full_parts _ bytes c.in_ok-count.count out filled c.if-count-out.false);
+        hashed = λ front holds. c.update.ensures front holds;
       },
+      (λ rest. pieces_read out rest (out ++ rest) (length c.args.out.now) refl long),
     )

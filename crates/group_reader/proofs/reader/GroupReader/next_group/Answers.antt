@@ -21,7 +21,7 @@ returns g c =
       (refl, (λ _. tt), (subst (λ (m : Bool). Advances known old new (Ok m)) more advanced, c.group.ensures.value)),
       record {
         after = tt;
-        lent = λ c' coming. subst (IsFirst c'.groups) (sym c.group.ensures.value) (came_first known new c' c.in_ok-advance.field-0 (told.told c' coming));
+        lent = λ c' coming. subst (IsFirst c'.groups) (sym c.group.ensures.value) (came_first known old new c' c.in_ok-advance.field-0 coming told.told);
         count = subst (λ (h : Header). IfSome found (λ group. length (blocks_in group) ≡ length h.columns)) told.same c.group.ensures.count;
         blocks = subst (λ (h : Header). IfSome found (λ group. AreBlocks h.columns (rows_of (blocks_in group)) (blocks_in group))) told.same c.group.ensures.blocks;
         some = c.group.ensures.some;

@@ -1,5 +1,5 @@
 -- Proofs of the goals of `advance` (`file_groups`).
-use Rattle.std.proofs.Common.{◌≡◌, ◌+◌, ◌<◌, ◌≤◌, List, [], ap, sym, subst, get_or, length, ◌∙◌}
+use Rattle.std.proofs.Common.{◌<◌, ◌≤◌, List, ap, sym, subst, ◌∙◌}
 use Rattle.blocks.specs.Block.{Block}
 use Rattle.fragment_file.specs.View.{rows_of}
 use Rattle.scan_select.specs.FileGroups.{FileGroupsSpec, rows_of_all}

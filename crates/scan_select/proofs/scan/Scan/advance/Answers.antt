@@ -1,12 +1,13 @@
 -- Proofs of the goals of `advance` (`scan`).
-use Rattle.std.proofs.Common.{◌≡◌, ℕ, ◌+◌, ◌-◌, ◌<◌, [], None, length, refl, ap, sym, subst, ◌∙◌, arith}
+use Rattle.std.proofs.Common.{◌≡◌, ℕ, ◌+◌, ◌-◌, ◌<◌, [], Ok, Err, length, refl, ap, sym, subst, ◌∙◌, arith}
 use Rattle.std.specs.Prelude.{All}
 use Rattle.fragment_file.specs.declared.header.Header.{Header}
 use Rattle.meaning.proofs.VectorLengths.{vector_length_within}
 use Rattle.scan_select.specs.Buffers.{IsBufferOf, columns_of}
+use Rattle.scan_select.specs.Groups.{GroupsGoOn}
 use Rattle.scan_select.specs.Pieces.{piece_now, pieces_behind}
-use Rattle.scan_select.specs.Scanned.{AreLeft, CountsRows, ScanSpec}
-use Rattle.scan_select.proofs.Advancing.{counts_next, counts_same, next_group, no_group, same_group, some_stand, still_stand}
+use Rattle.scan_select.specs.Scanned.{CountsRows, ScanSpec}
+use Rattle.scan_select.proofs.Advancing.{begins_group, counts_next, counts_same, next_group, no_group, same_group, some_stand, stays_in, still_stand}
 use Rattle.scan_select.proofs.Filling.{now_columns, stands_again}
 use Rattle.scan_select.proofs.scan.Scan.advance.Goals as goal
 
@@ -24,11 +25,13 @@ returns-then-behind-group_rows-clause-columns g c =
     ap columns_of c.fill_now.ensures ∙ now_columns _ (c.self.inside.first + c.self.inside.rows) c.self.inside.buffers.items ∙ ap (λ (s : ScanSpec _). s.columns) c.self.view_is
 
 pub returns-then-behind-group_rows-clause-told : goal.returns-then-behind-group_rows-clause-told
-returns-then-behind-group_rows-clause-told g c = λ l are.
-    let now = subst (λ (s : ScanSpec _). AreLeft g.G.RowGroups.is_coming s l) (sym c.self.view_is) are in
-    same_group g.G.RowGroups.is_coming c.self.inside.most (g.G.RowGroups.current c.self.inside.groups) c.self.inside.group_rows (c.self.inside.first + c.self.inside.rows) c.min-self-inside.result
-    (record { source = c.self.inside.groups; header = g.G.RowGroups.header_of c.self.inside.groups; columns = []; most = c.self.inside.most; at = piece_now (g.G.RowGroups.current c.self.inside.groups) (c.self.inside.first + c.self.inside.rows) c.min-self-inside.result; behind = pieces_behind c.self.inside.most (g.G.RowGroups.current c.self.inside.groups) (c.self.inside.first + c.self.inside.rows + c.min-self-inside.result); rows_left = 0 }) l now.0
-    (vector_length_within c.self.inside.most c.self.invariant.vectors).0 c.self.invariant.group_rows_are c.if-behind-group_rows.true c.min-self-inside.ensures refl refl refl now.1 now.2
+returns-then-behind-group_rows-clause-told g c =
+    let inside = c.self.inside in
+    same_group g.G.RowGroups.is_coming inside.most (vector_length_within inside.most c.self.invariant.vectors).0 (g.G.RowGroups.current inside.groups) inside.group_rows (inside.first + inside.rows) c.min-self-inside.result
+    c.args.self.now
+    (record { source = inside.groups; header = g.G.RowGroups.header_of inside.groups; columns = []; most = inside.most; at = piece_now (g.G.RowGroups.current inside.groups) (inside.first + inside.rows) c.min-self-inside.result; behind = pieces_behind inside.most (g.G.RowGroups.current inside.groups) (inside.first + inside.rows + c.min-self-inside.result); rows_left = 0 })
+    c.self.invariant.group_rows_are c.if-behind-group_rows.true c.min-self-inside.ensures
+    (ap (λ (s : ScanSpec _). s.most) (sym c.self.view_is)) (ap (λ (s : ScanSpec _). s.behind) (sym c.self.view_is)) (ap (λ (s : ScanSpec _). s.source) c.self.view_is) refl refl refl
 
 pub returns-then-behind-group_rows-clause-stands : goal.returns-then-behind-group_rows-clause-stands
 returns-then-behind-group_rows-clause-stands g c =
@@ -38,6 +41,11 @@ pub returns-then-behind-group_rows-clause-counted : goal.returns-then-behind-gro
 returns-then-behind-group_rows-clause-counted g c =
     rw (← c.self.view_is) (counts_same c.self.inside.most (g.G.RowGroups.current c.self.inside.groups) c.self.inside.group_rows (c.self.inside.first + c.self.inside.rows) c.min-self-inside.result (g.G.RowGroups.rows_left c.self.inside.groups)
     (vector_length_within c.self.inside.most c.self.invariant.vectors).0 c.self.invariant.group_rows_are c.if-behind-group_rows.true c.min-self-inside.ensures)
+
+pub returns-then-behind-group_rows-clause-stays : goal.returns-then-behind-group_rows-clause-stays
+returns-then-behind-group_rows-clause-stays g c =
+    rw (← c.self.view_is) (stays_in c.self.inside.most (g.G.RowGroups.current c.self.inside.groups) c.self.inside.group_rows c.self.inside.first c.self.inside.rows c.min-self-inside.result
+    (vector_length_within c.self.inside.most c.self.invariant.vectors).0 c.self.invariant.group_rows_are c.if-behind-group_rows.true c.self.invariant.full)
 
 pub fill_now-requires-in-Ok : goal.fill_now-requires-in-Ok
 fill_now-requires-in-Ok g c =
@@ -56,26 +64,33 @@ returns-in-Ok-clause-columns g c =
     ap columns_of c.fill_now-in-Ok.ensures ∙ now_columns _ 0 c.self.inside.buffers.items ∙ ap (λ (s : ScanSpec _). s.columns) c.self.view_is
 
 pub returns-in-Ok-clause-told : goal.returns-in-Ok-clause-told
-returns-in-Ok-clause-told g c = λ l are.
+returns-in-Ok-clause-told g c =
+    let inside = c.self.inside in
     let end = c.if-behind-group_rows.false in
     let same = c.self.invariant.group_rows_are in
-    let now = subst (λ (s : ScanSpec _). AreLeft g.G.RowGroups.is_coming s l) (sym c.self.view_is) are in
-    next_group g.G.RowGroups.is_coming c.self.inside.most (g.G.RowGroups.current c.self.inside.groups) (g.G.RowGroups.current c.advance.new.self) (c.self.inside.first + c.self.inside.rows) c.rows_now-self-inside.result c.min-self-inside-in-Ok.result
-    (record { source = c.advance.new.self; header = g.G.RowGroups.header_of c.self.inside.groups; columns = []; most = c.self.inside.most; at = piece_now (g.G.RowGroups.current c.advance.new.self) 0 c.min-self-inside-in-Ok.result; behind = pieces_behind c.self.inside.most (g.G.RowGroups.current c.advance.new.self) (0 + c.min-self-inside-in-Ok.result); rows_left = 0 }) l now.0 c.in-Ok.more
-    (vector_length_within c.self.inside.most c.self.invariant.vectors).0 (omega (arith, end, same)) (c.in-Ok.ensures.told now.0 now.1) c.rows_now-self-inside.ensures.value c.rows_now-self-inside.ensures.some c.min-self-inside-in-Ok.ensures refl refl (ap (λ (k : ℕ). pieces_behind c.self.inside.most (g.G.RowGroups.current c.advance.new.self) k) (omega arith)) now.2
+    let source = ap (λ (s : ScanSpec _). s.source) c.self.view_is in
+    next_group g.G.RowGroups.is_coming inside.most (vector_length_within inside.most c.self.invariant.vectors).0 (g.G.RowGroups.current inside.groups) (g.G.RowGroups.current c.advance.new.self) (inside.first + inside.rows) c.rows_now-self-inside.result c.min-self-inside-in-Ok.result
+    c.args.self.now
+    (record { source = c.advance.new.self; header = g.G.RowGroups.header_of inside.groups; columns = []; most = inside.most; at = piece_now (g.G.RowGroups.current c.advance.new.self) 0 c.min-self-inside-in-Ok.result; behind = pieces_behind inside.most (g.G.RowGroups.current c.advance.new.self) (0 + c.min-self-inside-in-Ok.result); rows_left = 0 })
+    c.in-Ok.more (omega (arith, end, same))
+    (ap (λ (s : ScanSpec _). s.most) (sym c.self.view_is)) (ap (λ (s : ScanSpec _). s.behind) (sym c.self.view_is))
+    (subst (λ (from : _). GroupsGoOn (g.G.RowGroups.is_coming from) (g.G.RowGroups.is_coming c.advance.new.self) (g.G.RowGroups.current c.advance.new.self) (Ok c.in-Ok.more)) source c.in-Ok.ensures.told)
+    c.rows_now-self-inside.ensures.value c.rows_now-self-inside.ensures.some c.min-self-inside-in-Ok.ensures refl refl (ap (λ (k : ℕ). pieces_behind inside.most (g.G.RowGroups.current c.advance.new.self) k) (omega arith))
 
 pub returns-in-Ok-clause-stands : goal.returns-in-Ok-clause-stands
 returns-in-Ok-clause-stands g c =
     some_stand c.self.inside.most c.rows_now-self-inside.result c.min-self-inside-in-Ok.result c.in-Ok.more _ (vector_length_within c.self.inside.most c.self.invariant.vectors).0 c.in-Ok.ensures.stands c.rows_now-self-inside.ensures.some c.min-self-inside-in-Ok.ensures
 
 pub returns-in-Err-clause-told : goal.returns-in-Err-clause-told
-returns-in-Err-clause-told g c = λ l are.
+returns-in-Err-clause-told g c =
+    let inside = c.self.inside in
     let end = c.if-behind-group_rows.false in
     let same = c.self.invariant.group_rows_are in
-    let now = subst (λ (s : ScanSpec _). AreLeft g.G.RowGroups.is_coming s l) (sym c.self.view_is) are in
-    no_group g.G.RowGroups.is_coming c.self.inside.most (g.G.RowGroups.current c.self.inside.groups) (c.self.inside.first + c.self.inside.rows) (g.G.RowGroups.is_coming c.advance.new.self) (g.G.RowGroups.current c.advance.new.self)
-    (record { source = c.advance.new.self; header = g.G.RowGroups.header_of c.self.inside.groups; columns = []; most = c.self.inside.most; at = None; behind = []; rows_left = 0 }) l now.0 c.in-Err.fault
-    (vector_length_within c.self.inside.most c.self.invariant.vectors).0 (omega (arith, end, same)) (c.in-Err.ensures.told now.0 now.1) now.2
+    let source = ap (λ (s : ScanSpec _). s.source) c.self.view_is in
+    no_group g.G.RowGroups.is_coming inside.most (vector_length_within inside.most c.self.invariant.vectors).0 (g.G.RowGroups.current inside.groups) (g.G.RowGroups.current c.advance.new.self) (inside.first + inside.rows) (g.G.RowGroups.is_coming c.advance.new.self)
+    c.args.self.now c.args.self.now c.in-Err.fault (omega (arith, end, same))
+    (ap (λ (s : ScanSpec _). s.most) (sym c.self.view_is)) (ap (λ (s : ScanSpec _). s.behind) (sym c.self.view_is))
+    (subst (λ (from : _). GroupsGoOn (g.G.RowGroups.is_coming from) (g.G.RowGroups.is_coming c.advance.new.self) (g.G.RowGroups.current c.advance.new.self) (Err c.in-Err.fault)) source c.in-Err.ensures.told)
 
 pub returns-in-Ok-clause-counted : goal.returns-in-Ok-clause-counted
 returns-in-Ok-clause-counted g c =
@@ -86,3 +101,6 @@ returns-in-Ok-clause-counted g c =
     (counts_next c.self.inside.most (g.G.RowGroups.current c.advance.new.self) c.self.inside.group_rows (c.self.inside.first + c.self.inside.rows) c.rows_now-self-inside.result c.min-self-inside-in-Ok.result
     (g.G.RowGroups.rows_left c.self.inside.groups) (g.G.RowGroups.rows_left c.advance.new.self) c.in-Ok.more (vector_length_within c.self.inside.most c.self.invariant.vectors).0 (omega (arith, end)) c.in-Ok.ensures.stands c.in-Ok.ensures.counted
     c.rows_now-self-inside.ensures.value c.rows_now-self-inside.ensures.some c.min-self-inside-in-Ok.ensures))
+
+pub returns-in-Ok-clause-stays : goal.returns-in-Ok-clause-stays
+returns-in-Ok-clause-stays g c = begins_group _ (g.G.RowGroups.current c.advance.new.self) c.min-self-inside-in-Ok.result

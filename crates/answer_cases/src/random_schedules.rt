@@ -1,0 +1,166 @@
+//! Cases about coordinators through random lists of events, held against plain sets of answers.
+ghost use Rattle.meaning.specs.SoundPlan.{IsSoundPlan};
+
+use crate::accounts::{Account, Files, Numbers, event_of, next_step};
+use crate::jobs::job_of;
+use case_files::{StoredFile, find};
+use gathering::{Gather, GatherFault};
+use partial_codec::Job;
+use schedules::{Event, run_world};
+use std::alloc::{AllocError, Global};
+use std::fmt::Write;
+
+// The lists' first number, from which each list's generator begins.
+const SEED: u64 = 0x9e37_79b9_7f4a_7c15;
+
+/// How many lists of how many events, and of how many coordinators.
+#[derive(Clone, Copy)]
+struct Size {
+    lists: usize,
+    events: usize,
+    coordinators: usize,
+}
+
+fn size_of(lists: &str, events: &str, coordinators: &str) -> Option<Size> {
+    Some(Size {
+        lists: lists.parse::<usize>().ok()?,
+        events: events.parse::<usize>().ok()?,
+        coordinators: coordinators.parse::<usize>().ok()?,
+    })
+}
+
+fn run_steps(
+    alloc: Global,
+    numbers: &mut Numbers,
+    size: Size,
+    files: &[&[u8]],
+    account: &mut Account,
+) -> Result<Vec<Event>, AllocError> {
+    let mut events = Vec::new(alloc);
+    for _ in 0..size.events {
+        let step = next_step(numbers, account, files.len());
+        events.push(event_of(alloc, step, files)?)?;
+        account.step(alloc, step, files.len())?;
+    }
+    Ok(events)
+}
+
+// Bytes that encode no answer change nothing.
+fn absorb(alloc: Global, gather: &mut Gather, bytes: &[u8]) -> Result<(), AllocError> {
+    match gather.absorb(alloc, bytes) {
+        Err(GatherFault::Memory) => Err(AllocError),
+        _ => Ok(()),
+    }
+}
+
+// A coordinator that takes a set's files one by one.
+fn wanted(alloc: Global, job: Job, set: &[bool], files: &[&[u8]]) -> Result<Gather, AllocError>
+    requires { IsSoundPlan job.plan }
+{
+    let mut gather = Gather::new(alloc, job)?;
+    for (bytes, is_heard) in files.iter().zip(set) {
+        if *is_heard {
+            absorb(alloc, &mut gather, bytes)?;
+        }
+    }
+    Ok(gather)
+}
+
+// A coordinator's state and its preview, as bytes.
+fn state_and_preview(alloc: Global, gather: &Gather) -> Result<Vec<u8>, GatherFault> {
+    let mut bytes = gather.state_bytes(alloc)?;
+    gather.preview(alloc, &mut bytes)?;
+    Ok(bytes)
+}
+
+fn says_the_same(alloc: Global, a: &Gather, b: &Gather) -> Result<bool, AllocError> {
+    match (state_and_preview(alloc, a), state_and_preview(alloc, b)) {
+        (Ok(a), Ok(b)) => Ok(a.as_slice() == b.as_slice()),
+        _ => Err(AllocError),
+    }
+}
+
+fn agrees(
+    alloc: Global,
+    gather: &Gather,
+    job: &[&str],
+    set: &[bool],
+    files: &[&[u8]],
+) -> Result<bool, AllocError> {
+    match job_of(alloc, job)? {
+        Some(job) => says_the_same(alloc, gather, &wanted(alloc, job, set, files)?),
+        None => Ok(false),
+    }
+}
+
+fn all_agree(
+    alloc: Global,
+    gathers: &[Gather],
+    job: &[&str],
+    sets: &[Files],
+    files: &[&[u8]],
+) -> Result<bool, AllocError> {
+    for (gather, set) in gathers.iter().zip(sets) {
+        if !agrees(alloc, gather, job, set, files)? {
+            return Ok(false);
+        }
+    }
+    Ok(gathers.len() == sets.len())
+}
+
+fn list_agrees(
+    alloc: Global,
+    numbers: &mut Numbers,
+    size: Size,
+    job: &[&str],
+    files: &[&[u8]],
+) -> Result<bool, AllocError> {
+    let mut account = Account::new(alloc, size.coordinators, files.len())?;
+    let events = run_steps(alloc, numbers, size, files, &mut account)?;
+    let Some(the_job) = job_of(alloc, job)? else {
+        return Ok(false);
+    };
+    match run_world(alloc, the_job, size.coordinators, events.as_slice()) {
+        Ok(gathers) => all_agree(alloc, gathers.as_slice(), job, account.heard(), files),
+        Err(_) => Err(AllocError),
+    }
+}
+
+fn show_lists(
+    alloc: Global,
+    size: Size,
+    job: &[&str],
+    files: &[&[u8]],
+    shown: &mut String,
+) -> Result<(), AllocError> {
+    let mut numbers = Numbers::from(SEED);
+    for list in 0..size.lists {
+        if !list_agrees(alloc, &mut numbers, size, job, files)? {
+            return writeln!(shown, "list {list} differs");
+        }
+    }
+    shown.push_str("all agree\n")
+}
+
+/// Whether coordinators hold and preview what they have heard, over random lists of events. The
+/// words say how many lists, of how many events, of how many coordinators, and the job; the lines
+/// name the files that are posted.
+pub fn show_random_schedules(
+    alloc: Global,
+    words: &[&str],
+    body: &str,
+    stored: &[StoredFile],
+) -> Result<String, AllocError> {
+    let mut shown = String::new(alloc);
+    let mut files = Vec::new(alloc);
+    for path in body.lines() {
+        files.push(find(stored, path).unwrap_or(&[]))?;
+    }
+    if let [lists, events, coordinators, job @ ..] = words {
+        match size_of(lists, events, coordinators) {
+            Some(size) => show_lists(alloc, size, job, files.as_slice(), &mut shown)?,
+            None => shown.push_str("(no numbers)\n")?,
+        }
+    }
+    Ok(shown)
+}

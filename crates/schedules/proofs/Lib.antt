@@ -1,0 +1,6 @@
+-- The lemmas of this crate.
+mod Cuts
+mod Pairs
+mod Runs
+mod Taken
+mod Worlds

@@ -125,7 +125,15 @@ fn answer_job<F: Folder>(
     let plan = job.plan();
     let (path, fragment) = open_fragment(alloc, folder, directory, plan.fact.name.as_str(), k)?;
     let dims = read_dimensions(alloc, folder, directory, plan.joins.as_slice())?;
-    answer_files(alloc, job, &path, fragment, dims.as_slice(), k, command.vector)
+    answer_files(
+        alloc,
+        job,
+        &path,
+        fragment,
+        dims.as_slice(),
+        k,
+        command.vector,
+    )
 }
 
 /// The answer, as bytes.

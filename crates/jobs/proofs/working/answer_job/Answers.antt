@@ -23,6 +23,6 @@ returns-clause-first g c =
     let command = c.args.command.now in
     IfErr-weaker c.answer_files.result _ _
     (λ e refused. files_unread (g.F.Folder.holds c.args.folder.now) (g.F.Folder.opens c.args.folder.now) command c.args.job.now c.plan-plan.result.now c.as_str-directory.result.now c.as_str.result.now c.in_ok-path.path c.as_slice.result.now (g.F.Reader.Read.remaining c.in_ok-path.fragment) c.in_ok-dims.dims.items
-      c.as_str-directory.ensures c.as_str.ensures c.plan-plan.ensures.value c.as_slice.ensures c.in_ok-path.ensures.path c.in_ok-path.ensures.held c.in_ok-dims.ensures.held e
-      (subst (λ (ds : List (List ℕ)). IsReaderRefused c.args.job.now command.fragment command.vector c.in_ok-path.path (g.F.Reader.Read.remaining c.in_ok-path.fragment) ds e) c.as_slice-2.ensures.value refused))
+    c.as_str-directory.ensures c.as_str.ensures c.plan-plan.ensures.value c.as_slice.ensures c.in_ok-path.ensures.path c.in_ok-path.ensures.held c.in_ok-dims.ensures.held e
+    (subst (λ (ds : List (List ℕ)). IsReaderRefused c.args.job.now command.fragment command.vector c.in_ok-path.path (g.F.Reader.Read.remaining c.in_ok-path.fragment) ds e) c.as_slice-2.ensures.value refused))
     c.answer_files.ensures.refused

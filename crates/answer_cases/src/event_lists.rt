@@ -2,7 +2,7 @@
 ghost use Rattle.meaning.specs.SoundPlan.{IsSoundPlan};
 
 use crate::gathers::{print, show_refusal};
-use crate::jobs::{NO_JOB, job_of};
+use crate::jobs::{NO_JOB, planned_job_of};
 use case_files::{StoredFile, find, words};
 use gathering::Gather;
 use partial_codec::Job;
@@ -100,7 +100,7 @@ pub fn show_schedule(
         return String::from_str(alloc, NO_JOB);
     };
     match events_in(alloc, body, files)? {
-        Ok(events) => match job_of(alloc, job)? {
+        Ok(events) => match planned_job_of(alloc, job, files)? {
             Some(job) => show_run(alloc, job, n, events.as_slice(), &mut shown)?,
             None => shown.push_str(NO_JOB)?,
         },

@@ -9,11 +9,14 @@ ghost use Rattle.meaning.specs.Limits.{max_query_bytes};
 ghost use Rattle.meaning.specs.SoundPlan.{IsSoundPlan};
 
 use crate::shapes::shaped_plan;
+use case_files::{StoredFile, find};
+use catalog_reader::read_catalog;
 use meaning::{
-    Aggregate, AggregateKind, ColType, Cut, Expr, Item, MAX_QUERY_BYTES, Plan, Sequence, TableUse,
-    Text, Value,
+    Aggregate, AggregateKind, CatalogFault, ColType, Cut, Expr, Item, MAX_QUERY_BYTES, Plan,
+    Sequence, TableUse, Text, Value,
 };
 use partial_codec::Job;
+use planner::{QueryFault, plan_query};
 use std::alloc::{AllocError, Global};
 use std::mem::drop;
 
@@ -187,6 +190,73 @@ pub fn job_of(alloc: Global, words: &[&str]) -> Result<Option<Job>, AllocError>
     }
     match cut_of(alloc, cut)? {
         Some(cut) => Ok(Some(job_over(alloc, load, cut, kind, text)?)),
+        None => Ok(None),
+    }
+}
+
+fn plan_or_none(plan: Result<Plan, QueryFault>) -> Result<Option<Plan>, AllocError>
+    requires { IfOk plan IsSoundPlan }
+    ensures { IfOk result (λ found. IfSome found IsSoundPlan) }
+{
+    match plan {
+        Ok(plan) => Ok(Some(plan)),
+        Err(QueryFault::Memory) => Err(AllocError),
+        Err(_) => Ok(None),
+    }
+}
+
+// The plan of a query over the catalogue that the bytes declare.
+fn planned(alloc: Global, catalog: &[u8], query: &str) -> Result<Option<Plan>, AllocError>
+    ensures { IfOk result (λ found. IfSome found IsSoundPlan) }
+{
+    match read_catalog(alloc, catalog) {
+        Ok(catalog) => {
+            let plan = plan_query(alloc, &catalog, query.as_bytes());
+            drop(catalog);
+            plan_or_none(plan)
+        }
+        Err(CatalogFault::Memory) => Err(AllocError),
+        Err(_) => Ok(None),
+    }
+}
+
+fn planned_job(alloc: Global, load: u64, cut: &str, plan: Plan) -> Result<Option<Job>, AllocError>
+    requires { IsSoundPlan plan }
+    ensures { IfOk result (λ found. IfSome found (λ job. IsSoundPlan job.plan)) }
+{
+    match cut_of(alloc, cut) {
+        Ok(Some(cut)) => Ok(Some(Job::new(load, plan, cut))),
+        Ok(None) => {
+            drop(plan);
+            Ok(None)
+        }
+        Err(e) => {
+            drop(plan);
+            Err(e)
+        }
+    }
+}
+
+/// The job that the words name, where the third may be the path of a file: of the catalogue over
+/// which the text is a query, as in `7 2,3 sales.txt "SELECT ..."`.
+pub fn planned_job_of(
+    alloc: Global,
+    words: &[&str],
+    files: &[StoredFile],
+) -> Result<Option<Job>, AllocError>
+    ensures { IfOk result (λ found. IfSome found (λ job. IsSoundPlan job.plan)) }
+{
+    let [load, cut, path, query] = words else {
+        return Ok(None);
+    };
+    let Some(catalog) = find(files, path) else {
+        return job_of(alloc, words);
+    };
+    let Ok(load) = load.parse::<u64>() else {
+        return Ok(None);
+    };
+    match planned(alloc, catalog, query)? {
+        Some(plan) => planned_job(alloc, load, cut, plan),
         None => Ok(None),
     }
 }

@@ -8,6 +8,7 @@ mod event_lists;
 mod gathers;
 mod jobs;
 mod random_schedules;
+mod refused_memory;
 mod shapes;
 mod wholes;
 
@@ -16,4 +17,5 @@ pub use event_lists::show_schedule;
 pub use gathers::show_gathering;
 pub use jobs::{NO_JOB, job_of};
 pub use random_schedules::show_random_schedules;
+pub use refused_memory::show_refused_memory;
 pub use wholes::show_whole_query;

@@ -2,7 +2,7 @@
 ghost use Rattle.meaning.specs.SoundPlan.{IsSoundPlan};
 
 use crate::accounts::{Account, Files, Numbers, event_of, next_step};
-use crate::jobs::job_of;
+use crate::jobs::planned_job_of;
 use case_files::{StoredFile, find};
 use gathering::{Gather, GatherFault};
 use partial_codec::Job;
@@ -19,6 +19,15 @@ struct Size {
     lists: usize,
     events: usize,
     coordinators: usize,
+}
+
+/// What is asked of coordinators: the words of their job, the files of its case, and those of them
+/// that are posted.
+#[derive(Clone, Copy)]
+struct Asked<'a> {
+    job: &'a [&'a str],
+    stored: &'a [StoredFile],
+    posted: &'a [&'a [u8]],
 }
 
 fn size_of(lists: &str, events: &str, coordinators: &str) -> Option<Size> {
@@ -83,12 +92,11 @@ fn says_the_same(alloc: Global, a: &Gather, b: &Gather) -> Result<bool, AllocErr
 fn agrees(
     alloc: Global,
     gather: &Gather,
-    job: &[&str],
+    asked: Asked<'_>,
     set: &[bool],
-    files: &[&[u8]],
 ) -> Result<bool, AllocError> {
-    match job_of(alloc, job)? {
-        Some(job) => says_the_same(alloc, gather, &wanted(alloc, job, set, files)?),
+    match planned_job_of(alloc, asked.job, asked.stored)? {
+        Some(job) => says_the_same(alloc, gather, &wanted(alloc, job, set, asked.posted)?),
         None => Ok(false),
     }
 }
@@ -96,12 +104,11 @@ fn agrees(
 fn all_agree(
     alloc: Global,
     gathers: &[Gather],
-    job: &[&str],
+    asked: Asked<'_>,
     sets: &[Files],
-    files: &[&[u8]],
 ) -> Result<bool, AllocError> {
     for (gather, set) in gathers.iter().zip(sets) {
-        if !agrees(alloc, gather, job, set, files)? {
+        if !agrees(alloc, gather, asked, set)? {
             return Ok(false);
         }
     }
@@ -112,16 +119,15 @@ fn list_agrees(
     alloc: Global,
     numbers: &mut Numbers,
     size: Size,
-    job: &[&str],
-    files: &[&[u8]],
+    asked: Asked<'_>,
 ) -> Result<bool, AllocError> {
-    let mut account = Account::new(alloc, size.coordinators, files.len())?;
-    let events = run_steps(alloc, numbers, size, files, &mut account)?;
-    let Some(the_job) = job_of(alloc, job)? else {
+    let mut account = Account::new(alloc, size.coordinators, asked.posted.len())?;
+    let events = run_steps(alloc, numbers, size, asked.posted, &mut account)?;
+    let Some(job) = planned_job_of(alloc, asked.job, asked.stored)? else {
         return Ok(false);
     };
-    match run_world(alloc, the_job, size.coordinators, events.as_slice()) {
-        Ok(gathers) => all_agree(alloc, gathers.as_slice(), job, account.heard(), files),
+    match run_world(alloc, job, size.coordinators, events.as_slice()) {
+        Ok(gathers) => all_agree(alloc, gathers.as_slice(), asked, account.heard()),
         Err(_) => Err(AllocError),
     }
 }
@@ -129,13 +135,12 @@ fn list_agrees(
 fn show_lists(
     alloc: Global,
     size: Size,
-    job: &[&str],
-    files: &[&[u8]],
+    asked: Asked<'_>,
     shown: &mut String,
 ) -> Result<(), AllocError> {
     let mut numbers = Numbers::from(SEED);
     for list in 0..size.lists {
-        if !list_agrees(alloc, &mut numbers, size, job, files)? {
+        if !list_agrees(alloc, &mut numbers, size, asked)? {
             return writeln!(shown, "list {list} differs");
         }
     }
@@ -152,13 +157,19 @@ pub fn show_random_schedules(
     stored: &[StoredFile],
 ) -> Result<String, AllocError> {
     let mut shown = String::new(alloc);
-    let mut files = Vec::new(alloc);
+    let mut posted = Vec::new(alloc);
     for path in body.lines() {
-        files.push(find(stored, path).unwrap_or(&[]))?;
+        posted.push(find(stored, path).unwrap_or(&[]))?;
     }
     if let [lists, events, coordinators, job @ ..] = words {
+        let posted = posted.as_slice();
+        let asked = Asked {
+            job,
+            stored,
+            posted,
+        };
         match size_of(lists, events, coordinators) {
-            Some(size) => show_lists(alloc, size, job, files.as_slice(), &mut shown)?,
+            Some(size) => show_lists(alloc, size, asked, &mut shown)?,
             None => shown.push_str("(no numbers)\n")?,
         }
     }

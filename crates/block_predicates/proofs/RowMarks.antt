@@ -1,7 +1,8 @@
 -- What marks of entries are of the rows of a block.
-use Rattle.std.proofs.Common.{◌≡◌, ℕ, zero, suc, ◌+◌, ◌<◌, ◌≤◌, ◌-◌, ◌*◌, Bool, true, false, if◌then◌else◌, List, [], ◌∷◌, ◌++◌, get_or, map, length, zip, drop, replicate, sum, refl, ap, ap₂, sym, subst, ◌∙◌, arith, zero-add}
-use Rattle.std.specs.List.{range_with_len}
-use Rattle.std.proofs.lemmas.List.{append-nil, drop_more, get_or-replicate, get_or-map}
+use Rattle.std.proofs.Common.{◌≡◌, ℕ, zero, suc, ◌+◌, ◌<◌, ◌≤◌, ◌-◌, ◌*◌, Bool, true, false, if◌then◌else◌, List, [], ◌∷◌, ◌++◌, get_or, map, filter, length, zip, take, drop, replicate, sum, refl, ap, ap₂, sym, subst, ◌∙◌, arith, zero-add}
+use Rattle.std.specs.List.{AllByRecursion, range_with_len}
+use Rattle.std.proofs.lemmas.List.Elements.{recursion_from_All}
+use Rattle.std.proofs.lemmas.List.{append-nil, drop_more, get_or-drop, get_or-replicate, get_or-take, get_or-map}
 use Rattle.std.proofs.lemmas.List.FromFn.{get_or-map-range_with_len}
 use Rattle.std.proofs.lemmas.List.Sums.{sum_by-cons}
 use Rattle.meaning.specs.declared.expr.Expr.{Expr}
@@ -21,6 +22,7 @@ use Rattle.blocks.proofs.Blocks.{block_body, cell_value, null_value}
 use Rattle.blocks.proofs.Ends.{length-values_form}
 use Rattle.blocks.proofs.Nulls.{length_cells}
 use Rattle.blocks.proofs.RowCells.{code_within}
+use Rattle.vectors.specs.Selection.{IsSelection, Positions}
 use Rattle.block_predicates.specs.declared.entries.Entries.{Entries}
 use Rattle.block_predicates.specs.declared.entries.Entries.TheVariants as entries
 use Rattle.block_predicates.specs.declared.marks.EntryMarks.{EntryMarks}
@@ -179,6 +181,29 @@ row_kept b m row null kept lt apart nulls e =
     e ∙ ap (λ (n : Bool). if n then m.null else get_or m.marks.items row false) nulls
     ∙ ap (λ (k : ℕ). if get_or (nulls_of b) row false then m.null else get_or m.marks.items k false) (sym (place_is b.kind b row apart))
     ∙ sym (kept_is b m row lt)
+
+-- ---- rows of a block without NULL
+
+-- a row's own mark keeps it
+own_mark : (b : Block) (m : EntryMarks) (row : ℕ) → row < b.rows → (b.kind ≡ kind.Dict → ⊥) → b.nullable ≡ false → get_or m.marks.items row false ≡ get_or (kept_of b m) row false
+own_mark b m row lt apart nullable =
+    let none : false ≡ get_or (nulls_of b) row false = sym (ap (λ (k : Bool). get_or (if k then map (bit_at (mask_of b)) (range_with_len 0 b.rows) else replicate b.rows false) row false) nullable ∙ get_or-replicate b.rows row false false lt) in
+    row_kept b m row false (get_or m.marks.items row false) lt apart none refl
+
+same_filter : (p q : ℕ → Bool) (n : ℕ) (xs : List ℕ) → ((x : ℕ) → x < n → p x ≡ q x) → AllByRecursion (λ x. x < n) xs → filter p xs ≡ filter q xs
+same_filter p q n [] each all = refl
+same_filter p q n (x ∷ xs) each all = λ i. (if each x all.0 i then x ∷ same_filter p q n xs each all.1 i else same_filter p q n xs each all.1 i)
+
+-- positions whose rows are marked are those whose rows are kept
+pub marked_rows : (b : Block) (m : EntryMarks) (from : ℕ) (s : Positions) (mask : List Bool) → (b.kind ≡ kind.Dict → ⊥) → b.nullable ≡ false → from + s.below ≤ b.rows → IsSelection s
+    → mask ≡ take s.below (drop from m.marks.items)
+    → filter (λ p. get_or mask p false) s.list ≡ filter (λ p. get_or (kept_of b m) (from + p) false) s.list
+marked_rows b m from s mask apart nullable within sound is =
+    same_filter _ _ s.below s.list (λ p below.
+    ap (λ (ms : List Bool). get_or ms p false) is
+    ∙ get_or-take s.below (drop from m.marks.items) p false below
+    ∙ get_or-drop from m.marks.items p false
+    ∙ own_mark b m (from + p) (omega (arith, below, within)) apart nullable) (recursion_from_All (λ p. p < s.below) s.list sound.within)
 
 -- marks over their block
 pub predicate_is : (e : Expr) (b : Block) (m : EntryMarks) → AreMarksFor e b m → IsPredicateOf e b (predicate_of b m)

@@ -1,5 +1,5 @@
 //! Conditions that stand on a block: rows are kept by marks of its entries.
-ghost use Rattle.std.specs.Prelude.{◌≡◌, ◌+◌, ◌<◌, ◌≤◌, ℕ, false, slice_index_or, filter, if◌then◌else◌, IfOk, IfSome, IsNone};
+ghost use Rattle.std.specs.Prelude.{◌≡◌, ◌+◌, ◌<◌, ◌≤◌, ℕ, false, length, take, drop, slice_index_or, filter, if◌then◌else◌, IfOk, IfSome, IsNone};
 ghost use Rattle.meaning.specs.declared.expr.Expr.{Expr as AnExpr};
 ghost use Rattle.blocks.specs.declared.kind.Kind.TheVariants as kind_is;
 ghost use Rattle.blocks.specs.Block.{nulls_of};
@@ -113,6 +113,32 @@ fn select_coded(
     selection.narrow(|position| keeps_coded(block, dictionary, marks, from + position as usize));
 }
 
+/// So many marks from one on.
+fn marks_from(marks: &[bool], from: usize, count: usize) -> &[bool]
+    requires { from + count ≤ length marks.now }
+    ensures { result.now ≡ take count (drop from marks.now) }
+{
+    &marks[from..from + count]
+}
+
+/// The same of a block without NULL that has a mark for each row.
+fn select_marked(block: &BlockView<'_>, marks: &EntryMarks, from: usize, selection: &mut Selection)
+    requires kind { ¬ (block.now.kind ≡ kind_is.Dict) }
+    requires nullable { block.now.nullable ≡ false }
+    requires within { from + selection.old.below ≤ block.now.rows }
+    requires long { from + selection.old.below ≤ length marks.now.marks.items }
+    ensures { selection.new ≡ record {
+      below = selection.old.below;
+      list = filter (λ p. slice_index_or (kept_of block.now marks.now) (from + p) false)
+          selection.old.list;
+    } }
+{
+    // No effect at run time. The proof reads from this call that positions ascend below the length.
+    let _positions = selection.len();
+    let mask = marks_from(marks.marks.as_slice(), from, selection.below());
+    selection.keep_marked(mask);
+}
+
 fn select_rows(block: &BlockView<'_>, marks: &EntryMarks, from: usize, selection: &mut Selection)
     requires kind { ¬ (block.now.kind ≡ kind_is.Dict) }
     requires within { from + selection.old.below ≤ block.now.rows }
@@ -126,7 +152,11 @@ fn select_rows(block: &BlockView<'_>, marks: &EntryMarks, from: usize, selection
     // length, and that a block has few rows.
     let _positions = selection.len();
     let _rows = block.len();
-    selection.narrow(|position| keeps_row(block, marks, from + position as usize));
+    if !block.nullable() && from + selection.below() <= marks.marks.len() {
+        select_marked(block, marks, from, selection);
+    } else {
+        selection.narrow(|position| keeps_row(block, marks, from + position as usize));
+    }
 }
 
 impl<'a> BlockPredicate<'a> {

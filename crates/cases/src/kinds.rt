@@ -1,7 +1,9 @@
 //! Which kind of case a record is.
+use crate::pieces::Host;
 use crate::{catalog, cut, plan, program, sql};
 use answer_cases::{
-    show_answer, show_gathering, show_random_schedules, show_schedule, show_state, show_whole_query,
+    show_answer, show_gathering, show_random_schedules, show_refused_memory, show_schedule,
+    show_state, show_whole_query,
 };
 use case_files::{StoredFile, bytes_of, escaped_bytes, find};
 use expression_cases::{show_agreement, show_expressions};
@@ -31,7 +33,7 @@ fn show_kind(
     files: &mut Vec<StoredFile>,
 ) -> Result<String, AllocError> {
     match kind {
-        "xcols" => program::show(alloc, words, files),
+        "xcols" => program::show(alloc, words, files, Host::sound()),
         "sql" => sql::show(alloc, words, body),
         "catalog" => catalog::show(alloc, words, body),
         "cut" => cut::show(alloc, words, body),
@@ -46,6 +48,7 @@ fn show_kind(
         "state" => show_state(alloc, words, body),
         "gather" => show_gathering(alloc, words, body, files),
         "random-schedules" => show_random_schedules(alloc, words, body, files.as_slice()),
+        "refused-memory" => show_refused_memory(alloc, words, body, files.as_slice()),
         "schedule" => show_schedule(alloc, words, body, files.as_slice()),
         "whole" => show_whole_query(alloc, words, files.as_slice()),
         _ => show_storage(alloc, kind, words, body, files.as_slice()),
@@ -64,6 +67,20 @@ pub fn show(
         [kind, "of", path, words @ ..] => {
             let digits = hex::encode(alloc, find(files.as_slice(), path).unwrap_or(&[]))?;
             show_kind(alloc, kind, words, digits.as_str(), files)
+        }
+        ["by", most, "xcols", words @ ..] => {
+            program::show(alloc, words, files, Host::by(most.parse().unwrap_or(1)))
+        }
+        ["stopped", calls, "xcols", words @ ..] => {
+            program::show(
+                alloc,
+                words,
+                files,
+                Host::stopped(calls.parse().unwrap_or(0)),
+            )
+        }
+        ["failing", path, "xcols", words @ ..] => {
+            program::show_failures(alloc, path, words, files.as_slice())
         }
         [kind, words @ ..] => show_kind(alloc, kind, words, body, files),
         [] => String::from_str(alloc, "(a record without a kind)\n"),

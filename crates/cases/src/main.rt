@@ -5,10 +5,12 @@
 mod catalog;
 mod cut;
 mod kinds;
+mod pieces;
 mod plan;
 mod program;
 mod refusals;
 mod sql;
+mod stored_disk;
 mod stored_folder;
 mod tally;
 

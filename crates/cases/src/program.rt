@@ -1,12 +1,17 @@
 //! Cases that run the program over a folder in memory.
 ghost use Rattle.command_line.specs.Command.{IsInRange};
 
+use crate::pieces::Host;
 use crate::stored_folder::StoredFolder;
-use case_files::{StoredFile, put_all, show_lines, show_printed};
+use case_files::{StoredFile, find, put_all, show_lines, show_printed};
 use cli::{Command, UsageFault, command, run};
 use std::alloc::{AllocError, Global};
+use std::cell::RefCell;
 use std::fmt::Write;
 use std::mem::drop;
+
+/// No file of a case has as many pieces.
+const MOST_CALLS: u32 = 10_000;
 
 fn show_status(shown: &mut String, status: u8) -> Result<(), AllocError> {
     match status {
@@ -94,15 +99,52 @@ fn change(
     put_all(files, written)
 }
 
-fn show_command(
+// The path of the journal that a command asks for.
+fn journal_path(command: &Command) -> Option<&str> {
+    match command {
+        Command::Gather(command) => match &command.journal {
+            Some(path) => Some(path.as_str()),
+            None => None,
+        },
+        _ => None,
+    }
+}
+
+// What stands in it before the command.
+fn journal_of(
     alloc: Global,
     command: &Command,
-    files: &mut Vec<StoredFile>,
-) -> Result<String, AllocError>
+    files: &[StoredFile],
+) -> Result<Vec<u8>, AllocError> {
+    let bytes = match journal_path(command) {
+        Some(path) => find(files, path).unwrap_or(&[]),
+        None => &[],
+    };
+    Vec::from_slice(alloc, bytes)
+}
+
+// What a command shows, and the files that it wrote and took away.
+#[derive(Drop)]
+struct Ran {
+    shown: String,
+    written: Vec<StoredFile>,
+    removed: Vec<String>,
+}
+
+fn run_command(
+    alloc: Global,
+    command: &Command,
+    files: &[StoredFile],
+    host: Host<'_>,
+) -> Result<Ran, AllocError>
     requires { IsInRange command.now }
 {
-    let mut folder = StoredFolder::new(alloc, files.as_slice());
+    let journal = RefCell::new(journal_of(alloc, command, files)?);
+    let mut folder = StoredFolder::new(alloc, files, &journal, host);
     let outcome = run_over(alloc, command, &mut folder);
+    if let Some(path) = journal_path(command) {
+        folder.keep_journal(path)?;
+    }
     let shown = show_outcome(alloc, &outcome, &folder);
     drop(outcome);
     let StoredFolder {
@@ -110,13 +152,74 @@ fn show_command(
         written,
         ..
     } = folder;
+    match shown {
+        Ok(shown) => Ok(Ran {
+            shown,
+            written,
+            removed,
+        }),
+        Err(error) => {
+            drop(removed);
+            drop(written);
+            Err(error)
+        }
+    }
+}
+
+fn show_command(
+    alloc: Global,
+    command: &Command,
+    files: &mut Vec<StoredFile>,
+    host: Host<'_>,
+) -> Result<String, AllocError>
+    requires { IsInRange command.now }
+{
+    let Ran {
+        shown,
+        written,
+        removed,
+    } = run_command(alloc, command, files.as_slice(), host)?;
     match change(files, removed, written) {
-        Ok(()) => shown,
+        Ok(()) => Ok(shown),
         Err(error) => {
             drop(shown);
             Err(error)
         }
     }
+}
+
+// What the command shows whose reader of one file fails at its first call, at its second, and so on,
+// until two runs show what none that fails does. What is shown again isn't repeated.
+fn show_failing(
+    alloc: Global,
+    command: &Command,
+    files: &[StoredFile],
+    path: &str,
+) -> Result<String, AllocError>
+    requires { IsInRange command.now }
+{
+    let wanted = run_command(alloc, command, files, Host::sound())?.shown;
+    let mut shown = String::new(alloc);
+    let mut last = String::new(alloc);
+    for call in 1..MOST_CALLS {
+        let ran = run_command(alloc, command, files, Host::failing(path, call))?.shown;
+        let is_again = ran == last;
+        if is_again && ran == wanted {
+            break;
+        }
+        if !is_again {
+            put_next(&mut shown, ran.as_str())?;
+        }
+        last = ran;
+    }
+    Ok(shown)
+}
+
+fn put_next(shown: &mut String, next: &str) -> Result<(), AllocError> {
+    if !shown.is_empty() {
+        shown.push_str("then\n")?;
+    }
+    shown.push_str(next)
 }
 
 /// What the program prints and writes where it is asked by these words, over the files so far. What
@@ -125,10 +228,29 @@ pub fn show(
     alloc: Global,
     words: &[&str],
     files: &mut Vec<StoredFile>,
+    host: Host<'_>,
 ) -> Result<String, AllocError> {
     match command(alloc, words) {
         Ok(command) => {
-            let shown = show_command(alloc, &command, files);
+            let shown = show_command(alloc, &command, files, host);
+            drop(command);
+            shown
+        }
+        Err(fault) => show_usage(alloc, &fault),
+    }
+}
+
+/// What the program prints and writes, run again and again, where the reader of one file fails at one
+/// call after the other, and then at none. Nothing of it stands among the files.
+pub fn show_failures(
+    alloc: Global,
+    path: &str,
+    words: &[&str],
+    files: &[StoredFile],
+) -> Result<String, AllocError> {
+    match command(alloc, words) {
+        Ok(command) => {
+            let shown = show_failing(alloc, &command, files, path);
             drop(command);
             shown
         }

@@ -18,6 +18,8 @@ use Rattle.fragment_file.specs.declared.fault.FileFault.TheVariants as file_faul
 use Rattle.job_files.specs.Fault as work
 use Rattle.job_files.specs.declared.fault.WorkFault.{WorkFault}
 use Rattle.job_files.specs.declared.fault.WorkFault.TheVariants as work_fault
+use Rattle.folders.specs.JournalRefusal as journal
+use Rattle.folders.specs.declared.journal_refusal.JournalRefusal.{JournalRefusal}
 use Rattle.folders.specs.Lines.{numbered_line}
 use Rattle.folders.specs.declared.refusal.Refusal.{Refusal}
 use Rattle.folders.specs.declared.refusal.Refusal.TheVariants as refusal
@@ -75,6 +77,9 @@ cut_file_line e = numbered_line (codes "file") (file.number_of e) (file_details 
 abbrev pub work_line : WorkFault → List ℕ
 work_line e = numbered_line (codes "work") (work.number_of e) (work_details e)
 
+abbrev pub journal_line : JournalRefusal → List ℕ
+journal_line e = numbered_line (codes "journal") (journal.number_of e) []
+
 -- words alone
 abbrev pub plain_line : List ℕ → List ℕ
 plain_line words = codes "xcols: " ++ words ++ 10 ∷ []
@@ -96,3 +101,4 @@ line_of (refusal.Sql e) = sql_line e
 line_of (refusal.Plan e) = plan_line e
 line_of (refusal.Load e) = table_line e
 line_of (refusal.Work e) = work_line e
+line_of (refusal.Journal e) = journal_line e

@@ -2,10 +2,10 @@
 ghost use Rattle.std.specs.Prelude.{◌≡◌, [], ◌∷◌, codes, decimal, OnOk};
 ghost use Rattle.std.specs.Io.KnownBytes.{Appends};
 ghost use Rattle.folders.specs.Lines.{numbered_line};
-ghost use Rattle.cli.specs.Lines.{catalog_line, sql_line, table_line, plan_line, cut_file_line, work_line, file_line, plain_line, line_of};
+ghost use Rattle.cli.specs.Lines.{catalog_line, sql_line, table_line, plan_line, cut_file_line, work_line, journal_line, file_line, plain_line, line_of};
 ghost use Rattle.job_files.specs.declared.fault.WorkFault.TheVariants.{File};
 
-use folders::Refusal;
+use folders::{JournalRefusal, Refusal};
 use fragment_file::FileFault;
 use job_files::WorkFault;
 use meaning::{CatalogFault, TableFault, Text};
@@ -163,6 +163,13 @@ fn print_work<E: Write>(fault: &WorkFault, err: &mut E) -> io::Result<()>
     }
 }
 
+fn print_journal<E: Write>(fault: &JournalRefusal, err: &mut E) -> io::Result<()>
+    ensures { OnOk result (Appends (E.contents err.old) (E.contents err.new)
+        (journal_line fault.now)) }
+{
+    print_number("journal", fault.number(), err)
+}
+
 fn print_file<E: Write>(lacks: &str, path: &Text, err: &mut E) -> io::Result<()>
     ensures { OnOk result (Appends (E.contents err.old) (E.contents err.new)
         (file_line lacks.now path.now)) }
@@ -195,5 +202,6 @@ pub fn print_refusal<E: Write>(refusal: &Refusal, err: &mut E) -> io::Result<()>
         Refusal::Plan(fault) => print_plan(fault, err),
         Refusal::Load(fault) => print_table(fault, err),
         Refusal::Work(fault) => print_work(fault, err),
+        Refusal::Journal(fault) => print_journal(fault, err),
     }
 }

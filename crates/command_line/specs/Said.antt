@@ -32,7 +32,7 @@ abbrev pub options_of : Command → List Word
 options_of (Whole folder query rows vector) = codes "query" ∷ codes "rows" ∷ codes "vector" ∷ []
 options_of (Load folder load rows) = codes "load" ∷ codes "rows" ∷ []
 options_of (Work command) = codes "query" ∷ codes "fragment" ∷ codes "out" ∷ codes "vector" ∷ []
-options_of (Gather command) = codes "query" ∷ codes "save" ∷ []
+options_of (Gather command) = codes "query" ∷ codes "save" ∷ codes "journal" ∷ []
 
 -- its flags
 abbrev pub flags_in : Command → List Word
@@ -53,7 +53,7 @@ abbrev pub HasOptions : List Named → Command → Type 0
 HasOptions named (Whole folder query rows vector) = HasText (codes "query") named query × HasNumber (codes "rows") named rows × HasVector named vector
 HasOptions named (Load folder load rows) = HasNumber (codes "load") named load × HasNumber (codes "rows") named rows
 HasOptions named (Work command) = HasText (codes "query") named command.query × HasNumber (codes "fragment") named command.fragment × HasText (codes "out") named command.out × HasVector named command.vector
-HasOptions named (Gather command) = HasText (codes "query") named command.query × HasTextOrNone (codes "save") named command.save
+HasOptions named (Gather command) = HasText (codes "query") named command.query × HasTextOrNone (codes "save") named command.save × HasTextOrNone (codes "journal") named command.journal
 
 -- the command of that name, with these options, flags and plain words
 pub record IsOf (name : Word) (named : List Named) (flags plain : List Word) (command : Command) : Type 0 where

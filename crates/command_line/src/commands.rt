@@ -45,6 +45,9 @@ pub struct GatherCommand {
     pub query: Text,
     /// The path under which the state is written, where it is to be saved.
     pub save: Option<Text>,
+    /// The path of the file that keeps each answer which was taken, where there is to be one. No
+    /// states are taken then.
+    pub journal: Option<Text>,
     /// Whether what the answers say together is printed though fragments are missing or in
     /// conflict.
     pub preview: bool,

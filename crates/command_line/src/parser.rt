@@ -112,6 +112,15 @@ fn save_arg<'a>(alloc: Global) -> Arg<'a> {
         .help("The file that the state is written to")
 }
 
+fn journal_arg<'a>(alloc: Global) -> Arg<'a> {
+    Arg::new(alloc, "journal")
+        .long("journal")
+        .value_name("J")
+        .help(
+            "The file that keeps each answer taken, made where there is none; it is one program's at a time",
+        )
+}
+
 fn preview_arg<'a>(alloc: Global) -> Arg<'a> {
     Arg::new(alloc, "preview")
         .long("preview")
@@ -165,6 +174,7 @@ fn gather_parser<'a>(alloc: Global) -> Result<clap::Command<'a>, AllocError> {
     let parser = parser.arg(folder_arg(alloc))?;
     let parser = parser.arg(query_arg(alloc))?;
     let parser = parser.arg(save_arg(alloc))?;
+    let parser = parser.arg(journal_arg(alloc))?;
     let parser = parser.arg(preview_arg(alloc))?;
     parser.arg(files_arg(alloc))
 }

@@ -163,7 +163,7 @@ fn gather(alloc: Global, parts: &Parts<'_>) -> Result<Option<Command>, AllocErro
         (flags_of parts.now) (plain_of parts.now))) }
     ensures range { IfOk result (λ o. IfSome o IsInRange) }
 {
-    if !parts.has_only(&["query", "save"]) {
+    if !parts.has_only(&["query", "save", "journal"]) {
         return Ok(None);
     }
     let Some((folder, files)) = parts.plain_words().split_first() else {
@@ -172,9 +172,10 @@ fn gather(alloc: Global, parts: &Parts<'_>) -> Result<Option<Command>, AllocErro
     if files.is_empty() {
         return Ok(None);
     }
-    let (Some(query), Some(save), Some(preview)) = (
+    let (Some(query), Some(save), Some(journal), Some(preview)) = (
         parts.text("query"),
         parts.text_if_any("save"),
+        parts.text_if_any("journal"),
         parts.only_flag("preview"),
     ) else {
         return Ok(None);
@@ -183,6 +184,7 @@ fn gather(alloc: Global, parts: &Parts<'_>) -> Result<Option<Command>, AllocErro
         folder: Text::new(alloc, folder)?,
         query: Text::new(alloc, query)?,
         save: text_if_any(alloc, save)?,
+        journal: text_if_any(alloc, journal)?,
         preview,
         files: texts(alloc, files)?,
     })))

@@ -1,6 +1,7 @@
 -- What is known of the files that a program reads, writes and takes away.
 use Rattle.std.specs.Prelude.{◌≡◌, ℕ, List, [], ◌∷◌, ◌++◌, if◌then◌else◌, codes, decimal, Option, None, Some, Result, IfOk, IfSome, nat_eq}
 use Rattle.std.specs.List.{ends_with}
+use Rattle.disk.specs.Disk.{DiskSpec, IsHonest}
 
 -- the bytes of each path, where they are known
 abbrev pub Holds : Type 0
@@ -23,6 +24,10 @@ HasHeld held remaining = (bytes : List ℕ) → held ≡ Some bytes → remainin
 -- these bytes are those held, where those are known
 abbrev pub AreHeld : Option (List ℕ) → List ℕ → Type 0
 AreHeld held bytes = IfSome held (λ known. bytes ≡ known)
+
+-- the disk of a file whose bytes are known is honest, and reads are those
+abbrev pub HasDisk : Option (List ℕ) → DiskSpec → Type 0
+HasDisk held disk = (bytes : List ℕ) → held ≡ Some bytes → IsHonest disk × (disk.now.reads ≡ bytes)
 
 -- ---- writing
 

@@ -1,7 +1,8 @@
 //! The files of a folder, read and written whole.
 ghost use Rattle.std.specs.Prelude.{◌≡◌, ◌≢◌, IfErr, IfOk, IfSome, OnErr, OnOk};
 ghost use Rattle.fragment_file.specs.declared.fault.FileFault.TheVariants as no_file;
-ghost use Rattle.folders.specs.Folder.{AreHeld, Finishes, HasHeld, IsEmptyFile, Removes, WritesOne, catalog_path};
+ghost use Rattle.disk.specs.Disk.{HasRoom};
+ghost use Rattle.folders.specs.Folder.{AreHeld, Finishes, HasDisk, HasHeld, IsEmptyFile, Removes, WritesOne, catalog_path};
 ghost use Rattle.folders.specs.Refused.{IsUnread, IsUnwritten};
 ghost use Rattle.folders.specs.declared.refusal.Refusal.TheVariants.{Memory};
 
@@ -67,6 +68,22 @@ pub fn open_file<F: Folder>(folder: &F, path: &Text) -> Result<F::Reader, Refusa
 {
     match folder.open(path.as_str()) {
         Ok(file) => Ok(file),
+        Err(error) => match error.kind() {
+            ErrorKind::OutOfMemory => Err(Refusal::Memory),
+            _ => Err(cannot_read(path)),
+        },
+    }
+}
+
+/// A file as a disk, which has no bytes where there was none.
+pub fn open_disk<F: Folder>(folder: &F, path: &Text) -> Result<F::Disk, Refusal>
+    ensures room { IfOk result (λ disk. HasRoom (F.Disk.shown disk)) }
+    ensures held { IfOk result
+        (λ disk. HasDisk (F.holds folder.now path.now) (F.Disk.shown disk)) }
+    ensures refused { IfErr result (IsUnread path.now) }
+{
+    match folder.disk(path.as_str()) {
+        Ok(disk) => Ok(disk),
         Err(error) => match error.kind() {
             ErrorKind::OutOfMemory => Err(Refusal::Memory),
             _ => Err(cannot_read(path)),

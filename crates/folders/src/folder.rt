@@ -1,7 +1,9 @@
 //! The trait of folders that commands read from and write to.
 ghost use Rattle.std.specs.Prelude.{◌≡◌, ℕ, List, Option, None, IfOk, OnErr, OnOk, ⊤};
-ghost use Rattle.folders.specs.Folder.{Change, Finishes, IsEmptyFile, Opens, Removes};
+ghost use Rattle.disk.specs.Disk.{HasRoom};
+ghost use Rattle.folders.specs.Folder.{Change, Finishes, HasDisk, IsEmptyFile, Opens, Removes};
 
+use disk::Disk;
 use std::io;
 use std::io::{Read, Write};
 
@@ -15,6 +17,9 @@ pub trait Folder {
     /// A file that has all its bytes and stands under no path yet. It is given up where it is let
     /// go.
     type Closed: Drop;
+
+    /// A file that is read and written in place.
+    type Disk: Disk + Drop;
 
     // The bytes of a path's file, where they are known.
     ghost holds: { Self → List ℕ → Option (List ℕ) } = { λ _ _. None };
@@ -32,6 +37,12 @@ pub trait Folder {
     fn open(&self, path: &str) -> io::Result<Self::Reader>
         ensures held { Opens Self.Reader.remaining (holds self.now path.now) result }
         ensures opened { OnOk result (opens self.now path.now) };
+
+    /// A path's file as a disk, which has no bytes where there was none.
+    fn disk(&self, path: &str) -> io::Result<Self::Disk>
+        ensures room { IfOk result (λ disk. HasRoom (Self.Disk.shown disk)) }
+        ensures held { IfOk result (λ disk. HasDisk (holds self.now path.now)
+            (Self.Disk.shown disk)) };
 
     /// An empty file, which stands under its path once it is finished.
     fn create(&mut self, path: &str) -> io::Result<Self::Writer>

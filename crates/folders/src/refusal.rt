@@ -6,6 +6,7 @@ ghost use Rattle.folders.specs.Folder.{csv_path};
 ghost use Rattle.folders.specs.Refused.{IsLoadPathless, IsReturnedAs, IsUnread, IsUnwritten, load_refusal, of_catalog, of_cut, of_file, of_work};
 ghost use Rattle.folders.specs.declared.refusal.Refusal.TheVariants as refusal;
 
+use crate::journal_refusal::JournalRefusal;
 use crate::paths::csv_path;
 use fragment_file::FileFault;
 use job_files::WorkFault;
@@ -35,6 +36,7 @@ pub enum Refusal {
     Plan(PlanFault),
     Load(TableFault),
     Work(WorkFault),
+    Journal(JournalRefusal),
 }
 
 impl From<AllocError> for Refusal {

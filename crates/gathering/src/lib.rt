@@ -9,6 +9,7 @@ mod gather;
 mod joining;
 mod laws;
 mod lines;
+mod live_table;
 mod output;
 mod report;
 mod same_job;

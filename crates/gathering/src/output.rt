@@ -43,7 +43,7 @@ fn combine(alloc: Global, gather: &Gather) -> Result<Body<Group>, AllocError>
     let totals = gather.totals();
     match &totals.least {
         Some(fault) => Ok(Body::Fault(*fault)),
-        None => Ok(Body::Groups(totals.table.groups(alloc)?)),
+        None => Ok(Body::Groups(totals.table.table().groups(alloc)?)),
     }
 }
 

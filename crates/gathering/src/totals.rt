@@ -11,6 +11,7 @@ ghost use Rattle.gathering.specs.Merging.{AreMergeable, all_groups};
 ghost use Rattle.gathering.specs.Totals.{AreDeltas, AreTotalsOf, AreTotalsWith, CanTake, all_behind, handed_at_join, merges_of};
 
 use crate::combining::{earlier, least_behind, least_fault, merge_behind, merge_cells};
+use crate::live_table::LiveTable;
 use aggregate_states::Group;
 use group_by::GroupTable;
 use meaning::{Body, Cell, Plan, RowFault};
@@ -19,7 +20,7 @@ use std::alloc::{AllocError, Global};
 /// The groups of the answers, merged, and the least of their faults.
 #[derive(Drop)]
 pub struct Totals {
-    pub table: GroupTable,
+    pub table: LiveTable,
     pub least: Option<RowFault>,
     // How many groups were handed to the tables before this one.
     pub earlier: u64,
@@ -33,7 +34,7 @@ impl Totals {
     {
         let table = GroupTable::new(alloc, plan)?;
         Ok(Totals {
-            table,
+            table: LiveTable::of(table),
             least: None,
             earlier: 0,
         })
@@ -44,17 +45,16 @@ impl Totals {
         requires { merges_of self.now < 18446744073709551616 }
         ensures { result ≡ merges_of self.now }
     {
-        self.earlier + self.table.merged()
+        self.earlier + self.table.table().merged()
     }
 
-    /// Takes groups, in a copy of the table that is put in last.
+    /// Takes groups.
     fn add_groups(&mut self, alloc: Global, groups: &[Group]) -> Result<(), AllocError>
         requires { CanTake self.old.table groups.now }
         ensures added { OnOk result (AreTotalsWith self.old groups.now None self.new) }
         ensures unchanged { OnErr result (self.new ≡ self.old) }
     {
-        let table = self.table.copy(alloc)?.absorb_groups(alloc, groups)?;
-        self.table = table;
+        self.table.take(alloc, groups)?;
         Ok(())
     }
 
@@ -80,10 +80,10 @@ impl Totals {
         ensures { IfOk result
             (AreTotalsWith self.now (all_groups cells.now) (least_fault cells.now)) }
     {
-        let table = self.table.copy(alloc)?;
+        let table = self.table.table().copy(alloc)?;
         let table = merge_cells(alloc, table, cells)?;
         Ok(Totals {
-            table,
+            table: LiveTable::of(table),
             least: earlier(self.least, least_fault(cells)),
             earlier: self.earlier,
         })
@@ -105,7 +105,7 @@ impl Totals {
     {
         let table = merge_behind(alloc, plan, cells, deltas)?;
         Ok(Totals {
-            table,
+            table: LiveTable::of(table),
             least: least_behind(cells, deltas),
             earlier,
         })

@@ -240,3 +240,8 @@ module _ (is_certain : Bool) (keys : List Row) (rows : List ℕ) (columns : List
 
 pub all_heights : (columns : List ColumnSpec) (n : ℕ) → ((c : ℕ) → c < length columns → length (get_or columns c no_column).states ≡ n) → All (λ (c : ColumnSpec). length c.states ≡ n) columns
 all_heights columns n heights k d l = ap (λ (c : ColumnSpec). length c.states) (get_or_default columns k d no_column l) ∙ heights k l
+
+-- of keys, counts and columns that are the same
+pub in_its_order : {keys other_keys : List Row} {rows other_rows : List ℕ} {columns other_columns : List ColumnSpec} {groups : List Group}
+    → IsInOrder keys rows columns groups → keys ≡ other_keys → rows ≡ other_rows → columns ≡ other_columns → IsInOrder other_keys other_rows other_columns groups
+in_its_order {groups = groups} order same_keys same_rows same_columns = subst (λ (p : List Row × List ℕ × List ColumnSpec). IsInOrder p.0 p.1 p.2 groups) (λ i. (same_keys i, same_rows i, same_columns i)) order

@@ -317,7 +317,9 @@ impl GroupTable {
         ensures fit { IfOk result (λ groups. All (IsGroupOf self.now.shape) groups) }
         ensures rows { IfOk result (λ groups. all_rows groups ≡ self.now.rows) }
     {
-        self.copy(alloc)?.into_groups(alloc)
+        let keys = self.index.keys.copy(alloc)?;
+        let groups = in_order(alloc, keys, self.rows.as_slice(), self.columns.as_slice())?;
+        Ok(Sequence::from_vec(groups))
     }
 
     /// How many groups were handed to `absorb_groups`, the copied table's too. Takes no memory.

@@ -1,5 +1,5 @@
 -- The first of files that can't be read.
-use Rattle.std.proofs.Common.{◌≡◌, ℕ, ◌+◌, ◌<◌, List, [], ◌∷◌, ◌++◌, map, length, take, drop, get_or, All, refl, sym, ap, subst, ◌∙◌, inl, inr}
+use Rattle.std.proofs.Common.{◌≡◌, ℕ, Bool, ◌+◌, ◌<◌, List, [], ◌∷◌, ◌++◌, map, length, take, drop, get_or, All, refl, sym, ap, subst, ◌∙◌, inl, inr}
 use Rattle.std.proofs.lemmas.List.{drop_more, map-append, take-append-drop, take_more}
 use Rattle.std.proofs.lemmas.List.Elements.{All-cons, All-nil, All-push}
 use Rattle.meaning.specs.declared.plan.Join.{Join}
@@ -19,9 +19,10 @@ unread_is : (named path : List ℕ) (e : Refusal) → IsUnread named e → e ≡
 unread_is named path e (inl memory) is = absurd cc
 unread_is named path e (inr unread) is = let same : refusal.CannotRead named ≡ refusal.CannotRead path = sym unread ∙ is in cc same
 
-pub never_returned : (path : List ℕ) (e : Refusal) → IsUnreturned e → e ≡ refusal.CannotRead path → ⊥
-never_returned path e (inl memory) is = cc
-never_returned path e (inr report) is = cc
+pub never_returned : (journaled : Bool) (path : List ℕ) (e : Refusal) → IsUnreturned journaled e → e ≡ refusal.CannotRead path → ⊥
+never_returned journaled path e (inl memory) is = cc
+never_returned journaled path e (inr (inl report)) is = cc
+never_returned journaled path e (inr (inr (fault, kept, other, unkept))) is = cc
 
 -- ---- one file after the other
 
@@ -65,10 +66,10 @@ same_paths [] = refl
 same_paths (p ∷ paths) = ap (λ (ps : List (List ℕ)). p ∷ ps) (same_paths paths)
 
 -- of files that are taken the next can't be read, or not be named
-pub file_unread : (opens : List ℕ → Type 0) (paths : List (List ℕ)) (k : ℕ) (path : List ℕ) (e : Refusal) → k < length paths → path ≡ get_or paths k path → AreOpened opens (λ (p : List ℕ). p) paths k → IsFileRefused path e
+pub file_unread : (journaled : Bool) (opens : List ℕ → Type 0) (paths : List (List ℕ)) (k : ℕ) (path : List ℕ) (e : Refusal) → k < length paths → path ≡ get_or paths k path → AreOpened opens (λ (p : List ℕ). p) paths k → IsFileRefused journaled path e
     → IsFirstUnread opens (map (λ (p : List ℕ). p) paths) e
-file_unread opens paths k path e lt at opened (inl returned) = λ named is. absurd (never_returned named e returned is)
-file_unread opens paths k path e lt at opened (inr unread) = first_unread opens (λ (p : List ℕ). p) paths k path e lt at opened unread
+file_unread journaled opens paths k path e lt at opened (inl returned) = λ named is. absurd (never_returned journaled named e returned is)
+file_unread journaled opens paths k path e lt at opened (inr unread) = first_unread opens (λ (p : List ℕ). p) paths k path e lt at opened unread
 
 -- ---- the files of a job, as they were lent
 

@@ -6,4 +6,5 @@ pub mod OwnFiles
 mod TakenFiles
 mod Refusals
 mod FirstUnread
+mod Gathered
 mod ReadFiles

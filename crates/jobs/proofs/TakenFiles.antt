@@ -1,5 +1,5 @@
 -- One file more is taken, or named and passed over.
-use Rattle.std.proofs.Common.{◌≡◌, ℕ, ◌+◌, ◌<◌, true, false, List, [], ◌∷◌, ◌++◌, map, length, take, get_or, slice_set, slice_index_or, All, OnOk, refl, sym, ap, ◌∙◌, subst, append_assoc, append-nil}
+use Rattle.std.proofs.Common.{◌≡◌, ℕ, Bool, ◌+◌, ◌<◌, true, false, List, [], ◌∷◌, ◌++◌, map, length, take, get_or, slice_set, slice_index_or, All, OnOk, inr, refl, sym, ap, ◌∙◌, subst, append_assoc, append-nil}
 use Rattle.std.specs.Prelude.{Option, None, Some, Result, Ok, Err, flat_map}
 use Rattle.std.specs.Io.KnownBytes.{Appends}
 use Rattle.std.proofs.lemmas.Grind.{flat_map-append}
@@ -17,9 +17,13 @@ use Rattle.gathering.specs.Gathering.{GatherSpec, Joins, Takes, join_states}
 use Rattle.gathering.specs.declared.gather.Absorbed.{Absorbed}
 use Rattle.gathering.proofs.Held.{below_cut}
 use Rattle.folders.specs.Folder.{Holds}
+use Rattle.folders.specs.declared.journal_refusal.JournalRefusal.{JournalRefusal}
+use Rattle.folders.specs.declared.refusal.Refusal.TheVariants as refusal
 use Rattle.jobs.specs.PassedOver.{passed_over_line}
-use Rattle.jobs.specs.Gathering.{IsTaken, IsTaking, Taken, answer, gathered, line_of, obstacle_of, passed, state, takings_of}
-use Rattle.jobs.specs.Taking.{TakesBytes, TakesFile, TakesOrNames, TookFiles}
+use Rattle.jobs.specs.declared.takes_answers.TakeFault.{TakeFault}
+use Rattle.jobs.specs.declared.takes_answers.TakeFault.TheVariants as take_fault
+use Rattle.jobs.specs.Gathering.{IsTaken, IsTaking, IsUnreturned, Taken, Taking, answer, as_state, gathered, line_of, obstacle_of, passed, state, takings_of}
+use Rattle.jobs.specs.Taking.{IsRefused, TakesBytes, TakesFile, TakesOrNames, TookFiles}
 use Rattle.jobs.proofs.Together.{answer_more, passed_more, state_more}
 
 pub appends_nothing : (o : Option (List ℕ)) → Appends o o []
@@ -36,8 +40,8 @@ pub on_ok : {T E : Type 0} (r : Result T E) (P Q : Type 0) → (P → Q) → OnO
 on_ok (Ok x) P Q so is = so is
 on_ok (Err e) P Q so is = tt
 
-pub taken_answer : (old new : GatherSpec) (bytes : List ℕ) (returned : Absorbed) → is_state bytes ≡ false → Takes old new bytes returned → TakesBytes old new bytes
-taken_answer old new bytes returned begins takes = record {
+pub taken_answer : (journaled : Bool) (old new : GatherSpec) (bytes : List ℕ) (returned : Absorbed) → as_state journaled bytes ≡ false → Takes old new bytes returned → TakesBytes journaled old new bytes
+taken_answer journaled old new bytes returned begins takes = record {
   taking = answer takes.answer;
   is = (begins, takes.spelled);
   adds = record {
@@ -51,7 +55,7 @@ taken_answer old new bytes returned begins takes = record {
 }
 
 pub taken_state : (old new : GatherSpec) (bytes : List ℕ) → is_state bytes ≡ true
-    → ((cells : List Cell) × SpellsState old.job bytes cells × Joins old new cells) → TakesBytes old new bytes
+    → ((cells : List Cell) × SpellsState old.job bytes cells × Joins old new cells) → TakesBytes false old new bytes
 taken_state old new bytes begins (cells, spelled, joins) = record {
   taking = state cells;
   is = (begins, spelled);
@@ -65,17 +69,17 @@ taken_state old new bytes begins (cells, spelled, joins) = record {
   unnamed = λ path. refl;
 }
 
-pub taken_quietly : (old new : GatherSpec) (path bytes : List ℕ) (err : Option (List ℕ)) → TakesBytes old new bytes → TakesOrNames old new path bytes err err
-taken_quietly old new path bytes err takes = record {
+pub taken_quietly : (journaled : Bool) (old new : GatherSpec) (path bytes : List ℕ) (err : Option (List ℕ)) → TakesBytes journaled old new bytes → TakesOrNames journaled old new path bytes err err
+taken_quietly journaled old new path bytes err takes = record {
   taking = takes.taking;
   is = takes.is;
   adds = takes.adds;
   named = subst (Appends err err) (sym (takes.unnamed path)) (appends_nothing err);
 }
 
-pub passed_over : (old new : GatherSpec) (path bytes : List ℕ) (fault : DecodeFault) (before after : Option (List ℕ)) → obstacle_of old.job bytes ≡ Some fault → new ≡ old
-    → Appends before after (passed_over_line (number_of fault) path) → TakesOrNames old new path bytes before after
-passed_over old new path bytes fault before after obstacle same named = record {
+pub passed_over : (journaled : Bool) (old new : GatherSpec) (path bytes : List ℕ) (fault : DecodeFault) (before after : Option (List ℕ)) → obstacle_of journaled old.job bytes ≡ Some fault → new ≡ old
+    → Appends before after (passed_over_line (number_of fault) path) → TakesOrNames journaled old new path bytes before after
+passed_over journaled old new path bytes fault before after obstacle same named = record {
   taking = passed fault;
   is = obstacle;
   adds = record {
@@ -87,17 +91,17 @@ passed_over old new path bytes fault before after obstacle same named = record {
 
 -- ---- one file after the other
 
-pub took_none : (holds : Holds) (g : GatherSpec) (err : Option (List ℕ)) → g.cells ≡ gathered g.job.cut [] → TookFiles holds g g [] err err
-took_none holds g err nothing = record {
+pub took_none : (journaled : Bool) (holds : Holds) (g : GatherSpec) (err : Option (List ℕ)) → TookFiles journaled holds g g [] err err
+took_none journaled holds g err = record {
   files = [];
-  taken = record { paths_are = refl; each = All-nil (IsTaken holds g.job); named = appends_nothing err };
+  taken = record { paths_are = refl; each = All-nil (IsTaken journaled holds g.job); named = appends_nothing err };
   job = refl;
-  state = nothing;
+  state = λ takings known. known ∙ ap (gathered g.job.cut) (sym (append-nil takings));
 }
 
-pub took_more : (holds : Holds) (start now after : GatherSpec) (paths : List (List ℕ)) (k : ℕ) (path : List ℕ) (before then_ last : Option (List ℕ)) → k < length paths → path ≡ get_or paths k path
-    → TookFiles holds start now (take k paths) before then_ → TakesFile holds now after path then_ last → TookFiles holds start after (take (k + 1) paths) before last
-took_more holds start now after paths k path before then_ last below at took takes = record {
+pub took_more : (journaled : Bool) (holds : Holds) (start now after : GatherSpec) (paths : List (List ℕ)) (k : ℕ) (path : List ℕ) (before then_ last : Option (List ℕ)) → k < length paths → path ≡ get_or paths k path
+    → TookFiles journaled holds start now (take k paths) before then_ → TakesFile journaled holds now after path then_ last → TookFiles journaled holds start after (take (k + 1) paths) before last
+took_more journaled holds start now after paths k path before then_ last below at took takes = record {
   files = all;
   taken = record { paths_are = paths_are; each = each; named = named };
   job = takes.takes.adds.job ∙ took.job;
@@ -117,9 +121,9 @@ took_more holds start now after paths k path before then_ last below at took tak
         ∙ ap (λ (p : List ℕ). take k paths ++ p ∷ []) at
         ∙ sym (take_more paths k path below)
 
-    each : All (IsTaken holds start.job) all
-    each = All-push (IsTaken holds start.job) took.files file took.taken.each
-        (record { held = takes.held; taking = subst (λ (job : JobSpec). IsTaking job takes.bytes takes.takes.taking) took.job takes.takes.is })
+    each : All (IsTaken journaled holds start.job) all
+    each = All-push (IsTaken journaled holds start.job) took.files file took.taken.each
+        (record { held = takes.held; taking = subst (λ (job : JobSpec). IsTaking journaled job takes.bytes takes.takes.taking) took.job takes.takes.is })
 
     lines : flat_map line_of took.files ++ line_of file ≡ flat_map line_of all
     lines = ap (λ l. flat_map line_of took.files ++ l) (sym (append-nil (line_of file))) ∙ sym (flat_map-append line_of took.files (file ∷ []))
@@ -127,12 +131,23 @@ took_more holds start now after paths k path before then_ last below at took tak
     named : Appends before last (flat_map line_of all)
     named = subst (Appends before last) lines (appends_more before then_ last (flat_map line_of took.files) (line_of file) took.taken.named takes.takes.named)
 
-    reached : after.cells ≡ gathered start.job.cut (takings_of all)
-    reached =
-        takes.takes.adds.state (takings_of took.files) (took.state ∙ ap (λ (job : JobSpec). gathered job.cut (takings_of took.files)) (sym took.job))
-        ∙ ap (λ (job : JobSpec). gathered job.cut (takings_of took.files ++ file.taking ∷ [])) took.job
-        ∙ ap (gathered start.job.cut) (sym (map-append (λ (f : Taken). f.taking) took.files (file ∷ [])))
+    longer : (takings : List Taking) → (takings ++ takings_of took.files) ++ file.taking ∷ [] ≡ takings ++ takings_of all
+    longer takings = append_assoc takings (takings_of took.files) (file.taking ∷ []) ∙ ap (λ (l : List Taking). takings ++ l) (sym (map-append (λ (f : Taken). f.taking) took.files (file ∷ [])))
 
-pub took_all : (holds : Holds) (start now : GatherSpec) (paths : List (List ℕ)) (k : ℕ) (before after : Option (List ℕ)) → length paths ≤ k
-    → TookFiles holds start now (take k paths) before after → TookFiles holds start now paths before after
-took_all holds start now paths k before after none took = subst (λ (l : List (List ℕ)). TookFiles holds start now l before after) (take_all k paths none) took
+    reached : (takings : List Taking) → start.cells ≡ gathered start.job.cut takings → after.cells ≡ gathered start.job.cut (takings ++ takings_of all)
+    reached takings known =
+        takes.takes.adds.state (takings ++ takings_of took.files) (took.state takings known ∙ ap (λ (job : JobSpec). gathered job.cut (takings ++ takings_of took.files)) (sym took.job))
+        ∙ ap (λ (job : JobSpec). gathered job.cut ((takings ++ takings_of took.files) ++ file.taking ∷ [])) took.job
+        ∙ ap (gathered start.job.cut) (longer takings)
+
+pub took_all : (journaled : Bool) (holds : Holds) (start now : GatherSpec) (paths : List (List ℕ)) (k : ℕ) (before after : Option (List ℕ)) → length paths ≤ k
+    → TookFiles journaled holds start now (take k paths) before after → TookFiles journaled holds start now paths before after
+took_all journaled holds start now paths k before after none took = subst (λ (l : List (List ℕ)). TookFiles journaled holds start now l before after) (take_all k paths none) took
+
+-- ---- a journal
+
+-- an answer that can't be put into the journal isn't returned
+pub unkept : (journaled : Bool) (job : JobSpec) (bytes : List ℕ) (e : TakeFault) (fault : JournalRefusal) → e ≡ take_fault.Journal fault → IsRefused journaled job bytes e → IsUnreturned journaled (refusal.Journal fault)
+unkept journaled job bytes e fault is refused =
+    let at = subst (IsRefused journaled job bytes) is refused in
+    inr (inr (fault, at.0, at.1, refl))

@@ -1,10 +1,11 @@
 -- What becomes of files of answers and states, and what they say together.
-use Rattle.std.specs.Prelude.{◌≡◌, ◌⊎◌, ℕ, ◌==◌, Bool, true, false, if◌then◌else◌, List, [], ◌∷◌, map, flat_map, length, slice_index_or, All, Contains, Option, Some, None}
+use Rattle.std.specs.Prelude.{◌≡◌, ◌≢◌, ◌⊎◌, ℕ, ◌==◌, ◌≤◌, Bool, true, false, not, ◌&&◌, if◌then◌else◌, List, [], ◌∷◌, ◌++◌, map, flat_map, length, slice_index_or, All, Contains, Option, Some, None, ⊤}
 use Rattle.std.specs.List.{range_with_len}
 use Rattle.std.specs.Io.KnownBytes.{Appends}
+use Rattle.disk.specs.Disk.{DiskSpec, IsHonest}
 use Rattle.meaning.specs.Cut.{Cut}
 use Rattle.meaning.specs.Gather as gather
-use Rattle.meaning.specs.Gather.{join_cells, output, preview, report}
+use Rattle.meaning.specs.Gather.{join_cells, joined, output, preview, report}
 use Rattle.meaning.specs.Print.{report_text}
 use Rattle.meaning.specs.Said.{Answer}
 use Rattle.meaning.specs.Said.{Cell}
@@ -18,9 +19,13 @@ use Rattle.partial_codec.specs.declared.fault.DecodeFault.{DecodeFault}
 use Rattle.gathering.specs.Gathering.{GatherSpec}
 use Rattle.gathering.specs.Report.{summary}
 use Rattle.gathering.specs.declared.report.Report.{Report}
+use Rattle.journal.specs.Fault.{IsNoFile}
+use Rattle.journal.specs.Journal.{IsJournal, max_records}
 use Rattle.folders.specs.Folder.{AreHeld, Change, Holds, WritesOne}
 use Rattle.folders.specs.Refused.{IsNextOpened, IsUnread, IsUnwritten}
 use Rattle.jobs.specs.PassedOver.{passed_over_line}
+use Rattle.folders.specs.declared.journal_refusal.JournalRefusal.{JournalRefusal}
+use Rattle.folders.specs.declared.journal_refusal.JournalRefusal.TheVariants as journal_refusal
 use Rattle.folders.specs.declared.refusal.Refusal.{Refusal}
 use Rattle.folders.specs.declared.refusal.Refusal.TheVariants as refusal
 use Rattle.jobs.specs.Job.{IsJobOf, IsJobRefused, IsOfJob}
@@ -34,15 +39,19 @@ pub data Taking : Type 0 where
   state : List Cell → Taking
   passed : DecodeFault → Taking
 
--- the first obstacle to the bytes' being a state, where they begin as one, or else an answer
-abbrev pub obstacle_of : JobSpec → List ℕ → Option DecodeFault
-obstacle_of job bytes = if is_state bytes then state_obstacle job bytes else obstacle job bytes
+-- what bytes are tried as: a state where they begin as one, or else an answer; with a journal always an answer
+abbrev pub as_state : Bool → List ℕ → Bool
+as_state journaled bytes = not journaled && is_state bytes
+
+-- the first obstacle to the bytes' being that
+abbrev pub obstacle_of : Bool → JobSpec → List ℕ → Option DecodeFault
+obstacle_of journaled job bytes = if as_state journaled bytes then state_obstacle job bytes else obstacle job bytes
 
 -- an answer or a state is taken where the bytes spell it; they are passed over for the first obstacle
-abbrev pub IsTaking : JobSpec → List ℕ → Taking → Type 0
-IsTaking job bytes (answer a) = (is_state bytes ≡ false) × Spells job bytes a
-IsTaking job bytes (state cells) = (is_state bytes ≡ true) × SpellsState job bytes cells
-IsTaking job bytes (passed fault) = obstacle_of job bytes ≡ Some fault
+abbrev pub IsTaking : Bool → JobSpec → List ℕ → Taking → Type 0
+IsTaking journaled job bytes (answer a) = (as_state journaled bytes ≡ false) × Spells job bytes a
+IsTaking journaled job bytes (state cells) = (as_state journaled bytes ≡ true) × SpellsState job bytes cells
+IsTaking journaled job bytes (passed fault) = obstacle_of journaled job bytes ≡ Some fault
 
 -- a file, and what becomes of it
 pub record Taken : Type 0 where
@@ -51,9 +60,9 @@ pub record Taken : Type 0 where
   pub taking : Taking
 
 -- the bytes are those of the path's file, and this becomes of them
-pub record IsTaken (holds : Holds) (job : JobSpec) (file : Taken) : Type 0 where
+pub record IsTaken (journaled : Bool) (holds : Holds) (job : JobSpec) (file : Taken) : Type 0 where
   pub held : AreHeld (holds file.path) file.bytes
-  pub taking : IsTaking job file.bytes file.taking
+  pub taking : IsTaking journaled job file.bytes file.taking
 
 -- the line that names a file that was passed over
 abbrev pub line_of_taking : List ℕ → Taking → List ℕ
@@ -89,20 +98,43 @@ abbrev pub shown : Bool → Plan → List Cell → gather.Report
 shown true plan cells = output (preview plan cells)
 shown false plan cells = report plan cells
 
+-- ---- a journal
+
+abbrev pub has_journal : Option (List ℕ) → Bool
+has_journal None = false
+has_journal (Some path) = true
+
+-- cells that bytes are a journal of; those of no answer where there are no bytes
+abbrev pub AreJournaled : List ℕ → JobSpec → List Cell → Type 0
+AreJournaled bytes job cells = ((bytes ≡ []) × (cells ≡ joined job.cut []))
+    ⊎ ((answers : List Answer) × (length answers ≤ max_records) × IsJournal job answers bytes × (cells ≡ joined job.cut answers))
+
+-- a cell for each fragment; where the file's bytes are known, they are a journal of these
+pub record IsJournaled (held : Option (List ℕ)) (job : JobSpec) (cells : List Cell) : Type 0 where
+  pub each : length cells ≡ length job.cut
+  pub of_bytes : (bytes : List ℕ) → held ≡ Some bytes → AreJournaled bytes job cells
+
+-- what was said before the files: nothing, or as a state does, what the journal's file holds
+abbrev pub IsBegun : Holds → Option (List ℕ) → JobSpec → List Taking → Type 0
+IsBegun holds None job takings = takings ≡ []
+IsBegun holds (Some path) job takings = (cells : List Cell) × (takings ≡ state cells ∷ []) × IsJournaled (holds path) job cells
+
 -- ---- the command
 
 -- these files were taken, and those that were passed over are named on standard error
-pub record AreTaken (holds : Holds) (job : JobSpec) (paths : List (List ℕ)) (err_before err_after : Option (List ℕ)) (files : List Taken) : Type 0 where
+pub record AreTaken (journaled : Bool) (holds : Holds) (job : JobSpec) (paths : List (List ℕ)) (err_before err_after : Option (List ℕ)) (files : List Taken) : Type 0 where
   pub paths_are : map (λ file. file.path) files ≡ paths
-  pub each : All (IsTaken holds job) files
+  pub each : All (IsTaken journaled holds job) files
   pub named : Appends err_before err_after (flat_map line_of files)
 
--- a coordinator of the query's job that holds what the files say together
+-- a coordinator of the query's job that holds what the journal, if there is one, and the files say together
 pub record IsGatheredOf (holds : Holds) (command : GatherCommand) (err_before err_after : Option (List ℕ)) (g : GatherSpec) : Type 0 where
   pub is_job : IsJobOf holds command.folder command.query g.job
+  pub journal : List Taking
+  pub begun : IsBegun holds command.journal g.job journal
   pub files : List Taken
-  pub taken : AreTaken holds g.job command.files err_before err_after files
-  pub state : g.cells ≡ gathered g.job.cut (takings_of files)
+  pub taken : AreTaken (has_journal command.journal) holds g.job command.files err_before err_after files
+  pub state : g.cells ≡ gathered g.job.cut (journal ++ takings_of files)
 
 -- the state was written under its path, if it has one
 abbrev pub IsSaved : Option (List ℕ) → List ℕ → Option (List Change) → Option (List Change) → Type 0
@@ -132,17 +164,42 @@ IsGatherLeft holds command err before after = (after ≡ before)
 
 -- ---- refused
 
--- a file can't be named, or memory ran out
-abbrev pub IsUnreturned : Refusal → Type 0
-IsUnreturned e = (e ≡ refusal.Memory) ⊎ (e ≡ refusal.CannotReport)
+-- an answer can't be put into the journal
+abbrev pub IsUnkept : Bool → Refusal → Type 0
+IsUnkept journaled e = (fault : JournalRefusal) × (journaled ≡ true) × (fault ≢ journal_refusal.NotAJournal) × (e ≡ refusal.Journal fault)
 
--- the path's file can't be read or named
-abbrev pub IsFileRefused : List ℕ → Refusal → Type 0
-IsFileRefused path e = IsUnreturned e ⊎ IsUnread path e
+-- a file can't be named, its answer not be put into the journal, or memory ran out
+abbrev pub IsUnreturned : Bool → Refusal → Type 0
+IsUnreturned journaled e = (e ≡ refusal.Memory) ⊎ (e ≡ refusal.CannotReport) ⊎ IsUnkept journaled e
 
--- one of the files can't be read or named
-abbrev pub IsTakingRefused : List (List ℕ) → Refusal → Type 0
-IsTakingRefused paths e = IsUnreturned e ⊎ ((path : List ℕ) × Contains paths path × IsUnread path e)
+-- the path's file can't be read or named, or its answer not be put into the journal
+abbrev pub IsFileRefused : Bool → List ℕ → Refusal → Type 0
+IsFileRefused journaled path e = IsUnreturned journaled e ⊎ IsUnread path e
+
+-- the same of one of the files
+abbrev pub IsTakingRefused : Bool → List (List ℕ) → Refusal → Type 0
+IsTakingRefused journaled paths e = IsUnreturned journaled e ⊎ ((path : List ℕ) × Contains paths path × IsUnread path e)
+
+-- the disk failed, or this is wrong
+abbrev pub IsNoJournal : Type 0 → JournalRefusal → Type 0
+IsNoJournal wrong journal_refusal.Device = ⊤
+IsNoJournal wrong journal_refusal.Full = ⊤
+IsNoJournal wrong journal_refusal.NotAJournal = wrong
+IsNoJournal wrong journal_refusal.OpenAgain = ⊥
+IsNoJournal wrong journal_refusal.TooLong = ⊥
+
+-- a disk holds no journal of the job, or none can be made on it
+abbrev pub IsNotOnDisk : DiskSpec → JobSpec → Refusal → Type 0
+IsNotOnDisk disk job e = (e ≡ refusal.Memory) ⊎ ((fault : JournalRefusal) × IsNoJournal (IsHonest disk → IsNoFile job disk.now.reads) fault × (e ≡ refusal.Journal fault))
+
+-- the journal's file can't be opened, or where its bytes are known, they are no journal of the job
+abbrev pub IsUnopened : Option (List ℕ) → JobSpec → List ℕ → Refusal → Type 0
+IsUnopened held job path e = IsUnread path e ⊎ ((fault : JournalRefusal) × IsNoJournal ((bytes : List ℕ) → held ≡ Some bytes → IsNoFile job bytes) fault × (e ≡ refusal.Journal fault))
+
+-- the same of the journal that is asked for
+abbrev pub IsJournalRefused : Holds → Option (List ℕ) → JobSpec → Refusal → Type 0
+IsJournalRefused holds None job e = ⊥
+IsJournalRefused holds (Some path) job e = IsUnopened (holds path) job path e
 
 -- printing failed, or memory ran out
 abbrev pub IsUnprinted : Refusal → Type 0
@@ -157,15 +214,22 @@ IsSaveRefused (Some path) e = IsUnwritten path e
 abbrev pub IsReportRefused : Option (List ℕ) → Refusal → Type 0
 IsReportRefused save e = IsSaveRefused save e ⊎ IsUnprinted e
 
--- the folder and the query give no job, or a file of the job is refused
+-- the folder and the query give no job, the journal of the job is refused, or a file of the job is
 abbrev pub IsTogetherRefused : Holds → GatherCommand → Refusal → Type 0
 IsTogetherRefused holds command e = IsJobRefused holds command.folder command.query e
-    ⊎ ((job : JobSpec) × IsJobOf holds command.folder command.query job × IsTakingRefused command.files e)
+    ⊎ ((job : JobSpec) × IsJobOf holds command.folder command.query job × (IsJournalRefused holds command.journal job e ⊎ IsTakingRefused (has_journal command.journal) command.files e))
 
 -- the files don't come to a state, or what comes behind them is refused
 abbrev pub IsGatherRefused : Holds → GatherCommand → Refusal → Type 0
 IsGatherRefused holds command e = IsTogetherRefused holds command e ⊎ ((job : JobSpec) × IsJobOf holds command.folder command.query job × IsReportRefused command.save e)
 
--- a file that can't be read is the catalogue's, that of the cut, or one of the files, of which those before it were opened
+-- the path of the journal
+abbrev pub IsOfJournal : Option (List ℕ) → List ℕ → Type 0
+IsOfJournal None path = ⊥
+IsOfJournal (Some journal) path = path ≡ journal
+
+-- a file that can't be read is the catalogue's, that of the cut, the journal's, or one of the files, of which those before it
+-- were opened
 abbrev pub IsGatherUnread : (List ℕ → Type 0) → GatherCommand → Refusal → Type 0
-IsGatherUnread opens command e = (path : List ℕ) → e ≡ refusal.CannotRead path → IsOfJob command.folder path ⊎ IsNextOpened opens command.files path
+IsGatherUnread opens command e = (path : List ℕ) → e ≡ refusal.CannotRead path
+    → IsOfJob command.folder path ⊎ IsOfJournal command.journal path ⊎ IsNextOpened opens command.files path

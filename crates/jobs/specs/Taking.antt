@@ -1,11 +1,16 @@
 -- What taking one file more does to a coordinator.
-use Rattle.std.specs.Prelude.{◌≡◌, ℕ, List, [], ◌∷◌, ◌++◌, Option, Some, ⊤}
+use Rattle.std.specs.Prelude.{◌≡◌, ◌≢◌, ℕ, Bool, true, false, List, [], ◌∷◌, ◌++◌, Option, Some, ⊤}
 use Rattle.std.specs.Io.KnownBytes.{Appends}
 use Rattle.partial_codec.specs.Job.{JobSpec}
 use Rattle.gathering.specs.Gathering.{GatherSpec}
 use Rattle.gathering.specs.declared.fault.GatherFault.{GatherFault}
 use Rattle.gathering.specs.declared.fault.GatherFault.TheVariants as fault
 use Rattle.folders.specs.Folder.{AreHeld, Holds}
+use Rattle.folders.specs.declared.journal_refusal.JournalRefusal.TheVariants as journal_refusal
+use Rattle.folders.specs.declared.refusal.Refusal.{Refusal}
+use Rattle.folders.specs.declared.refusal.Refusal.TheVariants as refusal
+use Rattle.journal.specs.declared.fault.JournalFault.{JournalFault}
+use Rattle.journal.specs.declared.fault.JournalFault.TheVariants as of_journal
 use Rattle.jobs.specs.declared.takes_answers.TakeFault.{TakeFault}
 use Rattle.jobs.specs.declared.takes_answers.TakeFault.TheVariants as take
 use Rattle.jobs.specs.Gathering.{AreTaken, Taken, Taking, IsTaking, gathered, line_of_taking, obstacle_of, takings_of}
@@ -16,40 +21,63 @@ pub record Adds (old new : GatherSpec) (taking : Taking) : Type 0 where
   pub state : (takings : List Taking) → old.cells ≡ gathered old.job.cut takings → new.cells ≡ gathered old.job.cut (takings ++ taking ∷ [])
 
 -- bytes were taken
-pub record TakesBytes (old new : GatherSpec) (bytes : List ℕ) : Type 0 where
+pub record TakesBytes (journaled : Bool) (old new : GatherSpec) (bytes : List ℕ) : Type 0 where
   pub taking : Taking
-  pub is : IsTaking old.job bytes taking
+  pub is : IsTaking journaled old.job bytes taking
   pub adds : Adds old new taking
   pub unnamed : (path : List ℕ) → line_of_taking path taking ≡ []
 
--- why they aren't: the first obstacle, or memory ran out
+-- why they aren't, where there is no journal: the first obstacle, or memory ran out
 abbrev pub IsFailure : JobSpec → List ℕ → GatherFault → Type 0
 IsFailure job bytes fault.Memory = ⊤
-IsFailure job bytes (fault.Decode e) = obstacle_of job bytes ≡ Some e
+IsFailure job bytes (fault.Decode e) = obstacle_of false job bytes ≡ Some e
 IsFailure job bytes fault.OtherJob = ⊥
 IsFailure job bytes fault.Writer = ⊥
 
--- the same, as it is returned
-abbrev pub IsRefused : JobSpec → List ℕ → TakeFault → Type 0
-IsRefused job bytes take.Memory = ⊤
-IsRefused job bytes (take.Refused e) = obstacle_of job bytes ≡ Some e
+-- the same, as it is returned; or the answer can't be put into the journal
+abbrev pub IsRefused : Bool → JobSpec → List ℕ → TakeFault → Type 0
+IsRefused journaled job bytes take.Memory = ⊤
+IsRefused journaled job bytes (take.Refused e) = obstacle_of journaled job bytes ≡ Some e
+IsRefused journaled job bytes (take.Journal e) = (journaled ≡ true) × (e ≢ journal_refusal.NotAJournal)
+
+-- what is left then: all as it was, unless the journal failed, behind which nothing is taken
+abbrev pub Leaves : GatherSpec → GatherSpec → TakeFault → Type 0
+Leaves old new take.Memory = new ≡ old
+Leaves old new (take.Refused e) = new ≡ old
+Leaves old new (take.Journal e) = ⊤
+
+-- as which a journal's fault is returned
+abbrev pub take_fault_of : JournalFault → TakeFault
+take_fault_of of_journal.Memory = take.Memory
+take_fault_of (of_journal.Decode e) = take.Refused e
+take_fault_of of_journal.Device = take.Journal journal_refusal.Device
+take_fault_of of_journal.Full = take.Journal journal_refusal.Full
+take_fault_of of_journal.NotAJournal = take.Journal journal_refusal.NotAJournal
+take_fault_of of_journal.OpenAgain = take.Journal journal_refusal.OpenAgain
+take_fault_of of_journal.TooLong = take.Journal journal_refusal.TooLong
+
+-- of one by which no answer is refused
+abbrev pub of_take : TakeFault → Refusal
+of_take take.Memory = refusal.Memory
+of_take (take.Refused e) = refusal.Memory
+of_take (take.Journal e) = refusal.Journal e
 
 -- bytes were taken, or their path was named
-pub record TakesOrNames (old new : GatherSpec) (path bytes : List ℕ) (err_before err_after : Option (List ℕ)) : Type 0 where
+pub record TakesOrNames (journaled : Bool) (old new : GatherSpec) (path bytes : List ℕ) (err_before err_after : Option (List ℕ)) : Type 0 where
   pub taking : Taking
-  pub is : IsTaking old.job bytes taking
+  pub is : IsTaking journaled old.job bytes taking
   pub adds : Adds old new taking
   pub named : Appends err_before err_after (line_of_taking path taking)
 
 -- the same, of the path's file
-pub record TakesFile (holds : Holds) (old new : GatherSpec) (path : List ℕ) (err_before err_after : Option (List ℕ)) : Type 0 where
+pub record TakesFile (journaled : Bool) (holds : Holds) (old new : GatherSpec) (path : List ℕ) (err_before err_after : Option (List ℕ)) : Type 0 where
   pub bytes : List ℕ
   pub held : AreHeld (holds path) bytes
-  pub takes : TakesOrNames old new path bytes err_before err_after
+  pub takes : TakesOrNames journaled old new path bytes err_before err_after
 
--- the coordinator of a job holds what the files under these paths say together
-pub record TookFiles (holds : Holds) (old new : GatherSpec) (paths : List (List ℕ)) (err_before err_after : Option (List ℕ)) : Type 0 where
+-- what was said becomes that with what the files under these paths say
+pub record TookFiles (journaled : Bool) (holds : Holds) (old new : GatherSpec) (paths : List (List ℕ)) (err_before err_after : Option (List ℕ)) : Type 0 where
   pub files : List Taken
-  pub taken : AreTaken holds old.job paths err_before err_after files
+  pub taken : AreTaken journaled holds old.job paths err_before err_after files
   pub job : new.job ≡ old.job
-  pub state : new.cells ≡ gathered old.job.cut (takings_of files)
+  pub state : (takings : List Taking) → old.cells ≡ gathered old.job.cut takings → new.cells ≡ gathered old.job.cut (takings ++ takings_of files)

@@ -1,24 +1,30 @@
 //! What answers and states say together, from their files to the report.
-ghost use Rattle.std.specs.Prelude.{◌≡◌, ◌⊎◌, IfErr, IfOk, OnErr};
-ghost use Rattle.jobs.specs.Gathering.{IsGatherLeft, IsGathered, IsGatheredOf, IsGatherRefused, IsGatherUnread, IsTogetherRefused};
+ghost use Rattle.std.specs.Prelude.{◌≡◌, ◌⊎◌, None, Some, true, IfErr, IfOk, OnErr};
+ghost use Rattle.partial_codec.specs.State.{state_bytes};
+ghost use Rattle.jobs.specs.Gathering.{IsGatherLeft, IsGathered, IsGatheredOf, IsGatherRefused, IsGatherUnread, IsReported, IsReportRefused, IsSaveLeft, IsTogetherRefused, IsUnkept};
 
 use crate::job::read_job;
+use crate::journals::{refusal_of, start_journal};
 use crate::saving::save_and_show;
 use crate::taking::take_files;
 use command_line::GatherCommand;
+use disk::Disk;
 use folders::{Folder, Refusal};
 use gathering::{Gather, Report};
+use journal::DurableGather;
+use meaning::Text;
 use std::alloc::Global;
 use std::io::Write;
 use std::mem::drop;
 
 /// A coordinator of the query's job that has taken the files.
-fn gather_files<F: Folder, E: Write>(
+fn gather_in_memory<F: Folder, E: Write>(
     alloc: Global,
     folder: &F,
     command: &GatherCommand,
     err: &mut E,
 ) -> Result<Gather, Refusal>
+    requires { command.now.journal ≡ None }
     ensures gathered { IfOk result
         (IsGatheredOf (F.holds folder.now) command.now (E.contents err.old) (E.contents err.new)) }
     ensures refused { IfErr result (IsTogetherRefused (F.holds folder.now) command.now) }
@@ -40,16 +46,130 @@ fn gather_files<F: Folder, E: Write>(
     }
 }
 
+/// A coordinator of the query's job, with the journal under a path, that has taken the files.
+fn gather_in_journal<F: Folder, E: Write>(
+    alloc: Global,
+    folder: &F,
+    command: &GatherCommand,
+    path: &Text,
+    err: &mut E,
+) -> Result<DurableGather<F::Disk>, Refusal>
+    requires { command.now.journal ≡ Some path.now }
+    ensures gathered { IfOk result (λ d. IsGatheredOf (F.holds folder.now) command.now
+        (E.contents err.old) (E.contents err.new) d.gather) }
+    ensures refused { IfErr result (IsTogetherRefused (F.holds folder.now) command.now) }
+    ensures first { IfErr result (IsGatherUnread (F.opens folder.now) command.now) }
+{
+    let job = read_job(
+        alloc,
+        folder,
+        command.folder.as_str(),
+        command.query.as_str(),
+    )?;
+    let mut durable = start_journal(alloc, folder, path, job)?;
+    match take_files(alloc, folder, &mut durable, command.files.as_slice(), err) {
+        Ok(()) => Ok(durable),
+        Err(refusal) => {
+            drop(durable);
+            Err(refusal)
+        }
+    }
+}
+
+/// What the files say together is saved and shown.
+fn report_from_memory<F: Folder, O: Write, E: Write>(
+    alloc: Global,
+    folder: &mut F,
+    command: &GatherCommand,
+    out: &mut O,
+    err: &mut E,
+) -> Result<Report, Refusal>
+    requires { command.now.journal ≡ None }
+    ensures gathered { IfOk result
+        (IsGathered (F.holds folder.old) command.now (O.contents out.old) (O.contents out.new)
+        (E.contents err.old) (E.contents err.new) (F.wrote folder.old) (F.wrote folder.new)) }
+    ensures refused { IfErr result (IsGatherRefused (F.holds folder.old) command.now) }
+    ensures first { IfErr result (IsGatherUnread (F.opens folder.old) command.now) }
+    ensures quiet { IfErr result (λ e. (e ≡ Refusal.CannotPrint)
+        ⊎ (O.contents out.new ≡ O.contents out.old)) }
+    ensures left { OnErr result
+        (IsGatherLeft (F.holds folder.old) command.now (E.contents err.old) (F.wrote folder.old)
+        (F.wrote folder.new)) }
+{
+    let gather = gather_in_memory(alloc, folder, command, err)?;
+    let report = save_and_show(alloc, folder, &gather, command, out);
+    drop(gather);
+    report
+}
+
+/// What a coordinator with a journal holds is saved and shown.
+fn save_and_show_durable<F: Folder, D: Disk + Drop, O: Write>(
+    alloc: Global,
+    folder: &mut F,
+    durable: &DurableGather<D>,
+    command: &GatherCommand,
+    out: &mut O,
+) -> Result<Report, Refusal>
+    ensures reported { IfOk result
+        (IsReported durable.now.gather command.now.save command.now.preview (O.contents out.old)
+        (O.contents out.new) (F.wrote folder.old) (F.wrote folder.new)) }
+    ensures refused { IfErr result
+        (λ e. IsReportRefused command.now.save e ⊎ IsUnkept true e) }
+    ensures quiet { IfErr result (λ e. (e ≡ Refusal.CannotPrint)
+        ⊎ (O.contents out.new ≡ O.contents out.old)) }
+    ensures left { OnErr result
+        (IsSaveLeft command.now.save (state_bytes durable.now.gather.job durable.now.gather.cells)
+        (F.wrote folder.old) (F.wrote folder.new)) }
+{
+    match durable.gather() {
+        Ok(gather) => save_and_show(alloc, folder, gather, command, out),
+        Err(fault) => Err(refusal_of(fault)),
+    }
+}
+
+/// What the journal under a path and the files say together is saved and shown.
+fn report_from_journal<F: Folder, O: Write, E: Write>(
+    alloc: Global,
+    folder: &mut F,
+    command: &GatherCommand,
+    path: &Text,
+    out: &mut O,
+    err: &mut E,
+) -> Result<Report, Refusal>
+    requires { command.now.journal ≡ Some path.now }
+    ensures gathered { IfOk result
+        (IsGathered (F.holds folder.old) command.now (O.contents out.old) (O.contents out.new)
+        (E.contents err.old) (E.contents err.new) (F.wrote folder.old) (F.wrote folder.new)) }
+    ensures refused { IfErr result (IsGatherRefused (F.holds folder.old) command.now) }
+    ensures first { IfErr result (IsGatherUnread (F.opens folder.old) command.now) }
+    ensures quiet { IfErr result (λ e. (e ≡ Refusal.CannotPrint)
+        ⊎ (O.contents out.new ≡ O.contents out.old)) }
+    ensures left { OnErr result
+        (IsGatherLeft (F.holds folder.old) command.now (E.contents err.old) (F.wrote folder.old)
+        (F.wrote folder.new)) }
+{
+    let durable = gather_in_journal(alloc, folder, command, path, err)?;
+    let report = save_and_show_durable(alloc, folder, &durable, command, out);
+    drop(durable);
+    report
+}
+
 /// Gathers the answers and states of a query over the tables that a folder was loaded with, in the
 /// order of the files; then writes the state under the path `save`, if there is one, and prints the
-/// report, or the preview where the command asks for it, and says which it was. A file that spells neither an answer nor a state for the query's
-/// job is named on standard error, with the error code of its bytes, and passed over.
+/// report, or the preview where the command asks for it, and says which it was. A file that spells
+/// neither an answer nor a state for the query's job is named on standard error, with the error code
+/// of its bytes, and passed over.
+///
+/// Where the command has a journal, what it holds comes before the files, and each answer of the
+/// files is in it before the next file is read. It is made where there is none. States are passed
+/// over then.
 ///
 /// # Errors
 ///
 /// Out of memory, or the first of these: what keeps the folder and the query from a job (the
-/// catalogue, the file of the cut, the query's text, its plan), a file that cannot be read or
-/// named, a state that cannot be written, a report or preview that cannot be printed.
+/// catalogue, the file of the cut, the query's text, its plan), a journal that cannot be made or
+/// opened, a file that cannot be read or named or whose answer cannot be put into the journal, a
+/// state that cannot be written, a report or preview that cannot be printed.
 pub fn gather_answers<F: Folder, O: Write, E: Write>(
     alloc: Global,
     folder: &mut F,
@@ -71,8 +191,8 @@ pub fn gather_answers<F: Folder, O: Write, E: Write>(
         (IsGatherLeft (F.holds folder.old) command.now (E.contents err.old) (F.wrote folder.old)
         (F.wrote folder.new)) }
 {
-    let gather = gather_files(alloc, folder, command, err)?;
-    let report = save_and_show(alloc, folder, &gather, command, out);
-    drop(gather);
-    report
+    match &command.journal {
+        Some(path) => report_from_journal(alloc, folder, command, path, out, err),
+        None => report_from_memory(alloc, folder, command, out, err),
+    }
 }

@@ -4,6 +4,7 @@
 
 mod gather_command;
 mod job;
+mod journals;
 mod laws;
 mod passed_over;
 mod saving;

@@ -1,7 +1,7 @@
 //! Files of answers and states, taken one after the other.
-ghost use Rattle.std.specs.Prelude.{◌≡◌, [], IfErr, OnOk};
+ghost use Rattle.std.specs.Prelude.{IfErr, OnOk};
 ghost use Rattle.folders.specs.Refused.{IsFirstUnread};
-ghost use Rattle.jobs.specs.Gathering.{IsFileRefused, IsTakingRefused, IsUnreturned, gathered};
+ghost use Rattle.jobs.specs.Gathering.{IsFileRefused, IsTakingRefused, IsUnreturned};
 ghost use Rattle.jobs.specs.Taking.{TakesFile, TakesOrNames, TookFiles};
 
 use crate::passed_over::print_passed_over;
@@ -20,9 +20,9 @@ fn take_or_name<T: TakesAnswers, E: Write>(
     err: &mut E,
 ) -> Result<(), Refusal>
     ensures takes { OnOk result
-        (TakesOrNames (T.held taker.old) (T.held taker.new) path.now bytes.now
+        (TakesOrNames T.journaled (T.held taker.old) (T.held taker.new) path.now bytes.now
         (E.contents err.old) (E.contents err.new)) }
-    ensures refused { IfErr result IsUnreturned }
+    ensures refused { IfErr result (IsUnreturned T.journaled) }
 {
     match taker.take(alloc, bytes) {
         Ok(()) => Ok(()),
@@ -33,6 +33,7 @@ fn take_or_name<T: TakesAnswers, E: Write>(
             }
         }
         Err(TakeFault::Memory) => Err(Refusal::Memory),
+        Err(TakeFault::Journal(fault)) => Err(Refusal::Journal(fault)),
     }
 }
 
@@ -44,17 +45,17 @@ fn take_file<F: Folder, T: TakesAnswers, E: Write>(
     err: &mut E,
 ) -> Result<(), Refusal>
     ensures takes { OnOk result
-        (TakesFile (F.holds folder.now) (T.held taker.old) (T.held taker.new) path.now
+        (TakesFile T.journaled (F.holds folder.now) (T.held taker.old) (T.held taker.new) path.now
         (E.contents err.old) (E.contents err.new)) }
     ensures opened { OnOk result (F.opens folder.now path.now) }
-    ensures refused { IfErr result (IsFileRefused path.now) }
+    ensures refused { IfErr result (IsFileRefused T.journaled path.now) }
 {
     let bytes = read_file(alloc, folder, path)?;
     take_or_name(alloc, taker, path, bytes.as_slice(), err)
 }
 
 /// Takes the files one after the other. One that is neither an answer nor a state for the job is
-/// named on standard error and passed over.
+/// named on standard error and passed over; so is a state where there is a journal.
 pub fn take_files<F: Folder, T: TakesAnswers, E: Write>(
     alloc: Global,
     folder: &F,
@@ -62,11 +63,10 @@ pub fn take_files<F: Folder, T: TakesAnswers, E: Write>(
     paths: &[Text],
     err: &mut E,
 ) -> Result<(), Refusal>
-    requires nothing { (T.held taker.now).cells ≡ gathered (T.held taker.now).job.cut [] }
     ensures took { OnOk result
-        (TookFiles (F.holds folder.now) (T.held taker.old) (T.held taker.new) paths.now
+        (TookFiles T.journaled (F.holds folder.now) (T.held taker.old) (T.held taker.new) paths.now
         (E.contents err.old) (E.contents err.new)) }
-    ensures refused { IfErr result (IsTakingRefused paths.now) }
+    ensures refused { IfErr result (IsTakingRefused T.journaled paths.now) }
     ensures first { IfErr result (IsFirstUnread (F.opens folder.now) paths.now) }
 {
     for path in paths {

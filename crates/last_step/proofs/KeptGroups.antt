@@ -4,7 +4,7 @@ use Rattle.std.specs.Prelude.{All, Option, Result, IfSome, option_to_list}
 use Rattle.std.specs.List.{AllByRecursion, range_with_len}
 use Rattle.std.proofs.lemmas.Bool.{eqb-true, false≢true}
 use Rattle.std.proofs.lemmas.List.{map-append, map_push, take-append-drop, take_more, drop_more}
-use Rattle.std.proofs.lemmas.List.Elements.{All-from_recursion, recursion_from_All}
+use Rattle.std.proofs.lemmas.List.Elements.{recursion_from_All}
 use Rattle.meaning.specs.declared.expr.Expr.{Expr}
 use Rattle.meaning.specs.declared.joined_row.JoinedRow.{JoinedRow}
 use Rattle.meaning.specs.declared.outcome.Fault.{Fault}
@@ -23,13 +23,13 @@ use Rattle.meaning.specs.Results.{and_then}
 use Rattle.meaning.specs.Typing.{ExprType, RowTypes, Valued, Boolean, group_types}
 use Rattle.meaning.proofs.Tests.{second_of}
 use Rattle.vectors.specs.Selection.{IsSelection, Positions, all_below, is_among}
-use Rattle.vectors.specs.Vector.{BatchSpec, outcomes_of, values_of}
+use Rattle.vectors.specs.Vector.{BatchSpec, values_of}
 use Rattle.vectors.specs.declared.vector.Vector.{Vector}
 use Rattle.vectors.proofs.Ascending.{among_range}
 use Rattle.vector_operators.specs.Evaluated.{Evaluates, Held, IsBefore, lane_of}
-use Rattle.vector_operators.specs.Given.{IsOfType, is_true_lane}
+use Rattle.vector_operators.specs.Given.{is_true_lane}
 use Rattle.vector_operators.proofs.Composes.{before_old}
-use Rattle.vector_operators.proofs.LaneValues.{lane_sound, lane_value, values_long}
+use Rattle.vector_operators.proofs.LaneValues.{lane_sound, lane_value}
 use Rattle.primitives.specs.Fitting.{AreTypedRows, Fits}
 use Rattle.primitives.specs.Meant.{meant_at, row_at}
 use Rattle.primitives.specs.Narrowed.{Narrows}
@@ -215,27 +215,16 @@ having_fits plan rows b condition some batch =
 abbrev pub AreEvaluated : Plan → BatchSpec → List ℕ → ℕ → Held → Held → List Vector → Type 0
 AreEvaluated plan b selected k start now vectors =
     (rows : List JoinedRow) → IsBatchOf plan rows b
-    → (Shows plan rows 0 selected start [] → Shows plan rows k selected now vectors) × All (λ v. length (values_of v) ≡ b.rows) vectors
+    → Shows plan rows 0 selected start [] → Shows plan rows k selected now vectors
 
 pub no_vector : (plan : Plan) (b : BatchSpec) (selected : List ℕ) (start : Held) (vectors : List Vector) → vectors ≡ [] → AreEvaluated plan b selected 0 start start vectors
-no_vector plan b selected start vectors none rows batch =
-    ((λ shows. subst (Shows plan rows 0 selected start) (sym none) shows), subst (All (λ v. length (values_of v) ≡ b.rows)) (sym none) (All-from_recursion (λ v. length (values_of v) ≡ b.rows) [] tt))
+no_vector plan b selected start vectors none rows batch shows = subst (Shows plan rows 0 selected start) (sym none) shows
 
 pub next_vector : (plan : Plan) (b : BatchSpec) (s : Positions) (k : ℕ) (i : Item) (start held now : Held) (vectors more : List Vector) (v : Vector) → IsSelection s → s.below ≡ b.rows
     → k < length plan.items → i ≡ get_or plan.items k i
     → ((types : RowTypes) (type : ExprType) (rows : List JoinedRow) → AreTypedRows types b rows → Fits types b.columns i.expr type → Evaluates (meant_at i.expr rows) (λ p. is_among s.list p ≡ true) held now (lane_of v))
-    → ((types : RowTypes) (type : ExprType) (rows : List JoinedRow) → AreTypedRows types b rows → Fits types b.columns i.expr type → IsOfType type v)
-    → length (outcomes_of v) ≡ b.rows → more ≡ vectors ++ v ∷ [] → AreEvaluated plan b s.list k start held vectors → AreEvaluated plan b s.list (k + 1) start now more
-next_vector plan b s k i start held now vectors more v sound same below at evaluates type long pushed old rows batch =
+    → more ≡ vectors ++ v ∷ [] → AreEvaluated plan b s.list k start held vectors → AreEvaluated plan b s.list (k + 1) start now more
+next_vector plan b s k i start held now vectors more v sound same below at evaluates pushed old rows batch shows =
     let fits = subst (λ (x : Item). (kind : ColType) × Fits (group_types plan) b.columns x.expr (Valued kind)) (sym at) (batch.items k i below) in
-    let before = old rows batch in
-    let values = values_long fits.0 v (type (group_types plan) (Valued fits.0) rows batch.typed fits.1) ∙ long in (
-      (λ shows. subst (Shows plan rows (k + 1) s.list now) (sym pushed)
-          (one_more_item plan rows k i s.list held now vectors v below at (evaluates (group_types plan) (Valued fits.0) rows batch.typed fits.1) (selected_below s (length rows) sound (same ∙ sym batch.typed.are_rows.counted)) (before.0 shows))),
-      subst (All (λ w. length (values_of w) ≡ b.rows)) (sym pushed)
-          (All-from_recursion (λ w. length (values_of w) ≡ b.rows) (vectors ++ v ∷ []) (push vectors (recursion_from_All (λ w. length (values_of w) ≡ b.rows) vectors before.1) values)),
-    )
-  where
-    push : (vs : List Vector) → AllByRecursion (λ w. length (values_of w) ≡ b.rows) vs → length (values_of v) ≡ b.rows → AllByRecursion (λ w. length (values_of w) ≡ b.rows) (vs ++ v ∷ [])
-    push [] all is = (is, tt)
-    push (w ∷ vs) all is = (all.0, push vs all.1 is)
+    subst (Shows plan rows (k + 1) s.list now) (sym pushed)
+    (one_more_item plan rows k i s.list held now vectors v below at (evaluates (group_types plan) (Valued fits.0) rows batch.typed fits.1) (selected_below s (length rows) sound (same ∙ sym batch.typed.are_rows.counted)) (old rows batch shows))

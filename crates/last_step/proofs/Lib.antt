@@ -1,4 +1,7 @@
 -- The lemmas of this crate.
+pub mod BestRows
+pub mod Offered
+pub mod KeyedRows
 pub mod Judging
 pub mod Rest
 pub mod Checked

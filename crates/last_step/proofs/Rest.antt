@@ -14,6 +14,8 @@ use Rattle.meaning.specs.Results.{all_ok, and_then, with_result}
 use Rattle.last_step.specs.declared.run.Run.{Run}
 use Rattle.last_step.specs.declared.stop.Stop.{Stop}
 use Rattle.last_step.specs.declared.stop.Stop.TheVariants as stop
+use Rattle.last_step.specs.Best.{best, best_of}
+use Rattle.last_step.proofs.BestRows.{from_best, only_fault, same_parts}
 use Rattle.last_step.specs.Batches.{HasValues, IsFront, IsJudged, ended, row_in, row_of, shown_after}
 use Rattle.last_step.specs.Fitting.{AreGroupsOf}
 use Rattle.meaning.specs.Wanting.{ReportsIfMemory}
@@ -116,22 +118,28 @@ module _ (plan : Plan) where
 
   -- ---- batch by batch
 
-  pub next_batch : (gs : List Group) (n : ℕ) (before middle : List Row) (all : Result (List Row) ℕ) → rows_after plan before (take n gs) ≡ Ok middle → rows_after plan before gs ≡ all
-      → rows_after plan middle (drop n gs) ≡ all
-  next_batch gs n before middle all is so_far =
-      sym (ap (λ r. and_then r (λ rows. rows_after plan rows (drop n gs))) is) ∙ sym (both_after before (take n gs) (drop n gs)) ∙ ap (rows_after plan before) (take-append-drop n gs) ∙ so_far
+  in_two : (gs : List Group) (n : ℕ) (before : List Row) → rows_after plan before gs ≡ and_then (rows_after plan before (take n gs)) (λ rows. rows_after plan rows (drop n gs))
+  in_two gs n before = ap (rows_after plan before) (sym (take-append-drop n gs)) ∙ both_after before (take n gs) (drop n gs)
 
-  pub stop_batch : {X Y : Type 0} (seen : X → List Row) (view : Y → List Row) (gs : List Group) (n : ℕ) (before : List Row) (e : Stop) (all : Result (List Row) ℕ) → ReportsIfMemory fault_returned seen (Err e) (rows_after plan before (take n gs)) → rows_after plan before gs ≡ all
+  -- rows of which the same is shown as of those that stood there
+  pub next_best : (gs : List Group) (n : ℕ) (before now : List Row) (all : Result (List Row) ℕ) → best_of plan (rows_after plan before (take n gs)) ≡ Ok (best plan now) → best_of plan (rows_after plan before gs) ≡ all
+      → best_of plan (rows_after plan now (drop n gs)) ≡ all
+  next_best gs n before now all is so_far =
+      let (middle, whole, same) = from_best plan (rows_after plan before (take n gs)) (best plan now) is in
+      same_parts plan now middle (all_ok (map (rows_of plan) (map (read_off plan) (drop n gs)))) (sym same)
+      ∙ ap (best_of plan) (sym (in_two gs n before ∙ ap (λ r. and_then r (λ rows. rows_after plan rows (drop n gs))) whole)) ∙ so_far
+
+  pub stop_best : {X Y : Type 0} (seen : X → List Row) (view : Y → List Row) (gs : List Group) (n : ℕ) (before : List Row) (e : Stop) (all : Result (List Row) ℕ) → ReportsIfMemory fault_returned seen (Err e) (best_of plan (rows_after plan before (take n gs))) → best_of plan (rows_after plan before gs) ≡ all
       → ReportsIfMemory fault_returned view (Err e) all
-  stop_batch seen view gs n before stop.Memory all bad so_far = tt
-  stop_batch seen view gs n before (stop.Fault c) all bad so_far =
-      sym so_far ∙ ap (rows_after plan before) (sym (take-append-drop n gs)) ∙ both_after before (take n gs) (drop n gs) ∙ ap (λ r. and_then r (λ rows. rows_after plan rows (drop n gs))) bad
+  stop_best seen view gs n before stop.Memory all bad so_far = tt
+  stop_best seen view gs n before (stop.Fault c) all bad so_far =
+      sym so_far ∙ ap (best_of plan) (in_two gs n before ∙ ap (λ r. and_then r (λ rows. rows_after plan rows (drop n gs))) (only_fault plan (rows_after plan before (take n gs)) c bad))
 
   -- nothing stands before
-  pub none_before : {X Y : Type 0} (seen : X → List Row) (view : Y → List Row) (runs : List Run) (gs : List Group) (e : Stop) → runs ≡ [] → ReportsIfMemory fault_returned seen (Err e) (rows_after plan (expanded runs) gs)
-      → ReportsIfMemory fault_returned view (Err e) (rows_behind_groups plan (map (read_off plan) gs))
+  pub none_before : {X Y : Type 0} (seen : X → List Row) (view : Y → List Row) (runs : List Run) (gs : List Group) (e : Stop) → runs ≡ [] → ReportsIfMemory fault_returned seen (Err e) (best_of plan (rows_after plan (expanded runs) gs))
+      → ReportsIfMemory fault_returned view (Err e) (best_of plan (rows_behind_groups plan (map (read_off plan) gs)))
   none_before seen view runs gs stop.Memory none bad = tt
-  none_before seen view runs gs (stop.Fault c) none bad = ap (λ (rs : List Run). rows_after plan (expanded rs) gs) (sym none) ∙ bad
+  none_before seen view runs gs (stop.Fault c) none bad = ap (λ (rs : List Run). best_of plan (rows_after plan (expanded rs) gs)) (sym none) ∙ bad
 
   taken : {X : Type 0} (P : X → Type 0) (n : ℕ) (xs : List X) → AllByRecursion P xs → AllByRecursion P (take n xs)
   taken P zero xs all = tt
@@ -150,13 +158,22 @@ module _ (plan : Plan) where
   rest_groups n gs groups = record { typed = groups.typed; shaped = All-from_recursion (λ g. is_group_of plan g ≡ true) (drop n gs) (dropped (λ g. is_group_of plan g ≡ true) n gs (recursion_from_All (λ g. is_group_of plan g ≡ true) gs groups.shaped)) }
 
   -- what a batch gives, behind its front
-  pub front_then : {X : Type 0} (gs : List Group) (n : ℕ) (fault : Option ℕ) (before middle : List Row) (r : Result X Stop) → IsFront plan gs n fault → rows_after plan before (take n gs) ≡ Ok middle
-      → ReportsIfMemory fault_returned (λ _. middle) r (ended fault middle) → ReportsIfMemory fault_returned (λ _. middle) r (rows_after plan before gs)
-  front_then gs n fault before middle (Ok x) is front ends = is.behind before ∙ ap (λ r. and_then r (ended fault)) front ∙ ends
-  front_then gs n fault before middle (Err stop.Memory) is front ends = tt
-  front_then gs n fault before middle (Err (stop.Fault c)) is front ends = is.behind before ∙ ap (λ r. and_then r (ended fault)) front ∙ ends
+  pub front_then : {X : Type 0} (gs : List Group) (n : ℕ) (fault : Option ℕ) (before now : List Row) (r : Result X Stop) → IsFront plan gs n fault → best_of plan (rows_after plan before (take n gs)) ≡ Ok (best plan now)
+      → ReportsIfMemory fault_returned (λ _. now) r (ended fault now) → ReportsIfMemory fault_returned (λ _. best plan now) r (best_of plan (rows_after plan before gs))
+  front_then {X = X} gs n fault before now r is front ends =
+      let (middle, whole, same) = from_best plan (rows_after plan before (take n gs)) (best plan now) front in
+      by_end r fault middle same ends (is.behind before ∙ ap (λ rows. and_then rows (ended fault)) whole)
+    where
+      by_end : (r : Result X Stop) (fault : Option ℕ) (middle : List Row) → best plan middle ≡ best plan now → ReportsIfMemory fault_returned (λ _. now) r (ended fault now)
+          → rows_after plan before gs ≡ ended fault middle → ReportsIfMemory fault_returned (λ _. best plan now) r (best_of plan (rows_after plan before gs))
+      by_end (Ok x) None middle same ends all = ap (best_of plan) all ∙ ap Ok same
+      by_end (Ok x) (Some c) middle same ends all = absurd cc
+      by_end (Err stop.Memory) fault middle same ends all = tt
+      by_end (Err (stop.Fault c)) None middle same ends all = absurd cc
+      by_end (Err (stop.Fault c)) (Some d) middle same ends all = ap (best_of plan) all ∙ ends
 
   pub front_stops : {X Y : Type 0} (seen : X → List Row) (view : Y → List Row) (gs : List Group) (n : ℕ) (fault : Option ℕ) (before : List Row) (e : Stop) → IsFront plan gs n fault
-      → ReportsIfMemory fault_returned seen (Err e) (rows_after plan before (take n gs)) → ReportsIfMemory fault_returned view (Err e) (rows_after plan before gs)
+      → ReportsIfMemory fault_returned seen (Err e) (best_of plan (rows_after plan before (take n gs))) → ReportsIfMemory fault_returned view (Err e) (best_of plan (rows_after plan before gs))
   front_stops seen view gs n fault before stop.Memory is bad = tt
-  front_stops seen view gs n fault before (stop.Fault c) is bad = is.behind before ∙ ap (λ r. and_then r (ended fault)) bad
+  front_stops seen view gs n fault before (stop.Fault c) is bad =
+      ap (best_of plan) (is.behind before ∙ ap (λ r. and_then r (ended fault)) (only_fault plan (rows_after plan before (take n gs)) c bad))

@@ -3,7 +3,7 @@ use Rattle.std.proofs.Common.{◌≡◌, ℕ, zero, suc, ◌+◌, ◌<◌, eqb, 
 use Rattle.std.specs.Prelude.{All, IfSome, Result, if◌then◌else◌}
 use Rattle.std.specs.List.{AllByRecursion}
 use Rattle.std.proofs.lemmas.Bool.{eqb-true, eqb-false, eq-eqb, ne_eqb}
-use Rattle.std.proofs.lemmas.List.{take_all}
+use Rattle.std.proofs.lemmas.List.{get_or-map, length-map, take_all}
 use Rattle.std.proofs.lemmas.List.Elements.{All-from_recursion, recursion_from_All}
 use Rattle.meaning.specs.declared.joined_row.JoinedRow.{JoinedRow}
 use Rattle.meaning.specs.declared.outcome.Outcome.{Outcome}
@@ -31,7 +31,7 @@ use Rattle.vector_operators.specs.declared.fault.Faulted.{Faulted}
 use Rattle.primitives.specs.Fitting.{Fits}
 use Rattle.primitives.specs.Meant.{row_at}
 use Rattle.last_step.proofs.KeptGroups.{selected_below}
-use Rattle.last_step.specs.Batches.{AreReadable, IsBatchOf, Shows, lane_row, shown_after}
+use Rattle.last_step.specs.Batches.{IsBatchOf, IsReadable, Shows, lane_row, shown_after}
 
 -- ---- texts are UTF-8
 
@@ -161,20 +161,27 @@ pub rows_shown : (plan : Plan) (before : List Row) (rows : List JoinedRow) (s : 
     → shown_after plan before rows ≡ Ok (before ++ map (lane_row vectors) s.list)
 rows_shown plan before rows s vectors sound same shows = all_shown plan (lane_row vectors) before rows s sound same (λ i below. shown_before plan rows s.list None vectors shows i below tt)
 
+among_at : (list : List ℕ) (k : ℕ) → k < length list → is_among list (get_or list k 0) ≡ true
+among_at [] k below = absurd (omega (arith, below))
+among_at (p ∷ ps) zero below = ap (λ (b : Bool). b || is_among ps p) (eq-eqb p p refl)
+among_at (p ∷ ps) (suc k) below = or_second (eqb p (get_or ps k 0)) (is_among ps (get_or ps k 0)) (among_at ps k (omega (arith, below)))
+
 -- and can be read
 pub readable : (plan : Plan) (rows : List JoinedRow) (b : BatchSpec) (s : Positions) (vectors : List Vector) → IsBatchOf plan rows b → IsSelection s → s.below ≡ b.rows → Shows plan rows (length plan.items) s.list None vectors
-    → All (λ v. length (values_of v) ≡ b.rows) vectors → AreReadable vectors s.below s.list
-readable plan rows b s vectors batch sound same shows long = record {
-  long = subst (λ (n : ℕ). All (λ v. length (values_of v) ≡ n) vectors) (sym same) long;
-  spelled = λ i among.
-      let below = selected_below s (length rows) sound (same ∙ sym batch.typed.are_rows.counted) i among in
-      All-from_recursion (λ v. is_spelled v ≡ true) (lane_row vectors i)
-      (spelled_values (group_types plan) (row_at rows i)
-      (all_at (λ r. fits_row_types (group_types plan) r ≡ true) rows i (record { fact = []; joins = []; key = []; aggregates = [] }) (recursion_from_All (λ r. fits_row_types (group_types plan) r ≡ true) rows batch.typed.values) below)
-      plan.items (lane_row vectors i)
-      (typed_items plan rows b plan.items (recursion_from_All (λ i. (kind : ColType) × Fits (group_types plan) b.columns i.expr (Valued kind)) plan.items batch.items))
-      (ap (λ es. values (map (λ i. i.expr) es) (row_at rows i)) (sym (take_all (length plan.items) plan.items (omega arith))) ∙ shows.given i among tt));
-}
+    → All IsReadable (map (lane_row vectors) s.list)
+readable plan rows b s vectors batch sound same shows = λ k d high.
+    let long = length-map s.list (lane_row vectors) in
+    let low : k < length s.list = omega (arith, high, long) in
+    let i = get_or s.list k 0 in
+    let among = among_at s.list k low in
+    let below = selected_below s (length rows) sound (same ∙ sym batch.typed.are_rows.counted) i among in
+    subst IsReadable (sym (get_or-map (lane_row vectors) s.list k 0 d low))
+    (All-from_recursion (λ v. is_spelled v ≡ true) (lane_row vectors i)
+    (spelled_values (group_types plan) (row_at rows i)
+    (all_at (λ r. fits_row_types (group_types plan) r ≡ true) rows i (record { fact = []; joins = []; key = []; aggregates = [] }) (recursion_from_All (λ r. fits_row_types (group_types plan) r ≡ true) rows batch.typed.values) below)
+    plan.items (lane_row vectors i)
+    (typed_items plan rows b plan.items (recursion_from_All (λ i. (kind : ColType) × Fits (group_types plan) b.columns i.expr (Valued kind)) plan.items batch.items))
+    (ap (λ es. values (map (λ i. i.expr) es) (row_at rows i)) (sym (take_all (length plan.items) plan.items (omega arith))) ∙ shows.given i among tt)))
 
 -- ---- one lane after the other
 
@@ -185,15 +192,3 @@ spelled_at vectors lane k v below at all = each vectors k below at (recursion_fr
     each [] k below at all = absurd (omega (arith, below))
     each (w ∷ vectors) zero below at all = subst (λ (u : Vector). is_spelled (get_or (values_of u) lane Null) ≡ true) (sym at) all.0
     each (w ∷ vectors) (suc k) below at all = each vectors k (omega (arith, below)) at all.1
-
-pub long_at : (vectors : List Vector) (below : ℕ) (selected : List ℕ) (p : ℕ) → AreReadable vectors below selected → p < below → All (λ v. p < length (values_of v)) vectors
-long_at vectors below selected p are low = All-from_recursion (λ v. p < length (values_of v)) vectors (each vectors (recursion_from_All (λ v. length (values_of v) ≡ below) vectors are.long))
-  where
-    each : (vectors : List Vector) → AllByRecursion (λ v. length (values_of v) ≡ below) vectors → AllByRecursion (λ v. p < length (values_of v)) vectors
-    each [] all = tt
-    each (v ∷ vectors) all = (let h = all.0 in omega (arith, h, low), each vectors all.1)
-
-pub among_at : (list : List ℕ) (k : ℕ) → k < length list → is_among list (get_or list k 0) ≡ true
-among_at [] k below = absurd (omega (arith, below))
-among_at (p ∷ ps) zero below = ap (λ (b : Bool). b || is_among ps p) (eq-eqb p p refl)
-among_at (p ∷ ps) (suc k) below = or_second (eqb p (get_or ps k 0)) (is_among ps (get_or ps k 0)) (among_at ps k (omega (arith, below)))

@@ -99,10 +99,9 @@ pub record Shows (plan : Plan) (rows : List JoinedRow) (count : ℕ) (selected :
   pub given : (i : ℕ) → is_among selected i ≡ true → IsBefore i held → values (map (λ i. i.expr) (take count plan.items)) (row_at rows i) ≡ Ok (lane_row vectors i)
   pub fault : IfSome held (λ f. (f.position < length rows) × (shown plan (row_at rows f.position) ≡ Err (code_of f.fault)))
 
--- vectors whose texts are UTF-8 at the selected positions
-pub record AreReadable (vectors : List Vector) (below : ℕ) (selected : List ℕ) : Type 0 where
-  pub long : All (λ v. length (values_of v) ≡ below) vectors
-  pub spelled : (i : ℕ) → is_among selected i ≡ true → All (λ v. is_spelled v ≡ true) (lane_row vectors i)
+-- a row whose texts are UTF-8
+abbrev pub IsReadable : Row → Type 0
+IsReadable row = All (λ v. is_spelled v ≡ true) row
 
 -- ---- columns
 

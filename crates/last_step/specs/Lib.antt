@@ -6,3 +6,4 @@ pub mod Batches
 pub mod Lent
 pub mod Printing
 pub mod PrintFaults
+pub mod Best

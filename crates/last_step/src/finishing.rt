@@ -2,8 +2,7 @@
 ghost use Rattle.std.specs.Prelude.{◌≡◌, map, IfOk};
 ghost use Rattle.meaning.specs.Answer.{read_off};
 ghost use Rattle.meaning.specs.Finish as the;
-ghost use Rattle.meaning.specs.Finish.{limited, order_cmp};
-ghost use Rattle.meaning.specs.Order.{sorted};
+ghost use Rattle.last_step.specs.Best.{best};
 ghost use Rattle.last_step.specs.Fitting.{AreGroupsOf};
 ghost use Rattle.last_step.specs.Given.{meant};
 ghost use Rattle.last_step.specs.Printing.{IsPrintable, ShowsSomething};
@@ -22,8 +21,7 @@ use std::mem::drop;
 
 /// The rows of the runs in the order of the answer, cut by LIMIT.
 fn rows_in_order(alloc: Global, plan: &Plan, runs: Vec<Run>) -> Result<Sequence<Row>, AllocError>
-    ensures { IfOk result (λ rows. rows
-        ≡ limited plan.now.limit (sorted (order_cmp plan.now.order) (expanded runs.items))) }
+    ensures { IfOk result (λ rows. rows ≡ best plan.now (expanded runs.items)) }
 {
     let mut runs = runs;
     match sort(&mut runs, plan.order.as_slice()) {

@@ -6,6 +6,9 @@ mod columns;
 mod expanding;
 mod finished;
 mod finishing;
+mod keyed;
+mod lanes;
+mod leading;
 mod lent;
 mod ordering;
 mod print_fault;
@@ -14,6 +17,7 @@ mod run;
 mod runs;
 mod showing;
 mod shown;
+mod sorting;
 mod stop;
 
 pub use finished::Finished;

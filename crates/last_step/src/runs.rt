@@ -4,6 +4,7 @@ ghost use Rattle.meaning.specs.Answer.{read_off};
 ghost use Rattle.last_step.specs.Fitting.{AreGroupsOf};
 ghost use Rattle.meaning.specs.Wanting.{ReportsIfMemory};
 ghost use Rattle.last_step.specs.Given.{fault_returned};
+ghost use Rattle.last_step.specs.Best.{best, best_of};
 ghost use Rattle.last_step.specs.Runs.{expanded, rows_after, rows_behind_groups};
 
 use crate::run::Run;
@@ -15,8 +16,8 @@ use std::alloc::Global;
 
 fn push_all(alloc: Global, plan: &Plan, groups: &[Group], runs: &mut Vec<Run>) -> Result<(), Stop>
     requires { AreGroupsOf plan.now groups.now }
-    ensures { ReportsIfMemory fault_returned (λ _. expanded runs.new.items) result
-        (rows_after plan.now (expanded runs.old.items) groups.now) }
+    ensures { ReportsIfMemory fault_returned (λ _. best plan.now (expanded runs.new.items)) result
+        (best_of plan.now (rows_after plan.now (expanded runs.old.items) groups.now)) }
 {
     if plan.plain {
         return Ok(push_plain(alloc, groups, runs)?);
@@ -24,11 +25,12 @@ fn push_all(alloc: Global, plan: &Plan, groups: &[Group], runs: &mut Vec<Run>) -
     push_grouped(alloc, plan, groups, runs)
 }
 
-/// The rows of the groups as runs, or the first fault from group to group.
+/// Rows of the groups as runs, of which LIMIT leaves what it leaves of all, or the first fault from
+/// group to group.
 pub fn runs_of(alloc: Global, plan: &Plan, groups: &[Group]) -> Result<Vec<Run>, Stop>
     requires { AreGroupsOf plan.now groups.now }
-    ensures { ReportsIfMemory fault_returned (λ runs. expanded runs.items) result
-        (rows_behind_groups plan.now (map (read_off plan.now) groups.now)) }
+    ensures { ReportsIfMemory fault_returned (λ runs. best plan.now (expanded runs.items)) result
+        (best_of plan.now (rows_behind_groups plan.now (map (read_off plan.now) groups.now))) }
 {
     let mut runs = Vec::new(alloc);
     push_all(alloc, plan, groups, &mut runs)?;

@@ -5,7 +5,8 @@ ghost use Rattle.meaning.specs.declared.value.Value.TheVariants.{Null};
 ghost use Rattle.meaning.specs.Order.{Row as ARow};
 ghost use Rattle.aggregate_states.specs.Values.{is_spelled};
 ghost use Rattle.vectors.specs.Vector.{values_of};
-ghost use Rattle.last_step.specs.Batches.{AreReadable, HasValues, IsBatchOf, ended, lane_row, shown_after};
+ghost use Rattle.last_step.specs.Batches.{HasValues, IsBatchOf, IsReadable, ended, lane_row, shown_after};
+ghost use Rattle.last_step.specs.Best.{best, best_of};
 ghost use Rattle.last_step.specs.Fitting.{AreGroupsOf};
 ghost use Rattle.meaning.specs.Wanting.{ReportsIfMemory};
 ghost use Rattle.last_step.specs.Given.{fault_returned};
@@ -13,17 +14,31 @@ ghost use Rattle.last_step.specs.Runs.{expanded, plain_rows, rows_after};
 
 use crate::aggregates::front_of;
 use crate::columns::batch_of;
+use crate::lanes::lane_value;
 use crate::run::Run;
 use crate::shown::evaluate;
+use crate::sorting::{are_few, best_positions};
 use crate::stop::Stop;
-use aggregate_states::{Group, owned, position, value_at};
+use aggregate_states::{Group, owned};
 use meaning::{Plan, Row, Sequence, Value};
 use std::alloc::{AllocError, Global};
 use std::mem::drop;
 use vectors::{Batch, Selection, Vector};
 
-/// How many groups are evaluated at once.
-const BATCH_GROUPS: usize = 1024;
+/// How many groups are evaluated at once where few rows are left of them.
+const BATCH_GROUPS: usize = 4096;
+
+/// How many groups are evaluated at once: a batch that the cache holds, or all that a batch may
+/// have, so that they are sorted as columns.
+fn batch_groups(plan: &Plan) -> usize
+    ensures some { 0 < result }
+    ensures few { result < 2 ^ 32 }
+{
+    if are_few(plan) {
+        return BATCH_GROUPS;
+    }
+    u32::MAX as usize
+}
 
 /// A row in memory of its own.
 pub fn copy_row(alloc: Global, row: &Row) -> Result<Row, AllocError>
@@ -37,45 +52,58 @@ pub fn copy_row(alloc: Global, row: &Row) -> Result<Row, AllocError>
 }
 
 /// The value of a lane, in memory of its own.
-fn lane_value(alloc: Global, item: &Vector<'_>, lane: usize) -> Result<Value, AllocError>
-    requires within { lane < length (values_of item.now) }
-    requires spelled { is_spelled (slice_index_or (values_of item.now) lane Null) ≡ true }
+fn owned_value(alloc: Global, item: &Vector<'_>, lane: usize) -> Result<Value, AllocError>
+    requires { is_spelled (slice_index_or (values_of item.now) lane Null) ≡ true }
     ensures { IfOk result (λ v. v ≡ slice_index_or (values_of item.now) lane Null) }
 {
-    owned(alloc, value_at(item, lane))
+    owned(alloc, lane_value(item, lane))
 }
 
 /// The row of a lane.
 fn row_at(alloc: Global, items: &[Vector<'_>], lane: usize) -> Result<Row, AllocError>
-    requires within { All (λ v. lane < length (values_of v)) items.now }
-    requires spelled { All (λ v. is_spelled v ≡ true) (lane_row items.now lane) }
+    requires { IsReadable (lane_row items.now lane) }
     ensures { IfOk result (λ row. row ≡ lane_row items.now lane) }
 {
     let mut row = Vec::with_capacity(alloc, items.len())?;
     for item in items {
-        row.push(lane_value(alloc, item, lane)?)?;
+        row.push(owned_value(alloc, item, lane)?)?;
     }
     Ok(Sequence::from_vec(row))
 }
 
-/// A row for each position that is kept.
-fn push_kept(
+/// A row for each of the positions.
+fn push_at(
     alloc: Global,
+    items: &[Vector<'_>],
+    positions: &[u32],
+    runs: &mut Vec<Run>,
+) -> Result<(), AllocError>
+    requires { All IsReadable (map (lane_row items.now) positions.now) }
+    ensures { OnOk result (expanded runs.new.items ≡ expanded runs.old.items
+        ++ map (lane_row items.now) positions.now) }
+{
+    for position in positions {
+        let row = row_at(alloc, items, *position as usize)?;
+        runs.push(Run { row, times: 1 })?;
+    }
+    Ok(())
+}
+
+/// The rows of the positions that are kept, as far as LIMIT can leave them.
+fn push_best(
+    alloc: Global,
+    plan: &Plan,
     items: &[Vector<'_>],
     kept: &Selection,
     runs: &mut Vec<Run>,
 ) -> Result<(), AllocError>
-    requires { AreReadable items.now kept.now.below kept.now.list }
-    ensures { OnOk result (expanded runs.new.items ≡ expanded runs.old.items
-        ++ map (lane_row items.now) kept.now.list) }
+    requires small { kept.now.below < 2 ^ 32 }
+    requires readable { All IsReadable (map (lane_row items.now) kept.now.list) }
+    ensures { OnOk result (best plan.now (expanded runs.new.items)
+        ≡ best plan.now (expanded runs.old.items ++ map (lane_row items.now) kept.now.list)) }
 {
-    // That positions lie below the length.
-    let _positions = kept.len();
-    for k in 0..kept.len() {
-        let row = row_at(alloc, items, position(kept, k))?;
-        runs.push(Run { row, times: 1 })?;
-    }
-    Ok(())
+    let positions = best_positions(alloc, plan, items, kept)?;
+    push_at(alloc, items, positions.as_slice(), runs)
 }
 
 /// What a batch of groups shows, or the first fault of HAVING and the items.
@@ -88,13 +116,13 @@ fn push_shown(
     requires small { batch.now.rows < 2 ^ 32 }
     requires rows { (rows : List JoinedRow) × IsBatchOf plan.now rows batch.now }
     ensures { (rows : List JoinedRow) → IsBatchOf plan.now rows batch.now
-        → ReportsIfMemory fault_returned (λ _. expanded runs.new.items) result
-        (shown_after plan.now (expanded runs.old.items) rows) }
+        → ReportsIfMemory fault_returned (λ _. best plan.now (expanded runs.new.items)) result
+        (best_of plan.now (shown_after plan.now (expanded runs.old.items) rows)) }
 {
     let shown = evaluate(alloc, plan, batch)?;
     match shown.fault.held {
         Some(faulted) => Err(Stop::Fault(faulted.fault.code())),
-        None => Ok(push_kept(alloc, shown.items.as_slice(), &shown.kept, runs)?),
+        None => Ok(push_best(alloc, plan, shown.items.as_slice(), &shown.kept, runs)?),
     }
 }
 
@@ -104,8 +132,8 @@ fn push_sound(alloc: Global, plan: &Plan, groups: &[Group], runs: &mut Vec<Run>)
     requires groups { AreGroupsOf plan.now groups.now }
     requires few { length groups.now < 2 ^ 32 }
     requires values { All (HasValues plan.now) groups.now }
-    ensures { ReportsIfMemory fault_returned (λ _. expanded runs.new.items) result
-        (rows_after plan.now (expanded runs.old.items) groups.now) }
+    ensures { ReportsIfMemory fault_returned (λ _. best plan.now (expanded runs.new.items)) result
+        (best_of plan.now (rows_after plan.now (expanded runs.old.items) groups.now)) }
 {
     let batch = batch_of(alloc, plan, groups)?;
     let pushed = push_shown(alloc, plan, &batch, runs);
@@ -127,8 +155,8 @@ fn push_batch(alloc: Global, plan: &Plan, groups: &[Group], runs: &mut Vec<Run>)
     requires grouped { plan.now.plain ≡ false }
     requires groups { AreGroupsOf plan.now groups.now }
     requires few { length groups.now < 2 ^ 32 }
-    ensures { ReportsIfMemory fault_returned (λ _. expanded runs.new.items) result
-        (rows_after plan.now (expanded runs.old.items) groups.now) }
+    ensures { ReportsIfMemory fault_returned (λ _. best plan.now (expanded runs.new.items)) result
+        (best_of plan.now (rows_after plan.now (expanded runs.old.items) groups.now)) }
 {
     let front = front_of(alloc, plan, groups)?;
     push_sound(alloc, plan, &groups[..front.count], runs)?;
@@ -144,12 +172,13 @@ pub fn push_grouped(
 ) -> Result<(), Stop>
     requires grouped { plan.now.plain ≡ false }
     requires groups { AreGroupsOf plan.now groups.now }
-    ensures { ReportsIfMemory fault_returned (λ _. expanded runs.new.items) result
-        (rows_after plan.now (expanded runs.old.items) groups.now) }
+    ensures { ReportsIfMemory fault_returned (λ _. best plan.now (expanded runs.new.items)) result
+        (best_of plan.now (rows_after plan.now (expanded runs.old.items) groups.now)) }
 {
+    let most = batch_groups(plan);
     let mut rest = groups;
     while !rest.is_empty() {
-        let (batch, behind) = rest.split_at(rest.len().min(BATCH_GROUPS));
+        let (batch, behind) = rest.split_at(rest.len().min(most));
         push_batch(alloc, plan, batch, runs)?;
         rest = behind;
     }

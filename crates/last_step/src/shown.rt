@@ -1,8 +1,7 @@
 //! HAVING and the items over a batch of groups.
-ghost use Rattle.std.specs.Prelude.{◌≡◌, ◌<◌, ◌^◌, [], None, List, length, All, IfOk};
+ghost use Rattle.std.specs.Prelude.{◌≡◌, ◌<◌, ◌^◌, [], None, List, length, IfOk};
 ghost use Rattle.meaning.specs.declared.joined_row.JoinedRow.{JoinedRow};
 ghost use Rattle.meaning.specs.Typing.{Boolean, RowTypes};
-ghost use Rattle.vectors.specs.Vector.{values_of};
 ghost use Rattle.vectors.specs.Selection.{IsSelection};
 ghost use Rattle.primitives.specs.Fitting.{AreTypedRows, Fits};
 ghost use Rattle.primitives.specs.Meant.{meant_at};
@@ -64,13 +63,10 @@ fn item_vectors<'a>(
     fault: &mut Fault1,
 ) -> Result<Vec<Vector<'a>>, AllocError>
     requires { kept.now.below ≡ batch.now.rows }
-    ensures shows { IfOk result (λ vectors. (rows : List JoinedRow)
+    ensures { IfOk result (λ vectors. (rows : List JoinedRow)
         → IsBatchOf plan.now rows batch.now
         → Shows plan.now rows 0 kept.now.list fault.old.held []
         → Shows plan.now rows (length plan.now.items) kept.now.list fault.new.held vectors.items) }
-    ensures long { IfOk result (λ vectors. (rows : List JoinedRow)
-        → IsBatchOf plan.now rows batch.now
-        → All (λ v. length (values_of v) ≡ batch.now.rows) vectors.items) }
 {
     // That positions lie below the number of rows.
     let _positions = kept.len();
@@ -103,8 +99,6 @@ pub fn evaluate<'a>(
     ensures sound { IfOk result (λ s. IsSelection s.kept) }
     ensures shows { IfOk result (λ s. (rows : List JoinedRow) → IsBatchOf plan.now rows batch.now
         → Shows plan.now rows (length plan.now.items) s.kept.list s.fault.held s.items.items) }
-    ensures long { IfOk result (λ s. (rows : List JoinedRow) → IsBatchOf plan.now rows batch.now
-        → All (λ v. length (values_of v) ≡ batch.now.rows) s.items.items) }
 {
     let mut fault = Fault1::new();
     let kept = kept_by_having(alloc, plan, batch, &mut fault)?;

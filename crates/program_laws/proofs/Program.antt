@@ -45,7 +45,7 @@ use Rattle.gathering.specs.declared.report.Report.{Report}
 use Rattle.folders.specs.Each.{AreEach}
 use Rattle.folders.specs.Folder.{Change, Holds, catalog_path, csv_path, cut_path, dimension_path, fragment_path}
 use Rattle.command_line.specs.declared.commands.GatherCommand.{GatherCommand}
-use Rattle.jobs.specs.Gathering.{IsTaken, IsTaking, Taken, Taking, answer, gathered, obstacle_of, passed, shown, state, takings_of}
+use Rattle.jobs.specs.Gathering.{IsTaken, IsTaking, Taken, Taking, answer, gathered, has_journal, obstacle_of, passed, shown, state, takings_of}
 use Rattle.jobs.specs.Job.{IsJobOf}
 use Rattle.jobs.specs.Working.{HoldsDimension, HoldsFragment, HoldsRows, IsOwnSpelled}
 use Rattle.jobs.proofs.OwnAnswers.{own_spelled}
@@ -62,14 +62,20 @@ unfolding answer_magic state_magic layout_bytes
 no_state job a = refl
 
 -- bytes that are an answer for the job are taken as it
-taken_as : (job : JobSpec) (bytes : List ℕ) (a : Answer) (taking : Taking) → IsJob job → Spells job bytes a → IsTaking job bytes taking → taking ≡ answer a
-taken_as job bytes a (answer b) is spells taken =
+taken_as : (journaled : Bool) (job : JobSpec) (bytes : List ℕ) (a : Answer) (taking : Taking) → IsJob job → Spells job bytes a → IsTaking journaled job bytes taking → taking ≡ answer a
+taken_as journaled job bytes a (answer b) is spells taken =
     let same : Ok b ≡ Ok a = sym (spelled_reads job bytes b is taken.1) ∙ spelled_reads job bytes a is spells in
     ap answer (cc same)
-taken_as job bytes a (state cells) is spells taken =
+taken_as true job bytes a (state cells) is spells taken =
+    let other : false ≡ true = taken.0 in
+    cc other
+taken_as false job bytes a (state cells) is spells taken =
     let other : true ≡ false = sym taken.0 ∙ ap is_state spells.spelled ∙ no_state job a in
     cc other
-taken_as job bytes a (passed fault) is spells taken =
+taken_as true job bytes a (passed fault) is spells taken =
+    let well : None ≡ Some fault = sym (ap fault_in (spelled_reads job bytes a is spells)) ∙ taken in
+    cc well
+taken_as false job bytes a (passed fault) is spells taken =
     let test : is_state bytes ≡ false = ap is_state spells.spelled ∙ no_state job a in
     let none : fault_in (judged job bytes) ≡ Some fault = rw test at taken in
     let well : None ≡ Some fault = sym (ap fault_in (spelled_reads job bytes a is spells)) ∙ none in
@@ -201,7 +207,10 @@ module _ (holds : Holds) (load each : ℕ) (command : GatherCommand) (before aft
     dims = joined_held holds folder catalog job.plan.joins dims table_held tables.joined;
   }
 
-  own_taken : (k : ℕ) → k < length job.cut → Contains (takings_of run.gathered.files.files) (answer (own job.plan dims job.cut rows k))
+  abbrev takings : List Taking
+  takings = run.gathered.files.journal ++ takings_of run.gathered.files.files
+
+  own_taken : (k : ℕ) → k < length job.cut → Contains takings (answer (own job.plan dims job.cut rows k))
   own_taken k below =
       let (file, has, (asked, of_folder, of_query, of_fragment, spelled)) = run.answered k below in
       let is = own_spelled holds asked rows dims file.bytes spelled in
@@ -211,16 +220,16 @@ module _ (holds : Holds) (load each : ℕ) (command : GatherCommand) (before aft
       let held_so = subst (λ f. HoldsFragment holds f is.job asked.fragment rows dims) (sym of_folder) (subst (λ n. HoldsFragment holds folder is.job n rows dims) (sym of_fragment) held) in
       let spells = subst (λ n. Spells is.job file.bytes (own is.job.plan dims is.job.cut rows n)) of_fragment (is.is_own held_so) in
       let spells_so = subst (λ (j : JobSpec). Spells j file.bytes (own j.plan dims j.cut rows k)) same spells in
-      let taken = All-contains (IsTaken holds job) run.gathered.files.files file run.gathered.files.taken.each has in
-      let taking = taken_as job file.bytes (own job.plan dims job.cut rows k) file.taking gather_job.over.within spells_so taken.taking in
-      subst (Contains (takings_of run.gathered.files.files)) taking (contains_map (λ (f : Taken). f.taking) run.gathered.files.files file has)
+      let taken = All-contains (IsTaken (has_journal command.journal) holds job) run.gathered.files.files file run.gathered.files.taken.each has in
+      let taking = taken_as (has_journal command.journal) job file.bytes (own job.plan dims job.cut rows k) file.taking gather_job.over.within spells_so taken.taking in
+      Contains-append_right run.gathered.files.journal (takings_of run.gathered.files.files) (answer (own job.plan dims job.cut rows k))
+      (subst (Contains (takings_of run.gathered.files.files)) taking (contains_map (λ (f : Taken). f.taking) run.gathered.files.files file has))
 
   whole : sum job.cut ≡ length rows
   whole = sym (counted_fact catalog job.cut (csv_records tables.csv) rows tables.fact)
 
   printed : Appends before after (output_text job.plan (meaning job.plan dims (numbered rows)))
   printed =
-      let takings = takings_of run.gathered.files.files in
       let cells = run.gathered.files.state in
       let calm = subst (λ (cs : List Cell). fragments_where is_conflict cs ≡ []) cells run.calm in
       let text_is = ap (λ (cs : List Cell). report_text job.plan (shown command.preview job.plan cs)) cells ∙ text_gathered job.plan dims job.cut rows takings own_taken whole calm command.preview in

@@ -3,6 +3,7 @@ ghost use Rattle.std.specs.Prelude.{◌≡◌, find, option_map};
 ghost use Rattle.std.specs.Str.{bytes_eq};
 
 use cli::Folder;
+use memory_disk::MemDisk;
 use std::alloc::Global;
 use std::io;
 
@@ -79,6 +80,8 @@ impl<'a> Folder for MemoryFolder<'a> {
 
     type Closed = Vec<u8>;
 
+    type Disk = MemDisk;
+
     ghost holds = { λ f path. option_map (λ file. file.1.now) (find
         (λ file. bytes_eq file.0.now path) f.files.now) };
 
@@ -95,6 +98,12 @@ impl<'a> Folder for MemoryFolder<'a> {
             Some(bytes) => Ok(bytes),
             None => Err(io::Error::from(io::ErrorKind::NotFound)),
         }
+    }
+
+    // Of its own: what is written to it is gone with it.
+    fn disk(&self, path: &str) -> io::Result<MemDisk> {
+        let bytes = self.file(path).unwrap_or(&[]);
+        Ok(MemDisk::new(self.alloc, Vec::from_slice(self.alloc, bytes)?))
     }
 
     fn create(&mut self, _path: &str) -> io::Result<Vec<u8>> {

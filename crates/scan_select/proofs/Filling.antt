@@ -1,6 +1,6 @@
 -- What buffers hold that were filled from a row group, and the columns of a batch that they are lent as.
 use Rattle.std.proofs.Common.{◌≡◌, ℕ, zero, suc, ◌+◌, ◌-◌, ◌≤◌, ◌<◌, min, Bool, true, false, not, List, [], ◌∷◌, ◌++◌, append_assoc, append-nil, length, map, get_or, take, drop, slice_index_or, slice_set, Option, Some, None, refl, ap, sym, subst, ◌∙◌, arith}
-use Rattle.std.specs.Prelude.{if◌then◌else◌, slice_get, All, unwrap_or}
+use Rattle.std.specs.Prelude.{if◌then◌else◌, slice_get, All, IfSome, unwrap_or}
 use Rattle.std.specs.List.{list_all, AllByRecursion, AllZip}
 use Rattle.std.proofs.lemmas.List.Elements.{All-from_recursion, filter-append, recursion_from_All}
 use Rattle.std.proofs.lemmas.List.{length-drop, take_more}
@@ -16,7 +16,7 @@ use Rattle.vectors.specs.Vector.{BatchSpec}
 use Rattle.scan_select.specs.declared.buffers.ColumnBuffer.{ColumnBuffer}
 use Rattle.scan_select.specs.declared.buffers.Room.{Room}
 use Rattle.scan_select.specs.declared.buffers.Room.TheVariants as room
-use Rattle.scan_select.specs.Buffers.{FitsGroup, HasRoom, HoldsRows, HoldsWindow, IsBufferOf, IsPosition, IsFilled, IsLendable, IsRoomFor, block_of, filled, filled_now, filled_room, columns_of}
+use Rattle.scan_select.specs.Buffers.{FitsGroup, HasRoom, HoldsRows, HoldsWindow, IsBufferOf, IsPosition, IsFilled, IsLendable, IsRoomFor, block_of, emptied, filled, filled_now, filled_room, filled_unless, columns_of}
 use Rattle.scan_select.specs.Groups.{current_rows}
 use Rattle.scan_select.specs.Scanned.{AddsColumns, AreColumnsAt, IsColumnAt, unpacked}
 use Rattle.scan_select.proofs.Masks.{window_taken}
@@ -57,10 +57,6 @@ holds_window : (group : List Block) (first p : ℕ) (r : Room) → HoldsWindow g
 holds_window group first p (room.Ints v) = refl
 holds_window group first p room.Texts = tt
 
-all_filled : (group : List Block) (first : ℕ) (bs : List ColumnBuffer) → AllByRecursion (IsFilled group first) (map (filled group first) bs)
-all_filled group first [] = tt
-all_filled group first (b ∷ bs) = (holds_window group first b.column b.room, all_filled group first bs)
-
 same_type : (t : ColType) (group : List Block) (first p : ℕ) (r : Room) → IsRoomFor t r → IsRoomFor t (filled_room group first p r)
 same_type t group first p (room.Ints v) is = is
 same_type t group first p room.Texts is = is
@@ -69,43 +65,83 @@ same_many : (most : ℕ) (group : List Block) (first p : ℕ) (r : Room) → Has
 same_many most group first p (room.Ints v) is = is
 same_many most group first p room.Texts is = is
 
-still_of : (cs : List Column) (most : ℕ) (group : List Block) (first : ℕ) (bs : List ColumnBuffer) → AllByRecursion (IsBufferOf cs most) bs → AllByRecursion (IsBufferOf cs most) (map (filled group first) bs)
-still_of cs most group first [] all = tt
-still_of cs most group first (b ∷ bs) all =
-    (record { column = all.0.column; there = all.0.there; nullable = all.0.nullable; type = same_type all.0.column.col_type group first b.column b.room all.0.type; many = same_many most group first b.column b.room all.0.many }, still_of cs most group first bs all.1)
+-- ---- a buffer that is filled, or isn't
 
-same_columns : (group : List Block) (first : ℕ) (bs : List ColumnBuffer) → columns_of (map (filled group first) bs) ≡ columns_of bs
-same_columns group first [] = refl
-same_columns group first (b ∷ bs) = ap (λ (ps : List ℕ). b.column ∷ ps) (same_columns group first bs)
+filled_of : (cs : List Column) (most : ℕ) (group : List Block) (first : ℕ) (b : ColumnBuffer) → IsBufferOf cs most b → IsBufferOf cs most (filled group first b)
+filled_of cs most group first b is =
+    record { column = is.column; there = is.there; nullable = is.nullable; type = same_type is.column.col_type group first b.column b.room is.type; many = same_many most group first b.column b.room is.many }
 
-pub now_columns : (current : Option (List Block)) (first : ℕ) (bs : List ColumnBuffer) → columns_of (filled_now current first bs) ≡ columns_of bs
-now_columns None first bs = refl
-now_columns (Some group) first bs = same_columns group first bs
+either : (P : ColumnBuffer → Type 0) (packed : List Bool) (group : List Block) (first : ℕ) (b : ColumnBuffer) → P b → P (filled group first b) → P (filled_unless packed group first b)
+either P packed group first b not_so so = elim (slice_index_or packed b.column false) as (λ k. P (if k then b else filled group first b)) [
+  | true ↦ not_so
+  | false ↦ so
+]
 
--- where a scan stands when the buffers were filled anew
-pub stands_again : (cs : List Column) (most : ℕ) (current : Option (List Block)) (group_rows first rows : ℕ) (bs new : List ColumnBuffer) → All (λ p. p < length cs) (columns_of bs) → is_vector_length most ≡ true → group_rows ≡ current_rows current
-    → first ≤ group_rows → rows ≡ min most (group_rows - first) → All (IsBufferOf cs most) bs → new ≡ filled_now current first bs → IsPosition cs most current group_rows first rows new
-stands_again cs most None group_rows first rows bs new below vectors are within full of_columns filled =
-    let same : new ≡ bs = filled in
+-- every buffer is as it was, or filled
+each_either : (P : ColumnBuffer → Type 0) (packed : List Bool) (group : List Block) (first : ℕ) (bs : List ColumnBuffer) → ((b : ColumnBuffer) → P b → P (filled group first b)) → AllByRecursion P bs → AllByRecursion P (map (filled_unless packed group first) bs)
+each_either P packed group first [] keeps all = tt
+each_either P packed group first (b ∷ bs) keeps all = (either P packed group first b all.0 (keeps b all.0), each_either P packed group first bs keeps all.1)
+
+pub all_either : (P : ColumnBuffer → Type 0) (packed : List Bool) (group : List Block) (first : ℕ) (bs : List ColumnBuffer) → ((b : ColumnBuffer) → P b → P (filled group first b)) → All P bs → All P (map (filled_unless packed group first) bs)
+all_either P packed group first bs keeps all = All-from_recursion P (map (filled_unless packed group first) bs) (each_either P packed group first bs keeps (recursion_from_All P bs all))
+
+same_column : (packed : List Bool) (group : List Block) (first : ℕ) (b : ColumnBuffer) → (filled_unless packed group first b).column ≡ b.column
+same_column packed group first b = either (λ x. x.column ≡ b.column) packed group first b refl refl
+
+same_columns : (packed : List Bool) (group : List Block) (first : ℕ) (bs : List ColumnBuffer) → columns_of (map (filled_unless packed group first) bs) ≡ columns_of bs
+same_columns packed group first [] = refl
+same_columns packed group first (b ∷ bs) = λ i. same_column packed group first b i ∷ same_columns packed group first bs i
+
+pub now_columns : (packed : List Bool) (current : Option (List Block)) (first : ℕ) (bs : List ColumnBuffer) → columns_of (filled_now packed current first bs) ≡ columns_of bs
+now_columns packed None first bs = refl
+now_columns packed (Some group) first bs = same_columns packed group first bs
+
+-- where a scan stands when buffers were filled anew
+pub stands_filled : (cs : List Column) (most : ℕ) (packed : List Bool) (current : Option (List Block)) (group_rows first rows : ℕ) (bs new : List ColumnBuffer) → IsPosition cs most current group_rows first rows bs
+    → new ≡ filled_now packed current first bs → IsPosition cs most current group_rows first rows new
+stands_filled cs most packed None group_rows first rows bs new at filling = subst (λ (xs : List ColumnBuffer). IsPosition cs most None group_rows first rows xs) (sym filling) at
+stands_filled cs most packed (Some group) group_rows first rows bs new at filling =
     record {
-      columns_within = subst (λ (xs : List ColumnBuffer). All (λ p. p < length cs) (columns_of xs)) (sym same) below;
+      columns_within = subst (λ (ps : List ℕ). All (λ p. p < length cs) ps) (sym (ap columns_of filling ∙ same_columns packed group first bs)) at.columns_within;
+      vectors = at.vectors;
+      group_rows_are = at.group_rows_are;
+      within = at.within;
+      full = at.full;
+      of_columns = subst (λ (xs : List ColumnBuffer). All (IsBufferOf cs most) xs) (sym filling) (all_either (IsBufferOf cs most) packed group first bs (filled_of cs most group first) at.of_columns);
+      filled = subst (λ (xs : List ColumnBuffer). All (IsFilled group first) xs) (sym filling) (all_either (IsFilled group first) packed group first bs (λ b was is. holds_window group first b.column b.room) at.filled);
+    }
+
+-- ---- buffers that hold nothing
+
+pub emptied_columns : (bs : List ColumnBuffer) → columns_of (map emptied bs) ≡ columns_of bs
+emptied_columns [] = refl
+emptied_columns (b ∷ bs) = ap (λ (ps : List ℕ). b.column ∷ ps) (emptied_columns bs)
+
+emptied_of : (cs : List Column) (most : ℕ) (bs : List ColumnBuffer) → AllByRecursion (IsBufferOf cs most) bs → AllByRecursion (IsBufferOf cs most) (map emptied bs)
+emptied_of cs most [] all = tt
+emptied_of cs most (b ∷ bs) all = (record { column = all.0.column; there = all.0.there; nullable = all.0.nullable; type = all.0.type; many = all.0.many }, emptied_of cs most bs all.1)
+
+none_filled : (group : List Block) (first : ℕ) (bs : List ColumnBuffer) → AllByRecursion (IsFilled group first) (map emptied bs)
+none_filled group first [] = tt
+none_filled group first (b ∷ bs) = ((λ is. absurd cc), none_filled group first bs)
+
+-- where a scan stands when no buffer is filled yet
+pub stands_empty : (cs : List Column) (most : ℕ) (current : Option (List Block)) (group_rows first rows : ℕ) (bs new : List ColumnBuffer) → All (λ p. p < length cs) (columns_of bs) → is_vector_length most ≡ true → group_rows ≡ current_rows current
+    → first ≤ group_rows → rows ≡ min most (group_rows - first) → All (IsBufferOf cs most) bs → new ≡ map emptied bs → IsPosition cs most current group_rows first rows new
+stands_empty cs most current group_rows first rows bs new below vectors are within full of_columns empty =
+    record {
+      columns_within = subst (λ (ps : List ℕ). All (λ p. p < length cs) ps) (sym (ap columns_of empty ∙ emptied_columns bs)) below;
       vectors = vectors;
       group_rows_are = are;
       within = omega (arith, within, full);
       full = full;
-      of_columns = subst (λ (xs : List ColumnBuffer). All (IsBufferOf cs most) xs) (sym same) of_columns;
-      filled = tt;
+      of_columns = subst (λ (xs : List ColumnBuffer). All (IsBufferOf cs most) xs) (sym empty) (All-from_recursion (IsBufferOf cs most) (map emptied bs) (emptied_of cs most bs (recursion_from_All (IsBufferOf cs most) bs of_columns)));
+      filled = filled_in current;
     }
-stands_again cs most (Some group) group_rows first rows bs new below vectors are within full of_columns filling =
-    record {
-      columns_within = subst (λ (ps : List ℕ). All (λ p. p < length cs) ps) (sym (ap columns_of filling ∙ same_columns group first bs)) below;
-      vectors = vectors;
-      group_rows_are = are;
-      within = omega (arith, within, full);
-      full = full;
-      of_columns = subst (λ (xs : List ColumnBuffer). All (IsBufferOf cs most) xs) (sym filling) (All-from_recursion (IsBufferOf cs most) (map (filled group first) bs) (still_of cs most group first bs (recursion_from_All (IsBufferOf cs most) bs of_columns)));
-      filled = subst (λ (xs : List ColumnBuffer). All (IsFilled group first) xs) (sym filling) (All-from_recursion (IsFilled group first) (map (filled group first) bs) (all_filled group first bs));
-    }
+  where
+    filled_in : (now : Option (List Block)) → IfSome now (λ group. All (IsFilled group first) new)
+    filled_in None = tt
+    filled_in (Some group) = subst (λ (xs : List ColumnBuffer). All (IsFilled group first) xs) (sym empty) (All-from_recursion (IsFilled group first) (map emptied bs) (none_filled group first bs))
 
 -- one buffer more is filled
 fills_next : {X : Type 0} (f : X → X) (old : List X) (i : ℕ) (d : X) → i < length old
@@ -167,7 +203,7 @@ module _ (cs : List Column) (n most : ℕ) (group : List Block) (first rows : �
         nullable = is.nullable ∙ sym at.0.nullable;
         within = omega (arith, same, within);
         type = fits.type;
-        holds = holds_rows b b.room is.column is.there is.many filled;
+        holds = λ so. holds_rows b b.room is.column is.there is.many (filled so);
       }
 
   all_lendable : (bs : List ColumnBuffer) → AllByRecursion (IsBufferOf cs most) bs → AllByRecursion (IsFilled group first) bs → AllByRecursion (IsLendable group first rows) bs

@@ -1,5 +1,5 @@
 -- The columns that a scan reads, and what their buffers hold.
-use Rattle.std.specs.Prelude.{◌≡◌, ◌<◌, ◌≤◌, ◌+◌, ◌-◌, min, ℕ, List, map, length, take, drop, get_or, slice_get, Option, Some, None, All, IfSome, true}
+use Rattle.std.specs.Prelude.{◌≡◌, ◌<◌, ◌≤◌, ◌+◌, ◌-◌, min, ℕ, if◌then◌else◌, Bool, false, List, map, length, take, drop, get_or, slice_get, slice_index_or, Option, Some, None, All, IfSome, true}
 use Rattle.meaning.specs.declared.catalog.Column.{Column}
 use Rattle.meaning.specs.declared.value.ColType.{ColType}
 use Rattle.meaning.specs.declared.value.ColType.TheVariants as of_type
@@ -55,21 +55,31 @@ filled_room group first p (room.Ints v) = room.Ints (record { room = v.room; col
 filled_room group first p room.Texts = room.Texts
 
 abbrev pub filled : List Block → ℕ → ColumnBuffer → ColumnBuffer
-filled group first b = record { column = b.column; nullable = b.nullable; room = filled_room group first b.column b.room }
+filled group first b = record { column = b.column; nullable = b.nullable; room = filled_room group first b.column b.room; is_filled = true }
 
--- buffers filled from the row group that stands, if one does
-abbrev pub filled_now : Option (List Block) → ℕ → List ColumnBuffer → List ColumnBuffer
-filled_now None first buffers = buffers
-filled_now (Some group) first buffers = map (filled group first) buffers
+-- the same, unless the column is marked as packed
+abbrev pub filled_unless : List Bool → List Block → ℕ → ColumnBuffer → ColumnBuffer
+filled_unless packed group first b = if slice_index_or packed b.column false then b else filled group first b
+
+-- buffers filled from the row group that stands, if one does, without those of packed columns
+abbrev pub filled_now : List Bool → Option (List Block) → ℕ → List ColumnBuffer → List ColumnBuffer
+filled_now packed None first buffers = buffers
+filled_now packed (Some group) first buffers = map (filled_unless packed group first) buffers
+
+-- a buffer that holds nothing of the vector that stands
+abbrev pub emptied : ColumnBuffer → ColumnBuffer
+emptied b = record { column = b.column; nullable = b.nullable; room = b.room; is_filled = false }
 
 abbrev pub HoldsWindow : List Block → ℕ → ℕ → Room → Type 0
 HoldsWindow group first p (room.Ints v) = v.values ≡ window_of group first v.room p
 HoldsWindow group first p room.Texts = Unit {0}
 
+-- a buffer holds the column's values from a row on, where it says so
 abbrev pub IsFilled : List Block → ℕ → ColumnBuffer → Type 0
-IsFilled group first b = HoldsWindow group first b.column b.room
+IsFilled group first b = b.is_filled ≡ true → HoldsWindow group first b.column b.room
 
--- where a scan stands in a row group: its rows are as many as a vector may have, or as are left, and the buffers hold them
+-- where a scan stands in a row group: its rows are as many as a vector may have, or as are left, and the buffers that are filled
+-- hold them
 pub record IsPosition (columns : List Column) (most : ℕ) (current : Option (List Block)) (group_rows first rows : ℕ) (buffers : List ColumnBuffer) : Type 0 where
   pub columns_within : All (λ p. p < length columns) (columns_of buffers)
   pub vectors : is_vector_length most ≡ true
@@ -81,10 +91,9 @@ pub record IsPosition (columns : List Column) (most : ℕ) (current : Option (Li
 
 -- ---- lending
 
--- a block of texts that has these rows
-pub record IsTextBlock (first rows : ℕ) (block : Block) : Type 0 where
+-- a block that has these rows
+pub record HasRows (first rows : ℕ) (block : Block) : Type 0 where
   pub sound : is_block block ≡ true
-  pub type : block.col_type ≡ of_type.Text
   pub within : first + rows ≤ block.rows
 
 -- the room has just the column's values in these rows
@@ -92,11 +101,11 @@ abbrev pub HoldsRows : List Block → ℕ → ℕ → ℕ → Room → Type 0
 HoldsRows group first rows p (room.Ints v) = v.values ≡ window_of group first rows p
 HoldsRows group first rows p room.Texts = Unit {0}
 
--- the column has these rows, and the buffer its values in them
+-- the column has these rows, and the buffer its values in them where it is filled
 pub record IsLendable (group : List Block) (first rows : ℕ) (b : ColumnBuffer) : Type 0 where
   pub column_within : b.column < length group
   pub sound : is_block (block_of group b.column) ≡ true
   pub nullable : b.nullable ≡ (block_of group b.column).nullable
   pub within : first + rows ≤ (block_of group b.column).rows
   pub type : IsRoomFor (block_of group b.column).col_type b.room
-  pub holds : HoldsRows group first rows b.column b.room
+  pub holds : b.is_filled ≡ true → HoldsRows group first rows b.column b.room

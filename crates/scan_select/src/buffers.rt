@@ -5,7 +5,7 @@ ghost use Rattle.meaning.specs.declared.value.ColType.TheVariants as of_type;
 ghost use Rattle.blocks.specs.Block.{is_block, values_of};
 ghost use Rattle.fragment_file.specs.Fragment.{no_block};
 ghost use Rattle.fragment_file.specs.Lent.{blocks_in};
-ghost use Rattle.scan_select.specs.Buffers.{FitsGroup, HasRoom, IsBufferOf, IsLendable, IsRoomFor, IsTextBlock, columns_of, filled};
+ghost use Rattle.scan_select.specs.Buffers.{FitsGroup, HasRoom, HasRows, IsBufferOf, IsLendable, IsRoomFor, columns_of, emptied, filled, filled_unless};
 ghost use Rattle.scan_select.specs.Scanned.{AddsColumns, IsMask, unpacked};
 ghost use Rattle.vectors.specs.Lanes.{nulls_of};
 ghost use Rattle.vectors.specs.Vector.{outcomes_of, HasLanesOf};
@@ -34,6 +34,8 @@ pub struct ColumnBuffer {
     pub(crate) column: usize,
     pub(crate) nullable: bool,
     pub(crate) room: Room,
+    // Whether the room holds the vector that stands now.
+    pub(crate) is_filled: bool,
 }
 
 /// Which lanes are NULL: none, where the column isn't nullable.
@@ -59,27 +61,25 @@ fn owned_nulls<'a>(nullable: bool, mask: Vec<bool>) -> Nulls<'a>
     Nulls::None
 }
 
-/// The texts of a block from row `first` on, as lanes in a list of their own.
-fn text_lanes<'a>(
+/// A block's values from row `first` on, as lanes in a list of their own.
+fn owned_lanes<'a>(
     alloc: Global,
     block: &BlockView<'a>,
     first: usize,
     rows: usize,
 ) -> Result<Vector<'a>, AllocError>
-    requires { IsTextBlock first rows block.now }
+    requires { HasRows first rows block.now }
     ensures values { IfOk result (λ v. outcomes_of v
         ≡ map gives.Value (take rows (drop first (values_of block.now)))) }
-    ensures typed { IfOk result (λ v. HasLanesOf of_type.Text v) }
+    ensures typed { IfOk result (λ v. HasLanesOf block.now.col_type v) }
 {
     let mut values = VectorBuf::new(alloc, rows)?;
     block.read_into(first, &mut values);
     let (lanes, mask) = values.into_parts();
+    let nulls = owned_nulls(block.nullable(), mask);
     match lanes {
-        Lanes::Texts(texts) => {
-            let nulls = owned_nulls(block.nullable(), mask);
-            Ok(Vector::Texts(Texts::new(TextCells::Owned(texts), nulls)))
-        }
-        Lanes::Ints(_) => unreachable!(),
+        Lanes::Ints(ints) => Ok(Vector::Ints(Ints::new(IntCells::Owned(ints), nulls))),
+        Lanes::Texts(texts) => Ok(Vector::Texts(Texts::new(TextCells::Owned(texts), nulls))),
     }
 }
 
@@ -111,6 +111,7 @@ impl ColumnBuffer {
             column,
             nullable: declared.nullable,
             room,
+            is_filled: false,
         })
     }
 
@@ -120,6 +121,7 @@ impl ColumnBuffer {
         requires { FitsGroup (blocks_in group.now) self.old }
         ensures { self.new ≡ filled (blocks_in group.now) first self.old }
     {
+        self.is_filled = true;
         match &mut self.room {
             Room::Ints(values) => {
                 let block = group.column(self.column);
@@ -129,7 +131,25 @@ impl ColumnBuffer {
         }
     }
 
-    /// The column's values in a row group, from row `first` on, as lanes. No integer is copied.
+    /// The same, unless the column is marked as packed.
+    fn fill_unless(&mut self, packed: &[bool], group: &GroupView<'_>, first: usize)
+        requires { FitsGroup (blocks_in group.now) self.old }
+        ensures { self.new ≡ filled_unless packed.now (blocks_in group.now) first self.old }
+    {
+        if !is_marked(packed, self.column) {
+            self.fill(group, first);
+        }
+    }
+
+    /// What the room holds isn't the vector that stands now.
+    fn empty(&mut self)
+        ensures { self.new ≡ emptied self.old }
+    {
+        self.is_filled = false;
+    }
+
+    /// The column's values in a row group, from row `first` on, as lanes. No integer is copied where
+    /// the room holds them.
     fn lanes<'s>(
         &'s self,
         alloc: Global,
@@ -143,12 +163,15 @@ impl ColumnBuffer {
         ensures typed { IfOk result (λ v. HasLanesOf
             (get_or (blocks_in group.now) self.now.column no_block).col_type v) }
     {
+        if !self.is_filled {
+            return owned_lanes(alloc, &group.column(self.column), first, rows);
+        }
         match &self.room {
             Room::Ints(values) => {
                 let nulls = lent_nulls(self.nullable, values.nulls());
                 Ok(Vector::Ints(Ints::new(IntCells::Lent(values.ints()), nulls)))
             }
-            Room::Texts => text_lanes(alloc, &group.column(self.column), first, rows),
+            Room::Texts => owned_lanes(alloc, &group.column(self.column), first, rows),
         }
     }
 }
@@ -172,13 +195,23 @@ pub fn make_buffers(
     Ok(buffers)
 }
 
-/// Fills the buffers anew with their columns' values in a row group, from row `first` on.
-pub fn fill_all(buffers: &mut [ColumnBuffer], group: &GroupView<'_>, first: usize)
+/// Fills the buffers anew with their columns' values in a row group, from row `first` on, without
+/// those of columns that are marked as packed.
+pub fn fill_all(buffers: &mut [ColumnBuffer], packed: &[bool], group: &GroupView<'_>, first: usize)
     requires { All (FitsGroup (blocks_in group.now)) buffers.old }
-    ensures { buffers.new ≡ map (filled (blocks_in group.now) first) buffers.old }
+    ensures { buffers.new ≡ map (filled_unless packed.now (blocks_in group.now) first) buffers.old }
 {
     for buffer in buffers.iter_mut() {
-        buffer.fill(group, first);
+        buffer.fill_unless(packed, group, first);
+    }
+}
+
+/// No buffer holds the vector that stands now.
+pub fn empty_all(buffers: &mut [ColumnBuffer])
+    ensures { buffers.new ≡ map emptied buffers.old }
+{
+    for buffer in buffers.iter_mut() {
+        buffer.empty();
     }
 }
 

@@ -1,14 +1,14 @@
 //! The rows of a file, vector by vector.
-ghost use Rattle.std.specs.Prelude.{◌≡◌, ◌≤◌, ◌<◌, ◌+◌, ◌-◌, ℕ, false, List, None, length, All, OnErr, IfErr, IfOk, IfSome};
+ghost use Rattle.std.specs.Prelude.{◌≡◌, ◌≤◌, ◌<◌, ◌+◌, ◌-◌, ℕ, false, List, None, length, map, All, OnErr, IfErr, IfOk, IfSome};
 ghost use Rattle.std.specs.List.{range_with_len};
 ghost use Rattle.meaning.specs.VectorLength.{is_vector_length};
 ghost use Rattle.scan_select.specs.declared.fault.ScanFault.TheVariants.{VectorLength};
-ghost use Rattle.scan_select.specs.Buffers.{IsBufferOf, filled_now};
+ghost use Rattle.scan_select.specs.Buffers.{IsBufferOf, emptied, filled_now};
 ghost use Rattle.scan_select.specs.FileGroups.{all_groups, rows_of_all};
 ghost use Rattle.scan_select.specs.Groups.{current_rows};
 ghost use Rattle.scan_select.specs.Scanned.{Advances, CountsRows, GivesBatch, GivesStanding, GivesUnpacked, IsFresh, IsStanding, StaysIn};
 
-use crate::buffers::{ColumnBuffer, fill_all, lend_all, make_buffers};
+use crate::buffers::{ColumnBuffer, empty_all, fill_all, lend_all, make_buffers};
 use crate::fault::ScanFault;
 use crate::file_groups::FileGroups;
 use crate::row_groups::RowGroups;
@@ -98,15 +98,28 @@ fn rows_now<G: RowGroups>(groups: &G) -> usize
     }
 }
 
-/// Fills the buffers from the row group that came last, if there is one, from row `first` on.
-fn fill_now<G: RowGroups>(groups: &G, buffers: &mut Vec<ColumnBuffer>, first: usize)
+/// Fills the buffers from the row group that came last, if there is one, from row `first` on, without
+/// those of columns that are marked as packed.
+fn fill_now<G: RowGroups>(
+    groups: &G,
+    buffers: &mut Vec<ColumnBuffer>,
+    packed: &[bool],
+    first: usize,
+)
     requires { (most : ℕ) × All (IsBufferOf (G.header_of groups.now).columns most)
         buffers.old.items }
-    ensures { buffers.new.items ≡ filled_now (G.current groups.now) first buffers.old.items }
+    ensures { buffers.new.items
+        ≡ filled_now packed.now (G.current groups.now) first buffers.old.items }
 {
     if let Some(group) = groups.group() {
-        fill_all(buffers.as_mut_slice(), &group, first);
+        fill_all(buffers.as_mut_slice(), packed, &group, first);
     }
+}
+
+fn empty_buffers(buffers: &mut Vec<ColumnBuffer>)
+    ensures { buffers.new.items ≡ map emptied buffers.old.items }
+{
+    empty_all(buffers.as_mut_slice());
 }
 
 impl<G: RowGroups + Drop> Scan<G> {
@@ -186,12 +199,12 @@ impl<G: RowGroups + Drop> Scan<G> {
         ensures stays { StaysIn self.old.at self.new.at }
         ensures none { OnErr result (self.new.at ≡ None) }
     {
+        empty_buffers(&mut self.buffers);
         let group_rows = self.group_rows;
         let behind = self.first + self.rows;
         if behind < group_rows {
             self.first = behind;
             self.rows = self.most.min(group_rows - behind);
-            fill_now(&self.groups, &mut self.buffers, behind);
             return Ok(true);
         }
         self.first = 0;
@@ -201,7 +214,6 @@ impl<G: RowGroups + Drop> Scan<G> {
             Ok(more) => {
                 self.group_rows = rows_now(&self.groups);
                 self.rows = self.most.min(self.group_rows);
-                fill_now(&self.groups, &mut self.buffers, 0);
                 Ok(more)
             }
             Err(fault) => Err(fault),
@@ -224,16 +236,27 @@ impl<G: RowGroups + Drop> Scan<G> {
         }
     }
 
-    /// The vector that stands now, if any, of all columns. Integers are lent from the scan's buffers,
-    /// texts from the bytes of the row group. All of it is gone with the next call that goes on.
+    /// Unpacks the integers of the vector that stands now into the scan's buffers, from which
+    /// [`Scan::batch_without`] lends them; those of columns that are marked at their number in the
+    /// header stay packed. Takes no memory.
+    pub fn unpack(&mut self, packed: &[bool])
+        ensures { self.new ≡ self.old }
+    {
+        let first = self.first;
+        fill_now(&self.groups, &mut self.buffers, packed, first);
+    }
+
+    /// The vector that stands now, if any, of all columns. Integers are lent from the scan's buffers
+    /// where they were unpacked, and else copied; texts are lent from the bytes of the row group. All
+    /// of it is gone with the next call that goes on.
     pub fn batch(&self, alloc: Global) -> Result<Option<ScanBatch<'_>>, AllocError>
         ensures { IfOk result (λ batch. GivesBatch self.now batch) }
     {
         self.batch_without(alloc, &[])
     }
 
-    /// The same, without the columns that are marked at their number in the header. These stay packed:
-    /// no list of their texts is made.
+    /// The same, without the columns that are marked at their number in the header: no list of their
+    /// texts is made.
     pub fn batch_without(
         &self,
         alloc: Global,

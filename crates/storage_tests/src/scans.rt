@@ -40,6 +40,8 @@ fn gives_all<'v>(
             Ok(false) => return Ok(from == column.len()),
             Err(_) => return Ok(false),
         }
+        // Integers are lent, or copied where they stayed packed.
+        scan.unpack(&[most == 1_000]);
         let Some(scanned) = scan.batch(alloc)? else {
             return Ok(false);
         };

@@ -1,7 +1,9 @@
 //! The files of the host.
+use crate::file_disk::FileDisk;
 use crate::part_file::{Part, PartFile};
 use cli::Folder;
 use std::alloc::Global;
+use std::fs::{File, OpenOptions};
 use std::io::ErrorKind;
 use std::rt::Files;
 use std::{fs, io};
@@ -23,15 +25,28 @@ impl<'a, R: Files> HostFolder<'a, R> {
     }
 }
 
-impl<'a, R: Files> Folder for HostFolder<'a, R> {
-    type Reader = R::File;
+impl<'a, R: Files<File = File>> Folder for HostFolder<'a, R> {
+    type Reader = File;
 
     type Writer = PartFile<'a, R>;
 
     type Closed = Part<'a, R>;
 
-    fn open(&self, path: &str) -> io::Result<R::File> {
+    type Disk = FileDisk;
+
+    fn open(&self, path: &str) -> io::Result<File> {
         fs::open(self.files, path)
+    }
+
+    // One that another program has locked can't be opened.
+    fn disk(&self, path: &str) -> io::Result<FileDisk> {
+        let file = OpenOptions::new()
+            .read(true)
+            .write(true)
+            .create(true)
+            .open(self.files, path)?;
+        file.try_lock()?;
+        Ok(FileDisk::new(file))
     }
 
     fn create(&mut self, path: &str) -> io::Result<PartFile<'a, R>> {

@@ -4,6 +4,7 @@
 ghost use Rattle.std.specs.Prelude.{IfOk};
 ghost use Rattle.command_line.specs.Command.{IsInRange};
 
+mod file_disk;
 mod host_folder;
 mod part_file;
 

@@ -7,8 +7,12 @@ use Rattle.command_line.proofs.parsing.gather.Goals as goal
 pub returns-clause-said : goal.returns-clause-said
 returns-clause-said c = record {
   is = refl;
-  flags_are = sym c.in-Some-Some-Some.ensures'';
+  flags_are = sym c.in-Some-Some-Some-Some.ensures''';
   words = folder_and_files _ _ _ _ _ _ c.in_ok-new.ensures c.in_ok-texts.ensures c.in-Some.ensures.cases.0 c.plain_words.ensures;
-  among = all_among (codes "query" ∷ codes "save" ∷ []) c.args.parts.now (sym c.has_only.ensures ∙ c.if-not-has_only.false);
-  options = (subst (HasText (codes "query") (given_of c.args.parts.now)) (sym c.in_ok-new-2.ensures) c.in-Some-Some-Some.ensures, subst (HasTextOrNone (codes "save") (given_of c.args.parts.now)) (sym c.in_ok-text_if_any.ensures) c.in-Some-Some-Some.ensures');
+  among = all_among (codes "query" ∷ codes "save" ∷ codes "journal" ∷ []) c.args.parts.now (sym c.has_only.ensures ∙ c.if-not-has_only.false);
+  options = (
+    subst (HasText (codes "query") (given_of c.args.parts.now)) (sym c.in_ok-new-2.ensures) c.in-Some-Some-Some-Some.ensures,
+    subst (HasTextOrNone (codes "save") (given_of c.args.parts.now)) (sym c.in_ok-text_if_any.ensures) c.in-Some-Some-Some-Some.ensures',
+    subst (HasTextOrNone (codes "journal") (given_of c.args.parts.now)) (sym c.in_ok-text_if_any-2.ensures) c.in-Some-Some-Some-Some.ensures'',
+  );
 }

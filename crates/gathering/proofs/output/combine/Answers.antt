@@ -3,6 +3,7 @@ use Rattle.std.proofs.Common.{◌≡◌, sym, ap, subst, ◌∙◌}
 use Rattle.meaning.specs.declared.answer.Body.TheVariants.{Groups}
 use Rattle.meaning.specs.Cut.{IsCut}
 use Rattle.meaning.specs.Group.{merged_groups}
+use Rattle.group_by.specs.Shape.{GroupsSpec}
 use Rattle.last_step.specs.Fitting.{AreGroupsOf}
 use Rattle.last_step.specs.Printing.{ShowsSomething}
 use Rattle.partial_codec.specs.Job.{JobSpec}
@@ -13,7 +14,7 @@ use Rattle.gathering.proofs.output.combine.Goals as goal
 
 -- the groups that are handed out
 are : (c : goal.In_ok-groups-in-None) → c.in_ok-groups-in-None.field-0 ≡ merged_groups c.args.gather.now.job.plan (all_groups c.args.gather.now.cells)
-are c = c.in_ok-groups-in-None.ensures.value ∙ c.totals-totals.ensures.totals.groups
+are c = c.in_ok-groups-in-None.ensures.value ∙ ap (λ (t : GroupsSpec). t.groups) c.table.ensures ∙ c.totals-totals.ensures.totals.groups
 
 pub returns-in_ok-groups-in-None-clause-value : goal.returns-in_ok-groups-in-None-clause-value
 returns-in_ok-groups-in-None-clause-value c =

@@ -8,13 +8,13 @@ use Rattle.jobs.proofs.taking.take_files.Goals as goal
 
 pub loop-path-init : goal.loop-path-init
 loop-path-init g c = (
-  took_none (g.F.Folder.holds c.args.folder.now) (g.T.TakesAnswers.held c.args.taker.now) (g.E.Write.contents c.args.err.now) c.requires.nothing,
+  took_none g.T.TakesAnswers.journaled (g.F.Folder.holds c.args.folder.now) (g.T.TakesAnswers.held c.args.taker.now) (g.E.Write.contents c.args.err.now),
   none_opened (g.F.Folder.opens c.args.folder.now) (λ (path : List ℕ). path) c.args.paths.now,
 )
 
 pub loop-path-preserved : goal.loop-path-preserved
 loop-path-preserved g c = (
-  took_more (g.F.Folder.holds c.args.folder.now) (g.T.TakesAnswers.held c.args.taker.now) (g.T.TakesAnswers.held c.loop-path.taker) (g.T.TakesAnswers.held c.take_file.new.taker) c.args.paths.now c.loop-path.path-index c.path-item.result
+  took_more g.T.TakesAnswers.journaled (g.F.Folder.holds c.args.folder.now) (g.T.TakesAnswers.held c.args.taker.now) (g.T.TakesAnswers.held c.loop-path.taker) (g.T.TakesAnswers.held c.take_file.new.taker) c.args.paths.now c.loop-path.path-index c.path-item.result
       (g.E.Write.contents c.args.err.now) (g.E.Write.contents c.loop-path.err) (g.E.Write.contents c.take_file.new.err)
       c.loop-path-test.true c.path-item.is c.loop-path.invariant.0 c.in_ok-take_file.ensures.takes,
   one_opened (g.F.Folder.opens c.args.folder.now) (λ (path : List ℕ). path) c.args.paths.now c.loop-path.path-index c.path-item.result c.loop-path-test.true c.path-item.is c.loop-path.invariant.1 c.in_ok-take_file.ensures.opened,
@@ -24,4 +24,4 @@ pub returns-in_err-take_file-clause-first : goal.returns-in_err-take_file-clause
 returns-in_err-take_file-clause-first g c =
     let p = err_from_is_err_and c.from_residual.result c.from_residual.ensures.1 in
     rw (p.1, p.2) (subst (λ (ps : List (List ℕ)). IsFirstUnread (g.F.Folder.opens c.args.folder.now) ps c.in_err-take_file.field-0.0) (same_paths c.args.paths.now)
-    (file_unread (g.F.Folder.opens c.args.folder.now) c.args.paths.now c.loop-path.path-index c.path-item.result c.in_err-take_file.field-0.0 c.loop-path-test.true c.path-item.is c.loop-path.invariant.1 c.in_err-take_file.ensures.refused))
+    (file_unread g.T.TakesAnswers.journaled (g.F.Folder.opens c.args.folder.now) c.args.paths.now c.loop-path.path-index c.path-item.result c.in_err-take_file.field-0.0 c.loop-path-test.true c.path-item.is c.loop-path.invariant.1 c.in_err-take_file.ensures.refused))

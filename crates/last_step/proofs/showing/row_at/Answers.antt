@@ -2,5 +2,5 @@
 use Rattle.last_step.proofs.ShownRows.{spelled_at}
 use Rattle.last_step.proofs.showing.row_at.Goals as goal
 
-pub lane_value-requires-clause-spelled : goal.lane_value-requires-clause-spelled
-lane_value-requires-clause-spelled c = spelled_at c.args.items.now c.args.lane c.loop-item.item-index c.item-item.result c.loop-item-test.true c.item-item.is c.requires.spelled
+pub owned_value-requires : goal.owned_value-requires
+owned_value-requires c = spelled_at c.args.items.now c.args.lane c.loop-item.item-index c.item-item.result c.loop-item-test.true c.item-item.is c.requires

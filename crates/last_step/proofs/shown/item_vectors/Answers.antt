@@ -21,4 +21,4 @@ loop-item-preserved c =
     → Evaluates (meant_at item.expr rows) (λ i. is_among s.list i ≡ true) c.loop-item.fault.held c.eval_lanes.new.fault.held (lane_of c.in_ok-eval_lanes.field-0)) c.in_ok-lanes.ensures
     (λ types type rows typed fits. composed (meant_at item.expr rows) c.in_ok-lanes.lanes.list c.loop-item.fault.held c.eval_lanes.new.fault.held (lane_of c.in_ok-eval_lanes.field-0) (c.in_ok-eval_lanes.ensures.evaluated types type rows typed fits)) in
     next_vector c.args.plan.now c.args.batch.now c.args.kept.now k item c.args.fault.now.held c.loop-item.fault.held c.eval_lanes.new.fault.held c.loop-item.vectors.items c.push.new.self.items c.in_ok-eval_lanes.field-0
-    c.len-positions.ensures.sound c.requires below at composes c.in_ok-eval_lanes.ensures.typed c.in_ok-eval_lanes.ensures.long c.in_ok-push.ensures.items c.loop-item.invariant
+    c.len-positions.ensures.sound c.requires below at composes c.in_ok-push.ensures.items c.loop-item.invariant

@@ -5,7 +5,7 @@ use Rattle.blocks.specs.Block.{Block}
 use Rattle.fragment_file.specs.Lent.{blocks_in}
 use Rattle.fragment_file.specs.View.{rows_of}
 use Rattle.scan_select.specs.declared.buffers.ColumnBuffer.{ColumnBuffer}
-use Rattle.scan_select.specs.Buffers.{FitsGroup, filled, filled_now}
+use Rattle.scan_select.specs.Buffers.{FitsGroup, filled_now, filled_unless}
 use Rattle.scan_select.proofs.Filling.{all_fit_group, put_back}
 use Rattle.scan_select.proofs.scan.fill_now.Goals as goal
 
@@ -18,5 +18,5 @@ pub returns-in-Some : goal.returns-in-Some
 returns-in-Some g c =
     let stands = sym c.group.ensures.value ∙ ap (option_map blocks_in) c.in-Some.is in
     let buffers = c.args.buffers.now in
-    put_back (filled (blocks_in c.in-Some.group) c.args.first) buffers.items c.as_mut_slice.result.now c.fill_all.new.buffers buffers.len c.as_mut_slice.ensures.value c.as_mut_slice.ensures.len c.fill_all.ensures
-    ∙ sym (ap (λ (current : Option (List Block)). filled_now current c.args.first buffers.items) stands)
+    put_back (filled_unless c.args.packed.now (blocks_in c.in-Some.group) c.args.first) buffers.items c.as_mut_slice.result.now c.fill_all.new.buffers buffers.len c.as_mut_slice.ensures.value c.as_mut_slice.ensures.len c.fill_all.ensures
+    ∙ sym (ap (λ (current : Option (List Block)). filled_now c.args.packed.now current c.args.first buffers.items) stands)

@@ -1,20 +1,15 @@
 -- Proofs of the goals of `into_groups` (`table`).
-use Rattle.std.proofs.Common.{◌≡◌, ℕ, List, length, All, ap, subst, sym, ◌∙◌}
+use Rattle.std.proofs.Common.{◌≡◌, List, length, All, ap, subst, sym, ◌∙◌}
 use Rattle.meaning.specs.declared.answer.Group.{Group}
 use Rattle.meaning.specs.Order.{Row}
 use Rattle.accumulators.specs.Columns.{ColumnSpec}
-use Rattle.group_by.specs.Combined.{IsInOrder}
 use Rattle.group_by.specs.Groups.{all_rows}
 use Rattle.group_by.specs.Rows.{IsGroupOf}
 use Rattle.group_by.specs.Shape.{Shape, GroupsSpec, shape_with}
 use Rattle.group_by.proofs.Batches.{kinds_of}
 use Rattle.group_by.proofs.Own.{own_groups, own_rows}
-use Rattle.group_by.proofs.Handing.{all_heights, handed_out}
+use Rattle.group_by.proofs.Handing.{all_heights, handed_out, in_its_order}
 use Rattle.group_by.proofs.table.GroupTable.into_groups.Goals as goal
-
-in_its_order : {keys other_keys : List Row} {rows other_rows : List ℕ} {columns other_columns : List ColumnSpec} {groups : List Group}
-    → IsInOrder keys rows columns groups → keys ≡ other_keys → rows ≡ other_rows → columns ≡ other_columns → IsInOrder other_keys other_rows other_columns groups
-in_its_order {groups = groups} order same_keys same_rows same_columns = subst (λ (p : List Row × List ℕ × List ColumnSpec). IsInOrder p.0 p.1 p.2 groups) (λ i. (same_keys i, same_rows i, same_columns i)) order
 
 pub in_order-requires-clause-columns : goal.in_order-requires-clause-columns
 in_order-requires-clause-columns c =

@@ -4,25 +4,22 @@ use Rattle.std.specs.Prelude.{All}
 use Rattle.fragment_file.specs.declared.header.Header.{Header}
 use Rattle.meaning.proofs.VectorLengths.{vector_length_within}
 use Rattle.scan_select.specs.Buffers.{IsBufferOf, columns_of}
-use Rattle.scan_select.specs.Groups.{GroupsGoOn}
+use Rattle.scan_select.specs.Groups.{GroupsGoOn, current_rows}
 use Rattle.scan_select.specs.Pieces.{piece_now, pieces_behind}
 use Rattle.scan_select.specs.Scanned.{CountsRows, ScanSpec}
 use Rattle.scan_select.proofs.Advancing.{begins_group, counts_next, counts_same, next_group, no_group, same_group, some_stand, stays_in, still_stand}
-use Rattle.scan_select.proofs.Filling.{now_columns, stands_again}
+use Rattle.scan_select.proofs.Filling.{emptied_columns, stands_empty}
 use Rattle.scan_select.proofs.scan.Scan.advance.Goals as goal
-
-pub fill_now-requires : goal.fill_now-requires
-fill_now-requires g c = (c.self.inside.most, c.self.invariant.of_columns)
 
 pub invariant_of-self : goal.invariant_of-self
 invariant_of-self g c =
     let below = c.if-behind-group_rows.true in
-    stands_again _ c.self.inside.most _ c.self.inside.group_rows (c.self.inside.first + c.self.inside.rows) c.min-self-inside.result c.self.inside.buffers.items _ c.self.invariant.columns_within c.self.invariant.vectors c.self.invariant.group_rows_are
-    (omega (arith, below)) c.min-self-inside.ensures c.self.invariant.of_columns c.fill_now.ensures
+    stands_empty _ c.self.inside.most _ c.self.inside.group_rows (c.self.inside.first + c.self.inside.rows) c.min-self-inside.result c.self.inside.buffers.items _ c.self.invariant.columns_within c.self.invariant.vectors c.self.invariant.group_rows_are
+    (omega (arith, below)) c.min-self-inside.ensures c.self.invariant.of_columns c.empty_buffers.ensures
 
 pub returns-then-behind-group_rows-clause-columns : goal.returns-then-behind-group_rows-clause-columns
 returns-then-behind-group_rows-clause-columns g c =
-    ap columns_of c.fill_now.ensures ∙ now_columns _ (c.self.inside.first + c.self.inside.rows) c.self.inside.buffers.items ∙ ap (λ (s : ScanSpec _). s.columns) c.self.view_is
+    ap columns_of c.empty_buffers.ensures ∙ emptied_columns c.self.inside.buffers.items ∙ ap (λ (s : ScanSpec _). s.columns) c.self.view_is
 
 pub returns-then-behind-group_rows-clause-told : goal.returns-then-behind-group_rows-clause-told
 returns-then-behind-group_rows-clause-told g c =
@@ -47,21 +44,17 @@ returns-then-behind-group_rows-clause-stays g c =
     rw (← c.self.view_is) (stays_in c.self.inside.most (g.G.RowGroups.current c.self.inside.groups) c.self.inside.group_rows c.self.inside.first c.self.inside.rows c.min-self-inside.result
     (vector_length_within c.self.inside.most c.self.invariant.vectors).0 c.self.invariant.group_rows_are c.if-behind-group_rows.true c.self.invariant.full)
 
-pub fill_now-requires-in-Ok : goal.fill_now-requires-in-Ok
-fill_now-requires-in-Ok g c =
-    (c.self.inside.most, subst (λ (h : Header). All (IsBufferOf h.columns c.self.inside.most) c.self.inside.buffers.items) (sym c.advance.ensures.same) c.self.invariant.of_columns)
-
 pub invariant_of-self-in-Ok : goal.invariant_of-self-in-Ok
 invariant_of-self-in-Ok g c =
     let of_columns = subst (λ (h : Header). All (IsBufferOf h.columns c.self.inside.most) c.self.inside.buffers.items) (sym c.advance.ensures.same) c.self.invariant.of_columns in
     let below = subst (λ (h : Header). All (λ p. p < length h.columns) (columns_of c.self.inside.buffers.items)) (sym c.advance.ensures.same) c.self.invariant.columns_within in
     let size = c.min-self-inside-in-Ok.ensures in
-    stands_again _ c.self.inside.most _ c.rows_now-self-inside.result 0 c.min-self-inside-in-Ok.result c.self.inside.buffers.items _ below c.self.invariant.vectors c.rows_now-self-inside.ensures.value
-    (omega arith) (omega (arith, size)) of_columns c.fill_now-in-Ok.ensures
+    stands_empty _ c.self.inside.most _ c.rows_now-self-inside.result 0 c.min-self-inside-in-Ok.result c.self.inside.buffers.items _ below c.self.invariant.vectors c.rows_now-self-inside.ensures.value
+    (omega arith) (omega (arith, size)) of_columns c.empty_buffers.ensures
 
 pub returns-in-Ok-clause-columns : goal.returns-in-Ok-clause-columns
 returns-in-Ok-clause-columns g c =
-    ap columns_of c.fill_now-in-Ok.ensures ∙ now_columns _ 0 c.self.inside.buffers.items ∙ ap (λ (s : ScanSpec _). s.columns) c.self.view_is
+    ap columns_of c.empty_buffers.ensures ∙ emptied_columns c.self.inside.buffers.items ∙ ap (λ (s : ScanSpec _). s.columns) c.self.view_is
 
 pub returns-in-Ok-clause-told : goal.returns-in-Ok-clause-told
 returns-in-Ok-clause-told g c =
@@ -80,6 +73,17 @@ returns-in-Ok-clause-told g c =
 pub returns-in-Ok-clause-stands : goal.returns-in-Ok-clause-stands
 returns-in-Ok-clause-stands g c =
     some_stand c.self.inside.most c.rows_now-self-inside.result c.min-self-inside-in-Ok.result c.in-Ok.more _ (vector_length_within c.self.inside.most c.self.invariant.vectors).0 c.in-Ok.ensures.stands c.rows_now-self-inside.ensures.some c.min-self-inside-in-Ok.ensures
+
+pub invariant_of-self-in-Err : goal.invariant_of-self-in-Err
+invariant_of-self-in-Err g c =
+    let of_columns = subst (λ (h : Header). All (IsBufferOf h.columns c.self.inside.most) c.self.inside.buffers.items) (sym c.advance.ensures.same) c.self.invariant.of_columns in
+    let below = subst (λ (h : Header). All (λ p. p < length h.columns) (columns_of c.self.inside.buffers.items)) (sym c.advance.ensures.same) c.self.invariant.columns_within in
+    stands_empty _ c.self.inside.most (g.G.RowGroups.current c.advance.new.self) 0 0 0 c.self.inside.buffers.items _ below c.self.invariant.vectors (sym (ap current_rows c.in-Err.ensures.none))
+    (omega arith) (omega arith) of_columns c.empty_buffers.ensures
+
+pub returns-in-Err-clause-columns : goal.returns-in-Err-clause-columns
+returns-in-Err-clause-columns g c =
+    ap columns_of c.empty_buffers.ensures ∙ emptied_columns c.self.inside.buffers.items ∙ ap (λ (s : ScanSpec _). s.columns) c.self.view_is
 
 pub returns-in-Err-clause-told : goal.returns-in-Err-clause-told
 returns-in-Err-clause-told g c =

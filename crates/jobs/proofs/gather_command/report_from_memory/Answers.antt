@@ -1,7 +1,7 @@
--- Proofs of the goals of `gather_answers` (`gather_command`).
+-- Proofs of the goals of `report_from_memory` (`gather_command`).
 use Rattle.std.proofs.Common.{inl}
 use Rattle.std.proofs.lemmas.Result.{err_from_is_err_and}
-use Rattle.jobs.proofs.gather_command.gather_answers.Goals as goal
+use Rattle.jobs.proofs.gather_command.report_from_memory.Goals as goal
 
 pub returns-in_err-gather-clause-refused : goal.returns-in_err-gather-clause-refused
 returns-in_err-gather-clause-refused g c =

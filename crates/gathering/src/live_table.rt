@@ -1,0 +1,69 @@
+//! A table of groups that takes more of them, or stays as it was.
+ghost use Rattle.std.specs.Prelude.{◌≡◌, IfOk, OnErr, OnOk};
+ghost use Rattle.group_by.specs.Groups.{with_groups};
+ghost use Rattle.gathering.specs.Totals.{CanTake};
+
+use aggregate_states::Group;
+use group_by::GroupTable;
+use std::alloc::{AllocError, Global};
+use std::marker::Model;
+use std::mem::replace;
+
+/// A table of groups, which is all that contracts see. Merging into a table can't be undone where
+/// memory runs out, so groups go into its copy first. That is then the table, and the one before it
+/// takes the same groups and is the copy: so no table is copied anew while memory is there.
+#[derive(Drop)]
+pub struct LiveTable {
+    table: GroupTable,
+    copy: Option<GroupTable>,
+}
+
+impl Model for LiveTable {
+    ghost use Rattle.std.specs.Prelude.{◌≡◌, IfSome};
+    ghost use Rattle.group_by.specs.Shape.{GroupsSpec};
+
+    ghost Value = { GroupsSpec };
+
+    ghost view = { λ t. t.table };
+
+    ghost invariant = { λ t. IfSome t.copy (λ c. c ≡ t.table) };
+}
+
+impl LiveTable {
+    /// The table, without a copy yet.
+    pub fn of(table: GroupTable) -> LiveTable
+        ensures { result ≡ table }
+    {
+        LiveTable { table, copy: None }
+    }
+
+    /// The table.
+    pub fn table(&self) -> &GroupTable
+        ensures { result.now ≡ self.now }
+    {
+        &self.table
+    }
+
+    /// A copy that may be given up.
+    fn take_copy(&mut self, alloc: Global) -> Result<GroupTable, AllocError>
+        ensures copy { IfOk result (λ t. t ≡ self.old) }
+        ensures unchanged { self.new ≡ self.old }
+    {
+        match self.copy.take() {
+            Some(copy) => Ok(copy),
+            None => self.table.copy(alloc),
+        }
+    }
+
+    /// Takes groups, each merged with that of its key. On an error nothing changes.
+    pub fn take(&mut self, alloc: Global, groups: &[Group]) -> Result<(), AllocError>
+        requires { CanTake self.old groups.now }
+        ensures taken { OnOk result (self.new ≡ with_groups self.old groups.now) }
+        ensures unchanged { OnErr result (self.new ≡ self.old) }
+    {
+        let changed = self.take_copy(alloc)?.absorb_groups(alloc, groups)?;
+        let before = replace(&mut self.table, changed);
+        self.copy = before.absorb_groups(alloc, groups).ok();
+        Ok(())
+    }
+}

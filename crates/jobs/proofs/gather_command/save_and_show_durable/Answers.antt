@@ -1,0 +1,10 @@
+-- Proofs of the goals of `save_and_show_durable` (`gather_command`).
+use Rattle.std.proofs.Common.{inr, subst, sym, true}
+use Rattle.jobs.specs.Gathering.{IsUnkept}
+use Rattle.jobs.proofs.Gathered.{not_lent}
+use Rattle.jobs.proofs.gather_command.save_and_show_durable.Goals as goal
+
+pub returns-in-Err-clause-refused : goal.returns-in-Err-clause-refused
+returns-in-Err-clause-refused g c =
+    inr (subst (IsUnkept true) (sym c.refusal_of.ensures)
+    (not_lent c.args.durable.now.is_open c.gather.result c.in-Err.fault c.gather.ensures.given c.gather.ensures.again c.in-Err.is))

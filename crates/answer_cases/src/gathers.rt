@@ -2,6 +2,7 @@
 ghost use Rattle.std.specs.Prelude.{◌≡◌, IfOk, IfSome, length};
 ghost use Rattle.meaning.specs.SoundPlan.{IsSoundPlan};
 
+use crate::failing_writers::show_failing;
 use crate::jobs::{NO_JOB, job_of};
 use case_files::{StoredFile, find, show_printed, words};
 use gathering::{Absorbed, Gather, GatherFault, Report};
@@ -208,6 +209,8 @@ fn show_bare(
         ["report"] => report(alloc, gather, shown),
         ["print"] => print(alloc, gather, shown),
         ["preview"] => preview(alloc, gather, shown),
+        ["print-failing"] => show_failing(alloc, gather, false, shown),
+        ["preview-failing"] => show_failing(alloc, gather, true, shown),
         ["merges"] => writeln!(shown, "{} merged", gather.merges()),
         ["join-new", job @ ..] => join_other(alloc, gather, Origin { job, state: None }, shown),
         _ => show_unknown(shown, event),

@@ -5,6 +5,7 @@
 mod accounts;
 mod answers;
 mod event_lists;
+mod failing_writers;
 mod gathers;
 mod jobs;
 mod random_schedules;

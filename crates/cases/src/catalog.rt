@@ -1,6 +1,6 @@
 //! Cases about catalogues.
 use crate::refusals::refusal_line;
-use case_files::escaped_bytes;
+use case_files::{bytes_of, escaped_bytes};
 use catalog_reader::read_catalog;
 use folders::Refusal;
 use meaning::{Catalog, ColType, Column, Dimension, Table};
@@ -60,12 +60,22 @@ fn show_bytes(alloc: Global, text: &[u8]) -> Result<String, AllocError> {
     }
 }
 
-/// The same of a record: its lines are the catalogue's, or escaped bytes where the word behind the
-/// kind says so.
+// Of bytes in hexadecimal digits, as those of a file are.
+fn show_coded(alloc: Global, body: &str) -> Result<String, AllocError> {
+    match bytes_of(alloc, body)? {
+        Some(bytes) => show_bytes(alloc, bytes.as_slice()),
+        None => String::from_str(alloc, "no bytes\n"),
+    }
+}
+
+/// The same of a record: its lines are the catalogue's, or escaped bytes or bytes where the word
+/// behind the kind says so.
 pub fn show(alloc: Global, words: &[&str], body: &str) -> Result<String, AllocError> {
     if words.first() == Some(&"escaped") {
         let text = escaped_bytes(alloc, body)?;
         show_bytes(alloc, text.as_slice())
+    } else if words.first() == Some(&"bytes") {
+        show_coded(alloc, body)
     } else {
         show_bytes(alloc, body.as_bytes())
     }

@@ -12,6 +12,7 @@ mod refusals;
 mod sql;
 mod stored_disk;
 mod stored_folder;
+mod stored_listing;
 mod tally;
 
 use crate::tally::{Tally, run_cases};

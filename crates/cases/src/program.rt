@@ -9,6 +9,7 @@ use std::alloc::{AllocError, Global};
 use std::cell::RefCell;
 use std::fmt::Write;
 use std::mem::drop;
+use tools::Tool;
 
 /// No file of a case has as many pieces.
 const MOST_CALLS: u32 = 10_000;
@@ -147,6 +148,14 @@ fn run_command(
     }
     let shown = show_outcome(alloc, &outcome, &folder);
     drop(outcome);
+    ran_over(shown, folder)
+}
+
+// What was shown of a run over a folder, with the files that changed there.
+fn ran_over(
+    shown: Result<String, AllocError>,
+    folder: StoredFolder<'_>,
+) -> Result<Ran, AllocError> {
     let StoredFolder {
         removed,
         written,
@@ -166,6 +175,22 @@ fn run_command(
     }
 }
 
+// Keeps the files that a run changed.
+fn keep(ran: Ran, files: &mut Vec<StoredFile>) -> Result<String, AllocError> {
+    let Ran {
+        shown,
+        written,
+        removed,
+    } = ran;
+    match change(files, removed, written) {
+        Ok(()) => Ok(shown),
+        Err(error) => {
+            drop(shown);
+            Err(error)
+        }
+    }
+}
+
 fn show_command(
     alloc: Global,
     command: &Command,
@@ -174,18 +199,35 @@ fn show_command(
 ) -> Result<String, AllocError>
     requires { IsInRange command.now }
 {
-    let Ran {
-        shown,
-        written,
-        removed,
-    } = run_command(alloc, command, files.as_slice(), host)?;
-    match change(files, removed, written) {
-        Ok(()) => Ok(shown),
-        Err(error) => {
-            drop(shown);
-            Err(error)
-        }
-    }
+    let ran = run_command(alloc, command, files.as_slice(), host)?;
+    keep(ran, files)
+}
+
+// What a tool shows, and the files that it wrote.
+fn run_tool(
+    alloc: Global,
+    tool: &Tool,
+    files: &[StoredFile],
+    host: Host<'_>,
+) -> Result<Ran, AllocError> {
+    let journal = RefCell::new(Vec::new(alloc));
+    let mut folder = StoredFolder::new(alloc, files, &journal, host);
+    let (mut out, mut err) = (Vec::new(alloc), Vec::new(alloc));
+    let status = tools::run(alloc, tool, &mut folder, &mut out, &mut err);
+    let outcome = Outcome { status, out, err };
+    let shown = show_outcome(alloc, &outcome, &folder);
+    drop(outcome);
+    ran_over(shown, folder)
+}
+
+fn show_tool(
+    alloc: Global,
+    tool: &Tool,
+    files: &mut Vec<StoredFile>,
+    host: Host<'_>,
+) -> Result<String, AllocError> {
+    let ran = run_tool(alloc, tool, files.as_slice(), host)?;
+    keep(ran, files)
 }
 
 // What the command shows whose reader of one file fails at its first call, at its second, and so on,
@@ -225,6 +267,24 @@ fn put_next(shown: &mut String, next: &str) -> Result<(), AllocError> {
 /// What the program prints and writes where it is asked by these words, over the files so far. What
 /// it writes stands among them afterwards.
 pub fn show(
+    alloc: Global,
+    words: &[&str],
+    files: &mut Vec<StoredFile>,
+    host: Host<'_>,
+) -> Result<String, AllocError> {
+    match tools::asked(alloc, words) {
+        Ok(Some(tool)) => {
+            let shown = show_tool(alloc, &tool, files, host);
+            drop(tool);
+            shown
+        }
+        Ok(None) => show_other(alloc, words, files, host),
+        Err(fault) => show_usage(alloc, &fault),
+    }
+}
+
+// The same of words that ask for no tool.
+fn show_other(
     alloc: Global,
     words: &[&str],
     files: &mut Vec<StoredFile>,

@@ -39,6 +39,11 @@ impl<'a> StoredFolder<'a> {
         }
     }
 
+    /// The files that stand there.
+    pub fn files(&self) -> &[StoredFile] {
+        self.files
+    }
+
     /// Puts the file that was written in place among those that were written, unless its bytes are
     /// those that it had.
     pub fn keep_journal(&mut self, path: &str) -> Result<(), AllocError> {

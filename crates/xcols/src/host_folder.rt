@@ -1,6 +1,7 @@
 //! The files of the host.
 use crate::file_disk::FileDisk;
 use crate::part_file::{Part, PartFile};
+use crate::progress::{Progress, Watched};
 use cli::Folder;
 use std::alloc::Global;
 use std::fs::{File, OpenOptions};
@@ -17,16 +18,31 @@ use std::{fs, io};
 pub struct HostFolder<'a, R> {
     alloc: Global,
     files: &'a R,
+    progress: Option<&'a Progress<'a>>,
 }
 
 impl<'a, R: Files> HostFolder<'a, R> {
-    pub fn new(alloc: Global, files: &'a R) -> HostFolder<'a, R> {
-        HostFolder { alloc, files }
+    /// With a progress, each file that is read says how far it has come.
+    pub fn new(
+        alloc: Global,
+        files: &'a R,
+        progress: Option<&'a Progress<'a>>,
+    ) -> HostFolder<'a, R> {
+        HostFolder {
+            alloc,
+            files,
+            progress,
+        }
+    }
+
+    /// The files of the host.
+    pub fn files(&self) -> &R {
+        self.files
     }
 }
 
 impl<'a, R: Files<File = File>> Folder for HostFolder<'a, R> {
-    type Reader = File;
+    type Reader = Watched<'a>;
 
     type Writer = PartFile<'a, R>;
 
@@ -34,8 +50,8 @@ impl<'a, R: Files<File = File>> Folder for HostFolder<'a, R> {
 
     type Disk = FileDisk;
 
-    fn open(&self, path: &str) -> io::Result<File> {
-        fs::open(self.files, path)
+    fn open(&self, path: &str) -> io::Result<Watched<'a>> {
+        Ok(Watched::new(fs::open(self.files, path)?, self.progress))
     }
 
     // One that another program has locked can't be opened.

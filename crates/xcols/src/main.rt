@@ -1,25 +1,23 @@
 //! The program `xcols`: queries over a star of tables that lies in a folder of the host.
 #![tactic(auto)]
 
-ghost use Rattle.std.specs.Prelude.{IfOk};
-ghost use Rattle.command_line.specs.Command.{IsInRange};
+ghost use Rattle.xcols.specs.Request.{IsRequestInRange};
 
+mod asking;
 mod file_disk;
 mod host_folder;
+mod host_listing;
 mod part_file;
+mod progress;
 
+use crate::asking::{Request, asked};
 use crate::host_folder::HostFolder;
-use cli::{Command, UsageFault, command, run};
-use std::env;
+use crate::progress::Progress;
 use std::process::ExitCode;
 
 fn main(rt: HostRuntime) -> ExitCode {
     match asked(&rt) {
-        Ok(command) => {
-            let mut folder = HostFolder::new(rt.alloc(), &rt);
-            let (mut out, mut err) = (rt.stdout(), rt.stderr());
-            ExitCode::from(run(rt.alloc(), &command, &mut folder, &mut out, &mut err))
-        }
+        Ok((request, is_watched)) => ExitCode::from(run_watched(&rt, &request, is_watched)),
         Err(fault) => {
             // A closed standard error leaves nobody to print.
             let _ = eprint!(rt; "{fault}");
@@ -28,10 +26,29 @@ fn main(rt: HostRuntime) -> ExitCode {
     }
 }
 
-fn asked(rt: &HostRuntime) -> Result<Command, UsageFault>
-    ensures { IfOk result IsInRange }
+fn run_watched(rt: &HostRuntime, request: &Request, is_watched: bool) -> u8
+    requires { IsRequestInRange request.now }
 {
-    let words: Vec<String> = env::args(rt)?.skip(1).collect(rt.alloc())?;
-    let words: Vec<&str> = words.iter().map(|word| word.as_str()).collect(rt.alloc())?;
-    command(rt.alloc(), words.as_slice())
+    if !is_watched {
+        return run_request(rt, request, None);
+    }
+    // Without a clock there is no progress.
+    let Ok(progress) = Progress::new(rt) else {
+        return run_request(rt, request, None);
+    };
+    let status = run_request(rt, request, Some(&progress));
+    progress.end();
+    status
+}
+
+fn run_request(rt: &HostRuntime, request: &Request, progress: Option<&Progress<'_>>) -> u8
+    requires { IsRequestInRange request.now }
+{
+    let alloc = rt.alloc();
+    let mut folder = HostFolder::new(alloc, rt, progress);
+    let (mut out, mut err) = (rt.stdout(), rt.stderr());
+    match request {
+        Request::Tool(tool) => tools::run(alloc, tool, &mut folder, &mut out, &mut err),
+        Request::Command(command) => cli::run(alloc, command, &mut folder, &mut out, &mut err),
+    }
 }

@@ -1,0 +1,14 @@
+//! The plan of a query as text: its operators, and where each of its conditions is tested.
+#![tactic(auto)]
+
+mod column_types;
+mod explaining;
+mod expressions;
+mod names;
+mod operators;
+mod outline;
+mod placing;
+mod pointing;
+
+pub use explaining::{explain, explanation};
+pub use placing::{Place, place_of};

@@ -1,0 +1,71 @@
+//! The signs and words of operators and literals.
+use meaning::{AggregateKind, ArithmeticOperator, ColType, ComparisonOperator, Value};
+use sql_syntax::Level;
+use std::alloc::AllocError;
+
+/// The rule that gives an operator of arithmetic.
+pub fn level_of(operator: ArithmeticOperator) -> Level {
+    match operator {
+        ArithmeticOperator::Add | ArithmeticOperator::Subtract => Level::Sum,
+        ArithmeticOperator::Multiply | ArithmeticOperator::Divide => Level::Term,
+    }
+}
+
+pub fn arithmetic_sign(operator: ArithmeticOperator) -> &'static str {
+    match operator {
+        ArithmeticOperator::Add => " + ",
+        ArithmeticOperator::Subtract => " - ",
+        ArithmeticOperator::Multiply => " * ",
+        ArithmeticOperator::Divide => " / ",
+    }
+}
+
+pub fn comparison_sign(operator: ComparisonOperator) -> &'static str {
+    match operator {
+        ComparisonOperator::Equal => " = ",
+        ComparisonOperator::NotEqual => " <> ",
+        ComparisonOperator::Less => " < ",
+        ComparisonOperator::LessOrEqual => " <= ",
+        ComparisonOperator::Greater => " > ",
+        ComparisonOperator::GreaterOrEqual => " >= ",
+    }
+}
+
+/// What stands before an aggregate's argument.
+pub fn aggregate_word(kind: AggregateKind) -> &'static str {
+    match kind {
+        AggregateKind::CountRows | AggregateKind::Count => "COUNT(",
+        AggregateKind::Sum => "SUM(",
+        AggregateKind::Min => "MIN(",
+        AggregateKind::Max => "MAX(",
+        AggregateKind::Avg => "AVG(",
+    }
+}
+
+/// A type, in the catalogue's word.
+pub fn type_word(col_type: ColType) -> &'static str {
+    match col_type {
+        ColType::Int => "int",
+        ColType::Text => "text",
+    }
+}
+
+/// Writes a text between quotes, with each quote in it twice.
+pub fn put_text(out: &mut String, content: &str) -> Result<(), AllocError> {
+    out.push_str("'")?;
+    for character in content.chars() {
+        match character {
+            '\'' => out.push_str("''")?,
+            other => out.push(other)?,
+        }
+    }
+    out.push_str("'")
+}
+
+pub fn put_literal(out: &mut String, value: &Value) -> Result<(), AllocError> {
+    match value {
+        Value::Null => out.push_str("NULL"),
+        Value::Int(number) => write!(out, "{number}"),
+        Value::Text(text) => put_text(out, text.as_str()),
+    }
+}

@@ -1,0 +1,337 @@
+//! A plan as an indented tree, one operator a line.
+use crate::column_types::type_over;
+use crate::expressions::{phrase_aggregates, phrase_keys, put};
+use crate::names::{NamedTable, Names, Phrase};
+use crate::operators::type_word;
+use crate::placing::{Place, count_leading, place_of};
+use meaning::{Expr, Item, OrderKey, Plan};
+use sql_syntax::Query;
+use std::alloc::{AllocError, Global};
+use std::mem::drop;
+
+/// Lines of a tree: each operator stands one step further in than the one that takes its rows.
+#[derive(Drop)]
+struct OperatorLines {
+    text: String,
+    depth: usize,
+}
+
+impl OperatorLines {
+    fn indent(&mut self) -> Result<(), AllocError> {
+        for _ in 0..self.depth {
+            self.text.push_str("  ")?;
+        }
+        Ok(())
+    }
+
+    /// Begins the line of an operator.
+    fn begin(&mut self, word: &str) -> Result<(), AllocError> {
+        self.indent()?;
+        self.depth = self.depth.saturating_add(1);
+        self.text.push_str(word)
+    }
+
+    fn end(&mut self) -> Result<(), AllocError> {
+        self.text.push_str("\n")
+    }
+
+    fn put_limit(&mut self, limit: Option<u64>) -> Result<(), AllocError> {
+        let Some(limit) = limit else {
+            return Ok(());
+        };
+        self.begin("limit ")?;
+        let text = &mut self.text;
+        write!(text, "{limit}")?;
+        self.end()
+    }
+
+    fn put_order_key(&mut self, items: &[Item], key: &OrderKey) -> Result<(), AllocError> {
+        match items.get(key.item) {
+            Some(item) => self.text.push_str(item.header.as_str())?,
+            None => self.text.push_str("?")?,
+        }
+        self.text
+            .push_str(if key.descending { " DESC" } else { "" })
+    }
+
+    fn put_sort(&mut self, items: &[Item], order: &[OrderKey]) -> Result<(), AllocError> {
+        if order.is_empty() {
+            return Ok(());
+        }
+        self.begin("sort")?;
+        let mut between = " ";
+        for key in order {
+            self.text.push_str(between)?;
+            self.put_order_key(items, key)?;
+            between = ", ";
+        }
+        self.end()
+    }
+
+    /// An item, with its header where that isn't its text.
+    fn put_item(
+        &mut self,
+        alloc: Global,
+        names: &Names<'_>,
+        item: &Item,
+    ) -> Result<(), AllocError> {
+        let mut text = String::new(alloc);
+        put(&mut text, names, &item.expr)?;
+        self.text.push_str(text.as_str())?;
+        let header = item.header.as_str();
+        if text.as_str() == header {
+            return Ok(());
+        }
+        self.text.push_str(" AS ")?;
+        self.text.push_str(header)
+    }
+
+    fn put_project(
+        &mut self,
+        alloc: Global,
+        names: &Names<'_>,
+        items: &[Item],
+    ) -> Result<(), AllocError> {
+        self.begin("project")?;
+        let mut between = " ";
+        for item in items {
+            self.text.push_str(between)?;
+            self.put_item(alloc, names, item)?;
+            between = ", ";
+        }
+        self.end()
+    }
+
+    fn put_having(&mut self, names: &Names<'_>, having: &Option<Expr>) -> Result<(), AllocError> {
+        let Some(condition) = having else {
+            return Ok(());
+        };
+        self.begin("having ")?;
+        put(&mut self.text, names, condition)?;
+        self.end()
+    }
+
+    fn put_phrases(&mut self, phrases: &[Phrase], word: &str) -> Result<(), AllocError> {
+        let mut between = word;
+        for phrase in phrases {
+            self.text.push_str(between)?;
+            self.text.push_str(phrase.text.as_str())?;
+            between = ", ";
+        }
+        Ok(())
+    }
+
+    fn put_aggregate(&mut self, names: &Names<'_>) -> Result<(), AllocError> {
+        self.begin("aggregate")?;
+        self.put_phrases(names.aggregates.as_slice(), " ")?;
+        self.put_phrases(names.keys.as_slice(), " by ")?;
+        self.end()
+    }
+
+    /// How a condition is tested.
+    fn put_place(
+        &mut self,
+        names: &Names<'_>,
+        place: Place,
+        leads: bool,
+    ) -> Result<(), AllocError> {
+        match place {
+            Place::Dimension(join) => self.put_marks(names, join, leads),
+            Place::Blocks(column) => {
+                self.text.push_str("on blocks of ")?;
+                names.put_column(&mut self.text, &names.fact, column)?;
+                self.text.push_str(" that have entries, else on rows")
+            }
+            Place::Rows => self.text.push_str("on rows"),
+        }
+    }
+
+    /// A condition on a dimension's rows, which leaves a mark for each.
+    fn put_marks(&mut self, names: &Names<'_>, join: usize, leads: bool) -> Result<(), AllocError> {
+        self.text.push_str("ahead on the rows of ")?;
+        match names.dims.get(join) {
+            Some(table) => self.text.push_str(table.called)?,
+            None => self.text.push_str("?")?,
+        }
+        self.text.push_str(if leads {
+            ", by marks at its lookup"
+        } else {
+            ", by marks in this place"
+        })
+    }
+
+    /// The line of a condition, which has this number.
+    fn put_condition(
+        &mut self,
+        names: &Names<'_>,
+        condition: &Expr,
+        number: usize,
+        leads: bool,
+    ) -> Result<(), AllocError> {
+        self.indent()?;
+        let text = &mut self.text;
+        write!(text, "{number}. ")?;
+        put(&mut self.text, names, condition)?;
+        self.text.push_str(": ")?;
+        self.put_place(names, place_of(condition, names.dims.len()), leads)?;
+        self.end()
+    }
+
+    fn put_filter(&mut self, names: &Names<'_>, conditions: &[Expr]) -> Result<(), AllocError> {
+        if conditions.is_empty() {
+            return Ok(());
+        }
+        self.begin("filter")?;
+        self.end()?;
+        let leading = count_leading(conditions, names.dims.len());
+        for at in 0..conditions.len() {
+            self.put_condition(names, &conditions[at], at + 1, at < leading)?;
+        }
+        Ok(())
+    }
+
+    /// A table's name, with the one that it goes by, and the columns that are read of it.
+    fn put_table(&mut self, named: &NamedTable<'_>) -> Result<(), AllocError> {
+        let name = named.table.name.as_str();
+        self.text.push_str(name)?;
+        if name != named.called {
+            self.text.push_str(" AS ")?;
+            self.text.push_str(named.called)?;
+        }
+        self.put_columns(named)
+    }
+
+    fn put_columns(&mut self, named: &NamedTable<'_>) -> Result<(), AllocError> {
+        let columns = named.columns();
+        if columns.is_empty() {
+            return Ok(());
+        }
+        let mut between = " (";
+        for column in columns {
+            self.text.push_str(between)?;
+            self.text.push_str(column.name.as_str())?;
+            self.text.push_str(" ")?;
+            self.text.push_str(type_word(column.col_type))?;
+            between = ", ";
+        }
+        self.text.push_str(")")
+    }
+
+    fn put_join(
+        &mut self,
+        names: &Names<'_>,
+        table: &NamedTable<'_>,
+        foreign: usize,
+        key: usize,
+    ) -> Result<(), AllocError> {
+        self.begin("join ")?;
+        self.put_table(table)?;
+        self.text.push_str(" ON ")?;
+        names.put_column(&mut self.text, &names.fact, foreign)?;
+        self.text.push_str(" = ")?;
+        names.put_column(&mut self.text, table, key)?;
+        self.end()
+    }
+
+    /// The joins, the last of FROM first, since it takes the rows of those before it.
+    fn put_joins(&mut self, plan: &Plan, names: &Names<'_>) -> Result<(), AllocError> {
+        let joins = plan.joins.as_slice();
+        for at in (0..joins.len()).rev() {
+            if let Some(table) = names.dims.get(at) {
+                self.put_join(names, table, joins[at].foreign, joins[at].key)?;
+            }
+        }
+        Ok(())
+    }
+
+    fn put_scan(&mut self, names: &Names<'_>) -> Result<(), AllocError> {
+        self.begin("scan ")?;
+        self.put_table(&names.fact)?;
+        self.end()
+    }
+
+    fn put_groups(&mut self, plan: &Plan, names: &Names<'_>) -> Result<(), AllocError> {
+        if plan.plain {
+            return Ok(());
+        }
+        self.put_having(names, &plan.having)?;
+        self.put_aggregate(names)
+    }
+
+    /// What takes the groups.
+    fn put_shown(
+        &mut self,
+        alloc: Global,
+        plan: &Plan,
+        names: &Names<'_>,
+    ) -> Result<(), AllocError> {
+        let items = plan.items.as_slice();
+        self.put_limit(plan.limit)?;
+        self.put_sort(items, plan.order.as_slice())?;
+        self.put_project(alloc, names, items)
+    }
+
+    /// What gives the rows of groups.
+    fn put_rows(&mut self, plan: &Plan, names: &Names<'_>) -> Result<(), AllocError> {
+        self.put_filter(names, plan.conjuncts.as_slice())?;
+        self.put_joins(plan, names)?;
+        self.put_scan(names)
+    }
+
+    fn put_plan(
+        &mut self,
+        alloc: Global,
+        plan: &Plan,
+        names: &Names<'_>,
+    ) -> Result<(), AllocError> {
+        self.put_shown(alloc, plan, names)?;
+        self.put_groups(plan, names)?;
+        self.put_rows(plan, names)
+    }
+
+    /// The names and the types of what is printed.
+    fn put_printed(&mut self, plan: &Plan) -> Result<(), AllocError> {
+        let mut between = "columns: ";
+        for item in plan.items.as_slice() {
+            self.text.push_str(between)?;
+            self.text.push_str(item.header.as_str())?;
+            self.text.push_str(" ")?;
+            self.text.push_str(match type_over(plan, &item.expr) {
+                Some(col_type) => type_word(col_type),
+                None => "null",
+            })?;
+            between = ", ";
+        }
+        self.end()
+    }
+
+    fn put_text(&mut self, plan: &Plan) -> Result<(), AllocError> {
+        self.text.push_str("text: ")?;
+        self.text.push_str(plan.text.as_str())?;
+        self.end()
+    }
+}
+
+/// What the numbers of a plan are called in its query.
+fn names_of<'a>(alloc: Global, query: &'a Query, plan: &'a Plan) -> Result<Names<'a>, AllocError> {
+    let mut names = Names::of_tables(alloc, plan, &query.source)?;
+    let keys = phrase_keys(alloc, &names, plan.keys.as_slice())?;
+    let aggregates = phrase_aggregates(alloc, &names, plan.aggs.as_slice())?;
+    names.keys = keys;
+    names.aggregates = aggregates;
+    Ok(names)
+}
+
+/// The plan of a query as a tree, and behind it the columns of the report and the canonical text.
+pub fn outline(alloc: Global, query: &Query, plan: &Plan) -> Result<String, AllocError> {
+    let names = names_of(alloc, query, plan)?;
+    let mut lines = OperatorLines {
+        text: String::new(alloc),
+        depth: 0,
+    };
+    lines.put_plan(alloc, plan, &names)?;
+    lines.put_printed(plan)?;
+    lines.put_text(plan)?;
+    let OperatorLines { text, .. } = lines;
+    Ok(text)
+}

@@ -1,0 +1,98 @@
+//! Why no catalogue was made.
+use folders::Refusal;
+use loader::LoadFault;
+use meaning::{CatalogFault, CutFault, TableFault, Text};
+use std::alloc::{AllocError, AllocFailed};
+use thiserror::Error;
+
+/// Why no catalogue was made for a folder. Files are named by their paths; columns count from 1, as
+/// in a spreadsheet, and rows from 0 behind the header, as everywhere.
+#[derive(Debug, Drop, Error)]
+pub enum InitFault {
+    #[error("memory")]
+    Memory,
+    #[error("cannot read {0}")]
+    CannotRead(String),
+    #[error("cannot write {0}")]
+    CannotWrite(String),
+    #[error("cannot write standard error")]
+    CannotReport,
+    #[error("{0} is there already, and is never written over")]
+    CatalogThere(String),
+    #[error("{0} has no CSV file")]
+    NoFile(String),
+    #[error("there is no file {0} for the fact")]
+    NoFact(String),
+    #[error("{0} has no name of a table: at most 64 lower-case letters, digits and underscores, no digit in front, no word of SQL")]
+    TableName(String),
+    #[error("{file}: column {column} has no name: at most 64 letters, digits and underscores, no digit in front, no word of SQL")]
+    ColumnName { file: String, column: usize },
+    #[error("{file}: column {column} has the name of one before it")]
+    ColumnTwice { file: String, column: usize },
+    #[error("{0} has no header")]
+    NoHeader(String),
+    #[error("{0} has over 64 columns")]
+    TooManyColumns(String),
+    #[error("there are over 16 files beside the fact's")]
+    TooManyDimensions,
+    #[error("{0} can't be a dimension: it has no column whose values differ and are never NULL, for a key")]
+    NoKey(String),
+    #[error("{0} has over 4,294,967,296 rows")]
+    TooManyRows(String),
+    #[error("{file}: load {}: {fault}", fault.number())]
+    Table { file: String, fault: TableFault },
+}
+
+impl From<AllocError> for InitFault {
+    fn from(_: AllocError) -> InitFault {
+        InitFault::Memory
+    }
+}
+
+impl<T: Drop> From<AllocFailed<T>> for InitFault {
+    fn from(_: AllocFailed<T>) -> InitFault {
+        InitFault::Memory
+    }
+}
+
+/// Of a file that is read or written; no other refusal comes there.
+impl From<Refusal> for InitFault {
+    fn from(refusal: Refusal) -> InitFault {
+        match refusal {
+            Refusal::CannotRead(path) => InitFault::CannotRead(path.into_string()),
+            Refusal::CannotWrite(path) => InitFault::CannotWrite(path.into_string()),
+            _ => InitFault::Memory,
+        }
+    }
+}
+
+/// Of the text that was made, which is refused only where memory runs out.
+impl From<CatalogFault> for InitFault {
+    fn from(_: CatalogFault) -> InitFault {
+        InitFault::Memory
+    }
+}
+
+/// Why a table of a file was not loaded.
+pub fn of_load(file: &Text, fault: LoadFault) -> InitFault {
+    let Ok(file) = file.clone() else {
+        return InitFault::Memory;
+    };
+    let file = file.into_string();
+    match fault {
+        LoadFault::Memory => InitFault::Memory,
+        LoadFault::Table(fault) => InitFault::Table { file, fault },
+        LoadFault::Device => InitFault::CannotRead(file),
+    }
+}
+
+/// Why the rows of a file were not cut.
+pub fn of_cut(file: &Text, fault: CutFault) -> InitFault {
+    let Ok(file) = file.clone() else {
+        return InitFault::Memory;
+    };
+    match fault {
+        CutFault::Memory => InitFault::Memory,
+        _ => InitFault::TooManyRows(file.into_string()),
+    }
+}

@@ -1,0 +1,79 @@
+//! The columns that may be the key of a dimension.
+use crate::fault::{InitFault, of_load};
+use folders::{Folder, csv_path, open_file};
+use loader::{LoadFault, load_dimension};
+use meaning::{Dimension, Table, TableFault, Text};
+use std::alloc::Global;
+
+/// A dimension with its key, and the other columns that may be it.
+#[derive(Drop)]
+pub struct Keyed {
+    pub dimension: Dimension,
+    /// By their indexes.
+    pub others: Vec<usize>,
+}
+
+/// Whether the dimension's file loads under the key that it has now.
+fn has_key<F: Folder>(
+    alloc: Global,
+    folder: &F,
+    path: &Text,
+    dimension: &Dimension,
+) -> Result<bool, InitFault> {
+    let file = open_file(folder, path)?;
+    match load_dimension(alloc, dimension, file) {
+        Ok(_) => Ok(true),
+        Err(LoadFault::Table(TableFault::KeyTwice { .. })) => Ok(false),
+        Err(fault) => Err(of_load(path, fault)),
+    }
+}
+
+fn takes_null(table: &Table, index: usize) -> bool {
+    match table.columns.get(index) {
+        Some(column) => column.nullable,
+        None => true,
+    }
+}
+
+// The columns under which as a key the file loads.
+fn keys_of<F: Folder>(
+    alloc: Global,
+    folder: &F,
+    path: &Text,
+    dimension: &mut Dimension,
+) -> Result<Vec<usize>, InitFault> {
+    let mut keys = Vec::new(alloc);
+    for index in 0..dimension.table.columns.len() {
+        if takes_null(&dimension.table, index) {
+            continue;
+        }
+        dimension.key = index;
+        if has_key(alloc, folder, path, dimension)? {
+            keys.push(index)?;
+        }
+    }
+    Ok(keys)
+}
+
+/// The dimension that a table is, by the first of its columns whose values differ and are never
+/// NULL.
+///
+/// # Errors
+///
+/// Out of memory, a file that can't be read, the first fault from record to record, or no such
+/// column.
+pub fn with_key<F: Folder>(
+    alloc: Global,
+    folder: &F,
+    directory: &str,
+    table: Table,
+) -> Result<Keyed, InitFault> {
+    let path = csv_path(alloc, directory, table.name.as_str())?;
+    let mut dimension = Dimension { table, key: 0 };
+    let mut others = keys_of(alloc, folder, &path, &mut dimension)?;
+    if others.is_empty() {
+        return Err(InitFault::NoKey(String::from_str(alloc, path.as_str())?));
+    }
+    dimension.key = others.remove(0);
+    Ok(Keyed { dimension, others })
+}

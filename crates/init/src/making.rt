@@ -1,0 +1,170 @@
+//! The catalogue of a folder's CSV files.
+ghost use Rattle.std.specs.Prelude.{◌≡◌, ℕ, List, IfOk, OnErr, OnOk};
+ghost use Rattle.folders.specs.Folder.{WritesOne, catalog_path};
+ghost use Rattle.init.specs.Making.{IsCatalogFor};
+
+use crate::checking::check_catalog;
+use crate::choosing::{has_file, largest};
+use crate::fault::InitFault;
+use crate::keys::{Keyed, with_key};
+use crate::listing::{CsvFile, Listing};
+use crate::naming::check_table_name;
+use crate::paths::catalog_path;
+use crate::reading::read_table;
+use crate::reporting::{Reason, report_dimension, report_fact};
+use crate::writing::catalog_text;
+use folders::{Folder, csv_path, open_file, write_file};
+use meaning::{MAX_DIMENSIONS, Table, Text};
+use std::alloc::Global;
+use std::io::{ErrorKind, Write};
+
+// The folder's CSV files, by their names.
+fn listed<F: Listing>(
+    alloc: Global,
+    folder: &F,
+    directory: &str,
+) -> Result<Vec<CsvFile>, InitFault> {
+    let Ok(mut files) = folder.csv_files(alloc, directory) else {
+        return Err(InitFault::CannotRead(String::from_str(alloc, directory)?));
+    };
+    files.sort()?;
+    Ok(files)
+}
+
+// The table of a file.
+fn table_of<F: Folder>(
+    alloc: Global,
+    folder: &F,
+    directory: &str,
+    table: &str,
+) -> Result<Table, InitFault> {
+    let path = csv_path(alloc, directory, table)?;
+    check_table_name(alloc, path.as_str(), table)?;
+    let name = Text::new(alloc, table)?;
+    let file = open_file(folder, &path)?;
+    read_table(alloc, path.as_str(), name, file)
+}
+
+// The dimensions, of all files but the fact's.
+fn dimensions_of<F: Folder, E: Write>(
+    alloc: Global,
+    folder: &F,
+    directory: &str,
+    files: &[CsvFile],
+    fact: &str,
+    err: &mut E,
+) -> Result<Vec<Keyed>, InitFault> {
+    let mut dims = Vec::new(alloc);
+    for file in files {
+        if file.table.as_str() == fact {
+            continue;
+        }
+        let table = table_of(alloc, folder, directory, file.table.as_str())?;
+        let dimension = with_key(alloc, folder, directory, table)?;
+        report_dimension(alloc, &dimension, err)?;
+        dims.push(dimension)?;
+    }
+    Ok(dims)
+}
+
+// Which of the files is the fact's.
+fn fact_of<'a, E: Write>(
+    alloc: Global,
+    directory: &str,
+    files: &'a [CsvFile],
+    asked: Option<&'a str>,
+    err: &mut E,
+) -> Result<&'a str, InitFault> {
+    if let Some(asked) = asked {
+        if !has_file(files, asked) {
+            let path = csv_path(alloc, directory, asked)?;
+            return Err(InitFault::NoFact(String::from_str(alloc, path.as_str())?));
+        }
+        report_fact(asked, Reason::Asked, err)?;
+        return Ok(asked);
+    }
+    let Some(fact) = largest(files) else {
+        return Err(InitFault::NoFile(String::from_str(alloc, directory)?));
+    };
+    report_fact(fact, Reason::Largest, err)?;
+    Ok(fact)
+}
+
+fn text_for<F: Folder, E: Write>(
+    alloc: Global,
+    folder: &F,
+    directory: &str,
+    files: &[CsvFile],
+    fact: &str,
+    err: &mut E,
+) -> Result<String, InitFault> {
+    let table = table_of(alloc, folder, directory, fact)?;
+    let dims = dimensions_of(alloc, folder, directory, files, fact, err)?;
+    Ok(catalog_text(alloc, &table, dims.as_slice())?)
+}
+
+/// The text of a catalogue under which a folder's CSV files load. The fact is the table of this
+/// name, or that of the largest file; all others are dimensions. What was chosen is said on `err`.
+///
+/// # Errors
+///
+/// Out of memory, a file that can't be read, a name that no catalogue takes, and a table that is
+/// over a limit, has a fault in its records or, of a dimension, has no key.
+pub fn guess_catalog<F: Folder + Listing, E: Write>(
+    alloc: Global,
+    folder: &F,
+    directory: &str,
+    fact: Option<&str>,
+    err: &mut E,
+) -> Result<Text, InitFault>
+    ensures { IfOk result (IsCatalogFor (F.holds folder.now) directory.now) }
+{
+    let files = listed(alloc, folder, directory)?;
+    let fact = fact_of(alloc, directory, files.as_slice(), fact, err)?;
+    if files.len() > MAX_DIMENSIONS + 1 {
+        return Err(InitFault::TooManyDimensions);
+    }
+    let text = text_for(alloc, folder, directory, files.as_slice(), fact, err)?;
+    check_catalog(alloc, folder, directory, text.as_bytes())?;
+    Ok(Text::from_string(text))
+}
+
+// Refuses a path under which there is a file, or may be one.
+fn check_absent<F: Folder>(alloc: Global, folder: &F, path: &Text) -> Result<(), InitFault> {
+    match folder.open(path.as_str()) {
+        Ok(_) => Err(InitFault::CatalogThere(String::from_str(alloc, path.as_str())?)),
+        Err(error) => match error.kind() {
+            ErrorKind::NotFound => Ok(()),
+            ErrorKind::OutOfMemory => Err(InitFault::Memory),
+            _ => Err(InitFault::CannotRead(String::from_str(alloc, path.as_str())?)),
+        },
+    }
+}
+
+/// Writes the catalogue of a folder's CSV files, as `guess_catalog` gives it, where there is none.
+///
+/// # Errors
+///
+/// As those of `guess_catalog`, a catalogue that is there, or one that can't be written. No file
+/// has changed then.
+pub fn make_catalog<F: Folder + Listing, E: Write>(
+    alloc: Global,
+    folder: &mut F,
+    directory: &str,
+    fact: Option<&str>,
+    err: &mut E,
+) -> Result<(), InitFault>
+    ensures made { OnOk result ((text : List ℕ)
+        × IsCatalogFor (F.holds folder.old) directory.now text
+        × WritesOne (catalog_path directory.now) (λ given. given ≡ text) (F.wrote folder.old)
+        (F.wrote folder.new)) }
+    ensures unchanged { OnErr result (F.wrote folder.new ≡ F.wrote folder.old) }
+{
+    let path = catalog_path(alloc, directory)?;
+    check_absent(alloc, folder, &path)?;
+    let text = guess_catalog(alloc, folder, directory, fact, err)?;
+    match write_file(folder, &path, text.as_bytes()) {
+        Ok(()) => Ok(()),
+        Err(refusal) => Err(InitFault::from(refusal)),
+    }
+}

@@ -1,0 +1,53 @@
+//! The names that a catalogue takes.
+use crate::fault::InitFault;
+use meaning::{MAX_NAME_BYTES, Text, is_name, text_of};
+use std::alloc::{AllocError, Global};
+
+fn is_short_name(name: &[u8]) -> bool {
+    is_name(name) && name.len() <= MAX_NAME_BYTES
+}
+
+/// Refuses a file whose name is none of a table.
+pub fn check_table_name(alloc: Global, file: &str, table: &str) -> Result<(), InitFault> {
+    if is_short_name(table.as_bytes()) {
+        return Ok(());
+    }
+    Err(InitFault::TableName(String::from_str(alloc, file)?))
+}
+
+// The field in lower case, if it is a name.
+fn name_in(alloc: Global, field: &[u8]) -> Result<Option<Text>, AllocError> {
+    let Some(text) = text_of(field) else {
+        return Ok(None);
+    };
+    let name = Text::from_string(text.to_ascii_lowercase(alloc)?);
+    if !is_short_name(name.as_bytes()) {
+        return Ok(None);
+    }
+    Ok(Some(name))
+}
+
+/// The name of the column with this index, which is none of those before it.
+pub fn column_name(
+    alloc: Global,
+    file: &str,
+    before: &[Text],
+    index: usize,
+    field: &[u8],
+) -> Result<Text, InitFault> {
+    let Some(name) = name_in(alloc, field)? else {
+        let file = String::from_str(alloc, file)?;
+        return Err(InitFault::ColumnName {
+            file,
+            column: index.saturating_add(1),
+        });
+    };
+    if before.iter().any(|other| *other == name) {
+        let file = String::from_str(alloc, file)?;
+        return Err(InitFault::ColumnTwice {
+            file,
+            column: index.saturating_add(1),
+        });
+    }
+    Ok(name)
+}

@@ -1,0 +1,83 @@
+//! The parts of the program that refuse something by an error code.
+ghost use Rattle.std.specs.Prelude.{◌≡◌};
+ghost use Rattle.refusals.specs.Codes.{has_code, layer_of};
+
+/// A part of the program that refuses something by an error code.
+#[derive(Clone, Copy, Debug, Drop, PartialEq, Eq)]
+pub enum Layer {
+    Catalog,
+    Cut,
+    Sql,
+    Plan,
+    Load,
+    File,
+    Work,
+    Journal,
+    /// Of files that `gather` passes over.
+    Gather,
+}
+
+impl Layer {
+    /// All of them, in the order of the page.
+    pub const ALL: [Layer; 9] = [
+        Layer::Catalog,
+        Layer::Cut,
+        Layer::Sql,
+        Layer::Plan,
+        Layer::Load,
+        Layer::File,
+        Layer::Work,
+        Layer::Journal,
+        Layer::Gather,
+    ];
+
+    /// The layer of the word that stands in front of the error code.
+    pub fn of_word(word: &str) -> Option<Layer>
+        ensures { result ≡ layer_of word.now }
+    {
+        match word {
+            "catalog" => Some(Layer::Catalog),
+            "cut" => Some(Layer::Cut),
+            "sql" => Some(Layer::Sql),
+            "plan" => Some(Layer::Plan),
+            "load" => Some(Layer::Load),
+            "file" => Some(Layer::File),
+            "work" => Some(Layer::Work),
+            "journal" => Some(Layer::Journal),
+            "gather" => Some(Layer::Gather),
+            _ => None,
+        }
+    }
+
+    /// Its word, and its error codes for people.
+    pub fn codes(self) -> &'static str {
+        match self {
+            Layer::Catalog => "catalog 1 to 6",
+            Layer::Cut => "cut 1 to 3",
+            Layer::Sql => "sql 1 to 8",
+            Layer::Plan => "plan 1 to 11",
+            Layer::Load => "load 1 to 9",
+            Layer::File => "file 1 to 4 and 7",
+            Layer::Work => "work 1 to 5",
+            Layer::Journal => "journal 12 to 16",
+            Layer::Gather => "gather 1 to 10",
+        }
+    }
+
+    /// Whether the layer refuses anything by this error code.
+    pub fn has_code(self, number: u8) -> bool
+        ensures { result ≡ has_code self number }
+    {
+        match self {
+            Layer::Catalog => 1 <= number && number <= 6,
+            Layer::Cut => 1 <= number && number <= 3,
+            Layer::Sql => 1 <= number && number <= 8,
+            Layer::Plan => 1 <= number && number <= 11,
+            Layer::Load => 1 <= number && number <= 9,
+            Layer::File => (1 <= number && number <= 4) || number == 7,
+            Layer::Work => 1 <= number && number <= 5,
+            Layer::Journal => 12 <= number && number <= 16,
+            Layer::Gather => 1 <= number && number <= 10,
+        }
+    }
+}

@@ -1,0 +1,12 @@
+//! What each refusal means: the tables of `docs/REFUSALS.md`.
+#![tactic(auto)]
+
+mod entries;
+mod layers;
+mod lookup;
+mod table;
+
+pub use entries::Entry;
+pub use layers::Layer;
+pub use lookup::{entry, entry_of, print_known};
+pub use table::of_words;

@@ -1,0 +1,53 @@
+//! The entry of a refusal.
+ghost use Rattle.std.specs.Prelude.{◌≡◌, is_some};
+ghost use Rattle.refusals.specs.Codes.{has_code, is_known};
+
+use crate::entries::Entry;
+use crate::layers::Layer;
+use crate::table::{
+    of_catalog, of_cut, of_file, of_gather, of_journal, of_load, of_plan, of_sql, of_work,
+};
+use std::io;
+use std::io::Write;
+
+fn of_layer(layer: Layer, number: u8) -> Entry {
+    match layer {
+        Layer::Catalog => of_catalog(number),
+        Layer::Cut => of_cut(number),
+        Layer::Sql => of_sql(number),
+        Layer::Plan => of_plan(number),
+        Layer::Load => of_load(number),
+        Layer::File => of_file(number),
+        Layer::Work => of_work(number),
+        Layer::Journal => of_journal(number),
+        Layer::Gather => of_gather(number),
+    }
+}
+
+/// The entry of an error code of a layer.
+pub fn entry_of(layer: Layer, number: u8) -> Option<Entry>
+    ensures { is_some result ≡ has_code layer number }
+{
+    if !layer.has_code(number) {
+        return None;
+    }
+    Some(of_layer(layer, number))
+}
+
+/// The entry of the line of this word and this error code, as `sql` and 5.
+pub fn entry(word: &str, number: u8) -> Option<Entry>
+    ensures { is_some result ≡ is_known word.now number }
+{
+    match Layer::of_word(word) {
+        Some(layer) => entry_of(layer, number),
+        None => None,
+    }
+}
+
+/// Prints which refusals have an entry, a layer a line.
+pub fn print_known<W: Write>(out: &mut W) -> io::Result<()> {
+    for layer in Layer::ALL {
+        writeln!(out, "  {}", layer.codes())?;
+    }
+    out.write_all(b"  memory, cannot read, cannot write, cannot write standard output\n")
+}

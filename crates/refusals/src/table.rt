@@ -1,0 +1,402 @@
+//! What each line means by which a command is refused, or a file passed over.
+use crate::entries::Entry;
+
+/// A line without an error code, by its words.
+pub fn of_words(words: &str) -> Option<Entry> {
+    match words {
+        "memory" => Some(Entry {
+            lines: "memory",
+            meaning: "memory ran out",
+            smallest_input: "",
+            advice: "free memory, or load shorter fragments",
+        }),
+        "cannot read" => Some(Entry {
+            lines: "cannot read PATH",
+            meaning: "the file isn't there or can't be read; a journal can't be made or opened, or another run has it open",
+            smallest_input: "a folder without `catalog.txt`, or without a table's CSV file",
+            advice: "check the folder's name and its files",
+        }),
+        "cannot write" => Some(Entry {
+            lines: "cannot write PATH",
+            meaning: "the file can't be created, written, renamed or, of a fragment that a new cut doesn't have, removed",
+            smallest_input: "a folder without the right to write",
+            advice: "check rights and room on the disk; remove parts that killed runs left, `PATH.*.part`",
+        }),
+        "cannot write standard error" => Some(Entry {
+            lines: "cannot write standard error",
+            meaning: "standard error failed, on which a file that is passed over is named",
+            smallest_input: "a closed pipe",
+            advice: "",
+        }),
+        "cannot write standard output" => Some(Entry {
+            lines: "cannot write standard output",
+            meaning: "standard output failed",
+            smallest_input: "a closed pipe",
+            advice: "",
+        }),
+        _ => None,
+    }
+}
+
+pub fn of_catalog(number: u8) -> Entry {
+    match number {
+        1 => Entry {
+            lines: "catalog 1",
+            meaning: "the catalogue isn't UTF-8",
+            smallest_input: "a byte `FF`",
+            advice: "save it as UTF-8",
+        },
+        2 => Entry {
+            lines: "catalog 2 LINE",
+            meaning: "the line has no known form, or a name of another form",
+            smallest_input: "`column v int`",
+            advice: "write `fact N`, `dim N key C` or `col N TYPE [null]`",
+        },
+        3 => Entry {
+            lines: "catalog 3 LINE",
+            meaning: "the line declares a name for the second time",
+            smallest_input: "`col v int` twice",
+            advice: "rename one",
+        },
+        4 => Entry {
+            lines: "catalog 4",
+            meaning: "not just one fact table",
+            smallest_input: "no line `fact N`",
+            advice: "declare one",
+        },
+        5 => Entry {
+            lines: "catalog 5",
+            meaning: "a dimension's key column is missing, or may be NULL",
+            smallest_input: "`dim d key k` without a column `k`",
+            advice: "declare it without `null`",
+        },
+        _ => Entry {
+            lines: "catalog 6",
+            meaning: "a name over 64 bytes, a table with no column or over 64, or over 16 dimensions",
+            smallest_input: "`fact n` alone",
+            advice: "stay within the limits",
+        },
+    }
+}
+
+pub fn of_cut(number: u8) -> Entry {
+    match number {
+        1 | 3 => Entry {
+            lines: "cut 1, cut 3",
+            meaning: "no fragment; a fragment of over 1,048,576 rows",
+            smallest_input: "none: an even cut has neither",
+            advice: "",
+        },
+        _ => Entry {
+            lines: "cut 2",
+            meaning: "over 4,096 fragments",
+            smallest_input: "4,097 rows with `--rows 1`",
+            advice: "a greater `--rows`",
+        },
+    }
+}
+
+pub fn of_sql(number: u8) -> Entry {
+    match number {
+        1 => Entry {
+            lines: "sql 1",
+            meaning: "the query isn't UTF-8",
+            smallest_input: "none: such a word is a usage fault",
+            advice: "",
+        },
+        2 => Entry {
+            lines: "sql 2 OFFSET",
+            meaning: "a character that no token has",
+            smallest_input: "`SELECT #`",
+            advice: "",
+        },
+        3 => Entry {
+            lines: "sql 3 OFFSET",
+            meaning: "a text isn't closed; the offset is that of its opening quote",
+            smallest_input: "`SELECT 'a`",
+            advice: "close it",
+        },
+        4 => Entry {
+            lines: "sql 4 OFFSET",
+            meaning: "an integer out of range",
+            smallest_input: "`SELECT 9223372036854775808`",
+            advice: "",
+        },
+        5 => Entry {
+            lines: "sql 5 OFFSET",
+            meaning: "a token that isn't expected there",
+            smallest_input: "`SELECT FROM n`",
+            advice: "",
+        },
+        6 => Entry {
+            lines: "sql 6",
+            meaning: "a tree deeper than 128, or more than 256 brackets, CASEs, NOTs and minus signs open at once",
+            smallest_input: "257 brackets round a column",
+            advice: "",
+        },
+        7 => Entry {
+            lines: "sql 7",
+            meaning: "the query, or its canonical text, has over 65,535 bytes",
+            smallest_input: "a long comment",
+            advice: "",
+        },
+        _ => Entry {
+            lines: "sql 8 OFFSET WORD",
+            meaning: "a part of SQL that is left out",
+            smallest_input: "`SELECT DISTINCT v FROM n`",
+            advice: "",
+        },
+    }
+}
+
+pub fn of_plan(number: u8) -> Entry {
+    match number {
+        1 => Entry {
+            lines: "plan 1",
+            meaning: "a table that the catalogue doesn't have",
+            smallest_input: "`SELECT COUNT(*) FROM m`",
+            advice: "",
+        },
+        2 => Entry {
+            lines: "plan 2",
+            meaning: "a column that no table of FROM has",
+            smallest_input: "`SELECT SUM(w) FROM n`",
+            advice: "",
+        },
+        3 => Entry {
+            lines: "plan 3",
+            meaning: "a name that refers to several things: a column of two tables, an alias twice, two headers in ORDER BY",
+            smallest_input: "`SELECT v AS a, v AS a FROM n ORDER BY a`",
+            advice: "give the column's table, or another alias",
+        },
+        4 => Entry {
+            lines: "plan 4",
+            meaning: "types that don't fit, or a truth where a value belongs",
+            smallest_input: "SUM of a text column",
+            advice: "",
+        },
+        5 => Entry {
+            lines: "plan 5",
+            meaning: "a dimension without an equality of its key with a column of the fact",
+            smallest_input: "`SELECT v FROM n, d`",
+            advice: "join it `ON v = k`",
+        },
+        6 => Entry {
+            lines: "plan 6",
+            meaning: "two such equalities for one dimension",
+            smallest_input: "`ON v = k AND k = v`",
+            advice: "",
+        },
+        7 => Entry {
+            lines: "plan 7",
+            meaning: "the fact table isn't named just once",
+            smallest_input: "`SELECT COUNT(*) FROM d`",
+            advice: "",
+        },
+        8 => Entry {
+            lines: "plan 8",
+            meaning: "a column that isn't grouped, in a query with groups",
+            smallest_input: "`SELECT v, COUNT(*) FROM n`",
+            advice: "group by it",
+        },
+        9 => Entry {
+            lines: "plan 9",
+            meaning: "an aggregate in WHERE, ON, GROUP BY or inside another",
+            smallest_input: "`SELECT v FROM n WHERE COUNT(*) > 1`",
+            advice: "HAVING",
+        },
+        10 => Entry {
+            lines: "plan 10",
+            meaning: "a position in GROUP BY; in ORDER BY a position without an item, or a name that no item has",
+            smallest_input: "`SELECT v FROM n ORDER BY 2`",
+            advice: "",
+        },
+        _ => Entry {
+            lines: "plan 11",
+            meaning: "over 16 joins, 64 keys or 64 aggregates",
+            smallest_input: "",
+            advice: "",
+        },
+    }
+}
+
+pub fn of_load(number: u8) -> Entry {
+    match number {
+        1 => Entry {
+            lines: "load 1",
+            meaning: "the header doesn't have each declared column once",
+            smallest_input: "`w` for `v`",
+            advice: "mend the header",
+        },
+        2 => Entry {
+            lines: "load 2 ROW",
+            meaning: "the row doesn't have a field for each column",
+            smallest_input: "`2,3` in a table of one column",
+            advice: "",
+        },
+        3 => Entry {
+            lines: "load 3 ROW COLUMN",
+            meaning: "not an integer of 64 bits",
+            smallest_input: "`x`",
+            advice: "",
+        },
+        4 => Entry {
+            lines: "load 4 ROW COLUMN",
+            meaning: "NULL in a column without `null`",
+            smallest_input: "`\\N`",
+            advice: "declare the column `null`",
+        },
+        5 => Entry {
+            lines: "load 5 ROW COLUMN",
+            meaning: "a text of over 65,535 bytes",
+            smallest_input: "65,536 letters",
+            advice: "",
+        },
+        6 => Entry {
+            lines: "load 6 ROW COLUMN",
+            meaning: "not UTF-8",
+            smallest_input: "a byte `FF`",
+            advice: "save it as UTF-8",
+        },
+        7 => Entry {
+            lines: "load 7 ROW",
+            meaning: "the row has the key of an earlier row",
+            smallest_input: "the key 1 twice",
+            advice: "",
+        },
+        8 => Entry {
+            lines: "load 8",
+            meaning: "a dimension of over 1,048,576 rows, or a fact's file that grew while it was loaded",
+            smallest_input: "",
+            advice: "",
+        },
+        _ => Entry {
+            lines: "load 9",
+            meaning: "fewer rows than the cut has",
+            smallest_input: "none: the rows are counted first, so the file got shorter while it was loaded",
+            advice: "load again",
+        },
+    }
+}
+
+pub fn of_file(number: u8) -> Entry {
+    match number {
+        1 => Entry {
+            lines: "file 1",
+            meaning: "the file of the cut doesn't begin as one",
+            smallest_input: "a text in `cut.xcl`",
+            advice: "load again",
+        },
+        2 | 3 | 4 => Entry {
+            lines: "file 2, file 3, file 4",
+            meaning: "it ends too early; bytes stand behind its end; its seal isn't that of its bytes",
+            smallest_input: "a file that was cut short, lengthened or damaged",
+            advice: "load again",
+        },
+        _ => Entry {
+            lines: "file 7",
+            meaning: "it has no fragment, over 4,096 of them, or one of over 1,048,576 rows",
+            smallest_input: "",
+            advice: "load again",
+        },
+    }
+}
+
+pub fn of_work(number: u8) -> Entry {
+    match number {
+        1 => Entry {
+            lines: "work 1",
+            meaning: "the file isn't that of this fragment or dimension, of this load",
+            smallest_input: "another load's file under the name",
+            advice: "load again",
+        },
+        2 => Entry {
+            lines: "work 2",
+            meaning: "a column that the query uses isn't where the catalogue has it in the file, with its name and type",
+            smallest_input: "a catalogue that changed after `load`",
+            advice: "load again",
+        },
+        3 => Entry {
+            lines: "work 3 N, work 3 5 GROUP COLUMN",
+            meaning: "the fragment's or a dimension's file is damaged: N is 1 to 4 as in the lines of `file`, 6 for a header or numbers of rows that don't fit, 7 over a limit; 5 where the block of this column in this row group is damaged",
+            smallest_input: "a file that was cut short; a byte that changed",
+            advice: "load again",
+        },
+        4 => Entry {
+            lines: "work 4",
+            meaning: "a vector's length isn't from 1 to 4,096",
+            smallest_input: "none: such a length is a usage fault",
+            advice: "",
+        },
+        _ => Entry {
+            lines: "work 5",
+            meaning: "a dimension's file has a key twice",
+            smallest_input: "none that `load` writes",
+            advice: "load again",
+        },
+    }
+}
+
+pub fn of_journal(number: u8) -> Entry {
+    match number {
+        12 | 13 => Entry {
+            lines: "journal 12, journal 13",
+            meaning: "a call on the journal's file failed; the disk is full, which the program reports as 12",
+            smallest_input: "a full disk",
+            advice: "make room, check the disk, and gather again: the journal has what was taken before",
+        },
+        14 => Entry {
+            lines: "journal 14",
+            meaning: "the file is no journal of this query over this load: it doesn't begin as one, it ends before a closed gate, a record is no answer for the job, or there are over 2^20 records",
+            smallest_input: "a text under the path",
+            advice: "another path for another query or load; remove a file that a run left which was stopped while it made it",
+        },
+        15 => Entry {
+            lines: "journal 15",
+            meaning: "the disk failed before",
+            smallest_input: "none: the program ends at the first failure",
+            advice: "",
+        },
+        _ => Entry {
+            lines: "journal 16",
+            meaning: "an answer of over 4,294,967,295 bytes",
+            smallest_input: "",
+            advice: "gather it without `--journal`",
+        },
+    }
+}
+
+pub fn of_gather(number: u8) -> Entry {
+    match number {
+        1 => Entry {
+            lines: "gather 1 PATH",
+            meaning: "the file begins neither as an answer nor as a state; with `--journal`, it is no answer, as a state is none",
+            smallest_input: "",
+            advice: "",
+        },
+        2 | 3 | 4 => Entry {
+            lines: "gather 2 PATH, gather 3 PATH, gather 4 PATH",
+            meaning: "it ends too early; bytes stand behind its end; its seal isn't that of its bytes",
+            smallest_input: "",
+            advice: "",
+        },
+        5 | 6 | 7 => Entry {
+            lines: "gather 5 PATH, gather 6 PATH, gather 7 PATH",
+            meaning: "it is of another load, of another query, of another cut",
+            smallest_input: "",
+            advice: "",
+        },
+        8 => Entry {
+            lines: "gather 8 PATH",
+            meaning: "its groups don't ascend by their keys",
+            smallest_input: "",
+            advice: "",
+        },
+        _ => Entry {
+            lines: "gather 9 PATH, gather 10 PATH",
+            meaning: "its groups aren't of the query's form; its numbers can't be those of its rows",
+            smallest_input: "",
+            advice: "",
+        },
+    }
+}

@@ -1,0 +1,30 @@
+-- Which file bytes begin as, and what is known of one that was shown without a fault.
+use Rattle.std.specs.Prelude.{◌≡◌, ℕ, List, [], ◌∷◌, Option, None, Some, if◌then◌else◌, nat_eq, ⊤}
+use Rattle.std.specs.List.{starts_with}
+use Rattle.fragment_file.specs.CutFile.{CutFileSpec, IsCutFileOf}
+use Rattle.fragment_file.specs.Fragment.{FragmentSpec, IsFileOf}
+use Rattle.show.specs.declared.file_kind.FileKind.{FileKind}
+use Rattle.show.specs.declared.file_kind.FileKind.TheVariants as kind
+
+-- `XCF1`, `XCL1`, `XGA1`, `XGS1` and `XGJ1`
+abbrev pub kind_of : List ℕ → Option FileKind
+kind_of bytes =
+    if starts_with nat_eq bytes (88 ∷ 67 ∷ 70 ∷ 49 ∷ []) then Some kind.Table else
+    if starts_with nat_eq bytes (88 ∷ 67 ∷ 76 ∷ 49 ∷ []) then Some kind.Cut else
+    if starts_with nat_eq bytes (88 ∷ 71 ∷ 65 ∷ 49 ∷ []) then Some kind.Answer else
+    if starts_with nat_eq bytes (88 ∷ 71 ∷ 83 ∷ 49 ∷ []) then Some kind.State else
+    if starts_with nat_eq bytes (88 ∷ 71 ∷ 74 ∷ 49 ∷ []) then Some kind.Journal else None
+
+-- what is known of a file of this kind: one of a table or of a cut is spelled as such
+abbrev pub IsTaken : FileKind → List ℕ → Type 0
+IsTaken kind.Table bytes = (f : FragmentSpec) × IsFileOf bytes f
+IsTaken kind.Cut bytes = (f : CutFileSpec) × IsCutFileOf bytes f
+IsTaken kind.Answer bytes = ⊤
+IsTaken kind.State bytes = ⊤
+IsTaken kind.Journal bytes = ⊤
+
+-- bytes that begin as one of the files, and are taken as such
+pub record IsWhole (bytes : List ℕ) : Type 0 where
+  pub kind : FileKind
+  pub begins : kind_of bytes ≡ Some kind
+  pub taken : IsTaken kind bytes

@@ -1,0 +1,36 @@
+//! Answers.
+use crate::body::show_body;
+use crate::cursor::Cursor;
+use crate::damage::Stop;
+use crate::detail::Detail;
+use crate::job_head::{put_head, put_shape, take_head, take_shape};
+use std::alloc::Global;
+
+/// Shows an answer, behind its magic.
+pub fn show_answer(
+    alloc: Global,
+    cursor: &mut Cursor<'_>,
+    size: usize,
+    detail: Detail,
+    out: &mut String,
+) -> Result<(), Stop> {
+    writeln!(out, "answer, {size} bytes")?;
+    let head = take_head(cursor)?;
+    put_head(out, &head)?;
+    let fragment = cursor.take_u32("the fragment")?;
+    writeln!(out, "fragment {fragment}")?;
+    show_shaped(alloc, cursor, detail, out)
+}
+
+/// Shows the shape of the groups and the body.
+fn show_shaped(
+    alloc: Global,
+    cursor: &mut Cursor<'_>,
+    detail: Detail,
+    out: &mut String,
+) -> Result<(), Stop> {
+    let shape = take_shape(alloc, cursor)?;
+    put_shape(out, &shape)?;
+    show_body(alloc, cursor, &shape, detail, out)?;
+    cursor.take_seal()
+}

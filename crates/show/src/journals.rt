@@ -1,0 +1,96 @@
+//! Journals of coordinators.
+use crate::body::show_body;
+use crate::cursor::Cursor;
+use crate::damage::{Stop, Wrong};
+use crate::detail::Detail;
+use crate::job_head::{put_head, put_shape, take_head, take_shape};
+use std::alloc::Global;
+
+/// The most records that a journal has.
+const MOST_RECORDS: u32 = 1 << 20;
+
+fn take_magic(cursor: &mut Cursor<'_>) -> Result<(), Stop> {
+    let field = "the magic of an answer";
+    if cursor.take_bytes(4, field)? != b"XGA1".as_slice() {
+        return Err(cursor.refuse(Wrong::OtherMagic, field));
+    }
+    Ok(())
+}
+
+/// Shows the answer of a record, behind what its job is where it is the first.
+fn show_answer_of(
+    alloc: Global,
+    cursor: &mut Cursor<'_>,
+    number: u32,
+    detail: Detail,
+    out: &mut String,
+) -> Result<(), Stop> {
+    let at = cursor.at();
+    let size = cursor.left();
+    take_magic(cursor)?;
+    let head = take_head(cursor)?;
+    let fragment = cursor.take_u32("the fragment")?;
+    let shape = take_shape(alloc, cursor)?;
+    if number == 0 {
+        put_head(out, &head)?;
+        put_shape(out, &shape)?;
+    }
+    write!(
+        out,
+        "record {number} at byte {at}, {size} bytes, fragment {fragment}: "
+    )?;
+    show_body(alloc, cursor, &shape, detail, out)?;
+    cursor.take_seal()
+}
+
+/// Shows the record behind an open gate.
+fn show_record(
+    alloc: Global,
+    cursor: &mut Cursor<'_>,
+    number: u32,
+    detail: Detail,
+    out: &mut String,
+) -> Result<(), Stop> {
+    let length = cursor.take_u32("the length of a record")?;
+    let at = cursor.at();
+    let bytes = cursor.take_bytes(length as usize, "a record")?;
+    let mut answer = Cursor::new(at, bytes);
+    show_answer_of(alloc, &mut answer, number, detail, out)
+}
+
+/// Shows the closed gate, which ends the records, and how many bytes stand behind it.
+fn put_gate(out: &mut String, at: usize, behind: usize) -> Result<(), Stop> {
+    writeln!(out, "closed gate at byte {at}")?;
+    if behind != 0 {
+        writeln!(out, "{behind} bytes behind it, which count for nothing")?;
+    }
+    Ok(())
+}
+
+fn take_gate(cursor: &mut Cursor<'_>) -> Result<u8, Stop> {
+    let field = "a gate";
+    match cursor.take_u8(field) {
+        Ok(gate) => Ok(gate),
+        Err(Stop::Memory) => Err(Stop::Memory),
+        Err(Stop::Damaged(_)) => Err(cursor.refuse(Wrong::NoGate, field)),
+    }
+}
+
+/// Shows a journal, behind its magic.
+pub fn show_journal(
+    alloc: Global,
+    cursor: &mut Cursor<'_>,
+    size: usize,
+    detail: Detail,
+    out: &mut String,
+) -> Result<(), Stop> {
+    writeln!(out, "journal, {size} bytes")?;
+    for number in 0..MOST_RECORDS + 1 {
+        let at = cursor.at();
+        if take_gate(cursor)? == 0 {
+            return put_gate(out, at, cursor.left());
+        }
+        show_record(alloc, cursor, number, detail, out)?;
+    }
+    Err(cursor.refuse(Wrong::NoGate, "the records"))
+}

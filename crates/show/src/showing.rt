@@ -1,0 +1,286 @@
+//! The command `show`.
+ghost use Rattle.std.specs.Prelude.{◌≡◌, ◌⊎◌, ℕ, List, true, IfOk, OnOk};
+ghost use Rattle.fragment_file.specs.CutFile.{CutFileSpec, IsCutFileOf};
+ghost use Rattle.fragment_file.specs.Fragment.{FragmentSpec, IsFileOf};
+ghost use Rattle.folders.specs.Folder.{AreHeld};
+ghost use Rattle.show.specs.Shown.{IsTaken, IsWhole};
+
+use crate::answers::show_answer;
+use crate::csv_rows::rows_of_table;
+use crate::cursor::Cursor;
+use crate::cuts::show_cut_file;
+use crate::damage::{Damage, Stop, Wrong};
+use crate::detail::Detail;
+use crate::file_kind::{FileKind, kind_of};
+use crate::journals::show_journal;
+use crate::states::show_state;
+use crate::tables::show_table_file;
+use folders::{Folder, try_read};
+use fragment_file::{open, read_cut};
+use std::alloc::{AllocError, Global};
+use std::io;
+use std::io::Write;
+use std::mem::drop;
+
+/// What is shown of a file.
+#[derive(Clone, Copy)]
+pub struct ShowOptions {
+    /// Of a table's file: its first rows, as comma-separated values, in place of its parts.
+    pub rows: Option<u32>,
+    /// Of an answer, a state or a journal: each group with its statistics.
+    pub groups: bool,
+}
+
+impl ShowOptions {
+    fn detail(self) -> Detail {
+        if self.groups {
+            Detail::Groups
+        } else {
+            Detail::Count
+        }
+    }
+}
+
+/// What is printed of a file, and why reading ended.
+#[derive(Drop)]
+struct Shown {
+    bytes: Vec<u8>,
+    ended: Result<(), Stop>,
+}
+
+/// Shows the parts of a file of this kind.
+fn show_parts(
+    alloc: Global,
+    kind: FileKind,
+    bytes: &[u8],
+    detail: Detail,
+    out: &mut String,
+) -> Result<(), Stop> {
+    let mut cursor = Cursor::new(0, bytes);
+    let size = bytes.len();
+    cursor.take_bytes(4, "the magic")?;
+    match kind {
+        FileKind::Table => show_table_file(alloc, &mut cursor, size, out),
+        FileKind::Cut => show_cut_file(&mut cursor, size, out),
+        FileKind::Answer => show_answer(alloc, &mut cursor, size, detail, out),
+        FileKind::State => show_state(alloc, &mut cursor, size, detail, out),
+        FileKind::Journal => show_journal(alloc, &mut cursor, size, detail, out),
+    }
+}
+
+/// Ends a line that is broken off where reading ended.
+fn end_line(text: &mut String) -> Result<(), AllocError> {
+    if text.is_empty() || text.as_bytes().ends_with(b"\n") {
+        return Ok(());
+    }
+    text.push_str("\n")
+}
+
+fn parts_of(alloc: Global, kind: FileKind, bytes: &[u8], detail: Detail) -> Shown {
+    let mut text = String::new(alloc);
+    let shown = show_parts(alloc, kind, bytes, detail, &mut text);
+    let ended = match end_line(&mut text) {
+        Ok(()) => shown,
+        Err(_) => Err(Stop::Memory),
+    };
+    Shown {
+        bytes: text.into_bytes(),
+        ended,
+    }
+}
+
+/// The first rows of a table's file, and what is wrong with the file.
+fn rows_of(alloc: Global, bytes: &[u8], most: u32) -> Shown {
+    let mut cursor = Cursor::new(0, bytes);
+    let _magic = cursor.take_bytes(4, "the magic");
+    let (csv, written) = rows_of_table(alloc, &mut cursor, most);
+    let parts = parts_of(alloc, FileKind::Table, bytes, Detail::Nothing);
+    Shown {
+        bytes: csv,
+        ended: written.and(parts.ended),
+    }
+}
+
+fn shown_of(alloc: Global, kind: FileKind, bytes: &[u8], options: ShowOptions) -> Shown {
+    match (kind, options.rows) {
+        (FileKind::Table, Some(most)) => rows_of(alloc, bytes, most),
+        _ => parts_of(alloc, kind, bytes, options.detail()),
+    }
+}
+
+fn judge_table(alloc: Global, bytes: &[u8]) -> Result<(), Stop>
+    ensures { OnOk result ((f : FragmentSpec) × IsFileOf bytes.now f) }
+{
+    let view = open(alloc, bytes)?;
+    drop(view);
+    Ok(())
+}
+
+fn judge_cut(alloc: Global, bytes: &[u8]) -> Result<(), Stop>
+    ensures { OnOk result ((f : CutFileSpec) × IsCutFileOf bytes.now f) }
+{
+    let (_load, cut) = read_cut(alloc, bytes)?;
+    drop(cut);
+    Ok(())
+}
+
+/// Has the readers of tables and cuts take the bytes, as the commands do.
+fn judge(alloc: Global, kind: FileKind, bytes: &[u8]) -> Result<(), Stop>
+    ensures { OnOk result (IsTaken kind bytes.now) }
+{
+    match kind {
+        FileKind::Table => judge_table(alloc, bytes),
+        FileKind::Cut => judge_cut(alloc, bytes),
+        FileKind::Answer => Ok(()),
+        FileKind::State => Ok(()),
+        FileKind::Journal => Ok(()),
+    }
+}
+
+/// Writes the line by which the commands refuse a table's file.
+fn put_table_line<E: Write>(wrong: Wrong, err: &mut E) -> io::Result<()> {
+    let number = wrong.number();
+    match wrong {
+        Wrong::NoBlock { group, column } => writeln!(
+            err,
+            "xcols: work 3 {number} {group} {column}"
+        ),
+        _ => writeln!(err, "xcols: work 3 {number}"),
+    }
+}
+
+/// Writes the line by which the commands refuse such a file.
+fn put_line<E: Write>(kind: FileKind, wrong: Wrong, path: &str, err: &mut E) -> io::Result<()> {
+    let number = wrong.number();
+    match kind {
+        FileKind::Table => put_table_line(wrong, err),
+        FileKind::Cut => writeln!(err, "xcols: file {number}"),
+        FileKind::Answer | FileKind::State => writeln!(err, "xcols: gather {number} {path}"),
+        FileKind::Journal => writeln!(err, "xcols: journal 14"),
+    }
+}
+
+/// Writes what is wrong with a file and where, behind the line by which the commands refuse it.
+fn put_damage<E: Write>(kind: FileKind, damage: Damage, path: &str, err: &mut E) -> io::Result<()> {
+    let Damage { wrong, at, field } = damage;
+    put_line(kind, wrong, path, err)?;
+    writeln!(err, "at byte {at}, {field}: {wrong}")
+}
+
+fn report<E: Write>(kind: FileKind, stop: Stop, path: &str, err: &mut E) -> io::Result<()> {
+    match stop {
+        Stop::Memory => writeln!(err, "xcols: memory"),
+        Stop::Damaged(damage) => put_damage(kind, damage, path, err),
+    }
+}
+
+/// Prints what stands in a file, behind which its fault is reported; and whether it has none.
+fn print<O: Write, E: Write>(
+    kind: FileKind,
+    path: &str,
+    shown: &Shown,
+    out: &mut O,
+    err: &mut E,
+) -> io::Result<bool> {
+    if out.write_all(shown.bytes.as_slice()).is_err() {
+        writeln!(err, "xcols: cannot write standard output")?;
+        return Ok(false);
+    }
+    match shown.ended {
+        Ok(()) => Ok(true),
+        Err(stop) => {
+            report(kind, stop, path, err)?;
+            Ok(false)
+        }
+    }
+}
+
+/// Prints what stands in a file of this kind; and whether it is taken as such.
+fn show_kind<O: Write, E: Write>(
+    alloc: Global,
+    kind: FileKind,
+    path: &str,
+    bytes: &[u8],
+    options: ShowOptions,
+    out: &mut O,
+    err: &mut E,
+) -> io::Result<bool>
+    ensures { IfOk result (λ whole. whole ≡ true → IsTaken kind bytes.now) }
+{
+    let shown = shown_of(alloc, kind, bytes, options);
+    if !print(kind, path, &shown, out, err)? {
+        return Ok(false);
+    }
+    match judge(alloc, kind, bytes) {
+        Ok(()) => Ok(true),
+        Err(stop) => {
+            report(kind, stop, path, err)?;
+            Ok(false)
+        }
+    }
+}
+
+fn show_bytes<O: Write, E: Write>(
+    alloc: Global,
+    path: &str,
+    bytes: &[u8],
+    options: ShowOptions,
+    out: &mut O,
+    err: &mut E,
+) -> io::Result<bool>
+    ensures { IfOk result (λ whole. whole ≡ true → IsWhole bytes.now) }
+{
+    match kind_of(bytes) {
+        Some(kind) => show_kind(alloc, kind, path, bytes, options, out, err),
+        None => {
+            writeln!(err, "xcols: {path} begins as no file of xcols")?;
+            Ok(false)
+        }
+    }
+}
+
+fn show_file<F: Folder, O: Write, E: Write>(
+    alloc: Global,
+    folder: &F,
+    path: &str,
+    options: ShowOptions,
+    out: &mut O,
+    err: &mut E,
+) -> io::Result<bool>
+    ensures { IfOk result (λ whole. whole ≡ true → (bytes : List ℕ)
+        × AreHeld (F.holds folder.now path.now) bytes × IsWhole bytes) }
+{
+    match try_read(alloc, folder, path) {
+        Ok(Some(bytes)) => show_bytes(alloc, path, bytes.as_slice(), options, out, err),
+        Ok(None) => {
+            writeln!(err, "xcols: cannot read {path}")?;
+            Ok(false)
+        }
+        Err(_) => {
+            writeln!(err, "xcols: memory")?;
+            Ok(false)
+        }
+    }
+}
+
+/// Prints what stands in a file, and answers the program's exit status: 0, or 1 where the file can't
+/// be read or is damaged, behind what could still be read. No file is written.
+pub fn show<F: Folder, O: Write, E: Write>(
+    alloc: Global,
+    folder: &F,
+    path: &str,
+    options: &ShowOptions,
+    out: &mut O,
+    err: &mut E,
+) -> u8
+    ensures status { (result ≡ 0) ⊎ (result ≡ 1) }
+    ensures whole { result ≡ 0 → (bytes : List ℕ)
+        × AreHeld (F.holds folder.now path.now) bytes × IsWhole bytes }
+{
+    match show_file(alloc, folder, path, *options, out, err) {
+        Ok(true) => 0,
+        Ok(false) => 1,
+        // A closed standard error leaves nobody to print.
+        Err(_) => 1,
+    }
+}

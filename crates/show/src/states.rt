@@ -1,0 +1,118 @@
+//! States of coordinators.
+use crate::body::show_body;
+use crate::cursor::Cursor;
+use crate::damage::{Stop, Wrong};
+use crate::detail::Detail;
+use crate::job_head::{Shape, put_head, put_shape, take_head, take_shape};
+use crate::numbers::put_ranges;
+use std::alloc::{AllocError, Global};
+
+/// The fragments of which there is an answer, of which there is none, and whose answers differ.
+#[derive(Drop)]
+struct Fragments {
+    held: Vec<u32>,
+    missing: Vec<u32>,
+    in_conflict: Vec<u32>,
+}
+
+impl Fragments {
+    fn none(alloc: Global) -> Fragments {
+        Fragments {
+            held: Vec::new(alloc),
+            missing: Vec::new(alloc),
+            in_conflict: Vec::new(alloc),
+        }
+    }
+
+    fn put(&self, out: &mut String) -> Result<(), AllocError> {
+        put_ranges(out, "in", self.held.as_slice())?;
+        put_ranges(out, "missing", self.missing.as_slice())?;
+        put_ranges(out, "in conflict", self.in_conflict.as_slice())
+    }
+}
+
+/// Shows the answer that is held for a fragment, where its groups are asked for.
+fn show_held(
+    alloc: Global,
+    cursor: &mut Cursor<'_>,
+    shape: &Shape,
+    fragment: u32,
+    detail: Detail,
+    out: &mut String,
+) -> Result<(), Stop> {
+    if detail != Detail::Groups {
+        return show_body(alloc, cursor, shape, Detail::Nothing, out);
+    }
+    write!(out, "fragment {fragment}: ")?;
+    show_body(alloc, cursor, shape, detail, out)
+}
+
+/// Reads what is held for a fragment.
+fn show_cell(
+    alloc: Global,
+    cursor: &mut Cursor<'_>,
+    shape: &Shape,
+    fragment: u32,
+    detail: Detail,
+    fragments: &mut Fragments,
+    out: &mut String,
+) -> Result<(), Stop> {
+    let field = "what is held for a fragment";
+    match cursor.take_u8(field)? {
+        0 => fragments.missing.push(fragment)?,
+        1 => {
+            show_held(alloc, cursor, shape, fragment, detail, out)?;
+            fragments.held.push(fragment)?;
+        }
+        2 => fragments.in_conflict.push(fragment)?,
+        _ => return Err(cursor.refuse(Wrong::Unknown, field)),
+    }
+    Ok(())
+}
+
+fn show_cells(
+    alloc: Global,
+    cursor: &mut Cursor<'_>,
+    shape: &Shape,
+    count: u32,
+    detail: Detail,
+    fragments: &mut Fragments,
+    out: &mut String,
+) -> Result<(), Stop> {
+    for fragment in 0..count {
+        show_cell(alloc, cursor, shape, fragment, detail, fragments, out)?;
+    }
+    Ok(())
+}
+
+/// Shows the cells, and which of them were read.
+fn show_fragments(
+    alloc: Global,
+    cursor: &mut Cursor<'_>,
+    shape: &Shape,
+    count: u32,
+    detail: Detail,
+    out: &mut String,
+) -> Result<(), Stop> {
+    let mut fragments = Fragments::none(alloc);
+    let shown = show_cells(alloc, cursor, shape, count, detail, &mut fragments, out);
+    fragments.put(out)?;
+    shown
+}
+
+/// Shows a state, behind its magic.
+pub fn show_state(
+    alloc: Global,
+    cursor: &mut Cursor<'_>,
+    size: usize,
+    detail: Detail,
+    out: &mut String,
+) -> Result<(), Stop> {
+    writeln!(out, "state, {size} bytes")?;
+    let head = take_head(cursor)?;
+    put_head(out, &head)?;
+    let shape = take_shape(alloc, cursor)?;
+    put_shape(out, &shape)?;
+    show_fragments(alloc, cursor, &shape, head.fragments, detail, out)?;
+    cursor.take_seal()
+}

@@ -1,0 +1,16 @@
+-- Which words ask for a tool.
+use Rattle.std.specs.Prelude.{ℕ, Bool, false, ◌||◌, if◌then◌else◌, List, [], ◌∷◌, codes, bytes_eq}
+
+abbrev pub is_tool : List ℕ → Bool
+is_tool word = (((bytes_eq word (codes "init") || bytes_eq word (codes "explain")) || bytes_eq word (codes "show"))
+    || bytes_eq word (codes "refusal")) || bytes_eq word (codes "tools")
+
+-- the first of these words is a tool's
+abbrev pub begins_with_tool : List (List ℕ) → Bool
+begins_with_tool [] = false
+begins_with_tool (word ∷ words) = is_tool word
+
+-- a tool, or help on one
+abbrev pub asks_tool : List (List ℕ) → Bool
+asks_tool [] = false
+asks_tool (word ∷ words) = if bytes_eq word (codes "help") then begins_with_tool words else is_tool word

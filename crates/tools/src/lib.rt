@@ -1,0 +1,12 @@
+//! The commands beside the four that answer queries.
+#![tactic(auto)]
+
+mod asking;
+mod explaining;
+mod parser;
+mod running;
+mod words;
+
+pub use asking::asked;
+pub use running::run;
+pub use words::{ExplainWords, InitWords, ShowWords, Tool};

@@ -1,0 +1,116 @@
+//! Runs a tool and gives its exit status.
+ghost use Rattle.std.specs.Prelude.{◌≡◌};
+ghost use Rattle.tools.specs.Running.{ExplainsPlan, IsStatus, LeavesFiles, MakesCatalog, ShowsFile};
+
+use crate::explaining::entry_of;
+use crate::words::{ExplainWords, InitWords, ShowWords, Tool};
+use explain::explain;
+use folders::Folder;
+use init::{Listing, make_catalog};
+use meaning::Text;
+use refusals::print_known;
+use show::{ShowOptions, show};
+use std::alloc::Global;
+use std::io;
+use std::io::Write;
+
+fn run_init<F: Folder + Listing, E: Write>(
+    alloc: Global,
+    words: &InitWords,
+    folder: &mut F,
+    err: &mut E,
+) -> u8
+    ensures status { IsStatus result }
+    ensures files { MakesCatalog (F.holds folder.old) words.now.folder result (F.wrote folder.old)
+        (F.wrote folder.new) }
+{
+    let fact = words.fact.as_ref().map(|fact| fact.as_str());
+    match make_catalog(alloc, folder, words.folder.as_str(), fact, err) {
+        Ok(()) => 0,
+        Err(fault) => {
+            // A closed standard error leaves nobody to print to.
+            let _ = writeln!(err, "xcols: {fault}");
+            1
+        }
+    }
+}
+
+// Says which refusals there are.
+fn print_unknown<E: Write>(err: &mut E) -> io::Result<()> {
+    err.write_all(b"xcols: there is no such refusal; these are known by their first words:\n")?;
+    print_known(err)
+}
+
+fn run_refusal<O: Write, E: Write>(alloc: Global, words: &[Text], out: &mut O, err: &mut E) -> u8
+    ensures { IsStatus result }
+{
+    let Ok(found) = entry_of(alloc, words) else {
+        let _ = writeln!(err, "xcols: memory");
+        return 1;
+    };
+    let Some(entry) = found else {
+        let _ = print_unknown(err);
+        return 1;
+    };
+    match writeln!(out, "{entry}") {
+        Ok(()) => 0,
+        Err(_) => {
+            let _ = writeln!(err, "xcols: cannot write standard output");
+            1
+        }
+    }
+}
+
+fn run_explain<F: Folder, O: Write, E: Write>(
+    alloc: Global,
+    words: &ExplainWords,
+    folder: &mut F,
+    out: &mut O,
+    err: &mut E,
+) -> u8
+    ensures status { IsStatus result }
+    ensures files { ExplainsPlan (F.holds folder.old) words.now.folder words.now.query result
+        (F.wrote folder.old) (F.wrote folder.new) }
+{
+    let (directory, query) = (words.folder.as_str(), words.query.as_str());
+    explain(alloc, &*folder, directory, query, out, err)
+}
+
+fn run_show<F: Folder, O: Write, E: Write>(
+    alloc: Global,
+    words: &ShowWords,
+    folder: &mut F,
+    out: &mut O,
+    err: &mut E,
+) -> u8
+    ensures status { IsStatus result }
+    ensures files { ShowsFile (F.holds folder.old) words.now.path result (F.wrote folder.old)
+        (F.wrote folder.new) }
+{
+    let options = ShowOptions {
+        rows: words.rows,
+        groups: words.groups,
+    };
+    show(alloc, &*folder, words.path.as_str(), &options, out, err)
+}
+
+/// Runs a tool over a folder and gives its exit status: 0, or 1 where it was refused, and then a line
+/// on `err` says why.
+pub fn run<F: Folder + Listing, O: Write, E: Write>(
+    alloc: Global,
+    tool: &Tool,
+    folder: &mut F,
+    out: &mut O,
+    err: &mut E,
+) -> u8
+    ensures status { IsStatus result }
+    ensures files { LeavesFiles (F.holds folder.old) tool.now result (F.wrote folder.old)
+        (F.wrote folder.new) }
+{
+    match tool {
+        Tool::Init(words) => run_init(alloc, words, folder, err),
+        Tool::Refusal(words) => run_refusal(alloc, words.as_slice(), out, err),
+        Tool::Explain(words) => run_explain(alloc, words, folder, out, err),
+        Tool::Show(words) => run_show(alloc, words, folder, out, err),
+    }
+}

@@ -1,0 +1,167 @@
+//! How far a command has come, on standard error.
+use memchr::memchr_iter;
+use std::alloc::Global;
+use std::cell::Cell;
+use std::fs::File;
+use std::io;
+use std::io::{IsTerminal, Read, Write};
+use std::time::Instant;
+
+/// The nanoseconds between two lines: on a terminal, where each takes the place of the one before,
+/// and elsewhere.
+const ON_TERMINAL: u64 = 100_000_000;
+
+const ELSEWHERE: u64 = 2_000_000_000;
+
+/// The time that a command has taken, and what it has read.
+#[derive(Drop)]
+pub struct Progress<'a> {
+    rt: &'a HostRuntime,
+    begun: Instant,
+    is_terminal: bool,
+    // Nanoseconds since it was begun.
+    printed: Cell<u64>,
+    bytes: Cell<u64>,
+    files: Cell<u64>,
+}
+
+impl<'a> Progress<'a> {
+    pub fn new(rt: &'a HostRuntime) -> io::Result<Progress<'a>> {
+        Ok(Progress {
+            rt,
+            begun: Instant::now(rt)?,
+            is_terminal: rt.stderr().is_terminal(),
+            printed: Cell::new(0),
+            bytes: Cell::new(0),
+            files: Cell::new(0),
+        })
+    }
+
+    fn nanoseconds(&self) -> io::Result<u64> {
+        let time = self.begun.elapsed(self.rt)?;
+        let seconds = time.as_secs().saturating_mul(1_000_000_000);
+        Ok(seconds.saturating_add(u64::from(time.subsec_nanos())))
+    }
+
+    /// Prints a line where the one before is long enough ago.
+    fn tell(&self, file: &Watched<'_>) -> io::Result<()> {
+        let now = self.nanoseconds()?;
+        let every = if self.is_terminal {
+            ON_TERMINAL
+        } else {
+            ELSEWHERE
+        };
+        if now.saturating_sub(self.printed.get()) < every {
+            return Ok(());
+        }
+        self.printed.set(now);
+        let megabytes = self.bytes.get() / 1_000_000;
+        let speed = self.bytes.get().saturating_mul(1_000) / now.max(1);
+        let (begin, end) = if self.is_terminal {
+            ("\r\x1b[K", "")
+        } else {
+            ("", "\n")
+        };
+        eprint!(self.rt;
+            "{begin}file {}: {} of {} bytes ({} of 100), {} lines; {megabytes} MB in all, {speed} MB/s{end}",
+            self.files.get(),
+            file.bytes,
+            file.size,
+            file.share(),
+            file.lines
+        )
+    }
+
+    /// Takes the line of a terminal away.
+    pub fn end(&self) {
+        if self.is_terminal && self.printed.get() > 0 {
+            let _ = eprint!(self.rt; "\r\x1b[K");
+        }
+    }
+}
+
+/// A file, and how much of it was read.
+#[derive(Drop)]
+pub struct Watched<'a> {
+    file: File,
+    progress: Option<&'a Progress<'a>>,
+    size: u64,
+    bytes: u64,
+    lines: u64,
+}
+
+impl<'a> Watched<'a> {
+    /// A file of which nothing was read. Without a progress nothing is counted.
+    pub fn new(file: File, progress: Option<&'a Progress<'a>>) -> Watched<'a> {
+        let mut size = 0;
+        if let Some(progress) = progress {
+            progress.files.set(progress.files.get().saturating_add(1));
+            size = file.metadata().map_or(0, |found| found.len());
+        }
+        Watched {
+            file,
+            progress,
+            size,
+            bytes: 0,
+            lines: 0,
+        }
+    }
+
+    /// How much of the file was read, of 100.
+    fn share(&self) -> u64 {
+        self.bytes.saturating_mul(100) / self.size.max(1)
+    }
+
+    fn count(&mut self, progress: &Progress<'_>, bytes: &[u8]) {
+        self.bytes = self.bytes.saturating_add(bytes.len() as u64);
+        progress
+            .bytes
+            .set(progress.bytes.get().saturating_add(bytes.len() as u64));
+        for _ in memchr_iter(b'\n', bytes) {
+            self.lines = self.lines.saturating_add(1);
+        }
+        // A closed standard error leaves nobody to print.
+        let _ = progress.tell(self);
+    }
+}
+
+impl Read for Watched<'_> {
+    fn read(&mut self, out: &mut [u8]) -> io::Result<usize> {
+        let read = self.file.read(out)?;
+        if let Some(progress) = self.progress {
+            self.count(progress, &out[..read]);
+        }
+        Ok(read)
+    }
+}
+
+/// The commands that take the word, and the word.
+const COMMANDS: [&str; 3] = ["load", "whole", "gather"];
+
+const WORD: &str = "--progress";
+
+/// Whether the word at this index asks for progress: it stands in front of `--`, and isn't a query.
+fn asks(words: &[&str], at: usize) -> bool {
+    let (Some(word), Some(before)) = (words.get(at), words.get(at.saturating_sub(1))) else {
+        return false;
+    };
+    *word == WORD && *before != "--query"
+}
+
+/// A command's words without those that ask for progress, and whether there was one.
+pub fn without_progress<'w>(alloc: Global, words: &[&'w str]) -> io::Result<(Vec<&'w str>, bool)> {
+    let mut kept = Vec::new(alloc);
+    let mut ends = !words
+        .first()
+        .is_some_and(|command| COMMANDS.contains(command));
+    let mut found = false;
+    for at in 0..words.len() {
+        ends |= words[at] == "--";
+        if !ends && asks(words, at) {
+            found = true;
+        } else {
+            kept.push(words[at])?;
+        }
+    }
+    Ok((kept, found))
+}

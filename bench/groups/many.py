@@ -1,7 +1,7 @@
 #!/usr/bin/env python3
 """many.py PROGRAM DIR [ROUNDS]: a query of many groups over 1,000,000 rows, ordered and cut to ten: four workers at once, the
 gather of their answers, and sqlite over a database of its own. Writes comma-separated seconds (the least of ROUNDS, 3) and
-peaks of memory in MB on standard output, a line for each number of groups. The rows of both are compared."""
+peaks of memory in MB on standard output, a line for each number of groups. Needs Debian's `time`. The rows of both are compared."""
 import csv
 import os
 import random
@@ -45,15 +45,16 @@ def generate(groups):
 
 def run_all(commands):
     """Runs them at once: the seconds until all have ended, the greatest memory, and what the last printed."""
-    begun, memory = time.perf_counter(), 0
-    with tempfile.TemporaryFile() as out:
-        children = [subprocess.Popen(words, stdout=out) for words in commands]
-        for child in children:
-            _, status, used = os.wait4(child.pid, 0)
-            memory = max(memory, used.ru_maxrss / 1024)
-            if status:
-                sys.exit(f"status {status}")
+    with tempfile.TemporaryDirectory() as room, open(f"{room}/out", "w+b") as out:
+        # A child of this process would count its memory too, so that one of Debian's `time` stands between.
+        watched = [["/usr/bin/time", "-f", "%M", "-o", f"{room}/{at}", *words] for at, words in enumerate(commands)]
+        begun = time.perf_counter()
+        children = [subprocess.Popen(words, stdout=out) for words in watched]
+        statuses = [child.wait() for child in children]
         seconds = time.perf_counter() - begun
+        if any(statuses):
+            sys.exit(f"statuses {statuses}")
+        memory = max(int(open(f"{room}/{at}").read()) / 1024 for at in range(len(watched)))
         out.seek(0)
         return seconds, memory, out.read()
 

@@ -12,7 +12,7 @@ mod progress;
 
 use crate::asking::{Request, asked};
 use crate::host_folder::HostFolder;
-use crate::progress::Progress;
+use crate::progress::{Behind, Progress};
 use std::process::ExitCode;
 
 fn main(rt: HostRuntime) -> ExitCode {
@@ -37,7 +37,7 @@ fn run_watched(rt: &HostRuntime, request: &Request, is_watched: bool) -> u8
         return run_request(rt, request, None);
     };
     let status = run_request(rt, request, Some(&progress));
-    progress.end();
+    progress.clear();
     status
 }
 
@@ -46,7 +46,8 @@ fn run_request(rt: &HostRuntime, request: &Request, progress: Option<&Progress<'
 {
     let alloc = rt.alloc();
     let mut folder = HostFolder::new(alloc, rt, progress);
-    let (mut out, mut err) = (rt.stdout(), rt.stderr());
+    let mut out = Behind::new(rt.stdout(), progress);
+    let mut err = Behind::new(rt.stderr(), progress);
     match request {
         Request::Tool(tool) => tools::run(alloc, tool, &mut folder, &mut out, &mut err),
         Request::Command(command) => cli::run(alloc, command, &mut folder, &mut out, &mut err),

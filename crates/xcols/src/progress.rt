@@ -21,6 +21,8 @@ pub struct Progress<'a> {
     is_terminal: bool,
     // Nanoseconds since it was begun.
     printed: Cell<u64>,
+    // Whether a line of the terminal is there.
+    is_shown: Cell<bool>,
     bytes: Cell<u64>,
     files: Cell<u64>,
 }
@@ -32,6 +34,7 @@ impl<'a> Progress<'a> {
             begun: Instant::now(rt)?,
             is_terminal: rt.stderr().is_terminal(),
             printed: Cell::new(0),
+            is_shown: Cell::new(false),
             bytes: Cell::new(0),
             files: Cell::new(0),
         })
@@ -55,6 +58,7 @@ impl<'a> Progress<'a> {
             return Ok(());
         }
         self.printed.set(now);
+        self.is_shown.set(self.is_terminal);
         let megabytes = self.bytes.get() / 1_000_000;
         let speed = self.bytes.get().saturating_mul(1_000) / now.max(1);
         let (begin, end) = if self.is_terminal {
@@ -72,11 +76,39 @@ impl<'a> Progress<'a> {
         )
     }
 
-    /// Takes the line of a terminal away.
-    pub fn end(&self) {
-        if self.is_terminal && self.printed.get() > 0 {
+    /// Takes the line of a terminal away, where there is one.
+    pub fn clear(&self) {
+        if self.is_shown.get() {
+            self.is_shown.set(false);
+            // A closed standard error leaves nobody to print.
             let _ = eprint!(self.rt; "\r\x1b[K");
         }
+    }
+}
+
+/// What a command prints to, where the line of a terminal was taken away first.
+#[derive(Drop)]
+pub struct Behind<'a, W> {
+    out: W,
+    progress: Option<&'a Progress<'a>>,
+}
+
+impl<'a, W> Behind<'a, W> {
+    pub fn new(out: W, progress: Option<&'a Progress<'a>>) -> Behind<'a, W> {
+        Behind { out, progress }
+    }
+}
+
+impl<W: Write> Write for Behind<'_, W> {
+    fn write(&mut self, bytes: &[u8]) -> io::Result<usize> {
+        if let Some(progress) = self.progress {
+            progress.clear();
+        }
+        self.out.write(bytes)
+    }
+
+    fn flush(&mut self) -> io::Result<()> {
+        self.out.flush()
     }
 }
 

@@ -1,5 +1,5 @@
 //! Cases about catalogues.
-use crate::refusals::refusal_line;
+use crate::refusal_line::refusal_line;
 use case_files::{bytes_of, escaped_bytes};
 use catalog_reader::read_catalog;
 use folders::Refusal;

@@ -1,5 +1,5 @@
 //! Cases about cuts.
-use crate::refusals::refusal_line;
+use crate::refusal_line::refusal_line;
 use folders::Refusal;
 use meaning::{Cut, CutFault};
 use std::alloc::{AllocError, Global};

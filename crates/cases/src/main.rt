@@ -8,7 +8,7 @@ mod kinds;
 mod pieces;
 mod plan;
 mod program;
-mod refusals;
+mod refusal_line;
 mod sql;
 mod stored_disk;
 mod stored_folder;

@@ -1,5 +1,5 @@
 //! Cases about SQL texts.
-use crate::refusals::refusal_line;
+use crate::refusal_line::refusal_line;
 use case_files::{escaped_bytes, show_line};
 use folders::Refusal;
 use sql_reader::tree::Query;

@@ -13,16 +13,14 @@ import subprocess
 import sys
 import tempfile
 
+import folders
+from folders import QUERY, held, put
+
 HERE = os.path.dirname(os.path.abspath(__file__))
 XCOLS = os.path.abspath(sys.argv[1])
 CALLS = ["open", "read", "write", "sync", "rename", "unlink", "cut", "seek", "stat", "lock"]
 EIO, ENOSPC = "5", "28"
-QUERY = "SELECT r, COUNT(*), SUM(v) FROM n JOIN d ON v = k GROUP BY r ORDER BY r"
-TABLES = {
-    "s/catalog.txt": b"fact n\ncol v int\ncol w text null\ndim d key k\ncol k int\ncol r text null\n",
-    "s/n.csv": b"v,w\n1,x\n2,\\N\n4,\"y,z\"\n",
-    "s/d.csv": b"k,r\n1,north\n2,\\N\n",
-}
+TABLES = {f"s/{name}": data for name, data in folders.TABLES.items()}
 # In the order in which a load puts them under their names.
 LOADED = ["s/n.0.xcf", "s/n.1.xcf", "s/d.xcf", "s/cut.xcl"]
 REFUSAL = re.compile(r"xcols: (cannot (read|write) .+|journal 1[2-5]|file 2|work 3 2)\n")
@@ -40,22 +38,6 @@ class Tally:
 
 
 tally = Tally()
-
-
-def put(room, files):
-    for name, data in files.items():
-        os.makedirs(os.path.dirname(f"{room}/{name}"), exist_ok=True)
-        with open(f"{room}/{name}", "wb") as file:
-            file.write(data)
-
-
-def held(room):
-    found = {}
-    for root, _, names in os.walk(room):
-        for name in names:
-            with open(f"{root}/{name}", "rb") as file:
-                found[os.path.relpath(f"{root}/{name}", room)] = file.read()
-    return found
 
 
 def run(room, words, **environment):

@@ -14,6 +14,8 @@ import subprocess
 import sys
 import tempfile
 
+from folders import QUERY, TABLES, held, put
+
 HERE = os.path.dirname(os.path.abspath(__file__))
 MEMORY = f"{HERE}/memory"
 TOP = os.path.dirname(os.path.dirname(HERE))
@@ -137,30 +139,6 @@ def refuse_cases(pool, shim, cases, totals, only):
 
 # ---- the program `xcols` over a folder of this machine
 
-TABLES = {
-    "catalog.txt": b"fact n\ncol v int\ncol w text null\ndim d key k\ncol k int\ncol r text null\n",
-    "n.csv": b"v,w\n1,x\n2,\\N\n4,\"y,z\"\n",
-    "d.csv": b"k,r\n1,north\n2,\\N\n",
-}
-QUERY = "SELECT r, COUNT(*), SUM(v) FROM n JOIN d ON v = k GROUP BY r ORDER BY r"
-
-
-def folder_of(path):
-    found = {}
-    for root, _, names in os.walk(path):
-        for name in names:
-            with open(f"{root}/{name}", "rb") as file:
-                found[os.path.relpath(f"{root}/{name}", path)] = file.read()
-    return found
-
-
-def put(path, files):
-    for name, data in files.items():
-        os.makedirs(os.path.dirname(f"{path}/{name}"), exist_ok=True)
-        with open(f"{path}/{name}", "wb") as file:
-            file.write(data)
-
-
 def is_want_of_memory(err):
     return re.fullmatch(r"xcols: (memory|cannot (read|write) .+)\n", err) is not None
 
@@ -168,7 +146,7 @@ def is_want_of_memory(err):
 def judge_xcols(before, after, ample, done, folder, partial):
     """The same, of `xcols` over a folder that held the files `before` and would hold `after`."""
     err = done.stderr.replace(SAID, b"").decode(errors="replace")
-    found = folder_of(folder)
+    found = held(folder)
     whole = all(data in (before.get(name), after.get(name)) for name, data in found.items() if name not in partial)
     kept = all(name in found for name in before if name in after)
     if not whole or not kept:
@@ -193,7 +171,7 @@ def refuse_xcols(pool, shim, xcols, totals, only):
         with tempfile.TemporaryDirectory() as room:
             put(room, files)
             ample, count = Program(shim, [xcols, *words], room).counted()
-            after = folder_of(room)
+            after = held(room)
         if ample.returncode != 0:
             totals.failed += 1
             print(f"xcols {name}: {ample.stderr.decode()}")
@@ -215,7 +193,7 @@ def refuse_xcols(pool, shim, xcols, totals, only):
             with tempfile.TemporaryDirectory() as room:
                 put(room, files)
                 subprocess.run([xcols, "work", "s", "--query", QUERY, "--fragment", "1", "--out", "a1"], cwd=room, check=True)
-                files = folder_of(room) | {"none": b"XGA"}
+                files = held(room) | {"none": b"XGA"}
 
 
 def compare(totals, keep):

@@ -56,7 +56,11 @@ fn report(alloc: Global, gather: &Gather, shown: &mut String) -> Result<(), Allo
     }
 }
 
-pub fn print(alloc: Global, gather: &Gather, shown: &mut String) -> Result<(), AllocError> {
+pub fn show_printed_report(
+    alloc: Global,
+    gather: &Gather,
+    shown: &mut String,
+) -> Result<(), AllocError> {
     let mut out = Vec::new(alloc);
     match gather.print_report(alloc, &mut out) {
         Ok(_) => show_printed(alloc, shown, "out", out.as_slice()),
@@ -207,7 +211,7 @@ fn show_bare(
     match event {
         ["new"] => restart(alloc, gather, Origin { job, state: None }, shown),
         ["report"] => report(alloc, gather, shown),
-        ["print"] => print(alloc, gather, shown),
+        ["print"] => show_printed_report(alloc, gather, shown),
         ["preview"] => preview(alloc, gather, shown),
         ["print-failing"] => show_failing(alloc, gather, false, shown),
         ["preview-failing"] => show_failing(alloc, gather, true, shown),

@@ -1,6 +1,6 @@
 -- What marks of entries are of the rows of a block.
 use Rattle.std.proofs.Common.{◌≡◌, ℕ, zero, suc, ◌+◌, ◌<◌, ◌≤◌, ◌-◌, ◌*◌, Bool, true, false, if◌then◌else◌, List, [], ◌∷◌, ◌++◌, get_or, map, filter, length, zip, take, drop, replicate, sum, refl, ap, ap₂, sym, subst, ◌∙◌, arith, zero-add}
-use Rattle.std.specs.List.{AllByRecursion, range_with_len}
+use Rattle.std.specs.List.{AllByRecursion, list_any, range_with_len}
 use Rattle.std.proofs.lemmas.List.Elements.{recursion_from_All}
 use Rattle.std.proofs.lemmas.List.{append-nil, drop_more, get_or-drop, get_or-replicate, get_or-take, get_or-map}
 use Rattle.std.proofs.lemmas.List.FromFn.{get_or-map-range_with_len}
@@ -29,6 +29,7 @@ use Rattle.block_predicates.specs.declared.marks.EntryMarks.{EntryMarks}
 use Rattle.block_predicates.specs.Entries.{AreEntriesOf, AreFound, entries_by, entries_in, lane_count}
 use Rattle.block_predicates.specs.Marks.{AreMarksFor, AreMarksOf, IsMarkOf, kept_of, mark_at, place_by}
 use Rattle.block_predicates.specs.Predicate.{IsPredicateOf, predicate_of}
+use Rattle.block_predicates.proofs.MarkedPositions.{none_set}
 
 -- ---- runs
 
@@ -204,6 +205,21 @@ marked_rows b m from s mask apart nullable within sound is =
     ∙ get_or-take s.below (drop from m.marks.items) p false below
     ∙ get_or-drop from m.marks.items p false
     ∙ own_mark b m (from + p) (omega (arith, below, within)) apart nullable) (recursion_from_All (λ p. p < s.below) s.list sound.within)
+
+-- ---- blocks of which no row is kept
+
+either : (first a c : Bool) → a ≡ false → c ≡ false → (if first then a else c) ≡ false
+either true a c one two = one
+either false a c one two = two
+
+-- where neither NULL nor an entry is marked, no position stays
+pub nothing_kept : (b : Block) (m : EntryMarks) (from : ℕ) (s : Positions) → from + s.below ≤ b.rows → IsSelection s → m.null ≡ false → list_any (λ mark. mark) m.marks.items ≡ false
+    → filter (λ _. false) s.list ≡ filter (λ p. get_or (kept_of b m) (from + p) false) s.list
+nothing_kept b m from s within sound null none =
+    same_filter (λ _. false) (λ p. get_or (kept_of b m) (from + p) false) s.below s.list (λ p below.
+    let row : from + p < b.rows = omega (arith, below, within) in
+    sym (kept_is b m (from + p) row ∙ either (get_or (nulls_of b) (from + p) false) m.null (get_or m.marks.items (place_by b.kind b (from + p)) false) null (none_set m.marks.items (place_by b.kind b (from + p)) none)))
+    (recursion_from_All (λ p. p < s.below) s.list sound.within)
 
 -- marks over their block
 pub predicate_is : (e : Expr) (b : Block) (m : EntryMarks) → AreMarksFor e b m → IsPredicateOf e b (predicate_of b m)

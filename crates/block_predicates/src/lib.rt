@@ -4,6 +4,7 @@
 
 mod entries;
 mod evaluating;
+mod keeping;
 mod lanes;
 mod marks;
 mod predicate;

@@ -1,5 +1,6 @@
 //! Conditions that stand on a block: rows are kept by marks of its entries.
-ghost use Rattle.std.specs.Prelude.{◌≡◌, ◌+◌, ◌<◌, ◌≤◌, ℕ, false, length, take, drop, slice_index_or, filter, if◌then◌else◌, IfOk, IfSome, IsNone};
+ghost use Rattle.std.specs.Prelude.{◌≡◌, ◌+◌, ◌<◌, ◌≤◌, ℕ, true, false, length, take, drop, slice_index_or, filter, if◌then◌else◌, IfOk, IfSome, IsNone};
+ghost use Rattle.std.specs.List.{list_any};
 ghost use Rattle.meaning.specs.declared.expr.Expr.{Expr as AnExpr};
 ghost use Rattle.blocks.specs.declared.kind.Kind.TheVariants as kind_is;
 ghost use Rattle.blocks.specs.Block.{nulls_of};
@@ -9,6 +10,7 @@ ghost use Rattle.block_predicates.specs.Entries.{has_entries};
 ghost use Rattle.block_predicates.specs.Marks.{AreMarksFor, kept_of};
 ghost use Rattle.block_predicates.specs.Predicate.{IsPredicateOf, marks_in, predicate_of};
 
+use crate::keeping::{is_any_set, keep_marked, keep_none};
 use crate::marks::EntryMarks;
 use crate::spreading::is_marked;
 use blocks::{BlockView, DictionaryView};
@@ -113,6 +115,43 @@ fn select_coded(
     selection.narrow(|position| keeps_coded(block, dictionary, marks, from + position as usize));
 }
 
+/// Whether no row is kept whatever its code: neither NULL nor an entry is marked.
+fn keeps_nothing(marks: &EntryMarks) -> bool
+    ensures null { result ≡ true → marks.now.null ≡ false }
+    ensures entries { result ≡ true → list_any (λ mark. mark) marks.now.marks.items ≡ false }
+{
+    if marks.null {
+        return false;
+    }
+    !is_any_set(marks.marks.as_slice())
+}
+
+/// The same. No code is read where no row is kept, and a dictionary has fewer entries than rows.
+fn select_entries(
+    block: &BlockView<'_>,
+    dictionary: &DictionaryView<'_>,
+    marks: &EntryMarks,
+    from: usize,
+    selection: &mut Selection,
+)
+    requires kind { block.now.kind ≡ kind_is.Dict }
+    requires dictionary { dictionary.now ≡ dictionary_in block.now }
+    requires within { from + selection.old.below ≤ block.now.rows }
+    ensures { selection.new ≡ record {
+      below = selection.old.below;
+      list = filter (λ p. slice_index_or (kept_of block.now marks.now) (from + p) false)
+          selection.old.list;
+    } }
+{
+    // No effect at run time. The proof reads from this call that positions ascend below the length.
+    let _positions = selection.len();
+    if keeps_nothing(marks) {
+        keep_none(selection);
+        return;
+    }
+    select_coded(block, dictionary, marks, from, selection);
+}
+
 /// So many marks from one on.
 fn marks_from(marks: &[bool], from: usize, count: usize) -> &[bool]
     requires { from + count ≤ length marks.now }
@@ -136,7 +175,7 @@ fn select_marked(block: &BlockView<'_>, marks: &EntryMarks, from: usize, selecti
     // No effect at run time. The proof reads from this call that positions ascend below the length.
     let _positions = selection.len();
     let mask = marks_from(marks.marks.as_slice(), from, selection.below());
-    selection.keep_marked(mask);
+    keep_marked(mask, selection);
 }
 
 fn select_rows(block: &BlockView<'_>, marks: &EntryMarks, from: usize, selection: &mut Selection)
@@ -212,7 +251,7 @@ impl<'a> BlockPredicate<'a> {
     {
         let marks = self.marks.get();
         match self.block.dictionary() {
-            Some(dictionary) => select_coded(&self.block, &dictionary, marks, from, selection),
+            Some(dictionary) => select_entries(&self.block, &dictionary, marks, from, selection),
             None => select_rows(&self.block, marks, from, selection),
         }
     }

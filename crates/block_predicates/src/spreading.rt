@@ -1,5 +1,5 @@
 //! Marks of runs, as marks of their rows.
-ghost use Rattle.std.specs.Prelude.{◌≡◌, ◌+◌, ◌≤◌, ◌++◌, false, length, replicate, slice_index_or, sum, take, IfOk};
+ghost use Rattle.std.specs.Prelude.{◌≡◌, ◌+◌, ◌-◌, ◌≤◌, ◌++◌, false, length, replicate, slice_index_or, sum, take, drop, IfOk};
 ghost use Rattle.meaning.specs.Limits.{row_group_rows};
 ghost use Rattle.blocks.specs.Runs.{repeats};
 
@@ -26,18 +26,24 @@ fn rows_of(runs: &RunsView<'_>) -> usize
     rows
 }
 
-/// Puts a mark into so many rows from one on.
+/// Marks so many rows from one on, where the mark is set: a run that isn't kept costs nothing. None
+/// of them is marked yet, nor one behind them.
 #[inline(always)]
 fn put_marks(rows: &mut [bool], from: usize, count: usize, mark: bool)
-    requires { from + count ≤ length rows.old }
-    ensures { take (from + count) rows.new ≡ take from rows.old ++ replicate count mark }
+    requires within { from + count ≤ length rows.old }
+    requires unmarked { drop from rows.old ≡ replicate (length rows.old - from) false }
+    ensures marked { take (from + count) rows.new ≡ take from rows.old ++ replicate count mark }
+    ensures unmarked { drop (from + count) rows.new
+        ≡ replicate (length rows.old - (from + count)) false }
 {
-    rows[from..from + count].fill(mark);
+    if mark {
+        rows[from..from + count].fill(true);
+    }
 }
 
-/// Puts into each row the mark of its run.
+/// Puts into each row the mark of its run. No row is marked yet.
 fn put_runs(rows: &mut [bool], runs: &RunsView<'_>, marks: &[bool])
-    requires rows { length rows.old ≡ sum runs.now.lengths }
+    requires rows { rows.old ≡ replicate (sum runs.now.lengths) false }
     requires long { length runs.now.lengths ≤ length marks.now }
     ensures { rows.new ≡ repeats marks.now runs.now.lengths }
 {

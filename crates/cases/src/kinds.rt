@@ -1,14 +1,12 @@
 //! Which kind of case a record is.
 use crate::pieces::Host;
 use crate::{catalog, cut, plan, program, sql};
-use answer_cases::{
-    show_answer, show_gathering, show_random_schedules, show_refused_memory, show_schedule,
-    show_state, show_whole_query,
-};
+use answer_cases::{show_answer, show_gathering, show_state, show_whole_query};
 use case_files::{StoredFile, bytes_of, escaped_bytes, find};
 use expression_cases::{show_agreement, show_expressions};
 use join_cases::show_lookups;
 use predicate_cases::show_predicates;
+use schedule_cases::{show_random_schedules, show_refused_memory, show_schedule};
 use std::alloc::{AllocError, Global};
 use storage_cases::show_storage;
 use vector_cases::{show_lane_loop, show_selection};

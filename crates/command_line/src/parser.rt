@@ -4,17 +4,19 @@ use meaning::{MAX_FRAGMENTS, MAX_ROWS, MAX_VECTOR_ROWS};
 use std::alloc::{AllocError, Global};
 use std::mem::drop;
 
-// What the help of each command ends with.
-const LOAD_EXAMPLE: &str = "Example:\n  xcols load examples/sales --load 7 --rows 2";
+// What the help of each command ends with. `--progress` is the program's own word, which it takes out in
+// front of this parser.
+const LOAD_HELP: &str =
+    "With:\n      --progress  Prints on standard error how far each file is read\n\nExample:\n  xcols load examples/sales --load 7 --rows 2";
 
-const WORK_EXAMPLE: &str =
+const WORK_HELP: &str =
     "Example:\n  xcols work examples/sales --query \"SELECT COUNT(*) FROM sales\" --fragment 0 --out a0";
 
-const GATHER_EXAMPLE: &str =
-    "Example:\n  xcols gather examples/sales --query \"SELECT COUNT(*) FROM sales\" --save s a0 a2";
+const GATHER_HELP: &str =
+    "With:\n      --progress  Prints on standard error how far each file is read\n\nExample:\n  xcols gather examples/sales --query \"SELECT COUNT(*) FROM sales\" --save s a0 a2";
 
-const WHOLE_EXAMPLE: &str =
-    "Example:\n  xcols whole examples/sales --query \"SELECT COUNT(*) FROM sales\" --rows 2";
+const WHOLE_HELP: &str =
+    "With:\n      --progress  Prints on standard error how far each file is read\n\nExample:\n  xcols whole examples/sales --query \"SELECT COUNT(*) FROM sales\" --rows 2";
 
 fn empty_parser<'a>(alloc: Global) -> Result<clap::Command<'a>, AllocError> {
     clap::Command::new(alloc, "xcols")
@@ -140,7 +142,7 @@ fn files_arg<'a>(alloc: Global) -> Arg<'a> {
 fn whole_parser<'a>(alloc: Global) -> Result<clap::Command<'a>, AllocError> {
     let parser = clap::Command::new(alloc, "whole")
         .about("Answers a query in memory and prints the report")
-        .after_help(WHOLE_EXAMPLE);
+        .after_help(WHOLE_HELP);
     let parser = parser.arg(folder_arg(alloc))?;
     let parser = parser.arg(query_arg(alloc))?;
     let parser = parser.arg(rows_arg(alloc))?;
@@ -150,7 +152,7 @@ fn whole_parser<'a>(alloc: Global) -> Result<clap::Command<'a>, AllocError> {
 fn load_parser<'a>(alloc: Global) -> Result<clap::Command<'a>, AllocError> {
     let parser = clap::Command::new(alloc, "load")
         .about("Writes the tables into files of columns")
-        .after_help(LOAD_EXAMPLE);
+        .after_help(LOAD_HELP);
     let parser = parser.arg(folder_arg(alloc))?;
     let parser = parser.arg(load_arg(alloc))?;
     parser.arg(rows_arg(alloc))
@@ -159,7 +161,7 @@ fn load_parser<'a>(alloc: Global) -> Result<clap::Command<'a>, AllocError> {
 fn work_parser<'a>(alloc: Global) -> Result<clap::Command<'a>, AllocError> {
     let parser = clap::Command::new(alloc, "work")
         .about("Answers a query for one fragment of the loaded tables")
-        .after_help(WORK_EXAMPLE);
+        .after_help(WORK_HELP);
     let parser = parser.arg(folder_arg(alloc))?;
     let parser = parser.arg(query_arg(alloc))?;
     let parser = parser.arg(fragment_arg(alloc))?;
@@ -170,7 +172,7 @@ fn work_parser<'a>(alloc: Global) -> Result<clap::Command<'a>, AllocError> {
 fn gather_parser<'a>(alloc: Global) -> Result<clap::Command<'a>, AllocError> {
     let parser = clap::Command::new(alloc, "gather")
         .about("Prints what the answers of the fragments say together")
-        .after_help(GATHER_EXAMPLE);
+        .after_help(GATHER_HELP);
     let parser = parser.arg(folder_arg(alloc))?;
     let parser = parser.arg(query_arg(alloc))?;
     let parser = parser.arg(save_arg(alloc))?;

@@ -2,7 +2,7 @@
 use Rattle.std.specs.Prelude.{◌≡◌, ℕ, zero, suc, ◌+◌, ◌<◌, Bool, true, false, not, cond, List, [], ◌∷◌, ◌++◌, map, length, replicate, slice_set, slice_index_or}
 use Rattle.std.specs.List.{range_with_len}
 use Rattle.std.proofs.Common.{refl, sym, ap, ◌∙◌, subst, arith}
-use Rattle.std.proofs.lemmas.List.{length-replicate, set-get_or, get_or-set_same}
+use Rattle.std.proofs.lemmas.List.{length-replicate, length-set, set-get_or, get_or-set_same}
 use Rattle.std.proofs.lemmas.Bool.{ltb-true, false≢true}
 use Rattle.std.proofs.lemmas.Option.{slice_get-get_or, same_Some}
 use Rattle.meaning.specs.declared.plan.Plan.{Plan}
@@ -12,14 +12,18 @@ use Rattle.meaning.specs.Cut.{Cut}
 use Rattle.meaning.specs.Gather.{join_cells, joined, same_body}
 use Rattle.meaning_laws.proofs.Absorb.{joined-push}
 use Rattle.meaning.proofs.Tests.{first_of}
-use Rattle.partial_codec.specs.Job.{JobSpec}
+use Rattle.wire.proofs.Numbers.{ok_is}
+use Rattle.partial_codec.specs.Job.{JobSpec, IsJob}
 use Rattle.partial_codec.specs.Answer.{Fits, Spells}
+use Rattle.partial_codec.proofs.Answers.{spelled_reads}
 use Rattle.gathering.specs.declared.gather.Absorbed.{Absorbed}
-use Rattle.gathering.specs.Fitted.{is_fitting}
-use Rattle.gathering.specs.Gathering.{GatherSpec, IsGather, Rises, Takes, Would, absorbed_as, cell_at, cells_with, changes, least_handed, most_handed}
+use Rattle.meaning.specs.SoundPlan.{IsSoundPlan}
+use Rattle.gathering.specs.Fitted.{AreFitting, is_fitting}
+use Rattle.gathering.specs.Gathering.{GatherSpec, IsGather, Would, absorbed_as, cell_at, cells_with, changes, least_handed, most_handed}
 use Rattle.gathering.specs.Joining.{conflict_unless, delta_of}
 use Rattle.gathering.specs.Merging.{all_groups, groups_in}
 use Rattle.gathering.specs.Totals.{behind, most_at_change}
+use Rattle.gathering.proofs.Fitting.{AreFitting-at, AreFitting-none, AreFitting-set, is_fitting-join}
 
 -- ---- a coordinator that has taken nothing
 
@@ -31,6 +35,13 @@ fresh_cells cut = from 0 (length cut) where
   from : (start n : ℕ) → replicate {A = Cell} n Nothing ≡ map {B = Cell} (λ k. Nothing) (range_with_len start n)
   from start zero = refl
   from start (suc n) = ap (λ (cells : List Cell). Nothing ∷ cells) (from (start + 1) n)
+
+pub held_nothing : (job : JobSpec) (cells : List Cell) → IsSoundPlan job.plan → cells ≡ replicate (length job.cut) Nothing → IsGather (record { job = job; cells = cells; merges = 0 })
+held_nothing job cells sound are = record {
+  sound = sound;
+  each = ap (λ (cs : List Cell). length cs) are ∙ fresh_each job.cut;
+  fitting = subst (AreFitting job.plan job.cut) (sym are) (AreFitting-none job.plan job.cut (length job.cut));
+}
 
 -- the state of a set of answers becomes that of the set with one more
 pub one_more : (cut : Cut) (answers : List Answer) (a : Answer) (cells : List Cell) → a.k < length cut → cells ≡ joined cut answers
@@ -123,6 +134,22 @@ pub move : (cells : List Cell) (a : Answer) → a.k < length cells → changes (
 move cells a within e same =
     moves_held (cell_at cells a.k) a.body e
     (sym (get_or-set_same cells a.k (join_cells (cell_at cells a.k) (One a.body)) Nothing within) ∙ ap (λ (cs : List Cell). cell_at cs a.k) same)
+
+-- what is held behind an answer
+pub held_with : (g : GatherSpec) (a : Answer) → IsGather g → Fits g.job a → IsGather (record { job = g.job; cells = cells_with g.cells a; merges = g.merges })
+held_with g a is fits = record {
+  sound = is.sound;
+  each = length-set g.cells a.k (join_cells (cell_at g.cells a.k) (One a.body)) ∙ is.each;
+  fitting =
+      let within = below g.job g.cells a is.each fits in
+      let here = AreFitting-at g.job.plan g.job.cut g.cells a.k Nothing within is.fitting in
+      AreFitting-set g.job.plan g.job.cut g.cells a.k (join_cells (cell_at g.cells a.k) (One a.body))
+      (is_fitting-join g.job.plan g.job.cut a.k (cell_at g.cells a.k) (One a.body) here fits) is.fitting;
+}
+
+-- bytes spell one answer
+pub spelled_once : (job : JobSpec) (bytes : List ℕ) (a b : Answer) → IsJob job → Spells job bytes a → Spells job bytes b → b ≡ a
+spelled_once job bytes a b is_job first second = ok_is b a (sym (spelled_reads job bytes b is_job second) ∙ spelled_reads job bytes a is_job first)
 
 -- what is said of an answer before it is taken
 pub said_before : (g : GatherSpec) (bytes : List ℕ) (returned : Absorbed × Bool) (a : Answer) → IsGather g → Spells g.job bytes a → ((b : Answer) → Spells g.job bytes b → b ≡ a)

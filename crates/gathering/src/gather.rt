@@ -6,7 +6,7 @@ ghost use Rattle.meaning.specs.Said.{Cell as ACell};
 ghost use Rattle.meaning.specs.Gather.{joined, preview, report};
 ghost use Rattle.meaning.specs.Print.{output_text, report_text};
 ghost use Rattle.meaning.specs.SoundPlan.{IsSoundPlan};
-ghost use Rattle.partial_codec.specs.Answer.{Spells};
+ghost use Rattle.partial_codec.specs.Answer.{Fits, Spells};
 ghost use Rattle.partial_codec.specs.State.{SpellsState, state_bytes};
 ghost use Rattle.gathering.specs.Fitted.{AreFitting};
 ghost use Rattle.gathering.specs.Gathering.{Takes, Would, Joins, Refuses, RefusesState, RefusesJoin, absorbed_as, changes};
@@ -101,7 +101,11 @@ fn changes(held: &Cell<Group>, body: &Body<Group>) -> bool
 }
 
 /// A coordinator that holds these cells.
-fn holding(alloc: Global, job: Job, cells: Vec<Cell<Group>>) -> Result<Gather, AllocError>
+pub(crate) fn holding(
+    alloc: Global,
+    job: Job,
+    cells: Vec<Cell<Group>>,
+) -> Result<Gather, AllocError>
     requires sound { IsSoundPlan job.plan }
     requires each { length cells.items ≡ length job.cut }
     requires fitting { AreFitting job.plan job.cut cells.items }
@@ -188,7 +192,66 @@ impl Gather {
         ensures refused { IfErr result (Refuses self.old.job bytes.now) }
         ensures unchanged { OnErr result (self.new ≡ self.old) }
     {
-        let Answer { k, body } = decode(alloc, &self.job, bytes)?;
+        let answer = self.read_answer(alloc, bytes)?;
+        Ok(self.take_answer(alloc, answer)?)
+    }
+
+    /// What an `absorb` of these bytes would return if it succeeded, and whether it would change
+    /// what is held for a fragment. The bytes' refusals are those of `partial_codec::decode`.
+    pub fn would(&self, alloc: Global, bytes: &[u8]) -> Result<(Absorbed, bool), GatherFault>
+        ensures would { IfOk result (Would self.now bytes.now) }
+        ensures refused { IfErr result (Refuses self.now.job bytes.now) }
+    {
+        let answer = self.read_answer(alloc, bytes)?;
+        let returned = self.would_take(&answer);
+        drop(answer);
+        Ok(returned)
+    }
+
+    /// The answer that the bytes spell, which `would_take` judges and `take_answer` takes: `would`
+    /// and `absorb` are these in a row. The bytes' refusals are those of `partial_codec::decode`.
+    pub fn read_answer(&self, alloc: Global, bytes: &[u8]) -> Result<Answer<Group>, GatherFault>
+        ensures spelled { IfOk result (Spells self.now.job bytes.now) }
+        // No other is spelled so.
+        ensures only { IfOk result (λ a. (other : AnAnswer)
+            → Spells self.now.job bytes.now other → other ≡ a) }
+        ensures refused { IfErr result (Refuses self.now.job bytes.now) }
+    {
+        Ok(decode(alloc, &self.job, bytes)?)
+    }
+
+    /// What a `take_answer` of this answer would return if it succeeded, and whether it would change
+    /// what is held for its fragment.
+    pub fn would_take(&self, answer: &Answer<Group>) -> (Absorbed, bool)
+        requires { Fits self.now.job answer.now }
+        ensures { (bytes : List ℕ) → Spells self.now.job bytes answer.now
+            → Would self.now bytes result }
+    {
+        // No effect at run time. The proof reads from this call that the job is within its limits.
+        let _plan = self.job.plan();
+        let held = &self.cells[answer.k as usize];
+        (
+            classify(held, answer.k, &answer.body),
+            changes(held, &answer.body),
+        )
+    }
+
+    /// Takes an answer. An error is that memory ran out, and then nothing changes.
+    pub fn take_answer(
+        &mut self,
+        alloc: Global,
+        answer: Answer<Group>,
+    ) -> Result<Absorbed, AllocError>
+        requires { Fits self.old.job answer }
+        // As bytes that spell it are taken.
+        ensures takes { IfOk result (λ returned. (bytes : List ℕ)
+            → Spells self.old.job bytes answer → Takes self.old self.new bytes returned) }
+        ensures joins { OnOk result ((answers : List AnAnswer)
+            → self.old.cells ≡ joined self.old.job.cut answers
+            → self.new.cells ≡ joined self.old.job.cut (answers ++ answer ∷ [])) }
+        ensures unchanged { OnErr result (self.new ≡ self.old) }
+    {
+        let Answer { k, body } = answer;
         let absorbed = classify(&self.cells[k as usize], k, &body);
         let delta = delta_with(&self.cells[k as usize], Cell::One(body));
         change(
@@ -200,19 +263,6 @@ impl Gather {
             delta,
         )?;
         Ok(absorbed)
-    }
-
-    /// What an `absorb` of these bytes would return if it succeeded, and whether it would change
-    /// what is held for a fragment. The bytes' refusals are those of `partial_codec::decode`.
-    pub fn would(&self, alloc: Global, bytes: &[u8]) -> Result<(Absorbed, bool), GatherFault>
-        ensures would { IfOk result (Would self.now bytes.now) }
-        ensures refused { IfErr result (Refuses self.now.job bytes.now) }
-    {
-        let Answer { k, body } = decode(alloc, &self.job, bytes)?;
-        let held = &self.cells[k as usize];
-        let returned = (classify(held, k, &body), changes(held, &body));
-        drop(body);
-        Ok(returned)
     }
 
     /// Takes all that another coordinator holds. Another load, plan or cut is refused. On error

@@ -140,15 +140,15 @@ fn joined(own: Cell<Group>, other: Cell<Group>) -> Cell<Group>
     }
 }
 
-/// Joins a fragment's cell with its delta.
-fn join_at(cells: &mut Vec<Cell<Group>>, k: usize, delta: Cell<Group>)
+/// Joins a fragment's cell with another.
+pub fn join_at(cells: &mut Vec<Cell<Group>>, k: usize, other: Cell<Group>)
     requires { k < length cells.old.items }
     ensures { cells.new.items
-        ≡ slice_set cells.old.items k (join_cells (slice_index_or cells.old.items k Nothing) delta) }
+        ≡ slice_set cells.old.items k (join_cells (slice_index_or cells.old.items k Nothing) other) }
 {
     let cell = &mut cells[k];
     let held = mem::replace(cell, Cell::Nothing);
-    *cell = joined(held, delta);
+    *cell = joined(held, other);
 }
 
 /// Joins each cell with its delta.

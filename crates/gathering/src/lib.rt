@@ -1,6 +1,7 @@
 //! Gathering the answers of fragments, and reporting what they say together.
 #![tactic(auto)]
 
+mod cells;
 mod changing;
 mod combining;
 mod copying;
@@ -15,6 +16,7 @@ mod report;
 mod same_job;
 mod totals;
 
+pub use cells::Cells;
 pub use fault::GatherFault;
 pub use gather::{Absorbed, Gather};
 pub use last_step::PrintFault;

@@ -14,7 +14,7 @@ use Rattle.wire.proofs.Numbers.{IsBytes}
 use Rattle.wire.proofs.Seals.{magic_takes, magic_again}
 use Rattle.partial_codec.specs.Job.{JobSpec}
 use Rattle.gathering.specs.Gathering.{GatherSpec}
-use Rattle.journal.specs.Journal.{journal_magic, max_records, AreRecords, IsOpened}
+use Rattle.journal.specs.Journal.{journal_magic, max_records, AreRecords, IsJournal, IsOpened}
 use Rattle.journal.specs.Durable.{IsJournalAt, last_gate}
 use Rattle.journal.specs.Reading.{IsNoJournal, HasRead, IsFileOf, OnlyReads, from_offset}
 use Rattle.journal.specs.Fault.{IsNoFile}
@@ -100,6 +100,27 @@ opened_file gate g file is = record {
   journal = record { records = is.records; are_records = is.are_records; closed = is.closed };
   state = is.state;
 }
+
+-- another coordinator that holds the same
+module _ (g h : GatherSpec) (job : h.job ≡ g.job) (cells : h.cells ≡ g.cells) where
+  pub same_journal : (gate : ℕ) (s : State) → IsJournalAt gate g s → IsJournalAt gate h s
+  same_journal gate s at = record {
+    synced = at.synced;
+    answers = at.answers;
+    records = at.records;
+    are_records = subst (λ (j : JobSpec). AreRecords j at.answers at.records) (sym job) at.are_records;
+    offset = at.offset;
+    closed = at.closed;
+    state = cells ∙ at.state ∙ ap (λ (j : JobSpec). joined j.cut at.answers) (sym job);
+  }
+
+  pub same_opened : (file : List ℕ) → IsOpened g file → IsOpened h file
+  same_opened file is = record {
+    answers = is.answers;
+    few = is.few;
+    journal = subst (λ (j : JobSpec). IsJournal j is.answers file) (sym job) is.journal;
+    state = cells ∙ is.state ∙ ap (λ (j : JobSpec). joined j.cut is.answers) (sym job);
+  }
 
 -- a sync, and reading behind it: a crash leaves what it could leave before
 pub synced_only : {X : Type 0} (old mid new : DiskSpec) (result : Result X DiskFault) → IsHonest old → IsCall old mid result → mid.now ≡ record { reads = old.now.reads; unsynced = Synced } → IsImage old.now old.now.reads

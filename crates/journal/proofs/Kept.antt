@@ -1,15 +1,17 @@
 -- What a crash leaves of a durable coordinator.
-use Rattle.std.specs.Prelude.{◌≡◌, ℕ, ◌+◌, ◌<◌, ◌≤◌, ◌^◌, true, false, List, [], ◌∷◌, ◌++◌, length, take, drop}
+use Rattle.std.specs.Prelude.{◌≡◌, ℕ, ◌+◌, ◌<◌, ◌≤◌, ◌^◌, true, false, cond, List, [], ◌∷◌, ◌++◌, length, take, drop, slice_set}
 use Rattle.std.proofs.Common.{inl, inr, refl, sym, ap, ◌∙◌, subst, arith}
 use Rattle.std.proofs.lemmas.Bool.{false≢true}
-use Rattle.std.proofs.lemmas.List.{append-nil, length-append}
-use Rattle.meaning.specs.Said.{Answer}
-use Rattle.meaning.specs.Gather.{joined}
+use Rattle.std.proofs.lemmas.List.{append-nil, length-append, set-get_or}
+use Rattle.meaning.specs.Said.{Answer, Body, Cell}
+use Rattle.meaning.specs.declared.answer.Cell.TheVariants.{Nothing, One, Conflict}
+use Rattle.meaning.specs.Gather.{join_cells, joined, same_body}
 use Rattle.partial_codec.specs.Job.{JobSpec, IsJob}
 use Rattle.partial_codec.specs.Answer.{Spells}
 use Rattle.gathering.specs.declared.gather.Absorbed.{Absorbed}
-use Rattle.gathering.specs.Gathering.{GatherSpec, IsGather, Takes, cells_with}
-use Rattle.gathering.proofs.Held.{below}
+use Rattle.gathering.specs.declared.gather.Absorbed.TheVariants as absorbed
+use Rattle.gathering.specs.Gathering.{GatherSpec, IsGather, Takes, absorbed_as, cell_at, cells_with}
+use Rattle.gathering.proofs.Held.{below, spelled_once}
 use Rattle.disk.specs.Disk.{State, Synced, IsImage, DiskSpec, IsHonest, HasRoom, LeavesOnly}
 use Rattle.disk.proofs.Counting.{CountsNothing, room_kept}
 use Rattle.disk.proofs.Moments.{still, leaves_weaker}
@@ -69,9 +71,39 @@ lean_from_inside inside d new is lean = subst (LeavesLean new) is lean
 abbrev pub Joins : GatherSpec → GatherSpec → List ℕ → Type 0
 Joins g after bytes = (answers : List Answer) (a : Answer) → Spells g.job bytes a → g.cells ≡ joined g.job.cut answers → after.cells ≡ joined g.job.cut (answers ++ a ∷ [])
 
+-- .. from its promise of the one answer that the bytes spell
+pub joins_spelled : (g after : GatherSpec) (bytes : List ℕ) (taken : Answer) → IsJob g.job → Spells g.job bytes taken
+    → ((answers : List Answer) → g.cells ≡ joined g.job.cut answers → after.cells ≡ joined g.job.cut (answers ++ taken ∷ [])) → Joins g after bytes
+joins_spelled g after bytes taken is_job spelled joins answers a spells e =
+    joins answers e ∙ ap (λ (x : Answer). joined g.job.cut (answers ++ x ∷ [])) (sym (spelled_once g.job bytes taken a is_job spelled spells))
+
 -- the answer changes what is held
 abbrev pub Changes : GatherSpec → List ℕ → Type 0
 Changes g bytes = (a : Answer) → Spells g.job bytes a → cells_with g.cells a ≡ g.cells → ⊥
+
+-- an answer that changes what is held isn't known, and leaves other cells
+new_is_not_known : absorbed.New ≡ absorbed.Known → ⊥
+new_is_not_known e = cc
+
+conflict_is_not_known : (k : ℕ) → absorbed.Conflict k ≡ absorbed.Known → ⊥
+conflict_is_not_known k e = cc
+
+stays_known : (c : Cell) (k : ℕ) (body : Body) → absorbed_as c k body ≡ absorbed.Known → join_cells c (One body) ≡ c
+stays_known Nothing k body e = absurd (new_is_not_known e)
+stays_known (One known) k body e =
+    elim (same_body known body) as (λ t. cond t absorbed.Known (absorbed.Conflict k) ≡ absorbed.Known → cond t (One known) Conflict ≡ One known) [
+      | true ↦ λ f. refl
+      | false ↦ λ f. absurd (conflict_is_not_known k f)
+    ] e
+stays_known Conflict k body e = absurd (conflict_is_not_known k e)
+
+pub is_not_known : (g after : GatherSpec) (returned : Absorbed) (bytes : List ℕ) → Takes g after bytes returned → Changes g bytes → returned ≡ absorbed.Known → ⊥
+is_not_known g after returned bytes takes changes e =
+    let a = takes.answer in
+    changes a takes.spelled (ap (slice_set g.cells a.k) (stays_known (cell_at g.cells a.k) a.k a.body (sym takes.classified ∙ e)) ∙ set-get_or g.cells a.k Nothing)
+
+pub leaves_others : (g after : GatherSpec) (returned : Absorbed) (bytes : List ℕ) → Takes g after bytes returned → Changes g bytes → after.cells ≡ g.cells → ⊥
+leaves_others g after returned bytes takes changes same = changes takes.answer takes.spelled (sym takes.cells ∙ same)
 
 -- with the record or without it
 pub before_or_after : (gate : ℕ) (g after : GatherSpec) (s : State) (returned : Absorbed) (bytes : List ℕ) → IsJournalAt gate g s → Takes g after bytes returned → Joins g after bytes → length bytes < 2 ^ 32

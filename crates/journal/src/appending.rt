@@ -13,7 +13,7 @@ pub fn entry_of(alloc: Global, spelling: &[u8]) -> Result<Vec<u8>, AllocError>
     requires { length spelling.now < 2 ^ 32 }
     ensures { IfOk result (λ entry. entry.items ≡ record_bytes spelling.now ++ 0 ∷ []) }
 {
-    let mut entry = Vec::new(alloc);
+    let mut entry = Vec::with_capacity(alloc, spelling.len() + 5)?;
     append_u32(&mut entry, spelling.len() as u32)?;
     entry.extend_from_slice(spelling)?;
     entry.push(0)?;

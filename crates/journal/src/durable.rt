@@ -15,8 +15,10 @@ use crate::appending::{append_record, entry_of};
 use crate::clearing::{MAGIC, clear};
 use crate::fault::JournalFault;
 use crate::opening::open_journal;
+use aggregate_states::Group;
 use disk::Disk;
 use gathering::{Absorbed, Gather};
+use meaning::Answer;
 use partial_codec::Job;
 use std::alloc::Global;
 use std::marker::Model;
@@ -203,20 +205,55 @@ impl<D: Disk + Drop> DurableGather<D> {
         if !self.is_open {
             return Err(JournalFault::OpenAgain);
         }
-        let (returned, changes) = self.gather.would(alloc, bytes)?;
+        let answer = self.gather.read_answer(alloc, bytes)?;
+        self.absorb_answer(alloc, bytes, answer)
+    }
+
+    /// Takes an answer that the bytes spell.
+    fn absorb_answer(
+        &mut self,
+        alloc: Global,
+        bytes: &[u8],
+        answer: Answer<Group>,
+    ) -> Result<Absorbed, JournalFault>
+        requires is_open { self.old.is_open ≡ true }
+        requires spelled { Spells self.old.gather.job bytes.now answer }
+        ensures takes { IfOk result (Takes self.old.gather self.new.gather bytes.now) }
+        ensures known { IfOk result (λ r. r ≡ absorbed.Known → self.new ≡ self.old) }
+        ensures untouched { OnOk result (self.new.gather.cells ≡ self.old.gather.cells
+            → self.new ≡ self.old) }
+        ensures stays_open { OnOk result (self.new.is_open ≡ true) }
+        ensures honest { self.new.disk.is_honest ≡ self.old.disk.is_honest }
+        ensures acknowledged { OnOk result (IsDurable self.new) }
+        ensures any_moment { IsHonest self.old.disk
+            → LeavesOnly self.old.disk self.new.disk (IsBeforeOrAfter self.old.gather bytes.now) }
+        ensures lean { IsHonest self.old.disk
+            → IsLean self.old.gather.job self.old.disk.now.reads
+            → LeavesOnly self.old.disk self.new.disk (IsLean self.old.gather.job) }
+        ensures refused { IfErr result (RefusesAbsorb self.old self.new bytes.now) }
+    {
+        let (returned, changes) = self.gather.would_take(&answer);
         if !changes {
+            drop(answer);
             return Ok(returned);
         }
         if bytes.len() > MOST_BYTES {
+            drop(answer);
             return Err(JournalFault::TooLong);
         }
-        self.append(alloc, bytes)
+        self.append(alloc, bytes, answer)
     }
 
-    /// Takes an answer that changes what is gathered. All memory is taken before the disk is
-    /// touched.
-    fn append(&mut self, alloc: Global, bytes: &[u8]) -> Result<Absorbed, JournalFault>
+    /// Takes an answer that the bytes spell, and that changes what is gathered. All memory is taken
+    /// before the disk is touched.
+    fn append(
+        &mut self,
+        alloc: Global,
+        bytes: &[u8],
+        answer: Answer<Group>,
+    ) -> Result<Absorbed, JournalFault>
         requires is_open { self.old.is_open ≡ true }
+        requires spelled { Spells self.old.gather.job bytes.now answer }
         requires short { length bytes.now < 2 ^ 32 }
         requires changes { (a : AnAnswer) → Spells self.old.gather.job bytes.now a
             → cells_with self.old.gather.cells a ≢ self.old.gather.cells }
@@ -234,7 +271,7 @@ impl<D: Disk + Drop> DurableGather<D> {
         // No effect at run time. The proof reads from this call that the job is within its limits.
         let _plan = self.gather.job().plan();
         let entry = entry_of(alloc, bytes)?;
-        let returned = self.gather.absorb(alloc, bytes)?;
+        let returned = self.gather.take_answer(alloc, answer)?;
         match append_record(&mut self.disk, self.gate, entry.as_slice()) {
             Ok(()) => {
                 self.gate += entry.len();

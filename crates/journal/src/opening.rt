@@ -12,7 +12,7 @@ use crate::clearing::MAGIC;
 use crate::fault::JournalFault;
 use crate::reading::{absorb_records, read_at};
 use disk::Disk;
-use gathering::Gather;
+use gathering::{Cells, Gather};
 use partial_codec::Job;
 use std::alloc::Global;
 use std::mem::drop;
@@ -54,66 +54,66 @@ fn has_magic<D: Disk>(disk: &mut D, end: usize) -> Result<bool, JournalFault>
 fn read_journal<D: Disk>(
     alloc: Global,
     disk: &mut D,
-    gather: &mut Gather,
+    cells: &mut Cells,
 ) -> Result<usize, JournalFault>
     requires room { HasRoom (D.shown disk.old) }
-    requires fresh { gather.old.cells ≡ joined gather.old.job.cut [] }
+    requires fresh { cells.old.cells ≡ joined cells.old.job.cut [] }
     ensures only { OnlyReads (D.shown disk.old) (D.shown disk.new) }
     ensures counts { OnOk result (CountsNothing (D.shown disk.old) (D.shown disk.new)) }
-    ensures job { gather.new.job ≡ gather.old.job }
+    ensures job { cells.new.job ≡ cells.old.job }
     ensures near { IfOk result (λ gate. gate ≤ 4 + max_records * 2 ^ 33) }
     ensures read { IfOk result (λ gate. IsHonest (D.shown disk.old)
-        → IsFileOf gate gather.new (D.shown disk.old).now.reads) }
+        → IsFileOf gate cells.new (D.shown disk.old).now.reads) }
     ensures refused { IfErr result (RefusesReading (D.shown disk.old) (D.shown disk.new)
-        (IsNoFile gather.old.job (D.shown disk.old).now.reads)) }
+        (IsNoFile cells.old.job (D.shown disk.old).now.reads)) }
 {
     let end = disk.len()?;
     if !has_magic(disk, end)? {
         return Err(JournalFault::NotAJournal);
     }
-    absorb_records(alloc, disk, end, gather)
+    absorb_records(alloc, disk, end, cells)
 }
 
 /// Syncs a disk, and reads the journal on it.
 fn read_synced<D: Disk>(
     alloc: Global,
     disk: &mut D,
-    gather: &mut Gather,
+    cells: &mut Cells,
 ) -> Result<usize, JournalFault>
     requires room { HasRoom (D.shown disk.old) }
-    requires fresh { gather.old.cells ≡ joined gather.old.job.cut [] }
+    requires fresh { cells.old.cells ≡ joined cells.old.job.cut [] }
     ensures honest { (D.shown disk.new).is_honest ≡ (D.shown disk.old).is_honest }
     ensures counts { OnOk result (CountsNothing (D.shown disk.old) (D.shown disk.new)) }
-    ensures job { gather.new.job ≡ gather.old.job }
+    ensures job { cells.new.job ≡ cells.old.job }
     ensures near { IfOk result (λ gate. gate ≤ 4 + max_records * 2 ^ 33) }
     ensures journal { IfOk result (λ gate. IsHonest (D.shown disk.old)
-        → IsJournalAt gate gather.new (D.shown disk.new).now) }
+        → IsJournalAt gate cells.new (D.shown disk.new).now) }
     ensures opened { IfOk result (λ _. IsHonest (D.shown disk.old)
-        → IsOpened gather.new (D.shown disk.old).now.reads) }
+        → IsOpened cells.new (D.shown disk.old).now.reads) }
     ensures reads { IsHonest (D.shown disk.old)
         → (D.shown disk.new).now.reads ≡ (D.shown disk.old).now.reads }
     // A crash at any moment leaves what it could leave before.
     ensures any_moment { IsHonest (D.shown disk.old)
         → LeavesOnly (D.shown disk.old) (D.shown disk.new) (IsImage (D.shown disk.old).now) }
     ensures refused { IfErr result (RefusesReading (D.shown disk.old) (D.shown disk.new)
-        (IsNoFile gather.old.job (D.shown disk.old).now.reads)) }
+        (IsNoFile cells.old.job (D.shown disk.old).now.reads)) }
 {
     disk.sync()?;
-    read_journal(alloc, disk, gather)
+    read_journal(alloc, disk, cells)
 }
 
-/// Syncs a disk, and reads the journal on it into a coordinator that has taken nothing. Gives the
-/// coordinator with the offset of the closed gate.
+/// Syncs a disk, and reads the journal on it into cells that have taken nothing. Gives a coordinator
+/// that holds these, with the offset of the closed gate.
 fn fill_from<D: Disk>(
     alloc: Global,
     disk: &mut D,
-    gather: Gather,
+    cells: Cells,
 ) -> Result<(Gather, usize), JournalFault>
     requires room { HasRoom (D.shown disk.old) }
-    requires fresh { gather.cells ≡ joined gather.job.cut [] }
+    requires fresh { cells.cells ≡ joined cells.job.cut [] }
     ensures honest { (D.shown disk.new).is_honest ≡ (D.shown disk.old).is_honest }
     ensures room { OnOk result (HasRoom (D.shown disk.new)) }
-    ensures job { IfOk result (λ r. r.0.job ≡ gather.job) }
+    ensures job { IfOk result (λ r. r.0.job ≡ cells.job) }
     ensures near { IfOk result (λ r. r.1 ≤ last_gate r.0.cells) }
     ensures journal { IfOk result
         (λ r. IsHonest (D.shown disk.old) → IsJournalAt r.1 r.0 (D.shown disk.new).now) }
@@ -124,13 +124,16 @@ fn fill_from<D: Disk>(
     ensures any_moment { IsHonest (D.shown disk.old)
         → LeavesOnly (D.shown disk.old) (D.shown disk.new) (IsImage (D.shown disk.old).now) }
     ensures refused { IfErr result (RefusesReading (D.shown disk.old) (D.shown disk.new)
-        (IsNoFile gather.job (D.shown disk.old).now.reads)) }
+        (IsNoFile cells.job (D.shown disk.old).now.reads)) }
 {
-    let mut gather = gather;
-    match read_synced(alloc, disk, &mut gather) {
-        Ok(gate) => Ok((gather, gate)),
+    let mut cells = cells;
+    match read_synced(alloc, disk, &mut cells) {
+        Ok(gate) => match cells.into_gather(alloc) {
+            Ok(gather) => Ok((gather, gate)),
+            Err(_) => Err(JournalFault::Memory),
+        },
         Err(fault) => {
-            drop(gather);
+            drop(cells);
             Err(fault)
         }
     }
@@ -160,8 +163,8 @@ pub fn open_journal<D: Disk>(
     ensures refused { IfErr result (RefusesReading (D.shown disk.old) (D.shown disk.new)
         (IsNoFile job (D.shown disk.old).now.reads)) }
 {
-    match Gather::new(alloc, job) {
-        Ok(gather) => fill_from(alloc, disk, gather),
+    match Cells::new(alloc, job) {
+        Ok(cells) => fill_from(alloc, disk, cells),
         Err(_) => Err(JournalFault::Memory),
     }
 }

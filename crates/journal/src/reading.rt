@@ -12,7 +12,7 @@ use crate::clearing::MAGIC;
 use crate::fault::JournalFault;
 use byteorder::{ByteOrder, LittleEndian};
 use disk::Disk;
-use gathering::{Gather, GatherFault};
+use gathering::{Cells, GatherFault};
 use std::alloc::Global;
 
 /// The most records that are read.
@@ -129,13 +129,13 @@ fn read_spelling<D: Disk>(
 }
 
 /// Takes the answer that a record's bytes spell.
-fn absorb_spelling(alloc: Global, gather: &mut Gather, spelling: &[u8]) -> Result<(), JournalFault>
-    ensures job { gather.new.job ≡ gather.old.job }
-    ensures taken { OnOk result (TakesSpelling gather.old gather.new spelling.now) }
-    ensures refused { IfErr result (RefusesSpelling gather.old.job spelling.now) }
+fn absorb_spelling(alloc: Global, cells: &mut Cells, spelling: &[u8]) -> Result<(), JournalFault>
+    ensures job { cells.new.job ≡ cells.old.job }
+    ensures taken { OnOk result (TakesSpelling cells.old cells.new spelling.now) }
+    ensures refused { IfErr result (RefusesSpelling cells.old.job spelling.now) }
 {
-    match gather.absorb(alloc, spelling) {
-        Ok(_) => Ok(()),
+    match cells.absorb(alloc, spelling) {
+        Ok(()) => Ok(()),
         Err(GatherFault::Memory) => Err(JournalFault::Memory),
         Err(GatherFault::Decode(_)) => Err(JournalFault::NotAJournal),
         // These don't come where bytes are taken.
@@ -151,29 +151,29 @@ fn absorb_next<D: Disk>(
     disk: &mut D,
     end: usize,
     at: usize,
-    gather: &mut Gather,
+    cells: &mut Cells,
 ) -> Result<Option<usize>, JournalFault>
     requires room { HasRoom (D.shown disk.old) }
     requires within { at ≤ end }
     requires end { IsHonest (D.shown disk.old) → end ≡ length (D.shown disk.old).now.reads }
     ensures only { OnlyReads (D.shown disk.old) (D.shown disk.new) }
     ensures counts { OnOk result (CountsNothing (D.shown disk.old) (D.shown disk.new)) }
-    ensures job { gather.new.job ≡ gather.old.job }
+    ensures job { cells.new.job ≡ cells.old.job }
     ensures next { IfOk result (IsNext at end) }
     ensures taken { IfOk result (λ next. IsHonest (D.shown disk.old)
-        → HasTaken gather.old gather.new (from_offset at (D.shown disk.old))
+        → HasTaken cells.old cells.new (from_offset at (D.shown disk.old))
         (option_map (λ n. from_offset n (D.shown disk.old)) next)) }
     ensures refused { IfErr result (RefusesReading (D.shown disk.old) (D.shown disk.new)
-        (IsNoJournal gather.old.job (from_offset at (D.shown disk.old)))) }
+        (IsNoJournal cells.old.job (from_offset at (D.shown disk.old)))) }
 {
     // No effect at run time. The proof reads from this call that the job is within its limits.
-    let _plan = gather.job().plan();
+    let _plan = cells.job().plan();
     let gate = read_byte(disk, end, at)?;
     if gate == 0 {
         return Ok(None);
     }
     let spelling = read_spelling(alloc, disk, end, at + 1)?;
-    absorb_spelling(alloc, gather, spelling.as_slice())?;
+    absorb_spelling(alloc, cells, spelling.as_slice())?;
     Ok(Some(at + 5 + spelling.len()))
 }
 
@@ -182,26 +182,26 @@ pub fn absorb_records<D: Disk>(
     alloc: Global,
     disk: &mut D,
     end: usize,
-    gather: &mut Gather,
+    cells: &mut Cells,
 ) -> Result<usize, JournalFault>
     requires room { HasRoom (D.shown disk.old) }
     requires within { 4 ≤ end }
     requires end { IsHonest (D.shown disk.old) → end ≡ length (D.shown disk.old).now.reads }
-    requires fresh { gather.old.cells ≡ joined gather.old.job.cut [] }
+    requires fresh { cells.old.cells ≡ joined cells.old.job.cut [] }
     ensures only { OnlyReads (D.shown disk.old) (D.shown disk.new) }
     ensures counts { OnOk result (CountsNothing (D.shown disk.old) (D.shown disk.new)) }
-    ensures job { gather.new.job ≡ gather.old.job }
+    ensures job { cells.new.job ≡ cells.old.job }
     ensures near { IfOk result (λ gate. gate ≤ 4 + max_records * 2 ^ 33) }
     ensures read { IfOk result (λ gate. IsHonest (D.shown disk.old)
-        → HasRead gather.old gather.new (from_offset 4 (D.shown disk.old)) gate) }
+        → HasRead cells.old cells.new (from_offset 4 (D.shown disk.old)) gate) }
     ensures refused { IfErr result (RefusesReading (D.shown disk.old) (D.shown disk.new)
-        (IsNoJournal gather.old.job (from_offset 4 (D.shown disk.old)))) }
+        (IsNoJournal cells.old.job (from_offset 4 (D.shown disk.old)))) }
 {
     // No effect at run time. The proof reads from this call that the job is within its limits.
-    let _plan = gather.job().plan();
+    let _plan = cells.job().plan();
     let mut at = MAGIC.len();
     for _ in 0..MAX_RECORDS + 1 {
-        match absorb_next(alloc, disk, end, at, gather)? {
+        match absorb_next(alloc, disk, end, at, cells)? {
             Some(next) => at = next,
             None => return Ok(at),
         }

@@ -49,5 +49,7 @@ pub fn print_known<W: Write>(out: &mut W) -> io::Result<()> {
     for layer in Layer::ALL {
         writeln!(out, "  {}", layer.codes())?;
     }
-    out.write_all(b"  memory, cannot read, cannot write, cannot write standard output\n")
+    out.write_all(
+        b"  memory, cannot read, cannot write,\n  cannot write standard error, cannot write standard output\n",
+    )
 }

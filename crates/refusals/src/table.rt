@@ -96,7 +96,8 @@ pub fn of_cut(number: u8) -> Entry {
     }
 }
 
-pub fn of_sql(number: u8) -> Entry {
+/// What a query's text has in it.
+fn of_tokens(number: u8) -> Entry {
     match number {
         1 => Entry {
             lines: "sql 1",
@@ -116,12 +117,18 @@ pub fn of_sql(number: u8) -> Entry {
             smallest_input: "`SELECT 'a`",
             advice: "close it",
         },
-        4 => Entry {
+        _ => Entry {
             lines: "sql 4 OFFSET",
             meaning: "an integer out of range",
             smallest_input: "`SELECT 9223372036854775808`",
             advice: "",
         },
+    }
+}
+
+/// How a query is put together, and how much of it there is.
+fn of_grammar(number: u8) -> Entry {
+    match number {
         5 => Entry {
             lines: "sql 5 OFFSET",
             meaning: "a token that isn't expected there",
@@ -149,7 +156,15 @@ pub fn of_sql(number: u8) -> Entry {
     }
 }
 
-pub fn of_plan(number: u8) -> Entry {
+pub fn of_sql(number: u8) -> Entry {
+    if number <= 4 {
+        return of_tokens(number);
+    }
+    of_grammar(number)
+}
+
+/// The names of a query.
+fn of_names(number: u8) -> Entry {
     match number {
         1 => Entry {
             lines: "plan 1",
@@ -163,12 +178,18 @@ pub fn of_plan(number: u8) -> Entry {
             smallest_input: "`SELECT SUM(w) FROM n`",
             advice: "",
         },
-        3 => Entry {
+        _ => Entry {
             lines: "plan 3",
             meaning: "a name that refers to several things: a column of two tables, an alias twice, two headers in ORDER BY",
             smallest_input: "`SELECT v AS a, v AS a FROM n ORDER BY a`",
             advice: "give the column's table, or another alias",
         },
+    }
+}
+
+/// Types, and how the tables are joined.
+fn of_joins(number: u8) -> Entry {
+    match number {
         4 => Entry {
             lines: "plan 4",
             meaning: "types that don't fit, or a truth where a value belongs",
@@ -187,12 +208,18 @@ pub fn of_plan(number: u8) -> Entry {
             smallest_input: "`ON v = k AND k = v`",
             advice: "",
         },
-        7 => Entry {
+        _ => Entry {
             lines: "plan 7",
             meaning: "the fact table isn't named just once",
             smallest_input: "`SELECT COUNT(*) FROM d`",
             advice: "",
         },
+    }
+}
+
+/// Groups, positions and limits.
+fn of_groups(number: u8) -> Entry {
+    match number {
         8 => Entry {
             lines: "plan 8",
             meaning: "a column that isn't grouped, in a query with groups",
@@ -220,7 +247,18 @@ pub fn of_plan(number: u8) -> Entry {
     }
 }
 
-pub fn of_load(number: u8) -> Entry {
+pub fn of_plan(number: u8) -> Entry {
+    if number <= 3 {
+        return of_names(number);
+    }
+    if number <= 7 {
+        return of_joins(number);
+    }
+    of_groups(number)
+}
+
+/// The header and the records of a CSV file.
+fn of_records(number: u8) -> Entry {
     match number {
         1 => Entry {
             lines: "load 1",
@@ -234,12 +272,18 @@ pub fn of_load(number: u8) -> Entry {
             smallest_input: "`2,3` in a table of one column",
             advice: "",
         },
-        3 => Entry {
+        _ => Entry {
             lines: "load 3 ROW COLUMN",
             meaning: "not an integer of 64 bits",
             smallest_input: "`x`",
             advice: "",
         },
+    }
+}
+
+/// The values of a record.
+fn of_values(number: u8) -> Entry {
+    match number {
         4 => Entry {
             lines: "load 4 ROW COLUMN",
             meaning: "NULL in a column without `null`",
@@ -252,12 +296,18 @@ pub fn of_load(number: u8) -> Entry {
             smallest_input: "65,536 letters",
             advice: "",
         },
-        6 => Entry {
+        _ => Entry {
             lines: "load 6 ROW COLUMN",
             meaning: "not UTF-8",
             smallest_input: "a byte `FF`",
             advice: "save it as UTF-8",
         },
+    }
+}
+
+/// The rows of a table together.
+fn of_rows(number: u8) -> Entry {
+    match number {
         7 => Entry {
             lines: "load 7 ROW",
             meaning: "the row has the key of an earlier row",
@@ -277,6 +327,16 @@ pub fn of_load(number: u8) -> Entry {
             advice: "load again",
         },
     }
+}
+
+pub fn of_load(number: u8) -> Entry {
+    if number <= 3 {
+        return of_records(number);
+    }
+    if number <= 6 {
+        return of_values(number);
+    }
+    of_rows(number)
 }
 
 pub fn of_file(number: u8) -> Entry {

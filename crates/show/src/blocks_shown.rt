@@ -1,7 +1,5 @@
 //! Blocks, and what the blocks of a column come to.
-use crate::cursor::Cursor;
-use crate::damage::{Stop, Wrong};
-use crate::numbers::put_share;
+use answer_text::{Cursor, Stop, Wrong, put_share};
 use blocks::{BlockView, Kind};
 use fragment_file::block_of;
 use meaning::Column;

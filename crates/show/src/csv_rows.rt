@@ -1,9 +1,8 @@
 //! The first rows of a table's file as comma-separated values.
 use crate::blocks_shown::take_block;
-use crate::cursor::Cursor;
-use crate::damage::Stop;
 use crate::header::{show_columns, show_front};
 use crate::tables::{count_groups, take_group_rows};
+use answer_text::{Cursor, Stop};
 use blocks::BlockView;
 use csv::{ByteRecord, Writer, WriterBuilder};
 use itoa::Buffer;

@@ -1,6 +1,5 @@
 //! Files of cuts.
-use crate::cursor::Cursor;
-use crate::damage::{Stop, Wrong};
+use answer_text::{Cursor, Stop, Wrong};
 use fragment_file::is_1_to;
 use meaning::{MAX_FRAGMENTS, MAX_ROWS};
 

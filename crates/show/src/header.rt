@@ -1,7 +1,5 @@
 //! The header of a table's file.
-use crate::cursor::Cursor;
-use crate::damage::{Stop, Wrong};
-use crate::values::type_word;
+use answer_text::{Cursor, Stop, Wrong, type_word};
 use fragment_file::{flag_of, is_1_to, is_named, type_of};
 use meaning::{ColType, Column, MAX_COLUMNS, MAX_NAME_BYTES, MAX_ROWS, Text, is_name, text_of};
 use std::alloc::Global;

@@ -5,16 +5,11 @@ ghost use Rattle.fragment_file.specs.Fragment.{FragmentSpec, IsFileOf};
 ghost use Rattle.folders.specs.Folder.{AreHeld};
 ghost use Rattle.show.specs.Shown.{IsTaken, IsWhole};
 
-use crate::answers::show_answer;
 use crate::csv_rows::rows_of_table;
-use crate::cursor::Cursor;
 use crate::cuts::show_cut_file;
-use crate::damage::{Damage, Stop, Wrong};
-use crate::detail::Detail;
 use crate::file_kind::{FileKind, kind_of};
-use crate::journals::show_journal;
-use crate::states::show_state;
 use crate::tables::show_table_file;
+use answer_text::{Cursor, Damage, Detail, Stop, Wrong, show_answer, show_journal, show_state};
 use folders::{Folder, try_read};
 use fragment_file::{open, read_cut};
 use std::alloc::{AllocError, Global};

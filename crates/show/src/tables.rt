@@ -1,9 +1,7 @@
 //! Files of fragments and dimensions.
 use crate::blocks_shown::{Total, no_totals, put_total, show_block};
-use crate::cursor::Cursor;
-use crate::damage::{Stop, Wrong};
 use crate::header::{show_columns, show_front};
-use crate::numbers::put_share;
+use answer_text::{Cursor, Stop, Wrong, put_share};
 use fragment_file::next_rows;
 use meaning::{Column, ROW_GROUP_ROWS};
 use std::alloc::Global;

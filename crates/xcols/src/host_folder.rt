@@ -51,7 +51,7 @@ impl<'a, R: Files<File = File>> Folder for HostFolder<'a, R> {
     type Disk = FileDisk;
 
     fn open(&self, path: &str) -> io::Result<Watched<'a>> {
-        Ok(Watched::new(fs::open(self.files, path)?, self.progress))
+        Ok(Watched::new(fs::open(self.files, path)?, path, self.progress))
     }
 
     // One that another program has locked can't be opened.

@@ -1,5 +1,5 @@
 //! How far a command has come, on standard error.
-use memchr::memchr_iter;
+use memchr::memchr2_iter;
 use std::alloc::Global;
 use std::cell::Cell;
 use std::fs::File;
@@ -67,13 +67,16 @@ impl<'a> Progress<'a> {
             ("", "\n")
         };
         eprint!(self.rt;
-            "{begin}file {}: {} of {} bytes ({} of 100), {} lines; {megabytes} MB in all, {speed} MB/s{end}",
+            "{begin}file {}: {} of {} bytes ({} of 100)",
             self.files.get(),
             file.bytes,
             file.size,
-            file.share(),
-            file.lines
-        )
+            file.share()
+        )?;
+        if let Some(records) = &file.records {
+            eprint!(self.rt; ", {} rows", records.rows())?;
+        }
+        eprint!(self.rt; "; {megabytes} MB in all, {speed} MB/s{end}")
     }
 
     /// Takes the line of a terminal away, where there is one.
@@ -112,6 +115,39 @@ impl<W: Write> Write for Behind<'_, W> {
     }
 }
 
+/// The records of a CSV file of which the end was read.
+#[derive(Drop)]
+struct Records {
+    ends: u64,
+    // Behind a quote that isn't closed, where a line end is part of a text.
+    is_quoted: bool,
+}
+
+impl Records {
+    /// Of a file of which nothing was read, where its name is that of a CSV file.
+    fn of_path(path: &str) -> Option<Records> {
+        path.ends_with(".csv").then_some(Records {
+            ends: 0,
+            is_quoted: false,
+        })
+    }
+
+    fn read(&mut self, bytes: &[u8]) {
+        for at in memchr2_iter(b'\n', b'"', bytes) {
+            if bytes.get(at).copied().unwrap_or(b'\n') == b'"' {
+                self.is_quoted = !self.is_quoted;
+            } else if !self.is_quoted {
+                self.ends = self.ends.saturating_add(1);
+            }
+        }
+    }
+
+    /// Those behind the header.
+    fn rows(&self) -> u64 {
+        self.ends.saturating_sub(1)
+    }
+}
+
 /// A file, and how much of it was read.
 #[derive(Drop)]
 pub struct Watched<'a> {
@@ -119,12 +155,12 @@ pub struct Watched<'a> {
     progress: Option<&'a Progress<'a>>,
     size: u64,
     bytes: u64,
-    lines: u64,
+    records: Option<Records>,
 }
 
 impl<'a> Watched<'a> {
-    /// A file of which nothing was read. Without a progress nothing is counted.
-    pub fn new(file: File, progress: Option<&'a Progress<'a>>) -> Watched<'a> {
+    /// The file of a path, of which nothing was read. Without a progress nothing is counted.
+    pub fn new(file: File, path: &str, progress: Option<&'a Progress<'a>>) -> Watched<'a> {
         let mut size = 0;
         if let Some(progress) = progress {
             progress.files.set(progress.files.get().saturating_add(1));
@@ -135,7 +171,7 @@ impl<'a> Watched<'a> {
             progress,
             size,
             bytes: 0,
-            lines: 0,
+            records: Records::of_path(path),
         }
     }
 
@@ -149,8 +185,8 @@ impl<'a> Watched<'a> {
         progress
             .bytes
             .set(progress.bytes.get().saturating_add(bytes.len() as u64));
-        for _ in memchr_iter(b'\n', bytes) {
-            self.lines = self.lines.saturating_add(1);
+        if let Some(records) = &mut self.records {
+            records.read(bytes);
         }
         // A closed standard error leaves nobody to print.
         let _ = progress.tell(self);

@@ -20,7 +20,7 @@ returns-clause-refused g c =
     let first = g.D.Disk.shown c.args.disk.now in
     let long = g.D.Disk.shown c.len.new.self in
     let begun = g.D.Disk.shown c.has_magic.new.disk in
-    let job = c.args.gather.now.job in
+    let job = c.args.cells.now.job in
     let to_long : OnlyReads first long = only_call first long c.len.result c.len.ensures.call c.len.ensures.same in
     let to_begun : OnlyReads first begun = only_then first long begun to_long c.has_magic.ensures.only in
     IfErr-weaker c.absorb_records.result _ _

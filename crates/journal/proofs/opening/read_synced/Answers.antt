@@ -16,6 +16,6 @@ returns-clause-opened g c =
     IfOk-weaker c.read_journal.result _ _
     (λ gate file honest.
     let is = c.in_ok-sync.ensures.synced honest in
-    subst (IsOpened c.read_journal.new.gather) (ap (λ (s : State). s.reads) is)
-    (opened_file gate c.read_journal.new.gather (g.D.Disk.shown c.sync.new.self).now.reads (file (c.sync.ensures.call.honest ∙ honest))))
+    subst (IsOpened c.read_journal.new.cells) (ap (λ (s : State). s.reads) is)
+    (opened_file gate c.read_journal.new.cells (g.D.Disk.shown c.sync.new.self).now.reads (file (c.sync.ensures.call.honest ∙ honest))))
     c.read_journal.ensures.read

@@ -3,4 +3,4 @@ use Rattle.journal.proofs.ReadTo.{IsReadTo}
 use Rattle.journal.proofs.reading.absorb_records.Given as goal
 
 abbrev pub invariant-loop : goal.invariant-loop
-invariant-loop g l = IsReadTo (g.D.Disk.shown l.fn.disk) (g.D.Disk.shown l.disk) l.fn.gather l.gather l.end l.counter l.at
+invariant-loop g l = IsReadTo (g.D.Disk.shown l.fn.disk) (g.D.Disk.shown l.disk) l.fn.cells l.cells l.end l.counter l.at

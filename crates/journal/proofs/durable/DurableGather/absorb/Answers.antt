@@ -2,20 +2,8 @@
 use Rattle.journal.proofs.Kept.{stays_lean, unchanged}
 use Rattle.journal.proofs.durable.DurableGather.absorb.Goals as goal
 
-pub returns-in_err-returned-clause-any_moment : goal.returns-in_err-returned-clause-any_moment
-returns-in_err-returned-clause-any_moment g c = unchanged c.self.inside.gate _ _ c.args.bytes.now c.self.view_is c.self.invariant
+pub returns-in_err-answer-clause-any_moment : goal.returns-in_err-answer-clause-any_moment
+returns-in_err-answer-clause-any_moment g c = unchanged c.self.inside.gate _ _ c.args.bytes.now c.self.view_is c.self.invariant
 
-pub returns-in_err-returned-clause-lean : goal.returns-in_err-returned-clause-lean
-returns-in_err-returned-clause-lean g c = stays_lean c.self.inside.gate _ _ c.self.view_is c.self.invariant
-
-pub returns-then-not-changes-clause-any_moment : goal.returns-then-not-changes-clause-any_moment
-returns-then-not-changes-clause-any_moment g c = unchanged c.self.inside.gate _ _ c.args.bytes.now c.self.view_is c.self.invariant
-
-pub returns-then-not-changes-clause-lean : goal.returns-then-not-changes-clause-lean
-returns-then-not-changes-clause-lean g c = stays_lean c.self.inside.gate _ _ c.self.view_is c.self.invariant
-
-pub returns-then-bytes-gt-MOST_BYTES-clause-any_moment : goal.returns-then-bytes-gt-MOST_BYTES-clause-any_moment
-returns-then-bytes-gt-MOST_BYTES-clause-any_moment g c = unchanged c.self.inside.gate _ _ c.args.bytes.now c.self.view_is c.self.invariant
-
-pub returns-then-bytes-gt-MOST_BYTES-clause-lean : goal.returns-then-bytes-gt-MOST_BYTES-clause-lean
-returns-then-bytes-gt-MOST_BYTES-clause-lean g c = stays_lean c.self.inside.gate _ _ c.self.view_is c.self.invariant
+pub returns-in_err-answer-clause-lean : goal.returns-in_err-answer-clause-lean
+returns-in_err-answer-clause-lean g c = stays_lean c.self.inside.gate _ _ c.self.view_is c.self.invariant

@@ -2,7 +2,7 @@
 ghost use Rattle.std.specs.Prelude.{IfOk, IfSome};
 ghost use Rattle.meaning.specs.SoundPlan.{IsSoundPlan};
 
-use crate::jobs::{NO_JOB, planned_job_of};
+use answer_cases::{NO_JOB, planned_job_of};
 use case_files::{StoredFile, find, show_printed, words};
 use gathering::{Gather, GatherFault};
 use std::alloc::{AllocError, Global};
@@ -95,8 +95,8 @@ fn absorb_all(
     files: &[StoredFile],
 ) -> Result<(), AllocError> {
     for path in paths {
-        let answer = Taken::Answer(find(files, path).unwrap_or(&[]));
-        if let Err(GatherFault::Memory) = take(alloc, gather, &answer) {
+        let bytes = find(files, path).unwrap_or(&[]);
+        if let Err(GatherFault::Memory) = gather.absorb(alloc, bytes) {
             return Err(AllocError);
         }
     }
@@ -156,6 +156,25 @@ fn taken_of<'a>(
     }
 }
 
+fn show_line(
+    alloc: Global,
+    job: &[&str],
+    gather: &mut Gather,
+    line: &str,
+    files: &[StoredFile],
+    shown: &mut String,
+) -> Result<(), AllocError> {
+    match taken_of(alloc, job, line, files)? {
+        Some(taken) => show_taking(alloc, gather, &taken, shown),
+        None => writeln!(shown, "(no event: {line})"),
+    }
+}
+
+fn show_preview(alloc: Global, gather: &Gather, shown: &mut String) -> Result<(), AllocError> {
+    let seen = look_or_refuse(alloc, gather)?;
+    show_printed(alloc, shown, "out", seen.preview.as_slice())
+}
+
 fn show_lines(
     alloc: Global,
     job: &[&str],
@@ -165,13 +184,9 @@ fn show_lines(
     shown: &mut String,
 ) -> Result<(), AllocError> {
     for line in lines.lines() {
-        match taken_of(alloc, job, line, files)? {
-            Some(taken) => show_taking(alloc, gather, &taken, shown)?,
-            None => writeln!(shown, "(no event: {line})")?,
-        }
+        show_line(alloc, job, gather, line, files, shown)?;
     }
-    let seen = look_or_refuse(alloc, gather)?;
-    show_printed(alloc, shown, "out", seen.preview.as_slice())
+    show_preview(alloc, gather, shown)
 }
 
 /// How many groups a coordinator has merged behind each event, one event a line, and what it then

@@ -1,8 +1,7 @@
 //! Cases about coordinators through a list of events.
 ghost use Rattle.meaning.specs.SoundPlan.{IsSoundPlan};
 
-use crate::gathers::{print, show_refusal};
-use crate::jobs::{NO_JOB, planned_job_of};
+use answer_cases::{NO_JOB, planned_job_of, show_printed_report, show_refusal};
 use case_files::{StoredFile, find, words};
 use gathering::Gather;
 use partial_codec::Job;
@@ -64,7 +63,7 @@ fn events_in<'a>(
 fn show_each(alloc: Global, gathers: &[Gather], shown: &mut String) -> Result<(), AllocError> {
     for (i, gather) in gathers.iter().enumerate() {
         writeln!(shown, "coordinator {i}")?;
-        print(alloc, gather, shown)?;
+        show_printed_report(alloc, gather, shown)?;
     }
     Ok(())
 }

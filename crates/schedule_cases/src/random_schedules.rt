@@ -2,13 +2,14 @@
 ghost use Rattle.meaning.specs.SoundPlan.{IsSoundPlan};
 
 use crate::accounts::{Account, Files, Numbers, event_of, next_step};
-use crate::jobs::planned_job_of;
+use answer_cases::planned_job_of;
 use case_files::{StoredFile, find};
 use gathering::{Gather, GatherFault};
 use partial_codec::Job;
 use schedules::{Event, run_world};
 use std::alloc::{AllocError, Global};
 use std::fmt::Write;
+use std::mem::drop;
 
 // The lists' first number, from which each list's generator begins.
 const SEED: u64 = 0x9e37_79b9_7f4a_7c15;
@@ -62,17 +63,32 @@ fn absorb(alloc: Global, gather: &mut Gather, bytes: &[u8]) -> Result<(), AllocE
     }
 }
 
+fn absorb_set(
+    alloc: Global,
+    gather: &mut Gather,
+    set: &[bool],
+    files: &[&[u8]],
+) -> Result<(), AllocError> {
+    for (bytes, is_heard) in files.iter().zip(set) {
+        if *is_heard {
+            absorb(alloc, gather, bytes)?;
+        }
+    }
+    Ok(())
+}
+
 // A coordinator that takes a set's files one by one.
 fn wanted(alloc: Global, job: Job, set: &[bool], files: &[&[u8]]) -> Result<Gather, AllocError>
     requires { IsSoundPlan job.plan }
 {
     let mut gather = Gather::new(alloc, job)?;
-    for (bytes, is_heard) in files.iter().zip(set) {
-        if *is_heard {
-            absorb(alloc, &mut gather, bytes)?;
+    match absorb_set(alloc, &mut gather, set, files) {
+        Ok(()) => Ok(gather),
+        Err(e) => {
+            drop(gather);
+            Err(e)
         }
     }
-    Ok(gather)
 }
 
 // A coordinator's state and its preview, as bytes.
@@ -89,6 +105,22 @@ fn says_the_same(alloc: Global, a: &Gather, b: &Gather) -> Result<bool, AllocErr
     }
 }
 
+// Whether it says the same as a coordinator of this job that takes a set's files.
+fn says_the_set(
+    alloc: Global,
+    gather: &Gather,
+    job: Job,
+    set: &[bool],
+    files: &[&[u8]],
+) -> Result<bool, AllocError>
+    requires { IsSoundPlan job.plan }
+{
+    match wanted(alloc, job, set, files) {
+        Ok(heard) => says_the_same(alloc, gather, &heard),
+        Err(e) => Err(e),
+    }
+}
+
 fn agrees(
     alloc: Global,
     gather: &Gather,
@@ -96,7 +128,7 @@ fn agrees(
     set: &[bool],
 ) -> Result<bool, AllocError> {
     match planned_job_of(alloc, asked.job, asked.stored)? {
-        Some(job) => says_the_same(alloc, gather, &wanted(alloc, job, set, asked.posted)?),
+        Some(job) => says_the_set(alloc, gather, job, set, asked.posted),
         None => Ok(false),
     }
 }

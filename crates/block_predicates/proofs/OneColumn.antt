@@ -15,7 +15,7 @@ use Rattle.meaning.specs.declared.value.Value.TheVariants.{Null}
 use Rattle.meaning.specs.Expr.{eval}
 use Rattle.meaning.specs.Order.{Row, column}
 use Rattle.meaning.specs.References.{Reference, FactColumn, JoinColumn, GroupKey, GroupAggregate, columns_used, referenced}
-use Rattle.meaning.specs.Typing.{Boolean, ExprType, RowTypes, are_of_types, fits_row_types, has_type, is_column_type, is_of_type}
+use Rattle.meaning.specs.Typing.{Boolean, ExprType, RowTypes, are_beside_of_types, are_of_types, fits_row_types, has_type, is_column_type, is_of_type}
 use Rattle.meaning.proofs.ColumnsUsed.{reads_columns_used}
 use Rattle.meaning.proofs.Tests.{both}
 use Rattle.meaning.proofs.Typed.{null_typed}
@@ -46,9 +46,13 @@ nulls_typed : (types : List ColType) → are_of_types types (nulls types) ≡ tr
 nulls_typed [] = refl
 nulls_typed (t ∷ types) = both _ _ (null_typed t) (nulls_typed types)
 
-all_nulls : (kinds : List (List ColType)) → pointwise are_of_types kinds (map nulls kinds) ≡ true
+nulls_beside : (types : List ColType) → are_beside_of_types types (nulls types) ≡ true
+nulls_beside [] = refl
+nulls_beside (t ∷ types) = nulls_typed (t ∷ types)
+
+all_nulls : (kinds : List (List ColType)) → pointwise are_beside_of_types kinds (map nulls kinds) ≡ true
 all_nulls [] = refl
-all_nulls (types ∷ kinds) = both _ _ (nulls_typed types) (all_nulls kinds)
+all_nulls (types ∷ kinds) = both _ _ (nulls_beside types) (all_nulls kinds)
 
 abbrev fill : ℕ → Value → List ColType → Row
 fill at v [] = []

@@ -163,6 +163,7 @@ impl EntryMarks {
     /// How many lanes a condition on a block is evaluated on; `None` where the block has no entries.
     pub fn lanes(block: &BlockView<'_>) -> Option<usize>
         ensures some { IfSome result (λ lanes. lanes ≡ lane_count block.now) }
+        ensures entries { IfSome result (λ lanes. has_entries block.now.kind ≡ true) }
         ensures none { IsNone result → has_entries block.now.kind ≡ false }
     {
         let entries = entries_of(block)?;

@@ -126,7 +126,7 @@ fn keeps_nothing(marks: &EntryMarks) -> bool
     !is_any_set(marks.marks.as_slice())
 }
 
-/// The same. No code is read where no row is kept, and a dictionary has fewer entries than rows.
+/// The same. No code is read where the marks keep no row.
 fn select_entries(
     block: &BlockView<'_>,
     dictionary: &DictionaryView<'_>,

@@ -1,5 +1,5 @@
-//! The coordinator: all of `gathering`, and a whole query in memory, from a catalogue, CSV files and
-//! a query's text to what is printed.
+//! The coordinator: what gathers answers, and a whole query in memory, from a catalogue, CSV files
+//! and a query's text to what is printed.
 #![tactic(auto)]
 
 mod answering;

@@ -4,7 +4,7 @@ use crate::expressions::{phrase_aggregates, phrase_keys, put};
 use crate::names::{NamedTable, Names, Phrase};
 use crate::operators::type_word;
 use crate::placing::{Place, count_leading, place_of};
-use meaning::{Expr, Item, OrderKey, Plan};
+use meaning::{Expr, Item, Join, JoinType, OrderKey, Plan};
 use sql_syntax::Query;
 use std::alloc::{AllocError, Global};
 use std::mem::drop;
@@ -221,15 +221,17 @@ impl OperatorLines {
         &mut self,
         names: &Names<'_>,
         table: &NamedTable<'_>,
-        foreign: usize,
-        key: usize,
+        join: &Join,
     ) -> Result<(), AllocError> {
-        self.begin("join ")?;
+        self.begin(match join.join_type {
+            JoinType::Inner => "join ",
+            JoinType::Left => "left join ",
+        })?;
         self.put_table(table)?;
         self.text.push_str(" ON ")?;
-        names.put_column(&mut self.text, &names.fact, foreign)?;
+        names.put_column(&mut self.text, &names.fact, join.foreign)?;
         self.text.push_str(" = ")?;
-        names.put_column(&mut self.text, table, key)?;
+        names.put_column(&mut self.text, table, join.key)?;
         self.end()
     }
 
@@ -238,7 +240,7 @@ impl OperatorLines {
         let joins = plan.joins.as_slice();
         for at in (0..joins.len()).rev() {
             if let Some(table) = names.dims.get(at) {
-                self.put_join(names, table, joins[at].foreign, joins[at].key)?;
+                self.put_join(names, table, &joins[at])?;
             }
         }
         Ok(())

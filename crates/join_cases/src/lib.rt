@@ -3,6 +3,7 @@
 #![tactic(auto)]
 
 mod dims;
+mod left_looks;
 mod looks;
 
 use std::alloc::{AllocError, Global};

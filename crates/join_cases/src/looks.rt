@@ -1,4 +1,5 @@
 //! Lookups in a dimension.
+use crate::left_looks::show_left;
 use hash_join::DimTable;
 use meaning::Truth;
 use std::alloc::{AllocError, Global};
@@ -13,12 +14,12 @@ use vectors::{
 /// Lanes of a vector of generated keys.
 const LANES: usize = 1_024;
 
-const FOREIGN: usize = 3;
+pub const FOREIGN: usize = 3;
 
-const JOIN: usize = 5;
+pub const JOIN: usize = 5;
 
 /// The positions that a word names, apart by commas, or all of them.
-fn selection_of(alloc: Global, rows: usize, positions: &str) -> Result<Selection, AllocError> {
+pub fn selection_of(alloc: Global, rows: usize, positions: &str) -> Result<Selection, AllocError> {
     let mut selection = Selection::all(alloc, u32::try_from(rows).unwrap_or(0))?;
     if positions != "all" {
         let mask = mask_of(alloc, selection.below(), positions, ',')?;
@@ -27,7 +28,7 @@ fn selection_of(alloc: Global, rows: usize, positions: &str) -> Result<Selection
     Ok(selection)
 }
 
-fn batch_of<'c>(alloc: Global, lanes: Vector<'c>) -> Result<Batch<'c>, AllocError> {
+pub fn batch_of<'c>(alloc: Global, lanes: Vector<'c>) -> Result<Batch<'c>, AllocError> {
     let mut batch = Batch::new(alloc, lanes.len());
     batch.push(BatchColumn {
         reference: ColumnReference::Fact { column: FOREIGN },
@@ -49,7 +50,7 @@ fn look_up(
     table.lookup(alloc, batch, FOREIGN, selection)
 }
 
-fn position_at(selection: &Selection, k: usize) -> usize {
+pub fn position_at(selection: &Selection, k: usize) -> usize {
     match selection.positions() {
         None => k,
         Some(positions) => positions
@@ -81,7 +82,7 @@ fn show_column(shown: &mut String, batch: &Batch<'_>, column: usize) -> Result<(
     show_lanes(shown, lanes)
 }
 
-fn show_columns(shown: &mut String, batch: &Batch<'_>) -> Result<(), AllocError> {
+pub fn show_columns(shown: &mut String, batch: &Batch<'_>) -> Result<(), AllocError> {
     for column in 0..10 {
         show_column(shown, batch, column)?;
     }
@@ -157,7 +158,7 @@ fn has_text(words: &[&str]) -> bool {
     words.iter().any(|word| quoted(word).is_some())
 }
 
-fn cells_of<'a>(alloc: Global, words: &[&'a str]) -> Result<Cells<'a>, AllocError> {
+pub fn cells_of<'a>(alloc: Global, words: &[&'a str]) -> Result<Cells<'a>, AllocError> {
     let mut cells = Cells::new(alloc, has_text(words));
     for word in words {
         cells.push(word_of(word))?;
@@ -317,6 +318,7 @@ fn show_step(
         ["look-at", at, words @ ..] => show_words(alloc, shown, table, words, at),
         ["attach", words @ ..] => show_attached_words(alloc, shown, table, words, "all"),
         ["attach-at", at, words @ ..] => show_attached_words(alloc, shown, table, words, at),
+        ["left", words @ ..] => show_left(alloc, shown, table, words, "all"),
         _ => show_rare(alloc, shown, table, words),
     }
 }
@@ -328,6 +330,7 @@ fn show_rare(
     words: &[&str],
 ) -> Result<(), AllocError> {
     match words {
+        ["left-at", at, words @ ..] => show_left(alloc, shown, table, words, at),
         ["without", rows] => show_without(alloc, shown, table, count_of(rows)),
         ["truths", rows] => show_looked_up(alloc, shown, table, truths(count_of(rows)), "all"),
         ["repeat", int, rows] => {

@@ -1,5 +1,5 @@
 -- An expression that has a type gives values or truths of it, or faults.
-use Rattle.std.proofs.Common.{◌≡◌, ℕ, zero, suc, Bool, true, false, ◌&&◌, cond, List, [], ◌∷◌, map, Some, None, slice_get, slice_index_or, refl, subst, sym}
+use Rattle.std.proofs.Common.{◌≡◌, ℕ, zero, suc, Bool, true, false, ◌&&◌, cond, List, [], ◌∷◌, map, Option, Some, None, slice_get, slice_index_or, refl, subst, sym}
 use Rattle.std.specs.Prelude.{ℤ, pos, neg_ℤ, ◌+ℤ◌, ◌-ℤ◌, ◌*ℤ◌, int_div}
 use Rattle.std.specs.List.{list_all}
 use Rattle.std.specs.Cmp.Lexicographic.{pointwise}
@@ -25,7 +25,7 @@ use Rattle.meaning.specs.declared.joined_row.JoinedRow.{JoinedRow}
 use Rattle.meaning.specs.Order.{Row, column}
 use Rattle.meaning.specs.Operators.{fits_i64, or_overflow, fitted, of_integers, minus_of, arith_of, compare_of, not_of, and_of, or_of, not_if, is_null_of, like_of, one_of, first_of, coalesce_of, case_of, cases_of}
 use Rattle.meaning.specs.Expr.{Meaning, node_meaning, arm_meanings, at_row, arms_at, eval, eval_arm}
-use Rattle.meaning.specs.Typing.{is_of_type, ExprType, Valued, Boolean, RowTypes, are_of_types, fits_row_types, gives_expr_type, same_type, Typing, is_integer, is_boolean, is_column_type, is_literal_type, arm_typing, node_typing, has_type, arm_types}
+use Rattle.meaning.specs.Typing.{is_of_type, ExprType, Valued, Boolean, RowTypes, are_of_types, are_beside_of_types, fits_row_types, gives_expr_type, same_type, Typing, is_integer, is_boolean, is_column_type, is_literal_type, arm_typing, node_typing, has_type, arm_types}
 use Rattle.meaning.proofs.Tests.{first_of as left_of, second_of as right_of}
 
 -- ---- operators
@@ -181,13 +181,23 @@ read_column (k ∷ ks) (v ∷ vs) zero (Valued kind) fits e =
 read_column (k ∷ ks) (v ∷ vs) zero Boolean fits e = cc
 read_column (k ∷ ks) (v ∷ vs) (suc at) type fits e = read_column ks vs at type (right_of _ _ fits) e
 
+null_column : (o : Option ColType) (type : ExprType) → is_column_type o type ≡ true → gives_expr_type type (gives.Value Null) ≡ true
+null_column None type e = cc
+null_column (Some kind) (Valued wanted) e = refl
+null_column (Some kind) Boolean e = cc
+
+read_beside : (types : List ColType) (row : Row) (at : ℕ) (type : ExprType) → are_beside_of_types types row
+    ≡ true → is_column_type (slice_get types at) type ≡ true → gives_expr_type type (gives.Value (column row at)) ≡ true
+read_beside types [] at type fits e = null_column (slice_get types at) type e
+read_beside types (v ∷ row) at type fits e = read_column types (v ∷ row) at type fits e
+
 read_joined : (types : List (List ColType)) (rows : List Row) (join at : ℕ) (type : ExprType)
-    → pointwise are_of_types types rows ≡ true
+    → pointwise are_beside_of_types types rows ≡ true
     → is_column_type (slice_get (slice_index_or types join []) at) type
     ≡ true → gives_expr_type type (gives.Value (column (slice_index_or rows join []) at)) ≡ true
 read_joined [] rows join at type fits e = no_column type (gives.Value (column (slice_index_or rows join []) at)) e
 read_joined (ks ∷ types) [] join at type fits e = cc
-read_joined (ks ∷ types) (row ∷ rows) zero at type fits e = read_column ks row at type (left_of _ _ fits) e
+read_joined (ks ∷ types) (row ∷ rows) zero at type fits e = read_beside ks row at type (left_of _ _ fits) e
 read_joined (ks ∷ types) (row ∷ rows) (suc join) at type fits e =
     read_joined types rows join at type (right_of _ _ fits) e
 
@@ -252,9 +262,9 @@ module _ (types : RowTypes) (r : JoinedRow) (fits : fits_row_types types r ≡ t
   aggregates_fit = are_of_types types.aggregates r.aggregates
 
   abbrev group_fits : (key_fits && aggregates_fit) ≡ true
-  group_fits = right_of (pointwise are_of_types types.joins r.joins) (key_fits && aggregates_fit)
+  group_fits = right_of (pointwise are_beside_of_types types.joins r.joins) (key_fits && aggregates_fit)
       (right_of (are_of_types types.fact r.fact)
-      (pointwise are_of_types types.joins r.joins && (key_fits && aggregates_fit)) fits)
+      (pointwise are_beside_of_types types.joins r.joins && (key_fits && aggregates_fit)) fits)
 
   typed_node : (y : Expr-F TypedExpr TypedArm) (type : ExprType) → typing (bare y) type
       ≡ true → gives_expr_type type (meant (bare y) r) ≡ true

@@ -8,16 +8,16 @@ grammar_words =
     codes "and" ∷ codes "as" ∷ codes "asc" ∷ codes "avg" ∷ codes "between" ∷ codes "by" ∷ codes "case"
     ∷ codes "coalesce" ∷ codes "count" ∷ codes "desc" ∷ codes "else" ∷ codes "end" ∷ codes "from"
     ∷ codes "group" ∷ codes "having" ∷ codes "in" ∷ codes "inner" ∷ codes "is" ∷ codes "join"
-    ∷ codes "like" ∷ codes "limit" ∷ codes "max" ∷ codes "min" ∷ codes "not" ∷ codes "null" ∷ codes "on"
-    ∷ codes "or" ∷ codes "order" ∷ codes "select" ∷ codes "sum" ∷ codes "then" ∷ codes "when"
+    ∷ codes "left" ∷ codes "like" ∷ codes "limit" ∷ codes "max" ∷ codes "min" ∷ codes "not" ∷ codes "null" ∷ codes "on"
+    ∷ codes "or" ∷ codes "order" ∷ codes "outer" ∷ codes "select" ∷ codes "sum" ∷ codes "then" ∷ codes "when"
     ∷ codes "where" ∷ []
 
 -- the words of SQL that queries leave out
 abbrev pub left_out_words : List (List ℕ)
 left_out_words =
     codes "all" ∷ codes "any" ∷ codes "cross" ∷ codes "distinct" ∷ codes "escape" ∷ codes "except"
-    ∷ codes "exists" ∷ codes "fetch" ∷ codes "full" ∷ codes "intersect" ∷ codes "left" ∷ codes "natural"
-    ∷ codes "nulls" ∷ codes "offset" ∷ codes "outer" ∷ codes "over" ∷ codes "right" ∷ codes "rollup"
+    ∷ codes "exists" ∷ codes "fetch" ∷ codes "full" ∷ codes "intersect" ∷ codes "natural"
+    ∷ codes "nulls" ∷ codes "offset" ∷ codes "over" ∷ codes "right" ∷ codes "rollup"
     ∷ codes "union" ∷ codes "using" ∷ codes "window" ∷ codes "with" ∷ []
 
 -- the word is one of these

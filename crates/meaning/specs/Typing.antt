@@ -107,10 +107,15 @@ group_types plan = record {
 abbrev pub are_of_types : List ColType → Row → Bool
 are_of_types types row = pointwise is_of_type types row
 
+-- the same of what a join puts beside a fact row, which may be no row
+abbrev pub are_beside_of_types : List ColType → Row → Bool
+are_beside_of_types types [] = true
+are_beside_of_types types (v ∷ row) = are_of_types types (v ∷ row)
+
 abbrev pub fits_row_types : RowTypes → JoinedRow → Bool
 fits_row_types types r =
     are_of_types types.fact r.fact &&
-    (pointwise are_of_types types.joins r.joins &&
+    (pointwise are_beside_of_types types.joins r.joins &&
     (are_of_types types.key r.key && are_of_types types.aggregates r.aggregates))
 
 -- a value or a truth of the type, or a fault

@@ -36,7 +36,8 @@ pub use limits::{
 pub use name::is_name;
 pub use outcome::{Fault, Outcome, Truth};
 pub use plan::{
-    Aggregate, AggregateKind, ColumnUse, GroupingKey, Item, Join, OrderKey, Plan, TableUse,
+    Aggregate, AggregateKind, ColumnUse, GroupingKey, Item, Join, JoinType, OrderKey, Plan,
+    TableUse,
 };
 pub use sequence::Sequence;
 pub use table::TableFault;

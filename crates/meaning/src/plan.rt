@@ -20,11 +20,20 @@ pub struct TableUse {
     pub columns: Sequence<ColumnUse>,
 }
 
+/// What becomes of a fact row that meets no row of a join's dimension: an inner join drops it, a left
+/// join keeps it, with NULL in each of the dimension's columns.
+#[derive(Clone, Copy, PartialEq, Eq, Drop)]
+pub enum JoinType {
+    Inner,
+    Left,
+}
+
 /// A dimension joined to the fact table: the fact's column `foreign` equals the dimension's column
 /// `key`.
 #[derive(Drop)]
 pub struct Join {
     pub dim: TableUse,
+    pub join_type: JoinType,
     pub foreign: usize,
     pub key: usize,
 }

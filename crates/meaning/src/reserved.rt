@@ -4,14 +4,14 @@ ghost use Rattle.std.specs.List.{list_any};
 ghost use Rattle.meaning.specs.Reserved.{grammar_words, left_out_words, is_one_of, is_reserved};
 
 /// The words of the grammar of queries, in lower case.
-pub const GRAMMAR_WORDS: [&str; 33] = [
+pub const GRAMMAR_WORDS: [&str; 35] = [
     "and", "as", "asc", "avg", "between", "by", "case", "coalesce", "count", "desc", "else", "end",
-    "from", "group", "having", "in", "inner", "is", "join", "like", "limit", "max", "min", "not",
-    "null", "on", "or", "order", "select", "sum", "then", "when", "where",
+    "from", "group", "having", "in", "inner", "is", "join", "left", "like", "limit", "max", "min",
+    "not", "null", "on", "or", "order", "outer", "select", "sum", "then", "when", "where",
 ];
 
 /// The words of SQL that queries leave out, in lower case.
-pub const LEFT_OUT_WORDS: [&str; 22] = [
+pub const LEFT_OUT_WORDS: [&str; 20] = [
     "all",
     "any",
     "cross",
@@ -22,11 +22,9 @@ pub const LEFT_OUT_WORDS: [&str; 22] = [
     "fetch",
     "full",
     "intersect",
-    "left",
     "natural",
     "nulls",
     "offset",
-    "outer",
     "over",
     "right",
     "rollup",

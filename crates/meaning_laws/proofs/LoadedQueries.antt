@@ -18,15 +18,17 @@ use Rattle.meaning.specs.declared.plan.AggregateKind.TheVariants.{CountRows, Cou
 use Rattle.meaning.specs.declared.plan.Aggregate.{Aggregate}
 use Rattle.meaning.specs.declared.plan.GroupingKey.{GroupingKey}
 use Rattle.meaning.specs.declared.plan.Join.{Join}
+use Rattle.meaning.specs.declared.plan.JoinType.{JoinType}
+use Rattle.meaning.specs.declared.plan.JoinType.TheVariants.{Inner, Left}
 use Rattle.meaning.specs.declared.plan.Plan.{Plan}
 use Rattle.meaning.specs.Limits.{max_rows}
 use Rattle.meaning.specs.Catalog.{IsWellFormed, IsWellFormedTable}
 use Rattle.meaning.specs.Order.{Row, is_null}
 use Rattle.meaning.specs.Expr.{eval}
-use Rattle.meaning.specs.Joined.{joined_row, choices, is_joined, combos}
+use Rattle.meaning.specs.Joined.{choices, combos, is_joined, joined_row, matches, unless_none}
 use Rattle.meaning.specs.Cut.{Cut, numbered, first_row, fragment}
 use Rattle.meaning.specs.Dimensions.{IsUniqueIn, AreDimensionsOf}
-use Rattle.meaning.specs.Typing.{gives_type, is_taken_by, gives_argument, is_typed_at, is_typed_on, Valued, RowTypes, are_of_types, fits_row_types, gives_expr_type, has_type}
+use Rattle.meaning.specs.Typing.{gives_type, is_taken_by, gives_argument, is_typed_at, is_typed_on, Valued, RowTypes, are_beside_of_types, are_of_types, fits_row_types, gives_expr_type, has_type}
 use Rattle.meaning.specs.Records.{Record, dimension_of}
 use Rattle.meaning.specs.TableLaws.{is_value_of, are_rows_of, column_types, joined_types, AreJoined, IsTypedAggregate, IsTypedPlan, AreLoaded, LoadedTablesServe}
 use Rattle.meaning.proofs.Tests.{first_of, second_of, both, all_first, all_rest, all_imply, all_filter, all_map, all_flat_map}
@@ -34,6 +36,7 @@ use Rattle.meaning.proofs.Evaluation.{eval-Literal}
 use Rattle.meaning.proofs.Typed.{typed}
 use Rattle.meaning_laws.proofs.LoadedTables.{rows_typed, rows_counted, keys_unique}
 use Rattle.meaning_laws.proofs.OwnFits.{own_fits}
+use Rattle.meaning_laws.proofs.UniqueKeys.{matched}
 
 -- ---- a plan on one joined row
 
@@ -98,21 +101,54 @@ types_of_rows columns rows e = all_imply (pointwise is_value_of columns) (are_of
 abbrev AreTables : List (List ColType) → List (List Row) → Type 0
 AreTables types dims = pointwise (λ ts rows. list_all (are_of_types ts) rows) types dims ≡ true
 
-choices_typed : (types : List (List ColType)) (dims : List (List Row)) → AreTables types dims
-    → list_all (pointwise are_of_types types) (choices dims) ≡ true
+-- the same of what joins put beside a fact row
+abbrev AreBeside : List (List ColType) → List (List Row) → Type 0
+AreBeside types lists = pointwise (λ ts rows. list_all (are_beside_of_types ts) rows) types lists ≡ true
+
+beside_typed : (ts : List ColType) (row : Row) → are_of_types ts row ≡ true → are_beside_of_types ts row ≡ true
+beside_typed ts [] e = refl
+beside_typed ts (v ∷ row) e = e
+
+unless_none_typed : (ts : List ColType) (type : JoinType) (rows : List Row) → list_all (are_beside_of_types ts) rows
+    ≡ true → list_all (are_beside_of_types ts) (unless_none type rows) ≡ true
+unless_none_typed ts Inner rows e = e
+unless_none_typed ts Left [] e = refl
+unless_none_typed ts Left (row ∷ rows) e = e
+
+matches_typed : (ts : List ColType) (fact : Row) (p : Join × List Row) → list_all (are_of_types ts) p.1
+    ≡ true → list_all (are_beside_of_types ts) (matches fact p) ≡ true
+matches_typed ts fact p e =
+    unless_none_typed ts p.0.join_type (filter (λ row. is_joined fact (p.0, row)) p.1)
+    (all_filter (are_beside_of_types ts) (λ row. is_joined fact (p.0, row)) p.1
+    (all_imply (are_of_types ts) (are_beside_of_types ts) (beside_typed ts) p.1 e))
+
+all_matches_typed : (types : List (List ColType)) (js : List Join) (dims : List (List Row)) (fact : Row) → length dims
+    ≡ length js → AreTables types dims → AreBeside types (map (matches fact) (zip js dims))
+all_matches_typed [] [] [] fact each e = refl
+all_matches_typed [] js (rows ∷ dims) fact each e = absurd cc
+all_matches_typed (ts ∷ types) js [] fact each e = absurd cc
+all_matches_typed [] (j ∷ js) [] fact each e = absurd (omega arith)
+all_matches_typed (ts ∷ types) [] (rows ∷ dims) fact each e = absurd (omega arith)
+all_matches_typed (ts ∷ types) (j ∷ js) (rows ∷ dims) fact each e =
+    both _ _ (matches_typed ts fact (j, rows) (first_of (list_all (are_of_types ts) rows) _ e))
+    (all_matches_typed types js dims fact (omega arith)
+    (second_of (list_all (are_of_types ts) rows) (pointwise (λ ts rows. list_all (are_of_types ts) rows) types dims) e))
+
+choices_typed : (types : List (List ColType)) (lists : List (List Row)) → AreBeside types lists
+    → list_all (pointwise are_beside_of_types types) (choices lists) ≡ true
 choices_typed [] [] e = refl
-choices_typed [] (rows ∷ dims) e = cc
+choices_typed [] (rows ∷ lists) e = cc
 choices_typed (ts ∷ types) [] e = cc
-choices_typed (ts ∷ types) (rows ∷ dims) e =
-    let rest = choices_typed types dims
-    (second_of (list_all (are_of_types ts) rows)
-    (pointwise (λ ts rows. list_all (are_of_types ts) rows) types dims) e) in
-    all_flat_map (pointwise are_of_types (ts ∷ types)) (λ row. map (λ c. row ∷ c) (choices dims)) rows
-    (all_imply (are_of_types ts) (λ row. list_all (pointwise are_of_types (ts ∷ types))
-    (map (λ c. row ∷ c) (choices dims)))
-    (λ row fits. all_map (pointwise are_of_types (ts ∷ types)) (λ c. row ∷ c) (choices dims)
-    (all_imply (pointwise are_of_types types) (λ c. are_of_types ts row && pointwise are_of_types types c)
-    (λ c is. both _ _ fits is) (choices dims) rest))
+choices_typed (ts ∷ types) (rows ∷ lists) e =
+    let rest = choices_typed types lists
+    (second_of (list_all (are_beside_of_types ts) rows)
+    (pointwise (λ ts rows. list_all (are_beside_of_types ts) rows) types lists) e) in
+    all_flat_map (pointwise are_beside_of_types (ts ∷ types)) (λ row. map (λ c. row ∷ c) (choices lists)) rows
+    (all_imply (are_beside_of_types ts) (λ row. list_all (pointwise are_beside_of_types (ts ∷ types))
+    (map (λ c. row ∷ c) (choices lists)))
+    (λ row fits. all_map (pointwise are_beside_of_types (ts ∷ types)) (λ c. row ∷ c) (choices lists)
+    (all_imply (pointwise are_beside_of_types types) (λ c. are_beside_of_types ts row && pointwise are_beside_of_types types c)
+    (λ c is. both _ _ fits is) (choices lists) rest))
     rows (first_of _ _ e))
 
 module _ {X : Type 0} (p : X → Bool) where
@@ -132,21 +168,21 @@ module _ {X : Type 0} (p : X → Bool) where
   all_numbered n (x ∷ xs) e = both _ _ (all_first p x xs e) (all_numbered (n + 1) xs (all_rest p x xs e))
 
 module _ (types : RowTypes) (no_key : types.key ≡ []) (no_aggregates : types.aggregates ≡ []) (plan : Plan)
-    (is : IsTypedPlan types plan) (dims : List (List Row)) (tables : AreTables types.joins dims) where
+    (is : IsTypedPlan types plan) (dims : List (List Row)) (many : length dims ≡ length plan.joins) (tables : AreTables types.joins dims) where
   row_fits : (fact : Row) (chosen : List Row) → are_of_types types.fact fact
-      ≡ true → pointwise are_of_types types.joins chosen ≡ true → fits_row_types types (joined_row fact chosen) ≡ true
+      ≡ true → pointwise are_beside_of_types types.joins chosen ≡ true → fits_row_types types (joined_row fact chosen) ≡ true
   row_fits fact chosen a b = both _ _ a
       (both _ _ b (both _ _ (ap (λ ts. are_of_types ts []) no_key) (ap (λ ts. are_of_types ts []) no_aggregates)))
 
   combos_typed : (fact : Row) → are_of_types types.fact fact
       ≡ true → list_all (is_typed_at plan) (combos plan dims fact) ≡ true
   combos_typed fact a =
-      let chosen = filter (λ c. list_all (is_joined fact) (zip plan.joins c)) (choices dims) in
-      all_map (is_typed_at plan) (joined_row fact) chosen
-      (all_imply (pointwise are_of_types types.joins) (λ c. is_typed_at plan (joined_row fact c))
-      (λ c b. plan_typed types (joined_row fact c) (row_fits fact c a b) plan is) chosen
-      (all_filter (pointwise are_of_types types.joins) (λ c. list_all (is_joined fact) (zip plan.joins c))
-      (choices dims) (choices_typed types.joins dims tables)))
+      let found = map (matches fact) (zip plan.joins dims) in
+      let typed_choices = choices_typed types.joins found (all_matches_typed types.joins plan.joins dims fact many tables) in
+      subst (λ rows. list_all (is_typed_at plan) rows ≡ true) (sym (matched plan dims fact))
+      (all_map (is_typed_at plan) (joined_row fact) (choices found)
+      (all_imply (pointwise are_beside_of_types types.joins) (λ c. is_typed_at plan (joined_row fact c))
+      (λ c b. plan_typed types (joined_row fact c) (row_fits fact c a b) plan is) (choices found) typed_choices))
 
   fragment_typed : (cut : Cut) (rows : List Row) → list_all (are_of_types types.fact) rows
       ≡ true → (k : ℕ) → is_typed_on plan dims (fragment cut k rows) ≡ true
@@ -217,7 +253,7 @@ loaded_tables catalog plan cut dimensions rows dims well joined is loaded =
     (declared_well catalog well dimensions (recursion_from_All _ _ joined.declared)) each in
     let fact = types_of_rows catalog.fact.columns rows
     (rows_typed catalog.fact None (sum cut) (sum cut) loaded.fact.0 rows well.fact loaded.fact.1) in
-    let on_fragment = fragment_typed types refl refl plan is dims tables cut rows fact in
+    let on_fragment = fragment_typed types refl refl plan is dims (loaded.each ∙ many) tables cut rows fact in
     record {
       whole = rows_counted catalog.fact.columns None (sum cut) loaded.fact.0 rows loaded.fact.1;
       unique = unique;

@@ -9,7 +9,7 @@ use Rattle.meaning.proofs.Evaluation.{evaluation}
 use Rattle.meaning.specs.declared.expr.ArithmeticOperator.TheVariants.{Multiply, Divide}
 use Rattle.meaning.specs.declared.expr.ComparisonOperator.TheVariants.{Equal, NotEqual, Less, Greater}
 use Rattle.meaning.specs.declared.plan.AggregateKind.TheVariants.{Count, Avg}
-use Rattle.meaning_laws.proofs.WorkedTables.{a, sales, store, id, q, p, t, number, compare, compute, agg, count_rows, key, item, totals, listing, Prints, count_plan, two_totals, sum_plan, by_t, store_join, by_region, most_common, two_items, none_of, by_zero, n}
+use Rattle.meaning_laws.proofs.WorkedTables.{a, sales, store, id, q, p, t, number, compare, compute, agg, count_rows, key, item, totals, listing, Prints, count_plan, two_totals, sum_plan, by_t, store_join, left_join, by_region, most_common, two_items, none_of, by_zero, n}
 
 -- ---- what they print
 
@@ -120,6 +120,28 @@ joined_rows : Prints (record (listing (key (node.Joined 0 1) ∷ []) (item (code
 }) sales (store ∷ []) (2 ∷ 3 ∷ []) (3 ∷ 2 ∷ []) (codes "region\n\\N\nnorth\nnorth\n")
 unfolding digits
 joined_rows = (simp evaluation, simp evaluation, simp evaluation)
+
+-- SELECT region, COUNT(*) FROM sales LEFT JOIN store ON s = k GROUP BY region
+left_rows_stay : Prints (record by_region { joins = left_join ∷ [] }) sales (store ∷ []) (2 ∷ 3 ∷ []) (1 ∷ 4 ∷ [])
+    (codes "region,c2\n\\N,3\nnorth,2\n")
+unfolding digits
+left_rows_stay = (simp evaluation, simp evaluation, simp evaluation)
+
+-- SELECT id FROM sales LEFT JOIN store ON s = k WHERE k IS NULL
+left_rows_without_a_key : Prints (record (listing (key id ∷ []) (item (codes "id") (node.Key 0) ∷ [])) {
+  joins = left_join ∷ [];
+  conjuncts = node.IsNull false (node.Joined 0 0) ∷ [];
+}) sales (store ∷ []) (2 ∷ 3 ∷ []) (1 ∷ 4 ∷ []) (codes "id\n4\n5\n")
+unfolding digits
+left_rows_without_a_key = (simp evaluation, simp evaluation, simp evaluation)
+
+-- SELECT COUNT(*) FROM sales LEFT JOIN store ON s = k WHERE s = k
+left_rows_by_condition : Prints (record count_plan {
+  joins = left_join ∷ [];
+  conjuncts = compare (node.Column 1) Equal (node.Joined 0 0) ∷ [];
+}) sales (store ∷ []) (2 ∷ 3 ∷ []) (5 ∷ []) (codes "c1\n3\n")
+unfolding digits
+left_rows_by_condition = (simp evaluation, simp evaluation, simp evaluation)
 
 -- SELECT t FROM sales GROUP BY t HAVING COUNT(q) > 0
 having_a_count : Prints (record

@@ -14,6 +14,7 @@ use Rattle.meaning.specs.declared.plan.AggregateKind.TheVariants.{CountRows, Sum
 use Rattle.meaning.specs.declared.plan.Plan.{Plan}
 use Rattle.meaning.specs.declared.plan.Item.{Item}
 use Rattle.meaning.specs.declared.plan.Join.{Join}
+use Rattle.meaning.specs.declared.plan.JoinType.TheVariants.{Inner, Left}
 use Rattle.meaning.specs.declared.plan.TableUse.{TableUse}
 use Rattle.meaning.specs.declared.plan.GroupingKey.{GroupingKey}
 use Rattle.meaning.specs.declared.plan.Aggregate.{Aggregate}
@@ -151,7 +152,11 @@ by_t = record (totals (agg Sum q ∷ [])
 
 -- sales.s = store.k
 abbrev pub store_join : Join
-store_join = record { dim = table; foreign = 1; key = 0 }
+store_join = record { dim = table; join_type = Inner; foreign = 1; key = 0 }
+
+-- the same of a left join
+abbrev pub left_join : Join
+left_join = record store_join { join_type = Left }
 
 -- SELECT region, COUNT(*) FROM sales JOIN store ON s = k GROUP BY region
 abbrev pub by_region : Plan

@@ -17,7 +17,7 @@ use Rattle.meaning.specs.Said.{Cell}
 use Rattle.meaning.specs.declared.answer.Cell.TheVariants.{Nothing, One}
 use Rattle.meaning.specs.Order.{Row, lesser, least, sorted, ascending_set, union, is_ascending}
 use Rattle.meaning.specs.Cut.{Numbered, Cut, numbered, fragment, part}
-use Rattle.meaning.specs.Joined.{choices, is_joined, combos, matched_rows, group_row}
+use Rattle.meaning.specs.Joined.{candidates, choices, combos, group_row, matched_rows, stands_beside}
 use Rattle.meaning.specs.Judge.{row_fault, kept_rows, fault_cmp}
 use Rattle.meaning.specs.Aggregate.{aggregate, no_statistics, statistics, kept_by, merge, value}
 use Rattle.meaning.specs.Group.{group_of, kept_groups, merge_groups, merged_groups}
@@ -198,11 +198,11 @@ abbrev pub SortsAreEqual : Type 0
 SortsAreEqual = (order : List OrderKey) (xs ys : List Row) → IsPermutation xs ys → IsSorted (order_cmp order) ys
     → ys ≡ sorted (order_cmp order) xs
 
--- each join can be looked up by itself: the choices that fit are the choices of rows that fit
+-- each join can be looked up by itself: the choices that fit are the choices of what fits
 abbrev pub JoinsAreLookups : Type 0
 JoinsAreLookups = (fact : Row) (ps : List (Join × List Row))
-    → filter (λ c. list_all (is_joined fact) (zip (map (λ p. p.0) ps) c)) (choices (map (λ p. p.1) ps))
-    ≡ choices (map (λ p. filter (λ r. is_joined fact (p.0, r)) p.1) ps)
+    → filter (λ c. list_all (stands_beside fact) (zip ps c)) (choices (map candidates ps))
+    ≡ choices (map (λ p. filter (λ o. stands_beside fact (p, o)) (candidates p)) ps)
 
 -- the joined rows, which are a filter of the cross product, are the choices of one match from each join
 abbrev pub JoinedRowsAreMatches : Type 0

@@ -37,6 +37,7 @@ fn copy_joins(alloc: Global, joins: &[Join]) -> Result<Sequence<Join>, AllocErro
     for join in joins {
         copies.push(Join {
             dim: copy_table(alloc, &join.dim)?,
+            join_type: join.join_type,
             foreign: join.foreign,
             key: join.key,
         })?;

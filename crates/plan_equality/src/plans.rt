@@ -33,7 +33,10 @@ fn is_same_table(a: &TableUse, b: &TableUse) -> bool
 fn is_same_join(a: &Join, b: &Join) -> bool
     ensures { IsTrue result ↔ (a.now ≡ b.now) }
 {
-    a.foreign == b.foreign && a.key == b.key && is_same_table(&a.dim, &b.dim)
+    a.join_type == b.join_type
+        && a.foreign == b.foreign
+        && a.key == b.key
+        && is_same_table(&a.dim, &b.dim)
 }
 
 fn are_same_joins(a: &[Join], b: &[Join]) -> bool

@@ -1,9 +1,11 @@
 -- Each join looks for the key of its dimension.
-use Rattle.std.proofs.Common.{◌≡◌, ℕ, suc, ◌+◌, ◌==◌, Bool, true, false, ◌&&◌, ◌||◌, not, List, [], ◌∷◌, map, filter, cond, Option, Some, None, option_to_list, slice_get, Result, Ok, refl, ap, subst, sym, ◌∙◌, arith}
+use Rattle.std.proofs.Common.{◌≡◌, ℕ, suc, ◌+◌, ◌==◌, Bool, true, false, ◌&&◌, ◌||◌, not, List, [], ◌∷◌, map, filter, cond, option_and_then, Option, Some, None, option_to_list, slice_get, Result, Ok, Err, refl, ap, subst, sym, ◌∙◌, arith}
 use Rattle.std.specs.List.{list_all, enumerate_from}
 use Rattle.std.specs.Option.{is_none}
 use Rattle.meaning.specs.Results.{all_ok}
 use Rattle.meaning.specs.declared.plan.Join.{Join}
+use Rattle.meaning.specs.declared.plan.JoinType.{JoinType}
+use Rattle.meaning.specs.declared.plan.JoinType.TheVariants.{Inner, Left}
 use Rattle.meaning.proofs.Tests.{both, all_first, all_append, all_filter}
 use Rattle.sql_syntax.specs.declared.tree.Arm.{Arm}
 use Rattle.sql_syntax.specs.declared.tree.Comparison.TheVariants as comparison
@@ -11,8 +13,10 @@ use Rattle.sql_syntax.specs.declared.tree.Expr.{Expr}
 use Rattle.sql_syntax.specs.declared.tree.Expr.TheOpen as node
 use Rattle.sql_syntax.specs.declared.tree.Expr.TheOpen.{Expr-F}
 use Rattle.sql_syntax.specs.declared.tree.Expr.TheViews.{out-Expr}
+use Rattle.sql_syntax.specs.declared.tree.Joined.{Joined}
 use Rattle.sql_syntax.specs.declared.tree.Query.{Query}
 use Rattle.planner_expressions.specs.declared.fault.PlanFault.{PlanFault}
+use Rattle.planner_expressions.specs.declared.fault.PlanFault.TheVariants as fault
 use Rattle.planner_expressions.specs.declared.scope.Dim.{Dim}
 use Rattle.planner_expressions.specs.declared.scope.ScopeColumn.{ScopeColumn}
 use Rattle.planner_expressions.specs.declared.scope.Scope.{Scope}
@@ -23,12 +27,28 @@ use Rattle.planner_expressions.specs.Typed.{is_key_column, has_its_key}
 use Rattle.planner_expressions.proofs.Accepted.{goes_there}
 use Rattle.planner_expressions.proofs.TypedRows.{front}
 use Rattle.planner.specs.declared.conjuncts.Equality.{Equality}
-use Rattle.planner.specs.Conjuncts.{joined_by, keyed, first_there, equality_of, node_equality, join_equality, one_equality, joins_dim, equality_for}
-use Rattle.planner.specs.Planned.{join_of, table_use}
+use Rattle.planner.specs.Conjuncts.{joined_by, keyed, first_there, equality_of, node_equality, join_equality, inner_equality, joins_left, unless_left, one_equality, joins_dim, equality_for, left_on_of, if_own, left_equality_for}
+use Rattle.planner.specs.Planned.{equality_by, join_of, join_with}
 use Rattle.planner.specs.PlanOf.{equalities_among}
 
 pub same_number : (m n : ℕ) → (m == n) ≡ true → m ≡ n
 same_number m n is = grind arith
+
+-- ---- the equality of a LEFT join
+
+pub own_is : (n : ℕ) (o : Option Equality) (e : Equality) → if_own n o ≡ Ok e → (o ≡ Some e) × (joins_dim n e ≡ true)
+own_is n None e is = absurd cc
+own_is n (Some x) e is = by (joins_dim n x) refl is
+  where
+    by : (b : Bool) → joins_dim n x ≡ b → cond b (Ok x) (Err fault.LeftNotByEquality) ≡ Ok e → (Some x ≡ Some e) × (joins_dim n e ≡ true)
+    by true test returned =
+        let same : x ≡ e = cc in
+        (ap (λ (y : Equality). Some y) same, subst (λ (y : Equality). joins_dim n y ≡ true) same test)
+    by false test returned = absurd cc
+
+pub there_then : {X Y : Type 0} (f : X → Option Y) (o : Option X) (y : Y) → option_and_then f o ≡ Some y → (x : X) × (o ≡ Some x) × (f x ≡ Some y)
+there_then f None y is = absurd cc
+there_then f (Some x) y is = (x, refl, is)
 
 module _ (s : Scope) (keys : List ℕ) (all_keyed : list_all (has_its_key keys) s.columns ≡ true) where
   abbrev LooksFor : Equality → Bool
@@ -72,9 +92,20 @@ module _ (s : Scope) (keys : List ℕ) (all_keyed : list_all (has_its_key keys) 
   node_looks (node.Compare comparison.Equal a b) = of_columns (column_meant s a) (column_meant s b) (at_node (out-Expr a)) (at_node (out-Expr b))
   node_looks _ = refl
 
+  tree_looks : (e : Expr) → OneLooks (join_equality s e)
+  tree_looks e = node_looks (out-Expr e)
+
+  inner_looks : (o : Option Equality) → OneLooks o → OneLooks (unless_left s o)
+  inner_looks None is = refl
+  inner_looks (Some e) is = by (joins_left s e)
+    where
+      by : (b : Bool) → OneLooks (cond b None (Some e))
+      by true = refl
+      by false = is
+
   all_look : (es : List Expr) → list_all LooksFor (equalities_among s es) ≡ true
   all_look [] = refl
-  all_look (e ∷ es) = all_append LooksFor (option_to_list (join_equality s e)) (equalities_among s es) (node_looks (out-Expr e)) (all_look es)
+  all_look (e ∷ es) = all_append LooksFor (option_to_list (inner_equality s e)) (equalities_among s es) (inner_looks (join_equality s e) (tree_looks e)) (all_look es)
 
   one_is : (d : ℕ) (es : List Equality) (e : Equality) → list_all LooksFor es ≡ true → list_all (joins_dim d) es ≡ true → one_equality es ≡ Ok e → is_at e.key (slice_get keys d) ≡ true
   one_is d [] e all joins is = absurd cc
@@ -92,6 +123,21 @@ module _ (s : Scope) (keys : List ℕ) (all_keyed : list_all (has_its_key keys) 
   all_passed d [] = refl
   all_passed d (e ∷ es) = passed_by d e (filter (joins_dim d) es) (joins_dim d e) refl (all_passed d es)
 
+  of_inner : (trees : List Expr) (n : ℕ) (e : Equality) → equality_for (equalities_among s trees) n ≡ Ok e → is_at e.key (slice_get keys n) ≡ true
+  of_inner trees n e is =
+      one_is n (filter (joins_dim n) (equalities_among s trees)) e (all_filter LooksFor (joins_dim n) (equalities_among s trees) (all_look trees)) (all_passed n (equalities_among s trees)) is
+
+  of_left : (js : List Joined) (n : ℕ) (d : Dim) (e : Equality) → left_equality_for s js (n, d) ≡ Ok e → is_at e.key (slice_get keys n) ≡ true
+  of_left js n d e is =
+      let own = own_is n (option_and_then (join_equality s) (left_on_of js d)) e is in
+      let tree = there_then (join_equality s) (left_on_of js d) e own.0 in
+      let looks = all_first LooksFor e [] (subst OneLooks tree.2 (tree_looks tree.0)) in
+      subst (λ (m : ℕ). is_at e.key (slice_get keys m) ≡ true) (same_number e.join n own.1) looks
+
+  looks_by : (by : JoinType) (js : List Joined) (trees : List Expr) (n : ℕ) (d : Dim) (e : Equality) → equality_by by s js (equalities_among s trees) (n, d) ≡ Ok e → is_at e.key (slice_get keys n) ≡ true
+  looks_by Inner js trees n d e is = of_inner trees n e is
+  looks_by Left js trees n d e is = of_left js n d e is
+
   is_there : (n k : ℕ) (o : Option ℕ) → is_at n o ≡ true → o ≡ Some k → n ≡ k
   is_there n k (Some m) is there = let same : m ≡ k = cc in same_number n m is ∙ same
   is_there n k None is there = absurd cc
@@ -107,13 +153,13 @@ module _ (s : Scope) (keys : List ℕ) (all_keyed : list_all (has_its_key keys) 
   joins_from q trees n [] js at is = let none : [] ≡ js = cc in ap (λ (xs : List Join). map (λ (j : Join). j.key) xs) none
   joins_from q trees n (d ∷ ds) js at is =
       let parts = front (join_of s q (equalities_among s trees) (n, d)) (all_ok (map (join_of s q (equalities_among s trees)) (enumerate_from (n + 1) ds))) js is in
-      let e = goes_there (equality_for (equalities_among s trees) n) (λ e. Ok (record { dim = table_use s q (Some n) d.name; foreign = e.foreign; key = e.key })) parts.0 parts.1.1 in
-      let looked = one_is n (filter (joins_dim n) (equalities_among s trees)) e.0 (all_filter LooksFor (joins_dim n) (equalities_among s trees) (all_look trees)) (all_passed n (equalities_among s trees)) e.1 in
+      let e = goes_there (equality_by d.join_type s q.source.others (equalities_among s trees) (n, d)) (λ e. Ok (join_with s q (n, d) e)) parts.0 parts.1.1 in
+      let looked = looks_by d.join_type q.source.others trees n d e.0 e.1 in
       let here : slice_get keys n ≡ Some d.key = sym (at 0 ∙ ap (slice_get keys) (plus_zero n)) in
       let found_key = is_there e.0.key d.key (slice_get keys n) looked here in
-      let made : e.0.key ≡ parts.0.key = key_made (table_use s q (Some n) d.name) e.0 parts.0 e.2 in
+      let made : e.0.key ≡ parts.0.key = key_made (n, d) e.0 parts.0 e.2 in
       let rest = joins_from q trees (n + 1) ds parts.1.0 (λ i. at (suc i) ∙ ap (slice_get keys) (plus_next n i)) parts.1.2 in
       (λ i. (sym found_key ∙ made) i ∷ rest i) ∙ ap (λ (xs : List Join). map (λ (j : Join). j.key) xs) (sym parts.1.3)
     where
-      key_made : (t : Rattle.meaning.specs.declared.plan.TableUse.TableUse) (e : Equality) (j : Join) → ◌≡◌ {A = Result Join PlanFault} (Ok (record { dim = t; foreign = e.foreign; key = e.key })) (Ok j) → e.key ≡ j.key
-      key_made t e j is = let same : record { dim = t; foreign = e.foreign; key = e.key } ≡ j = cc in ap (λ (x : Join). x.key) same
+      key_made : (d : ℕ × Dim) (e : Equality) (j : Join) → ◌≡◌ {A = Result Join PlanFault} (Ok (join_with s q d e)) (Ok j) → e.key ≡ j.key
+      key_made d e j is = let same : join_with s q d e ≡ j = cc in ap (λ (x : Join). x.key) same

@@ -1,10 +1,11 @@
 -- A join equality compares two columns of FROM that the query names, of one type.
-use Rattle.std.proofs.Common.{rules, ◌≡◌, ℕ, zero, suc, ◌+◌, ◌<◌, inl, Bool, true, false, ◌&&◌, List, [], ◌∷◌, map, filter, length, cond, Option, Some, None, option_to_list, slice_get, Result, Ok, refl, ap, subst, sym, ◌∙◌, arith}
+use Rattle.std.proofs.Common.{rules, ◌≡◌, ℕ, zero, suc, ◌+◌, ◌<◌, inl, inr, Bool, true, false, ◌&&◌, List, [], ◌∷◌, ◌++◌, map, filter, find, length, cond, Option, Some, None, option_and_then, option_to_list, slice_get, Result, Ok, refl, ap, subst, sym, ◌∙◌, arith}
 use Rattle.std.specs.List.{list_all, enumerate_from, AllByRecursion}
 use Rattle.std.specs.Option.{is_none}
 use Rattle.meaning.specs.Results.{all_ok, and_then}
 use Rattle.meaning.specs.declared.plan.Join.{Join}
-use Rattle.meaning.specs.declared.plan.TableUse.{TableUse}
+use Rattle.meaning.specs.declared.plan.JoinType.{JoinType}
+use Rattle.meaning.specs.declared.plan.JoinType.TheVariants.{Inner, Left}
 use Rattle.meaning.specs.declared.value.ColType.{ColType}
 use Rattle.meaning.specs.declared.value.ColType.TheVariants as of_type
 use Rattle.meaning.proofs.Tests.{first_of as left_of, second_of as right_of}
@@ -15,7 +16,11 @@ use Rattle.sql_syntax.specs.declared.tree.Expr.TheOpen as node
 use Rattle.sql_syntax.specs.declared.tree.Expr.TheOpen.{Expr-F}
 use Rattle.sql_syntax.specs.declared.tree.Expr.TheFolds.{the_lemmas, map-Expr}
 use Rattle.sql_syntax.specs.declared.tree.Expr.TheViews.{out-Expr}
+use Rattle.sql_syntax.specs.declared.tree.JoinKind.{JoinKind}
+use Rattle.sql_syntax.specs.declared.tree.JoinKind.TheVariants as join_kind
+use Rattle.sql_syntax.specs.declared.tree.Joined.{Joined}
 use Rattle.sql_syntax.specs.declared.tree.Query.{Query}
+use Rattle.sql_syntax.specs.Joins.{condition_of}
 use Rattle.planner_expressions.specs.declared.fault.PlanFault.{PlanFault}
 use Rattle.planner_expressions.specs.declared.scope.Dim.{Dim}
 use Rattle.planner_expressions.specs.declared.scope.ScopeColumn.{ScopeColumn}
@@ -30,15 +35,16 @@ use Rattle.planner_expressions.specs.Uses.{names, names_arm, names_node}
 use Rattle.planner_expressions.proofs.Accepted.{goes_there}
 use Rattle.planner_expressions.proofs.TypedRows.{both_sorts, typed_is, same_is, front}
 use Rattle.planner.specs.declared.conjuncts.Equality.{Equality}
-use Rattle.planner.specs.Conjuncts.{joined_by, keyed, first_there, equality_of, node_equality, join_equality, one_equality, joins_dim, equality_for}
-use Rattle.planner.specs.Planned.{join_of, is_read, table_use, use_of}
+use Rattle.planner.specs.Checked.{conditions, on_trees}
+use Rattle.planner.specs.Conjuncts.{joined_by, keyed, first_there, equality_of, node_equality, join_equality, inner_equality, joins_left, unless_left, one_equality, joins_dim, equality_for, goes_by, left_on, left_on_of, left_equality_for}
+use Rattle.planner.specs.Planned.{equality_by, join_of, join_with, is_named, is_read, use_of}
 use Rattle.planner.specs.PlanOf.{equalities_among}
-use Rattle.planner_expressions.proofs.Among.{Among, filter_among}
-use Rattle.planner.proofs.Conditions.{AreFine}
+use Rattle.planner_expressions.proofs.Among.{Among, all_at, filter_among}
+use Rattle.planner.proofs.Conditions.{AreFine, IsFine}
 use Rattle.planner.proofs.NamedParts.{Named, Covers, AllCovered, left, right}
 use Rattle.planner_expressions.proofs.Columns.{stands_among}
 use Rattle.planner.proofs.TypedTrees.{both_all}
-use Rattle.planner.proofs.JoinedKeys.{same_number}
+use Rattle.planner.proofs.JoinedKeys.{own_is, same_number, there_then}
 
 -- ---- types
 
@@ -170,46 +176,67 @@ module _ (s : Scope) (wanted : ScopeColumn → Bool) where
       (λ x k. alike_types a b x k sorts.0 sorts.1.0 z sorts.1.1 sorts.1.2 sorts.1.3)
   node_between _ z is named = tt
 
+  -- a tree's equality
+  abbrev TreeBetween : Expr → Type 0
+  TreeBetween e = OneBetween (join_equality s e)
+
+  tree_between : (e : Expr) → IsFine s e → Covers wanted e → TreeBetween e
+  tree_between e fine covered = node_between (out-Expr e) fine.0 (sym (judged_out e) ∙ fine.1) (λ p h. covered p (names_out e p ∙ h))
+
+  inner_between : (o : Option Equality) → OneBetween o → OneBetween (unless_left s o)
+  inner_between None is = tt
+  inner_between (Some e) is = by (joins_left s e)
+    where
+      by : (b : Bool) → OneBetween (cond b None (Some e))
+      by true = tt
+      by false = is
+
+  pub equality_between : (e : Expr) (f : Equality) → join_equality s e ≡ Some f → IsFine s e → Covers wanted e → IsBetween f
+  equality_between e f is fine covered = let here : OneBetween (Some f) = subst OneBetween is (tree_between e fine covered) in here.0
+
   pub all_between : (es : List Expr) → AreFine s es → AllCovered wanted es → AreBetween (equalities_among s es)
   all_between [] fine covered = tt
   all_between (e ∷ es) fine covered =
-      both_all IsBetween (option_to_list (join_equality s e)) (equalities_among s es)
-      (node_between (out-Expr e) fine.0.0 (sym (judged_out e) ∙ fine.0.1) (λ p h. covered.0 p (names_out e p ∙ h)))
+      both_all IsBetween (option_to_list (inner_equality s e)) (equalities_among s es)
+      (inner_between (join_equality s e) (tree_between e fine.0 covered.0))
       (all_between es fine.1 covered.1)
+
+-- ---- the ON of a LEFT join
+
+behind : (o : Option Expr) (es : List Expr) (e : Expr) → Among es e → Among (option_to_list o ++ es) e
+behind None es e there = there
+behind (Some x) es e there = inr there
+
+its_own : (kind : JoinKind) (es : List Expr) (e : Expr) → left_on kind ≡ Some e → Among (option_to_list (condition_of kind) ++ es) e
+its_own join_kind.Comma es e is = absurd cc
+its_own (join_kind.Inner x) es e is = absurd cc
+its_own (join_kind.Left x) es e is = let same : x ≡ e = cc in inl same
+
+left_there : (name : List ℕ) (js : List Joined) (e : Expr) → option_and_then (λ j. left_on j.kind) (find (goes_by name) js) ≡ Some e → Among (on_trees js) e
+left_there name [] e is = absurd cc
+left_there name (j ∷ js) e is = by (goes_by name j) (left_there name js e) is
+  where
+    by : (b : Bool) → (option_and_then (λ (k : Joined). left_on k.kind) (find (goes_by name) js) ≡ Some e → Among (on_trees js) e)
+        → option_and_then (λ (k : Joined). left_on k.kind) (cond b (Some j) (find (goes_by name) js)) ≡ Some e → Among (on_trees (j ∷ js)) e
+    by true rest found = its_own j.kind (on_trees js) e found
+    by false rest found = behind (condition_of j.kind) (on_trees js) e (rest found)
+
+in_front : (xs ys : List Expr) (e : Expr) → Among xs e → Among (xs ++ ys) e
+in_front [] ys e there = absurd there
+in_front (x ∷ xs) ys e (inl same) = inl same
+in_front (x ∷ xs) ys e (inr there) = inr (in_front xs ys e there)
 
 -- ---- joins
 
-module _ (s : Scope) (q : Query) (equalities : List Equality) where
+module _ (s : Scope) (q : Query) where
   -- the join of the dimension of FROM of this index, by its equality
   pub record IsJoinAt (n : ℕ) (j : Join) : Type 0 where
     pub equality : Equality
-    pub there : Among equalities equality
+    pub between : IsBetween s (is_named q) equality
     pub of_it : equality.join ≡ n
     pub foreign : j.foreign ≡ equality.foreign
     pub key : j.key ≡ equality.key
     pub columns : j.dim.columns ≡ map use_of (filter (is_read q (Some n)) s.columns)
-
-  one_is : (es : List Equality) (e : Equality) → one_equality es ≡ Ok e → Among es e
-  one_is [] e is = absurd cc
-  one_is (x ∷ []) e is = let same : x ≡ e = cc in inl same
-  one_is (x ∷ y ∷ es) e is = absurd cc
-
-  made_join : (n : ℕ) (d : Dim) (j : Join) → join_of s q equalities (n, d) ≡ Ok j → IsJoinAt n j
-  made_join n d j is =
-      let e = goes_there (equality_for equalities n) (λ e. Ok (record { dim = table_use s q (Some n) d.name; foreign = e.foreign; key = e.key })) j is in
-      let there = filter_among (joins_dim n) equalities e.0 (one_is (filter (joins_dim n) equalities) e.0 e.1) in
-      let same : record { dim = table_use s q (Some n) d.name; foreign = e.0.foreign; key = e.0.key } ≡ j = join_is (table_use s q (Some n) d.name) e.0 j e.2 in
-      record {
-        equality = e.0;
-        there = there.0;
-        of_it = same_number e.0.join n there.1;
-        foreign = sym (ap (λ (x : Join). x.foreign) same);
-        key = sym (ap (λ (x : Join). x.key) same);
-        columns = sym (ap (λ (x : Join). x.dim.columns) same);
-      }
-    where
-      join_is : (t : TableUse) (e : Equality) (j : Join) → ◌≡◌ {A = Result Join PlanFault} (Ok (record { dim = t; foreign = e.foreign; key = e.key })) (Ok j) → record { dim = t; foreign = e.foreign; key = e.key } ≡ j
-      join_is t e j is = cc
 
   -- the joins are those of the dimensions from this index on
   abbrev pub AreJoinsFrom : ℕ → List Dim → List Join → Type 0
@@ -217,12 +244,6 @@ module _ (s : Scope) (q : Query) (equalities : List Equality) where
   AreJoinsFrom n [] (j ∷ js) = ⊥
   AreJoinsFrom n (d ∷ ds) [] = ⊥
   AreJoinsFrom n (d ∷ ds) (j ∷ js) = IsJoinAt n j × AreJoinsFrom (n + 1) ds js
-
-  pub made_joins : (n : ℕ) (ds : List Dim) (js : List Join) → all_ok (map (join_of s q equalities) (enumerate_from n ds)) ≡ Ok js → AreJoinsFrom n ds js
-  made_joins n [] js is = let none : [] ≡ js = cc in subst (AreJoinsFrom n []) none tt
-  made_joins n (d ∷ ds) js is =
-      let parts = front (join_of s q equalities (n, d)) (all_ok (map (join_of s q equalities) (enumerate_from (n + 1) ds))) js is in
-      subst (AreJoinsFrom n (d ∷ ds)) (sym parts.1.3) (made_join n d parts.0 parts.1.1, made_joins (n + 1) ds parts.1.0 parts.1.2)
 
   less : (i n : ℕ) → suc i < suc n → i < n
   less i n is = omega (arith, is)
@@ -249,3 +270,55 @@ module _ (s : Scope) (q : Query) (equalities : List Equality) where
   all_joins P n [] (j ∷ js) made are = absurd are
   all_joins P n (d ∷ ds) [] made are = absurd are
   all_joins P n (d ∷ ds) (j ∷ js) made are = (made n j are.0, all_joins P (n + 1) ds js made are.1)
+
+  -- ---- the joins of a plan
+
+  one_is : (es : List Equality) (e : Equality) → one_equality es ≡ Ok e → Among es e
+  one_is [] e is = absurd cc
+  one_is (x ∷ []) e is = let same : x ≡ e = cc in inl same
+  one_is (x ∷ y ∷ es) e is = absurd cc
+
+  module _ (equalities : List Equality) (are_between : AreBetween s (is_named q) equalities) (fine : AreFine s (conditions q)) (named : AllCovered (is_named q) (conditions q)) where
+    abbrev Found : ℕ → Equality → Type 0
+    Found n e = IsBetween s (is_named q) e × (e.join ≡ n)
+
+    by_conjunct : (n : ℕ) (e : Equality) → equality_for equalities n ≡ Ok e → Found n e
+    by_conjunct n e is =
+        let there = filter_among (joins_dim n) equalities e (one_is (filter (joins_dim n) equalities) e is) in
+        (all_at (IsBetween s (is_named q)) equalities e are_between there.0, same_number e.join n there.1)
+
+    by_on : (n : ℕ) (d : Dim) (e : Equality) → left_equality_for s q.source.others (n, d) ≡ Ok e → Found n e
+    by_on n d e is =
+        let own = own_is n (option_and_then (join_equality s) (left_on_of q.source.others d)) e is in
+        let tree = there_then (join_equality s) (left_on_of q.source.others d) e own.0 in
+        let there = in_front (on_trees q.source.others) (option_to_list q.filter) tree.0 (left_there d.called q.source.others tree.0 tree.1) in (
+          equality_between s (is_named q) tree.0 e tree.2 (all_at (IsFine s) (conditions q) tree.0 fine there) (all_at (Covers (is_named q)) (conditions q) tree.0 named there),
+          same_number e.join n own.1,
+        )
+
+    found_by : (by : JoinType) (n : ℕ) (d : Dim) (e : Equality) → equality_by by s q.source.others equalities (n, d) ≡ Ok e → Found n e
+    found_by Inner n d e is = by_conjunct n e is
+    found_by Left n d e is = by_on n d e is
+
+    made_join : (n : ℕ) (d : Dim) (j : Join) → join_of s q equalities (n, d) ≡ Ok j → IsJoinAt n j
+    made_join n d j is =
+        let e = goes_there (equality_by d.join_type s q.source.others equalities (n, d)) (λ e. Ok (join_with s q (n, d) e)) j is in
+        let found = found_by d.join_type n d e.0 e.1 in
+        let same : join_with s q (n, d) e.0 ≡ j = join_is (join_with s q (n, d) e.0) j e.2 in
+        record {
+          equality = e.0;
+          between = found.0;
+          of_it = found.1;
+          foreign = sym (ap (λ (x : Join). x.foreign) same);
+          key = sym (ap (λ (x : Join). x.key) same);
+          columns = sym (ap (λ (x : Join). x.dim.columns) same);
+        }
+      where
+        join_is : (i j : Join) → ◌≡◌ {A = Result Join PlanFault} (Ok i) (Ok j) → i ≡ j
+        join_is i j is = cc
+
+    pub made_joins : (n : ℕ) (ds : List Dim) (js : List Join) → all_ok (map (join_of s q equalities) (enumerate_from n ds)) ≡ Ok js → AreJoinsFrom n ds js
+    made_joins n [] js is = let none : [] ≡ js = cc in subst (AreJoinsFrom n []) none tt
+    made_joins n (d ∷ ds) js is =
+        let parts = front (join_of s q equalities (n, d)) (all_ok (map (join_of s q equalities) (enumerate_from (n + 1) ds))) js is in
+        subst (AreJoinsFrom n (d ∷ ds)) (sym parts.1.3) (made_join n d parts.0 parts.1.1, made_joins (n + 1) ds parts.1.0 parts.1.2)

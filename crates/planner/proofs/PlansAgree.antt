@@ -7,7 +7,7 @@ use Rattle.meaning.specs.Cut.{Numbered}
 use Rattle.meaning.specs.Expr.{eval, values, with_value}
 use Rattle.meaning.specs.Finish.{Evaluated, behind_having, rows_behind, shown, rows_of, order_cmp, limited, all_rows, finished, finish}
 use Rattle.meaning.specs.Group.{certain_keys, groups, grouped}
-use Rattle.meaning.specs.Joined.{choices, group_row, is_joined, joined_row}
+use Rattle.meaning.specs.Joined.{candidates, choices, group_row, joined_row, row_of, stands_beside}
 use Rattle.meaning.specs.Judge.{Judged, behind_condition, behind_conditions, fault_cmp, first_fault, judge, judged, keep, kept_rows, pairs, row_fault}
 use Rattle.meaning.specs.Meaning.{evaluated, meaning, unless_fault}
 use Rattle.meaning.specs.Order.{Row, column, least, sorted}
@@ -129,7 +129,8 @@ module _ (p o : Plan) (dims : List (List Row))
       (values_same (λ (a : Aggregate). a.argument) p.aggs o.aggs r (loosened SameAggregate (λ a b. eval a.argument r ≡ eval b.argument r) p.aggs o.aggs (λ a b same. same.1 r) aggs)))
 
   abbrev combos_by : List Join → Row → List JoinedRow
-  combos_by js fact = map (joined_row fact) (filter (λ chosen. list_all (is_joined fact) (zip js chosen)) (choices dims))
+  combos_by js fact = map (λ chosen. joined_row fact (map row_of chosen))
+      (filter (λ chosen. list_all (stands_beside fact) (zip (zip js dims) chosen)) (choices (map candidates (zip js dims))))
 
   judged_same : (row : Row) → judged p dims row ≡ judged o dims row
   judged_same row = λ i. map (λ r. judge_same r i) (combos_by (joins i) row)

@@ -34,15 +34,15 @@ use Rattle.planner.specs.declared.keys.Keys.{Keys}
 use Rattle.planner.specs.declared.parts.Grouped.{Grouped}
 use Rattle.planner.specs.declared.parts.Shown.{Shown}
 use Rattle.planner.specs.declared.parts.Tables.{Tables}
-use Rattle.planner.specs.Checked.{checked, conditions, conditions_checked, groups_checked, condition_check, item_check, on_trees}
+use Rattle.planner.specs.Checked.{checked, conditions, row_conditions, conditions_checked, groups_checked, condition_check, item_check, on_trees}
 use Rattle.planner.specs.Conjuncts.{row_expr}
 use Rattle.planner.specs.Groups.{is_grouped, key_of, key_trees, keys_of, no_keys, with_key, with_keys, limits_check}
 use Rattle.planner.specs.Planned.{conjuncts, no_conjuncts, joins_of, tables_of, tables_with, groups_of, groups_with, shown_of, shown_with, basis_of, plan_with, planned, planned_in}
-use Rattle.planner.specs.PlanOf.{Pairwise, IsPlanOf, IsAPlanOf, IsItemOf, IsHavingOf, IsHeaderOf, IsHeadedAs, PlansMean, all_conjuncts, is_condition, key_spellings, aggregate_spellings}
+use Rattle.planner.specs.PlanOf.{Pairwise, IsPlanOf, IsAPlanOf, IsItemOf, IsHavingOf, IsHeaderOf, IsHeadedAs, PlansMean, row_conjuncts, is_condition, key_spellings, aggregate_spellings}
 use Rattle.planner.specs.Shown.{header, if_built, item_of, items_of, having_of, order_of, over_group, with_header}
 use Rattle.planner.proofs.Headers.{headed}
 use Rattle.planner.proofs.Counted.{are_aggregates, keys_mean}
-use Rattle.planner.proofs.Conditions.{found_all, AreFine, both_fine, filtered_fine, all_parted, rows_mean_all}
+use Rattle.planner.proofs.Conditions.{found_of_query, of_rows, IsFine, AreFine, both_fine, filtered_fine, all_parted, rows_mean_all}
 
 -- ---- keys
 
@@ -136,21 +136,21 @@ module _ (catalog : Catalog) (q : Query) (p : Plan) (s : Scope) where
       → shown_with items having order ≡ shown → groups_with s q shown ≡ g → plan_with q t g ≡ p → IsPlanOf catalog q s p
   of_parts z t g js z' shown items having order scope_is checks joins_are t_is items_are having_is order_is shown_is g_is p_is =
       let tables : p.joins ≡ js = sym (ap (λ (x : Plan). x.joins) p_is) ∙ sym (ap (λ (x : Tables). x.joins) t_is) in
-      let found = found_all s no_conjuncts (all_conjuncts q) in
+      let found = found_of_query s no_conjuncts q in
       let keyed = keys_are s no_keys (key_trees (is_grouped s q) q) in
-      let conditions_are : p.conjuncts ≡ map (row_expr s) (filter (is_condition s) (all_conjuncts q)) =
+      let conditions_are : p.conjuncts ≡ map (row_expr s) (filter (is_condition s) (row_conjuncts q)) =
       sym (ap (λ (x : Plan). x.conjuncts) p_is) ∙ sym (ap (λ (x : Tables). x.conjuncts) t_is) ∙ ap (λ (c : Conjuncts). c.plain) found in
       let grouped : p.items ≡ items = sym (ap (λ (x : Plan). x.items) p_is) ∙ sym (ap (λ (x : Grouped). x.shown.items) g_is) ∙ sym (ap (λ (x : Shown). x.items) shown_is) in
       let had : p.having ≡ having = sym (ap (λ (x : Plan). x.having) p_is) ∙ sym (ap (λ (x : Grouped). x.shown.having) g_is) ∙ sym (ap (λ (x : Shown). x.having) shown_is) in
       let ordered : p.order ≡ order = sym (ap (λ (x : Plan). x.order) p_is) ∙ sym (ap (λ (x : Grouped). x.shown.order) g_is) ∙ sym (ap (λ (x : Shown). x.order) shown_is) in
       let spellings : (keys_of s q).written ≡ key_spellings s q = ap (λ (k : Keys). k.written) keyed in
-      let fine = filtered_fine s (is_condition s) (all_conjuncts q) (all_parted s (conditions q) (conditions_fine s q z checks)) in
+      let fine = filtered_fine s (is_condition s) (row_conjuncts q) (all_parted s (row_conditions q) (of_rows (IsFine s) q (conditions_fine s q z checks))) in
       record {
         scope = scope_is;
         text = sym (ap (λ (x : Plan). x.text) p_is);
         fact = sym (ap (λ (x : Plan). x.fact) p_is) ∙ sym (ap (λ (x : Tables). x.fact) t_is);
         joins = sym (ap (λ (c : Conjuncts). joins_of s q c.equalities) found) ∙ joins_are ∙ ap (λ (x : List Join). Ok x) (sym tables);
-        conjuncts = subst (λ (xs : List plan.Expr). Pairwise (SameOnRows s) xs (filter (is_condition s) (all_conjuncts q))) (sym conditions_are) (rows_mean_all s (filter (is_condition s) (all_conjuncts q)) fine);
+        conjuncts = subst (λ (xs : List plan.Expr). Pairwise (SameOnRows s) xs (filter (is_condition s) (row_conjuncts q))) (sym conditions_are) (rows_mean_all s (filter (is_condition s) (row_conjuncts q)) fine);
         keys = keys_mean s q z p.keys checks (sym (ap (λ (x : Plan). x.keys) p_is) ∙ sym (ap (λ (x : Grouped). x.keys) g_is) ∙ ap (λ (k : Keys). k.list) keyed);
         aggregates = are_aggregates s q z p.aggs checks (sym (ap (λ (x : Plan). x.aggs) p_is) ∙ sym (ap (λ (x : Grouped). x.aggs) g_is));
         items = subst (λ (xs : List plan_item.Item). Pairwise (IsItemOf s q) xs q.items) (sym grouped)

@@ -44,18 +44,18 @@ use Rattle.planner_expressions.proofs.Tables.{scopes_are_tables}
 use Rattle.planner.specs.declared.conjuncts.Equality.{Equality}
 use Rattle.planner.specs.declared.aggregates.Aggregates.{Aggregates}
 use Rattle.planner.specs.Aggregates.{aggregates_in, aggregate_node, aggregate_of, count_rows, is_aggregate, with_new, with_aggregate, with_aggregates, with_parts}
-use Rattle.planner.specs.Checked.{conditions}
+use Rattle.planner.specs.Checked.{conditions, row_conditions}
 use Rattle.planner.specs.Conjuncts.{is_no_and, row_expr}
 use Rattle.planner.specs.Groups.{all_aggregates, is_grouped, item_aggregates, key_of, key_trees, no_aggregates}
-use Rattle.planner.specs.PlanOf.{Pairwise, IsItemOf, all_conjuncts, equalities_among, is_condition}
+use Rattle.planner.specs.PlanOf.{Pairwise, IsItemOf, all_conjuncts, equalities_among, is_condition, row_conjuncts}
 use Rattle.planner.specs.Planned.{planned, is_named, is_read, same_join, use_of}
 use Rattle.planner.specs.Limited.{IsLimited}
 use Rattle.planner.specs.Sound.{IsSoundQuery, PlansAreSound}
 use Rattle.planner_expressions.proofs.Among.{Among, among_contains, among_filter, among_map, all_at, test_at, all_by, all_kept}
-use Rattle.planner.proofs.Conditions.{all_parted}
+use Rattle.planner.proofs.Conditions.{all_parted, of_rows}
 use Rattle.planner.proofs.GroupTypes.{groups_are_typed}
 use Rattle.planner.proofs.LimitedPlans.{plans_are_limited}
-use Rattle.planner.proofs.ListedJoins.{IsBetween, AreBetween, IsJoinAt, AreJoinsFrom, all_between, all_joins, join_at, made_joins}
+use Rattle.planner.proofs.ListedJoins.{IsJoinAt, AreJoinsFrom, all_between, all_joins, join_at, made_joins}
 use Rattle.planner.proofs.NamedParts.{Named, Covers, AllCovered, left, right, all_covered, flat_covered, topmost_covered}
 use Rattle.planner.proofs.PlansMean.{conditions_fine, plans_mean}
 use Rattle.planner.proofs.ReadColumns.{IsOf, AreOf, reference_in, row_reads, used-Literal}
@@ -106,12 +106,11 @@ all_flat P f (x ∷ xs) all = both_all P (f x) (flat_map (λ part. part) (map f 
 
 -- ---- the columns that the plan lists
 
-module _ (s : Scope) (q : Query) (p : Plan) (equalities : List Equality) (all_types : RowTypes)
+module _ (s : Scope) (q : Query) (p : Plan) (all_types : RowTypes)
     (fact_is : p.fact.columns ≡ map use_of (filter (is_read q None) s.columns))
-    (joins_are : AreJoinsFrom s q equalities 0 s.dims p.joins)
+    (joins_are : AreJoinsFrom s q 0 s.dims p.joins)
     (dims_are : length all_types.joins ≡ length s.dims)
-    (columns_typed : columns_have_types all_types s ≡ true)
-    (are_between : AreBetween s (is_named q) equalities) where
+    (columns_typed : columns_have_types all_types s ≡ true) where
   same_joins : (j : Option ℕ) → same_join j j ≡ true
   same_joins None = refl
   same_joins (Some i) = same_itself i
@@ -127,20 +126,20 @@ module _ (s : Scope) (q : Query) (p : Plan) (equalities : List Equality) (all_ty
   fact_use : (c : ScopeColumn) → c.join ≡ None → Among s.columns c → is_named q c ≡ true → Among p.fact.columns (use_of c)
   fact_use c is there named = subst (λ (us : List ColumnUse). Among us (use_of c)) (sym fact_is) (use_there c None is there named)
 
-  join_use : (c : ScopeColumn) (i : ℕ) (j : Join) → IsJoinAt s q equalities i j → c.join ≡ Some i → Among s.columns c → is_named q c ≡ true → Among j.dim.columns (use_of c)
+  join_use : (c : ScopeColumn) (i : ℕ) (j : Join) → IsJoinAt s q i j → c.join ≡ Some i → Among s.columns c → is_named q c ≡ true → Among j.dim.columns (use_of c)
   join_use c i j at is there named = subst (λ (us : List ColumnUse). Among us (use_of c)) (sym at.columns) (use_there c (Some i) is there named)
 
   typed_column : (c : ScopeColumn) → Among s.columns c → slice_get (types_in all_types c.join) c.column ≡ Some c.col_type
   typed_column c there = kind_is (slice_get (types_in all_types c.join) c.column) c.col_type (test_at (has_its_type all_types) s.columns c columns_typed there)
 
   -- the join of a column of FROM
-  join_of_column : (c : ScopeColumn) (i : ℕ) → c.join ≡ Some i → Among s.columns c → (j : Join) × (slice_get p.joins i ≡ Some j) × IsJoinAt s q equalities i j
+  join_of_column : (c : ScopeColumn) (i : ℕ) → c.join ≡ Some i → Among s.columns c → (j : Join) × (slice_get p.joins i ≡ Some j) × IsJoinAt s q i j
   join_of_column c i is there =
       let typed : slice_get (slice_index_or all_types.joins i []) c.column ≡ Some c.col_type =
       ap (λ (o : Option ℕ). slice_get (types_in all_types o) c.column) (sym is) ∙ typed_column c there in
       let below : i < length s.dims = subst (λ (n : ℕ). i < n) dims_are (table_there all_types.joins i c.column c.col_type typed) in
-      let found = join_at s q equalities 0 s.dims p.joins i joins_are below in
-      (found.0, found.1, subst (λ (n : ℕ). IsJoinAt s q equalities n found.0) (zero_plus i) found.2)
+      let found = join_at s q 0 s.dims p.joins i joins_are below in
+      (found.0, found.1, subst (λ (n : ℕ). IsJoinAt s q n found.0) (zero_plus i) found.2)
 
   abbrev IsOfQuery : Reference → Type 0
   IsOfQuery = IsOf s (is_named q)
@@ -158,9 +157,9 @@ module _ (s : Scope) (q : Query) (p : Plan) (equalities : List Equality) (all_ty
   is_listed : (u : Reference) → IsOfQuery u → IsListed p u
   is_listed u of_it = subst (IsListed p) of_it.3 (listed_in of_it.0 of_it.0.join refl of_it.1 of_it.2)
 
-  listed_join : (i : ℕ) (j : Join) → IsJoinAt s q equalities i j → IsListedJoin p j
+  listed_join : (i : ℕ) (j : Join) → IsJoinAt s q i j → IsListedJoin p j
   listed_join i j at =
-      let between = all_at (IsBetween s (is_named q)) equalities at.equality are_between at.there in
+      let between = at.between in
       let foreign = among_map (λ (u : ColumnUse). (u.column, u.col_type)) p.fact.columns (use_of between.x) (fact_use between.x between.x_join between.x_there between.x_wanted) in
       let its_join : between.k.join ≡ Some i = between.k_join ∙ ap (λ (n : ℕ). Some n) at.of_it in
       let key = among_map (λ (u : ColumnUse). (u.column, u.col_type)) j.dim.columns (use_of between.k) (join_use between.k i j at its_join between.k_there between.k_wanted) in
@@ -250,6 +249,9 @@ module _ (s : Scope) (q : Query) where
   conjuncts_named : AllCovered wanted (all_conjuncts q)
   conjuncts_named = flat_covered wanted is_no_and (conditions q) conditions_named
 
+  row_conjuncts_named : AllCovered wanted (row_conjuncts q)
+  row_conjuncts_named = flat_covered wanted is_no_and (row_conditions q) (of_rows (Covers wanted) q conditions_named)
+
   keys_named : (grouped : Bool) → AllCovered wanted (key_trees grouped q)
   keys_named true = all_covered wanted q.group_by (left wanted in_keys in_having behind_conditions)
   keys_named false = all_by CoversItem (Covers wanted) (λ i. i.expr) q.items (λ i covered. covered) items_named
@@ -327,8 +329,8 @@ module _ (catalog : Catalog) (q : Query) (p : Plan) (parts : AreParts catalog q 
   conjuncts_read : AllByRecursion (ReadsOf parts.s q) p.conjuncts
   conjuncts_read =
       subst (AllByRecursion (ReadsOf parts.s q)) (sym parts.conjuncts_are)
-      (all_by (Covers (is_named q)) (ReadsOf parts.s q) (row_expr parts.s) (filter (is_condition parts.s) (all_conjuncts q)) (row_reads parts.s (is_named q))
-      (all_kept (Covers (is_named q)) (is_condition parts.s) (all_conjuncts q) (conjuncts_named parts.s q)))
+      (all_by (Covers (is_named q)) (ReadsOf parts.s q) (row_expr parts.s) (filter (is_condition parts.s) (row_conjuncts q)) (row_reads parts.s (is_named q))
+      (all_kept (Covers (is_named q)) (is_condition parts.s) (row_conjuncts q) (row_conjuncts_named parts.s q)))
 
   abbrev KeyReads : GroupingKey → Type 0
   KeyReads k = ReadsOf parts.s q k.expr
@@ -361,16 +363,16 @@ module _ (catalog : Catalog) (q : Query) (p : Plan) (parts : AreParts catalog q 
       let all_types = joined_types catalog known.0 in
       let typed = plan_typed s all_types known.1.typed q p parts.z parts.checks fits parts.conjuncts_are parts.keys_as parts.aggs_are in
       let fact_is : p.fact.columns ≡ map use_of (filter (is_read q None) s.columns) = ap (λ (t : TableUse). t.columns) parts.fact in
-      let joins_are = made_joins s q equalities_in 0 s.dims p.joins parts.joins in
       let dims_are : length all_types.joins ≡ length s.dims =
       length-map known.0 (λ (d : Dimension). column_types d.table.columns) ∙ sym (length-map known.0 (λ (d : Dimension). d.key)) ∙ ap length known.1.keys ∙ length-map s.dims (λ (d : Dim). d.key) in
-      let fine = all_parted s (conditions q) (conditions_fine s q parts.z parts.checks) in
-      let between = all_between s (is_named q) (all_conjuncts q) fine (conjuncts_named s q) in
+      let fine = conditions_fine s q parts.z parts.checks in
+      let between = all_between s (is_named q) (all_conjuncts q) (all_parted s (conditions q) fine) (conjuncts_named s q) in
+      let joins_are = made_joins s q equalities_in between fine (conditions_named s q) 0 s.dims p.joins parts.joins in
       record {
-        listed = All-from_recursion _ _ (all_listed (IsOf s (is_named q)) (IsListed p) (columns_of_plan p) (is_listed s q p equalities_in all_types fact_is joins_are dims_are known.1.typed between) all_read);
-        joins = All-from_recursion _ _ (all_joins s q equalities_in (IsListedJoin p) 0 s.dims p.joins (listed_join s q p equalities_in all_types fact_is joins_are dims_are known.1.typed between) joins_are);
+        listed = All-from_recursion _ _ (all_listed (IsOf s (is_named q)) (IsListed p) (columns_of_plan p) (is_listed s q p all_types fact_is joins_are dims_are known.1.typed) all_read);
+        joins = All-from_recursion _ _ (all_joins s q (IsListedJoin p) 0 s.dims p.joins (listed_join s q p all_types fact_is joins_are dims_are known.1.typed) joins_are);
         typed = λ types have.
-            let has = has_same s q p equalities_in all_types fact_is joins_are dims_are known.1.typed between types have in
+            let has = has_same s q p all_types fact_is joins_are dims_are known.1.typed types have in
             record {
               conditions = All-from_recursion _ _ (typed_alike_all (ReadsOf s q) (λ c. has_type all_types c Boolean ≡ true) (λ c. has_type types c Boolean ≡ true) p.conjuncts (λ c. has c Boolean)
                   conjuncts_read (recursion_from_All _ _ typed.conditions));

@@ -1,6 +1,7 @@
 -- The topmost parts of a tree that pass a test.
 use Rattle.std.proofs.Common.{rules, ◌≡◌, Bool, true, false, not, List, [], ◌∷◌, ◌++◌, flat_map, Option, Some, None, unwrap_or, cond, Result, Ok, Err, OnOk, refl, ap, ap₂, sym, ◌∙◌, append_assoc}
 use Rattle.std.proofs.lemmas.List.{append-nil}
+use Rattle.meaning.specs.declared.plan.JoinType.{JoinType}
 use Rattle.sql_syntax.specs.declared.tree.Arm.{Arm}
 use Rattle.sql_syntax.specs.declared.tree.Expr.{Expr}
 use Rattle.sql_syntax.specs.declared.tree.Expr.TheOpen as node
@@ -41,9 +42,9 @@ if_so (Err e) f p = tt
 
 -- ---- conjuncts
 
-pub with_append : (s : Scope) (c : Conjuncts) (xs ys : List Expr) → with_conjuncts s c (xs ++ ys) ≡ with_conjuncts s (with_conjuncts s c xs) ys
-with_append s c [] ys = refl
-with_append s c (x ∷ xs) ys = with_append s (with_conjunct s c x) xs ys
+pub with_append : (s : Scope) (by : JoinType) (c : Conjuncts) (xs ys : List Expr) → with_conjuncts s by c (xs ++ ys) ≡ with_conjuncts s by (with_conjuncts s by c xs) ys
+with_append s by c [] ys = refl
+with_append s by c (x ∷ xs) ys = with_append s by (with_conjunct s by c x) xs ys
 
 no_no_and : (a b : Expr) → is_no_and (tree.And a b) ≡ false
 no_no_and a b = search (rules, the_lemmas)
@@ -53,26 +54,18 @@ and_is a b =
     below is_no_and (node.And a b) (tree.And a b) (tree.rolls-And a b) (no_no_and a b)
     ∙ ap (λ (xs : List Expr). conjuncts_of a ++ xs) (append-nil (conjuncts_of b))
 
-pub and_step : (s : Scope) (old mid new : Conjuncts) (e a b a' b' : Expr) → e ≡ tree.And a b → a' ≡ a → b' ≡ b → mid ≡ with_conjuncts s old (conjuncts_of a')
-    → new ≡ with_conjuncts s mid (conjuncts_of b') → new ≡ with_conjuncts s old (conjuncts_of e)
-and_step s old mid new e a b a' b' is a_is b_is mid_is new_is =
+pub and_step : (s : Scope) (by : JoinType) (old mid new : Conjuncts) (e a b a' b' : Expr) → e ≡ tree.And a b → a' ≡ a → b' ≡ b → mid ≡ with_conjuncts s by old (conjuncts_of a')
+    → new ≡ with_conjuncts s by mid (conjuncts_of b') → new ≡ with_conjuncts s by old (conjuncts_of e)
+and_step s by old mid new e a b a' b' is a_is b_is mid_is new_is =
     new_is
-    ∙ ap₂ (λ (c : Conjuncts) (x : Expr). with_conjuncts s c (conjuncts_of x)) (mid_is ∙ ap (λ (x : Expr). with_conjuncts s old (conjuncts_of x)) a_is) b_is
-    ∙ sym (with_append s old (conjuncts_of a) (conjuncts_of b))
-    ∙ ap (with_conjuncts s old) (sym (ap conjuncts_of is ∙ and_is a b))
+    ∙ ap₂ (λ (c : Conjuncts) (x : Expr). with_conjuncts s by c (conjuncts_of x)) (mid_is ∙ ap (λ (x : Expr). with_conjuncts s by old (conjuncts_of x)) a_is) b_is
+    ∙ sym (with_append s by old (conjuncts_of a) (conjuncts_of b))
+    ∙ ap (with_conjuncts s by old) (sym (ap conjuncts_of is ∙ and_is a b))
 
-pub one_step : (s : Scope) (old new : Conjuncts) (e : Expr) → is_and_node (out-Expr e) ≡ false → new ≡ with_conjunct s old e → new ≡ with_conjuncts s old (conjuncts_of e)
-one_step s old new e is new_is = new_is ∙ ap (with_conjuncts s old) (sym (passes is_no_and e (ap not is)))
+pub one_step : (s : Scope) (by : JoinType) (old new : Conjuncts) (e : Expr) → is_and_node (out-Expr e) ≡ false → new ≡ with_conjunct s by old e → new ≡ with_conjuncts s by old (conjuncts_of e)
+one_step s by old new e is new_is = new_is ∙ ap (with_conjuncts s by old) (sym (passes is_no_and e (ap not is)))
 
-flat_append : (xs ys : List Expr) → flat_map conjuncts_of (xs ++ ys) ≡ flat_map conjuncts_of xs ++ flat_map conjuncts_of ys
+pub flat_append : (xs ys : List Expr) → flat_map conjuncts_of (xs ++ ys) ≡ flat_map conjuncts_of xs ++ flat_map conjuncts_of ys
 flat_append [] ys = refl
 flat_append (x ∷ xs) ys =
     ap (λ (zs : List Expr). conjuncts_of x ++ zs) (flat_append xs ys) ∙ sym (append_assoc (conjuncts_of x) (flat_map conjuncts_of xs) (flat_map conjuncts_of ys))
-
--- some conditions and then others
-pub conditions_step : (s : Scope) (old mid : Conjuncts) (xs ys : List Expr) → mid ≡ with_conjuncts s old (flat_map conjuncts_of xs)
-    → with_conjuncts s old (flat_map conjuncts_of (xs ++ ys)) ≡ with_conjuncts s mid (flat_map conjuncts_of ys)
-conditions_step s old mid xs ys is =
-    ap (with_conjuncts s old) (flat_append xs ys)
-    ∙ with_append s old (flat_map conjuncts_of xs) (flat_map conjuncts_of ys)
-    ∙ ap (λ (c : Conjuncts). with_conjuncts s c (flat_map conjuncts_of ys)) (sym is)

@@ -54,14 +54,14 @@ use Rattle.planner.specs.declared.parts.Grouped.{Grouped}
 use Rattle.planner.specs.declared.parts.Shown.{Shown}
 use Rattle.planner.specs.declared.parts.Tables.{Tables}
 use Rattle.planner.specs.Aggregates.{aggregates_in, aggregate_node, aggregate_of, count_rows, row_type, type_in, with_new, with_aggregate, with_aggregates, with_parts}
-use Rattle.planner.specs.Checked.{checked, conditions, conditions_checked, groups_checked, condition_check, item_check, key_check, on_trees}
+use Rattle.planner.specs.Checked.{checked, row_conditions, conditions_checked, groups_checked, condition_check, item_check, key_check, on_trees}
 use Rattle.planner.specs.Conjuncts.{conjuncts_of, row_expr}
 use Rattle.planner.specs.Groups.{no_aggregates, item_aggregates, all_aggregates, is_empty, is_grouped, key_of, key_trees, no_keys, limits_check}
-use Rattle.planner.specs.PlanOf.{all_conjuncts, equalities_among, is_condition}
+use Rattle.planner.specs.PlanOf.{all_conjuncts, equalities_among, is_condition, row_conjuncts}
 use Rattle.planner.specs.Planned.{conjuncts, no_conjuncts, joins_of, tables_of, tables_with, groups_of, groups_with, shown_of, shown_with, basis_of, plan_with, planned, planned_in, table_use}
 use Rattle.planner.specs.Shown.{items_of, having_of, order_of}
 use Rattle.planner.specs.Typed.{IsTypedOver, PlansAreTyped, PlansServe}
-use Rattle.planner.proofs.Conditions.{found_all}
+use Rattle.planner.proofs.Conditions.{found_of_query, of_rows}
 use Rattle.planner.proofs.Counted.{checks, AllEmpty, none_taken, parts_none, neither, empty_is}
 use Rattle.planner.proofs.JoinedKeys.{joins_from}
 use Rattle.planner.proofs.PlansMean.{keys_are}
@@ -261,7 +261,7 @@ module _ (s : Scope) (types : RowTypes) (columns : columns_have_types types s �
   having_fits q = option_map_or has_fitting_literals q.having true
 
   pub plan_typed : (q : Query) (p : Plan) (z : Unit {0}) → checked s q ≡ Ok z → has_only_fitting_literals q ≡ true
-      → p.conjuncts ≡ map (row_expr s) (filter (is_condition s) (all_conjuncts q)) → p.keys ≡ map (key_of s) (key_trees (is_grouped s q) q) → p.aggs ≡ (all_aggregates s q).list
+      → p.conjuncts ≡ map (row_expr s) (filter (is_condition s) (row_conjuncts q)) → p.keys ≡ map (key_of s) (key_trees (is_grouped s q) q) → p.aggs ≡ (all_aggregates s q).list
       → IsTypedPlan types p
   plan_typed q p z is fits conjuncts_are keys_as aggs_are =
       let items = left_of (items_fit_in q) (ons_fit_in q && (filter_fits q && (keys_fit q && having_fits q))) fits in
@@ -278,7 +278,7 @@ module _ (s : Scope) (types : RowTypes) (columns : columns_have_types types s �
       let all = checks s q z is in
       let truths = both_all (IsTrue s) (on_trees q.source.others) (option_to_list q.filter) (all_conditions (on_trees q.source.others) on_ok.0 on_ok.1 (ons_fit q.source.others ons))
       (all_conditions (option_to_list q.filter) second.0 on_ok.2 (option_all q.filter where_fits)) in
-      let cs = conditions_typed (filter (is_condition s) (all_conjuncts q)) (filtered (is_condition s) (all_conjuncts q) (parts_true (conditions q) truths)) in
+      let cs = conditions_typed (filter (is_condition s) (row_conjuncts q)) (filtered (is_condition s) (row_conjuncts q) (parts_true (row_conditions q) (of_rows (IsTrue s) q truths))) in
       let ks = keys_typed q z (is_grouped s q) is refl items group in
       let of_items = take_parts no_aggregates (map (λ i. aggregates_in i.expr) q.items) tt (items_good q.items first.0 first.1 items) in
       let of_all = take_parts (item_aggregates s q) (map aggregates_in (option_to_list q.having)) of_items (having_good (option_to_list q.having) all.2.0 all.2.1 (option_all q.having had)) in
@@ -302,7 +302,7 @@ pub record AreParts (catalog : Catalog) (q : Query) (p : Plan) : Type 0 where
   pub checks : checked s q ≡ Ok z
   pub fact : p.fact ≡ table_use s q None catalog.fact.name
   pub joins : joins_of s q (equalities_among s (all_conjuncts q)) ≡ Ok p.joins
-  pub conjuncts_are : p.conjuncts ≡ map (row_expr s) (filter (is_condition s) (all_conjuncts q))
+  pub conjuncts_are : p.conjuncts ≡ map (row_expr s) (filter (is_condition s) (row_conjuncts q))
   pub keys_as : p.keys ≡ map (key_of s) (key_trees (is_grouped s q) q)
   pub aggs_are : p.aggs ≡ (all_aggregates s q).list
   pub plain : p.plain ≡ not (is_grouped s q)
@@ -322,7 +322,7 @@ parts_of_plan catalog q p is =
     let t_is = ok_same (tables_with s q catalog.fact.name joins.0) tables.0 PlanFault joins.2 in
     let g_is = ok_same (groups_with s q shown.0) groups.0 PlanFault shown.2 in
     let p_is = ok_same (plan_with q tables.0 groups.0) p PlanFault groups.2 in
-    let found = found_all s no_conjuncts (all_conjuncts q) in
+    let found = found_of_query s no_conjuncts q in
     let items = goes_there (items_of s (basis_of s q) q.items) (λ items. and_then (having_of s (basis_of s q) q.having) (λ having. and_then (order_of q.items q.order_by) (λ order. Ok (shown_with items having order)))) shown.0 shown.1 in
     let having = goes_there (having_of s (basis_of s q) q.having) (λ having. and_then (order_of q.items q.order_by) (λ order. Ok (shown_with items.0 having order))) shown.0 items.2 in
     let order = goes_there (order_of q.items q.order_by) (λ order. Ok (shown_with items.0 having.0 order)) shown.0 having.2 in

@@ -16,6 +16,7 @@ use Rattle.meaning.specs.declared.expr.Expr.TheVariants as expr
 use Rattle.meaning.specs.declared.plan.AggregateKind.TheVariants as kind
 use Rattle.meaning.specs.declared.plan.ColumnUse.{ColumnUse}
 use Rattle.meaning.specs.declared.plan.Item as plan_item
+use Rattle.meaning.specs.declared.plan.JoinType.TheVariants as join_type
 use Rattle.meaning.specs.declared.plan.OrderKey as plan_key
 use Rattle.meaning.specs.declared.plan.Plan.{Plan}
 use Rattle.meaning.specs.declared.value.Value.TheVariants as value
@@ -40,6 +41,7 @@ use Rattle.planner_expressions.specs.declared.basis.Basis.{Basis}
 use Rattle.planner_expressions.specs.declared.basis.Basis.TheVariants.{Groups}
 use Rattle.planner_expressions.specs.declared.fault.PlanFault.{PlanFault}
 use Rattle.planner_expressions.specs.declared.fault.PlanFault.TheVariants as fault
+use Rattle.planner_expressions.specs.declared.scope.Dim.{Dim}
 use Rattle.planner_expressions.specs.declared.scope.Scope.{Scope}
 use Rattle.planner_expressions.specs.declared.scope.Times.TheVariants.{Once}
 use Rattle.planner_expressions.specs.From.{no_tables, scope_of, whole, with_dim, with_fact}
@@ -81,6 +83,9 @@ kind_of (Some e) = join_kind.Inner e
 
 abbrev pub joined : List ℕ → Option (List ℕ) → Option Expr → Joined
 joined table alias on = record { table = record { name = table; alias = alias }; kind = kind_of on }
+
+abbrev pub left_joined : List ℕ → Option (List ℕ) → Expr → Joined
+left_joined table alias on = record { table = record { name = table; alias = alias }; kind = join_kind.Left on }
 
 abbrev pub sales : List Joined → Source
 sales others = record { first = record { name = codes "sales"; alias = None }; others = others }
@@ -152,6 +157,49 @@ two_equalities = search (rules, the_lemmas)
 -- SELECT id FROM sales, store WHERE s = k OR s = k
 under_or : planned catalog (query (item (name (codes "id")) ∷ []) (sales (joined (codes "store") None None ∷ [])) (Some (tree.Or on_store on_store)) []) ≡ Err fault.NoEquality
 under_or = search (rules, the_lemmas)
+
+-- ---- left joins
+
+-- SELECT id FROM ..
+abbrev pub ids : Source → Query
+ids source = query (item (name (codes "id")) ∷ []) source None []
+
+-- FROM sales LEFT JOIN store ON ..
+abbrev pub left_store : Expr → Source
+left_store on = sales (left_joined (codes "store") None on ∷ [])
+
+-- ON s = k
+by_its_equality : is_ok (planned catalog (ids (left_store on_store))) ≡ true
+by_its_equality = search (rules, the_lemmas, plan.the_lemmas)
+
+-- ON s > k
+by_no_equality : planned catalog (ids (left_store (tree.Compare Greater (name (codes "s")) (name (codes "k"))))) ≡ Err fault.LeftNotByEquality
+by_no_equality = search (rules, the_lemmas)
+
+-- ON s = k AND s = k
+by_two_equalities : planned catalog (ids (left_store (tree.And on_store on_store))) ≡ Err fault.LeftNotByEquality
+by_two_equalities = search (rules, the_lemmas)
+
+-- ON s = region
+of_two_types : planned catalog (ids (left_store (tree.Compare Equal (name (codes "s")) (name (codes "region"))))) ≡ Err fault.TypeMismatch
+of_two_types = search (rules, the_lemmas)
+
+-- SELECT id FROM store LEFT JOIN sales ON s = k
+before_the_fact : planned catalog (ids (record { first = record { name = codes "store"; alias = None }; others = left_joined (codes "sales") None on_store ∷ [] })) ≡ Err fault.LeftNotBehindFact
+before_the_fact = search (rules, the_lemmas)
+
+-- FROM sales, store a LEFT JOIN store b ON s = ..
+abbrev left_second : List ℕ → Query
+left_second owner =
+    ids (sales (joined (codes "store") (Some (codes "a")) None ∷ left_joined (codes "store") (Some (codes "b")) (tree.Compare Equal (name (codes "s")) (tree.Column (Some owner) (codes "k"))) ∷ []))
+
+-- ON s = b.k: a has no equality
+first_without : planned catalog (left_second (codes "b")) ≡ Err fault.NoEquality
+first_without = search (rules, the_lemmas)
+
+-- ON s = a.k: the equality is that of a, and b has none of its own
+second_without : planned catalog (left_second (codes "a")) ≡ Err fault.LeftNotByEquality
+second_without = search (rules, the_lemmas)
 
 -- the operands of the topmost ANDs
 four : conjuncts_of (tree.And (tree.And (tree.Or on_store on_store) (tree.Not on_store)) (tree.IsNull false next)) ≡ tree.Or on_store on_store ∷ tree.Not on_store ∷ tree.IsNull false next ∷ []
@@ -287,6 +335,7 @@ best_plan text = record {
   };
   joins = record {
     dim = record { name = codes "store"; columns = read 0 (codes "k") Int ∷ read 1 (codes "region") Text ∷ [] };
+    join_type = join_type.Inner;
     foreign = 1;
     key = 0;
   } ∷ [];
@@ -313,7 +362,7 @@ by_on = best_of (sales (joined (codes "store") (Some (codes "r")) (Some on_store
 
 -- sales, and store as r
 abbrev pub with_store : Scope
-with_store = with_dim (with_fact no_tables (codes "sales") catalog.fact) (codes "r") store
+with_store = with_dim (with_fact no_tables (codes "sales") catalog.fact) (codes "r") join_type.Inner store
 
 scoped : scope_of catalog by_on.source ≡ Ok with_store
 scoped = search (rules, the_lemmas)
@@ -450,13 +499,51 @@ comma_tables = search (rules, the_lemmas, comma_conjuncts, comma_fact, comma_dim
 comma_is_planned : planned catalog by_comma ≡ Ok (best_plan (canonical by_comma))
 comma_is_planned = is_planned (sales (joined (codes "store") (Some (codes "r")) None ∷ [])) (tree.And on_store at_most) scoped comma_conditions_fine comma_tables
 
+-- ---- the tables of a left join
+
+-- SELECT region FROM sales LEFT JOIN store ON s = k WHERE s = k: the equality behind WHERE is a condition
+abbrev pub by_left : Query
+by_left = query (item (name (codes "region")) ∷ []) (left_store on_store) (Some on_store) []
+
+abbrev pub with_left_store : Scope
+with_left_store = with_dim (with_fact no_tables (codes "sales") catalog.fact) (codes "store") join_type.Left store
+
+left_scoped : scope_of catalog by_left.source ≡ Ok with_left_store
+left_scoped = search (rules, the_lemmas)
+
+left_conjuncts : conjuncts with_left_store by_left ≡ record { equalities = []; plain = expr.Compare comparison.Equal (expr.Column 1) (expr.Joined 0 0) ∷ [] }
+left_conjuncts = search (rules, the_lemmas, plan.the_lemmas)
+
+left_fact : table_use with_left_store by_left None (codes "sales") ≡ record { name = codes "sales"; columns = read 1 (codes "s") Int ∷ [] }
+left_fact = search (rules, the_lemmas)
+
+left_dim : table_use with_left_store by_left (Some 0) (codes "store") ≡ record { name = codes "store"; columns = read 0 (codes "k") Int ∷ read 1 (codes "region") Text ∷ [] }
+left_dim = search (rules, the_lemmas)
+
+left_tables :
+    tables_of (codes "sales") with_left_store by_left
+    ≡ Ok (record {
+      fact = record { name = codes "sales"; columns = read 1 (codes "s") Int ∷ [] };
+      joins = record {
+        dim = record { name = codes "store"; columns = read 0 (codes "k") Int ∷ read 1 (codes "region") Text ∷ [] };
+        join_type = join_type.Left;
+        foreign = 1;
+        key = 0;
+      } ∷ [];
+      conjuncts = expr.Compare comparison.Equal (expr.Column 1) (expr.Joined 0 0) ∷ [];
+    })
+left_tables = search (rules, the_lemmas, left_conjuncts, left_fact, left_dim)
+
 -- ---- limits
 
+abbrev some_dim : Dim
+some_dim = record { called = codes "store"; name = codes "store"; key = 0; join_type = join_type.Left }
+
 -- FROM with seventeen joins, and with sixteen
-seventeen : whole (record with_store { dims = replicate 17 (record { name = codes "store"; key = 0 }) }) Once ≡ Err fault.OverLimit
+seventeen : whole (record with_store { dims = replicate 17 some_dim }) Once ≡ Err fault.OverLimit
 seventeen = search (rules)
 
-sixteen : is_ok (whole (record with_store { dims = replicate 16 (record { name = codes "store"; key = 0 }) }) Once) ≡ true
+sixteen : is_ok (whole (record with_store { dims = replicate 16 some_dim }) Once) ≡ true
 sixteen = search (rules)
 
 -- GROUP BY q, q, .. of 65 entries, and of 64

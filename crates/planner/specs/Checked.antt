@@ -1,9 +1,11 @@
 -- The expressions of a query in the order items, ON, WHERE, GROUP BY, HAVING, up to the first fault.
-use Rattle.std.specs.Prelude.{Bool, true, false, List, ◌++◌, map, flat_map, if◌then◌else◌, option_to_list, Result, Ok, Err}
+use Rattle.std.specs.Prelude.{Bool, true, false, List, ◌++◌, map, flat_map, if◌then◌else◌, Option, None, Some, option_to_list, Result, Ok, Err}
 use Rattle.meaning.specs.Results.{and_then}
 use Rattle.sql_syntax.specs.Joins.{condition_of}
 use Rattle.sql_syntax.specs.declared.tree.Expr.{Expr}
 use Rattle.sql_syntax.specs.declared.tree.Item.{Item}
+use Rattle.sql_syntax.specs.declared.tree.JoinKind.{JoinKind}
+use Rattle.sql_syntax.specs.declared.tree.JoinKind.TheVariants.{Comma, Inner, Left}
 use Rattle.sql_syntax.specs.declared.tree.Joined.{Joined}
 use Rattle.sql_syntax.specs.declared.tree.Query.{Query}
 use Rattle.planner_expressions.specs.declared.fault.PlanFault.{PlanFault}
@@ -45,6 +47,19 @@ on_trees js = flat_map (λ j. option_to_list (condition_of j.kind)) js
 -- the conditions of ON and then that of WHERE
 abbrev pub conditions : Query → List Expr
 conditions q = on_trees q.source.others ++ option_to_list q.filter
+
+-- the conditions by which joined rows are dropped: the ON of a LEFT join drops none
+
+abbrev pub inner_on : JoinKind → Option Expr
+inner_on Comma = None
+inner_on (Inner e) = Some e
+inner_on (Left e) = None
+
+abbrev pub inner_trees : List Joined → List Expr
+inner_trees js = flat_map (λ j. option_to_list (inner_on j.kind)) js
+
+abbrev pub row_conditions : Query → List Expr
+row_conditions q = inner_trees q.source.others ++ option_to_list q.filter
 
 -- ON and WHERE
 abbrev pub conditions_checked : Scope → Query → Checked

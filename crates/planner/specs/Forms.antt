@@ -11,15 +11,19 @@ use Rattle.sql_syntax.specs.declared.tree.Query.{Query}
 use Rattle.sql_syntax.specs.declared.tree.Table as written
 use Rattle.sql_syntax.specs.Canonical.{canonical}
 use Rattle.planner_expressions.specs.Results.{map_ok}
-use Rattle.planner.specs.Checked.{conditions}
+use Rattle.planner.specs.Checked.{conditions, row_conditions}
+use Rattle.planner.specs.Conjuncts.{left_on}
 use Rattle.planner.specs.Planned.{planned}
 
--- two queries that differ at most in which of their conditions stand behind ON, and which behind WHERE
+-- two queries that differ at most in which of their conditions stand behind ON, and which behind WHERE, and have the same
+-- LEFT joins
 pub record AskTheSame (q r : Query) : Type 0 where
   pub items : q.items ≡ r.items
   pub first : q.source.first ≡ r.source.first
   pub tables : map (λ j. j.table) q.source.others ≡ map (λ j. j.table) r.source.others
+  pub left_ons : map (λ j. left_on j.kind) q.source.others ≡ map (λ j. left_on j.kind) r.source.others
   pub conditions_are : conditions q ≡ conditions r
+  pub row_conditions_are : row_conditions q ≡ row_conditions r
   pub group_by : q.group_by ≡ r.group_by
   pub having : q.having ≡ r.having
   pub order_by : q.order_by ≡ r.order_by

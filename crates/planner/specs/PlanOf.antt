@@ -29,8 +29,8 @@ use Rattle.planner_expressions.specs.Meant.{SameOnRows, SameOnGroups}
 use Rattle.planner_expressions.specs.Spelled.{Spelling, spelled, index_among}
 use Rattle.planner.specs.declared.conjuncts.Equality.{Equality}
 use Rattle.planner.specs.Aggregates.{aggregates_in, count_rows, kind_of, row_type}
-use Rattle.planner.specs.Checked.{conditions}
-use Rattle.planner.specs.Conjuncts.{conjuncts_of, join_equality}
+use Rattle.planner.specs.Checked.{conditions, row_conditions}
+use Rattle.planner.specs.Conjuncts.{conjuncts_of, inner_equality}
 use Rattle.planner.specs.Groups.{all_aggregates, is_grouped, key_trees}
 use Rattle.planner.specs.Planned.{joins_of, planned, table_use}
 use Rattle.planner.specs.Shown.{order_of}
@@ -46,13 +46,17 @@ Pairwise R (x ∷ xs) (y ∷ ys) = R x y × Pairwise R xs ys
 abbrev pub all_conjuncts : Query → List Expr
 all_conjuncts q = flat_map conjuncts_of (conditions q)
 
--- the join equalities among them
+-- the join equalities of inner joins among them
 abbrev pub equalities_among : Scope → List Expr → List Equality
-equalities_among s = flat_map (λ e. option_to_list (join_equality s e))
+equalities_among s = flat_map (λ e. option_to_list (inner_equality s e))
 
--- a conjunct that is no join equality
+-- the conjuncts of ON and WHERE but for those of a LEFT join's ON
+abbrev pub row_conjuncts : Query → List Expr
+row_conjuncts q = flat_map conjuncts_of (row_conditions q)
+
+-- a conjunct that is no join equality of an inner join
 abbrev pub is_condition : Scope → Expr → Bool
-is_condition s e = is_none (join_equality s e)
+is_condition s e = is_none (inner_equality s e)
 
 -- the keys, and the aggregates, as trees that are the same are written
 abbrev pub key_spellings : Scope → Query → List Spelling
@@ -126,7 +130,7 @@ pub record IsPlanOf (catalog : Catalog) (q : Query) (s : Scope) (p : Plan) : Typ
   pub text : p.text ≡ canonical q
   pub fact : p.fact ≡ table_use s q None catalog.fact.name
   pub joins : joins_of s q (equalities_among s (all_conjuncts q)) ≡ Ok p.joins
-  pub conjuncts : Pairwise (SameOnRows s) p.conjuncts (filter (is_condition s) (all_conjuncts q))
+  pub conjuncts : Pairwise (SameOnRows s) p.conjuncts (filter (is_condition s) (row_conjuncts q))
   pub keys : Pairwise (IsKeyOf s) p.keys (key_trees (is_grouped s q) q)
   pub aggregates : AreAggregates s q p.aggs
   pub items : Pairwise (IsItemOf s q) p.items q.items

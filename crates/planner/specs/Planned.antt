@@ -1,5 +1,5 @@
 -- The plan of a query, or its first fault.
-use Rattle.std.specs.Prelude.{ℕ, ◌==◌, Bool, true, false, not, ◌&&◌, ◌||◌, List, [], map, filter, flat_map, Option, Some, None, option_to_list, Result, Ok}
+use Rattle.std.specs.Prelude.{ℕ, ◌==◌, Bool, true, false, not, ◌&&◌, ◌||◌, List, [], map, filter, Option, Some, None, option_to_list, Result, Ok}
 use Rattle.std.specs.List.{list_any, enumerate_from}
 use Rattle.meaning.specs.Results.{all_ok, and_then}
 use Rattle.meaning.specs.declared.catalog.Catalog.{Catalog}
@@ -7,9 +7,12 @@ use Rattle.meaning.specs.declared.expr.Expr as plan
 use Rattle.meaning.specs.declared.plan.ColumnUse.{ColumnUse}
 use Rattle.meaning.specs.declared.plan.TableUse.{TableUse}
 use Rattle.meaning.specs.declared.plan.Join.{Join}
+use Rattle.meaning.specs.declared.plan.JoinType.{JoinType}
+use Rattle.meaning.specs.declared.plan.JoinType.TheVariants.{Inner, Left}
 use Rattle.meaning.specs.declared.plan.Item as plan_item
 use Rattle.meaning.specs.declared.plan.OrderKey as plan_key
 use Rattle.meaning.specs.declared.plan.Plan.{Plan}
+use Rattle.sql_syntax.specs.declared.tree.Joined.{Joined}
 use Rattle.sql_syntax.specs.declared.tree.Query.{Query}
 use Rattle.sql_syntax.specs.Canonical.{canonical}
 use Rattle.planner_expressions.specs.declared.basis.Basis.{Basis}
@@ -26,7 +29,7 @@ use Rattle.planner.specs.declared.parts.Tables.{Tables}
 use Rattle.planner.specs.declared.parts.Shown.{Shown}
 use Rattle.planner.specs.declared.parts.Grouped.{Grouped}
 use Rattle.planner.specs.Checked.{checked, conditions}
-use Rattle.planner.specs.Conjuncts.{with_conjuncts, conjuncts_of, equality_for}
+use Rattle.planner.specs.Conjuncts.{with_all, equality_for, left_equality_for}
 use Rattle.planner.specs.Groups.{all_aggregates, is_grouped, keys_of, limits_check}
 use Rattle.planner.specs.Shown.{items_of, having_of, order_of}
 
@@ -60,12 +63,19 @@ abbrev pub no_conjuncts : Conjuncts
 no_conjuncts = record { equalities = []; plain = [] }
 
 abbrev pub conjuncts : Scope → Query → Conjuncts
-conjuncts s q = with_conjuncts s no_conjuncts (flat_map conjuncts_of (conditions q))
+conjuncts s q = with_all s no_conjuncts q
+
+-- an inner join's equality is a conjunct of ON or WHERE, a LEFT join's is its ON
+abbrev pub equality_by : JoinType → Scope → List Joined → List Equality → ℕ × Dim → Result Equality PlanFault
+equality_by Inner s js equalities d = equality_for equalities d.0
+equality_by Left s js equalities d = left_equality_for s js d
+
+abbrev pub join_with : Scope → Query → ℕ × Dim → Equality → Join
+join_with s q d e = record { dim = table_use s q (Some d.0) d.1.name; join_type = d.1.join_type; foreign = e.foreign; key = e.key }
 
 -- a dimension of FROM, joined by its one equality
 abbrev pub join_of : Scope → Query → List Equality → ℕ × Dim → Result Join PlanFault
-join_of s q equalities d =
-    and_then (equality_for equalities d.0) (λ e. Ok (record { dim = table_use s q (Some d.0) d.1.name; foreign = e.foreign; key = e.key }))
+join_of s q equalities d = and_then (equality_by d.1.join_type s q.source.others equalities d) (λ e. Ok (join_with s q d e))
 
 abbrev pub joins_of : Scope → Query → List Equality → Result (List Join) PlanFault
 joins_of s q equalities = all_ok (map (join_of s q equalities) (enumerate_from 0 s.dims))

@@ -78,6 +78,7 @@ fn check_join(scope: &Scope, kind: &JoinKind) -> Result<(), PlanFault>
     match kind {
         JoinKind::Comma => Ok(()),
         JoinKind::Inner(on) => truth(judge(scope, on, true)),
+        JoinKind::Left(on) => truth(judge(scope, on, true)),
     }
 }
 

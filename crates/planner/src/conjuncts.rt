@@ -1,12 +1,14 @@
 //! The conjuncts of ON and WHERE.
-ghost use Rattle.std.specs.Prelude.{◌≡◌, ◌++◌, OnOk, IfOk, flat_map, filter, find, length, option_copied, option_to_list, ℕ};
+ghost use Rattle.std.specs.Prelude.{◌≡◌, ◌++◌, OnOk, IfOk, flat_map, filter, find, length, option_and_then, option_copied, option_to_list, slice_get, ℕ};
 ghost use Rattle.sql_syntax.specs.Joins.{condition_of};
-ghost use Rattle.planner.specs.Checked.{on_trees, conditions};
+ghost use Rattle.meaning.specs.declared.plan.JoinType.TheVariants.{Inner};
 ghost use Rattle.planner_expressions.specs.Given.{column_meant};
-ghost use Rattle.planner.specs.Conjuncts.{keyed as keyed_by, equality_of, join_equality, row_expr as expr_of, with_conjunct, with_conjuncts, conjuncts_of, joins_dim, equality_for as equality_of_dim, one_equality};
+ghost use Rattle.planner.specs.Conjuncts.{keyed as keyed_by, equality_of, join_equality, joins_left as left_dim, dim_is_left, inner_equality as inner_one, row_expr as expr_of, with_condition, with_conjunct, with_conjuncts, with_on, with_ons, with_all, conjuncts_of, joins_dim, equality_for as equality_of_dim, one_equality, left_on as on_of_left, goes_by as goes_by_it, left_on_of as on_of_dim, if_own, left_equality_for as left_equality_of};
 
-use meaning::{Sequence, Value, expr};
-use planner_expressions::{Basis, PlanFault, Scope, ScopeColumn, column_of, translate};
+use meaning::{JoinType, Sequence, Text, Value, expr};
+use planner_expressions::{
+    Basis, Dim, PlanFault, Scope, ScopeColumn, column_of, is_left, name_of, translate,
+};
 use sql_syntax::{Comparison, Expr, JoinKind, Joined, Query};
 use std::alloc::{AllocError, Global};
 
@@ -90,6 +92,31 @@ fn find_equality(scope: &Scope, expr: &Expr) -> Option<Equality>
     }
 }
 
+fn joins_left(scope: &Scope, equality: &Equality) -> bool
+    ensures { result ≡ left_dim scope.now equality.now }
+{
+    match scope.dims.as_slice().get(equality.join) {
+        Some(dim) => is_left(dim.join_type),
+        None => false,
+    }
+}
+
+/// The join equality of an inner join that a conjunct is, if it is one.
+fn inner_equality(scope: &Scope, expr: &Expr) -> Option<Equality>
+    ensures { result ≡ inner_one scope.now expr.now }
+{
+    match find_equality(scope, expr) {
+        Some(found) => {
+            if joins_left(scope, &found) {
+                None
+            } else {
+                Some(found)
+            }
+        }
+        None => None,
+    }
+}
+
 /// The expression over a joined row.
 pub fn row_expr(alloc: Global, scope: &Scope, expr: &Expr) -> Result<expr::Expr, AllocError>
     ensures { IfOk result (λ x. x ≡ expr_of scope.now expr.now) }
@@ -101,20 +128,37 @@ pub fn row_expr(alloc: Global, scope: &Scope, expr: &Expr) -> Result<expr::Expr,
     }
 }
 
-fn add_conjunct(
+/// Puts a condition behind the others, unless it stands in the ON of a LEFT JOIN.
+fn add_plain(
     alloc: Global,
     scope: &Scope,
+    by: JoinType,
     expr: &Expr,
     out: &mut Conjuncts,
 ) -> Result<(), AllocError>
-    ensures { OnOk result (out.new ≡ with_conjunct scope.now out.old expr.now) }
+    ensures { OnOk result (out.new ≡ with_condition scope.now by out.old expr.now) }
 {
-    match find_equality(scope, expr) {
-        Some(found) => out.equalities.push(found),
-        None => {
+    match by {
+        JoinType::Inner => {
             let found = row_expr(alloc, scope, expr)?;
             out.plain.push(found)
         }
+        JoinType::Left => Ok(()),
+    }
+}
+
+fn add_conjunct(
+    alloc: Global,
+    scope: &Scope,
+    by: JoinType,
+    expr: &Expr,
+    out: &mut Conjuncts,
+) -> Result<(), AllocError>
+    ensures { OnOk result (out.new ≡ with_conjunct scope.now by out.old expr.now) }
+{
+    match inner_equality(scope, expr) {
+        Some(found) => out.equalities.push(found),
+        None => add_plain(alloc, scope, by, expr, out),
     }
 }
 
@@ -123,17 +167,18 @@ fn add_conjunct(
 fn add_conjuncts(
     alloc: Global,
     scope: &Scope,
+    by: JoinType,
     expr: &Expr,
     out: &mut Conjuncts,
 ) -> Result<(), AllocError>
-    ensures { OnOk result (out.new ≡ with_conjuncts scope.now out.old (conjuncts_of expr.now)) }
+    ensures { OnOk result (out.new ≡ with_conjuncts scope.now by out.old (conjuncts_of expr.now)) }
 {
     match expr {
         Expr::And { left, right } => {
-            add_conjuncts(alloc, scope, left.get(), out)?;
-            add_conjuncts(alloc, scope, right.get(), out)
+            add_conjuncts(alloc, scope, by, left.get(), out)?;
+            add_conjuncts(alloc, scope, by, right.get(), out)
         }
-        _ => add_conjunct(alloc, scope, expr, out),
+        _ => add_conjunct(alloc, scope, by, expr, out),
     }
 }
 
@@ -143,11 +188,11 @@ fn add_condition(
     condition: &Option<Expr>,
     out: &mut Conjuncts,
 ) -> Result<(), AllocError>
-    ensures { OnOk result (out.new
-        ≡ with_conjuncts scope.now out.old (flat_map conjuncts_of (option_to_list condition.now))) }
+    ensures { OnOk result (out.new ≡ with_conjuncts scope.now Inner out.old
+        (flat_map conjuncts_of (option_to_list condition.now))) }
 {
     match condition {
-        Some(condition) => add_conjuncts(alloc, scope, condition, out),
+        Some(condition) => add_conjuncts(alloc, scope, JoinType::Inner, condition, out),
         None => Ok(()),
     }
 }
@@ -158,12 +203,12 @@ fn add_join(
     kind: &JoinKind,
     out: &mut Conjuncts,
 ) -> Result<(), AllocError>
-    ensures { OnOk result (out.new ≡ with_conjuncts scope.now out.old
-        (flat_map conjuncts_of (option_to_list (condition_of kind.now)))) }
+    ensures { OnOk result (out.new ≡ with_on scope.now out.old kind.now) }
 {
     match kind {
         JoinKind::Comma => Ok(()),
-        JoinKind::Inner(on) => add_conjuncts(alloc, scope, on, out),
+        JoinKind::Inner(on) => add_conjuncts(alloc, scope, JoinType::Inner, on, out),
+        JoinKind::Left(on) => add_conjuncts(alloc, scope, JoinType::Left, on, out),
     }
 }
 
@@ -173,8 +218,7 @@ fn add_ons(
     others: &[Joined],
     out: &mut Conjuncts,
 ) -> Result<(), AllocError>
-    ensures { OnOk result (out.new
-        ≡ with_conjuncts scope.now out.old (flat_map conjuncts_of (on_trees others.now))) }
+    ensures { OnOk result (out.new ≡ with_ons scope.now out.old others.now) }
 {
     for joined in others {
         add_join(alloc, scope, &joined.kind, out)?;
@@ -189,8 +233,7 @@ pub fn add_all(
     query: &Query,
     out: &mut Conjuncts,
 ) -> Result<(), AllocError>
-    ensures { OnOk result (out.new
-        ≡ with_conjuncts scope.now out.old (flat_map conjuncts_of (conditions query.now))) }
+    ensures { OnOk result (out.new ≡ with_all scope.now out.old query.now) }
 {
     add_ons(alloc, scope, query.source.others.as_slice(), out)?;
     add_condition(alloc, scope, &query.filter, out)
@@ -231,5 +274,67 @@ pub fn equality_for(equalities: &[Equality], dim: usize) -> Result<Equality, Pla
                 Err(PlanFault::TwoEqualities)
             }
         }
+    }
+}
+
+fn left_on(joined: &Joined) -> Option<&Expr>
+    ensures { option_copied result ≡ on_of_left joined.now.kind }
+{
+    match &joined.kind {
+        JoinKind::Comma => None,
+        JoinKind::Inner(_) => None,
+        JoinKind::Left(on) => Some(on),
+    }
+}
+
+fn goes_by(joined: &Joined, name: &Text) -> bool
+    ensures { result ≡ goes_by_it name.now joined.now }
+{
+    name_of(&joined.table).as_str() == name.as_str()
+}
+
+fn find_joined<'a>(others: &'a [Joined], name: &Text) -> Option<&'a Joined>
+    ensures { option_copied result ≡ find (goes_by_it name.now) others.now }
+{
+    others.iter().find(|joined| goes_by(joined, name))
+}
+
+/// The ON of the LEFT JOIN of a dimension.
+fn left_on_of<'a>(others: &'a [Joined], dim: &Dim) -> Option<&'a Expr>
+    ensures { option_copied result ≡ on_of_dim others.now dim.now }
+{
+    match find_joined(others, &dim.called) {
+        Some(joined) => left_on(joined),
+        None => None,
+    }
+}
+
+fn own_equality(found: Option<Equality>, join: usize) -> Result<Equality, PlanFault>
+    ensures { result ≡ if_own join found }
+{
+    match found {
+        Some(found) => {
+            if joins(&found, join) {
+                Ok(found)
+            } else {
+                Err(PlanFault::LeftNotByEquality)
+            }
+        }
+        None => Err(PlanFault::LeftNotByEquality),
+    }
+}
+
+/// The join equality that the ON of a LEFT JOIN is.
+pub fn left_equality_for(
+    scope: &Scope,
+    others: &[Joined],
+    join: usize,
+    dim: &Dim,
+) -> Result<Equality, PlanFault>
+    ensures { result ≡ left_equality_of scope.now others.now (join, dim.now) }
+{
+    match left_on_of(others, dim) {
+        Some(on) => own_equality(find_equality(scope, on), join),
+        None => Err(PlanFault::LeftNotByEquality),
     }
 }

@@ -104,7 +104,7 @@ fn plan_returned(alloc: Global, catalog: &Catalog, query: &Query) -> Result<Plan
 }
 
 /// The plan of a query over the tables of a catalogue, or its first fault.
-#[tactic(auto, using(crate::proofs::PlansMean::means_returned, crate::proofs::TypedPlans::typed_returned, crate::proofs::SoundPlans::planned_returned))]
+#[tactic(auto, using(crate::proofs::PlansMean::means_returned, crate::proofs::SoundPlans::planned_returned))]
 pub fn plan(alloc: Global, catalog: &Catalog, query: &Query) -> Result<Plan, PlanFault>
     // It is the plan that is defined, or exactly the first fault, unless memory is wanting.
     ensures returned { Reports result (planned catalog.now query.now) }

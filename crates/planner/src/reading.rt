@@ -5,10 +5,10 @@ ghost use Rattle.planner_expressions.specs.Results.{map_ok, Reports};
 ghost use Rattle.planner_expressions.specs.Uses.{names as names_it};
 ghost use Rattle.sql_syntax.specs.Joins.{condition_of};
 ghost use Rattle.planner.specs.Checked.{on_trees, conditions};
-ghost use Rattle.planner.specs.Planned.{is_named as named_in, same_join as of_join, is_read as read_in, use_of, table_use as used_of, join_of, joins_of};
+ghost use Rattle.planner.specs.Planned.{is_named as named_in, same_join as of_join, is_read as read_in, use_of, table_use as used_of, equality_by, join_of, joins_of};
 
-use crate::conjuncts::{Equality, equality_for};
-use meaning::{ColumnUse, Join, Sequence, TableUse, Text};
+use crate::conjuncts::{Equality, equality_for, left_equality_for};
+use meaning::{ColumnUse, Join, JoinType, Sequence, TableUse, Text};
 use planner_expressions::{Dim, PlanFault, Scope, ScopeColumn, names};
 use sql_syntax::{Expr, Item, JoinKind, Joined, Query};
 use std::alloc::{AllocError, Global};
@@ -40,6 +40,7 @@ fn in_join(column: &ScopeColumn, kind: &JoinKind) -> bool
     match kind {
         JoinKind::Comma => false,
         JoinKind::Inner(on) => names(column, on),
+        JoinKind::Left(on) => names(column, on),
     }
 }
 
@@ -173,6 +174,23 @@ pub fn table_use(
     table_from(name, columns, pushed)
 }
 
+/// The equality by which a dimension of FROM is joined.
+fn equality_at(
+    scope: &Scope,
+    others: &[Joined],
+    equalities: &[Equality],
+    join: usize,
+    dim: &Dim,
+) -> Result<Equality, PlanFault>
+    ensures { result ≡ equality_by dim.now.join_type scope.now others.now equalities.now
+        (join, dim.now) }
+{
+    match dim.join_type {
+        JoinType::Inner => equality_for(equalities, join),
+        JoinType::Left => left_equality_for(scope, others, join, dim),
+    }
+}
+
 /// A dimension of FROM, joined by its one equality.
 fn join_at(
     alloc: Global,
@@ -184,10 +202,13 @@ fn join_at(
 ) -> Result<Join, PlanFault>
     ensures { Reports result (join_of scope.now query.now equalities.now (join, dim.now)) }
 {
-    match equality_for(equalities, join) {
+    let join_type = dim.join_type;
+    let others = query.source.others.as_slice();
+    match equality_at(scope, others, equalities, join, dim) {
         Ok(equality) => match table_use(alloc, scope, query, Some(join), &dim.name) {
             Ok(dim) => Ok(Join {
                 dim,
+                join_type,
                 foreign: equality.foreign,
                 key: equality.key,
             }),

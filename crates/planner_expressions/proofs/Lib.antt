@@ -9,6 +9,7 @@ pub mod Accepted
 pub mod HasTypes
 pub mod TypedRows
 pub mod Tables
+pub mod Lefts
 pub mod Among
 pub mod Columns
 pub mod SpelledAlike

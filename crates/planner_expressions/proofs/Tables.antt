@@ -11,6 +11,8 @@ use Rattle.meaning.specs.Typing.{Valued, RowTypes, is_column_type}
 use Rattle.meaning.specs.declared.catalog.Catalog.{Catalog}
 use Rattle.meaning.specs.declared.catalog.Column.{Column}
 use Rattle.meaning.specs.declared.catalog.Dimension.{Dimension}
+use Rattle.meaning.specs.declared.plan.JoinType.{JoinType}
+use Rattle.meaning.specs.declared.plan.JoinType.TheVariants as join_type
 use Rattle.meaning.specs.declared.value.ColType.{ColType}
 use Rattle.meaning.proofs.Tests.{both, all_append, all_imply}
 use Rattle.meaning.proofs.Typed.{type_itself}
@@ -23,7 +25,7 @@ use Rattle.planner_expressions.specs.declared.scope.ScopeColumn.{ScopeColumn}
 use Rattle.planner_expressions.specs.declared.scope.Scope.{Scope}
 use Rattle.planner_expressions.specs.declared.scope.Times.{Times}
 use Rattle.planner_expressions.specs.declared.scope.Times.TheVariants.{Never, Once, Often}
-use Rattle.planner_expressions.specs.From.{called, is_at, scope_column_of, scope_columns, with_fact, with_dim, with_table, if_new, enter, enter_all, no_tables, whole, scope_of}
+use Rattle.planner_expressions.specs.From.{called, join_type_of, is_before_lefts, if_behind, if_lefts_behind, is_at, scope_column_of, scope_columns, with_fact, with_dim, with_table, if_new, enter, enter_all, no_tables, whole, scope_of}
 use Rattle.planner_expressions.specs.Typed.{types_in, has_its_type, columns_have_types, is_key_column, has_its_key, ScopesAreTables}
 use Rattle.planner_expressions.proofs.Accepted.{goes_there}
 use Rattle.planner_expressions.proofs.Meaning.{one_there}
@@ -147,9 +149,9 @@ module _ (catalog : Catalog) where
   more_keyed keys k p true is = more_key_column keys k p.join p.column is
   more_keyed keys k p false is = refl
 
-  dim_stands : (ds : List Dimension) (s : Scope) (name : List ℕ) (d : Dimension) → Contains catalog.dims d → Stand ds s → Stand (ds ++ d ∷ []) (with_dim s name d)
-  dim_stands ds s name d there stand =
-      let new : Dim = record { name = d.table.name; key = d.key } in
+  dim_stands : (ds : List Dimension) (s : Scope) (name : List ℕ) (by : JoinType) (d : Dimension) → Contains catalog.dims d → Stand ds s → Stand (ds ++ d ∷ []) (with_dim s name by d)
+  dim_stands ds s name by d there stand =
+      let new : Dim = record { called = name; name = d.table.name; key = d.key; join_type = by } in
       let counted : length s.dims ≡ length ds = sym (length-map s.dims key_of) ∙ sym (ap length stand.1) ∙ length-map ds key_in in
       let keys_are : map key_of (s.dims ++ new ∷ []) ≡ map key_of s.dims ++ d.key ∷ [] = map_last key_of s.dims new in
       let old = all_imply (has_its_type (joined_types catalog ds)) (has_its_type (joined_types catalog (ds ++ d ∷ []))) (λ p. more_typed ds d p p.join) s.columns stand.2 in
@@ -170,29 +172,30 @@ module _ (catalog : Catalog) where
   abbrev Stands : Scope → Type 0
   Stands s = (ds : List Dimension) × Stand ds s
 
-  by_table : (s : Scope) (name : List ℕ) (b : Bool) (o : Option Dimension) (new : Scope) → Stands s → ((d : Dimension) → o ≡ Some d → Contains catalog.dims d)
-      → cond b (Some (with_fact s name catalog.fact)) (option_map (with_dim s name) o) ≡ Some new → Stands new
-  by_table s name true o new stands there is = let same : with_fact s name catalog.fact ≡ new = cc in subst Stands same (stands.0, fact_stands stands.0 s name stands.1)
-  by_table s name false o new stands there is =
-      let d = one_there (with_dim s name) o new is in
-      subst Stands (sym d.2) (stands.0 ++ d.0 ∷ [], dim_stands stands.0 s name d.0 (there d.0 d.1) stands.1)
+  by_table : (s : Scope) (name : List ℕ) (by : JoinType) (b : Bool) (o : Option Dimension) (new : Scope) → Stands s → ((d : Dimension) → o ≡ Some d → Contains catalog.dims d)
+      → cond b (Some (with_fact s name catalog.fact)) (option_map (with_dim s name by) o) ≡ Some new → Stands new
+  by_table s name by true o new stands there is = let same : with_fact s name catalog.fact ≡ new = cc in subst Stands same (stands.0, fact_stands stands.0 s name stands.1)
+  by_table s name by false o new stands there is =
+      let d = one_there (with_dim s name by) o new is in
+      subst Stands (sym d.2) (stands.0 ++ d.0 ∷ [], dim_stands stands.0 s name by d.0 (there d.0 d.1) stands.1)
 
   is_new : (taken : Bool) (o : Option Scope) (new : Scope) → if_new taken o ≡ Ok new → o ≡ Some new
   is_new taken None new is = absurd cc
   is_new true (Some x) new is = absurd cc
   is_new false (Some x) new is = let same : x ≡ new = cc in ap (λ (y : Scope). Some y) same
 
-  entered : (s : Scope) (t : written.Table) (new : Scope) → Stands s → enter catalog s t ≡ Ok new → Stands new
-  entered s t new stands is =
-      by_table s (called t) (bytes_eq catalog.fact.name t.name) (find (λ d. bytes_eq d.table.name t.name) catalog.dims) new stands
+  entered : (s : Scope) (by : JoinType) (t : written.Table) (new : Scope) → Stands s → enter catalog s by t ≡ Ok new → Stands new
+  entered s by t new stands is =
+      by_table s (called t) by (bytes_eq catalog.fact.name t.name) (find (λ d. bytes_eq d.table.name t.name) catalog.dims) new stands
       (λ d found. found_in (λ (e : Dimension). bytes_eq e.table.name t.name) catalog.dims d found)
-      (is_new (list_any (bytes_eq (called t)) s.names) (with_table catalog s t) new is)
+      (is_new (list_any (bytes_eq (called t)) s.names) (with_table catalog s by t) new is)
 
   all_entered : (s : Scope) (js : List Joined) (new : Scope) → Stands s → enter_all catalog s js ≡ Ok new → Stands new
   all_entered s [] new stands is = let same : s ≡ new = cc in subst Stands same stands
   all_entered s (j ∷ js) new stands is =
-      let one = goes_there (enter catalog s j.table) (λ with_one. enter_all catalog with_one js) new is in
-      all_entered one.0 js new (entered s j.table one.0 stands one.1) one.2
+      let by = join_type_of j.kind in
+      let one = goes_there (enter catalog s by j.table) (λ with_one. enter_all catalog with_one js) new is in
+      all_entered one.0 js new (entered s by j.table one.0 stands one.1) one.2
 
   is_whole : (s : Scope) (times : Times) (new : Scope) → whole s times ≡ Ok new → s ≡ new
   is_whole s Never new is = absurd cc
@@ -203,12 +206,18 @@ module _ (catalog : Catalog) where
       by true returned = absurd cc
       by false returned = cc
 
+  is_behind : (b : Bool) (s new : Scope) → if_behind b s ≡ Ok new → s ≡ new
+  is_behind true s new is = cc
+  is_behind false s new is = absurd cc
+
   pub stands : (source : Source) (s : Scope) → scope_of catalog source ≡ Ok s → Stands s
   stands source s is =
-      let first = goes_there (enter catalog no_tables source.first) (λ with_first. and_then (enter_all catalog with_first source.others) (λ all. whole all all.fact)) s is in
-      let rest = goes_there (enter_all catalog first.0 source.others) (λ all. whole all all.fact) s first.2 in
-      subst Stands (is_whole rest.0 rest.0.fact s rest.2)
-      (all_entered first.0 source.others rest.0 (entered no_tables source.first first.0 ([], (tt, refl, refl, refl)) first.1) rest.1)
+      let last = if_lefts_behind catalog.fact.name source in
+      let first = goes_there (enter catalog no_tables join_type.Inner source.first) (λ with_first. and_then (enter_all catalog with_first source.others) (λ all. and_then (whole all all.fact) last)) s is in
+      let rest = goes_there (enter_all catalog first.0 source.others) (λ all. and_then (whole all all.fact) last) s first.2 in
+      let all = goes_there (whole rest.0 rest.0.fact) last s rest.2 in
+      let same = is_whole rest.0 rest.0.fact all.0 all.1 ∙ is_behind (is_before_lefts catalog.fact.name (source.first ∷ []) source.others) all.0 s all.2 in
+      subst Stands same (all_entered first.0 source.others rest.0 (entered no_tables join_type.Inner source.first first.0 ([], (tt, refl, refl, refl)) first.1) rest.1)
 
 pub scopes_are_tables : ScopesAreTables
 scopes_are_tables catalog source s is =

@@ -17,3 +17,5 @@ number_of fault.NotGrouped = 8
 number_of fault.MisplacedAggregate = 9
 number_of fault.PositionNotAllowed = 10
 number_of fault.OverLimit = 11
+number_of fault.LeftNotByEquality = 12
+number_of fault.LeftNotBehindFact = 13

@@ -21,6 +21,8 @@ pub enum PlanFault {
     MisplacedAggregate,
     PositionNotAllowed,
     OverLimit,
+    LeftNotByEquality,
+    LeftNotBehindFact,
 }
 
 impl PlanFault {
@@ -41,6 +43,8 @@ impl PlanFault {
             PlanFault::MisplacedAggregate => 9,
             PlanFault::PositionNotAllowed => 10,
             PlanFault::OverLimit => 11,
+            PlanFault::LeftNotByEquality => 12,
+            PlanFault::LeftNotBehindFact => 13,
         }
     }
 
@@ -59,6 +63,10 @@ impl PlanFault {
             PlanFault::PositionNotAllowed =>
                 "a position or a name that may not stand in GROUP BY or ORDER BY",
             PlanFault::OverLimit => "over a limit",
+            PlanFault::LeftNotByEquality =>
+                "a LEFT JOIN by another condition than its one join equality",
+            PlanFault::LeftNotBehindFact =>
+                "a LEFT JOIN of a table that is not a dimension behind the fact table",
         }
     }
 }

@@ -20,7 +20,7 @@ mod using;
 
 pub use basis::{Basis, column_of, written};
 pub use fault::PlanFault;
-pub use from::scope_of;
+pub use from::{is_left, name_of, scope_of};
 pub use judging::judge;
 pub use laws::{
     groups_mean, rows_are_typed, rows_mean, rows_translate, scopes_are_tables,

@@ -1,5 +1,5 @@
 //! What the names of a query may mean.
-use meaning::{ColType, Sequence, Text};
+use meaning::{ColType, JoinType, Sequence, Text};
 
 /// A column of a table of FROM.
 #[derive(Drop)]
@@ -16,11 +16,14 @@ pub struct ScopeColumn {
     pub col_type: ColType,
 }
 
-/// A dimension of FROM: the name that the catalogue gives it, and which of its columns is its key.
+/// A dimension of FROM: the name that it goes by, the name that the catalogue gives it, which of its
+/// columns is its key, and how it is joined.
 #[derive(Drop)]
 pub struct Dim {
+    pub called: Text,
     pub name: Text,
     pub key: usize,
+    pub join_type: JoinType,
 }
 
 /// How often a table is named.

@@ -11,7 +11,7 @@ abbrev pub has_code : Layer → ℕ → Bool
 has_code Catalog number = is_from_to 1 6 number
 has_code Cut number = is_from_to 1 3 number
 has_code Sql number = is_from_to 1 8 number
-has_code Plan number = is_from_to 1 11 number
+has_code Plan number = is_from_to 1 13 number
 has_code Load number = is_from_to 1 9 number
 has_code File number = is_from_to 1 4 number || number == 7
 has_code Work number = is_from_to 1 5 number

@@ -247,6 +247,24 @@ fn of_groups(number: u8) -> Entry {
     }
 }
 
+/// LEFT JOIN.
+fn of_left_joins(number: u8) -> Entry {
+    match number {
+        12 => Entry {
+            lines: "plan 12",
+            meaning: "the ON of a LEFT JOIN isn't just one equality of its dimension's key with a column of the fact",
+            smallest_input: "`SELECT v FROM n LEFT JOIN d ON v > k`",
+            advice: "join it `ON v = k`, and put other conditions behind WHERE",
+        },
+        _ => Entry {
+            lines: "plan 13",
+            meaning: "the table of a LEFT JOIN isn't a dimension, or the fact isn't before it in FROM",
+            smallest_input: "`SELECT v FROM d LEFT JOIN n ON v = k`",
+            advice: "name the fact first",
+        },
+    }
+}
+
 pub fn of_plan(number: u8) -> Entry {
     if number <= 3 {
         return of_names(number);
@@ -254,7 +272,10 @@ pub fn of_plan(number: u8) -> Entry {
     if number <= 7 {
         return of_joins(number);
     }
-    of_groups(number)
+    if number <= 11 {
+        return of_groups(number);
+    }
+    of_left_joins(number)
 }
 
 /// The header and the records of a CSV file.

@@ -154,7 +154,7 @@ first_is is (t ∷ ts) = is t >>= (λ a. Some (a, ts))
 
 -- the token is one that begins such a table, and such a one is at the front
 abbrev pub names_other : Terminal → Bool
-names_other t = is_sign sign.Comma t || is_keyword keyword.Inner t || is_keyword keyword.Join t
+names_other t = is_sign sign.Comma t || is_keyword keyword.Inner t || is_keyword keyword.Join t || is_keyword keyword.Left t
 
 abbrev pub begins_other : List Terminal → Bool
 begins_other [] = false

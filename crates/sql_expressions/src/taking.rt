@@ -279,9 +279,10 @@ fn names_other(token: Token<'_>) -> bool
     is_sign(token, Sign::Comma)
         || is_keyword(token, Keyword::Inner)
         || is_keyword(token, Keyword::Join)
+        || is_keyword(token, Keyword::Left)
 }
 
-/// A comma, INNER or JOIN is at the front.
+/// A comma, INNER, JOIN or LEFT is at the front.
 pub fn begins_other(lexemes: &[Lexeme<'_>]) -> bool
     ensures { result ≡ begins_other (terms lexemes.now) }
 {

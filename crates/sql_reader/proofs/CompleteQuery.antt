@@ -1,13 +1,14 @@
 -- A query that is spelled is read.
-use Rattle.std.proofs.Common.{◌≡◌, ◌⊎◌, ℕ, zero, suc, ◌+◌, ◌<◌, ◌≤◌, true, false, cond, List, [], ◌∷◌, ◌++◌, length, map, Option, Some, None, refl, sym, ap, ◌∙◌, subst, arith, append_assoc, length-append, inl, inr}
+use Rattle.std.proofs.Common.{◌≡◌, ℕ, zero, suc, ◌+◌, ◌<◌, ◌≤◌, true, false, cond, List, [], ◌∷◌, ◌++◌, length, map, Option, Some, None, refl, sym, ap, ◌∙◌, subst, arith, append_assoc, length-append}
 use Rattle.std.specs.Prelude.{max}
 use Rattle.std.proofs.lemmas.Bool.{le-leb}
 use Rattle.std.proofs.lemmas.List.{append-nil}
+use Rattle.meaning.specs.declared.plan.JoinType.{JoinType}
 use Rattle.sql_syntax.specs.declared.keyword.Keyword.{Keyword}
 use Rattle.sql_syntax.specs.declared.keyword.Keyword.TheVariants as keyword
 use Rattle.sql_syntax.specs.declared.token.Sign.{Sign}
 use Rattle.sql_syntax.specs.declared.token.Sign.TheVariants as sign
-use Rattle.sql_syntax.specs.Joins.{condition_of}
+use Rattle.sql_syntax.specs.Joins.{condition_of, kind_of}
 use Rattle.sql_syntax.specs.declared.tree.JoinKind.TheVariants as join_kind
 use Rattle.sql_syntax.specs.declared.tree.Direction.{Direction}
 use Rattle.sql_syntax.specs.declared.tree.OrderTarget.{OrderTarget}
@@ -23,12 +24,13 @@ use Rattle.sql_syntax.specs.Tokens.{Terminal}
 use Rattle.sql_syntax.specs.declared.strength.Level.TheVariants as level
 use Rattle.sql_syntax.specs.Phrases.{word, mark, Spells, open_in}
 use Rattle.sql_syntax.specs.CanonicalTokens.{depth, deepest}
-use Rattle.sql_syntax.specs.Queries.{SpellsAlias, none, bare, behind_as, SpellsTable, table, SpellsTarget, position, name, SpellsDirection, unsaid, ascending, descending, SpellsItems, last_item, more_items, SpellsOthers, no_others, behind_comma, behind_join, SpellsClause, no_clause, clause, SpellsGroups, no_groups, groups, SpellsKeys, last_key, more_keys, SpellsOrder, no_order, order, SpellsLimit, no_limit, limit, SpellsEnd, no_end, semicolon, SpellsQuery, open_in_query, option_depth, query_depth}
+use Rattle.sql_syntax.specs.Queries.{SpellsAlias, none, bare, behind_as, SpellsTable, table, SpellsTarget, position, name, SpellsDirection, unsaid, ascending, descending, SpellsItems, last_item, more_items, SpellsJoin, join, inner_join, left_join, left_outer_join, SpellsOthers, no_others, behind_comma, behind_join, SpellsClause, no_clause, clause, SpellsGroups, no_groups, groups, SpellsKeys, last_key, more_keys, SpellsOrder, no_order, order, SpellsLimit, no_limit, limit, SpellsEnd, no_end, semicolon, SpellsQuery, open_in_query, option_depth, query_depth}
 use Rattle.sql_reader.specs.Rules as rule
 use Rattle.sql_expressions.specs.Rules as phrase
 use Rattle.sql_expressions.specs.Rules.{◌>>=◌, is_keyword, is_sign, behind, inner_at}
 use Rattle.sql_expressions.proofs.Ahead.{reach, reach_of, not_keyword, not_sign}
 use Rattle.sql_expressions.proofs.Complete.{whole, freely, complete, complete_list, list_reads, none_listed}
+use Rattle.sql_reader.proofs.Tables.{condition_is}
 
 -- ---- what may stand behind a part of a query
 
@@ -38,6 +40,7 @@ stage (terminal.keyword keyword.From) = 8
 stage (terminal.keyword keyword.On) = 9
 stage (terminal.keyword keyword.Inner) = 1
 stage (terminal.keyword keyword.Join) = 1
+stage (terminal.keyword keyword.Left) = 1
 stage (terminal.keyword keyword.Where) = 2
 stage (terminal.keyword keyword.Group) = 3
 stage (terminal.keyword keyword.Having) = 4
@@ -79,6 +82,7 @@ keyword_reach keyword.In h = omega arith
 keyword_reach keyword.Inner h = omega arith
 keyword_reach keyword.Is h = omega arith
 keyword_reach keyword.Join h = omega arith
+keyword_reach keyword.Left h = omega arith
 keyword_reach keyword.Like h = omega arith
 keyword_reach keyword.Limit h = omega arith
 keyword_reach keyword.Max h = omega arith
@@ -88,6 +92,7 @@ keyword_reach keyword.Null h = omega arith
 keyword_reach keyword.On h = omega arith
 keyword_reach keyword.Or h = omega arith
 keyword_reach keyword.Order h = omega arith
+keyword_reach keyword.Outer h = omega arith
 keyword_reach keyword.Select h = omega arith
 keyword_reach keyword.Sum h = omega arith
 keyword_reach keyword.Then h = omega arith
@@ -142,7 +147,7 @@ no_other : (rest : List Terminal) → 2 ≤ stage_of rest → phrase.begins_othe
 no_other [] h = refl
 no_other (t ∷ ts) h =
     let comma : is_sign sign.Comma t ≡ false = not_sign sign.Comma t (λ e. let same : stage t ≡ 1 = ap stage e in omega arith) in
-    rw (comma, not_that keyword.Inner t (omega arith), not_that keyword.Join t (omega arith)) refl
+    rw (comma, not_that keyword.Inner t (omega arith), not_that keyword.Join t (omega arith), not_that keyword.Left t (omega arith)) refl
 
 -- ---- an expression, a name, a table
 
@@ -226,14 +231,16 @@ items_read (more_items {ts = ts} {us = us} {vs = vs} {e = e} {alias = alias} {it
 
 -- ---- further tables
 
-join_stage : (is tokens rest : List Terminal) → (is ≡ word keyword.Join ∷ []) ⊎ (is ≡ word keyword.Inner ∷ word keyword.Join ∷ []) → 1 ≤ stage_of ((is ++ tokens) ++ rest)
-join_stage is tokens rest (inl e) = subst (λ (x : List Terminal). 1 ≤ stage_of ((x ++ tokens) ++ rest)) (sym e) (omega arith)
-join_stage is tokens rest (inr e) = subst (λ (x : List Terminal). 1 ≤ stage_of ((x ++ tokens) ++ rest)) (sym e) (omega arith)
+join_stage : {is : List Terminal} {by : JoinType} → SpellsJoin is by → (tokens rest : List Terminal) → 1 ≤ stage_of ((is ++ tokens) ++ rest)
+join_stage join tokens rest = omega arith
+join_stage inner_join tokens rest = omega arith
+join_stage left_join tokens rest = omega arith
+join_stage left_outer_join tokens rest = omega arith
 
 others_stage : {ts : List Terminal} {others : List Joined} {k : ℕ} (d : SpellsOthers ts others k) (rest : List Terminal) → 2 ≤ stage_of rest → 1 ≤ stage_of (ts ++ rest)
 others_stage no_others rest s = omega arith
 others_stage (behind_comma t ds) rest s = omega arith
-others_stage (behind_join {is = is} {ts = ts} {us = us} {vs = vs} e t d ds) rest s = join_stage is (ts ++ (word keyword.On ∷ us ++ vs)) rest e
+others_stage (behind_join {ts = ts} {us = us} {vs = vs} j t d ds) rest s = join_stage j (ts ++ (word keyword.On ∷ us ++ vs)) rest
 
 put_other_is : (most n : ℕ) (before : List Joined) (ts rest : List Terminal) (j : Joined) → rule.other_at (inner_at most n) ts ≡ Some (j, rest) → rule.put_other (inner_at most n) before ts ≡ Some (before ++ j ∷ [], rest)
 put_other_is most n before ts rest j reads = rw reads refl
@@ -245,16 +252,16 @@ others_step m most n before ts rest j r begins reads more_read = rw (begins, rea
 comma_reads : (most n : ℕ) (ts rest : List Terminal) (t : Table) → rule.table_at ts ≡ Some (t, rest) → rule.other_at (inner_at most n) (mark sign.Comma ∷ ts) ≡ Some (record { table = t; kind = join_kind.Comma }, rest)
 comma_reads most n ts rest t reads = rw reads refl
 
-joined_reads : (most n : ℕ) (ts us rest : List Terminal) (t : Table) (e : Expr) → rule.table_at ts ≡ Some (t, word keyword.On ∷ us) → inner_at most n level.Disjunction us ≡ Some (whole e, rest)
-    → rule.joined_at (inner_at most n) ts ≡ Some (record { table = t; kind = join_kind.Inner e }, rest)
-joined_reads most n ts us rest t e first second = rw (first, second) refl
+joined_reads : (most n : ℕ) (by : JoinType) (ts us rest : List Terminal) (t : Table) (e : Expr) → rule.table_at ts ≡ Some (t, word keyword.On ∷ us) → inner_at most n level.Disjunction us ≡ Some (whole e, rest)
+    → rule.joined_at (inner_at most n) by ts ≡ Some (record { table = t; kind = kind_of by e }, rest)
+joined_reads most n by ts us rest t e first second = rw (first, second) refl
 
-join_reads : (most n : ℕ) (is ts rest : List Terminal) (j : Joined) → (is ≡ word keyword.Join ∷ []) ⊎ (is ≡ word keyword.Inner ∷ word keyword.Join ∷ []) → rule.joined_at (inner_at most n) ts ≡ Some (j, rest)
+join_reads : (most n : ℕ) {is : List Terminal} {by : JoinType} → SpellsJoin is by → (ts rest : List Terminal) (j : Joined) → rule.joined_at (inner_at most n) by ts ≡ Some (j, rest)
     → (phrase.begins_other (is ++ ts) ≡ true) × (rule.other_at (inner_at most n) (is ++ ts) ≡ Some (j, rest))
-join_reads most n is ts rest j (inl e) reads =
-    subst (λ (x : List Terminal). (phrase.begins_other (x ++ ts) ≡ true) × (rule.other_at (inner_at most n) (x ++ ts) ≡ Some (j, rest))) (sym e) (refl, reads)
-join_reads most n is ts rest j (inr e) reads =
-    subst (λ (x : List Terminal). (phrase.begins_other (x ++ ts) ≡ true) × (rule.other_at (inner_at most n) (x ++ ts) ≡ Some (j, rest))) (sym e) (refl, reads)
+join_reads most n join ts rest j reads = (refl, reads)
+join_reads most n inner_join ts rest j reads = (refl, reads)
+join_reads most n left_join ts rest j reads = (refl, reads)
+join_reads most n left_outer_join ts rest j reads = (refl, reads)
 
 -- the deepest conditions of tables
 abbrev on_depth : Joined → ℕ
@@ -276,9 +283,9 @@ others_read (behind_comma {ts = ts} {us = us} {t = t} {others = others} d ds) mo
     (others_read ds most n m (before ++ record { table = t; kind = join_kind.Comma } ∷ []) rest o (omega arith) s (omega arith))
     ∙ ap (λ x. Some (x, rest)) (append_assoc before (record { table = t; kind = join_kind.Comma } ∷ []) others)
 others_read (behind_join {is = is} {ts = ts} {us = us} {vs = vs} j t d ds) most n zero before rest o h s f = absurd (omega arith)
-others_read (behind_join {is = is} {ts = ts} {us = us} {vs = vs} {t = t} {e = e} {others = others} {most = k} j dt d ds) most n (suc m) before rest o h s f =
+others_read (behind_join {is = is} {ts = ts} {us = us} {vs = vs} {by = by} {t = t} {e = e} {others = others} {most = k} j dt d ds) most n (suc m) before rest o h s f =
     let both : suc (max (open_in d) k) ≤ n = o in
-    let deep : max (depth e) (deepest (map on_depth others)) ≤ most = h in
+    let deep : max (depth e) (deepest (map on_depth others)) ≤ most = subst (λ c. max (option_depth c) (deepest (map on_depth others)) ≤ most) (condition_is by e) h in
     let behind_on : List Terminal = us ++ (vs ++ rest) in
     let assoc : (is ++ (ts ++ (word keyword.On ∷ us ++ vs))) ++ rest ≡ is ++ (ts ++ (word keyword.On ∷ us ++ (vs ++ rest))) =
     append_assoc is (ts ++ (word keyword.On ∷ us ++ vs)) rest ∙ ap (λ (x : List Terminal). is ++ x) (append_assoc ts (word keyword.On ∷ us ++ vs) rest ∙ ap (λ (x : List Terminal). ts ++ word keyword.On ∷ x) (append_assoc us vs rest)) in
@@ -288,12 +295,12 @@ others_read (behind_join {is = is} {ts = ts} {us = us} {vs = vs} {t = t} {e = e}
     let len3 : length (us ++ (vs ++ rest)) ≡ length us + length (vs ++ rest) = length-append us (vs ++ rest) in
     let first_open : suc (open_in d) ≤ n = omega arith in
     let first_depth : depth e ≤ most = omega arith in
-    let parts = join_reads most n is (ts ++ (word keyword.On ∷ us ++ (vs ++ rest))) (vs ++ rest) (record { table = t; kind = join_kind.Inner e }) j
-    (joined_reads most n (ts ++ (word keyword.On ∷ us ++ (vs ++ rest))) (us ++ (vs ++ rest)) (vs ++ rest) t e (table_reads dt (word keyword.On ∷ us ++ (vs ++ rest)) (omega arith)) (free d most n (vs ++ rest) first_open first_depth (stage_reach (vs ++ rest) (others_stage ds rest s)))) in
+    let parts = join_reads most n j (ts ++ (word keyword.On ∷ us ++ (vs ++ rest))) (vs ++ rest) (record { table = t; kind = kind_of by e })
+    (joined_reads most n by (ts ++ (word keyword.On ∷ us ++ (vs ++ rest))) (us ++ (vs ++ rest)) (vs ++ rest) t e (table_reads dt (word keyword.On ∷ us ++ (vs ++ rest)) (omega arith)) (free d most n (vs ++ rest) first_open first_depth (stage_reach (vs ++ rest) (others_stage ds rest s)))) in
     ap (rule.more_others (inner_at most n) (suc m) before) assoc
-    ∙ others_step m most n before (is ++ (ts ++ (word keyword.On ∷ us ++ (vs ++ rest)))) (vs ++ rest) (record { table = t; kind = join_kind.Inner e }) (Some ((before ++ record { table = t; kind = join_kind.Inner e } ∷ []) ++ others, rest)) parts.0 parts.1
-    (others_read ds most n m (before ++ record { table = t; kind = join_kind.Inner e } ∷ []) rest (omega arith) (omega arith) s (omega arith))
-    ∙ ap (λ x. Some (x, rest)) (append_assoc before (record { table = t; kind = join_kind.Inner e } ∷ []) others)
+    ∙ others_step m most n before (is ++ (ts ++ (word keyword.On ∷ us ++ (vs ++ rest)))) (vs ++ rest) (record { table = t; kind = kind_of by e }) (Some ((before ++ record { table = t; kind = kind_of by e } ∷ []) ++ others, rest)) parts.0 parts.1
+    (others_read ds most n m (before ++ record { table = t; kind = kind_of by e } ∷ []) rest (omega arith) (omega arith) s (omega arith))
+    ∙ ap (λ x. Some (x, rest)) (append_assoc before (record { table = t; kind = kind_of by e } ∷ []) others)
 
 -- ---- clauses
 

@@ -1,5 +1,5 @@
 -- The literals of what a text spells are values that a table may hold.
-use Rattle.std.proofs.Common.{rules, ◌≡◌, ◌≢◌, ℕ, zero, suc, ◌≤◌, ◌^◌, ℤ, pos, Bool, true, ◌&&◌, List, [], ◌∷◌, ◌++◌, map, length, Option, Some, None, refl, subst, ◌∙◌, arith, append_assoc}
+use Rattle.std.proofs.Common.{rules, ◌≡◌, ◌≢◌, ℕ, zero, suc, ◌≤◌, ◌^◌, ℤ, pos, Bool, true, ◌&&◌, List, [], ◌∷◌, ◌++◌, map, length, Option, Some, None, refl, sym, subst, ◌∙◌, arith, append_assoc}
 use Rattle.std.specs.Prelude.{nat_le}
 use Rattle.std.specs.List.{list_all, AllByRecursion}
 use Rattle.std.specs.Option.{option_map_or}
@@ -35,6 +35,7 @@ use Rattle.sql_syntax.proofs.Names.{IsProperBy}
 use Rattle.sql_syntax.proofs.Utf8Parts.{undoubled_utf8}
 use Rattle.sql_reader.specs.Grammar.{IsTree}
 use Rattle.sql_reader.proofs.TextLengths.{IsFit, tokens_fit, undoubled_short}
+use Rattle.sql_reader.proofs.Tables.{condition_is}
 
 -- ---- nodes
 
@@ -202,11 +203,11 @@ others_fit_in others = list_all (λ j. option_fits (condition_of j.kind)) others
 others_fit : {ts : List Terminal} {others : List Joined} {n : ℕ} → SpellsOthers ts others n → All ts → others_fit_in others ≡ true
 others_fit no_others all = refl
 others_fit (behind_comma {ts = ts} {us = us} d rest) all = others_fit rest (split ts us all.1).1
-others_fit (behind_join {is = is} {ts = ts} {us = us} {vs = vs} {e = e} {others = others} which d x rest) all =
+others_fit (behind_join {is = is} {ts = ts} {us = us} {vs = vs} {by = by} {e = e} {others = others} which d x rest) all =
     let p = split is (ts ++ (word keyword.On ∷ us ++ vs)) all in
     let s = split ts (word keyword.On ∷ us ++ vs) p.1 in
     let r = split us vs s.1.1 in
-    both (hf e) (others_fit_in others) (fits x r.0) (others_fit rest r.1)
+    subst (λ o. option_fits o && others_fit_in others ≡ true) (sym (condition_is by e)) (both (hf e) (others_fit_in others) (fits x r.0) (others_fit rest r.1))
 
 clause_fits : (k : Keyword) {ts : List Terminal} {c : Option Expr} {n : ℕ} → SpellsClause k ts c n → All ts → option_fits c ≡ true
 clause_fits k no_clause all = refl

@@ -3,10 +3,12 @@ use Rattle.std.proofs.Common.{◌≡◌, ◌⊎◌, ℕ, zero, suc, ◌+◌, ◌
 use Rattle.std.specs.Prelude.{max, nat_le}
 use Rattle.std.proofs.lemmas.Bool.{leb-true}
 use Rattle.std.proofs.lemmas.List.{append-nil}
+use Rattle.meaning.specs.declared.plan.JoinType.{JoinType}
+use Rattle.meaning.specs.declared.plan.JoinType.TheVariants as join_type
 use Rattle.sql_syntax.specs.declared.keyword.Keyword.{Keyword}
 use Rattle.sql_syntax.specs.declared.keyword.Keyword.TheVariants as keyword
 use Rattle.sql_syntax.specs.declared.token.Sign.TheVariants as sign
-use Rattle.sql_syntax.specs.Joins.{condition_of}
+use Rattle.sql_syntax.specs.Joins.{condition_of, kind_of}
 use Rattle.sql_syntax.specs.declared.tree.JoinKind.TheVariants as join_kind
 use Rattle.sql_syntax.specs.declared.tree.Direction.{Direction}
 use Rattle.sql_syntax.specs.declared.tree.Direction.TheVariants as direction
@@ -26,12 +28,13 @@ use Rattle.sql_syntax.specs.declared.strength.Level.{Level}
 use Rattle.sql_syntax.specs.declared.strength.Level.TheVariants as level
 use Rattle.sql_syntax.specs.Phrases.{word, mark, Spells, open_in, open_in_list}
 use Rattle.sql_syntax.specs.CanonicalTokens.{depth, deepest}
-use Rattle.sql_syntax.specs.Queries.{SpellsAlias, none, bare, behind_as, SpellsTable, table, SpellsTarget, position, name, SpellsDirection, unsaid, ascending, descending, SpellsItems, last_item, more_items, SpellsOthers, no_others, behind_comma, behind_join, SpellsClause, no_clause, clause, SpellsGroups, no_groups, groups, SpellsKeys, last_key, more_keys, SpellsOrder, no_order, order, SpellsLimit, no_limit, limit, SpellsEnd, no_end, semicolon, SpellsQuery, open_in_query, option_depth, query_depth}
+use Rattle.sql_syntax.specs.Queries.{SpellsAlias, none, bare, behind_as, SpellsTable, table, SpellsTarget, position, name, SpellsDirection, unsaid, ascending, descending, SpellsItems, last_item, more_items, SpellsJoin, join, inner_join, left_join, left_outer_join, SpellsOthers, no_others, behind_comma, behind_join, SpellsClause, no_clause, clause, SpellsGroups, no_groups, groups, SpellsKeys, last_key, more_keys, SpellsOrder, no_order, order, SpellsLimit, no_limit, limit, SpellsEnd, no_end, semicolon, SpellsQuery, open_in_query, option_depth, query_depth}
 use Rattle.sql_expressions.specs.declared.parsed.Parsed.{Parsed}
 use Rattle.sql_reader.specs.Rules as rule
 use Rattle.sql_expressions.specs.Rules as phrase
 use Rattle.sql_expressions.specs.Rules.{◌>>=◌, choose, is_keyword, is_sign, behind, inner_at}
 use Rattle.sql_expressions.proofs.Sound.{bind_some, choose_some, word_taken, mark_taken, passed_as, IsInner, list_sound, inner_sound}
+use Rattle.sql_reader.proofs.Tables.{condition_is}
 
 -- ---- names
 
@@ -193,60 +196,85 @@ listed_sound n ts us x comma e =
     subst (λ (y : Joined × List Terminal). TookOther n ts y) same
     (record { front = mark sign.Comma ∷ t.front; parts = comma ∙ ap (λ (v : List Terminal). mark sign.Comma ∷ v) t.parts; bounded = omega arith; with_others = λ vs others most d o. (most, behind_comma t.spells d, o) })
 
-joined_sound : (n : ℕ) (inner : Level → phrase.Reader) → IsInner (suc n) inner → (is ts us : List Terminal) (x : Joined × List Terminal) → (is ≡ word keyword.Join ∷ []) ⊎ (is ≡ word keyword.Inner ∷ word keyword.Join ∷ []) → ts ≡ is ++ us → rule.joined_at inner us ≡ Some x → TookOther n ts x
-joined_sound n inner h is ts us x words before e =
-    let r = bind_some (rule.table_at us) (λ (t : Table × List Terminal). rule.condition_at inner keyword.On t.1 >>= (λ e. Some (record { table = t.0; kind = join_kind.Inner e.0 }, e.1))) x e in
-    let s = bind_some (rule.condition_at inner keyword.On r.0.1) (λ (e : Expr × List Terminal). Some (record { table = r.0.0; kind = join_kind.Inner e.0 }, e.1)) x r.2 in
+joined_sound : (n : ℕ) (inner : Level → phrase.Reader) → IsInner (suc n) inner → (by : JoinType) (is ts us : List Terminal) (x : Joined × List Terminal) → SpellsJoin is by → ts ≡ is ++ us → rule.joined_at inner by us ≡ Some x → TookOther n ts x
+joined_sound n inner h by is ts us x words before e =
+    let r = bind_some (rule.table_at us) (λ (t : Table × List Terminal). rule.condition_at inner keyword.On t.1 >>= (λ e. Some (record { table = t.0; kind = kind_of by e.0 }, e.1))) x e in
+    let s = bind_some (rule.condition_at inner keyword.On r.0.1) (λ (e : Expr × List Terminal). Some (record { table = r.0.0; kind = kind_of by e.0 }, e.1)) x r.2 in
     let o = bind_some (behind (is_keyword keyword.On) r.0.1) (λ (vs : List Terminal). inner level.Disjunction vs >>= (λ e. Some (e.0.expr, e.1))) s.0 s.1 in
     let c = bind_some (inner level.Disjunction o.0) (λ (e : Parsed × List Terminal). Some (e.0.expr, e.1)) s.0 o.2 in
     let t = table_sound us r.0 r.1 in
     let d = h level.Disjunction o.0 c.0 c.1 in
     let on_word : r.0.1 ≡ word keyword.On ∷ o.0 = word_taken keyword.On r.0.1 o.0 o.1 in
     let found : ◌≡◌ {A = Expr × List Terminal} (c.0.0.expr, c.0.1) s.0 = cc c.2 in
-    let same : ◌≡◌ {A = Joined × List Terminal} (record { table = r.0.0; kind = join_kind.Inner c.0.0.expr }, c.0.1) x = ap (λ (e : Expr × List Terminal). (record { table = r.0.0; kind = join_kind.Inner e.0 }, e.1)) found ∙ cc s.2 in
+    let same : ◌≡◌ {A = Joined × List Terminal} (record { table = r.0.0; kind = kind_of by c.0.0.expr }, c.0.1) x = ap (λ (e : Expr × List Terminal). (record { table = r.0.0; kind = kind_of by e.0 }, e.1)) found ∙ cc s.2 in
     let opened : open_in d.spells + 1 ≤ suc n = d.opens in
     let deep : c.0.0.depth ≡ depth c.0.0.expr = d.deep in
     let most_deep : c.0.0.depth ≤ 128 = d.bounded in
-    let bound : depth c.0.0.expr ≤ 128 = omega arith in
+    let shallow : depth c.0.0.expr ≤ 128 = omega arith in
+    let bound : option_depth (condition_of (kind_of by c.0.0.expr)) ≤ 128 = subst (λ o. option_depth o ≤ 128) (sym (condition_is by c.0.0.expr)) shallow in
     let inner_parts : us ≡ (t.front ++ (word keyword.On ∷ d.front)) ++ c.0.1 = t.parts ∙ ap (λ (v : List Terminal). t.front ++ v) (on_word ∙ ap (λ (v : List Terminal). word keyword.On ∷ v) d.parts) ∙ sym (append_assoc t.front (word keyword.On ∷ d.front) c.0.1) in
     let parts : ts ≡ (is ++ (t.front ++ (word keyword.On ∷ d.front))) ++ c.0.1 = before ∙ ap (λ (v : List Terminal). is ++ v) inner_parts ∙ sym (append_assoc is (t.front ++ (word keyword.On ∷ d.front)) c.0.1) in
     subst (λ (y : Joined × List Terminal). TookOther n ts y) same
     (record { front = is ++ (t.front ++ (word keyword.On ∷ d.front)); parts = parts; bounded = bound; with_others = λ vs others most rest o. with_rest t.front r.0.0 t.spells d.front c.0.0.expr d.spells (omega arith) vs others most rest o })
   where
     with_rest : (t_front : List Terminal) (t : Table) → SpellsTable t_front t → (d_front : List Terminal) (e : Expr) (d : Spells level.Disjunction d_front e) → open_in d ≤ n → (vs : List Terminal) (others : List Joined) (most : ℕ) → SpellsOthers vs others most → most ≤ n
-        → (all : ℕ) × SpellsOthers ((is ++ (t_front ++ (word keyword.On ∷ d_front))) ++ vs) (record { table = t; kind = join_kind.Inner e } ∷ others) all × (all ≤ n)
+        → (all : ℕ) × SpellsOthers ((is ++ (t_front ++ (word keyword.On ∷ d_front))) ++ vs) (record { table = t; kind = kind_of by e } ∷ others) all × (all ≤ n)
     with_rest t_front t t_spells d_front e d few vs others most rest o =
         let assoc : is ++ (t_front ++ (word keyword.On ∷ d_front ++ vs)) ≡ (is ++ (t_front ++ (word keyword.On ∷ d_front))) ++ vs = ap (λ (v : List Terminal). is ++ v) (sym (append_assoc t_front (word keyword.On ∷ d_front) vs)) ∙ sym (append_assoc is (t_front ++ (word keyword.On ∷ d_front)) vs) in
-        (max (open_in d) most, subst (λ (v : List Terminal). SpellsOthers v (record { table = t; kind = join_kind.Inner e } ∷ others) (max (open_in d) most)) assoc (behind_join words t_spells d rest), omega arith)
+        (max (open_in d) most, subst (λ (v : List Terminal). SpellsOthers v (record { table = t; kind = kind_of by e } ∷ others) (max (open_in d) most)) assoc (behind_join words t_spells d rest), omega arith)
 
--- behind JOIN
-join_sound : (n : ℕ) (inner : Level → phrase.Reader) → IsInner (suc n) inner → (ts : List Terminal) (x : Joined × List Terminal) → (behind (is_keyword keyword.Join) ts >>= rule.joined_at inner) ≡ Some x → TookOther n ts x
-join_sound n inner h ts x e =
-    let r = bind_some (behind (is_keyword keyword.Join) ts) (rule.joined_at inner) x e in
-    joined_sound n inner h (word keyword.Join ∷ []) ts r.0 x (inl refl) (word_taken keyword.Join ts r.0 r.1) r.2
+-- the words before a table with a condition were taken
+pub record TookJoin (ts : List Terminal) (x : JoinType × List Terminal) : Type 0 where
+  pub front : List Terminal
+  pub spells : SpellsJoin front x.0
+  pub parts : ts ≡ front ++ x.1
 
--- behind INNER
-inner_join_sound : (n : ℕ) (inner : Level → phrase.Reader) → IsInner (suc n) inner → (ts us : List Terminal) (x : Joined × List Terminal) → ts ≡ word keyword.Inner ∷ us → (behind (is_keyword keyword.Join) us >>= rule.joined_at inner) ≡ Some x → TookOther n ts x
-inner_join_sound n inner h ts us x before e =
-    let r = bind_some (behind (is_keyword keyword.Join) us) (rule.joined_at inner) x e in
-    joined_sound n inner h (word keyword.Inner ∷ word keyword.Join ∷ []) ts r.0 x (inr refl) (before ∙ ap (λ (v : List Terminal). word keyword.Inner ∷ v) (word_taken keyword.Join us r.0 r.1)) r.2
+-- a word that may be left out stands there, or not
+past_if_turn : (k : Keyword) (ts : List Terminal) (found : Option (List Terminal)) → behind (is_keyword k) ts ≡ found
+    → (choose found (λ us. us) ts ≡ ts) ⊎ (ts ≡ word k ∷ choose found (λ us. us) ts)
+past_if_turn k ts None e = inl refl
+past_if_turn k ts (Some us) e = inr (word_taken k ts us e)
 
-inner_turn : (n : ℕ) (inner : Level → phrase.Reader) → IsInner (suc n) inner → (ts : List Terminal) (x : Joined × List Terminal)
-    → ((us : List Terminal) × (behind (is_keyword keyword.Inner) ts ≡ Some us) × ((behind (is_keyword keyword.Join) us >>= rule.joined_at inner) ≡ Some x)) ⊎ ((behind (is_keyword keyword.Inner) ts ≡ None) × ((behind (is_keyword keyword.Join) ts >>= rule.joined_at inner) ≡ Some x)) → TookOther n ts x
-inner_turn n inner h ts x (inl p) = inner_join_sound n inner h ts p.0 x (word_taken keyword.Inner ts p.0 p.1) p.2
-inner_turn n inner h ts x (inr p) = join_sound n inner h ts x p.1
+past_join_turn : (k : Keyword) (by : JoinType) (front ts us vs rest : List Terminal) → SpellsJoin (front ++ word keyword.Join ∷ []) by → SpellsJoin (front ++ word k ∷ word keyword.Join ∷ []) by
+    → ts ≡ front ++ us → vs ≡ word keyword.Join ∷ rest → (vs ≡ us) ⊎ (us ≡ word k ∷ vs) → TookJoin ts (by, rest)
+past_join_turn k by front ts us vs rest short long before join_word (inl is) =
+    record { front = front ++ word keyword.Join ∷ []; spells = short; parts = before ∙ ap (λ (v : List Terminal). front ++ v) (sym is ∙ join_word) ∙ sym (append_assoc front (word keyword.Join ∷ []) rest) }
+past_join_turn k by front ts us vs rest short long before join_word (inr is) =
+    record { front = front ++ word k ∷ word keyword.Join ∷ []; spells = long; parts = before ∙ ap (λ (v : List Terminal). front ++ v) (is ∙ ap (λ (v : List Terminal). word k ∷ v) join_word) ∙ sym (append_assoc front (word k ∷ word keyword.Join ∷ []) rest) }
 
--- what stands behind INNER, and what a table is joined by
-abbrev join_at : (Level → phrase.Reader) → List Terminal → phrase.Reads Joined
-join_at inner ts = choose (behind (is_keyword keyword.Inner) ts) (λ us. behind (is_keyword keyword.Join) us >>= rule.joined_at inner) (behind (is_keyword keyword.Join) ts >>= rule.joined_at inner)
+past_join_sound : (k : Keyword) (by : JoinType) (front ts us : List Terminal) (x : JoinType × List Terminal) → SpellsJoin (front ++ word keyword.Join ∷ []) by → SpellsJoin (front ++ word k ∷ word keyword.Join ∷ []) by
+    → ts ≡ front ++ us → rule.past_join k by us ≡ Some x → TookJoin ts x
+past_join_sound k by front ts us x short long before e =
+    let r = bind_some (behind (is_keyword keyword.Join) (rule.past_if k us)) (λ (vs : List Terminal). Some (by, vs)) x e in
+    let same : ◌≡◌ {A = JoinType × List Terminal} (by, r.0) x = cc r.2 in
+    let join_word : rule.past_if k us ≡ word keyword.Join ∷ r.0 = word_taken keyword.Join (rule.past_if k us) r.0 r.1 in
+    subst (λ (y : JoinType × List Terminal). TookJoin ts y) same (past_join_turn k by front ts us (rule.past_if k us) r.0 short long before join_word (past_if_turn k us (behind (is_keyword k) us) refl))
+
+join_turn : (ts : List Terminal) (x : JoinType × List Terminal)
+    → ((us : List Terminal) × (behind (is_keyword keyword.Left) ts ≡ Some us) × (rule.past_join keyword.Outer join_type.Left us ≡ Some x)) ⊎ ((behind (is_keyword keyword.Left) ts ≡ None) × (rule.past_join keyword.Inner join_type.Inner ts ≡ Some x)) → TookJoin ts x
+join_turn ts x (inl p) = past_join_sound keyword.Outer join_type.Left (word keyword.Left ∷ []) ts p.0 x left_join left_outer_join (word_taken keyword.Left ts p.0 p.1) p.2
+join_turn ts x (inr p) = past_join_sound keyword.Inner join_type.Inner [] ts ts x join inner_join refl p.1
+
+join_sound : (ts : List Terminal) (x : JoinType × List Terminal) → rule.join_at ts ≡ Some x → TookJoin ts x
+join_sound ts x e = join_turn ts x (choose_some (behind (is_keyword keyword.Left) ts) (rule.past_join keyword.Outer join_type.Left) (rule.past_join keyword.Inner join_type.Inner ts) x e)
+
+-- what stands before a table with a condition, and that table
+abbrev behind_join_at : (Level → phrase.Reader) → List Terminal → phrase.Reads Joined
+behind_join_at inner ts = rule.join_at ts >>= (λ j. rule.joined_at inner j.0 j.1)
+
+behind_join_sound : (n : ℕ) (inner : Level → phrase.Reader) → IsInner (suc n) inner → (ts : List Terminal) (x : Joined × List Terminal) → behind_join_at inner ts ≡ Some x → TookOther n ts x
+behind_join_sound n inner h ts x e =
+    let r = bind_some (rule.join_at ts) (λ (j : JoinType × List Terminal). rule.joined_at inner j.0 j.1) x e in
+    let j = join_sound ts r.0 r.1 in
+    joined_sound n inner h r.0.0 j.front ts r.0.1 x j.spells j.parts r.2
 
 other_turn : (n : ℕ) (inner : Level → phrase.Reader) → IsInner (suc n) inner → (ts : List Terminal) (x : Joined × List Terminal)
-    → ((us : List Terminal) × (behind (is_sign sign.Comma) ts ≡ Some us) × (rule.listed_at us ≡ Some x)) ⊎ ((behind (is_sign sign.Comma) ts ≡ None) × (join_at inner ts ≡ Some x)) → TookOther n ts x
+    → ((us : List Terminal) × (behind (is_sign sign.Comma) ts ≡ Some us) × (rule.listed_at us ≡ Some x)) ⊎ ((behind (is_sign sign.Comma) ts ≡ None) × (behind_join_at inner ts ≡ Some x)) → TookOther n ts x
 other_turn n inner h ts x (inl p) = listed_sound n ts p.0 x (mark_taken sign.Comma ts p.0 p.1) p.2
-other_turn n inner h ts x (inr p) = inner_turn n inner h ts x (choose_some (behind (is_keyword keyword.Inner) ts) (λ (us : List Terminal). behind (is_keyword keyword.Join) us >>= rule.joined_at inner) (behind (is_keyword keyword.Join) ts >>= rule.joined_at inner) x p.1)
+other_turn n inner h ts x (inr p) = behind_join_sound n inner h ts x p.1
 
 other_sound : (n : ℕ) (inner : Level → phrase.Reader) → IsInner (suc n) inner → (ts : List Terminal) (x : Joined × List Terminal) → rule.other_at inner ts ≡ Some x → TookOther n ts x
-other_sound n inner h ts x e = other_turn n inner h ts x (choose_some (behind (is_sign sign.Comma) ts) rule.listed_at (join_at inner ts) x e)
+other_sound n inner h ts x e = other_turn n inner h ts x (choose_some (behind (is_sign sign.Comma) ts) rule.listed_at (behind_join_at inner ts) x e)
 
 -- a joined table's condition is so deep
 abbrev on_depth : Joined → ℕ

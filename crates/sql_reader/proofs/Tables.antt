@@ -1,12 +1,20 @@
 -- Tables read one behind the other.
 use Rattle.std.proofs.Common.{◌≡◌, ℕ, zero, suc, ◌<◌, true, List, length, Option, Some, None, refl, sym, ◌∙◌, arith}
+use Rattle.meaning.specs.declared.plan.JoinType.{JoinType}
+use Rattle.meaning.specs.declared.plan.JoinType.TheVariants as join_type
+use Rattle.sql_syntax.specs.Joins.{condition_of, kind_of}
 use Rattle.sql_syntax.specs.declared.token.Lexeme.{Lexeme}
+use Rattle.sql_syntax.specs.declared.tree.Expr.{Expr}
 use Rattle.sql_syntax.specs.declared.tree.Table.{Table}
 use Rattle.sql_syntax.specs.declared.tree.Joined.{Joined}
 use Rattle.sql_syntax.specs.Tokens.{Terminal}
 use Rattle.sql_expressions.specs.Rules.{◌>>=◌, terms, begins_other}
 use Rattle.sql_reader.specs.Rules.{within, table_at, put_other, more_others, tables_at}
 use Rattle.sql_expressions.proofs.Chains.{length_terms}
+
+pub condition_is : (by : JoinType) (e : Expr) → condition_of (kind_of by e) ≡ Some e
+condition_is join_type.Inner e = refl
+condition_is join_type.Left e = refl
 
 -- the first table and those behind it
 abbrev pub with_first : Table → Option (List Joined × List Terminal) → Option ((Table × List Joined) × List Terminal)

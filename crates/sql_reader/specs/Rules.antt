@@ -1,5 +1,7 @@
 -- Reading the tokens of a query from front to back: one definition a rule of the grammar.
 use Rattle.std.specs.Prelude.{ℕ, zero, suc, if◌then◌else◌, List, [], ◌∷◌, ◌++◌, length, Option, Some, None}
+use Rattle.meaning.specs.declared.plan.JoinType.{JoinType}
+use Rattle.meaning.specs.declared.plan.JoinType.TheVariants as join_type
 use Rattle.sql_syntax.specs.declared.keyword.Keyword.{Keyword}
 use Rattle.sql_syntax.specs.declared.keyword.Keyword.TheVariants as keyword
 use Rattle.sql_syntax.specs.declared.token.Sign.TheVariants as sign
@@ -17,6 +19,7 @@ use Rattle.sql_syntax.specs.declared.tree.Table.{Table}
 use Rattle.sql_syntax.specs.declared.tree.Joined.{Joined}
 use Rattle.sql_syntax.specs.declared.tree.Source.{Source}
 use Rattle.sql_syntax.specs.declared.tree.Query.{Query}
+use Rattle.sql_syntax.specs.Joins.{kind_of}
 use Rattle.sql_syntax.specs.Tokens.{Terminal}
 use Rattle.sql_expressions.specs.Rules.{◌>>=◌, Reader, Reads, begins_integer, begins_name, begins_other, behind, choose, inner_at, integer_at, is_keyword, is_sign, list_at, name_at}
 
@@ -55,19 +58,28 @@ table_at ts = name_at ts >>= (λ n. alias_at n.1 >>= (λ a. Some (record { name 
 abbrev pub condition_at : (Level → Reader) → Keyword → List Terminal → Reads Expr
 condition_at inner k ts = behind (is_keyword k) ts >>= (λ us. expr_at inner us >>= (λ e. Some (e.0.expr, e.1)))
 
+-- what stands behind a keyword that may be left out
+abbrev pub past_if : Keyword → List Terminal → List Terminal
+past_if k ts = choose (behind (is_keyword k) ts) (λ us. us) ts
+
+-- a word that may be left out, and JOIN
+abbrev pub past_join : Keyword → JoinType → List Terminal → Reads JoinType
+past_join k by ts = behind (is_keyword keyword.Join) (past_if k ts) >>= (λ us. Some (by, us))
+
+-- LEFT [OUTER] JOIN, or [INNER] JOIN
+abbrev pub join_at : List Terminal → Reads JoinType
+join_at ts = choose (behind (is_keyword keyword.Left) ts) (past_join keyword.Outer join_type.Left) (past_join keyword.Inner join_type.Inner ts)
+
 -- the table behind a comma, and that behind JOIN, with its condition
 abbrev pub listed_at : List Terminal → Reads Joined
 listed_at ts = table_at ts >>= (λ t. Some (record { table = t.0; kind = join_kind.Comma }, t.1))
 
-abbrev pub joined_at : (Level → Reader) → List Terminal → Reads Joined
-joined_at inner ts = table_at ts >>= (λ t. condition_at inner keyword.On t.1 >>= (λ e. Some (record { table = t.0; kind = join_kind.Inner e.0 }, e.1)))
+abbrev pub joined_at : (Level → Reader) → JoinType → List Terminal → Reads Joined
+joined_at inner by ts = table_at ts >>= (λ t. condition_at inner keyword.On t.1 >>= (λ e. Some (record { table = t.0; kind = kind_of by e.0 }, e.1)))
 
 -- a further table: behind a comma, or behind JOIN
 abbrev pub other_at : (Level → Reader) → List Terminal → Reads Joined
-other_at inner ts =
-    choose (behind (is_sign sign.Comma) ts) listed_at
-    (choose (behind (is_keyword keyword.Inner) ts) (λ us. behind (is_keyword keyword.Join) us >>= joined_at inner)
-    (behind (is_keyword keyword.Join) ts >>= joined_at inner))
+other_at inner ts = choose (behind (is_sign sign.Comma) ts) listed_at (join_at ts >>= (λ j. joined_at inner j.0 j.1))
 
 -- such a table, put behind others
 abbrev pub put_other : (Level → Reader) → List Joined → List Terminal → Reads (List Joined)

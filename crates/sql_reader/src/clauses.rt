@@ -1,9 +1,10 @@
 //! The clauses of a query, from the last to the first, and the query itself.
 ghost use Rattle.sql_expressions.specs.Rules.{Gives, terms};
-ghost use Rattle.sql_reader.specs.Rules.{alias_at, clause_at, condition_at, conditions_at, direction_at, ended, ended_limit_at, ending_at, expr_at, from_at, group_keys_at, grouping_at, groups_at, having_at, item_at, items_at, joined_at, key_at, keys_at, limit_at, listed_at, order_at, other_at, put_item, put_key, put_other, query_at, query_of_parts, selected_at, source_at, table_at, tables_at, tail_at, target_at, within};
+ghost use Rattle.sql_syntax.specs.Joins.{kind_of};
+ghost use Rattle.sql_reader.specs.Rules.{alias_at, clause_at, condition_at, conditions_at, direction_at, ended, ended_limit_at, ending_at, expr_at, from_at, group_keys_at, grouping_at, groups_at, having_at, item_at, items_at, join_at, joined_at, key_at, keys_at, limit_at, listed_at, order_at, other_at, past_if, past_join, put_item, put_key, put_other, query_at, query_of_parts, selected_at, source_at, table_at, tables_at, tail_at, target_at, within};
 ghost use Rattle.std.specs.Prelude.{IfOk, length, ◌<◌, ◌≡◌, ◌≤◌};
 
-use meaning::{Sequence, Text};
+use meaning::{JoinType, Sequence, Text};
 use sql_expressions::{
     Parsed, Stop, begins_integer, begins_name, begins_other, if_keyword, if_sign, inner, integer,
     name, past_keyword, push_entries, stop_at,
@@ -125,6 +126,51 @@ fn condition<'a, 'b>(
     Ok((parsed.expr, rest))
 }
 
+/// What stands behind a keyword that may be left out.
+fn past_if<'a, 'b>(lexemes: &'a [Lexeme<'b>], keyword: Keyword) -> &'a [Lexeme<'b>]
+    ensures reads { terms result.now ≡ past_if keyword (terms lexemes.now) }
+    ensures shorter { length result.now ≤ length lexemes.now }
+{
+    if let Some(rest) = if_keyword(lexemes, keyword) {
+        return rest;
+    }
+    lexemes
+}
+
+/// A word that may be left out, and JOIN.
+fn past_join<'a, 'b>(
+    lexemes: &'a [Lexeme<'b>],
+    keyword: Keyword,
+    join_type: JoinType,
+) -> Result<(JoinType, &'a [Lexeme<'b>]), Stop>
+    ensures reads { Gives (λ x. (x.0, terms x.1.now)) result
+        (past_join keyword join_type (terms lexemes.now)) }
+    ensures shorter { IfOk result (λ x. length x.1.now < length lexemes.now) }
+{
+    let rest = past_keyword(past_if(lexemes, keyword), Keyword::Join)?;
+    Ok((join_type, rest))
+}
+
+/// LEFT [OUTER] JOIN, or [INNER] JOIN.
+fn join<'a, 'b>(lexemes: &'a [Lexeme<'b>]) -> Result<(JoinType, &'a [Lexeme<'b>]), Stop>
+    ensures reads { Gives (λ x. (x.0, terms x.1.now)) result (join_at (terms lexemes.now)) }
+    ensures shorter { IfOk result (λ x. length x.1.now < length lexemes.now) }
+{
+    match if_keyword(lexemes, Keyword::Left) {
+        Some(rest) => past_join(rest, Keyword::Outer, JoinType::Left),
+        None => past_join(lexemes, Keyword::Inner, JoinType::Inner),
+    }
+}
+
+fn kind_of(join_type: JoinType, on: Expr) -> JoinKind
+    ensures { result ≡ kind_of join_type on }
+{
+    match join_type {
+        JoinType::Inner => JoinKind::Inner(on),
+        JoinType::Left => JoinKind::Left(on),
+    }
+}
+
 /// A table behind a comma.
 fn listed<'a, 'b>(
     alloc: Global,
@@ -141,16 +187,17 @@ fn listed<'a, 'b>(
 /// A table behind JOIN, and its condition.
 fn joined<'a, 'b>(
     alloc: Global,
+    join_type: JoinType,
     lexemes: &'a [Lexeme<'b>],
 ) -> Result<(Joined, &'a [Lexeme<'b>]), Stop>
-    ensures reads { Gives (λ x. (x.0, terms x.1.now)) result (joined_at within
+    ensures reads { Gives (λ x. (x.0, terms x.1.now)) result (joined_at within join_type
         (terms lexemes.now)) }
     ensures shorter { IfOk result (λ x. length x.1.now < length lexemes.now) }
 {
     let (table, rest) = table(alloc, lexemes)?;
     match condition(alloc, Keyword::On, rest) {
         Ok((on, rest)) => {
-            let kind = JoinKind::Inner(on);
+            let kind = kind_of(join_type, on);
             Ok((Joined { table, kind }, rest))
         }
         Err(stop) => Err(stop),
@@ -168,12 +215,8 @@ fn other<'a, 'b>(
     if let Some(rest) = if_sign(lexemes, Sign::Comma) {
         return listed(alloc, rest);
     }
-    if let Some(rest) = if_keyword(lexemes, Keyword::Inner) {
-        let rest = past_keyword(rest, Keyword::Join)?;
-        return joined(alloc, rest);
-    }
-    let rest = past_keyword(lexemes, Keyword::Join)?;
-    joined(alloc, rest)
+    let (join_type, rest) = join(lexemes)?;
+    joined(alloc, join_type, rest)
 }
 
 fn push_other<'a, 'b>(

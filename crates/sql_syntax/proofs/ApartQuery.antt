@@ -2,6 +2,8 @@
 use Rattle.std.proofs.Common.{◌≡◌, ℕ, true, false, List, [], ◌∷◌, ◌++◌, map, Option, refl, sym, subst, append_assoc, arith}
 use Rattle.std.proofs.lemmas.List.{append-nil}
 use Rattle.std.specs.List.{AllByRecursion}
+use Rattle.meaning.specs.declared.plan.JoinType.{JoinType}
+use Rattle.meaning.specs.declared.plan.JoinType.TheVariants as join_type
 use Rattle.sql_syntax.specs.declared.keyword.Keyword.TheVariants as keyword
 use Rattle.sql_syntax.specs.declared.token.Sign.TheVariants as sign
 use Rattle.sql_syntax.specs.declared.strength.Level.TheVariants as level
@@ -15,9 +17,10 @@ use Rattle.sql_syntax.specs.declared.tree.Joined.{Joined}
 use Rattle.sql_syntax.specs.declared.tree.Query.{Query}
 use Rattle.sql_syntax.specs.Tokens.{Terminal, tokens_of, terminals}
 use Rattle.sql_syntax.specs.Canonical.{canonical}
+use Rattle.sql_syntax.specs.Joins.{kind_of}
 use Rattle.sql_syntax.specs.Phrases.{word, mark, Spells}
 use Rattle.sql_syntax.specs.CanonicalTokens.{printed, free, list_tokens}
-use Rattle.sql_syntax.specs.Queries.{SpellsAlias, none, bare, behind_as, SpellsTable, table, SpellsTarget, position, name, SpellsDirection, unsaid, ascending, descending, SpellsItems, last_item, more_items, SpellsOthers, no_others, behind_comma, behind_join, SpellsClause, no_clause, clause, SpellsGroups, no_groups, groups, SpellsKeys, last_key, more_keys, SpellsOrder, no_order, order, SpellsLimit, no_limit, limit, SpellsQuery, alias_tokens, table_tokens, item_tokens, with_commas, others_tokens_of, clause_tokens, groups_tokens_of, target_token, direction_tokens, key_tokens, order_tokens_of, limit_tokens_of, query_tokens}
+use Rattle.sql_syntax.specs.Queries.{SpellsAlias, none, bare, behind_as, SpellsTable, table, SpellsTarget, position, name, SpellsDirection, unsaid, ascending, descending, SpellsItems, last_item, more_items, SpellsOthers, no_others, behind_comma, behind_join, SpellsClause, no_clause, clause, SpellsGroups, no_groups, groups, SpellsKeys, last_key, more_keys, SpellsOrder, no_order, order, SpellsLimit, no_limit, limit, SpellsQuery, alias_tokens, table_tokens, item_tokens, with_commas, other_tokens, others_tokens_of, clause_tokens, groups_tokens_of, target_token, direction_tokens, key_tokens, order_tokens_of, limit_tokens_of, query_tokens}
 use Rattle.sql_syntax.proofs.Names.{IsProper, lower_name, tokens_proper}
 use Rattle.sql_syntax.proofs.ReadAgain.{AreApart, tokens_again}
 use Rattle.sql_syntax.proofs.CanonicalQuery.{query_good}
@@ -60,19 +63,32 @@ items_fit (more_items {ts = ts} {us = us} {vs = vs} {e = e} {alias = alias} {ite
     let t = split_all us (mark sign.Comma ∷ vs) s.1 in
     items_more (record { expr = e; alias = alias }) items others (fits_then (free (printed e)) (alias_tokens alias) (expr_fits d s.0) (alias_goes a t.0)) (items_fit others t.1.1)
 
+-- the parts of a table with a condition
+on_parts : (is ts us vs : List Terminal) → AllByRecursion IsProper (is ++ (ts ++ (word keyword.On ∷ us ++ vs)))
+    → AllByRecursion IsProper ts × (AllByRecursion IsProper us × AllByRecursion IsProper vs)
+on_parts is ts us vs all =
+    let p = split_all is (ts ++ (word keyword.On ∷ us ++ vs)) all in
+    let s = split_all ts (word keyword.On ∷ us ++ vs) p.1 in
+    (s.0, split_all us vs s.1.1)
+
+on_fits : (t : Table) (e : Expr) (rest : List Terminal) → Fits false (table_tokens t) → Fits false (free (printed e)) → Goes rest
+    → Fits false (table_tokens t ++ (word keyword.On ∷ free (printed e) ++ rest))
+on_fits t e rest x y goes =
+    let on = fits_then (free (printed e)) rest y goes in
+    fits_then (table_tokens t) (word keyword.On ∷ free (printed e) ++ rest) x (λ more ends o. (tt, refl, on more ends))
+
+kind_goes : (by : JoinType) (t : Table) (e : Expr) (rest : List Terminal) → Fits false (table_tokens t) → Fits false (free (printed e)) → Goes rest → Goes (other_tokens (kind_of by e) t rest)
+kind_goes join_type.Inner t e rest x y goes = let fits = on_fits t e rest x y goes in λ more ends o. (tt, refl, fits more ends)
+kind_goes join_type.Left t e rest x y goes = let fits = on_fits t e rest x y goes in λ more ends o. (tt, refl, (tt, refl, fits more ends))
+
 others_goes : {ts : List Terminal} {others : List Joined} {n : ℕ} → SpellsOthers ts others n → AllByRecursion IsProper ts → Goes (others_tokens_of others)
 others_goes no_others all = no_arms
 others_goes (behind_comma {ts = ts} {us = us} {t = t} {others = others} d rest_of) all =
     let s = split_all ts us all.1 in
     let fits = fits_then (table_tokens t) (others_tokens_of others) (table_fits d s.0) (others_goes rest_of s.1) in
     λ rest ends o. (tt, refl, fits rest ends)
-others_goes (behind_join {is = is} {ts = ts} {us = us} {vs = vs} {t = t} {e = e} {others = others} which d x rest_of) all =
-    let p = split_all is (ts ++ (word keyword.On ∷ us ++ vs)) all in
-    let s = split_all ts (word keyword.On ∷ us ++ vs) p.1 in
-    let r = split_all us vs s.1.1 in
-    let on = fits_then (free (printed e)) (others_tokens_of others) (expr_fits x r.0) (others_goes rest_of r.1) in
-    let fits = fits_then (table_tokens t) (word keyword.On ∷ free (printed e) ++ others_tokens_of others) (table_fits d s.0) (λ rest ends o. (tt, refl, on rest ends)) in
-    λ rest ends o. (tt, refl, fits rest ends)
+others_goes (behind_join {is = is} {ts = ts} {us = us} {vs = vs} {by = by} {t = t} {e = e} {others = others} which d x rest_of) all =
+    let p = on_parts is ts us vs all in kind_goes by t e (others_tokens_of others) (table_fits d p.0) (expr_fits x p.1.0) (others_goes rest_of p.1.1)
 
 where_goes : {ts : List Terminal} {c : Option Expr} {n : ℕ} → SpellsClause keyword.Where ts c n → AllByRecursion IsProper ts → Goes (clause_tokens keyword.Where c)
 where_goes no_clause all = no_arms

@@ -1,6 +1,8 @@
 -- The canonical tokens of a query spell it.
-use Rattle.std.proofs.Common.{◌≡◌, ℕ, List, [], ◌∷◌, map, Option, Some, refl, subst, inl}
+use Rattle.std.proofs.Common.{◌≡◌, ℕ, List, [], ◌∷◌, map, Option, Some, refl, subst}
 use Rattle.std.proofs.lemmas.List.{append-nil}
+use Rattle.meaning.specs.declared.plan.JoinType.{JoinType}
+use Rattle.meaning.specs.declared.plan.JoinType.TheVariants as join_type
 use Rattle.sql_syntax.specs.declared.keyword.Keyword.{Keyword}
 use Rattle.sql_syntax.specs.declared.keyword.Keyword.TheVariants as keyword
 use Rattle.sql_syntax.specs.declared.tree.Direction.{Direction}
@@ -16,9 +18,10 @@ use Rattle.sql_syntax.specs.Words.{lower}
 use Rattle.sql_syntax.specs.Tokens as terminal
 use Rattle.sql_syntax.specs.Tokens.{Terminal}
 use Rattle.sql_syntax.specs.declared.strength.Level.TheVariants as level
+use Rattle.sql_syntax.specs.Joins.{kind_of}
 use Rattle.sql_syntax.specs.Phrases.{word, Spells, SpellsList, last, more}
 use Rattle.sql_syntax.specs.CanonicalTokens.{printed, free, list_tokens}
-use Rattle.sql_syntax.specs.Queries.{SpellsAlias, none, bare, behind_as, SpellsTable, table, SpellsTarget, position, name, SpellsDirection, unsaid, ascending, descending, SpellsItems, last_item, more_items, SpellsOthers, no_others, behind_comma, behind_join, SpellsClause, no_clause, clause, SpellsGroups, no_groups, groups, SpellsKeys, last_key, more_keys, SpellsOrder, no_order, order, SpellsLimit, no_limit, limit, no_end, SpellsQuery, alias_tokens, table_tokens, item_tokens, with_commas, others_tokens_of, clause_tokens, groups_tokens_of, target_token, direction_tokens, key_tokens, order_tokens_of, limit_tokens_of, query_tokens}
+use Rattle.sql_syntax.specs.Queries.{SpellsAlias, none, bare, behind_as, SpellsTable, table, SpellsTarget, position, name, SpellsDirection, unsaid, ascending, descending, SpellsItems, last_item, more_items, join, left_join, SpellsOthers, no_others, behind_comma, behind_join, SpellsClause, no_clause, clause, SpellsGroups, no_groups, groups, SpellsKeys, last_key, more_keys, SpellsOrder, no_order, order, SpellsLimit, no_limit, limit, no_end, SpellsQuery, alias_tokens, table_tokens, item_tokens, with_commas, other_tokens, others_tokens_of, clause_tokens, groups_tokens_of, target_token, direction_tokens, key_tokens, order_tokens_of, limit_tokens_of, query_tokens}
 use Rattle.sql_syntax.proofs.Names.{lower_lower}
 use Rattle.sql_syntax.proofs.Canonical.{spells_at_level, good, good_list}
 
@@ -58,10 +61,15 @@ items_good : {ts : List Terminal} {items : List Item} {n : ℕ} → SpellsItems 
 items_good (last_item d a) = (_, last_item (free_good d) (alias_good a))
 items_good (more_items {e = e} {alias = alias} {items = items} d a rest) = let r = items_good rest in more_items_good e alias items r.0 (free_good d) (alias_good a) r.1
 
+kind_good : (by : JoinType) {t : Table} {e : Expr} {rest : List Terminal} {others : List Joined} {n : ℕ} → SpellsTable (table_tokens t) t → Spells level.Disjunction (free (printed e)) e → SpellsOthers rest others n
+    → (m : ℕ) × SpellsOthers (other_tokens (kind_of by e) t rest) (record { table = t; kind = kind_of by e } ∷ others) m
+kind_good join_type.Inner t d rest = (_, behind_join join t d rest)
+kind_good join_type.Left t d rest = (_, behind_join left_join t d rest)
+
 others_good : {ts : List Terminal} {others : List Joined} {n : ℕ} → SpellsOthers ts others n → (m : ℕ) × SpellsOthers (others_tokens_of others) others m
 others_good no_others = (_, no_others)
 others_good (behind_comma t rest) = let r = others_good rest in (_, behind_comma (table_good t) r.1)
-others_good (behind_join is t d rest) = let r = others_good rest in (_, behind_join {is = word keyword.Join ∷ []} (inl refl) (table_good t) (free_good d) r.1)
+others_good (behind_join {by = by} which t d rest) = let r = others_good rest in kind_good by (table_good t) (free_good d) r.1
 
 clause_good : {k : Keyword} {ts : List Terminal} {o : Option Expr} {n : ℕ} → SpellsClause k ts o n → (m : ℕ) × SpellsClause k (clause_tokens k o) o m
 clause_good no_clause = (_, no_clause)

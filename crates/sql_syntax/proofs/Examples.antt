@@ -9,6 +9,8 @@ use Rattle.sql_syntax.specs.declared.tree.Arithmetic.TheVariants as arithmetic
 use Rattle.sql_syntax.specs.declared.tree.Comparison.{Comparison}
 use Rattle.sql_syntax.specs.declared.tree.Comparison.TheVariants as comparison
 use Rattle.sql_syntax.specs.declared.tree.Expr.{Expr}
+use Rattle.sql_syntax.specs.declared.tree.JoinKind.TheVariants as join_kind
+use Rattle.sql_syntax.specs.declared.tree.Joined.{Joined}
 use Rattle.sql_syntax.specs.declared.tree.Expr.TheVariants as expr
 use Rattle.sql_syntax.specs.Tokens as terminal
 use Rattle.sql_syntax.specs.Tokens.{Terminal}
@@ -18,7 +20,7 @@ use Rattle.sql_syntax.specs.Strength.{level_of, compares}
 use Rattle.sql_syntax.specs.Words.{lower}
 use Rattle.sql_syntax.specs.Phrases.{word, mark, not_if, Spells, as_next, joined, column}
 use Rattle.sql_syntax.specs.CanonicalTokens.{Printed, printed, at_level, join_tokens, canonical_tokens}
-use Rattle.sql_syntax.specs.Queries.{text_of}
+use Rattle.sql_syntax.specs.Queries.{text_of, others_tokens_of}
 use Rattle.sql_syntax.proofs.Canonical.{to_free, printed_not, printed_or, printed_and, printed_reckon, printed_minus, printed_integer, printed_column, printed_compare, printed_between}
 
 abbrev col : List ℕ → Expr
@@ -97,6 +99,15 @@ minus_minus_text = ap (λ (p : Printed). text_of p.tokens) (minus_is (expr.Minus
 between_text : text_of (canonical_tokens (expr.And (expr.Between true a (expr.Integer (pos 1)) (expr.Integer (pos 2))) b)) ≡ codes "a NOT BETWEEN 1 AND 2 AND b"
 unfolding digits
 between_text = ap (λ (p : Printed). text_of p.tokens) (and_is (expr.Between true a (expr.Integer (pos 1)) (expr.Integer (pos 2))) b (between_is a (expr.Integer (pos 1)) (expr.Integer (pos 2)) (column_is (codes "a")) (printed_integer (pos 1)) (printed_integer (pos 2))) (column_is (codes "b")))
+
+-- a left join is written without OUTER
+abbrev joined_left : List Joined
+joined_left = record { table = record { name = codes "t"; alias = None }; kind = join_kind.Left (expr.Compare comparison.Equal a b) } ∷ []
+
+left_join_text : text_of (others_tokens_of joined_left) ≡ codes "LEFT JOIN t ON a = b"
+left_join_text =
+    ap (λ (p : Printed). text_of (word keyword.Left ∷ word keyword.Join ∷ terminal.name (codes "t") ∷ word keyword.On ∷ at_level level.Disjunction p ++ []))
+    (compare_is comparison.Equal a b (column_is (codes "a")) (column_is (codes "b")))
 
 -- ---- trees of tokens
 

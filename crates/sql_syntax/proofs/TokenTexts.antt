@@ -115,6 +115,7 @@ keyword_word keyword.In = record { start = refl; word = passes (spelling_of keyw
 keyword_word keyword.Inner = record { start = refl; word = passes (spelling_of keyword.Inner) refl; means = refl }
 keyword_word keyword.Is = record { start = refl; word = passes (spelling_of keyword.Is) refl; means = refl }
 keyword_word keyword.Join = record { start = refl; word = passes (spelling_of keyword.Join) refl; means = refl }
+keyword_word keyword.Left = record { start = refl; word = passes (spelling_of keyword.Left) refl; means = refl }
 keyword_word keyword.Like = record { start = refl; word = passes (spelling_of keyword.Like) refl; means = refl }
 keyword_word keyword.Limit = record { start = refl; word = passes (spelling_of keyword.Limit) refl; means = refl }
 keyword_word keyword.Max = record { start = refl; word = passes (spelling_of keyword.Max) refl; means = refl }
@@ -124,6 +125,7 @@ keyword_word keyword.Null = record { start = refl; word = passes (spelling_of ke
 keyword_word keyword.On = record { start = refl; word = passes (spelling_of keyword.On) refl; means = refl }
 keyword_word keyword.Or = record { start = refl; word = passes (spelling_of keyword.Or) refl; means = refl }
 keyword_word keyword.Order = record { start = refl; word = passes (spelling_of keyword.Order) refl; means = refl }
+keyword_word keyword.Outer = record { start = refl; word = passes (spelling_of keyword.Outer) refl; means = refl }
 keyword_word keyword.Select = record { start = refl; word = passes (spelling_of keyword.Select) refl; means = refl }
 keyword_word keyword.Sum = record { start = refl; word = passes (spelling_of keyword.Sum) refl; means = refl }
 keyword_word keyword.Then = record { start = refl; word = passes (spelling_of keyword.Then) refl; means = refl }

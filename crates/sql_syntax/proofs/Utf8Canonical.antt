@@ -7,6 +7,8 @@ use Rattle.std.specs.Str.{IsUtf8}
 use Rattle.std.proofs.lemmas.Fmt.{IsAscii-decimal}
 use Rattle.std.proofs.lemmas.Str.{IsUtf8-append, IsUtf8-nil, IsUtf8-from_ascii}
 use Rattle.std.proofs.lemmas.Str.Ascii.{IsAscii-cons, IsAscii-nil}
+use Rattle.meaning.specs.declared.plan.JoinType.{JoinType}
+use Rattle.meaning.specs.declared.plan.JoinType.TheVariants as join_type
 use Rattle.sql_syntax.specs.declared.keyword.Keyword.{Keyword}
 use Rattle.sql_syntax.specs.declared.keyword.Keyword.TheVariants as keyword
 use Rattle.sql_syntax.specs.declared.token.Sign.{Sign}
@@ -32,9 +34,10 @@ use Rattle.sql_syntax.specs.Tokens as terminal
 use Rattle.sql_syntax.specs.Tokens.{Terminal, tokens_of, terminals}
 use Rattle.sql_syntax.specs.Canonical.{canonical}
 use Rattle.sql_syntax.specs.Strength.{next, rank, level_of, token_of, node_of, compares}
+use Rattle.sql_syntax.specs.Joins.{kind_of}
 use Rattle.sql_syntax.specs.Phrases.{word, mark, not_if, bracketed, below_zero, undoubled, Spells, as_next, joined, negated, tested, minus, integer, negative, text, column, column_of, rows, aggregated, first_of, chosen, in_brackets, Tests, compared, between, among, like, is_null, SpellsList, last, more, SpellsArms, last_arm, more_arms, SpellsElse, nothing, null, otherwise}
 use Rattle.sql_syntax.specs.CanonicalTokens.{Printed, at_level, free, doubled, join_tokens, integer_tokens, list_tokens, arms_tokens, else_tokens, printed, printed_arm}
-use Rattle.sql_syntax.specs.Queries.{SpellsAlias, none, bare, behind_as, SpellsTable, table, SpellsTarget, name, SpellsItems, last_item, more_items, SpellsOthers, no_others, behind_comma, behind_join, SpellsClause, no_clause, clause, SpellsGroups, no_groups, groups, SpellsKeys, last_key, more_keys, SpellsOrder, no_order, order, SpellsQuery, alias_tokens, table_tokens, item_tokens, with_commas, others_tokens_of, clause_tokens, groups_tokens_of, target_token, direction_tokens, key_tokens, order_tokens_of, limit_tokens_of, query_tokens, sign_text, token_text, ends_operand, hugs_left, hugs_right, text_behind}
+use Rattle.sql_syntax.specs.Queries.{SpellsAlias, none, bare, behind_as, SpellsTable, table, SpellsTarget, name, SpellsItems, last_item, more_items, SpellsOthers, no_others, behind_comma, behind_join, SpellsClause, no_clause, clause, SpellsGroups, no_groups, groups, SpellsKeys, last_key, more_keys, SpellsOrder, no_order, order, SpellsQuery, alias_tokens, table_tokens, item_tokens, with_commas, on_tokens, other_tokens, others_tokens_of, clause_tokens, groups_tokens_of, target_token, direction_tokens, key_tokens, order_tokens_of, limit_tokens_of, query_tokens, sign_text, token_text, ends_operand, hugs_left, hugs_right, text_behind}
 use Rattle.sql_syntax.specs.Queries as queries
 use Rattle.sql_syntax.proofs.Names.{IsProperBy, lower_name, name_ascii, tokens_proper}
 use Rattle.sql_syntax.proofs.TokenTexts.{keyword_word}
@@ -201,16 +204,26 @@ items_too (more_items {ts = ts} {us = us} {vs = vs} {e = e} {alias = alias} {ite
     let t = split us (mark sign.Comma ∷ vs) s.1 in
     commas_too (free (printed e) ++ alias_tokens alias) (map item_tokens items) (both (free (printed e)) (alias_tokens alias) (free_too d s.0) (alias_too a t.0)) (items_too others t.1.1)
 
+-- the parts of a table with a condition
+on_parts : (is ts us vs : List Terminal) → All (is ++ (ts ++ (word keyword.On ∷ us ++ vs))) → All ts × (All us × All vs)
+on_parts is ts us vs all =
+    let p = split is (ts ++ (word keyword.On ∷ us ++ vs)) all in
+    let s = split ts (word keyword.On ∷ us ++ vs) p.1 in
+    (s.0, split us vs s.1.1)
+
+on_too : (t : Table) (e : Expr) (rest : List Terminal) → All (table_tokens t) → All (free (printed e)) → All rest → All (on_tokens t e rest)
+on_too t e rest x y z = (tt, both (table_tokens t) (word keyword.On ∷ free (printed e) ++ rest) x (tt, both (free (printed e)) rest y z))
+
+kind_too : (by : JoinType) (t : Table) (e : Expr) (rest : List Terminal) → All (table_tokens t) → All (free (printed e)) → All rest → All (other_tokens (kind_of by e) t rest)
+kind_too join_type.Inner t e rest x y z = on_too t e rest x y z
+kind_too join_type.Left t e rest x y z = (tt, on_too t e rest x y z)
+
 others_too : {ts : List Terminal} {others : List Joined} {n : ℕ} → SpellsOthers ts others n → All ts → All (others_tokens_of others)
 others_too no_others all = tt
 others_too (behind_comma {ts = ts} {us = us} {t = t} {others = others} d rest) all =
     let s = split ts us all.1 in (tt, both (table_tokens t) (others_tokens_of others) (table_too d s.0) (others_too rest s.1))
-others_too (behind_join {is = is} {ts = ts} {us = us} {vs = vs} {t = t} {e = e} {others = others} which d x rest) all =
-    let p = split is (ts ++ (word keyword.On ∷ us ++ vs)) all in
-    let s = split ts (word keyword.On ∷ us ++ vs) p.1 in
-    let r = split us vs s.1.1 in
-    let on = both (free (printed e)) (others_tokens_of others) (free_too x r.0) (others_too rest r.1) in
-    (tt, both (table_tokens t) (word keyword.On ∷ free (printed e) ++ others_tokens_of others) (table_too d s.0) (tt, on))
+others_too (behind_join {is = is} {ts = ts} {us = us} {vs = vs} {by = by} {t = t} {e = e} {others = others} which d x rest) all =
+    let p = on_parts is ts us vs all in kind_too by t e (others_tokens_of others) (table_too d p.0) (free_too x p.1.0) (others_too rest p.1.1)
 
 clause_too : (k : Keyword) {ts : List Terminal} {c : Option Expr} {n : ℕ} → SpellsClause k ts c n → All ts → All (clause_tokens k c)
 clause_too k no_clause all = tt

@@ -24,7 +24,7 @@ use Rattle.sql_syntax.specs.Tokens.{Terminal}
 use Rattle.sql_syntax.specs.Strength.{next, level_of, token_of, compares}
 use Rattle.sql_syntax.specs.Phrases.{word, mark, not_if, bracketed, aggregate_word}
 use Rattle.sql_syntax.specs.CanonicalTokens.{Printed, at_level, free, doubled, else_tokens, printed, printed_arm, list_tokens, arms_tokens}
-use Rattle.sql_syntax.specs.Queries.{text_behind, with_commas, item_tokens, key_tokens, other_tokens, table_tokens, others_tokens_of}
+use Rattle.sql_syntax.specs.Queries.{text_behind, with_commas, item_tokens, key_tokens, on_tokens, other_tokens, table_tokens, others_tokens_of}
 use Rattle.sql_syntax.specs.Printing.{Written, with_token, with_tokens, behind_commas, more_items, more_keys, joined_tokens}
 use Rattle.sql_syntax.proofs.Canonical.{printed_or, printed_case, printed_and, printed_reckon, printed_aggregate, printed_compare, printed_between, printed_in, printed_like, printed_null, printed_arm_is}
 
@@ -69,11 +69,15 @@ keys_are key (next ∷ keys) = ap (λ (x : List Terminal). key_tokens key ++ mar
 pub keys_first : (w : Written) (key : OrderKey) (keys : List OrderKey) → with_tokens w (with_commas (map key_tokens (key ∷ keys))) ≡ with_tokens (with_tokens w (key_tokens key)) (more_keys keys)
 keys_first w key keys = ap (with_tokens w) (keys_are key keys) ∙ with_append w (key_tokens key) (more_keys keys)
 
-other_is : (kind : JoinKind) (t : Table) (rest : List Terminal) → other_tokens kind t rest ≡ other_tokens kind t [] ++ rest
-other_is join_kind.Comma t rest = ap (λ (x : List Terminal). mark sign.Comma ∷ x ++ rest) (sym (append-nil (table_tokens t)))
-other_is (join_kind.Inner e) t rest =
+on_is : (t : Table) (e : Expr) (rest : List Terminal) → on_tokens t e rest ≡ on_tokens t e [] ++ rest
+on_is t e rest =
     ap (λ (x : List Terminal). word keyword.Join ∷ x) (sym (append_assoc (table_tokens t) (word keyword.On ∷ free (printed e)) rest))
     ∙ ap (λ (x : List Terminal). (word keyword.Join ∷ table_tokens t ++ (word keyword.On ∷ x)) ++ rest) (sym (append-nil (free (printed e))))
+
+other_is : (kind : JoinKind) (t : Table) (rest : List Terminal) → other_tokens kind t rest ≡ other_tokens kind t [] ++ rest
+other_is join_kind.Comma t rest = ap (λ (x : List Terminal). mark sign.Comma ∷ x ++ rest) (sym (append-nil (table_tokens t)))
+other_is (join_kind.Inner e) t rest = on_is t e rest
+other_is (join_kind.Left e) t rest = ap (λ (x : List Terminal). word keyword.Left ∷ x) (on_is t e rest)
 
 pub others_step : (w : Written) (j : Joined) (js : List Joined) → with_tokens w (others_tokens_of (j ∷ js)) ≡ with_tokens (with_tokens w (joined_tokens j)) (others_tokens_of js)
 others_step w j js = ap (with_tokens w) (other_is j.kind j.table (others_tokens_of js)) ∙ with_append w (joined_tokens j) (others_tokens_of js)

@@ -1,11 +1,13 @@
 -- Which tokens spell which query, and its canonical tokens and text.
-use Rattle.std.specs.Prelude.{◌≡◌, ◌⊎◌, ℕ, ◌≤◌, Bool, true, false, ◌||◌, not, if◌then◌else◌, List, [], ◌∷◌, ◌++◌, map, Option, Some, None, max, codes}
+use Rattle.std.specs.Prelude.{◌≡◌, ℕ, ◌≤◌, Bool, true, false, ◌||◌, not, if◌then◌else◌, List, [], ◌∷◌, ◌++◌, map, Option, Some, None, max, codes}
 use Rattle.std.specs.Fmt.{decimal}
+use Rattle.meaning.specs.declared.plan.JoinType.{JoinType}
+use Rattle.meaning.specs.declared.plan.JoinType.TheVariants as join_type
 use Rattle.sql_syntax.specs.declared.keyword.Keyword.{Keyword}
 use Rattle.sql_syntax.specs.declared.keyword.Keyword.TheVariants as keyword
 use Rattle.sql_syntax.specs.declared.token.Sign.{Sign}
 use Rattle.sql_syntax.specs.declared.token.Sign.TheVariants as sign
-use Rattle.sql_syntax.specs.Joins.{condition_of}
+use Rattle.sql_syntax.specs.Joins.{condition_of, kind_of}
 use Rattle.sql_syntax.specs.declared.tree.JoinKind.{JoinKind}
 use Rattle.sql_syntax.specs.declared.tree.JoinKind.TheVariants as join_kind
 use Rattle.sql_syntax.specs.declared.tree.Direction.{Direction}
@@ -56,15 +58,21 @@ pub data SpellsItems : List Terminal → List Item → ℕ → Type 0 where
   more_items : {ts us vs : List Terminal} {e : Expr} {alias : Option (List ℕ)} {items : List Item} {most : ℕ} (d : Spells level.Disjunction ts e) → SpellsAlias us alias → SpellsItems vs items most
       → SpellsItems (ts ++ us ++ mark sign.Comma ∷ vs) (record { expr = e; alias = alias } ∷ items) (max (open_in d) most)
 
--- {"," table | [INNER] JOIN table ON expr}
+-- [INNER] JOIN, or LEFT [OUTER] JOIN
+pub data SpellsJoin : List Terminal → JoinType → Type 0 where
+  join : SpellsJoin (word keyword.Join ∷ []) join_type.Inner
+  inner_join : SpellsJoin (word keyword.Inner ∷ word keyword.Join ∷ []) join_type.Inner
+  left_join : SpellsJoin (word keyword.Left ∷ word keyword.Join ∷ []) join_type.Left
+  left_outer_join : SpellsJoin (word keyword.Left ∷ word keyword.Outer ∷ word keyword.Join ∷ []) join_type.Left
+
+-- {"," table | join table ON expr}
 pub data SpellsOthers : List Terminal → List Joined → ℕ → Type 0 where
   no_others : SpellsOthers [] [] 0
   behind_comma : {ts us : List Terminal} {t : Table} {others : List Joined} {most : ℕ} → SpellsTable ts t → SpellsOthers us others most
       → SpellsOthers (mark sign.Comma ∷ ts ++ us) (record { table = t; kind = join_kind.Comma } ∷ others) most
-  behind_join : {is ts us vs : List Terminal} {t : Table} {e : Expr} {others : List Joined} {most : ℕ}
-      → (is ≡ word keyword.Join ∷ []) ⊎ (is ≡ word keyword.Inner ∷ word keyword.Join ∷ [])
-      → SpellsTable ts t → (d : Spells level.Disjunction us e) → SpellsOthers vs others most
-      → SpellsOthers (is ++ (ts ++ (word keyword.On ∷ us ++ vs))) (record { table = t; kind = join_kind.Inner e } ∷ others) (max (open_in d) most)
+  behind_join : {is ts us vs : List Terminal} {by : JoinType} {t : Table} {e : Expr} {others : List Joined} {most : ℕ}
+      → SpellsJoin is by → SpellsTable ts t → (d : Spells level.Disjunction us e) → SpellsOthers vs others most
+      → SpellsOthers (is ++ (ts ++ (word keyword.On ∷ us ++ vs))) (record { table = t; kind = kind_of by e } ∷ others) (max (open_in d) most)
 
 -- a keyword and an expression, or nothing
 pub data SpellsClause (k : Keyword) : List Terminal → Option Expr → ℕ → Type 0 where
@@ -148,10 +156,15 @@ with_commas [] = []
 with_commas (ts ∷ []) = ts
 with_commas (ts ∷ us ∷ rest) = ts ++ mark sign.Comma ∷ with_commas (us ∷ rest)
 
+-- JOIN, a table and its condition, in front of the rest
+abbrev pub on_tokens : Table → Expr → List Terminal → List Terminal
+on_tokens t e rest = word keyword.Join ∷ table_tokens t ++ (word keyword.On ∷ free (printed e) ++ rest)
+
 -- a further table in front of the rest
 abbrev pub other_tokens : JoinKind → Table → List Terminal → List Terminal
 other_tokens join_kind.Comma t rest = mark sign.Comma ∷ table_tokens t ++ rest
-other_tokens (join_kind.Inner e) t rest = word keyword.Join ∷ table_tokens t ++ (word keyword.On ∷ free (printed e) ++ rest)
+other_tokens (join_kind.Inner e) t rest = on_tokens t e rest
+other_tokens (join_kind.Left e) t rest = word keyword.Left ∷ on_tokens t e rest
 
 abbrev pub others_tokens_of : List Joined → List Terminal
 others_tokens_of [] = []

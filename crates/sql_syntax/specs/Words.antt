@@ -34,6 +34,7 @@ spelling_of keyword.In = codes "IN"
 spelling_of keyword.Inner = codes "INNER"
 spelling_of keyword.Is = codes "IS"
 spelling_of keyword.Join = codes "JOIN"
+spelling_of keyword.Left = codes "LEFT"
 spelling_of keyword.Like = codes "LIKE"
 spelling_of keyword.Limit = codes "LIMIT"
 spelling_of keyword.Max = codes "MAX"
@@ -43,6 +44,7 @@ spelling_of keyword.Null = codes "NULL"
 spelling_of keyword.On = codes "ON"
 spelling_of keyword.Or = codes "OR"
 spelling_of keyword.Order = codes "ORDER"
+spelling_of keyword.Outer = codes "OUTER"
 spelling_of keyword.Select = codes "SELECT"
 spelling_of keyword.Sum = codes "SUM"
 spelling_of keyword.Then = codes "THEN"
@@ -54,9 +56,9 @@ abbrev pub keywords : List Keyword
 keywords = keyword.And ∷ keyword.As ∷ keyword.Asc ∷ keyword.Avg ∷ keyword.Between ∷ keyword.By
     ∷ keyword.Case ∷ keyword.Coalesce ∷ keyword.Count ∷ keyword.Desc ∷ keyword.Else ∷ keyword.End
     ∷ keyword.From ∷ keyword.Group ∷ keyword.Having ∷ keyword.In ∷ keyword.Inner ∷ keyword.Is
-    ∷ keyword.Join ∷ keyword.Like ∷ keyword.Limit ∷ keyword.Max ∷ keyword.Min ∷ keyword.Not
-    ∷ keyword.Null ∷ keyword.On ∷ keyword.Or ∷ keyword.Order ∷ keyword.Select ∷ keyword.Sum
-    ∷ keyword.Then ∷ keyword.When ∷ keyword.Where ∷ []
+    ∷ keyword.Join ∷ keyword.Left ∷ keyword.Like ∷ keyword.Limit ∷ keyword.Max ∷ keyword.Min
+    ∷ keyword.Not ∷ keyword.Null ∷ keyword.On ∷ keyword.Or ∷ keyword.Order ∷ keyword.Outer
+    ∷ keyword.Select ∷ keyword.Sum ∷ keyword.Then ∷ keyword.When ∷ keyword.Where ∷ []
 
 -- the keyword that a word is, in whatever case
 unfoldable pub keyword_of : List ℕ → Option Keyword
@@ -66,9 +68,8 @@ keyword_of word = find (λ k. same_word (spelling_of k) word) keywords
 abbrev pub left_out_words : List (List ℕ)
 left_out_words = codes "ALL" ∷ codes "ANY" ∷ codes "CROSS" ∷ codes "DISTINCT" ∷ codes "ESCAPE"
     ∷ codes "EXCEPT" ∷ codes "EXISTS" ∷ codes "FETCH" ∷ codes "FULL" ∷ codes "INTERSECT"
-    ∷ codes "LEFT" ∷ codes "NATURAL" ∷ codes "NULLS" ∷ codes "OFFSET" ∷ codes "OUTER"
-    ∷ codes "OVER" ∷ codes "RIGHT" ∷ codes "ROLLUP" ∷ codes "UNION" ∷ codes "USING"
-    ∷ codes "WINDOW" ∷ codes "WITH" ∷ []
+    ∷ codes "NATURAL" ∷ codes "NULLS" ∷ codes "OFFSET" ∷ codes "OVER" ∷ codes "RIGHT"
+    ∷ codes "ROLLUP" ∷ codes "UNION" ∷ codes "USING" ∷ codes "WINDOW" ∷ codes "WITH" ∷ []
 
 -- the word is one of them, in whatever case
 unfoldable pub is_left_out : List ℕ → Bool

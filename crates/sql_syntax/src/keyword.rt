@@ -25,6 +25,7 @@ pub enum Keyword {
     Inner,
     Is,
     Join,
+    Left,
     Like,
     Limit,
     Max,
@@ -34,6 +35,7 @@ pub enum Keyword {
     On,
     Or,
     Order,
+    Outer,
     Select,
     Sum,
     Then,
@@ -41,7 +43,7 @@ pub enum Keyword {
     Where,
 }
 
-const KEYWORDS: [Keyword; 33] = [
+const KEYWORDS: [Keyword; 35] = [
     Keyword::And,
     Keyword::As,
     Keyword::Asc,
@@ -61,6 +63,7 @@ const KEYWORDS: [Keyword; 33] = [
     Keyword::Inner,
     Keyword::Is,
     Keyword::Join,
+    Keyword::Left,
     Keyword::Like,
     Keyword::Limit,
     Keyword::Max,
@@ -70,6 +73,7 @@ const KEYWORDS: [Keyword; 33] = [
     Keyword::On,
     Keyword::Or,
     Keyword::Order,
+    Keyword::Outer,
     Keyword::Select,
     Keyword::Sum,
     Keyword::Then,
@@ -78,7 +82,7 @@ const KEYWORDS: [Keyword; 33] = [
 ];
 
 /// Words that no name may be, since SQL has them, though not this grammar.
-const LEFT_OUT: [&str; 22] = [
+const LEFT_OUT: [&str; 20] = [
     "ALL",
     "ANY",
     "CROSS",
@@ -89,11 +93,9 @@ const LEFT_OUT: [&str; 22] = [
     "FETCH",
     "FULL",
     "INTERSECT",
-    "LEFT",
     "NATURAL",
     "NULLS",
     "OFFSET",
-    "OUTER",
     "OVER",
     "RIGHT",
     "ROLLUP",
@@ -128,6 +130,7 @@ impl Keyword {
             Keyword::Inner => "INNER",
             Keyword::Is => "IS",
             Keyword::Join => "JOIN",
+            Keyword::Left => "LEFT",
             Keyword::Like => "LIKE",
             Keyword::Limit => "LIMIT",
             Keyword::Max => "MAX",
@@ -137,6 +140,7 @@ impl Keyword {
             Keyword::On => "ON",
             Keyword::Or => "OR",
             Keyword::Order => "ORDER",
+            Keyword::Outer => "OUTER",
             Keyword::Select => "SELECT",
             Keyword::Sum => "SUM",
             Keyword::Then => "THEN",

@@ -4,7 +4,7 @@ ghost use Rattle.sql_syntax.specs.Canonical.{canonical};
 ghost use Rattle.sql_syntax.specs.CanonicalTokens.{doubled, at_level, printed, printed_arm, integer_tokens, column_tokens, list_tokens, arms_tokens, else_tokens};
 ghost use Rattle.sql_syntax.specs.Phrases.{aggregate_word, bracketed, mark, not_if};
 ghost use Rattle.sql_syntax.specs.Printing.{written, with_token, with_tokens, behind_commas, more_items, more_keys, joined_tokens, end_tokens, condition_tokens, source_tokens};
-ghost use Rattle.sql_syntax.specs.Queries.{query_tokens, with_commas, item_tokens, alias_tokens, table_tokens, others_tokens_of, clause_tokens, groups_tokens_of, key_tokens, target_token, direction_tokens, order_tokens_of, limit_tokens_of};
+ghost use Rattle.sql_syntax.specs.Queries.{query_tokens, with_commas, item_tokens, alias_tokens, table_tokens, on_tokens, others_tokens_of, clause_tokens, groups_tokens_of, key_tokens, target_token, direction_tokens, order_tokens_of, limit_tokens_of};
 ghost use Rattle.sql_syntax.specs.Strength.{next, level_of, token_of, compares};
 ghost use Rattle.sql_syntax.specs.Tokens.{terminal_of, keyword, text, sign_is, integer};
 ghost use Rattle.sql_syntax.specs.declared.keyword.Keyword.TheVariants.{Count, Is, Null, Like};
@@ -258,16 +258,27 @@ impl Printer {
             ≡ with_tokens (written self.old) (joined_tokens joined.now)) }
     {
         match &joined.kind {
-            JoinKind::Inner(on) => {
-                self.put(Token::Keyword(Keyword::Join))?;
-                self.put_table(&joined.table)?;
-                self.put_behind(Token::Keyword(Keyword::On), Level::Disjunction, on)
+            JoinKind::Inner(on) => self.put_on(&joined.table, on),
+            JoinKind::Left(on) => {
+                self.put(Token::Keyword(Keyword::Left))?;
+                self.put_on(&joined.table, on)
             }
             JoinKind::Comma => {
                 self.put(Token::Sign(Sign::Comma))?;
                 self.put_table(&joined.table)
             }
         }
+    }
+
+    /// JOIN, a table and its condition.
+    #[tactic(auto, using(crate::proofs::Writing::with_append))]
+    fn put_on(&mut self, table: &Table, on: &Expr) -> Result<(), AllocError>
+        ensures { OnOk result (written self.new
+            ≡ with_tokens (written self.old) (on_tokens table.now on.now [])) }
+    {
+        self.put(Token::Keyword(Keyword::Join))?;
+        self.put_table(table)?;
+        self.put_behind(Token::Keyword(Keyword::On), Level::Disjunction, on)
     }
 
     fn put_clause(&mut self, keyword: Keyword, condition: &Option<Expr>) -> Result<(), AllocError>

@@ -47,6 +47,8 @@ pub enum JoinKind {
     Comma,
     /// By JOIN, with the condition of its ON.
     Inner(Expr),
+    /// By LEFT JOIN, with the condition of its ON.
+    Left(Expr),
 }
 
 /// A further table of FROM.

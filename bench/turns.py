@@ -1,9 +1,11 @@
 #!/usr/bin/env python3
-"""turns.py ONE OTHER DIR [ROUNDS]: runs two builds of the program by turns over the star of `bench/star/generate.py` in DIR, which
-it loads anew, and prints of each command the least seconds of both, and the median of the ratios of the turns.
+"""turns.py ONE OTHER DIR [ROUNDS]: runs two builds of the program, ONE the older, by turns over the star of
+`bench/star/generate.py` in DIR, which the older loads anew, and prints of each command the least seconds of both, and the median
+of the ratios of the turns.
 
 Measured are `work` over one fragment of the whole table, for the queries of bench/star and for conditions alone; `whole` in one
-fragment and in 62; and `gather` of 4,096 answers of a table of 4,096 rows. What both print is compared."""
+fragment and in 62; and `gather` of 4,096 answers of a table of 4,096 rows. What both print is compared, and answers between
+their magic and their seal, since two builds may write different formats."""
 import os
 import pathlib
 import statistics
@@ -49,7 +51,7 @@ def turns(name, programs, words, room, rounds, written=None):
     for _ in range(rounds):
         for program in programs:
             times[program].append(seconds([program, *words], room / "printed"))
-            said.add((room / "printed").read_bytes() + (pathlib.Path(written).read_bytes() if written else b""))
+            said.add((room / "printed").read_bytes() + (pathlib.Path(written).read_bytes()[4:-32] if written else b""))
         ratios.append(times[programs[1]][-1] / times[programs[0]][-1])
     if len(said) != 1:
         sys.exit(f"{name}: the programs differ")
@@ -69,12 +71,12 @@ def small_table(room):
 def many_answers(programs, room, rounds):
     folder = small_table(room)
     query = "SELECT k, COUNT(*), SUM(v) FROM n GROUP BY k ORDER BY k"
-    seconds([programs[1], "load", folder, "--load", "1", "--rows", "1"], room / "printed")
+    seconds([programs[0], "load", folder, "--load", "1", "--rows", "1"], room / "printed")
     answers = []
     for fragment in range(4096):
         answers.append(str(room / f"a{fragment}"))
         words = ["work", folder, "--query", query, "--fragment", str(fragment), "--out", answers[-1]]
-        seconds([programs[1], *words], room / "printed")
+        seconds([programs[0], *words], room / "printed")
     turns("gather of 4,096 answers", programs, ["gather", folder, "--query", query, *answers], room, rounds)
 
 
@@ -83,7 +85,7 @@ def main():
     rounds = int(sys.argv[4]) if len(sys.argv) > 4 else 9
     with tempfile.TemporaryDirectory() as place:
         room = pathlib.Path(place)
-        seconds([programs[1], "load", folder, "--load", "1", "--rows", "1048576"], room / "printed")
+        seconds([programs[0], "load", folder, "--load", "1", "--rows", "1048576"], room / "printed")
         measured = queries() | {
             name: f"SELECT COUNT(*) FROM lineorder {condition}" for name, condition in CONDITIONS.items()
         }

@@ -10,7 +10,7 @@ import sys
 import tempfile
 
 from damage import command_case, read_case
-from formats import INT, MAX, ROWS, TEXT, Job, cut_front, sealed, u16, u32, u64
+from formats import COUNT_DISTINCT, INT, MAX, ROWS, TEXT, Job, cut_front, sealed, u16, u32, u64
 
 HERE = os.path.dirname(os.path.abspath(__file__))
 TOP = os.path.dirname(os.path.dirname(HERE))
@@ -20,6 +20,7 @@ SLACK, PIECES = 4096, 4 * 65536
 
 COUNTED = Job(7, [2, 3], [], [(ROWS, 0)], "SELECT COUNT(*) FROM sales")
 TEXTS = Job(7, [2, 3], [TEXT], [(MAX, TEXT)], "Q")
+SETS = Job(7, [2, 3], [], [(COUNT_DISTINCT, INT)], "Q")
 FOLDER = ("file f/catalog.txt\nfact n\ncol v int\ndim d key k\ncol k int\n\nbytes f/cut.xcl\n" + sealed(cut_front(7, [8192])).hex()
           + "\n\n")
 GATHERED = "file f/catalog.txt\nfact sales\ncol q int\n\nbytes f/cut.xcl\n" + sealed(cut_front(7, [2, 3])).hex() + "\n\n"
@@ -42,6 +43,10 @@ def text_at_end(length):
 
 def value_at_end(length):
     return answer_front(TEXTS) + b"\1" + u32(1) + b"\0" + u32(1) + u32(1) + b"\2" + u16(length) + b"ab"
+
+
+def set_with(entries):
+    return b"XGA2" + SETS.front() + u32(0) + SETS.shape() + b"\1" + u32(1) + u32(2) + u32(entries) + b"\1" + u64(10)
 
 
 def answer_front(job):
@@ -70,6 +75,7 @@ def by_command(path, command, head):
 ANSWER = alone("answer ", COUNTED.words())
 STATE = alone("state ", COUNTED.words())
 TEXT_ANSWER = alone("answer ", TEXTS.words())
+SET_ANSWER = alone("answer ", SETS.words())
 FRAGMENT = alone("fragment")
 CUT = alone("cut-file")
 WORK = by_command("f/n.0.xcf", 'xcols work f --query "SELECT COUNT(v) FROM n" --fragment 0 --out a', FOLDER)
@@ -91,6 +97,7 @@ SUBJECTS = [
     ("a state of 4294967295 groups that is gathered", GATHER, state_with(MOST), state_with(2), SLACK),
     ("a key of 65535 bytes at the end", TEXT_ANSWER, text_at_end(65535), text_at_end(3), SLACK),
     ("a greatest text of 65535 bytes at the end", TEXT_ANSWER, value_at_end(65535), value_at_end(3), SLACK),
+    ("a set of 4294967295 entries", SET_ANSWER, set_with(MOST), set_with(2), SLACK),
     ("a payload of 4294967295 bytes", FRAGMENT, file_with(INT, TEN, payload=MOST), file_with(INT, TEN, payload=11), SLACK),
     ("a payload of 4294967295 bytes that is worked on", WORK, file_with(INT, TEN, payload=MOST), file_with(INT, TEN, payload=11), PIECES),
     ("a dimension's payload of 4294967295 bytes", JOIN, file_with(INT, TEN, payload=MOST, table=b"d"), file_with(INT, TEN, payload=11, table=b"d"), SLACK),

@@ -3,7 +3,8 @@ number, or what they say, in the words of the case files (docs/TESTING.md)."""
 import hashlib
 
 INT, TEXT = 1, 2
-ROWS, COUNT, SUM, MIN, MAX, AVG = 1, 2, 3, 4, 5, 6
+ROWS, COUNT, SUM, MIN, MAX, AVG, COUNT_DISTINCT, SUM_DISTINCT = 1, 2, 3, 4, 5, 6, 7, 8
+SETS = COUNT_DISTINCT, SUM_DISTINCT
 LEAST, GREATEST = -(2 ** 63), 2 ** 63 - 1
 PLAIN, DICT, RUNS, FRAME = 0, 1, 2, 3
 GROUP_ROWS = 8192
@@ -66,6 +67,13 @@ class Reader:
         if self.take(4) != wanted:
             raise Wrong(1)
 
+    def format(self, name):
+        """The format of an answer or a state, whose magic begins with these three bytes."""
+        magic = self.take(4)
+        if magic[:3] != name or magic[3:] not in (b"1", b"2"):
+            raise Wrong(1)
+        return int(magic[3:])
+
     def text(self, width):
         text = self.take(self.number(width))
         try:
@@ -91,7 +99,9 @@ class Reader:
 
 # ---- answers and states
 
-KIND_WORDS = {ROWS: "rows", COUNT: "count", SUM: "sum", MIN: "min", MAX: "max", AVG: "avg"}
+KIND_WORDS = {ROWS: "rows", COUNT: "count", SUM: "sum", MIN: "min", MAX: "max", AVG: "avg",
+              COUNT_DISTINCT: "count-distinct", SUM_DISTINCT: "sum-distinct"}
+KINDS = {1: [kind for kind in KIND_WORDS if kind not in SETS], 2: list(KIND_WORDS)}
 TYPE_WORDS = {INT: "int", TEXT: "text"}
 
 
@@ -127,7 +137,9 @@ def value_bytes(value):
 
 
 def state_bytes(kind, n, of):
-    """A state of n entries: `of` is the sum or the extreme value, or None."""
+    """A state of n entries: `of` is the sum, the extreme value or the entries of a set, or None."""
+    if kind in SETS:
+        return u32(n) + b"".join(map(value_bytes, of))
     if kind in (SUM, AVG):
         return u32(n) + i128(of)
     if kind in (MIN, MAX):
@@ -148,13 +160,13 @@ def fault_bytes(row, code):
     return u8(0) + u64(row) + u8(code)
 
 
-def answer_front(job, fragment, body):
-    return b"XGA1" + job.front() + u32(fragment) + job.shape() + body
+def answer_front(job, fragment, body, magic=b"XGA2"):
+    return magic + job.front() + u32(fragment) + job.shape() + body
 
 
-def state_front(job, cells):
+def state_front(job, cells, magic=b"XGS2"):
     """Cells are None, "conflict" or a body's bytes."""
-    return b"XGS1" + job.front() + job.shape() + b"".join(
+    return magic + job.front() + job.shape() + b"".join(
         u8(0) if cell is None else u8(2) if cell == "conflict" else u8(1) + cell for cell in cells)
 
 
@@ -164,11 +176,11 @@ def read_job(reader):
     return load, text, [reader.number(4) for _ in range(reader.number(4))]
 
 
-def read_shape(reader):
+def read_shape(reader, format):
     keys = [reader.one_of((INT, TEXT), 9) for _ in range(reader.number(2))]
     aggregates = []
     for _ in range(reader.number(2)):
-        kind = reader.one_of(KIND_WORDS, 9)
+        kind = reader.one_of(KINDS[format], 9)
         aggregates.append((kind, reader.one_of((0,) if kind == ROWS else (INT, TEXT), 9)))
     return keys, aggregates
 
@@ -180,6 +192,8 @@ def read_value(reader):
 
 def read_state(reader, kind):
     n = reader.number(4)
+    if kind in SETS:
+        return n, [read_value(reader) for _ in range(n)]
     if kind in (SUM, AVG):
         return n, reader.number(16, True)
     return n, read_value(reader) if kind in (MIN, MAX) else None
@@ -200,12 +214,18 @@ def is_of(value, of):
     return value is None or isinstance(value, int) == (of == INT)
 
 
+def is_typed(kind, of, column):
+    if kind in SETS:
+        return all(value is not None and is_of(value, column) for value in of)
+    return kind not in (MIN, MAX) or is_of(of, column)
+
+
 def judge_values(body, keys, aggregates):
     if body[0] == "fault":
         return
     for key, _, states in body[1]:
         fit = all(map(is_of, key, keys)) and all(
-            kind not in (MIN, MAX) or is_of(of, column) for (kind, column), (_, of) in zip(aggregates, states))
+            is_typed(kind, of, column) for (kind, column), (_, of) in zip(aggregates, states))
         if not fit:
             raise Wrong(9)
 
@@ -218,13 +238,16 @@ def judge_order(body):
     if body[0] == "fault":
         return
     keys = [tuple(map(order, key)) for key, _, _ in body[1]]
-    if any(a >= b for a, b in zip(keys, keys[1:])):
+    sets = [list(map(order, of)) for _, _, states in body[1] for _, of in states if isinstance(of, list)]
+    if any(a >= b for values in [keys, *sets] for a, b in zip(values, values[1:])):
         raise Wrong(8)
 
 
 def fits(kind, n, of, rows):
     if n > rows or (kind == ROWS and n != rows):
         return False
+    if kind in SETS:
+        return True
     if kind in (SUM, AVG):
         return n * LEAST <= of <= n * GREATEST
     return kind not in (MIN, MAX) or (of is None) == (n == 0)
@@ -268,6 +291,9 @@ def shown_value(value):
 
 
 def shown_state(kind, n, of):
+    if kind in SETS:
+        return ", count 0, sum 0" + "".join(
+            (", entries " if k == 0 else " ") + shown_value(value) for k, value in enumerate(of))
     line = f", count {n}, sum {of if kind in (SUM, AVG) else 0}"
     if kind in (MIN, MAX) and of is not None:
         line += f", {'least' if kind == MIN else 'greatest'} {shown_value(of)}"
@@ -287,10 +313,10 @@ def shown_body(job, body):
 def judged_answer(job, data):
     """What an answer's bytes say for a job, as lines; or Wrong."""
     reader = Reader(data)
-    reader.magic(b"XGA1")
+    format = reader.format(b"XGA")
     load, text, cut = read_job(reader)
     fragment = reader.number(4)
-    keys, aggregates = read_shape(reader)
+    keys, aggregates = read_shape(reader, format)
     body = read_body(reader, keys, aggregates)
     reader.end()
     judge_job(job, load, text, cut)
@@ -307,9 +333,9 @@ def judged_answer(job, data):
 def judged_state(job, data):
     """What a state's bytes say for a job, as lines; or Wrong."""
     reader = Reader(data)
-    reader.magic(b"XGS1")
+    format = reader.format(b"XGS")
     load, text, cut = read_job(reader)
-    keys, aggregates = read_shape(reader)
+    keys, aggregates = read_shape(reader, format)
     cells = []
     for _ in cut:
         tag = reader.one_of((0, 1, 2), 9)

@@ -1,15 +1,21 @@
 """The files of which scripts/hostile/damage.py changes each byte: answers and states of several shapes, files of every
 kind of block, and cuts."""
-from formats import (AVG, COUNT, DICT, FRAME, GREATEST, INT, LEAST, MAX, MIN, PLAIN, ROWS, RUNS, SUM, TEXT, Job, answer_front,
-                     cut_front, fault_bytes, fragment_front, groups_bytes, payload, sealed, state_front, u32)
+from formats import (AVG, COUNT, COUNT_DISTINCT, DICT, FRAME, GREATEST, INT, LEAST, MAX, MIN, PLAIN, ROWS, RUNS, SUM, SUM_DISTINCT, TEXT,
+                     Job, answer_front, cut_front, fault_bytes, fragment_front, groups_bytes, payload, sealed, state_front, u32)
 
 COUNTED = Job(7, [2, 3], [], [(ROWS, 0)], "SELECT COUNT(*) FROM sales")
 KEYED = Job(7, [2, 3], [INT, TEXT], [(ROWS, 0), (COUNT, TEXT), (SUM, INT), (MIN, INT), (MAX, TEXT), (AVG, INT)], "Q")
 ROWWISE = Job(7, [2, 3], [TEXT], [], "Q", plain=True)
+DIFFERENT = Job(7, [2, 3], [TEXT], [(COUNT_DISTINCT, TEXT), (SUM_DISTINCT, INT), (ROWS, 0)], "Q")
 
 TWO_GROUPS = groups_bytes(KEYED, [
     ([None, b"ab"], 1, [(1, None), (0, None), (1, LEAST), (1, -5), (0, None), (1, 3)]),
     ([4, b""], 2, [(2, None), (1, None), (2, 9), (0, None), (2, b"yz"), (0, 0)]),
+])
+
+TWO_SETS = groups_bytes(DIFFERENT, [
+    ([None], 1, [(1, [b"ab"]), (0, []), (1, None)]),
+    ([b"k"], 2, [(2, [b"", b"ba"]), (2, [-1, 5]), (2, None)]),
 ])
 
 
@@ -22,6 +28,8 @@ ANSWERS = {
     "every aggregate": (KEYED, answer_front(KEYED, 1, TWO_GROUPS)),
     "a fault": (COUNTED, answer_front(COUNTED, 1, fault_bytes(4, 2))),
     "rows": (ROWWISE, answer_front(ROWWISE, 0, groups_bytes(ROWWISE, [([b"a"], 1, []), ([b"b"], 1, [])]))),
+    "sets": (DIFFERENT, answer_front(DIFFERENT, 1, TWO_SETS)),
+    "a count in the first format": (COUNTED, answer_front(COUNTED, 0, whole(2), b"XGA1")),
 }
 
 STATES = {
@@ -29,6 +37,8 @@ STATES = {
     "both": (COUNTED, state_front(COUNTED, [whole(2), whole(3)])),
     "a conflict and a fault": (COUNTED, state_front(COUNTED, ["conflict", fault_bytes(2, 1)])),
     "groups": (KEYED, state_front(KEYED, [None, TWO_GROUPS])),
+    "sets": (DIFFERENT, state_front(DIFFERENT, [None, TWO_SETS])),
+    "both in the first format": (COUNTED, state_front(COUNTED, [whole(2), whole(3)], b"XGS1")),
 }
 
 JOURNAL = b"XGJ1" + b"".join(

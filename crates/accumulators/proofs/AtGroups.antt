@@ -4,22 +4,13 @@ use Rattle.std.specs.List.{zip, enumerate_from}
 use Rattle.std.proofs.Common.{refl, sym, ap, subst, ◌∙◌, arith, inl, inr, get_or-set_same, get_or-set_other, length-set}
 use Rattle.std.proofs.Math.ListN.{drop_of_length-le}
 use Rattle.std.proofs.lemmas.Bool.{cases_eq}
-use Rattle.std.proofs.lemmas.Bool.Decides.{nat_tests}
 use Rattle.meaning.specs.declared.answer.Statistics.{Statistics}
 use Rattle.meaning.specs.Aggregate.{no_statistics, merge}
 use Rattle.accumulators.specs.Columns.{merged_at}
 use Rattle.aggregate_states.specs.Entries.{of_group}
 use Rattle.aggregate_states.specs.State.{most_entries}
 use Rattle.aggregate_states.proofs.Growing.{first_left}
-
-pub same : (p n : ℕ) → p ≡ n → (p == n) ≡ true
-same p n e = grind (arith, nat_tests)
-
-pub other : (p n : ℕ) → p < n → (p == n) ≡ false
-other p n l = grind (arith, nat_tests)
-
-pub other_above : (p n : ℕ) → n < p → (p == n) ≡ false
-other_above p n l = grind (arith, nat_tests)
+pub use Rattle.distinct_sets.proofs.Places.{same, other, other_above}
 
 module _ {X : Type 0} where
   pub of_group-here : (p n : ℕ) (x : X) (xs : List (ℕ × X)) → p ≡ n → of_group n ((p, x) ∷ xs) ≡ x ∷ of_group n xs

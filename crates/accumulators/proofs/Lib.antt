@@ -1,3 +1,4 @@
 -- The lemmas of this crate.
 pub mod AtGroups
 pub mod GroupLoops
+pub mod CellStates

@@ -12,6 +12,8 @@ kind_of (acc.Sum a) = kind.Sum
 kind_of (acc.Min a) = kind.Min
 kind_of (acc.Max a) = kind.Max
 kind_of (acc.Avg a) = kind.Avg
+kind_of (acc.CountDistinct a) = kind.CountDistinct
+kind_of (acc.SumDistinct a) = kind.SumDistinct
 
 abbrev pub held_by : AnyAcc → Statistics
 held_by (acc.CountRows a) = a
@@ -20,3 +22,5 @@ held_by (acc.Sum a) = a
 held_by (acc.Min a) = a
 held_by (acc.Max a) = a
 held_by (acc.Avg a) = a
+held_by (acc.CountDistinct a) = a
+held_by (acc.SumDistinct a) = a

@@ -1,16 +1,20 @@
 -- A column of states: one kind, and a state for each group by its group index.
-use Rattle.std.specs.Prelude.{ℕ, List, get_or, slice_set}
+use Rattle.std.specs.Prelude.{List, []}
 use Rattle.meaning.specs.declared.plan.AggregateKind.{AggregateKind}
 use Rattle.meaning.specs.declared.plan.AggregateKind.TheVariants as kind
 use Rattle.meaning.specs.declared.answer.Statistics.{Statistics}
-use Rattle.meaning.specs.Aggregate.{no_statistics, merge}
 use Rattle.accumulators.specs.declared.cells.Cells.{Cells}
 use Rattle.accumulators.specs.declared.cells.Cells.TheVariants as held
+pub use Rattle.distinct_sets.specs.Sets.{merged_at}
 
 -- its kind, and the states in the order of their group indexes
 pub record ColumnSpec : Type 0 where
   pub kind : AggregateKind
   pub states : List Statistics
+
+-- the column that is read where there is none
+abbrev pub no_column : ColumnSpec
+no_column = record { kind = kind.CountRows; states = [] }
 
 abbrev pub kind_of_cells : Cells → AggregateKind
 kind_of_cells (held.CountRows s) = kind.CountRows
@@ -19,6 +23,8 @@ kind_of_cells (held.Sum s) = kind.Sum
 kind_of_cells (held.Min s) = kind.Min
 kind_of_cells (held.Max s) = kind.Max
 kind_of_cells (held.Avg s) = kind.Avg
+kind_of_cells (held.CountDistinct s) = kind.CountDistinct
+kind_of_cells (held.SumDistinct s) = kind.SumDistinct
 
 abbrev pub states_in : Cells → List Statistics
 states_in (held.CountRows s) = s.items
@@ -27,10 +33,8 @@ states_in (held.Sum s) = s.items
 states_in (held.Min s) = s.items
 states_in (held.Max s) = s.items
 states_in (held.Avg s) = s.items
-
--- the states with one of them merged with another
-abbrev pub merged_at : List Statistics → ℕ → Statistics → List Statistics
-merged_at states group_index more = slice_set states group_index (merge (get_or states group_index no_statistics) more)
+states_in (held.CountDistinct s) = s
+states_in (held.SumDistinct s) = s
 
 -- the column with these states
 abbrev pub of_states : ColumnSpec → List Statistics → ColumnSpec

@@ -1,3 +1,5 @@
 -- The definitions of this crate.
 pub mod AnyAcc
+pub mod Cells
 pub mod Columns
+pub mod Ordered

@@ -59,7 +59,7 @@ pub trait Accumulator {
     ///
     /// # Errors
     ///
-    /// A sum outside 64 bits; of the least and the greatest, out of memory.
+    /// A sum outside 64 bits; of MIN, MAX and the kinds of DISTINCT, out of memory.
     fn evaluate(&self, alloc: Global) -> Result<Value, AggFault>
         ensures ok { IfOk result (λ v. value (kind self.now) (held self.now) ≡ Ok v) }
         ensures err { IfErr result (λ f. f ≡ SumOutOfRange

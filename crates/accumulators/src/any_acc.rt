@@ -5,8 +5,8 @@ ghost use Rattle.accumulators.specs.AnyAcc.{held_by, kind_of};
 
 use crate::accumulator::Accumulator;
 use crate::count_acc::CountAcc;
-use crate::max_acc::MaxAcc;
-use crate::min_acc::MinAcc;
+use crate::distinct_acc::DistinctAcc;
+use crate::extreme_acc::{MaxAcc, MinAcc};
 use crate::sum_acc::SumAcc;
 use aggregate_states::{AggFault, State};
 use meaning::{AggregateKind, Value};
@@ -22,11 +22,29 @@ pub enum AnyAcc {
     Min(MinAcc),
     Max(MaxAcc),
     Avg(SumAcc),
+    CountDistinct(DistinctAcc),
+    SumDistinct(DistinctAcc),
+}
+
+/// What is done with an accumulator of any kind. A kind is one line here.
+macro_rules! of_kind {
+    ($held:expr, $acc:ident => $of_acc:expr) => {
+        match $held {
+            AnyAcc::CountRows($acc) => $of_acc,
+            AnyAcc::Count($acc) => $of_acc,
+            AnyAcc::Sum($acc) => $of_acc,
+            AnyAcc::Min($acc) => $of_acc,
+            AnyAcc::Max($acc) => $of_acc,
+            AnyAcc::Avg($acc) => $of_acc,
+            AnyAcc::CountDistinct($acc) => $of_acc,
+            AnyAcc::SumDistinct($acc) => $of_acc,
+        }
+    };
 }
 
 impl AnyAcc {
     /// Of no entry.
-    pub fn new(kind: AggregateKind) -> AnyAcc
+    pub fn new(alloc: Global, kind: AggregateKind) -> AnyAcc
         ensures kind { kind_of result ≡ kind }
         ensures held { held_by result ≡ no_statistics }
     {
@@ -37,6 +55,8 @@ impl AnyAcc {
             AggregateKind::Min => AnyAcc::Min(MinAcc::new()),
             AggregateKind::Max => AnyAcc::Max(MaxAcc::new()),
             AggregateKind::Avg => AnyAcc::Avg(SumAcc::new()),
+            AggregateKind::CountDistinct => AnyAcc::CountDistinct(DistinctAcc::new(alloc)),
+            AggregateKind::SumDistinct => AnyAcc::SumDistinct(DistinctAcc::new(alloc)),
         }
     }
 
@@ -51,6 +71,8 @@ impl AnyAcc {
             AnyAcc::Min(_) => AggregateKind::Min,
             AnyAcc::Max(_) => AggregateKind::Max,
             AnyAcc::Avg(_) => AggregateKind::Avg,
+            AnyAcc::CountDistinct(_) => AggregateKind::CountDistinct,
+            AnyAcc::SumDistinct(_) => AggregateKind::SumDistinct,
         }
     }
 }
@@ -71,46 +93,29 @@ impl Accumulator for AnyAcc {
         lanes: &Vector<'_>,
         selection: &Selection,
     ) -> Result<(), AllocError> {
-        match self {
-            AnyAcc::CountRows(acc) => acc.update_batch(alloc, lanes, selection),
-            AnyAcc::Count(acc) => acc.update_batch(alloc, lanes, selection),
-            AnyAcc::Sum(acc) => acc.update_batch(alloc, lanes, selection),
-            AnyAcc::Min(acc) => acc.update_batch(alloc, lanes, selection),
-            AnyAcc::Max(acc) => acc.update_batch(alloc, lanes, selection),
-            AnyAcc::Avg(acc) => acc.update_batch(alloc, lanes, selection),
-        }
+        of_kind!(self, acc => acc.update_batch(alloc, lanes, selection))
     }
 
     fn merge_batch(&mut self, alloc: Global, states: &[State]) -> Result<(), AllocError> {
-        match self {
-            AnyAcc::CountRows(acc) => acc.merge_batch(alloc, states),
-            AnyAcc::Count(acc) => acc.merge_batch(alloc, states),
-            AnyAcc::Sum(acc) => acc.merge_batch(alloc, states),
-            AnyAcc::Min(acc) => acc.merge_batch(alloc, states),
-            AnyAcc::Max(acc) => acc.merge_batch(alloc, states),
-            AnyAcc::Avg(acc) => acc.merge_batch(alloc, states),
-        }
+        of_kind!(self, acc => acc.merge_batch(alloc, states))
     }
 
     fn state(&self, alloc: Global) -> Result<State, AllocError> {
-        match self {
-            AnyAcc::CountRows(acc) => acc.state(alloc),
-            AnyAcc::Count(acc) => acc.state(alloc),
-            AnyAcc::Sum(acc) => acc.state(alloc),
-            AnyAcc::Min(acc) => acc.state(alloc),
-            AnyAcc::Max(acc) => acc.state(alloc),
-            AnyAcc::Avg(acc) => acc.state(alloc),
-        }
+        of_kind!(self, acc => acc.state(alloc))
     }
 
     fn evaluate(&self, alloc: Global) -> Result<Value, AggFault> {
         match self {
-            AnyAcc::CountRows(acc) => acc.to_state().evaluate(alloc, AggregateKind::CountRows),
+            AnyAcc::CountRows(acc) => acc
+                .to_state(alloc)
+                .evaluate(alloc, AggregateKind::CountRows),
             AnyAcc::Count(acc) => acc.evaluate(alloc),
             AnyAcc::Sum(acc) => acc.evaluate(alloc),
             AnyAcc::Min(acc) => acc.evaluate(alloc),
             AnyAcc::Max(acc) => acc.evaluate(alloc),
-            AnyAcc::Avg(acc) => acc.to_state().evaluate(alloc, AggregateKind::Avg),
+            AnyAcc::Avg(acc) => acc.to_state(alloc).evaluate(alloc, AggregateKind::Avg),
+            AnyAcc::CountDistinct(acc) => acc.evaluate(alloc),
+            AnyAcc::SumDistinct(acc) => acc.evaluate_as(alloc, AggregateKind::SumDistinct),
         }
     }
 }

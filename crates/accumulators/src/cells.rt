@@ -11,12 +11,12 @@ ghost use Rattle.aggregate_states.specs.State.{most_entries};
 ghost use Rattle.aggregate_states.specs.Values.{is_spelled, selected};
 ghost use Rattle.vectors.specs.Vector.{values_of};
 
-use crate::accumulator::Accumulator;
+use crate::cell::{add_state_to, add_to, push_to, state_at, update_in};
 use crate::count_acc::CountAcc;
-use crate::max_acc::MaxAcc;
-use crate::min_acc::MinAcc;
+use crate::extreme_acc::{MaxAcc, MinAcc};
 use crate::sum_acc::SumAcc;
 use aggregate_states::State;
+use distinct_sets::Sets;
 use meaning::{AggregateKind, ValueRef};
 use std::alloc::{AllocError, Global};
 use vectors::{Selection, Vector};
@@ -30,38 +30,24 @@ pub enum Cells {
     Min(Vec<MinAcc>),
     Max(Vec<MaxAcc>),
     Avg(Vec<SumAcc>),
+    CountDistinct(Sets),
+    SumDistinct(Sets),
 }
 
-#[inline(always)]
-fn add_to_count(cells: &mut [CountAcc], group_index: usize, value: ValueRef<'_>)
-    requires group_index { group_index < length cells.old }
-    requires few { (slice_index_or cells.old group_index no_statistics).count < most_entries }
-    ensures { cells.new ≡ merged_at cells.old group_index
-        (state_of kind.Count (value_in value.entry ∷ [])) }
-{
-    let cell = &mut cells[group_index];
-    cell.add(value);
-}
-
-fn add_state_to_count(cells: &mut [CountAcc], group_index: usize, state: &State)
-    requires group_index { group_index < length cells.old }
-    requires few { (slice_index_or cells.old group_index no_statistics).count + state.now.count
-        ≤ most_entries }
-    ensures { cells.new ≡ merged_at cells.old group_index (kept_by kind.Count state.now) }
-{
-    let cell = &mut cells[group_index];
-    cell.add_state(state);
-}
-
-#[inline(always)]
-fn add_to_sum(cells: &mut [SumAcc], group_index: usize, value: ValueRef<'_>)
-    requires group_index { group_index < length cells.old }
-    requires few { (slice_index_or cells.old group_index no_statistics).count < most_entries }
-    ensures { cells.new ≡ merged_at cells.old group_index (state_of kind.Sum
-        (value_in value.entry ∷ [])) }
-{
-    let cell = &mut cells[group_index];
-    cell.add(value);
+/// What is done with states of any kind. A kind is one line here.
+macro_rules! of_kind {
+    ($held:expr, $cells:ident => $in_cells:expr, $sets:ident => $in_sets:expr) => {
+        match $held {
+            Cells::CountRows($cells) => $in_cells,
+            Cells::Count($cells) => $in_cells,
+            Cells::Sum($cells) => $in_cells,
+            Cells::Min($cells) => $in_cells,
+            Cells::Max($cells) => $in_cells,
+            Cells::Avg($cells) => $in_cells,
+            Cells::CountDistinct($sets) => $in_sets,
+            Cells::SumDistinct($sets) => $in_sets,
+        }
+    };
 }
 
 #[inline(always)]
@@ -89,175 +75,6 @@ fn add_ints_to_sums(cells: &mut [SumAcc], group_indexes: &[u32], ints: &[i64])
     }
 }
 
-fn add_state_to_sum(cells: &mut [SumAcc], group_index: usize, state: &State)
-    requires group_index { group_index < length cells.old }
-    requires few { (slice_index_or cells.old group_index no_statistics).count + state.now.count
-        ≤ most_entries }
-    ensures { cells.new ≡ merged_at cells.old group_index (kept_by kind.Sum state.now) }
-{
-    let cell = &mut cells[group_index];
-    cell.add_state(state);
-}
-
-fn add_to_min(
-    cells: &mut [MinAcc],
-    alloc: Global,
-    group_index: usize,
-    value: ValueRef<'_>,
-) -> Result<(), AllocError>
-    requires group_index { group_index < length cells.old }
-    requires few { (slice_index_or cells.old group_index no_statistics).count < most_entries }
-    requires spelled { is_spelled (value_in value) ≡ true }
-    ensures ok { OnOk result (cells.new ≡ merged_at cells.old group_index
-        (state_of kind.Min (value_in value.entry ∷ []))) }
-    ensures err { OnErr result (cells.new ≡ cells.old) }
-{
-    let cell = &mut cells[group_index];
-    cell.add(alloc, value)
-}
-
-fn add_state_to_min(
-    cells: &mut [MinAcc],
-    alloc: Global,
-    group_index: usize,
-    state: &State,
-) -> Result<(), AllocError>
-    requires group_index { group_index < length cells.old }
-    requires few { (slice_index_or cells.old group_index no_statistics).count + state.now.count
-        ≤ most_entries }
-    ensures ok { OnOk result (cells.new ≡ merged_at cells.old group_index
-        (kept_by kind.Min state.now)) }
-    ensures err { OnErr result (cells.new ≡ cells.old) }
-{
-    let cell = &mut cells[group_index];
-    cell.add_state(alloc, state)
-}
-
-fn add_to_max(
-    cells: &mut [MaxAcc],
-    alloc: Global,
-    group_index: usize,
-    value: ValueRef<'_>,
-) -> Result<(), AllocError>
-    requires group_index { group_index < length cells.old }
-    requires few { (slice_index_or cells.old group_index no_statistics).count < most_entries }
-    requires spelled { is_spelled (value_in value) ≡ true }
-    ensures ok { OnOk result (cells.new ≡ merged_at cells.old group_index
-        (state_of kind.Max (value_in value.entry ∷ []))) }
-    ensures err { OnErr result (cells.new ≡ cells.old) }
-{
-    let cell = &mut cells[group_index];
-    cell.add(alloc, value)
-}
-
-fn add_state_to_max(
-    cells: &mut [MaxAcc],
-    alloc: Global,
-    group_index: usize,
-    state: &State,
-) -> Result<(), AllocError>
-    requires group_index { group_index < length cells.old }
-    requires few { (slice_index_or cells.old group_index no_statistics).count + state.now.count
-        ≤ most_entries }
-    ensures ok { OnOk result (cells.new ≡ merged_at cells.old group_index
-        (kept_by kind.Max state.now)) }
-    ensures err { OnErr result (cells.new ≡ cells.old) }
-{
-    let cell = &mut cells[group_index];
-    cell.add_state(alloc, state)
-}
-
-/// Selected values more at one group index.
-fn update_count(
-    cells: &mut [CountAcc],
-    alloc: Global,
-    group_index: usize,
-    lanes: &Vector<'_>,
-    selection: &Selection,
-) -> Result<(), AllocError>
-    requires group_index { group_index < length cells.old }
-    requires lanes { length (values_of lanes.now) ≡ selection.now.below }
-    requires spelled { All (λ v. is_spelled v ≡ true) (values_of lanes.now) }
-    requires few { (slice_index_or cells.old group_index no_statistics).count
-        + length selection.now.list ≤ most_entries }
-    ensures ok { OnOk result
-        (cells.new ≡ merged_at cells.old group_index
-        (state_of kind.Count (selected (values_of lanes.now) selection.now.list))) }
-    ensures roomy { IsOk result }
-{
-    let cell = &mut cells[group_index];
-    cell.update_batch(alloc, lanes, selection)
-}
-
-fn update_sum(
-    cells: &mut [SumAcc],
-    alloc: Global,
-    group_index: usize,
-    lanes: &Vector<'_>,
-    selection: &Selection,
-) -> Result<(), AllocError>
-    requires group_index { group_index < length cells.old }
-    requires lanes { length (values_of lanes.now) ≡ selection.now.below }
-    requires spelled { All (λ v. is_spelled v ≡ true) (values_of lanes.now) }
-    requires few { (slice_index_or cells.old group_index no_statistics).count
-        + length selection.now.list ≤ most_entries }
-    ensures ok { OnOk result
-        (cells.new ≡ merged_at cells.old group_index
-        (state_of kind.Sum (selected (values_of lanes.now) selection.now.list))) }
-    ensures roomy { IsOk result }
-{
-    let cell = &mut cells[group_index];
-    cell.update_batch(alloc, lanes, selection)
-}
-
-fn update_min(
-    cells: &mut [MinAcc],
-    alloc: Global,
-    group_index: usize,
-    lanes: &Vector<'_>,
-    selection: &Selection,
-) -> Result<(), AllocError>
-    requires group_index { group_index < length cells.old }
-    requires lanes { length (values_of lanes.now) ≡ selection.now.below }
-    requires spelled { All (λ v. is_spelled v ≡ true) (values_of lanes.now) }
-    requires few { (slice_index_or cells.old group_index no_statistics).count
-        + length selection.now.list ≤ most_entries }
-    ensures ok { OnOk result
-        (cells.new ≡ merged_at cells.old group_index
-        (state_of kind.Min (selected (values_of lanes.now) selection.now.list))) }
-{
-    let cell = &mut cells[group_index];
-    cell.update_batch(alloc, lanes, selection)
-}
-
-fn update_max(
-    cells: &mut [MaxAcc],
-    alloc: Global,
-    group_index: usize,
-    lanes: &Vector<'_>,
-    selection: &Selection,
-) -> Result<(), AllocError>
-    requires group_index { group_index < length cells.old }
-    requires lanes { length (values_of lanes.now) ≡ selection.now.below }
-    requires spelled { All (λ v. is_spelled v ≡ true) (values_of lanes.now) }
-    requires few { (slice_index_or cells.old group_index no_statistics).count
-        + length selection.now.list ≤ most_entries }
-    ensures ok { OnOk result
-        (cells.new ≡ merged_at cells.old group_index
-        (state_of kind.Max (selected (values_of lanes.now) selection.now.list))) }
-{
-    let cell = &mut cells[group_index];
-    cell.update_batch(alloc, lanes, selection)
-}
-
-fn push_cell<A: Drop>(cells: &mut Vec<A>, cell: A) -> Result<(), AllocError>
-    ensures ok { OnOk result (cells.new.items ≡ cells.old.items ++ cell ∷ []) }
-    ensures err { OnErr result (cells.new.items ≡ cells.old.items) }
-{
-    cells.push(cell)?;
-    Ok(())
-}
-
 impl Cells {
     /// No state.
     pub fn new(alloc: Global, kind: AggregateKind) -> Cells
@@ -271,11 +88,13 @@ impl Cells {
             AggregateKind::Min => Cells::Min(Vec::new(alloc)),
             AggregateKind::Max => Cells::Max(Vec::new(alloc)),
             AggregateKind::Avg => Cells::Avg(Vec::new(alloc)),
+            AggregateKind::CountDistinct => Cells::CountDistinct(Sets::new(alloc)),
+            AggregateKind::SumDistinct => Cells::SumDistinct(Sets::new(alloc)),
         }
     }
 
     /// A copy, in memory of its own.
-    pub fn copy(&self) -> Result<Cells, AllocError>
+    pub fn copy(&self, alloc: Global) -> Result<Cells, AllocError>
         ensures kind { IfOk result (λ c. kind_of_cells c ≡ kind_of_cells self.now) }
         ensures states { IfOk result (λ c. states_in c ≡ states_in self.now) }
     {
@@ -286,6 +105,8 @@ impl Cells {
             Cells::Min(cells) => Ok(Cells::Min(cells.clone()?)),
             Cells::Max(cells) => Ok(Cells::Max(cells.clone()?)),
             Cells::Avg(cells) => Ok(Cells::Avg(cells.clone()?)),
+            Cells::CountDistinct(sets) => Ok(Cells::CountDistinct(sets.copy(alloc)?)),
+            Cells::SumDistinct(sets) => Ok(Cells::SumDistinct(sets.copy(alloc)?)),
         }
     }
 
@@ -293,14 +114,11 @@ impl Cells {
     pub fn len(&self) -> usize
         ensures { result ≡ length (states_in self.now) }
     {
-        match self {
-            Cells::CountRows(cells) => cells.len(),
-            Cells::Count(cells) => cells.len(),
-            Cells::Sum(cells) => cells.len(),
-            Cells::Min(cells) => cells.len(),
-            Cells::Max(cells) => cells.len(),
-            Cells::Avg(cells) => cells.len(),
-        }
+        of_kind!(
+            self,
+            cells => cells.len(),
+            sets => sets.len()
+        )
     }
 
     /// A state more, of no entry. On an error nothing changes.
@@ -309,14 +127,11 @@ impl Cells {
         ensures ok { OnOk result (states_in self.new ≡ states_in self.old ++ no_statistics ∷ []) }
         ensures err { OnErr result (states_in self.new ≡ states_in self.old) }
     {
-        match self {
-            Cells::CountRows(cells) => push_cell(cells, CountAcc::new()),
-            Cells::Count(cells) => push_cell(cells, CountAcc::new()),
-            Cells::Sum(cells) => push_cell(cells, SumAcc::new()),
-            Cells::Min(cells) => push_cell(cells, MinAcc::new()),
-            Cells::Max(cells) => push_cell(cells, MaxAcc::new()),
-            Cells::Avg(cells) => push_cell(cells, SumAcc::new()),
-        }
+        of_kind!(
+            self,
+            cells => push_to(cells),
+            sets => sets.push()
+        )
     }
 
     /// One value more in a state. On an error nothing changes.
@@ -338,29 +153,14 @@ impl Cells {
         ensures err { OnErr result (states_in self.new ≡ states_in self.old) }
         ensures roomy { has_one_size (kind_of_cells self.old) ≡ true → IsOk result }
     {
-        match self {
-            Cells::CountRows(cells) => {
-                add_to_count(cells.as_mut_slice(), group_index, value);
-                Ok(())
-            }
-            Cells::Count(cells) => {
-                add_to_count(cells.as_mut_slice(), group_index, value);
-                Ok(())
-            }
-            Cells::Sum(cells) => {
-                add_to_sum(cells.as_mut_slice(), group_index, value);
-                Ok(())
-            }
-            Cells::Min(cells) => add_to_min(cells.as_mut_slice(), alloc, group_index, value),
-            Cells::Max(cells) => add_to_max(cells.as_mut_slice(), alloc, group_index, value),
-            Cells::Avg(cells) => {
-                add_to_sum(cells.as_mut_slice(), group_index, value);
-                Ok(())
-            }
-        }
+        of_kind!(
+            self,
+            cells => add_to(cells.as_mut_slice(), alloc, group_index, value),
+            sets => sets.add(alloc, group_index, value)
+        )
     }
 
-    /// Selected values more in the state at one group index. On an error the states are open.
+    /// Selected values more in the state at one group index. On an error nothing changes.
     pub fn update_at(
         &mut self,
         alloc: Global,
@@ -379,28 +179,14 @@ impl Cells {
             (states_in self.new ≡ merged_at (states_in self.old) group_index
             (state_of (kind_of_cells self.old) (selected (values_of lanes.now)
             selection.now.list))) }
+        ensures err { OnErr result (states_in self.new ≡ states_in self.old) }
         ensures roomy { has_one_size (kind_of_cells self.old) ≡ true → IsOk result }
     {
-        match self {
-            Cells::CountRows(cells) => {
-                update_count(cells.as_mut_slice(), alloc, group_index, lanes, selection)
-            }
-            Cells::Count(cells) => {
-                update_count(cells.as_mut_slice(), alloc, group_index, lanes, selection)
-            }
-            Cells::Sum(cells) => {
-                update_sum(cells.as_mut_slice(), alloc, group_index, lanes, selection)
-            }
-            Cells::Min(cells) => {
-                update_min(cells.as_mut_slice(), alloc, group_index, lanes, selection)
-            }
-            Cells::Max(cells) => {
-                update_max(cells.as_mut_slice(), alloc, group_index, lanes, selection)
-            }
-            Cells::Avg(cells) => {
-                update_sum(cells.as_mut_slice(), alloc, group_index, lanes, selection)
-            }
-        }
+        of_kind!(
+            self,
+            cells => update_in(cells.as_mut_slice(), alloc, group_index, lanes, selection),
+            sets => sets.add_selected(alloc, group_index, lanes, selection)
+        )
     }
 
     /// Whether the states are sums.
@@ -451,26 +237,11 @@ impl Cells {
         ensures err { OnErr result (states_in self.new ≡ states_in self.old) }
         ensures roomy { has_one_size (kind_of_cells self.old) ≡ true → IsOk result }
     {
-        match self {
-            Cells::CountRows(cells) => {
-                add_state_to_count(cells.as_mut_slice(), group_index, state);
-                Ok(())
-            }
-            Cells::Count(cells) => {
-                add_state_to_count(cells.as_mut_slice(), group_index, state);
-                Ok(())
-            }
-            Cells::Sum(cells) => {
-                add_state_to_sum(cells.as_mut_slice(), group_index, state);
-                Ok(())
-            }
-            Cells::Min(cells) => add_state_to_min(cells.as_mut_slice(), alloc, group_index, state),
-            Cells::Max(cells) => add_state_to_max(cells.as_mut_slice(), alloc, group_index, state),
-            Cells::Avg(cells) => {
-                add_state_to_sum(cells.as_mut_slice(), group_index, state);
-                Ok(())
-            }
-        }
+        of_kind!(
+            self,
+            cells => add_state_to(cells.as_mut_slice(), alloc, group_index, state),
+            sets => sets.add_state(alloc, group_index, state)
+        )
     }
 
     /// The state at a group index.
@@ -479,13 +250,10 @@ impl Cells {
         ensures { IfOk result (λ s. s
             ≡ slice_index_or (states_in self.now) group_index no_statistics) }
     {
-        match self {
-            Cells::CountRows(cells) => cells[group_index].state(alloc),
-            Cells::Count(cells) => cells[group_index].state(alloc),
-            Cells::Sum(cells) => cells[group_index].state(alloc),
-            Cells::Min(cells) => cells[group_index].state(alloc),
-            Cells::Max(cells) => cells[group_index].state(alloc),
-            Cells::Avg(cells) => cells[group_index].state(alloc),
-        }
+        of_kind!(
+            self,
+            cells => state_at(cells.as_slice(), alloc, group_index),
+            sets => sets.state(alloc, group_index)
+        )
     }
 }

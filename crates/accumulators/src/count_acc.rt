@@ -11,8 +11,9 @@ ghost use Rattle.aggregate_states.specs.Values.{is_spelled, selected};
 ghost use Rattle.vectors.specs.Vector.{values_of};
 
 use crate::accumulator::Accumulator;
+use crate::cell::Cell;
 use aggregate_states::{AggFault, State, is_null, plain_ints, selected_value};
-use meaning::{AggregateKind, Statistics, Value, ValueRef};
+use meaning::{AggregateKind, Sequence, Statistics, Value, ValueRef};
 use std::alloc::{AllocError, Global};
 use std::marker::Model;
 use vectors::{Selection, Vector};
@@ -93,7 +94,7 @@ impl CountAcc {
     }
 
     /// The state.
-    pub fn to_state(&self) -> State
+    pub fn to_state(&self, alloc: Global) -> State
         ensures { result ≡ self.now }
     {
         State::from_statistics(Statistics {
@@ -101,6 +102,7 @@ impl CountAcc {
             sum: 0,
             least: None,
             greatest: None,
+            entries: Sequence::new(alloc),
         })
     }
 }
@@ -137,10 +139,39 @@ impl Accumulator for CountAcc {
     }
 
     fn state(&self, alloc: Global) -> Result<State, AllocError> {
-        Ok(self.to_state())
+        Ok(self.to_state(alloc))
     }
 
     fn evaluate(&self, alloc: Global) -> Result<Value, AggFault> {
-        self.to_state().evaluate(alloc, AggregateKind::Count)
+        self.to_state(alloc).evaluate(alloc, AggregateKind::Count)
+    }
+}
+
+impl Cell for CountAcc {
+    ghost use Rattle.meaning.specs.declared.plan.AggregateKind.TheVariants.{Count};
+    ghost use Rattle.std.specs.Prelude.{refl};
+    ghost use Rattle.accumulators.specs.Cells.{each_itself};
+
+    ghost keeps = { Count };
+
+    ghost states = { λ cells. cells };
+
+    ghost one_kind = { λ _. refl };
+
+    ghost each = { each_itself };
+
+    fn fresh() -> CountAcc {
+        CountAcc::new()
+    }
+
+    #[inline(always)]
+    fn take(&mut self, alloc: Global, value: ValueRef<'_>) -> Result<(), AllocError> {
+        self.add(value);
+        Ok(())
+    }
+
+    fn take_state(&mut self, alloc: Global, state: &State) -> Result<(), AllocError> {
+        self.add_state(state);
+        Ok(())
     }
 }

@@ -9,6 +9,7 @@ ghost use Rattle.aggregate_states.specs.Values.{is_spelled, selected};
 ghost use Rattle.vectors.specs.Vector.{values_of};
 
 use crate::cells::Cells;
+use crate::ordered_states::OrderedStates;
 use aggregate_states::{State, one_group_index, plain_ints, selected_value};
 use meaning::AggregateKind;
 use std::alloc::{AllocError, Global};
@@ -208,8 +209,8 @@ impl StateColumn {
         update_each(&mut self.cells, alloc, group_indexes, lanes, selection)
     }
 
-    /// Merges into the state at a group index that of all selected values. On an error the states
-    /// are open. What keeps no value of its own takes no memory.
+    /// Merges into the state at a group index that of all selected values. On an error nothing
+    /// changes. What keeps no value of its own takes no memory.
     pub fn update_at(
         &mut self,
         alloc: Global,
@@ -228,13 +229,15 @@ impl StateColumn {
             (self.new ≡ of_states self.old
             (merged_at self.old.states group_index
             (state_of self.old.kind (selected (values_of lanes.now) selection.now.list)))) }
+        ensures err { OnErr result (self.new ≡ self.old) }
         ensures roomy { has_one_size self.old.kind ≡ true → IsOk result }
     {
         self.cells.update_at(alloc, group_index, lanes, selection)
     }
 
     /// Merges into each state those at its group index. On an error the states are open. What keeps
-    /// no value of its own takes no memory.
+    /// no value of its own takes no memory. A column of sets refuses, as want of memory, a state whose
+    /// entries don't ascend.
     pub fn merge(
         &mut self,
         alloc: Global,
@@ -257,7 +260,8 @@ impl StateColumn {
     }
 
     /// Merges a state into the one at a group index. On an error nothing changes. What keeps no
-    /// value of its own takes no memory.
+    /// value of its own takes no memory. A column of sets refuses, as want of memory, a state whose
+    /// entries don't ascend.
     pub fn merge_at(
         &mut self,
         alloc: Global,
@@ -278,15 +282,22 @@ impl StateColumn {
     }
 
     /// A copy, in memory of its own.
-    pub fn copy(&self) -> Result<StateColumn, AllocError>
+    pub fn copy(&self, alloc: Global) -> Result<StateColumn, AllocError>
         ensures { IfOk result (λ c. c ≡ self.now) }
     {
         Ok(StateColumn {
-            cells: self.cells.copy()?,
+            cells: self.cells.copy(alloc)?,
         })
     }
 
-    /// The state of a group.
+    /// The states, to be handed out. Sets are put in order once.
+    pub fn ordered(&self, alloc: Global) -> Result<OrderedStates<'_>, AllocError>
+        ensures { IfOk result (λ states. states ≡ self.now) }
+    {
+        OrderedStates::of_cells(alloc, &self.cells)
+    }
+
+    /// The state of a group. To hand out several, use `ordered`.
     pub fn state(&self, alloc: Global, group_index: usize) -> Result<State, AllocError>
         requires { group_index < length self.now.states }
         ensures { IfOk result (λ s. s ≡ slice_index_or self.now.states group_index no_statistics) }

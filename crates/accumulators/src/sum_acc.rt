@@ -11,8 +11,9 @@ ghost use Rattle.aggregate_states.specs.Values.{is_spelled, selected};
 ghost use Rattle.vectors.specs.Vector.{values_of};
 
 use crate::accumulator::Accumulator;
+use crate::cell::Cell;
 use aggregate_states::{AggFault, State, Tally, plain_ints, selected_value};
-use meaning::{AggregateKind, Statistics, Value, ValueRef};
+use meaning::{AggregateKind, Sequence, Statistics, Value, ValueRef};
 use std::alloc::{AllocError, Global};
 use std::marker::Model;
 use vectors::{Selection, Vector};
@@ -94,7 +95,7 @@ impl SumAcc {
     }
 
     /// The state.
-    pub fn to_state(&self) -> State
+    pub fn to_state(&self, alloc: Global) -> State
         ensures { result ≡ self.now }
     {
         State::from_statistics(Statistics {
@@ -102,6 +103,7 @@ impl SumAcc {
             sum: self.tally.sum,
             least: None,
             greatest: None,
+            entries: Sequence::new(alloc),
         })
     }
 }
@@ -138,10 +140,39 @@ impl Accumulator for SumAcc {
     }
 
     fn state(&self, alloc: Global) -> Result<State, AllocError> {
-        Ok(self.to_state())
+        Ok(self.to_state(alloc))
     }
 
     fn evaluate(&self, alloc: Global) -> Result<Value, AggFault> {
-        self.to_state().evaluate(alloc, AggregateKind::Sum)
+        self.to_state(alloc).evaluate(alloc, AggregateKind::Sum)
+    }
+}
+
+impl Cell for SumAcc {
+    ghost use Rattle.meaning.specs.declared.plan.AggregateKind.TheVariants.{Sum};
+    ghost use Rattle.std.specs.Prelude.{refl};
+    ghost use Rattle.accumulators.specs.Cells.{each_itself};
+
+    ghost keeps = { Sum };
+
+    ghost states = { λ cells. cells };
+
+    ghost one_kind = { λ _. refl };
+
+    ghost each = { each_itself };
+
+    fn fresh() -> SumAcc {
+        SumAcc::new()
+    }
+
+    #[inline(always)]
+    fn take(&mut self, alloc: Global, value: ValueRef<'_>) -> Result<(), AllocError> {
+        self.add(value);
+        Ok(())
+    }
+
+    fn take_state(&mut self, alloc: Global, state: &State) -> Result<(), AllocError> {
+        self.add_state(state);
+        Ok(())
     }
 }

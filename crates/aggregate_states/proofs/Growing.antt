@@ -6,7 +6,7 @@ use Rattle.std.proofs.Math.ListN.{drop_of_length-le}
 use Rattle.meaning.specs.declared.value.Value.{Value}
 use Rattle.meaning.specs.declared.value.Value.TheVariants.{Null, Int, Text}
 use Rattle.meaning.specs.declared.plan.AggregateKind.{AggregateKind}
-use Rattle.meaning.specs.declared.plan.AggregateKind.TheVariants.{CountRows, Count, Sum, Min, Max, Avg}
+use Rattle.meaning.specs.declared.plan.AggregateKind.TheVariants.{CountRows, Count, Sum, Min, Max, Avg, CountDistinct, SumDistinct}
 use Rattle.meaning.specs.declared.answer.Statistics.{Statistics}
 use Rattle.meaning.specs.Aggregate.{no_statistics, merge, kept_by, present, statistics}
 use Rattle.meaning.proofs.Merge.{merge-comm, merge-assoc, merge-none}
@@ -28,6 +28,8 @@ state_of-none Sum = refl
 state_of-none Min = refl
 state_of-none Max = refl
 state_of-none Avg = refl
+state_of-none CountDistinct = refl
+state_of-none SumDistinct = refl
 
 pub merge-fresh : (s : Statistics) → merge s no_statistics ≡ s
 merge-fresh s = merge-comm s no_statistics ∙ merge-none s
@@ -72,13 +74,15 @@ module _ (kind : AggregateKind) (states : List Statistics) (start : Statistics) 
 
 -- ---- room
 
-pub kept_count : (kind : AggregateKind) (s : Statistics) → (kept_by kind s).count ≡ s.count
-kept_count CountRows s = refl
-kept_count Count s = refl
-kept_count Sum s = refl
-kept_count Min s = refl
-kept_count Max s = refl
-kept_count Avg s = refl
+pub kept_count : (kind : AggregateKind) (s : Statistics) → (kept_by kind s).count ≤ s.count
+kept_count CountRows s = omega arith
+kept_count Count s = omega arith
+kept_count Sum s = omega arith
+kept_count Min s = omega arith
+kept_count Max s = omega arith
+kept_count Avg s = omega arith
+kept_count CountDistinct s = omega arith
+kept_count SumDistinct s = omega arith
 
 abbrev pub all_entries : List Statistics → ℕ
 all_entries states = sum (map (λ (s : Statistics). s.count) states)
@@ -111,7 +115,7 @@ pub room_more : (kind : AggregateKind) (now new : Statistics) (v : Value) (entri
     → now.count + entries ≤ most_entries + k → new.count + entries ≤ most_entries + (k + 1)
 room_more kind now new v entries k is_new room =
     let count : new.count ≡ now.count + (state_of kind (v ∷ [])).count = ap (λ (s : Statistics). s.count) is_new in
-    let kept : (state_of kind (v ∷ [])).count ≡ length (present (v ∷ [])) = kept_count kind (statistics (v ∷ [])) in
+    let kept : (state_of kind (v ∷ [])).count ≤ length (present (v ∷ [])) = kept_count kind (statistics (v ∷ [])) in
     let one = present_one v in
     omega (arith, room, count, kept, one)
 
@@ -124,6 +128,10 @@ as_count (s ∷ states) = ap (merge (kept_by Count s)) (as_count states)
 pub as_sum : (states : List Statistics) → together Sum states ≡ together Avg states
 as_sum [] = refl
 as_sum (s ∷ states) = ap (merge (kept_by Sum s)) (as_sum states)
+
+pub as_distinct : (states : List Statistics) → together CountDistinct states ≡ together SumDistinct states
+as_distinct [] = refl
+as_distinct (s ∷ states) = ap (merge (kept_by CountDistinct s)) (as_distinct states)
 
 -- ---- integers all count
 

@@ -5,3 +5,5 @@ pub mod Means
 pub mod Spelled
 pub mod Plain
 pub mod PlainInts
+pub mod Keeping
+pub mod Once

@@ -1,5 +1,5 @@
 -- What each kind's own accumulator holds.
-use Rattle.std.specs.Prelude.{◌≡◌, ℕ, ℤ, Bool, true, false, ◌≤◌}
+use Rattle.std.specs.Prelude.{◌≡◌, ℕ, ℤ, Bool, true, false, ◌≤◌, List}
 use Rattle.std.specs.declared.cmp.Ordering.{Ordering}
 use Rattle.meaning.specs.declared.value.Value.{Value}
 use Rattle.meaning.specs.declared.plan.AggregateKind.{AggregateKind}
@@ -48,6 +48,13 @@ pub record IsExtreme (count : ℕ) (best : Value) : Type 0 where
   pub few : count ≤ most_entries
   pub spelled : is_spelled best ≡ true
 
+-- ---- sets
+
+abbrev pub set_state : List Value → Statistics
+set_state entries = record no_statistics { entries = entries }
+
+-- ---- kinds
+
 -- what an aggregate of this kind keeps is a count and a sum
 abbrev pub keeps_sums : AggregateKind → Bool
 keeps_sums kind.CountRows = false
@@ -56,8 +63,8 @@ keeps_sums kind.Sum = true
 keeps_sums kind.Avg = true
 keeps_sums kind.Min = false
 keeps_sums kind.Max = false
-
--- ---- memory
+keeps_sums kind.CountDistinct = false
+keeps_sums kind.SumDistinct = false
 
 -- what an aggregate of this kind keeps has one size
 abbrev pub has_one_size : AggregateKind → Bool
@@ -67,3 +74,5 @@ has_one_size kind.Sum = true
 has_one_size kind.Avg = true
 has_one_size kind.Min = false
 has_one_size kind.Max = false
+has_one_size kind.CountDistinct = false
+has_one_size kind.SumDistinct = false

@@ -1,5 +1,6 @@
 -- What a state can hold.
 use Rattle.std.specs.Prelude.{◌≡◌, ℕ, ℤ, pos, ◌≤◌, ◌*ℤ◌, ◌≤ℤ◌, Bool, true, not, ◌&&◌, Option, Some, None}
+use Rattle.std.specs.List.{list_all}
 use Rattle.meaning.specs.declared.value.Value.{Value}
 use Rattle.meaning.specs.declared.answer.Statistics.{Statistics}
 use Rattle.meaning.specs.Order.{is_null}
@@ -20,9 +21,10 @@ pub record IsSumOf (count : ℕ) (sum : ℤ) : Type 0 where
   pub low : (pos count *ℤ least_integer) ≤ℤ sum
   pub high : sum ≤ℤ (pos count *ℤ greatest_integer)
 
--- at most 2^32 entries, the sum of so many integers of 64 bits, and extremes that are entries
+-- at most 2^32 entries, the sum of so many integers of 64 bits, extremes that are entries, and a set of values whose texts are UTF-8
 pub record IsState (s : Statistics) : Type 0 where
   pub count : s.count ≤ most_entries
   pub sum : IsSumOf s.count s.sum
   pub least : is_extreme s.least ≡ true
   pub greatest : is_extreme s.greatest ≡ true
+  pub entries : list_all is_spelled s.entries ≡ true

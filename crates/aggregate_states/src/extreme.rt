@@ -14,7 +14,7 @@ ghost use Rattle.vectors.specs.Vector.{values_of};
 use crate::end::{End, beats, is_null};
 use crate::lanes::{owned, plain_ints, selected_value};
 use crate::state::{State, unless_null};
-use meaning::{Statistics, Value, ValueRef};
+use meaning::{Sequence, Statistics, Value, ValueRef};
 use std::alloc::{AllocError, Global};
 use vectors::{Selection, Vector};
 
@@ -257,12 +257,14 @@ impl Extreme {
                 sum: 0,
                 least: best,
                 greatest: None,
+                entries: Sequence::new(alloc),
             },
             End::Greatest => Statistics {
                 count: self.count,
                 sum: 0,
                 least: None,
                 greatest: best,
+                entries: Sequence::new(alloc),
             },
         }))
     }

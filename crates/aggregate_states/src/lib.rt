@@ -3,6 +3,7 @@
 #![tactic(auto)]
 
 mod end;
+mod entries;
 mod evaluating;
 mod extreme;
 mod fault;

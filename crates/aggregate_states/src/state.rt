@@ -1,26 +1,28 @@
 //! What is known of some entries.
-ghost use Rattle.std.specs.Prelude.{◌≡◌, ◌≤◌, ◌+◌, true, Ok, Err, IfOk, IfErr};
+ghost use Rattle.std.specs.Prelude.{◌≡◌, ◌≤◌, ◌+◌, true, All, Ok, Err, IfOk, IfErr};
+ghost use Rattle.std.specs.List.{list_all};
 ghost use Rattle.std.specs.Ordering.{ord_min};
 ghost use Rattle.meaning.specs.declared.plan.AggregateKind.TheVariants as kind;
 ghost use Rattle.meaning.specs.Aggregate.{merge, no_statistics, value};
 ghost use Rattle.meaning.specs.Operators.{sum_out_of_range};
-ghost use Rattle.meaning.specs.Order.{lesser, value_in};
+ghost use Rattle.meaning.specs.Order.{ascending_set, is_ascending, lesser, value_cmp, value_in};
 ghost use Rattle.aggregate_states.specs.declared.fault.AggFault.TheVariants.{SumOutOfRange};
 ghost use Rattle.aggregate_states.specs.State.{is_extreme, most_entries, IsState};
-ghost use Rattle.aggregate_states.specs.Kinds.{cmp_from, has_one_size, IsSum};
+ghost use Rattle.aggregate_states.specs.Kinds.{cmp_from, has_one_size, set_state, IsSum};
 ghost use Rattle.aggregate_states.specs.Values.{entry, is_spelled};
 
 use crate::end::{End, comes_first};
-use crate::evaluating::{average, count_value, sum_value};
+use crate::entries::{ascends, copied, sort_once, total_of, united};
+use crate::evaluating::{average, count_value, size_value, sum_value};
 use crate::fault::AggFault;
 use crate::lanes::owned;
 use crate::tally::Tally;
-use meaning::{AggregateKind, Statistics, Value, ValueRef};
+use meaning::{AggregateKind, Sequence, Statistics, Value, ValueRef};
 use std::alloc::{AllocError, Global};
 use std::marker::Model;
 
-/// What is known of a list of values that are not NULL. What an aggregate does not keep is 0 or
-/// `None`. Contracts see the statistics.
+/// What is known of a list of values that are not NULL. What an aggregate does not keep is 0, `None`
+/// or empty. Contracts see the statistics.
 #[derive(PartialEq, Eq, Drop)]
 pub struct State {
     statistics: Statistics,
@@ -95,8 +97,16 @@ fn nearer(end: End, one: Option<Value>, other: Option<Value>) -> Option<Value>
 
 impl State {
     /// The state of no entry.
-    pub fn new() -> State
+    pub fn new(alloc: Global) -> State
         ensures { result ≡ no_statistics }
+    {
+        State::of_entries(Sequence::new(alloc))
+    }
+
+    /// The state that keeps these entries alone.
+    pub fn of_entries(entries: Sequence<Value>) -> State
+        requires { list_all is_spelled entries ≡ true }
+        ensures { result ≡ set_state entries }
     {
         State {
             statistics: Statistics {
@@ -104,8 +114,19 @@ impl State {
                 sum: 0,
                 least: None,
                 greatest: None,
+                entries,
             },
         }
+    }
+
+    /// The state that keeps the set of these values alone.
+    pub fn of_values(values: Vec<Value>) -> Result<State, AllocError>
+        requires { list_all is_spelled values.items ≡ true }
+        ensures { IfOk result (λ s. s ≡ set_state (ascending_set value_cmp values.items)) }
+    {
+        let mut values = values;
+        sort_once(&mut values)?;
+        Ok(State::of_entries(Sequence::from_vec(values)))
     }
 
     /// Statistics as a state.
@@ -117,19 +138,23 @@ impl State {
     }
 
     /// What is known of the entries of both.
-    pub fn merge(self, other: State) -> State
+    pub fn merge(self, other: State) -> Result<State, AllocError>
         requires { self.count + other.count ≤ most_entries }
-        ensures { result ≡ merge self other }
+        ensures { IfOk result (λ s. s ≡ merge self other) }
     {
         let one = self.into_statistics();
         let other = other.into_statistics();
         let tally = tally_of(&one).plus(tally_of(&other));
-        State::from_statistics(Statistics {
+        let least = nearer(End::Least, one.least, other.least);
+        let greatest = nearer(End::Greatest, one.greatest, other.greatest);
+        let entries = united(one.entries, other.entries)?;
+        Ok(State::from_statistics(Statistics {
             count: tally.count,
             sum: tally.sum,
-            least: nearer(End::Least, one.least, other.least),
-            greatest: nearer(End::Greatest, one.greatest, other.greatest),
-        })
+            least,
+            greatest,
+            entries,
+        }))
     }
 
     /// The statistics alone.
@@ -173,18 +198,36 @@ impl State {
         lent(&self.statistics.greatest)
     }
 
+    /// The set of entries, of what keeps one.
+    pub fn entries(&self) -> &[Value]
+        ensures value { result.now ≡ self.now.entries }
+        ensures spelled { All (λ v. is_spelled v ≡ true) result.now }
+        ensures texts { list_all is_spelled result.now ≡ true }
+    {
+        self.statistics.entries.as_slice()
+    }
+
+    /// Whether its entries are a set: each is less than the next.
+    pub fn has_set(&self) -> bool
+        ensures { result ≡ is_ascending value_cmp self.now.entries }
+    {
+        ascends(self.entries())
+    }
+
     /// A copy.
     pub fn copy(&self, alloc: Global) -> Result<State, AllocError>
         ensures { IfOk result (λ s. s ≡ self.now) }
     {
         let least = owned(alloc, self.least())?;
         let greatest = owned(alloc, self.greatest())?;
+        let entries = copied(alloc, self.entries())?;
         Ok(State {
             statistics: Statistics {
                 count: self.statistics.count,
                 sum: self.statistics.sum,
                 least: unless_null(least),
                 greatest: unless_null(greatest),
+                entries,
             },
         })
     }
@@ -209,11 +252,24 @@ impl State {
         average(self.statistics.count, self.statistics.sum)
     }
 
+    fn evaluate_distinct_sum(&self) -> Result<Value, AggFault>
+        ensures ok { IfOk result (λ v. value kind.SumDistinct self.now ≡ Ok v) }
+        ensures err { IfErr result (λ f. f ≡ SumOutOfRange) }
+        ensures out { IfErr result (λ f. value kind.SumDistinct self.now ≡ Err sum_out_of_range) }
+    {
+        let entries = self.entries();
+        if entries.is_empty() {
+            return Ok(Value::Null);
+        }
+        sum_value(total_of(entries))
+    }
+
     /// The value of an aggregate of this kind with this state.
     ///
     /// # Errors
     ///
-    /// A sum outside 64 bits; of the least and the greatest, out of memory.
+    /// A sum outside 64 bits; of the least, the greatest and more entries than 64 bits count, out of
+    /// memory.
     pub fn evaluate(&self, alloc: Global, kind: AggregateKind) -> Result<Value, AggFault>
         ensures ok { IfOk result (λ v. value kind self.now ≡ Ok v) }
         ensures err { IfErr result (λ f. f ≡ SumOutOfRange
@@ -227,6 +283,8 @@ impl State {
             AggregateKind::Avg => Ok(self.evaluate_average()),
             AggregateKind::Min => Ok(owned(alloc, self.least())?),
             AggregateKind::Max => Ok(owned(alloc, self.greatest())?),
+            AggregateKind::CountDistinct => size_value(self.entries()),
+            AggregateKind::SumDistinct => self.evaluate_distinct_sum(),
         }
     }
 }

@@ -44,6 +44,8 @@ integer_result kinds.Sum = refl
 integer_result kinds.Min = refl
 integer_result kinds.Max = refl
 integer_result kinds.Avg = refl
+integer_result kinds.CountDistinct = refl
+integer_result kinds.SumDistinct = refl
 
 not_plain : true ≡ false → ⊥
 not_plain e = cc

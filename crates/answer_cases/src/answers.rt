@@ -5,11 +5,17 @@ ghost use Rattle.partial_codec.specs.State.{FitsState};
 use crate::jobs::{NO_JOB, shaped_job_of};
 use aggregate_states::Group;
 use case_files::bytes_of;
-use meaning::{Answer, Body, Cell, ValueRef};
-use partial_codec::{DecodeFault, Job, decode, decode_state, encode, encode_state};
+use meaning::{Answer, Body, Cell, Value, ValueRef};
+use partial_codec::{
+    Content, DecodeFault, Format, Job, decode, decode_state, encode, encode_state,
+};
 use std::alloc::{AllocError, Global};
 use std::fmt::Write;
 use std::mem::drop;
+
+const MAGIC_BYTES: usize = 4;
+
+const SEAL_BYTES: usize = 32;
 
 fn show_value(shown: &mut String, value: ValueRef<'_>) -> Result<(), AllocError> {
     match value {
@@ -33,6 +39,17 @@ fn show_extreme(shown: &mut String, name: &str, value: ValueRef<'_>) -> Result<(
     }
 }
 
+// The entries of a set that has any.
+fn show_entries(shown: &mut String, entries: &[Value]) -> Result<(), AllocError> {
+    let mut between = ", entries ";
+    for entry in entries {
+        shown.push_str(between)?;
+        show_value(shown, entry.as_value_ref())?;
+        between = " ";
+    }
+    Ok(())
+}
+
 fn show_group(shown: &mut String, group: &Group) -> Result<(), AllocError> {
     for value in group.key().as_slice() {
         shown.push_str("key ")?;
@@ -44,6 +61,7 @@ fn show_group(shown: &mut String, group: &Group) -> Result<(), AllocError> {
         write!(shown, ", count {}, sum {}", state.count(), state.sum())?;
         show_extreme(shown, "least", state.least())?;
         show_extreme(shown, "greatest", state.greatest())?;
+        show_entries(shown, state.entries())?;
     }
     shown.push_str("\n")
 }
@@ -68,9 +86,31 @@ fn show_cell(shown: &mut String, cell: &Cell<Group>) -> Result<(), AllocError> {
     }
 }
 
-// What was read, spelled again, has the bytes that were read.
-fn show_spelling(shown: &mut String, read: &[u8], again: &[u8]) -> Result<(), AllocError> {
-    if read == again {
+// What stands between the magic and the seal.
+fn fields(bytes: &[u8]) -> &[u8] {
+    if bytes.len() < MAGIC_BYTES + SEAL_BYTES {
+        return bytes;
+    }
+    &bytes[MAGIC_BYTES..bytes.len() - SEAL_BYTES]
+}
+
+// Whether what was read is spelled in the newest format, with the same bytes where it was read in
+// that format, and else with the same fields.
+fn is_spelled_again(content: Content, read: &[u8], again: &[u8]) -> bool {
+    let magic = Format::newest().magic(content);
+    if read.starts_with(&magic) {
+        return read == again;
+    }
+    again.starts_with(&magic) && fields(read) == fields(again)
+}
+
+fn show_spelling(
+    shown: &mut String,
+    content: Content,
+    read: &[u8],
+    again: &[u8],
+) -> Result<(), AllocError> {
+    if is_spelled_again(content, read, again) {
         writeln!(shown, "{} bytes", read.len())
     } else {
         shown.push_str("(spelled again it has other bytes)\n")
@@ -93,7 +133,7 @@ fn answer_lines(
     let mut shown = String::new(alloc);
     writeln!(shown, "fragment {}", answer.k)?;
     show_body(&mut shown, &answer.body)?;
-    show_spelling(&mut shown, bytes, again.as_slice())?;
+    show_spelling(&mut shown, Content::Answer, bytes, again.as_slice())?;
     Ok(shown)
 }
 
@@ -121,7 +161,7 @@ fn state_lines(
     for cell in cells {
         show_cell(&mut shown, cell)?;
     }
-    show_spelling(&mut shown, bytes, again.as_slice())?;
+    show_spelling(&mut shown, Content::State, bytes, again.as_slice())?;
     Ok(shown)
 }
 

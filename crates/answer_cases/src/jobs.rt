@@ -105,6 +105,7 @@ fn with_parts(
         order: Sequence::new(alloc),
         limit: None,
         plain: false,
+        distinct: false,
     }
 }
 

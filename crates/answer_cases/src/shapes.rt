@@ -33,6 +33,8 @@ fn kind_of(word: &str) -> Option<AggregateKind> {
         "min" => Some(AggregateKind::Min),
         "max" => Some(AggregateKind::Max),
         "avg" => Some(AggregateKind::Avg),
+        "count-distinct" => Some(AggregateKind::CountDistinct),
+        "sum-distinct" => Some(AggregateKind::SumDistinct),
         _ => None,
     }
 }
@@ -107,6 +109,7 @@ fn plan_with(
         order: Sequence::new(alloc),
         limit: None,
         plain,
+        distinct: false,
     }
 }
 

@@ -4,32 +4,36 @@ use crate::cursor::Cursor;
 use crate::damage::Stop;
 use crate::detail::Detail;
 use crate::job_head::{put_head, put_shape, take_head, take_shape};
+use partial_codec::Format;
 use std::alloc::Global;
 
-/// Shows an answer, behind its magic.
+/// Shows an answer in this format, behind its magic.
 pub fn show_answer(
     alloc: Global,
     cursor: &mut Cursor<'_>,
+    format: Format,
     size: usize,
     detail: Detail,
     out: &mut String,
 ) -> Result<(), Stop> {
-    writeln!(out, "answer, {size} bytes")?;
+    let number = format.number();
+    writeln!(out, "answer in format {number}, {size} bytes")?;
     let head = take_head(cursor)?;
     put_head(out, &head)?;
     let fragment = cursor.take_u32("the fragment")?;
     writeln!(out, "fragment {fragment}")?;
-    show_shaped(alloc, cursor, detail, out)
+    show_shaped(alloc, cursor, format, detail, out)
 }
 
 /// Shows the shape of the groups and the body.
 fn show_shaped(
     alloc: Global,
     cursor: &mut Cursor<'_>,
+    format: Format,
     detail: Detail,
     out: &mut String,
 ) -> Result<(), Stop> {
-    let shape = take_shape(alloc, cursor)?;
+    let shape = take_shape(alloc, cursor, format)?;
     put_shape(out, &shape)?;
     show_body(alloc, cursor, &shape, detail, out)?;
     cursor.take_seal()

@@ -23,16 +23,38 @@ fn take_text_value<'a>(cursor: &mut Cursor<'a>, field: &'static str) -> Result<V
     Ok(ValueRef::Text(text.as_bytes()))
 }
 
+fn show_count(cursor: &mut Cursor<'_>, out: &mut String) -> Result<(), Stop> {
+    let count = cursor.take_u32("how many values aren't NULL")?;
+    write!(out, " of {count}")?;
+    Ok(())
+}
+
 fn show_sum(cursor: &mut Cursor<'_>, out: &mut String) -> Result<(), Stop> {
+    show_count(cursor, out)?;
     let sum = cursor.take_i128("a sum")?;
     write!(out, ", sum {sum}")?;
     Ok(())
 }
 
 fn show_extreme(cursor: &mut Cursor<'_>, word: &str, out: &mut String) -> Result<(), Stop> {
+    show_count(cursor, out)?;
     let value = take_value(cursor, "a least or greatest value")?;
     out.push_str(word)?;
     put_value(out, value)?;
+    Ok(())
+}
+
+/// Shows how many entries a set has, and each of them.
+fn show_set(cursor: &mut Cursor<'_>, out: &mut String) -> Result<(), Stop> {
+    let count = cursor.take_u32("how many entries a set has")?;
+    write!(out, " of {count}")?;
+    let mut between = ": ";
+    for _ in 0..count {
+        let value = take_value(cursor, "an entry of a set")?;
+        out.push_str(between)?;
+        put_value(out, value)?;
+        between = ", ";
+    }
     Ok(())
 }
 
@@ -44,13 +66,12 @@ fn show_statistics(
 ) -> Result<(), Stop> {
     out.push_str("; ")?;
     put_aggregate(out, aggregate)?;
-    let count = cursor.take_u32("how many values aren't NULL")?;
-    write!(out, " of {count}")?;
     match aggregate.kind {
-        AggregateKind::CountRows | AggregateKind::Count => Ok(()),
+        AggregateKind::CountRows | AggregateKind::Count => show_count(cursor, out),
         AggregateKind::Sum | AggregateKind::Avg => show_sum(cursor, out),
         AggregateKind::Min => show_extreme(cursor, ", least ", out),
         AggregateKind::Max => show_extreme(cursor, ", greatest ", out),
+        AggregateKind::CountDistinct | AggregateKind::SumDistinct => show_set(cursor, out),
     }
 }
 

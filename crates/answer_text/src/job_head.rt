@@ -1,9 +1,10 @@
 //! What answers and states say of their job: load, query, cut and the shape of groups.
 use crate::cursor::Cursor;
 use crate::damage::{Stop, Wrong};
-use crate::values::{aggregate_word, type_word};
+use crate::values::{aggregate_words, type_word};
 use byteorder::{ByteOrder, LittleEndian};
 use meaning::{AggregateKind, ColType};
+use partial_codec::Format;
 use std::alloc::{AllocError, Global};
 
 /// An aggregate of a shape. COUNT(*) has no argument.
@@ -88,8 +89,7 @@ fn take_type(cursor: &mut Cursor<'_>, field: &'static str) -> Result<ColType, St
     }
 }
 
-fn take_kind(cursor: &mut Cursor<'_>) -> Result<AggregateKind, Stop> {
-    let field = "an aggregate's kind";
+fn take_any_kind(cursor: &mut Cursor<'_>, field: &'static str) -> Result<AggregateKind, Stop> {
     match cursor.take_u8(field)? {
         1 => Ok(AggregateKind::CountRows),
         2 => Ok(AggregateKind::Count),
@@ -97,8 +97,20 @@ fn take_kind(cursor: &mut Cursor<'_>) -> Result<AggregateKind, Stop> {
         4 => Ok(AggregateKind::Min),
         5 => Ok(AggregateKind::Max),
         6 => Ok(AggregateKind::Avg),
+        7 => Ok(AggregateKind::CountDistinct),
+        8 => Ok(AggregateKind::SumDistinct),
         _ => Err(cursor.refuse(Wrong::Unknown, field)),
     }
+}
+
+/// A kind that the format has.
+fn take_kind(cursor: &mut Cursor<'_>, format: Format) -> Result<AggregateKind, Stop> {
+    let field = "an aggregate's kind";
+    let kind = take_any_kind(cursor, field)?;
+    if !format.has_kind(kind) {
+        return Err(cursor.refuse(Wrong::Unknown, field));
+    }
+    Ok(kind)
 }
 
 /// The byte where the type of an argument stands, of COUNT(*).
@@ -110,8 +122,8 @@ fn take_no_argument(cursor: &mut Cursor<'_>) -> Result<Option<ColType>, Stop> {
     }
 }
 
-fn take_aggregate(cursor: &mut Cursor<'_>) -> Result<AggregateShape, Stop> {
-    let kind = take_kind(cursor)?;
+fn take_aggregate(cursor: &mut Cursor<'_>, format: Format) -> Result<AggregateShape, Stop> {
+    let kind = take_kind(cursor, format)?;
     let argument = match kind {
         AggregateKind::CountRows => take_no_argument(cursor)?,
         _ => Some(take_type(cursor, "an argument's type")?),
@@ -128,29 +140,33 @@ fn take_keys(alloc: Global, cursor: &mut Cursor<'_>) -> Result<Vec<ColType>, Sto
     Ok(keys)
 }
 
-fn take_aggregates(alloc: Global, cursor: &mut Cursor<'_>) -> Result<Vec<AggregateShape>, Stop> {
+fn take_aggregates(
+    alloc: Global,
+    cursor: &mut Cursor<'_>,
+    format: Format,
+) -> Result<Vec<AggregateShape>, Stop> {
     let count = cursor.take_u16("the number of aggregates")?;
     let mut aggregates = Vec::new(alloc);
     for _ in 0..count {
-        aggregates.push(take_aggregate(cursor)?)?;
+        aggregates.push(take_aggregate(cursor, format)?)?;
     }
     Ok(aggregates)
 }
 
-pub fn take_shape(alloc: Global, cursor: &mut Cursor<'_>) -> Result<Shape, Stop> {
+pub fn take_shape(alloc: Global, cursor: &mut Cursor<'_>, format: Format) -> Result<Shape, Stop> {
     let keys = take_keys(alloc, cursor)?;
-    let aggregates = take_aggregates(alloc, cursor)?;
+    let aggregates = take_aggregates(alloc, cursor, format)?;
     Ok(Shape { keys, aggregates })
 }
 
 /// Writes an aggregate with the type of its argument.
 pub fn put_aggregate(out: &mut String, aggregate: AggregateShape) -> Result<(), AllocError> {
-    let word = aggregate_word(aggregate.kind);
+    let (word, before) = aggregate_words(aggregate.kind);
     let argument = match aggregate.argument {
         Some(col_type) => type_word(col_type),
         None => "*",
     };
-    write!(out, "{word}({argument})")
+    write!(out, "{word}({before}{argument})")
 }
 
 fn put_keys(out: &mut String, keys: &[ColType]) -> Result<(), AllocError> {

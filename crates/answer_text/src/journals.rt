@@ -4,17 +4,20 @@ use crate::cursor::Cursor;
 use crate::damage::{Stop, Wrong};
 use crate::detail::Detail;
 use crate::job_head::{put_head, put_shape, take_head, take_shape};
+use partial_codec::{Content, Format, format_in};
 use std::alloc::Global;
 
 /// The most records that a journal has.
 const MOST_RECORDS: u32 = 1 << 20;
 
-fn take_magic(cursor: &mut Cursor<'_>) -> Result<(), Stop> {
+/// The format of an answer, which its magic says.
+fn take_format(cursor: &mut Cursor<'_>) -> Result<Format, Stop> {
     let field = "the magic of an answer";
-    if cursor.take_bytes(4, field)? != b"XGA1".as_slice() {
-        return Err(cursor.refuse(Wrong::OtherMagic, field));
+    let magic = cursor.take_bytes(4, field)?;
+    match format_in(Content::Answer, magic) {
+        Some(format) => Ok(format),
+        None => Err(cursor.refuse(Wrong::OtherMagic, field)),
     }
-    Ok(())
 }
 
 /// Shows the answer of a record, behind what its job is where it is the first.
@@ -27,17 +30,18 @@ fn show_answer_of(
 ) -> Result<(), Stop> {
     let at = cursor.at();
     let size = cursor.left();
-    take_magic(cursor)?;
+    let format = take_format(cursor)?;
     let head = take_head(cursor)?;
     let fragment = cursor.take_u32("the fragment")?;
-    let shape = take_shape(alloc, cursor)?;
+    let shape = take_shape(alloc, cursor, format)?;
     if number == 0 {
         put_head(out, &head)?;
         put_shape(out, &shape)?;
     }
+    let numbered = format.number();
     write!(
         out,
-        "record {number} at byte {at}, {size} bytes, fragment {fragment}: "
+        "record {number} at byte {at}, {size} bytes in format {numbered}, fragment {fragment}: "
     )?;
     show_body(alloc, cursor, &shape, detail, out)?;
     cursor.take_seal()

@@ -5,6 +5,7 @@ use crate::damage::{Stop, Wrong};
 use crate::detail::Detail;
 use crate::job_head::{Shape, put_head, put_shape, take_head, take_shape};
 use crate::numbers::put_ranges;
+use partial_codec::Format;
 use std::alloc::{AllocError, Global};
 
 /// The fragments of which there is an answer, of which there is none, and whose answers differ.
@@ -100,18 +101,20 @@ fn show_fragments(
     shown
 }
 
-/// Shows a state, behind its magic.
+/// Shows a state in this format, behind its magic.
 pub fn show_state(
     alloc: Global,
     cursor: &mut Cursor<'_>,
+    format: Format,
     size: usize,
     detail: Detail,
     out: &mut String,
 ) -> Result<(), Stop> {
-    writeln!(out, "state, {size} bytes")?;
+    let number = format.number();
+    writeln!(out, "state in format {number}, {size} bytes")?;
     let head = take_head(cursor)?;
     put_head(out, &head)?;
-    let shape = take_shape(alloc, cursor)?;
+    let shape = take_shape(alloc, cursor, format)?;
     put_shape(out, &shape)?;
     show_fragments(alloc, cursor, &shape, head.fragments, detail, out)?;
     cursor.take_seal()

@@ -10,13 +10,16 @@ pub fn type_word(col_type: ColType) -> &'static str {
     }
 }
 
-pub fn aggregate_word(kind: AggregateKind) -> &'static str {
+/// An aggregate's word, and what stands before its argument.
+pub fn aggregate_words(kind: AggregateKind) -> (&'static str, &'static str) {
     match kind {
-        AggregateKind::CountRows | AggregateKind::Count => "COUNT",
-        AggregateKind::Sum => "SUM",
-        AggregateKind::Min => "MIN",
-        AggregateKind::Max => "MAX",
-        AggregateKind::Avg => "AVG",
+        AggregateKind::CountRows | AggregateKind::Count => ("COUNT", ""),
+        AggregateKind::Sum => ("SUM", ""),
+        AggregateKind::Min => ("MIN", ""),
+        AggregateKind::Max => ("MAX", ""),
+        AggregateKind::Avg => ("AVG", ""),
+        AggregateKind::CountDistinct => ("COUNT", "DISTINCT "),
+        AggregateKind::SumDistinct => ("SUM", "DISTINCT "),
     }
 }
 

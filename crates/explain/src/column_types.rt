@@ -4,8 +4,12 @@ use meaning::{Aggregate, AggregateKind, Arm, ColType, Expr, Plan, Value};
 fn aggregate_type(aggregate: &Aggregate) -> ColType {
     match aggregate.kind {
         AggregateKind::Min | AggregateKind::Max => aggregate.col_type,
-        AggregateKind::CountRows | AggregateKind::Count | AggregateKind::Sum | AggregateKind::Avg =>
-            ColType::Int,
+        AggregateKind::CountRows
+        | AggregateKind::Count
+        | AggregateKind::Sum
+        | AggregateKind::Avg
+        | AggregateKind::CountDistinct
+        | AggregateKind::SumDistinct => ColType::Int,
     }
 }
 

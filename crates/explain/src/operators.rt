@@ -39,6 +39,8 @@ pub fn aggregate_word(kind: AggregateKind) -> &'static str {
         AggregateKind::Min => "MIN(",
         AggregateKind::Max => "MAX(",
         AggregateKind::Avg => "AVG(",
+        AggregateKind::CountDistinct => "COUNT(DISTINCT ",
+        AggregateKind::SumDistinct => "SUM(DISTINCT ",
     }
 }
 

@@ -68,6 +68,14 @@ impl OperatorLines {
         self.end()
     }
 
+    fn put_distinct(&mut self, distinct: bool) -> Result<(), AllocError> {
+        if !distinct {
+            return Ok(());
+        }
+        self.begin("distinct")?;
+        self.end()
+    }
+
     /// An item, with its header where that isn't its text.
     fn put_item(
         &mut self,
@@ -270,6 +278,7 @@ impl OperatorLines {
         let items = plan.items.as_slice();
         self.put_limit(plan.limit)?;
         self.put_sort(items, plan.order.as_slice())?;
+        self.put_distinct(plan.distinct)?;
         self.put_project(alloc, names, items)
     }
 

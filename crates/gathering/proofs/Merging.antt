@@ -66,7 +66,7 @@ states_taken (a ∷ aggs) rows (s ∷ states) shaped possible =
     record {
       widths = ap suc rest.widths;
       kept = λ i. same i ∷ rest.kept i;
-      within = (count_fits a.kind rows s k.0, rest.within);
+      within = (count_fits a.kind rows s same k.0, rest.within);
     }
 
 group_taken : (plan : Plan) (g : Group) → is_group_of plan g ≡ true → is_group_possible plan g ≡ true → IsGroupOf (shape_of plan) g

@@ -6,9 +6,9 @@ use Rattle.meaning.specs.Said.{Cell}
 use Rattle.meaning.specs.declared.answer.Cell.TheVariants.{Nothing, One, Conflict}
 use Rattle.meaning.specs.Answer.{groups_of}
 use Rattle.meaning.specs.Gather.{same_body, join_cells}
-use Rattle.partial_codec.specs.declared.fault.DecodeFault.{DecodeFault}
-use Rattle.partial_codec.specs.declared.fault.DecodeFault.TheVariants as refusal
-use Rattle.partial_codec.specs.Fault as codec
+use Rattle.answer_fields.specs.declared.fault.DecodeFault.{DecodeFault}
+use Rattle.answer_fields.specs.declared.fault.DecodeFault.TheVariants as refusal
+use Rattle.answer_fields.specs.Fault as codec
 use Rattle.partial_codec.specs.Job.{JobSpec}
 use Rattle.partial_codec.specs.Answer.{Spells, obstacle}
 use Rattle.partial_codec.specs.State.{state_obstacle}

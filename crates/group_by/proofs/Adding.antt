@@ -11,7 +11,7 @@ use Rattle.meaning.specs.declared.plan.AggregateKind.{AggregateKind}
 use Rattle.meaning.specs.Order.{Row, column}
 use Rattle.meaning.specs.Aggregate.{no_statistics, kept_by, present, statistics}
 use Rattle.vectors.specs.declared.vector.Vector.{Vector}
-use Rattle.accumulators.specs.Columns.{ColumnSpec}
+use Rattle.accumulators.specs.Columns.{ColumnSpec, no_column}
 use Rattle.aggregate_states.specs.Entries.{state_of, of_group}
 use Rattle.aggregate_states.specs.State.{most_entries}
 use Rattle.aggregate_states.proofs.Growing.{kept_count}
@@ -19,8 +19,8 @@ use Rattle.group_by.specs.Shape.{shape_with}
 use Rattle.group_by.specs.Groups.{with_rows}
 use Rattle.group_index.specs.Rows.{row_at, rows_at}
 use Rattle.group_by.specs.Rows.{kept_rows}
-use Rattle.group_by.specs.GroupIndexes.{no_column, state_at, state_in, table_of, IsWellFormed, AreAdded}
-use Rattle.group_by.proofs.Keeping.{keeps_merged, keeps_none, kept_twice}
+use Rattle.group_by.specs.GroupIndexes.{state_at, state_in, table_of, IsWellFormed, AreAdded}
+use Rattle.aggregate_states.proofs.Keeping.{keeps_merged, keeps_none, kept_twice}
 use Rattle.group_by.proofs.Batches.{rows_added, same_kinds, kinds_of, zip-long, of_group-times}
 
 present_few : (xs : List Value) → length (present xs) ≤ length xs

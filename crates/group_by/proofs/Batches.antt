@@ -6,20 +6,19 @@ use Rattle.std.proofs.lemmas.List.{length-map, get_or-map, ext_get_or, get_or_ap
 use Rattle.std.proofs.lemmas.Bool.{cases_lt}
 use Rattle.std.proofs.lemmas.List.FromFn.{length-map-range_with_len, get_or-map-range_with_len, length-enumerate_from, get_or-enumerate_from}
 use Rattle.meaning.specs.declared.plan.AggregateKind.{AggregateKind}
-use Rattle.meaning.specs.declared.plan.AggregateKind.TheVariants.{CountRows}
 use Rattle.meaning.specs.declared.answer.Statistics.{Statistics}
 use Rattle.meaning.specs.declared.answer.Group.{Group}
 use Rattle.meaning.specs.Order.{Row, column}
 use Rattle.meaning.specs.Aggregate.{no_statistics, merge}
 use Rattle.meaning.specs.Group.{merge_groups}
-use Rattle.accumulators.specs.Columns.{ColumnSpec}
+use Rattle.accumulators.specs.Columns.{ColumnSpec, no_column}
 use Rattle.aggregate_states.specs.Entries.{state_of, of_group}
 use Rattle.aggregate_states.proofs.Growing.{state_of-none}
 use Rattle.group_by.specs.Combined.{zipped}
 use Rattle.group_by.specs.Shape.{Shape, shape_with}
 use Rattle.group_by.specs.Groups.{group_of_rows, groups_of_rows, together}
 use Rattle.group_index.specs.Found.{AreFound}
-use Rattle.group_by.specs.GroupIndexes.{no_column, state_in, group_at, by_group_index, times, AreUpdated, AreCounted}
+use Rattle.group_by.specs.GroupIndexes.{state_in, group_at, by_group_index, times, AreUpdated, AreCounted}
 use Rattle.group_by.proofs.Growing.{Grows, grows_with}
 use Rattle.group_by.proofs.Together.{behind, none_more, singles, single, IsWide, states_from, states-length, zipped-length}
 use Rattle.group_by.proofs.Rows.{from_index, rows_indexed}
@@ -86,19 +85,19 @@ module _ (height : ℕ) (group_indexes : List ℕ) (arguments : List Row) (old n
       get_or-map (λ (col : ColumnSpec). state_in col group_index) new c no_column no_statistics in_new
       ∙ (are.1 c in_old).states group_index here
       ∙ (λ i. merge (sym (get_or-map (λ (col : ColumnSpec). state_in col group_index) old c no_column no_statistics in_old) i)
-      (sym (states-at 0 c (kinds_of old) (of_group group_index (zip group_indexes arguments)) c CountRows no_statistics (omega arith) (subst (λ (n : ℕ). c < n) (sym long_kinds) in_old)
-      ∙ (λ j. state_of (get_or-map (λ (col : ColumnSpec). col.kind) old c no_column CountRows in_old j) (sym of_column j))) i))
+      (sym (states-at 0 c (kinds_of old) (of_group group_index (zip group_indexes arguments)) c no_column.kind no_statistics (omega arith) (subst (λ (n : ℕ). c < n) (sym long_kinds) in_old)
+      ∙ (λ j. state_of (get_or-map (λ (col : ColumnSpec). col.kind) old c no_column no_column.kind in_old j) (sym of_column j))) i))
       ∙ sym (zipped-at (states_in old group_index) more c no_statistics (subst (λ (n : ℕ). c < n) (sym long_old) in_old) (subst (λ (n : ℕ). c < n) (sym long_more) in_old)))
 
   pub same_kinds : AreUpdated height group_indexes arguments old new → kinds_of new ≡ kinds_of old
   same_kinds are =
       let long_new : length (kinds_of new) ≡ length old = length-map new (λ (c : ColumnSpec). c.kind) ∙ are.0 in
-      ext_get_or CountRows (kinds_of new) (kinds_of old) (long_new ∙ sym (length-map old (λ (c : ColumnSpec). c.kind)))
+      ext_get_or no_column.kind (kinds_of new) (kinds_of old) (long_new ∙ sym (length-map old (λ (c : ColumnSpec). c.kind)))
       (λ c l.
       let in_old : c < length old = subst (λ (n : ℕ). c < n) long_new l in
-      get_or-map (λ (col : ColumnSpec). col.kind) new c no_column CountRows (subst (λ (n : ℕ). c < n) (sym are.0) in_old)
+      get_or-map (λ (col : ColumnSpec). col.kind) new c no_column no_column.kind (subst (λ (n : ℕ). c < n) (sym are.0) in_old)
       ∙ (are.1 c in_old).kind
-      ∙ sym (get_or-map (λ (col : ColumnSpec). col.kind) old c no_column CountRows in_old))
+      ∙ sym (get_or-map (λ (col : ColumnSpec). col.kind) old c no_column no_column.kind in_old))
 
 pub by_group_index-length : (keys : List Row) (rows : List ℕ) (columns : List ColumnSpec) → length (by_group_index keys rows columns) ≡ length keys
 by_group_index-length keys rows columns = length-map-range_with_len (λ (group_index : ℕ). group_at rows columns (get_or keys group_index []) group_index) 0 (length keys)

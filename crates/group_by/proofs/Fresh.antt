@@ -9,12 +9,12 @@ use Rattle.meaning.specs.declared.answer.Group.{Group}
 use Rattle.meaning.specs.declared.answer.Statistics.{Statistics}
 use Rattle.meaning.specs.Order.{Row}
 use Rattle.meaning.specs.Aggregate.{no_statistics}
-use Rattle.accumulators.specs.Columns.{ColumnSpec}
+use Rattle.accumulators.specs.Columns.{ColumnSpec, no_column}
 use Rattle.group_index.specs.Keys.{empty_key}
 use Rattle.group_by.specs.Shape.{Shape, GroupsSpec, shape_with}
 use Rattle.group_by.specs.Groups.{all_rows, fresh, group_of_rows, together, with_groups}
-use Rattle.group_by.specs.GroupIndexes.{no_column, state_at, by_group_index, table_of, IsWellFormed, AreFresh}
-use Rattle.group_by.proofs.Keeping.{keeps_none}
+use Rattle.group_by.specs.GroupIndexes.{state_at, by_group_index, table_of, IsWellFormed, AreFresh}
+use Rattle.aggregate_states.proofs.Keeping.{keeps_none}
 use Rattle.group_by.proofs.Growing.{grows_with}
 use Rattle.group_by.proofs.Together.{merge_none, states-length, states_from}
 use Rattle.group_by.proofs.Batches.{kinds_of, states_in}

@@ -102,6 +102,7 @@ plan_with is_plain kinds = record {
   order = [];
   limit = None;
   plain = is_plain;
+  distinct = false;
 }
 
 same_kinds : (kinds : List AggregateKind) → map (λ (a : Aggregate). a.kind) (map aggregate_of kinds) ≡ kinds

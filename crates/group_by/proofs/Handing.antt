@@ -17,11 +17,11 @@ use Rattle.meaning.proofs.Orders.{row_total, row_exact}
 use Rattle.meaning.proofs.Sets.{filter-ascending_set, same_ascending_set, ascending_set_itself, no_length}
 use Rattle.meaning.proofs.Groups.{beside_none}
 use Rattle.meaning.proofs.Tests.{or_second}
-use Rattle.accumulators.specs.Columns.{ColumnSpec}
+use Rattle.accumulators.specs.Columns.{ColumnSpec, no_column}
 use Rattle.aggregate_states.specs.State.{most_entries}
 use Rattle.group_by.specs.Combined.{combined, IsFit, AreFit, IsInOrder}
 use Rattle.group_by.specs.Groups.{all_rows, group_of_rows, as_one, together}
-use Rattle.group_by.specs.GroupIndexes.{no_column, state_in, state_at, by_group_index, group_at, IsWellFormed}
+use Rattle.group_by.specs.GroupIndexes.{state_in, state_at, by_group_index, group_at, IsWellFormed}
 use Rattle.group_index.specs.Keys.{empty_key}
 use Rattle.group_by.specs.Shape.{Shape, shape_with}
 use Rattle.group_index.proofs.Finding.{one_row}

@@ -1,4 +1,3 @@
-pub mod Keeping
 pub mod Shapes
 pub mod Growing
 pub mod Together
@@ -9,6 +8,7 @@ pub mod OneGroup
 pub mod Updating
 pub mod Adding
 pub mod Merging
+pub mod FreshColumns
 pub mod Fresh
 pub mod Combining
 pub mod Handing

@@ -5,22 +5,21 @@ use Rattle.std.proofs.Common.{refl, sym, ap, subst, ◌∙◌, arith, append_ass
 use Rattle.std.proofs.lemmas.Bool.{cases_lt, cases_eq}
 use Rattle.std.proofs.lemmas.List.{length-map, get_or-map, get_or_past, get_or-drop, ext_get_or, take_more, length_push, get_or_append_left, get_or_push, map_push}
 use Rattle.meaning.specs.declared.plan.AggregateKind.{AggregateKind}
-use Rattle.meaning.specs.declared.plan.AggregateKind.TheVariants.{CountRows}
 use Rattle.meaning.specs.declared.plan.Aggregate.{Aggregate}
 use Rattle.meaning.specs.declared.answer.Statistics.{Statistics}
 use Rattle.meaning.specs.declared.answer.Group.{Group}
 use Rattle.meaning.specs.Order.{Row}
 use Rattle.meaning.specs.Aggregate.{no_statistics, kept_by, merge}
 use Rattle.meaning.specs.Group.{merge_groups}
-use Rattle.accumulators.specs.Columns.{ColumnSpec, merged_at, of_states}
+use Rattle.accumulators.specs.Columns.{ColumnSpec, merged_at, of_states, no_column}
 use Rattle.aggregate_states.specs.State.{most_entries}
 use Rattle.aggregate_states.proofs.Growing.{kept_count}
 use Rattle.group_by.specs.Combined.{zipped}
 use Rattle.group_by.specs.Shape.{Shape, shape_with}
 use Rattle.group_by.specs.Groups.{all_rows, group_of_rows, together, with_groups}
 use Rattle.group_by.specs.Rows.{IsGroupOf}
-use Rattle.group_by.specs.GroupIndexes.{no_column, state_in, state_at, group_at, by_group_index, table_of, IsWellFormed, AreFresh, IsMerged, IsAbsorbed}
-use Rattle.group_by.proofs.Keeping.{keeps_merged, kept_twice}
+use Rattle.group_by.specs.GroupIndexes.{state_in, state_at, group_at, by_group_index, table_of, IsWellFormed, AreFresh, IsMerged, IsAbsorbed}
+use Rattle.aggregate_states.proofs.Keeping.{keeps_merged, kept_twice}
 use Rattle.group_by.proofs.Growing.{grows_with}
 use Rattle.group_by.proofs.Together.{behind, merged_at_index, zipped-length, IsWide}
 use Rattle.group_by.proofs.Batches.{kinds_of, states_in, zipped-at, by_group_index-length, by_group_index-at, keys_added, keys_behind, none_added}
@@ -112,18 +111,18 @@ module _ (is_certain : Bool) (keys : List Row) (rows : List ℕ) (columns : List
 
   kept_state : (c : ℕ) → c < length columns → kept_by (get_or columns c no_column).kind (get_or g.states c no_statistics) ≡ get_or g.states c no_statistics
   kept_state c l =
-      ap (λ (k : AggregateKind). kept_by k (get_or g.states c no_statistics)) (sym (get_or-map (λ (col : ColumnSpec). col.kind) columns c no_column CountRows l))
-      ∙ kept-at (kinds_of columns) g.states c CountRows no_statistics fits.widths (subst (λ (n : ℕ). c < n) (sym long_kinds) l) fits.kept
+      ap (λ (k : AggregateKind). kept_by k (get_or g.states c no_statistics)) (sym (get_or-map (λ (col : ColumnSpec). col.kind) columns c no_column no_column.kind l))
+      ∙ kept-at (kinds_of columns) g.states c no_column.kind no_statistics fits.widths (subst (λ (n : ℕ). c < n) (sym long_kinds) l) fits.kept
 
   same_kinds : kinds_of new_columns ≡ kinds_of columns
   same_kinds =
       let long_new : length (kinds_of new_columns) ≡ length columns = length-map new_columns (λ (c : ColumnSpec). c.kind) ∙ absorbed.merged.0 in
-      ext_get_or CountRows (kinds_of new_columns) (kinds_of columns) (long_new ∙ sym long_kinds)
+      ext_get_or no_column.kind (kinds_of new_columns) (kinds_of columns) (long_new ∙ sym long_kinds)
       (λ c l.
       let in_old : c < length columns = subst (λ (n : ℕ). c < n) long_new l in
-      get_or-map (λ (col : ColumnSpec). col.kind) new_columns c no_column CountRows (subst (λ (n : ℕ). c < n) (sym absorbed.merged.0) in_old)
+      get_or-map (λ (col : ColumnSpec). col.kind) new_columns c no_column no_column.kind (subst (λ (n : ℕ). c < n) (sym absorbed.merged.0) in_old)
       ∙ (absorbed.merged.1 c in_old).kind
-      ∙ sym (get_or-map (λ (col : ColumnSpec). col.kind) columns c no_column CountRows in_old))
+      ∙ sym (get_or-map (λ (col : ColumnSpec). col.kind) columns c no_column no_column.kind in_old))
 
   long_at : (cs : List ColumnSpec) (j : ℕ) → length (states_in cs j) ≡ length cs
   long_at cs j = length-map cs (λ (c : ColumnSpec). state_in c j)

@@ -6,33 +6,32 @@ use Rattle.std.proofs.Common.{sym, ap, subst, ◌∙◌, arith, refl}
 use Rattle.std.proofs.lemmas.List.{length-map, get_or-map, get_or_default}
 use Rattle.std.proofs.lemmas.List.Sorted.{sum_by-IsPermutation, All-permutation, IsPermutation-reverse, IsPermutation-trans}
 use Rattle.meaning.specs.declared.plan.AggregateKind.{AggregateKind}
-use Rattle.meaning.specs.declared.plan.AggregateKind.TheVariants.{CountRows}
 use Rattle.meaning.specs.declared.answer.Statistics.{Statistics}
 use Rattle.meaning.specs.declared.answer.Group.{Group}
 use Rattle.meaning.specs.Order.{Row, row_cmp}
 use Rattle.meaning.specs.Aggregate.{no_statistics, kept_by}
 use Rattle.meaning.specs.Group.{merge_groups}
-use Rattle.accumulators.specs.Columns.{ColumnSpec}
+use Rattle.accumulators.specs.Columns.{ColumnSpec, no_column}
 use Rattle.group_by.specs.Combined.{combined, put_before, IsFit, IsInOrder}
 use Rattle.group_by.specs.Groups.{all_rows}
-use Rattle.group_by.specs.GroupIndexes.{no_column, state_in, state_at, by_group_index, group_at, IsWellFormed}
+use Rattle.group_by.specs.GroupIndexes.{state_in, state_at, by_group_index, group_at, IsWellFormed}
 use Rattle.group_by.specs.Rows.{IsGroupOf}
 use Rattle.group_by.specs.Shape.{Shape, shape_with}
 use Rattle.group_by.proofs.Batches.{kinds_of, zipped-at, by_group_index-length, by_group_index-at}
 use Rattle.group_by.proofs.Combining.{combined_rows, merged_fit}
 use Rattle.group_by.proofs.Handing.{group_fit, rows_of}
-use Rattle.group_by.proofs.Keeping.{keeps_merged}
+use Rattle.aggregate_states.proofs.Keeping.{keeps_merged}
 
 -- a group with a state of each kind, in which nothing stands that its kind doesn't keep
 record IsOwn (kinds : List AggregateKind) (g : Group) : Type 0 where
   pub fit : IsFit (length kinds) g
-  pub kept : (c : ℕ) → c < length kinds → kept_by (get_or kinds c CountRows) (get_or g.states c no_statistics) ≡ get_or g.states c no_statistics
+  pub kept : (c : ℕ) → c < length kinds → kept_by (get_or kinds c no_column.kind) (get_or g.states c no_statistics) ≡ get_or g.states c no_statistics
 
 module _ (kinds : List AggregateKind) where
   merged_own : (g h : Group) → IsOwn kinds g → IsOwn kinds h → IsOwn kinds (merge_groups g h)
   merged_own g h own_g own_h = record {
     fit = merged_fit (length kinds) g h own_g.fit own_h.fit;
-    kept = λ c l. keeps_merged (get_or kinds c CountRows) (get_or g.states c no_statistics) (get_or h.states c no_statistics) _ (own_g.kept c l) (own_h.kept c l)
+    kept = λ c l. keeps_merged (get_or kinds c no_column.kind) (get_or g.states c no_statistics) (get_or h.states c no_statistics) _ (own_g.kept c l) (own_h.kept c l)
         (zipped-at g.states h.states c no_statistics (subst (λ (n : ℕ). c < n) (sym own_g.fit.wide) l) (subst (λ (n : ℕ). c < n) (sym own_h.fit.wide) l));
   }
 
@@ -56,7 +55,7 @@ module _ (kinds : List AggregateKind) where
   combined_own (g ∷ gs) all = put_own g (combined gs) (all 0 g (omega arith)) (combined_own gs (λ j d l. all (suc j) d (omega (arith, l))))
 
 kept_each : (kinds : List AggregateKind) (ss : List Statistics) → length ss ≡ length kinds
-    → ((c : ℕ) → c < length kinds → kept_by (get_or kinds c CountRows) (get_or ss c no_statistics) ≡ get_or ss c no_statistics) → map (λ (p : AggregateKind × Statistics). kept_by p.0 p.1) (zip kinds ss) ≡ ss
+    → ((c : ℕ) → c < length kinds → kept_by (get_or kinds c no_column.kind) (get_or ss c no_statistics) ≡ get_or ss c no_statistics) → map (λ (p : AggregateKind × Statistics). kept_by p.0 p.1) (zip kinds ss) ≡ ss
 kept_each [] [] e all = refl
 kept_each [] (s ∷ ss) e all = absurd (omega (arith, e))
 kept_each (k ∷ kinds) [] e all = absurd (omega (arith, e))
@@ -85,7 +84,7 @@ module _ (is_certain : Bool) (keys : List Row) (rows : List ℕ) (columns : List
     kept = λ c l.
         let in_columns : c < length columns = subst (λ (n : ℕ). c < n) long_kinds l in
         let read : get_or (map (λ (col : ColumnSpec). state_in col j) columns) c no_statistics ≡ state_at columns c j = get_or-map (λ (col : ColumnSpec). state_in col j) columns c no_column no_statistics in_columns in
-        (λ i. kept_by (get_or-map (λ (col : ColumnSpec). col.kind) columns c no_column CountRows in_columns i) (read i))
+        (λ i. kept_by (get_or-map (λ (col : ColumnSpec). col.kind) columns c no_column no_column.kind in_columns i) (read i))
         ∙ are.kept c j in_columns ∙ sym read;
   }
 

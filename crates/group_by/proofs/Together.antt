@@ -12,7 +12,6 @@ use Rattle.meaning.specs.Order.{Row, column, row_cmp, ascending_set}
 use Rattle.meaning.specs.Group.{beside, merge_groups}
 use Rattle.meaning.proofs.Orders.{row_total, row_exact}
 use Rattle.meaning.proofs.Sets.{same_ascending_set}
-use Rattle.meaning.proofs.Groups.{list_any-append}
 use Rattle.meaning.proofs.LiveTable.{zipped-assoc, zipped-comm}
 use Rattle.aggregate_states.specs.Entries.{state_of}
 use Rattle.aggregate_states.specs.StateLaws.{state_of-append}
@@ -21,6 +20,7 @@ use Rattle.group_by.specs.Combined.{zipped}
 use Rattle.group_by.specs.Shape.{Shape}
 use Rattle.group_by.specs.Groups.{states_of, group_of_rows, groups_of_rows, as_one, together}
 use Rattle.group_by.proofs.Growing.{Grows}
+use Rattle.meaning.proofs.Tests.{list_any-append}
 
 -- ---- two groups as one
 

@@ -10,12 +10,12 @@ use Rattle.meaning.specs.declared.answer.Statistics.{Statistics}
 use Rattle.meaning.specs.Order.{Row, column}
 use Rattle.meaning.specs.Aggregate.{no_statistics, merge}
 use Rattle.vectors.specs.declared.vector.Vector.{Vector}
-use Rattle.accumulators.specs.Columns.{ColumnSpec, of_states}
+use Rattle.accumulators.specs.Columns.{ColumnSpec, of_states, no_column}
 use Rattle.aggregate_states.specs.Entries.{state_of, of_group, with_entries}
 use Rattle.aggregate_states.specs.Values.{selected}
 use Rattle.vectors.specs.Vector.{values_of}
 use Rattle.group_index.specs.Rows.{rows_at}
-use Rattle.group_by.specs.GroupIndexes.{no_column, state_in, IsUpdated, AreUpdated}
+use Rattle.group_by.specs.GroupIndexes.{state_in, IsUpdated, AreUpdated}
 use Rattle.group_index.proofs.Finding.{lane_of}
 
 -- the entries of one aggregate

@@ -4,20 +4,16 @@ use Rattle.std.specs.Prelude.{◌≡◌, ℕ, ◌+◌, ◌<◌, ◌≤◌, ◌==
 use Rattle.std.specs.List.{zip, range_with_len}
 use Rattle.meaning.specs.declared.value.Value.{Value}
 use Rattle.meaning.specs.declared.plan.AggregateKind.{AggregateKind}
-use Rattle.meaning.specs.declared.plan.AggregateKind.TheVariants.{CountRows}
 use Rattle.meaning.specs.declared.answer.Statistics.{Statistics}
 use Rattle.meaning.specs.declared.answer.Group.{Group}
 use Rattle.meaning.specs.Order.{Row, column}
 use Rattle.meaning.specs.Aggregate.{no_statistics, kept_by, merge}
-use Rattle.accumulators.specs.Columns.{ColumnSpec}
+use Rattle.accumulators.specs.Columns.{ColumnSpec, no_column}
 use Rattle.aggregate_states.specs.Entries.{state_of, of_group}
 use Rattle.aggregate_states.specs.State.{most_entries}
 use Rattle.group_index.specs.Found.{AreFound, IsFound}
 use Rattle.group_by.specs.Shape.{GroupsSpec, shape_with}
 use Rattle.group_by.specs.Groups.{together}
-
-abbrev pub no_column : ColumnSpec
-no_column = record { kind = CountRows; states = [] }
 
 -- the state at a group index of a column
 abbrev pub state_in : ColumnSpec → ℕ → Statistics

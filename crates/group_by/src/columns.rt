@@ -1,16 +1,16 @@
 //! A column of states for each aggregate.
 ghost use Rattle.std.specs.Prelude.{◌≡◌, ℕ, ◌<◌, ◌≤◌, ◌+◌, length, map, zip, slice_index_or, true, All, IfOk, OnOk};
 ghost use Rattle.meaning.specs.Aggregate.{no_statistics};
-ghost use Rattle.accumulators.specs.Columns.{of_states};
+ghost use Rattle.accumulators.specs.Columns.{of_states, no_column};
 ghost use Rattle.aggregate_states.specs.Entries.{with_entries};
 ghost use Rattle.aggregate_states.specs.State.{most_entries};
 ghost use Rattle.aggregate_states.specs.Values.{is_spelled, selected};
 ghost use Rattle.vectors.specs.Vector.{values_of};
-ghost use Rattle.group_by.specs.GroupIndexes.{no_column, state_at, state_in, AreFresh, AreMerged, AreUpdated, IsMerged, IsUpdated};
+ghost use Rattle.group_by.specs.GroupIndexes.{state_at, state_in, AreFresh, AreMerged, AreUpdated, IsMerged, IsUpdated};
 ghost use Rattle.group_index.specs.RowGroups.{listed};
 ghost use Rattle.group_index.specs.Rows.{rows_at, AreLanesOf};
 
-use accumulators::{State, StateColumn};
+use accumulators::{OrderedStates, State, StateColumn};
 use group_index::RowGroups;
 use meaning::{Aggregate, AggregateKind};
 use std::alloc::{AllocError, Global};
@@ -196,7 +196,21 @@ pub fn copy_columns(alloc: Global, columns: &[StateColumn]) -> Result<Vec<StateC
 {
     let mut copy = Vec::with_capacity(alloc, columns.len())?;
     for column in columns {
-        copy.push(column.copy()?)?;
+        copy.push(column.copy(alloc)?)?;
     }
     Ok(copy)
+}
+
+/// The columns as states are handed out from them.
+pub fn ordered_columns(
+    alloc: Global,
+    columns: &[StateColumn],
+) -> Result<Vec<OrderedStates<'_>>, AllocError>
+    ensures { IfOk result (λ ordered. ordered.items ≡ columns.now) }
+{
+    let mut ordered = Vec::with_capacity(alloc, columns.len())?;
+    for column in columns {
+        ordered.push(column.ordered(alloc)?)?;
+    }
+    Ok(ordered)
 }

@@ -1,6 +1,6 @@
 //! The groups of a table in the order of their keys, those of one key as one.
 ghost use Rattle.std.specs.Prelude.{◌≡◌, ℕ, ◌<◌, ◌≤◌, ◌+◌, ◌∷◌, length, map, reverse, slice_index_or, slice_index, sum, All, IfOk, IfSome, OnOk, IsPermutation};
-ghost use Rattle.meaning.specs.Aggregate.{no_statistics};
+ghost use Rattle.meaning.specs.Aggregate.{merge, no_statistics};
 ghost use Rattle.meaning.specs.Group.{merge_groups};
 ghost use Rattle.meaning.specs.Order.{row_cmp};
 ghost use Rattle.aggregate_states.specs.State.{most_entries};
@@ -8,8 +8,9 @@ ghost use Rattle.group_by.specs.Combined.{combined, put_before, zipped, AreFit, 
 ghost use Rattle.group_index.specs.Keys.{alone};
 ghost use Rattle.group_by.specs.GroupIndexes.{by_group_index, group_at, state_at, state_in};
 
+use crate::columns::ordered_columns;
 use crate::int_groups::{are_apart, indexed_groups, int_groups, sort_ints};
-use accumulators::{Group, State, StateColumn};
+use accumulators::{Group, OrderedStates, State, StateColumn};
 use group_index::{KeyList, are_equal, compare_keys, copy_key};
 use meaning::{Row, Sequence, Value};
 use std::alloc::{AllocError, Global};
@@ -19,7 +20,7 @@ use std::mem::drop;
 /// The state at a group index of each column.
 fn states_at(
     alloc: Global,
-    columns: &[StateColumn],
+    columns: &[OrderedStates<'_>],
     group_index: usize,
 ) -> Result<Sequence<State>, AllocError>
     requires { All (λ c. group_index < length c.states) columns.now }
@@ -37,7 +38,7 @@ pub fn group_of(
     alloc: Global,
     key: Row,
     rows: &[u64],
-    columns: &[StateColumn],
+    columns: &[OrderedStates<'_>],
     group_index: usize,
 ) -> Result<Group, AllocError>
     requires rows { group_index < length rows.now }
@@ -53,7 +54,7 @@ fn last_first(
     alloc: Global,
     keys: Vec<Row>,
     rows: &[u64],
-    columns: &[StateColumn],
+    columns: &[OrderedStates<'_>],
 ) -> Result<Vec<Group>, AllocError>
     requires rows { length rows.now ≡ length keys.items }
     requires columns { All (λ c. length c.states ≡ length keys.items) columns.now }
@@ -84,6 +85,16 @@ fn sort(groups: &mut Vec<Group>) -> Result<(), AllocError>
     Ok(())
 }
 
+/// Two states as one.
+fn merged_state(alloc: Global, one: &State, other: &State) -> Result<State, AllocError>
+    requires { one.now.count + other.now.count ≤ most_entries }
+    ensures { IfOk result (λ s. s ≡ merge one.now other.now) }
+{
+    let one = one.copy(alloc)?;
+    let other = other.copy(alloc)?;
+    one.merge(other)
+}
+
 /// The states of two groups, merged one by one.
 fn merged_states(
     alloc: Global,
@@ -97,9 +108,8 @@ fn merged_states(
 {
     let mut merged = Sequence::new(alloc);
     for k in 0..states.len() {
-        let one = states[k].copy(alloc)?;
-        let other = others[k].copy(alloc)?;
-        merged.push(one.merge(other))?;
+        let both = merged_state(alloc, &states[k], &others[k])?;
+        merged.push(both)?;
     }
     Ok(merged)
 }
@@ -167,7 +177,7 @@ fn rows_in_order(
     alloc: Global,
     keys: Vec<Row>,
     rows: &[u64],
-    columns: &[StateColumn],
+    columns: &[OrderedStates<'_>],
 ) -> Result<Vec<Group>, AllocError>
     requires rows { length rows.now ≡ length keys.items }
     requires columns { All (λ c. length c.states ≡ length keys.items) columns.now }
@@ -191,7 +201,7 @@ fn ints_in_order(
     alloc: Global,
     values: &[Value],
     rows: &[u64],
-    columns: &[StateColumn],
+    columns: &[OrderedStates<'_>],
 ) -> Result<Option<Vec<Group>>, AllocError>
     requires rows { length rows.now ≡ length values.now }
     requires columns { All (λ c. length c.states ≡ length values.now) columns.now }
@@ -209,12 +219,12 @@ fn ints_in_order(
     Ok(Some(indexed_groups(alloc, indexed.as_slice(), rows, columns)?))
 }
 
-/// The groups in the order of their keys, those of one key as one.
-pub fn in_order(
+/// The groups in the order of their keys, from columns that are ready to be handed out.
+fn keys_in_order(
     alloc: Global,
     keys: KeyList,
     rows: &[u64],
-    columns: &[StateColumn],
+    columns: &[OrderedStates<'_>],
 ) -> Result<Vec<Group>, AllocError>
     requires rows { length rows.now ≡ length keys }
     requires columns { All (λ c. length c.states ≡ length keys) columns.now }
@@ -229,4 +239,22 @@ pub fn in_order(
         }
     }
     rows_in_order(alloc, keys.into_rows(alloc)?, rows, columns)
+}
+
+/// The groups in the order of their keys, those of one key as one.
+pub fn in_order(
+    alloc: Global,
+    keys: KeyList,
+    rows: &[u64],
+    columns: &[StateColumn],
+) -> Result<Vec<Group>, AllocError>
+    requires rows { length rows.now ≡ length keys }
+    requires columns { All (λ c. length c.states ≡ length keys) columns.now }
+    requires few { sum rows.now ≤ most_entries }
+    requires within { (c group_index : ℕ)
+        → (state_at columns.now c group_index).count ≤ slice_index rows.now group_index }
+    ensures { IfOk result (λ groups. IsInOrder keys rows.now columns.now groups.items) }
+{
+    let columns = ordered_columns(alloc, columns)?;
+    keys_in_order(alloc, keys, rows, columns.as_slice())
 }

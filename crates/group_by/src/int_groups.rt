@@ -11,7 +11,7 @@ ghost use Rattle.group_by.specs.IntGroups.{key_in, indexed_group, AreApart, AreI
 ghost use Rattle.group_index.specs.Keys.{alone};
 
 use crate::handing_out::group_of;
-use accumulators::{Group, StateColumn};
+use accumulators::{Group, OrderedStates};
 use group_index::key_of_value;
 use meaning::Value;
 use std::alloc::{AllocError, Global};
@@ -92,7 +92,7 @@ fn group_of_int(
     alloc: Global,
     one: &IntGroup,
     rows: &[u64],
-    columns: &[StateColumn],
+    columns: &[OrderedStates<'_>],
 ) -> Result<Group, AllocError>
     requires rows { one.now.group_index < length rows.now }
     requires columns { All (λ c. length c.states ≡ length rows.now) columns.now }
@@ -107,7 +107,7 @@ pub fn indexed_groups(
     alloc: Global,
     indexed: &[IntGroup],
     rows: &[u64],
-    columns: &[StateColumn],
+    columns: &[OrderedStates<'_>],
 ) -> Result<Vec<Group>, AllocError>
     requires rows { All (λ p. p.group_index < length rows.now) indexed.now }
     requires columns { All (λ c. length c.states ≡ length rows.now) columns.now }

@@ -6,7 +6,8 @@ ghost use Rattle.aggregate_states.specs.State.{most_entries};
 ghost use Rattle.group_index.specs.Keys.{empty_key};
 ghost use Rattle.group_by.specs.Shape.{shape_of};
 ghost use Rattle.group_by.specs.Groups.{all_rows, fresh, with_rows, with_groups};
-ghost use Rattle.group_by.specs.GroupIndexes.{no_column, state_at, AreAdded, AreFresh, IsAbsorbed};
+ghost use Rattle.accumulators.specs.Columns.{no_column};
+ghost use Rattle.group_by.specs.GroupIndexes.{state_at, AreAdded, AreFresh, IsAbsorbed};
 ghost use Rattle.group_index.specs.Rows.{rows_at, AreLanesOf};
 ghost use Rattle.group_by.specs.Rows.{kept_rows, IsGroupOf};
 

@@ -90,6 +90,12 @@ pub fn hash_int(int: &i64) -> u64 {
     hash_value(MULTIPLIER, ValueRef::Int(*int))
 }
 
+/// Of a value in a group.
+#[inline(always)]
+pub fn hash_in_group(group_index: u32, value: ValueRef<'_>) -> u64 {
+    hash_value(mixed(MULTIPLIER, u64::from(group_index)), value)
+}
+
 fn hash_texts(hashes: &mut [u64], texts: &[&[u8]])
     requires { length hashes.old ≡ length texts.now }
     ensures { length hashes.new ≡ length hashes.old }

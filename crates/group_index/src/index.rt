@@ -65,7 +65,7 @@ fn tag_of(hash: u64) -> u32
 
 /// The slot to look at after so many steps. Linear probing.
 #[inline(always)]
-fn slot_number(hash: u64, step: usize, slots: usize) -> usize
+pub fn slot_number(hash: u64, step: usize, slots: usize) -> usize
     ensures { result ≡ slot_at hash step slots }
 {
     (hash as usize).wrapping_add(step) & slots.wrapping_sub(1)

@@ -12,7 +12,8 @@ mod row_groups;
 mod same_bytes;
 mod selected_ints;
 
-pub use index::KeyIndex;
+pub use hashing::hash_in_group;
+pub use index::{KeyIndex, slot_number};
 pub use key_list::KeyList;
 pub use keys::{are_equal, compare_keys, copy_key, key_of_value};
 pub use row_groups::RowGroups;

@@ -2,7 +2,7 @@
 use Rattle.std.proofs.Common.{rules, ◌≡◌, ℕ, ◌<◌, pos, true, List, [], ◌∷◌, ◌++◌, map, length, Some, None, refl, sym, ap, subst, ◌∙◌, arith}
 use Rattle.std.specs.Prelude.{All, Option, option_to_list}
 use Rattle.std.specs.Cmp.Lexicographic.{pointwise}
-use Rattle.std.specs.List.{AllByRecursion}
+use Rattle.std.specs.List.{AllByRecursion, list_all}
 use Rattle.std.proofs.lemmas.List.Elements.{All-from_recursion, recursion_from_All}
 use Rattle.meaning.specs.declared.answer.Group.{Group}
 use Rattle.meaning.specs.declared.answer.Statistics.{Statistics}
@@ -21,7 +21,7 @@ use Rattle.meaning.specs.declared.value.ColType.TheVariants as of_type
 use Rattle.meaning.specs.declared.value.Value.{Value}
 use Rattle.meaning.specs.declared.value.Value.TheVariants.{Int}
 use Rattle.meaning.specs.Aggregate.{kept_by}
-use Rattle.meaning.specs.Fitting.{is_extreme, is_group_of, is_key_of, is_state_of}
+use Rattle.meaning.specs.Fitting.{is_entry_of, is_extreme, is_group_of, is_key_of, is_state_of}
 use Rattle.meaning.specs.Gather.{same_statistics}
 use Rattle.meaning.specs.Operators.{fits_i64}
 use Rattle.meaning.specs.References.{Reference, GroupKey, GroupAggregate, columns_used_in_all}
@@ -115,9 +115,11 @@ sum_plan plan ks as' items having =
 
 state_fits : (a : Aggregate) (s : Statistics) → a.kind ≡ Sum → IsSumState s → is_state_of a s ≡ true
 state_fits a s sum is =
-    let same : kept_by a.kind s ≡ s = ap (λ k. kept_by k s) sum ∙ (λ i. record { count = s.count; sum = s.sum; least = sym is.least i; greatest = sym is.greatest i }) in
+    let same : kept_by a.kind s ≡ s = ap (λ k. kept_by k s) sum ∙ (λ i. record { count = s.count; sum = s.sum; least = sym is.least i; greatest = sym is.greatest i; entries = sym is.entries i }) in
     both (same_statistics (kept_by a.kind s) s) _ ((statistics_exact (kept_by a.kind s) s).1 same)
-    (both (is_extreme a.col_type s.least) (is_extreme a.col_type s.greatest) (ap (is_extreme a.col_type) is.least) (ap (is_extreme a.col_type) is.greatest))
+    (both (is_extreme a.col_type s.least) _ (ap (is_extreme a.col_type) is.least)
+    (both (is_extreme a.col_type s.greatest) (list_all (is_entry_of a.col_type) s.entries) (ap (is_extreme a.col_type) is.greatest)
+    (ap (list_all (is_entry_of a.col_type)) is.entries)))
 
 group_fits : (plan : Plan) → IsSumPlan plan → (g : Group) → IsSumGroup g → is_group_of plan g ≡ true
 group_fits plan is g group =

@@ -46,6 +46,7 @@ pub record IsSumPlan (plan : Plan) : Type 0 where
 pub record IsSumState (s : Statistics) : Type 0 where
   pub least : s.least ≡ None
   pub greatest : s.greatest ≡ None
+  pub entries : s.entries ≡ []
 
 -- an integer, and the state of a sum
 pub record IsSumGroup (g : Group) : Type 0 where

@@ -28,7 +28,7 @@ fn aggregate_over(
     requires few { many ≤ 100 }
 {
     let selection = Selection::all(alloc, many as u32)?;
-    let mut acc = AnyAcc::new(kind);
+    let mut acc = AnyAcc::new(alloc, kind);
     acc.update_batch(alloc, lanes, &selection)?;
     Ok(acc)
 }
@@ -163,6 +163,83 @@ fn the_greatest_may_come_from_either(rt: HostRuntime) -> Result<(), AllocError> 
     expect(&rt, alloc, AggregateKind::Max, &[-5, NULL], &[-3], "2 0 -3")
 }
 
+/// What is shown of a kind, whichever of two lists is merged into the other. A set has no count and
+/// no sum of its own.
+fn expect_set(
+    rt: &impl Abort,
+    alloc: Global,
+    kind: AggregateKind,
+    lists: (&[i64], &[i64]),
+    want: &str,
+) -> Result<(), AllocError>
+    requires first { length lists.0.now ≤ 100 }
+    requires second { length lists.1.now ≤ 100 }
+{
+    expect(rt, alloc, kind, lists.0, lists.1, want)?;
+    expect(rt, alloc, kind, lists.1, lists.0, want)
+}
+
+#[test]
+fn different_entries_are_counted_once(rt: HostRuntime) -> Result<(), AllocError> {
+    let lists: (&[i64], &[i64]) = (&[2, NULL, 2, 5], &[5, 9]);
+    expect_set(
+        &rt,
+        rt.alloc(),
+        AggregateKind::CountDistinct,
+        lists,
+        "0 0 3",
+    )
+}
+
+#[test]
+fn a_common_entry_is_summed_once(rt: HostRuntime) -> Result<(), AllocError> {
+    let lists: (&[i64], &[i64]) = (&[2, NULL, 2, 5], &[5, 9]);
+    expect_set(&rt, rt.alloc(), AggregateKind::SumDistinct, lists, "0 0 16")
+}
+
+#[test]
+fn nothing_has_no_different_entries(rt: HostRuntime) -> Result<(), AllocError> {
+    let lists: (&[i64], &[i64]) = (&[NULL, NULL], &[]);
+    expect_set(
+        &rt,
+        rt.alloc(),
+        AggregateKind::CountDistinct,
+        lists,
+        "0 0 0",
+    )
+}
+
+#[test]
+fn the_sum_of_no_different_entries_is_null(rt: HostRuntime) -> Result<(), AllocError> {
+    let lists: (&[i64], &[i64]) = (&[NULL, NULL], &[]);
+    expect_set(
+        &rt,
+        rt.alloc(),
+        AggregateKind::SumDistinct,
+        lists,
+        "0 0 NULL",
+    )
+}
+
+#[test]
+fn a_sum_of_different_entries_may_be_refused(rt: HostRuntime) -> Result<(), AllocError> {
+    let lists: (&[i64], &[i64]) = (&[MOST, MOST], &[1, MOST]);
+    expect_set(
+        &rt,
+        rt.alloc(),
+        AggregateKind::SumDistinct,
+        lists,
+        "0 0 refused",
+    )
+}
+
+#[test]
+fn the_greatest_integer_is_summed_once(rt: HostRuntime) -> Result<(), AllocError> {
+    let lists: (&[i64], &[i64]) = (&[MOST, 1], &[-1, MOST]);
+    let want = "0 0 9223372036854775807";
+    expect_set(&rt, rt.alloc(), AggregateKind::SumDistinct, lists, want)
+}
+
 /// Integers, or a text twice.
 #[derive(Clone, Copy)]
 enum Entries {
@@ -283,4 +360,24 @@ const GREATEST: &[AtOnce] = &[
 #[test]
 fn the_greatest_of_several_states(rt: HostRuntime) -> Result<(), AllocError> {
     expect_at_once(&rt, rt.alloc(), AggregateKind::Max, GREATEST)
+}
+
+const DIFFERENT: &[AtOnce] = &[
+    (
+        Ints(&[5]),
+        (Ints(&[3, 9]), Ints(&[]), Ints(&[9, 5])),
+        "0 0 3",
+    ),
+    (
+        Ints(&[]),
+        (Ints(&[NULL]), Ints(&[]), Ints(&[NULL])),
+        "0 0 0",
+    ),
+    (Text("m"), (Text("x"), Text("m"), Text("n")), "0 0 3"),
+    (Text(""), (Text("x"), Text("east"), Text("")), "0 0 3"),
+];
+
+#[test]
+fn the_different_entries_of_several_states(rt: HostRuntime) -> Result<(), AllocError> {
+    expect_at_once(&rt, rt.alloc(), AggregateKind::CountDistinct, DIFFERENT)
 }

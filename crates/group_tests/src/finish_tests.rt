@@ -100,6 +100,17 @@ fn sum_outside_64_bits_is_fault_3(rt: HostRuntime) -> Result<(), AllocError> {
 }
 
 #[test]
+fn distinct_query_shows_each_row_once(rt: HostRuntime) -> Result<(), AllocError> {
+    let query = Query {
+        plain: true,
+        distinct: true,
+        ..ALL
+    };
+    let list = [(1, 2, NULL), (2, 9_000_000_000, NULL)];
+    expect(&rt, rt.alloc(), query, &list, "1 ; 2 ; ")
+}
+
+#[test]
 fn plain_query_shows_each_repeat_within_limit(rt: HostRuntime) -> Result<(), AllocError> {
     let query = Query {
         limit: Some(5),

@@ -14,7 +14,7 @@ use std::alloc::{AllocError, Global};
 pub const BEYOND: i64 = 505;
 
 /// The state of one integer.
-fn state_of(int: i64) -> State
+fn state_of(alloc: Global, int: i64) -> State
     ensures count { result.count ≡ 1 }
     ensures sum { IsSumState result }
 {
@@ -23,17 +23,18 @@ fn state_of(int: i64) -> State
         sum: i128::from(int),
         least: None,
         greatest: None,
+        entries: Sequence::new(alloc),
     })
 }
 
 /// The state of a sum; 404 is none, 505 for one outside 64 bits.
-fn state(sum: i64) -> State
-    ensures { IsSumState result }
+fn state(alloc: Global, sum: i64) -> Result<State, AllocError>
+    ensures { IfOk result IsSumState }
 {
     match sum {
-        NULL => State::new(),
-        BEYOND => state_of(i64::MAX).merge(state_of(i64::MAX)),
-        sum => state_of(sum),
+        NULL => Ok(State::new(alloc)),
+        BEYOND => state_of(alloc, i64::MAX).merge(state_of(alloc, i64::MAX)),
+        sum => Ok(state_of(alloc, sum)),
     }
 }
 
@@ -49,7 +50,7 @@ fn states_of(alloc: Global, sum: i64) -> Result<Sequence<State>, AllocError>
     ensures { IfOk result (λ states. (s : AStatistics) × (states ≡ s ∷ []) × IsSumState s) }
 {
     let mut states = Sequence::new(alloc);
-    states.push(state(sum))?;
+    states.push(state(alloc, sum)?)?;
     Ok(states)
 }
 

@@ -30,6 +30,7 @@ pub struct Query {
     pub descending: Option<bool>,
     pub limit: Option<u64>,
     pub plain: bool,
+    pub distinct: bool,
 }
 
 /// All groups, in the order of their keys.
@@ -38,6 +39,7 @@ pub const ALL: Query = Query {
     descending: None,
     limit: None,
     plain: false,
+    distinct: false,
 };
 
 fn above_two(alloc: Global, left: Expr) -> Result<Expr, AllocError>
@@ -183,6 +185,7 @@ pub fn plan_with(
         order: lists.order,
         limit: query.limit,
         plain: query.plain,
+        distinct: query.distinct,
     }
 }
 

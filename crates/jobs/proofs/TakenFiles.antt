@@ -9,10 +9,10 @@ use Rattle.std.specs.Prelude.{◌≤◌}
 use Rattle.meaning.specs.Gather.{join_cells}
 use Rattle.meaning.specs.Said.{Cell}
 use Rattle.meaning.specs.declared.answer.Cell.TheVariants.{Nothing, One}
-use Rattle.partial_codec.specs.Fault.{number_of}
+use Rattle.answer_fields.specs.Fault.{number_of}
 use Rattle.partial_codec.specs.Job.{JobSpec}
 use Rattle.partial_codec.specs.State.{SpellsState, is_state}
-use Rattle.partial_codec.specs.declared.fault.DecodeFault.{DecodeFault}
+use Rattle.answer_fields.specs.declared.fault.DecodeFault.{DecodeFault}
 use Rattle.gathering.specs.Gathering.{GatherSpec, Joins, Takes, join_states}
 use Rattle.gathering.specs.declared.gather.Absorbed.{Absorbed}
 use Rattle.gathering.proofs.Held.{below_cut}

@@ -10,7 +10,7 @@ use Rattle.meaning.specs.Said.{Answer}
 use Rattle.meaning.specs.Said.{Cell}
 use Rattle.meaning.specs.declared.answer.Cell.TheVariants.{Nothing, One}
 use Rattle.meaning_laws.proofs.Cells.{join_cells-assoc, join_nothing}
-use Rattle.partial_codec.specs.declared.fault.DecodeFault.{DecodeFault}
+use Rattle.answer_fields.specs.declared.fault.DecodeFault.{DecodeFault}
 use Rattle.gathering.specs.Gathering.{join_states}
 use Rattle.jobs.specs.Gathering.{Taking, answer, state, passed, cell_among, cell_in, gathered}
 

@@ -12,10 +12,10 @@ use Rattle.meaning.specs.Said.{Cell}
 use Rattle.meaning.specs.declared.answer.Cell.TheVariants.{Nothing, One}
 use Rattle.meaning.specs.declared.plan.Plan.{Plan}
 use Rattle.partial_codec.specs.Answer.{Spells, obstacle}
-use Rattle.partial_codec.specs.Fault.{number_of}
+use Rattle.answer_fields.specs.Fault.{number_of}
 use Rattle.partial_codec.specs.Job.{JobSpec}
 use Rattle.partial_codec.specs.State.{SpellsState, is_state, state_bytes, state_obstacle}
-use Rattle.partial_codec.specs.declared.fault.DecodeFault.{DecodeFault}
+use Rattle.answer_fields.specs.declared.fault.DecodeFault.{DecodeFault}
 use Rattle.gathering.specs.Gathering.{GatherSpec}
 use Rattle.gathering.specs.Report.{summary}
 use Rattle.gathering.specs.declared.report.Report.{Report}

@@ -8,7 +8,7 @@ use Rattle.wire.specs.Bytes.{number_bytes}
 use Rattle.wire.specs.Reading.{number_at}
 use Rattle.wire.proofs.Numbers.{ok_is, number_again}
 use Rattle.partial_codec.specs.Job.{JobSpec, IsJob}
-use Rattle.partial_codec.specs.declared.fault.DecodeFault.{DecodeFault}
+use Rattle.answer_fields.specs.declared.fault.DecodeFault.{DecodeFault}
 use Rattle.partial_codec.specs.Answer.{Spells, fault_in, obstacle}
 use Rattle.partial_codec.proofs.Answers.{spelled_reads}
 use Rattle.journal.specs.Journal.{record_bytes, IsClosedBehind}

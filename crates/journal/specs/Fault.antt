@@ -4,9 +4,9 @@ use Rattle.meaning.specs.Said.{Answer}
 use Rattle.disk.specs.Disk.{DiskSpec, IsHonest}
 use Rattle.disk.specs.declared.disk.DiskFault.{DiskFault}
 use Rattle.disk.specs.declared.disk.DiskFault.TheVariants as of_disk
-use Rattle.partial_codec.specs.Fault as codec
+use Rattle.answer_fields.specs.Fault as codec
 use Rattle.partial_codec.specs.Job.{JobSpec}
-use Rattle.partial_codec.specs.declared.fault.DecodeFault.{DecodeFault}
+use Rattle.answer_fields.specs.declared.fault.DecodeFault.{DecodeFault}
 use Rattle.partial_codec.specs.Answer.{Spells, obstacle}
 use Rattle.gathering.specs.declared.fault.GatherFault.{GatherFault}
 use Rattle.gathering.specs.declared.fault.GatherFault.TheVariants as of_gather

@@ -7,15 +7,15 @@ use Rattle.meaning.specs.declared.answer.Group.{Group}
 use Rattle.meaning.specs.declared.answer.Statistics.{Statistics}
 use Rattle.meaning.specs.declared.plan.Aggregate.{Aggregate}
 use Rattle.meaning.specs.declared.plan.AggregateKind.{AggregateKind}
-use Rattle.meaning.specs.declared.plan.AggregateKind.TheVariants.{CountRows, Count, Sum, Min, Max, Avg}
+use Rattle.meaning.specs.declared.plan.AggregateKind.TheVariants.{CountRows, Count, Sum, Min, Max, Avg, CountDistinct, SumDistinct}
 use Rattle.meaning.specs.declared.plan.GroupingKey.{GroupingKey}
 use Rattle.meaning.specs.declared.plan.Plan.{Plan}
 use Rattle.meaning.specs.declared.value.ColType.{ColType}
 use Rattle.meaning.specs.declared.value.ColType.TheVariants as of_type
 use Rattle.meaning.specs.declared.value.Value.{Value}
 use Rattle.meaning.specs.declared.value.Value.TheVariants.{Null, Int}
-use Rattle.meaning.specs.Aggregate.{value}
-use Rattle.meaning.specs.Fitting.{is_extreme, is_group_of, is_key_of, is_state_of}
+use Rattle.meaning.specs.Aggregate.{total, value}
+use Rattle.meaning.specs.Fitting.{is_entry_of, is_extreme, is_group_of, is_key_of, is_state_of}
 use Rattle.meaning.specs.Operators.{fits_i64, sum_out_of_range}
 use Rattle.meaning.specs.Order.{Row, column, is_null}
 use Rattle.meaning.specs.Results.{all_ok, with_result}
@@ -87,7 +87,13 @@ one_typed Count t s v low high e fit = let same : Int (pos s.count) ≡ v = cc i
 one_typed Sum t s v low high e fit = sum_typed (s.count == 0) (fits_i64 s.sum) s.sum v e fit
 one_typed Avg t s v low high e fit = sum_typed (s.count == 0) true (int_div s.sum (pos s.count)) v e fit
 one_typed Min t s v low high e fit = let same : unwrap_or s.least Null ≡ v = cc in subst (λ (x : Value). is_of_type t x ≡ true) same (extreme_typed t s.least low)
+one_typed CountDistinct t s v low high e fit = let same : Int (pos (length s.entries)) ≡ v = cc in as_fits (Int (pos (length s.entries))) v same fit (λ f. f)
+one_typed SumDistinct t s v low high e fit = sum_typed (length s.entries == 0) (fits_i64 (total s.entries)) (total s.entries) v e fit
 one_typed Max t s v low high e fit = let same : unwrap_or s.greatest Null ≡ v = cc in subst (λ (x : Value). is_of_type t x ≡ true) same (extreme_typed t s.greatest high)
+
+-- the greatest and the set of some statistics are of a type
+abbrev are_rest_of_type : ColType → Statistics → Bool
+are_rest_of_type t s = is_extreme t s.greatest && list_all (is_entry_of t) s.entries
 
 abbrev type_of : Aggregate → ColType
 type_of a = result_type a.kind a.col_type
@@ -99,11 +105,12 @@ values_typed (a ∷ aggs) [] row shape are fit = cc
 values_typed (a ∷ aggs) (s ∷ states) row shape are fit =
     let t = taken (judge (a, s)) (all_ok (map judge (zip aggs states))) row are in
     let state = first_of (is_state_of a s) (pointwise is_state_of aggs states) shape in
-    let extremes = second_of _ (is_extreme a.col_type s.least && is_extreme a.col_type s.greatest) state in
+    let typed = second_of _ (is_extreme a.col_type s.least && are_rest_of_type a.col_type s) state in
+    let rest = second_of (is_extreme a.col_type s.least) (are_rest_of_type a.col_type s) typed in
     let fit' : list_all fits (t.head ∷ t.tail) ≡ true = ap (list_all fits) (sym t.parts) ∙ fit in
     ap (are_of_types (map type_of (a ∷ aggs))) t.parts
     ∙ both (is_of_type (type_of a) t.head) (are_of_types (map type_of aggs) t.tail)
-    (one_typed a.kind a.col_type s t.head (first_of (is_extreme a.col_type s.least) (is_extreme a.col_type s.greatest) extremes) (second_of (is_extreme a.col_type s.least) (is_extreme a.col_type s.greatest) extremes) t.is_head (first_of (fits t.head) (list_all fits t.tail) fit'))
+    (one_typed a.kind a.col_type s t.head (first_of (is_extreme a.col_type s.least) (are_rest_of_type a.col_type s) typed) (first_of (is_extreme a.col_type s.greatest) (list_all (is_entry_of a.col_type) s.entries) rest) t.is_head (first_of (fits t.head) (list_all fits t.tail) fit'))
     (values_typed aggs states t.tail (second_of (is_state_of a s) (pointwise is_state_of aggs states) shape) t.is_tail (second_of (fits t.head) (list_all fits t.tail) fit'))
 
 keys_typed : (keys : List GroupingKey) (key : Row) → pointwise (λ k v. is_of_type k.col_type v) keys key ≡ true → are_of_types (map (λ k. k.col_type) keys) key ≡ true

@@ -1,4 +1,5 @@
 -- The lemmas of this crate.
+pub mod RowSets
 pub mod BestRows
 pub mod Offered
 pub mod KeyedRows

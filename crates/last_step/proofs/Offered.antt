@@ -1,10 +1,10 @@
 -- A row that is put among rows in order.
-use Rattle.std.proofs.Common.{◌≡◌, ℕ, zero, suc, ◌+◌, ◌-◌, ◌<◌, ◌≤◌, true, false, Bool, cond, List, [], ◌∷◌, ◌++◌, map, take, length, get_or, Some, refl, sym, ap, ◌∙◌, subst, arith}
+use Rattle.std.proofs.Common.{◌≡◌, ℕ, zero, suc, ◌+◌, ◌-◌, ◌<◌, ◌≤◌, true, false, Bool, cond, List, [], ◌∷◌, ◌++◌, map, take, length, get_or, None, Some, refl, sym, ap, ◌∙◌, subst, arith}
 use Rattle.std.specs.Prelude.{IsSorted}
 use Rattle.std.specs.Cmp.{IsStrictWeakOrder}
-use Rattle.std.specs.List.{insert}
+use Rattle.std.specs.List.{dedup, insert}
 use Rattle.std.specs.List.Sorted.{IsPartitionedBy, IsPartitionPoint}
-use Rattle.std.specs.Ordering.{is_lt}
+use Rattle.std.specs.Ordering.{eq_by_cmp, is_lt}
 use Rattle.std.proofs.lemmas.List.{get_or-map, map_more, length-map}
 use Rattle.std.proofs.lemmas.List.Sorted.{ranks_by, sorted_far}
 use Rattle.meaning.specs.Order.{Row, inserted, sorted}
@@ -13,8 +13,8 @@ use Rattle.meaning.specs.declared.plan.Plan.{Plan}
 use Rattle.meaning.specs.Finish.{limited, order_cmp}
 use Rattle.meaning.proofs.Orders.{order_exact, order_total}
 use Rattle.meaning.proofs.Sorting.{sorted-in_order}
-use Rattle.last_step.specs.Best.{best}
-use Rattle.last_step.proofs.BestRows.{cut_short, cut_sorted, one_offered}
+use Rattle.last_step.specs.Best.{arranged, best}
+use Rattle.last_step.proofs.BestRows.{cut_short, cut_sorted, once_in_order, one_offered}
 
 -- ---- lists
 
@@ -42,11 +42,40 @@ module _ {P X : Type 0} (f : P → X) where
   put_in most place p old longer new is cut = ap (map f) (cut ∙ ap (take most) is) ∙ map_take most (insert old place p) ∙ ap (take most) (map_insert old place p)
 
 -- what LIMIT leaves of positions in order
-pub cut_best : (plan : Plan) (f : ℕ → Row) (order : List OrderKey) (most : ℕ) (ps qs : List ℕ) (rows : List Row) → order ≡ plan.order → plan.limit ≡ Some most → map f ps ≡ sorted (order_cmp order) rows → qs ≡ take most ps
+pub cut_best : (plan : Plan) (f : ℕ → Row) (most : ℕ) (ps qs : List ℕ) (rows : List Row) → plan.limit ≡ Some most → map f ps ≡ arranged plan.distinct (order_cmp plan.order) rows → qs ≡ take most ps
     → map f qs ≡ best plan rows
-cut_best plan f order most ps qs rows ordered limit is cut =
-    ap (map f) cut ∙ map_take f most ps ∙ ap (take most) (is ∙ ap (λ keys. sorted (order_cmp keys) rows) ordered)
-    ∙ ap (λ l. limited l (sorted (order_cmp plan.order) rows)) (sym limit)
+cut_best plan f most ps qs rows limit is cut =
+    ap (map f) cut ∙ map_take f most ps ∙ ap (take most) is
+    ∙ ap (λ l. limited l (arranged plan.distinct (order_cmp plan.order) rows)) (sym limit)
+
+-- the same of rows that are picked one by one
+pub led_best : (plan : Plan) (order : List OrderKey) (most : ℕ) (rows shown : List Row) → order ≡ plan.order → plan.limit ≡ Some most → plan.distinct ≡ false → shown ≡ take most (sorted (order_cmp order) rows)
+    → shown ≡ best plan rows
+led_best plan order most rows shown ordered limit all is =
+    is ∙ ap (λ keys. take most (sorted (order_cmp keys) rows)) ordered
+    ∙ (λ i. limited (sym limit i) (arranged (sym all i) (order_cmp plan.order) rows))
+
+-- where there is no LIMIT
+pub whole_best : (plan : Plan) (rows shown : List Row) → plan.limit ≡ None → shown ≡ arranged plan.distinct (order_cmp plan.order) rows → shown ≡ best plan rows
+whole_best plan rows shown limit is = is ∙ ap (λ l. limited l (arranged plan.distinct (order_cmp plan.order) rows)) (sym limit)
+
+-- rows in order, where equal ones stand once
+pub once_arranged : (distinct : Bool) (order keys : List OrderKey) (rows before shown : List Row) → distinct ≡ true → order ≡ keys → before ≡ sorted (order_cmp order) rows
+    → shown ≡ dedup (eq_by_cmp (order_cmp order)) before → shown ≡ arranged distinct (order_cmp keys) rows
+once_arranged distinct order keys rows before shown once ordered is left =
+    left ∙ ap (dedup (eq_by_cmp (order_cmp order))) is
+    ∙ once_in_order (order_total order) (order_exact order) rows
+    ∙ (λ i. arranged (sym once i) (order_cmp (ordered i)) rows)
+
+-- cut by LIMIT
+pub once_best : (plan : Plan) (order : List OrderKey) (rows before shown : List Row) → plan.distinct ≡ true → order ≡ plan.order → before ≡ sorted (order_cmp order) rows
+    → shown ≡ limited plan.limit (dedup (eq_by_cmp (order_cmp order)) before) → shown ≡ best plan rows
+once_best plan order rows before shown once ordered is cut = cut ∙ ap (limited plan.limit) (once_arranged plan.distinct order plan.order rows before _ once ordered is refl)
+
+-- and where they stand as often as there are
+pub all_arranged : (distinct : Bool) (order keys : List OrderKey) (rows shown : List Row) → distinct ≡ false → order ≡ keys → shown ≡ sorted (order_cmp order) rows
+    → shown ≡ arranged distinct (order_cmp keys) rows
+all_arranged distinct order keys rows shown all ordered is = is ∙ (λ i. arranged (sym all i) (order_cmp (ordered i)) rows)
 
 -- ---- rows at positions
 

@@ -15,7 +15,7 @@ use Rattle.last_step.specs.declared.run.Run.{Run}
 use Rattle.last_step.specs.declared.stop.Stop.{Stop}
 use Rattle.last_step.specs.declared.stop.Stop.TheVariants as stop
 use Rattle.last_step.specs.Best.{best, best_of}
-use Rattle.last_step.proofs.BestRows.{from_best, only_fault, same_parts}
+use Rattle.last_step.proofs.BestRows.{best_kept, from_best, only_fault, same_parts}
 use Rattle.last_step.specs.Batches.{HasValues, IsFront, IsJudged, ended, row_in, row_of, shown_after}
 use Rattle.last_step.specs.Fitting.{AreGroupsOf}
 use Rattle.meaning.specs.Wanting.{ReportsIfMemory}
@@ -106,15 +106,19 @@ module _ (plan : Plan) where
 
   -- ---- plain queries
 
-  pub plain_after : (before : List Row) (gs : List Group) → plan.plain ≡ true → rows_after plan before gs ≡ Ok (before ++ plain_rows gs)
-  plain_after before [] plain = refl
-  plain_after before (g ∷ gs) plain =
+  plain_parts : (before : List Row) (gs : List Group) → plan.plain ≡ true → rows_after plan before gs ≡ Ok (before ++ plain_rows false gs)
+  plain_parts before [] plain = refl
+  plain_parts before (g ∷ gs) plain =
       let one : rows_of plan (read_off plan g) ≡ Ok (replicate g.rows g.key) =
       ap (λ b. cond b (Ok (replicate g.rows g.key)) (and_then (all_ok (read_off plan g).aggregates) (λ values. shown plan (group_row g.key values)))) plain in
       one_after before g gs
       ∙ ap (λ r. and_then r (λ rows. rows_after plan (before ++ rows) gs)) one
-      ∙ plain_after (before ++ replicate g.rows g.key) gs plain
-      ∙ ap Ok (append_assoc before (replicate g.rows g.key) (plain_rows gs))
+      ∙ plain_parts (before ++ replicate g.rows g.key) gs plain
+      ∙ ap Ok (append_assoc before (replicate g.rows g.key) (plain_rows false gs))
+
+  -- the best of the keys, however often each is kept
+  pub plain_after : (before : List Row) (gs : List Group) → plan.plain ≡ true → best_of plan (rows_after plan before gs) ≡ Ok (best plan (before ++ plain_rows plan.distinct gs))
+  plain_after before gs plain = ap (best_of plan) (plain_parts before gs plain) ∙ ap Ok (sym (best_kept plan before gs))
 
   -- ---- batch by batch
 

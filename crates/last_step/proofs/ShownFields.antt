@@ -15,15 +15,16 @@ use Rattle.meaning.specs.declared.plan.Plan.{Plan}
 use Rattle.meaning.specs.declared.value.Value.{Value}
 use Rattle.meaning.specs.Answer.{read_off}
 use Rattle.meaning.specs.declared.answer.Group.{Group}
-use Rattle.meaning.specs.Finish.{Evaluated, Rows, finished, rows_behind, behind_having, shown, rows_of, limited, all_rows, finish, order_cmp}
+use Rattle.meaning.specs.Finish.{Evaluated, Rows, finished, rows_behind, behind_having, shown, rows_of, limited, all_rows, finish, order_cmp, shown_once}
 use Rattle.meaning.specs.Expr.{eval, with_value, values}
 use Rattle.meaning.specs.Joined.{group_row}
-use Rattle.meaning.specs.Order.{Row, inserted, sorted}
+use Rattle.meaning.specs.Order.{Row, inserted, row_cmp, sorted}
 use Rattle.meaning.specs.Results.{with_result, all_ok, and_then}
 use Rattle.last_step.specs.Given.{meant}
 use Rattle.last_step.specs.Printing.{HasFields, IsPrintable, ShowsSomething}
 use Rattle.last_step.specs.declared.finished.Finished.{Finished}
 use Rattle.last_step.specs.declared.finished.Finished.TheVariants as finished
+use Rattle.last_step.proofs.RowSets.{all_by_recursion}
 
 abbrev IsFull : Row → Type 0
 IsFull row = row ≢ []
@@ -118,12 +119,16 @@ full_groups : (plan : Plan) (groups : List Evaluated) → plan.items ≢ [] → 
 full_groups plan [] some keyed = tt
 full_groups plan (g ∷ gs) some keyed = full_joined (rows_of plan g) (all_ok (map (rows_of plan) gs)) (full_rows_of plan g some keyed.0) (full_groups plan gs some keyed.1)
 
+full_once : (distinct : Bool) (rows : List Row) → AreFull rows → AreFull (shown_once distinct rows)
+full_once true rows p = all_by_recursion row_cmp IsFull rows p
+full_once false rows p = p
+
 full_output : (plan : Plan) (parts : Result (List (List Row)) ℕ) (rows : List Row) → IfOk parts (λ parts. AreFull (all_rows parts))
-    → finished (and_then parts (λ parts. Ok (limited plan.limit (sorted (order_cmp plan.order) (all_rows parts))))) ≡ Rows rows → AreFull rows
+    → finished (and_then parts (λ parts. Ok (limited plan.limit (sorted (order_cmp plan.order) (shown_once plan.distinct (all_rows parts)))))) ≡ Rows rows → AreFull rows
 full_output plan (Err c) rows p e = cc
 full_output plan (Ok parts) rows p e =
-    let made : AreFull (limited plan.limit (sorted (order_cmp plan.order) (all_rows parts))) = full_limited plan.limit _ (full_sorted (order_cmp plan.order) (all_rows parts) p) in
-    let same : limited plan.limit (sorted (order_cmp plan.order) (all_rows parts)) ≡ rows = cc in
+    let made : AreFull (limited plan.limit (sorted (order_cmp plan.order) (shown_once plan.distinct (all_rows parts)))) = full_limited plan.limit _ (full_sorted (order_cmp plan.order) (shown_once plan.distinct (all_rows parts)) (full_once plan.distinct (all_rows parts) p)) in
+    let same : limited plan.limit (sorted (order_cmp plan.order) (shown_once plan.distinct (all_rows parts))) ≡ rows = cc in
     subst AreFull same made
 
 abbrev IsKeyed : Group → Type 0

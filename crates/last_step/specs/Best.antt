@@ -1,21 +1,26 @@
 -- The rows that an answer shows of many, and positions with what they are sorted by.
-use Rattle.std.specs.Prelude.{ℕ, if◌then◌else◌, Bool, false, List, [], ◌∷◌, Result, Ok, ◌≡◌}
+use Rattle.std.specs.Prelude.{ℕ, if◌then◌else◌, Bool, true, false, List, [], ◌∷◌, Result, Ok, ◌≡◌}
 use Rattle.std.specs.declared.cmp.Ordering.{Ordering}
 use Rattle.std.specs.Ordering.{nat_cmp, int_cmp, on, then_cmp, flip_args}
 use Rattle.meaning.specs.declared.plan.OrderKey.{OrderKey}
 use Rattle.meaning.specs.declared.plan.Plan.{Plan}
 use Rattle.meaning.specs.declared.value.Value.{Value}
 use Rattle.meaning.specs.declared.value.Value.TheVariants.{Null}
-use Rattle.meaning.specs.Order.{Row, column, number, rank, sorted}
+use Rattle.meaning.specs.Order.{Row, column, number, rank, sorted, ascending_set}
 use Rattle.meaning.specs.Finish.{limited, order_cmp}
 use Rattle.meaning.specs.Results.{and_then}
 use Rattle.vectors.specs.declared.vector.Vector.{Vector}
 use Rattle.last_step.specs.declared.keyed.Keyed.{Keyed}
 use Rattle.last_step.specs.Batches.{lane_row}
 
+-- rows in order, equal ones once where DISTINCT asks so
+abbrev pub arranged : Bool → (Row → Row → Ordering) → List Row → List Row
+arranged true cmp rows = ascending_set cmp rows
+arranged false cmp rows = sorted cmp rows
+
 -- the rows in the order of the answer, cut by LIMIT
 abbrev pub best : Plan → List Row → List Row
-best plan rows = limited plan.limit (sorted (order_cmp plan.order) rows)
+best plan rows = limited plan.limit (arranged plan.distinct (order_cmp plan.order) rows)
 
 -- the same of rows that may be a fault instead
 abbrev pub best_of : Plan → Result (List Row) ℕ → Result (List Row) ℕ

@@ -1,5 +1,5 @@
 -- Rows with the number of their repeats.
-use Rattle.std.specs.Prelude.{ℕ, ◌-◌, min, List, [], ◌∷◌, ◌++◌, map, replicate, Option, Some, None, Result, Ok}
+use Rattle.std.specs.Prelude.{ℕ, ◌-◌, min, Bool, true, false, List, [], ◌∷◌, ◌++◌, map, replicate, Option, Some, None, Result, Ok}
 use Rattle.meaning.specs.declared.plan.Plan.{Plan}
 use Rattle.meaning.specs.declared.answer.Group.{Group}
 use Rattle.meaning.specs.Answer.{read_off}
@@ -30,10 +30,15 @@ rows_behind_groups plan groups = and_then (all_ok (map (rows_of plan) groups)) (
 abbrev pub rows_after : Plan → List Row → List Group → Result (List Row) ℕ
 rows_after plan before groups = and_then (all_ok (map (rows_of plan) (map (read_off plan) groups))) (λ parts. Ok (before ++ all_rows parts))
 
--- the keys of groups, each as often as the group has rows
-abbrev pub plain_rows : List Group → List Row
-plain_rows [] = []
-plain_rows (g ∷ gs) = replicate g.rows g.key ++ plain_rows gs
+-- how often a key is kept of so many rows: where equal rows are shown once, once is enough
+abbrev pub times_kept : Bool → ℕ → ℕ
+times_kept true rows = min rows 1
+times_kept false rows = rows
+
+-- the keys of groups, each as often as it is kept
+abbrev pub plain_rows : Bool → List Group → List Row
+plain_rows distinct [] = []
+plain_rows distinct (g ∷ gs) = replicate (times_kept distinct g.rows) g.key ++ plain_rows distinct gs
 
 -- how many of so many rows LIMIT leaves behind those that are shown
 abbrev pub room : Option ℕ → ℕ → ℕ → ℕ

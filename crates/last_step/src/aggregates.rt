@@ -57,6 +57,8 @@ pub fn value_of(alloc: Global, kind: AggregateKind, state: &State) -> Result<Val
         AggregateKind::Count => integer_of(alloc, kind, state),
         AggregateKind::Sum => integer_of(alloc, kind, state),
         AggregateKind::Avg => integer_of(alloc, kind, state),
+        AggregateKind::CountDistinct => integer_of(alloc, kind, state),
+        AggregateKind::SumDistinct => integer_of(alloc, kind, state),
     }
 }
 

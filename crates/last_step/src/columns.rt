@@ -176,6 +176,8 @@ fn result_type(kind: AggregateKind, col_type: ColType) -> ColType
         AggregateKind::Count => ColType::Int,
         AggregateKind::Sum => ColType::Int,
         AggregateKind::Avg => ColType::Int,
+        AggregateKind::CountDistinct => ColType::Int,
+        AggregateKind::SumDistinct => ColType::Int,
     }
 }
 

@@ -1,7 +1,10 @@
 //! The last step as a whole.
 ghost use Rattle.std.specs.Prelude.{◌≡◌, map, IfOk};
 ghost use Rattle.meaning.specs.Answer.{read_off};
+ghost use Rattle.std.specs.List.{dedup};
+ghost use Rattle.std.specs.Ordering.{eq_by_cmp};
 ghost use Rattle.meaning.specs.Finish as the;
+ghost use Rattle.meaning.specs.Order.{sorted};
 ghost use Rattle.last_step.specs.Best.{best};
 ghost use Rattle.last_step.specs.Fitting.{AreGroupsOf};
 ghost use Rattle.last_step.specs.Given.{meant};
@@ -11,29 +14,60 @@ ghost use Rattle.last_step.specs.Runs.{expanded};
 use crate::expanding::expand;
 use crate::finished::Finished;
 use crate::ordering::sort;
+use crate::repeats::different_rows;
 use crate::run::Run;
 use crate::runs::runs_of;
 use crate::stop::Stop;
 use aggregate_states::Group;
-use meaning::{Plan, Row, Sequence};
+use meaning::{OrderKey, Plan, Row, Sequence};
 use std::alloc::{AllocError, Global};
 use std::mem::drop;
 
-/// The rows of the runs in the order of the answer, cut by LIMIT.
-fn rows_in_order(alloc: Global, plan: &Plan, runs: Vec<Run>) -> Result<Sequence<Row>, AllocError>
-    ensures { IfOk result (λ rows. rows ≡ best plan.now (expanded runs.items)) }
+/// The rows of the runs in order, cut to so many.
+fn sorted_rows(
+    alloc: Global,
+    order: &[OrderKey],
+    limit: Option<u64>,
+    runs: Vec<Run>,
+) -> Result<Sequence<Row>, AllocError>
+    ensures { IfOk result (λ rows. rows ≡ the.limited limit (sorted (the.order_cmp order.now)
+        (expanded runs.items))) }
 {
     let mut runs = runs;
-    match sort(&mut runs, plan.order.as_slice()) {
+    match sort(&mut runs, order) {
         Ok(()) => {
             runs.reverse();
-            expand(alloc, runs, plan.limit)
+            expand(alloc, runs, limit)
         }
         Err(fault) => {
             drop(runs);
             Err(fault)
         }
     }
+}
+
+/// Of rows in order each once, cut to so many.
+fn cut_once(order: &[OrderKey], limit: Option<u64>, rows: Sequence<Row>) -> Sequence<Row>
+    ensures { result ≡ the.limited limit (dedup (eq_by_cmp (the.order_cmp order.now)) rows) }
+{
+    let mut rows = different_rows(order, rows.into_vec());
+    let Some(most) = limit else {
+        return Sequence::from_vec(rows);
+    };
+    rows.truncate(most as usize);
+    Sequence::from_vec(rows)
+}
+
+/// The rows of the runs in the order of the answer, cut by LIMIT.
+fn rows_in_order(alloc: Global, plan: &Plan, runs: Vec<Run>) -> Result<Sequence<Row>, AllocError>
+    ensures { IfOk result (λ rows. rows ≡ best plan.now (expanded runs.items)) }
+{
+    let order = plan.order.as_slice();
+    if plan.distinct {
+        let rows = sorted_rows(alloc, order, None, runs)?;
+        return Ok(cut_once(order, plan.limit, rows));
+    }
+    sorted_rows(alloc, order, plan.limit, runs)
 }
 
 /// The rows, or the first fault.

@@ -13,6 +13,7 @@ mod lent;
 mod ordering;
 mod print_fault;
 mod printing;
+mod repeats;
 mod run;
 mod runs;
 mod showing;

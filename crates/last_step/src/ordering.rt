@@ -38,7 +38,7 @@ fn compare_whole(one: &Row, other: &Row) -> Ordering
 }
 
 /// The order of the answer: by the items of ORDER BY, then by whole rows.
-fn compare(order: &[OrderKey], one: &Row, other: &Row) -> Ordering
+pub fn compare(order: &[OrderKey], one: &Row, other: &Row) -> Ordering
     ensures { result ≡ order_cmp order.now one.now other.now }
 {
     for key in order {

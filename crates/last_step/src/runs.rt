@@ -20,7 +20,7 @@ fn push_all(alloc: Global, plan: &Plan, groups: &[Group], runs: &mut Vec<Run>) -
         (best_of plan.now (rows_after plan.now (expanded runs.old.items) groups.now)) }
 {
     if plan.plain {
-        return Ok(push_plain(alloc, groups, runs)?);
+        return Ok(push_plain(alloc, plan.distinct, groups, runs)?);
     }
     push_grouped(alloc, plan, groups, runs)
 }

@@ -10,7 +10,7 @@ ghost use Rattle.last_step.specs.Best.{best, best_of};
 ghost use Rattle.last_step.specs.Fitting.{AreGroupsOf};
 ghost use Rattle.meaning.specs.Wanting.{ReportsIfMemory};
 ghost use Rattle.last_step.specs.Given.{fault_returned};
-ghost use Rattle.last_step.specs.Runs.{expanded, plain_rows, rows_after};
+ghost use Rattle.last_step.specs.Runs.{expanded, plain_rows, rows_after, times_kept};
 
 use crate::aggregates::front_of;
 use crate::columns::batch_of;
@@ -185,16 +185,31 @@ pub fn push_grouped(
     Ok(())
 }
 
-/// The keys of a plain query, each as often as it has rows.
-pub fn push_plain(alloc: Global, groups: &[Group], runs: &mut Vec<Run>) -> Result<(), AllocError>
+/// How often a key is kept of so many rows. Where equal rows are shown once, once is enough.
+fn times_kept(distinct: bool, rows: u64) -> u64
+    ensures { result ≡ times_kept distinct rows }
+{
+    if distinct {
+        return rows.min(1);
+    }
+    rows
+}
+
+/// The keys of a plain query, each as often as it is kept.
+pub fn push_plain(
+    alloc: Global,
+    distinct: bool,
+    groups: &[Group],
+    runs: &mut Vec<Run>,
+) -> Result<(), AllocError>
     ensures { OnOk result (expanded runs.new.items ≡ expanded runs.old.items
-        ++ plain_rows groups.now) }
+        ++ plain_rows distinct groups.now) }
 {
     for group in groups {
         let row = copy_row(alloc, group.key())?;
         runs.push(Run {
             row,
-            times: group.rows(),
+            times: times_kept(distinct, group.rows()),
         })?;
     }
     Ok(())

@@ -1,13 +1,14 @@
 //! Positions in the order of the answer.
-ghost use Rattle.std.specs.Prelude.{◌≡◌, ◌<◌, ◌^◌, map, All, IfOk};
+ghost use Rattle.std.specs.Prelude.{◌≡◌, ◌<◌, ◌^◌, true, false, map, All, IfOk};
 ghost use Rattle.meaning.specs.Finish.{order_cmp};
 ghost use Rattle.meaning.specs.Order.{number, rank, sorted, value_in};
 ghost use Rattle.last_step.specs.Batches.{lane_row};
-ghost use Rattle.last_step.specs.Best.{IsKeyed, best, by_head, first_value, head_cmp, is_descending, keyed_cmp};
+ghost use Rattle.last_step.specs.Best.{IsKeyed, arranged, best, by_head, first_value, head_cmp, is_descending, keyed_cmp};
 
 use crate::keyed::Keyed;
 use crate::lanes::{compare_lanes, item_value};
 use crate::leading::leading_positions;
+use crate::repeats::different_lanes;
 use aggregate_states::position;
 use meaning::{OrderKey, Plan, ValueRef};
 use std::alloc::{AllocError, Global};
@@ -140,12 +141,42 @@ fn sorted_positions(
     positions_of(alloc, keyed.as_slice())
 }
 
+/// The selected positions in the order of the answer, one of equal rows where DISTINCT asks so.
+fn arranged_positions(
+    alloc: Global,
+    plan: &Plan,
+    items: &[Vector<'_>],
+    kept: &Selection,
+) -> Result<Vec<u32>, AllocError>
+    requires { kept.now.below < 2 ^ 32 }
+    ensures { IfOk result (λ ps. map (lane_row items.now) ps.items
+        ≡ arranged plan.now.distinct (order_cmp plan.now.order) (map
+        (lane_row items.now) kept.now.list)) }
+{
+    let order = plan.order.as_slice();
+    let positions = sorted_positions(alloc, order, items, kept)?;
+    if plan.distinct {
+        return Ok(different_lanes(order, items, positions));
+    }
+    Ok(positions)
+}
+
 /// Whether LIMIT leaves few rows.
 pub fn are_few(plan: &Plan) -> bool {
     match plan.limit {
         Some(most) => most <= FEW_ROWS,
         None => false,
     }
+}
+
+/// Whether the rows that LIMIT leaves are picked one by one.
+fn is_led(plan: &Plan) -> bool
+    ensures { result ≡ true → plan.now.distinct ≡ false }
+{
+    if plan.distinct {
+        return false;
+    }
+    are_few(plan)
 }
 
 /// The selected positions in the order of the answer, cut by LIMIT.
@@ -159,14 +190,14 @@ pub fn best_positions(
     ensures { IfOk result (λ ps. map (lane_row items.now) ps.items
         ≡ best plan.now (map (lane_row items.now) kept.now.list)) }
 {
-    let order = plan.order.as_slice();
     let Some(most) = plan.limit else {
-        return sorted_positions(alloc, order, items, kept);
+        return arranged_positions(alloc, plan, items, kept);
     };
-    if are_few(plan) {
+    if is_led(plan) {
+        let order = plan.order.as_slice();
         return leading_positions(alloc, order, items, kept, most as usize);
     }
-    let mut positions = sorted_positions(alloc, order, items, kept)?;
+    let mut positions = arranged_positions(alloc, plan, items, kept)?;
     positions.truncate(most as usize);
     Ok(positions)
 }

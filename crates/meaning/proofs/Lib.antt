@@ -3,6 +3,7 @@ pub mod Orders
 pub mod Least
 pub mod Merge
 pub mod Sets
+pub mod Unions
 pub mod Groups
 pub mod Same
 pub mod LiveTable

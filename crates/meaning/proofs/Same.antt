@@ -60,8 +60,10 @@ equal_statistics a b e =
     let counts = (nat_exact a.count b.count).0 (first_of _ _ e) in
     let sums = (int_exact a.sum b.sum).0 (first_of _ _ e2) in
     let leasts = (maybe_value_exact a.least b.least).0 (first_of _ _ e3) in
-    let greatests = (maybe_value_exact a.greatest b.greatest).0 (second_of _ _ e3) in
-    λ i. record { count = counts i; sum = sums i; least = leasts i; greatest = greatests i }
+    let e4 = second_of _ _ e3 in
+    let greatests = (maybe_value_exact a.greatest b.greatest).0 (first_of _ _ e4) in
+    let sets = (pointwise_decides value_same a.entries b.entries).0 (second_of _ _ e4) in
+    λ i. record { count = counts i; sum = sums i; least = leasts i; greatest = greatests i; entries = sets i }
 
 pub statistics_exact : IsExact same_statistics
 statistics_exact a b = (
@@ -70,7 +72,8 @@ statistics_exact a b = (
       both _ _ ((nat_exact a.count b.count).1 (ap (λ s. s.count) e))
       (both _ _ ((int_exact a.sum b.sum).1 (ap (λ s. s.sum) e))
       (both _ _ ((maybe_value_exact a.least b.least).1 (ap (λ s. s.least) e))
-      ((maybe_value_exact a.greatest b.greatest).1 (ap (λ s. s.greatest) e)))),
+      (both _ _ ((maybe_value_exact a.greatest b.greatest).1 (ap (λ s. s.greatest) e))
+      ((pointwise_decides value_same a.entries b.entries).1 (ap (λ s. s.entries) e))))),
 )
 
 equal_groups : (a b : Group) → same_group a b ≡ true → a ≡ b

@@ -1,6 +1,6 @@
 -- Tests, and tests of all elements of a list, taken apart and put together.
 use Rattle.std.specs.Prelude.{◌≡◌, Bool, true, false, cond, not, ◌&&◌, ◌||◌, List, [], ◌∷◌, ◌++◌, map, filter, flat_map}
-use Rattle.std.specs.List.{list_all}
+use Rattle.std.specs.List.{list_all, list_any}
 use Rattle.std.specs.Ordering.{match_ordering}
 use Rattle.std.specs.declared.cmp.Ordering.{Ordering}
 use Rattle.std.specs.declared.cmp.Ordering.TheVariants.{Less, Equal, Greater}
@@ -130,3 +130,10 @@ module _ {X Y : Type 0} where
       ≡ true → list_all (λ y. list_all (λ x. t x y) xs) ys ≡ true
   all_turned t xs [] e = refl
   all_turned t xs (y ∷ ys) e = both _ _ (heads t y ys xs e) (all_turned t xs ys (tails t y ys xs e))
+
+pub list_any-append : {X : Type 0} (p : X → Bool) (xs ys : List X) → list_any p (xs ++ ys)
+    ≡ (list_any p xs || list_any p ys)
+list_any-append p [] ys = refl
+list_any-append p (x ∷ xs) ys =
+    elim (p x) as (λ b. (b || list_any p (xs ++ ys))
+    ≡ ((b || list_any p xs) || list_any p ys)) [ true ↦ refl | false ↦ list_any-append p xs ys ]

@@ -1,5 +1,5 @@
 -- The last step: from groups and their aggregates to the rows of the answer, in their order.
-use Rattle.std.specs.Prelude.{ℕ, if◌then◌else◌, List, [], ◌∷◌, ◌++◌, map, take, replicate, Option, Some, None, Result, Ok, Err}
+use Rattle.std.specs.Prelude.{ℕ, Bool, true, false, if◌then◌else◌, List, [], ◌∷◌, ◌++◌, map, take, replicate, Option, Some, None, Result, Ok, Err}
 use Rattle.std.specs.declared.cmp.Ordering.{Ordering}
 use Rattle.std.specs.Ordering.{on, then_cmp, flip_args}
 use Rattle.meaning.specs.declared.value.Value.{Value}
@@ -9,7 +9,7 @@ use Rattle.meaning.specs.declared.outcome.Outcome.TheVariants as gives
 use Rattle.meaning.specs.declared.expr.Expr.{Expr}
 use Rattle.meaning.specs.declared.plan.OrderKey.{OrderKey}
 use Rattle.meaning.specs.declared.plan.Plan.{Plan}
-use Rattle.meaning.specs.Order.{Row, column, value_cmp, row_cmp, sorted}
+use Rattle.meaning.specs.Order.{Row, column, value_cmp, row_cmp, sorted, ascending_set}
 use Rattle.meaning.specs.declared.joined_row.JoinedRow.{JoinedRow}
 use Rattle.meaning.specs.Joined.{group_row}
 use Rattle.meaning.specs.Operators.{code_of}
@@ -66,11 +66,17 @@ abbrev pub all_rows : List (List Row) → List Row
 all_rows [] = []
 all_rows (xs ∷ xss) = xs ++ all_rows xss
 
+-- SELECT DISTINCT shows equal rows once
+abbrev pub shown_once : Bool → List Row → List Row
+shown_once true all = ascending_set row_cmp all
+shown_once false all = all
+
 abbrev pub finished : Result (List Row) ℕ → Finished
 finished (Ok shown) = Rows shown
 finished (Err c) = Refusal c
 
--- the first fault, from group to group in the order of their keys; else the rows, in order and cut by LIMIT
+-- the first fault, from group to group in the order of their keys; else the rows, each once where DISTINCT asks so, in order
+-- and cut by LIMIT
 abbrev pub finish : Plan → List Evaluated → Finished
 finish plan groups = finished (and_then (all_ok (map (rows_of plan) groups))
-    (λ parts. Ok (limited plan.limit (sorted (order_cmp plan.order) (all_rows parts)))))
+    (λ parts. Ok (limited plan.limit (sorted (order_cmp plan.order) (shown_once plan.distinct (all_rows parts))))))

@@ -5,7 +5,7 @@ use Rattle.std.specs.Cmp.Lexicographic.{pointwise}
 use Rattle.meaning.specs.declared.value.Value.{Value}
 use Rattle.meaning.specs.declared.value.ColType.{ColType}
 use Rattle.meaning.specs.declared.plan.AggregateKind.{AggregateKind}
-use Rattle.meaning.specs.declared.plan.AggregateKind.TheVariants.{CountRows, Count, Sum, Min, Max, Avg}
+use Rattle.meaning.specs.declared.plan.AggregateKind.TheVariants.{CountRows, Count, Sum, Min, Max, Avg, CountDistinct, SumDistinct}
 use Rattle.meaning.specs.declared.plan.Aggregate.{Aggregate}
 use Rattle.meaning.specs.declared.plan.Plan.{Plan}
 use Rattle.meaning.specs.declared.answer.RowFault.{RowFault}
@@ -14,7 +14,7 @@ use Rattle.meaning.specs.declared.answer.Group.{Group}
 use Rattle.meaning.specs.Said.{Body}
 use Rattle.meaning.specs.declared.answer.Body.TheVariants.{Groups, Fault}
 use Rattle.meaning.specs.Said.{Answer}
-use Rattle.meaning.specs.Order.{Row, is_null, row_cmp, is_ascending}
+use Rattle.meaning.specs.Order.{Row, is_null, value_cmp, row_cmp, is_ascending}
 use Rattle.meaning.specs.Typing.{is_of_type}
 use Rattle.meaning.specs.Cut.{Cut, first_row}
 use Rattle.meaning.specs.Group.{certain_keys}
@@ -28,6 +28,10 @@ abbrev pub is_extreme : ColType → Option Value → Bool
 is_extreme kind None = true
 is_extreme kind (Some v) = not (is_null v) && is_of_type kind v
 
+-- an entry is not NULL
+abbrev pub is_entry_of : ColType → Value → Bool
+is_entry_of kind v = not (is_null v) && is_of_type kind v
+
 -- a value of each key's type
 abbrev pub is_key_of : Plan → Row → Bool
 is_key_of plan key = pointwise (λ k v. is_of_type k.col_type v) plan.keys key
@@ -35,7 +39,8 @@ is_key_of plan key = pointwise (λ k v. is_of_type k.col_type v) plan.keys key
 -- what the aggregate's kind does not keep is blank, and the rest is of its argument's type
 abbrev pub is_state_of : Aggregate → Statistics → Bool
 is_state_of a s = same_statistics (kept_by a.kind s) s &&
-    (is_extreme a.col_type s.least && is_extreme a.col_type s.greatest)
+    (is_extreme a.col_type s.least &&
+    (is_extreme a.col_type s.greatest && list_all (is_entry_of a.col_type) s.entries))
 
 -- a key of the plan's keys, and a state of each of its aggregates
 abbrev pub is_group_of : Plan → Group → Bool
@@ -46,12 +51,16 @@ abbrev pub is_shaped : Plan → Body → Bool
 is_shaped plan (Fault f) = true
 is_shaped plan (Groups gs) = list_all (is_group_of plan) gs
 
--- ---- the order of groups
+-- ---- the order of groups and of entries
 
--- each key is less than the next
-abbrev pub are_keys_ascending : Body → Bool
-are_keys_ascending (Fault f) = true
-are_keys_ascending (Groups gs) = is_ascending row_cmp (map (λ g. g.key) gs)
+-- each entry of a set is less than the next
+abbrev pub are_sets_ascending : Group → Bool
+are_sets_ascending g = list_all (λ s. is_ascending value_cmp s.entries) g.states
+
+-- each key is less than the next, and so is each entry of a set
+abbrev pub is_in_order : Body → Bool
+is_in_order (Fault f) = true
+is_in_order (Groups gs) = is_ascending row_cmp (map (λ g. g.key) gs) && list_all are_sets_ascending gs
 
 -- ---- numbers
 
@@ -77,6 +86,8 @@ is_possible Sum rows s = nat_le s.count rows && is_sum_of s.count s.sum
 is_possible Avg rows s = nat_le s.count rows && is_sum_of s.count s.sum
 is_possible Min rows s = nat_le s.count rows && is_there s.count s.least
 is_possible Max rows s = nat_le s.count rows && is_there s.count s.greatest
+is_possible CountDistinct rows s = nat_le (length s.entries) rows
+is_possible SumDistinct rows s = nat_le (length s.entries) rows
 
 abbrev pub is_group_possible : Plan → Group → Bool
 is_group_possible plan g = pointwise (λ a s. is_possible a.kind g.rows s) plan.aggs g.states
@@ -99,8 +110,8 @@ are_numbers_possible plan first rows (Groups gs) =
 
 -- ---- answers
 
--- an answer for a fragment of the cut, of the plan's shape, with ascending keys and possible numbers
+-- an answer for a fragment of the cut, of the plan's shape, with ascending keys and sets, and possible numbers
 abbrev pub fits : Plan → Cut → Answer → Bool
 fits plan cut a =
     nat_lt a.k (length cut) && (is_shaped plan a.body &&
-    (are_keys_ascending a.body && are_numbers_possible plan (first_row cut a.k) (slice_index cut a.k) a.body))
+    (is_in_order a.body && are_numbers_possible plan (first_row cut a.k) (slice_index cut a.k) a.body))

@@ -6,7 +6,7 @@ use Rattle.std.specs.List.{list_any}
 abbrev pub grammar_words : List (List ℕ)
 grammar_words =
     codes "and" ∷ codes "as" ∷ codes "asc" ∷ codes "avg" ∷ codes "between" ∷ codes "by" ∷ codes "case"
-    ∷ codes "coalesce" ∷ codes "count" ∷ codes "desc" ∷ codes "else" ∷ codes "end" ∷ codes "from"
+    ∷ codes "coalesce" ∷ codes "count" ∷ codes "desc" ∷ codes "distinct" ∷ codes "else" ∷ codes "end" ∷ codes "from"
     ∷ codes "group" ∷ codes "having" ∷ codes "in" ∷ codes "inner" ∷ codes "is" ∷ codes "join"
     ∷ codes "left" ∷ codes "like" ∷ codes "limit" ∷ codes "max" ∷ codes "min" ∷ codes "not" ∷ codes "null" ∷ codes "on"
     ∷ codes "or" ∷ codes "order" ∷ codes "outer" ∷ codes "select" ∷ codes "sum" ∷ codes "then" ∷ codes "when"
@@ -15,7 +15,7 @@ grammar_words =
 -- the words of SQL that queries leave out
 abbrev pub left_out_words : List (List ℕ)
 left_out_words =
-    codes "all" ∷ codes "any" ∷ codes "cross" ∷ codes "distinct" ∷ codes "escape" ∷ codes "except"
+    codes "all" ∷ codes "any" ∷ codes "cross" ∷ codes "escape" ∷ codes "except"
     ∷ codes "exists" ∷ codes "fetch" ∷ codes "full" ∷ codes "intersect" ∷ codes "natural"
     ∷ codes "nulls" ∷ codes "offset" ∷ codes "over" ∷ codes "right" ∷ codes "rollup"
     ∷ codes "union" ∷ codes "using" ∷ codes "window" ∷ codes "with" ∷ []

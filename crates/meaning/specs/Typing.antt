@@ -16,7 +16,7 @@ use Rattle.meaning.specs.declared.expr.Expr.TheOpen.{Expr-F, Arm-F}
 use Rattle.meaning.specs.declared.expr.Expr.TheFolds.{fold-Expr, fold-Arm}
 use Rattle.meaning.specs.declared.expr.Arm.{Arm}
 use Rattle.meaning.specs.declared.plan.AggregateKind.{AggregateKind}
-use Rattle.meaning.specs.declared.plan.AggregateKind.TheVariants.{CountRows, Count, Sum, Min, Max, Avg}
+use Rattle.meaning.specs.declared.plan.AggregateKind.TheVariants.{CountRows, Count, Sum, Min, Max, Avg, CountDistinct, SumDistinct}
 use Rattle.meaning.specs.declared.plan.Aggregate.{Aggregate}
 use Rattle.meaning.specs.declared.plan.Plan.{Plan}
 use Rattle.meaning.specs.declared.joined_row.JoinedRow.{JoinedRow}
@@ -83,12 +83,14 @@ pub record RowTypes : Type 0 where
   pub key : List ColType
   pub aggregates : List ColType
 
--- COUNT, SUM and AVG give integers, MIN and MAX values of their argument's type
+-- COUNT, SUM and AVG give integers, of different entries too, MIN and MAX values of their argument's type
 abbrev pub result_type : AggregateKind → ColType → ColType
 result_type CountRows kind = of_type.Int
 result_type Count kind = of_type.Int
 result_type Sum kind = of_type.Int
 result_type Avg kind = of_type.Int
+result_type CountDistinct kind = of_type.Int
+result_type SumDistinct kind = of_type.Int
 result_type Min kind = kind
 result_type Max kind = kind
 

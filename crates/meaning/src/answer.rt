@@ -10,14 +10,16 @@ pub struct RowFault {
     pub code: u8,
 }
 
-/// What is known of a list of values that are not NULL. What an aggregate does not keep is 0 or
-/// `None`.
+/// What is known of a list of values that are not NULL: how many there are, their sum, the least,
+/// the greatest, and the set of them, ascending. What an aggregate does not keep is 0, `None` or
+/// empty.
 #[derive(PartialEq, Eq, Drop)]
 pub struct Statistics {
     pub count: u64,
     pub sum: i128,
     pub least: Option<Value>,
     pub greatest: Option<Value>,
+    pub entries: Sequence<Value>,
 }
 
 /// A group: its key, how many rows it has, and the statistics of each aggregate.

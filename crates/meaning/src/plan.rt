@@ -45,7 +45,8 @@ pub struct GroupingKey {
     pub col_type: ColType,
 }
 
-/// The aggregate functions. `CountRows` is COUNT(*).
+/// The aggregate functions. `CountRows` is COUNT(*), `CountDistinct` COUNT(DISTINCT ..) and
+/// `SumDistinct` SUM(DISTINCT ..).
 #[derive(Clone, Copy, PartialEq, Eq, Drop)]
 pub enum AggregateKind {
     CountRows,
@@ -54,6 +55,8 @@ pub enum AggregateKind {
     Min,
     Max,
     Avg,
+    CountDistinct,
+    SumDistinct,
 }
 
 /// An aggregate. The argument of `CountRows` is a literal that is not NULL. An answer's shape shows
@@ -95,4 +98,6 @@ pub struct Plan {
     pub order: Sequence<OrderKey>,
     pub limit: Option<u64>,
     pub plain: bool,
+    /// Whether equal rows are shown once, as SELECT DISTINCT asks.
+    pub distinct: bool,
 }

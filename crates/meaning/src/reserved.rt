@@ -4,18 +4,18 @@ ghost use Rattle.std.specs.List.{list_any};
 ghost use Rattle.meaning.specs.Reserved.{grammar_words, left_out_words, is_one_of, is_reserved};
 
 /// The words of the grammar of queries, in lower case.
-pub const GRAMMAR_WORDS: [&str; 35] = [
-    "and", "as", "asc", "avg", "between", "by", "case", "coalesce", "count", "desc", "else", "end",
-    "from", "group", "having", "in", "inner", "is", "join", "left", "like", "limit", "max", "min",
-    "not", "null", "on", "or", "order", "outer", "select", "sum", "then", "when", "where",
+pub const GRAMMAR_WORDS: [&str; 36] = [
+    "and", "as", "asc", "avg", "between", "by", "case", "coalesce", "count", "desc", "distinct",
+    "else", "end", "from", "group", "having", "in", "inner", "is", "join", "left", "like", "limit",
+    "max", "min", "not", "null", "on", "or", "order", "outer", "select", "sum", "then", "when",
+    "where",
 ];
 
 /// The words of SQL that queries leave out, in lower case.
-pub const LEFT_OUT_WORDS: [&str; 20] = [
+pub const LEFT_OUT_WORDS: [&str; 19] = [
     "all",
     "any",
     "cross",
-    "distinct",
     "escape",
     "except",
     "exists",

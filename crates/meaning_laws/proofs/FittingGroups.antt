@@ -1,7 +1,8 @@
 -- Groups that fit are merged into one that fits, and what is read off one has its types.
-use Rattle.std.proofs.Common.{◌≡◌, ℕ, zero, suc, ◌+◌, ◌*◌, ◌<◌, ◌≤◌, ◌==◌, ℤ, pos, negsuc, Bool, true, false, cond, ◌&&◌, List, [], ◌∷◌, map, Option, Some, None, Result, Ok, Err, refl, sym, ap, subst, ◌∙◌, arith}
+use Rattle.std.proofs.Common.{◌≡◌, ℕ, zero, suc, ◌+◌, ◌*◌, ◌<◌, ◌≤◌, ◌==◌, ℤ, pos, negsuc, Bool, true, false, cond, ◌&&◌, List, [], ◌∷◌, length, map, Option, Some, None, Result, Ok, Err, refl, sym, ap, subst, ◌∙◌, arith}
 use Rattle.std.proofs.lemmas.Int.{ints}
 use Rattle.std.specs.Prelude.{◌^◌, ◌/◌, ◌+ℤ◌, ◌*ℤ◌, ◌≤ℤ◌, neg_ℤ, int_div, int_le, nat_le, zip, unwrap_or}
+use Rattle.std.specs.List.{list_all}
 use Rattle.std.specs.Cmp.Lexicographic.{pointwise}
 use Rattle.std.specs.declared.cmp.Ordering.{Ordering}
 use Rattle.std.specs.Ordering.{ord_min}
@@ -13,26 +14,27 @@ use Rattle.meaning.specs.declared.value.Value.TheVariants.{Null, Int}
 use Rattle.meaning.specs.declared.value.ColType.{ColType}
 use Rattle.meaning.specs.declared.value.ColType.TheVariants as of_type
 use Rattle.meaning.specs.declared.plan.AggregateKind.{AggregateKind}
-use Rattle.meaning.specs.declared.plan.AggregateKind.TheVariants.{CountRows, Count, Sum, Min, Max, Avg}
+use Rattle.meaning.specs.declared.plan.AggregateKind.TheVariants.{CountRows, Count, Sum, Min, Max, Avg, CountDistinct, SumDistinct}
 use Rattle.meaning.specs.declared.plan.Aggregate.{Aggregate}
 use Rattle.meaning.specs.declared.plan.GroupingKey.{GroupingKey}
 use Rattle.meaning.specs.declared.plan.Plan.{Plan}
 use Rattle.meaning.specs.declared.answer.Statistics.{Statistics}
 use Rattle.meaning.specs.declared.answer.Group.{Group}
-use Rattle.meaning.specs.Order.{Row, value_cmp, lesser}
+use Rattle.meaning.specs.Order.{Row, value_cmp, lesser, union}
 use Rattle.meaning.specs.Operators.{fits_i64, sum_out_of_range}
 use Rattle.meaning.specs.Results.{all_ok}
-use Rattle.meaning.specs.Aggregate.{down_cmp, kept_by, merge, sum_value, value}
+use Rattle.meaning.specs.Aggregate.{down_cmp, kept_by, merge, sum_value, total, value}
 use Rattle.meaning.specs.Group.{merge_groups}
 use Rattle.meaning.specs.Answer.{read_off}
 use Rattle.meaning.specs.Gather.{same_statistics}
 use Rattle.meaning.specs.Joined.{group_row}
 use Rattle.meaning.specs.Typing.{is_of_type, are_of_types, fits_row_types, result_type, group_types}
-use Rattle.meaning.specs.Fitting.{is_extreme, is_key_of, is_state_of, is_group_of, least_integer, greatest_integer, is_sum_of, is_there, is_possible, is_group_possible}
+use Rattle.meaning.specs.Fitting.{is_extreme, is_entry_of, is_key_of, is_state_of, is_group_of, least_integer, greatest_integer, is_sum_of, is_there, is_possible, is_group_possible}
 use Rattle.meaning.proofs.Tests.{first_of, second_of, both}
 use Rattle.meaning.proofs.Same.{statistics_exact}
 use Rattle.meaning.proofs.Merge.{kept_by-merge}
-use Rattle.meaning_laws.proofs.StatisticsFit.{lesser_extreme, nat_le_yes, passes}
+use Rattle.meaning.proofs.Unions.{all_union, few_in_union}
+use Rattle.meaning_laws.proofs.StatisticsFit.{are_of_type, lesser_extreme, nat_le_yes, passes}
 use Rattle.meaning_laws.proofs.LoadedRows.{front_ok}
 
 -- ---- numbers
@@ -107,20 +109,34 @@ there_together cmp m n None w a b =
 there_together cmp m n (Some x) None a b = still_some m n x (some_there m x a)
 there_together cmp m n (Some x) (Some y) a b = still_some m n (ord_min cmp x y) (some_there m x a)
 
+-- the greatest and the set of some statistics are of a type
+abbrev are_rest_of_type : ColType → Statistics → Bool
+are_rest_of_type t s = is_extreme t s.greatest && list_all (is_entry_of t) s.entries
+
+-- a set of two has no more entries than there are rows
+few_united : (i j : ℕ) (s t : Statistics) → nat_le (length s.entries) i ≡ true → nat_le (length t.entries) j
+    ≡ true → nat_le (length (union value_cmp s.entries t.entries)) (i + j) ≡ true
+few_united i j s t p q =
+    let x = few (length s.entries) i p in
+    let y = few (length t.entries) j q in
+    let united = few_in_union value_cmp s.entries t.entries in
+    nat_le_yes (length (union value_cmp s.entries t.entries)) (i + j) (omega arith)
+
 merged_state : (a : Aggregate) (s t : Statistics) → is_state_of a s ≡ true → is_state_of a t
     ≡ true → is_state_of a (merge s t) ≡ true
 merged_state a s t p q =
-    let of_s = second_of (same_statistics (kept_by a.kind s) s)
-    (is_extreme a.col_type s.least && is_extreme a.col_type s.greatest) p in
-    let of_t = second_of (same_statistics (kept_by a.kind t) t)
-    (is_extreme a.col_type t.least && is_extreme a.col_type t.greatest) q in
+    let of_s = second_of (same_statistics (kept_by a.kind s) s) (are_of_type a.col_type s) p in
+    let of_t = second_of (same_statistics (kept_by a.kind t) t) (are_of_type a.col_type t) q in
+    let rest_of_s = second_of (is_extreme a.col_type s.least) (are_rest_of_type a.col_type s) of_s in
+    let rest_of_t = second_of (is_extreme a.col_type t.least) (are_rest_of_type a.col_type t) of_t in
     let kept_s = (statistics_exact (kept_by a.kind s) s).0 (first_of _ _ p) in
     let kept_t = (statistics_exact (kept_by a.kind t) t).0 (first_of _ _ q) in
     both _ _ ((statistics_exact _ _).1 (kept_by-merge a.kind s t ∙ (λ i. merge (kept_s i) (kept_t i))))
     (both _ _ (lesser_extreme a.col_type value_cmp s.least t.least (first_of _ _ of_s) (first_of _ _ of_t))
-    (lesser_extreme a.col_type down_cmp s.greatest t.greatest
-    (second_of (is_extreme a.col_type s.least) (is_extreme a.col_type s.greatest) of_s)
-    (second_of (is_extreme a.col_type t.least) (is_extreme a.col_type t.greatest) of_t)))
+    (both _ _ (lesser_extreme a.col_type down_cmp s.greatest t.greatest (first_of _ _ rest_of_s) (first_of _ _ rest_of_t))
+    (all_union value_cmp (is_entry_of a.col_type) s.entries t.entries
+    (second_of (is_extreme a.col_type s.greatest) (list_all (is_entry_of a.col_type) s.entries) rest_of_s)
+    (second_of (is_extreme a.col_type t.greatest) (list_all (is_entry_of a.col_type) t.entries) rest_of_t))))
 
 merged_possible : (kind : AggregateKind) (i j : ℕ) (s t : Statistics) → is_possible kind i s
     ≡ true → is_possible kind j t ≡ true
@@ -148,6 +164,8 @@ merged_possible Max i j s t p q =
     (there_together down_cmp s.count t.count s.greatest t.greatest
     (second_of (nat_le s.count i) (is_there s.count s.greatest) p)
     (second_of (nat_le t.count j) (is_there t.count t.greatest) q))
+merged_possible CountDistinct i j s t p q = few_united i j s t p q
+merged_possible SumDistinct i j s t p q = few_united i j s t p q
 
 -- ---- groups
 
@@ -229,6 +247,9 @@ value_typed Avg t rows s v low high p below e =
     mean_typed (s.count == 0) s.count s.sum v (second_of (nat_le s.count rows) (is_sum_of s.count s.sum) p) e
 value_typed Min t rows s v low high p below e = extreme_is t s.least v low cc
 value_typed Max t rows s v low high p below e = extreme_is t s.greatest v high cc
+value_typed CountDistinct t rows s v low high p below e =
+    count_typed (length s.entries) rows v (few (length s.entries) rows p) below cc
+value_typed SumDistinct t rows s v low high p below e = sum_typed (length s.entries == 0) (total s.entries) v e
 
 values_typed : (rows : ℕ) → rows < 2 ^ 63 → (aggs : List Aggregate) (states : List Statistics) (values : Row)
     → pointwise is_state_of aggs states ≡ true
@@ -241,11 +262,10 @@ values_typed rows below (a ∷ aggs) (s ∷ states) values p q e =
     let parts = front_ok (value a.kind s)
     (all_ok (map (λ (p : Aggregate × Statistics). value p.0.kind p.1) (zip aggs states))) values e in
     let state = first_of (is_state_of a s) (pointwise is_state_of aggs states) p in
-    let extremes = second_of (same_statistics (kept_by a.kind s) s)
-    (is_extreme a.col_type s.least && is_extreme a.col_type s.greatest) state in
+    let typed = second_of (same_statistics (kept_by a.kind s) s) (are_of_type a.col_type s) state in
+    let rest = second_of (is_extreme a.col_type s.least) (are_rest_of_type a.col_type s) typed in
     ap (are_of_types (map (λ (a : Aggregate). result_type a.kind a.col_type) (a ∷ aggs))) parts.whole
-    ∙ both _ _ (value_typed a.kind a.col_type rows s parts.first (first_of _ _ extremes)
-    (second_of (is_extreme a.col_type s.least) (is_extreme a.col_type s.greatest) extremes)
+    ∙ both _ _ (value_typed a.kind a.col_type rows s parts.first (first_of _ _ typed) (first_of _ _ rest)
     (first_of _ _ q) below parts.here)
     (values_typed rows below aggs states parts.later (second_of (is_state_of a s) (pointwise is_state_of aggs states) p)
     (second_of (is_possible a.kind rows s) (pointwise (λ a s. is_possible a.kind rows s) aggs states) q) parts.behind)

@@ -10,7 +10,6 @@ pub mod Filters
 pub mod LoadedRows
 pub mod LoadedTables
 pub mod LoadedQueries
-pub mod Unions
 pub mod FittingGroups
 mod WorkedExpressions
 mod WorkedLike
@@ -18,6 +17,7 @@ mod WorkedTables
 mod Worked
 mod WorkedFaults
 mod WorkedGroups
+mod WorkedDistinct
 mod WorkedGathering
 mod WorkedRecords
 mod WorkedTypes

@@ -14,7 +14,7 @@ use Rattle.meaning.specs.declared.outcome.Outcome.{Outcome}
 use Rattle.meaning.specs.declared.outcome.Outcome.TheVariants as gives
 use Rattle.meaning.specs.declared.joined_row.JoinedRow.{JoinedRow}
 use Rattle.meaning.specs.declared.plan.AggregateKind.{AggregateKind}
-use Rattle.meaning.specs.declared.plan.AggregateKind.TheVariants.{CountRows, Count, Sum, Min, Max, Avg}
+use Rattle.meaning.specs.declared.plan.AggregateKind.TheVariants.{CountRows, Count, Sum, Min, Max, Avg, CountDistinct, SumDistinct}
 use Rattle.meaning.specs.declared.plan.Aggregate.{Aggregate}
 use Rattle.meaning.specs.declared.plan.GroupingKey.{GroupingKey}
 use Rattle.meaning.specs.declared.plan.Join.{Join}
@@ -52,6 +52,8 @@ taken_by Sum v counted = refl
 taken_by Min v counted = refl
 taken_by Max v counted = refl
 taken_by Avg v counted = refl
+taken_by CountDistinct v counted = refl
+taken_by SumDistinct v counted = refl
 
 pub given_argument : (a : Aggregate) (o : Outcome) → gives_expr_type (Valued a.col_type) o
     ≡ true → (a.kind ≡ CountRows → (v : Value) × (o ≡ gives.Value v) × (is_null v ≡ false)) → gives_argument a o ≡ true

@@ -18,20 +18,20 @@ use Rattle.meaning.specs.declared.answer.RowFault.{RowFault}
 use Rattle.meaning.specs.declared.answer.Group.{Group}
 use Rattle.meaning.specs.Said.{Body}
 use Rattle.meaning.specs.declared.answer.Body.TheVariants.{Groups}
-use Rattle.meaning.specs.Order.{Row, column, row_cmp, least, lesser, is_ascending, inserted_once, ascending_set}
+use Rattle.meaning.specs.Order.{Row, column, value_cmp, row_cmp, least, lesser, is_ascending, inserted_once, ascending_set}
 use Rattle.meaning.specs.Cut.{Cut, Numbered, numbered, first_row, fragment}
 use Rattle.meaning.specs.Joined.{combos}
 use Rattle.meaning.specs.Judge.{fault_cmp, first_fault, judged, row_faults, row_fault, kept_rows}
 use Rattle.meaning.specs.Group.{beside, certain_keys, groups, group_of}
 use Rattle.meaning.specs.Answer.{body_of, own}
 use Rattle.meaning.specs.Typing.{is_of_type, is_argument_of, is_typed_at, is_typed_on}
-use Rattle.meaning.specs.Fitting.{is_key_of, is_state_of, is_group_of, is_shaped, is_possible, is_group_possible, are_rows_possible, is_fault_possible, are_keys_ascending, are_numbers_possible, fits}
+use Rattle.meaning.specs.Fitting.{is_key_of, is_state_of, is_group_of, is_shaped, is_possible, is_group_possible, are_rows_possible, is_fault_possible, are_sets_ascending, is_in_order, are_numbers_possible, fits}
 use Rattle.meaning.specs.Dimensions.{AreDimensionsOf}
 use Rattle.meaning.proofs.Orders.{row_total, row_exact}
 use Rattle.meaning.proofs.Sets.{any-ascending_set, filter-ascending_set, is_ascending-ascending_set}
-use Rattle.meaning.proofs.Groups.{entries_of, state_of, states_of, list_any-append}
-use Rattle.meaning.proofs.Tests.{first_of, second_of, both, or_second, all_first, all_rest, all_append, all_imply, all_always, all_map, all_set, all_turned}
-use Rattle.meaning_laws.proofs.StatisticsFit.{state_of_type, state_possible, nat_le_yes}
+use Rattle.meaning.proofs.Groups.{entries_of, state_of, states_of}
+use Rattle.meaning.proofs.Tests.{first_of, second_of, both, or_second, all_first, all_rest, all_append, all_imply, all_always, all_map, all_set, all_turned, list_any-append}
+use Rattle.meaning_laws.proofs.StatisticsFit.{set_ascends, state_of_type, state_possible, nat_le_yes}
 use Rattle.meaning_laws.proofs.KeptRows.{is_kept, rows_kept, few_kept, scopes_known, IsCode}
 
 -- ---- the arguments of a group, column by column
@@ -84,6 +84,12 @@ module _ (rows : List Row) where
       (all_map (is_argument_of a) (λ (row : Row). column row n) rows
       (all_first is_typed_column (n, a) (enumerate_from (n + 1) aggs) e)))
       (states_possible aggs (n + 1) (all_rest is_typed_column (n, a) (enumerate_from (n + 1) aggs) e))
+
+  -- their sets ascend
+  states_ascend : (aggs : List (ℕ × Aggregate)) → list_all (λ s. is_ascending value_cmp s.entries) (states_of aggs rows)
+      ≡ true
+  states_ascend [] = refl
+  states_ascend (a ∷ aggs) = both _ _ (set_ascends a.1.kind (entries_of a rows)) (states_ascend aggs)
 
 -- ---- the groups of typed kept rows
 
@@ -169,6 +175,13 @@ module _ (plan : Plan) (kept : List (Row × Row)) (typed : list_all (is_kept pla
   keys_ascend : is_ascending row_cmp (map (λ (g : Group). g.key) known) ≡ true
   keys_ascend = ap (λ gs. is_ascending row_cmp (map (λ (g : Group). g.key) gs)) (known_is keys)
       ∙ ap (is_ascending row_cmp) (keys_of keys) ∙ is_ascending-ascending_set row_total (certain ++ firsts kept)
+
+  sets_ascend : list_all are_sets_ascending known ≡ true
+  sets_ascend =
+      ap (list_all are_sets_ascending) (known_is keys)
+      ∙ all_map are_sets_ascending group_at keys
+      (all_always (λ k. are_sets_ascending (group_at k))
+      (λ k. states_ascend (beside k kept) (enumerate_from 0 plan.aggs)) keys)
 
   -- ---- how many rows
 
@@ -396,13 +409,13 @@ module _ (plan : Plan) (dims : List (List Row)) (first n : ℕ) where
 -- a body's shape, keys and numbers
 abbrev body_fits : Plan → Cut → ℕ → Body → Bool
 body_fits plan cut k body = is_shaped plan body &&
-    (are_keys_ascending body && are_numbers_possible plan (first_row cut k) (slice_index cut k) body)
+    (is_in_order body && are_numbers_possible plan (first_row cut k) (slice_index cut k) body)
 
 groups_fit : (plan : Plan) (cut : Cut) (k : ℕ) (kept : List (Row × Row)) (typed : list_all (is_kept plan) kept ≡ true)
     → length kept ≤ slice_index cut k → body_fits plan cut k (Groups (known plan kept typed)) ≡ true
 groups_fit plan cut k kept typed few =
     both _ _ (groups_shaped plan kept typed)
-    (both _ _ (keys_ascend plan kept typed)
+    (both _ _ (both _ _ (keys_ascend plan kept typed) (sets_ascend plan kept typed))
     (both _ _ (ap (λ n. nat_le n (slice_index cut k)) (rows_counted plan kept typed)
     ∙ nat_le_yes (length kept) (slice_index cut k) few)
     (both _ _ (rows_possible plan kept typed plan.plain plan.keys refl refl) (groups_possible plan kept typed))))

@@ -14,19 +14,18 @@ use Rattle.meaning.specs.declared.value.Value.TheVariants.{Null, Int, Text}
 use Rattle.meaning.specs.declared.value.ColType.{ColType}
 use Rattle.meaning.specs.declared.value.ColType.TheVariants as of_type
 use Rattle.meaning.specs.declared.plan.AggregateKind.{AggregateKind}
-use Rattle.meaning.specs.declared.plan.AggregateKind.TheVariants.{CountRows, Count, Sum, Min, Max, Avg}
+use Rattle.meaning.specs.declared.plan.AggregateKind.TheVariants.{CountRows, Count, Sum, Min, Max, Avg, CountDistinct, SumDistinct}
 use Rattle.meaning.specs.declared.plan.Aggregate.{Aggregate}
 use Rattle.meaning.specs.declared.answer.Statistics.{Statistics}
-use Rattle.meaning.specs.Order.{is_null, number, lesser, least, value_cmp}
-use Rattle.meaning.specs.Aggregate.{present, total, down_cmp, statistics, kept_by}
+use Rattle.meaning.specs.Order.{is_null, number, lesser, least, value_cmp, is_ascending}
+use Rattle.meaning.specs.Aggregate.{present, different, total, down_cmp, statistics, kept_by}
 use Rattle.meaning.specs.Typing.{is_of_type, is_taken_by, is_argument_of}
-use Rattle.meaning.specs.Fitting.{is_extreme, is_state_of, least_integer, greatest_integer, is_sum_of, is_there, is_possible}
+use Rattle.meaning.specs.Fitting.{is_extreme, is_entry_of, is_state_of, least_integer, greatest_integer, is_sum_of, is_there, is_possible}
 use Rattle.meaning.proofs.Same.{statistics_exact}
-use Rattle.meaning.proofs.Tests.{first_of, second_of, both, all_first, all_rest, all_imply}
-
--- a value of the type that isn't NULL
-abbrev is_entry_of : ColType → Value → Bool
-is_entry_of kind v = not (is_null v) && is_of_type kind v
+use Rattle.meaning.proofs.Tests.{first_of, second_of, both, all_first, all_rest, all_imply, all_set}
+use Rattle.meaning.proofs.Orders.{value_total}
+use Rattle.meaning.proofs.Sets.{is_ascending-ascending_set}
+use Rattle.meaning.proofs.Unions.{few_in_set}
 
 module _ (kind : ColType) where
   present_entries : (xs : List Value) → list_all (is_of_type kind) xs ≡ true → list_all (is_entry_of kind) (present xs)
@@ -61,16 +60,24 @@ kept_twice Sum s = refl
 kept_twice Min s = refl
 kept_twice Max s = refl
 kept_twice Avg s = refl
+kept_twice CountDistinct s = refl
+kept_twice SumDistinct s = refl
 
-kept_extremes : (kind : AggregateKind) (t : ColType) (s : Statistics) → is_extreme t s.least
-    ≡ true → is_extreme t s.greatest
-    ≡ true → (is_extreme t (kept_by kind s).least && is_extreme t (kept_by kind s).greatest) ≡ true
-kept_extremes CountRows t s p q = refl
-kept_extremes Count t s p q = refl
-kept_extremes Sum t s p q = refl
-kept_extremes Min t s p q = both _ _ p refl
-kept_extremes Max t s p q = both _ _ refl q
-kept_extremes Avg t s p q = refl
+-- the extremes and the set of some statistics are of a type
+abbrev pub are_of_type : ColType → Statistics → Bool
+are_of_type t s = is_extreme t s.least && (is_extreme t s.greatest && list_all (is_entry_of t) s.entries)
+
+kept_of_type : (kind : AggregateKind) (t : ColType) (s : Statistics) → is_extreme t s.least
+    ≡ true → is_extreme t s.greatest ≡ true → list_all (is_entry_of t) s.entries
+    ≡ true → are_of_type t (kept_by kind s) ≡ true
+kept_of_type CountRows t s p q r = refl
+kept_of_type Count t s p q r = refl
+kept_of_type Sum t s p q r = refl
+kept_of_type Min t s p q r = both _ _ p refl
+kept_of_type Max t s p q r = both _ _ refl (both _ _ q refl)
+kept_of_type Avg t s p q r = refl
+kept_of_type CountDistinct t s p q r = r
+kept_of_type SumDistinct t s p q r = r
 
 typed_entries : (a : Aggregate) (xs : List Value) → list_all (is_argument_of a) xs
     ≡ true → list_all (is_entry_of a.col_type) (present xs) ≡ true
@@ -83,9 +90,22 @@ pub state_of_type : (a : Aggregate) (xs : List Value) → list_all (is_argument_
     ≡ true → is_state_of a (kept_by a.kind (statistics xs)) ≡ true
 state_of_type a xs e =
     both _ _ ((statistics_exact _ _).1 (kept_twice a.kind (statistics xs)))
-    (kept_extremes a.kind a.col_type (statistics xs)
+    (kept_of_type a.kind a.col_type (statistics xs)
     (least_extreme a.col_type value_cmp (present xs) (typed_entries a xs e))
-    (least_extreme a.col_type down_cmp (present xs) (typed_entries a xs e)))
+    (least_extreme a.col_type down_cmp (present xs) (typed_entries a xs e))
+    (all_set value_cmp (is_entry_of a.col_type) (present xs) (typed_entries a xs e)))
+
+-- a set ascends
+pub set_ascends : (kind : AggregateKind) (xs : List Value) → is_ascending value_cmp (kept_by kind (statistics xs)).entries
+    ≡ true
+set_ascends CountRows xs = refl
+set_ascends Count xs = refl
+set_ascends Sum xs = refl
+set_ascends Min xs = refl
+set_ascends Max xs = refl
+set_ascends Avg xs = refl
+set_ascends CountDistinct xs = is_ascending-ascending_set value_total (present xs)
+set_ascends SumDistinct xs = is_ascending-ascending_set value_total (present xs)
 
 -- ---- numbers
 
@@ -95,6 +115,9 @@ few_present (x ∷ xs) =
     let rest = few_present xs in
     elim (is_null x) as (λ b. length (cond (not b) (x ∷ present xs) (present xs)) ≤ suc
     (length xs)) [ true ↦ omega arith | false ↦ omega arith ]
+
+few_different : (xs : List Value) → length (different xs) ≤ length xs
+few_different xs = let fewer = few_in_set value_cmp (present xs) in let few = few_present xs in omega arith
 
 all_present : (xs : List Value) → list_all (λ v. not (is_null v)) xs ≡ true → length (present xs) ≡ length xs
 all_present [] e = refl
@@ -167,6 +190,8 @@ possible Sum t xs typed taken = both _ _ (nat_le_yes _ _ (few_present xs)) (sum_
 possible Avg t xs typed taken = both _ _ (nat_le_yes _ _ (few_present xs)) (sum_possible t (present xs) typed)
 possible Min t xs typed taken = both _ _ (nat_le_yes _ _ (few_present xs)) (there_is_one value_cmp (present xs))
 possible Max t xs typed taken = both _ _ (nat_le_yes _ _ (few_present xs)) (there_is_one down_cmp (present xs))
+possible CountDistinct t xs typed taken = nat_le_yes _ _ (few_different xs)
+possible SumDistinct t xs typed taken = nat_le_yes _ _ (few_different xs)
 
 pub state_possible : (a : Aggregate) (xs : List Value) → list_all (is_argument_of a) xs
     ≡ true → is_possible a.kind (length xs) (kept_by a.kind (statistics xs)) ≡ true

@@ -105,6 +105,7 @@ totals aggs items = record {
   order = [];
   limit = None;
   plain = false;
+  distinct = false;
 }
 
 -- a plain query

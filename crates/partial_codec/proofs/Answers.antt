@@ -10,33 +10,36 @@ use Rattle.std.proofs.lemmas.List.Elements.{recursion_from_All}
 use Rattle.meaning.specs.declared.value.ColType.{ColType}
 use Rattle.meaning.specs.declared.value.ColType.TheVariants as of_type
 use Rattle.meaning.specs.declared.plan.AggregateKind.{AggregateKind}
-use Rattle.meaning.specs.declared.plan.AggregateKind.TheVariants.{CountRows, Count, Sum, Min, Max, Avg}
+use Rattle.meaning.specs.declared.plan.AggregateKind.TheVariants.{CountRows, Count, Sum, Min, Max, Avg, CountDistinct, SumDistinct}
 use Rattle.meaning.specs.declared.plan.Aggregate.{Aggregate}
 use Rattle.meaning.specs.Said.{Body}
 use Rattle.meaning.specs.declared.answer.Body.TheVariants.{Groups, Fault}
 use Rattle.meaning.specs.Said.{Answer}
 use Rattle.meaning.specs.Group.{certain_keys}
 use Rattle.meaning.specs.Cut.{first_row}
-use Rattle.meaning.specs.Fitting.{is_group_possible, are_rows_possible, is_shaped, are_keys_ascending, are_numbers_possible, fits}
+use Rattle.meaning.specs.Fitting.{is_group_possible, are_rows_possible, is_shaped, is_in_order, are_numbers_possible, fits}
 use Rattle.meaning.specs.Limits.{max_rows}
 use Rattle.meaning.proofs.Tests.{both}
-use Rattle.partial_codec.specs.declared.fault.DecodeFault.{DecodeFault}
-use Rattle.partial_codec.specs.declared.fault.DecodeFault.TheVariants as refusal
-use Rattle.partial_codec.specs.declared.shape.AggregateShape.{AggregateShape}
+use Rattle.answer_fields.specs.declared.fault.DecodeFault.{DecodeFault}
+use Rattle.answer_fields.specs.declared.fault.DecodeFault.TheVariants as refusal
+use Rattle.answer_fields.specs.declared.format.Format.{Format}
+use Rattle.answer_fields.specs.declared.shape.AggregateShape.{AggregateShape}
+use Rattle.answer_fields.specs.Format.{newest, has_kind, has_kinds}
 use Rattle.wire.specs.Reading.{◌>>=◌, bytes_at, same_bytes, sealed_end}
 use Rattle.partial_codec.specs.Job.{JobSpec, IsJob}
 use Rattle.meaning.specs.TypeCodes.{type_code}
-use Rattle.partial_codec.specs.Shape.{Shape, shape_of, shape_of_aggregate, argument_of, argument_code, kind_code, is_same_type, is_same_aggregate, is_same_shape}
-use Rattle.partial_codec.specs.Spelling.{Layout, layout_bytes, layout_of, answer_bytes}
+use Rattle.answer_fields.specs.Shape.{Shape, shape_of, shape_of_aggregate, argument_of, argument_code, kind_code, is_same_type, is_same_aggregate, is_same_shape}
+use Rattle.partial_codec.specs.Spelling.{Layout, layout_bytes, layout_of, answer_spelling, answer_bytes}
 use Rattle.wire.specs.Bytes.{seal_of}
-use Rattle.partial_codec.specs.LayoutReading.{type_of, kind_of, argument_from, layout_at}
+use Rattle.answer_fields.specs.LayoutReading.{type_of, kind_of, argument_from, layout_at}
 use Rattle.partial_codec.specs.Answer.{Fits, Spells, held_against, judged}
 use Rattle.wire.proofs.Numbers.{bind_ok, ok_is, IsBytes, bytes_take, test_not}
-use Rattle.partial_codec.specs.Ranges.{IsBody}
-use Rattle.partial_codec.proofs.FieldLaws.{type_again, kind_again, IsAggregate, IsShape, AreJobFields, IsLayout, layout_takes, layout_again}
+use Rattle.answer_fields.specs.Ranges.{IsBody}
+use Rattle.answer_fields.proofs.FieldLaws.{type_again, kind_again, IsAggregate, IsShape, AreJobFields, IsLayout, layout_takes, layout_known, layout_again}
 use Rattle.partial_codec.proofs.Fitting.{groups_fit, few_groups, short_at, few_rows_before, words, fault_fits}
-use Rattle.partial_codec.proofs.FromWire.{read_ok}
-use Rattle.partial_codec.specs.Fault.{from_wire}
+use Rattle.answer_fields.proofs.Formats.{newest_has}
+use Rattle.answer_fields.proofs.FromWire.{read_ok}
+use Rattle.answer_fields.specs.Fault.{from_wire}
 use Rattle.wire.proofs.Seals.{seal_takes, seal_left, seal_again}
 
 -- ---- equal shapes
@@ -86,7 +89,8 @@ shape_itself a = both _ _ ((pointwise_decides type_exact a.keys a.keys).1 refl) 
 
 -- the fields that were held against the job
 record IsHeld (job : JobSpec) (l : Layout) (a : Answer) : Type 0 where
-  layout : l ≡ layout_of job a
+  layout : l ≡ layout_of l.format job a
+  shape : l.shape ≡ shape_of job.plan
   fits : fits job.plan job.cut a ≡ true
 
 held_takes : (job : JobSpec) (l : Layout) (a : Answer) → held_against job l ≡ Ok a → IsHeld job l a
@@ -96,7 +100,7 @@ held_takes job l a e =
     let text = test_not (same_bytes l.text job.plan.text) refusal.OtherQuery _ a load.1 in
     let cut = test_not (same_bytes l.cut job.cut && nat_lt l.k (length job.cut)) refusal.OtherCut _ a text.1 in
     let shape = test_not (is_same_shape l.shape (shape_of job.plan) && is_shaped job.plan l.body) refusal.Shape _ a cut.1 in
-    let sorted = test_not (are_keys_ascending l.body) refusal.UnsortedGroups _ a shape.1 in
+    let sorted = test_not (is_in_order l.body) refusal.UnsortedGroups _ a shape.1 in
     let numbers = test_not (are_numbers_possible job.plan (first_row job.cut l.k) (slice_index job.cut l.k) l.body) refusal.Numbers _ a sorted.1 in
     let cuts = and_parts (same_bytes l.cut job.cut) (nat_lt l.k (length job.cut)) cut.0 in
     let shapes = and_parts (is_same_shape l.shape (shape_of job.plan)) (is_shaped job.plan l.body) shape.0 in
@@ -105,9 +109,9 @@ held_takes job l a e =
     let lengths : l.cut ≡ job.cut = (bytes_decides l.cut job.cut).0 cuts.0 in
     let same_shape : l.shape ≡ shape_of job.plan = shape_same l.shape (shape_of job.plan) shapes.0 in
     let made : Answer = record { k = l.k; body = l.body } in
-    let same_layout : l ≡ layout_of job made = λ i. record { load = loads i; text = texts i; cut = lengths i; k = l.k; shape = same_shape i; body = l.body } in
+    let same_layout : l ≡ layout_of l.format job made = λ i. record { format = l.format; load = loads i; text = texts i; cut = lengths i; k = l.k; shape = same_shape i; body = l.body } in
     let all : fits job.plan job.cut made ≡ true = both _ _ cuts.1 (both _ _ shapes.1 (both _ _ sorted.0 numbers.0)) in
-    let held : IsHeld job l made = record { layout = same_layout; fits = all } in
+    let held : IsHeld job l made = record { layout = same_layout; shape = same_shape; fits = all } in
     subst (λ (b : Answer). IsHeld job l b) (ok_is made a numbers.1) held
 
 pub answer_takes : (job : JobSpec) (bytes : List ℕ) (a : Answer) → IsBytes bytes → judged job bytes ≡ Ok a → Spells job bytes a
@@ -123,8 +127,10 @@ answer_takes job bytes a ok e =
     let ended = subst (λ (bs : List ℕ). sealed_end bs two.0.0 two.0.1 ≡ Ok three.0) parts three.1 in
     let sealed = seal_takes front two.0.0 two.0.1 three.0 seal.1 ended in
     let held = held_takes job one.0.0 a three.2 in
-    let whole : bytes ≡ answer_bytes job a = parts ∙ sealed ∙ ap (λ (l : Layout). layout_bytes l ++ seal_of (layout_bytes l)) held.layout in
-    record { fits = held.fits; spelled = whole }
+    let format = one.0.0.format in
+    let kinds : has_kinds format (shape_of job.plan) ≡ true = subst (λ (s : Shape). has_kinds format s ≡ true) held.shape (layout_known bytes one.0 one.1) in
+    let whole : bytes ≡ answer_spelling format job a = parts ∙ sealed ∙ ap (λ (l : Layout). layout_bytes l ++ seal_of (layout_bytes l)) held.layout in
+    record { format = format; kinds = kinds; fits = held.fits; spelled = whole }
 
 -- ---- what fits and is spelled is read
 
@@ -135,15 +141,20 @@ argument_back Sum t = rw (type_again t) refl
 argument_back Min t = rw (type_again t) refl
 argument_back Max t = rw (type_again t) refl
 argument_back Avg t = rw (type_again t) refl
+argument_back CountDistinct t = rw (type_again t) refl
+argument_back SumDistinct t = rw (type_again t) refl
 
-aggregates_fit : (aggs : List Aggregate) → AllByRecursion IsAggregate (map shape_of_aggregate aggs)
-aggregates_fit [] = tt
-aggregates_fit (a ∷ aggs) = (record { argument = argument_back a.kind a.col_type }, aggregates_fit aggs)
+aggregates_fit : (format : Format) (aggs : List Aggregate) → list_all (λ (s : AggregateShape). has_kind format s.kind) (map shape_of_aggregate aggs) ≡ true
+    → AllByRecursion (IsAggregate format) (map shape_of_aggregate aggs)
+aggregates_fit format [] kinds = tt
+aggregates_fit format (a ∷ aggs) kinds =
+    let h = and_parts (has_kind format a.kind) (list_all (λ (s : AggregateShape). has_kind format s.kind) (map shape_of_aggregate aggs)) kinds in
+    (record { known = h.0; argument = argument_back a.kind a.col_type }, aggregates_fit format aggs h.1)
 
 pub body_fits : (job : JobSpec) (a : Answer) → IsJob job → fits job.plan job.cut a ≡ true → IsBody (shape_of job.plan) a.body
 body_fits job a is fit =
     let shaped = and_parts (is_shaped job.plan a.body) _ (and_parts (nat_lt a.k (length job.cut)) _ fit).1 in
-    of_body a.body shaped.0 (and_parts (are_keys_ascending a.body) _ shaped.1).1
+    of_body a.body shaped.0 (and_parts (is_in_order a.body) _ shaped.1).1
   where
     short : AllByRecursion (λ n. n ≤ max_rows) job.cut
     short = recursion_from_All (λ n. n ≤ max_rows) job.cut is.cut.short
@@ -176,42 +187,48 @@ job_fits job is =
     }
 
 -- a plan's shape has a spelling
-pub shape_fits : (job : JobSpec) → IsJob job → IsShape (shape_of job.plan)
-shape_fits job is =
+pub shape_fits : (format : Format) (job : JobSpec) → IsJob job → has_kinds format (shape_of job.plan) ≡ true → IsShape format (shape_of job.plan)
+shape_fits format job is kinds =
     let keys = is.plan.keys in
     let aggregates = is.plan.aggregates in
     record {
       keys = omega (arith, keys, length-map job.plan.keys (λ k. k.col_type));
       aggregates = omega (arith, aggregates, length-map job.plan.aggs shape_of_aggregate);
-      each = aggregates_fit job.plan.aggs;
+      each = aggregates_fit format job.plan.aggs kinds;
     }
 
-pub layout_fits : (job : JobSpec) (a : Answer) → IsJob job → Fits job a → IsLayout (layout_of job a)
-layout_fits job a is fit =
+pub layout_fits : (format : Format) (job : JobSpec) (a : Answer) → IsJob job → has_kinds format (shape_of job.plan) ≡ true → Fits job a → IsLayout (layout_of format job a)
+layout_fits format job a is kinds fit =
     let k = ltb-true a.k (length job.cut) (and_parts (nat_lt a.k (length job.cut)) _ fit).0 in
     let few = is.cut.few in
     record {
       job = job_fits job is;
       k = omega (arith, k, few);
-      shape = shape_fits job is;
+      shape = shape_fits format job is kinds;
       body = body_fits job a is fit;
     }
 
-held_again : (job : JobSpec) (a : Answer) → fits job.plan job.cut a ≡ true → held_against job (layout_of job a) ≡ Ok a
+held_again : (format : Format) (job : JobSpec) (a : Answer) → fits job.plan job.cut a ≡ true → held_against job (layout_of format job a) ≡ Ok a
 unfolding held_against
-held_again job a fit =
+held_again format job a fit =
     let k = and_parts (nat_lt a.k (length job.cut)) _ fit in
     let shaped = and_parts (is_shaped job.plan a.body) _ k.1 in
-    let sorted = and_parts (are_keys_ascending a.body) _ shaped.1 in
+    let sorted = and_parts (is_in_order a.body) _ shaped.1 in
     rw (eq-eqb job.load job.load refl, (bytes_decides job.plan.text job.plan.text).1 refl, (bytes_decides job.cut job.cut).1 refl, k.0, shape_itself (shape_of job.plan), shaped.0, sorted.0, sorted.1) refl
 
-pub answer_again : (job : JobSpec) (a : Answer) → IsJob job → Fits job a → judged job (answer_bytes job a) ≡ Ok a
+pub answer_again : (format : Format) (job : JobSpec) (a : Answer) → IsJob job → has_kinds format (shape_of job.plan) ≡ true → Fits job a → judged job (answer_spelling format job a) ≡ Ok a
 unfolding judged
-answer_again job a is fit =
-    let front = layout_bytes (layout_of job a) in
+answer_again format job a is kinds fit =
+    let front = layout_bytes (layout_of format job a) in
     let seal = seal_of front in
     let sealed = seal_left front in
-    rw (layout_again (layout_of job a) seal (layout_fits job a is fit), sealed, seal_again front, held_again job a fit) refl
+    rw (layout_again (layout_of format job a) seal (layout_fits format job a is kinds fit), sealed, seal_again front, held_again format job a fit) refl
 
 pub spelled_reads : (job : JobSpec) (bytes : List ℕ) (a : Answer) → IsJob job → Spells job bytes a → judged job bytes ≡ Ok a
-spelled_reads job bytes a is spells = ap (judged job) spells.spelled ∙ answer_again job a is spells.fits
+spelled_reads job bytes a is spells = ap (judged job) spells.spelled ∙ answer_again spells.format job a is spells.kinds spells.fits
+
+-- ---- what is written
+
+-- what is written of an answer that fits spells it
+pub written_spells : (job : JobSpec) (bytes : List ℕ) (a : Answer) → Fits job a → bytes ≡ answer_bytes job a → Spells job bytes a
+written_spells job bytes a fit written = record { format = newest; kinds = newest_has (shape_of job.plan); fits = fit; spelled = written }

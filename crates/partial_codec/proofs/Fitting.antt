@@ -1,6 +1,6 @@
 -- An answer that fits a job has a spelling: each of its numbers, texts and values stands within its field.
 use Rattle.std.proofs.Common.{◌≡◌, ℕ, zero, suc, ◌+◌, ◌*◌, ◌^◌, ◌<◌, ◌≤◌, ℤ, pos, negsuc, neg_ℤ, Bool, true, false, ◌&&◌, ◌||◌, eqb, List, [], ◌∷◌, length, map, take, Option, Some, None, refl, ap, subst, arith, inl, inr, ◌⊎◌}
-use Rattle.std.specs.Prelude.{FitsSigned, int_le, sum, slice_index, nat_lt, nat_le}
+use Rattle.std.specs.Prelude.{FitsSigned, int_le, not, sum, slice_index, nat_lt, nat_le}
 use Rattle.std.specs.List.{AllByRecursion, list_all}
 use Rattle.std.specs.Int.{w128}
 use Rattle.std.specs.Str.{is_utf8}
@@ -12,7 +12,7 @@ use Rattle.meaning.specs.declared.value.Value.TheVariants.{Null, Int, Text}
 use Rattle.meaning.specs.declared.value.ColType.{ColType}
 use Rattle.meaning.specs.declared.value.ColType.TheVariants as of_type
 use Rattle.meaning.specs.declared.plan.AggregateKind.{AggregateKind}
-use Rattle.meaning.specs.declared.plan.AggregateKind.TheVariants.{CountRows, Count, Sum, Min, Max, Avg}
+use Rattle.meaning.specs.declared.plan.AggregateKind.TheVariants.{CountRows, Count, Sum, Min, Max, Avg, CountDistinct, SumDistinct}
 use Rattle.meaning.specs.declared.plan.Aggregate.{Aggregate}
 use Rattle.meaning.specs.declared.plan.GroupingKey.{GroupingKey}
 use Rattle.meaning.specs.declared.plan.Plan.{Plan}
@@ -21,17 +21,17 @@ use Rattle.meaning.specs.declared.answer.Statistics.{Statistics}
 use Rattle.meaning.specs.declared.answer.Group.{Group}
 use Rattle.meaning.specs.Said.{Body}
 use Rattle.meaning.specs.declared.answer.Body.TheVariants.{Groups, Fault}
-use Rattle.meaning.specs.Order.{Row}
+use Rattle.meaning.specs.Order.{Row, is_null}
 use Rattle.meaning.specs.Aggregate.{kept_by}
 use Rattle.meaning.specs.Gather.{same_statistics, same_body}
 use Rattle.meaning.specs.Typing.{is_of_type}
-use Rattle.meaning.specs.Fitting.{is_extreme, is_key_of, is_state_of, is_group_of, is_sum_of, is_possible, is_group_possible, are_rows_possible, is_fault_possible}
+use Rattle.meaning.specs.Fitting.{is_extreme, is_entry_of, is_key_of, is_state_of, is_group_of, is_sum_of, is_possible, is_group_possible, are_rows_possible, is_fault_possible}
 use Rattle.meaning.proofs.Same.{body_exact}
 use Rattle.meaning.proofs.Words.{fits_word}
 use Rattle.meaning.specs.Limits.{max_rows, max_text_bytes}
-use Rattle.partial_codec.specs.Shape.{shape_of, shape_of_aggregate}
+use Rattle.answer_fields.specs.Shape.{shape_of, shape_of_aggregate}
 use Rattle.wire.specs.Bytes.{IsText}
-use Rattle.partial_codec.specs.Ranges.{IsValue, IsExtreme, IsState, AreStates, IsGroup}
+use Rattle.answer_fields.specs.Ranges.{IsValue, IsExtreme, IsState, AreStates, IsGroup}
 
 -- ---- tests
 
@@ -67,6 +67,13 @@ extreme_fits of_type.Int (Some (Int z)) e = fits_word z e
 extreme_fits of_type.Text (Some (Int z)) e = absurd cc
 extreme_fits of_type.Int (Some (Text t)) e = absurd cc
 extreme_fits of_type.Text (Some (Text t)) e = fits_text t e
+
+-- the entries of a set
+entries_fit : (t : ColType) (entries : List Value) → list_all (is_entry_of t) entries ≡ true → AllByRecursion IsValue entries
+entries_fit t [] e = tt
+entries_fit t (v ∷ entries) e =
+    let h = and_parts (is_entry_of t v) (list_all (is_entry_of t) entries) e in
+    (value_fits t v (and_parts (not (is_null v)) (is_of_type t v) h.0).1, entries_fit t entries h.1)
 
 -- ---- sums
 
@@ -112,13 +119,32 @@ statistics_itself a =
 
 -- ---- states
 
-pub count_fits : (kind : AggregateKind) (rows : ℕ) (s : Statistics) → is_possible kind rows s ≡ true → s.count ≤ rows
-count_fits CountRows rows s e = let h = eqb-true s.count rows e in omega (arith, h)
-count_fits Count rows s e = leb-true s.count rows e
-count_fits Sum rows s e = leb-true s.count rows (and_parts _ _ e).0
-count_fits Avg rows s e = leb-true s.count rows (and_parts _ _ e).0
-count_fits Min rows s e = leb-true s.count rows (and_parts _ _ e).0
-count_fits Max rows s e = leb-true s.count rows (and_parts _ _ e).0
+no_count : (s : Statistics) (rows : ℕ) → 0 ≡ s.count → s.count ≤ rows
+no_count s rows e = omega (arith, e)
+
+pub count_fits : (kind : AggregateKind) (rows : ℕ) (s : Statistics) → kept_by kind s ≡ s → is_possible kind rows s ≡ true → s.count ≤ rows
+count_fits CountRows rows s kept e = let h = eqb-true s.count rows e in omega (arith, h)
+count_fits Count rows s kept e = leb-true s.count rows e
+count_fits Sum rows s kept e = leb-true s.count rows (and_parts _ _ e).0
+count_fits Avg rows s kept e = leb-true s.count rows (and_parts _ _ e).0
+count_fits Min rows s kept e = leb-true s.count rows (and_parts _ _ e).0
+count_fits Max rows s kept e = leb-true s.count rows (and_parts _ _ e).0
+count_fits CountDistinct rows s kept e = no_count s rows (ap (λ (t : Statistics). t.count) kept)
+count_fits SumDistinct rows s kept e = no_count s rows (ap (λ (t : Statistics). t.count) kept)
+
+no_entries : (entries : List Value) (rows : ℕ) → [] ≡ entries → length entries ≤ rows
+no_entries entries rows e = subst (λ (xs : List Value). length xs ≤ rows) e (omega arith)
+
+-- how many entries a set has
+size_fits : (kind : AggregateKind) (rows : ℕ) (s : Statistics) → kept_by kind s ≡ s → is_possible kind rows s ≡ true → length s.entries ≤ rows
+size_fits CountRows rows s kept e = no_entries s.entries rows (ap (λ (t : Statistics). t.entries) kept)
+size_fits Count rows s kept e = no_entries s.entries rows (ap (λ (t : Statistics). t.entries) kept)
+size_fits Sum rows s kept e = no_entries s.entries rows (ap (λ (t : Statistics). t.entries) kept)
+size_fits Avg rows s kept e = no_entries s.entries rows (ap (λ (t : Statistics). t.entries) kept)
+size_fits Min rows s kept e = no_entries s.entries rows (ap (λ (t : Statistics). t.entries) kept)
+size_fits Max rows s kept e = no_entries s.entries rows (ap (λ (t : Statistics). t.entries) kept)
+size_fits CountDistinct rows s kept e = leb-true (length s.entries) rows e
+size_fits SumDistinct rows s kept e = leb-true (length s.entries) rows e
 
 sum_of_state : (kind : AggregateKind) (rows : ℕ) (s : Statistics) → rows ≤ max_rows → kept_by kind s ≡ s → is_possible kind rows s ≡ true → FitsSigned w128 s.sum
 sum_of_state CountRows rows s le kept e = no_sum s.sum (ap (λ (t : Statistics). t.sum) kept)
@@ -127,18 +153,24 @@ sum_of_state Sum rows s le kept e = let h = and_parts _ _ e in let c = leb-true 
 sum_of_state Avg rows s le kept e = let h = and_parts _ _ e in let c = leb-true s.count rows h.0 in sum_fits s.count s.sum (omega (arith, c)) h.1
 sum_of_state Min rows s le kept e = no_sum s.sum (ap (λ (t : Statistics). t.sum) kept)
 sum_of_state Max rows s le kept e = no_sum s.sum (ap (λ (t : Statistics). t.sum) kept)
+sum_of_state CountDistinct rows s le kept e = no_sum s.sum (ap (λ (t : Statistics). t.sum) kept)
+sum_of_state SumDistinct rows s le kept e = no_sum s.sum (ap (λ (t : Statistics). t.sum) kept)
 
 state_fits : (a : Aggregate) (rows : ℕ) (s : Statistics) → rows ≤ max_rows → is_state_of a s ≡ true → is_possible a.kind rows s ≡ true → IsState a.kind s
 state_fits a rows s le shaped possible =
-    let h = and_parts (same_statistics (kept_by a.kind s) s) (is_extreme a.col_type s.least && is_extreme a.col_type s.greatest) shaped in
-    let extremes = and_parts (is_extreme a.col_type s.least) (is_extreme a.col_type s.greatest) h.1 in
+    let h = and_parts (same_statistics (kept_by a.kind s) s) (is_extreme a.col_type s.least && (is_extreme a.col_type s.greatest && list_all (is_entry_of a.col_type) s.entries)) shaped in
+    let least = and_parts (is_extreme a.col_type s.least) (is_extreme a.col_type s.greatest && list_all (is_entry_of a.col_type) s.entries) h.1 in
+    let greatest = and_parts (is_extreme a.col_type s.greatest) (list_all (is_entry_of a.col_type) s.entries) least.1 in
     let kept = statistics_same (kept_by a.kind s) s h.0 in
-    let count = count_fits a.kind rows s possible in
+    let count = count_fits a.kind rows s kept possible in
+    let size = size_fits a.kind rows s kept possible in
     record {
       count = omega (arith, count);
       sum = sum_of_state a.kind rows s le kept possible;
-      least = extreme_fits a.col_type s.least extremes.0;
-      greatest = extreme_fits a.col_type s.greatest extremes.1;
+      least = extreme_fits a.col_type s.least least.0;
+      greatest = extreme_fits a.col_type s.greatest greatest.0;
+      few = omega (arith, size);
+      entries = entries_fit a.col_type s.entries greatest.1;
       kept = kept;
     }
 

@@ -3,7 +3,7 @@ use Rattle.std.proofs.Common.{rules, ◌≡◌, ℕ, zero, suc, pos, Bool, true,
 use Rattle.std.specs.List.{list_all}
 use Rattle.std.specs.Cmp.Lexicographic.{pointwise}
 use Rattle.meaning.specs.declared.plan.AggregateKind.{AggregateKind}
-use Rattle.meaning.specs.declared.plan.AggregateKind.TheVariants.{CountRows, Count, Sum, Min, Max, Avg}
+use Rattle.meaning.specs.declared.plan.AggregateKind.TheVariants.{CountRows, Count, Sum, Min, Max, Avg, CountDistinct, SumDistinct}
 use Rattle.meaning.specs.declared.plan.Aggregate.{Aggregate}
 use Rattle.meaning.specs.declared.plan.Plan.{Plan}
 use Rattle.meaning.specs.declared.answer.Statistics.{Statistics}
@@ -12,19 +12,19 @@ use Rattle.meaning.specs.Said.{Body}
 use Rattle.meaning.specs.declared.answer.Body.TheVariants.{Groups, Fault}
 use Rattle.std.proofs.Common.{eqb}
 use Rattle.std.proofs.lemmas.Bool.{ne_eqb, and_parts}
-use Rattle.meaning.specs.Order.{Row, row_cmp, is_ascending}
+use Rattle.meaning.specs.Order.{Row, value_cmp, is_ascending}
 use Rattle.meaning.specs.Aggregate.{no_statistics, kept_by}
 use Rattle.meaning.specs.Gather.{same_statistics}
-use Rattle.meaning.specs.Fitting.{is_sum_of, is_state_of, is_group_of, is_shaped, is_possible, is_group_possible, are_keys_ascending, are_numbers_possible}
+use Rattle.meaning.specs.Fitting.{is_sum_of, is_state_of, is_group_of, is_shaped, is_possible, is_group_possible, are_sets_ascending, is_in_order, are_numbers_possible}
 use Rattle.meaning.proofs.Tests.{both}
 use Rattle.wire.specs.Reading.{◌>>=◌, number_at, i128_at, repeat_at}
 use Rattle.wire.proofs.Numbers.{bind_ok, ok_is}
-use Rattle.partial_codec.specs.Fault.{from_wire}
-use Rattle.partial_codec.specs.Keeping.{has_possible_sum, has_possible_sums, are_sums_possible, kept_state, kept_group, kept_body, is_typed_state, is_typed_group, is_typed}
-use Rattle.partial_codec.specs.LayoutReading.{value_at, unless_null, state_at, states_at, group_at, groups_at, fault_at, tagged_body_at, body_at}
-use Rattle.partial_codec.specs.Shape.{shape_of, shape_of_aggregate}
+use Rattle.answer_fields.specs.Fault.{from_wire}
+use Rattle.answer_fields.specs.Keeping.{has_possible_sum, has_possible_sums, are_sums_possible, kept_state, kept_group, kept_body, is_typed_state, is_typed_group, is_typed}
+use Rattle.answer_fields.specs.LayoutReading.{value_at, unless_null, set_at, state_at, states_at, group_at, groups_at, fault_at, tagged_body_at, body_at}
+use Rattle.answer_fields.specs.Shape.{shape_of, shape_of_aggregate}
 use Rattle.partial_codec.proofs.Fitting.{statistics_itself}
-use Rattle.partial_codec.proofs.FromWire.{read_ok}
+use Rattle.answer_fields.proofs.FromWire.{read_ok}
 
 true_false : true ≡ false → ⊥
 true_false e = absurd cc
@@ -73,6 +73,14 @@ state_read Max bytes p e =
     let b = bind_ok (value_at a.0.1) (λ value. Ok (record no_statistics { count = a.0.0; greatest = unless_null value.0 }, value.1)) p a.2 in
     let made : Statistics × List ℕ = (record no_statistics { count = a.0.0; greatest = unless_null b.0.0 }, b.0.1) in
     subst (λ (q : Statistics × List ℕ). IsRead Max q.0) (ok_is made p b.2) (record { kept = statistics_itself made.0; sum = λ rows h. zero_sum a.0.0 })
+state_read CountDistinct bytes p e =
+    let a = bind_ok (set_at bytes) (λ entries. Ok (record no_statistics { entries = entries.0 }, entries.1)) p e in
+    let made : Statistics × List ℕ = (record no_statistics { entries = a.0.0 }, a.0.1) in
+    subst (λ (q : Statistics × List ℕ). IsRead CountDistinct q.0) (ok_is made p a.2) (record { kept = statistics_itself made.0; sum = λ rows h. zero_sum 0 })
+state_read SumDistinct bytes p e =
+    let a = bind_ok (set_at bytes) (λ entries. Ok (record no_statistics { entries = entries.0 }, entries.1)) p e in
+    let made : Statistics × List ℕ = (record no_statistics { entries = a.0.0 }, a.0.1) in
+    subst (λ (q : Statistics × List ℕ). IsRead SumDistinct q.0) (ok_is made p a.2) (record { kept = statistics_itself made.0; sum = λ rows h. zero_sum 0 })
 
 -- states that were read by a plan's aggregates
 record AreRead (aggs : List Aggregate) (states : List Statistics) : Type 0 where
@@ -201,9 +209,17 @@ keys_same : (gs : List Group) → map (λ g. g.key) (map kept_group gs) ≡ map 
 keys_same [] = refl
 keys_same (g ∷ gs) = ap (λ (ks : List Row). g.key ∷ ks) (keys_same gs)
 
-pub body_ascending : (body : Body) → are_keys_ascending (kept_body body) ≡ are_keys_ascending body
-body_ascending (Fault f) = refl
-body_ascending (Groups gs) = ap (is_ascending row_cmp) (keys_same gs)
+sets_same : (states : List Statistics) → list_all (λ s. is_ascending value_cmp s.entries) (map kept_state states) ≡ list_all (λ s. is_ascending value_cmp s.entries) states
+sets_same [] = refl
+sets_same (s ∷ states) = ap (λ (b : Bool). is_ascending value_cmp s.entries && b) (sets_same states)
+
+all_sets_same : (gs : List Group) → list_all are_sets_ascending (map kept_group gs) ≡ list_all are_sets_ascending gs
+all_sets_same [] = refl
+all_sets_same (g ∷ gs) = rw (sets_same g.states, all_sets_same gs) refl
+
+pub body_in_order : (body : Body) → is_in_order (kept_body body) ≡ is_in_order body
+body_in_order (Fault f) = refl
+body_in_order (Groups gs) = rw (keys_same gs, all_sets_same gs) refl
 
 -- what is asked of the numbers that were kept
 pub body_numbers : (plan : Plan) (first rows : ℕ) (body : Body) → IsReadBody plan body

@@ -2,41 +2,31 @@
 use Rattle.std.proofs.Common.{◌≡◌, ℕ, Bool, true, false, ◌&&◌, eqb, List, length, Result, Ok, Err, refl, sym, ap, subst, ◌∙◌}
 use Rattle.std.specs.Prelude.{not, if◌then◌else◌, nat_lt, slice_index}
 use Rattle.meaning.specs.Cut.{first_row}
-use Rattle.meaning.specs.Fitting.{is_shaped, are_keys_ascending, are_numbers_possible}
+use Rattle.meaning.specs.Fitting.{is_shaped, is_in_order, are_numbers_possible}
 use Rattle.meaning.specs.Said.{Body, Answer}
 use Rattle.meaning.specs.declared.plan.Plan.{Plan}
 use Rattle.meaning.specs.Wanting.{GivesIfMemory}
-use Rattle.wire.specs.Reading.{◌>>=◌, Reads, number_at, bytes_at, behind_magic, same_bytes, sealed_end}
-use Rattle.wire.proofs.Numbers.{bind_ok, ok_is}
-use Rattle.partial_codec.specs.declared.fault.DecodeFault.{DecodeFault}
-use Rattle.partial_codec.specs.declared.fault.DecodeFault.TheVariants as fault
-use Rattle.partial_codec.specs.declared.fields.Layout.{Layout as Held}
+use Rattle.wire.specs.Reading.{Reads, bytes_at, same_bytes, sealed_end}
+use Rattle.answer_fields.specs.declared.fault.DecodeFault.{DecodeFault}
+use Rattle.answer_fields.specs.declared.fault.DecodeFault.TheVariants as fault
+use Rattle.answer_fields.specs.declared.fields.Layout.{Layout as Held}
 use Rattle.partial_codec.specs.Answer.{held_against, judged}
-use Rattle.partial_codec.specs.Fault.{from_wire}
-use Rattle.partial_codec.specs.Fields.{IsLayout, WasRead, shape_in, words}
+use Rattle.answer_fields.specs.Fields.{IsLayout, WasRead, shape_in, words}
 use Rattle.partial_codec.specs.Holding.{layout_held_by}
 use Rattle.partial_codec.specs.Job.{JobSpec}
-use Rattle.partial_codec.specs.Keeping.{are_sums_possible, kept_body, is_typed}
-use Rattle.partial_codec.specs.LayoutReading.{JobFields, body_at, shape_at, job_at, layout_at}
-use Rattle.partial_codec.specs.Shape.{Shape, shape_of, is_same_shape}
-use Rattle.partial_codec.specs.Spelling.{Layout, answer_magic}
+use Rattle.answer_fields.specs.Keeping.{are_sums_possible, kept_body, is_typed}
+use Rattle.answer_fields.specs.LayoutReading.{body_at, layout_at}
+use Rattle.answer_fields.specs.Shape.{Shape, shape_of, is_same_shape}
+use Rattle.partial_codec.specs.Spelling.{Layout}
 use Rattle.partial_codec.proofs.Answers.{shape_same}
-use Rattle.partial_codec.proofs.FromWire.{read_ok}
-use Rattle.partial_codec.proofs.Judging.{IsReadBody, body_read, body_same, body_typed, body_ascending, body_numbers}
+use Rattle.answer_fields.proofs.FieldLaws.{layout_read}
+use Rattle.partial_codec.proofs.Judging.{IsReadBody, body_read, body_same, body_typed, body_in_order, body_numbers}
 
 -- the body was read by the shape that the layout has
 pub layout_was_read : (bytes : List ℕ) (p : Layout × List ℕ) → layout_at bytes ≡ Ok p → WasRead p.0.shape p.0.body
-unfolding layout_at
 layout_was_read bytes p e =
-    let done : JobFields → ℕ → Shape → Body → Layout = λ job k shape body. record { load = job.load; text = job.text; cut = job.cut; k = k; shape = shape; body = body } in
-    let a = read_ok (behind_magic answer_magic bytes) (λ rest. job_at rest >>= λ job. from_wire (number_at 4 job.1) >>= λ k. shape_at k.1 >>= λ shape. body_at shape.0 shape.1 >>= λ body. Ok (done job.0 k.0 shape.0 body.0, body.1)) p e in
-    let b = bind_ok (job_at a.0) (λ job. from_wire (number_at 4 job.1) >>= λ k. shape_at k.1 >>= λ shape. body_at shape.0 shape.1 >>= λ body. Ok (done job.0 k.0 shape.0 body.0, body.1)) p a.2 in
-    let c = read_ok (number_at 4 b.0.1) (λ k. shape_at k.1 >>= λ shape. body_at shape.0 shape.1 >>= λ body. Ok (done b.0.0 k.0 shape.0 body.0, body.1)) p b.2 in
-    let d = bind_ok (shape_at c.0.1) (λ shape. body_at shape.0 shape.1 >>= λ body. Ok (done b.0.0 c.0.0 shape.0 body.0, body.1)) p c.2 in
-    let f = bind_ok (body_at d.0.0 d.0.1) (λ body. Ok (done b.0.0 c.0.0 d.0.0 body.0, body.1)) p d.2 in
-    let made : Layout × List ℕ = (done b.0.0 c.0.0 d.0.0 f.0.0, f.0.1) in
-    let read : WasRead made.0.shape made.0.body = (d.0.1, f.0.1, f.1) in
-    subst (λ (q : Layout × List ℕ). WasRead q.0.shape q.0.body) (ok_is made p f.2) read
+    let read = layout_read bytes p e in
+    (read.behind_shape, p.1, read.body)
 
 -- a body that was read by a shape which is the plan's
 pub read_by_plan : (plan : Plan) (shape : Shape) (body : Body) → WasRead shape body → is_same_shape shape (shape_of plan) ≡ true → IsReadBody plan body
@@ -46,17 +36,17 @@ read_by_plan plan shape body (bytes, rest, read) same =
 module _ (plan : Plan) (k first rows : ℕ) (body : Body) where
   -- behind the types
   abbrev of_read : Result Answer DecodeFault
-  of_read = if not (are_keys_ascending body) then Err fault.UnsortedGroups else if not (are_numbers_possible plan first rows body) then Err fault.Numbers else Ok (record { k = k; body = body })
+  of_read = if not (is_in_order body) then Err fault.UnsortedGroups else if not (are_numbers_possible plan first rows body) then Err fault.Numbers else Ok (record { k = k; body = body })
 
   abbrev of_kept : Result Answer DecodeFault
   of_kept =
-      if not (are_keys_ascending (kept_body body)) then Err fault.UnsortedGroups
+      if not (is_in_order (kept_body body)) then Err fault.UnsortedGroups
       else if not (are_sums_possible body) then Err fault.Numbers
       else if not (are_numbers_possible plan first rows (kept_body body)) then Err fault.Numbers
       else Ok (record { k = k; body = kept_body body })
 
   numbers_same : IsReadBody plan body → of_read ≡ of_kept
-  numbers_same is = elim (are_sums_possible body) as (λ b. are_sums_possible body ≡ b → of_read ≡ of_kept) [ true ↦ λ e. rw (body_same body e, e) refl | false ↦ λ e. rw (body_ascending body, body_numbers plan first rows body is, e) refl ] refl
+  numbers_same is = elim (are_sums_possible body) as (λ b. are_sums_possible body ≡ b → of_read ≡ of_kept) [ true ↦ λ e. rw (body_same body e, e) refl | false ↦ λ e. rw (body_in_order body, body_numbers plan first rows body is, e) refl ] refl
 
   behind_shape : IsReadBody plan body → (if not (is_shaped plan body) then Err fault.Shape else of_read) ≡ (if not (is_typed plan (kept_body body)) then Err fault.Shape else of_kept)
   behind_shape is = rw (is.typed, body_typed plan body, numbers_same is) refl
@@ -79,7 +69,7 @@ by_parts job load text cut k shape body possible =
     else if not (same_bytes cut job.cut && nat_lt k (length job.cut)) then Err fault.OtherCut
     else if not (is_same_shape shape (shape_of job.plan)) then Err fault.Shape
     else if not (is_typed job.plan body) then Err fault.Shape
-    else if not (are_keys_ascending body) then Err fault.UnsortedGroups
+    else if not (is_in_order body) then Err fault.UnsortedGroups
     else if not possible then Err fault.Numbers
     else if not (are_numbers_possible job.plan (first_row job.cut k) (slice_index job.cut k) body) then Err fault.Numbers
     else Ok (record { k = k; body = body })

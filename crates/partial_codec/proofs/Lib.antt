@@ -1,19 +1,10 @@
 -- The lemmas of this crate.
-pub mod FromWire
-pub mod ValueLaws
-pub mod Groups
-pub mod FieldLaws
 pub mod Fitting
 pub mod Steps
 pub mod Answers
 pub mod Types
 pub mod Words
-pub mod KeptParts
 pub mod Judging
-pub mod ReadGroups
-pub mod ReadFields
-pub mod KeptCells
-pub mod Shapes
 pub mod States
 pub mod Layouts
 pub mod WrittenStates

@@ -4,27 +4,27 @@ use Rattle.std.specs.Prelude.{not, if◌then◌else◌, slice_index}
 use Rattle.std.specs.List.{list_all, AllByRecursion}
 use Rattle.std.proofs.lemmas.Bool.{ne_eqb}
 use Rattle.meaning.specs.Cut.{first_row}
-use Rattle.meaning.specs.Fitting.{are_keys_ascending}
+use Rattle.meaning.specs.Fitting.{is_in_order}
 use Rattle.meaning.specs.Said.{Body, Cell}
 use Rattle.meaning.specs.declared.answer.Cell.TheVariants.{Nothing, One, Conflict}
 use Rattle.meaning.specs.declared.plan.Plan.{Plan}
-use Rattle.wire.specs.Reading.{◌>>=◌, number_at, bytes_at, repeat_at, behind_magic, same_bytes, sealed_end}
+use Rattle.wire.specs.Reading.{◌>>=◌, number_at, bytes_at, repeat_at, same_bytes, sealed_end}
 use Rattle.wire.proofs.Numbers.{bind_ok, ok_is, test_not}
 use Rattle.std.proofs.lemmas.List.{length-map}
-use Rattle.partial_codec.proofs.States.{layout_cells}
-use Rattle.partial_codec.specs.declared.fault.DecodeFault.{DecodeFault}
-use Rattle.partial_codec.specs.declared.fault.DecodeFault.TheVariants as fault
-use Rattle.partial_codec.specs.declared.state_fields.StateLayout.{StateLayout as Held}
-use Rattle.partial_codec.specs.Fields.{IsStateLayout, shape_in, words}
+use Rattle.partial_codec.proofs.States.{layout_read, layout_cells}
+use Rattle.answer_fields.specs.declared.fault.DecodeFault.{DecodeFault}
+use Rattle.answer_fields.specs.declared.fault.DecodeFault.TheVariants as fault
+use Rattle.answer_fields.specs.declared.state_fields.StateLayout.{StateLayout as Held}
+use Rattle.answer_fields.specs.Fields.{IsStateLayout, shape_in, words}
 use Rattle.partial_codec.specs.Holding.{body_held_by, cell_held_by, cells_held_by, state_held_by}
 use Rattle.partial_codec.specs.Job.{JobSpec}
-use Rattle.partial_codec.specs.Keeping.{are_sums_possible, is_cell_possible, kept_body, kept_cell, is_cell_typed}
-use Rattle.partial_codec.specs.LayoutReading.{JobFields, body_at, shape_at, job_at}
-use Rattle.partial_codec.specs.Shape.{Shape, shape_of, is_same_shape}
-use Rattle.partial_codec.specs.State.{StateLayout, state_magic, tagged_cell_at, cell_at, state_layout_at, is_cell_shaped, body_held, cell_held, cells_held, state_held_against, judged_state}
+use Rattle.answer_fields.specs.Keeping.{are_sums_possible, is_cell_possible, kept_body, kept_cell, is_cell_typed}
+use Rattle.answer_fields.specs.LayoutReading.{body_at}
+use Rattle.answer_fields.specs.Shape.{Shape, shape_of, is_same_shape}
+use Rattle.partial_codec.specs.State.{StateLayout, tagged_cell_at, cell_at, state_layout_at, is_cell_shaped, body_held, cell_held, cells_held, state_held_against, judged_state}
 use Rattle.partial_codec.proofs.Answers.{shape_same}
-use Rattle.partial_codec.proofs.FromWire.{read_ok}
-use Rattle.partial_codec.proofs.Judging.{IsReadBody, body_read, body_same, body_typed, body_ascending, body_numbers}
+use Rattle.answer_fields.proofs.FromWire.{read_ok}
+use Rattle.partial_codec.proofs.Judging.{IsReadBody, body_read, body_same, body_typed, body_in_order, body_numbers}
 
 -- ---- how cells were read
 
@@ -70,16 +70,9 @@ abbrev pub WereRead : StateLayout → Type 0
 WereRead l = (bytes rest : List ℕ) × (repeat_at (cell_at l.shape) (length l.cut) bytes ≡ Ok (l.cells, rest))
 
 pub state_was_read : (bytes : List ℕ) (p : StateLayout × List ℕ) → state_layout_at bytes ≡ Ok p → WereRead p.0
-unfolding state_layout_at
 state_was_read bytes p e =
-    let done : JobFields → Shape → List Cell → StateLayout = λ job shape cells. record { load = job.load; text = job.text; cut = job.cut; shape = shape; cells = cells } in
-    let a = read_ok (behind_magic state_magic bytes) (λ rest. job_at rest >>= λ job. shape_at job.1 >>= λ shape. repeat_at (cell_at shape.0) (length job.0.cut) shape.1 >>= λ cells. Ok (done job.0 shape.0 cells.0, cells.1)) p e in
-    let b = bind_ok (job_at a.0) (λ job. shape_at job.1 >>= λ shape. repeat_at (cell_at shape.0) (length job.0.cut) shape.1 >>= λ cells. Ok (done job.0 shape.0 cells.0, cells.1)) p a.2 in
-    let c = bind_ok (shape_at b.0.1) (λ shape. repeat_at (cell_at shape.0) (length b.0.0.cut) shape.1 >>= λ cells. Ok (done b.0.0 shape.0 cells.0, cells.1)) p b.2 in
-    let d = bind_ok (repeat_at (cell_at c.0.0) (length b.0.0.cut) c.0.1) (λ cells. Ok (done b.0.0 c.0.0 cells.0, cells.1)) p c.2 in
-    let made : StateLayout × List ℕ = (done b.0.0 c.0.0 d.0.0, d.0.1) in
-    let read : WereRead made.0 = (c.0.1, d.0.1, d.1) in
-    subst (λ (q : StateLayout × List ℕ). WereRead q.0) (ok_is made p d.2) read
+    let read = layout_read bytes p e in
+    (read.behind_shape, p.1, read.cells)
 
 read_by_plan : (plan : Plan) (l : StateLayout) → WereRead l → is_same_shape l.shape (shape_of plan) ≡ true → AllByRecursion (IsReadCell plan) l.cells
 read_by_plan plan l (bytes, rest, read) same =
@@ -103,7 +96,7 @@ unfolding body_held
 body_returned plan first rows body is =
     elim (are_sums_possible body) as (λ b. are_sums_possible body ≡ b → body_held plan first rows body ≡ body_held_by plan first rows (kept_body body) (are_sums_possible body)) [
       | true ↦ λ e. rw (body_same body e, e) refl
-      | false ↦ λ e. rw (body_ascending body, body_numbers plan first rows body is, e) refl
+      | false ↦ λ e. rw (body_in_order body, body_numbers plan first rows body is, e) refl
     ] refl
 
 cell_returned : (plan : Plan) (first rows : ℕ) (cell : Cell) → IsReadCell plan cell → cell_held plan first rows cell ≡ cell_held_by plan first rows (kept_cell cell) (is_cell_possible cell)
@@ -120,7 +113,7 @@ cells_returned job k (cell ∷ cells) are = rw (cell_returned job.plan (first_ro
 
 passes : (plan : Plan) (first rows : ℕ) (body : Body) (possible : Bool) → body_held_by plan first rows body possible ≡ Ok tt → possible ≡ true
 passes plan first rows body possible e =
-    let sorted = test_not (are_keys_ascending body) fault.UnsortedGroups _ tt e in
+    let sorted = test_not (is_in_order body) fault.UnsortedGroups _ tt e in
     (test_not possible fault.Numbers _ tt sorted.1).0
 
 cell_same : (plan : Plan) (first rows : ℕ) (cell : Cell) → cell_held_by plan first rows (kept_cell cell) (is_cell_possible cell) ≡ Ok tt → kept_cell cell ≡ cell

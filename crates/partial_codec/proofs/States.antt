@@ -8,26 +8,30 @@ use Rattle.meaning.specs.Said.{Body}
 use Rattle.meaning.specs.Said.{Cell}
 use Rattle.meaning.specs.declared.answer.Cell.TheVariants.{Nothing, One, Conflict}
 use Rattle.meaning.specs.Cut.{first_row}
-use Rattle.meaning.specs.Fitting.{is_shaped, are_keys_ascending, are_numbers_possible, fits}
+use Rattle.meaning.specs.Fitting.{is_shaped, is_in_order, are_numbers_possible, fits}
 use Rattle.meaning.proofs.Tests.{both}
-use Rattle.partial_codec.specs.declared.fault.DecodeFault.TheVariants as refusal
-use Rattle.wire.specs.Reading.{◌>>=◌, bytes_at, number_at, repeat_at, same_bytes, behind_magic, sealed_end}
+use Rattle.answer_fields.specs.declared.fault.DecodeFault.TheVariants as refusal
+use Rattle.answer_fields.specs.declared.format.Content.TheVariants as content
+use Rattle.answer_fields.specs.declared.format.Format.{Format}
+use Rattle.answer_fields.specs.Format.{newest, has_kinds, magic, format_at}
+use Rattle.wire.specs.Reading.{◌>>=◌, bytes_at, number_at, repeat_at, same_bytes, sealed_end}
 use Rattle.partial_codec.specs.Job.{JobSpec, IsJob}
-use Rattle.partial_codec.specs.Shape.{Shape, shape_of, is_same_shape}
+use Rattle.answer_fields.specs.Shape.{Shape, shape_of, is_same_shape}
 use Rattle.wire.specs.Bytes.{number_bytes, seal_of}
 use Rattle.partial_codec.specs.Spelling.{body_bytes, shape_bytes}
-use Rattle.partial_codec.specs.LayoutReading.{JobFields, body_at, shape_at, job_at}
-use Rattle.partial_codec.specs.Ranges.{IsCell}
+use Rattle.answer_fields.specs.LayoutReading.{JobFields, body_at, shape_at, job_at}
+use Rattle.answer_fields.specs.Ranges.{IsCell}
 use Rattle.partial_codec.specs.Answer.{Fits}
-use Rattle.partial_codec.specs.State.{StateLayout, FitsState, SpellsState, cell_bytes, state_magic, state_layout_bytes, state_layout_of, state_bytes, tagged_cell_at, cell_at, state_layout_at, is_cell_shaped, body_held, cell_held, cells_held, state_held_against, judged_state}
+use Rattle.partial_codec.specs.State.{StateLayout, FitsState, SpellsState, cell_bytes, state_layout_bytes, state_layout_of, state_spelling, state_bytes, tagged_cell_at, cell_at, state_laid_out, state_layout_at, is_cell_shaped, body_held, cell_held, cells_held, state_held_against, judged_state}
 use Rattle.wire.proofs.Numbers.{bind_ok, ok_is, IsBytes, Takes, Takes-then, bytes_take, number_takes, number_again, test_not}
 use Rattle.wire.proofs.Parts.{IsSpelled, IsReadAgain, repeat_takes, repeat_again, repeat_all}
-use Rattle.partial_codec.proofs.Groups.{body_takes, body_again}
-use Rattle.partial_codec.proofs.FieldLaws.{IsShape, AreJobFields, job_text, job_takes, job_again, shape_takes, shape_again}
-use Rattle.wire.proofs.Seals.{magic_takes, magic_again, seal_takes, seal_again, seal_left}
+use Rattle.answer_fields.proofs.Groups.{body_takes, body_again}
+use Rattle.answer_fields.proofs.FieldLaws.{IsShape, AreJobFields, job_text, job_takes, job_again, shape_known, shape_takes, shape_again}
+use Rattle.wire.proofs.Seals.{seal_takes, seal_again, seal_left}
+use Rattle.answer_fields.proofs.Formats.{format_takes, format_again, newest_has}
 use Rattle.partial_codec.proofs.Answers.{shape_same, shape_itself, job_fits, shape_fits, body_fits}
-use Rattle.partial_codec.proofs.FromWire.{read_ok}
-use Rattle.partial_codec.specs.Fault.{from_wire}
+use Rattle.answer_fields.proofs.FromWire.{read_ok}
+use Rattle.answer_fields.specs.Fault.{from_wire}
 
 -- ---- cells
 
@@ -94,25 +98,24 @@ abbrev job_of : StateLayout → JobFields
 job_of l = record { load = l.load; text = l.text; cut = l.cut }
 
 -- what reading a layout gave, field by field
-record IsReadLayout (bytes : List ℕ) (p : StateLayout × List ℕ) : Type 0 where
-  behind_text : List ℕ
+pub record IsReadLayout (bytes : List ℕ) (p : StateLayout × List ℕ) : Type 0 where
+  behind_format : List ℕ
   behind_job : List ℕ
-  behind_shape : List ℕ
-  magic : behind_magic state_magic bytes ≡ Ok behind_text
-  job : job_at behind_text ≡ Ok (job_of p.0, behind_job)
-  shape : shape_at behind_job ≡ Ok (p.0.shape, behind_shape)
-  cells : repeat_at (cell_at p.0.shape) (length p.0.cut) behind_shape ≡ Ok (p.0.cells, p.1)
+  pub behind_shape : List ℕ
+  format : format_at content.State bytes ≡ Ok (p.0.format, behind_format)
+  job : job_at behind_format ≡ Ok (job_of p.0, behind_job)
+  shape : shape_at p.0.format behind_job ≡ Ok (p.0.shape, behind_shape)
+  pub cells : repeat_at (cell_at p.0.shape) (length p.0.cut) behind_shape ≡ Ok (p.0.cells, p.1)
 
-layout_read : (bytes : List ℕ) (p : StateLayout × List ℕ) → state_layout_at bytes ≡ Ok p → IsReadLayout bytes p
+pub layout_read : (bytes : List ℕ) (p : StateLayout × List ℕ) → state_layout_at bytes ≡ Ok p → IsReadLayout bytes p
 unfolding state_layout_at
 layout_read bytes p e =
-    let done : JobFields → Shape → List Cell → StateLayout = λ job shape cells. record { load = job.load; text = job.text; cut = job.cut; shape = shape; cells = cells } in
-    let a = read_ok (behind_magic state_magic bytes) (λ rest. job_at rest >>= λ job. shape_at job.1 >>= λ shape. repeat_at (cell_at shape.0) (length job.0.cut) shape.1 >>= λ cells. Ok (done job.0 shape.0 cells.0, cells.1)) p e in
-    let b = bind_ok (job_at a.0) (λ job. shape_at job.1 >>= λ shape. repeat_at (cell_at shape.0) (length job.0.cut) shape.1 >>= λ cells. Ok (done job.0 shape.0 cells.0, cells.1)) p a.2 in
-    let c = bind_ok (shape_at b.0.1) (λ shape. repeat_at (cell_at shape.0) (length b.0.0.cut) shape.1 >>= λ cells. Ok (done b.0.0 shape.0 cells.0, cells.1)) p b.2 in
-    let d = bind_ok (repeat_at (cell_at c.0.0) (length b.0.0.cut) c.0.1) (λ cells. Ok (done b.0.0 c.0.0 cells.0, cells.1)) p c.2 in
-    let made : StateLayout × List ℕ = (done b.0.0 c.0.0 d.0.0, d.0.1) in
-    let read : IsReadLayout bytes made = record { behind_text = a.0; behind_job = b.0.1; behind_shape = c.0.1; magic = a.1; job = b.1; shape = c.1; cells = d.1 } in
+    let a = bind_ok (format_at content.State bytes) (λ format. job_at format.1 >>= λ job. shape_at format.0 job.1 >>= λ shape. repeat_at (cell_at shape.0) (length job.0.cut) shape.1 >>= λ cells. Ok (state_laid_out format.0 job.0 shape.0 cells.0, cells.1)) p e in
+    let b = bind_ok (job_at a.0.1) (λ job. shape_at a.0.0 job.1 >>= λ shape. repeat_at (cell_at shape.0) (length job.0.cut) shape.1 >>= λ cells. Ok (state_laid_out a.0.0 job.0 shape.0 cells.0, cells.1)) p a.2 in
+    let c = bind_ok (shape_at a.0.0 b.0.1) (λ shape. repeat_at (cell_at shape.0) (length b.0.0.cut) shape.1 >>= λ cells. Ok (state_laid_out a.0.0 b.0.0 shape.0 cells.0, cells.1)) p b.2 in
+    let d = bind_ok (repeat_at (cell_at c.0.0) (length b.0.0.cut) c.0.1) (λ cells. Ok (state_laid_out a.0.0 b.0.0 c.0.0 cells.0, cells.1)) p c.2 in
+    let made : StateLayout × List ℕ = (state_laid_out a.0.0 b.0.0 c.0.0 d.0.0, d.0.1) in
+    let read : IsReadLayout bytes made = record { behind_format = a.0.1; behind_job = b.0.1; behind_shape = c.0.1; format = a.1; job = b.1; shape = c.1; cells = d.1 } in
     subst (λ (q : StateLayout × List ℕ). IsReadLayout bytes q) (ok_is made p d.2) read
 
 pub layout_takes : IsSpelled state_layout_at state_layout_bytes
@@ -121,13 +124,20 @@ layout_takes bytes p fits e =
     let read = layout_read bytes p e in
     let l = p.0 in
     let job = job_of l in
-    let magic = magic_takes state_magic bytes read.behind_text fits read.magic in
-    let fields = job_takes read.behind_text (job, read.behind_job) magic.rest_fits read.job in
-    let shape = shape_takes read.behind_job (l.shape, read.behind_shape) fields.rest_fits read.shape in
+    let named = magic content.State l.format in
+    let format = format_takes content.State bytes (l.format, read.behind_format) fits read.format in
+    let fields = job_takes read.behind_format (job, read.behind_job) format.rest_fits read.job in
+    let shape = shape_takes l.format read.behind_job (l.shape, read.behind_shape) fields.rest_fits read.shape in
     let cells = repeat_takes (cell_at l.shape) (cell_bytes l.shape) (cell_takes l.shape) (length l.cut) read.behind_shape (l.cells, p.1) shape.rest_fits read.cells in
-    let one = Takes-then bytes state_magic read.behind_text (job_text job) read.behind_job magic fields in
-    let two = Takes-then bytes (state_magic ++ job_text job) read.behind_job (shape_bytes l.shape) read.behind_shape one shape in
-    Takes-then bytes (state_magic ++ job_text job ++ shape_bytes l.shape) read.behind_shape (flat_map (cell_bytes l.shape) l.cells) p.1 two cells.0
+    let one = Takes-then bytes named read.behind_format (job_text job) read.behind_job format fields in
+    let two = Takes-then bytes (named ++ job_text job) read.behind_job (shape_bytes l.shape) read.behind_shape one shape in
+    Takes-then bytes (named ++ job_text job ++ shape_bytes l.shape) read.behind_shape (flat_map (cell_bytes l.shape) l.cells) p.1 two cells.0
+
+-- the format has the kinds of a layout that is read
+layout_known : (bytes : List ℕ) (p : StateLayout × List ℕ) → state_layout_at bytes ≡ Ok p → has_kinds p.0.format p.0.shape ≡ true
+layout_known bytes p e =
+    let read = layout_read bytes p e in
+    shape_known p.0.format read.behind_job (p.0.shape, read.behind_shape) read.shape
 
 -- a cell for each fragment
 pub layout_cells : (bytes : List ℕ) (p : StateLayout × List ℕ) → state_layout_at bytes ≡ Ok p → length p.0.cells ≡ length p.0.cut
@@ -139,25 +149,22 @@ layout_cells bytes p e =
 -- a layout that has a spelling
 pub record IsStateLayout (l : StateLayout) : Type 0 where
   job : AreJobFields (job_of l)
-  shape : IsShape l.shape
+  shape : IsShape l.format l.shape
   fragments : length l.cells ≡ length l.cut
   pub cells : AllByRecursion (IsCell l.shape) l.cells
-
-four : length state_magic ≡ 4
-unfolding state_magic
-four = refl
 
 layout_again : IsReadAgain state_layout_at state_layout_bytes IsStateLayout
 unfolding state_layout_at state_layout_bytes
 layout_again l rest fits =
+    let named = magic content.State l.format in
     let job = job_text (job_of l) in
     let shape = shape_bytes l.shape in
     let cells = flat_map (cell_bytes l.shape) l.cells in
-    ap state_layout_at (append_assoc (state_magic ++ job ++ shape) cells rest ∙ append_assoc (state_magic ++ job) shape (cells ++ rest) ∙ append_assoc state_magic job (shape ++ (cells ++ rest)))
+    ap state_layout_at (append_assoc (named ++ job ++ shape) cells rest ∙ append_assoc (named ++ job) shape (cells ++ rest) ∙ append_assoc named job (shape ++ (cells ++ rest)))
     ∙ rw (
-      magic_again state_magic (job ++ (shape ++ (cells ++ rest))) four,
+      format_again content.State l.format (job ++ (shape ++ (cells ++ rest))),
       job_again (job_of l) (shape ++ (cells ++ rest)) fits.job,
-      shape_again l.shape (cells ++ rest) fits.shape,
+      shape_again l.format l.shape (cells ++ rest) fits.shape,
       repeat_again (cell_at l.shape) (cell_bytes l.shape) (IsCell l.shape) (cell_again l.shape) (length l.cut) l.cells rest fits.fragments fits.cells,
     ) refl
 
@@ -166,13 +173,13 @@ layout_again l rest fits =
 -- an answer that was held against fragment k
 record IsHeldAnswer (job : JobSpec) (k : ℕ) (body : Body) : Type 0 where
   shaped : is_shaped job.plan body ≡ true
-  sorted : are_keys_ascending body ≡ true
+  sorted : is_in_order body ≡ true
   possible : are_numbers_possible job.plan (first_row job.cut k) (slice_index job.cut k) body ≡ true
 
 held_body : (job : JobSpec) (k : ℕ) (body : Body) → is_shaped job.plan body ≡ true → body_held job.plan (first_row job.cut k) (slice_index job.cut k) body ≡ Ok tt → IsHeldAnswer job k body
 unfolding body_held
 held_body job k body shaped e =
-    let sorted = test_not (are_keys_ascending body) refusal.UnsortedGroups _ tt e in
+    let sorted = test_not (is_in_order body) refusal.UnsortedGroups _ tt e in
     let possible = test_not (are_numbers_possible job.plan (first_row job.cut k) (slice_index job.cut k) body) refusal.Numbers _ tt sorted.1 in
     record { shaped = shaped; sorted = sorted.0; possible = possible.0 }
 
@@ -207,7 +214,8 @@ held_fits job k body lt held = both _ _ (lt-ltb k (length job.cut) lt) (both _ _
 
 -- the fields that were held against the job
 record IsHeld (job : JobSpec) (l : StateLayout) (cells : List Cell) : Type 0 where
-  layout : l ≡ state_layout_of job cells
+  layout : l ≡ state_layout_of l.format job cells
+  shape : l.shape ≡ shape_of job.plan
   shaped : list_all (is_cell_shaped job.plan) cells ≡ true
   held : cells_held job 0 cells ≡ Ok tt
 
@@ -224,8 +232,8 @@ held_takes job l cells e =
     let texts : l.text ≡ job.plan.text = (bytes_decides l.text job.plan.text).0 text.0 in
     let lengths : l.cut ≡ job.cut = (bytes_decides l.cut job.cut).0 cut.0 in
     let same_shape : l.shape ≡ shape_of job.plan = shape_same l.shape (shape_of job.plan) shapes.0 in
-    let same_layout : l ≡ state_layout_of job l.cells = λ i. record { load = loads i; text = texts i; cut = lengths i; shape = same_shape i; cells = l.cells } in
-    let held : IsHeld job l l.cells = record { layout = same_layout; shaped = shapes.1; held = each.1 } in
+    let same_layout : l ≡ state_layout_of l.format job l.cells = λ i. record { format = l.format; load = loads i; text = texts i; cut = lengths i; shape = same_shape i; cells = l.cells } in
+    let held : IsHeld job l l.cells = record { layout = same_layout; shape = same_shape; shaped = shapes.1; held = each.1 } in
     subst (λ (cs : List Cell). IsHeld job l cs) (ok_is l.cells cells each.2) held
 
 state_fits : (job : JobSpec) (l : StateLayout) (cells : List Cell) → length l.cells ≡ length l.cut → IsHeld job l cells → FitsState job cells
@@ -249,8 +257,10 @@ file_takes job bytes cells ok e =
     let ended = subst (λ (bs : List ℕ). sealed_end bs two.0.0 two.0.1 ≡ Ok three.0) parts three.1 in
     let sealed = seal_takes front two.0.0 two.0.1 three.0 seal.1 ended in
     let held = held_takes job one.0.0 cells three.2 in
-    let whole : bytes ≡ state_bytes job cells = parts ∙ sealed ∙ ap (λ (l : StateLayout). state_layout_bytes l ++ seal_of (state_layout_bytes l)) held.layout in
-    record { fits = state_fits job one.0.0 cells (layout_cells bytes one.0 one.1) held; spelled = whole }
+    let format = one.0.0.format in
+    let kinds : has_kinds format (shape_of job.plan) ≡ true = subst (λ (s : Shape). has_kinds format s ≡ true) held.shape (layout_known bytes one.0 one.1) in
+    let whole : bytes ≡ state_spelling format job cells = parts ∙ sealed ∙ ap (λ (l : StateLayout). state_layout_bytes l ++ seal_of (state_layout_bytes l)) held.layout in
+    record { format = format; kinds = kinds; fits = state_fits job one.0.0 cells (layout_cells bytes one.0 one.1) held; spelled = whole }
 
 -- ---- what fits and is spelled is read
 
@@ -282,7 +292,7 @@ cell_held_again job j Nothing given = (refl, refl)
 cell_held_again job j (One body) given =
     let k = and_parts (nat_lt j (length job.cut)) _ (given body refl) in
     let shaped = and_parts (is_shaped job.plan body) _ k.1 in
-    let sorted = and_parts (are_keys_ascending body) _ shaped.1 in
+    let sorted = and_parts (is_in_order body) _ shaped.1 in
     (shaped.0, rw (sorted.0, sorted.1) refl)
 cell_held_again job j Conflict given = (refl, refl)
 
@@ -299,28 +309,34 @@ each_fits job cells fit k n body is at =
     let same : k ≡ n = omega (arith, is) in
     subst (λ (m : ℕ). Fits job (record { k = m; body = body })) same (fit.answers k body at)
 
-pub state_layout_fits : (job : JobSpec) (cells : List Cell) → IsJob job → FitsState job cells → IsStateLayout (state_layout_of job cells)
-state_layout_fits job cells is fit =
+pub state_layout_fits : (format : Format) (job : JobSpec) (cells : List Cell) → IsJob job → has_kinds format (shape_of job.plan) ≡ true → FitsState job cells → IsStateLayout (state_layout_of format job cells)
+state_layout_fits format job cells is kinds fit =
     record {
       job = job_fits job is;
-      shape = shape_fits job is;
+      shape = shape_fits format job is kinds;
       fragments = fit.fragments;
       cells = cells_fit job 0 cells is (each_fits job cells fit);
     }
 
-held_again : (job : JobSpec) (cells : List Cell) → FitsState job cells → state_held_against job (state_layout_of job cells) ≡ Ok cells
+held_again : (format : Format) (job : JobSpec) (cells : List Cell) → FitsState job cells → state_held_against job (state_layout_of format job cells) ≡ Ok cells
 unfolding state_held_against
-held_again job cells fit =
+held_again format job cells fit =
     let each = cells_held_again job 0 cells (each_fits job cells fit) in
     rw (eq-eqb job.load job.load refl, (bytes_decides job.plan.text job.plan.text).1 refl, (bytes_decides job.cut job.cut).1 refl, shape_itself (shape_of job.plan), each.0, each.1) refl
 
-pub file_again : (job : JobSpec) (cells : List Cell) → IsJob job → FitsState job cells → judged_state job (state_bytes job cells) ≡ Ok cells
+pub file_again : (format : Format) (job : JobSpec) (cells : List Cell) → IsJob job → has_kinds format (shape_of job.plan) ≡ true → FitsState job cells → judged_state job (state_spelling format job cells) ≡ Ok cells
 unfolding judged_state
-file_again job cells is fit =
-    let front = state_layout_bytes (state_layout_of job cells) in
+file_again format job cells is kinds fit =
+    let front = state_layout_bytes (state_layout_of format job cells) in
     let seal = seal_of front in
     let sealed = seal_left front in
-    rw (layout_again (state_layout_of job cells) seal (state_layout_fits job cells is fit), sealed, seal_again front, held_again job cells fit) refl
+    rw (layout_again (state_layout_of format job cells) seal (state_layout_fits format job cells is kinds fit), sealed, seal_again front, held_again format job cells fit) refl
 
 pub spelled_state_reads : (job : JobSpec) (bytes : List ℕ) (cells : List Cell) → IsJob job → SpellsState job bytes cells → judged_state job bytes ≡ Ok cells
-spelled_state_reads job bytes cells is spells = ap (judged_state job) spells.spelled ∙ file_again job cells is spells.fits
+spelled_state_reads job bytes cells is spells = ap (judged_state job) spells.spelled ∙ file_again spells.format job cells is spells.kinds spells.fits
+
+-- ---- what is written
+
+-- what is written of cells that fit spells them
+pub written_state_spells : (job : JobSpec) (bytes : List ℕ) (cells : List Cell) → FitsState job cells → bytes ≡ state_bytes job cells → SpellsState job bytes cells
+written_state_spells job bytes cells fit written = record { format = newest; kinds = newest_has (shape_of job.plan); fits = fit; spelled = written }

@@ -14,7 +14,7 @@ use Rattle.meaning.specs.Cut.{IsCut, first_row}
 use Rattle.meaning.specs.Order.{is_ascending, row_cmp}
 use Rattle.meaning.specs.Limits.{max_rows}
 use Rattle.meaning.proofs.Tests.{and_false}
-use Rattle.partial_codec.specs.declared.fault.DecodeFault.{DecodeFault}
+use Rattle.answer_fields.specs.declared.fault.DecodeFault.{DecodeFault}
 use Rattle.partial_codec.specs.Job.{JobSpec}
 use Rattle.wire.specs.Reading.{◌>>=◌}
 use Rattle.partial_codec.specs.Holding.{cell_held_by, cells_held_by}

@@ -4,8 +4,8 @@ use Rattle.std.proofs.Math.Seq.{drop-cons}
 use Rattle.std.proofs.lemmas.List.{append-nil, drop_all}
 use Rattle.meaning.specs.declared.answer.Statistics.{Statistics}
 use Rattle.meaning.specs.declared.plan.Aggregate.{Aggregate}
-use Rattle.partial_codec.specs.Ranges.{AreStates, IsState}
-use Rattle.partial_codec.specs.Shape.{shape_of_aggregate}
+use Rattle.answer_fields.specs.Ranges.{AreStates, IsState}
+use Rattle.answer_fields.specs.Shape.{shape_of_aggregate}
 use Rattle.partial_codec.specs.Spelling.{state_bytes, states_bytes}
 
 module _ (aggs : List Aggregate) (states : List Statistics) where

@@ -2,19 +2,19 @@
 use Rattle.std.specs.Prelude.{ℕ, suc, ◌==◌, nat_lt, Bool, ◌&&◌, not, if◌then◌else◌, List, [], ◌∷◌, length, slice_index, Result, Ok, Err}
 use Rattle.std.specs.List.{list_all}
 use Rattle.meaning.specs.Cut.{first_row}
-use Rattle.meaning.specs.Fitting.{are_keys_ascending, are_numbers_possible}
+use Rattle.meaning.specs.Fitting.{is_in_order, are_numbers_possible}
 use Rattle.meaning.specs.Said.{Body, Answer, Cell}
 use Rattle.meaning.specs.declared.answer.Cell.TheVariants.{Nothing, One, Conflict}
 use Rattle.meaning.specs.declared.plan.Plan.{Plan}
 use Rattle.wire.specs.Reading.{◌>>=◌, same_bytes}
-use Rattle.partial_codec.specs.declared.fault.DecodeFault.{DecodeFault}
-use Rattle.partial_codec.specs.declared.fault.DecodeFault.TheVariants as fault
-use Rattle.partial_codec.specs.declared.fields.Layout.{Layout}
-use Rattle.partial_codec.specs.declared.state_fields.StateLayout.{StateLayout}
-use Rattle.partial_codec.specs.Fields.{shape_in, words}
+use Rattle.answer_fields.specs.declared.fault.DecodeFault.{DecodeFault}
+use Rattle.answer_fields.specs.declared.fault.DecodeFault.TheVariants as fault
+use Rattle.answer_fields.specs.declared.fields.Layout.{Layout}
+use Rattle.answer_fields.specs.declared.state_fields.StateLayout.{StateLayout}
+use Rattle.answer_fields.specs.Fields.{shape_in, words}
 use Rattle.partial_codec.specs.Job.{JobSpec}
-use Rattle.partial_codec.specs.Keeping.{is_typed, is_cell_typed}
-use Rattle.partial_codec.specs.Shape.{shape_of, is_same_shape}
+use Rattle.answer_fields.specs.Keeping.{is_typed, is_cell_typed}
+use Rattle.answer_fields.specs.Shape.{shape_of, is_same_shape}
 
 -- ---- answers
 
@@ -25,7 +25,7 @@ layout_held_by job l =
     else if not (same_bytes (words l.job.fragments l.job.cut.now) job.cut && nat_lt l.k (length job.cut)) then Err fault.OtherCut
     else if not (is_same_shape (shape_in l.shape) (shape_of job.plan)) then Err fault.Shape
     else if not (is_typed job.plan l.body) then Err fault.Shape
-    else if not (are_keys_ascending l.body) then Err fault.UnsortedGroups
+    else if not (is_in_order l.body) then Err fault.UnsortedGroups
     else if not l.are_sums_possible then Err fault.Numbers
     else if not (are_numbers_possible job.plan (first_row job.cut l.k) (slice_index job.cut l.k) l.body) then Err fault.Numbers
     else Ok (record { k = l.k; body = l.body })
@@ -34,7 +34,7 @@ layout_held_by job l =
 
 abbrev pub body_held_by : Plan → ℕ → ℕ → Body → Bool → Result (Unit {0}) DecodeFault
 body_held_by plan first rows body possible =
-    if not (are_keys_ascending body) then Err fault.UnsortedGroups
+    if not (is_in_order body) then Err fault.UnsortedGroups
     else if not possible then Err fault.Numbers
     else if not (are_numbers_possible plan first rows body) then Err fault.Numbers
     else Ok tt

@@ -1,91 +1,58 @@
--- What a coordinator holds for a job as bytes: the spelling of its cells, how they are read, and what is wrong first with other bytes.
-use Rattle.std.specs.Prelude.{◌≡◌, ℕ, suc, ◌==◌, nat_eq, Bool, true, ◌&&◌, not, if◌then◌else◌, List, [], ◌∷◌, ◌++◌, length, get_or, slice_index, Option, Result, Ok, Err}
-use Rattle.std.specs.List.{flat_map, list_all, starts_with}
+-- What a coordinator holds for a job as bytes: the spelling of its cells, one in each format, and what is wrong first with
+-- other bytes.
+use Rattle.std.specs.Prelude.{◌≡◌, ℕ, suc, ◌==◌, Bool, true, ◌&&◌, not, if◌then◌else◌, List, [], ◌∷◌, length, get_or, slice_index, Option, Result, Ok, Err}
+use Rattle.std.specs.List.{list_all}
 use Rattle.meaning.specs.Said.{Body}
 use Rattle.meaning.specs.Said.{Cell}
 use Rattle.meaning.specs.declared.answer.Cell.TheVariants.{Nothing, One, Conflict}
 use Rattle.meaning.specs.declared.plan.Plan.{Plan}
 use Rattle.meaning.specs.Cut.{first_row}
-use Rattle.meaning.specs.Fitting.{is_shaped, are_keys_ascending, are_numbers_possible}
-use Rattle.partial_codec.specs.declared.fault.DecodeFault.{DecodeFault}
-use Rattle.partial_codec.specs.declared.fault.DecodeFault.TheVariants as fault
-use Rattle.wire.specs.Reading.{◌>>=◌, Read, bytes_at, number_at, repeat_at, same_bytes, behind_magic, sealed_end}
+use Rattle.meaning.specs.Fitting.{is_shaped, is_in_order, are_numbers_possible}
+use Rattle.answer_fields.specs.declared.fault.DecodeFault.{DecodeFault}
+use Rattle.answer_fields.specs.declared.fault.DecodeFault.TheVariants as fault
+use Rattle.answer_fields.specs.declared.format.Format.{Format}
+use Rattle.wire.specs.Reading.{◌>>=◌, bytes_at, same_bytes, sealed_end}
+use Rattle.answer_fields.specs.Format.{newest, has_kinds}
 use Rattle.partial_codec.specs.Job.{JobSpec}
-use Rattle.partial_codec.specs.Shape.{Shape, shape_of, is_same_shape}
-use Rattle.wire.specs.Bytes.{number_bytes, sealed}
-use Rattle.partial_codec.specs.Spelling.{body_bytes, job_bytes, shape_bytes}
-use Rattle.partial_codec.specs.LayoutReading.{body_at, shape_at, job_at}
+use Rattle.answer_fields.specs.Shape.{shape_of, is_same_shape}
+use Rattle.wire.specs.Bytes.{sealed}
 use Rattle.partial_codec.specs.Answer.{Fits, fault_in}
-use Rattle.partial_codec.specs.Fault.{from_wire}
+use Rattle.answer_fields.specs.Fault.{from_wire}
+pub use Rattle.answer_fields.specs.StateSpelling.{is_state, StateLayout, state_laid_out}
+unfoldable pub use Rattle.answer_fields.specs.StateSpelling.{cell_bytes, state_layout_bytes, tagged_cell_at, cell_at, state_layout_at}
 
 -- ---- what is spelled
 
--- nothing is a 0, an answer's body stands behind a 1, a conflict is a 2
-unfoldable pub cell_bytes : Shape → Cell → List ℕ
-cell_bytes shape Nothing = number_bytes 1 0
-cell_bytes shape (One body) = number_bytes 1 1 ++ body_bytes shape body
-cell_bytes shape Conflict = number_bytes 1 2
-
--- `XGS1`
-unfoldable pub state_magic : List ℕ
-state_magic = 88 ∷ 71 ∷ 83 ∷ 49 ∷ []
-
--- bytes that begin so are a state's
-abbrev pub is_state : List ℕ → Bool
-is_state bytes = starts_with nat_eq bytes state_magic
-
--- all of a state but its seal
-pub record StateLayout : Type 0 where
-  pub load : ℕ
-  pub text : List ℕ
-  pub cut : List ℕ
-  pub shape : Shape
-  pub cells : List Cell
-
--- the cells stand one after the other; the cut has their number
-unfoldable pub state_layout_bytes : StateLayout → List ℕ
-state_layout_bytes l = state_magic ++ job_bytes l.load l.text l.cut ++ shape_bytes l.shape ++ flat_map (cell_bytes l.shape) l.cells
-
 -- what the cells of a job are laid out from
-abbrev pub state_layout_of : JobSpec → List Cell → StateLayout
-state_layout_of job cells = record { load = job.load; text = job.plan.text; cut = job.cut; shape = shape_of job.plan; cells = cells }
+abbrev pub state_layout_of : Format → JobSpec → List Cell → StateLayout
+state_layout_of format job cells = record {
+  format = format;
+  load = job.load;
+  text = job.plan.text;
+  cut = job.cut;
+  shape = shape_of job.plan;
+  cells = cells;
+}
 
--- the one spelling of the cells of a job
+-- the one spelling of the cells of a job in a format
+abbrev pub state_spelling : Format → JobSpec → List Cell → List ℕ
+state_spelling format job cells = sealed (state_layout_bytes (state_layout_of format job cells))
+
+-- how the cells of a job are written
 abbrev pub state_bytes : JobSpec → List Cell → List ℕ
-state_bytes job cells = sealed (state_layout_bytes (state_layout_of job cells))
+state_bytes job cells = state_spelling newest job cells
 
 -- a cell for each fragment of the cut, each answer among them one that fits the job
 pub record FitsState (job : JobSpec) (cells : List Cell) : Type 0 where
   pub fragments : length cells ≡ length job.cut
   pub answers : (k : ℕ) (body : Body) → get_or cells k Nothing ≡ One body → Fits job (record { k = k; body = body })
 
--- the bytes are the spelling of cells that fit the job
+-- the bytes are the spelling of cells that fit the job, in a format that has the kinds of the plan's aggregates
 pub record SpellsState (job : JobSpec) (bytes : List ℕ) (cells : List Cell) : Type 0 where
+  pub format : Format
+  pub kinds : has_kinds format (shape_of job.plan) ≡ true
   pub fits : FitsState job cells
-  pub spelled : bytes ≡ state_bytes job cells
-
--- ---- how it is read
-
-unfoldable pub tagged_cell_at : Shape → ℕ → List ℕ → Read DecodeFault Cell
-tagged_cell_at shape tag bytes =
-    if tag == 0 then Ok (Nothing, bytes)
-    else if tag == 1 then (body_at shape bytes >>= λ body. Ok (One body.0, body.1))
-    else if tag == 2 then Ok (Conflict, bytes)
-    else Err fault.Shape
-
-unfoldable pub cell_at : Shape → List ℕ → Read DecodeFault Cell
-cell_at shape bytes = do
-  tag ← from_wire (number_at 1 bytes)
-  tagged_cell_at shape tag.0 tag.1
-
--- a cell for each fragment of the cut that was read
-unfoldable pub state_layout_at : List ℕ → Read DecodeFault StateLayout
-state_layout_at bytes = do
-  rest ← from_wire (behind_magic state_magic bytes)
-  job ← job_at rest
-  shape ← shape_at job.1
-  cells ← repeat_at (cell_at shape.0) (length job.0.cut) shape.1
-  Ok (record { load = job.0.load; text = job.0.text; cut = job.0.cut; shape = shape.0; cells = cells.0 }, cells.1)
+  pub spelled : bytes ≡ state_spelling format job cells
 
 -- ---- what is wrong with bytes
 
@@ -98,7 +65,7 @@ is_cell_shaped plan Conflict = true
 -- a body held against rows numbered from `first`: the order of its groups, and then its numbers
 unfoldable pub body_held : Plan → ℕ → ℕ → Body → Result (Unit {0}) DecodeFault
 body_held plan first rows body =
-    if not (are_keys_ascending body) then Err fault.UnsortedGroups
+    if not (is_in_order body) then Err fault.UnsortedGroups
     else if not (are_numbers_possible plan first rows body) then Err fault.Numbers
     else Ok tt
 

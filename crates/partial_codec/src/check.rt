@@ -9,16 +9,16 @@ ghost use Rattle.meaning.specs.Group.{certain_keys};
 ghost use Rattle.meaning.specs.declared.answer.Body.TheVariants.{Groups};
 ghost use Rattle.meaning.specs.declared.value.Value.TheVariants.{Int, Text};
 ghost use Rattle.std.specs.Str.{is_utf8};
-ghost use Rattle.meaning.specs.Order.{is_ascending, row_cmp, value_in};
+ghost use Rattle.meaning.specs.Order.{is_ascending, row_cmp, value_cmp, value_in};
 ghost use Rattle.meaning.specs.Typing as typing;
-ghost use Rattle.partial_codec.specs.Fields.{words};
-ghost use Rattle.partial_codec.specs.Keeping as keeping;
+ghost use Rattle.answer_fields.specs.Fields.{words};
+ghost use Rattle.answer_fields.specs.Keeping as keeping;
 ghost use Rattle.meaning.specs.TypeCodes.{type_code};
 ghost use Rattle.wire.specs.Reading.{same_bytes};
 
-use crate::fields::JobFields;
 use crate::job::Job;
 use aggregate_states::{Group, State};
+use answer_fields::JobFields;
 use byteorder::{ByteOrder, LittleEndian};
 use meaning::{
     Aggregate, AggregateKind, Body, ColType, GroupingKey, MAX_TEXT_BYTES, Plan, RowFault, Value,
@@ -107,11 +107,29 @@ fn is_extreme(col_type: ColType, value: ValueRef<'_>) -> bool
     }
 }
 
+/// Whether an entry of a set has the type. NULL is no entry.
+fn is_entry_of(col_type: ColType, value: &Value) -> bool
+    ensures { result ≡ fitting.is_entry_of col_type value.now }
+{
+    match value {
+        Value::Null => false,
+        Value::Int(int) => is_integer_of(col_type, *int),
+        Value::Text(text) => is_text_of(col_type, text.as_str().as_bytes()),
+    }
+}
+
+fn are_entries_of(col_type: ColType, entries: &[Value]) -> bool
+    ensures { result ≡ list_all (fitting.is_entry_of col_type) entries.now }
+{
+    entries.iter().all(|entry| is_entry_of(col_type, entry))
+}
+
 fn is_typed_state(aggregate: &Aggregate, state: &State) -> bool
     ensures { result ≡ keeping.is_typed_state aggregate.now state.now }
 {
     is_extreme(aggregate.col_type, state.least())
         && is_extreme(aggregate.col_type, state.greatest())
+        && are_entries_of(aggregate.col_type, state.entries())
 }
 
 fn are_typed_states(aggregates: &[Aggregate], states: &[State]) -> bool
@@ -155,7 +173,7 @@ fn are_groups_typed(plan: &Plan, groups: &[Group]) -> bool
     groups.iter().all(|group| is_typed_group(plan, group))
 }
 
-/// Whether the keys and the least and greatest values of groups have their types.
+/// Whether the keys, the least and greatest values and the entries of groups have their types.
 pub fn is_typed(plan: &Plan, body: &Body<Group>) -> bool
     ensures { result ≡ keeping.is_typed plan.now body.now }
 {
@@ -184,12 +202,26 @@ fn are_ascending(groups: &[Group]) -> bool
     true
 }
 
-/// Whether each key is less than the next.
-pub fn are_keys_ascending(body: &Body<Group>) -> bool
-    ensures { result ≡ fitting.are_keys_ascending body.now }
+fn are_sets(states: &[State]) -> bool
+    ensures { result ≡ list_all (λ s. is_ascending value_cmp s.entries) states.now }
+{
+    states.iter().all(|state| state.has_set())
+}
+
+fn are_sets_ascending(groups: &[Group]) -> bool
+    ensures { result ≡ list_all fitting.are_sets_ascending groups.now }
+{
+    groups.iter().all(|group| are_sets(group.states()))
+}
+
+/// Whether each key is less than the next, and each entry of a set.
+pub fn is_in_order(body: &Body<Group>) -> bool
+    ensures { result ≡ fitting.is_in_order body.now }
 {
     match body {
-        Body::Groups(groups) => are_ascending(groups.as_slice()),
+        Body::Groups(groups) => {
+            are_ascending(groups.as_slice()) && are_sets_ascending(groups.as_slice())
+        }
         Body::Fault(_) => true,
     }
 }
@@ -206,6 +238,9 @@ fn is_possible(kind: AggregateKind, rows: u64, state: &State) -> bool
         AggregateKind::Count | AggregateKind::Sum | AggregateKind::Avg => count <= rows,
         AggregateKind::Min => count <= rows && is_there(state.least()) == (count > 0),
         AggregateKind::Max => count <= rows && is_there(state.greatest()) == (count > 0),
+        AggregateKind::CountDistinct | AggregateKind::SumDistinct => {
+            state.entries().len() as u64 <= rows
+        }
     }
 }
 

@@ -4,18 +4,16 @@ ghost use Rattle.meaning.specs.Cut.{IsCut, first_row as row_before};
 ghost use Rattle.meaning.specs.Fitting as fitting;
 ghost use Rattle.meaning.specs.Said.{Answer as AnAnswer};
 ghost use Rattle.partial_codec.specs.Answer.{Spells, judged, obstacle};
-ghost use Rattle.partial_codec.specs.Fields.{words};
+ghost use Rattle.answer_fields.specs.Fields.{words};
 ghost use Rattle.partial_codec.specs.Holding.{layout_held_by};
 ghost use Rattle.partial_codec.specs.Job.{IsJob};
 ghost use Rattle.meaning.specs.Wanting.{GivesIfMemory};
 ghost use Rattle.wire.specs.Reading.{Reads, same_bytes};
 
-use crate::check::{are_keys_ascending, are_numbers_possible, is_cut_of, is_query_of, is_typed};
-use crate::fault::DecodeFault;
-use crate::fields::{JobFields, Layout, take_layout};
+use crate::check::{are_numbers_possible, is_cut_of, is_in_order, is_query_of, is_typed};
 use crate::job::Job;
-use crate::shape::is_shape_of;
 use aggregate_states::Group;
+use answer_fields::{DecodeFault, JobFields, Layout, is_shape_of, take_layout};
 use meaning::{Answer, Body};
 use std::alloc::Global;
 use std::mem::drop;
@@ -77,7 +75,7 @@ fn check_layout(job: &Job, layout: &Layout<'_>) -> Result<(), DecodeFault>
     if !is_typed(job.plan(), &layout.body) {
         return Err(DecodeFault::Shape);
     }
-    if !are_keys_ascending(&layout.body) {
+    if !is_in_order(&layout.body) {
         return Err(DecodeFault::UnsortedGroups);
     }
     if !layout.are_sums_possible {
@@ -120,10 +118,11 @@ fn judge(alloc: Global, job: &Job, bytes: &[u8]) -> Result<Answer<Group>, Decode
     hold_against(job, layout)
 }
 
-/// The answer that the bytes spell for the job, or the first obstacle.
+/// The answer that the bytes spell for the job, in either format, or the first obstacle.
 ///
 /// The bytes are read from front to back; then come the seal, the job, the shape, the order of the
-/// groups and the numbers. Memory is taken for what was read alone, whatever counts the bytes claim.
+/// groups and of sets, and the numbers. Memory is taken for no more than the bytes
+/// can hold, whatever counts they claim.
 pub fn decode(alloc: Global, job: &Job, bytes: &[u8]) -> Result<Answer<Group>, DecodeFault>
     // What is given is spelled so.
     ensures spelled { IfOk result (λ a. Spells job.now bytes.now a) }

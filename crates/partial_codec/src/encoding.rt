@@ -6,22 +6,23 @@ ghost use Rattle.meaning.specs.declared.answer.Body.TheVariants.{Groups};
 ghost use Rattle.meaning.specs.Order.{value_in};
 ghost use Rattle.meaning.specs.TypeCodes.{type_code};
 ghost use Rattle.partial_codec.specs.Answer.{Fits};
-ghost use Rattle.partial_codec.specs.Ranges.{AreStates, IsBody, IsExtreme, IsGroup, IsState, IsValue};
-ghost use Rattle.partial_codec.specs.Shape as shapes;
+ghost use Rattle.answer_fields.specs.Format.{newest};
+ghost use Rattle.answer_fields.specs.Ranges.{AreStates, IsBody, IsExtreme, IsGroup, IsState, IsValue};
+ghost use Rattle.answer_fields.specs.Shape as shapes;
 ghost use Rattle.partial_codec.specs.Spelling as spec;
-ghost use Rattle.wire.specs.Bytes.{number_bytes};
+ghost use Rattle.wire.specs.Bytes.{i128_bytes, number_bytes};
 
 use crate::job::Job;
-use crate::magics::ANSWER_MAGIC;
-use crate::shape::{argument_code, kind_code, shape_of_aggregate};
-use crate::values::put_value;
 use aggregate_states::{Group, State};
-use meaning::{Aggregate, AggregateKind, Answer, Body, GroupingKey, Plan, Value, type_code};
+use answer_fields::{Content, Format, argument_code, kind_code, put_value, shape_of_aggregate};
+use meaning::{
+    Aggregate, AggregateKind, Answer, Body, GroupingKey, Plan, Value, ValueRef, type_code,
+};
 use std::alloc::{AllocError, Global};
 use wire::{append_i128, append_seal, append_text, append_u8, append_u16, append_u32, append_u64};
 
 /// The load, the query and the cut.
-#[tactic(auto, unfolding(crate::specs::Spelling::job_bytes))]
+#[tactic(auto, unfolding(answer_fields::specs::Spelling::job_bytes))]
 pub fn put_job(out: &mut Vec<u8>, load: u64, text: &str, lengths: &[u32]) -> Result<(), AllocError>
     requires text { length text.now < 2 ^ 32 }
     requires fragments { length lengths.now < 2 ^ 32 }
@@ -67,7 +68,7 @@ fn put_aggregates(out: &mut Vec<u8>, aggregates: &[Aggregate]) -> Result<(), All
 }
 
 /// The shape of the plan's groups.
-#[tactic(auto, unfolding(crate::specs::Spelling::shape_bytes))]
+#[tactic(auto, unfolding(answer_fields::specs::Spelling::shape_bytes))]
 pub fn put_shape(out: &mut Vec<u8>, plan: &Plan) -> Result<(), AllocError>
     requires keys { length plan.now.keys < 2 ^ 16 }
     requires aggregates { length plan.now.aggs < 2 ^ 16 }
@@ -80,7 +81,7 @@ pub fn put_shape(out: &mut Vec<u8>, plan: &Plan) -> Result<(), AllocError>
     put_aggregates(out, plan.aggs.as_slice())
 }
 
-fn put_key(out: &mut Vec<u8>, values: &[Value]) -> Result<(), AllocError>
+fn put_values(out: &mut Vec<u8>, values: &[Value]) -> Result<(), AllocError>
     requires { AllByRecursion IsValue values.now }
     ensures { OnOk result (out.new.items ≡ out.old.items ++ flat_map spec.value_bytes values.now) }
 {
@@ -90,20 +91,51 @@ fn put_key(out: &mut Vec<u8>, values: &[Value]) -> Result<(), AllocError>
     Ok(())
 }
 
+fn put_sum(out: &mut Vec<u8>, count: u64, sum: i128) -> Result<(), AllocError>
+    requires { count < 2 ^ 32 }
+    ensures { OnOk result (out.new.items ≡ out.old.items
+        ++ (number_bytes 4 count ++ i128_bytes sum)) }
+{
+    append_u32(out, count as u32)?;
+    append_i128(out, sum)
+}
+
+fn put_extreme(out: &mut Vec<u8>, count: u64, value: ValueRef<'_>) -> Result<(), AllocError>
+    requires count { count < 2 ^ 32 }
+    requires value { IsValue (value_in value) }
+    ensures { OnOk result (out.new.items ≡ out.old.items
+        ++ (number_bytes 4 count ++ spec.value_bytes (value_in value.entry))) }
+{
+    append_u32(out, count as u32)?;
+    put_value(out, value)
+}
+
+/// The entries of a set, behind their number.
+#[tactic(auto, unfolding(answer_fields::specs::Spelling::set_bytes))]
+fn put_set(out: &mut Vec<u8>, entries: &[Value]) -> Result<(), AllocError>
+    requires few { length entries.now < 2 ^ 32 }
+    requires values { AllByRecursion IsValue entries.now }
+    ensures { OnOk result (out.new.items ≡ out.old.items ++ spec.set_bytes entries.now) }
+{
+    append_u32(out, entries.len() as u32)?;
+    put_values(out, entries)
+}
+
 /// What an aggregate of the kind keeps.
-#[tactic(auto, unfolding(crate::specs::Spelling::state_bytes))]
+#[tactic(auto, unfolding(answer_fields::specs::Spelling::state_bytes))]
 fn put_state(out: &mut Vec<u8>, kind: AggregateKind, state: &State) -> Result<(), AllocError>
     requires { IsState kind state.now }
     ensures { OnOk result (out.new.items ≡ out.old.items ++ spec.state_bytes kind state.now) }
 {
-    append_u32(out, state.count() as u32)?;
     match kind {
-        AggregateKind::CountRows => Ok(()),
-        AggregateKind::Count => Ok(()),
-        AggregateKind::Sum => append_i128(out, state.sum()),
-        AggregateKind::Avg => append_i128(out, state.sum()),
-        AggregateKind::Min => put_value(out, state.least()),
-        AggregateKind::Max => put_value(out, state.greatest()),
+        AggregateKind::CountRows => append_u32(out, state.count() as u32),
+        AggregateKind::Count => append_u32(out, state.count() as u32),
+        AggregateKind::Sum => put_sum(out, state.count(), state.sum()),
+        AggregateKind::Avg => put_sum(out, state.count(), state.sum()),
+        AggregateKind::Min => put_extreme(out, state.count(), state.least()),
+        AggregateKind::Max => put_extreme(out, state.count(), state.greatest()),
+        AggregateKind::CountDistinct => put_set(out, state.entries()),
+        AggregateKind::SumDistinct => put_set(out, state.entries()),
     }
 }
 
@@ -123,13 +155,13 @@ fn put_states(
     Ok(())
 }
 
-#[tactic(auto, unfolding(crate::specs::Spelling::group_bytes))]
+#[tactic(auto, unfolding(answer_fields::specs::Spelling::group_bytes))]
 fn put_group(out: &mut Vec<u8>, plan: &Plan, group: &Group) -> Result<(), AllocError>
     requires { IsGroup (shapes.shape_of plan.now) group.now }
     ensures { OnOk result (out.new.items ≡ out.old.items
         ++ spec.group_bytes (shapes.shape_of plan.now) group.now) }
 {
-    put_key(out, group.key().as_slice())?;
+    put_values(out, group.key().as_slice())?;
     append_u32(out, group.rows() as u32)?;
     put_states(out, plan.aggs.as_slice(), group.states())
 }
@@ -146,7 +178,7 @@ fn put_all_groups(out: &mut Vec<u8>, plan: &Plan, groups: &[Group]) -> Result<()
 }
 
 /// Groups, or a fault.
-#[tactic(auto, unfolding(crate::specs::Spelling::body_bytes))]
+#[tactic(auto, unfolding(answer_fields::specs::Spelling::body_bytes))]
 pub fn put_body(out: &mut Vec<u8>, plan: &Plan, body: &Body<Group>) -> Result<(), AllocError>
     requires { IsBody (shapes.shape_of plan.now) body.now }
     ensures { OnOk result (out.new.items ≡ out.old.items
@@ -167,22 +199,22 @@ pub fn put_body(out: &mut Vec<u8>, plan: &Plan, body: &Body<Group>) -> Result<()
 }
 
 /// All of an answer but its seal.
-#[tactic(auto, unfolding(crate::specs::Spelling::layout_bytes, crate::specs::Spelling::answer_magic))]
+#[tactic(auto, unfolding(answer_fields::specs::Spelling::layout_bytes))]
 fn put_layout(out: &mut Vec<u8>, job: &Job, answer: &Answer<Group>) -> Result<(), AllocError>
     requires { IsBody (shapes.shape_of job.now.plan) answer.now.body }
     ensures { OnOk result (out.new.items ≡ out.old.items
-        ++ spec.layout_bytes (spec.layout_of job.now answer.now)) }
+        ++ spec.layout_bytes (spec.layout_of newest job.now answer.now)) }
 {
     let text = job.plan().text.as_str();
     let lengths = job.cut().lengths();
-    out.extend_from_slice(&ANSWER_MAGIC)?;
+    out.extend_from_slice(&Format::newest().magic(Content::Answer))?;
     put_job(out, job.load(), text, lengths)?;
     append_u32(out, answer.k)?;
     put_shape(out, job.plan())?;
     put_body(out, job.plan(), &answer.body)
 }
 
-/// The one spelling of an answer that fits the job.
+/// An answer that fits the job, as it is spelled in the newest format.
 pub fn encode(alloc: Global, job: &Job, answer: &Answer<Group>) -> Result<Vec<u8>, AllocError>
     requires { Fits job.now answer.now }
     ensures { IfOk result (λ bytes. bytes.items ≡ spec.answer_bytes job.now answer.now) }

@@ -2,24 +2,23 @@
 ghost use Rattle.std.specs.Prelude.{◌≡◌, ◌≢◌, ◌++◌, IfOk, IfErr, OnOk, List, Some, Ok};
 ghost use Rattle.std.specs.List.{flat_map, AllByRecursion};
 ghost use Rattle.meaning.specs.Said.{Cell as ACell};
+ghost use Rattle.answer_fields.specs.Format.{newest};
 ghost use Rattle.partial_codec.specs.Job.{IsJob};
-ghost use Rattle.partial_codec.specs.Ranges.{IsCell};
-ghost use Rattle.partial_codec.specs.Shape.{shape_of};
+ghost use Rattle.answer_fields.specs.Ranges.{IsCell};
+ghost use Rattle.answer_fields.specs.Shape.{shape_of};
 ghost use Rattle.partial_codec.specs.State.{FitsState, SpellsState, cell_bytes, judged_state, state_bytes, state_layout_bytes, state_layout_of, state_obstacle};
 ghost use Rattle.meaning.specs.Wanting.{GivesIfMemory};
 
 use crate::encoding::{put_body, put_job, put_shape};
-use crate::fault::DecodeFault;
 use crate::job::Job;
-use crate::magics::STATE_MAGIC;
 use crate::state_check::hold_state_against;
-use crate::state_fields::take_state_layout;
 use aggregate_states::Group;
+use answer_fields::{Content, DecodeFault, Format, take_state_layout};
 use meaning::{Cell, Plan};
 use std::alloc::{AllocError, Global};
 use wire::{SEAL_BYTES, append_seal, append_u8, check_seal, take_bytes};
 
-#[tactic(auto, unfolding(crate::specs::State::cell_bytes))]
+#[tactic(auto, unfolding(answer_fields::specs::StateSpelling::cell_bytes))]
 fn put_cell(out: &mut Vec<u8>, plan: &Plan, cell: &Cell<Group>) -> Result<(), AllocError>
     requires { IsCell (shape_of plan.now) cell.now }
     ensures { OnOk result (out.new.items ≡ out.old.items ++ cell_bytes
@@ -47,21 +46,22 @@ fn put_cells(out: &mut Vec<u8>, plan: &Plan, cells: &[Cell<Group>]) -> Result<()
 }
 
 /// All of a state but its seal.
-#[tactic(auto, unfolding(crate::specs::State::state_layout_bytes, crate::specs::State::state_magic))]
+#[tactic(auto, unfolding(answer_fields::specs::StateSpelling::state_layout_bytes))]
 fn put_state_layout(out: &mut Vec<u8>, job: &Job, cells: &[Cell<Group>]) -> Result<(), AllocError>
     requires { AllByRecursion (IsCell (shape_of job.now.plan)) cells.now }
     ensures { OnOk result (out.new.items ≡ out.old.items
-        ++ state_layout_bytes (state_layout_of job.now cells.now)) }
+        ++ state_layout_bytes (state_layout_of newest job.now cells.now)) }
 {
     let text = job.plan().text.as_str();
     let lengths = job.cut().lengths();
-    out.extend_from_slice(&STATE_MAGIC)?;
+    out.extend_from_slice(&Format::newest().magic(Content::State))?;
     put_job(out, job.load(), text, lengths)?;
     put_shape(out, job.plan())?;
     put_cells(out, job.plan(), cells)
 }
 
-/// The one spelling of the cells that a coordinator holds for the job, one for each fragment.
+/// The cells that a coordinator holds for the job, one for each fragment, as they are spelled in
+/// the newest format.
 pub fn encode_state(alloc: Global, job: &Job, cells: &[Cell<Group>]) -> Result<Vec<u8>, AllocError>
     requires { FitsState job.now cells.now }
     ensures { IfOk result (λ bytes. bytes.items ≡ state_bytes job.now cells.now) }
@@ -90,11 +90,12 @@ fn judge_state(alloc: Global, job: &Job, bytes: &[u8]) -> Result<Vec<Cell<Group>
     hold_state_against(job, layout)
 }
 
-/// The cells that the bytes spell for the job, one for each fragment, or the first obstacle.
+/// The cells that the bytes spell for the job in either format, one for each fragment, or the first
+/// obstacle.
 ///
 /// The bytes are read from front to back; then come the seal, the job, the shape and all types; and
-/// then, fragment by fragment, the order of the groups and the numbers. Memory is taken for what
-/// was read alone, whatever counts the bytes claim.
+/// then, fragment by fragment, the order of the groups and of sets, and the numbers. Memory is taken
+/// for no more than the bytes can hold, whatever counts they claim.
 pub fn decode_state(alloc: Global, job: &Job, bytes: &[u8]) -> Result<Vec<Cell<Group>>, DecodeFault>
     // What is given is spelled so.
     ensures spelled { IfOk result (λ cells. SpellsState job.now bytes.now cells.items) }

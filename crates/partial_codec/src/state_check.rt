@@ -3,15 +3,13 @@ ghost use Rattle.std.specs.Prelude.{◌≡◌, ◌*◌, length};
 ghost use Rattle.std.specs.List.{list_all};
 ghost use Rattle.partial_codec.specs.Holding as holding;
 ghost use Rattle.partial_codec.specs.Holding.{state_held_by};
-ghost use Rattle.partial_codec.specs.Keeping as keeping;
+ghost use Rattle.answer_fields.specs.Keeping as keeping;
 ghost use Rattle.wire.specs.Reading.{Reads};
 
-use crate::check::{are_keys_ascending, are_numbers_possible, is_cut_of, is_query_of, is_typed};
-use crate::fault::DecodeFault;
+use crate::check::{are_numbers_possible, is_cut_of, is_in_order, is_query_of, is_typed};
 use crate::job::Job;
-use crate::shape::is_shape_of;
-use crate::state_fields::StateLayout;
 use aggregate_states::Group;
+use answer_fields::{DecodeFault, StateLayout, is_shape_of};
 use meaning::{Body, Cell, Plan};
 use std::mem::drop;
 
@@ -40,7 +38,7 @@ fn check_body(
     ensures { Reads (λ done. done) result
         (holding.body_held_by plan.now first rows body.now are_sums_possible) }
 {
-    if !are_keys_ascending(body) {
+    if !is_in_order(body) {
         return Err(DecodeFault::UnsortedGroups);
     }
     if !are_sums_possible {

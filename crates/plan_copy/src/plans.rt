@@ -126,5 +126,6 @@ pub fn copy_plan(alloc: Global, plan: &Plan) -> Result<Plan, AllocError>
         order: copy_order(alloc, plan.order.as_slice())?,
         limit: plan.limit,
         plain: plan.plain,
+        distinct: plan.distinct,
     })
 }

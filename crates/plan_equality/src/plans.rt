@@ -156,16 +156,18 @@ fn is_same_front(a: &Plan, b: &Plan) -> bool
         && are_same_aggregates(a.aggs.as_slice(), b.aggs.as_slice())
 }
 
-/// Whether groups are shown alike: HAVING, the items, their order and LIMIT.
+/// Whether groups are shown alike: HAVING, the items, their order, LIMIT and DISTINCT.
 fn is_same_end(a: &Plan, b: &Plan) -> bool
     ensures { IsTrue result ↔ ((a.now.having ≡ b.now.having) × (a.now.items ≡ b.now.items)
-        × (a.now.order ≡ b.now.order) × (a.now.limit ≡ b.now.limit) × (a.now.plain ≡ b.now.plain)) }
+        × (a.now.order ≡ b.now.order) × (a.now.limit ≡ b.now.limit) × (a.now.plain ≡ b.now.plain)
+        × (a.now.distinct ≡ b.now.distinct)) }
 {
     is_same_having(&a.having, &b.having)
         && are_same_items(a.items.as_slice(), b.items.as_slice())
         && are_same_order(a.order.as_slice(), b.order.as_slice())
         && a.limit == b.limit
         && a.plain == b.plain
+        && a.distinct == b.distinct
 }
 
 /// Whether two plans are equal, their texts too.

@@ -25,12 +25,12 @@ use Rattle.planner_expressions.specs.Judged.{Returned, Judgement, judge_node, ju
 use Rattle.planner_expressions.specs.Meant.{SameOnRows}
 use Rattle.planner_expressions.proofs.Accepted.{both_there, rows_translate}
 use Rattle.planner_expressions.proofs.Meaning.{rows_mean}
-use Rattle.planner.specs.declared.conjuncts.Conjuncts.{Conjuncts}
-use Rattle.planner.specs.declared.conjuncts.Equality.{Equality}
-use Rattle.planner.specs.Checked.{conditions, inner_on, inner_trees, on_trees, row_conditions}
-use Rattle.planner.specs.Conjuncts.{conjuncts_of, is_no_and, is_and_node, inner_equality, row_expr, with_all, with_found, with_conjunct, with_conjuncts, with_on, with_ons}
+use Rattle.planner_clauses.specs.declared.conjuncts.Conjuncts.{Conjuncts}
+use Rattle.planner_clauses.specs.declared.conjuncts.Equality.{Equality}
+use Rattle.planner_clauses.specs.Checked.{conditions, inner_on, inner_trees, on_trees, row_conditions}
+use Rattle.planner_clauses.specs.Conjuncts.{conjuncts_of, is_no_and, is_and_node, inner_equality, row_expr, with_all, with_found, with_conjunct, with_conjuncts, with_on, with_ons}
 use Rattle.planner.specs.PlanOf.{Pairwise, all_conjuncts, equalities_among, is_condition, row_conjuncts}
-use Rattle.planner.proofs.Topmost.{flat_append, passes, below}
+use Rattle.planner_clauses.proofs.Topmost.{flat_append, passes, below}
 
 -- ---- equalities and conditions
 

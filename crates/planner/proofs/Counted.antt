@@ -22,10 +22,10 @@ use Rattle.planner_expressions.specs.Results.{each_ok}
 use Rattle.planner_expressions.specs.Sorts.{is_value, same_sort}
 use Rattle.planner_expressions.specs.Spelled.{Spelling, spelled, index_among}
 use Rattle.planner_expressions.proofs.Accepted.{goes_there}
-use Rattle.planner.specs.declared.aggregates.Aggregates.{Aggregates}
-use Rattle.planner.specs.Aggregates.{aggregate_node, aggregate_of, aggregates_in, with_new, with_aggregate, with_aggregates, with_parts}
-use Rattle.planner.specs.Checked.{checked, conditions_checked, groups_checked, condition_check, item_check, key_check}
-use Rattle.planner.specs.Groups.{no_aggregates, item_aggregates, all_aggregates, is_empty, is_grouped, key_of, key_trees}
+use Rattle.planner_clauses.specs.declared.aggregates.Aggregates.{Aggregates}
+use Rattle.planner_clauses.specs.Aggregates.{aggregate_node, aggregate_of, aggregates_in, with_new, with_aggregate, with_aggregates, with_parts}
+use Rattle.planner_clauses.specs.Checked.{checked, conditions_checked, groups_checked, condition_check, item_check, key_check}
+use Rattle.planner_clauses.specs.Groups.{no_aggregates, item_aggregates, all_aggregates, is_empty, is_grouped, key_of, key_trees}
 use Rattle.planner.specs.PlanOf.{Pairwise, IsKeyOf, IsAggregateOf, IsGivenAs, AreAggregates, own_aggregates, is_aggregate_at, argument_of, is_counted}
 use Rattle.planner.proofs.Conditions.{AreFine, row_means}
 use Rattle.planner.proofs.OwnAggregates.{HasIndex, aggregate_there, flat, parts_have, parts_still}

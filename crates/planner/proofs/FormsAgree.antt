@@ -28,12 +28,12 @@ use Rattle.planner_expressions.specs.declared.scope.Scope.{Scope}
 use Rattle.planner_expressions.specs.From.{called, enter, enter_all, if_behind, is_before_lefts, is_fact, is_left, join_type_of, no_tables, whole, scope_of}
 use Rattle.planner_expressions.specs.Results.{each_ok, map_ok}
 use Rattle.planner_expressions.specs.Uses.{names}
-use Rattle.planner.specs.declared.conjuncts.Conjuncts.{Conjuncts}
-use Rattle.planner.specs.declared.conjuncts.Equality.{Equality}
+use Rattle.planner_clauses.specs.declared.conjuncts.Conjuncts.{Conjuncts}
+use Rattle.planner_clauses.specs.declared.conjuncts.Equality.{Equality}
 use Rattle.planner.specs.declared.parts.Grouped.{Grouped}
 use Rattle.planner.specs.declared.parts.Tables.{Tables}
-use Rattle.planner.specs.Checked.{Checked, checked, conditions, groups_checked, condition_check, item_check, key_check, on_trees, row_conditions}
-use Rattle.planner.specs.Conjuncts.{conjuncts_of, equality_for, if_own, join_equality, goes_by, left_on, left_on_of}
+use Rattle.planner_clauses.specs.Checked.{Checked, checked, conditions, groups_checked, condition_check, item_check, key_check, on_trees, row_conditions}
+use Rattle.planner_clauses.specs.Conjuncts.{conjuncts_of, equality_for, if_own, join_equality, goes_by, left_on, left_on_of}
 use Rattle.planner.specs.Forms.{AskTheSame, with_text, FormsAgree, with_comma, with_join, CommaIsJoin}
 use Rattle.planner.specs.Planned.{conjuncts, equality_by, no_conjuncts, same_join, use_of, tables_of, groups_of, plan_with, planned, planned_in}
 use Rattle.planner.specs.PlanOf.{equalities_among}
@@ -197,7 +197,7 @@ module _ (catalog : Catalog) (q r : Query) (same : AskTheSame q r) where
 
   -- what is asked of groups, by the parts of the query that say it
   abbrev asked : List Item → List Expr → Option Expr → List OrderKey → Query
-  asked items keys having order = record { items = items; source = r.source; filter = r.filter; group_by = keys; having = having; order_by = order; limit = r.limit }
+  asked items keys having order = record { distinct = r.distinct; items = items; source = r.source; filter = r.filter; group_by = keys; having = having; order_by = order; limit = r.limit }
 
   groups_are : (s : Scope) → groups_of s q ≡ groups_of s (asked q.items q.group_by q.having q.order_by)
   groups_are s = refl
@@ -218,6 +218,7 @@ module _ (catalog : Catalog) (q r : Query) (same : AskTheSame q r) where
     order = g.shown.order;
     limit = same.limit i;
     plain = g.plain;
+    distinct = same.distinct i;
   }
 
   abbrev renamed : Result Plan PlanFault → Result Plan PlanFault
@@ -250,6 +251,7 @@ forms_agree = all_renamed
 
 comma_asks : (q : Query) (first other : written.Table) (condition : Expr) → AskTheSame (with_comma q first other condition) (with_join q first other condition)
 comma_asks q first other condition = record {
+  distinct = refl;
   items = refl;
   first = refl;
   tables = refl;

@@ -44,13 +44,13 @@ use Rattle.planner_expressions.specs.Typed.{type_of_sort}
 use Rattle.planner_expressions.proofs.Accepted.{goes_there}
 use Rattle.planner_expressions.proofs.AlikeTrees.{spelled_sorts}
 use Rattle.planner_expressions.proofs.TypedRows.{Has, all_typed, same_is, front}
-use Rattle.planner.specs.declared.keys.Keys.{Keys}
-use Rattle.planner.specs.Aggregates.{aggregates_in, aggregate_node, aggregate_of, kind_of, type_in, row_type}
-use Rattle.planner.specs.Checked.{checked, condition_check, item_check, key_check}
-use Rattle.planner.specs.Groups.{all_aggregates, is_empty, is_grouped, item_aggregates, key_of, key_trees, no_keys}
+use Rattle.planner_clauses.specs.declared.keys.Keys.{Keys}
+use Rattle.planner_clauses.specs.Aggregates.{aggregates_in, aggregate_node, aggregate_of, kind_of, type_in, row_type}
+use Rattle.planner_clauses.specs.Checked.{checked, condition_check, item_check, key_check}
+use Rattle.planner_clauses.specs.Groups.{all_aggregates, is_empty, is_grouped, item_aggregates, key_of, key_trees, no_keys}
 use Rattle.planner.specs.Planned.{basis_of}
 use Rattle.planner.specs.PlanOf.{argument_of, is_counted}
-use Rattle.planner.specs.Shown.{header, if_built, item_of, items_of, having_of, over_group, with_header}
+use Rattle.planner_clauses.specs.Shown.{header, if_built, item_of, items_of, having_of, over_group, with_header}
 use Rattle.meaning.specs.SoundPlan.{IsOfGroup}
 use Rattle.planner.specs.Typed.{GroupsAreTyped}
 use Rattle.planner.proofs.Counted.{AllEmpty, checks, empty_is, neither, none_taken, parts_none, taken}
@@ -104,6 +104,8 @@ result_of : (k : written.Aggregate) (x : Sort) → is_taken k x ≡ true → typ
 result_of aggregate.Count x is = refl
 result_of aggregate.Sum x is = refl
 result_of aggregate.Average x is = refl
+result_of aggregate.CountDistinct x is = refl
+result_of aggregate.SumDistinct x is = refl
 result_of aggregate.Min Integer is = refl
 result_of aggregate.Min Text is = refl
 result_of aggregate.Min Truth is = absurd cc

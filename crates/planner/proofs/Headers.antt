@@ -9,7 +9,7 @@ use Rattle.sql_syntax.specs.declared.tree.Expr.TheVariants as tree
 use Rattle.sql_syntax.specs.declared.tree.Expr.TheViews.{roll-Expr, out-Expr}
 use Rattle.sql_syntax.specs.declared.tree.Item.{Item}
 use Rattle.planner.specs.PlanOf.{IsHeaderOf}
-use Rattle.planner.specs.Shown.{column_name, header, name_behind, node_name}
+use Rattle.planner_clauses.specs.Shown.{column_name, header, name_behind, node_name}
 
 out_of_column : (table : Option (List ℕ)) (name : List ℕ) → column_name (tree.Column table name) ≡ Some name
 out_of_column table name = search (rules, the_lemmas)

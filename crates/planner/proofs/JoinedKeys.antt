@@ -26,8 +26,8 @@ use Rattle.planner_expressions.specs.Scope.{is_meant, meant, one_of, found}
 use Rattle.planner_expressions.specs.Typed.{is_key_column, has_its_key}
 use Rattle.planner_expressions.proofs.Accepted.{goes_there}
 use Rattle.planner_expressions.proofs.TypedRows.{front}
-use Rattle.planner.specs.declared.conjuncts.Equality.{Equality}
-use Rattle.planner.specs.Conjuncts.{joined_by, keyed, first_there, equality_of, node_equality, join_equality, inner_equality, joins_left, unless_left, one_equality, joins_dim, equality_for, left_on_of, if_own, left_equality_for}
+use Rattle.planner_clauses.specs.declared.conjuncts.Equality.{Equality}
+use Rattle.planner_clauses.specs.Conjuncts.{joined_by, keyed, first_there, equality_of, node_equality, join_equality, inner_equality, joins_left, unless_left, one_equality, joins_dim, equality_for, left_on_of, if_own, left_equality_for}
 use Rattle.planner.specs.Planned.{equality_by, join_of, join_with}
 use Rattle.planner.specs.PlanOf.{equalities_among}
 

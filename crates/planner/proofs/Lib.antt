@@ -1,7 +1,3 @@
-pub mod Equalities
-pub mod Topmost
-pub mod Gathering
-pub mod Reporting
 pub mod Uses
 pub mod Parting
 pub mod Conditions

@@ -15,9 +15,9 @@ use Rattle.planner_expressions.specs.declared.scope.Scope.{Scope}
 use Rattle.planner_expressions.specs.From.{scope_of}
 use Rattle.planner_expressions.specs.Results.{each_ok}
 use Rattle.planner_expressions.proofs.Accepted.{goes_there}
-use Rattle.planner.specs.declared.keys.Keys.{Keys}
-use Rattle.planner.specs.Checked.{checked}
-use Rattle.planner.specs.Groups.{aggregates_fit, all_aggregates, entry_check, is_grouped, is_integer, item_aggregates, key_of, key_trees, keys_check, limits_check, no_keys, with_keys}
+use Rattle.planner_clauses.specs.declared.keys.Keys.{Keys}
+use Rattle.planner_clauses.specs.Checked.{checked}
+use Rattle.planner_clauses.specs.Groups.{aggregates_fit, all_aggregates, entry_check, is_grouped, is_integer, item_aggregates, key_of, key_trees, keys_check, limits_check, no_keys, with_keys}
 use Rattle.planner.specs.Limited.{IsLimited, PlansAreLimited}
 use Rattle.planner.specs.Planned.{tables_of, groups_of, groups_with, shown_of, basis_of, plan_with, planned_in}
 use Rattle.planner.proofs.PlansMean.{keys_are}

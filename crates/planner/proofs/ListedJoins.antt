@@ -34,9 +34,9 @@ use Rattle.planner_expressions.specs.Sorts.{sort_of_type, same_sort, is_value, a
 use Rattle.planner_expressions.specs.Uses.{names, names_arm, names_node}
 use Rattle.planner_expressions.proofs.Accepted.{goes_there}
 use Rattle.planner_expressions.proofs.TypedRows.{both_sorts, typed_is, same_is, front}
-use Rattle.planner.specs.declared.conjuncts.Equality.{Equality}
-use Rattle.planner.specs.Checked.{conditions, on_trees}
-use Rattle.planner.specs.Conjuncts.{joined_by, keyed, first_there, equality_of, node_equality, join_equality, inner_equality, joins_left, unless_left, one_equality, joins_dim, equality_for, goes_by, left_on, left_on_of, left_equality_for}
+use Rattle.planner_clauses.specs.declared.conjuncts.Equality.{Equality}
+use Rattle.planner_clauses.specs.Checked.{conditions, on_trees}
+use Rattle.planner_clauses.specs.Conjuncts.{joined_by, keyed, first_there, equality_of, node_equality, join_equality, inner_equality, joins_left, unless_left, one_equality, joins_dim, equality_for, goes_by, left_on, left_on_of, left_equality_for}
 use Rattle.planner.specs.Planned.{equality_by, join_of, join_with, is_named, is_read, use_of}
 use Rattle.planner.specs.PlanOf.{equalities_among}
 use Rattle.planner_expressions.proofs.Among.{Among, all_at, filter_among}

@@ -12,7 +12,7 @@ use Rattle.planner_expressions.specs.declared.scope.ScopeColumn.{ScopeColumn}
 use Rattle.planner_expressions.specs.Trees.{parts_of, topmost}
 use Rattle.planner_expressions.specs.Uses.{names, names_arm, names_node, names_either}
 use Rattle.planner_expressions.proofs.Replaced.{parts_give, arm_gives}
-use Rattle.planner.proofs.Topmost.{given, joined, passes, below}
+use Rattle.planner_clauses.proofs.Topmost.{given, joined, passes, below}
 use Rattle.planner.proofs.TypedTrees.{both_all}
 
 module _ (wanted : ScopeColumn → Bool) where

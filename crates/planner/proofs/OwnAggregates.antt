@@ -20,9 +20,9 @@ use Rattle.planner_expressions.specs.Scope.{stands_for}
 use Rattle.planner_expressions.specs.Spelled.{Spelling, aggregate_code, column_code, spell_node, spelled, spelled_arm, same_spelling, index_among}
 use Rattle.planner_expressions.proofs.AlikeTrees.{spelled_sorts, spelled_translate}
 use Rattle.planner_expressions.proofs.SpelledAlike.{tail_is, head_is, aggregate_same, is_tag}
-use Rattle.planner.specs.declared.aggregates.Aggregates.{Aggregates}
-use Rattle.planner.specs.Aggregates.{aggregate_node, aggregate_of, count_rows, kind_of, type_in, row_type, with_new, with_aggregate, with_aggregates, with_parts}
-use Rattle.planner.specs.Conjuncts.{row_expr}
+use Rattle.planner_clauses.specs.declared.aggregates.Aggregates.{Aggregates}
+use Rattle.planner_clauses.specs.Aggregates.{aggregate_node, aggregate_of, count_rows, kind_of, type_in, row_type, with_new, with_aggregate, with_aggregates, with_parts}
+use Rattle.planner_clauses.specs.Conjuncts.{row_expr}
 use Rattle.planner.specs.PlanOf.{argument_of, is_counted}
 use Rattle.planner.proofs.TypedTrees.{both_all}
 

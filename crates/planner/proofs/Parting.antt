@@ -7,15 +7,15 @@ use Rattle.planner_expressions.specs.declared.basis.Basis.TheVariants.{Groups}
 use Rattle.planner_expressions.specs.declared.fault.PlanFault.{PlanFault}
 use Rattle.planner_expressions.specs.declared.scope.Scope.{Scope}
 use Rattle.planner_expressions.specs.Results.{Reports}
-use Rattle.planner.specs.declared.aggregates.Aggregates.{Aggregates}
-use Rattle.planner.specs.declared.conjuncts.Conjuncts.{Conjuncts}
-use Rattle.planner.specs.declared.conjuncts.Equality.{Equality}
-use Rattle.planner.specs.declared.keys.Keys.{Keys}
+use Rattle.planner_clauses.specs.declared.aggregates.Aggregates.{Aggregates}
+use Rattle.planner_clauses.specs.declared.conjuncts.Conjuncts.{Conjuncts}
+use Rattle.planner_clauses.specs.declared.conjuncts.Equality.{Equality}
+use Rattle.planner_clauses.specs.declared.keys.Keys.{Keys}
 use Rattle.planner.specs.declared.parts.Grouped.{Grouped}
 use Rattle.planner.specs.declared.parts.Tables.{Tables}
-use Rattle.planner.specs.Groups.{all_aggregates, grouped_with, keys_by}
+use Rattle.planner_clauses.specs.Groups.{all_aggregates, grouped_with, keys_by}
 use Rattle.planner.specs.Planned.{conjuncts, joins_of, table_use, tables_of, tables_with, shown_of, groups_with, basis_of}
-use Rattle.planner.proofs.Reporting.{goes, as_returned}
+use Rattle.planner_clauses.proofs.Reporting.{goes, as_returned}
 
 module _ (s : Scope) (q : Query) where
   abbrev pub groups_by : Aggregates → Keys → Bool → Result Grouped PlanFault

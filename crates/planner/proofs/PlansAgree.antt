@@ -5,7 +5,7 @@ use Rattle.std.specs.List.{list_all, enumerate_from}
 use Rattle.meaning.specs.Aggregate.{aggregate}
 use Rattle.meaning.specs.Cut.{Numbered}
 use Rattle.meaning.specs.Expr.{eval, values, with_value}
-use Rattle.meaning.specs.Finish.{Evaluated, behind_having, rows_behind, shown, rows_of, order_cmp, limited, all_rows, finished, finish}
+use Rattle.meaning.specs.Finish.{Evaluated, behind_having, rows_behind, shown, rows_of, order_cmp, limited, all_rows, shown_once, finished, finish}
 use Rattle.meaning.specs.Group.{certain_keys, groups, grouped}
 use Rattle.meaning.specs.Joined.{candidates, choices, group_row, joined_row, row_of, stands_beside}
 use Rattle.meaning.specs.Judge.{Judged, behind_condition, behind_conditions, fault_cmp, first_fault, judge, judged, keep, kept_rows, pairs, row_fault}
@@ -36,7 +36,7 @@ use Rattle.planner_expressions.specs.Meant.{SameOnRows}
 use Rattle.planner_expressions.specs.Spelled.{Spelling, aggregate_code, spell_node, spelled, spelled_arm}
 use Rattle.planner_expressions.proofs.AlikeTrees.{spelled_mean}
 use Rattle.planner_expressions.proofs.SpelledAlike.{tail_is, head_is, aggregate_same, is_tag}
-use Rattle.planner.specs.Aggregates.{kind_of}
+use Rattle.planner_clauses.specs.Aggregates.{kind_of}
 use Rattle.planner.specs.PlanOf.{Pairwise, IsAggregateOf, IsHavingOf, IsItemOf, IsKeyOf, IsPlanOf, PlansAgree, is_aggregate_at}
 
 -- ---- pairs
@@ -121,7 +121,8 @@ module _ (p o : Plan) (dims : List (List Row))
     (having : Pairwise SameOver (option_to_list p.having) (option_to_list o.having))
     (order : p.order ≡ o.order)
     (limit : p.limit ≡ o.limit)
-    (plain : p.plain ≡ o.plain) where
+    (plain : p.plain ≡ o.plain)
+    (distinct : p.distinct ≡ o.distinct) where
   judge_same : (r : JoinedRow) → judge p r ≡ judge o r
   judge_same r =
       conditions_same p.conjuncts o.conjuncts r _ _ conjuncts
@@ -158,7 +159,7 @@ module _ (p o : Plan) (dims : List (List Row))
 
   finish_same : (gs : List Evaluated) → finish p gs ≡ finish o gs
   finish_same gs =
-      λ i. finished (and_then (all_ok (map (λ g. rows_same g i) gs)) (λ parts. Ok (limited (limit i) (sorted (order_cmp (order i)) (all_rows parts)))))
+      λ i. finished (and_then (all_ok (map (λ g. rows_same g i) gs)) (λ parts. Ok (limited (limit i) (sorted (order_cmp (order i)) (shown_once (distinct i) (all_rows parts))))))
 
   groups_same : (rows : Numbered) → map (λ g. evaluated p g.0 g.1) (groups p (kept_rows p dims rows)) ≡ map (λ g. evaluated o g.0 g.1) (groups o (kept_rows o dims rows))
   groups_same rows = λ i. map (λ g. evaluated_same g.0 g.1 i) (grouped (sure_same i) (kept_same rows i))
@@ -235,6 +236,7 @@ module _ (s : Scope) where
         (ok_same p.order o.order PlanFault (sym first.order ∙ second.order))
         (first.limit ∙ sym second.limit)
         (first.plain ∙ sym second.plain)
+        (first.distinct ∙ sym second.distinct)
 
 pub plans_agree : PlansAgree
 plans_agree catalog q p other dims rows first second =

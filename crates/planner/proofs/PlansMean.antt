@@ -29,17 +29,17 @@ use Rattle.planner_expressions.specs.Spelled.{Spelling, spelled}
 use Rattle.planner_expressions.specs.Translated.{translated}
 use Rattle.planner_expressions.proofs.Accepted.{goes_there}
 use Rattle.planner_expressions.proofs.Meaning.{groups_mean}
-use Rattle.planner.specs.declared.conjuncts.Conjuncts.{Conjuncts}
-use Rattle.planner.specs.declared.keys.Keys.{Keys}
+use Rattle.planner_clauses.specs.declared.conjuncts.Conjuncts.{Conjuncts}
+use Rattle.planner_clauses.specs.declared.keys.Keys.{Keys}
 use Rattle.planner.specs.declared.parts.Grouped.{Grouped}
 use Rattle.planner.specs.declared.parts.Shown.{Shown}
 use Rattle.planner.specs.declared.parts.Tables.{Tables}
-use Rattle.planner.specs.Checked.{checked, conditions, row_conditions, conditions_checked, groups_checked, condition_check, item_check, on_trees}
-use Rattle.planner.specs.Conjuncts.{row_expr}
-use Rattle.planner.specs.Groups.{is_grouped, key_of, key_trees, keys_of, no_keys, with_key, with_keys, limits_check}
+use Rattle.planner_clauses.specs.Checked.{checked, conditions, row_conditions, conditions_checked, groups_checked, condition_check, item_check, on_trees}
+use Rattle.planner_clauses.specs.Conjuncts.{row_expr}
+use Rattle.planner_clauses.specs.Groups.{is_grouped, key_of, key_trees, keys_of, no_keys, with_key, with_keys, limits_check}
 use Rattle.planner.specs.Planned.{conjuncts, no_conjuncts, joins_of, tables_of, tables_with, groups_of, groups_with, shown_of, shown_with, basis_of, plan_with, planned, planned_in}
 use Rattle.planner.specs.PlanOf.{Pairwise, IsPlanOf, IsAPlanOf, IsItemOf, IsHavingOf, IsHeaderOf, IsHeadedAs, PlansMean, row_conjuncts, is_condition, key_spellings, aggregate_spellings}
-use Rattle.planner.specs.Shown.{header, if_built, item_of, items_of, having_of, order_of, over_group, with_header}
+use Rattle.planner_clauses.specs.Shown.{header, if_built, item_of, items_of, having_of, order_of, over_group, with_header}
 use Rattle.planner.proofs.Headers.{headed}
 use Rattle.planner.proofs.Counted.{are_aggregates, keys_mean}
 use Rattle.planner.proofs.Conditions.{found_of_query, of_rows, IsFine, AreFine, both_fine, filtered_fine, all_parted, rows_mean_all}
@@ -162,6 +162,7 @@ module _ (catalog : Catalog) (q : Query) (p : Plan) (s : Scope) where
         order = order_is ∙ ap (λ (x : List plan_key.OrderKey). Ok x) (sym ordered);
         limit = sym (ap (λ (x : Plan). x.limit) p_is);
         plain = sym (ap (λ (x : Plan). x.plain) p_is) ∙ sym (ap (λ (x : Grouped). x.plain) g_is);
+        distinct = sym (ap (λ (x : Plan). x.distinct) p_is);
       }
 
 ok_same : {X : Type 0} (x y : X) (E : Type 0) → ◌≡◌ {A = Result X E} (Ok x) (Ok y) → x ≡ y

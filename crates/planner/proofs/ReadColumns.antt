@@ -25,7 +25,7 @@ use Rattle.planner_expressions.specs.Translated.{Made, made, translated, all_som
 use Rattle.planner_expressions.specs.Uses.{names, names_arm, names_node, names_either}
 use Rattle.planner_expressions.proofs.Meaning.{one_there, two_there, three_there}
 use Rattle.planner_expressions.proofs.Replaced.{parts_give, at_node}
-use Rattle.planner.specs.Conjuncts.{row_expr}
+use Rattle.planner_clauses.specs.Conjuncts.{row_expr}
 use Rattle.planner_expressions.proofs.Among.{Among}
 use Rattle.planner_expressions.proofs.Columns.{stands_among}
 use Rattle.planner.proofs.NamedParts.{Named, Covers, left, right}

@@ -41,12 +41,12 @@ use Rattle.planner_expressions.specs.Results.{Reports}
 use Rattle.planner_expressions.specs.Spelled.{Spelling, spelled, index_among}
 use Rattle.planner_expressions.specs.Uses.{names, names_arm, names_node}
 use Rattle.planner_expressions.proofs.Tables.{scopes_are_tables}
-use Rattle.planner.specs.declared.conjuncts.Equality.{Equality}
-use Rattle.planner.specs.declared.aggregates.Aggregates.{Aggregates}
-use Rattle.planner.specs.Aggregates.{aggregates_in, aggregate_node, aggregate_of, count_rows, is_aggregate, with_new, with_aggregate, with_aggregates, with_parts}
-use Rattle.planner.specs.Checked.{conditions, row_conditions}
-use Rattle.planner.specs.Conjuncts.{is_no_and, row_expr}
-use Rattle.planner.specs.Groups.{all_aggregates, is_grouped, item_aggregates, key_of, key_trees, no_aggregates}
+use Rattle.planner_clauses.specs.declared.conjuncts.Equality.{Equality}
+use Rattle.planner_clauses.specs.declared.aggregates.Aggregates.{Aggregates}
+use Rattle.planner_clauses.specs.Aggregates.{aggregates_in, aggregate_node, aggregate_of, count_rows, is_aggregate, with_new, with_aggregate, with_aggregates, with_parts}
+use Rattle.planner_clauses.specs.Checked.{conditions, row_conditions}
+use Rattle.planner_clauses.specs.Conjuncts.{is_no_and, row_expr}
+use Rattle.planner_clauses.specs.Groups.{all_aggregates, is_grouped, item_aggregates, key_of, key_trees, no_aggregates}
 use Rattle.planner.specs.PlanOf.{Pairwise, IsItemOf, all_conjuncts, equalities_among, is_condition, row_conjuncts}
 use Rattle.planner.specs.Planned.{planned, is_named, is_read, same_join, use_of}
 use Rattle.planner.specs.Limited.{IsLimited}

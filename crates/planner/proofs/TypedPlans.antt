@@ -47,19 +47,19 @@ use Rattle.planner_expressions.proofs.Accepted.{goes_there, rows_translate}
 use Rattle.planner_expressions.proofs.HasTypes.{has-Literal}
 use Rattle.planner_expressions.proofs.Tables.{scopes_are_tables}
 use Rattle.planner_expressions.proofs.TypedRows.{rows_are_typed, same_is}
-use Rattle.planner.specs.declared.aggregates.Aggregates.{Aggregates}
-use Rattle.planner.specs.declared.conjuncts.Conjuncts.{Conjuncts}
-use Rattle.planner.specs.declared.keys.Keys.{Keys}
+use Rattle.planner_clauses.specs.declared.aggregates.Aggregates.{Aggregates}
+use Rattle.planner_clauses.specs.declared.conjuncts.Conjuncts.{Conjuncts}
+use Rattle.planner_clauses.specs.declared.keys.Keys.{Keys}
 use Rattle.planner.specs.declared.parts.Grouped.{Grouped}
 use Rattle.planner.specs.declared.parts.Shown.{Shown}
 use Rattle.planner.specs.declared.parts.Tables.{Tables}
-use Rattle.planner.specs.Aggregates.{aggregates_in, aggregate_node, aggregate_of, count_rows, row_type, type_in, with_new, with_aggregate, with_aggregates, with_parts}
-use Rattle.planner.specs.Checked.{checked, row_conditions, conditions_checked, groups_checked, condition_check, item_check, key_check, on_trees}
-use Rattle.planner.specs.Conjuncts.{conjuncts_of, row_expr}
-use Rattle.planner.specs.Groups.{no_aggregates, item_aggregates, all_aggregates, is_empty, is_grouped, key_of, key_trees, no_keys, limits_check}
+use Rattle.planner_clauses.specs.Aggregates.{aggregates_in, aggregate_node, aggregate_of, count_rows, row_type, type_in, with_new, with_aggregate, with_aggregates, with_parts}
+use Rattle.planner_clauses.specs.Checked.{checked, row_conditions, conditions_checked, groups_checked, condition_check, item_check, key_check, on_trees}
+use Rattle.planner_clauses.specs.Conjuncts.{conjuncts_of, row_expr}
+use Rattle.planner_clauses.specs.Groups.{no_aggregates, item_aggregates, all_aggregates, is_empty, is_grouped, key_of, key_trees, no_keys, limits_check}
 use Rattle.planner.specs.PlanOf.{all_conjuncts, equalities_among, is_condition, row_conjuncts}
 use Rattle.planner.specs.Planned.{conjuncts, no_conjuncts, joins_of, tables_of, tables_with, groups_of, groups_with, shown_of, shown_with, basis_of, plan_with, planned, planned_in, table_use}
-use Rattle.planner.specs.Shown.{items_of, having_of, order_of}
+use Rattle.planner_clauses.specs.Shown.{items_of, having_of, order_of}
 use Rattle.planner.specs.Typed.{IsTypedOver, PlansAreTyped, PlansServe}
 use Rattle.planner.proofs.Conditions.{found_of_query, of_rows}
 use Rattle.planner.proofs.Counted.{checks, AllEmpty, none_taken, parts_none, neither, empty_is}
@@ -118,7 +118,11 @@ module _ (s : Scope) (types : RowTypes) (columns : columns_have_types types s �
   taken_value aggregate.Average Integer is = refl
   taken_value aggregate.Average Text is = refl
   taken_value aggregate.Average Truth is = absurd cc
+  taken_value aggregate.SumDistinct Integer is = refl
+  taken_value aggregate.SumDistinct Text is = refl
+  taken_value aggregate.SumDistinct Truth is = absurd cc
   taken_value aggregate.Count x is = is
+  taken_value aggregate.CountDistinct x is = is
   taken_value aggregate.Min x is = is
   taken_value aggregate.Max x is = is
 
@@ -126,12 +130,14 @@ module _ (s : Scope) (types : RowTypes) (columns : columns_have_types types s �
   taken k b x z true is = refl
   taken k b x z false is = absurd cc
 
-  never_rows : (k : written.Aggregate) → Rattle.planner.specs.Aggregates.kind_of k ≡ kind.CountRows → ⊥
+  never_rows : (k : written.Aggregate) → Rattle.planner_clauses.specs.Aggregates.kind_of k ≡ kind.CountRows → ⊥
   never_rows aggregate.Count is = cc
   never_rows aggregate.Sum is = cc
   never_rows aggregate.Min is = cc
   never_rows aggregate.Max is = cc
   never_rows aggregate.Average is = cc
+  never_rows aggregate.CountDistinct is = cc
+  never_rows aggregate.SumDistinct is = cc
 
   fits_out : (e : Expr) → has_fitting_literals e ≡ Rattle.sql_syntax.specs.Literals.fitting_node (map-Expr Expr Arm Bool Bool has_fitting_literals Rattle.sql_syntax.specs.Literals.arm_has_fitting_literals (out-Expr e))
   fits_out e = search (rules, the_lemmas)
@@ -172,7 +178,7 @@ module _ (s : Scope) (types : RowTypes) (columns : columns_have_types types s �
   items_good (i ∷ items) z is fits =
       let there = goes_there (item_check s i) (λ x. each_ok (map (item_check s) items)) z is in
       let sort = goes_there (judged s i.expr false) (λ x. cond (is_value x) (Ok tt) (Err fault.TypeMismatch)) there.0 there.1 in (
-        topmost_good s Rattle.planner.specs.Aggregates.is_aggregate i.expr (all_first (λ (j : Item). has_fitting_literals j.expr) i items fits, (false, (sort.0, sort.1))),
+        topmost_good s Rattle.planner_clauses.specs.Aggregates.is_aggregate i.expr (all_first (λ (j : Item). has_fitting_literals j.expr) i items fits, (false, (sort.0, sort.1))),
         items_good items z there.2 (all_rest (λ (j : Item). has_fitting_literals j.expr) i items fits),
       )
 
@@ -181,7 +187,7 @@ module _ (s : Scope) (types : RowTypes) (columns : columns_have_types types s �
   having_good (e ∷ es) z is fits =
       let there = goes_there (condition_check s false e) (λ x. each_ok (map (condition_check s false) es)) z is in
       let sort = goes_there (judged s e false) (λ x. cond (same_sort Truth x) (Ok tt) (Err fault.TypeMismatch)) there.0 there.1 in (
-        topmost_good s Rattle.planner.specs.Aggregates.is_aggregate e (all_first has_fitting_literals e es fits, (false, (sort.0, sort.1))),
+        topmost_good s Rattle.planner_clauses.specs.Aggregates.is_aggregate e (all_first has_fitting_literals e es fits, (false, (sort.0, sort.1))),
         having_good es z there.2 (all_rest has_fitting_literals e es fits),
       )
 

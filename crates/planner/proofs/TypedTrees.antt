@@ -20,8 +20,8 @@ use Rattle.planner_expressions.specs.Trees.{parts_of, topmost}
 use Rattle.planner_expressions.proofs.Accepted.{goes_there, front_there}
 use Rattle.planner_expressions.proofs.Replaced.{parts_give, arm_gives}
 use Rattle.planner_expressions.proofs.TypedRows.{both_sorts, typed_is, same_is, some_there}
-use Rattle.planner.specs.Conjuncts.{conjuncts_of, is_no_and, is_and_node}
-use Rattle.planner.proofs.Topmost.{given, joined, passes, below}
+use Rattle.planner_clauses.specs.Conjuncts.{conjuncts_of, is_no_and, is_and_node}
+use Rattle.planner_clauses.proofs.Topmost.{given, joined, passes, below}
 use Rattle.planner.proofs.Conditions.{other_is, and_is}
 
 pub both_all : {X : Type 0} (P : X → Type 0) (xs ys : List X) → AllByRecursion P xs → AllByRecursion P ys → AllByRecursion P (xs ++ ys)

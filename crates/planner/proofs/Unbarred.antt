@@ -17,8 +17,8 @@ use Rattle.planner_expressions.specs.Sorts.{are_alike, first_of}
 use Rattle.planner_expressions.specs.Results.{map_ok}
 use Rattle.planner_expressions.specs.Judged.{Returned, Judgement, judge_node, judge_arm, judged, judged_arm, two, each, each_arm, arm_sorts, else_sort, over_part, typed, case_sort}
 use Rattle.planner_expressions.proofs.Accepted.{goes_there, front_there}
-use Rattle.planner.specs.Aggregates.{is_aggregate_node, is_aggregate, aggregates_in, arm_aggregates, arm_parts}
-use Rattle.planner.proofs.Topmost.{of_parts, passes, below}
+use Rattle.planner_clauses.specs.Aggregates.{is_aggregate_node, is_aggregate, aggregates_in, arm_aggregates, arm_parts}
+use Rattle.planner_clauses.proofs.Topmost.{of_parts, passes, below}
 use Rattle.planner.specs.PlanOf.{argument_of, is_counted}
 
 -- ---- lists of which nothing is

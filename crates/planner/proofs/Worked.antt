@@ -50,11 +50,11 @@ use Rattle.planner_expressions.specs.Spelled.{spelled}
 use Rattle.planner.specs.declared.parts.Grouped.{Grouped}
 use Rattle.planner.specs.declared.parts.Shown.{Shown}
 use Rattle.planner.specs.declared.parts.Tables.{Tables}
-use Rattle.planner.specs.Checked.{Checked, checked, conditions_checked, groups_checked, item_check}
-use Rattle.planner.specs.Conjuncts.{conjuncts_of}
-use Rattle.planner.specs.Groups.{item_aggregates, all_aggregates, is_grouped, keys_check, key_trees, limits_check, no_keys, with_keys}
+use Rattle.planner_clauses.specs.Checked.{Checked, checked, conditions_checked, groups_checked, item_check}
+use Rattle.planner_clauses.specs.Conjuncts.{conjuncts_of}
+use Rattle.planner_clauses.specs.Groups.{item_aggregates, all_aggregates, is_grouped, keys_check, key_trees, limits_check, no_keys, with_keys}
 use Rattle.planner.specs.Planned.{basis_of, conjuncts, groups_of, groups_with, planned, plan_with, planned_in, shown_of, table_use, tables_of}
-use Rattle.planner.specs.Shown.{header, item_of, items_of, having_of, order_of, over_group, with_header}
+use Rattle.planner_clauses.specs.Shown.{header, item_of, items_of, having_of, order_of, over_group, with_header}
 
 abbrev pub column : ColType → List ℕ → Bool → Column
 column kind name nullable = record { name = name; col_type = kind; nullable = nullable }
@@ -92,6 +92,7 @@ sales others = record { first = record { name = codes "sales"; alias = None }; o
 
 abbrev pub query : List Item → Source → Option Expr → List Expr → Query
 query items source condition grouped = record {
+  distinct = false;
   items = items;
   source = source;
   filter = condition;
@@ -305,6 +306,7 @@ greatest = tree.Aggregate aggregate.Max (name (codes "t"))
 -- SELECT r.region, MIN(q + 1), MAX(t) AS best FROM .. WHERE .. GROUP BY region HAVING MIN(q + 1) > 0 ORDER BY 2 DESC, best LIMIT 3
 abbrev pub best_of : Source → Expr → Query
 best_of source condition = record {
+  distinct = true;
   items =
       item (tree.Column (Some (codes "r")) (codes "region"))
       ∷ item least
@@ -354,6 +356,7 @@ best_plan text = record {
   order = record { item = 1; descending = true } ∷ record { item = 2; descending = false } ∷ [];
   limit = Some 3;
   plain = false;
+  distinct = true;
 }
 
 -- FROM sales JOIN store r ON s = k WHERE q <= p

@@ -11,13 +11,14 @@ use Rattle.sql_syntax.specs.declared.tree.Query.{Query}
 use Rattle.sql_syntax.specs.declared.tree.Table as written
 use Rattle.sql_syntax.specs.Canonical.{canonical}
 use Rattle.planner_expressions.specs.Results.{map_ok}
-use Rattle.planner.specs.Checked.{conditions, row_conditions}
-use Rattle.planner.specs.Conjuncts.{left_on}
+use Rattle.planner_clauses.specs.Checked.{conditions, row_conditions}
+use Rattle.planner_clauses.specs.Conjuncts.{left_on}
 use Rattle.planner.specs.Planned.{planned}
 
 -- two queries that differ at most in which of their conditions stand behind ON, and which behind WHERE, and have the same
 -- LEFT joins
 pub record AskTheSame (q r : Query) : Type 0 where
+  pub distinct : q.distinct ≡ r.distinct
   pub items : q.items ≡ r.items
   pub first : q.source.first ≡ r.source.first
   pub tables : map (λ j. j.table) q.source.others ≡ map (λ j. j.table) r.source.others

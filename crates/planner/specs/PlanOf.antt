@@ -27,13 +27,13 @@ use Rattle.planner_expressions.specs.From.{scope_of}
 use Rattle.planner_expressions.specs.Judged.{judged}
 use Rattle.planner_expressions.specs.Meant.{SameOnRows, SameOnGroups}
 use Rattle.planner_expressions.specs.Spelled.{Spelling, spelled, index_among}
-use Rattle.planner.specs.declared.conjuncts.Equality.{Equality}
-use Rattle.planner.specs.Aggregates.{aggregates_in, count_rows, kind_of, row_type}
-use Rattle.planner.specs.Checked.{conditions, row_conditions}
-use Rattle.planner.specs.Conjuncts.{conjuncts_of, inner_equality}
-use Rattle.planner.specs.Groups.{all_aggregates, is_grouped, key_trees}
+use Rattle.planner_clauses.specs.declared.conjuncts.Equality.{Equality}
+use Rattle.planner_clauses.specs.Aggregates.{aggregates_in, count_rows, kind_of, row_type}
+use Rattle.planner_clauses.specs.Checked.{conditions, row_conditions}
+use Rattle.planner_clauses.specs.Conjuncts.{conjuncts_of, inner_equality}
+use Rattle.planner_clauses.specs.Groups.{all_aggregates, is_grouped, key_trees}
 use Rattle.planner.specs.Planned.{joins_of, planned, table_use}
-use Rattle.planner.specs.Shown.{order_of}
+use Rattle.planner_clauses.specs.Shown.{order_of}
 
 -- two lists of one length, whose elements go together one by one
 abbrev pub Pairwise : {X Y : Type 0} → (X → Y → Type 0) → List X → List Y → Type 0
@@ -139,6 +139,7 @@ pub record IsPlanOf (catalog : Catalog) (q : Query) (s : Scope) (p : Plan) : Typ
   pub order : order_of q.items q.order_by ≡ Ok p.order
   pub limit : p.limit ≡ q.limit
   pub plain : p.plain ≡ not (is_grouped s q)
+  pub distinct : p.distinct ≡ q.distinct
 
 abbrev pub IsAPlanOf : Catalog → Query → Plan → Type 0
 IsAPlanOf catalog q p = (s : Scope) × IsPlanOf catalog q s p

@@ -23,15 +23,15 @@ use Rattle.planner_expressions.specs.declared.scope.ScopeColumn.{ScopeColumn}
 use Rattle.planner_expressions.specs.declared.scope.Scope.{Scope}
 use Rattle.planner_expressions.specs.From.{scope_of}
 use Rattle.planner_expressions.specs.Uses.{names}
-use Rattle.planner.specs.declared.conjuncts.Conjuncts.{Conjuncts}
-use Rattle.planner.specs.declared.conjuncts.Equality.{Equality}
+use Rattle.planner_clauses.specs.declared.conjuncts.Conjuncts.{Conjuncts}
+use Rattle.planner_clauses.specs.declared.conjuncts.Equality.{Equality}
 use Rattle.planner.specs.declared.parts.Tables.{Tables}
 use Rattle.planner.specs.declared.parts.Shown.{Shown}
 use Rattle.planner.specs.declared.parts.Grouped.{Grouped}
-use Rattle.planner.specs.Checked.{checked, conditions}
-use Rattle.planner.specs.Conjuncts.{with_all, equality_for, left_equality_for}
-use Rattle.planner.specs.Groups.{all_aggregates, is_grouped, keys_of, limits_check}
-use Rattle.planner.specs.Shown.{items_of, having_of, order_of}
+use Rattle.planner_clauses.specs.Checked.{checked, conditions}
+use Rattle.planner_clauses.specs.Conjuncts.{with_all, equality_for, left_equality_for}
+use Rattle.planner_clauses.specs.Groups.{all_aggregates, is_grouped, keys_of, limits_check}
+use Rattle.planner_clauses.specs.Shown.{items_of, having_of, order_of}
 
 -- ---- the columns that are read
 
@@ -123,6 +123,7 @@ plan_with q t g = record {
   order = g.shown.order;
   limit = q.limit;
   plain = g.plain;
+  distinct = q.distinct;
 }
 
 -- the steps behind FROM, in their order

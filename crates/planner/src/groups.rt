@@ -2,19 +2,17 @@
 ghost use Rattle.std.specs.Prelude.{◌≡◌, IfOk, not, Ok};
 ghost use Rattle.meaning.specs.Results.{and_then};
 ghost use Rattle.planner_expressions.specs.Results.{map_ok, Reports};
-ghost use Rattle.planner.specs.Groups.{no_aggregates as none_gathered, all_aggregates, grouped_with, limits_check, keys_by};
+ghost use Rattle.planner_clauses.specs.Groups.{no_aggregates as none_gathered, all_aggregates, grouped_with, limits_check, keys_by};
 ghost use Rattle.planner_expressions.specs.declared.basis.Basis.TheVariants.{Groups};
-ghost use Rattle.planner.specs.Shown.{items_of, order_of};
+ghost use Rattle.planner_clauses.specs.Shown.{items_of, order_of};
 ghost use Rattle.planner.specs.Planned.{shown_of as shown_in, groups_with, groups_of as groups_in, basis_of};
 
-use crate::aggregates::Aggregates;
-use crate::keys::{
-    Keys, check_aggregates, check_keys, gather_having, gather_items, no_aggregates, no_keys,
-    push_keys,
-};
 use crate::parts::{Grouped, Shown};
-use crate::showing::{having_of, push_items, push_order};
 use meaning::{Item, OrderKey, Sequence};
+use planner_clauses::{
+    Aggregates, Keys, check_aggregates, check_keys, gather_having, gather_items, having_of,
+    no_aggregates, no_keys, push_items, push_keys, push_order,
+};
 use planner_expressions::{Basis, PlanFault, Scope};
 use sql_syntax::Query;
 use std::alloc::{AllocError, Global};

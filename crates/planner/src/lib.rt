@@ -1,18 +1,13 @@
 //! Planning: from a query's tree to a plan, with every name looked up.
 #![tactic(auto)]
 
-mod aggregates;
-mod checking;
-mod conjuncts;
 mod groups;
-mod keys;
 mod laws;
 mod parts;
 mod planning;
 mod query_fault;
 mod query_text;
 mod reading;
-mod showing;
 mod tables;
 
 pub use laws::{

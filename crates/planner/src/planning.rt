@@ -9,11 +9,11 @@ ghost use Rattle.planner.specs.PlanOf.{IsAPlanOf};
 ghost use Rattle.planner.specs.Sound.{IsSoundQuery};
 ghost use Rattle.planner.specs.Typed.{IsTypedOver};
 
-use crate::checking::check;
 use crate::groups::groups_of;
 use crate::parts::{Grouped, Shown, Tables};
 use crate::tables::tables_of;
 use meaning::{Catalog, Plan, Text};
+use planner_clauses::check;
 use planner_expressions::{PlanFault, Scope, scope_of};
 use sql_syntax::{Query, print};
 use std::alloc::Global;
@@ -50,6 +50,7 @@ fn plan_from(text: Text, query: &Query, tables: Tables, groups: Grouped) -> Plan
         order,
         limit: query.limit,
         plain,
+        distinct: query.distinct,
     }
 }
 

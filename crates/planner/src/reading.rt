@@ -4,11 +4,11 @@ ghost use Rattle.std.specs.List.{list_any, enumerate_from};
 ghost use Rattle.planner_expressions.specs.Results.{map_ok, Reports};
 ghost use Rattle.planner_expressions.specs.Uses.{names as names_it};
 ghost use Rattle.sql_syntax.specs.Joins.{condition_of};
-ghost use Rattle.planner.specs.Checked.{on_trees, conditions};
+ghost use Rattle.planner_clauses.specs.Checked.{on_trees, conditions};
 ghost use Rattle.planner.specs.Planned.{is_named as named_in, same_join as of_join, is_read as read_in, use_of, table_use as used_of, equality_by, join_of, joins_of};
 
-use crate::conjuncts::{Equality, equality_for, left_equality_for};
 use meaning::{ColumnUse, Join, JoinType, Sequence, TableUse, Text};
+use planner_clauses::{Equality, equality_for, left_equality_for};
 use planner_expressions::{Dim, PlanFault, Scope, ScopeColumn, names};
 use sql_syntax::{Expr, Item, JoinKind, Joined, Query};
 use std::alloc::{AllocError, Global};

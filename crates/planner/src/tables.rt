@@ -4,10 +4,10 @@ ghost use Rattle.meaning.specs.declared.plan.TableUse as plan_table;
 ghost use Rattle.planner_expressions.specs.Results.{Reports};
 ghost use Rattle.planner.specs.Planned.{conjuncts as conjuncts_in, joins_of, tables_with, tables_of as tables_in, table_use as used_of};
 
-use crate::conjuncts::{Conjuncts, Equality, add_all};
 use crate::parts::Tables;
 use crate::reading::{push_joins, table_use};
 use meaning::{Join, Sequence, TableUse, Text};
+use planner_clauses::{Conjuncts, Equality, add_all};
 use planner_expressions::{PlanFault, Scope};
 use sql_syntax::Query;
 use std::alloc::{AllocError, Global};

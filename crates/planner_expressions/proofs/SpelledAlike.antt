@@ -59,6 +59,10 @@ aggregate_same aggregate.Max aggregate.Max is = refl
 aggregate_same aggregate.Max _ is = absurd cc
 aggregate_same aggregate.Average aggregate.Average is = refl
 aggregate_same aggregate.Average _ is = absurd cc
+aggregate_same aggregate.CountDistinct aggregate.CountDistinct is = refl
+aggregate_same aggregate.CountDistinct _ is = absurd cc
+aggregate_same aggregate.SumDistinct aggregate.SumDistinct is = refl
+aggregate_same aggregate.SumDistinct _ is = absurd cc
 
 arithmetic_same : (a b : Arithmetic) → arithmetic_code a ≡ arithmetic_code b → a ≡ b
 arithmetic_same arithmetic.Add arithmetic.Add is = refl

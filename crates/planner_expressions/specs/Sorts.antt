@@ -42,6 +42,7 @@ results arms otherwise = map (λ arm. arm.1) arms ++ option_to_list otherwise
 -- SUM and AVG take integers, the others any values
 abbrev pub is_taken : Aggregate → Sort → Bool
 is_taken aggregate.Sum s = same_sort Integer s
+is_taken aggregate.SumDistinct s = same_sort Integer s
 is_taken aggregate.Average s = same_sort Integer s
 is_taken _ s = is_value s
 

@@ -42,6 +42,8 @@ aggregate_code aggregate.Sum = pos 1
 aggregate_code aggregate.Min = pos 2
 aggregate_code aggregate.Max = pos 3
 aggregate_code aggregate.Average = pos 4
+aggregate_code aggregate.CountDistinct = pos 5
+aggregate_code aggregate.SumDistinct = pos 6
 
 abbrev pub arithmetic_code : Arithmetic → ℤ
 arithmetic_code arithmetic.Add = pos 0

@@ -36,8 +36,10 @@ fn takes(kind: Aggregate, sort: Sort) -> bool
 {
     match kind {
         Aggregate::Sum => Sort::Integer.is(sort),
+        Aggregate::SumDistinct => Sort::Integer.is(sort),
         Aggregate::Average => Sort::Integer.is(sort),
         Aggregate::Count => sort.is_value(),
+        Aggregate::CountDistinct => sort.is_value(),
         Aggregate::Min => sort.is_value(),
         Aggregate::Max => sort.is_value(),
     }
@@ -50,7 +52,9 @@ fn gives(kind: Aggregate, sort: Sort) -> Sort
         Aggregate::Min => sort,
         Aggregate::Max => sort,
         Aggregate::Count => Sort::Integer,
+        Aggregate::CountDistinct => Sort::Integer,
         Aggregate::Sum => Sort::Integer,
+        Aggregate::SumDistinct => Sort::Integer,
         Aggregate::Average => Sort::Integer,
     }
 }

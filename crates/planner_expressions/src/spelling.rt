@@ -64,6 +64,8 @@ fn code_of_aggregate(kind: Aggregate) -> i64
         Aggregate::Min => 2,
         Aggregate::Max => 3,
         Aggregate::Average => 4,
+        Aggregate::CountDistinct => 5,
+        Aggregate::SumDistinct => 6,
     }
 }
 

@@ -2,7 +2,7 @@
 use Rattle.std.specs.Prelude.{◌≡◌, ◌≢◌, ℕ, zero, suc, ◌<◌, nat_eq, Bool, true, false, cond, List, [], ◌∷◌, ◌++◌, length, map, sum, get_or, slice_index, slice_index_or, Option, None, Some, Result, Ok, Err, Contains}
 use Rattle.std.specs.Io.KnownBytes.{Appends}
 use Rattle.std.specs.List.{starts_with}
-use Rattle.std.proofs.Common.{refl, sym, ap, subst, ◌∙◌, arith}
+use Rattle.std.proofs.Common.{refl, sym, ap, subst, ◌∙◌, arith, append_assoc}
 use Rattle.std.proofs.lemmas.List.{length-map}
 use Rattle.std.proofs.lemmas.List.Elements.{All-contains, Contains-append_left, Contains-append_right, Contains-push}
 use Rattle.meaning.specs.Answer.{own}
@@ -32,9 +32,15 @@ use Rattle.fragment_file.specs.CutFile.{CutFileSpec, IsCutFileOf, cut_bytes}
 use Rattle.planner.proofs.TypedPlans.{parts_of_plan}
 use Rattle.partial_codec.specs.Answer.{Spells, fault_in, judged}
 use Rattle.partial_codec.specs.Job.{IsJob, JobSpec}
-use Rattle.partial_codec.specs.Spelling.{answer_bytes, answer_magic, layout_bytes}
-use Rattle.partial_codec.specs.State.{is_state, state_magic}
-use Rattle.partial_codec.specs.declared.fault.DecodeFault.{DecodeFault}
+use Rattle.answer_fields.specs.declared.format.Format.{Format}
+use Rattle.answer_fields.specs.declared.format.Content.TheVariants as content
+use Rattle.answer_fields.specs.Format.{magic}
+use Rattle.answer_fields.specs.Shape.{shape_of}
+use Rattle.partial_codec.specs.Spelling.{answer_spelling, body_bytes, job_bytes, layout_bytes, layout_of, shape_bytes}
+use Rattle.wire.specs.Bytes.{number_bytes, seal_of}
+use Rattle.partial_codec.specs.State.{is_state}
+use Rattle.answer_fields.proofs.Formats.{answers_apart}
+use Rattle.answer_fields.specs.declared.fault.DecodeFault.{DecodeFault}
 use Rattle.partial_codec.proofs.Answers.{spelled_reads}
 use Rattle.job_files.specs.RowFiles.{rows_of_fragment}
 use Rattle.job_files.proofs.RowFiles.{file_of_columns}
@@ -57,9 +63,17 @@ use Rattle.program_laws.proofs.OneJob.{made_cut, one_catalog, one_cut, one_job, 
 
 -- ---- what becomes of an answer's bytes
 
-no_state : (job : JobSpec) (a : Answer) → is_state (answer_bytes job a) ≡ false
-unfolding answer_magic state_magic layout_bytes
-no_state job a = refl
+begins_as_answer : (format : Format) (a b c d e : List ℕ) → is_state (((((magic content.Answer format ++ a) ++ b) ++ c) ++ d) ++ e) ≡ false
+begins_as_answer format a b c d e =
+    let m = magic content.Answer format in
+    ap is_state (append_assoc (((m ++ a) ++ b) ++ c) d e ∙ append_assoc ((m ++ a) ++ b) c (d ++ e) ∙ append_assoc (m ++ a) b (c ++ (d ++ e)) ∙ append_assoc m a (b ++ (c ++ (d ++ e))))
+    ∙ answers_apart format (a ++ (b ++ (c ++ (d ++ e))))
+
+no_state : (format : Format) (job : JobSpec) (a : Answer) → is_state (answer_spelling format job a) ≡ false
+unfolding layout_bytes
+no_state format job a =
+    begins_as_answer format (job_bytes job.load job.plan.text job.cut) (number_bytes 4 a.k) (shape_bytes (shape_of job.plan)) (body_bytes (shape_of job.plan) a.body)
+    (seal_of (layout_bytes (layout_of format job a)))
 
 -- bytes that are an answer for the job are taken as it
 taken_as : (journaled : Bool) (job : JobSpec) (bytes : List ℕ) (a : Answer) (taking : Taking) → IsJob job → Spells job bytes a → IsTaking journaled job bytes taking → taking ≡ answer a
@@ -70,13 +84,13 @@ taken_as true job bytes a (state cells) is spells taken =
     let other : false ≡ true = taken.0 in
     cc other
 taken_as false job bytes a (state cells) is spells taken =
-    let other : true ≡ false = sym taken.0 ∙ ap is_state spells.spelled ∙ no_state job a in
+    let other : true ≡ false = sym taken.0 ∙ ap is_state spells.spelled ∙ no_state spells.format job a in
     cc other
 taken_as true job bytes a (passed fault) is spells taken =
     let well : None ≡ Some fault = sym (ap fault_in (spelled_reads job bytes a is spells)) ∙ taken in
     cc well
 taken_as false job bytes a (passed fault) is spells taken =
-    let test : is_state bytes ≡ false = ap is_state spells.spelled ∙ no_state job a in
+    let test : is_state bytes ≡ false = ap is_state spells.spelled ∙ no_state spells.format job a in
     let none : fault_in (judged job bytes) ≡ Some fault = rw test at taken in
     let well : None ≡ Some fault = sym (ap fault_in (spelled_reads job bytes a is spells)) ∙ none in
     cc well

@@ -7,8 +7,8 @@ use std::mem::drop;
 use std::process::Abort;
 use std::test::Fail;
 
-/// The count 2 for the first fragment of the cut [2,3], load 0, up to its seal.
-const COUNTED: &[u8] = b"XGA1\0\0\0\0\0\0\0\0\x1a\0\0\0SELECT COUNT(*) FROM sales\
+/// The count 2 for the first fragment of the cut [2,3], load 0, from the magic to the seal.
+const FIELDS: &[u8] = b"\0\0\0\0\0\0\0\0\x1a\0\0\0SELECT COUNT(*) FROM sales\
     \x02\0\0\0\x02\0\0\0\x03\0\0\0\0\0\0\0\0\0\x01\0\x01\0\x01\x01\0\0\0\x02\0\0\0\x02\0\0\0";
 
 // ---- bytes
@@ -54,8 +54,13 @@ fn expect(
 
 // ---- lengths
 
-fn expect_lengths(rt: &impl Abort, alloc: Global, job: &Job) -> Result<(), AllocError> {
-    let longer = joined(alloc, &sealed(alloc, COUNTED)?, b"\0")?;
+fn expect_lengths(
+    rt: &impl Abort,
+    alloc: Global,
+    job: &Job,
+    front: &[u8],
+) -> Result<(), AllocError> {
+    let longer = joined(alloc, &sealed(alloc, front)?, b"\0")?;
     for n in 0..longer.len() {
         let want = if n == 109 { None } else { Some(2) };
         expect(rt, alloc, job, &longer[..n], want, n);
@@ -94,8 +99,13 @@ fn want_turned(offset: usize) -> Option<u8> {
     }
 }
 
-fn expect_turned(rt: &impl Abort, alloc: Global, job: &Job) -> Result<(), AllocError> {
-    let whole = sealed(alloc, COUNTED)?;
+fn expect_turned(
+    rt: &impl Abort,
+    alloc: Global,
+    job: &Job,
+    front: &[u8],
+) -> Result<(), AllocError> {
+    let whole = sealed(alloc, front)?;
     for offset in 0..whole.len() {
         let bytes = turned(alloc, &whole, offset)?;
         expect(rt, alloc, job, &bytes, want_turned(offset), offset);
@@ -103,9 +113,14 @@ fn expect_turned(rt: &impl Abort, alloc: Global, job: &Job) -> Result<(), AllocE
     Ok(())
 }
 
-fn expect_turned_and_sealed(rt: &impl Abort, alloc: Global, job: &Job) -> Result<(), AllocError> {
-    for offset in 0..COUNTED.len() {
-        let bytes = sealed(alloc, &turned(alloc, COUNTED, offset)?)?;
+fn expect_turned_and_sealed(
+    rt: &impl Abort,
+    alloc: Global,
+    job: &Job,
+    front: &[u8],
+) -> Result<(), AllocError> {
+    for offset in 0..front.len() {
+        let bytes = sealed(alloc, &turned(alloc, front, offset)?)?;
         expect(rt, alloc, job, &bytes, want_under_seal(offset), offset);
     }
     Ok(())
@@ -122,39 +137,55 @@ fn expect_first(
     rt: &impl Abort,
     alloc: Global,
     job: &Job,
+    front: &[u8],
     first: usize,
     second: usize,
 ) -> Result<(), AllocError> {
-    let once = turned(alloc, COUNTED, first)?;
+    let once = turned(alloc, front, first)?;
     let bytes = sealed(alloc, &turned(alloc, &once, second)?)?;
     expect(rt, alloc, job, &bytes, want_under_seal(first), second);
     Ok(())
 }
 
-fn expect_pairs(rt: &impl Abort, alloc: Global, job: &Job) -> Result<(), AllocError> {
-    for second in 0..COUNTED.len() {
+fn expect_pairs(rt: &impl Abort, alloc: Global, job: &Job, front: &[u8]) -> Result<(), AllocError> {
+    for second in 0..front.len() {
         for first in 0..second {
             if stands_alone(first) && stands_alone(second) {
-                expect_first(rt, alloc, job, first, second)?;
+                expect_first(rt, alloc, job, front, first, second)?;
             }
         }
     }
     Ok(())
 }
 
-fn expect_damage(rt: &impl Abort, alloc: Global, job: &Job) -> Result<(), AllocError> {
-    expect_lengths(rt, alloc, job)?;
-    expect_turned(rt, alloc, job)?;
-    expect_turned_and_sealed(rt, alloc, job)?;
-    expect_pairs(rt, alloc, job)
+fn expect_damage(
+    rt: &impl Abort,
+    alloc: Global,
+    job: &Job,
+    magic: &[u8],
+) -> Result<(), AllocError> {
+    let front = joined(alloc, magic, FIELDS)?;
+    expect_lengths(rt, alloc, job, &front)?;
+    expect_turned(rt, alloc, job, &front)?;
+    expect_turned_and_sealed(rt, alloc, job, &front)?;
+    expect_pairs(rt, alloc, job, &front)
+}
+
+fn expect_damage_behind(rt: &impl Abort, alloc: Global, magic: &[u8]) -> Result<(), Fail> {
+    let gather = counted(alloc)?;
+    let ended = expect_damage(rt, alloc, gather.job(), magic);
+    drop(gather);
+    Ok(ended?)
 }
 
 #[test]
-fn damage_at_every_byte(rt: HostRuntime) -> Result<(), Fail> {
-    let gather = counted(rt.alloc())?;
-    let ended = expect_damage(&rt, rt.alloc(), gather.job());
-    drop(gather);
-    Ok(ended?)
+fn damage_at_every_byte_in_the_first_format(rt: HostRuntime) -> Result<(), Fail> {
+    expect_damage_behind(&rt, rt.alloc(), b"XGA1")
+}
+
+#[test]
+fn damage_at_every_byte_in_the_second_format(rt: HostRuntime) -> Result<(), Fail> {
+    expect_damage_behind(&rt, rt.alloc(), b"XGA2")
 }
 
 /// What `whole` hands back has one cell a fragment, and is for the load 0.

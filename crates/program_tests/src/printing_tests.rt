@@ -41,6 +41,7 @@ fn plan_of(alloc: Global, items: Sequence<Item>) -> Plan
         order: Sequence::new(alloc),
         limit: None,
         plain: false,
+        distinct: false,
     }
 }
 

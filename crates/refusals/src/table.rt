@@ -150,7 +150,7 @@ fn of_grammar(number: u8) -> Entry {
         _ => Entry {
             lines: "sql 8 OFFSET WORD",
             meaning: "a part of SQL that is left out",
-            smallest_input: "`SELECT DISTINCT v FROM n`",
+            smallest_input: "`SELECT ALL v FROM n`",
             advice: "",
         },
     }
@@ -469,7 +469,7 @@ pub fn of_gather(number: u8) -> Entry {
         },
         8 => Entry {
             lines: "gather 8 PATH",
-            meaning: "its groups don't ascend by their keys",
+            meaning: "its groups don't ascend by their keys, or a set by its values",
             smallest_input: "",
             advice: "",
         },

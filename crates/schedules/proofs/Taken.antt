@@ -10,9 +10,9 @@ use Rattle.meaning_laws.proofs.Cells.{joined-append}
 use Rattle.partial_codec.specs.Answer.{Spells, judged}
 use Rattle.partial_codec.specs.Job.{IsJob, JobSpec}
 use Rattle.partial_codec.specs.State.{SpellsState, state_bytes}
-use Rattle.partial_codec.specs.declared.fault.DecodeFault.{DecodeFault}
+use Rattle.answer_fields.specs.declared.fault.DecodeFault.{DecodeFault}
 use Rattle.partial_codec.proofs.Answers.{answer_takes, spelled_reads}
-use Rattle.partial_codec.proofs.States.{spelled_state_reads}
+use Rattle.partial_codec.proofs.States.{spelled_state_reads, written_state_spells}
 use Rattle.gathering.specs.Gathering.{GatherSpec, IsGather, Joins, Takes, join_states}
 use Rattle.gathering.specs.declared.gather.Absorbed.{Absorbed}
 use Rattle.gathering.proofs.StateFiles.{fits_state}
@@ -68,7 +68,7 @@ of_state (Err e) sent bytes lent old new is same does = tt
 
 pub spelled_as : (job : JobSpec) (g : GatherSpec) (bytes : List ℕ) (answers : Answers) → IsGather g → bytes ≡ state_bytes g.job g.cells → Holds job g answers → SpellsState job bytes (joined job.cut answers)
 spelled_as job g bytes answers is_gather is held =
-    let own : SpellsState g.job bytes g.cells = record { fits = fits_state g is_gather; spelled = is } in
+    let own : SpellsState g.job bytes g.cells = written_state_spells g.job bytes g.cells (fits_state g is_gather) is in
     subst (SpellsState job bytes) held.cells_are (subst (λ (j : JobSpec). SpellsState j bytes g.cells) held.job_is own)
 
 pub restored_as : (job copy : JobSpec) (g : GatherSpec) (bytes : Vec ℕ Global) (lent : List ℕ) (saved : Option (Vec ℕ Global)) (answers : Answers) → IsJob job → copy ≡ job → g.job ≡ copy

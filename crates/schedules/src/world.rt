@@ -44,7 +44,7 @@ fn nothing_saved(alloc: Global, n: usize) -> Result<Vec<Option<Vec<u8>>>, AllocE
     Ok(saved)
 }
 
-// The one spelling of what a coordinator holds.
+// What a coordinator holds, as it is spelled in the newest format.
 fn spelled(alloc: Global, gather: &Gather) -> Result<Vec<u8>, AllocError>
     ensures { IfOk result (λ bytes. (job : JobSpec) (answers : Answers)
         → Holds job gather.now answers

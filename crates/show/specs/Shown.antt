@@ -3,24 +3,32 @@ use Rattle.std.specs.Prelude.{◌≡◌, ℕ, List, [], ◌∷◌, Option, None,
 use Rattle.std.specs.List.{starts_with}
 use Rattle.fragment_file.specs.CutFile.{CutFileSpec, IsCutFileOf}
 use Rattle.fragment_file.specs.Fragment.{FragmentSpec, IsFileOf}
+use Rattle.answer_fields.specs.declared.format.Content.TheVariants as of
+use Rattle.answer_fields.specs.declared.format.Format.{Format}
+use Rattle.answer_fields.specs.Format.{format_in}
 use Rattle.show.specs.declared.file_kind.FileKind.{FileKind}
 use Rattle.show.specs.declared.file_kind.FileKind.TheVariants as kind
 
--- `XCF1`, `XCL1`, `XGA1`, `XGS1` and `XGJ1`
+-- an answer or a state, by the formats as which the bytes begin
+abbrev pub spelled_in : Option Format → Option Format → Option FileKind
+spelled_in (Some f) state = Some (kind.Answer f)
+spelled_in None (Some f) = Some (kind.State f)
+spelled_in None None = None
+
+-- `XCF1`, `XCL1` and `XGJ1`, and what answers and states begin with
 abbrev pub kind_of : List ℕ → Option FileKind
 kind_of bytes =
     if starts_with nat_eq bytes (88 ∷ 67 ∷ 70 ∷ 49 ∷ []) then Some kind.Table else
     if starts_with nat_eq bytes (88 ∷ 67 ∷ 76 ∷ 49 ∷ []) then Some kind.Cut else
-    if starts_with nat_eq bytes (88 ∷ 71 ∷ 65 ∷ 49 ∷ []) then Some kind.Answer else
-    if starts_with nat_eq bytes (88 ∷ 71 ∷ 83 ∷ 49 ∷ []) then Some kind.State else
-    if starts_with nat_eq bytes (88 ∷ 71 ∷ 74 ∷ 49 ∷ []) then Some kind.Journal else None
+    if starts_with nat_eq bytes (88 ∷ 71 ∷ 74 ∷ 49 ∷ []) then Some kind.Journal else
+    spelled_in (format_in of.Answer bytes) (format_in of.State bytes)
 
 -- what is known of a file of this kind: one of a table or of a cut is spelled as such
 abbrev pub IsTaken : FileKind → List ℕ → Type 0
 IsTaken kind.Table bytes = (f : FragmentSpec) × IsFileOf bytes f
 IsTaken kind.Cut bytes = (f : CutFileSpec) × IsCutFileOf bytes f
-IsTaken kind.Answer bytes = ⊤
-IsTaken kind.State bytes = ⊤
+IsTaken (kind.Answer f) bytes = ⊤
+IsTaken (kind.State f) bytes = ⊤
 IsTaken kind.Journal bytes = ⊤
 
 -- bytes that begin as one of the files, and are taken as such

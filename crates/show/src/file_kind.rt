@@ -2,14 +2,16 @@
 ghost use Rattle.std.specs.Prelude.{◌≡◌};
 ghost use Rattle.show.specs.Shown.{kind_of};
 
+use partial_codec::{Content, Format, format_in};
+
 /// The files that the program writes.
 #[derive(Clone, Copy)]
 pub enum FileKind {
     /// Of a fragment or a dimension.
     Table,
     Cut,
-    Answer,
-    State,
+    Answer(Format),
+    State(Format),
     Journal,
 }
 
@@ -23,14 +25,14 @@ pub fn kind_of(bytes: &[u8]) -> Option<FileKind>
     if bytes.starts_with(b"XCL1") {
         return Some(FileKind::Cut);
     }
-    if bytes.starts_with(b"XGA1") {
-        return Some(FileKind::Answer);
-    }
-    if bytes.starts_with(b"XGS1") {
-        return Some(FileKind::State);
-    }
     if bytes.starts_with(b"XGJ1") {
         return Some(FileKind::Journal);
     }
-    None
+    if let Some(format) = format_in(Content::Answer, bytes) {
+        return Some(FileKind::Answer(format));
+    }
+    match format_in(Content::State, bytes) {
+        Some(format) => Some(FileKind::State(format)),
+        None => None,
+    }
 }

@@ -57,8 +57,8 @@ fn show_parts(
     match kind {
         FileKind::Table => show_table_file(alloc, &mut cursor, size, out),
         FileKind::Cut => show_cut_file(&mut cursor, size, out),
-        FileKind::Answer => show_answer(alloc, &mut cursor, size, detail, out),
-        FileKind::State => show_state(alloc, &mut cursor, size, detail, out),
+        FileKind::Answer(format) => show_answer(alloc, &mut cursor, format, size, detail, out),
+        FileKind::State(format) => show_state(alloc, &mut cursor, format, size, detail, out),
         FileKind::Journal => show_journal(alloc, &mut cursor, size, detail, out),
     }
 }
@@ -126,8 +126,8 @@ fn judge(alloc: Global, kind: FileKind, bytes: &[u8]) -> Result<(), Stop>
     match kind {
         FileKind::Table => judge_table(alloc, bytes),
         FileKind::Cut => judge_cut(alloc, bytes),
-        FileKind::Answer => Ok(()),
-        FileKind::State => Ok(()),
+        FileKind::Answer(_) => Ok(()),
+        FileKind::State(_) => Ok(()),
         FileKind::Journal => Ok(()),
     }
 }
@@ -150,7 +150,7 @@ fn put_line<E: Write>(kind: FileKind, wrong: Wrong, path: &str, err: &mut E) -> 
     match kind {
         FileKind::Table => put_table_line(wrong, err),
         FileKind::Cut => writeln!(err, "xcols: file {number}"),
-        FileKind::Answer | FileKind::State => writeln!(err, "xcols: gather {number} {path}"),
+        FileKind::Answer(_) | FileKind::State(_) => writeln!(err, "xcols: gather {number} {path}"),
         FileKind::Journal => writeln!(err, "xcols: journal 14"),
     }
 }

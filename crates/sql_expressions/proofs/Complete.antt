@@ -23,7 +23,7 @@ use Rattle.sql_syntax.specs.declared.strength.Level.TheVariants as level
 use Rattle.sql_syntax.specs.declared.strength.Operator.{Operator}
 use Rattle.sql_syntax.specs.declared.strength.Operator.TheVariants as operator
 use Rattle.sql_syntax.specs.Strength.{next, rank, level_of, token_of, node_of, compares}
-use Rattle.sql_syntax.specs.Phrases.{word, mark, not_if, bracketed, aggregate_word, below_zero, undoubled, heads_integer, Spells, as_next, joined, negated, tested, minus, integer, negative, text, column, column_of, rows, aggregated, first_of, chosen, in_brackets, Tests, compared, between, among, like, is_null, SpellsList, last, more, SpellsArms, last_arm, more_arms, SpellsElse, nothing, null, otherwise, open_in, open_in_test, open_in_list, open_in_arms, open_in_else}
+use Rattle.sql_syntax.specs.Phrases.{word, mark, not_if, distinct_if, bracketed, aggregate_word, is_distinct, below_zero, undoubled, heads_integer, Spells, as_next, joined, negated, tested, minus, integer, negative, text, column, column_of, rows, aggregated, first_of, chosen, in_brackets, Tests, compared, between, among, like, is_null, SpellsList, last, more, SpellsArms, last_arm, more_arms, SpellsElse, nothing, null, otherwise, open_in, open_in_test, open_in_list, open_in_arms, open_in_else}
 use Rattle.sql_syntax.specs.CanonicalTokens.{depth, deepest, parts_depth}
 use Rattle.sql_expressions.specs.declared.parsed.Parsed.{Parsed}
 use Rattle.sql_expressions.specs.Rules as rule
@@ -250,7 +250,9 @@ begins_with l t ts h = record { first = t; others = ts; are = refl; opened = h }
 
 aggregate_opens : (k : Aggregate) → 7 < opens (word (aggregate_word k))
 aggregate_opens aggregate.Count = omega arith
+aggregate_opens aggregate.CountDistinct = omega arith
 aggregate_opens aggregate.Sum = omega arith
+aggregate_opens aggregate.SumDistinct = omega arith
 aggregate_opens aggregate.Min = omega arith
 aggregate_opens aggregate.Max = omega arith
 aggregate_opens aggregate.Average = omega arith
@@ -424,33 +426,36 @@ closed_reads : (most n : ℕ) (ts : List Terminal) (e : Expr) (rest : List Termi
     → rule.before_of (is_sign sign.Close) (inner_at most n) ((ts ++ mark sign.Close ∷ []) ++ rest) ≡ Some (whole e, rest)
 closed_reads most n ts e rest reads = ap (rule.before_of (is_sign sign.Close) (inner_at most n)) (append_assoc ts (mark sign.Close ∷ []) rest) ∙ (rw reads refl)
 
-aggregate_first : (most left : ℕ) (inner : Level → Reader) (k : Aggregate) (us : List Terminal) → rule.primary_of most left inner (word (aggregate_word k) ∷ us) ≡ rule.aggregate_at most left inner k us
-aggregate_first most left inner aggregate.Count us = refl
-aggregate_first most left inner aggregate.Sum us = refl
-aggregate_first most left inner aggregate.Min us = refl
-aggregate_first most left inner aggregate.Max us = refl
-aggregate_first most left inner aggregate.Average us = refl
+-- an aggregate is read where its argument is
+argument_first : (most left : ℕ) (inner : Level → Reader) (k : Aggregate) (us : List Terminal) (x : Option (Parsed × List Terminal)) → behind (is_sign sign.Star) us ≡ None → behind (is_keyword keyword.Distinct) us ≡ None
+    → rule.argument_of most left inner k us ≡ x → rule.primary_of most left inner (word (aggregate_word k) ∷ mark sign.Open ∷ distinct_if (is_distinct k) ++ us) ≡ x
+argument_first most left inner aggregate.Count us x star distinct reads = rw (star, distinct) reads
+argument_first most left inner aggregate.CountDistinct us x star distinct reads = reads
+argument_first most left inner aggregate.Sum us x star distinct reads = rw distinct reads
+argument_first most left inner aggregate.SumDistinct us x star distinct reads = reads
+argument_first most left inner aggregate.Min us x star distinct reads = reads
+argument_first most left inner aggregate.Max us x star distinct reads = reads
+argument_first most left inner aggregate.Average us x star distinct reads = reads
 
-no_star : (k : Aggregate) (us : List Terminal) → behind (is_sign sign.Star) us ≡ None → rule.behind_star k us ≡ None
-no_star aggregate.Count us h = h
-no_star aggregate.Sum us h = refl
-no_star aggregate.Min us h = refl
-no_star aggregate.Max us h = refl
-no_star aggregate.Average us h = refl
+distinct_parts : (distinct : Bool) (ts rest : List Terminal) → ((distinct_if distinct ++ ts) ++ mark sign.Close ∷ []) ++ rest ≡ distinct_if distinct ++ ((ts ++ mark sign.Close ∷ []) ++ rest)
+distinct_parts true ts rest = refl
+distinct_parts false ts rest = refl
 
 aggregate_reads : (most n : ℕ) (k : Aggregate) (ts : List Terminal) (e : Expr) (rest : List Terminal) → Begins level.Disjunction ts → inner_at most n level.Disjunction (ts ++ mark sign.Close ∷ rest) ≡ Some (whole e, mark sign.Close ∷ rest)
-    → depth (expr.Aggregate k e) ≤ most → Read most n level.Primary (word (aggregate_word k) ∷ bracketed ts) (expr.Aggregate k e) rest
+    → depth (expr.Aggregate k e) ≤ most → Read most n level.Primary (word (aggregate_word k) ∷ bracketed (distinct_if (is_distinct k) ++ ts)) (expr.Aggregate k e) rest
 aggregate_reads most n k ts e rest b reads h =
     let us : List Terminal = (ts ++ mark sign.Close ∷ []) ++ rest in
     let front : Begins level.Disjunction us = with_more level.Disjunction (ts ++ mark sign.Close ∷ []) rest (with_more level.Disjunction ts (mark sign.Close ∷ []) b) in
-    let star : rule.behind_star k us ≡ None = no_star k us (no_first_sign sign.Star level.Disjunction us front (omega arith)) in
-    let argument : rule.before_of (is_sign sign.Close) (inner_at most n) us ≡ Some (whole e, rest) = closed_reads most n ts e rest reads in
+    let star : behind (is_sign sign.Star) us ≡ None = no_first_sign sign.Star level.Disjunction us front (omega arith) in
+    let distinct : behind (is_keyword keyword.Distinct) us ≡ None = no_first keyword.Distinct level.Disjunction us front (omega arith) in
+    let closed : rule.before_of (is_sign sign.Close) (inner_at most n) us ≡ Some (whole e, rest) = closed_reads most n ts e rest reads in
     let made : node most (depth e) (expr.Aggregate k e) ≡ Some (whole (expr.Aggregate k e)) = node_is most (depth e) (expr.Aggregate k e) (depth_aggregate k e) h in
-    aggregate_first most n (inner_at most n) k (mark sign.Open ∷ us) ∙ chosen_argument most n k us e rest star argument made
+    ap (λ (v : List Terminal). rule.primary_of most n (inner_at most n) (word (aggregate_word k) ∷ mark sign.Open ∷ v)) (distinct_parts (is_distinct k) ts rest)
+    ∙ argument_first most n (inner_at most n) k us _ star distinct (argument_made most n k us e rest closed made)
   where
-    chosen_argument : (most n : ℕ) (k : Aggregate) (us : List Terminal) (e : Expr) (rest : List Terminal) → rule.behind_star k us ≡ None → rule.before_of (is_sign sign.Close) (inner_at most n) us ≡ Some (whole e, rest)
-        → node most (depth e) (expr.Aggregate k e) ≡ Some (whole (expr.Aggregate k e)) → rule.aggregate_at most n (inner_at most n) k (mark sign.Open ∷ us) ≡ Some (whole (expr.Aggregate k e), rest)
-    chosen_argument most n k us e rest star argument made = rw star (rw argument (rw made refl))
+    argument_made : (most n : ℕ) (k : Aggregate) (us : List Terminal) (e : Expr) (rest : List Terminal) → rule.before_of (is_sign sign.Close) (inner_at most n) us ≡ Some (whole e, rest)
+        → node most (depth e) (expr.Aggregate k e) ≡ Some (whole (expr.Aggregate k e)) → rule.argument_of most n (inner_at most n) k us ≡ Some (whole (expr.Aggregate k e), rest)
+    argument_made most n k us e rest closed made = rw (closed, made) refl
 
 -- ---- tests behind a subject
 

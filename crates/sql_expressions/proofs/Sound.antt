@@ -23,7 +23,7 @@ use Rattle.sql_syntax.specs.declared.strength.Level.TheVariants as level
 use Rattle.sql_syntax.specs.declared.strength.Operator.{Operator}
 use Rattle.sql_syntax.specs.declared.strength.Operator.TheVariants as operator
 use Rattle.sql_syntax.specs.Strength.{next, level_of, token_of, node_of, compares}
-use Rattle.sql_syntax.specs.Phrases.{word, mark, not_if, bracketed, aggregate_word, below_zero, undoubled, heads_integer, Spells, as_next, joined, negated, tested, minus, integer, negative, text, column, column_of, rows, aggregated, first_of, chosen, in_brackets, Tests, compared, between, among, like, is_null, SpellsList, last, more, SpellsArms, last_arm, more_arms, SpellsElse, nothing, null, otherwise, open_in, open_in_test, open_in_list, open_in_arms, open_in_else}
+use Rattle.sql_syntax.specs.Phrases.{word, mark, not_if, distinct_if, bracketed, aggregate_word, is_distinct, below_zero, undoubled, heads_integer, Spells, as_next, joined, negated, tested, minus, integer, negative, text, column, column_of, rows, aggregated, first_of, chosen, in_brackets, Tests, compared, between, among, like, is_null, SpellsList, last, more, SpellsArms, last_arm, more_arms, SpellsElse, nothing, null, otherwise, open_in, open_in_test, open_in_list, open_in_arms, open_in_else}
 use Rattle.sql_syntax.specs.CanonicalTokens.{depth, deepest}
 use Rattle.sql_expressions.specs.declared.parsed.Parsed.{Parsed}
 use Rattle.sql_expressions.specs.Rules as rule
@@ -492,7 +492,9 @@ brackets_sound n inner h ts x e =
 
 star_taken : (k : Aggregate) (us vs : List Terminal) → rule.behind_star k us ≡ Some vs → (k ≡ aggregate.Count) × (us ≡ mark sign.Star ∷ vs)
 star_taken aggregate.Count us vs e = (refl, mark_taken sign.Star us vs e)
+star_taken aggregate.CountDistinct us vs e = absurd cc
 star_taken aggregate.Sum us vs e = absurd cc
+star_taken aggregate.SumDistinct us vs e = absurd cc
 star_taken aggregate.Min us vs e = absurd cc
 star_taken aggregate.Max us vs e = absurd cc
 star_taken aggregate.Average us vs e = absurd cc
@@ -515,25 +517,61 @@ rows_sound n ts us vs k x before is star e =
     if_left : ℕ → List Terminal → Option (Parsed × List Terminal)
     if_left left rest = cond (nat_lt 0 left) (Some (rule.leaf expr.CountRows, rest)) None
 
-argument_sound : (n : ℕ) (inner : Level → Reader) → IsInner n inner → (ts us : List Terminal) (k : Aggregate) (x : Parsed × List Terminal) → ts ≡ word (aggregate_word k) ∷ mark sign.Open ∷ us → rule.argument_of 128 n inner k us ≡ Some x → Took 0 n level.Primary ts x
+-- DISTINCT where an aggregate has it, and its argument
+distinct_parts : (distinct : Bool) (us front rest : List Terminal) → us ≡ front ++ mark sign.Close ∷ rest → distinct_if distinct ++ us ≡ (distinct_if distinct ++ front) ++ mark sign.Close ∷ rest
+distinct_parts true us front rest closed = ap (λ (v : List Terminal). word keyword.Distinct ∷ v) closed
+distinct_parts false us front rest closed = closed
+
+argument_sound : (n : ℕ) (inner : Level → Reader) → IsInner n inner → (ts us : List Terminal) (k : Aggregate) (x : Parsed × List Terminal) → ts ≡ word (aggregate_word k) ∷ mark sign.Open ∷ distinct_if (is_distinct k) ++ us
+    → rule.argument_of 128 n inner k us ≡ Some x → Took 0 n level.Primary ts x
 argument_sound n inner h ts us k x before e =
     let r = bind_some (rule.before_of (is_sign sign.Close) inner us) (λ (a : Parsed × List Terminal). then_left (node 128 a.0.depth (expr.Aggregate k a.0.expr)) a.1) x e in
     let t = closed_sound n inner h us r.0 r.1 in
     let opened : open_in t.spells + 1 ≤ n = t.opens in
     let few : suc (open_in t.spells) ≤ n = omega arith in
-    let parts : ts ≡ (word (aggregate_word k) ∷ bracketed t.front) ++ r.0.1 = before ∙ ap (λ (v : List Terminal). word (aggregate_word k) ∷ v) (bracket_parts (mark sign.Open ∷ us) us t.front r.0.1 refl t.parts) in
+    let front : List Terminal = distinct_if (is_distinct k) ++ t.front in
+    let inside : List Terminal = distinct_if (is_distinct k) ++ us in
+    let brackets : mark sign.Open ∷ inside ≡ bracketed front ++ r.0.1 = bracket_parts (mark sign.Open ∷ inside) inside front r.0.1 refl (distinct_parts (is_distinct k) us t.front r.0.1 t.parts) in
+    let parts : ts ≡ (word (aggregate_word k) ∷ bracketed front) ++ r.0.1 = before ∙ ap (λ (v : List Terminal). word (aggregate_word k) ∷ v) brackets in
     let deep : depth (expr.Aggregate k r.0.0.expr) ≡ suc r.0.0.depth = depth_aggregate k r.0.0.expr ∙ ap suc (sym t.deep) in
-    made n r.0.0.depth level.Primary ts (word (aggregate_word k) ∷ bracketed t.front) r.0.1 (expr.Aggregate k r.0.0.expr) (aggregated k t.spells) x r.2 parts few deep
+    made n r.0.0.depth level.Primary ts (word (aggregate_word k) ∷ bracketed front) r.0.1 (expr.Aggregate k r.0.0.expr) (aggregated k t.spells) x r.2 parts few deep
 
-aggregate_turn : (n : ℕ) (inner : Level → Reader) → IsInner n inner → (ts us : List Terminal) (k : Aggregate) (x : Parsed × List Terminal) → ts ≡ word (aggregate_word k) ∷ mark sign.Open ∷ us
-    → ((vs : List Terminal) × (rule.behind_star k us ≡ Some vs) × (rule.rows_of n vs ≡ Some x)) ⊎ ((rule.behind_star k us ≡ None) × (rule.argument_of 128 n inner k us ≡ Some x)) → Took 0 n level.Primary ts x
-aggregate_turn n inner h ts us k x before (inl p) = let s = star_taken k us p.0 p.1 in rows_sound n ts us p.0 k x before s.0 s.1 p.2
-aggregate_turn n inner h ts us k x before (inr p) = argument_sound n inner h ts us k x before p.1
+-- the tokens behind DISTINCT
+distinct_is : (k : Aggregate) → is_distinct k ≡ true → (us : List Terminal) (d : Aggregate × List Terminal) → (behind (is_keyword keyword.Distinct) us >>= (λ (rest : List Terminal). Some (k, rest))) ≡ Some d
+    → (aggregate_word k ≡ aggregate_word d.0) × (us ≡ distinct_if (is_distinct d.0) ++ d.1)
+distinct_is k distinct us d e =
+    let r = bind_some (behind (is_keyword keyword.Distinct) us) (λ (rest : List Terminal). Some (k, rest)) d e in
+    let same : ◌≡◌ {A = Aggregate × List Terminal} (k, r.0) d = cc r.2 in
+    let front : us ≡ distinct_if (is_distinct k) ++ r.0 = word_taken keyword.Distinct us r.0 r.1 ∙ ap (λ b. distinct_if b ++ r.0) (sym distinct) in
+    subst (λ (y : Aggregate × List Terminal). (aggregate_word k ≡ aggregate_word y.0) × (us ≡ distinct_if (is_distinct y.0) ++ y.1)) same (refl, front)
 
-aggregate_sound : (n : ℕ) (inner : Level → Reader) → IsInner n inner → (k : Aggregate) (ts : List Terminal) (x : Parsed × List Terminal) → rule.aggregate_at 128 n inner k ts ≡ Some x → Took 0 n level.Primary (word (aggregate_word k) ∷ ts) x
-aggregate_sound n inner h k ts x e =
-    let r = bind_some (behind (is_sign sign.Open) ts) (λ (us : List Terminal). choose (rule.behind_star k us) (rule.rows_of n) (rule.argument_of 128 n inner k us)) x e in
-    aggregate_turn n inner h (word (aggregate_word k) ∷ ts) r.0 k x (ap (λ (v : List Terminal). word (aggregate_word k) ∷ v) (mark_taken sign.Open ts r.0 r.1)) (choose_some (rule.behind_star k r.0) (rule.rows_of n) (rule.argument_of 128 n inner k r.0) x r.2)
+distinct_taken : (k : Aggregate) (us : List Terminal) (d : Aggregate × List Terminal) → rule.behind_distinct k us ≡ Some d → (aggregate_word k ≡ aggregate_word d.0) × (us ≡ distinct_if (is_distinct d.0) ++ d.1)
+distinct_taken aggregate.Count us d e = distinct_is aggregate.CountDistinct refl us d e
+distinct_taken aggregate.Sum us d e = distinct_is aggregate.SumDistinct refl us d e
+distinct_taken aggregate.CountDistinct us d e = absurd cc
+distinct_taken aggregate.SumDistinct us d e = absurd cc
+distinct_taken aggregate.Min us d e = absurd cc
+distinct_taken aggregate.Max us d e = absurd cc
+distinct_taken aggregate.Average us d e = absurd cc
+
+inside_sound : (n : ℕ) (inner : Level → Reader) → IsInner n inner → (ts us : List Terminal) (k : Aggregate) (x : Parsed × List Terminal) → is_distinct k ≡ false → ts ≡ word (aggregate_word k) ∷ mark sign.Open ∷ us
+    → ((d : Aggregate × List Terminal) × (rule.behind_distinct k us ≡ Some d) × (rule.argument_of 128 n inner d.0 d.1 ≡ Some x)) ⊎ ((rule.behind_distinct k us ≡ None) × (rule.argument_of 128 n inner k us ≡ Some x)) → Took 0 n level.Primary ts x
+inside_sound n inner h ts us k x plain before (inl p) =
+    let s = distinct_taken k us p.0 p.1 in
+    argument_sound n inner h ts p.0.1 p.0.0 x (before ∙ (λ i. word (s.0 i) ∷ mark sign.Open ∷ s.1 i)) p.2
+inside_sound n inner h ts us k x plain before (inr p) =
+    argument_sound n inner h ts us k x (before ∙ ap (λ d. word (aggregate_word k) ∷ mark sign.Open ∷ distinct_if d ++ us) (sym plain)) p.1
+
+aggregate_turn : (n : ℕ) (inner : Level → Reader) → IsInner n inner → (ts us : List Terminal) (k : Aggregate) (x : Parsed × List Terminal) → is_distinct k ≡ false → ts ≡ word (aggregate_word k) ∷ mark sign.Open ∷ us
+    → ((vs : List Terminal) × (rule.behind_star k us ≡ Some vs) × (rule.rows_of n vs ≡ Some x)) ⊎ ((rule.behind_star k us ≡ None) × (rule.inside_of 128 n inner k us ≡ Some x)) → Took 0 n level.Primary ts x
+aggregate_turn n inner h ts us k x plain before (inl p) = let s = star_taken k us p.0 p.1 in rows_sound n ts us p.0 k x before s.0 s.1 p.2
+aggregate_turn n inner h ts us k x plain before (inr p) =
+    inside_sound n inner h ts us k x plain before (choose_some (rule.behind_distinct k us) (λ (d : Aggregate × List Terminal). rule.argument_of 128 n inner d.0 d.1) (rule.argument_of 128 n inner k us) x p.1)
+
+aggregate_sound : (n : ℕ) (inner : Level → Reader) → IsInner n inner → (k : Aggregate) → is_distinct k ≡ false → (ts : List Terminal) (x : Parsed × List Terminal) → rule.aggregate_at 128 n inner k ts ≡ Some x → Took 0 n level.Primary (word (aggregate_word k) ∷ ts) x
+aggregate_sound n inner h k plain ts x e =
+    let r = bind_some (behind (is_sign sign.Open) ts) (λ (us : List Terminal). choose (rule.behind_star k us) (rule.rows_of n) (rule.inside_of 128 n inner k us)) x e in
+    aggregate_turn n inner h (word (aggregate_word k) ∷ ts) r.0 k x plain (ap (λ (v : List Terminal). word (aggregate_word k) ∷ v) (mark_taken sign.Open ts r.0 r.1)) (choose_some (rule.behind_star k r.0) (rule.rows_of n) (rule.inside_of 128 n inner k r.0) x r.2)
 
 coalesce_sound : (n : ℕ) (inner : Level → Reader) → IsInner n inner → (ts : List Terminal) (x : Parsed × List Terminal) → rule.coalesce_of 128 n inner ts ≡ Some x → Took 0 n level.Primary (word keyword.Coalesce ∷ ts) x
 coalesce_sound n inner h ts x e =
@@ -547,11 +585,11 @@ coalesce_sound n inner h ts x e =
 call_sound : (n : ℕ) (inner : Level → Reader) → IsInner n inner → (k : Keyword) (ts : List Terminal) (x : Parsed × List Terminal) → rule.call_of 128 n inner k ts ≡ Some x → Took 0 n level.Primary (word k ∷ ts) x
 call_sound n inner h keyword.Case ts x e = case_sound n inner h ts x e
 call_sound n inner h keyword.Coalesce ts x e = coalesce_sound n inner h ts x e
-call_sound n inner h keyword.Count ts x e = aggregate_sound n inner h aggregate.Count ts x e
-call_sound n inner h keyword.Sum ts x e = aggregate_sound n inner h aggregate.Sum ts x e
-call_sound n inner h keyword.Min ts x e = aggregate_sound n inner h aggregate.Min ts x e
-call_sound n inner h keyword.Max ts x e = aggregate_sound n inner h aggregate.Max ts x e
-call_sound n inner h keyword.Avg ts x e = aggregate_sound n inner h aggregate.Average ts x e
+call_sound n inner h keyword.Count ts x e = aggregate_sound n inner h aggregate.Count refl ts x e
+call_sound n inner h keyword.Sum ts x e = aggregate_sound n inner h aggregate.Sum refl ts x e
+call_sound n inner h keyword.Min ts x e = aggregate_sound n inner h aggregate.Min refl ts x e
+call_sound n inner h keyword.Max ts x e = aggregate_sound n inner h aggregate.Max refl ts x e
+call_sound n inner h keyword.Avg ts x e = aggregate_sound n inner h aggregate.Average refl ts x e
 call_sound n inner h k ts x e = absurd cc
 
 -- ---- texts and columns

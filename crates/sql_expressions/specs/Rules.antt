@@ -147,6 +147,12 @@ aggregate_of keyword.Max = Some aggregate.Max
 aggregate_of keyword.Avg = Some aggregate.Average
 aggregate_of _ = None
 
+-- the aggregate that DISTINCT makes of one
+abbrev pub distinct_of : Aggregate → Option Aggregate
+distinct_of aggregate.Count = Some aggregate.CountDistinct
+distinct_of aggregate.Sum = Some aggregate.SumDistinct
+distinct_of _ = None
+
 -- what a token is, and the tokens behind it
 abbrev pub first_is : {A : Type 0} → (Terminal → Option A) → List Terminal → Reads A
 first_is is [] = None
@@ -295,9 +301,17 @@ abbrev pub behind_star : Aggregate → List Terminal → Option (List Terminal)
 behind_star aggregate.Count ts = behind (is_sign sign.Star) ts
 behind_star k ts = None
 
+-- DISTINCT leads on, and makes another aggregate
+abbrev pub behind_distinct : Aggregate → List Terminal → Reads Aggregate
+behind_distinct k ts = distinct_of k >>= (λ d. behind (is_keyword keyword.Distinct) ts >>= (λ rest. Some (d, rest)))
+
+-- in an aggregate's brackets
+abbrev pub inside_of : ℕ → ℕ → (Level → Reader) → Aggregate → Reader
+inside_of most left inner k ts = choose (behind_distinct k ts) (λ d. argument_of most left inner d.0 d.1) (argument_of most left inner k ts)
+
 -- an aggregate, behind its name
 abbrev pub aggregate_at : ℕ → ℕ → (Level → Reader) → Aggregate → Reader
-aggregate_at most left inner k ts = behind (is_sign sign.Open) ts >>= (λ us. choose (behind_star k us) (rows_of left) (argument_of most left inner k us))
+aggregate_at most left inner k ts = behind (is_sign sign.Open) ts >>= (λ us. choose (behind_star k us) (rows_of left) (inside_of most left inner k us))
 
 -- COALESCE, behind that word
 abbrev pub coalesce_of : ℕ → ℕ → (Level → Reader) → Reader

@@ -2,7 +2,7 @@
 //!
 //! `left` says how many may still be opened: brackets, CASE, NOT and minus. It bounds how deep
 //! these functions call one another, as `MAX_DEPTH` bounds how deep a tree they build.
-ghost use Rattle.sql_expressions.specs.Rules.{Cases, Gives, Listed, aggregate_at, arm_at, arm_of, arms_at, before_of, behind_star, bounds_of, bracketed_list, case_of, chain_of, closed_list_of, column_at, column_of, else_of, entry_of, factor_of, high_of, inner_at, is_keyword, is_of, is_sign, like_test, list_at, literal_at, minus_of, named_test, negation_of, null_of, pattern_at, predicate_of, primary_of, rows_of, rule_at, terms, test_of, then_of, without_value};
+ghost use Rattle.sql_expressions.specs.Rules.{Cases, Gives, Listed, aggregate_at, argument_of, arm_at, arm_of, arms_at, before_of, behind_distinct, behind_star, bounds_of, bracketed_list, case_of, chain_of, closed_list_of, column_at, column_of, else_of, entry_of, factor_of, high_of, inner_at, is_keyword, is_of, is_sign, like_test, list_at, literal_at, minus_of, named_test, negation_of, null_of, pattern_at, predicate_of, primary_of, rows_of, rule_at, terms, test_of, then_of, without_value};
 ghost use Rattle.sql_syntax.specs.Strength.{rank};
 ghost use Rattle.sql_syntax.specs.declared.keyword.Keyword.TheVariants as keyword;
 ghost use Rattle.sql_syntax.specs.declared.token.Sign.TheVariants as sign;
@@ -14,8 +14,8 @@ use crate::parsed::{
 };
 use crate::stop::Stop;
 use crate::taking::{
-    aggregate_of, begins_test, if_comparison, if_integer, if_keyword, if_operator, if_sign, name,
-    past_keyword, past_sign, stop_at, text,
+    aggregate_of, begins_test, distinct_of, if_comparison, if_integer, if_keyword, if_operator,
+    if_sign, name, past_keyword, past_sign, stop_at, text,
 };
 use meaning::{Sequence, Text};
 use sql_syntax::{Aggregate, Arm, Expr, Keyword, Level, Lexeme, Sign, Token};
@@ -462,8 +462,40 @@ fn aggregate_behind<'a, 'b>(
     if let Some(rest) = if_star(kind, rest) {
         return rows(rest, left);
     }
-    let (argument, rest) = closed(alloc, rest, left)?;
+    match if_distinct(kind, rest) {
+        Some((distinct, rest)) => argument(alloc, distinct, rest, left),
+        None => argument(alloc, kind, rest, left),
+    }
+}
+
+/// An aggregate, from its argument on.
+#[cycle(rules)]
+fn argument<'a, 'b>(
+    alloc: Global,
+    kind: Aggregate,
+    lexemes: &'a [Lexeme<'b>],
+    left: u16,
+) -> Result<(Parsed, &'a [Lexeme<'b>]), Stop>
+    ensures reads { Gives (λ x. (x.0, terms x.1.now)) result
+        (argument_of 128 left (inner_at 128 left) kind (terms lexemes.now)) }
+    ensures shorter { IfOk result (λ x. length x.1.now < length lexemes.now) }
+{
+    let (argument, rest) = closed(alloc, lexemes, left)?;
     Ok((aggregate(alloc, kind, argument)?, rest))
+}
+
+/// The aggregate that DISTINCT makes of one, and what stands behind it.
+fn if_distinct<'a, 'b>(
+    kind: Aggregate,
+    lexemes: &'a [Lexeme<'b>],
+) -> Option<(Aggregate, &'a [Lexeme<'b>])>
+    ensures reads { option_map (λ x. (x.0, terms x.1.now)) result
+        ≡ behind_distinct kind (terms lexemes.now) }
+    ensures shorter { IfSome result (λ x. length x.1.now < length lexemes.now) }
+{
+    let distinct = distinct_of(kind)?;
+    let rest = if_keyword(lexemes, Keyword::Distinct)?;
+    Some((distinct, rest))
 }
 
 /// What stands behind `*`, where that is the argument of COUNT.

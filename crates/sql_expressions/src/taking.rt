@@ -1,5 +1,5 @@
 //! Single tokens, taken from the front of those that are left.
-ghost use Rattle.sql_expressions.specs.Rules.{Gives, aggregate_of, begins_integer, begins_name, begins_other, begins_test, behind, comparison_of, digits_of, first_is, integer_at, is_keyword, is_sign, name_at, names_other, names_test, operator_of, terms, text_at};
+ghost use Rattle.sql_expressions.specs.Rules.{Gives, aggregate_of, begins_integer, begins_name, begins_other, begins_test, behind, comparison_of, digits_of, distinct_of, first_is, integer_at, is_keyword, is_sign, name_at, names_other, names_test, operator_of, terms, text_at};
 ghost use Rattle.sql_syntax.specs.Phrases.{undoubled};
 ghost use Rattle.sql_syntax.specs.Tokens.{terminal_of};
 ghost use Rattle.sql_syntax.specs.Words.{lower};
@@ -211,6 +211,17 @@ pub fn aggregate_of(keyword: Keyword) -> Option<Aggregate>
         Keyword::Min => Some(Aggregate::Min),
         Keyword::Max => Some(Aggregate::Max),
         Keyword::Avg => Some(Aggregate::Average),
+        _ => None,
+    }
+}
+
+/// The aggregate that DISTINCT makes of one.
+pub fn distinct_of(kind: Aggregate) -> Option<Aggregate>
+    ensures { result ≡ distinct_of kind }
+{
+    match kind {
+        Aggregate::Count => Some(Aggregate::CountDistinct),
+        Aggregate::Sum => Some(Aggregate::SumDistinct),
         _ => None,
     }
 }

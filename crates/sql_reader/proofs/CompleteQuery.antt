@@ -1,5 +1,5 @@
 -- A query that is spelled is read.
-use Rattle.std.proofs.Common.{◌≡◌, ℕ, zero, suc, ◌+◌, ◌<◌, ◌≤◌, true, false, cond, List, [], ◌∷◌, ◌++◌, length, map, Option, Some, None, refl, sym, ap, ◌∙◌, subst, arith, append_assoc, length-append}
+use Rattle.std.proofs.Common.{◌≡◌, ℕ, zero, suc, ◌+◌, ◌<◌, ◌≤◌, Bool, true, false, cond, List, [], ◌∷◌, ◌++◌, length, map, Option, Some, None, refl, sym, ap, ◌∙◌, subst, arith, append_assoc, length-append}
 use Rattle.std.specs.Prelude.{max}
 use Rattle.std.proofs.lemmas.Bool.{le-leb}
 use Rattle.std.proofs.lemmas.List.{append-nil}
@@ -22,14 +22,14 @@ use Rattle.sql_syntax.specs.declared.tree.Query.{Query}
 use Rattle.sql_syntax.specs.Tokens as terminal
 use Rattle.sql_syntax.specs.Tokens.{Terminal}
 use Rattle.sql_syntax.specs.declared.strength.Level.TheVariants as level
-use Rattle.sql_syntax.specs.Phrases.{word, mark, Spells, open_in}
+use Rattle.sql_syntax.specs.Phrases.{word, mark, distinct_if, Spells, open_in}
 use Rattle.sql_syntax.specs.CanonicalTokens.{depth, deepest}
 use Rattle.sql_syntax.specs.Queries.{SpellsAlias, none, bare, behind_as, SpellsTable, table, SpellsTarget, position, name, SpellsDirection, unsaid, ascending, descending, SpellsItems, last_item, more_items, SpellsJoin, join, inner_join, left_join, left_outer_join, SpellsOthers, no_others, behind_comma, behind_join, SpellsClause, no_clause, clause, SpellsGroups, no_groups, groups, SpellsKeys, last_key, more_keys, SpellsOrder, no_order, order, SpellsLimit, no_limit, limit, SpellsEnd, no_end, semicolon, SpellsQuery, open_in_query, option_depth, query_depth}
 use Rattle.sql_reader.specs.Rules as rule
 use Rattle.sql_expressions.specs.Rules as phrase
 use Rattle.sql_expressions.specs.Rules.{◌>>=◌, is_keyword, is_sign, behind, inner_at}
 use Rattle.sql_expressions.proofs.Ahead.{reach, reach_of, not_keyword, not_sign}
-use Rattle.sql_expressions.proofs.Complete.{whole, freely, complete, complete_list, list_reads, none_listed}
+use Rattle.sql_expressions.proofs.Complete.{opens, begins, whole, freely, complete, complete_list, list_reads, none_listed}
 use Rattle.sql_reader.proofs.Tables.{condition_is}
 
 -- ---- what may stand behind a part of a query
@@ -73,6 +73,7 @@ keyword_reach keyword.Case h = omega arith
 keyword_reach keyword.Coalesce h = omega arith
 keyword_reach keyword.Count h = omega arith
 keyword_reach keyword.Desc h = omega arith
+keyword_reach keyword.Distinct h = omega arith
 keyword_reach keyword.Else h = omega arith
 keyword_reach keyword.End h = omega arith
 keyword_reach keyword.From h = omega arith
@@ -442,9 +443,24 @@ from_of most n ts rest source c a b = rw (a, b) refl
 items_of : (most n : ℕ) (ts : List Terminal) (items : List Item) (rest : List Terminal) → Itemed most n ts items [] rest → rule.items_at (inner_at most n) [] (ts ++ rest) ≡ Some (items, rest)
 items_of most n ts items rest l = rw l.put (l.more_read (suc (length l.others)) (omega arith))
 
-query_of : (most n : ℕ) (ts rest : List Terminal) (items : List Item) (from : Source × (Option Expr × (List Expr × (Option Expr × rule.Tail)))) → rule.items_at (inner_at most n) [] ts ≡ Some (items, rest) → rule.from_at (inner_at most n) rest ≡ Some from
-    → rule.query_at (inner_at most n) (word keyword.Select ∷ ts) ≡ Some (rule.query_of_parts items from)
-query_of most n ts rest items from a b = rw (a, b) refl
+-- no expression begins with DISTINCT, and so no list of items
+not_distinct : {ts : List Terminal} {e : Expr} → Spells level.Disjunction ts e → (rest : List Terminal) → behind (is_keyword keyword.Distinct) (ts ++ rest) ≡ None
+not_distinct d rest =
+    let b = begins d in
+    let opened : 0 < opens b.first = b.opened in
+    ap (λ (x : List Terminal). behind (is_keyword keyword.Distinct) (x ++ rest)) b.are
+    ∙ ap (λ x. cond x (Some (b.others ++ rest)) None) (not_keyword keyword.Distinct b.first (λ e. let same : opens b.first ≡ opens (word keyword.Distinct) = ap opens e in omega arith))
+
+no_distinct : {ts : List Terminal} {items : List Item} {k : ℕ} → SpellsItems ts items k → (rest : List Terminal) → behind (is_keyword keyword.Distinct) (ts ++ rest) ≡ None
+no_distinct (last_item {ts = ts} {us = us} d a) rest = ap (behind (is_keyword keyword.Distinct)) (append_assoc ts us rest) ∙ not_distinct d (us ++ rest)
+no_distinct (more_items {ts = ts} {us = us} {vs = vs} d a ds) rest =
+    let behind_items : List Terminal = mark sign.Comma ∷ vs ++ rest in
+    ap (behind (is_keyword keyword.Distinct)) (append_assoc (ts ++ us) (mark sign.Comma ∷ vs) rest ∙ append_assoc ts us behind_items) ∙ not_distinct d (us ++ behind_items)
+
+query_of : (most n : ℕ) (distinct : Bool) (ts rest : List Terminal) (items : List Item) (from : Source × (Option Expr × (List Expr × (Option Expr × rule.Tail)))) → rule.items_at (inner_at most n) [] ts ≡ Some (items, rest) → rule.from_at (inner_at most n) rest ≡ Some from
+    → behind (is_keyword keyword.Distinct) ts ≡ None → rule.query_at (inner_at most n) (word keyword.Select ∷ distinct_if distinct ++ ts) ≡ Some (rule.query_of_parts distinct items from)
+query_of most n true ts rest items from a b plain = rw (a, b) refl
+query_of most n false ts rest items from a b plain = rw (plain, a, b) refl
 
 -- what spells a query is read, where so many may be opened and it may be so deep
 pub complete_query : {ts : List Terminal} {q : Query} (s : SpellsQuery ts q) (most n : ℕ) → suc (open_in_query s) ≤ n → query_depth q ≤ most → rule.query_at (inner_at most n) ts ≡ Some q
@@ -467,7 +483,9 @@ complete_query {ts} {q} s most n o h =
     (others_read s.others most n (suc (length (s.others_tokens ++ rest))) [] rest (omega arith) (omega arith) at_filter (omega arith)) in
     let from = from_of most n (word keyword.From ∷ s.first_tokens ++ (s.others_tokens ++ (s.filter_tokens ++ (s.groups_tokens ++ (s.having_tokens ++ (s.order_tokens ++ (s.limit_tokens ++ s.end_tokens))))))) (s.filter_tokens ++ (s.groups_tokens ++ (s.having_tokens ++ (s.order_tokens ++ (s.limit_tokens ++ s.end_tokens))))) q.source (q.filter, (q.group_by, (q.having, (q.order_by, q.limit)))) source conditions in
     let items = items_of most n s.items_tokens q.items (word keyword.From ∷ s.first_tokens ++ (s.others_tokens ++ (s.filter_tokens ++ (s.groups_tokens ++ (s.having_tokens ++ (s.order_tokens ++ (s.limit_tokens ++ s.end_tokens))))))) (items_read s.items most n [] (word keyword.From ∷ s.first_tokens ++ (s.others_tokens ++ rest)) (omega arith) (omega arith) (omega arith)) in
-    ap (rule.query_at (inner_at most n)) s.tokens ∙ query_of most n (s.items_tokens ++ (word keyword.From ∷ s.first_tokens ++ (s.others_tokens ++ (s.filter_tokens ++ (s.groups_tokens ++ (s.having_tokens ++ (s.order_tokens ++ (s.limit_tokens ++ s.end_tokens)))))))) (word keyword.From ∷ s.first_tokens ++ (s.others_tokens ++ (s.filter_tokens ++ (s.groups_tokens ++ (s.having_tokens ++ (s.order_tokens ++ (s.limit_tokens ++ s.end_tokens))))))) q.items (q.source, (q.filter, (q.group_by, (q.having, (q.order_by, q.limit))))) items from
+    ap (rule.query_at (inner_at most n)) s.tokens
+    ∙ query_of most n q.distinct (s.items_tokens ++ (word keyword.From ∷ s.first_tokens ++ (s.others_tokens ++ (s.filter_tokens ++ (s.groups_tokens ++ (s.having_tokens ++ (s.order_tokens ++ (s.limit_tokens ++ s.end_tokens)))))))) (word keyword.From ∷ s.first_tokens ++ (s.others_tokens ++ (s.filter_tokens ++ (s.groups_tokens ++ (s.having_tokens ++ (s.order_tokens ++ (s.limit_tokens ++ s.end_tokens))))))) q.items (q.source, (q.filter, (q.group_by, (q.having, (q.order_by, q.limit))))) items from
+    (no_distinct s.items (word keyword.From ∷ s.first_tokens ++ (s.others_tokens ++ (s.filter_tokens ++ (s.groups_tokens ++ (s.having_tokens ++ (s.order_tokens ++ (s.limit_tokens ++ s.end_tokens))))))))
 
 -- a list of tokens spells at most one query
 pub unique_query : {ts : List Terminal} {q r : Query} → SpellsQuery ts q → SpellsQuery ts r → q ≡ r

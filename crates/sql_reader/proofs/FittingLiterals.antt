@@ -28,7 +28,7 @@ use Rattle.sql_syntax.specs.declared.tree.Joined.{Joined}
 use Rattle.sql_syntax.specs.declared.tree.Query.{Query}
 use Rattle.sql_syntax.specs.Literals.{all_true, has_fitting_literals, arm_has_fitting_literals, has_only_fitting_literals}
 use Rattle.sql_syntax.specs.Strength.{token_of, node_of}
-use Rattle.sql_syntax.specs.Phrases.{word, mark, not_if, bracketed, below_zero, undoubled, Spells, as_next, joined, negated, tested, minus, integer, negative, text, column, column_of, rows, aggregated, first_of, chosen, in_brackets, Tests, compared, between, among, like, is_null, SpellsList, last, more, SpellsArms, last_arm, more_arms, SpellsElse, nothing, null, otherwise}
+use Rattle.sql_syntax.specs.Phrases.{word, mark, not_if, distinct_if, bracketed, is_distinct, below_zero, undoubled, Spells, as_next, joined, negated, tested, minus, integer, negative, text, column, column_of, rows, aggregated, first_of, chosen, in_brackets, Tests, compared, between, among, like, is_null, SpellsList, last, more, SpellsArms, last_arm, more_arms, SpellsElse, nothing, null, otherwise}
 use Rattle.sql_syntax.specs.Queries.{SpellsItems, last_item, more_items, SpellsOthers, no_others, behind_comma, behind_join, SpellsClause, no_clause, clause, SpellsGroups, no_groups, groups, SpellsQuery}
 use Rattle.sql_syntax.specs.Tokens.{Terminal}
 use Rattle.sql_syntax.proofs.Names.{IsProperBy}
@@ -150,7 +150,9 @@ mutual
   fits (column n) all = fits-Column None _
   fits (column_of t n) all = fits-Column (Some _) _
   fits rows all = fits-CountRows
-  fits (aggregated k {ts = ts} {e = e} d) all = fits-Aggregate k e ∙ fits d (within_brackets ts all.1)
+  fits (aggregated k {ts = ts} {e = e} d) all =
+      let inside = distinct_if (is_distinct k) in
+      fits-Aggregate k e ∙ fits d (split inside ts (within_brackets (inside ++ ts) all.1)).1
   fits (first_of {ts = ts} {es = es} ds) all = fits-Coalesce es ∙ list_fits ds (within_brackets ts all.1)
   fits (chosen {ts = ts} {us = us} {arms = arms} {otherwise = o} ds d) all =
       let s = split ts (us ++ word keyword.End ∷ []) all.1 in
@@ -224,7 +226,8 @@ groups_fit (groups {es = es} d) all = as_list es (list_fits d all.1.1)
 query_fits : {ts : List Terminal} {q : Query} → SpellsQuery ts q → All ts → has_only_fitting_literals q ≡ true
 query_fits {ts} {q} s proper =
     let all = subst All s.tokens proper in
-    let items = split s.items_tokens (word keyword.From ∷ s.first_tokens ++ (s.others_tokens ++ (s.filter_tokens ++ (s.groups_tokens ++ (s.having_tokens ++ (s.order_tokens ++ (s.limit_tokens ++ s.end_tokens))))))) all.1 in
+    let distinct = split (distinct_if q.distinct) (s.items_tokens ++ (word keyword.From ∷ s.first_tokens ++ (s.others_tokens ++ (s.filter_tokens ++ (s.groups_tokens ++ (s.having_tokens ++ (s.order_tokens ++ (s.limit_tokens ++ s.end_tokens)))))))) all.1 in
+    let items = split s.items_tokens (word keyword.From ∷ s.first_tokens ++ (s.others_tokens ++ (s.filter_tokens ++ (s.groups_tokens ++ (s.having_tokens ++ (s.order_tokens ++ (s.limit_tokens ++ s.end_tokens))))))) distinct.1 in
     let first = split s.first_tokens (s.others_tokens ++ (s.filter_tokens ++ (s.groups_tokens ++ (s.having_tokens ++ (s.order_tokens ++ (s.limit_tokens ++ s.end_tokens)))))) items.1.1 in
     let others = split s.others_tokens (s.filter_tokens ++ (s.groups_tokens ++ (s.having_tokens ++ (s.order_tokens ++ (s.limit_tokens ++ s.end_tokens))))) first.1 in
     let filter = split s.filter_tokens (s.groups_tokens ++ (s.having_tokens ++ (s.order_tokens ++ (s.limit_tokens ++ s.end_tokens)))) others.1 in

@@ -26,7 +26,7 @@ use Rattle.sql_syntax.specs.Tokens as terminal
 use Rattle.sql_syntax.specs.Tokens.{Terminal}
 use Rattle.sql_syntax.specs.declared.strength.Level.{Level}
 use Rattle.sql_syntax.specs.declared.strength.Level.TheVariants as level
-use Rattle.sql_syntax.specs.Phrases.{word, mark, Spells, open_in, open_in_list}
+use Rattle.sql_syntax.specs.Phrases.{word, mark, distinct_if, Spells, open_in, open_in_list}
 use Rattle.sql_syntax.specs.CanonicalTokens.{depth, deepest}
 use Rattle.sql_syntax.specs.Queries.{SpellsAlias, none, bare, behind_as, SpellsTable, table, SpellsTarget, position, name, SpellsDirection, unsaid, ascending, descending, SpellsItems, last_item, more_items, SpellsJoin, join, inner_join, left_join, left_outer_join, SpellsOthers, no_others, behind_comma, behind_join, SpellsClause, no_clause, clause, SpellsGroups, no_groups, groups, SpellsKeys, last_key, more_keys, SpellsOrder, no_order, order, SpellsLimit, no_limit, limit, SpellsEnd, no_end, semicolon, SpellsQuery, open_in_query, option_depth, query_depth}
 use Rattle.sql_expressions.specs.declared.parsed.Parsed.{Parsed}
@@ -664,8 +664,9 @@ pub record TookQuery (n : ℕ) (ts : List Terminal) (q : Query) : Type 0 where
   pub opens : open_in_query spells ≤ n
   pub bounded : query_depth q ≤ 128
 
-query_took : (n : ℕ) (ts us : List Terminal) (i : List Item × List Terminal) (from : Source × Conditions) → ts ≡ word keyword.Select ∷ us → TookItems n [] us i → TookFrom n i.1 from → TookQuery n ts (rule.query_of_parts i.0 from)
-query_took n ts us i from select t f =
+query_took : (n : ℕ) (ts us : List Terminal) (distinct : Bool) (i : List Item × List Terminal) (from : Source × Conditions) → ts ≡ word keyword.Select ∷ distinct_if distinct ++ us → TookItems n [] us i → TookFrom n i.1 from
+    → TookQuery n ts (rule.query_of_parts distinct i.0 from)
+query_took n ts us distinct i from select t f =
     let c = f.conditions in
     let g = c.others in
     let v = g.having in
@@ -690,7 +691,7 @@ query_took n ts us i from select t f =
     let at_filter : c.left ≡ g.front ++ (v.front ++ (tail.order_tokens ++ (tail.limit_tokens ++ tail.end_tokens))) = g.parts ∙ ap (λ (w : List Terminal). g.front ++ w) at_groups in
     let at_source : f.left ≡ c.front ++ (g.front ++ (v.front ++ (tail.order_tokens ++ (tail.limit_tokens ++ tail.end_tokens)))) = c.parts ∙ ap (λ (w : List Terminal). c.front ++ w) at_filter in
     let at_items : i.1 ≡ word keyword.From ∷ s.first_front ++ (s.front ++ (c.front ++ (g.front ++ (v.front ++ (tail.order_tokens ++ (tail.limit_tokens ++ tail.end_tokens)))))) = s.parts ∙ ap (λ (w : List Terminal). word keyword.From ∷ s.first_front ++ (s.front ++ w)) at_source in
-    let all : ts ≡ word keyword.Select ∷ t.front ++ (word keyword.From ∷ s.first_front ++ (s.front ++ (c.front ++ (g.front ++ (v.front ++ (tail.order_tokens ++ (tail.limit_tokens ++ tail.end_tokens))))))) = select ∙ ap (λ (w : List Terminal). word keyword.Select ∷ w) (t.parts ∙ ap (λ (w : List Terminal). t.front ++ w) at_items) in
+    let all : ts ≡ word keyword.Select ∷ distinct_if distinct ++ (t.front ++ (word keyword.From ∷ s.first_front ++ (s.front ++ (c.front ++ (g.front ++ (v.front ++ (tail.order_tokens ++ (tail.limit_tokens ++ tail.end_tokens)))))))) = select ∙ ap (λ (w : List Terminal). word keyword.Select ∷ distinct_if distinct ++ w) (t.parts ∙ ap (λ (w : List Terminal). t.front ++ w) at_items) in
     record {
       spells = record {
         items_tokens = t.front;
@@ -722,15 +723,27 @@ query_took n ts us i from select t f =
       bounded = deep;
     }
 
+-- DISTINCT, where it was taken
+distinct_by : (ts : List Terminal) (o : Option (List Terminal)) → ((us : List Terminal) → o ≡ Some us → ts ≡ word keyword.Distinct ∷ us)
+    → ts ≡ distinct_if (choose {B = Bool × List Terminal} o (λ us. (true, us)) (false, ts)).0 ++ (choose {B = Bool × List Terminal} o (λ us. (true, us)) (false, ts)).1
+distinct_by ts (Some us) taken = taken us refl
+distinct_by ts None taken = refl
+
+distinct_sound : (ts : List Terminal) → ts ≡ distinct_if (rule.distinct_at ts).0 ++ (rule.distinct_at ts).1
+distinct_sound ts = distinct_by ts (behind (is_keyword keyword.Distinct) ts) (λ us e. word_taken keyword.Distinct ts us e)
+
 parts_sound : (n : ℕ) (inner : Level → phrase.Reader) → IsInner (suc n) inner → (ts : List Terminal) (q : Query) → rule.query_at inner ts ≡ Some q → TookQuery n ts q
 parts_sound n inner h ts q e =
-    let a = bind_some (behind (is_keyword keyword.Select) ts) (λ (us : List Terminal). rule.selected_at inner [] us >>= (λ x. Some (rule.query_of_parts x.0 x.1))) q e in
-    let b = bind_some (rule.selected_at inner [] a.0) (λ (x : List Item × (Source × Conditions)). Some (rule.query_of_parts x.0 x.1)) q a.2 in
-    let c = bind_some (rule.items_at inner [] a.0) (λ (i : List Item × List Terminal). rule.from_at inner i.1 >>= (λ f. Some (i.0, f))) b.0 b.1 in
+    let a = bind_some (behind (is_keyword keyword.Select) ts) (λ (us : List Terminal). rule.query_behind inner (rule.distinct_at us)) q e in
+    let distinct : Bool = (rule.distinct_at a.0).0 in
+    let rest : List Terminal = (rule.distinct_at a.0).1 in
+    let b = bind_some (rule.selected_at inner [] rest) (λ (x : List Item × (Source × Conditions)). Some (rule.query_of_parts distinct x.0 x.1)) q a.2 in
+    let c = bind_some (rule.items_at inner [] rest) (λ (i : List Item × List Terminal). rule.from_at inner i.1 >>= (λ f. Some (i.0, f))) b.0 b.1 in
     let d = bind_some (rule.from_at inner c.0.1) (λ (f : Source × Conditions). Some (c.0.0, f)) b.0 c.2 in
     let found : ◌≡◌ {A = List Item × (Source × Conditions)} (c.0.0, d.0) b.0 = cc d.2 in
-    let same : rule.query_of_parts c.0.0 d.0 ≡ q = ap (λ (x : List Item × (Source × Conditions)). rule.query_of_parts x.0 x.1) found ∙ cc b.2 in
-    subst (λ (y : Query). TookQuery n ts y) same (query_took n ts a.0 c.0 d.0 (word_taken keyword.Select ts a.0 a.1) (items_sound n inner h [] a.0 c.0 c.1) (from_sound n inner h c.0.1 d.0 d.1))
+    let same : rule.query_of_parts distinct c.0.0 d.0 ≡ q = ap (λ (x : List Item × (Source × Conditions)). rule.query_of_parts distinct x.0 x.1) found ∙ cc b.2 in
+    let select : ts ≡ word keyword.Select ∷ distinct_if distinct ++ rest = word_taken keyword.Select ts a.0 a.1 ∙ ap (λ (w : List Terminal). word keyword.Select ∷ w) (distinct_sound a.0) in
+    subst (λ (y : Query). TookQuery n ts y) same (query_took n ts rest distinct c.0 d.0 select (items_sound n inner h [] rest c.0 c.1) (from_sound n inner h c.0.1 d.0 d.1))
 
 -- what is read as a query is spelled by the tokens, within the limits
 pub query_sound : (ts : List Terminal) (q : Query) → rule.query_at rule.within ts ≡ Some q → TookQuery 256 ts q

@@ -1,5 +1,5 @@
 -- Reading the tokens of a query from front to back: one definition a rule of the grammar.
-use Rattle.std.specs.Prelude.{ℕ, zero, suc, if◌then◌else◌, List, [], ◌∷◌, ◌++◌, length, Option, Some, None}
+use Rattle.std.specs.Prelude.{ℕ, zero, suc, Bool, true, false, if◌then◌else◌, List, [], ◌∷◌, ◌++◌, length, Option, Some, None}
 use Rattle.meaning.specs.declared.plan.JoinType.{JoinType}
 use Rattle.meaning.specs.declared.plan.JoinType.TheVariants as join_type
 use Rattle.sql_syntax.specs.declared.keyword.Keyword.{Keyword}
@@ -180,8 +180,9 @@ abbrev pub from_at : (Level → Reader) → List Terminal → Option (Source × 
 from_at inner ts = source_at inner ts >>= (λ s. conditions_at inner s.1 >>= (λ c. Some (s.0, c)))
 
 -- the query of its parts
-abbrev pub query_of_parts : List Item → Source × (Option Expr × (List Expr × (Option Expr × Tail))) → Query
-query_of_parts items from = record {
+abbrev pub query_of_parts : Bool → List Item → Source × (Option Expr × (List Expr × (Option Expr × Tail))) → Query
+query_of_parts distinct items from = record {
+  distinct = distinct;
   items = items;
   source = from.0;
   filter = from.1.0;
@@ -195,9 +196,17 @@ query_of_parts items from = record {
 abbrev pub selected_at : (Level → Reader) → List Item → List Terminal → Option (List Item × (Source × (Option Expr × (List Expr × (Option Expr × Tail)))))
 selected_at inner before ts = items_at inner before ts >>= (λ i. from_at inner i.1 >>= (λ f. Some (i.0, f)))
 
+-- whether DISTINCT is at the front, and what stands behind it
+abbrev pub distinct_at : List Terminal → Bool × List Terminal
+distinct_at ts = choose (behind (is_keyword keyword.Distinct) ts) (λ us. (true, us)) (false, ts)
+
+-- a query, behind SELECT
+abbrev pub query_behind : (Level → Reader) → Bool × List Terminal → Option Query
+query_behind inner d = selected_at inner [] d.1 >>= (λ x. Some (query_of_parts d.0 x.0 x.1))
+
 -- a whole query
 abbrev pub query_at : (Level → Reader) → List Terminal → Option Query
-query_at inner ts = behind (is_keyword keyword.Select) ts >>= (λ us. selected_at inner [] us >>= (λ x. Some (query_of_parts x.0 x.1)))
+query_at inner ts = behind (is_keyword keyword.Select) ts >>= (λ us. query_behind inner (distinct_at us))
 
 -- an expression of a rule, within the limits: its depth, and 256 that are opened within the outermost
 abbrev pub within : Level → Reader

@@ -1,7 +1,7 @@
 //! The clauses of a query, from the last to the first, and the query itself.
 ghost use Rattle.sql_expressions.specs.Rules.{Gives, terms};
 ghost use Rattle.sql_syntax.specs.Joins.{kind_of};
-ghost use Rattle.sql_reader.specs.Rules.{alias_at, clause_at, condition_at, conditions_at, direction_at, ended, ended_limit_at, ending_at, expr_at, from_at, group_keys_at, grouping_at, groups_at, having_at, item_at, items_at, join_at, joined_at, key_at, keys_at, limit_at, listed_at, order_at, other_at, past_if, past_join, put_item, put_key, put_other, query_at, query_of_parts, selected_at, source_at, table_at, tables_at, tail_at, target_at, within};
+ghost use Rattle.sql_reader.specs.Rules.{alias_at, clause_at, condition_at, conditions_at, direction_at, distinct_at, ended, ended_limit_at, ending_at, expr_at, from_at, group_keys_at, grouping_at, groups_at, having_at, item_at, items_at, join_at, joined_at, key_at, keys_at, limit_at, listed_at, order_at, other_at, past_if, past_join, put_item, put_key, put_other, query_at, query_of_parts, selected_at, source_at, table_at, tables_at, tail_at, target_at, within};
 ghost use Rattle.std.specs.Prelude.{IfOk, length, ◌<◌, ◌≡◌, ◌≤◌};
 
 use meaning::{JoinType, Sequence, Text};
@@ -542,11 +542,12 @@ fn from(alloc: Global, lexemes: &[Lexeme<'_>]) -> Result<From, Stop>
     }
 }
 
-fn query_of(items: Sequence<Item>, from: From) -> Query
-    ensures { result ≡ query_of_parts items from }
+fn query_of(distinct: bool, items: Sequence<Item>, from: From) -> Query
+    ensures { result ≡ query_of_parts distinct items from }
 {
     let (source, (filter, (group_by, (having, (order_by, limit))))) = from;
     Query {
+        distinct,
         items,
         source,
         filter,
@@ -557,14 +558,25 @@ fn query_of(items: Sequence<Item>, from: From) -> Query
     }
 }
 
+/// Whether DISTINCT is at the front, and what stands behind it.
+fn distinct<'a, 'b>(lexemes: &'a [Lexeme<'b>]) -> (bool, &'a [Lexeme<'b>])
+    ensures { (result.0, terms result.1.now) ≡ distinct_at (terms lexemes.now) }
+{
+    match if_keyword(lexemes, Keyword::Distinct) {
+        Some(rest) => (true, rest),
+        None => (false, lexemes),
+    }
+}
+
 /// A whole query.
 pub fn query(alloc: Global, lexemes: &[Lexeme<'_>]) -> Result<Query, Stop>
     ensures { Gives (λ q. q) result (query_at within (terms lexemes.now)) }
 {
     let rest = past_keyword(lexemes, Keyword::Select)?;
+    let (distinct, rest) = distinct(rest);
     let mut items = Sequence::new(alloc);
     match selected(alloc, rest, &mut items) {
-        Ok(from) => Ok(query_of(items, from)),
+        Ok(from) => Ok(query_of(distinct, items, from)),
         Err(stop) => {
             drop(items);
             Err(stop)

@@ -22,7 +22,7 @@ use Rattle.sql_syntax.specs.Words.{lower}
 use Rattle.sql_syntax.specs.Tokens as terminal
 use Rattle.sql_syntax.specs.Tokens.{Terminal}
 use Rattle.sql_syntax.specs.Strength.{next, rank, level_of, token_of, node_of, compares}
-use Rattle.sql_syntax.specs.Phrases.{word, mark, not_if, bracketed, aggregate_word, below_zero, undoubled, Spells, as_next, joined, negated, tested, minus, integer, negative, text, column, column_of, rows, aggregated, first_of, chosen, in_brackets, Tests, compared, between, among, like, is_null, SpellsList, last, more, SpellsArms, last_arm, more_arms, SpellsElse, nothing, null, otherwise}
+use Rattle.sql_syntax.specs.Phrases.{word, mark, not_if, distinct_if, bracketed, aggregate_word, is_distinct, below_zero, undoubled, Spells, as_next, joined, negated, tested, minus, integer, negative, text, column, column_of, rows, aggregated, first_of, chosen, in_brackets, Tests, compared, between, among, like, is_null, SpellsList, last, more, SpellsArms, last_arm, more_arms, SpellsElse, nothing, null, otherwise}
 use Rattle.sql_syntax.specs.CanonicalTokens.{Printed, at_level, free, doubled, integer_tokens, list_tokens, arms_tokens, else_tokens, printed, printed_arm}
 use Rattle.sql_syntax.proofs.Names.{IsProper, lower_name}
 use Rattle.sql_syntax.proofs.ReadAgain.{AreApart, heads_minus}
@@ -171,10 +171,17 @@ negative_apt (suc n) h = integer_apt (negsuc n) (λ rest ready. (tt, refl, (h, r
 
 aggregate_operand : (k : Aggregate) (o : Bool) (us : List Terminal) → AreApart false (mark sign.Open ∷ us) → AreApart o (word (aggregate_word k) ∷ mark sign.Open ∷ us)
 aggregate_operand aggregate.Count o us all = (tt, refl, all)
+aggregate_operand aggregate.CountDistinct o us all = (tt, refl, all)
 aggregate_operand aggregate.Sum o us all = (tt, refl, all)
+aggregate_operand aggregate.SumDistinct o us all = (tt, refl, all)
 aggregate_operand aggregate.Min o us all = (tt, refl, all)
 aggregate_operand aggregate.Max o us all = (tt, refl, all)
 aggregate_operand aggregate.Average o us all = (tt, refl, all)
+
+-- DISTINCT where it is written, before its operand
+pub distinct_fits : (distinct : Bool) (ts : List Terminal) → Fits false ts → Fits false (distinct_if distinct ++ ts)
+distinct_fits true ts fits = λ rest ready. (tt, refl, fits rest ready)
+distinct_fits false ts fits = fits
 
 -- NOT where it is written, and what stands behind it
 not_apart : (not : Bool) (o : Bool) (us : List Terminal) → Ends us → AreApart o (not_if not ++ us)
@@ -256,7 +263,11 @@ mutual
   apt (column_of t n) all = apt_by (expr.Column (Some (lower t)) (lower n)) _ (printed_column (Some (lower t)) (lower n)) (λ rest ready. (lower_name t all.0, refl, (tt, refl, (lower_name n all.1.1.0, refl, ready))))
   apt rows all = apt_by expr.CountRows _ printed_rows (λ rest ready. (tt, refl, (tt, refl, (tt, refl, (tt, refl, ready)))))
   apt (aggregated k {ts = ts} {e = e} d) all =
-      apt_by (expr.Aggregate k e) _ (printed_aggregate k e) (λ rest ready. aggregate_operand k false ((free (printed e) ++ mark sign.Close ∷ []) ++ rest) (brackets_fit (free (printed e)) (free_fits level.Disjunction e (apt d (split_all ts (mark sign.Close ∷ []) all.1.1).0)) rest ready))
+      let inside = distinct_if (is_distinct k) in
+      let within = (split_all (inside ++ ts) (mark sign.Close ∷ []) all.1.1).0 in
+      let fits = distinct_fits (is_distinct k) (free (printed e)) (free_fits level.Disjunction e (apt d (split_all inside ts within).1)) in
+      apt_by (expr.Aggregate k e) _ (printed_aggregate k e)
+      (λ rest ready. aggregate_operand k false (((inside ++ free (printed e)) ++ mark sign.Close ∷ []) ++ rest) (brackets_fit (inside ++ free (printed e)) fits rest ready))
   apt (first_of {ts = ts} {es = es} ds) all =
       apt_by (expr.Coalesce es) _ (printed_list es) (λ rest ready. (tt, refl, brackets_fit (list_tokens (map printed es)) (apt_list ds (split_all ts (mark sign.Close ∷ []) all.1.1).0) rest ready))
   apt (chosen {ts = ts} {us = us} {arms = arms} {otherwise = o} ds d) all =

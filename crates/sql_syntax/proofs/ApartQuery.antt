@@ -18,13 +18,13 @@ use Rattle.sql_syntax.specs.declared.tree.Query.{Query}
 use Rattle.sql_syntax.specs.Tokens.{Terminal, tokens_of, terminals}
 use Rattle.sql_syntax.specs.Canonical.{canonical}
 use Rattle.sql_syntax.specs.Joins.{kind_of}
-use Rattle.sql_syntax.specs.Phrases.{word, mark, Spells}
+use Rattle.sql_syntax.specs.Phrases.{word, mark, distinct_if, Spells}
 use Rattle.sql_syntax.specs.CanonicalTokens.{printed, free, list_tokens}
 use Rattle.sql_syntax.specs.Queries.{SpellsAlias, none, bare, behind_as, SpellsTable, table, SpellsTarget, position, name, SpellsDirection, unsaid, ascending, descending, SpellsItems, last_item, more_items, SpellsOthers, no_others, behind_comma, behind_join, SpellsClause, no_clause, clause, SpellsGroups, no_groups, groups, SpellsKeys, last_key, more_keys, SpellsOrder, no_order, order, SpellsLimit, no_limit, limit, SpellsQuery, alias_tokens, table_tokens, item_tokens, with_commas, other_tokens, others_tokens_of, clause_tokens, groups_tokens_of, target_token, direction_tokens, key_tokens, order_tokens_of, limit_tokens_of, query_tokens}
 use Rattle.sql_syntax.proofs.Names.{IsProper, lower_name, tokens_proper}
 use Rattle.sql_syntax.proofs.ReadAgain.{AreApart, tokens_again}
 use Rattle.sql_syntax.proofs.CanonicalQuery.{query_good}
-use Rattle.sql_syntax.proofs.Apart.{Ends, Goes, Fits, free_fits, weak_parts, split_all, no_arms, apt, apt_list}
+use Rattle.sql_syntax.proofs.Apart.{Ends, Goes, Fits, distinct_fits, free_fits, weak_parts, split_all, no_arms, apt, apt_list}
 
 after : (ts us : List Terminal) → Goes ts → Goes us → Goes (ts ++ us)
 after ts us x y = λ rest ends. subst Ends (sym (append_assoc ts us rest)) (x (us ++ rest) (y rest ends))
@@ -146,7 +146,8 @@ limit_goes (limit n h) = λ rest ends o. (tt, refl, (omega (arith, h), refl, end
 pub query_apart : {ts : List Terminal} {q : Query} → SpellsQuery ts q → AllByRecursion IsProper ts → AreApart false (query_tokens q)
 query_apart {ts} {q} s proper =
     let all = subst (AllByRecursion IsProper) s.tokens proper in
-    let items = split_all s.items_tokens (word keyword.From ∷ s.first_tokens ++ (s.others_tokens ++ (s.filter_tokens ++ (s.groups_tokens ++ (s.having_tokens ++ (s.order_tokens ++ (s.limit_tokens ++ s.end_tokens))))))) all.1 in
+    let distinct = split_all (distinct_if q.distinct) (s.items_tokens ++ (word keyword.From ∷ s.first_tokens ++ (s.others_tokens ++ (s.filter_tokens ++ (s.groups_tokens ++ (s.having_tokens ++ (s.order_tokens ++ (s.limit_tokens ++ s.end_tokens)))))))) all.1 in
+    let items = split_all s.items_tokens (word keyword.From ∷ s.first_tokens ++ (s.others_tokens ++ (s.filter_tokens ++ (s.groups_tokens ++ (s.having_tokens ++ (s.order_tokens ++ (s.limit_tokens ++ s.end_tokens))))))) distinct.1 in
     let first = split_all s.first_tokens (s.others_tokens ++ (s.filter_tokens ++ (s.groups_tokens ++ (s.having_tokens ++ (s.order_tokens ++ (s.limit_tokens ++ s.end_tokens)))))) items.1.1 in
     let others = split_all s.others_tokens (s.filter_tokens ++ (s.groups_tokens ++ (s.having_tokens ++ (s.order_tokens ++ (s.limit_tokens ++ s.end_tokens))))) first.1 in
     let filter = split_all s.filter_tokens (s.groups_tokens ++ (s.having_tokens ++ (s.order_tokens ++ (s.limit_tokens ++ s.end_tokens)))) others.1 in
@@ -162,7 +163,8 @@ query_apart {ts} {q} s proper =
     let tail : List Terminal = others_tokens_of q.source.others ++ (clause_tokens keyword.Where q.filter ++ (groups_tokens_of q.group_by ++ (clause_tokens keyword.Having q.having ++ (order_tokens_of q.order_by ++ limit_tokens_of q.limit)))) in
     let from = fits_then (table_tokens q.source.first) tail (table_fits s.first first.0) from_others in
     let whole = fits_then (with_commas (map item_tokens q.items)) (word keyword.From ∷ table_tokens q.source.first ++ tail) (items_fit s.items items.0) (λ rest ends o. (tt, refl, from rest ends)) in
-    (tt, refl, subst (AreApart false) (append-nil (with_commas (map item_tokens q.items) ++ (word keyword.From ∷ table_tokens q.source.first ++ tail))) (whole [] (λ o. tt)))
+    let items_on : List Terminal = with_commas (map item_tokens q.items) ++ (word keyword.From ∷ table_tokens q.source.first ++ tail) in
+    (tt, refl, subst (AreApart false) (append-nil (distinct_if q.distinct ++ items_on)) (distinct_fits q.distinct items_on whole [] (λ o. tt)))
 
 -- the tokens of the canonical text are the canonical tokens
 pub canonical_tokens_again : (bs : List ℕ) (q : Query) → SpellsQuery (terminals (tokens_of bs)) q → terminals (tokens_of (canonical q)) ≡ query_tokens q

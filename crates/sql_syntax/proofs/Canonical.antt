@@ -21,7 +21,7 @@ use Rattle.sql_syntax.specs.declared.strength.Level.TheVariants as level
 use Rattle.sql_syntax.specs.declared.strength.Operator.{Operator}
 use Rattle.sql_syntax.specs.declared.strength.Operator.TheVariants as operator
 use Rattle.sql_syntax.specs.Strength.{next, rank, level_of, node_of, compares}
-use Rattle.sql_syntax.specs.Phrases.{word, mark, not_if, bracketed, aggregate_word, below_zero, undoubled, heads_integer, Spells, as_next, joined, negated, tested, minus, integer, negative, text, column, column_of, rows, aggregated, first_of, chosen, in_brackets, Tests, compared, between, among, like, is_null, SpellsList, last, more, SpellsArms, last_arm, more_arms, SpellsElse, nothing, null, otherwise}
+use Rattle.sql_syntax.specs.Phrases.{word, mark, not_if, distinct_if, bracketed, aggregate_word, is_distinct, below_zero, undoubled, heads_integer, Spells, as_next, joined, negated, tested, minus, integer, negative, text, column, column_of, rows, aggregated, first_of, chosen, in_brackets, Tests, compared, between, among, like, is_null, SpellsList, last, more, SpellsArms, last_arm, more_arms, SpellsElse, nothing, null, otherwise}
 use Rattle.sql_syntax.specs.CanonicalTokens.{Printed, at_level, free, doubled, join_tokens, integer_tokens, column_tokens, list_tokens, arms_tokens, else_tokens, printed, printed_arm, canonical_tokens}
 use Rattle.sql_syntax.proofs.Names.{lower_lower}
 
@@ -163,7 +163,7 @@ printed_column t n = search (rules, the_lemmas)
 pub printed_rows : printed expr.CountRows ≡ record { level = level.Primary; tokens = word keyword.Count ∷ bracketed (mark sign.Star ∷ []) }
 printed_rows = search (rules, the_lemmas)
 
-pub printed_aggregate : (k : Aggregate) (e : Expr) → printed (expr.Aggregate k e) ≡ record { level = level.Primary; tokens = word (aggregate_word k) ∷ bracketed (free (printed e)) }
+pub printed_aggregate : (k : Aggregate) (e : Expr) → printed (expr.Aggregate k e) ≡ record { level = level.Primary; tokens = word (aggregate_word k) ∷ bracketed (distinct_if (is_distinct k) ++ free (printed e)) }
 printed_aggregate k e = search (rules, the_lemmas)
 
 pub printed_compare : (op : Comparison) (a b : Expr) → printed (expr.Compare op a b) ≡ record { level = level.Predicate; tokens = at_level level.Sum (printed a) ++ mark (compares op) ∷ at_level level.Sum (printed b) }

@@ -4,6 +4,7 @@ use Rattle.std.specs.Prelude.{codes}
 use Rattle.std.specs.Fmt.{digits}
 use Rattle.sql_syntax.specs.declared.keyword.Keyword.TheVariants as keyword
 use Rattle.sql_syntax.specs.declared.token.Sign.TheVariants as sign
+use Rattle.sql_syntax.specs.declared.tree.Aggregate.TheVariants as aggregate
 use Rattle.sql_syntax.specs.declared.tree.Arithmetic.{Arithmetic}
 use Rattle.sql_syntax.specs.declared.tree.Arithmetic.TheVariants as arithmetic
 use Rattle.sql_syntax.specs.declared.tree.Comparison.{Comparison}
@@ -11,6 +12,7 @@ use Rattle.sql_syntax.specs.declared.tree.Comparison.TheVariants as comparison
 use Rattle.sql_syntax.specs.declared.tree.Expr.{Expr}
 use Rattle.sql_syntax.specs.declared.tree.JoinKind.TheVariants as join_kind
 use Rattle.sql_syntax.specs.declared.tree.Joined.{Joined}
+use Rattle.sql_syntax.specs.declared.tree.Query.{Query}
 use Rattle.sql_syntax.specs.declared.tree.Expr.TheVariants as expr
 use Rattle.sql_syntax.specs.Tokens as terminal
 use Rattle.sql_syntax.specs.Tokens.{Terminal}
@@ -18,10 +20,10 @@ use Rattle.sql_syntax.specs.declared.strength.Level.TheVariants as level
 use Rattle.sql_syntax.specs.declared.strength.Operator.TheVariants as operator
 use Rattle.sql_syntax.specs.Strength.{level_of, compares}
 use Rattle.sql_syntax.specs.Words.{lower}
-use Rattle.sql_syntax.specs.Phrases.{word, mark, not_if, Spells, as_next, joined, column}
+use Rattle.sql_syntax.specs.Phrases.{word, mark, not_if, bracketed, Spells, as_next, joined, column}
 use Rattle.sql_syntax.specs.CanonicalTokens.{Printed, printed, at_level, join_tokens, canonical_tokens}
-use Rattle.sql_syntax.specs.Queries.{text_of, others_tokens_of}
-use Rattle.sql_syntax.proofs.Canonical.{to_free, printed_not, printed_or, printed_and, printed_reckon, printed_minus, printed_integer, printed_column, printed_compare, printed_between}
+use Rattle.sql_syntax.specs.Queries.{text_of, others_tokens_of, query_tokens}
+use Rattle.sql_syntax.proofs.Canonical.{to_free, printed_not, printed_or, printed_and, printed_reckon, printed_minus, printed_integer, printed_column, printed_aggregate, printed_compare, printed_between}
 
 abbrev col : List ℕ → Expr
 col n = expr.Column None n
@@ -108,6 +110,28 @@ left_join_text : text_of (others_tokens_of joined_left) ≡ codes "LEFT JOIN t O
 left_join_text =
     ap (λ (p : Printed). text_of (word keyword.Left ∷ word keyword.Join ∷ terminal.name (codes "t") ∷ word keyword.On ∷ at_level level.Disjunction p ++ []))
     (compare_is comparison.Equal a b (column_is (codes "a")) (column_is (codes "b")))
+
+-- DISTINCT has a blank behind it, and none between it and the bracket
+count_distinct_text : text_of (canonical_tokens (expr.Aggregate aggregate.CountDistinct a)) ≡ codes "COUNT(DISTINCT a)"
+count_distinct_text =
+    ap (λ (p : Printed). text_of p.tokens) (printed_aggregate aggregate.CountDistinct a)
+    ∙ ap (λ (p : Printed). text_of (word keyword.Count ∷ bracketed (word keyword.Distinct ∷ at_level level.Disjunction p))) (column_is (codes "a"))
+
+abbrev pub distinct_rows : Query
+distinct_rows = record {
+  distinct = true;
+  items = record { expr = a; alias = None } ∷ [];
+  source = record { first = record { name = codes "t"; alias = None }; others = [] };
+  filter = None;
+  group_by = [];
+  having = None;
+  order_by = [];
+  limit = None;
+}
+
+select_distinct_text : text_of (query_tokens distinct_rows) ≡ codes "SELECT DISTINCT a FROM t"
+select_distinct_text =
+    ap (λ (p : Printed). text_of (word keyword.Select ∷ word keyword.Distinct ∷ (at_level level.Disjunction p ++ []) ++ (word keyword.From ∷ terminal.name (codes "t") ∷ []))) (column_is (codes "a"))
 
 -- ---- trees of tokens
 

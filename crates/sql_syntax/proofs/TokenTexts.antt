@@ -106,6 +106,7 @@ keyword_word keyword.Case = record { start = refl; word = passes (spelling_of ke
 keyword_word keyword.Coalesce = record { start = refl; word = passes (spelling_of keyword.Coalesce) refl; means = refl }
 keyword_word keyword.Count = record { start = refl; word = passes (spelling_of keyword.Count) refl; means = refl }
 keyword_word keyword.Desc = record { start = refl; word = passes (spelling_of keyword.Desc) refl; means = refl }
+keyword_word keyword.Distinct = record { start = refl; word = passes (spelling_of keyword.Distinct) refl; means = refl }
 keyword_word keyword.Else = record { start = refl; word = passes (spelling_of keyword.Else) refl; means = refl }
 keyword_word keyword.End = record { start = refl; word = passes (spelling_of keyword.End) refl; means = refl }
 keyword_word keyword.From = record { start = refl; word = passes (spelling_of keyword.From) refl; means = refl }

@@ -35,7 +35,7 @@ use Rattle.sql_syntax.specs.Tokens.{Terminal, tokens_of, terminals}
 use Rattle.sql_syntax.specs.Canonical.{canonical}
 use Rattle.sql_syntax.specs.Strength.{next, rank, level_of, token_of, node_of, compares}
 use Rattle.sql_syntax.specs.Joins.{kind_of}
-use Rattle.sql_syntax.specs.Phrases.{word, mark, not_if, bracketed, below_zero, undoubled, Spells, as_next, joined, negated, tested, minus, integer, negative, text, column, column_of, rows, aggregated, first_of, chosen, in_brackets, Tests, compared, between, among, like, is_null, SpellsList, last, more, SpellsArms, last_arm, more_arms, SpellsElse, nothing, null, otherwise}
+use Rattle.sql_syntax.specs.Phrases.{word, mark, not_if, distinct_if, bracketed, is_distinct, below_zero, undoubled, Spells, as_next, joined, negated, tested, minus, integer, negative, text, column, column_of, rows, aggregated, first_of, chosen, in_brackets, Tests, compared, between, among, like, is_null, SpellsList, last, more, SpellsArms, last_arm, more_arms, SpellsElse, nothing, null, otherwise}
 use Rattle.sql_syntax.specs.CanonicalTokens.{Printed, at_level, free, doubled, join_tokens, integer_tokens, list_tokens, arms_tokens, else_tokens, printed, printed_arm}
 use Rattle.sql_syntax.specs.Queries.{SpellsAlias, none, bare, behind_as, SpellsTable, table, SpellsTarget, name, SpellsItems, last_item, more_items, SpellsOthers, no_others, behind_comma, behind_join, SpellsClause, no_clause, clause, SpellsGroups, no_groups, groups, SpellsKeys, last_key, more_keys, SpellsOrder, no_order, order, SpellsQuery, alias_tokens, table_tokens, item_tokens, with_commas, on_tokens, other_tokens, others_tokens_of, clause_tokens, groups_tokens_of, target_token, direction_tokens, key_tokens, order_tokens_of, limit_tokens_of, query_tokens, sign_text, token_text, ends_operand, hugs_left, hugs_right, text_behind}
 use Rattle.sql_syntax.specs.Queries as queries
@@ -74,6 +74,10 @@ Fine e = All (printed e).tokens
 
 fine_at_level : (l : Level) (e : Expr) → Fine e → All (at_level l (printed e))
 fine_at_level l e all = fine_by_level (leb (rank l) (rank (printed e).level)) (printed e).tokens all
+
+distinct_too : (distinct : Bool) → All (distinct_if distinct)
+distinct_too true = (tt, tt)
+distinct_too false = tt
 
 not_too : (not : Bool) → All (not_if not)
 not_too true = (tt, tt)
@@ -136,7 +140,9 @@ mutual
   fine (column_of t n) all = fine_by (expr.Column (Some (lower t)) (lower n)) _ (printed_column (Some (lower t)) (lower n)) (lower_name t all.0, (tt, (lower_name n all.1.1.0, tt)))
   fine rows all = fine_by expr.CountRows _ printed_rows (tt, (tt, (tt, (tt, tt))))
   fine (aggregated k {ts = ts} {e = e} d) all =
-      fine_by (expr.Aggregate k e) _ (printed_aggregate k e) (tt, in_brackets_too (free (printed e)) (fine_at_level level.Disjunction e (fine d (within_brackets ts all.1))))
+      let inside = distinct_if (is_distinct k) in
+      let argument = fine_at_level level.Disjunction e (fine d (split inside ts (within_brackets (inside ++ ts) all.1)).1) in
+      fine_by (expr.Aggregate k e) _ (printed_aggregate k e) (tt, in_brackets_too (inside ++ free (printed e)) (both inside (free (printed e)) (distinct_too (is_distinct k)) argument))
   fine (first_of {ts = ts} {es = es} ds) all = fine_by (expr.Coalesce es) _ (printed_list es) (tt, in_brackets_too (list_tokens (map printed es)) (fine_list ds (within_brackets ts all.1)))
   fine (chosen {ts = ts} {us = us} {arms = arms} {otherwise = o} ds d) all =
       let s = split ts (us ++ word keyword.End ∷ []) all.1 in
@@ -265,7 +271,8 @@ limit_too (Some n) = (tt, (tt, tt))
 query_too : {ts : List Terminal} {q : Query} → SpellsQuery ts q → All ts → All (query_tokens q)
 query_too {ts} {q} s proper =
     let all = subst All s.tokens proper in
-    let items = split s.items_tokens (word keyword.From ∷ s.first_tokens ++ (s.others_tokens ++ (s.filter_tokens ++ (s.groups_tokens ++ (s.having_tokens ++ (s.order_tokens ++ (s.limit_tokens ++ s.end_tokens))))))) all.1 in
+    let distinct = split (distinct_if q.distinct) (s.items_tokens ++ (word keyword.From ∷ s.first_tokens ++ (s.others_tokens ++ (s.filter_tokens ++ (s.groups_tokens ++ (s.having_tokens ++ (s.order_tokens ++ (s.limit_tokens ++ s.end_tokens)))))))) all.1 in
+    let items = split s.items_tokens (word keyword.From ∷ s.first_tokens ++ (s.others_tokens ++ (s.filter_tokens ++ (s.groups_tokens ++ (s.having_tokens ++ (s.order_tokens ++ (s.limit_tokens ++ s.end_tokens))))))) distinct.1 in
     let first = split s.first_tokens (s.others_tokens ++ (s.filter_tokens ++ (s.groups_tokens ++ (s.having_tokens ++ (s.order_tokens ++ (s.limit_tokens ++ s.end_tokens)))))) items.1.1 in
     let others = split s.others_tokens (s.filter_tokens ++ (s.groups_tokens ++ (s.having_tokens ++ (s.order_tokens ++ (s.limit_tokens ++ s.end_tokens))))) first.1 in
     let filter = split s.filter_tokens (s.groups_tokens ++ (s.having_tokens ++ (s.order_tokens ++ (s.limit_tokens ++ s.end_tokens)))) others.1 in
@@ -278,7 +285,7 @@ query_too {ts} {q} s proper =
     let from_filter = both (clause_tokens keyword.Where q.filter) _ (clause_too keyword.Where s.filter filter.0) from_groups in
     let from_others = both (others_tokens_of q.source.others) _ (others_too s.others others.0) from_filter in
     let from = both (table_tokens q.source.first) _ (table_too s.first first.0) from_others in
-    (tt, both (with_commas (map item_tokens q.items)) _ (items_too s.items items.0) (tt, from))
+    (tt, both (distinct_if q.distinct) _ (distinct_too q.distinct) (both (with_commas (map item_tokens q.items)) _ (items_too s.items items.0) (tt, from)))
 
 -- ---- texts of tokens
 

@@ -22,10 +22,10 @@ use Rattle.sql_syntax.specs.declared.tree.Table.{Table}
 use Rattle.sql_syntax.specs.Tokens as terminal
 use Rattle.sql_syntax.specs.Tokens.{Terminal}
 use Rattle.sql_syntax.specs.Strength.{next, level_of, token_of, compares}
-use Rattle.sql_syntax.specs.Phrases.{word, mark, not_if, bracketed, aggregate_word}
+use Rattle.sql_syntax.specs.Phrases.{word, mark, not_if, distinct_if, bracketed, aggregate_word, is_distinct}
 use Rattle.sql_syntax.specs.CanonicalTokens.{Printed, at_level, free, doubled, else_tokens, printed, printed_arm, list_tokens, arms_tokens}
 use Rattle.sql_syntax.specs.Queries.{text_behind, with_commas, item_tokens, key_tokens, on_tokens, other_tokens, table_tokens, others_tokens_of}
-use Rattle.sql_syntax.specs.Printing.{Written, with_token, with_tokens, behind_commas, more_items, more_keys, joined_tokens}
+use Rattle.sql_syntax.specs.Printing.{Written, with_token, with_tokens, aggregate_tokens, behind_commas, more_items, more_keys, joined_tokens}
 use Rattle.sql_syntax.proofs.Canonical.{printed_or, printed_case, printed_and, printed_reckon, printed_aggregate, printed_compare, printed_between, printed_in, printed_like, printed_null, printed_arm_is}
 
 pub with_append : (w : Written) (ts us : List Terminal) → with_tokens w (ts ++ us) ≡ with_tokens (with_tokens w ts) us
@@ -92,10 +92,12 @@ arms_step w arm ps =
 -- ---- nodes
 
 pub aggregate_step : (w : Written) (k : Aggregate) (e : Expr) → with_tokens w (printed (expr.Aggregate k e)).tokens
-    ≡ with_token (with_tokens (with_token w (word (aggregate_word k))) (mark sign.Open ∷ free (printed e))) (mark sign.Close)
+    ≡ with_token (with_tokens (with_tokens w (aggregate_tokens k)) (free (printed e))) (mark sign.Close)
 aggregate_step w k e =
+    let opened = with_token (with_token w (word (aggregate_word k))) (mark sign.Open) in
     ap (λ (p : Printed). with_tokens w p.tokens) (printed_aggregate k e)
-    ∙ with_append (with_token w (word (aggregate_word k))) (mark sign.Open ∷ free (printed e)) (mark sign.Close ∷ [])
+    ∙ with_append opened (distinct_if (is_distinct k) ++ free (printed e)) (mark sign.Close ∷ [])
+    ∙ ap (λ (v : Written). with_token v (mark sign.Close)) (with_append opened (distinct_if (is_distinct k)) (free (printed e)))
 
 pub reckon_step : (w : Written) (op : Arithmetic) (a b : Expr) → with_tokens w (printed (expr.Arithmetic op a b)).tokens
     ≡ with_tokens (with_tokens w (at_level (level_of (operator.Reckon op)) (printed a))) (token_of (operator.Reckon op) ∷ at_level (next (level_of (operator.Reckon op))) (printed b))

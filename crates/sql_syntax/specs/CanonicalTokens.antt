@@ -14,7 +14,7 @@ use Rattle.sql_syntax.specs.declared.strength.Level.TheVariants as level
 use Rattle.sql_syntax.specs.declared.strength.Operator.{Operator}
 use Rattle.sql_syntax.specs.declared.strength.Operator.TheVariants as operator
 use Rattle.sql_syntax.specs.Strength.{next, rank, level_of, token_of, compares, strength}
-use Rattle.sql_syntax.specs.Phrases.{word, mark, not_if, bracketed, aggregate_word}
+use Rattle.sql_syntax.specs.Phrases.{word, mark, not_if, distinct_if, bracketed, aggregate_word, is_distinct}
 
 -- the tokens of an expression, and the strongest rule that gives them
 pub record Printed : Type 0 where
@@ -69,7 +69,7 @@ node_tokens (node.Column table name) = column_tokens table name
 node_tokens (node.Integer n) = integer_tokens n
 node_tokens (node.Text t) = terminal.text (doubled t) ∷ []
 node_tokens node.CountRows = word keyword.Count ∷ bracketed (mark sign.Star ∷ [])
-node_tokens (node.Aggregate k a) = word (aggregate_word k) ∷ bracketed (free a)
+node_tokens (node.Aggregate k a) = word (aggregate_word k) ∷ bracketed (distinct_if (is_distinct k) ++ free a)
 node_tokens (node.Minus a) = mark sign.Minus ∷ at_level level.Primary a
 node_tokens (node.Arithmetic op a b) = join_tokens (operator.Reckon op) a b
 node_tokens (node.Compare op a b) = at_level level.Sum a ++ mark (compares op) ∷ at_level level.Sum b

@@ -30,6 +30,11 @@ abbrev pub not_if : Bool → List Terminal
 not_if true = word keyword.Not ∷ []
 not_if false = []
 
+-- DISTINCT where it is written
+abbrev pub distinct_if : Bool → List Terminal
+distinct_if true = word keyword.Distinct ∷ []
+distinct_if false = []
+
 -- tokens in brackets
 abbrev pub bracketed : List Terminal → List Terminal
 bracketed ts = mark sign.Open ∷ ts ++ mark sign.Close ∷ []
@@ -37,10 +42,18 @@ bracketed ts = mark sign.Open ∷ ts ++ mark sign.Close ∷ []
 -- an aggregate's name
 abbrev pub aggregate_word : Aggregate → Keyword
 aggregate_word aggregate.Count = keyword.Count
+aggregate_word aggregate.CountDistinct = keyword.Count
 aggregate_word aggregate.Sum = keyword.Sum
+aggregate_word aggregate.SumDistinct = keyword.Sum
 aggregate_word aggregate.Min = keyword.Min
 aggregate_word aggregate.Max = keyword.Max
 aggregate_word aggregate.Average = keyword.Avg
+
+-- DISTINCT stands in an aggregate's brackets
+abbrev pub is_distinct : Aggregate → Bool
+is_distinct aggregate.CountDistinct = true
+is_distinct aggregate.SumDistinct = true
+is_distinct _ = false
 
 -- the number that a minus makes of digits
 abbrev pub below_zero : ℕ → ℤ
@@ -76,7 +89,8 @@ mutual
     column : (n : List ℕ) → Spells level.Primary (terminal.name n ∷ []) (expr.Column None (lower n))
     column_of : (t n : List ℕ) → Spells level.Primary (terminal.name t ∷ mark sign.Dot ∷ terminal.name n ∷ []) (expr.Column (Some (lower t)) (lower n))
     rows : Spells level.Primary (word keyword.Count ∷ bracketed (mark sign.Star ∷ [])) expr.CountRows
-    aggregated : (k : Aggregate) {ts : List Terminal} {e : Expr} → Spells level.Disjunction ts e → Spells level.Primary (word (aggregate_word k) ∷ bracketed ts) (expr.Aggregate k e)
+    aggregated : (k : Aggregate) {ts : List Terminal} {e : Expr} → Spells level.Disjunction ts e
+        → Spells level.Primary (word (aggregate_word k) ∷ bracketed (distinct_if (is_distinct k) ++ ts)) (expr.Aggregate k e)
     first_of : {ts : List Terminal} {es : List Expr} → SpellsList ts es → Spells level.Primary (word keyword.Coalesce ∷ bracketed ts) (expr.Coalesce es)
     chosen : {ts us : List Terminal} {arms : List Arm} {otherwise : Option Expr} → SpellsArms ts arms → SpellsElse us otherwise
         → Spells level.Primary (word keyword.Case ∷ ts ++ (us ++ word keyword.End ∷ [])) (expr.Case arms otherwise)

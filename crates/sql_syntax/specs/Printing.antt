@@ -3,12 +3,13 @@ use Rattle.std.specs.Prelude.{ℕ, Bool, ◌||◌, if◌then◌else◌, List, []
 use Rattle.sql_syntax.specs.declared.printer.Printer.{Printer}
 use Rattle.sql_syntax.specs.declared.keyword.Keyword.TheVariants as keyword
 use Rattle.sql_syntax.specs.declared.token.Sign.TheVariants as sign
+use Rattle.sql_syntax.specs.declared.tree.Aggregate.{Aggregate}
 use Rattle.sql_syntax.specs.declared.tree.Item.{Item}
 use Rattle.sql_syntax.specs.declared.tree.Joined.{Joined}
 use Rattle.sql_syntax.specs.declared.tree.OrderKey.{OrderKey}
 use Rattle.sql_syntax.specs.declared.tree.Query.{Query}
 use Rattle.sql_syntax.specs.Tokens.{Terminal}
-use Rattle.sql_syntax.specs.Phrases.{word, mark}
+use Rattle.sql_syntax.specs.Phrases.{word, mark, aggregate_word, is_distinct, distinct_if}
 use Rattle.sql_syntax.specs.CanonicalTokens.{Printed, free}
 use Rattle.sql_syntax.specs.Queries.{item_tokens, key_tokens, other_tokens, table_tokens, others_tokens_of, clause_tokens, groups_tokens_of, order_tokens_of, limit_tokens_of, token_text, ends_operand, hugs_left, hugs_right}
 
@@ -52,6 +53,10 @@ more_keys = flat_map (λ key. mark sign.Comma ∷ key_tokens key)
 -- a further table, with its condition
 abbrev pub joined_tokens : Joined → List Terminal
 joined_tokens j = other_tokens j.kind j.table []
+
+-- an aggregate before its argument
+abbrev pub aggregate_tokens : Aggregate → List Terminal
+aggregate_tokens k = word (aggregate_word k) ∷ mark sign.Open ∷ distinct_if (is_distinct k)
 
 -- ORDER BY and LIMIT
 abbrev pub end_tokens : Query → List Terminal

@@ -24,7 +24,7 @@ use Rattle.sql_syntax.specs.Words.{lower, spelling_of}
 use Rattle.sql_syntax.specs.Tokens as terminal
 use Rattle.sql_syntax.specs.Tokens.{Terminal}
 use Rattle.sql_syntax.specs.declared.strength.Level.TheVariants as level
-use Rattle.sql_syntax.specs.Phrases.{word, mark, Spells, SpellsList, open_in, open_in_list}
+use Rattle.sql_syntax.specs.Phrases.{word, mark, distinct_if, Spells, SpellsList, open_in, open_in_list}
 use Rattle.sql_syntax.specs.CanonicalTokens.{printed, free, list_tokens, depth, deepest}
 
 -- ---- names and keys
@@ -132,7 +132,8 @@ pub record SpellsQuery (ts : List Terminal) (q : Query) : Type 0 where
   pub limit : SpellsLimit limit_tokens q.limit
   pub end_tokens : List Terminal
   pub ends : SpellsEnd end_tokens
-  pub tokens : ts ≡ word keyword.Select ∷ items_tokens ++ (word keyword.From ∷ first_tokens ++ (others_tokens ++ (filter_tokens ++ (groups_tokens ++ (having_tokens ++ (order_tokens ++ (limit_tokens ++ end_tokens)))))))
+  pub tokens : ts ≡ word keyword.Select ∷ distinct_if q.distinct
+      ++ (items_tokens ++ (word keyword.From ∷ first_tokens ++ (others_tokens ++ (filter_tokens ++ (groups_tokens ++ (having_tokens ++ (order_tokens ++ (limit_tokens ++ end_tokens))))))))
 
 -- how many are open at some token of the query
 abbrev pub open_in_query : {ts : List Terminal} {q : Query} → SpellsQuery ts q → ℕ
@@ -202,9 +203,9 @@ limit_tokens_of (Some n) = word keyword.Limit ∷ terminal.integer n ∷ []
 -- the canonical tokens of a query
 abbrev pub query_tokens : Query → List Terminal
 query_tokens q =
-    word keyword.Select ∷ with_commas (map item_tokens q.items) ++ (word keyword.From ∷ table_tokens q.source.first ++ (others_tokens_of q.source.others
+    word keyword.Select ∷ distinct_if q.distinct ++ (with_commas (map item_tokens q.items) ++ (word keyword.From ∷ table_tokens q.source.first ++ (others_tokens_of q.source.others
     ++ (clause_tokens keyword.Where q.filter ++ (groups_tokens_of q.group_by
-    ++ (clause_tokens keyword.Having q.having ++ (order_tokens_of q.order_by ++ limit_tokens_of q.limit))))))
+    ++ (clause_tokens keyword.Having q.having ++ (order_tokens_of q.order_by ++ limit_tokens_of q.limit)))))))
 
 -- ---- their text
 

@@ -25,6 +25,7 @@ spelling_of keyword.Case = codes "CASE"
 spelling_of keyword.Coalesce = codes "COALESCE"
 spelling_of keyword.Count = codes "COUNT"
 spelling_of keyword.Desc = codes "DESC"
+spelling_of keyword.Distinct = codes "DISTINCT"
 spelling_of keyword.Else = codes "ELSE"
 spelling_of keyword.End = codes "END"
 spelling_of keyword.From = codes "FROM"
@@ -54,8 +55,8 @@ spelling_of keyword.Where = codes "WHERE"
 -- all keywords
 abbrev pub keywords : List Keyword
 keywords = keyword.And ∷ keyword.As ∷ keyword.Asc ∷ keyword.Avg ∷ keyword.Between ∷ keyword.By
-    ∷ keyword.Case ∷ keyword.Coalesce ∷ keyword.Count ∷ keyword.Desc ∷ keyword.Else ∷ keyword.End
-    ∷ keyword.From ∷ keyword.Group ∷ keyword.Having ∷ keyword.In ∷ keyword.Inner ∷ keyword.Is
+    ∷ keyword.Case ∷ keyword.Coalesce ∷ keyword.Count ∷ keyword.Desc ∷ keyword.Distinct ∷ keyword.Else
+    ∷ keyword.End ∷ keyword.From ∷ keyword.Group ∷ keyword.Having ∷ keyword.In ∷ keyword.Inner ∷ keyword.Is
     ∷ keyword.Join ∷ keyword.Left ∷ keyword.Like ∷ keyword.Limit ∷ keyword.Max ∷ keyword.Min
     ∷ keyword.Not ∷ keyword.Null ∷ keyword.On ∷ keyword.Or ∷ keyword.Order ∷ keyword.Outer
     ∷ keyword.Select ∷ keyword.Sum ∷ keyword.Then ∷ keyword.When ∷ keyword.Where ∷ []
@@ -66,7 +67,7 @@ keyword_of word = find (λ k. same_word (spelling_of k) word) keywords
 
 -- words that are no keywords and no names either
 abbrev pub left_out_words : List (List ℕ)
-left_out_words = codes "ALL" ∷ codes "ANY" ∷ codes "CROSS" ∷ codes "DISTINCT" ∷ codes "ESCAPE"
+left_out_words = codes "ALL" ∷ codes "ANY" ∷ codes "CROSS" ∷ codes "ESCAPE"
     ∷ codes "EXCEPT" ∷ codes "EXISTS" ∷ codes "FETCH" ∷ codes "FULL" ∷ codes "INTERSECT"
     ∷ codes "NATURAL" ∷ codes "NULLS" ∷ codes "OFFSET" ∷ codes "OVER" ∷ codes "RIGHT"
     ∷ codes "ROLLUP" ∷ codes "UNION" ∷ codes "USING" ∷ codes "WINDOW" ∷ codes "WITH" ∷ []

@@ -16,6 +16,7 @@ pub enum Keyword {
     Coalesce,
     Count,
     Desc,
+    Distinct,
     Else,
     End,
     From,
@@ -43,7 +44,7 @@ pub enum Keyword {
     Where,
 }
 
-const KEYWORDS: [Keyword; 35] = [
+const KEYWORDS: [Keyword; 36] = [
     Keyword::And,
     Keyword::As,
     Keyword::Asc,
@@ -54,6 +55,7 @@ const KEYWORDS: [Keyword; 35] = [
     Keyword::Coalesce,
     Keyword::Count,
     Keyword::Desc,
+    Keyword::Distinct,
     Keyword::Else,
     Keyword::End,
     Keyword::From,
@@ -82,11 +84,10 @@ const KEYWORDS: [Keyword; 35] = [
 ];
 
 /// Words that no name may be, since SQL has them, though not this grammar.
-const LEFT_OUT: [&str; 20] = [
+const LEFT_OUT: [&str; 19] = [
     "ALL",
     "ANY",
     "CROSS",
-    "DISTINCT",
     "ESCAPE",
     "EXCEPT",
     "EXISTS",
@@ -121,6 +122,7 @@ impl Keyword {
             Keyword::Coalesce => "COALESCE",
             Keyword::Count => "COUNT",
             Keyword::Desc => "DESC",
+            Keyword::Distinct => "DISTINCT",
             Keyword::Else => "ELSE",
             Keyword::End => "END",
             Keyword::From => "FROM",

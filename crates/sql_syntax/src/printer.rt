@@ -2,8 +2,8 @@
 ghost use Rattle.std.specs.Prelude.{◌≡◌, ◌++◌, ◌∷◌, [], true, false, Some, IfOk, OnOk, map, flat_map, option_map};
 ghost use Rattle.sql_syntax.specs.Canonical.{canonical};
 ghost use Rattle.sql_syntax.specs.CanonicalTokens.{doubled, at_level, printed, printed_arm, integer_tokens, column_tokens, list_tokens, arms_tokens, else_tokens};
-ghost use Rattle.sql_syntax.specs.Phrases.{aggregate_word, bracketed, mark, not_if};
-ghost use Rattle.sql_syntax.specs.Printing.{written, with_token, with_tokens, behind_commas, more_items, more_keys, joined_tokens, end_tokens, condition_tokens, source_tokens};
+ghost use Rattle.sql_syntax.specs.Phrases.{aggregate_word, is_distinct, bracketed, mark, not_if, distinct_if};
+ghost use Rattle.sql_syntax.specs.Printing.{written, with_token, with_tokens, aggregate_tokens, behind_commas, more_items, more_keys, joined_tokens, end_tokens, condition_tokens, source_tokens};
 ghost use Rattle.sql_syntax.specs.Queries.{query_tokens, with_commas, item_tokens, alias_tokens, table_tokens, on_tokens, others_tokens_of, clause_tokens, groups_tokens_of, key_tokens, target_token, direction_tokens, order_tokens_of, limit_tokens_of};
 ghost use Rattle.sql_syntax.specs.Strength.{next, level_of, token_of, compares};
 ghost use Rattle.sql_syntax.specs.Tokens.{terminal_of, keyword, text, sign_is, integer};
@@ -146,12 +146,24 @@ impl Printer {
         }
     }
 
+    fn put_distinct_if(&mut self, distinct: bool) -> Result<(), AllocError>
+        ensures { OnOk result (written self.new
+            ≡ with_tokens (written self.old) (distinct_if distinct)) }
+    {
+        if distinct {
+            self.put(Token::Keyword(Keyword::Distinct))
+        } else {
+            Ok(())
+        }
+    }
+
     #[tactic(auto, using(crate::proofs::Writing::with_append))]
     fn put_query(&mut self, query: &Query) -> Result<(), AllocError>
         ensures { OnOk result (written self.new
             ≡ with_tokens (written self.old) (query_tokens query.now)) }
     {
         self.put(Token::Keyword(Keyword::Select))?;
+        self.put_distinct_if(query.distinct)?;
         self.put_items(query.items.as_slice())?;
         self.put_source(query)
     }
@@ -403,8 +415,8 @@ impl Printer {
             Expr::Text(content) => self.put_text(content.as_str()),
             Expr::CountRows => self.put_count_rows(),
             Expr::Aggregate { kind, argument } => {
-                self.put(Token::Keyword(aggregate_word(*kind)))?;
-                self.put_behind(Token::Sign(Sign::Open), Level::Disjunction, argument.get())?;
+                self.put_aggregate(*kind)?;
+                self.put_at(Level::Disjunction, argument.get())?;
                 self.put(Token::Sign(Sign::Close))
             }
             Expr::Minus(operand) => {
@@ -493,6 +505,16 @@ impl Printer {
             ∷ at_level (next (level_of (Reckon operator))) (printed right.now))) }
     {
         self.put_behind(Token::Sign(operator.sign()), operator.level().next(), right)
+    }
+
+    /// An aggregate's name and what stands before its argument.
+    fn put_aggregate(&mut self, kind: Aggregate) -> Result<(), AllocError>
+        ensures { OnOk result (written self.new
+            ≡ with_tokens (written self.old) (aggregate_tokens kind)) }
+    {
+        self.put(Token::Keyword(aggregate_word(kind)))?;
+        self.put(Token::Sign(Sign::Open))?;
+        self.put_distinct_if(is_distinct(kind))
     }
 
     #[tactic(auto, using(crate::proofs::Writing::with_append))]
@@ -606,10 +628,16 @@ fn aggregate_word(kind: Aggregate) -> Keyword
     ensures { result ≡ aggregate_word kind }
 {
     match kind {
-        Aggregate::Count => Keyword::Count,
-        Aggregate::Sum => Keyword::Sum,
+        Aggregate::Count | Aggregate::CountDistinct => Keyword::Count,
+        Aggregate::Sum | Aggregate::SumDistinct => Keyword::Sum,
         Aggregate::Min => Keyword::Min,
         Aggregate::Max => Keyword::Max,
         Aggregate::Average => Keyword::Avg,
     }
+}
+
+fn is_distinct(kind: Aggregate) -> bool
+    ensures { result ≡ is_distinct kind }
+{
+    matches!(kind, Aggregate::CountDistinct | Aggregate::SumDistinct)
 }

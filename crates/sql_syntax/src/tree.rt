@@ -11,6 +11,8 @@ use meaning::{Boxed, Sequence, Text};
 /// A query as it is written: names aren't looked up yet, and all names are in lower case.
 #[derive(Drop)]
 pub struct Query {
+    /// SELECT DISTINCT
+    pub distinct: bool,
     pub items: Sequence<Item>,
     pub source: Source,
     pub filter: Option<Expr>,
@@ -132,10 +134,13 @@ impl Comparison {
     }
 }
 
+/// `CountDistinct` is COUNT(DISTINCT ..), and `SumDistinct` SUM(DISTINCT ..).
 #[derive(Clone, Copy)]
 pub enum Aggregate {
     Count,
+    CountDistinct,
     Sum,
+    SumDistinct,
     Min,
     Max,
     Average,

@@ -4,7 +4,7 @@ use Rattle.std.specs.Prelude.{Option, None, Some}
 use Rattle.meaning.specs.Answer.{own}
 use Rattle.partial_codec.specs.Job.{IsJob, JobSpec}
 use Rattle.partial_codec.specs.Answer.{Spells, fault_in}
-use Rattle.partial_codec.specs.declared.fault.DecodeFault.{DecodeFault}
+use Rattle.answer_fields.specs.declared.fault.DecodeFault.{DecodeFault}
 use Rattle.partial_codec.proofs.Answers.{spelled_reads}
 use Rattle.gathering.specs.Gathering.{Refuses}
 use Rattle.worker.specs.Opened.{AreOver}

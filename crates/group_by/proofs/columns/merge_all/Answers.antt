@@ -3,7 +3,8 @@ use Rattle.std.proofs.Common.{ℕ, ◌<◌, length, get_or, subst, sym}
 use Rattle.std.proofs.lemmas.List.{get_or_default, get_or_read}
 use Rattle.meaning.specs.declared.answer.Statistics.{Statistics}
 use Rattle.meaning.specs.Aggregate.{no_statistics}
-use Rattle.group_by.specs.GroupIndexes.{no_column, IsMerged}
+use Rattle.accumulators.specs.Columns.{no_column}
+use Rattle.group_by.specs.GroupIndexes.{IsMerged}
 use Rattle.group_by.proofs.Merging.{done_more}
 use Rattle.group_by.proofs.columns.merge_all.Goals as goal
 

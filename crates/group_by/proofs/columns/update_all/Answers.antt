@@ -4,7 +4,8 @@ use Rattle.std.proofs.lemmas.List.{get_or_default}
 use Rattle.vectors.specs.declared.vector.Vector.{Vector}
 use Rattle.aggregate_states.specs.Values.{selected}
 use Rattle.vectors.specs.Vector.{values_of}
-use Rattle.group_by.specs.GroupIndexes.{no_column, IsUpdated}
+use Rattle.accumulators.specs.Columns.{no_column}
+use Rattle.group_by.specs.GroupIndexes.{IsUpdated}
 use Rattle.group_index.specs.RowGroups.{listed}
 use Rattle.group_by.proofs.Updating.{done_more}
 use Rattle.group_by.proofs.columns.update_all.Goals as goal

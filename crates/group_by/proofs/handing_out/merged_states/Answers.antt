@@ -6,9 +6,9 @@ use Rattle.group_by.proofs.handing_out.merged_states.Goals as goal
 
 pub loop-k-preserved : goal.loop-k-preserved
 loop-k-preserved c =
-    zipped_more c.args.states.now c.args.others.now c.loop-k.k c.index-states-k.result c.index-others-k.result c.loop-k.merged c.push.new.self c.merge.result
+    zipped_more c.args.states.now c.args.others.now c.loop-k.k c.index-states-k.result c.index-others-k.result c.loop-k.merged c.push.new.self c.in_ok-both.both
     c.requires.widths c.loop-k-test.true
-    (c.merge.ensures ∙ (λ i. merge ((c.in_ok-one.ensures ∙ c.index-states-k.is) i) ((c.in_ok-other.ensures ∙ c.index-others-k.is) i)))
+    (c.in_ok-both.ensures ∙ (λ i. merge (c.index-states-k.is i) (c.index-others-k.is i)))
     c.loop-k.invariant c.in_ok-push.ensures.ok
 
 pub returns : goal.returns

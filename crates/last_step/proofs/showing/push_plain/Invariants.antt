@@ -4,4 +4,4 @@ use Rattle.last_step.specs.Runs.{expanded, plain_rows}
 use Rattle.last_step.proofs.showing.push_plain.Given as goal
 
 abbrev pub invariant-loop-group : goal.invariant-loop-group
-invariant-loop-group l = expanded l.runs.items ++ plain_rows (drop l.group-index l.groups) ≡ expanded l.fn.runs.items ++ plain_rows l.groups
+invariant-loop-group l = expanded l.runs.items ++ plain_rows l.distinct (drop l.group-index l.groups) ≡ expanded l.fn.runs.items ++ plain_rows l.distinct l.groups

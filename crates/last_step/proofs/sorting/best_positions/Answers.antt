@@ -7,4 +7,4 @@ use Rattle.last_step.proofs.sorting.best_positions.Goals as goal
 pub returns : goal.returns
 returns c =
     let row = lane_row c.args.items.now in
-    cut_best c.args.plan.now row c.as_slice-order.result.now c.in-Some.most c.in_ok-positions.positions.items c.truncate.new.self.items (map row c.args.kept.now.list) c.as_slice-order.ensures c.in-Some.is c.in_ok-positions.ensures c.truncate.ensures.items
+    cut_best c.args.plan.now row c.in-Some.most c.in_ok-positions.positions.items c.truncate.new.self.items (map row c.args.kept.now.list) c.in-Some.is c.in_ok-positions.ensures c.truncate.ensures.items

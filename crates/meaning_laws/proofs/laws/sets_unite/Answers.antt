@@ -1,7 +1,7 @@
 -- Proofs of the goals of `sets_unite` (`laws`).
 use Rattle.meaning.proofs.Orders.{row_total, row_exact, value_total, value_exact}
 use Rattle.std.proofs.Common.{refl}
-use Rattle.meaning_laws.proofs.Unions.{union-comm, union-assoc, union_none, set-append}
+use Rattle.meaning.proofs.Unions.{union-comm, union-assoc, union_none, set-append}
 use Rattle.meaning_laws.proofs.laws.sets_unite.Goals as goal
 
 pub returns-clause-rows : goal.returns-clause-rows

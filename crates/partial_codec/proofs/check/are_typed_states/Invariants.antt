@@ -1,7 +1,7 @@
 -- Loop invariants of `are_typed_states` (`check`).
 use Rattle.std.proofs.Common.{◌≡◌, drop}
 use Rattle.std.specs.Cmp.Lexicographic.{pointwise}
-use Rattle.partial_codec.specs.Keeping.{is_typed_state}
+use Rattle.answer_fields.specs.Keeping.{is_typed_state}
 use Rattle.partial_codec.proofs.check.are_typed_states.Given as goal
 
 abbrev pub invariant-loop-i : goal.invariant-loop-i

@@ -3,7 +3,7 @@ use Rattle.std.proofs.Common.{List, sym, ap, ◌∙◌}
 use Rattle.meaning.specs.Said.{Body}
 use Rattle.meaning.specs.declared.answer.Body.TheVariants.{Groups}
 use Rattle.meaning.specs.declared.answer.Group.{Group}
-use Rattle.partial_codec.specs.Keeping.{is_typed}
+use Rattle.answer_fields.specs.Keeping.{is_typed}
 use Rattle.partial_codec.proofs.check.is_typed.Goals as goal
 
 pub returns-in-Groups : goal.returns-in-Groups

@@ -2,7 +2,7 @@
 use Rattle.std.proofs.Common.{rules}
 use Rattle.partial_codec.specs.Answer.{judged}
 use Rattle.partial_codec.specs.Holding.{layout_held_by}
-use Rattle.partial_codec.specs.declared.fault.DecodeFault.TheVariants.{Memory}
+use Rattle.answer_fields.specs.declared.fault.DecodeFault.TheVariants.{Memory}
 use Rattle.partial_codec.proofs.Layouts.{if_memory, judged_returned}
 use Rattle.partial_codec.proofs.decoding.judge.Goals as goal
 

@@ -1,7 +1,7 @@
 -- Loop invariants of `put_aggregates` (`encoding`).
 use Rattle.std.proofs.Common.{◌≡◌, ◌++◌, take, map}
 use Rattle.std.specs.List.{flat_map}
-use Rattle.partial_codec.specs.Shape.{shape_of_aggregate}
+use Rattle.answer_fields.specs.Shape.{shape_of_aggregate}
 use Rattle.partial_codec.specs.Spelling.{aggregate_bytes}
 use Rattle.partial_codec.proofs.encoding.put_aggregates.Given as goal
 

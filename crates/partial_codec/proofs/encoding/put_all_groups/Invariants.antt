@@ -1,7 +1,7 @@
 -- Loop invariants of `put_all_groups` (`encoding`).
 use Rattle.std.proofs.Common.{◌≡◌, ◌++◌, take}
 use Rattle.std.specs.List.{flat_map}
-use Rattle.partial_codec.specs.Shape.{shape_of}
+use Rattle.answer_fields.specs.Shape.{shape_of}
 use Rattle.partial_codec.specs.Spelling.{group_bytes}
 use Rattle.partial_codec.proofs.encoding.put_all_groups.Given as goal
 

@@ -1,7 +1,7 @@
 -- Proofs of the goals of `put_states` (`encoding`).
 use Rattle.std.proofs.Common.{◌++◌, map, get_or, ap, ◌∙◌}
 use Rattle.meaning.specs.declared.answer.Statistics.{Statistics}
-use Rattle.partial_codec.specs.Shape.{shape_of_aggregate}
+use Rattle.answer_fields.specs.Shape.{shape_of_aggregate}
 use Rattle.partial_codec.specs.Spelling.{state_bytes, states_bytes}
 use Rattle.partial_codec.proofs.WrittenStates.{written, all_written}
 use Rattle.partial_codec.proofs.encoding.put_states.Goals as goal

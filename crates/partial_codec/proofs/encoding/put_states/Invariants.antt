@@ -1,6 +1,6 @@
 -- Loop invariants of `put_states` (`encoding`).
 use Rattle.std.proofs.Common.{◌++◌, map}
-use Rattle.partial_codec.specs.Shape.{shape_of_aggregate}
+use Rattle.answer_fields.specs.Shape.{shape_of_aggregate}
 use Rattle.partial_codec.specs.Spelling.{states_bytes}
 use Rattle.partial_codec.proofs.WrittenStates.{IsLeft}
 use Rattle.partial_codec.proofs.encoding.put_states.Given as goal

@@ -2,12 +2,12 @@
 use Rattle.std.proofs.Common.{List, ℕ, Result, Ok, Err, sym, ◌∙◌}
 use Rattle.std.specs.Prelude.{IfOk}
 use Rattle.meaning.specs.Said.{Cell}
-use Rattle.partial_codec.specs.declared.fault.DecodeFault.{DecodeFault}
+use Rattle.answer_fields.specs.declared.fault.DecodeFault.{DecodeFault}
 use Rattle.partial_codec.specs.Job.{JobSpec, IsJob}
 use Rattle.meaning.specs.Wanting.{GivesIfMemory}
 use Rattle.partial_codec.specs.State.{SpellsState, judged_state}
 use Rattle.wire.proofs.Numbers.{IsBytes}
-use Rattle.partial_codec.specs.declared.fault.DecodeFault.TheVariants.{Memory}
+use Rattle.answer_fields.specs.declared.fault.DecodeFault.TheVariants.{Memory}
 use Rattle.partial_codec.proofs.States.{file_takes, spelled_state_reads}
 use Rattle.partial_codec.proofs.state.decode_state.Goals as goal
 

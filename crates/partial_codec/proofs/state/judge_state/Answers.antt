@@ -2,7 +2,7 @@
 use Rattle.std.proofs.Common.{rules}
 use Rattle.partial_codec.specs.Holding.{state_held_by}
 use Rattle.partial_codec.specs.State.{judged_state}
-use Rattle.partial_codec.specs.declared.fault.DecodeFault.TheVariants.{Memory}
+use Rattle.answer_fields.specs.declared.fault.DecodeFault.TheVariants.{Memory}
 use Rattle.partial_codec.proofs.Layouts.{if_memory}
 use Rattle.partial_codec.proofs.StateLayouts.{as_many, judged_state_returned}
 use Rattle.partial_codec.proofs.state.judge_state.Goals as goal

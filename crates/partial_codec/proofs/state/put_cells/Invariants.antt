@@ -1,7 +1,7 @@
 -- Loop invariants of `put_cells` (`state`).
 use Rattle.std.proofs.Common.{◌≡◌, ◌++◌, take}
 use Rattle.std.specs.List.{flat_map}
-use Rattle.partial_codec.specs.Shape.{shape_of}
+use Rattle.answer_fields.specs.Shape.{shape_of}
 use Rattle.partial_codec.specs.State.{cell_bytes}
 use Rattle.partial_codec.proofs.state.put_cells.Given as goal
 

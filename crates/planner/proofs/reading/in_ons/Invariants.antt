@@ -2,7 +2,7 @@
 use Rattle.std.proofs.Common.{◌≡◌, drop}
 use Rattle.std.specs.List.{list_any}
 use Rattle.planner_expressions.specs.Uses.{names}
-use Rattle.planner.specs.Checked.{on_trees}
+use Rattle.planner_clauses.specs.Checked.{on_trees}
 use Rattle.planner.proofs.reading.in_ons.Given as goal
 
 abbrev pub invariant-loop-joined : goal.invariant-loop-joined

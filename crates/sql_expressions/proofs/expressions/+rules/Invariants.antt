@@ -47,7 +47,10 @@ abbrev pub decreases-closed : goal.decreases-closed
 decreases-closed l = l.left * 100 + 1
 
 abbrev pub decreases-aggregate_behind : goal.decreases-aggregate_behind
-decreases-aggregate_behind l = l.left * 100 + 2
+decreases-aggregate_behind l = l.left * 100 + 3
+
+abbrev pub decreases-argument : goal.decreases-argument
+decreases-argument l = l.left * 100 + 2
 
 abbrev pub decreases-bracketed_list : goal.decreases-bracketed_list
 decreases-bracketed_list l = l.left * 100 + 4

@@ -1,0 +1,12 @@
+-- The lemmas of this crate.
+pub mod FromWire
+pub mod Formats
+pub mod ValueLaws
+pub mod Groups
+pub mod FieldLaws
+pub mod Words
+pub mod KeptParts
+pub mod ReadGroups
+pub mod ReadFields
+pub mod KeptCells
+pub mod Shapes

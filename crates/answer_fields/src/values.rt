@@ -1,0 +1,64 @@
+//! Values as bytes.
+ghost use Rattle.std.specs.Prelude.{◌≡◌, ◌++◌, ◌<◌, ◌^◌, OnOk, IfOk, true, length};
+ghost use Rattle.std.specs.Str.{is_utf8};
+ghost use Rattle.aggregate_states.specs.Values.{is_spelled};
+ghost use Rattle.meaning.specs.Order.{value_in};
+ghost use Rattle.answer_fields.specs.LayoutReading.{value_at};
+ghost use Rattle.answer_fields.specs.Ranges.{IsValue};
+ghost use Rattle.answer_fields.specs.Spelling.{value_bytes};
+ghost use Rattle.meaning.specs.Wanting.{GivesIfMemory};
+
+use crate::fault::DecodeFault;
+use meaning::{Text, Value, ValueRef};
+use std::alloc::{AllocError, Global};
+use wire::{append_i64, append_short_text, append_u8, take_i64, take_short_text, take_u8};
+
+fn text_value(alloc: Global, text: &str) -> Result<Value, AllocError>
+    ensures value { IfOk result (λ v. v ≡ Value.Text text.now) }
+    ensures spelled { IfOk result (λ v. is_spelled v ≡ true) }
+{
+    // No effect at run time. The proof reads from this call that the text is UTF-8.
+    let _spelled = text.as_bytes();
+    Ok(Value::Text(Text::new(alloc, text)?))
+}
+
+/// A value: NULL, an integer or a text.
+#[tactic(auto, unfolding(crate::specs::LayoutReading::value_at, crate::specs::LayoutReading::tagged_value_at))]
+pub fn take_value(alloc: Global, bytes: &[u8]) -> Result<(Value, &[u8]), DecodeFault>
+    ensures read { GivesIfMemory DecodeFault.Memory (λ x. (x.0, x.1.now)) result
+        (value_at bytes.now) }
+    ensures spelled { IfOk result (λ x. is_spelled x.0 ≡ true) }
+{
+    let (tag, rest) = take_u8(bytes)?;
+    match tag {
+        0 => Ok((Value::Null, rest)),
+        1 => {
+            let (int, rest) = take_i64(rest)?;
+            Ok((Value::Int(int), rest))
+        }
+        2 => {
+            let (text, rest) = take_short_text(rest)?;
+            Ok((text_value(alloc, text)?, rest))
+        }
+        _ => Err(DecodeFault::Shape),
+    }
+}
+
+/// A value's one spelling.
+#[tactic(auto, unfolding(crate::specs::Spelling::value_bytes))]
+pub fn put_value(out: &mut Vec<u8>, value: ValueRef<'_>) -> Result<(), AllocError>
+    requires { IsValue (value_in value) }
+    ensures { OnOk result (out.new.items ≡ out.old.items ++ value_bytes (value_in value.entry)) }
+{
+    match value {
+        ValueRef::Null => append_u8(out, 0),
+        ValueRef::Int(int) => {
+            append_u8(out, 1)?;
+            append_i64(out, int)
+        }
+        ValueRef::Text(text) => {
+            append_u8(out, 2)?;
+            append_short_text(out, text)
+        }
+    }
+}

@@ -1,0 +1,4 @@
+-- The lemmas of this crate.
+pub mod Places
+pub mod Entering
+pub mod ByGroup

@@ -1,0 +1,11 @@
+//! The sets of values off which COUNT(DISTINCT ..) and SUM(DISTINCT ..) are read, of all groups in one
+//! list.
+#![tactic(auto)]
+
+mod entry;
+mod hints;
+mod ordered_sets;
+mod sets;
+
+pub use ordered_sets::OrderedSets;
+pub use sets::Sets;

@@ -1,8 +1,0 @@
--- Loop invariants of `are_types_of` (`shape`).
-use Rattle.std.proofs.Common.{◌≡◌, drop}
-use Rattle.std.specs.Cmp.Lexicographic.{pointwise}
-use Rattle.partial_codec.specs.Shape.{is_same_type}
-use Rattle.partial_codec.proofs.shape.are_types_of.Given as goal
-
-abbrev pub invariant-loop-i : goal.invariant-loop-i
-invariant-loop-i l = pointwise (λ t k. is_same_type t k.col_type) l.types l.keys ≡ pointwise (λ t k. is_same_type t k.col_type) (drop l.i l.types) (drop l.i l.keys)

@@ -1,0 +1,4 @@
+pub mod Equalities
+pub mod Topmost
+pub mod Gathering
+pub mod Reporting

@@ -9,8 +9,8 @@ from xcols import ArithmeticFault, CannotRead, CannotWrite, Conflict, Folder, Mi
 
 def test_a_refusal_has_its_word_number_and_details(sales):
     with pytest.raises(Refusal) as caught:
-        sales.whole("SELECT DISTINCT")
-    assert (caught.value.word, caught.value.number, caught.value.details) == ("sql", 8, ("7", "distinct"))
+        sales.whole("SELECT ALL")
+    assert (caught.value.word, caught.value.number, caught.value.details) == ("sql", 8, ("7", "all"))
 
 
 def test_a_refusal_has_its_sentence(sales):

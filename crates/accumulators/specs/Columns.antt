@@ -1,8 +1,9 @@
 -- A column of states: one kind, and a state for each group by its group index.
-use Rattle.std.specs.Prelude.{List, []}
+use Rattle.std.specs.Prelude.{Bool, ◌||◌, List, []}
 use Rattle.meaning.specs.declared.plan.AggregateKind.{AggregateKind}
 use Rattle.meaning.specs.declared.plan.AggregateKind.TheVariants as kind
 use Rattle.meaning.specs.declared.answer.Statistics.{Statistics}
+use Rattle.aggregate_states.specs.Kinds.{keeps_set, keeps_sums}
 use Rattle.accumulators.specs.declared.cells.Cells.{Cells}
 use Rattle.accumulators.specs.declared.cells.Cells.TheVariants as held
 pub use Rattle.distinct_sets.specs.Sets.{merged_at}
@@ -39,3 +40,7 @@ states_in (held.SumDistinct s) = s
 -- the column with these states
 abbrev pub of_states : ColumnSpec → List Statistics → ColumnSpec
 of_states c states = record { kind = c.kind; states = states }
+
+-- integers go to states of this kind in a loop of their own: sums and sets
+abbrev pub takes_ints : AggregateKind → Bool
+takes_ints k = keeps_sums k || keeps_set k

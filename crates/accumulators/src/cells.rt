@@ -3,10 +3,10 @@ ghost use Rattle.std.specs.Prelude.{◌≡◌, ◌<◌, ◌≤◌, ◌+◌, [], 
 ghost use Rattle.meaning.specs.declared.plan.AggregateKind.TheVariants as kind;
 ghost use Rattle.meaning.specs.Aggregate.{kept_by, no_statistics};
 ghost use Rattle.meaning.specs.Order.{value_in};
-ghost use Rattle.accumulators.specs.Columns.{kind_of_cells, merged_at, states_in};
+ghost use Rattle.accumulators.specs.Columns.{kind_of_cells, merged_at, states_in, takes_ints};
 ghost use Rattle.meaning.specs.declared.value.Value.TheVariants as of_value;
 ghost use Rattle.aggregate_states.specs.Entries.{state_of, with_entries};
-ghost use Rattle.aggregate_states.specs.Kinds.{has_one_size, keeps_sums};
+ghost use Rattle.aggregate_states.specs.Kinds.{has_one_size};
 ghost use Rattle.aggregate_states.specs.State.{most_entries};
 ghost use Rattle.aggregate_states.specs.Values.{is_spelled, selected};
 ghost use Rattle.vectors.specs.Vector.{values_of};
@@ -73,6 +73,25 @@ fn add_ints_to_sums(cells: &mut [SumAcc], group_indexes: &[u32], ints: &[i64])
     for k in 0..ints.len() {
         add_int_to_sum(cells, group_indexes[k] as usize, ints, k);
     }
+}
+
+/// One integer after the other goes to the set at its group index.
+fn add_ints_to_sets(
+    sets: &mut Sets,
+    alloc: Global,
+    group_indexes: &[u32],
+    ints: &[i64],
+) -> Result<(), AllocError>
+    requires group_indexes { length group_indexes.now ≡ length ints.now }
+    requires within { All (λ group_index. group_index < length sets.old) group_indexes.now }
+    ensures height { length sets.new ≡ length sets.old }
+    ensures ok { OnOk result (sets.new ≡ with_entries kind.CountDistinct sets.old
+        (zip group_indexes.now (map of_value.Int ints.now))) }
+{
+    for k in 0..ints.len() {
+        sets.add_int(alloc, group_indexes[k], ints, k)?;
+    }
+    Ok(())
 }
 
 impl Cells {
@@ -189,33 +208,50 @@ impl Cells {
         )
     }
 
-    /// Whether the states are sums.
-    pub fn are_sums(&self) -> bool
-        ensures { result ≡ keeps_sums (kind_of_cells self.now) }
+    /// Whether `add_ints` takes integers for these states.
+    pub fn take_ints(&self) -> bool
+        ensures { result ≡ takes_ints (kind_of_cells self.now) }
     {
         match self {
             Cells::Sum(_) => true,
             Cells::Avg(_) => true,
+            Cells::CountDistinct(_) => true,
+            Cells::SumDistinct(_) => true,
             _ => false,
         }
     }
 
-    /// One integer after the other goes to the sum at its group index.
-    pub fn add_ints(&mut self, group_indexes: &[u32], ints: &[i64])
-        requires sums { keeps_sums (kind_of_cells self.old) ≡ true }
+    /// One integer after the other goes to the sum or the set at its group index. On an error the
+    /// states are open.
+    pub fn add_ints(
+        &mut self,
+        alloc: Global,
+        group_indexes: &[u32],
+        ints: &[i64],
+    ) -> Result<(), AllocError>
+        requires takes { takes_ints (kind_of_cells self.old) ≡ true }
         requires group_indexes { length group_indexes.now ≡ length ints.now }
         requires within { All (λ group_index. group_index < length (states_in self.old))
             group_indexes.now }
         requires few { All (λ s. s.count + length ints.now ≤ most_entries) (states_in self.old) }
         ensures kind { kind_of_cells self.new ≡ kind_of_cells self.old }
         ensures height { length (states_in self.new) ≡ length (states_in self.old) }
-        ensures value { states_in self.new
+        ensures ok { OnOk result (states_in self.new
             ≡ with_entries (kind_of_cells self.old) (states_in self.old)
-            (zip group_indexes.now (map of_value.Int ints.now)) }
+            (zip group_indexes.now (map of_value.Int ints.now))) }
+        ensures roomy { has_one_size (kind_of_cells self.old) ≡ true → IsOk result }
     {
         match self {
-            Cells::Sum(cells) => add_ints_to_sums(cells.as_mut_slice(), group_indexes, ints),
-            Cells::Avg(cells) => add_ints_to_sums(cells.as_mut_slice(), group_indexes, ints),
+            Cells::Sum(cells) => {
+                add_ints_to_sums(cells.as_mut_slice(), group_indexes, ints);
+                Ok(())
+            }
+            Cells::Avg(cells) => {
+                add_ints_to_sums(cells.as_mut_slice(), group_indexes, ints);
+                Ok(())
+            }
+            Cells::CountDistinct(sets) => add_ints_to_sets(sets, alloc, group_indexes, ints),
+            Cells::SumDistinct(sets) => add_ints_to_sets(sets, alloc, group_indexes, ints),
             _ => unreachable!(),
         }
     }

@@ -1,9 +1,9 @@
 //! The states of one aggregate in all groups, by their group indexes.
 ghost use Rattle.std.specs.Prelude.{◌≡◌, ◌<◌, ◌≤◌, ◌+◌, [], ◌∷◌, ◌++◌, length, map, sum, zip, slice_index_or, true, All, IsOk, OnOk, OnErr, IfOk};
 ghost use Rattle.meaning.specs.Aggregate.{kept_by, no_statistics};
-ghost use Rattle.accumulators.specs.Columns.{kind_of_cells, merged_at, of_states, states_in};
+ghost use Rattle.accumulators.specs.Columns.{kind_of_cells, merged_at, of_states, states_in, takes_ints};
 ghost use Rattle.aggregate_states.specs.Entries.{state_of, with_entries, with_states};
-ghost use Rattle.aggregate_states.specs.Kinds.{has_one_size, keeps_sums};
+ghost use Rattle.aggregate_states.specs.Kinds.{has_one_size};
 ghost use Rattle.aggregate_states.specs.State.{most_entries};
 ghost use Rattle.aggregate_states.specs.Values.{is_spelled, selected};
 ghost use Rattle.vectors.specs.Vector.{values_of};
@@ -45,15 +45,16 @@ fn update_each(
     Ok(())
 }
 
-/// The same for sums, in a loop without tests where all lanes are selected and none is NULL.
-fn update_sums(
+/// The same for sums and sets. Where all lanes are selected integers and none is NULL, in a loop that
+/// knows no kind.
+fn update_ints(
     cells: &mut Cells,
     alloc: Global,
     group_indexes: &[u32],
     lanes: &Vector<'_>,
     selection: &Selection,
 ) -> Result<(), AllocError>
-    requires sums { keeps_sums (kind_of_cells cells.old) ≡ true }
+    requires takes { takes_ints (kind_of_cells cells.old) ≡ true }
     requires group_indexes { length group_indexes.now ≡ length selection.now.list }
     requires within { All (λ group_index. group_index < length (states_in cells.old))
         group_indexes.now }
@@ -71,8 +72,7 @@ fn update_sums(
     let Some(ints) = plain_ints(lanes, selection) else {
         return update_each(cells, alloc, group_indexes, lanes, selection);
     };
-    cells.add_ints(group_indexes, ints);
-    Ok(())
+    cells.add_ints(alloc, group_indexes, ints)
 }
 
 /// All values go to the state at one group index.
@@ -203,8 +203,8 @@ impl StateColumn {
                 selection,
             );
         }
-        if self.cells.are_sums() {
-            return update_sums(&mut self.cells, alloc, group_indexes, lanes, selection);
+        if self.cells.take_ints() {
+            return update_ints(&mut self.cells, alloc, group_indexes, lanes, selection);
         }
         update_each(&mut self.cells, alloc, group_indexes, lanes, selection)
     }

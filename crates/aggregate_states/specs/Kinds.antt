@@ -76,3 +76,14 @@ has_one_size kind.Min = false
 has_one_size kind.Max = false
 has_one_size kind.CountDistinct = false
 has_one_size kind.SumDistinct = false
+
+-- what an aggregate of this kind keeps is a set
+abbrev pub keeps_set : AggregateKind → Bool
+keeps_set kind.CountRows = false
+keeps_set kind.Count = false
+keeps_set kind.Sum = false
+keeps_set kind.Avg = false
+keeps_set kind.Min = false
+keeps_set kind.Max = false
+keeps_set kind.CountDistinct = true
+keeps_set kind.SumDistinct = true

@@ -1,5 +1,5 @@
 //! The entries of which a state keeps the set.
-ghost use Rattle.std.specs.Prelude.{◌≡◌, ◌+◌, ◌+ℤ◌, IfOk, OnOk, OnErr};
+ghost use Rattle.std.specs.Prelude.{◌≡◌, ◌+◌, ◌+ℤ◌, [], IfOk, IsOk, OnOk, OnErr};
 ghost use Rattle.std.specs.Ordering.{is_lt};
 ghost use Rattle.meaning.specs.Aggregate.{total};
 ghost use Rattle.meaning.specs.Order.{ascending_set, is_ascending, number, union, value_cmp};
@@ -46,7 +46,8 @@ pub fn ascends(values: &[Value]) -> bool
 
 /// Two sets as one.
 pub fn united(one: Sequence<Value>, other: Sequence<Value>) -> Result<Sequence<Value>, AllocError>
-    ensures { IfOk result (λ both. both ≡ union value_cmp one other) }
+    ensures value { IfOk result (λ both. both ≡ union value_cmp one other) }
+    ensures roomy { one ≡ [] → IsOk result }
 {
     if one.len() == 0 {
         return Ok(other);

@@ -3,7 +3,7 @@ ghost use Rattle.std.specs.Prelude.{◌≡◌, ◌≢◌, ◌<◌, ◌≤◌, po
 ghost use Rattle.meaning.specs.declared.value.Value.TheVariants as of_value;
 ghost use Rattle.meaning.specs.Aggregate.{sum_value};
 ghost use Rattle.meaning.specs.Operators.{sum_out_of_range};
-ghost use Rattle.aggregate_states.specs.declared.fault.AggFault.TheVariants.{Memory, SumOutOfRange};
+ghost use Rattle.aggregate_states.specs.declared.fault.AggFault.TheVariants.{SumOutOfRange};
 ghost use Rattle.aggregate_states.specs.State.{most_entries, IsSumOf};
 
 use crate::fault::AggFault;
@@ -18,14 +18,10 @@ pub fn count_value(count: u64) -> Value
 }
 
 /// How many entries there are, as a value.
-pub fn size_value(entries: &[Value]) -> Result<Value, AggFault>
-    ensures ok { IfOk result (λ v. v ≡ of_value.Int (pos (length entries.now))) }
-    ensures err { IfErr result (λ f. f ≡ Memory) }
+pub fn size_value(entries: &[Value]) -> Value
+    ensures { result ≡ of_value.Int (pos (length entries.now)) }
 {
-    match i64::try_from(entries.len()) {
-        Ok(size) => Ok(Value::Int(size)),
-        Err(_) => Err(AggFault::Memory),
-    }
+    Value::Int(entries.len() as i64)
 }
 
 /// An exact sum as a value, if 64 bits hold it.

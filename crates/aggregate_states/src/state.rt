@@ -1,5 +1,5 @@
 //! What is known of some entries.
-ghost use Rattle.std.specs.Prelude.{◌≡◌, ◌≤◌, ◌+◌, true, All, Ok, Err, IfOk, IfErr};
+ghost use Rattle.std.specs.Prelude.{◌≡◌, ◌≤◌, ◌+◌, [], true, All, IsOk, Ok, Err, IfOk, IfErr};
 ghost use Rattle.std.specs.List.{list_all};
 ghost use Rattle.std.specs.Ordering.{ord_min};
 ghost use Rattle.meaning.specs.declared.plan.AggregateKind.TheVariants as kind;
@@ -8,7 +8,7 @@ ghost use Rattle.meaning.specs.Operators.{sum_out_of_range};
 ghost use Rattle.meaning.specs.Order.{ascending_set, is_ascending, lesser, value_cmp, value_in};
 ghost use Rattle.aggregate_states.specs.declared.fault.AggFault.TheVariants.{SumOutOfRange};
 ghost use Rattle.aggregate_states.specs.State.{is_extreme, most_entries, IsState};
-ghost use Rattle.aggregate_states.specs.Kinds.{cmp_from, has_one_size, set_state, IsSum};
+ghost use Rattle.aggregate_states.specs.Kinds.{cmp_from, has_one_size, keeps_set, set_state, IsSum};
 ghost use Rattle.aggregate_states.specs.Values.{entry, is_spelled};
 
 use crate::end::{End, comes_first};
@@ -140,7 +140,8 @@ impl State {
     /// What is known of the entries of both.
     pub fn merge(self, other: State) -> Result<State, AllocError>
         requires { self.count + other.count ≤ most_entries }
-        ensures { IfOk result (λ s. s ≡ merge self other) }
+        ensures value { IfOk result (λ s. s ≡ merge self other) }
+        ensures roomy { self.entries ≡ [] → IsOk result }
     {
         let one = self.into_statistics();
         let other = other.into_statistics();
@@ -268,13 +269,13 @@ impl State {
     ///
     /// # Errors
     ///
-    /// A sum outside 64 bits; of the least, the greatest and more entries than 64 bits count, out of
-    /// memory.
+    /// A sum outside 64 bits; of the least and the greatest, out of memory.
     pub fn evaluate(&self, alloc: Global, kind: AggregateKind) -> Result<Value, AggFault>
         ensures ok { IfOk result (λ v. value kind self.now ≡ Ok v) }
         ensures err { IfErr result (λ f. f ≡ SumOutOfRange
             → value kind self.now ≡ Err sum_out_of_range) }
         ensures roomy { has_one_size kind ≡ true → IfErr result (λ f. f ≡ SumOutOfRange) }
+        ensures sets { keeps_set kind ≡ true → IfErr result (λ f. f ≡ SumOutOfRange) }
     {
         match kind {
             AggregateKind::CountRows => Ok(count_value(self.statistics.count)),
@@ -283,7 +284,7 @@ impl State {
             AggregateKind::Avg => Ok(self.evaluate_average()),
             AggregateKind::Min => Ok(owned(alloc, self.least())?),
             AggregateKind::Max => Ok(owned(alloc, self.greatest())?),
-            AggregateKind::CountDistinct => size_value(self.entries()),
+            AggregateKind::CountDistinct => Ok(size_value(self.entries())),
             AggregateKind::SumDistinct => self.evaluate_distinct_sum(),
         }
     }

@@ -20,6 +20,7 @@ use std::alloc::Global;
 use wire::{take_i128, take_u8, take_u32, take_u64};
 
 /// Whether n integers of 64 bits can have this sum.
+#[inline(always)]
 fn is_sum_of(n: u64, sum: i128) -> bool
     ensures { result ≡ fitting.is_sum_of n sum }
 {
@@ -29,6 +30,7 @@ fn is_sum_of(n: u64, sum: i128) -> bool
 
 /// The statistics as a state, and whether so many integers can have their sum. A sum that they
 /// can't have is kept as 0.
+#[inline(always)]
 fn keep(statistics: Statistics) -> (State, bool)
     requires { IsKeepable statistics }
     ensures state { result.0 ≡ kept_state statistics }
@@ -54,6 +56,7 @@ fn keep(statistics: Statistics) -> (State, bool)
     (kept, false)
 }
 
+#[inline(always)]
 fn unless_null(value: Value) -> Option<Value>
     ensures value { result ≡ reading.unless_null value }
     ensures extreme { is_spelled value ≡ true → states.is_extreme result ≡ true }
@@ -96,6 +99,7 @@ fn take_set(alloc: Global, bytes: &[u8]) -> Result<(Sequence<Value>, &[u8]), Dec
 }
 
 #[tactic(auto, unfolding(crate::specs::LayoutReading::state_at))]
+#[inline(always)]
 fn take_count(alloc: Global, bytes: &[u8]) -> Result<(Statistics, &[u8]), DecodeFault>
     ensures read { Reads (λ x. (x.0, x.1.now)) result
         (reading.state_at AggregateKind.Count bytes.now) }
@@ -115,6 +119,7 @@ fn take_count(alloc: Global, bytes: &[u8]) -> Result<(Statistics, &[u8]), Decode
 }
 
 #[tactic(auto, unfolding(crate::specs::LayoutReading::state_at))]
+#[inline(always)]
 fn take_sum(alloc: Global, bytes: &[u8]) -> Result<(Statistics, &[u8]), DecodeFault>
     ensures read { Reads (λ x. (x.0, x.1.now)) result (reading.state_at AggregateKind.Sum
         bytes.now) }
@@ -135,6 +140,7 @@ fn take_sum(alloc: Global, bytes: &[u8]) -> Result<(Statistics, &[u8]), DecodeFa
 }
 
 #[tactic(auto, unfolding(crate::specs::LayoutReading::state_at))]
+#[inline(always)]
 fn take_least(alloc: Global, bytes: &[u8]) -> Result<(Statistics, &[u8]), DecodeFault>
     ensures read { GivesIfMemory DecodeFault.Memory (λ x. (x.0, x.1.now)) result
         (reading.state_at AggregateKind.Min bytes.now) }
@@ -155,6 +161,7 @@ fn take_least(alloc: Global, bytes: &[u8]) -> Result<(Statistics, &[u8]), Decode
 }
 
 #[tactic(auto, unfolding(crate::specs::LayoutReading::state_at))]
+#[inline(always)]
 fn take_greatest(alloc: Global, bytes: &[u8]) -> Result<(Statistics, &[u8]), DecodeFault>
     ensures read { GivesIfMemory DecodeFault.Memory (λ x. (x.0, x.1.now)) result
         (reading.state_at AggregateKind.Max bytes.now) }
@@ -195,6 +202,7 @@ fn take_entries(alloc: Global, bytes: &[u8]) -> Result<(Statistics, &[u8]), Deco
 
 /// What an aggregate of the kind keeps.
 #[tactic(auto, unfolding(crate::specs::LayoutReading::state_at))]
+#[inline(always)]
 fn take_statistics(
     alloc: Global,
     kind: AggregateKind,
@@ -216,6 +224,7 @@ fn take_statistics(
     }
 }
 
+#[inline(always)]
 fn take_state(
     alloc: Global,
     kind: AggregateKind,

@@ -24,6 +24,7 @@ fn text_value(alloc: Global, text: &str) -> Result<Value, AllocError>
 
 /// A value: NULL, an integer or a text.
 #[tactic(auto, unfolding(crate::specs::LayoutReading::value_at, crate::specs::LayoutReading::tagged_value_at))]
+#[inline(always)]
 pub fn take_value(alloc: Global, bytes: &[u8]) -> Result<(Value, &[u8]), DecodeFault>
     ensures read { GivesIfMemory DecodeFault.Memory (λ x. (x.0, x.1.now)) result
         (value_at bytes.now) }

@@ -81,7 +81,7 @@ values_all P [] all = tt
 values_all P (e ∷ more) all = (all.0, values_all P more all.1)
 
 -- more entries of a group leave those that were there
-there_more : (g : ℕ) (now more : List Entry) (v : Value) → has v (in_group g now) ≡ true → has v (in_group g (now ++ more)) ≡ true
+pub there_more : (g : ℕ) (now more : List Entry) (v : Value) → has v (in_group g now) ≡ true → has v (in_group g (now ++ more)) ≡ true
 there_more g now more v h =
     ap (has v) (in_group-append g now more) ∙ list_any-append (same_value v) (in_group g now) (in_group g more)
     ∙ or_first (has v (in_group g now)) (has v (in_group g more)) h

@@ -8,31 +8,36 @@ const EMPTY: u32 = u32::MAX;
 // So many that few entries seldom share a first slot.
 const LEAST_SLOTS: usize = 1024;
 
+/// The hash of an entry, and where it stands.
+#[derive(Clone, Copy)]
+struct Hashed {
+    hash: u64,
+    entry: u32,
+}
+
 /// Where entries stand, by their hashes.
 #[derive(Drop)]
 pub struct Hints {
-    // The hash of each entry.
-    hashes: Vec<u64>,
+    // Of the entries that the table leads to, in their order.
+    hashed: Vec<Hashed>,
     // A power of two of them. The slot of an entry that was forgotten stays taken.
     slots: Vec<u32>,
 }
 
 /// Puts an entry's index into the first empty slot for its hash.
-fn enter(slots: &mut [u32], hash: u64, entry: u32) {
+fn enter(slots: &mut [u32], hashed: Hashed) {
     for step in 0..slots.len() {
-        let number = slot_number(hash, step, slots.len());
+        let number = slot_number(hashed.hash, step, slots.len());
         if number < slots.len() && slots[number] == EMPTY {
-            slots[number] = entry;
+            slots[number] = hashed.entry;
             return;
         }
     }
 }
 
-fn enter_all(slots: &mut [u32], hashes: &[u64]) {
-    let mut entry: u32 = 0;
-    for hash in hashes {
-        enter(slots, *hash, entry);
-        entry = entry.wrapping_add(1);
+fn enter_all(slots: &mut [u32], hashed: &[Hashed]) {
+    for one in hashed {
+        enter(slots, *one);
     }
 }
 
@@ -40,7 +45,7 @@ impl Hints {
     /// To no entry. Takes no memory.
     pub fn new(alloc: Global) -> Hints {
         Hints {
-            hashes: Vec::new(alloc),
+            hashed: Vec::new(alloc),
             slots: Vec::new(alloc),
         }
     }
@@ -64,37 +69,38 @@ impl Hints {
 
     /// Makes the table twice as large where half of it is full.
     fn make_room(&mut self, alloc: Global) -> Result<(), AllocError> {
-        if self.hashes.len() < self.slots.len() / 2 {
+        if self.hashed.len() < self.slots.len() / 2 {
             return Ok(());
         }
         let many = self.slots.len().saturating_mul(2).max(LEAST_SLOTS);
         let mut slots = vec![in alloc; EMPTY; many]?;
-        enter_all(slots.as_mut_slice(), self.hashes.as_slice());
+        enter_all(slots.as_mut_slice(), self.hashed.as_slice());
         self.slots = slots;
         Ok(())
     }
 
-    /// Has the table lead to the next entry. More than 2^32 of them are refused as more than memory
-    /// holds.
-    pub fn lead(&mut self, alloc: Global, hash: u64) -> Result<(), AllocError> {
-        let Ok(entry) = u32::try_from(self.hashes.len()) else {
+    /// Has the table lead to an entry behind those that it leads to. More than 2^32 entries are
+    /// refused as more than memory holds.
+    pub fn lead(&mut self, alloc: Global, hash: u64, entry: usize) -> Result<(), AllocError> {
+        let Ok(entry) = u32::try_from(entry) else {
             return Err(AllocError);
         };
         self.make_room(alloc)?;
-        self.hashes.push(hash)?;
-        enter(self.slots.as_mut_slice(), hash, entry);
+        let hashed = Hashed { hash, entry };
+        self.hashed.push(hashed)?;
+        enter(self.slots.as_mut_slice(), hashed);
         Ok(())
     }
 
     /// Forgets the hashes of all but so many entries.
     pub fn truncate(&mut self, entries: usize) {
-        self.hashes.truncate(entries);
+        self.hashed.retain(|one| (one.entry as usize) < entries);
     }
 
     /// The same table, in memory of its own.
     pub fn copy(&self, alloc: Global) -> Result<Hints, AllocError> {
-        let hashes = Vec::from_slice(alloc, self.hashes.as_slice())?;
+        let hashed = Vec::from_slice(alloc, self.hashed.as_slice())?;
         let slots = Vec::from_slice(alloc, self.slots.as_slice())?;
-        Ok(Hints { hashes, slots })
+        Ok(Hints { hashed, slots })
     }
 }

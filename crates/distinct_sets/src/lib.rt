@@ -4,6 +4,8 @@
 
 mod entry;
 mod hints;
+mod int_slot;
+mod int_table;
 mod ordered_sets;
 mod sets;
 

@@ -12,6 +12,7 @@ ghost use Rattle.vectors.specs.Vector.{values_of};
 
 use crate::entry::{Entry, narrow};
 use crate::hints::Hints;
+use crate::int_table::IntTable;
 use crate::ordered_sets::OrderedSets;
 use aggregate_states::{State, is_null, owned, plain_ints, selected_value};
 use group_index::hash_in_group;
@@ -20,12 +21,27 @@ use std::alloc::{AllocError, Global};
 use std::marker::Model;
 use vectors::{Selection, Vector};
 
-/// The entries of all groups, in the order in which they came. An entry may stand twice, where the
-/// hash table didn't lead to it.
+/// The entries of all groups, in the order in which they came. An entry may stand twice, where no
+/// hash table led to it. Contracts see the entries.
 #[derive(Drop)]
 pub struct EntryList {
-    pub entries: Vec<Entry>,
+    entries: Vec<Entry>,
+    // Leads to the texts.
     hints: Hints,
+    // Holds integers that are in sets.
+    ints: IntTable,
+}
+
+impl Model for EntryList {
+    ghost use Rattle.std.specs.Prelude.{List};
+    ghost use Rattle.distinct_sets.specs.declared.entry.Entry.{Entry};
+    ghost use Rattle.distinct_sets.specs.Slots.{AreSlotsOf};
+
+    ghost Value = { List Entry };
+
+    ghost view = { λ l. l.entries.items };
+
+    ghost invariant = { λ l. AreSlotsOf l.entries.items l.ints.slots.items };
 }
 
 #[inline(always)]
@@ -65,19 +81,33 @@ fn is_entry(entries: &[Entry], at: u32, group_index: u32, value: ValueRef<'_>) -
 impl EntryList {
     /// No entry. Takes no memory.
     fn new(alloc: Global) -> EntryList
-        ensures { result.entries.items ≡ [] }
+        ensures { result ≡ [] }
     {
         EntryList {
             entries: Vec::new(alloc),
             hints: Hints::new(alloc),
+            ints: IntTable::new(alloc),
         }
     }
 
-    /// Whether the hash table leads to the value in the set of the group.
+    /// How many entries there are.
+    fn len(&self) -> usize
+        ensures { result ≡ length self.now }
+    {
+        self.entries.len()
+    }
+
+    fn as_slice(&self) -> &[Entry]
+        ensures { result.now ≡ self.now }
+    {
+        self.entries.as_slice()
+    }
+
+    /// Whether the hints lead to the value in the set of the group.
     #[inline(always)]
     fn finds(&self, hash: u64, group_index: u32, value: ValueRef<'_>) -> bool
         ensures { result ≡ true
-            → has (value_in value.entry) (in_group group_index self.now.entries.items) ≡ true }
+            → has (value_in value.entry) (in_group group_index self.now) ≡ true }
     {
         for step in 0..self.hints.most_steps() {
             let Some(at) = self.hints.after(hash, step) else {
@@ -101,15 +131,64 @@ impl EntryList {
     ) -> Result<(), AllocError>
         requires { is_spelled (value_in value) ≡ true }
         ensures ok { OnOk result (AreEntered group_index (value_in value.entry ∷ [])
-            self.old.entries.items self.new.entries.items) }
-        ensures grown { IsGrown group_index self.old.entries.items self.new.entries.items }
-        ensures err { OnErr result (self.new.entries.items ≡ self.old.entries.items) }
+            self.old self.new) }
+        ensures grown { IsGrown group_index self.old self.new }
+        ensures err { OnErr result (self.new ≡ self.old) }
     {
         let value = owned(alloc, value)?;
         self.entries.reserve(1)?;
-        self.hints.lead(alloc, hash)?;
+        self.hints.lead(alloc, hash, self.entries.len())?;
         self.entries.push(Entry { group_index, value })?;
         Ok(())
+    }
+
+    #[cold]
+    #[inline(never)]
+    fn push_int(&mut self, alloc: Global, group_index: u32, int: &i64) -> Result<(), AllocError>
+        ensures ok { OnOk result (AreEntered group_index (Int int.now ∷ []) self.old self.new) }
+        ensures grown { IsGrown group_index self.old self.new }
+        ensures err { OnErr result (self.new ≡ self.old) }
+    {
+        self.entries.reserve(1)?;
+        self.ints.make_room(alloc)?;
+        let value = Value::Int(*int);
+        self.entries.push(Entry { group_index, value })?;
+        self.ints.add(group_index, int);
+        Ok(())
+    }
+
+    /// An integer more in the set of a group. On an error nothing changes.
+    #[inline(always)]
+    fn enter_int(&mut self, alloc: Global, group_index: u32, int: &i64) -> Result<(), AllocError>
+        ensures ok { OnOk result (AreEntered group_index (Int int.now ∷ []) self.old self.new) }
+        ensures grown { IsGrown group_index self.old self.new }
+        ensures err { OnErr result (self.new ≡ self.old) }
+    {
+        if self.ints.finds(group_index, int) {
+            return Ok(());
+        }
+        self.push_int(alloc, group_index, int)
+    }
+
+    /// A text more in the set of a group, or NULL. On an error nothing changes.
+    #[inline(always)]
+    fn enter_hinted(
+        &mut self,
+        alloc: Global,
+        group_index: u32,
+        value: ValueRef<'_>,
+    ) -> Result<(), AllocError>
+        requires { is_spelled (value_in value) ≡ true }
+        ensures ok { OnOk result (AreEntered group_index (value_in value.entry ∷ []) self.old
+            self.new) }
+        ensures grown { IsGrown group_index self.old self.new }
+        ensures err { OnErr result (self.new ≡ self.old) }
+    {
+        let hash = hash_in_group(group_index, value);
+        if self.finds(hash, group_index, value) {
+            return Ok(());
+        }
+        self.push(alloc, hash, group_index, value)
     }
 
     /// A value more in the set of a group. On an error nothing changes.
@@ -122,15 +201,15 @@ impl EntryList {
     ) -> Result<(), AllocError>
         requires { is_spelled (value_in value) ≡ true }
         ensures ok { OnOk result (AreEntered group_index (value_in value.entry ∷ [])
-            self.old.entries.items self.new.entries.items) }
-        ensures grown { IsGrown group_index self.old.entries.items self.new.entries.items }
-        ensures err { OnErr result (self.new.entries.items ≡ self.old.entries.items) }
+            self.old self.new) }
+        ensures grown { IsGrown group_index self.old self.new }
+        ensures err { OnErr result (self.new ≡ self.old) }
     {
-        let hash = hash_in_group(group_index, value);
-        if self.finds(hash, group_index, value) {
-            return Ok(());
+        match value {
+            ValueRef::Int(int) => self.enter_int(alloc, group_index, &int),
+            ValueRef::Text(_) => self.enter_hinted(alloc, group_index, value),
+            ValueRef::Null => self.enter_hinted(alloc, group_index, value),
         }
-        self.push(alloc, hash, group_index, value)
     }
 
     /// The same of a value that may be NULL, which is in no set.
@@ -143,31 +222,14 @@ impl EntryList {
     ) -> Result<(), AllocError>
         requires { is_spelled (value_in value) ≡ true }
         ensures ok { OnOk result (AreEntered group_index (present (value_in value.entry ∷ []))
-            self.old.entries.items self.new.entries.items) }
-        ensures grown { IsGrown group_index self.old.entries.items self.new.entries.items }
-        ensures err { OnErr result (self.new.entries.items ≡ self.old.entries.items) }
+            self.old self.new) }
+        ensures grown { IsGrown group_index self.old self.new }
+        ensures err { OnErr result (self.new ≡ self.old) }
     {
         if is_null(value) {
             return Ok(());
         }
         self.enter(alloc, group_index, value)
-    }
-
-    #[inline(always)]
-    fn enter_int(
-        &mut self,
-        alloc: Global,
-        group_index: u32,
-        ints: &[i64],
-        k: usize,
-    ) -> Result<(), AllocError>
-        requires { k < length ints.now }
-        ensures ok { OnOk result (AreEntered group_index
-            (Int (slice_index_or ints.now k (pos 0)) ∷ []) self.old.entries.items
-            self.new.entries.items) }
-        ensures grown { IsGrown group_index self.old.entries.items self.new.entries.items }
-    {
-        self.enter(alloc, group_index, ValueRef::Int(ints[k]))
     }
 
     /// Integers more in the set of a group.
@@ -178,11 +240,11 @@ impl EntryList {
         ints: &[i64],
     ) -> Result<(), AllocError>
         ensures ok { OnOk result (AreEntered group_index (map Int ints.now)
-            self.old.entries.items self.new.entries.items) }
-        ensures grown { IsGrown group_index self.old.entries.items self.new.entries.items }
+            self.old self.new) }
+        ensures grown { IsGrown group_index self.old self.new }
     {
         for k in 0..ints.len() {
-            self.enter_int(alloc, group_index, ints, k)?;
+            self.enter_int(alloc, group_index, &ints[k])?;
         }
         Ok(())
     }
@@ -198,9 +260,9 @@ impl EntryList {
         requires lanes { length (values_of lanes.now) ≡ selection.now.below }
         requires spelled { All (λ v. is_spelled v ≡ true) (values_of lanes.now) }
         ensures ok { OnOk result (AreEntered group_index
-            (present (selected (values_of lanes.now) selection.now.list)) self.old.entries.items
-            self.new.entries.items) }
-        ensures grown { IsGrown group_index self.old.entries.items self.new.entries.items }
+            (present (selected (values_of lanes.now) selection.now.list)) self.old
+            self.new) }
+        ensures grown { IsGrown group_index self.old self.new }
     {
         for k in 0..selection.len() {
             self.enter_present(alloc, group_index, selected_value(lanes, selection, k))?;
@@ -219,9 +281,9 @@ impl EntryList {
         requires lanes { length (values_of lanes.now) ≡ selection.now.below }
         requires spelled { All (λ v. is_spelled v ≡ true) (values_of lanes.now) }
         ensures ok { OnOk result (AreEntered group_index
-            (present (selected (values_of lanes.now) selection.now.list)) self.old.entries.items
-            self.new.entries.items) }
-        ensures grown { IsGrown group_index self.old.entries.items self.new.entries.items }
+            (present (selected (values_of lanes.now) selection.now.list)) self.old
+            self.new) }
+        ensures grown { IsGrown group_index self.old self.new }
     {
         if let Some(ints) = plain_ints(lanes, selection) {
             return self.enter_ints(alloc, group_index, ints);
@@ -240,12 +302,12 @@ impl EntryList {
         requires lanes { length (values_of lanes.now) ≡ selection.now.below }
         requires spelled { All (λ v. is_spelled v ≡ true) (values_of lanes.now) }
         ensures ok { OnOk result (AreEntered group_index
-            (present (selected (values_of lanes.now) selection.now.list)) self.old.entries.items
-            self.new.entries.items) }
-        ensures grown { IsGrown group_index self.old.entries.items self.new.entries.items }
-        ensures err { OnErr result (self.new.entries.items ≡ self.old.entries.items) }
+            (present (selected (values_of lanes.now) selection.now.list)) self.old
+            self.new) }
+        ensures grown { IsGrown group_index self.old self.new }
+        ensures err { OnErr result (self.new ≡ self.old) }
     {
-        let many = self.entries.len();
+        let many = self.len();
         match self.enter_selected(alloc, group_index, lanes, selection) {
             Ok(()) => Ok(()),
             Err(fault) => {
@@ -263,9 +325,9 @@ impl EntryList {
         values: &[Value],
     ) -> Result<(), AllocError>
         requires { All (λ v. is_spelled v ≡ true) values.now }
-        ensures ok { OnOk result (AreEntered group_index values.now self.old.entries.items
-            self.new.entries.items) }
-        ensures grown { IsGrown group_index self.old.entries.items self.new.entries.items }
+        ensures ok { OnOk result (AreEntered group_index values.now self.old
+            self.new) }
+        ensures grown { IsGrown group_index self.old self.new }
     {
         for k in 0..values.len() {
             self.enter(alloc, group_index, values[k].as_value_ref())?;
@@ -275,8 +337,9 @@ impl EntryList {
 
     /// Forgets all but so many entries.
     fn truncate(&mut self, many: usize)
-        ensures { self.new.entries.items ≡ take many self.old.entries.items }
+        ensures { self.new ≡ take many self.old }
     {
+        self.ints.clear();
         self.entries.truncate(many);
         self.hints.truncate(many);
     }
@@ -290,16 +353,16 @@ impl EntryList {
         state: &State,
     ) -> Result<(), AllocError>
         ensures set { OnOk result (is_ascending value_cmp state.now.entries ≡ true) }
-        ensures ok { OnOk result (AreEntered group_index state.now.entries self.old.entries.items
-            self.new.entries.items) }
-        ensures grown { IsGrown group_index self.old.entries.items self.new.entries.items }
-        ensures err { OnErr result (self.new.entries.items ≡ self.old.entries.items) }
+        ensures ok { OnOk result (AreEntered group_index state.now.entries self.old
+            self.new) }
+        ensures grown { IsGrown group_index self.old self.new }
+        ensures err { OnErr result (self.new ≡ self.old) }
     {
         if !state.has_set() {
             return Err(AllocError);
         }
         let entries = state.entries();
-        let many = self.entries.len();
+        let many = self.len();
         match self.enter_values(alloc, group_index, entries) {
             Ok(()) => Ok(()),
             Err(fault) => {
@@ -318,8 +381,8 @@ impl EntryList {
     ) -> Result<(), AllocError>
         ensures sets { OnOk result (are_sets states.now ≡ true) }
         ensures ok { OnOk result (AreEntered group_index (entries_of states.now)
-            self.old.entries.items self.new.entries.items) }
-        ensures grown { IsGrown group_index self.old.entries.items self.new.entries.items }
+            self.old self.new) }
+        ensures grown { IsGrown group_index self.old self.new }
     {
         for k in 0..states.len() {
             self.enter_state(alloc, group_index, &states[k])?;
@@ -336,11 +399,11 @@ impl EntryList {
     ) -> Result<(), AllocError>
         ensures sets { OnOk result (are_sets states.now ≡ true) }
         ensures ok { OnOk result (AreEntered group_index (entries_of states.now)
-            self.old.entries.items self.new.entries.items) }
-        ensures grown { IsGrown group_index self.old.entries.items self.new.entries.items }
-        ensures err { OnErr result (self.new.entries.items ≡ self.old.entries.items) }
+            self.old self.new) }
+        ensures grown { IsGrown group_index self.old self.new }
+        ensures err { OnErr result (self.new ≡ self.old) }
     {
-        let many = self.entries.len();
+        let many = self.len();
         match self.enter_each_state(alloc, group_index, states) {
             Ok(()) => Ok(()),
             Err(fault) => {
@@ -352,11 +415,16 @@ impl EntryList {
 
     /// The same entries, in memory of their own.
     fn copy(&self, alloc: Global) -> Result<EntryList, AllocError>
-        ensures { IfOk result (λ list. list.entries.items ≡ self.now.entries.items) }
+        ensures { IfOk result (λ list. list ≡ self.now) }
     {
         let entries = self.entries.clone()?;
         let hints = self.hints.copy(alloc)?;
-        Ok(EntryList { entries, hints })
+        let ints = self.ints.copy(alloc)?;
+        Ok(EntryList {
+            entries,
+            hints,
+            ints,
+        })
     }
 }
 
@@ -374,9 +442,9 @@ impl Model for Sets {
 
     ghost Value = { List Statistics };
 
-    ghost view = { λ s. sets_of s.groups s.list.entries.items };
+    ghost view = { λ s. sets_of s.groups s.list };
 
-    ghost invariant = { λ s. IsSets s.groups s.list.entries.items };
+    ghost invariant = { λ s. IsSets s.groups s.list };
 }
 
 impl Sets {
@@ -435,6 +503,24 @@ impl Sets {
     {
         let group_index = narrow(group_index)?;
         self.list.enter_present(alloc, group_index, value)
+    }
+
+    /// One of some integers more. On an error nothing changes.
+    #[inline(always)]
+    pub fn add_int(
+        &mut self,
+        alloc: Global,
+        group_index: u32,
+        ints: &[i64],
+        k: usize,
+    ) -> Result<(), AllocError>
+        requires group_index { group_index < length self.old }
+        requires within { k < length ints.now }
+        ensures ok { OnOk result (self.new ≡ merged_at self.old group_index
+            (state_of CountDistinct (Int (slice_index_or ints.now k (pos 0)) ∷ []))) }
+        ensures err { OnErr result (self.new ≡ self.old) }
+    {
+        self.list.enter_int(alloc, group_index, &ints[k])
     }
 
     /// Selected values more. On an error nothing changes.
@@ -503,7 +589,7 @@ impl Sets {
     pub fn ordered(&self, alloc: Global) -> Result<OrderedSets<'_>, AllocError>
         ensures { IfOk result (λ sets. sets ≡ self.now) }
     {
-        OrderedSets::of_entries(alloc, self.groups, self.list.entries.as_slice())
+        OrderedSets::of_entries(alloc, self.groups, self.list.as_slice())
     }
 
     /// The state of a group. To hand out several, use `ordered`.

@@ -6,6 +6,7 @@ use Rattle.meaning.specs.Said.{Answer}
 use Rattle.meaning.specs.declared.plan.Join.{Join}
 use Rattle.partial_codec.specs.Answer.{Spells}
 use Rattle.partial_codec.specs.Job.{JobSpec}
+use Rattle.partial_codec.specs.Spelling.{answer_bytes}
 use Rattle.group_reader.specs.Source.{MayBeLeft}
 use Rattle.worker.specs.Work.{answered}
 use Rattle.job_files.specs.RowFiles.{IsFileOfRows, rows_of_fragment}
@@ -24,11 +25,12 @@ use Rattle.jobs.specs.Job.{IsJobOf, IsJobRefused, IsOfJob}
 abbrev pub IsDimensionOf : Holds → List ℕ → Join → List ℕ → Type 0
 IsDimensionOf holds folder join bytes = AreHeld (holds (dimension_path folder join.dim.name)) bytes
 
--- the spelling of what the worker answers for the files
+-- the spelling, in the newest format, of what the worker answers for the files
 pub record IsFileAnswer (job : JobSpec) (k vector : ℕ) (fragment : List ℕ) (dims : List (List ℕ)) (bytes : List ℕ) : Type 0 where
   pub answer : Answer
   pub meant : answered job k vector fragment dims ≡ Ok answer
   pub spelled : Spells job bytes answer
+  pub written : bytes ≡ answer_bytes job answer
 
 -- the same, for bytes that a reader of the fragment's file may have
 abbrev pub IsReaderAnswer : JobSpec → ℕ → ℕ → Option (List ℕ) → List (List ℕ) → List ℕ → Type 0

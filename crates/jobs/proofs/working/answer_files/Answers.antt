@@ -17,4 +17,4 @@ returns-in-Ok-clause-spelled g c =
     let lent = ap (map (λ d. d.now)) c.as_slice.ensures.value ∙ c.in_ok-lent.ensures in
     let (fragment, may, meant) =
     subst (λ (ds : List (List ℕ)). IsTold (Ok c.in-Ok.answer) (IsAnswered g.R.Read.remaining c.args.fragment c.args.job.now c.args.k c.args.vector ds)) lent c.in-Ok.ensures.told in
-    (fragment, may, record { answer = c.in-Ok.answer; meant = meant; spelled = written_spells c.args.job.now c.in_ok-bytes-in-Ok.field-0.items c.in-Ok.answer c.in-Ok.ensures.fits c.in_ok-bytes-in-Ok.ensures })
+    (fragment, may, record { answer = c.in-Ok.answer; meant = meant; spelled = written_spells c.args.job.now c.in_ok-bytes-in-Ok.field-0.items c.in-Ok.answer c.in-Ok.ensures.fits c.in_ok-bytes-in-Ok.ensures; written = c.in_ok-bytes-in-Ok.ensures })

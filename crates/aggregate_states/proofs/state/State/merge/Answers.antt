@@ -11,6 +11,6 @@ from_statistics-requires c =
     let spelled = λ (s : Statistics). list_all is_spelled s.entries in
     let one = c.into_statistics-one in
     let other = c.into_statistics-other in
-    let entries : list_all is_spelled c.in_ok-entries.entries ≡ true = ap (list_all is_spelled) c.in_ok-entries.ensures
+    let entries : list_all is_spelled c.in_ok-entries.entries ≡ true = ap (list_all is_spelled) c.in_ok-entries.ensures.value
     ∙ union_spelled one.result.entries other.result.entries (ap spelled one.ensures.value ∙ one.ensures.state.entries) (ap spelled other.ensures.value ∙ other.ensures.state.entries) in
     record { count = search rules; sum = search rules; least = search rules; greatest = search rules; entries = entries }

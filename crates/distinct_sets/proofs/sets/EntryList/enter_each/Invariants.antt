@@ -9,6 +9,6 @@ use Rattle.distinct_sets.proofs.sets.EntryList.enter_each.Given as goal
 -- the values before this one came
 abbrev pub invariant-loop-k : goal.invariant-loop-k
 invariant-loop-k l = record {
-  ok : AreEntered l.group_index (present (selected (values_of l.lanes) (take l.k l.selection.list))) l.fn.self.entries.items l.self.entries.items;
-  grown : IsGrown l.group_index l.fn.self.entries.items l.self.entries.items;
+  ok : AreEntered l.group_index (present (selected (values_of l.lanes) (take l.k l.selection.list))) l.fn.self l.self;
+  grown : IsGrown l.group_index l.fn.self l.self;
 }

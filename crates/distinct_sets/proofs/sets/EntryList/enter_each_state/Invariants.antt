@@ -7,6 +7,6 @@ use Rattle.distinct_sets.proofs.sets.EntryList.enter_each_state.Given as goal
 abbrev pub invariant-loop-k : goal.invariant-loop-k
 invariant-loop-k l = record {
   sets : are_sets (take l.k l.states) ≡ true;
-  ok : AreEntered l.group_index (entries_of (take l.k l.states)) l.fn.self.entries.items l.self.entries.items;
-  grown : IsGrown l.group_index l.fn.self.entries.items l.self.entries.items;
+  ok : AreEntered l.group_index (entries_of (take l.k l.states)) l.fn.self l.self;
+  grown : IsGrown l.group_index l.fn.self l.self;
 }

@@ -8,5 +8,5 @@ use Rattle.distinct_sets.proofs.sets.EntryList.enter_selected.Goals as goal
 
 pub returns-in-Some-clause-ok : goal.returns-in-Some-clause-ok
 returns-in-Some-clause-ok c =
-    subst (λ (vs : List Value). OnOk c.enter_ints.result (AreEntered c.args.group_index vs c.args.self.now.entries.items c.enter_ints.new.self.entries.items))
+    subst (λ (vs : List Value). OnOk c.enter_ints.result (AreEntered c.args.group_index vs c.args.self.now c.enter_ints.new.self))
     (sym (present_of_ints c.in-Some.ints.now) ∙ ap present c.in-Some.ensures.value) c.enter_ints.ensures.ok

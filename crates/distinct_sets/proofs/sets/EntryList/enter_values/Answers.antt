@@ -7,9 +7,9 @@ use Rattle.distinct_sets.proofs.sets.EntryList.enter_values.Goals as goal
 pub loop-k-preserved : goal.loop-k-preserved
 loop-k-preserved c =
     let g = c.args.group_index in
-    let old = c.args.self.now.entries.items in
-    let now = c.loop-k.self.entries.items in
-    let new = c.enter.new.self.entries.items in
+    let old = c.args.self.now in
+    let now = c.loop-k.self in
+    let new = c.enter.new.self in
     record {
       ok = values_more g c.args.values.now c.loop-k.k old now new (value_in c.as_value_ref.result) c.index-values-k.result c.loop-k-test.true
           (c.as_value_ref.ensures ∙ c.index-values-k.is) c.loop-k.invariant.ok c.in_ok-enter.ensures.ok;

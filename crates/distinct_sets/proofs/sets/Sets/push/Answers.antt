@@ -8,5 +8,5 @@ use Rattle.distinct_sets.proofs.sets.Sets.push.Goals as goal
 pub returns-clause-ok : goal.returns-clause-ok
 returns-clause-ok c =
     let more : c.in-Some.groups ≡ c.self.inside.groups + 1 = search rules in
-    one_group_more c.self.inside.groups c.in-Some.groups c.self.inside.list.entries.items more c.self.invariant
+    one_group_more c.self.inside.groups c.in-Some.groups c.self.inside.list more c.self.invariant
     ∙ ap (λ (ss : List Statistics). ss ++ no_statistics ∷ []) c.self.view_is

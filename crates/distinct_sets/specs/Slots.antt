@@ -1,13 +1,14 @@
--- Hash tables whose slots hold pairs of a group and an integer.
-use Rattle.std.specs.Prelude.{◌≡◌, ◌==◌, true, false, List, All}
+-- Hash tables whose slots hold integers and the groups that have them.
+use Rattle.std.specs.Prelude.{◌≡◌, ℕ, ◌+◌, ◌*◌, true, List, All}
 use Rattle.meaning.specs.declared.value.Value.TheVariants.{Int}
 use Rattle.distinct_sets.specs.declared.entry.Entry.{Entry}
 use Rattle.distinct_sets.specs.declared.int_slot.IntSlot.{IntSlot}
+use Rattle.distinct_sets.specs.Marks.{IsMarked}
 use Rattle.distinct_sets.specs.Sets.{has, in_group}
 
--- a slot is empty, or these entries have its integer in the set of its group
+-- these entries have a slot's integer in the set of each group that it marks
 abbrev pub IsSlotOf : List Entry → IntSlot → Type 0
-IsSlotOf entries slot = (slot.group_index == 4294967295) ≡ false → has (Int slot.value) (in_group slot.group_index entries) ≡ true
+IsSlotOf entries slot = (offset : ℕ) → IsMarked slot.marks offset → has (Int slot.value) (in_group (slot.block * 32 + offset) entries) ≡ true
 
 abbrev pub AreSlotsOf : List Entry → List IntSlot → Type 0
 AreSlotsOf entries slots = All (IsSlotOf entries) slots

@@ -1,12 +1,11 @@
 //! A hash table that leads to the entries of sets. It is a hint: what it leads to is compared, and
 //! what it doesn't lead to is entered again, which changes no set.
+use crate::table_size::larger_size;
 use group_index::slot_number;
 use std::alloc::{AllocError, Global};
 
-const EMPTY: u32 = u32::MAX;
-
-// So many that few entries seldom share a first slot.
-const LEAST_SLOTS: usize = 1024;
+// What an empty slot holds.
+const NO_ENTRY: u32 = u32::MAX;
 
 /// The hash of an entry, and where it stands.
 #[derive(Clone, Copy)]
@@ -28,7 +27,7 @@ pub struct Hints {
 fn enter(slots: &mut [u32], hashed: Hashed) {
     for step in 0..slots.len() {
         let number = slot_number(hashed.hash, step, slots.len());
-        if number < slots.len() && slots[number] == EMPTY {
+        if number < slots.len() && slots[number] == NO_ENTRY {
             slots[number] = hashed.entry;
             return;
         }
@@ -61,7 +60,7 @@ impl Hints {
     pub fn after(&self, hash: u64, step: usize) -> Option<u32> {
         let slots = self.slots.as_slice();
         let entry = *slots.get(slot_number(hash, step, slots.len()))?;
-        if entry == EMPTY {
+        if entry == NO_ENTRY {
             return None;
         }
         Some(entry)
@@ -69,11 +68,10 @@ impl Hints {
 
     /// Makes the table twice as large where half of it is full.
     fn make_room(&mut self, alloc: Global) -> Result<(), AllocError> {
-        if self.hashed.len() < self.slots.len() / 2 {
+        let Some(many) = larger_size(self.hashed.len(), self.slots.len()) else {
             return Ok(());
-        }
-        let many = self.slots.len().saturating_mul(2).max(LEAST_SLOTS);
-        let mut slots = vec![in alloc; EMPTY; many]?;
+        };
+        let mut slots = vec![in alloc; NO_ENTRY; many]?;
         enter_all(slots.as_mut_slice(), self.hashed.as_slice());
         self.slots = slots;
         Ok(())

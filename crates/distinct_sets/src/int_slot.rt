@@ -1,16 +1,17 @@
 //! The slots of a hash table of integers.
 
-/// An integer in the set of a group, or nothing.
+use crate::marks::{Marks, NO_MARKS};
+
+/// An integer in the sets of the groups of a block that are marked. Where none is, the slot is empty.
 #[derive(Clone, Copy)]
 pub struct IntSlot {
-    pub group_index: u32,
+    pub block: u32,
+    pub marks: Marks,
     pub value: i64,
 }
 
-/// The group index of an empty slot. The pairs of this group are in no slot.
-pub const NO_GROUP: u32 = u32::MAX;
-
 pub const EMPTY: IntSlot = IntSlot {
-    group_index: NO_GROUP,
+    block: 0,
+    marks: NO_MARKS,
     value: 0,
 };

@@ -1,18 +1,18 @@
 //! A hash table whose slots hold the integers that are in sets, so that an integer that is found costs
-//! one slot. An integer that isn't found is entered again, which changes no set.
-ghost use Rattle.std.specs.Prelude.{◌≡◌, ◌==◌, [], List, length, true, false, IfOk};
+//! one slot. Neighbouring groups that have the same integer share a slot. An integer that isn't found
+//! is entered again, which changes no set.
+ghost use Rattle.std.specs.Prelude.{◌≡◌, [], List, true, IfOk, IfSome};
 ghost use Rattle.meaning.specs.declared.value.Value.TheVariants.{Int};
 ghost use Rattle.distinct_sets.specs.declared.entry.Entry.{Entry as AnEntry};
 ghost use Rattle.distinct_sets.specs.Sets.{has, in_group};
 ghost use Rattle.distinct_sets.specs.Slots.{AreSlotsOf, IsSlotOf};
 
-use crate::int_slot::{EMPTY, IntSlot, NO_GROUP};
+use crate::int_slot::{EMPTY, IntSlot};
+use crate::marks::{Marks, in_block};
+use crate::table_size::larger_size;
 use group_index::{hash_in_group, slot_number};
 use meaning::ValueRef;
 use std::alloc::{AllocError, Global};
-
-// So many that few integers seldom share a first slot.
-const LEAST_SLOTS: usize = 1024;
 
 /// Integers by their groups.
 #[derive(Drop)]
@@ -23,32 +23,69 @@ pub struct IntTable {
 }
 
 #[inline(always)]
-fn hash_of(group_index: u32, int: &i64) -> u64 {
-    hash_in_group(group_index, ValueRef::Int(*int))
+fn hash_of(block: u32, int: &i64) -> u64 {
+    hash_in_group(block, ValueRef::Int(*int))
 }
 
-/// Whether a slot holds the integer of the group.
+/// Whether a slot is the one of an integer in the groups of a block.
 #[inline(always)]
-fn is_pair(slot: IntSlot, group_index: u32, int: &i64) -> bool
-    ensures { (entries : List AnEntry) → IsSlotOf entries slot → result ≡ true
-        → has (Int int.now) (in_group group_index entries) ≡ true }
+fn is_slot_for(slot: IntSlot, block: u32, int: &i64) -> bool
+    ensures block { result ≡ true → slot.block ≡ block }
+    ensures value { result ≡ true → slot.value ≡ int.now }
 {
-    slot.value == *int && slot.group_index == group_index && group_index != NO_GROUP
+    slot.value == *int && slot.block == block
 }
 
-/// Puts what a slot holds into the first empty slot for its hash.
-fn put(slots: &mut [IntSlot], slot: IntSlot)
+/// A slot for an integer in one group.
+fn slot_of(group_index: u32, int: &i64) -> IntSlot
+    ensures { (entries : List AnEntry) → has (Int int.now) (in_group group_index entries) ≡ true
+        → IsSlotOf entries result }
+{
+    let group = in_block(group_index);
+    IntSlot {
+        block: group.block,
+        marks: Marks::of(group.offset),
+        value: *int,
+    }
+}
+
+/// What two slots hold, where the first is empty or both are for the same integer and block.
+fn joined(held: IntSlot, slot: IntSlot) -> Option<IntSlot>
+    ensures { (entries : List AnEntry) → IsSlotOf entries held → IsSlotOf entries slot
+        → IfSome result (λ both. IsSlotOf entries both) }
+{
+    if held.marks.are_none() {
+        return Some(slot);
+    }
+    if !is_slot_for(held, slot.block, &slot.value) {
+        return None;
+    }
+    Some(IntSlot {
+        block: slot.block,
+        marks: held.marks.with(slot.marks),
+        value: slot.value,
+    })
+}
+
+/// Puts what a slot holds into the slot for its integer and block, or else into the first empty one.
+/// Gives whether an empty one was taken.
+fn put(slots: &mut [IntSlot], slot: IntSlot) -> bool
     ensures { (entries : List AnEntry) → IsSlotOf entries slot → AreSlotsOf entries slots.old
         → AreSlotsOf entries slots.new }
 {
-    let hash = hash_of(slot.group_index, &slot.value);
+    let hash = hash_of(slot.block, &slot.value);
     for step in 0..slots.len() {
         let number = slot_number(hash, step, slots.len());
-        if number < slots.len() && slots[number].group_index == NO_GROUP {
-            slots[number] = slot;
-            return;
+        if number >= slots.len() {
+            return false;
+        }
+        let held = slots[number];
+        if let Some(both) = joined(held, slot) {
+            slots[number] = both;
+            return held.marks.are_none();
         }
     }
+    false
 }
 
 fn put_all(slots: &mut [IntSlot], others: &[IntSlot])
@@ -64,8 +101,8 @@ fn put_taken(slots: &mut [IntSlot], slot: IntSlot)
     ensures { (entries : List AnEntry) → IsSlotOf entries slot → AreSlotsOf entries slots.old
         → AreSlotsOf entries slots.new }
 {
-    if slot.group_index != NO_GROUP {
-        put(slots, slot);
+    if !slot.marks.are_none() {
+        let _taken = put(slots, slot);
     }
 }
 
@@ -95,17 +132,18 @@ impl IntTable {
             → has (Int int.now) (in_group group_index entries) ≡ true }
     {
         let slots = self.slots.as_slice();
-        let hash = hash_of(group_index, int);
+        let group = in_block(group_index);
+        let hash = hash_of(group.block, int);
         for step in 0..slots.len() {
             let number = slot_number(hash, step, slots.len());
             if number >= slots.len() {
                 return false;
             }
             let slot = slots[number];
-            if is_pair(slot, group_index, int) {
-                return true;
+            if is_slot_for(slot, group.block, int) {
+                return slot.marks.have(group.offset);
             }
-            if slot.group_index == NO_GROUP {
+            if slot.marks.are_none() {
                 return false;
             }
         }
@@ -117,10 +155,9 @@ impl IntTable {
         ensures { (entries : List AnEntry) → AreSlotsOf entries self.old.slots.items
             → AreSlotsOf entries self.new.slots.items }
     {
-        if self.taken < self.slots.len() / 2 {
+        let Some(many) = larger_size(self.taken, self.slots.len()) else {
             return Ok(());
-        }
-        let many = self.slots.len().saturating_mul(2).max(LEAST_SLOTS);
+        };
         let mut slots = empty_slots(alloc, many)?;
         put_all(slots.as_mut_slice(), self.slots.as_slice());
         self.slots = slots;
@@ -132,15 +169,10 @@ impl IntTable {
         ensures { (entries : List AnEntry) → has (Int int.now) (in_group group_index entries) ≡ true
             → AreSlotsOf entries self.old.slots.items → AreSlotsOf entries self.new.slots.items }
     {
-        if group_index == NO_GROUP {
-            return;
+        let slot = slot_of(group_index, int);
+        if put(self.slots.as_mut_slice(), slot) {
+            self.taken = self.taken.wrapping_add(1);
         }
-        let slot = IntSlot {
-            group_index,
-            value: *int,
-        };
-        put(self.slots.as_mut_slice(), slot);
-        self.taken = self.taken.wrapping_add(1);
     }
 
     /// Forgets all integers. Takes no memory.

@@ -9,3 +9,4 @@ pub mod Merging
 pub mod ShapedGroups
 pub mod Deltas
 pub mod LiveTotals
+pub mod TakenGroups

@@ -1,11 +1,11 @@
 -- Groups by integers that are sorted before the groups are made.
-use Rattle.std.specs.Prelude.{◌≡◌, ℕ, ℤ, zero, suc, ◌+◌, ◌<◌, Bool, true, false, cond, not, ◌&&◌, List, [], ◌∷◌, ◌++◌, length, map, filter, reverse, get_or, pos, All, IfSome, IsPermutation, Option, Some}
+use Rattle.std.specs.Prelude.{◌≡◌, ℕ, ℤ, zero, suc, ◌+◌, ◌<◌, Bool, true, false, cond, not, ◌&&◌, List, [], ◌∷◌, ◌++◌, length, map, filter, reverse, take, drop, get_or, pos, All, IfSome, IsPermutation, Option, Some}
 use Rattle.std.specs.List.Sorted.{IsStableBy, ties}
 use Rattle.std.specs.Ordering.{eq_by_cmp, is_eq, is_lt, ordering_reverse, ordering_then}
 use Rattle.std.specs.declared.cmp.Ordering.{Ordering}
 use Rattle.std.specs.declared.cmp.Ordering.TheVariants.{Less, Equal, Greater}
 use Rattle.std.proofs.Common.{refl, sym, ap, subst, ◌∙◌, arith}
-use Rattle.std.proofs.lemmas.List.{length-map, get_or-map, take_all, take_more}
+use Rattle.std.proofs.lemmas.List.{length-map, get_or-map, take_all, take_more, take-map, drop-map}
 use Rattle.std.proofs.lemmas.List.Sorted.{All-permutation, IsPermutation-map, IsPermutation-reverse, IsPermutation-trans}
 use Rattle.meaning.specs.declared.value.Value.TheVariants.{Null, Int, Text}
 use Rattle.meaning.specs.declared.answer.Group.{Group}
@@ -15,7 +15,7 @@ use Rattle.meaning.proofs.Orders.{row_total}
 use Rattle.accumulators.specs.Columns.{ColumnSpec}
 use Rattle.group_by.specs.declared.int_groups.IntGroup.{IntGroup}
 use Rattle.group_by.specs.Combined.{combined, put_before, IsInOrder, Rises, SameBeside}
-use Rattle.group_by.specs.IntGroups.{key_in, indexed_group, AreApart, AreIndexed}
+use Rattle.group_by.specs.IntGroups.{key_in, indexed_group, AreApart, AreIndexed, AreOrdered}
 use Rattle.group_by.specs.GroupIndexes.{by_group_index, group_at}
 use Rattle.group_by.proofs.Batches.{by_group_index-length, by_group_index-at}
 use Rattle.group_by.proofs.Combining.{reverse_cons, tie}
@@ -181,3 +181,13 @@ module _ (keys : List Row) (indexed reversed sorted : List IntGroup) (are : AreI
         moved = subst (λ (gs : List Group). IsPermutation gs (map f sorted)) all (IsPermutation-map f reversed sorted moved);
         are = is ∙ sym (combined_up_is (map f sorted) up);
       }
+
+  pub ordered : ((rows : List ℕ) (columns : List ColumnSpec) → SameBeside (map (indexed_group rows columns) reversed) (map (indexed_group rows columns) sorted)) → AreApart sorted → AreOrdered keys sorted
+  ordered beside apart = record {
+    groups = λ rows columns. in_int_order rows columns (map (indexed_group rows columns) sorted) (beside rows columns) apart refl;
+    within = all_within (length keys) refl;
+  }
+
+-- some of the groups
+pub some_mapped : (f : IntGroup → Group) (indexed : List IntGroup) (from n : ℕ) → map f (take n (drop from indexed)) ≡ take n (drop from (map f indexed))
+some_mapped f indexed from n = sym (take-map f n (drop from indexed)) ∙ ap (take n) (sym (drop-map f from indexed))

@@ -5,3 +5,4 @@ pub mod Rows
 pub mod GroupIndexes
 pub mod Combined
 pub mod IntGroups
+pub mod OrderedGroups

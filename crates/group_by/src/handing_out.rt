@@ -5,14 +5,15 @@ ghost use Rattle.meaning.specs.Group.{merge_groups};
 ghost use Rattle.meaning.specs.Order.{row_cmp};
 ghost use Rattle.aggregate_states.specs.State.{most_entries};
 ghost use Rattle.group_by.specs.Combined.{combined, put_before, zipped, AreFit, AreMergeable, IsInOrder, MergesWithFirst, Rises, SameBeside};
-ghost use Rattle.group_index.specs.Keys.{alone};
+ghost use Rattle.group_by.specs.IntGroups.{AreOrdered};
 ghost use Rattle.group_by.specs.GroupIndexes.{by_group_index, group_at, state_at, state_in};
 
 use crate::columns::ordered_columns;
-use crate::int_groups::{are_apart, indexed_groups, int_groups, sort_ints};
+use crate::int_groups::{IntGroup, indexed_groups, ordered_ints};
+use crate::ordered_groups::OrderedGroups;
 use accumulators::{Group, OrderedStates, State, StateColumn};
 use group_index::{KeyList, are_equal, compare_keys, copy_key};
-use meaning::{Row, Sequence, Value};
+use meaning::{Row, Sequence};
 use std::alloc::{AllocError, Global};
 use std::cmp::Ordering;
 use std::mem::drop;
@@ -196,27 +197,14 @@ fn rows_in_order(
     }
 }
 
-/// The groups of integers in order, where each of them is one key.
-fn ints_in_order(
-    alloc: Global,
-    values: &[Value],
-    rows: &[u64],
-    columns: &[OrderedStates<'_>],
-) -> Result<Option<Vec<Group>>, AllocError>
-    requires rows { length rows.now ≡ length values.now }
-    requires columns { All (λ c. length c.states ≡ length values.now) columns.now }
-    ensures { IfOk result (λ found. IfSome found
-        (λ groups. IsInOrder (alone values.now) rows.now columns.now groups.items)) }
+/// The keys in order, where each is one integer and none stands twice.
+fn keys_as_ints(alloc: Global, keys: &KeyList) -> Result<Option<Vec<IntGroup>>, AllocError>
+    ensures { IfOk result (λ found. IfSome found (λ indexed. AreOrdered keys.now indexed.items)) }
 {
-    let Some(mut indexed) = int_groups(alloc, values)? else {
-        return Ok(None);
-    };
-    indexed.reverse();
-    sort_ints(&mut indexed)?;
-    if !are_apart(indexed.as_slice()) {
-        return Ok(None);
+    match keys.values() {
+        Some(values) => ordered_ints(alloc, values),
+        None => Ok(None),
     }
-    Ok(Some(indexed_groups(alloc, indexed.as_slice(), rows, columns)?))
 }
 
 /// The groups in the order of their keys, from columns that are ready to be handed out.
@@ -233,10 +221,8 @@ fn keys_in_order(
         → (state_at columns.now c group_index).count ≤ slice_index rows.now group_index }
     ensures { IfOk result (λ groups. IsInOrder keys rows.now columns.now groups.items) }
 {
-    if let Some(values) = keys.values() {
-        if let Some(groups) = ints_in_order(alloc, values, rows, columns)? {
-            return Ok(groups);
-        }
+    if let Some(indexed) = keys_as_ints(alloc, &keys)? {
+        return indexed_groups(alloc, indexed.as_slice(), rows, columns);
     }
     rows_in_order(alloc, keys.into_rows(alloc)?, rows, columns)
 }
@@ -257,4 +243,44 @@ pub fn in_order(
 {
     let columns = ordered_columns(alloc, columns)?;
     keys_in_order(alloc, keys, rows, columns.as_slice())
+}
+
+/// The groups in the order of their keys, those of one key as one, from keys that stay as they are.
+fn made_in_order(
+    alloc: Global,
+    keys: &KeyList,
+    rows: &[u64],
+    columns: &[OrderedStates<'_>],
+) -> Result<Vec<Group>, AllocError>
+    requires rows { length rows.now ≡ length keys.now }
+    requires columns { All (λ c. length c.states ≡ length keys.now) columns.now }
+    requires few { sum rows.now ≤ most_entries }
+    requires within { (c group_index : ℕ)
+        → (state_at columns.now c group_index).count ≤ slice_index rows.now group_index }
+    ensures { IfOk result (λ groups. IsInOrder keys.now rows.now columns.now groups.items) }
+{
+    let keys = keys.copy(alloc)?;
+    rows_in_order(alloc, keys.into_rows(alloc)?, rows, columns)
+}
+
+/// The groups in the order of their keys, those of one key as one. Those of integers are made when
+/// they are asked for.
+pub fn ordered_groups<'a>(
+    alloc: Global,
+    keys: &KeyList,
+    rows: &'a [u64],
+    columns: Vec<OrderedStates<'a>>,
+) -> Result<OrderedGroups<'a>, AllocError>
+    requires rows { length rows.now ≡ length keys.now }
+    requires columns { All (λ c. length c.states ≡ length keys.now) columns.items }
+    requires few { sum rows.now ≤ most_entries }
+    requires within { (c group_index : ℕ)
+        → (state_at columns.items c group_index).count ≤ slice_index rows.now group_index }
+    ensures { IfOk result
+        (λ groups. IsInOrder keys.now rows.entry.now columns.entry.items groups) }
+{
+    match keys_as_ints(alloc, keys)? {
+        Some(indexed) => Ok(OrderedGroups::unmade(indexed, rows, columns)),
+        None => Ok(OrderedGroups::made(made_in_order(alloc, keys, rows, columns.as_slice())?)),
+    }
 }

@@ -7,7 +7,7 @@ ghost use Rattle.meaning.specs.declared.value.Value.TheVariants.{Int};
 ghost use Rattle.meaning.specs.Order.{row_cmp};
 ghost use Rattle.accumulators.specs.Columns.{ColumnSpec};
 ghost use Rattle.group_by.specs.Combined.{SameBeside};
-ghost use Rattle.group_by.specs.IntGroups.{key_in, indexed_group, AreApart, AreIndexed};
+ghost use Rattle.group_by.specs.IntGroups.{key_in, indexed_group, AreApart, AreIndexed, AreOrdered};
 ghost use Rattle.group_index.specs.Keys.{alone};
 
 use crate::handing_out::group_of;
@@ -35,7 +35,7 @@ fn int_group(int: &i64, group_index: usize) -> IntGroup
 }
 
 /// The integers of keys by their group indexes, where each key is one.
-pub fn int_groups(alloc: Global, values: &[Value]) -> Result<Option<Vec<IntGroup>>, AllocError>
+fn int_groups(alloc: Global, values: &[Value]) -> Result<Option<Vec<IntGroup>>, AllocError>
     ensures { IfOk result (λ found. IfSome found
         (λ indexed. AreIndexed (alone values.now) (length values.now) indexed.items)) }
 {
@@ -57,7 +57,7 @@ fn compare(one: &IntGroup, other: &IntGroup) -> Ordering
 }
 
 /// Puts integers in order, those of one key in the order in which they stand.
-pub fn sort_ints(indexed: &mut Vec<IntGroup>) -> Result<(), AllocError>
+fn sort_ints(indexed: &mut Vec<IntGroup>) -> Result<(), AllocError>
     ensures beside { OnOk result ((rows : List ℕ) → (columns : List ColumnSpec)
         → SameBeside (map (indexed_group rows columns) indexed.old.items)
         (map (indexed_group rows columns) indexed.new.items)) }
@@ -77,7 +77,7 @@ fn comes_before(indexed: &[IntGroup], k: usize) -> bool
 }
 
 /// Whether each integer is less than the next.
-pub fn are_apart(indexed: &[IntGroup]) -> bool
+fn are_apart(indexed: &[IntGroup]) -> bool
     ensures { result ≡ true → AreApart indexed.now }
 {
     for k in 1..indexed.len() {
@@ -86,6 +86,22 @@ pub fn are_apart(indexed: &[IntGroup]) -> bool
         }
     }
     true
+}
+
+/// The integers of keys in order, where each key is one and none stands twice.
+pub fn ordered_ints(alloc: Global, values: &[Value]) -> Result<Option<Vec<IntGroup>>, AllocError>
+    ensures { IfOk result (λ found. IfSome found
+        (λ indexed. AreOrdered (alone values.now) indexed.items)) }
+{
+    let Some(mut indexed) = int_groups(alloc, values)? else {
+        return Ok(None);
+    };
+    indexed.reverse();
+    sort_ints(&mut indexed)?;
+    if !are_apart(indexed.as_slice()) {
+        return Ok(None);
+    }
+    Ok(Some(indexed))
 }
 
 fn group_of_int(

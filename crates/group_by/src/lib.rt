@@ -6,7 +6,9 @@ mod counts;
 mod handing_out;
 mod int_groups;
 mod laws;
+mod ordered_groups;
 mod table;
 
 pub use laws::{says_as, tables_grow};
+pub use ordered_groups::OrderedGroups;
 pub use table::GroupTable;

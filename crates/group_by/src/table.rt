@@ -11,9 +11,10 @@ ghost use Rattle.group_by.specs.GroupIndexes.{state_at, AreAdded, AreFresh, IsAb
 ghost use Rattle.group_index.specs.Rows.{rows_at, AreLanesOf};
 ghost use Rattle.group_by.specs.Rows.{kept_rows, IsGroupOf};
 
-use crate::columns::{copy_columns, fresh_columns, merge_all, update_all};
+use crate::columns::{copy_columns, fresh_columns, merge_all, ordered_columns, update_all};
 use crate::counts::{count_rows, raise};
-use crate::handing_out::in_order;
+use crate::handing_out::{in_order, ordered_groups};
+use crate::ordered_groups::OrderedGroups;
 use accumulators::{Group, StateColumn};
 use group_index::KeyIndex;
 use meaning::{Aggregate, Plan, Sequence};
@@ -321,6 +322,16 @@ impl GroupTable {
         let keys = self.index.keys.copy(alloc)?;
         let groups = in_order(alloc, keys, self.rows.as_slice(), self.columns.as_slice())?;
         Ok(Sequence::from_vec(groups))
+    }
+
+    /// The groups in the order of their keys, of which a batch may be asked for at a time.
+    pub fn ordered(&self, alloc: Global) -> Result<OrderedGroups<'_>, AllocError>
+        ensures value { IfOk result (λ groups. groups ≡ self.now.groups) }
+        ensures fit { IfOk result (λ groups. All (IsGroupOf self.now.shape) groups) }
+        ensures rows { IfOk result (λ groups. all_rows groups ≡ self.now.rows) }
+    {
+        let columns = ordered_columns(alloc, self.columns.as_slice())?;
+        ordered_groups(alloc, &self.index.keys, self.rows.as_slice(), columns)
     }
 
     /// How many groups were handed to `absorb_groups`, the copied table's too. Takes no memory.

@@ -31,6 +31,27 @@ fn shown_of(
     shown(alloc, groups.as_slice())
 }
 
+/// The same in two batches.
+fn shown_in_halves(
+    alloc: Global,
+    plan: &Plan,
+    keys: &[Vector<'_>],
+    list: &[i64],
+) -> Result<String, AllocError>
+    requires sum { map (λ a. a.kind) plan.now.aggs ≡ Sum ∷ [] }
+    requires few { length list.now ≤ 1000 }
+    requires keys { AreLanesOf (length list.now) keys.now }
+{
+    let table = table_of(alloc, plan, keys, list)?;
+    let groups = table.ordered(alloc)?;
+    let middle = groups.len() / 2;
+    let first = groups.batch(alloc, 0, middle)?;
+    let mut said = shown(alloc, first.as_slice())?;
+    let second = groups.batch(alloc, middle, groups.len())?;
+    said.push_str(shown(alloc, second.as_slice())?.as_str())?;
+    Ok(said)
+}
+
 fn expect(
     rt: &impl Abort,
     alloc: Global,
@@ -43,8 +64,10 @@ fn expect(
 {
     let plan = sum_by(alloc, keys.len())?;
     let shown = shown_of(alloc, &plan, keys, list);
+    let halves = shown_in_halves(alloc, &plan, keys, list);
     drop(plan);
     assert_eq!(rt; shown?.as_str(), want);
+    assert_eq!(rt; halves?.as_str(), want);
     Ok(())
 }
 

@@ -16,3 +16,4 @@ pub mod Arranging
 pub mod ShownFields
 pub mod RecordTexts
 pub mod Loans
+pub mod Pieces

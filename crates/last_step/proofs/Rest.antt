@@ -11,7 +11,6 @@ use Rattle.meaning.specs.Finish.{all_rows, rows_of, shown}
 use Rattle.meaning.specs.Joined.{group_row}
 use Rattle.meaning.specs.Order.{Row}
 use Rattle.meaning.specs.Results.{all_ok, and_then, with_result}
-use Rattle.last_step.specs.declared.run.Run.{Run}
 use Rattle.last_step.specs.declared.stop.Stop.{Stop}
 use Rattle.last_step.specs.declared.stop.Stop.TheVariants as stop
 use Rattle.last_step.specs.Best.{best, best_of}
@@ -21,7 +20,7 @@ use Rattle.last_step.specs.Fitting.{AreGroupsOf}
 use Rattle.meaning.specs.Wanting.{ReportsIfMemory}
 use Rattle.last_step.specs.Given.{fault_returned}
 use Rattle.meaning.specs.Fitting.{is_group_of}
-use Rattle.last_step.specs.Runs.{expanded, plain_rows, rows_after, rows_behind_groups}
+use Rattle.last_step.specs.Runs.{plain_rows, rows_after}
 
 module _ (plan : Plan) where
   moved : (before : List Row) (r : Result (List Row) ℕ) (parts : Result (List (List Row)) ℕ)
@@ -138,12 +137,6 @@ module _ (plan : Plan) where
   stop_best seen view gs n before stop.Memory all bad so_far = tt
   stop_best seen view gs n before (stop.Fault c) all bad so_far =
       sym so_far ∙ ap (best_of plan) (in_two gs n before ∙ ap (λ r. and_then r (λ rows. rows_after plan rows (drop n gs))) (only_fault plan (rows_after plan before (take n gs)) c bad))
-
-  -- nothing stands before
-  pub none_before : {X Y : Type 0} (seen : X → List Row) (view : Y → List Row) (runs : List Run) (gs : List Group) (e : Stop) → runs ≡ [] → ReportsIfMemory fault_returned seen (Err e) (best_of plan (rows_after plan (expanded runs) gs))
-      → ReportsIfMemory fault_returned view (Err e) (best_of plan (rows_behind_groups plan (map (read_off plan) gs)))
-  none_before seen view runs gs stop.Memory none bad = tt
-  none_before seen view runs gs (stop.Fault c) none bad = ap (λ (rs : List Run). best_of plan (rows_after plan (expanded rs) gs)) (sym none) ∙ bad
 
   taken : {X : Type 0} (P : X → Type 0) (n : ℕ) (xs : List X) → AllByRecursion P xs → AllByRecursion P (take n xs)
   taken P zero xs all = tt

@@ -7,3 +7,4 @@ pub mod Lent
 pub mod Printing
 pub mod PrintFaults
 pub mod Best
+pub mod Taken

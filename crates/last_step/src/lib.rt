@@ -18,11 +18,12 @@ mod run;
 mod runs;
 mod showing;
 mod shown;
+mod so_far;
 mod sorting;
 mod stop;
 
 pub use finished::Finished;
-pub use finishing::finish;
+pub use finishing::{Finishing, finish};
 pub use print_fault::PrintFault;
 pub use printing::print_rows;
-pub use showing::copy_row;
+pub use showing::{batch_groups, copy_row};

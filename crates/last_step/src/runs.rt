@@ -1,11 +1,9 @@
-//! The rows of all groups.
-ghost use Rattle.std.specs.Prelude.{map};
-ghost use Rattle.meaning.specs.Answer.{read_off};
+//! The rows of groups behind those of others.
 ghost use Rattle.last_step.specs.Fitting.{AreGroupsOf};
 ghost use Rattle.meaning.specs.Wanting.{ReportsIfMemory};
 ghost use Rattle.last_step.specs.Given.{fault_returned};
 ghost use Rattle.last_step.specs.Best.{best, best_of};
-ghost use Rattle.last_step.specs.Runs.{expanded, rows_after, rows_behind_groups};
+ghost use Rattle.last_step.specs.Runs.{expanded, rows_after};
 
 use crate::run::Run;
 use crate::showing::{push_grouped, push_plain};
@@ -25,14 +23,19 @@ fn push_all(alloc: Global, plan: &Plan, groups: &[Group], runs: &mut Vec<Run>) -
     push_grouped(alloc, plan, groups, runs)
 }
 
-/// Rows of the groups as runs, of which LIMIT leaves what it leaves of all, or the first fault from
-/// group to group.
-pub fn runs_of(alloc: Global, plan: &Plan, groups: &[Group]) -> Result<Vec<Run>, Stop>
+/// Runs with those of the groups behind them, of which LIMIT leaves what it leaves of all, or the
+/// first fault from group to group.
+pub fn runs_with(
+    alloc: Global,
+    plan: &Plan,
+    before: Vec<Run>,
+    groups: &[Group],
+) -> Result<Vec<Run>, Stop>
     requires { AreGroupsOf plan.now groups.now }
     ensures { ReportsIfMemory fault_returned (λ runs. best plan.now (expanded runs.items)) result
-        (best_of plan.now (rows_behind_groups plan.now (map (read_off plan.now) groups.now))) }
+        (best_of plan.now (rows_after plan.now (expanded before.items) groups.now)) }
 {
-    let mut runs = Vec::new(alloc);
+    let mut runs = before;
     push_all(alloc, plan, groups, &mut runs)?;
     Ok(runs)
 }

@@ -25,16 +25,16 @@ use std::alloc::{AllocError, Global};
 use std::mem::drop;
 use vectors::{Batch, Selection, Vector};
 
-/// How many groups are evaluated at once where few rows are left of them.
+/// How many groups are evaluated at once where few rows are left of them, or none is evaluated.
 const BATCH_GROUPS: usize = 4096;
 
-/// How many groups are evaluated at once: a batch that the cache holds, or all that a batch may
-/// have, so that they are sorted as columns.
-fn batch_groups(plan: &Plan) -> usize
+/// How many groups are best taken at once: a batch that the cache holds, or, where many rows may be
+/// left of it, all that a batch may have, so that they are sorted as columns.
+pub fn batch_groups(plan: &Plan) -> usize
     ensures some { 0 < result }
     ensures few { result < 2 ^ 32 }
 {
-    if are_few(plan) {
+    if plan.plain || are_few(plan) {
         return BATCH_GROUPS;
     }
     u32::MAX as usize

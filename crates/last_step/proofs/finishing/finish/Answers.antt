@@ -1,6 +1,9 @@
 -- Proofs of the goals of `finish` (`finishing`).
-use Rattle.last_step.proofs.ShownFields.{printable}
+use Rattle.std.proofs.Common.{[]}
 use Rattle.last_step.proofs.finishing.finish.Goals as goal
 
+pub returns-clause-value : goal.returns-clause-value
+returns-clause-value c = c.finish.ensures.value c.args.groups.now (c.in_ok-finishing.ensures [] (c.new.ensures c.args.plan.now))
+
 pub returns-clause-printable : goal.returns-clause-printable
-returns-clause-printable c = printable c.args.plan.now c.args.groups.now c.finish_groups.result c.finish_groups.ensures
+returns-clause-printable c = c.finish.ensures.printable c.args.groups.now (c.in_ok-finishing.ensures [] (c.new.ensures c.args.plan.now))

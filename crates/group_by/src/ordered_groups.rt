@@ -1,0 +1,137 @@
+//! Groups in the order of their keys, of which those of integers are made a batch at a time.
+ghost use Rattle.std.specs.Prelude.{◌≡◌, ◌<◌, ◌≤◌, ◌-◌, length, map, take, drop, All, IfOk};
+ghost use Rattle.std.specs.Cow.{cow_slice_items};
+ghost use Rattle.group_by.specs.IntGroups.{indexed_group, AreThere};
+
+use crate::int_groups::{IntGroup, indexed_groups};
+use accumulators::{Group, OrderedStates};
+use std::alloc::{AllocError, Global};
+use std::borrow::CowSlice;
+use std::marker::Model;
+
+/// The groups of integers, none of them made.
+#[derive(Drop)]
+pub struct UnmadeGroups<'a> {
+    indexed: Vec<IntGroup>,
+    rows: &'a [u64],
+    columns: Vec<OrderedStates<'a>>,
+}
+
+impl<'a> Model for UnmadeGroups<'a> {
+    ghost use Rattle.std.specs.Prelude.{List, map};
+    ghost use Rattle.meaning.specs.declared.answer.Group.{Group as AGroup};
+    ghost use Rattle.group_by.specs.IntGroups.{indexed_group, AreThere};
+
+    ghost Value = { List AGroup };
+
+    ghost view = { λ g. map (indexed_group g.rows.now g.columns.items) g.indexed.items };
+
+    ghost invariant = { λ g. AreThere g.rows.now g.columns.items g.indexed.items };
+}
+
+impl<'a> UnmadeGroups<'a> {
+    fn len(&self) -> usize
+        ensures { result ≡ length self.now }
+    {
+        self.indexed.len()
+    }
+
+    fn batch(&self, alloc: Global, from: usize, to: usize) -> Result<Vec<Group>, AllocError>
+        requires ordered { from ≤ to }
+        requires within { to ≤ length self.now }
+        ensures { IfOk result (λ groups. groups.items ≡ take (to - from) (drop from self.now)) }
+    {
+        let indexed = self.indexed.as_slice();
+        indexed_groups(
+            alloc,
+            &indexed[from..to],
+            self.rows,
+            self.columns.as_slice(),
+        )
+    }
+}
+
+#[derive(Drop)]
+pub enum HeldGroups<'a> {
+    Made(Vec<Group>),
+    Unmade(UnmadeGroups<'a>),
+}
+
+/// Groups in the order of their keys. Contracts see their list. Where each key is one integer, no
+/// group is made before a batch asks for it.
+#[derive(Drop)]
+pub struct OrderedGroups<'a> {
+    held: HeldGroups<'a>,
+}
+
+impl<'a> Model for OrderedGroups<'a> {
+    ghost use Rattle.std.specs.Prelude.{List};
+    ghost use Rattle.meaning.specs.declared.answer.Group.{Group as AGroup};
+
+    ghost Value = { List AGroup };
+
+    ghost use Rattle.group_by.specs.OrderedGroups.{groups_in};
+
+    ghost view = { λ g. groups_in g.held };
+}
+
+impl<'a> OrderedGroups<'a> {
+    /// Groups that are made already.
+    pub fn made(groups: Vec<Group>) -> OrderedGroups<'a>
+        ensures { result ≡ groups.items }
+    {
+        OrderedGroups {
+            held: HeldGroups::Made(groups),
+        }
+    }
+
+    /// The groups of integers in this order.
+    pub fn unmade(
+        indexed: Vec<IntGroup>,
+        rows: &'a [u64],
+        columns: Vec<OrderedStates<'a>>,
+    ) -> OrderedGroups<'a>
+        requires { AreThere rows.now columns.items indexed.items }
+        ensures { result ≡ map (indexed_group rows.entry.now columns.entry.items) indexed.items }
+    {
+        let unmade = UnmadeGroups {
+            indexed,
+            rows,
+            columns,
+        };
+        OrderedGroups {
+            held: HeldGroups::Unmade(unmade),
+        }
+    }
+
+    /// How many groups there are.
+    pub fn len(&self) -> usize
+        ensures { result ≡ length self.now }
+    {
+        match &self.held {
+            HeldGroups::Made(groups) => groups.len(),
+            HeldGroups::Unmade(groups) => groups.len(),
+        }
+    }
+
+    /// The groups from one place up to another: lent where they are made, else made for the caller.
+    pub fn batch(
+        &self,
+        alloc: Global,
+        from: usize,
+        to: usize,
+    ) -> Result<CowSlice<'_, Group>, AllocError>
+        requires ordered { from ≤ to }
+        requires within { to ≤ length self.now }
+        ensures { IfOk result
+            (λ groups. cow_slice_items groups ≡ take (to - from) (drop from self.now)) }
+    {
+        match &self.held {
+            HeldGroups::Made(groups) => {
+                let groups = groups.as_slice();
+                Ok(CowSlice::Borrowed(&groups[from..to]))
+            }
+            HeldGroups::Unmade(groups) => Ok(CowSlice::Owned(groups.batch(alloc, from, to)?)),
+        }
+    }
+}

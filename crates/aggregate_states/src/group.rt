@@ -14,6 +14,9 @@ pub struct Group {
     states: Sequence<State>,
 }
 
+/// Groups in the order of their keys.
+pub type Groups = Sequence<Group>;
+
 impl Model for Group {
     ghost use Rattle.meaning.specs.declared.answer.Group.{Group as AGroup};
 

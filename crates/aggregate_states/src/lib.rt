@@ -16,7 +16,7 @@ mod tally;
 pub use end::{End, is_null};
 pub use extreme::{Extreme, Found, found_in_states, found_selected};
 pub use fault::AggFault;
-pub use group::Group;
+pub use group::{Group, Groups};
 pub use lanes::{owned, plain_ints, position, selected_value, value_at};
 pub use one_group::one_group_index;
 pub use state::State;

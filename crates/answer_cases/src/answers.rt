@@ -3,7 +3,7 @@ ghost use Rattle.partial_codec.specs.Answer.{Fits};
 ghost use Rattle.partial_codec.specs.State.{FitsState};
 
 use crate::jobs::{NO_JOB, shaped_job_of};
-use aggregate_states::Group;
+use aggregate_states::{Group, Groups};
 use case_files::bytes_of;
 use meaning::{Answer, Body, Cell, Value, ValueRef};
 use partial_codec::{
@@ -66,7 +66,7 @@ fn show_group(shown: &mut String, group: &Group) -> Result<(), AllocError> {
     shown.push_str("\n")
 }
 
-fn show_body(shown: &mut String, body: &Body<Group>) -> Result<(), AllocError> {
+fn show_body(shown: &mut String, body: &Body<Groups>) -> Result<(), AllocError> {
     match body {
         Body::Groups(groups) => {
             for group in groups.as_slice() {
@@ -78,7 +78,7 @@ fn show_body(shown: &mut String, body: &Body<Group>) -> Result<(), AllocError> {
     }
 }
 
-fn show_cell(shown: &mut String, cell: &Cell<Group>) -> Result<(), AllocError> {
+fn show_cell(shown: &mut String, cell: &Cell<Groups>) -> Result<(), AllocError> {
     match cell {
         Cell::Nothing => shown.push_str("nothing\n"),
         Cell::One(body) => show_body(shown, body),
@@ -124,7 +124,7 @@ fn show_refusal(alloc: Global, fault: &DecodeFault) -> Result<String, AllocError
 fn answer_lines(
     alloc: Global,
     job: &Job,
-    answer: &Answer<Group>,
+    answer: &Answer<Groups>,
     bytes: &[u8],
 ) -> Result<String, AllocError>
     requires { Fits job.now answer.now }
@@ -151,7 +151,7 @@ fn decoded_answer(alloc: Global, job: &Job, bytes: &[u8]) -> Result<String, Allo
 fn state_lines(
     alloc: Global,
     job: &Job,
-    cells: &[Cell<Group>],
+    cells: &[Cell<Groups>],
     bytes: &[u8],
 ) -> Result<String, AllocError>
     requires { FitsState job.now cells.now }

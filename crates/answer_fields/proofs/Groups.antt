@@ -94,19 +94,19 @@ state_takes Max bytes p fits e =
 state_takes CountDistinct bytes p fits e = set_state_takes bytes p fits e
 state_takes SumDistinct bytes p fits e = set_state_takes bytes p fits e
 
-extreme_back : (o : Option Value) → IsExtreme o → unless_null (value_or_null o) ≡ o
+pub extreme_back : (o : Option Value) → IsExtreme o → unless_null (value_or_null o) ≡ o
 extreme_back None fits = refl
 extreme_back (Some Null) fits = absurd fits
 extreme_back (Some (Int z)) fits = refl
 extreme_back (Some (Text t)) fits = refl
 
-extreme_value : (o : Option Value) → IsExtreme o → IsValue (value_or_null o)
+pub extreme_value : (o : Option Value) → IsExtreme o → IsValue (value_or_null o)
 extreme_value None fits = tt
 extreme_value (Some Null) fits = absurd fits
 extreme_value (Some (Int z)) fits = fits
 extreme_value (Some (Text t)) fits = fits
 
-set_again : (entries : List Value) (rest : List ℕ) → length entries < 2 ^ 32 → AllByRecursion IsValue entries → set_at (set_bytes entries ++ rest) ≡ Ok (entries, rest)
+pub set_again : (entries : List Value) (rest : List ℕ) → length entries < 2 ^ 32 → AllByRecursion IsValue entries → set_at (set_bytes entries ++ rest) ≡ Ok (entries, rest)
 unfolding set_at set_bytes
 set_again entries rest few each =
     let values = flat_map value_bytes entries in

@@ -14,14 +14,14 @@ ghost use Rattle.wire.specs.Reading.{Reads, repeat_at};
 use crate::fault::DecodeFault;
 use crate::shape::{AggregateShape, Shape};
 use crate::values::take_value;
-use aggregate_states::{Group, State};
+use aggregate_states::{Group, Groups, State};
 use meaning::{AggregateKind, Body, RowFault, Sequence, Statistics, Value};
 use std::alloc::Global;
 use wire::{take_i128, take_u8, take_u32, take_u64};
 
 /// Whether n integers of 64 bits can have this sum.
 #[inline(always)]
-fn is_sum_of(n: u64, sum: i128) -> bool
+pub fn is_sum_of(n: u64, sum: i128) -> bool
     ensures { result ≡ fitting.is_sum_of n sum }
 {
     let n = i128::from(n);
@@ -68,7 +68,7 @@ fn unless_null(value: Value) -> Option<Value>
 }
 
 /// The values of a key or of a set. Memory is taken for no more values than the bytes can hold.
-fn take_values(
+pub fn take_values(
     alloc: Global,
     count: usize,
     bytes: &[u8],
@@ -89,7 +89,7 @@ fn take_values(
 
 /// The entries of a set, behind their number.
 #[tactic(auto, unfolding(crate::specs::LayoutReading::set_at))]
-fn take_set(alloc: Global, bytes: &[u8]) -> Result<(Sequence<Value>, &[u8]), DecodeFault>
+pub fn take_set(alloc: Global, bytes: &[u8]) -> Result<(Sequence<Value>, &[u8]), DecodeFault>
     ensures read { GivesIfMemory DecodeFault.Memory (λ x. (x.0, x.1.now)) result
         (reading.set_at bytes.now) }
     ensures spelled { IfOk result (λ x. list_all is_spelled x.0 ≡ true) }
@@ -316,7 +316,7 @@ pub fn take_body<'a>(
     alloc: Global,
     shape: &Shape,
     bytes: &'a [u8],
-) -> Result<(Body<Group>, bool, &'a [u8]), DecodeFault>
+) -> Result<(Body<Groups>, bool, &'a [u8]), DecodeFault>
     ensures { KeepsIfMemory DecodeFault.Memory
         (λ x. IsKept kept_body are_sums_possible x.0 x.1 x.2.now) result
         (reading.body_at (shape_in shape.now) bytes.now) }

@@ -9,7 +9,7 @@ use crate::body::take_body;
 use crate::fault::DecodeFault;
 use crate::format::{Content, Format, take_format};
 use crate::shape::{AggregateShape, Shape};
-use aggregate_states::Group;
+use aggregate_states::Groups;
 use meaning::{AggregateKind, Body, ColType};
 use std::alloc::Global;
 use wire::{take_text, take_u8, take_u16, take_u32, take_u64};
@@ -29,7 +29,7 @@ pub struct Layout<'a> {
     pub job: JobFields<'a>,
     pub k: u32,
     pub shape: Shape,
-    pub body: Body<Group>,
+    pub body: Body<Groups>,
     pub are_sums_possible: bool,
 }
 

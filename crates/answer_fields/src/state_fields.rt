@@ -12,7 +12,7 @@ use crate::fault::DecodeFault;
 use crate::fields::{JobFields, take_job, take_shape};
 use crate::format::{Content, take_format};
 use crate::shape::Shape;
-use aggregate_states::Group;
+use aggregate_states::Groups;
 use meaning::Cell;
 use std::alloc::Global;
 use wire::take_u8;
@@ -22,7 +22,7 @@ use wire::take_u8;
 pub struct StateLayout<'a> {
     pub job: JobFields<'a>,
     pub shape: Shape,
-    pub cells: Vec<Cell<Group>>,
+    pub cells: Vec<Cell<Groups>>,
     pub are_possible: Vec<bool>,
 }
 
@@ -31,7 +31,7 @@ fn take_cell<'a>(
     alloc: Global,
     shape: &Shape,
     bytes: &'a [u8],
-) -> Result<(Cell<Group>, bool, &'a [u8]), DecodeFault>
+) -> Result<(Cell<Groups>, bool, &'a [u8]), DecodeFault>
     ensures { KeepsIfMemory DecodeFault.Memory
         (λ x. IsKept kept_cell is_cell_possible x.0 x.1 x.2.now) result
         (cell_at (shape_in shape.now) bytes.now) }
@@ -53,7 +53,7 @@ fn take_cells<'a>(
     shape: &Shape,
     count: u32,
     bytes: &'a [u8],
-) -> Result<(Vec<Cell<Group>>, Vec<bool>, &'a [u8]), DecodeFault>
+) -> Result<(Vec<Cell<Groups>>, Vec<bool>, &'a [u8]), DecodeFault>
     ensures { KeepsIfMemory DecodeFault.Memory (λ x y. (x.0.items ≡ map kept_cell y.0)
         × (x.1.items ≡ map is_cell_possible y.0) × (x.2.now ≡ y.1)) result
         (repeat_at (cell_at (shape_in shape.now)) count bytes.now) }

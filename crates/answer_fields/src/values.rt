@@ -1,17 +1,20 @@
 //! Values as bytes.
 ghost use Rattle.std.specs.Prelude.{◌≡◌, ◌++◌, ◌<◌, ◌^◌, OnOk, IfOk, true, length};
+ghost use Rattle.std.specs.List.{flat_map, AllByRecursion};
 ghost use Rattle.std.specs.Str.{is_utf8};
 ghost use Rattle.aggregate_states.specs.Values.{is_spelled};
 ghost use Rattle.meaning.specs.Order.{value_in};
 ghost use Rattle.answer_fields.specs.LayoutReading.{value_at};
 ghost use Rattle.answer_fields.specs.Ranges.{IsValue};
-ghost use Rattle.answer_fields.specs.Spelling.{value_bytes};
+ghost use Rattle.answer_fields.specs.Spelling.{set_bytes, value_bytes};
 ghost use Rattle.meaning.specs.Wanting.{GivesIfMemory};
 
 use crate::fault::DecodeFault;
 use meaning::{Text, Value, ValueRef};
 use std::alloc::{AllocError, Global};
-use wire::{append_i64, append_short_text, append_u8, take_i64, take_short_text, take_u8};
+use wire::{
+    append_i64, append_short_text, append_u8, append_u32, take_i64, take_short_text, take_u8,
+};
 
 fn text_value(alloc: Global, text: &str) -> Result<Value, AllocError>
     ensures value { IfOk result (λ v. v ≡ Value.Text text.now) }
@@ -62,4 +65,26 @@ pub fn put_value(out: &mut Vec<u8>, value: ValueRef<'_>) -> Result<(), AllocErro
             append_short_text(out, text)
         }
     }
+}
+
+/// The values of a key, or the entries of a set.
+pub fn put_values(out: &mut Vec<u8>, values: &[Value]) -> Result<(), AllocError>
+    requires { AllByRecursion IsValue values.now }
+    ensures { OnOk result (out.new.items ≡ out.old.items ++ flat_map value_bytes values.now) }
+{
+    for value in values {
+        put_value(out, value.as_value_ref())?;
+    }
+    Ok(())
+}
+
+/// The entries of a set, behind their number.
+#[tactic(auto, unfolding(crate::specs::Spelling::set_bytes))]
+pub fn put_set(out: &mut Vec<u8>, entries: &[Value]) -> Result<(), AllocError>
+    requires few { length entries.now < 2 ^ 32 }
+    requires values { AllByRecursion IsValue entries.now }
+    ensures { OnOk result (out.new.items ≡ out.old.items ++ set_bytes entries.now) }
+{
+    append_u32(out, entries.len() as u32)?;
+    put_values(out, entries)
 }

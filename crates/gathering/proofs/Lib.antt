@@ -6,6 +6,7 @@ pub mod ListedFragments
 pub mod Joined
 pub mod StateFiles
 pub mod Merging
+pub mod Packable
 pub mod ShapedGroups
 pub mod Deltas
 pub mod LiveTotals

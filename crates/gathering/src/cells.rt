@@ -11,7 +11,7 @@ use crate::changing::no_answers;
 use crate::fault::GatherFault;
 use crate::gather::{Gather, holding};
 use crate::joining::join_at;
-use aggregate_states::Group;
+use crate::packing::{HeldCell, pack_body};
 use meaning::{Answer, Cell};
 use partial_codec::{Job, decode};
 use std::alloc::{AllocError, Global};
@@ -24,20 +24,20 @@ use std::mem::drop;
 #[derive(Drop)]
 pub struct Cells {
     job: Job,
-    cells: Vec<Cell<Group>>,
+    cells: Vec<HeldCell>,
 }
 
 impl Model for Cells {
     ghost use Rattle.std.specs.Coded.{codes};
     ghost use Rattle.meaning.specs.contracts.plan.Plan as a_plan;
-    ghost use Rattle.meaning.specs.contracts.answer.Group as a_group;
+    ghost use Rattle.packed_groups.specs.contracts.packed.PackedGroups as some_groups;
     ghost use Rattle.meaning.specs.contracts.answer.Cell as a_cell;
     ghost use Rattle.gathering.specs.Gathering.{GatherSpec, IsGather};
 
     ghost Value = { GatherSpec };
 
     ghost coded = { Prim.hlevel
-        (codes, a_plan.the_row.coded, (a_cell.the_row a_group.the_row).coded) };
+        (codes, a_plan.the_row.coded, (a_cell.the_row some_groups.the_row).coded) };
 
     ghost view = { λ c. record { job = c.job; cells = c.cells.items; merges = 0 } };
 
@@ -81,8 +81,11 @@ impl Cells {
         ensures refused { IfErr result (Refuses self.old.job bytes.now) }
         ensures unchanged { OnErr result (self.new ≡ self.old) }
     {
+        // No effect at run time. The proof reads from this call that the job is within its limits.
+        let _plan = self.job.plan();
         let Answer { k, body } = decode(alloc, &self.job, bytes)?;
-        join_at(&mut self.cells, k as usize, Cell::One(body));
+        let packed = pack_body(alloc, &body)?;
+        join_at(&mut self.cells, k as usize, Cell::One(packed));
         Ok(())
     }
 

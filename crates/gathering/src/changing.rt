@@ -1,6 +1,7 @@
 //! What answers do to cells and to the totals of these. On an error nothing changes: totals that
 //! take more are made first, and nothing behind that takes memory.
 ghost use Rattle.std.specs.Prelude.{◌≡◌, ◌<◌, true, length, slice_set, OnErr, OnOk, IfOk, replicate};
+ghost use Rattle.meaning.specs.Said.{Body as ABody};
 ghost use Rattle.meaning.specs.declared.answer.Cell.TheVariants.{Nothing, One, Conflict};
 ghost use Rattle.meaning.specs.Answer.{groups_of};
 ghost use Rattle.gathering.specs.Fitted.{AreFitting, is_fitting};
@@ -9,15 +10,16 @@ ghost use Rattle.gathering.specs.Merging.{all_groups, groups_in};
 ghost use Rattle.gathering.specs.Totals.{AreDeltas, behind, handed_at_join, is_delta, merges_of, most_at_change};
 
 use crate::joining::join_all;
+use crate::packing::{HeldBody, HeldCell};
 use crate::totals::Totals;
-use aggregate_states::Group;
+use aggregate_states::Groups;
 use meaning::{Body, Cell};
 use partial_codec::Job;
 use std::alloc::{AllocError, Global};
 use std::mem::drop;
 
 /// Nothing for each of so many fragments.
-pub fn no_answers(alloc: Global, fragments: usize) -> Result<Vec<Cell<Group>>, AllocError>
+pub fn no_answers(alloc: Global, fragments: usize) -> Result<Vec<HeldCell>, AllocError>
     ensures { IfOk result (λ cells. cells.items ≡ replicate fragments Nothing) }
 {
     let mut cells = Vec::new(alloc);
@@ -27,15 +29,17 @@ pub fn no_answers(alloc: Global, fragments: usize) -> Result<Vec<Cell<Group>>, A
     Ok(cells)
 }
 
-/// Puts an answer into a cell that holds nothing.
+/// Puts an answer, which is at hand unpacked too, into a cell that holds nothing.
 fn put(
     alloc: Global,
     job: &Job,
-    cells: &mut Vec<Cell<Group>>,
+    cells: &mut Vec<HeldCell>,
     totals: &mut Totals,
     k: u32,
-    body: Body<Group>,
+    body: HeldBody,
+    unpacked: &Body<Groups>,
 ) -> Result<(), AllocError>
+    requires unpacked { unpacked.now ≡ body }
     requires held { IsHeld job.now cells.old.items totals.old }
     requires within { k < length cells.old.items }
     requires nothing { cell_at cells.old.items k ≡ Nothing }
@@ -48,7 +52,7 @@ fn put(
 {
     // No effect at run time. The proof reads from this call the limits of a cut.
     let _lengths = job.cut().lengths();
-    match totals.add(alloc, &body) {
+    match totals.add(alloc, unpacked) {
         Ok(()) => {
             cells[k as usize] = Cell::One(body);
             Ok(())
@@ -64,9 +68,9 @@ fn put(
 pub fn change_all(
     alloc: Global,
     job: &Job,
-    cells: &mut Vec<Cell<Group>>,
+    cells: &mut Vec<HeldCell>,
     totals: &mut Totals,
-    deltas: Vec<Cell<Group>>,
+    deltas: Vec<HeldCell>,
 ) -> Result<(), AllocError>
     requires held { IsHeld job.now cells.old.items totals.old }
     requires deltas { AreDeltas cells.old.items deltas.items }
@@ -94,7 +98,7 @@ pub fn change_all(
 }
 
 /// Nothing for each of so many fragments, and a conflict for one.
-fn conflict_at(alloc: Global, fragments: usize, k: u32) -> Result<Vec<Cell<Group>>, AllocError>
+fn conflict_at(alloc: Global, fragments: usize, k: u32) -> Result<Vec<HeldCell>, AllocError>
     requires { k < fragments }
     ensures { IfOk result
         (λ deltas. deltas.items ≡ slice_set (replicate fragments Nothing) k Conflict) }
@@ -108,7 +112,7 @@ fn conflict_at(alloc: Global, fragments: usize, k: u32) -> Result<Vec<Cell<Group
 fn withdraw(
     alloc: Global,
     job: &Job,
-    cells: &mut Vec<Cell<Group>>,
+    cells: &mut Vec<HeldCell>,
     totals: &mut Totals,
     k: u32,
 ) -> Result<(), AllocError>
@@ -125,15 +129,17 @@ fn withdraw(
     change_all(alloc, job, cells, totals, deltas)
 }
 
-/// Joins a fragment's cell with its delta.
+/// Joins a fragment's cell with its delta. An answer is at hand unpacked too.
 pub fn change(
     alloc: Global,
     job: &Job,
-    cells: &mut Vec<Cell<Group>>,
+    cells: &mut Vec<HeldCell>,
     totals: &mut Totals,
     k: u32,
-    delta: Cell<Group>,
+    delta: HeldCell,
+    unpacked: &Body<Groups>,
 ) -> Result<(), AllocError>
+    requires unpacked { (body : ABody) → delta ≡ One body → unpacked.now ≡ body }
     requires held { IsHeld job.now cells.old.items totals.old }
     requires within { k < length cells.old.items }
     requires delta { is_delta (cell_at cells.old.items k) delta ≡ true }
@@ -148,7 +154,7 @@ pub fn change(
 {
     match delta {
         Cell::Nothing => Ok(()),
-        Cell::One(body) => put(alloc, job, cells, totals, k, body),
+        Cell::One(body) => put(alloc, job, cells, totals, k, body, unpacked),
         Cell::Conflict => withdraw(alloc, job, cells, totals, k),
     }
 }

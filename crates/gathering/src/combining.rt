@@ -3,17 +3,19 @@ ghost use Rattle.std.specs.Prelude.{◌≡◌, length, IfOk};
 ghost use Rattle.std.specs.Ordering.{ord_min};
 ghost use Rattle.meaning.specs.Judge.{fault_cmp};
 ghost use Rattle.meaning.specs.Order.{lesser};
+ghost use Rattle.group_by.specs.Groups.{with_groups};
 ghost use Rattle.gathering.specs.Faults.{fault_in, least_fault};
 ghost use Rattle.gathering.specs.Merging.{AreMergeable, all_groups, groups_in, table_with};
 ghost use Rattle.gathering.specs.Totals.{CanTake, IsTableWith, all_behind, behind};
 
-use aggregate_states::Group;
+use crate::packing::{HeldCell, groups_in};
 use group_by::GroupTable;
 use meaning::{Body, Cell, Plan, RowFault};
 use std::alloc::{AllocError, Global};
+use std::mem::drop;
 
 /// The fault that the answer in a cell is, if it is one.
-fn fault_in(cell: &Cell<Group>) -> Option<RowFault>
+fn fault_in(cell: &HeldCell) -> Option<RowFault>
     ensures { result ≡ fault_in cell.now }
 {
     match cell {
@@ -42,7 +44,7 @@ pub fn earlier(one: Option<RowFault>, other: Option<RowFault>) -> Option<RowFaul
 }
 
 /// The fault of the least row that an answer has.
-pub fn least_fault(cells: &[Cell<Group>]) -> Option<RowFault>
+pub fn least_fault(cells: &[HeldCell]) -> Option<RowFault>
     ensures { result ≡ least_fault cells.now }
 {
     let mut least = None;
@@ -54,13 +56,17 @@ pub fn least_fault(cells: &[Cell<Group>]) -> Option<RowFault>
     least
 }
 
-/// The groups of the answer in a cell, if it is one.
-fn groups_in(cell: &Cell<Group>) -> &[Group]
-    ensures { result.now ≡ groups_in cell.now }
+/// The table with the groups of the answer in a cell more, if it is one.
+fn merge_cell(alloc: Global, table: GroupTable, cell: &HeldCell) -> Result<GroupTable, AllocError>
+    requires { CanTake table (groups_in cell.now) }
+    ensures { IfOk result (λ t. t ≡ with_groups table (groups_in cell.now)) }
 {
-    match cell {
-        Cell::One(Body::Groups(groups)) => groups.as_slice(),
-        _ => &[],
+    match groups_in(alloc, cell) {
+        Ok(groups) => table.absorb_groups(alloc, groups.as_slice()),
+        Err(fault) => {
+            drop(table);
+            Err(fault)
+        }
     }
 }
 
@@ -68,20 +74,20 @@ fn groups_in(cell: &Cell<Group>) -> &[Group]
 pub fn merge_cells(
     alloc: Global,
     table: GroupTable,
-    cells: &[Cell<Group>],
+    cells: &[HeldCell],
 ) -> Result<GroupTable, AllocError>
     requires { CanTake table (all_groups cells.now) }
     ensures { IfOk result (IsTableWith table (all_groups cells.now)) }
 {
     let mut table = table;
     for cell in cells {
-        table = table.absorb_groups(alloc, groups_in(cell))?;
+        table = merge_cell(alloc, table, cell)?;
     }
     Ok(table)
 }
 
 /// A cell behind its delta.
-fn behind<'a>(cell: &'a Cell<Group>, delta: &'a Cell<Group>) -> &'a Cell<Group>
+fn behind<'a>(cell: &'a HeldCell, delta: &'a HeldCell) -> &'a HeldCell
     ensures { result.now ≡ behind cell.now delta.now }
 {
     match delta {
@@ -95,8 +101,8 @@ fn behind<'a>(cell: &'a Cell<Group>, delta: &'a Cell<Group>) -> &'a Cell<Group>
 pub fn merge_behind(
     alloc: Global,
     plan: &Plan,
-    cells: &[Cell<Group>],
-    deltas: &[Cell<Group>],
+    cells: &[HeldCell],
+    deltas: &[HeldCell],
 ) -> Result<GroupTable, AllocError>
     requires lengths { length cells.now ≡ length deltas.now }
     requires mergeable { AreMergeable plan.now (all_groups (all_behind cells.now deltas.now)) }
@@ -105,13 +111,13 @@ pub fn merge_behind(
 {
     let mut table = GroupTable::new(alloc, plan)?;
     for k in 0..cells.len() {
-        table = table.absorb_groups(alloc, groups_in(behind(&cells[k], &deltas[k])))?;
+        table = merge_cell(alloc, table, behind(&cells[k], &deltas[k]))?;
     }
     Ok(table)
 }
 
 /// The fault of the least row that an answer has in the cells behind their deltas.
-pub fn least_behind(cells: &[Cell<Group>], deltas: &[Cell<Group>]) -> Option<RowFault>
+pub fn least_behind(cells: &[HeldCell], deltas: &[HeldCell]) -> Option<RowFault>
     requires { length cells.now ≡ length deltas.now }
     ensures { result ≡ least_fault (all_behind cells.now deltas.now) }
 {

@@ -3,7 +3,7 @@ ghost use Rattle.std.specs.Prelude.{◌≡◌, ◌⊎◌, ◌≤◌, ◌<◌, �
 ghost use Rattle.std.specs.Io.KnownBytes.{Appends};
 ghost use Rattle.meaning.specs.Said.{Answer as AnAnswer};
 ghost use Rattle.meaning.specs.Said.{Cell as ACell};
-ghost use Rattle.meaning.specs.Gather.{joined, preview, report};
+ghost use Rattle.meaning.specs.Gather.{joined, preview, report, same_body};
 ghost use Rattle.meaning.specs.Print.{output_text, report_text};
 ghost use Rattle.meaning.specs.SoundPlan.{IsSoundPlan};
 ghost use Rattle.partial_codec.specs.Answer.{Fits, Spells};
@@ -11,16 +11,18 @@ ghost use Rattle.partial_codec.specs.State.{SpellsState, state_bytes};
 ghost use Rattle.gathering.specs.Fitted.{AreFitting};
 ghost use Rattle.gathering.specs.Gathering.{Takes, Would, Joins, Refuses, RefusesState, RefusesJoin, absorbed_as, changes};
 ghost use Rattle.gathering.specs.Merging.{all_groups};
+ghost use Rattle.gathering.specs.Packing.{IsPackableBody};
 ghost use Rattle.gathering.specs.Report.{ended_as, summary, IsPrintRefusal};
 
 use crate::changing::{change, change_all, no_answers};
 use crate::fault::GatherFault;
 use crate::joining::{all_deltas, delta_with, is_same, reduce_all};
 use crate::output::output_together;
+use crate::packing::{HeldBody, HeldCell, pack_body, pack_cells, unpack_cells};
 use crate::report::{Ended, FullReport, Report, ended_as, full_report, print_full_report, summary};
 use crate::same_job::is_same_job;
 use crate::totals::{Totals, totals_of};
-use aggregate_states::Group;
+use aggregate_states::Groups;
 use meaning::{Answer, Body, Cell};
 use partial_codec::{Job, decode, decode_state, encode_state};
 use std::alloc::{AllocError, Global};
@@ -35,7 +37,7 @@ use std::mem::drop;
 #[derive(Drop)]
 pub struct Gather {
     job: Job,
-    cells: Vec<Cell<Group>>,
+    cells: Vec<HeldCell>,
     totals: Totals,
 }
 
@@ -53,7 +55,7 @@ pub enum Absorbed {
 impl Model for Gather {
     ghost use Rattle.std.specs.Coded.{codes};
     ghost use Rattle.meaning.specs.contracts.plan.Plan as a_plan;
-    ghost use Rattle.meaning.specs.contracts.answer.Group as a_group;
+    ghost use Rattle.packed_groups.specs.contracts.packed.PackedGroups as some_groups;
     ghost use Rattle.meaning.specs.contracts.answer.Cell as a_cell;
     ghost use Rattle.gathering.specs.Gathering.{GatherSpec, IsHeld};
     ghost use Rattle.gathering.specs.Totals.{merges_of};
@@ -61,7 +63,7 @@ impl Model for Gather {
     ghost Value = { GatherSpec };
 
     ghost coded = { Prim.hlevel
-        (codes, a_plan.the_row.coded, (a_cell.the_row a_group.the_row).coded) };
+        (codes, a_plan.the_row.coded, (a_cell.the_row some_groups.the_row).coded) };
 
     ghost view = { λ g. record {
       job = g.job;
@@ -73,7 +75,7 @@ impl Model for Gather {
 }
 
 /// What is said of an answer for a fragment of which this is held.
-fn classify(held: &Cell<Group>, fragment: u32, body: &Body<Group>) -> Absorbed
+fn classify(held: &HeldCell, fragment: u32, body: &HeldBody) -> Absorbed
     ensures { result ≡ absorbed_as held.now fragment body.now }
 {
     match held {
@@ -89,23 +91,54 @@ fn classify(held: &Cell<Group>, fragment: u32, body: &Body<Group>) -> Absorbed
     }
 }
 
-/// Whether an answer for a fragment of which this is held would change it.
-fn changes(held: &Cell<Group>, body: &Body<Group>) -> bool
-    ensures { result ≡ changes held.now body.now }
+/// Whether an answer is the one that is held.
+fn is_known(alloc: Global, known: &HeldBody, body: &Body<Groups>) -> Result<bool, AllocError>
+    requires { IsPackableBody body.now }
+    ensures { IfOk result (λ is. is ≡ same_body known.now body.now) }
+{
+    let packed = pack_body(alloc, body)?;
+    Ok(is_same(known, &packed))
+}
+
+/// What is said of an answer for a fragment of which this is held, and whether it would change it.
+fn judged(
+    alloc: Global,
+    held: &HeldCell,
+    fragment: u32,
+    body: &Body<Groups>,
+) -> Result<(Absorbed, bool), AllocError>
+    requires { IsPackableBody body.now }
+    ensures { IfOk result (λ r. (r.0 ≡ absorbed_as held.now fragment body.now)
+        × (r.1 ≡ changes held.now body.now)) }
 {
     match held {
-        Cell::Nothing => true,
-        Cell::One(known) => !is_same(known, body),
-        Cell::Conflict => false,
+        Cell::Nothing => Ok((Absorbed::New, true)),
+        Cell::One(known) => {
+            if is_known(alloc, known, body)? {
+                Ok((Absorbed::Known, false))
+            } else {
+                Ok((Absorbed::Conflict { fragment }, true))
+            }
+        }
+        Cell::Conflict => Ok((Absorbed::Conflict { fragment }, false)),
     }
 }
 
+/// The cells that a state's bytes spell. Their refusals are those of `partial_codec::decode_state`.
+fn read_cells(alloc: Global, job: &Job, bytes: &[u8]) -> Result<Vec<HeldCell>, GatherFault>
+    ensures spelled { IfOk result (λ cells. SpellsState job.now bytes.now cells.items) }
+    ensures complete { (cells : List ACell) → SpellsState job.now bytes.now cells
+        → IfErr result (λ e. e ≡ GatherFault.Memory) }
+    ensures refused { IfErr result (RefusesState job.now bytes.now) }
+{
+    // No effect at run time. The proof reads from this call that the job is within its limits.
+    let _plan = job.plan();
+    let cells = decode_state(alloc, job, bytes)?;
+    Ok(pack_cells(alloc, cells.as_slice())?)
+}
+
 /// A coordinator that holds these cells.
-pub(crate) fn holding(
-    alloc: Global,
-    job: Job,
-    cells: Vec<Cell<Group>>,
-) -> Result<Gather, AllocError>
+pub(crate) fn holding(alloc: Global, job: Job, cells: Vec<HeldCell>) -> Result<Gather, AllocError>
     requires sound { IsSoundPlan job.plan }
     requires each { length cells.items ≡ length job.cut }
     requires fitting { AreFitting job.plan job.cut cells.items }
@@ -155,7 +188,7 @@ impl Gather {
     }
 
     /// What is held for each fragment.
-    pub fn cells(&self) -> &[Cell<Group>]
+    pub fn cells(&self) -> &[HeldCell]
         ensures value { result.now ≡ self.now.cells }
         ensures sound { IsGather self.now }
     {
@@ -203,14 +236,14 @@ impl Gather {
         ensures refused { IfErr result (Refuses self.now.job bytes.now) }
     {
         let answer = self.read_answer(alloc, bytes)?;
-        let returned = self.would_take(&answer);
+        let returned = self.would_take(alloc, &answer);
         drop(answer);
-        Ok(returned)
+        Ok(returned?)
     }
 
     /// The answer that the bytes spell, which `would_take` judges and `take_answer` takes: `would`
     /// and `absorb` are these in a row. The bytes' refusals are those of `partial_codec::decode`.
-    pub fn read_answer(&self, alloc: Global, bytes: &[u8]) -> Result<Answer<Group>, GatherFault>
+    pub fn read_answer(&self, alloc: Global, bytes: &[u8]) -> Result<Answer<Groups>, GatherFault>
         ensures spelled { IfOk result (Spells self.now.job bytes.now) }
         // No other is spelled so.
         ensures only { IfOk result (λ a. (other : AnAnswer)
@@ -222,25 +255,26 @@ impl Gather {
 
     /// What a `take_answer` of this answer would return if it succeeded, and whether it would change
     /// what is held for its fragment.
-    pub fn would_take(&self, answer: &Answer<Group>) -> (Absorbed, bool)
+    pub fn would_take(
+        &self,
+        alloc: Global,
+        answer: &Answer<Groups>,
+    ) -> Result<(Absorbed, bool), AllocError>
         requires { Fits self.now.job answer.now }
-        ensures { (bytes : List ℕ) → Spells self.now.job bytes answer.now
-            → Would self.now bytes result }
+        ensures { IfOk result (λ returned. (bytes : List ℕ)
+            → Spells self.now.job bytes answer.now → Would self.now bytes returned) }
     {
         // No effect at run time. The proof reads from this call that the job is within its limits.
         let _plan = self.job.plan();
         let held = &self.cells[answer.k as usize];
-        (
-            classify(held, answer.k, &answer.body),
-            changes(held, &answer.body),
-        )
+        judged(alloc, held, answer.k, &answer.body)
     }
 
     /// Takes an answer. An error is that memory ran out, and then nothing changes.
     pub fn take_answer(
         &mut self,
         alloc: Global,
-        answer: Answer<Group>,
+        answer: Answer<Groups>,
     ) -> Result<Absorbed, AllocError>
         requires { Fits self.old.job answer }
         // As bytes that spell it are taken.
@@ -251,9 +285,12 @@ impl Gather {
             → self.new.cells ≡ joined self.old.job.cut (answers ++ answer ∷ [])) }
         ensures unchanged { OnErr result (self.new ≡ self.old) }
     {
+        // No effect at run time. The proof reads from this call that the job is within its limits.
+        let _plan = self.job.plan();
         let Answer { k, body } = answer;
-        let absorbed = classify(&self.cells[k as usize], k, &body);
-        let delta = delta_with(&self.cells[k as usize], Cell::One(body));
+        let packed = pack_body(alloc, &body)?;
+        let absorbed = classify(&self.cells[k as usize], k, &packed);
+        let delta = delta_with(&self.cells[k as usize], Cell::One(packed));
         change(
             alloc,
             &self.job,
@@ -261,6 +298,7 @@ impl Gather {
             &mut self.totals,
             k,
             delta,
+            &body,
         )?;
         Ok(absorbed)
     }
@@ -296,7 +334,7 @@ impl Gather {
         ensures refused { IfErr result (RefusesState self.old.job bytes.now) }
         ensures unchanged { OnErr result (self.new ≡ self.old) }
     {
-        let mut deltas = decode_state(alloc, &self.job, bytes)?;
+        let mut deltas = read_cells(alloc, &self.job, bytes)?;
         reduce_all(&self.cells, &mut deltas);
         change_all(alloc, &self.job, &mut self.cells, &mut self.totals, deltas)?;
         Ok(())
@@ -308,7 +346,8 @@ impl Gather {
             (λ bytes. bytes.items ≡ state_bytes self.now.job self.now.cells) }
         ensures refused { IfErr result (λ e. e ≡ GatherFault.Memory) }
     {
-        Ok(encode_state(alloc, &self.job, &self.cells)?)
+        let cells = unpack_cells(alloc, &self.cells)?;
+        Ok(encode_state(alloc, &self.job, &cells)?)
     }
 
     /// A coordinator that holds what the bytes spell. Their refusals are those of
@@ -324,11 +363,11 @@ impl Gather {
         // No more groups were merged than its answers have.
         ensures merges { IfOk result (λ g. g.merges ≤ length (all_groups g.cells)) }
     {
-        match decode_state(alloc, &job, bytes) {
+        match read_cells(alloc, &job, bytes) {
             Ok(cells) => Ok(holding(alloc, job, cells)?),
             Err(fault) => {
                 drop(job);
-                Err(GatherFault::from(fault))
+                Err(fault)
             }
         }
     }

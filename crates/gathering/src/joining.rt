@@ -5,22 +5,25 @@ ghost use Rattle.meaning.specs.Gather.{join_cells, same_body};
 ghost use Rattle.gathering.specs.Gathering.{join_states};
 ghost use Rattle.gathering.specs.Joining.{conflict_unless, delta_of, all_deltas};
 
-use crate::copying::copy_body;
-use aggregate_states::Group;
+use crate::packing::{HeldBody, HeldCell, copy_body};
 use meaning::{Body, Cell};
 use std::alloc::{AllocError, Global};
 use std::mem;
 use std::mem::drop;
 
 /// Whether two answers are equal.
-pub fn is_same(a: &Body<Group>, b: &Body<Group>) -> bool
+pub fn is_same(a: &HeldBody, b: &HeldBody) -> bool
     ensures { result ≡ same_body a.now b.now }
 {
-    a == b
+    match (a, b) {
+        (Body::Groups(groups), Body::Groups(others)) => groups.is_same(others),
+        (Body::Fault(fault), Body::Fault(other)) => fault == other,
+        _ => false,
+    }
 }
 
 /// The cell after one more answer for its fragment.
-pub fn with_answer(cell: Cell<Group>, body: Body<Group>) -> Cell<Group>
+pub fn with_answer(cell: HeldCell, body: HeldBody) -> HeldCell
     ensures { result ≡ join_cells cell (One body) }
 {
     match cell {
@@ -38,11 +41,7 @@ pub fn with_answer(cell: Cell<Group>, body: Body<Group>) -> Cell<Group>
 
 /// The least that a cell is to be joined with, to become what it is with the other's: nothing where
 /// it stays.
-fn delta_of(
-    alloc: Global,
-    own: &Cell<Group>,
-    other: &Cell<Group>,
-) -> Result<Cell<Group>, AllocError>
+fn delta_of(alloc: Global, own: &HeldCell, other: &HeldCell) -> Result<HeldCell, AllocError>
     ensures { IfOk result (λ delta. delta ≡ delta_of own.now other.now) }
 {
     match (own, other) {
@@ -54,7 +53,7 @@ fn delta_of(
 }
 
 /// Equal answers are no delta.
-fn conflict_unless(is_known: bool) -> Cell<Group>
+fn conflict_unless(is_known: bool) -> HeldCell
     ensures { result ≡ conflict_unless is_known }
 {
     if is_known {
@@ -65,7 +64,7 @@ fn conflict_unless(is_known: bool) -> Cell<Group>
 }
 
 /// The same where the other is given up, which takes no memory.
-pub fn delta_with(own: &Cell<Group>, other: Cell<Group>) -> Cell<Group>
+pub fn delta_with(own: &HeldCell, other: HeldCell) -> HeldCell
     ensures { result ≡ delta_of own.now other }
 {
     match own {
@@ -78,7 +77,7 @@ pub fn delta_with(own: &Cell<Group>, other: Cell<Group>) -> Cell<Group>
     }
 }
 
-fn delta_to(known: &Body<Group>, other: Cell<Group>) -> Cell<Group>
+fn delta_to(known: &HeldBody, other: HeldCell) -> HeldCell
     ensures { result ≡ delta_of (One known.now) other }
 {
     match other {
@@ -93,7 +92,7 @@ fn delta_to(known: &Body<Group>, other: Cell<Group>) -> Cell<Group>
 }
 
 /// What is new of a cell, in place of it.
-fn reduce_at(others: &mut Vec<Cell<Group>>, k: usize, own: &Cell<Group>)
+fn reduce_at(others: &mut Vec<HeldCell>, k: usize, own: &HeldCell)
     requires { k < length others.old.items }
     ensures { others.new.items
         ≡ slice_set others.old.items k (delta_of own.now (slice_index_or others.old.items k Nothing)) }
@@ -104,7 +103,7 @@ fn reduce_at(others: &mut Vec<Cell<Group>>, k: usize, own: &Cell<Group>)
 }
 
 /// What is new of each cell, in place of these.
-pub fn reduce_all(own: &[Cell<Group>], others: &mut Vec<Cell<Group>>)
+pub fn reduce_all(own: &[HeldCell], others: &mut Vec<HeldCell>)
     requires { length own.now ≡ length others.old.items }
     ensures { others.new.items ≡ all_deltas own.now others.old.items }
 {
@@ -116,9 +115,9 @@ pub fn reduce_all(own: &[Cell<Group>], others: &mut Vec<Cell<Group>>)
 /// What is new of each cell.
 pub fn all_deltas(
     alloc: Global,
-    own: &[Cell<Group>],
-    others: &[Cell<Group>],
-) -> Result<Vec<Cell<Group>>, AllocError>
+    own: &[HeldCell],
+    others: &[HeldCell],
+) -> Result<Vec<HeldCell>, AllocError>
     requires { length own.now ≡ length others.now }
     ensures { IfOk result (λ delta. delta.items ≡ all_deltas own.now others.now) }
 {
@@ -130,7 +129,7 @@ pub fn all_deltas(
 }
 
 /// Two cells of one fragment as one.
-fn joined(own: Cell<Group>, other: Cell<Group>) -> Cell<Group>
+fn joined(own: HeldCell, other: HeldCell) -> HeldCell
     ensures { result ≡ join_cells own other }
 {
     match other {
@@ -141,7 +140,7 @@ fn joined(own: Cell<Group>, other: Cell<Group>) -> Cell<Group>
 }
 
 /// Joins a fragment's cell with another.
-pub fn join_at(cells: &mut Vec<Cell<Group>>, k: usize, other: Cell<Group>)
+pub fn join_at(cells: &mut Vec<HeldCell>, k: usize, other: HeldCell)
     requires { k < length cells.old.items }
     ensures { cells.new.items
         ≡ slice_set cells.old.items k (join_cells (slice_index_or cells.old.items k Nothing) other) }
@@ -152,7 +151,7 @@ pub fn join_at(cells: &mut Vec<Cell<Group>>, k: usize, other: Cell<Group>)
 }
 
 /// Joins each cell with its delta.
-pub fn join_all(cells: &mut Vec<Cell<Group>>, delta: Vec<Cell<Group>>)
+pub fn join_all(cells: &mut Vec<HeldCell>, delta: Vec<HeldCell>)
     requires { length cells.old.items ≡ length delta.items }
     ensures { cells.new.items ≡ join_states cells.old.items delta.items }
 {

@@ -1,5 +1,5 @@
 //! A table of groups that takes more of them, or stays as it was.
-ghost use Rattle.std.specs.Prelude.{◌≡◌, IfOk, OnErr, OnOk};
+ghost use Rattle.std.specs.Prelude.{◌≡◌, IfOk, IfSome, OnErr, OnOk};
 ghost use Rattle.group_by.specs.Groups.{with_groups};
 ghost use Rattle.gathering.specs.Totals.{CanTake};
 
@@ -7,11 +7,13 @@ use aggregate_states::Group;
 use group_by::GroupTable;
 use std::alloc::{AllocError, Global};
 use std::marker::Model;
-use std::mem::replace;
+use std::mem::{drop, replace};
 
 /// A table of groups, which is all that contracts see. Merging into a table can't be undone where
-/// memory runs out, so groups go into its copy first. That is then the table, and the one before it
-/// takes the same groups and is the copy: so no table is copied anew while memory is there.
+/// memory runs out, so groups go into its copy first, which is then the table. Where they are few
+/// beside those of the table, the table before takes them too and is the copy, so that no table is
+/// copied anew. Where they are many, a copy costs less than to merge them twice, and it is made when
+/// the next groups come.
 #[derive(Drop)]
 pub struct LiveTable {
     table: GroupTable,
@@ -27,6 +29,22 @@ impl Model for LiveTable {
     ghost view = { λ t. t.table };
 
     ghost invariant = { λ t. IfSome t.copy (λ c. c ≡ t.table) };
+}
+
+/// How many times as many groups a table has taken as come, where its copy is kept.
+const TIMES_AS_MANY: u64 = 8;
+
+/// The table with these groups more, where they are few beside those that it took and memory is
+/// there.
+fn copy_with(alloc: Global, before: GroupTable, groups: &[Group]) -> Option<GroupTable>
+    requires { CanTake before groups.now }
+    ensures { IfSome result (λ copy. copy ≡ with_groups before groups.now) }
+{
+    if (groups.len() as u64).saturating_mul(TIMES_AS_MANY) > before.merged() {
+        drop(before);
+        return None;
+    }
+    before.absorb_groups(alloc, groups).ok()
 }
 
 impl LiveTable {
@@ -63,7 +81,7 @@ impl LiveTable {
     {
         let changed = self.take_copy(alloc)?.absorb_groups(alloc, groups)?;
         let before = replace(&mut self.table, changed);
-        self.copy = before.absorb_groups(alloc, groups).ok();
+        self.copy = copy_with(alloc, before, groups);
         Ok(())
     }
 }

@@ -10,7 +10,7 @@ ghost use Rattle.gathering.specs.Report.{has_obstacle, report_in, ended_as, summ
 use crate::gather::Gather;
 use crate::lines::{print_fault, print_fragments, print_row_fault};
 use crate::output::{Output, output_together};
-use aggregate_states::Group;
+use crate::packing::HeldCell;
 use last_step::{Finished, PrintFault, print_rows};
 use meaning::{Cell, Plan, Sequence};
 use std::alloc::{AllocError, Global};
@@ -51,7 +51,7 @@ enum Obstacle {
     NoAnswer,
 }
 
-fn has_obstacle(obstacle: Obstacle, cell: &Cell<Group>) -> bool
+fn has_obstacle(obstacle: Obstacle, cell: &HeldCell) -> bool
     ensures { result ≡ has_obstacle obstacle cell.now }
 {
     match (obstacle, cell) {
@@ -64,7 +64,7 @@ fn has_obstacle(obstacle: Obstacle, cell: &Cell<Group>) -> bool
 fn fragments_with(
     alloc: Global,
     obstacle: Obstacle,
-    cells: &[Cell<Group>],
+    cells: &[HeldCell],
 ) -> Result<Sequence<u32>, AllocError>
     requires { length cells.now ≤ max_fragments }
     ensures { IfOk result (λ ks. ks ≡ fragments_where (has_obstacle obstacle) cells.now) }

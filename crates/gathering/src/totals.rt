@@ -12,7 +12,8 @@ ghost use Rattle.gathering.specs.Totals.{AreDeltas, AreTotalsOf, AreTotalsWith, 
 
 use crate::combining::{earlier, least_behind, least_fault, merge_behind, merge_cells};
 use crate::live_table::LiveTable;
-use aggregate_states::Group;
+use crate::packing::HeldCell;
+use aggregate_states::{Group, Groups};
 use group_by::GroupTable;
 use meaning::{Body, Cell, Plan, RowFault};
 use std::alloc::{AllocError, Global};
@@ -59,7 +60,7 @@ impl Totals {
     }
 
     /// Takes an answer. On an error nothing changes.
-    pub fn add(&mut self, alloc: Global, body: &Body<Group>) -> Result<(), AllocError>
+    pub fn add(&mut self, alloc: Global, body: &Body<Groups>) -> Result<(), AllocError>
         requires { CanTake self.old.table (groups_of body.now) }
         ensures added { OnOk result
             (AreTotalsWith self.old (groups_of body.now) (fault_in (One body.now)) self.new) }
@@ -75,7 +76,7 @@ impl Totals {
     }
 
     /// Those with the answers in some cells more, in a table of their own.
-    pub fn with_cells(&self, alloc: Global, cells: &[Cell<Group>]) -> Result<Totals, AllocError>
+    pub fn with_cells(&self, alloc: Global, cells: &[HeldCell]) -> Result<Totals, AllocError>
         requires { CanTake self.now.table (all_groups cells.now) }
         ensures { IfOk result
             (AreTotalsWith self.now (all_groups cells.now) (least_fault cells.now)) }
@@ -93,8 +94,8 @@ impl Totals {
     fn anew(
         alloc: Global,
         plan: &Plan,
-        cells: &[Cell<Group>],
-        deltas: &[Cell<Group>],
+        cells: &[HeldCell],
+        deltas: &[HeldCell],
         earlier: u64,
     ) -> Result<Totals, AllocError>
         requires lengths { length cells.now ≡ length deltas.now }
@@ -117,8 +118,8 @@ impl Totals {
         &self,
         alloc: Global,
         plan: &Plan,
-        cells: &[Cell<Group>],
-        deltas: &[Cell<Group>],
+        cells: &[HeldCell],
+        deltas: &[HeldCell],
     ) -> Result<Totals, AllocError>
         requires totals { AreTotalsOf plan.now cells.now self.now }
         requires deltas { AreDeltas cells.now deltas.now }
@@ -138,13 +139,13 @@ impl Totals {
 }
 
 /// Whether one of these is a conflict.
-fn has_conflict(cells: &[Cell<Group>]) -> bool
+fn has_conflict(cells: &[HeldCell]) -> bool
     ensures { result ≡ list_any is_conflict cells.now }
 {
     cells.iter().any(|cell| is_conflict(cell))
 }
 
-fn is_conflict(cell: &Cell<Group>) -> bool
+fn is_conflict(cell: &HeldCell) -> bool
     ensures { result ≡ is_conflict cell.now }
 {
     match cell {
@@ -155,7 +156,7 @@ fn is_conflict(cell: &Cell<Group>) -> bool
 }
 
 /// The totals of the answers in the cells.
-pub fn totals_of(alloc: Global, plan: &Plan, cells: &[Cell<Group>]) -> Result<Totals, AllocError>
+pub fn totals_of(alloc: Global, plan: &Plan, cells: &[HeldCell]) -> Result<Totals, AllocError>
     requires { AreMergeable plan.now (all_groups cells.now) }
     ensures totals { IfOk result (AreTotalsOf plan.now cells.now) }
     ensures merges { IfOk result (λ t. merges_of t ≡ length (all_groups cells.now)) }

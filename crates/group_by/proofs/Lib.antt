@@ -14,3 +14,4 @@ pub mod Combining
 pub mod Handing
 pub mod SortedInts
 pub mod Own
+pub mod Absorbing

@@ -13,7 +13,7 @@ use Rattle.aggregate_states.specs.Entries.{state_of, of_group}
 use Rattle.aggregate_states.specs.State.{most_entries}
 use Rattle.group_index.specs.Found.{AreFound, IsFound}
 use Rattle.group_by.specs.Shape.{GroupsSpec, shape_with}
-use Rattle.group_by.specs.Groups.{together}
+use Rattle.group_by.specs.Groups.{together, with_groups}
 
 -- the state at a group index of a column
 abbrev pub state_in : ColumnSpec → ℕ → Statistics
@@ -108,6 +108,12 @@ pub record IsAbsorbed (g : Group) (keys : List Row) (rows : List ℕ) (columns :
   pub located : IsFound g.key keys group_index new_keys
   pub counted : IsRaised (length new_keys) group_index g.rows rows new_rows
   pub merged : AreMerged (length new_keys) group_index g.states columns new_columns
+
+-- what groups do to the parts of a table that took so many rows, whether or not the empty key has a group in any case
+pub record AreAbsorbed (gs : List Group) (keys : List Row) (rows : List ℕ) (columns : List ColumnSpec) (taken : ℕ) (new_keys : List Row) (new_rows : List ℕ) (new_columns : List ColumnSpec) (new_taken : ℕ) : Type 0 where
+  pub well_formed : (is_certain : Bool) → IsWellFormed is_certain keys rows columns taken → IsWellFormed is_certain new_keys new_rows new_columns new_taken
+  pub table : (is_certain : Bool) → IsWellFormed is_certain keys rows columns taken → (handed : ℕ)
+      → table_of is_certain new_keys new_rows new_columns new_taken (handed + length gs) ≡ with_groups (table_of is_certain keys rows columns taken handed) gs
 
 -- columns of these kinds, with a state of no entry for each of so many groups
 pub record AreFresh (n : ℕ) (are : List AggregateKind) (columns : List ColumnSpec) : Type 0 where

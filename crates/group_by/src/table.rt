@@ -1,13 +1,13 @@
 //! A table of groups that grows by rows and by groups.
-ghost use Rattle.std.specs.Prelude.{◌≡◌, ℕ, ◌<◌, ◌≤◌, ◌+◌, [], ◌∷◌, length, map, slice_index_or, sum, replicate, All, IfOk, OnOk};
+ghost use Rattle.std.specs.Prelude.{◌≡◌, ℕ, ◌<◌, ◌≤◌, ◌+◌, false, length, map, slice_index_or, sum, replicate, All, IfOk, OnOk};
 ghost use Rattle.meaning.specs.Aggregate.{no_statistics};
 ghost use Rattle.meaning.specs.Group.{certain_keys};
 ghost use Rattle.aggregate_states.specs.State.{most_entries};
 ghost use Rattle.group_index.specs.Keys.{empty_key};
-ghost use Rattle.group_by.specs.Shape.{shape_of};
+ghost use Rattle.group_by.specs.Shape.{shape_of, shape_with};
 ghost use Rattle.group_by.specs.Groups.{all_rows, fresh, with_rows, with_groups};
 ghost use Rattle.accumulators.specs.Columns.{no_column};
-ghost use Rattle.group_by.specs.GroupIndexes.{state_at, AreAdded, AreFresh, IsAbsorbed};
+ghost use Rattle.group_by.specs.GroupIndexes.{state_at, AreAbsorbed, AreAdded, AreFresh, IsAbsorbed, IsWellFormed};
 ghost use Rattle.group_index.specs.Rows.{rows_at, AreLanesOf};
 ghost use Rattle.group_by.specs.Rows.{kept_rows, IsGroupOf};
 
@@ -167,6 +167,33 @@ fn add_group(
     Ok(())
 }
 
+/// Finds the group index of each group's key, and merges the group there. Gives how many rows are
+/// taken then. On an error all of it is open.
+fn add_groups(
+    alloc: Global,
+    index: &mut KeyIndex,
+    rows: &mut Vec<u64>,
+    columns: &mut Vec<StateColumn>,
+    taken: u64,
+    groups: &[Group],
+) -> Result<u64, AllocError>
+    // Asked as of a table without a certain key, since one with it meets that too.
+    requires well_formed { IsWellFormed false index.old.keys rows.old.items columns.old.items
+        taken }
+    requires fit { All (IsGroupOf (shape_with false (map (λ c. c.kind) columns.old.items)))
+        groups.now }
+    requires few { taken + all_rows groups.now ≤ most_entries }
+    ensures { IfOk result (λ total. AreAbsorbed groups.now index.old.keys rows.old.items
+        columns.old.items taken index.new.keys rows.new.items columns.new.items total) }
+{
+    let mut total = taken;
+    for group in groups {
+        add_group(alloc, index, rows, columns, group)?;
+        total += group.rows();
+    }
+    Ok(total)
+}
+
 impl GroupTable {
     /// The groups of no row.
     pub fn new(alloc: Global, plan: &Plan) -> Result<GroupTable, AllocError>
@@ -187,12 +214,12 @@ impl GroupTable {
         }
     }
 
-    /// Takes one group, merged with that of its key.
-    fn absorb_group(self, alloc: Global, group: &Group) -> Result<GroupTable, AllocError>
-        requires fit { IsGroupOf self.shape group.now }
-        requires handed { self.handed + 1 < 9223372036854775808 }
-        requires few { self.rows + group.now.rows ≤ most_entries }
-        ensures { IfOk result (λ t. t ≡ with_groups self (group.now ∷ [])) }
+    /// Takes groups, each merged with that of its key. A refusal gives the table up.
+    pub fn absorb_groups(self, alloc: Global, groups: &[Group]) -> Result<GroupTable, AllocError>
+        requires fit { All (IsGroupOf self.shape) groups.now }
+        requires handed { self.handed + length groups.now < 9223372036854775808 }
+        requires few { self.rows + all_rows groups.now ≤ most_entries }
+        ensures { IfOk result (λ t. t ≡ with_groups self groups.now) }
     {
         let GroupTable {
             is_certain,
@@ -202,33 +229,18 @@ impl GroupTable {
             taken,
             handed,
         } = self;
-        match add_group(alloc, &mut index, &mut rows, &mut columns, group) {
-            Ok(()) => Ok(GroupTable {
+        let many = groups.len() as u64;
+        match add_groups(alloc, &mut index, &mut rows, &mut columns, taken, groups) {
+            Ok(taken) => Ok(GroupTable {
                 is_certain,
                 index,
                 rows,
                 columns,
-                taken: taken + group.rows(),
-                handed: handed + 1,
+                taken,
+                handed: handed + many,
             }),
             Err(fault) => Err(fault),
         }
-    }
-
-    /// Takes groups, each merged with that of its key. A refusal gives the table up.
-    pub fn absorb_groups(self, alloc: Global, groups: &[Group]) -> Result<GroupTable, AllocError>
-        requires fit { All (IsGroupOf self.shape) groups.now }
-        requires handed { self.handed + length groups.now < 9223372036854775808 }
-        requires few { self.rows + all_rows groups.now ≤ most_entries }
-        ensures { IfOk result (λ t. t ≡ with_groups self groups.now) }
-    {
-        // That the groups were merged before.
-        let _ = &self.rows;
-        let mut table = self;
-        for k in 0..groups.len() {
-            table = table.absorb_group(alloc, &groups[k])?;
-        }
-        Ok(table)
     }
 
     /// An equal table, in memory of its own.

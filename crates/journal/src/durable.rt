@@ -15,7 +15,7 @@ use crate::appending::{append_record, entry_of};
 use crate::clearing::{MAGIC, clear};
 use crate::fault::JournalFault;
 use crate::opening::open_journal;
-use aggregate_states::Group;
+use aggregate_states::Groups;
 use disk::Disk;
 use gathering::{Absorbed, Gather};
 use meaning::Answer;
@@ -46,12 +46,13 @@ impl<D: Disk + Drop> Model for DurableGather<D> {
     ghost use Rattle.meaning.specs.contracts.plan.Plan as a_plan;
     ghost use Rattle.meaning.specs.contracts.answer.Group as a_group;
     ghost use Rattle.meaning.specs.contracts.answer.Cell as a_cell;
+    ghost use Rattle.meaning.specs.contracts.sequence.Sequence as a_sequence;
     ghost use Rattle.journal.specs.Durable.{DurableSpec, IsKept};
 
     ghost Value = { DurableSpec };
 
     ghost coded = { Prim.hlevel
-        (codes, a_plan.the_row.coded, (a_cell.the_row a_group.the_row).coded) };
+        (codes, a_plan.the_row.coded, (a_cell.the_row (a_sequence.the_row a_group.the_row)).coded) };
 
     ghost view = { λ d. record {
       disk = D.shown d.disk;
@@ -214,7 +215,7 @@ impl<D: Disk + Drop> DurableGather<D> {
         &mut self,
         alloc: Global,
         bytes: &[u8],
-        answer: Answer<Group>,
+        answer: Answer<Groups>,
     ) -> Result<Absorbed, JournalFault>
         requires is_open { self.old.is_open ≡ true }
         requires spelled { Spells self.old.gather.job bytes.now answer }
@@ -232,7 +233,8 @@ impl<D: Disk + Drop> DurableGather<D> {
             → LeavesOnly self.old.disk self.new.disk (IsLean self.old.gather.job) }
         ensures refused { IfErr result (RefusesAbsorb self.old self.new bytes.now) }
     {
-        let (returned, changes) = self.gather.would_take(&answer);
+        let judged = self.gather.would_take(alloc, &answer)?;
+        let (returned, changes) = judged;
         if !changes {
             drop(answer);
             return Ok(returned);
@@ -250,7 +252,7 @@ impl<D: Disk + Drop> DurableGather<D> {
         &mut self,
         alloc: Global,
         bytes: &[u8],
-        answer: Answer<Group>,
+        answer: Answer<Groups>,
     ) -> Result<Absorbed, JournalFault>
         requires is_open { self.old.is_open ≡ true }
         requires spelled { Spells self.old.gather.job bytes.now answer }

@@ -1,4 +1,5 @@
--- What is said of fragments: the declared forms, over groups.
+-- What is said of fragments: the declared forms, over lists of groups.
+use Rattle.std.specs.Prelude.{List}
 use Rattle.meaning.specs.declared.answer.Group.{Group}
 use Rattle.meaning.specs.declared.answer.Body as said
 use Rattle.meaning.specs.declared.answer.Answer as answers
@@ -6,10 +7,10 @@ use Rattle.meaning.specs.declared.answer.Cell as cells
 
 -- groups, or the fault of the least row
 abbrev pub Body : Type 0
-Body = said.Body Group
+Body = said.Body (List Group)
 
 abbrev pub Answer : Type 0
-Answer = answers.Answer Group
+Answer = answers.Answer (List Group)
 
 abbrev pub Cell : Type 0
-Cell = cells.Cell Group
+Cell = cells.Cell (List Group)

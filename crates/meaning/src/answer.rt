@@ -31,24 +31,24 @@ pub struct Group {
 }
 
 /// What is known of some rows: the groups in the order of their keys, or the fault of the least
-/// row.
+/// row. `S` is what holds the groups.
 #[derive(PartialEq, Eq, Drop)]
-pub enum Body<G> {
-    Groups(Sequence<G>),
+pub enum Body<S> {
+    Groups(S),
     Fault(RowFault),
 }
 
 /// What is said of a fragment.
 #[derive(Drop)]
-pub struct Answer<G> {
+pub struct Answer<S> {
     pub k: u32,
-    pub body: Body<G>,
+    pub body: Body<S>,
 }
 
 /// What a coordinator holds for a fragment.
 #[derive(Drop)]
-pub enum Cell<G> {
+pub enum Cell<S> {
     Nothing,
-    One(Body<G>),
+    One(Body<S>),
     Conflict,
 }

@@ -17,7 +17,7 @@ ghost use Rattle.meaning.specs.TypeCodes.{type_code};
 ghost use Rattle.wire.specs.Reading.{same_bytes};
 
 use crate::job::Job;
-use aggregate_states::{Group, State};
+use aggregate_states::{Group, Groups, State};
 use answer_fields::JobFields;
 use byteorder::{ByteOrder, LittleEndian};
 use meaning::{
@@ -174,7 +174,7 @@ fn are_groups_typed(plan: &Plan, groups: &[Group]) -> bool
 }
 
 /// Whether the keys, the least and greatest values and the entries of groups have their types.
-pub fn is_typed(plan: &Plan, body: &Body<Group>) -> bool
+pub fn is_typed(plan: &Plan, body: &Body<Groups>) -> bool
     ensures { result ≡ keeping.is_typed plan.now body.now }
 {
     match body {
@@ -215,7 +215,7 @@ fn are_sets_ascending(groups: &[Group]) -> bool
 }
 
 /// Whether each key is less than the next, and each entry of a set.
-pub fn is_in_order(body: &Body<Group>) -> bool
+pub fn is_in_order(body: &Body<Groups>) -> bool
     ensures { result ≡ fitting.is_in_order body.now }
 {
     match body {
@@ -334,7 +334,7 @@ fn is_fault_possible(first: u64, rows: u64, fault: RowFault) -> bool
 }
 
 /// Whether so many rows, numbered from `first`, can give the numbers.
-pub fn are_numbers_possible(plan: &Plan, first: u64, rows: u64, body: &Body<Group>) -> bool
+pub fn are_numbers_possible(plan: &Plan, first: u64, rows: u64, body: &Body<Groups>) -> bool
     ensures { result ≡ fitting.are_numbers_possible plan.now first rows body.now }
 {
     match body {

@@ -12,7 +12,7 @@ ghost use Rattle.wire.specs.Reading.{Reads, same_bytes};
 
 use crate::check::{are_numbers_possible, is_cut_of, is_in_order, is_query_of, is_typed};
 use crate::job::Job;
-use aggregate_states::Group;
+use aggregate_states::Groups;
 use answer_fields::{DecodeFault, JobFields, Layout, is_shape_of, take_layout};
 use meaning::{Answer, Body};
 use std::alloc::Global;
@@ -42,7 +42,7 @@ fn is_fragment_of(job: &Job, fields: &JobFields<'_>, k: u32) -> bool
 }
 
 /// Whether the fragment's rows can give the numbers.
-fn are_numbers_of_fragment(job: &Job, k: u32, body: &Body<Group>) -> bool
+fn are_numbers_of_fragment(job: &Job, k: u32, body: &Body<Groups>) -> bool
     requires { k < length job.now.cut }
     ensures { result ≡ fitting.are_numbers_possible job.now.plan (row_before job.now.cut k)
         (slice_index job.now.cut k) body.now }
@@ -88,7 +88,7 @@ fn check_layout(job: &Job, layout: &Layout<'_>) -> Result<(), DecodeFault>
 }
 
 /// The answer, where the fields are those of one for the job.
-fn hold_against(job: &Job, layout: Layout<'_>) -> Result<Answer<Group>, DecodeFault>
+fn hold_against(job: &Job, layout: Layout<'_>) -> Result<Answer<Groups>, DecodeFault>
     requires { length layout.job.cut.now ≡ layout.job.fragments * 4 }
     ensures { Reads (λ a. a) result (layout_held_by job.now layout.entry) }
 {
@@ -105,7 +105,7 @@ fn hold_against(job: &Job, layout: Layout<'_>) -> Result<Answer<Group>, DecodeFa
 }
 
 #[tactic(auto, unfolding(crate::specs::Answer::judged))]
-fn judge(alloc: Global, job: &Job, bytes: &[u8]) -> Result<Answer<Group>, DecodeFault>
+fn judge(alloc: Global, job: &Job, bytes: &[u8]) -> Result<Answer<Groups>, DecodeFault>
     ensures exact { GivesIfMemory DecodeFault.Memory (λ a. a) result (judged job.now bytes.now) }
     ensures within_limits { IsJob job.now }
 {
@@ -123,7 +123,7 @@ fn judge(alloc: Global, job: &Job, bytes: &[u8]) -> Result<Answer<Group>, Decode
 /// The bytes are read from front to back; then come the seal, the job, the shape, the order of the
 /// groups and of sets, and the numbers. Memory is taken for no more than the bytes
 /// can hold, whatever counts they claim.
-pub fn decode(alloc: Global, job: &Job, bytes: &[u8]) -> Result<Answer<Group>, DecodeFault>
+pub fn decode(alloc: Global, job: &Job, bytes: &[u8]) -> Result<Answer<Groups>, DecodeFault>
     // What is given is spelled so.
     ensures spelled { IfOk result (λ a. Spells job.now bytes.now a) }
     // What is spelled so is given, unless memory runs out.

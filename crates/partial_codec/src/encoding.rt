@@ -13,11 +13,11 @@ ghost use Rattle.partial_codec.specs.Spelling as spec;
 ghost use Rattle.wire.specs.Bytes.{i128_bytes, number_bytes};
 
 use crate::job::Job;
-use aggregate_states::{Group, State};
-use answer_fields::{Content, Format, argument_code, kind_code, put_value, shape_of_aggregate};
-use meaning::{
-    Aggregate, AggregateKind, Answer, Body, GroupingKey, Plan, Value, ValueRef, type_code,
+use aggregate_states::{Group, Groups, State};
+use answer_fields::{
+    Content, Format, argument_code, kind_code, put_set, put_value, put_values, shape_of_aggregate,
 };
+use meaning::{Aggregate, AggregateKind, Answer, Body, GroupingKey, Plan, ValueRef, type_code};
 use std::alloc::{AllocError, Global};
 use wire::{append_i128, append_seal, append_text, append_u8, append_u16, append_u32, append_u64};
 
@@ -81,16 +81,6 @@ pub fn put_shape(out: &mut Vec<u8>, plan: &Plan) -> Result<(), AllocError>
     put_aggregates(out, plan.aggs.as_slice())
 }
 
-fn put_values(out: &mut Vec<u8>, values: &[Value]) -> Result<(), AllocError>
-    requires { AllByRecursion IsValue values.now }
-    ensures { OnOk result (out.new.items ≡ out.old.items ++ flat_map spec.value_bytes values.now) }
-{
-    for value in values {
-        put_value(out, value.as_value_ref())?;
-    }
-    Ok(())
-}
-
 fn put_sum(out: &mut Vec<u8>, count: u64, sum: i128) -> Result<(), AllocError>
     requires { count < 2 ^ 32 }
     ensures { OnOk result (out.new.items ≡ out.old.items
@@ -108,17 +98,6 @@ fn put_extreme(out: &mut Vec<u8>, count: u64, value: ValueRef<'_>) -> Result<(),
 {
     append_u32(out, count as u32)?;
     put_value(out, value)
-}
-
-/// The entries of a set, behind their number.
-#[tactic(auto, unfolding(answer_fields::specs::Spelling::set_bytes))]
-fn put_set(out: &mut Vec<u8>, entries: &[Value]) -> Result<(), AllocError>
-    requires few { length entries.now < 2 ^ 32 }
-    requires values { AllByRecursion IsValue entries.now }
-    ensures { OnOk result (out.new.items ≡ out.old.items ++ spec.set_bytes entries.now) }
-{
-    append_u32(out, entries.len() as u32)?;
-    put_values(out, entries)
 }
 
 /// What an aggregate of the kind keeps.
@@ -179,7 +158,7 @@ fn put_all_groups(out: &mut Vec<u8>, plan: &Plan, groups: &[Group]) -> Result<()
 
 /// Groups, or a fault.
 #[tactic(auto, unfolding(answer_fields::specs::Spelling::body_bytes))]
-pub fn put_body(out: &mut Vec<u8>, plan: &Plan, body: &Body<Group>) -> Result<(), AllocError>
+pub fn put_body(out: &mut Vec<u8>, plan: &Plan, body: &Body<Groups>) -> Result<(), AllocError>
     requires { IsBody (shapes.shape_of plan.now) body.now }
     ensures { OnOk result (out.new.items ≡ out.old.items
         ++ spec.body_bytes (shapes.shape_of plan.now) body.now) }
@@ -200,7 +179,7 @@ pub fn put_body(out: &mut Vec<u8>, plan: &Plan, body: &Body<Group>) -> Result<()
 
 /// All of an answer but its seal.
 #[tactic(auto, unfolding(answer_fields::specs::Spelling::layout_bytes))]
-fn put_layout(out: &mut Vec<u8>, job: &Job, answer: &Answer<Group>) -> Result<(), AllocError>
+fn put_layout(out: &mut Vec<u8>, job: &Job, answer: &Answer<Groups>) -> Result<(), AllocError>
     requires { IsBody (shapes.shape_of job.now.plan) answer.now.body }
     ensures { OnOk result (out.new.items ≡ out.old.items
         ++ spec.layout_bytes (spec.layout_of newest job.now answer.now)) }
@@ -215,7 +194,7 @@ fn put_layout(out: &mut Vec<u8>, job: &Job, answer: &Answer<Group>) -> Result<()
 }
 
 /// An answer that fits the job, as it is spelled in the newest format.
-pub fn encode(alloc: Global, job: &Job, answer: &Answer<Group>) -> Result<Vec<u8>, AllocError>
+pub fn encode(alloc: Global, job: &Job, answer: &Answer<Groups>) -> Result<Vec<u8>, AllocError>
     requires { Fits job.now answer.now }
     ensures { IfOk result (λ bytes. bytes.items ≡ spec.answer_bytes job.now answer.now) }
 {

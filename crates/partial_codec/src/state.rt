@@ -12,14 +12,14 @@ ghost use Rattle.meaning.specs.Wanting.{GivesIfMemory};
 use crate::encoding::{put_body, put_job, put_shape};
 use crate::job::Job;
 use crate::state_check::hold_state_against;
-use aggregate_states::Group;
+use aggregate_states::Groups;
 use answer_fields::{Content, DecodeFault, Format, take_state_layout};
 use meaning::{Cell, Plan};
 use std::alloc::{AllocError, Global};
 use wire::{SEAL_BYTES, append_seal, append_u8, check_seal, take_bytes};
 
 #[tactic(auto, unfolding(answer_fields::specs::StateSpelling::cell_bytes))]
-fn put_cell(out: &mut Vec<u8>, plan: &Plan, cell: &Cell<Group>) -> Result<(), AllocError>
+fn put_cell(out: &mut Vec<u8>, plan: &Plan, cell: &Cell<Groups>) -> Result<(), AllocError>
     requires { IsCell (shape_of plan.now) cell.now }
     ensures { OnOk result (out.new.items ≡ out.old.items ++ cell_bytes
         (shape_of plan.now) cell.now) }
@@ -34,7 +34,7 @@ fn put_cell(out: &mut Vec<u8>, plan: &Plan, cell: &Cell<Group>) -> Result<(), Al
     }
 }
 
-fn put_cells(out: &mut Vec<u8>, plan: &Plan, cells: &[Cell<Group>]) -> Result<(), AllocError>
+fn put_cells(out: &mut Vec<u8>, plan: &Plan, cells: &[Cell<Groups>]) -> Result<(), AllocError>
     requires { AllByRecursion (IsCell (shape_of plan.now)) cells.now }
     ensures { OnOk result (out.new.items ≡ out.old.items
         ++ flat_map (cell_bytes (shape_of plan.now)) cells.now) }
@@ -47,7 +47,7 @@ fn put_cells(out: &mut Vec<u8>, plan: &Plan, cells: &[Cell<Group>]) -> Result<()
 
 /// All of a state but its seal.
 #[tactic(auto, unfolding(answer_fields::specs::StateSpelling::state_layout_bytes))]
-fn put_state_layout(out: &mut Vec<u8>, job: &Job, cells: &[Cell<Group>]) -> Result<(), AllocError>
+fn put_state_layout(out: &mut Vec<u8>, job: &Job, cells: &[Cell<Groups>]) -> Result<(), AllocError>
     requires { AllByRecursion (IsCell (shape_of job.now.plan)) cells.now }
     ensures { OnOk result (out.new.items ≡ out.old.items
         ++ state_layout_bytes (state_layout_of newest job.now cells.now)) }
@@ -62,7 +62,7 @@ fn put_state_layout(out: &mut Vec<u8>, job: &Job, cells: &[Cell<Group>]) -> Resu
 
 /// The cells that a coordinator holds for the job, one for each fragment, as they are spelled in
 /// the newest format.
-pub fn encode_state(alloc: Global, job: &Job, cells: &[Cell<Group>]) -> Result<Vec<u8>, AllocError>
+pub fn encode_state(alloc: Global, job: &Job, cells: &[Cell<Groups>]) -> Result<Vec<u8>, AllocError>
     requires { FitsState job.now cells.now }
     ensures { IfOk result (λ bytes. bytes.items ≡ state_bytes job.now cells.now) }
 {
@@ -76,7 +76,7 @@ pub fn encode_state(alloc: Global, job: &Job, cells: &[Cell<Group>]) -> Result<V
 }
 
 #[tactic(auto, unfolding(crate::specs::State::judged_state))]
-fn judge_state(alloc: Global, job: &Job, bytes: &[u8]) -> Result<Vec<Cell<Group>>, DecodeFault>
+fn judge_state(alloc: Global, job: &Job, bytes: &[u8]) -> Result<Vec<Cell<Groups>>, DecodeFault>
     ensures exact { GivesIfMemory DecodeFault.Memory (λ cells. cells.items) result
         (judged_state job.now bytes.now) }
     ensures within_limits { IsJob job.now }
@@ -96,7 +96,11 @@ fn judge_state(alloc: Global, job: &Job, bytes: &[u8]) -> Result<Vec<Cell<Group>
 /// The bytes are read from front to back; then come the seal, the job, the shape and all types; and
 /// then, fragment by fragment, the order of the groups and of sets, and the numbers. Memory is taken
 /// for no more than the bytes can hold, whatever counts they claim.
-pub fn decode_state(alloc: Global, job: &Job, bytes: &[u8]) -> Result<Vec<Cell<Group>>, DecodeFault>
+pub fn decode_state(
+    alloc: Global,
+    job: &Job,
+    bytes: &[u8],
+) -> Result<Vec<Cell<Groups>>, DecodeFault>
     // What is given is spelled so.
     ensures spelled { IfOk result (λ cells. SpellsState job.now bytes.now cells.items) }
     // What is spelled so is given, unless memory runs out.

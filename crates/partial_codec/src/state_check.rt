@@ -8,12 +8,12 @@ ghost use Rattle.wire.specs.Reading.{Reads};
 
 use crate::check::{are_numbers_possible, is_cut_of, is_in_order, is_query_of, is_typed};
 use crate::job::Job;
-use aggregate_states::Group;
+use aggregate_states::Groups;
 use answer_fields::{DecodeFault, StateLayout, is_shape_of};
 use meaning::{Body, Cell, Plan};
 use std::mem::drop;
 
-fn is_cell_typed(plan: &Plan, cell: &Cell<Group>) -> bool
+fn is_cell_typed(plan: &Plan, cell: &Cell<Groups>) -> bool
     ensures { result ≡ keeping.is_cell_typed plan.now cell.now }
 {
     match cell {
@@ -22,7 +22,7 @@ fn is_cell_typed(plan: &Plan, cell: &Cell<Group>) -> bool
     }
 }
 
-fn are_cells_typed(plan: &Plan, cells: &[Cell<Group>]) -> bool
+fn are_cells_typed(plan: &Plan, cells: &[Cell<Groups>]) -> bool
     ensures { result ≡ list_all (keeping.is_cell_typed plan.now) cells.now }
 {
     cells.iter().all(|cell| is_cell_typed(plan, cell))
@@ -32,7 +32,7 @@ fn check_body(
     plan: &Plan,
     first: u64,
     rows: u64,
-    body: &Body<Group>,
+    body: &Body<Groups>,
     are_sums_possible: bool,
 ) -> Result<(), DecodeFault>
     ensures { Reads (λ done. done) result
@@ -54,7 +54,7 @@ fn check_cell(
     plan: &Plan,
     first: u64,
     rows: u64,
-    cell: &Cell<Group>,
+    cell: &Cell<Groups>,
     is_possible: bool,
 ) -> Result<(), DecodeFault>
     ensures { Reads (λ done. done) result
@@ -67,7 +67,7 @@ fn check_cell(
 }
 
 /// Each cell held against its fragment, before the next is.
-fn check_cells(job: &Job, cells: &[Cell<Group>], are_possible: &[bool]) -> Result<(), DecodeFault>
+fn check_cells(job: &Job, cells: &[Cell<Groups>], are_possible: &[bool]) -> Result<(), DecodeFault>
     requires fragments { length cells.now ≡ length job.now.cut }
     requires returned { length are_possible.now ≡ length job.now.cut }
     ensures { Reads (λ done. done) result
@@ -113,7 +113,7 @@ fn check_state(job: &Job, layout: &StateLayout<'_>) -> Result<(), DecodeFault>
 pub fn hold_state_against(
     job: &Job,
     layout: StateLayout<'_>,
-) -> Result<Vec<Cell<Group>>, DecodeFault>
+) -> Result<Vec<Cell<Groups>>, DecodeFault>
     requires cut { length layout.job.cut.now ≡ layout.job.fragments * 4 }
     requires cells { length layout.cells.items ≡ layout.job.fragments }
     requires returned { length layout.are_possible.items ≡ layout.job.fragments }

@@ -1,8 +1,8 @@
--- Loop invariants of `put_values` (`encoding`).
+-- Loop invariants of `put_values` (`values`).
 use Rattle.std.proofs.Common.{◌≡◌, ◌++◌, take}
 use Rattle.std.specs.List.{flat_map}
-use Rattle.partial_codec.specs.Spelling.{value_bytes}
-use Rattle.partial_codec.proofs.encoding.put_values.Given as goal
+use Rattle.answer_fields.specs.Spelling.{value_bytes}
+use Rattle.answer_fields.proofs.values.put_values.Given as goal
 
 abbrev pub invariant-loop-value : goal.invariant-loop-value
 invariant-loop-value l =

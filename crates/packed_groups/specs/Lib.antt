@@ -1,0 +1,4 @@
+-- The definitions of this crate.
+pub mod Packing
+pub mod Reading
+pub mod Packable

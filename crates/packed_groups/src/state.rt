@@ -1,0 +1,189 @@
+//! States as they are packed: put behind other bytes, and taken from the front.
+ghost use Rattle.std.specs.Prelude.{◌≡◌, ◌≤◌, ◌++◌, ◌<◌, ◌^◌, length, true, OnOk, IfOk};
+ghost use Rattle.std.specs.List.{flat_map, AllByRecursion, list_all};
+ghost use Rattle.aggregate_states.specs.State.{is_extreme, most_entries};
+ghost use Rattle.aggregate_states.specs.Values.{is_spelled};
+ghost use Rattle.answer_fields.specs.LayoutReading.{unless_null};
+ghost use Rattle.answer_fields.specs.Ranges.{IsExtreme, IsValue};
+ghost use Rattle.answer_fields.specs.Spelling.{value_bytes, value_or_null};
+ghost use Rattle.meaning.specs.Fitting as fitting;
+ghost use Rattle.meaning.specs.Order.{value_in};
+ghost use Rattle.meaning.specs.Wanting.{GivesIfMemory};
+ghost use Rattle.packed_groups.specs.Packable.{IsPackableState};
+ghost use Rattle.packed_groups.specs.Packing.{entries_bytes, state_bytes, sum_bytes};
+ghost use Rattle.packed_groups.specs.Reading as reading;
+ghost use Rattle.wire.specs.Bytes.{number_bytes};
+ghost use Rattle.wire.specs.Reading.{Reads};
+
+use aggregate_states::State;
+use answer_fields::{DecodeFault, is_sum_of, put_set, put_value, take_set, take_value};
+use meaning::{Sequence, Statistics, Value, ValueRef};
+use std::alloc::{AllocError, Global};
+use wire::{append_i128, append_u8, append_u32, take_i128, take_u8, take_u32};
+
+// ---- packing
+
+#[tactic(auto, unfolding(crate::specs::Packing::sum_bytes))]
+fn put_sum(out: &mut Vec<u8>, sum: i128) -> Result<(), AllocError>
+    ensures { OnOk result (out.new.items ≡ out.old.items ++ sum_bytes sum) }
+{
+    if sum == 0 {
+        return append_u8(out, 0);
+    }
+    append_u8(out, 1)?;
+    append_i128(out, sum)
+}
+
+/// A least or a greatest value, and NULL where there is none.
+fn put_extreme(out: &mut Vec<u8>, value: ValueRef<'_>) -> Result<(), AllocError>
+    requires { IsValue (value_in value) }
+    ensures { OnOk result (out.new.items ≡ out.old.items ++ value_bytes (value_in value.entry)) }
+{
+    put_value(out, value)
+}
+
+#[tactic(auto, unfolding(crate::specs::Packing::entries_bytes))]
+fn put_entries(out: &mut Vec<u8>, entries: &[Value]) -> Result<(), AllocError>
+    requires few { length entries.now < 2 ^ 32 }
+    requires values { AllByRecursion IsValue entries.now }
+    ensures { OnOk result (out.new.items ≡ out.old.items ++ entries_bytes entries.now) }
+{
+    match entries {
+        [] => append_u8(out, 0),
+        _ => {
+            append_u8(out, 1)?;
+            put_set(out, entries)
+        }
+    }
+}
+
+/// How many entries a state has, and their sum.
+fn put_tally(out: &mut Vec<u8>, state: &State) -> Result<(), AllocError>
+    requires { IsPackableState state.now }
+    ensures { OnOk result (out.new.items ≡ out.old.items
+        ++ (number_bytes 4 state.now.count ++ sum_bytes state.now.sum)) }
+{
+    append_u32(out, state.count() as u32)?;
+    put_sum(out, state.sum())
+}
+
+fn put_extremes(out: &mut Vec<u8>, state: &State) -> Result<(), AllocError>
+    requires { IsPackableState state.now }
+    ensures { OnOk result (out.new.items ≡ out.old.items
+        ++ (value_bytes (value_or_null state.now.least)
+        ++ value_bytes (value_or_null state.now.greatest))) }
+{
+    put_extreme(out, state.least())?;
+    put_extreme(out, state.greatest())
+}
+
+#[tactic(auto, unfolding(crate::specs::Packing::state_bytes))]
+pub fn put_state(out: &mut Vec<u8>, state: &State) -> Result<(), AllocError>
+    requires { IsPackableState state.now }
+    ensures { OnOk result (out.new.items ≡ out.old.items ++ state_bytes state.now) }
+{
+    put_tally(out, state)?;
+    put_extremes(out, state)?;
+    put_entries(out, state.entries())
+}
+
+// ---- taking
+
+#[tactic(auto, unfolding(crate::specs::Reading::sum_at, crate::specs::Reading::tagged_sum_at))]
+fn take_sum(bytes: &[u8]) -> Result<(i128, &[u8]), DecodeFault>
+    ensures { Reads (λ x. (x.0, x.1.now)) result (reading.sum_at bytes.now) }
+{
+    let (tag, rest) = take_u8(bytes)?;
+    if tag == 0 {
+        return Ok((0, rest));
+    }
+    Ok(take_i128(rest)?)
+}
+
+/// How many entries there are and their sum.
+#[derive(Clone, Copy)]
+struct Tally {
+    count: u64,
+    sum: i128,
+}
+
+#[tactic(auto, unfolding(crate::specs::Reading::tally_at))]
+fn take_tally(bytes: &[u8]) -> Result<(Tally, &[u8]), DecodeFault>
+    ensures read { Reads (λ x. (record { count = x.0.count; sum = x.0.sum }, x.1.now)) result
+        (reading.tally_at bytes.now) }
+    ensures possible { IfOk result (λ x. (x.0.count ≤ most_entries)
+        × (fitting.is_sum_of x.0.count x.0.sum ≡ true)) }
+{
+    let (count, rest) = take_u32(bytes)?;
+    let (sum, rest) = take_sum(rest)?;
+    let count = u64::from(count);
+    if !is_sum_of(count, sum) {
+        return Err(DecodeFault::Numbers);
+    }
+    Ok((Tally { count, sum }, rest))
+}
+
+fn unless_null(value: Value) -> Option<Value>
+    ensures value { result ≡ unless_null value }
+    ensures extreme { is_spelled value ≡ true → is_extreme result ≡ true }
+{
+    match value {
+        Value::Null => None,
+        value => Some(value),
+    }
+}
+
+#[tactic(auto, unfolding(crate::specs::Reading::entries_at, crate::specs::Reading::tagged_entries_at))]
+fn take_entries(alloc: Global, bytes: &[u8]) -> Result<(Sequence<Value>, &[u8]), DecodeFault>
+    ensures read { GivesIfMemory DecodeFault.Memory (λ x. (x.0, x.1.now)) result
+        (reading.entries_at bytes.now) }
+    ensures spelled { IfOk result (λ x. list_all is_spelled x.0 ≡ true) }
+{
+    let (tag, rest) = take_u8(bytes)?;
+    if tag == 0 {
+        return Ok((Sequence::new(alloc), rest));
+    }
+    take_set(alloc, rest)
+}
+
+/// The state of what was taken.
+fn state_of(
+    tally: Tally,
+    least: Option<Value>,
+    greatest: Option<Value>,
+    entries: Sequence<Value>,
+) -> State
+    requires count { tally.count ≤ most_entries }
+    requires possible { fitting.is_sum_of tally.count tally.sum ≡ true }
+    requires least { is_extreme least ≡ true }
+    requires greatest { is_extreme greatest ≡ true }
+    requires spelled { list_all is_spelled entries ≡ true }
+    ensures { result ≡ record {
+      count = tally.count;
+      sum = tally.sum;
+      least = least;
+      greatest = greatest;
+      entries = entries;
+    } }
+{
+    State::from_statistics(Statistics {
+        count: tally.count,
+        sum: tally.sum,
+        least,
+        greatest,
+        entries,
+    })
+}
+
+#[tactic(auto, unfolding(crate::specs::Reading::state_at))]
+pub fn take_state(alloc: Global, bytes: &[u8]) -> Result<(State, &[u8]), DecodeFault>
+    ensures { GivesIfMemory DecodeFault.Memory (λ x. (x.0, x.1.now)) result
+        (reading.state_at bytes.now) }
+{
+    let (tally, rest) = take_tally(bytes)?;
+    let (least, rest) = take_value(alloc, rest)?;
+    let (greatest, rest) = take_value(alloc, rest)?;
+    let (entries, rest) = take_entries(alloc, rest)?;
+    let state = state_of(tally, unless_null(least), unless_null(greatest), entries);
+    Ok((state, rest))
+}

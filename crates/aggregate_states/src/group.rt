@@ -14,7 +14,7 @@ pub struct Group {
     states: Sequence<State>,
 }
 
-/// Groups in the order of their keys.
+/// The groups of an answer. They are in the order of their keys where it fits its job.
 pub type Groups = Sequence<Group>;
 
 impl Model for Group {

@@ -1,11 +1,13 @@
 //! Cases about the bytes of answers and states.
+ghost use Rattle.std.specs.Prelude.{◌≡◌, IfOk};
 ghost use Rattle.partial_codec.specs.Answer.{Fits};
 ghost use Rattle.partial_codec.specs.State.{FitsState};
 
 use crate::jobs::{NO_JOB, shaped_job_of};
 use aggregate_states::{Group, Groups};
 use case_files::bytes_of;
-use meaning::{Answer, Body, Cell, Value, ValueRef};
+use meaning::{Answer, Body, Cell, Sequence, Value, ValueRef};
+use packed_groups::PackedGroups;
 use partial_codec::{
     Content, DecodeFault, Format, Job, decode, decode_state, encode, encode_state,
 };
@@ -66,6 +68,15 @@ fn show_group(shown: &mut String, group: &Group) -> Result<(), AllocError> {
     shown.push_str("\n")
 }
 
+fn unpacked_body(alloc: Global, body: &Body<PackedGroups>) -> Result<Body<Groups>, AllocError>
+    ensures { IfOk result (λ unpacked. unpacked ≡ body.now) }
+{
+    match body {
+        Body::Groups(groups) => Ok(Body::Groups(Sequence::from_vec(groups.unpack(alloc)?))),
+        Body::Fault(fault) => Ok(Body::Fault(*fault)),
+    }
+}
+
 fn show_body(shown: &mut String, body: &Body<Groups>) -> Result<(), AllocError> {
     match body {
         Body::Groups(groups) => {
@@ -78,10 +89,19 @@ fn show_body(shown: &mut String, body: &Body<Groups>) -> Result<(), AllocError> 
     }
 }
 
-fn show_cell(shown: &mut String, cell: &Cell<Groups>) -> Result<(), AllocError> {
+fn show_cell(
+    alloc: Global,
+    shown: &mut String,
+    cell: &Cell<PackedGroups>,
+) -> Result<(), AllocError> {
     match cell {
         Cell::Nothing => shown.push_str("nothing\n"),
-        Cell::One(body) => show_body(shown, body),
+        Cell::One(body) => {
+            let unpacked = unpacked_body(alloc, body)?;
+            let done = show_body(shown, &unpacked);
+            drop(unpacked);
+            done
+        }
         Cell::Conflict => shown.push_str("conflict\n"),
     }
 }
@@ -137,10 +157,25 @@ fn answer_lines(
     Ok(shown)
 }
 
+fn packed_answer_lines(
+    alloc: Global,
+    job: &Job,
+    answer: &Answer<PackedGroups>,
+    bytes: &[u8],
+) -> Result<String, AllocError>
+    requires { Fits job.now answer.now }
+{
+    let body = unpacked_body(alloc, &answer.body)?;
+    let unpacked = Answer { k: answer.k, body };
+    let shown = answer_lines(alloc, job, &unpacked, bytes);
+    drop(unpacked);
+    shown
+}
+
 fn decoded_answer(alloc: Global, job: &Job, bytes: &[u8]) -> Result<String, AllocError> {
     match decode(alloc, job, bytes) {
         Ok(answer) => {
-            let shown = answer_lines(alloc, job, &answer, bytes);
+            let shown = packed_answer_lines(alloc, job, &answer, bytes);
             drop(answer);
             shown
         }
@@ -151,7 +186,7 @@ fn decoded_answer(alloc: Global, job: &Job, bytes: &[u8]) -> Result<String, Allo
 fn state_lines(
     alloc: Global,
     job: &Job,
-    cells: &[Cell<Groups>],
+    cells: &[Cell<PackedGroups>],
     bytes: &[u8],
 ) -> Result<String, AllocError>
     requires { FitsState job.now cells.now }
@@ -159,7 +194,7 @@ fn state_lines(
     let again = encode_state(alloc, job, cells)?;
     let mut shown = String::new(alloc);
     for cell in cells {
-        show_cell(&mut shown, cell)?;
+        show_cell(alloc, &mut shown, cell)?;
     }
     show_spelling(&mut shown, Content::State, bytes, again.as_slice())?;
     Ok(shown)

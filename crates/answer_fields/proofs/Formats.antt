@@ -6,7 +6,7 @@ use Rattle.std.specs.Result.{result_ok}
 use Rattle.std.specs.Cmp.Lexicographic.{bytes_decides}
 use Rattle.wire.specs.Reading.{◌>>=◌, bytes_at, same_bytes}
 use Rattle.wire.proofs.Numbers.{bind_ok, ok_is, Takes, bytes_take, bytes_again}
-use Rattle.wire.proofs.Parts.{IsSpelled, IsReadAgain}
+use Rattle.wire.proofs.Parts.{IsSpelled}
 use Rattle.answer_fields.specs.declared.fault.DecodeFault.{DecodeFault}
 use Rattle.answer_fields.specs.declared.format.Content.{Content}
 use Rattle.answer_fields.specs.declared.format.Content.TheVariants as of

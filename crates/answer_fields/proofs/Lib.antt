@@ -5,8 +5,5 @@ pub mod ValueLaws
 pub mod Groups
 pub mod FieldLaws
 pub mod Words
-pub mod KeptParts
-pub mod ReadGroups
 pub mod ReadFields
-pub mod KeptCells
 pub mod Shapes

@@ -1,6 +1,6 @@
 -- What the readers of groups keep of what they read. A state can't hold a sum that so many integers don't give: such a sum
 -- is kept as 0, and returned.
-use Rattle.std.specs.Prelude.{◌≡◌, ◌≢◌, ◌≤◌, ℕ, pos, Bool, true, ◌&&◌, if◌then◌else◌, List, map, Result, Ok, Err}
+use Rattle.std.specs.Prelude.{◌≡◌, ◌≤◌, ℕ, pos, Bool, true, ◌&&◌, if◌then◌else◌, List, map}
 use Rattle.std.specs.List.{list_all}
 use Rattle.std.specs.Cmp.Lexicographic.{pointwise}
 use Rattle.meaning.specs.declared.answer.Statistics.{Statistics}

@@ -1,16 +1,15 @@
-//! The fields of an answer, read from front to back, and those that a state has too.
+//! The fields that answers and states have, read from front to back.
 ghost use Rattle.std.specs.Prelude.{◌≡◌, ◌*◌, IfOk, length};
-ghost use Rattle.answer_fields.specs.Fields.{AreJobFields, IsLayout, shape_in, words};
+ghost use Rattle.answer_fields.specs.Fields.{AreJobFields, shape_in, words};
 ghost use Rattle.meaning.specs.Wanting.{GivesIfMemory, KeepsIfMemory};
 ghost use Rattle.answer_fields.specs.LayoutReading as reading;
+ghost use Rattle.answer_fields.specs.Shape.{IsNarrow};
 ghost use Rattle.wire.specs.Reading.{Reads, repeat_at};
 
-use crate::body::take_body;
 use crate::fault::DecodeFault;
-use crate::format::{Content, Format, take_format};
+use crate::format::Format;
 use crate::shape::{AggregateShape, Shape};
-use aggregate_states::Groups;
-use meaning::{AggregateKind, Body, ColType};
+use meaning::{AggregateKind, ColType};
 use std::alloc::Global;
 use wire::{take_text, take_u8, take_u16, take_u32, take_u64};
 
@@ -21,16 +20,6 @@ pub struct JobFields<'a> {
     pub text: &'a str,
     pub fragments: u32,
     pub cut: &'a [u8],
-}
-
-/// All fields of an answer but its seal, and whether the sums of its groups are possible.
-#[derive(Drop)]
-pub struct Layout<'a> {
-    pub job: JobFields<'a>,
-    pub k: u32,
-    pub shape: Shape,
-    pub body: Body<Groups>,
-    pub are_sums_possible: bool,
 }
 
 fn type_of(code: u8) -> Result<ColType, DecodeFault>
@@ -160,8 +149,9 @@ pub fn take_shape(
     format: Format,
     bytes: &[u8],
 ) -> Result<(Shape, &[u8]), DecodeFault>
-    ensures { GivesIfMemory DecodeFault.Memory (λ x. (shape_in x.0, x.1.now)) result
+    ensures read { GivesIfMemory DecodeFault.Memory (λ x. (shape_in x.0, x.1.now)) result
         (reading.shape_at format bytes.now) }
+    ensures narrow { IfOk result (λ x. IsNarrow (shape_in x.0)) }
 {
     let (count, rest) = take_u16(bytes)?;
     let (keys, rest) = take_types(alloc, count, rest)?;
@@ -199,29 +189,6 @@ pub fn take_job(bytes: &[u8]) -> Result<(JobFields<'_>, &[u8]), DecodeFault>
             text,
             fragments,
             cut,
-        },
-        rest,
-    ))
-}
-
-/// All fields up to the seal, and the bytes from there.
-#[tactic(auto, unfolding(crate::specs::LayoutReading::layout_at))]
-pub fn take_layout(alloc: Global, bytes: &[u8]) -> Result<(Layout<'_>, &[u8]), DecodeFault>
-    ensures { KeepsIfMemory DecodeFault.Memory (λ x y. IsLayout x.0 y.0
-        × (x.1.now ≡ y.1)) result (reading.layout_at bytes.now) }
-{
-    let (format, rest) = take_format(Content::Answer, bytes)?;
-    let (job, rest) = take_job(rest)?;
-    let (k, rest) = take_u32(rest)?;
-    let (shape, rest) = take_shape(alloc, format, rest)?;
-    let (body, are_sums_possible, rest) = take_body(alloc, &shape, rest)?;
-    Ok((
-        Layout {
-            job,
-            k,
-            shape,
-            body,
-            are_sums_possible,
         },
         rest,
     ))

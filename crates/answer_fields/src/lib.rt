@@ -3,18 +3,18 @@
 //! `specs/` has the formats; `docs/FORMATS.md` says them in words.
 #![tactic(auto)]
 
-mod body;
 mod fault;
 mod fields;
 mod format;
 mod shape;
-mod state_fields;
+mod sums;
 mod values;
 
-pub use body::{is_sum_of, take_set, take_values};
 pub use fault::DecodeFault;
-pub use fields::{JobFields, Layout, take_layout};
-pub use format::{Content, Format, format_in, is_state};
+pub use fields::{JobFields, take_job, take_shape};
+pub use format::{Content, Format, format_in, is_state, take_format};
 pub use shape::{AggregateShape, Shape, argument_code, is_shape_of, kind_code, shape_of_aggregate};
-pub use state_fields::{StateLayout, take_state_layout};
-pub use values::{put_set, put_value, put_values, take_value};
+pub use sums::is_sum_of;
+pub use values::{
+    put_set, put_value, put_values, refill_values, take_set, take_value, take_values, unless_null,
+};

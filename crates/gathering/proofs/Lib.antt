@@ -6,7 +6,7 @@ pub mod ListedFragments
 pub mod Joined
 pub mod StateFiles
 pub mod Merging
-pub mod Packable
+pub mod InBatches
 pub mod ShapedGroups
 pub mod Deltas
 pub mod LiveTotals

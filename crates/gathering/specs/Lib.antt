@@ -1,6 +1,5 @@
 -- The definitions of this crate.
 pub mod Output
-pub mod Packing
 pub mod Fitted
 pub mod Gathering
 pub mod Joining

@@ -11,7 +11,7 @@ use crate::changing::no_answers;
 use crate::fault::GatherFault;
 use crate::gather::{Gather, holding};
 use crate::joining::join_at;
-use crate::packing::{HeldCell, pack_body};
+use crate::packing::HeldCell;
 use meaning::{Answer, Cell};
 use partial_codec::{Job, decode};
 use std::alloc::{AllocError, Global};
@@ -81,11 +81,8 @@ impl Cells {
         ensures refused { IfErr result (Refuses self.old.job bytes.now) }
         ensures unchanged { OnErr result (self.new ≡ self.old) }
     {
-        // No effect at run time. The proof reads from this call that the job is within its limits.
-        let _plan = self.job.plan();
         let Answer { k, body } = decode(alloc, &self.job, bytes)?;
-        let packed = pack_body(alloc, &body)?;
-        join_at(&mut self.cells, k as usize, Cell::One(packed));
+        join_at(&mut self.cells, k as usize, Cell::One(body));
         Ok(())
     }
 

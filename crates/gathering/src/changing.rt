@@ -1,7 +1,6 @@
 //! What answers do to cells and to the totals of these. On an error nothing changes: totals that
 //! take more are made first, and nothing behind that takes memory.
 ghost use Rattle.std.specs.Prelude.{◌≡◌, ◌<◌, true, length, slice_set, OnErr, OnOk, IfOk, replicate};
-ghost use Rattle.meaning.specs.Said.{Body as ABody};
 ghost use Rattle.meaning.specs.declared.answer.Cell.TheVariants.{Nothing, One, Conflict};
 ghost use Rattle.meaning.specs.Answer.{groups_of};
 ghost use Rattle.gathering.specs.Fitted.{AreFitting, is_fitting};
@@ -12,8 +11,7 @@ ghost use Rattle.gathering.specs.Totals.{AreDeltas, behind, handed_at_join, is_d
 use crate::joining::join_all;
 use crate::packing::{HeldBody, HeldCell};
 use crate::totals::Totals;
-use aggregate_states::Groups;
-use meaning::{Body, Cell};
+use meaning::Cell;
 use partial_codec::Job;
 use std::alloc::{AllocError, Global};
 use std::mem::drop;
@@ -29,7 +27,7 @@ pub fn no_answers(alloc: Global, fragments: usize) -> Result<Vec<HeldCell>, Allo
     Ok(cells)
 }
 
-/// Puts an answer, which is at hand unpacked too, into a cell that holds nothing.
+/// Puts an answer into a cell that holds nothing.
 fn put(
     alloc: Global,
     job: &Job,
@@ -37,9 +35,7 @@ fn put(
     totals: &mut Totals,
     k: u32,
     body: HeldBody,
-    unpacked: &Body<Groups>,
 ) -> Result<(), AllocError>
-    requires unpacked { unpacked.now ≡ body }
     requires held { IsHeld job.now cells.old.items totals.old }
     requires within { k < length cells.old.items }
     requires nothing { cell_at cells.old.items k ≡ Nothing }
@@ -52,7 +48,7 @@ fn put(
 {
     // No effect at run time. The proof reads from this call the limits of a cut.
     let _lengths = job.cut().lengths();
-    match totals.add(alloc, unpacked) {
+    match totals.add(alloc, &body) {
         Ok(()) => {
             cells[k as usize] = Cell::One(body);
             Ok(())
@@ -129,7 +125,7 @@ fn withdraw(
     change_all(alloc, job, cells, totals, deltas)
 }
 
-/// Joins a fragment's cell with its delta. An answer is at hand unpacked too.
+/// Joins a fragment's cell with its delta.
 pub fn change(
     alloc: Global,
     job: &Job,
@@ -137,9 +133,7 @@ pub fn change(
     totals: &mut Totals,
     k: u32,
     delta: HeldCell,
-    unpacked: &Body<Groups>,
 ) -> Result<(), AllocError>
-    requires unpacked { (body : ABody) → delta ≡ One body → unpacked.now ≡ body }
     requires held { IsHeld job.now cells.old.items totals.old }
     requires within { k < length cells.old.items }
     requires delta { is_delta (cell_at cells.old.items k) delta ≡ true }
@@ -154,7 +148,7 @@ pub fn change(
 {
     match delta {
         Cell::Nothing => Ok(()),
-        Cell::One(body) => put(alloc, job, cells, totals, k, body, unpacked),
+        Cell::One(body) => put(alloc, job, cells, totals, k, body),
         Cell::Conflict => withdraw(alloc, job, cells, totals, k),
     }
 }

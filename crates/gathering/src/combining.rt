@@ -8,11 +8,11 @@ ghost use Rattle.gathering.specs.Faults.{fault_in, least_fault};
 ghost use Rattle.gathering.specs.Merging.{AreMergeable, all_groups, groups_in, table_with};
 ghost use Rattle.gathering.specs.Totals.{CanTake, IsTableWith, all_behind, behind};
 
-use crate::packing::{HeldCell, groups_in};
+use crate::batches::absorb_packed;
+use crate::packing::HeldCell;
 use group_by::GroupTable;
 use meaning::{Body, Cell, Plan, RowFault};
 use std::alloc::{AllocError, Global};
-use std::mem::drop;
 
 /// The fault that the answer in a cell is, if it is one.
 fn fault_in(cell: &HeldCell) -> Option<RowFault>
@@ -61,12 +61,9 @@ fn merge_cell(alloc: Global, table: GroupTable, cell: &HeldCell) -> Result<Group
     requires { CanTake table (groups_in cell.now) }
     ensures { IfOk result (λ t. t ≡ with_groups table (groups_in cell.now)) }
 {
-    match groups_in(alloc, cell) {
-        Ok(groups) => table.absorb_groups(alloc, groups.as_slice()),
-        Err(fault) => {
-            drop(table);
-            Err(fault)
-        }
+    match cell {
+        Cell::One(Body::Groups(groups)) => absorb_packed(alloc, table, groups),
+        _ => table.absorb_groups(alloc, &[]),
     }
 }
 

@@ -3,7 +3,7 @@ ghost use Rattle.std.specs.Prelude.{◌≡◌, ◌⊎◌, ◌≤◌, ◌<◌, �
 ghost use Rattle.std.specs.Io.KnownBytes.{Appends};
 ghost use Rattle.meaning.specs.Said.{Answer as AnAnswer};
 ghost use Rattle.meaning.specs.Said.{Cell as ACell};
-ghost use Rattle.meaning.specs.Gather.{joined, preview, report, same_body};
+ghost use Rattle.meaning.specs.Gather.{joined, preview, report};
 ghost use Rattle.meaning.specs.Print.{output_text, report_text};
 ghost use Rattle.meaning.specs.SoundPlan.{IsSoundPlan};
 ghost use Rattle.partial_codec.specs.Answer.{Fits, Spells};
@@ -11,19 +11,18 @@ ghost use Rattle.partial_codec.specs.State.{SpellsState, state_bytes};
 ghost use Rattle.gathering.specs.Fitted.{AreFitting};
 ghost use Rattle.gathering.specs.Gathering.{Takes, Would, Joins, Refuses, RefusesState, RefusesJoin, absorbed_as, changes};
 ghost use Rattle.gathering.specs.Merging.{all_groups};
-ghost use Rattle.gathering.specs.Packing.{IsPackableBody};
 ghost use Rattle.gathering.specs.Report.{ended_as, summary, IsPrintRefusal};
 
 use crate::changing::{change, change_all, no_answers};
 use crate::fault::GatherFault;
 use crate::joining::{all_deltas, delta_with, is_same, reduce_all};
 use crate::output::output_together;
-use crate::packing::{HeldBody, HeldCell, pack_body, pack_cells, unpack_cells};
+use crate::packing::{HeldBody, HeldCell};
 use crate::report::{Ended, FullReport, Report, ended_as, full_report, print_full_report, summary};
 use crate::same_job::is_same_job;
 use crate::totals::{Totals, totals_of};
-use aggregate_states::Groups;
-use meaning::{Answer, Body, Cell};
+use meaning::{Answer, Cell};
+use packed_groups::PackedGroups;
 use partial_codec::{Job, decode, decode_state, encode_state};
 use std::alloc::{AllocError, Global};
 use std::io::Write;
@@ -74,53 +73,21 @@ impl Model for Gather {
     ghost invariant = { λ g. IsHeld g.job g.cells.items g.totals };
 }
 
-/// What is said of an answer for a fragment of which this is held.
-fn classify(held: &HeldCell, fragment: u32, body: &HeldBody) -> Absorbed
-    ensures { result ≡ absorbed_as held.now fragment body.now }
+/// What is said of an answer for a fragment of which this is held, and whether it would change it.
+fn judged(held: &HeldCell, fragment: u32, body: &HeldBody) -> (Absorbed, bool)
+    ensures said { result.0 ≡ absorbed_as held.now fragment body.now }
+    ensures changes { result.1 ≡ changes held.now body.now }
 {
     match held {
-        Cell::Nothing => Absorbed::New,
+        Cell::Nothing => (Absorbed::New, true),
         Cell::One(known) => {
             if is_same(known, body) {
-                Absorbed::Known
+                (Absorbed::Known, false)
             } else {
-                Absorbed::Conflict { fragment }
+                (Absorbed::Conflict { fragment }, true)
             }
         }
-        Cell::Conflict => Absorbed::Conflict { fragment },
-    }
-}
-
-/// Whether an answer is the one that is held.
-fn is_known(alloc: Global, known: &HeldBody, body: &Body<Groups>) -> Result<bool, AllocError>
-    requires { IsPackableBody body.now }
-    ensures { IfOk result (λ is. is ≡ same_body known.now body.now) }
-{
-    let packed = pack_body(alloc, body)?;
-    Ok(is_same(known, &packed))
-}
-
-/// What is said of an answer for a fragment of which this is held, and whether it would change it.
-fn judged(
-    alloc: Global,
-    held: &HeldCell,
-    fragment: u32,
-    body: &Body<Groups>,
-) -> Result<(Absorbed, bool), AllocError>
-    requires { IsPackableBody body.now }
-    ensures { IfOk result (λ r. (r.0 ≡ absorbed_as held.now fragment body.now)
-        × (r.1 ≡ changes held.now body.now)) }
-{
-    match held {
-        Cell::Nothing => Ok((Absorbed::New, true)),
-        Cell::One(known) => {
-            if is_known(alloc, known, body)? {
-                Ok((Absorbed::Known, false))
-            } else {
-                Ok((Absorbed::Conflict { fragment }, true))
-            }
-        }
-        Cell::Conflict => Ok((Absorbed::Conflict { fragment }, false)),
+        Cell::Conflict => (Absorbed::Conflict { fragment }, false),
     }
 }
 
@@ -131,10 +98,7 @@ fn read_cells(alloc: Global, job: &Job, bytes: &[u8]) -> Result<Vec<HeldCell>, G
         → IfErr result (λ e. e ≡ GatherFault.Memory) }
     ensures refused { IfErr result (RefusesState job.now bytes.now) }
 {
-    // No effect at run time. The proof reads from this call that the job is within its limits.
-    let _plan = job.plan();
-    let cells = decode_state(alloc, job, bytes)?;
-    Ok(pack_cells(alloc, cells.as_slice())?)
+    Ok(decode_state(alloc, job, bytes)?)
 }
 
 /// A coordinator that holds these cells.
@@ -236,14 +200,18 @@ impl Gather {
         ensures refused { IfErr result (Refuses self.now.job bytes.now) }
     {
         let answer = self.read_answer(alloc, bytes)?;
-        let returned = self.would_take(alloc, &answer);
+        let returned = self.would_take(&answer);
         drop(answer);
-        Ok(returned?)
+        Ok(returned)
     }
 
     /// The answer that the bytes spell, which `would_take` judges and `take_answer` takes: `would`
     /// and `absorb` are these in a row. The bytes' refusals are those of `partial_codec::decode`.
-    pub fn read_answer(&self, alloc: Global, bytes: &[u8]) -> Result<Answer<Groups>, GatherFault>
+    pub fn read_answer(
+        &self,
+        alloc: Global,
+        bytes: &[u8],
+    ) -> Result<Answer<PackedGroups>, GatherFault>
         ensures spelled { IfOk result (Spells self.now.job bytes.now) }
         // No other is spelled so.
         ensures only { IfOk result (λ a. (other : AnAnswer)
@@ -254,27 +222,23 @@ impl Gather {
     }
 
     /// What a `take_answer` of this answer would return if it succeeded, and whether it would change
-    /// what is held for its fragment.
-    pub fn would_take(
-        &self,
-        alloc: Global,
-        answer: &Answer<Groups>,
-    ) -> Result<(Absorbed, bool), AllocError>
+    /// what is held for its fragment. Takes no memory.
+    pub fn would_take(&self, answer: &Answer<PackedGroups>) -> (Absorbed, bool)
         requires { Fits self.now.job answer.now }
-        ensures { IfOk result (λ returned. (bytes : List ℕ)
-            → Spells self.now.job bytes answer.now → Would self.now bytes returned) }
+        ensures { (bytes : List ℕ)
+            → Spells self.now.job bytes answer.now → Would self.now bytes result }
     {
         // No effect at run time. The proof reads from this call that the job is within its limits.
         let _plan = self.job.plan();
         let held = &self.cells[answer.k as usize];
-        judged(alloc, held, answer.k, &answer.body)
+        judged(held, answer.k, &answer.body)
     }
 
     /// Takes an answer. An error is that memory ran out, and then nothing changes.
     pub fn take_answer(
         &mut self,
         alloc: Global,
-        answer: Answer<Groups>,
+        answer: Answer<PackedGroups>,
     ) -> Result<Absorbed, AllocError>
         requires { Fits self.old.job answer }
         // As bytes that spell it are taken.
@@ -285,12 +249,10 @@ impl Gather {
             → self.new.cells ≡ joined self.old.job.cut (answers ++ answer ∷ [])) }
         ensures unchanged { OnErr result (self.new ≡ self.old) }
     {
-        // No effect at run time. The proof reads from this call that the job is within its limits.
-        let _plan = self.job.plan();
         let Answer { k, body } = answer;
-        let packed = pack_body(alloc, &body)?;
-        let absorbed = classify(&self.cells[k as usize], k, &packed);
-        let delta = delta_with(&self.cells[k as usize], Cell::One(packed));
+        let held = &self.cells[k as usize];
+        let (absorbed, _) = judged(held, k, &body);
+        let delta = delta_with(held, Cell::One(body));
         change(
             alloc,
             &self.job,
@@ -298,7 +260,6 @@ impl Gather {
             &mut self.totals,
             k,
             delta,
-            &body,
         )?;
         Ok(absorbed)
     }
@@ -346,8 +307,7 @@ impl Gather {
             (λ bytes. bytes.items ≡ state_bytes self.now.job self.now.cells) }
         ensures refused { IfErr result (λ e. e ≡ GatherFault.Memory) }
     {
-        let cells = unpack_cells(alloc, &self.cells)?;
-        Ok(encode_state(alloc, &self.job, &cells)?)
+        Ok(encode_state(alloc, &self.job, &self.cells)?)
     }
 
     /// A coordinator that holds what the bytes spell. Their refusals are those of

@@ -1,6 +1,7 @@
 //! Gathering the answers of fragments, and reporting what they say together.
 #![tactic(auto)]
 
+mod batches;
 mod cells;
 mod changing;
 mod combining;

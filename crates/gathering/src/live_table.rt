@@ -3,8 +3,9 @@ ghost use Rattle.std.specs.Prelude.{◌≡◌, IfOk, IfSome, OnErr, OnOk};
 ghost use Rattle.group_by.specs.Groups.{with_groups};
 ghost use Rattle.gathering.specs.Totals.{CanTake};
 
-use aggregate_states::Group;
+use crate::batches::absorb_packed;
 use group_by::GroupTable;
+use packed_groups::PackedGroups;
 use std::alloc::{AllocError, Global};
 use std::marker::Model;
 use std::mem::{drop, replace};
@@ -36,7 +37,7 @@ const TIMES_AS_MANY: u64 = 8;
 
 /// The table with these groups more, where they are few beside those that it took and memory is
 /// there.
-fn copy_with(alloc: Global, before: GroupTable, groups: &[Group]) -> Option<GroupTable>
+fn copy_with(alloc: Global, before: GroupTable, groups: &PackedGroups) -> Option<GroupTable>
     requires { CanTake before groups.now }
     ensures { IfSome result (λ copy. copy ≡ with_groups before groups.now) }
 {
@@ -44,7 +45,7 @@ fn copy_with(alloc: Global, before: GroupTable, groups: &[Group]) -> Option<Grou
         drop(before);
         return None;
     }
-    before.absorb_groups(alloc, groups).ok()
+    absorb_packed(alloc, before, groups).ok()
 }
 
 impl LiveTable {
@@ -74,12 +75,13 @@ impl LiveTable {
     }
 
     /// Takes groups, each merged with that of its key. On an error nothing changes.
-    pub fn take(&mut self, alloc: Global, groups: &[Group]) -> Result<(), AllocError>
+    pub fn take(&mut self, alloc: Global, groups: &PackedGroups) -> Result<(), AllocError>
         requires { CanTake self.old groups.now }
         ensures taken { OnOk result (self.new ≡ with_groups self.old groups.now) }
         ensures unchanged { OnErr result (self.new ≡ self.old) }
     {
-        let changed = self.take_copy(alloc)?.absorb_groups(alloc, groups)?;
+        let copy = self.take_copy(alloc)?;
+        let changed = absorb_packed(alloc, copy, groups)?;
         let before = replace(&mut self.table, changed);
         self.copy = copy_with(alloc, before, groups);
         Ok(())

@@ -12,10 +12,10 @@ ghost use Rattle.gathering.specs.Totals.{AreDeltas, AreTotalsOf, AreTotalsWith, 
 
 use crate::combining::{earlier, least_behind, least_fault, merge_behind, merge_cells};
 use crate::live_table::LiveTable;
-use crate::packing::HeldCell;
-use aggregate_states::{Group, Groups};
+use crate::packing::{HeldBody, HeldCell};
 use group_by::GroupTable;
 use meaning::{Body, Cell, Plan, RowFault};
+use packed_groups::PackedGroups;
 use std::alloc::{AllocError, Global};
 
 /// The groups of the answers, merged, and the least of their faults.
@@ -50,7 +50,7 @@ impl Totals {
     }
 
     /// Takes groups.
-    fn add_groups(&mut self, alloc: Global, groups: &[Group]) -> Result<(), AllocError>
+    fn add_groups(&mut self, alloc: Global, groups: &PackedGroups) -> Result<(), AllocError>
         requires { CanTake self.old.table groups.now }
         ensures added { OnOk result (AreTotalsWith self.old groups.now None self.new) }
         ensures unchanged { OnErr result (self.new ≡ self.old) }
@@ -60,14 +60,14 @@ impl Totals {
     }
 
     /// Takes an answer. On an error nothing changes.
-    pub fn add(&mut self, alloc: Global, body: &Body<Groups>) -> Result<(), AllocError>
+    pub fn add(&mut self, alloc: Global, body: &HeldBody) -> Result<(), AllocError>
         requires { CanTake self.old.table (groups_of body.now) }
         ensures added { OnOk result
             (AreTotalsWith self.old (groups_of body.now) (fault_in (One body.now)) self.new) }
         ensures unchanged { OnErr result (self.new ≡ self.old) }
     {
         match body {
-            Body::Groups(groups) => self.add_groups(alloc, groups.as_slice()),
+            Body::Groups(groups) => self.add_groups(alloc, groups),
             Body::Fault(fault) => {
                 self.least = earlier(self.least, Some(*fault));
                 Ok(())

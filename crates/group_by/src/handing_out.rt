@@ -18,20 +18,39 @@ use std::alloc::{AllocError, Global};
 use std::cmp::Ordering;
 use std::mem::drop;
 
-/// The state at a group index of each column.
+/// The state at a group index of each column, in a buffer that is used again.
 fn states_at(
     alloc: Global,
+    spare: Vec<State>,
     columns: &[OrderedStates<'_>],
     group_index: usize,
 ) -> Result<Sequence<State>, AllocError>
     requires { All (λ c. group_index < length c.states) columns.now }
     ensures { IfOk result (λ states. states ≡ map (λ c. state_in c group_index) columns.now) }
 {
-    let mut states = Vec::with_capacity(alloc, columns.len())?;
+    let mut states = spare;
+    states.clear();
     for column in columns {
         states.push(column.state(alloc, group_index)?)?;
     }
     Ok(Sequence::from_vec(states))
+}
+
+/// The group of this index, its states in a buffer that is used again.
+pub fn regroup(
+    alloc: Global,
+    key: Row,
+    spare: Vec<State>,
+    rows: &[u64],
+    columns: &[OrderedStates<'_>],
+    group_index: usize,
+) -> Result<Group, AllocError>
+    requires rows { group_index < length rows.now }
+    requires columns { All (λ c. group_index < length c.states) columns.now }
+    ensures { IfOk result (λ g. g ≡ group_at rows.now columns.now key group_index) }
+{
+    let states = states_at(alloc, spare, columns, group_index)?;
+    Ok(Group::new(key, rows[group_index], states))
 }
 
 /// The group of this index.
@@ -46,8 +65,8 @@ pub fn group_of(
     requires columns { All (λ c. group_index < length c.states) columns.now }
     ensures { IfOk result (λ g. g ≡ group_at rows.now columns.now key group_index) }
 {
-    let states = states_at(alloc, columns, group_index)?;
-    Ok(Group::new(key, rows[group_index], states))
+    let states = Vec::with_capacity(alloc, columns.len())?;
+    regroup(alloc, key, states, rows, columns, group_index)
 }
 
 /// The groups in the order of their group indexes, the last first.
@@ -222,7 +241,8 @@ fn keys_in_order(
     ensures { IfOk result (λ groups. IsInOrder keys rows.now columns.now groups.items) }
 {
     if let Some(indexed) = keys_as_ints(alloc, &keys)? {
-        return indexed_groups(alloc, indexed.as_slice(), rows, columns);
+        let spare = Vec::new(alloc);
+        return indexed_groups(alloc, spare, indexed.as_slice(), rows, columns);
     }
     rows_in_order(alloc, keys.into_rows(alloc)?, rows, columns)
 }

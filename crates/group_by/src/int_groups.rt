@@ -10,10 +10,10 @@ ghost use Rattle.group_by.specs.Combined.{SameBeside};
 ghost use Rattle.group_by.specs.IntGroups.{key_in, indexed_group, AreApart, AreIndexed, AreOrdered};
 ghost use Rattle.group_index.specs.Keys.{alone};
 
-use crate::handing_out::group_of;
+use crate::handing_out::{group_of, regroup};
 use accumulators::{Group, OrderedStates};
 use group_index::key_of_value;
-use meaning::Value;
+use meaning::{Row, Sequence, Value};
 use std::alloc::{AllocError, Global};
 use std::cmp::Ordering;
 
@@ -104,6 +104,40 @@ pub fn ordered_ints(alloc: Global, values: &[Value]) -> Result<Option<Vec<IntGro
     Ok(Some(indexed))
 }
 
+/// The key of this value alone, in a buffer that is used again.
+fn key_in_buffer(spare: Vec<Value>, value: Value) -> Result<Row, AllocError>
+    ensures { IfOk result (λ key. key ≡ value ∷ []) }
+{
+    let mut key = spare;
+    key.clear();
+    key.push(value)?;
+    Ok(Sequence::from_vec(key))
+}
+
+/// The group of an integer, in the buffers of one that is given up.
+fn regroup_int(
+    alloc: Global,
+    spare: Group,
+    one: &IntGroup,
+    rows: &[u64],
+    columns: &[OrderedStates<'_>],
+) -> Result<Group, AllocError>
+    requires rows { one.now.group_index < length rows.now }
+    requires columns { All (λ c. length c.states ≡ length rows.now) columns.now }
+    ensures { IfOk result (λ group. group ≡ indexed_group rows.now columns.now one.now) }
+{
+    let (key, _, states) = spare.into_parts();
+    let key = key_in_buffer(key.into_vec(), Value::Int(one.int))?;
+    regroup(
+        alloc,
+        key,
+        states.into_vec(),
+        rows,
+        columns,
+        one.group_index,
+    )
+}
+
 fn group_of_int(
     alloc: Global,
     one: &IntGroup,
@@ -118,9 +152,28 @@ fn group_of_int(
     group_of(alloc, key, rows, columns, one.group_index)
 }
 
-/// The group of each integer.
+/// The group of an integer, in the buffers of one that is given up, if there is one.
+fn next_group(
+    alloc: Global,
+    spare: Option<Group>,
+    one: &IntGroup,
+    rows: &[u64],
+    columns: &[OrderedStates<'_>],
+) -> Result<Group, AllocError>
+    requires rows { one.now.group_index < length rows.now }
+    requires columns { All (λ c. length c.states ≡ length rows.now) columns.now }
+    ensures { IfOk result (λ group. group ≡ indexed_group rows.now columns.now one.now) }
+{
+    match spare {
+        Some(spare) => regroup_int(alloc, spare, one, rows, columns),
+        None => group_of_int(alloc, one, rows, columns),
+    }
+}
+
+/// The group of each integer, in the buffers of groups that are given up.
 pub fn indexed_groups(
     alloc: Global,
+    spare: Vec<Group>,
     indexed: &[IntGroup],
     rows: &[u64],
     columns: &[OrderedStates<'_>],
@@ -130,9 +183,10 @@ pub fn indexed_groups(
     ensures { IfOk result (λ groups. groups.items
         ≡ map (indexed_group rows.now columns.now) indexed.now) }
 {
+    let mut spare = spare;
     let mut groups = Vec::with_capacity(alloc, indexed.len())?;
     for k in 0..indexed.len() {
-        groups.push(group_of_int(alloc, &indexed[k], rows, columns)?)?;
+        groups.push(next_group(alloc, spare.pop(), &indexed[k], rows, columns)?)?;
     }
     Ok(groups)
 }

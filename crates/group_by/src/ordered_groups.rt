@@ -8,6 +8,7 @@ use accumulators::{Group, OrderedStates};
 use std::alloc::{AllocError, Global};
 use std::borrow::CowSlice;
 use std::marker::Model;
+use std::mem::drop;
 
 /// The groups of integers, none of them made.
 #[derive(Drop)]
@@ -36,7 +37,13 @@ impl<'a> UnmadeGroups<'a> {
         self.indexed.len()
     }
 
-    fn batch(&self, alloc: Global, from: usize, to: usize) -> Result<Vec<Group>, AllocError>
+    fn batch(
+        &self,
+        alloc: Global,
+        from: usize,
+        to: usize,
+        spare: Vec<Group>,
+    ) -> Result<Vec<Group>, AllocError>
         requires ordered { from ≤ to }
         requires within { to ≤ length self.now }
         ensures { IfOk result (λ groups. groups.items ≡ take (to - from) (drop from self.now)) }
@@ -44,6 +51,7 @@ impl<'a> UnmadeGroups<'a> {
         let indexed = self.indexed.as_slice();
         indexed_groups(
             alloc,
+            spare,
             &indexed[from..to],
             self.rows,
             self.columns.as_slice(),
@@ -114,12 +122,14 @@ impl<'a> OrderedGroups<'a> {
         }
     }
 
-    /// The groups from one place up to another: lent where they are made, else made for the caller.
+    /// The groups from one place up to another: lent where they are made, else made for the caller,
+    /// in the buffers of groups that are given up.
     pub fn batch(
         &self,
         alloc: Global,
         from: usize,
         to: usize,
+        spare: Vec<Group>,
     ) -> Result<CowSlice<'_, Group>, AllocError>
         requires ordered { from ≤ to }
         requires within { to ≤ length self.now }
@@ -128,10 +138,13 @@ impl<'a> OrderedGroups<'a> {
     {
         match &self.held {
             HeldGroups::Made(groups) => {
+                drop(spare);
                 let groups = groups.as_slice();
                 Ok(CowSlice::Borrowed(&groups[from..to]))
             }
-            HeldGroups::Unmade(groups) => Ok(CowSlice::Owned(groups.batch(alloc, from, to)?)),
+            HeldGroups::Unmade(groups) => {
+                Ok(CowSlice::Owned(groups.batch(alloc, from, to, spare)?))
+            }
         }
     }
 }

@@ -45,9 +45,9 @@ fn shown_in_halves(
     let table = table_of(alloc, plan, keys, list)?;
     let groups = table.ordered(alloc)?;
     let middle = groups.len() / 2;
-    let first = groups.batch(alloc, 0, middle)?;
+    let first = groups.batch(alloc, 0, middle, Vec::new(alloc))?;
     let mut said = shown(alloc, first.as_slice())?;
-    let second = groups.batch(alloc, middle, groups.len())?;
+    let second = groups.batch(alloc, middle, groups.len(), Vec::new(alloc))?;
     said.push_str(shown(alloc, second.as_slice())?.as_str())?;
     Ok(said)
 }

@@ -15,10 +15,10 @@ use crate::appending::{append_record, entry_of};
 use crate::clearing::{MAGIC, clear};
 use crate::fault::JournalFault;
 use crate::opening::open_journal;
-use aggregate_states::Groups;
 use disk::Disk;
 use gathering::{Absorbed, Gather};
 use meaning::Answer;
+use packed_groups::PackedGroups;
 use partial_codec::Job;
 use std::alloc::Global;
 use std::marker::Model;
@@ -215,7 +215,7 @@ impl<D: Disk + Drop> DurableGather<D> {
         &mut self,
         alloc: Global,
         bytes: &[u8],
-        answer: Answer<Groups>,
+        answer: Answer<PackedGroups>,
     ) -> Result<Absorbed, JournalFault>
         requires is_open { self.old.is_open ≡ true }
         requires spelled { Spells self.old.gather.job bytes.now answer }
@@ -233,8 +233,7 @@ impl<D: Disk + Drop> DurableGather<D> {
             → LeavesOnly self.old.disk self.new.disk (IsLean self.old.gather.job) }
         ensures refused { IfErr result (RefusesAbsorb self.old self.new bytes.now) }
     {
-        let judged = self.gather.would_take(alloc, &answer)?;
-        let (returned, changes) = judged;
+        let (returned, changes) = self.gather.would_take(&answer);
         if !changes {
             drop(answer);
             return Ok(returned);
@@ -252,7 +251,7 @@ impl<D: Disk + Drop> DurableGather<D> {
         &mut self,
         alloc: Global,
         bytes: &[u8],
-        answer: Answer<Groups>,
+        answer: Answer<PackedGroups>,
     ) -> Result<Absorbed, JournalFault>
         requires is_open { self.old.is_open ≡ true }
         requires spelled { Spells self.old.gather.job bytes.now answer }

@@ -1,24 +1,22 @@
 -- What is packed is read again.
-use Rattle.std.proofs.Common.{◌≡◌, ℕ, zero, suc, ◌^◌, ◌<◌, ℤ, pos, negsuc, true, List, [], ◌∷◌, ◌++◌, length, Option, Some, None, Ok, refl, ap, sym, subst, ◌∙◌, append_assoc, append-nil, arith}
+use Rattle.std.proofs.Common.{◌≡◌, ℕ, zero, suc, ◌^◌, ◌<◌, ℤ, pos, negsuc, true, List, [], ◌∷◌, ◌++◌, length, Ok, refl, ap, ◌∙◌, append_assoc, arith}
 use Rattle.std.specs.Prelude.{FitsSigned}
 use Rattle.std.specs.Int.{w128}
 use Rattle.std.specs.List.{flat_map, AllByRecursion}
 use Rattle.meaning.specs.declared.value.Value.{Value}
 use Rattle.meaning.specs.declared.answer.Statistics.{Statistics}
-use Rattle.meaning.specs.declared.answer.Group.{Group}
 use Rattle.meaning.specs.Fitting.{is_sum_of}
 use Rattle.wire.specs.Bytes.{number_bytes, i128_bytes}
-use Rattle.wire.specs.Reading.{repeat_at}
 use Rattle.wire.proofs.Numbers.{number_again}
 use Rattle.wire.proofs.Parts.{IsReadAgain, repeat_again, i128_again}
-use Rattle.answer_fields.specs.LayoutReading.{value_at, set_at, unless_null}
+use Rattle.answer_fields.specs.LayoutReading.{value_at}
 use Rattle.answer_fields.specs.Spelling.{value_bytes, value_or_null, set_bytes}
-use Rattle.answer_fields.specs.Ranges.{IsValue, IsExtreme}
+use Rattle.answer_fields.specs.Ranges.{IsValue}
 use Rattle.answer_fields.proofs.ValueLaws.{value_again}
 use Rattle.answer_fields.proofs.Groups.{extreme_value, extreme_back, set_again}
-use Rattle.packed_groups.specs.Packing.{sum_bytes, entries_bytes, state_bytes, group_bytes, groups_bytes}
-use Rattle.packed_groups.specs.Reading.{tagged_sum_at, sum_at, Tally, tally_at, tagged_entries_at, entries_at, state_at, key_at, states_at, group_at, groups_at, packed_in}
-use Rattle.packed_groups.specs.Packable.{IsPackableState, IsPackableGroup, ArePackable, IsPacked}
+use Rattle.packed_groups.specs.Packing.{sum_bytes, entries_bytes, state_bytes, group_bytes}
+use Rattle.packed_groups.specs.Reading.{tagged_sum_at, sum_at, tally_at, tagged_entries_at, entries_at, state_at, key_at, states_at, group_at}
+use Rattle.packed_groups.specs.Packable.{IsPackableState, IsPackableGroup}
 
 sum_again : IsReadAgain sum_at sum_bytes (FitsSigned w128)
 unfolding sum_at tagged_sum_at sum_bytes
@@ -86,29 +84,3 @@ group_again g rest fits =
     let behind_rows = width ++ (states ++ rest) in
     ap group_at (five (number_bytes 2 (length g.key)) key rows width states rest)
     ∙ rw (key_again g.key (rows ++ behind_rows) fits.keys fits.key, number_again 4 g.rows behind_rows fits.rows, states_again g.states rest fits.width fits.states) refl
-
-pub groups_again : (gs : List Group) (rest : List ℕ) → ArePackable gs → groups_at (groups_bytes gs ++ rest) ≡ Ok (gs, rest)
-unfolding groups_at groups_bytes
-groups_again gs rest fits =
-    let groups = flat_map group_bytes gs in
-    ap groups_at (append_assoc (number_bytes 4 (length gs)) groups rest)
-    ∙ rw (number_again 4 (length gs) (groups ++ rest) fits.few) (repeat_again group_at group_bytes IsPackableGroup group_again (length gs) gs rest refl fits.each)
-
--- groups that are packed are in their bytes
-pub packed_groups : (gs : List Group) → ArePackable gs → packed_in (groups_bytes gs) ≡ gs
-packed_groups gs fits =
-    let read = ap groups_at (sym (append-nil (groups_bytes gs))) ∙ groups_again gs [] fits in
-    rw read refl
-
--- what packed bytes are read as
-pub packed_read : (bytes : List ℕ) → IsPacked bytes → groups_at bytes ≡ Ok (packed_in bytes, [])
-packed_read bytes p =
-    let whole = ap groups_at (p.packed ∙ sym (append-nil (groups_bytes p.groups))) ∙ groups_again p.groups [] p.packable in
-    rw whole refl
-
--- bytes that are the same groups are the same
-pub same_bytes : (one other : List ℕ) → IsPacked one → IsPacked other → packed_in one ≡ packed_in other → one ≡ other
-same_bytes one other p q same =
-    let is_one : packed_in one ≡ p.groups = ap packed_in p.packed ∙ packed_groups p.groups p.packable in
-    let is_other : packed_in other ≡ q.groups = ap packed_in q.packed ∙ packed_groups q.groups q.packable in
-    p.packed ∙ ap groups_bytes (sym is_one ∙ same ∙ is_other) ∙ sym q.packed

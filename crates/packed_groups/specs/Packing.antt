@@ -29,7 +29,3 @@ unfoldable pub group_bytes : Group → List ℕ
 group_bytes g =
     number_bytes 2 (length g.key) ++ flat_map value_bytes g.key ++ number_bytes 4 g.rows ++ number_bytes 2 (length g.states)
     ++ flat_map state_bytes g.states
-
--- groups behind their number
-unfoldable pub groups_bytes : List Group → List ℕ
-groups_bytes gs = number_bytes 4 (length gs) ++ flat_map group_bytes gs

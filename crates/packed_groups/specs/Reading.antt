@@ -76,15 +76,10 @@ group_at bytes = do
   states ← states_at rows.1
   Ok (record { key = key.0; rows = rows.0; states = states.0 }, states.1)
 
-unfoldable pub groups_at : List ℕ → Read DecodeFault (List Group)
-groups_at bytes = do
-  count ← from_wire (number_at 4 bytes)
-  repeat_at group_at count.0 count.1
-
 abbrev pub read_or_none : Read DecodeFault (List Group) → List Group
 read_or_none (Ok x) = x.0
 read_or_none (Err e) = []
 
--- the groups that the bytes are, and none where they are no groups
-abbrev pub packed_in : List ℕ → List Group
-packed_in bytes = read_or_none (groups_at bytes)
+-- the groups that the bytes are, if they are so many, and none else
+abbrev pub packed_in : ℕ → List ℕ → List Group
+packed_in many bytes = read_or_none (repeat_at group_at many bytes)

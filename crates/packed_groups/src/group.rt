@@ -4,16 +4,16 @@ ghost use Rattle.std.specs.List.{flat_map, AllByRecursion};
 ghost use Rattle.answer_fields.specs.Ranges.{IsValue};
 ghost use Rattle.answer_fields.specs.Spelling.{value_bytes};
 ghost use Rattle.meaning.specs.Wanting.{GivesIfMemory};
-ghost use Rattle.packed_groups.specs.Packable.{ArePackable, IsPackableGroup, IsPackableState};
-ghost use Rattle.packed_groups.specs.Packing.{group_bytes, groups_bytes, state_bytes};
+ghost use Rattle.packed_groups.specs.Packable.{IsPackableGroup, IsPackableState};
+ghost use Rattle.packed_groups.specs.Packing.{group_bytes, state_bytes};
 ghost use Rattle.packed_groups.specs.Reading as reading;
 ghost use Rattle.wire.specs.Bytes.{number_bytes};
 ghost use Rattle.wire.specs.Reading.{repeat_at};
 
 use crate::state::{put_state, take_state};
 use aggregate_states::{Group, State};
-use answer_fields::{DecodeFault, put_values, take_values};
-use meaning::{Row, Sequence};
+use answer_fields::{DecodeFault, put_values, refill_values};
+use meaning::{Row, Sequence, Value};
 use std::alloc::{AllocError, Global};
 use wire::{append_u16, append_u32, take_u16, take_u32};
 
@@ -52,7 +52,7 @@ fn put_states(out: &mut Vec<u8>, states: &[State]) -> Result<(), AllocError>
 }
 
 #[tactic(auto, unfolding(crate::specs::Packing::group_bytes))]
-fn put_group(out: &mut Vec<u8>, group: &Group) -> Result<(), AllocError>
+pub fn put_group(out: &mut Vec<u8>, group: &Group) -> Result<(), AllocError>
     requires { IsPackableGroup group.now }
     ensures { OnOk result (out.new.items ≡ out.old.items ++ group_bytes group.now) }
 {
@@ -61,7 +61,7 @@ fn put_group(out: &mut Vec<u8>, group: &Group) -> Result<(), AllocError>
     put_states(out, group.states())
 }
 
-fn put_all_groups(out: &mut Vec<u8>, groups: &[Group]) -> Result<(), AllocError>
+pub fn put_groups(out: &mut Vec<u8>, groups: &[Group]) -> Result<(), AllocError>
     requires { AllByRecursion IsPackableGroup groups.now }
     ensures { OnOk result (out.new.items ≡ out.old.items ++ flat_map group_bytes groups.now) }
 {
@@ -71,37 +71,29 @@ fn put_all_groups(out: &mut Vec<u8>, groups: &[Group]) -> Result<(), AllocError>
     Ok(())
 }
 
-/// Groups behind their number.
-#[tactic(auto, unfolding(crate::specs::Packing::groups_bytes))]
-pub fn put_groups(out: &mut Vec<u8>, groups: &[Group]) -> Result<(), AllocError>
-    requires { ArePackable groups.now }
-    ensures { OnOk result (out.new.items ≡ out.old.items ++ groups_bytes groups.now) }
-{
-    append_u32(out, groups.len() as u32)?;
-    put_all_groups(out, groups)
-}
-
 // ---- taking
 
 #[tactic(auto, unfolding(crate::specs::Reading::key_at))]
-fn take_key(alloc: Global, bytes: &[u8]) -> Result<(Row, &[u8]), DecodeFault>
+fn take_key(alloc: Global, spare: Vec<Value>, bytes: &[u8]) -> Result<(Row, &[u8]), DecodeFault>
     ensures { GivesIfMemory DecodeFault.Memory (λ x. (x.0, x.1.now)) result
         (reading.key_at bytes.now) }
 {
     let (width, rest) = take_u16(bytes)?;
-    take_values(alloc, usize::from(width), rest)
+    refill_values(alloc, spare, usize::from(width), rest)
 }
 
-/// So many states. Memory is taken for no more of them than the bytes can hold.
+/// So many states, in a buffer that is used again.
 fn take_all_states(
     alloc: Global,
+    spare: Vec<State>,
     width: usize,
     bytes: &[u8],
 ) -> Result<(Sequence<State>, &[u8]), DecodeFault>
     ensures { GivesIfMemory DecodeFault.Memory (λ x. (x.0, x.1.now)) result
         (repeat_at reading.state_at width bytes.now) }
 {
-    let mut states = Vec::with_capacity(alloc, width.min(bytes.len()))?;
+    let mut states = spare;
+    states.clear();
     let mut rest = bytes;
     for _ in 0..width {
         let (state, behind) = take_state(alloc, rest)?;
@@ -112,50 +104,64 @@ fn take_all_states(
 }
 
 #[tactic(auto, unfolding(crate::specs::Reading::states_at))]
-fn take_states(alloc: Global, bytes: &[u8]) -> Result<(Sequence<State>, &[u8]), DecodeFault>
+fn take_states(
+    alloc: Global,
+    spare: Vec<State>,
+    bytes: &[u8],
+) -> Result<(Sequence<State>, &[u8]), DecodeFault>
     ensures { GivesIfMemory DecodeFault.Memory (λ x. (x.0, x.1.now)) result
         (reading.states_at bytes.now) }
 {
     let (width, rest) = take_u16(bytes)?;
-    take_all_states(alloc, usize::from(width), rest)
+    take_all_states(alloc, spare, usize::from(width), rest)
 }
 
+/// The buffers of a group that is given up.
+fn buffers_of(alloc: Global, spare: Option<Group>) -> (Vec<Value>, Vec<State>) {
+    match spare {
+        Some(group) => {
+            let (key, _, states) = group.into_parts();
+            (key.into_vec(), states.into_vec())
+        }
+        None => (Vec::new(alloc), Vec::new(alloc)),
+    }
+}
+
+/// A group, in the buffers of one that is given up.
 #[tactic(auto, unfolding(crate::specs::Reading::group_at))]
-fn take_group(alloc: Global, bytes: &[u8]) -> Result<(Group, &[u8]), DecodeFault>
+fn take_group(
+    alloc: Global,
+    spare: Option<Group>,
+    bytes: &[u8],
+) -> Result<(Group, &[u8]), DecodeFault>
     ensures { GivesIfMemory DecodeFault.Memory (λ x. (x.0, x.1.now)) result
         (reading.group_at bytes.now) }
 {
-    let (key, rest) = take_key(alloc, bytes)?;
+    let (values, states) = buffers_of(alloc, spare);
+    let (key, rest) = take_key(alloc, values, bytes)?;
     let (rows, rest) = take_u32(rest)?;
-    let (states, rest) = take_states(alloc, rest)?;
+    let (states, rest) = take_states(alloc, states, rest)?;
     Ok((Group::new(key, u64::from(rows), states), rest))
 }
 
-/// So many groups. Memory is taken for no more of them than the bytes can hold.
-fn take_all_groups(
+/// So many groups, in the buffers of groups that are given up. Memory is taken for no more of them
+/// than the bytes can hold.
+pub fn take_groups(
     alloc: Global,
-    count: u32,
+    spare: Vec<Group>,
+    count: usize,
     bytes: &[u8],
 ) -> Result<(Vec<Group>, &[u8]), DecodeFault>
     ensures { GivesIfMemory DecodeFault.Memory (λ x. (x.0.items, x.1.now)) result
         (repeat_at reading.group_at count bytes.now) }
 {
-    let mut groups = Vec::with_capacity(alloc, (count as usize).min(bytes.len() / 8))?;
+    let mut spare = spare;
+    let mut groups = Vec::with_capacity(alloc, count.min(bytes.len() / 8))?;
     let mut rest = bytes;
     for _ in 0..count {
-        let (group, behind) = take_group(alloc, rest)?;
+        let (group, behind) = take_group(alloc, spare.pop(), rest)?;
         groups.push(group)?;
         rest = behind;
     }
     Ok((groups, rest))
-}
-
-/// Groups behind their number.
-#[tactic(auto, unfolding(crate::specs::Reading::groups_at))]
-pub fn take_groups(alloc: Global, bytes: &[u8]) -> Result<(Vec<Group>, &[u8]), DecodeFault>
-    ensures { GivesIfMemory DecodeFault.Memory (λ x. (x.0.items, x.1.now)) result
-        (reading.groups_at bytes.now) }
-{
-    let (count, rest) = take_u32(bytes)?;
-    take_all_groups(alloc, count, rest)
 }

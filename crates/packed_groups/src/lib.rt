@@ -7,4 +7,4 @@ mod group;
 mod packed;
 mod state;
 
-pub use packed::PackedGroups;
+pub use packed::{PackedGroups, Unpacking};

@@ -3,11 +3,9 @@ ghost use Rattle.std.specs.Prelude.{◌≡◌, ◌≤◌, ◌++◌, ◌<◌, ◌
 ghost use Rattle.std.specs.List.{flat_map, AllByRecursion, list_all};
 ghost use Rattle.aggregate_states.specs.State.{is_extreme, most_entries};
 ghost use Rattle.aggregate_states.specs.Values.{is_spelled};
-ghost use Rattle.answer_fields.specs.LayoutReading.{unless_null};
-ghost use Rattle.answer_fields.specs.Ranges.{IsExtreme, IsValue};
+ghost use Rattle.answer_fields.specs.Ranges.{IsValue};
 ghost use Rattle.answer_fields.specs.Spelling.{value_bytes, value_or_null};
 ghost use Rattle.meaning.specs.Fitting as fitting;
-ghost use Rattle.meaning.specs.Order.{value_in};
 ghost use Rattle.meaning.specs.Wanting.{GivesIfMemory};
 ghost use Rattle.packed_groups.specs.Packable.{IsPackableState};
 ghost use Rattle.packed_groups.specs.Packing.{entries_bytes, state_bytes, sum_bytes};
@@ -16,8 +14,10 @@ ghost use Rattle.wire.specs.Bytes.{number_bytes};
 ghost use Rattle.wire.specs.Reading.{Reads};
 
 use aggregate_states::State;
-use answer_fields::{DecodeFault, is_sum_of, put_set, put_value, take_set, take_value};
-use meaning::{Sequence, Statistics, Value, ValueRef};
+use answer_fields::{
+    DecodeFault, is_sum_of, put_set, put_value, take_set, take_value, unless_null,
+};
+use meaning::{Sequence, Statistics, Value};
 use std::alloc::{AllocError, Global};
 use wire::{append_i128, append_u8, append_u32, take_i128, take_u8, take_u32};
 
@@ -32,14 +32,6 @@ fn put_sum(out: &mut Vec<u8>, sum: i128) -> Result<(), AllocError>
     }
     append_u8(out, 1)?;
     append_i128(out, sum)
-}
-
-/// A least or a greatest value, and NULL where there is none.
-fn put_extreme(out: &mut Vec<u8>, value: ValueRef<'_>) -> Result<(), AllocError>
-    requires { IsValue (value_in value) }
-    ensures { OnOk result (out.new.items ≡ out.old.items ++ value_bytes (value_in value.entry)) }
-{
-    put_value(out, value)
 }
 
 #[tactic(auto, unfolding(crate::specs::Packing::entries_bytes))]
@@ -67,14 +59,15 @@ fn put_tally(out: &mut Vec<u8>, state: &State) -> Result<(), AllocError>
     put_sum(out, state.sum())
 }
 
+/// The least and the greatest value, and NULL where there is none.
 fn put_extremes(out: &mut Vec<u8>, state: &State) -> Result<(), AllocError>
     requires { IsPackableState state.now }
     ensures { OnOk result (out.new.items ≡ out.old.items
         ++ (value_bytes (value_or_null state.now.least)
         ++ value_bytes (value_or_null state.now.greatest))) }
 {
-    put_extreme(out, state.least())?;
-    put_extreme(out, state.greatest())
+    put_value(out, state.least())?;
+    put_value(out, state.greatest())
 }
 
 #[tactic(auto, unfolding(crate::specs::Packing::state_bytes))]
@@ -121,16 +114,6 @@ fn take_tally(bytes: &[u8]) -> Result<(Tally, &[u8]), DecodeFault>
         return Err(DecodeFault::Numbers);
     }
     Ok((Tally { count, sum }, rest))
-}
-
-fn unless_null(value: Value) -> Option<Value>
-    ensures value { result ≡ unless_null value }
-    ensures extreme { is_spelled value ≡ true → is_extreme result ≡ true }
-{
-    match value {
-        Value::Null => None,
-        value => Some(value),
-    }
 }
 
 #[tactic(auto, unfolding(crate::specs::Reading::entries_at, crate::specs::Reading::tagged_entries_at))]

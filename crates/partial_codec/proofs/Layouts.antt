@@ -9,9 +9,10 @@ use Rattle.meaning.specs.Wanting.{GivesIfMemory}
 use Rattle.wire.specs.Reading.{Reads, bytes_at, same_bytes, sealed_end}
 use Rattle.answer_fields.specs.declared.fault.DecodeFault.{DecodeFault}
 use Rattle.answer_fields.specs.declared.fault.DecodeFault.TheVariants as fault
-use Rattle.answer_fields.specs.declared.fields.Layout.{Layout as Held}
+use Rattle.answer_layouts.specs.declared.layout.Layout.{Layout as Held}
 use Rattle.partial_codec.specs.Answer.{held_against, judged}
-use Rattle.answer_fields.specs.Fields.{IsLayout, WasRead, shape_in, words}
+use Rattle.answer_fields.specs.Fields.{WasRead, shape_in, words}
+use Rattle.answer_layouts.specs.Layouts.{IsLayout}
 use Rattle.partial_codec.specs.Holding.{layout_held_by}
 use Rattle.partial_codec.specs.Job.{JobSpec}
 use Rattle.answer_fields.specs.Keeping.{are_sums_possible, kept_body, is_typed}
@@ -74,7 +75,7 @@ by_parts job load text cut k shape body possible =
     else if not (are_numbers_possible job.plan (first_row job.cut k) (slice_index job.cut k) body) then Err fault.Numbers
     else Ok (record { k = k; body = body })
 
-held_parts : (job : JobSpec) (l : Held) → by_parts job l.job.load l.job.text.now (words l.job.fragments l.job.cut.now) l.k (shape_in l.shape) l.body l.are_sums_possible ≡ layout_held_by job l
+held_parts : (job : JobSpec) (l : Held) → by_parts job l.job.load l.job.text.now (words l.job.fragments l.job.cut.now) l.k (shape_in l.shape) l.body l.findings.are_sums_possible ≡ layout_held_by job l
 unfolding layout_held_by
 held_parts job l = refl
 
@@ -89,7 +90,7 @@ read_parts job read was =
 
 pub layout_returned : (job : JobSpec) (l : Held) (read : Layout) → IsLayout l read → WasRead read.shape read.body → held_against job read ≡ layout_held_by job l
 layout_returned job l read is was =
-    let parts : by_parts job l.job.load l.job.text.now (words l.job.fragments l.job.cut.now) l.k (shape_in l.shape) l.body l.are_sums_possible
+    let parts : by_parts job l.job.load l.job.text.now (words l.job.fragments l.job.cut.now) l.k (shape_in l.shape) l.body l.findings.are_sums_possible
     ≡ by_parts job read.load read.text read.cut read.k read.shape (kept_body read.body) (are_sums_possible read.body) =
     λ i. by_parts job (is.job.load i) (is.job.text i) (is.job.cut i) (is.k i) (is.shape i) (is.body i) (is.possible i) in
     read_parts job read was ∙ sym parts ∙ held_parts job l

@@ -14,8 +14,9 @@ use Rattle.std.proofs.lemmas.List.{length-map}
 use Rattle.partial_codec.proofs.States.{layout_read, layout_cells}
 use Rattle.answer_fields.specs.declared.fault.DecodeFault.{DecodeFault}
 use Rattle.answer_fields.specs.declared.fault.DecodeFault.TheVariants as fault
-use Rattle.answer_fields.specs.declared.state_fields.StateLayout.{StateLayout as Held}
-use Rattle.answer_fields.specs.Fields.{IsStateLayout, shape_in, words}
+use Rattle.answer_layouts.specs.declared.state_layout.StateLayout.{StateLayout as Held}
+use Rattle.answer_layouts.specs.Layouts.{IsStateLayout, sums_in}
+use Rattle.answer_fields.specs.Fields.{shape_in, words}
 use Rattle.partial_codec.specs.Holding.{body_held_by, cell_held_by, cells_held_by, state_held_by}
 use Rattle.partial_codec.specs.Job.{JobSpec}
 use Rattle.answer_fields.specs.Keeping.{are_sums_possible, is_cell_possible, kept_body, kept_cell, is_cell_typed}
@@ -171,7 +172,7 @@ by_parts job load text cut shape cells returned =
     else if not (list_all (is_cell_typed job.plan) cells) then Err fault.Shape
     else (cells_held_by job 0 cells returned >>= λ held. Ok cells)
 
-held_parts : (job : JobSpec) (l : Held) → by_parts job l.job.load l.job.text.now (words l.job.fragments l.job.cut.now) (shape_in l.shape) l.cells.items l.are_possible.items ≡ state_held_by job l
+held_parts : (job : JobSpec) (l : Held) → by_parts job l.job.load l.job.text.now (words l.job.fragments l.job.cut.now) (shape_in l.shape) l.cells.items (sums_in l.findings.items) ≡ state_held_by job l
 unfolding state_held_by
 held_parts job l = refl
 
@@ -186,7 +187,7 @@ read_parts job read were =
 
 state_returned : (job : JobSpec) (l : Held) (read : StateLayout) → IsStateLayout l read → WereRead read → state_held_against job read ≡ state_held_by job l
 state_returned job l read is were =
-    let parts : by_parts job l.job.load l.job.text.now (words l.job.fragments l.job.cut.now) (shape_in l.shape) l.cells.items l.are_possible.items
+    let parts : by_parts job l.job.load l.job.text.now (words l.job.fragments l.job.cut.now) (shape_in l.shape) l.cells.items (sums_in l.findings.items)
     ≡ by_parts job read.load read.text read.cut read.shape (map kept_cell read.cells) (map is_cell_possible read.cells) =
     λ i. by_parts job (is.job.load i) (is.job.text i) (is.job.cut i) (is.shape i) (is.cells i) (is.possible i) in
     read_parts job read were ∙ sym parts ∙ held_parts job l
@@ -200,7 +201,7 @@ judged_state_returned job bytes rest seal behind end l (y, read, is) sealed ende
     rw (read, here, ended) (state_returned job l y.0 is.0 (state_was_read bytes y read))
 
 -- there is a cell, and its mark, for each fragment that was read
-pub as_many : (bytes rest : List ℕ) (l : Held) → (y : StateLayout × List ℕ) × (state_layout_at bytes ≡ Ok y) × (IsStateLayout l y.0 × (rest ≡ y.1)) → (length l.cells.items ≡ l.job.fragments) × (length l.are_possible.items ≡ l.job.fragments)
+pub as_many : (bytes rest : List ℕ) (l : Held) → (y : StateLayout × List ℕ) × (state_layout_at bytes ≡ Ok y) × (IsStateLayout l y.0 × (rest ≡ y.1)) → (length l.cells.items ≡ l.job.fragments) × (length l.findings.items ≡ l.job.fragments)
 as_many bytes rest l (y, read, is) =
     let count : length y.0.cells ≡ l.job.fragments = layout_cells bytes y read ∙ sym is.0.job.count in
-    (ap (λ (cs : List Cell). length cs) is.0.cells ∙ length-map y.0.cells kept_cell ∙ count, ap (λ (bs : List Bool). length bs) is.0.possible ∙ length-map y.0.cells is_cell_possible ∙ count)
+    (ap (λ (cs : List Cell). length cs) is.0.cells ∙ length-map y.0.cells kept_cell ∙ count, sym (length-map l.findings.items (λ f. f.are_sums_possible)) ∙ ap (λ (bs : List Bool). length bs) is.0.possible ∙ length-map y.0.cells is_cell_possible ∙ count)

@@ -1,67 +1,24 @@
--- One step of a loop over lists.
-use Rattle.std.proofs.Common.{◌≡◌, ℕ, zero, suc, ◌+◌, ◌^◌, ◌≤◌, ◌<◌, Bool, true, false, ◌&&◌, List, [], ◌∷◌, length, get_or, take, drop, map, Result, Ok, refl, sym, ap, ◌∙◌, arith}
-use Rattle.std.specs.Prelude.{sum, slice_index}
-use Rattle.std.specs.Cmp.Lexicographic.{pointwise}
-use Rattle.std.specs.Ordering.{is_lt}
+-- One step of a loop over cells or fragments.
+use Rattle.std.proofs.Common.{◌≡◌, ℕ, zero, suc, ◌+◌, ◌^◌, ◌≤◌, ◌<◌, Bool, true, false, ◌&&◌, List, [], ◌∷◌, None, length, get_or, take, drop, Result, Ok, refl, sym, ap, subst, ◌∙◌, arith}
+use Rattle.std.specs.Prelude.{slice_index}
+use Rattle.std.specs.List.{list_all}
 use Rattle.std.proofs.Math.Seq.{drop-cons}
-use Rattle.std.proofs.lemmas.List.{drop_all}
+use Rattle.std.proofs.lemmas.List.{drop_all, length-map}
 use Rattle.std.proofs.lemmas.List.Elements.{recursion_from_All}
 use Rattle.std.proofs.lemmas.List.Sums.{sum_by-cons}
-use Rattle.meaning.specs.declared.answer.Group.{Group}
 use Rattle.meaning.specs.Said.{Cell}
 use Rattle.meaning.specs.declared.plan.Plan.{Plan}
 use Rattle.meaning.specs.Cut.{IsCut, first_row}
-use Rattle.meaning.specs.Order.{is_ascending, row_cmp}
 use Rattle.meaning.specs.Limits.{max_rows}
-use Rattle.meaning.proofs.Tests.{and_false}
 use Rattle.answer_fields.specs.declared.fault.DecodeFault.{DecodeFault}
+use Rattle.answer_fields.specs.Keeping.{is_cell_typed}
+use Rattle.answer_layouts.specs.declared.findings.Findings.{Findings}
+use Rattle.answer_layouts.specs.Found.{AreFoundInCell, AreFoundInCells}
+use Rattle.answer_layouts.specs.Layouts.{sums_in}
 use Rattle.partial_codec.specs.Job.{JobSpec}
 use Rattle.wire.specs.Reading.{◌>>=◌}
 use Rattle.partial_codec.specs.Holding.{cell_held_by, cells_held_by}
 use Rattle.partial_codec.proofs.Fitting.{short_at, few_rows_before}
-
-abbrev pub is_before : Group → Group → Bool
-is_before a b = is_lt (row_cmp a.key b.key)
-
-abbrev pub ascend : List Group → Bool
-ascend gs = is_ascending row_cmp (map (λ g. g.key) gs)
-
-pub ascend_step : (gs : List Group) (i : ℕ) (c d : Group) → suc i < length gs → ascend (drop i gs) ≡ (is_before (get_or gs i c) (get_or gs (suc i) d) && ascend (drop (suc i) gs))
-ascend_step gs i c d lt =
-    let here = drop-cons gs i c (omega arith) in
-    let next = drop-cons gs (suc i) d lt in
-    rw (here, next) refl
-
-pub ascend_end : (gs : List Group) (i : ℕ) → length gs ≤ suc i → ascend (drop i gs) ≡ true
-ascend_end [] zero le = refl
-ascend_end [] (suc i) le = refl
-ascend_end (g ∷ []) zero le = refl
-ascend_end (g ∷ h ∷ gs) zero le = absurd (omega arith)
-ascend_end (g ∷ gs) (suc i) le = ascend_end gs i (omega arith)
-
-pub pointwise_step : {X Y : Type 0} (test : X → Y → Bool) (xs : List X) (ys : List Y) (i : ℕ) (c : X) (d : Y) → i < length xs → i < length ys
-    → pointwise test (drop i xs) (drop i ys) ≡ (test (get_or xs i c) (get_or ys i d) && pointwise test (drop (suc i) xs) (drop (suc i) ys))
-pointwise_step test xs ys i c d left right = rw (drop-cons xs i c left, drop-cons ys i d right) refl
-
-pub pointwise_end : {X Y : Type 0} (test : X → Y → Bool) (xs : List X) (ys : List Y) (i : ℕ) → length xs ≡ length ys → length xs ≤ i → pointwise test (drop i xs) (drop i ys) ≡ true
-pointwise_end test [] [] zero same le = refl
-pointwise_end test [] [] (suc i) same le = refl
-pointwise_end test [] (y ∷ ys) i same le = absurd (omega arith)
-pointwise_end test (x ∷ xs) [] i same le = absurd (omega arith)
-pointwise_end test (x ∷ xs) (y ∷ ys) zero same le = absurd (omega arith)
-pointwise_end test (x ∷ xs) (y ∷ ys) (suc i) same le = pointwise_end test xs ys i (omega arith) (omega arith)
-
-pub pointwise_lengths : {X Y : Type 0} (test : X → Y → Bool) (xs : List X) (ys : List Y) → (length xs ≡ length ys → ⊥) → pointwise test xs ys ≡ false
-pointwise_lengths test [] [] other = absurd (other refl)
-pointwise_lengths test [] (y ∷ ys) other = refl
-pointwise_lengths test (x ∷ xs) [] other = refl
-pointwise_lengths test (x ∷ xs) (y ∷ ys) other = rw (pointwise_lengths test xs ys (λ e. other (omega (arith, e)))) (and_false (test x y))
-
-abbrev pub all_rows : List Group → ℕ
-all_rows gs = sum (map (λ g. g.rows) gs)
-
-pub rows_step : (gs : List Group) (i : ℕ) (d : Group) → i < length gs → all_rows (drop i gs) ≡ (get_or gs i d).rows + all_rows (drop (suc i) gs)
-rows_step gs i d lt = rw (drop-cons gs i d lt) (sum_by-cons (λ n. n) (get_or gs i d).rows (map (λ g. g.rows) (drop (suc i) gs)))
 
 -- ---- cells
 
@@ -110,3 +67,37 @@ rows_fit cut k is =
     let first = few_rows_before cut k short in
     let few = is.few in
     omega (arith, rows, first, few)
+
+-- what was found of cell k
+pub found_at : (plan : Plan) (cells : List Cell) (found : List Findings) (k : ℕ) (d : Cell) (e : Findings) → k < length cells → AreFoundInCells plan cells found → AreFoundInCell plan (get_or cells k d) (get_or found k e)
+found_at plan [] found k d e lt are = absurd (omega arith)
+found_at plan (c ∷ cells) [] k d e lt are = absurd are
+found_at plan (c ∷ cells) (f ∷ found) zero d e lt are = are.0
+found_at plan (c ∷ cells) (f ∷ found) (suc k) d e lt are = found_at plan cells found k d e (omega arith) are.1
+
+pub sum_at : (found : List Findings) (k : ℕ) (e : Findings) → k < length found → (get_or found k e).are_sums_possible ≡ get_or (sums_in found) k e.are_sums_possible
+sum_at [] k e lt = absurd (omega arith)
+sum_at (f ∷ found) zero e lt = refl
+sum_at (f ∷ found) (suc k) e lt = sum_at found k e (omega arith)
+
+pub sums_length : (found : List Findings) → length (sums_in found) ≡ length found
+sums_length found = length-map found (λ f. f.are_sums_possible)
+
+-- what the code reads past the end of a list of findings
+abbrev pub no_findings : Findings
+no_findings = record { are_typed = false; are_in_order = false; rows = None; have_rows = false; are_states_possible = false; are_sums_possible = false }
+
+pub typed_step : (plan : Plan) (cells : List Cell) (k : ℕ) (d : Cell) → k < length cells → list_all (is_cell_typed plan) (drop k cells) ≡ (is_cell_typed plan (get_or cells k d) && list_all (is_cell_typed plan) (drop (k + 1) cells))
+typed_step plan cells k d lt =
+    let next : suc k ≡ k + 1 = omega arith in
+    ap (list_all (is_cell_typed plan)) (drop-cons cells k d lt) ∙ ap (λ n. is_cell_typed plan (get_or cells k d) && list_all (is_cell_typed plan) (drop n cells)) next
+
+pub typed_after : (plan : Plan) (cells : List Cell) (found : List Findings) (k : ℕ) (cell : Cell) (is_typed : Bool) → k < length cells → cell ≡ get_or cells k cell
+    → (AreFoundInCell plan cell (get_or found k no_findings) → is_typed ≡ is_cell_typed plan cell) → AreFoundInCells plan cells found → list_all (is_cell_typed plan) cells ≡ list_all (is_cell_typed plan) (drop k cells)
+    → list_all (is_cell_typed plan) cells ≡ (is_typed && list_all (is_cell_typed plan) (drop (k + 1) cells))
+typed_after plan cells found k cell is_typed lt at test are so_far =
+    let here : AreFoundInCell plan cell (get_or found k no_findings) = subst (λ (c : Cell). AreFoundInCell plan c (get_or found k no_findings)) (sym at) (found_at plan cells found k cell no_findings lt are) in
+    so_far ∙ typed_step plan cells k cell lt ∙ ap (λ (b : Bool). b && list_all (is_cell_typed plan) (drop (k + 1) cells)) (ap (is_cell_typed plan) (sym at) ∙ sym (test here))
+
+pub typed_end : (plan : Plan) (cells : List Cell) (k : ℕ) → length cells ≤ k → list_all (is_cell_typed plan) (drop k cells) ≡ true
+typed_end plan cells k le = rw (drop_all k cells le) refl

@@ -1,7 +1,7 @@
 -- Numbers of four bytes, compared with lengths.
 use Rattle.std.proofs.Common.{◌≡◌, ℕ, zero, suc, ◌+◌, ◌-◌, ◌*◌, ◌<◌, ◌&&◌, List, length, get_or, drop, true, false, refl, sym, ap, ◌∙◌, arith}
 use Rattle.std.specs.Prelude.{◌==◌, nat_eq}
-use Rattle.partial_codec.proofs.Steps.{pointwise_lengths}
+use Rattle.answer_layouts.proofs.Steps.{pointwise_lengths}
 use Rattle.std.specs.Cmp.Lexicographic.{bytes_decides}
 use Rattle.std.proofs.Math.Seq.{drop-cons}
 use Rattle.byteorder.specs.Endian.{little_number}

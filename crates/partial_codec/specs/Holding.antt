@@ -9,8 +9,9 @@ use Rattle.meaning.specs.declared.plan.Plan.{Plan}
 use Rattle.wire.specs.Reading.{◌>>=◌, same_bytes}
 use Rattle.answer_fields.specs.declared.fault.DecodeFault.{DecodeFault}
 use Rattle.answer_fields.specs.declared.fault.DecodeFault.TheVariants as fault
-use Rattle.answer_fields.specs.declared.fields.Layout.{Layout}
-use Rattle.answer_fields.specs.declared.state_fields.StateLayout.{StateLayout}
+use Rattle.answer_layouts.specs.declared.layout.Layout.{Layout}
+use Rattle.answer_layouts.specs.declared.state_layout.StateLayout.{StateLayout}
+use Rattle.answer_layouts.specs.Layouts.{sums_in}
 use Rattle.answer_fields.specs.Fields.{shape_in, words}
 use Rattle.partial_codec.specs.Job.{JobSpec}
 use Rattle.answer_fields.specs.Keeping.{is_typed, is_cell_typed}
@@ -26,7 +27,7 @@ layout_held_by job l =
     else if not (is_same_shape (shape_in l.shape) (shape_of job.plan)) then Err fault.Shape
     else if not (is_typed job.plan l.body) then Err fault.Shape
     else if not (is_in_order l.body) then Err fault.UnsortedGroups
-    else if not l.are_sums_possible then Err fault.Numbers
+    else if not l.findings.are_sums_possible then Err fault.Numbers
     else if not (are_numbers_possible job.plan (first_row job.cut l.k) (slice_index job.cut l.k) l.body) then Err fault.Numbers
     else Ok (record { k = l.k; body = l.body })
 
@@ -58,4 +59,4 @@ state_held_by job l =
     else if not (same_bytes (words l.job.fragments l.job.cut.now) job.cut) then Err fault.OtherCut
     else if not (is_same_shape (shape_in l.shape) (shape_of job.plan)) then Err fault.Shape
     else if not (list_all (is_cell_typed job.plan) l.cells.items) then Err fault.Shape
-    else (cells_held_by job 0 l.cells.items l.are_possible.items >>= λ held. Ok l.cells.items)
+    else (cells_held_by job 0 l.cells.items (sums_in l.findings.items) >>= λ held. Ok l.cells.items)

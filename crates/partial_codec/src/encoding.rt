@@ -17,7 +17,9 @@ use aggregate_states::{Group, Groups, State};
 use answer_fields::{
     Content, Format, argument_code, kind_code, put_set, put_value, put_values, shape_of_aggregate,
 };
-use meaning::{Aggregate, AggregateKind, Answer, Body, GroupingKey, Plan, ValueRef, type_code};
+use meaning::{
+    Aggregate, AggregateKind, Answer, Body, GroupingKey, Plan, RowFault, ValueRef, type_code,
+};
 use std::alloc::{AllocError, Global};
 use wire::{append_i128, append_seal, append_text, append_u8, append_u16, append_u32, append_u64};
 
@@ -145,7 +147,7 @@ fn put_group(out: &mut Vec<u8>, plan: &Plan, group: &Group) -> Result<(), AllocE
     put_states(out, plan.aggs.as_slice(), group.states())
 }
 
-fn put_all_groups(out: &mut Vec<u8>, plan: &Plan, groups: &[Group]) -> Result<(), AllocError>
+pub fn put_all_groups(out: &mut Vec<u8>, plan: &Plan, groups: &[Group]) -> Result<(), AllocError>
     requires { AllByRecursion (IsGroup (shapes.shape_of plan.now)) groups.now }
     ensures { OnOk result (out.new.items ≡ out.old.items
         ++ flat_map (spec.group_bytes (shapes.shape_of plan.now)) groups.now) }
@@ -156,9 +158,19 @@ fn put_all_groups(out: &mut Vec<u8>, plan: &Plan, groups: &[Group]) -> Result<()
     Ok(())
 }
 
+/// A fault behind a 0.
+pub fn put_fault(out: &mut Vec<u8>, fault: RowFault) -> Result<(), AllocError>
+    ensures { OnOk result (out.new.items ≡ out.old.items
+        ++ (number_bytes 1 0 ++ number_bytes 8 fault.row ++ number_bytes 1 fault.code)) }
+{
+    append_u8(out, 0)?;
+    append_u64(out, fault.row)?;
+    append_u8(out, fault.code)
+}
+
 /// Groups, or a fault.
 #[tactic(auto, unfolding(answer_fields::specs::Spelling::body_bytes))]
-pub fn put_body(out: &mut Vec<u8>, plan: &Plan, body: &Body<Groups>) -> Result<(), AllocError>
+fn put_body(out: &mut Vec<u8>, plan: &Plan, body: &Body<Groups>) -> Result<(), AllocError>
     requires { IsBody (shapes.shape_of plan.now) body.now }
     ensures { OnOk result (out.new.items ≡ out.old.items
         ++ spec.body_bytes (shapes.shape_of plan.now) body.now) }
@@ -169,11 +181,7 @@ pub fn put_body(out: &mut Vec<u8>, plan: &Plan, body: &Body<Groups>) -> Result<(
             append_u32(out, groups.len() as u32)?;
             put_all_groups(out, plan, groups.as_slice())
         }
-        Body::Fault(fault) => {
-            append_u8(out, 0)?;
-            append_u64(out, fault.row)?;
-            append_u8(out, fault.code)
-        }
+        Body::Fault(fault) => put_fault(out, *fault),
     }
 }
 

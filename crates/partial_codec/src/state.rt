@@ -1,25 +1,102 @@
 //! The states of coordinators as bytes: written, read and judged.
-ghost use Rattle.std.specs.Prelude.{◌≡◌, ◌≢◌, ◌++◌, IfOk, IfErr, OnOk, List, Some, Ok};
+ghost use Rattle.std.specs.Prelude.{◌≡◌, ◌≢◌, ◌++◌, drop, take, IfOk, IfErr, OnOk, List, Some, Ok};
 ghost use Rattle.std.specs.List.{flat_map, AllByRecursion};
 ghost use Rattle.meaning.specs.Said.{Cell as ACell};
 ghost use Rattle.answer_fields.specs.Format.{newest};
 ghost use Rattle.partial_codec.specs.Job.{IsJob};
-ghost use Rattle.answer_fields.specs.Ranges.{IsCell};
+ghost use Rattle.answer_fields.specs.Ranges.{IsBody, IsCell, IsGroup};
 ghost use Rattle.answer_fields.specs.Shape.{shape_of};
+ghost use Rattle.answer_fields.specs.Spelling.{body_bytes, group_bytes};
 ghost use Rattle.partial_codec.specs.State.{FitsState, SpellsState, cell_bytes, judged_state, state_bytes, state_layout_bytes, state_layout_of, state_obstacle};
 ghost use Rattle.meaning.specs.Wanting.{GivesIfMemory};
 
-use crate::encoding::{put_body, put_job, put_shape};
+use crate::encoding::{put_all_groups, put_fault, put_job, put_shape};
 use crate::job::Job;
 use crate::state_check::hold_state_against;
-use aggregate_states::Groups;
-use answer_fields::{Content, DecodeFault, Format, take_state_layout};
-use meaning::{Cell, Plan};
+use aggregate_states::Group;
+use answer_fields::{Content, DecodeFault, Format};
+use answer_layouts::take_state_layout;
+use meaning::{Body, Cell, Plan};
+use packed_groups::{PackedGroups, Unpacking};
 use std::alloc::{AllocError, Global};
-use wire::{SEAL_BYTES, append_seal, append_u8, check_seal, take_bytes};
+use std::mem::drop;
+use wire::{SEAL_BYTES, append_seal, append_u8, append_u32, check_seal, take_bytes};
+
+/// How many groups are unpacked at a time: some hundred thousand bytes of them.
+const BATCH: usize = 256;
+
+/// The next groups of those that are left, in the buffers of some that are given up, and then given
+/// up too.
+fn put_batch(
+    alloc: Global,
+    out: &mut Vec<u8>,
+    plan: &Plan,
+    left: &mut Unpacking<'_>,
+    spare: Vec<Group>,
+) -> Result<Vec<Group>, AllocError>
+    requires { AllByRecursion (IsGroup (shape_of plan.now)) left.old }
+    ensures put { OnOk result (out.new.items ≡ out.old.items
+        ++ flat_map (group_bytes (shape_of plan.now)) (take 256 left.old)) }
+    ensures left { OnOk result (left.new ≡ drop 256 left.old) }
+{
+    let groups = left.take(alloc, BATCH, spare)?;
+    match put_all_groups(out, plan, groups.as_slice()) {
+        Ok(()) => Ok(groups),
+        Err(fault) => {
+            drop(groups);
+            Err(fault)
+        }
+    }
+}
+
+/// Packed groups, unpacked a few at a time.
+fn put_packed_groups(
+    alloc: Global,
+    out: &mut Vec<u8>,
+    plan: &Plan,
+    groups: &PackedGroups,
+) -> Result<(), AllocError>
+    requires { AllByRecursion (IsGroup (shape_of plan.now)) groups.now }
+    ensures { OnOk result (out.new.items ≡ out.old.items
+        ++ flat_map (group_bytes (shape_of plan.now)) groups.now) }
+{
+    let mut left = groups.batches();
+    let mut spare = Vec::new(alloc);
+    while left.len() > 0 {
+        spare = put_batch(alloc, out, plan, &mut left, spare)?;
+    }
+    drop(spare);
+    Ok(())
+}
+
+#[tactic(auto, unfolding(answer_fields::specs::Spelling::body_bytes))]
+fn put_packed_body(
+    alloc: Global,
+    out: &mut Vec<u8>,
+    plan: &Plan,
+    body: &Body<PackedGroups>,
+) -> Result<(), AllocError>
+    requires { IsBody (shape_of plan.now) body.now }
+    ensures { OnOk result (out.new.items ≡ out.old.items
+        ++ body_bytes (shape_of plan.now) body.now) }
+{
+    match body {
+        Body::Groups(groups) => {
+            append_u8(out, 1)?;
+            append_u32(out, groups.len() as u32)?;
+            put_packed_groups(alloc, out, plan, groups)
+        }
+        Body::Fault(fault) => put_fault(out, *fault),
+    }
+}
 
 #[tactic(auto, unfolding(answer_fields::specs::StateSpelling::cell_bytes))]
-fn put_cell(out: &mut Vec<u8>, plan: &Plan, cell: &Cell<Groups>) -> Result<(), AllocError>
+fn put_cell(
+    alloc: Global,
+    out: &mut Vec<u8>,
+    plan: &Plan,
+    cell: &Cell<PackedGroups>,
+) -> Result<(), AllocError>
     requires { IsCell (shape_of plan.now) cell.now }
     ensures { OnOk result (out.new.items ≡ out.old.items ++ cell_bytes
         (shape_of plan.now) cell.now) }
@@ -28,26 +105,36 @@ fn put_cell(out: &mut Vec<u8>, plan: &Plan, cell: &Cell<Groups>) -> Result<(), A
         Cell::Nothing => append_u8(out, 0),
         Cell::One(body) => {
             append_u8(out, 1)?;
-            put_body(out, plan, body)
+            put_packed_body(alloc, out, plan, body)
         }
         Cell::Conflict => append_u8(out, 2),
     }
 }
 
-fn put_cells(out: &mut Vec<u8>, plan: &Plan, cells: &[Cell<Groups>]) -> Result<(), AllocError>
+fn put_cells(
+    alloc: Global,
+    out: &mut Vec<u8>,
+    plan: &Plan,
+    cells: &[Cell<PackedGroups>],
+) -> Result<(), AllocError>
     requires { AllByRecursion (IsCell (shape_of plan.now)) cells.now }
     ensures { OnOk result (out.new.items ≡ out.old.items
         ++ flat_map (cell_bytes (shape_of plan.now)) cells.now) }
 {
     for cell in cells {
-        put_cell(out, plan, cell)?;
+        put_cell(alloc, out, plan, cell)?;
     }
     Ok(())
 }
 
 /// All of a state but its seal.
 #[tactic(auto, unfolding(answer_fields::specs::StateSpelling::state_layout_bytes))]
-fn put_state_layout(out: &mut Vec<u8>, job: &Job, cells: &[Cell<Groups>]) -> Result<(), AllocError>
+fn put_state_layout(
+    alloc: Global,
+    out: &mut Vec<u8>,
+    job: &Job,
+    cells: &[Cell<PackedGroups>],
+) -> Result<(), AllocError>
     requires { AllByRecursion (IsCell (shape_of job.now.plan)) cells.now }
     ensures { OnOk result (out.new.items ≡ out.old.items
         ++ state_layout_bytes (state_layout_of newest job.now cells.now)) }
@@ -57,12 +144,16 @@ fn put_state_layout(out: &mut Vec<u8>, job: &Job, cells: &[Cell<Groups>]) -> Res
     out.extend_from_slice(&Format::newest().magic(Content::State))?;
     put_job(out, job.load(), text, lengths)?;
     put_shape(out, job.plan())?;
-    put_cells(out, job.plan(), cells)
+    put_cells(alloc, out, job.plan(), cells)
 }
 
 /// The cells that a coordinator holds for the job, one for each fragment, as they are spelled in
 /// the newest format.
-pub fn encode_state(alloc: Global, job: &Job, cells: &[Cell<Groups>]) -> Result<Vec<u8>, AllocError>
+pub fn encode_state(
+    alloc: Global,
+    job: &Job,
+    cells: &[Cell<PackedGroups>],
+) -> Result<Vec<u8>, AllocError>
     requires { FitsState job.now cells.now }
     ensures { IfOk result (λ bytes. bytes.items ≡ state_bytes job.now cells.now) }
 {
@@ -70,21 +161,23 @@ pub fn encode_state(alloc: Global, job: &Job, cells: &[Cell<Groups>]) -> Result<
     // their limits.
     let _plan = job.plan();
     let mut out = Vec::new(alloc);
-    put_state_layout(&mut out, job, cells)?;
+    put_state_layout(alloc, &mut out, job, cells)?;
     append_seal(&mut out)?;
     Ok(out)
 }
 
 #[tactic(auto, unfolding(crate::specs::State::judged_state))]
-fn judge_state(alloc: Global, job: &Job, bytes: &[u8]) -> Result<Vec<Cell<Groups>>, DecodeFault>
+fn judge_state(
+    alloc: Global,
+    job: &Job,
+    bytes: &[u8],
+) -> Result<Vec<Cell<PackedGroups>>, DecodeFault>
     ensures exact { GivesIfMemory DecodeFault.Memory (λ cells. cells.items) result
         (judged_state job.now bytes.now) }
     ensures within_limits { IsJob job.now }
 {
-    // No effect at run time. The proof reads from this call that the job's text and cut are within
-    // their limits.
-    let _plan = job.plan();
-    let (layout, rest) = take_state_layout(alloc, bytes)?;
+    let plan = job.plan();
+    let (layout, rest) = take_state_layout(alloc, plan, bytes)?;
     let (seal, rest) = take_bytes(rest, SEAL_BYTES)?;
     check_seal(bytes, seal, rest)?;
     hold_state_against(job, layout)
@@ -100,7 +193,7 @@ pub fn decode_state(
     alloc: Global,
     job: &Job,
     bytes: &[u8],
-) -> Result<Vec<Cell<Groups>>, DecodeFault>
+) -> Result<Vec<Cell<PackedGroups>>, DecodeFault>
     // What is given is spelled so.
     ensures spelled { IfOk result (λ cells. SpellsState job.now bytes.now cells.items) }
     // What is spelled so is given, unless memory runs out.

@@ -1,12 +1,12 @@
 -- Proofs of the goals of `take_batch` (`output`).
-use Rattle.std.proofs.Common.{◌-◌, ◌∙◌}
-use Rattle.gathering.proofs.TakenGroups.{batch_fits, batch_taken}
+use Rattle.std.proofs.Common.{List, ◌++◌, subst, sym}
+use Rattle.meaning.specs.declared.answer.Group.{Group}
+use Rattle.last_step.specs.Fitting.{AreGroupsOf}
+use Rattle.last_step.specs.Taken.{HasTaken}
 use Rattle.gathering.proofs.output.take_batch.Goals as goal
 
-pub take-taken-requires : goal.take-taken-requires
-take-taken-requires c =
-    batch_fits c.args.plan.now c.args.groups.now c.as_slice.result.now c.args.from (c.args.to - c.args.from) (c.as_slice.ensures.value ∙ c.in_ok-batch.ensures) c.requires.groups
+pub take-requires : goal.take-requires
+take-requires c = subst (λ (gs : List Group). AreGroupsOf c.args.plan.now gs) (sym c.as_slice.ensures.value) c.requires
 
-pub returns : goal.returns
-returns c =
-    batch_taken c.args.plan.now c.args.groups.now c.as_slice.result.now c.args.from c.args.to c.args.finishing c.take-taken.result c.requires.ordered (c.as_slice.ensures.value ∙ c.in_ok-batch.ensures) c.take-taken.ensures
+pub returns-in-Ok : goal.returns-in-Ok
+returns-in-Ok c = λ before so_far. subst (λ (gs : List Group). HasTaken c.args.plan.now (before ++ gs) c.in-Ok.taken) c.as_slice.ensures.value (c.in-Ok.ensures before so_far)

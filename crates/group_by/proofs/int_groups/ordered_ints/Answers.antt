@@ -1,5 +1,5 @@
 -- Proofs of the goals of `ordered_ints` (`int_groups`).
-use Rattle.std.proofs.Common.{◌≡◌, ℕ, rules, List, length, sym, subst, ◌∷◌, []}
+use Rattle.std.proofs.Common.{◌≡◌, ℕ, rules, length, sym, subst, ◌∷◌, []}
 use Rattle.std.proofs.lemmas.List.{length-map}
 use Rattle.meaning.specs.declared.value.Value.{Value}
 use Rattle.group_by.specs.IntGroups.{AreApart, AreIndexed}

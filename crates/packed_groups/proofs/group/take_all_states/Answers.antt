@@ -7,7 +7,7 @@ use Rattle.packed_groups.proofs.group.take_all_states.Goals as goal
 
 pub returns-in_err-state : goal.returns-in_err-state
 returns-in_err-state c =
-    let p = err_from_is_err_and c.from_residual-in_err-state.result c.from_residual-in_err-state.ensures.1 in
+    let p = err_from_is_err_and c.from_residual.result c.from_residual.ensures.1 in
     rw (p.1, p.2) (λ not_memory. fails state_at c.loop.states.items c.args.width c.loop.counter c.loop.rest.now c.in_err-state.field-0.0 (repeat_at state_at c.args.width c.args.bytes.now) c.loop-test.true (c.in_err-state.ensures not_memory) c.loop.invariant)
 
 pub loop-preserved : goal.loop-preserved

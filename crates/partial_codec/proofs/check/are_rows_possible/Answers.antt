@@ -1,5 +1,5 @@
 -- Proofs of the goals of `are_rows_possible` (`check`).
-use Rattle.std.proofs.Common.{◌≡◌, Bool, true, false, ◌&&◌, eqb, List, [], ◌∷◌, length, refl, sym, ◌∙◌}
+use Rattle.std.proofs.Common.{◌≡◌, Bool, true, false, ◌&&◌, eqb, List, [], ◌∷◌, length, refl, sym, ap, ◌∙◌}
 use Rattle.std.proofs.Math.Dec.{eqb-suc-zero}
 use Rattle.std.specs.Prelude.{not, nat_le}
 use Rattle.std.specs.List.{list_all}
@@ -20,7 +20,7 @@ many_groups false [] gs e = absurd cc
 many_groups false (k ∷ keys) gs e = refl
 
 pub returns-then-has_certain_group : goal.returns-then-has_certain_group
-returns-then-has_certain_group c = sym (one_group c.args.plan.now.plain c.args.plan.now.keys c.args.groups.now (sym c.has_certain_group.ensures ∙ c.if-has_certain_group.true))
+returns-then-has_certain_group c = ap (λ n. eqb n 1) c.len.ensures ∙ sym (one_group c.args.plan.now.plain c.args.plan.now.keys c.args.groups.now (sym c.has_certain_group.ensures ∙ c.if-has_certain_group.true))
 
 pub returns-else-has_certain_group : goal.returns-else-has_certain_group
-returns-else-has_certain_group c = c.have_rows.ensures ∙ sym (many_groups c.args.plan.now.plain c.args.plan.now.keys c.args.groups.now (sym c.has_certain_group.ensures ∙ c.if-has_certain_group.false))
+returns-else-has_certain_group c = c.requires.with_rows ∙ sym (many_groups c.args.plan.now.plain c.args.plan.now.keys c.args.groups.now (sym c.has_certain_group.ensures ∙ c.if-has_certain_group.false))

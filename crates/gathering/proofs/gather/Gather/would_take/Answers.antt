@@ -1,21 +1,13 @@
 -- Proofs of the goals of `Gather::would_take` (`gather`).
-use Rattle.std.proofs.Common.{◌≡◌, ℕ, Bool, List, sym, ap, ◌∙◌, subst}
-use Rattle.std.proofs.lemmas.Result.{IfOk-weaker}
+use Rattle.std.proofs.Common.{◌≡◌, ℕ, List, sym, ap, ◌∙◌, subst}
 use Rattle.meaning.specs.Said.{Cell}
 use Rattle.meaning.specs.declared.answer.Cell.TheVariants.{Nothing}
 use Rattle.partial_codec.specs.Answer.{Fits, Spells}
 use Rattle.partial_codec.specs.Job.{IsJob}
-use Rattle.gathering.specs.declared.gather.Absorbed.{Absorbed}
 use Rattle.gathering.specs.Gathering.{GatherSpec, Would, absorbed_as, cell_at, changes}
 use Rattle.gathering.specs.Totals.{merges_of}
 use Rattle.gathering.proofs.Held.{below, same_at, said_before, spelled_once}
-use Rattle.gathering.proofs.Packable.{packable}
 use Rattle.gathering.proofs.gather.Gather.would_take.Goals as goal
-
-pub judged-requires : goal.judged-requires
-judged-requires c =
-    let fits : Fits c.self.inside.job c.args.answer.now = subst (λ (g : GatherSpec). Fits g.job c.args.answer.now) (sym c.self.view_is) c.requires in
-    packable c.self.inside.job c.args.answer.now c.plan-plan.ensures.within_limits fits
 
 pub returns : goal.returns
 returns c =
@@ -26,11 +18,8 @@ returns c =
     let is_job : IsJob job = c.plan-plan.ensures.within_limits in
     let fits : Fits job seen = subst (λ (g : GatherSpec). Fits g.job seen) (sym c.self.view_is) c.requires in
     let held : c.index-held.result.now ≡ cell_at cells seen.k = c.index-held.ensures ∙ same_at cells seen.k c.index-held.result.now Nothing (below job cells seen c.self.invariant.gather.each fits) in
-    IfOk-weaker c.judged.result (λ (r : Absorbed × Bool). (r.0 ≡ absorbed_as c.index-held.result.now seen.k seen.body) × (r.1 ≡ changes c.index-held.result.now seen.body))
-    (λ (r : Absorbed × Bool). (bytes : List ℕ) → Spells c.args.self.now.job bytes seen → Would c.args.self.now bytes r)
-    (λ r is. subst (λ (g : GatherSpec). (bytes : List ℕ) → Spells g.job bytes seen → Would g bytes r) c.self.view_is
-    (λ bytes spelled. said_before now bytes r seen c.self.invariant.gather spelled
+    subst (λ (g : GatherSpec). (bytes : List ℕ) → Spells g.job bytes seen → Would g bytes c.judged.result) c.self.view_is
+    (λ bytes spelled. said_before now bytes c.judged.result seen c.self.invariant.gather spelled
     (λ a spells. spelled_once job bytes seen a is_job spelled spells)
-    (is.0 ∙ ap (λ (h : Cell). absorbed_as h seen.k seen.body) held)
-    (is.1 ∙ ap (λ (h : Cell). changes h seen.body) held)))
-    c.judged.ensures
+    (c.judged.ensures.said ∙ ap (λ (h : Cell). absorbed_as h seen.k seen.body) held)
+    (c.judged.ensures.changes ∙ ap (λ (h : Cell). changes h seen.body) held))

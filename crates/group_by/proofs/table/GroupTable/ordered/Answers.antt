@@ -2,13 +2,11 @@
 use Rattle.std.proofs.Common.{◌≡◌, List, length, All, ap, refl, subst, sym, ◌∙◌}
 use Rattle.std.proofs.lemmas.Result.{IfOk-weaker}
 use Rattle.meaning.specs.declared.answer.Group.{Group}
-use Rattle.meaning.specs.Order.{Row}
 use Rattle.accumulators.specs.Columns.{ColumnSpec}
 use Rattle.group_by.specs.Combined.{IsInOrder}
 use Rattle.group_by.specs.Groups.{all_rows}
 use Rattle.group_by.specs.Rows.{IsGroupOf}
-use Rattle.group_by.specs.Shape.{Shape, GroupsSpec, shape_with}
-use Rattle.group_by.proofs.Batches.{kinds_of}
+use Rattle.group_by.specs.Shape.{Shape, GroupsSpec}
 use Rattle.group_by.proofs.Own.{own_groups, own_rows}
 use Rattle.group_by.proofs.Handing.{all_heights, handed_out, in_its_order}
 use Rattle.group_by.proofs.table.GroupTable.ordered.Goals as goal

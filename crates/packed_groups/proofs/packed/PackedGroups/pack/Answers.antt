@@ -1,11 +1,11 @@
 -- Proofs of the goals of `pack` (`packed`).
-use Rattle.std.proofs.Common.{rules, ◌≡◌, ap, ◌∙◌}
-use Rattle.packed_groups.specs.Packing.{groups_bytes}
-use Rattle.packed_groups.specs.Reading.{packed_in}
-use Rattle.packed_groups.proofs.Again.{packed_groups}
+use Rattle.std.proofs.Common.{rules, ◌≡◌}
+use Rattle.std.specs.List.{flat_map}
+use Rattle.packed_groups.specs.Packing.{group_bytes}
+use Rattle.packed_groups.proofs.PackedBytes.{groups_of}
 use Rattle.packed_groups.proofs.packed.PackedGroups.pack.Goals as goal
 
 pub returns : goal.returns
 returns c =
-    let is : c.in_ok-bytes.bytes.items ≡ groups_bytes c.args.groups.now = search rules in
-    ap packed_in is ∙ packed_groups c.args.groups.now c.requires
+    let is : c.in_ok-bytes.bytes.items ≡ flat_map group_bytes c.args.groups.now = search rules in
+    groups_of c.args.groups.now c.in_ok-bytes.bytes.items is c.requires

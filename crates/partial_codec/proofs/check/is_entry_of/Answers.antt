@@ -1,6 +1,0 @@
--- Proofs of the goals of `is_entry_of` (`check`).
-use Rattle.std.proofs.lemmas.Str.{is_utf8-from_IsUtf8}
-use Rattle.partial_codec.proofs.check.is_entry_of.Goals as goal
-
-pub is_text_of-requires : goal.is_text_of-requires
-is_text_of-requires c = is_utf8-from_IsUtf8 c.as_bytes.result.now c.as_bytes.ensures.utf8

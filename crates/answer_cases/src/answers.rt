@@ -1,12 +1,11 @@
 //! Cases about the bytes of answers and states.
-ghost use Rattle.std.specs.Prelude.{◌≡◌, IfOk};
 ghost use Rattle.partial_codec.specs.Answer.{Fits};
 ghost use Rattle.partial_codec.specs.State.{FitsState};
 
 use crate::jobs::{NO_JOB, shaped_job_of};
-use aggregate_states::{Group, Groups};
+use aggregate_states::Group;
 use case_files::bytes_of;
-use meaning::{Answer, Body, Cell, Sequence, Value, ValueRef};
+use meaning::{Answer, Body, Cell, Value, ValueRef};
 use packed_groups::PackedGroups;
 use partial_codec::{
     Content, DecodeFault, Format, Job, decode, decode_state, encode, encode_state,
@@ -68,22 +67,24 @@ fn show_group(shown: &mut String, group: &Group) -> Result<(), AllocError> {
     shown.push_str("\n")
 }
 
-fn unpacked_body(alloc: Global, body: &Body<PackedGroups>) -> Result<Body<Groups>, AllocError>
-    ensures { IfOk result (λ unpacked. unpacked ≡ body.now) }
-{
-    match body {
-        Body::Groups(groups) => Ok(Body::Groups(Sequence::from_vec(groups.unpack(alloc)?))),
-        Body::Fault(fault) => Ok(Body::Fault(*fault)),
+fn show_groups(shown: &mut String, groups: &[Group]) -> Result<(), AllocError> {
+    for group in groups {
+        show_group(shown, group)?;
     }
+    Ok(())
 }
 
-fn show_body(shown: &mut String, body: &Body<Groups>) -> Result<(), AllocError> {
+fn show_body(
+    alloc: Global,
+    shown: &mut String,
+    body: &Body<PackedGroups>,
+) -> Result<(), AllocError> {
     match body {
         Body::Groups(groups) => {
-            for group in groups.as_slice() {
-                show_group(shown, group)?;
-            }
-            Ok(())
+            let unpacked = groups.unpack(alloc)?;
+            let done = show_groups(shown, &unpacked);
+            drop(unpacked);
+            done
         }
         Body::Fault(fault) => writeln!(shown, "fault {} at row {}", fault.code, fault.row),
     }
@@ -96,12 +97,7 @@ fn show_cell(
 ) -> Result<(), AllocError> {
     match cell {
         Cell::Nothing => shown.push_str("nothing\n"),
-        Cell::One(body) => {
-            let unpacked = unpacked_body(alloc, body)?;
-            let done = show_body(shown, &unpacked);
-            drop(unpacked);
-            done
-        }
+        Cell::One(body) => show_body(alloc, shown, body),
         Cell::Conflict => shown.push_str("conflict\n"),
     }
 }
@@ -144,7 +140,7 @@ fn show_refusal(alloc: Global, fault: &DecodeFault) -> Result<String, AllocError
 fn answer_lines(
     alloc: Global,
     job: &Job,
-    answer: &Answer<Groups>,
+    answer: &Answer<PackedGroups>,
     bytes: &[u8],
 ) -> Result<String, AllocError>
     requires { Fits job.now answer.now }
@@ -152,30 +148,15 @@ fn answer_lines(
     let again = encode(alloc, job, answer)?;
     let mut shown = String::new(alloc);
     writeln!(shown, "fragment {}", answer.k)?;
-    show_body(&mut shown, &answer.body)?;
+    show_body(alloc, &mut shown, &answer.body)?;
     show_spelling(&mut shown, Content::Answer, bytes, again.as_slice())?;
     Ok(shown)
-}
-
-fn packed_answer_lines(
-    alloc: Global,
-    job: &Job,
-    answer: &Answer<PackedGroups>,
-    bytes: &[u8],
-) -> Result<String, AllocError>
-    requires { Fits job.now answer.now }
-{
-    let body = unpacked_body(alloc, &answer.body)?;
-    let unpacked = Answer { k: answer.k, body };
-    let shown = answer_lines(alloc, job, &unpacked, bytes);
-    drop(unpacked);
-    shown
 }
 
 fn decoded_answer(alloc: Global, job: &Job, bytes: &[u8]) -> Result<String, AllocError> {
     match decode(alloc, job, bytes) {
         Ok(answer) => {
-            let shown = packed_answer_lines(alloc, job, &answer, bytes);
+            let shown = answer_lines(alloc, job, &answer, bytes);
             drop(answer);
             shown
         }

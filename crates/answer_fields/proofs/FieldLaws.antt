@@ -14,7 +14,7 @@ use Rattle.answer_fields.specs.Format.{has_kind, has_kinds, magic, format_at}
 use Rattle.answer_fields.specs.declared.shape.AggregateShape.{AggregateShape}
 use Rattle.wire.specs.Reading.{◌>>=◌, number_at, text_at, repeat_at}
 use Rattle.meaning.specs.TypeCodes.{type_code}
-use Rattle.answer_fields.specs.Shape.{IsNarrow, Shape, argument_code, kind_code}
+use Rattle.answer_fields.specs.Shape.{Shape, argument_code, kind_code}
 use Rattle.answer_fields.specs.Spelling.{Layout, job_bytes, aggregate_bytes, shape_bytes, body_bytes, layout_bytes}
 use Rattle.wire.specs.Bytes.{number_bytes, text_bytes, IsText}
 use Rattle.answer_fields.specs.LayoutReading.{JobFields, type_of, type_at, kind_of, known_to, kind_at, argument_from, argument_at, aggregate_at, shape_at, job_at, body_at, laid_out, layout_at, length_at}
@@ -224,25 +224,6 @@ shape_takes format bytes p fits e =
     let made : Shape × List ℕ = (record { keys = b.0.0; aggregates = d.0.0 }, d.0.1) in
     subst (λ (q : Shape × List ℕ). Takes bytes (shape_bytes q.0) q.1) (ok_is made p d.2)
     (Takes-then bytes (number_bytes 2 (length b.0.0) ++ flat_map type_bytes b.0.0 ++ number_bytes 2 (length d.0.0)) c.0.1 (flat_map aggregate_bytes d.0.0) d.0.1 two aggregates.0)
-
--- its widths stand in two bytes each
-pub shape_narrow : (format : Format) (bytes : List ℕ) (p : Shape × List ℕ) → IsBytes bytes → shape_at format bytes ≡ Ok p → IsNarrow p.0
-unfolding shape_at
-shape_narrow format bytes p fits e =
-    let a = read_ok (number_at 2 bytes) (λ n. repeat_at type_at n.0 n.1 >>= λ keys. from_wire (number_at 2 keys.1) >>= λ m. repeat_at (aggregate_at format) m.0 m.1 >>= λ aggregates. Ok (record { keys = keys.0; aggregates = aggregates.0 }, aggregates.1)) p e in
-    let b = bind_ok (repeat_at type_at a.0.0 a.0.1) (λ keys. from_wire (number_at 2 keys.1) >>= λ m. repeat_at (aggregate_at format) m.0 m.1 >>= λ aggregates. Ok (record { keys = keys.0; aggregates = aggregates.0 }, aggregates.1)) p a.2 in
-    let c = read_ok (number_at 2 b.0.1) (λ m. repeat_at (aggregate_at format) m.0 m.1 >>= λ aggregates. Ok (record { keys = b.0.0; aggregates = aggregates.0 }, aggregates.1)) p b.2 in
-    let d = bind_ok (repeat_at (aggregate_at format) c.0.0 c.0.1) (λ aggregates. Ok (record { keys = b.0.0; aggregates = aggregates.0 }, aggregates.1)) p c.2 in
-    let n = number_takes 2 bytes a.0.0 a.0.1 fits a.1 in
-    let keys = repeat_takes type_at type_bytes type_takes a.0.0 a.0.1 b.0 n.0.rest_fits b.1 in
-    let m = number_takes 2 b.0.1 c.0.0 c.0.1 keys.0.rest_fits c.1 in
-    let aggregates = repeat_takes (aggregate_at format) aggregate_bytes (aggregate_takes format) c.0.0 c.0.1 d.0 m.0.rest_fits d.1 in
-    let width = n.1 in
-    let many = keys.1 in
-    let others = m.1 in
-    let more = aggregates.1 in
-    let made : Shape × List ℕ = (record { keys = b.0.0; aggregates = d.0.0 }, d.0.1) in
-    subst (λ (q : Shape × List ℕ). IsNarrow q.0) (ok_is made p d.2) (record { keys = omega (arith, width, many); aggregates = omega (arith, others, more) })
 
 -- a shape that has a spelling
 pub record IsShape (format : Format) (shape : Shape) : Type 0 where

@@ -1,5 +1,5 @@
 -- The shape of a query's groups, by which its answers are laid out.
-use Rattle.std.specs.Prelude.{ℕ, ◌==◌, ◌<◌, ◌^◌, Bool, ◌&&◌, List, length, map, Option, Some, None}
+use Rattle.std.specs.Prelude.{ℕ, ◌==◌, Bool, ◌&&◌, List, map, Option, Some, None}
 use Rattle.std.specs.Cmp.Lexicographic.{pointwise}
 use Rattle.meaning.specs.declared.value.ColType.{ColType}
 use Rattle.meaning.specs.declared.plan.AggregateKind.{AggregateKind}
@@ -13,11 +13,6 @@ use Rattle.answer_fields.specs.declared.shape.AggregateShape.{AggregateShape}
 pub record Shape : Type 0 where
   pub keys : List ColType
   pub aggregates : List AggregateShape
-
--- a shape whose widths stand in two bytes each
-pub record IsNarrow (shape : Shape) : Type 0 where
-  pub keys : length shape.keys < 2 ^ 16
-  pub aggregates : length shape.aggregates < 2 ^ 16
 
 -- COUNT(*) has no argument
 abbrev pub argument_of : AggregateKind → ColType → Option ColType

@@ -3,7 +3,6 @@ ghost use Rattle.std.specs.Prelude.{◌≡◌, ◌*◌, IfOk, length};
 ghost use Rattle.answer_fields.specs.Fields.{AreJobFields, shape_in, words};
 ghost use Rattle.meaning.specs.Wanting.{GivesIfMemory, KeepsIfMemory};
 ghost use Rattle.answer_fields.specs.LayoutReading as reading;
-ghost use Rattle.answer_fields.specs.Shape.{IsNarrow};
 ghost use Rattle.wire.specs.Reading.{Reads, repeat_at};
 
 use crate::fault::DecodeFault;
@@ -149,9 +148,8 @@ pub fn take_shape(
     format: Format,
     bytes: &[u8],
 ) -> Result<(Shape, &[u8]), DecodeFault>
-    ensures read { GivesIfMemory DecodeFault.Memory (λ x. (shape_in x.0, x.1.now)) result
+    ensures { GivesIfMemory DecodeFault.Memory (λ x. (shape_in x.0, x.1.now)) result
         (reading.shape_at format bytes.now) }
-    ensures narrow { IfOk result (λ x. IsNarrow (shape_in x.0)) }
 {
     let (count, rest) = take_u16(bytes)?;
     let (keys, rest) = take_types(alloc, count, rest)?;

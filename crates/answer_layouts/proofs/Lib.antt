@@ -1,7 +1,6 @@
 -- The lemmas of this crate.
 pub mod Types
 pub mod Steps
-pub mod Ranged
 pub mod KeptParts
 pub mod ReadGroups
 pub mod KeptCells

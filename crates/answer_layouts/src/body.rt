@@ -5,9 +5,7 @@ ghost use Rattle.meaning.specs.Wanting.{KeepsIfMemory};
 ghost use Rattle.answer_fields.specs.Fields.{shape_in};
 ghost use Rattle.answer_fields.specs.Keeping.{AreKept, IsKept, are_sums_possible, has_possible_sums, kept_body, kept_group};
 ghost use Rattle.answer_fields.specs.LayoutReading as reading;
-ghost use Rattle.answer_fields.specs.Shape.{IsNarrow};
 ghost use Rattle.answer_layouts.specs.Found.{AreFound, AreFoundIn};
-ghost use Rattle.packed_groups.specs.Packable.{IsPackableGroup};
 ghost use Rattle.wire.specs.Reading.{Reads, repeat_at};
 
 use crate::findings::{Findings, Judged};
@@ -25,11 +23,9 @@ fn take_group<'a>(
     shape: &Shape,
     bytes: &'a [u8],
 ) -> Result<(Group, bool, &'a [u8]), DecodeFault>
-    requires { IsNarrow (shape_in shape.now) }
-    ensures read { KeepsIfMemory DecodeFault.Memory
+    ensures { KeepsIfMemory DecodeFault.Memory
         (λ x. IsKept kept_group has_possible_sums x.0 x.1 x.2.now) result
         (reading.group_at (shape_in shape.now) bytes.now) }
-    ensures packable { IfOk result (λ x. IsPackableGroup x.0) }
 {
     let (key, rest) = take_values(alloc, shape.keys.len(), bytes)?;
     let (rows, rest) = take_u32(rest)?;
@@ -47,7 +43,6 @@ fn take_groups<'a>(
     count: u32,
     bytes: &'a [u8],
 ) -> Result<(PackedGroups, Findings, &'a [u8]), DecodeFault>
-    requires { IsNarrow (shape_in shape.now) }
     ensures read { KeepsIfMemory DecodeFault.Memory
         (λ x. AreKept kept_group has_possible_sums x.0 x.1.are_sums_possible x.2.now) result
         (repeat_at (reading.group_at (shape_in shape.now)) count bytes.now) }
@@ -85,7 +80,6 @@ pub fn take_body<'a>(
     shape: &Shape,
     bytes: &'a [u8],
 ) -> Result<(Body<PackedGroups>, Findings, &'a [u8]), DecodeFault>
-    requires { IsNarrow (shape_in shape.now) }
     ensures read { KeepsIfMemory DecodeFault.Memory
         (λ x. IsKept kept_body are_sums_possible x.0 x.1.are_sums_possible x.2.now) result
         (reading.body_at (shape_in shape.now) bytes.now) }

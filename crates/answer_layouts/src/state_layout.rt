@@ -2,7 +2,6 @@
 ghost use Rattle.std.specs.Prelude.{◌≡◌, IfOk, map};
 ghost use Rattle.answer_fields.specs.Fields.{shape_in};
 ghost use Rattle.answer_fields.specs.Keeping.{IsKept, is_cell_possible, kept_cell};
-ghost use Rattle.answer_fields.specs.Shape.{IsNarrow};
 ghost use Rattle.answer_fields.specs.StateSpelling.{cell_at, state_layout_at};
 ghost use Rattle.answer_layouts.specs.Found.{AreFoundInCell, AreFoundInCells};
 ghost use Rattle.answer_layouts.specs.Layouts.{IsStateLayout, sums_in};
@@ -33,7 +32,6 @@ fn take_cell<'a>(
     shape: &Shape,
     bytes: &'a [u8],
 ) -> Result<(Cell<PackedGroups>, Findings, &'a [u8]), DecodeFault>
-    requires { IsNarrow (shape_in shape.now) }
     ensures read { KeepsIfMemory DecodeFault.Memory
         (λ x. IsKept kept_cell is_cell_possible x.0 x.1.are_sums_possible x.2.now) result
         (cell_at (shape_in shape.now) bytes.now) }
@@ -58,7 +56,6 @@ fn take_cells<'a>(
     count: u32,
     bytes: &'a [u8],
 ) -> Result<(Vec<Cell<PackedGroups>>, Vec<Findings>, &'a [u8]), DecodeFault>
-    requires { IsNarrow (shape_in shape.now) }
     ensures read { KeepsIfMemory DecodeFault.Memory (λ x y. (x.0.items ≡ map kept_cell y.0)
         × (sums_in x.1.items ≡ map is_cell_possible y.0) × (x.2.now ≡ y.1)) result
         (repeat_at (cell_at (shape_in shape.now)) count bytes.now) }

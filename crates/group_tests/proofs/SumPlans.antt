@@ -1,6 +1,6 @@
 -- The tests' plans have types over groups, and their groups fit them.
-use Rattle.std.proofs.Common.{rules, ◌≡◌, ℕ, ◌<◌, pos, true, List, [], ◌∷◌, ◌++◌, map, length, Some, None, refl, sym, ap, subst, ◌∙◌, arith}
-use Rattle.std.specs.Prelude.{All, Option, option_to_list}
+use Rattle.std.proofs.Common.{rules, ◌≡◌, ◌<◌, pos, true, List, [], ◌∷◌, ◌++◌, map, length, Some, None, refl, sym, ap, subst, ◌∙◌, arith}
+use Rattle.std.specs.Prelude.{All, option_to_list}
 use Rattle.std.specs.Cmp.Lexicographic.{pointwise}
 use Rattle.std.specs.List.{AllByRecursion, list_all}
 use Rattle.std.proofs.lemmas.List.Elements.{All-from_recursion, recursion_from_All}
@@ -18,18 +18,16 @@ use Rattle.meaning.specs.declared.plan.Item.{Item}
 use Rattle.meaning.specs.declared.plan.Plan.{Plan}
 use Rattle.meaning.specs.declared.value.ColType.{ColType}
 use Rattle.meaning.specs.declared.value.ColType.TheVariants as of_type
-use Rattle.meaning.specs.declared.value.Value.{Value}
 use Rattle.meaning.specs.declared.value.Value.TheVariants.{Int}
 use Rattle.meaning.specs.Aggregate.{kept_by}
 use Rattle.meaning.specs.Fitting.{is_entry_of, is_extreme, is_group_of, is_key_of, is_state_of}
 use Rattle.meaning.specs.Gather.{same_statistics}
-use Rattle.meaning.specs.Operators.{fits_i64}
 use Rattle.meaning.specs.References.{Reference, GroupKey, GroupAggregate, columns_used_in_all}
 use Rattle.meaning.specs.Typing.{RowTypes, Valued, Boolean, group_types, has_type, is_of_type, result_type}
 use Rattle.meaning.proofs.Same.{statistics_exact}
 use Rattle.meaning.proofs.Tests.{both}
 use Rattle.last_step.specs.Fitting.{AreGroupsOf}
-use Rattle.meaning.specs.SoundPlan.{IsOfGroup, IsTypedOverGroups}
+use Rattle.meaning.specs.SoundPlan.{IsOfGroup}
 use Rattle.group_tests.specs.Shapes.{AreKeys, AreSums, IsHaving, IsSumGroup, IsSumPlan, IsSumState, sum_types}
 
 -- ---- HAVING

@@ -2,12 +2,12 @@
 ghost use Rattle.last_step.specs.Fitting.{AreGroupsOf};
 
 use crate::groups::{BEYOND, groups_of};
-use crate::lanes::NULL;
 use crate::plans::{ALL, Having, Query, plan_of};
 use crate::rows::show_row;
 use aggregate_states::Group;
 use last_step::{Finished, Finishing, finish};
 use meaning::Plan;
+use short_vectors::NULL;
 use std::alloc::{AllocError, Global};
 use std::fmt::Write;
 use std::mem::drop;

@@ -5,9 +5,9 @@ ghost use Rattle.meaning.specs.declared.value.Value.TheVariants.{Int};
 ghost use Rattle.meaning.specs.Operators.{fits_i64};
 ghost use Rattle.group_tests.specs.Shapes.{IsSumGroup, IsSumState};
 
-use crate::lanes::NULL;
 use accumulators::{Group, State};
 use meaning::{Row, Sequence, Statistics, Value};
+use short_vectors::NULL;
 use std::alloc::{AllocError, Global};
 
 /// A sum that 64 bits don't hold.

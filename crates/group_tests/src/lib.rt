@@ -1,10 +1,6 @@
-//! Tests of aggregates, tables of groups and the last step.
+//! Tests of tables of groups and the last step.
 #![tactic(auto)]
 
-#[cfg(test)]
-mod aggregate_tests;
-#[cfg(test)]
-mod column_tests;
 #[cfg(test)]
 mod finish_tests;
 #[cfg(test)]
@@ -19,5 +15,3 @@ mod rows;
 mod table_tests;
 #[cfg(test)]
 mod tables;
-#[cfg(test)]
-mod text_tests;

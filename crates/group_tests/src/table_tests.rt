@@ -5,11 +5,12 @@ ghost use Rattle.group_index.specs.Rows.{AreLanesOf};
 ghost use Rattle.group_by.specs.Shape.{shape_of};
 ghost use Rattle.group_tests.specs.Tables.{HasTaken};
 
-use crate::lanes::{NULL, alike, plain, twice, vector_of, vectors_of};
+use crate::lanes::{alike, vectors_of};
 use crate::tables::{shown, sum_by, table_of, with_rows};
 use accumulators::Group;
 use group_by::GroupTable;
 use meaning::{Plan, Value};
+use short_vectors::{NULL, plain, twice, vector_of};
 use std::alloc::{AllocError, Global};
 use std::mem::drop;
 use std::process::Abort;

@@ -5,12 +5,12 @@ ghost use Rattle.group_index.specs.Rows.{AreLanesOf};
 ghost use Rattle.group_by.specs.Shape.{shape_of};
 ghost use Rattle.group_tests.specs.Tables.{HasTaken};
 
-use crate::lanes::vector_of;
 use crate::plans::{ALL, Lists, int_key, plan_with, sums};
 use crate::rows::show_row;
 use accumulators::Group;
 use group_by::GroupTable;
 use meaning::{GroupingKey, Plan, Sequence, Text};
+use short_vectors::vector_of;
 use std::alloc::{AllocError, Global};
 use std::fmt::Write;
 use vectors::{Selection, Vector};

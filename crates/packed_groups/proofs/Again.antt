@@ -1,22 +1,60 @@
 -- What is packed is read again.
-use Rattle.std.proofs.Common.{◌≡◌, ℕ, zero, suc, ◌^◌, ◌<◌, ℤ, pos, negsuc, true, List, [], ◌∷◌, ◌++◌, length, Ok, refl, ap, ◌∙◌, append_assoc, arith}
-use Rattle.std.specs.Prelude.{FitsSigned}
+use Rattle.std.proofs.Common.{◌≡◌, ℕ, zero, suc, ◌^◌, ◌<◌, ◌≤◌, ltb, ℤ, pos, negsuc, Bool, true, false, cond, List, ◌++◌, length, Option, Some, None, Ok, refl, ap, ◌∙◌, append_assoc, arith}
+use Rattle.std.specs.Prelude.{FitsSigned, nat_le}
 use Rattle.std.specs.Int.{w128}
-use Rattle.std.specs.List.{flat_map, AllByRecursion}
+use Rattle.std.proofs.lemmas.Bool.{ltb-true}
+use Rattle.std.specs.List.{flat_map}
 use Rattle.meaning.specs.declared.value.Value.{Value}
-use Rattle.meaning.specs.declared.answer.Statistics.{Statistics}
+use Rattle.meaning.specs.declared.value.Value.TheVariants.{Null, Int, Text}
 use Rattle.meaning.specs.Fitting.{is_sum_of}
-use Rattle.wire.specs.Bytes.{number_bytes, i128_bytes}
-use Rattle.wire.proofs.Numbers.{number_again}
-use Rattle.wire.proofs.Parts.{IsReadAgain, repeat_again, i128_again}
-use Rattle.answer_fields.specs.LayoutReading.{value_at}
-use Rattle.answer_fields.specs.Spelling.{value_bytes, value_or_null, set_bytes}
-use Rattle.answer_fields.specs.Ranges.{IsValue}
-use Rattle.answer_fields.proofs.ValueLaws.{value_again}
-use Rattle.answer_fields.proofs.Groups.{extreme_value, extreme_back, set_again}
-use Rattle.packed_groups.specs.Packing.{sum_bytes, entries_bytes, state_bytes, group_bytes}
-use Rattle.packed_groups.specs.Reading.{tagged_sum_at, sum_at, tally_at, tagged_entries_at, entries_at, state_at, key_at, states_at, group_at}
-use Rattle.packed_groups.specs.Packable.{IsPackableState, IsPackableGroup}
+use Rattle.aggregate_states.specs.State.{is_extreme, IsSumOf, most_entries}
+use Rattle.wire.specs.Bytes.{number_bytes, i64_bytes, i128_bytes}
+use Rattle.wire.proofs.Numbers.{number_again, bytes_again}
+use Rattle.wire.proofs.Parts.{IsReadAgain, repeat_again, i64_again, i128_again}
+use Rattle.answer_fields.specs.Spelling.{value_or_null}
+use Rattle.answer_fields.specs.LayoutReading.{unless_null}
+use Rattle.packed_groups.specs.Packing.{small_bytes, text_bytes, value_bytes, values_bytes, sum_bytes, state_bytes, states_bytes, group_bytes}
+use Rattle.packed_groups.specs.Reading.{tagged_small_at, small_at, text_at, tagged_value_at, value_at, values_at, tagged_sum_at, sum_at, tally_at, state_at, states_at, group_at}
+use Rattle.packed_groups.specs.Packable.{IsPackableValue, ArePackableValues, IsPackableState, ArePackableStates, IsPackableGroup}
+
+-- ---- numbers and values
+
+small_by : (n : ℕ) (rest : List ℕ) (b : Bool) → ltb n 255 ≡ b → n < 2 ^ 64
+    → small_at (cond b (number_bytes 1 n) (number_bytes 1 255 ++ number_bytes 8 n) ++ rest) ≡ Ok (n, rest)
+unfolding small_at tagged_small_at
+small_by n rest true is fits =
+    let few : n < 256 = omega (arith, ltb-true n 255 is) in
+    rw (number_again 1 n rest few, is) refl
+small_by n rest false is fits =
+    ap small_at (append_assoc (number_bytes 1 255) (number_bytes 8 n) rest)
+    ∙ rw (number_again 1 255 (number_bytes 8 n ++ rest) (omega arith), number_again 8 n rest fits) refl
+
+pub small_again : IsReadAgain small_at small_bytes (λ n. n < 2 ^ 64)
+unfolding small_bytes
+small_again n rest fits = small_by n rest (ltb n 255) refl fits
+
+text_again : (text rest : List ℕ) → IsPackableValue (Text text) → text_at (text_bytes text ++ rest) ≡ Ok (text, rest)
+unfolding text_at text_bytes
+text_again text rest fits =
+    ap text_at (append_assoc (small_bytes (length text)) text rest)
+    ∙ rw (small_again (length text) (text ++ rest) fits.1, bytes_again (length text) text rest refl, fits.0) refl
+
+value_again : IsReadAgain value_at value_bytes IsPackableValue
+unfolding value_at tagged_value_at value_bytes
+value_again Null rest fits = rw (number_again 1 0 rest (omega arith)) refl
+value_again (Int z) rest fits =
+    ap value_at (append_assoc (number_bytes 1 1) (i64_bytes z) rest) ∙ rw (number_again 1 1 (i64_bytes z ++ rest) (omega arith), i64_again z rest fits) refl
+value_again (Text t) rest fits =
+    ap value_at (append_assoc (number_bytes 1 2) (text_bytes t) rest) ∙ rw (number_again 1 2 (text_bytes t ++ rest) (omega arith), text_again t rest fits) refl
+
+values_again : IsReadAgain values_at values_bytes ArePackableValues
+unfolding values_at values_bytes
+values_again values rest fits =
+    let each = flat_map value_bytes values in
+    ap values_at (append_assoc (small_bytes (length values)) each rest)
+    ∙ rw (small_again (length values) (each ++ rest) fits.few) (repeat_again value_at value_bytes IsPackableValue value_again (length values) values rest refl fits.each)
+
+-- ---- states
 
 sum_again : IsReadAgain sum_at sum_bytes (FitsSigned w128)
 unfolding sum_at tagged_sum_at sum_bytes
@@ -28,59 +66,65 @@ sum_again (negsuc n) rest fits =
     ap sum_at (append_assoc (number_bytes 1 1) (i128_bytes (negsuc n)) rest)
     ∙ rw (number_again 1 1 (i128_bytes (negsuc n) ++ rest) (omega arith), i128_again (negsuc n) rest fits) refl
 
-tally_again : (count : ℕ) (sum : ℤ) (rest : List ℕ) → count < 2 ^ 32 → FitsSigned w128 sum → is_sum_of count sum ≡ true
-    → tally_at (number_bytes 4 count ++ (sum_bytes sum ++ rest)) ≡ Ok (record { count = count; sum = sum }, rest)
+possible_sum : (count : ℕ) (sum : ℤ) → IsSumOf count sum → is_sum_of count sum ≡ true
+possible_sum count sum is = grind arith
+
+few_entries : (count : ℕ) → count ≤ most_entries → nat_le count most_entries ≡ true
+few_entries count few = grind arith
+
+tally_again : (count : ℕ) (sum : ℤ) (rest : List ℕ) → count ≤ most_entries → FitsSigned w128 sum → IsSumOf count sum
+    → tally_at (small_bytes count ++ (sum_bytes sum ++ rest)) ≡ Ok (record { count = count; sum = sum }, rest)
 unfolding tally_at
-tally_again count sum rest few fits possible = rw (number_again 4 count (sum_bytes sum ++ rest) few, sum_again sum rest fits, possible) refl
+tally_again count sum rest few fits possible =
+    let narrow : count < 2 ^ 64 = omega (arith, few) in
+    rw (small_again count (sum_bytes sum ++ rest) narrow, sum_again sum rest fits, few_entries count few, possible_sum count sum possible) refl
 
-entries_again : (entries : List Value) (rest : List ℕ) → length entries < 2 ^ 32 → AllByRecursion IsValue entries → entries_at (entries_bytes entries ++ rest) ≡ Ok (entries, rest)
-unfolding entries_at tagged_entries_at entries_bytes
-entries_again [] rest few fits = rw (number_again 1 0 rest (omega arith)) refl
-entries_again (v ∷ entries) rest few fits =
-    ap entries_at (append_assoc (number_bytes 1 1) (set_bytes (v ∷ entries)) rest)
-    ∙ rw (number_again 1 1 (set_bytes (v ∷ entries) ++ rest) (omega arith), set_again (v ∷ entries) rest few fits) refl
+-- no least or greatest value is NULL
+extreme_back : (o : Option Value) → is_extreme o ≡ true → unless_null (value_or_null o) ≡ o
+extreme_back None is = refl
+extreme_back (Some Null) is = absurd cc
+extreme_back (Some (Int z)) is = refl
+extreme_back (Some (Text t)) is = refl
 
--- five parts in front of the rest
+-- three parts and five parts in front of the rest
+three : (a b c rest : List ℕ) → (a ++ b ++ c) ++ rest ≡ a ++ (b ++ (c ++ rest))
+three a b c rest = append_assoc (a ++ b) c rest ∙ append_assoc a b (c ++ rest)
+
 five : (a b c d e rest : List ℕ) → (a ++ b ++ c ++ d ++ e) ++ rest ≡ a ++ (b ++ (c ++ (d ++ (e ++ rest))))
 five a b c d e rest =
     append_assoc (a ++ b ++ c ++ d) e rest ∙ append_assoc (a ++ b ++ c) d (e ++ rest) ∙ append_assoc (a ++ b) c (d ++ (e ++ rest))
     ∙ append_assoc a b (c ++ (d ++ (e ++ rest)))
 
-pub state_again : IsReadAgain state_at state_bytes IsPackableState
+state_again : IsReadAgain state_at state_bytes IsPackableState
 unfolding state_at state_bytes
 state_again s rest fits =
     let least = value_or_null s.least in
     let greatest = value_or_null s.greatest in
-    let behind_greatest = entries_bytes s.entries ++ rest in
+    let behind_greatest = values_bytes s.entries ++ rest in
     let behind_least = value_bytes greatest ++ behind_greatest in
     let behind_sum = value_bytes least ++ behind_least in
-    ap state_at (five (number_bytes 4 s.count) (sum_bytes s.sum) (value_bytes least) (value_bytes greatest) (entries_bytes s.entries) rest)
+    ap state_at (five (small_bytes s.count) (sum_bytes s.sum) (value_bytes least) (value_bytes greatest) (values_bytes s.entries) rest)
     ∙ rw (
-      tally_again s.count s.sum behind_sum fits.count fits.sum fits.possible,
-      value_again least behind_least (extreme_value s.least fits.least),
-      value_again greatest behind_greatest (extreme_value s.greatest fits.greatest),
-      entries_again s.entries rest fits.few fits.entries,
-      extreme_back s.least fits.least,
-      extreme_back s.greatest fits.greatest,
+      tally_again s.count s.sum behind_sum fits.state.count fits.sum fits.state.sum,
+      value_again least behind_least fits.least,
+      value_again greatest behind_greatest fits.greatest,
+      values_again s.entries rest fits.entries,
+      extreme_back s.least fits.state.least,
+      extreme_back s.greatest fits.state.greatest,
     ) refl
 
-key_again : (key : List Value) (rest : List ℕ) → length key < 2 ^ 16 → AllByRecursion IsValue key → key_at (number_bytes 2 (length key) ++ (flat_map value_bytes key ++ rest)) ≡ Ok (key, rest)
-unfolding key_at
-key_again key rest few fits =
-    rw (number_again 2 (length key) (flat_map value_bytes key ++ rest) few) (repeat_again value_at value_bytes IsValue value_again (length key) key rest refl fits)
+-- ---- groups
 
-states_again : (states : List Statistics) (rest : List ℕ) → length states < 2 ^ 16 → AllByRecursion IsPackableState states → states_at (number_bytes 2 (length states) ++ (flat_map state_bytes states ++ rest)) ≡ Ok (states, rest)
-unfolding states_at
-states_again states rest few fits =
-    rw (number_again 2 (length states) (flat_map state_bytes states ++ rest) few) (repeat_again state_at state_bytes IsPackableState state_again (length states) states rest refl fits)
+states_again : IsReadAgain states_at states_bytes ArePackableStates
+unfolding states_at states_bytes
+states_again states rest fits =
+    let each = flat_map state_bytes states in
+    ap states_at (append_assoc (small_bytes (length states)) each rest)
+    ∙ rw (small_again (length states) (each ++ rest) fits.few) (repeat_again state_at state_bytes IsPackableState state_again (length states) states rest refl fits.each)
 
 pub group_again : IsReadAgain group_at group_bytes IsPackableGroup
 unfolding group_at group_bytes
 group_again g rest fits =
-    let key = flat_map value_bytes g.key in
-    let rows = number_bytes 4 g.rows in
-    let width = number_bytes 2 (length g.states) in
-    let states = flat_map state_bytes g.states in
-    let behind_rows = width ++ (states ++ rest) in
-    ap group_at (five (number_bytes 2 (length g.key)) key rows width states rest)
-    ∙ rw (key_again g.key (rows ++ behind_rows) fits.keys fits.key, number_again 4 g.rows behind_rows fits.rows, states_again g.states rest fits.width fits.states) refl
+    let states = states_bytes g.states ++ rest in
+    ap group_at (three (values_bytes g.key) (small_bytes g.rows) (states_bytes g.states) rest)
+    ∙ rw (values_again g.key (small_bytes g.rows ++ states) fits.key, small_again g.rows states fits.rows, states_again g.states rest fits.states) refl

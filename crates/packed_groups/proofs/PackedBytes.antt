@@ -1,5 +1,5 @@
 -- Groups in the bytes that they are packed into.
-use Rattle.std.proofs.Common.{◌≡◌, ℕ, zero, suc, ◌+◌, ◌-◌, ◌≤◌, List, [], ◌∷◌, ◌++◌, length, min, take, drop, Ok, refl, ap, sym, ◌∙◌, append-nil, arith}
+use Rattle.std.proofs.Common.{◌≡◌, ℕ, zero, suc, ◌+◌, ◌-◌, ◌≤◌, ◌<◌, true, false, cond, ltb, List, [], ◌∷◌, ◌++◌, length, get_or, min, take, drop, Ok, refl, ap, sym, ◌∙◌, append-nil, arith}
 use Rattle.std.specs.List.{flat_map, AllByRecursion}
 use Rattle.std.proofs.lemmas.List.{length-append, length-take, length-drop, take-append-drop}
 use Rattle.std.proofs.lemmas.List.Concat.{flat_map-append}
@@ -9,16 +9,25 @@ use Rattle.wire.specs.Bytes.{number_bytes}
 use Rattle.wire.specs.Reading.{repeat_at}
 use Rattle.wire.proofs.Numbers.{ok_is}
 use Rattle.wire.proofs.Parts.{repeat_again}
-use Rattle.packed_groups.specs.Packing.{group_bytes, state_bytes}
-use Rattle.answer_fields.specs.Spelling.{value_bytes}
+use Rattle.packed_groups.specs.Packing.{group_bytes, small_bytes, states_bytes, values_bytes}
 use Rattle.packed_groups.specs.Reading.{group_at, packed_in}
 use Rattle.packed_groups.specs.Packable.{IsPackableGroup, IsPacked}
 use Rattle.packed_groups.proofs.Again.{group_again}
 
 module _ {X : Type 0} (P : X → Type 0) where
+  all_both : (xs ys : List X) → AllByRecursion P xs → AllByRecursion P ys → AllByRecursion P (xs ++ ys)
+  all_both [] ys all behind = behind
+  all_both (x ∷ xs) ys all behind = (all.0, all_both xs ys all.1 behind)
+
   one_more : (xs : List X) (x : X) → AllByRecursion P xs → P x → AllByRecursion P (xs ++ x ∷ [])
   one_more [] x all here = (here, tt)
   one_more (y ∷ xs) x all here = (all.0, one_more xs x all.1 here)
+
+  -- the next behind the first of them
+  pub all_next : (xs : List X) (i : ℕ) (d : X) → i < length xs → AllByRecursion P (take i xs) → P (get_or xs i d) → AllByRecursion P (take (suc i) xs)
+  all_next [] i d lt all here = tt
+  all_next (x ∷ xs) zero d lt all here = (here, tt)
+  all_next (x ∷ xs) (suc i) d lt all here = (all.0, all_next xs i d (omega (arith, lt)) all.1 here)
 
   pub all_in_front : (n : ℕ) (xs : List X) → AllByRecursion P xs → AllByRecursion P (take n xs)
   all_in_front zero xs all = tt
@@ -75,16 +84,21 @@ number_long : (n x : ℕ) → length (number_bytes n x) ≡ n
 unfolding number_bytes
 number_long n x = length-bytes_low_first 0 n x
 
+small_long : (n : ℕ) → 1 ≤ length (small_bytes n)
+unfolding small_bytes
+small_long n =
+    elim (ltb n 255) as (λ b. 1 ≤ length (cond b (number_bytes 1 n) (number_bytes 1 255 ++ number_bytes 8 n))) [
+      | true ↦ omega (arith, number_long 1 n)
+      | false ↦ omega (arith, number_long 1 255, length-append (number_bytes 1 255) (number_bytes 8 n))
+    ]
+
 -- each group takes a byte at least
 group_long : (g : Group) → 1 ≤ length (group_bytes g)
 unfolding group_bytes
 group_long g =
-    let keys = number_bytes 2 (length g.key) in
-    let key = flat_map value_bytes g.key in
-    let rows = number_bytes 4 g.rows in
-    let width = number_bytes 2 (length g.states) in
-    let states = flat_map state_bytes g.states in
-    omega (arith, number_long 2 (length g.key), length-append keys key, length-append (keys ++ key) rows, length-append (keys ++ key ++ rows) width, length-append (keys ++ key ++ rows ++ width) states)
+    let key = values_bytes g.key in
+    let rows = small_bytes g.rows in
+    omega (arith, small_long g.rows, length-append key rows, length-append (key ++ rows) (states_bytes g.states))
 
 bytes_long : (gs : List Group) → length gs ≤ length (flat_map group_bytes gs)
 bytes_long [] = omega arith
@@ -97,6 +111,27 @@ pub room_to_count : (many : ℕ) (bytes new : List ℕ) (g : Group) → new ≡ 
 room_to_count many bytes new g is p =
     let long = ap length is ∙ length-append bytes (group_bytes g) in
     omega (arith, long, group_long g, p.count, bytes_long p.groups, ap length p.packed)
+
+-- ---- more behind them
+
+pub packed_behind : (many : ℕ) (bytes new : List ℕ) (gs : List Group) → new ≡ bytes ++ flat_map group_bytes gs → AllByRecursion IsPackableGroup gs → IsPacked many bytes → IsPacked (many + length gs) new
+packed_behind many bytes new gs is fits p = record {
+  groups = p.groups ++ gs;
+  packable = all_both IsPackableGroup p.groups gs p.packable fits;
+  count = omega (arith, p.count, length-append p.groups gs);
+  packed = is ∙ ap (λ (bs : List ℕ). bs ++ flat_map group_bytes gs) p.packed ∙ sym (flat_map-append group_bytes p.groups gs);
+}
+
+pub groups_behind : (many : ℕ) (bytes new : List ℕ) (gs : List Group) → new ≡ bytes ++ flat_map group_bytes gs → AllByRecursion IsPackableGroup gs → IsPacked many bytes → packed_in (many + length gs) new ≡ packed_in many bytes ++ gs
+unfolding packed_behind
+groups_behind many bytes new gs is fits p =
+    groups_back (many + length gs) new (packed_behind many bytes new gs is fits p) ∙ ap (λ (before : List Group). before ++ gs) (sym (groups_back many bytes p))
+
+-- there is room to count all
+pub room_for : (many : ℕ) (bytes new : List ℕ) (gs : List Group) → new ≡ bytes ++ flat_map group_bytes gs → IsPacked many bytes → many + length gs ≤ length new
+room_for many bytes new gs is p =
+    let long = ap length is ∙ length-append bytes (flat_map group_bytes gs) in
+    omega (arith, long, bytes_long gs, p.count, bytes_long p.groups, ap length p.packed)
 
 -- ---- equal groups
 

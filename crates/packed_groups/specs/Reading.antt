@@ -1,14 +1,59 @@
 -- How packed groups are read from front to back.
-use Rattle.std.specs.Prelude.{ℕ, ℤ, pos, ◌==◌, if◌then◌else◌, List, [], Result, Ok, Err}
+use Rattle.std.specs.Prelude.{ℕ, ℤ, pos, nat_le, nat_lt, ◌==◌, ◌&&◌, if◌then◌else◌, List, [], Result, Ok, Err}
+use Rattle.std.specs.Str.{is_utf8}
 use Rattle.meaning.specs.declared.value.Value.{Value}
+use Rattle.meaning.specs.declared.value.Value.TheVariants.{Null, Int, Text}
 use Rattle.meaning.specs.declared.answer.Statistics.{Statistics}
 use Rattle.meaning.specs.declared.answer.Group.{Group}
 use Rattle.meaning.specs.Fitting.{is_sum_of}
-use Rattle.wire.specs.Reading.{◌>>=◌, Read, number_at, i128_at, repeat_at}
+use Rattle.aggregate_states.specs.State.{most_entries}
+use Rattle.wire.specs.Reading.{◌>>=◌, Read, bytes_at, number_at, i64_at, i128_at, repeat_at}
 use Rattle.answer_fields.specs.declared.fault.DecodeFault.{DecodeFault}
 use Rattle.answer_fields.specs.declared.fault.DecodeFault.TheVariants as fault
 use Rattle.answer_fields.specs.Fault.{from_wire}
-use Rattle.answer_fields.specs.LayoutReading.{value_at, set_at, unless_null}
+use Rattle.answer_fields.specs.LayoutReading.{unless_null}
+
+-- ---- numbers and values
+
+-- eight bytes behind a 255, and the byte itself else
+unfoldable pub tagged_small_at : ℕ → List ℕ → Read DecodeFault ℕ
+tagged_small_at tag bytes = if nat_lt tag 255 then Ok (tag, bytes) else from_wire (number_at 8 bytes)
+
+unfoldable pub small_at : List ℕ → Read DecodeFault ℕ
+small_at bytes = do
+  tag ← from_wire (number_at 1 bytes)
+  tagged_small_at tag.0 tag.1
+
+abbrev pub utf8_of : List ℕ → Result (List ℕ) DecodeFault
+utf8_of bytes = if is_utf8 bytes then Ok bytes else Err fault.Shape
+
+unfoldable pub text_at : List ℕ → Read DecodeFault (List ℕ)
+text_at bytes = do
+  n ← small_at bytes
+  taken ← from_wire (bytes_at n.0 n.1)
+  text ← utf8_of taken.0
+  Ok (text, taken.1)
+
+-- NULL behind a 0, an integer behind a 1, a text behind a 2
+unfoldable pub tagged_value_at : ℕ → List ℕ → Read DecodeFault Value
+tagged_value_at tag bytes =
+    if tag == 0 then Ok (Null, bytes)
+    else if tag == 1 then (from_wire (i64_at bytes) >>= λ z. Ok (Int z.0, z.1))
+    else if tag == 2 then (text_at bytes >>= λ t. Ok (Text t.0, t.1))
+    else Err fault.Shape
+
+unfoldable pub value_at : List ℕ → Read DecodeFault Value
+value_at bytes = do
+  tag ← from_wire (number_at 1 bytes)
+  tagged_value_at tag.0 tag.1
+
+-- values behind their number
+unfoldable pub values_at : List ℕ → Read DecodeFault (List Value)
+values_at bytes = do
+  count ← small_at bytes
+  repeat_at value_at count.0 count.1
+
+-- ---- states
 
 unfoldable pub tagged_sum_at : ℕ → List ℕ → Read DecodeFault ℤ
 tagged_sum_at tag bytes = if tag == 0 then Ok (pos 0, bytes) else from_wire (i128_at bytes)
@@ -18,35 +63,28 @@ sum_at bytes = do
   tag ← from_wire (number_at 1 bytes)
   tagged_sum_at tag.0 tag.1
 
--- how many entries there are and their sum, which so many integers can have
+-- how many entries there are and their sum
 pub record Tally : Type 0 where
   pub count : ℕ
   pub sum : ℤ
 
+-- no more entries than a state knows of, and a sum that so many integers can have
 abbrev pub possible_tally : Tally → Result Tally DecodeFault
-possible_tally t = if is_sum_of t.count t.sum then Ok t else Err fault.Numbers
+possible_tally t = if nat_le t.count most_entries && is_sum_of t.count t.sum then Ok t else Err fault.Numbers
 
 unfoldable pub tally_at : List ℕ → Read DecodeFault Tally
 tally_at bytes = do
-  count ← from_wire (number_at 4 bytes)
+  count ← small_at bytes
   sum ← sum_at count.1
   tally ← possible_tally (record { count = count.0; sum = sum.0 })
   Ok (tally, sum.1)
-
-unfoldable pub tagged_entries_at : ℕ → List ℕ → Read DecodeFault (List Value)
-tagged_entries_at tag bytes = if tag == 0 then Ok ([], bytes) else set_at bytes
-
-unfoldable pub entries_at : List ℕ → Read DecodeFault (List Value)
-entries_at bytes = do
-  tag ← from_wire (number_at 1 bytes)
-  tagged_entries_at tag.0 tag.1
 
 unfoldable pub state_at : List ℕ → Read DecodeFault Statistics
 state_at bytes = do
   tally ← tally_at bytes
   least ← value_at tally.1
   greatest ← value_at least.1
-  entries ← entries_at greatest.1
+  entries ← values_at greatest.1
   Ok (
     record {
       count = tally.0.count;
@@ -58,21 +96,18 @@ state_at bytes = do
     entries.1,
   )
 
--- values behind their number, and states behind theirs
-unfoldable pub key_at : List ℕ → Read DecodeFault (List Value)
-key_at bytes = do
-  width ← from_wire (number_at 2 bytes)
-  repeat_at value_at width.0 width.1
+-- ---- groups
 
+-- states behind their number
 unfoldable pub states_at : List ℕ → Read DecodeFault (List Statistics)
 states_at bytes = do
-  width ← from_wire (number_at 2 bytes)
+  width ← small_at bytes
   repeat_at state_at width.0 width.1
 
 unfoldable pub group_at : List ℕ → Read DecodeFault Group
 group_at bytes = do
-  key ← key_at bytes
-  rows ← from_wire (number_at 4 key.1)
+  key ← values_at bytes
+  rows ← small_at key.1
   states ← states_at rows.1
   Ok (record { key = key.0; rows = rows.0; states = states.0 }, states.1)
 

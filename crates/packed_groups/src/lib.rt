@@ -5,6 +5,8 @@
 
 mod group;
 mod packed;
+mod small;
 mod state;
+mod value;
 
 pub use packed::{PackedGroups, Unpacking};

@@ -1,8 +1,6 @@
 //! Groups in the bytes that they are packed into.
 ghost use Rattle.std.specs.Prelude.{◌≡◌, [], ◌∷◌, ◌++◌, length, take, drop, IfOk, OnErr, OnOk};
 ghost use Rattle.std.specs.Bool.{Decides};
-ghost use Rattle.std.specs.List.{AllByRecursion};
-ghost use Rattle.packed_groups.specs.Packable.{IsPackableGroup};
 
 use crate::group::{put_group, put_groups, take_groups};
 use aggregate_states::Group;
@@ -42,7 +40,6 @@ impl PackedGroups {
 
     /// Packs groups, into no more memory than their bytes take.
     pub fn pack(alloc: Global, groups: &[Group]) -> Result<PackedGroups, AllocError>
-        requires { AllByRecursion IsPackableGroup groups.now }
         ensures { IfOk result (λ packed. packed ≡ groups.now) }
     {
         let mut bytes = Vec::new(alloc);
@@ -54,13 +51,24 @@ impl PackedGroups {
 
     /// These groups and one more behind them.
     pub fn with(self, group: &Group) -> Result<PackedGroups, AllocError>
-        requires { IsPackableGroup group.now }
         ensures { IfOk result (λ packed. packed ≡ self ++ group.now ∷ []) }
     {
         let PackedGroups { many, mut bytes } = self;
         put_group(&mut bytes, group)?;
         Ok(PackedGroups {
             many: many + 1,
+            bytes,
+        })
+    }
+
+    /// These groups and more behind them.
+    pub fn with_all(self, groups: &[Group]) -> Result<PackedGroups, AllocError>
+        ensures { IfOk result (λ packed. packed ≡ self ++ groups.now) }
+    {
+        let PackedGroups { many, mut bytes } = self;
+        put_groups(&mut bytes, groups)?;
+        Ok(PackedGroups {
+            many: many + groups.len(),
             bytes,
         })
     }

@@ -1,25 +1,24 @@
 //! States as they are packed: put behind other bytes, and taken from the front.
-ghost use Rattle.std.specs.Prelude.{◌≡◌, ◌≤◌, ◌++◌, ◌<◌, ◌^◌, length, true, OnOk, IfOk};
-ghost use Rattle.std.specs.List.{flat_map, AllByRecursion, list_all};
-ghost use Rattle.aggregate_states.specs.State.{is_extreme, most_entries};
+ghost use Rattle.std.specs.Prelude.{◌≡◌, ◌≤◌, ◌++◌, true, OnOk, IfOk, FitsSigned};
+ghost use Rattle.std.specs.Int.{w128};
+ghost use Rattle.std.specs.List.{list_all};
+ghost use Rattle.aggregate_states.specs.State.{is_extreme, most_entries, IsState};
 ghost use Rattle.aggregate_states.specs.Values.{is_spelled};
-ghost use Rattle.answer_fields.specs.Ranges.{IsValue};
-ghost use Rattle.answer_fields.specs.Spelling.{value_bytes, value_or_null};
+ghost use Rattle.answer_fields.specs.Spelling.{value_or_null};
 ghost use Rattle.meaning.specs.Fitting as fitting;
 ghost use Rattle.meaning.specs.Wanting.{GivesIfMemory};
-ghost use Rattle.packed_groups.specs.Packable.{IsPackableState};
-ghost use Rattle.packed_groups.specs.Packing.{entries_bytes, state_bytes, sum_bytes};
+ghost use Rattle.packed_groups.specs.Packable.{IsPackableState, IsPackableValue};
+ghost use Rattle.packed_groups.specs.Packing.{small_bytes, state_bytes, sum_bytes, value_bytes};
 ghost use Rattle.packed_groups.specs.Reading as reading;
-ghost use Rattle.wire.specs.Bytes.{number_bytes};
 ghost use Rattle.wire.specs.Reading.{Reads};
 
+use crate::small::{put_small, take_small};
+use crate::value::{put_value, put_values, take_value, take_values};
 use aggregate_states::State;
-use answer_fields::{
-    DecodeFault, is_sum_of, put_set, put_value, take_set, take_value, unless_null,
-};
+use answer_fields::{DecodeFault, is_sum_of, unless_null};
 use meaning::{Sequence, Statistics, Value};
 use std::alloc::{AllocError, Global};
-use wire::{append_i128, append_u8, append_u32, take_i128, take_u8, take_u32};
+use wire::{append_i128, append_u8, take_i128, take_u8};
 
 // ---- packing
 
@@ -34,37 +33,25 @@ fn put_sum(out: &mut Vec<u8>, sum: i128) -> Result<(), AllocError>
     append_i128(out, sum)
 }
 
-#[tactic(auto, unfolding(crate::specs::Packing::entries_bytes))]
-fn put_entries(out: &mut Vec<u8>, entries: &[Value]) -> Result<(), AllocError>
-    requires few { length entries.now < 2 ^ 32 }
-    requires values { AllByRecursion IsValue entries.now }
-    ensures { OnOk result (out.new.items ≡ out.old.items ++ entries_bytes entries.now) }
-{
-    match entries {
-        [] => append_u8(out, 0),
-        _ => {
-            append_u8(out, 1)?;
-            put_set(out, entries)
-        }
-    }
-}
-
 /// How many entries a state has, and their sum.
 fn put_tally(out: &mut Vec<u8>, state: &State) -> Result<(), AllocError>
-    requires { IsPackableState state.now }
-    ensures { OnOk result (out.new.items ≡ out.old.items
-        ++ (number_bytes 4 state.now.count ++ sum_bytes state.now.sum)) }
+    ensures packed { OnOk result (out.new.items ≡ out.old.items
+        ++ (small_bytes state.now.count ++ sum_bytes state.now.sum)) }
+    ensures possible { IsState state.now }
+    ensures sum { FitsSigned w128 state.now.sum }
 {
-    append_u32(out, state.count() as u32)?;
-    put_sum(out, state.sum())
+    let sum = state.sum();
+    put_small(out, state.count())?;
+    put_sum(out, sum)
 }
 
 /// The least and the greatest value, and NULL where there is none.
 fn put_extremes(out: &mut Vec<u8>, state: &State) -> Result<(), AllocError>
-    requires { IsPackableState state.now }
-    ensures { OnOk result (out.new.items ≡ out.old.items
+    ensures packed { OnOk result (out.new.items ≡ out.old.items
         ++ (value_bytes (value_or_null state.now.least)
         ++ value_bytes (value_or_null state.now.greatest))) }
+    ensures least { OnOk result (IsPackableValue (value_or_null state.now.least)) }
+    ensures greatest { OnOk result (IsPackableValue (value_or_null state.now.greatest)) }
 {
     put_value(out, state.least())?;
     put_value(out, state.greatest())
@@ -72,12 +59,12 @@ fn put_extremes(out: &mut Vec<u8>, state: &State) -> Result<(), AllocError>
 
 #[tactic(auto, unfolding(crate::specs::Packing::state_bytes))]
 pub fn put_state(out: &mut Vec<u8>, state: &State) -> Result<(), AllocError>
-    requires { IsPackableState state.now }
-    ensures { OnOk result (out.new.items ≡ out.old.items ++ state_bytes state.now) }
+    ensures packed { OnOk result (out.new.items ≡ out.old.items ++ state_bytes state.now) }
+    ensures packable { OnOk result (IsPackableState state.now) }
 {
     put_tally(out, state)?;
     put_extremes(out, state)?;
-    put_entries(out, state.entries())
+    put_values(out, state.entries())
 }
 
 // ---- taking
@@ -93,6 +80,9 @@ fn take_sum(bytes: &[u8]) -> Result<(i128, &[u8]), DecodeFault>
     Ok(take_i128(rest)?)
 }
 
+/// How many entries a state knows of at most.
+const MOST_ENTRIES: u64 = 1 << 32;
+
 /// How many entries there are and their sum.
 #[derive(Clone, Copy)]
 struct Tally {
@@ -107,26 +97,12 @@ fn take_tally(bytes: &[u8]) -> Result<(Tally, &[u8]), DecodeFault>
     ensures possible { IfOk result (λ x. (x.0.count ≤ most_entries)
         × (fitting.is_sum_of x.0.count x.0.sum ≡ true)) }
 {
-    let (count, rest) = take_u32(bytes)?;
+    let (count, rest) = take_small(bytes)?;
     let (sum, rest) = take_sum(rest)?;
-    let count = u64::from(count);
-    if !is_sum_of(count, sum) {
+    if count > MOST_ENTRIES || !is_sum_of(count, sum) {
         return Err(DecodeFault::Numbers);
     }
     Ok((Tally { count, sum }, rest))
-}
-
-#[tactic(auto, unfolding(crate::specs::Reading::entries_at, crate::specs::Reading::tagged_entries_at))]
-fn take_entries(alloc: Global, bytes: &[u8]) -> Result<(Sequence<Value>, &[u8]), DecodeFault>
-    ensures read { GivesIfMemory DecodeFault.Memory (λ x. (x.0, x.1.now)) result
-        (reading.entries_at bytes.now) }
-    ensures spelled { IfOk result (λ x. list_all is_spelled x.0 ≡ true) }
-{
-    let (tag, rest) = take_u8(bytes)?;
-    if tag == 0 {
-        return Ok((Sequence::new(alloc), rest));
-    }
-    take_set(alloc, rest)
 }
 
 /// The state of what was taken.
@@ -166,7 +142,7 @@ pub fn take_state(alloc: Global, bytes: &[u8]) -> Result<(State, &[u8]), DecodeF
     let (tally, rest) = take_tally(bytes)?;
     let (least, rest) = take_value(alloc, rest)?;
     let (greatest, rest) = take_value(alloc, rest)?;
-    let (entries, rest) = take_entries(alloc, rest)?;
+    let (entries, rest) = take_values(alloc, Vec::new(alloc), rest)?;
     let state = state_of(tally, unless_null(least), unless_null(greatest), entries);
     Ok((state, rest))
 }

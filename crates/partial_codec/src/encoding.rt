@@ -1,5 +1,5 @@
 //! Answers as bytes, and the parts that states have too.
-ghost use Rattle.std.specs.Prelude.{◌≡◌, ◌<◌, ◌^◌, ◌++◌, length, map, IfOk, OnOk};
+ghost use Rattle.std.specs.Prelude.{◌≡◌, ◌<◌, ◌^◌, ◌++◌, drop, length, map, take, IfOk, OnOk};
 ghost use Rattle.std.specs.List.{flat_map, AllByRecursion};
 ghost use Rattle.aggregate_states.specs.Values.{entry, or_null};
 ghost use Rattle.meaning.specs.declared.answer.Body.TheVariants.{Groups};
@@ -13,15 +13,20 @@ ghost use Rattle.partial_codec.specs.Spelling as spec;
 ghost use Rattle.wire.specs.Bytes.{i128_bytes, number_bytes};
 
 use crate::job::Job;
-use aggregate_states::{Group, Groups, State};
+use aggregate_states::{Group, State};
 use answer_fields::{
     Content, Format, argument_code, kind_code, put_set, put_value, put_values, shape_of_aggregate,
 };
 use meaning::{
     Aggregate, AggregateKind, Answer, Body, GroupingKey, Plan, RowFault, ValueRef, type_code,
 };
+use packed_groups::{PackedGroups, Unpacking};
 use std::alloc::{AllocError, Global};
+use std::mem::drop;
 use wire::{append_i128, append_seal, append_text, append_u8, append_u16, append_u32, append_u64};
+
+/// How many groups are unpacked at a time: some hundred thousand bytes of them.
+const BATCH: usize = 256;
 
 /// The load, the query and the cut.
 #[tactic(auto, unfolding(answer_fields::specs::Spelling::job_bytes))]
@@ -147,7 +152,7 @@ fn put_group(out: &mut Vec<u8>, plan: &Plan, group: &Group) -> Result<(), AllocE
     put_states(out, plan.aggs.as_slice(), group.states())
 }
 
-pub fn put_all_groups(out: &mut Vec<u8>, plan: &Plan, groups: &[Group]) -> Result<(), AllocError>
+fn put_all_groups(out: &mut Vec<u8>, plan: &Plan, groups: &[Group]) -> Result<(), AllocError>
     requires { AllByRecursion (IsGroup (shapes.shape_of plan.now)) groups.now }
     ensures { OnOk result (out.new.items ≡ out.old.items
         ++ flat_map (spec.group_bytes (shapes.shape_of plan.now)) groups.now) }
@@ -159,7 +164,7 @@ pub fn put_all_groups(out: &mut Vec<u8>, plan: &Plan, groups: &[Group]) -> Resul
 }
 
 /// A fault behind a 0.
-pub fn put_fault(out: &mut Vec<u8>, fault: RowFault) -> Result<(), AllocError>
+fn put_fault(out: &mut Vec<u8>, fault: RowFault) -> Result<(), AllocError>
     ensures { OnOk result (out.new.items ≡ out.old.items
         ++ (number_bytes 1 0 ++ number_bytes 8 fault.row ++ number_bytes 1 fault.code)) }
 {
@@ -168,9 +173,58 @@ pub fn put_fault(out: &mut Vec<u8>, fault: RowFault) -> Result<(), AllocError>
     append_u8(out, fault.code)
 }
 
+/// The next groups of those that are left, in the buffers of some that are given up, and then given
+/// up too.
+fn put_batch(
+    alloc: Global,
+    out: &mut Vec<u8>,
+    plan: &Plan,
+    left: &mut Unpacking<'_>,
+    spare: Vec<Group>,
+) -> Result<Vec<Group>, AllocError>
+    requires { AllByRecursion (IsGroup (shapes.shape_of plan.now)) left.old }
+    ensures put { OnOk result (out.new.items ≡ out.old.items
+        ++ flat_map (spec.group_bytes (shapes.shape_of plan.now)) (take 256 left.old)) }
+    ensures left { OnOk result (left.new ≡ drop 256 left.old) }
+{
+    let groups = left.take(alloc, BATCH, spare)?;
+    match put_all_groups(out, plan, groups.as_slice()) {
+        Ok(()) => Ok(groups),
+        Err(fault) => {
+            drop(groups);
+            Err(fault)
+        }
+    }
+}
+
+/// Packed groups, unpacked a few at a time.
+fn put_packed_groups(
+    alloc: Global,
+    out: &mut Vec<u8>,
+    plan: &Plan,
+    groups: &PackedGroups,
+) -> Result<(), AllocError>
+    requires { AllByRecursion (IsGroup (shapes.shape_of plan.now)) groups.now }
+    ensures { OnOk result (out.new.items ≡ out.old.items
+        ++ flat_map (spec.group_bytes (shapes.shape_of plan.now)) groups.now) }
+{
+    let mut left = groups.batches();
+    let mut spare = Vec::new(alloc);
+    while left.len() > 0 {
+        spare = put_batch(alloc, out, plan, &mut left, spare)?;
+    }
+    drop(spare);
+    Ok(())
+}
+
 /// Groups, or a fault.
 #[tactic(auto, unfolding(answer_fields::specs::Spelling::body_bytes))]
-fn put_body(out: &mut Vec<u8>, plan: &Plan, body: &Body<Groups>) -> Result<(), AllocError>
+pub fn put_body(
+    alloc: Global,
+    out: &mut Vec<u8>,
+    plan: &Plan,
+    body: &Body<PackedGroups>,
+) -> Result<(), AllocError>
     requires { IsBody (shapes.shape_of plan.now) body.now }
     ensures { OnOk result (out.new.items ≡ out.old.items
         ++ spec.body_bytes (shapes.shape_of plan.now) body.now) }
@@ -179,7 +233,7 @@ fn put_body(out: &mut Vec<u8>, plan: &Plan, body: &Body<Groups>) -> Result<(), A
         Body::Groups(groups) => {
             append_u8(out, 1)?;
             append_u32(out, groups.len() as u32)?;
-            put_all_groups(out, plan, groups.as_slice())
+            put_packed_groups(alloc, out, plan, groups)
         }
         Body::Fault(fault) => put_fault(out, *fault),
     }
@@ -187,7 +241,12 @@ fn put_body(out: &mut Vec<u8>, plan: &Plan, body: &Body<Groups>) -> Result<(), A
 
 /// All of an answer but its seal.
 #[tactic(auto, unfolding(answer_fields::specs::Spelling::layout_bytes))]
-fn put_layout(out: &mut Vec<u8>, job: &Job, answer: &Answer<Groups>) -> Result<(), AllocError>
+fn put_layout(
+    alloc: Global,
+    out: &mut Vec<u8>,
+    job: &Job,
+    answer: &Answer<PackedGroups>,
+) -> Result<(), AllocError>
     requires { IsBody (shapes.shape_of job.now.plan) answer.now.body }
     ensures { OnOk result (out.new.items ≡ out.old.items
         ++ spec.layout_bytes (spec.layout_of newest job.now answer.now)) }
@@ -198,11 +257,15 @@ fn put_layout(out: &mut Vec<u8>, job: &Job, answer: &Answer<Groups>) -> Result<(
     put_job(out, job.load(), text, lengths)?;
     append_u32(out, answer.k)?;
     put_shape(out, job.plan())?;
-    put_body(out, job.plan(), &answer.body)
+    put_body(alloc, out, job.plan(), &answer.body)
 }
 
 /// An answer that fits the job, as it is spelled in the newest format.
-pub fn encode(alloc: Global, job: &Job, answer: &Answer<Groups>) -> Result<Vec<u8>, AllocError>
+pub fn encode(
+    alloc: Global,
+    job: &Job,
+    answer: &Answer<PackedGroups>,
+) -> Result<Vec<u8>, AllocError>
     requires { Fits job.now answer.now }
     ensures { IfOk result (λ bytes. bytes.items ≡ spec.answer_bytes job.now answer.now) }
 {
@@ -210,7 +273,7 @@ pub fn encode(alloc: Global, job: &Job, answer: &Answer<Groups>) -> Result<Vec<u
     // their limits.
     let _plan = job.plan();
     let mut out = Vec::new(alloc);
-    put_layout(&mut out, job, answer)?;
+    put_layout(alloc, &mut out, job, answer)?;
     append_seal(&mut out)?;
     Ok(out)
 }

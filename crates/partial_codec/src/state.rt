@@ -1,94 +1,23 @@
 //! The states of coordinators as bytes: written, read and judged.
-ghost use Rattle.std.specs.Prelude.{◌≡◌, ◌≢◌, ◌++◌, drop, take, IfOk, IfErr, OnOk, List, Some, Ok};
+ghost use Rattle.std.specs.Prelude.{◌≡◌, ◌≢◌, ◌++◌, IfOk, IfErr, OnOk, List, Some, Ok};
 ghost use Rattle.std.specs.List.{flat_map, AllByRecursion};
 ghost use Rattle.meaning.specs.Said.{Cell as ACell};
 ghost use Rattle.answer_fields.specs.Format.{newest};
 ghost use Rattle.partial_codec.specs.Job.{IsJob};
-ghost use Rattle.answer_fields.specs.Ranges.{IsBody, IsCell, IsGroup};
+ghost use Rattle.answer_fields.specs.Ranges.{IsCell};
 ghost use Rattle.answer_fields.specs.Shape.{shape_of};
-ghost use Rattle.answer_fields.specs.Spelling.{body_bytes, group_bytes};
 ghost use Rattle.partial_codec.specs.State.{FitsState, SpellsState, cell_bytes, judged_state, state_bytes, state_layout_bytes, state_layout_of, state_obstacle};
 ghost use Rattle.meaning.specs.Wanting.{GivesIfMemory};
 
-use crate::encoding::{put_all_groups, put_fault, put_job, put_shape};
+use crate::encoding::{put_body, put_job, put_shape};
 use crate::job::Job;
 use crate::state_check::hold_state_against;
-use aggregate_states::Group;
 use answer_fields::{Content, DecodeFault, Format};
 use answer_layouts::take_state_layout;
-use meaning::{Body, Cell, Plan};
-use packed_groups::{PackedGroups, Unpacking};
+use meaning::{Cell, Plan};
+use packed_groups::PackedGroups;
 use std::alloc::{AllocError, Global};
-use std::mem::drop;
-use wire::{SEAL_BYTES, append_seal, append_u8, append_u32, check_seal, take_bytes};
-
-/// How many groups are unpacked at a time: some hundred thousand bytes of them.
-const BATCH: usize = 256;
-
-/// The next groups of those that are left, in the buffers of some that are given up, and then given
-/// up too.
-fn put_batch(
-    alloc: Global,
-    out: &mut Vec<u8>,
-    plan: &Plan,
-    left: &mut Unpacking<'_>,
-    spare: Vec<Group>,
-) -> Result<Vec<Group>, AllocError>
-    requires { AllByRecursion (IsGroup (shape_of plan.now)) left.old }
-    ensures put { OnOk result (out.new.items ≡ out.old.items
-        ++ flat_map (group_bytes (shape_of plan.now)) (take 256 left.old)) }
-    ensures left { OnOk result (left.new ≡ drop 256 left.old) }
-{
-    let groups = left.take(alloc, BATCH, spare)?;
-    match put_all_groups(out, plan, groups.as_slice()) {
-        Ok(()) => Ok(groups),
-        Err(fault) => {
-            drop(groups);
-            Err(fault)
-        }
-    }
-}
-
-/// Packed groups, unpacked a few at a time.
-fn put_packed_groups(
-    alloc: Global,
-    out: &mut Vec<u8>,
-    plan: &Plan,
-    groups: &PackedGroups,
-) -> Result<(), AllocError>
-    requires { AllByRecursion (IsGroup (shape_of plan.now)) groups.now }
-    ensures { OnOk result (out.new.items ≡ out.old.items
-        ++ flat_map (group_bytes (shape_of plan.now)) groups.now) }
-{
-    let mut left = groups.batches();
-    let mut spare = Vec::new(alloc);
-    while left.len() > 0 {
-        spare = put_batch(alloc, out, plan, &mut left, spare)?;
-    }
-    drop(spare);
-    Ok(())
-}
-
-#[tactic(auto, unfolding(answer_fields::specs::Spelling::body_bytes))]
-fn put_packed_body(
-    alloc: Global,
-    out: &mut Vec<u8>,
-    plan: &Plan,
-    body: &Body<PackedGroups>,
-) -> Result<(), AllocError>
-    requires { IsBody (shape_of plan.now) body.now }
-    ensures { OnOk result (out.new.items ≡ out.old.items
-        ++ body_bytes (shape_of plan.now) body.now) }
-{
-    match body {
-        Body::Groups(groups) => {
-            append_u8(out, 1)?;
-            append_u32(out, groups.len() as u32)?;
-            put_packed_groups(alloc, out, plan, groups)
-        }
-        Body::Fault(fault) => put_fault(out, *fault),
-    }
-}
+use wire::{SEAL_BYTES, append_seal, append_u8, check_seal, take_bytes};
 
 #[tactic(auto, unfolding(answer_fields::specs::StateSpelling::cell_bytes))]
 fn put_cell(
@@ -105,7 +34,7 @@ fn put_cell(
         Cell::Nothing => append_u8(out, 0),
         Cell::One(body) => {
             append_u8(out, 1)?;
-            put_packed_body(alloc, out, plan, body)
+            put_body(alloc, out, plan, body)
         }
         Cell::Conflict => append_u8(out, 2),
     }

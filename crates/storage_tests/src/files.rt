@@ -153,7 +153,7 @@ pub fn zeros(alloc: Global, rows: u64) -> Result<Column, ColumnFault> {
 
 // ---- what is read back
 
-pub fn is_same(a: ValueRef<'_>, b: ValueRef<'_>) -> bool {
+fn is_same(a: ValueRef<'_>, b: ValueRef<'_>) -> bool {
     match (a, b) {
         (ValueRef::Null, ValueRef::Null) => true,
         (ValueRef::Int(a), ValueRef::Int(b)) => a == b,

@@ -9,6 +9,7 @@ mod expressions;
 mod group_marks;
 mod joining;
 mod lanes;
+mod packing;
 mod progress;
 mod rows;
 

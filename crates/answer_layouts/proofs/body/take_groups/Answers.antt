@@ -21,7 +21,7 @@ returns-in_err-group-clause-read c =
     let part = group_at (shape_in c.args.shape.now) in
     let p = err_from_is_err_and c.from_residual.result c.from_residual.ensures.1 in
     rw (p.1, p.2) (λ not_memory. kept_fails part kept_group has_possible_sums c.loop.groups c.loop.are_possible c.args.count c.loop.counter c.loop.rest.now c.in_err-group.field-0.0 (repeat_at part c.args.count c.args.bytes.now)
-    c.loop-test.true (c.in_err-group.ensures.read not_memory) c.loop.invariant.read)
+    c.loop-test.true (c.in_err-group.ensures not_memory) c.loop.invariant.read)
 
 pub loop-preserved : goal.loop-preserved
 loop-preserved c =
@@ -30,7 +30,7 @@ loop-preserved c =
     record {
       read = rw c.in_ok-groups.ensures
           (kept_goes_on part kept_group has_possible_sums c.loop.groups c.loop.are_possible c.args.count c.loop.counter c.loop.rest.now c.in_ok-group.group c.in_ok-group.is_possible c.in_ok-group.behind.now all
-          c.loop-test.true c.in_ok-group.ensures.read c.loop.invariant.read);
+          c.loop-test.true c.in_ok-group.ensures c.loop.invariant.read);
       judged = rw c.in_ok-groups.ensures (c.with-judged.ensures c.loop.groups c.loop.invariant.judged);
     }
 

@@ -8,4 +8,4 @@ use Rattle.packed_groups.proofs.packed.PackedGroups.pack.Goals as goal
 pub returns : goal.returns
 returns c =
     let is : c.in_ok-bytes.bytes.items ≡ flat_map group_bytes c.args.groups.now = search rules in
-    groups_of c.args.groups.now c.in_ok-bytes.bytes.items is c.requires
+    groups_of c.args.groups.now c.in_ok-bytes.bytes.items is c.in_ok-put_groups.ensures.packable

@@ -13,10 +13,10 @@ overflow_add-result c =
 pub invariant_of-result : goal.invariant_of-result
 invariant_of-result c =
     let is : c.put_group.new.out.items ≡ c.self.inside.bytes.items ++ group_bytes c.args.group.now = search rules in
-    packed_with c.self.inside.many c.self.inside.bytes.items c.put_group.new.out.items c.args.group.now is c.requires c.self.invariant
+    packed_with c.self.inside.many c.self.inside.bytes.items c.put_group.new.out.items c.args.group.now is c.in_ok-put_group.ensures.packable c.self.invariant
 
 pub returns : goal.returns
 returns c =
     let is : c.put_group.new.out.items ≡ c.self.inside.bytes.items ++ group_bytes c.args.group.now = search rules in
-    groups_with c.self.inside.many c.self.inside.bytes.items c.put_group.new.out.items c.args.group.now is c.requires c.self.invariant
+    groups_with c.self.inside.many c.self.inside.bytes.items c.put_group.new.out.items c.args.group.now is c.in_ok-put_group.ensures.packable c.self.invariant
     ∙ ap (λ gs. gs ++ c.args.group.now ∷ []) c.self.view_is

@@ -51,9 +51,10 @@ pub trait Accumulator {
         ensures err { OnErr result (held self.new ≡ held self.old) }
         ensures roomy { has_one_size (kind self.old) ≡ true → IsOk result };
 
-    /// What is known of all entries.
+    /// What is known of all entries. What keeps no value of its own takes no memory.
     fn state(&self, alloc: Global) -> Result<State, AllocError>
-        ensures { IfOk result (λ s. s ≡ held self.now) };
+        ensures ok { IfOk result (λ s. s ≡ held self.now) }
+        ensures roomy { has_one_size (kind self.now) ≡ true → IsOk result };
 
     /// The aggregate itself.
     ///

@@ -121,14 +121,16 @@ pub fn update_in<A: Cell>(
     cell.update_batch(alloc, lanes, selection)
 }
 
-/// The state at a group index.
+/// The state at a group index. What keeps no value of its own takes no memory.
 pub fn state_at<A: Cell>(
     cells: &[A],
     alloc: Global,
     group_index: usize,
 ) -> Result<State, AllocError>
     requires { group_index < length cells.now }
-    ensures { IfOk result (λ s. s ≡ slice_index_or (A.states cells.now) group_index no_statistics) }
+    ensures ok { IfOk result
+        (λ s. s ≡ slice_index_or (A.states cells.now) group_index no_statistics) }
+    ensures roomy { has_one_size A.keeps ≡ true → IsOk result }
 {
     cells[group_index].state(alloc)
 }

@@ -280,11 +280,12 @@ impl Cells {
         )
     }
 
-    /// The state at a group index.
+    /// The state at a group index. What keeps no value of its own takes no memory.
     pub fn state(&self, alloc: Global, group_index: usize) -> Result<State, AllocError>
         requires { group_index < length (states_in self.now) }
-        ensures { IfOk result (λ s. s
+        ensures ok { IfOk result (λ s. s
             ≡ slice_index_or (states_in self.now) group_index no_statistics) }
+        ensures roomy { has_one_size (kind_of_cells self.now) ≡ true → IsOk result }
     {
         of_kind!(
             self,

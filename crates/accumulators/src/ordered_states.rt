@@ -1,6 +1,7 @@
 //! The states of one aggregate in all groups, to be handed out.
-ghost use Rattle.std.specs.Prelude.{◌≡◌, ◌<◌, length, slice_index_or, IfOk};
+ghost use Rattle.std.specs.Prelude.{◌≡◌, ◌<◌, length, slice_index_or, true, false, IsOk, IfOk};
 ghost use Rattle.meaning.specs.Aggregate.{no_statistics};
+ghost use Rattle.aggregate_states.specs.Kinds.{has_one_size, keeps_set};
 ghost use Rattle.accumulators.specs.Columns.{kind_of_cells, states_in};
 ghost use Rattle.accumulators.specs.Ordered.{column_of};
 
@@ -34,8 +35,9 @@ impl<'a> Model for OrderedStates<'a> {
 }
 
 fn put_in_order(alloc: Global, cells: &Cells) -> Result<Ordered<'_>, AllocError>
-    ensures { IfOk result (λ held. column_of held
+    ensures ok { IfOk result (λ held. column_of held
         ≡ record { kind = kind_of_cells cells.now; states = states_in cells.now }) }
+    ensures roomy { keeps_set (kind_of_cells cells.now) ≡ false → IsOk result }
 {
     match cells {
         Cells::CountDistinct(sets) => Ok(Ordered::CountDistinct(sets.ordered(alloc)?)),
@@ -45,20 +47,23 @@ fn put_in_order(alloc: Global, cells: &Cells) -> Result<Ordered<'_>, AllocError>
 }
 
 impl<'a> OrderedStates<'a> {
-    /// The states that these cells hold.
+    /// The states that these cells hold. Only sets take memory.
     pub fn of_cells(alloc: Global, cells: &'a Cells) -> Result<OrderedStates<'a>, AllocError>
-        ensures { IfOk result (λ states. states
+        ensures ok { IfOk result (λ states. states
             ≡ record { kind = kind_of_cells cells.now; states = states_in cells.now }) }
+        ensures roomy { keeps_set (kind_of_cells cells.now) ≡ false → IsOk result }
     {
         Ok(OrderedStates {
             held: put_in_order(alloc, cells)?,
         })
     }
 
-    /// The state of a group.
+    /// The state of a group. What keeps no value of its own takes no memory.
     pub fn state(&self, alloc: Global, group_index: usize) -> Result<State, AllocError>
         requires { group_index < length self.now.states }
-        ensures { IfOk result (λ s. s ≡ slice_index_or self.now.states group_index no_statistics) }
+        ensures ok { IfOk result
+            (λ s. s ≡ slice_index_or self.now.states group_index no_statistics) }
+        ensures roomy { has_one_size self.now.kind ≡ true → IsOk result }
     {
         match &self.held {
             Ordered::Each(cells) => cells.state(alloc, group_index),

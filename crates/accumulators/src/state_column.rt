@@ -1,9 +1,9 @@
 //! The states of one aggregate in all groups, by their group indexes.
-ghost use Rattle.std.specs.Prelude.{◌≡◌, ◌<◌, ◌≤◌, ◌+◌, [], ◌∷◌, ◌++◌, length, map, sum, zip, slice_index_or, true, All, IsOk, OnOk, OnErr, IfOk};
+ghost use Rattle.std.specs.Prelude.{◌≡◌, ◌<◌, ◌≤◌, ◌+◌, [], ◌∷◌, ◌++◌, length, map, sum, zip, slice_index_or, true, false, All, IsOk, OnOk, OnErr, IfOk};
 ghost use Rattle.meaning.specs.Aggregate.{kept_by, no_statistics};
 ghost use Rattle.accumulators.specs.Columns.{kind_of_cells, merged_at, of_states, states_in, takes_ints};
 ghost use Rattle.aggregate_states.specs.Entries.{state_of, with_entries, with_states};
-ghost use Rattle.aggregate_states.specs.Kinds.{has_one_size};
+ghost use Rattle.aggregate_states.specs.Kinds.{has_one_size, keeps_set};
 ghost use Rattle.aggregate_states.specs.State.{most_entries};
 ghost use Rattle.aggregate_states.specs.Values.{is_spelled, selected};
 ghost use Rattle.vectors.specs.Vector.{values_of};
@@ -290,17 +290,21 @@ impl StateColumn {
         })
     }
 
-    /// The states, to be handed out. Sets are put in order once.
+    /// The states, to be handed out. Sets are put in order once, and nothing else takes memory.
     pub fn ordered(&self, alloc: Global) -> Result<OrderedStates<'_>, AllocError>
-        ensures { IfOk result (λ states. states ≡ self.now) }
+        ensures ok { IfOk result (λ states. states ≡ self.now) }
+        ensures roomy { keeps_set self.now.kind ≡ false → IsOk result }
     {
         OrderedStates::of_cells(alloc, &self.cells)
     }
 
-    /// The state of a group. To hand out several, use `ordered`.
+    /// The state of a group. To hand out several, use `ordered`. What keeps no value of its own takes
+    /// no memory.
     pub fn state(&self, alloc: Global, group_index: usize) -> Result<State, AllocError>
         requires { group_index < length self.now.states }
-        ensures { IfOk result (λ s. s ≡ slice_index_or self.now.states group_index no_statistics) }
+        ensures ok { IfOk result
+            (λ s. s ≡ slice_index_or self.now.states group_index no_statistics) }
+        ensures roomy { has_one_size self.now.kind ≡ true → IsOk result }
     {
         self.cells.state(alloc, group_index)
     }

@@ -8,18 +8,22 @@ ghost use Rattle.answer_fields.specs.LayoutReading as reading;
 ghost use Rattle.answer_layouts.specs.Found.{AreFound, AreFoundIn};
 ghost use Rattle.wire.specs.Reading.{Reads, repeat_at};
 
+use crate::buffers::Buffers;
 use crate::findings::{Findings, Judged};
 use crate::states::take_states;
 use aggregate_states::Group;
-use answer_fields::{DecodeFault, Shape, take_values};
+use answer_fields::{DecodeFault, Shape, refill_values};
 use meaning::{Body, Plan, RowFault};
 use packed_groups::PackedGroups;
 use std::alloc::Global;
+use std::mem::drop;
 use wire::{take_u8, take_u32, take_u64};
 
+/// A group, in buffers that are used again.
 #[tactic(auto, unfolding(answer_fields::specs::LayoutReading::group_at))]
 fn take_group<'a>(
     alloc: Global,
+    spare: Buffers,
     shape: &Shape,
     bytes: &'a [u8],
 ) -> Result<(Group, bool, &'a [u8]), DecodeFault>
@@ -27,15 +31,16 @@ fn take_group<'a>(
         (λ x. IsKept kept_group has_possible_sums x.0 x.1 x.2.now) result
         (reading.group_at (shape_in shape.now) bytes.now) }
 {
-    let (key, rest) = take_values(alloc, shape.keys.len(), bytes)?;
+    let Buffers { key, states } = spare;
+    let (key, rest) = refill_values(alloc, key, shape.keys.len(), bytes)?;
     let (rows, rest) = take_u32(rest)?;
-    let (states, are_possible, rest) = take_states(alloc, &shape.aggregates, rest)?;
+    let (states, are_possible, rest) = take_states(alloc, states, &shape.aggregates, rest)?;
     let group = Group::new(key, u64::from(rows), states);
     Ok((group, are_possible, rest))
 }
 
-/// So many groups, packed and judged as they are read. Memory is taken for no more of them than the
-/// bytes can hold.
+/// So many groups, packed and judged as they are read, each in the buffers of the one before. Memory
+/// is taken for no more of them than the bytes can hold.
 fn take_groups<'a>(
     alloc: Global,
     plan: &Plan,
@@ -50,15 +55,17 @@ fn take_groups<'a>(
 {
     let mut groups = PackedGroups::new(alloc);
     let mut judged = Judged::none();
+    let mut spare = Buffers::new(alloc);
     let mut are_possible = true;
     let mut rest = bytes;
     for _ in 0..count {
-        let (group, is_possible, behind) = take_group(alloc, shape, rest)?;
+        let (group, is_possible, behind) = take_group(alloc, spare, shape, rest)?;
         groups = groups.with(&group)?;
-        judged = judged.with(plan, group);
+        (judged, spare) = judged.with(alloc, plan, group);
         are_possible &= is_possible;
         rest = behind;
     }
+    drop(spare);
     let groups = groups.fitted(alloc)?;
     Ok((groups, judged.findings(are_possible), rest))
 }

@@ -4,9 +4,11 @@ ghost use Rattle.meaning.specs.declared.answer.Group.{Group as AGroup};
 ghost use Rattle.meaning.specs.declared.plan.Plan.{Plan as APlan};
 ghost use Rattle.answer_layouts.specs.Found.{AreFound, HasJudged, HasRows, comes_after};
 
+use crate::buffers::{Buffers, key_buffer};
 use crate::checks::{are_sets, are_states_possible, is_before, is_typed_group};
 use aggregate_states::Group;
 use meaning::{Plan, Row};
+use std::alloc::Global;
 
 /// What was found of an answer's groups while they were read. Of a fault's groups, which are none,
 /// nothing is amiss.
@@ -74,10 +76,11 @@ impl Judged {
         }
     }
 
-    /// What is found of these groups and one more behind them.
-    pub fn with(self, plan: &Plan, group: Group) -> Judged
+    /// What is found of these groups and one more behind them, and the buffers of what is given up
+    /// of them.
+    pub fn with(self, alloc: Global, plan: &Plan, group: Group) -> (Judged, Buffers)
         ensures { (groups : List AGroup) → HasJudged plan.now groups self
-            → HasJudged plan.now (groups ++ group ∷ []) result }
+            → HasJudged plan.now (groups ++ group ∷ []) result.0 }
     {
         let aggregates = plan.aggs.as_slice();
         let are_typed = self.are_typed & is_typed_group(plan, &group);
@@ -87,8 +90,12 @@ impl Judged {
         let have_rows = self.have_rows & (group.rows() >= 1);
         let are_states_possible = self.are_states_possible
             & are_states_possible(aggregates, group.rows(), group.states());
-        let (key, _, _) = group.into_parts();
-        Judged {
+        let (key, _, states) = group.into_parts();
+        let spare = Buffers {
+            key: key_buffer(alloc, self.last),
+            states: states.into_vec(),
+        };
+        let judged = Judged {
             are_typed,
             are_ascending,
             are_sets,
@@ -96,7 +103,8 @@ impl Judged {
             have_rows,
             are_states_possible,
             last: Some(key),
-        }
+        };
+        (judged, spare)
     }
 
     /// What was found, with whether the sums are possible.

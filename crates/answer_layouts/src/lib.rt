@@ -3,6 +3,7 @@
 #![tactic(auto)]
 
 mod body;
+mod buffers;
 mod checks;
 mod findings;
 mod layout;

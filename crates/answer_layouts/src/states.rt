@@ -180,9 +180,11 @@ fn take_state(
     Ok((state, is_possible, rest))
 }
 
-/// One state for each aggregate. Memory is taken for no more states than the bytes can hold.
+/// One state for each aggregate, in a buffer that is used again. Memory is taken for no more states
+/// than are read.
 pub fn take_states<'a>(
     alloc: Global,
+    spare: Vec<State>,
     aggregates: &[AggregateShape],
     bytes: &'a [u8],
 ) -> Result<(Sequence<State>, bool, &'a [u8]), DecodeFault>
@@ -190,7 +192,8 @@ pub fn take_states<'a>(
         (λ x. AreKept kept_state has_possible_sum x.0 x.1 x.2.now) result
         (reading.states_at aggregates.now bytes.now) }
 {
-    let mut states = Vec::with_capacity(alloc, aggregates.len().min(bytes.len() / 4))?;
+    let mut states = spare;
+    states.clear();
     let mut are_possible = true;
     let mut rest = bytes;
     for aggregate in aggregates {

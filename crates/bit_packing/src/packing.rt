@@ -2,13 +2,15 @@
 ghost use Rattle.std.specs.Prelude.{◌≡◌, ◌≤◌, ◌<◌, ◌+◌, ◌*◌, ◌^◌, List, ℕ, length, map, IfOk, OnOk, true};
 ghost use Rattle.std.specs.Prelude.{◌-ℤ◌, nat_lt, unsigned_abs};
 ghost use Rattle.std.specs.List.{list_all};
+ghost use Rattle.std.specs.Vec.{vec_capacity, vec_len};
 ghost use Rattle.bit_packing.specs.Packing.{Packs, ArePacked, packed, bit_of};
 
 use std::alloc::AllocError;
 
 /// Room for `n` bytes more.
 pub fn make_room(out: &mut Vec<u8>, n: usize) -> Result<(), AllocError>
-    ensures { out.new.items ≡ out.old.items }
+    ensures same { out.new.items ≡ out.old.items }
+    ensures room { OnOk result (vec_len out.new + n ≤ vec_capacity out.new) }
 {
     out.reserve(n)
 }

@@ -1,11 +1,12 @@
 -- The values of an option among one more.
-use Rattle.std.proofs.Common.{◌≡◌, ℕ, ◌+◌, ◌<◌, List, [], ◌∷◌, ◌++◌, length, take, map, get_or, subst, sym, ap, ◌∙◌, nat_eq}
+use Rattle.std.proofs.Common.{◌≡◌, ℕ, ◌+◌, ◌<◌, codes, inl, inr, List, [], ◌∷◌, ◌++◌, length, take, map, get_or, subst, sym, ap, ◌∙◌, nat_eq}
 use Rattle.std.proofs.lemmas.List.{take_more, map-append}
 use Rattle.std.proofs.lemmas.List.Elements.{filter-append}
 use Rattle.std.specs.Prelude.{filter}
 use Rattle.std.specs.Cmp.Lexicographic.{pointwise}
 use Rattle.command_line.specs.Words.{Named, Word, named_of, values}
 use Rattle.command_line.specs.Found.{IsFound}
+use Rattle.command_line.specs.Said.{HasNumber, HasVector}
 use Rattle.command_line.specs.declared.found.Found.{Found}
 use Rattle.command_line.specs.declared.parts.Given.{Given}
 
@@ -21,3 +22,14 @@ found_more name given i blank old new below so next =
     let more = ap (map named_of) (take_more given i blank below) ∙ map-append named_of (take i given) (get_or given i blank ∷ []) in
     let all = ap (values name) more ∙ values-append name (map named_of (take i given)) (named_of (get_or given i blank) ∷ []) in
     subst (λ vs. IsFound vs new) (sym all) (next _ so)
+
+pub found_twice : (vs more : List Word) (a b : Word) → vs ≡ a ∷ [] → more ≡ b ∷ [] → (first second : Word) × (rest : List Word) × (vs ++ more ≡ first ∷ second ∷ rest)
+found_twice vs more a b one other = (a, b, [], ap (λ xs. xs ++ more) one ∙ ap (λ xs. a ∷ xs) other)
+
+pub found_again : (vs more : List Word) → ((first second : Word) × (rest : List Word) × (vs ≡ first ∷ second ∷ rest)) → (first second : Word) × (rest : List Word) × (vs ++ more ≡ first ∷ second ∷ rest)
+found_again vs more (first, second, rest, are) = (first, second, rest ++ more, ap (λ xs. xs ++ more) are)
+
+-- the option stands there, so its digits are the number
+pub vector_once : (named : List Named) (text : Word) (n : ℕ) → values (codes "vector") named ≡ text ∷ [] → HasVector named n → HasNumber (codes "vector") named n
+vector_once named text n once (inl said) = said
+vector_once named text n once (inr (none, is)) = let no : [] ≡ text ∷ [] = sym none ∙ once in absurd cc

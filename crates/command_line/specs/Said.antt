@@ -1,7 +1,10 @@
 -- What words say of a command.
-use Rattle.std.specs.Prelude.{◌≡◌, ◌⊎◌, ℕ, true, if◌then◌else◌, List, [], ◌∷◌, codes, Option, Some, None}
+use Rattle.std.specs.Prelude.{◌≡◌, ◌⊎◌, ℕ, ◌<◌, ◌^◌, true, if◌then◌else◌, List, [], ◌∷◌, codes, Option, Some, None, Result, MatchResult}
 use Rattle.command_line.specs.declared.commands.Command.{Command}
 use Rattle.command_line.specs.declared.commands.Command.TheVariants.{Whole, Load, Work, Gather}
+use Rattle.command_line.specs.Command.{IsInRange}
+use Rattle.command_line.specs.declared.usage_fault.UsageFault.{UsageFault}
+use Rattle.command_line.specs.declared.usage_fault.UsageFault.TheVariants.{Memory}
 use Rattle.command_line.specs.Words.{AreParts, IsNumber, Named, Word, are_among, values}
 
 -- the option, with this text
@@ -48,10 +51,14 @@ plain_words (Load folder load rows) = folder ∷ []
 plain_words (Work command) = command.folder ∷ []
 plain_words (Gather command) = command.folder ∷ command.files
 
+-- the option, with digits of this number, which has 64 bits
+abbrev pub HasLoad : List Named → ℕ → Type 0
+HasLoad named n = HasNumber (codes "load") named n × (n < 2 ^ 64)
+
 -- what its options say
 abbrev pub HasOptions : List Named → Command → Type 0
 HasOptions named (Whole folder query rows vector) = HasText (codes "query") named query × HasNumber (codes "rows") named rows × HasVector named vector
-HasOptions named (Load folder load rows) = HasNumber (codes "load") named load × HasNumber (codes "rows") named rows
+HasOptions named (Load folder load rows) = HasLoad named load × HasNumber (codes "rows") named rows
 HasOptions named (Work command) = HasText (codes "query") named command.query × HasNumber (codes "fragment") named command.fragment × HasText (codes "out") named command.out × HasVector named command.vector
 HasOptions named (Gather command) = HasText (codes "query") named command.query × HasTextOrNone (codes "save") named command.save × HasTextOrNone (codes "journal") named command.journal
 
@@ -67,3 +74,19 @@ pub record IsOf (name : Word) (named : List Named) (flags plain : List Word) (co
 abbrev pub IsSaid : List Word → Command → Type 0
 IsSaid words command = (rest : List Word) × (named : List Named) × (words ≡ name_of command ∷ rest) × AreParts rest named (flags_in command) (plain_words command)
     × (are_among (options_of command) named ≡ true) × HasOptions named command
+
+-- The words ask for this command: they say it, and each of its numbers is one that it may have.
+abbrev pub AreWordsOf : List Word → Command → Type 0
+AreWordsOf words command = IsSaid words command × IsInRange command
+
+-- a command that the words ask for is given, unless memory is wanting
+abbrev pub TakesWords : List Word → Result Command UsageFault → Type 0
+TakesWords words result = (command : Command) → AreWordsOf words command → MatchResult result (λ given. given ≡ command) (λ fault. fault ≡ Memory)
+
+-- what was read off the words is any command that they ask for
+abbrev pub IsReadOff : List Word → Option Command → Type 0
+IsReadOff words read = (command : Command) → AreWordsOf words command → read ≡ Some command
+
+-- what was read off these parts is any command that has them
+abbrev pub IsMadeOf : Word → List Named → List Word → List Word → Option Command → Type 0
+IsMadeOf name named flags plain made = (command : Command) → IsOf name named flags plain command → IsInRange command → made ≡ Some command

@@ -1,5 +1,7 @@
 -- Why words are no command, and how the program then ends.
 use Rattle.std.specs.Prelude.{ℕ}
+use Rattle.std.specs.declared.io.ErrorKind as io
+use Rattle.std.specs.declared.io.ErrorKind.TheVariants as kind
 use Rattle.clap.specs.declared.error.Error.{Error}
 use Rattle.clap.specs.declared.error.kind.ErrorKind.{ErrorKind}
 use Rattle.clap.specs.declared.error.kind.ErrorKind.TheVariants.{OutOfMemory}
@@ -10,6 +12,11 @@ use Rattle.command_line.specs.declared.usage_fault.UsageFault.TheVariants.{Memor
 abbrev pub of_clap : Error → ErrorKind → UsageFault
 of_clap e OutOfMemory = Memory
 of_clap e _ = Words e
+
+-- the error of a program's arguments, which is that one is no text or that memory ran out
+abbrev pub of_arguments : io.ErrorKind → UsageFault
+of_arguments kind.OutOfMemory = Memory
+of_arguments _ = Encoding
 
 -- words that are no command end with 2, out of memory with 1
 abbrev pub status_of : UsageFault → ℕ

@@ -1,5 +1,5 @@
 -- What the words behind a command's name say.
-use Rattle.std.specs.Prelude.{◌≡◌, ℕ, Bool, List, [], ◌∷◌, ◌++◌, map, codes, ◌≢◌, get_or, ◌<◌, length}
+use Rattle.std.specs.Prelude.{◌≡◌, ◌⊎◌, ℕ, Bool, List, [], ◌∷◌, ◌++◌, map, codes, ◌≢◌, get_or, ◌<◌, length}
 use Rattle.std.specs.Prelude.{filter}
 use Rattle.std.specs.List.{list_all, list_any}
 use Rattle.std.specs.Str.Parse.{IsNumeral, digits_value}
@@ -22,15 +22,19 @@ IsName name = (i : ℕ) → i < length name → get_or name i 0 ≢ 61
 abbrev pub IsFlag : Word → Type 0
 IsFlag name = name ≡ codes "preview"
 
--- no option, and not the end of the options
+-- no hyphen in front, or a hyphen alone
 abbrev pub IsPlain : Word → Type 0
-IsPlain word = (rest : Word) → word ≢ codes "--" ++ rest
+IsPlain word = (rest : Word) → word ≡ codes "-" ++ rest → rest ≡ []
+
+-- the word may be an option's value where it stands behind the option's name: a query is any word
+abbrev pub MayBeValue : Word → Word → Type 0
+MayBeValue name word = (name ≡ codes "query") ⊎ IsPlain word
 
 -- Options, each with its value as the next word or behind `=`, flags, and plain words, in any order. Behind `--` all words are
 -- plain.
 pub data AreParts : List Word → List Named → List Word → List Word → Type 0 where
   nothing : AreParts [] [] [] []
-  apart : {ws : List Word} {named : List Named} {flags plain : List Word} (name value : Word) → IsName name → (IsFlag name → ⊥) → AreParts ws named flags plain → AreParts ((codes "--" ++ name) ∷ value ∷ ws) ((name, value) ∷ named) flags plain
+  apart : {ws : List Word} {named : List Named} {flags plain : List Word} (name value : Word) → IsName name → name ≢ [] → (IsFlag name → ⊥) → MayBeValue name value → AreParts ws named flags plain → AreParts ((codes "--" ++ name) ∷ value ∷ ws) ((name, value) ∷ named) flags plain
   joined : {ws : List Word} {named : List Named} {flags plain : List Word} (name value : Word) → IsName name → AreParts ws named flags plain → AreParts ((codes "--" ++ (name ++ (codes "=" ++ value))) ∷ ws) ((name, value) ∷ named) flags plain
   flag : {ws : List Word} {named : List Named} {flags plain : List Word} (name : Word) → IsFlag name → AreParts ws named flags plain → AreParts ((codes "--" ++ name) ∷ ws) named (name ∷ flags) plain
   word : {ws : List Word} {named : List Named} {flags plain : List Word} (w : Word) → IsPlain w → AreParts ws named flags plain → AreParts (w ∷ ws) named flags (w ∷ plain)

@@ -1,7 +1,7 @@
-//! The command that words say, where `clap` takes them.
+//! The command that words say.
 ghost use Rattle.std.specs.Prelude.{◌≡◌, IfOk, IfSome, codes, map, option_map};
 ghost use Rattle.command_line.specs.Command.{IsInRange};
-ghost use Rattle.command_line.specs.Said.{IsOf, IsSaid};
+ghost use Rattle.command_line.specs.Said.{IsMadeOf, IsOf, IsReadOff, IsSaid, TakesWords};
 ghost use Rattle.command_line.specs.Steps.{flags_of, given_of, plain_of};
 
 use crate::commands::{Command, GatherCommand, WorkCommand};
@@ -14,36 +14,39 @@ use meaning::{MAX_FRAGMENTS, MAX_ROWS, Sequence, Text};
 use std::alloc::{AllocError, Global};
 use std::mem::drop;
 
-/// The command that the words behind the program's name ask for. `clap` says which words are none,
-/// and why; what the command holds is then read off the words themselves.
+/// The command that the words behind the program's name ask for. It is read off the words; where
+/// they ask for none, `clap` says why.
 pub fn command(alloc: Global, words: &[&str]) -> Result<Command, UsageFault>
     ensures said { IfOk result (IsSaid (map (λ w. w.now) words.now)) }
     ensures range { IfOk result IsInRange }
+    ensures taken { TakesWords (map (λ w. w.now) words.now) result }
 {
-    let mut parser = parser(alloc)?;
-    let command = parsed_command(alloc, &mut parser, words);
-    drop(parser);
-    command
-}
-
-fn parsed_command<'a>(
-    alloc: Global,
-    parser: &mut clap::Command<'a>,
-    words: &'a [&'a str],
-) -> Result<Command, UsageFault>
-    ensures said { IfOk result (IsSaid (map (λ w. w.now) words.now)) }
-    ensures range { IfOk result IsInRange }
-{
-    let matches = parser.try_get_matches_from_mut(words)?;
-    drop(matches);
     match said(alloc, words)? {
         Some(command) => Ok(command),
-        None => Err(refused(parser)),
+        None => Err(refusal(alloc, words)?),
+    }
+}
+
+// Why the words ask for no command.
+fn refusal(alloc: Global, words: &[&str]) -> Result<UsageFault, AllocError> {
+    let mut parser = parser(alloc)?;
+    let refusal = refusal_by(&mut parser, words);
+    drop(parser);
+    Ok(refusal)
+}
+
+fn refusal_by<'a>(parser: &mut clap::Command<'a>, words: &'a [&'a str]) -> UsageFault {
+    match parser.try_get_matches_from_mut(words) {
+        Ok(matches) => {
+            drop(matches);
+            signed_number(parser)
+        }
+        Err(error) => UsageFault::from(error),
     }
 }
 
 // A number with a sign, which clap takes.
-fn refused(parser: &mut clap::Command<'_>) -> UsageFault {
+fn signed_number(parser: &mut clap::Command<'_>) -> UsageFault {
     match parser.error(ErrorKind::ValueValidation, "a number is digits alone") {
         Ok(error) => UsageFault::from(error),
         Err(AllocError) => UsageFault::Memory,
@@ -53,6 +56,7 @@ fn refused(parser: &mut clap::Command<'_>) -> UsageFault {
 fn said(alloc: Global, words: &[&str]) -> Result<Option<Command>, AllocError>
     ensures said { IfOk result (λ o. IfSome o (IsSaid (map (λ w. w.now) words.now))) }
     ensures range { IfOk result (λ o. IfSome o IsInRange) }
+    ensures only { IfOk result (IsReadOff (map (λ w. w.now) words.now)) }
 {
     let Some((name, words)) = words.split_first() else {
         return Ok(None);
@@ -68,6 +72,8 @@ fn of_name(alloc: Global, name: &str, parts: &Parts<'_>) -> Result<Option<Comman
         (λ o. IfSome o (IsOf name.now (given_of parts.now)
         (flags_of parts.now) (plain_of parts.now))) }
     ensures range { IfOk result (λ o. IfSome o IsInRange) }
+    ensures only { IfOk result (IsMadeOf name.now (given_of parts.now)
+        (flags_of parts.now) (plain_of parts.now)) }
 {
     match name {
         "whole" => whole(alloc, parts),
@@ -83,16 +89,25 @@ fn whole(alloc: Global, parts: &Parts<'_>) -> Result<Option<Command>, AllocError
         (λ o. IfSome o (IsOf (codes "whole") (given_of parts.now)
         (flags_of parts.now) (plain_of parts.now))) }
     ensures range { IfOk result (λ o. IfSome o IsInRange) }
+    ensures only { IfOk result (IsMadeOf (codes "whole") (given_of parts.now)
+        (flags_of parts.now) (plain_of parts.now)) }
 {
-    if !parts.has_only(&["query", "rows", "vector"]) || !parts.has_no_flag() {
+    if !parts.has_only(&["query", "rows", "vector"]) {
         return Ok(None);
     }
-    let (Some(folder), Some(query), Some(rows), Some(vector)) = (
-        parts.only_word(),
-        parts.text("query"),
-        parts.number_within("rows", 1, MAX_ROWS),
-        parts.vector(),
-    ) else {
+    if !parts.has_no_flag() {
+        return Ok(None);
+    }
+    let Some(folder) = parts.only_word() else {
+        return Ok(None);
+    };
+    let Some(query) = parts.text("query") else {
+        return Ok(None);
+    };
+    let Some(rows) = parts.number_within("rows", 1, MAX_ROWS) else {
+        return Ok(None);
+    };
+    let Some(vector) = parts.vector() else {
         return Ok(None);
     };
     Ok(Some(Command::Whole {
@@ -108,15 +123,22 @@ fn load(alloc: Global, parts: &Parts<'_>) -> Result<Option<Command>, AllocError>
         (λ o. IfSome o (IsOf (codes "load") (given_of parts.now)
         (flags_of parts.now) (plain_of parts.now))) }
     ensures range { IfOk result (λ o. IfSome o IsInRange) }
+    ensures only { IfOk result (IsMadeOf (codes "load") (given_of parts.now)
+        (flags_of parts.now) (plain_of parts.now)) }
 {
-    if !parts.has_only(&["load", "rows"]) || !parts.has_no_flag() {
+    if !parts.has_only(&["load", "rows"]) {
         return Ok(None);
     }
-    let (Some(folder), Some(load), Some(rows)) = (
-        parts.only_word(),
-        parts.number("load"),
-        parts.number_within("rows", 1, MAX_ROWS),
-    ) else {
+    if !parts.has_no_flag() {
+        return Ok(None);
+    }
+    let Some(folder) = parts.only_word() else {
+        return Ok(None);
+    };
+    let Some(load) = parts.number("load") else {
+        return Ok(None);
+    };
+    let Some(rows) = parts.number_within("rows", 1, MAX_ROWS) else {
         return Ok(None);
     };
     Ok(Some(Command::Load {
@@ -131,21 +153,28 @@ fn work(alloc: Global, parts: &Parts<'_>) -> Result<Option<Command>, AllocError>
         (λ o. IfSome o (IsOf (codes "work") (given_of parts.now)
         (flags_of parts.now) (plain_of parts.now))) }
     ensures range { IfOk result (λ o. IfSome o IsInRange) }
+    ensures only { IfOk result (IsMadeOf (codes "work") (given_of parts.now)
+        (flags_of parts.now) (plain_of parts.now)) }
 {
-    if !parts.has_only(&["query", "fragment", "out", "vector"]) || !parts.has_no_flag() {
+    if !parts.has_only(&["query", "fragment", "out", "vector"]) {
         return Ok(None);
     }
-    let (Some(folder), Some(query), Some(out)) = (
-        parts.only_word(),
-        parts.text("query"),
-        parts.text("out"),
-    ) else {
+    if !parts.has_no_flag() {
+        return Ok(None);
+    }
+    let Some(folder) = parts.only_word() else {
         return Ok(None);
     };
-    let (Some(fragment), Some(vector)) = (
-        parts.number_within("fragment", 0, MAX_FRAGMENTS as u32 - 1),
-        parts.vector(),
-    ) else {
+    let Some(query) = parts.text("query") else {
+        return Ok(None);
+    };
+    let Some(out) = parts.text("out") else {
+        return Ok(None);
+    };
+    let Some(fragment) = parts.number_within("fragment", 0, MAX_FRAGMENTS as u32 - 1) else {
+        return Ok(None);
+    };
+    let Some(vector) = parts.vector() else {
         return Ok(None);
     };
     Ok(Some(Command::Work(WorkCommand {
@@ -162,6 +191,8 @@ fn gather(alloc: Global, parts: &Parts<'_>) -> Result<Option<Command>, AllocErro
         (λ o. IfSome o (IsOf (codes "gather") (given_of parts.now)
         (flags_of parts.now) (plain_of parts.now))) }
     ensures range { IfOk result (λ o. IfSome o IsInRange) }
+    ensures only { IfOk result (IsMadeOf (codes "gather") (given_of parts.now)
+        (flags_of parts.now) (plain_of parts.now)) }
 {
     if !parts.has_only(&["query", "save", "journal"]) {
         return Ok(None);
@@ -172,12 +203,16 @@ fn gather(alloc: Global, parts: &Parts<'_>) -> Result<Option<Command>, AllocErro
     if files.is_empty() {
         return Ok(None);
     }
-    let (Some(query), Some(save), Some(journal), Some(preview)) = (
-        parts.text("query"),
-        parts.text_if_any("save"),
-        parts.text_if_any("journal"),
-        parts.only_flag("preview"),
-    ) else {
+    let Some(query) = parts.text("query") else {
+        return Ok(None);
+    };
+    let Some(save) = parts.text_if_any("save") else {
+        return Ok(None);
+    };
+    let Some(journal) = parts.text_if_any("journal") else {
+        return Ok(None);
+    };
+    let Some(preview) = parts.only_flag("preview") else {
         return Ok(None);
     };
     Ok(Some(Command::Gather(GatherCommand {

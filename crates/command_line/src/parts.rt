@@ -1,5 +1,5 @@
 //! The words behind a command's name: options with their values, flags, and plain words.
-ghost use Rattle.std.specs.Prelude.{◌≡◌, ◌≤◌, ◌++◌, IfOk, IfSome, [], ◌∷◌, if◌then◌else◌, map, nat_eq, option_map, true};
+ghost use Rattle.std.specs.Prelude.{◌≡◌, ◌<◌, ◌≤◌, ◌^◌, ◌++◌, ℕ, Bool, Decides, IfOk, IfSome, IsSomeAnd, Option, Some, [], ◌∷◌, if◌then◌else◌, map, nat_eq, option_map};
 ghost use Rattle.std.specs.Cmp.Lexicographic.{pointwise};
 ghost use Rattle.std.specs.List.{list_all, list_any};
 ghost use Rattle.std.specs.Vec.{vec_items};
@@ -7,7 +7,7 @@ ghost use Rattle.meaning.specs.Limits.{max_vector_rows};
 ghost use Rattle.command_line.specs.Found.{IsFound};
 ghost use Rattle.command_line.specs.Said.{HasNumber, HasText, HasTextOrNone, HasVector};
 ghost use Rattle.command_line.specs.Steps.{flags_of, given_of, plain_of};
-ghost use Rattle.command_line.specs.Words.{IsNumber, values};
+ghost use Rattle.command_line.specs.Words.{IsNumber, Word, values};
 
 use crate::found::Found;
 use meaning::is_vector_length;
@@ -88,7 +88,8 @@ impl<'a> Parts<'a> {
 
     /// The plain word, where there is one alone.
     pub fn only_word(&self) -> Option<&'a str>
-        ensures { IfSome result (λ w. plain_of self.now ≡ w.now ∷ []) }
+        ensures word { IfSome result (λ w. plain_of self.now ≡ w.now ∷ []) }
+        ensures only { (w : Word) → plain_of self.now ≡ w ∷ [] → IsSomeAnd result (λ s. s.now ≡ w) }
     {
         only(self.plain.as_slice())
     }
@@ -104,15 +105,17 @@ impl<'a> Parts<'a> {
 
     /// Whether no flag stands there.
     pub fn has_no_flag(&self) -> bool
-        ensures { (result ≡ true) → (flags_of self.now ≡ []) }
+        ensures { Decides result (flags_of self.now ≡ []) }
     {
         self.flags.is_empty()
     }
 
     /// Whether this flag stands there, alone and once; nothing where another does, or it does often.
     pub fn only_flag(&self, name: &str) -> Option<bool>
-        ensures { IfSome result (λ given. flags_of self.now
+        ensures flag { IfSome result (λ given. flags_of self.now
             ≡ (if given then name.now ∷ [] else [])) }
+        ensures only { (given : Bool) → flags_of self.now
+            ≡ (if given then name.now ∷ [] else []) → result ≡ Some given }
     {
         if self.has_no_flag() {
             return Some(false);
@@ -125,7 +128,9 @@ impl<'a> Parts<'a> {
 
     /// The value of an option that stands there once.
     pub fn text(&self, name: &str) -> Option<&'a str>
-        ensures { IfSome result (λ t. HasText name.now (given_of self.now) t.now) }
+        ensures said { IfSome result (λ t. HasText name.now (given_of self.now) t.now) }
+        ensures only { (t : Word) → HasText name.now (given_of self.now) t
+            → IsSomeAnd result (λ s. s.now ≡ t) }
     {
         match self.find(name) {
             Found::Once(value) => Some(value),
@@ -136,8 +141,10 @@ impl<'a> Parts<'a> {
 
     /// The value of an option that stands there once, or that it doesn't; else nothing.
     pub fn text_if_any(&self, name: &str) -> Option<Option<&'a str>>
-        ensures { IfSome result (λ o. HasTextOrNone name.now (given_of self.now)
+        ensures said { IfSome result (λ o. HasTextOrNone name.now (given_of self.now)
             (option_map (λ s. s.now) o)) }
+        ensures only { (t : Option Word) → HasTextOrNone name.now (given_of self.now) t
+            → IsSomeAnd result (λ o. option_map (λ s. s.now) o ≡ t) }
     {
         match self.find(name) {
             Found::Nothing => Some(None),
@@ -148,15 +155,20 @@ impl<'a> Parts<'a> {
 
     /// The number that an option's digits say.
     pub fn number(&self, name: &str) -> Option<u64>
-        ensures { IfSome result (HasNumber name.now (given_of self.now)) }
+        ensures said { IfSome result (HasNumber name.now (given_of self.now)) }
+        ensures fits { IfSome result (λ n. n < 2 ^ 64) }
+        ensures only { (n : ℕ) → n < 2 ^ 64 → HasNumber name.now (given_of self.now) n
+            → result ≡ Some n }
     {
         number_of(self.text(name)?)
     }
 
     /// The number that an option's digits say, in this range.
     pub fn number_within(&self, name: &str, least: u32, most: u32) -> Option<u32>
-        ensures { IfSome result (λ n. HasNumber name.now (given_of self.now) n × (least ≤ n)
+        ensures said { IfSome result (λ n. HasNumber name.now (given_of self.now) n × (least ≤ n)
             × (n ≤ most)) }
+        ensures only { (n : ℕ) → least ≤ n → n ≤ most → HasNumber name.now (given_of self.now) n
+            → result ≡ Some n }
     {
         let number = self.number(name)?;
         if number < u64::from(least) || number > u64::from(most) {
@@ -167,8 +179,10 @@ impl<'a> Parts<'a> {
 
     /// How many rows a vector has: 1,024 where no word says it.
     pub fn vector(&self) -> Option<u32>
-        ensures { IfSome result (λ n. HasVector (given_of self.now) n × (1 ≤ n)
+        ensures said { IfSome result (λ n. HasVector (given_of self.now) n × (1 ≤ n)
             × (n ≤ max_vector_rows)) }
+        ensures only { (n : ℕ) → 1 ≤ n → n ≤ max_vector_rows → HasVector (given_of self.now) n
+            → result ≡ Some n }
     {
         match self.find("vector") {
             Found::Nothing => Some(DEFAULT_VECTOR_ROWS),
@@ -179,8 +193,10 @@ impl<'a> Parts<'a> {
 
     /// The number that an option's digits say, if a vector may have so many rows.
     fn vector_length(&self, name: &str) -> Option<u32>
-        ensures { IfSome result (λ n. HasNumber name.now (given_of self.now) n × (1 ≤ n)
+        ensures said { IfSome result (λ n. HasNumber name.now (given_of self.now) n × (1 ≤ n)
             × (n ≤ max_vector_rows)) }
+        ensures only { (n : ℕ) → 1 ≤ n → n ≤ max_vector_rows
+            → HasNumber name.now (given_of self.now) n → result ≡ Some n }
     {
         let number = self.number(name)?;
         if !is_vector_length(number as usize) {
@@ -192,7 +208,9 @@ impl<'a> Parts<'a> {
 
 // The word, where there is one alone.
 fn only<'a>(words: &[&'a str]) -> Option<&'a str>
-    ensures { IfSome result (λ w. map (λ w. w.now) words.now ≡ w.now ∷ []) }
+    ensures word { IfSome result (λ w. map (λ w. w.now) words.now ≡ w.now ∷ []) }
+    ensures only { (w : Word) → map (λ w. w.now) words.now ≡ w ∷ []
+        → IsSomeAnd result (λ s. s.now ≡ w) }
 {
     match words {
         [word] => Some(word),
@@ -206,11 +224,13 @@ fn is_among(name: &str, names: &[&str]) -> bool
     names.iter().any(|one| name == *one)
 }
 
-// The number that digits say.
+// The number that digits alone say; `parse` takes a sign before them.
 fn number_of(text: &str) -> Option<u64>
-    ensures { IfSome result (IsNumber text.now) }
+    ensures number { IfSome result (IsNumber text.now) }
+    ensures fits { IfSome result (λ n. n < 2 ^ 64) }
+    ensures only { (n : ℕ) → n < 2 ^ 64 → IsNumber text.now n → result ≡ Some n }
 {
-    if !text.bytes().all(|byte| byte.is_ascii_digit()) {
+    if text.starts_with('+') {
         return None;
     }
     text.parse::<u64>().ok()

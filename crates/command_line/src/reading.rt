@@ -1,8 +1,8 @@
 //! How the words behind a command's name are read.
-ghost use Rattle.std.specs.Prelude.{◌≡◌, ◌++◌, IfOk, IfSome, codes, false, map, true};
-ghost use Rattle.command_line.specs.Steps.{Moves, flags_of, given_of, plain_of};
-ghost use Rattle.command_line.specs.Words.{AreParts, IsFlag, IsName};
-ghost use Rattle.command_line.specs.declared.reading.Next.TheVariants.{Any};
+ghost use Rattle.std.specs.Prelude.{◌≡◌, ◌≢◌, ◌++◌, IfOk, IfSome, [], codes, false, map, true};
+ghost use Rattle.command_line.specs.Steps.{AreOnly, Moves, Takes, flags_of, given_of, plain_of};
+ghost use Rattle.command_line.specs.Words.{AreParts, IsFlag, IsName, IsPlain, MayBeValue};
+ghost use Rattle.command_line.specs.declared.reading.Next.TheVariants.{Any, ValueOf};
 
 use crate::parts::Parts;
 use std::alloc::{AllocError, Global};
@@ -15,15 +15,19 @@ enum Next<'a> {
     Plain,
 }
 
-/// The parts of the words behind a command's name, unless a name has no value.
+/// The parts of the words behind a command's name, where they have parts.
 pub fn read<'a>(alloc: Global, words: &[&'a str]) -> Result<Option<Parts<'a>>, AllocError>
-    ensures { IfOk result (λ o. IfSome o
+    ensures parts { IfOk result (λ o. IfSome o
         (λ p. AreParts (map (λ w. w.now) words.now) (given_of p) (flags_of p) (plain_of p))) }
+    ensures only { IfOk result (AreOnly (map (λ w. w.now) words.now)) }
 {
     let mut parts = Parts::new(alloc);
     let mut next = Next::Any;
     for word in words {
-        next = take(&mut parts, next, word)?;
+        let Some(after) = take(&mut parts, next, word)? else {
+            return Ok(None);
+        };
+        next = after;
     }
     match next {
         Next::ValueOf(_) => Ok(None),
@@ -32,20 +36,54 @@ pub fn read<'a>(alloc: Global, words: &[&'a str]) -> Result<Option<Parts<'a>>, A
     }
 }
 
-fn take<'a>(parts: &mut Parts<'a>, next: Next<'a>, word: &'a str) -> Result<Next<'a>, AllocError>
-    ensures { IfOk result (Moves parts.old parts.new next.entry word.now) }
+fn take<'a>(
+    parts: &mut Parts<'a>,
+    next: Next<'a>,
+    word: &'a str,
+) -> Result<Option<Next<'a>>, AllocError>
+    ensures { IfOk result (Takes parts.old parts.new next.entry word.now) }
 {
     match next {
         Next::Any => take_any(parts, word),
-        Next::ValueOf(name) => {
-            parts.add(name, word)?;
-            Ok(Next::Any)
-        }
+        Next::ValueOf(name) => take_value(parts, name, word),
         Next::Plain => {
             parts.add_plain(word)?;
-            Ok(Next::Plain)
+            Ok(Some(Next::Plain))
         }
     }
+}
+
+// Whether a word can't be taken for an option.
+fn is_plain(word: &str) -> bool
+    ensures plain { result ≡ true → IsPlain word.now }
+    ensures other { result ≡ false → IsPlain word.now → ⊥ }
+{
+    match word.strip_prefix("-") {
+        Some(rest) => rest.is_empty(),
+        None => true,
+    }
+}
+
+fn may_be_value(name: &str, word: &str) -> bool
+    ensures value { result ≡ true → MayBeValue name.now word.now }
+    ensures other { result ≡ false → MayBeValue name.now word.now → ⊥ }
+{
+    name == "query" || is_plain(word)
+}
+
+// The word behind an option's name.
+fn take_value<'a>(
+    parts: &mut Parts<'a>,
+    name: &'a str,
+    word: &'a str,
+) -> Result<Option<Next<'a>>, AllocError>
+    ensures { IfOk result (Takes parts.old parts.new (ValueOf name.entry) word.now) }
+{
+    if !may_be_value(name, word) {
+        return Ok(None);
+    }
+    parts.add(name, word)?;
+    Ok(Some(Next::Any))
 }
 
 // Whether an option has no value.
@@ -58,7 +96,7 @@ fn is_flag(name: &str) -> bool
 
 // A name with no `=`.
 fn take_name<'a>(parts: &mut Parts<'a>, name: &'a str) -> Result<Next<'a>, AllocError>
-    ensures { IsName name.now
+    ensures { IsName name.now → name.now ≢ []
         → IfOk result (Moves parts.old parts.new Any (codes "--" ++ name.now)) }
 {
     if is_flag(name) {
@@ -68,21 +106,24 @@ fn take_name<'a>(parts: &mut Parts<'a>, name: &'a str) -> Result<Next<'a>, Alloc
     Ok(Next::ValueOf(name))
 }
 
-fn take_any<'a>(parts: &mut Parts<'a>, word: &'a str) -> Result<Next<'a>, AllocError>
-    ensures { IfOk result (Moves parts.old parts.new Any word.now) }
+fn take_any<'a>(parts: &mut Parts<'a>, word: &'a str) -> Result<Option<Next<'a>>, AllocError>
+    ensures { IfOk result (Takes parts.old parts.new Any word.now) }
 {
-    let Some(option) = word.strip_prefix("--") else {
+    if is_plain(word) {
         parts.add_plain(word)?;
-        return Ok(Next::Any);
+        return Ok(Some(Next::Any));
+    }
+    let Some(option) = word.strip_prefix("--") else {
+        return Ok(None);
     };
     if option.is_empty() {
-        return Ok(Next::Plain);
+        return Ok(Some(Next::Plain));
     }
     match option.split_once('=') {
         Some((name, value)) => {
             parts.add(name, value)?;
-            Ok(Next::Any)
+            Ok(Some(Next::Any))
         }
-        None => take_name(parts, option),
+        None => Ok(Some(take_name(parts, option)?)),
     }
 }

@@ -1,7 +1,8 @@
 //! Why words are no command.
 ghost use Rattle.std.specs.Prelude.{◌≡◌};
+ghost use Rattle.std.specs.IoError.{error_kind};
 ghost use Rattle.clap.specs.Words.{kind_of};
-ghost use Rattle.command_line.specs.Usage.{of_clap, status_of};
+ghost use Rattle.command_line.specs.Usage.{of_arguments, of_clap, status_of};
 ghost use Rattle.command_line.specs.declared.usage_fault.UsageFault.TheVariants.{Memory};
 
 use clap::error::ErrorKind;
@@ -46,6 +47,8 @@ impl From<clap::Error> for UsageFault {
 
 /// Of the arguments of a program: they are no text, or memory ran out.
 impl From<io::Error> for UsageFault {
+    ghost from_gives = { λ error given. given ≡ of_arguments (error_kind error) };
+
     fn from(error: io::Error) -> UsageFault {
         match error.kind() {
             io::ErrorKind::OutOfMemory => UsageFault::Memory,

@@ -1,7 +1,6 @@
 -- Groups that the last step takes a batch at a time.
-use Rattle.std.specs.Prelude.{◌≡◌, ℕ, ◌+◌, ◌-◌, ◌≤◌, true, List, ◌++◌, take, drop, Result, Ok, Err, IfOk}
-use Rattle.std.proofs.Common.{sym, ap, subst, ◌∙◌, arith}
-use Rattle.std.proofs.lemmas.List.{take-append-drop, take-take, drop-take}
+use Rattle.std.specs.Prelude.{◌≡◌, ℕ, ◌-◌, ◌≤◌, true, List, ◌++◌, take, drop, Result, Ok, Err, IfOk}
+use Rattle.std.proofs.Common.{sym, ap, subst, ◌∙◌}
 use Rattle.std.proofs.lemmas.List.Elements.{All-take, All-drop}
 use Rattle.meaning.specs.declared.answer.Group.{Group}
 use Rattle.meaning.specs.declared.plan.Plan.{Plan}
@@ -9,14 +8,7 @@ use Rattle.meaning.specs.Fitting.{is_group_of}
 use Rattle.meaning.specs.Order.{Row}
 use Rattle.last_step.specs.Fitting.{AreGroupsOf}
 use Rattle.last_step.specs.Taken.{HasTaken}
-
-joined : (from n : ℕ) (gs : List Group) → take from gs ++ take n (drop from gs) ≡ take (from + n) gs
-joined from n gs = (λ i. sym (take-take from (from + n) gs (omega arith)) i ++ sym (drop-take from n gs) i) ∙ take-append-drop from (take (from + n) gs)
-
-up_to : (from to : ℕ) (gs : List Group) → from ≤ to → take from gs ++ take (to - from) (drop from gs) ≡ take to gs
-up_to from to gs ordered =
-    let far : from + (to - from) ≡ to = omega (arith, ordered) in
-    joined from (to - from) gs ∙ ap (λ n. take n gs) far
+use Rattle.group_by.proofs.Pieces.{up_to}
 
 -- some of the groups fit the plan as all do
 pub batch_fits : (plan : Plan) (gs batch : List Group) (from n : ℕ) → batch ≡ take n (drop from gs) → AreGroupsOf plan gs → AreGroupsOf plan batch

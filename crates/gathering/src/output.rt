@@ -14,7 +14,7 @@ ghost use Rattle.gathering.specs.Output.{IsPrintable, output_in};
 
 use crate::gather::Gather;
 use aggregate_states::Group;
-use group_by::{GroupTable, OrderedGroups};
+use group_by::{GroupTable, OrderedGroups, spare_groups};
 use last_step::{Finished, Finishing, batch_groups};
 use meaning::{Plan, RowFault};
 use std::alloc::{AllocError, Global};
@@ -26,14 +26,6 @@ use std::mem::drop;
 pub enum Output {
     Finished(Finished),
     RowFault(RowFault),
-}
-
-/// The groups of a batch, whose buffers are used again, if they were made for it.
-fn spare_groups(alloc: Global, batch: CowSlice<'_, Group>) -> Vec<Group> {
-    match batch {
-        CowSlice::Owned(groups) => groups,
-        CowSlice::Borrowed(_) => Vec::new(alloc),
-    }
 }
 
 /// The last step takes a batch of groups, which is then given up.

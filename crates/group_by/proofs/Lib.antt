@@ -15,3 +15,4 @@ pub mod Handing
 pub mod SortedInts
 pub mod Own
 pub mod Absorbing
+pub mod Pieces

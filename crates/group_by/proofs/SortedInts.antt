@@ -154,9 +154,6 @@ apart_up f keyed ps apart k d l =
 
 -- ---- all of it
 
-pub from_some : {X : Type 0} (P : X → Type 0) (o : Option X) (x : X) → o ≡ Some x → IfSome o P → P x
-from_some {X = X} P o x is has = subst (λ (found : Option X). IfSome found P) is has
-
 pub none_indexed : (keys : List Row) → AreIndexed keys 0 []
 none_indexed keys = record { groups = λ rows columns. refl; within = λ j d l. absurd (omega (arith, l)) }
 

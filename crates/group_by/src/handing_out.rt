@@ -220,8 +220,8 @@ fn rows_in_order(
 fn keys_as_ints(alloc: Global, keys: &KeyList) -> Result<Option<Vec<IntGroup>>, AllocError>
     ensures { IfOk result (λ found. IfSome found (λ indexed. AreOrdered keys.now indexed.items)) }
 {
-    match keys.values() {
-        Some(values) => ordered_ints(alloc, values),
+    match keys.ints() {
+        Some(ints) => ordered_ints(alloc, ints),
         None => Ok(None),
     }
 }

@@ -8,7 +8,7 @@ ghost use Rattle.meaning.specs.Order.{row_cmp};
 ghost use Rattle.accumulators.specs.Columns.{ColumnSpec};
 ghost use Rattle.group_by.specs.Combined.{SameBeside};
 ghost use Rattle.group_by.specs.IntGroups.{key_in, indexed_group, AreApart, AreIndexed, AreOrdered};
-ghost use Rattle.group_index.specs.Keys.{alone};
+ghost use Rattle.group_index.specs.Rows.{int_keys};
 
 use crate::handing_out::{group_of, regroup};
 use accumulators::{Group, OrderedStates};
@@ -34,20 +34,17 @@ fn int_group(int: &i64, group_index: usize) -> IntGroup
     }
 }
 
-/// The integers of keys by their group indexes, where each key is one.
-fn int_groups(alloc: Global, values: &[Value]) -> Result<Option<Vec<IntGroup>>, AllocError>
-    ensures { IfOk result (λ found. IfSome found
-        (λ indexed. AreIndexed (alone values.now) (length values.now) indexed.items)) }
+/// Integers by their group indexes.
+fn int_groups(alloc: Global, ints: &[i64]) -> Result<Vec<IntGroup>, AllocError>
+    ensures { IfOk result (λ indexed. AreIndexed (int_keys ints.now) (length ints.now)
+        indexed.items) }
 {
-    let mut indexed = Vec::with_capacity(alloc, values.len())?;
-    for k in 0..values.len() {
-        let Value::Int(int) = &values[k] else {
-            return Ok(None);
-        };
-        let one = int_group(int, k);
+    let mut indexed = Vec::with_capacity(alloc, ints.len())?;
+    for k in 0..ints.len() {
+        let one = int_group(&ints[k], k);
         indexed.push(one)?;
     }
-    Ok(Some(indexed))
+    Ok(indexed)
 }
 
 fn compare(one: &IntGroup, other: &IntGroup) -> Ordering
@@ -88,14 +85,12 @@ fn are_apart(indexed: &[IntGroup]) -> bool
     true
 }
 
-/// The integers of keys in order, where each key is one and none stands twice.
-pub fn ordered_ints(alloc: Global, values: &[Value]) -> Result<Option<Vec<IntGroup>>, AllocError>
+/// Integers in order with their group indexes, where none stands twice.
+pub fn ordered_ints(alloc: Global, ints: &[i64]) -> Result<Option<Vec<IntGroup>>, AllocError>
     ensures { IfOk result (λ found. IfSome found
-        (λ indexed. AreOrdered (alone values.now) indexed.items)) }
+        (λ indexed. AreOrdered (int_keys ints.now) indexed.items)) }
 {
-    let Some(mut indexed) = int_groups(alloc, values)? else {
-        return Ok(None);
-    };
+    let mut indexed = int_groups(alloc, ints)?;
     indexed.reverse();
     sort_ints(&mut indexed)?;
     if !are_apart(indexed.as_slice()) {

@@ -10,5 +10,5 @@ mod ordered_groups;
 mod table;
 
 pub use laws::{says_as, tables_grow};
-pub use ordered_groups::OrderedGroups;
+pub use ordered_groups::{OrderedGroups, spare_groups};
 pub use table::GroupTable;

@@ -59,6 +59,14 @@ impl<'a> UnmadeGroups<'a> {
     }
 }
 
+/// The groups of a batch, whose buffers can be used again, if they were made for it.
+pub fn spare_groups(alloc: Global, batch: CowSlice<'_, Group>) -> Vec<Group> {
+    match batch {
+        CowSlice::Owned(groups) => groups,
+        CowSlice::Borrowed(_) => Vec::new(alloc),
+    }
+}
+
 #[derive(Drop)]
 pub enum HeldGroups<'a> {
     Made(Vec<Group>),

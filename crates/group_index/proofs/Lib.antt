@@ -3,3 +3,4 @@ pub mod CloseInts
 pub mod Texts
 pub mod Ends
 pub mod SelectedInts
+pub mod IntKeys

@@ -3,6 +3,7 @@ use Rattle.std.specs.Prelude.{◌≡◌, ◌≢◌, ℕ, ℤ, Bool, true, false,
 use Rattle.meaning.specs.declared.value.Value.{Value}
 use Rattle.meaning.specs.declared.value.Value.TheVariants.{Int}
 use Rattle.meaning.specs.Order.{Row}
+use Rattle.group_index.specs.Rows.{int_keys}
 use Rattle.group_index.specs.declared.key_list.Held.{Held}
 use Rattle.group_index.specs.declared.key_list.Held.TheVariants as held
 
@@ -16,6 +17,7 @@ abbrev pub alone : List Value → List Row
 alone values = map (λ v. v ∷ []) values
 
 abbrev pub rows_in : Held → List Row
+rows_in (held.Ints n) = int_keys n.items
 rows_in (held.Values v) = alone v.items
 rows_in (held.Rows r) = r.items
 

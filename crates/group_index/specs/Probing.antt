@@ -18,10 +18,13 @@ pub record Leads (key : Row) (hash : ℕ) (keys : List Row) (s : Slot) : Type 0 
   pub within : s.group_index < length keys
   pub is : get_or keys s.group_index [] ≡ key
 
+-- a slot is there, and full
+abbrev pub IsFull : List Slot → ℕ → Slot → Type 0
+IsFull slots at d = (at < length slots) × ((get_or slots at d).group_index ≢ 2 ^ 32 - 1)
+
 -- a search comes to so many steps: each slot before is there, and full
 abbrev pub ComesTo : ℕ → List Slot → ℕ → Type 0
-ComesTo hash slots step = (before : ℕ) (d : Slot) → before < step
-    → (slot_at hash before (length slots) < length slots) × ((get_or slots (slot_at hash before (length slots)) d).group_index ≢ 2 ^ 32 - 1)
+ComesTo hash slots step = (before : ℕ) (d : Slot) → before < step → IsFull slots (slot_at hash before (length slots)) d
 
 -- no slot that a search comes to leads to the key
 abbrev pub IsMissed : Row → ℕ → List Row → List Slot → Type 0

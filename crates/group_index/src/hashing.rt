@@ -84,6 +84,11 @@ fn hash_value(hash: u64, value: ValueRef<'_>) -> u64 {
     }
 }
 
+/// Of the key of this value alone.
+pub fn hash_alone(value: ValueRef<'_>) -> u64 {
+    hash_value(MULTIPLIER, value)
+}
+
 /// Of the key of this integer alone.
 #[inline(always)]
 pub fn hash_int(int: &i64) -> u64 {

@@ -3,21 +3,22 @@
 //! The hash table is a hint: a group index that it names is taken only after its key was compared,
 //! and a key for which it leads to none gets a new one. So what is found rests on no hash. The
 //! groups of a key with two group indexes are made one when they are handed out.
-ghost use Rattle.std.specs.Prelude.{◌≡◌, ◌≢◌, ℕ, ◌<◌, ◌≤◌, ◌∷◌, ◌++◌, [], length, slice_index_or, All, true, IfNone, IfOk, IfSome, OnOk};
+ghost use Rattle.std.specs.Prelude.{◌≡◌, ◌≢◌, ℕ, ◌<◌, ◌≤◌, ◌∷◌, ◌++◌, [], length, slice_index_or, All, true, false, IfNone, IfOk, IfSome, OnOk};
 ghost use Rattle.std.specs.Str.{is_utf8};
 ghost use Rattle.meaning.specs.declared.value.Value.TheVariants.{Int, Text};
 ghost use Rattle.vectors.specs.Vector.{values_of};
 ghost use Rattle.group_index.specs.Keys.{IsLed, IsReturned};
 ghost use Rattle.group_index.specs.Found.{AreFound, IsFound};
 ghost use Rattle.group_index.specs.Keys.{empty_key};
-ghost use Rattle.group_index.specs.Probing.{slot_at, tag_in, IsMissed, Leads};
+ghost use Rattle.group_index.specs.declared.index.Slot.{Slot as ASlot};
+ghost use Rattle.group_index.specs.Probing.{slot_at, tag_in, ComesTo, IsFull, IsMissed, Leads};
 ghost use Rattle.group_index.specs.RowGroups.{listed};
 ghost use Rattle.group_index.specs.Rows.{int_keys, row_at, rows_at, text_keys, AreLanesOf};
 
 use crate::close_ints::{NOWHERE, are_known};
 use crate::hashing::{hash_int, hash_row, hash_rows};
 use crate::key_list::KeyList;
-use crate::keys::{copy_key, key_of, key_of_text, plain_key};
+use crate::keys::{copy_key, key_of, key_of_text, only_int, plain_key};
 use crate::plain_texts::plain_text_key;
 use crate::row_groups::{RowGroups, row_groups};
 use crate::selected_ints::selected_key;
@@ -39,19 +40,12 @@ const EMPTY: u32 = u32::MAX;
 // So many that few keys seldom share a first slot.
 const LEAST_SLOTS: usize = 1024;
 
-/// A key's hash, and its group index.
-#[derive(Clone, Copy)]
-struct Hashed {
-    hash: u64,
-    group_index: u32,
-}
-
 /// Keys in the order in which they came.
 #[derive(Drop)]
 pub struct KeyIndex {
     pub keys: KeyList,
-    // Those that the hash table leads to.
-    hashed: Vec<Hashed>,
+    // How many of them the hash table leads to.
+    led: usize,
     // A power of two of them, at least half of them empty.
     slots: Vec<Slot>,
 }
@@ -109,6 +103,30 @@ fn leads_to_text(slot: Slot, hash: u64, keys: &KeyList, text: &[u8]) -> bool
     keys.is_text(slot.group_index, text)
 }
 
+/// The group index in the first slot that leads to a key, of those to which probing for its hash
+/// comes before an empty one.
+#[inline(always)]
+fn probe<F: Fn(Slot) -> bool>(slots: &[Slot], hash: u64, leads: F) -> Option<u32>
+    requires { F.IsAlwaysCallable leads }
+    ensures found { IfSome result (λ group_index. (slot : ASlot)
+        × (slot.group_index ≡ group_index) × F.post leads slot true) }
+    ensures missed { IfNone result ((step : ℕ) (d : ASlot) → step < length slots.now
+        → ComesTo hash slots.now step
+        → IsFull slots.now (slot_at hash step (length slots.now)) d
+        → F.post leads (slice_index_or slots.now (slot_at hash step (length slots.now)) d) false) }
+{
+    for step in 0..slots.len() {
+        let slot = *slots.get(slot_number(hash, step, slots.len()))?;
+        if slot.group_index == EMPTY {
+            return None;
+        }
+        if leads(slot) {
+            return Some(slot.group_index);
+        }
+    }
+    None
+}
+
 /// Puts a group index into the first empty slot for its hash.
 fn enter(slots: &mut [Slot], hash: u64, group_index: u32) {
     for step in 0..slots.len() {
@@ -123,9 +141,12 @@ fn enter(slots: &mut [Slot], hash: u64, group_index: u32) {
     }
 }
 
-fn enter_all(slots: &mut [Slot], hashed: &[Hashed]) {
-    for key in hashed {
-        enter(slots, key.hash, key.group_index);
+/// The same of each key before a group index.
+fn enter_all(slots: &mut [Slot], keys: &KeyList, before: u32) {
+    for group_index in 0..before {
+        if let Some(hash) = keys.hash_of(group_index) {
+            enter(slots, hash, group_index);
+        }
     }
 }
 
@@ -136,7 +157,7 @@ impl KeyIndex {
     {
         KeyIndex {
             keys: KeyList::new(alloc),
-            hashed: Vec::new(alloc),
+            led: 0,
             slots: Vec::new(alloc),
         }
     }
@@ -150,17 +171,11 @@ impl KeyIndex {
         ensures missed { IfNone result
             (IsMissed (row_at lanes.now at) hash self.now.keys self.now.slots.items) }
     {
-        let slots = self.slots.as_slice();
-        for step in 0..slots.len() {
-            let slot = *slots.get(slot_number(hash, step, slots.len()))?;
-            if slot.group_index == EMPTY {
-                return None;
-            }
-            if leads_to_lanes(slot, hash, &self.keys, lanes, at) {
-                return Some(slot.group_index);
-            }
-        }
-        None
+        probe(
+            self.slots.as_slice(),
+            hash,
+            |slot| leads_to_lanes(slot, hash, &self.keys, lanes, at),
+        )
     }
 
     /// The group index of a key, where the hash table leads to one.
@@ -170,24 +185,19 @@ impl KeyIndex {
         ensures missed { IfNone result
             (IsMissed row.now hash self.now.keys self.now.slots.items) }
     {
-        let slots = self.slots.as_slice();
-        for step in 0..slots.len() {
-            let slot = *slots.get(slot_number(hash, step, slots.len()))?;
-            if slot.group_index == EMPTY {
-                return None;
-            }
-            if leads_to_row(slot, hash, &self.keys, row) {
-                return Some(slot.group_index);
-            }
-        }
-        None
+        probe(
+            self.slots.as_slice(),
+            hash,
+            |slot| leads_to_row(slot, hash, &self.keys, row),
+        )
     }
 
-    /// Makes the hash table twice as large where half of it is full.
-    fn make_room(&mut self, alloc: Global) -> Result<(), AllocError>
+    /// Makes the hash table twice as large where half of it is full. It leads to the keys before
+    /// a group index.
+    fn make_room(&mut self, alloc: Global, before: u32) -> Result<(), AllocError>
         ensures { self.new.keys ≡ self.old.keys }
     {
-        if self.hashed.len() < self.slots.len() / 2 {
+        if self.led < self.slots.len() / 2 {
             return Ok(());
         }
         let many = self.slots.len().saturating_mul(2).max(LEAST_SLOTS);
@@ -195,7 +205,7 @@ impl KeyIndex {
             tag: 0,
             group_index: EMPTY
         }; many]?;
-        enter_all(slots.as_mut_slice(), self.hashed.as_slice());
+        enter_all(slots.as_mut_slice(), &self.keys, before);
         self.slots = slots;
         Ok(())
     }
@@ -204,8 +214,8 @@ impl KeyIndex {
     fn lead(&mut self, alloc: Global, hash: u64, group_index: u32) -> Result<(), AllocError>
         ensures { self.new.keys ≡ self.old.keys }
     {
-        self.make_room(alloc)?;
-        self.hashed.push(Hashed { hash, group_index })?;
+        self.make_room(alloc, group_index)?;
+        self.led = self.led.saturating_add(1);
         enter(self.slots.as_mut_slice(), hash, group_index);
         Ok(())
     }
@@ -271,6 +281,9 @@ impl KeyIndex {
         ensures { IfOk result (λ group_index. IsFound row.now self.old.keys group_index
             self.new.keys) }
     {
+        if let Some(int) = only_int(row) {
+            return self.group_index_of_int(alloc, int);
+        }
         let hash = hash_row(row);
         if let Some(group_index) = self.find_row(hash, row) {
             return Ok(group_index);
@@ -307,17 +320,11 @@ impl KeyIndex {
         ensures missed { IfNone result
             (IsMissed (Int int.now ∷ []) hash self.now.keys self.now.slots.items) }
     {
-        let slots = self.slots.as_slice();
-        for step in 0..slots.len() {
-            let slot = *slots.get(slot_number(hash, step, slots.len()))?;
-            if slot.group_index == EMPTY {
-                return None;
-            }
-            if self.keys.is_int(slot.group_index, int) {
-                return Some(slot.group_index);
-            }
-        }
-        None
+        probe(
+            self.slots.as_slice(),
+            hash,
+            |slot| self.keys.is_int(slot.group_index, int),
+        )
     }
 
     /// A group index for the key of this integer alone.
@@ -460,17 +467,11 @@ impl KeyIndex {
         ensures missed { IfNone result
             (IsMissed (Text text.now ∷ []) hash self.now.keys self.now.slots.items) }
     {
-        let slots = self.slots.as_slice();
-        for step in 0..slots.len() {
-            let slot = *slots.get(slot_number(hash, step, slots.len()))?;
-            if slot.group_index == EMPTY {
-                return None;
-            }
-            if leads_to_text(slot, hash, &self.keys, text) {
-                return Some(slot.group_index);
-            }
-        }
-        None
+        probe(
+            self.slots.as_slice(),
+            hash,
+            |slot| leads_to_text(slot, hash, &self.keys, text),
+        )
     }
 
     /// A group index for the key of this text alone.
@@ -668,11 +669,10 @@ impl KeyIndex {
         ensures { IfOk result (λ index. index.keys ≡ self.now.keys) }
     {
         let keys = self.keys.copy(alloc)?;
-        let hashed = Vec::from_slice(alloc, self.hashed.as_slice())?;
         let slots = Vec::from_slice(alloc, self.slots.as_slice())?;
         Ok(KeyIndex {
             keys,
-            hashed,
+            led: self.led,
             slots,
         })
     }

@@ -1,15 +1,16 @@
-//! Keys in the order of their group indexes. Keys of one column stand as values, so that they need
-//! no memory of their own.
+//! Keys in the order of their group indexes. Keys of one column stand as integers, or as values
+//! where not all are integers, so that they need no memory of their own.
 ghost use Rattle.std.specs.Prelude.{◌≡◌, ◌≢◌, ℕ, ◌<◌, ◌≤◌, ◌∷◌, ◌++◌, [], length, pos, map, slice_index_or, All, true, IfNone, IfOk, IfSome, OnOk};
 ghost use Rattle.meaning.specs.declared.value.Value.TheVariants.{Int, Text};
 ghost use Rattle.vectors.specs.Vector.{values_of};
 ghost use Rattle.group_index.specs.Keys.{alone, rows_in, IsReturned};
-ghost use Rattle.group_index.specs.Rows.{row_at, AreLanesOf};
+ghost use Rattle.group_index.specs.Rows.{int_keys, row_at};
 
 use crate::close_ints::{NOWHERE, close_group_index, enter, window_of};
+use crate::hashing::{hash_alone, hash_int, hash_row};
 use crate::keys::{
-    copy_key, is_int, is_int_value, is_key, is_lane_value, is_row, is_row_value, is_text_key,
-    is_text_value, key_of_value, only_value,
+    copy_key, is_int, is_int_value, is_key, is_lane_int, is_lane_value, is_row, is_row_value,
+    is_same_int, is_text_key, is_text_value, key_of_value, only_value,
 };
 use meaning::{Row, Value};
 use std::alloc::{AllocError, Global};
@@ -19,6 +20,7 @@ use vectors::Vector;
 
 #[derive(Drop)]
 enum Held {
+    Ints(Vec<i64>),
     Values(Vec<Value>),
     Rows(Vec<Row>),
 }
@@ -46,6 +48,15 @@ impl Model for KeyList {
 }
 
 #[inline(always)]
+fn int_of(ints: &[i64], group_index: u32) -> Option<&i64>
+    ensures some { IfSome result (λ int. (group_index < length (int_keys ints.now))
+        × (slice_index_or (int_keys ints.now) group_index [] ≡ Int int.now ∷ [])) }
+    ensures none { IfNone result (length (int_keys ints.now) ≤ group_index) }
+{
+    ints.get(group_index as usize)
+}
+
+#[inline(always)]
 fn value_of(values: &[Value], group_index: u32) -> Option<&Value>
     ensures some { IfSome result (λ v. (group_index < length (alone values.now))
         × (slice_index_or (alone values.now) group_index [] ≡ v.now ∷ [])) }
@@ -61,6 +72,26 @@ fn row_of(rows: &[Row], group_index: u32) -> Option<&Row>
     ensures none { IfNone result (length rows.now ≤ group_index) }
 {
     rows.get(group_index as usize)
+}
+
+fn values_of_ints(alloc: Global, ints: &[i64]) -> Result<Vec<Value>, AllocError>
+    ensures { IfOk result (λ values. alone values.items ≡ int_keys ints.now) }
+{
+    let mut values = Vec::with_capacity(alloc, ints.len())?;
+    for int in ints {
+        values.push(Value::Int(*int))?;
+    }
+    Ok(values)
+}
+
+fn rows_of_ints(alloc: Global, ints: &[i64]) -> Result<Vec<Row>, AllocError>
+    ensures { IfOk result (λ rows. rows.items ≡ int_keys ints.now) }
+{
+    let mut rows = Vec::with_capacity(alloc, ints.len())?;
+    for int in ints {
+        rows.push(key_of_value(alloc, Value::Int(*int))?)?;
+    }
+    Ok(rows)
 }
 
 /// The same keys as rows.
@@ -88,6 +119,7 @@ fn copy_held(alloc: Global, held: &Held) -> Result<Held, AllocError>
     ensures { IfOk result (λ copy. rows_in copy ≡ rows_in held.now) }
 {
     match held {
+        Held::Ints(ints) => Ok(Held::Ints(Vec::from_slice(alloc, ints.as_slice())?)),
         Held::Values(values) => Ok(Held::Values(values.clone()?)),
         Held::Rows(rows) => Ok(Held::Rows(copy_rows(alloc, rows.as_slice())?)),
     }
@@ -97,22 +129,55 @@ fn held_as_rows(alloc: Global, held: Held) -> Result<Vec<Row>, AllocError>
     ensures { IfOk result (λ rows. rows.items ≡ rows_in held) }
 {
     match held {
+        Held::Ints(ints) => rows_of_ints(alloc, ints.as_slice()),
         Held::Values(values) => rows_of(alloc, values.as_slice()),
         Held::Rows(rows) => Ok(rows),
     }
 }
 
-fn push_value(held: &mut Held, alloc: Global, value: Value) -> Result<(), AllocError>
-    ensures { OnOk result (rows_in held.new ≡ rows_in held.old ++ (value ∷ []) ∷ []) }
+/// An integer more, without moving the keys.
+fn push_int_key(held: &mut Held, alloc: Global, int: &i64) -> Result<(), AllocError>
+    ensures { OnOk result (rows_in held.new ≡ rows_in held.old ++ (Int int.now ∷ []) ∷ []) }
 {
     match held {
+        Held::Ints(ints) => {
+            ints.push(*int)?;
+            Ok(())
+        }
         Held::Values(values) => {
-            values.push(value)?;
+            values.push(Value::Int(*int))?;
             Ok(())
         }
         Held::Rows(rows) => {
-            rows.push(key_of_value(alloc, value)?)?;
+            rows.push(key_of_value(alloc, Value::Int(*int))?)?;
             Ok(())
+        }
+    }
+}
+
+/// A value behind integers.
+fn push_behind_ints(alloc: Global, ints: Vec<i64>, value: Value) -> Result<Held, AllocError>
+    ensures { IfOk result (λ more. rows_in more ≡ int_keys ints.items ++ (value ∷ []) ∷ []) }
+{
+    let mut values = values_of_ints(alloc, ints.as_slice())?;
+    values.push(value)?;
+    Ok(Held::Values(values))
+}
+
+fn push_value(alloc: Global, held: Held, value: Value) -> Result<Held, AllocError>
+    ensures { IfOk result (λ more. rows_in more ≡ rows_in held ++ (value ∷ []) ∷ []) }
+{
+    match held {
+        Held::Ints(ints) => push_behind_ints(alloc, ints, value),
+        Held::Values(values) => {
+            let mut values = values;
+            values.push(value)?;
+            Ok(Held::Values(values))
+        }
+        Held::Rows(rows) => {
+            let mut rows = rows;
+            rows.push(key_of_value(alloc, value)?)?;
+            Ok(Held::Rows(rows))
         }
     }
 }
@@ -131,7 +196,7 @@ impl KeyList {
         ensures { result ≡ [] }
     {
         KeyList {
-            held: Held::Values(Vec::new(alloc)),
+            held: Held::Ints(Vec::new(alloc)),
             least: 0,
             close: Vec::new(alloc),
         }
@@ -142,6 +207,7 @@ impl KeyList {
         ensures { result ≡ length self.now }
     {
         match &self.held {
+            Held::Ints(ints) => ints.len(),
             Held::Values(values) => values.len(),
             Held::Rows(rows) => rows.len(),
         }
@@ -157,6 +223,10 @@ impl KeyList {
             → slice_index_or self.now group_index [] ≡ row_at lanes.now at → result ≡ true }
     {
         match &self.held {
+            Held::Ints(ints) => match int_of(ints.as_slice(), group_index) {
+                Some(int) => is_lane_int(int, lanes, at),
+                None => false,
+            },
             Held::Values(values) => match value_of(values.as_slice(), group_index) {
                 Some(value) => is_lane_value(value, lanes, at),
                 None => false,
@@ -176,6 +246,10 @@ impl KeyList {
             → slice_index_or self.now group_index [] ≡ key.now → result ≡ true }
     {
         match &self.held {
+            Held::Ints(ints) => match int_of(ints.as_slice(), group_index) {
+                Some(int) => is_int(key, int),
+                None => false,
+            },
             Held::Values(values) => match value_of(values.as_slice(), group_index) {
                 Some(value) => is_row_value(value, key),
                 None => false,
@@ -196,6 +270,10 @@ impl KeyList {
             → slice_index_or self.now group_index [] ≡ Int int.now ∷ [] → result ≡ true }
     {
         match &self.held {
+            Held::Ints(ints) => match int_of(ints.as_slice(), group_index) {
+                Some(own) => is_same_int(own, int),
+                None => false,
+            },
             Held::Values(values) => match value_of(values.as_slice(), group_index) {
                 Some(value) => is_int_value(value, int),
                 None => false,
@@ -216,6 +294,7 @@ impl KeyList {
             → slice_index_or self.now group_index [] ≡ Text text.now ∷ [] → result ≡ true }
     {
         match &self.held {
+            Held::Ints(_) => false,
             Held::Values(values) => match value_of(values.as_slice(), group_index) {
                 Some(value) => is_text_value(value, text),
                 None => false,
@@ -268,11 +347,29 @@ impl KeyList {
         Ok(group_indexes)
     }
 
-    /// A key of one value more. On an error the keys are open, and no entry leads to one.
+    /// A key of one value more. On an error the keys are open, and no entry
+    /// leads to one.
     fn push_one(&mut self, alloc: Global, value: Value) -> Result<(), AllocError>
         ensures { OnOk result (self.new ≡ self.old ++ (value ∷ []) ∷ []) }
     {
-        match push_value(&mut self.held, alloc, value) {
+        let held = replace(&mut self.held, Held::Ints(Vec::new(alloc)));
+        match push_value(alloc, held, value) {
+            Ok(held) => {
+                self.held = held;
+                Ok(())
+            }
+            Err(fault) => {
+                self.close.clear();
+                Err(fault)
+            }
+        }
+    }
+
+    /// An integer more, to which no entry leads. On an error the keys are open.
+    fn put_int(&mut self, alloc: Global, int: &i64) -> Result<(), AllocError>
+        ensures { OnOk result (self.new ≡ self.old ++ (Int int.now ∷ []) ∷ []) }
+    {
+        match push_int_key(&mut self.held, alloc, int) {
             Ok(()) => Ok(()),
             Err(fault) => {
                 self.close.clear();
@@ -286,7 +383,7 @@ impl KeyList {
         ensures { OnOk result (self.new ≡ self.old ++ (Int int.now ∷ []) ∷ []) }
     {
         let group_index = self.len();
-        self.push_one(alloc, Value::Int(*int))?;
+        self.put_int(alloc, int)?;
         enter(self.close.as_mut_slice(), &self.least, int, group_index);
         Ok(())
     }
@@ -304,13 +401,32 @@ impl KeyList {
         Ok(())
     }
 
-    /// The values that are keys alone, where all keys are.
-    pub fn values(&self) -> Option<&[Value]>
-        ensures { IfSome result (λ values. alone values.now ≡ self.now) }
+    /// The integers that are keys alone, where all keys are.
+    pub fn ints(&self) -> Option<&[i64]>
+        ensures { IfSome result (λ ints. int_keys ints.now ≡ self.now) }
     {
         match &self.held {
-            Held::Values(values) => Some(values.as_slice()),
+            Held::Ints(ints) => Some(ints.as_slice()),
+            Held::Values(_) => None,
             Held::Rows(_) => None,
+        }
+    }
+
+    /// The hash of the key at a group index, unless the table of close integers leads to it.
+    pub fn hash_of(&self, group_index: u32) -> Option<u64> {
+        match &self.held {
+            Held::Ints(ints) => {
+                let int = int_of(ints.as_slice(), group_index)?;
+                if self.close_group_index(int) == group_index {
+                    return None;
+                }
+                Some(hash_int(int))
+            }
+            Held::Values(values) => {
+                let value = value_of(values.as_slice(), group_index)?;
+                Some(hash_alone(value.as_value_ref()))
+            }
+            Held::Rows(rows) => Some(hash_row(row_of(rows.as_slice(), group_index)?)),
         }
     }
 

@@ -132,6 +132,27 @@ pub fn is_text_key(key: &Row, text: &[u8]) -> bool
     is_text_value(&key[0], text)
 }
 
+#[inline(always)]
+pub fn is_same_int(one: &i64, other: &i64) -> bool
+    ensures same { result ≡ true → one.now ≡ other.now }
+    ensures apart { one.now ≡ other.now → result ≡ true }
+{
+    one == other
+}
+
+/// Whether these vectors have this integer alone at a position.
+#[inline(always)]
+pub fn is_lane_int(int: &i64, lanes: &[Vector<'_>], at: usize) -> bool
+    requires { All (λ column. at < length (values_of column)) lanes.now }
+    ensures same { result ≡ true → Int int.now ∷ [] ≡ row_at lanes.now at }
+    ensures apart { Int int.now ∷ [] ≡ row_at lanes.now at → result ≡ true }
+{
+    if lanes.len() != 1 {
+        return false;
+    }
+    is_number(int, value_at(&lanes[0], at))
+}
+
 /// Whether these vectors have this value alone at a position.
 #[inline(always)]
 pub fn is_lane_value(value: &Value, lanes: &[Vector<'_>], at: usize) -> bool
@@ -193,6 +214,21 @@ pub fn only_value(key: Row) -> Value
         unreachable!()
     };
     value
+}
+
+/// The integer that a key is alone, if it is.
+pub fn only_int(key: &Row) -> Option<&i64>
+    ensures { IfSome result (λ int. key.now ≡ Int int.now ∷ []) }
+{
+    let key = key.as_slice();
+    if key.len() != 1 {
+        return None;
+    }
+    match &key[0] {
+        Value::Null => None,
+        Value::Int(int) => Some(int),
+        Value::Text(_) => None,
+    }
 }
 
 /// The integers of one key, where all rows are selected and none is NULL.

@@ -143,6 +143,7 @@ pub record Advances {R : Type 0} (known : R → Option (List ℕ)) (old new : Re
   pub refused : IfErr r (λ e. refused_in new ≡ Some e)
   pub none : OnErr r (new.current ≡ None)
   pub again : (e : FileFault) → refused_in old ≡ Some e → (r ≡ Err e) × (new ≡ old)
+  pub over : old.standing ≡ AtEnd → (r ≡ Ok false) × (new ≡ old)
 
 -- whether a call that lends lent something
 abbrev pub lends : {X : Type 0} → Result (Option X) FileFault → Result Bool FileFault

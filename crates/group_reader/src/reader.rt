@@ -1,5 +1,5 @@
 //! A reader of row groups, one after the other.
-ghost use Rattle.std.specs.Prelude.{◌≡◌, ◌≤◌, ◌<◌, get_or, ℕ, None, Some, length, map, option_map, IfErr, IfOk, IfSome, Err, OnErr};
+ghost use Rattle.std.specs.Prelude.{◌≡◌, ◌≤◌, ◌<◌, get_or, ℕ, false, None, Some, length, map, option_map, IfErr, IfOk, IfSome, Ok, Err, OnErr};
 ghost use Rattle.std.specs.Borrow.{sem};
 ghost use Rattle.std.specs.Io.BufRead.{Rests};
 ghost use Rattle.fragment_file.specs.declared.fault.FileFault.{FileFault as AFault};
@@ -178,6 +178,8 @@ impl<R: Read + Drop> GroupReader<R> {
         ensures none { OnErr result (self.new.current ≡ None) }
         ensures again { (e : AFault) → refused_in self.old ≡ Some e
             → (result ≡ Err e) × (self.new ≡ self.old) }
+        ensures over { self.old.standing ≡ Standing.AtEnd
+            → (result ≡ Ok false) × (self.new ≡ self.old) }
     {
         match self.standing {
             Standing::Between => self.go_on(),

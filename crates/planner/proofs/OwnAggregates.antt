@@ -1,7 +1,6 @@
 -- Each aggregate of a query is given as its own.
-use Rattle.std.proofs.Common.{rules, ◌≡◌, ℕ, zero, suc, ◌+◌, pos, Bool, true, false, List, [], ◌∷◌, ◌++◌, map, flat_map, cond, Option, Some, None, unwrap_or, slice_get, refl, ap, sym, ◌∙◌, arith}
+use Rattle.std.proofs.Common.{rules, ◌≡◌, ℕ, zero, suc, ◌+◌, Bool, true, false, List, [], ◌∷◌, ◌++◌, map, flat_map, cond, Option, Some, None, unwrap_or, slice_get, refl, ap, sym, ◌∙◌, arith}
 use Rattle.std.specs.List.{position_from, AllByRecursion}
-use Rattle.std.specs.Cmp.Rules.{signed_items}
 use Rattle.std.proofs.lemmas.Iterator.Adapters.{position_from-zero}
 use Rattle.meaning.specs.declared.expr.Expr as plan
 use Rattle.meaning.specs.declared.expr.Expr.TheVariants as expr
@@ -14,12 +13,14 @@ use Rattle.sql_syntax.specs.declared.tree.Expr.TheOpen as node
 use Rattle.sql_syntax.specs.declared.tree.Expr.TheOpen.{Expr-F}
 use Rattle.sql_syntax.specs.declared.tree.Expr.TheFolds.{the_lemmas, map-Expr}
 use Rattle.sql_syntax.specs.declared.tree.Expr.TheViews.{out-Expr}
+use Rattle.planner_expressions.specs.declared.marks.Operator.TheVariants as operator
 use Rattle.planner_expressions.specs.declared.scope.ScopeColumn.{ScopeColumn}
 use Rattle.planner_expressions.specs.declared.scope.Scope.{Scope}
 use Rattle.planner_expressions.specs.Scope.{stands_for}
-use Rattle.planner_expressions.specs.Spelled.{Spelling, aggregate_code, column_code, spell_node, spelled, spelled_arm, same_spelling, index_among}
+use Rattle.planner_expressions.specs.Spelled.{Spelling, column_mark, spell_node, spelled, spelled_arm, same_spelling, index_among}
 use Rattle.planner_expressions.proofs.AlikeTrees.{spelled_sorts, spelled_translate}
-use Rattle.planner_expressions.proofs.SpelledAlike.{tail_is, head_is, aggregate_same, is_tag}
+use Rattle.planner_expressions.proofs.SameMarks.{spelling_is, spelling_itself}
+use Rattle.planner_expressions.proofs.SpelledAlike.{marks_aggregate, tail_is, operator_is}
 use Rattle.planner_clauses.specs.declared.aggregates.Aggregates.{Aggregates}
 use Rattle.planner_clauses.specs.Aggregates.{aggregate_node, aggregate_of, count_rows, kind_of, type_in, row_type, with_new, with_aggregate, with_aggregates, with_parts}
 use Rattle.planner_clauses.specs.Conjuncts.{row_expr}
@@ -74,13 +75,18 @@ module _ (s : Scope) where
   has_argument (node.Aggregate k a) = true
   has_argument _ = false
 
-  no_tag : (o : Option ScopeColumn) → is_tag 5 (column_code o) ≡ false
-  no_tag None = refl
-  no_tag (Some p) = refl
+  -- it is written out as one
+  abbrev begins_with_argument : Spelling → Bool
+  begins_with_argument [] = false
+  begins_with_argument (first ∷ rest) = marks_aggregate first
 
-  tags : (x : Expr-F Expr Arm) → is_tag 5 (spell_at x) ≡ has_argument x
-  tags (node.Column t n) = no_tag (stands_for s t n)
-  tags _ = refl
+  names_begin : (o : Option ScopeColumn) → begins_with_argument (column_mark o ∷ []) ≡ false
+  names_begin None = refl
+  names_begin (Some p) = refl
+
+  begins_at : (x : Expr-F Expr Arm) → begins_with_argument (spell_at x) ≡ has_argument x
+  begins_at (node.Column t n) = names_begin (stands_for s t n)
+  begins_at _ = refl
 
   other_counts : (x : Expr-F Expr Arm) → has_argument x ≡ false → aggregate_node s x ≡ count_rows
   other_counts (node.Aggregate k a) is = absurd cc
@@ -89,9 +95,9 @@ module _ (s : Scope) where
   two_aggregates : (k l : written.Aggregate) (a b : Expr) → spell_at (node.Aggregate k a) ≡ spell_at (node.Aggregate l b) → argument_of s (node.Aggregate k a)
       → aggregate_node s (node.Aggregate k a) ≡ aggregate_node s (node.Aggregate l b)
   two_aggregates k l a b is fine =
-      let rest = tail_is (pos 5) (pos 5) _ _ is in
-      let kind = aggregate_same k l (head_is (aggregate_code k) (aggregate_code l) (spelled s a) (spelled s b) rest) in
-      let alike = tail_is (aggregate_code k) (aggregate_code l) (spelled s a) (spelled s b) rest in
+      let operators : operator.Aggregate k ≡ operator.Aggregate l = operator_is _ _ (spelled s a) (spelled s b) is in
+      let kind : k ≡ l = cc in
+      let alike = tail_is _ _ (spelled s a) (spelled s b) is in
       let argument : row_expr s a ≡ row_expr s b = ap (λ (o : Option plan.Expr). unwrap_or o (expr.Literal value.Null)) (spelled_translate s a b alike) in
       let kind_type : row_type s a ≡ row_type s b = ap type_in (fine.1 ∙ sym (spelled_sorts s a b true fine.0 alike fine.1)) in
       (λ i. record { kind = kind_of (kind i); argument = argument i; col_type = kind_type i })
@@ -106,8 +112,8 @@ module _ (s : Scope) where
   by_kind _ y here there is fine = absurd cc
 
   node_same : (x y : Expr-F Expr Arm) (b : Bool) → has_argument x ≡ b → spell_at x ≡ spell_at y → argument_of s x → aggregate_node s x ≡ aggregate_node s y
-  node_same x y true here is fine = by_kind x y here (sym (tags y) ∙ ap (is_tag 5) (sym is) ∙ tags x ∙ here) is fine
-  node_same x y false here is fine = other_counts x here ∙ sym (other_counts y (sym (tags y) ∙ ap (is_tag 5) (sym is) ∙ tags x ∙ here))
+  node_same x y true here is fine = by_kind x y here (sym (begins_at y) ∙ ap begins_with_argument (sym is) ∙ begins_at x ∙ here) is fine
+  node_same x y false here is fine = other_counts x here ∙ sym (other_counts y (sym (begins_at y) ∙ ap begins_with_argument (sym is) ∙ begins_at x ∙ here))
 
   pub one_aggregate : (e f : Expr) → spelled s e ≡ spelled s f → is_counted s e → aggregate_of s e ≡ aggregate_of s f
   one_aggregate e f is counted = node_same (out-Expr e) (out-Expr f) (has_argument (out-Expr e)) refl (sym (spelled_out e) ∙ is ∙ spelled_out f) counted
@@ -128,13 +134,10 @@ module _ (s : Scope) where
   new_kept l x a (Some i) e has = has
   new_kept l x a None e has = index_kept l.written (x ∷ []) e has
 
-  itself : (x : Spelling) → same_spelling x x ≡ true
-  itself x = (signed_items x x).1 refl
-
   new_has : (l : Aggregates) (e : Expr) (a : Aggregate) (o : Option ℕ) → index_among l.written (spelled s e) ≡ o → HasIndex (with_new l (spelled s e) a o).written e
   new_has l e a (Some i) is = (i, is)
   new_has l e a None is =
-      let last = index_last (same_spelling (spelled s e)) 0 l.written (spelled s e) (itself (spelled s e)) in
+      let last = index_last (same_spelling (spelled s e)) 0 l.written (spelled s e) (spelling_itself (spelled s e)) in
       (last.0, from_start (l.written ++ spelled s e ∷ []) (spelled s e) ∙ last.1)
 
   all_kept : (l : Aggregates) (es : List Expr) (e : Expr) → HasIndex l.written e → HasIndex (with_aggregates s l es).written e
@@ -172,7 +175,7 @@ module _ (s : Scope) where
   by_test : (n i : ℕ) (e : Expr) (es : List Expr) (x : Spelling) (b : Bool) → same_spelling x (spelled s e) ≡ b
       → (position_from (same_spelling x) (n + 1) (map (spelled s) es) ≡ Some i → (k : ℕ) × ((f : Expr) × (i ≡ (n + 1) + k) × (slice_get es k ≡ Some f) × (x ≡ spelled s f)))
       → cond b (Some n) (position_from (same_spelling x) (n + 1) (map (spelled s) es)) ≡ Some i → (k : ℕ) × ((f : Expr) × (i ≡ n + k) × (slice_get (e ∷ es) k ≡ Some f) × (x ≡ spelled s f))
-  by_test n i e es x true same rest is = let here : n ≡ i = cc in (0, (e, sym here ∙ plus_zero n, refl, (signed_items x (spelled s e)).0 same))
+  by_test n i e es x true same rest is = let here : n ≡ i = cc in (0, (e, sym here ∙ plus_zero n, refl, spelling_is x (spelled s e) same))
   by_test n i e es x false same rest is = let found = rest is in (suc found.0, (found.1.0, plus_next n found.0 i found.1.1, found.1.2, found.1.3))
 
   found_at : (n i : ℕ) (es : List Expr) (x : Spelling) → position_from (same_spelling x) n (map (spelled s) es) ≡ Some i

@@ -1,5 +1,5 @@
 -- Whatever is a query's plan means the same over all tables.
-use Rattle.std.proofs.Common.{rules, ◌≡◌, ℕ, ◌+◌, pos, Bool, true, false, cond, List, [], ◌∷◌, map, filter, filter_map, flat_map, zip, length, Option, Some, None, option_map, option_to_list, Result, Ok, refl, ap, ap₂, subst, sym, ◌∙◌}
+use Rattle.std.proofs.Common.{rules, ◌≡◌, ℕ, ◌+◌, Bool, true, false, cond, List, [], ◌∷◌, map, filter, filter_map, flat_map, zip, length, Option, Some, None, option_map, option_to_list, Result, Ok, refl, ap, ap₂, subst, sym, ◌∙◌}
 use Rattle.std.specs.Prelude.{replicate}
 use Rattle.std.specs.List.{list_all, enumerate_from}
 use Rattle.meaning.specs.Aggregate.{aggregate}
@@ -31,11 +31,12 @@ use Rattle.sql_syntax.specs.declared.tree.Expr.TheFolds.{the_lemmas, map-Expr}
 use Rattle.sql_syntax.specs.declared.tree.Expr.TheViews.{out-Expr}
 use Rattle.sql_syntax.specs.declared.tree.Query.{Query}
 use Rattle.planner_expressions.specs.declared.fault.PlanFault.{PlanFault}
+use Rattle.planner_expressions.specs.declared.marks.Operator.TheVariants as operator
 use Rattle.planner_expressions.specs.declared.scope.Scope.{Scope}
 use Rattle.planner_expressions.specs.Meant.{SameOnRows}
-use Rattle.planner_expressions.specs.Spelled.{Spelling, aggregate_code, spell_node, spelled, spelled_arm}
+use Rattle.planner_expressions.specs.Spelled.{Spelling, spell_node, spelled, spelled_arm}
 use Rattle.planner_expressions.proofs.AlikeTrees.{spelled_mean}
-use Rattle.planner_expressions.proofs.SpelledAlike.{tail_is, head_is, aggregate_same, is_tag}
+use Rattle.planner_expressions.proofs.SpelledAlike.{apart, marks_aggregate, tail_is, operator_is}
 use Rattle.planner_clauses.specs.Aggregates.{kind_of}
 use Rattle.planner.specs.PlanOf.{Pairwise, IsAggregateOf, IsHavingOf, IsItemOf, IsKeyOf, IsPlanOf, PlansAgree, is_aggregate_at}
 
@@ -179,15 +180,12 @@ module _ (s : Scope) where
   spelled_out : (e : Expr) → spelled s e ≡ spell_at (out-Expr e)
   spelled_out e = search (rules, the_lemmas)
 
-  never : (x y : Spelling) → is_tag 5 x ≡ true → is_tag 5 y ≡ false → x ≡ y → ⊥
-  never x y there other is = let wrong : true ≡ false = sym there ∙ ap (is_tag 5) is ∙ other in cc
-
   two_same : (k l : written.Aggregate) (a b : Expr) (x y : Aggregate) → spell_at (node.Aggregate k a) ≡ spell_at (node.Aggregate l b)
       → is_aggregate_at s x (node.Aggregate k a) → is_aggregate_at s y (node.Aggregate l b) → SameAggregate x y
   two_same k l a b x y is first second =
-      let rest = tail_is (pos 5) (pos 5) _ _ is in
-      let kind = aggregate_same k l (head_is (aggregate_code k) (aggregate_code l) (spelled s a) (spelled s b) rest) in
-      let alike = tail_is (aggregate_code k) (aggregate_code l) (spelled s a) (spelled s b) rest in
+      let operators : operator.Aggregate k ≡ operator.Aggregate l = operator_is _ _ (spelled s a) (spelled s b) is in
+      let kind : k ≡ l = cc in
+      let alike = tail_is _ _ (spelled s a) (spelled s b) is in
       (first.0 ∙ ap kind_of kind ∙ sym second.0, λ r. first.1 r ∙ spelled_mean s a b alike r ∙ sym (second.1 r))
 
   node_same : (u v : Expr-F Expr Arm) (x y : Aggregate) → spell_at u ≡ spell_at v → is_aggregate_at s x u → is_aggregate_at s y v → SameAggregate x y
@@ -195,12 +193,12 @@ module _ (s : Scope) where
     where
       with_argument : (v : Expr-F Expr Arm) → spell_at (node.Aggregate k a) ≡ spell_at v → is_aggregate_at s y v → SameAggregate x y
       with_argument (node.Aggregate l b) same other = two_same k l a b x y same first other
-      with_argument node.CountRows same other = absurd (never _ _ refl refl same)
+      with_argument node.CountRows same other = absurd (apart marks_aggregate _ _ _ _ refl refl same)
       with_argument _ same other = absurd other
   node_same node.CountRows v x y is first second = of_rows v is second
     where
       of_rows : (v : Expr-F Expr Arm) → spell_at node.CountRows ≡ spell_at v → is_aggregate_at s y v → SameAggregate x y
-      of_rows (node.Aggregate l b) same other = absurd (never _ _ refl refl (sym same))
+      of_rows (node.Aggregate l b) same other = absurd (apart marks_aggregate _ _ _ _ refl refl (sym same))
       of_rows node.CountRows same other = (ap (λ (a : Aggregate). a.kind) (first ∙ sym other), λ r. ap (λ (a : Aggregate). eval a.argument r) (first ∙ sym other))
       of_rows _ same other = absurd other
   node_same _ v x y is first second = absurd first

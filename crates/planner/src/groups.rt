@@ -155,16 +155,16 @@ fn groups_from(
         }))) }
 {
     let Keys {
-        written: key_texts,
+        written: key_spellings,
         list: keys,
     } = keys;
     let Aggregates {
-        written: aggregate_texts,
+        written: aggregate_spellings,
         list: aggs,
     } = aggregates;
     let basis = Basis::Groups {
-        keys: key_texts,
-        aggregates: aggregate_texts,
+        keys: key_spellings,
+        aggregates: aggregate_spellings,
     };
     let found = shown(alloc, scope, query, &basis);
     drop(basis);

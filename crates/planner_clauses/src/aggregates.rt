@@ -5,14 +5,14 @@ ghost use Rattle.planner_clauses.specs.Aggregates.{kind_of as plan_kind, type_in
 
 use crate::conjuncts::row_expr;
 use meaning::{AggregateKind, Boxed, ColType, Sequence, Value, expr, plan};
-use planner_expressions::{PlanFault, Scope, Sort, find_same, judge, written};
+use planner_expressions::{PlanFault, Scope, Sort, Spelling, find_same, judge, written};
 use sql_syntax::{Aggregate, Arm, Expr};
 use std::alloc::{AllocError, Global};
 
 /// Aggregates, each written out and as the plan has it.
 #[derive(Drop)]
 pub struct Aggregates {
-    pub written: Sequence<Sequence<i64>>,
+    pub written: Sequence<Spelling>,
     pub list: Sequence<plan::Aggregate>,
 }
 
@@ -96,7 +96,7 @@ fn push(
     alloc: Global,
     scope: &Scope,
     expr: &Expr,
-    written: Sequence<i64>,
+    written: Spelling,
     out: &mut Aggregates,
 ) -> Result<(), AllocError>
     ensures { OnOk result (out.new

@@ -8,14 +8,14 @@ ghost use Rattle.planner_clauses.specs.Groups.{no_aggregates as none_gathered, a
 use crate::aggregates::{Aggregates, gather, row_type};
 use crate::conjuncts::row_expr;
 use meaning::{GroupingKey, MAX_AGGREGATES, MAX_KEYS, Sequence};
-use planner_expressions::{PlanFault, Scope, written};
+use planner_expressions::{PlanFault, Scope, Spelling, written};
 use sql_syntax::{Expr, Item, Query};
 use std::alloc::{AllocError, Global};
 
 /// Keys, each written out and as the plan has it.
 #[derive(Drop)]
 pub struct Keys {
-    pub written: Sequence<Sequence<i64>>,
+    pub written: Sequence<Spelling>,
     pub list: Sequence<GroupingKey>,
 }
 

@@ -6,7 +6,7 @@ use Rattle.meaning.specs.declared.outcome.Outcome.TheVariants as gives
 use Rattle.sql_syntax.specs.declared.tree.Arm.{Arm}
 use Rattle.sql_syntax.specs.declared.tree.Expr.{Expr}
 use Rattle.sql_syntax.specs.declared.tree.Expr.TheOpen as node
-use Rattle.sql_syntax.specs.declared.tree.Expr.TheOpen.{Expr-F, Arm-F}
+use Rattle.sql_syntax.specs.declared.tree.Expr.TheOpen.{Expr-F}
 use Rattle.sql_syntax.specs.declared.tree.Expr.TheFolds.{the_lemmas, map-Expr, fold-roll-Expr}
 use Rattle.sql_syntax.specs.declared.tree.Expr.TheViews.{roll-Expr, out-Expr}
 use Rattle.planner_expressions.specs.declared.fault.PlanFault.{PlanFault}
@@ -14,7 +14,7 @@ use Rattle.planner_expressions.specs.declared.scope.ScopeColumn.{ScopeColumn}
 use Rattle.planner_expressions.specs.declared.scope.Scope.{Scope}
 use Rattle.planner_expressions.specs.declared.sort.Sort.{Sort}
 use Rattle.planner_expressions.specs.declared.sort.Sort.TheVariants.{Truth}
-use Rattle.planner_expressions.specs.Alike.{full_name, with_parts, SpelledAlike, SpelledMean, SpelledTranslate, SpelledSorts}
+use Rattle.planner_expressions.specs.Alike.{SpelledMean, SpelledTranslate, SpelledSorts}
 use Rattle.planner_expressions.specs.Given.{node_column, column_meant, column_expr}
 use Rattle.planner_expressions.specs.Judged.{Returned, Judgement, judge_node, judge_arm, judged, judged_arm, two, typed, each, each_arm, arm_sorts, else_sort, case_sort, over_part}
 use Rattle.planner_expressions.specs.Meant.{operated, value_in}
@@ -49,13 +49,13 @@ module _ (s : Scope) {X : Type 0} (by_column : Option ScopeColumn → Option X) 
   abbrev arm_gives : Arm → X × X
   arm_gives a = (gives_of a.condition, gives_of a.value)
 
-  abbrev step : Expr-F Expr Arm → X
+  abbrev pub step : Expr-F Expr Arm → X
   step x = unwrap_or (by_column (node_column s x)) (make (parts_give given make x))
 
   out_rolls : (x : Expr-F Expr Arm) → out-Expr (roll-Expr x) ≡ x
   out_rolls x = search (rules, the_lemmas)
 
-  steps : (x : Expr-F Expr Arm) → gives_of (roll-Expr x) ≡ step x
+  pub steps : (x : Expr-F Expr Arm) → gives_of (roll-Expr x) ≡ step x
   steps x = at_node given make x ∙ ap (λ (v : Expr-F Expr Arm). unwrap_or (by_column (node_column s v)) (make (parts_give given make x))) (out_rolls x)
 
   list_same : (ps : List P) → map gives_of (map (λ (p : P). p.0) ps) ≡ map gives_of (map (λ (p : P). p.1) ps)
@@ -95,9 +95,6 @@ module _ (s : Scope) {X : Type 0} (by_column : Option ScopeColumn → Option X) 
 
   pub gives_same : (a b : Expr) → spelled s a ≡ spelled s b → gives_of a ≡ gives_of b
   gives_same = alike s Same (λ x. steps (lefts s Same x) ∙ step_same x ∙ sym (steps (rights s Same x))) name_same
-
-pub spelled_alike : SpelledAlike
-spelled_alike s = gives_same s (λ o. option_map full_name o) with_parts (λ t u m n. refl)
 
 pub spelled_mean : SpelledMean
 spelled_mean s a b is r = gives_same s (λ o. option_map (λ (p : ScopeColumn). gives.Value (value_in r p.join p.column)) o) operated (λ t u m n. refl) a b is

@@ -1,8 +1,7 @@
--- A tree that none of a list begins like is not among them.
-use Rattle.std.proofs.Common.{rules, ◌≡◌, ℕ, suc, ◌+◌, ℤ, cond, length, Bool, true, false, not, ◌||◌, List, [], ◌∷◌, Option, Some, None, refl, ap, ap₂, subst, sym, ◌∙◌, arith}
+-- A tree with whose operator none of a list begins is not among them.
+use Rattle.std.proofs.Common.{rules, ◌≡◌, ℕ, suc, ◌+◌, cond, length, Bool, true, false, not, ◌||◌, List, [], ◌∷◌, Option, Some, None, refl, ap, ap₂, subst, sym, ◌∙◌, arith}
 use Rattle.std.specs.Prelude.{nat_lt}
 use Rattle.std.specs.List.{list_any, position_or_len}
-use Rattle.std.specs.Ordering.{int_eq}
 use Rattle.std.proofs.lemmas.Bool.Decides.{nat_tests}
 use Rattle.meaning.proofs.Tests.{first_of}
 use Rattle.sql_syntax.specs.declared.tree.Arm.{Arm}
@@ -11,10 +10,13 @@ use Rattle.sql_syntax.specs.declared.tree.Expr.TheOpen as node
 use Rattle.sql_syntax.specs.declared.tree.Expr.TheOpen.{Expr-F}
 use Rattle.sql_syntax.specs.declared.tree.Expr.TheFolds.{the_lemmas, map-Expr}
 use Rattle.sql_syntax.specs.declared.tree.Expr.TheViews.{out-Expr}
+use Rattle.planner_expressions.specs.declared.marks.Mark.{Mark}
+use Rattle.planner_expressions.specs.declared.marks.Mark.TheVariants as mark
+use Rattle.planner_expressions.specs.declared.marks.Operator.{Operator}
 use Rattle.planner_expressions.specs.declared.scope.Scope.{Scope}
-use Rattle.planner_expressions.specs.Spelled.{Spelling, spell_node, spelled, spelled_arm, same_spelling, index_among}
+use Rattle.planner_expressions.specs.Spelled.{Spelling, spell_node, spelled, spelled_arm, same_mark, same_spelling, index_among}
 use Rattle.planner_expressions.specs.Given.{group_given, key_first}
-use Rattle.planner_expressions.specs.Kinds.{node_kind, kind_in, begins, may_be_among}
+use Rattle.planner_expressions.specs.Operators.{node_operator, operator_of, is_mark_of, begins, may_be_among}
 
 neither : (a b : Bool) → (a || b) ≡ false → (a ≡ false) × (b ≡ false)
 neither true b e = absurd cc
@@ -34,17 +36,21 @@ none_passes p q to (x ∷ xs) none =
     let parts = neither (q x) (list_any q xs) none in
     one_further (p x) (position_or_len p xs) (length xs) (to x parts.0) (none_passes p q to xs parts.1)
 
-abbrev first : Spelling → Option ℤ
+abbrev first : Spelling → Option Mark
 first [] = None
-first (code ∷ rest) = Some code
+first (here ∷ rest) = Some here
 
-begins_alike : (k : ℤ) (y w : Spelling) → first y ≡ Some k → same_spelling y w ≡ true → begins k w ≡ true
+same_first : (k : Operator) (c : Mark) → same_mark (mark.Operator k) c ≡ true → is_mark_of k c ≡ true
+same_first k (mark.Operator l) same = same
+same_first k _ same = absurd cc
+
+begins_alike : (k : Operator) (y w : Spelling) → first y ≡ Some (mark.Operator k) → same_spelling y w ≡ true → begins k w ≡ true
 begins_alike k [] w is e = absurd cc
 begins_alike k (j ∷ xs) [] is e = absurd cc
 begins_alike k (j ∷ xs) (c ∷ cs) is e =
-    let both : Some j ≡ Some k = is in
-    let same : j ≡ k = cc in
-    subst (λ (i : ℤ). int_eq i c ≡ true) same (first_of (int_eq j c) (same_spelling xs cs) e)
+    let both : Some j ≡ Some (mark.Operator k) = is in
+    let same : j ≡ mark.Operator k = cc in
+    same_first k c (subst (λ (i : Mark). same_mark i c ≡ true) same (first_of (same_mark j c) (same_spelling xs cs) e))
 
 module _ (s : Scope) where
   abbrev spell_at : Expr-F Expr Arm → Spelling
@@ -53,26 +59,30 @@ module _ (s : Scope) where
   spelled_out : (e : Expr) → spelled s e ≡ spell_at (out-Expr e)
   spelled_out e = search (rules, the_lemmas)
 
-  first_at : (x : Expr-F Expr Arm) (k : ℤ) → node_kind x ≡ Some k → first (spell_at x) ≡ Some k
-  first_at (node.Column table name) k is = absurd cc
-  first_at (node.Integer n) k is = is
-  first_at (node.Text t) k is = is
-  first_at node.CountRows k is = is
-  first_at (node.Aggregate kind a) k is = is
-  first_at (node.Minus a) k is = is
-  first_at (node.Arithmetic op a b) k is = is
-  first_at (node.Compare op a b) k is = is
-  first_at (node.Not a) k is = is
-  first_at (node.And a b) k is = is
-  first_at (node.Or a b) k is = is
-  first_at (node.IsNull negated a) k is = is
-  first_at (node.Between negated a low high) k is = is
-  first_at (node.In negated a entries) k is = is
-  first_at (node.Like negated a pattern) k is = is
-  first_at (node.Coalesce entries) k is = is
-  first_at (node.Case arms otherwise) k is = is
+  abbrev as_mark : Option Operator → Option Mark
+  as_mark None = None
+  as_mark (Some k) = Some (mark.Operator k)
 
-  differs : (e : Expr) (k : ℤ) (w : Spelling) → kind_in e ≡ Some k → begins k w ≡ false → same_spelling (spelled s e) w ≡ false
+  first_at : (x : Expr-F Expr Arm) (k : Operator) → node_operator x ≡ Some k → first (spell_at x) ≡ Some (mark.Operator k)
+  first_at (node.Column table name) k is = absurd cc
+  first_at (node.Integer n) k is = absurd cc
+  first_at (node.Text t) k is = absurd cc
+  first_at node.CountRows k is = ap as_mark is
+  first_at (node.Aggregate kind a) k is = ap as_mark is
+  first_at (node.Minus a) k is = ap as_mark is
+  first_at (node.Arithmetic op a b) k is = ap as_mark is
+  first_at (node.Compare op a b) k is = ap as_mark is
+  first_at (node.Not a) k is = ap as_mark is
+  first_at (node.And a b) k is = ap as_mark is
+  first_at (node.Or a b) k is = ap as_mark is
+  first_at (node.IsNull negated a) k is = ap as_mark is
+  first_at (node.Between negated a low high) k is = ap as_mark is
+  first_at (node.In negated a entries) k is = ap as_mark is
+  first_at (node.Like negated a pattern) k is = ap as_mark is
+  first_at (node.Coalesce entries) k is = ap as_mark is
+  first_at (node.Case arms otherwise) k is = ap as_mark is
+
+  differs : (e : Expr) (k : Operator) (w : Spelling) → operator_of e ≡ Some k → begins k w ≡ false → same_spelling (spelled s e) w ≡ false
   differs e k w is other = decided (same_spelling (spelled s e) w) refl
     where
       decided : (b : Bool) → same_spelling (spelled s e) w ≡ b → b ≡ false
@@ -81,17 +91,17 @@ module _ (s : Scope) where
           let same_at = subst (λ (x : Spelling). same_spelling x w ≡ true) (spelled_out e) same in
           absurd (let there = begins_alike k (spell_at (out-Expr e)) w (first_at (out-Expr e) k is) same_at in let wrong = sym there ∙ other in cc)
 
-  not_among : (e : Expr) (k : ℤ) (list : List Spelling) → kind_in e ≡ Some k → list_any (begins k) list ≡ false → index_among list (spelled s e) ≡ None
+  not_among : (e : Expr) (k : Operator) (list : List Spelling) → operator_of e ≡ Some k → list_any (begins k) list ≡ false → index_among list (spelled s e) ≡ None
   not_among e k list is none =
       let all = none_passes (same_spelling (spelled s e)) (begins k) (λ w other. differs e k w is other) list none in
       ap (λ (n : ℕ). cond (nat_lt n (length list)) (Some n) None) all
       ∙ ap (λ (b : Bool). cond b (Some (length list)) None) (not_below (length list))
 
-  pub none_given : (keys aggregates : List Spelling) (e : Expr) → may_be_among keys aggregates (kind_in e) ≡ false → None ≡ group_given keys aggregates (spelled s e)
-  none_given keys aggregates e none = by_kind (kind_in e) refl none
+  pub none_given : (keys aggregates : List Spelling) (e : Expr) → may_be_among keys aggregates (operator_of e) ≡ false → None ≡ group_given keys aggregates (spelled s e)
+  none_given keys aggregates e none = by_operator (operator_of e) refl none
     where
-      by_kind : (o : Option ℤ) → kind_in e ≡ o → may_be_among keys aggregates o ≡ false → None ≡ group_given keys aggregates (spelled s e)
-      by_kind None is none = absurd cc
-      by_kind (Some k) is none =
+      by_operator : (o : Option Operator) → operator_of e ≡ o → may_be_among keys aggregates o ≡ false → None ≡ group_given keys aggregates (spelled s e)
+      by_operator None is none = absurd cc
+      by_operator (Some k) is none =
           let parts = neither (list_any (begins k) keys) (list_any (begins k) aggregates) none in
           sym (ap₂ key_first (not_among e k keys is parts.0) (not_among e k aggregates is parts.1))

@@ -12,6 +12,8 @@ pub mod Tables
 pub mod Lefts
 pub mod Among
 pub mod Columns
+pub mod SameMarks
 pub mod SpelledAlike
 pub mod AlikeTrees
+pub mod FullNames
 pub mod Beginnings

@@ -1,125 +1,130 @@
 -- A tree's spelling says what tree it is, but for which of its names a column has.
-use Rattle.std.proofs.Common.{rules, ◌≡◌, ℕ, ◌==◌, ℤ, pos, negsuc, Bool, true, false, List, [], ◌∷◌, ◌++◌, map, Option, Some, None, refl, ap, ap₂, subst, sym, ◌∙◌, append_assoc}
-use Rattle.std.specs.Prelude.{nat_lt}
+use Rattle.std.proofs.Common.{rules, ◌≡◌, ℕ, ℤ, Bool, true, false, List, [], ◌∷◌, ◌++◌, map, Option, Some, None, refl, ap, ap₂, subst, sym, ◌∙◌, append_assoc}
 use Rattle.std.proofs.lemmas.List.{append-nil}
 use Rattle.sql_syntax.specs.declared.tree.Aggregate.{Aggregate}
-use Rattle.sql_syntax.specs.declared.tree.Aggregate.TheVariants as aggregate
 use Rattle.sql_syntax.specs.declared.tree.Arithmetic.{Arithmetic}
-use Rattle.sql_syntax.specs.declared.tree.Arithmetic.TheVariants as arithmetic
 use Rattle.sql_syntax.specs.declared.tree.Comparison.{Comparison}
-use Rattle.sql_syntax.specs.declared.tree.Comparison.TheVariants as comparison
 use Rattle.sql_syntax.specs.declared.tree.Arm.{Arm}
 use Rattle.sql_syntax.specs.declared.tree.Expr.{Expr}
 use Rattle.sql_syntax.specs.declared.tree.Expr.TheOpen as node
 use Rattle.sql_syntax.specs.declared.tree.Expr.TheOpen.{Expr-F, Arm-F}
 use Rattle.sql_syntax.specs.declared.tree.Expr.TheFolds.{the_lemmas, ind-Expr, map-Expr, fold-roll-Expr}
 use Rattle.sql_syntax.specs.declared.tree.Expr.TheViews.{roll-Expr, out-Expr}
+use Rattle.planner_expressions.specs.declared.marks.Mark.{Mark}
+use Rattle.planner_expressions.specs.declared.marks.Mark.TheVariants as mark
+use Rattle.planner_expressions.specs.declared.marks.Operator.{Operator}
+use Rattle.planner_expressions.specs.declared.marks.Operator.TheVariants as operator
 use Rattle.planner_expressions.specs.declared.scope.ScopeColumn.{ScopeColumn}
 use Rattle.planner_expressions.specs.declared.scope.Scope.{Scope}
 use Rattle.planner_expressions.specs.Scope.{stands_for}
-use Rattle.planner_expressions.specs.Spelled.{Spelling, text_code, column_code, bool_code, aggregate_code, arithmetic_code, comparison_code, list_code, arms_code, spell_node, spell_arm, spelled, spelled_arm}
+use Rattle.planner_expressions.specs.Spelled.{Spelling, column_mark, list_marks, arms_marks, spell_node, spell_arm, spelled, spelled_arm}
 use Rattle.planner_expressions.proofs.Columns.{same_column}
 
--- ---- codes
+-- ---- marks
 
-pub tail_is : (j k : ℤ) (xs ys : Spelling) → j ∷ xs ≡ k ∷ ys → xs ≡ ys
+pub tail_is : (j k : Mark) (xs ys : Spelling) → j ∷ xs ≡ k ∷ ys → xs ≡ ys
 tail_is j k xs ys is = cc
 
-pub head_is : (j k : ℤ) (xs ys : Spelling) → j ∷ xs ≡ k ∷ ys → j ≡ k
+head_is : (j k : Mark) (xs ys : Spelling) → j ∷ xs ≡ k ∷ ys → j ≡ k
 head_is j k xs ys is = cc
 
-same_bytes : (b c : ℕ) → pos b ≡ pos c → b ≡ c
-same_bytes b c is = cc
-
-no_end : (b : ℕ) → pos b ≡ negsuc 0 → ⊥
-no_end b is = cc
-
-text_same : (t u : List ℕ) (xs ys : Spelling) → text_code t ++ xs ≡ text_code u ++ ys → (t ≡ u) × (xs ≡ ys)
-text_same [] [] xs ys is = (refl, tail_is _ _ xs ys is)
-text_same [] (c ∷ u) xs ys is = absurd (no_end c (sym (head_is _ _ _ _ is)))
-text_same (b ∷ t) [] xs ys is = absurd (no_end b (head_is _ _ _ _ is))
-text_same (b ∷ t) (c ∷ u) xs ys is =
-    let rest = text_same t u xs ys (tail_is (pos b) (pos c) (text_code t ++ xs) (text_code u ++ ys) is) in
-    (ap₂ (λ (d : ℕ) (ds : List ℕ). d ∷ ds) (same_bytes b c (head_is (pos b) (pos c) _ _ is)) rest.0, rest.1)
-
-bool_same : (b c : Bool) → bool_code b ≡ bool_code c → b ≡ c
-bool_same true true is = refl
-bool_same true false is = absurd cc
-bool_same false true is = absurd cc
-bool_same false false is = refl
-
-pub aggregate_same : (a b : Aggregate) → aggregate_code a ≡ aggregate_code b → a ≡ b
-aggregate_same aggregate.Count aggregate.Count is = refl
-aggregate_same aggregate.Count _ is = absurd cc
-aggregate_same aggregate.Sum aggregate.Sum is = refl
-aggregate_same aggregate.Sum _ is = absurd cc
-aggregate_same aggregate.Min aggregate.Min is = refl
-aggregate_same aggregate.Min _ is = absurd cc
-aggregate_same aggregate.Max aggregate.Max is = refl
-aggregate_same aggregate.Max _ is = absurd cc
-aggregate_same aggregate.Average aggregate.Average is = refl
-aggregate_same aggregate.Average _ is = absurd cc
-aggregate_same aggregate.CountDistinct aggregate.CountDistinct is = refl
-aggregate_same aggregate.CountDistinct _ is = absurd cc
-aggregate_same aggregate.SumDistinct aggregate.SumDistinct is = refl
-aggregate_same aggregate.SumDistinct _ is = absurd cc
-
-arithmetic_same : (a b : Arithmetic) → arithmetic_code a ≡ arithmetic_code b → a ≡ b
-arithmetic_same arithmetic.Add arithmetic.Add is = refl
-arithmetic_same arithmetic.Add _ is = absurd cc
-arithmetic_same arithmetic.Subtract arithmetic.Subtract is = refl
-arithmetic_same arithmetic.Subtract _ is = absurd cc
-arithmetic_same arithmetic.Multiply arithmetic.Multiply is = refl
-arithmetic_same arithmetic.Multiply _ is = absurd cc
-arithmetic_same arithmetic.Divide arithmetic.Divide is = refl
-arithmetic_same arithmetic.Divide _ is = absurd cc
-
-comparison_same : (a b : Comparison) → comparison_code a ≡ comparison_code b → a ≡ b
-comparison_same comparison.Equal comparison.Equal is = refl
-comparison_same comparison.Equal _ is = absurd cc
-comparison_same comparison.NotEqual comparison.NotEqual is = refl
-comparison_same comparison.NotEqual _ is = absurd cc
-comparison_same comparison.Less comparison.Less is = refl
-comparison_same comparison.Less _ is = absurd cc
-comparison_same comparison.AtMost comparison.AtMost is = refl
-comparison_same comparison.AtMost _ is = absurd cc
-comparison_same comparison.Greater comparison.Greater is = refl
-comparison_same comparison.Greater _ is = absurd cc
-comparison_same comparison.AtLeast comparison.AtLeast is = refl
-comparison_same comparison.AtLeast _ is = absurd cc
+pub operator_is : (a b : Operator) (xs ys : Spelling) → mark.Operator a ∷ xs ≡ mark.Operator b ∷ ys → a ≡ b
+operator_is a b xs ys is = cc
 
 -- ---- columns
 
-column_same : (s : Scope) (t u : Option (List ℕ)) (m n : List ℕ) (o r : Option ScopeColumn) (xs ys : Spelling) → stands_for s t m ≡ o → stands_for s u n ≡ r → column_code o ++ xs ≡ column_code r ++ ys → (o ≡ r) × (xs ≡ ys)
-column_same s t u m n None None xs ys o_is r_is is = (refl, tail_is _ _ xs ys is)
-column_same s t u m n None (Some q) xs ys o_is r_is is = absurd cc
-column_same s t u m n (Some p) None xs ys o_is r_is is = absurd cc
-column_same s t u m n (Some p) (Some q) xs ys o_is r_is is =
-    let rest : (text_code p.owner ++ text_code p.name) ++ xs ≡ (text_code q.owner ++ text_code q.name) ++ ys = tail_is (pos 0) (pos 0) _ _ is in
-    let owner = text_same p.owner q.owner (text_code p.name ++ xs) (text_code q.name ++ ys)
-    (sym (append_assoc (text_code p.owner) (text_code p.name) xs) ∙ rest ∙ append_assoc (text_code q.owner) (text_code q.name) ys) in
-    let name = text_same p.name q.name xs ys owner.1 in
-    (ap (λ (x : ScopeColumn). Some x) (same_column s t u m n p q o_is r_is owner.0 name.0), name.1)
+column_same : (s : Scope) (t u : Option (List ℕ)) (m n : List ℕ) (o r : Option ScopeColumn) → stands_for s t m ≡ o → stands_for s u n ≡ r → column_mark o ≡ column_mark r → o ≡ r
+column_same s t u m n None None o_is r_is is = refl
+column_same s t u m n None (Some q) o_is r_is is = absurd cc
+column_same s t u m n (Some p) None o_is r_is is = absurd cc
+column_same s t u m n (Some p) (Some q) o_is r_is is =
+    let marks : mark.Column p.owner p.name ≡ mark.Column q.owner q.name = is in
+    let owner : p.owner ≡ q.owner = cc in
+    let name : p.name ≡ q.name = cc in
+    ap (λ (x : ScopeColumn). Some x) (same_column s t u m n p q o_is r_is owner name)
 
--- a column's code begins with 0 or 1, and no other node's does
-abbrev heads_column : Spelling → Bool
-heads_column (pos n ∷ xs) = nat_lt n 2
-heads_column _ = false
+-- a name's mark, and no other node's
+abbrev marks_name : Mark → Bool
+marks_name (mark.Column owner name) = true
+marks_name mark.Unknown = true
+marks_name _ = false
 
-column_heads : (o : Option ScopeColumn) (xs : Spelling) → heads_column (column_code o ++ xs) ≡ true
-column_heads None xs = refl
-column_heads (Some p) xs = refl
+name_marks : (o : Option ScopeColumn) → marks_name (column_mark o) ≡ true
+name_marks None = refl
+name_marks (Some p) = refl
 
-no_column : (o : Option ScopeColumn) (xs ys : Spelling) → heads_column ys ≡ false → column_code o ++ xs ≡ ys → ⊥
-no_column o xs ys other is = let wrong : true ≡ false = sym (column_heads o xs) ∙ ap heads_column is ∙ other in cc
+no_column : (o : Option ScopeColumn) (m : Mark) (xs ys : Spelling) → marks_name m ≡ false → column_mark o ∷ xs ≡ m ∷ ys → ⊥
+no_column o m xs ys other is = let wrong : true ≡ false = sym (name_marks o) ∙ ap marks_name (head_is _ _ xs ys is) ∙ other in cc
 
-abbrev pub is_tag : ℕ → Spelling → Bool
-is_tag k (pos n ∷ xs) = n == k
-is_tag k _ = false
+-- which node a mark is of
 
--- nodes of two kinds begin with two numbers
-apart : (k : ℕ) (xs ys : Spelling) → is_tag k xs ≡ true → is_tag k ys ≡ false → xs ≡ ys → ⊥
-apart k xs ys there other is = let wrong : true ≡ false = sym there ∙ ap (is_tag k) is ∙ other in cc
+abbrev marks_integer : Mark → Bool
+marks_integer (mark.Integer n) = true
+marks_integer _ = false
+
+abbrev marks_text : Mark → Bool
+marks_text (mark.Text t) = true
+marks_text _ = false
+
+abbrev marks_count_rows : Mark → Bool
+marks_count_rows (mark.Operator operator.CountRows) = true
+marks_count_rows _ = false
+
+abbrev pub marks_aggregate : Mark → Bool
+marks_aggregate (mark.Operator (operator.Aggregate k)) = true
+marks_aggregate _ = false
+
+abbrev marks_minus : Mark → Bool
+marks_minus (mark.Operator operator.Minus) = true
+marks_minus _ = false
+
+abbrev marks_arithmetic : Mark → Bool
+marks_arithmetic (mark.Operator (operator.Arithmetic k)) = true
+marks_arithmetic _ = false
+
+abbrev marks_compare : Mark → Bool
+marks_compare (mark.Operator (operator.Compare k)) = true
+marks_compare _ = false
+
+abbrev marks_not : Mark → Bool
+marks_not (mark.Operator operator.Not) = true
+marks_not _ = false
+
+abbrev marks_and : Mark → Bool
+marks_and (mark.Operator operator.And) = true
+marks_and _ = false
+
+abbrev marks_or : Mark → Bool
+marks_or (mark.Operator operator.Or) = true
+marks_or _ = false
+
+abbrev marks_is_null : Mark → Bool
+marks_is_null (mark.Operator (operator.IsNull k)) = true
+marks_is_null _ = false
+
+abbrev marks_between : Mark → Bool
+marks_between (mark.Operator (operator.Between k)) = true
+marks_between _ = false
+
+abbrev marks_in : Mark → Bool
+marks_in (mark.Operator (operator.In k)) = true
+marks_in _ = false
+
+abbrev marks_like : Mark → Bool
+marks_like (mark.Operator (operator.Like k)) = true
+marks_like _ = false
+
+abbrev marks_coalesce : Mark → Bool
+marks_coalesce (mark.Operator operator.Coalesce) = true
+marks_coalesce _ = false
+
+abbrev marks_case : Mark → Bool
+marks_case (mark.Operator operator.Case) = true
+marks_case _ = false
+
+-- nodes of two kinds begin with two marks
+pub apart : (test : Mark → Bool) (a b : Mark) (xs ys : Spelling) → test a ≡ true → test b ≡ false → a ∷ xs ≡ b ∷ ys → ⊥
+apart test a b xs ys there other is = let wrong : true ≡ false = sym there ∙ ap test (head_is a b xs ys is) ∙ other in cc
 
 -- ---- trees
 
@@ -175,36 +180,36 @@ module _ (s : Scope) (R : Expr → Expr → Type 0) where
         let second = c.1 d u v first.1 in
         (first.0, second.0, second.1)
 
-    list_alike : (es : List Knowing) (fs : List Expr) (u v : Spelling) → list_code (map (spelled s) (trees_of es)) ++ u ≡ list_code (map (spelled s) fs) ++ v
+    list_alike : (es : List Knowing) (fs : List Expr) (u v : Spelling) → list_marks (map (spelled s) (trees_of es)) ++ u ≡ list_marks (map (spelled s) fs) ++ v
         → (ps : List Pair) × (map (λ (p : Pair). p.0) ps ≡ trees_of es) × (map (λ (p : Pair). p.1) ps ≡ fs) × (u ≡ v)
     list_alike [] [] u v is = ([], refl, refl, tail_is _ _ u v is)
     list_alike [] (f ∷ fs) u v is = absurd cc
     list_alike (e ∷ es) [] u v is = absurd cc
     list_alike (e ∷ es) (f ∷ fs) u v is =
-        let left = list_code (map (spelled s) (trees_of es)) in
-        let right = list_code (map (spelled s) fs) in
-        let here = e.1 f (left ++ u) (right ++ v) (sym (append_assoc (spelled s e.0) left u) ∙ tail_is (pos 1) (pos 1) _ _ is ∙ append_assoc (spelled s f) right v) in
+        let left = list_marks (map (spelled s) (trees_of es)) in
+        let right = list_marks (map (spelled s) fs) in
+        let here = e.1 f (left ++ u) (right ++ v) (sym (append_assoc (spelled s e.0) left u) ∙ tail_is mark.More mark.More _ _ is ∙ append_assoc (spelled s f) right v) in
         let rest = list_alike es fs u v here.1 in
         ((e.0, f, here.0) ∷ rest.0, ap (λ (xs : List Expr). e.0 ∷ xs) rest.1, ap (λ (xs : List Expr). f ∷ xs) rest.2, rest.3)
 
-    abbrev arm_code : Arm → Spelling → Spelling
-    arm_code a rest = (spelled_arm s a).0 ++ ((spelled_arm s a).1 ++ rest)
+    abbrev arm_marks : Arm → Spelling → Spelling
+    arm_marks a rest = (spelled_arm s a).0 ++ ((spelled_arm s a).1 ++ rest)
 
-    arm_tail : (a : Arm) (rest u : Spelling) → arm_code a rest ++ u ≡ spelled s a.condition ++ (spelled s a.value ++ (rest ++ u))
+    arm_tail : (a : Arm) (rest u : Spelling) → arm_marks a rest ++ u ≡ spelled s a.condition ++ (spelled s a.value ++ (rest ++ u))
     arm_tail a rest u =
         ap (λ (p : Spelling × Spelling). (p.0 ++ (p.1 ++ rest)) ++ u) (arm_spelled a)
         ∙ append_assoc (spelled s a.condition) (spelled s a.value ++ rest) u
         ∙ ap (λ (xs : Spelling). spelled s a.condition ++ xs) (append_assoc (spelled s a.value) rest u)
 
-    arms_alike : (list : List KnowingArm) (others : List Arm) (u v : Spelling) → arms_code (map (spelled_arm s) (arms_in list)) ++ u ≡ arms_code (map (spelled_arm s) others) ++ v
+    arms_alike : (list : List KnowingArm) (others : List Arm) (u v : Spelling) → arms_marks (map (spelled_arm s) (arms_in list)) ++ u ≡ arms_marks (map (spelled_arm s) others) ++ v
         → (ps : List ArmPair) × (map (λ (p : ArmPair). p.0) ps ≡ arms_in list) × (map (λ (p : ArmPair). p.1) ps ≡ others) × (u ≡ v)
     arms_alike [] [] u v is = ([], refl, refl, tail_is _ _ u v is)
     arms_alike [] (b ∷ others) u v is = absurd cc
     arms_alike (a ∷ list) [] u v is = absurd cc
     arms_alike (a ∷ list) (b ∷ others) u v is =
-        let left = arms_code (map (spelled_arm s) (arms_in list)) in
-        let right = arms_code (map (spelled_arm s) others) in
-        let here = a.1 b (left ++ u) (right ++ v) (sym (arm_tail a.0 left u) ∙ tail_is (pos 1) (pos 1) _ _ is ∙ arm_tail b right v) in
+        let left = arms_marks (map (spelled_arm s) (arms_in list)) in
+        let right = arms_marks (map (spelled_arm s) others) in
+        let here = a.1 b (left ++ u) (right ++ v) (sym (arm_tail a.0 left u) ∙ tail_is mark.More mark.More _ _ is ∙ arm_tail b right v) in
         let rest = arms_alike list others u v here.1 in
         ((a.0, b, here.0.0, here.0.1) ∷ rest.0, ap (λ (xs : List Arm). a.0 ∷ xs) rest.1, ap (λ (xs : List Arm). b ∷ xs) rest.2, rest.3)
 
@@ -216,176 +221,181 @@ module _ (s : Scope) (R : Expr → Expr → Type 0) where
     abbrev AreAlike : Expr-F Expr Arm → Expr-F Expr Arm → Spelling → Spelling → Type 0
     AreAlike x z u v = R (roll-Expr x) (roll-Expr z) × (u ≡ v)
 
-    rest_is : (k : ℤ) (xs ys : Spelling) → k ∷ xs ≡ k ∷ ys → xs ≡ ys
+    rest_is : (k : Mark) (xs ys : Spelling) → k ∷ xs ≡ k ∷ ys → xs ≡ ys
     rest_is k xs ys is = tail_is k k xs ys is
 
     column_alike : (t : Option (List ℕ)) (m : List ℕ) (z : Expr-F Expr Arm) (u v : Spelling) → spell_at (bare (node.Column t m)) ++ u ≡ spell_at z ++ v → AreAlike (bare (node.Column t m)) z u v
     column_alike t m (node.Column w n) u v is =
-        let same = column_same s t w m n (stands_for s t m) (stands_for s w n) u v refl refl is in
-        (by_name t w m n same.0, same.1)
-    column_alike t m _ u v is = absurd (no_column (stands_for s t m) u _ refl is)
+        let left = column_mark (stands_for s t m) in
+        let right = column_mark (stands_for s w n) in
+        (by_name t w m n (column_same s t w m n (stands_for s t m) (stands_for s w n) refl refl (head_is left right u v is)), tail_is left right u v is)
+    column_alike t m _ u v is = absurd (no_column (stands_for s t m) _ u _ refl is)
 
     integer_alike : (n : ℤ) (z : Expr-F Expr Arm) (u v : Spelling) → spell_at (bare (node.Integer n)) ++ u ≡ spell_at z ++ v → AreAlike (bare (node.Integer n)) z u v
-    integer_alike n (node.Column w m) u v is = absurd (no_column (stands_for s w m) v _ refl (sym is))
+    integer_alike n (node.Column w m) u v is = absurd (no_column (stands_for s w m) _ v _ refl (sym is))
     integer_alike n (node.Integer m) u v is =
-        let rest = rest_is (pos 2) _ _ is in
-        let same = head_is n m u v rest in
-        (subst (λ (k : ℤ). R (roll-Expr (node.Integer n)) (roll-Expr (node.Integer k))) same (closed (node.Integer n)), tail_is n m u v rest)
-    integer_alike n _ u v is = absurd (apart 2 _ _ refl refl is)
+        let marks : mark.Integer n ≡ mark.Integer m = head_is _ _ u v is in
+        let same : n ≡ m = cc in
+        (subst (λ (k : ℤ). R (roll-Expr (node.Integer n)) (roll-Expr (node.Integer k))) same (closed (node.Integer n)), tail_is _ _ u v is)
+    integer_alike n _ u v is = absurd (apart marks_integer _ _ _ _ refl refl is)
 
     text_alike : (t : List ℕ) (z : Expr-F Expr Arm) (u v : Spelling) → spell_at (bare (node.Text t)) ++ u ≡ spell_at z ++ v → AreAlike (bare (node.Text t)) z u v
-    text_alike t (node.Column w m) u v is = absurd (no_column (stands_for s w m) v _ refl (sym is))
+    text_alike t (node.Column w m) u v is = absurd (no_column (stands_for s w m) _ v _ refl (sym is))
     text_alike t (node.Text w) u v is =
-        let same = text_same t w u v (rest_is (pos 3) _ _ is) in
-        (subst (λ (x : List ℕ). R (roll-Expr (node.Text t)) (roll-Expr (node.Text x))) same.0 (closed (node.Text t)), same.1)
-    text_alike t _ u v is = absurd (apart 3 _ _ refl refl is)
+        let marks : mark.Text t ≡ mark.Text w = head_is _ _ u v is in
+        let same : t ≡ w = cc in
+        (subst (λ (x : List ℕ). R (roll-Expr (node.Text t)) (roll-Expr (node.Text x))) same (closed (node.Text t)), tail_is _ _ u v is)
+    text_alike t _ u v is = absurd (apart marks_text _ _ _ _ refl refl is)
 
     countrows_alike : (z : Expr-F Expr Arm) (u v : Spelling) → spell_at (bare node.CountRows) ++ u ≡ spell_at z ++ v → AreAlike (bare node.CountRows) z u v
-    countrows_alike (node.Column w m) u v is = absurd (no_column (stands_for s w m) v _ refl (sym is))
-    countrows_alike node.CountRows u v is = (closed node.CountRows, rest_is (pos 4) u v is)
-    countrows_alike _ u v is = absurd (apart 4 _ _ refl refl is)
+    countrows_alike (node.Column w m) u v is = absurd (no_column (stands_for s w m) _ v _ refl (sym is))
+    countrows_alike node.CountRows u v is = (closed node.CountRows, rest_is (mark.Operator operator.CountRows) u v is)
+    countrows_alike _ u v is = absurd (apart marks_count_rows _ _ _ _ refl refl is)
 
     aggregate_alike : (k : Aggregate) (a : Knowing) (z : Expr-F Expr Arm) (u v : Spelling) → spell_at (bare (node.Aggregate k a)) ++ u ≡ spell_at z ++ v → AreAlike (bare (node.Aggregate k a)) z u v
-    aggregate_alike k a (node.Column w m) u v is = absurd (no_column (stands_for s w m) v _ refl (sym is))
+    aggregate_alike k a (node.Column w m) u v is = absurd (no_column (stands_for s w m) _ v _ refl (sym is))
     aggregate_alike k a (node.Aggregate l b) u v is =
-        let rest = rest_is (pos 5) _ _ is in
-        let kind = aggregate_same k l (head_is (aggregate_code k) (aggregate_code l) _ _ rest) in
-        let part = a.1 b u v (tail_is (aggregate_code k) (aggregate_code l) _ _ rest) in
+        let operators : operator.Aggregate k ≡ operator.Aggregate l = operator_is _ _ _ _ is in
+        let kind : k ≡ l = cc in
+        let part = a.1 b u v (tail_is _ _ _ _ is) in
         (subst (λ (x : Aggregate). R (roll-Expr (node.Aggregate k a.0)) (roll-Expr (node.Aggregate x b))) kind (closed (node.Aggregate k (a.0, b, part.0))), part.1)
-    aggregate_alike k a _ u v is = absurd (apart 5 _ _ refl refl is)
+    aggregate_alike k a _ u v is = absurd (apart marks_aggregate _ _ _ _ refl refl is)
 
     minus_alike : (a : Knowing) (z : Expr-F Expr Arm) (u v : Spelling) → spell_at (bare (node.Minus a)) ++ u ≡ spell_at z ++ v → AreAlike (bare (node.Minus a)) z u v
-    minus_alike a (node.Column w m) u v is = absurd (no_column (stands_for s w m) v _ refl (sym is))
-    minus_alike a (node.Minus b) u v is = let part = a.1 b u v (rest_is (pos 6) _ _ is) in (closed (node.Minus (a.0, b, part.0)), part.1)
-    minus_alike a _ u v is = absurd (apart 6 _ _ refl refl is)
+    minus_alike a (node.Column w m) u v is = absurd (no_column (stands_for s w m) _ v _ refl (sym is))
+    minus_alike a (node.Minus b) u v is = let part = a.1 b u v (rest_is (mark.Operator operator.Minus) _ _ is) in (closed (node.Minus (a.0, b, part.0)), part.1)
+    minus_alike a _ u v is = absurd (apart marks_minus _ _ _ _ refl refl is)
 
     arithmetic_alike : (k : Arithmetic) (a c : Knowing) (z : Expr-F Expr Arm) (u v : Spelling) → spell_at (bare (node.Arithmetic k a c)) ++ u ≡ spell_at z ++ v → AreAlike (bare (node.Arithmetic k a c)) z u v
-    arithmetic_alike k a c (node.Column w m) u v is = absurd (no_column (stands_for s w m) v _ refl (sym is))
+    arithmetic_alike k a c (node.Column w m) u v is = absurd (no_column (stands_for s w m) _ v _ refl (sym is))
     arithmetic_alike k a c (node.Arithmetic l b d) u v is =
-        let rest = rest_is (pos 7) _ _ is in
-        let kind = arithmetic_same k l (head_is (arithmetic_code k) (arithmetic_code l) _ _ rest) in
-        let parts = two_alike a c b d u v (tail_is (arithmetic_code k) (arithmetic_code l) _ _ rest) in
+        let operators : operator.Arithmetic k ≡ operator.Arithmetic l = operator_is _ _ _ _ is in
+        let kind : k ≡ l = cc in
+        let parts = two_alike a c b d u v (tail_is _ _ _ _ is) in
         (subst (λ (x : Arithmetic). R (roll-Expr (node.Arithmetic k a.0 c.0)) (roll-Expr (node.Arithmetic x b d))) kind (closed (node.Arithmetic k (a.0, b, parts.0) (c.0, d, parts.1))), parts.2)
-    arithmetic_alike k a c _ u v is = absurd (apart 7 _ _ refl refl is)
+    arithmetic_alike k a c _ u v is = absurd (apart marks_arithmetic _ _ _ _ refl refl is)
 
     compare_alike : (k : Comparison) (a c : Knowing) (z : Expr-F Expr Arm) (u v : Spelling) → spell_at (bare (node.Compare k a c)) ++ u ≡ spell_at z ++ v → AreAlike (bare (node.Compare k a c)) z u v
-    compare_alike k a c (node.Column w m) u v is = absurd (no_column (stands_for s w m) v _ refl (sym is))
+    compare_alike k a c (node.Column w m) u v is = absurd (no_column (stands_for s w m) _ v _ refl (sym is))
     compare_alike k a c (node.Compare l b d) u v is =
-        let rest = rest_is (pos 8) _ _ is in
-        let kind = comparison_same k l (head_is (comparison_code k) (comparison_code l) _ _ rest) in
-        let parts = two_alike a c b d u v (tail_is (comparison_code k) (comparison_code l) _ _ rest) in
+        let operators : operator.Compare k ≡ operator.Compare l = operator_is _ _ _ _ is in
+        let kind : k ≡ l = cc in
+        let parts = two_alike a c b d u v (tail_is _ _ _ _ is) in
         (subst (λ (x : Comparison). R (roll-Expr (node.Compare k a.0 c.0)) (roll-Expr (node.Compare x b d))) kind (closed (node.Compare k (a.0, b, parts.0) (c.0, d, parts.1))), parts.2)
-    compare_alike k a c _ u v is = absurd (apart 8 _ _ refl refl is)
+    compare_alike k a c _ u v is = absurd (apart marks_compare _ _ _ _ refl refl is)
 
     not_node_alike : (a : Knowing) (z : Expr-F Expr Arm) (u v : Spelling) → spell_at (bare (node.Not a)) ++ u ≡ spell_at z ++ v → AreAlike (bare (node.Not a)) z u v
-    not_node_alike a (node.Column w m) u v is = absurd (no_column (stands_for s w m) v _ refl (sym is))
-    not_node_alike a (node.Not b) u v is = let part = a.1 b u v (rest_is (pos 9) _ _ is) in (closed (node.Not (a.0, b, part.0)), part.1)
-    not_node_alike a _ u v is = absurd (apart 9 _ _ refl refl is)
+    not_node_alike a (node.Column w m) u v is = absurd (no_column (stands_for s w m) _ v _ refl (sym is))
+    not_node_alike a (node.Not b) u v is = let part = a.1 b u v (rest_is (mark.Operator operator.Not) _ _ is) in (closed (node.Not (a.0, b, part.0)), part.1)
+    not_node_alike a _ u v is = absurd (apart marks_not _ _ _ _ refl refl is)
 
     and_node_alike : (a c : Knowing) (z : Expr-F Expr Arm) (u v : Spelling) → spell_at (bare (node.And a c)) ++ u ≡ spell_at z ++ v → AreAlike (bare (node.And a c)) z u v
-    and_node_alike a c (node.Column w m) u v is = absurd (no_column (stands_for s w m) v _ refl (sym is))
-    and_node_alike a c (node.And b d) u v is = let parts = two_alike a c b d u v (rest_is (pos 10) _ _ is) in (closed (node.And (a.0, b, parts.0) (c.0, d, parts.1)), parts.2)
-    and_node_alike a c _ u v is = absurd (apart 10 _ _ refl refl is)
+    and_node_alike a c (node.Column w m) u v is = absurd (no_column (stands_for s w m) _ v _ refl (sym is))
+    and_node_alike a c (node.And b d) u v is = let parts = two_alike a c b d u v (rest_is (mark.Operator operator.And) _ _ is) in (closed (node.And (a.0, b, parts.0) (c.0, d, parts.1)), parts.2)
+    and_node_alike a c _ u v is = absurd (apart marks_and _ _ _ _ refl refl is)
 
     or_node_alike : (a c : Knowing) (z : Expr-F Expr Arm) (u v : Spelling) → spell_at (bare (node.Or a c)) ++ u ≡ spell_at z ++ v → AreAlike (bare (node.Or a c)) z u v
-    or_node_alike a c (node.Column w m) u v is = absurd (no_column (stands_for s w m) v _ refl (sym is))
-    or_node_alike a c (node.Or b d) u v is = let parts = two_alike a c b d u v (rest_is (pos 11) _ _ is) in (closed (node.Or (a.0, b, parts.0) (c.0, d, parts.1)), parts.2)
-    or_node_alike a c _ u v is = absurd (apart 11 _ _ refl refl is)
+    or_node_alike a c (node.Column w m) u v is = absurd (no_column (stands_for s w m) _ v _ refl (sym is))
+    or_node_alike a c (node.Or b d) u v is = let parts = two_alike a c b d u v (rest_is (mark.Operator operator.Or) _ _ is) in (closed (node.Or (a.0, b, parts.0) (c.0, d, parts.1)), parts.2)
+    or_node_alike a c _ u v is = absurd (apart marks_or _ _ _ _ refl refl is)
 
     isnull_alike : (k : Bool) (a : Knowing) (z : Expr-F Expr Arm) (u v : Spelling) → spell_at (bare (node.IsNull k a)) ++ u ≡ spell_at z ++ v → AreAlike (bare (node.IsNull k a)) z u v
-    isnull_alike k a (node.Column w m) u v is = absurd (no_column (stands_for s w m) v _ refl (sym is))
+    isnull_alike k a (node.Column w m) u v is = absurd (no_column (stands_for s w m) _ v _ refl (sym is))
     isnull_alike k a (node.IsNull l b) u v is =
-        let rest = rest_is (pos 12) _ _ is in
-        let negated = bool_same k l (head_is (bool_code k) (bool_code l) _ _ rest) in
-        let part = a.1 b u v (tail_is (bool_code k) (bool_code l) _ _ rest) in
+        let operators : operator.IsNull k ≡ operator.IsNull l = operator_is _ _ _ _ is in
+        let negated : k ≡ l = cc in
+        let part = a.1 b u v (tail_is _ _ _ _ is) in
         (subst (λ (x : Bool). R (roll-Expr (node.IsNull k a.0)) (roll-Expr (node.IsNull x b))) negated (closed (node.IsNull k (a.0, b, part.0))), part.1)
-    isnull_alike k a _ u v is = absurd (apart 12 _ _ refl refl is)
+    isnull_alike k a _ u v is = absurd (apart marks_is_null _ _ _ _ refl refl is)
 
     between_alike : (k : Bool) (a low high : Knowing) (z : Expr-F Expr Arm) (u v : Spelling) → spell_at (bare (node.Between k a low high)) ++ u ≡ spell_at z ++ v → AreAlike (bare (node.Between k a low high)) z u v
-    between_alike k a low high (node.Column w m) u v is = absurd (no_column (stands_for s w m) v _ refl (sym is))
+    between_alike k a low high (node.Column w m) u v is = absurd (no_column (stands_for s w m) _ v _ refl (sym is))
     between_alike k a low high (node.Between l b below above) u v is =
-        let rest = rest_is (pos 13) _ _ is in
-        let negated = bool_same k l (head_is (bool_code k) (bool_code l) _ _ rest) in
+        let operators : operator.Between k ≡ operator.Between l = operator_is _ _ _ _ is in
+        let negated : k ≡ l = cc in
         let left = spelled s low.0 ++ spelled s high.0 in
         let right = spelled s below ++ spelled s above in
-        let part = a.1 b (left ++ u) (right ++ v) (sym (append_assoc (spelled s a.0) left u) ∙ tail_is (bool_code k) (bool_code l) _ _ rest ∙ append_assoc (spelled s b) right v) in
+        let part = a.1 b (left ++ u) (right ++ v) (sym (append_assoc (spelled s a.0) left u) ∙ tail_is _ _ _ _ is ∙ append_assoc (spelled s b) right v) in
         let bounds = two_alike low high below above u v part.1 in (
           subst (λ (x : Bool). R (roll-Expr (node.Between k a.0 low.0 high.0)) (roll-Expr (node.Between x b below above))) negated
               (closed (node.Between k (a.0, b, part.0) (low.0, below, bounds.0) (high.0, above, bounds.1))),
           bounds.2,
         )
-    between_alike k a low high _ u v is = absurd (apart 13 _ _ refl refl is)
+    between_alike k a low high _ u v is = absurd (apart marks_between _ _ _ _ refl refl is)
 
     in_node_alike : (k : Bool) (a : Knowing) (es : List Knowing) (z : Expr-F Expr Arm) (u v : Spelling) → spell_at (bare (node.In k a es)) ++ u ≡ spell_at z ++ v → AreAlike (bare (node.In k a es)) z u v
-    in_node_alike k a es (node.Column w m) u v is = absurd (no_column (stands_for s w m) v _ refl (sym is))
+    in_node_alike k a es (node.Column w m) u v is = absurd (no_column (stands_for s w m) _ v _ refl (sym is))
     in_node_alike k a es (node.In l b fs) u v is =
-        let rest = rest_is (pos 14) _ _ is in
-        let negated = bool_same k l (head_is (bool_code k) (bool_code l) _ _ rest) in
-        let left = list_code (map (spelled s) (trees_of es)) in
-        let right = list_code (map (spelled s) fs) in
-        let part = a.1 b (left ++ u) (right ++ v) (sym (append_assoc (spelled s a.0) left u) ∙ tail_is (bool_code k) (bool_code l) _ _ rest ∙ append_assoc (spelled s b) right v) in
+        let operators : operator.In k ≡ operator.In l = operator_is _ _ _ _ is in
+        let negated : k ≡ l = cc in
+        let left = list_marks (map (spelled s) (trees_of es)) in
+        let right = list_marks (map (spelled s) fs) in
+        let part = a.1 b (left ++ u) (right ++ v) (sym (append_assoc (spelled s a.0) left u) ∙ tail_is _ _ _ _ is ∙ append_assoc (spelled s b) right v) in
         let list = list_alike es fs u v part.1 in (
           goes (roll-Expr (node.In k a.0 (map (λ (p : Pair). p.0) list.0))) (roll-Expr (node.In k a.0 (trees_of es))) (roll-Expr (node.In k b (map (λ (p : Pair). p.1) list.0))) (roll-Expr (node.In l b fs))
               (ap (λ (xs : List Expr). roll-Expr (node.In k a.0 xs)) list.1) (ap₂ (λ (x : Bool) (xs : List Expr). roll-Expr (node.In x b xs)) negated list.2)
               (closed (node.In k (a.0, b, part.0) list.0)),
           list.3,
         )
-    in_node_alike k a es _ u v is = absurd (apart 14 _ _ refl refl is)
+    in_node_alike k a es _ u v is = absurd (apart marks_in _ _ _ _ refl refl is)
 
     like_node_alike : (k : Bool) (a : Knowing) (t : List ℕ) (z : Expr-F Expr Arm) (u v : Spelling) → spell_at (bare (node.Like k a t)) ++ u ≡ spell_at z ++ v → AreAlike (bare (node.Like k a t)) z u v
-    like_node_alike k a t (node.Column w m) u v is = absurd (no_column (stands_for s w m) v _ refl (sym is))
+    like_node_alike k a t (node.Column w m) u v is = absurd (no_column (stands_for s w m) _ v _ refl (sym is))
     like_node_alike k a t (node.Like l b w) u v is =
-        let rest = rest_is (pos 15) _ _ is in
-        let negated = bool_same k l (head_is (bool_code k) (bool_code l) _ _ rest) in
-        let part = a.1 b (text_code t ++ u) (text_code w ++ v) (sym (append_assoc (spelled s a.0) (text_code t) u) ∙ tail_is (bool_code k) (bool_code l) _ _ rest ∙ append_assoc (spelled s b) (text_code w) v) in
-        let pattern = text_same t w u v part.1 in (
+        let operators : operator.Like k ≡ operator.Like l = operator_is _ _ _ _ is in
+        let negated : k ≡ l = cc in
+        let left = mark.Text t ∷ [] in
+        let right = mark.Text w ∷ [] in
+        let part = a.1 b (left ++ u) (right ++ v) (sym (append_assoc (spelled s a.0) left u) ∙ tail_is _ _ _ _ is ∙ append_assoc (spelled s b) right v) in
+        let marks : mark.Text t ≡ mark.Text w = head_is _ _ u v part.1 in
+        let pattern : t ≡ w = cc in (
           goes (roll-Expr (node.Like k a.0 t)) (roll-Expr (node.Like k a.0 t)) (roll-Expr (node.Like k b t)) (roll-Expr (node.Like l b w)) refl
-              (ap₂ (λ (x : Bool) (y : List ℕ). roll-Expr (node.Like x b y)) negated pattern.0) (closed (node.Like k (a.0, b, part.0) t)),
-          pattern.1,
+              (ap₂ (λ (x : Bool) (y : List ℕ). roll-Expr (node.Like x b y)) negated pattern) (closed (node.Like k (a.0, b, part.0) t)),
+          tail_is _ _ u v part.1,
         )
-    like_node_alike k a t _ u v is = absurd (apart 15 _ _ refl refl is)
+    like_node_alike k a t _ u v is = absurd (apart marks_like _ _ _ _ refl refl is)
 
     coalesce_alike : (es : List Knowing) (z : Expr-F Expr Arm) (u v : Spelling) → spell_at (bare (node.Coalesce es)) ++ u ≡ spell_at z ++ v → AreAlike (bare (node.Coalesce es)) z u v
-    coalesce_alike es (node.Column w m) u v is = absurd (no_column (stands_for s w m) v _ refl (sym is))
+    coalesce_alike es (node.Column w m) u v is = absurd (no_column (stands_for s w m) _ v _ refl (sym is))
     coalesce_alike es (node.Coalesce fs) u v is =
-        let list = list_alike es fs u v (rest_is (pos 16) _ _ is) in (
+        let list = list_alike es fs u v (rest_is (mark.Operator operator.Coalesce) _ _ is) in (
           goes (roll-Expr (node.Coalesce (map (λ (p : Pair). p.0) list.0))) (roll-Expr (node.Coalesce (trees_of es))) (roll-Expr (node.Coalesce (map (λ (p : Pair). p.1) list.0))) (roll-Expr (node.Coalesce fs))
               (ap (λ (xs : List Expr). roll-Expr (node.Coalesce xs)) list.1) (ap (λ (xs : List Expr). roll-Expr (node.Coalesce xs)) list.2) (closed (node.Coalesce list.0)),
           list.3,
         )
-    coalesce_alike es _ u v is = absurd (apart 16 _ _ refl refl is)
+    coalesce_alike es _ u v is = absurd (apart marks_coalesce _ _ _ _ refl refl is)
 
     case_node_alike : (arms : List KnowingArm) (o : Option Knowing) (z : Expr-F Expr Arm) (u v : Spelling) → spell_at (bare (node.Case arms o)) ++ u ≡ spell_at z ++ v → AreAlike (bare (node.Case arms o)) z u v
-    case_node_alike arms o (node.Column w m) u v is = absurd (no_column (stands_for s w m) v _ refl (sym is))
+    case_node_alike arms o (node.Column w m) u v is = absurd (no_column (stands_for s w m) _ v _ refl (sym is))
     case_node_alike arms None (node.Case others None) u v is =
-        let left = pos 0 ∷ [] in
-        let codes_are = sym (append_assoc (arms_code (map (spelled_arm s) (arms_in arms))) left u) ∙ rest_is (pos 17) _ _ is ∙ append_assoc (arms_code (map (spelled_arm s) others)) left v in
-        let list = arms_alike arms others (pos 0 ∷ u) (pos 0 ∷ v) codes_are in (
+        let left = mark.End ∷ [] in
+        let marks_are = sym (append_assoc (arms_marks (map (spelled_arm s) (arms_in arms))) left u) ∙ rest_is (mark.Operator operator.Case) _ _ is ∙ append_assoc (arms_marks (map (spelled_arm s) others)) left v in
+        let list = arms_alike arms others (mark.End ∷ u) (mark.End ∷ v) marks_are in (
           goes (roll-Expr (node.Case (map (λ (p : ArmPair). p.0) list.0) None)) (roll-Expr (node.Case (arms_in arms) None)) (roll-Expr (node.Case (map (λ (p : ArmPair). p.1) list.0) None)) (roll-Expr (node.Case others None))
               (ap (λ (xs : List Arm). roll-Expr (node.Case xs None)) list.1) (ap (λ (xs : List Arm). roll-Expr (node.Case xs None)) list.2) (closed (node.Case list.0 None)),
-          rest_is (pos 0) u v list.3,
+          rest_is mark.End u v list.3,
         )
     case_node_alike arms None (node.Case others (Some f)) u v is =
-        let right = pos 1 ∷ spelled s f in
-        let codes_are = sym (append_assoc (arms_code (map (spelled_arm s) (arms_in arms))) (pos 0 ∷ []) u) ∙ rest_is (pos 17) _ _ is ∙ append_assoc (arms_code (map (spelled_arm s) others)) right v in
-        let list = arms_alike arms others (pos 0 ∷ u) (right ++ v) codes_are in
+        let right = mark.More ∷ spelled s f in
+        let marks_are = sym (append_assoc (arms_marks (map (spelled_arm s) (arms_in arms))) (mark.End ∷ []) u) ∙ rest_is (mark.Operator operator.Case) _ _ is ∙ append_assoc (arms_marks (map (spelled_arm s) others)) right v in
+        let list = arms_alike arms others (mark.End ∷ u) (right ++ v) marks_are in
         let wrong = list.3 in absurd cc
     case_node_alike arms (Some e) (node.Case others None) u v is =
-        let left = pos 1 ∷ spelled s e.0 in
-        let codes_are = sym (append_assoc (arms_code (map (spelled_arm s) (arms_in arms))) left u) ∙ rest_is (pos 17) _ _ is ∙ append_assoc (arms_code (map (spelled_arm s) others)) (pos 0 ∷ []) v in
-        let list = arms_alike arms others (left ++ u) (pos 0 ∷ v) codes_are in
+        let left = mark.More ∷ spelled s e.0 in
+        let marks_are = sym (append_assoc (arms_marks (map (spelled_arm s) (arms_in arms))) left u) ∙ rest_is (mark.Operator operator.Case) _ _ is ∙ append_assoc (arms_marks (map (spelled_arm s) others)) (mark.End ∷ []) v in
+        let list = arms_alike arms others (left ++ u) (mark.End ∷ v) marks_are in
         let wrong = list.3 in absurd cc
     case_node_alike arms (Some e) (node.Case others (Some f)) u v is =
-        let left = pos 1 ∷ spelled s e.0 in
-        let right = pos 1 ∷ spelled s f in
-        let codes_are = sym (append_assoc (arms_code (map (spelled_arm s) (arms_in arms))) left u) ∙ rest_is (pos 17) _ _ is ∙ append_assoc (arms_code (map (spelled_arm s) others)) right v in
-        let list = arms_alike arms others (left ++ u) (right ++ v) codes_are in
-        let last = e.1 f u v (rest_is (pos 1) _ _ list.3) in (
+        let left = mark.More ∷ spelled s e.0 in
+        let right = mark.More ∷ spelled s f in
+        let marks_are = sym (append_assoc (arms_marks (map (spelled_arm s) (arms_in arms))) left u) ∙ rest_is (mark.Operator operator.Case) _ _ is ∙ append_assoc (arms_marks (map (spelled_arm s) others)) right v in
+        let list = arms_alike arms others (left ++ u) (right ++ v) marks_are in
+        let last = e.1 f u v (rest_is mark.More _ _ list.3) in (
           goes (roll-Expr (node.Case (map (λ (p : ArmPair). p.0) list.0) (Some e.0))) (roll-Expr (node.Case (arms_in arms) (Some e.0))) (roll-Expr (node.Case (map (λ (p : ArmPair). p.1) list.0) (Some f))) (roll-Expr (node.Case others (Some f)))
               (ap (λ (xs : List Arm). roll-Expr (node.Case xs (Some e.0))) list.1) (ap (λ (xs : List Arm). roll-Expr (node.Case xs (Some f))) list.2) (closed (node.Case list.0 (Some (e.0, f, last.0)))),
           last.1,
         )
-    case_node_alike arms o _ u v is = absurd (apart 17 _ _ refl refl is)
+    case_node_alike arms o _ u v is = absurd (apart marks_case _ _ _ _ refl refl is)
 
     node_alike : (y : Expr-F Knowing KnowingArm) (z : Expr-F Expr Arm) (u v : Spelling) → spell_at (bare y) ++ u ≡ spell_at z ++ v → AreAlike (bare y) z u v
     node_alike (node.Column t m) = column_alike t m

@@ -1,5 +1,6 @@
--- Trees that are spelled alike are equal once their names are looked up, and so they give the same and are of one sort.
-use Rattle.std.specs.Prelude.{◌≡◌, Bool, [], Some, None, option_map, Ok}
+-- Trees that are spelled alike are those that are equal once their names are looked up, and so they give the same and are of
+-- one sort.
+use Rattle.std.specs.Prelude.{◌≡◌, ◌↔◌, Bool, [], Some, None, option_map, Ok}
 use Rattle.meaning.specs.declared.joined_row.JoinedRow.{JoinedRow}
 use Rattle.sql_syntax.specs.declared.tree.Expr.{Expr}
 use Rattle.sql_syntax.specs.declared.tree.Expr.TheOpen as node
@@ -28,8 +29,9 @@ with_parts n = tree_over (λ e. e) n
 abbrev pub with_full_names : Scope → Expr → Expr
 with_full_names s = replaced (λ e. option_map full_name (column_meant s e)) with_parts
 
+-- two trees are spelled alike exactly where they are one tree once their names are looked up
 abbrev pub SpelledAlike : Type 0
-SpelledAlike = (s : Scope) (a b : Expr) → spelled s a ≡ spelled s b → with_full_names s a ≡ with_full_names s b
+SpelledAlike = (s : Scope) (a b : Expr) → (spelled s a ≡ spelled s b) ↔ (with_full_names s a ≡ with_full_names s b)
 
 -- on every row they give the same
 abbrev pub SpelledMean : Type 0

@@ -5,7 +5,7 @@ pub mod Trees
 pub mod Sorts
 pub mod Judged
 pub mod Spelled
-pub mod Kinds
+pub mod Operators
 pub mod Translated
 pub mod Given
 pub mod From

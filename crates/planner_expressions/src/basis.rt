@@ -4,8 +4,9 @@ ghost use Rattle.meaning.specs.declared.expr.Expr as plan;
 ghost use Rattle.planner_expressions.specs.Given.{column_expr, column_meant, group_given, given_in};
 ghost use Rattle.planner_expressions.specs.Spelled.{spelled};
 
-use crate::kinds::may_be_among;
+use crate::marks::Spelling;
 use crate::naming::look_up;
+use crate::operators::may_be_among;
 use crate::scope::{Scope, ScopeColumn};
 use crate::spelling::{find_same, spell};
 use meaning::{Expr, Sequence};
@@ -19,8 +20,8 @@ pub enum Basis {
     Rows,
     /// The keys and the aggregates of a group, each written out.
     Groups {
-        keys: Sequence<Sequence<i64>>,
-        aggregates: Sequence<Sequence<i64>>,
+        keys: Sequence<Spelling>,
+        aggregates: Sequence<Spelling>,
     },
 }
 
@@ -55,11 +56,7 @@ fn row_given(scope: &Scope, expr: &tree::Expr) -> Option<Expr>
     column_of(scope, expr).map(expr_at)
 }
 
-fn found_in_group(
-    keys: &[Sequence<i64>],
-    aggregates: &[Sequence<i64>],
-    written: &Sequence<i64>,
-) -> Option<Expr>
+fn found_in_group(keys: &[Spelling], aggregates: &[Spelling], written: &Spelling) -> Option<Expr>
     ensures { result ≡ group_given keys.now aggregates.now written.now }
 {
     match find_same(keys, written) {
@@ -72,7 +69,7 @@ fn found_in_group(
 }
 
 /// The expression written out.
-pub fn written(alloc: Global, scope: &Scope, expr: &tree::Expr) -> Result<Sequence<i64>, AllocError>
+pub fn written(alloc: Global, scope: &Scope, expr: &tree::Expr) -> Result<Spelling, AllocError>
     ensures { IfOk result (λ x. x ≡ spelled scope.now expr.now) }
 {
     let mut out = Sequence::new(alloc);
@@ -86,7 +83,7 @@ pub fn written(alloc: Global, scope: &Scope, expr: &tree::Expr) -> Result<Sequen
 }
 
 /// What the expression becomes, if anything is given for it. It is written out only where a key or
-/// an aggregate begins as it does.
+/// an aggregate begins with its operator, or where it has none.
 pub fn given(
     alloc: Global,
     scope: &Scope,

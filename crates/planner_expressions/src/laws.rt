@@ -30,7 +30,7 @@ pub fn scopes_are_tables()
     ensures { ScopesAreTables }
 {}
 
-/// Trees that are spelled alike are equal once their names are looked up.
+/// Trees are spelled alike exactly where they are equal once their names are looked up.
 pub fn spelled_trees_are_equal()
     ensures { SpelledAlike }
 {}

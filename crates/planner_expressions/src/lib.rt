@@ -8,9 +8,10 @@ mod collecting;
 mod fault;
 mod from;
 mod judging;
-mod kinds;
 mod laws;
+mod marks;
 mod naming;
+mod operators;
 mod scope;
 mod sort;
 mod sort_rules;
@@ -26,6 +27,7 @@ pub use laws::{
     groups_mean, rows_are_typed, rows_mean, rows_translate, scopes_are_tables,
     spelled_trees_are_equal, spelled_trees_have_sorts, spelled_trees_mean, spelled_trees_translate,
 };
+pub use marks::{Mark, Operator, Spelling};
 pub use scope::{Dim, Scope, ScopeColumn};
 pub use sort::Sort;
 pub use spelling::find_same;

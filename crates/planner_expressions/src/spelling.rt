@@ -1,173 +1,96 @@
 //! Trees written out, with names looked up, so that two of them can be compared.
-ghost use Rattle.std.specs.Prelude.{◌≡◌, ◌++◌, ◌∷◌, [], map, option_map, OnOk};
-ghost use Rattle.planner_expressions.specs.Spelled.{spelled, spelled_arm, text_code, column_code, bool_code, aggregate_code, arithmetic_code, comparison_code, list_code, arms_code, else_code, same_spelling, index_among};
+ghost use Rattle.std.specs.Prelude.{◌≡◌, ◌++◌, ◌∷◌, [], map, option_map, IfOk, OnOk};
+ghost use Rattle.planner_expressions.specs.declared.marks.Mark.TheVariants as of_mark;
+ghost use Rattle.planner_expressions.specs.declared.marks.Operator.TheVariants as of_operator;
+ghost use Rattle.planner_expressions.specs.Spelled.{spelled, spelled_arm, column_mark, list_marks, arms_marks, else_marks, same_spelling, index_among};
 ghost use Rattle.planner_expressions.specs.Scope.{stands_for};
 
+use crate::marks::{Mark, Operator, Spelling};
 use crate::naming::look_up;
-use crate::scope::{Scope, ScopeColumn};
-use meaning::{Boxed, Sequence, Text};
-use sql_syntax::{Aggregate, Arithmetic, Arm, Comparison, Expr};
+use crate::scope::Scope;
+use meaning::{Boxed, Text};
+use sql_syntax::{Arm, Expr};
 use std::alloc::AllocError;
 
-/// A text's bytes, and its end.
-fn put_text(text: &Text, out: &mut Sequence<i64>) -> Result<(), AllocError>
-    ensures { OnOk result (out.new ≡ out.old ++ text_code text.now) }
+fn mark_of_name(scope: &Scope, table: &Option<Text>, name: &Text) -> Result<Mark, AllocError>
+    ensures { IfOk result (λ m. m ≡ column_mark (stands_for scope.now table.now name.now)) }
 {
-    for byte in text.as_bytes() {
-        out.push(i64::from(*byte))?;
-    }
-    out.push(-1)
+    let Ok(column) = look_up(scope, table, name) else {
+        return Ok(Mark::Unknown);
+    };
+    let owner = column.owner.clone()?;
+    let name = column.name.clone()?;
+    Ok(Mark::Column { owner, name })
 }
 
-fn put_scope_column(column: &ScopeColumn, out: &mut Sequence<i64>) -> Result<(), AllocError>
-    ensures { OnOk result (out.new ≡ out.old ++ column_code (Some column.now)) }
-{
-    out.push(0)?;
-    put_text(&column.owner, out)?;
-    put_text(&column.name, out)
-}
-
-fn put_column(
+fn put_name(
     scope: &Scope,
     table: &Option<Text>,
     name: &Text,
-    out: &mut Sequence<i64>,
+    out: &mut Spelling,
 ) -> Result<(), AllocError>
-    ensures { OnOk result (out.new ≡ out.old
-        ++ column_code (stands_for scope.now table.now name.now)) }
+    ensures { OnOk result (out.new
+        ≡ out.old ++ column_mark (stands_for scope.now table.now name.now) ∷ []) }
 {
-    match look_up(scope, table, name) {
-        Ok(column) => put_scope_column(column, out),
-        Err(_) => out.push(1),
-    }
+    let mark = mark_of_name(scope, table, name)?;
+    out.push(mark)
 }
 
-fn put_two(first: i64, second: i64, out: &mut Sequence<i64>) -> Result<(), AllocError>
-    ensures { OnOk result (out.new ≡ out.old ++ first ∷ second ∷ []) }
+fn put_text(text: &Text, out: &mut Spelling) -> Result<(), AllocError>
+    ensures { OnOk result (out.new ≡ out.old ++ of_mark.Text text.now ∷ []) }
 {
-    out.push(first)?;
-    out.push(second)
+    let text = text.clone()?;
+    out.push(Mark::Text(text))
 }
 
-fn code_of_bool(negated: bool) -> i64
-    ensures { result ≡ bool_code negated }
+fn put_operator(operator: Operator, out: &mut Spelling) -> Result<(), AllocError>
+    ensures { OnOk result (out.new ≡ out.old ++ of_mark.Operator operator ∷ []) }
 {
-    if negated { 1 } else { 0 }
-}
-
-fn code_of_aggregate(kind: Aggregate) -> i64
-    ensures { result ≡ aggregate_code kind }
-{
-    match kind {
-        Aggregate::Count => 0,
-        Aggregate::Sum => 1,
-        Aggregate::Min => 2,
-        Aggregate::Max => 3,
-        Aggregate::Average => 4,
-        Aggregate::CountDistinct => 5,
-        Aggregate::SumDistinct => 6,
-    }
-}
-
-fn code_of_arithmetic(operator: Arithmetic) -> i64
-    ensures { result ≡ arithmetic_code operator }
-{
-    match operator {
-        Arithmetic::Add => 0,
-        Arithmetic::Subtract => 1,
-        Arithmetic::Multiply => 2,
-        Arithmetic::Divide => 3,
-    }
-}
-
-fn code_of_comparison(operator: Comparison) -> i64
-    ensures { result ≡ comparison_code operator }
-{
-    match operator {
-        Comparison::Equal => 0,
-        Comparison::NotEqual => 1,
-        Comparison::Less => 2,
-        Comparison::AtMost => 3,
-        Comparison::Greater => 4,
-        Comparison::AtLeast => 5,
-    }
+    out.push(Mark::Operator(operator))
 }
 
 /// Writes the expression out behind what is there.
 #[cycle(spell)]
-pub fn spell(scope: &Scope, expr: &Expr, out: &mut Sequence<i64>) -> Result<(), AllocError>
+pub fn spell(scope: &Scope, expr: &Expr, out: &mut Spelling) -> Result<(), AllocError>
     ensures { OnOk result (out.new ≡ out.old ++ spelled scope.now expr.now) }
 {
     match expr {
-        Expr::Column { table, name } => put_column(scope, table, name, out),
-        Expr::Integer(n) => put_two(2, *n, out),
-        Expr::Text(text) => {
-            out.push(3)?;
-            put_text(text, out)
-        }
-        Expr::CountRows => out.push(4),
+        Expr::Column { table, name } => put_name(scope, table, name, out),
+        Expr::Integer(n) => out.push(Mark::Integer(*n)),
+        Expr::Text(text) => put_text(text, out),
+        Expr::CountRows => put_operator(Operator::CountRows, out),
         Expr::Aggregate { kind, argument } => {
-            put_two(5, code_of_aggregate(*kind), out)?;
-            spell(scope, argument.get(), out)
+            spell_part(scope, argument, Operator::Aggregate(*kind), out)
         }
-        Expr::Minus(a) => {
-            out.push(6)?;
-            spell(scope, a.get(), out)
-        }
+        Expr::Minus(part) => spell_part(scope, part, Operator::Minus, out),
         Expr::Arithmetic {
             operator,
             left,
             right,
-        } => {
-            put_two(7, code_of_arithmetic(*operator), out)?;
-            spell(scope, left.get(), out)?;
-            spell(scope, right.get(), out)
-        }
+        } => spell_two(scope, left, right, Operator::Arithmetic(*operator), out),
         Expr::Compare {
             operator,
             left,
             right,
-        } => {
-            put_two(8, code_of_comparison(*operator), out)?;
-            spell(scope, left.get(), out)?;
-            spell(scope, right.get(), out)
-        }
-        Expr::Not(a) => {
-            out.push(9)?;
-            spell(scope, a.get(), out)
-        }
-        Expr::And { left, right } => {
-            out.push(10)?;
-            spell(scope, left.get(), out)?;
-            spell(scope, right.get(), out)
-        }
-        Expr::Or { left, right } => {
-            out.push(11)?;
-            spell(scope, left.get(), out)?;
-            spell(scope, right.get(), out)
-        }
+        } => spell_two(scope, left, right, Operator::Compare(*operator), out),
+        Expr::Not(part) => spell_part(scope, part, Operator::Not, out),
+        Expr::And { left, right } => spell_two(scope, left, right, Operator::And, out),
+        Expr::Or { left, right } => spell_two(scope, left, right, Operator::Or, out),
         Expr::IsNull { negated, subject } => {
-            put_two(12, code_of_bool(*negated), out)?;
-            spell(scope, subject.get(), out)
+            spell_part(scope, subject, Operator::IsNull { negated: *negated }, out)
         }
         Expr::Between {
             negated,
             subject,
             low,
             high,
-        } => {
-            put_two(13, code_of_bool(*negated), out)?;
-            spell(scope, subject.get(), out)?;
-            spell(scope, low.get(), out)?;
-            spell(scope, high.get(), out)
-        }
+        } => spell_between(scope, subject, low, high, *negated, out),
         Expr::In {
             negated,
             subject,
             entries,
         } => {
-            put_two(14, code_of_bool(*negated), out)?;
-            spell(scope, subject.get(), out)?;
+            spell_part(scope, subject, Operator::In { negated: *negated }, out)?;
             spell_entries(scope, entries.as_slice(), out)
         }
         Expr::Like {
@@ -175,16 +98,15 @@ pub fn spell(scope: &Scope, expr: &Expr, out: &mut Sequence<i64>) -> Result<(), 
             subject,
             pattern,
         } => {
-            put_two(15, code_of_bool(*negated), out)?;
-            spell(scope, subject.get(), out)?;
+            spell_part(scope, subject, Operator::Like { negated: *negated }, out)?;
             put_text(pattern, out)
         }
         Expr::Coalesce(entries) => {
-            out.push(16)?;
+            put_operator(Operator::Coalesce, out)?;
             spell_entries(scope, entries.as_slice(), out)
         }
         Expr::Case { arms, otherwise } => {
-            out.push(17)?;
+            put_operator(Operator::Case, out)?;
             spell_arms(scope, arms.as_slice(), out)?;
             spell_else(scope, otherwise, out)
         }
@@ -192,54 +114,107 @@ pub fn spell(scope: &Scope, expr: &Expr, out: &mut Sequence<i64>) -> Result<(), 
 }
 
 #[cycle(spell)]
-fn spell_entries(scope: &Scope, entries: &[Expr], out: &mut Sequence<i64>) -> Result<(), AllocError>
-    ensures { OnOk result (out.new ≡ out.old ++ list_code (map (spelled scope.now) entries.now)) }
+fn spell_part(
+    scope: &Scope,
+    part: &Boxed<Expr>,
+    operator: Operator,
+    out: &mut Spelling,
+) -> Result<(), AllocError>
+    ensures { OnOk result (out.new
+        ≡ out.old ++ of_mark.Operator operator ∷ spelled scope.now part.now) }
 {
-    for entry in entries {
-        out.push(1)?;
-        spell(scope, entry, out)?;
-    }
-    out.push(0)
+    put_operator(operator, out)?;
+    spell(scope, part.get(), out)
 }
 
 #[cycle(spell)]
-fn spell_arms(scope: &Scope, arms: &[Arm], out: &mut Sequence<i64>) -> Result<(), AllocError>
-    ensures { OnOk result (out.new ≡ out.old ++ arms_code (map (spelled_arm scope.now) arms.now)) }
+fn spell_two(
+    scope: &Scope,
+    left: &Boxed<Expr>,
+    right: &Boxed<Expr>,
+    operator: Operator,
+    out: &mut Spelling,
+) -> Result<(), AllocError>
+    ensures { OnOk result (out.new
+        ≡ out.old
+        ++ of_mark.Operator operator ∷ spelled scope.now left.now
+        ++ spelled scope.now right.now) }
+{
+    spell_part(scope, left, operator, out)?;
+    spell(scope, right.get(), out)
+}
+
+#[cycle(spell)]
+fn spell_between(
+    scope: &Scope,
+    subject: &Boxed<Expr>,
+    low: &Boxed<Expr>,
+    high: &Boxed<Expr>,
+    negated: bool,
+    out: &mut Spelling,
+) -> Result<(), AllocError>
+    ensures { OnOk result (out.new
+        ≡ out.old
+        ++ of_mark.Operator (of_operator.Between negated) ∷ spelled scope.now subject.now
+        ++ (spelled scope.now low.now ++ spelled scope.now high.now)) }
+{
+    spell_two(scope, subject, low, Operator::Between { negated }, out)?;
+    spell(scope, high.get(), out)
+}
+
+/// One more part of a list.
+#[cycle(spell)]
+fn spell_next(scope: &Scope, part: &Expr, out: &mut Spelling) -> Result<(), AllocError>
+    ensures { OnOk result (out.new ≡ out.old ++ of_mark.More ∷ spelled scope.now part.now) }
+{
+    out.push(Mark::More)?;
+    spell(scope, part, out)
+}
+
+#[cycle(spell)]
+fn spell_entries(scope: &Scope, entries: &[Expr], out: &mut Spelling) -> Result<(), AllocError>
+    ensures { OnOk result (out.new ≡ out.old ++ list_marks (map (spelled scope.now) entries.now)) }
+{
+    for entry in entries {
+        spell_next(scope, entry, out)?;
+    }
+    out.push(Mark::End)
+}
+
+#[cycle(spell)]
+fn spell_arms(scope: &Scope, arms: &[Arm], out: &mut Spelling) -> Result<(), AllocError>
+    ensures { OnOk result (out.new ≡ out.old ++ arms_marks (map (spelled_arm scope.now) arms.now)) }
 {
     for arm in arms {
-        out.push(1)?;
-        spell(scope, &arm.condition, out)?;
+        spell_next(scope, &arm.condition, out)?;
         spell(scope, &arm.value, out)?;
     }
-    out.push(0)
+    out.push(Mark::End)
 }
 
 #[cycle(spell)]
 fn spell_else(
     scope: &Scope,
     otherwise: &Option<Boxed<Expr>>,
-    out: &mut Sequence<i64>,
+    out: &mut Spelling,
 ) -> Result<(), AllocError>
-    ensures { OnOk result (out.new ≡ out.old
-        ++ else_code (option_map (spelled scope.now) otherwise.now)) }
+    ensures { OnOk result (out.new
+        ≡ out.old ++ else_marks (option_map (spelled scope.now) otherwise.now)) }
 {
     match otherwise {
-        Some(otherwise) => {
-            out.push(1)?;
-            spell(scope, otherwise.get(), out)
-        }
-        None => out.push(0),
+        Some(otherwise) => spell_next(scope, otherwise.get(), out),
+        None => out.push(Mark::End),
     }
 }
 
-fn is_same(a: &Sequence<i64>, b: &Sequence<i64>) -> bool
+fn is_same(a: &Spelling, b: &Spelling) -> bool
     ensures { result ≡ same_spelling a.now b.now }
 {
     a == b
 }
 
 /// Where a list first has a tree that is written out like this.
-pub fn find_same(list: &[Sequence<i64>], wanted: &Sequence<i64>) -> Option<usize>
+pub fn find_same(list: &[Spelling], wanted: &Spelling) -> Option<usize>
     ensures { result ≡ index_among list.now wanted.now }
 {
     list.iter().position(|spelling| is_same(wanted, spelling))

@@ -1,5 +1,5 @@
 -- Reading the tokens of an expression from front to back: one definition a rule of the grammar.
-use Rattle.std.specs.Prelude.{ℕ, zero, suc, ◌+◌, ℤ, pos, Bool, true, false, ◌||◌, nat_le, nat_lt, max, if◌then◌else◌, List, [], ◌∷◌, ◌++◌, length, map, Option, Some, None, Result, Ok, Err, ◌≡◌}
+use Rattle.std.specs.Prelude.{ℕ, zero, suc, ◌+◌, ℤ, pos, Bool, true, false, ◌||◌, nat_le, nat_lt, max, if◌then◌else◌, List, [], ◌∷◌, ◌++◌, length, map, Option, Some, None, Result, Ok, Err, IfErr, ◌≡◌, ◌⊎◌}
 use denote.Enum.Bare.{sameb}
 use Rattle.sql_syntax.specs.contracts.keyword.Keyword as keyword_contract
 use Rattle.sql_syntax.specs.contracts.token.Sign as sign_contract
@@ -52,6 +52,10 @@ Stops (stop.At left) read = read ≡ None
 abbrev pub Gives : {X Y : Type 0} → (X → Y) → Result X Stop → Option Y → Type 0
 Gives view (Ok x) read = read ≡ Some (view x)
 Gives view (Err reason) read = Stops reason read
+
+-- A call stops at the front of the tokens, of which so many are left, or for want of memory.
+abbrev pub StopsHere : {X : Type 0} → ℕ → Result X Stop → Type 0
+StopsHere left result = IfErr result (λ reason. (reason ≡ stop.At left) ⊎ (reason ≡ stop.Memory))
 
 -- one step, and then the next with what it gave
 infixl 10 ◌>>=◌

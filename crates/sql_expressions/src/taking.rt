@@ -1,9 +1,10 @@
 //! Single tokens, taken from the front of those that are left.
-ghost use Rattle.sql_expressions.specs.Rules.{Gives, aggregate_of, begins_integer, begins_name, begins_other, begins_test, behind, comparison_of, digits_of, distinct_of, first_is, integer_at, is_keyword, is_sign, name_at, names_other, names_test, operator_of, terms, text_at};
+ghost use Rattle.sql_expressions.specs.Rules.{Gives, StopsHere, aggregate_of, begins_integer, begins_name, begins_other, begins_test, behind, comparison_of, digits_of, distinct_of, first_is, integer_at, is_keyword, is_sign, name_at, names_other, names_test, operator_of, terms, text_at};
 ghost use Rattle.sql_syntax.specs.Phrases.{undoubled};
 ghost use Rattle.sql_syntax.specs.Tokens.{terminal_of};
 ghost use Rattle.sql_syntax.specs.Words.{lower};
-ghost use Rattle.std.specs.Prelude.{IfOk, IfSome, length, option_map, ◌<◌, ◌≡◌};
+ghost use Rattle.sql_expressions.specs.declared.stop.Stop.TheVariants.{At};
+ghost use Rattle.std.specs.Prelude.{IfOk, IfSome, IsOkUnless, length, option_map, ◌<◌, ◌≡◌};
 
 use crate::stop::Stop;
 use meaning::Text;
@@ -14,7 +15,9 @@ use sql_syntax::{
 use std::alloc::{AllocError, Global};
 
 /// A token isn't expected at the front, or the end isn't.
-pub fn stop_at(lexemes: &[Lexeme<'_>]) -> Stop {
+pub fn stop_at(lexemes: &[Lexeme<'_>]) -> Stop
+    ensures { result ≡ At (length lexemes.now) }
+{
     Stop::At(lexemes.len())
 }
 
@@ -68,6 +71,7 @@ pub fn past_keyword<'a, 'b>(
     ensures reads { Gives (λ x. terms x.now) result
         (behind (is_keyword keyword) (terms lexemes.now)) }
     ensures shorter { IfOk result (λ x. length x.now < length lexemes.now) }
+    ensures stops { IsOkUnless result (At (length lexemes.now)) }
 {
     match if_keyword(lexemes, keyword) {
         Some(rest) => Ok(rest),
@@ -79,6 +83,7 @@ pub fn past_keyword<'a, 'b>(
 pub fn past_sign<'a, 'b>(lexemes: &'a [Lexeme<'b>], sign: Sign) -> Result<&'a [Lexeme<'b>], Stop>
     ensures reads { Gives (λ x. terms x.now) result (behind (is_sign sign) (terms lexemes.now)) }
     ensures shorter { IfOk result (λ x. length x.now < length lexemes.now) }
+    ensures stops { IsOkUnless result (At (length lexemes.now)) }
 {
     match if_sign(lexemes, sign) {
         Some(rest) => Ok(rest),
@@ -107,6 +112,7 @@ pub fn name<'a, 'b>(
 ) -> Result<(Text, &'a [Lexeme<'b>]), Stop>
     ensures reads { Gives (λ x. (x.0, terms x.1.now)) result (name_at (terms lexemes.now)) }
     ensures shorter { IfOk result (λ x. length x.1.now < length lexemes.now) }
+    ensures stops { StopsHere (length lexemes.now) result }
 {
     let Some((first, rest)) = lexemes.split_first() else {
         return Err(stop_at(lexemes));
@@ -124,6 +130,7 @@ pub fn text<'a, 'b>(
 ) -> Result<(Text, &'a [Lexeme<'b>]), Stop>
     ensures reads { Gives (λ x. (x.0, terms x.1.now)) result (text_at (terms lexemes.now)) }
     ensures shorter { IfOk result (λ x. length x.1.now < length lexemes.now) }
+    ensures stops { StopsHere (length lexemes.now) result }
 {
     let Some((first, rest)) = lexemes.split_first() else {
         return Err(stop_at(lexemes));
@@ -138,6 +145,7 @@ pub fn text<'a, 'b>(
 pub fn integer<'a, 'b>(lexemes: &'a [Lexeme<'b>]) -> Result<(u64, &'a [Lexeme<'b>]), Stop>
     ensures reads { Gives (λ x. (x.0, terms x.1.now)) result (integer_at (terms lexemes.now)) }
     ensures shorter { IfOk result (λ x. length x.1.now < length lexemes.now) }
+    ensures stops { IsOkUnless result (At (length lexemes.now)) }
 {
     let Some((first, rest)) = lexemes.split_first() else {
         return Err(stop_at(lexemes));

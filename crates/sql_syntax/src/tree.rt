@@ -79,7 +79,7 @@ pub enum Direction {
     Descending,
 }
 
-#[derive(Clone, Copy)]
+#[derive(Clone, Copy, PartialEq, Eq)]
 pub enum Arithmetic {
     Add,
     Subtract,
@@ -109,7 +109,7 @@ impl Arithmetic {
     }
 }
 
-#[derive(Clone, Copy)]
+#[derive(Clone, Copy, PartialEq, Eq)]
 pub enum Comparison {
     Equal,
     NotEqual,
@@ -135,7 +135,7 @@ impl Comparison {
 }
 
 /// `CountDistinct` is COUNT(DISTINCT ..), and `SumDistinct` SUM(DISTINCT ..).
-#[derive(Clone, Copy)]
+#[derive(Clone, Copy, PartialEq, Eq)]
 pub enum Aggregate {
     Count,
     CountDistinct,

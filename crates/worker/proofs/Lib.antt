@@ -13,7 +13,6 @@ pub mod LaterConditions
 pub mod Leading
 pub mod MarkedRows
 pub mod Marks
-pub mod PackedTables
 pub mod NumberedRows
 pub mod OwnAnswers
 pub mod PackedColumns

@@ -3,7 +3,7 @@ ghost use Rattle.std.specs.Prelude.{◌≡◌, ◌≤◌, ◌++◌, length, take
 ghost use Rattle.std.specs.Cow.{cow_slice_items};
 
 use aggregate_states::Group;
-use group_by::{GroupTable, OrderedGroups};
+use group_by::{GroupTable, OrderedGroups, spare_groups};
 use meaning::{ColType, GroupingKey, Plan};
 use packed_groups::PackedGroups;
 use std::alloc::{AllocError, Global};
@@ -12,14 +12,6 @@ use std::mem::drop;
 
 /// How many groups are made at a time: some hundred thousand bytes of them.
 const BATCH: usize = 256;
-
-/// The groups of a batch, whose buffers are used again, if they were made for it.
-fn spare_groups(alloc: Global, batch: CowSlice<'_, Group>) -> Vec<Group> {
-    match batch {
-        CowSlice::Owned(groups) => groups,
-        CowSlice::Borrowed(_) => Vec::new(alloc),
-    }
-}
 
 /// Packs a batch of groups behind others, and then gives them up.
 fn pack_batch(

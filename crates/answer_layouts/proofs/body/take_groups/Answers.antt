@@ -31,7 +31,7 @@ loop-preserved c =
       read = rw c.in_ok-groups.ensures
           (kept_goes_on part kept_group has_possible_sums c.loop.groups c.loop.are_possible c.args.count c.loop.counter c.loop.rest.now c.in_ok-group.group c.in_ok-group.is_possible c.in_ok-group.behind.now all
           c.loop-test.true c.in_ok-group.ensures c.loop.invariant.read);
-      judged = rw c.in_ok-groups.ensures (c.with-judged.ensures c.loop.groups c.loop.invariant.judged);
+      judged = rw c.in_ok-groups.ensures (c.with-in-loop.ensures c.loop.groups c.loop.invariant.judged);
     }
 
 pub returns-clause-read : goal.returns-clause-read

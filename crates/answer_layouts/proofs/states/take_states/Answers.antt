@@ -6,7 +6,7 @@ use Rattle.answer_layouts.proofs.states.take_states.Goals as goal
 
 pub returns-in_err-state : goal.returns-in_err-state
 returns-in_err-state c =
-    let p = err_from_is_err_and c.from_residual-in_err-state.result c.from_residual-in_err-state.ensures.1 in
+    let p = err_from_is_err_and c.from_residual.result c.from_residual.ensures.1 in
     rw (p.1, p.2) (λ not_memory. states_fail c.loop-aggregate.states.items c.loop-aggregate.are_possible c.args.aggregates.now c.loop-aggregate.aggregate-index _ c.loop-aggregate.rest.now c.in_err-state.field-0.0
     (states_at c.args.aggregates.now c.args.bytes.now) c.loop-aggregate-test.true (c.in_err-state.ensures not_memory) c.loop-aggregate.invariant)
 

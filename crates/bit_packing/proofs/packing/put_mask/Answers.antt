@@ -17,6 +17,6 @@ pub returns : goal.returns
 returns c =
     let xs = c.args.nulls.now in
     let i : ℕ = 16 * c.loop-k.k in
-    subst (λ (before : List ℕ). ArePacked before c.finish.new.out.items (length xs) (packed 1 (map bit_of xs))) c.make_room.ensures
+    subst (λ (before : List ℕ). ArePacked before c.finish.new.out.items (length xs) (packed 1 (map bit_of xs))) c.make_room.ensures.same
     (packed_all bit_of 1 _ _ xs (length xs) _ (omega arith) (omega arith) (omega arith) (c.in_ok-finish.ensures _ _ _
     (packs_more bit_of 1 _ _ _ _ xs _ i (length xs / 16 * 16) (length xs - i) (length xs - length xs / 16 * 16) (length xs) _ (omega arith) (omega arith) (omega arith) (omega arith) refl (omega arith) (c.in_ok-bits-2.ensures.packs _ _ _ c.loop-k.invariant.packs))))

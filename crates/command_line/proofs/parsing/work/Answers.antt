@@ -1,14 +1,36 @@
-use Rattle.std.proofs.Common.{refl, sym, subst, ap, ◌∙◌, ◌∷◌, [], codes}
+use Rattle.std.proofs.Common.{refl, sym, subst, ap, ◌∙◌, ◌∷◌, [], codes, arith}
 use Rattle.command_line.specs.Steps.{given_of}
 use Rattle.command_line.specs.Said.{HasText}
-use Rattle.command_line.proofs.Among.{all_among}
+use Rattle.command_line.proofs.Among.{all_among, not_among}
+use Rattle.command_line.proofs.Taken.{no_such, this_work}
 use Rattle.command_line.proofs.parsing.work.Goals as goal
+
+pub returns-then-not-has_only-clause-only : goal.returns-then-not-has_only-clause-only
+returns-then-not-has_only-clause-only c = λ command of range.
+    let this = this_work _ _ _ command of range in
+    absurd (not_among (codes "query" ∷ codes "fragment" ∷ codes "out" ∷ codes "vector" ∷ []) c.args.parts.now _ c.has_only.ensures c.if-not-has_only.true this.among)
+
+pub returns-in_default-number_within-clause-only : goal.returns-in_default-number_within-clause-only
+returns-in_default-number_within-clause-only c = λ command of range.
+    let this = this_work _ _ _ command of range in
+    let below = this.range.0 in
+    absurd (no_such _ (c.in_default-number_within.ensures.only this.work.fragment (omega arith) (omega (arith, below)) this.a_number))
+
+pub returns-in_default-vector-clause-only : goal.returns-in_default-vector-clause-only
+returns-in_default-vector-clause-only c = λ command of range.
+    let this = this_work _ _ _ command of range in
+    absurd (no_such _ (c.in_default-vector.ensures.only this.work.vector this.range.1.0 this.range.1.1 this.a_vector))
 
 pub returns-clause-said : goal.returns-clause-said
 returns-clause-said c = record {
   is = refl;
-  flags_are = sym (c.has_no_flag.ensures c.if-not-has_no_flag.false);
-  words = ap (λ w. w ∷ []) c.in_ok-new.ensures ∙ sym c.in-Some-Some-Some.ensures;
+  flags_are = sym (c.has_no_flag.ensures.0 c.if-not-has_no_flag.false);
+  words = ap (λ w. w ∷ []) c.in_ok-new.ensures ∙ sym c.in-Some.ensures.word;
   among = all_among (codes "query" ∷ codes "fragment" ∷ codes "out" ∷ codes "vector" ∷ []) c.args.parts.now (sym c.has_only.ensures ∙ c.if-not-has_only.false);
-  options = (subst (HasText (codes "query") (given_of c.args.parts.now)) (sym c.in_ok-new-2.ensures) c.in-Some-Some-Some.ensures', c.in-Some-Some.ensures.0, subst (HasText (codes "out") (given_of c.args.parts.now)) (sym c.in_ok-new-3.ensures) c.in-Some-Some-Some.ensures'', c.in-Some-Some.ensures'.0);
+  options = (
+    subst (HasText (codes "query") (given_of c.args.parts.now)) (sym c.in_ok-new-2.ensures) c.in-Some-text.ensures.said,
+    c.in-Some-number_within.ensures.said.0,
+    subst (HasText (codes "out") (given_of c.args.parts.now)) (sym c.in_ok-new-3.ensures) c.in-Some-text-2.ensures.said,
+    c.in-Some-vector.ensures.said.0,
+  );
 }

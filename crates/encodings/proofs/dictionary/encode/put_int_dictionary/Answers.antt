@@ -27,6 +27,6 @@ returns c =
     let codes = c.args.dictionary.now.codes.items in
     let count : c.len-entries.result ≡ length entry_rows = omega (arith, c.len-entries.ensures, c.args.dictionary.now.entry_rows.ok.0) in
     puts_dictionary of_type.Int (map Int c.args.ints.now) entry_rows codes c.args.out.now.items c.put_word.new.out.items c.put_integers_at.new.out.items c.put_shorts.new.out.items c.requires.fit (omega arith) (omega arith) c.requires.entries
-    (c.in_ok-put_word.ensures ∙ (ap (λ (n : ℕ). c.make_room.new.out.items ++ word_bytes n) count ∙ ap (λ (xs : List ℕ). xs ++ word_bytes (length entry_rows)) c.make_room.ensures))
+    (c.in_ok-put_word.ensures ∙ (ap (λ (n : ℕ). c.make_room.new.out.items ++ word_bytes n) count ∙ ap (λ (xs : List ℕ). xs ++ word_bytes (length entry_rows)) c.make_room.ensures.same))
     (c.in_ok-put_integers_at.ensures ∙ (ap (λ (xs : List ℕ). c.put_word.new.out.items ++ flat_map integer_bytes (ints_at c.args.ints.now xs)) c.as_slice.ensures.value ∙ ap (λ (ys : List ℕ). c.put_word.new.out.items ++ ys) (sym (form_at_ints c.args.ints.now entry_rows))))
     (c.in_ok-put_shorts.ensures ∙ ap (λ (xs : List ℕ). c.put_integers_at.new.out.items ++ flat_map short_bytes xs) c.as_slice-2.ensures.value)

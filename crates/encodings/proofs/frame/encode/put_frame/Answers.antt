@@ -28,7 +28,7 @@ returns c =
     let e : to_z w64 (of_z w64 c.bounds_of-bounds.result.least) ≡ least_in ns = to_z-of_z w64 _ f ∙ c.bounds_of-bounds.ensures.least in
     let t : to_z w64 (of_z w64 c.bounds_of-bounds.result.greatest) ≡ greatest_in ns = to_z-of_z w64 _ g ∙ c.bounds_of-bounds.ensures.greatest in
     let w : IsWidth (unsigned_abs (greatest_in ns -ℤ least_in ns)) c.width_of-width.result = same_width _ _ _ _ _ _ c.abs_diff.ensures t e c.width_of-width.ensures in
-    let base = c.in_ok-put_integer.ensures ∙ (ap (λ (b : ℤ). c.make_room.new.out.items ++ integer_bytes b) e ∙ ap (λ (xs : List ℕ). xs ++ integer_bytes (least_in ns)) c.make_room.ensures) in
+    let base = c.in_ok-put_integer.ensures ∙ (ap (λ (b : ℤ). c.make_room.new.out.items ++ integer_bytes b) e ∙ ap (λ (xs : List ℕ). xs ++ integer_bytes (least_in ns)) c.make_room.ensures.same) in
     let bits : ArePacked c.push.new.self.items c.put_offsets.new.out.items (c.width_of-width.result * length ns) (packed c.width_of-width.result (map (λ n. unsigned_abs (n -ℤ least_in ns)) ns)) =
     subst (λ (b : ℤ). ArePacked c.push.new.self.items c.put_offsets.new.out.items (c.width_of-width.result * length ns) (packed c.width_of-width.result (map (λ n. unsigned_abs (n -ℤ b)) ns))) e c.in_ok-put_offsets.ensures in
     puts_frame c.args.out.now.items c.put_integer.new.out.items c.push.new.self.items c.put_offsets.new.out.items ns c.width_of-width.result _ c.requires.fit c.requires.some w base c.in_ok-push.ensures.items refl bits

@@ -11,4 +11,4 @@ pub returns : goal.returns
 returns c =
     let long = length-map c.args.ints.now (λ n. Int n) in
     puts_plain_ints _ _ c.args.ints.now c.requires.fit (omega arith)
-    (c.in_ok-put_integers.ensures ∙ ap (λ (xs : List ℕ). xs ++ flat_map integer_bytes c.args.ints.now) c.make_room.ensures)
+    (c.in_ok-put_integers.ensures ∙ ap (λ (xs : List ℕ). xs ++ flat_map integer_bytes c.args.ints.now) c.make_room.ensures.same)

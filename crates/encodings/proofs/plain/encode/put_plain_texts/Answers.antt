@@ -8,4 +8,4 @@ pub returns : goal.returns
 returns c =
     let long = rows_of c.args.texts.now c.args.from c.args.to c.requires.within in
     puts_plain_texts _ _ (take (c.args.to - c.args.from) (drop c.args.from c.args.texts.now)) c.requires.fit (omega arith)
-    (c.in_ok-put_texts.ensures ∙ ap (λ (xs : List ℕ). xs ++ laid_texts (take (c.args.to - c.args.from) (drop c.args.from c.args.texts.now))) c.make_room.ensures)
+    (c.in_ok-put_texts.ensures ∙ ap (λ (xs : List ℕ). xs ++ laid_texts (take (c.args.to - c.args.from) (drop c.args.from c.args.texts.now))) c.make_room.ensures.same)

@@ -24,6 +24,6 @@ returns c =
     let lengths = c.args.runs.now.lengths.items in
     let count : c.len-2.result ≡ length starts = omega (arith, c.len-2.ensures, c.args.runs.now.starts.ok.0) in
     puts_runs of_type.Int (map Int c.args.ints.now) starts lengths c.args.out.now.items c.put_word.new.out.items c.put_shorts.new.out.items c.put_integers_at.new.out.items c.requires.fit (omega arith) (omega arith) c.requires.runs
-    (c.in_ok-put_word.ensures ∙ (ap (λ (n : ℕ). c.make_room.new.out.items ++ word_bytes n) count ∙ ap (λ (xs : List ℕ). xs ++ word_bytes (length starts)) c.make_room.ensures))
+    (c.in_ok-put_word.ensures ∙ (ap (λ (n : ℕ). c.make_room.new.out.items ++ word_bytes n) count ∙ ap (λ (xs : List ℕ). xs ++ word_bytes (length starts)) c.make_room.ensures.same))
     (c.in_ok-put_shorts.ensures ∙ ap (λ (xs : List ℕ). c.put_word.new.out.items ++ flat_map short_bytes xs) c.as_slice.ensures.value)
     (c.in_ok-put_integers_at.ensures ∙ (ap (λ (xs : List ℕ). c.put_shorts.new.out.items ++ flat_map integer_bytes (ints_at c.args.ints.now xs)) c.as_slice-2.ensures.value ∙ ap (λ (ys : List ℕ). c.put_shorts.new.out.items ++ ys) (sym (form_at_ints c.args.ints.now starts))))

@@ -17,7 +17,7 @@ returns g c =
     let found = c.group.result in
     let told = c.in_ok-advance.ensures in
     let more = lent_is blocks_in found new.current c.in_ok-advance.field-0 c.group.ensures.value told.stands in
-    let advanced : Advances known old new (Ok c.in_ok-advance.field-0) = record { same = told.same; told = told.told; stands = told.stands; counted = told.counted; refused = tt; none = tt; again = told.again } in (
+    let advanced : Advances known old new (Ok c.in_ok-advance.field-0) = record { same = told.same; told = told.told; stands = told.stands; counted = told.counted; refused = tt; none = tt; again = told.again; over = told.over } in (
       (refl, (λ _. tt), (subst (λ (m : Bool). Advances known old new (Ok m)) more advanced, c.group.ensures.value)),
       record {
         after = tt;

@@ -5,7 +5,7 @@ use crate::sequence::Sequence;
 use crate::text::Text;
 use crate::value::Value;
 
-#[derive(Clone, Copy)]
+#[derive(Clone, Copy, PartialEq, Eq)]
 pub enum ArithmeticOperator {
     Add,
     Subtract,
@@ -13,7 +13,7 @@ pub enum ArithmeticOperator {
     Divide,
 }
 
-#[derive(Clone, Copy)]
+#[derive(Clone, Copy, PartialEq, Eq)]
 pub enum ComparisonOperator {
     Equal,
     NotEqual,

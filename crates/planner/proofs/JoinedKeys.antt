@@ -8,7 +8,7 @@ use Rattle.meaning.specs.declared.plan.JoinType.{JoinType}
 use Rattle.meaning.specs.declared.plan.JoinType.TheVariants.{Inner, Left}
 use Rattle.meaning.proofs.Tests.{both, all_first, all_append, all_filter}
 use Rattle.sql_syntax.specs.declared.tree.Arm.{Arm}
-use Rattle.sql_syntax.specs.declared.tree.Comparison.TheVariants as comparison
+use Rattle.meaning.specs.declared.expr.ComparisonOperator.TheVariants as comparison
 use Rattle.sql_syntax.specs.declared.tree.Expr.{Expr}
 use Rattle.sql_syntax.specs.declared.tree.Expr.TheOpen as node
 use Rattle.sql_syntax.specs.declared.tree.Expr.TheOpen.{Expr-F}

@@ -21,7 +21,7 @@ use Rattle.planner_expressions.specs.declared.scope.ScopeColumn.{ScopeColumn}
 use Rattle.planner_expressions.specs.declared.scope.Scope.{Scope}
 use Rattle.planner_expressions.specs.Given.{node_column, given_in, column_expr, column_in}
 use Rattle.planner_expressions.specs.Scope.{stands_for}
-use Rattle.planner_expressions.specs.Translated.{Made, made, translated, all_some, arm_of, arithmetic_of, comparison_of}
+use Rattle.planner_expressions.specs.Translated.{Made, made, translated, all_some, arm_of}
 use Rattle.planner_expressions.specs.Uses.{names, names_arm, names_node, names_either}
 use Rattle.planner_expressions.proofs.Meaning.{one_there, two_there, three_there}
 use Rattle.planner_expressions.proofs.Replaced.{parts_give, at_node}
@@ -180,11 +180,11 @@ module _ (given : Expr → Option plan.Expr) (IsRead : Reference → Type 0) (te
       let p = one_there (λ (z : plan.Expr). expr.Minus z) (tr a.0) x is in
       as_made x (expr.Minus p.0) p.2 (as_used (expr.Minus p.0) _ (used-Minus p.0) (a.1 named p.0 p.1))
   node_reads (node.Arithmetic op a b) x named is =
-      let p = two_there (λ (y z : plan.Expr). expr.Arithmetic (arithmetic_of op) y z) (tr a.0) (tr b.0) x is in
-      as_made x _ p.1.3 (as_used _ _ (used-Arithmetic (arithmetic_of op) p.0 p.1.0) (pair_reads a b p.0 p.1.0 named p.1.1 p.1.2))
+      let p = two_there (λ (y z : plan.Expr). expr.Arithmetic op y z) (tr a.0) (tr b.0) x is in
+      as_made x _ p.1.3 (as_used _ _ (used-Arithmetic op p.0 p.1.0) (pair_reads a b p.0 p.1.0 named p.1.1 p.1.2))
   node_reads (node.Compare op a b) x named is =
-      let p = two_there (λ (y z : plan.Expr). expr.Compare (comparison_of op) y z) (tr a.0) (tr b.0) x is in
-      as_made x _ p.1.3 (as_used _ _ (used-Compare (comparison_of op) p.0 p.1.0) (pair_reads a b p.0 p.1.0 named p.1.1 p.1.2))
+      let p = two_there (λ (y z : plan.Expr). expr.Compare op y z) (tr a.0) (tr b.0) x is in
+      as_made x _ p.1.3 (as_used _ _ (used-Compare op p.0 p.1.0) (pair_reads a b p.0 p.1.0 named p.1.1 p.1.2))
   node_reads (node.Not a) x named is =
       let p = one_there (λ (z : plan.Expr). expr.Not z) (tr a.0) x is in
       as_made x (expr.Not p.0) p.2 (as_used (expr.Not p.0) _ (used-Not p.0) (a.1 named p.0 p.1))

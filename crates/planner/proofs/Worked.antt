@@ -9,7 +9,9 @@ use Rattle.meaning.specs.Results.{all_ok, and_then}
 use Rattle.meaning.specs.declared.catalog.Catalog.{Catalog}
 use Rattle.meaning.specs.declared.catalog.Dimension.{Dimension}
 use Rattle.meaning.specs.declared.expr.ArithmeticOperator.TheVariants as arithmetic
+use Rattle.meaning.specs.declared.expr.ArithmeticOperator.TheVariants.{Add, Multiply}
 use Rattle.meaning.specs.declared.expr.ComparisonOperator.TheVariants as comparison
+use Rattle.meaning.specs.declared.expr.ComparisonOperator.TheVariants.{Equal, LessOrEqual, Greater}
 use Rattle.meaning.specs.declared.expr.Expr.TheFolds as plan
 use Rattle.meaning.specs.declared.expr.Expr as plan_expr
 use Rattle.meaning.specs.declared.expr.Expr.TheVariants as expr
@@ -24,8 +26,6 @@ use Rattle.sql_syntax.specs.Canonical.{canonical}
 use Rattle.sql_syntax.specs.declared.tree.JoinKind.{JoinKind}
 use Rattle.sql_syntax.specs.declared.tree.JoinKind.TheVariants as join_kind
 use Rattle.sql_syntax.specs.declared.tree.Aggregate.TheVariants as aggregate
-use Rattle.sql_syntax.specs.declared.tree.Arithmetic.TheVariants.{Add, Multiply}
-use Rattle.sql_syntax.specs.declared.tree.Comparison.TheVariants.{Equal, AtMost, Greater}
 use Rattle.sql_syntax.specs.declared.tree.Direction.TheVariants.{Ascending, Descending}
 use Rattle.sql_syntax.specs.declared.tree.Expr.{Expr}
 use Rattle.sql_syntax.specs.declared.tree.Expr.TheVariants as tree
@@ -322,7 +322,7 @@ best_of source condition = record {
 
 -- q <= p
 abbrev pub at_most : Expr
-at_most = tree.Compare AtMost (name (codes "q")) (name (codes "p"))
+at_most = tree.Compare LessOrEqual (name (codes "q")) (name (codes "p"))
 
 abbrev pub read : ℕ → List ℕ → ColType → ColumnUse
 read k name kind = record { column = k; name = name; col_type = kind }

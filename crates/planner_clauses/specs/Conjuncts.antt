@@ -7,7 +7,7 @@ use Rattle.meaning.specs.declared.expr.Expr.TheVariants as expr
 use Rattle.meaning.specs.declared.plan.JoinType.{JoinType}
 use Rattle.meaning.specs.declared.plan.JoinType.TheVariants.{Inner, Left}
 use Rattle.sql_syntax.specs.Joins.{condition_of}
-use Rattle.sql_syntax.specs.declared.tree.Comparison.TheVariants as comparison
+use Rattle.meaning.specs.declared.expr.ComparisonOperator.TheVariants as comparison
 use Rattle.sql_syntax.specs.declared.tree.Expr.{Expr}
 use Rattle.sql_syntax.specs.declared.tree.Expr.TheOpen as node
 use Rattle.sql_syntax.specs.declared.tree.Expr.TheOpen.{Expr-F}

@@ -5,11 +5,11 @@ ghost use Rattle.meaning.specs.declared.plan.JoinType.TheVariants.{Inner};
 ghost use Rattle.planner_expressions.specs.Given.{column_meant};
 ghost use Rattle.planner_clauses.specs.Conjuncts.{keyed as keyed_by, equality_of, join_equality, joins_left as left_dim, dim_is_left, inner_equality as inner_one, row_expr as expr_of, with_condition, with_conjunct, with_conjuncts, with_on, with_ons, with_all, conjuncts_of, joins_dim, equality_for as equality_of_dim, one_equality, left_on as on_of_left, goes_by as goes_by_it, left_on_of as on_of_dim, if_own, left_equality_for as left_equality_of};
 
-use meaning::{JoinType, Sequence, Text, Value, expr};
+use meaning::{ComparisonOperator, JoinType, Sequence, Text, Value, expr};
 use planner_expressions::{
     Basis, Dim, PlanFault, Scope, ScopeColumn, column_of, is_left, name_of, translate,
 };
-use sql_syntax::{Comparison, Expr, JoinKind, Joined, Query};
+use sql_syntax::{Expr, JoinKind, Joined, Query};
 use std::alloc::{AllocError, Global};
 
 /// That a column of the fact equals the key of a dimension of FROM.
@@ -81,12 +81,12 @@ fn find_equality(scope: &Scope, expr: &Expr) -> Option<Equality>
             left,
             right,
         } => match operator {
-            Comparison::Equal => equal_columns(scope, left.get(), right.get()),
-            Comparison::NotEqual => None,
-            Comparison::Less => None,
-            Comparison::AtMost => None,
-            Comparison::Greater => None,
-            Comparison::AtLeast => None,
+            ComparisonOperator::Equal => equal_columns(scope, left.get(), right.get()),
+            ComparisonOperator::NotEqual => None,
+            ComparisonOperator::Less => None,
+            ComparisonOperator::LessOrEqual => None,
+            ComparisonOperator::Greater => None,
+            ComparisonOperator::GreaterOrEqual => None,
         },
         _ => None,
     }

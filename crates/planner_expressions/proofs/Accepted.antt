@@ -23,7 +23,7 @@ use Rattle.planner_expressions.specs.Judged.{Returned, Judgement, judge_node, ju
 use Rattle.planner_expressions.specs.Meant.{RowsTranslate}
 use Rattle.planner_expressions.specs.Scope.{meant, one_of, stands_for, found}
 use Rattle.planner_expressions.specs.Sorts.{sort_of_type, is_taken, aggregate_sort}
-use Rattle.planner_expressions.specs.Translated.{Made, made, translated, two_some, three_some, all_some, arm_of, arithmetic_of, comparison_of}
+use Rattle.planner_expressions.specs.Translated.{Made, made, translated, two_some, three_some, all_some, arm_of}
 use Rattle.planner_expressions.proofs.Replaced.{parts_give, at_node}
 
 -- ---- results that are there
@@ -124,12 +124,12 @@ module _ (s : Scope) where
       let parts = both_there (judged s a.0 true) (judged s b.0 true) _ z is in
       let x = a.1 parts.0.0 parts.0.1 in
       let w = b.1 parts.1.0 parts.1.1 in
-      (expr.Arithmetic (arithmetic_of op) x.0 w.0, ap₂ (two_some (λ (u v : plan.Expr). expr.Arithmetic (arithmetic_of op) u v)) x.1 w.1)
+      (expr.Arithmetic op x.0 w.0, ap₂ (two_some (λ (u v : plan.Expr). expr.Arithmetic op u v)) x.1 w.1)
   node_there (node.Compare op a b) z is other =
       let parts = both_there (judged s a.0 true) (judged s b.0 true) _ z is in
       let x = a.1 parts.0.0 parts.0.1 in
       let w = b.1 parts.1.0 parts.1.1 in
-      (expr.Compare (comparison_of op) x.0 w.0, ap₂ (two_some (λ (u v : plan.Expr). expr.Compare (comparison_of op) u v)) x.1 w.1)
+      (expr.Compare op x.0 w.0, ap₂ (two_some (λ (u v : plan.Expr). expr.Compare op u v)) x.1 w.1)
   node_there (node.Not a) z is other =
       let part = goes_there (judged s a.0 true) _ z is in
       let x = a.1 part.0 part.1 in

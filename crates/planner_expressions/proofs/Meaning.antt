@@ -23,7 +23,7 @@ use Rattle.planner_expressions.specs.declared.scope.ScopeColumn.{ScopeColumn}
 use Rattle.planner_expressions.specs.Given.{column_meant, given_in, column_expr, column_in, key_first}
 use Rattle.planner_expressions.specs.Meant.{operated, meant_by, value_in, key_or_aggregate, RowsMean, GroupsMean}
 use Rattle.planner_expressions.specs.Spelled.{spelled, index_among}
-use Rattle.planner_expressions.specs.Translated.{Made, made, translated, two_some, three_some, all_some, arm_of, arithmetic_of, comparison_of}
+use Rattle.planner_expressions.specs.Translated.{Made, made, translated, two_some, three_some, all_some, arm_of}
 use Rattle.planner_expressions.proofs.Replaced.{parts_give, at_node}
 
 -- ---- parts that are there
@@ -114,11 +114,11 @@ module _ (given : Expr → Option plan.Expr) (r : JoinedRow) where
       let p = one_there (λ (z : plan.Expr). expr.Minus z) (tr a.0) x is in
       ap (λ (z : plan.Expr). eval z r) p.2 ∙ eval-Minus p.0 r ∙ ap minus_of (a.1 p.0 p.1)
   node_means (node.Arithmetic op a b) x is =
-      let p = two_there (λ (y z : plan.Expr). expr.Arithmetic (arithmetic_of op) y z) (tr a.0) (tr b.0) x is in
-      ap (λ (z : plan.Expr). eval z r) p.1.3 ∙ eval-Arithmetic (arithmetic_of op) p.0 p.1.0 r ∙ ap₂ (arith_of (arithmetic_of op)) (a.1 p.0 p.1.1) (b.1 p.1.0 p.1.2)
+      let p = two_there (λ (y z : plan.Expr). expr.Arithmetic op y z) (tr a.0) (tr b.0) x is in
+      ap (λ (z : plan.Expr). eval z r) p.1.3 ∙ eval-Arithmetic op p.0 p.1.0 r ∙ ap₂ (arith_of op) (a.1 p.0 p.1.1) (b.1 p.1.0 p.1.2)
   node_means (node.Compare op a b) x is =
-      let p = two_there (λ (y z : plan.Expr). expr.Compare (comparison_of op) y z) (tr a.0) (tr b.0) x is in
-      ap (λ (z : plan.Expr). eval z r) p.1.3 ∙ eval-Compare (comparison_of op) p.0 p.1.0 r ∙ ap₂ (compare_of (comparison_of op)) (a.1 p.0 p.1.1) (b.1 p.1.0 p.1.2)
+      let p = two_there (λ (y z : plan.Expr). expr.Compare op y z) (tr a.0) (tr b.0) x is in
+      ap (λ (z : plan.Expr). eval z r) p.1.3 ∙ eval-Compare op p.0 p.1.0 r ∙ ap₂ (compare_of op) (a.1 p.0 p.1.1) (b.1 p.1.0 p.1.2)
   node_means (node.Not a) x is =
       let p = one_there (λ (z : plan.Expr). expr.Not z) (tr a.0) x is in
       ap (λ (z : plan.Expr). eval z r) p.2 ∙ eval-Not p.0 r ∙ ap not_of (a.1 p.0 p.1)

@@ -5,14 +5,14 @@ use Rattle.std.specs.Cmp.{booleans_Decides, signed_Decides}
 use Rattle.std.proofs.lemmas.Slice.Eq.{bytes_eq-Decides}
 use Rattle.meaning.proofs.Tests.{first_of, second_of, both}
 use Rattle.sql_syntax.specs.contracts.tree.AggregatePartialEq.TheImpl as aggregates
-use Rattle.sql_syntax.specs.contracts.tree.ArithmeticPartialEq.TheImpl as arithmetics
-use Rattle.sql_syntax.specs.contracts.tree.ComparisonPartialEq.TheImpl as comparisons
+use Rattle.meaning.specs.contracts.expr.ArithmeticOperatorPartialEq.TheImpl as arithmetics
+use Rattle.meaning.specs.contracts.expr.ComparisonOperatorPartialEq.TheImpl as comparisons
 use Rattle.sql_syntax.specs.declared.tree.Aggregate.{Aggregate}
 use Rattle.sql_syntax.specs.declared.tree.Aggregate.TheVariants as aggregate
-use Rattle.sql_syntax.specs.declared.tree.Arithmetic.{Arithmetic}
-use Rattle.sql_syntax.specs.declared.tree.Arithmetic.TheVariants as arithmetic
-use Rattle.sql_syntax.specs.declared.tree.Comparison.{Comparison}
-use Rattle.sql_syntax.specs.declared.tree.Comparison.TheVariants as comparison
+use Rattle.meaning.specs.declared.expr.ArithmeticOperator.{ArithmeticOperator}
+use Rattle.meaning.specs.declared.expr.ArithmeticOperator.TheVariants as arithmetic
+use Rattle.meaning.specs.declared.expr.ComparisonOperator.{ComparisonOperator}
+use Rattle.meaning.specs.declared.expr.ComparisonOperator.TheVariants as comparison
 use Rattle.planner_expressions.specs.declared.marks.Mark.{Mark}
 use Rattle.planner_expressions.specs.declared.marks.Mark.TheVariants as mark
 use Rattle.planner_expressions.specs.declared.marks.Operator.{Operator}
@@ -45,7 +45,7 @@ aggregate_itself aggregate.Min = refl
 aggregate_itself aggregate.Max = refl
 aggregate_itself aggregate.Average = refl
 
-arithmetic_is : (a b : Arithmetic) → (arithmetics.ghosts).eq a b ≡ true → a ≡ b
+arithmetic_is : (a b : ArithmeticOperator) → (arithmetics.ghosts).eq a b ≡ true → a ≡ b
 arithmetic_is arithmetic.Add arithmetic.Add same = refl
 arithmetic_is arithmetic.Add _ same = absurd cc
 arithmetic_is arithmetic.Subtract arithmetic.Subtract same = refl
@@ -55,33 +55,33 @@ arithmetic_is arithmetic.Multiply _ same = absurd cc
 arithmetic_is arithmetic.Divide arithmetic.Divide same = refl
 arithmetic_is arithmetic.Divide _ same = absurd cc
 
-arithmetic_itself : (a : Arithmetic) → (arithmetics.ghosts).eq a a ≡ true
+arithmetic_itself : (a : ArithmeticOperator) → (arithmetics.ghosts).eq a a ≡ true
 arithmetic_itself arithmetic.Add = refl
 arithmetic_itself arithmetic.Subtract = refl
 arithmetic_itself arithmetic.Multiply = refl
 arithmetic_itself arithmetic.Divide = refl
 
-comparison_is : (a b : Comparison) → (comparisons.ghosts).eq a b ≡ true → a ≡ b
+comparison_is : (a b : ComparisonOperator) → (comparisons.ghosts).eq a b ≡ true → a ≡ b
 comparison_is comparison.Equal comparison.Equal same = refl
 comparison_is comparison.Equal _ same = absurd cc
 comparison_is comparison.NotEqual comparison.NotEqual same = refl
 comparison_is comparison.NotEqual _ same = absurd cc
 comparison_is comparison.Less comparison.Less same = refl
 comparison_is comparison.Less _ same = absurd cc
-comparison_is comparison.AtMost comparison.AtMost same = refl
-comparison_is comparison.AtMost _ same = absurd cc
+comparison_is comparison.LessOrEqual comparison.LessOrEqual same = refl
+comparison_is comparison.LessOrEqual _ same = absurd cc
 comparison_is comparison.Greater comparison.Greater same = refl
 comparison_is comparison.Greater _ same = absurd cc
-comparison_is comparison.AtLeast comparison.AtLeast same = refl
-comparison_is comparison.AtLeast _ same = absurd cc
+comparison_is comparison.GreaterOrEqual comparison.GreaterOrEqual same = refl
+comparison_is comparison.GreaterOrEqual _ same = absurd cc
 
-comparison_itself : (a : Comparison) → (comparisons.ghosts).eq a a ≡ true
+comparison_itself : (a : ComparisonOperator) → (comparisons.ghosts).eq a a ≡ true
 comparison_itself comparison.Equal = refl
 comparison_itself comparison.NotEqual = refl
 comparison_itself comparison.Less = refl
-comparison_itself comparison.AtMost = refl
+comparison_itself comparison.LessOrEqual = refl
 comparison_itself comparison.Greater = refl
-comparison_itself comparison.AtLeast = refl
+comparison_itself comparison.GreaterOrEqual = refl
 
 operator_is : (a b : Operator) → same_operator a b ≡ true → a ≡ b
 operator_is operator.CountRows operator.CountRows same = refl

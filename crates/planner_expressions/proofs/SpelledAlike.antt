@@ -2,8 +2,8 @@
 use Rattle.std.proofs.Common.{rules, ◌≡◌, ℕ, ℤ, Bool, true, false, List, [], ◌∷◌, ◌++◌, map, Option, Some, None, refl, ap, ap₂, subst, sym, ◌∙◌, append_assoc}
 use Rattle.std.proofs.lemmas.List.{append-nil}
 use Rattle.sql_syntax.specs.declared.tree.Aggregate.{Aggregate}
-use Rattle.sql_syntax.specs.declared.tree.Arithmetic.{Arithmetic}
-use Rattle.sql_syntax.specs.declared.tree.Comparison.{Comparison}
+use Rattle.meaning.specs.declared.expr.ArithmeticOperator.{ArithmeticOperator}
+use Rattle.meaning.specs.declared.expr.ComparisonOperator.{ComparisonOperator}
 use Rattle.sql_syntax.specs.declared.tree.Arm.{Arm}
 use Rattle.sql_syntax.specs.declared.tree.Expr.{Expr}
 use Rattle.sql_syntax.specs.declared.tree.Expr.TheOpen as node
@@ -266,22 +266,22 @@ module _ (s : Scope) (R : Expr → Expr → Type 0) where
     minus_alike a (node.Minus b) u v is = let part = a.1 b u v (rest_is (mark.Operator operator.Minus) _ _ is) in (closed (node.Minus (a.0, b, part.0)), part.1)
     minus_alike a _ u v is = absurd (apart marks_minus _ _ _ _ refl refl is)
 
-    arithmetic_alike : (k : Arithmetic) (a c : Knowing) (z : Expr-F Expr Arm) (u v : Spelling) → spell_at (bare (node.Arithmetic k a c)) ++ u ≡ spell_at z ++ v → AreAlike (bare (node.Arithmetic k a c)) z u v
+    arithmetic_alike : (k : ArithmeticOperator) (a c : Knowing) (z : Expr-F Expr Arm) (u v : Spelling) → spell_at (bare (node.Arithmetic k a c)) ++ u ≡ spell_at z ++ v → AreAlike (bare (node.Arithmetic k a c)) z u v
     arithmetic_alike k a c (node.Column w m) u v is = absurd (no_column (stands_for s w m) _ v _ refl (sym is))
     arithmetic_alike k a c (node.Arithmetic l b d) u v is =
         let operators : operator.Arithmetic k ≡ operator.Arithmetic l = operator_is _ _ _ _ is in
         let kind : k ≡ l = cc in
         let parts = two_alike a c b d u v (tail_is _ _ _ _ is) in
-        (subst (λ (x : Arithmetic). R (roll-Expr (node.Arithmetic k a.0 c.0)) (roll-Expr (node.Arithmetic x b d))) kind (closed (node.Arithmetic k (a.0, b, parts.0) (c.0, d, parts.1))), parts.2)
+        (subst (λ (x : ArithmeticOperator). R (roll-Expr (node.Arithmetic k a.0 c.0)) (roll-Expr (node.Arithmetic x b d))) kind (closed (node.Arithmetic k (a.0, b, parts.0) (c.0, d, parts.1))), parts.2)
     arithmetic_alike k a c _ u v is = absurd (apart marks_arithmetic _ _ _ _ refl refl is)
 
-    compare_alike : (k : Comparison) (a c : Knowing) (z : Expr-F Expr Arm) (u v : Spelling) → spell_at (bare (node.Compare k a c)) ++ u ≡ spell_at z ++ v → AreAlike (bare (node.Compare k a c)) z u v
+    compare_alike : (k : ComparisonOperator) (a c : Knowing) (z : Expr-F Expr Arm) (u v : Spelling) → spell_at (bare (node.Compare k a c)) ++ u ≡ spell_at z ++ v → AreAlike (bare (node.Compare k a c)) z u v
     compare_alike k a c (node.Column w m) u v is = absurd (no_column (stands_for s w m) _ v _ refl (sym is))
     compare_alike k a c (node.Compare l b d) u v is =
         let operators : operator.Compare k ≡ operator.Compare l = operator_is _ _ _ _ is in
         let kind : k ≡ l = cc in
         let parts = two_alike a c b d u v (tail_is _ _ _ _ is) in
-        (subst (λ (x : Comparison). R (roll-Expr (node.Compare k a.0 c.0)) (roll-Expr (node.Compare x b d))) kind (closed (node.Compare k (a.0, b, parts.0) (c.0, d, parts.1))), parts.2)
+        (subst (λ (x : ComparisonOperator). R (roll-Expr (node.Compare k a.0 c.0)) (roll-Expr (node.Compare x b d))) kind (closed (node.Compare k (a.0, b, parts.0) (c.0, d, parts.1))), parts.2)
     compare_alike k a c _ u v is = absurd (apart marks_compare _ _ _ _ refl refl is)
 
     not_node_alike : (a : Knowing) (z : Expr-F Expr Arm) (u v : Spelling) → spell_at (bare (node.Not a)) ++ u ≡ spell_at z ++ v → AreAlike (bare (node.Not a)) z u v

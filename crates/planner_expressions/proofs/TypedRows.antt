@@ -29,7 +29,7 @@ use Rattle.planner_expressions.specs.Judged.{Returned, Judgement, judge_node, ju
 use Rattle.planner_expressions.specs.Results.{map_ok}
 use Rattle.planner_expressions.specs.Scope.{is_meant, meant, one_of, stands_for, found}
 use Rattle.planner_expressions.specs.Sorts.{sort_of_type, same_sort, is_value, are_alike, first_of, results}
-use Rattle.planner_expressions.specs.Translated.{Made, made, translated, all_some, arm_of, arithmetic_of, comparison_of}
+use Rattle.planner_expressions.specs.Translated.{Made, made, translated, all_some, arm_of}
 use Rattle.planner_expressions.specs.Typed.{type_of_sort, types_in, has_its_type, columns_have_types, RowsAreTyped}
 use Rattle.planner_expressions.proofs.Accepted.{goes_there}
 use Rattle.planner_expressions.proofs.HasTypes.{has-Column, has-Joined, has-Literal, has-Minus, has-Arithmetic, has-Compare, has-Not, has-And, has-Or, has-IsNull, has-Between, has-In, has-Like, has-Coalesce, has-Case, arm_types-record}
@@ -265,21 +265,21 @@ module _ (s : Scope) (types : RowTypes) (given : Expr → Option plan.Expr) (bar
       let t = typed_is (same_sort Integer j.0) Integer z j.2 in
       as_is types x (expr.Minus p.0) z Integer p.2 t.1 (has-Minus types p.0 (Valued of_type.Int) ∙ of_sort types p.0 Integer j.0 t.0 (a.1 j.0 p.0 fits j.1 p.1))
   node_typed (node.Arithmetic op a b) z x fits is there =
-      let p = two_there (λ (v w : plan.Expr). expr.Arithmetic (arithmetic_of op) v w) (tr a.0) (tr b.0) x there in
+      let p = two_there (λ (v w : plan.Expr). expr.Arithmetic op v w) (tr a.0) (tr b.0) x there in
       let j = both_sorts (judged s a.0 barred) (judged s b.0 barred) (λ k l. typed (same_sort Integer k && same_sort Integer l) Integer) z is in
       let t = typed_is (same_sort Integer j.0 && same_sort Integer j.1.0) Integer z j.1.3 in
       let first = of_sort types p.0 Integer j.0 (left_of (same_sort Integer j.0) (same_sort Integer j.1.0) t.0) (a.1 j.0 p.0 (left_of (has_fitting_literals a.0) (has_fitting_literals b.0) fits) j.1.1 p.1.1) in
       let second = of_sort types p.1.0 Integer j.1.0 (right_of (same_sort Integer j.0) (same_sort Integer j.1.0) t.0) (b.1 j.1.0 p.1.0 (right_of (has_fitting_literals a.0) (has_fitting_literals b.0) fits) j.1.2 p.1.2) in
-      as_is types x (expr.Arithmetic (arithmetic_of op) p.0 p.1.0) z Integer p.1.3 t.1
-      (has-Arithmetic types (arithmetic_of op) p.0 p.1.0 (Valued of_type.Int) ∙ both (has_type types p.0 (Valued of_type.Int)) (has_type types p.1.0 (Valued of_type.Int)) first second)
+      as_is types x (expr.Arithmetic op p.0 p.1.0) z Integer p.1.3 t.1
+      (has-Arithmetic types op p.0 p.1.0 (Valued of_type.Int) ∙ both (has_type types p.0 (Valued of_type.Int)) (has_type types p.1.0 (Valued of_type.Int)) first second)
   node_typed (node.Compare op a b) z x fits is there =
-      let p = two_there (λ (v w : plan.Expr). expr.Compare (comparison_of op) v w) (tr a.0) (tr b.0) x there in
+      let p = two_there (λ (v w : plan.Expr). expr.Compare op v w) (tr a.0) (tr b.0) x there in
       let j = both_sorts (judged s a.0 barred) (judged s b.0 barred) (λ k l. typed (are_alike (k ∷ l ∷ [])) Truth) z is in
       let t = typed_is (are_alike (j.0 ∷ j.1.0 ∷ [])) Truth z j.1.3 in
       let first = a.1 j.0 p.0 (left_of (has_fitting_literals a.0) (has_fitting_literals b.0) fits) j.1.1 p.1.1 in
       let second = b.1 j.1.0 p.1.0 (right_of (has_fitting_literals a.0) (has_fitting_literals b.0) fits) j.1.2 p.1.2 in
-      as_is types x (expr.Compare (comparison_of op) p.0 p.1.0) z Truth p.1.3 t.1
-      (has-Compare types (comparison_of op) p.0 p.1.0 Boolean ∙ all_alike types (p.0 ∷ p.1.0 ∷ []) (j.0 ∷ j.1.0 ∷ []) (first, (second, tt)) t.0)
+      as_is types x (expr.Compare op p.0 p.1.0) z Truth p.1.3 t.1
+      (has-Compare types op p.0 p.1.0 Boolean ∙ all_alike types (p.0 ∷ p.1.0 ∷ []) (j.0 ∷ j.1.0 ∷ []) (first, (second, tt)) t.0)
   node_typed (node.Not a) z x fits is there =
       let p = one_there (λ (w : plan.Expr). expr.Not w) (tr a.0) x there in
       let j = goes_there (judged s a.0 barred) (λ k. typed (same_sort Truth k) Truth) z is in

@@ -19,7 +19,7 @@ use Rattle.planner_expressions.specs.declared.sort.Sort.{Sort}
 use Rattle.planner_expressions.specs.Given.{column_meant, given_in}
 use Rattle.planner_expressions.specs.Judged.{judged}
 use Rattle.planner_expressions.specs.Spelled.{Spelling, spelled, index_among}
-use Rattle.planner_expressions.specs.Translated.{arithmetic_of, comparison_of, translated}
+use Rattle.planner_expressions.specs.Translated.{translated}
 use Rattle.planner_expressions.specs.Trees.{Node, replaced}
 
 -- a node from what its parts give; a name or an aggregate that isn't given is NULL
@@ -30,8 +30,8 @@ operated (node.Aggregate kind a) = gives.Value Null
 operated (node.Integer n) = gives.Value (Int n)
 operated (node.Text t) = gives.Value (Text t)
 operated (node.Minus a) = minus_of a
-operated (node.Arithmetic op a b) = arith_of (arithmetic_of op) a b
-operated (node.Compare op a b) = compare_of (comparison_of op) a b
+operated (node.Arithmetic op a b) = arith_of op a b
+operated (node.Compare op a b) = compare_of op a b
 operated (node.Not a) = not_of a
 operated (node.And a b) = and_of a b
 operated (node.Or a b) = or_of a b

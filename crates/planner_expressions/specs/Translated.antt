@@ -1,35 +1,13 @@
 -- The plan's expression of a tree: names and aggregates are given, and operators stay.
 use Rattle.std.specs.Prelude.{Bool, true, false, List, [], ◌∷◌, map, Option, Some, None, option_map}
 use Rattle.meaning.specs.declared.value.Value.TheVariants as value
-use Rattle.meaning.specs.declared.expr.ArithmeticOperator.{ArithmeticOperator}
-use Rattle.meaning.specs.declared.expr.ArithmeticOperator.TheVariants as arithmetic
-use Rattle.meaning.specs.declared.expr.ComparisonOperator.{ComparisonOperator}
-use Rattle.meaning.specs.declared.expr.ComparisonOperator.TheVariants as comparison
 use Rattle.meaning.specs.declared.expr.Arm.{Arm}
 use Rattle.meaning.specs.declared.expr.Expr as plan
 use Rattle.meaning.specs.declared.expr.Expr.TheVariants as expr
-use Rattle.sql_syntax.specs.declared.tree.Arithmetic.{Arithmetic}
-use Rattle.sql_syntax.specs.declared.tree.Arithmetic.TheVariants.{Add, Subtract, Multiply, Divide}
-use Rattle.sql_syntax.specs.declared.tree.Comparison.{Comparison}
-use Rattle.sql_syntax.specs.declared.tree.Comparison.TheVariants.{Equal, NotEqual, Less, AtMost, Greater, AtLeast}
 use Rattle.sql_syntax.specs.declared.tree.Arm as written
 use Rattle.sql_syntax.specs.declared.tree.Expr.{Expr}
 use Rattle.sql_syntax.specs.declared.tree.Expr.TheOpen as node
 use Rattle.planner_expressions.specs.Trees.{Node, replaced}
-
-abbrev pub arithmetic_of : Arithmetic → ArithmeticOperator
-arithmetic_of Add = arithmetic.Add
-arithmetic_of Subtract = arithmetic.Subtract
-arithmetic_of Multiply = arithmetic.Multiply
-arithmetic_of Divide = arithmetic.Divide
-
-abbrev pub comparison_of : Comparison → ComparisonOperator
-comparison_of Equal = comparison.Equal
-comparison_of NotEqual = comparison.NotEqual
-comparison_of Less = comparison.Less
-comparison_of AtMost = comparison.LessOrEqual
-comparison_of Greater = comparison.Greater
-comparison_of AtLeast = comparison.GreaterOrEqual
 
 -- ---- parts that there may be
 
@@ -79,8 +57,8 @@ made (node.Aggregate kind a) = None
 made (node.Integer n) = Some (expr.Literal (value.Int n))
 made (node.Text t) = Some (expr.Literal (value.Text t))
 made (node.Minus a) = option_map (λ x. expr.Minus x) a
-made (node.Arithmetic op a b) = two_some (λ x y. expr.Arithmetic (arithmetic_of op) x y) a b
-made (node.Compare op a b) = two_some (λ x y. expr.Compare (comparison_of op) x y) a b
+made (node.Arithmetic op a b) = two_some (λ x y. expr.Arithmetic op x y) a b
+made (node.Compare op a b) = two_some (λ x y. expr.Compare op x y) a b
 made (node.Not a) = option_map (λ x. expr.Not x) a
 made (node.And a b) = two_some (λ x y. expr.And x y) a b
 made (node.Or a b) = two_some (λ x y. expr.Or x y) a b

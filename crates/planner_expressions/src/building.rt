@@ -3,35 +3,10 @@ ghost use Rattle.std.specs.Prelude.{◌≡◌, IfOk, Option, List, option_map};
 ghost use Rattle.meaning.specs.declared.expr.Expr as plan;
 ghost use Rattle.meaning.specs.declared.expr.Expr.TheVariants as expr;
 ghost use Rattle.meaning.specs.declared.expr.Arm.{Arm};
-ghost use Rattle.planner_expressions.specs.Translated.{arithmetic_of, comparison_of, two_some, three_some, pair_some, arm_of};
+ghost use Rattle.planner_expressions.specs.Translated.{two_some, three_some, pair_some, arm_of};
 
 use meaning::{ArithmeticOperator, Arm, Boxed, ComparisonOperator, Expr, Sequence, Text};
-use sql_syntax::tree;
 use std::alloc::{AllocError, Global};
-
-fn arithmetic_operator(operator: tree::Arithmetic) -> ArithmeticOperator
-    ensures { result ≡ arithmetic_of operator }
-{
-    match operator {
-        tree::Arithmetic::Add => ArithmeticOperator::Add,
-        tree::Arithmetic::Subtract => ArithmeticOperator::Subtract,
-        tree::Arithmetic::Multiply => ArithmeticOperator::Multiply,
-        tree::Arithmetic::Divide => ArithmeticOperator::Divide,
-    }
-}
-
-fn comparison_operator(operator: tree::Comparison) -> ComparisonOperator
-    ensures { result ≡ comparison_of operator }
-{
-    match operator {
-        tree::Comparison::Equal => ComparisonOperator::Equal,
-        tree::Comparison::NotEqual => ComparisonOperator::NotEqual,
-        tree::Comparison::Less => ComparisonOperator::Less,
-        tree::Comparison::AtMost => ComparisonOperator::LessOrEqual,
-        tree::Comparison::Greater => ComparisonOperator::Greater,
-        tree::Comparison::AtLeast => ComparisonOperator::GreaterOrEqual,
-    }
-}
 
 /// A part on the heap.
 fn one(
@@ -176,19 +151,15 @@ pub fn like(
 #[tactic(auto, using(crate::proofs::Pairs::two_made, crate::proofs::Pairs::two_wanting))]
 pub fn arithmetic(
     alloc: Global,
-    operator: tree::Arithmetic,
+    operator: ArithmeticOperator,
     left: Result<Option<Expr>, AllocError>,
     right: Result<Option<Expr>, AllocError>,
 ) -> Result<Option<Expr>, AllocError>
     ensures { (a b : Option plan.Expr) → IfOk left (λ x. x ≡ a) → IfOk right (λ x. x ≡ b) →
-        IfOk result (λ x. x ≡ two_some (λ y z. expr.Arithmetic (arithmetic_of operator) y z) a b) }
+        IfOk result (λ x. x ≡ two_some (λ y z. expr.Arithmetic operator y z) a b) }
 {
     match two(alloc, left, right) {
-        Ok(Some((left, right))) => Ok(Some(Expr::Arithmetic(
-            arithmetic_operator(operator),
-            left,
-            right,
-        ))),
+        Ok(Some((left, right))) => Ok(Some(Expr::Arithmetic(operator, left, right))),
         Ok(None) => Ok(None),
         Err(e) => Err(e),
     }
@@ -197,19 +168,15 @@ pub fn arithmetic(
 #[tactic(auto, using(crate::proofs::Pairs::two_made, crate::proofs::Pairs::two_wanting))]
 pub fn compare(
     alloc: Global,
-    operator: tree::Comparison,
+    operator: ComparisonOperator,
     left: Result<Option<Expr>, AllocError>,
     right: Result<Option<Expr>, AllocError>,
 ) -> Result<Option<Expr>, AllocError>
     ensures { (a b : Option plan.Expr) → IfOk left (λ x. x ≡ a) → IfOk right (λ x. x ≡ b) →
-        IfOk result (λ x. x ≡ two_some (λ y z. expr.Compare (comparison_of operator) y z) a b) }
+        IfOk result (λ x. x ≡ two_some (λ y z. expr.Compare operator y z) a b) }
 {
     match two(alloc, left, right) {
-        Ok(Some((left, right))) => Ok(Some(Expr::Compare(
-            comparison_operator(operator),
-            left,
-            right,
-        ))),
+        Ok(Some((left, right))) => Ok(Some(Expr::Compare(operator, left, right))),
         Ok(None) => Ok(None),
         Err(e) => Err(e),
     }

@@ -1,6 +1,6 @@
 //! What an expression is written as, mark by mark.
-use meaning::{Sequence, Text};
-use sql_syntax::{Aggregate, Arithmetic, Comparison};
+use meaning::{ArithmeticOperator, ComparisonOperator, Sequence, Text};
+use sql_syntax::Aggregate;
 
 /// What a node does with its parts.
 #[derive(Clone, Copy, PartialEq, Eq)]
@@ -8,8 +8,8 @@ pub enum Operator {
     CountRows,
     Aggregate(Aggregate),
     Minus,
-    Arithmetic(Arithmetic),
-    Compare(Comparison),
+    Arithmetic(ArithmeticOperator),
+    Compare(ComparisonOperator),
     Not,
     And,
     Or,

@@ -8,9 +8,9 @@ use Rattle.sql_syntax.specs.declared.token.Sign.{Sign}
 use Rattle.sql_syntax.specs.declared.token.Sign.TheVariants as sign
 use Rattle.sql_syntax.specs.declared.tree.Aggregate.{Aggregate}
 use Rattle.sql_syntax.specs.declared.tree.Aggregate.TheVariants as aggregate
-use Rattle.sql_syntax.specs.declared.tree.Arithmetic.TheVariants as arithmetic
-use Rattle.sql_syntax.specs.declared.tree.Comparison.{Comparison}
-use Rattle.sql_syntax.specs.declared.tree.Comparison.TheVariants as comparison
+use Rattle.meaning.specs.declared.expr.ArithmeticOperator.TheVariants as arithmetic
+use Rattle.meaning.specs.declared.expr.ComparisonOperator.{ComparisonOperator}
+use Rattle.meaning.specs.declared.expr.ComparisonOperator.TheVariants as comparison
 use Rattle.sql_syntax.specs.declared.tree.Arm.{Arm}
 use Rattle.sql_syntax.specs.declared.tree.Expr.{Expr}
 use Rattle.sql_syntax.specs.declared.tree.Expr.TheVariants as expr
@@ -47,7 +47,7 @@ depth_null not a = search (rules, the_lemmas)
 pub depth_like : (not : Bool) (a : Expr) (t : List ℕ) → depth (expr.Like not a t) ≡ suc (depth a)
 depth_like not a t = search (rules, the_lemmas)
 
-pub depth_compare : (op : Comparison) (a b : Expr) → depth (expr.Compare op a b) ≡ suc (deepest (depth a ∷ depth b ∷ []))
+pub depth_compare : (op : ComparisonOperator) (a b : Expr) → depth (expr.Compare op a b) ≡ suc (deepest (depth a ∷ depth b ∷ []))
 depth_compare op a b = search (rules, the_lemmas)
 
 pub depth_or : (a b : Expr) → depth (expr.Or a b) ≡ suc (deepest (depth a ∷ depth b ∷ []))
@@ -462,15 +462,15 @@ aggregate_reads most n k ts e rest b reads h =
 abbrev Tested : ℕ → ℕ → Expr → List Terminal → Expr → List Terminal → Type 0
 Tested most n a us e rest = rule.test_of most n (inner_at most n) (whole a) (us ++ rest) ≡ Some (whole e, rest)
 
-comparison_is : (op : Comparison) → comparison_of (mark (compares op)) ≡ Some op
+comparison_is : (op : ComparisonOperator) → comparison_of (mark (compares op)) ≡ Some op
 comparison_is comparison.Equal = refl
 comparison_is comparison.NotEqual = refl
 comparison_is comparison.Less = refl
-comparison_is comparison.AtMost = refl
+comparison_is comparison.LessOrEqual = refl
 comparison_is comparison.Greater = refl
-comparison_is comparison.AtLeast = refl
+comparison_is comparison.GreaterOrEqual = refl
 
-compare_reads : (most n : ℕ) (op : Comparison) (a b : Expr) (ts rest : List Terminal) → Read most n level.Sum ts b rest → depth (expr.Compare op a b) ≤ most → Tested most n a (mark (compares op) ∷ ts) (expr.Compare op a b) rest
+compare_reads : (most n : ℕ) (op : ComparisonOperator) (a b : Expr) (ts rest : List Terminal) → Read most n level.Sum ts b rest → depth (expr.Compare op a b) ≤ most → Tested most n a (mark (compares op) ∷ ts) (expr.Compare op a b) rest
 compare_reads most n op a b ts rest reads h =
     rw (comparison_is op, reads, node_is most (max (depth a) (depth b)) (expr.Compare op a b) (depth_compare op a b ∙ ap suc (two_deep (depth a) (depth b))) h) refl
 
@@ -504,13 +504,13 @@ null_reads most n false a rest h = rw (node_is most (depth a) (expr.IsNull false
 test_reach : {a e : Expr} {us : List Terminal} (rest : List Terminal) → Tests a us e → reach_of (us ++ rest) ≤ 4
 test_reach rest (compared op {ts = ts} d) = compare_reach op (ts ++ rest)
   where
-    compare_reach : (op : Comparison) (us : List Terminal) → reach_of (mark (compares op) ∷ us) ≤ 4
+    compare_reach : (op : ComparisonOperator) (us : List Terminal) → reach_of (mark (compares op) ∷ us) ≤ 4
     compare_reach comparison.Equal us = omega arith
     compare_reach comparison.NotEqual us = omega arith
     compare_reach comparison.Less us = omega arith
-    compare_reach comparison.AtMost us = omega arith
+    compare_reach comparison.LessOrEqual us = omega arith
     compare_reach comparison.Greater us = omega arith
-    compare_reach comparison.AtLeast us = omega arith
+    compare_reach comparison.GreaterOrEqual us = omega arith
 test_reach rest (between true d d2) = omega arith
 test_reach rest (between false d d2) = omega arith
 test_reach rest (among true ds) = omega arith

@@ -8,9 +8,9 @@ use Rattle.sql_syntax.specs.declared.token.Sign.{Sign}
 use Rattle.sql_syntax.specs.declared.token.Sign.TheVariants as sign
 use Rattle.sql_syntax.specs.declared.tree.Aggregate.{Aggregate}
 use Rattle.sql_syntax.specs.declared.tree.Aggregate.TheVariants as aggregate
-use Rattle.sql_syntax.specs.declared.tree.Arithmetic.TheVariants as arithmetic
-use Rattle.sql_syntax.specs.declared.tree.Comparison.{Comparison}
-use Rattle.sql_syntax.specs.declared.tree.Comparison.TheVariants as comparison
+use Rattle.meaning.specs.declared.expr.ArithmeticOperator.TheVariants as arithmetic
+use Rattle.meaning.specs.declared.expr.ComparisonOperator.{ComparisonOperator}
+use Rattle.meaning.specs.declared.expr.ComparisonOperator.TheVariants as comparison
 use Rattle.sql_syntax.specs.declared.tree.Arm.{Arm}
 use Rattle.sql_syntax.specs.declared.tree.Expr.{Expr}
 use Rattle.sql_syntax.specs.declared.tree.Expr.TheVariants as expr
@@ -715,23 +715,23 @@ test_made n k a us front rest e d x is parts o deep =
     let bound : found.0 ≤ 128 = omega arith in
     subst (λ (y : Parsed × List Terminal). TookTest n a us y) all (record { front = front; tests = d; parts = parts; opens = o; deep = same; bounded = bound })
 
-comparison_taken : (t : Terminal) (op : Comparison) → comparison_of t ≡ Some op → t ≡ mark (compares op)
-comparison_taken (terminal.sign_is sign.Equal) op e = let is : comparison.Equal ≡ op = cc e in ap (λ (x : Comparison). mark (compares x)) is
-comparison_taken (terminal.sign_is sign.NotEqual) op e = let is : comparison.NotEqual ≡ op = cc e in ap (λ (x : Comparison). mark (compares x)) is
-comparison_taken (terminal.sign_is sign.Less) op e = let is : comparison.Less ≡ op = cc e in ap (λ (x : Comparison). mark (compares x)) is
-comparison_taken (terminal.sign_is sign.AtMost) op e = let is : comparison.AtMost ≡ op = cc e in ap (λ (x : Comparison). mark (compares x)) is
-comparison_taken (terminal.sign_is sign.Greater) op e = let is : comparison.Greater ≡ op = cc e in ap (λ (x : Comparison). mark (compares x)) is
-comparison_taken (terminal.sign_is sign.AtLeast) op e = let is : comparison.AtLeast ≡ op = cc e in ap (λ (x : Comparison). mark (compares x)) is
+comparison_taken : (t : Terminal) (op : ComparisonOperator) → comparison_of t ≡ Some op → t ≡ mark (compares op)
+comparison_taken (terminal.sign_is sign.Equal) op e = let is : comparison.Equal ≡ op = cc e in ap (λ (x : ComparisonOperator). mark (compares x)) is
+comparison_taken (terminal.sign_is sign.NotEqual) op e = let is : comparison.NotEqual ≡ op = cc e in ap (λ (x : ComparisonOperator). mark (compares x)) is
+comparison_taken (terminal.sign_is sign.Less) op e = let is : comparison.Less ≡ op = cc e in ap (λ (x : ComparisonOperator). mark (compares x)) is
+comparison_taken (terminal.sign_is sign.AtMost) op e = let is : comparison.LessOrEqual ≡ op = cc e in ap (λ (x : ComparisonOperator). mark (compares x)) is
+comparison_taken (terminal.sign_is sign.Greater) op e = let is : comparison.Greater ≡ op = cc e in ap (λ (x : ComparisonOperator). mark (compares x)) is
+comparison_taken (terminal.sign_is sign.AtLeast) op e = let is : comparison.GreaterOrEqual ≡ op = cc e in ap (λ (x : ComparisonOperator). mark (compares x)) is
 comparison_taken t op e = absurd cc
 
-first_comparison : (us : List Terminal) (op : Comparison × List Terminal) → first_is comparison_of us ≡ Some op → us ≡ mark (compares op.0) ∷ op.1
+first_comparison : (us : List Terminal) (op : ComparisonOperator × List Terminal) → first_is comparison_of us ≡ Some op → us ≡ mark (compares op.0) ∷ op.1
 first_comparison [] op e = absurd cc
 first_comparison (t ∷ us) op e =
-    let b = bind_some (comparison_of t) (λ (a : Comparison). Some (a, us)) op e in
-    let same : ◌≡◌ {A = Comparison × List Terminal} (b.0, us) op = cc b.2 in
-    ap (λ (v : Terminal). v ∷ us) (comparison_taken t b.0 b.1) ∙ ap (λ (y : Comparison × List Terminal). mark (compares y.0) ∷ y.1) same
+    let b = bind_some (comparison_of t) (λ (a : ComparisonOperator). Some (a, us)) op e in
+    let same : ◌≡◌ {A = ComparisonOperator × List Terminal} (b.0, us) op = cc b.2 in
+    ap (λ (v : Terminal). v ∷ us) (comparison_taken t b.0 b.1) ∙ ap (λ (y : ComparisonOperator × List Terminal). mark (compares y.0) ∷ y.1) same
 
-compare_sound : (n : ℕ) (inner : Level → Reader) → IsInner n inner → (a : Parsed) → a.depth ≡ depth a.expr → (op : Comparison) (us ts : List Terminal) (x : Parsed × List Terminal) → us ≡ mark (compares op) ∷ ts → rule.compare_of 128 n inner a op ts ≡ Some x → TookTest n a.expr us x
+compare_sound : (n : ℕ) (inner : Level → Reader) → IsInner n inner → (a : Parsed) → a.depth ≡ depth a.expr → (op : ComparisonOperator) (us ts : List Terminal) (x : Parsed × List Terminal) → us ≡ mark (compares op) ∷ ts → rule.compare_of 128 n inner a op ts ≡ Some x → TookTest n a.expr us x
 compare_sound n inner h a da op us ts x before e =
     let r = bind_some (rule.sum_of 128 n inner ts) (λ (b : Parsed × List Terminal). then_left (node 128 (max a.depth b.0.depth) (expr.Compare op a.expr b.0.expr)) b.1) x e in
     let t = sum_sound n inner h ts r.0 r.1 in
@@ -852,12 +852,12 @@ word_turn n inner h a da us x (inl p) = inl (is_sound n a da us p.0 x (word_take
 word_turn n inner h a da us x (inr p) = not_turn n inner h a da us x (choose_some (behind (is_keyword keyword.Not) us) (rule.named_test 128 n inner a true) (plain_test n inner a us) x p.1)
 
 comparison_turn : (n : ℕ) (inner : Level → Reader) → IsInner n inner → (a : Parsed) → a.depth ≡ depth a.expr → (us : List Terminal) (x : Parsed × List Terminal)
-    → ((op : Comparison × List Terminal) × (first_is comparison_of us ≡ Some op) × (rule.compare_of 128 n inner a op.0 op.1 ≡ Some x)) ⊎ ((first_is comparison_of us ≡ None) × (word_test n inner a us ≡ Some x)) → MayTest n a us x
+    → ((op : ComparisonOperator × List Terminal) × (first_is comparison_of us ≡ Some op) × (rule.compare_of 128 n inner a op.0 op.1 ≡ Some x)) ⊎ ((first_is comparison_of us ≡ None) × (word_test n inner a us ≡ Some x)) → MayTest n a us x
 comparison_turn n inner h a da us x (inl p) = inl (compare_sound n inner h a da p.0.0 us p.0.1 x (first_comparison us p.0 p.1) p.2)
 comparison_turn n inner h a da us x (inr p) = word_turn n inner h a da us x (choose_some (behind (is_keyword keyword.Is) us) (rule.is_of 128 a) (choose (behind (is_keyword keyword.Not) us) (rule.named_test 128 n inner a true) (plain_test n inner a us)) x p.1)
 
 test_sound : (n : ℕ) (inner : Level → Reader) → IsInner n inner → (a : Parsed) → a.depth ≡ depth a.expr → (us : List Terminal) (x : Parsed × List Terminal) → rule.test_of 128 n inner a us ≡ Some x → MayTest n a us x
-test_sound n inner h a da us x e = comparison_turn n inner h a da us x (choose_some (first_is comparison_of us) (λ (op : Comparison × List Terminal). rule.compare_of 128 n inner a op.0 op.1) (word_test n inner a us) x e)
+test_sound n inner h a da us x e = comparison_turn n inner h a da us x (choose_some (first_is comparison_of us) (λ (op : ComparisonOperator × List Terminal). rule.compare_of 128 n inner a op.0 op.1) (word_test n inner a us) x e)
 
 -- ---- the weaker rules
 

@@ -14,9 +14,9 @@ use Rattle.sql_syntax.specs.declared.strength.Operator.{Operator}
 use Rattle.sql_syntax.specs.declared.strength.Operator.TheVariants as operator
 use Rattle.sql_syntax.specs.declared.tree.Aggregate.{Aggregate}
 use Rattle.sql_syntax.specs.declared.tree.Aggregate.TheVariants as aggregate
-use Rattle.sql_syntax.specs.declared.tree.Arithmetic.TheVariants as arithmetic
-use Rattle.sql_syntax.specs.declared.tree.Comparison.{Comparison}
-use Rattle.sql_syntax.specs.declared.tree.Comparison.TheVariants as comparison
+use Rattle.meaning.specs.declared.expr.ArithmeticOperator.TheVariants as arithmetic
+use Rattle.meaning.specs.declared.expr.ComparisonOperator.{ComparisonOperator}
+use Rattle.meaning.specs.declared.expr.ComparisonOperator.TheVariants as comparison
 use Rattle.sql_syntax.specs.declared.tree.Arm.{Arm}
 use Rattle.sql_syntax.specs.declared.tree.Expr.{Expr}
 use Rattle.sql_syntax.specs.declared.tree.Expr.TheVariants as expr
@@ -133,13 +133,13 @@ operator_of level.Term (terminal.sign_is sign.Slash) = Some (operator.Reckon ari
 operator_of _ _ = None
 
 -- the comparison that a token is
-abbrev pub comparison_of : Terminal → Option Comparison
+abbrev pub comparison_of : Terminal → Option ComparisonOperator
 comparison_of (terminal.sign_is sign.Equal) = Some comparison.Equal
 comparison_of (terminal.sign_is sign.NotEqual) = Some comparison.NotEqual
 comparison_of (terminal.sign_is sign.Less) = Some comparison.Less
-comparison_of (terminal.sign_is sign.AtMost) = Some comparison.AtMost
+comparison_of (terminal.sign_is sign.AtMost) = Some comparison.LessOrEqual
 comparison_of (terminal.sign_is sign.Greater) = Some comparison.Greater
-comparison_of (terminal.sign_is sign.AtLeast) = Some comparison.AtLeast
+comparison_of (terminal.sign_is sign.AtLeast) = Some comparison.GreaterOrEqual
 comparison_of _ = None
 
 -- the aggregate that a keyword names
@@ -364,7 +364,7 @@ sum_of most left inner = chain_of most level.Sum (term_of most left inner)
 
 -- ---- what stands behind a predicate's subject
 
-abbrev pub compare_of : ℕ → ℕ → (Level → Reader) → Parsed → Comparison → Reader
+abbrev pub compare_of : ℕ → ℕ → (Level → Reader) → Parsed → ComparisonOperator → Reader
 compare_of most left inner a op ts = sum_of most left inner ts >>= (λ b. then_left (node most (max a.depth b.0.depth) (expr.Compare op a.expr b.0.expr)) b.1)
 
 -- AND and the bound behind it

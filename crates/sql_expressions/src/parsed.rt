@@ -5,8 +5,8 @@ ghost use Rattle.sql_syntax.specs.declared.tree.Expr.TheVariants as expr;
 ghost use Rattle.std.specs.Prelude.{◌≡◌, IfOk, max};
 
 use crate::stop::Stop;
-use meaning::{Boxed, Sequence, Text};
-use sql_syntax::{Aggregate, Arm, Comparison, Expr, Operator};
+use meaning::{Boxed, ComparisonOperator, Sequence, Text};
+use sql_syntax::{Aggregate, Arm, Expr, Operator};
 use std::alloc::{AllocError, Global};
 use std::mem::drop;
 
@@ -131,7 +131,7 @@ pub fn joined(
 
 pub fn compare(
     alloc: Global,
-    operator: Comparison,
+    operator: ComparisonOperator,
     left: Parsed,
     right: Parsed,
 ) -> Result<Parsed, Stop>

@@ -7,11 +7,8 @@ ghost use Rattle.sql_expressions.specs.declared.stop.Stop.TheVariants.{At};
 ghost use Rattle.std.specs.Prelude.{IfOk, IfSome, IsOkUnless, length, option_map, ◌<◌, ◌≡◌};
 
 use crate::stop::Stop;
-use meaning::Text;
-use sql_syntax::{
-    Aggregate, Arithmetic, Comparison, Keyword, Level, Lexeme, Operator, Sign, Token,
-    push_undoubled,
-};
+use meaning::{ArithmeticOperator, ComparisonOperator, Text};
+use sql_syntax::{Aggregate, Keyword, Level, Lexeme, Operator, Sign, Token, push_undoubled};
 use std::alloc::{AllocError, Global};
 
 /// A token isn't expected at the front, or the end isn't.
@@ -162,10 +159,16 @@ fn operator_of(level: Level, token: Token<'_>) -> Option<Operator>
     match (level, token) {
         (Level::Disjunction, Token::Keyword(Keyword::Or)) => Some(Operator::Or),
         (Level::Conjunction, Token::Keyword(Keyword::And)) => Some(Operator::And),
-        (Level::Sum, Token::Sign(Sign::Plus)) => Some(Operator::Reckon(Arithmetic::Add)),
-        (Level::Sum, Token::Sign(Sign::Minus)) => Some(Operator::Reckon(Arithmetic::Subtract)),
-        (Level::Term, Token::Sign(Sign::Star)) => Some(Operator::Reckon(Arithmetic::Multiply)),
-        (Level::Term, Token::Sign(Sign::Slash)) => Some(Operator::Reckon(Arithmetic::Divide)),
+        (Level::Sum, Token::Sign(Sign::Plus)) => Some(Operator::Reckon(ArithmeticOperator::Add)),
+        (Level::Sum, Token::Sign(Sign::Minus)) => Some(Operator::Reckon(
+            ArithmeticOperator::Subtract,
+        )),
+        (Level::Term, Token::Sign(Sign::Star)) => Some(Operator::Reckon(
+            ArithmeticOperator::Multiply,
+        )),
+        (Level::Term, Token::Sign(Sign::Slash)) => Some(Operator::Reckon(
+            ArithmeticOperator::Divide,
+        )),
         _ => None,
     }
 }
@@ -184,22 +187,24 @@ pub fn if_operator<'a, 'b>(
     Some((operator, rest))
 }
 
-fn comparison_of(token: Token<'_>) -> Option<Comparison>
+fn comparison_of(token: Token<'_>) -> Option<ComparisonOperator>
     ensures { result ≡ comparison_of (terminal_of token.entry) }
 {
     match token {
-        Token::Sign(Sign::Equal) => Some(Comparison::Equal),
-        Token::Sign(Sign::NotEqual) => Some(Comparison::NotEqual),
-        Token::Sign(Sign::Less) => Some(Comparison::Less),
-        Token::Sign(Sign::AtMost) => Some(Comparison::AtMost),
-        Token::Sign(Sign::Greater) => Some(Comparison::Greater),
-        Token::Sign(Sign::AtLeast) => Some(Comparison::AtLeast),
+        Token::Sign(Sign::Equal) => Some(ComparisonOperator::Equal),
+        Token::Sign(Sign::NotEqual) => Some(ComparisonOperator::NotEqual),
+        Token::Sign(Sign::Less) => Some(ComparisonOperator::Less),
+        Token::Sign(Sign::AtMost) => Some(ComparisonOperator::LessOrEqual),
+        Token::Sign(Sign::Greater) => Some(ComparisonOperator::Greater),
+        Token::Sign(Sign::AtLeast) => Some(ComparisonOperator::GreaterOrEqual),
         _ => None,
     }
 }
 
 /// The comparison at the front, and what stands behind it.
-pub fn if_comparison<'a, 'b>(lexemes: &'a [Lexeme<'b>]) -> Option<(Comparison, &'a [Lexeme<'b>])>
+pub fn if_comparison<'a, 'b>(
+    lexemes: &'a [Lexeme<'b>],
+) -> Option<(ComparisonOperator, &'a [Lexeme<'b>])>
     ensures reads { option_map (λ x. (x.0, terms x.1.now)) result
         ≡ first_is comparison_of (terms lexemes.now) }
     ensures shorter { IfSome result (λ x. length x.1.now < length lexemes.now) }

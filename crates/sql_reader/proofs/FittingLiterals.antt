@@ -17,8 +17,8 @@ use Rattle.sql_syntax.specs.declared.strength.Operator.{Operator}
 use Rattle.sql_syntax.specs.declared.strength.Operator.TheVariants as operator
 use Rattle.sql_syntax.specs.Joins.{condition_of}
 use Rattle.sql_syntax.specs.declared.tree.Aggregate.{Aggregate}
-use Rattle.sql_syntax.specs.declared.tree.Arithmetic.{Arithmetic}
-use Rattle.sql_syntax.specs.declared.tree.Comparison.{Comparison}
+use Rattle.meaning.specs.declared.expr.ArithmeticOperator.{ArithmeticOperator}
+use Rattle.meaning.specs.declared.expr.ComparisonOperator.{ComparisonOperator}
 use Rattle.sql_syntax.specs.declared.tree.Arm.{Arm}
 use Rattle.sql_syntax.specs.declared.tree.Expr.{Expr}
 use Rattle.sql_syntax.specs.declared.tree.Expr.TheFolds.{the_lemmas}
@@ -60,10 +60,10 @@ fits-Aggregate k a = search (rules, the_lemmas)
 fits-Minus : (a : Expr) → hf (expr.Minus a) ≡ hf a
 fits-Minus a = search (rules, the_lemmas)
 
-fits-Arithmetic : (op : Arithmetic) (a b : Expr) → hf (expr.Arithmetic op a b) ≡ (hf a && hf b)
+fits-Arithmetic : (op : ArithmeticOperator) (a b : Expr) → hf (expr.Arithmetic op a b) ≡ (hf a && hf b)
 fits-Arithmetic op a b = search (rules, the_lemmas)
 
-fits-Compare : (op : Comparison) (a b : Expr) → hf (expr.Compare op a b) ≡ (hf a && hf b)
+fits-Compare : (op : ComparisonOperator) (a b : Expr) → hf (expr.Compare op a b) ≡ (hf a && hf b)
 fits-Compare op a b = search (rules, the_lemmas)
 
 fits-Not : (a : Expr) → hf (expr.Not a) ≡ hf a

@@ -11,10 +11,10 @@ use Rattle.sql_syntax.specs.declared.strength.Operator.{Operator}
 use Rattle.sql_syntax.specs.declared.strength.Operator.TheVariants as operator
 use Rattle.sql_syntax.specs.declared.tree.Aggregate.{Aggregate}
 use Rattle.sql_syntax.specs.declared.tree.Aggregate.TheVariants as aggregate
-use Rattle.sql_syntax.specs.declared.tree.Arithmetic.{Arithmetic}
-use Rattle.sql_syntax.specs.declared.tree.Arithmetic.TheVariants as arithmetic
-use Rattle.sql_syntax.specs.declared.tree.Comparison.{Comparison}
-use Rattle.sql_syntax.specs.declared.tree.Comparison.TheVariants as comparison
+use Rattle.meaning.specs.declared.expr.ArithmeticOperator.{ArithmeticOperator}
+use Rattle.meaning.specs.declared.expr.ArithmeticOperator.TheVariants as arithmetic
+use Rattle.meaning.specs.declared.expr.ComparisonOperator.{ComparisonOperator}
+use Rattle.meaning.specs.declared.expr.ComparisonOperator.TheVariants as comparison
 use Rattle.sql_syntax.specs.declared.tree.Arm.{Arm}
 use Rattle.sql_syntax.specs.declared.tree.Expr.{Expr}
 use Rattle.sql_syntax.specs.declared.tree.Expr.TheVariants as expr
@@ -81,31 +81,31 @@ operand_fits l e h apt = strong_at_level (leb (rank l) (rank (printed e).level))
 
 -- ---- operators
 
-strong_op : (op : Arithmetic) → is_strong (level_of (operator.Reckon op)) ≡ true
+strong_op : (op : ArithmeticOperator) → is_strong (level_of (operator.Reckon op)) ≡ true
 strong_op arithmetic.Add = refl
 strong_op arithmetic.Subtract = refl
 strong_op arithmetic.Multiply = refl
 strong_op arithmetic.Divide = refl
 
-strong_next : (op : Arithmetic) → is_strong (next (level_of (operator.Reckon op))) ≡ true
+strong_next : (op : ArithmeticOperator) → is_strong (next (level_of (operator.Reckon op))) ≡ true
 strong_next arithmetic.Add = refl
 strong_next arithmetic.Subtract = refl
 strong_next arithmetic.Multiply = refl
 strong_next arithmetic.Divide = refl
 
-op_apart : (op : Arithmetic) (us : List Terminal) → AreApart false us → AreApart true (token_of (operator.Reckon op) ∷ us)
+op_apart : (op : ArithmeticOperator) (us : List Terminal) → AreApart false us → AreApart true (token_of (operator.Reckon op) ∷ us)
 op_apart arithmetic.Add us all = (tt, refl, all)
 op_apart arithmetic.Subtract us all = (tt, refl, all)
 op_apart arithmetic.Multiply us all = (tt, refl, all)
 op_apart arithmetic.Divide us all = (tt, refl, all)
 
-compare_apart : (op : Comparison) (us : List Terminal) → AreApart false us → AreApart true (mark (compares op) ∷ us)
+compare_apart : (op : ComparisonOperator) (us : List Terminal) → AreApart false us → AreApart true (mark (compares op) ∷ us)
 compare_apart comparison.Equal us all = (tt, refl, all)
 compare_apart comparison.NotEqual us all = (tt, refl, all)
 compare_apart comparison.Less us all = (tt, refl, all)
-compare_apart comparison.AtMost us all = (tt, refl, all)
+compare_apart comparison.LessOrEqual us all = (tt, refl, all)
 compare_apart comparison.Greater us all = (tt, refl, all)
-compare_apart comparison.AtLeast us all = (tt, refl, all)
+compare_apart comparison.GreaterOrEqual us all = (tt, refl, all)
 
 -- two parts, one behind the other
 two_parts : (strong : Bool) (ts us : List Terminal) → Fits true ts → ((rest : List Terminal) → Ready strong rest → AreApart true (us ++ rest)) → Fits strong (ts ++ us)

@@ -6,9 +6,9 @@ use Rattle.std.proofs.lemmas.Bool.{eqb-true}
 use Rattle.sql_syntax.specs.declared.keyword.Keyword.TheVariants as keyword
 use Rattle.sql_syntax.specs.declared.token.Sign.TheVariants as sign
 use Rattle.sql_syntax.specs.declared.tree.Aggregate.{Aggregate}
-use Rattle.sql_syntax.specs.declared.tree.Arithmetic.{Arithmetic}
-use Rattle.sql_syntax.specs.declared.tree.Arithmetic.TheVariants as arithmetic
-use Rattle.sql_syntax.specs.declared.tree.Comparison.{Comparison}
+use Rattle.meaning.specs.declared.expr.ArithmeticOperator.{ArithmeticOperator}
+use Rattle.meaning.specs.declared.expr.ArithmeticOperator.TheVariants as arithmetic
+use Rattle.meaning.specs.declared.expr.ComparisonOperator.{ComparisonOperator}
 use Rattle.sql_syntax.specs.declared.tree.Arm.{Arm}
 use Rattle.sql_syntax.specs.declared.tree.Expr.{Expr}
 use Rattle.sql_syntax.specs.declared.tree.Expr.TheVariants as expr
@@ -145,7 +145,7 @@ printed_case arms o = search (rules, the_lemmas)
 pub printed_and : (a b : Expr) → printed (expr.And a b) ≡ record { level = level.Conjunction; tokens = join_tokens operator.And (printed a) (printed b) }
 printed_and a b = search (rules, the_lemmas)
 
-pub printed_reckon : (op : Arithmetic) (a b : Expr) → printed (expr.Arithmetic op a b) ≡ record { level = level_of (operator.Reckon op); tokens = join_tokens (operator.Reckon op) (printed a) (printed b) }
+pub printed_reckon : (op : ArithmeticOperator) (a b : Expr) → printed (expr.Arithmetic op a b) ≡ record { level = level_of (operator.Reckon op); tokens = join_tokens (operator.Reckon op) (printed a) (printed b) }
 printed_reckon op a b = search (rules, the_lemmas)
 
 pub printed_minus : (e : Expr) → printed (expr.Minus e) ≡ record { level = level.Factor; tokens = mark sign.Minus ∷ at_level level.Primary (printed e) }
@@ -166,7 +166,7 @@ printed_rows = search (rules, the_lemmas)
 pub printed_aggregate : (k : Aggregate) (e : Expr) → printed (expr.Aggregate k e) ≡ record { level = level.Primary; tokens = word (aggregate_word k) ∷ bracketed (distinct_if (is_distinct k) ++ free (printed e)) }
 printed_aggregate k e = search (rules, the_lemmas)
 
-pub printed_compare : (op : Comparison) (a b : Expr) → printed (expr.Compare op a b) ≡ record { level = level.Predicate; tokens = at_level level.Sum (printed a) ++ mark (compares op) ∷ at_level level.Sum (printed b) }
+pub printed_compare : (op : ComparisonOperator) (a b : Expr) → printed (expr.Compare op a b) ≡ record { level = level.Predicate; tokens = at_level level.Sum (printed a) ++ mark (compares op) ∷ at_level level.Sum (printed b) }
 printed_compare op a b = search (rules, the_lemmas)
 
 pub printed_between : (not : Bool) (x low high : Expr) → printed (expr.Between not x low high)

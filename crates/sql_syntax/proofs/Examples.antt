@@ -5,10 +5,10 @@ use Rattle.std.specs.Fmt.{digits}
 use Rattle.sql_syntax.specs.declared.keyword.Keyword.TheVariants as keyword
 use Rattle.sql_syntax.specs.declared.token.Sign.TheVariants as sign
 use Rattle.sql_syntax.specs.declared.tree.Aggregate.TheVariants as aggregate
-use Rattle.sql_syntax.specs.declared.tree.Arithmetic.{Arithmetic}
-use Rattle.sql_syntax.specs.declared.tree.Arithmetic.TheVariants as arithmetic
-use Rattle.sql_syntax.specs.declared.tree.Comparison.{Comparison}
-use Rattle.sql_syntax.specs.declared.tree.Comparison.TheVariants as comparison
+use Rattle.meaning.specs.declared.expr.ArithmeticOperator.{ArithmeticOperator}
+use Rattle.meaning.specs.declared.expr.ArithmeticOperator.TheVariants as arithmetic
+use Rattle.meaning.specs.declared.expr.ComparisonOperator.{ComparisonOperator}
+use Rattle.meaning.specs.declared.expr.ComparisonOperator.TheVariants as comparison
 use Rattle.sql_syntax.specs.declared.tree.Expr.{Expr}
 use Rattle.sql_syntax.specs.declared.tree.JoinKind.TheVariants as join_kind
 use Rattle.sql_syntax.specs.declared.tree.Joined.{Joined}
@@ -44,7 +44,7 @@ minus_of x y = expr.Arithmetic arithmetic.Subtract x y
 column_is : (n : List ℕ) → printed (col n) ≡ record { level = level.Primary; tokens = terminal.name n ∷ [] }
 column_is n = printed_column None n
 
-reckon_is : (op : Arithmetic) (x y : Expr) {p q : Printed} → printed x ≡ p → printed y ≡ q → printed (expr.Arithmetic op x y) ≡ record { level = level_of (operator.Reckon op); tokens = join_tokens (operator.Reckon op) p q }
+reckon_is : (op : ArithmeticOperator) (x y : Expr) {p q : Printed} → printed x ≡ p → printed y ≡ q → printed (expr.Arithmetic op x y) ≡ record { level = level_of (operator.Reckon op); tokens = join_tokens (operator.Reckon op) p q }
 reckon_is op x y f g = printed_reckon op x y ∙ (λ i. record { level = level_of (operator.Reckon op); tokens = join_tokens (operator.Reckon op) (f i) (g i) })
 
 or_is : (x y : Expr) {p q : Printed} → printed x ≡ p → printed y ≡ q → printed (expr.Or x y) ≡ record { level = level.Disjunction; tokens = join_tokens operator.Or p q }
@@ -59,7 +59,7 @@ not_is x f = printed_not x ∙ (λ i. record { level = level.Negation; tokens = 
 minus_is : (x : Expr) {p : Printed} → printed x ≡ p → printed (expr.Minus x) ≡ record { level = level.Factor; tokens = mark sign.Minus ∷ at_level level.Primary p }
 minus_is x f = printed_minus x ∙ (λ i. record { level = level.Factor; tokens = mark sign.Minus ∷ at_level level.Primary (f i) })
 
-compare_is : (op : Comparison) (x y : Expr) {p q : Printed} → printed x ≡ p → printed y ≡ q
+compare_is : (op : ComparisonOperator) (x y : Expr) {p q : Printed} → printed x ≡ p → printed y ≡ q
     → printed (expr.Compare op x y) ≡ record { level = level.Predicate; tokens = at_level level.Sum p ++ mark (compares op) ∷ at_level level.Sum q }
 compare_is op x y f g = printed_compare op x y ∙ (λ i. record { level = level.Predicate; tokens = at_level level.Sum (f i) ++ mark (compares op) ∷ at_level level.Sum (g i) })
 

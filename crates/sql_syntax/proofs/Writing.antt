@@ -10,8 +10,8 @@ use Rattle.sql_syntax.specs.declared.strength.Operator.TheVariants as operator
 use Rattle.sql_syntax.specs.declared.tree.JoinKind.{JoinKind}
 use Rattle.sql_syntax.specs.declared.tree.JoinKind.TheVariants as join_kind
 use Rattle.sql_syntax.specs.declared.tree.Aggregate.{Aggregate}
-use Rattle.sql_syntax.specs.declared.tree.Arithmetic.{Arithmetic}
-use Rattle.sql_syntax.specs.declared.tree.Comparison.{Comparison}
+use Rattle.meaning.specs.declared.expr.ArithmeticOperator.{ArithmeticOperator}
+use Rattle.meaning.specs.declared.expr.ComparisonOperator.{ComparisonOperator}
 use Rattle.sql_syntax.specs.declared.tree.Arm.{Arm}
 use Rattle.sql_syntax.specs.declared.tree.Expr.{Expr}
 use Rattle.sql_syntax.specs.declared.tree.Expr.TheVariants as expr
@@ -99,13 +99,13 @@ aggregate_step w k e =
     ∙ with_append opened (distinct_if (is_distinct k) ++ free (printed e)) (mark sign.Close ∷ [])
     ∙ ap (λ (v : Written). with_token v (mark sign.Close)) (with_append opened (distinct_if (is_distinct k)) (free (printed e)))
 
-pub reckon_step : (w : Written) (op : Arithmetic) (a b : Expr) → with_tokens w (printed (expr.Arithmetic op a b)).tokens
+pub reckon_step : (w : Written) (op : ArithmeticOperator) (a b : Expr) → with_tokens w (printed (expr.Arithmetic op a b)).tokens
     ≡ with_tokens (with_tokens w (at_level (level_of (operator.Reckon op)) (printed a))) (token_of (operator.Reckon op) ∷ at_level (next (level_of (operator.Reckon op))) (printed b))
 reckon_step w op a b =
     ap (λ (p : Printed). with_tokens w p.tokens) (printed_reckon op a b)
     ∙ with_append w (at_level (level_of (operator.Reckon op)) (printed a)) (token_of (operator.Reckon op) ∷ at_level (next (level_of (operator.Reckon op))) (printed b))
 
-pub compare_step : (w : Written) (op : Comparison) (a b : Expr) → with_tokens w (printed (expr.Compare op a b)).tokens
+pub compare_step : (w : Written) (op : ComparisonOperator) (a b : Expr) → with_tokens w (printed (expr.Compare op a b)).tokens
     ≡ with_tokens (with_tokens w (at_level level.Sum (printed a))) (mark (compares op) ∷ at_level level.Sum (printed b))
 compare_step w op a b = ap (λ (p : Printed). with_tokens w p.tokens) (printed_compare op a b) ∙ with_append w (at_level level.Sum (printed a)) (mark (compares op) ∷ at_level level.Sum (printed b))
 

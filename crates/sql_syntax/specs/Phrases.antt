@@ -6,7 +6,7 @@ use Rattle.sql_syntax.specs.declared.token.Sign.{Sign}
 use Rattle.sql_syntax.specs.declared.token.Sign.TheVariants as sign
 use Rattle.sql_syntax.specs.declared.tree.Aggregate.{Aggregate}
 use Rattle.sql_syntax.specs.declared.tree.Aggregate.TheVariants as aggregate
-use Rattle.sql_syntax.specs.declared.tree.Comparison.{Comparison}
+use Rattle.meaning.specs.declared.expr.ComparisonOperator.{ComparisonOperator}
 use Rattle.sql_syntax.specs.declared.tree.Arm.{Arm}
 use Rattle.sql_syntax.specs.declared.tree.Expr.{Expr}
 use Rattle.sql_syntax.specs.declared.tree.Expr.TheVariants as expr
@@ -98,7 +98,7 @@ mutual
 
   -- what may stand behind the subject of a predicate, and the tree of both
   pub data Tests : Expr → List Terminal → Expr → Type 0 where
-    compared : (op : Comparison) {a b : Expr} {ts : List Terminal} → Spells level.Sum ts b → Tests a (mark (compares op) ∷ ts) (expr.Compare op a b)
+    compared : (op : ComparisonOperator) {a b : Expr} {ts : List Terminal} → Spells level.Sum ts b → Tests a (mark (compares op) ∷ ts) (expr.Compare op a b)
     between : (not : Bool) {a low high : Expr} {ts us : List Terminal} → Spells level.Sum ts low → Spells level.Sum us high
         → Tests a (not_if not ++ (word keyword.Between ∷ ts ++ word keyword.And ∷ us)) (expr.Between not a low high)
     among : (not : Bool) {a : Expr} {ts : List Terminal} {es : List Expr} → SpellsList ts es → Tests a (not_if not ++ word keyword.In ∷ bracketed ts) (expr.In not a es)

@@ -3,9 +3,9 @@ use Rattle.std.specs.Prelude.{ℕ}
 use Rattle.sql_syntax.specs.declared.keyword.Keyword.TheVariants as keyword
 use Rattle.sql_syntax.specs.declared.token.Sign.{Sign}
 use Rattle.sql_syntax.specs.declared.token.Sign.TheVariants as sign
-use Rattle.sql_syntax.specs.declared.tree.Arithmetic.TheVariants as arithmetic
-use Rattle.sql_syntax.specs.declared.tree.Comparison.{Comparison}
-use Rattle.sql_syntax.specs.declared.tree.Comparison.TheVariants as comparison
+use Rattle.meaning.specs.declared.expr.ArithmeticOperator.TheVariants as arithmetic
+use Rattle.meaning.specs.declared.expr.ComparisonOperator.{ComparisonOperator}
+use Rattle.meaning.specs.declared.expr.ComparisonOperator.TheVariants as comparison
 use Rattle.sql_syntax.specs.declared.tree.Expr.{Expr}
 use Rattle.sql_syntax.specs.declared.tree.Expr.TheVariants as expr
 use Rattle.sql_syntax.specs.declared.tree.Expr.TheOpen as node
@@ -64,13 +64,13 @@ node_of operator.And a b = expr.And a b
 node_of (operator.Reckon op) a b = expr.Arithmetic op a b
 
 -- a comparison's token
-abbrev pub compares : Comparison → Sign
+abbrev pub compares : ComparisonOperator → Sign
 compares comparison.Equal = sign.Equal
 compares comparison.NotEqual = sign.NotEqual
 compares comparison.Less = sign.Less
-compares comparison.AtMost = sign.AtMost
+compares comparison.LessOrEqual = sign.AtMost
 compares comparison.Greater = sign.Greater
-compares comparison.AtLeast = sign.AtLeast
+compares comparison.GreaterOrEqual = sign.AtLeast
 
 -- The strongest rule that gives a node without brackets. An integer is as strong as a minus, since it may have one.
 abbrev pub strength : {X Y : Type 0} → Expr-F X Y → Level

@@ -22,9 +22,9 @@ pub use laws::{
 pub use lexer::tokens;
 pub use printer::print;
 pub use quoting::push_undoubled;
-pub use strength::{Level, Operator};
+pub use strength::{Level, Operator, level_of_arithmetic, sign_of_arithmetic, sign_of_comparison};
 pub use token::{Lexeme, Sign, Token};
 pub use tree::{
-    Aggregate, Arithmetic, Arm, Comparison, Direction, Expr, Item, JoinKind, Joined, OrderKey,
-    OrderTarget, Query, Source, Table,
+    Aggregate, Arm, Direction, Expr, Item, JoinKind, Joined, OrderKey, OrderTarget, Query, Source,
+    Table,
 };

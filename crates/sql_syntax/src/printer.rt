@@ -12,14 +12,13 @@ ghost use Rattle.sql_syntax.specs.declared.strength.Operator.TheVariants.{Reckon
 ghost use Rattle.sql_syntax.specs.declared.token.Sign.TheVariants.{Minus, Star};
 
 use crate::keyword::Keyword;
-use crate::strength::Level;
+use crate::strength::{Level, level_of_arithmetic, sign_of_arithmetic, sign_of_comparison};
 use crate::token::{Sign, Token};
 use crate::token_text::{ends_operand, hugs_left, hugs_right, put_blank, put_quoted, put_token};
 use crate::tree::{
-    Aggregate, Arithmetic, Arm, Direction, Expr, Item, JoinKind, Joined, OrderKey, OrderTarget,
-    Query, Table,
+    Aggregate, Arm, Direction, Expr, Item, JoinKind, Joined, OrderKey, OrderTarget, Query, Table,
 };
-use meaning::{Boxed, Text};
+use meaning::{ArithmeticOperator, Boxed, Text};
 use std::alloc::{AllocError, Global};
 
 /// The text so far, whether its last token may end an operand, and whether no blank may stand
@@ -56,7 +55,7 @@ pub fn strength(expr: &Expr) -> Level
         | Expr::Between { .. }
         | Expr::In { .. }
         | Expr::Like { .. } => Level::Predicate,
-        Expr::Arithmetic { operator, .. } => operator.level(),
+        Expr::Arithmetic { operator, .. } => level_of_arithmetic(*operator),
         Expr::Minus(_) | Expr::Integer(_) => Level::Factor,
         _ => Level::Primary,
     }
@@ -427,7 +426,7 @@ impl Printer {
                 left,
                 right,
             } => {
-                self.put_at(operator.level(), left.get())?;
+                self.put_at(level_of_arithmetic(*operator), left.get())?;
                 self.put_right(*operator, right.get())
             }
             Expr::Compare {
@@ -436,7 +435,8 @@ impl Printer {
                 right,
             } => {
                 self.put_at(Level::Sum, left.get())?;
-                self.put_behind(Token::Sign(operator.sign()), Level::Sum, right.get())
+                let sign = sign_of_comparison(*operator);
+                self.put_behind(Token::Sign(sign), Level::Sum, right.get())
             }
             Expr::Not(operand) => self.put_behind(
                 Token::Keyword(Keyword::Not),
@@ -499,12 +499,14 @@ impl Printer {
 
     /// An operator of arithmetic and what stands behind it.
     #[cycle(printing)]
-    fn put_right(&mut self, operator: Arithmetic, right: &Expr) -> Result<(), AllocError>
+    fn put_right(&mut self, operator: ArithmeticOperator, right: &Expr) -> Result<(), AllocError>
         ensures { OnOk result (written self.new
             ≡ with_tokens (written self.old) (token_of (Reckon operator)
             ∷ at_level (next (level_of (Reckon operator))) (printed right.now))) }
     {
-        self.put_behind(Token::Sign(operator.sign()), operator.level().next(), right)
+        let sign = sign_of_arithmetic(operator);
+        let level = level_of_arithmetic(operator).next();
+        self.put_behind(Token::Sign(sign), level, right)
     }
 
     /// An aggregate's name and what stands before its argument.

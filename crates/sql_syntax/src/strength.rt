@@ -1,8 +1,12 @@
-//! How strongly the operators of an expression bind: the one table that reading and printing share.
+//! How strongly the operators of an expression bind, and by which signs they are written: the one
+//! table that reading and printing share.
 ghost use Rattle.std.specs.Prelude.{◌≡◌, option_map};
-ghost use Rattle.sql_syntax.specs.Strength.{next, rank};
+ghost use Rattle.sql_syntax.specs.Strength.{compares, level_of, next, rank, token_of};
+ghost use Rattle.sql_syntax.specs.Tokens.{sign_is};
+ghost use Rattle.sql_syntax.specs.declared.strength.Operator.TheVariants.{Reckon};
 
-use crate::tree::Arithmetic;
+use crate::token::Sign;
+use meaning::{ArithmeticOperator, ComparisonOperator};
 
 /// The rules of an expression, from the one that binds least.
 #[derive(Clone, Copy)]
@@ -22,7 +26,7 @@ pub enum Level {
 pub enum Operator {
     Or,
     And,
-    Reckon(Arithmetic),
+    Reckon(ArithmeticOperator),
 }
 
 impl Level {
@@ -55,5 +59,39 @@ impl Level {
             Level::Factor => 6,
             Level::Primary => 7,
         }
+    }
+}
+
+/// The rule that gives an operator of arithmetic.
+pub fn level_of_arithmetic(operator: ArithmeticOperator) -> Level
+    ensures { result ≡ level_of (Reckon operator) }
+{
+    match operator {
+        ArithmeticOperator::Add | ArithmeticOperator::Subtract => Level::Sum,
+        ArithmeticOperator::Multiply | ArithmeticOperator::Divide => Level::Term,
+    }
+}
+
+pub fn sign_of_arithmetic(operator: ArithmeticOperator) -> Sign
+    ensures { sign_is result ≡ token_of (Reckon operator) }
+{
+    match operator {
+        ArithmeticOperator::Add => Sign::Plus,
+        ArithmeticOperator::Subtract => Sign::Minus,
+        ArithmeticOperator::Multiply => Sign::Star,
+        ArithmeticOperator::Divide => Sign::Slash,
+    }
+}
+
+pub fn sign_of_comparison(operator: ComparisonOperator) -> Sign
+    ensures { result ≡ compares operator }
+{
+    match operator {
+        ComparisonOperator::Equal => Sign::Equal,
+        ComparisonOperator::NotEqual => Sign::NotEqual,
+        ComparisonOperator::Less => Sign::Less,
+        ComparisonOperator::LessOrEqual => Sign::AtMost,
+        ComparisonOperator::Greater => Sign::Greater,
+        ComparisonOperator::GreaterOrEqual => Sign::AtLeast,
     }
 }

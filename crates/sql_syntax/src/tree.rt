@@ -1,12 +1,5 @@
 //! The tree of a query as it is written.
-ghost use Rattle.std.specs.Prelude.{◌≡◌};
-ghost use Rattle.sql_syntax.specs.Strength.{level_of, token_of, compares};
-ghost use Rattle.sql_syntax.specs.Tokens.{sign_is};
-ghost use Rattle.sql_syntax.specs.declared.strength.Operator.TheVariants.{Reckon};
-
-use crate::strength::Level;
-use crate::token::Sign;
-use meaning::{Boxed, Sequence, Text};
+use meaning::{ArithmeticOperator, Boxed, ComparisonOperator, Sequence, Text};
 
 /// A query as it is written: names aren't looked up yet, and all names are in lower case.
 #[derive(Drop)]
@@ -79,61 +72,6 @@ pub enum Direction {
     Descending,
 }
 
-#[derive(Clone, Copy, PartialEq, Eq)]
-pub enum Arithmetic {
-    Add,
-    Subtract,
-    Multiply,
-    Divide,
-}
-
-impl Arithmetic {
-    pub fn level(self) -> Level
-        ensures { result ≡ level_of (Reckon self) }
-    {
-        match self {
-            Arithmetic::Add | Arithmetic::Subtract => Level::Sum,
-            Arithmetic::Multiply | Arithmetic::Divide => Level::Term,
-        }
-    }
-
-    pub fn sign(self) -> Sign
-        ensures { sign_is result ≡ token_of (Reckon self) }
-    {
-        match self {
-            Arithmetic::Add => Sign::Plus,
-            Arithmetic::Subtract => Sign::Minus,
-            Arithmetic::Multiply => Sign::Star,
-            Arithmetic::Divide => Sign::Slash,
-        }
-    }
-}
-
-#[derive(Clone, Copy, PartialEq, Eq)]
-pub enum Comparison {
-    Equal,
-    NotEqual,
-    Less,
-    AtMost,
-    Greater,
-    AtLeast,
-}
-
-impl Comparison {
-    pub fn sign(self) -> Sign
-        ensures { result ≡ compares self }
-    {
-        match self {
-            Comparison::Equal => Sign::Equal,
-            Comparison::NotEqual => Sign::NotEqual,
-            Comparison::Less => Sign::Less,
-            Comparison::AtMost => Sign::AtMost,
-            Comparison::Greater => Sign::Greater,
-            Comparison::AtLeast => Sign::AtLeast,
-        }
-    }
-}
-
 /// `CountDistinct` is COUNT(DISTINCT ..), and `SumDistinct` SUM(DISTINCT ..).
 #[derive(Clone, Copy, PartialEq, Eq)]
 pub enum Aggregate {
@@ -166,12 +104,12 @@ pub enum Expr {
     },
     Minus(Boxed<Expr>),
     Arithmetic {
-        operator: Arithmetic,
+        operator: ArithmeticOperator,
         left: Boxed<Expr>,
         right: Boxed<Expr>,
     },
     Compare {
-        operator: Comparison,
+        operator: ComparisonOperator,
         left: Boxed<Expr>,
         right: Boxed<Expr>,
     },

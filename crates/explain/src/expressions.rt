@@ -1,11 +1,9 @@
 //! The text of an expression, as the canonical text of a query has it, with each column behind its
 //! table's name where there are several.
 use crate::names::{Names, Phrase};
-use crate::operators::{
-    aggregate_word, arithmetic_sign, comparison_sign, level_of, put_literal, put_text,
-};
+use crate::words::{aggregate_word, put_literal, put_text};
 use meaning::{Aggregate, AggregateKind, Arm, Expr, GroupingKey, Value};
-use sql_syntax::Level;
+use sql_syntax::{Level, Sign, level_of_arithmetic, sign_of_arithmetic, sign_of_comparison};
 use std::alloc::{AllocError, Global};
 
 fn level_among(phrases: &[Phrase], at: usize) -> Level {
@@ -35,7 +33,7 @@ fn strength(names: &Names<'_>, expr: &Expr) -> Level {
         | Expr::Between { .. }
         | Expr::In { .. }
         | Expr::Like { .. } => Level::Predicate,
-        Expr::Arithmetic(operator, _, _) => level_of(*operator),
+        Expr::Arithmetic(operator, _, _) => level_of_arithmetic(*operator),
         Expr::Minus(_) | Expr::Literal(Value::Int(_)) => Level::Factor,
         _ => Level::Primary,
     }
@@ -83,6 +81,20 @@ fn put_behind(
     put_at(out, names, level, expr)
 }
 
+/// An expression behind a sign, which has a blank on each side.
+#[cycle(writing)]
+fn put_behind_sign(
+    out: &mut String,
+    names: &Names<'_>,
+    sign: Sign,
+    level: Level,
+    expr: &Expr,
+) -> Result<(), AllocError> {
+    out.push_str(" ")?;
+    out.push_str(sign.spelling())?;
+    put_behind(out, names, " ", level, expr)
+}
+
 #[cycle(writing)]
 fn put_expr(out: &mut String, names: &Names<'_>, expr: &Expr) -> Result<(), AllocError> {
     match expr {
@@ -93,15 +105,15 @@ fn put_expr(out: &mut String, names: &Names<'_>, expr: &Expr) -> Result<(), Allo
         | Expr::Literal(_) => put_leaf(out, names, expr),
         Expr::Minus(operand) => put_behind(out, names, "-", Level::Primary, operand.get()),
         Expr::Arithmetic(operator, left, right) => {
-            let level = level_of(*operator);
+            let level = level_of_arithmetic(*operator);
             put_at(out, names, level, left.get())?;
-            let sign = arithmetic_sign(*operator);
-            put_behind(out, names, sign, level.next(), right.get())
+            let sign = sign_of_arithmetic(*operator);
+            put_behind_sign(out, names, sign, level.next(), right.get())
         }
         Expr::Compare(operator, left, right) => {
             put_at(out, names, Level::Sum, left.get())?;
-            let sign = comparison_sign(*operator);
-            put_behind(out, names, sign, Level::Sum, right.get())
+            let sign = sign_of_comparison(*operator);
+            put_behind_sign(out, names, sign, Level::Sum, right.get())
         }
         Expr::Not(operand) => put_behind(out, names, "NOT ", Level::Negation, operand.get()),
         Expr::And(left, right) => {

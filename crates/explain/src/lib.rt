@@ -5,10 +5,10 @@ mod column_types;
 mod explaining;
 mod expressions;
 mod names;
-mod operators;
 mod outline;
 mod placing;
 mod pointing;
+mod words;
 
 pub use explaining::{explain, explanation};
 pub use placing::{Place, place_of};

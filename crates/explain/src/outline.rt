@@ -2,8 +2,8 @@
 use crate::column_types::type_over;
 use crate::expressions::{phrase_aggregates, phrase_keys, put};
 use crate::names::{NamedTable, Names, Phrase};
-use crate::operators::type_word;
 use crate::placing::{Place, count_leading, place_of};
+use crate::words::type_word;
 use meaning::{Expr, Item, Join, JoinType, OrderKey, Plan};
 use sql_syntax::Query;
 use std::alloc::{AllocError, Global};

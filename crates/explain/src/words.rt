@@ -1,35 +1,6 @@
-//! The signs and words of operators and literals.
-use meaning::{AggregateKind, ArithmeticOperator, ColType, ComparisonOperator, Value};
-use sql_syntax::Level;
+//! The words of aggregates and types, and the text of literals.
+use meaning::{AggregateKind, ColType, Value};
 use std::alloc::AllocError;
-
-/// The rule that gives an operator of arithmetic.
-pub fn level_of(operator: ArithmeticOperator) -> Level {
-    match operator {
-        ArithmeticOperator::Add | ArithmeticOperator::Subtract => Level::Sum,
-        ArithmeticOperator::Multiply | ArithmeticOperator::Divide => Level::Term,
-    }
-}
-
-pub fn arithmetic_sign(operator: ArithmeticOperator) -> &'static str {
-    match operator {
-        ArithmeticOperator::Add => " + ",
-        ArithmeticOperator::Subtract => " - ",
-        ArithmeticOperator::Multiply => " * ",
-        ArithmeticOperator::Divide => " / ",
-    }
-}
-
-pub fn comparison_sign(operator: ComparisonOperator) -> &'static str {
-    match operator {
-        ComparisonOperator::Equal => " = ",
-        ComparisonOperator::NotEqual => " <> ",
-        ComparisonOperator::Less => " < ",
-        ComparisonOperator::LessOrEqual => " <= ",
-        ComparisonOperator::Greater => " > ",
-        ComparisonOperator::GreaterOrEqual => " >= ",
-    }
-}
 
 /// What stands before an aggregate's argument.
 pub fn aggregate_word(kind: AggregateKind) -> &'static str {

@@ -1,4 +1,4 @@
--- How strongly each operator binds, and its sign: the one table that the grammar and the canonical text cite.
+-- How strongly each operator binds: the one table that the grammar and the canonical text cite.
 use Rattle.std.specs.Prelude.{ℕ}
 use Rattle.sql_syntax.specs.declared.keyword.Keyword.TheVariants as keyword
 use Rattle.sql_syntax.specs.declared.token.Sign.{Sign}

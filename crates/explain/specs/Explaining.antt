@@ -1,5 +1,6 @@
 -- What a plan that is explained is of, and why there is none.
-use Rattle.std.specs.Prelude.{◌≡◌, ◌⊎◌, ℕ, List, Ok}
+use Rattle.std.specs.Prelude.{◌≡◌, ◌⊎◌, ℕ, List, [], ◌∷◌, ◌++◌, Ok, Option, codes}
+use Rattle.std.specs.Io.KnownBytes.{Appends}
 use Rattle.meaning.specs.declared.catalog.Catalog.{Catalog}
 use Rattle.meaning.specs.declared.plan.Plan.{Plan}
 use Rattle.folders.specs.Folder.{Holds}
@@ -13,6 +14,26 @@ use Rattle.planner.specs.declared.query_fault.QueryFault.TheVariants as fault
 -- the folder's catalogue declares tables over which the query has a plan
 abbrev pub IsExplained : Holds → List ℕ → List ℕ → Type 0
 IsExplained holds folder query = (catalog : Catalog) × (plan : Plan) × IsCatalogThere holds folder catalog × IsPlanned catalog query (Ok plan)
+
+-- behind this text comes the line of a plan's canonical text
+abbrev pub with_text : List ℕ → Plan → List ℕ
+with_text front plan = ((front ++ codes "text: ") ++ plan.text) ++ 10 ∷ []
+
+-- the last line is that of the plan's canonical text
+abbrev pub EndsWithText : Plan → List ℕ → Type 0
+EndsWithText plan text = (front : List ℕ) × (text ≡ with_text front plan)
+
+-- a text was printed that ends with the plan's
+abbrev pub Prints : Plan → Option (List ℕ) → Option (List ℕ) → Type 0
+Prints plan before after = (text : List ℕ) × EndsWithText plan text × Appends before after text
+
+-- the same of the plan that the query has over declared tables
+abbrev pub PrintsOver : Catalog → List ℕ → Option (List ℕ) → Option (List ℕ) → Type 0
+PrintsOver catalog query before after = (plan : Plan) × IsPlanned catalog query (Ok plan) × Prints plan before after
+
+-- the same over the tables that the folder's catalogue declares
+abbrev pub PrintsPlan : Holds → List ℕ → List ℕ → Option (List ℕ) → Option (List ℕ) → Type 0
+PrintsPlan holds folder query before after = (catalog : Catalog) × IsCatalogThere holds folder catalog × PrintsOver catalog query before after
 
 -- the refusal of a command whose query has no plan
 abbrev pub of_query : QueryFault → Refusal

@@ -1,11 +1,11 @@
 //! The command `explain`.
-ghost use Rattle.std.specs.Prelude.{◌≡◌, ◌≢◌, ◌⊎◌, IfErr, OnOk, Ok};
+ghost use Rattle.std.specs.Prelude.{◌≡◌, ◌≢◌, ◌⊎◌, IfErr, IfOk, OnOk, Ok, string_bytes};
 ghost use Rattle.meaning.specs.declared.plan.Plan.{Plan as APlan};
 ghost use Rattle.folders.specs.declared.refusal.Refusal.{Refusal as ARefusal};
 ghost use Rattle.folders.specs.declared.refusal.Refusal.TheVariants as refusal_is;
 ghost use Rattle.planner.specs.QueryText.{IsPlanned, IsTextRefused};
 ghost use Rattle.planner.specs.declared.query_fault.QueryFault.TheVariants as query_fault;
-ghost use Rattle.explain.specs.Explaining.{IsExplained, IsUnexplained, IsUnexplainedOver, of_query};
+ghost use Rattle.explain.specs.Explaining.{EndsWithText, IsExplained, IsUnexplained, IsUnexplainedOver, PrintsOver, PrintsPlan, of_query};
 
 use crate::outline::outline;
 use crate::pointing::{point, put_meaning};
@@ -21,7 +21,8 @@ use std::mem::drop;
 
 /// The text of a query's plan. The query is read for the names that its tables go by.
 fn text_of_plan(alloc: Global, query: &str, plan: &Plan) -> Result<String, QueryFault>
-    ensures { IfErr result (λ e. e ≡ query_fault.Memory) }
+    ensures text { IfOk result (λ text. EndsWithText plan.now (string_bytes text)) }
+    ensures refused { IfErr result (λ e. e ≡ query_fault.Memory) }
 {
     let Ok(tree) = read(alloc, query.as_bytes()) else {
         return Err(QueryFault::Memory);
@@ -36,7 +37,9 @@ fn text_of_plan(alloc: Global, query: &str, plan: &Plan) -> Result<String, Query
 
 /// The text of the plan that a query has over declared tables.
 fn text_over(alloc: Global, catalog: &Catalog, query: &str) -> Result<String, QueryFault>
-    ensures planned { OnOk result ((plan : APlan) × IsPlanned catalog.now query.now (Ok plan)) }
+    ensures planned { IfOk result
+        (λ text. (plan : APlan) × IsPlanned catalog.now query.now (Ok plan)
+        × EndsWithText plan (string_bytes text)) }
     ensures refused { IfErr result (IsTextRefused catalog.now query.now) }
 {
     match plan_query(alloc, catalog, query.as_bytes()) {
@@ -68,6 +71,8 @@ fn print_plan<O: Write>(
     out: &mut O,
 ) -> Result<(), Refusal>
     ensures planned { OnOk result ((plan : APlan) × IsPlanned catalog.now query.now (Ok plan)) }
+    ensures printed { OnOk result
+        (PrintsOver catalog.now query.now (O.contents out.old) (O.contents out.new)) }
     ensures refused { IfErr result (IsUnexplainedOver catalog.now query.now) }
     ensures quiet { IfErr result
         (λ e. e ≢ refusal_is.CannotPrint → O.contents out.new ≡ O.contents out.old) }
@@ -98,6 +103,9 @@ pub fn explanation<F: Folder, O: Write>(
     out: &mut O,
 ) -> Result<(), Refusal>
     ensures explained { OnOk result (IsExplained (F.holds folder.now) directory.now query.now) }
+    ensures printed { OnOk result
+        (PrintsPlan (F.holds folder.now) directory.now query.now (O.contents out.old)
+        (O.contents out.new)) }
     ensures refused { IfErr result
         (IsUnexplained (F.holds folder.now) directory.now query.now) }
     ensures quiet { IfErr result
@@ -129,6 +137,9 @@ pub fn explain<F: Folder, O: Write, E: Write>(
 ) -> u8
     ensures status { (result ≡ 0) ⊎ (result ≡ 1) }
     ensures explained { result ≡ 0 → IsExplained (F.holds folder.now) directory.now query.now }
+    ensures printed { result ≡ 0
+        → PrintsPlan (F.holds folder.now) directory.now query.now (O.contents out.old)
+        (O.contents out.new) }
     ensures silent { result ≡ 0 → E.contents err.new ≡ E.contents err.old }
     ensures refused { result ≡ 1 → (e : ARefusal)
         × IsUnexplained (F.holds folder.now) directory.now query.now e

@@ -1,4 +1,7 @@
 //! A plan as an indented tree, one operator a line.
+ghost use Rattle.std.specs.Prelude.{◌≡◌, ◌++◌, ◌∷◌, [], IfOk, OnOk, string_bytes};
+ghost use Rattle.explain.specs.Explaining.{EndsWithText, with_text};
+
 use crate::column_types::type_over;
 use crate::expressions::{phrase_aggregates, phrase_keys, put};
 use crate::names::{NamedTable, Names, Phrase};
@@ -31,7 +34,10 @@ impl OperatorLines {
         self.text.push_str(word)
     }
 
-    fn end(&mut self) -> Result<(), AllocError> {
+    fn end(&mut self) -> Result<(), AllocError>
+        ensures { OnOk result
+            (string_bytes self.new.text ≡ string_bytes self.old.text ++ 10 ∷ []) }
+    {
         self.text.push_str("\n")
     }
 
@@ -316,7 +322,10 @@ impl OperatorLines {
         self.end()
     }
 
-    fn put_text(&mut self, plan: &Plan) -> Result<(), AllocError> {
+    fn put_text(&mut self, plan: &Plan) -> Result<(), AllocError>
+        ensures { OnOk result
+            (string_bytes self.new.text ≡ with_text (string_bytes self.old.text) plan.now) }
+    {
         self.text.push_str("text: ")?;
         self.text.push_str(plan.text.as_str())?;
         self.end()
@@ -334,7 +343,9 @@ fn names_of<'a>(alloc: Global, query: &'a Query, plan: &'a Plan) -> Result<Names
 }
 
 /// The plan of a query as a tree, and behind it the columns of the report and the canonical text.
-pub fn outline(alloc: Global, query: &Query, plan: &Plan) -> Result<String, AllocError> {
+pub fn outline(alloc: Global, query: &Query, plan: &Plan) -> Result<String, AllocError>
+    ensures { IfOk result (λ text. EndsWithText plan.now (string_bytes text)) }
+{
     let names = names_of(alloc, query, plan)?;
     let mut lines = OperatorLines {
         text: String::new(alloc),

@@ -1,5 +1,7 @@
 //! Where a condition of a query is tested.
-ghost use Rattle.explain.specs.Places.{IsPlaceOf};
+ghost use Rattle.std.specs.Prelude.{◌≡◌, false, true};
+ghost use Rattle.pushdown.specs.Pushdown.{IsOfNoDimension};
+ghost use Rattle.explain.specs.Places.{AreAhead, IsAhead, IsPlaceOf};
 
 use meaning::Expr;
 use pushdown::{dimension_of, fact_column_of};
@@ -28,12 +30,25 @@ pub fn place_of(condition: &Expr, joins: usize) -> Place
     }
 }
 
+/// Whether a condition over so many joins is tested on no dimension.
+fn is_elsewhere(condition: &Expr, joins: usize) -> bool
+    ensures ahead { result ≡ false → IsAhead joins condition.now }
+    ensures other { result ≡ true → IsOfNoDimension joins condition.now }
+{
+    match place_of(condition, joins) {
+        Place::Dimension(_) => false,
+        Place::Blocks(_) => true,
+        Place::Rows => true,
+    }
+}
+
 /// How many of the first conditions are tested on dimensions.
-pub fn count_leading(conditions: &[Expr], joins: usize) -> usize {
+pub fn count_leading(conditions: &[Expr], joins: usize) -> usize
+    ensures { AreAhead joins conditions.now result }
+{
     for at in 0..conditions.len() {
-        match place_of(&conditions[at], joins) {
-            Place::Dimension(_) => {}
-            _ => return at,
+        if is_elsewhere(&conditions[at], joins) {
+            return at;
         }
     }
     conditions.len()

@@ -1,5 +1,7 @@
 //! The files of a folder, read and written whole.
 ghost use Rattle.std.specs.Prelude.{◌≡◌, ◌≢◌, IfErr, IfOk, IfSome, OnErr, OnOk};
+ghost use Rattle.std.specs.IoError.{error_kind};
+ghost use Rattle.std.specs.declared.io.ErrorKind.TheVariants as kind;
 ghost use Rattle.fragment_file.specs.declared.fault.FileFault.TheVariants as no_file;
 ghost use Rattle.disk.specs.Disk.{HasRoom};
 ghost use Rattle.folders.specs.Folder.{AreHeld, Finishes, HasDisk, HasHeld, IsEmptyFile, Removes, WritesOne, catalog_path};
@@ -19,6 +21,7 @@ use std::io::{ErrorKind, Read, Write};
 
 fn read_bytes<F: Folder>(alloc: Global, folder: &F, path: &str) -> io::Result<Vec<u8>>
     ensures held { IfOk result (λ bytes. AreHeld (F.holds folder.now path.now) bytes.items) }
+    ensures asked { F.asks folder.now path.now }
     ensures opened { OnOk result (F.opens folder.now path.now) }
 {
     let mut file = folder.open(path)?;
@@ -35,6 +38,7 @@ pub fn try_read<F: Folder>(
 ) -> Result<Option<Vec<u8>>, Refusal>
     ensures held { IfOk result
         (λ found. IfSome found (λ bytes. AreHeld (F.holds folder.now path.now) bytes.items)) }
+    ensures asked { F.asks folder.now path.now }
     ensures opened { IfOk result (λ found. IfSome found (λ _. F.opens folder.now path.now)) }
     ensures refused { IfErr result (λ e. e ≡ Memory) }
 {
@@ -50,6 +54,7 @@ pub fn try_read<F: Folder>(
 /// The bytes of a file.
 pub fn read_file<F: Folder>(alloc: Global, folder: &F, path: &Text) -> Result<Vec<u8>, Refusal>
     ensures held { IfOk result (λ bytes. AreHeld (F.holds folder.now path.now) bytes.items) }
+    ensures asked { F.asks folder.now path.now }
     ensures opened { OnOk result (F.opens folder.now path.now) }
     ensures refused { IfErr result (IsUnread path.now) }
 {
@@ -63,6 +68,7 @@ pub fn read_file<F: Folder>(alloc: Global, folder: &F, path: &Text) -> Result<Ve
 pub fn open_file<F: Folder>(folder: &F, path: &Text) -> Result<F::Reader, Refusal>
     ensures opened { IfOk result
         (λ file. HasHeld (F.holds folder.now path.now) (F.Reader.remaining file)) }
+    ensures asked { F.asks folder.now path.now }
     ensures there { OnOk result (F.opens folder.now path.now) }
     ensures refused { IfErr result (IsUnread path.now) }
 {
@@ -109,7 +115,8 @@ pub fn read_catalog_file<F: Folder>(
 
 /// The refusal where the file of a path was not written.
 fn refusal_of_device(path: &Text, error: io::Error) -> Refusal
-    ensures { IsUnwritten path.now result }
+    ensures memory { error_kind error ≡ kind.OutOfMemory → result ≡ Memory }
+    ensures returned { IsUnwritten path.now result }
 {
     match error.kind() {
         ErrorKind::OutOfMemory => Refusal::Memory,
@@ -132,6 +139,7 @@ pub fn refusal_of_file(path: &Text, fault: FileFault) -> Refusal
 pub fn create_file<F: Folder>(folder: &mut F, path: &Text) -> Result<F::Writer, Refusal>
     ensures empty { IfOk result (λ file. IsEmptyFile (F.wrote folder.old)
         (F.Writer.contents file)) }
+    ensures created { OnOk result (F.creates folder.old path.now) }
     ensures same { F.wrote folder.new ≡ F.wrote folder.old }
     ensures held { F.holds folder.new ≡ F.holds folder.old }
     ensures refused { IfErr result (IsUnwritten path.now) }
@@ -205,6 +213,7 @@ pub fn write_file<F: Folder>(folder: &mut F, path: &Text, bytes: &[u8]) -> Resul
     ensures written { OnOk result
         (WritesOne path.now (λ given. given ≡ bytes.now) (F.wrote folder.old)
         (F.wrote folder.new)) }
+    ensures created { OnOk result (F.creates folder.old path.now) }
     ensures refused { IfErr result (IsUnwritten path.now) }
     ensures unchanged { OnErr result (F.wrote folder.new ≡ F.wrote folder.old) }
 {

@@ -1,5 +1,7 @@
 //! The trait of folders that commands read from and write to.
-ghost use Rattle.std.specs.Prelude.{◌≡◌, ℕ, List, Option, None, IfOk, OnErr, OnOk, ⊤};
+ghost use Rattle.std.specs.Prelude.{◌≡◌, ℕ, List, Option, None, IfErr, IfOk, OnErr, OnOk, ⊤};
+ghost use Rattle.std.specs.IoError.{error_kind};
+ghost use Rattle.std.specs.declared.io.ErrorKind.TheVariants as kind;
 ghost use Rattle.disk.specs.Disk.{HasRoom};
 ghost use Rattle.folders.specs.Folder.{Change, Finishes, HasDisk, IsEmptyFile, Opens, Removes};
 
@@ -24,8 +26,17 @@ pub trait Folder {
     // The bytes of a path's file, where they are known.
     ghost holds: { Self → List ℕ → Option (List ℕ) } = { λ _ _. None };
 
+    // What a path meets once its file was asked for, whether it was opened or not.
+    ghost asks: { Self → List ℕ → Type 0 } = { λ _ _. ⊤ };
+
     // What a path's file meets once it was opened.
     ghost opens: { Self → List ℕ → Type 0 } = { λ _ _. ⊤ };
+
+    // What a path meets where no file was found under it.
+    ghost lacks: { Self → List ℕ → Type 0 } = { λ _ _. ⊤ };
+
+    // What a path meets once a file was created for it.
+    ghost creates: { Self → List ℕ → Type 0 } = { λ _ _. ⊤ };
 
     // The files finished and taken away so far, where they are known.
     ghost wrote: { Self → Option (List Change) } = { λ _. None };
@@ -36,7 +47,10 @@ pub trait Folder {
     /// A reader of a file's bytes from their beginning.
     fn open(&self, path: &str) -> io::Result<Self::Reader>
         ensures held { Opens Self.Reader.remaining (holds self.now path.now) result }
-        ensures opened { OnOk result (opens self.now path.now) };
+        ensures asked { asks self.now path.now }
+        ensures opened { OnOk result (opens self.now path.now) }
+        ensures lacking { IfErr result
+            (λ e. error_kind e ≡ kind.NotFound → lacks self.now path.now) };
 
     /// A path's file as a disk, which has no bytes where there was none.
     fn disk(&self, path: &str) -> io::Result<Self::Disk>
@@ -48,6 +62,7 @@ pub trait Folder {
     fn create(&mut self, path: &str) -> io::Result<Self::Writer>
         ensures empty { IfOk result
             (λ file. IsEmptyFile (wrote self.old) (Self.Writer.contents file)) }
+        ensures created { OnOk result (creates self.old path.now) }
         ensures same { wrote self.new ≡ wrote self.old }
         ensures held { holds self.new ≡ holds self.old };
 

@@ -3,6 +3,7 @@ use Rattle.std.specs.Prelude.{◌≡◌, ℕ, List, [], ◌∷◌, Option, None,
 use Rattle.std.specs.List.{starts_with}
 use Rattle.fragment_file.specs.CutFile.{CutFileSpec, IsCutFileOf}
 use Rattle.fragment_file.specs.Fragment.{FragmentSpec, IsFileOf}
+use Rattle.folders.specs.Folder.{AreHeld, Holds}
 use Rattle.answer_fields.specs.declared.format.Content.TheVariants as of
 use Rattle.answer_fields.specs.declared.format.Format.{Format}
 use Rattle.answer_fields.specs.Format.{format_in}
@@ -22,6 +23,14 @@ kind_of bytes =
     if starts_with nat_eq bytes (88 ∷ 67 ∷ 76 ∷ 49 ∷ []) then Some kind.Cut else
     if starts_with nat_eq bytes (88 ∷ 71 ∷ 74 ∷ 49 ∷ []) then Some kind.Journal else
     spelled_in (format_in of.Answer bytes) (format_in of.State bytes)
+
+-- the bytes begin as one of the files
+abbrev pub BeginsAsFile : List ℕ → Type 0
+BeginsAsFile bytes = (kind : FileKind) × (kind_of bytes ≡ Some kind)
+
+-- so do the bytes that are held under the path, where they are known
+abbrev pub HoldsFile : Holds → List ℕ → Type 0
+HoldsFile holds path = (bytes : List ℕ) × AreHeld (holds path) bytes × BeginsAsFile bytes
 
 -- what is known of a file of this kind: one of a table or of a cut is spelled as such
 abbrev pub IsTaken : FileKind → List ℕ → Type 0

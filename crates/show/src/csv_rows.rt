@@ -131,7 +131,7 @@ fn write_table(
     write_groups(alloc, cursor, columns, rows, most, writer, record)
 }
 
-/// The names of the columns and the first rows of a table's file, behind its magic, at most so many;
+/// The names of the columns and the first rows of a table's file, behind its magic, at most so many,
 /// and why there aren't as many as it has.
 pub fn rows_of_table(
     alloc: Global,

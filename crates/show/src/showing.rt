@@ -3,7 +3,7 @@ ghost use Rattle.std.specs.Prelude.{◌≡◌, ◌⊎◌, ℕ, List, true, IfOk,
 ghost use Rattle.fragment_file.specs.CutFile.{CutFileSpec, IsCutFileOf};
 ghost use Rattle.fragment_file.specs.Fragment.{FragmentSpec, IsFileOf};
 ghost use Rattle.folders.specs.Folder.{AreHeld};
-ghost use Rattle.show.specs.Shown.{IsTaken, IsWhole};
+ghost use Rattle.show.specs.Shown.{BeginsAsFile, HoldsFile, IsTaken, IsWhole};
 
 use crate::csv_rows::rows_of_table;
 use crate::cuts::show_cut_file;
@@ -176,7 +176,9 @@ fn print<O: Write, E: Write>(
     shown: &Shown,
     out: &mut O,
     err: &mut E,
-) -> io::Result<bool> {
+) -> io::Result<bool>
+    ensures { IfOk result (λ whole. whole ≡ true → E.contents err.new ≡ E.contents err.old) }
+{
     if out.write_all(shown.bytes.as_slice()).is_err() {
         writeln!(err, "xcols: cannot write standard output")?;
         return Ok(false);
@@ -200,7 +202,9 @@ fn show_kind<O: Write, E: Write>(
     out: &mut O,
     err: &mut E,
 ) -> io::Result<bool>
-    ensures { IfOk result (λ whole. whole ≡ true → IsTaken kind bytes.now) }
+    ensures taken { IfOk result (λ whole. whole ≡ true → IsTaken kind bytes.now) }
+    ensures silent { IfOk result
+        (λ whole. whole ≡ true → E.contents err.new ≡ E.contents err.old) }
 {
     let shown = shown_of(alloc, kind, bytes, options);
     if !print(kind, path, &shown, out, err)? {
@@ -223,7 +227,10 @@ fn show_bytes<O: Write, E: Write>(
     out: &mut O,
     err: &mut E,
 ) -> io::Result<bool>
-    ensures { IfOk result (λ whole. whole ≡ true → IsWhole bytes.now) }
+    ensures whole { IfOk result (λ whole. whole ≡ true → IsWhole bytes.now) }
+    ensures silent { IfOk result
+        (λ whole. whole ≡ true → E.contents err.new ≡ E.contents err.old) }
+    ensures quiet { (O.contents out.new ≡ O.contents out.old) ⊎ BeginsAsFile bytes.now }
 {
     match kind_of(bytes) {
         Some(kind) => show_kind(alloc, kind, path, bytes, options, out, err),
@@ -242,8 +249,12 @@ fn show_file<F: Folder, O: Write, E: Write>(
     out: &mut O,
     err: &mut E,
 ) -> io::Result<bool>
-    ensures { IfOk result (λ whole. whole ≡ true → (bytes : List ℕ)
+    ensures whole { IfOk result (λ whole. whole ≡ true → (bytes : List ℕ)
         × AreHeld (F.holds folder.now path.now) bytes × IsWhole bytes) }
+    ensures silent { IfOk result
+        (λ whole. whole ≡ true → E.contents err.new ≡ E.contents err.old) }
+    ensures quiet { (O.contents out.new ≡ O.contents out.old)
+        ⊎ HoldsFile (F.holds folder.now) path.now }
 {
     match try_read(alloc, folder, path) {
         Ok(Some(bytes)) => show_bytes(alloc, path, bytes.as_slice(), options, out, err),
@@ -271,6 +282,9 @@ pub fn show<F: Folder, O: Write, E: Write>(
     ensures status { (result ≡ 0) ⊎ (result ≡ 1) }
     ensures whole { result ≡ 0 → (bytes : List ℕ)
         × AreHeld (F.holds folder.now path.now) bytes × IsWhole bytes }
+    ensures silent { result ≡ 0 → E.contents err.new ≡ E.contents err.old }
+    ensures quiet { (O.contents out.new ≡ O.contents out.old)
+        ⊎ HoldsFile (F.holds folder.now) path.now }
 {
     match show_file(alloc, folder, path, *options, out, err) {
         Ok(true) => 0,

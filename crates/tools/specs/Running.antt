@@ -1,9 +1,11 @@
 -- What a tool leaves.
-use Rattle.std.specs.Prelude.{◌≡◌, ◌⊎◌, ℕ, List, Option}
-use Rattle.explain.specs.Explaining.{IsExplained}
+use Rattle.std.specs.Prelude.{◌≡◌, ◌≢◌, ◌⊎◌, ℕ, List, Option, ⊤}
+use Rattle.explain.specs.Explaining.{IsExplained, IsUnexplained, PrintsPlan}
 use Rattle.folders.specs.Folder.{AreHeld, Change, Holds, WritesOne, catalog_path}
+use Rattle.folders.specs.declared.refusal.Refusal.{Refusal as ARefusal}
+use Rattle.folders.specs.declared.refusal.Refusal.TheVariants as refusal
 use Rattle.init.specs.Making.{IsCatalogFor}
-use Rattle.show.specs.Shown.{IsWhole}
+use Rattle.show.specs.Shown.{HoldsFile, IsWhole}
 use Rattle.tools.specs.declared.words.Tool.{Tool}
 use Rattle.tools.specs.declared.words.Tool.TheVariants.{Explain, Init, Refusal, Show}
 
@@ -35,3 +37,28 @@ LeavesFiles holds (Init words) status before after = MakesCatalog holds words.fo
 LeavesFiles holds (Refusal words) status before after = after ≡ before
 LeavesFiles holds (Explain words) status before after = ExplainsPlan holds words.folder words.query status before after
 LeavesFiles holds (Show words) status before after = ShowsFile holds words.path status before after
+
+-- a tool that ends with 0 has written nothing to standard error, but what was chosen for a catalogue
+abbrev pub IsSilent : Tool → Option (List ℕ) → Option (List ℕ) → Type 0
+IsSilent (Init words) before after = ⊤
+IsSilent (Refusal words) before after = after ≡ before
+IsSilent (Explain words) before after = after ≡ before
+IsSilent (Show words) before after = after ≡ before
+
+-- the query has no plan for this reason, and nothing was printed unless standard output failed
+abbrev pub IsLeftUnexplained : Holds → List ℕ → List ℕ → Option (List ℕ) → Option (List ℕ) → Type 0
+IsLeftUnexplained holds folder query before after =
+    (e : ARefusal) × IsUnexplained holds folder query e × (e ≢ refusal.CannotPrint → after ≡ before)
+
+-- the plan that the query has over the folder's tables is printed, or it has none
+abbrev pub PrintsExplanation : Holds → List ℕ → List ℕ → ℕ → Option (List ℕ) → Option (List ℕ) → Type 0
+PrintsExplanation holds folder query status before after =
+    (status ≡ 0 → PrintsPlan holds folder query before after) × (status ≡ 1 → IsLeftUnexplained holds folder query before after)
+
+-- What a tool leaves of standard output: nothing is printed while a catalogue is made, nor where a query is refused, nor of a file
+-- that begins as none of the program's. Of what is printed of a refusal nothing is said.
+abbrev pub LeavesOutput : Holds → Tool → ℕ → Option (List ℕ) → Option (List ℕ) → Type 0
+LeavesOutput holds (Init words) status before after = after ≡ before
+LeavesOutput holds (Refusal words) status before after = ⊤
+LeavesOutput holds (Explain words) status before after = PrintsExplanation holds words.folder words.query status before after
+LeavesOutput holds (Show words) status before after = (after ≡ before) ⊎ HoldsFile holds words.path

@@ -1,6 +1,6 @@
 //! The tool that words ask for.
-ghost use Rattle.std.specs.Prelude.{◌≡◌, None, Ok, false, map};
-ghost use Rattle.tools.specs.Words.{asks_tool, begins_with_tool, is_tool};
+ghost use Rattle.std.specs.Prelude.{◌≡◌, None, Ok, IfOk, IfSome, IsSome, codes, false, map, true};
+ghost use Rattle.tools.specs.Words.{AreWordsOf, asks_tool, begins_with_tool, is_tool, name_of};
 
 use crate::parser::parser;
 use crate::words::{ExplainWords, InitWords, ShowWords, Tool};
@@ -43,7 +43,11 @@ fn asks_tool(words: &[&str]) -> bool
 /// The tool that the words behind the program's name ask for; none where they ask for no tool, and
 /// may be another command. `clap` says which words of a tool are none, and why.
 pub fn asked(alloc: Global, words: &[&str]) -> Result<Option<Tool>, UsageFault>
-    ensures { asks_tool (map (λ w. w.now) words.now) ≡ false → result ≡ Ok None }
+    ensures none { asks_tool (map (λ w. w.now) words.now) ≡ false → result ≡ Ok None }
+    ensures some { asks_tool (map (λ w. w.now) words.now) ≡ true
+        → IfOk result (λ found. IsSome found) }
+    ensures named { IfOk result
+        (λ found. IfSome found (AreWordsOf (map (λ w. w.now) words.now))) }
 {
     if !asks_tool(words) {
         return Ok(None);
@@ -51,23 +55,29 @@ pub fn asked(alloc: Global, words: &[&str]) -> Result<Option<Tool>, UsageFault>
     let mut parser = parser(alloc)?;
     let tool = parsed(alloc, &mut parser, words);
     drop(parser);
-    Ok(Some(tool?))
+    match tool {
+        Ok(tool) => Ok(Some(tool)),
+        Err(fault) => Err(fault),
+    }
 }
 
 fn parsed<'a>(
     alloc: Global,
     parser: &mut clap::Command<'a>,
     words: &'a [&'a str],
-) -> Result<Tool, UsageFault> {
+) -> Result<Tool, UsageFault>
+    ensures { IfOk result (AreWordsOf (map (λ w. w.now) words.now)) }
+{
     if asks_list(words) {
         return Err(list(parser));
     }
     let matches = parser.try_get_matches_from_mut(words)?;
-    let tool = tool_of(alloc, &matches);
+    let tool = tool_in(alloc, words, &matches);
     drop(matches);
-    match tool? {
-        Some(tool) => Ok(tool),
-        None => Err(UsageFault::Memory),
+    match tool {
+        Ok(Some(tool)) => Ok(tool),
+        Ok(None) => Err(UsageFault::Memory),
+        Err(_) => Err(UsageFault::Memory),
     }
 }
 
@@ -87,10 +97,31 @@ fn list(parser: &mut clap::Command<'_>) -> UsageFault {
 }
 
 // None where the parser took other words than these.
-fn tool_of(alloc: Global, matches: &ArgMatches<'_>) -> Result<Option<Tool>, AllocError> {
-    let Some((name, found)) = matches.subcommand() else {
+fn tool_in(
+    alloc: Global,
+    words: &[&str],
+    matches: &ArgMatches<'_>,
+) -> Result<Option<Tool>, AllocError>
+    ensures { IfOk result (λ found. IfSome found (AreWordsOf (map (λ w. w.now) words.now))) }
+{
+    let Some((word, _)) = words.split_first() else {
         return Ok(None);
     };
+    match matches.subcommand() {
+        Some((name, found)) => {
+            if name != *word {
+                return Ok(None);
+            }
+            tool_of(alloc, word, found)
+        }
+        None => Ok(None),
+    }
+}
+
+// The tool of this name; none where its words aren't there.
+fn tool_of(alloc: Global, name: &str, found: &ArgMatches<'_>) -> Result<Option<Tool>, AllocError>
+    ensures { IfOk result (λ found. IfSome found (λ tool. name_of tool ≡ name.now)) }
+{
     match name {
         "init" => init_of(alloc, found),
         "explain" => explain_of(alloc, found),
@@ -100,7 +131,9 @@ fn tool_of(alloc: Global, matches: &ArgMatches<'_>) -> Result<Option<Tool>, Allo
     }
 }
 
-fn init_of(alloc: Global, found: &ArgMatches<'_>) -> Result<Option<Tool>, AllocError> {
+fn init_of(alloc: Global, found: &ArgMatches<'_>) -> Result<Option<Tool>, AllocError>
+    ensures { IfOk result (λ found. IfSome found (λ tool. name_of tool ≡ codes "init")) }
+{
     let Some(folder) = found.get_str("DIR") else {
         return Ok(None);
     };
@@ -109,7 +142,9 @@ fn init_of(alloc: Global, found: &ArgMatches<'_>) -> Result<Option<Tool>, AllocE
     Ok(Some(Tool::Init(InitWords { folder, fact })))
 }
 
-fn explain_of(alloc: Global, found: &ArgMatches<'_>) -> Result<Option<Tool>, AllocError> {
+fn explain_of(alloc: Global, found: &ArgMatches<'_>) -> Result<Option<Tool>, AllocError>
+    ensures { IfOk result (λ found. IfSome found (λ tool. name_of tool ≡ codes "explain")) }
+{
     let (Some(folder), Some(query)) = (found.get_str("DIR"), found.get_str("query")) else {
         return Ok(None);
     };
@@ -118,7 +153,9 @@ fn explain_of(alloc: Global, found: &ArgMatches<'_>) -> Result<Option<Tool>, All
     Ok(Some(Tool::Explain(ExplainWords { folder, query })))
 }
 
-fn show_of(alloc: Global, found: &ArgMatches<'_>) -> Result<Option<Tool>, AllocError> {
+fn show_of(alloc: Global, found: &ArgMatches<'_>) -> Result<Option<Tool>, AllocError>
+    ensures { IfOk result (λ found. IfSome found (λ tool. name_of tool ≡ codes "show")) }
+{
     let Some(path) = found.get_str("FILE") else {
         return Ok(None);
     };
@@ -135,7 +172,9 @@ fn text_if_any(alloc: Global, text: Option<&str>) -> Result<Option<Text>, AllocE
     }
 }
 
-fn refusal_of(alloc: Global, found: &ArgMatches<'_>) -> Result<Option<Tool>, AllocError> {
+fn refusal_of(alloc: Global, found: &ArgMatches<'_>) -> Result<Option<Tool>, AllocError>
+    ensures { IfOk result (λ found. IfSome found (λ tool. name_of tool ≡ codes "refusal")) }
+{
     let mut words = Sequence::new(alloc);
     for word in found.get_strs("WORDS").unwrap_or(&[]) {
         words.push(Text::new(alloc, word)?)?;

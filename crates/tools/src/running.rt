@@ -1,6 +1,7 @@
 //! Runs a tool and gives its exit status.
-ghost use Rattle.std.specs.Prelude.{◌≡◌};
-ghost use Rattle.tools.specs.Running.{ExplainsPlan, IsStatus, LeavesFiles, MakesCatalog, ShowsFile};
+ghost use Rattle.std.specs.Prelude.{◌≡◌, ◌⊎◌};
+ghost use Rattle.show.specs.Shown.{HoldsFile};
+ghost use Rattle.tools.specs.Running.{ExplainsPlan, IsSilent, IsStatus, LeavesFiles, LeavesOutput, MakesCatalog, PrintsExplanation, ShowsFile};
 
 use crate::explaining::entry_of;
 use crate::words::{ExplainWords, InitWords, ShowWords, Tool};
@@ -42,7 +43,8 @@ fn print_unknown<E: Write>(err: &mut E) -> io::Result<()> {
 }
 
 fn run_refusal<O: Write, E: Write>(alloc: Global, words: &[Text], out: &mut O, err: &mut E) -> u8
-    ensures { IsStatus result }
+    ensures status { IsStatus result }
+    ensures silent { result ≡ 0 → E.contents err.new ≡ E.contents err.old }
 {
     let Ok(found) = entry_of(alloc, words) else {
         let _ = writeln!(err, "xcols: memory");
@@ -71,6 +73,9 @@ fn run_explain<F: Folder, O: Write, E: Write>(
     ensures status { IsStatus result }
     ensures files { ExplainsPlan (F.holds folder.old) words.now.folder words.now.query result
         (F.wrote folder.old) (F.wrote folder.new) }
+    ensures silent { result ≡ 0 → E.contents err.new ≡ E.contents err.old }
+    ensures output { PrintsExplanation (F.holds folder.old) words.now.folder words.now.query result
+        (O.contents out.old) (O.contents out.new) }
 {
     let (directory, query) = (words.folder.as_str(), words.query.as_str());
     explain(alloc, &*folder, directory, query, out, err)
@@ -86,6 +91,9 @@ fn run_show<F: Folder, O: Write, E: Write>(
     ensures status { IsStatus result }
     ensures files { ShowsFile (F.holds folder.old) words.now.path result (F.wrote folder.old)
         (F.wrote folder.new) }
+    ensures silent { result ≡ 0 → E.contents err.new ≡ E.contents err.old }
+    ensures output { (O.contents out.new ≡ O.contents out.old)
+        ⊎ HoldsFile (F.holds folder.old) words.now.path }
 {
     let options = ShowOptions {
         rows: words.rows,
@@ -106,6 +114,10 @@ pub fn run<F: Folder + Listing, O: Write, E: Write>(
     ensures status { IsStatus result }
     ensures files { LeavesFiles (F.holds folder.old) tool.now result (F.wrote folder.old)
         (F.wrote folder.new) }
+    ensures silent { result ≡ 0
+        → IsSilent tool.now (E.contents err.old) (E.contents err.new) }
+    ensures output { LeavesOutput (F.holds folder.old) tool.now result (O.contents out.old)
+        (O.contents out.new) }
 {
     match tool {
         Tool::Init(words) => run_init(alloc, words, folder, err),

@@ -1,3 +1,4 @@
 -- The definitions of this crate.
 pub mod Findings
 pub mod Making
+pub mod Refusing

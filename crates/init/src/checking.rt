@@ -1,14 +1,17 @@
 //! Whether a folder's files load under a catalogue.
-ghost use Rattle.std.specs.Prelude.{◌≡◌, ◌≢◌, ℕ, List, All, IfOk, OnOk, Ok, Result, Some, length, drop, sum};
+ghost use Rattle.std.specs.Prelude.{◌≡◌, ◌≤◌, ℕ, List, All, IfErr, IfOk, IfSome, OnOk, Err, Result, Some, length, drop, sum};
 ghost use Rattle.meaning.specs.declared.table.TableFault.{TableFault as Fault};
+ghost use Rattle.meaning.specs.Records.{dimension_of};
 ghost use Rattle.columns.specs.Column.{ColumnSpec};
 ghost use Rattle.loader.specs.Columns.{dimension_columns, fact_fragments};
+ghost use Rattle.loader.specs.Fault.{fault_returned};
 ghost use Rattle.loader.specs.Handing.{IsToCome};
 ghost use Rattle.loader.specs.Source.{csv_records};
-ghost use Rattle.folders.specs.Folder.{csv_path};
-ghost use Rattle.init.specs.Making.{AreColumns, IsCatalogFor, IsDimension, IsDimensionFit, IsFactFit};
+ghost use Rattle.folders.specs.Folder.{HasHeld, csv_path};
+ghost use Rattle.init.specs.Making.{AreColumns, IsCatalogFor, IsDimension, IsDimensionFit, IsFact, IsFactFit};
+ghost use Rattle.init.specs.Refusing.{AreTablesRefused, IsCatalogRefused, IsDimensionRefused, IsFactRefused, IsFirstRefused, IsUncounted, IsUnread};
 
-use crate::fault::{InitFault, of_cut, of_load};
+use crate::fault::{InitFault, of_load, too_many_rows};
 use catalog_reader::read_catalog;
 use folders::{Folder, csv_path, open_file};
 use loader::{FactReader, LoadFault, count_rows, load_dimension, open_fact};
@@ -19,10 +22,16 @@ use std::mem::drop;
 
 // ---- the fact
 
+/// The most rows that a cut has.
+const MOST_ROWS: u64 = 4_294_967_296;
+
 // Loads the fragments that are to come, of which one at a time is in memory.
 fn pass_fragments<R: Read>(alloc: Global, reader: &mut FactReader<'_, R>) -> Result<(), LoadFault>
-    ensures { OnOk result ((meant : Result (List (List ColumnSpec)) Fault)
+    ensures passed { OnOk result ((meant : Result (List (List ColumnSpec)) Fault)
         → IsToCome R.remaining reader.old meant → AreColumns meant) }
+    ensures refused { IfErr result (λ e. (meant : Result (List (List ColumnSpec)) Fault)
+        → IsToCome R.remaining reader.old meant
+        → IfSome (fault_returned e) (λ f. meant ≡ Err f)) }
 {
     while let Some(fragment) = reader.next_fragment(alloc)? {
         drop(fragment);
@@ -36,8 +45,11 @@ fn pass_fact<R: Read + Drop>(
     reader: R,
     cut: &Cut,
 ) -> Result<(), LoadFault>
-    ensures { OnOk result ((bytes : List ℕ) → R.remaining reader ≡ Some bytes
+    ensures passed { OnOk result ((bytes : List ℕ) → R.remaining reader ≡ Some bytes
         → AreColumns (fact_fragments catalog.now cut.now (csv_records bytes))) }
+    ensures refused { IfErr result (λ e. (bytes : List ℕ) → R.remaining reader ≡ Some bytes
+        → IfSome (fault_returned e)
+        (λ f. fact_fragments catalog.now cut.now (csv_records bytes) ≡ Err f)) }
 {
     let mut reader = open_fact(alloc, catalog, reader, cut)?;
     let passed = pass_fragments(alloc, &mut reader);
@@ -45,19 +57,64 @@ fn pass_fact<R: Read + Drop>(
     passed
 }
 
+// A reader of a file from its beginning.
+fn opened<F: Folder>(folder: &F, path: &Text) -> Result<F::Reader, InitFault>
+    ensures opened { IfOk result
+        (λ file. HasHeld (F.holds folder.now path.now) (F.Reader.remaining file)) }
+    ensures refused { IfErr result (IsUnread path.now) }
+{
+    match open_file(folder, path) {
+        Ok(file) => Ok(file),
+        Err(refusal) => Err(InitFault::from(refusal)),
+    }
+}
+
+// How many rows stand behind a file's header.
+fn rows_of<F: Folder>(alloc: Global, folder: &F, path: &Text) -> Result<u64, InitFault>
+    ensures counted { IfOk result (λ rows. (csv : List ℕ) → F.holds folder.now path.now ≡ Some csv
+        → rows ≡ length (drop 1 (csv_records csv))) }
+    ensures refused { IfErr result (IsUnread path.now) }
+{
+    let file = opened(folder, path)?;
+    match count_rows(alloc, file) {
+        Ok(rows) => Ok(rows),
+        Err(fault) => Err(of_load(path, fault)),
+    }
+}
+
 // The cut of the rows behind a file's header.
 fn cut_of<F: Folder>(alloc: Global, folder: &F, path: &Text) -> Result<Cut, InitFault>
-    ensures { IfOk result (λ cut. (csv : List ℕ) → F.holds folder.now path.now ≡ Some csv
+    ensures whole { IfOk result (λ cut. (csv : List ℕ) → F.holds folder.now path.now ≡ Some csv
         → sum cut ≡ length (drop 1 (csv_records csv))) }
+    ensures few { IfOk result (λ cut. sum cut ≤ 4294967296) }
+    ensures refused { IfErr result (IsUncounted (F.holds folder.now) path.now) }
 {
-    let file = open_file(folder, path)?;
-    let rows = match count_rows(alloc, file) {
-        Ok(rows) => rows,
-        Err(fault) => return Err(of_load(path, fault)),
-    };
+    let rows = rows_of(alloc, folder, path)?;
+    if rows > MOST_ROWS {
+        return Err(too_many_rows(path));
+    }
+    // So many rows are cut, unless memory runs out.
     match Cut::even(alloc, rows, MAX_ROWS) {
         Ok(cut) => Ok(cut),
-        Err(fault) => Err(of_cut(path, fault)),
+        Err(_) => Err(InitFault::Memory),
+    }
+}
+
+fn check_fact_file<F: Folder>(
+    alloc: Global,
+    folder: &F,
+    path: &Text,
+    catalog: &Catalog,
+) -> Result<(), InitFault>
+    ensures fit { OnOk result ((csv : List ℕ) → F.holds folder.now path.now ≡ Some csv
+        → IsFact catalog.now (csv_records csv)) }
+    ensures refused { IfErr result (IsFactRefused (F.holds folder.now) path.now catalog.now) }
+{
+    let cut = cut_of(alloc, folder, path)?;
+    let file = opened(folder, path)?;
+    match pass_fact(alloc, catalog, file, &cut) {
+        Ok(()) => Ok(()),
+        Err(fault) => Err(of_load(path, fault)),
     }
 }
 
@@ -67,15 +124,13 @@ fn check_fact<F: Folder>(
     directory: &str,
     catalog: &Catalog,
 ) -> Result<(), InitFault>
-    ensures { OnOk result (IsFactFit (F.holds folder.now) directory.now catalog.now) }
+    ensures fit { OnOk result (IsFactFit (F.holds folder.now) directory.now catalog.now) }
+    ensures refused { IfErr result
+        (IsFactRefused (F.holds folder.now) (csv_path directory.now catalog.now.fact.name)
+        catalog.now) }
 {
     let path = csv_path(alloc, directory, catalog.fact.name.as_str())?;
-    let cut = cut_of(alloc, folder, &path)?;
-    let file = open_file(folder, &path)?;
-    match pass_fact(alloc, catalog, file, &cut) {
-        Ok(()) => Ok(()),
-        Err(fault) => Err(of_load(&path, fault)),
-    }
+    check_fact_file(alloc, folder, &path, catalog)
 }
 
 // ---- dimensions
@@ -85,12 +140,33 @@ fn pass_dimension<R: Read + Drop>(
     dimension: &Dimension,
     reader: R,
 ) -> Result<(), LoadFault>
-    ensures { OnOk result ((bytes : List ℕ) → R.remaining reader ≡ Some bytes
+    ensures passed { OnOk result ((bytes : List ℕ) → R.remaining reader ≡ Some bytes
         → AreColumns (dimension_columns dimension.now (csv_records bytes))) }
+    ensures refused { IfErr result (λ e. (bytes : List ℕ) → R.remaining reader ≡ Some bytes
+        → IfSome (fault_returned e)
+        (λ f. dimension_of dimension.now (csv_records bytes) ≡ Err f)) }
 {
     match load_dimension(alloc, dimension, reader) {
         Ok(_) => Ok(()),
         Err(fault) => Err(fault),
+    }
+}
+
+fn check_dimension_file<F: Folder>(
+    alloc: Global,
+    folder: &F,
+    path: &Text,
+    dimension: &Dimension,
+) -> Result<(), InitFault>
+    ensures fit { OnOk result ((csv : List ℕ) → F.holds folder.now path.now ≡ Some csv
+        → IsDimension dimension.now (csv_records csv)) }
+    ensures refused { IfErr result
+        (IsDimensionRefused (F.holds folder.now) path.now dimension.now) }
+{
+    let file = opened(folder, path)?;
+    match pass_dimension(alloc, dimension, file) {
+        Ok(()) => Ok(()),
+        Err(fault) => Err(of_load(path, fault)),
     }
 }
 
@@ -100,14 +176,13 @@ fn check_dimension<F: Folder>(
     directory: &str,
     dimension: &Dimension,
 ) -> Result<(), InitFault>
-    ensures { OnOk result (IsDimensionFit (F.holds folder.now) directory.now dimension.now) }
+    ensures fit { OnOk result (IsDimensionFit (F.holds folder.now) directory.now dimension.now) }
+    ensures refused { IfErr result
+        (IsDimensionRefused (F.holds folder.now) (csv_path directory.now dimension.now.table.name)
+        dimension.now) }
 {
     let path = csv_path(alloc, directory, dimension.table.name.as_str())?;
-    let file = open_file(folder, &path)?;
-    match pass_dimension(alloc, dimension, file) {
-        Ok(()) => Ok(()),
-        Err(fault) => Err(of_load(&path, fault)),
-    }
+    check_dimension_file(alloc, folder, &path, dimension)
 }
 
 fn check_dimensions<F: Folder>(
@@ -116,8 +191,10 @@ fn check_dimensions<F: Folder>(
     directory: &str,
     dimensions: &[Dimension],
 ) -> Result<(), InitFault>
-    ensures { OnOk result
+    ensures fit { OnOk result
         (All (IsDimensionFit (F.holds folder.now) directory.now) dimensions.now) }
+    ensures refused { IfErr result
+        (IsFirstRefused (F.holds folder.now) directory.now dimensions.now) }
 {
     for dimension in dimensions {
         check_dimension(alloc, folder, directory, dimension)?;
@@ -136,6 +213,8 @@ fn check_tables<F: Folder>(
     ensures fact { OnOk result (IsFactFit (F.holds folder.now) directory.now catalog.now) }
     ensures dims { OnOk result
         (All (IsDimensionFit (F.holds folder.now) directory.now) catalog.now.dims) }
+    ensures refused { IfErr result
+        (AreTablesRefused (F.holds folder.now) directory.now catalog.now) }
 {
     check_fact(alloc, folder, directory, catalog)?;
     check_dimensions(alloc, folder, directory, catalog.dims.as_slice())
@@ -146,16 +225,24 @@ fn check_tables<F: Folder>(
 ///
 /// # Errors
 ///
-/// Out of memory, a text that is no catalogue, which is returned as such, a file that can't be
-/// read, and the first fault of a table.
+/// Out of memory, or the first thing that is wrong: a text that is no catalogue, then the fact's file
+/// and then those of the dimensions, in the catalogue's order, each because it can't be read or by the
+/// first fault of its records, the fact's also where it has over 4,294,967,296 rows.
 pub fn check_catalog<F: Folder>(
     alloc: Global,
     folder: &F,
     directory: &str,
     text: &[u8],
 ) -> Result<(), InitFault>
-    ensures { OnOk result (IsCatalogFor (F.holds folder.now) directory.now text.now) }
+    ensures fit { OnOk result (IsCatalogFor (F.holds folder.now) directory.now text.now) }
+    ensures refused { IfErr result
+        (IsCatalogRefused (F.holds folder.now) directory.now text.now) }
 {
-    let catalog = read_catalog(alloc, text)?;
-    check_tables(alloc, folder, directory, &catalog)
+    let catalog = match read_catalog(alloc, text) {
+        Ok(catalog) => catalog,
+        Err(fault) => return Err(InitFault::from(fault)),
+    };
+    let checked = check_tables(alloc, folder, directory, &catalog);
+    drop(catalog);
+    checked
 }

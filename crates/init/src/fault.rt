@@ -1,7 +1,11 @@
 //! Why no catalogue was made.
+ghost use Rattle.std.specs.Prelude.{◌≡◌};
+ghost use Rattle.init.specs.Refusing.{IsOfLoad, IsOfRefusal, IsThere, IsTooLong, IsUnread, of_catalog};
+ghost use Rattle.init.specs.declared.fault.InitFault.TheVariants as fault_is;
+
 use folders::Refusal;
 use loader::LoadFault;
-use meaning::{CatalogFault, CutFault, TableFault, Text};
+use meaning::{CatalogFault, TableFault, Text};
 use std::alloc::{AllocError, AllocFailed};
 use thiserror::Error;
 
@@ -41,15 +45,21 @@ pub enum InitFault {
     TooManyRows(String),
     #[error("{file}: load {}: {fault}", fault.number())]
     Table { file: String, fault: TableFault },
+    #[error("the text that was made is no catalogue: {0}")]
+    Catalog(CatalogFault),
 }
 
 impl From<AllocError> for InitFault {
+    ghost from_gives = { λ _ given. given ≡ fault_is.Memory };
+
     fn from(_: AllocError) -> InitFault {
         InitFault::Memory
     }
 }
 
 impl<T: Drop> From<AllocFailed<T>> for InitFault {
+    ghost from_gives = { λ _ given. given ≡ fault_is.Memory };
+
     fn from(_: AllocFailed<T>) -> InitFault {
         InitFault::Memory
     }
@@ -57,6 +67,8 @@ impl<T: Drop> From<AllocFailed<T>> for InitFault {
 
 /// Of a file that is read or written; no other refusal comes there.
 impl From<Refusal> for InitFault {
+    ghost from_gives = { λ e given. IsOfRefusal e given };
+
     fn from(refusal: Refusal) -> InitFault {
         match refusal {
             Refusal::CannotRead(path) => InitFault::CannotRead(path.into_string()),
@@ -66,15 +78,22 @@ impl From<Refusal> for InitFault {
     }
 }
 
-/// Of the text that was made, which is refused only where memory runs out.
+/// Of the text that was made.
 impl From<CatalogFault> for InitFault {
-    fn from(_: CatalogFault) -> InitFault {
-        InitFault::Memory
+    ghost from_gives = { λ e given. given ≡ of_catalog e };
+
+    fn from(fault: CatalogFault) -> InitFault {
+        match fault {
+            CatalogFault::Memory => InitFault::Memory,
+            fault => InitFault::Catalog(fault),
+        }
     }
 }
 
 /// Why a table of a file was not loaded.
-pub fn of_load(file: &Text, fault: LoadFault) -> InitFault {
+pub fn of_load(file: &Text, fault: LoadFault) -> InitFault
+    ensures { IsOfLoad file.now fault result }
+{
     let Ok(file) = file.clone() else {
         return InitFault::Memory;
     };
@@ -86,13 +105,32 @@ pub fn of_load(file: &Text, fault: LoadFault) -> InitFault {
     }
 }
 
-/// Why the rows of a file were not cut.
-pub fn of_cut(file: &Text, fault: CutFault) -> InitFault {
-    let Ok(file) = file.clone() else {
-        return InitFault::Memory;
-    };
-    match fault {
-        CutFault::Memory => InitFault::Memory,
-        _ => InitFault::TooManyRows(file.into_string()),
+/// The refusal of a file that can't be read.
+pub fn unread(path: &Text) -> InitFault
+    ensures { IsUnread path.now result }
+{
+    match path.clone() {
+        Ok(path) => InitFault::CannotRead(path.into_string()),
+        Err(_) => InitFault::Memory,
+    }
+}
+
+/// The refusal of a path under which there is a catalogue.
+pub fn catalog_there(path: &Text) -> InitFault
+    ensures { IsThere path.now result }
+{
+    match path.clone() {
+        Ok(path) => InitFault::CatalogThere(path.into_string()),
+        Err(_) => InitFault::Memory,
+    }
+}
+
+/// The refusal of a file that has more rows than a table may have.
+pub fn too_many_rows(file: &Text) -> InitFault
+    ensures { IsTooLong file.now result }
+{
+    match file.clone() {
+        Ok(file) => InitFault::TooManyRows(file.into_string()),
+        Err(_) => InitFault::Memory,
     }
 }

@@ -1,11 +1,12 @@
 //! The catalogue of a folder's CSV files.
-ghost use Rattle.std.specs.Prelude.{◌≡◌, ℕ, List, IfOk, OnErr, OnOk};
+ghost use Rattle.std.specs.Prelude.{◌≡◌, ℕ, List, IfErr, IfOk, OnErr, OnOk};
 ghost use Rattle.folders.specs.Folder.{WritesOne, catalog_path};
 ghost use Rattle.init.specs.Making.{IsCatalogFor};
+ghost use Rattle.init.specs.Refusing.{IsNotAbsent};
 
 use crate::checking::check_catalog;
 use crate::choosing::{has_file, largest};
-use crate::fault::InitFault;
+use crate::fault::{InitFault, catalog_there, unread};
 use crate::keys::{Keyed, with_key};
 use crate::listing::{CsvFile, Listing};
 use crate::naming::check_table_name;
@@ -130,13 +131,16 @@ pub fn guess_catalog<F: Folder + Listing, E: Write>(
 }
 
 // Refuses a path under which there is a file, or may be one.
-fn check_absent<F: Folder>(alloc: Global, folder: &F, path: &Text) -> Result<(), InitFault> {
+fn check_absent<F: Folder>(folder: &F, path: &Text) -> Result<(), InitFault>
+    ensures absent { OnOk result (F.lacks folder.now path.now) }
+    ensures refused { IfErr result (IsNotAbsent (F.opens folder.now) path.now) }
+{
     match folder.open(path.as_str()) {
-        Ok(_) => Err(InitFault::CatalogThere(String::from_str(alloc, path.as_str())?)),
+        Ok(_) => Err(catalog_there(path)),
         Err(error) => match error.kind() {
             ErrorKind::NotFound => Ok(()),
             ErrorKind::OutOfMemory => Err(InitFault::Memory),
-            _ => Err(InitFault::CannotRead(String::from_str(alloc, path.as_str())?)),
+            _ => Err(unread(path)),
         },
     }
 }
@@ -154,6 +158,7 @@ pub fn make_catalog<F: Folder + Listing, E: Write>(
     fact: Option<&str>,
     err: &mut E,
 ) -> Result<(), InitFault>
+    ensures absent { OnOk result (F.lacks folder.old (catalog_path directory.now)) }
     ensures made { OnOk result ((text : List ℕ)
         × IsCatalogFor (F.holds folder.old) directory.now text
         × WritesOne (catalog_path directory.now) (λ given. given ≡ text) (F.wrote folder.old)
@@ -161,7 +166,7 @@ pub fn make_catalog<F: Folder + Listing, E: Write>(
     ensures unchanged { OnErr result (F.wrote folder.new ≡ F.wrote folder.old) }
 {
     let path = catalog_path(alloc, directory)?;
-    check_absent(alloc, folder, &path)?;
+    check_absent(folder, &path)?;
     let text = guess_catalog(alloc, folder, directory, fact, err)?;
     match write_file(folder, &path, text.as_bytes()) {
         Ok(()) => Ok(()),

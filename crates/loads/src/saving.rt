@@ -38,6 +38,7 @@ fn write_rows<F: Folder>(
     ensures written { IfOk result
         (λ file. Encloses (λ bytes. Stands bytes header.now columns.now) (F.wrote folder.old)
         (F.enclosed file)) }
+    ensures created { OnOk result (F.creates folder.old path.now) }
     ensures same { F.wrote folder.new ≡ F.wrote folder.old }
     ensures held { F.holds folder.new ≡ F.holds folder.old }
     ensures refused { IfErr result (IsUnwritten path.now) }
@@ -70,6 +71,8 @@ pub fn write_fragment<F: Folder>(
         (λ file. Encloses (λ bytes. Stands bytes
         (table_header target.now.load target.now.catalog.now.fact slice) columns.now)
         (F.wrote folder.old) (F.enclosed file)) }
+    ensures created { OnOk result (F.creates folder.old
+        (fragment_path target.now.directory.now target.now.catalog.now.fact.name slice.fragment)) }
     ensures same { F.wrote folder.new ≡ F.wrote folder.old }
     ensures held { F.holds folder.new ≡ F.holds folder.old }
     ensures refused { IfErr result

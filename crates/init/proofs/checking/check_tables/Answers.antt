@@ -7,4 +7,4 @@ use Rattle.init.proofs.checking.check_tables.Goals as goal
 
 pub returns-clause-dims : goal.returns-clause-dims
 returns-clause-dims g c =
-    subst (λ (ds : List Dimension). OnOk c.check_dimensions.result (All (IsDimensionFit (g.F.Folder.holds c.args.folder.now) c.args.directory.now) ds)) c.as_slice.ensures c.check_dimensions.ensures
+    subst (λ (ds : List Dimension). OnOk c.check_dimensions.result (All (IsDimensionFit (g.F.Folder.holds c.args.folder.now) c.args.directory.now) ds)) c.as_slice.ensures c.check_dimensions.ensures.fit

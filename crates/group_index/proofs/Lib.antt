@@ -4,3 +4,4 @@ pub mod Texts
 pub mod Ends
 pub mod SelectedInts
 pub mod IntKeys
+pub mod Steps

@@ -3,7 +3,7 @@
 //! The hash table is a hint: a group index that it names is taken only after its key was compared,
 //! and a key for which it leads to none gets a new one. So what is found rests on no hash. The
 //! groups of a key with two group indexes are made one when they are handed out.
-ghost use Rattle.std.specs.Prelude.{◌≡◌, ◌≢◌, ℕ, ◌<◌, ◌≤◌, ◌∷◌, ◌++◌, [], length, slice_index_or, All, true, false, IfNone, IfOk, IfSome, OnOk};
+ghost use Rattle.std.specs.Prelude.{◌≡◌, ◌≢◌, ℕ, ◌<◌, ◌≤◌, ◌∷◌, ◌++◌, [], length, slice_get, slice_index_or, All, true, false, IfNone, IfOk, IfSome, OnOk};
 ghost use Rattle.std.specs.Str.{is_utf8};
 ghost use Rattle.meaning.specs.declared.value.Value.TheVariants.{Int, Text};
 ghost use Rattle.vectors.specs.Vector.{values_of};
@@ -23,6 +23,7 @@ use crate::plain_texts::plain_text_key;
 use crate::row_groups::{RowGroups, row_groups};
 use crate::selected_ints::selected_key;
 use aggregate_states::position;
+use hash_slots::probe_slots;
 use meaning::{Row, Sequence};
 use std::alloc::{AllocError, Global};
 use vectors::{Selection, Vector};
@@ -103,6 +104,14 @@ fn leads_to_text(slot: Slot, hash: u64, keys: &KeyList, text: &[u8]) -> bool
     keys.is_text(slot.group_index, text)
 }
 
+/// The slot to look at after so many steps, if it is there.
+#[inline(always)]
+fn slot_after(slots: &[Slot], hash: u64, step: usize) -> Option<Slot>
+    ensures { result ≡ slice_get slots.now (slot_at hash step (length slots.now)) }
+{
+    slots.get(slot_number(hash, step, slots.len())).copied()
+}
+
 /// The group index in the first slot that leads to a key, of those to which probing for its hash
 /// comes before an empty one.
 #[inline(always)]
@@ -115,29 +124,37 @@ fn probe<F: Fn(Slot) -> bool>(slots: &[Slot], hash: u64, leads: F) -> Option<u32
         → IsFull slots.now (slot_at hash step (length slots.now)) d
         → F.post leads (slice_index_or slots.now (slot_at hash step (length slots.now)) d) false) }
 {
-    for step in 0..slots.len() {
-        let slot = *slots.get(slot_number(hash, step, slots.len()))?;
-        if slot.group_index == EMPTY {
-            return None;
-        }
-        if leads(slot) {
-            return Some(slot.group_index);
-        }
+    let stop = probe_slots(
+        slots.len(),
+        |step| slot_after(slots, hash, step),
+        |slot| slot.group_index == EMPTY || leads(slot),
+    )?;
+    if stop.slot.group_index == EMPTY {
+        return None;
     }
-    None
+    Some(stop.slot.group_index)
+}
+
+/// The number of the first empty slot for a hash, if there is one.
+fn empty_slot(slots: &[Slot], hash: u64) -> Option<usize> {
+    let stop = probe_slots(
+        slots.len(),
+        |step| slot_after(slots, hash, step),
+        |slot| slot.group_index == EMPTY,
+    )?;
+    Some(slot_number(hash, stop.step, slots.len()))
 }
 
 /// Puts a group index into the first empty slot for its hash.
 fn enter(slots: &mut [Slot], hash: u64, group_index: u32) {
-    for step in 0..slots.len() {
-        let number = slot_number(hash, step, slots.len());
-        if number < slots.len() && slots[number].group_index == EMPTY {
-            slots[number] = Slot {
-                tag: tag_of(hash),
-                group_index,
-            };
-            return;
-        }
+    let Some(number) = empty_slot(slots, hash) else {
+        return;
+    };
+    if number < slots.len() {
+        slots[number] = Slot {
+            tag: tag_of(hash),
+            group_index,
+        };
     }
 }
 

@@ -13,6 +13,7 @@ pub mod Fresh
 pub mod Combining
 pub mod Handing
 pub mod SortedInts
+pub mod Ascending
 pub mod Own
 pub mod Absorbing
 pub mod Pieces

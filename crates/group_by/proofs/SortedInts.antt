@@ -22,7 +22,7 @@ use Rattle.group_by.proofs.Combining.{reverse_cons, tie}
 
 -- ---- integers with their group indexes
 
-map_push : {X Y : Type 0} (f : X → Y) (xs : List X) (x : X) → map f (xs ++ x ∷ []) ≡ map f xs ++ f x ∷ []
+pub map_push : {X Y : Type 0} (f : X → Y) (xs : List X) (x : X) → map f (xs ++ x ∷ []) ≡ map f xs ++ f x ∷ []
 map_push f [] x = refl
 map_push {Y = Y} f (y ∷ xs) x = ap (λ (ys : List Y). f y ∷ ys) (map_push f xs x)
 
@@ -107,10 +107,10 @@ ints_compare m n = then_equal (value_cmp (Int m) (Int n))
 
 -- ---- groups whose keys are apart
 
-abbrev AreUp : List Group → Type 0
+abbrev pub AreUp : List Group → Type 0
 AreUp gs = (k : ℕ) (d : Group) → k + 1 < length gs → is_lt (row_cmp (get_or gs k d).key (get_or gs (k + 1) d).key) ≡ true
 
-not_equal : (r : Ordering) → is_lt r ≡ true → is_eq r ≡ false
+pub not_equal : (r : Ordering) → is_lt r ≡ true → is_eq r ≡ false
 not_equal Less e = refl
 not_equal Equal e = cc
 not_equal Greater e = cc
@@ -120,12 +120,12 @@ not_back Less e = refl
 not_back Equal e = cc
 not_back Greater e = cc
 
-next_up : (g : Group) (gs : List Group) → AreUp (g ∷ gs) → AreUp gs
+pub next_up : (g : Group) (gs : List Group) → AreUp (g ∷ gs) → AreUp gs
 next_up g gs up k d l =
     let later : suc k + 1 ≡ suc (k + 1) = omega arith in
     sym (ap (λ n. is_lt (row_cmp (get_or gs k d).key (get_or (g ∷ gs) n d).key)) later) ∙ up (suc k) d (omega (arith, l))
 
-first_up : (g h : Group) (gs : List Group) → AreUp (g ∷ h ∷ gs) → is_lt (row_cmp g.key h.key) ≡ true
+pub first_up : (g h : Group) (gs : List Group) → AreUp (g ∷ h ∷ gs) → is_lt (row_cmp g.key h.key) ≡ true
 first_up g h gs up = up 0 g (omega arith)
 
 pub combined_up_is : (gs : List Group) → AreUp gs → combined gs ≡ gs

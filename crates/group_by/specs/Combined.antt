@@ -1,5 +1,5 @@
 -- Groups in the order of their keys, those of one key as one.
-use Rattle.std.specs.Prelude.{◌≡◌, ℕ, ◌+◌, ◌<◌, ◌≤◌, false, List, [], ◌∷◌, length, map, zip, reverse, get_or, IsPermutation, if◌then◌else◌}
+use Rattle.std.specs.Prelude.{◌≡◌, ℕ, ◌+◌, ◌<◌, ◌≤◌, true, false, List, [], ◌∷◌, length, map, zip, reverse, get_or, IsPermutation, if◌then◌else◌}
 use Rattle.std.specs.Ordering.{eq_by_cmp, is_lt}
 use Rattle.meaning.specs.declared.answer.Statistics.{Statistics}
 use Rattle.meaning.specs.declared.answer.Group.{Group}
@@ -26,6 +26,10 @@ abbrev pub Rises : List Row → Type 0
 Rises [] = Unit {0}
 Rises (x ∷ []) = Unit {0}
 Rises (x ∷ y ∷ ys) = (is_lt (row_cmp y x) ≡ false) × Rises (y ∷ ys)
+
+-- each key is less than the next
+abbrev pub DoAscend : List Row → Type 0
+DoAscend keys = (k : ℕ) (d : Row) → k + 1 < length keys → is_lt (row_cmp (get_or keys k d) (get_or keys (k + 1) d)) ≡ true
 
 -- the groups of each key stand in one order
 abbrev pub SameBeside : List Group → List Group → Type 0

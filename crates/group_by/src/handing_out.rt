@@ -1,10 +1,11 @@
 //! The groups of a table in the order of their keys, those of one key as one.
-ghost use Rattle.std.specs.Prelude.{◌≡◌, ℕ, ◌<◌, ◌≤◌, ◌+◌, ◌∷◌, length, map, reverse, slice_index_or, slice_index, sum, All, IfOk, IfSome, OnOk, IsPermutation};
+ghost use Rattle.std.specs.Prelude.{◌≡◌, ℕ, ◌<◌, ◌≤◌, ◌+◌, ◌∷◌, true, length, map, reverse, slice_index_or, slice_index, sum, All, IfOk, IfSome, OnOk, IsPermutation};
+ghost use Rattle.std.specs.Ordering.{is_lt};
 ghost use Rattle.meaning.specs.Aggregate.{merge, no_statistics};
 ghost use Rattle.meaning.specs.Group.{merge_groups};
-ghost use Rattle.meaning.specs.Order.{row_cmp};
+ghost use Rattle.meaning.specs.Order.{Row as ARow, row_cmp};
 ghost use Rattle.aggregate_states.specs.State.{most_entries};
-ghost use Rattle.group_by.specs.Combined.{combined, put_before, zipped, AreFit, AreMergeable, IsInOrder, MergesWithFirst, Rises, SameBeside};
+ghost use Rattle.group_by.specs.Combined.{combined, put_before, zipped, AreFit, DoAscend, AreMergeable, IsInOrder, MergesWithFirst, Rises, SameBeside};
 ghost use Rattle.group_by.specs.IntGroups.{AreOrdered};
 ghost use Rattle.group_by.specs.GroupIndexes.{by_group_index, group_at, state_at, state_in};
 
@@ -192,6 +193,43 @@ fn combine(alloc: Global, groups: Vec<Group>, width: usize) -> Result<Vec<Group>
     Ok(out)
 }
 
+fn comes_before(keys: &[Row], k: usize) -> bool
+    requires { k + 1 < length keys.now }
+    ensures { (d : ARow) → result ≡ true
+        → is_lt (row_cmp (slice_index_or keys.now k d) (slice_index_or keys.now (k + 1) d)) ≡ true }
+{
+    compare_keys(&keys[k], &keys[k + 1]).is_lt()
+}
+
+/// Whether each key is less than the next.
+fn do_ascend(keys: &[Row]) -> bool
+    ensures { result ≡ true → DoAscend keys.now }
+{
+    for k in 1..keys.len() {
+        if !comes_before(keys, k - 1) {
+            return false;
+        }
+    }
+    true
+}
+
+/// The groups of keys that ascend, none of them moved to another place.
+fn ascending(
+    alloc: Global,
+    keys: Vec<Row>,
+    rows: &[u64],
+    columns: &[OrderedStates<'_>],
+) -> Result<Vec<Group>, AllocError>
+    requires ascending { DoAscend keys.items }
+    requires rows { length rows.now ≡ length keys.items }
+    requires columns { All (λ c. length c.states ≡ length keys.items) columns.now }
+    ensures { IfOk result (λ groups. IsInOrder keys.items rows.now columns.now groups.items) }
+{
+    let mut groups = last_first(alloc, keys, rows, columns)?;
+    groups.reverse();
+    Ok(groups)
+}
+
 /// The groups in the order of their keys, those of one key as one.
 fn rows_in_order(
     alloc: Global,
@@ -206,6 +244,9 @@ fn rows_in_order(
         → (state_at columns.now c group_index).count ≤ slice_index rows.now group_index }
     ensures { IfOk result (λ groups. IsInOrder keys.items rows.now columns.now groups.items) }
 {
+    if do_ascend(keys.as_slice()) {
+        return ascending(alloc, keys, rows, columns);
+    }
     let mut groups = last_first(alloc, keys, rows, columns)?;
     match sort(&mut groups) {
         Ok(()) => combine(alloc, groups, columns.len()),

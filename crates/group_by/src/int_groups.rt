@@ -91,6 +91,9 @@ pub fn ordered_ints(alloc: Global, ints: &[i64]) -> Result<Option<Vec<IntGroup>>
         (λ indexed. AreOrdered (int_keys ints.now) indexed.items)) }
 {
     let mut indexed = int_groups(alloc, ints)?;
+    if are_apart(indexed.as_slice()) {
+        return Ok(Some(indexed));
+    }
     indexed.reverse();
     sort_ints(&mut indexed)?;
     if !are_apart(indexed.as_slice()) {

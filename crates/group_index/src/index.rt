@@ -49,7 +49,16 @@ pub struct KeyIndex {
     led: usize,
     // A power of two of them, at least half of them empty.
     slots: Vec<Slot>,
+    // How many of the first keys came in order, each behind all before it.
+    ordered: usize,
+    // How many of the last keys the hash table doesn't lead to, since they came in order.
+    unled: u32,
+    // Where the next of keys that come in order is expected.
+    next: u32,
 }
+
+// How many keys are looked at from the one that is expected on.
+const STEPS: u32 = 4;
 
 #[inline(always)]
 fn tag_of(hash: u64) -> u32
@@ -158,9 +167,20 @@ fn enter(slots: &mut [Slot], hash: u64, group_index: u32) {
     }
 }
 
-/// The same of each key before a group index.
-fn enter_all(slots: &mut [Slot], keys: &KeyList, before: u32) {
-    for group_index in 0..before {
+/// So many empty slots, raised to a power of two.
+fn empty_slots(alloc: Global, many: usize) -> Result<Vec<Slot>, AllocError> {
+    let Some(many) = many.checked_next_power_of_two() else {
+        return Err(AllocError);
+    };
+    Ok(vec![in alloc; Slot {
+        tag: 0,
+        group_index: EMPTY
+    }; many]?)
+}
+
+/// The same of each key from one group index up to another.
+fn enter_all(slots: &mut [Slot], keys: &KeyList, from: u32, before: u32) {
+    for group_index in from..before {
         if let Some(hash) = keys.hash_of(group_index) {
             enter(slots, hash, group_index);
         }
@@ -176,6 +196,9 @@ impl KeyIndex {
             keys: KeyList::new(alloc),
             led: 0,
             slots: Vec::new(alloc),
+            ordered: 0,
+            unled: 0,
+            next: 0,
         }
     }
 
@@ -218,11 +241,8 @@ impl KeyIndex {
             return Ok(());
         }
         let many = self.slots.len().saturating_mul(2).max(LEAST_SLOTS);
-        let mut slots = vec![in alloc; Slot {
-            tag: 0,
-            group_index: EMPTY
-        }; many]?;
-        enter_all(slots.as_mut_slice(), &self.keys, before);
+        let mut slots = empty_slots(alloc, many)?;
+        enter_all(slots.as_mut_slice(), &self.keys, 0, before);
         self.slots = slots;
         Ok(())
     }
@@ -293,8 +313,68 @@ impl KeyIndex {
         self.push_lanes(alloc, hash, lanes, at, below)
     }
 
-    /// The group index of a key, which gets one where it has none. On an error the keys are open.
-    pub fn group_index_of_row(&mut self, alloc: Global, row: &Row) -> Result<u32, AllocError>
+    /// Has the hash table lead to every key. It is made anew where less than half of it would be
+    /// empty.
+    fn lead_all(&mut self, alloc: Global) -> Result<(), AllocError>
+        ensures { self.new.keys ≡ self.old.keys }
+    {
+        let Ok(many) = u32::try_from(self.keys.len()) else {
+            return Err(AllocError);
+        };
+        let mut from = many.saturating_sub(self.unled);
+        if many as usize >= self.slots.len() / 2 {
+            let room = (many as usize).saturating_mul(2).saturating_add(1);
+            self.slots = empty_slots(alloc, room.max(LEAST_SLOTS))?;
+            from = 0;
+        }
+        enter_all(self.slots.as_mut_slice(), &self.keys, from, many);
+        self.led = many as usize;
+        self.unled = 0;
+        Ok(())
+    }
+
+    /// The group index of a key that is one of the few from the expected one on.
+    #[inline(always)]
+    fn find_next(&self, row: &Row) -> Option<u32>
+        ensures { IfSome result (λ group_index. (group_index < length self.now.keys)
+            × (slice_index_or self.now.keys group_index [] ≡ row.now)) }
+    {
+        if self.next as usize >= self.keys.len() {
+            return None;
+        }
+        for step in 0..STEPS {
+            let group_index = self.next.saturating_add(step);
+            if self.keys.is_row(group_index, row) {
+                return Some(group_index);
+            }
+        }
+        None
+    }
+
+    /// Whether all keys came in order, and this one comes behind them.
+    #[inline(always)]
+    fn is_behind_all(&self, row: &Row) -> bool {
+        self.ordered == self.keys.len() && self.keys.is_behind_last(row)
+    }
+
+    /// A group index for a new key behind all others. The hash table leads to it once another key
+    /// is looked for there.
+    fn append(&mut self, alloc: Global, row: &Row) -> Result<u32, AllocError>
+        ensures group_index { IfOk result (λ group_index. group_index ≡ length self.old.keys) }
+        ensures keys { OnOk result (self.new.keys ≡ self.old.keys ++ row.now ∷ []) }
+    {
+        let Ok(group_index) = u32::try_from(self.keys.len()) else {
+            return Err(AllocError);
+        };
+        self.keys.push_copy(alloc, row)?;
+        self.ordered = self.ordered.saturating_add(1);
+        self.unled = self.unled.saturating_add(1);
+        Ok(group_index)
+    }
+
+    /// The group index of a key, which gets one where it has none, by the hash table. On an error
+    /// the keys are open.
+    fn group_index_by_hash(&mut self, alloc: Global, row: &Row) -> Result<u32, AllocError>
         ensures { IfOk result (λ group_index. IsFound row.now self.old.keys group_index
             self.new.keys) }
     {
@@ -307,6 +387,38 @@ impl KeyIndex {
         }
         let key = copy_key(alloc, row)?;
         self.push(alloc, hash, key)
+    }
+
+    /// The same, where the key is looked for in order first.
+    #[inline(always)]
+    fn group_index_in_order(&mut self, alloc: Global, row: &Row) -> Result<u32, AllocError>
+        ensures { IfOk result (λ group_index. IsFound row.now self.old.keys group_index
+            self.new.keys) }
+    {
+        if let Some(group_index) = self.find_next(row) {
+            return Ok(group_index);
+        }
+        if self.is_behind_all(row) {
+            return self.append(alloc, row);
+        }
+        if self.unled > 0 {
+            self.lead_all(alloc)?;
+        }
+        self.group_index_by_hash(alloc, row)
+    }
+
+    /// The group index of a key, which gets one where it has none. On an error the keys are open.
+    ///
+    /// Keys that come in order take one pass beside those that are there: each is looked for from
+    /// the one before on, and one behind all others is put there unhashed. A key that comes out of
+    /// order takes a look in the hash table.
+    pub fn group_index_of_row(&mut self, alloc: Global, row: &Row) -> Result<u32, AllocError>
+        ensures { IfOk result (λ group_index. IsFound row.now self.old.keys group_index
+            self.new.keys) }
+    {
+        let group_index = self.group_index_in_order(alloc, row)?;
+        self.next = group_index.saturating_add(1);
+        Ok(group_index)
     }
 
     /// The group index of the empty key, for each selected row. On an error the keys are open.
@@ -657,6 +769,9 @@ impl KeyIndex {
         if lanes.is_empty() {
             return self.group_indexes_without_keys(alloc, selection);
         }
+        if self.unled > 0 {
+            self.lead_all(alloc)?;
+        }
         Ok(row_groups(self.find_each(alloc, lanes, selection)?))
     }
 
@@ -691,6 +806,9 @@ impl KeyIndex {
             keys,
             led: self.led,
             slots,
+            ordered: self.ordered,
+            unled: self.unled,
+            next: self.next,
         })
     }
 }

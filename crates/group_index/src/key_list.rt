@@ -9,8 +9,8 @@ ghost use Rattle.group_index.specs.Rows.{int_keys, row_at};
 use crate::close_ints::{NOWHERE, close_group_index, enter, window_of};
 use crate::hashing::{hash_alone, hash_int, hash_row};
 use crate::keys::{
-    copy_key, is_int, is_int_value, is_key, is_lane_int, is_lane_value, is_row, is_row_value,
-    is_same_int, is_text_key, is_text_value, key_of_value, only_value,
+    compare_keys, copy_key, is_int, is_int_value, is_key, is_lane_int, is_lane_value, is_row,
+    is_row_value, is_same_int, is_text_key, is_text_value, key_of_value, only_int, only_value,
 };
 use meaning::{Row, Value};
 use std::alloc::{AllocError, Global};
@@ -188,6 +188,28 @@ fn push_row(alloc: Global, held: Held, key: Row) -> Result<Held, AllocError>
     let mut rows = held_as_rows(alloc, held)?;
     rows.push(key)?;
     Ok(Held::Rows(rows))
+}
+
+#[inline(always)]
+fn is_int_behind(last: Option<&i64>, key: &Row) -> bool {
+    match (last, only_int(key)) {
+        (Some(last), Some(int)) => last < int,
+        (last, _) => last.is_none(),
+    }
+}
+
+fn is_value_behind(last: Option<&Value>, key: &Row) -> bool {
+    match (last, key.as_slice()) {
+        (Some(last), [value]) => last < value,
+        (last, _) => last.is_none(),
+    }
+}
+
+fn is_row_behind(last: Option<&Row>, key: &Row) -> bool {
+    match last {
+        Some(last) => compare_keys(last, key).is_lt(),
+        None => true,
+    }
 }
 
 impl KeyList {
@@ -399,6 +421,27 @@ impl KeyList {
         let held = replace(&mut self.held, Held::Rows(Vec::new(alloc)));
         self.held = push_row(alloc, held, key)?;
         Ok(())
+    }
+
+    /// A copy of a key more. On an error the keys are open.
+    pub fn push_copy(&mut self, alloc: Global, key: &Row) -> Result<(), AllocError>
+        ensures { OnOk result (self.new ≡ self.old ++ key.now ∷ []) }
+    {
+        if let Some(int) = only_int(key) {
+            return self.push_int(alloc, int);
+        }
+        let key = copy_key(alloc, key)?;
+        self.push(alloc, key)
+    }
+
+    /// Whether a key comes behind the last of these in their order, where both are of one kind.
+    #[inline(always)]
+    pub fn is_behind_last(&self, key: &Row) -> bool {
+        match &self.held {
+            Held::Ints(ints) => is_int_behind(ints.as_slice().last(), key),
+            Held::Values(values) => is_value_behind(values.as_slice().last(), key),
+            Held::Rows(rows) => is_row_behind(rows.as_slice().last(), key),
+        }
     }
 
     /// The integers that are keys alone, where all keys are.

@@ -13,6 +13,7 @@ use std::cmp::Ordering;
 use vectors::Vector;
 
 /// Whether a value stands in the lane.
+#[inline(always)]
 fn has_value(item: &Vector<'_>, lane: usize) -> bool
     ensures there { result ≡ true → lane < length (values_of item.now) }
     ensures past { result ≡ false → length (values_of item.now) ≤ lane }
@@ -25,6 +26,7 @@ fn has_value(item: &Vector<'_>, lane: usize) -> bool
 }
 
 /// The value of a lane, and NULL past the end.
+#[inline(always)]
 pub fn lane_value<'a>(item: &Vector<'a>, lane: usize) -> ValueRef<'a>
     ensures { value_in result ≡ slice_index_or (values_of item.now) lane Null }
 {
@@ -35,6 +37,7 @@ pub fn lane_value<'a>(item: &Vector<'a>, lane: usize) -> ValueRef<'a>
 }
 
 /// The value that an item gives in a lane, and NULL past the last item.
+#[inline(always)]
 pub fn item_value<'a>(items: &[Vector<'a>], item: usize, lane: usize) -> ValueRef<'a>
     ensures { value_in result ≡ column (lane_row items.now lane) item }
 {
@@ -45,6 +48,7 @@ pub fn item_value<'a>(items: &[Vector<'a>], item: usize, lane: usize) -> ValueRe
 }
 
 /// The order by one item. DESC turns it round, also for NULL.
+#[inline(always)]
 fn compare_by(key: &OrderKey, items: &[Vector<'_>], one: usize, other: usize) -> Ordering
     ensures { result ≡ by_key key.now (lane_row items.now one) (lane_row items.now other) }
 {

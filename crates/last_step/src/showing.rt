@@ -17,7 +17,7 @@ use crate::columns::batch_of;
 use crate::lanes::lane_value;
 use crate::run::Run;
 use crate::shown::evaluate;
-use crate::sorting::{are_few, best_positions};
+use crate::sorting::{FEW_ROWS, best_positions};
 use crate::stop::Stop;
 use aggregate_states::{Group, owned};
 use meaning::{Plan, Row, Sequence, Value};
@@ -25,8 +25,13 @@ use std::alloc::{AllocError, Global};
 use std::mem::drop;
 use vectors::{Batch, Selection, Vector};
 
-/// How many groups are evaluated at once where few rows are left of them, or none is evaluated.
-const BATCH_GROUPS: usize = 4096;
+/// How many groups are taken at once where few rows are left of them, or none is evaluated: so few
+/// that the cache holds them.
+const BATCH_GROUPS: usize = 1024;
+
+/// Of how many groups a batch picks a row at least, so that the rows picked are few beside the
+/// groups.
+const GROUPS_A_ROW: usize = 16;
 
 /// How many groups are best taken at once: a batch that the cache holds, or, where many rows may be
 /// left of it, all that a batch may have, so that they are sorted as columns.
@@ -34,10 +39,13 @@ pub fn batch_groups(plan: &Plan) -> usize
     ensures some { 0 < result }
     ensures few { result < 2 ^ 32 }
 {
-    if plan.plain || are_few(plan) {
+    if plan.plain {
         return BATCH_GROUPS;
     }
-    u32::MAX as usize
+    match plan.limit {
+        Some(most) if most <= FEW_ROWS => BATCH_GROUPS.max(most as usize * GROUPS_A_ROW),
+        _ => u32::MAX as usize,
+    }
 }
 
 /// A row in memory of its own.

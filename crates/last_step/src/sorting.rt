@@ -16,7 +16,7 @@ use std::cmp::Ordering;
 use vectors::{Selection, Vector};
 
 /// Up to so many rows are picked from each batch, and more are sorted at once.
-const FEW_ROWS: u64 = 256;
+pub const FEW_ROWS: u64 = 256;
 
 /// The value by which ORDER BY sorts first.
 fn first_value<'a>(order: &[OrderKey], items: &[Vector<'a>], lane: usize) -> ValueRef<'a>
@@ -162,7 +162,7 @@ fn arranged_positions(
 }
 
 /// Whether LIMIT leaves few rows.
-pub fn are_few(plan: &Plan) -> bool {
+fn are_few(plan: &Plan) -> bool {
     match plan.limit {
         Some(most) => most <= FEW_ROWS,
         None => false,

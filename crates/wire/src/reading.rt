@@ -1,4 +1,6 @@
 //! Readers: each takes a part from the front of the bytes, and gives it with the bytes behind it.
+ghost use Rattle.std.specs.Int.{cast_signed, w64, w128};
+ghost use Rattle.byteorder.specs.Endian.{little_number};
 ghost use Rattle.std.specs.Prelude.{◌≡◌};
 ghost use Rattle.wire.specs.Reading.{Reads, behind_magic, bytes_at, i64_at, i128_at, number_at, text_at, utf8_of};
 
@@ -56,24 +58,40 @@ pub fn take_u64(bytes: &[u8]) -> Result<(u64, &[u8]), WireFault>
     Ok((LittleEndian::read_u64(bytes), &bytes[8..]))
 }
 
+/// The number in eight bytes. As an array they are read at once.
+#[inline(always)]
+fn i64_of(bytes: &[u8; 8]) -> i64
+    ensures { result ≡ cast_signed w64 (little_number 8 bytes.now) }
+{
+    i64::from_le_bytes(*bytes)
+}
+
+/// The same of sixteen bytes.
+#[inline(always)]
+fn i128_of(bytes: &[u8; 16]) -> i128
+    ensures { result ≡ cast_signed w128 (little_number 16 bytes.now) }
+{
+    i128::from_le_bytes(*bytes)
+}
+
 #[tactic(auto, unfolding(crate::specs::Reading::i64_at, crate::specs::Reading::number_at))]
 pub fn take_i64(bytes: &[u8]) -> Result<(i64, &[u8]), WireFault>
     ensures { Reads (λ x. (x.0, x.1.now)) result (i64_at bytes.now) }
 {
-    if bytes.len() < 8 {
+    let Some((number, rest)) = bytes.split_first_chunk::<8>() else {
         return Err(WireFault::Truncated);
-    }
-    Ok((LittleEndian::read_i64(bytes), &bytes[8..]))
+    };
+    Ok((i64_of(number), rest))
 }
 
 #[tactic(auto, unfolding(crate::specs::Reading::i128_at, crate::specs::Reading::number_at))]
 pub fn take_i128(bytes: &[u8]) -> Result<(i128, &[u8]), WireFault>
     ensures { Reads (λ x. (x.0, x.1.now)) result (i128_at bytes.now) }
 {
-    if bytes.len() < 16 {
+    let Some((number, rest)) = bytes.split_first_chunk::<16>() else {
         return Err(WireFault::Truncated);
-    }
-    Ok((LittleEndian::read_i128(bytes), &bytes[16..]))
+    };
+    Ok((i128_of(number), rest))
 }
 
 /// The bytes as a text.

@@ -12,8 +12,18 @@ fn count_to_full(alloc: Global, cut: &Cut) -> Result<(Ended, Gather), WholeFault
     count(alloc, cut, &mut out)
 }
 
+fn is_writer(fault: WholeFault) -> bool {
+    matches!(fault, WholeFault::Writer)
+}
+
 fn is_returned(alloc: Global, cut: &Cut) -> bool {
-    matches!(count_to_full(alloc, cut), Err(WholeFault::Writer))
+    match count_to_full(alloc, cut) {
+        Err(fault) => is_writer(fault),
+        Ok(counted) => {
+            drop(counted);
+            false
+        }
+    }
 }
 
 #[test]

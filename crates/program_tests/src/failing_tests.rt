@@ -2,6 +2,7 @@
 use crate::memory_folder::MemoryFolder;
 use cli::{command, run};
 use std::alloc::Global;
+use std::mem::drop;
 use std::process::Abort;
 use std::test::Fail;
 
@@ -14,13 +15,20 @@ const FILES: &[(&str, &[u8])] = &[
     ("sales/store.csv", b"k\n10\n20\n"),
 ];
 
+/// What went to standard output and to standard error, behind the exit status.
+fn shown(alloc: Global, status: u8, out: Vec<u8>, err: Vec<u8>) -> Result<String, Fail> {
+    let out = String::from_utf8(out)?;
+    let err = String::from_utf8(err)?;
+    Ok(format!(in alloc; "{status} [{out}] [{err}]")?)
+}
+
 /// The exit status, what went to standard output, and what went to standard error.
 fn outcome(alloc: Global, folder: &mut MemoryFolder<'_>, words: &[&str]) -> Result<String, Fail> {
     let command = command(alloc, words)?;
     let (mut out, mut err) = (Vec::new(alloc), Vec::new(alloc));
     let status = run(alloc, &command, folder, &mut out, &mut err);
-    let (out, err) = (String::from_utf8(out)?, String::from_utf8(err)?);
-    Ok(format!(in alloc; "{status} [{out}] [{err}]")?)
+    drop(command);
+    shown(alloc, status, out, err)
 }
 
 const LOAD: &[&str] = &["load", "sales", "--load", "7", "--rows", "2"];

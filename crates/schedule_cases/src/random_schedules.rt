@@ -105,6 +105,12 @@ fn says_the_same(alloc: Global, a: &Gather, b: &Gather) -> Result<bool, AllocErr
     }
 }
 
+fn says_as(alloc: Global, gather: &Gather, other: Gather) -> Result<bool, AllocError> {
+    let is_same = says_the_same(alloc, gather, &other);
+    drop(other);
+    is_same
+}
+
 // Whether it says the same as a coordinator of this job that takes a set's files.
 fn says_the_set(
     alloc: Global,
@@ -116,7 +122,7 @@ fn says_the_set(
     requires { IsSoundPlan job.plan }
 {
     match wanted(alloc, job, set, files) {
-        Ok(heard) => says_the_same(alloc, gather, &heard),
+        Ok(heard) => says_as(alloc, gather, heard),
         Err(e) => Err(e),
     }
 }

@@ -156,6 +156,17 @@ fn taken_of<'a>(
     }
 }
 
+fn show_taken(
+    alloc: Global,
+    gather: &mut Gather,
+    taken: Taken<'_>,
+    shown: &mut String,
+) -> Result<(), AllocError> {
+    let result = show_taking(alloc, gather, &taken, shown);
+    drop(taken);
+    result
+}
+
 fn show_line(
     alloc: Global,
     job: &[&str],
@@ -164,9 +175,10 @@ fn show_line(
     files: &[StoredFile],
     shown: &mut String,
 ) -> Result<(), AllocError> {
-    match taken_of(alloc, job, line, files)? {
-        Some(taken) => show_taking(alloc, gather, &taken, shown),
-        None => writeln!(shown, "(no event: {line})"),
+    match taken_of(alloc, job, line, files) {
+        Ok(Some(taken)) => show_taken(alloc, gather, taken, shown),
+        Ok(None) => writeln!(shown, "(no event: {line})"),
+        Err(fault) => Err(fault),
     }
 }
 

@@ -3,9 +3,10 @@ use crate::body::show_body;
 use crate::cursor::Cursor;
 use crate::damage::{Stop, Wrong};
 use crate::detail::Detail;
-use crate::job_head::{put_head, put_shape, take_head, take_shape};
+use crate::job_head::{JobHead, Shape, put_head, put_shape, take_head, take_shape};
 use partial_codec::{Content, Format, format_in};
-use std::alloc::Global;
+use std::alloc::{AllocError, Global};
+use std::mem::drop;
 
 /// The most records that a journal has.
 const MOST_RECORDS: u32 = 1 << 20;
@@ -20,6 +21,72 @@ fn take_format(cursor: &mut Cursor<'_>) -> Result<Format, Stop> {
     }
 }
 
+/// What stands before the shape of a record's answer.
+#[derive(Clone, Copy)]
+struct AnswerHead<'a> {
+    number: u32,
+    at: usize,
+    size: usize,
+    format: Format,
+    job: JobHead<'a>,
+    fragment: u32,
+}
+
+fn take_answer_head<'a>(cursor: &mut Cursor<'a>, number: u32) -> Result<AnswerHead<'a>, Stop> {
+    let at = cursor.at();
+    let size = cursor.left();
+    let format = take_format(cursor)?;
+    let job = take_head(cursor)?;
+    let fragment = cursor.take_u32("the fragment")?;
+    Ok(AnswerHead {
+        number,
+        at,
+        size,
+        format,
+        job,
+        fragment,
+    })
+}
+
+/// Shows what the job is, where this is the first record.
+fn put_job(out: &mut String, head: &AnswerHead<'_>, shape: &Shape) -> Result<(), AllocError> {
+    if head.number != 0 {
+        return Ok(());
+    }
+    put_head(out, &head.job)?;
+    put_shape(out, shape)
+}
+
+fn put_record(out: &mut String, head: &AnswerHead<'_>) -> Result<(), AllocError> {
+    let AnswerHead {
+        number,
+        at,
+        size,
+        fragment,
+        ..
+    } = *head;
+    let numbered = head.format.number();
+    write!(
+        out,
+        "record {number} at byte {at}, {size} bytes in format {numbered}, fragment {fragment}: "
+    )
+}
+
+/// Shows what is behind an answer's shape.
+fn show_shaped(
+    alloc: Global,
+    cursor: &mut Cursor<'_>,
+    head: &AnswerHead<'_>,
+    shape: &Shape,
+    detail: Detail,
+    out: &mut String,
+) -> Result<(), Stop> {
+    put_job(out, head, shape)?;
+    put_record(out, head)?;
+    show_body(alloc, cursor, shape, detail, out)?;
+    cursor.take_seal()
+}
+
 /// Shows the answer of a record, behind what its job is where it is the first.
 fn show_answer_of(
     alloc: Global,
@@ -28,23 +95,11 @@ fn show_answer_of(
     detail: Detail,
     out: &mut String,
 ) -> Result<(), Stop> {
-    let at = cursor.at();
-    let size = cursor.left();
-    let format = take_format(cursor)?;
-    let head = take_head(cursor)?;
-    let fragment = cursor.take_u32("the fragment")?;
-    let shape = take_shape(alloc, cursor, format)?;
-    if number == 0 {
-        put_head(out, &head)?;
-        put_shape(out, &shape)?;
-    }
-    let numbered = format.number();
-    write!(
-        out,
-        "record {number} at byte {at}, {size} bytes in format {numbered}, fragment {fragment}: "
-    )?;
-    show_body(alloc, cursor, &shape, detail, out)?;
-    cursor.take_seal()
+    let head = take_answer_head(cursor, number)?;
+    let shape = take_shape(alloc, cursor, head.format)?;
+    let shown = show_shaped(alloc, cursor, &head, &shape, detail, out);
+    drop(shape);
+    shown
 }
 
 /// Shows the record behind an open gate.

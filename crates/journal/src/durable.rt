@@ -175,7 +175,8 @@ impl<D: Disk + Drop> DurableGather<D> {
     pub fn into_disk(self) -> D
         ensures { D.shown result ≡ self.disk }
     {
-        let DurableGather { disk, .. } = self;
+        let DurableGather { disk, gather, .. } = self;
+        drop(gather);
         disk
     }
 

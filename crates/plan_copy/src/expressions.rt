@@ -2,8 +2,9 @@
 ghost use Rattle.std.specs.Prelude.{◌≡◌, IfOk};
 ghost use Rattle.meaning.specs.declared.expr.Expr.TheVariants as node;
 
-use meaning::{ArithmeticOperator, Arm, Boxed, ComparisonOperator, Expr, Sequence, Text};
+use meaning::{ArithmeticOperator, Arm, Boxed, ComparisonOperator, Expr, Sequence, Text, Value};
 use std::alloc::{AllocError, Global};
+use std::mem::drop;
 
 #[cycle(copy)]
 fn copy_part(alloc: Global, part: &Boxed<Expr>) -> Result<Boxed<Expr>, AllocError>
@@ -17,41 +18,82 @@ fn copy_part(alloc: Global, part: &Boxed<Expr>) -> Result<Boxed<Expr>, AllocErro
 pub fn copy_expr(alloc: Global, expr: &Expr) -> Result<Expr, AllocError>
     ensures { IfOk result (λ copy. copy ≡ expr.now) }
 {
-    Ok(match expr {
-        Expr::Column(column) => Expr::Column(*column),
-        Expr::Joined { join, column } => Expr::Joined {
+    match expr {
+        Expr::Column(column) => Ok(Expr::Column(*column)),
+        Expr::Joined { join, column } => Ok(Expr::Joined {
             join: *join,
             column: *column,
-        },
-        Expr::Key(key) => Expr::Key(*key),
-        Expr::Aggregate(aggregate) => Expr::Aggregate(*aggregate),
-        Expr::Literal(value) => Expr::Literal(value.clone()?),
-        Expr::Minus(part) => Expr::Minus(copy_part(alloc, part)?),
-        Expr::Arithmetic(operator, left, right) => copy_arithmetic(alloc, *operator, left, right)?,
-        Expr::Compare(operator, left, right) => copy_comparison(alloc, *operator, left, right)?,
-        Expr::Not(part) => Expr::Not(copy_part(alloc, part)?),
-        Expr::And(left, right) => Expr::And(copy_part(alloc, left)?, copy_part(alloc, right)?),
-        Expr::Or(left, right) => Expr::Or(copy_part(alloc, left)?, copy_part(alloc, right)?),
-        Expr::IsNull { negated, subject } => copy_is_null(alloc, *negated, subject)?,
+        }),
+        Expr::Key(key) => Ok(Expr::Key(*key)),
+        Expr::Aggregate(aggregate) => Ok(Expr::Aggregate(*aggregate)),
+        Expr::Literal(value) => copy_literal(value),
+        Expr::Minus(part) => copy_minus(alloc, part),
+        Expr::Arithmetic(operator, left, right) => copy_arithmetic(alloc, *operator, left, right),
+        Expr::Compare(operator, left, right) => copy_comparison(alloc, *operator, left, right),
+        Expr::Not(part) => copy_not(alloc, part),
+        Expr::And(left, right) => copy_and(alloc, left, right),
+        Expr::Or(left, right) => copy_or(alloc, left, right),
+        Expr::IsNull { negated, subject } => copy_is_null(alloc, *negated, subject),
         Expr::Between {
             negated,
             subject,
             low,
             high,
-        } => copy_between(alloc, *negated, subject, low, high)?,
+        } => copy_between(alloc, *negated, subject, low, high),
         Expr::In {
             negated,
             subject,
             list,
-        } => copy_in(alloc, *negated, list, subject)?,
+        } => copy_in(alloc, *negated, list, subject),
         Expr::Like {
             negated,
             subject,
             pattern,
-        } => copy_like(alloc, *negated, subject, pattern)?,
-        Expr::Coalesce(parts) => Expr::Coalesce(copy_exprs(alloc, parts.as_slice())?),
-        Expr::Case { arms, otherwise } => copy_case(alloc, arms, otherwise)?,
-    })
+        } => copy_like(alloc, *negated, subject, pattern),
+        Expr::Coalesce(parts) => copy_coalesce(alloc, parts),
+        Expr::Case { arms, otherwise } => copy_case(alloc, arms, otherwise),
+    }
+}
+
+fn copy_literal(value: &Value) -> Result<Expr, AllocError>
+    ensures { IfOk result (λ copy. copy ≡ node.Literal value.now) }
+{
+    Ok(Expr::Literal(value.clone()?))
+}
+
+#[cycle(copy)]
+fn copy_minus(alloc: Global, part: &Boxed<Expr>) -> Result<Expr, AllocError>
+    ensures { IfOk result (λ copy. copy ≡ node.Minus part.now) }
+{
+    Ok(Expr::Minus(copy_part(alloc, part)?))
+}
+
+#[cycle(copy)]
+fn copy_not(alloc: Global, part: &Boxed<Expr>) -> Result<Expr, AllocError>
+    ensures { IfOk result (λ copy. copy ≡ node.Not part.now) }
+{
+    Ok(Expr::Not(copy_part(alloc, part)?))
+}
+
+#[cycle(copy)]
+fn copy_and(alloc: Global, left: &Boxed<Expr>, right: &Boxed<Expr>) -> Result<Expr, AllocError>
+    ensures { IfOk result (λ copy. copy ≡ node.And left.now right.now) }
+{
+    Ok(Expr::And(copy_part(alloc, left)?, copy_part(alloc, right)?))
+}
+
+#[cycle(copy)]
+fn copy_or(alloc: Global, left: &Boxed<Expr>, right: &Boxed<Expr>) -> Result<Expr, AllocError>
+    ensures { IfOk result (λ copy. copy ≡ node.Or left.now right.now) }
+{
+    Ok(Expr::Or(copy_part(alloc, left)?, copy_part(alloc, right)?))
+}
+
+#[cycle(copy)]
+fn copy_coalesce(alloc: Global, parts: &Sequence<Expr>) -> Result<Expr, AllocError>
+    ensures { IfOk result (λ copy. copy ≡ node.Coalesce parts.now) }
+{
+    Ok(Expr::Coalesce(copy_exprs(alloc, parts.as_slice())?))
 }
 
 #[cycle(copy)]
@@ -168,10 +210,22 @@ pub fn copy_exprs(alloc: Global, exprs: &[Expr]) -> Result<Sequence<Expr>, Alloc
 fn copy_arm(alloc: Global, arm: &Arm) -> Result<Arm, AllocError>
     ensures { IfOk result (λ copy. copy ≡ arm.now) }
 {
-    Ok(Arm {
-        when: copy_expr(alloc, &arm.when)?,
-        then: copy_expr(alloc, &arm.then)?,
-    })
+    let when = copy_expr(alloc, &arm.when)?;
+    arm_of(when, copy_expr(alloc, &arm.then), arm)
+}
+
+fn arm_of(when: Expr, then: Result<Expr, AllocError>, arm: &Arm) -> Result<Arm, AllocError>
+    requires when { when ≡ arm.now.when }
+    requires then { IfOk then (λ copy. copy ≡ arm.now.then) }
+    ensures { IfOk result (λ copy. copy ≡ arm.now) }
+{
+    match then {
+        Ok(then) => Ok(Arm { when, then }),
+        Err(error) => {
+            drop(when);
+            Err(error)
+        }
+    }
 }
 
 #[cycle(copy)]

@@ -142,41 +142,24 @@ pub fn gather(
         Expr::Aggregate { .. } => add(alloc, scope, expr, out),
         Expr::Minus(a) => gather(alloc, scope, a.get(), out),
         Expr::Arithmetic { left, right, .. } => {
-            gather(alloc, scope, left.get(), out)?;
-            gather(alloc, scope, right.get(), out)
+            gather_two(alloc, scope, left.get(), right.get(), out)
         }
-        Expr::Compare { left, right, .. } => {
-            gather(alloc, scope, left.get(), out)?;
-            gather(alloc, scope, right.get(), out)
-        }
+        Expr::Compare { left, right, .. } => gather_two(alloc, scope, left.get(), right.get(), out),
         Expr::Not(a) => gather(alloc, scope, a.get(), out),
-        Expr::And { left, right } => {
-            gather(alloc, scope, left.get(), out)?;
-            gather(alloc, scope, right.get(), out)
-        }
-        Expr::Or { left, right } => {
-            gather(alloc, scope, left.get(), out)?;
-            gather(alloc, scope, right.get(), out)
-        }
+        Expr::And { left, right } => gather_two(alloc, scope, left.get(), right.get(), out),
+        Expr::Or { left, right } => gather_two(alloc, scope, left.get(), right.get(), out),
         Expr::IsNull { subject, .. } => gather(alloc, scope, subject.get(), out),
         Expr::Between {
             subject,
             low,
             high,
             ..
-        } => {
-            gather(alloc, scope, subject.get(), out)?;
-            gather(alloc, scope, low.get(), out)?;
-            gather(alloc, scope, high.get(), out)
-        }
+        } => gather_three(alloc, scope, subject.get(), low.get(), high.get(), out),
         Expr::In {
             subject,
             entries,
             ..
-        } => {
-            gather(alloc, scope, subject.get(), out)?;
-            gather_entries(alloc, scope, entries.as_slice(), out)
-        }
+        } => gather_in(alloc, scope, entries.as_slice(), subject.get(), out),
         Expr::Like { subject, .. } => gather(alloc, scope, subject.get(), out),
         Expr::Coalesce(entries) => gather_entries(alloc, scope, entries.as_slice(), out),
         Expr::Case { arms, otherwise } => {
@@ -184,6 +167,55 @@ pub fn gather(
             gather_else(alloc, scope, otherwise, out)
         }
     }
+}
+
+/// Those of two parts, from left to right.
+#[cycle(gather)]
+fn gather_two(
+    alloc: Global,
+    scope: &Scope,
+    left: &Expr,
+    right: &Expr,
+    out: &mut Aggregates,
+) -> Result<(), AllocError>
+    ensures { OnOk result (out.new ≡ with_parts scope.now out.old (aggregates_in left.now
+        ∷ aggregates_in right.now ∷ [])) }
+{
+    gather(alloc, scope, left, out)?;
+    gather(alloc, scope, right, out)
+}
+
+/// Those of three parts, from left to right.
+#[cycle(gather)]
+fn gather_three(
+    alloc: Global,
+    scope: &Scope,
+    first: &Expr,
+    second: &Expr,
+    third: &Expr,
+    out: &mut Aggregates,
+) -> Result<(), AllocError>
+    ensures { OnOk result (out.new ≡ with_parts scope.now out.old (aggregates_in first.now
+        ∷ aggregates_in second.now ∷ aggregates_in third.now ∷ [])) }
+{
+    gather(alloc, scope, first, out)?;
+    gather_two(alloc, scope, second, third, out)
+}
+
+/// Those of an expression, and then those of each of a list.
+#[cycle(gather)]
+fn gather_in(
+    alloc: Global,
+    scope: &Scope,
+    entries: &[Expr],
+    subject: &Expr,
+    out: &mut Aggregates,
+) -> Result<(), AllocError>
+    ensures { OnOk result (out.new ≡ with_parts scope.now out.old (aggregates_in subject.now
+        ∷ map aggregates_in entries.now)) }
+{
+    gather(alloc, scope, subject, out)?;
+    gather_entries(alloc, scope, entries, out)
 }
 
 #[cycle(gather)]

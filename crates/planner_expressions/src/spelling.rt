@@ -89,25 +89,15 @@ pub fn spell(scope: &Scope, expr: &Expr, out: &mut Spelling) -> Result<(), Alloc
             negated,
             subject,
             entries,
-        } => {
-            spell_part(scope, subject, Operator::In { negated: *negated }, out)?;
-            spell_entries(scope, entries.as_slice(), out)
-        }
+        } => spell_in(scope, entries.as_slice(), subject, *negated, out),
         Expr::Like {
             negated,
             subject,
             pattern,
-        } => {
-            spell_part(scope, subject, Operator::Like { negated: *negated }, out)?;
-            put_text(pattern, out)
-        }
-        Expr::Coalesce(entries) => {
-            put_operator(Operator::Coalesce, out)?;
-            spell_entries(scope, entries.as_slice(), out)
-        }
+        } => spell_like(scope, subject, pattern, *negated, out),
+        Expr::Coalesce(entries) => spell_coalesce(scope, entries.as_slice(), out),
         Expr::Case { arms, otherwise } => {
-            put_operator(Operator::Case, out)?;
-            spell_arms(scope, arms.as_slice(), out)?;
+            spell_case(scope, arms.as_slice(), out)?;
             spell_else(scope, otherwise, out)
         }
     }
@@ -160,6 +150,63 @@ fn spell_between(
 {
     spell_two(scope, subject, low, Operator::Between { negated }, out)?;
     spell(scope, high.get(), out)
+}
+
+#[cycle(spell)]
+fn spell_in(
+    scope: &Scope,
+    entries: &[Expr],
+    subject: &Boxed<Expr>,
+    negated: bool,
+    out: &mut Spelling,
+) -> Result<(), AllocError>
+    ensures { OnOk result (out.new
+        ≡ out.old
+        ++ of_mark.Operator (of_operator.In negated) ∷ spelled scope.now subject.now
+        ++ list_marks (map (spelled scope.now) entries.now)) }
+{
+    spell_part(scope, subject, Operator::In { negated }, out)?;
+    spell_entries(scope, entries, out)
+}
+
+#[cycle(spell)]
+fn spell_like(
+    scope: &Scope,
+    subject: &Boxed<Expr>,
+    pattern: &Text,
+    negated: bool,
+    out: &mut Spelling,
+) -> Result<(), AllocError>
+    ensures { OnOk result (out.new
+        ≡ out.old
+        ++ of_mark.Operator (of_operator.Like negated) ∷ spelled scope.now subject.now
+        ++ of_mark.Text pattern.now ∷ []) }
+{
+    spell_part(scope, subject, Operator::Like { negated }, out)?;
+    put_text(pattern, out)
+}
+
+#[cycle(spell)]
+fn spell_coalesce(scope: &Scope, entries: &[Expr], out: &mut Spelling) -> Result<(), AllocError>
+    ensures { OnOk result (out.new
+        ≡ out.old
+        ++ of_mark.Operator of_operator.Coalesce ∷ list_marks (map (spelled scope.now)
+        entries.now)) }
+{
+    put_operator(Operator::Coalesce, out)?;
+    spell_entries(scope, entries, out)
+}
+
+/// CASE and its arms.
+#[cycle(spell)]
+fn spell_case(scope: &Scope, arms: &[Arm], out: &mut Spelling) -> Result<(), AllocError>
+    ensures { OnOk result (out.new
+        ≡ out.old
+        ++ of_mark.Operator of_operator.Case ∷ arms_marks (map (spelled_arm scope.now)
+        arms.now)) }
+{
+    put_operator(Operator::Case, out)?;
+    spell_arms(scope, arms, out)
 }
 
 /// One more part of a list.

@@ -35,12 +35,11 @@ use Rattle.vector_operators.specs.Evaluated.{Evaluates, Held, IsWithin}
 use Rattle.primitives.specs.Meant.{meant_at, row_at}
 use Rattle.primitives.specs.Fitting.{AreTypedRows, Fits, has_column, column_reference, referenced_type}
 use Rattle.vector_operators.specs.Given.{AreNegatedIf, IsSpelled, IsSpelledIn, given_at, given_of, is_of_kind}
-use Rattle.primitives.specs.Nodes.{Decides, FitsArm, Gives, IsExact, IsNoLater, one_of_subject}
+use Rattle.primitives.specs.Nodes.{Decides, ExprGives, FitsArm, Gives, IsExact, IsNoLater, one_of_subject}
 use Rattle.primitives.proofs.Columns.{column_gives}
 use Rattle.vector_operators.proofs.Composes.{after, pointwise, restated}
 use Rattle.primitives.proofs.Fitted.{fits_and, fits_arithmetic, fits_between, fits_case, fits_coalesce, fits_compare, fits_in, fits_is_null, fits_like, fits_minus, fits_not, fits_or}
 use Rattle.primitives.proofs.Lists.{one_of_subject_is}
-use Rattle.primitives.proofs.NodeGives.{ExprGives}
 
 boolean_is : (type : ExprType) → is_boolean type ≡ true → Boolean ≡ type
 boolean_is Boolean h = refl

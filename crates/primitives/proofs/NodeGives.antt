@@ -26,15 +26,10 @@ use Rattle.vector_operators.specs.Evaluated.{Evaluates, Held, IsWithin}
 use Rattle.primitives.specs.Meant.{meant_at, row_at}
 use Rattle.primitives.specs.Fitting.{AreTypedRows, Fits}
 use Rattle.vector_operators.specs.Given.{AreNarrowed, are_alike, given_at, is_null_lane, is_of_kind, is_true_lane, ArePut}
-use Rattle.primitives.specs.Nodes.{Decides, FitsArm, Gives, IsExact, IsNoLater, IsTaken, IsWhere, Passes}
+use Rattle.primitives.specs.Nodes.{Decides, ExprGives, FitsArm, Gives, IsExact, IsNoLater, IsTaken, IsWhere, Passes}
 use Rattle.primitives.proofs.Arms.{decides_more, decides_rest, decides_start, passes_where, put_inside, put_outside}
 use Rattle.vector_operators.proofs.Composes.{Node, pointwise, reselected}
 use Rattle.primitives.proofs.Steps.{are_alike_kinds, arith_node, beside, both, compare_node, given_no_later, narrowed_both}
-
--- what is promised of an expression on some lanes
-abbrev pub ExprGives : BatchSpec → Expr → (ℕ → Type 0) → Held → Held → Given → Type 0
-ExprGives batch e S old new g = (types : RowTypes) (type : ExprType) (rows : List JoinedRow)
-    → AreTypedRows types batch rows → Fits types batch.columns e type → Gives type (meant_at e rows) S old new g
 
 -- ---- two operands
 

@@ -10,13 +10,13 @@ use Rattle.vectors.specs.Selection.{IsSelection, Positions, is_among}
 use Rattle.vectors.specs.Vector.{BatchSpec}
 use Rattle.vector_operators.specs.declared.given.Given.{Given}
 use Rattle.vector_operators.specs.Evaluated.{Evaluates, Held, IsEvaluated, IsWithin, lane_of}
+use Rattle.primitives.specs.Nodes.{ExprGives}
 use Rattle.primitives.specs.Meant.{meant_at}
 use Rattle.primitives.specs.Fitting.{AreTypedRows, Fits}
 use Rattle.vector_operators.specs.Given.{IsOfType, given_at, is_of_kind}
 use Rattle.vector_operators.proofs.Among.{within_among}
 use Rattle.vector_operators.proofs.Composes.{lane_is, reselected}
 use Rattle.vector_operators.proofs.Least.{evaluated}
-use Rattle.primitives.proofs.NodeGives.{ExprGives}
 
 -- ---- types
 

@@ -5,12 +5,16 @@ use Rattle.meaning.specs.declared.outcome.Truth.TheVariants.{True, False, Unknow
 use Rattle.meaning.specs.declared.outcome.Outcome.{Outcome}
 use Rattle.meaning.specs.declared.outcome.Outcome.TheVariants as gives
 use Rattle.meaning.specs.declared.expr.Arm.{Arm}
+use Rattle.meaning.specs.declared.expr.Expr.{Expr}
+use Rattle.meaning.specs.declared.joined_row.JoinedRow.{JoinedRow}
 use Rattle.meaning.specs.Operators.{one_of}
 use Rattle.meaning.specs.Typing.{ExprType, RowTypes, Valued, Boolean}
 use Rattle.vectors.specs.Selection.{Positions, is_among}
+use Rattle.vectors.specs.Vector.{BatchSpec}
 use Rattle.vectors.specs.declared.batch.BatchColumn.{BatchColumn}
 use Rattle.vector_operators.specs.Evaluated.{Evaluates, Finds, Held, IsBefore, IsWithin}
-use Rattle.primitives.specs.Fitting.{Fits}
+use Rattle.primitives.specs.Fitting.{AreTypedRows, Fits}
+use Rattle.primitives.specs.Meant.{meant_at}
 use Rattle.vector_operators.specs.Given.{given_at, is_of_kind}
 use Rattle.vector_operators.specs.declared.given.Given.{Given}
 
@@ -18,6 +22,11 @@ use Rattle.vector_operators.specs.declared.given.Given.{Given}
 pub record Gives (type : ExprType) (meant : ℕ → Outcome) (Selected : ℕ → Type 0) (held new : Held) (g : Given) : Type 0 where
   pub evaluates : Evaluates meant Selected held new (given_at g)
   pub kind : is_of_kind type g ≡ true
+
+-- an expression's lanes, in a batch that it fits: of its type, and what it means
+abbrev pub ExprGives : BatchSpec → Expr → (ℕ → Type 0) → Held → Held → Given → Type 0
+ExprGives batch e S old new g = (types : RowTypes) (type : ExprType) (rows : List JoinedRow)
+    → AreTypedRows types batch rows → Fits types batch.columns e type → Gives type (meant_at e rows) S old new g
 
 -- the lanes are what is meant, on selected lanes before the fault that is held
 abbrev pub IsExact : (ℕ → Outcome) → (ℕ → Type 0) → Held → (ℕ → Outcome) → Type 0

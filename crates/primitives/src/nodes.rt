@@ -6,6 +6,7 @@ ghost use Rattle.meaning.specs.declared.outcome.Outcome.{Outcome};
 ghost use Rattle.meaning.specs.declared.value.ColType.{ColType};
 ghost use Rattle.meaning.specs.declared.value.ColType.TheVariants as of_type;
 ghost use Rattle.meaning.specs.declared.expr.ComparisonOperator.TheVariants as comparison;
+ghost use Rattle.meaning.specs.declared.expr.Expr.TheVariants as node;
 ghost use Rattle.meaning.specs.Operators.{and_of, arith_of, case_of, cases_of, coalesce_of, compare_of, first_of, is_null_of, like_of, minus_of, not_if, not_of, or_of};
 ghost use Rattle.meaning.specs.Expr.{arms_at, eval_arm, outcomes};
 ghost use Rattle.meaning.specs.Typing.{Boolean, ExprType, RowTypes, Valued};
@@ -16,9 +17,9 @@ ghost use Rattle.vector_operators.specs.declared.given.Given.{Given};
 ghost use Rattle.vector_operators.specs.declared.given.Given.TheVariants as given;
 ghost use Rattle.primitives.specs.Fitting.{AreTypedRows, Fits};
 ghost use Rattle.vector_operators.specs.Given.{AreNegatedIf, IsLong, IsSpelledIn, are_alike, given_at, is_not_false, is_not_true, is_null_lane, is_of_kind, ArePut};
-ghost use Rattle.primitives.specs.Nodes.{Decides, FitsArm, Gives, IsExact, IsNoLater, IsTaken, IsWhere, Passes, one_of_subject};
+ghost use Rattle.primitives.specs.Nodes.{Decides, ExprGives, FitsArm, Gives, IsExact, IsNoLater, IsTaken, IsWhere, Passes, one_of_subject};
 
-use meaning::{ArithmeticOperator, Arm, ComparisonOperator, Expr, Text, Truth};
+use meaning::{ArithmeticOperator, Arm, Boxed, ComparisonOperator, Expr, Sequence, Text, Truth};
 use std::alloc::{AllocError, Global};
 use std::mem::drop;
 use vector_operators::{
@@ -98,94 +99,256 @@ fn eval_node<'a>(
             },
         )),
         Expr::Literal(value) => Ok(repeated(value, on.batch.rows())),
-        Expr::Minus(a) => {
-            let a = eval(on, a.get(), selection, fault)?;
-            of_minus(on.alloc, a, selection, fault)
+        Expr::Minus(operand) => minus_node(on, operand, selection, fault),
+        Expr::Arithmetic(op, left, right) => {
+            arithmetic_node(on, *op, left, right, selection, fault)
         }
-        Expr::Arithmetic(op, a, b) => {
-            let left = eval(on, a.get(), selection, fault)?;
-            let result = eval_arithmetic(on, *op, &left, b.get(), selection, fault);
-            drop(left);
-            result
-        }
-        Expr::Compare(op, a, b) => {
-            let left = eval(on, a.get(), selection, fault)?;
-            let result = eval_compare(on, *op, &left, b.get(), selection, fault);
-            drop(left);
-            result
-        }
-        Expr::Not(a) => {
-            let a = eval(on, a.get(), selection, fault)?;
-            of_not(on.alloc, a, on.batch.rows())
-        }
-        Expr::And(a, b) => {
-            let left = eval(on, a.get(), selection, fault)?;
-            let result = eval_and(on, &left, b.get(), selection, fault);
-            drop(left);
-            result
-        }
-        Expr::Or(a, b) => {
-            let left = eval(on, a.get(), selection, fault)?;
-            let result = eval_or(on, &left, b.get(), selection, fault);
-            drop(left);
-            result
-        }
+        Expr::Compare(op, left, right) => compare_node(on, *op, left, right, selection, fault),
+        Expr::Not(operand) => not_node(on, operand, selection, fault),
+        Expr::And(left, right) => and_node(on, left, right, selection, fault),
+        Expr::Or(left, right) => or_node(on, left, right, selection, fault),
         Expr::IsNull { negated, subject } => {
-            let subject = eval(on, subject.get(), selection, fault)?;
-            of_is_null(on.alloc, *negated, subject, on.batch.rows())
+            is_null_node(on, *negated, subject, selection, fault)
         }
         Expr::Between {
             negated,
             subject,
             low,
             high,
-        } => {
-            let subject = eval(on, subject.get(), selection, fault)?;
-            let above = eval_compare(
-                on,
-                ComparisonOperator::GreaterOrEqual,
-                &subject,
-                low.get(),
-                selection,
-                fault,
-            );
-            let within = eval_above(on, &subject, above, high.get(), selection, fault);
-            drop(subject);
-            not_if_known(on.alloc, *negated, within, on.batch.rows())
-        }
+        } => between_node(on, *negated, subject, low, high, selection, fault),
         Expr::In {
             negated,
             subject,
             list,
-        } => {
-            if list.len() == 0 {
-                return not_if(
-                    on.alloc,
-                    *negated,
-                    one_truth(Truth::False, on.batch.rows()),
-                    on.batch.rows(),
-                );
-            }
-            let subject = eval(on, subject.get(), selection, fault)?;
-            let found = find_in(on, &subject, list.as_slice(), selection, fault);
-            drop(subject);
-            not_if_known(on.alloc, *negated, found, on.batch.rows())
-        }
+        } => in_node(on, *negated, list, subject, selection, fault),
         Expr::Like {
             negated,
             subject,
             pattern,
-        } => {
-            let subject = eval(on, subject.get(), selection, fault)?;
-            let found = of_like(on.alloc, pattern, subject, on.batch.rows());
-            not_if_known(on.alloc, *negated, found, on.batch.rows())
-        }
+        } => like_node(on, *negated, subject, pattern, selection, fault),
         Expr::Coalesce(list) => eval_coalesce(on, list.as_slice(), selection, fault),
-        Expr::Case { arms, otherwise } => {
-            let cases = eval_arms(on, arms.as_slice(), selection, fault)?;
-            eval_otherwise(on, cases, otherwise.get(), fault)
-        }
+        Expr::Case { arms, otherwise } => case_node(on, arms, otherwise, selection, fault),
     }
+}
+
+#[cycle(eval)]
+fn minus_node<'a>(
+    on: &Evaluation<'a>,
+    operand: &'a Boxed<Expr>,
+    selection: &LaneSet,
+    fault: &mut Fault1,
+) -> Result<Given<'a>, AllocError>
+    requires { selection.now.below ≡ on.now.batch.now.rows }
+    ensures long { IfOk result (IsLong on.now.batch.now.rows) }
+    ensures gives { IfOk result (ExprGives on.now.batch.now (node.Minus operand.now)
+        (IsWithin selection.now) fault.old.held fault.new.held) }
+{
+    let a = eval(on, operand.get(), selection, fault)?;
+    of_minus(on.alloc, a, selection, fault)
+}
+
+#[cycle(eval)]
+fn arithmetic_node<'a>(
+    on: &Evaluation<'a>,
+    op: ArithmeticOperator,
+    left: &'a Boxed<Expr>,
+    right: &'a Boxed<Expr>,
+    selection: &LaneSet,
+    fault: &mut Fault1,
+) -> Result<Given<'a>, AllocError>
+    requires { selection.now.below ≡ on.now.batch.now.rows }
+    ensures long { IfOk result (IsLong on.now.batch.now.rows) }
+    ensures gives { IfOk result (ExprGives on.now.batch.now (node.Arithmetic op left.now right.now)
+        (IsWithin selection.now) fault.old.held fault.new.held) }
+{
+    let left = eval(on, left.get(), selection, fault)?;
+    let result = eval_arithmetic(on, op, &left, right.get(), selection, fault);
+    drop(left);
+    result
+}
+
+#[cycle(eval)]
+fn compare_node<'a>(
+    on: &Evaluation<'a>,
+    op: ComparisonOperator,
+    left: &'a Boxed<Expr>,
+    right: &'a Boxed<Expr>,
+    selection: &LaneSet,
+    fault: &mut Fault1,
+) -> Result<Given<'a>, AllocError>
+    requires { selection.now.below ≡ on.now.batch.now.rows }
+    ensures long { IfOk result (IsLong on.now.batch.now.rows) }
+    ensures gives { IfOk result (ExprGives on.now.batch.now (node.Compare op left.now right.now)
+        (IsWithin selection.now) fault.old.held fault.new.held) }
+{
+    let left = eval(on, left.get(), selection, fault)?;
+    let result = eval_compare(on, op, &left, right.get(), selection, fault);
+    drop(left);
+    result
+}
+
+#[cycle(eval)]
+fn not_node<'a>(
+    on: &Evaluation<'a>,
+    operand: &'a Boxed<Expr>,
+    selection: &LaneSet,
+    fault: &mut Fault1,
+) -> Result<Given<'a>, AllocError>
+    requires { selection.now.below ≡ on.now.batch.now.rows }
+    ensures long { IfOk result (IsLong on.now.batch.now.rows) }
+    ensures gives { IfOk result (ExprGives on.now.batch.now (node.Not operand.now)
+        (IsWithin selection.now) fault.old.held fault.new.held) }
+{
+    let a = eval(on, operand.get(), selection, fault)?;
+    of_not(on.alloc, a, on.batch.rows())
+}
+
+#[cycle(eval)]
+fn and_node<'a>(
+    on: &Evaluation<'a>,
+    left: &'a Boxed<Expr>,
+    right: &'a Boxed<Expr>,
+    selection: &LaneSet,
+    fault: &mut Fault1,
+) -> Result<Given<'a>, AllocError>
+    requires { selection.now.below ≡ on.now.batch.now.rows }
+    ensures long { IfOk result (IsLong on.now.batch.now.rows) }
+    ensures gives { IfOk result (ExprGives on.now.batch.now (node.And left.now right.now)
+        (IsWithin selection.now) fault.old.held fault.new.held) }
+{
+    let left = eval(on, left.get(), selection, fault)?;
+    let result = eval_and(on, &left, right.get(), selection, fault);
+    drop(left);
+    result
+}
+
+#[cycle(eval)]
+fn or_node<'a>(
+    on: &Evaluation<'a>,
+    left: &'a Boxed<Expr>,
+    right: &'a Boxed<Expr>,
+    selection: &LaneSet,
+    fault: &mut Fault1,
+) -> Result<Given<'a>, AllocError>
+    requires { selection.now.below ≡ on.now.batch.now.rows }
+    ensures long { IfOk result (IsLong on.now.batch.now.rows) }
+    ensures gives { IfOk result (ExprGives on.now.batch.now (node.Or left.now right.now)
+        (IsWithin selection.now) fault.old.held fault.new.held) }
+{
+    let left = eval(on, left.get(), selection, fault)?;
+    let result = eval_or(on, &left, right.get(), selection, fault);
+    drop(left);
+    result
+}
+
+#[cycle(eval)]
+fn is_null_node<'a>(
+    on: &Evaluation<'a>,
+    negated: bool,
+    subject: &'a Boxed<Expr>,
+    selection: &LaneSet,
+    fault: &mut Fault1,
+) -> Result<Given<'a>, AllocError>
+    requires { selection.now.below ≡ on.now.batch.now.rows }
+    ensures long { IfOk result (IsLong on.now.batch.now.rows) }
+    ensures gives { IfOk result (ExprGives on.now.batch.now (node.IsNull negated subject.now)
+        (IsWithin selection.now) fault.old.held fault.new.held) }
+{
+    let subject = eval(on, subject.get(), selection, fault)?;
+    of_is_null(on.alloc, negated, subject, on.batch.rows())
+}
+
+#[cycle(eval)]
+fn between_node<'a>(
+    on: &Evaluation<'a>,
+    negated: bool,
+    subject: &'a Boxed<Expr>,
+    low: &'a Boxed<Expr>,
+    high: &'a Boxed<Expr>,
+    selection: &LaneSet,
+    fault: &mut Fault1,
+) -> Result<Given<'a>, AllocError>
+    requires { selection.now.below ≡ on.now.batch.now.rows }
+    ensures long { IfOk result (IsLong on.now.batch.now.rows) }
+    ensures gives { IfOk result (ExprGives on.now.batch.now (node.Between negated subject.now low.now high.now)
+        (IsWithin selection.now) fault.old.held fault.new.held) }
+{
+    let subject = eval(on, subject.get(), selection, fault)?;
+    let above = eval_compare(
+        on,
+        ComparisonOperator::GreaterOrEqual,
+        &subject,
+        low.get(),
+        selection,
+        fault,
+    );
+    let within = eval_above(on, &subject, above, high.get(), selection, fault);
+    drop(subject);
+    not_if_known(on.alloc, negated, within, on.batch.rows())
+}
+
+#[cycle(eval)]
+fn in_node<'a>(
+    on: &Evaluation<'a>,
+    negated: bool,
+    list: &'a Sequence<Expr>,
+    subject: &'a Boxed<Expr>,
+    selection: &LaneSet,
+    fault: &mut Fault1,
+) -> Result<Given<'a>, AllocError>
+    requires { selection.now.below ≡ on.now.batch.now.rows }
+    ensures long { IfOk result (IsLong on.now.batch.now.rows) }
+    ensures gives { IfOk result (ExprGives on.now.batch.now (node.In negated subject.now list.now)
+        (IsWithin selection.now) fault.old.held fault.new.held) }
+{
+    if list.len() == 0 {
+        return not_if(
+            on.alloc,
+            negated,
+            one_truth(Truth::False, on.batch.rows()),
+            on.batch.rows(),
+        );
+    }
+    let subject = eval(on, subject.get(), selection, fault)?;
+    let found = find_in(on, &subject, list.as_slice(), selection, fault);
+    drop(subject);
+    not_if_known(on.alloc, negated, found, on.batch.rows())
+}
+
+#[cycle(eval)]
+fn like_node<'a>(
+    on: &Evaluation<'a>,
+    negated: bool,
+    subject: &'a Boxed<Expr>,
+    pattern: &Text,
+    selection: &LaneSet,
+    fault: &mut Fault1,
+) -> Result<Given<'a>, AllocError>
+    requires { selection.now.below ≡ on.now.batch.now.rows }
+    ensures long { IfOk result (IsLong on.now.batch.now.rows) }
+    ensures gives { IfOk result (ExprGives on.now.batch.now (node.Like negated subject.now pattern.now)
+        (IsWithin selection.now) fault.old.held fault.new.held) }
+{
+    let subject = eval(on, subject.get(), selection, fault)?;
+    let found = of_like(on.alloc, pattern, subject, on.batch.rows());
+    not_if_known(on.alloc, negated, found, on.batch.rows())
+}
+
+#[cycle(eval)]
+fn case_node<'a>(
+    on: &Evaluation<'a>,
+    arms: &'a Sequence<Arm>,
+    otherwise: &'a Boxed<Expr>,
+    selection: &LaneSet,
+    fault: &mut Fault1,
+) -> Result<Given<'a>, AllocError>
+    requires { selection.now.below ≡ on.now.batch.now.rows }
+    ensures long { IfOk result (IsLong on.now.batch.now.rows) }
+    ensures gives { IfOk result (ExprGives on.now.batch.now (node.Case arms.now otherwise.now)
+        (IsWithin selection.now) fault.old.held fault.new.held) }
+{
+    let cases = eval_arms(on, arms.as_slice(), selection, fault)?;
+    eval_otherwise(on, cases, otherwise.get(), fault)
 }
 
 fn not_if_known<'a>(

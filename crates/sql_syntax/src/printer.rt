@@ -7,9 +7,10 @@ ghost use Rattle.sql_syntax.specs.Printing.{written, with_token, with_tokens, ag
 ghost use Rattle.sql_syntax.specs.Queries.{query_tokens, with_commas, item_tokens, alias_tokens, table_tokens, on_tokens, others_tokens_of, clause_tokens, groups_tokens_of, key_tokens, target_token, direction_tokens, order_tokens_of, limit_tokens_of};
 ghost use Rattle.sql_syntax.specs.Strength.{next, level_of, token_of, compares};
 ghost use Rattle.sql_syntax.specs.Tokens.{terminal_of, keyword, text, sign_is, integer};
-ghost use Rattle.sql_syntax.specs.declared.keyword.Keyword.TheVariants.{Count, Is, Null, Like};
+ghost use Rattle.sql_syntax.specs.declared.keyword.Keyword.TheVariants.{Case, Count, End, Is, Null, Like};
 ghost use Rattle.sql_syntax.specs.declared.strength.Operator.TheVariants.{Reckon};
 ghost use Rattle.sql_syntax.specs.declared.token.Sign.TheVariants.{Minus, Star};
+ghost use Rattle.sql_syntax.specs.declared.tree.Expr.TheVariants as node;
 
 use crate::keyword::Keyword;
 use crate::strength::{Level, level_of_arithmetic, sign_of_arithmetic, sign_of_comparison};
@@ -18,7 +19,7 @@ use crate::token_text::{ends_operand, hugs_left, hugs_right, put_blank, put_quot
 use crate::tree::{
     Aggregate, Arm, Direction, Expr, Item, JoinKind, Joined, OrderKey, OrderTarget, Query, Table,
 };
-use meaning::{ArithmeticOperator, Boxed, Text};
+use meaning::{ArithmeticOperator, Boxed, ComparisonOperator, Text};
 use std::alloc::{AllocError, Global};
 
 /// The text so far, whether its last token may end an operand, and whether no blank may stand
@@ -403,7 +404,7 @@ impl Printer {
     }
 
     #[cycle(printing)]
-    #[tactic(auto, using(crate::proofs::Writing::aggregate_step, crate::proofs::Writing::reckon_step, crate::proofs::Writing::compare_step, crate::proofs::Writing::and_step, crate::proofs::Writing::or_step, crate::proofs::Writing::null_step, crate::proofs::Writing::between_step, crate::proofs::Writing::in_step, crate::proofs::Writing::like_step, crate::proofs::Writing::case_step))]
+    #[tactic(auto, using(crate::proofs::Writing::case_step))]
     fn put_expr(&mut self, expr: &Expr) -> Result<(), AllocError>
         ensures { OnOk result (written self.new
             ≡ with_tokens (written self.old) (printed expr.now).tokens) }
@@ -413,88 +414,208 @@ impl Printer {
             Expr::Integer(integer) => self.put_integer(*integer),
             Expr::Text(content) => self.put_text(content.as_str()),
             Expr::CountRows => self.put_count_rows(),
-            Expr::Aggregate { kind, argument } => {
-                self.put_aggregate(*kind)?;
-                self.put_at(Level::Disjunction, argument.get())?;
-                self.put(Token::Sign(Sign::Close))
-            }
-            Expr::Minus(operand) => {
-                self.put_behind(Token::Sign(Sign::Minus), Level::Primary, operand.get())
-            }
+            Expr::Aggregate { kind, argument } => self.put_aggregate_of(*kind, argument.get()),
+            Expr::Minus(operand) => self.put_minus(operand.get()),
             Expr::Arithmetic {
                 operator,
                 left,
                 right,
-            } => {
-                self.put_at(level_of_arithmetic(*operator), left.get())?;
-                self.put_right(*operator, right.get())
-            }
+            } => self.put_arithmetic(*operator, left.get(), right.get()),
             Expr::Compare {
                 operator,
                 left,
                 right,
-            } => {
-                self.put_at(Level::Sum, left.get())?;
-                let sign = sign_of_comparison(*operator);
-                self.put_behind(Token::Sign(sign), Level::Sum, right.get())
-            }
-            Expr::Not(operand) => self.put_behind(
-                Token::Keyword(Keyword::Not),
-                Level::Negation,
-                operand.get(),
-            ),
-            Expr::And { left, right } => {
-                self.put_at(Level::Conjunction, left.get())?;
-                self.put_behind(Token::Keyword(Keyword::And), Level::Negation, right.get())
-            }
-            Expr::Or { left, right } => {
-                self.put_at(Level::Disjunction, left.get())?;
-                self.put_behind(Token::Keyword(Keyword::Or), Level::Conjunction, right.get())
-            }
-            Expr::IsNull { negated, subject } => {
-                self.put_at(Level::Sum, subject.get())?;
-                self.put_is_null(*negated)
-            }
+            } => self.put_compare(*operator, left.get(), right.get()),
+            Expr::Not(operand) => self.put_not(operand.get()),
+            Expr::And { left, right } => self.put_and(left.get(), right.get()),
+            Expr::Or { left, right } => self.put_or(left.get(), right.get()),
+            Expr::IsNull { negated, subject } => self.put_null_test(*negated, subject.get()),
             Expr::Between {
                 negated,
                 subject,
                 low,
                 high,
-            } => {
-                self.put_at(Level::Sum, subject.get())?;
-                self.put_not_if(*negated)?;
-                self.put_behind(Token::Keyword(Keyword::Between), Level::Sum, low.get())?;
-                self.put_behind(Token::Keyword(Keyword::And), Level::Sum, high.get())
-            }
+            } => self.put_between(*negated, subject.get(), low.get(), high.get()),
             Expr::In {
                 negated,
                 subject,
                 entries,
-            } => {
-                self.put_at(Level::Sum, subject.get())?;
-                self.put_not_if(*negated)?;
-                self.put(Token::Keyword(Keyword::In))?;
-                self.put_in_brackets(entries.as_slice())
-            }
+            } => self.put_in(*negated, entries.as_slice(), subject.get()),
             Expr::Like {
                 negated,
                 subject,
                 pattern,
-            } => {
-                self.put_at(Level::Sum, subject.get())?;
-                self.put_like(*negated, pattern)
-            }
-            Expr::Coalesce(entries) => {
-                self.put(Token::Keyword(Keyword::Coalesce))?;
-                self.put_in_brackets(entries.as_slice())
-            }
+            } => self.put_like_test(*negated, subject.get(), pattern),
+            Expr::Coalesce(entries) => self.put_coalesce(entries.as_slice()),
             Expr::Case { arms, otherwise } => {
-                self.put(Token::Keyword(Keyword::Case))?;
-                self.put_arms(arms.as_slice())?;
-                self.put_else(otherwise)?;
-                self.put(Token::Keyword(Keyword::End))
+                self.put_case(arms.as_slice())?;
+                self.put_case_end(otherwise)
             }
         }
+    }
+
+    #[cycle(printing)]
+    fn put_minus(&mut self, operand: &Expr) -> Result<(), AllocError>
+        ensures { OnOk result (written self.new
+            ≡ with_tokens (written self.old) (printed (node.Minus operand.now)).tokens) }
+    {
+        self.put_behind(Token::Sign(Sign::Minus), Level::Primary, operand)
+    }
+
+    #[cycle(printing)]
+    fn put_not(&mut self, operand: &Expr) -> Result<(), AllocError>
+        ensures { OnOk result (written self.new
+            ≡ with_tokens (written self.old) (printed (node.Not operand.now)).tokens) }
+    {
+        self.put_behind(Token::Keyword(Keyword::Not), Level::Negation, operand)
+    }
+
+    #[cycle(printing)]
+    #[tactic(auto, using(crate::proofs::Writing::aggregate_step))]
+    fn put_aggregate_of(&mut self, kind: Aggregate, argument: &Expr) -> Result<(), AllocError>
+        ensures { OnOk result (written self.new
+            ≡ with_tokens (written self.old) (printed (node.Aggregate kind argument.now)).tokens) }
+    {
+        self.put_aggregate(kind)?;
+        self.put_at(Level::Disjunction, argument)?;
+        self.put(Token::Sign(Sign::Close))
+    }
+
+    #[cycle(printing)]
+    #[tactic(auto, using(crate::proofs::Writing::reckon_step))]
+    fn put_arithmetic(
+        &mut self,
+        operator: ArithmeticOperator,
+        left: &Expr,
+        right: &Expr,
+    ) -> Result<(), AllocError>
+        ensures { OnOk result (written self.new
+            ≡ with_tokens (written self.old) (printed (node.Arithmetic operator left.now right.now)).tokens) }
+    {
+        self.put_at(level_of_arithmetic(operator), left)?;
+        self.put_right(operator, right)
+    }
+
+    #[cycle(printing)]
+    #[tactic(auto, using(crate::proofs::Writing::compare_step))]
+    fn put_compare(
+        &mut self,
+        operator: ComparisonOperator,
+        left: &Expr,
+        right: &Expr,
+    ) -> Result<(), AllocError>
+        ensures { OnOk result (written self.new
+            ≡ with_tokens (written self.old) (printed (node.Compare operator left.now right.now)).tokens) }
+    {
+        self.put_at(Level::Sum, left)?;
+        let sign = sign_of_comparison(operator);
+        self.put_behind(Token::Sign(sign), Level::Sum, right)
+    }
+
+    #[cycle(printing)]
+    #[tactic(auto, using(crate::proofs::Writing::and_step))]
+    fn put_and(&mut self, left: &Expr, right: &Expr) -> Result<(), AllocError>
+        ensures { OnOk result (written self.new
+            ≡ with_tokens (written self.old) (printed (node.And left.now right.now)).tokens) }
+    {
+        self.put_at(Level::Conjunction, left)?;
+        self.put_behind(Token::Keyword(Keyword::And), Level::Negation, right)
+    }
+
+    #[cycle(printing)]
+    #[tactic(auto, using(crate::proofs::Writing::or_step))]
+    fn put_or(&mut self, left: &Expr, right: &Expr) -> Result<(), AllocError>
+        ensures { OnOk result (written self.new
+            ≡ with_tokens (written self.old) (printed (node.Or left.now right.now)).tokens) }
+    {
+        self.put_at(Level::Disjunction, left)?;
+        self.put_behind(Token::Keyword(Keyword::Or), Level::Conjunction, right)
+    }
+
+    #[cycle(printing)]
+    #[tactic(auto, using(crate::proofs::Writing::null_step))]
+    fn put_null_test(&mut self, negated: bool, subject: &Expr) -> Result<(), AllocError>
+        ensures { OnOk result (written self.new
+            ≡ with_tokens (written self.old) (printed (node.IsNull negated subject.now)).tokens) }
+    {
+        self.put_at(Level::Sum, subject)?;
+        self.put_is_null(negated)
+    }
+
+    #[cycle(printing)]
+    #[tactic(auto, using(crate::proofs::Writing::between_step))]
+    fn put_between(
+        &mut self,
+        negated: bool,
+        subject: &Expr,
+        low: &Expr,
+        high: &Expr,
+    ) -> Result<(), AllocError>
+        ensures { OnOk result (written self.new
+            ≡ with_tokens (written self.old) (printed (node.Between negated subject.now low.now high.now)).tokens) }
+    {
+        self.put_at(Level::Sum, subject)?;
+        self.put_not_if(negated)?;
+        self.put_behind(Token::Keyword(Keyword::Between), Level::Sum, low)?;
+        self.put_behind(Token::Keyword(Keyword::And), Level::Sum, high)
+    }
+
+    #[cycle(printing)]
+    #[tactic(auto, using(crate::proofs::Writing::in_step))]
+    fn put_in(&mut self, negated: bool, entries: &[Expr], subject: &Expr) -> Result<(), AllocError>
+        ensures { OnOk result (written self.new
+            ≡ with_tokens (written self.old) (printed (node.In negated subject.now entries.now)).tokens) }
+    {
+        self.put_at(Level::Sum, subject)?;
+        self.put_not_if(negated)?;
+        self.put(Token::Keyword(Keyword::In))?;
+        self.put_in_brackets(entries)
+    }
+
+    #[cycle(printing)]
+    #[tactic(auto, using(crate::proofs::Writing::like_step))]
+    fn put_like_test(
+        &mut self,
+        negated: bool,
+        subject: &Expr,
+        pattern: &Text,
+    ) -> Result<(), AllocError>
+        ensures { OnOk result (written self.new
+            ≡ with_tokens (written self.old) (printed (node.Like negated subject.now pattern.now)).tokens) }
+    {
+        self.put_at(Level::Sum, subject)?;
+        self.put_like(negated, pattern)
+    }
+
+    #[cycle(printing)]
+    fn put_coalesce(&mut self, entries: &[Expr]) -> Result<(), AllocError>
+        ensures { OnOk result (written self.new
+            ≡ with_tokens (written self.old) (printed (node.Coalesce entries.now)).tokens) }
+    {
+        self.put(Token::Keyword(Keyword::Coalesce))?;
+        self.put_in_brackets(entries)
+    }
+
+    /// CASE and its arms.
+    #[cycle(printing)]
+    fn put_case(&mut self, arms: &[Arm]) -> Result<(), AllocError>
+        ensures { OnOk result (written self.new
+            ≡ with_tokens (with_token (written self.old) (keyword Case))
+            (arms_tokens (map printed_arm arms.now))) }
+    {
+        self.put(Token::Keyword(Keyword::Case))?;
+        self.put_arms(arms)
+    }
+
+    /// ELSE and END.
+    #[cycle(printing)]
+    fn put_case_end(&mut self, otherwise: &Option<Boxed<Expr>>) -> Result<(), AllocError>
+        ensures { OnOk result (written self.new
+            ≡ with_token (with_tokens (written self.old)
+            (else_tokens (option_map printed otherwise.now))) (keyword End)) }
+    {
+        self.put_else(otherwise)?;
+        self.put(Token::Keyword(Keyword::End))
     }
 
     /// An operator of arithmetic and what stands behind it.

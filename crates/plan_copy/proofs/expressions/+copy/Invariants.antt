@@ -46,3 +46,18 @@ decreases-copy_like l = 4 * goal.size-copy_like l + 3
 
 abbrev pub decreases-copy_case : goal.decreases-copy_case
 decreases-copy_case l = 4 * max (goal.size-copy_case l) (size-Expr l.otherwise.now) + 3
+
+abbrev pub decreases-copy_minus : goal.decreases-copy_minus
+decreases-copy_minus l = 4 * goal.size-copy_minus l + 3
+
+abbrev pub decreases-copy_not : goal.decreases-copy_not
+decreases-copy_not l = 4 * goal.size-copy_not l + 3
+
+abbrev pub decreases-copy_and : goal.decreases-copy_and
+decreases-copy_and l = 4 * max (size-Expr l.left.now) (size-Expr l.right.now) + 3
+
+abbrev pub decreases-copy_or : goal.decreases-copy_or
+decreases-copy_or l = 4 * max (size-Expr l.left.now) (size-Expr l.right.now) + 3
+
+abbrev pub decreases-copy_coalesce : goal.decreases-copy_coalesce
+decreases-copy_coalesce l = 4 * goal.size-copy_coalesce l + 3

@@ -15,74 +15,61 @@ gather-returns-in-Aggregate t c =
     let there : is_aggregate c.args.expr.now ≡ true = search (rules, the_lemmas) in
     if_so c.add-in-Aggregate.result (at_aggregate c.args.scope.now c.args.out.now c.add-in-Aggregate.new.out c.args.expr.now there) c.add-in-Aggregate.ensures
 
-pub gather-returns-in_ok-gather-in-Arithmetic : goal.gather-returns-in_ok-gather-in-Arithmetic
-gather-returns-in_ok-gather-in-Arithmetic t c =
+pub gather-returns-in-Arithmetic : goal.gather-returns-in-Arithmetic
+gather-returns-in-Arithmetic t c =
     let other : is_aggregate c.args.expr.now ≡ false = search (rules, the_lemmas) in
     let is = tree.rolls-Arithmetic _ _ _ ∙ ap₂ (tree.Arithmetic c.in-Arithmetic.operator) c.get-in-Arithmetic.ensures c.get-in-Arithmetic-2.ensures ∙ sym c.in-Arithmetic.is in
-    if_so c.gather-in-Arithmetic-2.result
-    (λ new. new
-    ∙ ap (λ (m : Aggregates). with_aggregates c.args.scope.now m (aggregates_in c.get-in-Arithmetic-2.result.now)) c.in_ok-gather-in-Arithmetic.ensures
-    ∙ at_node c.args.scope.now c.args.out.now (node.Arithmetic c.in-Arithmetic.operator c.get-in-Arithmetic.result.now c.get-in-Arithmetic-2.result.now) c.args.expr.now is other)
-    c.gather-in-Arithmetic-2.ensures
+    if_so c.gather_two.result
+    (λ new. new ∙ at_node c.args.scope.now c.args.out.now (node.Arithmetic c.in-Arithmetic.operator c.get-in-Arithmetic.result.now c.get-in-Arithmetic-2.result.now) c.args.expr.now is other)
+    c.gather_two.ensures
 
-pub gather-returns-in_ok-gather-in-Compare : goal.gather-returns-in_ok-gather-in-Compare
-gather-returns-in_ok-gather-in-Compare t c =
+pub gather-returns-in-Compare : goal.gather-returns-in-Compare
+gather-returns-in-Compare t c =
     let other : is_aggregate c.args.expr.now ≡ false = search (rules, the_lemmas) in
     let is = tree.rolls-Compare _ _ _ ∙ ap₂ (tree.Compare c.in-Compare.operator) c.get-in-Compare.ensures c.get-in-Compare-2.ensures ∙ sym c.in-Compare.is in
-    if_so c.gather-in-Compare-2.result
-    (λ new. new
-    ∙ ap (λ (m : Aggregates). with_aggregates c.args.scope.now m (aggregates_in c.get-in-Compare-2.result.now)) c.in_ok-gather-in-Compare.ensures
-    ∙ at_node c.args.scope.now c.args.out.now (node.Compare c.in-Compare.operator c.get-in-Compare.result.now c.get-in-Compare-2.result.now) c.args.expr.now is other)
-    c.gather-in-Compare-2.ensures
+    if_so c.gather_two-in-Compare.result
+    (λ new. new ∙ at_node c.args.scope.now c.args.out.now (node.Compare c.in-Compare.operator c.get-in-Compare.result.now c.get-in-Compare-2.result.now) c.args.expr.now is other)
+    c.gather_two-in-Compare.ensures
 
-pub gather-returns-in_ok-gather-in-And : goal.gather-returns-in_ok-gather-in-And
-gather-returns-in_ok-gather-in-And t c =
+pub gather-returns-in-And : goal.gather-returns-in-And
+gather-returns-in-And t c =
     let other : is_aggregate c.args.expr.now ≡ false = search (rules, the_lemmas) in
     let is = tree.rolls-And _ _ ∙ ap₂ tree.And c.get-in-And.ensures c.get-in-And-2.ensures ∙ sym c.in-And.is in
-    if_so c.gather-in-And-2.result
-    (λ new. new
-    ∙ ap (λ (m : Aggregates). with_aggregates c.args.scope.now m (aggregates_in c.get-in-And-2.result.now)) c.in_ok-gather-in-And.ensures
-    ∙ at_node c.args.scope.now c.args.out.now (node.And c.get-in-And.result.now c.get-in-And-2.result.now) c.args.expr.now is other)
-    c.gather-in-And-2.ensures
+    if_so c.gather_two-in-And.result
+    (λ new. new ∙ at_node c.args.scope.now c.args.out.now (node.And c.get-in-And.result.now c.get-in-And-2.result.now) c.args.expr.now is other)
+    c.gather_two-in-And.ensures
 
-pub gather-returns-in_ok-gather-in-Or : goal.gather-returns-in_ok-gather-in-Or
-gather-returns-in_ok-gather-in-Or t c =
+pub gather-returns-in-Or : goal.gather-returns-in-Or
+gather-returns-in-Or t c =
     let other : is_aggregate c.args.expr.now ≡ false = search (rules, the_lemmas) in
     let is = tree.rolls-Or _ _ ∙ ap₂ tree.Or c.get-in-Or.ensures c.get-in-Or-2.ensures ∙ sym c.in-Or.is in
-    if_so c.gather-in-Or-2.result
-    (λ new. new
-    ∙ ap (λ (m : Aggregates). with_aggregates c.args.scope.now m (aggregates_in c.get-in-Or-2.result.now)) c.in_ok-gather-in-Or.ensures
-    ∙ at_node c.args.scope.now c.args.out.now (node.Or c.get-in-Or.result.now c.get-in-Or-2.result.now) c.args.expr.now is other)
-    c.gather-in-Or-2.ensures
+    if_so c.gather_two-in-Or.result
+    (λ new. new ∙ at_node c.args.scope.now c.args.out.now (node.Or c.get-in-Or.result.now c.get-in-Or-2.result.now) c.args.expr.now is other)
+    c.gather_two-in-Or.ensures
 
-pub gather-returns-in_ok-gather-in-Between-2 : goal.gather-returns-in_ok-gather-in-Between-2
-gather-returns-in_ok-gather-in-Between-2 t c =
+pub gather-returns-in-Between : goal.gather-returns-in-Between
+gather-returns-in-Between t c =
     let other : is_aggregate c.args.expr.now ≡ false = search (rules, the_lemmas) in
     let is = tree.rolls-Between _ _ _ _ ∙ (λ i. tree.Between c.in-Between.negated (c.get-in-Between.ensures i) (c.get-in-Between-2.ensures i) (c.get-in-Between-3.ensures i)) ∙ sym c.in-Between.is in
-    if_so c.gather-in-Between-3.result
-    (λ new. new
-    ∙ ap (λ (m : Aggregates). with_aggregates c.args.scope.now m (aggregates_in c.get-in-Between-3.result.now))
-    (c.in_ok-gather-in-Between-2.ensures ∙ ap (λ (m : Aggregates). with_aggregates c.args.scope.now m (aggregates_in c.get-in-Between-2.result.now)) c.in_ok-gather-in-Between.ensures)
-    ∙ at_node c.args.scope.now c.args.out.now (node.Between c.in-Between.negated c.get-in-Between.result.now c.get-in-Between-2.result.now c.get-in-Between-3.result.now) c.args.expr.now is other)
-    c.gather-in-Between-3.ensures
+    if_so c.gather_three.result
+    (λ new. new ∙ at_node c.args.scope.now c.args.out.now (node.Between c.in-Between.negated c.get-in-Between.result.now c.get-in-Between-2.result.now c.get-in-Between-3.result.now) c.args.expr.now is other)
+    c.gather_three.ensures
 
-pub gather-returns-in_ok-gather-in-In : goal.gather-returns-in_ok-gather-in-In
-gather-returns-in_ok-gather-in-In t c =
+pub gather-returns-in-In : goal.gather-returns-in-In
+gather-returns-in-In t c =
     let other : is_aggregate c.args.expr.now ≡ false = search (rules, the_lemmas) in
     let is = tree.rolls-In _ _ _ ∙ ap₂ (tree.In c.in-In.negated) c.get-in-In.ensures c.as_slice.ensures ∙ sym c.in-In.is in
-    if_so c.gather_entries.result
-    (λ new. new
-    ∙ ap (λ (m : Aggregates). with_parts c.args.scope.now m (map aggregates_in c.as_slice.result.now)) c.in_ok-gather-in-In.ensures
-    ∙ at_node c.args.scope.now c.args.out.now (node.In c.in-In.negated c.get-in-In.result.now c.as_slice.result.now) c.args.expr.now is other)
-    c.gather_entries.ensures
+    if_so c.gather_in.result
+    (λ new. new ∙ at_node c.args.scope.now c.args.out.now (node.In c.in-In.negated c.get-in-In.result.now c.as_slice.result.now) c.args.expr.now is other)
+    c.gather_in.ensures
 
 pub gather-returns-in-Coalesce : goal.gather-returns-in-Coalesce
 gather-returns-in-Coalesce t c =
     let other : is_aggregate c.args.expr.now ≡ false = search (rules, the_lemmas) in
     let is = tree.rolls-Coalesce _ ∙ ap tree.Coalesce c.as_slice-in-Coalesce.ensures ∙ sym c.in-Coalesce.is in
-    if_so c.gather_entries-in-Coalesce.result
+    if_so c.gather_entries.result
     (λ new. new ∙ at_node c.args.scope.now c.args.out.now (node.Coalesce c.as_slice-in-Coalesce.result.now) c.args.expr.now is other)
-    c.gather_entries-in-Coalesce.ensures
+    c.gather_entries.ensures
 
 pub gather-returns-in_ok-gather_arms-in-Case : goal.gather-returns-in_ok-gather_arms-in-Case
 gather-returns-in_ok-gather_arms-in-Case t c =

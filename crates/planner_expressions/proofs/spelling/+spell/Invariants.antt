@@ -37,3 +37,15 @@ decreases-spell_arms l = 4 * goal.size-spell_arms l + 2
 
 abbrev pub decreases-spell_else : goal.decreases-spell_else
 decreases-spell_else l = 4 * goal.size-spell_else l + 2
+
+abbrev pub decreases-spell_in : goal.decreases-spell_in
+decreases-spell_in l = 4 * max (goal.size-spell_in l) (size-Expr l.subject.now) + 3
+
+abbrev pub decreases-spell_like : goal.decreases-spell_like
+decreases-spell_like l = 4 * goal.size-spell_like l + 3
+
+abbrev pub decreases-spell_coalesce : goal.decreases-spell_coalesce
+decreases-spell_coalesce l = 4 * goal.size-spell_coalesce l + 3
+
+abbrev pub decreases-spell_case : goal.decreases-spell_case
+decreases-spell_case l = 4 * goal.size-spell_case l + 3

@@ -155,86 +155,113 @@ pub eval_node-returns-in-Literal-clause-gives : goal.eval_node-returns-in-Litera
 eval_node-returns-in-Literal-clause-gives t c =
     as_lent _ _ _ _ _ _ (node.Literal c.in-Literal.value) c.in-Literal.is (literal_node _ _ _ _ _ _ (c.requires ∙ sym c.rows.ensures) c.repeated.ensures.value c.repeated.ensures.kind)
 
-pub eval_node-returns-in_ok-a-in-Minus-clause-gives : goal.eval_node-returns-in_ok-a-in-Minus-clause-gives
-eval_node-returns-in_ok-a-in-Minus-clause-gives t c =
-    as_node _ _ _ _ _ _ (node.Minus _) (c.in-Minus.is ∙ ap node.Minus (sym c.get.ensures)) (minus_node _ _ _ _ _ _ _ _ c.in_ok-a-in-Minus.ensures.gives c.of_minus.ensures.exact c.of_minus.ensures.kind)
+pub eval_node-returns-in-Minus-clause-gives : goal.eval_node-returns-in-Minus-clause-gives
+eval_node-returns-in-Minus-clause-gives t c = as_node _ _ _ _ _ _ (node.Minus c.in-Minus.operand) c.in-Minus.is c.minus_node.ensures.gives
 
-pub eval_node-returns-in_ok-a-in-Not-clause-gives : goal.eval_node-returns-in_ok-a-in-Not-clause-gives
-eval_node-returns-in_ok-a-in-Not-clause-gives t c =
-    as_node _ _ _ _ _ _ (node.Not _) (c.in-Not.is ∙ ap node.Not (sym c.get-in-Not.ensures))
-    (not_node _ _ _ _ _ _ _ _ (c.requires ∙ sym c.rows-in-Not.ensures) c.in_ok-a-in-Not.ensures.gives c.of_not.ensures.value c.of_not.ensures.kind)
+pub eval_node-returns-in-Arithmetic-clause-gives : goal.eval_node-returns-in-Arithmetic-clause-gives
+eval_node-returns-in-Arithmetic-clause-gives t c = as_node _ _ _ _ _ _ (node.Arithmetic c.in-Arithmetic.op c.in-Arithmetic.left c.in-Arithmetic.right) c.in-Arithmetic.is c.arithmetic_node.ensures.gives
 
-pub eval_node-returns-in_ok-left-in-Arithmetic-clause-gives : goal.eval_node-returns-in_ok-left-in-Arithmetic-clause-gives
-eval_node-returns-in_ok-left-in-Arithmetic-clause-gives t c =
-    as_node _ _ _ _ _ _ (node.Arithmetic c.in-Arithmetic.op c.get-in-Arithmetic.result.now c.get-in-Arithmetic-2.result.now)
-    (c.in-Arithmetic.is ∙ ap (λ e. node.Arithmetic c.in-Arithmetic.op e c.in-Arithmetic.b) (sym c.get-in-Arithmetic.ensures) ∙ ap (node.Arithmetic c.in-Arithmetic.op c.get-in-Arithmetic.result.now) (sym c.get-in-Arithmetic-2.ensures))
-    (arithmetic_node _ _ _ _ _ _ _ _ _ _ c.in_ok-left-in-Arithmetic.ensures.gives c.eval_arithmetic-result.ensures.gives)
+pub eval_node-returns-in-Compare-clause-gives : goal.eval_node-returns-in-Compare-clause-gives
+eval_node-returns-in-Compare-clause-gives t c = as_node _ _ _ _ _ _ (node.Compare c.in-Compare.op c.in-Compare.left c.in-Compare.right) c.in-Compare.is c.compare_node.ensures.gives
 
-pub eval_node-returns-in_ok-left-in-Compare-clause-gives : goal.eval_node-returns-in_ok-left-in-Compare-clause-gives
-eval_node-returns-in_ok-left-in-Compare-clause-gives t c =
-    as_node _ _ _ _ _ _ (node.Compare c.in-Compare.op c.get-in-Compare.result.now c.get-in-Compare-2.result.now)
-    (c.in-Compare.is ∙ ap (λ e. node.Compare c.in-Compare.op e c.in-Compare.b) (sym c.get-in-Compare.ensures) ∙ ap (node.Compare c.in-Compare.op c.get-in-Compare.result.now) (sym c.get-in-Compare-2.ensures))
-    (compare_node _ _ _ _ _ _ _ _ _ _ c.in_ok-left-in-Compare.ensures.gives c.eval_compare-result.ensures.gives)
+pub eval_node-returns-in-Not-clause-gives : goal.eval_node-returns-in-Not-clause-gives
+eval_node-returns-in-Not-clause-gives t c = as_node _ _ _ _ _ _ (node.Not c.in-Not.operand) c.in-Not.is c.not_node.ensures.gives
 
-pub eval_node-returns-in_ok-left-in-And-clause-gives : goal.eval_node-returns-in_ok-left-in-And-clause-gives
-eval_node-returns-in_ok-left-in-And-clause-gives t c =
-    as_node _ _ _ _ _ _ (node.And c.get-in-And.result.now c.get-in-And-2.result.now)
-    (c.in-And.is ∙ ap (λ e. node.And e c.in-And.b) (sym c.get-in-And.ensures) ∙ ap (node.And c.get-in-And.result.now) (sym c.get-in-And-2.ensures))
-    (and_node _ _ _ _ _ _ _ _ _ c.in_ok-left-in-And.ensures.gives c.eval_and-result.ensures.gives)
+pub eval_node-returns-in-And-clause-gives : goal.eval_node-returns-in-And-clause-gives
+eval_node-returns-in-And-clause-gives t c = as_node _ _ _ _ _ _ (node.And c.in-And.left c.in-And.right) c.in-And.is c.and_node.ensures.gives
 
-pub eval_node-returns-in_ok-left-in-Or-clause-gives : goal.eval_node-returns-in_ok-left-in-Or-clause-gives
-eval_node-returns-in_ok-left-in-Or-clause-gives t c =
-    as_node _ _ _ _ _ _ (node.Or c.get-in-Or.result.now c.get-in-Or-2.result.now)
-    (c.in-Or.is ∙ ap (λ e. node.Or e c.in-Or.b) (sym c.get-in-Or.ensures) ∙ ap (node.Or c.get-in-Or.result.now) (sym c.get-in-Or-2.ensures))
-    (or_node _ _ _ _ _ _ _ _ _ c.in_ok-left-in-Or.ensures.gives c.eval_or-result.ensures.gives)
+pub eval_node-returns-in-Or-clause-gives : goal.eval_node-returns-in-Or-clause-gives
+eval_node-returns-in-Or-clause-gives t c = as_node _ _ _ _ _ _ (node.Or c.in-Or.left c.in-Or.right) c.in-Or.is c.or_node.ensures.gives
 
-pub eval_node-returns-in_ok-subject-in-IsNull-clause-gives : goal.eval_node-returns-in_ok-subject-in-IsNull-clause-gives
-eval_node-returns-in_ok-subject-in-IsNull-clause-gives t c =
-    as_node _ _ _ _ _ _ (node.IsNull c.in-IsNull.negated c.get-in-IsNull.result.now) (c.in-IsNull.is ∙ ap (node.IsNull c.in-IsNull.negated) (sym c.get-in-IsNull.ensures))
-    (is_null_node _ _ _ _ _ _ _ _ _ (c.requires ∙ sym c.rows-in-IsNull.ensures) c.in_ok-subject-in-IsNull.ensures.gives c.of_is_null.ensures.value c.of_is_null.ensures.kind)
+pub eval_node-returns-in-IsNull-clause-gives : goal.eval_node-returns-in-IsNull-clause-gives
+eval_node-returns-in-IsNull-clause-gives t c = as_node _ _ _ _ _ _ (node.IsNull c.in-IsNull.negated c.in-IsNull.subject) c.in-IsNull.is c.is_null_node.ensures.gives
 
-pub eval_node-returns-in_ok-subject-in-Between-clause-gives : goal.eval_node-returns-in_ok-subject-in-Between-clause-gives
-eval_node-returns-in_ok-subject-in-Between-clause-gives t c =
-    let n = c.in-Between.negated in
-    let x = c.get-in-Between.result.now in
-    let low = c.get-in-Between-2.result.now in
-    as_node _ _ _ _ _ _ (node.Between n x low c.get-in-Between-3.result.now)
-    (c.in-Between.is
-    ∙ ap (λ e. node.Between n e c.in-Between.low c.in-Between.high) (sym c.get-in-Between.ensures)
-    ∙ ap (λ e. node.Between n x e c.in-Between.high) (sym c.get-in-Between-2.ensures)
-    ∙ ap (node.Between n x low) (sym c.get-in-Between-3.ensures))
-    (between_node _ _ _ _ _ _ _ _ _ _ _ _ _ _ _ (c.requires ∙ sym c.rows-in-Between.ensures) c.in_ok-subject-in-Between.ensures.gives
-    c.eval_compare-above.ensures.gives c.eval_above-within.ensures.gives c.not_if_known.ensures.value c.not_if_known.ensures.kind)
+pub eval_node-returns-in-Between-clause-gives : goal.eval_node-returns-in-Between-clause-gives
+eval_node-returns-in-Between-clause-gives t c = as_node _ _ _ _ _ _ (node.Between c.in-Between.negated c.in-Between.subject c.in-Between.low c.in-Between.high) c.in-Between.is c.between_node.ensures.gives
 
-pub eval_node-returns-then-len-eq0-clause-gives : goal.eval_node-returns-then-len-eq0-clause-gives
-eval_node-returns-then-len-eq0-clause-gives t c =
-    as_node _ _ _ _ _ _ (node.In c.in-In.negated c.in-In.subject c.in-In.list) c.in-In.is
-    (in_nothing _ _ _ _ _ _ _ _ _ (c.requires ∙ sym c.rows-then-len-eq0-2.ensures) (sym c.len.ensures ∙ c.if-len-eq0.true)
-    (λ i w. c.one_truth.ensures.value i (search (rules, w, c.rows-then-len-eq0.ensures, c.rows-then-len-eq0-2.ensures))) c.one_truth.ensures.kind c.not_if.ensures.value c.not_if.ensures.kind)
+pub eval_node-returns-in-In-clause-gives : goal.eval_node-returns-in-In-clause-gives
+eval_node-returns-in-In-clause-gives t c = as_node _ _ _ _ _ _ (node.In c.in-In.negated c.in-In.subject c.in-In.list) c.in-In.is c.in_node.ensures.gives
 
-pub eval_node-returns-in_ok-subject-in-In-clause-gives : goal.eval_node-returns-in_ok-subject-in-In-clause-gives
-eval_node-returns-in_ok-subject-in-In-clause-gives t c =
-    as_node _ _ _ _ _ _ (node.In c.in-In.negated c.get-in-In.result.now c.as_slice.result.now)
-    (c.in-In.is ∙ ap (λ e. node.In c.in-In.negated e c.in-In.list) (sym c.get-in-In.ensures) ∙ ap (node.In c.in-In.negated c.get-in-In.result.now) (sym c.as_slice.ensures))
-    (in_node _ _ _ _ _ _ _ _ _ _ _ _ (c.requires ∙ sym c.rows-in-In.ensures) (λ none. c.if-len-eq0.false (c.len.ensures ∙ ap (λ es. length es) (sym c.as_slice.ensures) ∙ none))
-    c.in_ok-subject-in-In.ensures.gives c.find_in-found.ensures.gives c.not_if_known-in-In.ensures.value c.not_if_known-in-In.ensures.kind)
+pub eval_node-returns-in-Like-clause-gives : goal.eval_node-returns-in-Like-clause-gives
+eval_node-returns-in-Like-clause-gives t c = as_node _ _ _ _ _ _ (node.Like c.in-Like.negated c.in-Like.subject c.in-Like.pattern) c.in-Like.is c.like_node.ensures.gives
 
-pub eval_node-returns-in_ok-subject-in-Like-clause-gives : goal.eval_node-returns-in_ok-subject-in-Like-clause-gives
-eval_node-returns-in_ok-subject-in-Like-clause-gives t c =
-    as_node _ _ _ _ _ _ (node.Like c.in-Like.negated c.get-in-Like.result.now c.in-Like.pattern) (c.in-Like.is ∙ ap (λ e. node.Like c.in-Like.negated e c.in-Like.pattern) (sym c.get-in-Like.ensures))
-    (like_node _ _ _ _ _ _ _ _ _ _ _ _ (c.requires ∙ sym c.rows-in-Like.ensures) (c.requires ∙ sym c.rows-in-Like-2.ensures) c.requires c.in_ok-subject-in-Like.ensures.gives
-    c.of_like-found.ensures.value c.of_like-found.ensures.kind c.not_if_known-in-Like.ensures.value c.not_if_known-in-Like.ensures.kind)
+pub eval_node-returns-in-Case-clause-gives : goal.eval_node-returns-in-Case-clause-gives
+eval_node-returns-in-Case-clause-gives t c = as_node _ _ _ _ _ _ (node.Case c.in-Case.arms c.in-Case.otherwise) c.in-Case.is c.case_node.ensures.gives
 
 pub eval_node-returns-in-Coalesce-clause-gives : goal.eval_node-returns-in-Coalesce-clause-gives
 eval_node-returns-in-Coalesce-clause-gives t c =
-    as_node _ _ _ _ _ _ (node.Coalesce c.as_slice-in-Coalesce.result.now) (c.in-Coalesce.is ∙ ap node.Coalesce (sym c.as_slice-in-Coalesce.ensures))
-    (coalesce_node _ _ _ _ _ _ c.eval_coalesce.ensures.gives)
+    as_node _ _ _ _ _ _ (node.Coalesce c.as_slice.result.now) (c.in-Coalesce.is ∙ ap node.Coalesce (sym c.as_slice.ensures)) (coalesce_node _ _ _ _ _ _ c.eval_coalesce.ensures.gives)
 
-pub eval_node-returns-in_ok-cases-in-Case-clause-gives : goal.eval_node-returns-in_ok-cases-in-Case-clause-gives
-eval_node-returns-in_ok-cases-in-Case-clause-gives t c =
-    as_node _ _ _ _ _ _ (node.Case c.as_slice-in-Case.result.now c.get-in-Case.result.now)
-    (c.in-Case.is ∙ ap (λ arms. node.Case arms c.in-Case.otherwise) (sym c.as_slice-in-Case.ensures) ∙ ap (node.Case c.as_slice-in-Case.result.now) (sym c.get-in-Case.ensures))
-    (case_node _ _ _ _ _ _ _ _ _ _ c.in_ok-cases-in-Case.ensures.gives c.eval_otherwise.ensures.gives)
+pub minus_node-returns-clause-gives : goal.minus_node-returns-clause-gives
+minus_node-returns-clause-gives t c =
+    as_node _ _ _ _ _ _ (node.Minus _) (ap node.Minus (sym c.get.ensures)) (minus_node _ _ _ _ _ _ _ _ c.in_ok-a.ensures.gives c.of_minus.ensures.exact c.of_minus.ensures.kind)
+
+pub not_node-returns-clause-gives : goal.not_node-returns-clause-gives
+not_node-returns-clause-gives t c =
+    as_node _ _ _ _ _ _ (node.Not _) (ap node.Not (sym c.get.ensures)) (not_node _ _ _ _ _ _ _ _ (c.requires ∙ sym c.rows.ensures) c.in_ok-a.ensures.gives c.of_not.ensures.value c.of_not.ensures.kind)
+
+pub arithmetic_node-returns-clause-gives : goal.arithmetic_node-returns-clause-gives
+arithmetic_node-returns-clause-gives t c =
+    as_node _ _ _ _ _ _ (node.Arithmetic c.args.op c.get.result.now c.get-2.result.now)
+    (ap (λ e. node.Arithmetic c.args.op e c.args.right.now) (sym c.get.ensures) ∙ ap (node.Arithmetic c.args.op c.get.result.now) (sym c.get-2.ensures))
+    (arithmetic_node _ _ _ _ _ _ _ _ _ _ c.in_ok-left.ensures.gives c.eval_arithmetic-result.ensures.gives)
+
+pub compare_node-returns-clause-gives : goal.compare_node-returns-clause-gives
+compare_node-returns-clause-gives t c =
+    as_node _ _ _ _ _ _ (node.Compare c.args.op c.get.result.now c.get-2.result.now)
+    (ap (λ e. node.Compare c.args.op e c.args.right.now) (sym c.get.ensures) ∙ ap (node.Compare c.args.op c.get.result.now) (sym c.get-2.ensures))
+    (compare_node _ _ _ _ _ _ _ _ _ _ c.in_ok-left.ensures.gives c.eval_compare-result.ensures.gives)
+
+pub and_node-returns-clause-gives : goal.and_node-returns-clause-gives
+and_node-returns-clause-gives t c =
+    as_node _ _ _ _ _ _ (node.And c.get.result.now c.get-2.result.now)
+    (ap (λ e. node.And e c.args.right.now) (sym c.get.ensures) ∙ ap (node.And c.get.result.now) (sym c.get-2.ensures))
+    (and_node _ _ _ _ _ _ _ _ _ c.in_ok-left.ensures.gives c.eval_and-result.ensures.gives)
+
+pub or_node-returns-clause-gives : goal.or_node-returns-clause-gives
+or_node-returns-clause-gives t c =
+    as_node _ _ _ _ _ _ (node.Or c.get.result.now c.get-2.result.now)
+    (ap (λ e. node.Or e c.args.right.now) (sym c.get.ensures) ∙ ap (node.Or c.get.result.now) (sym c.get-2.ensures))
+    (or_node _ _ _ _ _ _ _ _ _ c.in_ok-left.ensures.gives c.eval_or-result.ensures.gives)
+
+pub is_null_node-returns-clause-gives : goal.is_null_node-returns-clause-gives
+is_null_node-returns-clause-gives t c =
+    as_node _ _ _ _ _ _ (node.IsNull c.args.negated c.get.result.now) (ap (node.IsNull c.args.negated) (sym c.get.ensures))
+    (is_null_node _ _ _ _ _ _ _ _ _ (c.requires ∙ sym c.rows.ensures) c.in_ok-subject.ensures.gives c.of_is_null.ensures.value c.of_is_null.ensures.kind)
+
+pub between_node-returns-clause-gives : goal.between_node-returns-clause-gives
+between_node-returns-clause-gives t c =
+    let n = c.args.negated in
+    let x = c.get.result.now in
+    let low = c.get-2.result.now in
+    as_node _ _ _ _ _ _ (node.Between n x low c.get-3.result.now)
+    (ap (λ e. node.Between n e c.args.low.now c.args.high.now) (sym c.get.ensures) ∙ ap (λ e. node.Between n x e c.args.high.now) (sym c.get-2.ensures) ∙ ap (node.Between n x low) (sym c.get-3.ensures))
+    (between_node _ _ _ _ _ _ _ _ _ _ _ _ _ _ _ (c.requires ∙ sym c.rows.ensures) c.in_ok-subject.ensures.gives
+    c.eval_compare-above.ensures.gives c.eval_above-within.ensures.gives c.not_if_known.ensures.value c.not_if_known.ensures.kind)
+
+pub in_node-returns-then-len-eq0-clause-gives : goal.in_node-returns-then-len-eq0-clause-gives
+in_node-returns-then-len-eq0-clause-gives t c =
+    in_nothing _ _ _ _ _ _ _ _ _ (c.requires ∙ sym c.rows-then-len-eq0.ensures) (sym c.len.ensures ∙ c.if-len-eq0.true)
+    (λ i w. c.one_truth.ensures.value i (search (rules, w, c.rows.ensures, c.rows-then-len-eq0.ensures))) c.one_truth.ensures.kind c.not_if.ensures.value c.not_if.ensures.kind
+
+pub in_node-returns-clause-gives : goal.in_node-returns-clause-gives
+in_node-returns-clause-gives t c =
+    as_node _ _ _ _ _ _ (node.In c.args.negated c.get.result.now c.as_slice.result.now)
+    (ap (λ e. node.In c.args.negated e c.args.list.now) (sym c.get.ensures) ∙ ap (node.In c.args.negated c.get.result.now) (sym c.as_slice.ensures))
+    (in_node _ _ _ _ _ _ _ _ _ _ _ _ (c.requires ∙ sym c.rows-2.ensures) (λ none. c.if-len-eq0.false (c.len.ensures ∙ ap (λ es. length es) (sym c.as_slice.ensures) ∙ none))
+    c.in_ok-subject.ensures.gives c.find_in-found.ensures.gives c.not_if_known.ensures.value c.not_if_known.ensures.kind)
+
+pub like_node-returns-clause-gives : goal.like_node-returns-clause-gives
+like_node-returns-clause-gives t c =
+    as_node _ _ _ _ _ _ (node.Like c.args.negated c.get.result.now c.args.pattern.now) (ap (λ e. node.Like c.args.negated e c.args.pattern.now) (sym c.get.ensures))
+    (like_node _ _ _ _ _ _ _ _ _ _ _ _ (c.requires ∙ sym c.rows.ensures) (c.requires ∙ sym c.rows-2.ensures) c.requires c.in_ok-subject.ensures.gives
+    c.of_like-found.ensures.value c.of_like-found.ensures.kind c.not_if_known.ensures.value c.not_if_known.ensures.kind)
+
+pub case_node-returns-clause-gives : goal.case_node-returns-clause-gives
+case_node-returns-clause-gives t c =
+    as_node _ _ _ _ _ _ (node.Case c.as_slice.result.now c.get.result.now)
+    (ap (λ arms. node.Case arms c.args.otherwise.now) (sym c.as_slice.ensures) ∙ ap (node.Case c.as_slice.result.now) (sym c.get.ensures))
+    (case_node _ _ _ _ _ _ _ _ _ _ c.in_ok-cases.ensures.gives c.eval_otherwise.ensures.gives)
 
 pub eval-returns-in-Column-clause-gives : goal.eval-returns-in-Column-clause-gives
 eval-returns-in-Column-clause-gives t c = as_lent _ _ _ _ _ _ (node.Column c.in-Column.column) c.in-Column.is (column_node _ _ _ _ _ c.requires c.lent_column.ensures.value)

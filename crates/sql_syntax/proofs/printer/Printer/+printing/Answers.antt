@@ -26,7 +26,3 @@ pub put_list-returns : goal.put_list-returns
 put_list-returns t c =
     list_ends c.args.entries.now c.in-Some.first.now c.in-Some.rest.now c.loop-entry.entry-index (written c.args.self.now) (written c.put_at.new.self) (written c.loop-entry.self)
     (search rules) (search rules) (search rules) c.loop-entry.invariant
-
-pub put_expr-returns-in_ok-put_at-in-Arithmetic : goal.put_expr-returns-in_ok-put_at-in-Arithmetic
-put_expr-returns-in_ok-put_at-in-Arithmetic t c =
-    let s = reckon_step (written c.args.self.now) c.in-Arithmetic.operator c.get-in-Arithmetic.result.now c.get-in-Arithmetic-2.result.now in search (rules, s)

@@ -9,8 +9,9 @@ use Rattle.loader.specs.declared.fault.LoadFault.{LoadFault}
 use Rattle.loader.specs.declared.fault.LoadFault.TheVariants as load_fault
 use Rattle.folders.specs.Each.{AreEach}
 use Rattle.folders.specs.Folder.{Holds, csv_path}
-use Rattle.folders.specs.Refused.{IsReturnedAs, IsUnread, load_refusal}
+use Rattle.folders.specs.Refused.{IsAskedFor, IsReturnedAs, IsUnread, load_refusal}
 use Rattle.folders.specs.declared.refusal.Refusal.{Refusal}
+use Rattle.folders.specs.declared.refusal.Refusal.TheVariants as refusal
 use Rattle.loads.specs.Loading.{IsDimensionLoaded}
 use Rattle.loads.specs.Refusing.{IsDimensionRefused, IsFirstRefused}
 
@@ -22,6 +23,16 @@ uncounted folder table load_fault.Memory e stands (inr returned) = inl returned
 uncounted folder table load_fault.Device e stands (inl memory) = inl memory
 uncounted folder table load_fault.Device e stands (inr returned) = inr returned
 uncounted folder table (load_fault.Table f) e stands is = absurd stands
+
+-- a file that was asked for
+pub asked_behind : (asks : List ℕ → Type 0) (folder table : List ℕ) (fault : LoadFault) (e : Refusal) → asks (csv_path folder table) → IsReturnedAs (load_refusal folder table fault) e → IsAskedFor asks e
+asked_behind asks folder table fault e asked (inl memory) = λ path is. let bad : refusal.Memory ≡ refusal.CannotRead path = sym memory ∙ is in absurd (cc bad)
+asked_behind asks folder table load_fault.Memory e asked (inr returned) = λ path is. let bad : refusal.Memory ≡ refusal.CannotRead path = sym returned ∙ is in absurd (cc bad)
+asked_behind asks folder table (load_fault.Table f) e asked (inr returned) = λ path is. let bad : refusal.Load f ≡ refusal.CannotRead path = sym returned ∙ is in absurd (cc bad)
+asked_behind asks folder table load_fault.Device e asked (inr returned) = λ path is.
+    let same : refusal.CannotRead (csv_path folder table) ≡ refusal.CannotRead path = sym returned ∙ is in
+    let named : csv_path folder table ≡ path = cc same in
+    subst asks named asked
 
 -- ---- dimensions
 

@@ -5,6 +5,7 @@ ghost use Rattle.meaning.specs.Catalog.{IsWellFormed};
 ghost use Rattle.columns.specs.Column.{ColumnSpec};
 ghost use Rattle.folders.specs.Each.{AreEach};
 ghost use Rattle.folders.specs.Folder.{Writes};
+ghost use Rattle.folders.specs.Refused.{IsAskedFor};
 ghost use Rattle.loads.specs.Loading.{AreFiles, AreFragmentsClosed, IsCatalogLoaded, IsDimensionLoaded, IsLoadDone, loaded_line};
 ghost use Rattle.loads.specs.Refusing.{AreFragmentsUnwritten, IsCatalogLoadLeft, IsCatalogLoadRefused, IsLoadLeft, IsLoadRefused, IsQuiet, IsUnfinished, IsWrittenSoFar};
 
@@ -62,6 +63,7 @@ fn finish_load<F: Folder, O: Write>(
         target.now.catalog.now.dims dims
         × IsWrittenSoFar target.now.directory.now target.now.load target.now.catalog.now fact.cut
         fragments dims e (F.wrote folder.old) (F.wrote folder.new))) }
+    ensures unread { IfErr result (IsAskedFor (F.asks folder.old)) }
 {
     let Fact { rows, cut, files } = fact;
     let dims = load_dimensions(alloc, folder, target.directory, target.catalog)?;
@@ -93,6 +95,7 @@ fn load_declared<F: Folder, O: Write>(
     ensures left { IfErr result (λ e. IsCatalogLoadLeft (F.holds folder.old)
         target.now.directory.now target.now.load rows target.now.catalog.now e
         (F.wrote folder.old) (F.wrote folder.new)) }
+    ensures unread { IfErr result (IsAskedFor (F.asks folder.old)) }
 {
     let fact = load_fact(alloc, folder, target, rows)?;
     finish_load(alloc, folder, target, fact, out)
@@ -122,6 +125,8 @@ pub fn load_tables<F: Folder, O: Write>(
     ensures quiet { IfErr result (λ e. IsQuiet e (O.contents out.old) (O.contents out.new)) }
     ensures left { IfErr result (λ e. IsLoadLeft (F.holds folder.old) directory.now load rows e
         (F.wrote folder.old) (F.wrote folder.new)) }
+    // A file that can't be read was asked for.
+    ensures unread { IfErr result (IsAskedFor (F.asks folder.old)) }
 {
     let catalog = read_tables(alloc, folder, directory)?;
     let target = Target {

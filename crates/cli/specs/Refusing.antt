@@ -1,7 +1,9 @@
 -- Why a command is refused: the first thing that is wrong in the folder's bytes, in the command's order.
-use Rattle.std.specs.Prelude.{◌≡◌, ◌⊎◌, ℕ, ◌<◌, ◌≤◌, List, ◌∷◌, ◌++◌, drop, length, Contains, Option, None, Some, IfSome, Ok, Err, ⊤}
+use Rattle.std.specs.Prelude.{◌≡◌, ◌⊎◌, ℕ, ◌<◌, ◌≤◌, List, ◌∷◌, ◌++◌, drop, length, All, Contains, Option, None, Some, IfSome, Ok, Err, ⊤}
 use Rattle.meaning.specs.declared.catalog.Catalog.{Catalog}
 use Rattle.meaning.specs.declared.catalog.Dimension.{Dimension}
+use Rattle.meaning.specs.declared.plan.Join.{Join}
+use Rattle.meaning.specs.declared.plan.Plan.{Plan}
 use Rattle.meaning.specs.declared.cut.CutFault.{CutFault}
 use Rattle.meaning.specs.declared.table.TableFault.{TableFault}
 use Rattle.catalog_reader.specs.CatalogText.{catalog_of}
@@ -37,6 +39,25 @@ IsFileUncut path csv rows e = IsUnread path e ⊎ IsUneven (length (drop 1 (csv_
 abbrev pub IsFactUncut : List ℕ → Option CsvFile → ℕ → Refusal → Type 0
 IsFactUncut folder None rows e = IsUneven 0 rows e
 IsFactUncut folder (Some file) rows e = IsFileUncut (csv_path folder file.table) file.bytes.items rows e
+
+-- ---- the files of a query's tables
+
+-- the files of these tables were asked for
+abbrev pub AreAsked : (List ℕ → Type 0) → List ℕ → List CsvFile → Type 0
+AreAsked asks folder files = All (λ file. asks (csv_path folder file.table)) files
+
+-- so were those of the dimensions that are joined
+abbrev pub AreJoinedAsked : (List ℕ → Type 0) → List ℕ → List Join → Type 0
+AreJoinedAsked asks folder joins = All (λ join. asks (csv_path folder join.dim.name)) joins
+
+-- the path of the CSV file of a plan's fact, or of a dimension that it joins
+abbrev pub IsCsvOfPlan : List ℕ → Plan → List ℕ → Type 0
+IsCsvOfPlan folder plan path = (path ≡ csv_path folder plan.fact.name)
+    ⊎ ((join : Join) × Contains plan.joins join × (path ≡ csv_path folder join.dim.name))
+
+-- a file that can't be read is one of them
+abbrev pub IsUnreadOfPlan : List ℕ → Plan → Refusal → Type 0
+IsUnreadOfPlan folder plan e = (path : List ℕ) → e ≡ refusal.CannotRead path → IsCsvOfPlan folder plan path
 
 -- ---- the commands
 

@@ -7,10 +7,12 @@ ghost use Rattle.planner.specs.QueryText.{IsPlanned};
 ghost use Rattle.gathering.specs.Gathering.{GatherSpec};
 ghost use Rattle.coordinator.specs.Whole.{IsAnswered};
 ghost use Rattle.command_line.specs.Command.{IsInRange};
-ghost use Rattle.cli.specs.Refusing.{IsInputRefused, IsQueryRefused, IsRefusedOver, IsRefusedSo, IsSilent, IsUnreadFirst, IsWholeRefused};
+ghost use Rattle.cli.specs.Refusing.{IsInputRefused, IsQueryRefused, IsRefusedOver, IsRefusedSo, IsSilent, IsUnreadFirst, IsUnreadOfPlan, IsWholeRefused};
 ghost use Rattle.loads.specs.Refusing.{IsQuiet};
 ghost use Rattle.cli.specs.Running.{AreTables, IsAnsweredSo, IsWholeDone, IsCommandDone, IsReportedAs, input_over};
 ghost use Rattle.cli.specs.Status.{IsEndStatus, IsRunStatus, end_status, report_status};
+ghost use Rattle.folders.specs.Folder.{csv_path};
+ghost use Rattle.folders.specs.Refused.{IsAskedFor};
 ghost use Rattle.folders.specs.declared.refusal.Refusal.{Refusal as ARefusal};
 ghost use Rattle.jobs.specs.Gathering.{IsGatherLeft, IsGatherRefused, IsGatherUnread};
 ghost use Rattle.jobs.specs.Working.{IsWorked, IsWorkRefused, IsWorkUnread};
@@ -72,6 +74,10 @@ fn answer_over<O: Write>(
         → IsInputRefused question.now.directory.now
         (input_over text tables.now question.now.query.now question.now.vector) e) }
     ensures quiet { IfErr result (λ e. IsQuiet e (O.contents out.old) (O.contents out.new)) }
+    ensures missing { IfErr result (λ e. (text : List ℕ)
+        → catalog_of text ≡ Ok question.now.catalog.now
+        → IsPlanned question.now.catalog.now question.now.query.now (Ok plan)
+        → IsUnreadOfPlan question.now.directory.now plan e) }
 {
     let csvs = match lend_files(alloc, tables) {
         Ok(csvs) => csvs,
@@ -108,6 +114,8 @@ fn answer_planned<F: Folder, O: Write>(
     requires plan { IsSoundPlan plan }
     requires fact { AreTables (F.holds folder.now) question.now.directory.now
         question.now.catalog.now.fact.name question.now.rows fact }
+    requires asked { F.asks folder.now
+        (csv_path question.now.directory.now question.now.catalog.now.fact.name) }
     ensures answered { IfOk result (λ ended. (text : List ℕ)
         → catalog_of text ≡ Ok question.now.catalog.now
         → IsPlanned question.now.catalog.now question.now.query.now (Ok plan)
@@ -120,6 +128,10 @@ fn answer_planned<F: Folder, O: Write>(
         → IsRefusedOver (F.holds folder.now) question.now.directory.now text
         question.now.catalog.now question.now.query.now question.now.rows question.now.vector e) }
     ensures quiet { IfErr result (λ e. IsQuiet e (O.contents out.old) (O.contents out.new)) }
+    ensures unread { IfErr result (λ e. (text : List ℕ)
+        → catalog_of text ≡ Ok question.now.catalog.now
+        → IsPlanned question.now.catalog.now question.now.query.now (Ok plan)
+        → IsAskedFor (F.asks folder.now) e) }
 {
     match read_dims(alloc, folder, question.directory, plan.joins.as_slice()) {
         Ok(dims) => {
@@ -154,6 +166,8 @@ fn answer_declared<F: Folder, O: Write>(
         → IsQueryRefused (F.holds folder.now) question.now.directory.now text
         question.now.catalog.now question.now.query.now question.now.rows question.now.vector e) }
     ensures quiet { IfErr result (λ e. IsQuiet e (O.contents out.old) (O.contents out.new)) }
+    ensures unread { IfErr result (λ e. (text : List ℕ)
+        → catalog_of text ≡ Ok question.now.catalog.now → IsAskedFor (F.asks folder.now) e) }
 {
     let Question {
         directory,
@@ -184,6 +198,7 @@ fn answer<F: Folder, O: Write>(
         (IsWholeRefused (F.holds folder.now) request.now.directory.now request.now.query.now
         request.now.rows request.now.vector) }
     ensures quiet { IfErr result (λ e. IsQuiet e (O.contents out.old) (O.contents out.new)) }
+    ensures unread { IfErr result (IsAskedFor (F.asks folder.now)) }
 {
     let bytes = read_catalog_file(alloc, folder, request.directory)?;
     let catalog = read_catalog(alloc, bytes.as_slice())?;
@@ -216,6 +231,7 @@ fn gather<F: Folder, O: Write, E: Write>(
     ensures left { OnErr result
         (IsGatherLeft (F.holds folder.old) command.now (E.contents err.old) (F.wrote folder.old)
         (F.wrote folder.new)) }
+    ensures unread { IfErr result (IsAskedFor (F.asks folder.old)) }
 {
     let report = gather_answers(alloc, folder, command, out, err)?;
     Ok(status_of_report(&report))
@@ -228,6 +244,7 @@ fn work<F: Folder>(alloc: Global, folder: &mut F, command: &WorkCommand) -> Resu
     ensures first { IfErr result
         (IsWorkUnread (F.holds folder.old) (F.opens folder.old) command.now) }
     ensures left { OnErr result (F.wrote folder.new ≡ F.wrote folder.old) }
+    ensures unread { IfErr result (IsAskedFor (F.asks folder.old)) }
 {
     answer_fragment(alloc, folder, command)
 }
@@ -261,6 +278,8 @@ pub fn outcome<F: Folder, O: Write, E: Write>(
     ensures first { IfErr result
         (IsUnreadFirst (F.holds folder.old) (F.opens folder.old) command.now) }
     ensures silent { OnErr result (IsSilent command.now (E.contents err.old) (E.contents err.new)) }
+    // A file that can't be read was asked for.
+    ensures unread { IfErr result (IsAskedFor (F.asks folder.old)) }
 {
     match command {
         Command::Whole {
@@ -311,7 +330,8 @@ pub fn run<F: Folder, O: Write, E: Write>(
     ensures refused { result ≡ 1 → (e : ARefusal)
         × IsRefusedSo (F.holds folder.old) command.now (O.contents out.old) (O.contents out.new)
         (E.contents err.old) (F.wrote folder.old) (F.wrote folder.new) e
-        × IsUnreadFirst (F.holds folder.old) (F.opens folder.old) command.now e }
+        × IsUnreadFirst (F.holds folder.old) (F.opens folder.old) command.now e
+        × IsAskedFor (F.asks folder.old) e }
 {
     match outcome(alloc, command, folder, out, err) {
         Ok(status) => status,

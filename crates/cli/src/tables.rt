@@ -1,11 +1,14 @@
 //! The CSV files of a catalogue's tables.
 ghost use Rattle.std.specs.Prelude.{◌≡◌, ◌≤◌, ℕ, Ok, Some, IfErr, IfOk, IfSome, OnOk, All, length, drop, sum};
+ghost use Rattle.std.specs.List.{list_any};
+ghost use Rattle.std.specs.Str.{bytes_eq};
 ghost use Rattle.meaning.specs.Cut.{cut_of, even_lengths};
 ghost use Rattle.loader.specs.Source.{csv_records};
 ghost use Rattle.coordinator.specs.Whole.{files_in};
 ghost use Rattle.folders.specs.Folder.{AreHeld, csv_path};
+ghost use Rattle.folders.specs.Refused.{IsAskedFor};
 ghost use Rattle.folders.specs.declared.refusal.Refusal.TheVariants.{Memory};
-ghost use Rattle.cli.specs.Refusing.{AreTablesUncut, IsFactUncut, IsFileUncut};
+ghost use Rattle.cli.specs.Refusing.{AreAsked, AreJoinedAsked, AreTablesUncut, IsFactUncut, IsFileUncut};
 ghost use Rattle.cli.specs.Running.{AreTables, IsCsvOf, files_of, rows_behind};
 
 use folders::{Folder, Refusal, csv_path, try_read};
@@ -37,6 +40,7 @@ fn try_read_csv<F: Folder>(
     ensures held { IfOk result
         (λ found. IfSome found (λ file. IsCsvOf (F.holds folder.now) directory.now file
         × (file.table ≡ table.now))) }
+    ensures asked { OnOk result (F.asks folder.now (csv_path directory.now table.now)) }
     ensures refused { IfErr result (λ e. e ≡ Memory) }
 {
     let path = csv_path(alloc, directory, table.as_str())?;
@@ -90,6 +94,8 @@ pub fn read_fact<F: Folder>(
     ensures tables { IfOk result (AreTables (F.holds folder.now) directory.now name.now rows) }
     ensures refused { IfErr result (AreTablesUncut (F.holds folder.now) directory.now name.now
         rows) }
+    ensures asked { OnOk result (F.asks folder.now (csv_path directory.now name.now)) }
+    ensures unread { IfErr result (IsAskedFor (F.asks folder.now)) }
 {
     let fact = try_read_csv(alloc, folder, directory, name)?;
     let cut = cut_evenly(alloc, directory, &fact, rows)?;
@@ -98,7 +104,9 @@ pub fn read_fact<F: Folder>(
 }
 
 /// Whether the table's file is among these.
-fn is_read(files: &[CsvFile], table: &str) -> bool {
+fn is_read(files: &[CsvFile], table: &str) -> bool
+    ensures { result ≡ list_any (λ file. bytes_eq file.table table.now) files.now }
+{
     files.iter().any(|file| file.table.as_str() == table)
 }
 
@@ -113,6 +121,10 @@ fn read_once<F: Folder>(
     ensures held { OnOk result (All (IsCsvOf (F.holds folder.now) directory.now) files.old.items
         → All (IsCsvOf (F.holds folder.now) directory.now) files.new.items) }
     ensures refused { IfErr result (λ e. e ≡ Memory) }
+    ensures asked { OnOk result (AreAsked (F.asks folder.now) directory.now files.old.items
+        → AreAsked (F.asks folder.now) directory.now files.new.items) }
+    ensures one { OnOk result (AreAsked (F.asks folder.now) directory.now files.old.items
+        → F.asks folder.now (csv_path directory.now table.now)) }
 {
     if is_read(files, table.as_str()) {
         return Ok(());
@@ -133,6 +145,7 @@ pub fn read_dims<F: Folder>(
     ensures held { IfOk result
         (λ files. All (IsCsvOf (F.holds folder.now) directory.now) files.items) }
     ensures refused { IfErr result (λ e. e ≡ Memory) }
+    ensures asked { OnOk result (AreJoinedAsked (F.asks folder.now) directory.now joins.now) }
 {
     let mut files = Vec::new(alloc);
     for join in joins {

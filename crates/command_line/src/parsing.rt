@@ -215,14 +215,41 @@ fn gather(alloc: Global, parts: &Parts<'_>) -> Result<Option<Command>, AllocErro
     let Some(preview) = parts.only_flag("preview") else {
         return Ok(None);
     };
-    Ok(Some(Command::Gather(GatherCommand {
-        folder: Text::new(alloc, folder)?,
-        query: Text::new(alloc, query)?,
-        save: text_if_any(alloc, save)?,
-        journal: text_if_any(alloc, journal)?,
+    let command = gather_command(alloc, folder, query, save, journal, preview, files)?;
+    Ok(Some(Command::Gather(command)))
+}
+
+fn gather_command(
+    alloc: Global,
+    folder: &str,
+    query: &str,
+    save: Option<&str>,
+    journal: Option<&str>,
+    preview: bool,
+    files: &[&str],
+) -> Result<GatherCommand, AllocError>
+    ensures { IfOk result (λ command. command ≡ record {
+      folder = folder.now;
+      query = query.now;
+      save = option_map (λ s. s.now) save.entry;
+      journal = option_map (λ s. s.now) journal.entry;
+      preview = preview;
+      files = map (λ w. w.now) files.now;
+    }) }
+{
+    let save = text_if_any(alloc, save)?;
+    let journal = text_if_any(alloc, journal)?;
+    let folder = Text::new(alloc, folder)?;
+    let query = Text::new(alloc, query)?;
+    let files = texts(alloc, files)?;
+    Ok(GatherCommand {
+        folder,
+        query,
+        save,
+        journal,
         preview,
-        files: texts(alloc, files)?,
-    })))
+        files,
+    })
 }
 
 fn text_if_any(alloc: Global, text: Option<&str>) -> Result<Option<Text>, AllocError>

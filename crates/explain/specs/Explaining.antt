@@ -1,5 +1,5 @@
 -- What a plan that is explained is of, and why there is none.
-use Rattle.std.specs.Prelude.{◌≡◌, ◌⊎◌, ℕ, List, [], ◌∷◌, ◌++◌, Ok, Option, codes}
+use Rattle.std.specs.Prelude.{◌≡◌, ◌⊎◌, ℕ, List, [], ◌∷◌, ◌++◌, Ok, Option, codes, length}
 use Rattle.std.specs.Io.KnownBytes.{Appends}
 use Rattle.meaning.specs.declared.catalog.Catalog.{Catalog}
 use Rattle.meaning.specs.declared.plan.Plan.{Plan}
@@ -7,6 +7,7 @@ use Rattle.folders.specs.Folder.{Holds}
 use Rattle.folders.specs.Tables.{IsCatalogRefused, IsCatalogThere}
 use Rattle.folders.specs.declared.refusal.Refusal.{Refusal}
 use Rattle.folders.specs.declared.refusal.Refusal.TheVariants as refusal
+use Rattle.explain.specs.Conditions.{AreConditions}
 use Rattle.planner.specs.QueryText.{IsPlanned, IsTextRefused}
 use Rattle.planner.specs.declared.query_fault.QueryFault.{QueryFault}
 use Rattle.planner.specs.declared.query_fault.QueryFault.TheVariants as fault
@@ -23,9 +24,18 @@ with_text front plan = ((front ++ codes "text: ") ++ plan.text) ++ 10 ∷ []
 abbrev pub EndsWithText : Plan → List ℕ → Type 0
 EndsWithText plan text = (front : List ℕ) × (text ≡ with_text front plan)
 
--- a text was printed that ends with the plan's
+-- the lines of the plan's conditions stand in it, each with the condition's place, and the last line is that of the plan's text
+pub record IsOutline (plan : Plan) (text : List ℕ) : Type 0 where
+  pub head : List ℕ
+  pub conditions : List ℕ
+  pub conditions_are : AreConditions (length plan.joins) plan.conjuncts conditions
+  pub tail : List ℕ
+  pub ends : EndsWithText plan tail
+  pub whole : text ≡ head ++ (conditions ++ tail)
+
+-- such a text was printed
 abbrev pub Prints : Plan → Option (List ℕ) → Option (List ℕ) → Type 0
-Prints plan before after = (text : List ℕ) × EndsWithText plan text × Appends before after text
+Prints plan before after = (text : List ℕ) × IsOutline plan text × Appends before after text
 
 -- the same of the plan that the query has over declared tables
 abbrev pub PrintsOver : Catalog → List ℕ → Option (List ℕ) → Option (List ℕ) → Type 0

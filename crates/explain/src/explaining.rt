@@ -5,7 +5,7 @@ ghost use Rattle.folders.specs.declared.refusal.Refusal.{Refusal as ARefusal};
 ghost use Rattle.folders.specs.declared.refusal.Refusal.TheVariants as refusal_is;
 ghost use Rattle.planner.specs.QueryText.{IsPlanned, IsTextRefused};
 ghost use Rattle.planner.specs.declared.query_fault.QueryFault.TheVariants as query_fault;
-ghost use Rattle.explain.specs.Explaining.{EndsWithText, IsExplained, IsUnexplained, IsUnexplainedOver, PrintsOver, PrintsPlan, of_query};
+ghost use Rattle.explain.specs.Explaining.{IsExplained, IsOutline, IsUnexplained, IsUnexplainedOver, PrintsOver, PrintsPlan, of_query};
 
 use crate::outline::outline;
 use crate::pointing::{point, put_meaning};
@@ -21,7 +21,7 @@ use std::mem::drop;
 
 /// The text of a query's plan. The query is read for the names that its tables go by.
 fn text_of_plan(alloc: Global, query: &str, plan: &Plan) -> Result<String, QueryFault>
-    ensures text { IfOk result (λ text. EndsWithText plan.now (string_bytes text)) }
+    ensures text { IfOk result (λ text. IsOutline plan.now (string_bytes text)) }
     ensures refused { IfErr result (λ e. e ≡ query_fault.Memory) }
 {
     let Ok(tree) = read(alloc, query.as_bytes()) else {
@@ -39,7 +39,7 @@ fn text_of_plan(alloc: Global, query: &str, plan: &Plan) -> Result<String, Query
 fn text_over(alloc: Global, catalog: &Catalog, query: &str) -> Result<String, QueryFault>
     ensures planned { IfOk result
         (λ text. (plan : APlan) × IsPlanned catalog.now query.now (Ok plan)
-        × EndsWithText plan (string_bytes text)) }
+        × IsOutline plan (string_bytes text)) }
     ensures refused { IfErr result (IsTextRefused catalog.now query.now) }
 {
     match plan_query(alloc, catalog, query.as_bytes()) {

@@ -95,6 +95,121 @@ fn put_behind_sign(
     put_behind(out, names, " ", level, expr)
 }
 
+/// Two operands with an operator of arithmetic between.
+#[cycle(writing)]
+fn put_arithmetic(out: &mut String, names: &Names<'_>, expr: &Expr) -> Result<(), AllocError> {
+    let Expr::Arithmetic(operator, left, right) = expr else {
+        return Ok(());
+    };
+    let level = level_of_arithmetic(*operator);
+    put_at(out, names, level, left.get())?;
+    let sign = sign_of_arithmetic(*operator);
+    put_behind_sign(out, names, sign, level.next(), right.get())
+}
+
+#[cycle(writing)]
+fn put_comparison(out: &mut String, names: &Names<'_>, expr: &Expr) -> Result<(), AllocError> {
+    let Expr::Compare(operator, left, right) = expr else {
+        return Ok(());
+    };
+    put_at(out, names, Level::Sum, left.get())?;
+    let sign = sign_of_comparison(*operator);
+    put_behind_sign(out, names, sign, Level::Sum, right.get())
+}
+
+#[cycle(writing)]
+fn put_and(out: &mut String, names: &Names<'_>, expr: &Expr) -> Result<(), AllocError> {
+    let Expr::And(left, right) = expr else {
+        return Ok(());
+    };
+    put_at(out, names, Level::Conjunction, left.get())?;
+    put_behind(out, names, " AND ", Level::Negation, right.get())
+}
+
+#[cycle(writing)]
+fn put_or(out: &mut String, names: &Names<'_>, expr: &Expr) -> Result<(), AllocError> {
+    let Expr::Or(left, right) = expr else {
+        return Ok(());
+    };
+    put_at(out, names, Level::Disjunction, left.get())?;
+    put_behind(out, names, " OR ", Level::Conjunction, right.get())
+}
+
+#[cycle(writing)]
+fn put_is_null(out: &mut String, names: &Names<'_>, expr: &Expr) -> Result<(), AllocError> {
+    let Expr::IsNull { negated, subject } = expr else {
+        return Ok(());
+    };
+    put_at(out, names, Level::Sum, subject.get())?;
+    out.push_str(if *negated { " IS NOT NULL" } else { " IS NULL" })
+}
+
+/// What a predicate is about, and whether NOT stands behind it.
+#[cycle(writing)]
+fn put_subject(
+    out: &mut String,
+    names: &Names<'_>,
+    negated: bool,
+    subject: &Expr,
+) -> Result<(), AllocError> {
+    put_at(out, names, Level::Sum, subject)?;
+    out.push_str(if negated { " NOT" } else { "" })
+}
+
+#[cycle(writing)]
+fn put_between(out: &mut String, names: &Names<'_>, expr: &Expr) -> Result<(), AllocError> {
+    let Expr::Between {
+        negated,
+        subject,
+        low,
+        high,
+    } = expr
+    else {
+        return Ok(());
+    };
+    put_subject(out, names, *negated, subject.get())?;
+    put_behind(out, names, " BETWEEN ", Level::Sum, low.get())?;
+    put_behind(out, names, " AND ", Level::Sum, high.get())
+}
+
+#[cycle(writing)]
+fn put_in(out: &mut String, names: &Names<'_>, expr: &Expr) -> Result<(), AllocError> {
+    let Expr::In {
+        negated,
+        subject,
+        list,
+    } = expr
+    else {
+        return Ok(());
+    };
+    put_subject(out, names, *negated, subject.get())?;
+    put_list(out, names, " IN (", list.as_slice())
+}
+
+#[cycle(writing)]
+fn put_like(out: &mut String, names: &Names<'_>, expr: &Expr) -> Result<(), AllocError> {
+    let Expr::Like {
+        negated,
+        subject,
+        pattern,
+    } = expr
+    else {
+        return Ok(());
+    };
+    put_subject(out, names, *negated, subject.get())?;
+    out.push_str(" LIKE ")?;
+    put_text(out, pattern.as_str())
+}
+
+#[cycle(writing)]
+fn put_case(out: &mut String, names: &Names<'_>, expr: &Expr) -> Result<(), AllocError> {
+    let Expr::Case { arms, otherwise } = expr else {
+        return Ok(());
+    };
+    put_arms(out, names, arms.as_slice())?;
+    put_else(out, names, otherwise.get())
+}
+
 #[cycle(writing)]
 fn put_expr(out: &mut String, names: &Names<'_>, expr: &Expr) -> Result<(), AllocError> {
     match expr {
@@ -104,70 +219,18 @@ fn put_expr(out: &mut String, names: &Names<'_>, expr: &Expr) -> Result<(), Allo
         | Expr::Aggregate(_)
         | Expr::Literal(_) => put_leaf(out, names, expr),
         Expr::Minus(operand) => put_behind(out, names, "-", Level::Primary, operand.get()),
-        Expr::Arithmetic(operator, left, right) => {
-            let level = level_of_arithmetic(*operator);
-            put_at(out, names, level, left.get())?;
-            let sign = sign_of_arithmetic(*operator);
-            put_behind_sign(out, names, sign, level.next(), right.get())
-        }
-        Expr::Compare(operator, left, right) => {
-            put_at(out, names, Level::Sum, left.get())?;
-            let sign = sign_of_comparison(*operator);
-            put_behind_sign(out, names, sign, Level::Sum, right.get())
-        }
+        Expr::Arithmetic(_, _, _) => put_arithmetic(out, names, expr),
+        Expr::Compare(_, _, _) => put_comparison(out, names, expr),
         Expr::Not(operand) => put_behind(out, names, "NOT ", Level::Negation, operand.get()),
-        Expr::And(left, right) => {
-            put_at(out, names, Level::Conjunction, left.get())?;
-            put_behind(out, names, " AND ", Level::Negation, right.get())
-        }
-        Expr::Or(left, right) => {
-            put_at(out, names, Level::Disjunction, left.get())?;
-            put_behind(out, names, " OR ", Level::Conjunction, right.get())
-        }
-        Expr::IsNull { negated, subject } => {
-            put_at(out, names, Level::Sum, subject.get())?;
-            out.push_str(if *negated { " IS NOT NULL" } else { " IS NULL" })
-        }
-        Expr::Between {
-            negated,
-            subject,
-            low,
-            high,
-        } => {
-            put_at(out, names, Level::Sum, subject.get())?;
-            put_not(out, *negated)?;
-            put_behind(out, names, " BETWEEN ", Level::Sum, low.get())?;
-            put_behind(out, names, " AND ", Level::Sum, high.get())
-        }
-        Expr::In {
-            negated,
-            subject,
-            list,
-        } => {
-            put_at(out, names, Level::Sum, subject.get())?;
-            put_not(out, *negated)?;
-            put_list(out, names, " IN (", list.as_slice())
-        }
-        Expr::Like {
-            negated,
-            subject,
-            pattern,
-        } => {
-            put_at(out, names, Level::Sum, subject.get())?;
-            put_not(out, *negated)?;
-            out.push_str(" LIKE ")?;
-            put_text(out, pattern.as_str())
-        }
+        Expr::And(_, _) => put_and(out, names, expr),
+        Expr::Or(_, _) => put_or(out, names, expr),
+        Expr::IsNull { .. } => put_is_null(out, names, expr),
+        Expr::Between { .. } => put_between(out, names, expr),
+        Expr::In { .. } => put_in(out, names, expr),
+        Expr::Like { .. } => put_like(out, names, expr),
         Expr::Coalesce(list) => put_list(out, names, "COALESCE(", list.as_slice()),
-        Expr::Case { arms, otherwise } => {
-            put_arms(out, names, arms.as_slice())?;
-            put_else(out, names, otherwise.get())
-        }
+        Expr::Case { .. } => put_case(out, names, expr),
     }
-}
-
-fn put_not(out: &mut String, negated: bool) -> Result<(), AllocError> {
-    out.push_str(if negated { " NOT" } else { "" })
 }
 
 /// Expressions between brackets, of which the opening one stands behind some words.

@@ -2,6 +2,7 @@
 #![tactic(auto)]
 
 mod column_types;
+mod conditions;
 mod explaining;
 mod expressions;
 mod names;

@@ -1,11 +1,11 @@
 //! A plan as an indented tree, one operator a line.
 ghost use Rattle.std.specs.Prelude.{◌≡◌, ◌++◌, ◌∷◌, [], IfOk, OnOk, string_bytes};
-ghost use Rattle.explain.specs.Explaining.{EndsWithText, with_text};
+ghost use Rattle.explain.specs.Explaining.{EndsWithText, IsOutline, with_text};
 
 use crate::column_types::type_over;
+use crate::conditions::condition_lines;
 use crate::expressions::{phrase_aggregates, phrase_keys, put};
 use crate::names::{NamedTable, Names, Phrase};
-use crate::placing::{Place, count_leading, place_of};
 use crate::words::type_word;
 use meaning::{Expr, Item, Join, JoinType, OrderKey, Plan};
 use sql_syntax::Query;
@@ -142,66 +142,13 @@ impl OperatorLines {
         self.end()
     }
 
-    /// How a condition is tested.
-    fn put_place(
-        &mut self,
-        names: &Names<'_>,
-        place: Place,
-        leads: bool,
-    ) -> Result<(), AllocError> {
-        match place {
-            Place::Dimension(join) => self.put_marks(names, join, leads),
-            Place::Blocks(column) => {
-                self.text.push_str("on blocks of ")?;
-                names.put_column(&mut self.text, &names.fact, column)?;
-                self.text.push_str(" that have entries, else on rows")
-            }
-            Place::Rows => self.text.push_str("on rows"),
-        }
-    }
-
-    /// A condition on a dimension's rows, which leaves a mark for each.
-    fn put_marks(&mut self, names: &Names<'_>, join: usize, leads: bool) -> Result<(), AllocError> {
-        self.text.push_str("ahead on the rows of ")?;
-        match names.dims.get(join) {
-            Some(table) => self.text.push_str(table.called)?,
-            None => self.text.push_str("?")?,
-        }
-        self.text.push_str(if leads {
-            ", by marks at its lookup"
-        } else {
-            ", by marks in this place"
-        })
-    }
-
-    /// The line of a condition, which has this number.
-    fn put_condition(
-        &mut self,
-        names: &Names<'_>,
-        condition: &Expr,
-        number: usize,
-        leads: bool,
-    ) -> Result<(), AllocError> {
-        self.indent()?;
-        let text = &mut self.text;
-        write!(text, "{number}. ")?;
-        put(&mut self.text, names, condition)?;
-        self.text.push_str(": ")?;
-        self.put_place(names, place_of(condition, names.dims.len()), leads)?;
-        self.end()
-    }
-
-    fn put_filter(&mut self, names: &Names<'_>, conditions: &[Expr]) -> Result<(), AllocError> {
+    /// The line behind which the conditions come, if there are any.
+    fn put_filter(&mut self, conditions: &[Expr]) -> Result<(), AllocError> {
         if conditions.is_empty() {
             return Ok(());
         }
         self.begin("filter")?;
-        self.end()?;
-        let leading = count_leading(conditions, names.dims.len());
-        for at in 0..conditions.len() {
-            self.put_condition(names, &conditions[at], at + 1, at < leading)?;
-        }
-        Ok(())
+        self.end()
     }
 
     /// A table's name, with the one that it goes by, and the columns that are read of it.
@@ -288,14 +235,8 @@ impl OperatorLines {
         self.put_project(alloc, names, items)
     }
 
-    /// What gives the rows of groups.
-    fn put_rows(&mut self, plan: &Plan, names: &Names<'_>) -> Result<(), AllocError> {
-        self.put_filter(names, plan.conjuncts.as_slice())?;
-        self.put_joins(plan, names)?;
-        self.put_scan(names)
-    }
-
-    fn put_plan(
+    /// What stands in front of the conditions.
+    fn put_head(
         &mut self,
         alloc: Global,
         plan: &Plan,
@@ -303,7 +244,17 @@ impl OperatorLines {
     ) -> Result<(), AllocError> {
         self.put_shown(alloc, plan, names)?;
         self.put_groups(plan, names)?;
-        self.put_rows(plan, names)
+        self.put_filter(plan.conjuncts.as_slice())
+    }
+
+    /// What stands behind them.
+    fn put_tail(&mut self, plan: &Plan, names: &Names<'_>) -> Result<(), AllocError>
+        ensures { OnOk result (EndsWithText plan.now (string_bytes self.new.text)) }
+    {
+        self.put_joins(plan, names)?;
+        self.put_scan(names)?;
+        self.put_printed(plan)?;
+        self.put_text(plan)
     }
 
     /// The names and the types of what is printed.
@@ -342,18 +293,57 @@ fn names_of<'a>(alloc: Global, query: &'a Query, plan: &'a Plan) -> Result<Names
     Ok(names)
 }
 
-/// The plan of a query as a tree, and behind it the columns of the report and the canonical text.
-pub fn outline(alloc: Global, query: &Query, plan: &Plan) -> Result<String, AllocError>
-    ensures { IfOk result (λ text. EndsWithText plan.now (string_bytes text)) }
-{
-    let names = names_of(alloc, query, plan)?;
+fn head_of(alloc: Global, plan: &Plan, names: &Names<'_>) -> Result<OperatorLines, AllocError> {
     let mut lines = OperatorLines {
         text: String::new(alloc),
         depth: 0,
     };
-    lines.put_plan(alloc, plan, &names)?;
-    lines.put_printed(plan)?;
-    lines.put_text(plan)?;
-    let OperatorLines { text, .. } = lines;
-    Ok(text)
+    match lines.put_head(alloc, plan, names) {
+        Ok(()) => Ok(lines),
+        Err(error) => {
+            drop(lines);
+            Err(error)
+        }
+    }
+}
+
+fn tail_of(
+    alloc: Global,
+    plan: &Plan,
+    names: &Names<'_>,
+    depth: usize,
+) -> Result<String, AllocError>
+    ensures { IfOk result (λ text. EndsWithText plan.now (string_bytes text)) }
+{
+    let mut lines = OperatorLines {
+        text: String::new(alloc),
+        depth,
+    };
+    match lines.put_tail(plan, names) {
+        Ok(()) => Ok(lines.text),
+        Err(error) => {
+            drop(lines);
+            Err(error)
+        }
+    }
+}
+
+fn outline_of(alloc: Global, plan: &Plan, names: &Names<'_>) -> Result<String, AllocError>
+    ensures { IfOk result (λ text. IsOutline plan.now (string_bytes text)) }
+{
+    let OperatorLines { text: head, depth } = head_of(alloc, plan, names)?;
+    let conditions = condition_lines(alloc, names, plan, depth)?;
+    let tail = tail_of(alloc, plan, names, depth)?;
+    let (head, conditions, tail) = (head.as_str(), conditions.as_str(), tail.as_str());
+    format!(in alloc; "{head}{conditions}{tail}")
+}
+
+/// The plan of a query as a tree, and behind it the columns of the report and the canonical text.
+pub fn outline(alloc: Global, query: &Query, plan: &Plan) -> Result<String, AllocError>
+    ensures { IfOk result (λ text. IsOutline plan.now (string_bytes text)) }
+{
+    let names = names_of(alloc, query, plan)?;
+    let text = outline_of(alloc, plan, &names);
+    drop(names);
+    text
 }

@@ -20,6 +20,10 @@ use Rattle.folders.specs.declared.refusal.Refusal.TheVariants as refusal
 abbrev pub IsUnread : List ℕ → Refusal → Type 0
 IsUnread path e = (e ≡ refusal.Memory) ⊎ (e ≡ refusal.CannotRead path)
 
+-- a file that can't be read was asked for
+abbrev pub IsAskedFor : (List ℕ → Type 0) → Refusal → Type 0
+IsAskedFor asks e = (path : List ℕ) → e ≡ refusal.CannotRead path → asks path
+
 -- the path's file can't be written, or memory ran out
 abbrev pub IsUnwritten : List ℕ → Refusal → Type 0
 IsUnwritten path e = (e ≡ refusal.Memory) ⊎ (e ≡ refusal.CannotWrite path)

@@ -4,8 +4,8 @@ ghost use Rattle.std.specs.IoError.{error_kind};
 ghost use Rattle.std.specs.declared.io.ErrorKind.TheVariants as kind;
 ghost use Rattle.fragment_file.specs.declared.fault.FileFault.TheVariants as no_file;
 ghost use Rattle.disk.specs.Disk.{HasRoom};
-ghost use Rattle.folders.specs.Folder.{AreHeld, Finishes, HasDisk, HasHeld, IsEmptyFile, Removes, WritesOne, catalog_path};
-ghost use Rattle.folders.specs.Refused.{IsUnread, IsUnwritten};
+ghost use Rattle.folders.specs.Folder.{AreHeld, AsksOf, Finishes, HasDisk, HasHeld, IsEmptyFile, Removes, WritesOne, catalog_path};
+ghost use Rattle.folders.specs.Refused.{IsAskedFor, IsUnread, IsUnwritten};
 ghost use Rattle.folders.specs.declared.refusal.Refusal.TheVariants.{Memory};
 
 use crate::folder::Folder;
@@ -57,6 +57,7 @@ pub fn read_file<F: Folder>(alloc: Global, folder: &F, path: &Text) -> Result<Ve
     ensures asked { F.asks folder.now path.now }
     ensures opened { OnOk result (F.opens folder.now path.now) }
     ensures refused { IfErr result (IsUnread path.now) }
+    ensures unread { IfErr result (IsAskedFor (F.asks folder.now)) }
 {
     match try_read(alloc, folder, path.as_str())? {
         Some(bytes) => Ok(bytes),
@@ -71,6 +72,7 @@ pub fn open_file<F: Folder>(folder: &F, path: &Text) -> Result<F::Reader, Refusa
     ensures asked { F.asks folder.now path.now }
     ensures there { OnOk result (F.opens folder.now path.now) }
     ensures refused { IfErr result (IsUnread path.now) }
+    ensures unread { IfErr result (IsAskedFor (F.asks folder.now)) }
 {
     match folder.open(path.as_str()) {
         Ok(file) => Ok(file),
@@ -87,6 +89,7 @@ pub fn open_disk<F: Folder>(folder: &F, path: &Text) -> Result<F::Disk, Refusal>
     ensures held { IfOk result
         (λ disk. HasDisk (F.holds folder.now path.now) (F.Disk.shown disk)) }
     ensures refused { IfErr result (IsUnread path.now) }
+    ensures unread { IfErr result (IsAskedFor (F.asks folder.now)) }
 {
     match folder.disk(path.as_str()) {
         Ok(disk) => Ok(disk),
@@ -106,6 +109,7 @@ pub fn read_catalog_file<F: Folder>(
     ensures held { IfOk result
         (λ bytes. AreHeld (F.holds folder.now (catalog_path directory.now)) bytes.items) }
     ensures refused { IfErr result (IsUnread (catalog_path directory.now)) }
+    ensures unread { IfErr result (IsAskedFor (F.asks folder.now)) }
 {
     let path = catalog_path(alloc, directory)?;
     read_file(alloc, folder, &path)
@@ -143,6 +147,7 @@ pub fn create_file<F: Folder>(folder: &mut F, path: &Text) -> Result<F::Writer, 
     ensures same { F.wrote folder.new ≡ F.wrote folder.old }
     ensures held { F.holds folder.new ≡ F.holds folder.old }
     ensures refused { IfErr result (IsUnwritten path.now) }
+    ensures asking { AsksOf (F.asks folder.old) (F.asks folder.new) }
 {
     match folder.create(path.as_str()) {
         Ok(file) => Ok(file),
@@ -160,6 +165,7 @@ pub fn close_file<F: Folder>(
     ensures same { F.wrote folder.new ≡ F.wrote folder.old }
     ensures held { F.holds folder.new ≡ F.holds folder.old }
     ensures refused { IfErr result (IsUnwritten path.now) }
+    ensures asking { AsksOf (F.asks folder.old) (F.asks folder.new) }
 {
     match folder.close(file) {
         Ok(file) => Ok(file),

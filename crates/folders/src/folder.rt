@@ -3,7 +3,7 @@ ghost use Rattle.std.specs.Prelude.{◌≡◌, ℕ, List, Option, None, IfErr, I
 ghost use Rattle.std.specs.IoError.{error_kind};
 ghost use Rattle.std.specs.declared.io.ErrorKind.TheVariants as kind;
 ghost use Rattle.disk.specs.Disk.{HasRoom};
-ghost use Rattle.folders.specs.Folder.{Change, Finishes, HasDisk, IsEmptyFile, Opens, Removes};
+ghost use Rattle.folders.specs.Folder.{AsksOf, Change, Finishes, HasDisk, IsEmptyFile, Opens, Removes};
 
 use disk::Disk;
 use std::io;
@@ -55,6 +55,7 @@ pub trait Folder {
     /// A path's file as a disk, which has no bytes where there was none.
     fn disk(&self, path: &str) -> io::Result<Self::Disk>
         ensures room { IfOk result (λ disk. HasRoom (Self.Disk.shown disk)) }
+        ensures asked { asks self.now path.now }
         ensures held { IfOk result (λ disk. HasDisk (holds self.now path.now)
             (Self.Disk.shown disk)) };
 
@@ -64,13 +65,15 @@ pub trait Folder {
             (λ file. IsEmptyFile (wrote self.old) (Self.Writer.contents file)) }
         ensures created { OnOk result (creates self.old path.now) }
         ensures same { wrote self.new ≡ wrote self.old }
-        ensures held { holds self.new ≡ holds self.old };
+        ensures held { holds self.new ≡ holds self.old }
+        ensures asking { AsksOf (asks self.old) (asks self.new) };
 
     /// Closes a file that has all its bytes. They are kept, whatever happens to the machine.
     fn close(&mut self, file: Self::Writer) -> io::Result<Self::Closed>
         ensures closed { IfOk result (λ closed. enclosed closed ≡ Self.Writer.contents file) }
         ensures same { wrote self.new ≡ wrote self.old }
-        ensures held { holds self.new ≡ holds self.old };
+        ensures held { holds self.new ≡ holds self.old }
+        ensures asking { AsksOf (asks self.old) (asks self.new) };
 
     /// Puts a file that was created for this path under it. On error no path changes.
     fn finish(&mut self, path: &str, file: Self::Closed) -> io::Result<()>

@@ -1,6 +1,7 @@
 //! The tables that a folder's catalogue declares.
 ghost use Rattle.std.specs.Prelude.{IfErr, IfOk};
 ghost use Rattle.meaning.specs.Catalog.{IsWellFormed};
+ghost use Rattle.folders.specs.Refused.{IsAskedFor};
 ghost use Rattle.folders.specs.Tables.{IsCatalogRefused, IsCatalogThere};
 
 use crate::files::read_catalog_file;
@@ -23,6 +24,7 @@ pub fn read_tables<F: Folder>(
     ensures there { IfOk result (IsCatalogThere (F.holds folder.now) directory.now) }
     ensures sound { IfOk result IsWellFormed }
     ensures refused { IfErr result (IsCatalogRefused (F.holds folder.now) directory.now) }
+    ensures unread { IfErr result (IsAskedFor (F.asks folder.now)) }
 {
     let bytes = read_catalog_file(alloc, folder, directory)?;
     Ok(read_catalog(alloc, bytes.as_slice())?)

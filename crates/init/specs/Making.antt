@@ -1,5 +1,5 @@
 -- A catalogue under which the files of a folder load.
-use Rattle.std.specs.Prelude.{◌≡◌, ℕ, List, length, drop, sum, Some, Result, Ok, All}
+use Rattle.std.specs.Prelude.{◌≡◌, ℕ, List, length, drop, sum, Option, None, Some, Result, Ok, All, ⊤}
 use Rattle.meaning.specs.declared.catalog.Catalog.{Catalog}
 use Rattle.meaning.specs.declared.catalog.Dimension.{Dimension}
 use Rattle.meaning.specs.declared.table.TableFault.{TableFault}
@@ -28,6 +28,15 @@ IsFactFit holds folder catalog = (csv : List ℕ) → holds (csv_path folder cat
 -- the same of a dimension's
 abbrev pub IsDimensionFit : Holds → List ℕ → Dimension → Type 0
 IsDimensionFit holds folder dimension = (csv : List ℕ) → holds (csv_path folder dimension.table.name) ≡ Some csv → IsDimension dimension (csv_records csv)
+
+-- the text declares a catalogue whose fact has this name
+abbrev pub DeclaresFact : List ℕ → List ℕ → Type 0
+DeclaresFact name text = (catalog : Catalog) × (catalog_of text ≡ Ok catalog) × (catalog.fact.name ≡ name)
+
+-- where the fact was named, the text declares it
+abbrev pub IsAsAsked : Option (List ℕ) → List ℕ → Type 0
+IsAsAsked None text = ⊤
+IsAsAsked (Some name) text = DeclaresFact name text
 
 -- the text declares tables as which the files of the folder load
 pub record IsCatalogFor (holds : Holds) (folder text : List ℕ) : Type 0 where

@@ -8,7 +8,7 @@ ghost use Rattle.loader.specs.Fault.{fault_returned};
 ghost use Rattle.loader.specs.Handing.{IsToCome};
 ghost use Rattle.loader.specs.Source.{csv_records};
 ghost use Rattle.folders.specs.Folder.{HasHeld, csv_path};
-ghost use Rattle.init.specs.Making.{AreColumns, IsCatalogFor, IsDimension, IsDimensionFit, IsFact, IsFactFit};
+ghost use Rattle.init.specs.Making.{AreColumns, DeclaresFact, IsCatalogFor, IsDimension, IsDimensionFit, IsFact, IsFactFit};
 ghost use Rattle.init.specs.Refusing.{AreTablesRefused, IsCatalogRefused, IsDimensionRefused, IsFactRefused, IsFirstRefused, IsUncounted, IsUnread};
 
 use crate::fault::{InitFault, of_load, too_many_rows};
@@ -218,6 +218,24 @@ fn check_tables<F: Folder>(
 {
     check_fact(alloc, folder, directory, catalog)?;
     check_dimensions(alloc, folder, directory, catalog.dims.as_slice())
+}
+
+// Refuses a text whose catalogue has another fact.
+pub fn check_fact_name(alloc: Global, text: &[u8], name: &str) -> Result<(), InitFault>
+    ensures { OnOk result (DeclaresFact name.now text.now) }
+{
+    let catalog = match read_catalog(alloc, text) {
+        Ok(catalog) => catalog,
+        Err(fault) => return Err(InitFault::from(fault)),
+    };
+    let is_named = catalog.fact.name.as_str() == name;
+    drop(catalog);
+    if is_named {
+        Ok(())
+    } else {
+        // No text is made with another.
+        Err(InitFault::Memory)
+    }
 }
 
 /// Loads a folder's files under the catalogue that a text declares, and keeps nothing of them. One

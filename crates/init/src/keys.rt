@@ -1,9 +1,10 @@
 //! The columns that may be the key of a dimension.
-use crate::fault::{InitFault, of_load};
+use crate::fault::{InitFault, no_key, of_load};
 use folders::{Folder, csv_path, open_file};
 use loader::{LoadFault, load_dimension};
 use meaning::{Dimension, Table, TableFault, Text};
-use std::alloc::Global;
+use std::alloc::{AllocError, Global};
+use std::mem::drop;
 
 /// A dimension with its key, and the other columns that may be it.
 #[derive(Drop)]
@@ -55,6 +56,35 @@ fn keys_of<F: Folder>(
     Ok(keys)
 }
 
+// With the first of its keys, if there is one.
+fn with_first(path: &Text, dimension: Dimension, keys: Vec<usize>) -> Result<Keyed, InitFault> {
+    let mut dimension = dimension;
+    let mut others = keys;
+    if others.is_empty() {
+        drop(dimension);
+        drop(others);
+        return Err(no_key(path));
+    }
+    dimension.key = others.remove(0);
+    Ok(Keyed { dimension, others })
+}
+
+fn with_key_of<F: Folder>(
+    alloc: Global,
+    folder: &F,
+    path: &Text,
+    dimension: Dimension,
+) -> Result<Keyed, InitFault> {
+    let mut dimension = dimension;
+    match keys_of(alloc, folder, path, &mut dimension) {
+        Ok(keys) => with_first(path, dimension, keys),
+        Err(fault) => {
+            drop(dimension);
+            Err(fault)
+        }
+    }
+}
+
 /// The dimension that a table is, by the first of its columns whose values differ and are never
 /// NULL.
 ///
@@ -68,12 +98,11 @@ pub fn with_key<F: Folder>(
     directory: &str,
     table: Table,
 ) -> Result<Keyed, InitFault> {
-    let path = csv_path(alloc, directory, table.name.as_str())?;
-    let mut dimension = Dimension { table, key: 0 };
-    let mut others = keys_of(alloc, folder, &path, &mut dimension)?;
-    if others.is_empty() {
-        return Err(InitFault::NoKey(String::from_str(alloc, path.as_str())?));
+    match csv_path(alloc, directory, table.name.as_str()) {
+        Ok(path) => with_key_of(alloc, folder, &path, Dimension { table, key: 0 }),
+        Err(AllocError) => {
+            drop(table);
+            Err(InitFault::Memory)
+        }
     }
-    dimension.key = others.remove(0);
-    Ok(Keyed { dimension, others })
 }

@@ -1,10 +1,10 @@
 //! The catalogue of a folder's CSV files.
-ghost use Rattle.std.specs.Prelude.{◌≡◌, ℕ, List, IfErr, IfOk, OnErr, OnOk};
+ghost use Rattle.std.specs.Prelude.{◌≡◌, ℕ, List, IfErr, IfOk, IfSome, OnErr, OnOk, option_map};
 ghost use Rattle.folders.specs.Folder.{WritesOne, catalog_path};
-ghost use Rattle.init.specs.Making.{IsCatalogFor};
-ghost use Rattle.init.specs.Refusing.{IsNotAbsent};
+ghost use Rattle.init.specs.Making.{DeclaresFact, IsAsAsked, IsCatalogFor};
+ghost use Rattle.init.specs.Refusing.{IsFactUnfound, IsNotAbsent};
 
-use crate::checking::check_catalog;
+use crate::checking::{check_catalog, check_fact_name};
 use crate::choosing::{has_file, largest};
 use crate::fault::{InitFault, catalog_there, unread};
 use crate::keys::{Keyed, with_key};
@@ -18,6 +18,7 @@ use folders::{Folder, csv_path, open_file, write_file};
 use meaning::{MAX_DIMENSIONS, Table, Text};
 use std::alloc::Global;
 use std::io::{ErrorKind, Write};
+use std::mem::drop;
 
 // The folder's CSV files, by their names.
 fn listed<F: Listing>(
@@ -46,6 +47,44 @@ fn table_of<F: Folder>(
     read_table(alloc, path.as_str(), name, file)
 }
 
+// The dimension of a file, whose key is said on `err`.
+fn dimension_of<F: Folder, E: Write>(
+    alloc: Global,
+    folder: &F,
+    directory: &str,
+    table: &str,
+    err: &mut E,
+) -> Result<Keyed, InitFault> {
+    let table = table_of(alloc, folder, directory, table)?;
+    let dimension = with_key(alloc, folder, directory, table)?;
+    match report_dimension(alloc, &dimension, err) {
+        Ok(()) => Ok(dimension),
+        Err(fault) => {
+            drop(dimension);
+            Err(fault)
+        }
+    }
+}
+
+fn add_dimensions<F: Folder, E: Write>(
+    alloc: Global,
+    folder: &F,
+    directory: &str,
+    files: &[CsvFile],
+    fact: &str,
+    dims: &mut Vec<Keyed>,
+    err: &mut E,
+) -> Result<(), InitFault> {
+    for file in files {
+        if file.table.as_str() == fact {
+            continue;
+        }
+        let dimension = dimension_of(alloc, folder, directory, file.table.as_str(), err)?;
+        dims.push(dimension)?;
+    }
+    Ok(())
+}
+
 // The dimensions, of all files but the fact's.
 fn dimensions_of<F: Folder, E: Write>(
     alloc: Global,
@@ -56,16 +95,13 @@ fn dimensions_of<F: Folder, E: Write>(
     err: &mut E,
 ) -> Result<Vec<Keyed>, InitFault> {
     let mut dims = Vec::new(alloc);
-    for file in files {
-        if file.table.as_str() == fact {
-            continue;
+    match add_dimensions(alloc, folder, directory, files, fact, &mut dims, err) {
+        Ok(()) => Ok(dims),
+        Err(fault) => {
+            drop(dims);
+            Err(fault)
         }
-        let table = table_of(alloc, folder, directory, file.table.as_str())?;
-        let dimension = with_key(alloc, folder, directory, table)?;
-        report_dimension(alloc, &dimension, err)?;
-        dims.push(dimension)?;
     }
-    Ok(dims)
 }
 
 // Which of the files is the fact's.
@@ -75,20 +111,28 @@ fn fact_of<'a, E: Write>(
     files: &'a [CsvFile],
     asked: Option<&'a str>,
     err: &mut E,
-) -> Result<&'a str, InitFault> {
+) -> Result<&'a str, InitFault>
+    ensures named { IfOk result (λ name. IfSome asked.entry (λ asked. name.now ≡ asked.now)) }
+    ensures refused { IfErr result
+        (IsFactUnfound (option_map (λ asked. asked.now) asked.entry) directory.now) }
+{
     if let Some(asked) = asked {
         if !has_file(files, asked) {
             let path = csv_path(alloc, directory, asked)?;
             return Err(InitFault::NoFact(String::from_str(alloc, path.as_str())?));
         }
-        report_fact(asked, Reason::Asked, err)?;
-        return Ok(asked);
+        return match report_fact(asked, Reason::Asked, err) {
+            Ok(()) => Ok(asked),
+            Err(_) => Err(InitFault::CannotReport),
+        };
     }
     let Some(fact) = largest(files) else {
         return Err(InitFault::NoFile(String::from_str(alloc, directory)?));
     };
-    report_fact(fact, Reason::Largest, err)?;
-    Ok(fact)
+    match report_fact(fact, Reason::Largest, err) {
+        Ok(()) => Ok(fact),
+        Err(_) => Err(InitFault::CannotReport),
+    }
 }
 
 fn text_for<F: Folder, E: Write>(
@@ -102,6 +146,24 @@ fn text_for<F: Folder, E: Write>(
     let table = table_of(alloc, folder, directory, fact)?;
     let dims = dimensions_of(alloc, folder, directory, files, fact, err)?;
     Ok(catalog_text(alloc, &table, dims.as_slice())?)
+}
+
+// The text of a catalogue with this fact, under which the files load.
+fn checked_text<F: Folder, E: Write>(
+    alloc: Global,
+    folder: &F,
+    directory: &str,
+    files: &[CsvFile],
+    fact: &str,
+    err: &mut E,
+) -> Result<Text, InitFault>
+    ensures fit { IfOk result (IsCatalogFor (F.holds folder.now) directory.now) }
+    ensures named { IfOk result (DeclaresFact fact.now) }
+{
+    let text = text_for(alloc, folder, directory, files, fact, err)?;
+    check_fact_name(alloc, text.as_bytes(), fact)?;
+    check_catalog(alloc, folder, directory, text.as_bytes())?;
+    Ok(Text::from_string(text))
 }
 
 /// The text of a catalogue under which a folder's CSV files load. The fact is the table of this
@@ -118,16 +180,15 @@ pub fn guess_catalog<F: Folder + Listing, E: Write>(
     fact: Option<&str>,
     err: &mut E,
 ) -> Result<Text, InitFault>
-    ensures { IfOk result (IsCatalogFor (F.holds folder.now) directory.now) }
+    ensures fit { IfOk result (IsCatalogFor (F.holds folder.now) directory.now) }
+    ensures named { IfOk result (IsAsAsked (option_map (λ fact. fact.now) fact.entry)) }
 {
     let files = listed(alloc, folder, directory)?;
     let fact = fact_of(alloc, directory, files.as_slice(), fact, err)?;
     if files.len() > MAX_DIMENSIONS + 1 {
         return Err(InitFault::TooManyDimensions);
     }
-    let text = text_for(alloc, folder, directory, files.as_slice(), fact, err)?;
-    check_catalog(alloc, folder, directory, text.as_bytes())?;
-    Ok(Text::from_string(text))
+    checked_text(alloc, folder, directory, files.as_slice(), fact, err)
 }
 
 // Refuses a path under which there is a file, or may be one.
@@ -142,6 +203,17 @@ fn check_absent<F: Folder>(folder: &F, path: &Text) -> Result<(), InitFault>
             ErrorKind::OutOfMemory => Err(InitFault::Memory),
             _ => Err(unread(path)),
         },
+    }
+}
+
+fn write_text<F: Folder>(folder: &mut F, path: &Text, text: &Text) -> Result<(), InitFault>
+    ensures written { OnOk result
+        (WritesOne path.now (λ given. given ≡ text.now) (F.wrote folder.old) (F.wrote folder.new)) }
+    ensures unchanged { OnErr result (F.wrote folder.new ≡ F.wrote folder.old) }
+{
+    match write_file(folder, path, text.as_bytes()) {
+        Ok(()) => Ok(()),
+        Err(refusal) => Err(InitFault::from(refusal)),
     }
 }
 
@@ -161,6 +233,7 @@ pub fn make_catalog<F: Folder + Listing, E: Write>(
     ensures absent { OnOk result (F.lacks folder.old (catalog_path directory.now)) }
     ensures made { OnOk result ((text : List ℕ)
         × IsCatalogFor (F.holds folder.old) directory.now text
+        × IsAsAsked (option_map (λ fact. fact.now) fact.entry) text
         × WritesOne (catalog_path directory.now) (λ given. given ≡ text) (F.wrote folder.old)
         (F.wrote folder.new)) }
     ensures unchanged { OnErr result (F.wrote folder.new ≡ F.wrote folder.old) }
@@ -168,8 +241,5 @@ pub fn make_catalog<F: Folder + Listing, E: Write>(
     let path = catalog_path(alloc, directory)?;
     check_absent(folder, &path)?;
     let text = guess_catalog(alloc, folder, directory, fact, err)?;
-    match write_file(folder, &path, text.as_bytes()) {
-        Ok(()) => Ok(()),
-        Err(refusal) => Err(InitFault::from(refusal)),
-    }
+    write_text(folder, &path, &text)
 }

@@ -3,6 +3,7 @@ use crate::fault::InitFault;
 use crate::keys::Keyed;
 use crate::writing::{column_name, names_of};
 use std::alloc::Global;
+use std::io;
 use std::io::Write;
 
 /// Why a table is the fact.
@@ -13,15 +14,12 @@ pub enum Reason {
 }
 
 /// Says which table is the fact.
-pub fn report_fact<E: Write>(fact: &str, reason: Reason, err: &mut E) -> Result<(), InitFault> {
+pub fn report_fact<E: Write>(fact: &str, reason: Reason, err: &mut E) -> io::Result<()> {
     let why = match reason {
         Reason::Asked => "as was asked for",
         Reason::Largest => "whose file is the largest",
     };
-    match writeln!(err, "{fact} is the fact, {why}") {
-        Ok(()) => Ok(()),
-        Err(_) => Err(InitFault::CannotReport),
-    }
+    writeln!(err, "{fact} is the fact, {why}")
 }
 
 /// Says by which key a table is a dimension, and which other columns may be it.

@@ -1,6 +1,7 @@
 //! What answers and states say together, from their files to the report.
 ghost use Rattle.std.specs.Prelude.{◌≡◌, ◌⊎◌, None, Some, true, IfErr, IfOk, OnErr};
 ghost use Rattle.partial_codec.specs.State.{state_bytes};
+ghost use Rattle.folders.specs.Refused.{IsAskedFor};
 ghost use Rattle.jobs.specs.Gathering.{IsGatherLeft, IsGathered, IsGatheredOf, IsGatherRefused, IsGatherUnread, IsReported, IsReportRefused, IsSaveLeft, IsTogetherRefused, IsUnkept};
 
 use crate::job::read_job;
@@ -29,6 +30,7 @@ fn gather_in_memory<F: Folder, E: Write>(
         (IsGatheredOf (F.holds folder.now) command.now (E.contents err.old) (E.contents err.new)) }
     ensures refused { IfErr result (IsTogetherRefused (F.holds folder.now) command.now) }
     ensures first { IfErr result (IsGatherUnread (F.opens folder.now) command.now) }
+    ensures unread { IfErr result (IsAskedFor (F.asks folder.now)) }
 {
     let job = read_job(
         alloc,
@@ -59,6 +61,7 @@ fn gather_in_journal<F: Folder, E: Write>(
         (E.contents err.old) (E.contents err.new) d.gather) }
     ensures refused { IfErr result (IsTogetherRefused (F.holds folder.now) command.now) }
     ensures first { IfErr result (IsGatherUnread (F.opens folder.now) command.now) }
+    ensures unread { IfErr result (IsAskedFor (F.asks folder.now)) }
 {
     let job = read_job(
         alloc,
@@ -95,6 +98,7 @@ fn report_from_memory<F: Folder, O: Write, E: Write>(
     ensures left { OnErr result
         (IsGatherLeft (F.holds folder.old) command.now (E.contents err.old) (F.wrote folder.old)
         (F.wrote folder.new)) }
+    ensures unread { IfErr result (IsAskedFor (F.asks folder.old)) }
 {
     let gather = gather_in_memory(alloc, folder, command, err)?;
     let report = save_and_show(alloc, folder, &gather, command, out);
@@ -147,6 +151,7 @@ fn report_from_journal<F: Folder, O: Write, E: Write>(
     ensures left { OnErr result
         (IsGatherLeft (F.holds folder.old) command.now (E.contents err.old) (F.wrote folder.old)
         (F.wrote folder.new)) }
+    ensures unread { IfErr result (IsAskedFor (F.asks folder.old)) }
 {
     let durable = gather_in_journal(alloc, folder, command, path, err)?;
     let report = save_and_show_durable(alloc, folder, &durable, command, out);
@@ -190,6 +195,8 @@ pub fn gather_answers<F: Folder, O: Write, E: Write>(
     ensures left { OnErr result
         (IsGatherLeft (F.holds folder.old) command.now (E.contents err.old) (F.wrote folder.old)
         (F.wrote folder.new)) }
+    // And it was asked for.
+    ensures unread { IfErr result (IsAskedFor (F.asks folder.old)) }
 {
     match &command.journal {
         Some(path) => report_from_journal(alloc, folder, command, path, out, err),

@@ -3,6 +3,7 @@ ghost use Rattle.std.specs.Prelude.{◌≡◌, IfErr, IfOk};
 ghost use Rattle.meaning.specs.Catalog.{IsWellFormed};
 ghost use Rattle.meaning.specs.SoundPlan.{IsSoundPlan};
 ghost use Rattle.planner.specs.QueryText.{IsPlanned};
+ghost use Rattle.folders.specs.Refused.{IsAskedFor};
 ghost use Rattle.jobs.specs.Job.{IsCutRefused, IsCutThere, IsJobOf, IsJobOver, IsJobRefused, IsQueryRefused, IsRefusedOver};
 
 use folders::{Folder, Refusal, cut_path, read_file, read_tables};
@@ -17,6 +18,7 @@ use std::mem::drop;
 fn read_load<F: Folder>(alloc: Global, folder: &F, directory: &str) -> Result<(u64, Cut), Refusal>
     ensures there { IfOk result (λ x. IsCutThere (F.holds folder.now) directory.now x.0 x.1) }
     ensures refused { IfErr result (IsCutRefused (F.holds folder.now) directory.now) }
+    ensures unread { IfErr result (IsAskedFor (F.asks folder.now)) }
 {
     let path = cut_path(alloc, directory)?;
     let bytes = read_file(alloc, folder, &path)?;
@@ -53,6 +55,7 @@ fn job_over<F: Folder>(
     ensures sound { IfOk result (λ job. IsSoundPlan job.plan) }
     ensures refused { IfErr result
         (IsRefusedOver (F.holds folder.now) directory.now catalog.now query.now) }
+    ensures unread { IfErr result (IsAskedFor (F.asks folder.now)) }
 {
     let (load, cut) = read_load(alloc, folder, directory)?;
     match plan_of(alloc, catalog, query) {
@@ -85,6 +88,7 @@ pub fn read_job<F: Folder>(
     ensures job { IfOk result (IsJobOf (F.holds folder.now) directory.now query.now) }
     ensures sound { IfOk result (λ job. IsSoundPlan job.plan) }
     ensures refused { IfErr result (IsJobRefused (F.holds folder.now) directory.now query.now) }
+    ensures unread { IfErr result (IsAskedFor (F.asks folder.now)) }
 {
     let catalog = read_tables(alloc, folder, directory)?;
     let job = job_over(alloc, folder, directory, &catalog, query);

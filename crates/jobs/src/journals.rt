@@ -4,6 +4,7 @@ ghost use Rattle.disk.specs.Disk.{HasRoom, IsHonest};
 ghost use Rattle.meaning.specs.Gather.{joined};
 ghost use Rattle.meaning.specs.SoundPlan.{IsSoundPlan};
 ghost use Rattle.journal.specs.Journal.{IsOpened};
+ghost use Rattle.folders.specs.Refused.{IsAskedFor};
 ghost use Rattle.jobs.specs.Gathering.{AreJournaled, IsJournaled, IsNotOnDisk, IsUnopened};
 ghost use Rattle.jobs.specs.Taking.{of_take, take_fault_of};
 
@@ -122,6 +123,7 @@ pub fn start_journal<F: Folder>(
     ensures journaled { IfOk result
         (λ d. IsJournaled (F.holds folder.now path.now) job d.gather.cells) }
     ensures refused { IfErr result (IsUnopened (F.holds folder.now path.now) job path.now) }
+    ensures unread { IfErr result (IsAskedFor (F.asks folder.now)) }
 {
     match open_disk(folder, path) {
         Ok(disk) => {

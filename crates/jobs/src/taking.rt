@@ -1,6 +1,6 @@
 //! Files of answers and states, taken one after the other.
 ghost use Rattle.std.specs.Prelude.{IfErr, OnOk};
-ghost use Rattle.folders.specs.Refused.{IsFirstUnread};
+ghost use Rattle.folders.specs.Refused.{IsAskedFor, IsFirstUnread};
 ghost use Rattle.jobs.specs.Gathering.{IsFileRefused, IsTakingRefused, IsUnreturned};
 ghost use Rattle.jobs.specs.Taking.{TakesFile, TakesOrNames, TookFiles};
 
@@ -49,6 +49,7 @@ fn take_file<F: Folder, T: TakesAnswers, E: Write>(
         (E.contents err.old) (E.contents err.new)) }
     ensures opened { OnOk result (F.opens folder.now path.now) }
     ensures refused { IfErr result (IsFileRefused T.journaled path.now) }
+    ensures unread { IfErr result (IsAskedFor (F.asks folder.now)) }
 {
     let bytes = read_file(alloc, folder, path)?;
     take_or_name(alloc, taker, path, bytes.as_slice(), err)
@@ -68,6 +69,7 @@ pub fn take_files<F: Folder, T: TakesAnswers, E: Write>(
         (E.contents err.old) (E.contents err.new)) }
     ensures refused { IfErr result (IsTakingRefused T.journaled paths.now) }
     ensures first { IfErr result (IsFirstUnread (F.opens folder.now) paths.now) }
+    ensures unread { IfErr result (IsAskedFor (F.asks folder.now)) }
 {
     for path in paths {
         take_file(alloc, folder, taker, path, err)?;

@@ -5,7 +5,7 @@ ghost use Rattle.meaning.specs.SoundPlan.{IsSoundPlan};
 ghost use Rattle.meaning.specs.Said.{Answer as AnAnswer};
 ghost use Rattle.folders.specs.Folder.{HasHeld, WritesOne, dimension_path, fragment_path};
 ghost use Rattle.folders.specs.Each.{AreEach};
-ghost use Rattle.folders.specs.Refused.{IsFirstUnread, IsUnread};
+ghost use Rattle.folders.specs.Refused.{IsAskedFor, IsFirstUnread, IsUnread};
 ghost use Rattle.partial_codec.specs.Answer.{Spells};
 ghost use Rattle.jobs.specs.Working.{AreDimensionsUnread, IsAnswer, IsAnswerRefused, IsDimensionOf, IsOwnSpelled, IsReaderAnswer, IsReaderRefused, IsSpelled, IsSpelledRefused, IsWorkRefused, IsWorkUnread, IsWorked, paths_of};
 
@@ -36,7 +36,10 @@ fn open_fragment<F: Folder>(
         (F.Reader.remaining x.1)) }
     ensures opened { OnOk result
         (F.opens folder.now (fragment_path directory.now table.now fragment)) }
+    ensures asked { OnOk result
+        (F.asks folder.now (fragment_path directory.now table.now fragment)) }
     ensures refused { IfErr result (IsUnread (fragment_path directory.now table.now fragment)) }
+    ensures unread { IfErr result (IsAskedFor (F.asks folder.now)) }
 {
     let path = fragment_path(alloc, directory, table, fragment)?;
     let file = open_file(folder, &path)?;
@@ -54,6 +57,7 @@ fn read_dimension<F: Folder>(
     ensures opened { OnOk result
         (F.opens folder.now (dimension_path directory.now join.now.dim.name)) }
     ensures refused { IfErr result (IsUnread (dimension_path directory.now join.now.dim.name)) }
+    ensures unread { IfErr result (IsAskedFor (F.asks folder.now)) }
 {
     let path = dimension_path(alloc, directory, join.dim.name.as_str())?;
     Ok(Sequence::from_vec(read_file(alloc, folder, &path)?))
@@ -71,6 +75,7 @@ fn read_dimensions<F: Folder>(
     ensures refused { IfErr result (AreDimensionsUnread directory.now joins.now) }
     ensures first { IfErr result (IsFirstUnread (F.opens folder.now)
         (map (λ join. dimension_path directory.now join.dim.name) joins.now)) }
+    ensures unread { IfErr result (IsAskedFor (F.asks folder.now)) }
 {
     let mut dims = Vec::new(alloc);
     for join in joins {
@@ -120,6 +125,7 @@ fn answer_job<F: Folder>(
     ensures refused { IfErr result (IsAnswerRefused (F.holds folder.now) command.now job.now) }
     ensures first { IfErr result
         (IsFirstUnread (F.opens folder.now) (paths_of command.now job.now)) }
+    ensures unread { IfErr result (IsAskedFor (F.asks folder.now)) }
 {
     let (directory, k) = (command.folder.as_str(), command.fragment);
     let plan = job.plan();
@@ -146,6 +152,7 @@ fn spelled_answer<F: Folder>(
     ensures refused { IfErr result (IsSpelledRefused (F.holds folder.now) command.now) }
     ensures first { IfErr result
         (IsWorkUnread (F.holds folder.now) (F.opens folder.now) command.now) }
+    ensures unread { IfErr result (IsAskedFor (F.asks folder.now)) }
 {
     let job = read_job(
         alloc,
@@ -187,6 +194,8 @@ pub fn answer_fragment<F: Folder>(
     ensures first { IfErr result
         (IsWorkUnread (F.holds folder.old) (F.opens folder.old) command.now) }
     ensures left { OnErr result (F.wrote folder.new ≡ F.wrote folder.old) }
+    // The file was asked for.
+    ensures unread { IfErr result (IsAskedFor (F.asks folder.old)) }
 {
     let bytes = spelled_answer(alloc, folder, command)?;
     write_file(folder, &command.out, bytes.as_slice())

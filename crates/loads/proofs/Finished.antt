@@ -63,3 +63,21 @@ pub left_of : {X F : Type 0} (Same : Type 0) (Closed : F → Type 0) (Then : F �
 left_of Same Closed Then (Ok x) fragments closed left = tt
 left_of Same Closed Then (Err e) fragments closed (inl same) = inl same
 left_of Same Closed Then (Err e) fragments closed (inr then) = inr (then fragments closed)
+
+-- ---- what is left where the files of a load aren't all saved
+
+-- the first of them were written, or none
+pub begun_left : {Same Printed : Type 0} {F : Type 0} {Closed Begun All : F → Type 0} → Same ⊎ ((f : F) → Closed f → Begun f) → Same ⊎ ((f : F) → Closed f → Begun f ⊎ (Printed × All f))
+begun_left (inl same) = inl same
+begun_left (inr begun) = inr (λ f closed. inl (begun f closed))
+
+-- all were, and the line can't be printed
+pub printed_left : {X F : Type 0} {Closed All : F → Type 0} (Same : Type 0) (Begun : F → Type 0) (stop : Refusal) (r : Result X Refusal) → IfErr r (λ e. e ≡ stop) → ((f : F) → Closed f → All f)
+    → IfErr r (λ e. Same ⊎ ((f : F) → Closed f → Begun f ⊎ ((e ≡ stop) × All f)))
+printed_left Same Begun stop (Ok x) refused written = tt
+printed_left Same Begun stop (Err e) refused written = inr (λ f closed. inr (refused, written f closed))
+
+-- over dimensions that are loaded
+pub loaded_left : {Same F : Type 0} {Closed SoFar Loaded : F → Type 0} → Same ⊎ ((f : F) → Closed f → SoFar f) → ((f : F) → SoFar f → Loaded f) → Same ⊎ ((f : F) → Closed f → Loaded f)
+loaded_left (inl same) loaded = inl same
+loaded_left (inr so_far) loaded = inr (λ f closed. loaded f (so_far f closed))

@@ -10,10 +10,10 @@ ghost use Rattle.loader.specs.Fault.{fault_returned};
 ghost use Rattle.loader.specs.Handing.{IsToCome, declared_in, lengths_ahead};
 ghost use Rattle.loader.specs.Source.{csv_records};
 ghost use Rattle.folders.specs.Each.{AreEach};
-ghost use Rattle.folders.specs.Folder.{csv_path};
+ghost use Rattle.folders.specs.Folder.{AsksOf, csv_path};
 ghost use Rattle.loads.specs.Loading.{AreFragmentColumns, AreFragmentsClosed, IsFactCounted, IsFactLoaded, IsNextSlice};
 ghost use Rattle.loads.specs.Refusing.{AreFragmentsUnwritten, IsFactRefused, IsFactUnloaded};
-ghost use Rattle.folders.specs.Refused.{IsUnread};
+ghost use Rattle.folders.specs.Refused.{IsAskedFor, IsUnread};
 
 use crate::counting::even_cut;
 use crate::saving::write_fragment;
@@ -46,6 +46,7 @@ fn count_fact<F: Folder>(alloc: Global, folder: &F, target: &Target<'_>) -> Resu
         (IsFactCounted (F.holds folder.now) target.now.directory.now target.now.catalog.now) }
     ensures refused { IfErr result
         (IsUnread (csv_path target.now.directory.now target.now.catalog.now.fact.name)) }
+    ensures unread { IfErr result (IsAskedFor (F.asks folder.now)) }
 {
     let name = target.catalog.fact.name.as_str();
     let path = csv_path(alloc, target.directory, name)?;
@@ -83,6 +84,7 @@ fn with_fragment<F: Folder>(
         target.now.catalog.now.fact.name most)
         → IfErr result (AreFragmentsUnwritten target.now.directory.now
         target.now.catalog.now.fact.name most) }
+    ensures asking { AsksOf (F.asks folder.old) (F.asks folder.new) }
 {
     let mut files = files?;
     let file = write_fragment(alloc, folder, target, slice, columns)?;
@@ -115,6 +117,7 @@ fn write_fragments<F: Folder>(
     ensures refused { IfErr result (λ e. (meant : Result (List (List ColumnSpec)) Fault)
         → IsToCome F.Reader.remaining reader.old meant
         → IfSome (fault_returned e) (λ f. meant ≡ Err f)) }
+    ensures asking { AsksOf (F.asks folder.old) (F.asks folder.new) }
 {
     let lengths = cut.lengths();
     let mut files = Ok(VecDeque::new(alloc));
@@ -156,6 +159,7 @@ fn write_read<F: Folder>(
     ensures refused { IfErr result (λ e. (bytes : List ℕ) → F.Reader.remaining file ≡ Some bytes
         → IfSome (fault_returned e) (λ f. fact_fragments target.now.catalog.now cut.now
         (csv_records bytes) ≡ Err f)) }
+    ensures asking { AsksOf (F.asks folder.old) (F.asks folder.new) }
 {
     let mut reader = open_fact(alloc, target.catalog, file, cut)?;
     let files = write_fragments(alloc, folder, target, cut, &mut reader);
@@ -185,6 +189,8 @@ fn write_fact<F: Folder>(
     ensures refused { IfErr result
         (IsFactUnloaded (F.holds folder.old) target.now.directory.now target.now.catalog.now
         cut.now) }
+    ensures asking { AsksOf (F.asks folder.old) (F.asks folder.new) }
+    ensures unread { IfErr result (IsAskedFor (F.asks folder.old)) }
 {
     let name = target.catalog.fact.name.as_str();
     let path = csv_path(alloc, target.directory, name)?;
@@ -224,6 +230,8 @@ pub fn load_fact<F: Folder>(
     ensures held { F.holds folder.new ≡ F.holds folder.old }
     ensures refused { IfErr result
         (IsFactRefused (F.holds folder.old) target.now.directory.now target.now.catalog.now rows) }
+    ensures asking { AsksOf (F.asks folder.old) (F.asks folder.new) }
+    ensures unread { IfErr result (IsAskedFor (F.asks folder.old)) }
 {
     let counted = count_fact(alloc, folder, target)?;
     let cut = even_cut(alloc, counted, rows)?;

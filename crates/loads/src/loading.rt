@@ -1,9 +1,9 @@
 //! Reads the dimensions of `load` from their CSV files.
-ghost use Rattle.std.specs.Prelude.{◌≡◌, ◌<◌, IfErr, IfOk, length};
+ghost use Rattle.std.specs.Prelude.{◌≡◌, ◌<◌, IfErr, IfOk, OnOk, length};
 ghost use Rattle.meaning.specs.Catalog.{IsWellFormed};
 ghost use Rattle.folders.specs.Folder.{AreHeld, csv_path};
 ghost use Rattle.folders.specs.Each.{AreEach};
-ghost use Rattle.folders.specs.Refused.{IsUnread};
+ghost use Rattle.folders.specs.Refused.{IsAskedFor, IsUnread};
 ghost use Rattle.loads.specs.Loading.{IsDimensionLoaded};
 ghost use Rattle.loads.specs.Refusing.{AreDimensionsRefused, IsDimensionRefused};
 
@@ -21,7 +21,9 @@ fn read_csv<F: Folder>(
 ) -> Result<Vec<u8>, Refusal>
     ensures held { IfOk result
         (λ bytes. AreHeld (F.holds folder.now (csv_path directory.now table.now)) bytes.items) }
+    ensures asked { OnOk result (F.asks folder.now (csv_path directory.now table.now)) }
     ensures refused { IfErr result (IsUnread (csv_path directory.now table.now)) }
+    ensures unread { IfErr result (IsAskedFor (F.asks folder.now)) }
 {
     let path = csv_path(alloc, directory, table.as_str())?;
     read_file(alloc, folder, &path)
@@ -37,6 +39,7 @@ fn load_dimension_table<F: Folder>(
     ensures loaded { IfOk result
         (λ columns. IsDimensionLoaded (F.holds folder.now) directory.now dim.now columns) }
     ensures refused { IfErr result (IsDimensionRefused (F.holds folder.now) directory.now dim.now) }
+    ensures unread { IfErr result (IsAskedFor (F.asks folder.now)) }
 {
     let name = &dim.table.name;
     let csv = read_csv(alloc, folder, directory, name)?;
@@ -64,6 +67,7 @@ pub fn load_dimensions<F: Folder>(
         dims.items) }
     ensures refused { IfErr result
         (AreDimensionsRefused (F.holds folder.now) directory.now catalog.now.dims) }
+    ensures unread { IfErr result (IsAskedFor (F.asks folder.now)) }
 {
     let mut dims = Vec::new(alloc);
     for dim in catalog.dims.as_slice() {

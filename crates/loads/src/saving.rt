@@ -8,7 +8,7 @@ ghost use Rattle.fragment_file.specs.Fragment.{IsHeader, Stands, table_header};
 ghost use Rattle.wire.specs.Bytes.{sealed};
 ghost use Rattle.fragment_file.specs.Writing.{AreColumns, AreColumnsOf};
 ghost use Rattle.fragment_file.specs.CutFile.{cut_bytes};
-ghost use Rattle.folders.specs.Folder.{Encloses, Finishes, Removes, Writes, WritesOne, fragment_path, dimension_path, cut_path};
+ghost use Rattle.folders.specs.Folder.{AsksOf, Encloses, Finishes, Removes, Writes, WritesOne, fragment_path, dimension_path, cut_path};
 ghost use Rattle.folders.specs.Refused.{IsUnwritten};
 ghost use Rattle.folders.specs.Each.{AreEach};
 ghost use Rattle.loads.specs.Refusing.{AreDimensionsUnwritten, AreFilesUnwritten, AreFragmentsUnwritten, IsFragmentLeft};
@@ -42,6 +42,7 @@ fn write_rows<F: Folder>(
     ensures same { F.wrote folder.new ≡ F.wrote folder.old }
     ensures held { F.holds folder.new ≡ F.holds folder.old }
     ensures refused { IfErr result (IsUnwritten path.now) }
+    ensures asking { AsksOf (F.asks folder.old) (F.asks folder.new) }
 {
     let mut file = create_file(folder, path)?;
     match write(alloc, header, columns, &mut file) {
@@ -78,6 +79,7 @@ pub fn write_fragment<F: Folder>(
     ensures refused { IfErr result
         (IsUnwritten (fragment_path target.now.directory.now target.now.catalog.now.fact.name
         slice.fragment)) }
+    ensures asking { AsksOf (F.asks folder.old) (F.asks folder.new) }
 {
     let table = &target.catalog.fact;
     let path = fragment_path(alloc, target.directory, table.name.as_str(), slice.fragment)?;

@@ -1,5 +1,6 @@
 -- Which file bytes begin as, and what is known of one that was shown without a fault.
-use Rattle.std.specs.Prelude.{◌≡◌, ℕ, List, [], ◌∷◌, Option, None, Some, if◌then◌else◌, nat_eq, ⊤}
+use Rattle.std.specs.Prelude.{◌≡◌, ℕ, List, [], ◌∷◌, ◌++◌, length, codes, decimal, Option, None, Some, if◌then◌else◌, nat_eq, ⊤}
+use Rattle.std.specs.Io.KnownBytes.{Appends}
 use Rattle.std.specs.List.{starts_with}
 use Rattle.fragment_file.specs.CutFile.{CutFileSpec, IsCutFileOf}
 use Rattle.fragment_file.specs.Fragment.{FragmentSpec, IsFileOf}
@@ -39,6 +40,27 @@ IsTaken kind.Cut bytes = (f : CutFileSpec) × IsCutFileOf bytes f
 IsTaken (kind.Answer f) bytes = ⊤
 IsTaken (kind.State f) bytes = ⊤
 IsTaken kind.Journal bytes = ⊤
+
+-- the line in front of the parts of a table's file or of a cut's
+abbrev pub front_of : FileKind → ℕ → List ℕ
+front_of kind.Table size = codes "file of columns, " ++ decimal size ++ codes " bytes\n"
+front_of kind.Cut size = codes "file of a cut, " ++ decimal size ++ codes " bytes\n"
+front_of (kind.Answer f) size = []
+front_of (kind.State f) size = []
+front_of kind.Journal size = []
+
+-- what is printed begins so, unless rows are asked for
+abbrev pub Begins : FileKind → ℕ → Option ℕ → Option (List ℕ) → Option (List ℕ) → Type 0
+Begins kind size None before after = (rest : List ℕ) × Appends before after (front_of kind size ++ rest)
+Begins kind size (Some rows) before after = ⊤
+
+-- so it does of bytes that begin as one of the files
+abbrev pub PrintsParts : List ℕ → Option ℕ → Option (List ℕ) → Option (List ℕ) → Type 0
+PrintsParts bytes rows before after = (kind : FileKind) × (kind_of bytes ≡ Some kind) × Begins kind (length bytes) rows before after
+
+-- so it does of the bytes that are held under the path, where they are known
+abbrev pub PrintsPartsOf : Holds → List ℕ → Option ℕ → Option (List ℕ) → Option (List ℕ) → Type 0
+PrintsPartsOf holds path rows before after = (bytes : List ℕ) × AreHeld (holds path) bytes × PrintsParts bytes rows before after
 
 -- bytes that begin as one of the files, and are taken as such
 pub record IsWhole (bytes : List ℕ) : Type 0 where

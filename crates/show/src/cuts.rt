@@ -79,8 +79,7 @@ fn show_lengths(cursor: &mut Cursor<'_>, count: u32, out: &mut String) -> Result
 }
 
 /// Shows the file of a cut, behind its magic.
-pub fn show_cut_file(cursor: &mut Cursor<'_>, size: usize, out: &mut String) -> Result<(), Stop> {
-    writeln!(out, "file of a cut, {size} bytes")?;
+pub fn show_cut_file(cursor: &mut Cursor<'_>, out: &mut String) -> Result<(), Stop> {
     let load = cursor.take_u64("the load")?;
     writeln!(out, "load {load}")?;
     let count = take_count(cursor)?;

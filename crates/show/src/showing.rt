@@ -1,9 +1,10 @@
 //! The command `show`.
-ghost use Rattle.std.specs.Prelude.{◌≡◌, ◌⊎◌, ℕ, List, true, IfOk, OnOk};
+ghost use Rattle.std.specs.Prelude.{◌≡◌, ◌⊎◌, ◌++◌, ℕ, List, None, false, true, IfOk, IsOk, OnOk, length, string_bytes};
+ghost use Rattle.std.specs.Io.KnownBytes.{Appends};
 ghost use Rattle.fragment_file.specs.CutFile.{CutFileSpec, IsCutFileOf};
 ghost use Rattle.fragment_file.specs.Fragment.{FragmentSpec, IsFileOf};
 ghost use Rattle.folders.specs.Folder.{AreHeld};
-ghost use Rattle.show.specs.Shown.{BeginsAsFile, HoldsFile, IsTaken, IsWhole};
+ghost use Rattle.show.specs.Shown.{Begins, BeginsAsFile, HoldsFile, IsTaken, IsWhole, PrintsParts, PrintsPartsOf, front_of};
 
 use crate::csv_rows::rows_of_table;
 use crate::cuts::show_cut_file;
@@ -39,6 +40,8 @@ impl ShowOptions {
 /// What is printed of a file, and why reading ended.
 #[derive(Drop)]
 struct Shown {
+    /// The line in front of its parts, if there is one.
+    front: String,
     bytes: Vec<u8>,
     ended: Result<(), Stop>,
 }
@@ -56,7 +59,7 @@ fn show_parts(
     cursor.take_bytes(4, "the magic")?;
     match kind {
         FileKind::Table => show_table_file(alloc, &mut cursor, size, out),
-        FileKind::Cut => show_cut_file(&mut cursor, size, out),
+        FileKind::Cut => show_cut_file(&mut cursor, out),
         FileKind::Answer(format) => show_answer(alloc, &mut cursor, format, size, detail, out),
         FileKind::State(format) => show_state(alloc, &mut cursor, format, size, detail, out),
         FileKind::Journal => show_journal(alloc, &mut cursor, size, detail, out),
@@ -71,15 +74,49 @@ fn end_line(text: &mut String) -> Result<(), AllocError> {
     text.push_str("\n")
 }
 
-fn parts_of(alloc: Global, kind: FileKind, bytes: &[u8], detail: Detail) -> Shown {
+/// The line in front of a file's parts, if there is one.
+fn front_of(alloc: Global, kind: FileKind, size: usize) -> Result<String, AllocError>
+    ensures { IfOk result (λ text. string_bytes text ≡ front_of kind size) }
+{
+    match kind {
+        FileKind::Table => format!(in alloc; "file of columns, {size} bytes\n"),
+        FileKind::Cut => format!(in alloc; "file of a cut, {size} bytes\n"),
+        FileKind::Answer(_) => Ok(String::new(alloc)),
+        FileKind::State(_) => Ok(String::new(alloc)),
+        FileKind::Journal => Ok(String::new(alloc)),
+    }
+}
+
+/// The parts of a file behind the line in front of them, and why reading ended.
+fn behind_front(
+    alloc: Global,
+    kind: FileKind,
+    bytes: &[u8],
+    detail: Detail,
+) -> (Vec<u8>, Result<(), Stop>) {
     let mut text = String::new(alloc);
     let shown = show_parts(alloc, kind, bytes, detail, &mut text);
     let ended = match end_line(&mut text) {
         Ok(()) => shown,
         Err(_) => Err(Stop::Memory),
     };
+    (text.into_bytes(), ended)
+}
+
+fn parts_of(alloc: Global, kind: FileKind, bytes: &[u8], detail: Detail) -> Shown
+    ensures { OnOk result.ended (string_bytes result.front ≡ front_of kind (length bytes.now)) }
+{
+    let Ok(front) = front_of(alloc, kind, bytes.len()) else {
+        return Shown {
+            front: String::new(alloc),
+            bytes: Vec::new(alloc),
+            ended: Err(Stop::Memory),
+        };
+    };
+    let (bytes, ended) = behind_front(alloc, kind, bytes, detail);
     Shown {
-        bytes: text.into_bytes(),
+        front,
+        bytes,
         ended,
     }
 }
@@ -89,16 +126,24 @@ fn rows_of(alloc: Global, bytes: &[u8], most: u32) -> Shown {
     let mut cursor = Cursor::new(0, bytes);
     let _magic = cursor.take_bytes(4, "the magic");
     let (csv, written) = rows_of_table(alloc, &mut cursor, most);
-    let parts = parts_of(alloc, FileKind::Table, bytes, Detail::Nothing);
+    let (parts, ended) = behind_front(alloc, FileKind::Table, bytes, Detail::Nothing);
+    drop(parts);
     Shown {
+        front: String::new(alloc),
         bytes: csv,
-        ended: written.and(parts.ended),
+        ended: written.and(ended),
     }
 }
 
-fn shown_of(alloc: Global, kind: FileKind, bytes: &[u8], options: ShowOptions) -> Shown {
-    match (kind, options.rows) {
-        (FileKind::Table, Some(most)) => rows_of(alloc, bytes, most),
+fn shown_of(alloc: Global, kind: FileKind, bytes: &[u8], options: ShowOptions) -> Shown
+    ensures { options.rows ≡ None
+        → OnOk result.ended (string_bytes result.front ≡ front_of kind (length bytes.now)) }
+{
+    let Some(most) = options.rows else {
+        return parts_of(alloc, kind, bytes, options.detail());
+    };
+    match kind {
+        FileKind::Table => rows_of(alloc, bytes, most),
         _ => parts_of(alloc, kind, bytes, options.detail()),
     }
 }
@@ -169,6 +214,15 @@ fn report<E: Write>(kind: FileKind, stop: Stop, path: &str, err: &mut E) -> io::
     }
 }
 
+/// Prints a file's parts behind the line in front of them.
+fn write_shown<O: Write>(shown: &Shown, out: &mut O) -> io::Result<()>
+    ensures { OnOk result ((rest : List ℕ) × Appends (O.contents out.old) (O.contents out.new)
+        (string_bytes shown.now.front ++ rest)) }
+{
+    out.write_all(shown.front.as_bytes())?;
+    out.write_all(shown.bytes.as_slice())
+}
+
 /// Prints what stands in a file, behind which its fault is reported; and whether it has none.
 fn print<O: Write, E: Write>(
     kind: FileKind,
@@ -177,9 +231,12 @@ fn print<O: Write, E: Write>(
     out: &mut O,
     err: &mut E,
 ) -> io::Result<bool>
-    ensures { IfOk result (λ whole. whole ≡ true → E.contents err.new ≡ E.contents err.old) }
+    ensures silent { IfOk result (λ whole. whole ≡ true → E.contents err.new ≡ E.contents err.old) }
+    ensures printed { IfOk result (λ whole. whole ≡ true → IsOk shown.now.ended
+        × ((rest : List ℕ) × Appends (O.contents out.old) (O.contents out.new)
+        (string_bytes shown.now.front ++ rest))) }
 {
-    if out.write_all(shown.bytes.as_slice()).is_err() {
+    if write_shown(shown, out).is_err() {
         writeln!(err, "xcols: cannot write standard output")?;
         return Ok(false);
     }
@@ -205,6 +262,8 @@ fn show_kind<O: Write, E: Write>(
     ensures taken { IfOk result (λ whole. whole ≡ true → IsTaken kind bytes.now) }
     ensures silent { IfOk result
         (λ whole. whole ≡ true → E.contents err.new ≡ E.contents err.old) }
+    ensures printed { IfOk result (λ whole. whole ≡ true
+        → Begins kind (length bytes.now) options.rows (O.contents out.old) (O.contents out.new)) }
 {
     let shown = shown_of(alloc, kind, bytes, options);
     if !print(kind, path, &shown, out, err)? {
@@ -219,6 +278,14 @@ fn show_kind<O: Write, E: Write>(
     }
 }
 
+// Says why nothing is shown of a path.
+fn refuse<E: Write>(front: &str, path: &str, back: &str, err: &mut E) -> io::Result<bool>
+    ensures { IfOk result (λ whole. whole ≡ false) }
+{
+    writeln!(err, "xcols: {front}{path}{back}")?;
+    Ok(false)
+}
+
 fn show_bytes<O: Write, E: Write>(
     alloc: Global,
     path: &str,
@@ -231,13 +298,12 @@ fn show_bytes<O: Write, E: Write>(
     ensures silent { IfOk result
         (λ whole. whole ≡ true → E.contents err.new ≡ E.contents err.old) }
     ensures quiet { (O.contents out.new ≡ O.contents out.old) ⊎ BeginsAsFile bytes.now }
+    ensures printed { IfOk result (λ whole. whole ≡ true
+        → PrintsParts bytes.now options.rows (O.contents out.old) (O.contents out.new)) }
 {
     match kind_of(bytes) {
         Some(kind) => show_kind(alloc, kind, path, bytes, options, out, err),
-        None => {
-            writeln!(err, "xcols: {path} begins as no file of xcols")?;
-            Ok(false)
-        }
+        None => refuse("", path, " begins as no file of xcols", err),
     }
 }
 
@@ -255,17 +321,14 @@ fn show_file<F: Folder, O: Write, E: Write>(
         (λ whole. whole ≡ true → E.contents err.new ≡ E.contents err.old) }
     ensures quiet { (O.contents out.new ≡ O.contents out.old)
         ⊎ HoldsFile (F.holds folder.now) path.now }
+    ensures printed { IfOk result (λ whole. whole ≡ true
+        → PrintsPartsOf (F.holds folder.now) path.now options.rows (O.contents out.old)
+        (O.contents out.new)) }
 {
     match try_read(alloc, folder, path) {
         Ok(Some(bytes)) => show_bytes(alloc, path, bytes.as_slice(), options, out, err),
-        Ok(None) => {
-            writeln!(err, "xcols: cannot read {path}")?;
-            Ok(false)
-        }
-        Err(_) => {
-            writeln!(err, "xcols: memory")?;
-            Ok(false)
-        }
+        Ok(None) => refuse("cannot read ", path, "", err),
+        Err(_) => refuse("memory", "", "", err),
     }
 }
 
@@ -285,6 +348,10 @@ pub fn show<F: Folder, O: Write, E: Write>(
     ensures silent { result ≡ 0 → E.contents err.new ≡ E.contents err.old }
     ensures quiet { (O.contents out.new ≡ O.contents out.old)
         ⊎ HoldsFile (F.holds folder.now) path.now }
+    // Unless rows are asked for, a table's file and a cut's are named in front of their parts.
+    ensures printed { result ≡ 0
+        → PrintsPartsOf (F.holds folder.now) path.now options.now.rows (O.contents out.old)
+        (O.contents out.new) }
 {
     match show_file(alloc, folder, path, *options, out, err) {
         Ok(true) => 0,

@@ -91,7 +91,6 @@ pub fn show_table_file(
     size: usize,
     out: &mut String,
 ) -> Result<(), Stop> {
-    writeln!(out, "file of columns, {size} bytes")?;
     let rows = show_front(alloc, cursor, out)?;
     let columns = show_columns(alloc, cursor, out)?;
     show_blocks(alloc, cursor, rows, columns.as_slice(), out)?;

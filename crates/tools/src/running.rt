@@ -1,5 +1,5 @@
 //! Runs a tool and gives its exit status.
-ghost use Rattle.std.specs.Prelude.{◌≡◌, ◌⊎◌};
+ghost use Rattle.std.specs.Prelude.{◌≡◌, ◌⊎◌, option_map};
 ghost use Rattle.show.specs.Shown.{HoldsFile};
 ghost use Rattle.tools.specs.Running.{ExplainsPlan, IsSilent, IsStatus, LeavesFiles, LeavesOutput, MakesCatalog, PrintsExplanation, ShowsFile};
 
@@ -7,13 +7,27 @@ use crate::explaining::entry_of;
 use crate::words::{ExplainWords, InitWords, ShowWords, Tool};
 use explain::explain;
 use folders::Folder;
-use init::{Listing, make_catalog};
+use init::{InitFault, Listing, make_catalog};
 use meaning::Text;
 use refusals::print_known;
 use show::{ShowOptions, show};
 use std::alloc::Global;
 use std::io;
 use std::io::Write;
+
+// The name of the fact, where the words say it.
+fn fact_in(words: &InitWords) -> Option<&str>
+    ensures { option_map (λ fact. fact.now) result ≡ words.now.fact }
+{
+    match &words.fact {
+        Some(fact) => Some(fact.as_str()),
+        None => None,
+    }
+}
+
+fn report<E: Write>(fault: &InitFault, err: &mut E) -> io::Result<()> {
+    writeln!(err, "xcols: {fault}")
+}
 
 fn run_init<F: Folder + Listing, E: Write>(
     alloc: Global,
@@ -22,15 +36,14 @@ fn run_init<F: Folder + Listing, E: Write>(
     err: &mut E,
 ) -> u8
     ensures status { IsStatus result }
-    ensures files { MakesCatalog (F.holds folder.old) words.now.folder result (F.wrote folder.old)
-        (F.wrote folder.new) }
+    ensures files { MakesCatalog (F.holds folder.old) words.now.folder words.now.fact result
+        (F.wrote folder.old) (F.wrote folder.new) }
 {
-    let fact = words.fact.as_ref().map(|fact| fact.as_str());
-    match make_catalog(alloc, folder, words.folder.as_str(), fact, err) {
+    match make_catalog(alloc, folder, words.folder.as_str(), fact_in(words), err) {
         Ok(()) => 0,
         Err(fault) => {
             // A closed standard error leaves nobody to print to.
-            let _ = writeln!(err, "xcols: {fault}");
+            let _ = report(&fault, err);
             1
         }
     }

@@ -2,7 +2,8 @@
 use crate::host_folder::HostFolder;
 use init::{CsvFile, Listing};
 use std::alloc::Global;
-use std::fs::File;
+use std::fs::{DirEntry, File};
+use std::mem::drop;
 use std::path::Path;
 use std::rt::Files;
 use std::{fs, io};
@@ -27,15 +28,40 @@ fn csv_file<R: Files>(
     }))
 }
 
+// Puts the file of an entry among those that were found, where it is a CSV file.
+fn add_entry<R: Files + Alloc + Clone + Drop>(
+    alloc: Global,
+    files: &R,
+    entry: &DirEntry<R, R::A>,
+    found: &mut Vec<CsvFile>,
+) -> io::Result<()> {
+    if let Some(file) = csv_file(alloc, files, entry.file_name(), entry.path())? {
+        found.push(file)?;
+    }
+    Ok(())
+}
+
+fn add_entries<R: Files + Alloc + Clone + Drop>(
+    alloc: Global,
+    files: &R,
+    directory: &str,
+    found: &mut Vec<CsvFile>,
+) -> io::Result<()> {
+    for entry in fs::read_dir(files, directory)? {
+        add_entry(alloc, files, &entry?, found)?;
+    }
+    Ok(())
+}
+
 impl<'a, R: Files<File = File> + Alloc + Clone + Drop> Listing for HostFolder<'a, R> {
     fn csv_files(&self, alloc: Global, directory: &str) -> io::Result<Vec<CsvFile>> {
         let mut found = Vec::new(alloc);
-        for entry in fs::read_dir(self.files(), directory)? {
-            let entry = entry?;
-            if let Some(file) = csv_file(alloc, self.files(), entry.file_name(), entry.path())? {
-                found.push(file)?;
+        match add_entries(alloc, self.files(), directory, &mut found) {
+            Ok(()) => Ok(found),
+            Err(error) => {
+                drop(found);
+                Err(error)
             }
         }
-        Ok(found)
     }
 }

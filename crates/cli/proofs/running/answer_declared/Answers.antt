@@ -1,7 +1,8 @@
 -- Proofs of the goals of `answer_declared` (`running`).
 use Rattle.std.proofs.Common.{refl, inl, inr}
-use Rattle.std.proofs.lemmas.Result.{err_from_is_err_and}
+use Rattle.std.proofs.lemmas.Result.{IfErr-weaker, err_from_is_err_and}
 use Rattle.cli.specs.Running.{input_over}
+use Rattle.cli.proofs.AskedFiles.{unplanned_unread}
 use Rattle.cli.proofs.Refusals.{unplanned}
 use Rattle.cli.proofs.Questions.{answered_by, refused_by}
 use Rattle.cli.proofs.running.answer_declared.Goals as goal
@@ -27,3 +28,17 @@ pub returns-in-Err-clause-refused : goal.returns-in-Err-clause-refused
 returns-in-Err-clause-refused g c = λ text declared.
     let question = c.args.question.now in
     inr (c.in_ok-fact.fact, c.in_ok-fact.ensures.tables, unplanned question.directory.now text question.catalog.now (input_over text c.in_ok-fact.fact question.query.now question.vector) c.in-Err.refusal declared refl c.in-Err.ensures.refused)
+
+pub returns-in_err-fact-clause-unread : goal.returns-in_err-fact-clause-unread
+returns-in_err-fact-clause-unread g c =
+    let p = err_from_is_err_and c.from_residual.result c.from_residual.ensures.1 in
+    rw (p.1, p.2) (λ text declared. c.in_err-fact.ensures.unread)
+
+pub returns-in-Ok-clause-unread : goal.returns-in-Ok-clause-unread
+returns-in-Ok-clause-unread g c =
+    IfErr-weaker c.answer_planned.result _ _ (λ e unread text declared. unread text declared c.in-Ok.ensures.planned) c.answer_planned.ensures.unread
+
+pub returns-in-Err-clause-unread : goal.returns-in-Err-clause-unread
+returns-in-Err-clause-unread g c = λ text declared.
+    let question = c.args.question.now in
+    unplanned_unread (g.F.Folder.asks c.args.folder.now) question.catalog.now question.query.now c.in-Err.refusal c.in-Err.ensures.refused

@@ -23,6 +23,7 @@ loop-files-init g c =
       [],
       none_yet g.F.Reader.Read.remaining c.args.reader.now target.catalog.now.fact c.args.cut.now c.requires.declared c.requires.lengths,
       none_closed F.enclosed (F.wrote c.args.folder.now) target.load target.catalog.now.fact c.args.cut.now c.new.result.items c.new.ensures.items,
+      λ path asked. asked,
     )
 
 pub returns-in_err-columns-clause-refused : goal.returns-in_err-columns-clause-refused
@@ -82,6 +83,7 @@ loop-files-preserved g c =
       handed_more known c.args.reader.now c.loop-files.reader c.next_fragment.new.self table cut k done so_far.6 c.in_ok-columns.field-0 columns c.in-Some.is next c.next_fragment.ensures.declared c.in_ok-columns.ensures.taken,
       subst (λ (cs : List ColumnSpec). IfOk c.with_fragment-files.result (λ after. AreFragmentsClosed F.enclosed (F.wrote c.args.folder.now) target.load table cut (done ++ cs ∷ []) after.items)) c.as_slice.ensures
           (subst (λ (w : Option (List Change)). IfOk c.with_fragment-files.result (λ after. AreFragmentsClosed F.enclosed w target.load table cut (done ++ c.as_slice.result.now ∷ []) after.items)) so_far.0 closed),
+      λ path asked. so_far.8 path (c.with_fragment-files.ensures.asking path asked),
     )
 
 pub returns-clause-loaded : goal.returns-clause-loaded

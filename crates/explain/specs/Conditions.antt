@@ -1,0 +1,39 @@
+-- The lines of a plan's conditions.
+use Rattle.std.specs.Prelude.{◌≡◌, ℕ, ◌+◌, nat_lt, Bool, if◌then◌else◌, List, [], ◌∷◌, ◌++◌, codes, decimal}
+use Rattle.meaning.specs.declared.expr.Expr.{Expr}
+use Rattle.explain.specs.Places.{AreAhead, IsPlaceOf}
+use Rattle.explain.specs.declared.placing.Place.{Place}
+use Rattle.explain.specs.declared.placing.Place.TheVariants as place
+
+-- right at the lookup, or behind a condition that is tested on no dimension
+abbrev pub marks_words : Bool → List ℕ
+marks_words leads = if leads then codes ", by marks at its lookup" else codes ", by marks in this place"
+
+-- the words for a place; whose rows or blocks they are is said by a name
+abbrev pub IsPlaceText : Place → Bool → List ℕ → Type 0
+IsPlaceText (place.Dimension join) leads text = (table : List ℕ) × (text ≡ codes "ahead on the rows of " ++ (table ++ marks_words leads))
+IsPlaceText (place.Blocks column) leads text = (name : List ℕ) × (text ≡ codes "on blocks of " ++ (name ++ codes " that have entries, else on rows"))
+IsPlaceText place.Rows leads text = text ≡ codes "on rows"
+
+-- a line with the condition's number, some text for the condition, and its place
+pub record IsCondition (joins number : ℕ) (leads : Bool) (condition : Expr) (line : List ℕ) : Type 0 where
+  pub place : Place
+  pub is_place : IsPlaceOf joins condition place
+  pub words : List ℕ
+  pub words_are : IsPlaceText place leads words
+  pub blanks : List ℕ
+  pub text : List ℕ
+  pub is_line : line ≡ blanks ++ (decimal number ++ (codes ". " ++ (text ++ (codes ": " ++ (words ++ codes "\n")))))
+
+-- a line for each condition, from this index on; the first of all conditions are tested at their lookup
+abbrev pub AreLines : ℕ → ℕ → ℕ → List Expr → List ℕ → Type 0
+AreLines joins leading index [] text = text ≡ []
+AreLines joins leading index (condition ∷ conditions) text = (line rest : List ℕ) × (text ≡ line ++ rest)
+    × IsCondition joins (index + 1) (nat_lt index leading) condition line × AreLines joins leading (index + 1) conditions rest
+
+abbrev pub AreConditions : ℕ → List Expr → List ℕ → Type 0
+AreConditions joins conditions text = (leading : ℕ) × AreAhead joins conditions leading × AreLines joins leading 0 conditions text
+
+-- they were written behind a text
+abbrev pub AddsConditions : ℕ → List Expr → List ℕ → List ℕ → Type 0
+AddsConditions joins conditions before after = (lines : List ℕ) × (after ≡ before ++ lines) × AreConditions joins conditions lines

@@ -135,4 +135,4 @@ module _ (declared : List Column) (row : ℕ) (fields : Record) (cs : List Colum
       let width = eq-eqb (length fields) (length declared) counted in
       rw (width, all) refl
   field_fails i d text columns before after Memory counted lt there is_d bad front now = tt
-  field_fails i d text columns before after Device counted lt there is_d bad front now = tt
+  field_fails i d text columns before after Device counted lt there is_d bad front now = bad

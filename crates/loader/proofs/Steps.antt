@@ -43,7 +43,7 @@ more_come known before after fields (Ok true) taken = λ rest left. rw (taken re
 pub fault_taken : (judged : Result Row TableFault) (before now : List ColumnSpec) (e : LoadFault) → IsFaultOf judged e → TakesRow judged before now (Err e)
 fault_taken judged before now (Table fault) returned = returned
 fault_taken judged before now Memory returned = tt
-fault_taken judged before now Device returned = tt
+fault_taken judged before now Device returned = returned
 
 -- what the first record says of the columns is what opening gives
 pub opened : {R X : Type 0} (known : R → Option (List ℕ)) (after : Reader R) (declared : List Column) (order : X → List ℕ) (rest others : List Record) (header : Record)

@@ -64,25 +64,25 @@ abbrev pub ReadsField : List ℕ → Result Parsed TableFault → Result Value T
 ReadsField field (Ok p) meant = meant ≡ Ok (value_of (p, field))
 ReadsField field (Err fault) meant = meant ≡ Err fault
 
--- a field's value stands behind the last, or its fault is returned
+-- a field's value stands behind the last, or its fault is returned; no reader is asked, so none fails
 abbrev pub TakesField : Result Value TableFault → ColumnSpec → ColumnSpec → Result (Unit {0}) LoadFault → Type 0
 TakesField judged before after (Ok _) = (v : Value) × (judged ≡ Ok v) × (after ≡ with_value before v)
 TakesField judged before after (Err (Table fault)) = judged ≡ Err fault
 TakesField judged before after (Err Memory) = ⊤
-TakesField judged before after (Err Device) = ⊤
+TakesField judged before after (Err Device) = ⊥
 
 -- a record's row stands behind the last rows, or its first fault is returned
 abbrev pub TakesRow : Result Row TableFault → List ColumnSpec → List ColumnSpec → Result (Unit {0}) LoadFault → Type 0
 TakesRow judged before after (Ok _) = (row : Row) × (judged ≡ Ok row) × (after ≡ with_row before row)
 TakesRow judged before after (Err (Table fault)) = judged ≡ Err fault
 TakesRow judged before after (Err Memory) = ⊤
-TakesRow judged before after (Err Device) = ⊤
+TakesRow judged before after (Err Device) = ⊥
 
--- a record's first fault, unless memory runs out or the reader fails
+-- a record's first fault, unless memory runs out
 abbrev pub IsFaultOf : Result Row TableFault → LoadFault → Type 0
 IsFaultOf judged (Table fault) = judged ≡ Err fault
 IsFaultOf judged Memory = ⊤
-IsFaultOf judged Device = ⊤
+IsFaultOf judged Device = ⊥
 
 -- the row of a record with its number
 abbrev pub numbered_row : List Column → List ℕ → ℕ × Record → Result Row TableFault

@@ -1,10 +1,11 @@
 //! The header of a CSV file: which field is which column's.
-ghost use Rattle.std.specs.Prelude.{◌≡◌, ◌==◌, true, map, count_by, position, unwrap_or, option_map, slice_get, IfOk};
+ghost use Rattle.std.specs.Prelude.{◌≡◌, ◌==◌, true, map, count_by, position, unwrap_or, option_map, slice_get, IfOk, IfErr, ◌≢◌};
 ghost use Rattle.std.specs.List.{list_all};
 ghost use Rattle.csv.specs.Records.{fields_of};
 ghost use Rattle.meaning.specs.Records as declared;
 ghost use Rattle.meaning.specs.Wanting.{ReportsIfMemory};
 ghost use Rattle.loader.specs.Fault.{fault_returned};
+ghost use Rattle.loader.specs.declared.fault.LoadFault.TheVariants.{Device};
 ghost use Rattle.loader.specs.Steps.{inverse_order, has_each, is_in_order, names_one, order_of};
 
 use crate::fault::LoadFault;
@@ -156,8 +157,9 @@ fn with_inverse(alloc: Global, columns: Vec<usize>) -> Result<FileOrder, AllocEr
 
 /// The order of the columns that the fields of a header name.
 fn order_by(alloc: Global, columns: &[Column], header: &[&[u8]]) -> Result<FileOrder, LoadFault>
-    ensures { ReportsIfMemory fault_returned (λ order. order.columns.items) result
+    ensures read { ReportsIfMemory fault_returned (λ order. order.columns.items) result
         (order_of columns.now (map (λ field. field.now) header.now)) }
+    ensures refused { IfErr result (λ f. f ≢ Device) }
 {
     if !is_header(columns, header) {
         return Err(LoadFault::Table(TableFault::Header));
@@ -172,8 +174,9 @@ pub fn order_of(
     columns: &[Column],
     header: &ByteRecord,
 ) -> Result<FileOrder, LoadFault>
-    ensures { ReportsIfMemory fault_returned (λ order. order.columns.items) result
+    ensures read { ReportsIfMemory fault_returned (λ order. order.columns.items) result
         (order_of columns.now (fields_of header.now)) }
+    ensures refused { IfErr result (λ f. f ≢ Device) }
 {
     let header = fields_in(alloc, header)?;
     let order = order_by(alloc, columns, header.as_slice());

@@ -1,10 +1,11 @@
 //! One record: its fields, judged in the order of the file.
-ghost use Rattle.std.specs.Prelude.{◌≡◌, true, slice_get, map, zip, Result, Ok, Err};
+ghost use Rattle.std.specs.Prelude.{◌≡◌, ◌≢◌, true, slice_get, map, zip, IfErr, Result, Ok, Err};
 ghost use Rattle.std.specs.Str.{is_utf8};
 ghost use Rattle.csv.specs.Records.{AllText, fields_of};
 ghost use Rattle.meaning.specs.Records as declared;
 ghost use Rattle.meaning.specs.Wanting.{ReportsIfMemory};
 ghost use Rattle.loader.specs.Fault.{fault_returned};
+ghost use Rattle.loader.specs.declared.fault.LoadFault.TheVariants.{Device};
 ghost use Rattle.loader.specs.Steps.{ReadsField, values_of};
 
 use crate::fault::LoadFault;
@@ -49,8 +50,9 @@ pub fn judge_texts(
     parsed: &mut Vec<Parsed>,
 ) -> Result<(), LoadFault>
     requires { AllText (fields_of fields.now) }
-    ensures { ReportsIfMemory fault_returned (λ _. values_of parsed.new.items (fields_of fields.now))
+    ensures read { ReportsIfMemory fault_returned (λ _. values_of parsed.new.items (fields_of fields.now))
         result (declared.file_values columns.now order.now row (fields_of fields.now)) }
+    ensures refused { IfErr result (λ f. f ≢ Device) }
 {
     parsed.clear();
     for (i, index) in order.iter().enumerate() {
@@ -70,8 +72,9 @@ pub fn judge_fields(
     fields: &ByteRecord,
     parsed: &mut Vec<Parsed>,
 ) -> Result<(), LoadFault>
-    ensures { ReportsIfMemory fault_returned (λ _. values_of parsed.new.items (fields_of fields.now))
+    ensures read { ReportsIfMemory fault_returned (λ _. values_of parsed.new.items (fields_of fields.now))
         result (declared.file_values columns.now order.now row (fields_of fields.now)) }
+    ensures refused { IfErr result (λ f. f ≢ Device) }
 {
     parsed.clear();
     for (i, index) in order.iter().enumerate() {

@@ -7,7 +7,6 @@ ghost use Rattle.meaning.specs.Records as declared;
 ghost use Rattle.columns.specs.Column.{with_value, refusal};
 ghost use Rattle.columns.specs.declared.fault.ColumnFault.TheVariants as refused;
 ghost use Rattle.loader.specs.Columns.{take_row, with_row};
-ghost use Rattle.loader.specs.Fault.{IsOutside};
 ghost use Rattle.loader.specs.declared.fault.LoadFault.TheVariants.{Memory};
 ghost use Rattle.loader.specs.Steps.{value_of, values_of};
 
@@ -79,7 +78,7 @@ pub fn push_row(
         (columns.new ≡ with_row columns.old
         (declared.catalog_row order.now.columns.items
         (values_of parsed.now (fields_of fields.now)))) }
-    ensures refused { IfErr result IsOutside }
+    ensures refused { IfErr result (λ f. f ≡ Memory) }
 {
     for i in 0..columns.len() {
         let (judged, field) = judged_at(order.fields[i], parsed, fields);

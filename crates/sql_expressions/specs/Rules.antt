@@ -57,6 +57,12 @@ Gives view (Err reason) read = Stops reason read
 abbrev pub StopsHere : {X : Type 0} → ℕ → Result X Stop → Type 0
 StopsHere left result = IfErr result (λ reason. (reason ≡ stop.At left) ⊎ (reason ≡ stop.Memory))
 
+-- a tree is too deep, or too many are open, or memory ran out
+abbrev pub IsLimit : Stop → Type 0
+IsLimit stop.Memory = Unit {0}
+IsLimit stop.TooDeep = Unit {0}
+IsLimit (stop.At left) = ⊥
+
 -- one step, and then the next with what it gave
 infixl 10 ◌>>=◌
 abbrev pub ◌>>=◌ : {A B : Type 0} → Option A → (A → Option B) → Option B

@@ -6,7 +6,8 @@ ghost use Rattle.sql_expressions.specs.Rules.{Cases, Gives, Listed, aggregate_at
 ghost use Rattle.sql_syntax.specs.Strength.{rank};
 ghost use Rattle.sql_syntax.specs.declared.keyword.Keyword.TheVariants as keyword;
 ghost use Rattle.sql_syntax.specs.declared.token.Sign.TheVariants as sign;
-ghost use Rattle.std.specs.Prelude.{IfOk, IfSome, length, option_map, ◌<◌, ◌≡◌, ◌≤◌};
+ghost use Rattle.sql_expressions.specs.declared.stop.Stop.TheVariants.{TooDeep};
+ghost use Rattle.std.specs.Prelude.{Err, IfOk, IfSome, length, option_map, ◌<◌, ◌≡◌, ◌≤◌};
 
 use crate::parsed::{
     Parsed, aggregate, among, between, case, coalesce, compare, is_null, joined, leaf, like, minus,
@@ -33,6 +34,8 @@ pub fn inner<'a, 'b>(
     ensures reads { Gives (λ x. (x.0, terms x.1.now)) result
         (inner_at 128 left level (terms lexemes.now)) }
     ensures shorter { IfOk result (λ x. length x.1.now < length lexemes.now) }
+    // Where no more may be opened, that is why it stops.
+    ensures full { left ≡ 0 → result ≡ Err TooDeep }
 {
     if left == 0 {
         Err(Stop::TooDeep)

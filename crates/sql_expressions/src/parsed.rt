@@ -1,8 +1,9 @@
 //! Expressions with their depth, made of parts that were read before.
-ghost use Rattle.sql_expressions.specs.Rules.{Gives, case_node, deeper, leaf, negative, node, positive};
+ghost use Rattle.sql_expressions.specs.Rules.{Gives, IsLimit, case_node, deeper, leaf, negative, node, positive};
 ghost use Rattle.sql_syntax.specs.Strength.{node_of};
 ghost use Rattle.sql_syntax.specs.declared.tree.Expr.TheVariants as expr;
-ghost use Rattle.std.specs.Prelude.{◌≡◌, IfOk, max};
+ghost use Rattle.std.specs.Prelude.{◌≡◌, IfErr, IfOk, IsOkUnless, max};
+ghost use Rattle.sql_expressions.specs.declared.stop.Stop.TheVariants.{TooDeep};
 
 use crate::stop::Stop;
 use meaning::{Boxed, ComparisonOperator, Sequence, Text};
@@ -29,7 +30,8 @@ pub fn leaf(expr: Expr) -> Parsed
 }
 
 fn deeper(deepest: u8) -> Result<u8, Stop>
-    ensures { Gives (λ d. d) result (deeper 128 deepest) }
+    ensures reads { Gives (λ d. d) result (deeper 128 deepest) }
+    ensures stops { IsOkUnless result TooDeep }
 {
     if deepest < MAX_DEPTH {
         Ok(deepest + 1)
@@ -40,7 +42,8 @@ fn deeper(deepest: u8) -> Result<u8, Stop>
 
 /// An expression whose deepest part is so deep.
 fn node(deepest: u8, expr: Expr) -> Result<Parsed, Stop>
-    ensures { Gives (λ p. p) result (node 128 deepest expr) }
+    ensures reads { Gives (λ p. p) result (node 128 deepest expr) }
+    ensures stops { IsOkUnless result TooDeep }
 {
     match deeper(deepest) {
         Ok(depth) => Ok(Parsed { expr, depth }),
@@ -77,7 +80,8 @@ fn boxed_pair(
 }
 
 pub fn aggregate(alloc: Global, kind: Aggregate, argument: Parsed) -> Result<Parsed, Stop>
-    ensures { Gives (λ p. p) result (node 128 argument.depth (expr.Aggregate kind argument.expr)) }
+    ensures reads { Gives (λ p. p) result (node 128 argument.depth (expr.Aggregate kind argument.expr)) }
+    ensures stops { IfErr result IsLimit }
 {
     let depth = argument.depth;
     let argument = Boxed::new(alloc, argument.expr)?;
@@ -85,7 +89,8 @@ pub fn aggregate(alloc: Global, kind: Aggregate, argument: Parsed) -> Result<Par
 }
 
 pub fn minus(alloc: Global, operand: Parsed) -> Result<Parsed, Stop>
-    ensures { Gives (λ p. p) result (node 128 operand.depth (expr.Minus operand.expr)) }
+    ensures reads { Gives (λ p. p) result (node 128 operand.depth (expr.Minus operand.expr)) }
+    ensures stops { IfErr result IsLimit }
 {
     let depth = operand.depth;
     let operand = Boxed::new(alloc, operand.expr)?;
@@ -93,7 +98,8 @@ pub fn minus(alloc: Global, operand: Parsed) -> Result<Parsed, Stop>
 }
 
 pub fn not(alloc: Global, operand: Parsed) -> Result<Parsed, Stop>
-    ensures { Gives (λ p. p) result (node 128 operand.depth (expr.Not operand.expr)) }
+    ensures reads { Gives (λ p. p) result (node 128 operand.depth (expr.Not operand.expr)) }
+    ensures stops { IfErr result IsLimit }
 {
     let depth = operand.depth;
     let operand = Boxed::new(alloc, operand.expr)?;
@@ -121,8 +127,9 @@ pub fn joined(
     left: Parsed,
     right: Parsed,
 ) -> Result<Parsed, Stop>
-    ensures { Gives (λ p. p) result
+    ensures reads { Gives (λ p. p) result
         (node 128 (max left.depth right.depth) (node_of operator left.expr right.expr)) }
+    ensures stops { IfErr result IsLimit }
 {
     let depth = left.depth.max(right.depth);
     let (left, right) = boxed_pair(alloc, left.expr, right.expr)?;
@@ -135,8 +142,9 @@ pub fn compare(
     left: Parsed,
     right: Parsed,
 ) -> Result<Parsed, Stop>
-    ensures { Gives (λ p. p) result
+    ensures reads { Gives (λ p. p) result
         (node 128 (max left.depth right.depth) (expr.Compare operator left.expr right.expr)) }
+    ensures stops { IfErr result IsLimit }
 {
     let depth = left.depth.max(right.depth);
     let (left, right) = boxed_pair(alloc, left.expr, right.expr)?;
@@ -157,9 +165,10 @@ pub fn between(
     low: Parsed,
     high: Parsed,
 ) -> Result<Parsed, Stop>
-    ensures { Gives (λ p. p) result
+    ensures reads { Gives (λ p. p) result
         (node 128 (max subject.depth (max low.depth high.depth))
         (expr.Between negated subject.expr low.expr high.expr)) }
+    ensures stops { IfErr result IsLimit }
 {
     let depth = subject.depth.max(low.depth.max(high.depth));
     let bounds = boxed_pair(alloc, low.expr, high.expr);
@@ -194,8 +203,9 @@ pub fn among(
     entries: Sequence<Expr>,
     deepest: u8,
 ) -> Result<Parsed, Stop>
-    ensures { Gives (λ p. p) result
+    ensures reads { Gives (λ p. p) result
         (node 128 (max subject.depth deepest) (expr.In negated subject.expr entries)) }
+    ensures stops { IfErr result IsLimit }
 {
     let depth = subject.depth.max(deepest);
     match Boxed::new(alloc, subject.expr) {
@@ -215,8 +225,9 @@ pub fn among(
 }
 
 pub fn like(alloc: Global, negated: bool, subject: Parsed, pattern: Text) -> Result<Parsed, Stop>
-    ensures { Gives (λ p. p) result
+    ensures reads { Gives (λ p. p) result
         (node 128 subject.depth (expr.Like negated subject.expr pattern)) }
+    ensures stops { IfErr result IsLimit }
 {
     let depth = subject.depth;
     let subject = Boxed::new(alloc, subject.expr)?;
@@ -231,7 +242,8 @@ pub fn like(alloc: Global, negated: bool, subject: Parsed, pattern: Text) -> Res
 }
 
 pub fn is_null(alloc: Global, negated: bool, subject: Parsed) -> Result<Parsed, Stop>
-    ensures { Gives (λ p. p) result (node 128 subject.depth (expr.IsNull negated subject.expr)) }
+    ensures reads { Gives (λ p. p) result (node 128 subject.depth (expr.IsNull negated subject.expr)) }
+    ensures stops { IfErr result IsLimit }
 {
     let depth = subject.depth;
     let subject = Boxed::new(alloc, subject.expr)?;
@@ -239,7 +251,8 @@ pub fn is_null(alloc: Global, negated: bool, subject: Parsed) -> Result<Parsed, 
 }
 
 pub fn coalesce(entries: Sequence<Expr>, deepest: u8) -> Result<Parsed, Stop>
-    ensures { Gives (λ p. p) result (node 128 deepest (expr.Coalesce entries)) }
+    ensures reads { Gives (λ p. p) result (node 128 deepest (expr.Coalesce entries)) }
+    ensures stops { IsOkUnless result TooDeep }
 {
     node(deepest, Expr::Coalesce(entries))
 }
@@ -251,8 +264,9 @@ pub fn case(
     deepest: u8,
     otherwise: Option<Parsed>,
 ) -> Result<Parsed, Stop>
-    ensures { Gives (λ p. p) result
+    ensures reads { Gives (λ p. p) result
         (case_node 128 (record { arms = arms; deepest = deepest }) otherwise) }
+    ensures stops { IfErr result IsLimit }
 {
     let Some(value) = otherwise else {
         return node(

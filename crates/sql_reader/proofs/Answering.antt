@@ -1,13 +1,13 @@
 -- What is read of a text is its tree, and the refusal that is returned stands in it.
-use Rattle.std.proofs.Common.{◌≡◌, ℕ, zero, suc, ◌<◌, ◌≤◌, Bool, true, false, cond, List, [], ◌∷◌, ◌++◌, length, get_or, Option, Some, None, Result, Ok, Err, IsUtf8, refl, sym, ap, ◌∙◌, subst, arith, inr}
+use Rattle.std.proofs.Common.{◌≡◌, ◌⊎◌, ℕ, zero, suc, ◌-◌, ◌<◌, ◌≤◌, Bool, true, false, cond, List, [], ◌∷◌, ◌++◌, length, get_or, take, drop, Option, Some, None, Result, Ok, Err, IsUtf8, refl, sym, ap, ◌∙◌, subst, arith, inl, inr}
 use Rattle.std.specs.Prelude.{nat_le, IfOk, IfErr}
-use Rattle.std.proofs.lemmas.List.{append-nil}
+use Rattle.std.proofs.lemmas.List.{take-append-drop}
 use Rattle.std.specs.Result.{IsErr, IsErrAnd}
 use Rattle.meaning.specs.Limits.{max_query_bytes}
 use Rattle.sql_syntax.specs.declared.token.Lexeme.{Lexeme}
 use Rattle.sql_syntax.specs.declared.tree.Query.{Query}
 use Rattle.sql_syntax.specs.Tokens as terminal
-use Rattle.sql_syntax.specs.Tokens.{Terminal, Located, located, all_located, terminals, terminal_of, tokens_of}
+use Rattle.sql_syntax.specs.Tokens.{Terminal, Located, all_located, terminals, terminal_of, tokens_of}
 use Rattle.sql_syntax.specs.Queries.{open_in_query}
 use Rattle.sql_syntax.specs.Canonical.{canonical}
 use Rattle.sql_reader.specs.declared.fault.SqlFault.{SqlFault}
@@ -17,37 +17,51 @@ use Rattle.sql_expressions.specs.declared.stop.Stop.TheVariants as stop
 use Rattle.sql_expressions.specs.Rules.{terms, Stops}
 use Rattle.sql_reader.specs.Rules.{query_at, within}
 use Rattle.sql_reader.specs.Grammar.{IsTree, IsShallow, IsWithin, GivesQuery, refusal, refusal_at, StandsIn, HasNone, IsRefusal}
-use Rattle.sql_reader.specs.Refusing.{Reports, IsReturned, IsKept, Refuses, no_memory, no_query, too_long, IsAnswer}
+use Rattle.sql_reader.specs.Refusing.{Reports, refusal_of, IsReturned, IsKept, Refuses, no_memory, no_query, too_long, IsAnswer}
 use Rattle.sql_reader.proofs.CompleteQuery.{complete_query, unique_query}
 use Rattle.sql_reader.proofs.SoundQuery.{query_sound}
 
 -- ---- tokens with their offsets
 
--- a token at an index stands between those before it and those behind it
-pub located_split : (ls : List Lexeme) (i : ℕ) (d : Lexeme) → i < length ls → (front : List Located) × (rest : List Located) × (all_located ls ≡ front ++ located (get_or ls i d) ∷ rest)
-located_split [] i d h = absurd (omega arith)
-located_split (l ∷ ls) zero d h = ([], all_located ls, refl)
-located_split (l ∷ ls) (suc i) d h = let s = located_split ls i d (omega arith) in (located l ∷ s.0, s.1, ap (λ (ps : List Located). located l ∷ ps) s.2)
+-- the refusal from an index on is that of the token there
+pub refusal_here : (end i : ℕ) (ls : List Lexeme) (d l : Lexeme) → i < length ls → l ≡ get_or ls i d → refusal_at end (drop i (all_located ls)) ≡ refusal (terminal_of l.token) l.offset
+refusal_here end i [] d l h is = absurd (omega arith)
+refusal_here end zero (x ∷ ls) d l h is = ap (λ (y : Lexeme). refusal (terminal_of y.token) y.offset) (sym is)
+refusal_here end (suc i) (x ∷ ls) d l h is = refusal_here end i ls d l (omega arith) is
 
-returned_of : (end : ℕ) (ps front rest : List Located) (p : Located) (returned : SqlFault) → ps ≡ front ++ p ∷ rest → Reports returned (refusal p.terminal p.offset) → IsReturned end ps returned
-returned_of end ps front rest p fault.Memory parts e = tt
-returned_of end ps front rest p fault.TooDeep parts e = tt
-returned_of end ps front rest p fault.NotUtf8 parts e = record { front = front; rest = p ∷ rest; parts = parts; reports = e }
-returned_of end ps front rest p fault.TooLong parts e = record { front = front; rest = p ∷ rest; parts = parts; reports = e }
-returned_of end ps front rest p (fault.UnknownCharacter at) parts e = record { front = front; rest = p ∷ rest; parts = parts; reports = e }
-returned_of end ps front rest p (fault.TextNotClosed at) parts e = record { front = front; rest = p ∷ rest; parts = parts; reports = e }
-returned_of end ps front rest p (fault.IntegerOutOfRange at) parts e = record { front = front; rest = p ∷ rest; parts = parts; reports = e }
-returned_of end ps front rest p (fault.UnexpectedToken at) parts e = record { front = front; rest = p ∷ rest; parts = parts; reports = e }
-returned_of end ps front rest p (fault.LeftOut at w) parts e = record { front = front; rest = p ∷ rest; parts = parts; reports = e }
+pub reported_at : (end i : ℕ) (ls : List Lexeme) (d l : Lexeme) (returned : SqlFault) → i < length ls → l ≡ get_or ls i d → Reports returned (refusal (terminal_of l.token) l.offset) → Reports returned (refusal_at end (drop i (all_located ls)))
+reported_at end i ls d l returned h is e = subst (λ (x : SqlFault). Reports returned x) (sym (refusal_here end i ls d l h is)) e
 
-pub returned_at : (end i : ℕ) (ls : List Lexeme) (d l : Lexeme) (returned : SqlFault) → i < length ls → l ≡ get_or ls i d → Reports returned (refusal (terminal_of l.token) l.offset) → IsReturned end (all_located ls) returned
-returned_at end i ls d l returned h is e =
-    let s = located_split ls i d h in
-    let parts : all_located ls ≡ s.0 ++ located l ∷ s.1 = s.2 ∙ ap (λ (x : Lexeme). s.0 ++ located x ∷ s.1) (sym is) in
-    returned_of end (all_located ls) s.0 s.1 (located l) returned parts e
+-- behind the last token it is that of the end
+pub end_here : (end i : ℕ) (ls : List Lexeme) → length ls ≤ i → refusal_at end (drop i (all_located ls)) ≡ fault.UnexpectedToken end
+end_here end zero [] h = refl
+end_here end (suc i) [] h = refl
+end_here end zero (x ∷ ls) h = absurd (omega arith)
+end_here end (suc i) (x ∷ ls) h = end_here end i ls (omega arith)
 
-pub returned_at_end : (end : ℕ) (ps : List Located) → StandsIn end ps (fault.UnexpectedToken end)
-returned_at_end end ps = record { front = ps; rest = []; parts = sym (append-nil ps); reports = refl }
+-- the refusal from an index on stands in the tokens
+returned_from : (end i : ℕ) (ps : List Located) (returned : SqlFault) → Reports returned (refusal_at end (drop i ps)) → IsReturned end ps returned
+returned_from end i ps fault.Memory e = tt
+returned_from end i ps fault.TooDeep e = tt
+returned_from end i ps fault.NotUtf8 e = record { front = take i ps; rest = drop i ps; parts = sym (take-append-drop i ps); reports = e }
+returned_from end i ps fault.TooLong e = record { front = take i ps; rest = drop i ps; parts = sym (take-append-drop i ps); reports = e }
+returned_from end i ps (fault.UnknownCharacter at) e = record { front = take i ps; rest = drop i ps; parts = sym (take-append-drop i ps); reports = e }
+returned_from end i ps (fault.TextNotClosed at) e = record { front = take i ps; rest = drop i ps; parts = sym (take-append-drop i ps); reports = e }
+returned_from end i ps (fault.IntegerOutOfRange at) e = record { front = take i ps; rest = drop i ps; parts = sym (take-append-drop i ps); reports = e }
+returned_from end i ps (fault.UnexpectedToken at) e = record { front = take i ps; rest = drop i ps; parts = sym (take-append-drop i ps); reports = e }
+returned_from end i ps (fault.LeftOut at w) e = record { front = take i ps; rest = drop i ps; parts = sym (take-append-drop i ps); reports = e }
+
+-- what is returned is what is meant, or memory ran out
+meant_or_memory : (returned meant : SqlFault) → Reports returned meant → (returned ≡ fault.Memory) ⊎ (meant ≡ returned)
+meant_or_memory fault.Memory meant e = inl refl
+meant_or_memory fault.NotUtf8 meant e = inr e
+meant_or_memory fault.TooDeep meant e = inr e
+meant_or_memory fault.TooLong meant e = inr e
+meant_or_memory (fault.UnknownCharacter at) meant e = inr e
+meant_or_memory (fault.TextNotClosed at) meant e = inr e
+meant_or_memory (fault.IntegerOutOfRange at) meant e = inr e
+meant_or_memory (fault.UnexpectedToken at) meant e = inr e
+meant_or_memory (fault.LeftOut at w) meant e = inr e
 
 pub terminals_terms : (ls : List Lexeme) → terminals (all_located ls) ≡ terms ls
 terminals_terms [] = refl
@@ -70,10 +84,15 @@ kept_answers end ls q (Err (fault.IntegerOutOfRange at)) e k = absurd k
 kept_answers end ls q (Err (fault.UnexpectedToken at)) e k = absurd k
 kept_answers end ls q (Err (fault.LeftOut at w)) e k = absurd k
 
-pub stopped_answers : (end : ℕ) (ls : List Lexeme) (reason : Stop) (returned : SqlFault) → Stops reason (query_at within (terms ls)) → IsReturned end (all_located ls) returned → (reason ≡ stop.Memory → returned ≡ fault.Memory) → Refuses end (all_located ls) returned
-stopped_answers end ls stop.Memory returned s t m = subst (λ (x : SqlFault). Refuses end (all_located ls) x) (sym (m refl)) no_memory
-stopped_answers end ls stop.TooDeep returned s t m = no_query returned (read_as ls None s) t
-stopped_answers end ls (stop.At left) returned s t m = no_query returned (read_as ls None s) t
+-- a refusal that is meant is why the tokens aren't read
+refuses_or_memory : (end : ℕ) (ps : List Located) (returned meant : SqlFault) → (returned ≡ fault.Memory) ⊎ (meant ≡ returned) → Refuses end ps meant → Refuses end ps returned
+refuses_or_memory end ps returned meant (inl m) r = subst (λ (x : SqlFault). Refuses end ps x) (sym m) no_memory
+refuses_or_memory end ps returned meant (inr e) r = subst (λ (x : SqlFault). Refuses end ps x) e r
+
+pub stopped_answers : (end : ℕ) (ls : List Lexeme) (reason : Stop) (returned : SqlFault) → Stops reason (query_at within (terms ls)) → Reports returned (refusal_of end ls reason) → Refuses end (all_located ls) returned
+stopped_answers end ls stop.Memory returned s e = refuses_or_memory end (all_located ls) returned fault.Memory (meant_or_memory returned fault.Memory e) no_memory
+stopped_answers end ls stop.TooDeep returned s e = refuses_or_memory end (all_located ls) returned fault.TooDeep (meant_or_memory returned fault.TooDeep e) (no_query fault.TooDeep (read_as ls None s) tt)
+stopped_answers end ls (stop.At left) returned s e = no_query returned (read_as ls None s) (returned_from end (length ls - left) (all_located ls) returned e)
 
 -- where memory runs out for the tokens
 pub from_memory : (end : ℕ) (ps : List Located) (r : Result Query SqlFault) → IsErr r → IsErrAnd r (λ (returned : SqlFault). returned ≡ fault.Memory) → IsAnswer end ps r

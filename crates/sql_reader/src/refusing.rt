@@ -1,11 +1,9 @@
 //! The refusal that a text's reader reports, by where reading stopped.
-ghost use Rattle.sql_reader.specs.Grammar.{refusal};
-ghost use Rattle.sql_reader.specs.Refusing.{Reports, IsReturned};
-ghost use Rattle.sql_reader.specs.declared.fault.SqlFault.TheVariants as fault;
-ghost use Rattle.sql_expressions.specs.declared.stop.Stop.TheVariants as stop;
+ghost use Rattle.sql_reader.specs.Grammar.{refusal, refusal_at};
+ghost use Rattle.sql_reader.specs.Refusing.{Reports, refusal_of};
 ghost use Rattle.sql_syntax.specs.Tokens.{terminal_of, all_located};
 ghost use Rattle.sql_syntax.specs.Words.{lower};
-ghost use Rattle.std.specs.Prelude.{◌≡◌, IfOk};
+ghost use Rattle.std.specs.Prelude.{◌≡◌, IfOk, drop};
 
 use crate::fault::SqlFault;
 use meaning::Text;
@@ -15,8 +13,7 @@ use std::alloc::{AllocError, Global};
 
 /// Why a text of `end` bytes with these tokens isn't read.
 pub fn fault_of(alloc: Global, reason: Stop, lexemes: &[Lexeme<'_>], end: usize) -> SqlFault
-    ensures returned { IsReturned end (all_located lexemes.now) result }
-    ensures memory { reason ≡ stop.Memory → result ≡ fault.Memory }
+    ensures { Reports result (refusal_of end lexemes.now reason) }
 {
     match reason {
         Stop::Memory => SqlFault::Memory,
@@ -27,7 +24,7 @@ pub fn fault_of(alloc: Global, reason: Stop, lexemes: &[Lexeme<'_>], end: usize)
 
 /// The refusal of the token at an index of the list, or of the end.
 fn refusal_at(alloc: Global, lexemes: &[Lexeme<'_>], index: usize, end: usize) -> SqlFault
-    ensures { IsReturned end (all_located lexemes.now) result }
+    ensures { Reports result (refusal_at end (drop index (all_located lexemes.now))) }
 {
     match lexemes.get(index) {
         Some(lexeme) => refusal(alloc, lexeme.token, lexeme.offset),

@@ -14,8 +14,8 @@ use Rattle.loader.proofs.Fields.{text_there}
 use Rattle.loader.proofs.Values.{values_more}
 use Rattle.loader.proofs.record.judge_texts.Goals as goal
 
-pub returns-in_err-judge_text_at : goal.returns-in_err-judge_text_at
-returns-in_err-judge_text_at c =
+pub returns-in_err-judge_text_at-clause-read : goal.returns-in_err-judge_text_at-clause-read
+returns-in_err-judge_text_at-clause-read c =
     let judge : ℕ × List ℕ → Result Value TableFault = λ p. declared.value_at c.args.row p.0 (slice_get c.args.columns.now p.0) p.1 in
     let fields = fields_of c.args.fields.now in
     let i = c.loop-i.i in
@@ -38,15 +38,15 @@ loop-i-preserved c =
           (goes_on judge (values_of judged fields) (zip c.args.order.now fields) i (get_or c.args.order.now i 0, c.in-Some.field.now) (value_of (parsed, c.in-Some.field.now)) (declared.file_values c.args.columns.now c.args.order.now c.args.row fields) here c.in_ok-judge_text_at.ensures c.loop-i.invariant.1),
     )
 
-pub returns-after-loop-i : goal.returns-after-loop-i
-returns-after-loop-i c =
+pub returns-after-loop-i-clause-read : goal.returns-after-loop-i-clause-read
+returns-after-loop-i-clause-read c =
     let judge : ℕ × List ℕ → Result Value TableFault = λ p. declared.value_at c.args.row p.0 (slice_get c.args.columns.now p.0) p.1 in
     let fields = fields_of c.args.fields.now in
     let left = zip_short_left c.args.order.now fields in
     finishes judge (values_of c.loop-i.parsed.items fields) (zip c.args.order.now fields) c.loop-i.i (declared.file_values c.args.columns.now c.args.order.now c.args.row fields) (omega (arith, left, c.loop-i-test.false)) c.loop-i.invariant.1
 
-pub returns-in_default : goal.returns-in_default
-returns-in_default c =
+pub returns-in_default-clause-read : goal.returns-in_default-clause-read
+returns-in_default-clause-read c =
     let judge : ℕ × List ℕ → Result Value TableFault = λ p. declared.value_at c.args.row p.0 (slice_get c.args.columns.now p.0) p.1 in
     let fields = fields_of c.args.fields.now in
     let i = c.loop-i.i in

@@ -30,6 +30,6 @@ push_row-requires-clause-taken c =
     let declared = c.args.declared.now in
     let fields = fields_of c.args.fields.now in
     let values = values_of c.judge_texts.new.parsed.items fields in
-    let judged : file_values declared order.columns.items c.args.row fields ≡ Ok values = ap (λ o. file_values declared o c.args.row fields) (sym c.deref.ensures.value) ∙ c.in_ok-judge_texts.ensures in
+    let judged : file_values declared order.columns.items c.args.row fields ≡ Ok values = ap (λ o. file_values declared o c.args.row fields) (sym c.deref.ensures.value) ∙ c.in_ok-judge_texts.ensures.read in
     subst (λ parsed. take_row c.args.columns.now (catalog_row order.columns.items (values_of parsed fields)) ≡ true) (sym c.deref-2.ensures.value)
     (record_fits declared order.columns.items order.each c.requires.order.long c.args.row fields values (sym c.len.ensures ∙ c.if-len-declared.false) judged c.args.columns.now c.requires.columns)

@@ -13,6 +13,9 @@ inner-returns-else-left-eq0-clause-reads t c =
     let some : 0 < c.args.left = omega arith in
     rw (inner_more 128 c.args.left c.args.level (terms c.args.lexemes.now) some) (search rules)
 
+pub inner-returns-else-left-eq0-clause-full : goal.inner-returns-else-left-eq0-clause-full
+inner-returns-else-left-eq0-clause-full t c = λ none. let some : 0 < c.args.left = omega arith in absurd (omega (arith, none, some))
+
 pub chain-loop-operator-init : goal.chain-loop-operator-init
 chain-loop-operator-init t c = chain_begins 128 c.args.level (rule_at 128 c.args.left c.args.operand) c.args.lexemes.now c.in_ok-parsed.parsed c.in_ok-parsed.rest.now c.in_ok-parsed.ensures.reads c.in_ok-parsed.ensures.shorter
 
@@ -30,5 +33,5 @@ chain-returns-in-Err-clause-reads t c =
 pub chain-returns-in-Err-joined-clause-reads : goal.chain-returns-in-Err-joined-clause-reads
 chain-returns-in-Err-joined-clause-reads t c =
     let kept = c.loop-operator.invariant in
-    stops_both c.in-Err-joined.stop _ (chain_of 128 c.args.level (rule_at 128 c.args.left c.args.operand) (terms c.args.lexemes.now)) c.in-Err-joined.ensures
+    stops_both c.in-Err-joined.stop _ (chain_of 128 c.args.level (rule_at 128 c.args.left c.args.operand) (terms c.args.lexemes.now)) c.in-Err-joined.ensures.reads
     (node_stops kept.1 128 c.args.level (rule_at 128 c.args.left c.args.operand) c.loop-operator.parsed c.in-Ok.right (terms c.loop-operator.rest.now) c.in-Some.operator (terms c.in-Some.behind.now) (terms c.in-Ok.behind.now) _ _ kept.2 (search rules) kept.3 (search rules))

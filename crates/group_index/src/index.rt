@@ -339,9 +339,6 @@ impl KeyIndex {
         ensures { IfSome result (λ group_index. (group_index < length self.now.keys)
             × (slice_index_or self.now.keys group_index [] ≡ row.now)) }
     {
-        if self.next as usize >= self.keys.len() {
-            return None;
-        }
         for step in 0..STEPS {
             let group_index = self.next.saturating_add(step);
             if self.keys.is_row(group_index, row) {
@@ -395,11 +392,11 @@ impl KeyIndex {
         ensures { IfOk result (λ group_index. IsFound row.now self.old.keys group_index
             self.new.keys) }
     {
-        if let Some(group_index) = self.find_next(row) {
-            return Ok(group_index);
-        }
         if self.is_behind_all(row) {
             return self.append(alloc, row);
+        }
+        if let Some(group_index) = self.find_next(row) {
+            return Ok(group_index);
         }
         if self.unled > 0 {
             self.lead_all(alloc)?;
@@ -409,15 +406,18 @@ impl KeyIndex {
 
     /// The group index of a key, which gets one where it has none. On an error the keys are open.
     ///
-    /// Keys that come in order take one pass beside those that are there: each is looked for from
-    /// the one before on, and one behind all others is put there unhashed. A key that comes out of
-    /// order takes a look in the hash table.
+    /// Keys that come in order take one pass beside those that are there: one behind all others is
+    /// put there unhashed, and another is looked for from the one before on, and behind the last
+    /// from the first on. A key that isn't found so takes a look in the hash table.
     pub fn group_index_of_row(&mut self, alloc: Global, row: &Row) -> Result<u32, AllocError>
         ensures { IfOk result (λ group_index. IsFound row.now self.old.keys group_index
             self.new.keys) }
     {
         let group_index = self.group_index_in_order(alloc, row)?;
         self.next = group_index.saturating_add(1);
+        if self.next as usize >= self.keys.len() {
+            self.next = 0;
+        }
         Ok(group_index)
     }
 

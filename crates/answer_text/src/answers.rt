@@ -16,13 +16,28 @@ pub fn show_answer(
     detail: Detail,
     out: &mut String,
 ) -> Result<(), Stop> {
+    show_head(cursor, format, size, out)?;
+    show_fragment(cursor, out)?;
+    show_shaped(alloc, cursor, format, detail, out)
+}
+
+fn show_head(
+    cursor: &mut Cursor<'_>,
+    format: Format,
+    size: usize,
+    out: &mut String,
+) -> Result<(), Stop> {
     let number = format.number();
     writeln!(out, "answer in format {number}, {size} bytes")?;
     let head = take_head(cursor)?;
     put_head(out, &head)?;
+    Ok(())
+}
+
+fn show_fragment(cursor: &mut Cursor<'_>, out: &mut String) -> Result<(), Stop> {
     let fragment = cursor.take_u32("the fragment")?;
     writeln!(out, "fragment {fragment}")?;
-    show_shaped(alloc, cursor, format, detail, out)
+    Ok(())
 }
 
 /// Shows the shape of the groups and the body.

@@ -44,18 +44,29 @@ fn show_extreme(cursor: &mut Cursor<'_>, word: &str, out: &mut String) -> Result
     Ok(())
 }
 
-/// Shows how many entries a set has, and each of them.
-fn show_set(cursor: &mut Cursor<'_>, out: &mut String) -> Result<(), Stop> {
-    let count = cursor.take_u32("how many entries a set has")?;
-    write!(out, " of {count}")?;
-    let mut between = ": ";
+/// Shows so many values, with these words before the first of them.
+fn show_values(
+    cursor: &mut Cursor<'_>,
+    count: usize,
+    first: &'static str,
+    field: &'static str,
+    out: &mut String,
+) -> Result<(), Stop> {
+    let mut between = first;
     for _ in 0..count {
-        let value = take_value(cursor, "an entry of a set")?;
+        let value = take_value(cursor, field)?;
         out.push_str(between)?;
         put_value(out, value)?;
         between = ", ";
     }
     Ok(())
+}
+
+/// Shows how many entries a set has, and each of them.
+fn show_set(cursor: &mut Cursor<'_>, out: &mut String) -> Result<(), Stop> {
+    let count = cursor.take_u32("how many entries a set has")?;
+    write!(out, " of {count}")?;
+    show_values(cursor, count as usize, ": ", "an entry of a set", out)
 }
 
 /// Shows the statistics of an aggregate in a group.
@@ -76,22 +87,21 @@ fn show_statistics(
 }
 
 fn show_key(cursor: &mut Cursor<'_>, keys: usize, out: &mut String) -> Result<(), Stop> {
-    let mut between = "  ";
-    for _ in 0..keys {
-        let value = take_value(cursor, "a key")?;
-        out.push_str(between)?;
-        put_value(out, value)?;
-        between = ", ";
-    }
+    show_values(cursor, keys, "  ", "a key", out)?;
     out.push_str(if keys == 0 { "  all" } else { "" })?;
+    Ok(())
+}
+
+fn show_rows(cursor: &mut Cursor<'_>, out: &mut String) -> Result<(), Stop> {
+    let rows = cursor.take_u32("a group's number of rows")?;
+    write!(out, ": {rows} rows")?;
     Ok(())
 }
 
 /// Shows a group: its key, its number of rows, and its statistics.
 fn show_group(cursor: &mut Cursor<'_>, shape: &Shape, out: &mut String) -> Result<(), Stop> {
     show_key(cursor, shape.keys.len(), out)?;
-    let rows = cursor.take_u32("a group's number of rows")?;
-    write!(out, ": {rows} rows")?;
+    show_rows(cursor, out)?;
     for aggregate in shape.aggregates.as_slice() {
         show_statistics(cursor, *aggregate, out)?;
     }

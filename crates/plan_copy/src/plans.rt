@@ -85,15 +85,20 @@ fn copy_having(alloc: Global, having: &Option<Expr>) -> Result<Option<Expr>, All
     }
 }
 
+fn copy_item(alloc: Global, item: &Item) -> Result<Item, AllocError>
+    ensures { IfOk result (λ copy. copy ≡ item.now) }
+{
+    let header = item.header.clone()?;
+    let expr = copy_expr(alloc, &item.expr)?;
+    Ok(Item { header, expr })
+}
+
 fn copy_items(alloc: Global, items: &[Item]) -> Result<Sequence<Item>, AllocError>
     ensures { IfOk result (λ copies. copies ≡ items.now) }
 {
     let mut copies = Sequence::new(alloc);
     for item in items {
-        copies.push(Item {
-            header: item.header.clone()?,
-            expr: copy_expr(alloc, &item.expr)?,
-        })?;
+        copies.push(copy_item(alloc, item)?)?;
     }
     Ok(copies)
 }

@@ -14,6 +14,7 @@ ghost use Rattle.primitives.specs.Narrowed.{Narrows};
 use crate::evaluation::eval_vec;
 use meaning::{Expr, Truth};
 use std::alloc::{AllocError, Global};
+use std::mem::drop;
 use vector_operators::Fault1;
 use vectors::{Batch, Selection, TruthCells, Truths, Vector};
 
@@ -119,5 +120,6 @@ pub fn keep_where(
 {
     let lanes = eval_vec(alloc, condition, batch, selection, fault)?;
     keep_true(selection, &lanes);
+    drop(lanes);
     Ok(())
 }

@@ -21,7 +21,7 @@ ghost use Rattle.primitives.specs.Nodes.{Decides, ExprGives, FitsArm, Gives, IsE
 
 use meaning::{ArithmeticOperator, Arm, Boxed, ComparisonOperator, Expr, Sequence, Text, Truth};
 use std::alloc::{AllocError, Global};
-use std::mem::drop;
+use std::mem::{drop, replace};
 use vector_operators::{
     Fault1, Given, LaneSet, and, arithmetic, coalesce, compare, is_null, lent_column, like, minus,
     not, not_if, one_truth, or, put, repeated, unless_false, unless_true, where_null, where_true,
@@ -783,7 +783,7 @@ fn find_item<'a>(
         × IsNoLater fault.old.held fault.new.held) }
 {
     let next = find_next(on, subject, found, item, selection, fault)?;
-    *found = next;
+    drop(replace(found, next));
     Ok(())
 }
 
@@ -902,7 +902,7 @@ fn eval_item<'a>(
         (IsWithin selection.now) held fault.new.held so_far.new) }
 {
     let next = eval_next(on, so_far, item, selection, fault)?;
-    *so_far = next;
+    drop(replace(so_far, next));
     Ok(())
 }
 
@@ -1057,7 +1057,7 @@ fn eval_arm<'a>(
         → Decides kind meant rest (IsWithin s) cases.new.left held fault.new.held cases.new.given) }
 {
     let next = eval_next_arm(on, cases, arm, fault)?;
-    *cases = next;
+    drop(replace(cases, next));
     Ok(())
 }
 
@@ -1155,8 +1155,13 @@ fn put_taken<'a>(
         → IfOk result (λ c. is_of_kind (Valued kind) c.given ≡ true) }
 {
     let given = put(alloc, &taken.lanes, &taken.then, &cases.given)?;
-    let left = cases.left.minus(alloc, &taken.lanes)?;
-    Ok(Cases { given, left })
+    match cases.left.minus(alloc, &taken.lanes) {
+        Ok(left) => Ok(Cases { given, left }),
+        Err(error) => {
+            drop(given);
+            Err(error)
+        }
+    }
 }
 
 /// ELSE, on the lanes that no arm took.

@@ -2,7 +2,13 @@
 use Rattle.std.proofs.Common.{rules, ℕ, ◌<◌, ◌∙◌, sym, ap, subst, length}
 use Rattle.meaning.specs.declared.expr.Expr.TheVariants as node
 use Rattle.meaning.specs.declared.expr.ComparisonOperator.TheVariants as comparison
-use Rattle.meaning.specs.Operators.{and_of, or_of}
+use Rattle.meaning.specs.Operators.{and_of, coalesce_of, compare_of, or_of}
+use Rattle.meaning.specs.Typing.{Boolean, Valued}
+use Rattle.vector_operators.specs.declared.given.Given.{Given}
+use Rattle.vector_operators.specs.Evaluated.{IsWithin}
+use Rattle.primitives.specs.declared.nodes.Cases.{Cases}
+use Rattle.primitives.specs.Meant.{meant_at}
+use Rattle.primitives.specs.Nodes.{Decides, Gives, IsNoLater}
 use Rattle.vector_operators.specs.Given.{given_at, is_not_false, is_not_true}
 use Rattle.primitives.proofs.Steps.{and_node as and_lanes, or_node as or_lanes}
 use Rattle.primitives.proofs.ExprNodes.{aggregate_node, and_node, arithmetic_node, as_lent, as_lent_where, as_node, between_node, case_node, coalesce_node, column_node, compare_node, in_node, in_nothing, is_null_node, joined_node, key_node, like_node, literal_node, literal_where, minus_node, not_node, or_node}
@@ -116,6 +122,21 @@ eval_rest-returns-clause-gives t c = rest_gives _ _ _ _ _ _ _ _ c.in_ok-otherwis
 pub eval_first-returns-clause-gives : goal.eval_first-returns-clause-gives
 eval_first-returns-clause-gives t c =
     first_gives _ _ _ _ _ _ _ c.in_ok-taken.ensures.gives (c.in_ok-taken.ensures.long.1 ∙ sym c.requires) c.first_taken.ensures.given c.first_taken.ensures.left
+
+pub eval_item-returns-clause-gives : goal.eval_item-returns-clause-gives
+eval_item-returns-clause-gives t c types rows kind a held are fits of_kind on =
+    subst (λ (g : Given). Gives (Valued kind) (λ i. coalesce_of (a i) (meant_at c.args.item.now rows i)) (IsWithin c.args.selection.now) held c.eval_next.new.fault.held g)
+    (sym c.replace.ensures.after) (c.in_ok-next.ensures.gives types rows kind a held are fits of_kind on)
+
+pub find_item-returns-clause-gives : goal.find_item-returns-clause-gives
+find_item-returns-clause-gives t c types rows kind x a held are fits of_kind exact on =
+    subst (λ (g : Given). Gives Boolean (λ i. or_of (a i) (compare_of comparison.Equal (x i) (meant_at c.args.item.now rows i))) (IsWithin c.args.selection.now) held c.find_next.new.fault.held g × IsNoLater c.args.fault.now.held c.find_next.new.fault.held)
+    (sym c.replace.ensures.after) (c.in_ok-next.ensures.gives types rows kind x a held are fits of_kind exact on)
+
+pub eval_arm-returns-clause-gives : goal.eval_arm-returns-clause-gives
+eval_arm-returns-clause-gives t c types rows kind meant rest s held are fits on =
+    subst (λ (cases : Cases). Decides kind meant rest (IsWithin s) cases.left held c.eval_next_arm.new.fault.held cases.given)
+    (sym c.replace.ensures.after) (c.in_ok-next.ensures.gives types rows kind meant rest s held are fits on)
 
 pub eval_arms-returns-in_default-clause-gives : goal.eval_arms-returns-in_default-clause-gives
 eval_arms-returns-in_default-clause-gives t c = none_gives _ _ _ _ _ c.in_default.ensures.cases c.none_taken.ensures.given c.none_taken.ensures.left

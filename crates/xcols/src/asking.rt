@@ -1,6 +1,6 @@
 //! What the words of the command line ask for.
-ghost use Rattle.std.specs.Prelude.{IfOk};
-ghost use Rattle.xcols.specs.Request.{IsRequestInRange};
+ghost use Rattle.std.specs.Prelude.{IfOk, map};
+ghost use Rattle.xcols.specs.Request.{AreWordsOf, IsRequestInRange};
 
 use crate::progress::without_progress;
 use cli::{Command, UsageFault, command};
@@ -26,7 +26,8 @@ pub fn asked(rt: &HostRuntime) -> Result<(Request, bool), UsageFault>
 }
 
 fn asked_by(alloc: Global, words: &[&str]) -> Result<Request, UsageFault>
-    ensures { IfOk result IsRequestInRange }
+    ensures range { IfOk result IsRequestInRange }
+    ensures said { IfOk result (AreWordsOf (map (λ w. w.now) words.now)) }
 {
     match tools::asked(alloc, words)? {
         Some(tool) => Ok(Request::Tool(tool)),

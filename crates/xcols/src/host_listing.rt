@@ -2,7 +2,7 @@
 use crate::host_folder::HostFolder;
 use init::{CsvFile, Listing};
 use std::alloc::Global;
-use std::fs::{DirEntry, File};
+use std::fs::{DirEntry, File, ReadDir};
 use std::mem::drop;
 use std::path::Path;
 use std::rt::Files;
@@ -41,22 +41,42 @@ fn add_entry<R: Files + Alloc + Clone + Drop>(
     Ok(())
 }
 
+fn add_if_read<R: Files + Alloc + Clone + Drop>(
+    alloc: Global,
+    files: &R,
+    entry: io::Result<DirEntry<R, R::A>>,
+    found: &mut Vec<CsvFile>,
+) -> io::Result<()> {
+    let entry = entry?;
+    add_entry(alloc, files, &entry, found)
+}
+
 fn add_entries<R: Files + Alloc + Clone + Drop>(
+    alloc: Global,
+    files: &R,
+    entries: ReadDir<R, R::A>,
+    found: &mut Vec<CsvFile>,
+) -> io::Result<()> {
+    for entry in entries {
+        add_if_read(alloc, files, entry, found)?;
+    }
+    Ok(())
+}
+
+fn add_files<R: Files + Alloc + Clone + Drop>(
     alloc: Global,
     files: &R,
     directory: &str,
     found: &mut Vec<CsvFile>,
 ) -> io::Result<()> {
-    for entry in fs::read_dir(files, directory)? {
-        add_entry(alloc, files, &entry?, found)?;
-    }
-    Ok(())
+    let entries = fs::read_dir(files, directory)?;
+    add_entries(alloc, files, entries, found)
 }
 
 impl<'a, R: Files<File = File> + Alloc + Clone + Drop> Listing for HostFolder<'a, R> {
     fn csv_files(&self, alloc: Global, directory: &str) -> io::Result<Vec<CsvFile>> {
         let mut found = Vec::new(alloc);
-        match add_entries(alloc, self.files(), directory, &mut found) {
+        match add_files(alloc, self.files(), directory, &mut found) {
             Ok(()) => Ok(found),
             Err(error) => {
                 drop(found);

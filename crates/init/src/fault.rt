@@ -7,114 +7,46 @@ use folders::Refusal;
 use loader::LoadFault;
 use meaning::{CatalogFault, TableFault, Text};
 use std::alloc::{AllocError, AllocFailed};
-use std::fmt::{self, Display, Formatter, Write};
 use thiserror::Error;
 
 /// Why no catalogue was made for a folder. Files are named by their paths; columns count from 1, as
 /// in a spreadsheet, and rows from 0 behind the header, as everywhere.
 #[derive(Debug, Drop, Error)]
 pub enum InitFault {
+    #[error("memory")]
     Memory,
+    #[error("cannot read {0}")]
     CannotRead(String),
+    #[error("cannot write {0}")]
     CannotWrite(String),
+    #[error("cannot write standard error")]
     CannotReport,
+    #[error("{0} is there already, and is never written over")]
     CatalogThere(String),
+    #[error("{0} has no CSV file")]
     NoFile(String),
+    #[error("there is no file {0} for the fact")]
     NoFact(String),
+    #[error("{0} has no name of a table: at most 64 lower-case letters, digits and underscores, no digit in front, no word of SQL")]
     TableName(String),
+    #[error("{file}: column {column} has no name: at most 64 letters, digits and underscores, no digit in front, no word of SQL")]
     ColumnName { file: String, column: usize },
+    #[error("{file}: column {column} has the name of one before it")]
     ColumnTwice { file: String, column: usize },
+    #[error("{0} has no header")]
     NoHeader(String),
+    #[error("{0} has over 64 columns")]
     TooManyColumns(String),
+    #[error("there are over 16 files beside the fact's")]
     TooManyDimensions,
+    #[error("{0} can't be a dimension: it has no column whose values differ and are never NULL, for a key")]
     NoKey(String),
+    #[error("{0} has over 4,294,967,296 rows")]
     TooManyRows(String),
+    #[error("{file}: load {}: {fault}", fault.number())]
     Table { file: String, fault: TableFault },
-    /// The text that was made is no catalogue.
+    #[error("the text that was made is no catalogue: {0}")]
     Catalog(CatalogFault),
-}
-
-const NO_TABLE_NAME: &str =
-    " has no name of a table: at most 64 lower-case letters, digits and underscores, no digit in front, no word of SQL";
-
-const NO_COLUMN_NAME: &str =
-    " has no name: at most 64 letters, digits and underscores, no digit in front, no word of SQL";
-
-const NO_KEY: &str =
-    " can't be a dimension: it has no column whose values differ and are never NULL, for a key";
-
-impl InitFault {
-    /// The file that is named, if one is.
-    fn file(&self) -> &str {
-        match self {
-            InitFault::CannotRead(file)
-            | InitFault::CannotWrite(file)
-            | InitFault::CatalogThere(file)
-            | InitFault::NoFile(file)
-            | InitFault::NoFact(file)
-            | InitFault::TableName(file)
-            | InitFault::NoHeader(file)
-            | InitFault::TooManyColumns(file)
-            | InitFault::NoKey(file)
-            | InitFault::TooManyRows(file) => file.as_str(),
-            InitFault::ColumnName { file, .. }
-            | InitFault::ColumnTwice { file, .. }
-            | InitFault::Table { file, .. } => file.as_str(),
-            _ => "",
-        }
-    }
-
-    /// What the sentence says in front of the file.
-    fn front(&self) -> &'static str {
-        match self {
-            InitFault::Memory => "memory",
-            InitFault::CannotRead(_) => "cannot read ",
-            InitFault::CannotWrite(_) => "cannot write ",
-            InitFault::CannotReport => "cannot write standard error",
-            InitFault::NoFact(_) => "there is no file ",
-            InitFault::TooManyDimensions => "there are over 16 files beside the fact's",
-            InitFault::Catalog(_) => "the text that was made is no catalogue: ",
-            _ => "",
-        }
-    }
-
-    /// What it says behind the file, or behind the number of a column.
-    fn back(&self) -> &'static str {
-        match self {
-            InitFault::CatalogThere(_) => " is there already, and is never written over",
-            InitFault::NoFile(_) => " has no CSV file",
-            InitFault::NoFact(_) => " for the fact",
-            InitFault::TableName(_) => NO_TABLE_NAME,
-            InitFault::ColumnName { .. } => NO_COLUMN_NAME,
-            InitFault::ColumnTwice { .. } => " has the name of one before it",
-            InitFault::NoHeader(_) => " has no header",
-            InitFault::TooManyColumns(_) => " has over 64 columns",
-            InitFault::NoKey(_) => NO_KEY,
-            InitFault::TooManyRows(_) => " has over 4,294,967,296 rows",
-            _ => "",
-        }
-    }
-}
-
-// What a table's or a catalogue's fault is, or which column is meant.
-fn write_detail<W: Write>(fault: &InitFault, f: &mut Formatter<W>) -> fmt::Result {
-    match fault {
-        InitFault::ColumnName { column, .. } | InitFault::ColumnTwice { column, .. } => {
-            write!(f, ": column {column}")
-        }
-        InitFault::Table { fault, .. } => write!(f, ": load {}: {fault}", fault.number()),
-        InitFault::Catalog(fault) => write!(f, "{fault}"),
-        _ => Ok(()),
-    }
-}
-
-impl Display for InitFault {
-    fn fmt<W: Write>(&self, f: &mut Formatter<W>) -> fmt::Result {
-        f.write_str(self.front())?;
-        f.write_str(self.file())?;
-        write_detail(self, f)?;
-        f.write_str(self.back())
-    }
 }
 
 impl From<AllocError> for InitFault {

@@ -2,7 +2,9 @@
 //! table's name where there are several.
 use crate::names::{Names, Phrase};
 use crate::words::{aggregate_word, put_literal, put_text};
-use meaning::{Aggregate, AggregateKind, Arm, Expr, GroupingKey, Value};
+use meaning::{
+    Aggregate, AggregateKind, ArithmeticOperator, Arm, ComparisonOperator, Expr, GroupingKey, Value,
+};
 use sql_syntax::{Level, Sign, level_of_arithmetic, sign_of_arithmetic, sign_of_comparison};
 use std::alloc::{AllocError, Global};
 
@@ -97,51 +99,67 @@ fn put_behind_sign(
 
 /// Two operands with an operator of arithmetic between.
 #[cycle(writing)]
-fn put_arithmetic(out: &mut String, names: &Names<'_>, expr: &Expr) -> Result<(), AllocError> {
-    let Expr::Arithmetic(operator, left, right) = expr else {
-        return Ok(());
-    };
-    let level = level_of_arithmetic(*operator);
-    put_at(out, names, level, left.get())?;
-    let sign = sign_of_arithmetic(*operator);
-    put_behind_sign(out, names, sign, level.next(), right.get())
+fn put_arithmetic(
+    out: &mut String,
+    names: &Names<'_>,
+    operator: ArithmeticOperator,
+    left: &Expr,
+    right: &Expr,
+) -> Result<(), AllocError> {
+    let level = level_of_arithmetic(operator);
+    put_at(out, names, level, left)?;
+    put_behind_sign(
+        out,
+        names,
+        sign_of_arithmetic(operator),
+        level.next(),
+        right,
+    )
 }
 
 #[cycle(writing)]
-fn put_comparison(out: &mut String, names: &Names<'_>, expr: &Expr) -> Result<(), AllocError> {
-    let Expr::Compare(operator, left, right) = expr else {
-        return Ok(());
-    };
-    put_at(out, names, Level::Sum, left.get())?;
-    let sign = sign_of_comparison(*operator);
-    put_behind_sign(out, names, sign, Level::Sum, right.get())
+fn put_comparison(
+    out: &mut String,
+    names: &Names<'_>,
+    operator: ComparisonOperator,
+    left: &Expr,
+    right: &Expr,
+) -> Result<(), AllocError> {
+    put_at(out, names, Level::Sum, left)?;
+    put_behind_sign(out, names, sign_of_comparison(operator), Level::Sum, right)
 }
 
 #[cycle(writing)]
-fn put_and(out: &mut String, names: &Names<'_>, expr: &Expr) -> Result<(), AllocError> {
-    let Expr::And(left, right) = expr else {
-        return Ok(());
-    };
-    put_at(out, names, Level::Conjunction, left.get())?;
-    put_behind(out, names, " AND ", Level::Negation, right.get())
+fn put_and(
+    out: &mut String,
+    names: &Names<'_>,
+    left: &Expr,
+    right: &Expr,
+) -> Result<(), AllocError> {
+    put_at(out, names, Level::Conjunction, left)?;
+    put_behind(out, names, " AND ", Level::Negation, right)
 }
 
 #[cycle(writing)]
-fn put_or(out: &mut String, names: &Names<'_>, expr: &Expr) -> Result<(), AllocError> {
-    let Expr::Or(left, right) = expr else {
-        return Ok(());
-    };
-    put_at(out, names, Level::Disjunction, left.get())?;
-    put_behind(out, names, " OR ", Level::Conjunction, right.get())
+fn put_or(
+    out: &mut String,
+    names: &Names<'_>,
+    left: &Expr,
+    right: &Expr,
+) -> Result<(), AllocError> {
+    put_at(out, names, Level::Disjunction, left)?;
+    put_behind(out, names, " OR ", Level::Conjunction, right)
 }
 
 #[cycle(writing)]
-fn put_is_null(out: &mut String, names: &Names<'_>, expr: &Expr) -> Result<(), AllocError> {
-    let Expr::IsNull { negated, subject } = expr else {
-        return Ok(());
-    };
-    put_at(out, names, Level::Sum, subject.get())?;
-    out.push_str(if *negated { " IS NOT NULL" } else { " IS NULL" })
+fn put_is_null(
+    out: &mut String,
+    names: &Names<'_>,
+    negated: bool,
+    subject: &Expr,
+) -> Result<(), AllocError> {
+    put_at(out, names, Level::Sum, subject)?;
+    out.push_str(if negated { " IS NOT NULL" } else { " IS NULL" })
 }
 
 /// What a predicate is about, and whether NOT stands behind it.
@@ -157,57 +175,63 @@ fn put_subject(
 }
 
 #[cycle(writing)]
-fn put_between(out: &mut String, names: &Names<'_>, expr: &Expr) -> Result<(), AllocError> {
-    let Expr::Between {
-        negated,
-        subject,
-        low,
-        high,
-    } = expr
-    else {
-        return Ok(());
-    };
-    put_subject(out, names, *negated, subject.get())?;
-    put_behind(out, names, " BETWEEN ", Level::Sum, low.get())?;
-    put_behind(out, names, " AND ", Level::Sum, high.get())
+fn put_bounds(
+    out: &mut String,
+    names: &Names<'_>,
+    low: &Expr,
+    high: &Expr,
+) -> Result<(), AllocError> {
+    put_behind(out, names, " BETWEEN ", Level::Sum, low)?;
+    put_behind(out, names, " AND ", Level::Sum, high)
 }
 
 #[cycle(writing)]
-fn put_in(out: &mut String, names: &Names<'_>, expr: &Expr) -> Result<(), AllocError> {
-    let Expr::In {
-        negated,
-        subject,
-        list,
-    } = expr
-    else {
-        return Ok(());
-    };
-    put_subject(out, names, *negated, subject.get())?;
-    put_list(out, names, " IN (", list.as_slice())
+fn put_between(
+    out: &mut String,
+    names: &Names<'_>,
+    negated: bool,
+    subject: &Expr,
+    low: &Expr,
+    high: &Expr,
+) -> Result<(), AllocError> {
+    put_subject(out, names, negated, subject)?;
+    put_bounds(out, names, low, high)
 }
 
 #[cycle(writing)]
-fn put_like(out: &mut String, names: &Names<'_>, expr: &Expr) -> Result<(), AllocError> {
-    let Expr::Like {
-        negated,
-        subject,
-        pattern,
-    } = expr
-    else {
-        return Ok(());
-    };
-    put_subject(out, names, *negated, subject.get())?;
+fn put_in(
+    out: &mut String,
+    names: &Names<'_>,
+    list: &[Expr],
+    negated: bool,
+    subject: &Expr,
+) -> Result<(), AllocError> {
+    put_subject(out, names, negated, subject)?;
+    put_list(out, names, " IN (", list)
+}
+
+#[cycle(writing)]
+fn put_like(
+    out: &mut String,
+    names: &Names<'_>,
+    negated: bool,
+    subject: &Expr,
+    pattern: &str,
+) -> Result<(), AllocError> {
+    put_subject(out, names, negated, subject)?;
     out.push_str(" LIKE ")?;
-    put_text(out, pattern.as_str())
+    put_text(out, pattern)
 }
 
 #[cycle(writing)]
-fn put_case(out: &mut String, names: &Names<'_>, expr: &Expr) -> Result<(), AllocError> {
-    let Expr::Case { arms, otherwise } = expr else {
-        return Ok(());
-    };
-    put_arms(out, names, arms.as_slice())?;
-    put_else(out, names, otherwise.get())
+fn put_case(
+    out: &mut String,
+    names: &Names<'_>,
+    arms: &[Arm],
+    otherwise: &Expr,
+) -> Result<(), AllocError> {
+    put_arms(out, names, arms)?;
+    put_else(out, names, otherwise)
 }
 
 #[cycle(writing)]
@@ -219,17 +243,34 @@ fn put_expr(out: &mut String, names: &Names<'_>, expr: &Expr) -> Result<(), Allo
         | Expr::Aggregate(_)
         | Expr::Literal(_) => put_leaf(out, names, expr),
         Expr::Minus(operand) => put_behind(out, names, "-", Level::Primary, operand.get()),
-        Expr::Arithmetic(_, _, _) => put_arithmetic(out, names, expr),
-        Expr::Compare(_, _, _) => put_comparison(out, names, expr),
+        Expr::Arithmetic(operator, left, right) => {
+            put_arithmetic(out, names, *operator, left.get(), right.get())
+        }
+        Expr::Compare(operator, left, right) => {
+            put_comparison(out, names, *operator, left.get(), right.get())
+        }
         Expr::Not(operand) => put_behind(out, names, "NOT ", Level::Negation, operand.get()),
-        Expr::And(_, _) => put_and(out, names, expr),
-        Expr::Or(_, _) => put_or(out, names, expr),
-        Expr::IsNull { .. } => put_is_null(out, names, expr),
-        Expr::Between { .. } => put_between(out, names, expr),
-        Expr::In { .. } => put_in(out, names, expr),
-        Expr::Like { .. } => put_like(out, names, expr),
+        Expr::And(left, right) => put_and(out, names, left.get(), right.get()),
+        Expr::Or(left, right) => put_or(out, names, left.get(), right.get()),
+        Expr::IsNull { negated, subject } => put_is_null(out, names, *negated, subject.get()),
+        Expr::Between {
+            negated,
+            subject,
+            low,
+            high,
+        } => put_between(out, names, *negated, subject.get(), low.get(), high.get()),
+        Expr::In {
+            negated,
+            subject,
+            list,
+        } => put_in(out, names, list.as_slice(), *negated, subject.get()),
+        Expr::Like {
+            negated,
+            subject,
+            pattern,
+        } => put_like(out, names, *negated, subject.get(), pattern.as_str()),
         Expr::Coalesce(list) => put_list(out, names, "COALESCE(", list.as_slice()),
-        Expr::Case { .. } => put_case(out, names, expr),
+        Expr::Case { arms, otherwise } => put_case(out, names, arms.as_slice(), otherwise.get()),
     }
 }
 

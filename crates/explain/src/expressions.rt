@@ -3,7 +3,8 @@
 use crate::names::{Names, Phrase};
 use crate::words::{aggregate_word, put_literal, put_text};
 use meaning::{
-    Aggregate, AggregateKind, ArithmeticOperator, Arm, ComparisonOperator, Expr, GroupingKey, Value,
+    Aggregate, AggregateKind, ArithmeticOperator, Arm, Boxed, ComparisonOperator, Expr,
+    GroupingKey, Sequence, Text, Value,
 };
 use sql_syntax::{Level, Sign, level_of_arithmetic, sign_of_arithmetic, sign_of_comparison};
 use std::alloc::{AllocError, Global};
@@ -103,17 +104,17 @@ fn put_arithmetic(
     out: &mut String,
     names: &Names<'_>,
     operator: ArithmeticOperator,
-    left: &Expr,
-    right: &Expr,
+    left: &Boxed<Expr>,
+    right: &Boxed<Expr>,
 ) -> Result<(), AllocError> {
     let level = level_of_arithmetic(operator);
-    put_at(out, names, level, left)?;
+    put_at(out, names, level, left.get())?;
     put_behind_sign(
         out,
         names,
         sign_of_arithmetic(operator),
         level.next(),
-        right,
+        right.get(),
     )
 }
 
@@ -122,33 +123,39 @@ fn put_comparison(
     out: &mut String,
     names: &Names<'_>,
     operator: ComparisonOperator,
-    left: &Expr,
-    right: &Expr,
+    left: &Boxed<Expr>,
+    right: &Boxed<Expr>,
 ) -> Result<(), AllocError> {
-    put_at(out, names, Level::Sum, left)?;
-    put_behind_sign(out, names, sign_of_comparison(operator), Level::Sum, right)
+    put_at(out, names, Level::Sum, left.get())?;
+    put_behind_sign(
+        out,
+        names,
+        sign_of_comparison(operator),
+        Level::Sum,
+        right.get(),
+    )
 }
 
 #[cycle(writing)]
 fn put_and(
     out: &mut String,
     names: &Names<'_>,
-    left: &Expr,
-    right: &Expr,
+    left: &Boxed<Expr>,
+    right: &Boxed<Expr>,
 ) -> Result<(), AllocError> {
-    put_at(out, names, Level::Conjunction, left)?;
-    put_behind(out, names, " AND ", Level::Negation, right)
+    put_at(out, names, Level::Conjunction, left.get())?;
+    put_behind(out, names, " AND ", Level::Negation, right.get())
 }
 
 #[cycle(writing)]
 fn put_or(
     out: &mut String,
     names: &Names<'_>,
-    left: &Expr,
-    right: &Expr,
+    left: &Boxed<Expr>,
+    right: &Boxed<Expr>,
 ) -> Result<(), AllocError> {
-    put_at(out, names, Level::Disjunction, left)?;
-    put_behind(out, names, " OR ", Level::Conjunction, right)
+    put_at(out, names, Level::Disjunction, left.get())?;
+    put_behind(out, names, " OR ", Level::Conjunction, right.get())
 }
 
 #[cycle(writing)]
@@ -156,9 +163,9 @@ fn put_is_null(
     out: &mut String,
     names: &Names<'_>,
     negated: bool,
-    subject: &Expr,
+    subject: &Boxed<Expr>,
 ) -> Result<(), AllocError> {
-    put_at(out, names, Level::Sum, subject)?;
+    put_at(out, names, Level::Sum, subject.get())?;
     out.push_str(if negated { " IS NOT NULL" } else { " IS NULL" })
 }
 
@@ -190,24 +197,24 @@ fn put_between(
     out: &mut String,
     names: &Names<'_>,
     negated: bool,
-    subject: &Expr,
-    low: &Expr,
-    high: &Expr,
+    subject: &Boxed<Expr>,
+    low: &Boxed<Expr>,
+    high: &Boxed<Expr>,
 ) -> Result<(), AllocError> {
-    put_subject(out, names, negated, subject)?;
-    put_bounds(out, names, low, high)
+    put_subject(out, names, negated, subject.get())?;
+    put_bounds(out, names, low.get(), high.get())
 }
 
 #[cycle(writing)]
 fn put_in(
     out: &mut String,
     names: &Names<'_>,
-    list: &[Expr],
+    list: &Sequence<Expr>,
     negated: bool,
-    subject: &Expr,
+    subject: &Boxed<Expr>,
 ) -> Result<(), AllocError> {
-    put_subject(out, names, negated, subject)?;
-    put_list(out, names, " IN (", list)
+    put_subject(out, names, negated, subject.get())?;
+    put_list(out, names, " IN (", list.as_slice())
 }
 
 #[cycle(writing)]
@@ -215,23 +222,23 @@ fn put_like(
     out: &mut String,
     names: &Names<'_>,
     negated: bool,
-    subject: &Expr,
-    pattern: &str,
+    subject: &Boxed<Expr>,
+    pattern: &Text,
 ) -> Result<(), AllocError> {
-    put_subject(out, names, negated, subject)?;
+    put_subject(out, names, negated, subject.get())?;
     out.push_str(" LIKE ")?;
-    put_text(out, pattern)
+    put_text(out, pattern.as_str())
 }
 
 #[cycle(writing)]
 fn put_case(
     out: &mut String,
     names: &Names<'_>,
-    arms: &[Arm],
-    otherwise: &Expr,
+    arms: &Sequence<Arm>,
+    otherwise: &Boxed<Expr>,
 ) -> Result<(), AllocError> {
-    put_arms(out, names, arms)?;
-    put_else(out, names, otherwise)
+    put_arms(out, names, arms.as_slice())?;
+    put_else(out, names, otherwise.get())
 }
 
 #[cycle(writing)]
@@ -244,33 +251,33 @@ fn put_expr(out: &mut String, names: &Names<'_>, expr: &Expr) -> Result<(), Allo
         | Expr::Literal(_) => put_leaf(out, names, expr),
         Expr::Minus(operand) => put_behind(out, names, "-", Level::Primary, operand.get()),
         Expr::Arithmetic(operator, left, right) => {
-            put_arithmetic(out, names, *operator, left.get(), right.get())
+            put_arithmetic(out, names, *operator, left, right)
         }
         Expr::Compare(operator, left, right) => {
-            put_comparison(out, names, *operator, left.get(), right.get())
+            put_comparison(out, names, *operator, left, right)
         }
         Expr::Not(operand) => put_behind(out, names, "NOT ", Level::Negation, operand.get()),
-        Expr::And(left, right) => put_and(out, names, left.get(), right.get()),
-        Expr::Or(left, right) => put_or(out, names, left.get(), right.get()),
-        Expr::IsNull { negated, subject } => put_is_null(out, names, *negated, subject.get()),
+        Expr::And(left, right) => put_and(out, names, left, right),
+        Expr::Or(left, right) => put_or(out, names, left, right),
+        Expr::IsNull { negated, subject } => put_is_null(out, names, *negated, subject),
         Expr::Between {
             negated,
             subject,
             low,
             high,
-        } => put_between(out, names, *negated, subject.get(), low.get(), high.get()),
+        } => put_between(out, names, *negated, subject, low, high),
         Expr::In {
             negated,
             subject,
             list,
-        } => put_in(out, names, list.as_slice(), *negated, subject.get()),
+        } => put_in(out, names, list, *negated, subject),
         Expr::Like {
             negated,
             subject,
             pattern,
-        } => put_like(out, names, *negated, subject.get(), pattern.as_str()),
+        } => put_like(out, names, *negated, subject, pattern),
         Expr::Coalesce(list) => put_list(out, names, "COALESCE(", list.as_slice()),
-        Expr::Case { arms, otherwise } => put_case(out, names, arms.as_slice(), otherwise.get()),
+        Expr::Case { arms, otherwise } => put_case(out, names, arms, otherwise),
     }
 }
 

@@ -6,13 +6,13 @@ ghost use Rattle.meaning.specs.Aggregate.{kept_by, merge, no_statistics};
 ghost use Rattle.meaning.specs.Order.{value_in};
 ghost use Rattle.accumulators.specs.Columns.{merged_at};
 ghost use Rattle.aggregate_states.specs.Entries.{state_of};
-ghost use Rattle.aggregate_states.specs.Kinds.{has_one_size};
+ghost use Rattle.aggregate_states.specs.Kinds.{extreme_of, has_one_size};
 ghost use Rattle.aggregate_states.specs.State.{most_entries};
-ghost use Rattle.aggregate_states.specs.Values.{is_spelled, selected};
+ghost use Rattle.aggregate_states.specs.Values.{entry, is_spelled, selected};
 ghost use Rattle.vectors.specs.Vector.{values_of};
 
 use crate::accumulator::Accumulator;
-use aggregate_states::State;
+use aggregate_states::{End, State};
 use meaning::ValueRef;
 use std::alloc::{AllocError, Global};
 use vectors::{Selection, Vector};
@@ -43,6 +43,10 @@ pub trait Cell: Accumulator + Drop {
             ≡ merge (Self.held self.old) (kept_by keeps state.now)) }
         ensures err { OnErr result (Self.held self.new ≡ Self.held self.old) }
         ensures roomy { has_one_size keeps ≡ true → IsOk result };
+
+    /// The entry that is kept from an end, and NULL where none is.
+    fn extreme(&self, end: End) -> ValueRef<'_>
+        ensures { entry (value_in result) ≡ extreme_of end (Self.held self.now) };
 
     ghost one_kind: { (x : Self) → Self.kind x ≡ keeps };
 
@@ -133,4 +137,13 @@ pub fn state_at<A: Cell>(
     ensures roomy { has_one_size A.keeps ≡ true → IsOk result }
 {
     cells[group_index].state(alloc)
+}
+
+/// The entry that is kept from an end at a group index, and NULL where none is.
+pub fn extreme_at<A: Cell>(cells: &[A], end: End, group_index: usize) -> ValueRef<'_>
+    requires { group_index < length cells.now }
+    ensures { entry (value_in result)
+        ≡ extreme_of end (slice_index_or (A.states cells.now) group_index no_statistics) }
+{
+    cells[group_index].extreme(end)
 }

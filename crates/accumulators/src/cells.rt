@@ -6,16 +6,16 @@ ghost use Rattle.meaning.specs.Order.{value_in};
 ghost use Rattle.accumulators.specs.Columns.{kind_of_cells, merged_at, states_in, takes_ints};
 ghost use Rattle.meaning.specs.declared.value.Value.TheVariants as of_value;
 ghost use Rattle.aggregate_states.specs.Entries.{state_of, with_entries};
-ghost use Rattle.aggregate_states.specs.Kinds.{has_one_size};
+ghost use Rattle.aggregate_states.specs.Kinds.{extreme_of, has_one_size};
 ghost use Rattle.aggregate_states.specs.State.{most_entries};
-ghost use Rattle.aggregate_states.specs.Values.{is_spelled, selected};
+ghost use Rattle.aggregate_states.specs.Values.{entry, is_spelled, selected};
 ghost use Rattle.vectors.specs.Vector.{values_of};
 
-use crate::cell::{add_state_to, add_to, push_to, state_at, update_in};
+use crate::cell::{add_state_to, add_to, extreme_at, push_to, state_at, update_in};
 use crate::count_acc::CountAcc;
 use crate::extreme_acc::{MaxAcc, MinAcc};
 use crate::sum_acc::SumAcc;
-use aggregate_states::State;
+use aggregate_states::{End, State};
 use distinct_sets::Sets;
 use meaning::{AggregateKind, ValueRef};
 use std::alloc::{AllocError, Global};
@@ -291,6 +291,18 @@ impl Cells {
             self,
             cells => state_at(cells.as_slice(), alloc, group_index),
             sets => sets.state(alloc, group_index)
+        )
+    }
+    /// The entry that a state keeps from an end, and NULL where it keeps none.
+    pub fn extreme(&self, end: End, group_index: usize) -> ValueRef<'_>
+        requires { group_index < length (states_in self.now) }
+        ensures { entry (value_in result)
+            ≡ extreme_of end (slice_index_or (states_in self.now) group_index no_statistics) }
+    {
+        of_kind!(
+            self,
+            cells => extreme_at(cells.as_slice(), end, group_index),
+            sets => sets.extreme(end, group_index)
         )
     }
 }

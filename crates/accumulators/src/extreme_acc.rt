@@ -1,12 +1,12 @@
 //! The least or the greatest value of a list.
-ghost use Rattle.std.specs.Prelude.{◌≡◌, ◌<◌, ◌≤◌, ◌+◌, ◌∷◌, [], true, OnOk, OnErr};
+ghost use Rattle.std.specs.Prelude.{◌≡◌, ℕ, ◌<◌, ◌≤◌, ◌+◌, ◌∷◌, [], true, OnOk, OnErr};
 ghost use Rattle.meaning.specs.Aggregate.{kept_by, merge, no_statistics};
 ghost use Rattle.meaning.specs.Order.{value_in};
 ghost use Rattle.aggregate_states.specs.declared.end.End.{End as TheEnd};
 ghost use Rattle.aggregate_states.specs.Entries.{state_of};
-ghost use Rattle.aggregate_states.specs.Kinds.{kind_from};
+ghost use Rattle.aggregate_states.specs.Kinds.{end_state, extreme_of, kind_from};
 ghost use Rattle.aggregate_states.specs.State.{most_entries};
-ghost use Rattle.aggregate_states.specs.Values.{is_spelled};
+ghost use Rattle.aggregate_states.specs.Values.{entry, is_spelled};
 
 use crate::accumulator::Accumulator;
 use crate::cell::Cell;
@@ -84,6 +84,23 @@ fn kind_of_end(end: End) -> AggregateKind
     match end {
         End::Least => AggregateKind::Min,
         End::Greatest => AggregateKind::Max,
+    }
+}
+
+/// The best that is kept from one end, where it is asked for from that end.
+fn best_from(kept: End, best: &Value, end: End) -> ValueRef<'_>
+    ensures { (count : ℕ)
+        → entry (value_in result) ≡ extreme_of end (end_state kept count best.now) }
+{
+    match kept {
+        End::Least => match end {
+            End::Least => best.as_value_ref(),
+            End::Greatest => ValueRef::Null,
+        },
+        End::Greatest => match end {
+            End::Least => ValueRef::Null,
+            End::Greatest => best.as_value_ref(),
+        },
     }
 }
 
@@ -180,5 +197,8 @@ impl<S: Side> Cell for ExtremeAcc<S> {
 
     fn take_state(&mut self, alloc: Global, state: &State) -> Result<(), AllocError> {
         self.add_state(alloc, state)
+    }
+    fn extreme(&self, end: End) -> ValueRef<'_> {
+        best_from(S::end(), &self.found.best, end)
     }
 }

@@ -1,13 +1,19 @@
 //! The states of one aggregate in all groups, to be handed out.
-ghost use Rattle.std.specs.Prelude.{◌≡◌, ◌<◌, length, slice_index_or, true, false, IsOk, IfOk};
-ghost use Rattle.meaning.specs.Aggregate.{no_statistics};
-ghost use Rattle.aggregate_states.specs.Kinds.{has_one_size, keeps_set};
+ghost use Rattle.std.specs.Prelude.{◌≡◌, ◌≢◌, ◌<◌, length, slice_index_or, true, false, IsOk, IfOk, Ok};
+ghost use Rattle.meaning.specs.declared.plan.AggregateKind.TheVariants as the_kind;
+ghost use Rattle.meaning.specs.Aggregate.{no_statistics, value};
+ghost use Rattle.meaning.specs.Order.{value_in};
+ghost use Rattle.meaning.specs.Wanting.{ReportsIfMemory};
+ghost use Rattle.aggregate_states.specs.Fault.{fault_returned};
+ghost use Rattle.aggregate_states.specs.Kinds.{extreme_of, has_one_size, keeps_set};
+ghost use Rattle.aggregate_states.specs.Values.{entry, fits};
 ghost use Rattle.accumulators.specs.Columns.{kind_of_cells, states_in};
 ghost use Rattle.accumulators.specs.Ordered.{column_of};
 
 use crate::cells::Cells;
-use aggregate_states::State;
+use aggregate_states::{AggFault, End, State, integer_of};
 use distinct_sets::OrderedSets;
+use meaning::{AggregateKind, ValueRef};
 use std::alloc::{AllocError, Global};
 use std::marker::Model;
 
@@ -69,6 +75,80 @@ impl<'a> OrderedStates<'a> {
             Ordered::Each(cells) => cells.state(alloc, group_index),
             Ordered::CountDistinct(sets) => sets.state(alloc, group_index),
             Ordered::SumDistinct(sets) => sets.state(alloc, group_index),
+        }
+    }
+    fn extreme(&self, end: End, group_index: usize) -> ValueRef<'_>
+        requires { group_index < length self.now.states }
+        ensures { entry (value_in result)
+            ≡ extreme_of end (slice_index_or self.now.states group_index no_statistics) }
+    {
+        match &self.held {
+            Ordered::Each(cells) => cells.extreme(end, group_index),
+            Ordered::CountDistinct(sets) => sets.extreme(end, group_index),
+            Ordered::SumDistinct(sets) => sets.extreme(end, group_index),
+        }
+    }
+
+    fn least(&self, group_index: usize) -> ValueRef<'_>
+        requires { group_index < length self.now.states }
+        ensures value { value the_kind.Min
+            (slice_index_or self.now.states group_index no_statistics) ≡ Ok (value_in result) }
+        ensures fits { fits (value_in result) ≡ true }
+    {
+        self.extreme(End::Least, group_index)
+    }
+
+    fn greatest(&self, group_index: usize) -> ValueRef<'_>
+        requires { group_index < length self.now.states }
+        ensures value { value the_kind.Max
+            (slice_index_or self.now.states group_index no_statistics) ≡ Ok (value_in result) }
+        ensures fits { fits (value_in result) ≡ true }
+    {
+        self.extreme(End::Greatest, group_index)
+    }
+
+    fn integer(
+        &self,
+        alloc: Global,
+        kind: AggregateKind,
+        group_index: usize,
+    ) -> Result<ValueRef<'_>, AggFault>
+        requires group_index { group_index < length self.now.states }
+        requires least { kind ≢ the_kind.Min }
+        requires greatest { kind ≢ the_kind.Max }
+        ensures value { ReportsIfMemory fault_returned value_in result
+            (value kind (slice_index_or self.now.states group_index no_statistics)) }
+        ensures fits { IfOk result (λ v. fits (value_in v) ≡ true) }
+    {
+        let state = self.state(alloc, group_index)?;
+        integer_of(alloc, kind, &state)
+    }
+
+    /// The value of an aggregate of a kind with the state of a group, lent where the state holds it.
+    ///
+    /// # Errors
+    ///
+    /// A sum outside 64 bits; of sets, out of memory.
+    pub fn value(
+        &self,
+        alloc: Global,
+        kind: AggregateKind,
+        group_index: usize,
+    ) -> Result<ValueRef<'_>, AggFault>
+        requires { group_index < length self.now.states }
+        ensures value { ReportsIfMemory fault_returned value_in result
+            (value kind (slice_index_or self.now.states group_index no_statistics)) }
+        ensures fits { IfOk result (λ v. fits (value_in v) ≡ true) }
+    {
+        match kind {
+            AggregateKind::Min => Ok(self.least(group_index)),
+            AggregateKind::Max => Ok(self.greatest(group_index)),
+            AggregateKind::CountRows => self.integer(alloc, kind, group_index),
+            AggregateKind::Count => self.integer(alloc, kind, group_index),
+            AggregateKind::Sum => self.integer(alloc, kind, group_index),
+            AggregateKind::Avg => self.integer(alloc, kind, group_index),
+            AggregateKind::CountDistinct => self.integer(alloc, kind, group_index),
+            AggregateKind::SumDistinct => self.integer(alloc, kind, group_index),
         }
     }
 }

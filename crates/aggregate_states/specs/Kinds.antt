@@ -1,5 +1,5 @@
 -- What each kind's own accumulator holds.
-use Rattle.std.specs.Prelude.{◌≡◌, ℕ, ℤ, Bool, true, false, ◌≤◌, List}
+use Rattle.std.specs.Prelude.{◌≡◌, ℕ, ℤ, Bool, true, false, ◌≤◌, List, Option}
 use Rattle.std.specs.declared.cmp.Ordering.{Ordering}
 use Rattle.meaning.specs.declared.value.Value.{Value}
 use Rattle.meaning.specs.declared.plan.AggregateKind.{AggregateKind}
@@ -42,6 +42,11 @@ kind_from end.Greatest = kind.Max
 abbrev pub end_state : End → ℕ → Value → Statistics
 end_state end.Least count best = record no_statistics { count = count; least = entry best }
 end_state end.Greatest count best = record no_statistics { count = count; greatest = entry best }
+
+-- the entry that is kept from an end, if one is
+abbrev pub extreme_of : End → Statistics → Option Value
+extreme_of end.Least s = s.least
+extreme_of end.Greatest s = s.greatest
 
 -- at most 2^32 entries, and an extreme that is a value
 pub record IsExtreme (count : ℕ) (best : Value) : Type 0 where

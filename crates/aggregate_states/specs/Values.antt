@@ -3,6 +3,7 @@ use Rattle.std.specs.Prelude.{ℕ, Bool, true, List, map, get_or, Option, Some, 
 use Rattle.std.specs.Str.{is_utf8}
 use Rattle.meaning.specs.declared.value.Value.{Value}
 use Rattle.meaning.specs.declared.value.Value.TheVariants.{Null, Int, Text}
+use Rattle.meaning.specs.Operators.{fits_i64}
 
 -- a text is UTF-8
 abbrev pub is_spelled : Value → Bool
@@ -24,3 +25,9 @@ or_null (Some v) = v
 -- the values at some positions
 abbrev pub selected : List Value → List ℕ → List Value
 selected values positions = map (λ at. get_or values at Null) positions
+
+-- an integer has 64 bits
+abbrev pub fits : Value → Bool
+fits Null = true
+fits (Int n) = fits_i64 n
+fits (Text t) = true

@@ -12,6 +12,7 @@ mod lanes;
 mod one_group;
 mod state;
 mod tally;
+mod value;
 
 pub use end::{End, is_null};
 pub use extreme::{Extreme, Found, found_in_states, found_selected};
@@ -21,3 +22,4 @@ pub use lanes::{owned, plain_ints, position, selected_value, value_at};
 pub use one_group::one_group_index;
 pub use state::State;
 pub use tally::Tally;
+pub use value::{column_value, integer_of, value_of};

@@ -3,3 +3,4 @@ pub mod Places
 pub mod Entering
 pub mod ByGroup
 pub mod TakenSlots
+pub mod Extremes

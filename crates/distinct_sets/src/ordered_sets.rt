@@ -1,11 +1,15 @@
 //! Sets in the order of their groups, so that each group's entries stand together.
-ghost use Rattle.std.specs.Prelude.{◌≡◌, ◌<◌, length, slice_index_or, IfOk, OnOk, IsPermutation};
+ghost use Rattle.std.specs.Prelude.{◌≡◌, ℕ, ◌<◌, List, length, slice_index_or, IfOk, OnOk, IsPermutation};
 ghost use Rattle.meaning.specs.Aggregate.{no_statistics};
+ghost use Rattle.meaning.specs.Order.{value_in};
+ghost use Rattle.aggregate_states.specs.Kinds.{extreme_of};
+ghost use Rattle.aggregate_states.specs.Values.{entry};
+ghost use Rattle.distinct_sets.specs.declared.entry.Entry.{Entry as AnEntry};
 ghost use Rattle.distinct_sets.specs.Sets.{in_group, lent, sets_of, values_of_lent, AreFrom, IsSets, RisesByGroup};
 
 use crate::entry::{Entry, narrow};
-use aggregate_states::State;
-use meaning::Value;
+use aggregate_states::{End, State};
+use meaning::{Value, ValueRef};
 use std::alloc::{AllocError, Global};
 use std::marker::Model;
 
@@ -26,6 +30,14 @@ impl<'a> Model for OrderedSets<'a> {
     ghost view = { λ o. sets_of o.groups (lent o.entries.items) };
 
     ghost invariant = { λ o. AreOrdered o.groups o.entries.items };
+}
+
+/// What sets keep from an end: NULL, since they keep their entries alone.
+pub fn no_extreme<'a>(end: End) -> ValueRef<'a>
+    ensures { (entries : List AnEntry) (groups group_index : ℕ) → entry (value_in result)
+        ≡ extreme_of end (slice_index_or (sets_of groups entries) group_index no_statistics) }
+{
+    ValueRef::Null
 }
 
 fn lent_entries<'a>(alloc: Global, entries: &'a [Entry]) -> Result<Vec<&'a Entry>, AllocError>
@@ -106,5 +118,15 @@ impl<'a> OrderedSets<'a> {
         let entries = from_group(self.entries.as_slice(), group_index);
         let values = copied(alloc, up_to_group(entries, group_index))?;
         State::of_values(values)
+    }
+    /// The entry that a group's set keeps from an end: NULL, as sets keep none.
+    pub fn extreme(&self, end: End, group_index: usize) -> ValueRef<'_>
+        requires { group_index < length self.now }
+        ensures { entry (value_in result)
+            ≡ extreme_of end (slice_index_or self.now group_index no_statistics) }
+    {
+        // No effect at run time. The proof reads from this that the states are those of sets.
+        let _groups = &self.groups;
+        no_extreme(end)
     }
 }

@@ -7,14 +7,15 @@ ghost use Rattle.meaning.specs.Order.{is_ascending, value_cmp, value_in};
 ghost use Rattle.distinct_sets.specs.declared.entry.Entry.{Entry as AnEntry};
 ghost use Rattle.distinct_sets.specs.Sets.{are_sets, entries_of, has, in_group, merged_at, AreEntered, IsGrown};
 ghost use Rattle.aggregate_states.specs.Entries.{state_of, together};
-ghost use Rattle.aggregate_states.specs.Values.{is_spelled, selected};
+ghost use Rattle.aggregate_states.specs.Kinds.{extreme_of};
+ghost use Rattle.aggregate_states.specs.Values.{entry, is_spelled, selected};
 ghost use Rattle.vectors.specs.Vector.{values_of};
 
 use crate::entry::{Entry, narrow};
 use crate::hints::Hints;
 use crate::int_table::IntTable;
-use crate::ordered_sets::OrderedSets;
-use aggregate_states::{State, is_null, owned, plain_ints, selected_value};
+use crate::ordered_sets::{OrderedSets, no_extreme};
+use aggregate_states::{End, State, is_null, owned, plain_ints, selected_value};
 use group_index::hash_in_group;
 use meaning::{Value, ValueRef, compare_lent};
 use std::alloc::{AllocError, Global};
@@ -598,5 +599,15 @@ impl Sets {
         ensures { IfOk result (λ s. s ≡ slice_index_or self.now group_index no_statistics) }
     {
         self.ordered(alloc)?.state(alloc, group_index)
+    }
+    /// The entry that a group's set keeps from an end: NULL, as sets keep none.
+    pub fn extreme(&self, end: End, group_index: usize) -> ValueRef<'_>
+        requires { group_index < length self.now }
+        ensures { entry (value_in result)
+            ≡ extreme_of end (slice_index_or self.now group_index no_statistics) }
+    {
+        // No effect at run time. The proof reads from this that the states are those of sets.
+        let _groups = &self.groups;
+        no_extreme(end)
     }
 }

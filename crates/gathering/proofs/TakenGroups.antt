@@ -18,9 +18,9 @@ batch_fits plan gs batch from n is are =
       shaped = All-take (λ (g : Group). is_group_of plan g ≡ true) n (drop from gs) (All-drop (λ (g : Group). is_group_of plan g ≡ true) from gs are.shaped);
     })
 
--- a batch behind the groups before it, where `taken` is what was made of them
-pub batch_taken : {E X : Type 0} (taken : X → Result (List Row) ℕ) (plan : Plan) (gs batch : List Group) (from to : ℕ) (old : Result (List Row) ℕ) (given : Result X E) → from ≤ to → batch ≡ take (to - from) (drop from gs)
-    → IfOk given (λ x. (before : List Group) → HasTaken plan before old → HasTaken plan (before ++ batch) (taken x)) → IfOk given (λ x. HasTaken plan (take from gs) old → HasTaken plan (take to gs) (taken x))
-batch_taken taken plan gs batch from to old (Err e) ordered is takes = tt
-batch_taken taken plan gs batch from to old (Ok x) ordered is takes = λ so_far.
-    subst (λ (xs : List Group). HasTaken plan xs (taken x)) (ap (λ (xs : List Group). take from gs ++ xs) is ∙ up_to from to gs ordered) (takes (take from gs) so_far)
+-- a batch behind the groups before it
+pub batch_taken : {E : Type 0} (plan : Plan) (gs batch : List Group) (from to : ℕ) (old : Result (List Row) ℕ) (given : Result (Result (List Row) ℕ) E) → from ≤ to → batch ≡ take (to - from) (drop from gs)
+    → IfOk given (λ new. (before : List Group) → HasTaken plan before old → HasTaken plan (before ++ batch) new) → IfOk given (λ new. HasTaken plan (take from gs) old → HasTaken plan (take to gs) new)
+batch_taken plan gs batch from to old (Err e) ordered is takes = tt
+batch_taken plan gs batch from to old (Ok new) ordered is takes = λ so_far.
+    subst (λ (xs : List Group). HasTaken plan xs new) (ap (λ (xs : List Group). take from gs ++ xs) is ∙ up_to from to gs ordered) (takes (take from gs) so_far)

@@ -1,7 +1,5 @@
 //! What all answers together give.
-ghost use Rattle.std.specs.Prelude.{◌≡◌, ◌≤◌, ◌++◌, List, length, map, take, IfOk};
-ghost use Rattle.std.specs.Cow.{cow_slice_items};
-ghost use Rattle.meaning.specs.declared.answer.Group.{Group as AGroup};
+ghost use Rattle.std.specs.Prelude.{◌≡◌, ◌≤◌, length, map, take, IfOk};
 ghost use Rattle.meaning.specs.Answer.{read_off};
 ghost use Rattle.meaning.specs.Finish as the;
 ghost use Rattle.meaning.specs.Gather.{preview};
@@ -13,12 +11,10 @@ ghost use Rattle.last_step.specs.Taken.{HasTaken};
 ghost use Rattle.gathering.specs.Output.{IsPrintable, output_in};
 
 use crate::gather::Gather;
-use aggregate_states::Group;
-use group_by::{GroupTable, OrderedGroups, spare_groups};
+use group_by::{GroupTable, OrderedGroups};
 use last_step::{Finished, Finishing, batch_groups};
 use meaning::{Plan, RowFault};
 use std::alloc::{AllocError, Global};
-use std::borrow::CowSlice;
 use std::mem::drop;
 
 /// What a query gives: what the last step makes of the groups, or the fault of a row.
@@ -28,27 +24,7 @@ pub enum Output {
     RowFault(RowFault),
 }
 
-/// The last step takes a batch of groups, which is then given up.
-fn take_batch(
-    alloc: Global,
-    plan: &Plan,
-    finishing: Finishing,
-    batch: CowSlice<'_, Group>,
-) -> Result<(Finishing, Vec<Group>), AllocError>
-    requires { AreGroupsOf plan.now (cow_slice_items batch) }
-    ensures { IfOk result (λ x. (before : List AGroup) → HasTaken plan.now before finishing
-        → HasTaken plan.now (before ++ cow_slice_items batch.entry) x.0) }
-{
-    match finishing.take(alloc, plan, batch.as_slice()) {
-        Ok(taken) => Ok((taken, spare_groups(alloc, batch))),
-        Err(fault) => {
-            drop(batch);
-            Err(fault)
-        }
-    }
-}
-
-/// The last step takes the groups from one place up to another, and then gives them up.
+/// The last step takes the groups from one place up to another.
 fn take_from(
     alloc: Global,
     plan: &Plan,
@@ -56,21 +32,14 @@ fn take_from(
     finishing: Finishing,
     from: usize,
     to: usize,
-    spare: Vec<Group>,
-) -> Result<(Finishing, Vec<Group>), AllocError>
+) -> Result<Finishing, AllocError>
     requires groups { AreGroupsOf plan.now groups.now }
     requires ordered { from ≤ to }
     requires within { to ≤ length groups.now }
-    ensures { IfOk result (λ x. HasTaken plan.now (take from groups.now) finishing
-        → HasTaken plan.now (take to groups.now) x.0) }
+    ensures { IfOk result (λ f. HasTaken plan.now (take from groups.now) finishing
+        → HasTaken plan.now (take to groups.now) f) }
 {
-    match groups.batch(alloc, from, to, spare) {
-        Ok(batch) => take_batch(alloc, plan, finishing, batch),
-        Err(fault) => {
-            drop(finishing);
-            Err(fault)
-        }
-    }
+    finishing.take(alloc, plan, groups.slice(from, to))
 }
 
 /// The last step takes all groups, a batch at a time.
@@ -81,14 +50,12 @@ fn take_all(alloc: Global, plan: &Plan, groups: &OrderedGroups<'_>) -> Result<Fi
     let most = batch_groups(plan);
     let many = groups.len();
     let mut finishing = Finishing::new(alloc);
-    let mut spare = Vec::new(alloc);
     let mut from = 0;
     while from < many {
         let to = from + most.min(many - from);
-        (finishing, spare) = take_from(alloc, plan, groups, finishing, from, to, spare)?;
+        finishing = take_from(alloc, plan, groups, finishing, from, to)?;
         from = to;
     }
-    drop(spare);
     Ok(finishing)
 }
 

@@ -17,3 +17,4 @@ pub mod Ascending
 pub mod Own
 pub mod Absorbing
 pub mod Pieces
+pub mod Slices

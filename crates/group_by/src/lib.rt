@@ -3,12 +3,15 @@
 
 mod columns;
 mod counts;
+mod group_slice;
 mod handing_out;
 mod int_groups;
 mod laws;
 mod ordered_groups;
 mod table;
+mod unmade_groups;
 
+pub use group_slice::GroupSlice;
 pub use laws::{says_as, tables_grow};
 pub use ordered_groups::{OrderedGroups, spare_groups};
 pub use table::GroupTable;

@@ -3,61 +3,14 @@ ghost use Rattle.std.specs.Prelude.{◌≡◌, ◌<◌, ◌≤◌, ◌-◌, leng
 ghost use Rattle.std.specs.Cow.{cow_slice_items};
 ghost use Rattle.group_by.specs.IntGroups.{indexed_group, AreThere};
 
-use crate::int_groups::{IntGroup, indexed_groups};
+use crate::group_slice::GroupSlice;
+use crate::int_groups::IntGroup;
+use crate::unmade_groups::UnmadeGroups;
 use accumulators::{Group, OrderedStates};
 use std::alloc::{AllocError, Global};
 use std::borrow::CowSlice;
 use std::marker::Model;
 use std::mem::drop;
-
-/// The groups of integers, none of them made.
-#[derive(Drop)]
-pub struct UnmadeGroups<'a> {
-    indexed: Vec<IntGroup>,
-    rows: &'a [u64],
-    columns: Vec<OrderedStates<'a>>,
-}
-
-impl<'a> Model for UnmadeGroups<'a> {
-    ghost use Rattle.std.specs.Prelude.{List, map};
-    ghost use Rattle.meaning.specs.declared.answer.Group.{Group as AGroup};
-    ghost use Rattle.group_by.specs.IntGroups.{indexed_group, AreThere};
-
-    ghost Value = { List AGroup };
-
-    ghost view = { λ g. map (indexed_group g.rows.now g.columns.items) g.indexed.items };
-
-    ghost invariant = { λ g. AreThere g.rows.now g.columns.items g.indexed.items };
-}
-
-impl<'a> UnmadeGroups<'a> {
-    fn len(&self) -> usize
-        ensures { result ≡ length self.now }
-    {
-        self.indexed.len()
-    }
-
-    fn batch(
-        &self,
-        alloc: Global,
-        from: usize,
-        to: usize,
-        spare: Vec<Group>,
-    ) -> Result<Vec<Group>, AllocError>
-        requires ordered { from ≤ to }
-        requires within { to ≤ length self.now }
-        ensures { IfOk result (λ groups. groups.items ≡ take (to - from) (drop from self.now)) }
-    {
-        let indexed = self.indexed.as_slice();
-        indexed_groups(
-            alloc,
-            spare,
-            &indexed[from..to],
-            self.rows,
-            self.columns.as_slice(),
-        )
-    }
-}
 
 /// The groups of a batch, whose buffers can be used again, if they were made for it.
 pub fn spare_groups(alloc: Global, batch: CowSlice<'_, Group>) -> Vec<Group> {
@@ -110,13 +63,8 @@ impl<'a> OrderedGroups<'a> {
         requires { AreThere rows.now columns.items indexed.items }
         ensures { result ≡ map (indexed_group rows.entry.now columns.entry.items) indexed.items }
     {
-        let unmade = UnmadeGroups {
-            indexed,
-            rows,
-            columns,
-        };
         OrderedGroups {
-            held: HeldGroups::Unmade(unmade),
+            held: HeldGroups::Unmade(UnmadeGroups::new(indexed, rows, columns)),
         }
     }
 
@@ -153,6 +101,20 @@ impl<'a> OrderedGroups<'a> {
             HeldGroups::Unmade(groups) => {
                 Ok(CowSlice::Owned(groups.batch(alloc, from, to, spare)?))
             }
+        }
+    }
+    /// The groups from one place up to another, lent: none is made for it.
+    pub fn slice(&self, from: usize, to: usize) -> GroupSlice<'_>
+        requires ordered { from ≤ to }
+        requires within { to ≤ length self.now }
+        ensures { result ≡ take (to - from) (drop from self.now) }
+    {
+        match &self.held {
+            HeldGroups::Made(groups) => {
+                let groups = groups.as_slice();
+                GroupSlice::of(&groups[from..to])
+            }
+            HeldGroups::Unmade(groups) => GroupSlice::of_unmade(groups.slice(from, to)),
         }
     }
 }

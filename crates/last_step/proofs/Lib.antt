@@ -17,3 +17,4 @@ pub mod ShownFields
 pub mod RecordTexts
 pub mod Loans
 pub mod Pieces
+pub mod GroupsRead

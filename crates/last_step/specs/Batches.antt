@@ -21,6 +21,7 @@ use Rattle.meaning.specs.Order.{Row, column}
 use Rattle.meaning.specs.Results.{all_ok, and_then}
 use Rattle.meaning.specs.Typing.{Valued, Boolean, group_types}
 use Rattle.aggregate_states.specs.Values.{is_spelled}
+pub use Rattle.aggregate_states.specs.Values.{fits}
 use Rattle.vectors.specs.Selection.{is_among}
 use Rattle.vectors.specs.Vector.{BatchSpec, IsColumnOf, outcomes_of, values_of}
 use Rattle.vectors.specs.declared.batch.BatchColumn.{BatchColumn}
@@ -35,12 +36,6 @@ use Rattle.last_step.specs.declared.stop.Stop.TheVariants.{Memory, Fault}
 use Rattle.last_step.specs.Runs.{rows_after}
 
 -- ---- aggregates
-
--- an integer has 64 bits
-abbrev pub fits : Value → Bool
-fits Null = true
-fits (Int n) = fits_i64 n
-fits (Text t) = true
 
 -- each aggregate of the group has a value
 pub record HasValues (plan : Plan) (g : Group) : Type 0 where

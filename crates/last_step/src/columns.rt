@@ -1,19 +1,19 @@
 //! Groups as a batch: a column for each key and for each aggregate.
-ghost use Rattle.std.specs.Prelude.{◌≡◌, ◌<◌, map, length, true, All, IfOk, OnOk, Ok};
+ghost use Rattle.std.specs.Prelude.{◌≡◌, ◌<◌, map, length, slice_index_or, true, All, IfOk, OnOk, Ok};
+ghost use Rattle.meaning.specs.declared.answer.Group.{Group as AGroup};
 ghost use Rattle.meaning.specs.declared.value.ColType.TheVariants as of_type;
 ghost use Rattle.meaning.specs.declared.plan.Plan.{Plan as APlan};
 ghost use Rattle.meaning.specs.declared.value.Value.{Value as AValue};
-ghost use Rattle.meaning.specs.Aggregate.{value};
+ghost use Rattle.meaning.specs.Aggregate.{no_statistics, value};
 ghost use Rattle.meaning.specs.Order.{bytes, column, is_null, number, value_in};
 ghost use Rattle.meaning.specs.Typing.{is_of_type, result_type};
 ghost use Rattle.vectors.specs.declared.batch.ColumnReference.TheVariants as reference;
 ghost use Rattle.last_step.specs.Batches.{HasAt, HasValues, IsBatchOf, IsColumnIn, IsPartOf, IsVectorOf, aggregate_in, row_in};
 ghost use Rattle.last_step.specs.Fitting.{AreGroupsOf};
 
-use crate::aggregates::value_of;
-use crate::ordering::value_at;
+use crate::aggregates::value_at;
 use crate::stop::Stop;
-use aggregate_states::{Group, State};
+use group_by::GroupSlice;
 use meaning::{Aggregate, AggregateKind, ColType, Plan, ValueRef};
 use std::alloc::{AllocError, Global};
 use vectors::{
@@ -105,54 +105,49 @@ fn vector_of<'a>(
 /// The values of a key of the groups.
 fn keys_of<'a>(
     alloc: Global,
-    groups: &'a [Group],
+    groups: &'a GroupSlice<'_>,
     key: usize,
 ) -> Result<Vec<ValueRef<'a>>, AllocError>
     ensures { IfOk result (λ values. map value_in values.items
         ≡ map (λ g. column g.key key) groups.now) }
 {
     let mut values = Vec::with_capacity(alloc, groups.len())?;
-    for group in groups {
-        values.push(value_at(group.key(), key))?;
+    for k in 0..groups.len() {
+        values.push(groups.key_value(k, key))?;
     }
     Ok(values)
 }
 
-/// The value of an aggregate that has no fault.
-fn sound_value(
+/// The value of an aggregate of a group that has no fault.
+fn sound_value<'a>(
     alloc: Global,
     kind: AggregateKind,
-    state: &State,
-) -> Result<ValueRef<'_>, AllocError>
-    requires { (v : AValue) × (value kind state.now ≡ Ok v) }
-    ensures { IfOk result (λ v. value kind state.now ≡ Ok (value_in v)) }
+    groups: &'a GroupSlice<'_>,
+    group: usize,
+    aggregate: usize,
+) -> Result<ValueRef<'a>, AllocError>
+    requires group { group < length groups.now }
+    requires aggregate { (d : AGroup)
+        → aggregate < length (slice_index_or groups.now group d).states }
+    requires sound { (d : AGroup) → (v : AValue) × (value kind
+        (slice_index_or (slice_index_or groups.now group d).states aggregate no_statistics)
+        ≡ Ok v) }
+    ensures { IfOk result (λ v. (d : AGroup) → value kind
+        (slice_index_or (slice_index_or groups.now group d).states aggregate no_statistics)
+        ≡ Ok (value_in v)) }
 {
-    match value_of(alloc, kind, state) {
+    match value_at(alloc, kind, groups, group, aggregate) {
         Ok(value) => Ok(value),
         Err(Stop::Memory) => Err(AllocError),
         Err(Stop::Fault(_)) => unreachable!(),
     }
 }
 
-/// The value of an aggregate of a group.
-fn aggregate_at(
-    alloc: Global,
-    kind: AggregateKind,
-    group: &Group,
-    aggregate: usize,
-) -> Result<ValueRef<'_>, AllocError>
-    requires { (plan : APlan) × HasAt plan kind aggregate group.now }
-    ensures { IfOk result (λ v. (plan : APlan) → HasAt plan kind aggregate group.now
-        → value_in v ≡ aggregate_in plan aggregate group.now) }
-{
-    sound_value(alloc, kind, &group.states()[aggregate])
-}
-
 /// The values of an aggregate of the groups.
 fn aggregates_of<'a>(
     alloc: Global,
     kind: AggregateKind,
-    groups: &'a [Group],
+    groups: &'a GroupSlice<'_>,
     aggregate: usize,
 ) -> Result<Vec<ValueRef<'a>>, AllocError>
     requires { (plan : APlan) × All (HasAt plan kind aggregate) groups.now }
@@ -160,8 +155,8 @@ fn aggregates_of<'a>(
         → map value_in values.items ≡ map (aggregate_in plan aggregate) groups.now) }
 {
     let mut values = Vec::with_capacity(alloc, groups.len())?;
-    for group in groups {
-        values.push(aggregate_at(alloc, kind, group, aggregate)?)?;
+    for k in 0..groups.len() {
+        values.push(sound_value(alloc, kind, groups, k, aggregate)?)?;
     }
     Ok(values)
 }
@@ -184,7 +179,7 @@ fn result_type(kind: AggregateKind, col_type: ColType) -> ColType
 fn key_column<'a>(
     alloc: Global,
     plan: &Plan,
-    groups: &'a [Group],
+    groups: &'a GroupSlice<'_>,
     key: usize,
 ) -> Result<BatchColumn<'a>, AllocError>
     requires within { key < length plan.now.keys }
@@ -203,7 +198,7 @@ fn key_column<'a>(
 fn aggregate_column<'a>(
     alloc: Global,
     plan: &Plan,
-    groups: &'a [Group],
+    groups: &'a GroupSlice<'_>,
     aggregate: usize,
 ) -> Result<BatchColumn<'a>, AllocError>
     requires within { aggregate < length plan.now.aggs }
@@ -223,7 +218,7 @@ fn aggregate_column<'a>(
 fn push_keys<'a>(
     alloc: Global,
     plan: &Plan,
-    groups: &'a [Group],
+    groups: &'a GroupSlice<'_>,
     batch: &mut Batch<'a>,
 ) -> Result<(), AllocError>
     requires groups { AreGroupsOf plan.now groups.now }
@@ -239,7 +234,7 @@ fn push_keys<'a>(
 fn push_aggregates<'a>(
     alloc: Global,
     plan: &Plan,
-    groups: &'a [Group],
+    groups: &'a GroupSlice<'_>,
     batch: &mut Batch<'a>,
 ) -> Result<(), AllocError>
     requires groups { AreGroupsOf plan.now groups.now }
@@ -258,7 +253,7 @@ fn push_aggregates<'a>(
 pub fn batch_of<'a>(
     alloc: Global,
     plan: &Plan,
-    groups: &'a [Group],
+    groups: &'a GroupSlice<'_>,
 ) -> Result<Batch<'a>, AllocError>
     requires groups { AreGroupsOf plan.now groups.now }
     requires values { All (HasValues plan.now) groups.now }

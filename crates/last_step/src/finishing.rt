@@ -23,6 +23,7 @@ use crate::runs::runs_with;
 use crate::so_far::SoFar;
 use crate::stop::Stop;
 use aggregate_states::Group;
+use group_by::GroupSlice;
 use meaning::{OrderKey, Plan, Row, Sequence};
 use std::alloc::{AllocError, Global};
 use std::marker::Model;
@@ -80,11 +81,11 @@ fn with_groups(
     alloc: Global,
     plan: &Plan,
     runs: Vec<Run>,
-    groups: &[Group],
+    groups: GroupSlice<'_>,
 ) -> Result<SoFar, AllocError>
-    requires { AreGroupsOf plan.now groups.now }
+    requires { AreGroupsOf plan.now groups }
     ensures { IfOk result (λ now. best_of plan.now (rows_or_fault now)
-        ≡ best_of plan.now (rows_after plan.now (expanded runs.items) groups.now)) }
+        ≡ best_of plan.now (rows_after plan.now (expanded runs.items) groups.entry)) }
 {
     match runs_with(alloc, plan, runs, groups) {
         Ok(more) => Ok(SoFar::Rows(more)),
@@ -128,11 +129,16 @@ impl Finishing {
     /// # Errors
     ///
     /// Out of memory.
-    pub fn take(self, alloc: Global, plan: &Plan, groups: &[Group]) -> Result<Finishing, AllocError>
+    pub fn take(
+        self,
+        alloc: Global,
+        plan: &Plan,
+        groups: GroupSlice<'_>,
+    ) -> Result<Finishing, AllocError>
         // The plan has types over groups, and the groups are of its shape.
-        requires { AreGroupsOf plan.now groups.now }
+        requires { AreGroupsOf plan.now groups }
         ensures { IfOk result (λ f. (before : List AGroup) → HasTaken plan.now before self
-            → HasTaken plan.now (before ++ groups.now) f) }
+            → HasTaken plan.now (before ++ groups.entry) f) }
     {
         let Finishing { so_far } = self;
         match so_far {
@@ -180,6 +186,6 @@ pub fn finish(alloc: Global, plan: &Plan, groups: &[Group]) -> Result<Finished, 
     // The rows can be printed.
     ensures printable { ShowsSomething plan.now groups.now → IfOk result (IsPrintable plan.now) }
 {
-    let finishing = Finishing::new(alloc).take(alloc, plan, groups)?;
+    let finishing = Finishing::new(alloc).take(alloc, plan, GroupSlice::of(groups))?;
     finishing.finish(alloc, plan)
 }

@@ -1,30 +1,21 @@
 //! Rows in the order of the answer.
 ghost use Rattle.std.specs.Prelude.{◌≡◌, OnOk};
 ghost use Rattle.meaning.specs.Finish.{by_key, order_cmp};
-ghost use Rattle.meaning.specs.Order.{column, row_cmp, sorted, value_in};
+ghost use Rattle.meaning.specs.Order.{row_cmp, sorted};
 ghost use Rattle.last_step.specs.Runs.{expanded};
 
 use crate::run::Run;
-use meaning::{OrderKey, Row, ValueRef, compare_lent};
+use aggregate_states::column_value;
+use meaning::{OrderKey, Row, compare_lent};
 use std::alloc::AllocError;
 use std::cmp::Ordering;
-
-/// The value in a column, and NULL past the end.
-pub fn value_at(row: &Row, at: usize) -> ValueRef<'_>
-    ensures { value_in result ≡ column row.now at }
-{
-    match row.as_slice().get(at) {
-        Some(value) => value.as_value_ref(),
-        None => ValueRef::Null,
-    }
-}
 
 /// The order by one item. DESC turns it round, also for NULL.
 fn compare_by(key: &OrderKey, one: &Row, other: &Row) -> Ordering
     ensures { result ≡ by_key key.now one.now other.now }
 {
-    let left = value_at(one, key.item);
-    let right = value_at(other, key.item);
+    let left = column_value(one, key.item);
+    let right = column_value(other, key.item);
     if key.descending {
         return compare_lent(right, left);
     }

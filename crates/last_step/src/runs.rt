@@ -8,17 +8,22 @@ ghost use Rattle.last_step.specs.Runs.{expanded, rows_after};
 use crate::run::Run;
 use crate::showing::{push_grouped, push_plain};
 use crate::stop::Stop;
-use aggregate_states::Group;
+use group_by::GroupSlice;
 use meaning::Plan;
 use std::alloc::Global;
 
-fn push_all(alloc: Global, plan: &Plan, groups: &[Group], runs: &mut Vec<Run>) -> Result<(), Stop>
-    requires { AreGroupsOf plan.now groups.now }
+fn push_all(
+    alloc: Global,
+    plan: &Plan,
+    groups: GroupSlice<'_>,
+    runs: &mut Vec<Run>,
+) -> Result<(), Stop>
+    requires { AreGroupsOf plan.now groups }
     ensures { ReportsIfMemory fault_returned (λ _. best plan.now (expanded runs.new.items)) result
-        (best_of plan.now (rows_after plan.now (expanded runs.old.items) groups.now)) }
+        (best_of plan.now (rows_after plan.now (expanded runs.old.items) groups.entry)) }
 {
     if plan.plain {
-        return Ok(push_plain(alloc, plan.distinct, groups, runs)?);
+        return Ok(push_plain(alloc, plan.distinct, &groups, runs)?);
     }
     push_grouped(alloc, plan, groups, runs)
 }
@@ -29,11 +34,11 @@ pub fn runs_with(
     alloc: Global,
     plan: &Plan,
     before: Vec<Run>,
-    groups: &[Group],
+    groups: GroupSlice<'_>,
 ) -> Result<Vec<Run>, Stop>
-    requires { AreGroupsOf plan.now groups.now }
+    requires { AreGroupsOf plan.now groups }
     ensures { ReportsIfMemory fault_returned (λ runs. best plan.now (expanded runs.items)) result
-        (best_of plan.now (rows_after plan.now (expanded before.items) groups.now)) }
+        (best_of plan.now (rows_after plan.now (expanded before.items) groups.entry)) }
 {
     let mut runs = before;
     push_all(alloc, plan, groups, &mut runs)?;

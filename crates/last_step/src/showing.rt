@@ -19,7 +19,8 @@ use crate::run::Run;
 use crate::shown::evaluate;
 use crate::sorting::{FEW_ROWS, best_positions};
 use crate::stop::Stop;
-use aggregate_states::{Group, owned};
+use aggregate_states::owned;
+use group_by::GroupSlice;
 use meaning::{Plan, Row, Sequence, Value};
 use std::alloc::{AllocError, Global};
 use std::mem::drop;
@@ -135,7 +136,12 @@ fn push_shown(
 }
 
 /// What groups show none of whose aggregates has a fault.
-fn push_sound(alloc: Global, plan: &Plan, groups: &[Group], runs: &mut Vec<Run>) -> Result<(), Stop>
+fn push_sound(
+    alloc: Global,
+    plan: &Plan,
+    groups: &GroupSlice<'_>,
+    runs: &mut Vec<Run>,
+) -> Result<(), Stop>
     requires grouped { plan.now.plain ≡ false }
     requires groups { AreGroupsOf plan.now groups.now }
     requires few { length groups.now < 2 ^ 32 }
@@ -159,7 +165,12 @@ fn end_of(fault: Option<u8>) -> Result<(), Stop>
 }
 
 /// What so many groups show as one batch holds.
-fn push_batch(alloc: Global, plan: &Plan, groups: &[Group], runs: &mut Vec<Run>) -> Result<(), Stop>
+fn push_batch(
+    alloc: Global,
+    plan: &Plan,
+    groups: &GroupSlice<'_>,
+    runs: &mut Vec<Run>,
+) -> Result<(), Stop>
     requires grouped { plan.now.plain ≡ false }
     requires groups { AreGroupsOf plan.now groups.now }
     requires few { length groups.now < 2 ^ 32 }
@@ -167,7 +178,8 @@ fn push_batch(alloc: Global, plan: &Plan, groups: &[Group], runs: &mut Vec<Run>)
         (best_of plan.now (rows_after plan.now (expanded runs.old.items) groups.now)) }
 {
     let front = front_of(alloc, plan, groups)?;
-    push_sound(alloc, plan, &groups[..front.count], runs)?;
+    let sound = groups.first(front.count);
+    push_sound(alloc, plan, &sound, runs)?;
     end_of(front.fault)
 }
 
@@ -175,19 +187,19 @@ fn push_batch(alloc: Global, plan: &Plan, groups: &[Group], runs: &mut Vec<Run>)
 pub fn push_grouped(
     alloc: Global,
     plan: &Plan,
-    groups: &[Group],
+    groups: GroupSlice<'_>,
     runs: &mut Vec<Run>,
 ) -> Result<(), Stop>
     requires grouped { plan.now.plain ≡ false }
-    requires groups { AreGroupsOf plan.now groups.now }
+    requires groups { AreGroupsOf plan.now groups }
     ensures { ReportsIfMemory fault_returned (λ _. best plan.now (expanded runs.new.items)) result
-        (best_of plan.now (rows_after plan.now (expanded runs.old.items) groups.now)) }
+        (best_of plan.now (rows_after plan.now (expanded runs.old.items) groups.entry)) }
 {
     let most = batch_groups(plan);
     let mut rest = groups;
-    while !rest.is_empty() {
-        let (batch, behind) = rest.split_at(rest.len().min(most));
-        push_batch(alloc, plan, batch, runs)?;
+    while rest.len() > 0 {
+        let (batch, behind) = rest.split(rest.len().min(most));
+        push_batch(alloc, plan, &batch, runs)?;
         rest = behind;
     }
     Ok(())
@@ -207,17 +219,17 @@ fn times_kept(distinct: bool, rows: u64) -> u64
 pub fn push_plain(
     alloc: Global,
     distinct: bool,
-    groups: &[Group],
+    groups: &GroupSlice<'_>,
     runs: &mut Vec<Run>,
 ) -> Result<(), AllocError>
     ensures { OnOk result (expanded runs.new.items ≡ expanded runs.old.items
         ++ plain_rows distinct groups.now) }
 {
-    for group in groups {
-        let row = copy_row(alloc, group.key())?;
+    for k in 0..groups.len() {
+        let row = groups.key(alloc, k)?;
         runs.push(Run {
             row,
-            times: times_kept(distinct, group.rows()),
+            times: times_kept(distinct, groups.rows(k)),
         })?;
     }
     Ok(())

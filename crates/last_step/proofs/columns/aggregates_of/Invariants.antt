@@ -6,5 +6,5 @@ use Rattle.meaning.specs.Order.{value_in}
 use Rattle.last_step.specs.Batches.{HasAt, aggregate_in}
 use Rattle.last_step.proofs.columns.aggregates_of.Given as goal
 
-abbrev pub invariant-loop-group : goal.invariant-loop-group
-invariant-loop-group l = (plan : Plan) → All (HasAt plan l.kind l.aggregate) l.groups → map value_in l.values.items ≡ map (aggregate_in plan l.aggregate) (take l.group-index l.groups)
+abbrev pub invariant-loop-k : goal.invariant-loop-k
+invariant-loop-k l = (plan : Plan) → All (HasAt plan l.kind l.aggregate) l.groups → map value_in l.values.items ≡ map (aggregate_in plan l.aggregate) (take l.k l.groups)

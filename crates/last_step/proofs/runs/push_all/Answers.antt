@@ -8,5 +8,5 @@ use Rattle.last_step.proofs.runs.push_all.Goals as goal
 
 pub returns-then-plan : goal.returns-then-plan
 returns-then-plan c =
-    plain_after c.args.plan.now (expanded c.args.runs.now.items) c.args.groups.now c.if-plan.true
+    plain_after c.args.plan.now (expanded c.args.runs.now.items) c.args.groups c.if-plan.true
     ∙ ap (λ (rows : List Row). Ok (best c.args.plan.now rows)) (sym c.in_ok-push_plain.ensures)

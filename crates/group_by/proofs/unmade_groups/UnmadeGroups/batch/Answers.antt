@@ -1,10 +1,10 @@
--- Proofs of the goals of `batch` (`ordered_groups`).
+-- Proofs of the goals of `batch` (`unmade_groups`).
 use Rattle.std.proofs.Common.{◌≡◌, ◌-◌, List, Global, Vec, ap, drop, map, take, ◌∙◌}
 use Rattle.std.proofs.lemmas.Result.{IfOk-weaker}
 use Rattle.meaning.specs.declared.answer.Group.{Group}
 use Rattle.group_by.specs.IntGroups.{indexed_group}
 use Rattle.group_by.proofs.SortedInts.{some_mapped}
-use Rattle.group_by.proofs.ordered_groups.UnmadeGroups.batch.Goals as goal
+use Rattle.group_by.proofs.unmade_groups.UnmadeGroups.batch.Goals as goal
 
 pub returns : goal.returns
 returns c =

@@ -1,18 +1,18 @@
 //! A group's accumulator in a column, and what is done with it at a group index.
-ghost use Rattle.std.specs.Prelude.{◌≡◌, ◌<◌, ◌≤◌, ◌+◌, [], ◌∷◌, ◌++◌, length, map, slice_index_or, true, All, IsOk, OnOk, OnErr, IfOk, List};
+ghost use Rattle.std.specs.Prelude.{◌≡◌, ◌<◌, ◌≤◌, ◌+◌, [], ◌∷◌, ◌++◌, length, map, slice_index_or, true, All, IsOk, OnOk, OnErr, IfOk, IfSome, List};
 ghost use Rattle.meaning.specs.declared.plan.AggregateKind.{AggregateKind};
 ghost use Rattle.meaning.specs.declared.answer.Statistics.{Statistics};
 ghost use Rattle.meaning.specs.Aggregate.{kept_by, merge, no_statistics};
 ghost use Rattle.meaning.specs.Order.{value_in};
 ghost use Rattle.accumulators.specs.Columns.{merged_at};
 ghost use Rattle.aggregate_states.specs.Entries.{state_of};
-ghost use Rattle.aggregate_states.specs.Kinds.{extreme_of, has_one_size};
+ghost use Rattle.aggregate_states.specs.Kinds.{extreme_of, has_one_size, sum_state, IsSum};
 ghost use Rattle.aggregate_states.specs.State.{most_entries};
 ghost use Rattle.aggregate_states.specs.Values.{entry, is_spelled, selected};
 ghost use Rattle.vectors.specs.Vector.{values_of};
 
 use crate::accumulator::Accumulator;
-use aggregate_states::{End, State};
+use aggregate_states::{End, State, Tally};
 use meaning::ValueRef;
 use std::alloc::{AllocError, Global};
 use vectors::{Selection, Vector};
@@ -47,6 +47,11 @@ pub trait Cell: Accumulator + Drop {
     /// The entry that is kept from an end, and NULL where none is.
     fn extreme(&self, end: End) -> ValueRef<'_>
         ensures { entry (value_in result) ≡ extreme_of end (Self.held self.now) };
+
+    /// The number of entries and their sum, where nothing else is kept.
+    fn tally(&self) -> Option<Tally>
+        ensures { IfSome result (λ t. (Self.held self.now ≡ sum_state t.count t.sum)
+            × IsSum t.count t.sum) };
 
     ghost one_kind: { (x : Self) → Self.kind x ≡ keeps };
 
@@ -146,4 +151,15 @@ pub fn extreme_at<A: Cell>(cells: &[A], end: End, group_index: usize) -> ValueRe
         ≡ extreme_of end (slice_index_or (A.states cells.now) group_index no_statistics) }
 {
     cells[group_index].extreme(end)
+}
+
+/// The number of entries and their sum at a group index, where nothing else is kept.
+#[inline(always)]
+pub fn tally_at<A: Cell>(cells: &[A], group_index: usize) -> Option<Tally>
+    requires { group_index < length cells.now }
+    ensures { IfSome result (λ t.
+        (slice_index_or (A.states cells.now) group_index no_statistics ≡ sum_state t.count t.sum)
+        × IsSum t.count t.sum) }
+{
+    cells[group_index].tally()
 }

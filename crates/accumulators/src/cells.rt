@@ -1,21 +1,21 @@
 //! The states of one kind, by their group indexes.
-ghost use Rattle.std.specs.Prelude.{◌≡◌, ◌<◌, ◌≤◌, ◌+◌, [], ◌∷◌, ◌++◌, length, map, zip, slice_index_or, pos, true, All, IsOk, OnOk, OnErr, IfOk};
+ghost use Rattle.std.specs.Prelude.{◌≡◌, ◌<◌, ◌≤◌, ◌+◌, [], ◌∷◌, ◌++◌, length, map, zip, slice_index_or, pos, true, All, IsOk, OnOk, OnErr, IfOk, IfSome};
 ghost use Rattle.meaning.specs.declared.plan.AggregateKind.TheVariants as kind;
 ghost use Rattle.meaning.specs.Aggregate.{kept_by, no_statistics};
 ghost use Rattle.meaning.specs.Order.{value_in};
 ghost use Rattle.accumulators.specs.Columns.{kind_of_cells, merged_at, states_in, takes_ints};
 ghost use Rattle.meaning.specs.declared.value.Value.TheVariants as of_value;
 ghost use Rattle.aggregate_states.specs.Entries.{state_of, with_entries};
-ghost use Rattle.aggregate_states.specs.Kinds.{extreme_of, has_one_size};
+ghost use Rattle.aggregate_states.specs.Kinds.{extreme_of, has_one_size, sum_state, IsSum};
 ghost use Rattle.aggregate_states.specs.State.{most_entries};
 ghost use Rattle.aggregate_states.specs.Values.{entry, is_spelled, selected};
 ghost use Rattle.vectors.specs.Vector.{values_of};
 
-use crate::cell::{add_state_to, add_to, extreme_at, push_to, state_at, update_in};
+use crate::cell::{add_state_to, add_to, extreme_at, push_to, state_at, tally_at, update_in};
 use crate::count_acc::CountAcc;
 use crate::extreme_acc::{MaxAcc, MinAcc};
 use crate::sum_acc::SumAcc;
-use aggregate_states::{End, State};
+use aggregate_states::{End, State, Tally};
 use distinct_sets::Sets;
 use meaning::{AggregateKind, ValueRef};
 use std::alloc::{AllocError, Global};
@@ -304,5 +304,20 @@ impl Cells {
             cells => extreme_at(cells.as_slice(), end, group_index),
             sets => sets.extreme(end, group_index)
         )
+    }
+    /// The number of a state's entries and their sum, where it keeps nothing else.
+    pub fn tally(&self, group_index: usize) -> Option<Tally>
+        requires { group_index < length (states_in self.now) }
+        ensures { IfSome result (λ t.
+            (slice_index_or (states_in self.now) group_index no_statistics
+            ≡ sum_state t.count t.sum) × IsSum t.count t.sum) }
+    {
+        match self {
+            Cells::CountRows(cells) => tally_at(cells.as_slice(), group_index),
+            Cells::Count(cells) => tally_at(cells.as_slice(), group_index),
+            Cells::Sum(cells) => tally_at(cells.as_slice(), group_index),
+            Cells::Avg(cells) => tally_at(cells.as_slice(), group_index),
+            _ => None,
+        }
     }
 }

@@ -12,7 +12,7 @@ ghost use Rattle.vectors.specs.Vector.{values_of};
 
 use crate::accumulator::Accumulator;
 use crate::cell::Cell;
-use aggregate_states::{AggFault, End, State, is_null, plain_ints, selected_value};
+use aggregate_states::{AggFault, End, State, Tally, is_null, plain_ints, selected_value};
 use meaning::{AggregateKind, Sequence, Statistics, Value, ValueRef};
 use std::alloc::{AllocError, Global};
 use std::marker::Model;
@@ -174,6 +174,7 @@ impl Cell for CountAcc {
         self.add_state(state);
         Ok(())
     }
+
     fn extreme(&self, end: End) -> ValueRef<'_> {
         // No effect at run time. The proof reads from this that no extreme is kept.
         let _held = &self.entries;
@@ -181,5 +182,13 @@ impl Cell for CountAcc {
             End::Least => ValueRef::Null,
             End::Greatest => ValueRef::Null,
         }
+    }
+
+    #[inline(always)]
+    fn tally(&self) -> Option<Tally> {
+        Some(Tally {
+            count: self.entries,
+            sum: 0,
+        })
     }
 }

@@ -10,7 +10,9 @@ ghost use Rattle.aggregate_states.specs.Values.{entry, is_spelled};
 
 use crate::accumulator::Accumulator;
 use crate::cell::Cell;
-use aggregate_states::{AggFault, End, Extreme, Found, State, found_in_states, found_selected};
+use aggregate_states::{
+    AggFault, End, Extreme, Found, State, Tally, found_in_states, found_selected,
+};
 use meaning::{AggregateKind, Value, ValueRef};
 use std::alloc::{AllocError, Global};
 use std::marker::{Model, PhantomData};
@@ -198,7 +200,12 @@ impl<S: Side> Cell for ExtremeAcc<S> {
     fn take_state(&mut self, alloc: Global, state: &State) -> Result<(), AllocError> {
         self.add_state(alloc, state)
     }
+
     fn extreme(&self, end: End) -> ValueRef<'_> {
         best_from(S::end(), &self.found.best, end)
+    }
+
+    fn tally(&self) -> Option<Tally> {
+        None
     }
 }

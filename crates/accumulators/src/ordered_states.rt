@@ -1,17 +1,17 @@
 //! The states of one aggregate in all groups, to be handed out.
-ghost use Rattle.std.specs.Prelude.{◌≡◌, ◌≢◌, ◌<◌, length, slice_index_or, true, false, IsOk, IfOk, Ok};
+ghost use Rattle.std.specs.Prelude.{◌≡◌, ◌≢◌, ◌<◌, length, slice_index_or, true, false, IsOk, IfOk, IfSome, Ok};
 ghost use Rattle.meaning.specs.declared.plan.AggregateKind.TheVariants as the_kind;
 ghost use Rattle.meaning.specs.Aggregate.{no_statistics, value};
 ghost use Rattle.meaning.specs.Order.{value_in};
 ghost use Rattle.meaning.specs.Wanting.{ReportsIfMemory};
 ghost use Rattle.aggregate_states.specs.Fault.{fault_returned};
-ghost use Rattle.aggregate_states.specs.Kinds.{extreme_of, has_one_size, keeps_set};
+ghost use Rattle.aggregate_states.specs.Kinds.{extreme_of, has_one_size, keeps_set, sum_state, IsSum};
 ghost use Rattle.aggregate_states.specs.Values.{entry, fits};
 ghost use Rattle.accumulators.specs.Columns.{kind_of_cells, states_in};
 ghost use Rattle.accumulators.specs.Ordered.{column_of};
 
 use crate::cells::Cells;
-use aggregate_states::{AggFault, End, State, integer_of};
+use aggregate_states::{AggFault, End, State, Tally, integer_of, tally_value};
 use distinct_sets::OrderedSets;
 use meaning::{AggregateKind, ValueRef};
 use std::alloc::{AllocError, Global};
@@ -77,6 +77,7 @@ impl<'a> OrderedStates<'a> {
             Ordered::SumDistinct(sets) => sets.state(alloc, group_index),
         }
     }
+
     fn extreme(&self, end: End, group_index: usize) -> ValueRef<'_>
         requires { group_index < length self.now.states }
         ensures { entry (value_in result)
@@ -124,6 +125,39 @@ impl<'a> OrderedStates<'a> {
         integer_of(alloc, kind, &state)
     }
 
+    fn tally(&self, group_index: usize) -> Option<Tally>
+        requires { group_index < length self.now.states }
+        ensures { IfSome result (λ t.
+            (slice_index_or self.now.states group_index no_statistics ≡ sum_state t.count t.sum)
+            × IsSum t.count t.sum) }
+    {
+        match &self.held {
+            Ordered::Each(cells) => cells.tally(group_index),
+            Ordered::CountDistinct(_) => None,
+            Ordered::SumDistinct(_) => None,
+        }
+    }
+
+    /// The value of an aggregate that is read off the number of its entries and their sum, without a
+    /// state where the column keeps just these.
+    fn counted(
+        &self,
+        alloc: Global,
+        kind: AggregateKind,
+        group_index: usize,
+    ) -> Result<ValueRef<'_>, AggFault>
+        requires group_index { group_index < length self.now.states }
+        requires kind { has_one_size kind ≡ true }
+        ensures value { ReportsIfMemory fault_returned value_in result
+            (value kind (slice_index_or self.now.states group_index no_statistics)) }
+        ensures fits { IfOk result (λ v. fits (value_in v) ≡ true) }
+    {
+        match self.tally(group_index) {
+            Some(tally) => tally_value(kind, tally),
+            None => self.integer(alloc, kind, group_index),
+        }
+    }
+
     /// The value of an aggregate of a kind with the state of a group, lent where the state holds it.
     ///
     /// # Errors
@@ -143,10 +177,10 @@ impl<'a> OrderedStates<'a> {
         match kind {
             AggregateKind::Min => Ok(self.least(group_index)),
             AggregateKind::Max => Ok(self.greatest(group_index)),
-            AggregateKind::CountRows => self.integer(alloc, kind, group_index),
-            AggregateKind::Count => self.integer(alloc, kind, group_index),
-            AggregateKind::Sum => self.integer(alloc, kind, group_index),
-            AggregateKind::Avg => self.integer(alloc, kind, group_index),
+            AggregateKind::CountRows => self.counted(alloc, kind, group_index),
+            AggregateKind::Count => self.counted(alloc, kind, group_index),
+            AggregateKind::Sum => self.counted(alloc, kind, group_index),
+            AggregateKind::Avg => self.counted(alloc, kind, group_index),
             AggregateKind::CountDistinct => self.integer(alloc, kind, group_index),
             AggregateKind::SumDistinct => self.integer(alloc, kind, group_index),
         }

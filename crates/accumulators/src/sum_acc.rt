@@ -175,6 +175,7 @@ impl Cell for SumAcc {
         self.add_state(state);
         Ok(())
     }
+
     fn extreme(&self, end: End) -> ValueRef<'_> {
         // No effect at run time. The proof reads from this that no extreme is kept.
         let _held = &self.tally;
@@ -182,5 +183,10 @@ impl Cell for SumAcc {
             End::Least => ValueRef::Null,
             End::Greatest => ValueRef::Null,
         }
+    }
+
+    #[inline(always)]
+    fn tally(&self) -> Option<Tally> {
+        Some(self.tally)
     }
 }

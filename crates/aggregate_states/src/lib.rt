@@ -22,4 +22,4 @@ pub use lanes::{owned, plain_ints, position, selected_value, value_at};
 pub use one_group::one_group_index;
 pub use state::State;
 pub use tally::Tally;
-pub use value::{column_value, integer_of, value_of};
+pub use value::{column_value, integer_of, tally_value, value_of};

@@ -5,10 +5,13 @@ ghost use Rattle.meaning.specs.Aggregate.{value};
 ghost use Rattle.meaning.specs.Order.{column, value_in};
 ghost use Rattle.meaning.specs.Wanting.{ReportsIfMemory};
 ghost use Rattle.aggregate_states.specs.Fault.{fault_returned};
+ghost use Rattle.aggregate_states.specs.Kinds.{has_one_size, sum_state, IsSum};
 ghost use Rattle.aggregate_states.specs.Values.{fits};
 
+use crate::evaluating::{average, sum_value};
 use crate::fault::AggFault;
 use crate::state::State;
+use crate::tally::Tally;
 use meaning::{AggregateKind, Row, Value, ValueRef};
 use std::alloc::Global;
 
@@ -32,6 +35,72 @@ pub fn integer_of<'a>(
         Ok(Value::Null) => Ok(ValueRef::Null),
         Ok(Value::Text(_)) => unreachable!(),
         Err(fault) => Err(fault),
+    }
+}
+
+/// The sum of so many entries, and NULL of none.
+fn sum_of<'a>(tally: Tally) -> Result<ValueRef<'a>, AggFault>
+    ensures value { ReportsIfMemory fault_returned value_in result
+        (value the_kind.Sum (sum_state tally.count tally.sum)) }
+    ensures fits { IfOk result (λ v. fits (value_in v) ≡ true) }
+{
+    if tally.count == 0 {
+        return Ok(ValueRef::Null);
+    }
+    match sum_value(tally.sum) {
+        Ok(Value::Int(int)) => Ok(ValueRef::Int(int)),
+        Ok(Value::Null) => unreachable!(),
+        Ok(Value::Text(_)) => unreachable!(),
+        Err(fault) => Err(fault),
+    }
+}
+
+/// The mean of so many entries, and NULL of none.
+fn average_of<'a>(tally: Tally) -> ValueRef<'a>
+    requires { IsSum tally.count tally.sum }
+    ensures value { value the_kind.Avg (sum_state tally.count tally.sum) ≡ Ok (value_in result) }
+    ensures fits { fits (value_in result) ≡ true }
+{
+    if tally.count == 0 {
+        return ValueRef::Null;
+    }
+    match average(tally.count, tally.sum) {
+        Value::Int(int) => ValueRef::Int(int),
+        Value::Null => unreachable!(),
+        Value::Text(_) => unreachable!(),
+    }
+}
+
+fn count_of<'a>(tally: Tally) -> ValueRef<'a>
+    requires { IsSum tally.count tally.sum }
+    ensures value { value the_kind.Count (sum_state tally.count tally.sum)
+        ≡ Ok (value_in result) }
+    ensures fits { fits (value_in result) ≡ true }
+{
+    ValueRef::Int(tally.count as i64)
+}
+
+/// The value of an aggregate that is read off the number of its entries and their sum.
+///
+/// # Errors
+///
+/// A sum outside 64 bits.
+pub fn tally_value<'a>(kind: AggregateKind, tally: Tally) -> Result<ValueRef<'a>, AggFault>
+    requires kind { has_one_size kind ≡ true }
+    requires possible { IsSum tally.count tally.sum }
+    ensures value { ReportsIfMemory fault_returned value_in result
+        (value kind (sum_state tally.count tally.sum)) }
+    ensures fits { IfOk result (λ v. fits (value_in v) ≡ true) }
+{
+    match kind {
+        AggregateKind::CountRows => Ok(count_of(tally)),
+        AggregateKind::Count => Ok(count_of(tally)),
+        AggregateKind::Sum => sum_of(tally),
+        AggregateKind::Avg => Ok(average_of(tally)),
+        AggregateKind::Min => unreachable!(),
+        AggregateKind::Max => unreachable!(),
+        AggregateKind::CountDistinct => unreachable!(),
+        AggregateKind::SumDistinct => unreachable!(),
     }
 }
 

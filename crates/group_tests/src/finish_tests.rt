@@ -5,6 +5,7 @@ use crate::groups::{BEYOND, groups_of};
 use crate::plans::{ALL, Having, Query, plan_of};
 use crate::rows::show_row;
 use aggregate_states::Group;
+use group_by::GroupSlice;
 use last_step::{Finished, Finishing, finish};
 use meaning::Plan;
 use short_vectors::NULL;
@@ -45,8 +46,8 @@ fn finish_both(
     requires first { AreGroupsOf plan.now first.now }
     requires second { AreGroupsOf plan.now second.now }
 {
-    let finishing = Finishing::new(alloc).take(alloc, plan, first)?;
-    finishing.take(alloc, plan, second)?.finish(alloc, plan)
+    let finishing = Finishing::new(alloc).take(alloc, plan, GroupSlice::of(first))?;
+    finishing.take(alloc, plan, GroupSlice::of(second))?.finish(alloc, plan)
 }
 
 /// What the last step gives of groups that come in two pieces.

@@ -1,5 +1,5 @@
 -- How packed groups are read from front to back.
-use Rattle.std.specs.Prelude.{ℕ, ℤ, pos, nat_le, nat_lt, ◌==◌, ◌&&◌, if◌then◌else◌, List, [], Result, Ok, Err}
+use Rattle.std.specs.Prelude.{ℕ, ℤ, pos, nat_le, nat_lt, ◌==◌, ◌&&◌, if◌then◌else◌, List, [], Option, None, Result, Ok, Err}
 use Rattle.std.specs.Str.{is_utf8}
 use Rattle.meaning.specs.declared.value.Value.{Value}
 use Rattle.meaning.specs.declared.value.Value.TheVariants.{Null, Int, Text}
@@ -72,29 +72,46 @@ pub record Tally : Type 0 where
 abbrev pub possible_tally : Tally → Result Tally DecodeFault
 possible_tally t = if nat_le t.count most_entries && is_sum_of t.count t.sum then Ok t else Err fault.Numbers
 
-unfoldable pub tally_at : List ℕ → Read DecodeFault Tally
-tally_at bytes = do
-  count ← small_at bytes
-  sum ← sum_at count.1
-  tally ← possible_tally (record { count = count.0; sum = sum.0 })
-  Ok (tally, sum.1)
+-- a state without entries, whose numbers are possible
+abbrev pub alone : ℕ → ℤ → Option Value → Option Value → Result Statistics DecodeFault
+alone count sum least greatest = do
+  tally ← possible_tally (record { count = count; sum = sum })
+  Ok (record { count = tally.count; sum = tally.sum; least = least; greatest = greatest; entries = [] })
 
-unfoldable pub state_at : List ℕ → Read DecodeFault Statistics
-state_at bytes = do
-  tally ← tally_at bytes
-  least ← value_at tally.1
+-- all parts
+unfoldable pub all_parts_at : ℕ → List ℕ → Read DecodeFault Statistics
+all_parts_at count bytes = do
+  sum ← sum_at bytes
+  tally ← possible_tally (record { count = count; sum = sum.0 })
+  least ← value_at sum.1
   greatest ← value_at least.1
   entries ← values_at greatest.1
   Ok (
     record {
-      count = tally.0.count;
-      sum = tally.0.sum;
+      count = tally.count;
+      sum = tally.sum;
       least = unless_null least.0;
       greatest = unless_null greatest.0;
       entries = entries.0;
     },
     entries.1,
   )
+
+-- none behind a 0, a sum behind a 1, a least entry behind a 2, a greatest behind a 3, all behind a 4
+unfoldable pub tagged_parts_at : ℕ → ℕ → List ℕ → Read DecodeFault Statistics
+tagged_parts_at tag count bytes =
+    if tag == 0 then (alone count (pos 0) None None >>= λ s. Ok (s, bytes))
+    else if tag == 1 then (from_wire (i128_at bytes) >>= λ sum. alone count sum.0 None None >>= λ s. Ok (s, sum.1))
+    else if tag == 2 then (value_at bytes >>= λ v. alone count (pos 0) (unless_null v.0) None >>= λ s. Ok (s, v.1))
+    else if tag == 3 then (value_at bytes >>= λ v. alone count (pos 0) None (unless_null v.0) >>= λ s. Ok (s, v.1))
+    else if tag == 4 then all_parts_at count bytes
+    else Err fault.Shape
+
+unfoldable pub state_at : List ℕ → Read DecodeFault Statistics
+state_at bytes = do
+  tag ← from_wire (number_at 1 bytes)
+  count ← small_at tag.1
+  tagged_parts_at tag.0 count.0 count.1
 
 -- ---- groups
 

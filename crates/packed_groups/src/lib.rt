@@ -5,6 +5,7 @@
 
 mod group;
 mod packed;
+mod parts;
 mod small;
 mod state;
 mod value;

@@ -1,7 +1,7 @@
 //! What tables hand out, by the order of their keys.
 ghost use Rattle.std.specs.Prelude.{◌≡◌, ◌≤◌, ◌+◌, ◌∷◌, [], length, map, IfOk};
 ghost use Rattle.meaning.specs.declared.plan.AggregateKind.TheVariants.{Sum};
-ghost use Rattle.group_index.specs.Rows.{AreLanesOf};
+ghost use Rattle.group_keys.specs.Rows.{AreLanesOf};
 ghost use Rattle.group_by.specs.Shape.{shape_of};
 ghost use Rattle.group_tests.specs.Tables.{HasTaken};
 

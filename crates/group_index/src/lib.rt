@@ -5,7 +5,6 @@
 mod index;
 mod row_groups;
 
-pub use group_keys::{KeyList, are_equal, compare_keys, copy_key, hash_in_group, key_of_value};
-pub use hash_slots::slot_number;
+pub use group_keys::{KeyList, are_equal, compare_keys, copy_key, key_of_value};
 pub use index::KeyIndex;
 pub use row_groups::RowGroups;

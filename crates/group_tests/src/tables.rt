@@ -75,16 +75,20 @@ pub fn table_of(
     with_rows(alloc, table, keys, &arguments, list.len())
 }
 
+fn show_group(shown: &mut String, group: &Group) -> Result<(), AllocError> {
+    show_row(shown, group.key())?;
+    write!(shown, "{}", group.rows())?;
+    for state in group.states() {
+        write!(shown, " {} {}", state.count(), state.sum())?;
+    }
+    shown.push_str("; ")
+}
+
 /// Each group's key, row count and sum.
 pub fn shown(alloc: Global, groups: &[Group]) -> Result<String, AllocError> {
     let mut shown = String::new(alloc);
     for group in groups {
-        show_row(&mut shown, group.key())?;
-        write!(shown, "{}", group.rows())?;
-        for state in group.states() {
-            write!(shown, " {} {}", state.count(), state.sum())?;
-        }
-        shown.push_str("; ")?;
+        show_group(&mut shown, group)?;
     }
     Ok(shown)
 }

@@ -1,7 +1,7 @@
 //! A hash table that leads to the entries of sets. It is a hint: what it leads to is compared, and
 //! what it doesn't lead to is entered again, which changes no set.
 use crate::table_size::larger_size;
-use group_index::slot_number;
+use hash_slots::{probe_slots, slot_number};
 use std::alloc::{AllocError, Global};
 
 // What an empty slot holds.
@@ -23,14 +23,29 @@ pub struct Hints {
     slots: Vec<u32>,
 }
 
+/// What the slot to look at after so many steps holds, if it is there.
+#[inline(always)]
+fn slot_after(slots: &[u32], hash: u64, step: usize) -> Option<u32> {
+    slots.get(slot_number(hash, step, slots.len())).copied()
+}
+
+/// The number of the first empty slot for a hash, if there is one.
+fn empty_slot(slots: &[u32], hash: u64) -> Option<usize> {
+    let stop = probe_slots(
+        slots.len(),
+        |step| slot_after(slots, hash, step),
+        |entry| entry == NO_ENTRY,
+    )?;
+    Some(slot_number(hash, stop.step, slots.len()))
+}
+
 /// Puts an entry's index into the first empty slot for its hash.
 fn enter(slots: &mut [u32], hashed: Hashed) {
-    for step in 0..slots.len() {
-        let number = slot_number(hashed.hash, step, slots.len());
-        if number < slots.len() && slots[number] == NO_ENTRY {
-            slots[number] = hashed.entry;
-            return;
-        }
+    let Some(number) = empty_slot(slots, hashed.hash) else {
+        return;
+    };
+    if number < slots.len() {
+        slots[number] = hashed.entry;
     }
 }
 
@@ -58,8 +73,7 @@ impl Hints {
     /// The entry that the slot to look at after so many steps leads to, unless it is empty.
     #[inline(always)]
     pub fn after(&self, hash: u64, step: usize) -> Option<u32> {
-        let slots = self.slots.as_slice();
-        let entry = *slots.get(slot_number(hash, step, slots.len()))?;
+        let entry = slot_after(self.slots.as_slice(), hash, step)?;
         if entry == NO_ENTRY {
             return None;
         }

@@ -1,16 +1,19 @@
 //! A hash table whose slots hold the integers that are in sets, so that an integer that is found costs
 //! one slot. Neighbouring groups that have the same integer share a slot. An integer that isn't found
 //! is entered again, which changes no set.
-ghost use Rattle.std.specs.Prelude.{◌≡◌, [], List, true, IfOk, IfSome};
+ghost use Rattle.std.specs.Prelude.{◌≡◌, ℕ, ◌↔◌, ◌⊎◌, [], List, length, slice_get, true, IfOk, IfSome};
+ghost use Rattle.hash_slots.specs.Probing.{slot_at};
 ghost use Rattle.meaning.specs.declared.value.Value.TheVariants.{Int};
 ghost use Rattle.distinct_sets.specs.declared.entry.Entry.{Entry as AnEntry};
 ghost use Rattle.distinct_sets.specs.Sets.{has, in_group};
-ghost use Rattle.distinct_sets.specs.Slots.{AreSlotsOf, IsSlotOf};
+ghost use Rattle.distinct_sets.specs.Marks.{IsMarked};
+ghost use Rattle.distinct_sets.specs.Slots.{AreSlotsOf, IsFor, IsSlotOf};
 
 use crate::int_slot::{EMPTY, IntSlot};
 use crate::marks::{Marks, in_block};
 use crate::table_size::larger_size;
-use group_index::{hash_in_group, slot_number};
+use group_keys::hash_in_group;
+use hash_slots::{probe_slots, slot_number};
 use meaning::ValueRef;
 use std::alloc::{AllocError, Global};
 
@@ -49,22 +52,60 @@ fn slot_of(group_index: u32, int: &i64) -> IntSlot
     }
 }
 
-/// What two slots hold, where the first is empty or both are for the same integer and block.
-fn joined(held: IntSlot, slot: IntSlot) -> Option<IntSlot>
-    ensures { (entries : List AnEntry) → IsSlotOf entries held → IsSlotOf entries slot
-        → IfSome result (λ both. IsSlotOf entries both) }
+/// Where a search for an integer and a block stops: at their slot, or at the first empty one.
+#[inline(always)]
+fn stops(held: IntSlot, block: u32, int: &i64) -> bool
+    ensures { result ≡ true → IsFor held block int.now }
 {
-    if held.marks.are_none() {
-        return Some(slot);
-    }
-    if !is_slot_for(held, slot.block, &slot.value) {
-        return None;
-    }
-    Some(IntSlot {
-        block: slot.block,
-        marks: held.marks.with(slot.marks),
-        value: slot.value,
+    is_slot_for(held, block, int) || held.marks.are_none()
+}
+
+/// The slot to look at after so many steps, if it is there.
+#[inline(always)]
+fn slot_after(slots: &[IntSlot], hash: u64, step: usize) -> Option<IntSlot>
+    ensures { result ≡ slice_get slots.now (slot_at hash step (length slots.now)) }
+{
+    slots.get(slot_number(hash, step, slots.len())).copied()
+}
+
+/// Where a slot is, and what it holds.
+#[derive(Clone, Copy)]
+struct Place {
+    number: usize,
+    held: IntSlot,
+}
+
+/// The slot for an integer and a block, or else the first empty one.
+#[inline(always)]
+fn find_place(slots: &[IntSlot], block: u32, int: &i64) -> Option<Place>
+    ensures own { IfSome result (λ place. IsFor place.held block int.now) }
+    ensures held { (entries : List AnEntry) → AreSlotsOf entries slots.now
+        → IfSome result (λ place. IsSlotOf entries place.held) }
+{
+    let hash = hash_of(block, int);
+    let stop = probe_slots(
+        slots.len(),
+        |step| slot_after(slots, hash, step),
+        |held| stops(held, block, int),
+    )?;
+    Some(Place {
+        number: slot_number(hash, stop.step, slots.len()),
+        held: stop.slot,
     })
+}
+
+/// A slot with the marks of another as well.
+fn joined(slot: IntSlot, held: IntSlot) -> IntSlot
+    ensures block { result.block ≡ slot.block }
+    ensures value { result.value ≡ slot.value }
+    ensures marks { (k : ℕ) → IsMarked result.marks k
+        ↔ (IsMarked slot.marks k ⊎ IsMarked held.marks k) }
+{
+    IntSlot {
+        block: slot.block,
+        marks: slot.marks.with(held.marks),
+        value: slot.value,
+    }
 }
 
 /// Puts what a slot holds into the slot for its integer and block, or else into the first empty one.
@@ -73,19 +114,13 @@ fn put(slots: &mut [IntSlot], slot: IntSlot) -> bool
     ensures { (entries : List AnEntry) → IsSlotOf entries slot → AreSlotsOf entries slots.old
         → AreSlotsOf entries slots.new }
 {
-    let hash = hash_of(slot.block, &slot.value);
-    for step in 0..slots.len() {
-        let number = slot_number(hash, step, slots.len());
-        if number >= slots.len() {
-            return false;
-        }
-        let held = slots[number];
-        if let Some(both) = joined(held, slot) {
-            slots[number] = both;
-            return held.marks.are_none();
-        }
+    let Some(Place { number, held }) = find_place(slots, slot.block, &slot.value) else {
+        return false;
+    };
+    if number < slots.len() {
+        slots[number] = joined(slot, held);
     }
-    false
+    held.marks.are_none()
 }
 
 fn put_all(slots: &mut [IntSlot], others: &[IntSlot])
@@ -131,23 +166,11 @@ impl IntTable {
         ensures { (entries : List AnEntry) → AreSlotsOf entries self.now.slots.items → result ≡ true
             → has (Int int.now) (in_group group_index entries) ≡ true }
     {
-        let slots = self.slots.as_slice();
         let group = in_block(group_index);
-        let hash = hash_of(group.block, int);
-        for step in 0..slots.len() {
-            let number = slot_number(hash, step, slots.len());
-            if number >= slots.len() {
-                return false;
-            }
-            let slot = slots[number];
-            if is_slot_for(slot, group.block, int) {
-                return slot.marks.have(group.offset);
-            }
-            if slot.marks.are_none() {
-                return false;
-            }
+        match find_place(self.slots.as_slice(), group.block, int) {
+            Some(place) => place.held.marks.have(group.offset),
+            None => false,
         }
-        false
     }
 
     /// Makes the table twice as large where half of it is full.

@@ -16,7 +16,8 @@ use crate::hints::Hints;
 use crate::int_table::IntTable;
 use crate::ordered_sets::{OrderedSets, no_extreme};
 use aggregate_states::{End, State, is_null, owned, plain_ints, selected_value};
-use group_index::hash_in_group;
+use group_keys::hash_in_group;
+use hash_slots::probe_slots;
 use meaning::{Value, ValueRef, compare_lent};
 use std::alloc::{AllocError, Global};
 use std::marker::Model;
@@ -110,15 +111,12 @@ impl EntryList {
         ensures { result ≡ true
             → has (value_in value.entry) (in_group group_index self.now) ≡ true }
     {
-        for step in 0..self.hints.most_steps() {
-            let Some(at) = self.hints.after(hash, step) else {
-                return false;
-            };
-            if is_entry(self.entries.as_slice(), at, group_index, value) {
-                return true;
-            }
-        }
-        false
+        let stop = probe_slots(
+            self.hints.most_steps(),
+            |step| self.hints.after(hash, step),
+            |at| is_entry(self.entries.as_slice(), at, group_index, value),
+        );
+        stop.is_some()
     }
 
     #[cold]

@@ -17,7 +17,7 @@ use Rattle.aggregate_states.specs.State.{most_entries}
 use Rattle.aggregate_states.proofs.Growing.{kept_count}
 use Rattle.group_by.specs.Shape.{shape_with}
 use Rattle.group_by.specs.Groups.{with_rows}
-use Rattle.group_index.specs.Rows.{row_at, rows_at}
+use Rattle.group_keys.specs.Rows.{row_at, rows_at}
 use Rattle.group_by.specs.Rows.{kept_rows}
 use Rattle.group_by.specs.GroupIndexes.{state_at, state_in, table_of, IsWellFormed, AreAdded}
 use Rattle.aggregate_states.proofs.Keeping.{keeps_merged, keeps_none, kept_twice}

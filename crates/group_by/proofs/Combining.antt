@@ -18,7 +18,7 @@ use Rattle.aggregate_states.specs.State.{most_entries}
 use Rattle.group_by.specs.Combined.{zipped, put_before, combined, Rises, SameBeside, IsFit, AreFit, MergesWithFirst}
 use Rattle.group_by.specs.Groups.{all_rows, together}
 use Rattle.group_by.specs.Shape.{Shape}
-use Rattle.group_index.proofs.Finding.{one_row}
+use Rattle.group_keys.proofs.KeyRows.{one_row}
 use Rattle.group_by.proofs.Growing.{Grows}
 use Rattle.group_by.proofs.Together.{before, behind, merge_two, has, zipped-length}
 

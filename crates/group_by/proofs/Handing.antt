@@ -24,7 +24,7 @@ use Rattle.group_by.specs.Groups.{all_rows, group_of_rows, as_one, together}
 use Rattle.group_by.specs.GroupIndexes.{state_in, state_at, by_group_index, group_at, IsWellFormed}
 use Rattle.group_index.specs.Keys.{empty_key}
 use Rattle.group_by.specs.Shape.{Shape, shape_with}
-use Rattle.group_index.proofs.Finding.{one_row}
+use Rattle.group_keys.proofs.KeyRows.{one_row}
 use Rattle.group_by.proofs.Growing.{grows_with}
 use Rattle.group_by.proofs.Together.{merge_none, same_beside, together-at, any_beside, at, has, IsWide, reversed}
 use Rattle.group_by.proofs.Batches.{kinds_of, by_group_index-length, by_group_index-at}

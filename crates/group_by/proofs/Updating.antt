@@ -14,9 +14,9 @@ use Rattle.accumulators.specs.Columns.{ColumnSpec, of_states, no_column}
 use Rattle.aggregate_states.specs.Entries.{state_of, of_group, with_entries}
 use Rattle.aggregate_states.specs.Values.{selected}
 use Rattle.vectors.specs.Vector.{values_of}
-use Rattle.group_index.specs.Rows.{rows_at}
+use Rattle.group_keys.specs.Rows.{rows_at}
 use Rattle.group_by.specs.GroupIndexes.{state_in, IsUpdated, AreUpdated}
-use Rattle.group_index.proofs.Finding.{lane_of}
+use Rattle.group_keys.proofs.KeyRows.{lane_of}
 
 -- the entries of one aggregate
 pub column_of : (arguments : List Vector) (list : List ℕ) (c : ℕ) (d : Vector) → c < length arguments → map (λ (row : Row). column row c) (rows_at arguments list) ≡ selected (values_of (get_or arguments c d)) list

@@ -4,7 +4,7 @@ use Rattle.meaning.specs.declared.answer.Group.{Group}
 use Rattle.meaning.specs.Order.{Row}
 use Rattle.meaning.specs.Aggregate.{kept_by}
 use Rattle.vectors.specs.declared.vector.Vector.{Vector}
-use Rattle.group_index.specs.Rows.{row_at}
+use Rattle.group_keys.specs.Rows.{row_at}
 use Rattle.group_by.specs.Shape.{Shape}
 
 -- each selected row's keys with its arguments

@@ -8,7 +8,7 @@ ghost use Rattle.aggregate_states.specs.Values.{is_spelled, selected};
 ghost use Rattle.vectors.specs.Vector.{values_of};
 ghost use Rattle.group_by.specs.GroupIndexes.{state_at, state_in, AreFresh, AreMerged, AreUpdated, IsMerged, IsUpdated};
 ghost use Rattle.group_index.specs.RowGroups.{listed};
-ghost use Rattle.group_index.specs.Rows.{rows_at, AreLanesOf};
+ghost use Rattle.group_keys.specs.Rows.{rows_at, AreLanesOf};
 
 use accumulators::{OrderedStates, State, StateColumn};
 use group_index::RowGroups;

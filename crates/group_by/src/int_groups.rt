@@ -8,7 +8,7 @@ ghost use Rattle.meaning.specs.Order.{row_cmp};
 ghost use Rattle.accumulators.specs.Columns.{ColumnSpec};
 ghost use Rattle.group_by.specs.Combined.{SameBeside};
 ghost use Rattle.group_by.specs.IntGroups.{key_in, indexed_group, AreApart, AreIndexed, AreOrdered};
-ghost use Rattle.group_index.specs.Rows.{int_keys};
+ghost use Rattle.group_keys.specs.Rows.{int_keys};
 
 use crate::handing_out::{group_of, regroup};
 use accumulators::{Group, OrderedStates};

@@ -8,7 +8,7 @@ ghost use Rattle.group_by.specs.Shape.{shape_of, shape_with};
 ghost use Rattle.group_by.specs.Groups.{all_rows, fresh, with_rows, with_groups};
 ghost use Rattle.accumulators.specs.Columns.{no_column};
 ghost use Rattle.group_by.specs.GroupIndexes.{state_at, AreAbsorbed, AreAdded, AreFresh, IsAbsorbed, IsWellFormed};
-ghost use Rattle.group_index.specs.Rows.{rows_at, AreLanesOf};
+ghost use Rattle.group_keys.specs.Rows.{rows_at, AreLanesOf};
 ghost use Rattle.group_by.specs.Rows.{kept_rows, IsGroupOf};
 
 use crate::columns::{copy_columns, fresh_columns, merge_all, ordered_columns, update_all};

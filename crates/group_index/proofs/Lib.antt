@@ -1,7 +1,4 @@
 pub mod Finding
-pub mod CloseInts
-pub mod Texts
-pub mod Ends
-pub mod SelectedInts
-pub mod IntKeys
+pub mod SettledInts
+pub mod LedKeys
 pub mod Steps

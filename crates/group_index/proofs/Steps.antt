@@ -4,9 +4,9 @@ use Rattle.std.specs.List.{slice_get}
 use Rattle.std.proofs.Common.{sym, ap, subst, ◌∙◌, arith, inl, inr}
 use Rattle.std.proofs.lemmas.Bool.{cases_lt}
 use Rattle.std.proofs.lemmas.Option.{get_or_from_slice_get, slice_get-get_or}
-use Rattle.hash_slots.specs.Probing.{ArePassed}
+use Rattle.hash_slots.specs.Probing.{slot_at, ArePassed}
 use Rattle.group_index.specs.declared.index.Slot.{Slot}
-use Rattle.group_index.specs.Probing.{slot_at, ComesTo, IsFull}
+use Rattle.group_index.specs.Probing.{ComesTo, IsFull}
 
 pub if_none : {X P : Type 0} (r : Option X) → P → IfNone r P
 if_none None is = is

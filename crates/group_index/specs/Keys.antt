@@ -1,38 +1,13 @@
--- Keys as they are kept.
-use Rattle.std.specs.Prelude.{◌≡◌, ◌≢◌, ℕ, ℤ, Bool, true, false, ◌-◌, ◌^◌, ◌<◌, ◌+ℤ◌, pos, List, [], ◌∷◌, length, map, get_or}
-use Rattle.meaning.specs.declared.value.Value.{Value}
-use Rattle.meaning.specs.declared.value.Value.TheVariants.{Int}
+-- The keys of an index.
+use Rattle.std.specs.Prelude.{◌≡◌, ◌≢◌, ℕ, Bool, true, false, ◌-◌, ◌^◌, ◌<◌, List, [], ◌∷◌, length, get_or}
 use Rattle.meaning.specs.Order.{Row}
-use Rattle.group_index.specs.Rows.{int_keys}
-use Rattle.group_index.specs.declared.key_list.Held.{Held}
-use Rattle.group_index.specs.declared.key_list.Held.TheVariants as held
 
 -- the empty key, if it has a group in any case
 abbrev pub empty_key : Bool → List Row
 empty_key true = [] ∷ []
 empty_key false = []
 
--- the keys of these values alone
-abbrev pub alone : List Value → List Row
-alone values = map (λ v. v ∷ []) values
-
-abbrev pub rows_in : Held → List Row
-rows_in (held.Ints n) = int_keys n.items
-rows_in (held.Values v) = alone v.items
-rows_in (held.Rows r) = r.items
-
--- each entry of a table that is the group index of a key is that of the integer that is as far above the least as the
--- entry is behind the first
-abbrev pub LeadsTo : ℤ → List ℕ → List Row → Type 0
-LeadsTo least entries keys = (at : ℕ) → at < length entries → get_or entries at 0 ≢ 2 ^ 32 - 1
-    → (get_or entries at 0 < length keys) × (get_or keys (get_or entries at 0) [] ≡ Int (least +ℤ pos at) ∷ [])
-
--- a group index that was found for the k-th integer, unless it is none, is that of its key
-abbrev pub IsReturned : List Row → List ℤ → List ℕ → ℕ → Type 0
-IsReturned keys ints group_indexes k = get_or group_indexes k 0 ≢ 2 ^ 32 - 1
-    → (get_or group_indexes k 0 < length keys) × (get_or keys (get_or group_indexes k 0) [] ≡ Int (get_or ints k (pos 0)) ∷ [])
-
--- the same for the k-th of some keys
+-- a group index that was found for the k-th of some keys, unless it is none, is that of the key
 abbrev pub IsLed : List Row → List Row → List ℕ → ℕ → Type 0
 IsLed keys found group_indexes k = get_or group_indexes k 0 ≢ 2 ^ 32 - 1
     → (get_or group_indexes k 0 < length keys) × (get_or keys (get_or group_indexes k 0) [] ≡ get_or found k [])

@@ -1,15 +1,12 @@
 -- The slots of a hash table that a search looks at.
-use Rattle.std.specs.Prelude.{◌≡◌, ◌≢◌, ℕ, ◌+◌, ◌-◌, ◌/◌, ◌%◌, ◌^◌, ◌<◌, bit_and, List, [], length, get_or}
+use Rattle.std.specs.Prelude.{◌≡◌, ◌≢◌, ℕ, ◌-◌, ◌/◌, ◌%◌, ◌^◌, ◌<◌, List, [], length, get_or}
 use Rattle.meaning.specs.Order.{Row}
+use Rattle.hash_slots.specs.Probing.{slot_at}
 use Rattle.group_index.specs.declared.index.Slot.{Slot}
 
 -- the part of a hash that is held
 abbrev pub tag_in : ℕ → ℕ
 tag_in hash = hash / 2 ^ 32 % 2 ^ 32
-
--- the slot to look at after so many steps
-abbrev pub slot_at : ℕ → ℕ → ℕ → ℕ
-slot_at hash step slots = bit_and ((hash + step) % 2 ^ 64) ((slots + (2 ^ 64 - 1)) % 2 ^ 64)
 
 -- a slot leads to a key of this hash
 pub record Leads (key : Row) (hash : ℕ) (keys : List Row) (s : Slot) : Type 0 where

@@ -7,23 +7,22 @@ ghost use Rattle.std.specs.Prelude.{◌≡◌, ◌≢◌, ℕ, ◌<◌, ◌≤�
 ghost use Rattle.std.specs.Str.{is_utf8};
 ghost use Rattle.meaning.specs.declared.value.Value.TheVariants.{Int, Text};
 ghost use Rattle.vectors.specs.Vector.{values_of};
-ghost use Rattle.group_index.specs.Keys.{IsLed, IsReturned};
+ghost use Rattle.hash_slots.specs.Probing.{slot_at};
+ghost use Rattle.group_keys.specs.Keys.{IsReturned};
+ghost use Rattle.group_keys.specs.Rows.{int_keys, row_at, rows_at, text_keys, AreLanesOf};
 ghost use Rattle.group_index.specs.Found.{AreFound, IsFound};
-ghost use Rattle.group_index.specs.Keys.{empty_key};
+ghost use Rattle.group_index.specs.Keys.{empty_key, IsLed};
 ghost use Rattle.group_index.specs.declared.index.Slot.{Slot as ASlot};
-ghost use Rattle.group_index.specs.Probing.{slot_at, tag_in, ComesTo, IsFull, IsMissed, Leads};
+ghost use Rattle.group_index.specs.Probing.{tag_in, ComesTo, IsFull, IsMissed, Leads};
 ghost use Rattle.group_index.specs.RowGroups.{listed};
-ghost use Rattle.group_index.specs.Rows.{int_keys, row_at, rows_at, text_keys, AreLanesOf};
 
-use crate::close_ints::{NOWHERE, are_known};
-use crate::hashing::{hash_int, hash_row, hash_rows};
-use crate::key_list::KeyList;
-use crate::keys::{copy_key, key_of, key_of_text, only_int, plain_key};
-use crate::plain_texts::plain_text_key;
 use crate::row_groups::{RowGroups, row_groups};
-use crate::selected_ints::selected_key;
 use aggregate_states::position;
-use hash_slots::probe_slots;
+use group_keys::{
+    KeyList, NOWHERE, are_known, copy_key, hash_int, hash_row, hash_rows, key_of, key_of_text,
+    only_int, plain_key, plain_text_key, selected_key,
+};
+use hash_slots::{probe_slots, slot_number};
 use meaning::{Row, Sequence};
 use std::alloc::{AllocError, Global};
 use vectors::{Selection, Vector};
@@ -65,14 +64,6 @@ fn tag_of(hash: u64) -> u32
     ensures { result ≡ tag_in hash }
 {
     (hash >> 32) as u32
-}
-
-/// The slot to look at after so many steps. Linear probing.
-#[inline(always)]
-pub fn slot_number(hash: u64, step: usize, slots: usize) -> usize
-    ensures { result ≡ slot_at hash step slots }
-{
-    (hash as usize).wrapping_add(step) & slots.wrapping_sub(1)
 }
 
 /// Whether the slot's group index is that of the key at a position.

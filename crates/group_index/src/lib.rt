@@ -2,18 +2,9 @@
 //! them.
 #![tactic(auto)]
 
-mod close_ints;
-mod hashing;
 mod index;
-mod key_list;
-mod keys;
-mod plain_texts;
 mod row_groups;
-mod same_bytes;
-mod selected_ints;
 
-pub use hashing::hash_in_group;
-pub use index::{KeyIndex, slot_number};
-pub use key_list::KeyList;
-pub use keys::{are_equal, compare_keys, copy_key, key_of_value};
+pub use group_keys::{KeyList, are_equal, compare_keys, copy_key, key_of_value};
+pub use index::KeyIndex;
 pub use row_groups::RowGroups;

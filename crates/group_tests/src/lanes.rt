@@ -1,6 +1,6 @@
 //! The vectors of a batch.
 ghost use Rattle.std.specs.Prelude.{length, IfOk};
-ghost use Rattle.group_index.specs.Rows.{AreLanesOf};
+ghost use Rattle.group_keys.specs.Rows.{AreLanesOf};
 
 use short_vectors::vector_of;
 use std::alloc::{AllocError, Global};

@@ -1,20 +1,26 @@
 //! What tables hand out, by the order of their keys.
 ghost use Rattle.std.specs.Prelude.{◌≡◌, ◌≤◌, ◌+◌, ◌∷◌, [], length, map, IfOk};
 ghost use Rattle.meaning.specs.declared.plan.AggregateKind.TheVariants.{Sum};
-ghost use Rattle.group_index.specs.Rows.{AreLanesOf};
+ghost use Rattle.group_keys.specs.Rows.{AreLanesOf};
 ghost use Rattle.group_by.specs.Shape.{shape_of};
 ghost use Rattle.group_tests.specs.Tables.{HasTaken};
 
 use crate::lanes::{alike, vectors_of};
 use crate::tables::{shown, sum_by, table_of, with_rows};
 use accumulators::Group;
-use group_by::GroupTable;
+use group_by::{GroupTable, OrderedGroups};
 use meaning::{Plan, Value};
 use short_vectors::{NULL, plain, twice, vector_of};
 use std::alloc::{AllocError, Global};
 use std::mem::drop;
 use std::process::Abort;
 use vectors::Vector;
+
+/// What a table hands out.
+fn shown_out(alloc: Global, table: GroupTable) -> Result<String, AllocError> {
+    let groups = table.into_groups(alloc)?;
+    shown(alloc, groups.as_slice())
+}
 
 /// What the table of these rows hands out.
 fn shown_of(
@@ -28,11 +34,43 @@ fn shown_of(
     requires keys { AreLanesOf (length list.now) keys.now }
 {
     let table = table_of(alloc, plan, keys, list)?;
-    let groups = table.into_groups(alloc)?;
-    shown(alloc, groups.as_slice())
+    shown_out(alloc, table)
 }
 
-/// The same in two batches.
+/// The groups from one place up to another.
+fn shown_batch(
+    alloc: Global,
+    groups: &OrderedGroups<'_>,
+    from: usize,
+    to: usize,
+) -> Result<String, AllocError>
+    requires ordered { from ≤ to }
+    requires within { to ≤ length groups.now }
+{
+    let batch = groups.batch(alloc, from, to, Vec::new(alloc))?;
+    shown(alloc, batch.as_slice())
+}
+
+fn shown_batches(alloc: Global, groups: &OrderedGroups<'_>) -> Result<String, AllocError> {
+    let middle = groups.len() / 2;
+    let mut said = shown_batch(alloc, groups, 0, middle)?;
+    let behind = shown_batch(alloc, groups, middle, groups.len())?;
+    said.push_str(behind.as_str())?;
+    Ok(said)
+}
+
+fn shown_in_order(alloc: Global, table: &GroupTable) -> Result<String, AllocError> {
+    match table.ordered(alloc) {
+        Ok(groups) => {
+            let said = shown_batches(alloc, &groups);
+            drop(groups);
+            said
+        }
+        Err(refused) => Err(refused),
+    }
+}
+
+/// What the table of these rows hands out in two batches.
 fn shown_in_halves(
     alloc: Global,
     plan: &Plan,
@@ -43,14 +81,23 @@ fn shown_in_halves(
     requires few { length list.now ≤ 1000 }
     requires keys { AreLanesOf (length list.now) keys.now }
 {
-    let table = table_of(alloc, plan, keys, list)?;
-    let groups = table.ordered(alloc)?;
-    let middle = groups.len() / 2;
-    let first = groups.batch(alloc, 0, middle, Vec::new(alloc))?;
-    let mut said = shown(alloc, first.as_slice())?;
-    let second = groups.batch(alloc, middle, groups.len(), Vec::new(alloc))?;
-    said.push_str(shown(alloc, second.as_slice())?.as_str())?;
-    Ok(said)
+    match table_of(alloc, plan, keys, list) {
+        Ok(table) => {
+            let said = shown_in_order(alloc, &table);
+            drop(table);
+            said
+        }
+        Err(refused) => Err(refused),
+    }
+}
+
+fn expect_shown(
+    rt: &impl Abort,
+    shown: Result<String, AllocError>,
+    want: &str,
+) -> Result<(), AllocError> {
+    assert_eq!(rt; shown?.as_str(), want);
+    Ok(())
 }
 
 fn expect(
@@ -67,9 +114,8 @@ fn expect(
     let shown = shown_of(alloc, &plan, keys, list);
     let halves = shown_in_halves(alloc, &plan, keys, list);
     drop(plan);
-    assert_eq!(rt; shown?.as_str(), want);
-    assert_eq!(rt; halves?.as_str(), want);
-    Ok(())
+    expect_shown(rt, shown, want)?;
+    expect_shown(rt, halves, want)
 }
 
 /// Keys by columns, each row's argument, and what is handed out.
@@ -168,8 +214,7 @@ fn shown_of_both(
     let table = table_of(alloc, plan, first.keys, first.list)?;
     let arguments = [vector_of(alloc, more.list, more.list.len())?];
     let table = with_rows(alloc, table, more.keys, &arguments, more.list.len())?;
-    let groups = table.into_groups(alloc)?;
-    shown(alloc, groups.as_slice())
+    shown_out(alloc, table)
 }
 
 fn expect_both(
@@ -187,8 +232,7 @@ fn expect_both(
     let plan = sum_by(alloc, 1)?;
     let shown = shown_of_both(alloc, &plan, first, more);
     drop(plan);
-    assert_eq!(rt; shown?.as_str(), want);
-    Ok(())
+    expect_shown(rt, shown, want)
 }
 
 /// Rows by one key.
@@ -316,6 +360,15 @@ const TWO: Rows = (&[2, 9], &[8, NULL]);
 
 const THREE: Rows = (&[NULL, 7, -5, 7], &[16, 32, 64, 128]);
 
+const ORDERS: &[(Rows, Rows, Rows)] = &[
+    (ONE, TWO, THREE),
+    (ONE, THREE, TWO),
+    (TWO, ONE, THREE),
+    (TWO, THREE, ONE),
+    (THREE, ONE, TWO),
+    (THREE, TWO, ONE),
+];
+
 fn table_by(alloc: Global, plan: &Plan, rows: Rows) -> Result<GroupTable, AllocError>
     requires { map (λ a. a.kind) plan.now.aggs ≡ Sum ∷ [] }
     ensures { IfOk result (λ t. HasTaken (shape_of plan.now) t.rows 0 t × (t.rows ≤ 1000)) }
@@ -363,8 +416,7 @@ fn shown_merged(
     let table = table_by(alloc, plan, one)?;
     let table = with_groups_of(alloc, plan, table, two)?;
     let table = with_groups_of(alloc, plan, table, three)?;
-    let groups = table.into_groups(alloc)?;
-    shown(alloc, groups.as_slice())
+    shown_out(alloc, table)
 }
 
 fn expect_merged(
@@ -378,33 +430,50 @@ fn expect_merged(
     let shown = shown_merged(alloc, &plan, one, two, three);
     drop(plan);
     let want = "NULL 2 2 18; -5 1 1 64; 2 2 2 12; 7 3 3 161; 9 1 0 0; ";
-    assert_eq!(rt; shown?.as_str(), want);
-    Ok(())
+    expect_shown(rt, shown, want)
 }
 
 #[test]
 fn three_tables_are_merged_in_every_order(rt: HostRuntime) -> Result<(), AllocError> {
-    let alloc = rt.alloc();
-    expect_merged(&rt, alloc, ONE, TWO, THREE)?;
-    expect_merged(&rt, alloc, ONE, THREE, TWO)?;
-    expect_merged(&rt, alloc, TWO, ONE, THREE)?;
-    expect_merged(&rt, alloc, TWO, THREE, ONE)?;
-    expect_merged(&rt, alloc, THREE, ONE, TWO)?;
-    expect_merged(&rt, alloc, THREE, TWO, ONE)
+    for (one, two, three) in ORDERS {
+        expect_merged(&rt, rt.alloc(), *one, *two, *three)?;
+    }
+    Ok(())
 }
 
-/// What a copy hands out whose table takes groups, before and behind them.
+/// What a table has, which keeps it.
+fn shown_kept(alloc: Global, table: &GroupTable) -> Result<String, AllocError> {
+    let groups = table.groups(alloc)?;
+    shown(alloc, groups.as_slice())
+}
+
+/// What a table has once it has taken groups.
+fn shown_with_groups(alloc: Global, plan: &Plan, table: GroupTable) -> Result<String, AllocError>
+    requires sum { map (λ a. a.kind) plan.now.aggs ≡ Sum ∷ [] }
+    requires shape { table.shape ≡ shape_of plan.now }
+    requires few { table.rows ≤ 1000 }
+    requires handed { table.handed ≡ 0 }
+{
+    match with_groups_of(alloc, plan, table, TWO) {
+        Ok(table) => {
+            let said = shown_kept(alloc, &table);
+            drop(table);
+            said
+        }
+        Err(refused) => Err(refused),
+    }
+}
+
+/// What a copy hands out whose table takes groups, and what the table then has.
 fn shown_copied(alloc: Global, plan: &Plan) -> Result<String, AllocError>
     requires { map (λ a. a.kind) plan.now.aggs ≡ Sum ∷ [] }
 {
     let table = table_by(alloc, plan, ONE)?;
-    let copy = table.copy(alloc)?;
-    let table = with_groups_of(alloc, plan, table, TWO)?;
-    let old = copy.into_groups(alloc)?;
-    let mut said = shown(alloc, old.as_slice())?;
+    let copy = table.copy(alloc);
+    let new = shown_with_groups(alloc, plan, table);
+    let mut said = shown_out(alloc, copy?)?;
     said.push_str("and then ")?;
-    let new = table.groups(alloc)?;
-    said.push_str(shown(alloc, new.as_slice())?.as_str())?;
+    said.push_str(new?.as_str())?;
     Ok(said)
 }
 
@@ -415,8 +484,7 @@ fn a_copy_stays_as_it_is(rt: HostRuntime) -> Result<(), AllocError> {
     let shown = shown_copied(alloc, &plan);
     drop(plan);
     let want = "NULL 1 1 2; 2 1 1 4; 7 1 1 1; and then NULL 1 1 2; 2 2 2 12; 7 1 1 1; 9 1 0 0; ";
-    assert_eq!(rt; shown?.as_str(), want);
-    Ok(())
+    expect_shown(&rt, shown, want)
 }
 
 /// So many integers, each so far above the one before, in another order.

@@ -1,7 +1,7 @@
 //! Tables with a sum for each group, and what they hand out.
 ghost use Rattle.std.specs.Prelude.{◌≡◌, ◌≤◌, ◌+◌, ◌∷◌, [], length, map, IfOk};
 ghost use Rattle.meaning.specs.declared.plan.AggregateKind.TheVariants.{Sum};
-ghost use Rattle.group_index.specs.Rows.{AreLanesOf};
+ghost use Rattle.group_keys.specs.Rows.{AreLanesOf};
 ghost use Rattle.group_by.specs.Shape.{shape_of};
 ghost use Rattle.group_tests.specs.Tables.{HasTaken};
 
@@ -75,16 +75,20 @@ pub fn table_of(
     with_rows(alloc, table, keys, &arguments, list.len())
 }
 
+fn show_group(shown: &mut String, group: &Group) -> Result<(), AllocError> {
+    show_row(shown, group.key())?;
+    write!(shown, "{}", group.rows())?;
+    for state in group.states() {
+        write!(shown, " {} {}", state.count(), state.sum())?;
+    }
+    shown.push_str("; ")
+}
+
 /// Each group's key, row count and sum.
 pub fn shown(alloc: Global, groups: &[Group]) -> Result<String, AllocError> {
     let mut shown = String::new(alloc);
     for group in groups {
-        show_row(&mut shown, group.key())?;
-        write!(shown, "{}", group.rows())?;
-        for state in group.states() {
-            write!(shown, " {} {}", state.count(), state.sum())?;
-        }
-        shown.push_str("; ")?;
+        show_group(&mut shown, group)?;
     }
     Ok(shown)
 }

@@ -1,6 +1,6 @@
 -- Invariants of `update_all` (`columns`).
 use Rattle.group_index.specs.RowGroups.{listed}
-use Rattle.group_index.specs.Rows.{rows_at}
+use Rattle.group_keys.specs.Rows.{rows_at}
 use Rattle.group_by.proofs.Updating.{AreDone}
 use Rattle.group_by.proofs.columns.update_all.Given as goal
 

@@ -5,7 +5,7 @@ use Rattle.meaning.specs.declared.value.Value.TheVariants.{Int}
 use Rattle.meaning.specs.Order.{Row}
 use Rattle.group_by.specs.declared.int_groups.IntGroup.{IntGroup}
 use Rattle.group_by.specs.IntGroups.{AreIndexed}
-use Rattle.group_index.specs.Rows.{int_keys}
+use Rattle.group_keys.specs.Rows.{int_keys}
 use Rattle.group_by.proofs.SortedInts.{one_indexed}
 use Rattle.group_by.proofs.int_groups.int_groups.Goals as goal
 

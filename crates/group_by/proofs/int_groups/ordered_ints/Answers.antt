@@ -3,7 +3,7 @@ use Rattle.std.proofs.Common.{◌≡◌, ℕ, ℤ, rules, length, sym, subst, �
 use Rattle.std.proofs.lemmas.List.{length-map}
 use Rattle.meaning.specs.declared.value.Value.TheVariants.{Int}
 use Rattle.group_by.specs.IntGroups.{AreApart, AreIndexed}
-use Rattle.group_index.specs.Rows.{int_keys}
+use Rattle.group_keys.specs.Rows.{int_keys}
 use Rattle.group_by.proofs.SortedInts.{ordered}
 use Rattle.group_by.proofs.Ascending.{ordered_already}
 use Rattle.group_by.proofs.int_groups.ordered_ints.Goals as goal

@@ -1,6 +1,6 @@
 -- Invariants of `alike` (`lanes`).
 use Rattle.std.proofs.Common.{length}
-use Rattle.group_index.specs.Rows.{AreLanesOf}
+use Rattle.group_keys.specs.Rows.{AreLanesOf}
 use Rattle.group_tests.proofs.lanes.alike.Given as goal
 
 abbrev pub invariant-loop : goal.invariant-loop

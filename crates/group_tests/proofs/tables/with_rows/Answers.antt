@@ -4,7 +4,7 @@ use Rattle.std.proofs.lemmas.List.{length-map}
 use Rattle.std.proofs.lemmas.List.FromFn.{length-range_with_len}
 use Rattle.vectors.specs.Selection.{Positions}
 use Rattle.group_by.specs.Shape.{GroupsSpec}
-use Rattle.group_index.specs.Rows.{row_at}
+use Rattle.group_keys.specs.Rows.{row_at}
 use Rattle.group_tests.proofs.tables.with_rows.Goals as goal
 
 pub add-requires-clause-few : goal.add-requires-clause-few

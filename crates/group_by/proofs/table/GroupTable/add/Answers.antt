@@ -5,8 +5,8 @@ use Rattle.meaning.specs.Order.{Row}
 use Rattle.aggregate_states.specs.State.{most_entries}
 use Rattle.group_by.specs.Shape.{GroupsSpec}
 use Rattle.group_by.specs.Groups.{with_rows}
-use Rattle.group_index.specs.Rows.{rows_at}
-use Rattle.group_index.proofs.Finding.{rows_long}
+use Rattle.group_keys.specs.Rows.{rows_at}
+use Rattle.group_keys.proofs.KeyRows.{rows_long}
 use Rattle.group_by.proofs.Adding.{added_well_formed, table_added, kept_zip}
 use Rattle.group_by.proofs.table.GroupTable.add.Goals as goal
 

@@ -1,7 +1,7 @@
 -- Invariants of `at_first_slots` (`index`).
 use Rattle.std.proofs.Common.{◌≡◌, ◌<◌, ℕ, length}
 use Rattle.group_index.specs.Keys.{IsLed}
-use Rattle.group_index.specs.Rows.{text_keys}
+use Rattle.group_keys.specs.Rows.{text_keys}
 use Rattle.group_index.proofs.index.KeyIndex.at_first_slots.Given as goal
 
 abbrev pub invariant-loop-k : goal.invariant-loop-k

@@ -2,8 +2,9 @@
 use Rattle.std.proofs.Common.{ℕ, ◌+◌, ◌<◌, take, List, length, subst, sym}
 use Rattle.meaning.specs.Order.{Row}
 use Rattle.group_index.specs.Found.{AreFound, IsFound}
-use Rattle.group_index.specs.Rows.{rows_at}
-use Rattle.group_index.proofs.Finding.{found_more, row_of, rows_long}
+use Rattle.group_keys.specs.Rows.{rows_at}
+use Rattle.group_keys.proofs.KeyRows.{row_of, rows_long}
+use Rattle.group_index.proofs.Finding.{found_more}
 use Rattle.group_index.proofs.index.KeyIndex.find_rows.Goals as goal
 
 pub loop-k-preserved : goal.loop-k-preserved

@@ -1,7 +1,7 @@
 -- Invariants of `find_rows` (`index`).
 use Rattle.std.proofs.Common.{take}
 use Rattle.group_index.specs.Found.{AreFound}
-use Rattle.group_index.specs.Rows.{rows_at}
+use Rattle.group_keys.specs.Rows.{rows_at}
 use Rattle.group_index.proofs.index.KeyIndex.find_rows.Given as goal
 
 -- the keys up to the k-th have their group indexes

@@ -1,5 +1,5 @@
 -- Proofs of the goals of `settle_all` (`index`).
-use Rattle.group_index.proofs.CloseInts.{one_settled}
+use Rattle.group_index.proofs.SettledInts.{one_settled}
 use Rattle.group_index.proofs.index.KeyIndex.settle_all.Goals as goal
 
 pub loop-k-preserved : goal.loop-k-preserved

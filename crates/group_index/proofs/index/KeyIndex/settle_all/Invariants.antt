@@ -1,5 +1,5 @@
 -- Invariants of `settle_all` (`index`).
-use Rattle.group_index.proofs.CloseInts.{AreSettled}
+use Rattle.group_index.proofs.SettledInts.{AreSettled}
 use Rattle.group_index.proofs.index.KeyIndex.settle_all.Given as goal
 
 -- the integers up to the k-th have their group indexes

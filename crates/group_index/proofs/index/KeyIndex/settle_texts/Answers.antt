@@ -1,7 +1,8 @@
 -- Proofs of the goals of `settle_texts` (`index`).
 use Rattle.std.proofs.Common.{ℕ, ◌<◌, sym, subst}
-use Rattle.group_index.specs.Rows.{text_keys}
-use Rattle.group_index.proofs.Texts.{one_led, text_keys_long}
+use Rattle.group_keys.specs.Rows.{text_keys}
+use Rattle.group_keys.proofs.Texts.{text_keys_long}
+use Rattle.group_index.proofs.LedKeys.{one_led}
 use Rattle.group_index.proofs.index.KeyIndex.settle_texts.Goals as goal
 
 pub loop-k-preserved : goal.loop-k-preserved

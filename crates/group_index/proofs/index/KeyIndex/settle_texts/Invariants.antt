@@ -1,6 +1,6 @@
 -- Invariants of `settle_texts` (`index`).
-use Rattle.group_index.specs.Rows.{text_keys}
-use Rattle.group_index.proofs.Texts.{AreLed}
+use Rattle.group_keys.specs.Rows.{text_keys}
+use Rattle.group_index.proofs.LedKeys.{AreLed}
 use Rattle.group_index.proofs.index.KeyIndex.settle_texts.Given as goal
 
 -- the texts up to the k-th have their group indexes

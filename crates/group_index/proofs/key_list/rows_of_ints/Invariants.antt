@@ -1,7 +1,0 @@
--- Invariants of `rows_of_ints` (`key_list`).
-use Rattle.std.proofs.Common.{◌≡◌, take}
-use Rattle.group_index.specs.Rows.{int_keys}
-use Rattle.group_index.proofs.key_list.rows_of_ints.Given as goal
-
-abbrev pub invariant-loop-int : goal.invariant-loop-int
-invariant-loop-int l = l.rows.items ≡ int_keys (take l.int-index l.ints)

@@ -1,0 +1,6 @@
+pub mod KeyRows
+pub mod CloseInts
+pub mod Texts
+pub mod Ends
+pub mod SelectedInts
+pub mod IntKeys

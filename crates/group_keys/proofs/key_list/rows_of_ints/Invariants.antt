@@ -1,0 +1,7 @@
+-- Invariants of `rows_of_ints` (`key_list`).
+use Rattle.std.proofs.Common.{◌≡◌, take}
+use Rattle.group_keys.specs.Rows.{int_keys}
+use Rattle.group_keys.proofs.key_list.rows_of_ints.Given as goal
+
+abbrev pub invariant-loop-int : goal.invariant-loop-int
+invariant-loop-int l = l.rows.items ≡ int_keys (take l.int-index l.ints)

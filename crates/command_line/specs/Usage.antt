@@ -1,7 +1,8 @@
 -- Why words are no command, and how the program then ends.
-use Rattle.std.specs.Prelude.{ℕ}
+use Rattle.std.specs.Prelude.{◌≢◌, ℕ}
 use Rattle.std.specs.declared.io.ErrorKind as io
 use Rattle.std.specs.declared.io.ErrorKind.TheVariants as kind
+use Rattle.clap.specs.Words.{kind_of}
 use Rattle.clap.specs.declared.error.Error.{Error}
 use Rattle.clap.specs.declared.error.kind.ErrorKind.{ErrorKind}
 use Rattle.clap.specs.declared.error.kind.ErrorKind.TheVariants.{OutOfMemory}
@@ -23,3 +24,9 @@ abbrev pub status_of : UsageFault → ℕ
 status_of Memory = 1
 status_of Encoding = 2
 status_of (Words e) = 2
+
+-- clap's text, unless memory ran out; of words that are texts no other is said
+abbrev pub IsUsage : UsageFault → Type 0
+IsUsage Memory = Unit {0}
+IsUsage Encoding = ⊥
+IsUsage (Words e) = kind_of e ≢ OutOfMemory

@@ -1,8 +1,9 @@
 //! The command that words say.
-ghost use Rattle.std.specs.Prelude.{◌≡◌, IfOk, IfSome, codes, map, option_map};
+ghost use Rattle.std.specs.Prelude.{◌≡◌, IfErr, IfOk, IfSome, codes, map, option_map};
 ghost use Rattle.command_line.specs.Command.{IsInRange};
 ghost use Rattle.command_line.specs.Said.{IsMadeOf, IsOf, IsReadOff, IsSaid, TakesWords};
 ghost use Rattle.command_line.specs.Steps.{flags_of, given_of, plain_of};
+ghost use Rattle.command_line.specs.Usage.{IsUsage};
 
 use crate::commands::{Command, GatherCommand, WorkCommand};
 use crate::parser::parser;
@@ -20,6 +21,7 @@ pub fn command(alloc: Global, words: &[&str]) -> Result<Command, UsageFault>
     ensures said { IfOk result (IsSaid (map (λ w. w.now) words.now)) }
     ensures range { IfOk result IsInRange }
     ensures taken { TakesWords (map (λ w. w.now) words.now) result }
+    ensures worded { IfErr result IsUsage }
 {
     match said(alloc, words)? {
         Some(command) => Ok(command),
@@ -28,14 +30,18 @@ pub fn command(alloc: Global, words: &[&str]) -> Result<Command, UsageFault>
 }
 
 // Why the words ask for no command.
-fn refusal(alloc: Global, words: &[&str]) -> Result<UsageFault, AllocError> {
+fn refusal(alloc: Global, words: &[&str]) -> Result<UsageFault, AllocError>
+    ensures { IfOk result IsUsage }
+{
     let mut parser = parser(alloc)?;
     let refusal = refusal_by(&mut parser, words);
     drop(parser);
     Ok(refusal)
 }
 
-fn refusal_by<'a>(parser: &mut clap::Command<'a>, words: &'a [&'a str]) -> UsageFault {
+fn refusal_by<'a>(parser: &mut clap::Command<'a>, words: &'a [&'a str]) -> UsageFault
+    ensures { IsUsage result }
+{
     match parser.try_get_matches_from_mut(words) {
         Ok(matches) => {
             drop(matches);
@@ -46,7 +52,9 @@ fn refusal_by<'a>(parser: &mut clap::Command<'a>, words: &'a [&'a str]) -> Usage
 }
 
 // A number with a sign, which clap takes.
-fn signed_number(parser: &mut clap::Command<'_>) -> UsageFault {
+fn signed_number(parser: &mut clap::Command<'_>) -> UsageFault
+    ensures { IsUsage result }
+{
     match parser.error(ErrorKind::ValueValidation, "a number is digits alone") {
         Ok(error) => UsageFault::from(error),
         Err(AllocError) => UsageFault::Memory,

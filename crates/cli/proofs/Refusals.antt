@@ -15,14 +15,14 @@ use Rattle.coordinator.specs.declared.fault.WholeFault.{WholeFault}
 use Rattle.coordinator.specs.declared.fault.WholeFault.TheVariants as whole_fault
 use Rattle.folders.specs.Each.{AreEach}
 use Rattle.folders.specs.Folder.{Change, Holds, csv_path}
-use Rattle.folders.specs.Refused.{IsReturnedAs, IsUnread, load_refusal}
+use Rattle.folders.specs.Refused.{IsReturnedAs, IsTriedFor, IsUnread, load_refusal}
 use Rattle.cli.specs.WholeRefusal.{refusal_of}
 use Rattle.folders.specs.declared.refusal.Refusal.{Refusal}
 use Rattle.folders.specs.declared.refusal.Refusal.TheVariants as refusal
 use Rattle.jobs.specs.Job.{IsQueryRefused as IsUnplanned}
 use Rattle.jobs.specs.Working.{IsWorkRefused, IsWorkUnread}
 use Rattle.command_line.specs.declared.commands.WorkCommand.{WorkCommand}
-use Rattle.cli.specs.Refusing.{IsInputRefused, IsRefusedSo, IsUnreadFirst, IsWholeRefused}
+use Rattle.cli.specs.Refusing.{IsInputRefused, IsRefusedSo, IsUnreadFirst, IsUnwrittenTried, IsWholeRefused}
 use Rattle.loads.specs.Refusing.{IsLoadLeft, IsLoadRefused, IsQuiet}
 use Rattle.cli.specs.Running.{files_of, input_over}
 use Rattle.command_line.specs.declared.commands.Command.{Command}
@@ -82,6 +82,16 @@ whole_refused holds command folder lent query text rows vector (Err e) before af
 -- ---- the first file that can't be read
 
 -- `load` and `whole` say nothing of it
+pub load_tried : (tries : List ℕ → Type 0) (command : Command) (folder : List ℕ) (load rows : ℕ) (e : Refusal) → command ≡ Load folder load rows → IsUnwrittenTried tries command e
+load_tried tries command folder load rows e is = subst (λ (x : Command). IsUnwrittenTried tries x e) (sym is) tt
+
+pub whole_tried : (tries : List ℕ → Type 0) (command : Command) (folder query : List ℕ) (rows vector : ℕ) (result : Result ℕ Refusal) → command ≡ Whole folder query rows vector → IfErr result (IsUnwrittenTried tries command)
+whole_tried tries command folder query rows vector (Ok status) is = tt
+whole_tried tries command folder query rows vector (Err e) is = subst (λ (x : Command). IsUnwrittenTried tries x e) (sym is) tt
+
+pub work_tried : (tries : List ℕ → Type 0) (command : Command) (asked : WorkCommand) (e : Refusal) → command ≡ Work asked → IsTriedFor tries e → IsUnwrittenTried tries command e
+work_tried tries command asked e is tried = subst (λ (x : Command). IsUnwrittenTried tries x e) (sym is) tried
+
 pub load_first : (holds : Holds) (opens : List ℕ → Type 0) (command : Command) (folder : List ℕ) (load rows : ℕ) (e : Refusal) → command ≡ Load folder load rows → IsUnreadFirst holds opens command e
 load_first holds opens command folder load rows e is = subst (λ (x : Command). IsUnreadFirst holds opens x e) (sym is) tt
 

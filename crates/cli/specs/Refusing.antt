@@ -15,7 +15,7 @@ use Rattle.coordinator.specs.Whole.{Input, IsRefused}
 use Rattle.coordinator.specs.declared.fault.WholeFault.{WholeFault}
 use Rattle.folders.specs.Each.{AreEach}
 use Rattle.folders.specs.Folder.{Change, Holds, AreHeld, Writes, catalog_path, csv_path, cut_path, dimension_path, fragment_path}
-use Rattle.folders.specs.Refused.{IsUnread, IsUnwritten}
+use Rattle.folders.specs.Refused.{IsTriedFor, IsUnread, IsUnwritten}
 use Rattle.cli.specs.WholeRefusal.{refusal_of}
 use Rattle.folders.specs.declared.refusal.Refusal.{Refusal}
 use Rattle.folders.specs.declared.refusal.Refusal.TheVariants as refusal
@@ -97,6 +97,12 @@ abbrev pub IsUnreadFirst : Holds → (List ℕ → Type 0) → Command → Refus
 IsUnreadFirst holds opens (Work command) e = IsWorkUnread holds opens command e
 IsUnreadFirst holds opens (Gather command) e = IsGatherUnread opens command e
 IsUnreadFirst holds opens _ e = ⊤
+
+-- a file that `work` or `gather` can't write was to be created
+abbrev pub IsUnwrittenTried : (List ℕ → Type 0) → Command → Refusal → Type 0
+IsUnwrittenTried tries (Work command) e = IsTriedFor tries e
+IsUnwrittenTried tries (Gather command) e = IsTriedFor tries e
+IsUnwrittenTried tries _ e = ⊤
 
 -- ---- what a refusal leaves
 

@@ -3,16 +3,17 @@ ghost use Rattle.std.specs.Prelude.{◌≡◌, ◌≢◌, ◌≤◌, ℕ, List, 
 ghost use Rattle.meaning.specs.Catalog.{IsWellFormed};
 ghost use Rattle.catalog_reader.specs.CatalogText.{catalog_of};
 ghost use Rattle.meaning.specs.SoundPlan.{IsSoundPlan};
+ghost use Rattle.planner.specs.DeclaredPlans.{IsDeclared};
 ghost use Rattle.planner.specs.QueryText.{IsPlanned};
 ghost use Rattle.gathering.specs.Gathering.{GatherSpec};
 ghost use Rattle.coordinator.specs.Whole.{IsAnswered};
 ghost use Rattle.command_line.specs.Command.{IsInRange};
-ghost use Rattle.cli.specs.Refusing.{IsInputRefused, IsQueryRefused, IsRefusedOver, IsRefusedSo, IsSilent, IsUnreadFirst, IsUnreadOfPlan, IsWholeRefused};
+ghost use Rattle.cli.specs.Refusing.{IsInputRefused, IsQueryRefused, IsRefusedOver, IsRefusedSo, IsSilent, IsUnreadFirst, IsUnreadOfPlan, IsUnwrittenTried, IsWholeRefused};
 ghost use Rattle.loads.specs.Refusing.{IsQuiet};
 ghost use Rattle.cli.specs.Running.{AreTables, IsAnsweredSo, IsWholeDone, IsCommandDone, IsReportedAs, input_over};
 ghost use Rattle.cli.specs.Status.{IsEndStatus, IsRunStatus, end_status, report_status};
 ghost use Rattle.folders.specs.Folder.{csv_path};
-ghost use Rattle.folders.specs.Refused.{IsAskedFor};
+ghost use Rattle.folders.specs.Refused.{IsAskedFor, IsTriedFor};
 ghost use Rattle.folders.specs.declared.refusal.Refusal.{Refusal as ARefusal};
 ghost use Rattle.jobs.specs.Gathering.{IsGatherLeft, IsGatherRefused, IsGatherUnread};
 ghost use Rattle.jobs.specs.Working.{IsWorked, IsWorkRefused, IsWorkUnread};
@@ -62,6 +63,7 @@ fn answer_over<O: Write>(
 ) -> Result<Ended, Refusal>
     requires catalog { IsWellFormed question.now.catalog.now }
     requires plan { IsSoundPlan plan }
+    requires declared { IsDeclared question.now.catalog.now plan }
     ensures answered { IfOk result (λ ended. (text : List ℕ)
         → catalog_of text ≡ Ok question.now.catalog.now
         → IsPlanned question.now.catalog.now question.now.query.now (Ok plan)
@@ -112,6 +114,7 @@ fn answer_planned<F: Folder, O: Write>(
 ) -> Result<Ended, Refusal>
     requires catalog { IsWellFormed question.now.catalog.now }
     requires plan { IsSoundPlan plan }
+    requires declared { IsDeclared question.now.catalog.now plan }
     requires fact { AreTables (F.holds folder.now) question.now.directory.now
         question.now.catalog.now.fact.name question.now.rows fact }
     requires asked { F.asks folder.now
@@ -232,6 +235,7 @@ fn gather<F: Folder, O: Write, E: Write>(
         (IsGatherLeft (F.holds folder.old) command.now (E.contents err.old) (F.wrote folder.old)
         (F.wrote folder.new)) }
     ensures unread { IfErr result (IsAskedFor (F.asks folder.old)) }
+    ensures unwritten { IfErr result (IsTriedFor (F.tries folder.old)) }
 {
     let report = gather_answers(alloc, folder, command, out, err)?;
     Ok(status_of_report(&report))
@@ -245,6 +249,7 @@ fn work<F: Folder>(alloc: Global, folder: &mut F, command: &WorkCommand) -> Resu
         (IsWorkUnread (F.holds folder.old) (F.opens folder.old) command.now) }
     ensures left { OnErr result (F.wrote folder.new ≡ F.wrote folder.old) }
     ensures unread { IfErr result (IsAskedFor (F.asks folder.old)) }
+    ensures unwritten { IfErr result (IsTriedFor (F.tries folder.old)) }
 {
     answer_fragment(alloc, folder, command)
 }
@@ -280,6 +285,8 @@ pub fn outcome<F: Folder, O: Write, E: Write>(
     ensures silent { OnErr result (IsSilent command.now (E.contents err.old) (E.contents err.new)) }
     // A file that can't be read was asked for.
     ensures unread { IfErr result (IsAskedFor (F.asks folder.old)) }
+    // An answer or a state that can't be written was to be created.
+    ensures unwritten { IfErr result (IsUnwrittenTried (F.tries folder.old) command.now) }
 {
     match command {
         Command::Whole {
@@ -331,7 +338,8 @@ pub fn run<F: Folder, O: Write, E: Write>(
         × IsRefusedSo (F.holds folder.old) command.now (O.contents out.old) (O.contents out.new)
         (E.contents err.old) (F.wrote folder.old) (F.wrote folder.new) e
         × IsUnreadFirst (F.holds folder.old) (F.opens folder.old) command.now e
-        × IsAskedFor (F.asks folder.old) e }
+        × IsAskedFor (F.asks folder.old) e
+        × IsUnwrittenTried (F.tries folder.old) command.now e }
 {
     match outcome(alloc, command, folder, out, err) {
         Ok(status) => status,

@@ -10,3 +10,4 @@ pub mod TableFiles
 pub mod Returned
 pub mod Runs
 pub mod Ends
+pub mod AcceptedFiles

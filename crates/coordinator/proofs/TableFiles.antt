@@ -8,20 +8,24 @@ use Rattle.meaning.specs.declared.catalog.Dimension.{Dimension}
 use Rattle.meaning.specs.declared.catalog.Table.{Table}
 use Rattle.meaning.specs.declared.table.TableFault.{TableFault}
 use Rattle.meaning.specs.Catalog.{IsWellFormedTable}
+use Rattle.meaning.specs.Dimensions.{IsUniqueIn}
 use Rattle.meaning.specs.Limits.{max_rows}
 use Rattle.meaning.specs.Order.{Row, column}
 use Rattle.meaning.specs.Records.{dimension_of}
 use Rattle.meaning.specs.Results.{and_then}
-use Rattle.meaning_laws.proofs.LoadedTables.{rows_typed}
+use Rattle.meaning_laws.proofs.LoadedTables.{keys_unique, rows_typed}
 use Rattle.columns.specs.Column.{ColumnSpec}
+use Rattle.fragment_file.specs.Fragment.{Stands, table_header}
 use Rattle.fragment_file.specs.Writing.{AreColumns}
+use Rattle.fragment_file.proofs.FileLaws.{file_again}
 use Rattle.columns.specs.Rows.{column_of, columns_of}
 use Rattle.loader.specs.Columns.{dimension_columns}
 use Rattle.loader.specs.Source.{csv_records}
 use Rattle.coordinator.specs.declared.table_files.Rows.{Rows}
 use Rattle.coordinator.specs.declared.fault.WholeFault.TheVariants as fault
 use Rattle.job_files.specs.RowFiles.{AreFilesOfTables, IsFileOfRows}
-use Rattle.coordinator.specs.Fragment.{AreAllRows, IsFileable}
+use Rattle.job_files.proofs.RowFiles.{file_of_columns, read_rows}
+use Rattle.coordinator.specs.Fragment.{AreAllRows, IsFileable, IsTableFile}
 use Rattle.coordinator.specs.Whole.{dimension_table, table_from}
 use Rattle.coordinator.proofs.CountedRows.{counted_dimension, went_on}
 use Rattle.coordinator.proofs.FragmentColumns.{columns_from}
@@ -58,9 +62,24 @@ all_fileable rows all n are counted is = record {
       (subst (λ m. AreColumns rows.table.now.columns m (columns_of rows.table.now.columns all)) (sym (is ∙ counted)) (columns_from all 0 rows.table.now.columns));
 }
 
+-- what is written of all rows is the table's file
+pub table_stands : (table : Table) (rows : List Row) (columns : List ColumnSpec) (n : ℕ) (bytes : List ℕ) → AreAllRows table rows columns → n ≡ length rows
+    → Stands bytes (table_header 0 table (record { fragment = 0; first_row = 0; rows = n })) columns → IsTableFile table rows bytes
+table_stands table rows columns n bytes are counted stands =
+    let header = λ (m : ℕ). table_header 0 table (record { fragment = 0; first_row = 0; rows = m }) in
+    let f = stands.file in
+    let header_is = stands.header_is ∙ ap header counted in
+    let held = file_of_columns bytes (header n) columns rows stands are.columns_are (sym counted) are.typed in
+    record {
+      file = f;
+      spelled = stands.spelled;
+      header_is = header_is;
+      rows_are = read_rows rows bytes f held (file_again bytes f stands.spelled);
+    }
+
 -- what a table's file holds, loaded from a CSV file
 pub all_rows_of_dimension : (d : Dimension) (csv : List ℕ) (columns : List ColumnSpec) → IsWellFormedTable d.table → dimension_columns d (csv_records csv) ≡ Ok columns
-    → (rows : List Row) × (dimension_table d csv ≡ Ok rows) × AreAllRows d.table rows columns
+    → (rows : List Row) × (dimension_table d csv ≡ Ok rows) × AreAllRows d.table rows columns × IsUniqueIn d.key rows
 all_rows_of_dimension d csv columns well made =
     let (rows, loaded, gives) = went_on (dimension_of d (csv_records csv)) (λ rows. Ok (columns_of d.table.columns rows)) columns made in
     let same : columns_of d.table.columns rows ≡ columns = cc gives in (
@@ -72,6 +91,7 @@ all_rows_of_dimension d csv columns well made =
         few = counted_dimension d (csv_records csv) rows loaded;
         typed = rows_typed d.table (Some d.key) 0 max_rows (csv_records csv) rows well loaded;
       },
+      keys_unique d.table.columns d.key 0 max_rows (csv_records csv) rows loaded,
     )
 
 -- why a dimension isn't loaded

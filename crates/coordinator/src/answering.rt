@@ -1,5 +1,5 @@
 //! A whole query in memory, from CSV files to what is printed.
-ghost use Rattle.std.specs.Prelude.{◌≡◌, ◌⊎◌, ℕ, List, IfOk, IfErr, OnOk, Ok};
+ghost use Rattle.std.specs.Prelude.{◌≡◌, ◌⊎◌, ℕ, true, List, IfOk, IfErr, OnOk, Ok};
 ghost use Rattle.std.specs.Io.KnownBytes.{Appends};
 ghost use Rattle.meaning.specs.Output.{Output};
 ghost use Rattle.meaning.specs.Gather.{report, output};
@@ -7,10 +7,12 @@ ghost use Rattle.meaning.specs.Print.{report_text};
 ghost use Rattle.catalog_reader.specs.CatalogText.{catalog_of};
 ghost use Rattle.meaning.specs.Catalog.{IsWellFormed, IsWellFormedTable};
 ghost use Rattle.meaning.specs.SoundPlan.{IsSoundPlan};
+ghost use Rattle.meaning.specs.VectorLength.{is_vector_length};
 ghost use Rattle.meaning.specs.Order.{Row};
 ghost use Rattle.gathering.specs.Report.{ended_as};
 ghost use Rattle.job_files.specs.RowFiles.{AreFilesOfTables};
-ghost use Rattle.coordinator.specs.Fragment.{AreFragments};
+ghost use Rattle.coordinator.specs.Fragment.{AreFragments, IsFactOf, Opens, job_of};
+ghost use Rattle.planner.specs.DeclaredPlans.{IsDeclared};
 ghost use Rattle.planner.specs.QueryText.{IsPlanned};
 ghost use Rattle.coordinator.specs.Whole.{IsAnswered, IsAnsweredOver, IsRefused, IsEndRefusal, ended_in, input_of, whole_input};
 
@@ -95,7 +97,10 @@ fn answer_run<W: Write>(
     out: &mut W,
 ) -> Result<(Ended, Gather), WholeFault>
     requires plan { IsSoundPlan run.plan }
-    requires fact { IsWellFormedTable fact.now }
+    requires dims { Opens (job_of run.plan sources.cut.now) run.tables.dims.items }
+    requires table { IsWellFormedTable fact.now }
+    requires fact { IsFactOf run.plan fact.now }
+    requires vectors { is_vector_length sources.vector_len ≡ true }
     requires fragments { (rows : List Row)
         × AreFragments fact.now rows sources.cut.now run.tables.fragments.items }
     ensures answered { IfOk result (λ r. (rows : List Row) (dims : List (List Row))
@@ -129,6 +134,7 @@ pub fn answer_plan<W: Write>(
 ) -> Result<(Ended, Gather), WholeFault>
     requires catalog { IsWellFormed catalog.now }
     requires plan { IsSoundPlan plan }
+    requires declared { IsDeclared catalog.now plan }
     // Whichever bytes declare the catalogue and whichever text has the plan: what is printed is the
     // query's meaning.
     ensures answered { IfOk result (λ r. (bytes query : List ℕ) → catalog_of bytes ≡ Ok catalog.now

@@ -1,5 +1,5 @@
 //! The answers of all fragments of a plan's tables, gathered.
-ghost use Rattle.std.specs.Prelude.{◌≡◌, ◌<◌, ◌≤◌, [], ◌∷◌, ◌++◌, ℕ, List, length, map, slice_index, IfOk, IfErr, OnOk};
+ghost use Rattle.std.specs.Prelude.{◌≡◌, ◌<◌, ◌≤◌, [], ◌∷◌, ◌++◌, ℕ, true, List, length, map, slice_index, Ok, None, IfOk, IfErr, OnOk};
 ghost use Rattle.std.specs.List.{range_with_len};
 ghost use Rattle.meaning.specs.Limits.{max_rows};
 ghost use Rattle.meaning.specs.Said.{Answer as AnAnswer};
@@ -10,10 +10,14 @@ ghost use Rattle.meaning.specs.Cut.{IsCut};
 ghost use Rattle.meaning.specs.Catalog.{IsWellFormedTable};
 ghost use Rattle.meaning.specs.SoundPlan.{IsSoundPlan};
 ghost use Rattle.meaning.specs.Order.{Row};
+ghost use Rattle.meaning.specs.VectorLength.{is_vector_length};
+ghost use Rattle.fragment_file.specs.Fragment.{table_header};
 ghost use Rattle.partial_codec.specs.Answer.{Spells};
+ghost use Rattle.job_files.specs.Dimensions.{files_of};
+ghost use Rattle.job_files.specs.Inputs.{dimension_files_of, header_fault};
 ghost use Rattle.job_files.specs.RowFiles.{AreFilesOfTables};
 ghost use Rattle.worker.specs.Opened.{AreOpenedFor, AreOver};
-ghost use Rattle.coordinator.specs.Fragment.{AreFragments, AreRowsOfJob, IsFileable};
+ghost use Rattle.coordinator.specs.Fragment.{AreFragments, AreRowsOfJob, IsFactOf, IsFileable, Opens, job_of};
 ghost use Rattle.coordinator.specs.Whole.{HoldsOwnAnswers};
 
 use crate::fault::WholeFault;
@@ -23,7 +27,7 @@ use crate::tables::Tables;
 use columns::Column;
 use fragment_file::Slice;
 use gathering::{Gather, GatherFault};
-use job_files::lend_files;
+use job_files::{WorkFault, lend_files};
 use meaning::{Cut, Plan, Sequence, Table};
 use partial_codec::{Job, encode};
 use std::alloc::{AllocError, Global};
@@ -35,8 +39,21 @@ fn copy_cut(alloc: Global, cut: &Cut) -> Result<Cut, WholeFault>
     ensures refused { IfErr result (λ e. e ≡ WholeFault.Memory) }
 {
     let lengths = Vec::from_slice(alloc, cut.lengths())?;
-    // The lengths of a cut are a cut, so this is not refused.
-    Cut::new(lengths).map_err(|_| WholeFault::Memory)
+    match Cut::new(lengths) {
+        Ok(copy) => Ok(copy),
+        // The lengths of a cut are a cut.
+        Err(_) => unreachable!(),
+    }
+}
+
+/// Want of memory, where nothing else is wrong.
+fn want_of_memory(fault: &WorkFault) -> AllocError
+    requires { fault.now ≡ WorkFault.Memory }
+{
+    match fault {
+        WorkFault::Memory => AllocError,
+        _ => unreachable!(),
+    }
 }
 
 /// The rows' answer, which is a fragment's own, spelled for the job.
@@ -49,7 +66,12 @@ fn answer_bytes(
 ) -> Result<Vec<u8>, AllocError>
     requires plan { IsSoundPlan job.now.plan }
     requires rows { IsFileable rows }
+    requires named { header_fault job.now rows.slice.fragment
+        (table_header 0 rows.table.now rows.slice) ≡ None }
     requires dimensions { AreOpenedFor job.now.plan dimensions.now }
+    requires opened { (files : List (List ℕ))
+        × (dimension_files_of job.now files ≡ Ok (files_of dimensions.now.tables.items)) }
+    requires vectors { is_vector_length vector_len ≡ true }
     ensures spells { IfOk result (λ bytes. (a : AnAnswer) × Spells job.now bytes.items a) }
     ensures own { IfOk result (λ bytes. (all : List Row) (tables : List (List Row))
         → AreRowsOfJob job.now rows.entry all → AreOver job.now tables dimensions.now
@@ -66,8 +88,8 @@ fn answer_bytes(
         vector_len,
     ) {
         Ok(answer) => encode(alloc, job, &answer),
-        // The files are those that the job names, so memory was wanting.
-        Err(_) => Err(AllocError),
+        // The files are those that the job names.
+        Err(fault) => Err(want_of_memory(&fault)),
     }
 }
 
@@ -81,7 +103,12 @@ fn answer_one(
 ) -> Result<(), WholeFault>
     requires plan { IsSoundPlan gather.now.job.plan }
     requires rows { IsFileable rows }
+    requires named { header_fault gather.now.job rows.slice.fragment
+        (table_header 0 rows.table.now rows.slice) ≡ None }
     requires dimensions { AreOpenedFor gather.now.job.plan dimensions.now }
+    requires opened { (files : List (List ℕ))
+        × (dimension_files_of gather.now.job files ≡ Ok (files_of dimensions.now.tables.items)) }
+    requires vectors { is_vector_length vector_len ≡ true }
     ensures same { OnOk result (gather.new.job ≡ gather.old.job) }
     ensures taken { OnOk result
         ((answers : List AnAnswer) (all : List Row) (tables : List (List Row))
@@ -123,8 +150,13 @@ fn answer_fragments(
     dimensions: &Dimensions<'_>,
 ) -> Result<(), WholeFault>
     requires dimensions { AreOpenedFor gather.now.job.plan dimensions.now }
+    requires opened { (files : List (List ℕ))
+        × (dimension_files_of gather.now.job files ≡ Ok (files_of dimensions.now.tables.items)) }
     requires plan { IsSoundPlan gather.now.job.plan }
+    requires load { gather.now.job.load ≡ 0 }
     requires table { IsWellFormedTable facts.table.now }
+    requires fact { IsFactOf gather.now.job.plan facts.table.now }
+    requires vectors { is_vector_length facts.vector_len ≡ true }
     requires cut { gather.now.job.cut ≡ facts.cut.now }
     requires fragments { (rows : List Row)
         × AreFragments facts.table.now rows facts.cut.now facts.fragments.now }
@@ -159,7 +191,7 @@ fn answer_fragments(
 /// A coordinator that has taken no answer.
 fn start(alloc: Global, plan: Plan, cut: &Cut) -> Result<Gather, WholeFault>
     requires plan { IsSoundPlan plan }
-    ensures job { IfOk result (λ g. g.job ≡ record { load = 0; plan = plan; cut = cut.now }) }
+    ensures job { IfOk result (λ g. g.job ≡ job_of plan cut.now) }
     ensures cells { IfOk result (λ g. g.cells ≡ joined cut.now []) }
     ensures refused { IfErr result (λ e. e ≡ WholeFault.Memory) }
 {
@@ -180,7 +212,11 @@ fn answer_over(
     dims: &[&[u8]],
 ) -> Result<(), WholeFault>
     requires plan { IsSoundPlan gather.now.job.plan }
+    requires load { gather.now.job.load ≡ 0 }
+    requires dims { Opens gather.now.job (map (λ d. d.now) dims.now) }
     requires table { IsWellFormedTable facts.table.now }
+    requires fact { IsFactOf gather.now.job.plan facts.table.now }
+    requires vectors { is_vector_length facts.vector_len ≡ true }
     requires cut { gather.now.job.cut ≡ facts.cut.now }
     requires fragments { (rows : List Row)
         × AreFragments facts.table.now rows facts.cut.now facts.fragments.now }
@@ -200,8 +236,8 @@ fn answer_over(
             drop(dimensions);
             answered
         }
-        // The files are those that the job names, so memory was wanting.
-        Err(_) => Err(WholeFault::Memory),
+        // The files are those that the job names.
+        Err(fault) => Err(WholeFault::from(want_of_memory(&fault))),
     }
 }
 
@@ -213,7 +249,10 @@ fn answer_all(
     dims: &[&[u8]],
 ) -> Result<Gather, WholeFault>
     requires plan { IsSoundPlan plan }
+    requires dims { Opens (job_of plan facts.cut.now) (map (λ d. d.now) dims.now) }
     requires table { IsWellFormedTable facts.table.now }
+    requires fact { IsFactOf plan facts.table.now }
+    requires vectors { is_vector_length facts.vector_len ≡ true }
     requires fragments { (rows : List Row)
         × AreFragments facts.table.now rows facts.cut.now facts.fragments.now }
     ensures state { IfOk result (λ g. (rows : List Row) (tables : List (List Row))
@@ -241,7 +280,10 @@ pub fn answer_tables(
     sources: Sources<'_>,
 ) -> Result<Gather, WholeFault>
     requires plan { IsSoundPlan plan }
-    requires fact { IsWellFormedTable fact.now }
+    requires dims { Opens (job_of plan sources.cut.now) tables.now.dims.items }
+    requires table { IsWellFormedTable fact.now }
+    requires fact { IsFactOf plan fact.now }
+    requires vectors { is_vector_length sources.vector_len ≡ true }
     requires fragments { (rows : List Row)
         × AreFragments fact.now rows sources.cut.now tables.now.fragments.items }
     ensures state { IfOk result (λ g. (rows : List Row) (dims : List (List Row))

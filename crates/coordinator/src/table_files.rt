@@ -1,5 +1,6 @@
 //! Tables as files in memory, as a worker takes them.
-ghost use Rattle.std.specs.Prelude.{◌≡◌, ◌≢◌, ◌<◌, ℕ, List, Some, length, map, slice_get, option_copied, Ok, IfOk, IfErr};
+ghost use Rattle.std.specs.Prelude.{◌≡◌, ◌≢◌, ◌<◌, ℕ, List, Some, length, map, slice_get, option_copied, All, Ok, IfOk, IfErr};
+ghost use Rattle.std.specs.List.{AllZip};
 ghost use Rattle.meaning.specs.Catalog.{IsWellFormed, IsWellFormedTable};
 ghost use Rattle.meaning.specs.Order.{Row};
 ghost use Rattle.meaning.specs.Results.{all_ok};
@@ -7,7 +8,8 @@ ghost use Rattle.columns.specs.Column.{ColumnSpec};
 ghost use Rattle.loader.specs.Columns.{dimension_named};
 ghost use Rattle.fragment_file.specs.Fragment.{Stands, table_header};
 ghost use Rattle.job_files.specs.RowFiles.{AreFilesOfTables, IsFileOfRows};
-ghost use Rattle.coordinator.specs.Fragment.{AreAllRows, IsFileable};
+ghost use Rattle.planner.specs.DeclaredPlans.{IsDeclaredJoin};
+ghost use Rattle.coordinator.specs.Fragment.{AreAllRows, IsDimensionFile, IsFileable, IsJoinedFile, IsTableFile};
 ghost use Rattle.coordinator.specs.Whole.{IsFileOf, files_in, dimension_table, joined_from, table_from};
 ghost use Rattle.coordinator.specs.declared.fault.WholeFault.TheVariants as fault;
 
@@ -59,8 +61,10 @@ fn count_rows(columns: &[Column]) -> usize
 /// The file of all rows of a table, in memory.
 fn table_file(alloc: Global, table: &Table, columns: &[Column]) -> Result<Vec<u8>, AllocError>
     requires { (rows : List Row) × AreAllRows table.now rows columns.now }
-    ensures { IfOk result (λ bytes. (rows : List Row) → AreAllRows table.now rows columns.now
+    ensures rows { IfOk result (λ bytes. (rows : List Row) → AreAllRows table.now rows columns.now
         → IsFileOfRows rows bytes.items) }
+    ensures file { IfOk result (λ bytes. (rows : List Row) → AreAllRows table.now rows columns.now
+        → IsTableFile table.now rows bytes.items) }
 {
     let slice = Slice {
         fragment: 0,
@@ -84,6 +88,7 @@ fn dimension_file(
     requires table { IsWellFormedTable dimension.now.table }
     requires key { dimension.now.key < length dimension.now.table.columns }
     ensures file { IfOk result (IsFileOf (dimension_table dimension.now csv.now)) }
+    ensures of_dimension { IfOk result (IsDimensionFile dimension.now) }
     ensures refused { IfErr result (λ e. e ≢ fault.Memory
         → dimension_table dimension.now csv.now ≡ Err e) }
 {
@@ -100,8 +105,10 @@ fn joined_file<'a>(
     csvs: &[(&'a str, &'a [u8])],
     join: &Join,
 ) -> Result<Sequence<u8>, WholeFault>
-    requires { IsWellFormed catalog.now }
+    requires catalog { IsWellFormed catalog.now }
+    requires join { IsDeclaredJoin catalog.now join.now }
     ensures file { IfOk result (IsFileOf (joined_from catalog.now (files_in csvs.now) join.now)) }
+    ensures joined { IfOk result (IsJoinedFile catalog.now join.now) }
     ensures refused { IfErr result (λ e. e ≢ fault.Memory
         → joined_from catalog.now (files_in csvs.now) join.now ≡ Err e) }
 {
@@ -109,7 +116,7 @@ fn joined_file<'a>(
     match dimension_named(catalog, join.dim.name.as_str()) {
         Some(dimension) => dimension_file(alloc, dimension, csv),
         // A plan joins dimensions of its catalogue.
-        None => Err(WholeFault::Memory),
+        None => unreachable!(),
     }
 }
 
@@ -120,10 +127,12 @@ pub fn joined_files<'a>(
     csvs: &[(&'a str, &'a [u8])],
     joins: &[Join],
 ) -> Result<Vec<Sequence<u8>>, WholeFault>
-    requires { IsWellFormed catalog.now }
+    requires catalog { IsWellFormed catalog.now }
+    requires joins { All (IsDeclaredJoin catalog.now) joins.now }
     ensures files { IfOk result (λ files. (dims : List (List Row))
         × (all_ok (map (joined_from catalog.now (files_in csvs.now)) joins.now) ≡ Ok dims)
         × AreFilesOfTables dims files.items) }
+    ensures joined { IfOk result (λ files. AllZip (IsJoinedFile catalog.now) joins.now files.items) }
     ensures refused { IfErr result (λ e. e ≢ fault.Memory
         → all_ok (map (joined_from catalog.now (files_in csvs.now)) joins.now) ≡ Err e) }
 {

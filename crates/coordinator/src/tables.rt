@@ -1,7 +1,10 @@
 //! The tables that a plan names, from their CSV files.
-ghost use Rattle.std.specs.Prelude.{◌≡◌, ◌≢◌, IfOk, IfErr, OnOk, Err, true, false};
+ghost use Rattle.std.specs.Prelude.{◌≡◌, ◌≢◌, All, IfOk, IfErr, OnOk, Err, true, false};
+ghost use Rattle.std.specs.List.{AllZip};
 ghost use Rattle.meaning.specs.Catalog.{IsWellFormed};
 ghost use Rattle.meaning.specs.VectorLength.{is_vector_length};
+ghost use Rattle.planner.specs.DeclaredPlans.{IsDeclaredJoin};
+ghost use Rattle.coordinator.specs.Fragment.{IsJoinedFile};
 ghost use Rattle.coordinator.specs.Whole.{AreTablesLoaded, IsTablesRefused, files_in, tables_of};
 ghost use Rattle.coordinator.specs.declared.fault.WholeFault.TheVariants as fault;
 
@@ -31,9 +34,12 @@ fn load_tables(
     plan: &Plan,
 ) -> Result<Tables, WholeFault>
     requires catalog { IsWellFormed catalog.now }
+    requires joins { All (IsDeclaredJoin catalog.now) plan.now.joins }
     ensures loaded { IfOk result
         (λ tables. AreTablesLoaded catalog.now (files_in sources.entry.csvs.now)
         sources.entry.cut.now plan.now tables.fragments.items tables.dims.items) }
+    ensures joined { IfOk result
+        (λ tables. AllZip (IsJoinedFile catalog.now) plan.now.joins tables.dims.items) }
     ensures refused { IfErr result (λ e. e ≢ fault.Memory
         → tables_of catalog.now (files_in sources.entry.csvs.now) sources.entry.cut.now plan.now
         ≡ Err e) }
@@ -69,9 +75,12 @@ pub fn checked_tables(
     plan: &Plan,
 ) -> Result<Tables, WholeFault>
     requires catalog { IsWellFormed catalog.now }
+    requires joins { All (IsDeclaredJoin catalog.now) plan.now.joins }
     ensures loaded { IfOk result
         (λ tables. AreTablesLoaded catalog.now (files_in sources.entry.csvs.now)
         sources.entry.cut.now plan.now tables.fragments.items tables.dims.items) }
+    ensures joined { IfOk result
+        (λ tables. AllZip (IsJoinedFile catalog.now) plan.now.joins tables.dims.items) }
     ensures vectors { OnOk result (is_vector_length sources.entry.vector_len ≡ true) }
     ensures refused { IfErr result
         (IsTablesRefused catalog.now (files_in sources.entry.csvs.now) sources.entry.cut.now

@@ -24,6 +24,10 @@ IsUnread path e = (e ≡ refusal.Memory) ⊎ (e ≡ refusal.CannotRead path)
 abbrev pub IsAskedFor : (List ℕ → Type 0) → Refusal → Type 0
 IsAskedFor asks e = (path : List ℕ) → e ≡ refusal.CannotRead path → asks path
 
+-- a file that can't be written is one that was to be created
+abbrev pub IsTriedFor : (List ℕ → Type 0) → Refusal → Type 0
+IsTriedFor tries e = (path : List ℕ) → e ≡ refusal.CannotWrite path → tries path
+
 -- the path's file can't be written, or memory ran out
 abbrev pub IsUnwritten : List ℕ → Refusal → Type 0
 IsUnwritten path e = (e ≡ refusal.Memory) ⊎ (e ≡ refusal.CannotWrite path)

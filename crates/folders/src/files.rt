@@ -5,7 +5,7 @@ ghost use Rattle.std.specs.declared.io.ErrorKind.TheVariants as kind;
 ghost use Rattle.fragment_file.specs.declared.fault.FileFault.TheVariants as no_file;
 ghost use Rattle.disk.specs.Disk.{HasRoom};
 ghost use Rattle.folders.specs.Folder.{AreHeld, AsksOf, Finishes, HasDisk, HasHeld, IsEmptyFile, Removes, WritesOne, catalog_path};
-ghost use Rattle.folders.specs.Refused.{IsAskedFor, IsUnread, IsUnwritten};
+ghost use Rattle.folders.specs.Refused.{IsAskedFor, IsTriedFor, IsUnread, IsUnwritten};
 ghost use Rattle.folders.specs.declared.refusal.Refusal.TheVariants.{Memory};
 
 use crate::folder::Folder;
@@ -143,6 +143,7 @@ pub fn refusal_of_file(path: &Text, fault: FileFault) -> Refusal
 pub fn create_file<F: Folder>(folder: &mut F, path: &Text) -> Result<F::Writer, Refusal>
     ensures empty { IfOk result (λ file. IsEmptyFile (F.wrote folder.old)
         (F.Writer.contents file)) }
+    ensures tried { F.tries folder.old path.now }
     ensures created { OnOk result (F.creates folder.old path.now) }
     ensures same { F.wrote folder.new ≡ F.wrote folder.old }
     ensures held { F.holds folder.new ≡ F.holds folder.old }
@@ -219,8 +220,10 @@ pub fn write_file<F: Folder>(folder: &mut F, path: &Text, bytes: &[u8]) -> Resul
     ensures written { OnOk result
         (WritesOne path.now (λ given. given ≡ bytes.now) (F.wrote folder.old)
         (F.wrote folder.new)) }
+    ensures tried { F.tries folder.old path.now }
     ensures created { OnOk result (F.creates folder.old path.now) }
     ensures refused { IfErr result (IsUnwritten path.now) }
+    ensures unwritten { IfErr result (IsTriedFor (F.tries folder.old)) }
     ensures unchanged { OnErr result (F.wrote folder.new ≡ F.wrote folder.old) }
 {
     let mut file = create_file(folder, path)?;

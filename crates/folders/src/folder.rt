@@ -35,6 +35,9 @@ pub trait Folder {
     // What a path meets where no file was found under it.
     ghost lacks: { Self → List ℕ → Type 0 } = { λ _ _. ⊤ };
 
+    // What a path meets once a file was to be created for it, whether one was or not.
+    ghost tries: { Self → List ℕ → Type 0 } = { λ _ _. ⊤ };
+
     // What a path meets once a file was created for it.
     ghost creates: { Self → List ℕ → Type 0 } = { λ _ _. ⊤ };
 
@@ -63,6 +66,7 @@ pub trait Folder {
     fn create(&mut self, path: &str) -> io::Result<Self::Writer>
         ensures empty { IfOk result
             (λ file. IsEmptyFile (wrote self.old) (Self.Writer.contents file)) }
+        ensures tried { tries self.old path.now }
         ensures created { OnOk result (creates self.old path.now) }
         ensures same { wrote self.new ≡ wrote self.old }
         ensures held { holds self.new ≡ holds self.old }

@@ -8,3 +8,4 @@ mod Refusals
 mod FirstUnread
 mod Gathered
 mod ReadFiles
+mod Unwritten

@@ -1,7 +1,7 @@
 //! What answers and states say together, from their files to the report.
 ghost use Rattle.std.specs.Prelude.{◌≡◌, ◌⊎◌, None, Some, true, IfErr, IfOk, OnErr};
 ghost use Rattle.partial_codec.specs.State.{state_bytes};
-ghost use Rattle.folders.specs.Refused.{IsAskedFor};
+ghost use Rattle.folders.specs.Refused.{IsAskedFor, IsTriedFor};
 ghost use Rattle.jobs.specs.Gathering.{IsGatherLeft, IsGathered, IsGatheredOf, IsGatherRefused, IsGatherUnread, IsReported, IsReportRefused, IsSaveLeft, IsTogetherRefused, IsUnkept};
 
 use crate::job::read_job;
@@ -99,6 +99,7 @@ fn report_from_memory<F: Folder, O: Write, E: Write>(
         (IsGatherLeft (F.holds folder.old) command.now (E.contents err.old) (F.wrote folder.old)
         (F.wrote folder.new)) }
     ensures unread { IfErr result (IsAskedFor (F.asks folder.old)) }
+    ensures unwritten { IfErr result (IsTriedFor (F.tries folder.old)) }
 {
     let gather = gather_in_memory(alloc, folder, command, err)?;
     let report = save_and_show(alloc, folder, &gather, command, out);
@@ -124,6 +125,7 @@ fn save_and_show_durable<F: Folder, D: Disk + Drop, O: Write>(
     ensures left { OnErr result
         (IsSaveLeft command.now.save (state_bytes durable.now.gather.job durable.now.gather.cells)
         (F.wrote folder.old) (F.wrote folder.new)) }
+    ensures unwritten { IfErr result (IsTriedFor (F.tries folder.old)) }
 {
     match durable.gather() {
         Ok(gather) => save_and_show(alloc, folder, gather, command, out),
@@ -152,6 +154,7 @@ fn report_from_journal<F: Folder, O: Write, E: Write>(
         (IsGatherLeft (F.holds folder.old) command.now (E.contents err.old) (F.wrote folder.old)
         (F.wrote folder.new)) }
     ensures unread { IfErr result (IsAskedFor (F.asks folder.old)) }
+    ensures unwritten { IfErr result (IsTriedFor (F.tries folder.old)) }
 {
     let durable = gather_in_journal(alloc, folder, command, path, err)?;
     let report = save_and_show_durable(alloc, folder, &durable, command, out);
@@ -197,6 +200,8 @@ pub fn gather_answers<F: Folder, O: Write, E: Write>(
         (F.wrote folder.new)) }
     // And it was asked for.
     ensures unread { IfErr result (IsAskedFor (F.asks folder.old)) }
+    // One that can't be written was to be created.
+    ensures unwritten { IfErr result (IsTriedFor (F.tries folder.old)) }
 {
     match &command.journal {
         Some(path) => report_from_journal(alloc, folder, command, path, out, err),

@@ -5,7 +5,7 @@ ghost use Rattle.meaning.specs.Print.{report_text};
 ghost use Rattle.partial_codec.specs.State.{state_bytes};
 ghost use Rattle.gathering.specs.Report.{report_of_output, summary};
 ghost use Rattle.folders.specs.Folder.{WritesOne};
-ghost use Rattle.folders.specs.Refused.{IsUnwritten};
+ghost use Rattle.folders.specs.Refused.{IsTriedFor, IsUnwritten};
 ghost use Rattle.jobs.specs.Gathering.{IsReported, IsReportRefused, IsSaved, IsSaveLeft, IsSaveRefused, IsUnprinted, shown};
 
 use command_line::GatherCommand;
@@ -25,6 +25,7 @@ fn write_state<F: Folder>(
         (WritesOne path.now (λ bytes. bytes ≡ state_bytes gather.now.job gather.now.cells)
         (F.wrote folder.old) (F.wrote folder.new)) }
     ensures refused { IfErr result (IsUnwritten path.now) }
+    ensures unwritten { IfErr result (IsTriedFor (F.tries folder.old)) }
     ensures left { OnErr result (F.wrote folder.new ≡ F.wrote folder.old) }
 {
     match gather.state_bytes(alloc) {
@@ -44,6 +45,7 @@ fn save_state<F: Folder>(
         (IsSaved save.now (state_bytes gather.now.job gather.now.cells) (F.wrote folder.old)
         (F.wrote folder.new)) }
     ensures refused { IfErr result (IsSaveRefused save.now) }
+    ensures unwritten { IfErr result (IsTriedFor (F.tries folder.old)) }
     ensures left { OnErr result (F.wrote folder.new ≡ F.wrote folder.old) }
 {
     match save {
@@ -139,6 +141,7 @@ pub fn save_and_show<F: Folder, O: Write>(
     ensures left { OnErr result
         (IsSaveLeft command.now.save (state_bytes gather.now.job gather.now.cells)
         (F.wrote folder.old) (F.wrote folder.new)) }
+    ensures unwritten { IfErr result (IsTriedFor (F.tries folder.old)) }
 {
     save_state(alloc, folder, gather, &command.save)?;
     show(alloc, gather, command.preview, out)

@@ -5,7 +5,7 @@ ghost use Rattle.meaning.specs.SoundPlan.{IsSoundPlan};
 ghost use Rattle.meaning.specs.Said.{Answer as AnAnswer};
 ghost use Rattle.folders.specs.Folder.{HasHeld, WritesOne, dimension_path, fragment_path};
 ghost use Rattle.folders.specs.Each.{AreEach};
-ghost use Rattle.folders.specs.Refused.{IsAskedFor, IsFirstUnread, IsUnread};
+ghost use Rattle.folders.specs.Refused.{IsAskedFor, IsFirstUnread, IsTriedFor, IsUnread};
 ghost use Rattle.partial_codec.specs.Answer.{Spells};
 ghost use Rattle.jobs.specs.Working.{AreDimensionsUnread, IsAnswer, IsAnswerRefused, IsDimensionOf, IsOwnSpelled, IsReaderAnswer, IsReaderRefused, IsSpelled, IsSpelledRefused, IsWorkRefused, IsWorkUnread, IsWorked, paths_of};
 
@@ -196,6 +196,8 @@ pub fn answer_fragment<F: Folder>(
     ensures left { OnErr result (F.wrote folder.new ≡ F.wrote folder.old) }
     // The file was asked for.
     ensures unread { IfErr result (IsAskedFor (F.asks folder.old)) }
+    // One that can't be written was to be created.
+    ensures unwritten { IfErr result (IsTriedFor (F.tries folder.old)) }
 {
     let bytes = spelled_answer(alloc, folder, command)?;
     write_file(folder, &command.out, bytes.as_slice())

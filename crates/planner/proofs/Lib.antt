@@ -21,3 +21,4 @@ pub mod Lifted
 pub mod GroupTypes
 pub mod PlansAgree
 mod Worked
+pub mod DeclaredColumns

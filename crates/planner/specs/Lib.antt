@@ -5,3 +5,4 @@ pub mod Sound
 pub mod QueryText
 pub mod Forms
 pub mod Limited
+pub mod DeclaredPlans

@@ -1,4 +1,5 @@
 //! Theorems on the definitions: each is the contract of a function that does nothing.
+ghost use Rattle.planner.specs.DeclaredPlans.{PlansAreDeclared};
 ghost use Rattle.planner.specs.Forms.{FormsAgree, CommaIsJoin};
 ghost use Rattle.planner.specs.Limited.{PlansAreLimited};
 ghost use Rattle.planner.specs.PlanOf.{PlansMean, PlansAgree};
@@ -44,6 +45,11 @@ pub fn comma_is_join()
 /// A plan has the canonical text, and is within the limits on a query's keys and aggregates.
 pub fn plans_are_limited()
     ensures { PlansAreLimited }
+{}
+
+/// A plan's tables and columns are those of the catalogue, by their names.
+pub fn plans_are_declared()
+    ensures { PlansAreDeclared }
 {}
 
 /// Over a plan's groups each item is a value of one type, and HAVING a truth.

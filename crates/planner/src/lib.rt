@@ -11,8 +11,8 @@ mod reading;
 mod tables;
 
 pub use laws::{
-    comma_is_join, forms_agree, groups_are_typed, plans_agree, plans_are_limited, plans_are_sound,
-    plans_are_typed, plans_mean, plans_serve,
+    comma_is_join, forms_agree, groups_are_typed, plans_agree, plans_are_declared,
+    plans_are_limited, plans_are_sound, plans_are_typed, plans_mean, plans_serve,
 };
 pub use planner_expressions::PlanFault;
 pub use planning::plan;

@@ -1,6 +1,7 @@
 -- Proofs of the goals of `answer_declared` (`running`).
 use Rattle.std.proofs.Common.{refl, inl, inr}
 use Rattle.std.proofs.lemmas.Result.{IfErr-weaker, err_from_is_err_and}
+use Rattle.planner.proofs.DeclaredColumns.{plans_are_declared}
 use Rattle.cli.specs.Running.{input_over}
 use Rattle.cli.proofs.AskedFiles.{unplanned_unread}
 use Rattle.cli.proofs.Refusals.{unplanned}
@@ -42,3 +43,8 @@ pub returns-in-Err-clause-unread : goal.returns-in-Err-clause-unread
 returns-in-Err-clause-unread g c = λ text declared.
     let question = c.args.question.now in
     unplanned_unread (g.F.Folder.asks c.args.folder.now) question.catalog.now question.query.now c.in-Err.refusal c.in-Err.ensures.refused
+
+pub answer_planned-requires-clause-declared : goal.answer_planned-requires-clause-declared
+answer_planned-requires-clause-declared g c =
+    let planned = c.in-Ok.ensures.planned in
+    plans_are_declared c.args.question.now.catalog.now planned.tree c.in-Ok.plan planned.gives

@@ -1,6 +1,6 @@
 -- Proofs of the goals of `outcome` (`running`).
 use Rattle.std.proofs.lemmas.Result.{err_from_is_err_and}
-use Rattle.cli.proofs.Refusals.{load_first, load_refused, whole_first, whole_refused, work_first, work_refused}
+use Rattle.cli.proofs.Refusals.{load_first, load_refused, load_tried, whole_first, whole_refused, whole_tried, work_first, work_refused, work_tried}
 use Rattle.cli.proofs.running.outcome.Goals as goal
 
 pub returns-in_err-load_tables-in-Load-clause-refused : goal.returns-in_err-load_tables-in-Load-clause-refused
@@ -39,3 +39,18 @@ returns-in_err-work-in-Work-clause-first g c =
 pub returns-in-Whole-clause-first : goal.returns-in-Whole-clause-first
 returns-in-Whole-clause-first g c =
     whole_first (g.F.Folder.holds c.args.folder.now) (g.F.Folder.opens c.args.folder.now) c.args.command.now c.in-Whole.directory c.in-Whole.query c.in-Whole.rows c.in-Whole.vector c.answer.result c.in-Whole.is
+
+pub returns-in_err-load_tables-in-Load-clause-unwritten : goal.returns-in_err-load_tables-in-Load-clause-unwritten
+returns-in_err-load_tables-in-Load-clause-unwritten g c =
+    let p = err_from_is_err_and c.from_residual.result c.from_residual.ensures.1 in
+    rw (p.1, p.2) (load_tried (g.F.Folder.tries c.args.folder.now) c.args.command.now c.in-Load.directory c.in-Load.number c.in-Load.rows c.in_err-load_tables-in-Load.field-0.0 c.in-Load.is)
+
+pub returns-in_err-work-in-Work-clause-unwritten : goal.returns-in_err-work-in-Work-clause-unwritten
+returns-in_err-work-in-Work-clause-unwritten g c =
+    let refused = c.in_err-work-in-Work in
+    let p = err_from_is_err_and c.from_residual-in_err-work-in-Work.result c.from_residual-in_err-work-in-Work.ensures.1 in
+    rw (p.1, p.2) (work_tried (g.F.Folder.tries c.args.folder.now) c.args.command.now c.in-Work.command refused.field-0.0 c.in-Work.is refused.ensures.unwritten)
+
+pub returns-in-Whole-clause-unwritten : goal.returns-in-Whole-clause-unwritten
+returns-in-Whole-clause-unwritten g c =
+    whole_tried (g.F.Folder.tries c.args.folder.now) c.args.command.now c.in-Whole.directory c.in-Whole.query c.in-Whole.rows c.in-Whole.vector c.answer.result c.in-Whole.is

@@ -1,5 +1,6 @@
 -- Proofs of the goals of `answer_fragments` (`fragments`).
 use Rattle.std.proofs.Common.{◌≡◌, ◌<◌, ◌≤◌, ◌^◌, ap, sym, subst, refl, ◌∙◌, [], ◌∷◌, ◌++◌, ℕ, ◌+◌, List, length, slice_index_or, arith}
+use Rattle.std.specs.Prelude.{None, Ok}
 use Rattle.std.specs.List.{range_with_len}
 use Rattle.std.proofs.lemmas.List.Elements.{recursion_from_All}
 use Rattle.meaning.specs.Limits.{max_rows}
@@ -16,7 +17,12 @@ use Rattle.partial_codec.specs.Job.{JobSpec}
 use Rattle.partial_codec.proofs.Fitting.{short_at}
 use Rattle.job_files.proofs.FirstRows.{next_fits}
 use Rattle.job_files.specs.RowFiles.{rows_of_fragment}
+use Rattle.fragment_file.specs.declared.header.Slice.{Slice}
+use Rattle.fragment_file.specs.Fragment.{table_header}
+use Rattle.job_files.specs.Dimensions.{files_of}
+use Rattle.job_files.specs.Inputs.{dimension_files_of, header_fault}
 use Rattle.worker.specs.Opened.{AreOpenedFor, AreOver}
+use Rattle.coordinator.proofs.AcceptedFiles.{fragment_named}
 use Rattle.meaning.specs.declared.plan.Plan.{Plan}
 use Rattle.coordinator.proofs.FragmentColumns.{as_many, columns_at, count_at, fileable_at, typed_at}
 use Rattle.coordinator.proofs.Slices.{own_answers_to_next}
@@ -102,3 +108,18 @@ returns-clause-taken c = λ rows tables are over.
     let cut = c.args.facts.cut.now in
     let end : c.loop-k.k ≡ length cut = let past = c.loop-k-test.false in let within = c.loop-k.auto.k-end in let same = ap (λ (ls : List ℕ). length ls) c.lengths-lengths.ensures.value in omega (arith, past, within, same) in
     subst (λ (n : ℕ). c.loop-k.gather.cells ≡ joined cut (own_answers c.args.gather.now.job.plan tables cut rows (range_with_len 0 n))) end (c.loop-k.invariant.taken rows tables are over)
+
+pub answer_one-requires-clause-opened : goal.answer_one-requires-clause-opened
+answer_one-requires-clause-opened c =
+    let (files, opened) = c.requires.opened in
+    (files, subst (λ (j : JobSpec). dimension_files_of j files ≡ Ok (files_of c.args.dimensions.now.tables.items)) (sym c.loop-k.invariant.same) opened)
+
+pub answer_one-requires-clause-named : goal.answer_one-requires-clause-named
+answer_one-requires-clause-named c =
+    let job = c.args.gather.now.job in
+    let k = c.loop-k.k in
+    let same = c.lengths-lengths.ensures.value ∙ sym c.requires.cut in
+    let slice : Slice = record { fragment = k; first_row = c.loop-k.first_row; rows = slice_index_or c.lengths-lengths.result.now k 0 } in
+    let named = fragment_named job c.args.facts.table.now slice c.requires.load c.requires.fact (below_cut c.lengths-lengths.result.now job.cut k same c.loop-k-test.true)
+    (c.loop-k.invariant.first ∙ ap (λ (l : Cut). first_row l k) (sym c.requires.cut)) (ap (λ (ls : List ℕ). slice_index_or ls k 0) same) in
+    subst (λ (j : JobSpec). header_fault j k (table_header 0 c.args.facts.table.now slice) ≡ None) (sym c.loop-k.invariant.same) named

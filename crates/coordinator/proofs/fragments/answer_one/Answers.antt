@@ -1,12 +1,15 @@
 -- Proofs of the goals of `answer_one` (`fragments`).
 use Rattle.std.proofs.Common.{◌≡◌, List, ℕ, sym, ap, subst, ◌∙◌}
-use Rattle.std.specs.Prelude.{Option, None, Some}
+use Rattle.std.specs.Prelude.{Ok, Option, None, Some}
 use Rattle.meaning.specs.Answer.{own}
 use Rattle.partial_codec.specs.Job.{IsJob, JobSpec}
 use Rattle.partial_codec.specs.Answer.{Spells, fault_in}
 use Rattle.answer_fields.specs.declared.fault.DecodeFault.{DecodeFault}
 use Rattle.partial_codec.proofs.Answers.{spelled_reads}
 use Rattle.gathering.specs.Gathering.{Refuses}
+use Rattle.fragment_file.specs.Fragment.{table_header}
+use Rattle.job_files.specs.Dimensions.{files_of}
+use Rattle.job_files.specs.Inputs.{dimension_files_of, header_fault}
 use Rattle.worker.specs.Opened.{AreOver}
 use Rattle.coordinator.specs.Fragment.{AreRowsOfJob}
 use Rattle.coordinator.proofs.fragments.answer_one.Goals as goal
@@ -30,3 +33,13 @@ unreachable-requires c =
     let refused = subst (Refuses job bytes) c.in-Err-Decode.field-0-is c.in-Err-Decode.ensures.refused in
     let none : ◌≡◌ {A = Option DecodeFault} None (Some c.in-Err-Decode.field-0-0) = sym (ap fault_in (spelled_reads job bytes a (subst IsJob c.job-job.ensures.value c.plan-plan.ensures.within_limits) spelled)) ∙ refused in
     cc none
+
+pub answer_bytes-requires-clause-named : goal.answer_bytes-requires-clause-named
+answer_bytes-requires-clause-named c =
+    let rows = c.args.rows in
+    subst (λ (j : JobSpec). header_fault j rows.slice.fragment (table_header 0 rows.table.now rows.slice) ≡ None) (sym c.job-job.ensures.value) c.requires.named
+
+pub answer_bytes-requires-clause-opened : goal.answer_bytes-requires-clause-opened
+answer_bytes-requires-clause-opened c =
+    let (files, opened) = c.requires.opened in
+    (files, subst (λ (j : JobSpec). dimension_files_of j files ≡ Ok (files_of c.args.dimensions.now.tables.items)) (sym c.job-job.ensures.value) opened)

@@ -2,6 +2,7 @@
 use Rattle.std.proofs.Common.{inl}
 use Rattle.std.proofs.lemmas.Result.{err_from_is_err_and}
 use Rattle.jobs.proofs.Gathered.{durable_first, durable_refused}
+use Rattle.jobs.proofs.Unwritten.{other_tried, together_other}
 use Rattle.jobs.proofs.gather_command.report_from_journal.Goals as goal
 
 pub returns-in_err-durable-clause-refused : goal.returns-in_err-durable-clause-refused
@@ -17,3 +18,9 @@ returns-clause-refused g c =
 pub returns-clause-first : goal.returns-clause-first
 returns-clause-first g c =
     durable_first (g.F.Folder.opens c.args.folder.now) c.args.command.now c.save_and_show_durable-report.result c.save_and_show_durable-report.ensures.refused
+
+pub returns-in_err-durable-clause-unwritten : goal.returns-in_err-durable-clause-unwritten
+returns-in_err-durable-clause-unwritten g c =
+    let e = c.in_err-durable.field-0.0 in
+    let p = err_from_is_err_and c.from_residual.result c.from_residual.ensures.1 in
+    rw (p.1, p.2) (other_tried (g.F.Folder.tries c.args.folder.now) e (together_other (g.F.Folder.holds c.args.folder.now) c.args.command.now e c.in_err-durable.ensures.refused))

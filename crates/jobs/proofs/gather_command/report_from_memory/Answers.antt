@@ -1,9 +1,16 @@
 -- Proofs of the goals of `report_from_memory` (`gather_command`).
 use Rattle.std.proofs.Common.{inl}
 use Rattle.std.proofs.lemmas.Result.{err_from_is_err_and}
+use Rattle.jobs.proofs.Unwritten.{other_tried, together_other}
 use Rattle.jobs.proofs.gather_command.report_from_memory.Goals as goal
 
 pub returns-in_err-gather-clause-refused : goal.returns-in_err-gather-clause-refused
 returns-in_err-gather-clause-refused g c =
     let p = err_from_is_err_and c.from_residual.result c.from_residual.ensures.1 in
     rw (p.1, p.2) (inl c.in_err-gather.ensures.refused)
+
+pub returns-in_err-gather-clause-unwritten : goal.returns-in_err-gather-clause-unwritten
+returns-in_err-gather-clause-unwritten g c =
+    let e = c.in_err-gather.field-0.0 in
+    let p = err_from_is_err_and c.from_residual.result c.from_residual.ensures.1 in
+    rw (p.1, p.2) (other_tried (g.F.Folder.tries c.args.folder.now) e (together_other (g.F.Folder.holds c.args.folder.now) c.args.command.now e c.in_err-gather.ensures.refused))

@@ -47,7 +47,9 @@ fn finish_both(
     requires second { AreGroupsOf plan.now second.now }
 {
     let finishing = Finishing::new(alloc).take(alloc, plan, GroupSlice::of(first))?;
-    finishing.take(alloc, plan, GroupSlice::of(second))?.finish(alloc, plan)
+    finishing
+        .take(alloc, plan, GroupSlice::of(second))?
+        .finish(alloc, plan)
 }
 
 /// What the last step gives of groups that come in two pieces.

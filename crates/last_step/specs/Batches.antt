@@ -6,7 +6,7 @@ use Rattle.meaning.specs.declared.joined_row.JoinedRow.{JoinedRow}
 use Rattle.meaning.specs.declared.plan.Plan.{Plan}
 use Rattle.meaning.specs.declared.value.ColType.{ColType}
 use Rattle.meaning.specs.declared.value.Value.{Value}
-use Rattle.meaning.specs.declared.value.Value.TheVariants.{Null, Int, Text}
+use Rattle.meaning.specs.declared.value.Value.TheVariants.{Null}
 use Rattle.meaning.specs.declared.outcome.Outcome.TheVariants as gives
 use Rattle.meaning.specs.declared.answer.Statistics.{Statistics}
 use Rattle.meaning.specs.declared.plan.AggregateKind.{AggregateKind}
@@ -16,7 +16,7 @@ use Rattle.meaning.specs.References.{GroupKey, GroupAggregate}
 use Rattle.meaning.specs.Expr.{values}
 use Rattle.meaning.specs.Finish.{all_rows, behind_having, shown}
 use Rattle.meaning.specs.Joined.{group_row}
-use Rattle.meaning.specs.Operators.{code_of, fits_i64}
+use Rattle.meaning.specs.Operators.{code_of}
 use Rattle.meaning.specs.Order.{Row, column}
 use Rattle.meaning.specs.Results.{all_ok, and_then}
 use Rattle.meaning.specs.Typing.{Valued, Boolean, group_types}

@@ -1,5 +1,5 @@
 -- A tree is written out as the tree with full names is.
-use Rattle.std.proofs.Common.{rules, ◌≡◌, List, [], ◌∷◌, ◌++◌, map, Option, Some, None, option_map, unwrap_or, refl, ap, ap₂, subst, sym, ◌∙◌}
+use Rattle.std.proofs.Common.{rules, ◌≡◌, true, List, [], ◌∷◌, ◌++◌, map, Option, Some, None, option_map, unwrap_or, refl, ap, ap₂, subst, sym, ◌∙◌}
 use Rattle.sql_syntax.specs.declared.tree.Arm.{Arm}
 use Rattle.sql_syntax.specs.declared.tree.Expr.{Expr}
 use Rattle.sql_syntax.specs.declared.tree.Expr.TheOpen as node
@@ -11,11 +11,12 @@ use Rattle.planner_expressions.specs.declared.marks.Mark.TheVariants as mark
 use Rattle.planner_expressions.specs.declared.marks.Operator.TheVariants as operator
 use Rattle.planner_expressions.specs.declared.scope.ScopeColumn.{ScopeColumn}
 use Rattle.planner_expressions.specs.declared.scope.Scope.{Scope}
-use Rattle.planner_expressions.specs.Alike.{full_name, with_parts, with_full_names, SpelledAlike}
+use Rattle.planner_expressions.specs.Alike.{full_name, with_parts, with_full_names, FoundAlike, SpelledAlike}
 use Rattle.planner_expressions.specs.Scope.{stands_for}
-use Rattle.planner_expressions.specs.Spelled.{Spelling, column_mark, list_marks, arms_marks, spell_node, spell_arm, spelled, spelled_arm}
+use Rattle.planner_expressions.specs.Spelled.{Spelling, column_mark, list_marks, arms_marks, same_spelling, spell_node, spell_arm, spelled, spelled_arm}
 use Rattle.planner_expressions.specs.Trees.{Node, arm_tree}
 use Rattle.planner_expressions.proofs.AlikeTrees.{gives_same, step, steps}
+use Rattle.planner_expressions.proofs.SameMarks.{spelling_is, spelling_itself}
 
 module _ (s : Scope) where
   abbrev full : Expr → Expr
@@ -139,3 +140,9 @@ module _ (s : Scope) where
 
 pub spelled_alike : SpelledAlike
 spelled_alike s a b = (gives_same s (λ o. option_map full_name o) with_parts (λ t u m n. refl) a b, spelled_as s a b)
+
+pub found_alike : FoundAlike
+found_alike s a b = (
+  λ same. (spelled_alike s a b).0 (spelling_is (spelled s a) (spelled s b) same),
+  λ equal. subst (λ (x : Spelling). same_spelling (spelled s a) x ≡ true) ((spelled_alike s a b).1 equal) (spelling_itself (spelled s a)),
+)

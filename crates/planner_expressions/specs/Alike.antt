@@ -1,6 +1,6 @@
 -- Trees that are spelled alike are those that are equal once their names are looked up, and so they give the same and are of
 -- one sort.
-use Rattle.std.specs.Prelude.{◌≡◌, ◌↔◌, Bool, [], Some, None, option_map, Ok}
+use Rattle.std.specs.Prelude.{◌≡◌, ◌↔◌, Bool, true, [], Some, None, option_map, Ok}
 use Rattle.meaning.specs.declared.joined_row.JoinedRow.{JoinedRow}
 use Rattle.sql_syntax.specs.declared.tree.Expr.{Expr}
 use Rattle.sql_syntax.specs.declared.tree.Expr.TheOpen as node
@@ -12,7 +12,7 @@ use Rattle.planner_expressions.specs.declared.sort.Sort.{Sort}
 use Rattle.planner_expressions.specs.Given.{column_meant, given_in}
 use Rattle.planner_expressions.specs.Judged.{judged}
 use Rattle.planner_expressions.specs.Meant.{eval_named}
-use Rattle.planner_expressions.specs.Spelled.{spelled}
+use Rattle.planner_expressions.specs.Spelled.{spelled, same_spelling}
 use Rattle.planner_expressions.specs.Translated.{translated}
 use Rattle.planner_expressions.specs.Trees.{Node, tree_over, replaced}
 
@@ -32,6 +32,10 @@ with_full_names s = replaced (λ e. option_map full_name (column_meant s e)) wit
 -- two trees are spelled alike exactly where they are one tree once their names are looked up
 abbrev pub SpelledAlike : Type 0
 SpelledAlike = (s : Scope) (a b : Expr) → (spelled s a ≡ spelled s b) ↔ (with_full_names s a ≡ with_full_names s b)
+
+-- two trees are found to be the same exactly where they are one tree once their names are looked up
+abbrev pub FoundAlike : Type 0
+FoundAlike = (s : Scope) (a b : Expr) → (same_spelling (spelled s a) (spelled s b) ≡ true) ↔ (with_full_names s a ≡ with_full_names s b)
 
 -- on every row they give the same
 abbrev pub SpelledMean : Type 0

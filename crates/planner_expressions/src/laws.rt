@@ -1,5 +1,5 @@
 //! Theorems on the definitions: each is the contract of a function that does nothing.
-ghost use Rattle.planner_expressions.specs.Alike.{SpelledAlike, SpelledMean, SpelledTranslate, SpelledSorts};
+ghost use Rattle.planner_expressions.specs.Alike.{FoundAlike, SpelledAlike, SpelledMean, SpelledTranslate, SpelledSorts};
 ghost use Rattle.planner_expressions.specs.Meant.{RowsMean, GroupsMean, RowsTranslate};
 ghost use Rattle.planner_expressions.specs.Typed.{RowsAreTyped, ScopesAreTables};
 
@@ -33,6 +33,11 @@ pub fn scopes_are_tables()
 /// Trees are spelled alike exactly where they are equal once their names are looked up.
 pub fn spelled_trees_are_equal()
     ensures { SpelledAlike }
+{}
+
+/// Trees are found to be the same exactly where they are equal once their names are looked up.
+pub fn found_trees_are_equal()
+    ensures { FoundAlike }
 {}
 
 /// Trees that are spelled alike give the same on every row.

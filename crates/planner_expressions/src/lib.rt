@@ -24,8 +24,9 @@ pub use fault::PlanFault;
 pub use from::{is_left, name_of, scope_of};
 pub use judging::judge;
 pub use laws::{
-    groups_mean, rows_are_typed, rows_mean, rows_translate, scopes_are_tables,
-    spelled_trees_are_equal, spelled_trees_have_sorts, spelled_trees_mean, spelled_trees_translate,
+    found_trees_are_equal, groups_mean, rows_are_typed, rows_mean, rows_translate,
+    scopes_are_tables, spelled_trees_are_equal, spelled_trees_have_sorts, spelled_trees_mean,
+    spelled_trees_translate,
 };
 pub use marks::{Mark, Operator, Spelling};
 pub use scope::{Dim, Scope, ScopeColumn};

@@ -72,9 +72,10 @@ pub record IsFactOf (plan : Plan) (table : Table) : Type 0 where
   pub name : table.name ≡ plan.fact.name
   pub columns : All (IsDeclaredColumn table.columns) plan.fact.columns
 
--- a job of the load that is made here reads its dimensions from these files
+-- these files are those of the job's dimensions, and nothing is wrong with them
 abbrev pub Opens : JobSpec → List (List ℕ) → Type 0
 Opens job files = (read : List FragmentSpec) × (dimension_files_of job files ≡ Ok read)
 
+-- the job of the load that is made here
 abbrev pub job_of : Plan → Cut → JobSpec
 job_of plan cut = record { load = 0; plan = plan; cut = cut }

@@ -1,3 +1,4 @@
 -- The lemmas of this crate.
 pub mod Loading
 pub mod Refusals
+pub mod Largest

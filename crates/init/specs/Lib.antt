@@ -2,3 +2,4 @@
 pub mod Findings
 pub mod Making
 pub mod Refusing
+pub mod Guessing

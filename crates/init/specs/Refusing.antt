@@ -1,5 +1,5 @@
 -- Why a text's catalogue isn't one for a folder: the first thing that is wrong, in the order of the tables.
-use Rattle.std.specs.Prelude.{◌≡◌, ◌⊎◌, ℕ, ◌<◌, ◌≤◌, List, ◌∷◌, ◌++◌, length, drop, sum, All, Err, Ok, Option, None, Some, ⊤, string_bytes}
+use Rattle.std.specs.Prelude.{◌≡◌, ◌⊎◌, ℕ, ◌<◌, ◌≤◌, List, ◌∷◌, ◌++◌, length, drop, sum, All, Err, Ok, Some, ⊤, string_bytes}
 use Rattle.meaning.specs.declared.catalog.Catalog.{Catalog}
 use Rattle.meaning.specs.declared.catalog.CatalogFault.{CatalogFault}
 use Rattle.meaning.specs.declared.catalog.CatalogFault.TheVariants as catalog_fault
@@ -66,16 +66,6 @@ IsNotAbsent opens path fault.Memory = ⊤
 IsNotAbsent opens path (fault.CatalogThere file) = (string_bytes file ≡ path) × opens path
 IsNotAbsent opens path (fault.CannotRead file) = string_bytes file ≡ path
 IsNotAbsent opens path _ = ⊥
-
--- ---- which file is the fact's
-
--- memory ran out, or standard error failed; or the fact was named, and has no file; or it wasn't, and there is none at all
-abbrev pub IsFactUnfound : Option (List ℕ) → List ℕ → InitFault → Type 0
-IsFactUnfound asked folder fault.Memory = ⊤
-IsFactUnfound asked folder fault.CannotReport = ⊤
-IsFactUnfound asked folder (fault.NoFact file) = (name : List ℕ) × (asked ≡ Some name) × (string_bytes file ≡ csv_path folder name)
-IsFactUnfound asked folder (fault.NoFile file) = (asked ≡ None) × (string_bytes file ≡ folder)
-IsFactUnfound asked folder _ = ⊥
 
 -- ---- the fact
 

@@ -8,6 +8,7 @@ ghost use Rattle.loader.specs.Fault.{fault_returned};
 ghost use Rattle.loader.specs.Handing.{IsToCome};
 ghost use Rattle.loader.specs.Source.{csv_records};
 ghost use Rattle.folders.specs.Folder.{HasHeld, csv_path};
+ghost use Rattle.init.specs.Guessing.{IsNoCatalog};
 ghost use Rattle.init.specs.Making.{AreColumns, DeclaresFact, IsCatalogFor, IsDimension, IsDimensionFit, IsFact, IsFactFit};
 ghost use Rattle.init.specs.Refusing.{AreTablesRefused, IsCatalogRefused, IsDimensionRefused, IsFactRefused, IsFirstRefused, IsUncounted, IsUnread};
 
@@ -57,8 +58,8 @@ fn pass_fact<R: Read + Drop>(
     passed
 }
 
-// A reader of a file from its beginning.
-fn opened<F: Folder>(folder: &F, path: &Text) -> Result<F::Reader, InitFault>
+/// A reader of a file from its beginning.
+pub fn opened<F: Folder>(folder: &F, path: &Text) -> Result<F::Reader, InitFault>
     ensures opened { IfOk result
         (λ file. HasHeld (F.holds folder.now path.now) (F.Reader.remaining file)) }
     ensures refused { IfErr result (IsUnread path.now) }
@@ -222,7 +223,8 @@ fn check_tables<F: Folder>(
 
 // Refuses a text whose catalogue has another fact.
 pub fn check_fact_name(alloc: Global, text: &[u8], name: &str) -> Result<(), InitFault>
-    ensures { OnOk result (DeclaresFact name.now text.now) }
+    ensures named { OnOk result (DeclaresFact name.now text.now) }
+    ensures refused { IfErr result (IsNoCatalog text.now) }
 {
     let catalog = match read_catalog(alloc, text) {
         Ok(catalog) => catalog,

@@ -1,5 +1,6 @@
 //! Why no catalogue was made.
 ghost use Rattle.std.specs.Prelude.{◌≡◌};
+ghost use Rattle.init.specs.Guessing.{IsKeyless};
 ghost use Rattle.init.specs.Refusing.{IsOfLoad, IsOfRefusal, IsThere, IsTooLong, IsUnread, of_catalog};
 ghost use Rattle.init.specs.declared.fault.InitFault.TheVariants as fault_is;
 
@@ -136,7 +137,9 @@ pub fn too_many_rows(file: &Text) -> InitFault
 }
 
 /// The refusal of a dimension's file that has no key.
-pub fn no_key(file: &Text) -> InitFault {
+pub fn no_key(file: &Text) -> InitFault
+    ensures { IsKeyless file.now result }
+{
     match file.clone() {
         Ok(file) => InitFault::NoKey(file.into_string()),
         Err(_) => InitFault::Memory,

@@ -1,6 +1,11 @@
 //! The columns that may be the key of a dimension.
+ghost use Rattle.std.specs.Prelude.{IfErr};
+ghost use Rattle.folders.specs.Folder.{csv_path};
+ghost use Rattle.init.specs.Guessing.{AreRecordsRefused, IsKeyless, IsKeyRefused};
+
+use crate::checking::opened;
 use crate::fault::{InitFault, no_key, of_load};
-use folders::{Folder, csv_path, open_file};
+use folders::{Folder, csv_path};
 use loader::{LoadFault, load_dimension};
 use meaning::{Dimension, Table, TableFault, Text};
 use std::alloc::{AllocError, Global};
@@ -20,8 +25,10 @@ fn has_key<F: Folder>(
     folder: &F,
     path: &Text,
     dimension: &Dimension,
-) -> Result<bool, InitFault> {
-    let file = open_file(folder, path)?;
+) -> Result<bool, InitFault>
+    ensures { IfErr result (AreRecordsRefused path.now) }
+{
+    let file = opened(folder, path)?;
     match load_dimension(alloc, dimension, file) {
         Ok(_) => Ok(true),
         Err(LoadFault::Table(TableFault::KeyTwice { .. })) => Ok(false),
@@ -42,7 +49,9 @@ fn keys_of<F: Folder>(
     folder: &F,
     path: &Text,
     dimension: &mut Dimension,
-) -> Result<Vec<usize>, InitFault> {
+) -> Result<Vec<usize>, InitFault>
+    ensures { IfErr result (AreRecordsRefused path.now) }
+{
     let mut keys = Vec::new(alloc);
     for index in 0..dimension.table.columns.len() {
         if takes_null(&dimension.table, index) {
@@ -57,7 +66,9 @@ fn keys_of<F: Folder>(
 }
 
 // With the first of its keys, if there is one.
-fn with_first(path: &Text, dimension: Dimension, keys: Vec<usize>) -> Result<Keyed, InitFault> {
+fn with_first(path: &Text, dimension: Dimension, keys: Vec<usize>) -> Result<Keyed, InitFault>
+    ensures { IfErr result (IsKeyless path.now) }
+{
     let mut dimension = dimension;
     let mut others = keys;
     if others.is_empty() {
@@ -74,7 +85,9 @@ fn with_key_of<F: Folder>(
     folder: &F,
     path: &Text,
     dimension: Dimension,
-) -> Result<Keyed, InitFault> {
+) -> Result<Keyed, InitFault>
+    ensures { IfErr result (IsKeyRefused path.now) }
+{
     let mut dimension = dimension;
     match keys_of(alloc, folder, path, &mut dimension) {
         Ok(keys) => with_first(path, dimension, keys),
@@ -97,7 +110,9 @@ pub fn with_key<F: Folder>(
     folder: &F,
     directory: &str,
     table: Table,
-) -> Result<Keyed, InitFault> {
+) -> Result<Keyed, InitFault>
+    ensures { IfErr result (IsKeyRefused (csv_path directory.now table.name)) }
+{
     match csv_path(alloc, directory, table.name.as_str()) {
         Ok(path) => with_key_of(alloc, folder, &path, Dimension { table, key: 0 }),
         Err(AllocError) => {

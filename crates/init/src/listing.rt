@@ -1,4 +1,7 @@
 //! The CSV files of a folder.
+ghost use Rattle.std.specs.Prelude.{ℕ, List, IfOk, ⊤};
+ghost use Rattle.init.specs.declared.listing.CsvFile.{CsvFile as ACsvFile};
+
 use std::alloc::Global;
 use std::io;
 
@@ -11,8 +14,12 @@ pub struct CsvFile {
     pub bytes: u64,
 }
 
-/// A folder whose files can be listed. No contract says which files there are.
+/// A folder whose files can be listed. It may say in its contracts which files there are.
 pub trait Listing {
+    // What the files of a folder meet once they were listed.
+    ghost lists: { Self → List ℕ → List ACsvFile → Type 0 } = { λ _ _ _. ⊤ };
+
     /// The files `NAME.csv` that lie right in a folder, in any order.
-    fn csv_files(&self, alloc: Global, directory: &str) -> io::Result<Vec<CsvFile>>;
+    fn csv_files(&self, alloc: Global, directory: &str) -> io::Result<Vec<CsvFile>>
+        ensures { IfOk result (λ files. lists self.now directory.now files.items) };
 }

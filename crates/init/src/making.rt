@@ -1,10 +1,11 @@
 //! The catalogue of a folder's CSV files.
-ghost use Rattle.std.specs.Prelude.{◌≡◌, ℕ, List, IfErr, IfOk, IfSome, OnErr, OnOk, option_map};
-ghost use Rattle.folders.specs.Folder.{WritesOne, catalog_path};
+ghost use Rattle.std.specs.Prelude.{◌≡◌, true, ℕ, List, IfErr, IfOk, IfSome, OnErr, OnOk, option_map};
+ghost use Rattle.folders.specs.Folder.{WritesOne, catalog_path, csv_path};
+ghost use Rattle.init.specs.Guessing.{AreDimensionsUnmade, IsDimensionUnmade, IsFactOf, IsFactUnfound, IsGuessable, IsGuessRefused, IsListed, IsMakeRefused, IsTableRefused, IsTextRefused, IsTextUnmade, is_short_name};
 ghost use Rattle.init.specs.Making.{DeclaresFact, IsAsAsked, IsCatalogFor};
-ghost use Rattle.init.specs.Refusing.{IsFactUnfound, IsNotAbsent};
+ghost use Rattle.init.specs.Refusing.{IsNotAbsent, IsUnread, IsUnwritten};
 
-use crate::checking::{check_catalog, check_fact_name};
+use crate::checking::{check_catalog, check_fact_name, opened};
 use crate::choosing::{has_file, largest};
 use crate::fault::{InitFault, catalog_there, unread};
 use crate::keys::{Keyed, with_key};
@@ -14,18 +15,18 @@ use crate::paths::catalog_path;
 use crate::reading::read_table;
 use crate::reporting::{Reason, report_dimension, report_fact};
 use crate::writing::catalog_text;
-use folders::{Folder, csv_path, open_file, write_file};
+use folders::{Folder, csv_path, write_file};
 use meaning::{MAX_DIMENSIONS, Table, Text};
 use std::alloc::Global;
 use std::io::{ErrorKind, Write};
 use std::mem::drop;
 
 // The folder's CSV files, by their names.
-fn listed<F: Listing>(
-    alloc: Global,
-    folder: &F,
-    directory: &str,
-) -> Result<Vec<CsvFile>, InitFault> {
+fn listed<F: Listing>(alloc: Global, folder: &F, directory: &str) -> Result<Vec<CsvFile>, InitFault>
+    ensures listed { IfOk result
+        (λ files. IsListed (F.lists folder.now) directory.now files.items) }
+    ensures refused { IfErr result (IsUnread directory.now) }
+{
     let Ok(mut files) = folder.csv_files(alloc, directory) else {
         return Err(InitFault::CannotRead(String::from_str(alloc, directory)?));
     };
@@ -39,11 +40,15 @@ fn table_of<F: Folder>(
     folder: &F,
     directory: &str,
     table: &str,
-) -> Result<Table, InitFault> {
+) -> Result<Table, InitFault>
+    ensures named { IfOk result (λ made. made.name ≡ table.now) }
+    ensures short { OnOk result (is_short_name table.now ≡ true) }
+    ensures refused { IfErr result (IsTableRefused (csv_path directory.now table.now) table.now) }
+{
     let path = csv_path(alloc, directory, table)?;
     check_table_name(alloc, path.as_str(), table)?;
     let name = Text::new(alloc, table)?;
-    let file = open_file(folder, &path)?;
+    let file = opened(folder, &path)?;
     read_table(alloc, path.as_str(), name, file)
 }
 
@@ -54,7 +59,9 @@ fn dimension_of<F: Folder, E: Write>(
     directory: &str,
     table: &str,
     err: &mut E,
-) -> Result<Keyed, InitFault> {
+) -> Result<Keyed, InitFault>
+    ensures { IfErr result (IsDimensionUnmade (csv_path directory.now table.now) table.now) }
+{
     let table = table_of(alloc, folder, directory, table)?;
     let dimension = with_key(alloc, folder, directory, table)?;
     match report_dimension(alloc, &dimension, err) {
@@ -74,7 +81,9 @@ fn add_dimensions<F: Folder, E: Write>(
     fact: &str,
     dims: &mut Vec<Keyed>,
     err: &mut E,
-) -> Result<(), InitFault> {
+) -> Result<(), InitFault>
+    ensures { IfErr result (AreDimensionsUnmade directory.now files.now fact.now) }
+{
     for file in files {
         if file.table.as_str() == fact {
             continue;
@@ -93,7 +102,9 @@ fn dimensions_of<F: Folder, E: Write>(
     files: &[CsvFile],
     fact: &str,
     err: &mut E,
-) -> Result<Vec<Keyed>, InitFault> {
+) -> Result<Vec<Keyed>, InitFault>
+    ensures { IfErr result (AreDimensionsUnmade directory.now files.now fact.now) }
+{
     let mut dims = Vec::new(alloc);
     match add_dimensions(alloc, folder, directory, files, fact, &mut dims, err) {
         Ok(()) => Ok(dims),
@@ -113,8 +124,11 @@ fn fact_of<'a, E: Write>(
     err: &mut E,
 ) -> Result<&'a str, InitFault>
     ensures named { IfOk result (λ name. IfSome asked.entry (λ asked. name.now ≡ asked.now)) }
+    ensures found { IfOk result
+        (λ name. IsFactOf (option_map (λ asked. asked.now) asked.entry) files.entry.now name.now) }
     ensures refused { IfErr result
-        (IsFactUnfound (option_map (λ asked. asked.now) asked.entry) directory.now) }
+        (IsFactUnfound (option_map (λ asked. asked.now) asked.entry) files.entry.now
+        directory.now) }
 {
     if let Some(asked) = asked {
         if !has_file(files, asked) {
@@ -142,7 +156,9 @@ fn text_for<F: Folder, E: Write>(
     files: &[CsvFile],
     fact: &str,
     err: &mut E,
-) -> Result<String, InitFault> {
+) -> Result<String, InitFault>
+    ensures { IfErr result (IsTextUnmade directory.now files.now fact.now) }
+{
     let table = table_of(alloc, folder, directory, fact)?;
     let dims = dimensions_of(alloc, folder, directory, files, fact, err)?;
     Ok(catalog_text(alloc, &table, dims.as_slice())?)
@@ -159,6 +175,8 @@ fn checked_text<F: Folder, E: Write>(
 ) -> Result<Text, InitFault>
     ensures fit { IfOk result (IsCatalogFor (F.holds folder.now) directory.now) }
     ensures named { IfOk result (DeclaresFact fact.now) }
+    ensures refused { IfErr result
+        (IsTextRefused (F.holds folder.now) directory.now files.now fact.now) }
 {
     let text = text_for(alloc, folder, directory, files, fact, err)?;
     check_fact_name(alloc, text.as_bytes(), fact)?;
@@ -182,6 +200,12 @@ pub fn guess_catalog<F: Folder + Listing, E: Write>(
 ) -> Result<Text, InitFault>
     ensures fit { IfOk result (IsCatalogFor (F.holds folder.now) directory.now) }
     ensures named { IfOk result (IsAsAsked (option_map (λ fact. fact.now) fact.entry)) }
+    ensures guessable { OnOk result
+        (IsGuessable (F.lists folder.now) directory.now
+        (option_map (λ fact. fact.now) fact.entry)) }
+    ensures refused { IfErr result
+        (IsGuessRefused (F.holds folder.now) (F.lists folder.now) directory.now
+        (option_map (λ fact. fact.now) fact.entry)) }
 {
     let files = listed(alloc, folder, directory)?;
     let fact = fact_of(alloc, directory, files.as_slice(), fact, err)?;
@@ -209,6 +233,7 @@ fn check_absent<F: Folder>(folder: &F, path: &Text) -> Result<(), InitFault>
 fn write_text<F: Folder>(folder: &mut F, path: &Text, text: &Text) -> Result<(), InitFault>
     ensures written { OnOk result
         (WritesOne path.now (λ given. given ≡ text.now) (F.wrote folder.old) (F.wrote folder.new)) }
+    ensures refused { IfErr result (IsUnwritten path.now) }
     ensures unchanged { OnErr result (F.wrote folder.new ≡ F.wrote folder.old) }
 {
     match write_file(folder, path, text.as_bytes()) {
@@ -236,6 +261,12 @@ pub fn make_catalog<F: Folder + Listing, E: Write>(
         × IsAsAsked (option_map (λ fact. fact.now) fact.entry) text
         × WritesOne (catalog_path directory.now) (λ given. given ≡ text) (F.wrote folder.old)
         (F.wrote folder.new)) }
+    ensures guessable { OnOk result
+        (IsGuessable (F.lists folder.old) directory.now
+        (option_map (λ fact. fact.now) fact.entry)) }
+    ensures refused { IfErr result
+        (IsMakeRefused (F.holds folder.old) (F.opens folder.old) (F.lacks folder.old)
+        (F.lists folder.old) directory.now (option_map (λ fact. fact.now) fact.entry)) }
     ensures unchanged { OnErr result (F.wrote folder.new ≡ F.wrote folder.old) }
 {
     let path = catalog_path(alloc, directory)?;

@@ -1,14 +1,22 @@
 //! The names that a catalogue takes.
+ghost use Rattle.std.specs.Prelude.{◌≡◌, ◌<◌, true, IfErr, OnOk};
+ghost use Rattle.init.specs.Guessing.{IsColumnUnnamed, IsUnnamed, is_short_name};
+
 use crate::fault::InitFault;
 use meaning::{MAX_NAME_BYTES, Text, is_name, text_of};
 use std::alloc::{AllocError, Global};
 
-fn is_short_name(name: &[u8]) -> bool {
+fn is_short_name(name: &[u8]) -> bool
+    ensures { result ≡ is_short_name name.now }
+{
     is_name(name) && name.len() <= MAX_NAME_BYTES
 }
 
 /// Refuses a file whose name is none of a table.
-pub fn check_table_name(alloc: Global, file: &str, table: &str) -> Result<(), InitFault> {
+pub fn check_table_name(alloc: Global, file: &str, table: &str) -> Result<(), InitFault>
+    ensures named { OnOk result (is_short_name table.now ≡ true) }
+    ensures refused { IfErr result (IsUnnamed file.now table.now) }
+{
     if is_short_name(table.as_bytes()) {
         return Ok(());
     }
@@ -34,19 +42,22 @@ pub fn column_name(
     before: &[Text],
     index: usize,
     field: &[u8],
-) -> Result<Text, InitFault> {
+) -> Result<Text, InitFault>
+    requires { index < usize.MAX }
+    ensures { IfErr result (IsColumnUnnamed file.now index) }
+{
     let Some(name) = name_in(alloc, field)? else {
         let file = String::from_str(alloc, file)?;
         return Err(InitFault::ColumnName {
             file,
-            column: index.saturating_add(1),
+            column: index + 1,
         });
     };
     if before.iter().any(|other| *other == name) {
         let file = String::from_str(alloc, file)?;
         return Err(InitFault::ColumnTwice {
             file,
-            column: index.saturating_add(1),
+            column: index + 1,
         });
     }
     Ok(name)

@@ -1,4 +1,8 @@
 //! A table as its CSV file shows it.
+ghost use Rattle.std.specs.Prelude.{◌≡◌, IfErr, IfOk};
+ghost use Rattle.init.specs.Guessing.{IsHeaderRefused};
+ghost use Rattle.init.specs.Refusing.{IsUnread};
+
 use crate::fault::InitFault;
 use crate::findings::Findings;
 use crate::naming::column_name;
@@ -16,14 +20,18 @@ fn csv_reader<R: Read>(alloc: Global, reader: R) -> Reader<R> {
         .from_reader(alloc, reader)
 }
 
-fn unread(alloc: Global, file: &str) -> InitFault {
+fn unread(alloc: Global, file: &str) -> InitFault
+    ensures { IsUnread file.now result }
+{
     match String::from_str(alloc, file) {
         Ok(file) => InitFault::CannotRead(file),
         Err(AllocError) => InitFault::Memory,
     }
 }
 
-fn fault_of(alloc: Global, file: &str, error: Error) -> InitFault {
+fn fault_of(alloc: Global, file: &str, error: Error) -> InitFault
+    ensures { IsUnread file.now result }
+{
     match error.kind() {
         ErrorKind::Io(_) => unread(alloc, file),
         _ => InitFault::Memory,
@@ -36,14 +44,18 @@ fn next_record<R: Read>(
     file: &str,
     reader: &mut Reader<R>,
     row: &mut ByteRecord,
-) -> Result<bool, InitFault> {
+) -> Result<bool, InitFault>
+    ensures { IfErr result (IsUnread file.now) }
+{
     match reader.read_byte_record(row) {
         Ok(found) => Ok(found),
         Err(error) => Err(fault_of(alloc, file, error)),
     }
 }
 
-fn names_in(alloc: Global, file: &str, header: &ByteRecord) -> Result<Vec<Text>, InitFault> {
+fn names_in(alloc: Global, file: &str, header: &ByteRecord) -> Result<Vec<Text>, InitFault>
+    ensures { IfErr result (IsHeaderRefused file.now) }
+{
     let mut names = Vec::new(alloc);
     for index in 0..header.len() {
         let Some(field) = header.get(index) else {
@@ -61,7 +73,9 @@ fn read_names<R: Read>(
     file: &str,
     reader: &mut Reader<R>,
     row: &mut ByteRecord,
-) -> Result<Vec<Text>, InitFault> {
+) -> Result<Vec<Text>, InitFault>
+    ensures { IfErr result (IsHeaderRefused file.now) }
+{
     if !next_record(alloc, file, reader, row)? {
         return Err(InitFault::NoHeader(String::from_str(alloc, file)?));
     }
@@ -86,7 +100,9 @@ fn take_records<R: Read>(
     reader: &mut Reader<R>,
     row: &mut ByteRecord,
     findings: &mut [Findings],
-) -> Result<(), InitFault> {
+) -> Result<(), InitFault>
+    ensures { IfErr result (IsUnread file.now) }
+{
     for _ in 0..u64::MAX {
         if !next_record(alloc, file, reader, row)? {
             break;
@@ -117,7 +133,9 @@ fn read_columns<R: Read>(
     file: &str,
     reader: &mut Reader<R>,
     row: &mut ByteRecord,
-) -> Result<Sequence<Column>, InitFault> {
+) -> Result<Sequence<Column>, InitFault>
+    ensures { IfErr result (IsHeaderRefused file.now) }
+{
     let names = read_names(alloc, file, reader, row)?;
     let mut findings = vec![in alloc; Findings::NONE; names.len()]?;
     take_records(alloc, file, reader, row, &mut findings)?;
@@ -135,7 +153,10 @@ pub fn read_table<R: Read + Drop>(
     file: &str,
     name: Text,
     reader: R,
-) -> Result<Table, InitFault> {
+) -> Result<Table, InitFault>
+    ensures named { IfOk result (λ table. table.name ≡ name) }
+    ensures refused { IfErr result (IsHeaderRefused file.now) }
+{
     let mut reader = csv_reader(alloc, reader);
     let mut row = ByteRecord::new(alloc);
     let columns = read_columns(alloc, file, &mut reader, &mut row);

@@ -1,4 +1,7 @@
 //! What was chosen, and why.
+ghost use Rattle.std.specs.Prelude.{IfErr};
+ghost use Rattle.init.specs.Guessing.{IsUnreported};
+
 use crate::fault::InitFault;
 use crate::keys::Keyed;
 use crate::writing::{column_name, names_of};
@@ -27,7 +30,9 @@ pub fn report_dimension<E: Write>(
     alloc: Global,
     keyed: &Keyed,
     err: &mut E,
-) -> Result<(), InitFault> {
+) -> Result<(), InitFault>
+    ensures { IfErr result IsUnreported }
+{
     let table = &keyed.dimension.table;
     let name = table.name.as_str();
     let key = column_name(table, keyed.dimension.key);

@@ -1,5 +1,5 @@
 -- Which file bytes begin as, and what is known of one that was shown without a fault.
-use Rattle.std.specs.Prelude.{◌≡◌, ℕ, List, [], ◌∷◌, ◌++◌, length, codes, decimal, Option, None, Some, if◌then◌else◌, nat_eq, ⊤}
+use Rattle.std.specs.Prelude.{◌≡◌, ℕ, List, [], ◌∷◌, ◌++◌, ◌+◌, min, length, codes, decimal, Option, None, Some, IfSome, if◌then◌else◌, nat_eq, ⊤}
 use Rattle.std.specs.Io.KnownBytes.{Appends}
 use Rattle.std.specs.List.{starts_with}
 use Rattle.fragment_file.specs.CutFile.{CutFileSpec, IsCutFileOf}
@@ -8,6 +8,7 @@ use Rattle.folders.specs.Folder.{AreHeld, Holds}
 use Rattle.answer_fields.specs.declared.format.Content.TheVariants as of
 use Rattle.answer_fields.specs.declared.format.Format.{Format}
 use Rattle.answer_fields.specs.Format.{format_in}
+use Rattle.show.specs.Rows.{AppendsRecords, AreRecords, HasRows}
 use Rattle.show.specs.declared.file_kind.FileKind.{FileKind}
 use Rattle.show.specs.declared.file_kind.FileKind.TheVariants as kind
 
@@ -49,16 +50,27 @@ front_of (kind.Answer f) size = []
 front_of (kind.State f) size = []
 front_of kind.Journal size = []
 
--- what is printed begins so, unless rows are asked for
-abbrev pub Begins : FileKind → ℕ → Option ℕ → Option (List ℕ) → Option (List ℕ) → Type 0
-Begins kind size None before after = (rest : List ℕ) × Appends before after (front_of kind size ++ rest)
-Begins kind size (Some rows) before after = ⊤
+-- the number of a table's rows, where it is known
+abbrev pub IsKnownOf : FileKind → List ℕ → Option ℕ → Type 0
+IsKnownOf kind.Table bytes known = (rows : ℕ) × (known ≡ Some rows) × HasRows bytes rows
+IsKnownOf _ bytes known = ⊤
 
--- so it does of bytes that begin as one of the files
+-- where rows of a table's file are asked for, a header and the first rows are printed, as many as are asked for or all that
+-- there are; else what stands in a file, behind the line in front of it
+abbrev pub IsText : FileKind → ℕ → Option ℕ → Option ℕ → List ℕ → List ℕ → Type 0
+IsText kind.Table size (Some most) known front text = (front ≡ []) × ((rows : ℕ) × IfSome known (λ n. rows ≡ n) × AreRecords (1 + min most rows) text)
+IsText kind size most known front text = front ≡ front_of kind size
+
+-- the same of what is printed of a file that has no fault
+abbrev pub IsPrinted : FileKind → List ℕ → Option ℕ → Option (List ℕ) → Option (List ℕ) → Type 0
+IsPrinted kind.Table bytes (Some most) before after = (rows : ℕ) × HasRows bytes rows × AppendsRecords (1 + min most rows) before after
+IsPrinted kind bytes most before after = (rest : List ℕ) × Appends before after (front_of kind (length bytes) ++ rest)
+
+-- so it is of bytes that begin as one of the files
 abbrev pub PrintsParts : List ℕ → Option ℕ → Option (List ℕ) → Option (List ℕ) → Type 0
-PrintsParts bytes rows before after = (kind : FileKind) × (kind_of bytes ≡ Some kind) × Begins kind (length bytes) rows before after
+PrintsParts bytes rows before after = (kind : FileKind) × (kind_of bytes ≡ Some kind) × IsPrinted kind bytes rows before after
 
--- so it does of the bytes that are held under the path, where they are known
+-- so it is of the bytes that are held under the path, where they are known
 abbrev pub PrintsPartsOf : Holds → List ℕ → Option ℕ → Option (List ℕ) → Option (List ℕ) → Type 0
 PrintsPartsOf holds path rows before after = (bytes : List ℕ) × AreHeld (holds path) bytes × PrintsParts bytes rows before after
 

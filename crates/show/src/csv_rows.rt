@@ -1,4 +1,8 @@
 //! The first rows of a table's file as comma-separated values.
+ghost use Rattle.std.specs.Prelude.{◌≡◌, ◌+◌, ℕ, min, IfSome, OnOk};
+ghost use Rattle.csv.specs.Writing.{text_written};
+ghost use Rattle.show.specs.Rows.{AppendsRecords, AreRecords, IsBetween};
+
 use crate::blocks_shown::take_block;
 use crate::header::{show_columns, show_front};
 use crate::tables::{count_groups, take_group_rows};
@@ -8,6 +12,7 @@ use csv::{ByteRecord, Writer, WriterBuilder};
 use itoa::Buffer;
 use meaning::{Column, ValueRef};
 use std::alloc::{AllocError, Global};
+use std::io::Write;
 use std::mem::drop;
 
 fn push_value(record: &mut ByteRecord, value: ValueRef<'_>) -> Result<(), AllocError> {
@@ -27,7 +32,13 @@ fn push_cell(record: &mut ByteRecord, block: &BlockView<'_>, row: usize) -> Resu
     }
 }
 
-fn write_record(writer: &mut Writer<Vec<u8>>, record: &ByteRecord) -> Result<(), Stop> {
+fn write_record<W: Write + Drop>(writer: &mut Writer<W>, record: &ByteRecord) -> Result<(), Stop>
+    requires { IsBetween writer.old }
+    ensures behind { OnOk result (IsBetween writer.new) }
+    ensures one { OnOk result
+        (AppendsRecords 1 (text_written W.contents writer.old)
+        (text_written W.contents writer.new)) }
+{
     match writer.write_byte_record(record) {
         Ok(()) => Ok(()),
         // A list in memory refuses nothing else.
@@ -35,11 +46,17 @@ fn write_record(writer: &mut Writer<Vec<u8>>, record: &ByteRecord) -> Result<(),
     }
 }
 
-fn write_header(
-    writer: &mut Writer<Vec<u8>>,
+fn write_header<W: Write + Drop>(
+    writer: &mut Writer<W>,
     record: &mut ByteRecord,
     columns: &[Column],
-) -> Result<(), Stop> {
+) -> Result<(), Stop>
+    requires { IsBetween writer.old }
+    ensures behind { OnOk result (IsBetween writer.new) }
+    ensures one { OnOk result
+        (AppendsRecords 1 (text_written W.contents writer.old)
+        (text_written W.contents writer.new)) }
+{
     record.clear();
     for column in columns {
         record.push_field(column.name.as_bytes())?;
@@ -47,12 +64,18 @@ fn write_header(
     write_record(writer, record)
 }
 
-fn write_row(
-    writer: &mut Writer<Vec<u8>>,
+fn write_row<W: Write + Drop>(
+    writer: &mut Writer<W>,
     record: &mut ByteRecord,
     blocks: &[BlockView<'_>],
     row: usize,
-) -> Result<(), Stop> {
+) -> Result<(), Stop>
+    requires { IsBetween writer.old }
+    ensures behind { OnOk result (IsBetween writer.new) }
+    ensures one { OnOk result
+        (AppendsRecords 1 (text_written W.contents writer.old)
+        (text_written W.contents writer.new)) }
+{
     record.clear();
     for block in blocks {
         push_cell(record, block, row)?;
@@ -77,13 +100,19 @@ fn take_blocks<'a>(
     Ok(blocks)
 }
 
-/// Writes the first rows of a row group, at most so many.
-fn write_rows(
-    writer: &mut Writer<Vec<u8>>,
+/// Writes the first rows of a row group, just so many.
+fn write_rows<W: Write + Drop>(
+    writer: &mut Writer<W>,
     record: &mut ByteRecord,
     blocks: &[BlockView<'_>],
     rows: u32,
-) -> Result<(), Stop> {
+) -> Result<(), Stop>
+    requires { IsBetween writer.old }
+    ensures behind { OnOk result (IsBetween writer.new) }
+    ensures all { OnOk result
+        (AppendsRecords rows (text_written W.contents writer.old)
+        (text_written W.contents writer.new)) }
+{
     for row in 0..rows {
         write_row(writer, record, blocks, row as usize)?;
     }
@@ -91,15 +120,20 @@ fn write_rows(
 }
 
 /// Writes the rows of a table's file behind its header, at most so many.
-fn write_groups(
+fn write_groups<W: Write + Drop>(
     alloc: Global,
     cursor: &mut Cursor<'_>,
     columns: &[Column],
     rows: u32,
     most: u32,
-    writer: &mut Writer<Vec<u8>>,
+    writer: &mut Writer<W>,
     record: &mut ByteRecord,
-) -> Result<(), Stop> {
+) -> Result<(), Stop>
+    requires { IsBetween writer.old }
+    ensures { OnOk result
+        (AppendsRecords (min most rows) (text_written W.contents writer.old)
+        (text_written W.contents writer.new)) }
+{
     let mut left = rows;
     let mut wanted = most.min(rows);
     for group in 0..count_groups(rows) {
@@ -115,16 +149,24 @@ fn write_groups(
     Ok(())
 }
 
-/// Writes the names of the columns and the first rows of a table's file, behind its magic.
-fn write_table(
+/// Writes the names of the columns and the first rows of a table's file, behind its magic. How many
+/// rows the file has is `known`, or else read from it.
+fn write_table<W: Write + Drop>(
     alloc: Global,
     cursor: &mut Cursor<'_>,
     most: u32,
-    writer: &mut Writer<Vec<u8>>,
+    known: Option<u32>,
+    writer: &mut Writer<W>,
     record: &mut ByteRecord,
-) -> Result<(), Stop> {
+) -> Result<(), Stop>
+    requires { IsBetween writer.old }
+    ensures { OnOk result ((rows : ℕ) × IfSome known (λ n. rows ≡ n)
+        × AppendsRecords (1 + min most rows) (text_written W.contents writer.old)
+        (text_written W.contents writer.new)) }
+{
     let mut unshown = String::new(alloc);
-    let rows = show_front(alloc, cursor, &mut unshown)?;
+    let read = show_front(alloc, cursor, &mut unshown)?;
+    let rows = known.unwrap_or(read);
     let columns = show_columns(alloc, cursor, &mut unshown)?;
     let columns = columns.as_slice();
     write_header(writer, record, columns)?;
@@ -132,15 +174,19 @@ fn write_table(
 }
 
 /// The names of the columns and the first rows of a table's file, behind its magic, at most so many,
-/// and why there aren't as many as it has.
+/// and why there aren't as many as it has, which is `known` or read from the file.
 pub fn rows_of_table(
     alloc: Global,
     cursor: &mut Cursor<'_>,
     most: u32,
-) -> (Vec<u8>, Result<(), Stop>) {
+    known: Option<u32>,
+) -> (Vec<u8>, Result<(), Stop>)
+    ensures { OnOk result.1 ((rows : ℕ) × IfSome known (λ n. rows ≡ n)
+        × AreRecords (1 + min most rows) result.0.items) }
+{
     let mut writer = WriterBuilder::new().from_writer(Vec::new(alloc));
     let mut record = ByteRecord::new(alloc);
-    let written = write_table(alloc, cursor, most, &mut writer, &mut record);
+    let written = write_table(alloc, cursor, most, known, &mut writer, &mut record);
     drop(record);
     match writer.into_inner() {
         Ok(csv) => (csv, written),

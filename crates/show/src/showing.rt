@@ -1,10 +1,10 @@
 //! The command `show`.
-ghost use Rattle.std.specs.Prelude.{◌≡◌, ◌⊎◌, ◌++◌, ℕ, List, None, false, true, IfOk, IsOk, OnOk, length, string_bytes};
+ghost use Rattle.std.specs.Prelude.{◌≡◌, ◌⊎◌, ◌++◌, ℕ, List, Some, false, true, IfOk, IsOk, OnOk, length, string_bytes};
 ghost use Rattle.std.specs.Io.KnownBytes.{Appends};
 ghost use Rattle.fragment_file.specs.CutFile.{CutFileSpec, IsCutFileOf};
-ghost use Rattle.fragment_file.specs.Fragment.{FragmentSpec, IsFileOf};
 ghost use Rattle.folders.specs.Folder.{AreHeld};
-ghost use Rattle.show.specs.Shown.{Begins, BeginsAsFile, HoldsFile, IsTaken, IsWhole, PrintsParts, PrintsPartsOf, front_of};
+ghost use Rattle.show.specs.Rows.{HasRows};
+ghost use Rattle.show.specs.Shown.{BeginsAsFile, HoldsFile, IsKnownOf, IsPrinted, IsTaken, IsText, IsWhole, PrintsParts, PrintsPartsOf, front_of};
 
 use crate::csv_rows::rows_of_table;
 use crate::cuts::show_cut_file;
@@ -122,10 +122,14 @@ fn parts_of(alloc: Global, kind: FileKind, bytes: &[u8], detail: Detail) -> Show
 }
 
 /// The first rows of a table's file, and what is wrong with the file.
-fn rows_of(alloc: Global, bytes: &[u8], most: u32) -> Shown {
+fn rows_of(alloc: Global, bytes: &[u8], most: u32, known: Option<u32>) -> Shown
+    ensures { OnOk result.ended
+        (IsText FileKind.Table (length bytes.now) (Some most) known (string_bytes result.front)
+        result.bytes.items) }
+{
     let mut cursor = Cursor::new(0, bytes);
     let _magic = cursor.take_bytes(4, "the magic");
-    let (csv, written) = rows_of_table(alloc, &mut cursor, most);
+    let (csv, written) = rows_of_table(alloc, &mut cursor, most, known);
     let (parts, ended) = behind_front(alloc, FileKind::Table, bytes, Detail::Nothing);
     drop(parts);
     Shown {
@@ -135,25 +139,38 @@ fn rows_of(alloc: Global, bytes: &[u8], most: u32) -> Shown {
     }
 }
 
-fn shown_of(alloc: Global, kind: FileKind, bytes: &[u8], options: ShowOptions) -> Shown
-    ensures { options.rows ≡ None
-        → OnOk result.ended (string_bytes result.front ≡ front_of kind (length bytes.now)) }
+/// What is printed of a file, the number of whose rows may be known.
+fn shown_of(
+    alloc: Global,
+    kind: FileKind,
+    bytes: &[u8],
+    options: ShowOptions,
+    known: Option<u32>,
+) -> Shown
+    ensures { OnOk result.ended
+        (IsText kind (length bytes.now) options.rows known (string_bytes result.front)
+        result.bytes.items) }
 {
     let Some(most) = options.rows else {
         return parts_of(alloc, kind, bytes, options.detail());
     };
     match kind {
-        FileKind::Table => rows_of(alloc, bytes, most),
-        _ => parts_of(alloc, kind, bytes, options.detail()),
+        FileKind::Table => rows_of(alloc, bytes, most, known),
+        FileKind::Cut => parts_of(alloc, kind, bytes, options.detail()),
+        FileKind::Answer(_) => parts_of(alloc, kind, bytes, options.detail()),
+        FileKind::State(_) => parts_of(alloc, kind, bytes, options.detail()),
+        FileKind::Journal => parts_of(alloc, kind, bytes, options.detail()),
     }
 }
 
-fn judge_table(alloc: Global, bytes: &[u8]) -> Result<(), Stop>
-    ensures { OnOk result ((f : FragmentSpec) × IsFileOf bytes.now f) }
+/// The number of a table's rows.
+fn judge_table(alloc: Global, bytes: &[u8]) -> Result<u32, Stop>
+    ensures { IfOk result (HasRows bytes.now) }
 {
     let view = open(alloc, bytes)?;
+    let rows = view.header().rows;
     drop(view);
-    Ok(())
+    Ok(rows)
 }
 
 fn judge_cut(alloc: Global, bytes: &[u8]) -> Result<(), Stop>
@@ -164,16 +181,21 @@ fn judge_cut(alloc: Global, bytes: &[u8]) -> Result<(), Stop>
     Ok(())
 }
 
-/// Has the readers of tables and cuts take the bytes, as the commands do.
-fn judge(alloc: Global, kind: FileKind, bytes: &[u8]) -> Result<(), Stop>
-    ensures { OnOk result (IsTaken kind bytes.now) }
+/// Has the readers of tables and cuts take the bytes, as the commands do. Of a table it gives the
+/// number of rows.
+fn judge(alloc: Global, kind: FileKind, bytes: &[u8]) -> Result<Option<u32>, Stop>
+    ensures taken { OnOk result (IsTaken kind bytes.now) }
+    ensures known { IfOk result (IsKnownOf kind bytes.now) }
 {
     match kind {
-        FileKind::Table => judge_table(alloc, bytes),
-        FileKind::Cut => judge_cut(alloc, bytes),
-        FileKind::Answer(_) => Ok(()),
-        FileKind::State(_) => Ok(()),
-        FileKind::Journal => Ok(()),
+        FileKind::Table => Ok(Some(judge_table(alloc, bytes)?)),
+        FileKind::Cut => {
+            judge_cut(alloc, bytes)?;
+            Ok(None)
+        }
+        FileKind::Answer(_) => Ok(None),
+        FileKind::State(_) => Ok(None),
+        FileKind::Journal => Ok(None),
     }
 }
 
@@ -216,8 +238,8 @@ fn report<E: Write>(kind: FileKind, stop: Stop, path: &str, err: &mut E) -> io::
 
 /// Prints a file's parts behind the line in front of them.
 fn write_shown<O: Write>(shown: &Shown, out: &mut O) -> io::Result<()>
-    ensures { OnOk result ((rest : List ℕ) × Appends (O.contents out.old) (O.contents out.new)
-        (string_bytes shown.now.front ++ rest)) }
+    ensures { OnOk result (Appends (O.contents out.old) (O.contents out.new)
+        (string_bytes shown.now.front ++ shown.now.bytes.items)) }
 {
     out.write_all(shown.front.as_bytes())?;
     out.write_all(shown.bytes.as_slice())
@@ -233,8 +255,8 @@ fn print<O: Write, E: Write>(
 ) -> io::Result<bool>
     ensures silent { IfOk result (λ whole. whole ≡ true → E.contents err.new ≡ E.contents err.old) }
     ensures printed { IfOk result (λ whole. whole ≡ true → IsOk shown.now.ended
-        × ((rest : List ℕ) × Appends (O.contents out.old) (O.contents out.new)
-        (string_bytes shown.now.front ++ rest))) }
+        × Appends (O.contents out.old) (O.contents out.new)
+        (string_bytes shown.now.front ++ shown.now.bytes.items)) }
 {
     if write_shown(shown, out).is_err() {
         writeln!(err, "xcols: cannot write standard output")?;
@@ -263,16 +285,18 @@ fn show_kind<O: Write, E: Write>(
     ensures silent { IfOk result
         (λ whole. whole ≡ true → E.contents err.new ≡ E.contents err.old) }
     ensures printed { IfOk result (λ whole. whole ≡ true
-        → Begins kind (length bytes.now) options.rows (O.contents out.old) (O.contents out.new)) }
+        → IsPrinted kind bytes.now options.rows (O.contents out.old) (O.contents out.new)) }
 {
-    let shown = shown_of(alloc, kind, bytes, options);
-    if !print(kind, path, &shown, out, err)? {
-        return Ok(false);
-    }
     match judge(alloc, kind, bytes) {
-        Ok(()) => Ok(true),
+        Ok(known) => {
+            let shown = shown_of(alloc, kind, bytes, options, known);
+            print(kind, path, &shown, out, err)
+        }
         Err(stop) => {
-            report(kind, stop, path, err)?;
+            let shown = shown_of(alloc, kind, bytes, options, None);
+            if print(kind, path, &shown, out, err)? {
+                report(kind, stop, path, err)?;
+            }
             Ok(false)
         }
     }
@@ -348,7 +372,8 @@ pub fn show<F: Folder, O: Write, E: Write>(
     ensures silent { result ≡ 0 → E.contents err.new ≡ E.contents err.old }
     ensures quiet { (O.contents out.new ≡ O.contents out.old)
         ⊎ HoldsFile (F.holds folder.now) path.now }
-    // Unless rows are asked for, a table's file and a cut's are named in front of their parts.
+    // Of a table's file as many rows as are asked for are printed, or all; else it and a cut's are named
+    // in front of their parts.
     ensures printed { result ≡ 0
         → PrintsPartsOf (F.holds folder.now) path.now options.now.rows (O.contents out.old)
         (O.contents out.new) }

@@ -1,4 +1,7 @@
 //! Files of fragments and dimensions.
+ghost use Rattle.std.specs.Prelude.{◌≡◌, ◌≤◌, ◌*◌, min, IfOk};
+ghost use Rattle.meaning.specs.Limits.{row_group_rows};
+
 use crate::blocks_shown::{Total, no_totals, put_total, show_block};
 use crate::header::{show_columns, show_front};
 use answer_text::{Cursor, Stop, Wrong, put_share};
@@ -7,7 +10,9 @@ use meaning::{Column, ROW_GROUP_ROWS};
 use std::alloc::Global;
 
 /// The number of rows of the next row group, of which so many are left.
-pub fn take_group_rows(cursor: &mut Cursor<'_>, left: u32) -> Result<u32, Stop> {
+pub fn take_group_rows(cursor: &mut Cursor<'_>, left: u32) -> Result<u32, Stop>
+    ensures { IfOk result (λ rows. rows ≡ min left row_group_rows) }
+{
     let field = "a row group's number of rows";
     let rows = cursor.take_u32(field)?;
     if rows != next_rows(left) {
@@ -17,7 +22,9 @@ pub fn take_group_rows(cursor: &mut Cursor<'_>, left: u32) -> Result<u32, Stop> 
 }
 
 /// How many row groups so many rows have.
-pub fn count_groups(rows: u32) -> u32 {
+pub fn count_groups(rows: u32) -> u32
+    ensures { rows ≤ row_group_rows * result }
+{
     rows.div_ceil(ROW_GROUP_ROWS as u32)
 }
 

@@ -1,0 +1,23 @@
+-- Proofs of the goals of `guess_catalog` (`making`).
+use Rattle.std.proofs.Common.{◌+◌, ◌≤◌, arith, inr, length, subst}
+use Rattle.std.specs.Prelude.{option_map}
+use Rattle.std.proofs.lemmas.Result.{IfErr-weaker}
+use Rattle.meaning.specs.Limits.{max_dimensions}
+use Rattle.init.specs.Guessing.{IsFactOf, IsTextRefused}
+use Rattle.init.proofs.making.guess_catalog.Goals as goal
+
+pub returns-clause-refused : goal.returns-clause-refused
+returns-clause-refused g c =
+    let files = c.in_ok-files.files.items in
+    let fact = c.in_ok-fact.fact.now in
+    let is_fact = subst (λ items. IsFactOf (option_map (λ asked. asked.now) c.args.fact) items fact) c.as_slice.ensures.value c.in_ok-fact.ensures.found in
+    let few : length files ≤ max_dimensions + 1 = let counted = c.len.ensures in let below = c.if-len.false in omega (arith, counted, below) in
+    IfErr-weaker c.checked_text.result _ _ (λ e refused. inr (
+      files,
+      c.in_ok-files.ensures.listed,
+      inr (
+        fact,
+        is_fact,
+        inr (few, subst (λ items. IsTextRefused (g.F.Folder.holds c.args.folder.now) c.args.directory.now items fact e) c.as_slice-2.ensures.value refused),
+      ),
+    )) c.checked_text.ensures.refused

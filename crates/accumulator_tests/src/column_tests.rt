@@ -1,5 +1,6 @@
 //! States of two groups, by group index: 5 and 7 go to the first, NULL to the second.
-ghost use Rattle.std.specs.Prelude.{◌≡◌, ◌≤◌, ◌<◌, ◌+◌, [], ◌∷◌, length, All, IfOk};
+ghost use Rattle.std.specs.Prelude.{◌≡◌, ◌≤◌, ◌<◌, ◌+◌, [], ◌∷◌, length, map, sum, All, IfOk};
+ghost use Rattle.aggregate_states.specs.State.{most_entries};
 ghost use Rattle.meaning.specs.Aggregate.{no_statistics};
 
 use crate::aggregate_tests::{expect_shown, show_value};
@@ -24,26 +25,64 @@ fn two_groups(alloc: Global, kind: AggregateKind) -> Result<StateColumn, AllocEr
     Ok(column)
 }
 
-fn updated(alloc: Global, kind: AggregateKind) -> Result<StateColumn, AllocError>
-    ensures { IfOk result (λ c. length c.states ≡ 2) }
+/// The column, unless what was done with it was refused.
+fn column_if(column: StateColumn, done: Result<(), AllocError>) -> Result<StateColumn, AllocError>
+    ensures { IfOk result (λ c. c ≡ column) }
+{
+    match done {
+        Ok(()) => Ok(column),
+        Err(refused) => {
+            drop(column);
+            Err(refused)
+        }
+    }
+}
+
+fn update(alloc: Global, column: &mut StateColumn) -> Result<(), AllocError>
+    requires { column.old.states ≡ no_statistics ∷ no_statistics ∷ [] }
+    ensures { length column.new.states ≡ 2 }
 {
     let lanes = vector_of(alloc, &[5, NULL, 7], 3)?;
     let selection = Selection::all(alloc, 3)?;
+    column.update(alloc, &[0, 1, 0], &lanes, &selection)
+}
+
+fn updated(alloc: Global, kind: AggregateKind) -> Result<StateColumn, AllocError>
+    ensures { IfOk result (λ c. length c.states ≡ 2) }
+{
     let mut column = two_groups(alloc, kind)?;
-    column.update(alloc, &[0, 1, 0], &lanes, &selection)?;
-    Ok(column)
+    let done = update(alloc, &mut column);
+    column_if(column, done)
+}
+
+/// The first group's state.
+fn first_state(alloc: Global, kind: AggregateKind) -> Result<Vec<State>, AllocError>
+    ensures one { IfOk result (λ states. length states.items ≡ 1) }
+    ensures few { IfOk result (λ states. sum (map (λ s. s.count) states.items) ≤ most_entries) }
+{
+    let column = updated(alloc, kind)?;
+    let state = column.state(alloc, 0);
+    drop(column);
+    let state = state?;
+    let _few = state.count();
+    Ok(vec![in alloc; state]?)
+}
+
+fn merge(alloc: Global, kind: AggregateKind, column: &mut StateColumn) -> Result<(), AllocError>
+    requires { column.old.states ≡ no_statistics ∷ no_statistics ∷ [] }
+    ensures { length column.new.states ≡ 2 }
+{
+    let states = first_state(alloc, kind)?;
+    column.merge(alloc, &[1], states.as_slice())
 }
 
 /// The first group's state, merged into the second of others.
 fn merged(alloc: Global, kind: AggregateKind) -> Result<StateColumn, AllocError>
     ensures { IfOk result (λ c. length c.states ≡ 2) }
 {
-    let state = updated(alloc, kind)?.state(alloc, 0)?;
-    let _few = state.count();
-    let states = vec![in alloc; state]?;
     let mut column = two_groups(alloc, kind)?;
-    column.merge(alloc, &[1], states.as_slice())?;
-    Ok(column)
+    let done = merge(alloc, kind, &mut column);
+    column_if(column, done)
 }
 
 /// What the aggregate of a state is.
@@ -154,6 +193,22 @@ fn seven_groups(alloc: Global, kind: AggregateKind) -> Result<StateColumn, Alloc
     Ok(column)
 }
 
+fn update_by_seven(alloc: Global, column: &mut StateColumn, many: usize) -> Result<(), AllocError>
+    requires many { many ≤ 1000 }
+    requires seven { length column.old.states ≡ 7 }
+    requires fresh { All (λ s. s.count ≡ 0) column.old.states }
+    ensures { length column.new.states ≡ 7 }
+{
+    let (ints, group_indexes) = twice_by_seven(alloc, many)?;
+    let selection = Selection::all(alloc, (many + many) as u32)?;
+    column.update(
+        alloc,
+        group_indexes.as_slice(),
+        &plain(ints.as_slice()),
+        &selection,
+    )
+}
+
 fn updated_by_seven(
     alloc: Global,
     kind: AggregateKind,
@@ -162,16 +217,9 @@ fn updated_by_seven(
     requires { many ≤ 1000 }
     ensures { IfOk result (λ c. length c.states ≡ 7) }
 {
-    let (ints, group_indexes) = twice_by_seven(alloc, many)?;
-    let selection = Selection::all(alloc, (many + many) as u32)?;
     let mut column = seven_groups(alloc, kind)?;
-    column.update(
-        alloc,
-        group_indexes.as_slice(),
-        &plain(ints.as_slice()),
-        &selection,
-    )?;
-    Ok(column)
+    let done = update_by_seven(alloc, &mut column, many);
+    column_if(column, done)
 }
 
 fn show_seven(

@@ -1,12 +1,14 @@
 //! States of two groups, by group index: 5 and 7 go to the first, NULL to the second.
-ghost use Rattle.std.specs.Prelude.{◌≡◌, ◌≤◌, ◌<◌, ◌+◌, [], ◌∷◌, length, All, IfOk};
+ghost use Rattle.std.specs.Prelude.{◌≡◌, ◌≤◌, ◌<◌, ◌+◌, [], ◌∷◌, length, map, sum, All, IfOk};
+ghost use Rattle.aggregate_states.specs.State.{most_entries};
 ghost use Rattle.meaning.specs.Aggregate.{no_statistics};
 
-use crate::aggregate_tests::show_value;
-use accumulators::StateColumn;
+use crate::aggregate_tests::{expect_shown, show_value};
+use accumulators::{State, StateColumn};
 use meaning::AggregateKind;
 use short_vectors::{NULL, plain, vector_of};
 use std::alloc::{AllocError, Global};
+use std::mem::drop;
 use std::process::Abort;
 use vectors::Selection;
 
@@ -23,26 +25,77 @@ fn two_groups(alloc: Global, kind: AggregateKind) -> Result<StateColumn, AllocEr
     Ok(column)
 }
 
-fn updated(alloc: Global, kind: AggregateKind) -> Result<StateColumn, AllocError>
-    ensures { IfOk result (λ c. length c.states ≡ 2) }
+/// The column, unless what was done with it was refused.
+fn column_if(column: StateColumn, done: Result<(), AllocError>) -> Result<StateColumn, AllocError>
+    ensures { IfOk result (λ c. c ≡ column) }
+{
+    match done {
+        Ok(()) => Ok(column),
+        Err(refused) => {
+            drop(column);
+            Err(refused)
+        }
+    }
+}
+
+fn update(alloc: Global, column: &mut StateColumn) -> Result<(), AllocError>
+    requires { column.old.states ≡ no_statistics ∷ no_statistics ∷ [] }
+    ensures { length column.new.states ≡ 2 }
 {
     let lanes = vector_of(alloc, &[5, NULL, 7], 3)?;
     let selection = Selection::all(alloc, 3)?;
+    column.update(alloc, &[0, 1, 0], &lanes, &selection)
+}
+
+fn updated(alloc: Global, kind: AggregateKind) -> Result<StateColumn, AllocError>
+    ensures { IfOk result (λ c. length c.states ≡ 2) }
+{
     let mut column = two_groups(alloc, kind)?;
-    column.update(alloc, &[0, 1, 0], &lanes, &selection)?;
-    Ok(column)
+    let done = update(alloc, &mut column);
+    column_if(column, done)
+}
+
+/// The first group's state.
+fn first_state(alloc: Global, kind: AggregateKind) -> Result<Vec<State>, AllocError>
+    ensures one { IfOk result (λ states. length states.items ≡ 1) }
+    ensures few { IfOk result (λ states. sum (map (λ s. s.count) states.items) ≤ most_entries) }
+{
+    let column = updated(alloc, kind)?;
+    let state = column.state(alloc, 0);
+    drop(column);
+    let state = state?;
+    let _few = state.count();
+    Ok(vec![in alloc; state]?)
+}
+
+fn merge(alloc: Global, kind: AggregateKind, column: &mut StateColumn) -> Result<(), AllocError>
+    requires { column.old.states ≡ no_statistics ∷ no_statistics ∷ [] }
+    ensures { length column.new.states ≡ 2 }
+{
+    let states = first_state(alloc, kind)?;
+    column.merge(alloc, &[1], states.as_slice())
 }
 
 /// The first group's state, merged into the second of others.
 fn merged(alloc: Global, kind: AggregateKind) -> Result<StateColumn, AllocError>
     ensures { IfOk result (λ c. length c.states ≡ 2) }
 {
-    let state = updated(alloc, kind)?.state(alloc, 0)?;
-    let _few = state.count();
-    let states = vec![in alloc; state]?;
     let mut column = two_groups(alloc, kind)?;
-    column.merge(alloc, &[1], states.as_slice())?;
-    Ok(column)
+    let done = merge(alloc, kind, &mut column);
+    column_if(column, done)
+}
+
+/// What the aggregate of a state is.
+fn show_state(
+    alloc: Global,
+    kind: AggregateKind,
+    state: State,
+    shown: &mut String,
+) -> Result<(), AllocError> {
+    let value = state.evaluate(alloc, kind);
+    drop(state);
+    show_value(shown, value)?;
+    shown.push_str(";")
 }
 
 /// What the aggregate is in each group.
@@ -52,8 +105,7 @@ fn shown(alloc: Global, kind: AggregateKind, column: &StateColumn) -> Result<Str
     let mut shown = String::new(alloc);
     for group_index in 0..2 {
         let state = column.state(alloc, group_index)?;
-        show_value(&mut shown, state.evaluate(alloc, kind))?;
-        shown.push_str(";")?;
+        show_state(alloc, kind, state, &mut shown)?;
     }
     Ok(shown)
 }
@@ -65,44 +117,27 @@ fn expect(
     want: &str,
 ) -> Result<(), AllocError> {
     let column = updated(alloc, kind)?;
-    let shown = shown(alloc, kind, &column)?;
-    assert_eq!(rt; shown.as_str(), want);
+    let shown = shown(alloc, kind, &column);
+    drop(column);
+    expect_shown(rt, shown, want)
+}
+
+const BY_GROUP: &[(AggregateKind, &str)] = &[
+    (AggregateKind::Count, "2;0;"),
+    (AggregateKind::Sum, "12;NULL;"),
+    (AggregateKind::Avg, "6;NULL;"),
+    (AggregateKind::Min, "5;NULL;"),
+    (AggregateKind::Max, "7;NULL;"),
+    (AggregateKind::CountDistinct, "2;0;"),
+    (AggregateKind::SumDistinct, "12;NULL;"),
+];
+
+#[test]
+fn aggregates_by_group(rt: HostRuntime) -> Result<(), AllocError> {
+    for (kind, want) in BY_GROUP {
+        expect(&rt, rt.alloc(), *kind, want)?;
+    }
     Ok(())
-}
-
-#[test]
-fn counts_by_group(rt: HostRuntime) -> Result<(), AllocError> {
-    expect(&rt, rt.alloc(), AggregateKind::Count, "2;0;")
-}
-
-#[test]
-fn sums_by_group(rt: HostRuntime) -> Result<(), AllocError> {
-    expect(&rt, rt.alloc(), AggregateKind::Sum, "12;NULL;")
-}
-
-#[test]
-fn averages_by_group(rt: HostRuntime) -> Result<(), AllocError> {
-    expect(&rt, rt.alloc(), AggregateKind::Avg, "6;NULL;")
-}
-
-#[test]
-fn least_values_by_group(rt: HostRuntime) -> Result<(), AllocError> {
-    expect(&rt, rt.alloc(), AggregateKind::Min, "5;NULL;")
-}
-
-#[test]
-fn greatest_values_by_group(rt: HostRuntime) -> Result<(), AllocError> {
-    expect(&rt, rt.alloc(), AggregateKind::Max, "7;NULL;")
-}
-
-#[test]
-fn counts_of_different_values_by_group(rt: HostRuntime) -> Result<(), AllocError> {
-    expect(&rt, rt.alloc(), AggregateKind::CountDistinct, "2;0;")
-}
-
-#[test]
-fn sums_of_different_values_by_group(rt: HostRuntime) -> Result<(), AllocError> {
-    expect(&rt, rt.alloc(), AggregateKind::SumDistinct, "12;NULL;")
 }
 
 fn expect_merged(
@@ -112,24 +147,23 @@ fn expect_merged(
     want: &str,
 ) -> Result<(), AllocError> {
     let column = merged(alloc, kind)?;
-    let shown = shown(alloc, kind, &column)?;
-    assert_eq!(rt; shown.as_str(), want);
+    let shown = shown(alloc, kind, &column);
+    drop(column);
+    expect_shown(rt, shown, want)
+}
+
+const MERGED: &[(AggregateKind, &str)] = &[
+    (AggregateKind::Sum, "NULL;12;"),
+    (AggregateKind::Min, "NULL;5;"),
+    (AggregateKind::CountDistinct, "0;2;"),
+];
+
+#[test]
+fn states_are_merged_by_group(rt: HostRuntime) -> Result<(), AllocError> {
+    for (kind, want) in MERGED {
+        expect_merged(&rt, rt.alloc(), *kind, want)?;
+    }
     Ok(())
-}
-
-#[test]
-fn sums_are_merged_by_group(rt: HostRuntime) -> Result<(), AllocError> {
-    expect_merged(&rt, rt.alloc(), AggregateKind::Sum, "NULL;12;")
-}
-
-#[test]
-fn least_values_are_merged_by_group(rt: HostRuntime) -> Result<(), AllocError> {
-    expect_merged(&rt, rt.alloc(), AggregateKind::Min, "NULL;5;")
-}
-
-#[test]
-fn sets_are_merged_by_group(rt: HostRuntime) -> Result<(), AllocError> {
-    expect_merged(&rt, rt.alloc(), AggregateKind::CountDistinct, "0;2;")
 }
 
 /// The integers below so many, each twice, and each one's remainder by 7.
@@ -159,6 +193,22 @@ fn seven_groups(alloc: Global, kind: AggregateKind) -> Result<StateColumn, Alloc
     Ok(column)
 }
 
+fn update_by_seven(alloc: Global, column: &mut StateColumn, many: usize) -> Result<(), AllocError>
+    requires many { many ≤ 1000 }
+    requires seven { length column.old.states ≡ 7 }
+    requires fresh { All (λ s. s.count ≡ 0) column.old.states }
+    ensures { length column.new.states ≡ 7 }
+{
+    let (ints, group_indexes) = twice_by_seven(alloc, many)?;
+    let selection = Selection::all(alloc, (many + many) as u32)?;
+    column.update(
+        alloc,
+        group_indexes.as_slice(),
+        &plain(ints.as_slice()),
+        &selection,
+    )
+}
+
 fn updated_by_seven(
     alloc: Global,
     kind: AggregateKind,
@@ -167,16 +217,25 @@ fn updated_by_seven(
     requires { many ≤ 1000 }
     ensures { IfOk result (λ c. length c.states ≡ 7) }
 {
-    let (ints, group_indexes) = twice_by_seven(alloc, many)?;
-    let selection = Selection::all(alloc, (many + many) as u32)?;
     let mut column = seven_groups(alloc, kind)?;
-    column.update(
-        alloc,
-        group_indexes.as_slice(),
-        &plain(ints.as_slice()),
-        &selection,
-    )?;
-    Ok(column)
+    let done = update_by_seven(alloc, &mut column, many);
+    column_if(column, done)
+}
+
+fn show_seven(
+    alloc: Global,
+    kind: AggregateKind,
+    column: &StateColumn,
+    shown: &mut String,
+) -> Result<(), AllocError>
+    requires { length column.now.states ≡ 7 }
+{
+    let states = column.ordered(alloc)?;
+    for group_index in 0..7 {
+        let state = states.state(alloc, group_index)?;
+        show_state(alloc, kind, state, shown)?;
+    }
+    Ok(())
 }
 
 /// What the aggregate is in each of seven groups.
@@ -184,29 +243,25 @@ fn shown_of_seven(alloc: Global, kind: AggregateKind, many: usize) -> Result<Str
     requires { many ≤ 1000 }
 {
     let column = updated_by_seven(alloc, kind, many)?;
-    let states = column.ordered(alloc)?;
     let mut shown = String::new(alloc);
-    for group_index in 0..7 {
-        let state = states.state(alloc, group_index)?;
-        show_value(&mut shown, state.evaluate(alloc, kind))?;
-        shown.push_str(";")?;
-    }
+    let ended = show_seven(alloc, kind, &column, &mut shown);
+    drop(column);
+    ended?;
     Ok(shown)
 }
 
-#[test]
-fn sets_of_a_thousand_entries_are_counted(rt: HostRuntime) -> Result<(), AllocError> {
-    let shown = shown_of_seven(rt.alloc(), AggregateKind::CountDistinct, 1000)?;
-    assert_eq!(rt; shown.as_str(), "143;143;143;143;143;143;142;");
-    Ok(())
-}
+const BY_SEVEN: &[(AggregateKind, &str)] = &[
+    (AggregateKind::CountDistinct, "143;143;143;143;143;143;142;"),
+    (
+        AggregateKind::SumDistinct,
+        "71071;71214;71357;71500;71643;71786;70929;",
+    ),
+];
 
 #[test]
-fn sets_of_a_thousand_entries_are_summed(rt: HostRuntime) -> Result<(), AllocError> {
-    let shown = shown_of_seven(rt.alloc(), AggregateKind::SumDistinct, 1000)?;
-    assert_eq!(rt;
-        shown.as_str(),
-        "71071;71214;71357;71500;71643;71786;70929;"
-    );
+fn sets_of_a_thousand_entries(rt: HostRuntime) -> Result<(), AllocError> {
+    for (kind, want) in BY_SEVEN {
+        expect_shown(&rt, shown_of_seven(rt.alloc(), *kind, 1000), want)?;
+    }
     Ok(())
 }

@@ -1,8 +1,8 @@
--- Proofs of the goals of `updated_by_seven` (`column_tests`).
+-- Proofs of the goals of `update_by_seven` (`column_tests`).
 use Rattle.std.proofs.Common.{◌≡◌, ◌+◌, length, ap, sym, arith, ◌∙◌}
 use Rattle.std.proofs.lemmas.List.FromFn.{length-range_with_len}
 use Rattle.vectors.specs.Selection.{Positions}
-use Rattle.accumulator_tests.proofs.column_tests.updated_by_seven.Goals as goal
+use Rattle.accumulator_tests.proofs.column_tests.update_by_seven.Goals as goal
 
 pub update-requires-clause-group_indexes : goal.update-requires-clause-group_indexes
 update-requires-clause-group_indexes c =
@@ -14,5 +14,5 @@ pub update-requires-clause-few : goal.update-requires-clause-few
 update-requires-clause-few c = λ k d here.
     let many = c.args.many + c.args.many in
     let long : length c.in_ok-selection.selection.list ≡ many = ap (λ (s : Positions). length s.list) c.in_ok-selection.ensures ∙ length-range_with_len 0 many in
-    let none = c.in_ok-column.ensures.fresh k d here in
-    omega (arith, none, long, c.requires)
+    let none = c.requires.fresh k d here in
+    omega (arith, none, long, c.requires.many)

@@ -8,122 +8,47 @@ use folders::Refusal;
 use loader::LoadFault;
 use meaning::{CatalogFault, TableFault, Text};
 use std::alloc::{AllocError, AllocFailed};
-use std::error::Error;
-use std::fmt::{self, Debug, Display, Formatter};
+use thiserror::Error;
 
 /// Why no catalogue was made for a folder. Files are named by their paths; columns count from 1, as
 /// in a spreadsheet, and rows from 0 behind the header, as everywhere.
-#[derive(Drop)]
+#[derive(Debug, Drop, Error)]
 pub enum InitFault {
+    #[error("memory")]
     Memory,
+    #[error("cannot read {0}")]
     CannotRead(String),
+    #[error("cannot write {0}")]
     CannotWrite(String),
+    #[error("cannot write standard error")]
     CannotReport,
+    #[error("{0} is there already, and is never written over")]
     CatalogThere(String),
+    #[error("{0} has no CSV file")]
     NoFile(String),
+    #[error("there is no file {0} for the fact")]
     NoFact(String),
+    #[error("{0} has no name of a table: at most 64 lower-case letters, digits and underscores, no digit in front, no word of SQL")]
     TableName(String),
+    #[error("{file}: column {column} has no name: at most 64 letters, digits and underscores, no digit in front, no word of SQL")]
     ColumnName { file: String, column: usize },
+    #[error("{file}: column {column} has the name of one before it")]
     ColumnTwice { file: String, column: usize },
+    #[error("{0} has no header")]
     NoHeader(String),
+    #[error("{0} has over 64 columns")]
     TooManyColumns(String),
+    #[error("there are over 16 files beside the fact's")]
     TooManyDimensions,
+    #[error("{0} can't be a dimension: it has no column whose values differ and are never NULL, for a key")]
     NoKey(String),
+    #[error("{0} has over 4,294,967,296 rows")]
     TooManyRows(String),
+    #[error("{file}: load {}: {fault}", fault.number())]
     Table { file: String, fault: TableFault },
+    #[error("the text that was made is no catalogue: {0}")]
     Catalog(CatalogFault),
 }
-
-impl InitFault {
-    /// What its line says in front of the path or behind it.
-    fn says(&self) -> &'static str {
-        match self {
-            InitFault::Memory => "memory",
-            InitFault::CannotRead(_) => "cannot read ",
-            InitFault::CannotWrite(_) => "cannot write ",
-            InitFault::CannotReport => "cannot write standard error",
-            InitFault::CatalogThere(_) => " is there already, and is never written over",
-            InitFault::NoFile(_) => " has no CSV file",
-            InitFault::NoFact(_) => " for the fact",
-            InitFault::TableName(_) =>
-                " has no name of a table: at most 64 lower-case letters, digits and underscores, no digit in front, no word of SQL",
-            InitFault::ColumnName { .. } =>
-                " has no name: at most 64 letters, digits and underscores, no digit in front, no word of SQL",
-            InitFault::ColumnTwice { .. } => " has the name of one before it",
-            InitFault::NoHeader(_) => " has no header",
-            InitFault::TooManyColumns(_) => " has over 64 columns",
-            InitFault::TooManyDimensions => "there are over 16 files beside the fact's",
-            InitFault::NoKey(_) =>
-                " can't be a dimension: it has no column whose values differ and are never NULL, for a key",
-            InitFault::TooManyRows(_) => " has over 4,294,967,296 rows",
-            InitFault::Table { .. } => ": load ",
-            InitFault::Catalog(_) => "the text that was made is no catalogue: ",
-        }
-    }
-}
-
-fn write_line<W: fmt::Write>(
-    f: &mut Formatter<W>,
-    before: &str,
-    path: &str,
-    behind: &str,
-) -> fmt::Result {
-    write!(f, "{before}{path}{behind}")
-}
-
-fn write_column<W: fmt::Write>(
-    f: &mut Formatter<W>,
-    file: &str,
-    column: usize,
-    says: &str,
-) -> fmt::Result {
-    write!(f, "{file}: column {column}{says}")
-}
-
-fn write_table<W: fmt::Write>(
-    f: &mut Formatter<W>,
-    file: &str,
-    says: &str,
-    fault: &TableFault,
-) -> fmt::Result {
-    write!(f, "{file}{says}{}: {fault}", fault.number())
-}
-
-impl Display for InitFault {
-    fn fmt<W: fmt::Write>(&self, f: &mut Formatter<W>) -> fmt::Result {
-        let says = self.says();
-        match self {
-            InitFault::Memory | InitFault::CannotReport | InitFault::TooManyDimensions => {
-                f.write_str(says)
-            }
-            InitFault::CannotRead(path) | InitFault::CannotWrite(path) => write_line(
-                f, says, path, "",
-            ),
-            InitFault::NoFact(path) => write_line(f, "there is no file ", path, says),
-            InitFault::ColumnName { file, column } | InitFault::ColumnTwice { file, column } => {
-                write_column(f, file, *column, says)
-            }
-            InitFault::Table { file, fault } => write_table(f, file, says, fault),
-            InitFault::Catalog(fault) => write!(f, "{says}{fault}"),
-            InitFault::CatalogThere(path)
-            | InitFault::NoFile(path)
-            | InitFault::TableName(path)
-            | InitFault::NoHeader(path)
-            | InitFault::TooManyColumns(path)
-            | InitFault::NoKey(path)
-            | InitFault::TooManyRows(path) => write_line(f, "", path, says),
-        }
-    }
-}
-
-// As it is shown: a derived one is costly to prove, and no test prints it.
-impl Debug for InitFault {
-    fn fmt<W: fmt::Write>(&self, f: &mut Formatter<W>) -> fmt::Result {
-        Display::fmt(self, f)
-    }
-}
-
-impl Error for InitFault {}
 
 impl From<AllocError> for InitFault {
     ghost from_gives = { λ _ given. given ≡ fault_is.Memory };

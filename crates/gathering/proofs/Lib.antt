@@ -10,4 +10,3 @@ pub mod InBatches
 pub mod ShapedGroups
 pub mod Deltas
 pub mod LiveTotals
-pub mod TakenGroups

@@ -15,8 +15,6 @@ use Rattle.partial_codec.specs.State.{state_obstacle}
 use Rattle.gathering.specs.declared.gather.Absorbed.{Absorbed}
 use Rattle.gathering.specs.declared.gather.Absorbed.TheVariants as absorbed
 use Rattle.meaning.specs.SoundPlan.{IsSoundPlan}
-use Rattle.last_step.specs.declared.print_fault.PrintFault.{PrintFault}
-use Rattle.last_step.specs.declared.print_fault.PrintFault.TheVariants as print
 use Rattle.gathering.specs.declared.fault.GatherFault.{GatherFault}
 use Rattle.gathering.specs.declared.fault.GatherFault.TheVariants as fault
 use Rattle.gathering.specs.declared.totals.Totals.{Totals}
@@ -137,10 +135,6 @@ RefusesJoin job other fault.Writer = ⊥
 abbrev pub fault_of : DecodeFault → GatherFault
 fault_of refusal.Memory = fault.Memory
 fault_of e = fault.Decode e
-
-abbrev pub of_print : PrintFault → GatherFault
-of_print print.Memory = fault.Memory
-of_print print.Writer = fault.Writer
 
 -- the error code of a refusal
 abbrev pub number_of : GatherFault → ℕ

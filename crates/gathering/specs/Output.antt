@@ -1,19 +1,19 @@
--- What all answers together give, and when it can be printed.
-use Rattle.std.specs.Prelude.{⊤}
+-- What all answers together print.
+use Rattle.std.specs.Prelude.{◌≡◌}
 use Rattle.meaning.specs.declared.plan.Plan.{Plan}
-use Rattle.meaning.specs.Output.{output_behind}
 use Rattle.meaning.specs.Output as the
-use Rattle.last_step.specs.Given.{meant}
-use Rattle.last_step.specs.Printing as last
+use Rattle.meaning.specs.Print.{output_text}
+use Rattle.gathering.specs.declared.report.Ended.{Ended}
+use Rattle.gathering.specs.declared.report.Ended.TheVariants as ended
 use Rattle.gathering.specs.declared.output.Output.{Output}
-use Rattle.gathering.specs.declared.output.Output.TheVariants as output
 
--- the output that is meant
-abbrev pub output_in : Output → the.Output
-output_in (output.Finished f) = output_behind (meant f)
-output_in (output.RowFault fault) = the.row_fault fault
+-- whether an output is rows or a fault
+abbrev pub ended_as : the.Output → Ended
+ended_as (the.rows rows) = ended.Rows
+ended_as (the.final_fault code) = ended.Fault
+ended_as (the.row_fault fault) = ended.Fault
 
--- the header and each row have a field
-abbrev pub IsPrintable : Plan → Output → Type 0
-IsPrintable plan (output.Finished f) = last.IsPrintable plan f
-IsPrintable plan (output.RowFault fault) = ⊤
+-- the output that is meant, as it is printed
+pub record IsOutputOf (plan : Plan) (meant : the.Output) (given : Output) : Type 0 where
+  pub ended_is : given.ended ≡ ended_as meant
+  pub text_is : given.text.items ≡ output_text plan meant

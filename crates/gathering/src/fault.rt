@@ -1,9 +1,8 @@
 //! Why a coordinator refuses a call.
 ghost use Rattle.std.specs.Prelude.{◌≡◌};
-ghost use Rattle.gathering.specs.Gathering.{fault_of, of_print, number_of};
+ghost use Rattle.gathering.specs.Gathering.{fault_of, number_of};
 ghost use Rattle.gathering.specs.declared.fault.GatherFault.TheVariants as fault;
 
-use last_step::PrintFault;
 use partial_codec::DecodeFault;
 use std::alloc::{AllocError, AllocFailed};
 use thiserror::Error;
@@ -59,17 +58,6 @@ impl From<DecodeFault> for GatherFault {
         match fault {
             DecodeFault::Memory => GatherFault::Memory,
             other => GatherFault::Decode(other),
-        }
-    }
-}
-
-impl From<PrintFault> for GatherFault {
-    ghost from_gives = { λ e given. given ≡ of_print e };
-
-    fn from(fault: PrintFault) -> GatherFault {
-        match fault {
-            PrintFault::Memory => GatherFault::Memory,
-            PrintFault::Writer => GatherFault::Writer,
         }
     }
 }

@@ -16,9 +16,9 @@ ghost use Rattle.gathering.specs.Report.{ended_as, summary, IsPrintRefusal};
 use crate::changing::{change, change_all, no_answers};
 use crate::fault::GatherFault;
 use crate::joining::{all_deltas, delta_with, is_same, reduce_all};
-use crate::output::output_together;
+use crate::output::{Output, output_together};
 use crate::packing::{HeldBody, HeldCell};
-use crate::report::{Ended, FullReport, Report, ended_as, full_report, print_full_report, summary};
+use crate::report::{Ended, FullReport, Report, full_report, print_text};
 use crate::same_job::is_same_job;
 use crate::totals::{Totals, totals_of};
 use meaning::{Answer, Cell};
@@ -337,7 +337,9 @@ impl Gather {
         ensures value { IfOk result (λ r. r ≡ summary (report self.now.job.plan self.now.cells)) }
         ensures refused { IfErr result (λ e. e ≡ GatherFault.Memory) }
     {
-        Ok(summary(full_report(alloc, self)?))
+        let FullReport { report, text } = full_report(alloc, self)?;
+        drop(text);
+        Ok(report)
     }
 
     /// Prints the conflicts, if there are any; else the missing fragments; else what the answers
@@ -351,12 +353,12 @@ impl Gather {
         ensures quiet { IfErr result (λ e. (e ≡ GatherFault.Writer)
             ⊎ (W.contents out.new ≡ W.contents out.old)) }
     {
-        let full = full_report(alloc, self)?;
-        match print_full_report(alloc, self.job().plan(), &full, out) {
-            Ok(()) => Ok(summary(full)),
+        let FullReport { report, text } = full_report(alloc, self)?;
+        match print_text(text, out) {
+            Ok(()) => Ok(report),
             Err(fault) => {
-                drop(full);
-                Err(GatherFault::from(fault))
+                drop(report);
+                Err(fault)
             }
         }
     }
@@ -373,15 +375,8 @@ impl Gather {
         ensures quiet { IfErr result (λ e. (e ≡ GatherFault.Writer)
             ⊎ (W.contents out.new ≡ W.contents out.old)) }
     {
-        let output = output_together(alloc, self)?;
-        let ended = ended_as(&output);
-        let full = FullReport::Output(output);
-        match print_full_report(alloc, self.job().plan(), &full, out) {
-            Ok(()) => Ok(ended),
-            Err(fault) => {
-                drop(full);
-                Err(GatherFault::from(fault))
-            }
-        }
+        let Output { ended, text } = output_together(alloc, self)?;
+        print_text(text, out)?;
+        Ok(ended)
     }
 }

@@ -1,20 +1,23 @@
 //! What a coordinator prints: its conflicts, what is missing, or what the answers say together.
-ghost use Rattle.std.specs.Prelude.{◌≡◌, ◌≤◌, ◌⊎◌, length, IfErr, IfOk, OnOk};
+ghost use Rattle.std.specs.Prelude.{◌≡◌, ◌≤◌, length, IfErr, IfOk, OnOk};
 ghost use Rattle.std.specs.Io.KnownBytes.{Appends};
+ghost use Rattle.meaning.specs.declared.plan.Plan.{Plan as APlan};
 ghost use Rattle.meaning.specs.Limits.{max_fragments};
-ghost use Rattle.meaning.specs.Gather.{fragments_where, report};
-ghost use Rattle.meaning.specs.Print.{output_text, report_text};
-ghost use Rattle.gathering.specs.Output.{IsPrintable, output_in};
-ghost use Rattle.gathering.specs.Report.{has_obstacle, report_in, ended_as, summary, IsReportable};
+ghost use Rattle.meaning.specs.Gather.{conflict, fragments_where, missing, output, report};
+ghost use Rattle.meaning.specs.Output.{Output as AnOutput};
+ghost use Rattle.meaning.specs.Print.{fragments_text};
+ghost use Rattle.gathering.specs.Output.{IsOutputOf};
+ghost use Rattle.gathering.specs.Report.{IsReportOf, has_obstacle, report_of_output};
 
+use crate::fault::GatherFault;
 use crate::gather::Gather;
-use crate::lines::{print_fault, print_fragments, print_row_fault};
+use crate::lines::print_fragments;
 use crate::output::{Output, output_together};
 use crate::packing::HeldCell;
-use last_step::{Finished, PrintFault, print_rows};
-use meaning::{Cell, Plan, Sequence};
+use meaning::{Cell, Sequence};
 use std::alloc::{AllocError, Global};
 use std::io::Write;
+use std::mem::drop;
 
 /// Which of these a coordinator would print. Fragments ascend.
 #[derive(Drop)]
@@ -36,12 +39,11 @@ pub enum Ended {
     Fault,
 }
 
-/// What is printed: a report with its output.
+/// A report and what is printed of it.
 #[derive(Drop)]
-pub enum FullReport {
-    Conflict(Sequence<u32>),
-    Missing(Sequence<u32>),
-    Output(Output),
+pub struct FullReport {
+    pub report: Report,
+    pub text: Vec<u8>,
 }
 
 /// What keeps a coordinator from an output.
@@ -78,111 +80,94 @@ fn fragments_with(
     Ok(fragments)
 }
 
-/// What is to be printed.
-pub fn full_report(alloc: Global, gather: &Gather) -> Result<FullReport, AllocError>
-    ensures value { IfOk result (λ f. report_in f ≡ report gather.now.job.plan gather.now.cells) }
-    ensures printable { IfOk result (IsReportable gather.now.job.plan) }
+/// The line of a word and the numbers of fragments.
+fn fragments_line(alloc: Global, word: &str, fragments: &[u32]) -> Result<Vec<u8>, AllocError>
+    ensures { IfOk result (λ line. line.items ≡ fragments_text word.now fragments.now) }
 {
-    // No effect at run time. The proof reads from this call the limits of a cut.
-    let _lengths = gather.job().cut().lengths();
-    let conflicts = fragments_with(alloc, Obstacle::Conflict, gather.cells())?;
-    if conflicts.len() > 0 {
-        return Ok(FullReport::Conflict(conflicts));
-    }
-    let missing = fragments_with(alloc, Obstacle::NoAnswer, gather.cells())?;
-    if missing.len() > 0 {
-        return Ok(FullReport::Missing(missing));
-    }
-    Ok(FullReport::Output(output_together(alloc, gather)?))
-}
-
-fn print_output<W: Write>(
-    alloc: Global,
-    plan: &Plan,
-    output: &Output,
-    out: &mut W,
-) -> Result<(), PrintFault>
-    requires { IsPrintable plan.now output.now }
-    ensures { OnOk result (Appends (W.contents out.old) (W.contents out.new)
-        (output_text plan.now (output_in output.now))) }
-{
-    match output {
-        Output::Finished(Finished::Rows(rows)) => print_rows(alloc, plan, rows.as_slice(), out),
-        Output::Finished(Finished::Fault(code)) => print_fault(*code, out),
-        Output::RowFault(fault) => print_row_fault(fault, out),
-    }
-}
-
-fn write_full_report<W: Write>(
-    alloc: Global,
-    plan: &Plan,
-    full: &FullReport,
-    out: &mut W,
-) -> Result<(), PrintFault>
-    requires { IsReportable plan.now full.now }
-    ensures { OnOk result (Appends (W.contents out.old) (W.contents out.new)
-        (report_text plan.now (report_in full.now))) }
-{
-    match full {
-        FullReport::Conflict(fragments) => print_fragments("conflict", fragments.as_slice(), out),
-        FullReport::Missing(fragments) => print_fragments("missing", fragments.as_slice(), out),
-        FullReport::Output(output) => print_output(alloc, plan, output, out),
-    }
-}
-
-/// The text of what is printed.
-fn report_bytes(alloc: Global, plan: &Plan, full: &FullReport) -> Result<Vec<u8>, AllocError>
-    requires { IsReportable plan.now full.now }
-    ensures { IfOk result (λ text. text.items ≡ report_text plan.now (report_in full.now)) }
-{
-    let mut text = Vec::new(alloc);
-    match write_full_report(alloc, plan, full, &mut text) {
-        Ok(()) => Ok(text),
+    let mut line = Vec::new(alloc);
+    match print_fragments(word, fragments, &mut line) {
+        Ok(()) => Ok(line),
         // A writer to memory fails where memory is wanting.
         Err(_) => Err(AllocError),
     }
 }
 
-/// Prints it. All that takes memory comes before the first byte.
-pub fn print_full_report<W: Write>(
-    alloc: Global,
-    plan: &Plan,
-    full: &FullReport,
-    out: &mut W,
-) -> Result<(), PrintFault>
-    requires { IsReportable plan.now full.now }
-    ensures printed { OnOk result (Appends (W.contents out.old) (W.contents out.new)
-        (report_text plan.now (report_in full.now))) }
-    ensures quiet { IfErr result (λ e. (e ≡ PrintFault.Writer)
-        ⊎ (W.contents out.new ≡ W.contents out.old)) }
+fn conflict_report(alloc: Global, fragments: Sequence<u32>) -> Result<FullReport, AllocError>
+    ensures { (plan : APlan) → IfOk result (IsReportOf plan (conflict fragments)) }
 {
-    let text = report_bytes(alloc, plan, full)?;
+    match fragments_line(alloc, "conflict", fragments.as_slice()) {
+        Ok(text) => Ok(FullReport {
+            report: Report::Conflict(fragments),
+            text,
+        }),
+        Err(e) => {
+            drop(fragments);
+            Err(e)
+        }
+    }
+}
+
+fn missing_report(alloc: Global, fragments: Sequence<u32>) -> Result<FullReport, AllocError>
+    ensures { (plan : APlan) → IfOk result (IsReportOf plan (missing fragments)) }
+{
+    match fragments_line(alloc, "missing", fragments.as_slice()) {
+        Ok(text) => Ok(FullReport {
+            report: Report::Missing(fragments),
+            text,
+        }),
+        Err(e) => {
+            drop(fragments);
+            Err(e)
+        }
+    }
+}
+
+fn report_of_output(ended: Ended) -> Report
+    ensures { result ≡ report_of_output ended }
+{
+    match ended {
+        Ended::Rows => Report::Rows,
+        Ended::Fault => Report::Fault,
+    }
+}
+
+fn output_report(given: Output) -> FullReport
+    ensures { (plan : APlan) (meant : AnOutput) → IsOutputOf plan meant given
+        → IsReportOf plan (output meant) result }
+{
+    let Output { ended, text } = given;
+    FullReport {
+        report: report_of_output(ended),
+        text,
+    }
+}
+
+/// What is to be printed, all of it in memory.
+pub fn full_report(alloc: Global, gather: &Gather) -> Result<FullReport, AllocError>
+    ensures { IfOk result
+        (IsReportOf gather.now.job.plan (report gather.now.job.plan gather.now.cells)) }
+{
+    // No effect at run time. The proof reads from this call the limits of a cut.
+    let _lengths = gather.job().cut().lengths();
+    let conflicts = fragments_with(alloc, Obstacle::Conflict, gather.cells())?;
+    if conflicts.len() > 0 {
+        return conflict_report(alloc, conflicts);
+    }
+    let missing = fragments_with(alloc, Obstacle::NoAnswer, gather.cells())?;
+    if missing.len() > 0 {
+        return missing_report(alloc, missing);
+    }
+    Ok(output_report(output_together(alloc, gather)?))
+}
+
+/// Prints a text that was made. Takes no memory.
+pub fn print_text<W: Write>(text: Vec<u8>, out: &mut W) -> Result<(), GatherFault>
+    ensures printed { OnOk result (Appends (W.contents out.old) (W.contents out.new)
+        text.items) }
+    ensures refused { IfErr result (λ e. e ≡ GatherFault.Writer) }
+{
     match out.write_all(&text) {
         Ok(()) => Ok(()),
-        Err(_) => Err(PrintFault::Writer),
-    }
-}
-
-/// Whether it is rows or a fault.
-pub fn ended_as(output: &Output) -> Ended
-    ensures { result ≡ ended_as (output_in output.now) }
-{
-    match output {
-        Output::Finished(Finished::Rows(_)) => Ended::Rows,
-        Output::Finished(Finished::Fault(_)) | Output::RowFault(_) => Ended::Fault,
-    }
-}
-
-/// Which report it is.
-pub fn summary(full: FullReport) -> Report
-    ensures { result ≡ summary (report_in full) }
-{
-    match full {
-        FullReport::Conflict(fragments) => Report::Conflict(fragments),
-        FullReport::Missing(fragments) => Report::Missing(fragments),
-        FullReport::Output(output) => match ended_as(&output) {
-            Ended::Rows => Report::Rows,
-            Ended::Fault => Report::Fault,
-        },
+        Err(_) => Err(GatherFault::Writer),
     }
 }

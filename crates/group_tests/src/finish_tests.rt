@@ -1,13 +1,9 @@
 //! What the last step gives over few groups.
-ghost use Rattle.last_step.specs.Fitting.{AreGroupsOf};
 
 use crate::groups::{BEYOND, groups_of};
 use crate::plans::{ALL, Having, Query, plan_of};
 use crate::rows::show_row;
-use aggregate_states::Group;
-use group_by::GroupSlice;
-use last_step::{Finished, Finishing, finish};
-use meaning::Plan;
+use last_step::{Finished, finish};
 use short_vectors::NULL;
 use std::alloc::{AllocError, Global};
 use std::fmt::Write;
@@ -33,37 +29,6 @@ fn finished(alloc: Global, query: Query, list: &[(i64, u64, i64)]) -> Result<Fin
     let groups = groups_of(alloc, list)?;
     let plan = plan_of(alloc, query)?;
     let finished = finish(alloc, &plan, groups.as_slice());
-    drop(plan);
-    finished
-}
-
-fn finish_both(
-    alloc: Global,
-    plan: &Plan,
-    first: &[Group],
-    second: &[Group],
-) -> Result<Finished, AllocError>
-    requires first { AreGroupsOf plan.now first.now }
-    requires second { AreGroupsOf plan.now second.now }
-{
-    let finishing = Finishing::new(alloc).take(alloc, plan, GroupSlice::of(first))?;
-    finishing
-        .take(alloc, plan, GroupSlice::of(second))?
-        .finish(alloc, plan)
-}
-
-/// What the last step gives of groups that come in two pieces.
-#[tactic(auto, using(crate::proofs::SumPlans::groups_fit))]
-fn finished_in_two(
-    alloc: Global,
-    query: Query,
-    first: &[(i64, u64, i64)],
-    second: &[(i64, u64, i64)],
-) -> Result<Finished, AllocError> {
-    let first = groups_of(alloc, first)?;
-    let second = groups_of(alloc, second)?;
-    let plan = plan_of(alloc, query)?;
-    let finished = finish_both(alloc, &plan, first.as_slice(), second.as_slice());
     drop(plan);
     finished
 }
@@ -154,29 +119,4 @@ fn plain_query_shows_each_repeat_within_limit(rt: HostRuntime) -> Result<(), All
     };
     let list = [(1, 2, NULL), (2, 9_000_000_000, NULL)];
     expect(&rt, rt.alloc(), query, &list, "1 ; 1 ; 2 ; 2 ; 2 ; ")
-}
-
-#[test]
-fn pieces_are_put_in_one_order(rt: HostRuntime) -> Result<(), AllocError> {
-    let alloc = rt.alloc();
-    let query = Query {
-        descending: Some(false),
-        limit: Some(2),
-        ..ALL
-    };
-    let finished = finished_in_two(alloc, query, &[(1, 1, 9), (2, 1, 7)], &[(3, 1, 8)])?;
-    assert_eq!(rt; shown(alloc, &finished)?.as_str(), "2 7 ; 3 8 ; ");
-    Ok(())
-}
-
-#[test]
-fn fault_of_an_earlier_piece_is_returned(rt: HostRuntime) -> Result<(), AllocError> {
-    let alloc = rt.alloc();
-    let query = Query {
-        having: Having::HundredBySumAboveTwo,
-        ..ALL
-    };
-    let finished = finished_in_two(alloc, query, &[(1, 1, 2), (2, 1, 0)], &[(3, 1, BEYOND)])?;
-    assert_eq!(rt; shown(alloc, &finished)?.as_str(), "fault 2");
-    Ok(())
 }

@@ -13,14 +13,14 @@ use Rattle.std.proofs.lemmas.List.Sorted.{All-permutation, IsPermutation-refl, I
 use Rattle.meaning.specs.declared.plan.Plan.{Plan}
 use Rattle.meaning.specs.declared.answer.Group.{Group}
 use Rattle.meaning.specs.Finish.{all_rows, finished, limited, order_cmp, shown_once}
-use Rattle.meaning.specs.Order.{Row, ascending_set, inserted, inserted_once, row_cmp, sorted}
+use Rattle.meaning.specs.Order.{Row, ascending_set, inserted, inserted_once, sorted}
 use Rattle.meaning.specs.Results.{and_then}
 use Rattle.meaning.proofs.Orders.{order_exact, order_total, row_exact, row_total}
 use Rattle.meaning.proofs.Sets.{ascending_set_itself, is_ascending-ascending_set, same_ascending_set}
 use Rattle.meaning.proofs.Tests.{list_any-append}
 use Rattle.meaning.proofs.Sorting.{sorted-in_order, sorted-moved, sorted_is}
 use Rattle.last_step.specs.Best.{arranged, best, best_of}
-use Rattle.last_step.specs.Runs.{plain_rows, times_kept}
+use Rattle.last_step.specs.Runs.{plain_rows}
 use Rattle.aggregate_states.proofs.Once.{set_once}
 use Rattle.last_step.proofs.RowSets.{all_of_set, cut_ascends, set_turned, sorted_set}
 

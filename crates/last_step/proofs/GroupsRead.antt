@@ -10,7 +10,7 @@ use Rattle.meaning.specs.declared.plan.AggregateKind.{AggregateKind}
 use Rattle.meaning.specs.declared.plan.Plan.{Plan}
 use Rattle.meaning.specs.declared.value.Value.{Value}
 use Rattle.meaning.specs.Aggregate.{no_statistics, value}
-use Rattle.meaning.specs.Fitting.{is_group_of, is_key_of, is_state_of}
+use Rattle.meaning.specs.Fitting.{is_key_of, is_state_of}
 use Rattle.meaning.proofs.Tests.{second_of}
 use Rattle.last_step.specs.Batches.{HasAt, aggregate_in}
 use Rattle.last_step.specs.Fitting.{AreGroupsOf}

@@ -16,5 +16,5 @@ pub mod Arranging
 pub mod ShownFields
 pub mod RecordTexts
 pub mod Loans
-pub mod Pieces
+pub mod Outcomes
 pub mod GroupsRead

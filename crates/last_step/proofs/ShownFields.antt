@@ -3,7 +3,7 @@ use Rattle.std.specs.Prelude.{◌≡◌, ◌≢◌, ℕ, zero, suc, Bool, false,
 use Rattle.std.specs.List.{AllByRecursion}
 use Rattle.std.specs.Ordering.{is_lt}
 use Rattle.std.specs.declared.cmp.Ordering.{Ordering}
-use Rattle.std.proofs.Common.{refl, sym, subst}
+use Rattle.std.proofs.Common.{refl, subst}
 use Rattle.std.proofs.lemmas.List.Elements.{All-from_recursion, All-head, All-tail}
 use Rattle.meaning.specs.declared.expr.Expr.{Expr}
 use Rattle.meaning.specs.declared.joined_row.JoinedRow.{JoinedRow}
@@ -20,10 +20,8 @@ use Rattle.meaning.specs.Expr.{eval, with_value, values}
 use Rattle.meaning.specs.Joined.{group_row}
 use Rattle.meaning.specs.Order.{Row, inserted, row_cmp, sorted}
 use Rattle.meaning.specs.Results.{with_result, all_ok, and_then}
-use Rattle.last_step.specs.Given.{meant}
-use Rattle.last_step.specs.Printing.{HasFields, IsPrintable, ShowsSomething}
-use Rattle.last_step.specs.declared.finished.Finished.{Finished}
-use Rattle.last_step.specs.declared.finished.Finished.TheVariants as finished
+use Rattle.last_step.specs.Batches.{shown_after}
+use Rattle.last_step.specs.Printing.{HasFields}
 use Rattle.last_step.proofs.RowSets.{all_by_recursion}
 
 abbrev IsFull : Row → Type 0
@@ -148,8 +146,21 @@ finished_has_fields plan groups rows some keyed e = record {
   rows = All-from_recursion IsFull rows (full_output plan (all_ok (map (rows_of plan) (map (read_off plan) groups))) rows (full_groups plan (map (read_off plan) groups) some (keys_of_groups plan groups keyed)) e);
 }
 
-pub printable : {E : Type 0} (plan : Plan) (groups : List Group) (given : Result Finished E) → IfOk given (λ f. meant f ≡ finish plan (map (read_off plan) groups))
-    → ShowsSomething plan groups → IfOk given (IsPrintable plan)
-printable plan groups (Err e) is shows = tt
-printable plan groups (Ok (finished.Fault code)) is shows = tt
-printable plan groups (Ok (finished.Rows rows)) is shows = finished_has_fields plan groups rows shows.items shows.keys (sym is)
+-- ---- a batch
+
+full_batch : (plan : Plan) (rows : List JoinedRow) → plan.items ≢ [] → IfOk (all_ok (map (shown plan) rows)) (λ parts. AreFull (all_rows parts))
+full_batch plan [] some = tt
+full_batch plan (s ∷ ss) some = full_joined (shown plan s) (all_ok (map (shown plan) ss)) (full_shown plan s some) (full_batch plan ss some)
+
+from_parts : (parts : Result (List (List Row)) ℕ) (all : List Row) → IfOk parts (λ parts. AreFull (all_rows parts)) → and_then parts (λ parts. Ok ([] ++ all_rows parts)) ≡ Ok all → AreFull all
+from_parts (Err c) all p e = cc
+from_parts (Ok parts) all p e =
+    let same : all_rows parts ≡ all = cc in
+    subst AreFull same p
+
+-- what a batch shows can be printed
+pub shown_has_fields : (plan : Plan) (rows : List JoinedRow) (all : List Row) → plan.items ≢ [] → shown_after plan [] rows ≡ Ok all → HasFields plan all
+shown_has_fields plan rows all some e = record {
+  header = some;
+  rows = All-from_recursion IsFull all (from_parts (all_ok (map (shown plan) rows)) all (full_batch plan rows some) e);
+}

@@ -1,5 +1,5 @@
 -- Groups batch by batch: their aggregates, and what HAVING and the items give over vectors.
-use Rattle.std.specs.Prelude.{◌≡◌, ℕ, ◌<◌, ◌≤◌, Bool, true, false, List, [], ◌++◌, map, length, take, get_or, option_to_list, Option, Some, None, Result, Ok, Err, All, IfSome, ⊤}
+use Rattle.std.specs.Prelude.{◌≡◌, ℕ, ◌<◌, ◌≤◌, true, false, List, [], ◌++◌, map, length, take, get_or, option_to_list, Option, Some, None, Result, Ok, Err, All, IfSome, ⊤}
 use Rattle.std.specs.List.{list_all}
 use Rattle.meaning.specs.declared.answer.Group.{Group}
 use Rattle.meaning.specs.declared.joined_row.JoinedRow.{JoinedRow}

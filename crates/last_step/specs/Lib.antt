@@ -7,4 +7,3 @@ pub mod Lent
 pub mod Printing
 pub mod PrintFaults
 pub mod Best
-pub mod Taken

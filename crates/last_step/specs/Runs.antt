@@ -5,7 +5,7 @@ use Rattle.meaning.specs.declared.answer.Group.{Group}
 use Rattle.meaning.specs.Answer.{read_off}
 use Rattle.meaning.specs.Order.{Row}
 use Rattle.meaning.specs.Results.{all_ok, and_then}
-use Rattle.meaning.specs.Finish.{Evaluated, all_rows, rows_of}
+use Rattle.meaning.specs.Finish.{all_rows, rows_of}
 use Rattle.last_step.specs.declared.run.Run.{Run}
 
 -- the rows of a run
@@ -21,10 +21,6 @@ rows_in (Some r) = repeats r
 abbrev pub expanded : List Run → List Row
 expanded [] = []
 expanded (r ∷ rs) = repeats r ++ expanded rs
-
--- the rows of groups in the order of the groups, or the first fault
-abbrev pub rows_behind_groups : Plan → List Evaluated → Result (List Row) ℕ
-rows_behind_groups plan groups = and_then (all_ok (map (rows_of plan) groups)) (λ parts. Ok (all_rows parts))
 
 -- the rows of groups behind others, or the groups' first fault
 abbrev pub rows_after : Plan → List Row → List Group → Result (List Row) ℕ

@@ -8,3 +8,10 @@ pub enum Finished {
     Rows(Sequence<Row>),
     Fault(u8),
 }
+
+/// The text of a header and the rows in their order, or the number of the first fault over groups.
+#[derive(Drop)]
+pub enum FinishedText {
+    Rows(Vec<u8>),
+    Fault(u8),
+}

@@ -1,32 +1,29 @@
-//! The last step, over groups that come piece by piece or all at once.
-ghost use Rattle.std.specs.Prelude.{◌≡◌, ◌++◌, [], List, map, IfOk};
-ghost use Rattle.meaning.specs.declared.answer.Group.{Group as AGroup};
-ghost use Rattle.meaning.specs.declared.plan.Plan.{Plan as APlan};
+//! The last step: from groups to rows, or to what is printed of them.
+ghost use Rattle.std.specs.Prelude.{◌≡◌, ◌<◌, ◌^◌, false, length, map, true, IfOk};
 ghost use Rattle.meaning.specs.Answer.{read_off};
 ghost use Rattle.std.specs.List.{dedup};
 ghost use Rattle.std.specs.Ordering.{eq_by_cmp};
 ghost use Rattle.meaning.specs.Finish as the;
 ghost use Rattle.meaning.specs.Order.{sorted};
-ghost use Rattle.last_step.specs.Best.{best, best_of};
+ghost use Rattle.last_step.specs.Best.{best};
 ghost use Rattle.last_step.specs.Fitting.{AreGroupsOf};
 ghost use Rattle.last_step.specs.Given.{meant};
-ghost use Rattle.last_step.specs.Printing.{IsPrintable, ShowsSomething};
-ghost use Rattle.last_step.specs.Runs.{expanded, rows_after};
-ghost use Rattle.last_step.specs.Taken.{HasTaken, rows_or_fault};
+ghost use Rattle.last_step.specs.Printing.{IsPrintable, ShowsSomething, text_given, text_of};
+ghost use Rattle.last_step.specs.Runs.{expanded};
 
 use crate::expanding::expand;
-use crate::finished::Finished;
+use crate::finished::{Finished, FinishedText};
 use crate::ordering::sort;
 use crate::repeats::different_rows;
 use crate::run::Run;
-use crate::runs::runs_with;
-use crate::so_far::SoFar;
+use crate::runs::runs_of;
+use crate::showing::batch_groups;
 use crate::stop::Stop;
+use crate::texts::{batch_text, made_text};
 use aggregate_states::Group;
 use group_by::GroupSlice;
 use meaning::{OrderKey, Plan, Row, Sequence};
 use std::alloc::{AllocError, Global};
-use std::marker::Model;
 use std::mem::drop;
 
 /// The rows of the runs in order, cut to so many.
@@ -76,98 +73,17 @@ fn rows_in_order(alloc: Global, plan: &Plan, runs: Vec<Run>) -> Result<Sequence<
     sorted_rows(alloc, order, plan.limit, runs)
 }
 
-/// The runs with those of groups more, or the groups' first fault.
-fn with_groups(
-    alloc: Global,
-    plan: &Plan,
-    runs: Vec<Run>,
-    groups: GroupSlice<'_>,
-) -> Result<SoFar, AllocError>
+/// The rows of the groups, or their first fault.
+fn finish_slice(alloc: Global, plan: &Plan, groups: GroupSlice<'_>) -> Result<Finished, AllocError>
     requires { AreGroupsOf plan.now groups }
-    ensures { IfOk result (λ now. best_of plan.now (rows_or_fault now)
-        ≡ best_of plan.now (rows_after plan.now (expanded runs.items) groups.entry)) }
+    ensures value { IfOk result
+        (λ f. meant f ≡ the.finish plan.now (map (read_off plan.now) groups.entry)) }
+    ensures printable { ShowsSomething plan.now groups.entry → IfOk result (IsPrintable plan.now) }
 {
-    match runs_with(alloc, plan, runs, groups) {
-        Ok(more) => Ok(SoFar::Rows(more)),
-        Err(Stop::Fault(code)) => Ok(SoFar::Fault(code)),
+    match runs_of(alloc, plan, groups) {
+        Ok(runs) => Ok(Finished::Rows(rows_in_order(alloc, plan, runs)?)),
+        Err(Stop::Fault(code)) => Ok(Finished::Fault(code)),
         Err(Stop::Memory) => Err(AllocError),
-    }
-}
-
-/// The last step while groups come, piece by piece in the order of their keys. Contracts see rows of
-/// which the answer shows what it shows of all rows so far, or the first fault over groups:
-/// `HasTaken` says of which groups.
-#[derive(Drop)]
-pub struct Finishing {
-    so_far: SoFar,
-}
-
-impl Model for Finishing {
-    ghost use Rattle.std.specs.Prelude.{ℕ, List, Result};
-    ghost use Rattle.meaning.specs.Order.{Row as ARow};
-
-    ghost Value = { Result (List ARow) ℕ };
-
-    ghost use Rattle.last_step.specs.Taken.{rows_or_fault};
-
-    ghost view = { λ f. rows_or_fault f.so_far };
-}
-
-impl Finishing {
-    /// No group yet. Takes no memory.
-    pub fn new(alloc: Global) -> Finishing
-        ensures { (plan : APlan) → HasTaken plan [] result }
-    {
-        Finishing {
-            so_far: SoFar::Rows(Vec::new(alloc)),
-        }
-    }
-
-    /// Takes groups that come behind those that were taken. Behind a fault it looks at none. On an
-    /// error all is given up.
-    ///
-    /// # Errors
-    ///
-    /// Out of memory.
-    pub fn take(
-        self,
-        alloc: Global,
-        plan: &Plan,
-        groups: GroupSlice<'_>,
-    ) -> Result<Finishing, AllocError>
-        // The plan has types over groups, and the groups are of its shape.
-        requires { AreGroupsOf plan.now groups }
-        ensures { IfOk result (λ f. (before : List AGroup) → HasTaken plan.now before self
-            → HasTaken plan.now (before ++ groups.entry) f) }
-    {
-        let Finishing { so_far } = self;
-        match so_far {
-            SoFar::Rows(runs) => Ok(Finishing {
-                so_far: with_groups(alloc, plan, runs, groups)?,
-            }),
-            SoFar::Fault(code) => Ok(Finishing {
-                so_far: SoFar::Fault(code),
-            }),
-        }
-    }
-
-    /// The rows of all groups that were taken, or their first fault, as `finish` gives them.
-    ///
-    /// # Errors
-    ///
-    /// Out of memory.
-    pub fn finish(self, alloc: Global, plan: &Plan) -> Result<Finished, AllocError>
-        ensures value { (groups : List AGroup) → HasTaken plan.now groups self → IfOk result
-            (λ f. meant f ≡ the.finish plan.now (map (read_off plan.now) groups)) }
-        // The rows can be printed.
-        ensures printable { (groups : List AGroup) → HasTaken plan.now groups self
-            → ShowsSomething plan.now groups → IfOk result (IsPrintable plan.now) }
-    {
-        let Finishing { so_far } = self;
-        match so_far {
-            SoFar::Rows(runs) => Ok(Finished::Rows(rows_in_order(alloc, plan, runs)?)),
-            SoFar::Fault(code) => Ok(Finished::Fault(code)),
-        }
     }
 }
 
@@ -186,6 +102,93 @@ pub fn finish(alloc: Global, plan: &Plan, groups: &[Group]) -> Result<Finished, 
     // The rows can be printed.
     ensures printable { ShowsSomething plan.now groups.now → IfOk result (IsPrintable plan.now) }
 {
-    let finishing = Finishing::new(alloc).take(alloc, plan, GroupSlice::of(groups))?;
-    finishing.finish(alloc, plan)
+    finish_slice(alloc, plan, GroupSlice::of(groups))
+}
+
+/// Whether so many groups are taken as one batch, whose rows are printed off its columns.
+fn is_one_batch(plan: &Plan, groups: usize) -> bool
+    ensures grouped { result ≡ true → plan.now.plain ≡ false }
+    ensures few { result ≡ true → groups < 2 ^ 32 }
+{
+    if plan.plain {
+        return false;
+    }
+    groups <= batch_groups(plan)
+}
+
+/// What is printed of the rows that are made.
+fn text_of_finished(
+    alloc: Global,
+    plan: &Plan,
+    finished: &Finished,
+) -> Result<FinishedText, AllocError>
+    requires { IsPrintable plan.now finished.now }
+    ensures { IfOk result (λ text. text_given text ≡ text_of plan.now (meant finished.now)) }
+{
+    match finished {
+        Finished::Rows(rows) => Ok(FinishedText::Rows(made_text(alloc, plan, rows.as_slice())?)),
+        Finished::Fault(code) => Ok(FinishedText::Fault(*code)),
+    }
+}
+
+/// What is printed of the rows that are made of the groups.
+fn finish_by_rows(
+    alloc: Global,
+    plan: &Plan,
+    groups: GroupSlice<'_>,
+) -> Result<FinishedText, AllocError>
+    requires groups { AreGroupsOf plan.now groups }
+    requires shown { ShowsSomething plan.now groups }
+    ensures { IfOk result (λ text. text_given text
+        ≡ text_of plan.now (the.finish plan.now (map (read_off plan.now) groups.entry))) }
+{
+    let finished = finish_slice(alloc, plan, groups)?;
+    let text = text_of_finished(alloc, plan, &finished);
+    drop(finished);
+    text
+}
+
+/// What is printed of groups that are one batch: no row is made.
+fn finish_by_columns(
+    alloc: Global,
+    plan: &Plan,
+    groups: &GroupSlice<'_>,
+) -> Result<FinishedText, AllocError>
+    requires grouped { plan.now.plain ≡ false }
+    requires groups { AreGroupsOf plan.now groups.now }
+    requires few { length groups.now < 2 ^ 32 }
+    requires shown { ShowsSomething plan.now groups.now }
+    ensures { IfOk result (λ text. text_given text
+        ≡ text_of plan.now (the.finish plan.now (map (read_off plan.now) groups.now))) }
+{
+    match batch_text(alloc, plan, groups) {
+        Ok(text) => Ok(FinishedText::Rows(text)),
+        Err(Stop::Fault(code)) => Ok(FinishedText::Fault(code)),
+        Err(Stop::Memory) => Err(AllocError),
+    }
+}
+
+/// What is printed of the rows that `finish` makes of the groups, or their first fault. Rows are
+/// made where few of many groups' are left, or of a plain query's keys, and else written off the
+/// columns of the groups.
+///
+/// # Errors
+///
+/// Out of memory.
+pub fn finish_text(
+    alloc: Global,
+    plan: &Plan,
+    groups: GroupSlice<'_>,
+) -> Result<FinishedText, AllocError>
+    // The plan has types over groups, and the groups are of its shape.
+    requires groups { AreGroupsOf plan.now groups }
+    // The header and each row have a field.
+    requires shown { ShowsSomething plan.now groups }
+    ensures { IfOk result (λ text. text_given text
+        ≡ text_of plan.now (the.finish plan.now (map (read_off plan.now) groups.entry))) }
+{
+    if is_one_batch(plan, groups.len()) {
+        return finish_by_columns(alloc, plan, &groups);
+    }
+    finish_by_rows(alloc, plan, groups)
 }

@@ -1,16 +1,16 @@
 //! A header and rows as comma-separated values.
-ghost use Rattle.std.specs.Prelude.{◌≡◌, ◌≢◌, ◌++◌, ◌∷◌, [], map, OnOk};
+ghost use Rattle.std.specs.Prelude.{◌≡◌, ◌≢◌, ◌<◌, ◌++◌, ◌∷◌, [], get_or, length, map, OnOk};
 ghost use Rattle.std.specs.Io.KnownBytes.{Appends};
-ghost use Rattle.csv.specs.Records.{fields_of, partial_of};
+ghost use Rattle.csv.specs.Records.{fields_of};
 ghost use Rattle.csv.specs.Writing.{text_written};
 ghost use Rattle.meaning.specs.Print.{record_text, rows_text, value_text};
 ghost use Rattle.last_step.specs.Printing.{HasFields, IsBetween};
 
 use crate::lent::Lent;
 use crate::print_fault::PrintFault;
+use crate::printable::{MadeRows, PrintableRows};
 use csv::{ByteRecord, Writer, WriterBuilder};
-use itoa::Buffer;
-use meaning::{Item, Plan, Row, Value};
+use meaning::{Item, Plan, Row};
 use std::alloc::{AllocError, Global};
 use std::io::Write;
 use std::mem::drop;
@@ -29,6 +29,20 @@ pub fn print_rows<W: Write>(
     requires { HasFields plan.now rows.now }
     ensures { OnOk result (Appends (W.contents out.old) (W.contents out.new)
         (rows_text plan.now rows.now)) }
+{
+    print_all(alloc, plan, &MadeRows { rows }, out)
+}
+
+/// The same of rows that need not be made.
+pub fn print_all<R: PrintableRows, W: Write>(
+    alloc: Global,
+    plan: &Plan,
+    rows: &R,
+    out: &mut W,
+) -> Result<(), PrintFault>
+    requires { HasFields plan.now (R.rows rows.now) }
+    ensures { OnOk result (Appends (W.contents out.old) (W.contents out.new)
+        (rows_text plan.now (R.rows rows.now))) }
 {
     let mut writer = WriterBuilder::new()
         .flexible(true)
@@ -50,17 +64,17 @@ pub fn print_rows<W: Write>(
     }
 }
 
-fn write_rows<W: Write + Drop>(
+fn write_rows<R: PrintableRows, W: Write + Drop>(
     alloc: Global,
     writer: &mut Writer<W>,
     plan: &Plan,
-    rows: &[Row],
+    rows: &R,
 ) -> Result<(), PrintFault>
     requires before { IsBetween writer.old }
-    requires shown { HasFields plan.now rows.now }
+    requires shown { HasFields plan.now (R.rows rows.now) }
     ensures { OnOk result (Appends (text_written W.contents writer.old)
         (text_written W.contents writer.new)
-        (rows_text plan.now rows.now)) }
+        (rows_text plan.now (R.rows rows.now))) }
 {
     let mut fields = ByteRecord::new(alloc);
     let written = write_records(writer, &mut fields, plan, rows);
@@ -69,21 +83,21 @@ fn write_rows<W: Write + Drop>(
 }
 
 /// `fields` is room for the fields of one record.
-fn write_records<W: Write + Drop>(
+fn write_records<R: PrintableRows, W: Write + Drop>(
     writer: &mut Writer<W>,
     fields: &mut ByteRecord,
     plan: &Plan,
-    rows: &[Row],
+    rows: &R,
 ) -> Result<(), PrintFault>
     requires before { IsBetween writer.old }
-    requires shown { HasFields plan.now rows.now }
+    requires shown { HasFields plan.now (R.rows rows.now) }
     ensures { OnOk result (Appends (text_written W.contents writer.old)
         (text_written W.contents writer.new)
-        (rows_text plan.now rows.now)) }
+        (rows_text plan.now (R.rows rows.now))) }
 {
     write_header(writer, fields, plan.items.as_slice())?;
-    for row in rows {
-        write_row(writer, fields, row.as_slice())?;
+    for k in 0..rows.len() {
+        write_row(writer, fields, rows, k)?;
     }
     Ok(())
 }
@@ -107,19 +121,21 @@ fn write_header<W: Write + Drop>(
 }
 
 /// `fields` is room for the fields of one record.
-fn write_row<W: Write + Drop>(
+fn write_row<R: PrintableRows, W: Write + Drop>(
     writer: &mut Writer<W>,
     fields: &mut ByteRecord,
-    row: &[Value],
+    rows: &R,
+    at: usize,
 ) -> Result<(), PrintFault>
     requires before { IsBetween writer.old }
-    requires shown { row.now ≢ [] }
+    requires within { at < length (R.rows rows.now) }
+    requires shown { get_or (R.rows rows.now) at [] ≢ [] }
     ensures behind { OnOk result (IsBetween writer.new) }
     ensures text { OnOk result
         (Appends (text_written W.contents writer.old) (text_written W.contents writer.new)
-        (record_text (map value_text row.now))) }
+        (record_text (map value_text (get_or (R.rows rows.now) at [])))) }
 {
-    fill_with_values(fields, row)?;
+    rows.fill(fields, at)?;
     write_record(writer, fields)?;
     Ok(())
 }
@@ -146,27 +162,4 @@ fn fill_with_headers(fields: &mut ByteRecord, items: &[Item]) -> Result<(), Allo
         fields.push_field(item.header.as_bytes())?;
     }
     Ok(())
-}
-
-fn fill_with_values(fields: &mut ByteRecord, row: &[Value]) -> Result<(), AllocError>
-    ensures { OnOk result (fields_of fields.new ≡ map value_text row.now) }
-{
-    fields.clear();
-    for value in row {
-        push_value(fields, value)?;
-    }
-    Ok(())
-}
-
-fn push_value(fields: &mut ByteRecord, value: &Value) -> Result<(), AllocError>
-    requires { partial_of fields.old ≡ [] }
-    ensures fields { OnOk result (fields_of fields.new ≡ fields_of fields.old
-        ++ value_text value.now ∷ []) }
-    ensures partial { OnOk result (partial_of fields.new ≡ []) }
-{
-    match value {
-        Value::Null => fields.push_field(b"\\N"),
-        Value::Int(n) => fields.push_field(Buffer::new().format(*n).as_bytes()),
-        Value::Text(text) => fields.push_field(text.as_bytes()),
-    }
 }

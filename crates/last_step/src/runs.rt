@@ -1,4 +1,5 @@
-//! The rows of groups behind those of others.
+//! The rows of groups, as runs.
+ghost use Rattle.std.specs.Prelude.{[]};
 ghost use Rattle.last_step.specs.Fitting.{AreGroupsOf};
 ghost use Rattle.meaning.specs.Wanting.{ReportsIfMemory};
 ghost use Rattle.last_step.specs.Given.{fault_returned};
@@ -28,19 +29,14 @@ fn push_all(
     push_grouped(alloc, plan, groups, runs)
 }
 
-/// Runs with those of the groups behind them, of which LIMIT leaves what it leaves of all, or the
-/// first fault from group to group.
-pub fn runs_with(
-    alloc: Global,
-    plan: &Plan,
-    before: Vec<Run>,
-    groups: GroupSlice<'_>,
-) -> Result<Vec<Run>, Stop>
+/// Runs of which LIMIT leaves what it leaves of all rows of the groups, or the first fault from group
+/// to group.
+pub fn runs_of(alloc: Global, plan: &Plan, groups: GroupSlice<'_>) -> Result<Vec<Run>, Stop>
     requires { AreGroupsOf plan.now groups }
     ensures { ReportsIfMemory fault_returned (λ runs. best plan.now (expanded runs.items)) result
-        (best_of plan.now (rows_after plan.now (expanded before.items) groups.entry)) }
+        (best_of plan.now (rows_after plan.now [] groups.entry)) }
 {
-    let mut runs = before;
+    let mut runs = Vec::new(alloc);
     push_all(alloc, plan, groups, &mut runs)?;
     Ok(runs)
 }

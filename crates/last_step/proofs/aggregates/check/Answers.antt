@@ -1,6 +1,5 @@
 -- Proofs of the goals of `check` (`aggregates`).
-use Rattle.std.proofs.Common.{◌≡◌, ◌≤◌, ◌<◌, length, rules, ap, ◌∙◌, get_or, sym, subst}
-use Rattle.meaning.specs.declared.answer.Group.{Group}
+use Rattle.std.proofs.Common.{◌≤◌, ◌<◌, length, rules, ap, ◌∙◌, get_or, sym, subst}
 use Rattle.meaning.specs.declared.plan.Aggregate.{Aggregate}
 use Rattle.meaning.specs.Aggregate.{no_statistics, value}
 use Rattle.last_step.proofs.Judging.{from_index, zip_more, zip_end_left}

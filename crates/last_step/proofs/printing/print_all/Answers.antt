@@ -1,7 +1,7 @@
--- Proofs of the goals of `print_rows` (`printing`).
+-- Proofs of the goals of `print_all` (`printing`).
 use Rattle.std.proofs.Common.{rules, sym, ⊎_elim}
 use Rattle.last_step.proofs.Loans.{gave_back}
-use Rattle.last_step.proofs.printing.print_rows.Goals as goal
+use Rattle.last_step.proofs.printing.print_all.Goals as goal
 
 pub returns-in-Ok-into_inner : goal.returns-in-Ok-into_inner
 returns-in-Ok-into_inner g c =

@@ -1,8 +1,8 @@
--- Loop invariants of `fill_with_values` (`printing`).
+-- Loop invariants of `fill_with_values` (`printable`).
 use Rattle.std.proofs.Common.{◌≡◌, [], map, take}
 use Rattle.csv.specs.Records.{fields_of, partial_of}
 use Rattle.meaning.specs.Print.{value_text}
-use Rattle.last_step.proofs.printing.fill_with_values.Given as goal
+use Rattle.last_step.proofs.printable.fill_with_values.Given as goal
 
 abbrev pub invariant-loop-value : goal.invariant-loop-value
 invariant-loop-value l = record {

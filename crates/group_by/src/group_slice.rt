@@ -157,7 +157,7 @@ impl<'a> GroupSlice<'a> {
     ///
     /// # Errors
     ///
-    /// A sum outside 64 bits; of sets of groups that aren't made, out of memory.
+    /// A sum outside 64 bits, or out of memory.
     pub fn value(
         &self,
         alloc: Global,

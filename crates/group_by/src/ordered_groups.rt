@@ -1,6 +1,6 @@
 //! Groups in the order of their keys, of which those of integers are made a batch at a time.
-ghost use Rattle.std.specs.Prelude.{◌≡◌, ◌≤◌, ◌-◌, length, map, take, drop, IfOk};
-ghost use Rattle.std.specs.Cow.{cow_slice_items};
+ghost use Rattle.std.specs.Prelude.{◌≡◌, ◌≤◌, ◌-◌, [], length, map, take, drop, IfOk};
+ghost use Rattle.std.specs.Cow.{cow_slice_items, IsBorrowedSlice, IsOwnedSlice};
 ghost use Rattle.group_by.specs.IntGroups.{indexed_group, AreThere};
 
 use crate::group_slice::GroupSlice;
@@ -13,7 +13,10 @@ use std::marker::Model;
 use std::mem::drop;
 
 /// The groups of a batch, whose buffers can be used again, if they were made for it.
-pub fn spare_groups(alloc: Global, batch: CowSlice<'_, Group>) -> Vec<Group> {
+pub fn spare_groups(alloc: Global, batch: CowSlice<'_, Group>) -> Vec<Group>
+    ensures made { IsOwnedSlice batch.entry → result.items ≡ cow_slice_items batch.entry }
+    ensures lent { IsBorrowedSlice batch.entry → result.items ≡ [] }
+{
     match batch {
         CowSlice::Owned(groups) => groups,
         CowSlice::Borrowed(_) => Vec::new(alloc),

@@ -212,7 +212,7 @@ impl<'a> UnmadeSlice<'a> {
     ///
     /// # Errors
     ///
-    /// A sum outside 64 bits; of sets, out of memory.
+    /// A sum outside 64 bits, or out of memory.
     pub fn value(
         &self,
         alloc: Global,

@@ -1,5 +1,5 @@
 //! The rows of a batch of which a condition is TRUE.
-ghost use Rattle.std.specs.Prelude.{◌≡◌, ◌<◌, false, List, length, slice_index_or, filter, OnOk};
+ghost use Rattle.std.specs.Prelude.{◌≡◌, ◌<◌, false, List, length, slice_index_or, filter, OnErr, OnOk};
 ghost use Rattle.meaning.specs.Truth as true_of;
 ghost use Rattle.meaning.specs.declared.outcome.Truth.TheVariants.{Unknown};
 ghost use Rattle.meaning.specs.declared.joined_row.JoinedRow.{JoinedRow};
@@ -103,7 +103,8 @@ fn keep_true(selection: &mut Selection, lanes: &Vector<'_>)
 /// TRUE.
 ///
 /// Its fault is noted as `eval_vec` does it. Of the positions before the fault that is then held
-/// just those stay at which the condition is TRUE; which stay past it is open.
+/// just those stay at which the condition is TRUE; which stay past it is open. On an error the
+/// selection is as it was.
 pub fn keep_where(
     alloc: Global,
     condition: &Expr,
@@ -117,6 +118,7 @@ pub fn keep_where(
         → AreTypedRows types batch.now rows → Fits types batch.now.columns condition.now Boolean
         → Narrows (meant_at condition.now rows) selection.old.list selection.new.list fault.old.held
         fault.new.held) }
+    ensures unchanged { OnErr result (selection.new ≡ selection.old) }
 {
     let lanes = eval_vec(alloc, condition, batch, selection, fault)?;
     keep_true(selection, &lanes);

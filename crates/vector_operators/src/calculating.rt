@@ -425,7 +425,7 @@ fn minus_ints(
     Ok(returned(operated, nulls, selection, fault))
 }
 
-/// Each lane negated.
+/// Each lane of integers negated.
 pub fn minus(
     alloc: Global,
     given: &Given<'_>,

@@ -322,7 +322,7 @@ fn chosen_unless_null<'a>(
     choose_lanes(alloc, mask.as_slice(), second, first)
 }
 
-/// The first lane, and where it is NULL the second.
+/// The first lane, and where it is NULL the second, both of one type.
 pub fn coalesce<'a>(
     alloc: Global,
     first: &Given<'a>,
@@ -350,7 +350,7 @@ pub fn coalesce<'a>(
     }
 }
 
-/// The lanes of `these` at the selected positions, elsewhere those of `those`.
+/// The lanes of `these` at the selected positions, elsewhere those of `those`, both of one type.
 pub fn put<'a>(
     alloc: Global,
     selection: &LaneSet,

@@ -240,8 +240,8 @@ fn compare_texts_and(
     }
 }
 
-/// A comparison of two operands of one type; UNKNOWN where either is NULL. Of different types all
-/// lanes are UNKNOWN.
+/// A comparison of each two lanes: UNKNOWN where either is NULL or a truth. Which truths come of
+/// integers beside texts is open.
 pub fn compare(
     alloc: Global,
     op: ComparisonOperator,
@@ -286,7 +286,7 @@ fn like_of_texts(alloc: Global, pattern: &Text, texts: &Texts<'_>) -> Result<Tru
     truths_from(alloc, nulls, bits.as_slice())
 }
 
-/// LIKE of each lane that is a text in UTF-8; UNKNOWN where it is NULL.
+/// LIKE of each lane of texts that is in UTF-8; UNKNOWN where it is NULL.
 pub fn like(
     alloc: Global,
     pattern: &Text,

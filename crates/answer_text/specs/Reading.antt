@@ -99,7 +99,7 @@ abbrev pub Judges : {X Y : Type 0} → (X → Y) → Result X Wrong → Result Y
 Judges view (Ok x) meant = meant ≡ Ok (view x)
 Judges view (Err w) meant = meant ≡ Err (fault_of w)
 
--- the same, where a relation says whether what was given is what is read
+-- a part that is read, where a relation says whether what was given is that; or what is wrong with it
 abbrev pub Keeps : {X Y : Type 0} → (X → Y → Type 0) → Result X Stop → List ℕ → Read DecodeFault Y → Type 0
 Keeps {X} {Y} is (Ok x) rest read = (y : Y) × (read ≡ Ok (y, rest)) × is x y
 Keeps is (Err e) rest read = read ≡ Err (fault_in e)

@@ -116,7 +116,6 @@ fn show_extreme(cursor: &mut Cursor<'_>, word: &'static str, out: &mut String) -
 }
 
 /// Shows how many entries a set has, and each of them.
-
 fn show_set(cursor: &mut Cursor<'_>, out: &mut String) -> Result<(), Stop>
     ensures shown { Shows entries_text result (string_bytes out.old) (string_bytes out.new)
         cursor.new.rest.now (set_at cursor.old.rest.now) }

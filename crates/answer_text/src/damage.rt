@@ -1,7 +1,13 @@
 //! What is wrong with a file, and where.
+ghost use Rattle.std.specs.Prelude.{◌≡◌};
+ghost use Rattle.answer_fields.specs.Fault.{fault_of as of_wire};
+ghost use Rattle.answer_text.specs.Reading.{fault_of, number_of};
+ghost use Rattle.answer_text.specs.declared.damage.Stop.TheVariants as stop;
+
 use fragment_file::FileFault;
 use std::alloc::{AllocError, AllocFailed};
 use thiserror::Error;
+use wire::WireFault;
 
 /// What is wrong with a file.
 #[derive(Clone, Copy, Debug, Drop, Error)]
@@ -29,7 +35,9 @@ pub enum Wrong {
 impl Wrong {
     /// The number by which the commands report it, in files of tables and cuts and in answers and
     /// states.
-    pub fn number(self) -> u8 {
+    pub fn number(self) -> u8
+        ensures { result ≡ number_of self }
+    {
         match self {
             Wrong::OtherMagic => 1,
             Wrong::EndsEarly => 2,
@@ -41,6 +49,19 @@ impl Wrong {
             Wrong::Unknown => 9,
             Wrong::NoGate => 14,
         }
+    }
+}
+
+/// What is wrong with a field that `wire` doesn't read so.
+pub fn wrong_of(fault: WireFault) -> Wrong
+    ensures { fault_of result ≡ of_wire fault }
+{
+    match fault {
+        WireFault::Magic => Wrong::OtherMagic,
+        WireFault::Truncated => Wrong::EndsEarly,
+        WireFault::NotUtf8 => Wrong::Unknown,
+        WireFault::TrailingBytes => Wrong::BytesBehind,
+        WireFault::Seal => Wrong::OtherSeal,
     }
 }
 
@@ -61,12 +82,16 @@ pub enum Stop {
 }
 
 impl From<AllocError> for Stop {
+    ghost from_gives = { λ _ given. given ≡ stop.Memory };
+
     fn from(_: AllocError) -> Stop {
         Stop::Memory
     }
 }
 
 impl<T: Drop> From<AllocFailed<T>> for Stop {
+    ghost from_gives = { λ _ given. given ≡ stop.Memory };
+
     fn from(_: AllocFailed<T>) -> Stop {
         Stop::Memory
     }

@@ -3,8 +3,8 @@ use crate::body::show_body;
 use crate::cursor::Cursor;
 use crate::damage::{Stop, Wrong};
 use crate::detail::Detail;
-use crate::job_head::{JobHead, Shape, put_head, put_shape, take_head, take_shape};
-use partial_codec::{Content, Format, format_in};
+use crate::job_head::{put_head, put_shape, take_head, take_shape};
+use answer_fields::{Content, Format, JobFields, Shape, format_in};
 use std::alloc::{AllocError, Global};
 use std::mem::drop;
 
@@ -22,13 +22,13 @@ fn take_format(cursor: &mut Cursor<'_>) -> Result<Format, Stop> {
 }
 
 /// What stands before the shape of a record's answer.
-#[derive(Clone, Copy)]
+#[derive(Drop)]
 struct AnswerHead<'a> {
     number: u32,
     at: usize,
     size: usize,
     format: Format,
-    job: JobHead<'a>,
+    job: JobFields<'a>,
     fragment: u32,
 }
 
@@ -58,13 +58,10 @@ fn put_job(out: &mut String, head: &AnswerHead<'_>, shape: &Shape) -> Result<(),
 }
 
 fn put_record(out: &mut String, head: &AnswerHead<'_>) -> Result<(), AllocError> {
-    let AnswerHead {
-        number,
-        at,
-        size,
-        fragment,
-        ..
-    } = *head;
+    let number = head.number;
+    let at = head.at;
+    let size = head.size;
+    let fragment = head.fragment;
     let numbered = head.format.number();
     write!(
         out,

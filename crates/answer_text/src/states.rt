@@ -3,9 +3,9 @@ use crate::body::show_body;
 use crate::cursor::Cursor;
 use crate::damage::{Stop, Wrong};
 use crate::detail::Detail;
-use crate::job_head::{Shape, put_head, put_shape, take_head, take_shape};
+use crate::job_head::{put_head, put_shape, take_head, take_shape};
 use crate::numbers::put_ranges;
-use partial_codec::Format;
+use answer_fields::{Format, Shape};
 use std::alloc::{AllocError, Global};
 
 /// The fragments of which there is an answer, of which there is none, and whose answers differ.

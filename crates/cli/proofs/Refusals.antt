@@ -4,6 +4,7 @@ use Rattle.std.specs.Prelude.{◌⊎◌, IfErr}
 use Rattle.std.specs.Borrow.{Bor}
 use Rattle.std.proofs.Math.Seq.{split_at}
 use Rattle.std.proofs.lemmas.List.Elements.{Contains-get_or}
+use Rattle.disk.specs.Disk.{DiskSpec}
 use Rattle.meaning.specs.declared.catalog.Dimension.{Dimension}
 use Rattle.loader.specs.Fault as loads
 use Rattle.loader.specs.declared.fault.LoadFault.{LoadFault}
@@ -22,7 +23,7 @@ use Rattle.folders.specs.declared.refusal.Refusal.TheVariants as refusal
 use Rattle.jobs.specs.Job.{IsQueryRefused as IsUnplanned}
 use Rattle.jobs.specs.Working.{IsWorkRefused, IsWorkUnread}
 use Rattle.command_line.specs.declared.commands.WorkCommand.{WorkCommand}
-use Rattle.cli.specs.Refusing.{IsInputRefused, IsRefusedSo, IsUnreadFirst, IsUnwrittenTried, IsWholeRefused}
+use Rattle.cli.specs.Refusing.{IsDiskFailed, IsInputRefused, IsRefusedSo, IsUnreadFirst, IsUnwrittenTried, IsWholeRefused}
 use Rattle.loads.specs.Refusing.{IsLoadLeft, IsLoadRefused, IsQuiet}
 use Rattle.cli.specs.Running.{files_of, input_over}
 use Rattle.command_line.specs.declared.commands.Command.{Command}
@@ -82,8 +83,8 @@ whole_refused holds command folder lent query text rows vector (Err e) before af
 -- ---- the first file that can't be read
 
 -- `load` and `whole` say nothing of it
-pub load_tried : (tries : List ℕ → Type 0) (command : Command) (folder : List ℕ) (load rows : ℕ) (e : Refusal) → command ≡ Load folder load rows → IsUnwrittenTried tries command e
-load_tried tries command folder load rows e is = subst (λ (x : Command). IsUnwrittenTried tries x e) (sym is) tt
+pub load_tried : (tries : List ℕ → Type 0) (command : Command) (folder : List ℕ) (load rows : ℕ) (e : Refusal) → command ≡ Load folder load rows → IsTriedFor tries e → IsUnwrittenTried tries command e
+load_tried tries command folder load rows e is tried = subst (λ (x : Command). IsUnwrittenTried tries x e) (sym is) tried
 
 pub whole_tried : (tries : List ℕ → Type 0) (command : Command) (folder query : List ℕ) (rows vector : ℕ) (result : Result ℕ Refusal) → command ≡ Whole folder query rows vector → IfErr result (IsUnwrittenTried tries command)
 whole_tried tries command folder query rows vector (Ok status) is = tt
@@ -92,12 +93,24 @@ whole_tried tries command folder query rows vector (Err e) is = subst (λ (x : C
 pub work_tried : (tries : List ℕ → Type 0) (command : Command) (asked : WorkCommand) (e : Refusal) → command ≡ Work asked → IsTriedFor tries e → IsUnwrittenTried tries command e
 work_tried tries command asked e is tried = subst (λ (x : Command). IsUnwrittenTried tries x e) (sym is) tried
 
-pub load_first : (holds : Holds) (opens : List ℕ → Type 0) (command : Command) (folder : List ℕ) (load rows : ℕ) (e : Refusal) → command ≡ Load folder load rows → IsUnreadFirst holds opens command e
-load_first holds opens command folder load rows e is = subst (λ (x : Command). IsUnreadFirst holds opens x e) (sym is) tt
+pub load_first : (holds : Holds) (opens shuts : List ℕ → Type 0) (command : Command) (folder : List ℕ) (load rows : ℕ) (e : Refusal) → command ≡ Load folder load rows → IsUnreadFirst holds opens shuts command e
+load_first holds opens shuts command folder load rows e is = subst (λ (x : Command). IsUnreadFirst holds opens shuts x e) (sym is) tt
 
-pub whole_first : (holds : Holds) (opens : List ℕ → Type 0) (command : Command) (folder query : List ℕ) (rows vector : ℕ) (result : Result ℕ Refusal) → command ≡ Whole folder query rows vector → IfErr result (IsUnreadFirst holds opens command)
-whole_first holds opens command folder query rows vector (Ok status) is = tt
-whole_first holds opens command folder query rows vector (Err e) is = subst (λ (x : Command). IsUnreadFirst holds opens x e) (sym is) tt
+pub whole_first : (holds : Holds) (opens shuts : List ℕ → Type 0) (command : Command) (folder query : List ℕ) (rows vector : ℕ) (result : Result ℕ Refusal) → command ≡ Whole folder query rows vector → IfErr result (IsUnreadFirst holds opens shuts command)
+whole_first holds opens shuts command folder query rows vector (Ok status) is = tt
+whole_first holds opens shuts command folder query rows vector (Err e) is = subst (λ (x : Command). IsUnreadFirst holds opens shuts x e) (sym is) tt
 
-pub work_first : (holds : Holds) (opens : List ℕ → Type 0) (command : Command) (asked : WorkCommand) (e : Refusal) → command ≡ Work asked → IsWorkUnread holds opens asked e → IsUnreadFirst holds opens command e
-work_first holds opens command asked e is first = subst (λ (x : Command). IsUnreadFirst holds opens x e) (sym is) first
+pub work_first : (holds : Holds) (opens shuts : List ℕ → Type 0) (command : Command) (asked : WorkCommand) (e : Refusal) → command ≡ Work asked → IsWorkUnread holds opens asked e → IsUnreadFirst holds opens shuts command e
+work_first holds opens shuts command asked e is first = subst (λ (x : Command). IsUnreadFirst holds opens shuts x e) (sym is) first
+
+-- ---- a journal's disk that failed
+
+pub load_failed : {D : Type 0} (shown : D → DiskSpec) (command : Command) (folder : List ℕ) (load rows : ℕ) (e : Refusal) → command ≡ Load folder load rows → IsDiskFailed shown command e
+load_failed shown command folder load rows e is = subst (λ (x : Command). IsDiskFailed shown x e) (sym is) tt
+
+pub whole_failed : {D : Type 0} (shown : D → DiskSpec) (command : Command) (folder query : List ℕ) (rows vector : ℕ) (result : Result ℕ Refusal) → command ≡ Whole folder query rows vector → IfErr result (IsDiskFailed shown command)
+whole_failed shown command folder query rows vector (Ok status) is = tt
+whole_failed shown command folder query rows vector (Err e) is = subst (λ (x : Command). IsDiskFailed shown x e) (sym is) tt
+
+pub work_failed : {D : Type 0} (shown : D → DiskSpec) (command : Command) (asked : WorkCommand) (e : Refusal) → command ≡ Work asked → IsDiskFailed shown command e
+work_failed shown command asked e is = subst (λ (x : Command). IsDiskFailed shown x e) (sym is) tt

@@ -1,5 +1,6 @@
 -- Why a command is refused: the first thing that is wrong in the folder's bytes, in the command's order.
 use Rattle.std.specs.Prelude.{◌≡◌, ◌⊎◌, ℕ, ◌<◌, ◌≤◌, List, ◌∷◌, ◌++◌, drop, length, All, Contains, Option, None, Some, IfSome, Ok, Err, ⊤}
+use Rattle.disk.specs.Disk.{DiskSpec}
 use Rattle.meaning.specs.declared.catalog.Catalog.{Catalog}
 use Rattle.meaning.specs.declared.catalog.Dimension.{Dimension}
 use Rattle.meaning.specs.declared.plan.Join.{Join}
@@ -19,7 +20,7 @@ use Rattle.folders.specs.Refused.{IsTriedFor, IsUnread, IsUnwritten}
 use Rattle.cli.specs.WholeRefusal.{refusal_of}
 use Rattle.folders.specs.declared.refusal.Refusal.{Refusal}
 use Rattle.folders.specs.declared.refusal.Refusal.TheVariants as refusal
-use Rattle.jobs.specs.Gathering.{IsGatherLeft, IsGatherRefused, IsGatherUnread}
+use Rattle.jobs.specs.Gathering.{HasFailed, IsGatherLeft, IsGatherRefused, IsGatherUnread}
 use Rattle.folders.specs.Tables.{IsCatalogRefused, IsCatalogThere}
 use Rattle.jobs.specs.Working.{IsWorkRefused, IsWorkUnread}
 use Rattle.loads.specs.Refusing.{IsLoadLeft, IsLoadRefused, IsQuiet, IsUneven}
@@ -92,17 +93,18 @@ IsRefusedFor holds (Load folder load rows) e = IsLoadRefused holds folder rows e
 IsRefusedFor holds (Work command) e = IsWorkRefused holds command e
 IsRefusedFor holds (Gather command) e = IsGatherRefused holds command e
 
--- a file that `work` or `gather` can't read is the first of theirs: those before it were opened
-abbrev pub IsUnreadFirst : Holds → (List ℕ → Type 0) → Command → Refusal → Type 0
-IsUnreadFirst holds opens (Work command) e = IsWorkUnread holds opens command e
-IsUnreadFirst holds opens (Gather command) e = IsGatherUnread opens command e
-IsUnreadFirst holds opens _ e = ⊤
+-- a file that `work` or `gather` can't read is the first of theirs: those before it were opened; and a journal can't be had as a disk
+abbrev pub IsUnreadFirst : Holds → (List ℕ → Type 0) → (List ℕ → Type 0) → Command → Refusal → Type 0
+IsUnreadFirst holds opens shuts (Work command) e = IsWorkUnread holds opens command e
+IsUnreadFirst holds opens shuts (Gather command) e = IsGatherUnread opens shuts command e
+IsUnreadFirst holds opens shuts _ e = ⊤
 
--- a file that `work` or `gather` can't write was to be created
+-- a file that `load`, `work` or `gather` can't write was to be created, put under its path or taken away
 abbrev pub IsUnwrittenTried : (List ℕ → Type 0) → Command → Refusal → Type 0
+IsUnwrittenTried tries (Load folder load rows) e = IsTriedFor tries e
 IsUnwrittenTried tries (Work command) e = IsTriedFor tries e
 IsUnwrittenTried tries (Gather command) e = IsTriedFor tries e
-IsUnwrittenTried tries _ e = ⊤
+IsUnwrittenTried tries (Whole folder query rows vector) e = ⊤
 
 -- ---- what a refusal leaves
 
@@ -118,6 +120,11 @@ LeavesFiles holds (Gather command) e err before after = IsGatherLeft holds comma
 abbrev pub IsSilent : Command → Option (List ℕ) → Option (List ℕ) → Type 0
 IsSilent (Gather command) before after = ⊤
 IsSilent _ before after = after ≡ before
+
+-- a disk has said so where `gather` says that a journal's device failed, or is full
+abbrev pub IsDiskFailed : {D : Type 0} → (D → DiskSpec) → Command → Refusal → Type 0
+IsDiskFailed shown (Gather command) e = HasFailed shown e
+IsDiskFailed shown _ e = ⊤
 
 -- a command is refused for this, and what it printed and wrote by then
 pub record IsRefusedSo (holds : Holds) (command : Command) (before after err_before : Option (List ℕ)) (wrote_before wrote_after : Option (List Change)) (e : Refusal) : Type 0 where

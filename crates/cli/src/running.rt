@@ -8,14 +8,14 @@ ghost use Rattle.planner.specs.QueryText.{IsPlanned};
 ghost use Rattle.gathering.specs.Gathering.{GatherSpec};
 ghost use Rattle.coordinator.specs.Whole.{IsAnswered};
 ghost use Rattle.command_line.specs.Command.{IsInRange};
-ghost use Rattle.cli.specs.Refusing.{IsInputRefused, IsQueryRefused, IsRefusedOver, IsRefusedSo, IsSilent, IsUnreadFirst, IsUnreadOfPlan, IsUnwrittenTried, IsWholeRefused};
+ghost use Rattle.cli.specs.Refusing.{IsDiskFailed, IsInputRefused, IsQueryRefused, IsRefusedOver, IsRefusedSo, IsSilent, IsUnreadFirst, IsUnreadOfPlan, IsUnwrittenTried, IsWholeRefused};
 ghost use Rattle.loads.specs.Refusing.{IsQuiet};
 ghost use Rattle.cli.specs.Running.{AreTables, IsAnsweredSo, IsWholeDone, IsCommandDone, IsReportedAs, input_over};
 ghost use Rattle.cli.specs.Status.{IsEndStatus, IsRunStatus, end_status, report_status};
 ghost use Rattle.folders.specs.Folder.{csv_path};
 ghost use Rattle.folders.specs.Refused.{IsAskedFor, IsTriedFor};
 ghost use Rattle.folders.specs.declared.refusal.Refusal.{Refusal as ARefusal};
-ghost use Rattle.jobs.specs.Gathering.{IsGatherLeft, IsGatherRefused, IsGatherUnread};
+ghost use Rattle.jobs.specs.Gathering.{HasFailed, IsGatherLeft, IsGatherRefused, IsGatherUnread};
 ghost use Rattle.jobs.specs.Working.{IsWorked, IsWorkRefused, IsWorkUnread};
 
 use crate::question::{Question, Request};
@@ -229,13 +229,14 @@ fn gather<F: Folder, O: Write, E: Write>(
         (IsReportedAs (F.holds folder.old) command.now (O.contents out.old) (O.contents out.new)
         (E.contents err.old) (E.contents err.new) (F.wrote folder.old) (F.wrote folder.new)) }
     ensures refused { IfErr result (IsGatherRefused (F.holds folder.old) command.now) }
-    ensures first { IfErr result (IsGatherUnread (F.opens folder.old) command.now) }
+    ensures first { IfErr result (IsGatherUnread (F.opens folder.old) (F.shuts folder.old) command.now) }
     ensures quiet { IfErr result (λ e. IsQuiet e (O.contents out.old) (O.contents out.new)) }
     ensures left { OnErr result
         (IsGatherLeft (F.holds folder.old) command.now (E.contents err.old) (F.wrote folder.old)
         (F.wrote folder.new)) }
     ensures unread { IfErr result (IsAskedFor (F.asks folder.old)) }
     ensures unwritten { IfErr result (IsTriedFor (F.tries folder.old)) }
+    ensures failed { IfErr result (HasFailed F.Disk.shown) }
 {
     let report = gather_answers(alloc, folder, command, out, err)?;
     Ok(status_of_report(&report))
@@ -281,12 +282,14 @@ pub fn outcome<F: Folder, O: Write, E: Write>(
         (IsRefusedSo (F.holds folder.old) command.now (O.contents out.old) (O.contents out.new)
         (E.contents err.old) (F.wrote folder.old) (F.wrote folder.new)) }
     ensures first { IfErr result
-        (IsUnreadFirst (F.holds folder.old) (F.opens folder.old) command.now) }
+        (IsUnreadFirst (F.holds folder.old) (F.opens folder.old) (F.shuts folder.old) command.now) }
     ensures silent { OnErr result (IsSilent command.now (E.contents err.old) (E.contents err.new)) }
     // A file that can't be read was asked for.
     ensures unread { IfErr result (IsAskedFor (F.asks folder.old)) }
-    // An answer or a state that can't be written was to be created.
+    // One that can't be written was to be created, put under its path or taken away.
     ensures unwritten { IfErr result (IsUnwrittenTried (F.tries folder.old) command.now) }
+    // A journal's device that failed, or is full, is that of a disk that has said so.
+    ensures failed { IfErr result (IsDiskFailed F.Disk.shown command.now) }
 {
     match command {
         Command::Whole {
@@ -337,9 +340,10 @@ pub fn run<F: Folder, O: Write, E: Write>(
     ensures refused { result ≡ 1 → (e : ARefusal)
         × IsRefusedSo (F.holds folder.old) command.now (O.contents out.old) (O.contents out.new)
         (E.contents err.old) (F.wrote folder.old) (F.wrote folder.new) e
-        × IsUnreadFirst (F.holds folder.old) (F.opens folder.old) command.now e
+        × IsUnreadFirst (F.holds folder.old) (F.opens folder.old) (F.shuts folder.old) command.now e
         × IsAskedFor (F.asks folder.old) e
-        × IsUnwrittenTried (F.tries folder.old) command.now e }
+        × IsUnwrittenTried (F.tries folder.old) command.now e
+        × IsDiskFailed F.Disk.shown command.now e }
 {
     match outcome(alloc, command, folder, out, err) {
         Ok(status) => status,

@@ -29,7 +29,7 @@ AreHeld held bytes = IfSome held (λ known. bytes ≡ known)
 abbrev pub HasDisk : Option (List ℕ) → DiskSpec → Type 0
 HasDisk held disk = (bytes : List ℕ) → held ≡ Some bytes → IsHonest disk × (disk.now.reads ≡ bytes)
 
--- what is asked of a folder from then on is asked of it as it was
+-- what is asked of a folder or tried from then on is asked of it or tried as it was
 abbrev pub AsksOf : (List ℕ → Type 0) → (List ℕ → Type 0) → Type 0
 AsksOf before after = (path : List ℕ) → after path → before path
 

@@ -24,7 +24,11 @@ IsUnread path e = (e ≡ refusal.Memory) ⊎ (e ≡ refusal.CannotRead path)
 abbrev pub IsAskedFor : (List ℕ → Type 0) → Refusal → Type 0
 IsAskedFor asks e = (path : List ℕ) → e ≡ refusal.CannotRead path → asks path
 
--- a file that can't be written is one that was to be created
+-- a file that can't be had as a disk is such
+abbrev pub IsShut : (List ℕ → Type 0) → Refusal → Type 0
+IsShut shuts e = (path : List ℕ) → e ≡ refusal.CannotRead path → shuts path
+
+-- a file that can't be written was to be created, put under its path or taken away
 abbrev pub IsTriedFor : (List ℕ → Type 0) → Refusal → Type 0
 IsTriedFor tries e = (path : List ℕ) → e ≡ refusal.CannotWrite path → tries path
 

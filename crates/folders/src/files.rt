@@ -5,7 +5,7 @@ ghost use Rattle.std.specs.declared.io.ErrorKind.TheVariants as kind;
 ghost use Rattle.fragment_file.specs.declared.fault.FileFault.TheVariants as no_file;
 ghost use Rattle.disk.specs.Disk.{HasRoom};
 ghost use Rattle.folders.specs.Folder.{AreHeld, AsksOf, Finishes, HasDisk, HasHeld, IsEmptyFile, Removes, WritesOne, catalog_path};
-ghost use Rattle.folders.specs.Refused.{IsAskedFor, IsTriedFor, IsUnread, IsUnwritten};
+ghost use Rattle.folders.specs.Refused.{IsAskedFor, IsShut, IsTriedFor, IsUnread, IsUnwritten};
 ghost use Rattle.folders.specs.declared.refusal.Refusal.TheVariants.{Memory};
 
 use crate::folder::Folder;
@@ -90,6 +90,7 @@ pub fn open_disk<F: Folder>(folder: &F, path: &Text) -> Result<F::Disk, Refusal>
         (λ disk. HasDisk (F.holds folder.now path.now) (F.Disk.shown disk)) }
     ensures refused { IfErr result (IsUnread path.now) }
     ensures unread { IfErr result (IsAskedFor (F.asks folder.now)) }
+    ensures shut { IfErr result (IsShut (F.shuts folder.now)) }
 {
     match folder.disk(path.as_str()) {
         Ok(disk) => Ok(disk),
@@ -149,6 +150,8 @@ pub fn create_file<F: Folder>(folder: &mut F, path: &Text) -> Result<F::Writer, 
     ensures held { F.holds folder.new ≡ F.holds folder.old }
     ensures refused { IfErr result (IsUnwritten path.now) }
     ensures asking { AsksOf (F.asks folder.old) (F.asks folder.new) }
+    ensures unwritten { IfErr result (IsTriedFor (F.tries folder.old)) }
+    ensures trying { AsksOf (F.tries folder.old) (F.tries folder.new) }
 {
     match folder.create(path.as_str()) {
         Ok(file) => Ok(file),
@@ -167,6 +170,7 @@ pub fn close_file<F: Folder>(
     ensures held { F.holds folder.new ≡ F.holds folder.old }
     ensures refused { IfErr result (IsUnwritten path.now) }
     ensures asking { AsksOf (F.asks folder.old) (F.asks folder.new) }
+    ensures trying { AsksOf (F.tries folder.old) (F.tries folder.new) }
 {
     match folder.close(file) {
         Ok(file) => Ok(file),
@@ -180,6 +184,8 @@ pub fn put_file<F: Folder>(folder: &mut F, path: &Text, file: F::Closed) -> Resu
         (Finishes (F.wrote folder.old) (F.wrote folder.new) path.now (F.enclosed file)) }
     ensures refused { IfErr result (IsUnwritten path.now) }
     ensures unchanged { OnErr result (F.wrote folder.new ≡ F.wrote folder.old) }
+    ensures unwritten { IfErr result (IsTriedFor (F.tries folder.old)) }
+    ensures trying { AsksOf (F.tries folder.old) (F.tries folder.new) }
 {
     match folder.finish(path.as_str(), file) {
         Ok(()) => Ok(()),
@@ -203,6 +209,8 @@ pub fn remove_file<F: Folder>(folder: &mut F, path: &Text) -> Result<(), Refusal
     ensures removed { OnOk result (Removes (F.wrote folder.old) (F.wrote folder.new) path.now) }
     ensures refused { IfErr result (IsUnwritten path.now) }
     ensures unchanged { OnErr result (F.wrote folder.new ≡ F.wrote folder.old) }
+    ensures unwritten { IfErr result (IsTriedFor (F.tries folder.old)) }
+    ensures trying { AsksOf (F.tries folder.old) (F.tries folder.new) }
 {
     match folder.remove(path.as_str()) {
         Ok(()) => Ok(()),

@@ -35,7 +35,11 @@ pub trait Folder {
     // What a path meets where no file was found under it.
     ghost lacks: { Self → List ℕ → Type 0 } = { λ _ _. ⊤ };
 
-    // What a path meets once a file was to be created for it, whether one was or not.
+    // What a path meets whose file can't be had as a disk.
+    ghost shuts: { Self → List ℕ → Type 0 } = { λ _ _. ⊤ };
+
+    // What a path meets once a file was to be created for it or put under it, or one was to be taken away,
+    // whether that was done or not.
     ghost tries: { Self → List ℕ → Type 0 } = { λ _ _. ⊤ };
 
     // What a path meets once a file was created for it.
@@ -59,6 +63,7 @@ pub trait Folder {
     fn disk(&self, path: &str) -> io::Result<Self::Disk>
         ensures room { IfOk result (λ disk. HasRoom (Self.Disk.shown disk)) }
         ensures asked { asks self.now path.now }
+        ensures shut { OnErr result (shuts self.now path.now) }
         ensures held { IfOk result (λ disk. HasDisk (holds self.now path.now)
             (Self.Disk.shown disk)) };
 
@@ -70,23 +75,29 @@ pub trait Folder {
         ensures created { OnOk result (creates self.old path.now) }
         ensures same { wrote self.new ≡ wrote self.old }
         ensures held { holds self.new ≡ holds self.old }
-        ensures asking { AsksOf (asks self.old) (asks self.new) };
+        ensures asking { AsksOf (asks self.old) (asks self.new) }
+        ensures trying { AsksOf (tries self.old) (tries self.new) };
 
     /// Closes a file that has all its bytes. They are kept, whatever happens to the machine.
     fn close(&mut self, file: Self::Writer) -> io::Result<Self::Closed>
         ensures closed { IfOk result (λ closed. enclosed closed ≡ Self.Writer.contents file) }
         ensures same { wrote self.new ≡ wrote self.old }
         ensures held { holds self.new ≡ holds self.old }
-        ensures asking { AsksOf (asks self.old) (asks self.new) };
+        ensures asking { AsksOf (asks self.old) (asks self.new) }
+        ensures trying { AsksOf (tries self.old) (tries self.new) };
 
     /// Puts a file that was created for this path under it. On error no path changes.
     fn finish(&mut self, path: &str, file: Self::Closed) -> io::Result<()>
         ensures finished { OnOk result (Finishes (wrote self.old) (wrote self.new) path.now
             (enclosed file)) }
-        ensures unchanged { OnErr result (wrote self.new ≡ wrote self.old) };
+        ensures tried { tries self.old path.now }
+        ensures unchanged { OnErr result (wrote self.new ≡ wrote self.old) }
+        ensures trying { AsksOf (tries self.old) (tries self.new) };
 
     /// Takes the file of a path away, where there is one. On error no path changes.
     fn remove(&mut self, path: &str) -> io::Result<()>
         ensures removed { OnOk result (Removes (wrote self.old) (wrote self.new) path.now) }
-        ensures unchanged { OnErr result (wrote self.new ≡ wrote self.old) };
+        ensures tried { tries self.old path.now }
+        ensures unchanged { OnErr result (wrote self.new ≡ wrote self.old) }
+        ensures trying { AsksOf (tries self.old) (tries self.new) };
 }

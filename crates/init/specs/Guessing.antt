@@ -12,7 +12,7 @@ use Rattle.init.specs.declared.fault.InitFault.{InitFault}
 use Rattle.init.specs.declared.fault.InitFault.TheVariants as fault
 use Rattle.init.specs.declared.listing.CsvFile.{CsvFile}
 use Rattle.init.specs.Making.{DeclaresFact}
-use Rattle.init.specs.Refusing.{IsCatalogRefused, IsNotAbsent, IsUnread, IsUnwritten}
+use Rattle.init.specs.Refusing.{IsCatalogRefused, IsNotAbsent, IsUnwritten}
 
 abbrev pub is_short_name : List ℕ → Bool
 is_short_name name = is_name name && nat_le (length name) max_name_bytes
@@ -73,6 +73,12 @@ abbrev pub IsDimensionUnmade : List ℕ → List ℕ → InitFault → Type 0
 IsDimensionUnmade path table e = IsTableRefused path table e ⊎ ((is_short_name table ≡ true) × (IsKeyRefused path e ⊎ IsUnreported e))
 
 -- ---- the files
+
+-- memory ran out, or the folder's files can't be listed
+abbrev pub IsUnlisted : (List ℕ → Type 0) → List ℕ → InitFault → Type 0
+IsUnlisted hides folder fault.Memory = ⊤
+IsUnlisted hides folder (fault.CannotRead name) = (string_bytes name ≡ folder) × hides folder
+IsUnlisted hides folder _ = ⊥
 
 -- the folder's files, in some order
 abbrev pub IsListed : (List ℕ → List CsvFile → Type 0) → List ℕ → List CsvFile → Type 0
@@ -135,8 +141,8 @@ IsGuessRefusedOf holds folder asked files e = IsFactUnfound asked files folder e
     × ((AreTooMany files × (e ≡ fault.TooManyDimensions)) ⊎ ((length files ≤ max_dimensions + 1) × IsTextRefused holds folder files fact e)))
 
 -- the folder's files can't be listed, or this is wrong with those that are
-abbrev pub IsGuessRefused : Holds → (List ℕ → List CsvFile → Type 0) → List ℕ → Option (List ℕ) → InitFault → Type 0
-IsGuessRefused holds lists folder asked e = IsUnread folder e ⊎ ((files : List CsvFile) × IsListed lists folder files × IsGuessRefusedOf holds folder asked files e)
+abbrev pub IsGuessRefused : Holds → (List ℕ → List CsvFile → Type 0) → (List ℕ → Type 0) → List ℕ → Option (List ℕ) → InitFault → Type 0
+IsGuessRefused holds lists hides folder asked e = IsUnlisted hides folder e ⊎ ((files : List CsvFile) × IsListed lists folder files × IsGuessRefusedOf holds folder asked files e)
 
 -- the files under which a catalogue is made: not too many, and the fact's is among them
 pub record IsGuessable (lists : List ℕ → List CsvFile → Type 0) (folder : List ℕ) (asked : Option (List ℕ)) : Type 0 where
@@ -147,6 +153,6 @@ pub record IsGuessable (lists : List ℕ → List CsvFile → Type 0) (folder : 
   pub is_fact : IsFactOf asked files fact
 
 -- there is a catalogue, or there may be one; or there is none, and none is guessed, or it can't be written
-abbrev pub IsMakeRefused : Holds → (List ℕ → Type 0) → (List ℕ → Type 0) → (List ℕ → List CsvFile → Type 0) → List ℕ → Option (List ℕ) → InitFault → Type 0
-IsMakeRefused holds opens lacks lists folder asked e = IsNotAbsent opens (catalog_path folder) e
-    ⊎ (lacks (catalog_path folder) × (IsGuessRefused holds lists folder asked e ⊎ IsUnwritten (catalog_path folder) e))
+abbrev pub IsMakeRefused : Holds → (List ℕ → Type 0) → (List ℕ → Type 0) → (List ℕ → List CsvFile → Type 0) → (List ℕ → Type 0) → List ℕ → Option (List ℕ) → InitFault → Type 0
+IsMakeRefused holds opens lacks lists hides folder asked e = IsNotAbsent opens (catalog_path folder) e
+    ⊎ (lacks (catalog_path folder) × (IsGuessRefused holds lists hides folder asked e ⊎ IsUnwritten (catalog_path folder) e))

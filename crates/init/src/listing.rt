@@ -1,5 +1,5 @@
 //! The CSV files of a folder.
-ghost use Rattle.std.specs.Prelude.{ℕ, List, IfOk, ⊤};
+ghost use Rattle.std.specs.Prelude.{ℕ, List, IfOk, OnErr, ⊤};
 ghost use Rattle.init.specs.declared.listing.CsvFile.{CsvFile as ACsvFile};
 
 use std::alloc::Global;
@@ -19,7 +19,11 @@ pub trait Listing {
     // What the files of a folder meet once they were listed.
     ghost lists: { Self → List ℕ → List ACsvFile → Type 0 } = { λ _ _ _. ⊤ };
 
+    // What a folder meets whose files can't be listed.
+    ghost hides: { Self → List ℕ → Type 0 } = { λ _ _. ⊤ };
+
     /// The files `NAME.csv` that lie right in a folder, in any order.
     fn csv_files(&self, alloc: Global, directory: &str) -> io::Result<Vec<CsvFile>>
-        ensures { IfOk result (λ files. lists self.now directory.now files.items) };
+        ensures listed { IfOk result (λ files. lists self.now directory.now files.items) }
+        ensures hidden { OnErr result (hides self.now directory.now) };
 }

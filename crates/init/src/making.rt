@@ -1,9 +1,9 @@
 //! The catalogue of a folder's CSV files.
 ghost use Rattle.std.specs.Prelude.{◌≡◌, true, ℕ, List, IfErr, IfOk, IfSome, OnErr, OnOk, option_map};
 ghost use Rattle.folders.specs.Folder.{WritesOne, catalog_path, csv_path};
-ghost use Rattle.init.specs.Guessing.{AreDimensionsUnmade, IsDimensionUnmade, IsFactOf, IsFactUnfound, IsGuessable, IsGuessRefused, IsListed, IsMakeRefused, IsTableRefused, IsTextRefused, IsTextUnmade, is_short_name};
+ghost use Rattle.init.specs.Guessing.{AreDimensionsUnmade, IsDimensionUnmade, IsFactOf, IsFactUnfound, IsGuessable, IsGuessRefused, IsListed, IsMakeRefused, IsTableRefused, IsTextRefused, IsTextUnmade, IsUnlisted, is_short_name};
 ghost use Rattle.init.specs.Making.{DeclaresFact, IsAsAsked, IsCatalogFor};
-ghost use Rattle.init.specs.Refusing.{IsNotAbsent, IsUnread, IsUnwritten};
+ghost use Rattle.init.specs.Refusing.{IsNotAbsent, IsUnwritten};
 
 use crate::checking::{check_catalog, check_fact_name, opened};
 use crate::choosing::{has_file, largest};
@@ -25,13 +25,15 @@ use std::mem::drop;
 fn listed<F: Listing>(alloc: Global, folder: &F, directory: &str) -> Result<Vec<CsvFile>, InitFault>
     ensures listed { IfOk result
         (λ files. IsListed (F.lists folder.now) directory.now files.items) }
-    ensures refused { IfErr result (IsUnread directory.now) }
+    ensures refused { IfErr result (IsUnlisted (F.hides folder.now) directory.now) }
 {
-    let Ok(mut files) = folder.csv_files(alloc, directory) else {
-        return Err(InitFault::CannotRead(String::from_str(alloc, directory)?));
-    };
-    files.sort()?;
-    Ok(files)
+    match folder.csv_files(alloc, directory) {
+        Ok(mut files) => {
+            files.sort()?;
+            Ok(files)
+        }
+        Err(_) => Err(InitFault::CannotRead(String::from_str(alloc, directory)?)),
+    }
 }
 
 // The table of a file.
@@ -204,7 +206,8 @@ pub fn guess_catalog<F: Folder + Listing, E: Write>(
         (IsGuessable (F.lists folder.now) directory.now
         (option_map (λ fact. fact.now) fact.entry)) }
     ensures refused { IfErr result
-        (IsGuessRefused (F.holds folder.now) (F.lists folder.now) directory.now
+        (IsGuessRefused (F.holds folder.now) (F.lists folder.now) (F.hides folder.now)
+        directory.now
         (option_map (λ fact. fact.now) fact.entry)) }
 {
     let files = listed(alloc, folder, directory)?;
@@ -266,7 +269,7 @@ pub fn make_catalog<F: Folder + Listing, E: Write>(
         (option_map (λ fact. fact.now) fact.entry)) }
     ensures refused { IfErr result
         (IsMakeRefused (F.holds folder.old) (F.opens folder.old) (F.lacks folder.old)
-        (F.lists folder.old) directory.now (option_map (λ fact. fact.now) fact.entry)) }
+        (F.lists folder.old) (F.hides folder.old) directory.now (option_map (λ fact. fact.now) fact.entry)) }
     ensures unchanged { OnErr result (F.wrote folder.new ≡ F.wrote folder.old) }
 {
     let path = catalog_path(alloc, directory)?;

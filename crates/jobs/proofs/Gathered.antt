@@ -14,7 +14,7 @@ use Rattle.gathering.specs.declared.report.Report.{Report}
 use Rattle.journal.specs.declared.fault.JournalFault.{JournalFault}
 use Rattle.journal.specs.declared.fault.JournalFault.TheVariants as of_journal
 use Rattle.folders.specs.Folder.{Holds}
-use Rattle.folders.specs.Refused.{IsFirstUnread, IsNextOpened}
+use Rattle.folders.specs.Refused.{IsFirstUnread, IsNextOpened, IsShut}
 use Rattle.folders.specs.declared.journal_refusal.JournalRefusal.TheVariants as journal_refusal
 use Rattle.folders.specs.declared.refusal.Refusal.{Refusal}
 use Rattle.folders.specs.declared.refusal.Refusal.TheVariants as refusal
@@ -99,20 +99,21 @@ never_reported save path e (inr (inl memory)) is = cc
 never_reported save path e (inr (inr print)) is = cc
 
 -- no file is read there
-pub durable_first : (opens : List ℕ → Type 0) (command : GatherCommand) (result : Result Report Refusal) → IfErr result (λ e. IsReportRefused command.save e ⊎ IsUnkept true e) → IfErr result (IsGatherUnread opens command)
-durable_first opens command (Ok report) refused = tt
-durable_first opens command (Err e) (inl refused) = λ path is. absurd (never_reported command.save path e refused is)
-durable_first opens command (Err e) (inr (fault, kept, other, unkept)) = λ path is. let same : refusal.Journal fault ≡ refusal.CannotRead path = sym unkept ∙ is in cc same
+pub durable_first : (opens shuts : List ℕ → Type 0) (command : GatherCommand) (result : Result Report Refusal) → IfErr result (λ e. IsReportRefused command.save e ⊎ IsUnkept true e) → IfErr result (IsGatherUnread opens shuts command)
+durable_first opens shuts command (Ok report) refused = tt
+durable_first opens shuts command (Err e) (inl refused) = λ path is. absurd (never_reported command.save path e refused is)
+durable_first opens shuts command (Err e) (inr (fault, kept, other, unkept)) = λ path is. let same : refusal.Journal fault ≡ refusal.CannotRead path = sym unkept ∙ is in cc same
 
 -- the journal's file can't be read
-pub journal_unread : (holds : Holds) (opens : List ℕ → Type 0) (command : GatherCommand) (path : List ℕ) (job : JobSpec) (e : Refusal) → command.journal ≡ Some path → IsUnopened (holds path) job path e → IsGatherUnread opens command e
-journal_unread holds opens command path job e some (inl (inl memory)) = λ named is. let same : refusal.Memory ≡ refusal.CannotRead named = sym memory ∙ is in cc same
-journal_unread holds opens command path job e some (inl (inr unread)) = λ named is.
+pub journal_unread : (holds : Holds) (opens shuts : List ℕ → Type 0) (command : GatherCommand) (path : List ℕ) (job : JobSpec) (e : Refusal) → command.journal ≡ Some path → IsUnopened (holds path) job path e → IsShut shuts e
+    → IsGatherUnread opens shuts command e
+journal_unread holds opens shuts command path job e some (inl (inl memory)) shut = λ named is. let same : refusal.Memory ≡ refusal.CannotRead named = sym memory ∙ is in cc same
+journal_unread holds opens shuts command path job e some (inl (inr unread)) shut = λ named is.
     let same : refusal.CannotRead path ≡ refusal.CannotRead named = sym unread ∙ is in
     let here : named ≡ path = cc same in
-    inr (inl (subst (λ (j : Option (List ℕ)). IsOfJournal j named) (sym some) here))
-journal_unread holds opens command path job e some (inr (fault, none, is)) = λ named unread. let same : refusal.Journal fault ≡ refusal.CannotRead named = sym is ∙ unread in cc same
+    inr (inl (subst (λ (j : Option (List ℕ)). IsOfJournal shuts j named) (sym some) (here, shut named is)))
+journal_unread holds opens shuts command path job e some (inr (fault, none, is)) shut = λ named unread. let same : refusal.Journal fault ≡ refusal.CannotRead named = sym is ∙ unread in cc same
 
 -- the first of the files
-pub files_unread : (opens : List ℕ → Type 0) (command : GatherCommand) (paths : List (List ℕ)) (e : Refusal) → paths ≡ command.files → IsFirstUnread opens paths e → IsGatherUnread opens command e
-files_unread opens command paths e all first = λ path is. inr (inr (subst (λ (l : List (List ℕ)). IsNextOpened opens l path) all (first path is)))
+pub files_unread : (opens shuts : List ℕ → Type 0) (command : GatherCommand) (paths : List (List ℕ)) (e : Refusal) → paths ≡ command.files → IsFirstUnread opens paths e → IsGatherUnread opens shuts command e
+files_unread opens shuts command paths e all first = λ path is. inr (inr (subst (λ (l : List (List ℕ)). IsNextOpened opens l path) all (first path is)))

@@ -7,33 +7,14 @@ use Rattle.partial_codec.specs.Job.{JobSpec}
 use Rattle.command_line.specs.declared.commands.GatherCommand.{GatherCommand}
 use Rattle.command_line.specs.declared.commands.WorkCommand.{WorkCommand}
 use Rattle.folders.specs.Folder.{Holds}
-use Rattle.folders.specs.Refused.{IsTriedFor, IsUnread}
-use Rattle.folders.specs.Tables.{IsCatalogRefused}
+use Rattle.folders.proofs.Others.{IsOther, catalog_other, memory_other, unread_other}
 use Rattle.folders.specs.declared.refusal.Refusal.{Refusal}
 use Rattle.folders.specs.declared.refusal.Refusal.TheVariants as refusal
 use Rattle.jobs.specs.Gathering.{IsJournalRefused, IsTakingRefused, IsTogetherRefused, IsUnkept, IsUnopened, IsUnprinted, IsUnreturned}
 use Rattle.jobs.specs.Job.{IsCutRefused, IsJobRefused, IsQueryRefused, IsRefusedOver}
 use Rattle.jobs.specs.Working.{AreDimensionsUnread, IsAnswerRefused, IsFileRefused, IsSpelledRefused}
 
--- no file is reported as one that can't be written
-abbrev pub IsOther : Refusal → Type 0
-IsOther e = (path : List ℕ) → e ≢ refusal.CannotWrite path
-
-pub other_tried : (tries : List ℕ → Type 0) (e : Refusal) → IsOther e → IsTriedFor tries e
-other_tried tries e other = λ path is. absurd (other path is)
-
-memory_other : (e : Refusal) → e ≡ refusal.Memory → IsOther e
-memory_other e memory = λ path is. let bad : refusal.Memory ≡ refusal.CannotWrite path = sym memory ∙ is in cc bad
-
-unread_other : (read : List ℕ) (e : Refusal) → IsUnread read e → IsOther e
-unread_other read e (inl memory) = memory_other e memory
-unread_other read e (inr unread) = λ path is. let bad : refusal.CannotRead read ≡ refusal.CannotWrite path = sym unread ∙ is in cc bad
-
 -- ---- the job
-
-catalog_other : (holds : Holds) (folder : List ℕ) (e : Refusal) → IsCatalogRefused holds folder e → IsOther e
-catalog_other holds folder e (inl unread) = unread_other _ e unread
-catalog_other holds folder e (inr (bytes, fault, held, wrong, returned)) = λ path is. let bad : refusal.Catalog fault ≡ refusal.CannotWrite path = sym returned ∙ is in cc bad
 
 cut_other : (holds : Holds) (folder : List ℕ) (e : Refusal) → IsCutRefused holds folder e → IsOther e
 cut_other holds folder e (inl unread) = unread_other _ e unread

@@ -1,5 +1,5 @@
 -- What becomes of files of answers and states, and what they say together.
-use Rattle.std.specs.Prelude.{◌≡◌, ◌≢◌, ◌⊎◌, ℕ, ◌==◌, ◌≤◌, Bool, true, false, not, ◌&&◌, if◌then◌else◌, List, [], ◌∷◌, ◌++◌, map, flat_map, length, slice_index_or, All, Contains, Option, Some, None, ⊤}
+use Rattle.std.specs.Prelude.{◌≡◌, ◌≢◌, ◌⊎◌, ℕ, ◌==◌, ◌<◌, ◌≤◌, Bool, true, false, not, ◌&&◌, if◌then◌else◌, List, [], ◌∷◌, ◌++◌, map, flat_map, length, slice_index_or, All, Contains, Option, Some, None, ⊤}
 use Rattle.std.specs.List.{range_with_len}
 use Rattle.std.specs.Io.KnownBytes.{Appends}
 use Rattle.disk.specs.Disk.{DiskSpec, IsHonest}
@@ -196,6 +196,11 @@ IsNotOnDisk disk job e = (e ≡ refusal.Memory) ⊎ ((fault : JournalRefusal) ×
 abbrev pub IsUnopened : Option (List ℕ) → JobSpec → List ℕ → Refusal → Type 0
 IsUnopened held job path e = IsUnread path e ⊎ ((fault : JournalRefusal) × IsNoJournal ((bytes : List ℕ) → held ≡ Some bytes → IsNoFile job bytes) fault × (e ≡ refusal.Journal fault))
 
+-- a disk has answered that its device failed, or that it is full, where the refusal says so
+pub record HasFailed {D : Type 0} (shown : D → DiskSpec) (e : Refusal) : Type 0 where
+  pub failures : e ≡ refusal.Journal journal_refusal.Device → (disk : D) × (0 < (shown disk).failures)
+  pub fulls : e ≡ refusal.Journal journal_refusal.Full → (disk : D) × (0 < (shown disk).fulls)
+
 -- the same of the journal that is asked for
 abbrev pub IsJournalRefused : Holds → Option (List ℕ) → JobSpec → Refusal → Type 0
 IsJournalRefused holds None job e = ⊥
@@ -223,13 +228,13 @@ IsTogetherRefused holds command e = IsJobRefused holds command.folder command.qu
 abbrev pub IsGatherRefused : Holds → GatherCommand → Refusal → Type 0
 IsGatherRefused holds command e = IsTogetherRefused holds command e ⊎ ((job : JobSpec) × IsJobOf holds command.folder command.query job × IsReportRefused command.save e)
 
--- the path of the journal
-abbrev pub IsOfJournal : Option (List ℕ) → List ℕ → Type 0
-IsOfJournal None path = ⊥
-IsOfJournal (Some journal) path = path ≡ journal
+-- the path of the journal, which can't be had as a disk
+abbrev pub IsOfJournal : (List ℕ → Type 0) → Option (List ℕ) → List ℕ → Type 0
+IsOfJournal shuts None path = ⊥
+IsOfJournal shuts (Some journal) path = (path ≡ journal) × shuts path
 
--- a file that can't be read is the catalogue's, that of the cut, the journal's, or one of the files, of which those before it
--- were opened
-abbrev pub IsGatherUnread : (List ℕ → Type 0) → GatherCommand → Refusal → Type 0
-IsGatherUnread opens command e = (path : List ℕ) → e ≡ refusal.CannotRead path
-    → IsOfJob command.folder path ⊎ IsOfJournal command.journal path ⊎ IsNextOpened opens command.files path
+-- a file that can't be read is the catalogue's, that of the cut, the journal's, which can't be had as a disk, or one of the files,
+-- of which those before it were opened
+abbrev pub IsGatherUnread : (List ℕ → Type 0) → (List ℕ → Type 0) → GatherCommand → Refusal → Type 0
+IsGatherUnread opens shuts command e = (path : List ℕ) → e ≡ refusal.CannotRead path
+    → IsOfJob command.folder path ⊎ IsOfJournal shuts command.journal path ⊎ IsNextOpened opens command.files path

@@ -1,5 +1,5 @@
 -- What taking one file more does to a coordinator.
-use Rattle.std.specs.Prelude.{◌≡◌, ◌≢◌, ℕ, Bool, true, false, List, [], ◌∷◌, ◌++◌, Option, Some, ⊤}
+use Rattle.std.specs.Prelude.{◌≡◌, ◌≢◌, ℕ, ◌<◌, Bool, true, false, List, [], ◌∷◌, ◌++◌, Option, Some, ⊤}
 use Rattle.std.specs.Io.KnownBytes.{Appends}
 use Rattle.partial_codec.specs.Job.{JobSpec}
 use Rattle.gathering.specs.Gathering.{GatherSpec}
@@ -39,6 +39,26 @@ abbrev pub IsRefused : Bool → JobSpec → List ℕ → TakeFault → Type 0
 IsRefused journaled job bytes take.Memory = ⊤
 IsRefused journaled job bytes (take.Refused e) = obstacle_of journaled job bytes ≡ Some e
 IsRefused journaled job bytes (take.Journal e) = (journaled ≡ true) × (e ≢ journal_refusal.NotAJournal)
+
+-- how often a journal's disk has failed, and how often it was full
+pub record Failing : Type 0 where
+  pub failures : ℕ
+  pub fulls : ℕ
+
+-- a count rose where the fault says so
+abbrev pub HasRisen : Failing → Failing → TakeFault → Type 0
+HasRisen old new take.Memory = ⊤
+HasRisen old new (take.Refused e) = ⊤
+HasRisen old new (take.Journal journal_refusal.Device) = old.failures < new.failures
+HasRisen old new (take.Journal journal_refusal.Full) = old.fulls < new.fulls
+HasRisen old new (take.Journal journal_refusal.NotAJournal) = ⊤
+HasRisen old new (take.Journal journal_refusal.OpenAgain) = ⊤
+HasRisen old new (take.Journal journal_refusal.TooLong) = ⊤
+
+-- a count isn't 0 where the refusal says so
+pub record IsCounted (now : Failing) (e : Refusal) : Type 0 where
+  pub failures : e ≡ refusal.Journal journal_refusal.Device → 0 < now.failures
+  pub fulls : e ≡ refusal.Journal journal_refusal.Full → 0 < now.fulls
 
 -- what is left then: all as it was, unless the journal failed, behind which nothing is taken
 abbrev pub Leaves : GatherSpec → GatherSpec → TakeFault → Type 0

@@ -2,7 +2,7 @@
 ghost use Rattle.std.specs.Prelude.{◌≡◌, ◌⊎◌, None, Some, true, IfErr, IfOk, OnErr};
 ghost use Rattle.partial_codec.specs.State.{state_bytes};
 ghost use Rattle.folders.specs.Refused.{IsAskedFor, IsTriedFor};
-ghost use Rattle.jobs.specs.Gathering.{IsGatherLeft, IsGathered, IsGatheredOf, IsGatherRefused, IsGatherUnread, IsReported, IsReportRefused, IsSaveLeft, IsTogetherRefused, IsUnkept};
+ghost use Rattle.jobs.specs.Gathering.{HasFailed, IsGatherLeft, IsGathered, IsGatheredOf, IsGatherRefused, IsGatherUnread, IsReported, IsReportRefused, IsSaveLeft, IsTogetherRefused, IsUnkept};
 
 use crate::job::read_job;
 use crate::journals::{refusal_of, start_journal};
@@ -29,8 +29,9 @@ fn gather_in_memory<F: Folder, E: Write>(
     ensures gathered { IfOk result
         (IsGatheredOf (F.holds folder.now) command.now (E.contents err.old) (E.contents err.new)) }
     ensures refused { IfErr result (IsTogetherRefused (F.holds folder.now) command.now) }
-    ensures first { IfErr result (IsGatherUnread (F.opens folder.now) command.now) }
+    ensures first { IfErr result (IsGatherUnread (F.opens folder.now) (F.shuts folder.now) command.now) }
     ensures unread { IfErr result (IsAskedFor (F.asks folder.now)) }
+    ensures failed { IfErr result (HasFailed F.Disk.shown) }
 {
     let job = read_job(
         alloc,
@@ -60,8 +61,9 @@ fn gather_in_journal<F: Folder, E: Write>(
     ensures gathered { IfOk result (λ d. IsGatheredOf (F.holds folder.now) command.now
         (E.contents err.old) (E.contents err.new) d.gather) }
     ensures refused { IfErr result (IsTogetherRefused (F.holds folder.now) command.now) }
-    ensures first { IfErr result (IsGatherUnread (F.opens folder.now) command.now) }
+    ensures first { IfErr result (IsGatherUnread (F.opens folder.now) (F.shuts folder.now) command.now) }
     ensures unread { IfErr result (IsAskedFor (F.asks folder.now)) }
+    ensures failed { IfErr result (HasFailed F.Disk.shown) }
 {
     let job = read_job(
         alloc,
@@ -73,7 +75,7 @@ fn gather_in_journal<F: Folder, E: Write>(
     match take_files(alloc, folder, &mut durable, command.files.as_slice(), err) {
         Ok(()) => Ok(durable),
         Err(refusal) => {
-            drop(durable);
+            drop(durable.into_disk());
             Err(refusal)
         }
     }
@@ -92,7 +94,7 @@ fn report_from_memory<F: Folder, O: Write, E: Write>(
         (IsGathered (F.holds folder.old) command.now (O.contents out.old) (O.contents out.new)
         (E.contents err.old) (E.contents err.new) (F.wrote folder.old) (F.wrote folder.new)) }
     ensures refused { IfErr result (IsGatherRefused (F.holds folder.old) command.now) }
-    ensures first { IfErr result (IsGatherUnread (F.opens folder.old) command.now) }
+    ensures first { IfErr result (IsGatherUnread (F.opens folder.old) (F.shuts folder.old) command.now) }
     ensures quiet { IfErr result (λ e. (e ≡ Refusal.CannotPrint)
         ⊎ (O.contents out.new ≡ O.contents out.old)) }
     ensures left { OnErr result
@@ -100,6 +102,7 @@ fn report_from_memory<F: Folder, O: Write, E: Write>(
         (F.wrote folder.new)) }
     ensures unread { IfErr result (IsAskedFor (F.asks folder.old)) }
     ensures unwritten { IfErr result (IsTriedFor (F.tries folder.old)) }
+    ensures failed { IfErr result (HasFailed F.Disk.shown) }
 {
     let gather = gather_in_memory(alloc, folder, command, err)?;
     let report = save_and_show(alloc, folder, &gather, command, out);
@@ -126,6 +129,7 @@ fn save_and_show_durable<F: Folder, D: Disk + Drop, O: Write>(
         (IsSaveLeft command.now.save (state_bytes durable.now.gather.job durable.now.gather.cells)
         (F.wrote folder.old) (F.wrote folder.new)) }
     ensures unwritten { IfErr result (IsTriedFor (F.tries folder.old)) }
+    ensures failed { IfErr result (HasFailed F.Disk.shown) }
 {
     match durable.gather() {
         Ok(gather) => save_and_show(alloc, folder, gather, command, out),
@@ -147,7 +151,7 @@ fn report_from_journal<F: Folder, O: Write, E: Write>(
         (IsGathered (F.holds folder.old) command.now (O.contents out.old) (O.contents out.new)
         (E.contents err.old) (E.contents err.new) (F.wrote folder.old) (F.wrote folder.new)) }
     ensures refused { IfErr result (IsGatherRefused (F.holds folder.old) command.now) }
-    ensures first { IfErr result (IsGatherUnread (F.opens folder.old) command.now) }
+    ensures first { IfErr result (IsGatherUnread (F.opens folder.old) (F.shuts folder.old) command.now) }
     ensures quiet { IfErr result (λ e. (e ≡ Refusal.CannotPrint)
         ⊎ (O.contents out.new ≡ O.contents out.old)) }
     ensures left { OnErr result
@@ -155,6 +159,7 @@ fn report_from_journal<F: Folder, O: Write, E: Write>(
         (F.wrote folder.new)) }
     ensures unread { IfErr result (IsAskedFor (F.asks folder.old)) }
     ensures unwritten { IfErr result (IsTriedFor (F.tries folder.old)) }
+    ensures failed { IfErr result (HasFailed F.Disk.shown) }
 {
     let durable = gather_in_journal(alloc, folder, command, path, err)?;
     let report = save_and_show_durable(alloc, folder, &durable, command, out);
@@ -190,7 +195,7 @@ pub fn gather_answers<F: Folder, O: Write, E: Write>(
         (E.contents err.old) (E.contents err.new) (F.wrote folder.old) (F.wrote folder.new)) }
     ensures refused { IfErr result (IsGatherRefused (F.holds folder.old) command.now) }
     // A file that can't be read is the first of them: those before it were opened.
-    ensures first { IfErr result (IsGatherUnread (F.opens folder.old) command.now) }
+    ensures first { IfErr result (IsGatherUnread (F.opens folder.old) (F.shuts folder.old) command.now) }
     // Nothing is printed before the state is saved, and then only the output can fail.
     ensures quiet { IfErr result (λ e. (e ≡ Refusal.CannotPrint)
         ⊎ (O.contents out.new ≡ O.contents out.old)) }
@@ -202,6 +207,8 @@ pub fn gather_answers<F: Folder, O: Write, E: Write>(
     ensures unread { IfErr result (IsAskedFor (F.asks folder.old)) }
     // One that can't be written was to be created.
     ensures unwritten { IfErr result (IsTriedFor (F.tries folder.old)) }
+    // A journal's device that failed, or is full, is that of a disk that has said so.
+    ensures failed { IfErr result (HasFailed F.Disk.shown) }
 {
     match &command.journal {
         Some(path) => report_from_journal(alloc, folder, command, path, out, err),

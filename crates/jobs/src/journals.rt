@@ -4,8 +4,8 @@ ghost use Rattle.disk.specs.Disk.{HasRoom, IsHonest};
 ghost use Rattle.meaning.specs.Gather.{joined};
 ghost use Rattle.meaning.specs.SoundPlan.{IsSoundPlan};
 ghost use Rattle.journal.specs.Journal.{IsOpened};
-ghost use Rattle.folders.specs.Refused.{IsAskedFor};
-ghost use Rattle.jobs.specs.Gathering.{AreJournaled, IsJournaled, IsNotOnDisk, IsUnopened};
+ghost use Rattle.folders.specs.Refused.{IsAskedFor, IsShut};
+ghost use Rattle.jobs.specs.Gathering.{AreJournaled, HasFailed, IsJournaled, IsNotOnDisk, IsUnopened};
 ghost use Rattle.jobs.specs.Taking.{of_take, take_fault_of};
 
 use crate::takes_answers::{TakeFault, take_fault_of};
@@ -55,6 +55,7 @@ fn create_on<D: Disk + Drop>(alloc: Global, disk: D, job: Job) -> Result<Durable
     ensures is_open { IfOk result (λ d. d.is_open ≡ true) }
     ensures fresh { IfOk result (λ d. d.gather.cells ≡ joined job.cut []) }
     ensures refused { IfErr result (IsNotOnDisk (D.shown disk) job) }
+    ensures failed { IfErr result (HasFailed D.shown) }
 {
     match DurableGather::create(alloc, disk, job) {
         Ok(durable) => Ok(durable),
@@ -74,6 +75,7 @@ fn open_on<D: Disk + Drop>(alloc: Global, disk: D, job: Job) -> Result<DurableGa
     ensures reads { IfOk result (λ d. IsHonest (D.shown disk)
         → IsOpened d.gather (D.shown disk).now.reads) }
     ensures refused { IfErr result (IsNotOnDisk (D.shown disk) job) }
+    ensures failed { IfErr result (HasFailed D.shown) }
 {
     match DurableGather::open(alloc, disk, job) {
         Ok(durable) => Ok(durable),
@@ -93,6 +95,7 @@ fn start_on<D: Disk + Drop>(alloc: Global, disk: D, job: Job) -> Result<DurableG
     ensures journaled { IfOk result (λ d. IsHonest (D.shown disk)
         → AreJournaled (D.shown disk).now.reads job d.gather.cells) }
     ensures refused { IfErr result (IsNotOnDisk (D.shown disk) job) }
+    ensures failed { IfErr result (HasFailed D.shown) }
 {
     let mut disk = disk;
     match disk.len() {
@@ -124,6 +127,8 @@ pub fn start_journal<F: Folder>(
         (λ d. IsJournaled (F.holds folder.now path.now) job d.gather.cells) }
     ensures refused { IfErr result (IsUnopened (F.holds folder.now path.now) job path.now) }
     ensures unread { IfErr result (IsAskedFor (F.asks folder.now)) }
+    ensures shut { IfErr result (IsShut (F.shuts folder.now)) }
+    ensures failed { IfErr result (HasFailed F.Disk.shown) }
 {
     match open_disk(folder, path) {
         Ok(disk) => {

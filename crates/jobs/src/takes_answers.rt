@@ -2,7 +2,7 @@
 ghost use Rattle.std.specs.Prelude.{◌≡◌, Bool, IfErr, OnErr, OnOk, false, true};
 ghost use Rattle.gathering.specs.Gathering.{GatherSpec};
 ghost use Rattle.partial_codec.specs.State.{is_state};
-ghost use Rattle.jobs.specs.Taking.{IsFailure, IsRefused, Leaves, TakesBytes, take_fault_of};
+ghost use Rattle.jobs.specs.Taking.{Failing, HasRisen, IsFailure, IsRefused, Leaves, TakesBytes, take_fault_of};
 
 use disk::Disk;
 use folders::JournalRefusal;
@@ -29,12 +29,16 @@ pub trait TakesAnswers {
     // Whether it has a journal. It takes no states then.
     ghost journaled: { Bool };
 
+    // How often the journal's disk has failed, and how often it was full.
+    ghost failing: { Self → Failing };
+
     /// Takes the bytes of an answer or of a state. On error nothing changes, unless the journal
     /// failed.
     fn take(&mut self, alloc: Global, bytes: &[u8]) -> Result<(), TakeFault>
         ensures taken { OnOk result (TakesBytes journaled (held self.old) (held self.new) bytes.now) }
         ensures refused { IfErr result (IsRefused journaled (held self.old).job bytes.now) }
-        ensures left { IfErr result (Leaves (held self.old) (held self.new)) };
+        ensures left { IfErr result (Leaves (held self.old) (held self.new)) }
+        ensures risen { IfErr result (HasRisen (failing self.old) (failing self.new)) };
 }
 
 /// Takes an answer's bytes.
@@ -76,6 +80,8 @@ impl TakesAnswers for Gather {
 
     ghost journaled = { false };
 
+    ghost failing = { λ _. record { failures = 0; fulls = 0 } };
+
     fn take(&mut self, alloc: Global, bytes: &[u8]) -> Result<(), TakeFault> {
         match take_bytes(alloc, self, bytes) {
             Ok(()) => Ok(()),
@@ -107,6 +113,8 @@ impl<D: Disk + Drop> TakesAnswers for DurableGather<D> {
     ghost held = { λ d. d.gather };
 
     ghost journaled = { true };
+
+    ghost failing = { λ d. record { failures = d.disk.failures; fulls = d.disk.fulls } };
 
     fn take(&mut self, alloc: Global, bytes: &[u8]) -> Result<(), TakeFault> {
         match self.absorb(alloc, bytes) {

@@ -2,7 +2,7 @@
 ghost use Rattle.std.specs.Prelude.{IfErr, OnOk};
 ghost use Rattle.folders.specs.Refused.{IsAskedFor, IsFirstUnread};
 ghost use Rattle.jobs.specs.Gathering.{IsFileRefused, IsTakingRefused, IsUnreturned};
-ghost use Rattle.jobs.specs.Taking.{TakesFile, TakesOrNames, TookFiles};
+ghost use Rattle.jobs.specs.Taking.{IsCounted, TakesFile, TakesOrNames, TookFiles};
 
 use crate::passed_over::print_passed_over;
 use crate::takes_answers::{TakeFault, TakesAnswers};
@@ -23,6 +23,7 @@ fn take_or_name<T: TakesAnswers, E: Write>(
         (TakesOrNames T.journaled (T.held taker.old) (T.held taker.new) path.now bytes.now
         (E.contents err.old) (E.contents err.new)) }
     ensures refused { IfErr result (IsUnreturned T.journaled) }
+    ensures counted { IfErr result (IsCounted (T.failing taker.new)) }
 {
     match taker.take(alloc, bytes) {
         Ok(()) => Ok(()),
@@ -49,6 +50,7 @@ fn take_file<F: Folder, T: TakesAnswers, E: Write>(
         (E.contents err.old) (E.contents err.new)) }
     ensures opened { OnOk result (F.opens folder.now path.now) }
     ensures refused { IfErr result (IsFileRefused T.journaled path.now) }
+    ensures counted { IfErr result (IsCounted (T.failing taker.new)) }
     ensures unread { IfErr result (IsAskedFor (F.asks folder.now)) }
 {
     let bytes = read_file(alloc, folder, path)?;
@@ -68,6 +70,7 @@ pub fn take_files<F: Folder, T: TakesAnswers, E: Write>(
         (TookFiles T.journaled (F.holds folder.now) (T.held taker.old) (T.held taker.new) paths.now
         (E.contents err.old) (E.contents err.new)) }
     ensures refused { IfErr result (IsTakingRefused T.journaled paths.now) }
+    ensures counted { IfErr result (IsCounted (T.failing taker.new)) }
     ensures first { IfErr result (IsFirstUnread (F.opens folder.now) paths.now) }
     ensures unread { IfErr result (IsAskedFor (F.asks folder.now)) }
 {

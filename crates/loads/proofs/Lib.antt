@@ -3,5 +3,6 @@ mod Finished
 mod HandedOn
 mod LoadedColumns
 mod Refusals
+mod Tried
 mod Unloaded
 mod WrittenFiles

@@ -1,5 +1,5 @@
 -- Why `load` is refused: the first thing that is wrong in the folder's bytes, in the command's order.
-use Rattle.std.specs.Prelude.{◌≡◌, ◌⊎◌, ℕ, ◌<◌, ◌≤◌, List, ◌∷◌, ◌++◌, length, Contains, Option, Some, Ok, Err}
+use Rattle.std.specs.Prelude.{◌≡◌, ◌⊎◌, ℕ, ◌<◌, ◌≤◌, List, ◌∷◌, ◌++◌, length, Contains, Option, Some, Result, Ok, Err}
 use Rattle.meaning.specs.declared.catalog.Catalog.{Catalog}
 use Rattle.meaning.specs.declared.catalog.Dimension.{Dimension}
 use Rattle.meaning.specs.declared.cut.CutFault.{CutFault}
@@ -11,7 +11,7 @@ use Rattle.loader.specs.Columns.{fact_fragments, dimension_columns}
 use Rattle.loader.specs.Source.{csv_records}
 use Rattle.folders.specs.Each.{AreEach}
 use Rattle.folders.specs.Folder.{Change, Holds, AreHeld, Writes, csv_path, cut_path, dimension_path, fragment_path}
-use Rattle.folders.specs.Refused.{IsUnread, IsUnwritten}
+use Rattle.folders.specs.Refused.{IsTriedFor, IsUnread, IsUnwritten}
 use Rattle.folders.specs.Tables.{IsCatalogRefused, IsCatalogThere}
 use Rattle.folders.specs.declared.refusal.Refusal.{Refusal}
 use Rattle.folders.specs.declared.refusal.Refusal.TheVariants as refusal
@@ -76,6 +76,10 @@ AreFilesUnwritten folder catalog cut e = AreFragmentsUnwritten folder catalog.fa
     ⊎ AreDimensionsUnwritten folder catalog.dims e
     ⊎ IsFragmentLeft folder catalog.fact.name cut e
     ⊎ IsUnwritten (cut_path folder) e
+
+-- where a file can't be written, it was tried, or the refusal is the one that was there before
+abbrev pub IsTriedOr : {A : Type 0} → (List ℕ → Type 0) → Result A Refusal → Refusal → Type 0
+IsTriedOr tries before e = IsTriedFor tries e ⊎ (before ≡ Err e)
 
 -- a file can't be written or the line can't be printed
 abbrev pub IsUnsaved : List ℕ → Catalog → Cut → Refusal → Type 0

@@ -12,8 +12,8 @@ ghost use Rattle.loader.specs.Source.{csv_records};
 ghost use Rattle.folders.specs.Each.{AreEach};
 ghost use Rattle.folders.specs.Folder.{AsksOf, csv_path};
 ghost use Rattle.loads.specs.Loading.{AreFragmentColumns, AreFragmentsClosed, IsFactCounted, IsFactLoaded, IsNextSlice};
-ghost use Rattle.loads.specs.Refusing.{AreFragmentsUnwritten, IsFactRefused, IsFactUnloaded};
-ghost use Rattle.folders.specs.Refused.{IsAskedFor, IsUnread};
+ghost use Rattle.loads.specs.Refusing.{AreFragmentsUnwritten, IsFactRefused, IsFactUnloaded, IsTriedOr};
+ghost use Rattle.folders.specs.Refused.{IsAskedFor, IsTriedFor, IsUnread};
 
 use crate::counting::even_cut;
 use crate::saving::write_fragment;
@@ -85,6 +85,8 @@ fn with_fragment<F: Folder>(
         → IfErr result (AreFragmentsUnwritten target.now.directory.now
         target.now.catalog.now.fact.name most) }
     ensures asking { AsksOf (F.asks folder.old) (F.asks folder.new) }
+    ensures unwritten { IfErr result (IsTriedOr (F.tries folder.old) files) }
+    ensures trying { AsksOf (F.tries folder.old) (F.tries folder.new) }
 {
     let mut files = files?;
     let file = write_fragment(alloc, folder, target, slice, columns)?;
@@ -118,6 +120,8 @@ fn write_fragments<F: Folder>(
         → IsToCome F.Reader.remaining reader.old meant
         → IfSome (fault_returned e) (λ f. meant ≡ Err f)) }
     ensures asking { AsksOf (F.asks folder.old) (F.asks folder.new) }
+    ensures unwritten { IfOk result (λ files. IfErr files (IsTriedFor (F.tries folder.old))) }
+    ensures trying { AsksOf (F.tries folder.old) (F.tries folder.new) }
 {
     let lengths = cut.lengths();
     let mut files = Ok(VecDeque::new(alloc));
@@ -160,6 +164,8 @@ fn write_read<F: Folder>(
         → IfSome (fault_returned e) (λ f. fact_fragments target.now.catalog.now cut.now
         (csv_records bytes) ≡ Err f)) }
     ensures asking { AsksOf (F.asks folder.old) (F.asks folder.new) }
+    ensures unwritten { IfOk result (λ files. IfErr files (IsTriedFor (F.tries folder.old))) }
+    ensures trying { AsksOf (F.tries folder.old) (F.tries folder.new) }
 {
     let mut reader = open_fact(alloc, target.catalog, file, cut)?;
     let files = write_fragments(alloc, folder, target, cut, &mut reader);
@@ -191,6 +197,8 @@ fn write_fact<F: Folder>(
         cut.now) }
     ensures asking { AsksOf (F.asks folder.old) (F.asks folder.new) }
     ensures unread { IfErr result (IsAskedFor (F.asks folder.old)) }
+    ensures unwritten { IfOk result (λ files. IfErr files (IsTriedFor (F.tries folder.old))) }
+    ensures trying { AsksOf (F.tries folder.old) (F.tries folder.new) }
 {
     let name = target.catalog.fact.name.as_str();
     let path = csv_path(alloc, target.directory, name)?;
@@ -232,6 +240,8 @@ pub fn load_fact<F: Folder>(
         (IsFactRefused (F.holds folder.old) target.now.directory.now target.now.catalog.now rows) }
     ensures asking { AsksOf (F.asks folder.old) (F.asks folder.new) }
     ensures unread { IfErr result (IsAskedFor (F.asks folder.old)) }
+    ensures unwritten { IfOk result (λ fact. IfErr fact.files (IsTriedFor (F.tries folder.old))) }
+    ensures trying { AsksOf (F.tries folder.old) (F.tries folder.new) }
 {
     let counted = count_fact(alloc, folder, target)?;
     let cut = even_cut(alloc, counted, rows)?;

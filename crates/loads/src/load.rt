@@ -5,9 +5,9 @@ ghost use Rattle.meaning.specs.Catalog.{IsWellFormed};
 ghost use Rattle.columns.specs.Column.{ColumnSpec};
 ghost use Rattle.folders.specs.Each.{AreEach};
 ghost use Rattle.folders.specs.Folder.{Writes};
-ghost use Rattle.folders.specs.Refused.{IsAskedFor};
+ghost use Rattle.folders.specs.Refused.{IsAskedFor, IsTriedFor};
 ghost use Rattle.loads.specs.Loading.{AreDimensionColumns, AreFiles, AreFilesBegun, AreFragmentsClosed, IsCatalogLoaded, IsDimensionLoaded, IsLoadDone, loaded_line};
-ghost use Rattle.loads.specs.Refusing.{AreFilesUnwritten, AreFragmentsUnwritten, IsCatalogLoadLeft, IsCatalogLoadRefused, IsLoadLeft, IsLoadRefused, IsQuiet, IsUnfinished, IsUnsaved, IsWrittenSoFar};
+ghost use Rattle.loads.specs.Refusing.{AreFilesUnwritten, AreFragmentsUnwritten, IsCatalogLoadLeft, IsCatalogLoadRefused, IsLoadLeft, IsLoadRefused, IsQuiet, IsTriedOr, IsUnfinished, IsUnsaved, IsWrittenSoFar};
 
 use crate::fragments::{Fact, load_fact};
 use crate::loading::load_dimensions;
@@ -68,6 +68,7 @@ fn save_written<F: Folder>(
         target.now.load target.now.catalog.now.fact cut.now fragments files.items)
         → Writes (AreFilesBegun target.now.directory.now target.now.load target.now.catalog.now
         cut.now fragments dims.now) (F.wrote folder.old) (F.wrote folder.new))) }
+    ensures unwritten { IfErr result (IsTriedOr (F.tries folder.old) files) }
 {
     let files = files?;
     save(alloc, folder, target, cut, files, dims)
@@ -105,6 +106,7 @@ fn save_and_print<F: Folder, O: Write>(
         target.now.load target.now.catalog.now.fact fact.cut fragments files.items)
         → IsWrittenSoFar target.now.directory.now target.now.load target.now.catalog.now fact.cut
         fragments dims.now e (F.wrote folder.old) (F.wrote folder.new))) }
+    ensures unwritten { IfErr result (IsTriedOr (F.tries folder.old) fact.files) }
 {
     let Fact { rows, cut, files } = fact;
     let saved = save_written(alloc, folder, target, &cut, files, dims);
@@ -152,6 +154,7 @@ fn finish_load<F: Folder, O: Write>(
         × IsWrittenSoFar target.now.directory.now target.now.load target.now.catalog.now fact.cut
         fragments dims e (F.wrote folder.old) (F.wrote folder.new))) }
     ensures unread { IfErr result (IsAskedFor (F.asks folder.old)) }
+    ensures unwritten { IfErr result (IsTriedOr (F.tries folder.old) fact.files) }
 {
     match load_dimensions(alloc, folder, target.directory, target.catalog) {
         Ok(dims) => {
@@ -187,6 +190,7 @@ fn load_declared<F: Folder, O: Write>(
         target.now.directory.now target.now.load rows target.now.catalog.now e
         (F.wrote folder.old) (F.wrote folder.new)) }
     ensures unread { IfErr result (IsAskedFor (F.asks folder.old)) }
+    ensures unwritten { IfErr result (IsTriedFor (F.tries folder.old)) }
 {
     let fact = load_fact(alloc, folder, target, rows)?;
     finish_load(alloc, folder, target, fact, out)
@@ -218,6 +222,8 @@ pub fn load_tables<F: Folder, O: Write>(
         (F.wrote folder.old) (F.wrote folder.new)) }
     // A file that can't be read was asked for.
     ensures unread { IfErr result (IsAskedFor (F.asks folder.old)) }
+    // One that can't be written was to be created, put under its path or taken away.
+    ensures unwritten { IfErr result (IsTriedFor (F.tries folder.old)) }
 {
     let catalog = read_tables(alloc, folder, directory)?;
     let target = Target {

@@ -9,7 +9,7 @@ ghost use Rattle.wire.specs.Bytes.{sealed};
 ghost use Rattle.fragment_file.specs.Writing.{AreColumns, AreColumnsOf};
 ghost use Rattle.fragment_file.specs.CutFile.{cut_bytes};
 ghost use Rattle.folders.specs.Folder.{AsksOf, Encloses, Finishes, Removes, Writes, WritesOne, fragment_path, dimension_path, cut_path};
-ghost use Rattle.folders.specs.Refused.{IsUnwritten};
+ghost use Rattle.folders.specs.Refused.{IsTriedFor, IsUnwritten};
 ghost use Rattle.folders.specs.Each.{AreEach};
 ghost use Rattle.loads.specs.Refusing.{AreDimensionsUnwritten, AreFilesUnwritten, AreFragmentsUnwritten, IsFragmentLeft};
 ghost use Rattle.loads.specs.Loading.{AreDimensionColumns, AreDimensionsBegun, AreFiles, AreFilesBegun, AreFragmentsBegun, AreFragmentsClosed, IsDimensionFile, IsFragmentFile, header_of, removals, removed, rows_in};
@@ -43,6 +43,8 @@ fn write_rows<F: Folder>(
     ensures held { F.holds folder.new ≡ F.holds folder.old }
     ensures refused { IfErr result (IsUnwritten path.now) }
     ensures asking { AsksOf (F.asks folder.old) (F.asks folder.new) }
+    ensures unwritten { IfErr result (IsTriedFor (F.tries folder.old)) }
+    ensures trying { AsksOf (F.tries folder.old) (F.tries folder.new) }
 {
     let mut file = create_file(folder, path)?;
     match write(alloc, header, columns, &mut file) {
@@ -80,6 +82,8 @@ pub fn write_fragment<F: Folder>(
         (IsUnwritten (fragment_path target.now.directory.now target.now.catalog.now.fact.name
         slice.fragment)) }
     ensures asking { AsksOf (F.asks folder.old) (F.asks folder.new) }
+    ensures unwritten { IfErr result (IsTriedFor (F.tries folder.old)) }
+    ensures trying { AsksOf (F.tries folder.old) (F.tries folder.new) }
 {
     let table = &target.catalog.fact;
     let path = fragment_path(alloc, target.directory, table.name.as_str(), slice.fragment)?;
@@ -102,6 +106,8 @@ fn put_fragment<F: Folder>(
     ensures refused { IfErr result
         (IsUnwritten (fragment_path target.now.directory.now target.now.catalog.now.fact.name
         fragment)) }
+    ensures unwritten { IfErr result (IsTriedFor (F.tries folder.old)) }
+    ensures trying { AsksOf (F.tries folder.old) (F.tries folder.new) }
 {
     let name = target.catalog.fact.name.as_str();
     let path = fragment_path(alloc, target.directory, name, fragment)?;
@@ -130,6 +136,8 @@ fn put_fragments<F: Folder>(
     ensures refused { IfErr result
         (AreFragmentsUnwritten target.now.directory.now target.now.catalog.now.fact.name
         (length files.items)) }
+    ensures unwritten { IfErr result (IsTriedFor (F.tries folder.old)) }
+    ensures trying { AsksOf (F.tries folder.old) (F.tries folder.new) }
 {
     let mut files = files;
     let mut fragment = 0;
@@ -153,6 +161,8 @@ fn remove_fragment<F: Folder>(
     ensures refused { IfErr result
         (IsUnwritten (fragment_path target.now.directory.now target.now.catalog.now.fact.name
         fragment)) }
+    ensures unwritten { IfErr result (IsTriedFor (F.tries folder.old)) }
+    ensures trying { AsksOf (F.tries folder.old) (F.tries folder.new) }
 {
     let name = target.catalog.fact.name.as_str();
     let path = fragment_path(alloc, target.directory, name, fragment)?;
@@ -177,6 +187,8 @@ fn remove_fragments<F: Folder>(
         (F.wrote folder.old) (F.wrote folder.new)) }
     ensures refused { IfErr result
         (IsFragmentLeft target.now.directory.now target.now.catalog.now.fact.name cut.now) }
+    ensures unwritten { IfErr result (IsTriedFor (F.tries folder.old)) }
+    ensures trying { AsksOf (F.tries folder.old) (F.tries folder.new) }
 {
     for fragment in cut.lengths().len()..MAX_FRAGMENTS {
         remove_fragment(alloc, folder, target, fragment as u32)?;
@@ -210,6 +222,8 @@ fn save_rows<F: Folder>(
         (F.wrote folder.new)) }
     ensures left { OnErr result (F.wrote folder.new ≡ F.wrote folder.old) }
     ensures refused { IfErr result (IsUnwritten path.now) }
+    ensures unwritten { IfErr result (IsTriedFor (F.tries folder.old)) }
+    ensures trying { AsksOf (F.tries folder.old) (F.tries folder.new) }
 {
     let file = write_rows(alloc, folder, path, header, columns)?;
     put_file(folder, path, file)
@@ -232,6 +246,8 @@ fn save_dimension<F: Folder>(
     ensures left { OnErr result (F.wrote folder.new ≡ F.wrote folder.old) }
     ensures refused { IfErr result
         (IsUnwritten (dimension_path target.now.directory.now dim.now.table.name)) }
+    ensures unwritten { IfErr result (IsTriedFor (F.tries folder.old)) }
+    ensures trying { AsksOf (F.tries folder.old) (F.tries folder.new) }
 {
     let path = dimension_path(alloc, target.directory, dim.table.name.as_str())?;
     let slice = Slice {
@@ -260,6 +276,8 @@ fn save_dimensions<F: Folder>(
         target.now.catalog.now.dims dims.now) (F.wrote folder.old) (F.wrote folder.new)) }
     ensures refused { IfErr result
         (AreDimensionsUnwritten target.now.directory.now target.now.catalog.now.dims) }
+    ensures unwritten { IfErr result (IsTriedFor (F.tries folder.old)) }
+    ensures trying { AsksOf (F.tries folder.old) (F.tries folder.new) }
 {
     let declared = target.catalog.dims.as_slice();
     for i in 0..declared.len() {
@@ -281,6 +299,7 @@ fn save_cut<F: Folder>(
         (F.wrote folder.old) (F.wrote folder.new)) }
     ensures left { OnErr result (F.wrote folder.new ≡ F.wrote folder.old) }
     ensures refused { IfErr result (IsUnwritten (cut_path target.now.directory.now)) }
+    ensures unwritten { IfErr result (IsTriedFor (F.tries folder.old)) }
 {
     let path = cut_path(alloc, target.directory)?;
     let mut file = create_file(folder, &path)?;
@@ -320,6 +339,7 @@ pub fn save<F: Folder>(
         cut.now fragments dims.now) (F.wrote folder.old) (F.wrote folder.new)) }
     ensures refused { IfErr result
         (AreFilesUnwritten target.now.directory.now target.now.catalog.now cut.now) }
+    ensures unwritten { IfErr result (IsTriedFor (F.tries folder.old)) }
 {
     // No effect at run time. The proof reads from this call the limits of a cut.
     let _lengths = cut.lengths();

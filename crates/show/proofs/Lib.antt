@@ -1,3 +1,5 @@
 -- The lemmas of this crate.
 pub mod Records
+pub mod Begins
+pub mod Parts
 pub mod Printed

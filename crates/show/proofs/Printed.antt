@@ -1,11 +1,16 @@
 -- What is printed of a file that has no fault.
-use Rattle.std.proofs.Common.{◌≡◌, Bool, false, true, ℕ, ◌+◌, List, ◌++◌, length, subst}
+use Rattle.std.proofs.Common.{◌≡◌, Bool, false, true, ℕ, ◌+◌, List, [], ◌++◌, length, drop, subst, ap, ◌∙◌}
 use Rattle.std.specs.Prelude.{Err, IfOk, IfSome, IsOk, None, Ok, OnOk, Option, Result, Some, min}
 use Rattle.std.specs.Io.KnownBytes.{Appends}
 use Rattle.show.specs.declared.file_kind.FileKind.{FileKind}
 use Rattle.show.specs.declared.file_kind.FileKind.TheVariants as kind
 use Rattle.show.specs.Rows.{AreRecords}
-use Rattle.show.specs.Shown.{IsKnownOf, IsPrinted, IsText, front_of}
+use Rattle.show.specs.Shown.{IsKnownOf, IsPrinted, IsReadAnswer, IsText, detail_of, front_of, kind_of}
+use Rattle.show.specs.declared.showing.ShowOptions.{ShowOptions}
+use Rattle.answer_fields.specs.declared.format.Format.{Format}
+use Rattle.wire.proofs.Numbers.{IsBytes}
+use Rattle.answer_text.proofs.Spelled.{answer_spelled}
+use Rattle.show.proofs.Begins.{begins_as_answer}
 
 pub ended_so : {E : Type 0} {P : Type 0} (r : Result (Unit {0}) E) → IsOk r → OnOk r P → P
 ended_so (Ok done) ok said = said
@@ -22,14 +27,22 @@ module _ (bytes : List ℕ) (known : Option ℕ) (front text : List ℕ) (before
   rows_known : (rows n : ℕ) → known ≡ Some n → IfSome known (λ m. rows ≡ m) → rows ≡ n
   rows_known rows n is said = let here : IfSome (Some n) (λ m. rows ≡ m) = subst (λ k. IfSome k (λ m. rows ≡ m)) is said in here
 
-  pub printed : (kind : FileKind) (most : Option ℕ) → IsText kind (length bytes) most known front text → IsKnownOf kind bytes known → IsPrinted kind bytes most before after
-  printed kind.Table None is known_so = behind kind.Table is
-  printed kind.Table (Some most) (none, (rows, said, records)) (n, known_is, has) = (
+  spelled_so : (format : Format) (options : ShowOptions) → IsBytes bytes → front ≡ [] → kind_of bytes ≡ Some (kind.Answer format) → IsReadAnswer format bytes (detail_of options) text
+      → IsPrinted (kind.Answer format) bytes options options.rows before after
+  spelled_so format options ok none begins (l, rest, read, is) =
+      let begun = begins_as_answer bytes format begins in
+      let spelled = answer_spelled bytes format (drop 4 bytes) l rest ok begun read in
+      (l, spelled.0, spelled.1, subst (λ t. Appends before after t) (ap (λ f. f ++ text) none ∙ is) appends)
+
+  pub printed : (kind : FileKind) (options : ShowOptions) (most : Option ℕ) → IsBytes bytes → kind_of bytes ≡ Some kind → IsText kind bytes options most known front text → IsKnownOf kind bytes known
+      → IsPrinted kind bytes options most before after
+  printed kind.Table options None ok begins (is, parts) known_so = behind kind.Table is
+  printed kind.Table options (Some most) ok begins (none, (rows, said, records)) (n, known_is, has) = (
     n,
     has,
     (text, subst (λ m. AreRecords (1 + min most m) text) (rows_known rows n known_is said) records, subst (λ f. Appends before after (f ++ text)) none appends),
   )
-  printed kind.Cut most is known_so = behind kind.Cut is
-  printed (kind.Answer format) most is known_so = behind (kind.Answer format) is
-  printed (kind.State format) most is known_so = behind (kind.State format) is
-  printed kind.Journal most is known_so = behind kind.Journal is
+  printed kind.Cut options most ok begins (is, parts) known_so = behind kind.Cut is
+  printed (kind.Answer format) options most ok begins (is, parts) known_so = spelled_so format options ok is begins parts
+  printed (kind.State format) options most ok begins (is, parts) known_so = behind (kind.State format) is
+  printed kind.Journal options most ok begins (is, parts) known_so = behind kind.Journal is

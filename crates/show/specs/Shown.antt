@@ -1,5 +1,5 @@
 -- Which file bytes begin as, and what is known of one that was shown without a fault.
-use Rattle.std.specs.Prelude.{◌≡◌, ℕ, List, [], ◌∷◌, ◌++◌, ◌+◌, min, length, codes, decimal, Option, None, Some, IfSome, if◌then◌else◌, nat_eq, ⊤}
+use Rattle.std.specs.Prelude.{◌≡◌, ℕ, List, [], ◌∷◌, ◌++◌, ◌+◌, min, length, drop, codes, decimal, Option, None, Some, IfSome, Ok, if◌then◌else◌, nat_eq, ⊤}
 use Rattle.std.specs.Io.KnownBytes.{Appends}
 use Rattle.std.specs.List.{starts_with}
 use Rattle.fragment_file.specs.CutFile.{CutFileSpec, IsCutFileOf}
@@ -11,6 +11,13 @@ use Rattle.answer_fields.specs.Format.{format_in}
 use Rattle.show.specs.Rows.{AppendsRecords, AreRecords, HasRows}
 use Rattle.show.specs.declared.file_kind.FileKind.{FileKind}
 use Rattle.show.specs.declared.file_kind.FileKind.TheVariants as kind
+use Rattle.show.specs.declared.showing.ShowOptions.{ShowOptions}
+use Rattle.answer_fields.specs.Spelling.{Layout, layout_bytes}
+use Rattle.wire.specs.Bytes.{sealed}
+use Rattle.answer_text.specs.Reading.{answer_at}
+use Rattle.answer_text.specs.Texts.{answer_text}
+use Rattle.answer_text.specs.declared.detail.Detail.{Detail}
+use Rattle.answer_text.specs.declared.detail.Detail.TheVariants as of_detail
 
 -- an answer or a state, by the formats as which the bytes begin
 abbrev pub spelled_in : Option Format → Option Format → Option FileKind
@@ -55,24 +62,38 @@ abbrev pub IsKnownOf : FileKind → List ℕ → Option ℕ → Type 0
 IsKnownOf kind.Table bytes known = (rows : ℕ) × (known ≡ Some rows) × HasRows bytes rows
 IsKnownOf _ bytes known = ⊤
 
+-- a count of an answer's groups, or each of them
+abbrev pub detail_of : ShowOptions → Detail
+detail_of options = if options.groups then of_detail.Groups else of_detail.Count
+
+-- the text of an answer that is read behind its magic
+abbrev pub IsReadAnswer : Format → List ℕ → Detail → List ℕ → Type 0
+IsReadAnswer format bytes detail text = (l : Layout) × (rest : List ℕ) × (answer_at format bytes (drop 4 bytes) ≡ Ok (l, rest)) × (text ≡ answer_text detail (length bytes) l)
+
+-- the text of the parts of a file
+abbrev pub ArePartsOf : FileKind → List ℕ → Detail → List ℕ → Type 0
+ArePartsOf (kind.Answer f) bytes detail text = IsReadAnswer f bytes detail text
+ArePartsOf _ bytes detail text = ⊤
+
 -- where rows of a table's file are asked for, a header and the first rows are printed, as many as are asked for or all that
 -- there are; else what stands in a file, behind the line in front of it
-abbrev pub IsText : FileKind → ℕ → Option ℕ → Option ℕ → List ℕ → List ℕ → Type 0
-IsText kind.Table size (Some most) known front text = (front ≡ []) × ((rows : ℕ) × IfSome known (λ n. rows ≡ n) × AreRecords (1 + min most rows) text)
-IsText kind size most known front text = front ≡ front_of kind size
+abbrev pub IsText : FileKind → List ℕ → ShowOptions → Option ℕ → Option ℕ → List ℕ → List ℕ → Type 0
+IsText kind.Table bytes options (Some most) known front text = (front ≡ []) × ((rows : ℕ) × IfSome known (λ n. rows ≡ n) × AreRecords (1 + min most rows) text)
+IsText kind bytes options most known front text = (front ≡ front_of kind (length bytes)) × ArePartsOf kind bytes (detail_of options) text
 
--- the same of what is printed of a file that has no fault
-abbrev pub IsPrinted : FileKind → List ℕ → Option ℕ → Option (List ℕ) → Option (List ℕ) → Type 0
-IsPrinted kind.Table bytes (Some most) before after = (rows : ℕ) × HasRows bytes rows × AppendsRecords (1 + min most rows) before after
-IsPrinted kind bytes most before after = (rest : List ℕ) × Appends before after (front_of kind (length bytes) ++ rest)
+-- the same of what is printed of a file that has no fault. An answer's bytes are spelled by the fields that are printed.
+abbrev pub IsPrinted : FileKind → List ℕ → ShowOptions → Option ℕ → Option (List ℕ) → Option (List ℕ) → Type 0
+IsPrinted kind.Table bytes options (Some most) before after = (rows : ℕ) × HasRows bytes rows × AppendsRecords (1 + min most rows) before after
+IsPrinted (kind.Answer f) bytes options most before after = (l : Layout) × (l.format ≡ f) × (bytes ≡ sealed (layout_bytes l)) × Appends before after (answer_text (detail_of options) (length bytes) l)
+IsPrinted kind bytes options most before after = (rest : List ℕ) × Appends before after (front_of kind (length bytes) ++ rest)
 
 -- so it is of bytes that begin as one of the files
-abbrev pub PrintsParts : List ℕ → Option ℕ → Option (List ℕ) → Option (List ℕ) → Type 0
-PrintsParts bytes rows before after = (kind : FileKind) × (kind_of bytes ≡ Some kind) × IsPrinted kind bytes rows before after
+abbrev pub PrintsParts : List ℕ → ShowOptions → Option (List ℕ) → Option (List ℕ) → Type 0
+PrintsParts bytes options before after = (kind : FileKind) × (kind_of bytes ≡ Some kind) × IsPrinted kind bytes options options.rows before after
 
 -- so it is of the bytes that are held under the path, where they are known
-abbrev pub PrintsPartsOf : Holds → List ℕ → Option ℕ → Option (List ℕ) → Option (List ℕ) → Type 0
-PrintsPartsOf holds path rows before after = (bytes : List ℕ) × AreHeld (holds path) bytes × PrintsParts bytes rows before after
+abbrev pub PrintsPartsOf : Holds → List ℕ → ShowOptions → Option (List ℕ) → Option (List ℕ) → Type 0
+PrintsPartsOf holds path options before after = (bytes : List ℕ) × AreHeld (holds path) bytes × PrintsParts bytes options before after
 
 -- bytes that begin as one of the files, and are taken as such
 pub record IsWhole (bytes : List ℕ) : Type 0 where

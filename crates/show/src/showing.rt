@@ -1,10 +1,11 @@
 //! The command `show`.
-ghost use Rattle.std.specs.Prelude.{◌≡◌, ◌⊎◌, ◌++◌, ℕ, List, Some, false, true, IfOk, IsOk, OnOk, length, string_bytes};
+ghost use Rattle.std.specs.Prelude.{◌≡◌, ◌⊎◌, ◌++◌, ℕ, List, [], Some, false, true, IfOk, IsErr, IsOk, OnOk, length, string_bytes};
 ghost use Rattle.std.specs.Io.KnownBytes.{Appends};
 ghost use Rattle.fragment_file.specs.CutFile.{CutFileSpec, IsCutFileOf};
 ghost use Rattle.folders.specs.Folder.{AreHeld};
 ghost use Rattle.show.specs.Rows.{HasRows};
-ghost use Rattle.show.specs.Shown.{BeginsAsFile, HoldsFile, IsKnownOf, IsPrinted, IsTaken, IsText, IsWhole, PrintsParts, PrintsPartsOf, front_of};
+ghost use Rattle.show.specs.declared.showing.ShowOptions.{ShowOptions as TheOptions};
+ghost use Rattle.show.specs.Shown.{ArePartsOf, BeginsAsFile, HoldsFile, IsKnownOf, IsPrinted, IsTaken, IsText, IsWhole, PrintsParts, PrintsPartsOf, detail_of, front_of, kind_of};
 
 use crate::csv_rows::rows_of_table;
 use crate::cuts::show_cut_file;
@@ -28,7 +29,9 @@ pub struct ShowOptions {
 }
 
 impl ShowOptions {
-    fn detail(self) -> Detail {
+    fn detail(self) -> Detail
+        ensures { result ≡ detail_of self }
+    {
         if self.groups {
             Detail::Groups
         } else {
@@ -53,7 +56,10 @@ fn show_parts(
     bytes: &[u8],
     detail: Detail,
     out: &mut String,
-) -> Result<(), Stop> {
+) -> Result<(), Stop>
+    requires { string_bytes out.old ≡ [] }
+    ensures { OnOk result (ArePartsOf kind bytes.now detail (string_bytes out.new)) }
+{
     let mut cursor = Cursor::new(0, bytes);
     let size = bytes.len();
     cursor.take_bytes(4, "the magic")?;
@@ -87,24 +93,38 @@ fn front_of(alloc: Global, kind: FileKind, size: usize) -> Result<String, AllocE
     }
 }
 
+/// What could be read, and why not all could.
+fn broken_off(text: String, stop: Stop) -> (Vec<u8>, Result<(), Stop>)
+    ensures { IsErr result.1 }
+{
+    let mut text = text;
+    let stop = match end_line(&mut text) {
+        Ok(()) => stop,
+        Err(_) => Stop::Memory,
+    };
+    (text.into_bytes(), Err(stop))
+}
+
 /// The parts of a file behind the line in front of them, and why reading ended.
 fn behind_front(
     alloc: Global,
     kind: FileKind,
     bytes: &[u8],
     detail: Detail,
-) -> (Vec<u8>, Result<(), Stop>) {
+) -> (Vec<u8>, Result<(), Stop>)
+    ensures { OnOk result.1 (ArePartsOf kind bytes.now detail result.0.items) }
+{
     let mut text = String::new(alloc);
-    let shown = show_parts(alloc, kind, bytes, detail, &mut text);
-    let ended = match end_line(&mut text) {
-        Ok(()) => shown,
-        Err(_) => Err(Stop::Memory),
-    };
-    (text.into_bytes(), ended)
+    match show_parts(alloc, kind, bytes, detail, &mut text) {
+        Ok(()) => (text.into_bytes(), Ok(())),
+        Err(stop) => broken_off(text, stop),
+    }
 }
 
 fn parts_of(alloc: Global, kind: FileKind, bytes: &[u8], detail: Detail) -> Shown
-    ensures { OnOk result.ended (string_bytes result.front ≡ front_of kind (length bytes.now)) }
+    ensures front { OnOk result.ended
+        (string_bytes result.front ≡ front_of kind (length bytes.now)) }
+    ensures parts { OnOk result.ended (ArePartsOf kind bytes.now detail result.bytes.items) }
 {
     let Ok(front) = front_of(alloc, kind, bytes.len()) else {
         return Shown {
@@ -123,8 +143,8 @@ fn parts_of(alloc: Global, kind: FileKind, bytes: &[u8], detail: Detail) -> Show
 
 /// The first rows of a table's file, and what is wrong with the file.
 fn rows_of(alloc: Global, bytes: &[u8], most: u32, known: Option<u32>) -> Shown
-    ensures { OnOk result.ended
-        (IsText FileKind.Table (length bytes.now) (Some most) known (string_bytes result.front)
+    ensures { OnOk result.ended ((options : TheOptions)
+        → IsText FileKind.Table bytes.now options (Some most) known (string_bytes result.front)
         result.bytes.items) }
 {
     let mut cursor = Cursor::new(0, bytes);
@@ -148,7 +168,7 @@ fn shown_of(
     known: Option<u32>,
 ) -> Shown
     ensures { OnOk result.ended
-        (IsText kind (length bytes.now) options.rows known (string_bytes result.front)
+        (IsText kind bytes.now options options.rows known (string_bytes result.front)
         result.bytes.items) }
 {
     let Some(most) = options.rows else {
@@ -285,7 +305,9 @@ fn show_kind<O: Write, E: Write>(
     ensures silent { IfOk result
         (λ whole. whole ≡ true → E.contents err.new ≡ E.contents err.old) }
     ensures printed { IfOk result (λ whole. whole ≡ true
-        → IsPrinted kind bytes.now options.rows (O.contents out.old) (O.contents out.new)) }
+        → kind_of bytes.now ≡ Some kind
+        → IsPrinted kind bytes.now options options.rows (O.contents out.old)
+        (O.contents out.new)) }
 {
     match judge(alloc, kind, bytes) {
         Ok(known) => {
@@ -323,7 +345,7 @@ fn show_bytes<O: Write, E: Write>(
         (λ whole. whole ≡ true → E.contents err.new ≡ E.contents err.old) }
     ensures quiet { (O.contents out.new ≡ O.contents out.old) ⊎ BeginsAsFile bytes.now }
     ensures printed { IfOk result (λ whole. whole ≡ true
-        → PrintsParts bytes.now options.rows (O.contents out.old) (O.contents out.new)) }
+        → PrintsParts bytes.now options (O.contents out.old) (O.contents out.new)) }
 {
     match kind_of(bytes) {
         Some(kind) => show_kind(alloc, kind, path, bytes, options, out, err),
@@ -346,7 +368,7 @@ fn show_file<F: Folder, O: Write, E: Write>(
     ensures quiet { (O.contents out.new ≡ O.contents out.old)
         ⊎ HoldsFile (F.holds folder.now) path.now }
     ensures printed { IfOk result (λ whole. whole ≡ true
-        → PrintsPartsOf (F.holds folder.now) path.now options.rows (O.contents out.old)
+        → PrintsPartsOf (F.holds folder.now) path.now options (O.contents out.old)
         (O.contents out.new)) }
 {
     match try_read(alloc, folder, path) {
@@ -373,9 +395,9 @@ pub fn show<F: Folder, O: Write, E: Write>(
     ensures quiet { (O.contents out.new ≡ O.contents out.old)
         ⊎ HoldsFile (F.holds folder.now) path.now }
     // Of a table's file as many rows as are asked for are printed, or all; else it and a cut's are named
-    // in front of their parts.
+    // in front of their parts. Of an answer its fields are printed, by which its bytes are spelled.
     ensures printed { result ≡ 0
-        → PrintsPartsOf (F.holds folder.now) path.now options.now.rows (O.contents out.old)
+        → PrintsPartsOf (F.holds folder.now) path.now options.now (O.contents out.old)
         (O.contents out.new) }
 {
     match show_file(alloc, folder, path, *options, out, err) {

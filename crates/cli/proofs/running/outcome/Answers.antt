@@ -1,6 +1,6 @@
 -- Proofs of the goals of `outcome` (`running`).
 use Rattle.std.proofs.lemmas.Result.{err_from_is_err_and}
-use Rattle.cli.proofs.Refusals.{load_first, load_refused, load_tried, whole_first, whole_refused, whole_tried, work_first, work_refused, work_tried}
+use Rattle.cli.proofs.Refusals.{load_failed, load_first, load_refused, load_tried, whole_failed, whole_first, whole_refused, whole_tried, work_failed, work_first, work_refused, work_tried}
 use Rattle.cli.proofs.running.outcome.Goals as goal
 
 pub returns-in_err-load_tables-in-Load-clause-refused : goal.returns-in_err-load_tables-in-Load-clause-refused
@@ -28,22 +28,22 @@ returns-in-Whole-clause-refused g c =
 pub returns-in_err-load_tables-in-Load-clause-first : goal.returns-in_err-load_tables-in-Load-clause-first
 returns-in_err-load_tables-in-Load-clause-first g c =
     let p = err_from_is_err_and c.from_residual.result c.from_residual.ensures.1 in
-    rw (p.1, p.2) (load_first (g.F.Folder.holds c.args.folder.now) (g.F.Folder.opens c.args.folder.now) c.args.command.now c.in-Load.directory c.in-Load.number c.in-Load.rows c.in_err-load_tables-in-Load.field-0.0 c.in-Load.is)
+    rw (p.1, p.2) (load_first (g.F.Folder.holds c.args.folder.now) (g.F.Folder.opens c.args.folder.now) (g.F.Folder.shuts c.args.folder.now) c.args.command.now c.in-Load.directory c.in-Load.number c.in-Load.rows c.in_err-load_tables-in-Load.field-0.0 c.in-Load.is)
 
 pub returns-in_err-work-in-Work-clause-first : goal.returns-in_err-work-in-Work-clause-first
 returns-in_err-work-in-Work-clause-first g c =
     let refused = c.in_err-work-in-Work in
     let p = err_from_is_err_and c.from_residual-in_err-work-in-Work.result c.from_residual-in_err-work-in-Work.ensures.1 in
-    rw (p.1, p.2) (work_first (g.F.Folder.holds c.args.folder.now) (g.F.Folder.opens c.args.folder.now) c.args.command.now c.in-Work.command refused.field-0.0 c.in-Work.is refused.ensures.first)
+    rw (p.1, p.2) (work_first (g.F.Folder.holds c.args.folder.now) (g.F.Folder.opens c.args.folder.now) (g.F.Folder.shuts c.args.folder.now) c.args.command.now c.in-Work.command refused.field-0.0 c.in-Work.is refused.ensures.first)
 
 pub returns-in-Whole-clause-first : goal.returns-in-Whole-clause-first
 returns-in-Whole-clause-first g c =
-    whole_first (g.F.Folder.holds c.args.folder.now) (g.F.Folder.opens c.args.folder.now) c.args.command.now c.in-Whole.directory c.in-Whole.query c.in-Whole.rows c.in-Whole.vector c.answer.result c.in-Whole.is
+    whole_first (g.F.Folder.holds c.args.folder.now) (g.F.Folder.opens c.args.folder.now) (g.F.Folder.shuts c.args.folder.now) c.args.command.now c.in-Whole.directory c.in-Whole.query c.in-Whole.rows c.in-Whole.vector c.answer.result c.in-Whole.is
 
 pub returns-in_err-load_tables-in-Load-clause-unwritten : goal.returns-in_err-load_tables-in-Load-clause-unwritten
 returns-in_err-load_tables-in-Load-clause-unwritten g c =
     let p = err_from_is_err_and c.from_residual.result c.from_residual.ensures.1 in
-    rw (p.1, p.2) (load_tried (g.F.Folder.tries c.args.folder.now) c.args.command.now c.in-Load.directory c.in-Load.number c.in-Load.rows c.in_err-load_tables-in-Load.field-0.0 c.in-Load.is)
+    rw (p.1, p.2) (load_tried (g.F.Folder.tries c.args.folder.now) c.args.command.now c.in-Load.directory c.in-Load.number c.in-Load.rows c.in_err-load_tables-in-Load.field-0.0 c.in-Load.is c.in_err-load_tables-in-Load.ensures.unwritten)
 
 pub returns-in_err-work-in-Work-clause-unwritten : goal.returns-in_err-work-in-Work-clause-unwritten
 returns-in_err-work-in-Work-clause-unwritten g c =
@@ -54,3 +54,17 @@ returns-in_err-work-in-Work-clause-unwritten g c =
 pub returns-in-Whole-clause-unwritten : goal.returns-in-Whole-clause-unwritten
 returns-in-Whole-clause-unwritten g c =
     whole_tried (g.F.Folder.tries c.args.folder.now) c.args.command.now c.in-Whole.directory c.in-Whole.query c.in-Whole.rows c.in-Whole.vector c.answer.result c.in-Whole.is
+
+pub returns-in_err-load_tables-in-Load-clause-failed : goal.returns-in_err-load_tables-in-Load-clause-failed
+returns-in_err-load_tables-in-Load-clause-failed g c =
+    let p = err_from_is_err_and c.from_residual.result c.from_residual.ensures.1 in
+    rw (p.1, p.2) (load_failed g.F.Disk.Disk.shown c.args.command.now c.in-Load.directory c.in-Load.number c.in-Load.rows c.in_err-load_tables-in-Load.field-0.0 c.in-Load.is)
+
+pub returns-in_err-work-in-Work-clause-failed : goal.returns-in_err-work-in-Work-clause-failed
+returns-in_err-work-in-Work-clause-failed g c =
+    let p = err_from_is_err_and c.from_residual-in_err-work-in-Work.result c.from_residual-in_err-work-in-Work.ensures.1 in
+    rw (p.1, p.2) (work_failed g.F.Disk.Disk.shown c.args.command.now c.in-Work.command c.in_err-work-in-Work.field-0.0 c.in-Work.is)
+
+pub returns-in-Whole-clause-failed : goal.returns-in-Whole-clause-failed
+returns-in-Whole-clause-failed g c =
+    whole_failed g.F.Disk.Disk.shown c.args.command.now c.in-Whole.directory c.in-Whole.query c.in-Whole.rows c.in-Whole.vector c.answer.result c.in-Whole.is

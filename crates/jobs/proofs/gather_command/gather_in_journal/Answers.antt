@@ -45,9 +45,9 @@ returns-in_err-durable-clause-refused g c =
 
 pub returns-in-Err-clause-first : goal.returns-in-Err-clause-first
 returns-in-Err-clause-first g c =
-    files_unread (g.F.Folder.opens c.args.folder.now) c.args.command.now c.as_slice.result.now c.in-Err.refusal c.as_slice.ensures c.in-Err.ensures.first
+    files_unread (g.F.Folder.opens c.args.folder.now) (g.F.Folder.shuts c.args.folder.now) c.args.command.now c.as_slice.result.now c.in-Err.refusal c.as_slice.ensures c.in-Err.ensures.first
 
 pub returns-in_err-durable-clause-first : goal.returns-in_err-durable-clause-first
 returns-in_err-durable-clause-first g c =
     let p = err_from_is_err_and c.from_residual-in_err-durable.result c.from_residual-in_err-durable.ensures.1 in
-    rw (p.1, p.2) (journal_unread (g.F.Folder.holds c.args.folder.now) (g.F.Folder.opens c.args.folder.now) c.args.command.now c.args.path.now c.in_ok-job.job c.in_err-durable.field-0.0 c.requires c.in_err-durable.ensures.refused)
+    rw (p.1, p.2) (journal_unread (g.F.Folder.holds c.args.folder.now) (g.F.Folder.opens c.args.folder.now) (g.F.Folder.shuts c.args.folder.now) c.args.command.now c.args.path.now c.in_ok-job.job c.in_err-durable.field-0.0 c.requires c.in_err-durable.ensures.refused c.in_err-durable.ensures.shut)

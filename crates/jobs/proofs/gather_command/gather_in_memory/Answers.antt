@@ -34,4 +34,4 @@ returns-in-Err-clause-refused g c =
 
 pub returns-in-Err-clause-first : goal.returns-in-Err-clause-first
 returns-in-Err-clause-first g c =
-    files_unread (g.F.Folder.opens c.args.folder.now) c.args.command.now c.as_slice.result.now c.in-Err.refusal c.as_slice.ensures c.in-Err.ensures.first
+    files_unread (g.F.Folder.opens c.args.folder.now) (g.F.Folder.shuts c.args.folder.now) c.args.command.now c.as_slice.result.now c.in-Err.refusal c.as_slice.ensures c.in-Err.ensures.first

@@ -2,7 +2,8 @@
 use Rattle.std.proofs.Common.{inl}
 use Rattle.std.proofs.lemmas.Result.{err_from_is_err_and}
 use Rattle.jobs.proofs.Gathered.{durable_first, durable_refused}
-use Rattle.jobs.proofs.Unwritten.{other_tried, together_other}
+use Rattle.folders.proofs.Others.{other_tried}
+use Rattle.jobs.proofs.Unwritten.{together_other}
 use Rattle.jobs.proofs.gather_command.report_from_journal.Goals as goal
 
 pub returns-in_err-durable-clause-refused : goal.returns-in_err-durable-clause-refused
@@ -17,7 +18,7 @@ returns-clause-refused g c =
 
 pub returns-clause-first : goal.returns-clause-first
 returns-clause-first g c =
-    durable_first (g.F.Folder.opens c.args.folder.now) c.args.command.now c.save_and_show_durable-report.result c.save_and_show_durable-report.ensures.refused
+    durable_first (g.F.Folder.opens c.args.folder.now) (g.F.Folder.shuts c.args.folder.now) c.args.command.now c.save_and_show_durable-report.result c.save_and_show_durable-report.ensures.refused
 
 pub returns-in_err-durable-clause-unwritten : goal.returns-in_err-durable-clause-unwritten
 returns-in_err-durable-clause-unwritten g c =

@@ -1,7 +1,8 @@
 -- Proofs of the goals of `report_from_memory` (`gather_command`).
 use Rattle.std.proofs.Common.{inl}
 use Rattle.std.proofs.lemmas.Result.{err_from_is_err_and}
-use Rattle.jobs.proofs.Unwritten.{other_tried, together_other}
+use Rattle.folders.proofs.Others.{other_tried}
+use Rattle.jobs.proofs.Unwritten.{together_other}
 use Rattle.jobs.proofs.gather_command.report_from_memory.Goals as goal
 
 pub returns-in_err-gather-clause-refused : goal.returns-in_err-gather-clause-refused

@@ -2,7 +2,8 @@
 use Rattle.std.proofs.Common.{inr, subst, sym, true}
 use Rattle.jobs.specs.Gathering.{IsUnkept}
 use Rattle.jobs.proofs.Gathered.{not_lent}
-use Rattle.jobs.proofs.Unwritten.{other_tried, unkept_other}
+use Rattle.folders.proofs.Others.{other_tried}
+use Rattle.jobs.proofs.Unwritten.{unkept_other}
 use Rattle.jobs.proofs.gather_command.save_and_show_durable.Goals as goal
 
 pub returns-in-Err-clause-refused : goal.returns-in-Err-clause-refused

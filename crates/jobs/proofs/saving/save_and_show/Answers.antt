@@ -1,6 +1,7 @@
 -- Proofs of the goals of `save_and_show` (`saving`).
 use Rattle.std.proofs.lemmas.Result.{IfErr-weaker}
-use Rattle.jobs.proofs.Unwritten.{other_tried, unprinted_other}
+use Rattle.folders.proofs.Others.{other_tried}
+use Rattle.jobs.proofs.Unwritten.{unprinted_other}
 use Rattle.jobs.proofs.saving.save_and_show.Goals as goal
 
 pub returns-clause-unwritten : goal.returns-clause-unwritten

@@ -3,7 +3,8 @@ use Rattle.std.proofs.Common.{inl, sym, subst, ◌∙◌}
 use Rattle.std.proofs.lemmas.Result.{err_from_is_err_and, on_ok_weaker}
 use Rattle.jobs.specs.Working.{IsSpelled}
 use Rattle.jobs.proofs.OwnAnswers.{own_spelled}
-use Rattle.jobs.proofs.Unwritten.{other_tried, spelled_other}
+use Rattle.folders.proofs.Others.{other_tried}
+use Rattle.jobs.proofs.Unwritten.{spelled_other}
 use Rattle.jobs.proofs.working.answer_fragment.Goals as goal
 
 pub returns-in_err-bytes-clause-refused : goal.returns-in_err-bytes-clause-refused

@@ -8,6 +8,7 @@ use Rattle.loader.proofs.Handing.{one_refused}
 use Rattle.folders.specs.Folder.{Change}
 use Rattle.loads.specs.Loading.{AreFragmentsClosed}
 use Rattle.loads.proofs.HandedOn.{all_handed_on, handed_more, next_handed, next_slice, none_closed, none_yet}
+use Rattle.loads.proofs.Tried.{tried_either}
 use Rattle.loads.proofs.WrittenFiles.{next_fits}
 use Rattle.loads.proofs.fragments.write_fragments.Goals as goal
 
@@ -24,6 +25,8 @@ loop-files-init g c =
       none_yet g.F.Reader.Read.remaining c.args.reader.now target.catalog.now.fact c.args.cut.now c.requires.declared c.requires.lengths,
       none_closed F.enclosed (F.wrote c.args.folder.now) target.load target.catalog.now.fact c.args.cut.now c.new.result.items c.new.ensures.items,
       λ path asked. asked,
+      tt,
+      λ path tried. tried,
     )
 
 pub returns-in_err-columns-clause-refused : goal.returns-in_err-columns-clause-refused
@@ -84,6 +87,8 @@ loop-files-preserved g c =
       subst (λ (cs : List ColumnSpec). IfOk c.with_fragment-files.result (λ after. AreFragmentsClosed F.enclosed (F.wrote c.args.folder.now) target.load table cut (done ++ cs ∷ []) after.items)) c.as_slice.ensures
           (subst (λ (w : Option (List Change)). IfOk c.with_fragment-files.result (λ after. AreFragmentsClosed F.enclosed w target.load table cut (done ++ c.as_slice.result.now ∷ []) after.items)) so_far.0 closed),
       λ path asked. so_far.8 path (c.with_fragment-files.ensures.asking path asked),
+      tried_either (F.tries c.args.folder.now) (F.tries c.loop-files.folder) c.loop-files.files c.with_fragment-files.result so_far.10 so_far.9 c.with_fragment-files.ensures.unwritten,
+      λ path tried. so_far.10 path (c.with_fragment-files.ensures.trying path tried),
     )
 
 pub returns-clause-loaded : goal.returns-clause-loaded

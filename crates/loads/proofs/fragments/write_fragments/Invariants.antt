@@ -4,6 +4,7 @@ use Rattle.std.specs.Prelude.{IfOk, IfErr}
 use Rattle.meaning.specs.Cut.{first_row}
 use Rattle.columns.specs.Column.{ColumnSpec}
 use Rattle.folders.specs.Folder.{AsksOf}
+use Rattle.folders.specs.Refused.{IsTriedFor}
 use Rattle.loader.specs.Handing.{lengths_ahead}
 use Rattle.loads.specs.Loading.{AreFragmentsClosed}
 use Rattle.loads.specs.Refusing.{AreFragmentsUnwritten}
@@ -19,6 +20,8 @@ invariant-loop-files g l =
     × (done : List (List ColumnSpec)) × AreHandedOn g.F.Reader.Read.remaining l.fn.reader l.reader table l.cut l.fragment done
     × IfOk l.files (λ closed. AreFragmentsClosed F.enclosed (F.wrote l.fn.folder) l.target.load table l.cut done closed.items)
     × AsksOf (F.asks l.fn.folder) (F.asks l.folder)
+    × IfErr l.files (IsTriedFor (F.tries l.fn.folder))
+    × AsksOf (F.tries l.fn.folder) (F.tries l.folder)
 
 abbrev pub decreases-loop-files : goal.decreases-loop-files
 decreases-loop-files g l = length (lengths_ahead l.reader)

@@ -9,6 +9,8 @@ use Rattle.loads.specs.Refusing.{IsWrittenSoFar}
 use Rattle.loads.proofs.Finished.{loaded_left}
 use Rattle.loads.proofs.LoadedColumns.{dimensions_fit}
 use Rattle.loads.proofs.Refusals.{unsaved_asked}
+use Rattle.folders.proofs.Others.{other_tried}
+use Rattle.loads.proofs.Tried.{dimensions_other}
 use Rattle.loads.proofs.load.finish_load.Goals as goal
 
 pub save_and_print-saved-requires-clause-dims : goal.save_and_print-saved-requires-clause-dims
@@ -49,3 +51,9 @@ pub returns-in-Ok-clause-unread : goal.returns-in-Ok-clause-unread
 returns-in-Ok-clause-unread g c =
     let target = c.args.target.now in
     IfErr-weaker c.save_and_print-saved.result _ _ (λ e unsaved. unsaved_asked (g.F.Folder.asks c.args.folder.now) target.directory.now target.catalog.now c.args.fact.cut e unsaved) c.save_and_print-saved.ensures.refused
+
+pub returns-in-Err-clause-unwritten : goal.returns-in-Err-clause-unwritten
+returns-in-Err-clause-unwritten g c =
+    let F = g.F.Folder in
+    let target = c.args.target.now in
+    inl (other_tried (F.tries c.args.folder.now) c.in-Err.refusal (dimensions_other (F.holds c.args.folder.now) target.directory.now target.catalog.now.dims c.in-Err.refusal c.in-Err.ensures.refused))

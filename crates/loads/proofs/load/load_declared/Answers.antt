@@ -8,6 +8,8 @@ use Rattle.folders.specs.Folder.{Change}
 use Rattle.loads.specs.Loading.{AreFragmentsClosed, IsDimensionLoaded}
 use Rattle.std.proofs.lemmas.Result.{IfOk-weaker, err_from_is_err_and, on_ok_weaker}
 use Rattle.loads.proofs.Finished.{catalog_loaded, closed_count, left_behind, left_of, refused_behind}
+use Rattle.folders.proofs.Others.{other_tried}
+use Rattle.loads.proofs.Tried.{fact_other, tried_either}
 use Rattle.loads.proofs.load.load_declared.Goals as goal
 
 pub returns-in_err-fact-clause-refused : goal.returns-in_err-fact-clause-refused
@@ -55,3 +57,16 @@ returns-clause-left g c =
     (λ fragments e. (dims : List (List ColumnSpec)) × AreEach (IsDimensionLoaded (F.holds c.load_fact.new.folder) target.directory.now) target.catalog.now.dims dims
     × IsWrittenSoFar target.directory.now target.load target.catalog.now fact.cut fragments dims e (F.wrote c.load_fact.new.folder) (F.wrote c.finish_load.new.folder))
     c.finish_load.result loaded.0 closed c.finish_load.ensures.left)
+
+pub returns-in_err-fact-clause-unwritten : goal.returns-in_err-fact-clause-unwritten
+returns-in_err-fact-clause-unwritten g c =
+    let F = g.F.Folder in
+    let target = c.args.target.now in
+    let e = c.in_err-fact.field-0.0 in
+    let p = err_from_is_err_and c.from_residual.result c.from_residual.ensures.1 in
+    rw (p.1, p.2) (other_tried (F.tries c.args.folder.now) e (fact_other (F.holds c.args.folder.now) target.directory.now target.catalog.now c.args.rows e c.in_err-fact.ensures.refused))
+
+pub returns-clause-unwritten : goal.returns-clause-unwritten
+returns-clause-unwritten g c =
+    let F = g.F.Folder in
+    tried_either (F.tries c.args.folder.now) (F.tries c.load_fact.new.folder) c.in_ok-fact.fact.files c.finish_load.result c.in_ok-fact.ensures.trying c.in_ok-fact.ensures.unwritten c.finish_load.ensures.unwritten

@@ -23,6 +23,7 @@ loop-file-preserved g c =
       omega (arith, c.loop-file.invariant.1, count),
       λ cut fragments closed. put_more F.enclosed target.directory.now target.load table cut fragments all n file rest (F.wrote c.args.folder.now) (F.wrote c.loop-file.folder) (F.wrote c.put_fragment.new.folder)
           closed split (c.loop-file.invariant.2 cut fragments closed) c.in_ok-put_fragment.ensures.put,
+      λ path tried. c.loop-file.invariant.3 path (c.in_ok-put_fragment.ensures.trying path tried),
     )
 
 pub returns-clause-put : goal.returns-clause-put

@@ -16,6 +16,7 @@ loop-fragment-preserved g c =
       omega (arith, below),
       removed_more (λ k. fragment_path target.directory.now target.catalog.now.fact.name k) (length c.args.cut.now) c.loop-fragment.fragment (F.wrote c.args.folder.now) (F.wrote c.loop-fragment.folder) (F.wrote c.remove_fragment.new.folder)
           le c.loop-fragment.invariant.2 c.in_ok-remove_fragment.ensures.removed,
+      λ path tried. c.loop-fragment.invariant.3 path (c.in_ok-remove_fragment.ensures.trying path tried),
     )
 
 pub returns-in_err-remove_fragment-clause-left : goal.returns-in_err-remove_fragment-clause-left

@@ -30,16 +30,18 @@ loop-i-preserved g c =
     let count = ap length c.as_slice-declared.ensures in
     let alike = each_length AreDimensionColumns c.args.target.now.catalog.now.dims dims c.requires.columns in
     let within : c.loop-i.i < length dims = omega (arith, count, alike) in
-    let at = subst (λ (x : List ColumnSpec). x ≡ get_or dims c.loop-i.i x) (sym c.as_slice.ensures) c.index-dims-i.is in
-    dimension_more c.args.target.now.directory.now c.args.target.now.load c.as_slice-declared.result.now dims c.index-declared-i.result c.as_slice.result.now c.loop-i.i
-    (g.F.Folder.wrote c.args.folder.now) (g.F.Folder.wrote c.loop-i.folder) (g.F.Folder.wrote c.save_dimension.new.folder)
-    c.loop-i-test.true within c.index-declared-i.is at c.loop-i.invariant c.in_ok-save_dimension.ensures.written
+    let at = subst (λ (x : List ColumnSpec). x ≡ get_or dims c.loop-i.i x) (sym c.as_slice.ensures) c.index-dims-i.is in (
+      dimension_more c.args.target.now.directory.now c.args.target.now.load c.as_slice-declared.result.now dims c.index-declared-i.result c.as_slice.result.now c.loop-i.i
+          (g.F.Folder.wrote c.args.folder.now) (g.F.Folder.wrote c.loop-i.folder) (g.F.Folder.wrote c.save_dimension.new.folder)
+          c.loop-i-test.true within c.index-declared-i.is at c.loop-i.invariant.0 c.in_ok-save_dimension.ensures.written,
+      λ path tried. c.loop-i.invariant.1 path (c.in_ok-save_dimension.ensures.trying path tried),
+    )
 
 pub returns-clause-written : goal.returns-clause-written
 returns-clause-written g c =
     let alike = each_length AreDimensionColumns c.args.target.now.catalog.now.dims c.args.dims.now c.requires.columns in
     dimensions_end (IsDimensionFile c.args.target.now.directory.now c.args.target.now.load) c.args.target.now.catalog.now.dims c.as_slice-declared.result.now c.args.dims.now c.loop-i.i
-    (g.F.Folder.wrote c.args.folder.now) (g.F.Folder.wrote c.loop-i.folder) c.as_slice-declared.ensures c.loop-i-test.false alike c.loop-i.invariant
+    (g.F.Folder.wrote c.args.folder.now) (g.F.Folder.wrote c.loop-i.folder) c.as_slice-declared.ensures c.loop-i-test.false alike c.loop-i.invariant.0
 
 pub returns-in_err-save_dimension-clause-refused : goal.returns-in_err-save_dimension-clause-refused
 returns-in_err-save_dimension-clause-refused g c =
@@ -58,6 +60,6 @@ returns-in_err-save_dimension-clause-left g c =
     let dims = c.args.dims.now in
     let i = c.loop-i.i in
     let p = err_from_is_err_and c.from_residual.result c.from_residual.ensures.1 in
-    let begun = subst (λ (ds : List Dimension). Writes (AreEach (IsDimensionFile target.directory.now target.load) (zip (take i ds) (take i dims))) (F.wrote c.args.folder.now) (F.wrote c.loop-i.folder)) c.as_slice-declared.ensures c.loop-i.invariant in
+    let begun = subst (λ (ds : List Dimension). Writes (AreEach (IsDimensionFile target.directory.now target.load) (zip (take i ds) (take i dims))) (F.wrote c.args.folder.now) (F.wrote c.loop-i.folder)) c.as_slice-declared.ensures c.loop-i.invariant.0 in
     rw p.1 (subst (Writes (AreDimensionsBegun target.directory.now target.load target.catalog.now.dims dims) (F.wrote c.args.folder.now)) (sym c.in_err-save_dimension.ensures.left)
     (less (F.wrote c.args.folder.now) (F.wrote c.loop-i.folder) (λ changes each. (i, each)) begun))

@@ -6,5 +6,5 @@ use Rattle.show.proofs.showing.show_kind.Goals as goal
 pub returns-in-Ok-clause-printed : goal.returns-in-Ok-clause-printed
 returns-in-Ok-clause-printed g c =
     let shown = c.shown_of-shown.result in
-    if_whole c.print.result (λ said. printed c.args.bytes.now c.in-Ok.known (string_bytes shown.front) shown.bytes.items (g.O.Write.contents c.args.out.now) (g.O.Write.contents c.print.new.out)
-    said.1 c.args.kind c.args.options.rows (ended_so shown.ended said.0 c.shown_of-shown.ensures) c.in-Ok.ensures.known) c.print.ensures.printed
+    if_whole c.print.result (λ said begins. printed c.args.bytes.now c.in-Ok.known (string_bytes shown.front) shown.bytes.items (g.O.Write.contents c.args.out.now) (g.O.Write.contents c.print.new.out)
+    said.1 c.args.kind c.args.options c.args.options.rows (λ i. (c.type_inv.bytes i).fits) begins (ended_so shown.ended said.0 c.shown_of-shown.ensures) c.in-Ok.ensures.known) c.print.ensures.printed

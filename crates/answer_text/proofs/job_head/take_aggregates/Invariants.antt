@@ -1,0 +1,13 @@
+-- Loop invariants of `take_aggregates` (`job_head`).
+use Rattle.std.proofs.Common.{◌≡◌, ◌-◌}
+use Rattle.answer_fields.specs.LayoutReading.{aggregate_at}
+use Rattle.wire.specs.Reading.{repeat_at}
+use Rattle.wire.proofs.Loops.{read_behind}
+use Rattle.answer_text.specs.Reading.{IsSamePart}
+use Rattle.answer_text.proofs.job_head.take_aggregates.Given as goal
+
+abbrev pub invariant-loop : goal.invariant-loop
+invariant-loop l = record {
+  read : read_behind (aggregate_at l.format) l.aggregates.items (l.count - l.counter) l.cursor.rest.now ≡ repeat_at (aggregate_at l.format) l.count l.fn.cursor.rest.now;
+  part : IsSamePart l.fn.cursor l.cursor;
+}

@@ -1,0 +1,4 @@
+-- The definitions of this crate.
+pub mod Reading
+pub mod Texts
+pub mod Values

@@ -106,6 +106,7 @@ impl<'a> OrderedGroups<'a> {
             }
         }
     }
+
     /// The groups from one place up to another, lent: none is made for it.
     pub fn slice(&self, from: usize, to: usize) -> GroupSlice<'_>
         requires ordered { from ≤ to }

@@ -168,9 +168,9 @@ fn finish_by_columns(
     }
 }
 
-/// What is printed of the rows that `finish` makes of the groups, or their first fault. Rows are
-/// made where few of many groups' are left, or of a plain query's keys, and else written off the
-/// columns of the groups.
+/// What is printed of the rows that `finish` makes of the groups, or their first fault. Where all
+/// groups are one batch, what is printed is written off its columns. Rows are made where few are
+/// left of many groups, and of a plain query's keys.
 ///
 /// # Errors
 ///

@@ -1,9 +1,10 @@
 //! The states of one aggregate in all groups, to be handed out.
-ghost use Rattle.std.specs.Prelude.{◌≡◌, ◌≢◌, ◌<◌, length, slice_index_or, true, false, IsOk, IfOk, IfSome, Ok};
+ghost use Rattle.std.specs.Prelude.{◌≡◌, ◌≢◌, ◌<◌, length, slice_index_or, true, false, IsOk, IfErr, IfOk, IfSome, Ok};
 ghost use Rattle.meaning.specs.declared.plan.AggregateKind.TheVariants as the_kind;
 ghost use Rattle.meaning.specs.Aggregate.{no_statistics, value};
 ghost use Rattle.meaning.specs.Order.{value_in};
 ghost use Rattle.meaning.specs.Wanting.{ReportsIfMemory};
+ghost use Rattle.aggregate_states.specs.declared.fault.AggFault.TheVariants.{SumOutOfRange};
 ghost use Rattle.aggregate_states.specs.Fault.{fault_returned};
 ghost use Rattle.aggregate_states.specs.Kinds.{extreme_of, has_one_size, keeps_set, sum_state, IsSum};
 ghost use Rattle.aggregate_states.specs.Values.{entry, fits};
@@ -120,6 +121,7 @@ impl<'a> OrderedStates<'a> {
         ensures value { ReportsIfMemory fault_returned value_in result
             (value kind (slice_index_or self.now.states group_index no_statistics)) }
         ensures fits { IfOk result (λ v. fits (value_in v) ≡ true) }
+        ensures roomy { has_one_size self.now.kind ≡ true → IfErr result (λ f. f ≡ SumOutOfRange) }
     {
         let state = self.state(alloc, group_index)?;
         integer_of(alloc, kind, &state)
@@ -151,6 +153,7 @@ impl<'a> OrderedStates<'a> {
         ensures value { ReportsIfMemory fault_returned value_in result
             (value kind (slice_index_or self.now.states group_index no_statistics)) }
         ensures fits { IfOk result (λ v. fits (value_in v) ≡ true) }
+        ensures roomy { has_one_size self.now.kind ≡ true → IfErr result (λ f. f ≡ SumOutOfRange) }
     {
         match self.tally(group_index) {
             Some(tally) => tally_value(kind, tally),
@@ -162,7 +165,7 @@ impl<'a> OrderedStates<'a> {
     ///
     /// # Errors
     ///
-    /// A sum outside 64 bits; of sets, out of memory.
+    /// A sum outside 64 bits; of a column that keeps values, out of memory.
     pub fn value(
         &self,
         alloc: Global,
@@ -173,6 +176,7 @@ impl<'a> OrderedStates<'a> {
         ensures value { ReportsIfMemory fault_returned value_in result
             (value kind (slice_index_or self.now.states group_index no_statistics)) }
         ensures fits { IfOk result (λ v. fits (value_in v) ≡ true) }
+        ensures roomy { has_one_size self.now.kind ≡ true → IfErr result (λ f. f ≡ SumOutOfRange) }
     {
         match kind {
             AggregateKind::Min => Ok(self.least(group_index)),

@@ -1,9 +1,10 @@
 //! The value of an aggregate, lent where its state holds it.
-ghost use Rattle.std.specs.Prelude.{◌≡◌, ◌≢◌, true, IfOk, Ok};
+ghost use Rattle.std.specs.Prelude.{◌≡◌, ◌≢◌, true, IfOk, IfErr, Ok};
 ghost use Rattle.meaning.specs.declared.plan.AggregateKind.TheVariants as the_kind;
 ghost use Rattle.meaning.specs.Aggregate.{value};
 ghost use Rattle.meaning.specs.Order.{column, value_in};
 ghost use Rattle.meaning.specs.Wanting.{ReportsIfMemory};
+ghost use Rattle.aggregate_states.specs.declared.fault.AggFault.TheVariants.{SumOutOfRange};
 ghost use Rattle.aggregate_states.specs.Fault.{fault_returned};
 ghost use Rattle.aggregate_states.specs.Kinds.{has_one_size, sum_state, IsSum};
 ghost use Rattle.aggregate_states.specs.Values.{fits};
@@ -29,6 +30,7 @@ pub fn integer_of<'a>(
     requires greatest { kind ≢ the_kind.Max }
     ensures value { ReportsIfMemory fault_returned value_in result (value kind state.now) }
     ensures fits { IfOk result (λ v. fits (value_in v) ≡ true) }
+    ensures roomy { IfErr result (λ f. f ≡ SumOutOfRange) }
 {
     match state.evaluate(alloc, kind) {
         Ok(Value::Int(int)) => Ok(ValueRef::Int(int)),
@@ -43,6 +45,7 @@ fn sum_of<'a>(tally: Tally) -> Result<ValueRef<'a>, AggFault>
     ensures value { ReportsIfMemory fault_returned value_in result
         (value the_kind.Sum (sum_state tally.count tally.sum)) }
     ensures fits { IfOk result (λ v. fits (value_in v) ≡ true) }
+    ensures roomy { IfErr result (λ f. f ≡ SumOutOfRange) }
 {
     if tally.count == 0 {
         return Ok(ValueRef::Null);
@@ -91,6 +94,7 @@ pub fn tally_value<'a>(kind: AggregateKind, tally: Tally) -> Result<ValueRef<'a>
     ensures value { ReportsIfMemory fault_returned value_in result
         (value kind (sum_state tally.count tally.sum)) }
     ensures fits { IfOk result (λ v. fits (value_in v) ≡ true) }
+    ensures roomy { IfErr result (λ f. f ≡ SumOutOfRange) }
 {
     match kind {
         AggregateKind::CountRows => Ok(count_of(tally)),
@@ -126,6 +130,7 @@ fn greatest_of(state: &State) -> ValueRef<'_>
 pub fn value_of(alloc: Global, kind: AggregateKind, state: &State) -> Result<ValueRef<'_>, AggFault>
     ensures value { ReportsIfMemory fault_returned value_in result (value kind state.now) }
     ensures fits { IfOk result (λ v. fits (value_in v) ≡ true) }
+    ensures roomy { IfErr result (λ f. f ≡ SumOutOfRange) }
 {
     match kind {
         AggregateKind::Min => Ok(least_of(state)),

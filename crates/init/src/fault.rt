@@ -8,11 +8,12 @@ use folders::Refusal;
 use loader::LoadFault;
 use meaning::{CatalogFault, TableFault, Text};
 use std::alloc::{AllocError, AllocFailed};
+use std::fmt::{self, Debug, Display, Formatter};
 use thiserror::Error;
 
 /// Why no catalogue was made for a folder. Files are named by their paths; columns count from 1, as
 /// in a spreadsheet, and rows from 0 behind the header, as everywhere.
-#[derive(Debug, Drop, Error)]
+#[derive(Drop, Error)]
 pub enum InitFault {
     #[error("memory")]
     Memory,
@@ -48,6 +49,13 @@ pub enum InitFault {
     Table { file: String, fault: TableFault },
     #[error("the text that was made is no catalogue: {0}")]
     Catalog(CatalogFault),
+}
+
+// As it is shown: one that is derived takes seconds to prove.
+impl Debug for InitFault {
+    fn fmt<W: fmt::Write>(&self, f: &mut Formatter<W>) -> fmt::Result {
+        Display::fmt(self, f)
+    }
 }
 
 impl From<AllocError> for InitFault {

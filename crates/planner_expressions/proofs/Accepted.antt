@@ -25,6 +25,7 @@ use Rattle.planner_expressions.specs.Scope.{meant, one_of, stands_for, found}
 use Rattle.planner_expressions.specs.Sorts.{sort_of_type, is_taken, aggregate_sort}
 use Rattle.planner_expressions.specs.Translated.{Made, made, translated, two_some, three_some, all_some, arm_of}
 use Rattle.planner_expressions.proofs.Replaced.{parts_give, at_node}
+use Rattle.planner_expressions.proofs.Impossible.{never}
 
 -- ---- results that are there
 
@@ -107,9 +108,13 @@ module _ (s : Scope) where
       let front : arm_of (arm_tr a.0) ≡ Some (record { when = here.0.0; then = here.1.0 }) = ap₂ (two_some (λ (c v : plan.Expr). record { when = c; then = v })) here.0.1 here.1.1 in
       (record { when = here.0.0; then = here.1.0 } ∷ rest.0, ap₂ (two_some (λ (y : plan_arm.Arm) (ys : List plan_arm.Arm). y ∷ ys)) front rest.1)
 
+  abbrev is_name : Expr-F Expr Arm → Bool
+  is_name (node.Column table name) = true
+  is_name _ = false
+
   -- a node other than a name
-  node_there : (y : Expr-F Judging JudgingArm) (z : Sort) → judge_at (bare y) ≡ Ok z → ((table : Option (List ℕ)) (name : List ℕ) → bare y ≡ node.Column table name → ⊥) → There (made_of (bare y))
-  node_there (node.Column table name) z is other = absurd (other table name refl)
+  node_there : (y : Expr-F Judging JudgingArm) (z : Sort) → judge_at (bare y) ≡ Ok z → is_name (bare y) ≡ false → There (made_of (bare y))
+  node_there (node.Column table name) z is other = never other
   node_there node.CountRows z is other = absurd cc
   node_there (node.Aggregate kind a) z is other =
       let part = goes_there (judged s a.0 true) (over_part kind true) z is in
@@ -203,22 +208,22 @@ module _ (s : Scope) where
 
   any_there : (y : Expr-F Judging JudgingArm) (z : Sort) → judge_at (bare y) ≡ Ok z → There (unwrap_or (some_given (roll-Expr (bare y))) (made_of (bare y)))
   any_there (node.Column table name) z is = name_there table name z is
-  any_there node.CountRows z is = or_made _ _ (node_there node.CountRows z is (λ t n e. cc))
-  any_there (node.Aggregate kind a) z is = or_made _ _ (node_there (node.Aggregate kind a) z is (λ t n e. cc))
-  any_there (node.Integer n) z is = or_made _ _ (node_there (node.Integer n) z is (λ t m e. cc))
-  any_there (node.Text t) z is = or_made _ _ (node_there (node.Text t) z is (λ u n e. cc))
-  any_there (node.Minus a) z is = or_made _ _ (node_there (node.Minus a) z is (λ t n e. cc))
-  any_there (node.Arithmetic op a b) z is = or_made _ _ (node_there (node.Arithmetic op a b) z is (λ t n e. cc))
-  any_there (node.Compare op a b) z is = or_made _ _ (node_there (node.Compare op a b) z is (λ t n e. cc))
-  any_there (node.Not a) z is = or_made _ _ (node_there (node.Not a) z is (λ t n e. cc))
-  any_there (node.And a b) z is = or_made _ _ (node_there (node.And a b) z is (λ t n e. cc))
-  any_there (node.Or a b) z is = or_made _ _ (node_there (node.Or a b) z is (λ t n e. cc))
-  any_there (node.IsNull negated a) z is = or_made _ _ (node_there (node.IsNull negated a) z is (λ t n e. cc))
-  any_there (node.Between negated a low high) z is = or_made _ _ (node_there (node.Between negated a low high) z is (λ t n e. cc))
-  any_there (node.In negated a entries) z is = or_made _ _ (node_there (node.In negated a entries) z is (λ t n e. cc))
-  any_there (node.Like negated a pattern) z is = or_made _ _ (node_there (node.Like negated a pattern) z is (λ t n e. cc))
-  any_there (node.Coalesce entries) z is = or_made _ _ (node_there (node.Coalesce entries) z is (λ t n e. cc))
-  any_there (node.Case arms otherwise) z is = or_made _ _ (node_there (node.Case arms otherwise) z is (λ t n e. cc))
+  any_there node.CountRows z is = or_made _ _ (node_there node.CountRows z is refl)
+  any_there (node.Aggregate kind a) z is = or_made _ _ (node_there (node.Aggregate kind a) z is refl)
+  any_there (node.Integer n) z is = or_made _ _ (node_there (node.Integer n) z is refl)
+  any_there (node.Text t) z is = or_made _ _ (node_there (node.Text t) z is refl)
+  any_there (node.Minus a) z is = or_made _ _ (node_there (node.Minus a) z is refl)
+  any_there (node.Arithmetic op a b) z is = or_made _ _ (node_there (node.Arithmetic op a b) z is refl)
+  any_there (node.Compare op a b) z is = or_made _ _ (node_there (node.Compare op a b) z is refl)
+  any_there (node.Not a) z is = or_made _ _ (node_there (node.Not a) z is refl)
+  any_there (node.And a b) z is = or_made _ _ (node_there (node.And a b) z is refl)
+  any_there (node.Or a b) z is = or_made _ _ (node_there (node.Or a b) z is refl)
+  any_there (node.IsNull negated a) z is = or_made _ _ (node_there (node.IsNull negated a) z is refl)
+  any_there (node.Between negated a low high) z is = or_made _ _ (node_there (node.Between negated a low high) z is refl)
+  any_there (node.In negated a entries) z is = or_made _ _ (node_there (node.In negated a entries) z is refl)
+  any_there (node.Like negated a pattern) z is = or_made _ _ (node_there (node.Like negated a pattern) z is refl)
+  any_there (node.Coalesce entries) z is = or_made _ _ (node_there (node.Coalesce entries) z is refl)
+  any_there (node.Case arms otherwise) z is = or_made _ _ (node_there (node.Case arms otherwise) z is refl)
 
   abbrev Fine_at : Expr-F Expr Arm → Type 0
   Fine_at x = (z : Sort) → judge_at x ≡ Ok z → There (unwrap_or (some_given (roll-Expr x)) (made_of x))

@@ -17,16 +17,17 @@ use Rattle.planner_expressions.specs.declared.scope.Scope.{Scope}
 use Rattle.planner_expressions.specs.Spelled.{Spelling, spell_node, spelled, spelled_arm, same_mark, same_spelling, index_among}
 use Rattle.planner_expressions.specs.Given.{group_given, key_first}
 use Rattle.planner_expressions.specs.Operators.{node_operator, operator_of, is_mark_of, begins, may_be_among}
+use Rattle.planner_expressions.proofs.Impossible.{never}
 
 neither : (a b : Bool) → (a || b) ≡ false → (a ≡ false) × (b ≡ false)
-neither true b e = absurd cc
+neither true b e = never e
 neither false b e = (refl, e)
 
 not_below : (n : ℕ) → nat_lt n n ≡ false
 not_below n = grind (arith, nat_tests)
 
 one_further : (b : Bool) (n m : ℕ) → b ≡ false → n ≡ m → cond (not b) (1 + n) 0 ≡ suc m
-one_further true n m is same = absurd cc
+one_further true n m is same = never is
 one_further false n m is same = omega (arith, same)
 
 -- what one test refuses of all, where another refuses all
@@ -42,11 +43,11 @@ first (here ∷ rest) = Some here
 
 same_first : (k : Operator) (c : Mark) → same_mark (mark.Operator k) c ≡ true → is_mark_of k c ≡ true
 same_first k (mark.Operator l) same = same
-same_first k _ same = absurd cc
+same_first k _ same = never (sym same)
 
 begins_alike : (k : Operator) (y w : Spelling) → first y ≡ Some (mark.Operator k) → same_spelling y w ≡ true → begins k w ≡ true
 begins_alike k [] w is e = absurd cc
-begins_alike k (j ∷ xs) [] is e = absurd cc
+begins_alike k (j ∷ xs) [] is e = never (sym e)
 begins_alike k (j ∷ xs) (c ∷ cs) is e =
     let both : Some j ≡ Some (mark.Operator k) = is in
     let same : j ≡ mark.Operator k = cc in
@@ -89,7 +90,7 @@ module _ (s : Scope) where
       decided false same = refl
       decided true same =
           let same_at = subst (λ (x : Spelling). same_spelling x w ≡ true) (spelled_out e) same in
-          absurd (let there = begins_alike k (spell_at (out-Expr e)) w (first_at (out-Expr e) k is) same_at in let wrong = sym there ∙ other in cc)
+          never (sym (begins_alike k (spell_at (out-Expr e)) w (first_at (out-Expr e) k is) same_at) ∙ other)
 
   not_among : (e : Expr) (k : Operator) (list : List Spelling) → operator_of e ≡ Some k → list_any (begins k) list ≡ false → index_among list (spelled s e) ≡ None
   not_among e k list is none =
@@ -101,7 +102,7 @@ module _ (s : Scope) where
   none_given keys aggregates e none = by_operator (operator_of e) refl none
     where
       by_operator : (o : Option Operator) → operator_of e ≡ o → may_be_among keys aggregates o ≡ false → None ≡ group_given keys aggregates (spelled s e)
-      by_operator None is none = absurd cc
+      by_operator None is none = never none
       by_operator (Some k) is none =
           let parts = neither (list_any (begins k) keys) (list_any (begins k) aggregates) none in
           sym (ap₂ key_first (not_among e k keys is parts.0) (not_among e k aggregates is parts.1))

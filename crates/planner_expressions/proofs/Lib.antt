@@ -1,3 +1,4 @@
+pub mod Impossible
 pub mod Found
 pub mod Sorting
 pub mod Overs

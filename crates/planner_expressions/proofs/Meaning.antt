@@ -25,6 +25,7 @@ use Rattle.planner_expressions.specs.Meant.{operated, meant_by, value_in, key_or
 use Rattle.planner_expressions.specs.Spelled.{spelled, index_among}
 use Rattle.planner_expressions.specs.Translated.{Made, made, translated, two_some, three_some, all_some, arm_of}
 use Rattle.planner_expressions.proofs.Replaced.{parts_give, at_node}
+use Rattle.planner_expressions.proofs.Impossible.{not_none}
 
 -- ---- parts that are there
 
@@ -105,9 +106,9 @@ module _ (given : Expr → Option plan.Expr) (r : JoinedRow) where
 
   -- a node from its parts
   node_means : (y : Expr-F Meaning MeaningArm) (x : plan.Expr) → made_of (bare y) ≡ Some x → eval x r ≡ gives_of (bare y)
-  node_means (node.Column table name) x is = absurd cc
-  node_means node.CountRows x is = absurd cc
-  node_means (node.Aggregate kind a) x is = absurd cc
+  node_means (node.Column table name) x is = not_none x is
+  node_means node.CountRows x is = not_none x is
+  node_means (node.Aggregate kind a) x is = not_none x is
   node_means (node.Integer n) x is = let same : x ≡ expr.Literal (value.Int n) = cc in ap (λ (z : plan.Expr). eval z r) same ∙ eval-Literal (value.Int n) r
   node_means (node.Text t) x is = let same : x ≡ expr.Literal (value.Text t) = cc in ap (λ (z : plan.Expr). eval z r) same ∙ eval-Literal (value.Text t) r
   node_means (node.Minus a) x is =

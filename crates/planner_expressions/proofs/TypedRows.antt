@@ -35,6 +35,7 @@ use Rattle.planner_expressions.proofs.Accepted.{goes_there}
 use Rattle.planner_expressions.proofs.HasTypes.{has-Column, has-Joined, has-Literal, has-Minus, has-Arithmetic, has-Compare, has-Not, has-And, has-Or, has-IsNull, has-Between, has-In, has-Like, has-Coalesce, has-Case, arm_types-record}
 use Rattle.planner_expressions.proofs.Meaning.{one_there, two_there, three_there}
 use Rattle.planner_expressions.proofs.Replaced.{parts_give, at_node}
+use Rattle.planner_expressions.proofs.Impossible.{not_none}
 
 -- ---- results that are there
 
@@ -248,9 +249,9 @@ module _ (s : Scope) (types : RowTypes) (given : Expr → Option plan.Expr) (bar
 
   -- a node from its parts
   node_typed : (y : Expr-F Typing_of Arm_of) (z : Sort) (x : plan.Expr) → fits_at (bare y) ≡ true → judge_at (bare y) ≡ Ok z → made_of (bare y) ≡ Some x → Has types x z
-  node_typed (node.Column table name) z x fits is there = absurd cc
-  node_typed node.CountRows z x fits is there = absurd cc
-  node_typed (node.Aggregate kind a) z x fits is there = absurd cc
+  node_typed (node.Column table name) z x fits is there = not_none x there
+  node_typed node.CountRows z x fits is there = not_none x there
+  node_typed (node.Aggregate kind a) z x fits is there = not_none x there
   node_typed (node.Integer n) z x fits is there =
       let same : x ≡ expr.Literal (value.Int n) = cc in
       let sort : Integer ≡ z = cc in
@@ -426,7 +427,7 @@ module _ (types : RowTypes) (s : Scope) (typed_columns : columns_have_types type
   node_given (node.Column table name) x z is returned =
       let p = one_there column_expr (stands_for s table name) x is in
       the_one (meant s table name) p.0 x z (all_filter (has_its_type types) (is_meant table name) s.columns typed_columns) p.1 (sym p.2) returned
-  node_given _ x z is returned = absurd cc
+  node_given _ x z is returned = not_none x is
 
   rows_given : (e : Expr) (x : plan.Expr) (z : Sort) → given_in s Rows e ≡ Some x → judged s e true ≡ Ok z → Has types x z
   rows_given e x z is returned = node_given (out-Expr e) x z is (sym (at_out e) ∙ returned)

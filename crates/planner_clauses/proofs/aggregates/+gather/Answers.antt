@@ -1,13 +1,15 @@
 -- Proofs of the goals of `+gather` (`aggregates`).
-use Rattle.std.proofs.Common.{rules, ◌≡◌, true, false, List, map, option_map, option_to_list, ap, ap₂, sym, ◌∙◌}
+use Rattle.std.proofs.Common.{rules, ◌≡◌, ◌+◌, true, false, List, map, drop, option_map, option_to_list, ap, ap₂, sym, ◌∙◌}
 use Rattle.sql_syntax.specs.declared.tree.Arm.{Arm}
+use Rattle.sql_syntax.specs.declared.tree.Expr.{Expr}
 use Rattle.sql_syntax.specs.declared.tree.Expr.TheOpen as node
 use Rattle.sql_syntax.specs.declared.tree.Expr.TheVariants as tree
 use Rattle.sql_syntax.specs.declared.tree.Expr.TheFolds.{the_lemmas}
 use Rattle.planner_clauses.specs.declared.aggregates.Aggregates.{Aggregates}
-use Rattle.planner_clauses.specs.Aggregates.{is_aggregate, aggregates_in, with_aggregates, with_parts}
+use Rattle.planner_clauses.specs.Aggregates.{is_aggregate, aggregates_in, arm_aggregates, arm_parts, with_aggregates, with_parts}
 use Rattle.planner_clauses.proofs.Topmost.{if_so}
 use Rattle.planner_clauses.proofs.Gathering.{at_node, at_aggregate, case_parts}
+use Rattle.planner_expressions.proofs.Steps.{next_left}
 use Rattle.planner_clauses.proofs.aggregates.+gather.Goals as goal
 
 pub gather-returns-in-Aggregate : goal.gather-returns-in-Aggregate
@@ -81,3 +83,20 @@ gather-returns-in_ok-gather_arms-in-Case t c =
     ∙ case_parts c.args.scope.now c.args.out.now c.as_slice-in-Case.result.now c.in-Case.otherwise
     ∙ at_node c.args.scope.now c.args.out.now (node.Case c.as_slice-in-Case.result.now c.in-Case.otherwise) c.args.expr.now is other)
     c.gather_else.ensures
+
+pub gather_entries-loop-entry-preserved : goal.gather_entries-loop-entry-preserved
+gather_entries-loop-entry-preserved t c =
+    let s = c.args.scope.now in
+    let front = next_left c.args.entries.now c.loop-entry.entry-index c.entry-item.result _ c.loop-entry-test.true c.entry-item.is in
+    ap (λ (new : Aggregates). with_parts s new (map aggregates_in (drop (c.loop-entry.entry-index + 1) c.args.entries.now))) c.in_ok-gather.ensures
+    ∙ ap (λ (es : List Expr). with_parts s c.loop-entry.out (map aggregates_in es)) (sym front)
+    ∙ c.loop-entry.invariant
+
+pub gather_arms-loop-arm-preserved : goal.gather_arms-loop-arm-preserved
+gather_arms-loop-arm-preserved t c =
+    let s = c.args.scope.now in
+    let front = next_left c.args.arms.now c.loop-arm.arm-index c.arm-item.result _ c.loop-arm-test.true c.arm-item.is in
+    ap (λ (new : Aggregates). with_parts s new (arm_parts (map arm_aggregates (drop (c.loop-arm.arm-index + 1) c.args.arms.now))))
+    (c.in_ok-gather-2.ensures ∙ ap (λ (new : Aggregates). with_aggregates s new (aggregates_in c.arm-item.result.value)) c.in_ok-gather.ensures)
+    ∙ ap (λ (list : List Arm). with_parts s c.loop-arm.out (arm_parts (map arm_aggregates list))) (sym front)
+    ∙ c.loop-arm.invariant

@@ -1,8 +1,8 @@
 //! Values as they are packed: put behind other bytes, and taken from the front.
-ghost use Rattle.std.specs.Prelude.{◌≡◌, ◌++◌, true, IfOk, OnOk};
+ghost use Rattle.std.specs.Prelude.{◌≡◌, ◌++◌, ◌<◌, ◌≤◌, true, length, slice_index_or, take, IfOk, OnOk};
 ghost use Rattle.std.specs.List.{flat_map, list_all, AllByRecursion};
-ghost use Rattle.std.specs.Str.{is_utf8};
 ghost use Rattle.aggregate_states.specs.Values.{is_spelled};
+ghost use Rattle.meaning.specs.declared.value.Value.TheVariants.{Null};
 ghost use Rattle.meaning.specs.Order.{value_in};
 ghost use Rattle.meaning.specs.Wanting.{GivesIfMemory};
 ghost use Rattle.packed_groups.specs.Packable.{ArePackableValues, IsPackableValue};
@@ -11,8 +11,8 @@ ghost use Rattle.packed_groups.specs.Reading.{text_at, utf8_of, value_at, values
 ghost use Rattle.wire.specs.Reading.{Reads, repeat_at};
 
 use crate::small::{put_small, take_small};
-use answer_fields::DecodeFault;
-use meaning::{Sequence, Text, Value, ValueRef, text_of};
+use answer_fields::{DecodeFault, refill_text};
+use meaning::{Sequence, Value, ValueRef, text_of};
 use std::alloc::{AllocError, Global};
 use wire::{append_i64, append_u8, take_bytes, take_i64, take_u8};
 
@@ -104,38 +104,77 @@ fn take_text(bytes: &[u8]) -> Result<(&str, &[u8]), DecodeFault>
     Ok((utf8_of(text)?, rest))
 }
 
-fn text_value(alloc: Global, text: &str) -> Result<Value, AllocError>
-    ensures value { IfOk result (λ v. v ≡ Value.Text text.now) }
-    ensures spelled { IfOk result (λ v. is_spelled v ≡ true) }
+/// A value in the place of another. Where both are texts, the buffer is used again.
+#[tactic(auto, unfolding(crate::specs::Reading::value_at, crate::specs::Reading::tagged_value_at))]
+#[inline(always)]
+fn refill_value<'a>(
+    alloc: Global,
+    place: &mut Value,
+    bytes: &'a [u8],
+) -> Result<&'a [u8], DecodeFault>
+    ensures read { GivesIfMemory DecodeFault.Memory (λ rest. (place.new, rest.now)) result
+        (value_at bytes.now) }
+    ensures spelled { OnOk result (is_spelled place.new ≡ true) }
 {
-    // No effect at run time. The proof reads from this call that the text is UTF-8.
-    let _spelled = text.as_bytes();
-    Ok(Value::Text(Text::new(alloc, text)?))
+    let (tag, rest) = take_u8(bytes)?;
+    match tag {
+        0 => {
+            *place = Value::Null;
+            Ok(rest)
+        }
+        1 => {
+            let (int, rest) = take_i64(rest)?;
+            *place = Value::Int(int);
+            Ok(rest)
+        }
+        2 => {
+            let (text, rest) = take_text(rest)?;
+            refill_text(alloc, place, text)?;
+            Ok(rest)
+        }
+        _ => Err(DecodeFault::Shape),
+    }
 }
 
-#[tactic(auto, unfolding(crate::specs::Reading::value_at, crate::specs::Reading::tagged_value_at))]
 #[inline(always)]
 pub fn take_value(alloc: Global, bytes: &[u8]) -> Result<(Value, &[u8]), DecodeFault>
     ensures read { GivesIfMemory DecodeFault.Memory (λ x. (x.0, x.1.now)) result
         (value_at bytes.now) }
     ensures spelled { IfOk result (λ x. is_spelled x.0 ≡ true) }
 {
-    let (tag, rest) = take_u8(bytes)?;
-    match tag {
-        0 => Ok((Value::Null, rest)),
-        1 => {
-            let (int, rest) = take_i64(rest)?;
-            Ok((Value::Int(int), rest))
-        }
-        2 => {
-            let (text, rest) = take_text(rest)?;
-            Ok((text_value(alloc, text)?, rest))
-        }
-        _ => Err(DecodeFault::Shape),
-    }
+    let mut value = Value::Null;
+    let rest = refill_value(alloc, &mut value, bytes)?;
+    Ok((value, rest))
 }
 
-/// So many values, in a buffer that is used again.
+/// The value at the front of the bytes, in the place of the one at the position, or behind all others
+/// where there is none.
+#[inline(always)]
+fn refill_at<'a>(
+    alloc: Global,
+    values: &mut Vec<Value>,
+    position: usize,
+    bytes: &'a [u8],
+) -> Result<&'a [u8], DecodeFault>
+    requires { position ≤ length values.old.items }
+    ensures read { GivesIfMemory DecodeFault.Memory
+        (λ rest. (slice_index_or values.new.items position Null, rest.now)) result
+        (value_at bytes.now) }
+    ensures spelled { OnOk result
+        (is_spelled (slice_index_or values.new.items position Null) ≡ true) }
+    ensures reached { OnOk result (position < length values.new.items) }
+    ensures before { OnOk result (take position values.new.items
+        ≡ take position values.old.items) }
+{
+    if position < values.len() {
+        return refill_value(alloc, &mut values[position], bytes);
+    }
+    let (value, rest) = take_value(alloc, bytes)?;
+    values.push(value)?;
+    Ok(rest)
+}
+
+/// So many values, in a buffer that is used again, with those of its texts.
 fn take_all_values(
     alloc: Global,
     spare: Vec<Value>,
@@ -147,17 +186,16 @@ fn take_all_values(
     ensures spelled { IfOk result (λ x. list_all is_spelled x.0 ≡ true) }
 {
     let mut values = spare;
-    values.clear();
     let mut rest = bytes;
-    for _ in 0..count {
-        let (value, behind) = take_value(alloc, rest)?;
-        values.push(value)?;
-        rest = behind;
+    for position in 0..count {
+        rest = refill_at(alloc, &mut values, position, rest)?;
     }
+    values.truncate(count);
     Ok((Sequence::from_vec(values), rest))
 }
 
-/// The values of a key, or the entries of a set, in a buffer that is used again.
+/// The values of a key, or the entries of a set, in a buffer that is used again, with those of its
+/// texts.
 #[tactic(auto, unfolding(crate::specs::Reading::values_at))]
 pub fn take_values(
     alloc: Global,

@@ -18,3 +18,4 @@ pub mod Own
 pub mod Absorbing
 pub mod Pieces
 pub mod Slices
+pub mod AscendingPlaces

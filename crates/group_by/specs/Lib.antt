@@ -6,3 +6,4 @@ pub mod GroupIndexes
 pub mod Combined
 pub mod IntGroups
 pub mod OrderedGroups
+pub mod AscendingGroups

@@ -8,6 +8,7 @@ ghost use Rattle.aggregate_states.specs.Fault.{fault_returned};
 ghost use Rattle.aggregate_states.specs.Values.{fits};
 ghost use Rattle.group_by.specs.OrderedGroups.{groups_lent};
 
+use crate::ascending_groups::AscendingSlice;
 use crate::unmade_groups::UnmadeSlice;
 use aggregate_states::{AggFault, Group, column_value, value_of};
 use group_index::copy_key;
@@ -19,9 +20,10 @@ use std::marker::Model;
 pub enum HeldSlice<'a> {
     Made(&'a [Group]),
     Unmade(UnmadeSlice<'a>),
+    Ascending(AscendingSlice<'a>),
 }
 
-/// Groups one behind the other, lent: groups that are made, or those of integers, none of which is.
+/// Groups one behind the other, lent: groups that are made, or those of a table, none of which is.
 /// Contracts see their list.
 #[derive(Drop)]
 pub struct GroupSlice<'a> {
@@ -80,6 +82,15 @@ impl<'a> GroupSlice<'a> {
         }
     }
 
+    /// Groups of keys that ascend.
+    pub fn of_ascending(groups: AscendingSlice<'a>) -> GroupSlice<'a>
+        ensures { result ≡ groups.entry }
+    {
+        GroupSlice {
+            held: HeldSlice::Ascending(groups),
+        }
+    }
+
     /// How many groups there are.
     pub fn len(&self) -> usize
         ensures { result ≡ length self.now }
@@ -87,6 +98,7 @@ impl<'a> GroupSlice<'a> {
         match &self.held {
             HeldSlice::Made(groups) => groups.len(),
             HeldSlice::Unmade(groups) => groups.len(),
+            HeldSlice::Ascending(groups) => groups.len(),
         }
     }
 
@@ -99,6 +111,7 @@ impl<'a> GroupSlice<'a> {
         match &self.held {
             HeldSlice::Made(groups) => GroupSlice::of(&groups[from..to]),
             HeldSlice::Unmade(groups) => GroupSlice::of_unmade(groups.part(from, to)),
+            HeldSlice::Ascending(groups) => GroupSlice::of_ascending(groups.part(from, to)),
         }
     }
 
@@ -127,6 +140,7 @@ impl<'a> GroupSlice<'a> {
         match &self.held {
             HeldSlice::Made(groups) => group_in(groups, group).rows(),
             HeldSlice::Unmade(groups) => groups.rows(group),
+            HeldSlice::Ascending(groups) => groups.rows(group),
         }
     }
 
@@ -138,6 +152,7 @@ impl<'a> GroupSlice<'a> {
         match &self.held {
             HeldSlice::Made(groups) => copy_key(alloc, group_in(groups, group).key()),
             HeldSlice::Unmade(groups) => groups.key(alloc, group),
+            HeldSlice::Ascending(groups) => groups.key(alloc, group),
         }
     }
 
@@ -150,6 +165,7 @@ impl<'a> GroupSlice<'a> {
         match &self.held {
             HeldSlice::Made(groups) => column_value(group_in(groups, group).key(), at),
             HeldSlice::Unmade(groups) => groups.key_value(group, at),
+            HeldSlice::Ascending(groups) => groups.key_value(group, at),
         }
     }
 
@@ -178,6 +194,7 @@ impl<'a> GroupSlice<'a> {
                 value_in_group(alloc, kind, group_in(groups, group), aggregate)
             }
             HeldSlice::Unmade(groups) => groups.value(alloc, kind, group, aggregate),
+            HeldSlice::Ascending(groups) => groups.value(alloc, kind, group, aggregate),
         }
     }
 }

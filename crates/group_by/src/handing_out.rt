@@ -9,9 +9,10 @@ ghost use Rattle.group_by.specs.Combined.{combined, put_before, zipped, AreFit, 
 ghost use Rattle.group_by.specs.IntGroups.{AreOrdered};
 ghost use Rattle.group_by.specs.GroupIndexes.{by_group_index, group_at, state_at, state_in};
 
-use crate::columns::ordered_columns;
+use crate::ascending_groups::{AscendingGroups, do_keys_ascend};
 use crate::int_groups::{IntGroup, indexed_groups, ordered_ints};
 use crate::ordered_groups::OrderedGroups;
+use crate::state_columns::ordered_columns;
 use accumulators::{Group, OrderedStates, State, StateColumn};
 use group_index::{KeyList, are_equal, compare_keys, copy_key};
 use meaning::{Row, Sequence};
@@ -306,29 +307,11 @@ pub fn in_order(
     keys_in_order(alloc, keys, rows, columns.as_slice())
 }
 
-/// The groups in the order of their keys, those of one key as one, from keys that stay as they are.
-fn made_in_order(
+/// The groups in the order of their keys, those of one key as one, from keys that are no integers
+/// alone and stay as they are. Those of keys that ascend are made when they are asked for.
+fn ordered_rows<'a>(
     alloc: Global,
-    keys: &KeyList,
-    rows: &[u64],
-    columns: &[OrderedStates<'_>],
-) -> Result<Vec<Group>, AllocError>
-    requires rows { length rows.now ≡ length keys.now }
-    requires columns { All (λ c. length c.states ≡ length keys.now) columns.now }
-    requires few { sum rows.now ≤ most_entries }
-    requires within { (c group_index : ℕ)
-        → (state_at columns.now c group_index).count ≤ slice_index rows.now group_index }
-    ensures { IfOk result (λ groups. IsInOrder keys.now rows.now columns.now groups.items) }
-{
-    let keys = keys.copy(alloc)?;
-    rows_in_order(alloc, keys.into_rows(alloc)?, rows, columns)
-}
-
-/// The groups in the order of their keys, those of one key as one. Those of integers are made when
-/// they are asked for.
-pub fn ordered_groups<'a>(
-    alloc: Global,
-    keys: &KeyList,
+    keys: &'a KeyList,
     rows: &'a [u64],
     columns: Vec<OrderedStates<'a>>,
 ) -> Result<OrderedGroups<'a>, AllocError>
@@ -338,10 +321,33 @@ pub fn ordered_groups<'a>(
     requires within { (c group_index : ℕ)
         → (state_at columns.items c group_index).count ≤ slice_index rows.now group_index }
     ensures { IfOk result
-        (λ groups. IsInOrder keys.now rows.entry.now columns.entry.items groups) }
+        (λ groups. IsInOrder keys.entry.now rows.entry.now columns.entry.items groups) }
+{
+    if do_keys_ascend(keys) {
+        return Ok(OrderedGroups::ascending(AscendingGroups::new(keys, rows, columns)));
+    }
+    let keys = keys.rows(alloc)?;
+    Ok(OrderedGroups::made(rows_in_order(alloc, keys, rows, columns.as_slice())?))
+}
+
+/// The groups in the order of their keys, those of one key as one. Those of integers, and those of
+/// keys that ascend, are made when they are asked for.
+pub fn ordered_groups<'a>(
+    alloc: Global,
+    keys: &'a KeyList,
+    rows: &'a [u64],
+    columns: Vec<OrderedStates<'a>>,
+) -> Result<OrderedGroups<'a>, AllocError>
+    requires rows { length rows.now ≡ length keys.now }
+    requires columns { All (λ c. length c.states ≡ length keys.now) columns.items }
+    requires few { sum rows.now ≤ most_entries }
+    requires within { (c group_index : ℕ)
+        → (state_at columns.items c group_index).count ≤ slice_index rows.now group_index }
+    ensures { IfOk result
+        (λ groups. IsInOrder keys.entry.now rows.entry.now columns.entry.items groups) }
 {
     match keys_as_ints(alloc, keys)? {
         Some(indexed) => Ok(OrderedGroups::unmade(indexed, rows, columns)),
-        None => Ok(OrderedGroups::made(made_in_order(alloc, keys, rows, columns.as_slice())?)),
+        None => ordered_rows(alloc, keys, rows, columns),
     }
 }

@@ -1,13 +1,14 @@
 //! Groups: the set of the keys, with the states of each one's rows.
 #![tactic(auto)]
 
-mod columns;
+mod ascending_groups;
 mod counts;
 mod group_slice;
 mod handing_out;
 mod int_groups;
 mod laws;
 mod ordered_groups;
+mod state_columns;
 mod table;
 mod unmade_groups;
 

@@ -1,8 +1,10 @@
-//! Groups in the order of their keys, of which those of integers are made a batch at a time.
+//! Groups in the order of their keys, of which those of integers, and those whose keys came
+//! in their order, are made a batch at a time.
 ghost use Rattle.std.specs.Prelude.{◌≡◌, ◌≤◌, ◌-◌, [], length, map, take, drop, IfOk};
 ghost use Rattle.std.specs.Cow.{cow_slice_items, IsBorrowedSlice, IsOwnedSlice};
 ghost use Rattle.group_by.specs.IntGroups.{indexed_group, AreThere};
 
+use crate::ascending_groups::AscendingGroups;
 use crate::group_slice::GroupSlice;
 use crate::int_groups::IntGroup;
 use crate::unmade_groups::UnmadeGroups;
@@ -27,10 +29,11 @@ pub fn spare_groups(alloc: Global, batch: CowSlice<'_, Group>) -> Vec<Group>
 pub enum HeldGroups<'a> {
     Made(Vec<Group>),
     Unmade(UnmadeGroups<'a>),
+    Ascending(AscendingGroups<'a>),
 }
 
-/// Groups in the order of their keys. Contracts see their list. Where each key is one integer, no
-/// group is made before a batch asks for it.
+/// Groups in the order of their keys. Contracts see their list. Where each key is one integer, or
+/// the keys came in their order, no group is made before a batch asks for it.
 #[derive(Drop)]
 pub struct OrderedGroups<'a> {
     held: HeldGroups<'a>,
@@ -71,6 +74,15 @@ impl<'a> OrderedGroups<'a> {
         }
     }
 
+    /// The groups of keys that ascend.
+    pub fn ascending(groups: AscendingGroups<'a>) -> OrderedGroups<'a>
+        ensures { result ≡ groups.entry }
+    {
+        OrderedGroups {
+            held: HeldGroups::Ascending(groups),
+        }
+    }
+
     /// How many groups there are.
     pub fn len(&self) -> usize
         ensures { result ≡ length self.now }
@@ -78,6 +90,7 @@ impl<'a> OrderedGroups<'a> {
         match &self.held {
             HeldGroups::Made(groups) => groups.len(),
             HeldGroups::Unmade(groups) => groups.len(),
+            HeldGroups::Ascending(groups) => groups.len(),
         }
     }
 
@@ -104,6 +117,9 @@ impl<'a> OrderedGroups<'a> {
             HeldGroups::Unmade(groups) => {
                 Ok(CowSlice::Owned(groups.batch(alloc, from, to, spare)?))
             }
+            HeldGroups::Ascending(groups) => {
+                Ok(CowSlice::Owned(groups.batch(alloc, from, to, spare)?))
+            }
         }
     }
 
@@ -119,6 +135,7 @@ impl<'a> OrderedGroups<'a> {
                 GroupSlice::of(&groups[from..to])
             }
             HeldGroups::Unmade(groups) => GroupSlice::of_unmade(groups.slice(from, to)),
+            HeldGroups::Ascending(groups) => GroupSlice::of_ascending(groups.slice(from, to)),
         }
     }
 }

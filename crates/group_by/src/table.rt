@@ -11,10 +11,10 @@ ghost use Rattle.group_by.specs.GroupIndexes.{state_at, AreAbsorbed, AreAdded, A
 ghost use Rattle.group_keys.specs.Rows.{rows_at, AreLanesOf};
 ghost use Rattle.group_by.specs.Rows.{kept_rows, IsGroupOf};
 
-use crate::columns::{copy_columns, fresh_columns, merge_all, ordered_columns, update_all};
 use crate::counts::{count_rows, raise};
 use crate::handing_out::{in_order, ordered_groups};
 use crate::ordered_groups::OrderedGroups;
+use crate::state_columns::{copy_columns, fresh_columns, merge_all, ordered_columns, update_all};
 use accumulators::{Group, StateColumn};
 use group_index::KeyIndex;
 use meaning::{Aggregate, Plan, Sequence};
@@ -200,7 +200,7 @@ impl GroupTable {
         ensures { IfOk result (λ t. t ≡ fresh (shape_of plan.now)) }
     {
         let is_certain = has_certain_key(plan);
-        let index = KeyIndex::certain(alloc, is_certain)?;
+        let index = KeyIndex::certain(alloc, is_certain, plan.keys.as_slice())?;
         match fresh_parts(alloc, plan.aggs.as_slice(), index.keys.len()) {
             Ok((rows, columns)) => Ok(GroupTable {
                 is_certain,

@@ -125,7 +125,7 @@ fn column_of_int<'a>(int: i64, at: usize) -> ValueRef<'a>
 }
 
 /// The value of an aggregate of a kind with the state at a group index of a column.
-fn value_at<'a>(
+pub fn value_at<'a>(
     alloc: Global,
     kind: AggregateKind,
     columns: &'a [OrderedStates<'a>],

@@ -19,11 +19,11 @@ ghost use Rattle.group_index.specs.RowGroups.{listed};
 use crate::row_groups::{RowGroups, row_groups};
 use aggregate_states::position;
 use group_keys::{
-    KeyList, NOWHERE, are_known, copy_key, hash_int, hash_row, hash_rows, key_of, key_of_text,
-    only_int, plain_key, plain_text_key, selected_key,
+    KeyList, NOWHERE, are_known, hash_int, hash_row, hash_rows, key_of, key_of_text, only_int,
+    plain_key, plain_text_key, selected_key,
 };
 use hash_slots::{probe_slots, slot_number};
-use meaning::{Row, Sequence};
+use meaning::{GroupingKey, Row, Sequence};
 use std::alloc::{AllocError, Global};
 use vectors::{Selection, Vector};
 
@@ -179,12 +179,12 @@ fn enter_all(slots: &mut [Slot], keys: &KeyList, from: u32, before: u32) {
 }
 
 impl KeyIndex {
-    /// No key. Takes no memory.
-    pub fn new(alloc: Global) -> KeyIndex
-        ensures { result.keys ≡ [] }
+    /// These keys, to which no slot leads yet.
+    fn over(alloc: Global, keys: KeyList) -> KeyIndex
+        ensures { result.keys ≡ keys }
     {
         KeyIndex {
-            keys: KeyList::new(alloc),
+            keys,
             led: 0,
             slots: Vec::new(alloc),
             ordered: 0,
@@ -258,6 +258,20 @@ impl KeyIndex {
         };
         self.lead(alloc, hash, group_index)?;
         self.keys.push(alloc, key)?;
+        Ok(group_index)
+    }
+
+    /// The same for a copy of a key.
+    fn push_copy(&mut self, alloc: Global, hash: u64, key: &Row) -> Result<u32, AllocError>
+        ensures group_index { IfOk result (λ group_index. group_index ≡ length self.old.keys) }
+        ensures keys { IfOk result (λ group_index. self.new.keys ≡ self.old.keys
+            ++ key.now ∷ []) }
+    {
+        let Ok(group_index) = u32::try_from(self.keys.len()) else {
+            return Err(AllocError);
+        };
+        self.lead(alloc, hash, group_index)?;
+        self.keys.push_copy(alloc, key)?;
         Ok(group_index)
     }
 
@@ -373,8 +387,7 @@ impl KeyIndex {
         if let Some(group_index) = self.find_row(hash, row) {
             return Ok(group_index);
         }
-        let key = copy_key(alloc, row)?;
-        self.push(alloc, hash, key)
+        self.push_copy(alloc, hash, row)
     }
 
     /// The same, where the key is looked for in order first.
@@ -766,11 +779,15 @@ impl KeyIndex {
         Ok(row_groups(self.find_each(alloc, lanes, selection)?))
     }
 
-    /// The empty key alone, or no key.
-    pub fn certain(alloc: Global, is_certain: bool) -> Result<KeyIndex, AllocError>
+    /// The empty key alone, or no key yet, of these columns.
+    pub fn certain(
+        alloc: Global,
+        is_certain: bool,
+        keys: &[GroupingKey],
+    ) -> Result<KeyIndex, AllocError>
         ensures { IfOk result (λ index. index.keys ≡ empty_key is_certain) }
     {
-        let mut index = KeyIndex::new(alloc);
+        let mut index = KeyIndex::over(alloc, KeyList::of(alloc, keys)?);
         if is_certain {
             let key = Sequence::new(alloc);
             let hash = hash_row(&key);

@@ -1,6 +1,6 @@
 -- Integers that are close to each other, by how far they are above a least one.
 use Rattle.std.specs.Prelude.{◌≡◌, ◌≢◌, ℕ, ℤ, ◌+◌, ◌-◌, ◌^◌, ◌<◌, ◌-ℤ◌, ◌+ℤ◌, ◌≤ℤ◌, pos, unsigned_abs, List, [], ◌∷◌, ◌++◌, length, take, drop, replicate, get_or, slice_set}
-use Rattle.std.proofs.Common.{refl, sym, ap, subst, ◌∙◌, arith, inl, inr, length-set, append-nil, get_or-set_same, get_or-set_other}
+use Rattle.std.proofs.Common.{sym, ap, subst, ◌∙◌, arith, inl, inr, length-set, append-nil, get_or-set_same, get_or-set_other}
 use Rattle.std.proofs.lemmas.Bool.{cases_eq, cases_lt}
 use Rattle.std.proofs.lemmas.Int.{ints}
 use Rattle.std.proofs.lemmas.List.{get_or_append_left, get_or_default, get_or_past, get_or-replicate, length-replicate, length_push, drop_all, get_or_push, take_all}

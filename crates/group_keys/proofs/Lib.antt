@@ -1,6 +1,5 @@
 pub mod KeyRows
 pub mod CloseInts
 pub mod Texts
-pub mod Ends
 pub mod SelectedInts
 pub mod IntKeys

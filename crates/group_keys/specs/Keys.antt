@@ -14,6 +14,7 @@ alone values = map (λ v. v ∷ []) values
 abbrev pub rows_in : Held → List Row
 rows_in (held.Ints n) = int_keys n.items
 rows_in (held.Values v) = alone v.items
+rows_in (held.Columns k) = k
 rows_in (held.Rows r) = r.items
 
 -- each entry of a table that is the group index of a key is that of the integer that is as far above the least as the

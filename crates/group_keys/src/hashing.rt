@@ -1,10 +1,11 @@
 //! Hashes of keys. What a table holds doesn't depend on them.
-ghost use Rattle.std.specs.Prelude.{◌≡◌, ◌≤◌, ◌+◌, length, IfOk};
+ghost use Rattle.std.specs.Prelude.{◌≡◌, ◌<◌, ◌≤◌, ◌+◌, length, IfOk};
 ghost use Rattle.vectors.specs.Vector.{values_of};
 ghost use Rattle.group_keys.specs.Rows.{AreLanesOf};
 
 use crate::plain_texts::plain_texts;
 use aggregate_states::{plain_ints, position, value_at};
+use key_columns::KeyColumns;
 use meaning::{Row, ValueRef};
 use std::alloc::{AllocError, Global};
 use vectors::{Selection, Vector};
@@ -167,6 +168,17 @@ pub fn hash_row(row: &Row) -> u64 {
     let mut hash = MULTIPLIER;
     for value in row.as_slice() {
         hash = hash_value(hash, value.as_value_ref());
+    }
+    hash
+}
+
+/// Of a key by columns, as of the same key as a row.
+pub fn hash_columns(keys: &KeyColumns, group_index: usize) -> u64
+    requires { group_index < length keys.now }
+{
+    let mut hash = MULTIPLIER;
+    for at in 0..keys.width() {
+        hash = hash_value(hash, keys.value(group_index, at));
     }
     hash
 }

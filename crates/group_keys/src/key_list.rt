@@ -1,27 +1,34 @@
 //! Keys in the order of their group indexes. Keys of one column stand as integers, or as values
-//! where not all are integers, so that they need no memory of their own.
-ghost use Rattle.std.specs.Prelude.{◌≡◌, ◌≢◌, ℕ, ◌<◌, ◌≤◌, ◌∷◌, ◌++◌, [], length, pos, map, slice_index_or, All, true, IfNone, IfOk, IfSome, OnOk};
+//! where not all are integers, so that they need no memory of their own. Nor do keys of several
+//! columns once they are many: these then stand column by column.
+ghost use Rattle.std.specs.Prelude.{◌≡◌, ◌≢◌, ℕ, ◌<◌, ◌≤◌, ◌∷◌, ◌++◌, [], length, pos, map, slice_index_or, All, true, false, IfNone, IfOk, IfSome, OnOk};
 ghost use Rattle.meaning.specs.declared.value.Value.TheVariants.{Int, Text};
+ghost use Rattle.meaning.specs.Order.{column, row_cmp, value_in};
 ghost use Rattle.vectors.specs.Vector.{values_of};
 ghost use Rattle.group_keys.specs.Keys.{alone, rows_in, IsReturned};
 ghost use Rattle.group_keys.specs.Rows.{int_keys, row_at};
 
 use crate::close_ints::{NOWHERE, close_group_index, enter, window_of};
-use crate::hashing::{hash_alone, hash_int, hash_row};
+use crate::column_keys::{is_behind_columns, is_lane_key};
+use crate::hashing::{hash_alone, hash_columns, hash_int, hash_row};
 use crate::keys::{
     compare_keys, copy_key, is_int, is_int_value, is_key, is_lane_int, is_lane_value, is_row,
     is_row_value, is_same_int, is_text_key, is_text_value, key_of_value, only_int, only_value,
 };
-use meaning::{Row, Value};
+use aggregate_states::column_value;
+use key_columns::KeyColumns;
+use meaning::{ColType, GroupingKey, Row, Value, ValueRef};
 use std::alloc::{AllocError, Global};
+use std::cmp::Ordering;
 use std::marker::Model;
-use std::mem::replace;
+use std::mem::{drop, replace};
 use vectors::Vector;
 
 #[derive(Drop)]
 enum Held {
     Ints(Vec<i64>),
     Values(Vec<Value>),
+    Columns(KeyColumns),
     Rows(Vec<Row>),
 }
 
@@ -33,7 +40,13 @@ pub struct KeyList {
     // least one.
     least: i64,
     close: Vec<u32>,
+    // Of the columns, where they are several.
+    types: Vec<ColType>,
 }
+
+/// How many keys of several columns stand as rows, which are compared in less time, before they
+/// stand column by column.
+const FEW_KEYS: usize = 1024;
 
 impl Model for KeyList {
     ghost use Rattle.std.specs.Prelude.{List};
@@ -121,6 +134,7 @@ fn copy_held(alloc: Global, held: &Held) -> Result<Held, AllocError>
     match held {
         Held::Ints(ints) => Ok(Held::Ints(Vec::from_slice(alloc, ints.as_slice())?)),
         Held::Values(values) => Ok(Held::Values(values.clone()?)),
+        Held::Columns(columns) => Ok(Held::Columns(columns.copy(alloc)?)),
         Held::Rows(rows) => Ok(Held::Rows(copy_rows(alloc, rows.as_slice())?)),
     }
 }
@@ -131,8 +145,22 @@ fn held_as_rows(alloc: Global, held: Held) -> Result<Vec<Row>, AllocError>
     match held {
         Held::Ints(ints) => rows_of_ints(alloc, ints.as_slice()),
         Held::Values(values) => rows_of(alloc, values.as_slice()),
+        Held::Columns(columns) => columns.rows(alloc),
         Held::Rows(rows) => Ok(rows),
     }
+}
+
+/// A value behind keys by columns.
+fn push_behind_columns(
+    alloc: Global,
+    columns: &KeyColumns,
+    value: Value,
+) -> Result<Vec<Row>, AllocError>
+    ensures { IfOk result (λ rows. rows.items ≡ columns.now ++ (value ∷ []) ∷ []) }
+{
+    let mut rows = columns.rows(alloc)?;
+    rows.push(key_of_value(alloc, value)?)?;
+    Ok(rows)
 }
 
 /// An integer more, without moving the keys.
@@ -146,6 +174,11 @@ fn push_int_key(held: &mut Held, alloc: Global, int: &i64) -> Result<(), AllocEr
         }
         Held::Values(values) => {
             values.push(Value::Int(*int))?;
+            Ok(())
+        }
+        Held::Columns(columns) => {
+            let rows = push_behind_columns(alloc, columns, Value::Int(*int))?;
+            *held = Held::Rows(rows);
             Ok(())
         }
         Held::Rows(rows) => {
@@ -174,6 +207,10 @@ fn push_value(alloc: Global, held: Held, value: Value) -> Result<Held, AllocErro
             values.push(value)?;
             Ok(Held::Values(values))
         }
+        Held::Columns(columns) => {
+            let rows = push_behind_columns(alloc, &columns, value)?;
+            Ok(Held::Rows(rows))
+        }
         Held::Rows(rows) => {
             let mut rows = rows;
             rows.push(key_of_value(alloc, value)?)?;
@@ -182,12 +219,83 @@ fn push_value(alloc: Global, held: Held, value: Value) -> Result<Held, AllocErro
     }
 }
 
-fn push_row(alloc: Global, held: Held, key: Row) -> Result<Held, AllocError>
+/// These rows by columns of these types, if each has them.
+fn columns_of(
+    alloc: Global,
+    rows: &[Row],
+    types: &[ColType],
+) -> Result<Option<KeyColumns>, AllocError>
+    ensures { IfOk result (λ found. IfSome found (λ columns. columns ≡ rows.now)) }
+{
+    let mut columns = KeyColumns::new(alloc, types)?;
+    for row in rows {
+        if !columns.push(row)? {
+            return Ok(None);
+        }
+    }
+    Ok(Some(columns))
+}
+
+/// The same keys, by columns where they have come to be many.
+fn held_rows(alloc: Global, rows: Vec<Row>, types: &[ColType]) -> Result<Held, AllocError>
+    ensures { IfOk result (λ held. rows_in held ≡ rows.items) }
+{
+    if rows.len() != FEW_KEYS || types.is_empty() {
+        return Ok(Held::Rows(rows));
+    }
+    match columns_of(alloc, rows.as_slice(), types) {
+        Ok(Some(columns)) => Ok(Held::Columns(columns)),
+        Ok(None) => Ok(Held::Rows(rows)),
+        Err(fault) => {
+            drop(rows);
+            Err(fault)
+        }
+    }
+}
+
+fn push_row(alloc: Global, held: Held, key: Row, types: &[ColType]) -> Result<Held, AllocError>
     ensures { IfOk result (λ more. rows_in more ≡ rows_in held ++ key ∷ []) }
 {
     let mut rows = held_as_rows(alloc, held)?;
     rows.push(key)?;
-    Ok(Held::Rows(rows))
+    held_rows(alloc, rows, types)
+}
+
+/// The types of several columns, and none of fewer.
+fn types_of(alloc: Global, keys: &[GroupingKey]) -> Result<Vec<ColType>, AllocError> {
+    let mut types = Vec::new(alloc);
+    if keys.len() < 2 {
+        return Ok(types);
+    }
+    for key in keys {
+        types.push(key.col_type)?;
+    }
+    Ok(types)
+}
+
+/// The value in a column of the key of a value alone: the value, and NULL past it.
+#[inline(always)]
+fn only_at(value: ValueRef<'_>, at: usize) -> ValueRef<'_>
+    ensures { value_in result ≡ column (value_in value.entry ∷ []) at }
+{
+    if at == 0 {
+        return value;
+    }
+    ValueRef::Null
+}
+
+/// The order of the keys of two integers alone.
+fn compare_ints(one: &i64, other: &i64) -> Ordering
+    ensures { result ≡ row_cmp (Int one.now ∷ []) (Int other.now ∷ []) }
+{
+    one.cmp(other)
+}
+
+/// The order of the keys of two values alone.
+fn compare_values(one: &Value, other: &Value) -> Ordering
+    ensures { result ≡ row_cmp (one.now ∷ []) (other.now ∷ []) }
+{
+    one.cmp(other)
 }
 
 #[inline(always)]
@@ -221,7 +329,20 @@ impl KeyList {
             held: Held::Ints(Vec::new(alloc)),
             least: 0,
             close: Vec::new(alloc),
+            types: Vec::new(alloc),
         }
+    }
+
+    /// No key yet, of these columns.
+    pub fn of(alloc: Global, keys: &[GroupingKey]) -> Result<KeyList, AllocError>
+        ensures { IfOk result (λ list. list ≡ []) }
+    {
+        Ok(KeyList {
+            held: Held::Ints(Vec::new(alloc)),
+            least: 0,
+            close: Vec::new(alloc),
+            types: types_of(alloc, keys)?,
+        })
     }
 
     /// How many keys there are.
@@ -231,6 +352,7 @@ impl KeyList {
         match &self.held {
             Held::Ints(ints) => ints.len(),
             Held::Values(values) => values.len(),
+            Held::Columns(columns) => columns.len(),
             Held::Rows(rows) => rows.len(),
         }
     }
@@ -253,6 +375,10 @@ impl KeyList {
                 Some(value) => is_lane_value(value, lanes, at),
                 None => false,
             },
+            Held::Columns(columns) => {
+                let at_index = group_index as usize;
+                at_index < columns.len() && is_lane_key(columns, at_index, lanes, at)
+            }
             Held::Rows(rows) => match row_of(rows.as_slice(), group_index) {
                 Some(row) => is_key(row, lanes, at),
                 None => false,
@@ -276,6 +402,10 @@ impl KeyList {
                 Some(value) => is_row_value(value, key),
                 None => false,
             },
+            Held::Columns(columns) => {
+                let at_index = group_index as usize;
+                at_index < columns.len() && columns.is_row(at_index, key)
+            }
             Held::Rows(rows) => match row_of(rows.as_slice(), group_index) {
                 Some(row) => is_row(row, key),
                 None => false,
@@ -300,6 +430,10 @@ impl KeyList {
                 Some(value) => is_int_value(value, int),
                 None => false,
             },
+            Held::Columns(columns) => {
+                let at_index = group_index as usize;
+                at_index < columns.len() && columns.is_only(at_index, ValueRef::Int(*int))
+            }
             Held::Rows(rows) => match row_of(rows.as_slice(), group_index) {
                 Some(row) => is_int(row, int),
                 None => false,
@@ -321,6 +455,10 @@ impl KeyList {
                 Some(value) => is_text_value(value, text),
                 None => false,
             },
+            Held::Columns(columns) => {
+                let at_index = group_index as usize;
+                at_index < columns.len() && columns.is_only(at_index, ValueRef::Text(text))
+            }
             Held::Rows(rows) => match row_of(rows.as_slice(), group_index) {
                 Some(row) => is_text_key(row, text),
                 None => false,
@@ -410,16 +548,36 @@ impl KeyList {
         Ok(())
     }
 
+    /// Puts a key behind the columns that the others stand in, if it has their types. On an error
+    /// the keys are open.
+    #[inline(always)]
+    fn push_to_columns(&mut self, key: &Row) -> Result<bool, AllocError>
+        ensures pushed { IfOk result (λ is_pushed. is_pushed ≡ true
+            → self.new ≡ self.old ++ key.now ∷ []) }
+        ensures unchanged { IfOk result (λ is_pushed. is_pushed ≡ false → self.new ≡ self.old) }
+    {
+        match &mut self.held {
+            Held::Columns(columns) => {
+                self.close.clear();
+                columns.push(key)
+            }
+            _ => Ok(false),
+        }
+    }
+
     /// A key more. On an error the keys are open.
     pub fn push(&mut self, alloc: Global, key: Row) -> Result<(), AllocError>
         ensures { OnOk result (self.new ≡ self.old ++ key ∷ []) }
     {
+        if self.push_to_columns(&key)? {
+            return Ok(());
+        }
         if key.len() == 1 {
             return self.push_one(alloc, only_value(key));
         }
         self.close.clear();
         let held = replace(&mut self.held, Held::Rows(Vec::new(alloc)));
-        self.held = push_row(alloc, held, key)?;
+        self.held = push_row(alloc, held, key, self.types.as_slice())?;
         Ok(())
     }
 
@@ -427,6 +585,9 @@ impl KeyList {
     pub fn push_copy(&mut self, alloc: Global, key: &Row) -> Result<(), AllocError>
         ensures { OnOk result (self.new ≡ self.old ++ key.now ∷ []) }
     {
+        if self.push_to_columns(key)? {
+            return Ok(());
+        }
         if let Some(int) = only_int(key) {
             return self.push_int(alloc, int);
         }
@@ -440,6 +601,7 @@ impl KeyList {
         match &self.held {
             Held::Ints(ints) => is_int_behind(ints.as_slice().last(), key),
             Held::Values(values) => is_value_behind(values.as_slice().last(), key),
+            Held::Columns(columns) => is_behind_columns(columns, key),
             Held::Rows(rows) => is_row_behind(rows.as_slice().last(), key),
         }
     }
@@ -451,6 +613,7 @@ impl KeyList {
         match &self.held {
             Held::Ints(ints) => Some(ints.as_slice()),
             Held::Values(_) => None,
+            Held::Columns(_) => None,
             Held::Rows(_) => None,
         }
     }
@@ -469,8 +632,68 @@ impl KeyList {
                 let value = value_of(values.as_slice(), group_index)?;
                 Some(hash_alone(value.as_value_ref()))
             }
+            Held::Columns(columns) => {
+                let at_index = group_index as usize;
+                if at_index >= columns.len() {
+                    return None;
+                }
+                Some(hash_columns(columns, at_index))
+            }
             Held::Rows(rows) => Some(hash_row(row_of(rows.as_slice(), group_index)?)),
         }
+    }
+
+    /// The value in a column of a key, lent, and NULL past the last.
+    #[inline(always)]
+    pub fn value(&self, group_index: usize, at: usize) -> ValueRef<'_>
+        requires { group_index < length self.now }
+        ensures { value_in result ≡ column (slice_index_or self.now group_index []) at }
+    {
+        match &self.held {
+            Held::Ints(ints) => only_at(ValueRef::Int(ints[group_index]), at),
+            Held::Values(values) => only_at(values[group_index].as_value_ref(), at),
+            Held::Columns(columns) => columns.value(group_index, at),
+            Held::Rows(rows) => column_value(&rows[group_index], at),
+        }
+    }
+
+    /// A key, in memory of its own.
+    pub fn row(&self, alloc: Global, group_index: usize) -> Result<Row, AllocError>
+        requires { group_index < length self.now }
+        ensures { IfOk result (λ key. key ≡ slice_index_or self.now group_index []) }
+    {
+        match &self.held {
+            Held::Ints(ints) => key_of_value(alloc, Value::Int(ints[group_index])),
+            Held::Values(values) => key_of_value(alloc, values[group_index].clone()?),
+            Held::Columns(columns) => columns.row(alloc, group_index),
+            Held::Rows(rows) => copy_key(alloc, &rows[group_index]),
+        }
+    }
+
+    /// The order of two keys.
+    pub fn compare(&self, one: usize, other: usize) -> Ordering
+        requires one { one < length self.now }
+        requires other { other < length self.now }
+        ensures { result ≡ row_cmp (slice_index_or self.now one [])
+            (slice_index_or self.now other []) }
+    {
+        match &self.held {
+            Held::Ints(ints) => compare_ints(&ints[one], &ints[other]),
+            Held::Values(values) => compare_values(&values[one], &values[other]),
+            Held::Columns(columns) => columns.compare(one, other),
+            Held::Rows(rows) => compare_keys(&rows[one], &rows[other]),
+        }
+    }
+
+    /// The keys as rows, in memory of their own.
+    pub fn rows(&self, alloc: Global) -> Result<Vec<Row>, AllocError>
+        ensures { IfOk result (λ rows. rows.items ≡ self.now) }
+    {
+        let mut rows = Vec::with_capacity(alloc, self.len())?;
+        for group_index in 0..self.len() {
+            rows.push(self.row(alloc, group_index)?)?;
+        }
+        Ok(rows)
     }
 
     /// The keys as rows.
@@ -486,10 +709,12 @@ impl KeyList {
         ensures { IfOk result (λ copy. copy ≡ self.now) }
     {
         let close = Vec::from_slice(alloc, self.close.as_slice())?;
+        let types = Vec::from_slice(alloc, self.types.as_slice())?;
         Ok(KeyList {
             held: copy_held(alloc, &self.held)?,
             least: self.least,
             close,
+            types,
         })
     }
 }

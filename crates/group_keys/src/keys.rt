@@ -8,48 +8,12 @@ ghost use Rattle.aggregate_states.specs.Values.{is_spelled};
 ghost use Rattle.vectors.specs.Vector.{values_of};
 ghost use Rattle.group_keys.specs.Rows.{int_keys, row_at, rows_at, AreLanesOf};
 
-use crate::same_bytes::are_same_bytes;
 use aggregate_states::{owned, plain_ints, value_at};
+use key_columns::{are_same_bytes, is_null, is_number, is_text};
 use meaning::{Row, Sequence, Value, ValueRef};
 use std::alloc::{AllocError, Global};
 use std::cmp::Ordering;
 use vectors::{Selection, Vector};
-
-#[inline(always)]
-fn is_text(text: &[u8], other: ValueRef<'_>) -> bool
-    ensures same { result ≡ true → Text text.now ≡ value_in other.entry }
-    ensures apart { Text text.now ≡ value_in other.entry → result ≡ true }
-{
-    match other {
-        ValueRef::Null => false,
-        ValueRef::Int(_) => false,
-        ValueRef::Text(bytes) => are_same_bytes(text, bytes),
-    }
-}
-
-#[inline(always)]
-fn is_number(int: &i64, other: ValueRef<'_>) -> bool
-    ensures same { result ≡ true → Int int.now ≡ value_in other.entry }
-    ensures apart { Int int.now ≡ value_in other.entry → result ≡ true }
-{
-    match other {
-        ValueRef::Null => false,
-        ValueRef::Int(number) => *int == number,
-        ValueRef::Text(_) => false,
-    }
-}
-
-#[inline(always)]
-fn is_null(other: ValueRef<'_>) -> bool
-    ensures same { result ≡ true → Null ≡ value_in other.entry }
-    ensures apart { Null ≡ value_in other.entry → result ≡ true }
-{
-    match other {
-        ValueRef::Null => true,
-        ValueRef::Int(_) => false,
-        ValueRef::Text(_) => false,
-    }
-}
 
 #[inline(always)]
 fn is_value(value: &Value, other: ValueRef<'_>) -> bool

@@ -2,11 +2,11 @@
 #![tactic(auto)]
 
 mod close_ints;
+mod column_keys;
 mod hashing;
 mod key_list;
 mod keys;
 mod plain_texts;
-mod same_bytes;
 mod selected_ints;
 
 pub use close_ints::{NOWHERE, are_known};

@@ -499,14 +499,15 @@ fn different(alloc: Global, many: usize, apart: i64) -> Result<Vec<i64>, AllocEr
     Ok(list)
 }
 
-/// Whether a group is that of one row, whose key and argument are this number.
+/// Whether a group is that of one row, whose argument and first and last key are this number.
 fn is_of(group: &Group, number: i64) -> bool {
     let key = group.key().as_slice();
     let states = group.states();
-    if key.len() != 1 || states.len() != 1 {
+    let ([first, ..], [.., last], [state]) = (key, key, states) else {
         return false;
-    }
-    key[0] == Value::Int(number) && group.rows() == 1 && states[0].sum() == i128::from(number)
+    };
+    let is_key = first == &Value::Int(number) && last == &Value::Int(number);
+    is_key && group.rows() == 1 && state.sum() == i128::from(number)
 }
 
 /// How many groups stand where their keys say.
@@ -526,15 +527,17 @@ fn in_order(groups: &[Group], apart: i64) -> usize {
 fn in_order_of(
     alloc: Global,
     plan: &Plan,
+    keys: &[Vector<'_>],
     list: &[i64],
     apart: i64,
 ) -> Result<(usize, usize), AllocError>
     requires sum { map (λ a. a.kind) plan.now.aggs ≡ Sum ∷ [] }
     requires few { length list.now ≤ 1000000 }
+    requires keys { AreLanesOf (length list.now) keys.now }
 {
     let table = GroupTable::new(alloc, plan)?;
-    let vectors = [plain(list)];
-    let table = with_rows(alloc, table, &vectors, &vectors, list.len())?;
+    let arguments = [plain(list)];
+    let table = with_rows(alloc, table, keys, &arguments, list.len())?;
     let groups = table.into_groups(alloc)?;
     Ok((groups.len(), in_order(groups.as_slice(), apart)))
 }
@@ -549,15 +552,30 @@ fn expect_in_order(
 {
     let list = different(alloc, many, apart)?;
     let plan = sum_by(alloc, 1)?;
-    let found = in_order_of(alloc, &plan, list.as_slice(), apart);
+    let keys = [plain(list.as_slice())];
+    let found = in_order_of(alloc, &plan, &keys, list.as_slice(), apart);
     drop(plan);
     assert!(rt; found? == (many, many));
     Ok(())
 }
 
-/// Keys whose group indexes stand in a table of their own, and keys that are hashed.
+fn expect_pairs_in_order(rt: &impl Abort, alloc: Global, many: usize) -> Result<(), AllocError>
+    requires { many ≤ 1000000 }
+{
+    let list = different(alloc, many, 1)?;
+    let plan = sum_by(alloc, 2)?;
+    let keys = [plain(list.as_slice()), plain(list.as_slice())];
+    let found = in_order_of(alloc, &plan, &keys, list.as_slice(), 1);
+    drop(plan);
+    assert!(rt; found? == (many, many));
+    Ok(())
+}
+
+/// Keys whose group indexes stand in a table of their own, keys that are hashed, and keys of two
+/// columns that are many.
 #[test]
 fn a_million_keys(rt: HostRuntime) -> Result<(), AllocError> {
     expect_in_order(&rt, rt.alloc(), 1_000_000, 1)?;
-    expect_in_order(&rt, rt.alloc(), 1_000_000, 9_000_000_000_000)
+    expect_in_order(&rt, rt.alloc(), 1_000_000, 9_000_000_000_000)?;
+    expect_pairs_in_order(&rt, rt.alloc(), 3_000)
 }

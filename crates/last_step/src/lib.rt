@@ -2,10 +2,10 @@
 #![tactic(auto)]
 
 mod aggregates;
-mod columns;
 mod expanding;
 mod finished;
 mod finishing;
+mod group_columns;
 mod keyed;
 mod lanes;
 mod leading;

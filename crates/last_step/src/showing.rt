@@ -13,7 +13,7 @@ ghost use Rattle.last_step.specs.Given.{fault_returned};
 ghost use Rattle.last_step.specs.Runs.{expanded, plain_rows, rows_after, times_kept};
 
 use crate::aggregates::front_of;
-use crate::columns::batch_of;
+use crate::group_columns::batch_of;
 use crate::lanes::lane_value;
 use crate::run::Run;
 use crate::shown::evaluate;

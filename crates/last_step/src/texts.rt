@@ -11,7 +11,7 @@ ghost use Rattle.last_step.specs.Printing.{HasFields, best_text, text_or};
 ghost use Rattle.last_step.specs.Runs.{rows_after};
 
 use crate::aggregates::front_of;
-use crate::columns::batch_of;
+use crate::group_columns::batch_of;
 use crate::printable::LaneRows;
 use crate::printing::{print_all, print_rows};
 use crate::shown::evaluate;

@@ -1,10 +1,8 @@
 -- Proofs of the goals of `value` (`unmade_groups`).
-use Rattle.std.proofs.Common.{◌≡◌, ◌<◌, ℕ, rules, length, get_or, ap, sym, subst, ◌∙◌}
-use Rattle.std.specs.Prelude.{Result}
+use Rattle.std.proofs.Common.{◌<◌, length, sym, subst}
 use Rattle.meaning.specs.Aggregate.{value}
 use Rattle.meaning.specs.Order.{value_in}
 use Rattle.meaning.specs.Wanting.{ReportsIfMemory}
-use Rattle.meaning.specs.declared.value.Value.{Value}
 use Rattle.aggregate_states.specs.Fault.{fault_returned}
 use Rattle.group_by.proofs.Slices.{columns_there, inside, state_there}
 use Rattle.group_by.proofs.unmade_groups.UnmadeSlice.value.Goals as goal

@@ -1,7 +1,0 @@
--- Invariants of `fresh_columns` (`columns`).
-use Rattle.std.proofs.Common.{map, take}
-use Rattle.group_by.specs.GroupIndexes.{AreFresh}
-use Rattle.group_by.proofs.columns.fresh_columns.Given as goal
-
-abbrev pub invariant-loop-aggregate : goal.invariant-loop-aggregate
-invariant-loop-aggregate l = AreFresh l.height (map (λ a. a.kind) (take l.aggregate-index l.aggregates)) l.columns.items

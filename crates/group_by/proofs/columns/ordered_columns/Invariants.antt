@@ -1,6 +1,0 @@
--- Invariants of `ordered_columns` (`columns`).
-use Rattle.std.proofs.Common.{◌≡◌, take}
-use Rattle.group_by.proofs.columns.ordered_columns.Given as goal
-
-abbrev pub invariant-loop-column : goal.invariant-loop-column
-invariant-loop-column l = l.ordered.items ≡ take l.column-index l.columns

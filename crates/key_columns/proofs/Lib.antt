@@ -1,0 +1,4 @@
+pub mod Taking
+pub mod KeyRows
+pub mod Ends
+pub mod ColumnOrder

@@ -1,7 +1,0 @@
--- Invariants of `push_aggregates` (`columns`).
-use Rattle.std.proofs.Common.{length}
-use Rattle.last_step.specs.Batches.{IsPartOf}
-use Rattle.last_step.proofs.columns.push_aggregates.Given as goal
-
-abbrev pub invariant-loop-aggregate : goal.invariant-loop-aggregate
-invariant-loop-aggregate l = IsPartOf l.plan l.groups (length l.plan.keys) l.aggregate l.batch

@@ -39,6 +39,17 @@ impl Cells {
         }
     }
 
+    /// The same cells, in memory of their own.
+    pub fn copy(&self, alloc: Global) -> Result<Cells, AllocError>
+        ensures col_type { IfOk result (λ copy. type_of copy ≡ type_of self.now) }
+        ensures cells { IfOk result (λ copy. cells_in copy ≡ cells_in self.now) }
+    {
+        match self {
+            Cells::Ints(ints) => Ok(Cells::Ints(Vec::from_slice(alloc, ints.as_slice())?)),
+            Cells::Texts(texts) => Ok(Cells::Texts(texts.copy(alloc)?)),
+        }
+    }
+
     pub fn col_type(&self) -> ColType
         ensures { result ≡ type_of self.now }
     {

@@ -79,6 +79,19 @@ impl Column {
         })
     }
 
+    /// An equal column, in memory of its own. No value is looked at.
+    pub fn copy(&self, alloc: Global) -> Result<Column, AllocError>
+        ensures { IfOk result (λ copy. copy ≡ self.now) }
+    {
+        let cells = self.cells.copy(alloc)?;
+        let nulls = Vec::from_slice(alloc, self.nulls.as_slice())?;
+        Ok(Column {
+            cells,
+            nullable: self.nullable,
+            nulls,
+        })
+    }
+
     pub fn col_type(&self) -> ColType
         ensures { result ≡ self.now.col_type }
     {

@@ -46,6 +46,15 @@ impl TextList {
         })
     }
 
+    /// The same texts, in memory of their own.
+    pub fn copy(&self, alloc: Global) -> Result<TextList, AllocError>
+        ensures { IfOk result (λ copy. copy ≡ self.now) }
+    {
+        let ends = Vec::from_slice(alloc, self.ends.as_slice())?;
+        let joined = Vec::from_slice(alloc, self.joined.as_slice())?;
+        Ok(TextList { ends, joined })
+    }
+
     pub fn len(&self) -> usize
         ensures value { result ≡ length self.now }
         ensures texts { list_all is_text self.now ≡ true }

@@ -14,7 +14,8 @@ use Rattle.meaning.proofs.Groups.{beside-append, beside_none}
 use Rattle.meaning.proofs.Orders.{row_total}
 use Rattle.accumulators.specs.Columns.{ColumnSpec}
 use Rattle.group_by.specs.declared.int_groups.IntGroup.{IntGroup}
-use Rattle.group_by.specs.Combined.{DoAscend, IsInOrder, SameBeside}
+use Rattle.group_by.specs.Combined.{IsInOrder, SameBeside}
+use Rattle.group_keys.specs.Keys.{DoAscend}
 use Rattle.group_by.specs.IntGroups.{indexed_group, AreApart, AreIndexed, AreOrdered}
 use Rattle.group_by.specs.GroupIndexes.{by_group_index}
 use Rattle.group_by.proofs.Batches.{by_group_index-at, by_group_index-length}

@@ -27,10 +27,6 @@ Rises [] = Unit {0}
 Rises (x ∷ []) = Unit {0}
 Rises (x ∷ y ∷ ys) = (is_lt (row_cmp y x) ≡ false) × Rises (y ∷ ys)
 
--- each key is less than the next
-abbrev pub DoAscend : List Row → Type 0
-DoAscend keys = (k : ℕ) (d : Row) → k + 1 < length keys → is_lt (row_cmp (get_or keys k d) (get_or keys (k + 1) d)) ≡ true
-
 -- the groups of each key stand in one order
 abbrev pub SameBeside : List Group → List Group → Type 0
 SameBeside old new = (k : Row) → beside k (map (λ g. (g.key, g)) new) ≡ beside k (map (λ g. (g.key, g)) old)

@@ -7,7 +7,7 @@ ghost use Rattle.meaning.specs.Order.{Row as ARow, column, row_cmp, value_in};
 ghost use Rattle.meaning.specs.Wanting.{ReportsIfMemory};
 ghost use Rattle.aggregate_states.specs.Fault.{fault_returned};
 ghost use Rattle.aggregate_states.specs.Values.{fits};
-ghost use Rattle.group_by.specs.Combined.{DoAscend};
+ghost use Rattle.group_keys.specs.Keys.{DoAscend};
 ghost use Rattle.group_by.specs.GroupIndexes.{by_group_index, group_at};
 
 use crate::handing_out::{group_of, regroup};
@@ -31,6 +31,9 @@ fn comes_before(keys: &KeyList, k: usize) -> bool
 pub fn do_keys_ascend(keys: &KeyList) -> bool
     ensures { result ≡ true → DoAscend keys.now }
 {
+    if keys.do_ascend() {
+        return true;
+    }
     for k in 1..keys.len() {
         if !comes_before(keys, k - 1) {
             return false;

@@ -5,8 +5,9 @@ ghost use Rattle.meaning.specs.Aggregate.{merge, no_statistics};
 ghost use Rattle.meaning.specs.Group.{merge_groups};
 ghost use Rattle.meaning.specs.Order.{Row as ARow, row_cmp};
 ghost use Rattle.aggregate_states.specs.State.{most_entries};
-ghost use Rattle.group_by.specs.Combined.{combined, put_before, zipped, AreFit, DoAscend, AreMergeable, IsInOrder, MergesWithFirst, Rises, SameBeside};
+ghost use Rattle.group_by.specs.Combined.{combined, put_before, zipped, AreFit, AreMergeable, IsInOrder, MergesWithFirst, Rises, SameBeside};
 ghost use Rattle.group_by.specs.IntGroups.{AreOrdered};
+ghost use Rattle.group_keys.specs.Keys.{DoAscend};
 ghost use Rattle.group_by.specs.GroupIndexes.{by_group_index, group_at, state_at, state_in};
 
 use crate::ascending_groups::{AscendingGroups, do_keys_ascend};

@@ -353,25 +353,24 @@ impl KeyIndex {
         None
     }
 
-    /// Whether all keys came in order, and this one comes behind them.
-    #[inline(always)]
-    fn is_behind_all(&self, row: &Row) -> bool {
-        self.ordered == self.keys.len() && self.keys.is_behind_last(row)
-    }
-
-    /// A group index for a new key behind all others. The hash table leads to it once another key
-    /// is looked for there.
-    fn append(&mut self, alloc: Global, row: &Row) -> Result<u32, AllocError>
-        ensures group_index { IfOk result (λ group_index. group_index ≡ length self.old.keys) }
-        ensures keys { OnOk result (self.new.keys ≡ self.old.keys ++ row.now ∷ []) }
+    /// A group index for a new key that comes behind all others, if they came in order and it does.
+    /// The hash table leads to it once another key is looked for there. On an error the keys are
+    /// open.
+    fn append(&mut self, alloc: Global, row: &Row) -> Result<Option<u32>, AllocError>
+        ensures appended { IfOk result (λ found. IfSome found (λ group_index.
+            (group_index ≡ length self.old.keys)
+            × (self.new.keys ≡ self.old.keys ++ row.now ∷ []))) }
+        ensures unchanged { IfOk result (λ found. IfNone found (self.new.keys ≡ self.old.keys)) }
     {
         let Ok(group_index) = u32::try_from(self.keys.len()) else {
             return Err(AllocError);
         };
-        self.keys.push_copy(alloc, row)?;
+        if !self.keys.push_behind(alloc, row)? {
+            return Ok(None);
+        }
         self.ordered = self.ordered.saturating_add(1);
         self.unled = self.unled.saturating_add(1);
-        Ok(group_index)
+        Ok(Some(group_index))
     }
 
     /// The group index of a key, which gets one where it has none, by the hash table. On an error
@@ -396,8 +395,10 @@ impl KeyIndex {
         ensures { IfOk result (λ group_index. IsFound row.now self.old.keys group_index
             self.new.keys) }
     {
-        if self.is_behind_all(row) {
-            return self.append(alloc, row);
+        if self.ordered == self.keys.len() {
+            if let Some(group_index) = self.append(alloc, row)? {
+                return Ok(group_index);
+            }
         }
         if let Some(group_index) = self.find_next(row) {
             return Ok(group_index);

@@ -1,3 +1,4 @@
+pub mod Ascending
 pub mod KeyRows
 pub mod CloseInts
 pub mod Texts

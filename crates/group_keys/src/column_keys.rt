@@ -5,7 +5,6 @@ ghost use Rattle.group_keys.specs.Rows.{row_at};
 
 use aggregate_states::value_at;
 use key_columns::{KeyColumns, is_same};
-use meaning::Row;
 use vectors::Vector;
 
 /// Whether a key is the one that these vectors have at a position.
@@ -25,12 +24,4 @@ pub fn is_lane_key(keys: &KeyColumns, group_index: usize, lanes: &[Vector<'_>], 
         }
     }
     true
-}
-
-/// Whether a key comes behind the last of these in their order, if there is one.
-pub fn is_behind_columns(keys: &KeyColumns, key: &Row) -> bool {
-    if keys.len() == 0 {
-        return true;
-    }
-    keys.compare_with(keys.len() - 1, key).is_lt()
 }

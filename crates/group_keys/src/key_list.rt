@@ -2,14 +2,15 @@
 //! where not all are integers, so that they need no memory of their own. Nor do keys of several
 //! columns once they are many: these then stand column by column.
 ghost use Rattle.std.specs.Prelude.{◌≡◌, ◌≢◌, ℕ, ◌<◌, ◌≤◌, ◌∷◌, ◌++◌, [], length, pos, map, slice_index_or, All, true, false, IfNone, IfOk, IfSome, OnOk};
+ghost use Rattle.std.specs.Ordering.{is_lt};
 ghost use Rattle.meaning.specs.declared.value.Value.TheVariants.{Int, Text};
 ghost use Rattle.meaning.specs.Order.{column, row_cmp, value_in};
 ghost use Rattle.vectors.specs.Vector.{values_of};
-ghost use Rattle.group_keys.specs.Keys.{alone, rows_in, IsReturned};
+ghost use Rattle.group_keys.specs.Keys.{alone, rows_in, DoAscend, IsBehind, IsReturned};
 ghost use Rattle.group_keys.specs.Rows.{int_keys, row_at};
 
 use crate::close_ints::{NOWHERE, close_group_index, enter, window_of};
-use crate::column_keys::{is_behind_columns, is_lane_key};
+use crate::column_keys::is_lane_key;
 use crate::hashing::{hash_alone, hash_columns, hash_int, hash_row};
 use crate::keys::{
     compare_keys, copy_key, is_int, is_int_value, is_key, is_lane_int, is_lane_value, is_row,
@@ -42,6 +43,8 @@ pub struct KeyList {
     close: Vec<u32>,
     // Of the columns, where they are several.
     types: Vec<ColType>,
+    // Whether each key was put behind the last because it comes behind that.
+    do_ascend: bool,
 }
 
 /// How many keys of several columns stand as rows, which are compared in less time, before they
@@ -51,13 +54,13 @@ const FEW_KEYS: usize = 1024;
 impl Model for KeyList {
     ghost use Rattle.std.specs.Prelude.{List};
     ghost use Rattle.meaning.specs.Order.{Row as ARow};
-    ghost use Rattle.group_keys.specs.Keys.{rows_in, LeadsTo};
+    ghost use Rattle.group_keys.specs.Keys.{rows_in, IsKept};
 
     ghost Value = { List ARow };
 
     ghost view = { λ k. rows_in k.held };
 
-    ghost invariant = { λ k. LeadsTo k.least k.close.items (rows_in k.held) };
+    ghost invariant = { λ k. IsKept k.least k.close.items k.do_ascend (rows_in k.held) };
 }
 
 #[inline(always)]
@@ -298,26 +301,32 @@ fn compare_values(one: &Value, other: &Value) -> Ordering
     one.cmp(other)
 }
 
+/// Whether an integer alone comes before a key.
 #[inline(always)]
-fn is_int_behind(last: Option<&i64>, key: &Row) -> bool {
-    match (last, only_int(key)) {
-        (Some(last), Some(int)) => last < int,
-        (last, _) => last.is_none(),
+fn is_int_before(int: &i64, key: &Row) -> bool
+    ensures { result ≡ true → is_lt (row_cmp (Int int.now ∷ []) key.now) ≡ true }
+{
+    match only_int(key) {
+        Some(other) => compare_ints(int, other).is_lt(),
+        None => false,
     }
 }
 
-fn is_value_behind(last: Option<&Value>, key: &Row) -> bool {
-    match (last, key.as_slice()) {
-        (Some(last), [value]) => last < value,
-        (last, _) => last.is_none(),
+/// Whether a value alone comes before a key.
+fn is_value_before(value: &Value, key: &Row) -> bool
+    ensures { result ≡ true → is_lt (row_cmp (value.now ∷ []) key.now) ≡ true }
+{
+    let key = key.as_slice();
+    if key.len() != 1 {
+        return false;
     }
+    compare_values(value, &key[0]).is_lt()
 }
 
-fn is_row_behind(last: Option<&Row>, key: &Row) -> bool {
-    match last {
-        Some(last) => compare_keys(last, key).is_lt(),
-        None => true,
-    }
+fn is_row_before(row: &Row, key: &Row) -> bool
+    ensures { result ≡ true → is_lt (row_cmp row.now key.now) ≡ true }
+{
+    compare_keys(row, key).is_lt()
 }
 
 impl KeyList {
@@ -330,6 +339,7 @@ impl KeyList {
             least: 0,
             close: Vec::new(alloc),
             types: Vec::new(alloc),
+            do_ascend: true,
         }
     }
 
@@ -342,6 +352,7 @@ impl KeyList {
             least: 0,
             close: Vec::new(alloc),
             types: types_of(alloc, keys)?,
+            do_ascend: true,
         })
     }
 
@@ -512,6 +523,7 @@ impl KeyList {
     fn push_one(&mut self, alloc: Global, value: Value) -> Result<(), AllocError>
         ensures { OnOk result (self.new ≡ self.old ++ (value ∷ []) ∷ []) }
     {
+        self.do_ascend = false;
         let held = replace(&mut self.held, Held::Ints(Vec::new(alloc)));
         match push_value(alloc, held, value) {
             Ok(held) => {
@@ -529,6 +541,7 @@ impl KeyList {
     fn put_int(&mut self, alloc: Global, int: &i64) -> Result<(), AllocError>
         ensures { OnOk result (self.new ≡ self.old ++ (Int int.now ∷ []) ∷ []) }
     {
+        self.do_ascend = false;
         match push_int_key(&mut self.held, alloc, int) {
             Ok(()) => Ok(()),
             Err(fault) => {
@@ -556,6 +569,7 @@ impl KeyList {
             → self.new ≡ self.old ++ key.now ∷ []) }
         ensures unchanged { IfOk result (λ is_pushed. is_pushed ≡ false → self.new ≡ self.old) }
     {
+        self.do_ascend = false;
         match &mut self.held {
             Held::Columns(columns) => {
                 self.close.clear();
@@ -575,6 +589,7 @@ impl KeyList {
         if key.len() == 1 {
             return self.push_one(alloc, only_value(key));
         }
+        self.do_ascend = false;
         self.close.clear();
         let held = replace(&mut self.held, Held::Rows(Vec::new(alloc)));
         self.held = push_row(alloc, held, key, self.types.as_slice())?;
@@ -595,15 +610,54 @@ impl KeyList {
         self.push(alloc, key)
     }
 
-    /// Whether a key comes behind the last of these in their order, where both are of one kind.
+    /// Whether the key at a group index comes before this one. Keys of two kinds aren't compared.
     #[inline(always)]
-    pub fn is_behind_last(&self, key: &Row) -> bool {
+    fn comes_before(&self, group_index: usize, key: &Row) -> bool
+        requires { group_index < length self.now }
+        ensures { result ≡ true
+            → is_lt (row_cmp (slice_index_or self.now group_index []) key.now) ≡ true }
+    {
         match &self.held {
-            Held::Ints(ints) => is_int_behind(ints.as_slice().last(), key),
-            Held::Values(values) => is_value_behind(values.as_slice().last(), key),
-            Held::Columns(columns) => is_behind_columns(columns, key),
-            Held::Rows(rows) => is_row_behind(rows.as_slice().last(), key),
+            Held::Ints(ints) => is_int_before(&ints[group_index], key),
+            Held::Values(values) => is_value_before(&values[group_index], key),
+            Held::Columns(columns) => columns.comes_before(group_index, key),
+            Held::Rows(rows) => is_row_before(&rows[group_index], key),
         }
+    }
+
+    /// Whether a key comes behind the last of these in their order.
+    #[inline(always)]
+    fn is_behind_last(&self, key: &Row) -> bool
+        ensures { result ≡ true → IsBehind self.now key.now }
+    {
+        let many = self.len();
+        if many == 0 {
+            return true;
+        }
+        self.comes_before(many - 1, key)
+    }
+
+    /// A copy of a key more, if it comes behind the last. Says whether it does. On an error the keys
+    /// are open.
+    pub fn push_behind(&mut self, alloc: Global, key: &Row) -> Result<bool, AllocError>
+        ensures pushed { IfOk result (λ is_behind. is_behind ≡ true
+            → self.new ≡ self.old ++ key.now ∷ []) }
+        ensures unchanged { IfOk result (λ is_behind. is_behind ≡ false → self.new ≡ self.old) }
+    {
+        if !self.is_behind_last(key) {
+            return Ok(false);
+        }
+        let do_ascend = self.do_ascend;
+        self.push_copy(alloc, key)?;
+        self.do_ascend = do_ascend;
+        Ok(true)
+    }
+
+    /// Whether each key is less than the next, as far as that was seen while they came.
+    pub fn do_ascend(&self) -> bool
+        ensures { result ≡ true → DoAscend self.now }
+    {
+        self.do_ascend
     }
 
     /// The integers that are keys alone, where all keys are.
@@ -715,6 +769,7 @@ impl KeyList {
             least: self.least,
             close,
             types,
+            do_ascend: self.do_ascend,
         })
     }
 }

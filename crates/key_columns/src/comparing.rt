@@ -1,10 +1,10 @@
 //! Whether two values that are lent are one, and their order.
-ghost use Rattle.std.specs.Prelude.{◌≡◌, true};
+ghost use Rattle.std.specs.Prelude.{◌≡◌, ◌<◌, length, true};
 ghost use Rattle.meaning.specs.declared.value.Value.TheVariants.{Int, Null, Text};
-ghost use Rattle.meaning.specs.Order.{value_cmp, value_in};
+ghost use Rattle.meaning.specs.Order.{column, value_cmp, value_in};
 
 use crate::same_bytes::are_same_bytes;
-use meaning::{ValueRef, compare_lent};
+use meaning::{Value, ValueRef, compare_lent};
 use std::cmp::Ordering;
 
 /// Whether a value is this text.
@@ -69,4 +69,13 @@ pub fn order_of(one: ValueRef<'_>, other: ValueRef<'_>) -> Ordering
         return Ordering::Equal;
     }
     compare_lent(one, other)
+}
+
+/// The order of a value and that in a column of a row.
+#[inline(always)]
+pub fn order_in(row: &[Value], at: usize, value: ValueRef<'_>) -> Ordering
+    requires { at < length row.now }
+    ensures { result ≡ value_cmp (value_in value.entry) (column row.now at) }
+{
+    order_of(value, row[at].as_value_ref())
 }

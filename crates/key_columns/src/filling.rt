@@ -105,25 +105,13 @@ pub fn cell(column: &Column, row: usize) -> ValueRef<'_>
     column.get(row)
 }
 
-/// A column with the same values, in memory of its own.
-fn copy_column(alloc: Global, column: &Column) -> Result<Column, AllocError>
-    ensures { IfOk result (λ copy. copy ≡ column.now) }
-{
-    let rows = column.len();
-    let mut copy = Column::with_capacity(alloc, column.col_type(), column.nullable(), rows)?;
-    for row in 0..rows {
-        put(&mut copy, cell(column, row))?;
-    }
-    Ok(copy)
-}
-
 /// Columns with the same values, in memory of their own.
 pub fn copy_columns(alloc: Global, columns: &[Column]) -> Result<Vec<Column>, AllocError>
     ensures { IfOk result (λ copy. copy.items ≡ columns.now) }
 {
     let mut copy = Vec::with_capacity(alloc, columns.len())?;
     for column in columns {
-        copy.push(copy_column(alloc, column)?)?;
+        copy.push(column.copy(alloc)?)?;
     }
     Ok(copy)
 }

@@ -1,10 +1,11 @@
 //! Keys of several columns, column by column.
 ghost use Rattle.std.specs.Prelude.{◌≡◌, ℕ, ◌<◌, ◌∷◌, ◌++◌, [], length, slice_index_or, true, false, IfOk, OnOk};
+ghost use Rattle.std.specs.Ordering.{is_lt};
 ghost use Rattle.meaning.specs.declared.value.Value.TheVariants.{Null};
 ghost use Rattle.meaning.specs.Order.{column, row_cmp, value_in};
 ghost use Rattle.aggregate_states.specs.Values.{is_spelled};
 
-use crate::comparing::{is_same, order_of};
+use crate::comparing::{is_same, order_in, order_of};
 use crate::filling::{cell, copy_columns, do_take, put_key};
 use aggregate_states::owned;
 use columns::Column;
@@ -182,17 +183,22 @@ impl KeyColumns {
         Ordering::Equal
     }
 
-    /// The order of a key and a row, as far as the row has a value for each column.
-    pub fn compare_with(&self, group_index: usize, row: &Row) -> Ordering
+    /// Whether a key comes before a row. One of another number of values isn't compared.
+    pub fn comes_before(&self, group_index: usize, row: &Row) -> bool
         requires { group_index < length self.now }
+        ensures { result ≡ true
+            → is_lt (row_cmp (slice_index_or self.now group_index []) row.now) ≡ true }
     {
         let row = row.as_slice();
+        if row.len() != self.columns.len() {
+            return false;
+        }
         for at in 0..row.len() {
-            let order = order_of(self.value(group_index, at), row[at].as_value_ref());
+            let order = order_in(row, at, self.value(group_index, at));
             if !order.is_eq() {
-                return order;
+                return order.is_lt();
             }
         }
-        Ordering::Equal
+        false
     }
 }

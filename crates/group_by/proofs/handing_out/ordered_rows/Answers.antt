@@ -1,6 +1,6 @@
 -- Proofs of the goals of `ordered_rows` (`handing_out`).
 use Rattle.std.proofs.Common.{rules, ◌≡◌}
-use Rattle.group_by.specs.Combined.{DoAscend}
+use Rattle.group_keys.specs.Keys.{DoAscend}
 use Rattle.group_by.specs.GroupIndexes.{by_group_index}
 use Rattle.group_by.proofs.Ascending.{ascending_groups}
 use Rattle.group_by.proofs.handing_out.ordered_rows.Goals as goal

@@ -14,7 +14,10 @@ invariant_of-self c =
     let at : c.len-group_index.result ≡ length old = search rules in
     let full : length inside.close.items ≡ inside.close.len = search rules in
     let same : length c.enter.new.entries ≡ inside.close.len = search rules in
-    let leads : LeadsTo inside.least inside.close.items keys = c.self.invariant in
+    let leads : LeadsTo inside.least inside.close.items keys = c.self.invariant.leads in
     let same_entries : inside.close.items ≡ c.as_mut_slice.result.now = search rules in
     let lent : LeadsTo inside.least c.as_mut_slice.result.now keys = subst (λ (es : List ℕ). LeadsTo inside.least es keys) same_entries leads in
-    entered inside.least inside.close.items c.enter.new.entries inside.close.len old keys c.args.int.now c.len-group_index.result is at full same (c.enter.ensures keys lent)
+    record {
+      leads = entered inside.least inside.close.items c.enter.new.entries inside.close.len old keys c.args.int.now c.len-group_index.result is at full same (c.enter.ensures keys lent);
+      ascend = c.self.invariant.ascend;
+    }

@@ -78,13 +78,16 @@ fn next_group(
     ensures { IfOk result (λ g. g ≡ group_at rows.now columns.now
         (slice_index_or keys.now group_index []) group_index) }
 {
-    let key = keys.row(alloc, group_index)?;
     match spare {
         Some(spare) => {
-            let (_, _, states) = spare.into_parts();
+            let (key, _, states) = spare.into_parts();
+            let key = keys.row_in(alloc, key, group_index)?;
             regroup(alloc, key, states.into_vec(), rows, columns, group_index)
         }
-        None => group_of(alloc, key, rows, columns, group_index),
+        None => {
+            let key = keys.row(alloc, group_index)?;
+            group_of(alloc, key, rows, columns, group_index)
+        }
     }
 }
 

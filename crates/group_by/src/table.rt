@@ -11,6 +11,7 @@ ghost use Rattle.group_by.specs.GroupIndexes.{state_at, AreAbsorbed, AreAdded, A
 ghost use Rattle.group_keys.specs.Rows.{rows_at, AreLanesOf};
 ghost use Rattle.group_by.specs.Rows.{kept_rows, IsGroupOf};
 
+use crate::ascending_groups::do_keys_ascend;
 use crate::counts::{count_rows, raise};
 use crate::handing_out::{in_order, ordered_groups};
 use crate::ordered_groups::OrderedGroups;
@@ -344,6 +345,11 @@ impl GroupTable {
     {
         let columns = ordered_columns(alloc, self.columns.as_slice())?;
         ordered_groups(alloc, &self.index.keys, self.rows.as_slice(), columns)
+    }
+
+    /// Whether the groups are made when they are asked for, since their keys came in order.
+    pub fn is_in_order(&self) -> bool {
+        do_keys_ascend(&self.index.keys)
     }
 
     /// How many groups were handed to `absorb_groups`, the copied table's too. Takes no memory.

@@ -724,6 +724,20 @@ impl KeyList {
         }
     }
 
+    /// A key, in the buffers of one that is given up.
+    pub fn row_in(&self, alloc: Global, spare: Row, group_index: usize) -> Result<Row, AllocError>
+        requires { group_index < length self.now }
+        ensures { IfOk result (λ key. key ≡ slice_index_or self.now group_index []) }
+    {
+        match &self.held {
+            Held::Columns(columns) => columns.row_in(alloc, spare, group_index),
+            _ => {
+                drop(spare);
+                self.row(alloc, group_index)
+            }
+        }
+    }
+
     /// The order of two keys.
     pub fn compare(&self, one: usize, other: usize) -> Ordering
         requires one { one < length self.now }

@@ -7,6 +7,7 @@ ghost use Rattle.aggregate_states.specs.Values.{is_spelled};
 
 use crate::comparing::{is_same, order_in, order_of};
 use crate::filling::{cell, copy_columns, do_take, put_key};
+use crate::refilling::refill_at;
 use aggregate_states::owned;
 use columns::Column;
 use meaning::{ColType, Row, Sequence, ValueRef};
@@ -111,6 +112,19 @@ impl KeyColumns {
             key.push(owned(alloc, self.value(group_index, at))?)?;
         }
         Ok(Sequence::from_vec(key))
+    }
+
+    /// A key, in the buffers of one that is given up.
+    pub fn row_in(&self, alloc: Global, spare: Row, group_index: usize) -> Result<Row, AllocError>
+        requires { group_index < length self.now }
+        ensures { IfOk result (λ key. key ≡ slice_index_or self.now group_index []) }
+    {
+        let mut values = spare.into_vec();
+        for at in 0..self.columns.len() {
+            refill_at(alloc, &mut values, at, self.value(group_index, at))?;
+        }
+        values.truncate(self.columns.len());
+        Ok(Sequence::from_vec(values))
     }
 
     /// The keys as rows.

@@ -5,6 +5,7 @@
 mod comparing;
 mod filling;
 mod key_columns;
+mod refilling;
 mod same_bytes;
 
 pub use comparing::{is_null, is_number, is_same, is_text, order_of};

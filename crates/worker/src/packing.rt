@@ -90,8 +90,8 @@ fn pack_list(alloc: Global, table: GroupTable) -> Result<PackedGroups, AllocErro
     packed
 }
 
-/// Whether each key is one integer. Of other keys a table makes all groups at once, and cheaper where
-/// it is given up.
+/// Whether each key is one integer. Of other keys that didn't come in order a table makes all groups
+/// at once, and cheaper where it is given up.
 fn is_one_integer(keys: &[GroupingKey]) -> bool {
     match keys {
         [key] => match key.col_type {
@@ -106,7 +106,7 @@ fn is_one_integer(keys: &[GroupingKey]) -> bool {
 pub fn pack_table(alloc: Global, plan: &Plan, table: GroupTable) -> Result<PackedGroups, AllocError>
     ensures { IfOk result (λ packed. packed ≡ table.groups) }
 {
-    if is_one_integer(plan.keys.as_slice()) {
+    if is_one_integer(plan.keys.as_slice()) || table.is_in_order() {
         pack_made(alloc, table)
     } else {
         pack_list(alloc, table)

@@ -1,11 +1,11 @@
 -- Groups whose keys ascend already: their order is that in which they are handed out.
-use Rattle.std.specs.Prelude.{◌≡◌, ℕ, ◌+◌, ◌<◌, true, false, cond, List, [], ◌∷◌, ◌++◌, length, map, reverse, get_or, IsPermutation}
-use Rattle.std.specs.List.{list_any}
+use Rattle.std.specs.Prelude.{◌≡◌, ℕ, ◌+◌, ◌<◌, true, false, cond, List, [], ◌∷◌, ◌++◌, length, map, reverse, All, IsPermutation}
+use Rattle.std.specs.List.{list_any, range_with_len}
 use Rattle.std.specs.Ordering.{eq_by_cmp, is_eq, is_lt}
 use Rattle.std.specs.declared.cmp.Ordering.{Ordering}
 use Rattle.std.specs.declared.cmp.Ordering.TheVariants.{Less, Equal, Greater}
 use Rattle.std.proofs.Common.{refl, sym, ap, subst, ◌∙◌, arith}
-use Rattle.std.proofs.lemmas.List.{append-nil, take_all}
+use Rattle.std.proofs.lemmas.List.{append-nil, map_push}
 use Rattle.std.proofs.lemmas.List.Sorted.{IsPermutation-reverse, IsPermutation-sym}
 use Rattle.meaning.specs.declared.answer.Group.{Group}
 use Rattle.meaning.specs.Order.{Row, row_cmp}
@@ -13,14 +13,11 @@ use Rattle.meaning.specs.Group.{beside}
 use Rattle.meaning.proofs.Groups.{beside-append, beside_none}
 use Rattle.meaning.proofs.Orders.{row_total}
 use Rattle.accumulators.specs.Columns.{ColumnSpec}
-use Rattle.group_by.specs.declared.int_groups.IntGroup.{IntGroup}
 use Rattle.group_by.specs.Combined.{IsInOrder, SameBeside}
-use Rattle.group_keys.specs.Keys.{DoAscend}
-use Rattle.group_by.specs.IntGroups.{indexed_group, AreApart, AreIndexed, AreOrdered}
+use Rattle.group_by.specs.KeyOrder.{groups_at, AreApart, AreOrdered}
 use Rattle.group_by.specs.GroupIndexes.{by_group_index}
-use Rattle.group_by.proofs.Batches.{by_group_index-at, by_group_index-length}
 use Rattle.group_by.proofs.Combining.{reverse_cons}
-use Rattle.group_by.proofs.SortedInts.{AreUp, apart_up, combined_up_is, first_up, map_push, next_up, not_equal, rises_up}
+use Rattle.group_by.proofs.Sorting.{AreUp, apart_up, combined_up_is, first_up, next_up, not_equal, range_within, rises_up}
 
 -- each group's key comes behind this one
 abbrev AreBehind : Row → List Group → Type 0
@@ -87,24 +84,8 @@ module _ (keys : List Row) (rows : List ℕ) (columns : List ColumnSpec) (gs : L
     are = sym (combined_up_is gs up);
   }
 
-pub ascending_groups : (keys : List Row) (rows : List ℕ) (columns : List ColumnSpec) (gs : List Group) → DoAscend keys → gs ≡ by_group_index keys rows columns → IsInOrder keys rows columns gs
-ascending_groups keys rows columns gs ascend all =
-    let b = by_group_index keys rows columns in
-    let up : AreUp b = λ k d l.
-    let here : k + 1 < length keys = subst (λ (n : ℕ). k + 1 < n) (by_group_index-length keys rows columns) l in
-    let one : (get_or b k d).key ≡ get_or keys k [] = ap (λ (g : Group). g.key) (by_group_index-at keys rows columns k d (omega (arith, here))) in
-    let two : (get_or b (k + 1) d).key ≡ get_or keys (k + 1) [] = ap (λ (g : Group). g.key) (by_group_index-at keys rows columns (k + 1) d here) in
-    (λ i. is_lt (row_cmp (one i) (two i))) ∙ ascend k [] here
-    in
-    in_order_already keys rows columns gs all (subst AreUp (sym all) up)
-
-module _ (keys : List Row) (indexed : List IntGroup) (are : AreIndexed keys (length keys) indexed) (apart : AreApart indexed) where
-  in_their_order : (rows : List ℕ) (columns : List ColumnSpec) → IsInOrder keys rows columns (map (indexed_group rows columns) indexed)
-  in_their_order rows columns =
-      let b = by_group_index keys rows columns in
-      let f = indexed_group rows columns in
-      let all : map f indexed ≡ b = are.groups rows columns ∙ take_all (length keys) b (let e = by_group_index-length keys rows columns in omega (arith, e)) in
-      in_order_already keys rows columns (map f indexed) all (apart_up f (λ p. refl) indexed apart)
-
-  pub ordered_already : AreOrdered keys indexed
-  ordered_already = record { groups = in_their_order; within = are.within }
+pub ordered_already : (keys : List Row) (order : List ℕ) → order ≡ range_with_len 0 (length keys) → AreApart keys order → AreOrdered keys order
+ordered_already keys order is apart = record {
+  groups = λ rows columns. in_order_already keys rows columns (groups_at keys rows columns order) (ap (groups_at keys rows columns) is) (apart_up keys rows columns order apart);
+  within = subst (λ (is : List ℕ). All (λ (i : ℕ). i < length keys) is) (sym is) (range_within (length keys));
+}

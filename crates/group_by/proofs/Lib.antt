@@ -12,10 +12,10 @@ pub mod FreshColumns
 pub mod Fresh
 pub mod Combining
 pub mod Handing
-pub mod SortedInts
+pub mod Sorting
+pub mod IntKeys
 pub mod Ascending
 pub mod Own
 pub mod Absorbing
 pub mod Pieces
 pub mod Slices
-pub mod AscendingPlaces

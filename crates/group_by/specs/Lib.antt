@@ -4,6 +4,5 @@ pub mod Groups
 pub mod Rows
 pub mod GroupIndexes
 pub mod Combined
-pub mod IntGroups
+pub mod KeyOrder
 pub mod OrderedGroups
-pub mod AscendingGroups

@@ -9,9 +9,7 @@ use Rattle.group_by.specs.declared.group_slice.HeldSlice.TheVariants as slice
 abbrev pub groups_in : HeldGroups → List Group
 groups_in (held.Made groups) = groups.items
 groups_in (held.Unmade groups) = groups
-groups_in (held.Ascending groups) = groups
 
 abbrev pub groups_lent : HeldSlice → List Group
 groups_lent (slice.Made groups) = groups.now
 groups_lent (slice.Unmade groups) = groups
-groups_lent (slice.Ascending groups) = groups

@@ -8,7 +8,6 @@ ghost use Rattle.aggregate_states.specs.Fault.{fault_returned};
 ghost use Rattle.aggregate_states.specs.Values.{fits};
 ghost use Rattle.group_by.specs.OrderedGroups.{groups_lent};
 
-use crate::ascending_groups::AscendingSlice;
 use crate::unmade_groups::UnmadeSlice;
 use aggregate_states::{AggFault, Group, column_value, value_of};
 use group_index::copy_key;
@@ -20,7 +19,6 @@ use std::marker::Model;
 pub enum HeldSlice<'a> {
     Made(&'a [Group]),
     Unmade(UnmadeSlice<'a>),
-    Ascending(AscendingSlice<'a>),
 }
 
 /// Groups one behind the other, lent: groups that are made, or those of a table, none of which is.
@@ -73,21 +71,12 @@ impl<'a> GroupSlice<'a> {
         }
     }
 
-    /// Groups of integers.
+    /// Groups of which none is made.
     pub fn of_unmade(groups: UnmadeSlice<'a>) -> GroupSlice<'a>
         ensures { result ≡ groups.entry }
     {
         GroupSlice {
             held: HeldSlice::Unmade(groups),
-        }
-    }
-
-    /// Groups of keys that ascend.
-    pub fn of_ascending(groups: AscendingSlice<'a>) -> GroupSlice<'a>
-        ensures { result ≡ groups.entry }
-    {
-        GroupSlice {
-            held: HeldSlice::Ascending(groups),
         }
     }
 
@@ -98,7 +87,6 @@ impl<'a> GroupSlice<'a> {
         match &self.held {
             HeldSlice::Made(groups) => groups.len(),
             HeldSlice::Unmade(groups) => groups.len(),
-            HeldSlice::Ascending(groups) => groups.len(),
         }
     }
 
@@ -111,7 +99,6 @@ impl<'a> GroupSlice<'a> {
         match &self.held {
             HeldSlice::Made(groups) => GroupSlice::of(&groups[from..to]),
             HeldSlice::Unmade(groups) => GroupSlice::of_unmade(groups.part(from, to)),
-            HeldSlice::Ascending(groups) => GroupSlice::of_ascending(groups.part(from, to)),
         }
     }
 
@@ -140,7 +127,6 @@ impl<'a> GroupSlice<'a> {
         match &self.held {
             HeldSlice::Made(groups) => group_in(groups, group).rows(),
             HeldSlice::Unmade(groups) => groups.rows(group),
-            HeldSlice::Ascending(groups) => groups.rows(group),
         }
     }
 
@@ -152,7 +138,6 @@ impl<'a> GroupSlice<'a> {
         match &self.held {
             HeldSlice::Made(groups) => copy_key(alloc, group_in(groups, group).key()),
             HeldSlice::Unmade(groups) => groups.key(alloc, group),
-            HeldSlice::Ascending(groups) => groups.key(alloc, group),
         }
     }
 
@@ -165,7 +150,6 @@ impl<'a> GroupSlice<'a> {
         match &self.held {
             HeldSlice::Made(groups) => column_value(group_in(groups, group).key(), at),
             HeldSlice::Unmade(groups) => groups.key_value(group, at),
-            HeldSlice::Ascending(groups) => groups.key_value(group, at),
         }
     }
 
@@ -194,7 +178,6 @@ impl<'a> GroupSlice<'a> {
                 value_in_group(alloc, kind, group_in(groups, group), aggregate)
             }
             HeldSlice::Unmade(groups) => groups.value(alloc, kind, group, aggregate),
-            HeldSlice::Ascending(groups) => groups.value(alloc, kind, group, aggregate),
         }
     }
 }

@@ -1,19 +1,16 @@
 //! The groups of a table in the order of their keys, those of one key as one.
-ghost use Rattle.std.specs.Prelude.{◌≡◌, ℕ, ◌<◌, ◌≤◌, ◌+◌, ◌∷◌, true, length, map, reverse, slice_index_or, slice_index, sum, All, IfOk, IfSome, OnOk, IsPermutation};
-ghost use Rattle.std.specs.Ordering.{is_lt};
+ghost use Rattle.std.specs.Prelude.{◌≡◌, ℕ, ◌<◌, ◌≤◌, ◌+◌, ◌∷◌, length, map, reverse, slice_index_or, slice_index, sum, All, IfOk, OnOk, IsPermutation};
 ghost use Rattle.meaning.specs.Aggregate.{merge, no_statistics};
 ghost use Rattle.meaning.specs.Group.{merge_groups};
-ghost use Rattle.meaning.specs.Order.{Row as ARow, row_cmp};
+ghost use Rattle.meaning.specs.Order.{row_cmp};
 ghost use Rattle.aggregate_states.specs.State.{most_entries};
 ghost use Rattle.group_by.specs.Combined.{combined, put_before, zipped, AreFit, AreMergeable, IsInOrder, MergesWithFirst, Rises, SameBeside};
-ghost use Rattle.group_by.specs.IntGroups.{AreOrdered};
-ghost use Rattle.group_keys.specs.Keys.{DoAscend};
 ghost use Rattle.group_by.specs.GroupIndexes.{by_group_index, group_at, state_at, state_in};
 
-use crate::ascending_groups::{AscendingGroups, do_keys_ascend};
-use crate::int_groups::{IntGroup, indexed_groups, ordered_ints};
+use crate::key_order::key_order;
 use crate::ordered_groups::OrderedGroups;
 use crate::state_columns::ordered_columns;
+use crate::unmade_groups::{UnmadeGroups, made_groups};
 use accumulators::{Group, OrderedStates, State, StateColumn};
 use group_index::{KeyList, are_equal, compare_keys, copy_key};
 use meaning::{Row, Sequence};
@@ -195,45 +192,9 @@ fn combine(alloc: Global, groups: Vec<Group>, width: usize) -> Result<Vec<Group>
     Ok(out)
 }
 
-fn comes_before(keys: &[Row], k: usize) -> bool
-    requires { k + 1 < length keys.now }
-    ensures { (d : ARow) → result ≡ true
-        → is_lt (row_cmp (slice_index_or keys.now k d) (slice_index_or keys.now (k + 1) d)) ≡ true }
-{
-    compare_keys(&keys[k], &keys[k + 1]).is_lt()
-}
-
-/// Whether each key is less than the next.
-fn do_ascend(keys: &[Row]) -> bool
-    ensures { result ≡ true → DoAscend keys.now }
-{
-    for k in 1..keys.len() {
-        if !comes_before(keys, k - 1) {
-            return false;
-        }
-    }
-    true
-}
-
-/// The groups of keys that ascend, none of them moved to another place.
-fn ascending(
-    alloc: Global,
-    keys: Vec<Row>,
-    rows: &[u64],
-    columns: &[OrderedStates<'_>],
-) -> Result<Vec<Group>, AllocError>
-    requires ascending { DoAscend keys.items }
-    requires rows { length rows.now ≡ length keys.items }
-    requires columns { All (λ c. length c.states ≡ length keys.items) columns.now }
-    ensures { IfOk result (λ groups. IsInOrder keys.items rows.now columns.now groups.items) }
-{
-    let mut groups = last_first(alloc, keys, rows, columns)?;
-    groups.reverse();
-    Ok(groups)
-}
-
-/// The groups in the order of their keys, those of one key as one.
-fn rows_in_order(
+/// The groups of keys of which some may stand twice, in the order of their keys, those of one key
+/// as one.
+fn combined_groups(
     alloc: Global,
     keys: Vec<Row>,
     rows: &[u64],
@@ -246,9 +207,6 @@ fn rows_in_order(
         → (state_at columns.now c group_index).count ≤ slice_index rows.now group_index }
     ensures { IfOk result (λ groups. IsInOrder keys.items rows.now columns.now groups.items) }
 {
-    if do_ascend(keys.as_slice()) {
-        return ascending(alloc, keys, rows, columns);
-    }
     let mut groups = last_first(alloc, keys, rows, columns)?;
     match sort(&mut groups) {
         Ok(()) => combine(alloc, groups, columns.len()),
@@ -259,80 +217,49 @@ fn rows_in_order(
     }
 }
 
-/// The keys in order, where each is one integer and none stands twice.
-fn keys_as_ints(alloc: Global, keys: &KeyList) -> Result<Option<Vec<IntGroup>>, AllocError>
-    ensures { IfOk result (λ found. IfSome found (λ indexed. AreOrdered keys.now indexed.items)) }
-{
-    match keys.ints() {
-        Some(ints) => ordered_ints(alloc, ints),
-        None => Ok(None),
-    }
-}
-
 /// The groups in the order of their keys, from columns that are ready to be handed out.
-fn keys_in_order(
+fn groups_in_order(
     alloc: Global,
-    keys: KeyList,
+    keys: &KeyList,
     rows: &[u64],
     columns: &[OrderedStates<'_>],
 ) -> Result<Vec<Group>, AllocError>
-    requires rows { length rows.now ≡ length keys }
-    requires columns { All (λ c. length c.states ≡ length keys) columns.now }
+    requires rows { length rows.now ≡ length keys.now }
+    requires columns { All (λ c. length c.states ≡ length keys.now) columns.now }
     requires few { sum rows.now ≤ most_entries }
     requires within { (c group_index : ℕ)
         → (state_at columns.now c group_index).count ≤ slice_index rows.now group_index }
-    ensures { IfOk result (λ groups. IsInOrder keys rows.now columns.now groups.items) }
+    ensures { IfOk result (λ groups. IsInOrder keys.now rows.now columns.now groups.items) }
 {
-    if let Some(indexed) = keys_as_ints(alloc, &keys)? {
-        let spare = Vec::new(alloc);
-        return indexed_groups(alloc, spare, indexed.as_slice(), rows, columns);
+    match key_order(alloc, keys)? {
+        Some(order) => {
+            let spare = Vec::new(alloc);
+            made_groups(alloc, spare, keys, order.as_slice(), rows, columns)
+        }
+        None => combined_groups(alloc, keys.rows(alloc)?, rows, columns),
     }
-    rows_in_order(alloc, keys.into_rows(alloc)?, rows, columns)
 }
 
 /// The groups in the order of their keys, those of one key as one.
 pub fn in_order(
     alloc: Global,
-    keys: KeyList,
+    keys: &KeyList,
     rows: &[u64],
     columns: &[StateColumn],
 ) -> Result<Vec<Group>, AllocError>
-    requires rows { length rows.now ≡ length keys }
-    requires columns { All (λ c. length c.states ≡ length keys) columns.now }
+    requires rows { length rows.now ≡ length keys.now }
+    requires columns { All (λ c. length c.states ≡ length keys.now) columns.now }
     requires few { sum rows.now ≤ most_entries }
     requires within { (c group_index : ℕ)
         → (state_at columns.now c group_index).count ≤ slice_index rows.now group_index }
-    ensures { IfOk result (λ groups. IsInOrder keys rows.now columns.now groups.items) }
+    ensures { IfOk result (λ groups. IsInOrder keys.now rows.now columns.now groups.items) }
 {
     let columns = ordered_columns(alloc, columns)?;
-    keys_in_order(alloc, keys, rows, columns.as_slice())
+    groups_in_order(alloc, keys, rows, columns.as_slice())
 }
 
-/// The groups in the order of their keys, those of one key as one, from keys that are no integers
-/// alone and stay as they are. Those of keys that ascend are made when they are asked for.
-fn ordered_rows<'a>(
-    alloc: Global,
-    keys: &'a KeyList,
-    rows: &'a [u64],
-    columns: Vec<OrderedStates<'a>>,
-) -> Result<OrderedGroups<'a>, AllocError>
-    requires rows { length rows.now ≡ length keys.now }
-    requires columns { All (λ c. length c.states ≡ length keys.now) columns.items }
-    requires few { sum rows.now ≤ most_entries }
-    requires within { (c group_index : ℕ)
-        → (state_at columns.items c group_index).count ≤ slice_index rows.now group_index }
-    ensures { IfOk result
-        (λ groups. IsInOrder keys.entry.now rows.entry.now columns.entry.items groups) }
-{
-    if do_keys_ascend(keys) {
-        return Ok(OrderedGroups::ascending(AscendingGroups::new(keys, rows, columns)));
-    }
-    let keys = keys.rows(alloc)?;
-    Ok(OrderedGroups::made(rows_in_order(alloc, keys, rows, columns.as_slice())?))
-}
-
-/// The groups in the order of their keys, those of one key as one. Those of integers, and those of
-/// keys that ascend, are made when they are asked for.
+/// The groups in the order of their keys, those of one key as one. Unless some key stands twice
+/// they are made when they are asked for.
 pub fn ordered_groups<'a>(
     alloc: Global,
     keys: &'a KeyList,
@@ -347,8 +274,9 @@ pub fn ordered_groups<'a>(
     ensures { IfOk result
         (λ groups. IsInOrder keys.entry.now rows.entry.now columns.entry.items groups) }
 {
-    match keys_as_ints(alloc, keys)? {
-        Some(indexed) => Ok(OrderedGroups::unmade(indexed, rows, columns)),
-        None => ordered_rows(alloc, keys, rows, columns),
+    if let Some(order) = key_order(alloc, keys)? {
+        return Ok(OrderedGroups::unmade(UnmadeGroups::new(keys, order, rows, columns)));
     }
+    let keys = keys.rows(alloc)?;
+    Ok(OrderedGroups::made(combined_groups(alloc, keys, rows, columns.as_slice())?))
 }

@@ -1,11 +1,11 @@
 //! Groups: the set of the keys, with the states of each one's rows.
 #![tactic(auto)]
 
-mod ascending_groups;
 mod counts;
 mod group_slice;
 mod handing_out;
-mod int_groups;
+mod int_order;
+mod key_order;
 mod laws;
 mod ordered_groups;
 mod state_columns;

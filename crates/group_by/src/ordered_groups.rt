@@ -1,14 +1,10 @@
-//! Groups in the order of their keys, of which those of integers, and those whose keys came
-//! in their order, are made a batch at a time.
-ghost use Rattle.std.specs.Prelude.{◌≡◌, ◌≤◌, ◌-◌, [], length, map, take, drop, IfOk};
+//! Groups in the order of their keys, made a batch at a time.
+ghost use Rattle.std.specs.Prelude.{◌≡◌, ◌≤◌, ◌-◌, [], length, take, drop, IfOk};
 ghost use Rattle.std.specs.Cow.{cow_slice_items, IsBorrowedSlice, IsOwnedSlice};
-ghost use Rattle.group_by.specs.IntGroups.{indexed_group, AreThere};
 
-use crate::ascending_groups::AscendingGroups;
 use crate::group_slice::GroupSlice;
-use crate::int_groups::IntGroup;
 use crate::unmade_groups::UnmadeGroups;
-use accumulators::{Group, OrderedStates};
+use accumulators::Group;
 use std::alloc::{AllocError, Global};
 use std::borrow::CowSlice;
 use std::marker::Model;
@@ -29,11 +25,10 @@ pub fn spare_groups(alloc: Global, batch: CowSlice<'_, Group>) -> Vec<Group>
 pub enum HeldGroups<'a> {
     Made(Vec<Group>),
     Unmade(UnmadeGroups<'a>),
-    Ascending(AscendingGroups<'a>),
 }
 
-/// Groups in the order of their keys. Contracts see their list. Where each key is one integer, or
-/// the keys came in their order, no group is made before a batch asks for it.
+/// Groups in the order of their keys. Contracts see their list. No group is made before a batch
+/// asks for it, unless some key stands twice in a list of keys.
 #[derive(Drop)]
 pub struct OrderedGroups<'a> {
     held: HeldGroups<'a>,
@@ -60,26 +55,12 @@ impl<'a> OrderedGroups<'a> {
         }
     }
 
-    /// The groups of integers in this order.
-    pub fn unmade(
-        indexed: Vec<IntGroup>,
-        rows: &'a [u64],
-        columns: Vec<OrderedStates<'a>>,
-    ) -> OrderedGroups<'a>
-        requires { AreThere rows.now columns.items indexed.items }
-        ensures { result ≡ map (indexed_group rows.entry.now columns.entry.items) indexed.items }
-    {
-        OrderedGroups {
-            held: HeldGroups::Unmade(UnmadeGroups::new(indexed, rows, columns)),
-        }
-    }
-
-    /// The groups of keys that ascend.
-    pub fn ascending(groups: AscendingGroups<'a>) -> OrderedGroups<'a>
+    /// Groups of which none is made.
+    pub fn unmade(groups: UnmadeGroups<'a>) -> OrderedGroups<'a>
         ensures { result ≡ groups.entry }
     {
         OrderedGroups {
-            held: HeldGroups::Ascending(groups),
+            held: HeldGroups::Unmade(groups),
         }
     }
 
@@ -90,7 +71,6 @@ impl<'a> OrderedGroups<'a> {
         match &self.held {
             HeldGroups::Made(groups) => groups.len(),
             HeldGroups::Unmade(groups) => groups.len(),
-            HeldGroups::Ascending(groups) => groups.len(),
         }
     }
 
@@ -117,9 +97,6 @@ impl<'a> OrderedGroups<'a> {
             HeldGroups::Unmade(groups) => {
                 Ok(CowSlice::Owned(groups.batch(alloc, from, to, spare)?))
             }
-            HeldGroups::Ascending(groups) => {
-                Ok(CowSlice::Owned(groups.batch(alloc, from, to, spare)?))
-            }
         }
     }
 
@@ -135,7 +112,6 @@ impl<'a> OrderedGroups<'a> {
                 GroupSlice::of(&groups[from..to])
             }
             HeldGroups::Unmade(groups) => GroupSlice::of_unmade(groups.slice(from, to)),
-            HeldGroups::Ascending(groups) => GroupSlice::of_ascending(groups.slice(from, to)),
         }
     }
 }

@@ -11,7 +11,6 @@ ghost use Rattle.group_by.specs.GroupIndexes.{state_at, AreAbsorbed, AreAdded, A
 ghost use Rattle.group_keys.specs.Rows.{rows_at, AreLanesOf};
 ghost use Rattle.group_by.specs.Rows.{kept_rows, IsGroupOf};
 
-use crate::ascending_groups::do_keys_ascend;
 use crate::counts::{count_rows, raise};
 use crate::handing_out::{in_order, ordered_groups};
 use crate::ordered_groups::OrderedGroups;
@@ -311,19 +310,7 @@ impl GroupTable {
         ensures fit { IfOk result (λ groups. All (IsGroupOf self.shape) groups) }
         ensures rows { IfOk result (λ groups. all_rows groups ≡ self.rows) }
     {
-        let GroupTable {
-            index,
-            rows,
-            columns,
-            ..
-        } = self;
-        let groups = in_order(
-            alloc,
-            index.into_keys(),
-            rows.as_slice(),
-            columns.as_slice(),
-        )?;
-        Ok(Sequence::from_vec(groups))
+        self.groups(alloc)
     }
 
     /// The groups in the order of their keys.
@@ -332,8 +319,12 @@ impl GroupTable {
         ensures fit { IfOk result (λ groups. All (IsGroupOf self.now.shape) groups) }
         ensures rows { IfOk result (λ groups. all_rows groups ≡ self.now.rows) }
     {
-        let keys = self.index.keys.copy(alloc)?;
-        let groups = in_order(alloc, keys, self.rows.as_slice(), self.columns.as_slice())?;
+        let groups = in_order(
+            alloc,
+            &self.index.keys,
+            self.rows.as_slice(),
+            self.columns.as_slice(),
+        )?;
         Ok(Sequence::from_vec(groups))
     }
 
@@ -345,11 +336,6 @@ impl GroupTable {
     {
         let columns = ordered_columns(alloc, self.columns.as_slice())?;
         ordered_groups(alloc, &self.index.keys, self.rows.as_slice(), columns)
-    }
-
-    /// Whether the groups are made when they are asked for, since their keys came in order.
-    pub fn is_in_order(&self) -> bool {
-        do_keys_ascend(&self.index.keys)
     }
 
     /// How many groups were handed to `absorb_groups`, the copied table's too. Takes no memory.

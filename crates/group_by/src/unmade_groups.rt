@@ -1,56 +1,109 @@
-//! The groups of integers, of which none is made before it is asked for.
-ghost use Rattle.std.specs.Prelude.{◌≡◌, ◌<◌, ◌≤◌, ◌-◌, ◌∷◌, [], length, map, slice_index, slice_index_or, take, drop, true, All, IfOk};
+//! Groups at their group indexes, of which none is made before it is asked for.
+ghost use Rattle.std.specs.Prelude.{◌≡◌, ℕ, ◌<◌, ◌≤◌, ◌-◌, [], length, slice_index_or, take, drop, true, All, IfOk};
 ghost use Rattle.meaning.specs.declared.answer.Group.{Group as AGroup};
-ghost use Rattle.meaning.specs.declared.value.Value.TheVariants.{Int};
 ghost use Rattle.meaning.specs.Aggregate.{no_statistics, value};
 ghost use Rattle.meaning.specs.Order.{column, value_in};
 ghost use Rattle.meaning.specs.Wanting.{ReportsIfMemory};
 ghost use Rattle.aggregate_states.specs.Fault.{fault_returned};
 ghost use Rattle.aggregate_states.specs.Values.{fits};
-ghost use Rattle.group_by.specs.GroupIndexes.{state_at};
-ghost use Rattle.group_by.specs.IntGroups.{indexed_group, AreThere};
-ghost use Rattle.group_by.specs.declared.int_groups.IntGroup.{IntGroup as AnIntGroup};
+ghost use Rattle.group_by.specs.GroupIndexes.{group_at, state_at};
+ghost use Rattle.group_by.specs.KeyOrder.{groups_at, AreThere};
 
-use crate::int_groups::{IntGroup, indexed_groups};
+use crate::handing_out::{group_of, regroup};
 use accumulators::{Group, OrderedStates};
 use aggregate_states::AggFault;
-use group_index::key_of_value;
-use meaning::{AggregateKind, Row, Value, ValueRef};
+use group_index::KeyList;
+use meaning::{AggregateKind, Row, ValueRef};
 use std::alloc::{AllocError, Global};
 use std::marker::Model;
 
-/// The groups of integers, none of them made.
+/// The group at a group index, in the buffers of one that is given up, if there is one.
+fn next_group(
+    alloc: Global,
+    spare: Option<Group>,
+    keys: &KeyList,
+    rows: &[u64],
+    columns: &[OrderedStates<'_>],
+    group_index: usize,
+) -> Result<Group, AllocError>
+    requires keys { group_index < length keys.now }
+    requires rows { length rows.now ≡ length keys.now }
+    requires columns { All (λ c. length c.states ≡ length keys.now) columns.now }
+    ensures { IfOk result (λ g. g ≡ group_at rows.now columns.now
+        (slice_index_or keys.now group_index []) group_index) }
+{
+    match spare {
+        Some(spare) => {
+            let (key, _, states) = spare.into_parts();
+            let key = keys.row_in(alloc, key, group_index)?;
+            regroup(alloc, key, states.into_vec(), rows, columns, group_index)
+        }
+        None => {
+            let key = keys.row(alloc, group_index)?;
+            group_of(alloc, key, rows, columns, group_index)
+        }
+    }
+}
+
+/// The groups at these group indexes, in the buffers of groups that are given up.
+pub fn made_groups(
+    alloc: Global,
+    spare: Vec<Group>,
+    keys: &KeyList,
+    order: &[usize],
+    rows: &[u64],
+    columns: &[OrderedStates<'_>],
+) -> Result<Vec<Group>, AllocError>
+    requires order { All (λ group_index. group_index < length keys.now) order.now }
+    requires rows { length rows.now ≡ length keys.now }
+    requires columns { All (λ c. length c.states ≡ length keys.now) columns.now }
+    ensures { IfOk result (λ groups. groups.items
+        ≡ groups_at keys.now rows.now columns.now order.now) }
+{
+    let mut spare = spare;
+    let mut groups = Vec::with_capacity(alloc, order.len())?;
+    for k in 0..order.len() {
+        groups.push(next_group(alloc, spare.pop(), keys, rows, columns, order[k])?)?;
+    }
+    Ok(groups)
+}
+
+/// Groups in some order, none of them made.
 #[derive(Drop)]
 pub struct UnmadeGroups<'a> {
-    indexed: Vec<IntGroup>,
+    keys: &'a KeyList,
+    order: Vec<usize>,
     rows: &'a [u64],
     columns: Vec<OrderedStates<'a>>,
 }
 
 impl<'a> Model for UnmadeGroups<'a> {
-    ghost use Rattle.std.specs.Prelude.{List, map};
+    ghost use Rattle.std.specs.Prelude.{List};
     ghost use Rattle.meaning.specs.declared.answer.Group.{Group as AGroup};
-    ghost use Rattle.group_by.specs.IntGroups.{indexed_group, AreThere};
+    ghost use Rattle.group_by.specs.KeyOrder.{groups_at, AreThere};
 
     ghost Value = { List AGroup };
 
-    ghost view = { λ g. map (indexed_group g.rows.now g.columns.items) g.indexed.items };
+    ghost view = { λ g. groups_at g.keys.now g.rows.now g.columns.items g.order.items };
 
-    ghost invariant = { λ g. AreThere g.rows.now g.columns.items g.indexed.items };
+    ghost invariant = { λ g. AreThere g.keys.now g.rows.now g.columns.items g.order.items };
 }
 
 impl<'a> UnmadeGroups<'a> {
-    /// The groups of integers in this order.
+    /// The groups at these group indexes.
     pub fn new(
-        indexed: Vec<IntGroup>,
+        keys: &'a KeyList,
+        order: Vec<usize>,
         rows: &'a [u64],
         columns: Vec<OrderedStates<'a>>,
     ) -> UnmadeGroups<'a>
-        requires { AreThere rows.now columns.items indexed.items }
-        ensures { result ≡ map (indexed_group rows.entry.now columns.entry.items) indexed.items }
+        requires { AreThere keys.now rows.now columns.items order.items }
+        ensures { result ≡ groups_at keys.entry.now rows.entry.now columns.entry.items
+            order.items }
     {
         UnmadeGroups {
-            indexed,
+            keys,
+            order,
             rows,
             columns,
         }
@@ -60,7 +113,7 @@ impl<'a> UnmadeGroups<'a> {
     pub fn len(&self) -> usize
         ensures { result ≡ length self.now }
     {
-        self.indexed.len()
+        self.order.len()
     }
 
     /// The groups from one place up to another, in the buffers of groups that are given up.
@@ -75,11 +128,12 @@ impl<'a> UnmadeGroups<'a> {
         requires within { to ≤ length self.now }
         ensures { IfOk result (λ groups. groups.items ≡ take (to - from) (drop from self.now)) }
     {
-        let indexed = self.indexed.as_slice();
-        indexed_groups(
+        let order = self.order.as_slice();
+        made_groups(
             alloc,
             spare,
-            &indexed[from..to],
+            self.keys,
+            &order[from..to],
             self.rows,
             self.columns.as_slice(),
         )
@@ -91,41 +145,27 @@ impl<'a> UnmadeGroups<'a> {
         requires within { to ≤ length self.now }
         ensures { result ≡ take (to - from) (drop from self.now) }
     {
-        let indexed = self.indexed.as_slice();
+        let order = self.order.as_slice();
         UnmadeSlice {
-            indexed: &indexed[from..to],
+            keys: self.keys,
+            order: &order[from..to],
             rows: self.rows,
             columns: self.columns.as_slice(),
         }
     }
 }
 
-fn one_of(indexed: &[IntGroup], group: usize) -> &IntGroup
-    requires { group < length indexed.now }
-    ensures { (d : AnIntGroup) → result.now ≡ slice_index_or indexed.now group d }
+/// The group index of a group of a slice.
+#[inline(always)]
+fn group_index_of(order: &[usize], group: usize) -> usize
+    requires { group < length order.now }
+    ensures { (d : ℕ) → result ≡ slice_index_or order.now group d }
 {
-    &indexed[group]
-}
-
-fn rows_of(rows: &[u64], one: &IntGroup) -> u64
-    requires { one.now.group_index < length rows.now }
-    ensures { result ≡ slice_index rows.now one.now.group_index }
-{
-    rows[one.group_index]
-}
-
-/// The value in a column of the key of an integer alone: the integer, and NULL past it.
-fn column_of_int<'a>(int: i64, at: usize) -> ValueRef<'a>
-    ensures { value_in result ≡ column (Int int ∷ []) at }
-{
-    if at == 0 {
-        return ValueRef::Int(int);
-    }
-    ValueRef::Null
+    order[group]
 }
 
 /// The value of an aggregate of a kind with the state at a group index of a column.
-pub fn value_at<'a>(
+fn value_at<'a>(
     alloc: Global,
     kind: AggregateKind,
     columns: &'a [OrderedStates<'a>],
@@ -141,24 +181,25 @@ pub fn value_at<'a>(
     columns[aggregate].value(alloc, kind, group_index)
 }
 
-/// Some groups of integers, lent.
+/// Some groups, lent.
 #[derive(Drop)]
 pub struct UnmadeSlice<'a> {
-    indexed: &'a [IntGroup],
+    keys: &'a KeyList,
+    order: &'a [usize],
     rows: &'a [u64],
     columns: &'a [OrderedStates<'a>],
 }
 
 impl<'a> Model for UnmadeSlice<'a> {
-    ghost use Rattle.std.specs.Prelude.{List, map};
+    ghost use Rattle.std.specs.Prelude.{List};
     ghost use Rattle.meaning.specs.declared.answer.Group.{Group as AGroup};
-    ghost use Rattle.group_by.specs.IntGroups.{indexed_group, AreThere};
+    ghost use Rattle.group_by.specs.KeyOrder.{groups_at, AreThere};
 
     ghost Value = { List AGroup };
 
-    ghost view = { λ s. map (indexed_group s.rows.now s.columns.now) s.indexed.now };
+    ghost view = { λ s. groups_at s.keys.now s.rows.now s.columns.now s.order.now };
 
-    ghost invariant = { λ s. AreThere s.rows.now s.columns.now s.indexed.now };
+    ghost invariant = { λ s. AreThere s.keys.now s.rows.now s.columns.now s.order.now };
 }
 
 impl<'a> UnmadeSlice<'a> {
@@ -166,7 +207,7 @@ impl<'a> UnmadeSlice<'a> {
     pub fn len(&self) -> usize
         ensures { result ≡ length self.now }
     {
-        self.indexed.len()
+        self.order.len()
     }
 
     /// The groups from one place up to another.
@@ -176,7 +217,8 @@ impl<'a> UnmadeSlice<'a> {
         ensures { result ≡ take (to - from) (drop from self.now) }
     {
         UnmadeSlice {
-            indexed: &self.indexed[from..to],
+            keys: self.keys,
+            order: &self.order[from..to],
             rows: self.rows,
             columns: self.columns,
         }
@@ -187,7 +229,8 @@ impl<'a> UnmadeSlice<'a> {
         requires { group < length self.now }
         ensures { (d : AGroup) → result ≡ (slice_index_or self.now group d).rows }
     {
-        rows_of(self.rows, one_of(self.indexed, group))
+        let group_index = group_index_of(self.order, group);
+        self.rows[group_index]
     }
 
     /// The key of a group, in memory of its own.
@@ -195,8 +238,8 @@ impl<'a> UnmadeSlice<'a> {
         requires { group < length self.now }
         ensures { IfOk result (λ key. (d : AGroup) → key ≡ (slice_index_or self.now group d).key) }
     {
-        let one = one_of(self.indexed, group);
-        key_of_value(alloc, Value::Int(one.int))
+        let group_index = group_index_of(self.order, group);
+        self.keys.row(alloc, group_index)
     }
 
     /// The value in a column of a group's key, and NULL past the last.
@@ -205,7 +248,8 @@ impl<'a> UnmadeSlice<'a> {
         ensures { (d : AGroup) → value_in result
             ≡ column (slice_index_or self.now group d).key at }
     {
-        column_of_int(one_of(self.indexed, group).int, at)
+        let group_index = group_index_of(self.order, group);
+        self.keys.value(group_index, at)
     }
 
     /// The value of an aggregate of a kind with a state of a group, lent where the state holds it.
@@ -228,7 +272,7 @@ impl<'a> UnmadeSlice<'a> {
             no_statistics)) }
         ensures fits { IfOk result (λ v. fits (value_in v) ≡ true) }
     {
-        let one = one_of(self.indexed, group);
-        value_at(alloc, kind, self.columns, aggregate, one.group_index)
+        let group_index = group_index_of(self.order, group);
+        value_at(alloc, kind, self.columns, aggregate, group_index)
     }
 }

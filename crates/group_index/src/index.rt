@@ -48,8 +48,6 @@ pub struct KeyIndex {
     led: usize,
     // A power of two of them, at least half of them empty.
     slots: Vec<Slot>,
-    // How many of the first keys came in order, each behind all before it.
-    ordered: usize,
     // How many of the last keys the hash table doesn't lead to, since they came in order.
     unled: u32,
     // Where the next of keys that come in order is expected.
@@ -187,7 +185,6 @@ impl KeyIndex {
             keys,
             led: 0,
             slots: Vec::new(alloc),
-            ordered: 0,
             unled: 0,
             next: 0,
         }
@@ -368,7 +365,6 @@ impl KeyIndex {
         if !self.keys.push_behind(alloc, row)? {
             return Ok(None);
         }
-        self.ordered = self.ordered.saturating_add(1);
         self.unled = self.unled.saturating_add(1);
         Ok(Some(group_index))
     }
@@ -395,7 +391,7 @@ impl KeyIndex {
         ensures { IfOk result (λ group_index. IsFound row.now self.old.keys group_index
             self.new.keys) }
     {
-        if self.ordered == self.keys.len() {
+        if self.keys.do_ascend() {
             if let Some(group_index) = self.append(alloc, row)? {
                 return Ok(group_index);
             }
@@ -797,14 +793,6 @@ impl KeyIndex {
         Ok(index)
     }
 
-    /// The keys alone.
-    pub fn into_keys(self) -> KeyList
-        ensures { result ≡ self.keys }
-    {
-        let KeyIndex { keys, .. } = self;
-        keys
-    }
-
     /// The same keys at the same group indexes, in memory of their own.
     pub fn copy(&self, alloc: Global) -> Result<KeyIndex, AllocError>
         ensures { IfOk result (λ index. index.keys ≡ self.now.keys) }
@@ -815,7 +803,6 @@ impl KeyIndex {
             keys,
             led: self.led,
             slots,
-            ordered: self.ordered,
             unled: self.unled,
             next: self.next,
         })

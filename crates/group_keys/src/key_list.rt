@@ -14,7 +14,8 @@ use crate::column_keys::is_lane_key;
 use crate::hashing::{hash_alone, hash_columns, hash_int, hash_row};
 use crate::keys::{
     compare_keys, copy_key, is_int, is_int_value, is_key, is_lane_int, is_lane_value, is_row,
-    is_row_value, is_same_int, is_text_key, is_text_value, key_of_value, only_int, only_value,
+    is_row_value, is_same_int, is_text_key, is_text_value, key_in_buffer, key_of_value, only_int,
+    only_value,
 };
 use aggregate_states::column_value;
 use key_columns::KeyColumns;
@@ -730,10 +731,12 @@ impl KeyList {
         ensures { IfOk result (λ key. key ≡ slice_index_or self.now group_index []) }
     {
         match &self.held {
+            Held::Ints(ints) => key_in_buffer(spare, Value::Int(ints[group_index])),
+            Held::Values(values) => key_in_buffer(spare, values[group_index].clone()?),
             Held::Columns(columns) => columns.row_in(alloc, spare, group_index),
-            _ => {
+            Held::Rows(rows) => {
                 drop(spare);
-                self.row(alloc, group_index)
+                copy_key(alloc, &rows[group_index])
             }
         }
     }
@@ -762,14 +765,6 @@ impl KeyList {
             rows.push(self.row(alloc, group_index)?)?;
         }
         Ok(rows)
-    }
-
-    /// The keys as rows.
-    pub fn into_rows(self, alloc: Global) -> Result<Vec<Row>, AllocError>
-        ensures { IfOk result (λ rows. rows.items ≡ self) }
-    {
-        let KeyList { held, .. } = self;
-        held_as_rows(alloc, held)
     }
 
     /// The same keys, in memory of their own.

@@ -159,6 +159,16 @@ pub fn key_of_value(alloc: Global, value: Value) -> Result<Row, AllocError>
     Ok(Sequence::from_vec(key))
 }
 
+/// The key of this value alone, in the buffer of one that is given up.
+pub fn key_in_buffer(spare: Row, value: Value) -> Result<Row, AllocError>
+    ensures { IfOk result (λ key. key ≡ value ∷ []) }
+{
+    let mut key = spare.into_vec();
+    key.clear();
+    key.push(value)?;
+    Ok(Sequence::from_vec(key))
+}
+
 /// The key of this text alone.
 pub fn key_of_text(alloc: Global, text: &[u8]) -> Result<Row, AllocError>
     requires { is_utf8 text.now ≡ true }

@@ -4,7 +4,6 @@ ghost use Rattle.std.specs.Cow.{cow_slice_items};
 
 use aggregate_states::Group;
 use group_by::{GroupTable, OrderedGroups, spare_groups};
-use meaning::{ColType, GroupingKey, Plan};
 use packed_groups::PackedGroups;
 use std::alloc::{AllocError, Global};
 use std::borrow::CowSlice;
@@ -70,45 +69,13 @@ fn pack_all(alloc: Global, groups: &OrderedGroups<'_>) -> Result<PackedGroups, A
     packed.fitted(alloc)
 }
 
-/// The table's groups in the order of their keys, packed as they are made.
-fn pack_made(alloc: Global, table: GroupTable) -> Result<PackedGroups, AllocError>
+/// The table's groups in the order of their keys, packed as they are made, into no more memory than
+/// their bytes take.
+pub fn pack_table(alloc: Global, table: GroupTable) -> Result<PackedGroups, AllocError>
     ensures { IfOk result (λ packed. packed ≡ table.groups) }
 {
     let groups = table.ordered(alloc)?;
     let packed = pack_all(alloc, &groups);
     drop(groups);
     packed
-}
-
-/// The table's groups in the order of their keys, packed once all are made.
-fn pack_list(alloc: Global, table: GroupTable) -> Result<PackedGroups, AllocError>
-    ensures { IfOk result (λ packed. packed ≡ table.groups) }
-{
-    let groups = table.into_groups(alloc)?;
-    let packed = PackedGroups::pack(alloc, groups.as_slice());
-    drop(groups);
-    packed
-}
-
-/// Whether each key is one integer. Of other keys that didn't come in order a table makes all groups
-/// at once, and cheaper where it is given up.
-fn is_one_integer(keys: &[GroupingKey]) -> bool {
-    match keys {
-        [key] => match key.col_type {
-            ColType::Int => true,
-            ColType::Text => false,
-        },
-        _ => false,
-    }
-}
-
-/// The table's groups in the order of their keys, packed into no more memory than their bytes take.
-pub fn pack_table(alloc: Global, plan: &Plan, table: GroupTable) -> Result<PackedGroups, AllocError>
-    ensures { IfOk result (λ packed. packed ≡ table.groups) }
-{
-    if is_one_integer(plan.keys.as_slice()) || table.is_in_order() {
-        pack_made(alloc, table)
-    } else {
-        pack_list(alloc, table)
-    }
 }

@@ -1,8 +1,0 @@
--- Invariants of `int_groups` (`int_groups`).
-use Rattle.group_by.specs.IntGroups.{AreIndexed}
-use Rattle.group_keys.specs.Rows.{int_keys}
-use Rattle.group_by.proofs.int_groups.int_groups.Given as goal
-
--- the integers up to the k-th have their group indexes
-abbrev pub invariant-loop-k : goal.invariant-loop-k
-invariant-loop-k l = AreIndexed (int_keys l.ints) l.k l.indexed.items

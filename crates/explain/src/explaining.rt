@@ -1,6 +1,7 @@
 //! The command `explain`.
-ghost use Rattle.std.specs.Prelude.{◌≡◌, ◌≢◌, ◌⊎◌, IfErr, IfOk, OnOk, Ok, string_bytes};
+ghost use Rattle.std.specs.Prelude.{◌≡◌, ◌≢◌, ◌⊎◌, ℕ, IfErr, IfOk, List, OnOk, Ok, string_bytes};
 ghost use Rattle.meaning.specs.declared.plan.Plan.{Plan as APlan};
+ghost use Rattle.folders.specs.Refused.{IsAskedFor};
 ghost use Rattle.folders.specs.declared.refusal.Refusal.{Refusal as ARefusal};
 ghost use Rattle.folders.specs.declared.refusal.Refusal.TheVariants as refusal_is;
 ghost use Rattle.planner.specs.QueryText.{IsPlanned, IsTextRefused};
@@ -54,7 +55,8 @@ fn text_over(alloc: Global, catalog: &Catalog, query: &str) -> Result<String, Qu
 
 /// The refusal of a command whose query has no plan.
 fn refusal_of(fault: QueryFault) -> Refusal
-    ensures { result ≡ of_query fault }
+    ensures value { result ≡ of_query fault }
+    ensures unread { (path : List ℕ) → result ≢ refusal_is.CannotRead path }
 {
     match fault {
         QueryFault::Memory => Refusal::Memory,
@@ -74,6 +76,7 @@ fn print_plan<O: Write>(
     ensures printed { OnOk result
         (PrintsOver catalog.now query.now (O.contents out.old) (O.contents out.new)) }
     ensures refused { IfErr result (IsUnexplainedOver catalog.now query.now) }
+    ensures unread { IfErr result (λ e. (path : List ℕ) → e ≢ refusal_is.CannotRead path) }
     ensures quiet { IfErr result
         (λ e. e ≢ refusal_is.CannotPrint → O.contents out.new ≡ O.contents out.old) }
 {
@@ -108,6 +111,8 @@ pub fn explanation<F: Folder, O: Write>(
         (O.contents out.new)) }
     ensures refused { IfErr result
         (IsUnexplained (F.holds folder.now) directory.now query.now) }
+    // A file that can't be read was asked for.
+    ensures unread { IfErr result (IsAskedFor (F.asks folder.now)) }
     ensures quiet { IfErr result
         (λ e. e ≢ refusal_is.CannotPrint → O.contents out.new ≡ O.contents out.old) }
 {
@@ -143,6 +148,7 @@ pub fn explain<F: Folder, O: Write, E: Write>(
     ensures silent { result ≡ 0 → E.contents err.new ≡ E.contents err.old }
     ensures refused { result ≡ 1 → (e : ARefusal)
         × IsUnexplained (F.holds folder.now) directory.now query.now e
+        × IsAskedFor (F.asks folder.now) e
         × (e ≢ refusal_is.CannotPrint → O.contents out.new ≡ O.contents out.old) }
 {
     match explanation(alloc, folder, directory, query, out) {

@@ -1,5 +1,5 @@
 //! Files of fragments and dimensions.
-ghost use Rattle.std.specs.Prelude.{◌≡◌, ◌≤◌, ◌*◌, min, IfOk};
+ghost use Rattle.std.specs.Prelude.{◌≡◌, ◌≤◌, ◌<◌, ◌+◌, ◌*◌, min, IfOk};
 ghost use Rattle.meaning.specs.Limits.{row_group_rows};
 
 use crate::blocks_shown::{Total, no_totals, put_total, show_block};
@@ -23,7 +23,8 @@ pub fn take_group_rows(cursor: &mut Cursor<'_>, left: u32) -> Result<u32, Stop>
 
 /// How many row groups so many rows have.
 pub fn count_groups(rows: u32) -> u32
-    ensures { rows ≤ row_group_rows * result }
+    ensures enough { rows ≤ row_group_rows * result }
+    ensures few { row_group_rows * result < rows + row_group_rows }
 {
     rows.div_ceil(ROW_GROUP_ROWS as u32)
 }

@@ -52,4 +52,4 @@ returns g c =
     let (done, sum, written) = c.loop-group.invariant.written in
     subst (λ n. AppendsRecords n (text_written g.W.Write.contents c.args.writer.now) (text_written g.W.Write.contents c.loop-group.writer))
     (whole c.args.rows c.count_groups-group-end.result c.loop-group.group c.loop-group.left c.loop-group.wanted done (min c.args.most c.args.rows)
-    c.count_groups-group-end.ensures c.loop-group-test.false c.loop-group.invariant.left c.loop-group.invariant.within sum) written
+    c.count_groups-group-end.ensures.enough c.loop-group-test.false c.loop-group.invariant.left c.loop-group.invariant.within sum) written

@@ -2,10 +2,13 @@
 use Rattle.std.specs.Prelude.{◌≡◌, ◌≢◌, ◌⊎◌, ℕ, List, Option, ⊤}
 use Rattle.explain.specs.Explaining.{IsExplained, IsUnexplained, PrintsPlan}
 use Rattle.folders.specs.Folder.{AreHeld, Change, Holds, WritesOne, catalog_path}
+use Rattle.folders.specs.Refused.{IsAskedFor}
 use Rattle.folders.specs.declared.refusal.Refusal.{Refusal as ARefusal}
 use Rattle.folders.specs.declared.refusal.Refusal.TheVariants as refusal
 use Rattle.init.specs.Making.{IsAsAsked, IsCatalogFor}
-use Rattle.show.specs.Shown.{HoldsFile, IsWhole}
+use Rattle.show.specs.declared.showing.ShowOptions.{ShowOptions}
+use Rattle.show.specs.Shown.{HoldsFile, IsWhole, PrintsPartsOf}
+use Rattle.tools.specs.declared.words.ShowWords.{ShowWords}
 use Rattle.tools.specs.declared.words.Tool.{Tool}
 use Rattle.tools.specs.declared.words.Tool.TheVariants.{Explain, Init, Refusal, Show}
 
@@ -45,20 +48,30 @@ IsSilent (Refusal words) before after = after ≡ before
 IsSilent (Explain words) before after = after ≡ before
 IsSilent (Show words) before after = after ≡ before
 
--- the query has no plan for this reason, and nothing was printed unless standard output failed
-abbrev pub IsLeftUnexplained : Holds → List ℕ → List ℕ → Option (List ℕ) → Option (List ℕ) → Type 0
-IsLeftUnexplained holds folder query before after =
-    (e : ARefusal) × IsUnexplained holds folder query e × (e ≢ refusal.CannotPrint → after ≡ before)
+-- The query has no plan for this reason, and nothing was printed unless standard output failed. A file that can't be read was asked
+-- for.
+abbrev pub IsLeftUnexplained : Holds → (List ℕ → Type 0) → List ℕ → List ℕ → Option (List ℕ) → Option (List ℕ) → Type 0
+IsLeftUnexplained holds asks folder query before after =
+    (e : ARefusal) × IsUnexplained holds folder query e × IsAskedFor asks e × (e ≢ refusal.CannotPrint → after ≡ before)
 
 -- the plan that the query has over the folder's tables is printed, or it has none
-abbrev pub PrintsExplanation : Holds → List ℕ → List ℕ → ℕ → Option (List ℕ) → Option (List ℕ) → Type 0
-PrintsExplanation holds folder query status before after =
-    (status ≡ 0 → PrintsPlan holds folder query before after) × (status ≡ 1 → IsLeftUnexplained holds folder query before after)
+abbrev pub PrintsExplanation : Holds → (List ℕ → Type 0) → List ℕ → List ℕ → ℕ → Option (List ℕ) → Option (List ℕ) → Type 0
+PrintsExplanation holds asks folder query status before after =
+    (status ≡ 0 → PrintsPlan holds folder query before after) × (status ≡ 1 → IsLeftUnexplained holds asks folder query before after)
 
--- What a tool leaves of standard output: nothing is printed while a catalogue is made, nor where a query is refused, nor of a file
--- that begins as none of the program's. Of what is printed of a refusal nothing is said.
-abbrev pub LeavesOutput : Holds → Tool → ℕ → Option (List ℕ) → Option (List ℕ) → Type 0
-LeavesOutput holds (Init words) status before after = after ≡ before
-LeavesOutput holds (Refusal words) status before after = ⊤
-LeavesOutput holds (Explain words) status before after = PrintsExplanation holds words.folder words.query status before after
-LeavesOutput holds (Show words) status before after = (after ≡ before) ⊎ HoldsFile holds words.path
+-- as the words ask for it
+abbrev pub options_of : ShowWords → ShowOptions
+options_of words = record { rows = words.rows; groups = words.groups }
+
+-- nothing is printed of a file that begins as none of the program's; of one without a fault its parts or rows are
+abbrev pub PrintsFile : Holds → ShowWords → ℕ → Option (List ℕ) → Option (List ℕ) → Type 0
+PrintsFile holds words status before after =
+    ((after ≡ before) ⊎ HoldsFile holds words.path) × (status ≡ 0 → PrintsPartsOf holds words.path (options_of words) before after)
+
+-- What a tool leaves of standard output: nothing is printed while a catalogue is made, nor where a query is refused. Of what is
+-- printed of a refusal nothing is said.
+abbrev pub LeavesOutput : Holds → (List ℕ → Type 0) → Tool → ℕ → Option (List ℕ) → Option (List ℕ) → Type 0
+LeavesOutput holds asks (Init words) status before after = after ≡ before
+LeavesOutput holds asks (Refusal words) status before after = ⊤
+LeavesOutput holds asks (Explain words) status before after = PrintsExplanation holds asks words.folder words.query status before after
+LeavesOutput holds asks (Show words) status before after = PrintsFile holds words status before after

@@ -1,5 +1,6 @@
 //! The tool that words ask for.
-ghost use Rattle.std.specs.Prelude.{◌≡◌, None, Ok, IfOk, IfSome, IsSome, codes, false, map, true};
+ghost use Rattle.std.specs.Prelude.{◌≡◌, None, Ok, IfErr, IfOk, IfSome, IsSome, codes, false, map, true};
+ghost use Rattle.command_line.specs.Usage.{IsUsage};
 ghost use Rattle.tools.specs.Words.{AreWordsOf, asks_tool, begins_with_tool, is_tool, name_of};
 
 use crate::parser::parser;
@@ -48,6 +49,7 @@ pub fn asked(alloc: Global, words: &[&str]) -> Result<Option<Tool>, UsageFault>
         → IfOk result (λ found. IsSome found) }
     ensures named { IfOk result
         (λ found. IfSome found (AreWordsOf (map (λ w. w.now) words.now))) }
+    ensures worded { IfErr result IsUsage }
 {
     if !asks_tool(words) {
         return Ok(None);
@@ -66,7 +68,8 @@ fn parsed<'a>(
     parser: &mut clap::Command<'a>,
     words: &'a [&'a str],
 ) -> Result<Tool, UsageFault>
-    ensures { IfOk result (AreWordsOf (map (λ w. w.now) words.now)) }
+    ensures named { IfOk result (AreWordsOf (map (λ w. w.now) words.now)) }
+    ensures worded { IfErr result IsUsage }
 {
     if asks_list(words) {
         return Err(list(parser));
@@ -89,7 +92,9 @@ fn asks_list(words: &[&str]) -> bool {
 }
 
 // The list of the tools, which is clap's help.
-fn list(parser: &mut clap::Command<'_>) -> UsageFault {
+fn list(parser: &mut clap::Command<'_>) -> UsageFault
+    ensures { IsUsage result }
+{
     match parser.try_get_matches_from_mut(HELP) {
         Ok(_) => UsageFault::Memory,
         Err(error) => UsageFault::from(error),

@@ -1,7 +1,6 @@
 //! Runs a tool and gives its exit status.
-ghost use Rattle.std.specs.Prelude.{◌≡◌, ◌⊎◌, option_map};
-ghost use Rattle.show.specs.Shown.{HoldsFile};
-ghost use Rattle.tools.specs.Running.{ExplainsPlan, IsSilent, IsStatus, LeavesFiles, LeavesOutput, MakesCatalog, PrintsExplanation, ShowsFile};
+ghost use Rattle.std.specs.Prelude.{◌≡◌, option_map};
+ghost use Rattle.tools.specs.Running.{ExplainsPlan, IsSilent, IsStatus, LeavesFiles, LeavesOutput, MakesCatalog, PrintsExplanation, PrintsFile, ShowsFile};
 
 use crate::explaining::entry_of;
 use crate::words::{ExplainWords, InitWords, ShowWords, Tool};
@@ -87,8 +86,8 @@ fn run_explain<F: Folder, O: Write, E: Write>(
     ensures files { ExplainsPlan (F.holds folder.old) words.now.folder words.now.query result
         (F.wrote folder.old) (F.wrote folder.new) }
     ensures silent { result ≡ 0 → E.contents err.new ≡ E.contents err.old }
-    ensures output { PrintsExplanation (F.holds folder.old) words.now.folder words.now.query result
-        (O.contents out.old) (O.contents out.new) }
+    ensures output { PrintsExplanation (F.holds folder.old) (F.asks folder.old) words.now.folder
+        words.now.query result (O.contents out.old) (O.contents out.new) }
 {
     let (directory, query) = (words.folder.as_str(), words.query.as_str());
     explain(alloc, &*folder, directory, query, out, err)
@@ -105,8 +104,8 @@ fn run_show<F: Folder, O: Write, E: Write>(
     ensures files { ShowsFile (F.holds folder.old) words.now.path result (F.wrote folder.old)
         (F.wrote folder.new) }
     ensures silent { result ≡ 0 → E.contents err.new ≡ E.contents err.old }
-    ensures output { (O.contents out.new ≡ O.contents out.old)
-        ⊎ HoldsFile (F.holds folder.old) words.now.path }
+    ensures output { PrintsFile (F.holds folder.old) words.now result (O.contents out.old)
+        (O.contents out.new) }
 {
     let options = ShowOptions {
         rows: words.rows,
@@ -129,8 +128,8 @@ pub fn run<F: Folder + Listing, O: Write, E: Write>(
         (F.wrote folder.new) }
     ensures silent { result ≡ 0
         → IsSilent tool.now (E.contents err.old) (E.contents err.new) }
-    ensures output { LeavesOutput (F.holds folder.old) tool.now result (O.contents out.old)
-        (O.contents out.new) }
+    ensures output { LeavesOutput (F.holds folder.old) (F.asks folder.old) tool.now result
+        (O.contents out.old) (O.contents out.new) }
 {
     match tool {
         Tool::Init(words) => run_init(alloc, words, folder, err),

@@ -12,7 +12,7 @@ use Rattle.folders.specs.Folder.{Change, Holds, Writes}
 use Rattle.folders.specs.declared.refusal.Refusal.{Refusal}
 use Rattle.folders.proofs.Each.{each_length}
 use Rattle.loads.specs.Loading.{AreFiles, AreFragmentColumns, AreFragmentsClosed, IsCatalogLoaded, IsDimensionLoaded, IsFactLoaded, IsFragmentClosed, loaded_line}
-use Rattle.loads.specs.Refusing.{IsCatalogLoadLeft, IsCatalogLoadRefused, IsUnfinished, IsWrittenSoFar}
+use Rattle.loads.specs.Refusing.{IsCatalogLoadLeft, IsCatalogLoadRefused, IsUnfinished, IsUntouched, IsWrittenSoFar}
 use Rattle.loads.proofs.WrittenFiles.{numbered_length}
 
 -- there is a file for each fragment
@@ -45,10 +45,10 @@ refused_behind holds now folder catalog rows cut fragments (Err e) same fact ref
 -- what a load leaves that was refused behind its fact
 pub left_behind : {X : Type 0} (holds now : Holds) (folder : List ℕ) (load rows : ℕ) (catalog : Catalog) (cut : Cut) (fragments : List (List ColumnSpec)) (wrote reached after : Option (List Change)) (r : Result X Refusal) → now ≡ holds → reached ≡ wrote
     → IsFactLoaded holds folder catalog rows cut fragments
-    → IfErr r (λ e. (after ≡ reached) ⊎ ((dims : List (List ColumnSpec)) × AreEach (IsDimensionLoaded now folder) catalog.dims dims × IsWrittenSoFar folder load catalog cut fragments dims e reached after))
+    → IfErr r (λ e. IsUntouched e reached after ⊎ ((dims : List (List ColumnSpec)) × AreEach (IsDimensionLoaded now folder) catalog.dims dims × IsWrittenSoFar folder load catalog cut fragments dims e reached after))
     → IfErr r (λ e. IsCatalogLoadLeft holds folder load rows catalog e wrote after)
 left_behind holds now folder load rows catalog cut fragments wrote reached after (Ok x) same kept fact left = tt
-left_behind holds now folder load rows catalog cut fragments wrote reached after (Err e) same kept fact (inl unchanged) = inl (unchanged ∙ kept)
+left_behind holds now folder load rows catalog cut fragments wrote reached after (Err e) same kept fact (inl (apart, unchanged)) = inl (apart, unchanged ∙ kept)
 left_behind holds now folder load rows catalog cut fragments wrote reached after (Err e) same kept fact (inr (dims, each, written)) = inr (record {
   cut = cut;
   fragments = fragments;
@@ -59,21 +59,22 @@ left_behind holds now folder load rows catalog cut fragments wrote reached after
 })
 
 -- of the fragments whose files are closed
-pub left_of : {X F : Type 0} (Same : Type 0) (Closed : F → Type 0) (Then : F → Refusal → Type 0) (r : Result X Refusal) (fragments : F) → Closed fragments → IfErr r (λ e. Same ⊎ ((f : F) → Closed f → Then f e)) → IfErr r (λ e. Same ⊎ Then fragments e)
+pub left_of : {X F : Type 0} (Same : Refusal → Type 0) (Closed : F → Type 0) (Then : F → Refusal → Type 0) (r : Result X Refusal) (fragments : F) → Closed fragments → IfErr r (λ e. Same e ⊎ ((f : F) → Closed f → Then f e)) → IfErr r (λ e. Same e ⊎ Then fragments e)
 left_of Same Closed Then (Ok x) fragments closed left = tt
 left_of Same Closed Then (Err e) fragments closed (inl same) = inl same
 left_of Same Closed Then (Err e) fragments closed (inr then) = inr (then fragments closed)
 
 -- ---- what is left where the files of a load aren't all saved
 
--- the first of them were written, or none
-pub begun_left : {Same Printed : Type 0} {F : Type 0} {Closed Begun All : F → Type 0} → Same ⊎ ((f : F) → Closed f → Begun f) → Same ⊎ ((f : F) → Closed f → Begun f ⊎ (Printed × All f))
-begun_left (inl same) = inl same
-begun_left (inr begun) = inr (λ f closed. inl (begun f closed))
+-- the first of them were written, or none, and standard output didn't fail
+pub begun_left : {Apart Same Printed : Type 0} {F : Type 0} {Closed Begun All : F → Type 0} → Apart → Same ⊎ ((f : F) → Closed f → Begun f)
+    → (Apart × Same) ⊎ ((f : F) → Closed f → (Apart × Begun f) ⊎ (Printed × All f))
+begun_left apart (inl same) = inl (apart, same)
+begun_left apart (inr begun) = inr (λ f closed. inl (apart, begun f closed))
 
 -- all were, and the line can't be printed
-pub printed_left : {X F : Type 0} {Closed All : F → Type 0} (Same : Type 0) (Begun : F → Type 0) (stop : Refusal) (r : Result X Refusal) → IfErr r (λ e. e ≡ stop) → ((f : F) → Closed f → All f)
-    → IfErr r (λ e. Same ⊎ ((f : F) → Closed f → Begun f ⊎ ((e ≡ stop) × All f)))
+pub printed_left : {X F : Type 0} {Closed All : F → Type 0} (Same : Refusal → Type 0) (Begun : Refusal → F → Type 0) (stop : Refusal) (r : Result X Refusal) → IfErr r (λ e. e ≡ stop) → ((f : F) → Closed f → All f)
+    → IfErr r (λ e. Same e ⊎ ((f : F) → Closed f → Begun e f ⊎ ((e ≡ stop) × All f)))
 printed_left Same Begun stop (Ok x) refused written = tt
 printed_left Same Begun stop (Err e) refused written = inr (λ f closed. inr (refused, written f closed))
 

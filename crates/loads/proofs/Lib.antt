@@ -2,6 +2,7 @@
 mod Finished
 mod HandedOn
 mod LoadedColumns
+mod Printed
 mod Refusals
 mod Tried
 mod Unloaded

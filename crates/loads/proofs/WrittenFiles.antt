@@ -1,5 +1,5 @@
 -- Files that are written and taken away one behind the other.
-use Rattle.std.proofs.Common.{◌≡◌, ◌≤◌, ◌<◌, ◌^◌, ℕ, zero, suc, ◌+◌, ◌-◌, List, [], ◌∷◌, ◌++◌, length, map, take, drop, get_or, refl, sym, subst, ap, ◌∙◌, append_assoc, append-nil, arith, add-one}
+use Rattle.std.proofs.Common.{◌≡◌, ◌≤◌, ◌<◌, ◌^◌, ℕ, zero, suc, ◌+◌, ◌-◌, List, [], ◌∷◌, ◌++◌, length, map, take, drop, get_or, refl, sym, subst, ap, ◌∙◌, append_assoc, arith, add-one, inl, inr}
 use Rattle.std.specs.Prelude.{Option, None, Some, slice_index, sum, zip}
 use Rattle.std.specs.List.{enumerate_from, range_with_len}
 use Rattle.std.proofs.lemmas.List.{map-append, take_all}
@@ -18,7 +18,7 @@ use Rattle.fragment_file.specs.CutFile.{cut_bytes}
 use Rattle.fragment_file.specs.Fragment.{Stands}
 use Rattle.folders.specs.Folder.{Change, Encloses, Finishes, Removes, Writes, WritesOne, cut_path, fragment_path, dimension_path}
 use Rattle.folders.specs.Each.{AreEach}
-use Rattle.loads.specs.Loading.{AreDimensionColumns, AreDimensionsBegun, AreFiles, AreFilesBegun, AreFragmentsBegun, AreFragmentsClosed, IsDimensionFile, IsFragmentClosed, IsFragmentFile, StandsForFragment, cut_file_of, header_of, removals, removed, rows_in}
+use Rattle.loads.specs.Loading.{AreDimensionColumns, AreDimensionsBegun, AreFiles, AreFilesBegun, AreFragmentsBegun, AreFragmentsClosed, ArePutBefore, AreRemovalsBegun, AreSavedBeforeRemovals, IsDimensionFile, IsFragmentClosed, IsFragmentFile, StandsForFragment, cut_file_of, header_of, removals, rows_in}
 use Rattle.folders.proofs.Each.{each_at, each_length, each_more, numbered_more, zipped_more}
 
 wrote_more : {A : Type 0} (IsFile : A → Change → Type 0) (xs : List A) (x : A) (path : List ℕ) (AreSuch : List ℕ → Type 0) (before now after : Option (List Change))
@@ -148,24 +148,6 @@ less before after so wrote = λ old known.
     let (new, reached, is) = wrote old known in
     (new, reached, so new is)
 
--- nothing was written
-nothing : {P : List Change → Type 0} (wrote : Option (List Change)) → P [] → Writes P wrote wrote
-nothing wrote is = λ old known. ([], known ∙ ap Some (sym (append-nil old)), is)
-
-all_fragments : (folder : List ℕ) (load : ℕ) (table : Table) (cut : Cut) (fragments : List (List ColumnSpec)) (changes : List Change)
-    → AreEach (IsFragmentFile folder load table cut) (enumerate_from 0 fragments) changes → AreFragmentsBegun folder load table cut fragments changes
-all_fragments folder load table cut fragments changes are =
-    (length fragments, subst (λ (l : List (List ColumnSpec)). AreEach (IsFragmentFile folder load table cut) (enumerate_from 0 l) changes) (sym (take_all (length fragments) fragments (omega arith))) are)
-
-all_dimensions : (folder : List ℕ) (load : ℕ) (declared : List Dimension) (dims : List (List ColumnSpec)) (changes : List Change)
-    → AreEach (IsDimensionFile folder load) (zip declared dims) changes → AreDimensionsBegun folder load declared dims changes
-all_dimensions folder load declared dims changes are =
-    let n = length declared + length dims in (
-      n,
-      subst (λ (l : List (Dimension × List ColumnSpec)). AreEach (IsDimensionFile folder load) l changes)
-          (sym (ap (λ ds. zip ds (take n dims)) (take_all n declared (omega arith)) ∙ ap (zip declared) (take_all n dims (omega arith)))) are,
-    )
-
 module _ (folder : List ℕ) (load : ℕ) (catalog : Catalog) (cut : Cut) (fragments dims : List (List ColumnSpec)) where
   abbrev Begun : Option (List Change) → Option (List Change) → Type 0
   Begun = Writes (AreFilesBegun folder load catalog cut fragments dims)
@@ -177,39 +159,47 @@ module _ (folder : List ℕ) (load : ℕ) (catalog : Catalog) (cut : Cut) (fragm
   SavedAll = Writes (AreEach (IsDimensionFile folder load) (zip catalog.dims dims))
 
   abbrev RemovedSome : Option (List Change) → Option (List Change) → Type 0
-  RemovedSome = Writes (λ changes. (n : ℕ) × (changes ≡ removed folder catalog.fact cut n))
+  RemovedSome = Writes (AreRemovalsBegun folder catalog.fact cut)
 
-  one_after_other : (before first second after : Option (List Change)) → Writes (AreFragmentsBegun folder load catalog.fact cut fragments) before first
-      → Writes (AreDimensionsBegun folder load catalog.dims dims) first second → RemovedSome second after → Begun before after
-  one_after_other before first second after put saved gone = λ old known.
+  put_before : {AreBehind : List Change → Type 0} (before first after : Option (List Change)) → PutAll before first → Writes AreBehind first after
+      → Writes (ArePutBefore folder load catalog.fact cut fragments AreBehind) before after
+  put_before before first after put wrote = λ old known.
       let (a, there, are_fragments) = put old known in
-      let (b, then, are_dims) = saved (old ++ a) there in
-      let (c, behind, (n, are_removed)) = gone ((old ++ a) ++ b) then in (
-        (a ++ b) ++ c,
-        behind ∙ ap Some (ap (λ l. l ++ c) (append_assoc old a b) ∙ append_assoc old (a ++ b) c),
-        record { of_fragments = a; fragments_are = are_fragments; of_dims = b; dims_are = are_dims; removals = n; whole = ap (λ l. (a ++ b) ++ l) are_removed },
+      let (b, then, are_behind) = wrote (old ++ a) there in (
+        a ++ b,
+        then ∙ ap Some (append_assoc old a b),
+        record { of_fragments = a; fragments_are = are_fragments; behind = b; behind_are = are_behind; whole = refl },
       )
 
   -- a fragment's file can't be put under its path
   pub fragments_stop : (before after : Option (List Change)) → Writes (AreFragmentsBegun folder load catalog.fact cut fragments) before after → Begun before after
-  fragments_stop before after put = one_after_other before after after after put (nothing after (0, tt)) (nothing after (0, refl))
+  fragments_stop before after put = less before after (λ changes begun. inl begun) put
 
   -- a dimension's file can't be written
   pub dimensions_stop : (before first after : Option (List Change)) → PutAll before first → Writes (AreDimensionsBegun folder load catalog.dims dims) first after → Begun before after
-  dimensions_stop before first after put saved =
-      one_after_other before first after after (less before first (all_fragments folder load catalog.fact cut fragments) put) saved (nothing after (0, refl))
+  dimensions_stop before first after put saved = less before after (λ changes begun. inr (inl begun)) (put_before before first after put saved)
+
+  saved_before : (first second after : Option (List Change)) → SavedAll first second → RemovedSome second after
+      → Writes (AreSavedBeforeRemovals folder load catalog cut dims) first after
+  saved_before first second after saved gone = λ old known.
+      let (a, there, are_dims) = saved old known in
+      let (b, then, are_removals) = gone (old ++ a) there in (
+        a ++ b,
+        then ∙ ap Some (append_assoc old a b),
+        record { of_dims = a; dims_are = are_dims; removals = b; removals_are = are_removals; whole = refl },
+      )
 
   -- a fragment's file can't be taken away
   pub removals_stop : (before first second after : Option (List Change)) → PutAll before first → SavedAll first second → RemovedSome second after → Begun before after
   removals_stop before first second after put saved gone =
-      one_after_other before first second after (less before first (all_fragments folder load catalog.fact cut fragments) put)
-      (less first second (all_dimensions folder load catalog.dims dims) saved) gone
+      less before after (λ changes begun. inr (inr begun)) (put_before before first after put (saved_before first second after saved gone))
 
   -- the file of the cut can't be written
   pub cut_stops : (before first second third after : Option (List Change)) → PutAll before first → SavedAll first second → Writes (λ changes. changes ≡ removals folder catalog.fact cut) second third → after ≡ third
       → Begun before after
   cut_stops before first second third after put saved gone same =
-      subst (Begun before) (sym same) (removals_stop before first second third put saved (less second third (λ changes is. (max_fragments - length cut, is)) gone))
+      let most : max_fragments - length cut ≤ max_fragments - length cut = omega arith in
+      subst (Begun before) (sym same) (removals_stop before first second third put saved (less second third (λ changes is. (max_fragments - length cut, most, is)) gone))
 
 -- ---- all files
 

@@ -1,5 +1,5 @@
 -- What loading a folder's tables gives, and which files it writes and takes away.
-use Rattle.std.specs.Prelude.{◌≡◌, ℕ, ◌≤◌, ◌-◌, List, [], ◌∷◌, ◌++◌, length, map, take, drop, sum, slice_index, zip, codes, decimal, Option, None, Some, Ok}
+use Rattle.std.specs.Prelude.{◌≡◌, ◌⊎◌, ℕ, ◌≤◌, ◌-◌, List, [], ◌∷◌, ◌++◌, length, map, take, drop, sum, slice_index, zip, codes, decimal, Option, None, Some, Ok}
 use Rattle.std.specs.List.{enumerate_from, range_with_len}
 use Rattle.std.specs.Io.KnownBytes.{Appends}
 use Rattle.meaning.specs.Limits.{max_fragments, max_rows}
@@ -103,15 +103,32 @@ AreFragmentsBegun folder load table cut fragments changes = (n : ℕ) × AreEach
 abbrev pub AreDimensionsBegun : List ℕ → ℕ → List Dimension → List (List ColumnSpec) → List Change → Type 0
 AreDimensionsBegun folder load declared dims changes = (n : ℕ) × AreEach (IsDimensionFile folder load) (zip (take n declared) (take n dims)) changes
 
--- the first files of the fragments and of the dimensions were written, and the first of the others taken away; but not the file
--- of the cut
-pub record AreFilesBegun (folder : List ℕ) (load : ℕ) (catalog : Catalog) (cut : Cut) (fragments dims : List (List ColumnSpec)) (changes : List Change) : Type 0 where
+-- the files of the first of the fragments that the cut doesn't have were taken away
+abbrev pub AreRemovalsBegun : List ℕ → Table → Cut → List Change → Type 0
+AreRemovalsBegun folder table cut changes = (n : ℕ) × (n ≤ max_fragments - length cut) × (changes ≡ removed folder table cut n)
+
+-- all files of the fragments were written, and behind them
+pub record ArePutBefore (folder : List ℕ) (load : ℕ) (table : Table) (cut : Cut) (fragments : List (List ColumnSpec)) (AreBehind : List Change → Type 0) (changes : List Change) : Type 0 where
   pub of_fragments : List Change
-  pub fragments_are : AreFragmentsBegun folder load catalog.fact cut fragments of_fragments
+  pub fragments_are : AreEach (IsFragmentFile folder load table cut) (enumerate_from 0 fragments) of_fragments
+  pub behind : List Change
+  pub behind_are : AreBehind behind
+  pub whole : changes ≡ of_fragments ++ behind
+
+-- all files of the dimensions were written, and behind them the first of other fragments' were taken away
+pub record AreSavedBeforeRemovals (folder : List ℕ) (load : ℕ) (catalog : Catalog) (cut : Cut) (dims : List (List ColumnSpec)) (changes : List Change) : Type 0 where
   pub of_dims : List Change
-  pub dims_are : AreDimensionsBegun folder load catalog.dims dims of_dims
-  pub removals : ℕ
-  pub whole : changes ≡ (of_fragments ++ of_dims) ++ removed folder catalog.fact cut removals
+  pub dims_are : AreEach (IsDimensionFile folder load) (zip catalog.dims dims) of_dims
+  pub removals : List Change
+  pub removals_are : AreRemovalsBegun folder catalog.fact cut removals
+  pub whole : changes ≡ of_dims ++ removals
+
+-- The first files of the fragments were written; or all of these, and the first of the dimensions; or all of both, and the first of the
+-- others were taken away. The file of the cut wasn't written.
+abbrev pub AreFilesBegun : List ℕ → ℕ → Catalog → Cut → List (List ColumnSpec) → List (List ColumnSpec) → List Change → Type 0
+AreFilesBegun folder load catalog cut fragments dims changes = AreFragmentsBegun folder load catalog.fact cut fragments changes
+    ⊎ ArePutBefore folder load catalog.fact cut fragments (AreDimensionsBegun folder load catalog.dims dims) changes
+    ⊎ ArePutBefore folder load catalog.fact cut fragments (AreSavedBeforeRemovals folder load catalog cut dims) changes
 
 -- ---- files that stand under no path yet
 

@@ -1,5 +1,5 @@
 -- Why `load` is refused: the first thing that is wrong in the folder's bytes, in the command's order.
-use Rattle.std.specs.Prelude.{◌≡◌, ◌⊎◌, ℕ, ◌<◌, ◌≤◌, List, ◌∷◌, ◌++◌, length, Contains, Option, Some, Result, Ok, Err}
+use Rattle.std.specs.Prelude.{◌≡◌, ◌≢◌, ◌⊎◌, ℕ, ◌<◌, ◌≤◌, List, ◌∷◌, ◌++◌, length, Contains, Option, Some, Result, Ok, Err}
 use Rattle.meaning.specs.declared.catalog.Catalog.{Catalog}
 use Rattle.meaning.specs.declared.catalog.Dimension.{Dimension}
 use Rattle.meaning.specs.declared.cut.CutFault.{CutFault}
@@ -104,16 +104,21 @@ IsLoadRefused holds folder rows e = IsCatalogRefused holds folder e
 
 -- ---- what a refusal leaves
 
--- the first of a load's files of each kind were written, or all of them where standard output failed behind them
+-- the first of a load's files were written; or all of them, where standard output failed behind them
 abbrev pub IsWrittenSoFar : List ℕ → ℕ → Catalog → Cut → List (List ColumnSpec) → List (List ColumnSpec) → Refusal → Option (List Change) → Option (List Change) → Type 0
-IsWrittenSoFar folder load catalog cut fragments dims e before after = Writes (AreFilesBegun folder load catalog cut fragments dims) before after
+IsWrittenSoFar folder load catalog cut fragments dims e before after =
+    ((e ≢ refusal.CannotPrint) × Writes (AreFilesBegun folder load catalog cut fragments dims) before after)
     ⊎ ((e ≡ refusal.CannotPrint) × Writes (AreFiles folder load catalog cut fragments dims) before after)
 
 -- nothing was printed, unless standard output failed
 abbrev pub IsQuiet : Refusal → Option (List ℕ) → Option (List ℕ) → Type 0
 IsQuiet e before after = (e ≡ refusal.CannotPrint) ⊎ (after ≡ before)
 
--- all tables are loaded, and the first of their files of each kind were written, or all where standard output failed behind them
+-- no file was written, and standard output didn't fail
+abbrev pub IsUntouched : Refusal → Option (List Change) → Option (List Change) → Type 0
+IsUntouched e before after = (e ≢ refusal.CannotPrint) × (after ≡ before)
+
+-- all tables are loaded, and the first of their files were written, or all where standard output failed behind them
 pub record IsSavedSoFar (holds : Holds) (folder : List ℕ) (load rows : ℕ) (catalog : Catalog) (e : Refusal) (before after : Option (List Change)) : Type 0 where
   pub cut : Cut
   pub fragments : List (List ColumnSpec)
@@ -122,11 +127,11 @@ pub record IsSavedSoFar (holds : Holds) (folder : List ℕ) (load rows : ℕ) (c
   pub each : AreEach (IsDimensionLoaded holds folder) catalog.dims dims
   pub written : IsWrittenSoFar folder load catalog cut fragments dims e before after
 
--- a load that is refused wrote no file, or no more than some
+-- a load that is refused wrote no file, or no more than some; where standard output failed it wrote all
 abbrev pub IsCatalogLoadLeft : Holds → List ℕ → ℕ → ℕ → Catalog → Refusal → Option (List Change) → Option (List Change) → Type 0
-IsCatalogLoadLeft holds folder load rows catalog e before after = (after ≡ before) ⊎ IsSavedSoFar holds folder load rows catalog e before after
+IsCatalogLoadLeft holds folder load rows catalog e before after = IsUntouched e before after ⊎ IsSavedSoFar holds folder load rows catalog e before after
 
 -- the same, by the catalogue that lies there
 abbrev pub IsLoadLeft : Holds → List ℕ → ℕ → ℕ → Refusal → Option (List Change) → Option (List Change) → Type 0
-IsLoadLeft holds folder load rows e before after = (after ≡ before)
+IsLoadLeft holds folder load rows e before after = IsUntouched e before after
     ⊎ ((catalog : Catalog) × IsCatalogThere holds folder catalog × IsSavedSoFar holds folder load rows catalog e before after)

@@ -7,7 +7,7 @@ ghost use Rattle.folders.specs.Each.{AreEach};
 ghost use Rattle.folders.specs.Folder.{Writes};
 ghost use Rattle.folders.specs.Refused.{IsAskedFor, IsTriedFor};
 ghost use Rattle.loads.specs.Loading.{AreDimensionColumns, AreFiles, AreFilesBegun, AreFragmentsClosed, IsCatalogLoaded, IsDimensionLoaded, IsLoadDone, loaded_line};
-ghost use Rattle.loads.specs.Refusing.{AreFilesUnwritten, AreFragmentsUnwritten, IsCatalogLoadLeft, IsCatalogLoadRefused, IsLoadLeft, IsLoadRefused, IsQuiet, IsTriedOr, IsUnfinished, IsUnsaved, IsWrittenSoFar};
+ghost use Rattle.loads.specs.Refusing.{AreFilesUnwritten, AreFragmentsUnwritten, IsCatalogLoadLeft, IsCatalogLoadRefused, IsLoadLeft, IsLoadRefused, IsQuiet, IsTriedOr, IsUnfinished, IsUnsaved, IsUntouched, IsWrittenSoFar};
 
 use crate::fragments::{Fact, load_fact};
 use crate::loading::load_dimensions;
@@ -100,7 +100,7 @@ fn save_and_print<F: Folder, O: Write>(
     ensures refused { IfErr result
         (IsUnsaved target.now.directory.now target.now.catalog.now fact.cut) }
     ensures quiet { IfErr result (λ e. IsQuiet e (O.contents out.old) (O.contents out.new)) }
-    ensures left { IfErr result (λ e. (F.wrote folder.new ≡ F.wrote folder.old)
+    ensures left { IfErr result (λ e. IsUntouched e (F.wrote folder.old) (F.wrote folder.new)
         ⊎ ((fragments : List (List ColumnSpec))
         → IfOk fact.files (λ files. AreFragmentsClosed F.enclosed (F.wrote folder.old)
         target.now.load target.now.catalog.now.fact fact.cut fragments files.items)
@@ -144,7 +144,7 @@ fn finish_load<F: Folder, O: Write>(
         (IsUnfinished (F.holds folder.old) target.now.directory.now target.now.catalog.now
         fact.cut) }
     ensures quiet { IfErr result (λ e. IsQuiet e (O.contents out.old) (O.contents out.new)) }
-    ensures left { IfErr result (λ e. (F.wrote folder.new ≡ F.wrote folder.old)
+    ensures left { IfErr result (λ e. IsUntouched e (F.wrote folder.old) (F.wrote folder.new)
         ⊎ ((fragments : List (List ColumnSpec))
         → IfOk fact.files (λ files. AreFragmentsClosed F.enclosed (F.wrote folder.old)
         target.now.load target.now.catalog.now.fact fact.cut fragments files.items)

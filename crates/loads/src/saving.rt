@@ -12,7 +12,7 @@ ghost use Rattle.folders.specs.Folder.{AsksOf, Encloses, Finishes, Removes, Writ
 ghost use Rattle.folders.specs.Refused.{IsTriedFor, IsUnwritten};
 ghost use Rattle.folders.specs.Each.{AreEach};
 ghost use Rattle.loads.specs.Refusing.{AreDimensionsUnwritten, AreFilesUnwritten, AreFragmentsUnwritten, IsFragmentLeft};
-ghost use Rattle.loads.specs.Loading.{AreDimensionColumns, AreDimensionsBegun, AreFiles, AreFilesBegun, AreFragmentsBegun, AreFragmentsClosed, IsDimensionFile, IsFragmentFile, header_of, removals, removed, rows_in};
+ghost use Rattle.loads.specs.Loading.{AreDimensionColumns, AreDimensionsBegun, AreFiles, AreFilesBegun, AreFragmentsBegun, AreFragmentsClosed, AreRemovalsBegun, IsDimensionFile, IsFragmentFile, header_of, removals, rows_in};
 
 use crate::target::Target;
 use columns::Column;
@@ -182,8 +182,7 @@ fn remove_fragments<F: Folder>(
         ≡ removals target.now.directory.now target.now.catalog.now.fact cut.now)
         (F.wrote folder.old) (F.wrote folder.new)) }
     ensures left { OnErr result
-        (Writes (λ changes. (n : ℕ)
-        × (changes ≡ removed target.now.directory.now target.now.catalog.now.fact cut.now n))
+        (Writes (AreRemovalsBegun target.now.directory.now target.now.catalog.now.fact cut.now)
         (F.wrote folder.old) (F.wrote folder.new)) }
     ensures refused { IfErr result
         (IsFragmentLeft target.now.directory.now target.now.catalog.now.fact.name cut.now) }

@@ -1,5 +1,5 @@
 -- Proofs of the goals of `finish_load` (`load`).
-use Rattle.std.proofs.Common.{List, subst, sym, inl, inr}
+use Rattle.std.proofs.Common.{List, refl, subst, sym, inl, inr}
 use Rattle.std.proofs.lemmas.Result.{IfErr-weaker, on_ok_weaker}
 use Rattle.columns.specs.Column.{ColumnSpec}
 use Rattle.folders.specs.Each.{AreEach}
@@ -10,6 +10,7 @@ use Rattle.loads.proofs.Finished.{loaded_left}
 use Rattle.loads.proofs.LoadedColumns.{dimensions_fit}
 use Rattle.loads.proofs.Refusals.{unsaved_asked}
 use Rattle.folders.proofs.Others.{other_tried}
+use Rattle.loads.proofs.Printed.{dimensions_apart}
 use Rattle.loads.proofs.Tried.{dimensions_other}
 use Rattle.loads.proofs.load.finish_load.Goals as goal
 
@@ -57,3 +58,8 @@ returns-in-Err-clause-unwritten g c =
     let F = g.F.Folder in
     let target = c.args.target.now in
     inl (other_tried (F.tries c.args.folder.now) c.in-Err.refusal (dimensions_other (F.holds c.args.folder.now) target.directory.now target.catalog.now.dims c.in-Err.refusal c.in-Err.ensures.refused))
+
+pub returns-in-Err-clause-left : goal.returns-in-Err-clause-left
+returns-in-Err-clause-left g c =
+    let target = c.args.target.now in
+    inl (dimensions_apart (g.F.Folder.holds c.args.folder.now) target.directory.now target.catalog.now.dims c.in-Err.refusal c.in-Err.ensures.refused, refl)

@@ -2,13 +2,14 @@
 use Rattle.std.proofs.Common.{◌≡◌, List, Option, subst, sym, inl}
 use Rattle.columns.specs.Column.{ColumnSpec}
 use Rattle.folders.specs.Each.{AreEach}
-use Rattle.loads.specs.Refusing.{IsWrittenSoFar}
+use Rattle.loads.specs.Refusing.{IsUntouched, IsWrittenSoFar}
 use Rattle.std.specs.Prelude.{IfOk}
 use Rattle.folders.specs.Folder.{Change}
 use Rattle.loads.specs.Loading.{AreFragmentsClosed, IsDimensionLoaded}
 use Rattle.std.proofs.lemmas.Result.{IfOk-weaker, err_from_is_err_and, on_ok_weaker}
 use Rattle.loads.proofs.Finished.{catalog_loaded, closed_count, left_behind, left_of, refused_behind}
 use Rattle.folders.proofs.Others.{other_tried}
+use Rattle.loads.proofs.Printed.{fact_apart}
 use Rattle.loads.proofs.Tried.{fact_other, tried_either}
 use Rattle.loads.proofs.load.load_declared.Goals as goal
 
@@ -52,11 +53,19 @@ returns-clause-left g c =
     let closed = subst (λ (w : Option (List Change)). IfOk fact.files (λ files. AreFragmentsClosed F.enclosed w target.load target.catalog.now.fact fact.cut loaded.0 files.items)) (sym c.in_ok-fact.ensures.same) loaded.2 in
     left_behind (F.holds c.args.folder.now) (F.holds c.load_fact.new.folder) target.directory.now target.load c.args.rows target.catalog.now fact.cut loaded.0
     (F.wrote c.args.folder.now) (F.wrote c.load_fact.new.folder) (F.wrote c.finish_load.new.folder) c.finish_load.result c.in_ok-fact.ensures.held c.in_ok-fact.ensures.same loaded.1
-    (left_of (F.wrote c.finish_load.new.folder ≡ F.wrote c.load_fact.new.folder)
+    (left_of (λ e. IsUntouched e (F.wrote c.load_fact.new.folder) (F.wrote c.finish_load.new.folder))
     (λ (fragments : List (List ColumnSpec)). IfOk fact.files (λ files. AreFragmentsClosed F.enclosed (F.wrote c.load_fact.new.folder) target.load target.catalog.now.fact fact.cut fragments files.items))
     (λ fragments e. (dims : List (List ColumnSpec)) × AreEach (IsDimensionLoaded (F.holds c.load_fact.new.folder) target.directory.now) target.catalog.now.dims dims
     × IsWrittenSoFar target.directory.now target.load target.catalog.now fact.cut fragments dims e (F.wrote c.load_fact.new.folder) (F.wrote c.finish_load.new.folder))
     c.finish_load.result loaded.0 closed c.finish_load.ensures.left)
+
+pub returns-in_err-fact-clause-left : goal.returns-in_err-fact-clause-left
+returns-in_err-fact-clause-left g c =
+    let F = g.F.Folder in
+    let target = c.args.target.now in
+    let e = c.in_err-fact.field-0.0 in
+    let p = err_from_is_err_and c.from_residual.result c.from_residual.ensures.1 in
+    rw (p.1, p.2) (inl (fact_apart (F.holds c.args.folder.now) target.directory.now target.catalog.now c.args.rows e c.in_err-fact.ensures.refused, c.in_err-fact.ensures.same))
 
 pub returns-in_err-fact-clause-unwritten : goal.returns-in_err-fact-clause-unwritten
 returns-in_err-fact-clause-unwritten g c =

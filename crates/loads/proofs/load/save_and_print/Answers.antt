@@ -2,12 +2,15 @@
 use Rattle.std.proofs.Common.{List, inl, inr}
 use Rattle.std.proofs.lemmas.Result.{err_from_is_err_and}
 use Rattle.loads.proofs.Finished.{begun_left, printed_left}
+use Rattle.loads.proofs.Printed.{files_apart}
 use Rattle.loads.proofs.load.save_and_print.Goals as goal
 
 pub returns-in_err-saved-clause-left : goal.returns-in_err-saved-clause-left
 returns-in_err-saved-clause-left g c =
     let p = err_from_is_err_and c.from_residual.result c.from_residual.ensures.1 in
-    rw (p.1, p.2) (begun_left c.in_err-saved.ensures.left)
+    let target = c.args.target.now in
+    let apart = files_apart target.directory.now target.catalog.now c.args.fact.cut c.in_err-saved.field-0.0 c.in_err-saved.ensures.refused in
+    rw (p.1, p.2) (begun_left apart c.in_err-saved.ensures.left)
 
 pub returns-clause-left : goal.returns-clause-left
 returns-clause-left g c = printed_left _ _ _ c.print_line.result c.print_line.ensures.refused (λ fragments closed. c.in_ok-saved.ensures.written fragments closed)

@@ -1,8 +1,9 @@
 -- Proofs of the goals of `remove_fragments` (`saving`).
-use Rattle.std.proofs.Common.{◌≡◌, ◌-◌, ℕ, length, sym, subst, arith}
+use Rattle.std.proofs.Common.{◌≤◌, ◌-◌, length, sym, subst, arith}
 use Rattle.std.proofs.lemmas.Result.{err_from_is_err_and}
+use Rattle.meaning.specs.Limits.{max_fragments}
 use Rattle.folders.specs.Folder.{Writes, fragment_path}
-use Rattle.loads.specs.Loading.{removed}
+use Rattle.loads.specs.Loading.{AreRemovalsBegun}
 use Rattle.loads.proofs.WrittenFiles.{less, removed_more}
 use Rattle.loads.proofs.saving.remove_fragments.Goals as goal
 
@@ -25,6 +26,7 @@ returns-in_err-remove_fragment-clause-left g c =
     let target = c.args.target.now in
     let cut = c.args.cut.now in
     let p = err_from_is_err_and c.from_residual.result c.from_residual.ensures.1 in
+    let few : c.loop-fragment.fragment - length cut ≤ max_fragments - length cut = omega (arith, c.loop-fragment.invariant.1) in
     rw p.1 (
-    subst (Writes (λ changes. (n : ℕ) × (changes ≡ removed target.directory.now target.catalog.now.fact cut n)) (F.wrote c.args.folder.now)) (sym c.in_err-remove_fragment.ensures.left)
-    (less (F.wrote c.args.folder.now) (F.wrote c.loop-fragment.folder) (λ changes is. (c.loop-fragment.fragment - length cut, is)) c.loop-fragment.invariant.2))
+    subst (Writes (AreRemovalsBegun target.directory.now target.catalog.now.fact cut) (F.wrote c.args.folder.now)) (sym c.in_err-remove_fragment.ensures.left)
+    (less (F.wrote c.args.folder.now) (F.wrote c.loop-fragment.folder) (λ changes is. (c.loop-fragment.fragment - length cut, few, is)) c.loop-fragment.invariant.2))

@@ -7,5 +7,6 @@ mod TakenFiles
 mod Refusals
 mod FirstUnread
 mod Gathered
+mod Printed
 mod ReadFiles
 mod Unwritten

@@ -162,6 +162,15 @@ abbrev pub IsGatherLeft : Holds → GatherCommand → Option (List ℕ) → Opti
 IsGatherLeft holds command err before after = (after ≡ before)
     ⊎ ((gather : GatherSpec) × (named : Option (List ℕ)) × IsGatheredOf holds command err named gather × IsSaved command.save (state_bytes gather.job gather.cells) before after)
 
+-- where standard output failed, the state was saved
+abbrev pub IsSavedFirst : Option (List ℕ) → List ℕ → Option (List Change) → Option (List Change) → Refusal → Type 0
+IsSavedFirst save spelled before after e = e ≡ refusal.CannotPrint → IsSaved save spelled before after
+
+-- the same of the state that the files say together
+abbrev pub IsGatherSavedFirst : Holds → GatherCommand → Option (List ℕ) → Option (List Change) → Option (List Change) → Refusal → Type 0
+IsGatherSavedFirst holds command err before after e = e ≡ refusal.CannotPrint
+    → (gather : GatherSpec) × (named : Option (List ℕ)) × IsGatheredOf holds command err named gather × IsSaved command.save (state_bytes gather.job gather.cells) before after
+
 -- ---- refused
 
 -- an answer can't be put into the journal

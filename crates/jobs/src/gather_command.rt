@@ -2,7 +2,7 @@
 ghost use Rattle.std.specs.Prelude.{◌≡◌, ◌⊎◌, None, Some, true, IfErr, IfOk, OnErr};
 ghost use Rattle.partial_codec.specs.State.{state_bytes};
 ghost use Rattle.folders.specs.Refused.{IsAskedFor, IsTriedFor};
-ghost use Rattle.jobs.specs.Gathering.{HasFailed, IsGatherLeft, IsGathered, IsGatheredOf, IsGatherRefused, IsGatherUnread, IsReported, IsReportRefused, IsSaveLeft, IsTogetherRefused, IsUnkept};
+ghost use Rattle.jobs.specs.Gathering.{HasFailed, IsGatherLeft, IsGathered, IsGatheredOf, IsGatherRefused, IsGatherSavedFirst, IsGatherUnread, IsReported, IsReportRefused, IsSavedFirst, IsSaveLeft, IsTogetherRefused, IsUnkept};
 
 use crate::job::read_job;
 use crate::journals::{refusal_of, start_journal};
@@ -100,6 +100,9 @@ fn report_from_memory<F: Folder, O: Write, E: Write>(
     ensures left { OnErr result
         (IsGatherLeft (F.holds folder.old) command.now (E.contents err.old) (F.wrote folder.old)
         (F.wrote folder.new)) }
+    ensures saved { IfErr result
+        (IsGatherSavedFirst (F.holds folder.old) command.now (E.contents err.old)
+        (F.wrote folder.old) (F.wrote folder.new)) }
     ensures unread { IfErr result (IsAskedFor (F.asks folder.old)) }
     ensures unwritten { IfErr result (IsTriedFor (F.tries folder.old)) }
     ensures failed { IfErr result (HasFailed F.Disk.shown) }
@@ -127,6 +130,9 @@ fn save_and_show_durable<F: Folder, D: Disk + Drop, O: Write>(
         ⊎ (O.contents out.new ≡ O.contents out.old)) }
     ensures left { OnErr result
         (IsSaveLeft command.now.save (state_bytes durable.now.gather.job durable.now.gather.cells)
+        (F.wrote folder.old) (F.wrote folder.new)) }
+    ensures saved { IfErr result
+        (IsSavedFirst command.now.save (state_bytes durable.now.gather.job durable.now.gather.cells)
         (F.wrote folder.old) (F.wrote folder.new)) }
     ensures unwritten { IfErr result (IsTriedFor (F.tries folder.old)) }
     ensures failed { IfErr result (HasFailed F.Disk.shown) }
@@ -157,6 +163,9 @@ fn report_from_journal<F: Folder, O: Write, E: Write>(
     ensures left { OnErr result
         (IsGatherLeft (F.holds folder.old) command.now (E.contents err.old) (F.wrote folder.old)
         (F.wrote folder.new)) }
+    ensures saved { IfErr result
+        (IsGatherSavedFirst (F.holds folder.old) command.now (E.contents err.old)
+        (F.wrote folder.old) (F.wrote folder.new)) }
     ensures unread { IfErr result (IsAskedFor (F.asks folder.old)) }
     ensures unwritten { IfErr result (IsTriedFor (F.tries folder.old)) }
     ensures failed { IfErr result (HasFailed F.Disk.shown) }
@@ -203,6 +212,10 @@ pub fn gather_answers<F: Folder, O: Write, E: Write>(
     ensures left { OnErr result
         (IsGatherLeft (F.holds folder.old) command.now (E.contents err.old) (F.wrote folder.old)
         (F.wrote folder.new)) }
+    // The state was saved where the output failed.
+    ensures saved { IfErr result
+        (IsGatherSavedFirst (F.holds folder.old) command.now (E.contents err.old)
+        (F.wrote folder.old) (F.wrote folder.new)) }
     // And it was asked for.
     ensures unread { IfErr result (IsAskedFor (F.asks folder.old)) }
     // One that can't be written was to be created.

@@ -6,7 +6,7 @@ ghost use Rattle.partial_codec.specs.State.{state_bytes};
 ghost use Rattle.gathering.specs.Report.{report_of_output, summary};
 ghost use Rattle.folders.specs.Folder.{WritesOne};
 ghost use Rattle.folders.specs.Refused.{IsTriedFor, IsUnwritten};
-ghost use Rattle.jobs.specs.Gathering.{IsReported, IsReportRefused, IsSaved, IsSaveLeft, IsSaveRefused, IsUnprinted, shown};
+ghost use Rattle.jobs.specs.Gathering.{IsReported, IsReportRefused, IsSaved, IsSavedFirst, IsSaveLeft, IsSaveRefused, IsUnprinted, shown};
 
 use command_line::GatherCommand;
 use folders::{Folder, Refusal, write_file};
@@ -140,6 +140,9 @@ pub fn save_and_show<F: Folder, O: Write>(
         ⊎ (O.contents out.new ≡ O.contents out.old)) }
     ensures left { OnErr result
         (IsSaveLeft command.now.save (state_bytes gather.now.job gather.now.cells)
+        (F.wrote folder.old) (F.wrote folder.new)) }
+    ensures saved { IfErr result
+        (IsSavedFirst command.now.save (state_bytes gather.now.job gather.now.cells)
         (F.wrote folder.old) (F.wrote folder.new)) }
     ensures unwritten { IfErr result (IsTriedFor (F.tries folder.old)) }
 {

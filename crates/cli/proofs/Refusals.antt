@@ -1,6 +1,6 @@
 -- Why a command is refused, from what its steps are refused for.
 use Rattle.std.proofs.Common.{◌≡◌, ℕ, suc, ◌<◌, List, ◌∷◌, ◌++◌, length, drop, take, get_or, Contains, Option, Some, None, Result, Ok, Err, refl, sym, ap, subst, ◌∙◌, inl, inr}
-use Rattle.std.specs.Prelude.{◌⊎◌, IfErr}
+use Rattle.std.specs.Prelude.{◌⊎◌, IfErr, OnErr}
 use Rattle.std.specs.Borrow.{Bor}
 use Rattle.std.proofs.Math.Seq.{split_at}
 use Rattle.std.proofs.lemmas.List.Elements.{Contains-get_or}
@@ -21,13 +21,15 @@ use Rattle.cli.specs.WholeRefusal.{refusal_of}
 use Rattle.folders.specs.declared.refusal.Refusal.{Refusal}
 use Rattle.folders.specs.declared.refusal.Refusal.TheVariants as refusal
 use Rattle.jobs.specs.Job.{IsQueryRefused as IsUnplanned}
+use Rattle.jobs.specs.Gathering.{IsGatherLeft, IsGatherRefused, IsGatherSavedFirst}
 use Rattle.jobs.specs.Working.{IsWorkRefused, IsWorkUnread}
+use Rattle.command_line.specs.declared.commands.GatherCommand.{GatherCommand}
 use Rattle.command_line.specs.declared.commands.WorkCommand.{WorkCommand}
 use Rattle.cli.specs.Refusing.{IsDiskFailed, IsInputRefused, IsRefusedSo, IsUnreadFirst, IsUnwrittenTried, IsWholeRefused}
 use Rattle.loads.specs.Refusing.{IsLoadLeft, IsLoadRefused, IsQuiet}
 use Rattle.cli.specs.Running.{files_of, input_over}
 use Rattle.command_line.specs.declared.commands.Command.{Command}
-use Rattle.command_line.specs.declared.commands.Command.TheVariants.{Whole, Load, Work}
+use Rattle.command_line.specs.declared.commands.Command.TheVariants.{Whole, Load, Work, Gather}
 use Rattle.cli.specs.declared.tables.Tables.{Tables}
 
 -- ---- a query over files
@@ -79,6 +81,14 @@ whole_refused holds command folder lent query text rows vector (Err e) before af
       quiet = quiet;
       left = refl;
     })
+
+-- so is `gather`
+pub gather_refused : (holds : Holds) (command : Command) (asked : GatherCommand) (result : Result ℕ Refusal) (before after err : Option (List ℕ)) (wrote_before wrote_after : Option (List Change))
+    → command ≡ Gather asked → IfErr result (IsGatherRefused holds asked) → IfErr result (λ e. IsQuiet e before after) → OnErr result (IsGatherLeft holds asked err wrote_before wrote_after)
+    → IfErr result (IsGatherSavedFirst holds asked err wrote_before wrote_after) → IfErr result (IsRefusedSo holds command before after err wrote_before wrote_after)
+gather_refused holds command asked (Ok status) before after err wrote_before wrote_after is stands quiet left saved = tt
+gather_refused holds command asked (Err e) before after err wrote_before wrote_after is stands quiet left saved =
+    subst (λ (x : Command). IsRefusedSo holds x before after err wrote_before wrote_after e) (sym is) (record { stands = stands; quiet = quiet; left = (left, saved) })
 
 -- ---- the first file that can't be read
 

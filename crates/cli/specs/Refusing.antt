@@ -20,7 +20,7 @@ use Rattle.folders.specs.Refused.{IsTriedFor, IsUnread, IsUnwritten}
 use Rattle.cli.specs.WholeRefusal.{refusal_of}
 use Rattle.folders.specs.declared.refusal.Refusal.{Refusal}
 use Rattle.folders.specs.declared.refusal.Refusal.TheVariants as refusal
-use Rattle.jobs.specs.Gathering.{HasFailed, IsGatherLeft, IsGatherRefused, IsGatherUnread}
+use Rattle.jobs.specs.Gathering.{HasFailed, IsGatherLeft, IsGatherRefused, IsGatherSavedFirst, IsGatherUnread}
 use Rattle.folders.specs.Tables.{IsCatalogRefused, IsCatalogThere}
 use Rattle.jobs.specs.Working.{IsWorkRefused, IsWorkUnread}
 use Rattle.loads.specs.Refusing.{IsLoadLeft, IsLoadRefused, IsQuiet, IsUneven}
@@ -108,13 +108,13 @@ IsUnwrittenTried tries (Whole folder query rows vector) e = ⊤
 
 -- ---- what a refusal leaves
 
--- the files that a refused command leaves: `whole` and `work` write none, `load` no more than the first files of each kind, and
--- `gather` none but a state whose report can't be printed
+-- the files that a refused command leaves: `whole` and `work` write none, `load` no more than the first of its files, and
+-- `gather` none but a state whose report can't be printed; where standard output failed, all that was to be written is
 abbrev pub LeavesFiles : Holds → Command → Refusal → Option (List ℕ) → Option (List Change) → Option (List Change) → Type 0
 LeavesFiles holds (Whole folder query rows vector) e err before after = after ≡ before
 LeavesFiles holds (Load folder load rows) e err before after = IsLoadLeft holds folder load rows e before after
 LeavesFiles holds (Work command) e err before after = after ≡ before
-LeavesFiles holds (Gather command) e err before after = IsGatherLeft holds command err before after
+LeavesFiles holds (Gather command) e err before after = IsGatherLeft holds command err before after × IsGatherSavedFirst holds command err before after e
 
 -- nothing went to standard error but from `gather`, which names the files that it passes over
 abbrev pub IsSilent : Command → Option (List ℕ) → Option (List ℕ) → Type 0

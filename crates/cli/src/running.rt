@@ -15,7 +15,7 @@ ghost use Rattle.cli.specs.Status.{IsEndStatus, IsRunStatus, end_status, report_
 ghost use Rattle.folders.specs.Folder.{csv_path};
 ghost use Rattle.folders.specs.Refused.{IsAskedFor, IsTriedFor};
 ghost use Rattle.folders.specs.declared.refusal.Refusal.{Refusal as ARefusal};
-ghost use Rattle.jobs.specs.Gathering.{HasFailed, IsGatherLeft, IsGatherRefused, IsGatherUnread};
+ghost use Rattle.jobs.specs.Gathering.{HasFailed, IsGatherLeft, IsGatherRefused, IsGatherSavedFirst, IsGatherUnread};
 ghost use Rattle.jobs.specs.Working.{IsWorked, IsWorkRefused, IsWorkUnread};
 
 use crate::question::{Question, Request};
@@ -234,6 +234,9 @@ fn gather<F: Folder, O: Write, E: Write>(
     ensures left { OnErr result
         (IsGatherLeft (F.holds folder.old) command.now (E.contents err.old) (F.wrote folder.old)
         (F.wrote folder.new)) }
+    ensures saved { IfErr result
+        (IsGatherSavedFirst (F.holds folder.old) command.now (E.contents err.old)
+        (F.wrote folder.old) (F.wrote folder.new)) }
     ensures unread { IfErr result (IsAskedFor (F.asks folder.old)) }
     ensures unwritten { IfErr result (IsTriedFor (F.tries folder.old)) }
     ensures failed { IfErr result (HasFailed F.Disk.shown) }

@@ -1,6 +1,6 @@
 -- Proofs of the goals of `outcome` (`running`).
 use Rattle.std.proofs.lemmas.Result.{err_from_is_err_and}
-use Rattle.cli.proofs.Refusals.{load_failed, load_first, load_refused, load_tried, whole_failed, whole_first, whole_refused, whole_tried, work_failed, work_first, work_refused, work_tried}
+use Rattle.cli.proofs.Refusals.{gather_refused, load_failed, load_first, load_refused, load_tried, whole_failed, whole_first, whole_refused, whole_tried, work_failed, work_first, work_refused, work_tried}
 use Rattle.cli.proofs.running.outcome.Goals as goal
 
 pub returns-in_err-load_tables-in-Load-clause-refused : goal.returns-in_err-load_tables-in-Load-clause-refused
@@ -24,6 +24,11 @@ returns-in-Whole-clause-refused g c =
     whole_refused (g.F.Folder.holds c.args.folder.now) c.args.command.now c.in-Whole.directory c.as_str-directory.result.now c.in-Whole.query c.as_str-query.result.now
     c.in-Whole.rows c.in-Whole.vector c.answer.result (g.O.Write.contents c.args.out.now) (g.O.Write.contents c.answer.new.out) (g.E.Write.contents c.args.err.now) (g.F.Folder.wrote c.args.folder.now)
     c.in-Whole.is c.as_str-directory.ensures c.as_str-query.ensures c.answer.ensures.refused c.answer.ensures.quiet
+
+pub returns-in-Gather-clause-refused : goal.returns-in-Gather-clause-refused
+returns-in-Gather-clause-refused g c =
+    gather_refused (g.F.Folder.holds c.args.folder.now) c.args.command.now c.in-Gather.command c.gather.result (g.O.Write.contents c.args.out.now) (g.O.Write.contents c.gather.new.out) (g.E.Write.contents c.args.err.now)
+    (g.F.Folder.wrote c.args.folder.now) (g.F.Folder.wrote c.gather.new.folder) c.in-Gather.is c.gather.ensures.refused c.gather.ensures.quiet c.gather.ensures.left c.gather.ensures.saved
 
 pub returns-in_err-load_tables-in-Load-clause-first : goal.returns-in_err-load_tables-in-Load-clause-first
 returns-in_err-load_tables-in-Load-clause-first g c =

@@ -10,6 +10,7 @@ use Rattle.catalog_reader.specs.CatalogText.{catalog_of}
 use Rattle.folders.specs.Folder.{Holds, catalog_path, csv_path}
 use Rattle.init.specs.declared.fault.InitFault.{InitFault}
 use Rattle.init.specs.declared.fault.InitFault.TheVariants as fault
+use Rattle.init.specs.declared.fault.PathFault.TheVariants as path_fault
 use Rattle.init.specs.declared.listing.CsvFile.{CsvFile}
 use Rattle.init.specs.Making.{DeclaresFact}
 use Rattle.init.specs.Refusing.{IsCatalogRefused, IsNotAbsent, IsUnwritten}
@@ -22,24 +23,22 @@ is_short_name name = is_name name && nat_le (length name) max_name_bytes
 -- memory ran out, or the table has no name
 abbrev pub IsUnnamed : List ℕ → List ℕ → InitFault → Type 0
 IsUnnamed path table fault.Memory = ⊤
-IsUnnamed path table (fault.TableName file) = (string_bytes file ≡ path) × (is_short_name table ≡ false)
+IsUnnamed path table (fault.Path file path_fault.NoTableName) = (string_bytes file ≡ path) × (is_short_name table ≡ false)
 IsUnnamed path table _ = ⊥
 
 -- memory ran out, or the column of this index has no name of its own
 abbrev pub IsColumnUnnamed : List ℕ → ℕ → InitFault → Type 0
 IsColumnUnnamed path index fault.Memory = ⊤
-IsColumnUnnamed path index (fault.ColumnName file column) = (string_bytes file ≡ path) × (column ≡ index + 1)
-IsColumnUnnamed path index (fault.ColumnTwice file column) = (string_bytes file ≡ path) × (column ≡ index + 1)
+IsColumnUnnamed path index (fault.Column file column found) = (string_bytes file ≡ path) × (column ≡ index + 1)
 IsColumnUnnamed path index _ = ⊥
 
 -- memory ran out, or the file of this path can't be read, or its header is refused
 abbrev pub IsHeaderRefused : List ℕ → InitFault → Type 0
 IsHeaderRefused path fault.Memory = ⊤
-IsHeaderRefused path (fault.CannotRead file) = string_bytes file ≡ path
-IsHeaderRefused path (fault.NoHeader file) = string_bytes file ≡ path
-IsHeaderRefused path (fault.TooManyColumns file) = string_bytes file ≡ path
-IsHeaderRefused path (fault.ColumnName file column) = string_bytes file ≡ path
-IsHeaderRefused path (fault.ColumnTwice file column) = string_bytes file ≡ path
+IsHeaderRefused path (fault.Path file path_fault.CannotRead) = string_bytes file ≡ path
+IsHeaderRefused path (fault.Path file path_fault.NoHeader) = string_bytes file ≡ path
+IsHeaderRefused path (fault.Path file path_fault.TooManyColumns) = string_bytes file ≡ path
+IsHeaderRefused path (fault.Column file column found) = string_bytes file ≡ path
 IsHeaderRefused path _ = ⊥
 
 -- the table has no name; or it has one, and its file's header is refused
@@ -51,13 +50,13 @@ IsTableRefused path table e = IsUnnamed path table e ⊎ ((is_short_name table �
 -- memory ran out, or the file of this path has no key
 abbrev pub IsKeyless : List ℕ → InitFault → Type 0
 IsKeyless path fault.Memory = ⊤
-IsKeyless path (fault.NoKey file) = string_bytes file ≡ path
+IsKeyless path (fault.Path file path_fault.NoKey) = string_bytes file ≡ path
 IsKeyless path _ = ⊥
 
 -- memory ran out, or the file of this path can't be read, or its records have a fault
 abbrev pub AreRecordsRefused : List ℕ → InitFault → Type 0
 AreRecordsRefused path fault.Memory = ⊤
-AreRecordsRefused path (fault.CannotRead file) = string_bytes file ≡ path
+AreRecordsRefused path (fault.Path file path_fault.CannotRead) = string_bytes file ≡ path
 AreRecordsRefused path (fault.Table file f) = string_bytes file ≡ path
 AreRecordsRefused path _ = ⊥
 
@@ -77,7 +76,7 @@ IsDimensionUnmade path table e = IsTableRefused path table e ⊎ ((is_short_name
 -- memory ran out, or the folder's files can't be listed
 abbrev pub IsUnlisted : (List ℕ → Type 0) → List ℕ → InitFault → Type 0
 IsUnlisted hides folder fault.Memory = ⊤
-IsUnlisted hides folder (fault.CannotRead name) = (string_bytes name ≡ folder) × hides folder
+IsUnlisted hides folder (fault.Path name path_fault.CannotRead) = (string_bytes name ≡ folder) × hides folder
 IsUnlisted hides folder _ = ⊥
 
 -- the folder's files, in some order
@@ -106,8 +105,8 @@ IsFactOf (Some asked) files fact = (fact ≡ asked) × (has_file files asked ≡
 abbrev pub IsFactUnfound : Option (List ℕ) → List CsvFile → List ℕ → InitFault → Type 0
 IsFactUnfound asked files folder fault.Memory = ⊤
 IsFactUnfound asked files folder fault.CannotReport = ⊤
-IsFactUnfound asked files folder (fault.NoFact file) = (name : List ℕ) × (asked ≡ Some name) × (has_file files name ≡ false) × (string_bytes file ≡ csv_path folder name)
-IsFactUnfound asked files folder (fault.NoFile file) = (asked ≡ None) × (files ≡ []) × (string_bytes file ≡ folder)
+IsFactUnfound asked files folder (fault.Path file path_fault.NoFact) = (name : List ℕ) × (asked ≡ Some name) × (has_file files name ≡ false) × (string_bytes file ≡ csv_path folder name)
+IsFactUnfound asked files folder (fault.Path file path_fault.NoFile) = (asked ≡ None) × (files ≡ []) × (string_bytes file ≡ folder)
 IsFactUnfound asked files folder _ = ⊥
 
 -- memory ran out, or one of the files but the fact's makes no dimension

@@ -15,6 +15,8 @@ use Rattle.folders.specs.declared.refusal.Refusal.{Refusal}
 use Rattle.folders.specs.declared.refusal.Refusal.TheVariants as refusal
 use Rattle.init.specs.declared.fault.InitFault.{InitFault}
 use Rattle.init.specs.declared.fault.InitFault.TheVariants as fault
+use Rattle.init.specs.declared.fault.PathFault.{PathFault}
+use Rattle.init.specs.declared.fault.PathFault.TheVariants as path_fault
 use Rattle.init.specs.Making.{IsDimensionFit, IsFactFit}
 
 -- ---- a layer's refusal
@@ -23,16 +25,22 @@ abbrev pub of_catalog : CatalogFault → InitFault
 of_catalog catalog_fault.Memory = fault.Memory
 of_catalog e = fault.Catalog e
 
+-- memory ran out, or this is wrong with the file or the folder of this path
+abbrev pub IsOfPath : List ℕ → PathFault → InitFault → Type 0
+IsOfPath path found fault.Memory = ⊤
+IsOfPath path found (fault.Path file kind) = (string_bytes file ≡ path) × (kind ≡ found)
+IsOfPath path found _ = ⊥
+
 -- memory ran out, or the file of this path can't be read
 abbrev pub IsUnread : List ℕ → InitFault → Type 0
 IsUnread path fault.Memory = ⊤
-IsUnread path (fault.CannotRead file) = string_bytes file ≡ path
+IsUnread path (fault.Path file path_fault.CannotRead) = string_bytes file ≡ path
 IsUnread path _ = ⊥
 
 -- memory ran out, or the file of this path can't be written
 abbrev pub IsUnwritten : List ℕ → InitFault → Type 0
 IsUnwritten path fault.Memory = ⊤
-IsUnwritten path (fault.CannotWrite file) = string_bytes file ≡ path
+IsUnwritten path (fault.Path file path_fault.CannotWrite) = string_bytes file ≡ path
 IsUnwritten path _ = ⊥
 
 -- the refusal of a file that is read or written
@@ -44,27 +52,15 @@ IsOfRefusal _ e = e ≡ fault.Memory
 -- memory ran out, or a table of this file was not loaded for this reason
 abbrev pub IsOfLoad : List ℕ → LoadFault → InitFault → Type 0
 IsOfLoad path given fault.Memory = ⊤
-IsOfLoad path given (fault.CannotRead file) = (string_bytes file ≡ path) × (given ≡ load_fault.Device)
+IsOfLoad path given (fault.Path file path_fault.CannotRead) = (string_bytes file ≡ path) × (given ≡ load_fault.Device)
 IsOfLoad path given (fault.Table file e) = (string_bytes file ≡ path) × (given ≡ load_fault.Table e)
 IsOfLoad path given _ = ⊥
-
--- memory ran out, or the file of this path has too many rows
-abbrev pub IsTooLong : List ℕ → InitFault → Type 0
-IsTooLong path fault.Memory = ⊤
-IsTooLong path (fault.TooManyRows file) = string_bytes file ≡ path
-IsTooLong path _ = ⊥
-
--- memory ran out, or there is a catalogue under the path
-abbrev pub IsThere : List ℕ → InitFault → Type 0
-IsThere path fault.Memory = ⊤
-IsThere path (fault.CatalogThere file) = string_bytes file ≡ path
-IsThere path _ = ⊥
 
 -- memory ran out, or a file was opened under the path, or it can't be said whether there is one
 abbrev pub IsNotAbsent : (List ℕ → Type 0) → List ℕ → InitFault → Type 0
 IsNotAbsent opens path fault.Memory = ⊤
-IsNotAbsent opens path (fault.CatalogThere file) = (string_bytes file ≡ path) × opens path
-IsNotAbsent opens path (fault.CannotRead file) = string_bytes file ≡ path
+IsNotAbsent opens path (fault.Path file path_fault.CatalogThere) = (string_bytes file ≡ path) × opens path
+IsNotAbsent opens path (fault.Path file path_fault.CannotRead) = string_bytes file ≡ path
 IsNotAbsent opens path _ = ⊥
 
 -- ---- the fact
@@ -72,8 +68,8 @@ IsNotAbsent opens path _ = ⊥
 -- the rows behind a file's header aren't counted, or are more than 4,294,967,296. What is said of a file's bytes is said where they are known.
 abbrev pub IsUncounted : Holds → List ℕ → InitFault → Type 0
 IsUncounted holds path fault.Memory = ⊤
-IsUncounted holds path (fault.CannotRead file) = string_bytes file ≡ path
-IsUncounted holds path (fault.TooManyRows file) = (string_bytes file ≡ path)
+IsUncounted holds path (fault.Path file path_fault.CannotRead) = string_bytes file ≡ path
+IsUncounted holds path (fault.Path file path_fault.TooManyRows) = (string_bytes file ≡ path)
     × ((csv : List ℕ) → holds path ≡ Some csv → 4294967296 < length (drop 1 (csv_records csv)))
 IsUncounted holds path _ = ⊥
 

@@ -12,7 +12,7 @@ ghost use Rattle.init.specs.Guessing.{IsNoCatalog};
 ghost use Rattle.init.specs.Making.{AreColumns, DeclaresFact, IsCatalogFor, IsDimension, IsDimensionFit, IsFact, IsFactFit};
 ghost use Rattle.init.specs.Refusing.{AreTablesRefused, IsCatalogRefused, IsDimensionRefused, IsFactRefused, IsFirstRefused, IsUncounted, IsUnread};
 
-use crate::fault::{InitFault, of_load, too_many_rows};
+use crate::fault::{InitFault, PathFault, of_load, of_path};
 use catalog_reader::read_catalog;
 use folders::{Folder, csv_path, open_file};
 use loader::{FactReader, LoadFault, count_rows, load_dimension, open_fact};
@@ -79,7 +79,7 @@ fn rows_of<F: Folder>(alloc: Global, folder: &F, path: &Text) -> Result<u64, Ini
     let file = opened(folder, path)?;
     match count_rows(alloc, file) {
         Ok(rows) => Ok(rows),
-        Err(fault) => Err(of_load(path, fault)),
+        Err(fault) => Err(of_load(alloc, path, fault)),
     }
 }
 
@@ -92,7 +92,7 @@ fn cut_of<F: Folder>(alloc: Global, folder: &F, path: &Text) -> Result<Cut, Init
 {
     let rows = rows_of(alloc, folder, path)?;
     if rows > MOST_ROWS {
-        return Err(too_many_rows(path));
+        return Err(of_path(alloc, path.as_str(), PathFault::TooManyRows));
     }
     // So many rows are cut, unless memory runs out.
     match Cut::even(alloc, rows, MAX_ROWS) {
@@ -115,7 +115,7 @@ fn check_fact_file<F: Folder>(
     let file = opened(folder, path)?;
     match pass_fact(alloc, catalog, file, &cut) {
         Ok(()) => Ok(()),
-        Err(fault) => Err(of_load(path, fault)),
+        Err(fault) => Err(of_load(alloc, path, fault)),
     }
 }
 
@@ -167,7 +167,7 @@ fn check_dimension_file<F: Folder>(
     let file = opened(folder, path)?;
     match pass_dimension(alloc, dimension, file) {
         Ok(()) => Ok(()),
-        Err(fault) => Err(of_load(path, fault)),
+        Err(fault) => Err(of_load(alloc, path, fault)),
     }
 }
 

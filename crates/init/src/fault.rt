@@ -1,15 +1,72 @@
 //! Why no catalogue was made.
 ghost use Rattle.std.specs.Prelude.{◌≡◌};
-ghost use Rattle.init.specs.Guessing.{IsKeyless};
-ghost use Rattle.init.specs.Refusing.{IsOfLoad, IsOfRefusal, IsThere, IsTooLong, IsUnread, of_catalog};
+ghost use Rattle.init.specs.Refusing.{IsOfLoad, IsOfPath, IsOfRefusal, of_catalog};
 ghost use Rattle.init.specs.declared.fault.InitFault.TheVariants as fault_is;
 
 use folders::Refusal;
 use loader::LoadFault;
 use meaning::{CatalogFault, TableFault, Text};
-use std::alloc::{AllocError, AllocFailed};
+use std::alloc::{AllocError, AllocFailed, Global};
 use std::fmt::{self, Debug, Display, Formatter};
 use thiserror::Error;
+
+/// What is wrong with a file or a folder.
+#[derive(Clone, Copy, Drop)]
+pub enum PathFault {
+    CannotRead,
+    CannotWrite,
+    CatalogThere,
+    NoFile,
+    NoFact,
+    NoTableName,
+    NoHeader,
+    TooManyColumns,
+    NoKey,
+    TooManyRows,
+}
+
+impl PathFault {
+    /// What a refusal says before the path, and behind it.
+    fn words(self) -> (&'static str, &'static str) {
+        match self {
+            PathFault::CannotRead => ("cannot read ", ""),
+            PathFault::CannotWrite => ("cannot write ", ""),
+            PathFault::CatalogThere => ("", " is there already, and is never written over"),
+            PathFault::NoFile => ("", " has no CSV file"),
+            PathFault::NoFact => ("there is no file ", " for the fact"),
+            PathFault::NoTableName => (
+                "",
+                " has no name of a table: at most 64 lower-case letters, digits and underscores, no digit in front, no word of SQL",
+            ),
+            PathFault::NoHeader => ("", " has no header"),
+            PathFault::TooManyColumns => ("", " has over 64 columns"),
+            PathFault::NoKey => (
+                "",
+                " can't be a dimension: it has no column whose values differ and are never NULL, for a key",
+            ),
+            PathFault::TooManyRows => ("", " has over 4,294,967,296 rows"),
+        }
+    }
+}
+
+/// What is wrong with a column's name.
+#[derive(Clone, Copy, Drop)]
+pub enum ColumnFault {
+    NoName,
+    NameTwice,
+}
+
+impl ColumnFault {
+    /// What a refusal says behind the column.
+    fn words(self) -> &'static str {
+        match self {
+            ColumnFault::NoName => {
+                "has no name: at most 64 letters, digits and underscores, no digit in front, no word of SQL"
+            }
+            ColumnFault::NameTwice => "has the name of one before it",
+        }
+    }
+}
 
 /// Why no catalogue was made for a folder. Files are named by their paths; columns count from 1, as
 /// in a spreadsheet, and rows from 0 behind the header, as everywhere.
@@ -17,36 +74,26 @@ use thiserror::Error;
 pub enum InitFault {
     #[error("memory")]
     Memory,
-    #[error("cannot read {0}")]
-    CannotRead(String),
-    #[error("cannot write {0}")]
-    CannotWrite(String),
     #[error("cannot write standard error")]
     CannotReport,
-    #[error("{0} is there already, and is never written over")]
-    CatalogThere(String),
-    #[error("{0} has no CSV file")]
-    NoFile(String),
-    #[error("there is no file {0} for the fact")]
-    NoFact(String),
-    #[error("{0} has no name of a table: at most 64 lower-case letters, digits and underscores, no digit in front, no word of SQL")]
-    TableName(String),
-    #[error("{file}: column {column} has no name: at most 64 letters, digits and underscores, no digit in front, no word of SQL")]
-    ColumnName { file: String, column: usize },
-    #[error("{file}: column {column} has the name of one before it")]
-    ColumnTwice { file: String, column: usize },
-    #[error("{0} has no header")]
-    NoHeader(String),
-    #[error("{0} has over 64 columns")]
-    TooManyColumns(String),
     #[error("there are over 16 files beside the fact's")]
     TooManyDimensions,
-    #[error("{0} can't be a dimension: it has no column whose values differ and are never NULL, for a key")]
-    NoKey(String),
-    #[error("{0} has over 4,294,967,296 rows")]
-    TooManyRows(String),
+    #[error("{}{path}{}", fault.words().0, fault.words().1)]
+    Path {
+        path: String,
+        fault: PathFault,
+    },
+    #[error("{file}: column {column} {}", fault.words())]
+    Column {
+        file: String,
+        column: usize,
+        fault: ColumnFault,
+    },
     #[error("{file}: load {}: {fault}", fault.number())]
-    Table { file: String, fault: TableFault },
+    Table {
+        file: String,
+        fault: TableFault,
+    },
     #[error("the text that was made is no catalogue: {0}")]
     Catalog(CatalogFault),
 }
@@ -80,8 +127,14 @@ impl From<Refusal> for InitFault {
 
     fn from(refusal: Refusal) -> InitFault {
         match refusal {
-            Refusal::CannotRead(path) => InitFault::CannotRead(path.into_string()),
-            Refusal::CannotWrite(path) => InitFault::CannotWrite(path.into_string()),
+            Refusal::CannotRead(path) => InitFault::Path {
+                path: path.into_string(),
+                fault: PathFault::CannotRead,
+            },
+            Refusal::CannotWrite(path) => InitFault::Path {
+                path: path.into_string(),
+                fault: PathFault::CannotWrite,
+            },
             _ => InitFault::Memory,
         }
     }
@@ -99,57 +152,26 @@ impl From<CatalogFault> for InitFault {
     }
 }
 
+/// The refusal of a file or a folder.
+pub fn of_path(alloc: Global, path: &str, fault: PathFault) -> InitFault
+    ensures { IsOfPath path.now fault result }
+{
+    match String::from_str(alloc, path) {
+        Ok(path) => InitFault::Path { path, fault },
+        Err(AllocError) => InitFault::Memory,
+    }
+}
+
 /// Why a table of a file was not loaded.
-pub fn of_load(file: &Text, fault: LoadFault) -> InitFault
+pub fn of_load(alloc: Global, file: &Text, fault: LoadFault) -> InitFault
     ensures { IsOfLoad file.now fault result }
 {
-    let Ok(file) = file.clone() else {
-        return InitFault::Memory;
-    };
-    let file = file.into_string();
     match fault {
         LoadFault::Memory => InitFault::Memory,
-        LoadFault::Table(fault) => InitFault::Table { file, fault },
-        LoadFault::Device => InitFault::CannotRead(file),
-    }
-}
-
-/// The refusal of a file that can't be read.
-pub fn unread(path: &Text) -> InitFault
-    ensures { IsUnread path.now result }
-{
-    match path.clone() {
-        Ok(path) => InitFault::CannotRead(path.into_string()),
-        Err(_) => InitFault::Memory,
-    }
-}
-
-/// The refusal of a path under which there is a catalogue.
-pub fn catalog_there(path: &Text) -> InitFault
-    ensures { IsThere path.now result }
-{
-    match path.clone() {
-        Ok(path) => InitFault::CatalogThere(path.into_string()),
-        Err(_) => InitFault::Memory,
-    }
-}
-
-/// The refusal of a file that has more rows than a table may have.
-pub fn too_many_rows(file: &Text) -> InitFault
-    ensures { IsTooLong file.now result }
-{
-    match file.clone() {
-        Ok(file) => InitFault::TooManyRows(file.into_string()),
-        Err(_) => InitFault::Memory,
-    }
-}
-
-/// The refusal of a dimension's file that has no key.
-pub fn no_key(file: &Text) -> InitFault
-    ensures { IsKeyless file.now result }
-{
-    match file.clone() {
-        Ok(file) => InitFault::NoKey(file.into_string()),
-        Err(_) => InitFault::Memory,
+        LoadFault::Device => of_path(alloc, file.as_str(), PathFault::CannotRead),
+        LoadFault::Table(fault) => match String::from_str(alloc, file.as_str()) {
+            Ok(file) => InitFault::Table { file, fault },
+            Err(AllocError) => InitFault::Memory,
+        },
     }
 }

@@ -4,7 +4,7 @@ ghost use Rattle.folders.specs.Folder.{csv_path};
 ghost use Rattle.init.specs.Guessing.{AreRecordsRefused, IsKeyless, IsKeyRefused};
 
 use crate::checking::opened;
-use crate::fault::{InitFault, no_key, of_load};
+use crate::fault::{InitFault, PathFault, of_load, of_path};
 use folders::{Folder, csv_path};
 use loader::{LoadFault, load_dimension};
 use meaning::{Dimension, Table, TableFault, Text};
@@ -32,7 +32,7 @@ fn has_key<F: Folder>(
     match load_dimension(alloc, dimension, file) {
         Ok(_) => Ok(true),
         Err(LoadFault::Table(TableFault::KeyTwice { .. })) => Ok(false),
-        Err(fault) => Err(of_load(path, fault)),
+        Err(fault) => Err(of_load(alloc, path, fault)),
     }
 }
 
@@ -66,7 +66,12 @@ fn keys_of<F: Folder>(
 }
 
 // With the first of its keys, if there is one.
-fn with_first(path: &Text, dimension: Dimension, keys: Vec<usize>) -> Result<Keyed, InitFault>
+fn with_first(
+    alloc: Global,
+    path: &Text,
+    dimension: Dimension,
+    keys: Vec<usize>,
+) -> Result<Keyed, InitFault>
     ensures { IfErr result (IsKeyless path.now) }
 {
     let mut dimension = dimension;
@@ -74,7 +79,7 @@ fn with_first(path: &Text, dimension: Dimension, keys: Vec<usize>) -> Result<Key
     if others.is_empty() {
         drop(dimension);
         drop(others);
-        return Err(no_key(path));
+        return Err(of_path(alloc, path.as_str(), PathFault::NoKey));
     }
     dimension.key = others.remove(0);
     Ok(Keyed { dimension, others })
@@ -90,7 +95,7 @@ fn with_key_of<F: Folder>(
 {
     let mut dimension = dimension;
     match keys_of(alloc, folder, path, &mut dimension) {
-        Ok(keys) => with_first(path, dimension, keys),
+        Ok(keys) => with_first(alloc, path, dimension, keys),
         Err(fault) => {
             drop(dimension);
             Err(fault)

@@ -15,6 +15,6 @@ mod reporting;
 mod writing;
 
 pub use checking::check_catalog;
-pub use fault::InitFault;
+pub use fault::{ColumnFault, InitFault, PathFault};
 pub use listing::{CsvFile, Listing};
 pub use making::{guess_catalog, make_catalog};

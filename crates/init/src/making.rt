@@ -7,7 +7,7 @@ ghost use Rattle.init.specs.Refusing.{IsNotAbsent, IsUnwritten};
 
 use crate::checking::{check_catalog, check_fact_name, opened};
 use crate::choosing::{has_file, largest};
-use crate::fault::{InitFault, catalog_there, unread};
+use crate::fault::{InitFault, PathFault, of_path};
 use crate::keys::{Keyed, with_key};
 use crate::listing::{CsvFile, Listing};
 use crate::naming::check_table_name;
@@ -32,8 +32,25 @@ fn listed<F: Listing>(alloc: Global, folder: &F, directory: &str) -> Result<Vec<
             files.sort()?;
             Ok(files)
         }
-        Err(_) => Err(InitFault::CannotRead(String::from_str(alloc, directory)?)),
+        Err(_) => Err(of_path(alloc, directory, PathFault::CannotRead)),
     }
+}
+
+// The table of the file with this path.
+fn table_at<F: Folder>(
+    alloc: Global,
+    folder: &F,
+    path: &Text,
+    table: &str,
+) -> Result<Table, InitFault>
+    ensures named { IfOk result (λ made. made.name ≡ table.now) }
+    ensures short { OnOk result (is_short_name table.now ≡ true) }
+    ensures refused { IfErr result (IsTableRefused path.now table.now) }
+{
+    check_table_name(alloc, path.as_str(), table)?;
+    let name = Text::new(alloc, table)?;
+    let file = opened(folder, path)?;
+    read_table(alloc, path.as_str(), name, file)
 }
 
 // The table of a file.
@@ -48,10 +65,7 @@ fn table_of<F: Folder>(
     ensures refused { IfErr result (IsTableRefused (csv_path directory.now table.now) table.now) }
 {
     let path = csv_path(alloc, directory, table)?;
-    check_table_name(alloc, path.as_str(), table)?;
-    let name = Text::new(alloc, table)?;
-    let file = opened(folder, &path)?;
-    read_table(alloc, path.as_str(), name, file)
+    table_at(alloc, folder, &path, table)
 }
 
 // The dimension of a file, whose key is said on `err`.
@@ -135,7 +149,7 @@ fn fact_of<'a, E: Write>(
     if let Some(asked) = asked {
         if !has_file(files, asked) {
             let path = csv_path(alloc, directory, asked)?;
-            return Err(InitFault::NoFact(String::from_str(alloc, path.as_str())?));
+            return Err(of_path(alloc, path.as_str(), PathFault::NoFact));
         }
         return match report_fact(asked, Reason::Asked, err) {
             Ok(()) => Ok(asked),
@@ -143,12 +157,27 @@ fn fact_of<'a, E: Write>(
         };
     }
     let Some(fact) = largest(files) else {
-        return Err(InitFault::NoFile(String::from_str(alloc, directory)?));
+        return Err(of_path(alloc, directory, PathFault::NoFile));
     };
     match report_fact(fact, Reason::Largest, err) {
         Ok(()) => Ok(fact),
         Err(_) => Err(InitFault::CannotReport),
     }
+}
+
+// The text of a catalogue with this fact and the dimensions of all other files.
+fn text_with<F: Folder, E: Write>(
+    alloc: Global,
+    folder: &F,
+    directory: &str,
+    files: &[CsvFile],
+    fact: &Table,
+    err: &mut E,
+) -> Result<String, InitFault>
+    ensures { IfErr result (AreDimensionsUnmade directory.now files.now fact.now.name) }
+{
+    let dims = dimensions_of(alloc, folder, directory, files, fact.name.as_str(), err)?;
+    Ok(catalog_text(alloc, fact, dims.as_slice())?)
 }
 
 fn text_for<F: Folder, E: Write>(
@@ -162,8 +191,9 @@ fn text_for<F: Folder, E: Write>(
     ensures { IfErr result (IsTextUnmade directory.now files.now fact.now) }
 {
     let table = table_of(alloc, folder, directory, fact)?;
-    let dims = dimensions_of(alloc, folder, directory, files, fact, err)?;
-    Ok(catalog_text(alloc, &table, dims.as_slice())?)
+    let text = text_with(alloc, folder, directory, files, &table, err);
+    drop(table);
+    text
 }
 
 // The text of a catalogue with this fact, under which the files load.
@@ -219,16 +249,16 @@ pub fn guess_catalog<F: Folder + Listing, E: Write>(
 }
 
 // Refuses a path under which there is a file, or may be one.
-fn check_absent<F: Folder>(folder: &F, path: &Text) -> Result<(), InitFault>
+fn check_absent<F: Folder>(alloc: Global, folder: &F, path: &Text) -> Result<(), InitFault>
     ensures absent { OnOk result (F.lacks folder.now path.now) }
     ensures refused { IfErr result (IsNotAbsent (F.opens folder.now) path.now) }
 {
     match folder.open(path.as_str()) {
-        Ok(_) => Err(catalog_there(path)),
+        Ok(_) => Err(of_path(alloc, path.as_str(), PathFault::CatalogThere)),
         Err(error) => match error.kind() {
             ErrorKind::NotFound => Ok(()),
             ErrorKind::OutOfMemory => Err(InitFault::Memory),
-            _ => Err(unread(path)),
+            _ => Err(of_path(alloc, path.as_str(), PathFault::CannotRead)),
         },
     }
 }
@@ -273,7 +303,7 @@ pub fn make_catalog<F: Folder + Listing, E: Write>(
     ensures unchanged { OnErr result (F.wrote folder.new ≡ F.wrote folder.old) }
 {
     let path = catalog_path(alloc, directory)?;
-    check_absent(folder, &path)?;
+    check_absent(alloc, folder, &path)?;
     let text = guess_catalog(alloc, folder, directory, fact, err)?;
     write_text(folder, &path, &text)
 }

@@ -2,7 +2,7 @@
 ghost use Rattle.std.specs.Prelude.{◌≡◌, ◌<◌, true, IfErr, OnOk};
 ghost use Rattle.init.specs.Guessing.{IsColumnUnnamed, IsUnnamed, is_short_name};
 
-use crate::fault::InitFault;
+use crate::fault::{ColumnFault, InitFault, PathFault, of_path};
 use meaning::{MAX_NAME_BYTES, Text, is_name, text_of};
 use std::alloc::{AllocError, Global};
 
@@ -20,7 +20,7 @@ pub fn check_table_name(alloc: Global, file: &str, table: &str) -> Result<(), In
     if is_short_name(table.as_bytes()) {
         return Ok(());
     }
-    Err(InitFault::TableName(String::from_str(alloc, file)?))
+    Err(of_path(alloc, file, PathFault::NoTableName))
 }
 
 // The field in lower case, if it is a name.
@@ -48,16 +48,18 @@ pub fn column_name(
 {
     let Some(name) = name_in(alloc, field)? else {
         let file = String::from_str(alloc, file)?;
-        return Err(InitFault::ColumnName {
+        return Err(InitFault::Column {
             file,
             column: index + 1,
+            fault: ColumnFault::NoName,
         });
     };
     if before.iter().any(|other| *other == name) {
         let file = String::from_str(alloc, file)?;
-        return Err(InitFault::ColumnTwice {
+        return Err(InitFault::Column {
             file,
             column: index + 1,
+            fault: ColumnFault::NameTwice,
         });
     }
     Ok(name)

@@ -3,7 +3,7 @@ ghost use Rattle.std.specs.Prelude.{◌≡◌, IfErr, IfOk};
 ghost use Rattle.init.specs.Guessing.{IsHeaderRefused};
 ghost use Rattle.init.specs.Refusing.{IsUnread};
 
-use crate::fault::InitFault;
+use crate::fault::{InitFault, PathFault, of_path};
 use crate::findings::Findings;
 use crate::naming::column_name;
 use csv::{ByteRecord, Error, ErrorKind, Reader, ReaderBuilder};
@@ -20,20 +20,11 @@ fn csv_reader<R: Read>(alloc: Global, reader: R) -> Reader<R> {
         .from_reader(alloc, reader)
 }
 
-fn unread(alloc: Global, file: &str) -> InitFault
-    ensures { IsUnread file.now result }
-{
-    match String::from_str(alloc, file) {
-        Ok(file) => InitFault::CannotRead(file),
-        Err(AllocError) => InitFault::Memory,
-    }
-}
-
 fn fault_of(alloc: Global, file: &str, error: Error) -> InitFault
     ensures { IsUnread file.now result }
 {
     match error.kind() {
-        ErrorKind::Io(_) => unread(alloc, file),
+        ErrorKind::Io(_) => of_path(alloc, file, PathFault::CannotRead),
         _ => InitFault::Memory,
     }
 }
@@ -77,10 +68,10 @@ fn read_names<R: Read>(
     ensures { IfErr result (IsHeaderRefused file.now) }
 {
     if !next_record(alloc, file, reader, row)? {
-        return Err(InitFault::NoHeader(String::from_str(alloc, file)?));
+        return Err(of_path(alloc, file, PathFault::NoHeader));
     }
     if row.len() > MAX_COLUMNS {
-        return Err(InitFault::TooManyColumns(String::from_str(alloc, file)?));
+        return Err(of_path(alloc, file, PathFault::TooManyColumns));
     }
     names_in(alloc, file, row)
 }

@@ -3,7 +3,8 @@ ghost use Rattle.std.specs.Prelude.{◌≡◌, IfErr, IfOk};
 ghost use Rattle.meaning.specs.Catalog.{IsWellFormed};
 ghost use Rattle.meaning.specs.SoundPlan.{IsSoundPlan};
 ghost use Rattle.planner.specs.QueryText.{IsPlanned};
-ghost use Rattle.folders.specs.Refused.{IsAskedFor};
+ghost use Rattle.folders.specs.Folder.{AreHeld, cut_path};
+ghost use Rattle.folders.specs.Refused.{IsAskedFor, IsUnread};
 ghost use Rattle.jobs.specs.Job.{IsCutRefused, IsCutThere, IsJobOf, IsJobOver, IsJobRefused, IsQueryRefused, IsRefusedOver};
 
 use folders::{Folder, Refusal, cut_path, read_file, read_tables};
@@ -14,15 +15,28 @@ use planner::{QueryFault, plan_query};
 use std::alloc::Global;
 use std::mem::drop;
 
+/// The bytes of the file of the cut.
+fn read_cut_file<F: Folder>(alloc: Global, folder: &F, directory: &str) -> Result<Vec<u8>, Refusal>
+    ensures held { IfOk result
+        (λ bytes. AreHeld (F.holds folder.now (cut_path directory.now)) bytes.items) }
+    ensures refused { IfErr result (IsUnread (cut_path directory.now)) }
+    ensures unread { IfErr result (IsAskedFor (F.asks folder.now)) }
+{
+    let path = cut_path(alloc, directory)?;
+    read_file(alloc, folder, &path)
+}
+
 /// The number of the load, and the cut.
 fn read_load<F: Folder>(alloc: Global, folder: &F, directory: &str) -> Result<(u64, Cut), Refusal>
     ensures there { IfOk result (λ x. IsCutThere (F.holds folder.now) directory.now x.0 x.1) }
     ensures refused { IfErr result (IsCutRefused (F.holds folder.now) directory.now) }
     ensures unread { IfErr result (IsAskedFor (F.asks folder.now)) }
 {
-    let path = cut_path(alloc, directory)?;
-    let bytes = read_file(alloc, folder, &path)?;
-    Ok(read_cut(alloc, bytes.as_slice())?)
+    let bytes = read_cut_file(alloc, folder, directory)?;
+    match read_cut(alloc, bytes.as_slice()) {
+        Ok(read) => Ok(read),
+        Err(fault) => Err(Refusal::from(fault)),
+    }
 }
 
 /// The plan of a query over declared tables.

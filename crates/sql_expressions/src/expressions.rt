@@ -2,12 +2,13 @@
 //!
 //! `left` says how many may still be opened: brackets, CASE, NOT and minus. It bounds how deep
 //! these functions call one another, as `MAX_DEPTH` bounds how deep a tree they build.
-ghost use Rattle.sql_expressions.specs.Rules.{Cases, Gives, Listed, aggregate_at, argument_of, arm_at, arm_of, arms_at, before_of, behind_distinct, behind_star, bounds_of, bracketed_list, case_of, chain_of, closed_list_of, column_at, column_of, else_of, entry_of, factor_of, high_of, inner_at, is_keyword, is_of, is_sign, like_test, list_at, literal_at, minus_of, named_test, negation_of, null_of, pattern_at, predicate_of, primary_of, rows_of, rule_at, terms, test_of, then_of, without_value};
+ghost use Rattle.sql_expressions.specs.Rules.{Cases, Gives, Listed, aggregate_at, argument_of, arm_at, arm_of, arms_at, before_of, behind_distinct, behind_star, bounds_of, bracketed_list, case_of, chain_of, closed_list_of, column_at, column_of, else_of, entry_of, factor_of, high_of, inner_at, is_keyword, is_of, is_sign, like_test, list_at, literal_at, minus_of, named_test, negation_of, null_of, pattern_at, predicate_of, primary_of, rows_of, rule_at, terms, test_of, then_left, then_of, without_value};
 ghost use Rattle.sql_syntax.specs.Strength.{rank};
 ghost use Rattle.sql_syntax.specs.declared.keyword.Keyword.TheVariants as keyword;
 ghost use Rattle.sql_syntax.specs.declared.token.Sign.TheVariants as sign;
+ghost use Rattle.sql_expressions.specs.declared.parsed.Parsed.{Parsed as Made};
 ghost use Rattle.sql_expressions.specs.declared.stop.Stop.TheVariants.{TooDeep};
-ghost use Rattle.std.specs.Prelude.{Err, IfOk, IfSome, length, option_map, ◌<◌, ◌≡◌, ◌≤◌};
+ghost use Rattle.std.specs.Prelude.{Err, IfOk, Option, IfSome, length, option_map, ◌<◌, ◌≡◌, ◌≤◌};
 
 use crate::parsed::{
     Parsed, aggregate, among, between, case, coalesce, compare, is_null, joined, leaf, like, minus,
@@ -22,6 +23,21 @@ use meaning::{Sequence, Text};
 use sql_syntax::{Aggregate, Arm, Expr, Keyword, Level, Lexeme, Sign, Token};
 use std::alloc::Global;
 use std::mem::drop;
+
+/// A tree that was made, and what stands behind it.
+fn with_rest<'a, 'b>(
+    made: Result<Parsed, Stop>,
+    rest: &'a [Lexeme<'b>],
+) -> Result<(Parsed, &'a [Lexeme<'b>]), Stop>
+    ensures reads { (meant : Option Made) → Gives (λ p. p) made meant
+        → Gives (λ x. (x.0, terms x.1.now)) result (then_left meant (terms rest.now)) }
+    ensures behind { IfOk result (λ x. x.1.now ≡ rest.now) }
+{
+    match made {
+        Ok(parsed) => Ok((parsed, rest)),
+        Err(stop) => Err(stop),
+    }
+}
 
 /// An expression behind what opens it.
 #[cycle(rules)]
@@ -114,7 +130,7 @@ fn negation<'a, 'b>(
     match if_keyword(lexemes, Keyword::Not) {
         Some(rest) => {
             let (operand, rest) = inner(alloc, Level::Negation, rest, left)?;
-            Ok((not(alloc, operand)?, rest))
+            with_rest(not(alloc, operand), rest)
         }
         None => predicate(alloc, lexemes, left),
     }
@@ -148,7 +164,7 @@ fn test<'a, 'b>(
 {
     if let Some((operator, rest)) = if_comparison(lexemes) {
         return match rule(alloc, Level::Sum, rest, left) {
-            Ok((right, rest)) => Ok((compare(alloc, operator, subject, right)?, rest)),
+            Ok((right, rest)) => with_rest(compare(alloc, operator, subject, right), rest),
             Err(stop) => {
                 drop(subject);
                 Err(stop)
@@ -182,7 +198,7 @@ fn named_test<'a, 'b>(
 {
     if let Some(rest) = if_keyword(lexemes, Keyword::Between) {
         return match bounds(alloc, rest, left) {
-            Ok((low, high, rest)) => Ok((between(alloc, negated, subject, low, high)?, rest)),
+            Ok((low, high, rest)) => with_rest(between(alloc, negated, subject, low, high), rest),
             Err(stop) => {
                 drop(subject);
                 Err(stop)
@@ -192,7 +208,7 @@ fn named_test<'a, 'b>(
     if let Some(rest) = if_keyword(lexemes, Keyword::In) {
         return match bracketed_list(alloc, rest, left) {
             Ok((entries, deepest, rest)) => {
-                Ok((among(alloc, negated, subject, entries, deepest)?, rest))
+                with_rest(among(alloc, negated, subject, entries, deepest), rest)
             }
             Err(stop) => {
                 drop(subject);
@@ -249,7 +265,7 @@ fn like_test<'a, 'b>(
     ensures shorter { IfOk result (λ x. length x.1.now < length lexemes.now) }
 {
     match pattern(alloc, lexemes) {
-        Ok((pattern, rest)) => Ok((like(alloc, negated, subject, pattern)?, rest)),
+        Ok((pattern, rest)) => with_rest(like(alloc, negated, subject, pattern), rest),
         Err(stop) => {
             drop(subject);
             Err(stop)
@@ -296,7 +312,7 @@ fn null<'a, 'b>(
     ensures shorter { IfOk result (λ x. length x.1.now < length lexemes.now) }
 {
     match past_keyword(lexemes, Keyword::Null) {
-        Ok(rest) => Ok((is_null(alloc, negated, subject)?, rest)),
+        Ok(rest) => with_rest(is_null(alloc, negated, subject), rest),
         Err(stop) => {
             drop(subject);
             Err(stop)
@@ -345,7 +361,7 @@ fn behind_minus<'a, 'b>(
         };
     }
     let (operand, rest) = inner(alloc, Level::Factor, lexemes, left)?;
-    Ok((minus(alloc, operand)?, rest))
+    with_rest(minus(alloc, operand), rest)
 }
 
 #[cycle(rules)]
@@ -367,7 +383,7 @@ fn primary<'a, 'b>(
         Token::Keyword(Keyword::Case) => case_behind(alloc, rest, left),
         Token::Keyword(Keyword::Coalesce) => {
             let (entries, deepest, rest) = bracketed_list(alloc, rest, left)?;
-            Ok((coalesce(entries, deepest)?, rest))
+            with_rest(coalesce(entries, deepest), rest)
         }
         Token::Keyword(keyword) => match aggregate_of(keyword) {
             Some(kind) => aggregate_behind(alloc, kind, rest, left),
@@ -484,7 +500,7 @@ fn argument<'a, 'b>(
     ensures shorter { IfOk result (λ x. length x.1.now < length lexemes.now) }
 {
     let (argument, rest) = closed(alloc, lexemes, left)?;
-    Ok((aggregate(alloc, kind, argument)?, rest))
+    with_rest(aggregate(alloc, kind, argument), rest)
 }
 
 /// The aggregate that DISTINCT makes of one, and what stands behind it.
@@ -619,7 +635,7 @@ fn case_behind<'a, 'b>(
     let mut arms = Sequence::new(alloc);
     match push_arms(alloc, rest, left, &mut arms) {
         Ok((deepest, rest)) => match otherwise(alloc, rest, left) {
-            Ok((otherwise, rest)) => Ok((case(alloc, arms, deepest, otherwise)?, rest)),
+            Ok((otherwise, rest)) => with_rest(case(alloc, arms, deepest, otherwise), rest),
             Err(stop) => {
                 drop(arms);
                 Err(stop)

@@ -8,3 +8,4 @@ pub mod GroupShown
 pub mod BodyShown
 pub mod SealShown
 pub mod Spelled
+pub mod Passing

@@ -2,15 +2,16 @@
 use Rattle.std.specs.Prelude.{◌≡◌, ◌≢◌, ℕ, ◌+◌, ◌-◌, ◌^◌, min, List, ◌++◌, length, Result, Ok, Err}
 use Rattle.std.specs.Borrow.{Bor}
 use Rattle.meaning.specs.declared.plan.AggregateKind.{AggregateKind}
-use Rattle.meaning.specs.Said.{Body}
+use Rattle.meaning.specs.Said.{Body, Cell}
 use Rattle.meaning.specs.declared.value.Value.{Value}
-use Rattle.wire.specs.Reading.{◌>>=◌, Read, bytes_at, number_at, sealed_end, utf8_of}
+use Rattle.wire.specs.Reading.{◌>>=◌, Read, bytes_at, number_at, repeat_at, sealed_end, utf8_of}
 use Rattle.wire.specs.declared.fault.WireFault.{WireFault}
 use Rattle.answer_fields.specs.Fault.{fault_of as of_wire, from_wire}
 use Rattle.answer_fields.specs.LayoutReading.{body_at, job_at, kind_of, laid_out, shape_at, value_at}
 use Rattle.answer_fields.specs.declared.format.Format.{Format}
 use Rattle.answer_fields.specs.Shape.{Shape}
 use Rattle.answer_fields.specs.Spelling.{Layout}
+use Rattle.answer_fields.specs.StateSpelling.{StateLayout, cell_at, state_laid_out}
 use Rattle.answer_fields.specs.declared.fault.DecodeFault.{DecodeFault}
 use Rattle.answer_fields.specs.declared.fault.DecodeFault.TheVariants as fault
 use Rattle.answer_text.specs.declared.cursor.Cursor.{Cursor}
@@ -109,6 +110,11 @@ abbrev pub Shows : {Y : Type 0} → (Y → List ℕ) → Result (Unit {0}) Stop 
 Shows {Y} text (Ok done) before after rest read = (y : Y) × (read ≡ Ok (y, rest)) × (after ≡ before ++ text y)
 Shows text (Err e) before after rest read = e ≢ stop.Memory → read ≡ Err (fault_in e)
 
+-- what is read; or what is wrong with it, unless memory was wanting
+abbrev pub Passes : {Y : Type 0} → Result (Unit {0}) Stop → List ℕ → Read DecodeFault Y → Type 0
+Passes {Y} (Ok done) rest read = (y : Y) × (read ≡ Ok (y, rest))
+Passes (Err e) rest read = e ≢ stop.Memory → read ≡ Err (fault_in e)
+
 -- so many bytes, which are a text
 abbrev pub text_of_bytes : ℕ → List ℕ → Read WireFault (List ℕ)
 text_of_bytes n bytes = do
@@ -166,3 +172,24 @@ answer_at format whole bytes = do
   job ← job_at bytes
   behind ← from_fragment_at format whole job.1
   Ok (laid_out format job.0 behind.0.0 behind.0.1.0 behind.0.1.1, behind.1)
+
+-- what is held for so many fragments, and the seal behind it
+abbrev pub sealed_cells_at : Shape → ℕ → List ℕ → List ℕ → Read DecodeFault (List Cell)
+sealed_cells_at shape count whole bytes = do
+  cells ← repeat_at (cell_at shape) count bytes
+  seal ← seal_at whole cells.1
+  Ok (cells.0, seal.1)
+
+-- the shape of groups, what is held for so many fragments, and the seal
+abbrev pub shaped_cells_at : Format → ℕ → List ℕ → List ℕ → Read DecodeFault (Shape × List Cell)
+shaped_cells_at format count whole bytes = do
+  shape ← shape_at format bytes
+  cells ← sealed_cells_at shape.0 count whole shape.1
+  Ok ((shape.0, cells.0), cells.1)
+
+-- a state behind its magic, up to the seal of all bytes of its file: what is held for each fragment of the cut
+abbrev pub state_at : Format → List ℕ → List ℕ → Read DecodeFault StateLayout
+state_at format whole bytes = do
+  job ← job_at bytes
+  behind ← shaped_cells_at format (length job.0.cut) whole job.1
+  Ok (state_laid_out format job.0 behind.0.0 behind.0.1, behind.1)

@@ -1,4 +1,11 @@
 //! States of coordinators.
+ghost use Rattle.std.specs.Prelude.{length};
+ghost use Rattle.wire.specs.Reading.{repeat_at};
+ghost use Rattle.answer_fields.specs.Fields.{shape_in};
+ghost use Rattle.answer_fields.specs.LayoutReading.{body_at};
+ghost use Rattle.answer_fields.specs.StateSpelling.{cell_at};
+ghost use Rattle.answer_text.specs.Reading.{IsSamePart, Passes, sealed_cells_at, shaped_cells_at, state_at};
+
 use crate::body::show_body;
 use crate::cursor::Cursor;
 use crate::damage::{Stop, Wrong};
@@ -7,6 +14,7 @@ use crate::job_head::{put_head, put_shape, take_head, take_shape};
 use crate::numbers::put_ranges;
 use answer_fields::{Format, Shape};
 use std::alloc::{AllocError, Global};
+use std::mem::drop;
 
 /// The fragments of which there is an answer, of which there is none, and whose answers differ.
 #[derive(Drop)]
@@ -40,7 +48,11 @@ fn show_held(
     fragment: u32,
     detail: Detail,
     out: &mut String,
-) -> Result<(), Stop> {
+) -> Result<(), Stop>
+    ensures read { Passes result cursor.new.rest.now
+        (body_at (shape_in shape.now) cursor.old.rest.now) }
+    ensures part { IsSamePart cursor.old cursor.new }
+{
     if detail != Detail::Groups {
         return show_body(alloc, cursor, shape, Detail::Nothing, out);
     }
@@ -49,6 +61,7 @@ fn show_held(
 }
 
 /// Reads what is held for a fragment.
+#[tactic(auto, unfolding(answer_fields::specs::StateSpelling::cell_at, answer_fields::specs::StateSpelling::tagged_cell_at))]
 fn show_cell(
     alloc: Global,
     cursor: &mut Cursor<'_>,
@@ -57,18 +70,21 @@ fn show_cell(
     detail: Detail,
     fragments: &mut Fragments,
     out: &mut String,
-) -> Result<(), Stop> {
+) -> Result<(), Stop>
+    ensures read { Passes result cursor.new.rest.now
+        (cell_at (shape_in shape.now) cursor.old.rest.now) }
+    ensures part { IsSamePart cursor.old cursor.new }
+{
     let field = "what is held for a fragment";
     match cursor.take_u8(field)? {
-        0 => fragments.missing.push(fragment)?,
+        0 => Ok(fragments.missing.push(fragment)?),
         1 => {
             show_held(alloc, cursor, shape, fragment, detail, out)?;
-            fragments.held.push(fragment)?;
+            Ok(fragments.held.push(fragment)?)
         }
-        2 => fragments.in_conflict.push(fragment)?,
-        _ => return Err(cursor.refuse(Wrong::Unknown, field)),
+        2 => Ok(fragments.in_conflict.push(fragment)?),
+        _ => Err(cursor.refuse(Wrong::Unknown, field)),
     }
-    Ok(())
 }
 
 fn show_cells(
@@ -79,7 +95,11 @@ fn show_cells(
     detail: Detail,
     fragments: &mut Fragments,
     out: &mut String,
-) -> Result<(), Stop> {
+) -> Result<(), Stop>
+    ensures read { Passes result cursor.new.rest.now
+        (repeat_at (cell_at (shape_in shape.now)) count cursor.old.rest.now) }
+    ensures part { IsSamePart cursor.old cursor.new }
+{
     for fragment in 0..count {
         show_cell(alloc, cursor, shape, fragment, detail, fragments, out)?;
     }
@@ -94,10 +114,51 @@ fn show_fragments(
     count: u32,
     detail: Detail,
     out: &mut String,
-) -> Result<(), Stop> {
+) -> Result<(), Stop>
+    ensures read { Passes result cursor.new.rest.now
+        (repeat_at (cell_at (shape_in shape.now)) count cursor.old.rest.now) }
+    ensures part { IsSamePart cursor.old cursor.new }
+{
     let mut fragments = Fragments::none(alloc);
     let shown = show_cells(alloc, cursor, shape, count, detail, &mut fragments, out);
     fragments.put(out)?;
+    shown
+}
+
+/// Shows the shape of the groups and the cells, behind which the seal stands.
+fn show_sealed(
+    alloc: Global,
+    cursor: &mut Cursor<'_>,
+    shape: &Shape,
+    count: u32,
+    detail: Detail,
+    out: &mut String,
+) -> Result<(), Stop>
+    ensures read { Passes result cursor.new.rest.now
+        (sealed_cells_at (shape_in shape.now) count cursor.old.bytes.now cursor.old.rest.now) }
+    ensures part { IsSamePart cursor.old cursor.new }
+{
+    put_shape(out, shape)?;
+    show_fragments(alloc, cursor, shape, count, detail, out)?;
+    cursor.take_seal()
+}
+
+/// Shows the shape of the groups and the cells.
+fn show_shaped(
+    alloc: Global,
+    cursor: &mut Cursor<'_>,
+    format: Format,
+    count: u32,
+    detail: Detail,
+    out: &mut String,
+) -> Result<(), Stop>
+    ensures read { Passes result cursor.new.rest.now
+        (shaped_cells_at format count cursor.old.bytes.now cursor.old.rest.now) }
+    ensures part { IsSamePart cursor.old cursor.new }
+{
+    let shape = take_shape(alloc, cursor, format)?;
+    let shown = show_sealed(alloc, cursor, &shape, count, detail, out);
+    drop(shape);
     shown
 }
 
@@ -109,13 +170,14 @@ pub fn show_state(
     size: usize,
     detail: Detail,
     out: &mut String,
-) -> Result<(), Stop> {
+) -> Result<(), Stop>
+    ensures read { Passes result cursor.new.rest.now
+        (state_at format cursor.old.bytes.now cursor.old.rest.now) }
+    ensures part { IsSamePart cursor.old cursor.new }
+{
     let number = format.number();
     writeln!(out, "state in format {number}, {size} bytes")?;
     let head = take_head(cursor)?;
     put_head(out, &head)?;
-    let shape = take_shape(alloc, cursor, format)?;
-    put_shape(out, &shape)?;
-    show_fragments(alloc, cursor, &shape, head.fragments, detail, out)?;
-    cursor.take_seal()
+    show_shaped(alloc, cursor, format, head.fragments, detail, out)
 }

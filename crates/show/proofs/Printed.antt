@@ -44,5 +44,5 @@ module _ (bytes : List ℕ) (known : Option ℕ) (front text : List ℕ) (before
   )
   printed kind.Cut options most ok begins (is, parts) known_so = behind kind.Cut is
   printed (kind.Answer format) options most ok begins (is, parts) known_so = spelled_so format options ok is begins parts
-  printed (kind.State format) options most ok begins (is, parts) known_so = behind (kind.State format) is
+  printed (kind.State format) options most ok begins (is, parts) known_so = (parts, behind (kind.State format) is)
   printed kind.Journal options most ok begins (is, parts) known_so = behind kind.Journal is

@@ -14,7 +14,8 @@ use Rattle.show.specs.declared.file_kind.FileKind.TheVariants as kind
 use Rattle.show.specs.declared.showing.ShowOptions.{ShowOptions}
 use Rattle.answer_fields.specs.Spelling.{Layout, layout_bytes}
 use Rattle.wire.specs.Bytes.{sealed}
-use Rattle.answer_text.specs.Reading.{answer_at}
+use Rattle.answer_fields.specs.StateSpelling.{StateLayout}
+use Rattle.answer_text.specs.Reading.{answer_at, state_at}
 use Rattle.answer_text.specs.Texts.{answer_text}
 use Rattle.answer_text.specs.declared.detail.Detail.{Detail}
 use Rattle.answer_text.specs.declared.detail.Detail.TheVariants as of_detail
@@ -70,9 +71,14 @@ detail_of options = if options.groups then of_detail.Groups else of_detail.Count
 abbrev pub IsReadAnswer : Format → List ℕ → Detail → List ℕ → Type 0
 IsReadAnswer format bytes detail text = (l : Layout) × (rest : List ℕ) × (answer_at format bytes (drop 4 bytes) ≡ Ok (l, rest)) × (text ≡ answer_text detail (length bytes) l)
 
--- the text of the parts of a file
+-- a state is read behind its magic
+abbrev pub IsReadState : Format → List ℕ → Type 0
+IsReadState format bytes = (l : StateLayout) × (rest : List ℕ) × (state_at format bytes (drop 4 bytes) ≡ Ok (l, rest))
+
+-- the text of the parts of a file; of a state only that it is read
 abbrev pub ArePartsOf : FileKind → List ℕ → Detail → List ℕ → Type 0
 ArePartsOf (kind.Answer f) bytes detail text = IsReadAnswer f bytes detail text
+ArePartsOf (kind.State f) bytes detail text = IsReadState f bytes
 ArePartsOf _ bytes detail text = ⊤
 
 -- where rows of a table's file are asked for, a header and the first rows are printed, as many as are asked for or all that
@@ -81,10 +87,12 @@ abbrev pub IsText : FileKind → List ℕ → ShowOptions → Option ℕ → Opt
 IsText kind.Table bytes options (Some most) known front text = (front ≡ []) × ((rows : ℕ) × IfSome known (λ n. rows ≡ n) × AreRecords (1 + min most rows) text)
 IsText kind bytes options most known front text = (front ≡ front_of kind (length bytes)) × ArePartsOf kind bytes (detail_of options) text
 
--- the same of what is printed of a file that has no fault. An answer's bytes are spelled by the fields that are printed.
+-- the same of what is printed of a file that has no fault. An answer's bytes are spelled by the fields that are printed, and a
+-- state's are those of a state.
 abbrev pub IsPrinted : FileKind → List ℕ → ShowOptions → Option ℕ → Option (List ℕ) → Option (List ℕ) → Type 0
 IsPrinted kind.Table bytes options (Some most) before after = (rows : ℕ) × HasRows bytes rows × AppendsRecords (1 + min most rows) before after
 IsPrinted (kind.Answer f) bytes options most before after = (l : Layout) × (l.format ≡ f) × (bytes ≡ sealed (layout_bytes l)) × Appends before after (answer_text (detail_of options) (length bytes) l)
+IsPrinted (kind.State f) bytes options most before after = IsReadState f bytes × ((rest : List ℕ) × Appends before after rest)
 IsPrinted kind bytes options most before after = (rest : List ℕ) × Appends before after (front_of kind (length bytes) ++ rest)
 
 -- so it is of bytes that begin as one of the files

@@ -1,5 +1,4 @@
 //! States of coordinators.
-ghost use Rattle.std.specs.Prelude.{length};
 ghost use Rattle.wire.specs.Reading.{repeat_at};
 ghost use Rattle.answer_fields.specs.Fields.{shape_in};
 ghost use Rattle.answer_fields.specs.LayoutReading.{body_at};

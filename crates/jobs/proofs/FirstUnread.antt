@@ -6,7 +6,7 @@ use Rattle.meaning.specs.declared.plan.Join.{Join}
 use Rattle.meaning.specs.declared.plan.Plan.{Plan}
 use Rattle.partial_codec.specs.Job.{JobSpec}
 use Rattle.command_line.specs.declared.commands.WorkCommand.{WorkCommand}
-use Rattle.folders.specs.Folder.{dimension_path, fragment_path}
+use Rattle.folders.specs.Folder.{Holds, dimension_path, fragment_path}
 use Rattle.folders.specs.Refused.{IsFirstUnread, IsNextOpened, IsUnread}
 use Rattle.folders.specs.declared.refusal.Refusal.{Refusal}
 use Rattle.folders.specs.declared.refusal.Refusal.TheVariants as refusal
@@ -19,10 +19,10 @@ unread_is : (named path : List ℕ) (e : Refusal) → IsUnread named e → e ≡
 unread_is named path e (inl memory) is = absurd cc
 unread_is named path e (inr unread) is = let same : refusal.CannotRead named ≡ refusal.CannotRead path = sym unread ∙ is in cc same
 
-pub never_returned : (journaled : Bool) (path : List ℕ) (e : Refusal) → IsUnreturned journaled e → e ≡ refusal.CannotRead path → ⊥
-never_returned journaled path e (inl memory) is = cc
-never_returned journaled path e (inr (inl report)) is = cc
-never_returned journaled path e (inr (inr (fault, kept, other, unkept))) is = cc
+pub never_returned : (journaled : Bool) (long : Type 0) (path : List ℕ) (e : Refusal) → IsUnreturned journaled long e → e ≡ refusal.CannotRead path → ⊥
+never_returned journaled long path e (inl memory) is = cc
+never_returned journaled long path e (inr (inl report)) is = cc
+never_returned journaled long path e (inr (inr (fault, kept, other, unkept))) is = cc
 
 -- ---- one file after the other
 
@@ -66,10 +66,10 @@ same_paths [] = refl
 same_paths (p ∷ paths) = ap (λ (ps : List (List ℕ)). p ∷ ps) (same_paths paths)
 
 -- of files that are taken the next can't be read, or not be named
-pub file_unread : (journaled : Bool) (opens : List ℕ → Type 0) (paths : List (List ℕ)) (k : ℕ) (path : List ℕ) (e : Refusal) → k < length paths → path ≡ get_or paths k path → AreOpened opens (λ (p : List ℕ). p) paths k → IsFileRefused journaled path e
+pub file_unread : (journaled : Bool) (holds : Holds) (opens : List ℕ → Type 0) (paths : List (List ℕ)) (k : ℕ) (path : List ℕ) (e : Refusal) → k < length paths → path ≡ get_or paths k path → AreOpened opens (λ (p : List ℕ). p) paths k → IsFileRefused journaled holds path e
     → IsFirstUnread opens (map (λ (p : List ℕ). p) paths) e
-file_unread journaled opens paths k path e lt at opened (inl returned) = λ named is. absurd (never_returned journaled named e returned is)
-file_unread journaled opens paths k path e lt at opened (inr unread) = first_unread opens (λ (p : List ℕ). p) paths k path e lt at opened unread
+file_unread journaled holds opens paths k path e lt at opened (inl returned) = λ named is. absurd (never_returned journaled _ named e returned is)
+file_unread journaled holds opens paths k path e lt at opened (inr unread) = first_unread opens (λ (p : List ℕ). p) paths k path e lt at opened unread
 
 -- ---- the files of a job, as they were lent
 

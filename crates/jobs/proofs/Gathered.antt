@@ -1,8 +1,6 @@
 -- What is gathered, in memory and with a journal.
 use Rattle.std.proofs.Common.{◌≡◌, ℕ, Bool, true, false, List, [], ◌∷◌, length, slice_index_or, refl, sym, ap, ◌∙◌, subst, inl, inr}
-use Rattle.std.specs.Prelude.{◌⊎◌, ◌≢◌, Option, None, Some, Result, Ok, Err, IfErr, IsOk}
-use Rattle.std.specs.Borrow.{Bor}
-use Rattle.std.proofs.lemmas.Bool.{false≢true}
+use Rattle.std.specs.Prelude.{Option, None, Some}
 use Rattle.meaning.specs.Cut.{Cut}
 use Rattle.meaning.specs.Gather.{joined}
 use Rattle.meaning.specs.Said.{Cell}
@@ -10,18 +8,14 @@ use Rattle.meaning.specs.declared.answer.Cell.TheVariants.{Nothing}
 use Rattle.meaning_laws.proofs.Cells.{join_nothing}
 use Rattle.partial_codec.specs.Job.{JobSpec}
 use Rattle.gathering.specs.Gathering.{GatherSpec}
-use Rattle.gathering.specs.declared.report.Report.{Report}
-use Rattle.journal.specs.declared.fault.JournalFault.{JournalFault}
-use Rattle.journal.specs.declared.fault.JournalFault.TheVariants as of_journal
 use Rattle.folders.specs.Folder.{Holds}
 use Rattle.folders.specs.Refused.{IsFirstUnread, IsNextOpened, IsShut}
-use Rattle.folders.specs.declared.journal_refusal.JournalRefusal.TheVariants as journal_refusal
 use Rattle.folders.specs.declared.refusal.Refusal.{Refusal}
 use Rattle.folders.specs.declared.refusal.Refusal.TheVariants as refusal
 use Rattle.command_line.specs.declared.commands.GatherCommand.{GatherCommand}
 use Rattle.jobs.specs.Job.{IsJobOf}
-use Rattle.jobs.specs.Gathering.{AreTaken, IsBegun, IsGatherRefused, IsGatheredOf, IsGatherUnread, IsJournaled, IsOfJournal, IsReportRefused, IsTakingRefused, IsUnkept, IsUnopened, Taken, gathered, has_journal, state, takings_of}
-use Rattle.jobs.specs.Taking.{TookFiles, of_take, take_fault_of}
+use Rattle.jobs.specs.Gathering.{AreTaken, IsBegun, IsGatheredOf, IsGatherUnread, IsJournaled, IsOfJournal, IsTakingRefused, IsUnopened, gathered, has_journal, state, takings_of}
+use Rattle.jobs.specs.Taking.{TookFiles}
 use Rattle.jobs.proofs.Together.{gathered_from}
 
 -- ---- what was said before the files
@@ -69,40 +63,10 @@ module _ (holds : Holds) (command : GatherCommand) (job : JobSpec) (paths : List
 
 -- ---- refused
 
-pub taking_refused : (journaled : Bool) (journal : Option (List ℕ)) (paths files : List (List ℕ)) (e : Refusal) → has_journal journal ≡ journaled → paths ≡ files → IsTakingRefused journaled paths e → IsTakingRefused (has_journal journal) files e
-taking_refused journaled journal paths files e is all refused =
-    subst (λ (j : Bool). IsTakingRefused j files e) (sym is) (subst (λ (l : List (List ℕ)). IsTakingRefused journaled l e) all refused)
-
--- ---- what is shown
-
--- the disk failed, or it is not so
-pub not_lent : (is_open : Bool) (result : Result (Bor GatherSpec) JournalFault) (e : JournalFault) → (is_open ≡ true → IsOk result) → (is_open ≡ false → result ≡ Err of_journal.OpenAgain) → result ≡ Err e → IsUnkept true (of_take (take_fault_of e))
-not_lent true result e given again is = absurd (false≢true (subst IsOk is (given refl)))
-not_lent false result e given again is =
-    let same : ◌≡◌ {A = Result (Bor GatherSpec) JournalFault} (Err of_journal.OpenAgain) (Err e) = sym (again refl) ∙ is in
-    let fault : of_journal.OpenAgain ≡ e = cc same in
-    subst (λ (x : JournalFault). IsUnkept true (of_take (take_fault_of x))) fault (journal_refusal.OpenAgain, refl, (λ other. cc), refl)
-
--- refused behind the files
-pub durable_refused : (holds : Holds) (command : GatherCommand) (path : List ℕ) (err_before err_after : Option (List ℕ)) (g : GatherSpec) (result : Result Report Refusal)
-    → command.journal ≡ Some path → IsGatheredOf holds command err_before err_after g → IfErr result (λ e. IsReportRefused command.save e ⊎ IsUnkept true e) → IfErr result (IsGatherRefused holds command)
-durable_refused holds command path err_before err_after g (Ok report) some of refused = tt
-durable_refused holds command path err_before err_after g (Err e) some of (inl refused) = inr (g.job, of.is_job, refused)
-durable_refused holds command path err_before err_after g (Err e) some of (inr unkept) =
-    inl (inr (g.job, of.is_job, inr (inl (inr (inr (subst (λ (j : Bool). IsUnkept j e) (sym (ap has_journal some)) unkept))))))
-
-never_reported : (save : Option (List ℕ)) (path : List ℕ) (e : Refusal) → IsReportRefused save e → e ≡ refusal.CannotRead path → ⊥
-never_reported None path e (inl none) is = none
-never_reported (Some to) path e (inl (inl memory)) is = cc
-never_reported (Some to) path e (inl (inr write)) is = cc
-never_reported save path e (inr (inl memory)) is = cc
-never_reported save path e (inr (inr print)) is = cc
-
--- no file is read there
-pub durable_first : (opens shuts : List ℕ → Type 0) (command : GatherCommand) (result : Result Report Refusal) → IfErr result (λ e. IsReportRefused command.save e ⊎ IsUnkept true e) → IfErr result (IsGatherUnread opens shuts command)
-durable_first opens shuts command (Ok report) refused = tt
-durable_first opens shuts command (Err e) (inl refused) = λ path is. absurd (never_reported command.save path e refused is)
-durable_first opens shuts command (Err e) (inr (fault, kept, other, unkept)) = λ path is. let same : refusal.Journal fault ≡ refusal.CannotRead path = sym unkept ∙ is in cc same
+pub taking_refused : (journaled : Bool) (holds : Holds) (journal : Option (List ℕ)) (paths files : List (List ℕ)) (e : Refusal) → has_journal journal ≡ journaled → paths ≡ files → IsTakingRefused journaled holds paths e
+    → IsTakingRefused (has_journal journal) holds files e
+taking_refused journaled holds journal paths files e is all refused =
+    subst (λ (j : Bool). IsTakingRefused j holds files e) (sym is) (subst (λ (l : List (List ℕ)). IsTakingRefused journaled holds l e) all refused)
 
 -- the journal's file can't be read
 pub journal_unread : (holds : Holds) (opens shuts : List ℕ → Type 0) (command : GatherCommand) (path : List ℕ) (job : JobSpec) (e : Refusal) → command.journal ≡ Some path → IsUnopened (holds path) job path e → IsShut shuts e

@@ -44,17 +44,17 @@ job_apart holds folder query e (inr (catalog, there, refused)) = over_apart hold
 
 -- ---- the files
 
-pub unkept_apart : (journaled : Bool) (e : Refusal) → IsUnkept journaled e → e ≢ refusal.CannotPrint
-unkept_apart journaled e (fault, has, other, returned) = λ is. let bad : refusal.Journal fault ≡ refusal.CannotPrint = sym returned ∙ is in cc bad
+unkept_apart : (journaled : Bool) (long : Type 0) (e : Refusal) → IsUnkept journaled long e → e ≢ refusal.CannotPrint
+unkept_apart journaled long e (fault, has, other, returned) = λ is. let bad : refusal.Journal fault ≡ refusal.CannotPrint = sym returned ∙ is in cc bad
 
-unreturned_apart : (journaled : Bool) (e : Refusal) → IsUnreturned journaled e → e ≢ refusal.CannotPrint
-unreturned_apart journaled e (inl memory) = memory_apart e memory
-unreturned_apart journaled e (inr (inl unnamed)) = λ is. let bad : refusal.CannotReport ≡ refusal.CannotPrint = sym unnamed ∙ is in cc bad
-unreturned_apart journaled e (inr (inr unkept)) = unkept_apart journaled e unkept
+unreturned_apart : (journaled : Bool) (long : Type 0) (e : Refusal) → IsUnreturned journaled long e → e ≢ refusal.CannotPrint
+unreturned_apart journaled long e (inl memory) = memory_apart e memory
+unreturned_apart journaled long e (inr (inl unnamed)) = λ is. let bad : refusal.CannotReport ≡ refusal.CannotPrint = sym unnamed ∙ is in cc bad
+unreturned_apart journaled long e (inr (inr unkept)) = unkept_apart journaled long e unkept
 
-taking_apart : (journaled : Bool) (paths : List (List ℕ)) (e : Refusal) → IsTakingRefused journaled paths e → e ≢ refusal.CannotPrint
-taking_apart journaled paths e (inl unreturned) = unreturned_apart journaled e unreturned
-taking_apart journaled paths e (inr (path, among, unread)) = unread_apart path e unread
+taking_apart : (journaled : Bool) (holds : Holds) (paths : List (List ℕ)) (e : Refusal) → IsTakingRefused journaled holds paths e → e ≢ refusal.CannotPrint
+taking_apart journaled holds paths e (inl unreturned) = unreturned_apart journaled _ e unreturned
+taking_apart journaled holds paths e (inr (path, among, unread)) = unread_apart path e unread
 
 unopened_apart : (held : Option (List ℕ)) (job : JobSpec) (journal : List ℕ) (e : Refusal) → IsUnopened held job journal e → e ≢ refusal.CannotPrint
 unopened_apart held job journal e (inl unread) = unread_apart journal e unread
@@ -67,7 +67,7 @@ journal_apart holds (Some path) job e refused = unopened_apart (holds path) job 
 pub together_apart : (holds : Holds) (command : GatherCommand) (e : Refusal) → IsTogetherRefused holds command e → e ≢ refusal.CannotPrint
 together_apart holds command e (inl refused) = job_apart holds command.folder command.query e refused
 together_apart holds command e (inr (job, is_job, inl refused)) = journal_apart holds command.journal job e refused
-together_apart holds command e (inr (job, is_job, inr refused)) = taking_apart _ command.files e refused
+together_apart holds command e (inr (job, is_job, inr refused)) = taking_apart _ holds command.files e refused
 
 -- ---- the state
 

@@ -1,11 +1,12 @@
 -- One file more is taken, or named and passed over.
-use Rattle.std.proofs.Common.{◌≡◌, ℕ, Bool, ◌+◌, ◌<◌, true, false, List, [], ◌∷◌, ◌++◌, map, length, take, get_or, slice_set, slice_index_or, All, OnOk, inr, refl, sym, ap, ◌∙◌, subst, append_assoc, append-nil}
+use Rattle.std.proofs.Common.{◌≡◌, ℕ, Bool, ◌+◌, ◌<◌, true, false, List, [], ◌∷◌, ◌++◌, map, length, take, get_or, slice_set, slice_index_or, All, OnOk, inl, inr, refl, sym, ap, ◌∙◌, subst, append_assoc, append-nil}
 use Rattle.std.specs.Prelude.{Option, None, Some, Result, Ok, Err, flat_map}
 use Rattle.std.specs.Io.KnownBytes.{Appends}
 use Rattle.std.proofs.lemmas.Grind.{flat_map-append}
 use Rattle.std.proofs.lemmas.List.{map-append, take_all, take_more}
-use Rattle.std.proofs.lemmas.List.Elements.{All-nil, All-push}
-use Rattle.std.specs.Prelude.{◌≤◌}
+use Rattle.std.proofs.lemmas.Bool.{true≢false}
+use Rattle.std.proofs.lemmas.List.Elements.{All-nil, All-push, Contains-get_or}
+use Rattle.std.specs.Prelude.{◌≤◌, ◌^◌, Contains}
 use Rattle.meaning.specs.Gather.{join_cells}
 use Rattle.meaning.specs.Said.{Cell}
 use Rattle.meaning.specs.declared.answer.Cell.TheVariants.{Nothing, One}
@@ -16,13 +17,15 @@ use Rattle.answer_fields.specs.declared.fault.DecodeFault.{DecodeFault}
 use Rattle.gathering.specs.Gathering.{GatherSpec, Joins, Takes, join_states}
 use Rattle.gathering.specs.declared.gather.Absorbed.{Absorbed}
 use Rattle.gathering.proofs.Held.{below_cut}
-use Rattle.folders.specs.Folder.{Holds}
+use Rattle.folders.specs.Folder.{AreHeld, Holds}
 use Rattle.folders.specs.declared.journal_refusal.JournalRefusal.{JournalRefusal}
+use Rattle.folders.specs.declared.journal_refusal.JournalRefusal.TheVariants as journal_refusal
+use Rattle.folders.specs.declared.refusal.Refusal.{Refusal}
 use Rattle.folders.specs.declared.refusal.Refusal.TheVariants as refusal
 use Rattle.jobs.specs.PassedOver.{passed_over_line}
 use Rattle.jobs.specs.declared.takes_answers.TakeFault.{TakeFault}
 use Rattle.jobs.specs.declared.takes_answers.TakeFault.TheVariants as take_fault
-use Rattle.jobs.specs.Gathering.{IsTaken, IsTaking, IsUnreturned, Taken, Taking, answer, as_state, gathered, line_of, obstacle_of, passed, state, takings_of}
+use Rattle.jobs.specs.Gathering.{IsFileRefused, IsTaken, IsTaking, IsTakingRefused, IsTooLong, IsUnrecorded, IsUnreturned, Taken, Taking, answer, as_state, gathered, line_of, obstacle_of, passed, state, takings_of}
 use Rattle.jobs.specs.Taking.{IsRefused, TakesBytes, TakesFile, TakesOrNames, TookFiles}
 use Rattle.jobs.proofs.Together.{answer_more, passed_more, state_more}
 
@@ -146,8 +149,40 @@ took_all journaled holds start now paths k before after none took = subst (λ (l
 
 -- ---- a journal
 
--- an answer that can't be put into the journal isn't returned
-pub unkept : (journaled : Bool) (job : JobSpec) (bytes : List ℕ) (e : TakeFault) (fault : JournalRefusal) → e ≡ take_fault.Journal fault → IsRefused journaled job bytes e → IsUnreturned journaled (refusal.Journal fault)
-unkept journaled job bytes e fault is refused =
-    let at = subst (IsRefused journaled job bytes) is refused in
-    inr (inr (fault, at.0, at.1, refl))
+unrecorded_for : (before sooner long longer : Type 0) (fault : JournalRefusal) → (before → sooner) → (long → longer) → IsUnrecorded before long fault → IsUnrecorded sooner longer fault
+unrecorded_for before sooner long longer journal_refusal.Device first second is = tt
+unrecorded_for before sooner long longer journal_refusal.Full first second is = tt
+unrecorded_for before sooner long longer journal_refusal.NotAJournal first second is = is
+unrecorded_for before sooner long longer journal_refusal.OpenAgain first second is = first is
+unrecorded_for before sooner long longer journal_refusal.TooLong first second is = second is
+
+-- an answer that can't be put into an open journal isn't returned
+pub unkept : (journaled is_open : Bool) (job : JobSpec) (bytes : List ℕ) (e : TakeFault) (fault : JournalRefusal) → is_open ≡ true → e ≡ take_fault.Journal fault → IsRefused journaled is_open job bytes e
+    → IsUnreturned journaled (2 ^ 32 ≤ length bytes) (refusal.Journal fault)
+unkept journaled is_open job bytes e fault ready is refused =
+    let at = subst (IsRefused journaled is_open job bytes) is refused in
+    inr (inr (fault, at.0, unrecorded_for (is_open ≡ false) ⊥ _ _ fault (λ closed. true≢false (sym ready ∙ closed)) (λ long. long) at.1, refl))
+
+unreturned_for : (journaled : Bool) (long longer : Type 0) (e : Refusal) → (long → longer) → IsUnreturned journaled long e → IsUnreturned journaled longer e
+unreturned_for journaled long longer e so (inl memory) = inl memory
+unreturned_for journaled long longer e so (inr (inl unnamed)) = inr (inl unnamed)
+unreturned_for journaled long longer e so (inr (inr (fault, has, unrecorded, returned))) = inr (inr (fault, has, unrecorded_for ⊥ ⊥ long longer fault (λ never. never) so unrecorded, returned))
+
+long_file : (held : Option (List ℕ)) (bytes : List ℕ) → AreHeld held bytes → 2 ^ 32 ≤ length bytes → IsTooLong held
+long_file None bytes held long = tt
+long_file (Some known) bytes held long = subst (λ (bs : List ℕ). 2 ^ 32 ≤ length bs) held long
+
+-- a file's bytes are refused
+pub file_refused : (journaled : Bool) (holds : Holds) (path bytes : List ℕ) (e : Refusal) → AreHeld (holds path) bytes → IsUnreturned journaled (2 ^ 32 ≤ length bytes) e → IsFileRefused journaled holds path e
+file_refused journaled holds path bytes e held unreturned = inl (unreturned_for journaled _ _ e (long_file (holds path) bytes held) unreturned)
+
+-- so is one of the files
+pub one_refused : (journaled : Bool) (holds : Holds) (paths : List (List ℕ)) (k : ℕ) (path : List ℕ) (e : Refusal) → k < length paths → path ≡ get_or paths k path → IsFileRefused journaled holds path e → IsTakingRefused journaled holds paths e
+one_refused journaled holds paths k path e below at refused = of_one refused
+  where
+    among : Contains paths path
+    among = subst (Contains paths) (sym at) (Contains-get_or paths k path below)
+
+    of_one : IsFileRefused journaled holds path e → IsTakingRefused journaled holds paths e
+    of_one (inl unreturned) = inl (unreturned_for journaled _ _ e (λ long. (path, among, long)) unreturned)
+    of_one (inr unread) = inr (path, among, unread)

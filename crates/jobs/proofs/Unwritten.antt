@@ -54,17 +54,17 @@ spelled_other holds command e (inr (job, is_job, refused)) = answer_other holds 
 
 -- ---- `gather`
 
-pub unkept_other : (journaled : Bool) (e : Refusal) → IsUnkept journaled e → IsOther e
-unkept_other journaled e (fault, has, other, returned) = λ path is. let bad : refusal.Journal fault ≡ refusal.CannotWrite path = sym returned ∙ is in cc bad
+unkept_other : (journaled : Bool) (long : Type 0) (e : Refusal) → IsUnkept journaled long e → IsOther e
+unkept_other journaled long e (fault, has, other, returned) = λ path is. let bad : refusal.Journal fault ≡ refusal.CannotWrite path = sym returned ∙ is in cc bad
 
-unreturned_other : (journaled : Bool) (e : Refusal) → IsUnreturned journaled e → IsOther e
-unreturned_other journaled e (inl memory) = memory_other e memory
-unreturned_other journaled e (inr (inl unnamed)) = λ path is. let bad : refusal.CannotReport ≡ refusal.CannotWrite path = sym unnamed ∙ is in cc bad
-unreturned_other journaled e (inr (inr unkept)) = unkept_other journaled e unkept
+unreturned_other : (journaled : Bool) (long : Type 0) (e : Refusal) → IsUnreturned journaled long e → IsOther e
+unreturned_other journaled long e (inl memory) = memory_other e memory
+unreturned_other journaled long e (inr (inl unnamed)) = λ path is. let bad : refusal.CannotReport ≡ refusal.CannotWrite path = sym unnamed ∙ is in cc bad
+unreturned_other journaled long e (inr (inr unkept)) = unkept_other journaled long e unkept
 
-taking_other : (journaled : Bool) (paths : List (List ℕ)) (e : Refusal) → IsTakingRefused journaled paths e → IsOther e
-taking_other journaled paths e (inl unreturned) = unreturned_other journaled e unreturned
-taking_other journaled paths e (inr (path, among, unread)) = unread_other path e unread
+taking_other : (journaled : Bool) (holds : Holds) (paths : List (List ℕ)) (e : Refusal) → IsTakingRefused journaled holds paths e → IsOther e
+taking_other journaled holds paths e (inl unreturned) = unreturned_other journaled _ e unreturned
+taking_other journaled holds paths e (inr (path, among, unread)) = unread_other path e unread
 
 unopened_other : (held : Option (List ℕ)) (job : JobSpec) (journal : List ℕ) (e : Refusal) → IsUnopened held job journal e → IsOther e
 unopened_other held job journal e (inl unread) = unread_other journal e unread
@@ -77,7 +77,7 @@ journal_other holds (Some path) job e refused = unopened_other (holds path) job 
 pub together_other : (holds : Holds) (command : GatherCommand) (e : Refusal) → IsTogetherRefused holds command e → IsOther e
 together_other holds command e (inl refused) = job_other holds command.folder command.query e refused
 together_other holds command e (inr (job, is_job, inl refused)) = journal_other holds command.journal job e refused
-together_other holds command e (inr (job, is_job, inr refused)) = taking_other _ command.files e refused
+together_other holds command e (inr (job, is_job, inr refused)) = taking_other _ holds command.files e refused
 
 pub unprinted_other : (e : Refusal) → IsUnprinted e → IsOther e
 unprinted_other e (inl memory) = memory_other e memory

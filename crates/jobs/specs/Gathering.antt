@@ -1,5 +1,5 @@
 -- What becomes of files of answers and states, and what they say together.
-use Rattle.std.specs.Prelude.{◌≡◌, ◌≢◌, ◌⊎◌, ℕ, ◌==◌, ◌<◌, ◌≤◌, Bool, true, false, not, ◌&&◌, if◌then◌else◌, List, [], ◌∷◌, ◌++◌, map, flat_map, length, slice_index_or, All, Contains, Option, Some, None, ⊤}
+use Rattle.std.specs.Prelude.{◌≡◌, ◌⊎◌, ℕ, ◌==◌, ◌<◌, ◌≤◌, ◌^◌, Bool, true, false, not, ◌&&◌, if◌then◌else◌, List, [], ◌∷◌, ◌++◌, map, flat_map, length, slice_index_or, All, Contains, Option, Some, None, IfSome, ⊤}
 use Rattle.std.specs.List.{range_with_len}
 use Rattle.std.specs.Io.KnownBytes.{Appends}
 use Rattle.disk.specs.Disk.{DiskSpec, IsHonest}
@@ -173,21 +173,34 @@ IsGatherSavedFirst holds command err before after e = e ≡ refusal.CannotPrint
 
 -- ---- refused
 
--- an answer can't be put into the journal
-abbrev pub IsUnkept : Bool → Refusal → Type 0
-IsUnkept journaled e = (fault : JournalRefusal) × (journaled ≡ true) × (fault ≢ journal_refusal.NotAJournal) × (e ≡ refusal.Journal fault)
+-- the disk failed in the call; or where these are so, it had failed before, or the answer is too long
+abbrev pub IsUnrecorded : Type 0 → Type 0 → JournalRefusal → Type 0
+IsUnrecorded before long journal_refusal.Device = ⊤
+IsUnrecorded before long journal_refusal.Full = ⊤
+IsUnrecorded before long journal_refusal.NotAJournal = ⊥
+IsUnrecorded before long journal_refusal.OpenAgain = before
+IsUnrecorded before long journal_refusal.TooLong = long
+
+-- an answer can't be put into the journal, whose disk had not failed before
+abbrev pub IsUnkept : Bool → Type 0 → Refusal → Type 0
+IsUnkept journaled long e = (fault : JournalRefusal) × (journaled ≡ true) × IsUnrecorded ⊥ long fault × (e ≡ refusal.Journal fault)
 
 -- a file can't be named, its answer not be put into the journal, or memory ran out
-abbrev pub IsUnreturned : Bool → Refusal → Type 0
-IsUnreturned journaled e = (e ≡ refusal.Memory) ⊎ (e ≡ refusal.CannotReport) ⊎ IsUnkept journaled e
+abbrev pub IsUnreturned : Bool → Type 0 → Refusal → Type 0
+IsUnreturned journaled long e = (e ≡ refusal.Memory) ⊎ (e ≡ refusal.CannotReport) ⊎ IsUnkept journaled long e
+
+-- bytes that are held, where they are known, are more than a record of a journal can have
+abbrev pub IsTooLong : Option (List ℕ) → Type 0
+IsTooLong held = IfSome held (λ bytes. 2 ^ 32 ≤ length bytes)
 
 -- the path's file can't be read or named, or its answer not be put into the journal
-abbrev pub IsFileRefused : Bool → List ℕ → Refusal → Type 0
-IsFileRefused journaled path e = IsUnreturned journaled e ⊎ IsUnread path e
+abbrev pub IsFileRefused : Bool → Holds → List ℕ → Refusal → Type 0
+IsFileRefused journaled holds path e = IsUnreturned journaled (IsTooLong (holds path)) e ⊎ IsUnread path e
 
 -- the same of one of the files
-abbrev pub IsTakingRefused : Bool → List (List ℕ) → Refusal → Type 0
-IsTakingRefused journaled paths e = IsUnreturned journaled e ⊎ ((path : List ℕ) × Contains paths path × IsUnread path e)
+abbrev pub IsTakingRefused : Bool → Holds → List (List ℕ) → Refusal → Type 0
+IsTakingRefused journaled holds paths e = IsUnreturned journaled ((path : List ℕ) × Contains paths path × IsTooLong (holds path)) e
+    ⊎ ((path : List ℕ) × Contains paths path × IsUnread path e)
 
 -- the disk failed, or this is wrong
 abbrev pub IsNoJournal : Type 0 → JournalRefusal → Type 0
@@ -231,7 +244,7 @@ IsReportRefused save e = IsSaveRefused save e ⊎ IsUnprinted e
 -- the folder and the query give no job, the journal of the job is refused, or a file of the job is
 abbrev pub IsTogetherRefused : Holds → GatherCommand → Refusal → Type 0
 IsTogetherRefused holds command e = IsJobRefused holds command.folder command.query e
-    ⊎ ((job : JobSpec) × IsJobOf holds command.folder command.query job × (IsJournalRefused holds command.journal job e ⊎ IsTakingRefused (has_journal command.journal) command.files e))
+    ⊎ ((job : JobSpec) × IsJobOf holds command.folder command.query job × (IsJournalRefused holds command.journal job e ⊎ IsTakingRefused (has_journal command.journal) holds command.files e))
 
 -- the files don't come to a state, or what comes behind them is refused
 abbrev pub IsGatherRefused : Holds → GatherCommand → Refusal → Type 0

@@ -1,5 +1,5 @@
 -- What taking one file more does to a coordinator.
-use Rattle.std.specs.Prelude.{◌≡◌, ◌≢◌, ℕ, ◌<◌, Bool, true, false, List, [], ◌∷◌, ◌++◌, Option, Some, ⊤}
+use Rattle.std.specs.Prelude.{◌≡◌, ℕ, ◌<◌, ◌≤◌, ◌^◌, Bool, true, false, List, [], ◌∷◌, ◌++◌, length, Option, Some, ⊤}
 use Rattle.std.specs.Io.KnownBytes.{Appends}
 use Rattle.partial_codec.specs.Job.{JobSpec}
 use Rattle.gathering.specs.Gathering.{GatherSpec}
@@ -13,7 +13,7 @@ use Rattle.journal.specs.declared.fault.JournalFault.{JournalFault}
 use Rattle.journal.specs.declared.fault.JournalFault.TheVariants as of_journal
 use Rattle.jobs.specs.declared.takes_answers.TakeFault.{TakeFault}
 use Rattle.jobs.specs.declared.takes_answers.TakeFault.TheVariants as take
-use Rattle.jobs.specs.Gathering.{AreTaken, Taken, Taking, IsTaking, gathered, line_of_taking, obstacle_of, takings_of}
+use Rattle.jobs.specs.Gathering.{AreTaken, Taken, Taking, IsTaking, IsUnrecorded, gathered, line_of_taking, obstacle_of, takings_of}
 
 -- what files say together becomes what they say with this one
 pub record Adds (old new : GatherSpec) (taking : Taking) : Type 0 where
@@ -35,20 +35,21 @@ IsFailure job bytes fault.OtherJob = ⊥
 IsFailure job bytes fault.Writer = ⊥
 
 -- the same, as it is returned; or the answer can't be put into the journal
-abbrev pub IsRefused : Bool → JobSpec → List ℕ → TakeFault → Type 0
-IsRefused journaled job bytes take.Memory = ⊤
-IsRefused journaled job bytes (take.Refused e) = obstacle_of journaled job bytes ≡ Some e
-IsRefused journaled job bytes (take.Journal e) = (journaled ≡ true) × (e ≢ journal_refusal.NotAJournal)
+abbrev pub IsRefused : Bool → Bool → JobSpec → List ℕ → TakeFault → Type 0
+IsRefused journaled is_open job bytes take.Memory = ⊤
+IsRefused journaled is_open job bytes (take.Refused e) = obstacle_of journaled job bytes ≡ Some e
+IsRefused journaled is_open job bytes (take.Journal e) = (journaled ≡ true) × IsUnrecorded (is_open ≡ false) (2 ^ 32 ≤ length bytes) e
 
--- how often a journal's disk has failed, and how often it was full
+-- how often a journal's disk has failed, how often it was full, and whether the journal can still be written to
 pub record Failing : Type 0 where
   pub failures : ℕ
   pub fulls : ℕ
+  pub is_open : Bool
 
--- a count rose where the fault says so
+-- a count rose where the fault says so; where the bytes are to be passed over, nothing failed
 abbrev pub HasRisen : Failing → Failing → TakeFault → Type 0
 HasRisen old new take.Memory = ⊤
-HasRisen old new (take.Refused e) = ⊤
+HasRisen old new (take.Refused e) = new.is_open ≡ old.is_open
 HasRisen old new (take.Journal journal_refusal.Device) = old.failures < new.failures
 HasRisen old new (take.Journal journal_refusal.Full) = old.fulls < new.fulls
 HasRisen old new (take.Journal journal_refusal.NotAJournal) = ⊤

@@ -2,10 +2,10 @@
 ghost use Rattle.std.specs.Prelude.{◌≡◌, ◌⊎◌, None, Some, true, IfErr, IfOk, OnErr};
 ghost use Rattle.partial_codec.specs.State.{state_bytes};
 ghost use Rattle.folders.specs.Refused.{IsAskedFor, IsTriedFor};
-ghost use Rattle.jobs.specs.Gathering.{HasFailed, IsGatherLeft, IsGathered, IsGatheredOf, IsGatherRefused, IsGatherSavedFirst, IsGatherUnread, IsReported, IsReportRefused, IsSavedFirst, IsSaveLeft, IsTogetherRefused, IsUnkept};
+ghost use Rattle.jobs.specs.Gathering.{HasFailed, IsGatherLeft, IsGathered, IsGatheredOf, IsGatherRefused, IsGatherSavedFirst, IsGatherUnread, IsReported, IsReportRefused, IsSavedFirst, IsSaveLeft, IsTogetherRefused};
 
 use crate::job::read_job;
-use crate::journals::{refusal_of, start_journal};
+use crate::journals::start_journal;
 use crate::saving::save_and_show;
 use crate::taking::take_files;
 use command_line::GatherCommand;
@@ -60,6 +60,7 @@ fn gather_in_journal<F: Folder, E: Write>(
     requires { command.now.journal ≡ Some path.now }
     ensures gathered { IfOk result (λ d. IsGatheredOf (F.holds folder.now) command.now
         (E.contents err.old) (E.contents err.new) d.gather) }
+    ensures is_open { IfOk result (λ d. d.is_open ≡ true) }
     ensures refused { IfErr result (IsTogetherRefused (F.holds folder.now) command.now) }
     ensures first { IfErr result (IsGatherUnread (F.opens folder.now) (F.shuts folder.now) command.now) }
     ensures unread { IfErr result (IsAskedFor (F.asks folder.now)) }
@@ -121,11 +122,11 @@ fn save_and_show_durable<F: Folder, D: Disk + Drop, O: Write>(
     command: &GatherCommand,
     out: &mut O,
 ) -> Result<Report, Refusal>
+    requires { durable.now.is_open ≡ true }
     ensures reported { IfOk result
         (IsReported durable.now.gather command.now.save command.now.preview (O.contents out.old)
         (O.contents out.new) (F.wrote folder.old) (F.wrote folder.new)) }
-    ensures refused { IfErr result
-        (λ e. IsReportRefused command.now.save e ⊎ IsUnkept true e) }
+    ensures refused { IfErr result (IsReportRefused command.now.save) }
     ensures quiet { IfErr result (λ e. (e ≡ Refusal.CannotPrint)
         ⊎ (O.contents out.new ≡ O.contents out.old)) }
     ensures left { OnErr result
@@ -139,7 +140,7 @@ fn save_and_show_durable<F: Folder, D: Disk + Drop, O: Write>(
 {
     match durable.gather() {
         Ok(gather) => save_and_show(alloc, folder, gather, command, out),
-        Err(fault) => Err(refusal_of(fault)),
+        Err(_) => unreachable!(),
     }
 }
 

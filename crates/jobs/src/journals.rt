@@ -18,8 +18,8 @@ use partial_codec::Job;
 use std::alloc::Global;
 use std::mem::drop;
 
-/// The refusal of a command whose journal was not made, opened or lent.
-pub fn refusal_of(fault: JournalFault) -> Refusal
+/// The refusal of a command whose journal was not made or opened.
+fn refusal_of(fault: JournalFault) -> Refusal
     ensures { result ≡ of_take (take_fault_of fault) }
 {
     match take_fault_of(fault) {
@@ -123,6 +123,7 @@ pub fn start_journal<F: Folder>(
 ) -> Result<DurableGather<F::Disk>, Refusal>
     requires { IsSoundPlan job.plan }
     ensures job { IfOk result (λ d. d.gather.job ≡ job) }
+    ensures is_open { IfOk result (λ d. d.is_open ≡ true) }
     ensures journaled { IfOk result
         (λ d. IsJournaled (F.holds folder.now path.now) job d.gather.cells) }
     ensures refused { IfErr result (IsUnopened (F.holds folder.now path.now) job path.now) }

@@ -29,14 +29,19 @@ pub trait TakesAnswers {
     // Whether it has a journal. It takes no states then.
     ghost journaled: { Bool };
 
-    // How often the journal's disk has failed, and how often it was full.
+    // How often the journal's disk has failed, how often it was full, and whether the journal can
+    // still be written to.
     ghost failing: { Self → Failing };
 
     /// Takes the bytes of an answer or of a state. On error nothing changes, unless the journal
     /// failed.
     fn take(&mut self, alloc: Global, bytes: &[u8]) -> Result<(), TakeFault>
         ensures taken { OnOk result (TakesBytes journaled (held self.old) (held self.new) bytes.now) }
-        ensures refused { IfErr result (IsRefused journaled (held self.old).job bytes.now) }
+        ensures stays_open { OnOk result ((failing self.new).is_open ≡ true) }
+        // A journal is to be opened again only where it isn't open, and an answer is too long for
+        // it only from 2^32 bytes on.
+        ensures refused { IfErr result
+            (IsRefused journaled (failing self.old).is_open (held self.old).job bytes.now) }
         ensures left { IfErr result (Leaves (held self.old) (held self.new)) }
         ensures risen { IfErr result (HasRisen (failing self.old) (failing self.new)) };
 }
@@ -80,7 +85,7 @@ impl TakesAnswers for Gather {
 
     ghost journaled = { false };
 
-    ghost failing = { λ _. record { failures = 0; fulls = 0 } };
+    ghost failing = { λ _. record { failures = 0; fulls = 0; is_open = true } };
 
     fn take(&mut self, alloc: Global, bytes: &[u8]) -> Result<(), TakeFault> {
         match take_bytes(alloc, self, bytes) {
@@ -114,7 +119,11 @@ impl<D: Disk + Drop> TakesAnswers for DurableGather<D> {
 
     ghost journaled = { true };
 
-    ghost failing = { λ d. record { failures = d.disk.failures; fulls = d.disk.fulls } };
+    ghost failing = { λ d. record {
+      failures = d.disk.failures;
+      fulls = d.disk.fulls;
+      is_open = d.is_open;
+    } };
 
     fn take(&mut self, alloc: Global, bytes: &[u8]) -> Result<(), TakeFault> {
         match self.absorb(alloc, bytes) {

@@ -1,5 +1,5 @@
 //! Files of answers and states, taken one after the other.
-ghost use Rattle.std.specs.Prelude.{IfErr, OnOk};
+ghost use Rattle.std.specs.Prelude.{◌≡◌, ◌≤◌, ◌^◌, IfErr, OnOk, length, true};
 ghost use Rattle.folders.specs.Refused.{IsAskedFor, IsFirstUnread};
 ghost use Rattle.jobs.specs.Gathering.{IsFileRefused, IsTakingRefused, IsUnreturned};
 ghost use Rattle.jobs.specs.Taking.{IsCounted, TakesFile, TakesOrNames, TookFiles};
@@ -19,10 +19,12 @@ fn take_or_name<T: TakesAnswers, E: Write>(
     bytes: &[u8],
     err: &mut E,
 ) -> Result<(), Refusal>
+    requires { (T.failing taker.old).is_open ≡ true }
     ensures takes { OnOk result
         (TakesOrNames T.journaled (T.held taker.old) (T.held taker.new) path.now bytes.now
         (E.contents err.old) (E.contents err.new)) }
-    ensures refused { IfErr result (IsUnreturned T.journaled) }
+    ensures stays_open { OnOk result ((T.failing taker.new).is_open ≡ true) }
+    ensures refused { IfErr result (IsUnreturned T.journaled (2 ^ 32 ≤ length bytes.now)) }
     ensures counted { IfErr result (IsCounted (T.failing taker.new)) }
 {
     match taker.take(alloc, bytes) {
@@ -45,11 +47,13 @@ fn take_file<F: Folder, T: TakesAnswers, E: Write>(
     path: &Text,
     err: &mut E,
 ) -> Result<(), Refusal>
+    requires { (T.failing taker.old).is_open ≡ true }
     ensures takes { OnOk result
         (TakesFile T.journaled (F.holds folder.now) (T.held taker.old) (T.held taker.new) path.now
         (E.contents err.old) (E.contents err.new)) }
     ensures opened { OnOk result (F.opens folder.now path.now) }
-    ensures refused { IfErr result (IsFileRefused T.journaled path.now) }
+    ensures stays_open { OnOk result ((T.failing taker.new).is_open ≡ true) }
+    ensures refused { IfErr result (IsFileRefused T.journaled (F.holds folder.now) path.now) }
     ensures counted { IfErr result (IsCounted (T.failing taker.new)) }
     ensures unread { IfErr result (IsAskedFor (F.asks folder.now)) }
 {
@@ -66,10 +70,13 @@ pub fn take_files<F: Folder, T: TakesAnswers, E: Write>(
     paths: &[Text],
     err: &mut E,
 ) -> Result<(), Refusal>
+    requires { (T.failing taker.old).is_open ≡ true }
     ensures took { OnOk result
         (TookFiles T.journaled (F.holds folder.now) (T.held taker.old) (T.held taker.new) paths.now
         (E.contents err.old) (E.contents err.new)) }
-    ensures refused { IfErr result (IsTakingRefused T.journaled paths.now) }
+    ensures stays_open { OnOk result ((T.failing taker.new).is_open ≡ true) }
+    ensures refused { IfErr result
+        (IsTakingRefused T.journaled (F.holds folder.now) paths.now) }
     ensures counted { IfErr result (IsCounted (T.failing taker.new)) }
     ensures first { IfErr result (IsFirstUnread (F.opens folder.now) paths.now) }
     ensures unread { IfErr result (IsAskedFor (F.asks folder.now)) }

@@ -29,7 +29,7 @@ returns-in-Err-clause-refused g c =
     inr (
       c.in_ok-job.job,
       subst (λ f. IsJobOf holds f command.query c.in_ok-job.job) c.as_str.ensures (subst (λ q. IsJobOf holds c.as_str.result.now q c.in_ok-job.job) c.as_str-2.ensures c.in_ok-job.ensures.job),
-      inr (taking_refused false command.journal c.as_slice.result.now command.files c.in-Err.refusal (ap has_journal c.requires) c.as_slice.ensures c.in-Err.ensures.refused),
+      inr (taking_refused false holds command.journal c.as_slice.result.now command.files c.in-Err.refusal (ap has_journal c.requires) c.as_slice.ensures c.in-Err.ensures.refused),
     )
 
 pub returns-in-Err-clause-first : goal.returns-in-Err-clause-first

@@ -16,10 +16,10 @@ returns-in-Ok-print_passed_over-clause-takes g c =
     let after = g.E.Write.contents c.print_passed_over.new.err in
     let held = g.T.TakesAnswers.held in
     passed_over g.T.TakesAnswers.journaled (held c.args.taker.now) (held c.take.new.self) c.args.path.now c.args.bytes.now c.in-Err-Refused.fault before after
-    (subst (IsRefused g.T.TakesAnswers.journaled (held c.args.taker.now).job c.args.bytes.now) c.in-Err-Refused.field-0-is c.in-Err-Refused.ensures.refused) (subst (Leaves (held c.args.taker.now) (held c.take.new.self)) c.in-Err-Refused.field-0-is c.in-Err-Refused.ensures.left)
+    (subst (IsRefused g.T.TakesAnswers.journaled (g.T.TakesAnswers.failing c.args.taker.now).is_open (held c.args.taker.now).job c.args.bytes.now) c.in-Err-Refused.field-0-is c.in-Err-Refused.ensures.refused) (subst (Leaves (held c.args.taker.now) (held c.take.new.self)) c.in-Err-Refused.field-0-is c.in-Err-Refused.ensures.left)
     (subst (λ n. Appends before after (passed_over_line n c.args.path.now)) c.number.ensures
     (subst (λ p. Appends before after (passed_over_line c.number.result p)) c.as_str.ensures c.in-Ok-print_passed_over.ensures))
 
 pub returns-in-Err-Journal-clause-refused : goal.returns-in-Err-Journal-clause-refused
 returns-in-Err-Journal-clause-refused g c =
-    unkept g.T.TakesAnswers.journaled (g.T.TakesAnswers.held c.args.taker.now).job c.args.bytes.now c.in-Err-Journal.field-0 c.in-Err-Journal.fault c.in-Err-Journal.field-0-is c.in-Err-Journal.ensures.refused
+    unkept g.T.TakesAnswers.journaled (g.T.TakesAnswers.failing c.args.taker.now).is_open (g.T.TakesAnswers.held c.args.taker.now).job c.args.bytes.now c.in-Err-Journal.field-0 c.in-Err-Journal.fault c.requires c.in-Err-Journal.field-0-is c.in-Err-Journal.ensures.refused

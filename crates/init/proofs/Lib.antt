@@ -2,3 +2,4 @@
 pub mod Loading
 pub mod Refusals
 pub mod Largest
+pub mod Untried

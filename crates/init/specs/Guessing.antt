@@ -79,6 +79,10 @@ IsUnlisted hides folder fault.Memory = ⊤
 IsUnlisted hides folder (fault.Path name path_fault.CannotRead) = (string_bytes name ≡ folder) × hides folder
 IsUnlisted hides folder _ = ⊥
 
+-- the file of a path was asked for; or the path is the folder's, whose files can't be listed
+abbrev pub IsAskedOrHidden : (List ℕ → Type 0) → (List ℕ → Type 0) → List ℕ → List ℕ → Type 0
+IsAskedOrHidden asks hides folder path = asks path ⊎ ((path ≡ folder) × hides folder)
+
 -- the folder's files, in some order
 abbrev pub IsListed : (List ℕ → List CsvFile → Type 0) → List ℕ → List CsvFile → Type 0
 IsListed lists folder files = (found : List CsvFile) × lists folder found × IsPermutation found files

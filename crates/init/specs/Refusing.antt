@@ -43,6 +43,16 @@ IsUnwritten path fault.Memory = ⊤
 IsUnwritten path (fault.Path file path_fault.CannotWrite) = string_bytes file ≡ path
 IsUnwritten path _ = ⊥
 
+-- a file that can't be read was asked for
+abbrev pub IsAskedFor : (List ℕ → Type 0) → InitFault → Type 0
+IsAskedFor asks (fault.Path file path_fault.CannotRead) = asks (string_bytes file)
+IsAskedFor asks _ = ⊤
+
+-- a file that can't be written was to be created or put under its path
+abbrev pub IsTriedFor : (List ℕ → Type 0) → InitFault → Type 0
+IsTriedFor tries (fault.Path file path_fault.CannotWrite) = tries (string_bytes file)
+IsTriedFor tries _ = ⊤
+
 -- the refusal of a file that is read or written
 abbrev pub IsOfRefusal : Refusal → InitFault → Type 0
 IsOfRefusal (refusal.CannotRead path) e = IsUnread path e

@@ -10,7 +10,7 @@ ghost use Rattle.loader.specs.Source.{csv_records};
 ghost use Rattle.folders.specs.Folder.{HasHeld, csv_path};
 ghost use Rattle.init.specs.Guessing.{IsNoCatalog};
 ghost use Rattle.init.specs.Making.{AreColumns, DeclaresFact, IsCatalogFor, IsDimension, IsDimensionFit, IsFact, IsFactFit};
-ghost use Rattle.init.specs.Refusing.{AreTablesRefused, IsCatalogRefused, IsDimensionRefused, IsFactRefused, IsFirstRefused, IsUncounted, IsUnread};
+ghost use Rattle.init.specs.Refusing.{AreTablesRefused, IsAskedFor, IsCatalogRefused, IsDimensionRefused, IsFactRefused, IsFirstRefused, IsUncounted, IsUnread};
 
 use crate::fault::{InitFault, PathFault, of_load, of_path};
 use catalog_reader::read_catalog;
@@ -63,6 +63,8 @@ pub fn opened<F: Folder>(folder: &F, path: &Text) -> Result<F::Reader, InitFault
     ensures opened { IfOk result
         (λ file. HasHeld (F.holds folder.now path.now) (F.Reader.remaining file)) }
     ensures refused { IfErr result (IsUnread path.now) }
+    ensures asked { F.asks folder.now path.now }
+    ensures unread { IfErr result (IsAskedFor (F.asks folder.now)) }
 {
     match open_file(folder, path) {
         Ok(file) => Ok(file),
@@ -75,6 +77,7 @@ fn rows_of<F: Folder>(alloc: Global, folder: &F, path: &Text) -> Result<u64, Ini
     ensures counted { IfOk result (λ rows. (csv : List ℕ) → F.holds folder.now path.now ≡ Some csv
         → rows ≡ length (drop 1 (csv_records csv))) }
     ensures refused { IfErr result (IsUnread path.now) }
+    ensures unread { IfErr result (IsAskedFor (F.asks folder.now)) }
 {
     let file = opened(folder, path)?;
     match count_rows(alloc, file) {
@@ -89,6 +92,7 @@ fn cut_of<F: Folder>(alloc: Global, folder: &F, path: &Text) -> Result<Cut, Init
         → sum cut ≡ length (drop 1 (csv_records csv))) }
     ensures few { IfOk result (λ cut. sum cut ≤ 4294967296) }
     ensures refused { IfErr result (IsUncounted (F.holds folder.now) path.now) }
+    ensures unread { IfErr result (IsAskedFor (F.asks folder.now)) }
 {
     let rows = rows_of(alloc, folder, path)?;
     if rows > MOST_ROWS {
@@ -110,6 +114,7 @@ fn check_fact_file<F: Folder>(
     ensures fit { OnOk result ((csv : List ℕ) → F.holds folder.now path.now ≡ Some csv
         → IsFact catalog.now (csv_records csv)) }
     ensures refused { IfErr result (IsFactRefused (F.holds folder.now) path.now catalog.now) }
+    ensures unread { IfErr result (IsAskedFor (F.asks folder.now)) }
 {
     let cut = cut_of(alloc, folder, path)?;
     let file = opened(folder, path)?;
@@ -129,6 +134,7 @@ fn check_fact<F: Folder>(
     ensures refused { IfErr result
         (IsFactRefused (F.holds folder.now) (csv_path directory.now catalog.now.fact.name)
         catalog.now) }
+    ensures unread { IfErr result (IsAskedFor (F.asks folder.now)) }
 {
     let path = csv_path(alloc, directory, catalog.fact.name.as_str())?;
     check_fact_file(alloc, folder, &path, catalog)
@@ -163,6 +169,7 @@ fn check_dimension_file<F: Folder>(
         → IsDimension dimension.now (csv_records csv)) }
     ensures refused { IfErr result
         (IsDimensionRefused (F.holds folder.now) path.now dimension.now) }
+    ensures unread { IfErr result (IsAskedFor (F.asks folder.now)) }
 {
     let file = opened(folder, path)?;
     match pass_dimension(alloc, dimension, file) {
@@ -181,6 +188,7 @@ fn check_dimension<F: Folder>(
     ensures refused { IfErr result
         (IsDimensionRefused (F.holds folder.now) (csv_path directory.now dimension.now.table.name)
         dimension.now) }
+    ensures unread { IfErr result (IsAskedFor (F.asks folder.now)) }
 {
     let path = csv_path(alloc, directory, dimension.table.name.as_str())?;
     check_dimension_file(alloc, folder, &path, dimension)
@@ -196,6 +204,7 @@ fn check_dimensions<F: Folder>(
         (All (IsDimensionFit (F.holds folder.now) directory.now) dimensions.now) }
     ensures refused { IfErr result
         (IsFirstRefused (F.holds folder.now) directory.now dimensions.now) }
+    ensures unread { IfErr result (IsAskedFor (F.asks folder.now)) }
 {
     for dimension in dimensions {
         check_dimension(alloc, folder, directory, dimension)?;
@@ -216,6 +225,7 @@ fn check_tables<F: Folder>(
         (All (IsDimensionFit (F.holds folder.now) directory.now) catalog.now.dims) }
     ensures refused { IfErr result
         (AreTablesRefused (F.holds folder.now) directory.now catalog.now) }
+    ensures unread { IfErr result (IsAskedFor (F.asks folder.now)) }
 {
     check_fact(alloc, folder, directory, catalog)?;
     check_dimensions(alloc, folder, directory, catalog.dims.as_slice())
@@ -257,6 +267,7 @@ pub fn check_catalog<F: Folder>(
     ensures fit { OnOk result (IsCatalogFor (F.holds folder.now) directory.now text.now) }
     ensures refused { IfErr result
         (IsCatalogRefused (F.holds folder.now) directory.now text.now) }
+    ensures unread { IfErr result (IsAskedFor (F.asks folder.now)) }
 {
     let catalog = match read_catalog(alloc, text) {
         Ok(catalog) => catalog,

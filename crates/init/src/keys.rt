@@ -2,6 +2,7 @@
 ghost use Rattle.std.specs.Prelude.{IfErr};
 ghost use Rattle.folders.specs.Folder.{csv_path};
 ghost use Rattle.init.specs.Guessing.{AreRecordsRefused, IsKeyless, IsKeyRefused};
+ghost use Rattle.init.specs.Refusing.{IsAskedFor};
 
 use crate::checking::opened;
 use crate::fault::{InitFault, PathFault, of_load, of_path};
@@ -26,7 +27,8 @@ fn has_key<F: Folder>(
     path: &Text,
     dimension: &Dimension,
 ) -> Result<bool, InitFault>
-    ensures { IfErr result (AreRecordsRefused path.now) }
+    ensures refused { IfErr result (AreRecordsRefused path.now) }
+    ensures unread { IfErr result (IsAskedFor (F.asks folder.now)) }
 {
     let file = opened(folder, path)?;
     match load_dimension(alloc, dimension, file) {
@@ -50,7 +52,8 @@ fn keys_of<F: Folder>(
     path: &Text,
     dimension: &mut Dimension,
 ) -> Result<Vec<usize>, InitFault>
-    ensures { IfErr result (AreRecordsRefused path.now) }
+    ensures refused { IfErr result (AreRecordsRefused path.now) }
+    ensures unread { IfErr result (IsAskedFor (F.asks folder.now)) }
 {
     let mut keys = Vec::new(alloc);
     for index in 0..dimension.table.columns.len() {
@@ -91,7 +94,8 @@ fn with_key_of<F: Folder>(
     path: &Text,
     dimension: Dimension,
 ) -> Result<Keyed, InitFault>
-    ensures { IfErr result (IsKeyRefused path.now) }
+    ensures refused { IfErr result (IsKeyRefused path.now) }
+    ensures unread { IfErr result (IsAskedFor (F.asks folder.now)) }
 {
     let mut dimension = dimension;
     match keys_of(alloc, folder, path, &mut dimension) {
@@ -116,7 +120,8 @@ pub fn with_key<F: Folder>(
     directory: &str,
     table: Table,
 ) -> Result<Keyed, InitFault>
-    ensures { IfErr result (IsKeyRefused (csv_path directory.now table.name)) }
+    ensures refused { IfErr result (IsKeyRefused (csv_path directory.now table.name)) }
+    ensures unread { IfErr result (IsAskedFor (F.asks folder.now)) }
 {
     match csv_path(alloc, directory, table.name.as_str()) {
         Ok(path) => with_key_of(alloc, folder, &path, Dimension { table, key: 0 }),

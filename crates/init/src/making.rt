@@ -1,9 +1,9 @@
 //! The catalogue of a folder's CSV files.
 ghost use Rattle.std.specs.Prelude.{◌≡◌, true, ℕ, List, IfErr, IfOk, IfSome, OnErr, OnOk, option_map};
 ghost use Rattle.folders.specs.Folder.{WritesOne, catalog_path, csv_path};
-ghost use Rattle.init.specs.Guessing.{AreDimensionsUnmade, IsDimensionUnmade, IsFactOf, IsFactUnfound, IsGuessable, IsGuessRefused, IsListed, IsMakeRefused, IsTableRefused, IsTextRefused, IsTextUnmade, IsUnlisted, is_short_name};
+ghost use Rattle.init.specs.Guessing.{AreDimensionsUnmade, IsAskedOrHidden, IsDimensionUnmade, IsFactOf, IsFactUnfound, IsGuessable, IsGuessRefused, IsListed, IsMakeRefused, IsTableRefused, IsTextRefused, IsTextUnmade, IsUnlisted, is_short_name};
 ghost use Rattle.init.specs.Making.{DeclaresFact, IsAsAsked, IsCatalogFor};
-ghost use Rattle.init.specs.Refusing.{IsNotAbsent, IsUnwritten};
+ghost use Rattle.init.specs.Refusing.{IsAskedFor, IsNotAbsent, IsTriedFor, IsUnwritten};
 
 use crate::checking::{check_catalog, check_fact_name, opened};
 use crate::choosing::{has_file, largest};
@@ -46,6 +46,7 @@ fn table_at<F: Folder>(
     ensures named { IfOk result (λ made. made.name ≡ table.now) }
     ensures short { OnOk result (is_short_name table.now ≡ true) }
     ensures refused { IfErr result (IsTableRefused path.now table.now) }
+    ensures unread { IfErr result (IsAskedFor (F.asks folder.now)) }
 {
     check_table_name(alloc, path.as_str(), table)?;
     let name = Text::new(alloc, table)?;
@@ -63,6 +64,7 @@ fn table_of<F: Folder>(
     ensures named { IfOk result (λ made. made.name ≡ table.now) }
     ensures short { OnOk result (is_short_name table.now ≡ true) }
     ensures refused { IfErr result (IsTableRefused (csv_path directory.now table.now) table.now) }
+    ensures unread { IfErr result (IsAskedFor (F.asks folder.now)) }
 {
     let path = csv_path(alloc, directory, table)?;
     table_at(alloc, folder, &path, table)
@@ -76,7 +78,8 @@ fn dimension_of<F: Folder, E: Write>(
     table: &str,
     err: &mut E,
 ) -> Result<Keyed, InitFault>
-    ensures { IfErr result (IsDimensionUnmade (csv_path directory.now table.now) table.now) }
+    ensures refused { IfErr result (IsDimensionUnmade (csv_path directory.now table.now) table.now) }
+    ensures unread { IfErr result (IsAskedFor (F.asks folder.now)) }
 {
     let table = table_of(alloc, folder, directory, table)?;
     let dimension = with_key(alloc, folder, directory, table)?;
@@ -98,7 +101,8 @@ fn add_dimensions<F: Folder, E: Write>(
     dims: &mut Vec<Keyed>,
     err: &mut E,
 ) -> Result<(), InitFault>
-    ensures { IfErr result (AreDimensionsUnmade directory.now files.now fact.now) }
+    ensures refused { IfErr result (AreDimensionsUnmade directory.now files.now fact.now) }
+    ensures unread { IfErr result (IsAskedFor (F.asks folder.now)) }
 {
     for file in files {
         if file.table.as_str() == fact {
@@ -119,7 +123,8 @@ fn dimensions_of<F: Folder, E: Write>(
     fact: &str,
     err: &mut E,
 ) -> Result<Vec<Keyed>, InitFault>
-    ensures { IfErr result (AreDimensionsUnmade directory.now files.now fact.now) }
+    ensures refused { IfErr result (AreDimensionsUnmade directory.now files.now fact.now) }
+    ensures unread { IfErr result (IsAskedFor (F.asks folder.now)) }
 {
     let mut dims = Vec::new(alloc);
     match add_dimensions(alloc, folder, directory, files, fact, &mut dims, err) {
@@ -174,7 +179,8 @@ fn text_with<F: Folder, E: Write>(
     fact: &Table,
     err: &mut E,
 ) -> Result<String, InitFault>
-    ensures { IfErr result (AreDimensionsUnmade directory.now files.now fact.now.name) }
+    ensures refused { IfErr result (AreDimensionsUnmade directory.now files.now fact.now.name) }
+    ensures unread { IfErr result (IsAskedFor (F.asks folder.now)) }
 {
     let dims = dimensions_of(alloc, folder, directory, files, fact.name.as_str(), err)?;
     Ok(catalog_text(alloc, fact, dims.as_slice())?)
@@ -188,7 +194,8 @@ fn text_for<F: Folder, E: Write>(
     fact: &str,
     err: &mut E,
 ) -> Result<String, InitFault>
-    ensures { IfErr result (IsTextUnmade directory.now files.now fact.now) }
+    ensures refused { IfErr result (IsTextUnmade directory.now files.now fact.now) }
+    ensures unread { IfErr result (IsAskedFor (F.asks folder.now)) }
 {
     let table = table_of(alloc, folder, directory, fact)?;
     let text = text_with(alloc, folder, directory, files, &table, err);
@@ -209,6 +216,7 @@ fn checked_text<F: Folder, E: Write>(
     ensures named { IfOk result (DeclaresFact fact.now) }
     ensures refused { IfErr result
         (IsTextRefused (F.holds folder.now) directory.now files.now fact.now) }
+    ensures unread { IfErr result (IsAskedFor (F.asks folder.now)) }
 {
     let text = text_for(alloc, folder, directory, files, fact, err)?;
     check_fact_name(alloc, text.as_bytes(), fact)?;
@@ -239,6 +247,8 @@ pub fn guess_catalog<F: Folder + Listing, E: Write>(
         (IsGuessRefused (F.holds folder.now) (F.lists folder.now) (F.hides folder.now)
         directory.now
         (option_map (λ fact. fact.now) fact.entry)) }
+    ensures unread { IfErr result
+        (IsAskedFor (IsAskedOrHidden (F.asks folder.now) (F.hides folder.now) directory.now)) }
 {
     let files = listed(alloc, folder, directory)?;
     let fact = fact_of(alloc, directory, files.as_slice(), fact, err)?;
@@ -252,6 +262,7 @@ pub fn guess_catalog<F: Folder + Listing, E: Write>(
 fn check_absent<F: Folder>(alloc: Global, folder: &F, path: &Text) -> Result<(), InitFault>
     ensures absent { OnOk result (F.lacks folder.now path.now) }
     ensures refused { IfErr result (IsNotAbsent (F.opens folder.now) path.now) }
+    ensures unread { IfErr result (IsAskedFor (F.asks folder.now)) }
 {
     match folder.open(path.as_str()) {
         Ok(_) => Err(of_path(alloc, path.as_str(), PathFault::CatalogThere)),
@@ -268,6 +279,7 @@ fn write_text<F: Folder>(folder: &mut F, path: &Text, text: &Text) -> Result<(),
         (WritesOne path.now (λ given. given ≡ text.now) (F.wrote folder.old) (F.wrote folder.new)) }
     ensures refused { IfErr result (IsUnwritten path.now) }
     ensures unchanged { OnErr result (F.wrote folder.new ≡ F.wrote folder.old) }
+    ensures unwritten { IfErr result (IsTriedFor (F.tries folder.old)) }
 {
     match write_file(folder, path, text.as_bytes()) {
         Ok(()) => Ok(()),
@@ -301,6 +313,9 @@ pub fn make_catalog<F: Folder + Listing, E: Write>(
         (IsMakeRefused (F.holds folder.old) (F.opens folder.old) (F.lacks folder.old)
         (F.lists folder.old) (F.hides folder.old) directory.now (option_map (λ fact. fact.now) fact.entry)) }
     ensures unchanged { OnErr result (F.wrote folder.new ≡ F.wrote folder.old) }
+    ensures unread { IfErr result
+        (IsAskedFor (IsAskedOrHidden (F.asks folder.old) (F.hides folder.old) directory.now)) }
+    ensures unwritten { IfErr result (IsTriedFor (F.tries folder.old)) }
 {
     let path = catalog_path(alloc, directory)?;
     check_absent(alloc, folder, &path)?;

@@ -9,7 +9,7 @@ use Rattle.init.proofs.making.checked_text.Goals as goal
 pub returns-in_err-text-clause-refused : goal.returns-in_err-text-clause-refused
 returns-in_err-text-clause-refused g c =
     let p = err_from_is_err_and c.from_residual.result c.from_residual.ensures.1 in
-    rw (p.1, p.2) (inl c.in_err-text.ensures)
+    rw (p.1, p.2) (inl c.in_err-text.ensures.refused)
 
 pub returns-in_err-check_catalog-clause-refused : goal.returns-in_err-check_catalog-clause-refused
 returns-in_err-check_catalog-clause-refused g c =

@@ -1,4 +1,8 @@
 //! What is known of a refusal.
+ghost use Rattle.std.specs.Prelude.{Some};
+ghost use Rattle.std.specs.Fmt.{WritesOnOk};
+ghost use Rattle.refusals.specs.Texts.{entry_text, part_text};
+
 use std::fmt;
 use std::fmt::Formatter;
 
@@ -16,7 +20,9 @@ pub struct Entry {
 }
 
 // Nothing where there is nothing to say.
-fn write_part<W: fmt::Write>(head: &str, text: &str, f: &mut Formatter<W>) -> fmt::Result {
+fn write_part<W: fmt::Write>(head: &str, text: &str, f: &mut Formatter<W>) -> fmt::Result
+    ensures { WritesOnOk W.write_str_gives f.old result (part_text head.now text.now) f.new }
+{
     if text.is_empty() {
         return Ok(());
     }
@@ -24,6 +30,8 @@ fn write_part<W: fmt::Write>(head: &str, text: &str, f: &mut Formatter<W>) -> fm
 }
 
 impl fmt::Display for Entry {
+    ghost output = { λ entry. Some (entry_text entry) };
+
     fn fmt<W: fmt::Write>(&self, f: &mut Formatter<W>) -> fmt::Result {
         f.write_str(self.lines)?;
         write_part("means", self.meaning, f)?;

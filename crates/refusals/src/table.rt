@@ -1,8 +1,13 @@
 //! What each line means by which a command is refused, or a file passed over.
+ghost use Rattle.std.specs.Prelude.{◌≡◌, is_some};
+ghost use Rattle.refusals.specs.Texts.{is_plain};
+
 use crate::entries::Entry;
 
 /// A line without an error code, by its words.
-pub fn of_words(words: &str) -> Option<Entry> {
+pub fn of_words(words: &str) -> Option<Entry>
+    ensures { is_some result ≡ is_plain words.now }
+{
     match words {
         "memory" => Some(Entry {
             lines: "memory",

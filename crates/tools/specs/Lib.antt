@@ -1,3 +1,4 @@
 -- The definitions of this crate.
+pub mod Explained
 pub mod Running
 pub mod Words

@@ -8,6 +8,7 @@ use Rattle.folders.specs.declared.refusal.Refusal.TheVariants as refusal
 use Rattle.init.specs.Making.{IsAsAsked, IsCatalogFor}
 use Rattle.show.specs.declared.showing.ShowOptions.{ShowOptions}
 use Rattle.show.specs.Shown.{HoldsFile, IsWhole, PrintsPartsOf}
+use Rattle.tools.specs.Explained.{PrintsEntry}
 use Rattle.tools.specs.declared.words.ShowWords.{ShowWords}
 use Rattle.tools.specs.declared.words.Tool.{Tool}
 use Rattle.tools.specs.declared.words.Tool.TheVariants.{Explain, Init, Refusal, Show}
@@ -68,10 +69,9 @@ abbrev pub PrintsFile : Holds → ShowWords → ℕ → Option (List ℕ) → Op
 PrintsFile holds words status before after =
     ((after ≡ before) ⊎ HoldsFile holds words.path) × (status ≡ 0 → PrintsPartsOf holds words.path (options_of words) before after)
 
--- What a tool leaves of standard output: nothing is printed while a catalogue is made, nor where a query is refused. Of what is
--- printed of a refusal nothing is said.
+-- what a tool leaves of standard output: nothing is printed while a catalogue is made, nor where a query is refused
 abbrev pub LeavesOutput : Holds → (List ℕ → Type 0) → Tool → ℕ → Option (List ℕ) → Option (List ℕ) → Type 0
 LeavesOutput holds asks (Init words) status before after = after ≡ before
-LeavesOutput holds asks (Refusal words) status before after = ⊤
+LeavesOutput holds asks (Refusal words) status before after = PrintsEntry words status before after
 LeavesOutput holds asks (Explain words) status before after = PrintsExplanation holds asks words.folder words.query status before after
 LeavesOutput holds asks (Show words) status before after = PrintsFile holds words status before after

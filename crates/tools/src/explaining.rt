@@ -1,10 +1,15 @@
 //! What is known of a refusal, by the words of its line.
+ghost use Rattle.std.specs.Prelude.{◌≡◌, IfOk, OnOk, OnSome, string_bytes};
+ghost use Rattle.tools.specs.Explained.{BeginsPlain, BeginsWithCode, IsExplained, behind_name, with_word};
+
 use meaning::Text;
 use refusals::{Entry, entry, of_words};
 use std::alloc::{AllocError, Global};
 
 // The words behind the program's name, where the whole line is given.
-fn behind_name(words: &[Text]) -> &[Text] {
+fn behind_name(words: &[Text]) -> &[Text]
+    ensures { result.now ≡ behind_name words.now }
+{
     match words.split_first() {
         Some((first, others)) if first.as_str() == "xcols:" => others,
         _ => words,
@@ -12,30 +17,42 @@ fn behind_name(words: &[Text]) -> &[Text] {
 }
 
 // Of a word and an error code behind it.
-fn numbered(words: &[Text]) -> Option<Entry> {
+fn numbered(words: &[Text]) -> Option<Entry>
+    ensures { OnSome result (BeginsWithCode words.now) }
+{
     let (word, others) = words.split_first()?;
-    let number = others.first()?.as_str().parse::<u8>().ok()?;
+    let (number, _) = others.split_first()?;
+    let number = number.as_str().parse::<u8>().ok()?;
     entry(word.as_str(), number)
 }
 
+fn add_word(line: &mut String, word: &str) -> Result<(), AllocError>
+    ensures { OnOk result (string_bytes line.new ≡ with_word (string_bytes line.old) word.now) }
+{
+    if line.is_empty() {
+        return line.push_str(word);
+    }
+    line.push_str(" ")?;
+    line.push_str(word)
+}
+
 // Of as many words as such a line has, whatever stands behind.
-fn plain(alloc: Global, words: &[Text]) -> Result<Option<Entry>, AllocError> {
+fn plain(alloc: Global, words: &[Text]) -> Result<Option<Entry>, AllocError>
+    ensures { IfOk result (λ found. OnSome found (BeginsPlain words.now)) }
+{
     let mut found = None;
     let mut line = String::new(alloc);
     for word in words {
-        if !line.is_empty() {
-            line.push_str(" ")?;
-        }
-        line.push_str(word.as_str())?;
-        if let Some(entry) = of_words(line.as_str()) {
-            found = Some(entry);
-        }
+        add_word(&mut line, word.as_str())?;
+        found = of_words(line.as_str()).or(found);
     }
     Ok(found)
 }
 
 /// The entry of the refusal whose line begins with these words, behind `xcols:` or not.
-pub fn entry_of(alloc: Global, words: &[Text]) -> Result<Option<Entry>, AllocError> {
+pub fn entry_of(alloc: Global, words: &[Text]) -> Result<Option<Entry>, AllocError>
+    ensures { IfOk result (λ found. OnSome found (IsExplained words.now)) }
+{
     let words = behind_name(words);
     match numbered(words) {
         Some(entry) => Ok(Some(entry)),

@@ -1,5 +1,6 @@
 //! Runs a tool and gives its exit status.
 ghost use Rattle.std.specs.Prelude.{◌≡◌, option_map};
+ghost use Rattle.tools.specs.Explained.{PrintsEntry};
 ghost use Rattle.tools.specs.Running.{ExplainsPlan, IsSilent, IsStatus, LeavesFiles, LeavesOutput, MakesCatalog, PrintsExplanation, PrintsFile, ShowsFile};
 
 use crate::explaining::entry_of;
@@ -57,6 +58,7 @@ fn print_unknown<E: Write>(err: &mut E) -> io::Result<()> {
 fn run_refusal<O: Write, E: Write>(alloc: Global, words: &[Text], out: &mut O, err: &mut E) -> u8
     ensures status { IsStatus result }
     ensures silent { result ≡ 0 → E.contents err.new ≡ E.contents err.old }
+    ensures output { PrintsEntry words.now result (O.contents out.old) (O.contents out.new) }
 {
     let Ok(found) = entry_of(alloc, words) else {
         let _ = writeln!(err, "xcols: memory");

@@ -17,7 +17,7 @@ use Rattle.group_by.specs.Combined.{IsInOrder, SameBeside}
 use Rattle.group_by.specs.KeyOrder.{groups_at, AreApart, AreOrdered}
 use Rattle.group_by.specs.GroupIndexes.{by_group_index}
 use Rattle.group_by.proofs.Combining.{reverse_cons}
-use Rattle.group_by.proofs.Sorting.{AreUp, apart_up, combined_up_is, first_up, next_up, not_equal, range_within, rises_up}
+use Rattle.group_by.proofs.Sorting.{AreUp, apart_up, combined_up_is, equal_is, first_up, next_up, not_equal, range_within, rises_up}
 
 -- each group's key comes behind this one
 abbrev AreBehind : Row → List Group → Type 0
@@ -28,11 +28,6 @@ less_of : (o : Ordering) → is_lt o ≡ true → o ≡ Less
 less_of Less e = refl
 less_of Equal e = cc
 less_of Greater e = cc
-
-equal_of : (o : Ordering) → is_eq o ≡ true → o ≡ Equal
-equal_of Less e = cc
-equal_of Equal e = refl
-equal_of Greater e = cc
 
 up_behind : (r : Row) (g : Group) (gs : List Group) → is_lt (row_cmp r g.key) ≡ true → AreUp (g ∷ gs) → AreBehind r (g ∷ gs)
 up_behind r g [] less up = (less, tt)
@@ -59,7 +54,7 @@ either_side k g gs up =
     let rest = beside k (keyed gs) in
     elim (eq_by_cmp row_cmp k g.key) as (λ b. eq_by_cmp row_cmp k g.key ≡ b → rest ++ map (λ (p : Row × Group). p.1) (cond b ((g.key, g) ∷ []) []) ≡ map (λ (p : Row × Group). p.1) (cond b ((g.key, g) ∷ []) []) ++ rest) [
       | true ↦ λ e.
-          let none : rest ≡ [] = beside_none k (keyed gs) (none_in k g.key (equal_of (row_cmp k g.key) e) gs (all_behind g gs up)) in
+          let none : rest ≡ [] = beside_none k (keyed gs) (none_in k g.key (equal_is (row_cmp k g.key) e) gs (all_behind g gs up)) in
           rw none refl
       | false ↦ λ e. append-nil rest
     ] refl

@@ -32,7 +32,7 @@ map_same f g (x ∷ xs) all = λ i. all 0 x (omega arith) i ∷ map_same f g xs 
 
 -- ---- a stable sort keeps the order of the groups of each key
 
-equal_is : (o : Ordering) → is_eq o ≡ true → o ≡ Equal
+pub equal_is : (o : Ordering) → is_eq o ≡ true → o ≡ Equal
 equal_is Less e = cc
 equal_is Equal e = refl
 equal_is Greater e = cc

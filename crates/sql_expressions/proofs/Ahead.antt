@@ -13,7 +13,7 @@ use Rattle.sql_syntax.specs.Tokens as terminal
 use Rattle.sql_syntax.specs.Tokens.{Terminal}
 use Rattle.sql_syntax.specs.Strength.{rank}
 use Rattle.sql_syntax.specs.Phrases.{word, mark}
-use Rattle.sql_expressions.specs.Rules.{◌>>=◌, is_keyword, is_sign, behind, first_is, operator_of, comparison_of, begins_test}
+use Rattle.sql_expressions.specs.Rules.{choose, is_keyword, is_sign, behind, first_is, operator_of, comparison_of, begins_test}
 
 -- one more than the rank of the rule that takes the token behind what it has read, or 0
 abbrev pub reach : Terminal → ℕ
@@ -291,7 +291,7 @@ no_operator level.Primary terminal.unknown h = refl
 
 pub ends_chain : (l : Level) (more : List Terminal) → reach_of more ≤ rank l → first_is (operator_of l) more ≡ None
 ends_chain l [] h = refl
-ends_chain l (t ∷ ts) h = ap (λ o. o >>= (λ a. Some (a, ts))) (no_operator l t h)
+ends_chain l (t ∷ ts) h = ap (λ o. choose o (λ a. Some (a, ts)) None) (no_operator l t h)
 
 no_compare : (t : Terminal) → reach t ≤ 3 → comparison_of t ≡ None
 no_compare (terminal.keyword k) h = refl
@@ -306,7 +306,7 @@ no_compare terminal.unknown h = refl
 
 pub no_comparison : (more : List Terminal) → reach_of more ≤ 3 → first_is comparison_of more ≡ None
 no_comparison [] h = refl
-no_comparison (t ∷ ts) h = ap (λ o. o >>= (λ a. Some (a, ts))) (no_compare t h)
+no_comparison (t ∷ ts) h = ap (λ o. choose o (λ a. Some (a, ts)) None) (no_compare t h)
 
 no_name : (k : Keyword) (t : Terminal) → reach t < reach (word k) → is_keyword k t ≡ false
 no_name k t h = not_keyword k t (λ e. let same : reach t ≡ reach (word k) = ap reach e in omega arith)

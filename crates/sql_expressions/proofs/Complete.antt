@@ -1,5 +1,5 @@
 -- An expression that is spelled is read, whatever stands behind it that its rule doesn't take.
-use Rattle.std.proofs.Common.{◌≡◌, ℕ, zero, suc, ◌+◌, ◌<◌, ◌≤◌, pos, Bool, true, false, cond, List, [], ◌∷◌, ◌++◌, length, map, Option, Some, None, refl, sym, ap, ◌∙◌, subst, rules, arith, append_assoc, length-append}
+use Rattle.std.proofs.Common.{◌≡◌, ℕ, zero, suc, ◌+◌, ◌<◌, ◌≤◌, pos, Bool, true, false, cond, List, [], ◌∷◌, ◌++◌, length, map, Option, Some, None, Result, Ok, Err, refl, sym, ap, ◌∙◌, subst, rules, arith, append_assoc, length-append}
 use Rattle.std.specs.Prelude.{max}
 use Rattle.std.proofs.lemmas.Bool.{lt-ltb, le-leb}
 use Rattle.sql_syntax.specs.declared.keyword.Keyword.{Keyword}
@@ -26,6 +26,7 @@ use Rattle.sql_syntax.specs.Strength.{next, rank, level_of, token_of, node_of, c
 use Rattle.sql_syntax.specs.Phrases.{word, mark, not_if, distinct_if, bracketed, aggregate_word, is_distinct, below_zero, undoubled, heads_integer, Spells, as_next, joined, negated, tested, minus, integer, negative, text, column, column_of, rows, aggregated, first_of, chosen, in_brackets, Tests, compared, between, among, like, is_null, SpellsList, last, more, SpellsArms, last_arm, more_arms, SpellsElse, nothing, null, otherwise, open_in, open_in_test, open_in_list, open_in_arms, open_in_else}
 use Rattle.sql_syntax.specs.CanonicalTokens.{depth, deepest, parts_depth}
 use Rattle.sql_expressions.specs.declared.parsed.Parsed.{Parsed}
+use Rattle.sql_expressions.specs.declared.stop.Stop.{Stop}
 use Rattle.sql_expressions.specs.Rules as rule
 use Rattle.sql_expressions.specs.Rules.{Reader, ◌>>=◌, choose, is_keyword, is_sign, behind, first_is, operator_of, comparison_of, deeper, node, then_left, more_of, inner_at, rule_at}
 use Rattle.sql_expressions.proofs.Ahead.{reach, reach_of, not_keyword, not_sign, no_keyword, ends_chain, no_comparison, no_test}
@@ -91,7 +92,7 @@ whole e = record { expr = e; depth = depth e }
 
 -- a rule reads these tokens, and leaves those behind them
 abbrev pub Read : ℕ → ℕ → Level → List Terminal → Expr → List Terminal → Type 0
-Read most n l ts e rest = rule_at most n l (ts ++ rest) ≡ Some (whole e, rest)
+Read most n l ts e rest = rule_at most n l (ts ++ rest) ≡ Ok (whole e, rest)
 
 -- a rule reads these tokens, and then further operators
 pub record Chained (most n : ℕ) (l : Level) (ts : List Terminal) (e : Expr) (rest : List Terminal) : Type 0 where
@@ -122,7 +123,7 @@ most_reach level.Factor = 6
 most_reach level.Primary = 7
 
 -- operators end where none is ahead
-more_ends : (steps most : ℕ) (l : Level) (operand : Reader) (a : Parsed) (rest : List Terminal) → length rest < steps → first_is (operator_of l) rest ≡ None → more_of steps most l operand a rest ≡ Some (a, rest)
+more_ends : (steps most : ℕ) (l : Level) (operand : Reader) (a : Parsed) (rest : List Terminal) → length rest < steps → first_is (operator_of l) rest ≡ None → more_of steps most l operand a rest ≡ Ok (a, rest)
 more_ends zero most l operand a rest h e = absurd (omega arith)
 more_ends (suc m) most l operand a rest h e = rw e refl
 
@@ -141,11 +142,11 @@ full most n level.Primary ts e rest h g = g
 
 -- ---- nodes
 
-node_is : (most k : ℕ) (e : Expr) → depth e ≡ suc k → depth e ≤ most → node most k e ≡ Some (whole e)
+node_is : (most k : ℕ) (e : Expr) → depth e ≡ suc k → depth e ≤ most → node most k e ≡ Ok (whole e)
 node_is most k e is h =
     let below : k < most = omega arith in
     let same : k + 1 ≡ depth e = omega arith in
-    rw (lt-ltb k most below) (ap (λ d. Some (record { expr = e; depth = d })) same)
+    rw (lt-ltb k most below) (ap (λ d. Ok (record { expr = e; depth = d })) same)
 
 pub two_deep : (a b : ℕ) → deepest (a ∷ b ∷ []) ≡ max a b
 two_deep a b = omega arith
@@ -153,7 +154,7 @@ two_deep a b = omega arith
 -- ---- operators
 
 more_step : (m most : ℕ) (l : Level) (operand : Reader) (a b c : Parsed) (o : Operator) (t : Terminal) (us rest : List Terminal)
-    → operator_of l t ≡ Some o → operand us ≡ Some (b, rest) → node most (max a.depth b.depth) (node_of o a.expr b.expr) ≡ Some c
+    → operator_of l t ≡ Some o → operand us ≡ Ok (b, rest) → node most (max a.depth b.depth) (node_of o a.expr b.expr) ≡ Ok c
     → more_of (suc m) most l operand a (t ∷ us) ≡ more_of m most l operand c rest
 more_step m most l operand a b c o t us rest is reads made = rw (is, reads, made) refl
 
@@ -167,7 +168,7 @@ chain_step most n l o ts us rest a b is c reads h = step c.steps c.enough c.read
         → Chained most n l (ts ++ token_of o ∷ us) (node_of o a b) rest
     step zero enough first = absurd (omega arith)
     step (suc m) enough first =
-        let made : node most (max (depth a) (depth b)) (node_of o a b) ≡ Some (whole (node_of o a b)) = node_is most (max (depth a) (depth b)) (node_of o a b) (depth_node o a b ∙ ap suc (two_deep (depth a) (depth b))) h in
+        let made : node most (max (depth a) (depth b)) (node_of o a b) ≡ Ok (whole (node_of o a b)) = node_is most (max (depth a) (depth b)) (node_of o a b) (depth_node o a b ∙ ap suc (two_deep (depth a) (depth b))) h in
         let len : length (us ++ rest) ≡ length us + length rest = length-append us rest in
         let fewer : length rest < m = omega arith in
         record {
@@ -289,23 +290,23 @@ no_first_sign s l ts b h =
 
 -- ---- behind what opens it
 
-inside : (most n : ℕ) (l : Level) (ts : List Terminal) (e : Expr) (rest : List Terminal) (k : ℕ) → suc k ≤ n → ((m : ℕ) → k ≤ m → Read most m l ts e rest) → inner_at most n l (ts ++ rest) ≡ Some (whole e, rest)
+inside : (most n : ℕ) (l : Level) (ts : List Terminal) (e : Expr) (rest : List Terminal) (k : ℕ) → suc k ≤ n → ((m : ℕ) → k ≤ m → Read most m l ts e rest) → inner_at most n l (ts ++ rest) ≡ Ok (whole e, rest)
 unfolding inner_at
 inside most zero l ts e rest k h reads = absurd (omega arith)
 inside most (suc m) l ts e rest k h reads = reads m (omega arith)
 
 -- ---- what a rule takes from the next one
 
-chain_start : (most : ℕ) (l : Level) (operand : Reader) (ts : List Terminal) (a : Parsed) (rest : List Terminal) → operand ts ≡ Some (a, rest) → rule.chain_of most l operand ts ≡ more_of (suc (length rest)) most l operand a rest
+chain_start : (most : ℕ) (l : Level) (operand : Reader) (ts : List Terminal) (a : Parsed) (rest : List Terminal) → operand ts ≡ Ok (a, rest) → rule.chain_of most l operand ts ≡ more_of (suc (length rest)) most l operand a rest
 chain_start most l operand ts a rest reads = rw reads refl
 
-plain_negation : (most n : ℕ) (ts : List Terminal) (r : Option (Parsed × List Terminal)) → behind (is_keyword keyword.Not) ts ≡ None → rule_at most n level.Predicate ts ≡ r → rule_at most n level.Negation ts ≡ r
+plain_negation : (most n : ℕ) (ts : List Terminal) (r : Result (Parsed × List Terminal) Stop) → behind (is_keyword keyword.Not) ts ≡ None → rule_at most n level.Predicate ts ≡ r → rule_at most n level.Negation ts ≡ r
 plain_negation most n ts r none reads = rw none reads
 
-no_tests : (most left : ℕ) (inner : Level → Reader) (a : Parsed) (rest : List Terminal) → reach_of rest ≤ 3 → rule.test_of most left inner a rest ≡ Some (a, rest)
+no_tests : (most left : ℕ) (inner : Level → Reader) (a : Parsed) (rest : List Terminal) → reach_of rest ≤ 3 → rule.test_of most left inner a rest ≡ Ok (a, rest)
 no_tests most left inner a rest h = rw (no_comparison rest h, no_keyword keyword.Is rest (omega arith), no_keyword keyword.Not rest (omega arith), no_test rest h) refl
 
-tested_by : (most n : ℕ) (ts : List Terminal) (a e : Expr) (us rest : List Terminal) → rule_at most n level.Sum ts ≡ Some (whole a, us) → rule.test_of most n (inner_at most n) (whole a) us ≡ Some (whole e, rest) → rule_at most n level.Predicate ts ≡ Some (whole e, rest)
+tested_by : (most n : ℕ) (ts : List Terminal) (a e : Expr) (us rest : List Terminal) → rule_at most n level.Sum ts ≡ Ok (whole a, us) → rule.test_of most n (inner_at most n) (whole a) us ≡ Ok (whole e, rest) → rule_at most n level.Predicate ts ≡ Ok (whole e, rest)
 tested_by most n ts a e us rest reads test = rw reads test
 
 factor_primary : (most left : ℕ) (inner : Level → Reader) (t : Terminal) (us : List Terminal) → 7 < opens t → rule.factor_of most left inner (t ∷ us) ≡ rule.primary_of most left inner (t ∷ us)
@@ -342,7 +343,7 @@ started most n l ts e rest reads = record { steps = suc (length rest); enough = 
 next_goal : (most n : ℕ) (l : Level) (ts : List Terminal) (e : Expr) (rest : List Terminal) → Begins (next l) ts → reach_of rest ≤ most_reach l → Goal most n (next l) ts e rest → Goal most n l ts e rest
 next_goal most n level.Disjunction ts e rest b r g = started most n level.Disjunction ts e rest (chain_start most level.Disjunction (rule_at most n level.Conjunction) (ts ++ rest) (whole e) rest (full most n level.Conjunction ts e rest (omega arith) g))
 next_goal most n level.Conjunction ts e rest b r g = started most n level.Conjunction ts e rest (chain_start most level.Conjunction (rule_at most n level.Negation) (ts ++ rest) (whole e) rest (full most n level.Negation ts e rest (omega arith) g))
-next_goal most n level.Negation ts e rest b r g = plain_negation most n (ts ++ rest) (Some (whole e, rest)) (no_first keyword.Not level.Predicate (ts ++ rest) (with_more level.Predicate ts rest b) (omega arith)) g
+next_goal most n level.Negation ts e rest b r g = plain_negation most n (ts ++ rest) (Ok (whole e, rest)) (no_first keyword.Not level.Predicate (ts ++ rest) (with_more level.Predicate ts rest b) (omega arith)) g
 next_goal most n level.Predicate ts e rest b r g = tested_by most n (ts ++ rest) e e rest rest (full most n level.Sum ts e rest (omega arith) g) (no_tests most n (inner_at most n) (whole e) rest r)
 next_goal most n level.Sum ts e rest b r g = started most n level.Sum ts e rest (chain_start most level.Sum (rule_at most n level.Term) (ts ++ rest) (whole e) rest (full most n level.Term ts e rest (omega arith) g))
 next_goal most n level.Term ts e rest b r g = started most n level.Term ts e rest (chain_start most level.Term (rule_at most n level.Factor) (ts ++ rest) (whole e) rest (full most n level.Factor ts e rest (omega arith) g))
@@ -361,7 +362,7 @@ next_reach level.Primary k h = omega arith
 
 -- ---- nodes behind their tokens
 
-not_reads : (most n : ℕ) (ts : List Terminal) (e : Expr) (rest : List Terminal) → inner_at most n level.Negation (ts ++ rest) ≡ Some (whole e, rest) → depth (expr.Not e) ≤ most → Read most n level.Negation (word keyword.Not ∷ ts) (expr.Not e) rest
+not_reads : (most n : ℕ) (ts : List Terminal) (e : Expr) (rest : List Terminal) → inner_at most n level.Negation (ts ++ rest) ≡ Ok (whole e, rest) → depth (expr.Not e) ≤ most → Read most n level.Negation (word keyword.Not ∷ ts) (expr.Not e) rest
 not_reads most n ts e rest reads h = rw (reads, node_is most (depth e) (expr.Not e) (depth_not e) h) refl
 
 no_digits : (ts rest : List Terminal) → Begins level.Factor ts → heads_integer ts ≡ false → first_is rule.digits_of (ts ++ rest) ≡ None
@@ -378,7 +379,7 @@ no_digits ts rest b h = subst (λ (x : List Terminal). first_is rule.digits_of (
     other terminal.not_closed us h = refl
     other terminal.unknown us h = refl
 
-minus_reads : (most n : ℕ) (ts : List Terminal) (e : Expr) (rest : List Terminal) → first_is rule.digits_of (ts ++ rest) ≡ None → inner_at most n level.Factor (ts ++ rest) ≡ Some (whole e, rest) → depth (expr.Minus e) ≤ most
+minus_reads : (most n : ℕ) (ts : List Terminal) (e : Expr) (rest : List Terminal) → first_is rule.digits_of (ts ++ rest) ≡ None → inner_at most n level.Factor (ts ++ rest) ≡ Ok (whole e, rest) → depth (expr.Minus e) ≤ most
     → Read most n level.Factor (mark sign.Minus ∷ ts) (expr.Minus e) rest
 minus_reads most n ts e rest none reads h = rw (none, reads, node_is most (depth e) (expr.Minus e) (depth_minus e) h) refl
 
@@ -388,22 +389,22 @@ leaf_is e h = ap (λ d. record { expr = e; depth = d }) (sym h)
 integer_reads : (most n k : ℕ) (rest : List Terminal) → k ≤ 9223372036854775807 → Read most n level.Factor (terminal.integer k ∷ []) (expr.Integer (pos k)) rest
 integer_reads most n k rest h =
     let one : depth (expr.Integer (pos k)) ≡ 1 = search (rules, the_lemmas) in
-    rw (le-leb k 9223372036854775807 h) (ap (λ p. Some (p, rest)) (leaf_is (expr.Integer (pos k)) one))
+    rw (le-leb k 9223372036854775807 h) (ap (λ p. Ok (p, rest)) (leaf_is (expr.Integer (pos k)) one))
 
 negative_reads : (most n k : ℕ) (rest : List Terminal) → k ≤ 9223372036854775808 → Read most n level.Factor (mark sign.Minus ∷ terminal.integer k ∷ []) (expr.Integer (below_zero k)) rest
 negative_reads most n k rest h =
     let one : depth (expr.Integer (below_zero k)) ≡ 1 = search (rules, the_lemmas) in
-    rw (le-leb k 9223372036854775808 h) (ap (λ p. Some (p, rest)) (leaf_is (expr.Integer (below_zero k)) one))
+    rw (le-leb k 9223372036854775808 h) (ap (λ p. Ok (p, rest)) (leaf_is (expr.Integer (below_zero k)) one))
 
 text_reads : (most n : ℕ) (t : List ℕ) (rest : List Terminal) → Read most n level.Primary (terminal.text t ∷ []) (expr.Text (undoubled t)) rest
 text_reads most n t rest =
     let one : depth (expr.Text (undoubled t)) ≡ 1 = search (rules, the_lemmas) in
-    ap (λ p. Some (p, rest)) (leaf_is (expr.Text (undoubled t)) one)
+    ap (λ p. Ok (p, rest)) (leaf_is (expr.Text (undoubled t)) one)
 
 column_reads : (most n : ℕ) (m : List ℕ) (rest : List Terminal) → reach_of rest ≤ 7 → Read most n level.Primary (terminal.name m ∷ []) (expr.Column None (lower m)) rest
 column_reads most n m rest h =
     let one : depth (expr.Column None (lower m)) ≡ 1 = search (rules, the_lemmas) in
-    rw (no_dot rest h) (ap (λ p. Some (p, rest)) (leaf_is (expr.Column None (lower m)) one))
+    rw (no_dot rest h) (ap (λ p. Ok (p, rest)) (leaf_is (expr.Column None (lower m)) one))
   where
     no_dot : (us : List Terminal) → reach_of us ≤ 7 → behind (is_sign sign.Dot) us ≡ None
     no_dot [] h = refl
@@ -412,22 +413,22 @@ column_reads most n m rest h =
 column_of_reads : (most n : ℕ) (t m : List ℕ) (rest : List Terminal) → Read most n level.Primary (terminal.name t ∷ mark sign.Dot ∷ terminal.name m ∷ []) (expr.Column (Some (lower t)) (lower m)) rest
 column_of_reads most n t m rest =
     let one : depth (expr.Column (Some (lower t)) (lower m)) ≡ 1 = search (rules, the_lemmas) in
-    ap (λ p. Some (p, rest)) (leaf_is (expr.Column (Some (lower t)) (lower m)) one)
+    ap (λ p. Ok (p, rest)) (leaf_is (expr.Column (Some (lower t)) (lower m)) one)
 
 rows_reads : (most n : ℕ) (rest : List Terminal) → 1 ≤ n → Read most n level.Primary (word keyword.Count ∷ bracketed (mark sign.Star ∷ [])) expr.CountRows rest
 rows_reads most n rest h =
     let one : depth expr.CountRows ≡ 1 = search (rules, the_lemmas) in
-    rw (lt-ltb 0 n h) (ap (λ p. Some (p, rest)) (leaf_is expr.CountRows one))
+    rw (lt-ltb 0 n h) (ap (λ p. Ok (p, rest)) (leaf_is expr.CountRows one))
 
 -- ---- brackets
 
 -- an expression and what closes it
-closed_reads : (most n : ℕ) (ts : List Terminal) (e : Expr) (rest : List Terminal) → inner_at most n level.Disjunction (ts ++ mark sign.Close ∷ rest) ≡ Some (whole e, mark sign.Close ∷ rest)
-    → rule.before_of (is_sign sign.Close) (inner_at most n) ((ts ++ mark sign.Close ∷ []) ++ rest) ≡ Some (whole e, rest)
+closed_reads : (most n : ℕ) (ts : List Terminal) (e : Expr) (rest : List Terminal) → inner_at most n level.Disjunction (ts ++ mark sign.Close ∷ rest) ≡ Ok (whole e, mark sign.Close ∷ rest)
+    → rule.before_of (is_sign sign.Close) (inner_at most n) ((ts ++ mark sign.Close ∷ []) ++ rest) ≡ Ok (whole e, rest)
 closed_reads most n ts e rest reads = ap (rule.before_of (is_sign sign.Close) (inner_at most n)) (append_assoc ts (mark sign.Close ∷ []) rest) ∙ (rw reads refl)
 
 -- an aggregate is read where its argument is
-argument_first : (most left : ℕ) (inner : Level → Reader) (k : Aggregate) (us : List Terminal) (x : Option (Parsed × List Terminal)) → behind (is_sign sign.Star) us ≡ None → behind (is_keyword keyword.Distinct) us ≡ None
+argument_first : (most left : ℕ) (inner : Level → Reader) (k : Aggregate) (us : List Terminal) (x : Result (Parsed × List Terminal) Stop) → behind (is_sign sign.Star) us ≡ None → behind (is_keyword keyword.Distinct) us ≡ None
     → rule.argument_of most left inner k us ≡ x → rule.primary_of most left inner (word (aggregate_word k) ∷ mark sign.Open ∷ distinct_if (is_distinct k) ++ us) ≡ x
 argument_first most left inner aggregate.Count us x star distinct reads = rw (star, distinct) reads
 argument_first most left inner aggregate.CountDistinct us x star distinct reads = reads
@@ -441,26 +442,26 @@ distinct_parts : (distinct : Bool) (ts rest : List Terminal) → ((distinct_if d
 distinct_parts true ts rest = refl
 distinct_parts false ts rest = refl
 
-aggregate_reads : (most n : ℕ) (k : Aggregate) (ts : List Terminal) (e : Expr) (rest : List Terminal) → Begins level.Disjunction ts → inner_at most n level.Disjunction (ts ++ mark sign.Close ∷ rest) ≡ Some (whole e, mark sign.Close ∷ rest)
+aggregate_reads : (most n : ℕ) (k : Aggregate) (ts : List Terminal) (e : Expr) (rest : List Terminal) → Begins level.Disjunction ts → inner_at most n level.Disjunction (ts ++ mark sign.Close ∷ rest) ≡ Ok (whole e, mark sign.Close ∷ rest)
     → depth (expr.Aggregate k e) ≤ most → Read most n level.Primary (word (aggregate_word k) ∷ bracketed (distinct_if (is_distinct k) ++ ts)) (expr.Aggregate k e) rest
 aggregate_reads most n k ts e rest b reads h =
     let us : List Terminal = (ts ++ mark sign.Close ∷ []) ++ rest in
     let front : Begins level.Disjunction us = with_more level.Disjunction (ts ++ mark sign.Close ∷ []) rest (with_more level.Disjunction ts (mark sign.Close ∷ []) b) in
     let star : behind (is_sign sign.Star) us ≡ None = no_first_sign sign.Star level.Disjunction us front (omega arith) in
     let distinct : behind (is_keyword keyword.Distinct) us ≡ None = no_first keyword.Distinct level.Disjunction us front (omega arith) in
-    let closed : rule.before_of (is_sign sign.Close) (inner_at most n) us ≡ Some (whole e, rest) = closed_reads most n ts e rest reads in
-    let made : node most (depth e) (expr.Aggregate k e) ≡ Some (whole (expr.Aggregate k e)) = node_is most (depth e) (expr.Aggregate k e) (depth_aggregate k e) h in
+    let closed : rule.before_of (is_sign sign.Close) (inner_at most n) us ≡ Ok (whole e, rest) = closed_reads most n ts e rest reads in
+    let made : node most (depth e) (expr.Aggregate k e) ≡ Ok (whole (expr.Aggregate k e)) = node_is most (depth e) (expr.Aggregate k e) (depth_aggregate k e) h in
     ap (λ (v : List Terminal). rule.primary_of most n (inner_at most n) (word (aggregate_word k) ∷ mark sign.Open ∷ v)) (distinct_parts (is_distinct k) ts rest)
     ∙ argument_first most n (inner_at most n) k us _ star distinct (argument_made most n k us e rest closed made)
   where
-    argument_made : (most n : ℕ) (k : Aggregate) (us : List Terminal) (e : Expr) (rest : List Terminal) → rule.before_of (is_sign sign.Close) (inner_at most n) us ≡ Some (whole e, rest)
-        → node most (depth e) (expr.Aggregate k e) ≡ Some (whole (expr.Aggregate k e)) → rule.argument_of most n (inner_at most n) k us ≡ Some (whole (expr.Aggregate k e), rest)
+    argument_made : (most n : ℕ) (k : Aggregate) (us : List Terminal) (e : Expr) (rest : List Terminal) → rule.before_of (is_sign sign.Close) (inner_at most n) us ≡ Ok (whole e, rest)
+        → node most (depth e) (expr.Aggregate k e) ≡ Ok (whole (expr.Aggregate k e)) → rule.argument_of most n (inner_at most n) k us ≡ Ok (whole (expr.Aggregate k e), rest)
     argument_made most n k us e rest closed made = rw (closed, made) refl
 
 -- ---- tests behind a subject
 
 abbrev Tested : ℕ → ℕ → Expr → List Terminal → Expr → List Terminal → Type 0
-Tested most n a us e rest = rule.test_of most n (inner_at most n) (whole a) (us ++ rest) ≡ Some (whole e, rest)
+Tested most n a us e rest = rule.test_of most n (inner_at most n) (whole a) (us ++ rest) ≡ Ok (whole e, rest)
 
 comparison_is : (op : ComparisonOperator) → comparison_of (mark (compares op)) ≡ Some op
 comparison_is comparison.Equal = refl
@@ -478,17 +479,17 @@ pub three_deep : (a b c : ℕ) → deepest (a ∷ b ∷ c ∷ []) ≡ max a (max
 three_deep a b c = omega arith
 
 between_reads : (most n : ℕ) (not : Bool) (a low high : Expr) (ts us rest : List Terminal) → Read most n level.Sum ts low (word keyword.And ∷ us ++ rest) → Read most n level.Sum us high rest → depth (expr.Between not a low high) ≤ most
-    → rule.between_of most n (inner_at most n) (whole a) not ((ts ++ word keyword.And ∷ us) ++ rest) ≡ Some (whole (expr.Between not a low high), rest)
+    → rule.between_of most n (inner_at most n) (whole a) not ((ts ++ word keyword.And ∷ us) ++ rest) ≡ Ok (whole (expr.Between not a low high), rest)
 between_reads most n not a low high ts us rest first second h =
-    let made : node most (max (depth a) (max (depth low) (depth high))) (expr.Between not a low high) ≡ Some (whole (expr.Between not a low high)) =
+    let made : node most (max (depth a) (max (depth low) (depth high))) (expr.Between not a low high) ≡ Ok (whole (expr.Between not a low high)) =
     node_is most (max (depth a) (max (depth low) (depth high))) (expr.Between not a low high) (depth_between not a low high ∙ ap suc (three_deep (depth a) (depth low) (depth high))) h in
     ap (rule.between_of most n (inner_at most n) (whole a) not) (append_assoc ts (word keyword.And ∷ us) rest) ∙ (rw (first, second, made) refl)
 
-between_tested : (most n : ℕ) (not : Bool) (a e : Expr) (us rest : List Terminal) → rule.between_of most n (inner_at most n) (whole a) not (us ++ rest) ≡ Some (whole e, rest) → Tested most n a (not_if not ++ word keyword.Between ∷ us) e rest
+between_tested : (most n : ℕ) (not : Bool) (a e : Expr) (us rest : List Terminal) → rule.between_of most n (inner_at most n) (whole a) not (us ++ rest) ≡ Ok (whole e, rest) → Tested most n a (not_if not ++ word keyword.Between ∷ us) e rest
 between_tested most n true a e us rest reads = reads
 between_tested most n false a e us rest reads = reads
 
-in_tested : (most n : ℕ) (not : Bool) (a e : Expr) (us rest : List Terminal) → rule.in_of most n (inner_at most n) (whole a) not (us ++ rest) ≡ Some (whole e, rest) → Tested most n a (not_if not ++ word keyword.In ∷ us) e rest
+in_tested : (most n : ℕ) (not : Bool) (a e : Expr) (us rest : List Terminal) → rule.in_of most n (inner_at most n) (whole a) not (us ++ rest) ≡ Ok (whole e, rest) → Tested most n a (not_if not ++ word keyword.In ∷ us) e rest
 in_tested most n true a e us rest reads = reads
 in_tested most n false a e us rest reads = reads
 
@@ -525,15 +526,15 @@ test_reach rest (is_null not) = omega arith
 pub record Listing (most n : ℕ) (ts : List Terminal) (es : List Expr) (before : rule.Listed) (rest : List Terminal) : Type 0 where
   pub first : rule.Listed
   pub others : List Terminal
-  pub entry : rule.entry_of (inner_at most n) before (ts ++ rest) ≡ Some (first, others)
+  pub entry : rule.entry_of (inner_at most n) before (ts ++ rest) ≡ Ok (first, others)
   pub fewer : length others ≤ length (ts ++ rest)
-  pub more_read : (m : ℕ) → length others < m → rule.more_entries m (inner_at most n) first others ≡ Some (record { exprs = before.exprs ++ es; deepest = max before.deepest (deepest (map depth es)) }, rest)
+  pub more_read : (m : ℕ) → length others < m → rule.more_entries m (inner_at most n) first others ≡ Ok (record { exprs = before.exprs ++ es; deepest = max before.deepest (deepest (map depth es)) }, rest)
 
-entries_end : (m : ℕ) (inner : Level → Reader) (before : rule.Listed) (rest : List Terminal) → 0 < m → behind (is_sign sign.Comma) rest ≡ None → rule.more_entries m inner before rest ≡ Some (before, rest)
+entries_end : (m : ℕ) (inner : Level → Reader) (before : rule.Listed) (rest : List Terminal) → 0 < m → behind (is_sign sign.Comma) rest ≡ None → rule.more_entries m inner before rest ≡ Ok (before, rest)
 entries_end zero inner before rest h e = absurd (omega arith)
 entries_end (suc m) inner before rest h e = rw e refl
 
-last_listing : (most n : ℕ) (ts : List Terminal) (e : Expr) (before : rule.Listed) (rest : List Terminal) → inner_at most n level.Disjunction (ts ++ rest) ≡ Some (whole e, rest) → behind (is_sign sign.Comma) rest ≡ None
+last_listing : (most n : ℕ) (ts : List Terminal) (e : Expr) (before : rule.Listed) (rest : List Terminal) → inner_at most n level.Disjunction (ts ++ rest) ≡ Ok (whole e, rest) → behind (is_sign sign.Comma) rest ≡ None
     → Listing most n ts (e ∷ []) before rest
 last_listing most n ts e before rest reads none =
     let len : length (ts ++ rest) ≡ length ts + length rest = length-append ts rest in
@@ -544,15 +545,15 @@ last_listing most n ts e before rest reads none =
       entry = rw reads refl;
       fewer = omega arith;
       more_read = λ m h. entries_end m (inner_at most n) (rule.with_entry before (whole e)) rest (omega arith) none
-          ∙ ap (λ d. Some (record { exprs = before.exprs ++ e ∷ []; deepest = d }, rest)) same;
+          ∙ ap (λ d. Ok (record { exprs = before.exprs ++ e ∷ []; deepest = d }, rest)) same;
     }
 
-entries_go_on : (m : ℕ) (inner : Level → Reader) (before first : rule.Listed) (us others : List Terminal) (r : Option (rule.Listed × List Terminal)) → rule.entry_of inner before us ≡ Some (first, others) → rule.more_entries m inner first others ≡ r
+entries_go_on : (m : ℕ) (inner : Level → Reader) (before first : rule.Listed) (us others : List Terminal) (r : Result (rule.Listed × List Terminal) Stop) → rule.entry_of inner before us ≡ Ok (first, others) → rule.more_entries m inner first others ≡ r
     → rule.more_entries (suc m) inner before (mark sign.Comma ∷ us) ≡ r
 entries_go_on m inner before first us others r entry more_read = rw entry more_read
 
 more_listing : (most n : ℕ) (ts us : List Terminal) (e : Expr) (es : List Expr) (before : rule.Listed) (rest : List Terminal)
-    → inner_at most n level.Disjunction (ts ++ (mark sign.Comma ∷ us ++ rest)) ≡ Some (whole e, mark sign.Comma ∷ us ++ rest)
+    → inner_at most n level.Disjunction (ts ++ (mark sign.Comma ∷ us ++ rest)) ≡ Ok (whole e, mark sign.Comma ∷ us ++ rest)
     → Listing most n us es (rule.with_entry before (whole e)) rest → Listing most n (ts ++ mark sign.Comma ∷ us) (e ∷ es) before rest
 more_listing most n ts us e es before rest reads l =
     let len : length (ts ++ (mark sign.Comma ∷ us ++ rest)) ≡ length ts + length (mark sign.Comma ∷ us ++ rest) = length-append ts (mark sign.Comma ∷ us ++ rest) in
@@ -576,29 +577,29 @@ more_listing most n ts us e es before rest reads l =
         λ i. record { exprs = lists i; deepest = deep i }
 
     onward : (m : ℕ) → length (mark sign.Comma ∷ us ++ rest) < m → rule.more_entries m (inner_at most n) (rule.with_entry before (whole e)) (mark sign.Comma ∷ us ++ rest)
-        ≡ Some (record { exprs = before.exprs ++ e ∷ es; deepest = max before.deepest (deepest (map depth (e ∷ es))) }, rest)
+        ≡ Ok (record { exprs = before.exprs ++ e ∷ es; deepest = max before.deepest (deepest (map depth (e ∷ es))) }, rest)
     onward zero h = absurd (omega arith)
     onward (suc m) h =
         let f : length l.others ≤ length (us ++ rest) = l.fewer in
-        entries_go_on m (inner_at most n) (rule.with_entry before (whole e)) l.first (us ++ rest) l.others _ l.entry (l.more_read m (omega arith)) ∙ ap (λ x. Some (x, rest)) same
+        entries_go_on m (inner_at most n) (rule.with_entry before (whole e)) l.first (us ++ rest) l.others _ l.entry (l.more_read m (omega arith)) ∙ ap (λ x. Ok (x, rest)) same
 
 -- all expressions of a list
 pub list_reads : (most n : ℕ) (ts : List Terminal) (es : List Expr) (before : rule.Listed) (rest : List Terminal) → Listing most n ts es before rest
-    → rule.list_at (inner_at most n) before (ts ++ rest) ≡ Some (record { exprs = before.exprs ++ es; deepest = max before.deepest (deepest (map depth es)) }, rest)
+    → rule.list_at (inner_at most n) before (ts ++ rest) ≡ Ok (record { exprs = before.exprs ++ es; deepest = max before.deepest (deepest (map depth es)) }, rest)
 list_reads most n ts es before rest l = rw l.entry (l.more_read (suc (length l.others)) (omega arith))
 
 abbrev pub none_listed : rule.Listed
 none_listed = record { exprs = []; deepest = 0 }
 
 bracketed_reads : (most n : ℕ) (ts : List Terminal) (es : List Expr) (rest : List Terminal) → Listing most n ts es none_listed (mark sign.Close ∷ rest)
-    → rule.bracketed_list (inner_at most n) (bracketed ts ++ rest) ≡ Some (record { exprs = es; deepest = deepest (map depth es) }, rest)
+    → rule.bracketed_list (inner_at most n) (bracketed ts ++ rest) ≡ Ok (record { exprs = es; deepest = deepest (map depth es) }, rest)
 bracketed_reads most n ts es rest l =
     let reads = list_reads most n ts es none_listed (mark sign.Close ∷ rest) l in
     let deep : max 0 (deepest (map depth es)) ≡ deepest (map depth es) = omega arith in
     ap (rule.closed_list_of (inner_at most n) none_listed) (append_assoc ts (mark sign.Close ∷ []) rest) ∙ closes (ts ++ mark sign.Close ∷ rest) (record { exprs = es; deepest = max 0 (deepest (map depth es)) }) reads
-    ∙ ap (λ d. Some (record { exprs = es; deepest = d }, rest)) deep
+    ∙ ap (λ d. Ok (record { exprs = es; deepest = d }, rest)) deep
   where
-    closes : (us : List Terminal) (x : rule.Listed) → rule.list_at (inner_at most n) none_listed us ≡ Some (x, mark sign.Close ∷ rest) → rule.closed_list_of (inner_at most n) none_listed us ≡ Some (x, rest)
+    closes : (us : List Terminal) (x : rule.Listed) → rule.list_at (inner_at most n) none_listed us ≡ Ok (x, mark sign.Close ∷ rest) → rule.closed_list_of (inner_at most n) none_listed us ≡ Ok (x, rest)
     closes us x reads = rw reads refl
 
 coalesce_reads : (most n : ℕ) (ts : List Terminal) (es : List Expr) (rest : List Terminal) → Listing most n ts es none_listed (mark sign.Close ∷ rest) → depth (expr.Coalesce es) ≤ most
@@ -606,7 +607,7 @@ coalesce_reads : (most n : ℕ) (ts : List Terminal) (es : List Expr) (rest : Li
 coalesce_reads most n ts es rest l h = rw (bracketed_reads most n ts es rest l, node_is most (deepest (map depth es)) (expr.Coalesce es) (depth_coalesce es) h) refl
 
 in_reads : (most n : ℕ) (not : Bool) (a : Expr) (ts : List Terminal) (es : List Expr) (rest : List Terminal) → Listing most n ts es none_listed (mark sign.Close ∷ rest) → depth (expr.In not a es) ≤ most
-    → rule.in_of most n (inner_at most n) (whole a) not (bracketed ts ++ rest) ≡ Some (whole (expr.In not a es), rest)
+    → rule.in_of most n (inner_at most n) (whole a) not (bracketed ts ++ rest) ≡ Ok (whole (expr.In not a es), rest)
 in_reads most n not a ts es rest l h = rw (bracketed_reads most n ts es rest l, node_is most (max (depth a) (deepest (map depth es))) (expr.In not a es) (depth_in not a es) h) refl
 
 -- ---- arms
@@ -617,11 +618,11 @@ pub record Arming (most n : ℕ) (ts : List Terminal) (arms : List Arm) (before 
   pub starts : ts ≡ word keyword.When ∷ behind_when
   pub first : rule.Cases
   pub others : List Terminal
-  pub arm : rule.arm_at (inner_at most n) before (behind_when ++ rest) ≡ Some (first, others)
+  pub arm : rule.arm_at (inner_at most n) before (behind_when ++ rest) ≡ Ok (first, others)
   pub fewer : length others ≤ length (behind_when ++ rest)
-  pub more_read : (m : ℕ) → length others < m → rule.more_arms m (inner_at most n) first others ≡ Some (record { arms = before.arms ++ arms; deepest = max before.deepest (deepest (map arm_depth arms)) }, rest)
+  pub more_read : (m : ℕ) → length others < m → rule.more_arms m (inner_at most n) first others ≡ Ok (record { arms = before.arms ++ arms; deepest = max before.deepest (deepest (map arm_depth arms)) }, rest)
 
-arms_end : (m : ℕ) (inner : Level → Reader) (before : rule.Cases) (rest : List Terminal) → 0 < m → behind (is_keyword keyword.When) rest ≡ None → rule.more_arms m inner before rest ≡ Some (before, rest)
+arms_end : (m : ℕ) (inner : Level → Reader) (before : rule.Cases) (rest : List Terminal) → 0 < m → behind (is_keyword keyword.When) rest ≡ None → rule.more_arms m inner before rest ≡ Ok (before, rest)
 arms_end zero inner before rest h e = absurd (omega arith)
 arms_end (suc m) inner before rest h e = rw e refl
 
@@ -633,14 +634,14 @@ abbrev kept_arm : rule.Cases → Expr → Expr → rule.Cases
 kept_arm before c v = rule.with_arm before (arm_of c v, max (depth c) (depth v))
 
 arm_reads : (most n : ℕ) (ts us : List Terminal) (c v : Expr) (before : rule.Cases) (rest : List Terminal)
-    → inner_at most n level.Disjunction (ts ++ (word keyword.Then ∷ us ++ rest)) ≡ Some (whole c, word keyword.Then ∷ us ++ rest)
-    → inner_at most n level.Disjunction (us ++ rest) ≡ Some (whole v, rest)
-    → rule.arm_at (inner_at most n) before (ts ++ (word keyword.Then ∷ us ++ rest)) ≡ Some (kept_arm before c v, rest)
+    → inner_at most n level.Disjunction (ts ++ (word keyword.Then ∷ us ++ rest)) ≡ Ok (whole c, word keyword.Then ∷ us ++ rest)
+    → inner_at most n level.Disjunction (us ++ rest) ≡ Ok (whole v, rest)
+    → rule.arm_at (inner_at most n) before (ts ++ (word keyword.Then ∷ us ++ rest)) ≡ Ok (kept_arm before c v, rest)
 arm_reads most n ts us c v before rest first second = rw (first, second) refl
 
 last_arming : (most n : ℕ) (ts us : List Terminal) (c v : Expr) (before : rule.Cases) (rest : List Terminal)
-    → inner_at most n level.Disjunction (ts ++ (word keyword.Then ∷ us ++ rest)) ≡ Some (whole c, word keyword.Then ∷ us ++ rest)
-    → inner_at most n level.Disjunction (us ++ rest) ≡ Some (whole v, rest) → behind (is_keyword keyword.When) rest ≡ None
+    → inner_at most n level.Disjunction (ts ++ (word keyword.Then ∷ us ++ rest)) ≡ Ok (whole c, word keyword.Then ∷ us ++ rest)
+    → inner_at most n level.Disjunction (us ++ rest) ≡ Ok (whole v, rest) → behind (is_keyword keyword.When) rest ≡ None
     → Arming most n (word keyword.When ∷ ts ++ word keyword.Then ∷ us) (arm_of c v ∷ []) before rest
 last_arming most n ts us c v before rest first second none =
     let assoc : (ts ++ word keyword.Then ∷ us) ++ rest ≡ ts ++ (word keyword.Then ∷ us ++ rest) = append_assoc ts (word keyword.Then ∷ us) rest in
@@ -655,16 +656,16 @@ last_arming most n ts us c v before rest first second none =
       arm = ap (rule.arm_at (inner_at most n) before) assoc ∙ arm_reads most n ts us c v before rest first second;
       fewer = omega arith;
       more_read = λ m h. arms_end m (inner_at most n) (kept_arm before c v) rest (omega arith) none
-          ∙ ap (λ d. Some (record { arms = before.arms ++ arm_of c v ∷ []; deepest = d }, rest)) same;
+          ∙ ap (λ d. Ok (record { arms = before.arms ++ arm_of c v ∷ []; deepest = d }, rest)) same;
     }
 
-arms_go_on : (m : ℕ) (inner : Level → Reader) (before first : rule.Cases) (us others : List Terminal) (r : Option (rule.Cases × List Terminal)) → rule.arm_at inner before us ≡ Some (first, others) → rule.more_arms m inner first others ≡ r
+arms_go_on : (m : ℕ) (inner : Level → Reader) (before first : rule.Cases) (us others : List Terminal) (r : Result (rule.Cases × List Terminal) Stop) → rule.arm_at inner before us ≡ Ok (first, others) → rule.more_arms m inner first others ≡ r
     → rule.more_arms (suc m) inner before (word keyword.When ∷ us) ≡ r
 arms_go_on m inner before first us others r arm more_read = rw arm more_read
 
 more_arming : (most n : ℕ) (ts us vs : List Terminal) (c v : Expr) (arms : List Arm) (before : rule.Cases) (rest : List Terminal)
-    → inner_at most n level.Disjunction (ts ++ (word keyword.Then ∷ us ++ (vs ++ rest))) ≡ Some (whole c, word keyword.Then ∷ us ++ (vs ++ rest))
-    → inner_at most n level.Disjunction (us ++ (vs ++ rest)) ≡ Some (whole v, vs ++ rest)
+    → inner_at most n level.Disjunction (ts ++ (word keyword.Then ∷ us ++ (vs ++ rest))) ≡ Ok (whole c, word keyword.Then ∷ us ++ (vs ++ rest))
+    → inner_at most n level.Disjunction (us ++ (vs ++ rest)) ≡ Ok (whole v, vs ++ rest)
     → Arming most n vs arms (kept_arm before c v) rest → Arming most n (word keyword.When ∷ ts ++ (word keyword.Then ∷ us ++ vs)) (arm_of c v ∷ arms) before rest
 more_arming most n ts us vs c v arms before rest first second l =
     let inner_assoc : (us ++ vs) ++ rest ≡ us ++ (vs ++ rest) = append_assoc us vs rest in
@@ -693,14 +694,14 @@ more_arming most n ts us vs c v arms before rest first second l =
         λ i. record { arms = lists i; deepest = deep i }
 
     onward : (m : ℕ) → length (vs ++ rest) < m → rule.more_arms m (inner_at most n) (kept_arm before c v) (vs ++ rest)
-        ≡ Some (record { arms = before.arms ++ arm_of c v ∷ arms; deepest = max before.deepest (deepest (map arm_depth (arm_of c v ∷ arms))) }, rest)
+        ≡ Ok (record { arms = before.arms ++ arm_of c v ∷ arms; deepest = max before.deepest (deepest (map arm_depth (arm_of c v ∷ arms))) }, rest)
     onward zero h = absurd (omega arith)
     onward (suc m) h =
         let f : length l.others ≤ length (l.behind_when ++ rest) = l.fewer in
         let start : vs ++ rest ≡ word keyword.When ∷ l.behind_when ++ rest = ap (λ (x : List Terminal). x ++ rest) l.starts in
         let start_len : length (vs ++ rest) ≡ suc (length (l.behind_when ++ rest)) = ap length start in
         ap (rule.more_arms (suc m) (inner_at most n) (kept_arm before c v)) start
-        ∙ arms_go_on m (inner_at most n) (kept_arm before c v) l.first (l.behind_when ++ rest) l.others _ l.arm (l.more_read m (omega arith)) ∙ ap (λ x. Some (x, rest)) same
+        ∙ arms_go_on m (inner_at most n) (kept_arm before c v) l.first (l.behind_when ++ rest) l.others _ l.arm (l.more_read m (omega arith)) ∙ ap (λ x. Ok (x, rest)) same
 
 -- ---- ELSE and CASE
 
@@ -714,25 +715,25 @@ whole_else (Some e) = Some (whole e)
 
 -- what stands behind the arms of CASE
 abbrev Elsed : ℕ → ℕ → List Terminal → Option Expr → List Terminal → Type 0
-Elsed most n us o rest = rule.else_of (inner_at most n) (us ++ (word keyword.End ∷ rest)) ≡ Some (whole_else o, rest)
+Elsed most n us o rest = rule.else_of (inner_at most n) (us ++ (word keyword.End ∷ rest)) ≡ Ok (whole_else o, rest)
 
 else_reads : (most n : ℕ) (ts : List Terminal) (e : Expr) (rest : List Terminal) → Begins level.Disjunction ts
-    → inner_at most n level.Disjunction (ts ++ (word keyword.End ∷ rest)) ≡ Some (whole e, word keyword.End ∷ rest) → Elsed most n (word keyword.Else ∷ ts) (Some e) rest
+    → inner_at most n level.Disjunction (ts ++ (word keyword.End ∷ rest)) ≡ Ok (whole e, word keyword.End ∷ rest) → Elsed most n (word keyword.Else ∷ ts) (Some e) rest
 else_reads most n ts e rest b reads =
     let none : behind (is_keyword keyword.Null) (ts ++ (word keyword.End ∷ rest)) ≡ None = no_first keyword.Null level.Disjunction (ts ++ (word keyword.End ∷ rest)) (with_more level.Disjunction ts (word keyword.End ∷ rest) b) (omega arith) in
     rw (none, reads) refl
 
-case_made : (most : ℕ) (arms : List Arm) (o : Option Expr) → depth (expr.Case arms o) ≤ most → rule.case_node most (record { arms = arms; deepest = deepest (map arm_depth arms) }) (whole_else o) ≡ Some (whole (expr.Case arms o))
+case_made : (most : ℕ) (arms : List Arm) (o : Option Expr) → depth (expr.Case arms o) ≤ most → rule.case_node most (record { arms = arms; deepest = deepest (map arm_depth arms) }) (whole_else o) ≡ Ok (whole (expr.Case arms o))
 case_made most arms None h = node_is most (deepest (map arm_depth arms)) (expr.Case arms None) (depth_case arms) h
 case_made most arms (Some e) h =
     let turned : max (depth e) (deepest (map arm_depth arms)) ≡ max (deepest (map arm_depth arms)) (depth e) = omega arith in
     node_is most (max (deepest (map arm_depth arms)) (depth e)) (expr.Case arms (Some e)) (depth_else arms e ∙ ap suc turned) h
 
 arms_read : (most n : ℕ) (ts : List Terminal) (arms : List Arm) (rest : List Terminal) (l : Arming most n ts arms none_armed rest)
-    → rule.arms_at (inner_at most n) none_armed (l.behind_when ++ rest) ≡ Some (record { arms = arms; deepest = deepest (map arm_depth arms) }, rest)
+    → rule.arms_at (inner_at most n) none_armed (l.behind_when ++ rest) ≡ Ok (record { arms = arms; deepest = deepest (map arm_depth arms) }, rest)
 arms_read most n ts arms rest l =
     let deep : max 0 (deepest (map arm_depth arms)) ≡ deepest (map arm_depth arms) = omega arith in
-    (rw l.arm (l.more_read (suc (length l.others)) (omega arith))) ∙ ap (λ d. Some (record { arms = arms; deepest = d }, rest)) deep
+    (rw l.arm (l.more_read (suc (length l.others)) (omega arith))) ∙ ap (λ d. Ok (record { arms = arms; deepest = d }, rest)) deep
 
 case_reads : (most n : ℕ) (ts us : List Terminal) (arms : List Arm) (o : Option Expr) (rest : List Terminal) → Arming most n ts arms none_armed (us ++ (word keyword.End ∷ rest)) → Elsed most n us o rest → depth (expr.Case arms o) ≤ most
     → Read most n level.Primary (word keyword.Case ∷ ts ++ (us ++ word keyword.End ∷ [])) (expr.Case arms o) rest
@@ -742,8 +743,8 @@ case_reads most n ts us arms o rest l other h =
     let start : ts ++ (us ++ (word keyword.End ∷ rest)) ≡ word keyword.When ∷ l.behind_when ++ (us ++ (word keyword.End ∷ rest)) = ap (λ (x : List Terminal). x ++ (us ++ (word keyword.End ∷ rest))) l.starts in
     ap (rule.case_of most n (inner_at most n)) (assoc ∙ start) ∙ from_when (l.behind_when ++ (us ++ (word keyword.End ∷ rest))) (arms_read most n ts arms (us ++ (word keyword.End ∷ rest)) l)
   where
-    from_when : (vs : List Terminal) → rule.arms_at (inner_at most n) none_armed vs ≡ Some (record { arms = arms; deepest = deepest (map arm_depth arms) }, us ++ (word keyword.End ∷ rest))
-        → rule.case_of most n (inner_at most n) (word keyword.When ∷ vs) ≡ Some (whole (expr.Case arms o), rest)
+    from_when : (vs : List Terminal) → rule.arms_at (inner_at most n) none_armed vs ≡ Ok (record { arms = arms; deepest = deepest (map arm_depth arms) }, us ++ (word keyword.End ∷ rest))
+        → rule.case_of most n (inner_at most n) (word keyword.When ∷ vs) ≡ Ok (whole (expr.Case arms o), rest)
     from_when vs reads = rw (reads, other, case_made most arms o h) refl
 
 -- ---- depths of parts
@@ -778,7 +779,7 @@ arms_reach (more_arms d d2 ds) rest = omega arith
 
 -- an expression behind what opens it, and before what no rule takes
 pub freely : (most n : ℕ) (ts : List Terminal) (e : Expr) (rest : List Terminal) (k : ℕ) → suc k ≤ n → reach_of rest ≤ 0 → ((m : ℕ) → k ≤ m → reach_of rest ≤ 1 → Goal most m level.Disjunction ts e rest)
-    → inner_at most n level.Disjunction (ts ++ rest) ≡ Some (whole e, rest)
+    → inner_at most n level.Disjunction (ts ++ rest) ≡ Ok (whole e, rest)
 freely most n ts e rest k o r goal =
     let one : reach_of rest ≤ 1 = omega arith in
     inside most n level.Disjunction ts e rest k o (λ m h. full most m level.Disjunction ts e rest r (goal m h one))
@@ -889,14 +890,14 @@ mutual
 
 -- ---- at most one tree
 
-reads_all : {l : Level} {ts : List Terminal} {e : Expr} (d : Spells l ts e) (most n : ℕ) → open_in d ≤ n → depth e ≤ most → rule_at most n l (ts ++ []) ≡ Some (whole e, [])
+reads_all : {l : Level} {ts : List Terminal} {e : Expr} (d : Spells l ts e) (most n : ℕ) → open_in d ≤ n → depth e ≤ most → rule_at most n l (ts ++ []) ≡ Ok (whole e, [])
 reads_all {l} {ts} {e} d most n o h = full most n l ts e [] (omega arith) (complete d most n [] o h (omega arith))
 
-abbrev read_expr : Option (Parsed × List Terminal) → Option Expr
-read_expr None = None
-read_expr (Some x) = Some x.0.expr
+abbrev read_expr : Result (Parsed × List Terminal) Stop → Option Expr
+read_expr (Err reason) = None
+read_expr (Ok x) = Some x.0.expr
 
-expr_of : (a b : Expr) → ◌≡◌ {A = Option (Parsed × List Terminal)} (Some (whole a, [])) (Some (whole b, [])) → a ≡ b
+expr_of : (a b : Expr) → ◌≡◌ {A = Result (Parsed × List Terminal) Stop} (Ok (whole a, [])) (Ok (whole b, [])) → a ≡ b
 expr_of a b e = let both : ◌≡◌ {A = Option Expr} (Some a) (Some b) = ap read_expr e in cc both
 
 -- a list of tokens spells at most one expression

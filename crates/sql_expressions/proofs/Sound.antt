@@ -1,5 +1,5 @@
 -- What is read is spelled.
-use Rattle.std.proofs.Common.{◌≡◌, ◌⊎◌, ℕ, zero, suc, ◌+◌, ◌<◌, ◌≤◌, ℤ, pos, Bool, true, false, cond, List, [], ◌∷◌, ◌++◌, length, map, Option, Some, None, refl, sym, ap, ◌∙◌, subst, rules, arith, append_assoc, inl, inr}
+use Rattle.std.proofs.Common.{◌≡◌, ◌⊎◌, ℕ, zero, suc, ◌+◌, ◌<◌, ◌≤◌, ℤ, pos, Bool, true, false, cond, List, [], ◌∷◌, ◌++◌, length, map, Option, Some, None, Result, Ok, Err, refl, sym, ap, ◌∙◌, subst, rules, arith, append_assoc, inl, inr}
 use Rattle.std.specs.Prelude.{max, nat_lt, nat_le}
 use Rattle.std.proofs.lemmas.Bool.{ltb-true, leb-true}
 use Rattle.sql_syntax.specs.declared.keyword.Keyword.{Keyword}
@@ -26,20 +26,31 @@ use Rattle.sql_syntax.specs.Strength.{next, level_of, token_of, node_of, compare
 use Rattle.sql_syntax.specs.Phrases.{word, mark, not_if, distinct_if, bracketed, aggregate_word, is_distinct, below_zero, undoubled, heads_integer, Spells, as_next, joined, negated, tested, minus, integer, negative, text, column, column_of, rows, aggregated, first_of, chosen, in_brackets, Tests, compared, between, among, like, is_null, SpellsList, last, more, SpellsArms, last_arm, more_arms, SpellsElse, nothing, null, otherwise, open_in, open_in_test, open_in_list, open_in_arms, open_in_else}
 use Rattle.sql_syntax.specs.CanonicalTokens.{depth, deepest}
 use Rattle.sql_expressions.specs.declared.parsed.Parsed.{Parsed}
+use Rattle.sql_expressions.specs.declared.stop.Stop.{Stop}
+use Rattle.sql_expressions.specs.declared.stop.Stop.TheVariants as stop
 use Rattle.sql_expressions.specs.Rules as rule
-use Rattle.sql_expressions.specs.Rules.{Reader, ◌>>=◌, choose, is_keyword, is_sign, behind, first_is, operator_of, comparison_of, begins_test, node, then_left, more_of, inner_at, rule_at}
+use Rattle.sql_expressions.specs.Rules.{Reader, ◌>>=◌, choose, is_keyword, is_sign, behind, past, first_is, operator_of, comparison_of, begins_test, node, then_left, more_of, inner_at, rule_at}
 use Rattle.sql_expressions.proofs.Ahead.{keyword_is, sign_is}
 use Rattle.sql_expressions.proofs.Complete.{depth_not, depth_minus, depth_node, depth_aggregate, depth_null, depth_like, depth_compare, depth_between, depth_in, depth_coalesce, depth_arm, depth_case, depth_else, arm_depth, arm_of, whole, whole_else, none_listed}
 
 -- ---- steps
 
-pub bind_some : {A B : Type 0} (r : Option A) (f : A → Option B) (y : B) → (r >>= f) ≡ Some y → (x : A) × (r ≡ Some x) × (f x ≡ Some y)
-bind_some None f y e = absurd cc
-bind_some (Some x) f y e = (x, refl, e)
+pub bind_ok : {A B : Type 0} (r : Result A Stop) (f : A → Result B Stop) (y : B) → (r >>= f) ≡ Ok y → (x : A) × (r ≡ Ok x) × (f x ≡ Ok y)
+bind_ok (Err reason) f y e = absurd cc
+bind_ok (Ok x) f y e = (x, refl, e)
 
-pub choose_some : {A B : Type 0} (o : Option A) (f : A → Option B) (d : Option B) (y : B) → choose o f d ≡ Some y → ((x : A) × (o ≡ Some x) × (f x ≡ Some y)) ⊎ ((o ≡ None) × (d ≡ Some y))
-choose_some None f d y e = inr (refl, e)
-choose_some (Some x) f d y e = inl (x, refl, e)
+pub choose_ok : {A B : Type 0} (o : Option A) (f : A → Result B Stop) (d : Result B Stop) (y : B) → choose o f d ≡ Ok y → ((x : A) × (o ≡ Some x) × (f x ≡ Ok y)) ⊎ ((o ≡ None) × (d ≡ Ok y))
+choose_ok None f d y e = inr (refl, e)
+choose_ok (Some x) f d y e = inl (x, refl, e)
+
+-- what is there is seen in another way
+there : {A B : Type 0} (o : Option A) (f : A → B) (y : B) → choose o (λ a. Some (f a)) None ≡ Some y → (x : A) × (o ≡ Some x) × (f x ≡ y)
+there None f y e = absurd cc
+there (Some x) f y e = (x, refl, cc e)
+
+pub needed_ok : {A : Type 0} (ts : List Terminal) (o : Option A) (x : A) → rule.needed ts o ≡ Ok x → o ≡ Some x
+needed_ok ts None x e = absurd cc
+needed_ok ts (Some y) x e = let same : y ≡ x = cc e in ap (λ a. Some a) same
 
 passed : (test : Bool) (ts us : List Terminal) → cond test (Some ts) None ≡ Some us → (test ≡ true) × (ts ≡ us)
 passed true ts us e = (refl, cc)
@@ -53,15 +64,22 @@ pub mark_taken : (s : Sign) (ts us : List Terminal) → behind (is_sign s) ts �
 mark_taken s [] us e = absurd cc
 mark_taken s (t ∷ ts) us e = let p = passed (is_sign s t) ts us e in (λ i. sign_is s t p.0 i ∷ p.1 i)
 
-deeper_some : (test : Bool) (k d : ℕ) → cond test (Some (k + 1)) None ≡ Some d → (test ≡ true) × (k + 1 ≡ d)
-deeper_some true k d e = (refl, cc)
-deeper_some false k d e = absurd cc
+pub word_past : (k : Keyword) (ts us : List Terminal) → past (is_keyword k) ts ≡ Ok us → ts ≡ word k ∷ us
+word_past k ts us e = word_taken k ts us (needed_ok ts (behind (is_keyword k) ts) us e)
+
+pub mark_past : (s : Sign) (ts us : List Terminal) → past (is_sign s) ts ≡ Ok us → ts ≡ mark s ∷ us
+mark_past s ts us e = mark_taken s ts us (needed_ok ts (behind (is_sign s) ts) us e)
+
+-- what is read where a test passes
+pub allowed : {A : Type 0} (test : Bool) (reason : Stop) (a b : A) → cond test (Ok a) (Err reason) ≡ Ok b → (test ≡ true) × (a ≡ b)
+allowed true reason a b e = (refl, cc e)
+allowed false reason a b e = absurd cc
 
 -- a node that isn't too deep
-pub node_some : (k : ℕ) (e : Expr) (p : Parsed) → node 128 k e ≡ Some p → (p.expr ≡ e) × (p.depth ≡ suc k) × (p.depth ≤ 128)
+pub node_some : (k : ℕ) (e : Expr) (p : Parsed) → node 128 k e ≡ Ok p → (p.expr ≡ e) × (p.depth ≡ suc k) × (p.depth ≤ 128)
 node_some k e p is =
-    let a = bind_some (rule.deeper 128 k) (λ d. Some (record { expr = e; depth = d })) p is in
-    let b = deeper_some (nat_lt k 128) k a.0 a.1 in
+    let a = bind_ok (rule.deeper 128 k) (λ d. Ok (record { expr = e; depth = d })) p is in
+    let b = allowed (nat_lt k 128) stop.TooDeep (k + 1) a.0 a.1 in
     let below : k < 128 = ltb-true k 128 b.0 in
     let made : ◌≡◌ {A = Parsed} (record { expr = e; depth = a.0 }) p = cc a.2 in
     let same_expr : e ≡ p.expr = ap (λ (x : Parsed). x.expr) made in
@@ -83,7 +101,7 @@ pub record Took (more_open n : ℕ) (l : Level) (ts : List Terminal) (x : Parsed
   pub bounded : x.0.depth ≤ 128
 
 abbrev pub IsSound : ℕ → ℕ → Level → Reader → Type 0
-IsSound more_open n l read = (ts : List Terminal) (x : Parsed × List Terminal) → read ts ≡ Some x → Took more_open n l ts x
+IsSound more_open n l read = (ts : List Terminal) (x : Parsed × List Terminal) → read ts ≡ Ok x → Took more_open n l ts x
 
 -- ---- operators
 
@@ -99,20 +117,19 @@ operator_is l t o e = absurd cc
 first_operator : (l : Level) (us : List Terminal) (o : Operator × List Terminal) → first_is (operator_of l) us ≡ Some o → (level_of o.0 ≡ l) × (us ≡ token_of o.0 ∷ o.1)
 first_operator l [] o e = absurd cc
 first_operator l (t ∷ us) o e =
-    let b = bind_some (operator_of l t) (λ (a : Operator). Some (a, us)) o e in
+    let b = there (operator_of l t) (λ (a : Operator). (a, us)) o e in
     let p = operator_is l t b.0 b.1 in
-    let same : ◌≡◌ {A = Operator × List Terminal} (b.0, us) o = cc b.2 in
     let tokens : t ∷ us ≡ token_of b.0 ∷ us = ap (λ (x : Terminal). x ∷ us) p.1 in
-    subst (λ (y : Operator × List Terminal). (level_of y.0 ≡ l) × (t ∷ us ≡ token_of y.0 ∷ y.1)) same (p.0, tokens)
+    subst (λ (y : Operator × List Terminal). (level_of y.0 ≡ l) × (t ∷ us ≡ token_of y.0 ∷ y.1)) b.2 (p.0, tokens)
 
 -- ---- nodes of what was taken
 
 -- a node over what was taken, and the tokens behind it
-made : (n k : ℕ) (l : Level) (ts front rest : List Terminal) (e : Expr) (d : Spells l front e) (x : Parsed × List Terminal) → then_left (node 128 k e) rest ≡ Some x → ts ≡ front ++ rest → open_in d ≤ n → depth e ≡ suc k → Took 0 n l ts x
+made : (n k : ℕ) (l : Level) (ts front rest : List Terminal) (e : Expr) (d : Spells l front e) (x : Parsed × List Terminal) → then_left (node 128 k e) rest ≡ Ok x → ts ≡ front ++ rest → open_in d ≤ n → depth e ≡ suc k → Took 0 n l ts x
 made n k l ts front rest e d x is parts o deep =
-    let left = bind_some (node 128 k e) (λ (p : Parsed). Some (p, rest)) x is in
-    let found = bind_some (rule.deeper 128 k) (λ (d : ℕ). Some (record { expr = e; depth = d })) left.0 left.1 in
-    let below = deeper_some (nat_lt k 128) k found.0 found.1 in
+    let left = bind_ok (node 128 k e) (λ (p : Parsed). Ok (p, rest)) x is in
+    let found = bind_ok (rule.deeper 128 k) (λ (d : ℕ). Ok (record { expr = e; depth = d })) left.0 left.1 in
+    let below = allowed (nat_lt k 128) stop.TooDeep (k + 1) found.0 found.1 in
     let small : k < 128 = ltb-true k 128 below.0 in
     let sum : k + 1 ≡ found.0 = below.1 in
     let node_is : ◌≡◌ {A = Parsed} (record { expr = e; depth = found.0 }) left.0 = cc found.2 in
@@ -123,7 +140,7 @@ made n k l ts front rest e d x is parts o deep =
     subst (λ (y : Parsed × List Terminal). Took 0 n l ts y) whole (record { front = front; spells = d; parts = parts; opens = few; deep = same; bounded = bound })
 
 -- a node without parts, and the tokens behind it
-leaf_made : (n : ℕ) (l : Level) (ts front rest : List Terminal) (e : Expr) (d : Spells l front e) (x : Parsed × List Terminal) → ◌≡◌ {A = Option (Parsed × List Terminal)} (Some (rule.leaf e, rest)) (Some x) → ts ≡ front ++ rest → open_in d ≤ n → depth e ≡ 1 → Took 0 n l ts x
+leaf_made : (n : ℕ) (l : Level) (ts front rest : List Terminal) (e : Expr) (d : Spells l front e) (x : Parsed × List Terminal) → ◌≡◌ {A = Result (Parsed × List Terminal) Stop} (Ok (rule.leaf e, rest)) (Ok x) → ts ≡ front ++ rest → open_in d ≤ n → depth e ≡ 1 → Took 0 n l ts x
 leaf_made n l ts front rest e d x is parts o deep =
     let whole : ◌≡◌ {A = Parsed × List Terminal} (rule.leaf e, rest) x = cc is in
     let same : 1 ≡ depth e = sym deep in
@@ -138,9 +155,9 @@ next_took n l ts x t = record { front = t.front; spells = as_next {l = l} t.spel
 -- ---- chains of operators
 
 join_took : (n : ℕ) (o : Operator) (ts us : List Terminal) (a : Parsed) (b : Parsed × List Terminal) (c : Parsed) → Took 0 n (level_of o) ts (a, token_of o ∷ us) → Took 0 n (next (level_of o)) us b
-    → node 128 (max a.depth b.0.depth) (node_of o a.expr b.0.expr) ≡ Some c → Took 0 n (level_of o) ts (c, b.1)
+    → node 128 (max a.depth b.0.depth) (node_of o a.expr b.0.expr) ≡ Ok c → Took 0 n (level_of o) ts (c, b.1)
 join_took n o ts us a b c p q is =
-    let reads : then_left (node 128 (max a.depth b.0.depth) (node_of o a.expr b.0.expr)) b.1 ≡ Some (c, b.1) = rw is refl in
+    let reads : then_left (node 128 (max a.depth b.0.depth) (node_of o a.expr b.0.expr)) b.1 ≡ Ok (c, b.1) = rw is refl in
     let parts : ts ≡ (p.front ++ token_of o ∷ q.front) ++ b.1 = p.parts ∙ ap (λ (x : List Terminal). p.front ++ token_of o ∷ x) q.parts ∙ sym (append_assoc p.front (token_of o ∷ q.front) b.1) in
     let deep : depth (node_of o a.expr b.0.expr) ≡ suc (max (depth a.expr) (max (depth b.0.expr) 0)) = depth_node o a.expr b.0.expr in
     let first : a.depth ≡ depth a.expr = p.deep in
@@ -151,32 +168,32 @@ join_took n o ts us a b c p q is =
 
 -- the same in a rule that the operator stands in
 join_at : (n : ℕ) (l : Level) (o : Operator) (ts us : List Terminal) (a : Parsed) (b : Parsed × List Terminal) (c : Parsed) → level_of o ≡ l → Took 0 n l ts (a, token_of o ∷ us) → Took 0 n (next l) us b
-    → node 128 (max a.depth b.0.depth) (node_of o a.expr b.0.expr) ≡ Some c → Took 0 n l ts (c, b.1)
+    → node 128 (max a.depth b.0.depth) (node_of o a.expr b.0.expr) ≡ Ok c → Took 0 n l ts (c, b.1)
 join_at n l o ts us a b c is p q made_is =
     subst (λ (k : Level). Took 0 n k ts (a, token_of o ∷ us) → Took 0 n (next k) us b → Took 0 n k ts (c, b.1)) is (λ p q. join_took n o ts us a b c p q made_is) p q
 
 -- one operator more, or none
 turn : (m n : ℕ) (l : Level) (operand : Reader) → IsSound 0 n (next l) operand → (a : Parsed) (ts us : List Terminal) (x : Parsed × List Terminal) → Took 0 n l ts (a, us)
-    → ((c : Parsed) (vs : List Terminal) → Took 0 n l ts (c, vs) → more_of m 128 l operand c vs ≡ Some x → Took 0 n l ts x)
-    → ((o : Operator × List Terminal) × (first_is (operator_of l) us ≡ Some o) × ((operand o.1 >>= (λ b. node 128 (max a.depth b.0.depth) (node_of o.0 a.expr b.0.expr) >>= (λ c. more_of m 128 l operand c b.1))) ≡ Some x)) ⊎ ((first_is (operator_of l) us ≡ None) × (◌≡◌ {A = Option (Parsed × List Terminal)} (Some (a, us)) (Some x)))
+    → ((c : Parsed) (vs : List Terminal) → Took 0 n l ts (c, vs) → more_of m 128 l operand c vs ≡ Ok x → Took 0 n l ts x)
+    → ((o : Operator × List Terminal) × (first_is (operator_of l) us ≡ Some o) × ((operand o.1 >>= (λ b. node 128 (max a.depth b.0.depth) (node_of o.0 a.expr b.0.expr) >>= (λ c. more_of m 128 l operand c b.1))) ≡ Ok x)) ⊎ ((first_is (operator_of l) us ≡ None) × (◌≡◌ {A = Result (Parsed × List Terminal) Stop} (Ok (a, us)) (Ok x)))
     → Took 0 n l ts x
 turn m n l operand h a ts us x t again (inl p) =
     let is = first_operator l us p.0 p.1 in
-    let r = bind_some (operand p.0.1) (λ (b : Parsed × List Terminal). node 128 (max a.depth b.0.depth) (node_of p.0.0 a.expr b.0.expr) >>= (λ c. more_of m 128 l operand c b.1)) x p.2 in
-    let made_is = bind_some (node 128 (max a.depth r.0.0.depth) (node_of p.0.0 a.expr r.0.0.expr)) (λ (c : Parsed). more_of m 128 l operand c r.0.1) x r.2 in
+    let r = bind_ok (operand p.0.1) (λ (b : Parsed × List Terminal). node 128 (max a.depth b.0.depth) (node_of p.0.0 a.expr b.0.expr) >>= (λ c. more_of m 128 l operand c b.1)) x p.2 in
+    let made_is = bind_ok (node 128 (max a.depth r.0.0.depth) (node_of p.0.0 a.expr r.0.0.expr)) (λ (c : Parsed). more_of m 128 l operand c r.0.1) x r.2 in
     let here : Took 0 n l ts (a, token_of p.0.0 ∷ p.0.1) = subst (λ (v : List Terminal). Took 0 n l ts (a, v)) is.1 t in
     again made_is.0 r.0.1 (join_at n l p.0.0 ts p.0.1 a r.0 made_is.0 is.0 here (h p.0.1 r.0 r.1) made_is.1) made_is.2
 turn m n l operand h a ts us x t again (inr p) = let same : ◌≡◌ {A = Parsed × List Terminal} (a, us) x = cc p.1 in subst (λ (y : Parsed × List Terminal). Took 0 n l ts y) same t
 
-more_sound : (m n : ℕ) (l : Level) (operand : Reader) → IsSound 0 n (next l) operand → (a : Parsed) (ts us : List Terminal) (x : Parsed × List Terminal) → Took 0 n l ts (a, us) → more_of m 128 l operand a us ≡ Some x → Took 0 n l ts x
+more_sound : (m n : ℕ) (l : Level) (operand : Reader) → IsSound 0 n (next l) operand → (a : Parsed) (ts us : List Terminal) (x : Parsed × List Terminal) → Took 0 n l ts (a, us) → more_of m 128 l operand a us ≡ Ok x → Took 0 n l ts x
 more_sound zero n l operand h a ts us x t e = absurd cc
 more_sound (suc m) n l operand h a ts us x t e =
     turn m n l operand h a ts us x t (λ c vs t2 e2. more_sound m n l operand h c ts vs x t2 e2)
-    (choose_some (first_is (operator_of l) us) (λ (o : Operator × List Terminal). operand o.1 >>= (λ b. node 128 (max a.depth b.0.depth) (node_of o.0 a.expr b.0.expr) >>= (λ c. more_of m 128 l operand c b.1))) (Some (a, us)) x e)
+    (choose_ok (first_is (operator_of l) us) (λ (o : Operator × List Terminal). operand o.1 >>= (λ b. node 128 (max a.depth b.0.depth) (node_of o.0 a.expr b.0.expr) >>= (λ c. more_of m 128 l operand c b.1))) (Ok (a, us)) x e)
 
 chain_sound : (n : ℕ) (l : Level) (operand : Reader) → IsSound 0 n (next l) operand → IsSound 0 n l (rule.chain_of 128 l operand)
 chain_sound n l operand h ts x e =
-    let a = bind_some (operand ts) (λ (a : Parsed × List Terminal). more_of (suc (length a.1)) 128 l operand a.0 a.1) x e in
+    let a = bind_ok (operand ts) (λ (a : Parsed × List Terminal). more_of (suc (length a.1)) 128 l operand a.0 a.1) x e in
     more_sound (suc (length a.0.1)) n l operand h a.0.0 ts a.0.1 x (next_took n l ts a.0 (h ts a.0 a.1)) a.2
 
 -- ---- lists
@@ -220,34 +237,34 @@ more_took n before ts us p x t comma l =
     record { front = t.front ++ mark sign.Comma ∷ l.front; exprs = p.0.expr ∷ l.exprs; spells = more t.spells l.spells; parts = parts; opens = few; are = lists; deep = same; bounded = bound }
 
 entry_turn : (m n : ℕ) (inner : Level → Reader) → IsInner n inner → (before : rule.Listed) (ts : List Terminal) (p : Parsed × List Terminal) (x : rule.Listed × List Terminal) → Took 1 n level.Disjunction ts p
-    → ((us : List Terminal) (q : Parsed × List Terminal) → Took 1 n level.Disjunction us q → rule.more_entries m inner (rule.with_entry (rule.with_entry before p.0) q.0) q.1 ≡ Some x → TookList n (rule.with_entry before p.0) us x)
-    → ((us : List Terminal) × (behind (is_sign sign.Comma) p.1 ≡ Some us) × ((rule.entry_of inner (rule.with_entry before p.0) us >>= (λ y. rule.more_entries m inner y.0 y.1)) ≡ Some x)) ⊎ ((behind (is_sign sign.Comma) p.1 ≡ None) × (◌≡◌ {A = Option (rule.Listed × List Terminal)} (Some (rule.with_entry before p.0, p.1)) (Some x)))
+    → ((us : List Terminal) (q : Parsed × List Terminal) → Took 1 n level.Disjunction us q → rule.more_entries m inner (rule.with_entry (rule.with_entry before p.0) q.0) q.1 ≡ Ok x → TookList n (rule.with_entry before p.0) us x)
+    → ((us : List Terminal) × (behind (is_sign sign.Comma) p.1 ≡ Some us) × ((rule.entry_of inner (rule.with_entry before p.0) us >>= (λ y. rule.more_entries m inner y.0 y.1)) ≡ Ok x)) ⊎ ((behind (is_sign sign.Comma) p.1 ≡ None) × (◌≡◌ {A = Result (rule.Listed × List Terminal) Stop} (Ok (rule.with_entry before p.0, p.1)) (Ok x)))
     → TookList n before ts x
 entry_turn m n inner h before ts p x t again (inl q) =
     let kept : rule.Listed = rule.with_entry before p.0 in
     let comma = mark_taken sign.Comma p.1 q.0 q.1 in
-    let r = bind_some (rule.entry_of inner kept q.0) (λ (y : rule.Listed × List Terminal). rule.more_entries m inner y.0 y.1) x q.2 in
-    let s = bind_some (inner level.Disjunction q.0) (λ (y : Parsed × List Terminal). Some (rule.with_entry kept y.0, y.1)) r.0 r.1 in
+    let r = bind_ok (rule.entry_of inner kept q.0) (λ (y : rule.Listed × List Terminal). rule.more_entries m inner y.0 y.1) x q.2 in
+    let s = bind_ok (inner level.Disjunction q.0) (λ (y : Parsed × List Terminal). Ok (rule.with_entry kept y.0, y.1)) r.0 r.1 in
     let same : ◌≡◌ {A = rule.Listed × List Terminal} r.0 (rule.with_entry kept s.0.0, s.0.1) = sym (cc s.2) in
-    let reads : rule.more_entries m inner (rule.with_entry kept s.0.0) s.0.1 ≡ Some x = subst (λ (y : rule.Listed × List Terminal). rule.more_entries m inner y.0 y.1 ≡ Some x) same r.2 in
+    let reads : rule.more_entries m inner (rule.with_entry kept s.0.0) s.0.1 ≡ Ok x = subst (λ (y : rule.Listed × List Terminal). rule.more_entries m inner y.0 y.1 ≡ Ok x) same r.2 in
     more_took n before ts q.0 p x t comma (again q.0 s.0 (h level.Disjunction q.0 s.0 s.1) reads)
 entry_turn m n inner h before ts p x t again (inr q) =
     let same : ◌≡◌ {A = rule.Listed × List Terminal} (rule.with_entry before p.0, p.1) x = cc q.1 in
     subst (λ (y : rule.Listed × List Terminal). TookList n before ts y) same (last_took n before ts p t)
 
 entries_sound : (m n : ℕ) (inner : Level → Reader) → IsInner n inner → (before : rule.Listed) (ts : List Terminal) (p : Parsed × List Terminal) (x : rule.Listed × List Terminal) → Took 1 n level.Disjunction ts p
-    → rule.more_entries m inner (rule.with_entry before p.0) p.1 ≡ Some x → TookList n before ts x
+    → rule.more_entries m inner (rule.with_entry before p.0) p.1 ≡ Ok x → TookList n before ts x
 entries_sound zero n inner h before ts p x t e = absurd cc
 entries_sound (suc m) n inner h before ts p x t e =
     entry_turn m n inner h before ts p x t (λ us q t2 e2. entries_sound m n inner h (rule.with_entry before p.0) us q x t2 e2)
-    (choose_some (behind (is_sign sign.Comma) p.1) (λ (us : List Terminal). rule.entry_of inner (rule.with_entry before p.0) us >>= (λ y. rule.more_entries m inner y.0 y.1)) (Some (rule.with_entry before p.0, p.1)) x e)
+    (choose_ok (behind (is_sign sign.Comma) p.1) (λ (us : List Terminal). rule.entry_of inner (rule.with_entry before p.0) us >>= (λ y. rule.more_entries m inner y.0 y.1)) (Ok (rule.with_entry before p.0, p.1)) x e)
 
-pub list_sound : (n : ℕ) (inner : Level → Reader) → IsInner n inner → (before : rule.Listed) (ts : List Terminal) (x : rule.Listed × List Terminal) → rule.list_at inner before ts ≡ Some x → TookList n before ts x
+pub list_sound : (n : ℕ) (inner : Level → Reader) → IsInner n inner → (before : rule.Listed) (ts : List Terminal) (x : rule.Listed × List Terminal) → rule.list_at inner before ts ≡ Ok x → TookList n before ts x
 list_sound n inner h before ts x e =
-    let r = bind_some (rule.entry_of inner before ts) (λ (y : rule.Listed × List Terminal). rule.more_entries (suc (length y.1)) inner y.0 y.1) x e in
-    let s = bind_some (inner level.Disjunction ts) (λ (y : Parsed × List Terminal). Some (rule.with_entry before y.0, y.1)) r.0 r.1 in
+    let r = bind_ok (rule.entry_of inner before ts) (λ (y : rule.Listed × List Terminal). rule.more_entries (suc (length y.1)) inner y.0 y.1) x e in
+    let s = bind_ok (inner level.Disjunction ts) (λ (y : Parsed × List Terminal). Ok (rule.with_entry before y.0, y.1)) r.0 r.1 in
     let same : ◌≡◌ {A = rule.Listed × List Terminal} r.0 (rule.with_entry before s.0.0, s.0.1) = sym (cc s.2) in
-    let reads : rule.more_entries (suc (length s.0.1)) inner (rule.with_entry before s.0.0) s.0.1 ≡ Some x = subst (λ (y : rule.Listed × List Terminal). rule.more_entries (suc (length y.1)) inner y.0 y.1 ≡ Some x) same r.2 in
+    let reads : rule.more_entries (suc (length s.0.1)) inner (rule.with_entry before s.0.0) s.0.1 ≡ Ok x = subst (λ (y : rule.Listed × List Terminal). rule.more_entries (suc (length y.1)) inner y.0 y.1 ≡ Ok x) same r.2 in
     entries_sound (suc (length s.0.1)) n inner h before ts s.0 x (h level.Disjunction ts s.0 s.1) reads
 
 -- what stands in brackets
@@ -261,19 +278,19 @@ pub record TookBracketed (n : ℕ) (ts : List Terminal) (x : rule.Listed × List
   pub opens : open_in_list spells + 1 ≤ n
   pub deep : x.0.deepest ≡ deepest (map depth x.0.exprs)
 
-bracketed_sound : (n : ℕ) (inner : Level → Reader) → IsInner n inner → (ts : List Terminal) (x : rule.Listed × List Terminal) → rule.bracketed_list inner ts ≡ Some x → TookBracketed n ts x
+bracketed_sound : (n : ℕ) (inner : Level → Reader) → IsInner n inner → (ts : List Terminal) (x : rule.Listed × List Terminal) → rule.bracketed_list inner ts ≡ Ok x → TookBracketed n ts x
 bracketed_sound n inner h ts x e =
-    let r = bind_some (behind (is_sign sign.Open) ts) (λ (us : List Terminal). rule.closed_list_of inner none_listed us) x e in
-    let s = bind_some (rule.list_at inner none_listed r.0) (λ (es : rule.Listed × List Terminal). behind (is_sign sign.Close) es.1 >>= (λ rest. Some (es.0, rest))) x r.2 in
-    let c = bind_some (behind (is_sign sign.Close) s.0.1) (λ (rest : List Terminal). Some (s.0.0, rest)) x s.2 in
+    let r = bind_ok (past (is_sign sign.Open) ts) (λ (us : List Terminal). rule.closed_list_of inner none_listed us) x e in
+    let s = bind_ok (rule.list_at inner none_listed r.0) (λ (es : rule.Listed × List Terminal). past (is_sign sign.Close) es.1 >>= (λ rest. Ok (es.0, rest))) x r.2 in
+    let c = bind_ok (past (is_sign sign.Close) s.0.1) (λ (rest : List Terminal). Ok (s.0.0, rest)) x s.2 in
     let l = list_sound n inner h none_listed r.0 s.0 s.1 in
-    let closed : s.0.1 ≡ mark sign.Close ∷ c.0 = mark_taken sign.Close s.0.1 c.0 c.1 in
+    let closed : s.0.1 ≡ mark sign.Close ∷ c.0 = mark_past sign.Close s.0.1 c.0 c.1 in
     let deep : s.0.0.deepest ≡ max 0 (deepest (map depth l.exprs)) = l.deep in
     let same_deep : s.0.0.deepest ≡ deepest (map depth l.exprs) = omega arith in
     let same_list : l.exprs ≡ s.0.0.exprs = sym l.are in
     let listed : ◌≡◌ {A = rule.Listed} (record { exprs = l.exprs; deepest = deepest (map depth l.exprs) }) s.0.0 = (λ i. record { exprs = same_list i; deepest = sym same_deep i }) in
     let whole : ◌≡◌ {A = rule.Listed × List Terminal} (record { exprs = l.exprs; deepest = deepest (map depth l.exprs) }, c.0) x = ap (λ (v : rule.Listed). (v, c.0)) listed ∙ cc c.2 in
-    let parts : ts ≡ bracketed l.front ++ c.0 = bracket_parts ts r.0 l.front c.0 (mark_taken sign.Open ts r.0 r.1) (l.parts ∙ ap (λ (v : List Terminal). l.front ++ v) closed) in
+    let parts : ts ≡ bracketed l.front ++ c.0 = bracket_parts ts r.0 l.front c.0 (mark_past sign.Open ts r.0 r.1) (l.parts ∙ ap (λ (v : List Terminal). l.front ++ v) closed) in
     subst (λ (y : rule.Listed × List Terminal). TookBracketed n ts y) whole (record { front = l.front; spells = l.spells; parts = parts; opens = l.opens; deep = refl })
 
 -- ---- arms
@@ -292,12 +309,12 @@ pub record TookArm (n : ℕ) (ts : List Terminal) (x : (Arm × ℕ) × List Term
   pub second_open : open_in second + 1 ≤ n
   pub deep : x.0.1 ≡ max (depth condition) (depth value)
 
-arm_sound : (n : ℕ) (inner : Level → Reader) → IsInner n inner → (ts : List Terminal) (x : (Arm × ℕ) × List Terminal) → rule.arm_of inner ts ≡ Some x → TookArm n ts x
+arm_sound : (n : ℕ) (inner : Level → Reader) → IsInner n inner → (ts : List Terminal) (x : (Arm × ℕ) × List Terminal) → rule.arm_of inner ts ≡ Ok x → TookArm n ts x
 arm_sound n inner h ts x e =
-    let c = bind_some (inner level.Disjunction ts) (λ (c : Parsed × List Terminal). rule.then_of inner c.1 >>= (λ v. Some ((arm_of c.0.expr v.0.expr, max c.0.depth v.0.depth), v.1))) x e in
-    let v = bind_some (rule.then_of inner c.0.1) (λ (v : Parsed × List Terminal). Some ((arm_of c.0.0.expr v.0.expr, max c.0.0.depth v.0.depth), v.1)) x c.2 in
-    let then_is = bind_some (behind (is_keyword keyword.Then) c.0.1) (λ (us : List Terminal). inner level.Disjunction us) v.0 v.1 in
-    let word_is : c.0.1 ≡ word keyword.Then ∷ then_is.0 = word_taken keyword.Then c.0.1 then_is.0 then_is.1 in
+    let c = bind_ok (inner level.Disjunction ts) (λ (c : Parsed × List Terminal). rule.then_of inner c.1 >>= (λ v. Ok ((arm_of c.0.expr v.0.expr, max c.0.depth v.0.depth), v.1))) x e in
+    let v = bind_ok (rule.then_of inner c.0.1) (λ (v : Parsed × List Terminal). Ok ((arm_of c.0.0.expr v.0.expr, max c.0.0.depth v.0.depth), v.1)) x c.2 in
+    let then_is = bind_ok (past (is_keyword keyword.Then) c.0.1) (λ (us : List Terminal). inner level.Disjunction us) v.0 v.1 in
+    let word_is : c.0.1 ≡ word keyword.Then ∷ then_is.0 = word_past keyword.Then c.0.1 then_is.0 then_is.1 in
     let a = h level.Disjunction ts c.0 c.1 in
     let b = h level.Disjunction then_is.0 v.0 then_is.2 in
     let first_deep : c.0.0.depth ≡ depth c.0.0.expr = a.deep in
@@ -346,34 +363,34 @@ more_arms_took n before ts us p x t when l =
     record { front = word keyword.When ∷ t.first_front ++ (word keyword.Then ∷ t.second_front ++ l.front); arms = arm_of t.condition t.value ∷ l.arms; spells = more_arms t.first t.second l.spells; parts = parts; opens = few; are = lists; deep = same }
 
 arm_turn : (m n : ℕ) (inner : Level → Reader) → IsInner n inner → (before : rule.Cases) (ts : List Terminal) (p : (Arm × ℕ) × List Terminal) (x : rule.Cases × List Terminal) → TookArm n ts p
-    → ((us : List Terminal) (q : (Arm × ℕ) × List Terminal) → TookArm n us q → rule.more_arms m inner (rule.with_arm (rule.with_arm before p.0) q.0) q.1 ≡ Some x → TookArms n (rule.with_arm before p.0) us x)
-    → ((us : List Terminal) × (behind (is_keyword keyword.When) p.1 ≡ Some us) × ((rule.arm_at inner (rule.with_arm before p.0) us >>= (λ y. rule.more_arms m inner y.0 y.1)) ≡ Some x)) ⊎ ((behind (is_keyword keyword.When) p.1 ≡ None) × (◌≡◌ {A = Option (rule.Cases × List Terminal)} (Some (rule.with_arm before p.0, p.1)) (Some x)))
+    → ((us : List Terminal) (q : (Arm × ℕ) × List Terminal) → TookArm n us q → rule.more_arms m inner (rule.with_arm (rule.with_arm before p.0) q.0) q.1 ≡ Ok x → TookArms n (rule.with_arm before p.0) us x)
+    → ((us : List Terminal) × (behind (is_keyword keyword.When) p.1 ≡ Some us) × ((rule.arm_at inner (rule.with_arm before p.0) us >>= (λ y. rule.more_arms m inner y.0 y.1)) ≡ Ok x)) ⊎ ((behind (is_keyword keyword.When) p.1 ≡ None) × (◌≡◌ {A = Result (rule.Cases × List Terminal) Stop} (Ok (rule.with_arm before p.0, p.1)) (Ok x)))
     → TookArms n before ts x
 arm_turn m n inner h before ts p x t again (inl q) =
     let kept : rule.Cases = rule.with_arm before p.0 in
     let when = word_taken keyword.When p.1 q.0 q.1 in
-    let r = bind_some (rule.arm_at inner kept q.0) (λ (y : rule.Cases × List Terminal). rule.more_arms m inner y.0 y.1) x q.2 in
-    let s = bind_some (rule.arm_of inner q.0) (λ (y : (Arm × ℕ) × List Terminal). Some (rule.with_arm kept y.0, y.1)) r.0 r.1 in
+    let r = bind_ok (rule.arm_at inner kept q.0) (λ (y : rule.Cases × List Terminal). rule.more_arms m inner y.0 y.1) x q.2 in
+    let s = bind_ok (rule.arm_of inner q.0) (λ (y : (Arm × ℕ) × List Terminal). Ok (rule.with_arm kept y.0, y.1)) r.0 r.1 in
     let same : ◌≡◌ {A = rule.Cases × List Terminal} r.0 (rule.with_arm kept s.0.0, s.0.1) = sym (cc s.2) in
-    let reads : rule.more_arms m inner (rule.with_arm kept s.0.0) s.0.1 ≡ Some x = subst (λ (y : rule.Cases × List Terminal). rule.more_arms m inner y.0 y.1 ≡ Some x) same r.2 in
+    let reads : rule.more_arms m inner (rule.with_arm kept s.0.0) s.0.1 ≡ Ok x = subst (λ (y : rule.Cases × List Terminal). rule.more_arms m inner y.0 y.1 ≡ Ok x) same r.2 in
     more_arms_took n before ts q.0 p x t when (again q.0 s.0 (arm_sound n inner h q.0 s.0 s.1) reads)
 arm_turn m n inner h before ts p x t again (inr q) =
     let same : ◌≡◌ {A = rule.Cases × List Terminal} (rule.with_arm before p.0, p.1) x = cc q.1 in
     subst (λ (y : rule.Cases × List Terminal). TookArms n before ts y) same (last_arm_took n before ts p t)
 
 arms_go : (m n : ℕ) (inner : Level → Reader) → IsInner n inner → (before : rule.Cases) (ts : List Terminal) (p : (Arm × ℕ) × List Terminal) (x : rule.Cases × List Terminal) → TookArm n ts p
-    → rule.more_arms m inner (rule.with_arm before p.0) p.1 ≡ Some x → TookArms n before ts x
+    → rule.more_arms m inner (rule.with_arm before p.0) p.1 ≡ Ok x → TookArms n before ts x
 arms_go zero n inner h before ts p x t e = absurd cc
 arms_go (suc m) n inner h before ts p x t e =
     arm_turn m n inner h before ts p x t (λ us q t2 e2. arms_go m n inner h (rule.with_arm before p.0) us q x t2 e2)
-    (choose_some (behind (is_keyword keyword.When) p.1) (λ (us : List Terminal). rule.arm_at inner (rule.with_arm before p.0) us >>= (λ y. rule.more_arms m inner y.0 y.1)) (Some (rule.with_arm before p.0, p.1)) x e)
+    (choose_ok (behind (is_keyword keyword.When) p.1) (λ (us : List Terminal). rule.arm_at inner (rule.with_arm before p.0) us >>= (λ y. rule.more_arms m inner y.0 y.1)) (Ok (rule.with_arm before p.0, p.1)) x e)
 
-arms_sound : (n : ℕ) (inner : Level → Reader) → IsInner n inner → (before : rule.Cases) (ts : List Terminal) (x : rule.Cases × List Terminal) → rule.arms_at inner before ts ≡ Some x → TookArms n before ts x
+arms_sound : (n : ℕ) (inner : Level → Reader) → IsInner n inner → (before : rule.Cases) (ts : List Terminal) (x : rule.Cases × List Terminal) → rule.arms_at inner before ts ≡ Ok x → TookArms n before ts x
 arms_sound n inner h before ts x e =
-    let r = bind_some (rule.arm_at inner before ts) (λ (y : rule.Cases × List Terminal). rule.more_arms (suc (length y.1)) inner y.0 y.1) x e in
-    let s = bind_some (rule.arm_of inner ts) (λ (y : (Arm × ℕ) × List Terminal). Some (rule.with_arm before y.0, y.1)) r.0 r.1 in
+    let r = bind_ok (rule.arm_at inner before ts) (λ (y : rule.Cases × List Terminal). rule.more_arms (suc (length y.1)) inner y.0 y.1) x e in
+    let s = bind_ok (rule.arm_of inner ts) (λ (y : (Arm × ℕ) × List Terminal). Ok (rule.with_arm before y.0, y.1)) r.0 r.1 in
     let same : ◌≡◌ {A = rule.Cases × List Terminal} r.0 (rule.with_arm before s.0.0, s.0.1) = sym (cc s.2) in
-    let reads : rule.more_arms (suc (length s.0.1)) inner (rule.with_arm before s.0.0) s.0.1 ≡ Some x = subst (λ (y : rule.Cases × List Terminal). rule.more_arms (suc (length y.1)) inner y.0 y.1 ≡ Some x) same r.2 in
+    let reads : rule.more_arms (suc (length s.0.1)) inner (rule.with_arm before s.0.0) s.0.1 ≡ Ok x = subst (λ (y : rule.Cases × List Terminal). rule.more_arms (suc (length y.1)) inner y.0 y.1 ≡ Ok x) same r.2 in
     arms_go (suc (length s.0.1)) n inner h before ts s.0 x (arm_sound n inner h ts s.0 s.1) reads
 
 -- ---- ELSE and CASE
@@ -390,19 +407,19 @@ pub record TookElse (n : ℕ) (ts : List Terminal) (x : Option Parsed × List Te
 is_whole : (p : Parsed) → p.depth ≡ depth p.expr → p ≡ whole p.expr
 is_whole p deep = λ i. record { expr = p.expr; depth = deep i }
 
-without_sound : (n : ℕ) (ts front : List Terminal) (x : Option Parsed × List Terminal) (s : SpellsElse front None) → (us : List Terminal) → ts ≡ front ++ us → rule.without_value us ≡ Some x → open_in_else s + 1 ≤ n → TookElse n ts x
+without_sound : (n : ℕ) (ts front : List Terminal) (x : Option Parsed × List Terminal) (s : SpellsElse front None) → (us : List Terminal) → ts ≡ front ++ us → rule.without_value us ≡ Ok x → open_in_else s + 1 ≤ n → TookElse n ts x
 without_sound n ts front x s us before e o =
-    let r = bind_some (behind (is_keyword keyword.End) us) (λ (rest : List Terminal). Some (None, rest)) x e in
+    let r = bind_ok (past (is_keyword keyword.End) us) (λ (rest : List Terminal). Ok (None, rest)) x e in
     let same : ◌≡◌ {A = Option Parsed × List Terminal} (None, r.0) x = cc r.2 in
-    let ended : us ≡ word keyword.End ∷ r.0 = word_taken keyword.End us r.0 r.1 in
+    let ended : us ≡ word keyword.End ∷ r.0 = word_past keyword.End us r.0 r.1 in
     subst (λ (y : Option Parsed × List Terminal). TookElse n ts y) same (record { front = front; value = None; spells = s; is = refl; parts = before ∙ ap (λ (v : List Terminal). front ++ v) ended; opens = o })
 
-value_sound : (n : ℕ) (inner : Level → Reader) → IsInner n inner → (ts us : List Terminal) (x : Option Parsed × List Terminal) → ts ≡ word keyword.Else ∷ us → (rule.before_of (is_keyword keyword.End) inner us >>= (λ v. Some (Some v.0, v.1))) ≡ Some x → TookElse n ts x
+value_sound : (n : ℕ) (inner : Level → Reader) → IsInner n inner → (ts us : List Terminal) (x : Option Parsed × List Terminal) → ts ≡ word keyword.Else ∷ us → (rule.before_of (is_keyword keyword.End) inner us >>= (λ v. Ok (Some v.0, v.1))) ≡ Ok x → TookElse n ts x
 value_sound n inner h ts us x before e =
-    let r = bind_some (rule.before_of (is_keyword keyword.End) inner us) (λ (v : Parsed × List Terminal). Some (Some v.0, v.1)) x e in
-    let s = bind_some (inner level.Disjunction us) (λ (v : Parsed × List Terminal). behind (is_keyword keyword.End) v.1 >>= (λ rest. Some (v.0, rest))) r.0 r.1 in
-    let b = bind_some (behind (is_keyword keyword.End) s.0.1) (λ (rest : List Terminal). Some (s.0.0, rest)) r.0 s.2 in
-    let ended : s.0.1 ≡ word keyword.End ∷ b.0 = word_taken keyword.End s.0.1 b.0 b.1 in
+    let r = bind_ok (rule.before_of (is_keyword keyword.End) inner us) (λ (v : Parsed × List Terminal). Ok (Some v.0, v.1)) x e in
+    let s = bind_ok (inner level.Disjunction us) (λ (v : Parsed × List Terminal). past (is_keyword keyword.End) v.1 >>= (λ rest. Ok (v.0, rest))) r.0 r.1 in
+    let b = bind_ok (past (is_keyword keyword.End) s.0.1) (λ (rest : List Terminal). Ok (s.0.0, rest)) r.0 s.2 in
+    let ended : s.0.1 ≡ word keyword.End ∷ b.0 = word_past keyword.End s.0.1 b.0 b.1 in
     let t = h level.Disjunction us s.0 s.1 in
     let same : ◌≡◌ {A = Parsed × List Terminal} (s.0.0, b.0) r.0 = cc b.2 in
     let all : ◌≡◌ {A = Option Parsed × List Terminal} (Some s.0.0, b.0) x = ap (λ (v : Parsed × List Terminal). (Some v.0, v.1)) same ∙ cc r.2 in
@@ -411,7 +428,7 @@ value_sound n inner h ts us x before e =
     (record { front = word keyword.Else ∷ t.front; value = Some s.0.0.expr; spells = otherwise t.spells; is = ap (λ (p : Parsed). Some p) (is_whole s.0.0 t.deep); parts = parts; opens = t.opens })
 
 behind_else : (n : ℕ) (inner : Level → Reader) → IsInner n inner → (ts us : List Terminal) (x : Option Parsed × List Terminal) → 1 ≤ n → ts ≡ word keyword.Else ∷ us
-    → ((vs : List Terminal) × (behind (is_keyword keyword.Null) us ≡ Some vs) × (rule.without_value vs ≡ Some x)) ⊎ ((behind (is_keyword keyword.Null) us ≡ None) × ((rule.before_of (is_keyword keyword.End) inner us >>= (λ v. Some (Some v.0, v.1))) ≡ Some x))
+    → ((vs : List Terminal) × (behind (is_keyword keyword.Null) us ≡ Some vs) × (rule.without_value vs ≡ Ok x)) ⊎ ((behind (is_keyword keyword.Null) us ≡ None) × ((rule.before_of (is_keyword keyword.End) inner us >>= (λ v. Ok (Some v.0, v.1))) ≡ Ok x))
     → TookElse n ts x
 behind_else n inner h ts us x o before (inl p) =
     let is_null_word : us ≡ word keyword.Null ∷ p.0 = word_taken keyword.Null us p.0 p.1 in
@@ -419,43 +436,43 @@ behind_else n inner h ts us x o before (inl p) =
 behind_else n inner h ts us x o before (inr p) = value_sound n inner h ts us x before p.1
 
 else_turn : (n : ℕ) (inner : Level → Reader) → IsInner n inner → (ts : List Terminal) (x : Option Parsed × List Terminal) → 1 ≤ n
-    → ((us : List Terminal) × (behind (is_keyword keyword.Else) ts ≡ Some us) × (choose (behind (is_keyword keyword.Null) us) rule.without_value (rule.before_of (is_keyword keyword.End) inner us >>= (λ v. Some (Some v.0, v.1))) ≡ Some x)) ⊎ ((behind (is_keyword keyword.Else) ts ≡ None) × (rule.without_value ts ≡ Some x))
+    → ((us : List Terminal) × (behind (is_keyword keyword.Else) ts ≡ Some us) × (choose (behind (is_keyword keyword.Null) us) rule.without_value (rule.before_of (is_keyword keyword.End) inner us >>= (λ v. Ok (Some v.0, v.1))) ≡ Ok x)) ⊎ ((behind (is_keyword keyword.Else) ts ≡ None) × (rule.without_value ts ≡ Ok x))
     → TookElse n ts x
 else_turn n inner h ts x o (inl p) =
-    behind_else n inner h ts p.0 x o (word_taken keyword.Else ts p.0 p.1) (choose_some (behind (is_keyword keyword.Null) p.0) rule.without_value (rule.before_of (is_keyword keyword.End) inner p.0 >>= (λ v. Some (Some v.0, v.1))) x p.2)
+    behind_else n inner h ts p.0 x o (word_taken keyword.Else ts p.0 p.1) (choose_ok (behind (is_keyword keyword.Null) p.0) rule.without_value (rule.before_of (is_keyword keyword.End) inner p.0 >>= (λ v. Ok (Some v.0, v.1))) x p.2)
 else_turn n inner h ts x o (inr p) = without_sound n ts [] x nothing ts refl p.1 o
 
-else_sound : (n : ℕ) (inner : Level → Reader) → IsInner n inner → (ts : List Terminal) (x : Option Parsed × List Terminal) → 1 ≤ n → rule.else_of inner ts ≡ Some x → TookElse n ts x
+else_sound : (n : ℕ) (inner : Level → Reader) → IsInner n inner → (ts : List Terminal) (x : Option Parsed × List Terminal) → 1 ≤ n → rule.else_of inner ts ≡ Ok x → TookElse n ts x
 else_sound n inner h ts x o e =
-    else_turn n inner h ts x o (choose_some (behind (is_keyword keyword.Else) ts) (λ (us : List Terminal). choose (behind (is_keyword keyword.Null) us) rule.without_value (rule.before_of (is_keyword keyword.End) inner us >>= (λ v. Some (Some v.0, v.1)))) (rule.without_value ts) x e)
+    else_turn n inner h ts x o (choose_ok (behind (is_keyword keyword.Else) ts) (λ (us : List Terminal). choose (behind (is_keyword keyword.Null) us) rule.without_value (rule.before_of (is_keyword keyword.End) inner us >>= (λ v. Ok (Some v.0, v.1)))) (rule.without_value ts) x e)
 
 case_took : (n : ℕ) (ts rest arms_front else_front : List Terminal) (cs : rule.Cases) (arms : List Arm) (o : Option Expr) (x : Parsed × List Terminal) (a : SpellsArms arms_front arms) (d : SpellsElse else_front o)
-    → then_left (rule.case_node 128 cs (whole_else o)) rest ≡ Some x → cs.arms ≡ arms → cs.deepest ≡ deepest (map arm_depth arms) → ts ≡ (word keyword.Case ∷ arms_front ++ (else_front ++ word keyword.End ∷ [])) ++ rest
+    → then_left (rule.case_node 128 cs (whole_else o)) rest ≡ Ok x → cs.arms ≡ arms → cs.deepest ≡ deepest (map arm_depth arms) → ts ≡ (word keyword.Case ∷ arms_front ++ (else_front ++ word keyword.End ∷ [])) ++ rest
     → open_in_arms a + 1 ≤ n → open_in_else d + 1 ≤ n → Took 0 n level.Primary ts x
 case_took n ts rest arms_front else_front cs arms None x a d e are deep parts oa od =
-    let reads : then_left (node 128 cs.deepest (expr.Case arms None)) rest ≡ Some x = subst (λ (v : List Arm). then_left (node 128 cs.deepest (expr.Case v None)) rest ≡ Some x) are e in
+    let reads : then_left (node 128 cs.deepest (expr.Case arms None)) rest ≡ Ok x = subst (λ (v : List Arm). then_left (node 128 cs.deepest (expr.Case v None)) rest ≡ Ok x) are e in
     let depth_is : depth (expr.Case arms None) ≡ suc (deepest (map arm_depth arms)) = depth_case arms in
     let few : suc (max (open_in_arms a) (open_in_else d)) ≤ n = omega arith in
     made n cs.deepest level.Primary ts (word keyword.Case ∷ arms_front ++ (else_front ++ word keyword.End ∷ [])) rest (expr.Case arms None) (chosen a d) x reads parts few (omega arith)
 case_took n ts rest arms_front else_front cs arms (Some v) x a d e are deep parts oa od =
-    let reads : then_left (node 128 (max cs.deepest (depth v)) (expr.Case arms (Some v))) rest ≡ Some x = subst (λ (w : List Arm). then_left (node 128 (max cs.deepest (depth v)) (expr.Case w (Some v))) rest ≡ Some x) are e in
+    let reads : then_left (node 128 (max cs.deepest (depth v)) (expr.Case arms (Some v))) rest ≡ Ok x = subst (λ (w : List Arm). then_left (node 128 (max cs.deepest (depth v)) (expr.Case w (Some v))) rest ≡ Ok x) are e in
     let depth_is : depth (expr.Case arms (Some v)) ≡ suc (max (depth v) (deepest (map arm_depth arms))) = depth_else arms v in
     let few : suc (max (open_in_arms a) (open_in_else d)) ≤ n = omega arith in
     made n (max cs.deepest (depth v)) level.Primary ts (word keyword.Case ∷ arms_front ++ (else_front ++ word keyword.End ∷ [])) rest (expr.Case arms (Some v)) (chosen a d) x reads parts few (omega arith)
 
-case_sound : (n : ℕ) (inner : Level → Reader) → IsInner n inner → (ts : List Terminal) (x : Parsed × List Terminal) → rule.case_of 128 n inner ts ≡ Some x → Took 0 n level.Primary (word keyword.Case ∷ ts) x
+case_sound : (n : ℕ) (inner : Level → Reader) → IsInner n inner → (ts : List Terminal) (x : Parsed × List Terminal) → rule.case_of 128 n inner ts ≡ Ok x → Took 0 n level.Primary (word keyword.Case ∷ ts) x
 case_sound n inner h ts x e =
-    let w = bind_some (behind (is_keyword keyword.When) ts) (λ (us : List Terminal). rule.arms_at inner (record { arms = []; deepest = 0 }) us >>= (λ cs. rule.else_of inner cs.1 >>= (λ v. then_left (rule.case_node 128 cs.0 v.0) v.1))) x e in
-    let r = bind_some (rule.arms_at inner (record { arms = []; deepest = 0 }) w.0) (λ (cs : rule.Cases × List Terminal). rule.else_of inner cs.1 >>= (λ v. then_left (rule.case_node 128 cs.0 v.0) v.1)) x w.2 in
-    let s = bind_some (rule.else_of inner r.0.1) (λ (v : Option Parsed × List Terminal). then_left (rule.case_node 128 r.0.0 v.0) v.1) x r.2 in
+    let w = bind_ok (past (is_keyword keyword.When) ts) (λ (us : List Terminal). rule.arms_at inner (record { arms = []; deepest = 0 }) us >>= (λ cs. rule.else_of inner cs.1 >>= (λ v. then_left (rule.case_node 128 cs.0 v.0) v.1))) x e in
+    let r = bind_ok (rule.arms_at inner (record { arms = []; deepest = 0 }) w.0) (λ (cs : rule.Cases × List Terminal). rule.else_of inner cs.1 >>= (λ v. then_left (rule.case_node 128 cs.0 v.0) v.1)) x w.2 in
+    let s = bind_ok (rule.else_of inner r.0.1) (λ (v : Option Parsed × List Terminal). then_left (rule.case_node 128 r.0.0 v.0) v.1) x r.2 in
     let a = arms_sound n inner h (record { arms = []; deepest = 0 }) w.0 r.0 r.1 in
     let arms_open : open_in_arms a.spells + 1 ≤ n = a.opens in
     let some : 1 ≤ n = omega arith in
     let d = else_sound n inner h r.0.1 s.0 some s.1 in
-    let when : ts ≡ word keyword.When ∷ w.0 = word_taken keyword.When ts w.0 w.1 in
+    let when : ts ≡ word keyword.When ∷ w.0 = word_past keyword.When ts w.0 w.1 in
     let deep : r.0.0.deepest ≡ max 0 (deepest (map arm_depth a.arms)) = a.deep in
     let same_deep : r.0.0.deepest ≡ deepest (map arm_depth a.arms) = omega arith in
-    let reads : then_left (rule.case_node 128 r.0.0 (whole_else d.value)) s.0.1 ≡ Some x = subst (λ (v : Option Parsed). then_left (rule.case_node 128 r.0.0 v) s.0.1 ≡ Some x) d.is s.2 in
+    let reads : then_left (rule.case_node 128 r.0.0 (whole_else d.value)) s.0.1 ≡ Ok x = subst (λ (v : Option Parsed). then_left (rule.case_node 128 r.0.0 v) s.0.1 ≡ Ok x) d.is s.2 in
     let assoc : (a.front ++ (d.front ++ word keyword.End ∷ [])) ++ s.0.1 ≡ a.front ++ (d.front ++ (word keyword.End ∷ s.0.1)) = append_assoc a.front (d.front ++ word keyword.End ∷ []) s.0.1 ∙ ap (λ (v : List Terminal). a.front ++ v) (append_assoc d.front (word keyword.End ∷ []) s.0.1) in
     let parts : word keyword.Case ∷ ts ≡ (word keyword.Case ∷ a.front ++ (d.front ++ word keyword.End ∷ [])) ++ s.0.1 = ap (λ (v : List Terminal). word keyword.Case ∷ v) (when ∙ a.parts ∙ ap (λ (v : List Terminal). a.front ++ v) d.parts ∙ sym assoc) in
     case_took n (word keyword.Case ∷ ts) s.0.1 a.front d.front r.0.0 a.arms d.value x a.spells d.spells reads a.are same_deep parts a.opens d.opens
@@ -471,17 +488,17 @@ pub record TookClosed (n : ℕ) (ts : List Terminal) (x : Parsed × List Termina
   pub deep : x.0.depth ≡ depth x.0.expr
   pub bounded : x.0.depth ≤ 128
 
-closed_sound : (n : ℕ) (inner : Level → Reader) → IsInner n inner → (ts : List Terminal) (x : Parsed × List Terminal) → rule.before_of (is_sign sign.Close) inner ts ≡ Some x → TookClosed n ts x
+closed_sound : (n : ℕ) (inner : Level → Reader) → IsInner n inner → (ts : List Terminal) (x : Parsed × List Terminal) → rule.before_of (is_sign sign.Close) inner ts ≡ Ok x → TookClosed n ts x
 closed_sound n inner h ts x e =
-    let s = bind_some (inner level.Disjunction ts) (λ (v : Parsed × List Terminal). behind (is_sign sign.Close) v.1 >>= (λ rest. Some (v.0, rest))) x e in
-    let b = bind_some (behind (is_sign sign.Close) s.0.1) (λ (rest : List Terminal). Some (s.0.0, rest)) x s.2 in
-    let closed : s.0.1 ≡ mark sign.Close ∷ b.0 = mark_taken sign.Close s.0.1 b.0 b.1 in
+    let s = bind_ok (inner level.Disjunction ts) (λ (v : Parsed × List Terminal). past (is_sign sign.Close) v.1 >>= (λ rest. Ok (v.0, rest))) x e in
+    let b = bind_ok (past (is_sign sign.Close) s.0.1) (λ (rest : List Terminal). Ok (s.0.0, rest)) x s.2 in
+    let closed : s.0.1 ≡ mark sign.Close ∷ b.0 = mark_past sign.Close s.0.1 b.0 b.1 in
     let t = h level.Disjunction ts s.0 s.1 in
     let same : ◌≡◌ {A = Parsed × List Terminal} (s.0.0, b.0) x = cc b.2 in
     subst (λ (y : Parsed × List Terminal). TookClosed n ts y) same
     (record { front = t.front; spells = t.spells; parts = t.parts ∙ ap (λ (v : List Terminal). t.front ++ v) closed; opens = t.opens; deep = t.deep; bounded = t.bounded })
 
-brackets_sound : (n : ℕ) (inner : Level → Reader) → IsInner n inner → (ts : List Terminal) (x : Parsed × List Terminal) → rule.before_of (is_sign sign.Close) inner ts ≡ Some x → Took 0 n level.Primary (mark sign.Open ∷ ts) x
+brackets_sound : (n : ℕ) (inner : Level → Reader) → IsInner n inner → (ts : List Terminal) (x : Parsed × List Terminal) → rule.before_of (is_sign sign.Close) inner ts ≡ Ok x → Took 0 n level.Primary (mark sign.Open ∷ ts) x
 brackets_sound n inner h ts x e =
     let t = closed_sound n inner h ts x e in
     let opened : open_in t.spells + 1 ≤ n = t.opens in
@@ -503,19 +520,19 @@ pub passed_as : {A : Type 0} (test : Bool) (a b : A) → cond test (Some a) None
 passed_as true a b e = (refl, cc)
 passed_as false a b e = absurd cc
 
-rows_sound : (n : ℕ) (ts us vs : List Terminal) (k : Aggregate) (x : Parsed × List Terminal) → ts ≡ word (aggregate_word k) ∷ mark sign.Open ∷ us → k ≡ aggregate.Count → us ≡ mark sign.Star ∷ vs → rule.rows_of n vs ≡ Some x → Took 0 n level.Primary ts x
+rows_sound : (n : ℕ) (ts us vs : List Terminal) (k : Aggregate) (x : Parsed × List Terminal) → ts ≡ word (aggregate_word k) ∷ mark sign.Open ∷ us → k ≡ aggregate.Count → us ≡ mark sign.Star ∷ vs → rule.rows_of n vs ≡ Ok x → Took 0 n level.Primary ts x
 rows_sound n ts us vs k x before is star e =
-    let r = bind_some (behind (is_sign sign.Close) vs) (λ (rest : List Terminal). if_left n rest) x e in
-    let closed : vs ≡ mark sign.Close ∷ r.0 = mark_taken sign.Close vs r.0 r.1 in
-    let p = passed_as (nat_lt 0 n) (rule.leaf expr.CountRows, r.0) x r.2 in
+    let r = bind_ok (past (is_sign sign.Close) vs) (λ (rest : List Terminal). if_left n rest) x e in
+    let closed : vs ≡ mark sign.Close ∷ r.0 = mark_past sign.Close vs r.0 r.1 in
+    let p = allowed (nat_lt 0 n) stop.TooDeep (rule.leaf expr.CountRows, r.0) x r.2 in
     let some : 0 < n = ltb-true 0 n p.0 in
     let one : depth expr.CountRows ≡ 1 = search (rules, the_lemmas) in
     let first : word (aggregate_word k) ∷ mark sign.Open ∷ us ≡ word keyword.Count ∷ mark sign.Open ∷ us = ap (λ (a : Aggregate). word (aggregate_word a) ∷ mark sign.Open ∷ us) is in
     let parts : ts ≡ (word keyword.Count ∷ bracketed (mark sign.Star ∷ [])) ++ r.0 = before ∙ first ∙ ap (λ (v : List Terminal). word keyword.Count ∷ mark sign.Open ∷ v) (star ∙ ap (λ (v : List Terminal). mark sign.Star ∷ v) closed) in
-    leaf_made n level.Primary ts (word keyword.Count ∷ bracketed (mark sign.Star ∷ [])) r.0 expr.CountRows rows x (ap (λ (y : Parsed × List Terminal). Some y) p.1) parts (omega arith) one
+    leaf_made n level.Primary ts (word keyword.Count ∷ bracketed (mark sign.Star ∷ [])) r.0 expr.CountRows rows x (ap (λ (y : Parsed × List Terminal). Ok y) p.1) parts (omega arith) one
   where
-    if_left : ℕ → List Terminal → Option (Parsed × List Terminal)
-    if_left left rest = cond (nat_lt 0 left) (Some (rule.leaf expr.CountRows, rest)) None
+    if_left : ℕ → List Terminal → Result (Parsed × List Terminal) Stop
+    if_left left rest = cond (nat_lt 0 left) (Ok (rule.leaf expr.CountRows, rest)) (Err stop.TooDeep)
 
 -- DISTINCT where an aggregate has it, and its argument
 distinct_parts : (distinct : Bool) (us front rest : List Terminal) → us ≡ front ++ mark sign.Close ∷ rest → distinct_if distinct ++ us ≡ (distinct_if distinct ++ front) ++ mark sign.Close ∷ rest
@@ -523,9 +540,9 @@ distinct_parts true us front rest closed = ap (λ (v : List Terminal). word keyw
 distinct_parts false us front rest closed = closed
 
 argument_sound : (n : ℕ) (inner : Level → Reader) → IsInner n inner → (ts us : List Terminal) (k : Aggregate) (x : Parsed × List Terminal) → ts ≡ word (aggregate_word k) ∷ mark sign.Open ∷ distinct_if (is_distinct k) ++ us
-    → rule.argument_of 128 n inner k us ≡ Some x → Took 0 n level.Primary ts x
+    → rule.argument_of 128 n inner k us ≡ Ok x → Took 0 n level.Primary ts x
 argument_sound n inner h ts us k x before e =
-    let r = bind_some (rule.before_of (is_sign sign.Close) inner us) (λ (a : Parsed × List Terminal). then_left (node 128 a.0.depth (expr.Aggregate k a.0.expr)) a.1) x e in
+    let r = bind_ok (rule.before_of (is_sign sign.Close) inner us) (λ (a : Parsed × List Terminal). then_left (node 128 a.0.depth (expr.Aggregate k a.0.expr)) a.1) x e in
     let t = closed_sound n inner h us r.0 r.1 in
     let opened : open_in t.spells + 1 ≤ n = t.opens in
     let few : suc (open_in t.spells) ≤ n = omega arith in
@@ -537,13 +554,12 @@ argument_sound n inner h ts us k x before e =
     made n r.0.0.depth level.Primary ts (word (aggregate_word k) ∷ bracketed front) r.0.1 (expr.Aggregate k r.0.0.expr) (aggregated k t.spells) x r.2 parts few deep
 
 -- the tokens behind DISTINCT
-distinct_is : (k : Aggregate) → is_distinct k ≡ true → (us : List Terminal) (d : Aggregate × List Terminal) → (behind (is_keyword keyword.Distinct) us >>= (λ (rest : List Terminal). Some (k, rest))) ≡ Some d
+distinct_is : (k : Aggregate) → is_distinct k ≡ true → (us : List Terminal) (d : Aggregate × List Terminal) → choose (behind (is_keyword keyword.Distinct) us) (λ (rest : List Terminal). Some (k, rest)) None ≡ Some d
     → (aggregate_word k ≡ aggregate_word d.0) × (us ≡ distinct_if (is_distinct d.0) ++ d.1)
 distinct_is k distinct us d e =
-    let r = bind_some (behind (is_keyword keyword.Distinct) us) (λ (rest : List Terminal). Some (k, rest)) d e in
-    let same : ◌≡◌ {A = Aggregate × List Terminal} (k, r.0) d = cc r.2 in
+    let r = there (behind (is_keyword keyword.Distinct) us) (λ (rest : List Terminal). (k, rest)) d e in
     let front : us ≡ distinct_if (is_distinct k) ++ r.0 = word_taken keyword.Distinct us r.0 r.1 ∙ ap (λ b. distinct_if b ++ r.0) (sym distinct) in
-    subst (λ (y : Aggregate × List Terminal). (aggregate_word k ≡ aggregate_word y.0) × (us ≡ distinct_if (is_distinct y.0) ++ y.1)) same (refl, front)
+    subst (λ (y : Aggregate × List Terminal). (aggregate_word k ≡ aggregate_word y.0) × (us ≡ distinct_if (is_distinct y.0) ++ y.1)) r.2 (refl, front)
 
 distinct_taken : (k : Aggregate) (us : List Terminal) (d : Aggregate × List Terminal) → rule.behind_distinct k us ≡ Some d → (aggregate_word k ≡ aggregate_word d.0) × (us ≡ distinct_if (is_distinct d.0) ++ d.1)
 distinct_taken aggregate.Count us d e = distinct_is aggregate.CountDistinct refl us d e
@@ -555,7 +571,7 @@ distinct_taken aggregate.Max us d e = absurd cc
 distinct_taken aggregate.Average us d e = absurd cc
 
 inside_sound : (n : ℕ) (inner : Level → Reader) → IsInner n inner → (ts us : List Terminal) (k : Aggregate) (x : Parsed × List Terminal) → is_distinct k ≡ false → ts ≡ word (aggregate_word k) ∷ mark sign.Open ∷ us
-    → ((d : Aggregate × List Terminal) × (rule.behind_distinct k us ≡ Some d) × (rule.argument_of 128 n inner d.0 d.1 ≡ Some x)) ⊎ ((rule.behind_distinct k us ≡ None) × (rule.argument_of 128 n inner k us ≡ Some x)) → Took 0 n level.Primary ts x
+    → ((d : Aggregate × List Terminal) × (rule.behind_distinct k us ≡ Some d) × (rule.argument_of 128 n inner d.0 d.1 ≡ Ok x)) ⊎ ((rule.behind_distinct k us ≡ None) × (rule.argument_of 128 n inner k us ≡ Ok x)) → Took 0 n level.Primary ts x
 inside_sound n inner h ts us k x plain before (inl p) =
     let s = distinct_taken k us p.0 p.1 in
     argument_sound n inner h ts p.0.1 p.0.0 x (before ∙ (λ i. word (s.0 i) ∷ mark sign.Open ∷ s.1 i)) p.2
@@ -563,26 +579,26 @@ inside_sound n inner h ts us k x plain before (inr p) =
     argument_sound n inner h ts us k x (before ∙ ap (λ d. word (aggregate_word k) ∷ mark sign.Open ∷ distinct_if d ++ us) (sym plain)) p.1
 
 aggregate_turn : (n : ℕ) (inner : Level → Reader) → IsInner n inner → (ts us : List Terminal) (k : Aggregate) (x : Parsed × List Terminal) → is_distinct k ≡ false → ts ≡ word (aggregate_word k) ∷ mark sign.Open ∷ us
-    → ((vs : List Terminal) × (rule.behind_star k us ≡ Some vs) × (rule.rows_of n vs ≡ Some x)) ⊎ ((rule.behind_star k us ≡ None) × (rule.inside_of 128 n inner k us ≡ Some x)) → Took 0 n level.Primary ts x
+    → ((vs : List Terminal) × (rule.behind_star k us ≡ Some vs) × (rule.rows_of n vs ≡ Ok x)) ⊎ ((rule.behind_star k us ≡ None) × (rule.inside_of 128 n inner k us ≡ Ok x)) → Took 0 n level.Primary ts x
 aggregate_turn n inner h ts us k x plain before (inl p) = let s = star_taken k us p.0 p.1 in rows_sound n ts us p.0 k x before s.0 s.1 p.2
 aggregate_turn n inner h ts us k x plain before (inr p) =
-    inside_sound n inner h ts us k x plain before (choose_some (rule.behind_distinct k us) (λ (d : Aggregate × List Terminal). rule.argument_of 128 n inner d.0 d.1) (rule.argument_of 128 n inner k us) x p.1)
+    inside_sound n inner h ts us k x plain before (choose_ok (rule.behind_distinct k us) (λ (d : Aggregate × List Terminal). rule.argument_of 128 n inner d.0 d.1) (rule.argument_of 128 n inner k us) x p.1)
 
-aggregate_sound : (n : ℕ) (inner : Level → Reader) → IsInner n inner → (k : Aggregate) → is_distinct k ≡ false → (ts : List Terminal) (x : Parsed × List Terminal) → rule.aggregate_at 128 n inner k ts ≡ Some x → Took 0 n level.Primary (word (aggregate_word k) ∷ ts) x
+aggregate_sound : (n : ℕ) (inner : Level → Reader) → IsInner n inner → (k : Aggregate) → is_distinct k ≡ false → (ts : List Terminal) (x : Parsed × List Terminal) → rule.aggregate_at 128 n inner k ts ≡ Ok x → Took 0 n level.Primary (word (aggregate_word k) ∷ ts) x
 aggregate_sound n inner h k plain ts x e =
-    let r = bind_some (behind (is_sign sign.Open) ts) (λ (us : List Terminal). choose (rule.behind_star k us) (rule.rows_of n) (rule.inside_of 128 n inner k us)) x e in
-    aggregate_turn n inner h (word (aggregate_word k) ∷ ts) r.0 k x plain (ap (λ (v : List Terminal). word (aggregate_word k) ∷ v) (mark_taken sign.Open ts r.0 r.1)) (choose_some (rule.behind_star k r.0) (rule.rows_of n) (rule.inside_of 128 n inner k r.0) x r.2)
+    let r = bind_ok (past (is_sign sign.Open) ts) (λ (us : List Terminal). choose (rule.behind_star k us) (rule.rows_of n) (rule.inside_of 128 n inner k us)) x e in
+    aggregate_turn n inner h (word (aggregate_word k) ∷ ts) r.0 k x plain (ap (λ (v : List Terminal). word (aggregate_word k) ∷ v) (mark_past sign.Open ts r.0 r.1)) (choose_ok (rule.behind_star k r.0) (rule.rows_of n) (rule.inside_of 128 n inner k r.0) x r.2)
 
-coalesce_sound : (n : ℕ) (inner : Level → Reader) → IsInner n inner → (ts : List Terminal) (x : Parsed × List Terminal) → rule.coalesce_of 128 n inner ts ≡ Some x → Took 0 n level.Primary (word keyword.Coalesce ∷ ts) x
+coalesce_sound : (n : ℕ) (inner : Level → Reader) → IsInner n inner → (ts : List Terminal) (x : Parsed × List Terminal) → rule.coalesce_of 128 n inner ts ≡ Ok x → Took 0 n level.Primary (word keyword.Coalesce ∷ ts) x
 coalesce_sound n inner h ts x e =
-    let r = bind_some (rule.bracketed_list inner ts) (λ (es : rule.Listed × List Terminal). then_left (node 128 es.0.deepest (expr.Coalesce es.0.exprs)) es.1) x e in
+    let r = bind_ok (rule.bracketed_list inner ts) (λ (es : rule.Listed × List Terminal). then_left (node 128 es.0.deepest (expr.Coalesce es.0.exprs)) es.1) x e in
     let t = bracketed_sound n inner h ts r.0 r.1 in
     let opened : open_in_list t.spells + 1 ≤ n = t.opens in
     let few : suc (open_in_list t.spells) ≤ n = omega arith in
     let deep : depth (expr.Coalesce r.0.0.exprs) ≡ suc r.0.0.deepest = depth_coalesce r.0.0.exprs ∙ ap suc (sym t.deep) in
     made n r.0.0.deepest level.Primary (word keyword.Coalesce ∷ ts) (word keyword.Coalesce ∷ bracketed t.front) r.0.1 (expr.Coalesce r.0.0.exprs) (first_of t.spells) x r.2 (ap (λ (v : List Terminal). word keyword.Coalesce ∷ v) t.parts) few deep
 
-call_sound : (n : ℕ) (inner : Level → Reader) → IsInner n inner → (k : Keyword) (ts : List Terminal) (x : Parsed × List Terminal) → rule.call_of 128 n inner k ts ≡ Some x → Took 0 n level.Primary (word k ∷ ts) x
+call_sound : (n : ℕ) (inner : Level → Reader) → IsInner n inner → (k : Keyword) (ts : List Terminal) (x : Parsed × List Terminal) → rule.call_of 128 n inner k ts ≡ Ok x → Took 0 n level.Primary (word k ∷ ts) x
 call_sound n inner h keyword.Case ts x e = case_sound n inner h ts x e
 call_sound n inner h keyword.Coalesce ts x e = coalesce_sound n inner h ts x e
 call_sound n inner h keyword.Count ts x e = aggregate_sound n inner h aggregate.Count refl ts x e
@@ -594,7 +610,7 @@ call_sound n inner h k ts x e = absurd cc
 
 -- ---- texts and columns
 
-column_behind : (n : ℕ) (t : List ℕ) (ts us vs : List Terminal) (x : Parsed × List Terminal) → ts ≡ terminal.name t ∷ us → us ≡ mark sign.Dot ∷ vs → rule.column_of (lower t) vs ≡ Some x → Took 0 n level.Primary ts x
+column_behind : (n : ℕ) (t : List ℕ) (ts us vs : List Terminal) (x : Parsed × List Terminal) → ts ≡ terminal.name t ∷ us → us ≡ mark sign.Dot ∷ vs → rule.column_of (lower t) vs ≡ Ok x → Took 0 n level.Primary ts x
 column_behind n t ts us [] x before dot e = absurd cc
 column_behind n t ts us (terminal.name m ∷ vs) x before dot e =
     let one : depth (expr.Column (Some (lower t)) (lower m)) ≡ 1 = search (rules, the_lemmas) in
@@ -602,14 +618,14 @@ column_behind n t ts us (terminal.name m ∷ vs) x before dot e =
 column_behind n t ts us (v ∷ vs) x before dot e = absurd cc
 
 column_turn : (n : ℕ) (m : List ℕ) (ts : List Terminal) (x : Parsed × List Terminal)
-    → ((vs : List Terminal) × (behind (is_sign sign.Dot) ts ≡ Some vs) × (rule.column_of (lower m) vs ≡ Some x)) ⊎ ((behind (is_sign sign.Dot) ts ≡ None) × (◌≡◌ {A = Option (Parsed × List Terminal)} (Some (rule.leaf (expr.Column None (lower m)), ts)) (Some x))) → Took 0 n level.Primary (terminal.name m ∷ ts) x
+    → ((vs : List Terminal) × (behind (is_sign sign.Dot) ts ≡ Some vs) × (rule.column_of (lower m) vs ≡ Ok x)) ⊎ ((behind (is_sign sign.Dot) ts ≡ None) × (◌≡◌ {A = Result (Parsed × List Terminal) Stop} (Ok (rule.leaf (expr.Column None (lower m)), ts)) (Ok x))) → Took 0 n level.Primary (terminal.name m ∷ ts) x
 column_turn n m ts x (inl p) = column_behind n m (terminal.name m ∷ ts) ts p.0 x refl (mark_taken sign.Dot ts p.0 p.1) p.2
 column_turn n m ts x (inr p) =
     let one : depth (expr.Column None (lower m)) ≡ 1 = search (rules, the_lemmas) in
     leaf_made n level.Primary (terminal.name m ∷ ts) (terminal.name m ∷ []) ts (expr.Column None (lower m)) (column m) x p.1 refl (omega arith) one
 
-column_sound : (n : ℕ) (m : List ℕ) (ts : List Terminal) (x : Parsed × List Terminal) → rule.column_at (terminal.name m ∷ ts) ≡ Some x → Took 0 n level.Primary (terminal.name m ∷ ts) x
-column_sound n m ts x e = column_turn n m ts x (choose_some (behind (is_sign sign.Dot) ts) (rule.column_of (lower m)) (Some (rule.leaf (expr.Column None (lower m)), ts)) x e)
+column_sound : (n : ℕ) (m : List ℕ) (ts : List Terminal) (x : Parsed × List Terminal) → rule.column_at (terminal.name m ∷ ts) ≡ Ok x → Took 0 n level.Primary (terminal.name m ∷ ts) x
+column_sound n m ts x e = column_turn n m ts x (choose_ok (behind (is_sign sign.Dot) ts) (rule.column_of (lower m)) (Ok (rule.leaf (expr.Column None (lower m)), ts)) x e)
 
 primary_sound : (n : ℕ) (inner : Level → Reader) → IsInner n inner → IsSound 0 n level.Primary (rule.primary_of 128 n inner)
 primary_sound n inner h [] x e = absurd cc
@@ -629,12 +645,12 @@ positive_some k z e = let p = passed_as (nat_le k 9223372036854775807) (pos k) z
 negative_some : (k : ℕ) (z : ℤ) → rule.negative k ≡ Some z → (k ≤ 9223372036854775808) × (below_zero k ≡ z)
 negative_some k z e = let p = passed_as (nat_le k 9223372036854775808) (below_zero k) z e in (leb-true k 9223372036854775808 p.0, p.1)
 
-integer_sound : (n k : ℕ) (ts : List Terminal) (x : Parsed × List Terminal) → (rule.positive k >>= (λ z. Some (rule.leaf (expr.Integer z), ts))) ≡ Some x → Took 0 n level.Factor (terminal.integer k ∷ ts) x
+integer_sound : (n k : ℕ) (ts : List Terminal) (x : Parsed × List Terminal) → (rule.needed (terminal.integer k ∷ ts) (rule.positive k) >>= (λ z. Ok (rule.leaf (expr.Integer z), ts))) ≡ Ok x → Took 0 n level.Factor (terminal.integer k ∷ ts) x
 integer_sound n k ts x e =
-    let r = bind_some (rule.positive k) (λ (z : ℤ). Some (rule.leaf (expr.Integer z), ts)) x e in
-    let p = positive_some k r.0 r.1 in
+    let r = bind_ok (rule.needed (terminal.integer k ∷ ts) (rule.positive k)) (λ (z : ℤ). Ok (rule.leaf (expr.Integer z), ts)) x e in
+    let p = positive_some k r.0 (needed_ok (terminal.integer k ∷ ts) (rule.positive k) r.0 r.1) in
     let one : depth (expr.Integer (pos k)) ≡ 1 = search (rules, the_lemmas) in
-    let same : ◌≡◌ {A = Option (Parsed × List Terminal)} (Some (rule.leaf (expr.Integer (pos k)), ts)) (Some x) = ap (λ (z : ℤ). Some (rule.leaf (expr.Integer z), ts)) p.1 ∙ r.2 in
+    let same : ◌≡◌ {A = Result (Parsed × List Terminal) Stop} (Ok (rule.leaf (expr.Integer (pos k)), ts)) (Ok x) = ap (λ (z : ℤ). Ok (rule.leaf (expr.Integer z), ts)) p.1 ∙ r.2 in
     leaf_made n level.Factor (terminal.integer k ∷ ts) (terminal.integer k ∷ []) ts (expr.Integer (pos k)) (integer k p.0) x same refl (omega arith) one
 
 digits_taken : (ts : List Terminal) (k : ℕ × List Terminal) → first_is rule.digits_of ts ≡ Some k → ts ≡ terminal.integer k.0 ∷ k.1
@@ -655,16 +671,16 @@ no_integer (terminal.not_closed ∷ ts) rest e = refl
 no_integer (terminal.unknown ∷ ts) rest e = refl
 
 minus_turn : (n : ℕ) (inner : Level → Reader) → IsInner n inner → (ts : List Terminal) (x : Parsed × List Terminal)
-    → ((k : ℕ × List Terminal) × (first_is rule.digits_of ts ≡ Some k) × ((rule.negative k.0 >>= (λ z. Some (rule.leaf (expr.Integer z), k.1))) ≡ Some x)) ⊎ ((first_is rule.digits_of ts ≡ None) × ((inner level.Factor ts >>= (λ a. then_left (node 128 a.0.depth (expr.Minus a.0.expr)) a.1)) ≡ Some x))
+    → ((k : ℕ × List Terminal) × (first_is rule.digits_of ts ≡ Some k) × ((rule.needed ts (rule.negative k.0) >>= (λ z. Ok (rule.leaf (expr.Integer z), k.1))) ≡ Ok x)) ⊎ ((first_is rule.digits_of ts ≡ None) × ((inner level.Factor ts >>= (λ a. then_left (node 128 a.0.depth (expr.Minus a.0.expr)) a.1)) ≡ Ok x))
     → Took 0 n level.Factor (mark sign.Minus ∷ ts) x
 minus_turn n inner h ts x (inl p) =
-    let r = bind_some (rule.negative p.0.0) (λ (z : ℤ). Some (rule.leaf (expr.Integer z), p.0.1)) x p.2 in
-    let q = negative_some p.0.0 r.0 r.1 in
+    let r = bind_ok (rule.needed ts (rule.negative p.0.0)) (λ (z : ℤ). Ok (rule.leaf (expr.Integer z), p.0.1)) x p.2 in
+    let q = negative_some p.0.0 r.0 (needed_ok ts (rule.negative p.0.0) r.0 r.1) in
     let one : depth (expr.Integer (below_zero p.0.0)) ≡ 1 = search (rules, the_lemmas) in
-    let same : ◌≡◌ {A = Option (Parsed × List Terminal)} (Some (rule.leaf (expr.Integer (below_zero p.0.0)), p.0.1)) (Some x) = ap (λ (z : ℤ). Some (rule.leaf (expr.Integer z), p.0.1)) q.1 ∙ r.2 in
+    let same : ◌≡◌ {A = Result (Parsed × List Terminal) Stop} (Ok (rule.leaf (expr.Integer (below_zero p.0.0)), p.0.1)) (Ok x) = ap (λ (z : ℤ). Ok (rule.leaf (expr.Integer z), p.0.1)) q.1 ∙ r.2 in
     leaf_made n level.Factor (mark sign.Minus ∷ ts) (mark sign.Minus ∷ terminal.integer p.0.0 ∷ []) p.0.1 (expr.Integer (below_zero p.0.0)) (negative p.0.0 q.0) x same (ap (λ (v : List Terminal). mark sign.Minus ∷ v) (digits_taken ts p.0 p.1)) (omega arith) one
 minus_turn n inner h ts x (inr p) =
-    let r = bind_some (inner level.Factor ts) (λ (a : Parsed × List Terminal). then_left (node 128 a.0.depth (expr.Minus a.0.expr)) a.1) x p.1 in
+    let r = bind_ok (inner level.Factor ts) (λ (a : Parsed × List Terminal). then_left (node 128 a.0.depth (expr.Minus a.0.expr)) a.1) x p.1 in
     let t = h level.Factor ts r.0 r.1 in
     let none : first_is rule.digits_of (t.front ++ r.0.1) ≡ None = ap (first_is rule.digits_of) (sym t.parts) ∙ p.0 in
     let opened : open_in t.spells + 1 ≤ n = t.opens in
@@ -672,9 +688,9 @@ minus_turn n inner h ts x (inr p) =
     let deep : depth (expr.Minus r.0.0.expr) ≡ suc r.0.0.depth = depth_minus r.0.0.expr ∙ ap suc (sym t.deep) in
     made n r.0.0.depth level.Factor (mark sign.Minus ∷ ts) (mark sign.Minus ∷ t.front) r.0.1 (expr.Minus r.0.0.expr) (minus (no_integer t.front r.0.1 none) t.spells) x r.2 (ap (λ (v : List Terminal). mark sign.Minus ∷ v) t.parts) few deep
 
-minus_sound : (n : ℕ) (inner : Level → Reader) → IsInner n inner → (ts : List Terminal) (x : Parsed × List Terminal) → rule.minus_of 128 n inner ts ≡ Some x → Took 0 n level.Factor (mark sign.Minus ∷ ts) x
+minus_sound : (n : ℕ) (inner : Level → Reader) → IsInner n inner → (ts : List Terminal) (x : Parsed × List Terminal) → rule.minus_of 128 n inner ts ≡ Ok x → Took 0 n level.Factor (mark sign.Minus ∷ ts) x
 minus_sound n inner h ts x e =
-    minus_turn n inner h ts x (choose_some (first_is rule.digits_of ts) (λ (k : ℕ × List Terminal). rule.negative k.0 >>= (λ z. Some (rule.leaf (expr.Integer z), k.1))) (inner level.Factor ts >>= (λ a. then_left (node 128 a.0.depth (expr.Minus a.0.expr)) a.1)) x e)
+    minus_turn n inner h ts x (choose_ok (first_is rule.digits_of ts) (λ (k : ℕ × List Terminal). rule.needed ts (rule.negative k.0) >>= (λ z. Ok (rule.leaf (expr.Integer z), k.1))) (inner level.Factor ts >>= (λ a. then_left (node 128 a.0.depth (expr.Minus a.0.expr)) a.1)) x e)
 
 factor_sound : (n : ℕ) (inner : Level → Reader) → IsInner n inner → IsSound 0 n level.Factor (rule.factor_of 128 n inner)
 factor_sound n inner h [] x e = absurd cc
@@ -702,11 +718,11 @@ pub record TookTest (n : ℕ) (a : Expr) (us : List Terminal) (x : Parsed × Lis
   pub deep : x.0.depth ≡ depth x.0.expr
   pub bounded : x.0.depth ≤ 128
 
-test_made : (n k : ℕ) (a : Expr) (us front rest : List Terminal) (e : Expr) (d : Tests a front e) (x : Parsed × List Terminal) → then_left (node 128 k e) rest ≡ Some x → us ≡ front ++ rest → open_in_test d ≤ n → depth e ≡ suc k → TookTest n a us x
+test_made : (n k : ℕ) (a : Expr) (us front rest : List Terminal) (e : Expr) (d : Tests a front e) (x : Parsed × List Terminal) → then_left (node 128 k e) rest ≡ Ok x → us ≡ front ++ rest → open_in_test d ≤ n → depth e ≡ suc k → TookTest n a us x
 test_made n k a us front rest e d x is parts o deep =
-    let left = bind_some (node 128 k e) (λ (p : Parsed). Some (p, rest)) x is in
-    let found = bind_some (rule.deeper 128 k) (λ (d : ℕ). Some (record { expr = e; depth = d })) left.0 left.1 in
-    let below = deeper_some (nat_lt k 128) k found.0 found.1 in
+    let left = bind_ok (node 128 k e) (λ (p : Parsed). Ok (p, rest)) x is in
+    let found = bind_ok (rule.deeper 128 k) (λ (d : ℕ). Ok (record { expr = e; depth = d })) left.0 left.1 in
+    let below = allowed (nat_lt k 128) stop.TooDeep (k + 1) found.0 found.1 in
     let small : k < 128 = ltb-true k 128 below.0 in
     let sum : k + 1 ≡ found.0 = below.1 in
     let node_is : ◌≡◌ {A = Parsed} (record { expr = e; depth = found.0 }) left.0 = cc found.2 in
@@ -727,13 +743,12 @@ comparison_taken t op e = absurd cc
 first_comparison : (us : List Terminal) (op : ComparisonOperator × List Terminal) → first_is comparison_of us ≡ Some op → us ≡ mark (compares op.0) ∷ op.1
 first_comparison [] op e = absurd cc
 first_comparison (t ∷ us) op e =
-    let b = bind_some (comparison_of t) (λ (a : ComparisonOperator). Some (a, us)) op e in
-    let same : ◌≡◌ {A = ComparisonOperator × List Terminal} (b.0, us) op = cc b.2 in
-    ap (λ (v : Terminal). v ∷ us) (comparison_taken t b.0 b.1) ∙ ap (λ (y : ComparisonOperator × List Terminal). mark (compares y.0) ∷ y.1) same
+    let b = there (comparison_of t) (λ (a : ComparisonOperator). (a, us)) op e in
+    ap (λ (v : Terminal). v ∷ us) (comparison_taken t b.0 b.1) ∙ ap (λ (y : ComparisonOperator × List Terminal). mark (compares y.0) ∷ y.1) b.2
 
-compare_sound : (n : ℕ) (inner : Level → Reader) → IsInner n inner → (a : Parsed) → a.depth ≡ depth a.expr → (op : ComparisonOperator) (us ts : List Terminal) (x : Parsed × List Terminal) → us ≡ mark (compares op) ∷ ts → rule.compare_of 128 n inner a op ts ≡ Some x → TookTest n a.expr us x
+compare_sound : (n : ℕ) (inner : Level → Reader) → IsInner n inner → (a : Parsed) → a.depth ≡ depth a.expr → (op : ComparisonOperator) (us ts : List Terminal) (x : Parsed × List Terminal) → us ≡ mark (compares op) ∷ ts → rule.compare_of 128 n inner a op ts ≡ Ok x → TookTest n a.expr us x
 compare_sound n inner h a da op us ts x before e =
-    let r = bind_some (rule.sum_of 128 n inner ts) (λ (b : Parsed × List Terminal). then_left (node 128 (max a.depth b.0.depth) (expr.Compare op a.expr b.0.expr)) b.1) x e in
+    let r = bind_ok (rule.sum_of 128 n inner ts) (λ (b : Parsed × List Terminal). then_left (node 128 (max a.depth b.0.depth) (expr.Compare op a.expr b.0.expr)) b.1) x e in
     let t = sum_sound n inner h ts r.0 r.1 in
     let opened : open_in t.spells + 0 ≤ n = t.opens in
     let few : open_in t.spells ≤ n = omega arith in
@@ -742,17 +757,17 @@ compare_sound n inner h a da op us ts x before e =
     let parts : us ≡ (mark (compares op) ∷ t.front) ++ r.0.1 = before ∙ ap (λ (v : List Terminal). mark (compares op) ∷ v) t.parts in
     test_made n (max a.depth r.0.0.depth) a.expr us (mark (compares op) ∷ t.front) r.0.1 (expr.Compare op a.expr r.0.0.expr) (compared op t.spells) x r.2 parts few (omega arith)
 
-between_sound : (n : ℕ) (inner : Level → Reader) → IsInner n inner → (a : Parsed) → a.depth ≡ depth a.expr → (not : Bool) (us ts : List Terminal) (x : Parsed × List Terminal) → us ≡ not_if not ++ (word keyword.Between ∷ ts) → rule.between_of 128 n inner a not ts ≡ Some x → TookTest n a.expr us x
+between_sound : (n : ℕ) (inner : Level → Reader) → IsInner n inner → (a : Parsed) → a.depth ≡ depth a.expr → (not : Bool) (us ts : List Terminal) (x : Parsed × List Terminal) → us ≡ not_if not ++ (word keyword.Between ∷ ts) → rule.between_of 128 n inner a not ts ≡ Ok x → TookTest n a.expr us x
 between_sound n inner h a da not us ts x before e =
-    let r = bind_some (rule.bounds_of 128 n inner ts) (λ (b : (Parsed × Parsed) × List Terminal). then_left (node 128 (max a.depth (max b.0.0.depth b.0.1.depth)) (expr.Between not a.expr b.0.0.expr b.0.1.expr)) b.1) x e in
-    let low = bind_some (rule.sum_of 128 n inner ts) (λ (low : Parsed × List Terminal). rule.high_of 128 n inner low.1 >>= (λ high. Some ((low.0, high.0), high.1))) r.0 r.1 in
-    let high = bind_some (rule.high_of 128 n inner low.0.1) (λ (high : Parsed × List Terminal). Some ((low.0.0, high.0), high.1)) r.0 low.2 in
-    let and_is = bind_some (behind (is_keyword keyword.And) low.0.1) (λ (vs : List Terminal). rule.sum_of 128 n inner vs) high.0 high.1 in
-    let conjunction : low.0.1 ≡ word keyword.And ∷ and_is.0 = word_taken keyword.And low.0.1 and_is.0 and_is.1 in
+    let r = bind_ok (rule.bounds_of 128 n inner ts) (λ (b : (Parsed × Parsed) × List Terminal). then_left (node 128 (max a.depth (max b.0.0.depth b.0.1.depth)) (expr.Between not a.expr b.0.0.expr b.0.1.expr)) b.1) x e in
+    let low = bind_ok (rule.sum_of 128 n inner ts) (λ (low : Parsed × List Terminal). rule.high_of 128 n inner low.1 >>= (λ high. Ok ((low.0, high.0), high.1))) r.0 r.1 in
+    let high = bind_ok (rule.high_of 128 n inner low.0.1) (λ (high : Parsed × List Terminal). Ok ((low.0.0, high.0), high.1)) r.0 low.2 in
+    let and_is = bind_ok (past (is_keyword keyword.And) low.0.1) (λ (vs : List Terminal). rule.sum_of 128 n inner vs) high.0 high.1 in
+    let conjunction : low.0.1 ≡ word keyword.And ∷ and_is.0 = word_past keyword.And low.0.1 and_is.0 and_is.1 in
     let t = sum_sound n inner h ts low.0 low.1 in
     let s = sum_sound n inner h and_is.0 high.0 and_is.2 in
     let same : ◌≡◌ {A = (Parsed × Parsed) × List Terminal} r.0 ((low.0.0, high.0.0), high.0.1) = sym (cc high.2) in
-    let reads : then_left (node 128 (max a.depth (max low.0.0.depth high.0.0.depth)) (expr.Between not a.expr low.0.0.expr high.0.0.expr)) high.0.1 ≡ Some x = subst (λ (b : (Parsed × Parsed) × List Terminal). then_left (node 128 (max a.depth (max b.0.0.depth b.0.1.depth)) (expr.Between not a.expr b.0.0.expr b.0.1.expr)) b.1 ≡ Some x) same r.2 in
+    let reads : then_left (node 128 (max a.depth (max low.0.0.depth high.0.0.depth)) (expr.Between not a.expr low.0.0.expr high.0.0.expr)) high.0.1 ≡ Ok x = subst (λ (b : (Parsed × Parsed) × List Terminal). then_left (node 128 (max a.depth (max b.0.0.depth b.0.1.depth)) (expr.Between not a.expr b.0.0.expr b.0.1.expr)) b.1 ≡ Ok x) same r.2 in
     let low_open : open_in t.spells + 0 ≤ n = t.opens in
     let high_open : open_in s.spells + 0 ≤ n = s.opens in
     let few : max (open_in t.spells) (open_in s.spells) ≤ n = omega arith in
@@ -764,9 +779,9 @@ between_sound n inner h a da not us ts x before e =
     before ∙ ap (λ (v : List Terminal). not_if not ++ (word keyword.Between ∷ v)) inner_parts ∙ sym (append_assoc (not_if not) (word keyword.Between ∷ t.front ++ word keyword.And ∷ s.front) high.0.1) in
     test_made n (max a.depth (max low.0.0.depth high.0.0.depth)) a.expr us (not_if not ++ (word keyword.Between ∷ t.front ++ word keyword.And ∷ s.front)) high.0.1 (expr.Between not a.expr low.0.0.expr high.0.0.expr) (between not t.spells s.spells) x reads parts few (omega arith)
 
-in_sound : (n : ℕ) (inner : Level → Reader) → IsInner n inner → (a : Parsed) → a.depth ≡ depth a.expr → (not : Bool) (us ts : List Terminal) (x : Parsed × List Terminal) → us ≡ not_if not ++ (word keyword.In ∷ ts) → rule.in_of 128 n inner a not ts ≡ Some x → TookTest n a.expr us x
+in_sound : (n : ℕ) (inner : Level → Reader) → IsInner n inner → (a : Parsed) → a.depth ≡ depth a.expr → (not : Bool) (us ts : List Terminal) (x : Parsed × List Terminal) → us ≡ not_if not ++ (word keyword.In ∷ ts) → rule.in_of 128 n inner a not ts ≡ Ok x → TookTest n a.expr us x
 in_sound n inner h a da not us ts x before e =
-    let r = bind_some (rule.bracketed_list inner ts) (λ (es : rule.Listed × List Terminal). then_left (node 128 (max a.depth es.0.deepest) (expr.In not a.expr es.0.exprs)) es.1) x e in
+    let r = bind_ok (rule.bracketed_list inner ts) (λ (es : rule.Listed × List Terminal). then_left (node 128 (max a.depth es.0.deepest) (expr.In not a.expr es.0.exprs)) es.1) x e in
     let t = bracketed_sound n inner h ts r.0 r.1 in
     let opened : open_in_list t.spells + 1 ≤ n = t.opens in
     let few : suc (open_in_list t.spells) ≤ n = omega arith in
@@ -775,55 +790,55 @@ in_sound n inner h a da not us ts x before e =
     let parts : us ≡ (not_if not ++ word keyword.In ∷ bracketed t.front) ++ r.0.1 = before ∙ ap (λ (v : List Terminal). not_if not ++ (word keyword.In ∷ v)) t.parts ∙ sym (append_assoc (not_if not) (word keyword.In ∷ bracketed t.front) r.0.1) in
     test_made n (max a.depth r.0.0.deepest) a.expr us (not_if not ++ word keyword.In ∷ bracketed t.front) r.0.1 (expr.In not a.expr r.0.0.exprs) (among not t.spells) x r.2 parts few (omega arith)
 
-text_taken : (ts : List Terminal) (t : List ℕ × List Terminal) → rule.text_at ts ≡ Some t → (w : List ℕ) × (ts ≡ terminal.text w ∷ t.1) × (undoubled w ≡ t.0)
+text_taken : (ts : List Terminal) (t : List ℕ × List Terminal) → rule.text_at ts ≡ Ok t → (w : List ℕ) × (ts ≡ terminal.text w ∷ t.1) × (undoubled w ≡ t.0)
 text_taken [] t e = absurd cc
 text_taken (terminal.text w ∷ ts) t e =
     let same : ◌≡◌ {A = List ℕ × List Terminal} (undoubled w, ts) t = cc e in
     (w, ap (λ (p : List ℕ × List Terminal). terminal.text w ∷ p.1) same, ap (λ (p : List ℕ × List Terminal). p.0) same)
 text_taken (u ∷ ts) t e = absurd cc
 
-like_sound : (n : ℕ) (a : Parsed) → a.depth ≡ depth a.expr → (not : Bool) (us ts : List Terminal) (x : Parsed × List Terminal) → us ≡ not_if not ++ ts → rule.like_test 128 a not ts ≡ Some x → TookTest n a.expr us x
+like_sound : (n : ℕ) (a : Parsed) → a.depth ≡ depth a.expr → (not : Bool) (us ts : List Terminal) (x : Parsed × List Terminal) → us ≡ not_if not ++ ts → rule.like_test 128 a not ts ≡ Ok x → TookTest n a.expr us x
 like_sound n a da not us ts x before e =
-    let r = bind_some (rule.pattern_at ts) (λ (t : List ℕ × List Terminal). then_left (node 128 a.depth (expr.Like not a.expr t.0)) t.1) x e in
-    let l = bind_some (behind (is_keyword keyword.Like) ts) (λ (vs : List Terminal). rule.text_at vs) r.0 r.1 in
+    let r = bind_ok (rule.pattern_at ts) (λ (t : List ℕ × List Terminal). then_left (node 128 a.depth (expr.Like not a.expr t.0)) t.1) x e in
+    let l = bind_ok (past (is_keyword keyword.Like) ts) (λ (vs : List Terminal). rule.text_at vs) r.0 r.1 in
     let w = text_taken l.0 r.0 l.2 in
-    let like_word : ts ≡ word keyword.Like ∷ l.0 = word_taken keyword.Like ts l.0 l.1 in
-    let reads : then_left (node 128 a.depth (expr.Like not a.expr (undoubled w.0))) r.0.1 ≡ Some x = subst (λ (v : List ℕ). then_left (node 128 a.depth (expr.Like not a.expr v)) r.0.1 ≡ Some x) (sym w.2) r.2 in
+    let like_word : ts ≡ word keyword.Like ∷ l.0 = word_past keyword.Like ts l.0 l.1 in
+    let reads : then_left (node 128 a.depth (expr.Like not a.expr (undoubled w.0))) r.0.1 ≡ Ok x = subst (λ (v : List ℕ). then_left (node 128 a.depth (expr.Like not a.expr v)) r.0.1 ≡ Ok x) (sym w.2) r.2 in
     let deep : depth (expr.Like not a.expr (undoubled w.0)) ≡ suc (depth a.expr) = depth_like not a.expr (undoubled w.0) in
     let parts : us ≡ (not_if not ++ word keyword.Like ∷ terminal.text w.0 ∷ []) ++ r.0.1 =
     before ∙ ap (λ (v : List Terminal). not_if not ++ v) (like_word ∙ ap (λ (v : List Terminal). word keyword.Like ∷ v) w.1) ∙ sym (append_assoc (not_if not) (word keyword.Like ∷ terminal.text w.0 ∷ []) r.0.1) in
     test_made n a.depth a.expr us (not_if not ++ word keyword.Like ∷ terminal.text w.0 ∷ []) r.0.1 (expr.Like not a.expr (undoubled w.0)) (like not w.0) x reads parts (omega arith) (omega arith)
 
-null_sound : (n : ℕ) (a : Parsed) → a.depth ≡ depth a.expr → (not : Bool) (us ts : List Terminal) (x : Parsed × List Terminal) → us ≡ word keyword.Is ∷ not_if not ++ ts → rule.null_of 128 a not ts ≡ Some x → TookTest n a.expr us x
+null_sound : (n : ℕ) (a : Parsed) → a.depth ≡ depth a.expr → (not : Bool) (us ts : List Terminal) (x : Parsed × List Terminal) → us ≡ word keyword.Is ∷ not_if not ++ ts → rule.null_of 128 a not ts ≡ Ok x → TookTest n a.expr us x
 null_sound n a da not us ts x before e =
-    let r = bind_some (behind (is_keyword keyword.Null) ts) (λ (rest : List Terminal). then_left (node 128 a.depth (expr.IsNull not a.expr)) rest) x e in
-    let null_word : ts ≡ word keyword.Null ∷ r.0 = word_taken keyword.Null ts r.0 r.1 in
+    let r = bind_ok (past (is_keyword keyword.Null) ts) (λ (rest : List Terminal). then_left (node 128 a.depth (expr.IsNull not a.expr)) rest) x e in
+    let null_word : ts ≡ word keyword.Null ∷ r.0 = word_past keyword.Null ts r.0 r.1 in
     let deep : depth (expr.IsNull not a.expr) ≡ suc (depth a.expr) = depth_null not a.expr in
     let parts : us ≡ (word keyword.Is ∷ not_if not ++ word keyword.Null ∷ []) ++ r.0 =
     before ∙ ap (λ (v : List Terminal). word keyword.Is ∷ v) (ap (λ (v : List Terminal). not_if not ++ v) null_word ∙ sym (append_assoc (not_if not) (word keyword.Null ∷ []) r.0)) in
     test_made n a.depth a.expr us (word keyword.Is ∷ not_if not ++ word keyword.Null ∷ []) r.0 (expr.IsNull not a.expr) (is_null not) x r.2 parts (omega arith) (omega arith)
 
 in_turn : (n : ℕ) (inner : Level → Reader) → IsInner n inner → (a : Parsed) → a.depth ≡ depth a.expr → (not : Bool) (us ts : List Terminal) (x : Parsed × List Terminal) → us ≡ not_if not ++ ts
-    → ((vs : List Terminal) × (behind (is_keyword keyword.In) ts ≡ Some vs) × (rule.in_of 128 n inner a not vs ≡ Some x)) ⊎ ((behind (is_keyword keyword.In) ts ≡ None) × (rule.like_test 128 a not ts ≡ Some x)) → TookTest n a.expr us x
+    → ((vs : List Terminal) × (behind (is_keyword keyword.In) ts ≡ Some vs) × (rule.in_of 128 n inner a not vs ≡ Ok x)) ⊎ ((behind (is_keyword keyword.In) ts ≡ None) × (rule.like_test 128 a not ts ≡ Ok x)) → TookTest n a.expr us x
 in_turn n inner h a da not us ts x before (inl p) = in_sound n inner h a da not us p.0 x (before ∙ ap (λ (v : List Terminal). not_if not ++ v) (word_taken keyword.In ts p.0 p.1)) p.2
 in_turn n inner h a da not us ts x before (inr p) = like_sound n a da not us ts x before p.1
 
 between_turn : (n : ℕ) (inner : Level → Reader) → IsInner n inner → (a : Parsed) → a.depth ≡ depth a.expr → (not : Bool) (us ts : List Terminal) (x : Parsed × List Terminal) → us ≡ not_if not ++ ts
-    → ((vs : List Terminal) × (behind (is_keyword keyword.Between) ts ≡ Some vs) × (rule.between_of 128 n inner a not vs ≡ Some x)) ⊎ ((behind (is_keyword keyword.Between) ts ≡ None) × (choose (behind (is_keyword keyword.In) ts) (rule.in_of 128 n inner a not) (rule.like_test 128 a not ts) ≡ Some x)) → TookTest n a.expr us x
+    → ((vs : List Terminal) × (behind (is_keyword keyword.Between) ts ≡ Some vs) × (rule.between_of 128 n inner a not vs ≡ Ok x)) ⊎ ((behind (is_keyword keyword.Between) ts ≡ None) × (choose (behind (is_keyword keyword.In) ts) (rule.in_of 128 n inner a not) (rule.like_test 128 a not ts) ≡ Ok x)) → TookTest n a.expr us x
 between_turn n inner h a da not us ts x before (inl p) = between_sound n inner h a da not us p.0 x (before ∙ ap (λ (v : List Terminal). not_if not ++ v) (word_taken keyword.Between ts p.0 p.1)) p.2
-between_turn n inner h a da not us ts x before (inr p) = in_turn n inner h a da not us ts x before (choose_some (behind (is_keyword keyword.In) ts) (rule.in_of 128 n inner a not) (rule.like_test 128 a not ts) x p.1)
+between_turn n inner h a da not us ts x before (inr p) = in_turn n inner h a da not us ts x before (choose_ok (behind (is_keyword keyword.In) ts) (rule.in_of 128 n inner a not) (rule.like_test 128 a not ts) x p.1)
 
-named_sound : (n : ℕ) (inner : Level → Reader) → IsInner n inner → (a : Parsed) → a.depth ≡ depth a.expr → (not : Bool) (us ts : List Terminal) (x : Parsed × List Terminal) → us ≡ not_if not ++ ts → rule.named_test 128 n inner a not ts ≡ Some x → TookTest n a.expr us x
+named_sound : (n : ℕ) (inner : Level → Reader) → IsInner n inner → (a : Parsed) → a.depth ≡ depth a.expr → (not : Bool) (us ts : List Terminal) (x : Parsed × List Terminal) → us ≡ not_if not ++ ts → rule.named_test 128 n inner a not ts ≡ Ok x → TookTest n a.expr us x
 named_sound n inner h a da not us ts x before e =
-    between_turn n inner h a da not us ts x before (choose_some (behind (is_keyword keyword.Between) ts) (rule.between_of 128 n inner a not) (choose (behind (is_keyword keyword.In) ts) (rule.in_of 128 n inner a not) (rule.like_test 128 a not ts)) x e)
+    between_turn n inner h a da not us ts x before (choose_ok (behind (is_keyword keyword.Between) ts) (rule.between_of 128 n inner a not) (choose (behind (is_keyword keyword.In) ts) (rule.in_of 128 n inner a not) (rule.like_test 128 a not ts)) x e)
 
 is_turn : (n : ℕ) (a : Parsed) → a.depth ≡ depth a.expr → (us ts : List Terminal) (x : Parsed × List Terminal) → us ≡ word keyword.Is ∷ ts
-    → ((vs : List Terminal) × (behind (is_keyword keyword.Not) ts ≡ Some vs) × (rule.null_of 128 a true vs ≡ Some x)) ⊎ ((behind (is_keyword keyword.Not) ts ≡ None) × (rule.null_of 128 a false ts ≡ Some x)) → TookTest n a.expr us x
+    → ((vs : List Terminal) × (behind (is_keyword keyword.Not) ts ≡ Some vs) × (rule.null_of 128 a true vs ≡ Ok x)) ⊎ ((behind (is_keyword keyword.Not) ts ≡ None) × (rule.null_of 128 a false ts ≡ Ok x)) → TookTest n a.expr us x
 is_turn n a da us ts x before (inl p) = null_sound n a da true us p.0 x (before ∙ ap (λ (v : List Terminal). word keyword.Is ∷ v) (word_taken keyword.Not ts p.0 p.1)) p.2
 is_turn n a da us ts x before (inr p) = null_sound n a da false us ts x before p.1
 
-is_sound : (n : ℕ) (a : Parsed) → a.depth ≡ depth a.expr → (us ts : List Terminal) (x : Parsed × List Terminal) → us ≡ word keyword.Is ∷ ts → rule.is_of 128 a ts ≡ Some x → TookTest n a.expr us x
-is_sound n a da us ts x before e = is_turn n a da us ts x before (choose_some (behind (is_keyword keyword.Not) ts) (rule.null_of 128 a true) (rule.null_of 128 a false ts) x e)
+is_sound : (n : ℕ) (a : Parsed) → a.depth ≡ depth a.expr → (us ts : List Terminal) (x : Parsed × List Terminal) → us ≡ word keyword.Is ∷ ts → rule.is_of 128 a ts ≡ Ok x → TookTest n a.expr us x
+is_sound n a da us ts x before e = is_turn n a da us ts x before (choose_ok (behind (is_keyword keyword.Not) ts) (rule.null_of 128 a true) (rule.null_of 128 a false ts) x e)
 
 -- a test, or nothing
 abbrev MayTest : ℕ → Parsed → List Terminal → Parsed × List Terminal → Type 0
@@ -831,14 +846,14 @@ MayTest n a us x = TookTest n a.expr us x ⊎ (◌≡◌ {A = Parsed × List Ter
 
 -- what stands there where no word of a test does
 abbrev plain_test : ℕ → (Level → Reader) → Parsed → Reader
-plain_test n inner a us = cond (begins_test us) (rule.named_test 128 n inner a false us) (Some (a, us))
+plain_test n inner a us = cond (begins_test us) (rule.named_test 128 n inner a false us) (Ok (a, us))
 
-plain_turn : (n : ℕ) (inner : Level → Reader) → IsInner n inner → (a : Parsed) → a.depth ≡ depth a.expr → (us : List Terminal) (x : Parsed × List Terminal) (begins : Bool) → cond begins (rule.named_test 128 n inner a false us) (Some (a, us)) ≡ Some x → MayTest n a us x
+plain_turn : (n : ℕ) (inner : Level → Reader) → IsInner n inner → (a : Parsed) → a.depth ≡ depth a.expr → (us : List Terminal) (x : Parsed × List Terminal) (begins : Bool) → cond begins (rule.named_test 128 n inner a false us) (Ok (a, us)) ≡ Ok x → MayTest n a us x
 plain_turn n inner h a da us x true e = inl (named_sound n inner h a da false us us x refl e)
 plain_turn n inner h a da us x false e = inr cc
 
 not_turn : (n : ℕ) (inner : Level → Reader) → IsInner n inner → (a : Parsed) → a.depth ≡ depth a.expr → (us : List Terminal) (x : Parsed × List Terminal)
-    → ((vs : List Terminal) × (behind (is_keyword keyword.Not) us ≡ Some vs) × (rule.named_test 128 n inner a true vs ≡ Some x)) ⊎ ((behind (is_keyword keyword.Not) us ≡ None) × (plain_test n inner a us ≡ Some x)) → MayTest n a us x
+    → ((vs : List Terminal) × (behind (is_keyword keyword.Not) us ≡ Some vs) × (rule.named_test 128 n inner a true vs ≡ Ok x)) ⊎ ((behind (is_keyword keyword.Not) us ≡ None) × (plain_test n inner a us ≡ Ok x)) → MayTest n a us x
 not_turn n inner h a da us x (inl p) = inl (named_sound n inner h a da true us p.0 x (word_taken keyword.Not us p.0 p.1) p.2)
 not_turn n inner h a da us x (inr p) = plain_turn n inner h a da us x (begins_test us) p.1
 
@@ -847,17 +862,17 @@ abbrev word_test : ℕ → (Level → Reader) → Parsed → Reader
 word_test n inner a us = choose (behind (is_keyword keyword.Is) us) (rule.is_of 128 a) (choose (behind (is_keyword keyword.Not) us) (rule.named_test 128 n inner a true) (plain_test n inner a us))
 
 word_turn : (n : ℕ) (inner : Level → Reader) → IsInner n inner → (a : Parsed) → a.depth ≡ depth a.expr → (us : List Terminal) (x : Parsed × List Terminal)
-    → ((vs : List Terminal) × (behind (is_keyword keyword.Is) us ≡ Some vs) × (rule.is_of 128 a vs ≡ Some x)) ⊎ ((behind (is_keyword keyword.Is) us ≡ None) × (choose (behind (is_keyword keyword.Not) us) (rule.named_test 128 n inner a true) (plain_test n inner a us) ≡ Some x)) → MayTest n a us x
+    → ((vs : List Terminal) × (behind (is_keyword keyword.Is) us ≡ Some vs) × (rule.is_of 128 a vs ≡ Ok x)) ⊎ ((behind (is_keyword keyword.Is) us ≡ None) × (choose (behind (is_keyword keyword.Not) us) (rule.named_test 128 n inner a true) (plain_test n inner a us) ≡ Ok x)) → MayTest n a us x
 word_turn n inner h a da us x (inl p) = inl (is_sound n a da us p.0 x (word_taken keyword.Is us p.0 p.1) p.2)
-word_turn n inner h a da us x (inr p) = not_turn n inner h a da us x (choose_some (behind (is_keyword keyword.Not) us) (rule.named_test 128 n inner a true) (plain_test n inner a us) x p.1)
+word_turn n inner h a da us x (inr p) = not_turn n inner h a da us x (choose_ok (behind (is_keyword keyword.Not) us) (rule.named_test 128 n inner a true) (plain_test n inner a us) x p.1)
 
 comparison_turn : (n : ℕ) (inner : Level → Reader) → IsInner n inner → (a : Parsed) → a.depth ≡ depth a.expr → (us : List Terminal) (x : Parsed × List Terminal)
-    → ((op : ComparisonOperator × List Terminal) × (first_is comparison_of us ≡ Some op) × (rule.compare_of 128 n inner a op.0 op.1 ≡ Some x)) ⊎ ((first_is comparison_of us ≡ None) × (word_test n inner a us ≡ Some x)) → MayTest n a us x
+    → ((op : ComparisonOperator × List Terminal) × (first_is comparison_of us ≡ Some op) × (rule.compare_of 128 n inner a op.0 op.1 ≡ Ok x)) ⊎ ((first_is comparison_of us ≡ None) × (word_test n inner a us ≡ Ok x)) → MayTest n a us x
 comparison_turn n inner h a da us x (inl p) = inl (compare_sound n inner h a da p.0.0 us p.0.1 x (first_comparison us p.0 p.1) p.2)
-comparison_turn n inner h a da us x (inr p) = word_turn n inner h a da us x (choose_some (behind (is_keyword keyword.Is) us) (rule.is_of 128 a) (choose (behind (is_keyword keyword.Not) us) (rule.named_test 128 n inner a true) (plain_test n inner a us)) x p.1)
+comparison_turn n inner h a da us x (inr p) = word_turn n inner h a da us x (choose_ok (behind (is_keyword keyword.Is) us) (rule.is_of 128 a) (choose (behind (is_keyword keyword.Not) us) (rule.named_test 128 n inner a true) (plain_test n inner a us)) x p.1)
 
-test_sound : (n : ℕ) (inner : Level → Reader) → IsInner n inner → (a : Parsed) → a.depth ≡ depth a.expr → (us : List Terminal) (x : Parsed × List Terminal) → rule.test_of 128 n inner a us ≡ Some x → MayTest n a us x
-test_sound n inner h a da us x e = comparison_turn n inner h a da us x (choose_some (first_is comparison_of us) (λ (op : ComparisonOperator × List Terminal). rule.compare_of 128 n inner a op.0 op.1) (word_test n inner a us) x e)
+test_sound : (n : ℕ) (inner : Level → Reader) → IsInner n inner → (a : Parsed) → a.depth ≡ depth a.expr → (us : List Terminal) (x : Parsed × List Terminal) → rule.test_of 128 n inner a us ≡ Ok x → MayTest n a us x
+test_sound n inner h a da us x e = comparison_turn n inner h a da us x (choose_ok (first_is comparison_of us) (λ (op : ComparisonOperator × List Terminal). rule.compare_of 128 n inner a op.0 op.1) (word_test n inner a us) x e)
 
 -- ---- the weaker rules
 
@@ -871,14 +886,14 @@ tested_took n ts a x t (inr same) = subst (λ (y : Parsed × List Terminal). Too
 
 predicate_sound : (n : ℕ) (inner : Level → Reader) → IsInner n inner → IsSound 0 n level.Predicate (rule.predicate_of 128 n inner)
 predicate_sound n inner h ts x e =
-    let r = bind_some (rule.sum_of 128 n inner ts) (λ (a : Parsed × List Terminal). rule.test_of 128 n inner a.0 a.1) x e in
+    let r = bind_ok (rule.sum_of 128 n inner ts) (λ (a : Parsed × List Terminal). rule.test_of 128 n inner a.0 a.1) x e in
     let t = sum_sound n inner h ts r.0 r.1 in
     tested_took n ts r.0 x t (test_sound n inner h r.0.0 t.deep r.0.1 x r.2)
 
 negation_turn : (n : ℕ) (inner : Level → Reader) → IsInner n inner → (ts : List Terminal) (x : Parsed × List Terminal)
-    → ((us : List Terminal) × (behind (is_keyword keyword.Not) ts ≡ Some us) × ((inner level.Negation us >>= (λ a. then_left (node 128 a.0.depth (expr.Not a.0.expr)) a.1)) ≡ Some x)) ⊎ ((behind (is_keyword keyword.Not) ts ≡ None) × (rule.predicate_of 128 n inner ts ≡ Some x)) → Took 0 n level.Negation ts x
+    → ((us : List Terminal) × (behind (is_keyword keyword.Not) ts ≡ Some us) × ((inner level.Negation us >>= (λ a. then_left (node 128 a.0.depth (expr.Not a.0.expr)) a.1)) ≡ Ok x)) ⊎ ((behind (is_keyword keyword.Not) ts ≡ None) × (rule.predicate_of 128 n inner ts ≡ Ok x)) → Took 0 n level.Negation ts x
 negation_turn n inner h ts x (inl p) =
-    let r = bind_some (inner level.Negation p.0) (λ (a : Parsed × List Terminal). then_left (node 128 a.0.depth (expr.Not a.0.expr)) a.1) x p.2 in
+    let r = bind_ok (inner level.Negation p.0) (λ (a : Parsed × List Terminal). then_left (node 128 a.0.depth (expr.Not a.0.expr)) a.1) x p.2 in
     let t = h level.Negation p.0 r.0 r.1 in
     let opened : open_in t.spells + 1 ≤ n = t.opens in
     let few : suc (open_in t.spells) ≤ n = omega arith in
@@ -888,7 +903,7 @@ negation_turn n inner h ts x (inr p) = next_took n level.Negation ts x (predicat
 
 negation_sound : (n : ℕ) (inner : Level → Reader) → IsInner n inner → IsSound 0 n level.Negation (rule.negation_of 128 n inner)
 negation_sound n inner h ts x e =
-    negation_turn n inner h ts x (choose_some (behind (is_keyword keyword.Not) ts) (λ (us : List Terminal). inner level.Negation us >>= (λ a. then_left (node 128 a.0.depth (expr.Not a.0.expr)) a.1)) (rule.predicate_of 128 n inner ts) x e)
+    negation_turn n inner h ts x (choose_ok (behind (is_keyword keyword.Not) ts) (λ (us : List Terminal). inner level.Negation us >>= (λ a. then_left (node 128 a.0.depth (expr.Not a.0.expr)) a.1)) (rule.predicate_of 128 n inner ts) x e)
 
 conjunction_sound : (n : ℕ) (inner : Level → Reader) → IsInner n inner → IsSound 0 n level.Conjunction (rule.conjunction_of 128 n inner)
 conjunction_sound n inner h = chain_sound n level.Conjunction (rule.negation_of 128 n inner) (negation_sound n inner h)

@@ -1,5 +1,5 @@
 -- Reading the tokens of an expression from front to back: one definition a rule of the grammar.
-use Rattle.std.specs.Prelude.{ℕ, zero, suc, ◌+◌, ℤ, pos, Bool, true, false, ◌||◌, nat_le, nat_lt, max, if◌then◌else◌, List, [], ◌∷◌, ◌++◌, length, map, Option, Some, None, Result, Ok, Err, IfErr, ◌≡◌, ◌⊎◌}
+use Rattle.std.specs.Prelude.{ℕ, zero, suc, ◌+◌, ℤ, pos, Bool, true, false, ◌||◌, nat_le, nat_lt, max, if◌then◌else◌, List, [], ◌∷◌, ◌++◌, length, map, Option, Some, None, Result, Ok, Err, ◌≡◌}
 use denote.Enum.Bare.{sameb}
 use Rattle.sql_syntax.specs.contracts.keyword.Keyword as keyword_contract
 use Rattle.sql_syntax.specs.contracts.token.Sign as sign_contract
@@ -35,39 +35,38 @@ terms = map (λ l. terminal_of l.token)
 
 -- ---- what a call gives
 
--- what is read, and the tokens that are left
+-- what is read and the tokens that are left, or why reading stops
 abbrev pub Reads : Type 0 → Type 0
-Reads A = Option (A × List Terminal)
+Reads A = Result (A × List Terminal) Stop
 
 abbrev pub Reader : Type 0
 Reader = List Terminal → Reads Parsed
 
--- A call that stops reads nothing, unless memory ran out.
-abbrev pub Stops : {Y : Type 0} → Stop → Option Y → Type 0
+-- A call stops where and why reading does, unless memory ran out.
+abbrev pub Stops : {Y : Type 0} → Stop → Result Y Stop → Type 0
 Stops stop.Memory read = Unit {0}
-Stops stop.TooDeep read = read ≡ None
-Stops (stop.At left) read = read ≡ None
+Stops stop.TooDeep read = read ≡ Err stop.TooDeep
+Stops (stop.At left) read = read ≡ Err (stop.At left)
 
 -- What a call returned, seen by view, is what reading gives, unless memory ran out.
-abbrev pub Gives : {X Y : Type 0} → (X → Y) → Result X Stop → Option Y → Type 0
-Gives view (Ok x) read = read ≡ Some (view x)
+abbrev pub Gives : {X Y : Type 0} → (X → Y) → Result X Stop → Result Y Stop → Type 0
+Gives view (Ok x) read = read ≡ Ok (view x)
 Gives view (Err reason) read = Stops reason read
-
--- A call stops at the front of the tokens, of which so many are left, or for want of memory.
-abbrev pub StopsHere : {X : Type 0} → ℕ → Result X Stop → Type 0
-StopsHere left result = IfErr result (λ reason. (reason ≡ stop.At left) ⊎ (reason ≡ stop.Memory))
-
--- a tree is too deep, or too many are open, or memory ran out
-abbrev pub IsLimit : Stop → Type 0
-IsLimit stop.Memory = Unit {0}
-IsLimit stop.TooDeep = Unit {0}
-IsLimit (stop.At left) = ⊥
 
 -- one step, and then the next with what it gave
 infixl 10 ◌>>=◌
-abbrev pub ◌>>=◌ : {A B : Type 0} → Option A → (A → Option B) → Option B
-None >>= f = None
-(Some x) >>= f = f x
+abbrev pub ◌>>=◌ : {A B : Type 0} → Result A Stop → (A → Result B Stop) → Result B Stop
+(Err reason) >>= f = Err reason
+(Ok x) >>= f = f x
+
+-- reading stops at the front of these tokens
+abbrev pub stops_at : {A : Type 0} → List Terminal → Result A Stop
+stops_at ts = Err (stop.At (length ts))
+
+-- what is there, or reading stops at the front of these tokens
+abbrev pub needed : {A : Type 0} → List Terminal → Option A → Result A Stop
+needed ts None = stops_at ts
+needed ts (Some x) = Ok x
 
 -- one way where something is there, and another where it isn't
 abbrev pub choose : {A B : Type 0} → Option A → (A → B) → B → B
@@ -91,10 +90,14 @@ abbrev pub behind : (Terminal → Bool) → List Terminal → Option (List Termi
 behind passes [] = None
 behind passes (t ∷ ts) = if passes t then Some ts else None
 
+-- what stands behind a token that has to be there
+abbrev pub past : (Terminal → Bool) → List Terminal → Result (List Terminal) Stop
+past passes ts = needed ts (behind passes ts)
+
 -- the name that the token is, in lower case
 abbrev pub name_at : List Terminal → Reads (List ℕ)
-name_at (terminal.name n ∷ ts) = Some (lower n, ts)
-name_at _ = None
+name_at (terminal.name n ∷ ts) = Ok (lower n, ts)
+name_at ts = stops_at ts
 
 -- a name is at the front
 abbrev pub begins_name : List Terminal → Bool
@@ -103,13 +106,13 @@ begins_name _ = false
 
 -- the text that the token is, without its quotes
 abbrev pub text_at : List Terminal → Reads (List ℕ)
-text_at (terminal.text t ∷ ts) = Some (undoubled t, ts)
-text_at _ = None
+text_at (terminal.text t ∷ ts) = Ok (undoubled t, ts)
+text_at ts = stops_at ts
 
 -- an integer that needs no minus
 abbrev pub integer_at : List Terminal → Reads ℕ
-integer_at (terminal.integer n ∷ ts) = if nat_le n 9223372036854775807 then Some (n, ts) else None
-integer_at _ = None
+integer_at (terminal.integer n ∷ ts) = if nat_le n 9223372036854775807 then Ok (n, ts) else stops_at (terminal.integer n ∷ ts)
+integer_at ts = stops_at ts
 
 -- the number that the token's digits make
 abbrev pub digits_of : Terminal → Option ℕ
@@ -164,9 +167,9 @@ distinct_of aggregate.Sum = Some aggregate.SumDistinct
 distinct_of _ = None
 
 -- what a token is, and the tokens behind it
-abbrev pub first_is : {A : Type 0} → (Terminal → Option A) → List Terminal → Reads A
+abbrev pub first_is : {A : Type 0} → (Terminal → Option A) → List Terminal → Option (A × List Terminal)
 first_is is [] = None
-first_is is (t ∷ ts) = is t >>= (λ a. Some (a, ts))
+first_is is (t ∷ ts) = choose (is t) (λ a. Some (a, ts)) None
 
 -- the token is one that begins such a table, and such a one is at the front
 abbrev pub names_other : Terminal → Bool
@@ -179,30 +182,30 @@ begins_other (t ∷ ts) = names_other t
 -- ---- nodes
 
 -- one more than the depth, where that is allowed
-abbrev pub deeper : ℕ → ℕ → Option ℕ
-deeper most deepest = if nat_lt deepest most then Some (deepest + 1) else None
+abbrev pub deeper : ℕ → ℕ → Result ℕ Stop
+deeper most deepest = if nat_lt deepest most then Ok (deepest + 1) else Err stop.TooDeep
 
 -- a node whose deepest part is so deep
-abbrev pub node : ℕ → ℕ → Expr → Option Parsed
-node most deepest e = deeper most deepest >>= (λ d. Some (record { expr = e; depth = d }))
+abbrev pub node : ℕ → ℕ → Expr → Result Parsed Stop
+node most deepest e = deeper most deepest >>= (λ d. Ok (record { expr = e; depth = d }))
 
 -- a node without parts
 abbrev pub leaf : Expr → Parsed
 leaf e = record { expr = e; depth = 1 }
 
 -- a node, and the tokens behind it
-abbrev pub then_left : Option Parsed → List Terminal → Reads Parsed
-then_left p ts = p >>= (λ x. Some (x, ts))
+abbrev pub then_left : Result Parsed Stop → List Terminal → Reads Parsed
+then_left p ts = p >>= (λ x. Ok (x, ts))
 
 -- ---- repeated operators
 
 -- operators of a rule behind an operand, each with the one behind it, fewer than n of them
 abbrev pub more_of : ℕ → ℕ → Level → Reader → Parsed → Reader
-more_of zero most l operand a ts = None
+more_of zero most l operand a ts = Err stop.TooDeep
 more_of (suc n) most l operand a ts =
     choose (first_is (operator_of l) ts)
     (λ o. operand o.1 >>= (λ b. node most (max a.depth b.0.depth) (node_of o.0 a.expr b.0.expr) >>= (λ c. more_of n most l operand c b.1)))
-    (Some (a, ts))
+    (Ok (a, ts))
 
 -- An operand, and others behind operators. There are no more of them than tokens.
 abbrev pub chain_of : ℕ → Level → Reader → Reader
@@ -232,16 +235,16 @@ with_arm cs arm = record { arms = cs.arms ++ arm.0 ∷ []; deepest = max cs.deep
 
 -- an expression, and a token behind it
 abbrev pub before_of : (Terminal → Bool) → (Level → Reader) → Reader
-before_of passes inner ts = inner level.Disjunction ts >>= (λ x. behind passes x.1 >>= (λ rest. Some (x.0, rest)))
+before_of passes inner ts = inner level.Disjunction ts >>= (λ x. past passes x.1 >>= (λ rest. Ok (x.0, rest)))
 
 -- an expression, put behind others
 abbrev pub entry_of : (Level → Reader) → Listed → List Terminal → Reads Listed
-entry_of inner before ts = inner level.Disjunction ts >>= (λ x. Some (with_entry before x.0, x.1))
+entry_of inner before ts = inner level.Disjunction ts >>= (λ x. Ok (with_entry before x.0, x.1))
 
 -- expressions behind commas, fewer than n of them, put behind others
 abbrev pub more_entries : ℕ → (Level → Reader) → Listed → List Terminal → Reads Listed
-more_entries zero inner before ts = None
-more_entries (suc n) inner before ts = choose (behind (is_sign sign.Comma) ts) (λ us. entry_of inner before us >>= (λ x. more_entries n inner x.0 x.1)) (Some (before, ts))
+more_entries zero inner before ts = Err stop.TooDeep
+more_entries (suc n) inner before ts = choose (behind (is_sign sign.Comma) ts) (λ us. entry_of inner before us >>= (λ x. more_entries n inner x.0 x.1)) (Ok (before, ts))
 
 -- expressions with commas between; there are no more of them than tokens
 abbrev pub list_at : (Level → Reader) → Listed → List Terminal → Reads Listed
@@ -249,29 +252,29 @@ list_at inner before ts = entry_of inner before ts >>= (λ x. more_entries (suc 
 
 -- and the bracket that closes them
 abbrev pub closed_list_of : (Level → Reader) → Listed → List Terminal → Reads Listed
-closed_list_of inner before ts = list_at inner before ts >>= (λ es. behind (is_sign sign.Close) es.1 >>= (λ rest. Some (es.0, rest)))
+closed_list_of inner before ts = list_at inner before ts >>= (λ es. past (is_sign sign.Close) es.1 >>= (λ rest. Ok (es.0, rest)))
 
 -- expressions in brackets, with commas between
 abbrev pub bracketed_list : (Level → Reader) → List Terminal → Reads Listed
-bracketed_list inner ts = behind (is_sign sign.Open) ts >>= closed_list_of inner (record { exprs = []; deepest = 0 })
+bracketed_list inner ts = past (is_sign sign.Open) ts >>= closed_list_of inner (record { exprs = []; deepest = 0 })
 
 -- THEN and the value
 abbrev pub then_of : (Level → Reader) → Reader
-then_of inner ts = behind (is_keyword keyword.Then) ts >>= inner level.Disjunction
+then_of inner ts = past (is_keyword keyword.Then) ts >>= inner level.Disjunction
 
 -- an arm behind its WHEN, and the depth of its deeper expression
 abbrev pub arm_of : (Level → Reader) → List Terminal → Reads (Arm × ℕ)
 arm_of inner ts =
-    inner level.Disjunction ts >>= (λ c. then_of inner c.1 >>= (λ v. Some ((record { condition = c.0.expr; value = v.0.expr }, max c.0.depth v.0.depth), v.1)))
+    inner level.Disjunction ts >>= (λ c. then_of inner c.1 >>= (λ v. Ok ((record { condition = c.0.expr; value = v.0.expr }, max c.0.depth v.0.depth), v.1)))
 
 -- an arm, put behind others
 abbrev pub arm_at : (Level → Reader) → Cases → List Terminal → Reads Cases
-arm_at inner before ts = arm_of inner ts >>= (λ x. Some (with_arm before x.0, x.1))
+arm_at inner before ts = arm_of inner ts >>= (λ x. Ok (with_arm before x.0, x.1))
 
 -- arms, each with its WHEN, fewer than n of them, put behind others
 abbrev pub more_arms : ℕ → (Level → Reader) → Cases → List Terminal → Reads Cases
-more_arms zero inner before ts = None
-more_arms (suc n) inner before ts = choose (behind (is_keyword keyword.When) ts) (λ us. arm_at inner before us >>= (λ x. more_arms n inner x.0 x.1)) (Some (before, ts))
+more_arms zero inner before ts = Err stop.TooDeep
+more_arms (suc n) inner before ts = choose (behind (is_keyword keyword.When) ts) (λ us. arm_at inner before us >>= (λ x. more_arms n inner x.0 x.1)) (Ok (before, ts))
 
 -- an arm behind its WHEN, and others
 abbrev pub arms_at : (Level → Reader) → Cases → List Terminal → Reads Cases
@@ -279,23 +282,23 @@ arms_at inner before ts = arm_at inner before ts >>= (λ x. more_arms (suc (leng
 
 -- ELSE, or nothing, and END; ELSE NULL is the same as nothing
 abbrev pub without_value : List Terminal → Reads (Option Parsed)
-without_value ts = behind (is_keyword keyword.End) ts >>= (λ rest. Some (None, rest))
+without_value ts = past (is_keyword keyword.End) ts >>= (λ rest. Ok (None, rest))
 
 abbrev pub else_of : (Level → Reader) → List Terminal → Reads (Option Parsed)
 else_of inner ts =
     choose (behind (is_keyword keyword.Else) ts)
-    (λ us. choose (behind (is_keyword keyword.Null) us) without_value (before_of (is_keyword keyword.End) inner us >>= (λ v. Some (Some v.0, v.1))))
+    (λ us. choose (behind (is_keyword keyword.Null) us) without_value (before_of (is_keyword keyword.End) inner us >>= (λ v. Ok (Some v.0, v.1))))
     (without_value ts)
 
 -- the tree of CASE
-abbrev pub case_node : ℕ → Cases → Option Parsed → Option Parsed
+abbrev pub case_node : ℕ → Cases → Option Parsed → Result Parsed Stop
 case_node most cs None = node most cs.deepest (expr.Case cs.arms None)
 case_node most cs (Some v) = node most (max cs.deepest v.depth) (expr.Case cs.arms (Some v.expr))
 
 -- CASE, behind that word
 abbrev pub case_of : ℕ → ℕ → (Level → Reader) → Reader
 case_of most left inner ts =
-    behind (is_keyword keyword.When) ts >>= (λ us. arms_at inner (record { arms = []; deepest = 0 }) us
+    past (is_keyword keyword.When) ts >>= (λ us. arms_at inner (record { arms = []; deepest = 0 }) us
     >>= (λ cs. else_of inner cs.1 >>= (λ v. then_left (case_node most cs.0 v.0) v.1)))
 
 -- the expression in an aggregate's brackets
@@ -304,7 +307,7 @@ argument_of most left inner k ts = before_of (is_sign sign.Close) inner ts >>= (
 
 -- behind `*` in the brackets of COUNT
 abbrev pub rows_of : ℕ → List Terminal → Reads Parsed
-rows_of left ts = behind (is_sign sign.Close) ts >>= (λ rest. if nat_lt 0 left then Some (leaf expr.CountRows, rest) else None)
+rows_of left ts = past (is_sign sign.Close) ts >>= (λ rest. if nat_lt 0 left then Ok (leaf expr.CountRows, rest) else Err stop.TooDeep)
 
 -- the token leads on to COUNT(*)
 abbrev pub behind_star : Aggregate → List Terminal → Option (List Terminal)
@@ -312,8 +315,8 @@ behind_star aggregate.Count ts = behind (is_sign sign.Star) ts
 behind_star k ts = None
 
 -- DISTINCT leads on, and makes another aggregate
-abbrev pub behind_distinct : Aggregate → List Terminal → Reads Aggregate
-behind_distinct k ts = distinct_of k >>= (λ d. behind (is_keyword keyword.Distinct) ts >>= (λ rest. Some (d, rest)))
+abbrev pub behind_distinct : Aggregate → List Terminal → Option (Aggregate × List Terminal)
+behind_distinct k ts = choose (distinct_of k) (λ d. choose (behind (is_keyword keyword.Distinct) ts) (λ rest. Some (d, rest)) None) None
 
 -- in an aggregate's brackets
 abbrev pub inside_of : ℕ → ℕ → (Level → Reader) → Aggregate → Reader
@@ -321,7 +324,7 @@ inside_of most left inner k ts = choose (behind_distinct k ts) (λ d. argument_o
 
 -- an aggregate, behind its name
 abbrev pub aggregate_at : ℕ → ℕ → (Level → Reader) → Aggregate → Reader
-aggregate_at most left inner k ts = behind (is_sign sign.Open) ts >>= (λ us. choose (behind_star k us) (rows_of left) (inside_of most left inner k us))
+aggregate_at most left inner k ts = past (is_sign sign.Open) ts >>= (λ us. choose (behind_star k us) (rows_of left) (inside_of most left inner k us))
 
 -- COALESCE, behind that word
 abbrev pub coalesce_of : ℕ → ℕ → (Level → Reader) → Reader
@@ -329,37 +332,37 @@ coalesce_of most left inner ts = bracketed_list inner ts >>= (λ es. then_left (
 
 -- a text
 abbrev pub literal_at : Reader
-literal_at ts = text_at ts >>= (λ t. Some (leaf (expr.Text t.0), t.1))
+literal_at ts = text_at ts >>= (λ t. Ok (leaf (expr.Text t.0), t.1))
 
 -- a column, behind its table's name or without it
 abbrev pub column_of : List ℕ → Reader
-column_of table ts = name_at ts >>= (λ n. Some (leaf (expr.Column (Some table) n.0), n.1))
+column_of table ts = name_at ts >>= (λ n. Ok (leaf (expr.Column (Some table) n.0), n.1))
 
 abbrev pub column_at : Reader
-column_at ts = name_at ts >>= (λ n. choose (behind (is_sign sign.Dot) n.1) (column_of n.0) (Some (leaf (expr.Column None n.0), n.1)))
+column_at ts = name_at ts >>= (λ n. choose (behind (is_sign sign.Dot) n.1) (column_of n.0) (Ok (leaf (expr.Column None n.0), n.1)))
 
 -- what begins with a keyword
 abbrev pub call_of : ℕ → ℕ → (Level → Reader) → Keyword → Reader
 call_of most left inner keyword.Case ts = case_of most left inner ts
 call_of most left inner keyword.Coalesce ts = coalesce_of most left inner ts
-call_of most left inner k ts = aggregate_of k >>= (λ a. aggregate_at most left inner a ts)
+call_of most left inner k ts = needed (terminal.keyword k ∷ ts) (aggregate_of k) >>= (λ a. aggregate_at most left inner a ts)
 
 abbrev pub primary_of : ℕ → ℕ → (Level → Reader) → Reader
 primary_of most left inner (terminal.text t ∷ ts) = literal_at (terminal.text t ∷ ts)
 primary_of most left inner (terminal.name n ∷ ts) = column_at (terminal.name n ∷ ts)
 primary_of most left inner (terminal.keyword k ∷ ts) = call_of most left inner k ts
 primary_of most left inner (terminal.sign_is sign.Open ∷ ts) = before_of (is_sign sign.Close) inner ts
-primary_of most left inner _ = None
+primary_of most left inner ts = stops_at ts
 
 -- A minus and the integer right behind it are one literal.
 abbrev pub minus_of : ℕ → ℕ → (Level → Reader) → Reader
 minus_of most left inner ts =
-    choose (first_is digits_of ts) (λ n. negative n.0 >>= (λ z. Some (leaf (expr.Integer z), n.1)))
+    choose (first_is digits_of ts) (λ n. needed ts (negative n.0) >>= (λ z. Ok (leaf (expr.Integer z), n.1)))
     (inner level.Factor ts >>= (λ a. then_left (node most a.0.depth (expr.Minus a.0.expr)) a.1))
 
 abbrev pub factor_of : ℕ → ℕ → (Level → Reader) → Reader
 factor_of most left inner (terminal.sign_is sign.Minus ∷ ts) = minus_of most left inner ts
-factor_of most left inner (terminal.integer n ∷ ts) = positive n >>= (λ z. Some (leaf (expr.Integer z), ts))
+factor_of most left inner (terminal.integer n ∷ ts) = needed (terminal.integer n ∷ ts) (positive n) >>= (λ z. Ok (leaf (expr.Integer z), ts))
 factor_of most left inner ts = primary_of most left inner ts
 
 abbrev pub term_of : ℕ → ℕ → (Level → Reader) → Reader
@@ -375,11 +378,11 @@ compare_of most left inner a op ts = sum_of most left inner ts >>= (λ b. then_l
 
 -- AND and the bound behind it
 abbrev pub high_of : ℕ → ℕ → (Level → Reader) → Reader
-high_of most left inner ts = behind (is_keyword keyword.And) ts >>= sum_of most left inner
+high_of most left inner ts = past (is_keyword keyword.And) ts >>= sum_of most left inner
 
 -- the bounds behind BETWEEN
 abbrev pub bounds_of : ℕ → ℕ → (Level → Reader) → List Terminal → Reads (Parsed × Parsed)
-bounds_of most left inner ts = sum_of most left inner ts >>= (λ low. high_of most left inner low.1 >>= (λ high. Some ((low.0, high.0), high.1)))
+bounds_of most left inner ts = sum_of most left inner ts >>= (λ low. high_of most left inner low.1 >>= (λ high. Ok ((low.0, high.0), high.1)))
 
 abbrev pub between_of : ℕ → ℕ → (Level → Reader) → Parsed → Bool → Reader
 between_of most left inner a not ts =
@@ -390,7 +393,7 @@ in_of most left inner a not ts = bracketed_list inner ts >>= (λ es. then_left (
 
 -- LIKE and its pattern
 abbrev pub pattern_at : List Terminal → Reads (List ℕ)
-pattern_at ts = behind (is_keyword keyword.Like) ts >>= text_at
+pattern_at ts = past (is_keyword keyword.Like) ts >>= text_at
 
 abbrev pub like_test : ℕ → Parsed → Bool → Reader
 like_test most a not ts = pattern_at ts >>= (λ t. then_left (node most a.depth (expr.Like not a.expr t.0)) t.1)
@@ -412,7 +415,7 @@ begins_test (t ∷ ts) = names_test t
 
 -- [NOT] NULL, behind IS
 abbrev pub null_of : ℕ → Parsed → Bool → Reader
-null_of most a not ts = behind (is_keyword keyword.Null) ts >>= (λ rest. then_left (node most a.depth (expr.IsNull not a.expr)) rest)
+null_of most a not ts = past (is_keyword keyword.Null) ts >>= (λ rest. then_left (node most a.depth (expr.IsNull not a.expr)) rest)
 
 abbrev pub is_of : ℕ → Parsed → Reader
 is_of most a ts = choose (behind (is_keyword keyword.Not) ts) (null_of most a true) (null_of most a false ts)
@@ -423,7 +426,7 @@ test_of most left inner a ts =
     choose (first_is comparison_of ts) (λ op. compare_of most left inner a op.0 op.1)
     (choose (behind (is_keyword keyword.Is) ts) (is_of most a)
     (choose (behind (is_keyword keyword.Not) ts) (named_test most left inner a true)
-    (if begins_test ts then named_test most left inner a false ts else Some (a, ts))))
+    (if begins_test ts then named_test most left inner a false ts else Ok (a, ts))))
 
 -- ---- the weaker rules
 
@@ -453,7 +456,7 @@ rule_of most left inner level.Primary = primary_of most left inner
 
 -- an expression of a rule behind what opens it, where so many may still be opened
 unfoldable pub inner_at : ℕ → ℕ → Level → Reader
-inner_at most zero l ts = None
+inner_at most zero l ts = Err stop.TooDeep
 inner_at most (suc n) l ts = rule_of most n (inner_at most n) l ts
 
 -- an expression of a rule, where so many may still be opened

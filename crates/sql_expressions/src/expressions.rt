@@ -7,8 +7,9 @@ ghost use Rattle.sql_syntax.specs.Strength.{rank};
 ghost use Rattle.sql_syntax.specs.declared.keyword.Keyword.TheVariants as keyword;
 ghost use Rattle.sql_syntax.specs.declared.token.Sign.TheVariants as sign;
 ghost use Rattle.sql_expressions.specs.declared.parsed.Parsed.{Parsed as Made};
+ghost use Rattle.sql_expressions.specs.declared.stop.Stop.{Stop as Reason};
 ghost use Rattle.sql_expressions.specs.declared.stop.Stop.TheVariants.{TooDeep};
-ghost use Rattle.std.specs.Prelude.{Err, IfOk, Option, IfSome, length, option_map, ◌<◌, ◌≡◌, ◌≤◌};
+ghost use Rattle.std.specs.Prelude.{Err, IfOk, IfSome, Result, length, option_map, ◌<◌, ◌≡◌, ◌≤◌};
 
 use crate::parsed::{
     Parsed, aggregate, among, between, case, coalesce, compare, is_null, joined, leaf, like, minus,
@@ -29,7 +30,7 @@ fn with_rest<'a, 'b>(
     made: Result<Parsed, Stop>,
     rest: &'a [Lexeme<'b>],
 ) -> Result<(Parsed, &'a [Lexeme<'b>]), Stop>
-    ensures reads { (meant : Option Made) → Gives (λ p. p) made meant
+    ensures reads { (meant : Result Made Reason) → Gives (λ p. p) made meant
         → Gives (λ x. (x.0, terms x.1.now)) result (then_left meant (terms rest.now)) }
     ensures behind { IfOk result (λ x. x.1.now ≡ rest.now) }
 {

@@ -1,8 +1,8 @@
 //! Expressions with their depth, made of parts that were read before.
-ghost use Rattle.sql_expressions.specs.Rules.{Gives, IsLimit, case_node, deeper, leaf, negative, node, positive};
+ghost use Rattle.sql_expressions.specs.Rules.{Gives, case_node, deeper, leaf, negative, node, positive};
 ghost use Rattle.sql_syntax.specs.Strength.{node_of};
 ghost use Rattle.sql_syntax.specs.declared.tree.Expr.TheVariants as expr;
-ghost use Rattle.std.specs.Prelude.{◌≡◌, IfErr, IfOk, IsOkUnless, max};
+ghost use Rattle.std.specs.Prelude.{◌≡◌, IfOk, IsOkUnless, max};
 ghost use Rattle.sql_expressions.specs.declared.stop.Stop.TheVariants.{TooDeep};
 
 use crate::stop::Stop;
@@ -81,7 +81,6 @@ fn boxed_pair(
 
 pub fn aggregate(alloc: Global, kind: Aggregate, argument: Parsed) -> Result<Parsed, Stop>
     ensures reads { Gives (λ p. p) result (node 128 argument.depth (expr.Aggregate kind argument.expr)) }
-    ensures stops { IfErr result IsLimit }
 {
     let depth = argument.depth;
     let argument = Boxed::new(alloc, argument.expr)?;
@@ -90,7 +89,6 @@ pub fn aggregate(alloc: Global, kind: Aggregate, argument: Parsed) -> Result<Par
 
 pub fn minus(alloc: Global, operand: Parsed) -> Result<Parsed, Stop>
     ensures reads { Gives (λ p. p) result (node 128 operand.depth (expr.Minus operand.expr)) }
-    ensures stops { IfErr result IsLimit }
 {
     let depth = operand.depth;
     let operand = Boxed::new(alloc, operand.expr)?;
@@ -99,7 +97,6 @@ pub fn minus(alloc: Global, operand: Parsed) -> Result<Parsed, Stop>
 
 pub fn not(alloc: Global, operand: Parsed) -> Result<Parsed, Stop>
     ensures reads { Gives (λ p. p) result (node 128 operand.depth (expr.Not operand.expr)) }
-    ensures stops { IfErr result IsLimit }
 {
     let depth = operand.depth;
     let operand = Boxed::new(alloc, operand.expr)?;
@@ -129,7 +126,6 @@ pub fn joined(
 ) -> Result<Parsed, Stop>
     ensures reads { Gives (λ p. p) result
         (node 128 (max left.depth right.depth) (node_of operator left.expr right.expr)) }
-    ensures stops { IfErr result IsLimit }
 {
     let depth = left.depth.max(right.depth);
     let (left, right) = boxed_pair(alloc, left.expr, right.expr)?;
@@ -144,7 +140,6 @@ pub fn compare(
 ) -> Result<Parsed, Stop>
     ensures reads { Gives (λ p. p) result
         (node 128 (max left.depth right.depth) (expr.Compare operator left.expr right.expr)) }
-    ensures stops { IfErr result IsLimit }
 {
     let depth = left.depth.max(right.depth);
     let (left, right) = boxed_pair(alloc, left.expr, right.expr)?;
@@ -168,7 +163,6 @@ pub fn between(
     ensures reads { Gives (λ p. p) result
         (node 128 (max subject.depth (max low.depth high.depth))
         (expr.Between negated subject.expr low.expr high.expr)) }
-    ensures stops { IfErr result IsLimit }
 {
     let depth = subject.depth.max(low.depth.max(high.depth));
     let bounds = boxed_pair(alloc, low.expr, high.expr);
@@ -205,7 +199,6 @@ pub fn among(
 ) -> Result<Parsed, Stop>
     ensures reads { Gives (λ p. p) result
         (node 128 (max subject.depth deepest) (expr.In negated subject.expr entries)) }
-    ensures stops { IfErr result IsLimit }
 {
     let depth = subject.depth.max(deepest);
     match Boxed::new(alloc, subject.expr) {
@@ -227,7 +220,6 @@ pub fn among(
 pub fn like(alloc: Global, negated: bool, subject: Parsed, pattern: Text) -> Result<Parsed, Stop>
     ensures reads { Gives (λ p. p) result
         (node 128 subject.depth (expr.Like negated subject.expr pattern)) }
-    ensures stops { IfErr result IsLimit }
 {
     let depth = subject.depth;
     let subject = Boxed::new(alloc, subject.expr)?;
@@ -243,7 +235,6 @@ pub fn like(alloc: Global, negated: bool, subject: Parsed, pattern: Text) -> Res
 
 pub fn is_null(alloc: Global, negated: bool, subject: Parsed) -> Result<Parsed, Stop>
     ensures reads { Gives (λ p. p) result (node 128 subject.depth (expr.IsNull negated subject.expr)) }
-    ensures stops { IfErr result IsLimit }
 {
     let depth = subject.depth;
     let subject = Boxed::new(alloc, subject.expr)?;
@@ -266,7 +257,6 @@ pub fn case(
 ) -> Result<Parsed, Stop>
     ensures reads { Gives (λ p. p) result
         (case_node 128 (record { arms = arms; deepest = deepest }) otherwise) }
-    ensures stops { IfErr result IsLimit }
 {
     let Some(value) = otherwise else {
         return node(

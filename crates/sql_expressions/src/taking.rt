@@ -1,5 +1,5 @@
 //! Single tokens, taken from the front of those that are left.
-ghost use Rattle.sql_expressions.specs.Rules.{Gives, StopsHere, aggregate_of, begins_integer, begins_name, begins_other, begins_test, behind, comparison_of, digits_of, distinct_of, first_is, integer_at, is_keyword, is_sign, name_at, names_other, names_test, operator_of, terms, text_at};
+ghost use Rattle.sql_expressions.specs.Rules.{Gives, aggregate_of, begins_integer, begins_name, begins_other, begins_test, behind, comparison_of, digits_of, distinct_of, first_is, integer_at, is_keyword, is_sign, name_at, names_other, names_test, operator_of, past, terms, text_at};
 ghost use Rattle.sql_syntax.specs.Phrases.{undoubled};
 ghost use Rattle.sql_syntax.specs.Tokens.{terminal_of};
 ghost use Rattle.sql_syntax.specs.Words.{lower};
@@ -12,8 +12,9 @@ use sql_syntax::{Aggregate, Keyword, Level, Lexeme, Operator, Sign, Token, push_
 use std::alloc::{AllocError, Global};
 
 /// A token isn't expected at the front, or the end isn't.
+#[tactic(auto, using(crate::proofs::Chains::length_terms))]
 pub fn stop_at(lexemes: &[Lexeme<'_>]) -> Stop
-    ensures { result ≡ At (length lexemes.now) }
+    ensures { result ≡ At (length (terms lexemes.now)) }
 {
     Stop::At(lexemes.len())
 }
@@ -66,9 +67,9 @@ pub fn past_keyword<'a, 'b>(
     keyword: Keyword,
 ) -> Result<&'a [Lexeme<'b>], Stop>
     ensures reads { Gives (λ x. terms x.now) result
-        (behind (is_keyword keyword) (terms lexemes.now)) }
+        (past (is_keyword keyword) (terms lexemes.now)) }
     ensures shorter { IfOk result (λ x. length x.now < length lexemes.now) }
-    ensures stops { IsOkUnless result (At (length lexemes.now)) }
+    ensures stops { IsOkUnless result (At (length (terms lexemes.now))) }
 {
     match if_keyword(lexemes, keyword) {
         Some(rest) => Ok(rest),
@@ -78,9 +79,9 @@ pub fn past_keyword<'a, 'b>(
 
 /// What stands behind a sign, which has to be at the front.
 pub fn past_sign<'a, 'b>(lexemes: &'a [Lexeme<'b>], sign: Sign) -> Result<&'a [Lexeme<'b>], Stop>
-    ensures reads { Gives (λ x. terms x.now) result (behind (is_sign sign) (terms lexemes.now)) }
+    ensures reads { Gives (λ x. terms x.now) result (past (is_sign sign) (terms lexemes.now)) }
     ensures shorter { IfOk result (λ x. length x.now < length lexemes.now) }
-    ensures stops { IsOkUnless result (At (length lexemes.now)) }
+    ensures stops { IsOkUnless result (At (length (terms lexemes.now))) }
 {
     match if_sign(lexemes, sign) {
         Some(rest) => Ok(rest),
@@ -109,7 +110,6 @@ pub fn name<'a, 'b>(
 ) -> Result<(Text, &'a [Lexeme<'b>]), Stop>
     ensures reads { Gives (λ x. (x.0, terms x.1.now)) result (name_at (terms lexemes.now)) }
     ensures shorter { IfOk result (λ x. length x.1.now < length lexemes.now) }
-    ensures stops { StopsHere (length lexemes.now) result }
 {
     let Some((first, rest)) = lexemes.split_first() else {
         return Err(stop_at(lexemes));
@@ -127,7 +127,6 @@ pub fn text<'a, 'b>(
 ) -> Result<(Text, &'a [Lexeme<'b>]), Stop>
     ensures reads { Gives (λ x. (x.0, terms x.1.now)) result (text_at (terms lexemes.now)) }
     ensures shorter { IfOk result (λ x. length x.1.now < length lexemes.now) }
-    ensures stops { StopsHere (length lexemes.now) result }
 {
     let Some((first, rest)) = lexemes.split_first() else {
         return Err(stop_at(lexemes));
@@ -142,7 +141,7 @@ pub fn text<'a, 'b>(
 pub fn integer<'a, 'b>(lexemes: &'a [Lexeme<'b>]) -> Result<(u64, &'a [Lexeme<'b>]), Stop>
     ensures reads { Gives (λ x. (x.0, terms x.1.now)) result (integer_at (terms lexemes.now)) }
     ensures shorter { IfOk result (λ x. length x.1.now < length lexemes.now) }
-    ensures stops { IsOkUnless result (At (length lexemes.now)) }
+    ensures stops { IsOkUnless result (At (length (terms lexemes.now))) }
 {
     let Some((first, rest)) = lexemes.split_first() else {
         return Err(stop_at(lexemes));

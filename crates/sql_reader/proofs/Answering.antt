@@ -1,13 +1,13 @@
 -- What is read of a text is its tree, and the refusal that is returned stands in it.
-use Rattle.std.proofs.Common.{◌≡◌, ◌⊎◌, ℕ, zero, suc, ◌-◌, ◌<◌, ◌≤◌, Bool, true, false, cond, List, [], ◌∷◌, ◌++◌, length, get_or, take, drop, Option, Some, None, Result, Ok, Err, IsUtf8, refl, sym, ap, ◌∙◌, subst, arith, inl, inr}
+use Rattle.std.proofs.Common.{◌≡◌, ◌⊎◌, ℕ, zero, suc, ◌-◌, ◌<◌, ◌≤◌, Bool, true, false, cond, List, [], ◌∷◌, length, get_or, drop, Result, Ok, Err, IsUtf8, refl, sym, ap, ◌∙◌, subst, arith, inl, inr}
 use Rattle.std.specs.Prelude.{nat_le, IfOk, IfErr}
-use Rattle.std.proofs.lemmas.List.{take-append-drop}
+use Rattle.std.proofs.lemmas.List.{length-map}
 use Rattle.std.specs.Result.{IsErr, IsErrAnd}
 use Rattle.meaning.specs.Limits.{max_query_bytes}
 use Rattle.sql_syntax.specs.declared.token.Lexeme.{Lexeme}
 use Rattle.sql_syntax.specs.declared.tree.Query.{Query}
 use Rattle.sql_syntax.specs.Tokens as terminal
-use Rattle.sql_syntax.specs.Tokens.{Terminal, Located, all_located, terminals, terminal_of, tokens_of}
+use Rattle.sql_syntax.specs.Tokens.{Terminal, Located, all_located, located, terminals, terminal_of, tokens_of}
 use Rattle.sql_syntax.specs.Queries.{open_in_query}
 use Rattle.sql_syntax.specs.Canonical.{canonical}
 use Rattle.sql_reader.specs.declared.fault.SqlFault.{SqlFault}
@@ -16,8 +16,8 @@ use Rattle.sql_expressions.specs.declared.stop.Stop.{Stop}
 use Rattle.sql_expressions.specs.declared.stop.Stop.TheVariants as stop
 use Rattle.sql_expressions.specs.Rules.{terms, Stops}
 use Rattle.sql_reader.specs.Rules.{query_at, within}
-use Rattle.sql_reader.specs.Grammar.{IsTree, IsShallow, IsWithin, GivesQuery, refusal, refusal_at, StandsIn, HasNone, IsRefusal}
-use Rattle.sql_reader.specs.Refusing.{Reports, refusal_of, IsReturned, IsKept, Refuses, no_memory, no_query, too_long, IsAnswer}
+use Rattle.sql_reader.specs.Grammar.{IsTree, IsShallow, IsWithin, GivesQuery, refusal, refusal_at, refusal_of, HasNone, StopsAs, IsRefusal}
+use Rattle.sql_reader.specs.Refusing.{Reports, IsKept, Refuses, no_memory, no_query, too_long, IsAnswer}
 use Rattle.sql_reader.proofs.CompleteQuery.{complete_query, unique_query}
 use Rattle.sql_reader.proofs.SoundQuery.{query_sound}
 
@@ -39,17 +39,8 @@ end_here end (suc i) [] h = refl
 end_here end zero (x ∷ ls) h = absurd (omega arith)
 end_here end (suc i) (x ∷ ls) h = end_here end i ls (omega arith)
 
--- the refusal from an index on stands in the tokens
-returned_from : (end i : ℕ) (ps : List Located) (returned : SqlFault) → Reports returned (refusal_at end (drop i ps)) → IsReturned end ps returned
-returned_from end i ps fault.Memory e = tt
-returned_from end i ps fault.TooDeep e = tt
-returned_from end i ps fault.NotUtf8 e = record { front = take i ps; rest = drop i ps; parts = sym (take-append-drop i ps); reports = e }
-returned_from end i ps fault.TooLong e = record { front = take i ps; rest = drop i ps; parts = sym (take-append-drop i ps); reports = e }
-returned_from end i ps (fault.UnknownCharacter at) e = record { front = take i ps; rest = drop i ps; parts = sym (take-append-drop i ps); reports = e }
-returned_from end i ps (fault.TextNotClosed at) e = record { front = take i ps; rest = drop i ps; parts = sym (take-append-drop i ps); reports = e }
-returned_from end i ps (fault.IntegerOutOfRange at) e = record { front = take i ps; rest = drop i ps; parts = sym (take-append-drop i ps); reports = e }
-returned_from end i ps (fault.UnexpectedToken at) e = record { front = take i ps; rest = drop i ps; parts = sym (take-append-drop i ps); reports = e }
-returned_from end i ps (fault.LeftOut at w) e = record { front = take i ps; rest = drop i ps; parts = sym (take-append-drop i ps); reports = e }
+pub length_located : (ls : List Lexeme) → length (all_located ls) ≡ length ls
+length_located ls = length-map ls located
 
 -- what is returned is what is meant, or memory ran out
 meant_or_memory : (returned meant : SqlFault) → Reports returned meant → (returned ≡ fault.Memory) ⊎ (meant ≡ returned)
@@ -69,13 +60,13 @@ terminals_terms (l ∷ ls) = ap (λ (ts : List Terminal). terminal_of l.token �
 
 -- ---- what the tokens give
 
-read_as : (ls : List Lexeme) (r : Option Query) → query_at within (terms ls) ≡ r → query_at within (terminals (all_located ls)) ≡ r
+read_as : (ls : List Lexeme) (r : Result Query Stop) → query_at within (terms ls) ≡ r → query_at within (terminals (all_located ls)) ≡ r
 read_as ls r e = ap (query_at within) (terminals_terms ls) ∙ e
 
-pub kept_answers : (end : ℕ) (ls : List Lexeme) (q : Query) (r : Result Query SqlFault) → query_at within (terms ls) ≡ Some q → IsKept q r → IsAnswer end (all_located ls) r
-kept_answers end ls q (Ok r) e k = (read_as ls (Some r) (e ∙ ap (λ (x : Query). Some x) (sym k.0)), subst (λ (x : Query). length (canonical x) ≤ max_query_bytes) (sym k.0) k.1)
+pub kept_answers : (end : ℕ) (ls : List Lexeme) (q : Query) (r : Result Query SqlFault) → query_at within (terms ls) ≡ Ok q → IsKept q r → IsAnswer end (all_located ls) r
+kept_answers end ls q (Ok r) e k = (read_as ls (Ok r) (e ∙ ap (λ (x : Query). Ok x) (sym k.0)), subst (λ (x : Query). length (canonical x) ≤ max_query_bytes) (sym k.0) k.1)
 kept_answers end ls q (Err fault.Memory) e k = no_memory
-kept_answers end ls q (Err fault.TooLong) e k = too_long q (read_as ls (Some q) e) k
+kept_answers end ls q (Err fault.TooLong) e k = too_long q (read_as ls (Ok q) e) k
 kept_answers end ls q (Err fault.NotUtf8) e k = absurd k
 kept_answers end ls q (Err fault.TooDeep) e k = absurd k
 kept_answers end ls q (Err (fault.UnknownCharacter at)) e k = absurd k
@@ -89,10 +80,12 @@ refuses_or_memory : (end : ℕ) (ps : List Located) (returned meant : SqlFault) 
 refuses_or_memory end ps returned meant (inl m) r = subst (λ (x : SqlFault). Refuses end ps x) (sym m) no_memory
 refuses_or_memory end ps returned meant (inr e) r = subst (λ (x : SqlFault). Refuses end ps x) e r
 
-pub stopped_answers : (end : ℕ) (ls : List Lexeme) (reason : Stop) (returned : SqlFault) → Stops reason (query_at within (terms ls)) → Reports returned (refusal_of end ls reason) → Refuses end (all_located ls) returned
+pub stopped_answers : (end : ℕ) (ls : List Lexeme) (reason : Stop) (returned : SqlFault) → Stops reason (query_at within (terms ls)) → Reports returned (refusal_of end (all_located ls) reason) → Refuses end (all_located ls) returned
 stopped_answers end ls stop.Memory returned s e = refuses_or_memory end (all_located ls) returned fault.Memory (meant_or_memory returned fault.Memory e) no_memory
-stopped_answers end ls stop.TooDeep returned s e = refuses_or_memory end (all_located ls) returned fault.TooDeep (meant_or_memory returned fault.TooDeep e) (no_query fault.TooDeep (read_as ls None s) tt)
-stopped_answers end ls (stop.At left) returned s e = no_query returned (read_as ls None s) (returned_from end (length ls - left) (all_located ls) returned e)
+stopped_answers end ls stop.TooDeep returned s e = refuses_or_memory end (all_located ls) returned fault.TooDeep (meant_or_memory returned fault.TooDeep e) (no_query stop.TooDeep fault.TooDeep (read_as ls (Err stop.TooDeep) s) refl)
+stopped_answers end ls (stop.At left) returned s e =
+    let meant : SqlFault = refusal_of end (all_located ls) (stop.At left) in
+    refuses_or_memory end (all_located ls) returned meant (meant_or_memory returned meant e) (no_query (stop.At left) meant (read_as ls (Err (stop.At left)) s) refl)
 
 -- where memory runs out for the tokens
 pub from_memory : (end : ℕ) (ps : List Located) (r : Result Query SqlFault) → IsErr r → IsErrAnd r (λ (returned : SqlFault). returned ≡ fault.Memory) → IsAnswer end ps r
@@ -102,87 +95,78 @@ from_memory end ps (Err returned) is h = subst (λ (x : SqlFault). Refuses end p
 -- ---- what that says of the text
 
 -- what has a tree no deeper and no more open than allowed is read
-shallow_read : (bs : List ℕ) (q : Query) (tree : IsTree bs q) → IsShallow bs q tree → query_at within (terminals (tokens_of bs)) ≡ Some q
+shallow_read : (bs : List ℕ) (q : Query) (tree : IsTree bs q) → IsShallow bs q tree → query_at within (terminals (tokens_of bs)) ≡ Ok q
 shallow_read bs q tree s =
     let opened : open_in_query tree.spells ≤ 256 = s.opens in
     complete_query tree.spells 128 257 (omega arith) s.deep
 
-none_shallow : (bs : List ℕ) → query_at within (terminals (tokens_of bs)) ≡ None → HasNone bs
-none_shallow bs none q tree s = let found : ◌≡◌ {A = Option Query} None (Some q) = sym none ∙ shallow_read bs q tree s in absurd cc found
+none_shallow : (bs : List ℕ) (reason : Stop) → query_at within (terminals (tokens_of bs)) ≡ Err reason → HasNone bs
+none_shallow bs reason stops q tree s = let found : ◌≡◌ {A = Result Query Stop} (Err reason) (Ok q) = sym stops ∙ shallow_read bs q tree s in absurd cc found
 
-pub within_read : (bs : List ℕ) (q : Query) → IsUtf8 bs → length bs ≤ max_query_bytes → query_at within (terminals (tokens_of bs)) ≡ Some q → length (canonical q) ≤ max_query_bytes → IsWithin bs q
+pub within_read : (bs : List ℕ) (q : Query) → IsUtf8 bs → length bs ≤ max_query_bytes → query_at within (terminals (tokens_of bs)) ≡ Ok q → length (canonical q) ≤ max_query_bytes → IsWithin bs q
 within_read bs q utf8 short e printed =
     let t = query_sound (terminals (tokens_of bs)) q e in
     record { tree = record { utf8 = utf8; spells = t.spells }; shallow = record { deep = t.bounded; opens = t.opens }; short = record { text = short; printed = printed } }
 
--- no token is refused as too long, nor as not UTF-8
-no_length : (t : Terminal) (at : ℕ) → refusal t at ≡ fault.TooLong → ⊥
-no_length (terminal.keyword k) at e = absurd cc
-no_length (terminal.name n) at e = absurd cc
-no_length (terminal.integer n) at e = chosen (nat_le n 9223372036854775807) e
+-- a refusal of a token or a depth, and not of the whole text
+abbrev IsOfToken : SqlFault → Type 0
+IsOfToken fault.NotUtf8 = ⊥
+IsOfToken fault.TooLong = ⊥
+IsOfToken returned = Unit {0}
+
+token_refusal : (t : Terminal) (at : ℕ) → IsOfToken (refusal t at)
+token_refusal (terminal.keyword k) at = tt
+token_refusal (terminal.name n) at = tt
+token_refusal (terminal.integer n) at = chosen (nat_le n 9223372036854775807)
   where
-    chosen : (b : Bool) → cond b (fault.UnexpectedToken at) (fault.IntegerOutOfRange at) ≡ fault.TooLong → ⊥
-    chosen true e = absurd cc
-    chosen false e = absurd cc
-no_length (terminal.text t) at e = absurd cc
-no_length (terminal.sign_is s) at e = absurd cc
-no_length (terminal.left_out w) at e = absurd cc
-no_length terminal.out_of_range at e = absurd cc
-no_length terminal.not_closed at e = absurd cc
-no_length terminal.unknown at e = absurd cc
+    chosen : (b : Bool) → IsOfToken (cond b (fault.UnexpectedToken at) (fault.IntegerOutOfRange at))
+    chosen true = tt
+    chosen false = tt
+token_refusal (terminal.text t) at = tt
+token_refusal (terminal.sign_is s) at = tt
+token_refusal (terminal.left_out w) at = tt
+token_refusal terminal.out_of_range at = tt
+token_refusal terminal.not_closed at = tt
+token_refusal terminal.unknown at = tt
 
-no_encoding : (t : Terminal) (at : ℕ) → refusal t at ≡ fault.NotUtf8 → ⊥
-no_encoding (terminal.keyword k) at e = absurd cc
-no_encoding (terminal.name n) at e = absurd cc
-no_encoding (terminal.integer n) at e = chosen (nat_le n 9223372036854775807) e
-  where
-    chosen : (b : Bool) → cond b (fault.UnexpectedToken at) (fault.IntegerOutOfRange at) ≡ fault.NotUtf8 → ⊥
-    chosen true e = absurd cc
-    chosen false e = absurd cc
-no_encoding (terminal.text t) at e = absurd cc
-no_encoding (terminal.sign_is s) at e = absurd cc
-no_encoding (terminal.left_out w) at e = absurd cc
-no_encoding terminal.out_of_range at e = absurd cc
-no_encoding terminal.not_closed at e = absurd cc
-no_encoding terminal.unknown at e = absurd cc
+front_refusal : (end : ℕ) (rest : List Located) → IsOfToken (refusal_at end rest)
+front_refusal end [] = tt
+front_refusal end (p ∷ ps) = token_refusal p.terminal p.offset
 
-never_long : (end : ℕ) (rest : List Located) → refusal_at end rest ≡ fault.TooLong → ⊥
-never_long end [] e = absurd cc
-never_long end (p ∷ ps) e = no_length p.terminal p.offset e
+stop_refusal : (end : ℕ) (ps : List Located) (reason : Stop) → IsOfToken (refusal_of end ps reason)
+stop_refusal end ps stop.Memory = tt
+stop_refusal end ps stop.TooDeep = tt
+stop_refusal end ps (stop.At left) = front_refusal end (drop (length ps - left) ps)
 
-never_encoding : (end : ℕ) (rest : List Located) → refusal_at end rest ≡ fault.NotUtf8 → ⊥
-never_encoding end [] e = absurd cc
-never_encoding end (p ∷ ps) e = no_encoding p.terminal p.offset e
-
-unread_refusal : (bs : List ℕ) (returned : SqlFault) → IsUtf8 bs → length bs ≤ max_query_bytes → HasNone bs → IsReturned (length bs) (tokens_of bs) returned → IsRefusal bs returned
-unread_refusal bs fault.Memory utf8 short none t = tt
-unread_refusal bs fault.TooDeep utf8 short none t = (short, utf8, none)
-unread_refusal bs fault.NotUtf8 utf8 short none t = absurd (never_encoding (length bs) t.rest t.reports)
-unread_refusal bs fault.TooLong utf8 short none t = absurd (never_long (length bs) t.rest t.reports)
-unread_refusal bs (fault.UnknownCharacter at) utf8 short none t = (short, utf8, none, t)
-unread_refusal bs (fault.TextNotClosed at) utf8 short none t = (short, utf8, none, t)
-unread_refusal bs (fault.IntegerOutOfRange at) utf8 short none t = (short, utf8, none, t)
-unread_refusal bs (fault.UnexpectedToken at) utf8 short none t = (short, utf8, none, t)
-unread_refusal bs (fault.LeftOut at w) utf8 short none t = (short, utf8, none, t)
+stopped_refusal : (bs : List ℕ) (returned : SqlFault) → IsUtf8 bs → length bs ≤ max_query_bytes → HasNone bs → StopsAs bs returned → IsRefusal bs returned
+stopped_refusal bs fault.Memory utf8 short none t = tt
+stopped_refusal bs fault.TooDeep utf8 short none t = (short, utf8, none, t)
+stopped_refusal bs fault.NotUtf8 utf8 short none t = absurd (subst IsOfToken t.reports (stop_refusal (length bs) (tokens_of bs) t.reason))
+stopped_refusal bs fault.TooLong utf8 short none t = absurd (subst IsOfToken t.reports (stop_refusal (length bs) (tokens_of bs) t.reason))
+stopped_refusal bs (fault.UnknownCharacter at) utf8 short none t = (short, utf8, none, t)
+stopped_refusal bs (fault.TextNotClosed at) utf8 short none t = (short, utf8, none, t)
+stopped_refusal bs (fault.IntegerOutOfRange at) utf8 short none t = (short, utf8, none, t)
+stopped_refusal bs (fault.UnexpectedToken at) utf8 short none t = (short, utf8, none, t)
+stopped_refusal bs (fault.LeftOut at w) utf8 short none t = (short, utf8, none, t)
 
 pub refuses_refusal : (bs : List ℕ) (returned : SqlFault) → IsUtf8 bs → length bs ≤ max_query_bytes → Refuses (length bs) (tokens_of bs) returned → IsRefusal bs returned
 refuses_refusal bs returned utf8 short no_memory = tt
-refuses_refusal bs returned utf8 short (no_query said e t) = unread_refusal bs said utf8 short (none_shallow bs e) t
+refuses_refusal bs returned utf8 short (no_query reason said e is) = stopped_refusal bs said utf8 short (none_shallow bs reason e) (record { reason = reason; stops = e; reports = is })
 refuses_refusal bs returned utf8 short (too_long q e h) = inr (q, record { utf8 = utf8; spells = (query_sound (terminals (tokens_of bs)) q e).spells }, h)
 
 -- a text that has a tree within the limits isn't refused
 given_refused : (bs : List ℕ) (q : Query) (returned : SqlFault) → IsWithin bs q → Refuses (length bs) (tokens_of bs) returned → GivesQuery q (Err returned)
 given_refused bs q returned w no_memory = tt
-given_refused bs q returned w (no_query said e t) = absurd (none_shallow bs e q w.tree w.shallow)
+given_refused bs q returned w (no_query reason said e is) = absurd (none_shallow bs reason e q w.tree w.shallow)
 given_refused bs q returned w (too_long r e h) =
-    let found : ◌≡◌ {A = Option Query} (Some q) (Some r) = sym (shallow_read bs q w.tree w.shallow) ∙ e in
+    let found : ◌≡◌ {A = Result Query Stop} (Ok q) (Ok r) = sym (shallow_read bs q w.tree w.shallow) ∙ e in
     let same : q ≡ r = cc found in
     let short : length (canonical r) ≤ max_query_bytes = subst (λ (x : Query). length (canonical x) ≤ max_query_bytes) same w.short.printed in
     absurd (omega arith)
 
 pub answer_given : (bs : List ℕ) (q : Query) (r : Result Query SqlFault) → IsWithin bs q → IsAnswer (length bs) (tokens_of bs) r → GivesQuery q r
 answer_given bs q (Ok r) w a =
-    let found : ◌≡◌ {A = Option Query} (Some r) (Some q) = sym a.0 ∙ shallow_read bs q w.tree w.shallow in
+    let found : ◌≡◌ {A = Result Query Stop} (Ok r) (Ok q) = sym a.0 ∙ shallow_read bs q w.tree w.shallow in
     cc found
 answer_given bs q (Err returned) w a = given_refused bs q returned w a
 

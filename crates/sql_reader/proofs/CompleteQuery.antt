@@ -1,5 +1,5 @@
 -- A query that is spelled is read.
-use Rattle.std.proofs.Common.{◌≡◌, ℕ, zero, suc, ◌+◌, ◌<◌, ◌≤◌, Bool, true, false, cond, List, [], ◌∷◌, ◌++◌, length, map, Option, Some, None, refl, sym, ap, ◌∙◌, subst, arith, append_assoc, length-append}
+use Rattle.std.proofs.Common.{◌≡◌, ℕ, zero, suc, ◌+◌, ◌<◌, ◌≤◌, Bool, true, false, cond, List, [], ◌∷◌, ◌++◌, length, map, Option, Some, None, Result, Ok, refl, sym, ap, ◌∙◌, subst, arith, append_assoc, length-append}
 use Rattle.std.specs.Prelude.{max}
 use Rattle.std.proofs.lemmas.Bool.{le-leb}
 use Rattle.std.proofs.lemmas.List.{append-nil}
@@ -26,6 +26,7 @@ use Rattle.sql_syntax.specs.Phrases.{word, mark, distinct_if, Spells, open_in}
 use Rattle.sql_syntax.specs.CanonicalTokens.{depth, deepest}
 use Rattle.sql_syntax.specs.Queries.{SpellsAlias, none, bare, behind_as, SpellsTable, table, SpellsTarget, position, name, SpellsDirection, unsaid, ascending, descending, SpellsItems, last_item, more_items, SpellsJoin, join, inner_join, left_join, left_outer_join, SpellsOthers, no_others, behind_comma, behind_join, SpellsClause, no_clause, clause, SpellsGroups, no_groups, groups, SpellsKeys, last_key, more_keys, SpellsOrder, no_order, order, SpellsLimit, no_limit, limit, SpellsEnd, no_end, semicolon, SpellsQuery, open_in_query, option_depth, query_depth}
 use Rattle.sql_reader.specs.Rules as rule
+use Rattle.sql_expressions.specs.declared.stop.Stop.{Stop}
 use Rattle.sql_expressions.specs.Rules as phrase
 use Rattle.sql_expressions.specs.Rules.{◌>>=◌, is_keyword, is_sign, behind, inner_at}
 use Rattle.sql_expressions.proofs.Ahead.{reach, reach_of, not_keyword, not_sign}
@@ -152,10 +153,10 @@ no_other (t ∷ ts) h =
 
 -- ---- an expression, a name, a table
 
-free : {ts : List Terminal} {e : Expr} (d : Spells level.Disjunction ts e) (most n : ℕ) (rest : List Terminal) → suc (open_in d) ≤ n → depth e ≤ most → reach_of rest ≤ 0 → inner_at most n level.Disjunction (ts ++ rest) ≡ Some (whole e, rest)
+free : {ts : List Terminal} {e : Expr} (d : Spells level.Disjunction ts e) (most n : ℕ) (rest : List Terminal) → suc (open_in d) ≤ n → depth e ≤ most → reach_of rest ≤ 0 → inner_at most n level.Disjunction (ts ++ rest) ≡ Ok (whole e, rest)
 free {ts} {e} d most n rest o h r = freely most n ts e rest (open_in d) o r (λ m j s. complete d most m rest j h s)
 
-alias_reads : {ts : List Terminal} {alias : Option (List ℕ)} (a : SpellsAlias ts alias) (rest : List Terminal) → 1 ≤ stage_of rest → rule.alias_at (ts ++ rest) ≡ Some (alias, rest)
+alias_reads : {ts : List Terminal} {alias : Option (List ℕ)} (a : SpellsAlias ts alias) (rest : List Terminal) → 1 ≤ stage_of rest → rule.alias_at (ts ++ rest) ≡ Ok (alias, rest)
 alias_reads none rest h = rw (no_word keyword.As rest h, no_name rest h) refl
 alias_reads (bare n) rest h = refl
 alias_reads (behind_as n) rest h = refl
@@ -165,13 +166,13 @@ alias_reach none rest h = stage_reach rest h
 alias_reach (bare n) rest h = omega arith
 alias_reach (behind_as n) rest h = omega arith
 
-table_reads : {ts : List Terminal} {t : Table} (d : SpellsTable ts t) (rest : List Terminal) → 1 ≤ stage_of rest → rule.table_at (ts ++ rest) ≡ Some (t, rest)
+table_reads : {ts : List Terminal} {t : Table} (d : SpellsTable ts t) (rest : List Terminal) → 1 ≤ stage_of rest → rule.table_at (ts ++ rest) ≡ Ok (t, rest)
 table_reads (table n a) rest h = rw (alias_reads a rest h) refl
 
 -- ---- items
 
 item_reads : {ts us : List Terminal} {e : Expr} {alias : Option (List ℕ)} (d : Spells level.Disjunction ts e) (a : SpellsAlias us alias) (most n : ℕ) (rest : List Terminal) → suc (open_in d) ≤ n → depth e ≤ most → 1 ≤ stage_of rest
-    → rule.item_at (inner_at most n) ((ts ++ us) ++ rest) ≡ Some (record { expr = e; alias = alias }, rest)
+    → rule.item_at (inner_at most n) ((ts ++ us) ++ rest) ≡ Ok (record { expr = e; alias = alias }, rest)
 item_reads {ts} {us} d a most n rest o h s =
     ap (rule.item_at (inner_at most n)) (append_assoc ts us rest) ∙ (rw (free d most n (us ++ rest) o h (alias_reach a rest s), alias_reads a rest s) refl)
 
@@ -179,27 +180,27 @@ item_reads {ts} {us} d a most n rest o h s =
 record Itemed (most n : ℕ) (ts : List Terminal) (items before : List Item) (rest : List Terminal) : Type 0 where
   pub first : List Item
   pub others : List Terminal
-  pub put : rule.put_item (inner_at most n) before (ts ++ rest) ≡ Some (first, others)
+  pub put : rule.put_item (inner_at most n) before (ts ++ rest) ≡ Ok (first, others)
   pub fewer : length others ≤ length (ts ++ rest)
-  pub more_read : (m : ℕ) → length others < m → rule.more_items (inner_at most n) m first others ≡ Some (before ++ items, rest)
+  pub more_read : (m : ℕ) → length others < m → rule.more_items (inner_at most n) m first others ≡ Ok (before ++ items, rest)
 
-items_end : (m most n : ℕ) (before : List Item) (rest : List Terminal) → 0 < m → 2 ≤ stage_of rest → rule.more_items (inner_at most n) m before rest ≡ Some (before, rest)
+items_end : (m most n : ℕ) (before : List Item) (rest : List Terminal) → 0 < m → 2 ≤ stage_of rest → rule.more_items (inner_at most n) m before rest ≡ Ok (before, rest)
 items_end zero most n before rest h s = absurd (omega arith)
 items_end (suc m) most n before rest h s = rw (no_mark sign.Comma rest s) refl
 
-items_go_on : (m most n : ℕ) (before first : List Item) (us others : List Terminal) (r : Option (List Item × List Terminal)) → rule.put_item (inner_at most n) before us ≡ Some (first, others) → rule.more_items (inner_at most n) m first others ≡ r
+items_go_on : (m most n : ℕ) (before first : List Item) (us others : List Terminal) (r : Result (List Item × List Terminal) Stop) → rule.put_item (inner_at most n) before us ≡ Ok (first, others) → rule.more_items (inner_at most n) m first others ≡ r
     → rule.more_items (inner_at most n) (suc m) before (mark sign.Comma ∷ us) ≡ r
 items_go_on m most n before first us others r put more_read = rw put more_read
 
-put_is : (most n : ℕ) (before : List Item) (ts rest : List Terminal) (item : Item) → rule.item_at (inner_at most n) ts ≡ Some (item, rest) → rule.put_item (inner_at most n) before ts ≡ Some (before ++ item ∷ [], rest)
+put_is : (most n : ℕ) (before : List Item) (ts rest : List Terminal) (item : Item) → rule.item_at (inner_at most n) ts ≡ Ok (item, rest) → rule.put_item (inner_at most n) before ts ≡ Ok (before ++ item ∷ [], rest)
 put_is most n before ts rest item reads = rw reads refl
 
 items_onward : (most n : ℕ) (vs : List Terminal) (item : Item) (items before : List Item) (rest : List Terminal) → Itemed most n vs items (before ++ item ∷ []) rest → (m : ℕ) → length (mark sign.Comma ∷ vs ++ rest) < m
-    → rule.more_items (inner_at most n) m (before ++ item ∷ []) (mark sign.Comma ∷ vs ++ rest) ≡ Some (before ++ item ∷ items, rest)
+    → rule.more_items (inner_at most n) m (before ++ item ∷ []) (mark sign.Comma ∷ vs ++ rest) ≡ Ok (before ++ item ∷ items, rest)
 items_onward most n vs item items before rest l zero h = absurd (omega arith)
 items_onward most n vs item items before rest l (suc m) h =
     let f : length l.others ≤ length (vs ++ rest) = l.fewer in
-    items_go_on m most n (before ++ item ∷ []) l.first (vs ++ rest) l.others _ l.put (l.more_read m (omega arith)) ∙ ap (λ x. Some (x, rest)) (append_assoc before (item ∷ []) items)
+    items_go_on m most n (before ++ item ∷ []) l.first (vs ++ rest) l.others _ l.put (l.more_read m (omega arith)) ∙ ap (λ x. Ok (x, rest)) (append_assoc before (item ∷ []) items)
 
 items_read : {ts : List Terminal} {items : List Item} {k : ℕ} (d : SpellsItems ts items k) (most n : ℕ) (before : List Item) (rest : List Terminal) → suc k ≤ n → deepest (map (λ (item : Item). depth item.expr) items) ≤ most → 2 ≤ stage_of rest
     → Itemed most n ts items before rest
@@ -243,22 +244,22 @@ others_stage no_others rest s = omega arith
 others_stage (behind_comma t ds) rest s = omega arith
 others_stage (behind_join {ts = ts} {us = us} {vs = vs} j t d ds) rest s = join_stage j (ts ++ (word keyword.On ∷ us ++ vs)) rest
 
-put_other_is : (most n : ℕ) (before : List Joined) (ts rest : List Terminal) (j : Joined) → rule.other_at (inner_at most n) ts ≡ Some (j, rest) → rule.put_other (inner_at most n) before ts ≡ Some (before ++ j ∷ [], rest)
+put_other_is : (most n : ℕ) (before : List Joined) (ts rest : List Terminal) (j : Joined) → rule.other_at (inner_at most n) ts ≡ Ok (j, rest) → rule.put_other (inner_at most n) before ts ≡ Ok (before ++ j ∷ [], rest)
 put_other_is most n before ts rest j reads = rw reads refl
 
-others_step : (m most n : ℕ) (before : List Joined) (ts rest : List Terminal) (j : Joined) (r : Option (List Joined × List Terminal)) → phrase.begins_other ts ≡ true → rule.other_at (inner_at most n) ts ≡ Some (j, rest)
+others_step : (m most n : ℕ) (before : List Joined) (ts rest : List Terminal) (j : Joined) (r : Result (List Joined × List Terminal) Stop) → phrase.begins_other ts ≡ true → rule.other_at (inner_at most n) ts ≡ Ok (j, rest)
     → rule.more_others (inner_at most n) m (before ++ j ∷ []) rest ≡ r → rule.more_others (inner_at most n) (suc m) before ts ≡ r
 others_step m most n before ts rest j r begins reads more_read = rw (begins, reads) more_read
 
-comma_reads : (most n : ℕ) (ts rest : List Terminal) (t : Table) → rule.table_at ts ≡ Some (t, rest) → rule.other_at (inner_at most n) (mark sign.Comma ∷ ts) ≡ Some (record { table = t; kind = join_kind.Comma }, rest)
+comma_reads : (most n : ℕ) (ts rest : List Terminal) (t : Table) → rule.table_at ts ≡ Ok (t, rest) → rule.other_at (inner_at most n) (mark sign.Comma ∷ ts) ≡ Ok (record { table = t; kind = join_kind.Comma }, rest)
 comma_reads most n ts rest t reads = rw reads refl
 
-joined_reads : (most n : ℕ) (by : JoinType) (ts us rest : List Terminal) (t : Table) (e : Expr) → rule.table_at ts ≡ Some (t, word keyword.On ∷ us) → inner_at most n level.Disjunction us ≡ Some (whole e, rest)
-    → rule.joined_at (inner_at most n) by ts ≡ Some (record { table = t; kind = kind_of by e }, rest)
+joined_reads : (most n : ℕ) (by : JoinType) (ts us rest : List Terminal) (t : Table) (e : Expr) → rule.table_at ts ≡ Ok (t, word keyword.On ∷ us) → inner_at most n level.Disjunction us ≡ Ok (whole e, rest)
+    → rule.joined_at (inner_at most n) by ts ≡ Ok (record { table = t; kind = kind_of by e }, rest)
 joined_reads most n by ts us rest t e first second = rw (first, second) refl
 
-join_reads : (most n : ℕ) {is : List Terminal} {by : JoinType} → SpellsJoin is by → (ts rest : List Terminal) (j : Joined) → rule.joined_at (inner_at most n) by ts ≡ Some (j, rest)
-    → (phrase.begins_other (is ++ ts) ≡ true) × (rule.other_at (inner_at most n) (is ++ ts) ≡ Some (j, rest))
+join_reads : (most n : ℕ) {is : List Terminal} {by : JoinType} → SpellsJoin is by → (ts rest : List Terminal) (j : Joined) → rule.joined_at (inner_at most n) by ts ≡ Ok (j, rest)
+    → (phrase.begins_other (is ++ ts) ≡ true) × (rule.other_at (inner_at most n) (is ++ ts) ≡ Ok (j, rest))
 join_reads most n join ts rest j reads = (refl, reads)
 join_reads most n inner_join ts rest j reads = (refl, reads)
 join_reads most n left_join ts rest j reads = (refl, reads)
@@ -269,9 +270,9 @@ abbrev on_depth : Joined → ℕ
 on_depth j = option_depth (condition_of j.kind)
 
 others_read : {ts : List Terminal} {others : List Joined} {k : ℕ} (d : SpellsOthers ts others k) (most n m : ℕ) (before : List Joined) (rest : List Terminal) → suc k ≤ n → deepest (map on_depth others) ≤ most → 2 ≤ stage_of rest → length (ts ++ rest) < m
-    → rule.more_others (inner_at most n) m before (ts ++ rest) ≡ Some (before ++ others, rest)
+    → rule.more_others (inner_at most n) m before (ts ++ rest) ≡ Ok (before ++ others, rest)
 others_read no_others most n zero before rest o h s f = absurd (omega arith)
-others_read no_others most n (suc m) before rest o h s f = (rw (no_other rest s) refl) ∙ ap (λ x. Some (x, rest)) (sym (append-nil before))
+others_read no_others most n (suc m) before rest o h s f = (rw (no_other rest s) refl) ∙ ap (λ x. Ok (x, rest)) (sym (append-nil before))
 others_read (behind_comma {ts = ts} {us = us} {t = t} d ds) most n zero before rest o h s f = absurd (omega arith)
 others_read (behind_comma {ts = ts} {us = us} {t = t} {others = others} d ds) most n (suc m) before rest o h s f =
     let assoc : (ts ++ us) ++ rest ≡ ts ++ (us ++ rest) = append_assoc ts us rest in
@@ -279,10 +280,10 @@ others_read (behind_comma {ts = ts} {us = us} {t = t} {others = others} d ds) mo
     let same_len : length ((ts ++ us) ++ rest) ≡ length (ts ++ (us ++ rest)) = ap length assoc in
     let deep : max 0 (deepest (map on_depth others)) ≤ most = h in
     ap (λ (x : List Terminal). rule.more_others (inner_at most n) (suc m) before (mark sign.Comma ∷ x)) assoc
-    ∙ others_step m most n before (mark sign.Comma ∷ ts ++ (us ++ rest)) (us ++ rest) (record { table = t; kind = join_kind.Comma }) (Some ((before ++ record { table = t; kind = join_kind.Comma } ∷ []) ++ others, rest)) refl
+    ∙ others_step m most n before (mark sign.Comma ∷ ts ++ (us ++ rest)) (us ++ rest) (record { table = t; kind = join_kind.Comma }) (Ok ((before ++ record { table = t; kind = join_kind.Comma } ∷ []) ++ others, rest)) refl
     (comma_reads most n (ts ++ (us ++ rest)) (us ++ rest) t (table_reads d (us ++ rest) (others_stage ds rest s)))
     (others_read ds most n m (before ++ record { table = t; kind = join_kind.Comma } ∷ []) rest o (omega arith) s (omega arith))
-    ∙ ap (λ x. Some (x, rest)) (append_assoc before (record { table = t; kind = join_kind.Comma } ∷ []) others)
+    ∙ ap (λ x. Ok (x, rest)) (append_assoc before (record { table = t; kind = join_kind.Comma } ∷ []) others)
 others_read (behind_join {is = is} {ts = ts} {us = us} {vs = vs} j t d ds) most n zero before rest o h s f = absurd (omega arith)
 others_read (behind_join {is = is} {ts = ts} {us = us} {vs = vs} {by = by} {t = t} {e = e} {others = others} {most = k} j dt d ds) most n (suc m) before rest o h s f =
     let both : suc (max (open_in d) k) ≤ n = o in
@@ -299,14 +300,14 @@ others_read (behind_join {is = is} {ts = ts} {us = us} {vs = vs} {by = by} {t = 
     let parts = join_reads most n j (ts ++ (word keyword.On ∷ us ++ (vs ++ rest))) (vs ++ rest) (record { table = t; kind = kind_of by e })
     (joined_reads most n by (ts ++ (word keyword.On ∷ us ++ (vs ++ rest))) (us ++ (vs ++ rest)) (vs ++ rest) t e (table_reads dt (word keyword.On ∷ us ++ (vs ++ rest)) (omega arith)) (free d most n (vs ++ rest) first_open first_depth (stage_reach (vs ++ rest) (others_stage ds rest s)))) in
     ap (rule.more_others (inner_at most n) (suc m) before) assoc
-    ∙ others_step m most n before (is ++ (ts ++ (word keyword.On ∷ us ++ (vs ++ rest)))) (vs ++ rest) (record { table = t; kind = kind_of by e }) (Some ((before ++ record { table = t; kind = kind_of by e } ∷ []) ++ others, rest)) parts.0 parts.1
+    ∙ others_step m most n before (is ++ (ts ++ (word keyword.On ∷ us ++ (vs ++ rest)))) (vs ++ rest) (record { table = t; kind = kind_of by e }) (Ok ((before ++ record { table = t; kind = kind_of by e } ∷ []) ++ others, rest)) parts.0 parts.1
     (others_read ds most n m (before ++ record { table = t; kind = kind_of by e } ∷ []) rest (omega arith) (omega arith) s (omega arith))
-    ∙ ap (λ x. Some (x, rest)) (append_assoc before (record { table = t; kind = kind_of by e } ∷ []) others)
+    ∙ ap (λ x. Ok (x, rest)) (append_assoc before (record { table = t; kind = kind_of by e } ∷ []) others)
 
 -- ---- clauses
 
 clause_reads : {k : Keyword} {ts : List Terminal} {x : Option Expr} {o : ℕ} (d : SpellsClause k ts x o) (most n : ℕ) (rest : List Terminal) → is_keyword k (word k) ≡ true → suc o ≤ n → option_depth x ≤ most → stage (word k) < stage_of rest
-    → rule.clause_at (inner_at most n) k (ts ++ rest) ≡ Some (x, rest)
+    → rule.clause_at (inner_at most n) k (ts ++ rest) ≡ Ok (x, rest)
 clause_reads {k} no_clause most n rest is o h s = rw (no_word k rest s) refl
 clause_reads {k} (clause d) most n rest is o h s =
     let one : 1 ≤ stage_of rest = omega arith in
@@ -316,7 +317,7 @@ clause_stage : {k : Keyword} {ts : List Terminal} {x : Option Expr} {o : ℕ} (d
 clause_stage no_clause rest l h s = s
 clause_stage (clause d) rest l h s = h
 
-groups_read : {ts : List Terminal} {es : List Expr} {o : ℕ} (d : SpellsGroups ts es o) (most n : ℕ) (rest : List Terminal) → suc o ≤ n → deepest (map depth es) ≤ most → 4 ≤ stage_of rest → rule.groups_at (inner_at most n) (ts ++ rest) ≡ Some (es, rest)
+groups_read : {ts : List Terminal} {es : List Expr} {o : ℕ} (d : SpellsGroups ts es o) (most n : ℕ) (rest : List Terminal) → suc o ≤ n → deepest (map depth es) ≤ most → 4 ≤ stage_of rest → rule.groups_at (inner_at most n) (ts ++ rest) ≡ Ok (es, rest)
 groups_read no_groups most n rest o h s = rw (no_word keyword.Group rest s) refl
 groups_read (groups {ts = ts} {es = es} d) most n rest o h s =
     let one : 1 ≤ stage_of rest = omega arith in
@@ -329,7 +330,7 @@ groups_stage (groups d) rest l h s = h
 
 -- ---- ORDER BY and LIMIT
 
-target_reads : {t : Terminal} {o : OrderTarget} (d : SpellsTarget t o) (rest : List Terminal) → rule.target_at (t ∷ rest) ≡ Some (o, rest)
+target_reads : {t : Terminal} {o : OrderTarget} (d : SpellsTarget t o) (rest : List Terminal) → rule.target_at (t ∷ rest) ≡ Ok (o, rest)
 target_reads (position n h) rest = rw (le-leb n 9223372036854775807 h) refl
 target_reads (name n) rest = refl
 
@@ -338,33 +339,33 @@ direction_reads unsaid rest s = rw (no_word keyword.Desc rest s, no_word keyword
 direction_reads ascending rest s = refl
 direction_reads descending rest s = refl
 
-key_reads : {t : Terminal} {ts : List Terminal} {o : OrderTarget} {d : Direction} (a : SpellsTarget t o) (b : SpellsDirection ts d) (rest : List Terminal) → 1 ≤ stage_of rest → rule.key_at (t ∷ ts ++ rest) ≡ Some (record { target = o; direction = d }, rest)
+key_reads : {t : Terminal} {ts : List Terminal} {o : OrderTarget} {d : Direction} (a : SpellsTarget t o) (b : SpellsDirection ts d) (rest : List Terminal) → 1 ≤ stage_of rest → rule.key_at (t ∷ ts ++ rest) ≡ Ok (record { target = o; direction = d }, rest)
 key_reads {t} {ts} a b rest s = rw (target_reads a (ts ++ rest), direction_reads b rest s) refl
 
 -- the first key is read, and then the others, and all are kept
 record Keyed (ts : List Terminal) (keys before : List OrderKey) (rest : List Terminal) : Type 0 where
   pub first : List OrderKey
   pub others : List Terminal
-  pub put : rule.put_key before (ts ++ rest) ≡ Some (first, others)
+  pub put : rule.put_key before (ts ++ rest) ≡ Ok (first, others)
   pub fewer : length others ≤ length (ts ++ rest)
-  pub more_read : (m : ℕ) → length others < m → rule.more_keys m first others ≡ Some (before ++ keys, rest)
+  pub more_read : (m : ℕ) → length others < m → rule.more_keys m first others ≡ Ok (before ++ keys, rest)
 
-keys_end : (m : ℕ) (before : List OrderKey) (rest : List Terminal) → 0 < m → 2 ≤ stage_of rest → rule.more_keys m before rest ≡ Some (before, rest)
+keys_end : (m : ℕ) (before : List OrderKey) (rest : List Terminal) → 0 < m → 2 ≤ stage_of rest → rule.more_keys m before rest ≡ Ok (before, rest)
 keys_end zero before rest h s = absurd (omega arith)
 keys_end (suc m) before rest h s = rw (no_mark sign.Comma rest s) refl
 
-keys_go_on : (m : ℕ) (before first : List OrderKey) (us others : List Terminal) (r : Option (List OrderKey × List Terminal)) → rule.put_key before us ≡ Some (first, others) → rule.more_keys m first others ≡ r → rule.more_keys (suc m) before (mark sign.Comma ∷ us) ≡ r
+keys_go_on : (m : ℕ) (before first : List OrderKey) (us others : List Terminal) (r : Result (List OrderKey × List Terminal) Stop) → rule.put_key before us ≡ Ok (first, others) → rule.more_keys m first others ≡ r → rule.more_keys (suc m) before (mark sign.Comma ∷ us) ≡ r
 keys_go_on m before first us others r put more_read = rw put more_read
 
-put_key_is : (before : List OrderKey) (ts rest : List Terminal) (key : OrderKey) → rule.key_at ts ≡ Some (key, rest) → rule.put_key before ts ≡ Some (before ++ key ∷ [], rest)
+put_key_is : (before : List OrderKey) (ts rest : List Terminal) (key : OrderKey) → rule.key_at ts ≡ Ok (key, rest) → rule.put_key before ts ≡ Ok (before ++ key ∷ [], rest)
 put_key_is before ts rest key reads = rw reads refl
 
 keys_onward : (vs : List Terminal) (key : OrderKey) (keys before : List OrderKey) (rest : List Terminal) → Keyed vs keys (before ++ key ∷ []) rest → (m : ℕ) → length (mark sign.Comma ∷ vs ++ rest) < m
-    → rule.more_keys m (before ++ key ∷ []) (mark sign.Comma ∷ vs ++ rest) ≡ Some (before ++ key ∷ keys, rest)
+    → rule.more_keys m (before ++ key ∷ []) (mark sign.Comma ∷ vs ++ rest) ≡ Ok (before ++ key ∷ keys, rest)
 keys_onward vs key keys before rest l zero h = absurd (omega arith)
 keys_onward vs key keys before rest l (suc m) h =
     let f : length l.others ≤ length (vs ++ rest) = l.fewer in
-    keys_go_on m (before ++ key ∷ []) l.first (vs ++ rest) l.others _ l.put (l.more_read m (omega arith)) ∙ ap (λ x. Some (x, rest)) (append_assoc before (key ∷ []) keys)
+    keys_go_on m (before ++ key ∷ []) l.first (vs ++ rest) l.others _ l.put (l.more_read m (omega arith)) ∙ ap (λ x. Ok (x, rest)) (append_assoc before (key ∷ []) keys)
 
 keys_read : {ts : List Terminal} {keys : List OrderKey} (d : SpellsKeys ts keys) (before : List OrderKey) (rest : List Terminal) → 2 ≤ stage_of rest → Keyed ts keys before rest
 keys_read (last_key {t = t} {ts = ts} {o = o} {d = d} a b) before rest s =
@@ -388,7 +389,7 @@ keys_read (more_keys {t = t} {ts = ts} {us = us} {o = o} {d = d} {keys = keys} a
       more_read = keys_onward us (record { target = o; direction = d }) keys before rest (keys_read ds (before ++ record { target = o; direction = d } ∷ []) rest s);
     }
 
-order_reads : {ts : List Terminal} {keys : List OrderKey} (d : SpellsOrder ts keys) (rest : List Terminal) → 6 ≤ stage_of rest → rule.order_at (ts ++ rest) ≡ Some (keys, rest)
+order_reads : {ts : List Terminal} {keys : List OrderKey} (d : SpellsOrder ts keys) (rest : List Terminal) → 6 ≤ stage_of rest → rule.order_at (ts ++ rest) ≡ Ok (keys, rest)
 order_reads no_order rest s = rw (no_word keyword.Order rest s) refl
 order_reads (order d) rest s =
     let l = keys_read d [] rest (omega arith) in
@@ -398,7 +399,7 @@ order_stage : {ts : List Terminal} {keys : List OrderKey} (d : SpellsOrder ts ke
 order_stage no_order rest l h s = s
 order_stage (order d) rest l h s = h
 
-limit_reads : {ts : List Terminal} {x : Option ℕ} (d : SpellsLimit ts x) (rest : List Terminal) → 7 ≤ stage_of rest → rule.limit_at (ts ++ rest) ≡ Some (x, rest)
+limit_reads : {ts : List Terminal} {x : Option ℕ} (d : SpellsLimit ts x) (rest : List Terminal) → 7 ≤ stage_of rest → rule.limit_at (ts ++ rest) ≡ Ok (x, rest)
 limit_reads no_limit rest s = rw (no_word keyword.Limit rest s) refl
 limit_reads (limit n h) rest s = rw (le-leb n 9223372036854775807 h) refl
 
@@ -406,7 +407,7 @@ limit_stage : {ts : List Terminal} {x : Option ℕ} (d : SpellsLimit ts x) (rest
 limit_stage no_limit rest l h s = s
 limit_stage (limit n e) rest l h s = h
 
-end_reads : {ts : List Terminal} (d : SpellsEnd ts) → rule.ending_at ts ≡ Some tt
+end_reads : {ts : List Terminal} (d : SpellsEnd ts) → rule.ending_at ts ≡ Ok tt
 end_reads no_end = refl
 end_reads semicolon = refl
 
@@ -416,31 +417,31 @@ end_stage semicolon = omega arith
 
 -- ---- a whole query
 
-limit_of : (ts rest : List Terminal) (l : Option ℕ) → rule.limit_at ts ≡ Some (l, rest) → rule.ending_at rest ≡ Some tt → rule.ended_limit_at ts ≡ Some l
+limit_of : (ts rest : List Terminal) (l : Option ℕ) → rule.limit_at ts ≡ Ok (l, rest) → rule.ending_at rest ≡ Ok tt → rule.ended_limit_at ts ≡ Ok l
 limit_of ts rest l a b = rw (a, b) refl
 
-tail_of : (ts rest : List Terminal) (keys : List OrderKey) (l : Option ℕ) → rule.order_at ts ≡ Some (keys, rest) → rule.ended_limit_at rest ≡ Some l → rule.tail_at ts ≡ Some (keys, l)
+tail_of : (ts rest : List Terminal) (keys : List OrderKey) (l : Option ℕ) → rule.order_at ts ≡ Ok (keys, rest) → rule.ended_limit_at rest ≡ Ok l → rule.tail_at ts ≡ Ok (keys, l)
 tail_of ts rest keys l a b = rw (a, b) refl
 
-having_of : (most n : ℕ) (ts rest : List Terminal) (x : Option Expr) (t : rule.Tail) → rule.clause_at (inner_at most n) keyword.Having ts ≡ Some (x, rest) → rule.tail_at rest ≡ Some t → rule.having_at (inner_at most n) ts ≡ Some (x, t)
+having_of : (most n : ℕ) (ts rest : List Terminal) (x : Option Expr) (t : rule.Tail) → rule.clause_at (inner_at most n) keyword.Having ts ≡ Ok (x, rest) → rule.tail_at rest ≡ Ok t → rule.having_at (inner_at most n) ts ≡ Ok (x, t)
 having_of most n ts rest x t a b = rw (a, b) refl
 
-grouping_of : (most n : ℕ) (ts rest : List Terminal) (es : List Expr) (h : Option Expr × rule.Tail) → rule.groups_at (inner_at most n) ts ≡ Some (es, rest) → rule.having_at (inner_at most n) rest ≡ Some h → rule.grouping_at (inner_at most n) ts ≡ Some (es, h)
+grouping_of : (most n : ℕ) (ts rest : List Terminal) (es : List Expr) (h : Option Expr × rule.Tail) → rule.groups_at (inner_at most n) ts ≡ Ok (es, rest) → rule.having_at (inner_at most n) rest ≡ Ok h → rule.grouping_at (inner_at most n) ts ≡ Ok (es, h)
 grouping_of most n ts rest es h a b = rw (a, b) refl
 
-conditions_of : (most n : ℕ) (ts rest : List Terminal) (x : Option Expr) (g : List Expr × (Option Expr × rule.Tail)) → rule.clause_at (inner_at most n) keyword.Where ts ≡ Some (x, rest) → rule.grouping_at (inner_at most n) rest ≡ Some g
-    → rule.conditions_at (inner_at most n) ts ≡ Some (x, g)
+conditions_of : (most n : ℕ) (ts rest : List Terminal) (x : Option Expr) (g : List Expr × (Option Expr × rule.Tail)) → rule.clause_at (inner_at most n) keyword.Where ts ≡ Ok (x, rest) → rule.grouping_at (inner_at most n) rest ≡ Ok g
+    → rule.conditions_at (inner_at most n) ts ≡ Ok (x, g)
 conditions_of most n ts rest x g a b = rw (a, b) refl
 
-source_of : (most n : ℕ) (ts us rest : List Terminal) (t : Table) (others : List Joined) → rule.table_at ts ≡ Some (t, us) → rule.more_others (inner_at most n) (suc (length us)) [] us ≡ Some (others, rest)
-    → rule.source_at (inner_at most n) (word keyword.From ∷ ts) ≡ Some (record { first = t; others = others }, rest)
+source_of : (most n : ℕ) (ts us rest : List Terminal) (t : Table) (others : List Joined) → rule.table_at ts ≡ Ok (t, us) → rule.more_others (inner_at most n) (suc (length us)) [] us ≡ Ok (others, rest)
+    → rule.source_at (inner_at most n) (word keyword.From ∷ ts) ≡ Ok (record { first = t; others = others }, rest)
 source_of most n ts us rest t others a b = rw (a, b) refl
 
-from_of : (most n : ℕ) (ts rest : List Terminal) (source : Source) (c : Option Expr × (List Expr × (Option Expr × rule.Tail))) → rule.source_at (inner_at most n) ts ≡ Some (source, rest) → rule.conditions_at (inner_at most n) rest ≡ Some c
-    → rule.from_at (inner_at most n) ts ≡ Some (source, c)
+from_of : (most n : ℕ) (ts rest : List Terminal) (source : Source) (c : Option Expr × (List Expr × (Option Expr × rule.Tail))) → rule.source_at (inner_at most n) ts ≡ Ok (source, rest) → rule.conditions_at (inner_at most n) rest ≡ Ok c
+    → rule.from_at (inner_at most n) ts ≡ Ok (source, c)
 from_of most n ts rest source c a b = rw (a, b) refl
 
-items_of : (most n : ℕ) (ts : List Terminal) (items : List Item) (rest : List Terminal) → Itemed most n ts items [] rest → rule.items_at (inner_at most n) [] (ts ++ rest) ≡ Some (items, rest)
+items_of : (most n : ℕ) (ts : List Terminal) (items : List Item) (rest : List Terminal) → Itemed most n ts items [] rest → rule.items_at (inner_at most n) [] (ts ++ rest) ≡ Ok (items, rest)
 items_of most n ts items rest l = rw l.put (l.more_read (suc (length l.others)) (omega arith))
 
 -- no expression begins with DISTINCT, and so no list of items
@@ -457,13 +458,13 @@ no_distinct (more_items {ts = ts} {us = us} {vs = vs} d a ds) rest =
     let behind_items : List Terminal = mark sign.Comma ∷ vs ++ rest in
     ap (behind (is_keyword keyword.Distinct)) (append_assoc (ts ++ us) (mark sign.Comma ∷ vs) rest ∙ append_assoc ts us behind_items) ∙ not_distinct d (us ++ behind_items)
 
-query_of : (most n : ℕ) (distinct : Bool) (ts rest : List Terminal) (items : List Item) (from : Source × (Option Expr × (List Expr × (Option Expr × rule.Tail)))) → rule.items_at (inner_at most n) [] ts ≡ Some (items, rest) → rule.from_at (inner_at most n) rest ≡ Some from
-    → behind (is_keyword keyword.Distinct) ts ≡ None → rule.query_at (inner_at most n) (word keyword.Select ∷ distinct_if distinct ++ ts) ≡ Some (rule.query_of_parts distinct items from)
+query_of : (most n : ℕ) (distinct : Bool) (ts rest : List Terminal) (items : List Item) (from : Source × (Option Expr × (List Expr × (Option Expr × rule.Tail)))) → rule.items_at (inner_at most n) [] ts ≡ Ok (items, rest) → rule.from_at (inner_at most n) rest ≡ Ok from
+    → behind (is_keyword keyword.Distinct) ts ≡ None → rule.query_at (inner_at most n) (word keyword.Select ∷ distinct_if distinct ++ ts) ≡ Ok (rule.query_of_parts distinct items from)
 query_of most n true ts rest items from a b plain = rw (a, b) refl
 query_of most n false ts rest items from a b plain = rw (plain, a, b) refl
 
 -- what spells a query is read, where so many may be opened and it may be so deep
-pub complete_query : {ts : List Terminal} {q : Query} (s : SpellsQuery ts q) (most n : ℕ) → suc (open_in_query s) ≤ n → query_depth q ≤ most → rule.query_at (inner_at most n) ts ≡ Some q
+pub complete_query : {ts : List Terminal} {q : Query} (s : SpellsQuery ts q) (most n : ℕ) → suc (open_in_query s) ≤ n → query_depth q ≤ most → rule.query_at (inner_at most n) ts ≡ Ok q
 complete_query {ts} {q} s most n o h =
     let opened : suc (max s.items_open (max s.others_open (max s.filter_open (max s.groups_open (max s.having_open 0))))) ≤ n = o in
     let deep : max (option_depth q.filter) (max (option_depth q.having) (max (deepest (map (λ (item : Item). depth item.expr) q.items)) (max (deepest (map on_depth q.source.others)) (max (deepest (map depth q.group_by)) 0)))) ≤ most = h in
@@ -494,5 +495,5 @@ unique_query {ts} {q} {r} s t =
     let n : ℕ = suc (max (open_in_query s) (open_in_query t)) in
     let first = complete_query s most n (omega arith) (omega arith) in
     let second = complete_query t most n (omega arith) (omega arith) in
-    let same : ◌≡◌ {A = Option Query} (Some q) (Some r) = sym first ∙ second in
+    let same : ◌≡◌ {A = Result Query Stop} (Ok q) (Ok r) = sym first ∙ second in
     cc same

@@ -1,5 +1,5 @@
 -- What is read of a query is spelled.
-use Rattle.std.proofs.Common.{◌≡◌, ◌⊎◌, ℕ, zero, suc, ◌+◌, ◌≤◌, Bool, true, false, cond, List, [], ◌∷◌, ◌++◌, length, map, Option, Some, None, refl, sym, ap, ◌∙◌, subst, arith, append_assoc, inl, inr}
+use Rattle.std.proofs.Common.{◌≡◌, ◌⊎◌, ℕ, zero, suc, ◌+◌, ◌≤◌, Bool, true, false, cond, List, [], ◌∷◌, ◌++◌, length, map, Option, Some, None, Result, Ok, refl, sym, ap, ◌∙◌, subst, arith, append_assoc, inl, inr}
 use Rattle.std.specs.Prelude.{max, nat_le}
 use Rattle.std.proofs.lemmas.Bool.{leb-true}
 use Rattle.std.proofs.lemmas.List.{append-nil}
@@ -30,15 +30,17 @@ use Rattle.sql_syntax.specs.Phrases.{word, mark, distinct_if, Spells, open_in, o
 use Rattle.sql_syntax.specs.CanonicalTokens.{depth, deepest}
 use Rattle.sql_syntax.specs.Queries.{SpellsAlias, none, bare, behind_as, SpellsTable, table, SpellsTarget, position, name, SpellsDirection, unsaid, ascending, descending, SpellsItems, last_item, more_items, SpellsJoin, join, inner_join, left_join, left_outer_join, SpellsOthers, no_others, behind_comma, behind_join, SpellsClause, no_clause, clause, SpellsGroups, no_groups, groups, SpellsKeys, last_key, more_keys, SpellsOrder, no_order, order, SpellsLimit, no_limit, limit, SpellsEnd, no_end, semicolon, SpellsQuery, open_in_query, option_depth, query_depth}
 use Rattle.sql_expressions.specs.declared.parsed.Parsed.{Parsed}
+use Rattle.sql_expressions.specs.declared.stop.Stop.{Stop}
+use Rattle.sql_expressions.specs.declared.stop.Stop.TheVariants as stop
 use Rattle.sql_reader.specs.Rules as rule
 use Rattle.sql_expressions.specs.Rules as phrase
-use Rattle.sql_expressions.specs.Rules.{◌>>=◌, choose, is_keyword, is_sign, behind, inner_at}
-use Rattle.sql_expressions.proofs.Sound.{bind_some, choose_some, word_taken, mark_taken, passed_as, IsInner, list_sound, inner_sound}
+use Rattle.sql_expressions.specs.Rules.{◌>>=◌, choose, is_keyword, is_sign, behind, past, inner_at}
+use Rattle.sql_expressions.proofs.Sound.{bind_ok, choose_ok, word_taken, mark_taken, word_past, allowed, IsInner, list_sound, inner_sound}
 use Rattle.sql_reader.proofs.Tables.{condition_is}
 
 -- ---- names
 
-name_taken : (ts : List Terminal) (x : List ℕ × List Terminal) → phrase.name_at ts ≡ Some x → (m : List ℕ) × (ts ≡ terminal.name m ∷ x.1) × (lower m ≡ x.0)
+name_taken : (ts : List Terminal) (x : List ℕ × List Terminal) → phrase.name_at ts ≡ Ok x → (m : List ℕ) × (ts ≡ terminal.name m ∷ x.1) × (lower m ≡ x.0)
 name_taken [] x e = absurd cc
 name_taken (terminal.name m ∷ ts) x e =
     let same : ◌≡◌ {A = List ℕ × List Terminal} (lower m, ts) x = cc e in
@@ -52,30 +54,30 @@ pub record TookAlias (ts : List Terminal) (x : Option (List ℕ) × List Termina
 
 -- a name that is an alias, behind AS or alone
 named : (ts us : List Terminal) (x : Option (List ℕ) × List Terminal) (front : List ℕ → List Terminal) → ((m : List ℕ) → SpellsAlias (front m) (Some (lower m))) → ((m : List ℕ) (vs : List Terminal) → us ≡ terminal.name m ∷ vs → ts ≡ front m ++ vs)
-    → (phrase.name_at us >>= (λ n. Some (Some n.0, n.1))) ≡ Some x → TookAlias ts x
+    → (phrase.name_at us >>= (λ n. Ok (Some n.0, n.1))) ≡ Ok x → TookAlias ts x
 named ts us x front spells before e =
-    let r = bind_some (phrase.name_at us) (λ (n : List ℕ × List Terminal). Some (Some n.0, n.1)) x e in
+    let r = bind_ok (phrase.name_at us) (λ (n : List ℕ × List Terminal). Ok (Some n.0, n.1)) x e in
     let m = name_taken us r.0 r.1 in
     let same : ◌≡◌ {A = Option (List ℕ) × List Terminal} (Some (lower m.0), r.0.1) x = ap (λ (w : List ℕ). (Some w, r.0.1)) m.2 ∙ cc r.2 in
     subst (λ (y : Option (List ℕ) × List Terminal). TookAlias ts y) same (record { front = front m.0; spells = spells m.0; parts = before m.0 r.0.1 m.1 })
 
-bare_turn : (ts : List Terminal) (x : Option (List ℕ) × List Terminal) (begins : Bool) → cond begins (phrase.name_at ts >>= (λ n. Some (Some n.0, n.1))) (Some (None, ts)) ≡ Some x → TookAlias ts x
+bare_turn : (ts : List Terminal) (x : Option (List ℕ) × List Terminal) (begins : Bool) → cond begins (phrase.name_at ts >>= (λ n. Ok (Some n.0, n.1))) (Ok (None, ts)) ≡ Ok x → TookAlias ts x
 bare_turn ts x true e = named ts ts x (λ m. terminal.name m ∷ []) (λ m. bare m) (λ m vs is. is) e
 bare_turn ts x false e =
     let same : ◌≡◌ {A = Option (List ℕ) × List Terminal} (None, ts) x = cc e in
     subst (λ (y : Option (List ℕ) × List Terminal). TookAlias ts y) same (record { front = []; spells = none; parts = refl })
 
 alias_turn : (ts : List Terminal) (x : Option (List ℕ) × List Terminal)
-    → ((us : List Terminal) × (behind (is_keyword keyword.As) ts ≡ Some us) × ((phrase.name_at us >>= (λ n. Some (Some n.0, n.1))) ≡ Some x)) ⊎ ((behind (is_keyword keyword.As) ts ≡ None) × (cond (phrase.begins_name ts) (phrase.name_at ts >>= (λ n. Some (Some n.0, n.1))) (Some (None, ts)) ≡ Some x))
+    → ((us : List Terminal) × (behind (is_keyword keyword.As) ts ≡ Some us) × ((phrase.name_at us >>= (λ n. Ok (Some n.0, n.1))) ≡ Ok x)) ⊎ ((behind (is_keyword keyword.As) ts ≡ None) × (cond (phrase.begins_name ts) (phrase.name_at ts >>= (λ n. Ok (Some n.0, n.1))) (Ok (None, ts)) ≡ Ok x))
     → TookAlias ts x
 alias_turn ts x (inl p) =
     let as_word = word_taken keyword.As ts p.0 p.1 in
     named ts p.0 x (λ m. word keyword.As ∷ terminal.name m ∷ []) (λ m. behind_as m) (λ m vs is. as_word ∙ ap (λ (v : List Terminal). word keyword.As ∷ v) is) p.2
 alias_turn ts x (inr p) = bare_turn ts x (phrase.begins_name ts) p.1
 
-alias_sound : (ts : List Terminal) (x : Option (List ℕ) × List Terminal) → rule.alias_at ts ≡ Some x → TookAlias ts x
+alias_sound : (ts : List Terminal) (x : Option (List ℕ) × List Terminal) → rule.alias_at ts ≡ Ok x → TookAlias ts x
 alias_sound ts x e =
-    alias_turn ts x (choose_some (behind (is_keyword keyword.As) ts) (λ (us : List Terminal). phrase.name_at us >>= (λ n. Some (Some n.0, n.1))) (cond (phrase.begins_name ts) (phrase.name_at ts >>= (λ n. Some (Some n.0, n.1))) (Some (None, ts))) x e)
+    alias_turn ts x (choose_ok (behind (is_keyword keyword.As) ts) (λ (us : List Terminal). phrase.name_at us >>= (λ n. Ok (Some n.0, n.1))) (cond (phrase.begins_name ts) (phrase.name_at ts >>= (λ n. Ok (Some n.0, n.1))) (Ok (None, ts))) x e)
 
 -- ---- items
 
@@ -91,10 +93,10 @@ pub record TookItem (n : ℕ) (ts : List Terminal) (x : Item × List Terminal) :
   pub opens : open_in spells ≤ n
   pub bounded : depth item_expr ≤ 128
 
-item_sound : (n : ℕ) (inner : Level → phrase.Reader) → IsInner (suc n) inner → (ts : List Terminal) (x : Item × List Terminal) → rule.item_at inner ts ≡ Some x → TookItem n ts x
+item_sound : (n : ℕ) (inner : Level → phrase.Reader) → IsInner (suc n) inner → (ts : List Terminal) (x : Item × List Terminal) → rule.item_at inner ts ≡ Ok x → TookItem n ts x
 item_sound n inner h ts x e =
-    let r = bind_some (inner level.Disjunction ts) (λ (e : Parsed × List Terminal). rule.alias_at e.1 >>= (λ a. Some (record { expr = e.0.expr; alias = a.0 }, a.1))) x e in
-    let s = bind_some (rule.alias_at r.0.1) (λ (a : Option (List ℕ) × List Terminal). Some (record { expr = r.0.0.expr; alias = a.0 }, a.1)) x r.2 in
+    let r = bind_ok (inner level.Disjunction ts) (λ (e : Parsed × List Terminal). rule.alias_at e.1 >>= (λ a. Ok (record { expr = e.0.expr; alias = a.0 }, a.1))) x e in
+    let s = bind_ok (rule.alias_at r.0.1) (λ (a : Option (List ℕ) × List Terminal). Ok (record { expr = r.0.0.expr; alias = a.0 }, a.1)) x r.2 in
     let t = h level.Disjunction ts r.0 r.1 in
     let a = alias_sound r.0.1 s.0 s.1 in
     let opened : open_in t.spells + 1 ≤ suc n = t.opens in
@@ -136,32 +138,32 @@ more_items_took n before ts us p x t comma l =
     record { front = t.front ++ t.name_front ++ mark sign.Comma ∷ l.front; items = record { expr = t.item_expr; alias = t.item_alias } ∷ l.items; most = max (open_in t.spells) l.most; spells = more_items t.spells t.named_so l.spells; parts = parts; opens = few; are = lists; bounded = bound }
 
 item_turn : (m n : ℕ) (inner : Level → phrase.Reader) → IsInner (suc n) inner → (before : List Item) (ts : List Terminal) (p : Item × List Terminal) (x : List Item × List Terminal) → TookItem n ts p
-    → ((us : List Terminal) (q : Item × List Terminal) → TookItem n us q → rule.more_items inner m ((before ++ p.0 ∷ []) ++ q.0 ∷ []) q.1 ≡ Some x → TookItems n (before ++ p.0 ∷ []) us x)
-    → ((us : List Terminal) × (behind (is_sign sign.Comma) p.1 ≡ Some us) × ((rule.put_item inner (before ++ p.0 ∷ []) us >>= (λ y. rule.more_items inner m y.0 y.1)) ≡ Some x)) ⊎ ((behind (is_sign sign.Comma) p.1 ≡ None) × (◌≡◌ {A = Option (List Item × List Terminal)} (Some (before ++ p.0 ∷ [], p.1)) (Some x)))
+    → ((us : List Terminal) (q : Item × List Terminal) → TookItem n us q → rule.more_items inner m ((before ++ p.0 ∷ []) ++ q.0 ∷ []) q.1 ≡ Ok x → TookItems n (before ++ p.0 ∷ []) us x)
+    → ((us : List Terminal) × (behind (is_sign sign.Comma) p.1 ≡ Some us) × ((rule.put_item inner (before ++ p.0 ∷ []) us >>= (λ y. rule.more_items inner m y.0 y.1)) ≡ Ok x)) ⊎ ((behind (is_sign sign.Comma) p.1 ≡ None) × (◌≡◌ {A = Result (List Item × List Terminal) Stop} (Ok (before ++ p.0 ∷ [], p.1)) (Ok x)))
     → TookItems n before ts x
 item_turn m n inner h before ts p x t again (inl q) =
-    let r = bind_some (rule.put_item inner (before ++ p.0 ∷ []) q.0) (λ (y : List Item × List Terminal). rule.more_items inner m y.0 y.1) x q.2 in
-    let s = bind_some (rule.item_at inner q.0) (λ (y : Item × List Terminal). Some ((before ++ p.0 ∷ []) ++ y.0 ∷ [], y.1)) r.0 r.1 in
+    let r = bind_ok (rule.put_item inner (before ++ p.0 ∷ []) q.0) (λ (y : List Item × List Terminal). rule.more_items inner m y.0 y.1) x q.2 in
+    let s = bind_ok (rule.item_at inner q.0) (λ (y : Item × List Terminal). Ok ((before ++ p.0 ∷ []) ++ y.0 ∷ [], y.1)) r.0 r.1 in
     let same : ◌≡◌ {A = List Item × List Terminal} r.0 ((before ++ p.0 ∷ []) ++ s.0.0 ∷ [], s.0.1) = sym (cc s.2) in
-    let reads : rule.more_items inner m ((before ++ p.0 ∷ []) ++ s.0.0 ∷ []) s.0.1 ≡ Some x = subst (λ (y : List Item × List Terminal). rule.more_items inner m y.0 y.1 ≡ Some x) same r.2 in
+    let reads : rule.more_items inner m ((before ++ p.0 ∷ []) ++ s.0.0 ∷ []) s.0.1 ≡ Ok x = subst (λ (y : List Item × List Terminal). rule.more_items inner m y.0 y.1 ≡ Ok x) same r.2 in
     more_items_took n before ts q.0 p x t (mark_taken sign.Comma p.1 q.0 q.1) (again q.0 s.0 (item_sound n inner h q.0 s.0 s.1) reads)
 item_turn m n inner h before ts p x t again (inr q) =
     let same : ◌≡◌ {A = List Item × List Terminal} (before ++ p.0 ∷ [], p.1) x = cc q.1 in
     subst (λ (y : List Item × List Terminal). TookItems n before ts y) same (last_item_took n before ts p t)
 
 items_go : (m n : ℕ) (inner : Level → phrase.Reader) → IsInner (suc n) inner → (before : List Item) (ts : List Terminal) (p : Item × List Terminal) (x : List Item × List Terminal) → TookItem n ts p
-    → rule.more_items inner m (before ++ p.0 ∷ []) p.1 ≡ Some x → TookItems n before ts x
+    → rule.more_items inner m (before ++ p.0 ∷ []) p.1 ≡ Ok x → TookItems n before ts x
 items_go zero n inner h before ts p x t e = absurd cc
 items_go (suc m) n inner h before ts p x t e =
     item_turn m n inner h before ts p x t (λ us q t2 e2. items_go m n inner h (before ++ p.0 ∷ []) us q x t2 e2)
-    (choose_some (behind (is_sign sign.Comma) p.1) (λ (us : List Terminal). rule.put_item inner (before ++ p.0 ∷ []) us >>= (λ y. rule.more_items inner m y.0 y.1)) (Some (before ++ p.0 ∷ [], p.1)) x e)
+    (choose_ok (behind (is_sign sign.Comma) p.1) (λ (us : List Terminal). rule.put_item inner (before ++ p.0 ∷ []) us >>= (λ y. rule.more_items inner m y.0 y.1)) (Ok (before ++ p.0 ∷ [], p.1)) x e)
 
-items_sound : (n : ℕ) (inner : Level → phrase.Reader) → IsInner (suc n) inner → (before : List Item) (ts : List Terminal) (x : List Item × List Terminal) → rule.items_at inner before ts ≡ Some x → TookItems n before ts x
+items_sound : (n : ℕ) (inner : Level → phrase.Reader) → IsInner (suc n) inner → (before : List Item) (ts : List Terminal) (x : List Item × List Terminal) → rule.items_at inner before ts ≡ Ok x → TookItems n before ts x
 items_sound n inner h before ts x e =
-    let r = bind_some (rule.put_item inner before ts) (λ (y : List Item × List Terminal). rule.more_items inner (suc (length y.1)) y.0 y.1) x e in
-    let s = bind_some (rule.item_at inner ts) (λ (y : Item × List Terminal). Some (before ++ y.0 ∷ [], y.1)) r.0 r.1 in
+    let r = bind_ok (rule.put_item inner before ts) (λ (y : List Item × List Terminal). rule.more_items inner (suc (length y.1)) y.0 y.1) x e in
+    let s = bind_ok (rule.item_at inner ts) (λ (y : Item × List Terminal). Ok (before ++ y.0 ∷ [], y.1)) r.0 r.1 in
     let same : ◌≡◌ {A = List Item × List Terminal} r.0 (before ++ s.0.0 ∷ [], s.0.1) = sym (cc s.2) in
-    let reads : rule.more_items inner (suc (length s.0.1)) (before ++ s.0.0 ∷ []) s.0.1 ≡ Some x = subst (λ (y : List Item × List Terminal). rule.more_items inner (suc (length y.1)) y.0 y.1 ≡ Some x) same r.2 in
+    let reads : rule.more_items inner (suc (length s.0.1)) (before ++ s.0.0 ∷ []) s.0.1 ≡ Ok x = subst (λ (y : List Item × List Terminal). rule.more_items inner (suc (length y.1)) y.0 y.1 ≡ Ok x) same r.2 in
     items_go (suc (length s.0.1)) n inner h before ts s.0 x (item_sound n inner h ts s.0 s.1) reads
 
 -- ---- tables
@@ -171,10 +173,10 @@ pub record TookTable (ts : List Terminal) (x : Table × List Terminal) : Type 0 
   pub spells : SpellsTable front x.0
   pub parts : ts ≡ front ++ x.1
 
-table_sound : (ts : List Terminal) (x : Table × List Terminal) → rule.table_at ts ≡ Some x → TookTable ts x
+table_sound : (ts : List Terminal) (x : Table × List Terminal) → rule.table_at ts ≡ Ok x → TookTable ts x
 table_sound ts x e =
-    let r = bind_some (phrase.name_at ts) (λ (n : List ℕ × List Terminal). rule.alias_at n.1 >>= (λ a. Some (record { name = n.0; alias = a.0 }, a.1))) x e in
-    let s = bind_some (rule.alias_at r.0.1) (λ (a : Option (List ℕ) × List Terminal). Some (record { name = r.0.0; alias = a.0 }, a.1)) x r.2 in
+    let r = bind_ok (phrase.name_at ts) (λ (n : List ℕ × List Terminal). rule.alias_at n.1 >>= (λ a. Ok (record { name = n.0; alias = a.0 }, a.1))) x e in
+    let s = bind_ok (rule.alias_at r.0.1) (λ (a : Option (List ℕ) × List Terminal). Ok (record { name = r.0.0; alias = a.0 }, a.1)) x r.2 in
     let m = name_taken ts r.0 r.1 in
     let a = alias_sound r.0.1 s.0 s.1 in
     let renamed : ◌≡◌ {A = Table × List Terminal} (record { name = lower m.0; alias = s.0.0 }, s.0.1) (record { name = r.0.0; alias = s.0.0 }, s.0.1) = ap (λ (w : List ℕ). (record { name = w; alias = s.0.0 }, s.0.1)) m.2 in
@@ -188,23 +190,23 @@ pub record TookOther (n : ℕ) (ts : List Terminal) (x : Joined × List Terminal
   pub bounded : option_depth (condition_of x.0.kind) ≤ 128
   pub with_others : (us : List Terminal) (others : List Joined) (most : ℕ) → SpellsOthers us others most → most ≤ n → (all : ℕ) × SpellsOthers (front ++ us) (x.0 ∷ others) all × (all ≤ n)
 
-listed_sound : (n : ℕ) (ts us : List Terminal) (x : Joined × List Terminal) → ts ≡ mark sign.Comma ∷ us → rule.listed_at us ≡ Some x → TookOther n ts x
+listed_sound : (n : ℕ) (ts us : List Terminal) (x : Joined × List Terminal) → ts ≡ mark sign.Comma ∷ us → rule.listed_at us ≡ Ok x → TookOther n ts x
 listed_sound n ts us x comma e =
-    let r = bind_some (rule.table_at us) (λ (t : Table × List Terminal). Some (record { table = t.0; kind = join_kind.Comma }, t.1)) x e in
+    let r = bind_ok (rule.table_at us) (λ (t : Table × List Terminal). Ok (record { table = t.0; kind = join_kind.Comma }, t.1)) x e in
     let t = table_sound us r.0 r.1 in
     let same : ◌≡◌ {A = Joined × List Terminal} (record { table = r.0.0; kind = join_kind.Comma }, r.0.1) x = cc r.2 in
     subst (λ (y : Joined × List Terminal). TookOther n ts y) same
     (record { front = mark sign.Comma ∷ t.front; parts = comma ∙ ap (λ (v : List Terminal). mark sign.Comma ∷ v) t.parts; bounded = omega arith; with_others = λ vs others most d o. (most, behind_comma t.spells d, o) })
 
-joined_sound : (n : ℕ) (inner : Level → phrase.Reader) → IsInner (suc n) inner → (by : JoinType) (is ts us : List Terminal) (x : Joined × List Terminal) → SpellsJoin is by → ts ≡ is ++ us → rule.joined_at inner by us ≡ Some x → TookOther n ts x
+joined_sound : (n : ℕ) (inner : Level → phrase.Reader) → IsInner (suc n) inner → (by : JoinType) (is ts us : List Terminal) (x : Joined × List Terminal) → SpellsJoin is by → ts ≡ is ++ us → rule.joined_at inner by us ≡ Ok x → TookOther n ts x
 joined_sound n inner h by is ts us x words before e =
-    let r = bind_some (rule.table_at us) (λ (t : Table × List Terminal). rule.condition_at inner keyword.On t.1 >>= (λ e. Some (record { table = t.0; kind = kind_of by e.0 }, e.1))) x e in
-    let s = bind_some (rule.condition_at inner keyword.On r.0.1) (λ (e : Expr × List Terminal). Some (record { table = r.0.0; kind = kind_of by e.0 }, e.1)) x r.2 in
-    let o = bind_some (behind (is_keyword keyword.On) r.0.1) (λ (vs : List Terminal). inner level.Disjunction vs >>= (λ e. Some (e.0.expr, e.1))) s.0 s.1 in
-    let c = bind_some (inner level.Disjunction o.0) (λ (e : Parsed × List Terminal). Some (e.0.expr, e.1)) s.0 o.2 in
+    let r = bind_ok (rule.table_at us) (λ (t : Table × List Terminal). rule.condition_at inner keyword.On t.1 >>= (λ e. Ok (record { table = t.0; kind = kind_of by e.0 }, e.1))) x e in
+    let s = bind_ok (rule.condition_at inner keyword.On r.0.1) (λ (e : Expr × List Terminal). Ok (record { table = r.0.0; kind = kind_of by e.0 }, e.1)) x r.2 in
+    let o = bind_ok (past (is_keyword keyword.On) r.0.1) (λ (vs : List Terminal). inner level.Disjunction vs >>= (λ e. Ok (e.0.expr, e.1))) s.0 s.1 in
+    let c = bind_ok (inner level.Disjunction o.0) (λ (e : Parsed × List Terminal). Ok (e.0.expr, e.1)) s.0 o.2 in
     let t = table_sound us r.0 r.1 in
     let d = h level.Disjunction o.0 c.0 c.1 in
-    let on_word : r.0.1 ≡ word keyword.On ∷ o.0 = word_taken keyword.On r.0.1 o.0 o.1 in
+    let on_word : r.0.1 ≡ word keyword.On ∷ o.0 = word_past keyword.On r.0.1 o.0 o.1 in
     let found : ◌≡◌ {A = Expr × List Terminal} (c.0.0.expr, c.0.1) s.0 = cc c.2 in
     let same : ◌≡◌ {A = Joined × List Terminal} (record { table = r.0.0; kind = kind_of by c.0.0.expr }, c.0.1) x = ap (λ (e : Expr × List Terminal). (record { table = r.0.0; kind = kind_of by e.0 }, e.1)) found ∙ cc s.2 in
     let opened : open_in d.spells + 1 ≤ suc n = d.opens in
@@ -243,38 +245,38 @@ past_join_turn k by front ts us vs rest short long before join_word (inr is) =
     record { front = front ++ word k ∷ word keyword.Join ∷ []; spells = long; parts = before ∙ ap (λ (v : List Terminal). front ++ v) (is ∙ ap (λ (v : List Terminal). word k ∷ v) join_word) ∙ sym (append_assoc front (word k ∷ word keyword.Join ∷ []) rest) }
 
 past_join_sound : (k : Keyword) (by : JoinType) (front ts us : List Terminal) (x : JoinType × List Terminal) → SpellsJoin (front ++ word keyword.Join ∷ []) by → SpellsJoin (front ++ word k ∷ word keyword.Join ∷ []) by
-    → ts ≡ front ++ us → rule.past_join k by us ≡ Some x → TookJoin ts x
+    → ts ≡ front ++ us → rule.past_join k by us ≡ Ok x → TookJoin ts x
 past_join_sound k by front ts us x short long before e =
-    let r = bind_some (behind (is_keyword keyword.Join) (rule.past_if k us)) (λ (vs : List Terminal). Some (by, vs)) x e in
+    let r = bind_ok (past (is_keyword keyword.Join) (rule.past_if k us)) (λ (vs : List Terminal). Ok (by, vs)) x e in
     let same : ◌≡◌ {A = JoinType × List Terminal} (by, r.0) x = cc r.2 in
-    let join_word : rule.past_if k us ≡ word keyword.Join ∷ r.0 = word_taken keyword.Join (rule.past_if k us) r.0 r.1 in
+    let join_word : rule.past_if k us ≡ word keyword.Join ∷ r.0 = word_past keyword.Join (rule.past_if k us) r.0 r.1 in
     subst (λ (y : JoinType × List Terminal). TookJoin ts y) same (past_join_turn k by front ts us (rule.past_if k us) r.0 short long before join_word (past_if_turn k us (behind (is_keyword k) us) refl))
 
 join_turn : (ts : List Terminal) (x : JoinType × List Terminal)
-    → ((us : List Terminal) × (behind (is_keyword keyword.Left) ts ≡ Some us) × (rule.past_join keyword.Outer join_type.Left us ≡ Some x)) ⊎ ((behind (is_keyword keyword.Left) ts ≡ None) × (rule.past_join keyword.Inner join_type.Inner ts ≡ Some x)) → TookJoin ts x
+    → ((us : List Terminal) × (behind (is_keyword keyword.Left) ts ≡ Some us) × (rule.past_join keyword.Outer join_type.Left us ≡ Ok x)) ⊎ ((behind (is_keyword keyword.Left) ts ≡ None) × (rule.past_join keyword.Inner join_type.Inner ts ≡ Ok x)) → TookJoin ts x
 join_turn ts x (inl p) = past_join_sound keyword.Outer join_type.Left (word keyword.Left ∷ []) ts p.0 x left_join left_outer_join (word_taken keyword.Left ts p.0 p.1) p.2
 join_turn ts x (inr p) = past_join_sound keyword.Inner join_type.Inner [] ts ts x join inner_join refl p.1
 
-join_sound : (ts : List Terminal) (x : JoinType × List Terminal) → rule.join_at ts ≡ Some x → TookJoin ts x
-join_sound ts x e = join_turn ts x (choose_some (behind (is_keyword keyword.Left) ts) (rule.past_join keyword.Outer join_type.Left) (rule.past_join keyword.Inner join_type.Inner ts) x e)
+join_sound : (ts : List Terminal) (x : JoinType × List Terminal) → rule.join_at ts ≡ Ok x → TookJoin ts x
+join_sound ts x e = join_turn ts x (choose_ok (behind (is_keyword keyword.Left) ts) (rule.past_join keyword.Outer join_type.Left) (rule.past_join keyword.Inner join_type.Inner ts) x e)
 
 -- what stands before a table with a condition, and that table
 abbrev behind_join_at : (Level → phrase.Reader) → List Terminal → phrase.Reads Joined
 behind_join_at inner ts = rule.join_at ts >>= (λ j. rule.joined_at inner j.0 j.1)
 
-behind_join_sound : (n : ℕ) (inner : Level → phrase.Reader) → IsInner (suc n) inner → (ts : List Terminal) (x : Joined × List Terminal) → behind_join_at inner ts ≡ Some x → TookOther n ts x
+behind_join_sound : (n : ℕ) (inner : Level → phrase.Reader) → IsInner (suc n) inner → (ts : List Terminal) (x : Joined × List Terminal) → behind_join_at inner ts ≡ Ok x → TookOther n ts x
 behind_join_sound n inner h ts x e =
-    let r = bind_some (rule.join_at ts) (λ (j : JoinType × List Terminal). rule.joined_at inner j.0 j.1) x e in
+    let r = bind_ok (rule.join_at ts) (λ (j : JoinType × List Terminal). rule.joined_at inner j.0 j.1) x e in
     let j = join_sound ts r.0 r.1 in
     joined_sound n inner h r.0.0 j.front ts r.0.1 x j.spells j.parts r.2
 
 other_turn : (n : ℕ) (inner : Level → phrase.Reader) → IsInner (suc n) inner → (ts : List Terminal) (x : Joined × List Terminal)
-    → ((us : List Terminal) × (behind (is_sign sign.Comma) ts ≡ Some us) × (rule.listed_at us ≡ Some x)) ⊎ ((behind (is_sign sign.Comma) ts ≡ None) × (behind_join_at inner ts ≡ Some x)) → TookOther n ts x
+    → ((us : List Terminal) × (behind (is_sign sign.Comma) ts ≡ Some us) × (rule.listed_at us ≡ Ok x)) ⊎ ((behind (is_sign sign.Comma) ts ≡ None) × (behind_join_at inner ts ≡ Ok x)) → TookOther n ts x
 other_turn n inner h ts x (inl p) = listed_sound n ts p.0 x (mark_taken sign.Comma ts p.0 p.1) p.2
 other_turn n inner h ts x (inr p) = behind_join_sound n inner h ts x p.1
 
-other_sound : (n : ℕ) (inner : Level → phrase.Reader) → IsInner (suc n) inner → (ts : List Terminal) (x : Joined × List Terminal) → rule.other_at inner ts ≡ Some x → TookOther n ts x
-other_sound n inner h ts x e = other_turn n inner h ts x (choose_some (behind (is_sign sign.Comma) ts) rule.listed_at (behind_join_at inner ts) x e)
+other_sound : (n : ℕ) (inner : Level → phrase.Reader) → IsInner (suc n) inner → (ts : List Terminal) (x : Joined × List Terminal) → rule.other_at inner ts ≡ Ok x → TookOther n ts x
+other_sound n inner h ts x e = other_turn n inner h ts x (choose_ok (behind (is_sign sign.Comma) ts) rule.listed_at (behind_join_at inner ts) x e)
 
 -- a joined table's condition is so deep
 abbrev on_depth : Joined → ℕ
@@ -302,19 +304,19 @@ more_others_took n before ts j x t l =
     record { front = t.front ++ l.front; others = j.0 ∷ l.others; most = all.0; spells = all.1; parts = t.parts ∙ ap (λ (v : List Terminal). t.front ++ v) l.parts ∙ sym (append_assoc t.front l.front x.1); opens = all.2; are = l.are ∙ append_assoc before (j.0 ∷ []) l.others; bounded = bound }
 
 others_turn : (m n : ℕ) (inner : Level → phrase.Reader) → IsInner (suc n) inner → (before : List Joined) (ts : List Terminal) (x : List Joined × List Terminal)
-    → ((now : List Joined) (us : List Terminal) → rule.more_others inner m now us ≡ Some x → TookOthers n now us x)
-    → (begins : Bool) → cond begins (rule.put_other inner before ts >>= (λ y. rule.more_others inner m y.0 y.1)) (Some (before, ts)) ≡ Some x → TookOthers n before ts x
+    → ((now : List Joined) (us : List Terminal) → rule.more_others inner m now us ≡ Ok x → TookOthers n now us x)
+    → (begins : Bool) → cond begins (rule.put_other inner before ts >>= (λ y. rule.more_others inner m y.0 y.1)) (Ok (before, ts)) ≡ Ok x → TookOthers n before ts x
 others_turn m n inner h before ts x again true e =
-    let r = bind_some (rule.put_other inner before ts) (λ (y : List Joined × List Terminal). rule.more_others inner m y.0 y.1) x e in
-    let s = bind_some (rule.other_at inner ts) (λ (j : Joined × List Terminal). Some (before ++ j.0 ∷ [], j.1)) r.0 r.1 in
+    let r = bind_ok (rule.put_other inner before ts) (λ (y : List Joined × List Terminal). rule.more_others inner m y.0 y.1) x e in
+    let s = bind_ok (rule.other_at inner ts) (λ (j : Joined × List Terminal). Ok (before ++ j.0 ∷ [], j.1)) r.0 r.1 in
     let same : ◌≡◌ {A = List Joined × List Terminal} r.0 (before ++ s.0.0 ∷ [], s.0.1) = sym (cc s.2) in
-    let reads : rule.more_others inner m (before ++ s.0.0 ∷ []) s.0.1 ≡ Some x = subst (λ (y : List Joined × List Terminal). rule.more_others inner m y.0 y.1 ≡ Some x) same r.2 in
+    let reads : rule.more_others inner m (before ++ s.0.0 ∷ []) s.0.1 ≡ Ok x = subst (λ (y : List Joined × List Terminal). rule.more_others inner m y.0 y.1 ≡ Ok x) same r.2 in
     more_others_took n before ts s.0 x (other_sound n inner h ts s.0 s.1) (again (before ++ s.0.0 ∷ []) s.0.1 reads)
 others_turn m n inner h before ts x again false e =
     let same : ◌≡◌ {A = List Joined × List Terminal} (before, ts) x = cc e in
     subst (λ (y : List Joined × List Terminal). TookOthers n before ts y) same (no_others_took n before ts)
 
-others_sound : (m n : ℕ) (inner : Level → phrase.Reader) → IsInner (suc n) inner → (before : List Joined) (ts : List Terminal) (x : List Joined × List Terminal) → rule.more_others inner m before ts ≡ Some x → TookOthers n before ts x
+others_sound : (m n : ℕ) (inner : Level → phrase.Reader) → IsInner (suc n) inner → (before : List Joined) (ts : List Terminal) (x : List Joined × List Terminal) → rule.more_others inner m before ts ≡ Ok x → TookOthers n before ts x
 others_sound zero n inner h before ts x e = absurd cc
 others_sound (suc m) n inner h before ts x e = others_turn m n inner h before ts x (λ now us e2. others_sound m n inner h now us x e2) (phrase.begins_other ts) e
 
@@ -329,9 +331,9 @@ pub record TookClause (n : ℕ) (k : Keyword) (ts : List Terminal) (x : Option E
   pub bounded : option_depth x.0 ≤ 128
 
 clause_turn : (n : ℕ) (inner : Level → phrase.Reader) → IsInner (suc n) inner → (k : Keyword) (ts : List Terminal) (x : Option Expr × List Terminal)
-    → ((us : List Terminal) × (behind (is_keyword k) ts ≡ Some us) × ((inner level.Disjunction us >>= (λ e. Some (Some e.0.expr, e.1))) ≡ Some x)) ⊎ ((behind (is_keyword k) ts ≡ None) × (◌≡◌ {A = Option (Option Expr × List Terminal)} (Some (None, ts)) (Some x))) → TookClause n k ts x
+    → ((us : List Terminal) × (behind (is_keyword k) ts ≡ Some us) × ((inner level.Disjunction us >>= (λ e. Ok (Some e.0.expr, e.1))) ≡ Ok x)) ⊎ ((behind (is_keyword k) ts ≡ None) × (◌≡◌ {A = Result (Option Expr × List Terminal) Stop} (Ok (None, ts)) (Ok x))) → TookClause n k ts x
 clause_turn n inner h k ts x (inl p) =
-    let r = bind_some (inner level.Disjunction p.0) (λ (e : Parsed × List Terminal). Some (Some e.0.expr, e.1)) x p.2 in
+    let r = bind_ok (inner level.Disjunction p.0) (λ (e : Parsed × List Terminal). Ok (Some e.0.expr, e.1)) x p.2 in
     let t = h level.Disjunction p.0 r.0 r.1 in
     let opened : open_in t.spells + 1 ≤ suc n = t.opens in
     let few : open_in t.spells ≤ n = omega arith in
@@ -345,8 +347,8 @@ clause_turn n inner h k ts x (inr p) =
     let same : ◌≡◌ {A = Option Expr × List Terminal} (None, ts) x = cc p.1 in
     subst (λ (y : Option Expr × List Terminal). TookClause n k ts y) same (record { front = []; most = 0; spells = no_clause; parts = refl; opens = omega arith; bounded = omega arith })
 
-clause_sound : (n : ℕ) (inner : Level → phrase.Reader) → IsInner (suc n) inner → (k : Keyword) (ts : List Terminal) (x : Option Expr × List Terminal) → rule.clause_at inner k ts ≡ Some x → TookClause n k ts x
-clause_sound n inner h k ts x e = clause_turn n inner h k ts x (choose_some (behind (is_keyword k) ts) (λ (us : List Terminal). inner level.Disjunction us >>= (λ e. Some (Some e.0.expr, e.1))) (Some (None, ts)) x e)
+clause_sound : (n : ℕ) (inner : Level → phrase.Reader) → IsInner (suc n) inner → (k : Keyword) (ts : List Terminal) (x : Option Expr × List Terminal) → rule.clause_at inner k ts ≡ Ok x → TookClause n k ts x
+clause_sound n inner h k ts x e = clause_turn n inner h k ts x (choose_ok (behind (is_keyword k) ts) (λ (us : List Terminal). inner level.Disjunction us >>= (λ e. Ok (Some e.0.expr, e.1))) (Ok (None, ts)) x e)
 
 pub record TookGroups (n : ℕ) (ts : List Terminal) (x : List Expr × List Terminal) : Type 0 where
   pub front : List Terminal
@@ -357,15 +359,15 @@ pub record TookGroups (n : ℕ) (ts : List Terminal) (x : List Expr × List Term
   pub bounded : deepest (map depth x.0) ≤ 128
 
 groups_turn : (n : ℕ) (inner : Level → phrase.Reader) → IsInner (suc n) inner → (ts : List Terminal) (x : List Expr × List Terminal)
-    → ((us : List Terminal) × (behind (is_keyword keyword.Group) ts ≡ Some us) × (rule.group_keys_at inner [] us ≡ Some x)) ⊎ ((behind (is_keyword keyword.Group) ts ≡ None) × (◌≡◌ {A = Option (List Expr × List Terminal)} (Some ([], ts)) (Some x))) → TookGroups n ts x
+    → ((us : List Terminal) × (behind (is_keyword keyword.Group) ts ≡ Some us) × (rule.group_keys_at inner [] us ≡ Ok x)) ⊎ ((behind (is_keyword keyword.Group) ts ≡ None) × (◌≡◌ {A = Result (List Expr × List Terminal) Stop} (Ok ([], ts)) (Ok x))) → TookGroups n ts x
 groups_turn n inner h ts x (inl p) =
-    let b = bind_some (behind (is_keyword keyword.By) p.0) (λ (us : List Terminal). phrase.list_at inner (record { exprs = []; deepest = 0 }) us >>= (λ es. Some (es.0.exprs, es.1))) x p.2 in
-    let r = bind_some (phrase.list_at inner (record { exprs = []; deepest = 0 }) b.0) (λ (es : phrase.Listed × List Terminal). Some (es.0.exprs, es.1)) x b.2 in
+    let b = bind_ok (past (is_keyword keyword.By) p.0) (λ (us : List Terminal). phrase.list_at inner (record { exprs = []; deepest = 0 }) us >>= (λ es. Ok (es.0.exprs, es.1))) x p.2 in
+    let r = bind_ok (phrase.list_at inner (record { exprs = []; deepest = 0 }) b.0) (λ (es : phrase.Listed × List Terminal). Ok (es.0.exprs, es.1)) x b.2 in
     let l = list_sound (suc n) inner h (record { exprs = []; deepest = 0 }) b.0 r.0 r.1 in
     let opened : open_in_list l.spells + 1 ≤ suc n = l.opens in
     let few : open_in_list l.spells ≤ n = omega arith in
     let group_word : ts ≡ word keyword.Group ∷ p.0 = word_taken keyword.Group ts p.0 p.1 in
-    let by_word : p.0 ≡ word keyword.By ∷ b.0 = word_taken keyword.By p.0 b.0 b.1 in
+    let by_word : p.0 ≡ word keyword.By ∷ b.0 = word_past keyword.By p.0 b.0 b.1 in
     let listed : l.exprs ≡ r.0.0.exprs = sym l.are in
     let same : ◌≡◌ {A = List Expr × List Terminal} (l.exprs, r.0.1) x = ap (λ (es : List Expr). (es, r.0.1)) listed ∙ cc r.2 in
     subst (λ (y : List Expr × List Terminal). TookGroups n ts y) same
@@ -374,15 +376,15 @@ groups_turn n inner h ts x (inr p) =
     let same : ◌≡◌ {A = List Expr × List Terminal} ([], ts) x = cc p.1 in
     subst (λ (y : List Expr × List Terminal). TookGroups n ts y) same (record { front = []; most = 0; spells = no_groups; parts = refl; opens = omega arith; bounded = omega arith })
 
-groups_sound : (n : ℕ) (inner : Level → phrase.Reader) → IsInner (suc n) inner → (ts : List Terminal) (x : List Expr × List Terminal) → rule.groups_at inner ts ≡ Some x → TookGroups n ts x
-groups_sound n inner h ts x e = groups_turn n inner h ts x (choose_some (behind (is_keyword keyword.Group) ts) (rule.group_keys_at inner []) (Some ([], ts)) x e)
+groups_sound : (n : ℕ) (inner : Level → phrase.Reader) → IsInner (suc n) inner → (ts : List Terminal) (x : List Expr × List Terminal) → rule.groups_at inner ts ≡ Ok x → TookGroups n ts x
+groups_sound n inner h ts x e = groups_turn n inner h ts x (choose_ok (behind (is_keyword keyword.Group) ts) (rule.group_keys_at inner []) (Ok ([], ts)) x e)
 
 -- ---- keys
 
-integer_taken : (ts : List Terminal) (x : ℕ × List Terminal) → phrase.integer_at ts ≡ Some x → (ts ≡ terminal.integer x.0 ∷ x.1) × (x.0 ≤ 9223372036854775807)
+integer_taken : (ts : List Terminal) (x : ℕ × List Terminal) → phrase.integer_at ts ≡ Ok x → (ts ≡ terminal.integer x.0 ∷ x.1) × (x.0 ≤ 9223372036854775807)
 integer_taken [] x e = absurd cc
 integer_taken (terminal.integer n ∷ ts) x e =
-    let p = passed_as {A = ℕ × List Terminal} (nat_le n 9223372036854775807) (n, ts) x e in
+    let p = allowed {A = ℕ × List Terminal} (nat_le n 9223372036854775807) (stop.At (suc (length ts))) (n, ts) x e in
     let small : n ≤ 9223372036854775807 = leb-true n 9223372036854775807 p.0 in
     (ap (λ (y : ℕ × List Terminal). terminal.integer y.0 ∷ y.1) p.1, subst (λ (y : ℕ × List Terminal). y.0 ≤ 9223372036854775807) p.1 small)
 integer_taken (t ∷ ts) x e = absurd cc
@@ -392,19 +394,19 @@ pub record TookTarget (ts : List Terminal) (x : OrderTarget × List Terminal) : 
   pub spells : SpellsTarget first x.0
   pub parts : ts ≡ first ∷ x.1
 
-target_turn : (ts : List Terminal) (x : OrderTarget × List Terminal) (begins : Bool) → cond begins (phrase.integer_at ts >>= (λ n. Some (target.Position n.0, n.1))) (phrase.name_at ts >>= (λ n. Some (target.Name n.0, n.1))) ≡ Some x → TookTarget ts x
+target_turn : (ts : List Terminal) (x : OrderTarget × List Terminal) (begins : Bool) → cond begins (phrase.integer_at ts >>= (λ n. Ok (target.Position n.0, n.1))) (phrase.name_at ts >>= (λ n. Ok (target.Name n.0, n.1))) ≡ Ok x → TookTarget ts x
 target_turn ts x true e =
-    let r = bind_some (phrase.integer_at ts) (λ (n : ℕ × List Terminal). Some (target.Position n.0, n.1)) x e in
+    let r = bind_ok (phrase.integer_at ts) (λ (n : ℕ × List Terminal). Ok (target.Position n.0, n.1)) x e in
     let p = integer_taken ts r.0 r.1 in
     let same : ◌≡◌ {A = OrderTarget × List Terminal} (target.Position r.0.0, r.0.1) x = cc r.2 in
     subst (λ (y : OrderTarget × List Terminal). TookTarget ts y) same (record { first = terminal.integer r.0.0; spells = position r.0.0 p.1; parts = p.0 })
 target_turn ts x false e =
-    let r = bind_some (phrase.name_at ts) (λ (n : List ℕ × List Terminal). Some (target.Name n.0, n.1)) x e in
+    let r = bind_ok (phrase.name_at ts) (λ (n : List ℕ × List Terminal). Ok (target.Name n.0, n.1)) x e in
     let m = name_taken ts r.0 r.1 in
     let same : ◌≡◌ {A = OrderTarget × List Terminal} (target.Name (lower m.0), r.0.1) x = ap (λ (w : List ℕ). (target.Name w, r.0.1)) m.2 ∙ cc r.2 in
     subst (λ (y : OrderTarget × List Terminal). TookTarget ts y) same (record { first = terminal.name m.0; spells = name m.0; parts = m.1 })
 
-target_sound : (ts : List Terminal) (x : OrderTarget × List Terminal) → rule.target_at ts ≡ Some x → TookTarget ts x
+target_sound : (ts : List Terminal) (x : OrderTarget × List Terminal) → rule.target_at ts ≡ Ok x → TookTarget ts x
 target_sound ts x e = target_turn ts x (phrase.begins_integer ts) e
 
 pub record TookDirection (ts : List Terminal) (x : Direction × List Terminal) : Type 0 where
@@ -431,9 +433,9 @@ pub record TookKey (ts : List Terminal) (x : OrderKey × List Terminal) : Type 0
   pub directs : SpellsDirection front toward
   pub parts : ts ≡ first ∷ front ++ x.1
 
-key_sound : (ts : List Terminal) (x : OrderKey × List Terminal) → rule.key_at ts ≡ Some x → TookKey ts x
+key_sound : (ts : List Terminal) (x : OrderKey × List Terminal) → rule.key_at ts ≡ Ok x → TookKey ts x
 key_sound ts x e =
-    let r = bind_some (rule.target_at ts) (λ (t : OrderTarget × List Terminal). Some (record { target = t.0; direction = (rule.direction_at t.1).0 }, (rule.direction_at t.1).1)) x e in
+    let r = bind_ok (rule.target_at ts) (λ (t : OrderTarget × List Terminal). Ok (record { target = t.0; direction = (rule.direction_at t.1).0 }, (rule.direction_at t.1).1)) x e in
     let t = target_sound ts r.0 r.1 in
     let d = direction_sound r.0.1 in
     let same : ◌≡◌ {A = OrderKey × List Terminal} (record { target = r.0.0; direction = (rule.direction_at r.0.1).0 }, (rule.direction_at r.0.1).1) x = cc r.2 in
@@ -458,31 +460,31 @@ more_keys_took before ts us p x t comma l =
     record { front = t.first ∷ t.front ++ mark sign.Comma ∷ l.front; keys = record { target = t.to; direction = t.toward } ∷ l.keys; spells = more_keys t.names t.directs l.spells; parts = t.parts ∙ ap (λ (v : List Terminal). t.first ∷ v) tail; are = lists }
 
 key_turn : (m : ℕ) (before : List OrderKey) (ts : List Terminal) (p : OrderKey × List Terminal) (x : List OrderKey × List Terminal) → TookKey ts p
-    → ((us : List Terminal) (q : OrderKey × List Terminal) → TookKey us q → rule.more_keys m ((before ++ p.0 ∷ []) ++ q.0 ∷ []) q.1 ≡ Some x → TookKeys (before ++ p.0 ∷ []) us x)
-    → ((us : List Terminal) × (behind (is_sign sign.Comma) p.1 ≡ Some us) × ((rule.put_key (before ++ p.0 ∷ []) us >>= (λ y. rule.more_keys m y.0 y.1)) ≡ Some x)) ⊎ ((behind (is_sign sign.Comma) p.1 ≡ None) × (◌≡◌ {A = Option (List OrderKey × List Terminal)} (Some (before ++ p.0 ∷ [], p.1)) (Some x)))
+    → ((us : List Terminal) (q : OrderKey × List Terminal) → TookKey us q → rule.more_keys m ((before ++ p.0 ∷ []) ++ q.0 ∷ []) q.1 ≡ Ok x → TookKeys (before ++ p.0 ∷ []) us x)
+    → ((us : List Terminal) × (behind (is_sign sign.Comma) p.1 ≡ Some us) × ((rule.put_key (before ++ p.0 ∷ []) us >>= (λ y. rule.more_keys m y.0 y.1)) ≡ Ok x)) ⊎ ((behind (is_sign sign.Comma) p.1 ≡ None) × (◌≡◌ {A = Result (List OrderKey × List Terminal) Stop} (Ok (before ++ p.0 ∷ [], p.1)) (Ok x)))
     → TookKeys before ts x
 key_turn m before ts p x t again (inl q) =
-    let r = bind_some (rule.put_key (before ++ p.0 ∷ []) q.0) (λ (y : List OrderKey × List Terminal). rule.more_keys m y.0 y.1) x q.2 in
-    let s = bind_some (rule.key_at q.0) (λ (y : OrderKey × List Terminal). Some ((before ++ p.0 ∷ []) ++ y.0 ∷ [], y.1)) r.0 r.1 in
+    let r = bind_ok (rule.put_key (before ++ p.0 ∷ []) q.0) (λ (y : List OrderKey × List Terminal). rule.more_keys m y.0 y.1) x q.2 in
+    let s = bind_ok (rule.key_at q.0) (λ (y : OrderKey × List Terminal). Ok ((before ++ p.0 ∷ []) ++ y.0 ∷ [], y.1)) r.0 r.1 in
     let same : ◌≡◌ {A = List OrderKey × List Terminal} r.0 ((before ++ p.0 ∷ []) ++ s.0.0 ∷ [], s.0.1) = sym (cc s.2) in
-    let reads : rule.more_keys m ((before ++ p.0 ∷ []) ++ s.0.0 ∷ []) s.0.1 ≡ Some x = subst (λ (y : List OrderKey × List Terminal). rule.more_keys m y.0 y.1 ≡ Some x) same r.2 in
+    let reads : rule.more_keys m ((before ++ p.0 ∷ []) ++ s.0.0 ∷ []) s.0.1 ≡ Ok x = subst (λ (y : List OrderKey × List Terminal). rule.more_keys m y.0 y.1 ≡ Ok x) same r.2 in
     more_keys_took before ts q.0 p x t (mark_taken sign.Comma p.1 q.0 q.1) (again q.0 s.0 (key_sound q.0 s.0 s.1) reads)
 key_turn m before ts p x t again (inr q) =
     let same : ◌≡◌ {A = List OrderKey × List Terminal} (before ++ p.0 ∷ [], p.1) x = cc q.1 in
     subst (λ (y : List OrderKey × List Terminal). TookKeys before ts y) same (last_key_took before ts p t)
 
-keys_go : (m : ℕ) (before : List OrderKey) (ts : List Terminal) (p : OrderKey × List Terminal) (x : List OrderKey × List Terminal) → TookKey ts p → rule.more_keys m (before ++ p.0 ∷ []) p.1 ≡ Some x → TookKeys before ts x
+keys_go : (m : ℕ) (before : List OrderKey) (ts : List Terminal) (p : OrderKey × List Terminal) (x : List OrderKey × List Terminal) → TookKey ts p → rule.more_keys m (before ++ p.0 ∷ []) p.1 ≡ Ok x → TookKeys before ts x
 keys_go zero before ts p x t e = absurd cc
 keys_go (suc m) before ts p x t e =
     key_turn m before ts p x t (λ us q t2 e2. keys_go m (before ++ p.0 ∷ []) us q x t2 e2)
-    (choose_some (behind (is_sign sign.Comma) p.1) (λ (us : List Terminal). rule.put_key (before ++ p.0 ∷ []) us >>= (λ y. rule.more_keys m y.0 y.1)) (Some (before ++ p.0 ∷ [], p.1)) x e)
+    (choose_ok (behind (is_sign sign.Comma) p.1) (λ (us : List Terminal). rule.put_key (before ++ p.0 ∷ []) us >>= (λ y. rule.more_keys m y.0 y.1)) (Ok (before ++ p.0 ∷ [], p.1)) x e)
 
-keys_sound : (before : List OrderKey) (ts : List Terminal) (x : List OrderKey × List Terminal) → rule.keys_at before ts ≡ Some x → TookKeys before ts x
+keys_sound : (before : List OrderKey) (ts : List Terminal) (x : List OrderKey × List Terminal) → rule.keys_at before ts ≡ Ok x → TookKeys before ts x
 keys_sound before ts x e =
-    let r = bind_some (rule.put_key before ts) (λ (y : List OrderKey × List Terminal). rule.more_keys (suc (length y.1)) y.0 y.1) x e in
-    let s = bind_some (rule.key_at ts) (λ (y : OrderKey × List Terminal). Some (before ++ y.0 ∷ [], y.1)) r.0 r.1 in
+    let r = bind_ok (rule.put_key before ts) (λ (y : List OrderKey × List Terminal). rule.more_keys (suc (length y.1)) y.0 y.1) x e in
+    let s = bind_ok (rule.key_at ts) (λ (y : OrderKey × List Terminal). Ok (before ++ y.0 ∷ [], y.1)) r.0 r.1 in
     let same : ◌≡◌ {A = List OrderKey × List Terminal} r.0 (before ++ s.0.0 ∷ [], s.0.1) = sym (cc s.2) in
-    let reads : rule.more_keys (suc (length s.0.1)) (before ++ s.0.0 ∷ []) s.0.1 ≡ Some x = subst (λ (y : List OrderKey × List Terminal). rule.more_keys (suc (length y.1)) y.0 y.1 ≡ Some x) same r.2 in
+    let reads : rule.more_keys (suc (length s.0.1)) (before ++ s.0.0 ∷ []) s.0.1 ≡ Ok x = subst (λ (y : List OrderKey × List Terminal). rule.more_keys (suc (length y.1)) y.0 y.1 ≡ Ok x) same r.2 in
     keys_go (suc (length s.0.1)) before ts s.0 x (key_sound ts s.0 s.1) reads
 
 pub record TookOrder (ts : List Terminal) (x : List OrderKey × List Terminal) : Type 0 where
@@ -491,20 +493,20 @@ pub record TookOrder (ts : List Terminal) (x : List OrderKey × List Terminal) :
   pub parts : ts ≡ front ++ x.1
 
 order_turn : (ts : List Terminal) (x : List OrderKey × List Terminal)
-    → ((us : List Terminal) × (behind (is_keyword keyword.Order) ts ≡ Some us) × ((behind (is_keyword keyword.By) us >>= rule.keys_at []) ≡ Some x)) ⊎ ((behind (is_keyword keyword.Order) ts ≡ None) × (◌≡◌ {A = Option (List OrderKey × List Terminal)} (Some ([], ts)) (Some x))) → TookOrder ts x
+    → ((us : List Terminal) × (behind (is_keyword keyword.Order) ts ≡ Some us) × ((past (is_keyword keyword.By) us >>= rule.keys_at []) ≡ Ok x)) ⊎ ((behind (is_keyword keyword.Order) ts ≡ None) × (◌≡◌ {A = Result (List OrderKey × List Terminal) Stop} (Ok ([], ts)) (Ok x))) → TookOrder ts x
 order_turn ts x (inl p) =
-    let r = bind_some (behind (is_keyword keyword.By) p.0) (rule.keys_at []) x p.2 in
+    let r = bind_ok (past (is_keyword keyword.By) p.0) (rule.keys_at []) x p.2 in
     let l = keys_sound [] r.0 x r.2 in
     let order_word : ts ≡ word keyword.Order ∷ p.0 = word_taken keyword.Order ts p.0 p.1 in
-    let by_word : p.0 ≡ word keyword.By ∷ r.0 = word_taken keyword.By p.0 r.0 r.1 in
+    let by_word : p.0 ≡ word keyword.By ∷ r.0 = word_past keyword.By p.0 r.0 r.1 in
     let same : l.keys ≡ x.0 = sym l.are in
     record { front = word keyword.Order ∷ word keyword.By ∷ l.front; spells = subst (λ (ks : List OrderKey). SpellsOrder (word keyword.Order ∷ word keyword.By ∷ l.front) ks) same (order l.spells); parts = order_word ∙ ap (λ (v : List Terminal). word keyword.Order ∷ v) (by_word ∙ ap (λ (v : List Terminal). word keyword.By ∷ v) l.parts) }
 order_turn ts x (inr p) =
     let same : ◌≡◌ {A = List OrderKey × List Terminal} ([], ts) x = cc p.1 in
     subst (λ (y : List OrderKey × List Terminal). TookOrder ts y) same (record { front = []; spells = no_order; parts = refl })
 
-order_sound : (ts : List Terminal) (x : List OrderKey × List Terminal) → rule.order_at ts ≡ Some x → TookOrder ts x
-order_sound ts x e = order_turn ts x (choose_some (behind (is_keyword keyword.Order) ts) (λ (us : List Terminal). behind (is_keyword keyword.By) us >>= rule.keys_at []) (Some ([], ts)) x e)
+order_sound : (ts : List Terminal) (x : List OrderKey × List Terminal) → rule.order_at ts ≡ Ok x → TookOrder ts x
+order_sound ts x e = order_turn ts x (choose_ok (behind (is_keyword keyword.Order) ts) (λ (us : List Terminal). past (is_keyword keyword.By) us >>= rule.keys_at []) (Ok ([], ts)) x e)
 
 -- ---- LIMIT and the end
 
@@ -514,9 +516,9 @@ pub record TookLimit (ts : List Terminal) (x : Option ℕ × List Terminal) : Ty
   pub parts : ts ≡ front ++ x.1
 
 limit_turn : (ts : List Terminal) (x : Option ℕ × List Terminal)
-    → ((us : List Terminal) × (behind (is_keyword keyword.Limit) ts ≡ Some us) × ((phrase.integer_at us >>= (λ n. Some (Some n.0, n.1))) ≡ Some x)) ⊎ ((behind (is_keyword keyword.Limit) ts ≡ None) × (◌≡◌ {A = Option (Option ℕ × List Terminal)} (Some (None, ts)) (Some x))) → TookLimit ts x
+    → ((us : List Terminal) × (behind (is_keyword keyword.Limit) ts ≡ Some us) × ((phrase.integer_at us >>= (λ n. Ok (Some n.0, n.1))) ≡ Ok x)) ⊎ ((behind (is_keyword keyword.Limit) ts ≡ None) × (◌≡◌ {A = Result (Option ℕ × List Terminal) Stop} (Ok (None, ts)) (Ok x))) → TookLimit ts x
 limit_turn ts x (inl p) =
-    let r = bind_some (phrase.integer_at p.0) (λ (n : ℕ × List Terminal). Some (Some n.0, n.1)) x p.2 in
+    let r = bind_ok (phrase.integer_at p.0) (λ (n : ℕ × List Terminal). Ok (Some n.0, n.1)) x p.2 in
     let k = integer_taken p.0 r.0 r.1 in
     let same : ◌≡◌ {A = Option ℕ × List Terminal} (Some r.0.0, r.0.1) x = cc r.2 in
     subst (λ (y : Option ℕ × List Terminal). TookLimit ts y) same
@@ -525,21 +527,21 @@ limit_turn ts x (inr p) =
     let same : ◌≡◌ {A = Option ℕ × List Terminal} (None, ts) x = cc p.1 in
     subst (λ (y : Option ℕ × List Terminal). TookLimit ts y) same (record { front = []; spells = no_limit; parts = refl })
 
-limit_sound : (ts : List Terminal) (x : Option ℕ × List Terminal) → rule.limit_at ts ≡ Some x → TookLimit ts x
-limit_sound ts x e = limit_turn ts x (choose_some (behind (is_keyword keyword.Limit) ts) (λ (us : List Terminal). phrase.integer_at us >>= (λ n. Some (Some n.0, n.1))) (Some (None, ts)) x e)
+limit_sound : (ts : List Terminal) (x : Option ℕ × List Terminal) → rule.limit_at ts ≡ Ok x → TookLimit ts x
+limit_sound ts x e = limit_turn ts x (choose_ok (behind (is_keyword keyword.Limit) ts) (λ (us : List Terminal). phrase.integer_at us >>= (λ n. Ok (Some n.0, n.1))) (Ok (None, ts)) x e)
 
-ended_is : (ts : List Terminal) (u : Unit {0}) → rule.ended ts ≡ Some u → ts ≡ []
+ended_is : (ts : List Terminal) (u : Unit {0}) → rule.ended ts ≡ Ok u → ts ≡ []
 ended_is [] u e = refl
 ended_is (t ∷ ts) u e = absurd cc
 
-ending_turn : (ts : List Terminal) (u : Unit {0}) → ((us : List Terminal) × (behind (is_sign sign.Semicolon) ts ≡ Some us) × (rule.ended us ≡ Some u)) ⊎ ((behind (is_sign sign.Semicolon) ts ≡ None) × (rule.ended ts ≡ Some u)) → SpellsEnd ts
+ending_turn : (ts : List Terminal) (u : Unit {0}) → ((us : List Terminal) × (behind (is_sign sign.Semicolon) ts ≡ Some us) × (rule.ended us ≡ Ok u)) ⊎ ((behind (is_sign sign.Semicolon) ts ≡ None) × (rule.ended ts ≡ Ok u)) → SpellsEnd ts
 ending_turn ts u (inl p) =
     let all : ts ≡ mark sign.Semicolon ∷ [] = mark_taken sign.Semicolon ts p.0 p.1 ∙ ap (λ (v : List Terminal). mark sign.Semicolon ∷ v) (ended_is p.0 u p.2) in
     subst (λ (v : List Terminal). SpellsEnd v) (sym all) semicolon
 ending_turn ts u (inr p) = subst (λ (v : List Terminal). SpellsEnd v) (sym (ended_is ts u p.1)) no_end
 
-ending_sound : (ts : List Terminal) (u : Unit {0}) → rule.ending_at ts ≡ Some u → SpellsEnd ts
-ending_sound ts u e = ending_turn ts u (choose_some (behind (is_sign sign.Semicolon) ts) rule.ended (rule.ended ts) u e)
+ending_sound : (ts : List Terminal) (u : Unit {0}) → rule.ending_at ts ≡ Ok u → SpellsEnd ts
+ending_sound ts u e = ending_turn ts u (choose_ok (behind (is_sign sign.Semicolon) ts) rule.ended (rule.ended ts) u e)
 
 -- ---- the query from its parts
 
@@ -552,12 +554,12 @@ pub record TookTail (ts : List Terminal) (x : rule.Tail) : Type 0 where
   pub ends : SpellsEnd end_tokens
   pub parts : ts ≡ order_tokens ++ (limit_tokens ++ end_tokens)
 
-tail_sound : (ts : List Terminal) (x : rule.Tail) → rule.tail_at ts ≡ Some x → TookTail ts x
+tail_sound : (ts : List Terminal) (x : rule.Tail) → rule.tail_at ts ≡ Ok x → TookTail ts x
 tail_sound ts x e =
-    let r = bind_some (rule.order_at ts) (λ (o : List OrderKey × List Terminal). rule.ended_limit_at o.1 >>= (λ l. Some (o.0, l))) x e in
-    let s = bind_some (rule.ended_limit_at r.0.1) (λ (l : Option ℕ). Some (r.0.0, l)) x r.2 in
-    let l = bind_some (rule.limit_at r.0.1) (λ (l : Option ℕ × List Terminal). rule.ending_at l.1 >>= (λ _. Some l.0)) s.0 s.1 in
-    let u = bind_some (rule.ending_at l.0.1) (λ (u : Unit {0}). Some l.0.0) s.0 l.2 in
+    let r = bind_ok (rule.order_at ts) (λ (o : List OrderKey × List Terminal). rule.ended_limit_at o.1 >>= (λ l. Ok (o.0, l))) x e in
+    let s = bind_ok (rule.ended_limit_at r.0.1) (λ (l : Option ℕ). Ok (r.0.0, l)) x r.2 in
+    let l = bind_ok (rule.limit_at r.0.1) (λ (l : Option ℕ × List Terminal). rule.ending_at l.1 >>= (λ _. Ok l.0)) s.0 s.1 in
+    let u = bind_ok (rule.ending_at l.0.1) (λ (u : Unit {0}). Ok l.0.0) s.0 l.2 in
     let o = order_sound ts r.0 r.1 in
     let k = limit_sound r.0.1 l.0 l.1 in
     let limit_is : l.0.0 ≡ s.0 = cc u.2 in
@@ -576,11 +578,11 @@ pub record TookWith (n : ℕ) (k : Keyword) (Rest : Type 0) (Behind : List Termi
   pub others : Behind left x.1
   pub parts : ts ≡ front ++ left
 
-with_sound : (n : ℕ) (inner : Level → phrase.Reader) → IsInner (suc n) inner → (k : Keyword) (Rest : Type 0) (Behind : List Terminal → Rest → Type 0) (read : List Terminal → Option Rest) → ((us : List Terminal) (y : Rest) → read us ≡ Some y → Behind us y)
-    → (ts : List Terminal) (x : Option Expr × Rest) → (rule.clause_at inner k ts >>= (λ h. read h.1 >>= (λ t. Some (h.0, t)))) ≡ Some x → TookWith n k Rest Behind ts x
+with_sound : (n : ℕ) (inner : Level → phrase.Reader) → IsInner (suc n) inner → (k : Keyword) (Rest : Type 0) (Behind : List Terminal → Rest → Type 0) (read : List Terminal → Result Rest Stop) → ((us : List Terminal) (y : Rest) → read us ≡ Ok y → Behind us y)
+    → (ts : List Terminal) (x : Option Expr × Rest) → (rule.clause_at inner k ts >>= (λ h. read h.1 >>= (λ t. Ok (h.0, t)))) ≡ Ok x → TookWith n k Rest Behind ts x
 with_sound n inner h k Rest Behind read sound ts x e =
-    let r = bind_some (rule.clause_at inner k ts) (λ (h : Option Expr × List Terminal). read h.1 >>= (λ t. Some (h.0, t))) x e in
-    let s = bind_some (read r.0.1) (λ (t : Rest). Some (r.0.0, t)) x r.2 in
+    let r = bind_ok (rule.clause_at inner k ts) (λ (h : Option Expr × List Terminal). read h.1 >>= (λ t. Ok (h.0, t))) x e in
+    let s = bind_ok (read r.0.1) (λ (t : Rest). Ok (r.0.0, t)) x r.2 in
     let c = clause_sound n inner h k ts r.0 r.1 in
     let same : ◌≡◌ {A = Option Expr × Rest} (r.0.0, s.0) x = cc s.2 in
     subst (λ (y : Option Expr × Rest). TookWith n k Rest Behind ts y) same
@@ -589,7 +591,7 @@ with_sound n inner h k Rest Behind read sound ts x e =
 abbrev TookHaving : ℕ → List Terminal → Option Expr × rule.Tail → Type 0
 TookHaving n = TookWith n keyword.Having rule.Tail TookTail
 
-having_sound : (n : ℕ) (inner : Level → phrase.Reader) → IsInner (suc n) inner → (ts : List Terminal) (x : Option Expr × rule.Tail) → rule.having_at inner ts ≡ Some x → TookHaving n ts x
+having_sound : (n : ℕ) (inner : Level → phrase.Reader) → IsInner (suc n) inner → (ts : List Terminal) (x : Option Expr × rule.Tail) → rule.having_at inner ts ≡ Ok x → TookHaving n ts x
 having_sound n inner h ts x e = with_sound n inner h keyword.Having rule.Tail TookTail rule.tail_at tail_sound ts x e
 
 pub record TookGrouping (n : ℕ) (ts : List Terminal) (x : List Expr × (Option Expr × rule.Tail)) : Type 0 where
@@ -602,10 +604,10 @@ pub record TookGrouping (n : ℕ) (ts : List Terminal) (x : List Expr × (Option
   pub having : TookHaving n left x.1
   pub parts : ts ≡ front ++ left
 
-grouping_sound : (n : ℕ) (inner : Level → phrase.Reader) → IsInner (suc n) inner → (ts : List Terminal) (x : List Expr × (Option Expr × rule.Tail)) → rule.grouping_at inner ts ≡ Some x → TookGrouping n ts x
+grouping_sound : (n : ℕ) (inner : Level → phrase.Reader) → IsInner (suc n) inner → (ts : List Terminal) (x : List Expr × (Option Expr × rule.Tail)) → rule.grouping_at inner ts ≡ Ok x → TookGrouping n ts x
 grouping_sound n inner h ts x e =
-    let r = bind_some (rule.groups_at inner ts) (λ (g : List Expr × List Terminal). rule.having_at inner g.1 >>= (λ h. Some (g.0, h))) x e in
-    let s = bind_some (rule.having_at inner r.0.1) (λ (h : Option Expr × rule.Tail). Some (r.0.0, h)) x r.2 in
+    let r = bind_ok (rule.groups_at inner ts) (λ (g : List Expr × List Terminal). rule.having_at inner g.1 >>= (λ h. Ok (g.0, h))) x e in
+    let s = bind_ok (rule.having_at inner r.0.1) (λ (h : Option Expr × rule.Tail). Ok (r.0.0, h)) x r.2 in
     let g = groups_sound n inner h ts r.0 r.1 in
     let same : ◌≡◌ {A = List Expr × (Option Expr × rule.Tail)} (r.0.0, s.0) x = cc s.2 in
     subst (λ (y : List Expr × (Option Expr × rule.Tail)). TookGrouping n ts y) same
@@ -618,7 +620,7 @@ Conditions = Option Expr × (List Expr × (Option Expr × rule.Tail))
 abbrev TookConditions : ℕ → List Terminal → Conditions → Type 0
 TookConditions n = TookWith n keyword.Where (List Expr × (Option Expr × rule.Tail)) (TookGrouping n)
 
-conditions_sound : (n : ℕ) (inner : Level → phrase.Reader) → IsInner (suc n) inner → (ts : List Terminal) (x : Conditions) → rule.conditions_at inner ts ≡ Some x → TookConditions n ts x
+conditions_sound : (n : ℕ) (inner : Level → phrase.Reader) → IsInner (suc n) inner → (ts : List Terminal) (x : Conditions) → rule.conditions_at inner ts ≡ Ok x → TookConditions n ts x
 conditions_sound n inner h ts x e = with_sound n inner h keyword.Where (List Expr × (Option Expr × rule.Tail)) (TookGrouping n) (rule.grouping_at inner) (grouping_sound n inner h) ts x e
 
 pub record TookSource (n : ℕ) (ts : List Terminal) (x : Source × List Terminal) : Type 0 where
@@ -631,15 +633,15 @@ pub record TookSource (n : ℕ) (ts : List Terminal) (x : Source × List Termina
   pub bounded : deepest (map on_depth x.0.others) ≤ 128
   pub parts : ts ≡ word keyword.From ∷ first_front ++ (front ++ x.1)
 
-source_sound : (n : ℕ) (inner : Level → phrase.Reader) → IsInner (suc n) inner → (ts : List Terminal) (x : Source × List Terminal) → rule.source_at inner ts ≡ Some x → TookSource n ts x
+source_sound : (n : ℕ) (inner : Level → phrase.Reader) → IsInner (suc n) inner → (ts : List Terminal) (x : Source × List Terminal) → rule.source_at inner ts ≡ Ok x → TookSource n ts x
 source_sound n inner h ts x e =
-    let f = bind_some (behind (is_keyword keyword.From) ts) (λ (us : List Terminal). rule.tables_at inner [] us >>= (λ x. Some (record { first = x.0.0; others = x.0.1 }, x.1))) x e in
-    let r = bind_some (rule.tables_at inner [] f.0) (λ (x : (Table × List Joined) × List Terminal). Some (record { first = x.0.0; others = x.0.1 }, x.1)) x f.2 in
-    let t = bind_some (rule.table_at f.0) (λ (t : Table × List Terminal). rule.more_others inner (suc (length t.1)) [] t.1 >>= (λ o. Some ((t.0, o.0), o.1))) r.0 r.1 in
-    let o = bind_some (rule.more_others inner (suc (length t.0.1)) [] t.0.1) (λ (o : List Joined × List Terminal). Some ((t.0.0, o.0), o.1)) r.0 t.2 in
+    let f = bind_ok (past (is_keyword keyword.From) ts) (λ (us : List Terminal). rule.tables_at inner [] us >>= (λ x. Ok (record { first = x.0.0; others = x.0.1 }, x.1))) x e in
+    let r = bind_ok (rule.tables_at inner [] f.0) (λ (x : (Table × List Joined) × List Terminal). Ok (record { first = x.0.0; others = x.0.1 }, x.1)) x f.2 in
+    let t = bind_ok (rule.table_at f.0) (λ (t : Table × List Terminal). rule.more_others inner (suc (length t.1)) [] t.1 >>= (λ o. Ok ((t.0, o.0), o.1))) r.0 r.1 in
+    let o = bind_ok (rule.more_others inner (suc (length t.0.1)) [] t.0.1) (λ (o : List Joined × List Terminal). Ok ((t.0.0, o.0), o.1)) r.0 t.2 in
     let a = table_sound f.0 t.0 t.1 in
     let b = others_sound (suc (length t.0.1)) n inner h [] t.0.1 o.0 o.1 in
-    let from_word : ts ≡ word keyword.From ∷ f.0 = word_taken keyword.From ts f.0 f.1 in
+    let from_word : ts ≡ word keyword.From ∷ f.0 = word_past keyword.From ts f.0 f.1 in
     let listed : b.others ≡ o.0.0 = sym b.are in
     let tables : ◌≡◌ {A = (Table × List Joined) × List Terminal} ((t.0.0, b.others), o.0.1) r.0 = ap (λ (js : List Joined). ((t.0.0, js), o.0.1)) listed ∙ cc o.2 in
     let same : ◌≡◌ {A = Source × List Terminal} (record { first = t.0.0; others = b.others }, o.0.1) x = ap (λ (y : (Table × List Joined) × List Terminal). (record { first = y.0.0; others = y.0.1 }, y.1)) tables ∙ cc r.2 in
@@ -651,10 +653,10 @@ pub record TookFrom (n : ℕ) (ts : List Terminal) (x : Source × Conditions) : 
   pub source : TookSource n ts (x.0, left)
   pub conditions : TookConditions n left x.1
 
-from_sound : (n : ℕ) (inner : Level → phrase.Reader) → IsInner (suc n) inner → (ts : List Terminal) (x : Source × Conditions) → rule.from_at inner ts ≡ Some x → TookFrom n ts x
+from_sound : (n : ℕ) (inner : Level → phrase.Reader) → IsInner (suc n) inner → (ts : List Terminal) (x : Source × Conditions) → rule.from_at inner ts ≡ Ok x → TookFrom n ts x
 from_sound n inner h ts x e =
-    let r = bind_some (rule.source_at inner ts) (λ (s : Source × List Terminal). rule.conditions_at inner s.1 >>= (λ c. Some (s.0, c))) x e in
-    let s = bind_some (rule.conditions_at inner r.0.1) (λ (c : Conditions). Some (r.0.0, c)) x r.2 in
+    let r = bind_ok (rule.source_at inner ts) (λ (s : Source × List Terminal). rule.conditions_at inner s.1 >>= (λ c. Ok (s.0, c))) x e in
+    let s = bind_ok (rule.conditions_at inner r.0.1) (λ (c : Conditions). Ok (r.0.0, c)) x r.2 in
     let same : ◌≡◌ {A = Source × Conditions} (r.0.0, s.0) x = cc s.2 in
     subst (λ (y : Source × Conditions). TookFrom n ts y) same (record { left = r.0.1; source = source_sound n inner h ts r.0 r.1; conditions = conditions_sound n inner h r.0.1 s.0 s.1 })
 
@@ -732,19 +734,19 @@ distinct_by ts None taken = refl
 distinct_sound : (ts : List Terminal) → ts ≡ distinct_if (rule.distinct_at ts).0 ++ (rule.distinct_at ts).1
 distinct_sound ts = distinct_by ts (behind (is_keyword keyword.Distinct) ts) (λ us e. word_taken keyword.Distinct ts us e)
 
-parts_sound : (n : ℕ) (inner : Level → phrase.Reader) → IsInner (suc n) inner → (ts : List Terminal) (q : Query) → rule.query_at inner ts ≡ Some q → TookQuery n ts q
+parts_sound : (n : ℕ) (inner : Level → phrase.Reader) → IsInner (suc n) inner → (ts : List Terminal) (q : Query) → rule.query_at inner ts ≡ Ok q → TookQuery n ts q
 parts_sound n inner h ts q e =
-    let a = bind_some (behind (is_keyword keyword.Select) ts) (λ (us : List Terminal). rule.query_behind inner (rule.distinct_at us)) q e in
+    let a = bind_ok (past (is_keyword keyword.Select) ts) (λ (us : List Terminal). rule.query_behind inner (rule.distinct_at us)) q e in
     let distinct : Bool = (rule.distinct_at a.0).0 in
     let rest : List Terminal = (rule.distinct_at a.0).1 in
-    let b = bind_some (rule.selected_at inner [] rest) (λ (x : List Item × (Source × Conditions)). Some (rule.query_of_parts distinct x.0 x.1)) q a.2 in
-    let c = bind_some (rule.items_at inner [] rest) (λ (i : List Item × List Terminal). rule.from_at inner i.1 >>= (λ f. Some (i.0, f))) b.0 b.1 in
-    let d = bind_some (rule.from_at inner c.0.1) (λ (f : Source × Conditions). Some (c.0.0, f)) b.0 c.2 in
+    let b = bind_ok (rule.selected_at inner [] rest) (λ (x : List Item × (Source × Conditions)). Ok (rule.query_of_parts distinct x.0 x.1)) q a.2 in
+    let c = bind_ok (rule.items_at inner [] rest) (λ (i : List Item × List Terminal). rule.from_at inner i.1 >>= (λ f. Ok (i.0, f))) b.0 b.1 in
+    let d = bind_ok (rule.from_at inner c.0.1) (λ (f : Source × Conditions). Ok (c.0.0, f)) b.0 c.2 in
     let found : ◌≡◌ {A = List Item × (Source × Conditions)} (c.0.0, d.0) b.0 = cc d.2 in
     let same : rule.query_of_parts distinct c.0.0 d.0 ≡ q = ap (λ (x : List Item × (Source × Conditions)). rule.query_of_parts distinct x.0 x.1) found ∙ cc b.2 in
-    let select : ts ≡ word keyword.Select ∷ distinct_if distinct ++ rest = word_taken keyword.Select ts a.0 a.1 ∙ ap (λ (w : List Terminal). word keyword.Select ∷ w) (distinct_sound a.0) in
+    let select : ts ≡ word keyword.Select ∷ distinct_if distinct ++ rest = word_past keyword.Select ts a.0 a.1 ∙ ap (λ (w : List Terminal). word keyword.Select ∷ w) (distinct_sound a.0) in
     subst (λ (y : Query). TookQuery n ts y) same (query_took n ts rest distinct c.0 d.0 select (items_sound n inner h [] rest c.0 c.1) (from_sound n inner h c.0.1 d.0 d.1))
 
 -- what is read as a query is spelled by the tokens, within the limits
-pub query_sound : (ts : List Terminal) (q : Query) → rule.query_at rule.within ts ≡ Some q → TookQuery 256 ts q
+pub query_sound : (ts : List Terminal) (q : Query) → rule.query_at rule.within ts ≡ Ok q → TookQuery 256 ts q
 query_sound ts q e = parts_sound 256 (inner_at 128 257) (inner_sound 257) ts q e

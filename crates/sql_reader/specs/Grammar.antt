@@ -1,5 +1,5 @@
 -- Which text has which tree, and where a refusal stands.
-use Rattle.std.specs.Prelude.{◌≡◌, ◌⊎◌, ℕ, ◌≤◌, ◌<◌, List, [], ◌∷◌, ◌++◌, length, Result, Ok, Err, nat_le, if◌then◌else◌}
+use Rattle.std.specs.Prelude.{◌≡◌, ◌⊎◌, ℕ, ◌-◌, ◌≤◌, ◌<◌, List, [], ◌∷◌, length, drop, Result, Ok, Err, nat_le, if◌then◌else◌}
 use Rattle.std.specs.Str.{IsUtf8}
 use Rattle.meaning.specs.Limits.{max_query_bytes}
 use Rattle.sql_reader.specs.declared.fault.SqlFault.{SqlFault}
@@ -10,6 +10,9 @@ use Rattle.sql_syntax.specs.Tokens as terminal
 use Rattle.sql_syntax.specs.Tokens.{Terminal, Located, tokens_of, terminals}
 use Rattle.sql_syntax.specs.Queries.{SpellsQuery, open_in_query, query_depth}
 use Rattle.sql_syntax.specs.Canonical.{canonical}
+use Rattle.sql_expressions.specs.declared.stop.Stop.{Stop}
+use Rattle.sql_expressions.specs.declared.stop.Stop.TheVariants as stop
+use Rattle.sql_reader.specs.Rules.{query_at, within}
 
 -- the query is the syntax tree of the text
 pub record IsTree (bs : List ℕ) (q : Query) : Type 0 where
@@ -57,12 +60,17 @@ abbrev pub refusal_at : ℕ → List Located → SqlFault
 refusal_at end [] = fault.UnexpectedToken end
 refusal_at end (p ∷ ps) = refusal p.terminal p.offset
 
--- the refusal is that of a token of the list, or of the text's end
-pub record StandsIn (end : ℕ) (ps : List Located) (returned : SqlFault) : Type 0 where
-  pub front : List Located
-  pub rest : List Located
-  pub parts : ps ≡ front ++ rest
-  pub reports : refusal_at end rest ≡ returned
+-- the refusal where reading stops: that of the token from which so many are left, or of the text's end
+abbrev pub refusal_of : ℕ → List Located → Stop → SqlFault
+refusal_of end ps stop.Memory = fault.Memory
+refusal_of end ps stop.TooDeep = fault.TooDeep
+refusal_of end ps (stop.At left) = refusal_at end (drop (length ps - left) ps)
+
+-- reading the text from front to back stops, and this is the refusal where it does
+pub record StopsAs (bs : List ℕ) (returned : SqlFault) : Type 0 where
+  pub reason : Stop
+  pub stops : query_at within (terminals (tokens_of bs)) ≡ Err reason
+  pub reports : refusal_of (length bs) (tokens_of bs) reason ≡ returned
 
 -- the text has no tree, or one that is too deep, or too many are open in it
 abbrev pub HasNone : List ℕ → Type 0
@@ -73,5 +81,4 @@ abbrev pub IsRefusal : List ℕ → SqlFault → Type 0
 IsRefusal bs fault.Memory = Unit {0}
 IsRefusal bs fault.TooLong = (max_query_bytes < length bs) ⊎ ((q : Query) × IsTree bs q × (max_query_bytes < length (canonical q)))
 IsRefusal bs fault.NotUtf8 = (length bs ≤ max_query_bytes) × (IsUtf8 bs → ⊥)
-IsRefusal bs fault.TooDeep = (length bs ≤ max_query_bytes) × IsUtf8 bs × HasNone bs
-IsRefusal bs returned = (length bs ≤ max_query_bytes) × IsUtf8 bs × HasNone bs × StandsIn (length bs) (tokens_of bs) returned
+IsRefusal bs returned = (length bs ≤ max_query_bytes) × IsUtf8 bs × HasNone bs × StopsAs bs returned

@@ -1,6 +1,6 @@
 //! The refusal that a text's reader reports, by where reading stopped.
-ghost use Rattle.sql_reader.specs.Grammar.{refusal, refusal_at};
-ghost use Rattle.sql_reader.specs.Refusing.{Reports, refusal_of};
+ghost use Rattle.sql_reader.specs.Grammar.{refusal, refusal_at, refusal_of};
+ghost use Rattle.sql_reader.specs.Refusing.{Reports};
 ghost use Rattle.sql_syntax.specs.Tokens.{terminal_of, all_located};
 ghost use Rattle.sql_syntax.specs.Words.{lower};
 ghost use Rattle.std.specs.Prelude.{◌≡◌, IfOk, drop};
@@ -12,8 +12,9 @@ use sql_syntax::{Lexeme, Token};
 use std::alloc::{AllocError, Global};
 
 /// Why a text of `end` bytes with these tokens isn't read.
+#[tactic(auto, using(crate::proofs::Answering::length_located))]
 pub fn fault_of(alloc: Global, reason: Stop, lexemes: &[Lexeme<'_>], end: usize) -> SqlFault
-    ensures { Reports result (refusal_of end lexemes.now reason) }
+    ensures { Reports result (refusal_of end (all_located lexemes.now) reason) }
 {
     match reason {
         Stop::Memory => SqlFault::Memory,
